@@ -1,0 +1,134 @@
+//! Why a command is refused: each refusal with its number and its name.
+ghost use Rattle.std.specs.Prelude.{◌≡◌};
+ghost use Rattle.xh_core.specs.Refusals.{number_of, name_of};
+ghost use Rattle.xh_core.specs.declared.refused.Refused.TheVariants.{OutOfMemory};
+
+use arrayvec::ArrayVec;
+use std::alloc::{AllocError, AllocFailed};
+
+/// Why a command is refused.
+#[derive(Drop, Debug)]
+pub enum Refused {
+    /// A growth of memory was refused.
+    OutOfMemory,
+    /// A size is outside its limits.
+    BadSize,
+    /// There is no such arena.
+    NoArena,
+    /// No hole of the arena holds that many bytes.
+    NoSpace,
+    /// Each record of the arena is taken.
+    NoRecord,
+    /// The process does not own such a block.
+    NotOwned,
+    /// The block is an endpoint.
+    NotData,
+    /// The block is no endpoint.
+    NotEndpoint,
+    /// The cut is not a multiple of 16 inside the block.
+    BadCut,
+    /// The bytes reach past the end of the block.
+    BadRange,
+    /// There is no such process.
+    NoProcess,
+    /// The process is ending or has ended.
+    Ended,
+    /// Each channel is taken.
+    NoChannel,
+    /// The direction holds as many messages as it may; the blocks are handed back.
+    Full { back: ArrayVec<u16, 8> },
+    /// The peer is closed; the blocks of a give are handed back.
+    PeerClosed { back: ArrayVec<u16, 8> },
+    /// No message waits.
+    Empty,
+    /// A message carries at most 8 blocks.
+    TooMany,
+    /// A block, or a name, stands twice.
+    Twice,
+    /// The arena has handed out as many bytes as it ever may.
+    Worn,
+    /// The budget was used up; so many blocks are left.
+    Unfinished { left: u32 },
+    /// Each place is taken.
+    NoPlace,
+    /// The channel's contract does not allow the message; the blocks are handed back.
+    Protocol { back: ArrayVec<u16, 8> },
+}
+
+impl Refused {
+    /// Its number, 1 to 22.
+    pub fn number(&self) -> u8
+        ensures { result ≡ number_of self.now }
+    {
+        match self {
+            Refused::OutOfMemory => 1,
+            Refused::BadSize => 2,
+            Refused::NoArena => 3,
+            Refused::NoSpace => 4,
+            Refused::NoRecord => 5,
+            Refused::NotOwned => 6,
+            Refused::NotData => 7,
+            Refused::NotEndpoint => 8,
+            Refused::BadCut => 9,
+            Refused::BadRange => 10,
+            Refused::NoProcess => 11,
+            Refused::Ended => 12,
+            Refused::NoChannel => 13,
+            Refused::Full { .. } => 14,
+            Refused::PeerClosed { .. } => 15,
+            Refused::Empty => 16,
+            Refused::TooMany => 17,
+            Refused::Twice => 18,
+            Refused::Worn => 19,
+            Refused::Unfinished { .. } => 20,
+            Refused::NoPlace => 21,
+            Refused::Protocol { .. } => 22,
+        }
+    }
+
+    /// Its name, as replies print it.
+    pub fn name(&self) -> &'static str
+        ensures { result.now ≡ name_of self.now }
+    {
+        match self {
+            Refused::OutOfMemory => "OutOfMemory",
+            Refused::BadSize => "BadSize",
+            Refused::NoArena => "NoArena",
+            Refused::NoSpace => "NoSpace",
+            Refused::NoRecord => "NoRecord",
+            Refused::NotOwned => "NotOwned",
+            Refused::NotData => "NotData",
+            Refused::NotEndpoint => "NotEndpoint",
+            Refused::BadCut => "BadCut",
+            Refused::BadRange => "BadRange",
+            Refused::NoProcess => "NoProcess",
+            Refused::Ended => "Ended",
+            Refused::NoChannel => "NoChannel",
+            Refused::Full { .. } => "Full",
+            Refused::PeerClosed { .. } => "PeerClosed",
+            Refused::Empty => "Empty",
+            Refused::TooMany => "TooMany",
+            Refused::Twice => "Twice",
+            Refused::Worn => "Worn",
+            Refused::Unfinished { .. } => "Unfinished",
+            Refused::NoPlace => "NoPlace",
+            Refused::Protocol { .. } => "Protocol",
+        }
+    }
+}
+
+impl From<AllocError> for Refused {
+    ghost from_gives = { λ _ e. e ≡ OutOfMemory };
+
+    fn from(_error: AllocError) -> Refused {
+        Refused::OutOfMemory
+    }
+}
+
+impl<T: Drop> From<AllocFailed<T>> for Refused {
+    ghost from_gives = { λ _ e. e ≡ OutOfMemory };
+
+    fn from(_error: AllocFailed<T>) -> Refused {
+        Refused::OutOfMemory
+    }
+}
