@@ -1,0 +1,23 @@
+//! The program `xheap`: a script on standard input, its replies and its ledger on standard output.
+#![tactic(auto)]
+
+mod fault;
+mod options;
+mod run;
+
+use std::env;
+use std::process::ExitCode;
+
+fn main(rt: HostRuntime) -> ExitCode {
+    let alloc = rt.alloc();
+    let mut input = rt.stdin();
+    let mut out = rt.stdout();
+    let mut err = rt.stderr();
+    let Ok(arguments) = env::args(&rt) else {
+        return ExitCode::from(fault::out_of_memory(&mut err));
+    };
+    let Ok(words) = arguments.collect::<Vec<String>>(alloc) else {
+        return ExitCode::from(fault::out_of_memory(&mut err));
+    };
+    ExitCode::from(run::run_main(alloc, &words, &mut input, &mut out, &mut err))
+}
