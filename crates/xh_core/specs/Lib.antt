@@ -1,5 +1,6 @@
 pub mod Refusals
 pub mod Tables
+pub mod Talks
 pub mod Machine
 pub mod Refusing
 pub mod Sweeping

@@ -13,6 +13,9 @@ mod plain;
 mod refused;
 mod serial;
 mod status;
+mod talk;
+mod talk_end;
+mod turn;
 
 pub use block::Block;
 pub use contract::Contract;
@@ -23,4 +26,6 @@ pub use plain::Plain;
 pub use refused::Refused;
 pub use serial::Serial;
 pub use status::Status;
+pub use talk::Talk;
+pub use turn::Turn;
 pub use xh_model::{Config, Event, Holder, Outcome, Row};
