@@ -11,9 +11,13 @@ pub record Bindings : Type 0 where
   pub latest : List ℕ
   pub records : List ℕ
 
+-- as many entries, each of which stands for nothing
+unfoldable pub nothings : ℕ → List ℕ
+nothings count = replicate count 65535
+
 -- no process has a place, and no name is bound
 unfoldable pub no_bindings : Bindings
-no_bindings = record { numbers = replicate 64 65535; latest = replicate 32 0; records = replicate 16384 65535 }
+no_bindings = record { numbers = nothings 64; latest = replicate 32 0; records = nothings 16384 }
 
 -- the number of a process
 abbrev pub number_of : Bindings → ℕ → ℕ

@@ -1,3 +1,4 @@
 pub mod Reading
 pub mod Bindings
 pub mod Meaning
+pub mod Worlds

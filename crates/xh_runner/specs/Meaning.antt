@@ -1,5 +1,5 @@
 -- What a script means: the reply to each command, and what the machine holds at the end.
-use Rattle.std.specs.Prelude.{ℕ, ◌%◌, ◌==◌, ◌++◌, ◌||◌, min, Bool, true, false, not, List, [], ◌∷◌, map, if◌then◌else◌, Option, Some, None, Result, Ok, Err, slice_get}
+use Rattle.std.specs.Prelude.{ℕ, ◌%◌, ◌==◌, ◌||◌, min, Bool, false, not, List, [], ◌∷◌, map, if◌then◌else◌, Option, Some, None, Result, Ok, Err, slice_get}
 use Rattle.xh_model.specs.declared.event.Config.{Config}
 use Rattle.xh_model.specs.declared.row.Row.{Row}
 use Rattle.xh_core.specs.declared.block.Block.{Block}
@@ -9,7 +9,7 @@ use Rattle.xh_core.specs.declared.refused.Refused.{Refused}
 use Rattle.xh_core.specs.declared.refused.Refused.TheVariants.{NoProcess, Ended, Twice, Full, PeerClosed, Protocol}
 use Rattle.xh_core.specs.Machine.{Machine, is_ended}
 use Rattle.xh_core.specs.Refusing.{Answer}
-use Rattle.xh_core.specs.PlaceCommands.{new_machine, spawn, glance, ledger_of}
+use Rattle.xh_core.specs.PlaceCommands.{new_machine, spawn, glance}
 use Rattle.xh_core.specs.BlockCommands.{alloc, split, read, write, free}
 use Rattle.xh_core.specs.ChannelCommands.{open_channel, wire_channel}
 use Rattle.xh_core.specs.MessageCommands.{give, take}
@@ -21,8 +21,7 @@ use Rattle.xh_script.specs.declared.reply.Reply.{Reply}
 use Rattle.xh_script.specs.declared.reply.Reply.TheVariants.{Done, Started, Length, Parts, Bytes, Given, Taken, Reclaimed, NotGiven, No}
 use Rattle.xh_script.specs.declared.reply.Reply.TheVariants as reply
 use Rattle.xh_script.specs.declared.reply.Answered.{Answered}
-use Rattle.xh_script.specs.Texts.{answer_texts, ledger_text}
-use Rattle.xh_runner.specs.Bindings.{Bindings, no_bindings, number_of, has_place, record_of, records_of, started, bound, bound_each, unbound, unbound_each, unbound_but, unbound_all, names_by_place}
+use Rattle.xh_runner.specs.Bindings.{Bindings, no_bindings, number_of, has_place, record_of, records_of, started, bound, bound_each, unbound, unbound_each, unbound_but, unbound_all}
 
 -- the machine, what the names of the script stand for, and the script's contracts by number
 pub record World : Type 0 where
@@ -67,7 +66,7 @@ handed_back p xs _ names = names
 
 -- the names of blocks that went are unbound
 abbrev pub given : ℕ → List ℕ → World → Answer ℕ → Reply × World
-given p xs w (Ok no, m) = (Given no, record w { machine = m; names = unbound_each w.names p xs })
+given p xs w (Ok number, m) = (Given number, record w { machine = m; names = unbound_each w.names p xs })
 given p xs w (Err refused, m) = (NotGiven refused, record w { machine = m; names = handed_back p xs refused w.names })
 
 -- a taken message; on the serial machine none of its blocks is missing
@@ -127,7 +126,3 @@ answers w (l ∷ lines) = record { line = l.number; reply = (step w l.command).0
 abbrev pub after : World → List Line → World
 after w [] = w
 after w (l ∷ lines) = after (step w l.command).1 lines
-
--- the ledger of a world, with the names of the script's processes
-abbrev pub world_text : List (List ℕ) → World → List ℕ
-world_text processes w = ledger_text (ledger_of w.machine) (names_by_place processes w.names)

@@ -1,12 +1,13 @@
 //! What the names of a script stand for.
 ghost use Rattle.std.specs.Prelude.{◌≡◌, ◌+◌, ◌*◌, ◌%◌, ◌≤◌, ◌==◌, if◌then◌else◌, length, map, replicate, IfOk};
 ghost use Rattle.std.specs.List.{list_any};
-ghost use Rattle.xh_runner.specs.Bindings.{Bindings, no_bindings, number_of, entry, with_entry, without, without_each, without_but, without_below, record_of, records_of, started, bound, unbound, unbound_each, unbound_but, unbound_all};
+ghost use Rattle.xh_runner.specs.Bindings.{Bindings, no_bindings, nothings, number_of, has_place, entry, with_entry, with_each, without, without_each, without_but, without_below, record_of, records_of, started, bound, bound_each, unbound, unbound_each, unbound_but, unbound_all};
 ghost use Rattle.std.specs.Prelude.{slice_index_or, slice_set};
 
 use arrayvec::ArrayVec;
 use std::alloc::{AllocError, Global};
 use std::marker::Model;
+use xh_core::Block;
 
 /// No process has this number, and no block this record: it stands for a process without a place,
 /// and for a name that is bound to nothing.
@@ -32,8 +33,9 @@ impl Model for Names {
     ghost invariant = { λ s. length s.latest.items ≡ 32 };
 }
 
+#[tactic(auto, unfolding(crate::specs::Bindings::nothings))]
 fn nothings(alloc: Global, count: usize) -> Result<Vec<u16>, AllocError>
-    ensures { IfOk result (λ entries. entries.items ≡ replicate count 65535) }
+    ensures { IfOk result (λ entries. entries.items ≡ nothings count) }
 {
     vec![in alloc; NOTHING; count]
 }
@@ -82,6 +84,15 @@ fn entries(records: &[u16], process: u8, blocks: &[u8]) -> ArrayVec<u16, 16>
         found.push(entry(records, process, *block));
     }
     found
+}
+
+fn set_each(records: &mut [u16], process: u8, blocks: &[u8], message: &[Block])
+    ensures { records.new ≡ with_each records.old process blocks.now message.now }
+{
+    let count = blocks.len().min(message.len());
+    for i in 0..count {
+        set_entry(records, process, blocks[i], message[i].rec);
+    }
 }
 
 fn clear_each(records: &mut [u16], process: u8, blocks: &[u8])
@@ -146,6 +157,13 @@ impl Names {
         at(&self.numbers, usize::from(process))
     }
 
+    /// Whether a `process` line gave the process a place.
+    pub fn has_place(&self, process: u8) -> bool
+        ensures { result ≡ has_place self.now process }
+    {
+        self.number(process) != NOTHING
+    }
+
     /// The record of a block's name, or `NOTHING` where it is bound to none.
     pub fn record_of(&self, process: u8, block: u8) -> u16
         ensures { result ≡ record_of self.now process block }
@@ -175,6 +193,14 @@ impl Names {
         ensures { self.new ≡ bound self.old process block rec }
     {
         set_entry(&mut self.records, process, block, rec);
+    }
+
+    /// The names stand for the blocks of a message, from left to right; names past the last block
+    /// stay as they were, and blocks past the last name have none.
+    pub fn bind_each(&mut self, process: u8, blocks: &[u8], message: &[Block])
+        ensures { self.new ≡ bound_each self.old process blocks.now message.now }
+    {
+        set_each(&mut self.records, process, blocks, message);
     }
 
     /// The name is bound to nothing.
