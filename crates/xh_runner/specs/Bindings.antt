@@ -1,5 +1,5 @@
 -- What the names of a script stand for.
-use Rattle.std.specs.Prelude.{ℕ, zero, suc, ◌+◌, ◌*◌, ◌%◌, List, [], ◌∷◌, map, replicate, slice_index_or, slice_set, if◌then◌else◌, not, ◌==◌, Bool}
+use Rattle.std.specs.Prelude.{ℕ, zero, suc, ◌+◌, ◌*◌, ◌%◌, List, [], ◌∷◌, map, replicate, slice_index_or, slice_set, if◌then◌else◌, not, ◌==◌, Bool, codes}
 use Rattle.std.specs.List.{list_any}
 use Rattle.xh_core.specs.declared.block.Block.{Block}
 
@@ -31,9 +31,9 @@ has_place b p = not (number_of b p == 65535)
 abbrev pub started : Bindings → ℕ → ℕ → Bindings
 started b p n = record b { numbers = slice_set b.numbers p n; latest = slice_set b.latest (n % 32) p }
 
--- the names of the processes by place
+-- the names of the processes by place; a place that no process had is called vacant, and no line tells it
 abbrev pub names_by_place : List (List ℕ) → Bindings → List (List ℕ)
-names_by_place names b = map (λ p. slice_index_or names p []) b.latest
+names_by_place names b = map (λ p. slice_index_or names p (codes "vacant")) b.latest
 
 -- the entry at a process's name for a block
 abbrev pub entry : List ℕ → ℕ → ℕ → ℕ

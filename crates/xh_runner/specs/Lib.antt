@@ -2,3 +2,5 @@ pub mod Reading
 pub mod Bindings
 pub mod Meaning
 pub mod Worlds
+pub mod Output
+pub mod Runs

@@ -1,12 +1,9 @@
 //! Runs of whole scripts: bytes in, bytes out.
 #![tactic(auto)]
 
-mod heap;
 mod input;
 mod names;
+mod serial;
 mod session;
 
-pub use heap::Heap;
-pub use input::read_text;
-pub use names::Names;
-pub use session::Session;
+pub use serial::run_serial;

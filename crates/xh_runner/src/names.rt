@@ -1,13 +1,14 @@
 //! What the names of a script stand for.
-ghost use Rattle.std.specs.Prelude.{◌≡◌, ◌+◌, ◌*◌, ◌%◌, ◌≤◌, ◌==◌, if◌then◌else◌, length, map, replicate, IfOk};
+ghost use Rattle.std.specs.Prelude.{◌≡◌, ◌+◌, ◌*◌, ◌%◌, ◌≤◌, ◌==◌, if◌then◌else◌, length, map, replicate, codes, IfOk};
 ghost use Rattle.std.specs.List.{list_any};
-ghost use Rattle.xh_runner.specs.Bindings.{Bindings, no_bindings, nothings, number_of, has_place, entry, with_entry, with_each, without, without_each, without_but, without_below, record_of, records_of, started, bound, bound_each, unbound, unbound_each, unbound_but, unbound_all};
+ghost use Rattle.xh_runner.specs.Bindings.{Bindings, no_bindings, nothings, number_of, has_place, entry, with_entry, with_each, without, without_each, without_but, without_below, record_of, records_of, started, bound, bound_each, unbound, unbound_each, unbound_but, unbound_all, names_by_place};
 ghost use Rattle.std.specs.Prelude.{slice_index_or, slice_set};
 
 use arrayvec::ArrayVec;
 use std::alloc::{AllocError, Global};
 use std::marker::Model;
 use xh_core::Block;
+use xh_script::Name;
 
 /// No process has this number, and no block this record: it stands for a process without a place,
 /// and for a name that is bound to nothing.
@@ -134,6 +135,34 @@ fn clear_all(records: &mut [u16], process: u8)
     }
 }
 
+fn vacant() -> Name
+    ensures { result ≡ codes "vacant" }
+{
+    match Name::read(b"vacant") {
+        Some(name) => name,
+        None => unreachable!(),
+    }
+}
+
+fn name_at(processes: &[Name], process: u8) -> Name
+    ensures { result ≡ slice_index_or processes.now process (codes "vacant") }
+{
+    match processes.get(usize::from(process)) {
+        Some(name) => name.copy(),
+        None => vacant(),
+    }
+}
+
+fn names_at(alloc: Global, processes: &[Name], latest: &[u8]) -> Result<Vec<Name>, AllocError>
+    ensures { IfOk result (λ names. names.items ≡ map (λ p. slice_index_or processes.now p (codes "vacant")) latest.now) }
+{
+    let mut names = Vec::with_capacity(alloc, latest.len())?;
+    for process in latest {
+        names.push(name_at(processes, *process))?;
+    }
+    Ok(names)
+}
+
 impl Names {
     /// No process has a place, and no name is bound.
     #[tactic(auto, unfolding(crate::specs::Bindings::no_bindings))]
@@ -229,5 +258,13 @@ impl Names {
         ensures { self.new ≡ unbound_all self.old process }
     {
         clear_all(&mut self.records, process);
+    }
+
+    /// The names of the processes by place, 32 of them, from the names by number.
+    pub fn by_place(&self, alloc: Global, processes: &[Name]) -> Result<Vec<Name>, AllocError>
+        ensures names { IfOk result (λ names. names.items ≡ names_by_place processes.now self.now) }
+        ensures count { IfOk result (λ names. length names.items ≡ 32) }
+    {
+        names_at(alloc, processes, &self.latest)
     }
 }

@@ -1,4 +1,7 @@
 //! How a run that did not reach its end is told: a line on standard error, and a status.
+ghost use Rattle.std.specs.Prelude.{◌≡◌};
+ghost use Rattle.xheap.specs.Status.{status_of};
+
 use std::io::Write;
 use xh_script::Fault;
 

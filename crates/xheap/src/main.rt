@@ -7,11 +7,12 @@ mod run;
 
 use std::env;
 use std::process::ExitCode;
+use xh_script::Watched;
 
 fn main(rt: HostRuntime) -> ExitCode {
     let alloc = rt.alloc();
-    let mut input = rt.stdin();
-    let mut out = rt.stdout();
+    let mut input = Watched::new(rt.stdin());
+    let mut out = Watched::new(rt.stdout());
     let mut err = rt.stderr();
     let Ok(arguments) = env::args(&rt) else {
         return ExitCode::from(fault::out_of_memory(&mut err));

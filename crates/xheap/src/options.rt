@@ -6,10 +6,12 @@ use xh_core::Config;
 
 const ABOUT: &str = "Runs a script of processes that pass blocks of memory to each other.";
 
-const DETAIL: &str = "Reads a script from standard input, does its commands on an exchange heap, and writes one reply \
+const DETAIL: &str =
+    "Reads a script from standard input, does its commands on an exchange heap, and writes one reply \
 a command and then the ledger: what each arena holds, what each process owns, and what is in flight.";
 
-const CLOSING: &str = "Example: printf 'process a\\na alloc x 40 0\\n' | xheap --serial --bytes 256\n\
+const CLOSING: &str =
+    "Example: printf 'process a\\na alloc x 40 0\\n' | xheap --serial --bytes 256\n\
 Status: 0 done, 1 a fault of the script, 2 a fault of the command line, 3 out of memory, 4 reading or writing failed.";
 
 /// What the command line asks for.
@@ -43,23 +45,37 @@ fn serial<'a>(alloc: Global) -> Arg<'a> {
 }
 
 fn arenas<'a>(alloc: Global) -> Arg<'a> {
-    option(alloc, "arenas", "COUNT", ValueParser::unsigned(1, 8), "1")
-        .help("Number of arenas, 1 to 8")
+    option(alloc, "arenas", "COUNT", ValueParser::unsigned(1, 8), "1").help(
+        "Number of arenas, 1 to 8",
+    )
 }
 
 fn bytes<'a>(alloc: Global) -> Arg<'a> {
-    option(alloc, "bytes", "BYTES", ValueParser::unsigned(16, 1_048_576), "65536")
-        .help("Size of each arena in bytes, a multiple of 16 from 16 to 1048576")
+    option(
+        alloc,
+        "bytes",
+        "BYTES",
+        ValueParser::unsigned(16, 1_048_576),
+        "65536",
+    )
+    .help("Size of each arena in bytes, a multiple of 16 from 16 to 1048576")
 }
 
 fn records<'a>(alloc: Global) -> Arg<'a> {
-    option(alloc, "records", "COUNT", ValueParser::unsigned(1, 256), "256")
-        .help("Most blocks that an arena holds at once, 1 to 256")
+    option(
+        alloc,
+        "records",
+        "COUNT",
+        ValueParser::unsigned(1, 256),
+        "256",
+    )
+    .help("Most blocks that an arena holds at once, 1 to 256")
 }
 
 fn depth<'a>(alloc: Global) -> Arg<'a> {
-    option(alloc, "depth", "COUNT", ValueParser::unsigned(1, 16), "4")
-        .help("Most messages that wait in one direction of a channel, 1 to 16")
+    option(alloc, "depth", "COUNT", ValueParser::unsigned(1, 16), "4").help(
+        "Most messages that wait in one direction of a channel, 1 to 16",
+    )
 }
 
 fn wear<'a>(alloc: Global) -> Arg<'a> {

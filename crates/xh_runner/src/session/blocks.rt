@@ -3,7 +3,6 @@ ghost use Rattle.std.specs.Prelude.{◌≡◌, ◌≤◌, length, IfOk};
 ghost use Rattle.xh_runner.specs.Meaning.{step};
 ghost use Rattle.xh_runner.specs.Worlds.{world_of};
 
-use crate::heap::Heap;
 use crate::session::{Session, refusal};
 use arrayvec::ArrayVec;
 use std::alloc::{AllocError, Global};
@@ -20,7 +19,7 @@ fn array_of(bytes: &[u8]) -> ArrayVec<u8, 32>
     array
 }
 
-impl<'a, H: Heap> Session<'a, H> {
+impl<'a> Session<'a> {
     #[tactic(auto, unfolding(crate::specs::Meaning::step))]
     pub(crate) fn alloc(
         &mut self,
@@ -30,7 +29,7 @@ impl<'a, H: Heap> Session<'a, H> {
         bytes: u32,
         arena: u32,
     ) -> Result<Reply, AllocError>
-        ensures { IfOk result (λ reply. step (world_of H.machine self.old) (Command.Alloc process block bytes arena) ≡ (reply, world_of H.machine self.new)) }
+        ensures { IfOk result (λ reply. step (world_of self.old) (Command.Alloc process block bytes arena) ≡ (reply, world_of self.new)) }
     {
         let number = self.names.number(process);
         match self.machine.alloc(alloc, number, bytes, arena) {
@@ -51,7 +50,7 @@ impl<'a, H: Heap> Session<'a, H> {
         at: u32,
         tail: u8,
     ) -> Result<Reply, AllocError>
-        ensures { IfOk result (λ reply. step (world_of H.machine self.old) (Command.Split process block at tail) ≡ (reply, world_of H.machine self.new)) }
+        ensures { IfOk result (λ reply. step (world_of self.old) (Command.Split process block at tail) ≡ (reply, world_of self.new)) }
     {
         let number = self.names.number(process);
         let rec = self.names.record_of(process, block);
@@ -69,7 +68,7 @@ impl<'a, H: Heap> Session<'a, H> {
 
     #[tactic(auto, unfolding(crate::specs::Meaning::step))]
     pub(crate) fn read(&mut self, process: u8, block: u8, at: u32, len: u8) -> Reply
-        ensures { step (world_of H.machine self.old) (Command.Read process block at len) ≡ (result, world_of H.machine self.new) }
+        ensures { step (world_of self.old) (Command.Read process block at len) ≡ (result, world_of self.new) }
     {
         let number = self.names.number(process);
         let rec = self.names.record_of(process, block);
@@ -83,7 +82,7 @@ impl<'a, H: Heap> Session<'a, H> {
 
     #[tactic(auto, unfolding(crate::specs::Meaning::step))]
     pub(crate) fn write(&mut self, process: u8, block: u8, at: u32, bytes: &ArrayVec<u8, 32>) -> Reply
-        ensures { step (world_of H.machine self.old) (Command.Write process block at bytes.now) ≡ (result, world_of H.machine self.new) }
+        ensures { step (world_of self.old) (Command.Write process block at bytes.now) ≡ (result, world_of self.new) }
     {
         let number = self.names.number(process);
         let rec = self.names.record_of(process, block);
@@ -95,7 +94,7 @@ impl<'a, H: Heap> Session<'a, H> {
 
     #[tactic(auto, unfolding(crate::specs::Meaning::step))]
     pub(crate) fn free(&mut self, process: u8, block: u8) -> Reply
-        ensures { step (world_of H.machine self.old) (Command.Free process block) ≡ (result, world_of H.machine self.new) }
+        ensures { step (world_of self.old) (Command.Free process block) ≡ (result, world_of self.new) }
     {
         let number = self.names.number(process);
         let rec = self.names.record_of(process, block);

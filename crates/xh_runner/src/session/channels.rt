@@ -5,7 +5,6 @@ ghost use Rattle.xh_core.specs.ChannelCommands.{open_channel, wire_channel};
 ghost use Rattle.xh_runner.specs.Meaning.{step, contract_at};
 ghost use Rattle.xh_runner.specs.Worlds.{world_of};
 
-use crate::heap::Heap;
 use crate::session::Session;
 use xh_core::{Block, Contract, Refused};
 use xh_script::{Command, Reply};
@@ -19,9 +18,9 @@ fn contract_at<'a>(contracts: &'a [Contract], number: Option<u8>) -> Option<&'a 
     }
 }
 
-impl<'a, H: Heap> Session<'a, H> {
+impl<'a> Session<'a> {
     fn open_channel(&mut self, p: u16, arena: u32, contract: Option<u8>) -> Result<(Block, Block), Refused>
-        ensures channel { open_channel p arena (contract_at (world_of H.machine self.old).contracts contract) (world_of H.machine self.old).machine ≡ (result, (world_of H.machine self.new).machine) }
+        ensures channel { open_channel p arena (contract_at (world_of self.old).contracts contract) (world_of self.old).machine ≡ (result, (world_of self.new).machine) }
         ensures names { self.new ≡ record self.old { machine = self.new.machine } }
     {
         match contract_at(self.contracts, contract) {
@@ -31,7 +30,7 @@ impl<'a, H: Heap> Session<'a, H> {
     }
 
     fn wire_channel(&mut self, p: u16, q: u16, arena: u32, contract: Option<u8>) -> Result<(Block, Block), Refused>
-        ensures channel { wire_channel p q arena (contract_at (world_of H.machine self.old).contracts contract) (world_of H.machine self.old).machine ≡ (result, (world_of H.machine self.new).machine) }
+        ensures channel { wire_channel p q arena (contract_at (world_of self.old).contracts contract) (world_of self.old).machine ≡ (result, (world_of self.new).machine) }
         ensures names { self.new ≡ record self.old { machine = self.new.machine } }
     {
         match contract_at(self.contracts, contract) {
@@ -42,7 +41,7 @@ impl<'a, H: Heap> Session<'a, H> {
 
     #[tactic(auto, unfolding(crate::specs::Meaning::step))]
     pub(crate) fn open(&mut self, process: u8, names: (u8, u8), arena: u32, contract: Option<u8>) -> Reply
-        ensures { step (world_of H.machine self.old) (Command.Open process names.0 names.1 arena contract) ≡ (result, world_of H.machine self.new) }
+        ensures { step (world_of self.old) (Command.Open process names.0 names.1 arena contract) ≡ (result, world_of self.new) }
     {
         let number = self.names.number(process);
         match self.open_channel(number, arena, contract) {
@@ -57,7 +56,7 @@ impl<'a, H: Heap> Session<'a, H> {
 
     #[tactic(auto, unfolding(crate::specs::Meaning::step))]
     pub(crate) fn wire(&mut self, here: (u8, u8), there: (u8, u8), arena: u32, contract: Option<u8>) -> Reply
-        ensures { step (world_of H.machine self.old) (Command.Wire here.0 here.1 there.0 there.1 arena contract) ≡ (result, world_of H.machine self.new) }
+        ensures { step (world_of self.old) (Command.Wire here.0 here.1 there.0 there.1 arena contract) ≡ (result, world_of self.new) }
     {
         let p = self.names.number(here.0);
         let q = self.names.number(there.0);

@@ -3,7 +3,6 @@ ghost use Rattle.std.specs.Prelude.{◌≡◌, ◌≤◌, length, map, Some};
 ghost use Rattle.xh_runner.specs.Meaning.{step, handed_back};
 ghost use Rattle.xh_runner.specs.Worlds.{world_of};
 
-use crate::heap::Heap;
 use crate::names::Names;
 use crate::session::Session;
 use arrayvec::ArrayVec;
@@ -33,10 +32,10 @@ fn keep_back(names: &mut Names, process: u8, blocks: &[u8], refused: &Refused)
     }
 }
 
-impl<'a, H: Heap> Session<'a, H> {
+impl<'a> Session<'a> {
     #[tactic(auto, unfolding(crate::specs::Meaning::step))]
     pub(crate) fn give(&mut self, process: u8, endpoint: u8, tag: u16, blocks: &ArrayVec<u8, 16>) -> Reply
-        ensures { step (world_of H.machine self.old) (Command.Give process endpoint tag blocks.now) ≡ (result, world_of H.machine self.new) }
+        ensures { step (world_of self.old) (Command.Give process endpoint tag blocks.now) ≡ (result, world_of self.new) }
     {
         let number = self.names.number(process);
         let rec = self.names.record_of(process, endpoint);
@@ -55,8 +54,8 @@ impl<'a, H: Heap> Session<'a, H> {
 
     #[tactic(auto, unfolding(crate::specs::Meaning::step))]
     pub(crate) fn take(&mut self, process: u8, endpoint: u8, blocks: &ArrayVec<u8, 8>) -> Reply
-        ensures now { step (world_of H.machine self.old) (Command.Take process endpoint blocks.now) ≡ (result, world_of H.machine self.new) }
-        ensures waiting { step (world_of H.machine self.old) (Command.Await process endpoint blocks.now) ≡ (result, world_of H.machine self.new) }
+        ensures now { step (world_of self.old) (Command.Take process endpoint blocks.now) ≡ (result, world_of self.new) }
+        ensures waiting { step (world_of self.old) (Command.Await process endpoint blocks.now) ≡ (result, world_of self.new) }
     {
         let number = self.names.number(process);
         let rec = self.names.record_of(process, endpoint);

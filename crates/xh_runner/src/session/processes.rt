@@ -4,7 +4,6 @@ ghost use Rattle.xh_runner.specs.Bindings.{has_place};
 ghost use Rattle.xh_runner.specs.Meaning.{step, look, is_alive};
 ghost use Rattle.xh_runner.specs.Worlds.{world_of};
 
-use crate::heap::Heap;
 use crate::session::Session;
 use xh_core::{Glance, Refused, Status};
 use xh_script::{Command, Reply};
@@ -22,10 +21,10 @@ fn is_alive(look: &Result<Glance, Refused>) -> bool
     }
 }
 
-impl<'a, H: Heap> Session<'a, H> {
+impl<'a> Session<'a> {
     /// What the place of a process shows of it; Ended where it shows a later process.
     fn look(&self, number: u16) -> Result<Glance, Refused>
-        ensures { result ≡ look (world_of H.machine self.now) number }
+        ensures { result ≡ look (world_of self.now) number }
     {
         match self.machine.glance((number % 32) as u8) {
             Ok(look) if look.process == number => Ok(look),
@@ -36,7 +35,7 @@ impl<'a, H: Heap> Session<'a, H> {
 
     #[tactic(auto, unfolding(crate::specs::Meaning::step))]
     pub(crate) fn process(&mut self, process: u8) -> Reply
-        ensures { step (world_of H.machine self.old) (Command.Process process) ≡ (result, world_of H.machine self.new) }
+        ensures { step (world_of self.old) (Command.Process process) ≡ (result, world_of self.new) }
     {
         if self.names.has_place(process) {
             return Reply::No(Refused::Twice);
@@ -52,7 +51,7 @@ impl<'a, H: Heap> Session<'a, H> {
 
     #[tactic(auto, unfolding(crate::specs::Meaning::step))]
     pub(crate) fn again(&mut self, process: u8) -> Reply
-        ensures { step (world_of H.machine self.old) (Command.Again process) ≡ (result, world_of H.machine self.new) }
+        ensures { step (world_of self.old) (Command.Again process) ≡ (result, world_of self.new) }
     {
         if !self.names.has_place(process) {
             return Reply::No(Refused::NoProcess);
@@ -72,7 +71,7 @@ impl<'a, H: Heap> Session<'a, H> {
 
     #[tactic(auto, unfolding(crate::specs::Meaning::step))]
     pub(crate) fn glance(&mut self, process: u8, other: u8) -> Reply
-        ensures { step (world_of H.machine self.old) (Command.Glance process other) ≡ (result, world_of H.machine self.new) }
+        ensures { step (world_of self.old) (Command.Glance process other) ≡ (result, world_of self.new) }
     {
         if !self.names.has_place(process) || !self.names.has_place(other) {
             return Reply::No(Refused::NoProcess);
@@ -88,7 +87,7 @@ impl<'a, H: Heap> Session<'a, H> {
 
     #[tactic(auto, unfolding(crate::specs::Meaning::step))]
     pub(crate) fn close(&mut self, process: u8, endpoint: u8) -> Reply
-        ensures { step (world_of H.machine self.old) (Command.Close process endpoint) ≡ (result, world_of H.machine self.new) }
+        ensures { step (world_of self.old) (Command.Close process endpoint) ≡ (result, world_of self.new) }
     {
         let number = self.names.number(process);
         let rec = self.names.record_of(process, endpoint);
@@ -103,7 +102,7 @@ impl<'a, H: Heap> Session<'a, H> {
 
     #[tactic(auto, unfolding(crate::specs::Meaning::step))]
     pub(crate) fn exit(&mut self, process: u8, budget: u16) -> Reply
-        ensures { step (world_of H.machine self.old) (Command.Exit process budget) ≡ (result, world_of H.machine self.new) }
+        ensures { step (world_of self.old) (Command.Exit process budget) ≡ (result, world_of self.new) }
     {
         let number = self.names.number(process);
         match self.machine.exit(number, u32::from(budget)) {
@@ -114,7 +113,7 @@ impl<'a, H: Heap> Session<'a, H> {
 
     #[tactic(auto, unfolding(crate::specs::Meaning::step))]
     pub(crate) fn kill(&mut self, process: u8, victim: u8, budget: u16) -> Reply
-        ensures { step (world_of H.machine self.old) (Command.Kill process victim budget) ≡ (result, world_of H.machine self.new) }
+        ensures { step (world_of self.old) (Command.Kill process victim budget) ≡ (result, world_of self.new) }
     {
         let by = self.names.number(process);
         let number = self.names.number(victim);

@@ -4,9 +4,9 @@ use Rattle.xh_runner.proofs.Worlds.{answers_at, after_at}
 use Rattle.xh_runner.proofs.session.Session.run.Goals as goal
 
 pub loop-line-preserved : goal.loop-line-preserved
-loop-line-preserved g c =
-    let old = world_of g.H.Heap.machine c.loop-line.self in
-    let now = world_of g.H.Heap.machine c.step.new.self in
+loop-line-preserved c =
+    let old = world_of c.loop-line.self in
+    let now = world_of c.step.new.self in
     let i = c.loop-line.line-index in
     let lines = c.args.lines.now in
     let line = c.line-item.result in
