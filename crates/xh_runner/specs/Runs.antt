@@ -21,11 +21,20 @@ module _ {R W : Type 0} (remaining : R → Option (List ℕ)) (contents : W → 
     pub says : script_of text ≡ Ok script
     pub writes : Writes contents writer writer' (meaning config script)
 
+  -- the same, but the writer failed after a front of it
+  pub record CutOff (config : Config) (reader reader' : Watched R) (writer writer' : Watched W) : Type 0 where
+    pub text : List ℕ
+    pub script : Told
+    pub reads : ReadsScript remaining reader reader' text
+    pub ends : IsAtEnd (remaining (inner_of reader'))
+    pub says : script_of text ≡ Ok script
+    pub writes : WritesFront contents writer writer' (meaning config script)
+
   -- what a fault says; but for Write nothing was written
   abbrev pub Failed : Config → Watched R → Watched R → Watched W → Watched W → Fault → Type 0
   Failed config reader reader' writer writer' BadConfig = ¬ IsConfig config × (reader' ≡ reader) × (writer' ≡ writer)
   Failed config reader reader' writer writer' Memory = writer' ≡ writer
   Failed config reader reader' writer writer' Read = (has_failed reader' ≡ true) × (writer' ≡ writer)
   Failed config reader reader' writer writer' (Script n kind) = (writer' ≡ writer) × ((text : List ℕ) × ReadsScript remaining reader reader' text × (script_of text ≡ Err (Script n kind)))
-  Failed config reader reader' writer writer' Write = (text : List ℕ) × (script : Told) × ReadsScript remaining reader reader' text × (script_of text ≡ Ok script) × WritesFront contents writer writer' (meaning config script)
+  Failed config reader reader' writer writer' Write = CutOff config reader reader' writer writer'
   Failed config reader reader' writer writer' Gate = ⊥
