@@ -3,8 +3,14 @@ ghost use Rattle.std.specs.Prelude.{◌≡◌, ◌≤◌, List, ℕ, length, if�
 ghost use Rattle.std.specs.Str.{bytes_eq};
 ghost use Rattle.xh_script.specs.Words.{is_name, is_keyword, is_name_byte};
 ghost use Rattle.std.specs.List.{list_all};
+ghost use Rattle.std.specs.Cmp.Lexicographic.{nat_list_eq_equiv};
+ghost use Rattle.std.specs.Cmp.{partial_equiv_from_equiv};
+ghost use Rattle.std.specs.Hash as fed;
+ghost use Rattle.std.proofs.Common.{rules};
+ghost use Rattle.std.proofs.lemmas.Slice.Eq.{bytes_eq-Decides};
 
 use arrayvec::ArrayVec;
+use std::hash::{Hash, Hasher};
 use std::marker::Model;
 
 /// A name: a lower-case letter, and up to 15 such letters or digits.
@@ -17,6 +23,39 @@ impl Model for Name {
     ghost Value = { List ℕ };
 
     ghost view = { λ n. n.letters.items };
+}
+
+impl PartialEq for Name {
+    ghost eq = { λ a b. bytes_eq a b };
+
+    ghost laws = { partial_equiv_from_equiv nat_list_eq_equiv };
+
+    fn eq(&self, other: &Name) -> bool {
+        self.letters.as_slice() == other.letters.as_slice()
+    }
+}
+
+impl Eq for Name {
+    ghost laws = { nat_list_eq_equiv };
+}
+
+impl Hash for Name {
+    ghost hash_input = { λ n. fed.str n };
+
+    ghost respects_eq = { Prim.search (bytes_eq-Decides, rules) };
+
+    fn hash<H: Hasher>(&self, state: &mut H) {
+        state.write(self.letters.as_slice());
+        state.write_u8(0xff);
+    }
+}
+
+impl Default for Name {
+    fn default() -> Name {
+        Name {
+            letters: ArrayVec::new(),
+        }
+    }
 }
 
 fn is_keyword(word: &[u8]) -> bool
@@ -76,14 +115,7 @@ impl Name {
     pub fn as_bytes(&self) -> &[u8]
         ensures { result.now ≡ self.now }
     {
-        self.letters.as_slice()
-    }
-
-    /// Whether both are one name.
-    pub fn is(&self, other: &Name) -> bool
-        ensures { result ≡ bytes_eq self.now other.now }
-    {
-        self.letters.as_slice() == other.letters.as_slice()
+        &self.letters
     }
 
     /// The same name once more.
