@@ -1,2 +1,12 @@
 pub mod Refusals
 pub mod Rooms
+pub mod Tables
+pub mod Talks
+pub mod Machine
+pub mod Refusing
+pub mod Sweeping
+pub mod EndingCommands
+pub mod MessageCommands
+pub mod BlockCommands
+pub mod ChannelCommands
+pub mod PlaceCommands
