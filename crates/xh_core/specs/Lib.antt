@@ -1,5 +1,4 @@
 pub mod Refusals
-pub mod Rooms
 pub mod Tables
 pub mod Talks
 pub mod Machine
@@ -10,3 +9,5 @@ pub mod MessageCommands
 pub mod BlockCommands
 pub mod ChannelCommands
 pub mod PlaceCommands
+pub mod Gaining
+pub mod Checks

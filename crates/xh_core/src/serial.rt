@@ -1,8 +1,12 @@
 //! The serial heap: places, channels and the bytes of blocks over the plain machine.
-ghost use Rattle.std.specs.Prelude.{◌≡◌, ◌*◌, ◌≤◌, ◌⊎◌, ◌↔◌, [], None, Err, IfOk, IfErr, OnOk, length, replicate};
-ghost use Rattle.xh_model.specs.Store.{IsConfig, new_store};
+ghost use Rattle.std.specs.Prelude.{◌≡◌, ◌⊎◌, ◌↔◌, [], None, Err, IfOk, IfErr, OnOk, length, replicate};
+ghost use Rattle.xh_model.specs.Store.{IsConfig};
 ghost use Rattle.xh_core.specs.Machine.{no_place, no_line};
 ghost use Rattle.xh_core.specs.PlaceCommands.{new_machine};
+
+mod blocks;
+mod checks;
+mod places;
 
 use crate::buffer::Buffer;
 use crate::contract::Contract;
