@@ -1,6 +1,6 @@
 //! The serial heap: places, channels and the bytes of blocks over the plain machine.
 ghost use Rattle.std.specs.Prelude.{◌≡◌, ◌*◌, ◌≤◌, ◌⊎◌, ◌↔◌, [], None, Err, IfOk, IfErr, OnOk, length, replicate};
-ghost use Rattle.xh_model.specs.Store.{IsConfig, new_store};
+ghost use Rattle.xh_model.specs.Store.{IsConfig, IsLawful, new_store};
 ghost use Rattle.xh_core.specs.Machine.{no_place, no_line};
 ghost use Rattle.xh_core.specs.PlaceCommands.{new_machine};
 
@@ -50,6 +50,7 @@ impl Model for Serial {
 /// A plain machine, with the refusals of this crate.
 fn new_plain(alloc: Global, config: Config) -> Result<Plain, Refused>
     ensures fresh { IfOk result (λ s. s ≡ new_store config) }
+    ensures lawful { IfOk result IsLawful }
     ensures limits { OnOk result (IsConfig config) }
     ensures bad_size { (result ≡ Err Refused.BadSize) ↔ (IsConfig config → ⊥) }
     ensures refused { IfErr result (λ e. (e ≡ Refused.BadSize) ⊎ (e ≡ Refused.OutOfMemory)) }
