@@ -40,6 +40,7 @@ impl Plain {
     pub(crate) fn len(&self, r: u16) -> u32
         ensures { result ≡ len self.now r }
     {
+        let _open = &self.records;
         match self.holder(r) {
             Some(_) => self.length(r),
             None => 0,
