@@ -4,6 +4,11 @@ ghost use Rattle.xh_model.specs.Store.{IsConfig, IsLawful, new_store};
 ghost use Rattle.xh_core.specs.Machine.{no_place, no_line};
 ghost use Rattle.xh_core.specs.PlaceCommands.{new_machine};
 
+mod checks;
+mod ending;
+mod messages;
+mod sweep;
+
 use crate::buffer::Buffer;
 use crate::contract::Contract;
 use crate::line::Line;
