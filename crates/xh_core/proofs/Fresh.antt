@@ -1,5 +1,5 @@
 -- A new machine is whole.
-use Rattle.std.proofs.Common.{◌≡◌, ◌≢◌, ℕ, zero, suc, ◌+◌, ◌*◌, ◌/◌, ◌-◌, ◌<◌, ◌≤◌, List, [], ◌∷◌, ◌++◌, length, Bool, true, false, cond, refl, sym, ap, ◌∙◌, subst, arith, ◌⊎◌, inl, inr}
+use Rattle.std.proofs.Common.{◌≡◌, ◌≢◌, ℕ, zero, suc, ◌+◌, ◌*◌, ◌/◌, ◌%◌, ◌-◌, ◌<◌, ◌≤◌, List, [], ◌∷◌, ◌++◌, length, Bool, true, false, cond, refl, sym, ap, ◌∙◌, subst, arith, ◌⊎◌, inl, inr}
 use Rattle.std.specs.Prelude.{Option, Some, None, is_some, ◌==◌, replicate, slice_index_or}
 use Rattle.std.proofs.lemmas.Bool.{false≢true, cases_Bool}
 use Rattle.xh_model.specs.declared.event.Config.{Config}

@@ -9,3 +9,5 @@ pub mod MessageCommands
 pub mod BlockCommands
 pub mod ChannelCommands
 pub mod PlaceCommands
+pub mod Gaining
+pub mod Checks

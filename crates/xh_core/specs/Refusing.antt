@@ -1,10 +1,10 @@
 -- How a command is refused: the refusals in the order of their tests.
-use Rattle.std.specs.Prelude.{◌≡◌, ℕ, ◌==◌, ◌||◌, Bool, cond, not, List, [], ◌∷◌, ◌++◌, Option, Some, None, is_some, is_none, Result, Ok, Err, MatchResult, unwrap_or}
+use Rattle.std.specs.Prelude.{◌≡◌, ℕ, ◌==◌, ◌||◌, Bool, true, cond, not, List, [], ◌∷◌, ◌++◌, Option, Some, None, is_some, is_none, Result, Ok, Err, MatchResult, unwrap_or}
 use Rattle.xh_model.specs.declared.event.Holder.TheVariants.{Process}
 use Rattle.xh_model.specs.Store.{holds}
 use Rattle.xh_core.specs.declared.refused.Refused.{Refused}
 use Rattle.xh_core.specs.declared.refused.Refused.TheVariants.{NoProcess, Ended, NotOwned, NotData, NotEndpoint}
-use Rattle.xh_core.specs.Machine.{Machine, end_of, status_of, is_vacant, is_running, is_ended}
+use Rattle.xh_core.specs.Machine.{Machine, end_of, place, is_current, status_of, is_vacant, is_running, is_ended}
 
 -- what a command answers, and the machine after it
 abbrev pub Answer : Type 0 → Type 0
@@ -27,6 +27,10 @@ answered (Some refused) m done = (Err refused, m)
 -- a check passes and tells something, or gives the first refusal
 abbrev pub Tested : Tests → {A : Type 0} → Result A Refused → (A → Type 0) → Type 0
 Tested tests result P = MatchResult result (λ a. (first_refusal tests ≡ None) × P a) (λ refused. first_refusal tests ≡ Some refused)
+
+-- the process is the latest of its place, and runs
+abbrev pub IsRunning : Machine → ℕ → Type 0
+IsRunning m p = (is_current m p ≡ true) × (is_running (place m p).status ≡ true)
 
 -- the process is none, or does not run
 abbrev pub start : Machine → ℕ → Tests

@@ -1,0 +1,66 @@
+//! Data blocks: they are made, cut, read, written and given back.
+ghost use Rattle.std.specs.Prelude.{◌≡◌, ◌≢◌, ◌+◌, ◌*◌, ◌/◌, ◌%◌, ◌<◌, ◌≤◌, ◌++◌, ◌∷◌, [], Some, Err, false, true, length, slice_set, slice_index_or};
+ghost use Rattle.xh_core.specs.Machine.{no_place};
+ghost use Rattle.xh_core.specs.BlockCommands.{free_record, rounded};
+ghost use Rattle.xh_core.specs.BlockCommands.{alloc as alloc_command};
+ghost use Rattle.xh_core.specs.Refusing.{IsRunning, Tested};
+ghost use Rattle.xh_core.specs.Checks.{alloc_heads};
+
+use super::Serial;
+use crate::block::Block;
+use crate::buffer::Buffer;
+use crate::place::Place;
+use crate::refused::Refused;
+use std::alloc::Global;
+
+/// A record goes to the end of the list of a process.
+fn list_record(places: &mut Vec<Place>, p: u16, r: u16)
+    requires there { p % 32 < length places.old.items }
+    requires room { length (slice_index_or places.old.items (p % 32) no_place).blocks.items < 2048 }
+    ensures { let place = slice_index_or places.old.items (p % 32) no_place in places.new.items ≡ slice_set places.old.items (p % 32) (record place { blocks = record { items = place.blocks.items ++ r ∷ [] } }) }
+{
+    places[usize::from(p % 32)].blocks.push(r);
+}
+
+/// The next multiple of 16.
+fn round(n: u32) -> u32
+    requires { n ≤ 1048576 }
+    ensures { result ≡ rounded n }
+{
+    (n + 15) / 16 * 16
+}
+
+impl Serial {
+    /// Why an alloc is refused, or the record that it takes.
+    fn check_alloc(&self, p: u16, n: u32, arena: u32) -> Result<u16, Refused>
+        ensures { Tested (alloc_heads self.now p n arena) result (λ r. IsRunning self.now p × (free_record self.now.store arena ≡ Some r) × (0 < n) × (n ≤ 1048576)) }
+    {
+        self.check_start(p)?;
+        if arena as usize >= self.plain.arenas() {
+            return Err(Refused::NoArena);
+        }
+        if n == 0 || n > self.plain.size(arena) {
+            return Err(Refused::BadSize);
+        }
+        match self.plain.free_record(arena) {
+            Some(r) => Ok(r),
+            None => Err(Refused::NoRecord),
+        }
+    }
+
+    /// A data block of `n` bytes, rounded up to a multiple of 16, all zeros, from the lowest place of
+    /// the arena that has room. NoProcess, Ended, NoArena, BadSize where `n` is 0 or more than the
+    /// arena has, NoRecord, OutOfMemory, NoSpace and Worn, in this order; each leaves all as it was.
+    pub fn alloc(&mut self, alloc: Global, p: u16, n: u32, arena: u32) -> Result<Block, Refused>
+        ensures done { result ≢ Err Refused.OutOfMemory → alloc_command false p n arena self.old ≡ (result, self.new) }
+        ensures refused { result ≡ Err Refused.OutOfMemory → alloc_command true p n arena self.old ≡ (result, self.new) }
+    {
+        let r = self.check_alloc(p, n, arena)?;
+        let len = round(n);
+        let buffer = Buffer::zeroed(alloc, len)?;
+        self.plain.take(p, r, len)?;
+        self.buffers[usize::from(r)] = buffer;
+        list_record(&mut self.places, p, r);
+        Ok(Block { rec: r, len })
+    }
+}
