@@ -4,6 +4,8 @@
 mod fault;
 mod options;
 mod run;
+#[cfg(test)]
+mod tests;
 
 use std::env;
 use std::process::ExitCode;

@@ -24,7 +24,7 @@ impl<'a> Session<'a> {
         ensures names { self.new ≡ record self.old { machine = self.new.machine } }
     {
         match contract_at(self.contracts, contract) {
-            Some(contract) => self.machine.open_with(p, arena, contract),
+            Some(contract) => self.machine.open_with(p, arena, contract.copy()),
             None => self.machine.open(p, arena),
         }
     }
@@ -34,7 +34,7 @@ impl<'a> Session<'a> {
         ensures names { self.new ≡ record self.old { machine = self.new.machine } }
     {
         match contract_at(self.contracts, contract) {
-            Some(contract) => self.machine.wire_with(p, q, arena, contract),
+            Some(contract) => self.machine.wire_with(p, q, arena, contract.copy()),
             None => self.machine.wire(p, q, arena),
         }
     }
