@@ -14,7 +14,7 @@ use crate::refused::Refused;
 use std::alloc::Global;
 
 /// A record goes to the end of the list of a process.
-fn list_record(places: &mut Vec<Place>, p: u16, r: u16)
+pub(super) fn list_record(places: &mut Vec<Place>, p: u16, r: u16)
     requires there { p % 32 < length places.old.items }
     requires room { length (slice_index_or places.old.items (p % 32) no_place).blocks.items < 2048 }
     ensures { let place = slice_index_or places.old.items (p % 32) no_place in places.new.items ≡ slice_set places.old.items (p % 32) (record place { blocks = record { items = place.blocks.items ++ r ∷ [] } }) }
