@@ -1,9 +1,9 @@
 -- The lengths of an arena's records as a list, and what a change of one or two records makes of it.
 use Rattle.std.proofs.Common.{◌≡◌, ℕ, ◌+◌, ◌-◌, ◌<◌, ◌≤◌, List, [], ◌∷◌, cond, length, get_or, set, map, refl, sym, ap, ◌∙◌, subst, Option, Some, None, zero, suc, arith, zero-add, inl, inr}
-use Rattle.std.specs.Prelude.{◌≢◌, ◌==◌, slice_set, slice_get, replicate}
-use Rattle.std.specs.List.{range_with_len}
+use Rattle.std.specs.Prelude.{◌≢◌, ◌==◌, slice_set, slice_get, replicate, sum}
+use Rattle.std.specs.List.{range_with_len, sum_by}
 use Rattle.std.proofs.lemmas.Bool.{cases_eq, eq-eqb, ne_eqb}
-use Rattle.std.proofs.lemmas.List.Sums.{sum_by-cons}
+use Rattle.std.proofs.lemmas.List.Sums.{sum_by-cons, sum-map}
 use Rattle.std.proofs.lemmas.List.FromFn.{length-map-range_with_len}
 use Rattle.xh_model.specs.Cover.{State, is_of, length_of, lengths_of}
 
@@ -100,3 +100,8 @@ lengths_new state size e = zeros (λ q. length_of q state.cover) 0 state.records
 pub length-lengths : (state : State) → length (lengths_of state) ≡ state.records
 unfolding lengths_of
 length-lengths state = length-map-range_with_len (λ q. length_of q state.cover) 0 state.records
+
+-- the lengths of all records, added up
+pub sum-lengths : (state : State) → sum (lengths_of state) ≡ sum_by (λ r. length_of r state.cover) (range_with_len 0 state.records)
+unfolding lengths_of
+sum-lengths state = sum-map (λ r. length_of r state.cover) (range_with_len 0 state.records)
