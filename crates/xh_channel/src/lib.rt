@@ -1,0 +1,12 @@
+//! The channels: their directions, their endpoints, and shutting.
+#![tactic(auto)]
+
+mod message;
+mod refused;
+mod spot;
+mod unsent;
+
+pub use message::Message;
+pub use refused::Refused;
+pub use spot::Spot;
+pub use unsent::Unsent;
