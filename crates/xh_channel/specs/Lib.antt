@@ -1,3 +1,4 @@
 pub mod Ends
 pub mod Numbers
 pub mod Refusals
+pub mod Lines
