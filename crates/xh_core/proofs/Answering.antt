@@ -1,6 +1,6 @@
 -- The first of several refusals, and what alloc answers.
 use Rattle.std.proofs.Common.{◌≡◌, ◌≢◌, ℕ, ◌+◌, ◌/◌, List, [], ◌∷◌, ◌++◌, Bool, true, false, cond, refl, sym, ap, ◌∙◌, inl, inr, arith}
-use Rattle.std.specs.Prelude.{Option, Some, None, Result, Ok, Err, nat_lt, is_none}
+use Rattle.std.specs.Prelude.{Option, Some, None, Result, Ok, Err, nat_lt, is_none, unwrap_or}
 use Rattle.std.proofs.lemmas.Bool.{cases_Bool}
 use Rattle.xh_model.specs.Cover.{first_fit}
 use Rattle.xh_model.specs.Store.{Store, len, arena_at}
@@ -9,7 +9,7 @@ use Rattle.xh_core.specs.declared.refused.Refused.{Refused}
 use Rattle.xh_core.specs.declared.refused.Refused.TheVariants.{OutOfMemory, NoSpace, Worn}
 use Rattle.xh_core.specs.Machine.{Machine}
 use Rattle.xh_core.specs.Refusing.{Answer, Tests, answered, first_refusal, start, data_tests}
-use Rattle.xh_core.specs.BlockCommands.{lowest, rounded, space_tests, alloc_tests, alloc, allocated, free_tests, free, freed_block}
+use Rattle.xh_core.specs.BlockCommands.{free_record, lowest, rounded, space_tests, alloc_tests, alloc, allocated, free_tests, free, freed_block}
 use Rattle.xh_core.specs.Checks.{alloc_heads}
 
 pub first_append : (xs ys : Tests) → first_refusal xs ≡ None → first_refusal (xs ++ ys) ≡ first_refusal ys
@@ -59,3 +59,33 @@ alloc_no_room p n a m e h f = ap (λ (o : Option Refused). answered o m (alloc_a
 pub alloc_done : (p n a : ℕ) (m : Machine) → first_refusal (alloc_heads m p n a) ≡ None → first_refusal (space_tests m.store a (rounded n)) ≡ None → alloc false p n a m ≡ alloc_answer p n a m
 unfolding alloc
 alloc_done p n a m h f = ap (λ (o : Option Refused). answered o m (alloc_answer p n a m)) (first_append (alloc_heads m p n a) (later false n a m) h ∙ f)
+
+abbrev given_at : ℕ → ℕ → ℕ → Machine → Answer Block
+given_at p n r m = (Ok (record { rec = r; len = n }), allocated p r n m)
+
+gives_at : (p n r t : ℕ) (m : Machine) → r ≡ t → given_at p n r m ≡ given_at p n t m
+gives_at p n r t m e = ap (λ (x : ℕ). given_at p n x m) e
+
+-- what it gives, by the record that was found
+pub alloc_gives : (p n a r : ℕ) (m : Machine) → first_refusal (alloc_heads m p n a) ≡ None → free_record m.store a ≡ Some r → first_refusal (space_tests m.store a (rounded n)) ≡ None →
+    alloc false p n a m ≡ (Ok (record { rec = r; len = rounded n }), allocated p r (rounded n) m)
+alloc_gives p n a r m h e f =
+    let is : lowest m.store a ≡ r = ap (λ (o : Option ℕ). unwrap_or o 65535) e in
+    alloc_done p n a m h f ∙ gives_at p (rounded n) (lowest m.store a) r m is
+
+-- ---- free
+
+abbrev free_answer : ℕ → ℕ → Machine → Answer ℕ
+free_answer p r m = (Ok (len m.store r), freed_block p r m)
+
+pub free_stopped : (p r : ℕ) (m : Machine) (e : Refused) → first_refusal (start m p) ≡ Some e → free p r m ≡ (Err e, m)
+unfolding free
+free_stopped p r m e h = ap (λ (o : Option Refused). answered o m (free_answer p r m)) (first_stop (start m p) (data_tests m p r) e h)
+
+pub free_refused : (p r : ℕ) (m : Machine) (e : Refused) → first_refusal (start m p) ≡ None → first_refusal (data_tests m p r) ≡ Some e → free p r m ≡ (Err e, m)
+unfolding free
+free_refused p r m e h f = ap (λ (o : Option Refused). answered o m (free_answer p r m)) (first_append (start m p) (data_tests m p r) h ∙ f)
+
+pub free_gives : (p r : ℕ) (m : Machine) → first_refusal (start m p) ≡ None → first_refusal (data_tests m p r) ≡ None → free p r m ≡ (Ok (len m.store r), freed_block p r m)
+unfolding free
+free_gives p r m h f = ap (λ (o : Option Refused). answered o m (free_answer p r m)) (first_append (start m p) (data_tests m p r) h ∙ f)

@@ -1,10 +1,10 @@
 -- A free record is claimed, and gets bytes.
-use Rattle.std.proofs.Common.{◌≡◌, ◌≢◌, ℕ, zero, suc, ◌+◌, ◌*◌, ◌/◌, ◌%◌, ◌<◌, ◌≤◌, List, [], ◌∷◌, length, Bool, true, false, cond, refl, sym, ap, ◌∙◌, subst, arith, ◌⊎◌, inl, inr, get_or-set_same, get_or-set_other}
-use Rattle.std.specs.Prelude.{Option, Some, None, is_none, is_some, ◌&&◌, ◌==◌, nat_le, nat_lt, slice_set, slice_index_or, option_map, unwrap_or}
-use Rattle.std.specs.List.{position, range_with_len}
+use Rattle.std.proofs.Common.{◌≡◌, ◌≢◌, ℕ, zero, suc, ◌+◌, ◌*◌, ◌/◌, ◌%◌, ◌<◌, ◌≤◌, List, [], ◌∷◌, length, take, drop, length-drop, ◌-◌, Bool, true, false, cond, refl, sym, ap, ◌∙◌, subst, arith, ◌⊎◌, inl, inr, get_or-set_same, get_or-set_other}
+use Rattle.std.specs.Prelude.{Option, Some, None, is_none, is_some, slice_range, ◌&&◌, ◌==◌, nat_le, nat_lt, slice_set, slice_index_or, option_map, unwrap_or}
+use Rattle.std.specs.List.{position, position_or_len, range_with_len}
 use Rattle.std.proofs.lemmas.Bool.{cases_eq, cases_Bool, cases_lt, false≢true, eq-eqb, ne_eqb, lt-ltb, le-ltb, ltb-true, ltb-false, and_parts, eqb-true}
 use Rattle.std.proofs.lemmas.Bool.Decides.{nat_tests}
-use Rattle.std.proofs.lemmas.List.{length-set, set-set, set-get_or}
+use Rattle.std.proofs.lemmas.List.{length-set, length-take-le, set-set, set-get_or, get_or-take, get_or-drop}
 use Rattle.std.proofs.lemmas.List.FromFn.{length-range_with_len, get_or-range_with_len}
 use Rattle.std.proofs.lemmas.List.Quantifiers.{position-Some}
 use Rattle.xh_model.specs.declared.event.Holder.{Holder}
@@ -52,6 +52,41 @@ free_is s a r w e =
       arena = there.0
     }
 
+-- among so many owners in a row, the first that is none
+same_place : (p : ℕ → Bool) (os : List (Option Holder)) (at : ℕ) → ((i : ℕ) → i < length os → is_none (slice_index_or os i None) ≡ p (at + i)) →
+    position_or_len is_none os ≡ position_or_len p (range_with_len at (length os))
+same_place p [] at h = refl
+same_place p (o ∷ os) at h =
+    let e : at + 0 ≡ at = omega arith in
+    let here : is_none o ≡ p at = h 0 (omega arith) ∙ ap p e in
+    let next : (i : ℕ) → at + suc i ≡ at + 1 + i = (λ i. omega arith) in
+    let rest : position_or_len is_none os ≡ position_or_len p (range_with_len (at + 1) (length os)) = same_place p os (at + 1) (λ i l. h (suc i) (omega (arith, l)) ∙ ap p (next i)) in
+    elim (cases_Bool (p at)) [ inl y ↦ rw (here, y) refl | inr n ↦ rw (here, n, rest) refl ]
+
+pub same_position : (p : ℕ → Bool) (os : List (Option Holder)) (n : ℕ) → length os ≡ n → ((i : ℕ) → i < n → is_none (slice_index_or os i None) ≡ p i) →
+    position is_none os ≡ position p (range_with_len 0 n)
+same_position p os n e h =
+    let zero_more : (i : ℕ) → i ≡ 0 + i = (λ i. omega arith) in
+    let at : position_or_len is_none os ≡ position_or_len p (range_with_len 0 (length os)) = same_place p os 0 (λ i l. h i (subst (λ (k : ℕ). i < k) e l) ∙ ap p (zero_more i)) in
+    let l : length (range_with_len 0 (length os)) ≡ length os = length-range_with_len 0 (length os) in
+    subst (λ (k : ℕ). position is_none os ≡ position p (range_with_len 0 k)) e (rw (at, l) refl)
+
+-- what the first free one of an arena's records in the list of all owners makes of its number
+pub found_free : (s : Store) (a n : ℕ) (o : Option ℕ) → IsLawful s → a < length s.arenas → (arena_at s a).records ≡ n →
+    o ≡ position is_none (slice_range s.owners (256 * a) (256 * a + n)) → option_map (λ i. 256 * a + i) o ≡ free_record s a
+found_free s a n o w l e is =
+    let few : n ≤ 256 = subst (λ (k : ℕ). k ≤ 256) e (w.records a) in
+    let within : 256 * a + n ≤ length s.owners = (let long : length s.owners ≡ 256 * length s.arenas = w.long in omega (arith, l, few, long)) in
+    let count : (256 * a + n) - 256 * a ≡ n = omega arith in
+    let rest : List (Option Holder) = drop (256 * a) s.owners in
+    let part : slice_range s.owners (256 * a) (256 * a + n) ≡ take n rest = ap (λ (k : ℕ). take k rest) count in
+    let room : n ≤ length rest = (let d : length rest ≡ length s.owners - 256 * a = length-drop (256 * a) s.owners in omega (arith, d, within)) in
+    let long : length (take n rest) ≡ n = length-take-le n rest room in
+    let each : (i : ℕ) → i < n → is_none (slice_index_or (take n rest) i None) ≡ is_none (owner s (256 * a + i)) =
+      (λ i b. ap is_none (get_or-take n rest i None b ∙ get_or-drop (256 * a) s.owners i None)) in
+    ap (λ (x : Option ℕ). option_map (λ i. 256 * a + i) x) (is ∙ (ap (position is_none) part ∙ same_position (λ i. is_none (owner s (256 * a + i))) (take n rest) n long each))
+    ∙ ap (λ (k : ℕ). option_map (λ i. 256 * a + i) (position (λ i. is_none (owner s (256 * a + i))) (range_with_len 0 k))) (sym e)
+
 -- ---- a claim
 
 -- p claimed r
@@ -65,10 +100,10 @@ pub record Claimed (p r : ℕ) (s t : Store) : Type 0 where
   pub known : is_known t r ≡ true
   pub empty : len t r ≡ 0
 
-no_bytes : (o : Option Holder) (n : ℕ) → o ≡ None → IsOwner o n → n ≡ 0
+pub no_bytes : (o : Option Holder) (n : ℕ) → o ≡ None → IsOwner o n → n ≡ 0
 no_bytes o n e i = subst (λ (x : Option Holder). IsOwner x n) e i
 
-in_range : (s : Store) (r : ℕ) → IsLawful s → is_known s r ≡ true → r < length s.owners
+pub in_range : (s : Store) (r : ℕ) → IsLawful s → is_known s r ≡ true → r < length s.owners
 in_range s r w k = let l = known_there s r k in let e = w.long in omega arith
 
 claim_is : (s : Store) (p r : ℕ) → p < 4096 → is_known s r ≡ true → owner s r ≡ None → after (Claim p r) s ≡ with_owner r (Some (Process p)) s

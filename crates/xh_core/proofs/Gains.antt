@@ -1,6 +1,6 @@
 -- A process gains free records, and the machine stays whole.
 use Rattle.std.proofs.Common.{◌≡◌, ◌≢◌, ℕ, zero, suc, ◌+◌, ◌-◌, ◌*◌, ◌/◌, ◌%◌, ◌<◌, ◌≤◌, List, [], ◌∷◌, ◌++◌, length, Bool, true, false, cond, refl, sym, ap, ◌∙◌, subst, arith, ◌⊎◌, inl, inr, get_or-set_same, get_or-set_other}
-use Rattle.std.specs.Prelude.{Option, Some, None, is_some, is_none, ◌==◌, ◌||◌, not, nat_le, nat_lt, slice_set, slice_index_or}
+use Rattle.std.specs.Prelude.{Option, Some, None, is_some, is_none, ◌==◌, ◌||◌, not, nat_le, nat_lt, replicate, slice_set, slice_index_or}
 use Rattle.std.proofs.lemmas.Bool.{cases_eq, cases_Bool, cases_lt, false≢true, eq-eqb, ne_eqb, lt-ltb, le-ltb, ltb-true, ltb-false, eqb-true}
 use Rattle.std.proofs.lemmas.Bool.Decides.{nat_tests}
 use Rattle.std.proofs.lemmas.List.{length-set}
@@ -8,7 +8,7 @@ use Rattle.std.proofs.lemmas.List.Sums.{sum_by-append}
 use Rattle.xh_model.specs.declared.event.Holder.{Holder}
 use Rattle.xh_model.specs.declared.event.Holder.TheVariants.{Process, Direction}
 use Rattle.xh_model.specs.declared.row.Row.{Row}
-use Rattle.xh_model.specs.Store.{Store, owner, len, holds, same_holder, is_held_by, IsLawful, IsQuiet}
+use Rattle.xh_model.specs.Store.{Store, owner, len, holds, same_holder, is_held_by, after, IsLawful, IsQuiet}
 use Rattle.xh_core.specs.declared.place.Place.{Place}
 use Rattle.xh_core.specs.declared.line.Line.{Line}
 use Rattle.xh_core.specs.declared.status.Status.{Status}
@@ -16,7 +16,15 @@ use Rattle.xh_core.specs.declared.status.Status.TheVariants.{Vacant, Running, En
 use Rattle.xh_core.specs.Machine.{Machine, place, line, is_current, status_of, is_vacant, is_running, is_ended, blocks, buffer, with_list, with_status, end_of, listed, on_way, way_in, times, no_line, AreWired, IsEnd, IsWhole}
 use Rattle.xh_core.specs.Gaining.{Gained}
 use Rattle.xh_core.specs.Refusing.{IsRunning}
-use Rattle.xh_core.proofs.Machines.{place_in, list_in, list_here, list_else, current_generation, place_there, IsPlace, generations_set, idle_set, busy_place}
+use Rattle.xh_model.specs.declared.event.Event.TheVariants.{Claim, Carve}
+use Rattle.std.specs.List.{position_or_len}
+use Rattle.xh_core.specs.BlockCommands.{allocated, freed_block}
+use Rattle.xh_core.proofs.Closing.{found, one_listed, frees_block}
+use Rattle.xh_core.proofs.Kept.{whole_one}
+use Rattle.xh_core.proofs.Fresh.{long_replicate}
+use Rattle.xh_core.proofs.Stores.{times-cons}
+use Rattle.xh_core.proofs.Room.{few, few_records, held_there}
+use Rattle.xh_core.proofs.Machines.{current_blocks, place_in, list_in, list_here, list_else, current_generation, place_there, IsPlace, generations_set, idle_set, busy_place}
 
 cases_holder : (a b : Holder) → (a ≡ b) ⊎ (a ≢ b)
 cases_holder (Process p) (Process q) = elim (cases_eq p q) [ inl e ↦ inl (ap (λ (x : ℕ). Process x) e) | inr n ↦ inr (λ e. n cc) ]
@@ -161,3 +169,65 @@ gained_whole p rs m n w r g places ends lines contracts opened depth buffers byt
       opened = subst (λ (k : ℕ). k ≤ 64) (sym opened) w.opened;
       deep = subst (λ (k : ℕ). k ≤ 16) (sym depth) w.deep
     }
+
+-- ---- alloc
+
+at_most_one : (b : Bool) → cond {A = ℕ} b 1 0 ≤ 1
+at_most_one true = omega arith
+at_most_one false = omega arith
+
+-- the list of a process has room for a record that nobody holds
+pub room_for : (m : Machine) (p r : ℕ) → IsWhole m → IsRunning m p → owner m.store r ≡ None → r < length m.store.owners → length (place m p).blocks.items < 2048
+room_for m p r w run f there =
+    let apart : times r (blocks m p) ≡ 0 = w.once (Process p) r ∙ rw f refl in
+    let most : length m.store.owners ≤ 2048 = few_records m w in
+    let l : length (r ∷ blocks m p) ≤ length m.store.owners = few (length m.store.owners) (r ∷ blocks m p)
+      (λ q. let t : times q (r ∷ blocks m p) ≡ cond (r == q) 1 0 + times q (blocks m p) = times-cons q r (blocks m p) in
+        elim (cases_eq r q) [
+          inl e ↦ (let u : times q (r ∷ blocks m p) ≡ 1 + times q (blocks m p) = t ∙ rw (eq-eqb r q e) refl in
+            let z : times q (blocks m p) ≡ 0 = subst (λ (x : ℕ). times x (blocks m p) ≡ 0) e apart in omega (arith, u, z))
+          | inr n ↦ (let u : times q (r ∷ blocks m p) ≡ 0 + times q (blocks m p) = t ∙ rw (ne_eqb r q n) refl in
+            let o = w.once (Process p) q in let a = at_most_one (holds m.store (Process p) q) in omega (arith, u, o, a))
+        ])
+      (λ q h. let t : times q (r ∷ blocks m p) ≡ cond (r == q) 1 0 + times q (blocks m p) = times-cons q r (blocks m p) in
+        elim (cases_eq r q) [
+          inl e ↦ subst (λ (x : ℕ). x < length m.store.owners) e there
+          | inr n ↦ (let u : times q (r ∷ blocks m p) ≡ 0 + times q (blocks m p) = t ∙ rw (ne_eqb r q n) refl in held_there m (Process p) q w (omega (arith, u, h)))
+        ]) in
+    let e : length (blocks m p) ≡ length (place m p).blocks.items = ap length (current_blocks m p run.0) in
+    omega (arith, l, most, e)
+
+alloc_bytes : (m : Machine) (t : Store) (r n : ℕ) → IsWhole m → owner m.store r ≡ None → r < length m.store.owners → len t r ≡ n → ((q : ℕ) → q ≢ r → len t q ≡ len m.store q) →
+    (q : ℕ) → length (slice_index_or (slice_set m.buffers r (replicate n 0)) q []) ≡ cond (is_some (end_of m q)) 0 (len t q)
+alloc_bytes m t r n w f there long others q = elim (cases_eq q r) [
+    inl e ↦ (
+      let none : end_of m q ≡ None = subst (λ (x : ℕ). end_of m x ≡ None) (sym e) (free_no_end m r w f) in
+      let l : r < length m.buffers = subst (λ (k : ℕ). r < k) (sym w.buffers) there in
+      let own : len t q ≡ n = subst (λ (x : ℕ). len t x ≡ n) (sym e) long in
+      ap (λ (x : ℕ). length (slice_index_or (slice_set m.buffers r (replicate n 0)) x [])) e ∙ (ap length (get_or-set_same m.buffers r (replicate n 0) [] l)
+      ∙ (long_replicate {A = ℕ} n 0 ∙ rw (none, own) refl)))
+    | inr ne ↦ ap length (get_or-set_other m.buffers r q (replicate n 0) [] ne) ∙ (w.bytes q ∙ ap (λ (k : ℕ). cond (is_some (end_of m q)) 0 k) (sym (others q ne)))
+  ]
+
+-- a block is allocated
+pub allocated_whole : (m : Machine) (p r n : ℕ) → IsWhole m → IsRunning m p → Gained p (r ∷ []) m.store (after (Carve p r n) (after (Claim p r) m.store)) →
+    owner m.store r ≡ None → r < length m.store.owners → len (after (Carve p r n) (after (Claim p r) m.store)) r ≡ n →
+    ((q : ℕ) → q ≢ r → len (after (Carve p r n) (after (Claim p r) m.store)) q ≡ len m.store q) → IsWhole (allocated p r n m)
+unfolding allocated
+allocated_whole m p r n w run g f there long others =
+    gained_whole p (r ∷ []) m (allocated p r n m) w run g refl refl refl refl refl refl (length-set m.buffers r (replicate n 0))
+    (alloc_bytes m (after (Carve p r n) (after (Claim p r) m.store)) r n w f there long others)
+
+-- ---- free
+
+pub listed_place : (m : Machine) (p r : ℕ) → IsWhole m → IsRunning m p → holds m.store (Process p) r ≡ true →
+    position_or_len (λ q. q == r) (place m p).blocks.items < length (place m p).blocks.items
+listed_place m p r w run h =
+    let there : position_or_len (λ q. q == r) (blocks m p) < length (blocks m p) = found r (blocks m p) (one_listed m p r w h) in
+    subst (λ (xs : List ℕ). position_or_len (λ q. q == r) xs < length xs) (current_blocks m p run.0) there
+
+-- a data block is freed
+pub freed_whole : (m : Machine) (p r : ℕ) → IsWhole m → holds m.store (Process p) r ≡ true → end_of m r ≡ None → IsWhole (freed_block p r m)
+freed_whole m p r w h e =
+    let t : 0 < times r (blocks m p) = one_listed m p r w h in
+    subst IsWhole (frees_block m p r t e) (whole_one m p (position_or_len (λ q. q == r) (blocks m p)) w (found r (blocks m p) t))

@@ -2,7 +2,7 @@
 use Rattle.std.proofs.Common.{◌≡◌, ◌≢◌, ℕ, zero, suc, ◌+◌, ◌-◌, ◌*◌, ◌/◌, ◌%◌, ◌<◌, ◌≤◌, List, [], ◌∷◌, ◌++◌, length, Bool, true, false, cond, refl, sym, ap, ◌∙◌, subst, arith, ◌⊎◌, inl, inr, get_or-set_same, get_or-set_other}
 use Rattle.std.specs.Prelude.{Option, Some, None, ◌==◌, ◌||◌, slice_set, slice_index_or}
 use Rattle.std.proofs.lemmas.Bool.{cases_eq, cases_Bool, cases_lt, false≢true, eq-eqb, ne_eqb, eqb-true}
-use Rattle.std.proofs.lemmas.List.{get_or_past, length-set}
+use Rattle.std.proofs.lemmas.List.{get_or_past, get_or_default, length-set}
 use Rattle.xh_core.specs.declared.place.Place.{Place}
 use Rattle.xh_core.specs.declared.line.Line.{Line}
 use Rattle.xh_core.specs.Machine.{Machine, place, is_current, blocks, with_list, no_place, no_line, is_vacant, is_ended, line, peer, carried, waiting, on_way, IsWhole}
@@ -10,6 +10,10 @@ use Rattle.xh_core.specs.Machine.{Machine, place, is_current, blocks, with_list,
 -- machines with the same parts are one
 pub same_machine : (a b : Machine) → a.store ≡ b.store → a.ends ≡ b.ends → a.buffers ≡ b.buffers → a.places ≡ b.places → a.lines ≡ b.lines → a.contracts ≡ b.contracts → a.opened ≡ b.opened → a.depth ≡ b.depth → a ≡ b
 same_machine a b s e f p l c o d = λ i. record { store = s i; ends = e i; buffers = f i; places = p i; lines = l i; contracts = c i; opened = o i; depth = d i }
+
+-- an entry that is there is the one that is read with any default
+pub read_at : {A : Type 0} (xs : List A) (i k : ℕ) (x d : A) → k < length xs → i ≡ k → x ≡ slice_index_or xs i x → x ≡ slice_index_or xs k d
+read_at xs i k x d l e h = h ∙ (ap (λ j. slice_index_or xs j x) e ∙ get_or_default xs k x d l)
 
 -- ---- places
 

@@ -2,7 +2,9 @@
 use Rattle.std.proofs.Common.{◌≡◌, ◌≢◌, ℕ, ◌+◌, ◌*◌, ◌/◌, ◌%◌, ◌<◌, ◌≤◌, List, [], ◌∷◌, length, Bool, true, false, cond, refl, sym, ap, ◌∙◌, subst, arith, inl, inr}
 use Rattle.std.specs.Prelude.{Option, Some, None, ◌==◌, ◌||◌, ◌&&◌, nat_lt, slice_set, slice_index_or}
 use Rattle.std.proofs.lemmas.Bool.{cases_eq, cases_Bool, false≢true, ltb-true, and_parts}
-use Rattle.std.proofs.lemmas.List.{length-set}
+use Rattle.std.specs.List.{position}
+use Rattle.std.proofs.lemmas.List.{length-set, get_or_default}
+use Rattle.std.proofs.lemmas.List.Quantifiers.{position-Some}
 use Rattle.xh_model.specs.declared.event.Holder.{Holder}
 use Rattle.xh_model.specs.declared.event.Holder.TheVariants.{Process, Direction}
 use Rattle.xh_model.specs.Store.{holds}
@@ -73,6 +75,9 @@ module _ (m : Machine) (p : ℕ) (w : IsWhole m) (c : can_start (place m p) ≡ 
       deep = w.deep
     }
 
+pub place_generation : (m : Machine) (k : ℕ) → IsWhole m → k < 32 → (slice_index_or m.places k no_place).generation ≤ 127
+place_generation m k w l = let e : k % 32 ≡ k = omega (arith, l) in subst (λ (i : ℕ). (slice_index_or m.places i no_place).generation ≤ 127) e (w.generations k)
+
 -- the same by the number of a place
 pub spawned_whole : (m : Machine) (k : ℕ) → IsWhole m → k < 32 → can_start (slice_index_or m.places k no_place) ≡ true →
     IsWhole (record m { places = slice_set m.places k (started (slice_index_or m.places k no_place)) })
@@ -80,3 +85,25 @@ spawned_whole m k w l c =
     let e : k % 32 ≡ k = omega (arith, l) in
     let d : can_start (place m k) ≡ true = ap (λ (i : ℕ). can_start (slice_index_or m.places i no_place)) e ∙ c in
     subst (λ (i : ℕ). IsWhole (record m { places = slice_set m.places i (started (slice_index_or m.places i no_place)) })) e (started_whole m k w d)
+
+-- a place where a process can start
+pub record Ready (m : Machine) (k : ℕ) : Type 0 where
+  pub there : k < 32
+  pub can : can_start (slice_index_or m.places k no_place) ≡ true
+  pub generation : (started (slice_index_or m.places k no_place)).generation ≤ 127
+  pub whole : IsWhole (record m { places = slice_set m.places k (started (slice_index_or m.places k no_place)) })
+
+pub ready : (m : Machine) (k : ℕ) → IsWhole m → position can_start m.places ≡ Some k → Ready m k
+ready m k w e =
+    let at = position-Some can_start m.places k no_place e in
+    let l : k < 32 = subst (λ (n : ℕ). k < n) w.places at.0 in
+    let g : (slice_index_or m.places k no_place).generation ≤ 127 = place_generation m k w l in
+    record {
+      there = l;
+      can = at.1;
+      generation = started_generation (is_vacant (slice_index_or m.places k no_place).status) (is_ended (slice_index_or m.places k no_place).status) (slice_index_or m.places k no_place).generation at.1 g;
+      whole = spawned_whole m k w l at.1
+    }
+
+pub entry_at : (ps : List Place) (k : ℕ) (x : Place) → length ps ≡ 32 → k < 32 → x ≡ slice_index_or ps k x → x ≡ slice_index_or ps k no_place
+entry_at ps k x e l h = h ∙ get_or_default ps k x no_place (subst (λ (n : ℕ). k < n) (sym e) l)

@@ -1,5 +1,5 @@
 -- The commands give and take.
-use Rattle.std.specs.Prelude.{◌≡◌, ℕ, ◌+◌, ◌-◌, ◌/◌, ◌%◌, ◌==◌, ◌&&◌, ◌||◌, Bool, true, false, not, cond, List, [], ◌∷◌, ◌++◌, Option, Some, None, is_none, length, map, nat_le, nat_lt, slice_set, slice_index_or, Result, Ok, Err}
+use Rattle.std.specs.Prelude.{◌≡◌, ℕ, ◌+◌, ◌-◌, ◌*◌, ◌/◌, ◌%◌, ◌<◌, ◌≤◌, ◌==◌, ◌&&◌, ◌||◌, Bool, true, false, not, cond, List, [], ◌∷◌, ◌++◌, Option, Some, None, is_none, length, map, nat_le, nat_lt, slice_set, slice_index_or, Result, Ok, Err}
 use Rattle.std.specs.List.{remove, list_any, list_all, filter}
 use Rattle.xh_model.specs.declared.event.Holder.TheVariants.{Process}
 use Rattle.xh_model.specs.declared.event.Event.TheVariants.{Pass}
@@ -11,8 +11,8 @@ use Rattle.xh_core.specs.declared.message.Message.{Message}
 use Rattle.xh_core.specs.declared.message.Taken.{Taken}
 use Rattle.xh_core.specs.declared.line.Line.{Line}
 use Rattle.xh_core.specs.declared.refused.Refused.TheVariants.{TooMany, NotOwned, Twice, Protocol, PeerClosed, Full, Empty}
-use Rattle.xh_core.specs.Machine.{Machine, blocks, with_list, line, waiting, peer, contract_of, next_state}
-use Rattle.xh_core.specs.Refusing.{Answer, Tests, answered, first_refusal, start, end_tests, toward}
+use Rattle.xh_core.specs.Machine.{Machine, end_of, blocks, with_list, line, waiting, peer, contract_of, next_state}
+use Rattle.xh_core.specs.Refusing.{Answer, Tests, IsRunning, answered, first_refusal, start, end_tests, toward}
 use Rattle.xh_core.specs.Sweeping.{accept_all}
 
 -- ---- give
@@ -43,6 +43,18 @@ give_tests m p e tag bs = start m p ++ end_tests m p e
     ∷ (is_banned (contract_of m.contracts (toward m e)) (toward m e % 2) (line m (toward m e)).state tag, Protocol (record { items = bs }))
     ∷ ((line m (peer (toward m e))).shut, PeerClosed (record { items = bs }))
     ∷ (is_full m.depth (line m (peer (toward m e))), Full (record { items = bs })) ∷ []
+
+-- no test of a give is true: d leads to e
+pub record MayGive (m : Machine) (p e tag : ℕ) (bs : List ℕ) (d : ℕ) : Type 0 where
+  pub runs : IsRunning m p
+  pub toward : end_of m e ≡ Some d
+  pub within : d < 2 * m.opened
+  pub few : length bs ≤ 8
+  pub held : list_all (λ r. holds m.store (Process p) r) bs ≡ true
+  pub once : has_twice bs ≡ false
+  pub allowed : is_banned (contract_of m.contracts d) (d % 2) (line m d).state tag ≡ false
+  pub room : length (waiting m (peer d)) < m.depth
+  pub more : (line m (peer d)).put < LAST
 
 -- p passes each of the records to a direction
 abbrev pub pass_all : ℕ → ℕ → List ℕ → Store → Store
@@ -81,6 +93,13 @@ abbrev pub take_tests : Machine → ℕ → ℕ → Tests
 take_tests m p e = start m p ++ end_tests m p e
     ++ ((length (waiting m (toward m e)) == 0) && (line m (peer (toward m e))).shut, PeerClosed (record { items = [] }))
     ∷ (length (waiting m (toward m e)) == 0, Empty) ∷ []
+
+-- no test of a take is true: d leads to e
+pub record MayTake (m : Machine) (p e d : ℕ) : Type 0 where
+  pub runs : IsRunning m p
+  pub toward : end_of m e ≡ Some d
+  pub within : d < 2 * m.opened
+  pub some : 0 < length (waiting m d)
 
 abbrev pub no_message : Message
 no_message = record { no = 0; tag = 0; blocks = record { items = [] } }

@@ -7,7 +7,10 @@ ghost use Rattle.xh_core.specs.PlaceCommands.{new_machine};
 mod blocks;
 mod channels;
 mod checks;
+mod ending;
+mod messages;
 mod places;
+mod sweep;
 
 use crate::buffer::Buffer;
 use crate::contract::Contract;

@@ -77,9 +77,10 @@ impl Serial {
     pub fn glance(&self, place: u8) -> Result<Glance, Refused>
         ensures { result ≡ glance place self.now }
     {
-        let Some(at) = self.places.get(usize::from(place)) else {
+        if place >= 32 {
             return Err(Refused::NoProcess);
-        };
+        }
+        let at = &self.places[usize::from(place)];
         Ok(Glance {
             process: number(usize::from(place), at.generation),
             state: at.status,
