@@ -9,11 +9,14 @@ use Rattle.xh_model.specs.declared.event.Event.TheVariants.{Claim, Carve, Cut, V
 use Rattle.xh_model.specs.Cover.{State}
 use Rattle.xh_model.specs.Store.{Store, owner, len, holds, is_held_by, is_known, can, after, with_owner, IsLawful}
 use Rattle.xh_model.proofs.Lawful.{owner_lawful}
-use Rattle.xh_core.specs.BlockCommands.{free_record, lowest}
+use Rattle.xh_core.specs.declared.refused.Refused.{Refused}
+use Rattle.xh_core.specs.declared.refused.Refused.TheVariants.{NoRecord}
+use Rattle.xh_core.specs.BlockCommands.{free_record, lowest, space_tests}
+use Rattle.xh_core.specs.Refusing.{first_refusal}
 use Rattle.xh_core.specs.ChannelCommands.{claimed_once, handed}
-use Rattle.xh_core.specs.Pairing.{ClaimedTwo, Paired, moved}
+use Rattle.xh_core.specs.Pairing.{ClaimedTwo, Paired, moved, pair_tests}
 use Rattle.xh_core.proofs.Stores.{done, owner-set, same_len}
-use Rattle.xh_core.proofs.Claiming.{IsFree, free_is, Claimed, claimed, unclaimed, carve-owners, cut-owners}
+use Rattle.xh_core.proofs.Claiming.{IsFree, free_is, Claimed, claimed, unclaimed, carve-owners, cut-owners, same_space}
 
 -- p claimed r, and then t
 pub record TwoClaimed (p r t : ℕ) (s n : Store) : Type 0 where
@@ -86,6 +89,53 @@ two_claimed s p a r t w l low high =
       back = ap (after (Vacate p r)) (unclaimed mid p t w1 l ft.known ft.free) ∙ unclaimed s p r w l fr.known fr.free
     }
 
+pub claimed_two : (p a r t : ℕ) (s n : Store) → IsLawful s → p < 4096 → ClaimedTwo p a r t s n → TwoClaimed p r t s n
+claimed_two p a r t s n w l c =
+    let high : free_record (after (Claim p r) s) a ≡ Some t = subst (λ (x : Store). free_record x a ≡ Some t) (once_is p s a r c.low) c.high in
+    subst (λ (x : Store). TwoClaimed p r t s x) (sym c.is) (two_claimed s p a r t w l c.low high)
+
+-- the tests of the two records pass, and what is left is whether there is room
+pub pair_room : (p a r t : ℕ) (s n : Store) (o : Option Refused) → IsLawful s → p < 4096 → ClaimedTwo p a r t s n → first_refusal (space_tests n (r / 256) 64) ≡ o → first_refusal (pair_tests p s a) ≡ o
+pair_room p a r t s n o w l c f =
+    let two : TwoClaimed p r t s n = claimed_two p a r t s n w l c in
+    let none : (is_none (free_record s a) || is_none (free_record (claimed_once p s a) a)) ≡ false = (λ i. is_none (c.low i) || is_none (c.high i)) in
+    let arena : r / 256 ≡ a = (free_is s a r w c.low).arena in
+    let here : first_refusal (space_tests n a 64) ≡ o = subst (λ (x : ℕ). first_refusal (space_tests n x 64) ≡ o) arena f in
+    ap (λ (b : Bool). cond {A = Option Refused} b (Some NoRecord) (first_refusal (space_tests s a 64))) none ∙ (sym (same_space s n a 64 two.arenas) ∙ here)
+
+cut_can : (p r t : ℕ) (s : Store) → holds s (Process p) r ≡ true → holds s (Process p) t ≡ true → r / 256 ≡ t / 256 → r ≢ t → len s t ≡ 0 → len s r ≡ 64 → can (Cut p r t 32) s ≡ true
+cut_can p r t s hr ht both apart et lr = rw (hr, ht, eq-eqb (r / 256) (t / 256) both, ne_eqb r t apart, et, lr) refl
+
+-- what carving and cutting leave
+pub record CutInTwo (p r t : ℕ) (n k u : Store) (ok : Bool) : Type 0 where
+  pub carved : k ≡ after (Carve p r 64) n
+  pub long : len k r ≡ 64
+  pub others : (q : ℕ) → q ≢ r → len k q ≡ len n q
+  pub done : ok ≡ can (Cut p r t 32) k
+  pub cut : u ≡ after (Cut p r t 32) k
+  pub head : ok ≡ true → len u r ≡ 32
+  pub tail : ok ≡ true → len u t + 32 ≡ len k r
+  pub kept : (q : ℕ) → q ≢ r → q ≢ t → len u q ≡ len k q
+
+pub paired : (p a r t : ℕ) (s n k u : Store) (ok : Bool) → IsLawful s → p < 4096 → ClaimedTwo p a r t s n → CutInTwo p r t n k u ok → IsLawful u → Paired p a r t s u
+paired p a r t s n k u ok w l c d lawful =
+    let two : TwoClaimed p r t s n = claimed_two p a r t s n w l c in
+    let same : k.owners ≡ n.owners = ap (λ (x : Store). x.owners) d.carved ∙ carve-owners n p r 64 in
+    let held : (q : ℕ) → holds k (Process p) q ≡ holds n (Process p) q = (λ q. ap (λ (os : List (Option Holder)). is_held_by (slice_index_or os q None) (Process p)) same) in
+    let empty : len k t ≡ 0 = d.others t (λ e. two.apart (sym e)) ∙ two.empty_t in
+    let ok_is : ok ≡ true = d.done ∙ cut_can p r t k (held r ∙ two.holds_r) (held t ∙ two.holds_t) two.both two.apart empty d.long in
+    let tail = d.tail ok_is in
+    let long = d.long in
+    record {
+      low = c.low;
+      high = c.high;
+      is = d.cut ∙ ap (after (Cut p r t 32)) (d.carved ∙ ap (after (Carve p r 64)) c.is);
+      lawful = lawful;
+      head = d.head ok_is;
+      tail = omega (arith, tail, long);
+      kept = λ q a b. d.kept q a b ∙ (d.others q a ∙ same_len s n q two.arenas)
+    }
+
 -- ---- an end changes hands
 
 handed_is : (p q t d : ℕ) (s : Store) → q < 4096 → d < 128 → holds s (Process p) t ≡ true → 0 < len s t → t < length s.owners → handed p q t d s ≡ with_owner t (Some (Process q)) s
@@ -142,10 +192,12 @@ later_owner : (a b : Bool) (p q : ℕ) (o : Option Holder) → cond a (Some (Pro
 later_owner true b p q o = refl
 later_owner false b p q o = refl
 
+pub paired_two : (p a r t : ℕ) (s n : Store) → IsLawful s → p < 4096 → Paired p a r t s n → TwoClaimed p r t s (after (Claim p t) (after (Claim p r) s))
+paired_two p a r t s n w l g = two_claimed s p a r t w l g.low (subst (λ (x : Store). free_record x a ≡ Some t) (once_is p s a r g.low) g.high)
+
 pub shared : (p q a r t d : ℕ) (s n : Store) → IsLawful s → p < 4096 → q < 4096 → d < 128 → Paired p a r t s n → IsLawful (moved p q t d n) → Shared p q r t s (moved p q t d n)
 shared p q a r t d s n w pl ql dl g lawful =
-    let high : free_record (after (Claim p r) s) a ≡ Some t = subst (λ (x : Store). free_record x a ≡ Some t) (once_is p s a r g.low) g.high in
-    let c : TwoClaimed p r t s (after (Claim p t) (after (Claim p r) s)) = two_claimed s p a r t w pl g.low high in
+    let c : TwoClaimed p r t s (after (Claim p t) (after (Claim p r) s)) = paired_two p a r t s n w pl g in
     let same : n.owners ≡ (after (Claim p t) (after (Claim p r) s)).owners = paired_owners p a r t s n g in
     let owners : (k : ℕ) → owner n k ≡ cond (k == t) (Some (Process p)) (cond (k == r) (Some (Process p)) (owner s k)) = (λ k. ap (λ (os : List (Option Holder)). slice_index_or os k None) same ∙ c.owners k) in
     let own : owner n t ≡ Some (Process p) = owners t ∙ rw (eq-eqb t t refl) refl in
