@@ -1,12 +1,12 @@
 -- A take leaves a whole machine.
-use Rattle.std.proofs.Common.{◌≡◌, ◌≢◌, ℕ, ◌+◌, ◌-◌, ◌/◌, ◌%◌, ◌<◌, List, [], ◌∷◌, ◌++◌, length, cond, refl, sym, ap, ◌∙◌, subst, arith, get_or-set_same, get_or-set_other}
-use Rattle.std.specs.Prelude.{Option, Some, unwrap_or, slice_set, slice_index_or}
+use Rattle.std.proofs.Common.{◌≡◌, ◌≢◌, ℕ, true, false, ◌+◌, ◌-◌, ◌*◌, ◌/◌, ◌%◌, ◌<◌, List, [], ◌∷◌, ◌++◌, length, cond, refl, sym, ap, ◌∙◌, subst, arith, get_or-set_same, get_or-set_other}
+use Rattle.std.specs.Prelude.{Option, Some, None, is_none, unwrap_or, slice_set, slice_index_or}
 use Rattle.std.specs.List.{remove}
 use Rattle.std.proofs.lemmas.List.{length-set}
 use Rattle.xh_model.specs.declared.event.Holder.{Holder}
 use Rattle.xh_model.specs.declared.event.Holder.TheVariants.{Process, Direction}
 use Rattle.xh_model.specs.declared.row.Row.{Row}
-use Rattle.xh_model.specs.Rows.{InStep}
+use Rattle.xh_model.specs.Rows.{allowed, InStep}
 use Rattle.xh_model.specs.Store.{holds}
 use Rattle.xh_model.proofs.InStep.{take_step}
 use Rattle.xh_core.specs.declared.message.Message.{Message}
@@ -15,12 +15,12 @@ use Rattle.xh_core.specs.declared.line.Line.{Line}
 use Rattle.xh_core.specs.Machine.{Machine, times, blocks, place, line, no_line, waiting, peer, tags_of, contract_of, next_state, carried, on_way, listed, IsWhole}
 use Rattle.xh_core.specs.Refusing.{toward}
 use Rattle.xh_core.specs.Sweeping.{accept_all}
-use Rattle.xh_core.specs.MessageCommands.{MayTake, taken, taken_line, front, no_message}
+use Rattle.xh_core.specs.MessageCommands.{MayTake, taken, taken_line, front, no_message, is_banned}
 use Rattle.xh_core.proofs.Stores.{Accepted, accepted_all}
 use Rattle.xh_core.proofs.Machines.{place_there, list_here, list_else, current_generation, current_range, busy_place, generations_set, idle_set, way_here, way_else, peer_ne}
 use Rattle.xh_core.proofs.Stopping.{runs_busy}
 use Rattle.xh_core.proofs.Closing.{count_append}
-use Rattle.xh_core.proofs.Wired.{state_in, tags_in, IsPair, same_lines, wired_pair, half_apart}
+use Rattle.xh_core.proofs.Wired.{state_in, tags_in, IsPair, same_lines, wired_pair, pair_of, half_apart}
 use Rattle.xh_core.proofs.Moved.{Moved, moved_whole}
 
 pub front_split : (ms : List Message) → 0 < length ms → carried ms ≡ (slice_index_or ms 0 no_message).blocks.items ++ carried (remove ms 0)
@@ -113,3 +113,16 @@ module _ (m : Machine) (p e : ℕ) (w : IsWhole m) (t : MayTake m p e (toward m 
 
   pub taken_whole : IsWhole n
   taken_whole = moved_whole (Direction d) (Process p) came m n w moves
+
+  -- the front message is one that the contract allows
+  front_free : (o : Option (List Row)) → contract_of m.contracts d ≡ o → is_banned o (1 - d % 2) (line m d).state (front m e).tag ≡ false
+  front_free None is = refl
+  front_free (Some rows) is =
+      let pair : IsPair rows m.lines d = pair_of rows m.lines d (w.wired (d / 2) rows is).1 in
+      let rest : List ℕ = tags_of (remove (waiting m d) 0) in
+      let split : tags_of (waiting m d) ≡ (front m e).tag ∷ rest = front_tags (waiting m d) t.some in
+      let s = take_step rows (d % 2) (line m d).state (front m e).tag (state_in m.lines (peer d)) rest (tags_in m.lines (peer d)) (subst (λ (xs : List ℕ). InStep rows (d % 2) (line m d).state xs (state_in m.lines (peer d)) (tags_in m.lines (peer d))) split pair) in
+      ap (λ (o : Option ℕ). is_none o) s.1
+
+  pub front_allowed : is_banned (contract_of m.contracts d) (1 - d % 2) (line m d).state (front m e).tag ≡ false
+  front_allowed = front_free (contract_of m.contracts d) refl

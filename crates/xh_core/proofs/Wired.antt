@@ -5,9 +5,10 @@ use Rattle.std.proofs.lemmas.Bool.{cases_eq, eq-eqb, ne_eqb}
 use Rattle.std.proofs.lemmas.Option.{none-some, same_Some}
 use Rattle.xh_model.specs.declared.row.Row.{Row}
 use Rattle.xh_model.specs.Rows.{allowed, walk, IsValid, InStep}
-use Rattle.xh_model.proofs.InStep.{swap_step, drain_step}
+use Rattle.xh_model.proofs.InStep.{swap_step, drain_step, front_step}
 use Rattle.xh_core.specs.declared.line.Line.{Line}
-use Rattle.xh_core.specs.Machine.{no_line, peer, tags_of, contract_of, drained_state, AreWired}
+use Rattle.xh_core.specs.Machine.{Machine, line, no_line, peer, tags_of, contract_of, drained_state, AreWired}
+use Rattle.xh_core.specs.MessageCommands.{IsOrderly, AreOrderly}
 use Rattle.xh_core.specs.Sweeping.{shut_line, shut_in}
 use Rattle.xh_core.proofs.Machines.{peer_ne}
 
@@ -29,7 +30,7 @@ at_pair rows lines s s' d d' e e' a b c step = rw (← a, ← b, ← c) step
 swap_back : (rows : List Row) (state state' : ℕ) (tags tags' : List ℕ) → InStep rows 1 state tags state' tags' → InStep rows 0 state' tags' state tags
 swap_back rows state state' tags tags' step = (sym step.0, elim step.1 [ inl none ↦ inr none | inr none ↦ inl none ])
 
-pair_of : (rows : List Row) (lines : List Line) (d : ℕ) →
+pub pair_of : (rows : List Row) (lines : List Line) (d : ℕ) →
     InStep rows 0 (state_in lines (2 * (d / 2))) (tags_in lines (2 * (d / 2))) (state_in lines (2 * (d / 2) + 1)) (tags_in lines (2 * (d / 2) + 1)) → IsPair rows lines d
 pair_of rows lines d step = elim (cases_eq (d % 2) 0) [
   | inl e ↦ at_pair rows lines 0 (d % 2) (2 * (d / 2)) d (2 * (d / 2) + 1) (peer d) (sym e) (omega (arith, e)) (rw (eq-eqb (d % 2) 0 e) (omega (arith, e))) step
@@ -105,3 +106,14 @@ shut_wired contracts lines (Some d) l w =
     (get_or-set_same lines d _ no_line (l d refl) ∙ ap (λ (o : Option (List Row)). shut_line o (1 - d % 2) (slice_index_or lines d no_line)) is)
     (get_or-set_other lines d (peer d) _ no_line (peer_ne d)) pair)
     (λ k n. get_or-set_other lines d k _ no_line (half_apart d k n))
+
+-- ---- what a reader of the contract wants to know
+
+pub wired_orderly : (m : Machine) → AreWired m.contracts m.lines → AreOrderly m
+wired_orderly m wired c rows is =
+    let step : ArePaired rows 0 (line m (2 * c)) (line m (2 * c + 1)) = (wired c rows is).1 in
+    let low : Line = line m (2 * c) in
+    let high : Line = line m (2 * c + 1) in
+    (front_step rows 0 low.state high.state (tags_of low.waiting.items) (tags_of high.waiting.items) step,
+     front_step rows 1 high.state low.state (tags_of high.waiting.items) (tags_of low.waiting.items) (swap_step rows low.state high.state (tags_of low.waiting.items) (tags_of high.waiting.items) step),
+     step.1)
