@@ -113,7 +113,8 @@ pub wired_orderly : (m : Machine) → AreWired m.contracts m.lines → AreOrderl
 wired_orderly m wired c rows is =
     let step : ArePaired rows 0 (line m (2 * c)) (line m (2 * c + 1)) = (wired c rows is).1 in
     let low : Line = line m (2 * c) in
-    let high : Line = line m (2 * c + 1) in
-    (front_step rows 0 low.state high.state (tags_of low.waiting.items) (tags_of high.waiting.items) step,
-     front_step rows 1 high.state low.state (tags_of high.waiting.items) (tags_of low.waiting.items) (swap_step rows low.state high.state (tags_of low.waiting.items) (tags_of high.waiting.items) step),
-     step.1)
+    let high : Line = line m (2 * c + 1) in (
+      front_step rows 0 low.state high.state (tags_of low.waiting.items) (tags_of high.waiting.items) step,
+      front_step rows 1 high.state low.state (tags_of high.waiting.items) (tags_of low.waiting.items) (swap_step rows low.state high.state (tags_of low.waiting.items) (tags_of high.waiting.items) step),
+      step.1,
+    )
