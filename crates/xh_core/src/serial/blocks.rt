@@ -89,3 +89,6 @@ impl Serial {
         Ok(len)
     }
 }
+
+#[cfg(test)]
+mod tests;
