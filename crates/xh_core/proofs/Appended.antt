@@ -54,25 +54,25 @@ module _ (ps : List Place) (p r : ℕ) (a : ArePlaces ps) (b : IsBusy ps p) wher
 
   same_generation : (k : ℕ) → (place_in (appended p r ps) k).generation ≡ (place_in ps k).generation
   same_generation k = elim (cases_eq (k % 32) (p % 32)) [
-      inl e ↦ ap (λ (x : Place). x.generation) (now_row k e) ∙ sym (ap (λ (x : Place). x.generation) (was_row k e))
-      | inr n ↦ ap (λ (x : Place). x.generation) (else_row k n)
-    ]
+    | inl e ↦ ap (λ (x : Place). x.generation) (now_row k e) ∙ sym (ap (λ (x : Place). x.generation) (was_row k e))
+    | inr n ↦ ap (λ (x : Place). x.generation) (else_row k n)
+  ]
 
   same_status : (k : ℕ) → (place_in (appended p r ps) k).status ≡ (place_in ps k).status
   same_status k = elim (cases_eq (k % 32) (p % 32)) [
-      inl e ↦ ap (λ (x : Place). x.status) (now_row k e) ∙ sym (ap (λ (x : Place). x.status) (was_row k e))
-      | inr n ↦ ap (λ (x : Place). x.status) (else_row k n)
-    ]
+    | inl e ↦ ap (λ (x : Place). x.status) (now_row k e) ∙ sym (ap (λ (x : Place). x.status) (was_row k e))
+    | inr n ↦ ap (λ (x : Place). x.status) (else_row k n)
+  ]
 
   pub appended_places : ArePlaces (appended p r ps)
   appended_places = record {
-      long = length-set ps (p % 32) (longer r (place_in ps p)) ∙ a.long;
-      generations = λ k. subst (λ (n : ℕ). n ≤ 127) (sym (same_generation k)) (a.generations k);
-      idle = λ k h. elim (cases_eq (k % 32) (p % 32)) [
-          inl e ↦ absurd (false≢true (sym b.busy ∙ (ap (λ (x : Place). is_vacant x.status || is_ended x.status) (sym (now_row k e)) ∙ h)))
-          | inr n ↦ ap (λ (x : Place). x.blocks.items) (else_row k n) ∙ a.idle k (ap (λ (x : Place). is_vacant x.status || is_ended x.status) (sym (else_row k n)) ∙ h)
-        ]
-    }
+    long = length-set ps (p % 32) (longer r (place_in ps p)) ∙ a.long;
+    generations = λ k. subst (λ (n : ℕ). n ≤ 127) (sym (same_generation k)) (a.generations k);
+    idle = λ k h. elim (cases_eq (k % 32) (p % 32)) [
+      | inl e ↦ absurd (false≢true (sym b.busy ∙ (ap (λ (x : Place). is_vacant x.status || is_ended x.status) (sym (now_row k e)) ∙ h)))
+      | inr n ↦ ap (λ (x : Place). x.blocks.items) (else_row k n) ∙ a.idle k (ap (λ (x : Place). is_vacant x.status || is_ended x.status) (sym (else_row k n)) ∙ h)
+    ];
+  }
 
   pub appended_busy : (k : ℕ) → IsBusy ps k → IsBusy (appended p r ps) k
   appended_busy k h = record { current = same_generation k ∙ h.current; busy = ap (λ (s : Status). is_vacant s || is_ended s) (same_status k) ∙ h.busy }
@@ -82,11 +82,11 @@ module _ (ps : List Place) (p r : ℕ) (a : ArePlaces ps) (b : IsBusy ps p) wher
 
   pub appended_list : (k : ℕ) → list_in (appended p r ps) k ≡ cond (p == k) (list_in ps k ++ r ∷ []) (list_in ps k)
   appended_list k = elim (cases_eq p k) [
-      inl e ↦ (let own : list_in (appended p r ps) k ≡ list_in ps k ++ r ∷ [] = subst (λ (x : ℕ). list_in (appended p r ps) x ≡ list_in ps x ++ r ∷ []) e appended_own in
+    | inl e ↦ (let own : list_in (appended p r ps) k ≡ list_in ps k ++ r ∷ [] = subst (λ (x : ℕ). list_in (appended p r ps) x ≡ list_in ps x ++ r ∷ []) e appended_own in
         own ∙ ap (λ (z : Bool). cond z (list_in ps k ++ r ∷ []) (list_in ps k)) (sym (eq-eqb p k e)))
-      | inr n ↦ (let same : list_in (appended p r ps) k ≡ list_in ps k = list_else ps p k (longer r (place_in ps p)) within b.current b.current (λ s. n (sym s)) in
+    | inr n ↦ (let same : list_in (appended p r ps) k ≡ list_in ps k = list_else ps p k (longer r (place_in ps p)) within b.current b.current (λ s. n (sym s)) in
         same ∙ ap (λ (z : Bool). cond z (list_in ps k ++ r ∷ []) (list_in ps k)) (sym (ne_eqb p k n)))
-    ]
+  ]
 
   -- two records for one process
   pub appended_twice : (t : ℕ) → appended p t (appended p r ps) ≡ slice_set ps (p % 32) (record (place_in ps p) { blocks = record { items = list_in ps p ++ r ∷ t ∷ [] } })
@@ -100,10 +100,10 @@ module _ (ps : List Place) (p r : ℕ) (a : ArePlaces ps) (b : IsBusy ps p) wher
   -- one each for two
   pub appended_both : (q t : ℕ) → IsBusy ps q → p ≢ q →
       appended q t (appended p r ps) ≡ slice_set (slice_set ps (p % 32) (record (place_in ps p) { blocks = record { items = list_in ps p ++ r ∷ [] } })) (q % 32)
-        (record (place_in (slice_set ps (p % 32) (record (place_in ps p) { blocks = record { items = list_in ps p ++ r ∷ [] } })) q) { blocks = record { items = list_in ps q ++ t ∷ [] } })
+      (record (place_in (slice_set ps (p % 32) (record (place_in ps p) { blocks = record { items = list_in ps p ++ r ∷ [] } })) q) { blocks = record { items = list_in ps q ++ t ∷ [] } })
   appended_both q t h n =
       let first : appended p r ps ≡ slice_set ps (p % 32) (record (place_in ps p) { blocks = record { items = list_in ps p ++ r ∷ [] } }) =
-        ap (λ (xs : List ℕ). slice_set ps (p % 32) (record (place_in ps p) { blocks = record { items = xs ++ r ∷ [] } })) (sym (own_list ps p b)) in
+      ap (λ (xs : List ℕ). slice_set ps (p % 32) (record (place_in ps p) { blocks = record { items = xs ++ r ∷ [] } })) (sym (own_list ps p b)) in
       let same : list_in (appended p r ps) q ≡ list_in ps q = appended_list q ∙ rw (ne_eqb p q n) refl in
       let items : (place_in (appended p r ps) q).blocks.items ≡ list_in ps q = sym (own_list (appended p r ps) q (appended_busy q h)) ∙ same in
       ap (λ (xs : List ℕ). slice_set (appended p r ps) (q % 32) (record (place_in (appended p r ps) q) { blocks = record { items = xs ++ t ∷ [] } })) items

@@ -60,9 +60,9 @@ opened_wired contracts lines k contract wired known within valid c rows is =
 
 at_set : {A : Type 0} (xs : List A) (i k : ℕ) (x d : A) → i < length xs → slice_index_or (slice_set xs i x) k d ≡ cond (k == i) x (slice_index_or xs k d)
 at_set xs i k x d l = elim (cases_eq k i) [
-    inl e ↦ ap (λ (j : ℕ). slice_index_or (slice_set xs i x) j d) e ∙ (get_or-set_same xs i x d l ∙ rw (eq-eqb k i e) refl)
-    | inr n ↦ get_or-set_other xs i k x d n ∙ rw (ne_eqb k i n) refl
-  ]
+  | inl e ↦ ap (λ (j : ℕ). slice_index_or (slice_set xs i x) j d) e ∙ (get_or-set_same xs i x d l ∙ rw (eq-eqb k i e) refl)
+  | inr n ↦ get_or-set_other xs i k x d n ∙ rw (ne_eqb k i n) refl
+]
 
 zero_cond : (b : Bool) → cond {A = ℕ} b 0 0 ≡ 0
 zero_cond true = refl
@@ -71,13 +71,13 @@ zero_cond false = refl
 -- r is the end of p and t the end of q of the next channel, in a store that says so
 abbrev pub connected : Store → ℕ → ℕ → ℕ → ℕ → Option (List Row) → Machine → Machine
 connected s p q r t contract m = record m {
-    store = s;
-    ends = slice_set (slice_set m.ends r (Some (2 * m.opened))) t (Some (2 * m.opened + 1));
-    places = appended q t (appended p r m.places);
-    lines = slice_set (slice_set m.lines (2 * m.opened) (new_line contract)) (2 * m.opened + 1) (new_line contract);
-    contracts = slice_set m.contracts m.opened contract;
-    opened = m.opened + 1;
-  }
+  store = s;
+  ends = slice_set (slice_set m.ends r (Some (2 * m.opened))) t (Some (2 * m.opened + 1));
+  places = appended q t (appended p r m.places);
+  lines = slice_set (slice_set m.lines (2 * m.opened) (new_line contract)) (2 * m.opened + 1) (new_line contract);
+  contracts = slice_set m.contracts m.opened contract;
+  opened = m.opened + 1;
+}
 
 module _ (s : Store) (p q r t : ℕ) (contract : Option (List Row)) (m : Machine) (w : IsWhole m) (runs_p : IsRunning m p) (runs_q : IsRunning m q) (more : m.opened < 64) (sound : IsSound contract) (g : Shared p q r t m.store s) where
   abbrev n : Machine
@@ -96,9 +96,9 @@ module _ (s : Store) (p q r t : ℕ) (contract : Option (List Row)) (m : Machine
 
   by_record : (P : ℕ → Type 0) → P r → P t → ((k : ℕ) → k ≢ r → k ≢ t → P k) → (k : ℕ) → P k
   by_record P a b f k = elim (cases_eq k r) [
-      inl e ↦ subst P (sym e) a
-      | inr x ↦ elim (cases_eq k t) [ inl e ↦ subst P (sym e) b | inr y ↦ f k x y ]
-    ]
+    | inl e ↦ subst P (sym e) a
+    | inr x ↦ elim (cases_eq k t) [ inl e ↦ subst P (sym e) b | inr y ↦ f k x y ]
+  ]
 
   places : ArePlaces m.places
   places = whole_places m w
@@ -120,7 +120,7 @@ module _ (s : Store) (p q r t : ℕ) (contract : Option (List Row)) (m : Machine
 
   count : (h j : ℕ) → times j (blocks n h) ≡ times j (blocks m h) + cond {A = ℕ} (p == h) (cond {A = ℕ} (r == j) 1 0) 0 + cond {A = ℕ} (q == h) (cond {A = ℕ} (t == j) 1 0) 0
   count h j = ap (times j) (lists h) ∙ (times_longer (q == h) t (list_in (appended p r m.places) h) j
-    ∙ ap (λ (x : ℕ). x + cond {A = ℕ} (q == h) (cond {A = ℕ} (t == j) 1 0) 0) (ap (times j) (between h) ∙ times_longer (p == h) r (blocks m h) j))
+      ∙ ap (λ (x : ℕ). x + cond {A = ℕ} (q == h) (cond {A = ℕ} (t == j) 1 0) 0) (ap (times j) (between h) ∙ times_longer (p == h) r (blocks m h) j))
 
   none_before : (h : Holder) (j : ℕ) → owner m.store j ≡ None → times j (listed m h) ≡ 0
   none_before h j f = w.once h j ∙ ap (λ o. cond {A = ℕ} (is_held_by o h) 1 0) f
@@ -186,12 +186,12 @@ module _ (s : Store) (p q r t : ℕ) (contract : Option (List Row)) (m : Machine
 
   ways : (d : ℕ) → on_way n d ≡ on_way m d
   ways d = elim (cases_eq d (2 * m.opened)) [
-      inl e ↦ no_way d (omega (arith, e)) (line_low d e)
-      | inr a ↦ elim (cases_eq d (2 * m.opened + 1)) [
-        inl e ↦ no_way d (omega (arith, e)) (line_high d e)
-        | inr b ↦ ap (λ (x : Line). carried x.waiting.items) (line_else d a b)
-      ]
+    | inl e ↦ no_way d (omega (arith, e)) (line_low d e)
+    | inr a ↦ elim (cases_eq d (2 * m.opened + 1)) [
+      | inl e ↦ no_way d (omega (arith, e)) (line_high d e)
+      | inr b ↦ ap (λ (x : Line). carried x.waiting.items) (line_else d a b)
     ]
+  ]
 
   once : (h : Holder) (j : ℕ) → times j (listed n h) ≡ cond (holds s h j) 1 0
   once (Process h) j = by_record (λ k. times k (blocks n h) ≡ cond (holds s (Process h) k) 1 0) (once_r h) (once_t h) (once_else h) j
@@ -218,63 +218,63 @@ module _ (s : Store) (p q r t : ℕ) (contract : Option (List Row)) (m : Machine
   -- which endpoint it is
   which : (k d : ℕ) → end_of n k ≡ Some d → ((k ≡ r) × (d ≡ 2 * m.opened)) ⊎ (((k ≡ t) × (d ≡ 2 * m.opened + 1)) ⊎ ((end_of m k ≡ Some d) × (d < 2 * m.opened)))
   which k d e = elim (cases_eq k r) [
-      inl f ↦ inl (f, same_Some _ _ (sym e ∙ (ap (end_of n) f ∙ end_r)))
-      | inr a ↦ elim (cases_eq k t) [
-        inl f ↦ inr (inl (f, same_Some _ _ (sym e ∙ (ap (end_of n) f ∙ end_t))))
-        | inr b ↦ (let was : end_of m k ≡ Some d = sym (end_else k a b) ∙ e in inr (inr (was, (w.ends k d was).opened)))
-      ]
+    | inl f ↦ inl (f, same_Some _ _ (sym e ∙ (ap (end_of n) f ∙ end_r)))
+    | inr a ↦ elim (cases_eq k t) [
+      | inl f ↦ inr (inl (f, same_Some _ _ (sym e ∙ (ap (end_of n) f ∙ end_t))))
+      | inr b ↦ (let was : end_of m k ≡ Some d = sym (end_else k a b) ∙ e in inr (inr (was, (w.ends k d was).opened)))
     ]
+  ]
 
   kept_held : (k : ℕ) → is_some (owner m.store k) ≡ true → is_some (owner s k) ≡ true
   kept_held = by_record (λ k. is_some (owner m.store k) ≡ true → is_some (owner s k) ≡ true) (λ _. ap is_some owner_r) (λ _. ap is_some owner_t) (λ k a b h. ap is_some (owner_else k a b) ∙ h)
 
   is_end_r : IsEnd n r (2 * m.opened)
   is_end_r = record {
-      held = ap is_some owner_r;
-      opened = omega arith;
-      alone = λ j f. elim (which j (2 * m.opened) f) [
-          inl b ↦ b.0
-          | inr x ↦ elim x [
-            inl b ↦ (let e : 2 * m.opened ≡ 2 * m.opened + 1 = b.1 in absurd (omega (arith, e)))
-            | inr b ↦ (let l : 2 * m.opened < 2 * m.opened = b.1 in absurd (omega (arith, l)))
-          ]
-        ]
-    }
+    held = ap is_some owner_r;
+    opened = omega arith;
+    alone = λ j f. elim (which j (2 * m.opened) f) [
+      | inl b ↦ b.0
+      | inr x ↦ elim x [
+        | inl b ↦ (let e : 2 * m.opened ≡ 2 * m.opened + 1 = b.1 in absurd (omega (arith, e)))
+        | inr b ↦ (let l : 2 * m.opened < 2 * m.opened = b.1 in absurd (omega (arith, l)))
+      ]
+    ];
+  }
 
   is_end_t : IsEnd n t (2 * m.opened + 1)
   is_end_t = record {
-      held = ap is_some owner_t;
-      opened = omega arith;
-      alone = λ j f. elim (which j (2 * m.opened + 1) f) [
-          inl b ↦ (let e : 2 * m.opened + 1 ≡ 2 * m.opened = b.1 in absurd (omega (arith, e)))
-          | inr x ↦ elim x [
-            inl b ↦ b.0
-            | inr b ↦ (let l : 2 * m.opened + 1 < 2 * m.opened = b.1 in absurd (omega (arith, l)))
-          ]
-        ]
-    }
+    held = ap is_some owner_t;
+    opened = omega arith;
+    alone = λ j f. elim (which j (2 * m.opened + 1) f) [
+      | inl b ↦ (let e : 2 * m.opened + 1 ≡ 2 * m.opened = b.1 in absurd (omega (arith, e)))
+      | inr x ↦ elim x [
+        | inl b ↦ b.0
+        | inr b ↦ (let l : 2 * m.opened + 1 < 2 * m.opened = b.1 in absurd (omega (arith, l)))
+      ]
+    ];
+  }
 
   is_end_else : (k d : ℕ) → end_of m k ≡ Some d → d < 2 * m.opened → IsEnd n k d
   is_end_else k d e l = let was : IsEnd m k d = w.ends k d e in record {
-      held = kept_held k was.held;
-      opened = omega (arith, l);
-      alone = λ j f. elim (which j d f) [
-          inl b ↦ (let x : d ≡ 2 * m.opened = b.1 in absurd (omega (arith, x, l)))
-          | inr y ↦ elim y [
-            inl b ↦ (let x : d ≡ 2 * m.opened + 1 = b.1 in absurd (omega (arith, x, l)))
-            | inr b ↦ was.alone j b.0
-          ]
-        ]
-    }
+    held = kept_held k was.held;
+    opened = omega (arith, l);
+    alone = λ j f. elim (which j d f) [
+      | inl b ↦ (let x : d ≡ 2 * m.opened = b.1 in absurd (omega (arith, x, l)))
+      | inr y ↦ elim y [
+        | inl b ↦ (let x : d ≡ 2 * m.opened + 1 = b.1 in absurd (omega (arith, x, l)))
+        | inr b ↦ was.alone j b.0
+      ]
+    ];
+  }
 
   is_end : (k d : ℕ) → end_of n k ≡ Some d → IsEnd n k d
   is_end k d e = elim (which k d e) [
-      inl b ↦ subst (λ (x : ℕ). IsEnd n x d) (sym b.0) (subst (λ (x : ℕ). IsEnd n r x) (sym b.1) is_end_r)
-      | inr y ↦ elim y [
-        inl b ↦ subst (λ (x : ℕ). IsEnd n x d) (sym b.0) (subst (λ (x : ℕ). IsEnd n t x) (sym b.1) is_end_t)
-        | inr b ↦ is_end_else k d b.0 b.1
-      ]
+    | inl b ↦ subst (λ (x : ℕ). IsEnd n x d) (sym b.0) (subst (λ (x : ℕ). IsEnd n r x) (sym b.1) is_end_r)
+    | inr y ↦ elim y [
+      | inl b ↦ subst (λ (x : ℕ). IsEnd n x d) (sym b.0) (subst (λ (x : ℕ). IsEnd n t x) (sym b.1) is_end_t)
+      | inr b ↦ is_end_else k d b.0 b.1
     ]
+  ]
 
   -- ---- bytes
 
@@ -294,23 +294,23 @@ module _ (s : Store) (p q r t : ℕ) (contract : Option (List Row)) (m : Machine
 
   pub connected_whole : IsWhole n
   connected_whole = record {
-      store = g.lawful;
-      once = once;
-      full = full;
-      kinds = length-set (slice_set m.ends r (Some (2 * m.opened))) t (Some (2 * m.opened + 1)) ∙ (length-set m.ends r (Some (2 * m.opened)) ∙ (w.kinds ∙ sym g.many));
-      ends = is_end;
-      buffers = w.buffers ∙ sym g.many;
-      bytes = bytes;
-      places = after_places.long;
-      generations = after_places.generations;
-      idle = after_places.idle;
-      lines = length-set (slice_set m.lines (2 * m.opened) (new_line contract)) (2 * m.opened + 1) (new_line contract) ∙ (length-set m.lines (2 * m.opened) (new_line contract) ∙ w.lines);
-      fresh = λ d h. line_else d (λ e. absurd (omega (arith, h, e))) (λ e. absurd (omega (arith, h, e))) ∙ w.fresh d (omega (arith, h));
-      contracts = length-set m.contracts m.opened contract ∙ w.contracts;
-      wired = opened_wired m.contracts m.lines m.opened contract w.wired (subst (λ (x : ℕ). m.opened < x) (sym w.contracts) more) long_lines sound;
-      opened = omega (arith, more);
-      deep = w.deep
-    }
+    store = g.lawful;
+    once = once;
+    full = full;
+    kinds = length-set (slice_set m.ends r (Some (2 * m.opened))) t (Some (2 * m.opened + 1)) ∙ (length-set m.ends r (Some (2 * m.opened)) ∙ (w.kinds ∙ sym g.many));
+    ends = is_end;
+    buffers = w.buffers ∙ sym g.many;
+    bytes = bytes;
+    places = after_places.long;
+    generations = after_places.generations;
+    idle = after_places.idle;
+    lines = length-set (slice_set m.lines (2 * m.opened) (new_line contract)) (2 * m.opened + 1) (new_line contract) ∙ (length-set m.lines (2 * m.opened) (new_line contract) ∙ w.lines);
+    fresh = λ d h. line_else d (λ e. absurd (omega (arith, h, e))) (λ e. absurd (omega (arith, h, e))) ∙ w.fresh d (omega (arith, h));
+    contracts = length-set m.contracts m.opened contract ∙ w.contracts;
+    wired = opened_wired m.contracts m.lines m.opened contract w.wired (subst (λ (x : ℕ). m.opened < x) (sym w.contracts) more) long_lines sound;
+    opened = omega (arith, more);
+    deep = w.deep;
+  }
 
   -- ---- the lists have room
 
@@ -340,7 +340,7 @@ pub connected_is : (p q r t : ℕ) (contract : Option (List Row)) (m : Machine) 
     connected (moved p q t (2 * m.opened + 1) (cut_in_two p r t m.store)) p q r t contract m ≡ wired p q r t contract m
 unfolding opened
 connected_is p q r t contract m w runs_p runs_q = elim (cases_eq p q) [
-    inl e ↦ (let twice : appended q t (appended p r m.places) ≡ appended p t (appended p r m.places) = ap (λ (x : ℕ). appended x t (appended p r m.places)) (sym e) in
+  | inl e ↦ (let twice : appended q t (appended p r m.places) ≡ appended p t (appended p r m.places) = ap (λ (x : ℕ). appended x t (appended p r m.places)) (sym e) in
       rw (eq-eqb p q e) (same_machine _ _ refl refl refl (twice ∙ appended_twice m.places p r (whole_places m w) (running_place m p runs_p) t) refl refl refl refl))
-    | inr n ↦ rw (ne_eqb p q n) (same_machine _ _ refl refl refl (appended_both m.places p r (whole_places m w) (running_place m p runs_p) q t (running_place m q runs_q) n) refl refl refl refl)
-  ]
+  | inr n ↦ rw (ne_eqb p q n) (same_machine _ _ refl refl refl (appended_both m.places p r (whole_places m w) (running_place m p runs_p) q t (running_place m q runs_q) n) refl refl refl refl)
+]

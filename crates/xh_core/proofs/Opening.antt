@@ -66,4 +66,4 @@ pub all_shared : (m : Machine) (p q a r t : ℕ) (u s : Store) → IsWhole m →
     Shared p q r t m.store s
 all_shared m p q a r t u s w runs_p runs_q more g e lawful =
     subst (λ (x : Store). Shared p q r t m.store x) (sym e)
-      (shared p q a r t (2 * m.opened + 1) m.store u w.store (current_range m p w runs_p.0) (current_range m q w runs_q.0) (omega (arith, more)) g (subst IsLawful e lawful))
+    (shared p q a r t (2 * m.opened + 1) m.store u w.store (current_range m p w runs_p.0) (current_range m q w runs_q.0) (omega (arith, more)) g (subst IsLawful e lawful))

@@ -86,7 +86,7 @@ two_claimed s p a r t w l low high =
       arenas = same ∙ one.arenas;
       owners = λ q. two.owners q ∙ ap (λ (o : Option Holder). cond (q == t) (Some (Process p)) o) (one.owners q);
       many = two.many ∙ one.many;
-      back = ap (after (Vacate p r)) (unclaimed mid p t w1 l ft.known ft.free) ∙ unclaimed s p r w l fr.known fr.free
+      back = ap (after (Vacate p r)) (unclaimed mid p t w1 l ft.known ft.free) ∙ unclaimed s p r w l fr.known fr.free;
     }
 
 pub claimed_two : (p a r t : ℕ) (s n : Store) → IsLawful s → p < 4096 → ClaimedTwo p a r t s n → TwoClaimed p r t s n
@@ -133,7 +133,7 @@ paired p a r t s n k u ok w l c d lawful =
       lawful = lawful;
       head = d.head ok_is;
       tail = omega (arith, tail, long);
-      kept = λ q a b. d.kept q a b ∙ (d.others q a ∙ same_len s n q two.arenas)
+      kept = λ q a b. d.kept q a b ∙ (d.others q a ∙ same_len s n q two.arenas);
     }
 
 -- ---- an end changes hands
@@ -168,25 +168,25 @@ paired_owners p a r t s n g = let two : Store = after (Claim p t) (after (Claim 
 
 moved_lens : (p q t d : ℕ) (s : Store) → q < 4096 → d < 128 → holds s (Process p) t ≡ true → 0 < len s t → t < length s.owners → (moved p q t d s).arenas ≡ s.arenas
 moved_lens p q t d s ql dl h some there = elim (cases_Bool (p == q)) [
-    inl y ↦ rw y refl
-    | inr f ↦ rw (f, handed_is p q t d s ql dl h some there) refl
-  ]
+  | inl y ↦ rw y refl
+  | inr f ↦ rw (f, handed_is p q t d s ql dl h some there) refl
+]
 
 moved_owners : (p q t d : ℕ) (s : Store) → q < 4096 → d < 128 → owner s t ≡ Some (Process p) → 0 < len s t → t < length s.owners → (k : ℕ) →
     owner (moved p q t d s) k ≡ cond (k == t) (Some (Process q)) (owner s k)
 moved_owners p q t d s ql dl own some there k = elim (cases_eq p q) [
-    inl e ↦ rw (eq-eqb p q e) (elim (cases_eq k t) [
-        inl f ↦ rw (eq-eqb k t f) (ap (λ (x : ℕ). owner s x) f ∙ (own ∙ ap (λ (x : ℕ). Some (Process x)) e))
-        | inr n ↦ rw (ne_eqb k t n) refl
-      ])
-    | inr n ↦ rw (ne_eqb p q n, handed_is p q t d s ql dl (own_holder s p t own) some there) (owner-set s t k (Some (Process q)) there)
-  ]
+  | inl e ↦ rw (eq-eqb p q e) (elim (cases_eq k t) [
+    | inl f ↦ rw (eq-eqb k t f) (ap (λ (x : ℕ). owner s x) f ∙ (own ∙ ap (λ (x : ℕ). Some (Process x)) e))
+    | inr n ↦ rw (ne_eqb k t n) refl
+  ])
+  | inr n ↦ rw (ne_eqb p q n, handed_is p q t d s ql dl (own_holder s p t own) some there) (owner-set s t k (Some (Process q)) there)
+]
 
 moved_many : (p q t d : ℕ) (s : Store) → q < 4096 → d < 128 → holds s (Process p) t ≡ true → 0 < len s t → t < length s.owners → length (moved p q t d s).owners ≡ length s.owners
 moved_many p q t d s ql dl h some there = elim (cases_Bool (p == q)) [
-    inl y ↦ rw y refl
-    | inr f ↦ rw (f, handed_is p q t d s ql dl h some there) (length-set s.owners t (Some (Process q)))
-  ]
+  | inl y ↦ rw y refl
+  | inr f ↦ rw (f, handed_is p q t d s ql dl h some there) (length-set s.owners t (Some (Process q)))
+]
 
 later_owner : (a b : Bool) (p q : ℕ) (o : Option Holder) → cond a (Some (Process q)) (cond a (Some (Process p)) (cond b (Some (Process p)) o)) ≡ cond a (Some (Process q)) (cond b (Some (Process p)) o)
 later_owner true b p q o = refl
@@ -222,5 +222,5 @@ shared p q a r t d s n w pl ql dl g lawful =
       full_r = omega (arith, lr);
       full_t = omega (arith, lt);
       kept = λ k a b. lens k ∙ g.kept k a b;
-      many = moved_many p q t d n ql dl h some there ∙ many
+      many = moved_many p q t d n ql dl h some there ∙ many;
     }

@@ -4,8 +4,8 @@ ghost use Rattle.xh_core.specs.ChannelCommands.{first_state, new_line, open_chan
 ghost use Rattle.xh_core.specs.Pairing.{IsSound, wire_heads};
 ghost use Rattle.xh_core.specs.Refusing.{IsRunning, Tested};
 
-use super::blocks::list_record;
 use super::Serial;
+use super::blocks::list_record;
 use crate::block::Block;
 use crate::contract::Contract;
 use crate::line::Line;
@@ -75,7 +75,13 @@ impl Serial {
     }
 
     /// A channel of `p`'s, whose side 1 goes to `q`.
-    fn connect(&mut self, p: u16, q: u16, arena: u32, contract: Option<Contract>) -> Result<(Block, Block), Refused>
+    fn connect(
+        &mut self,
+        p: u16,
+        q: u16,
+        arena: u32,
+        contract: Option<Contract>,
+    ) -> Result<(Block, Block), Refused>
         ensures { wire_channel p q arena contract self.old ≡ (result, self.new) }
     {
         self.check_wire(p, q, arena)?;
@@ -101,7 +107,12 @@ impl Serial {
     }
 
     /// The same, and both ends go by a contract, from its first state on.
-    pub fn open_with(&mut self, p: u16, arena: u32, contract: Contract) -> Result<(Block, Block), Refused>
+    pub fn open_with(
+        &mut self,
+        p: u16,
+        arena: u32,
+        contract: Contract,
+    ) -> Result<(Block, Block), Refused>
         ensures { open_channel p arena (Some contract) self.old ≡ (result, self.new) }
     {
         self.connect(p, p, arena, Some(contract))
@@ -116,9 +127,18 @@ impl Serial {
     }
 
     /// The same, and both ends go by a contract, from its first state on.
-    pub fn wire_with(&mut self, p: u16, q: u16, arena: u32, contract: Contract) -> Result<(Block, Block), Refused>
+    pub fn wire_with(
+        &mut self,
+        p: u16,
+        q: u16,
+        arena: u32,
+        contract: Contract,
+    ) -> Result<(Block, Block), Refused>
         ensures { wire_channel p q arena (Some contract) self.old ≡ (result, self.new) }
     {
         self.connect(p, q, arena, Some(contract))
     }
 }
+
+#[cfg(test)]
+mod tests;

@@ -27,5 +27,5 @@ returns-clause-done c =
     record {
       low = low;
       high = subst (λ (s : Store). free_record s c.args.arena ≡ Some c.in-Some.t) (mid ∙ sym (once_is c.args.p c.args.self.now c.args.arena c.in_ok-r.r low)) high;
-      is = c.claim-2.ensures.after ∙ ap (after (Claim c.args.p c.in-Some.t)) mid
+      is = c.claim-2.ensures.after ∙ ap (after (Claim c.args.p c.in-Some.t)) mid;
     }

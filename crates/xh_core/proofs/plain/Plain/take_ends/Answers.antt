@@ -31,7 +31,7 @@ returns-clause-done c = paired c.args.p c.args.arena c.in-Some.r c.in-Some.t c.a
       cut = c.cut.ensures.after;
       head = c.cut.ensures.head;
       tail = c.cut.ensures.tail;
-      kept = c.cut.ensures.others
+      kept = c.cut.ensures.others;
     })
     (subst IsLawful c.self.view_is c.self.invariant.0)
 

@@ -45,7 +45,7 @@ list_record-requires-clause-room c =
     let runs_q : IsRunning m c.args.q = subst (λ (x : Machine). IsRunning x c.args.q) (sym c.self.view_is) c.in_ok-check_wire.ensures.1.1 in
     let more : m.opened < 64 = subst (λ (x : Machine). x.opened < 64) (sym c.self.view_is) c.in_ok-check_wire.ensures.1.3 in
     let g : Shared c.args.p c.args.q c.in_ok-r.r c.in_ok-r.t m.store c.hand_over.new.self =
-      all_shared m c.args.p c.args.q c.args.arena c.in_ok-r.r c.in_ok-r.t c.take_ends.new.self c.hand_over.new.self c.self.invariant runs_p runs_q more c.in_ok-r.ensures.done c.hand_over.ensures.store c.hand_over.ensures.lawful in
+    all_shared m c.args.p c.args.q c.args.arena c.in_ok-r.r c.in_ok-r.t c.take_ends.new.self c.hand_over.new.self c.self.invariant runs_p runs_q more c.in_ok-r.ensures.done c.hand_over.ensures.store c.hand_over.ensures.lawful in
     room_p c.hand_over.new.self c.args.p c.args.q c.in_ok-r.r c.in_ok-r.t c.args.contract m c.self.invariant runs_p runs_q more c.begin_lines.ensures.sound g
 
 pub list_record-requires-2-clause-room : goal.list_record-requires-2-clause-room
@@ -55,10 +55,10 @@ list_record-requires-2-clause-room c =
     let runs_q : IsRunning m c.args.q = subst (λ (x : Machine). IsRunning x c.args.q) (sym c.self.view_is) c.in_ok-check_wire.ensures.1.1 in
     let more : m.opened < 64 = subst (λ (x : Machine). x.opened < 64) (sym c.self.view_is) c.in_ok-check_wire.ensures.1.3 in
     let g : Shared c.args.p c.args.q c.in_ok-r.r c.in_ok-r.t m.store c.hand_over.new.self =
-      all_shared m c.args.p c.args.q c.args.arena c.in_ok-r.r c.in_ok-r.t c.take_ends.new.self c.hand_over.new.self c.self.invariant runs_p runs_q more c.in_ok-r.ensures.done c.hand_over.ensures.store c.hand_over.ensures.lawful in
+    all_shared m c.args.p c.args.q c.args.arena c.in_ok-r.r c.in_ok-r.t c.take_ends.new.self c.hand_over.new.self c.self.invariant runs_p runs_q more c.in_ok-r.ensures.done c.hand_over.ensures.store c.hand_over.ensures.lawful in
     let listed : c.list_record.new.places.items ≡ appended c.args.p c.in_ok-r.r m.places = c.list_record.ensures in
     subst (λ (ps : List Place). length (slice_index_or ps (c.args.q % 32) no_place).blocks.items < 2048) (sym listed)
-      (room_q c.hand_over.new.self c.args.p c.args.q c.in_ok-r.r c.in_ok-r.t c.args.contract m c.self.invariant runs_p runs_q more c.begin_lines.ensures.sound g)
+    (room_q c.hand_over.new.self c.args.p c.args.q c.in_ok-r.r c.in_ok-r.t c.args.contract m c.self.invariant runs_p runs_q more c.begin_lines.ensures.sound g)
 
 -- ---- the machine at the end
 
@@ -80,14 +80,14 @@ made c =
     let first : c.list_record.new.places.items ≡ appended c.args.p c.in_ok-r.r (was c).places = c.list_record.ensures in
     let second : c.list_record-2.new.places.items ≡ appended c.args.q c.in_ok-r.t c.list_record.new.places.items = c.list_record-2.ensures in
     same_machine (is c) (connected c.hand_over.new.self c.args.p c.args.q c.in_ok-r.r c.in_ok-r.t c.args.contract (was c)) refl c.mark_ends.ensures refl
-      (second ∙ ap (λ (ps : List Place). appended c.args.q c.in_ok-r.t ps) first)
-      c.begin_lines.ensures.lines (ap (λ (k : ℕ). slice_set c.self.inside.contracts.items k c.args.contract) c.from.ensures) refl refl
+    (second ∙ ap (λ (ps : List Place). appended c.args.q c.in_ok-r.t ps) first)
+    c.begin_lines.ensures.lines (ap (λ (k : ℕ). slice_set c.self.inside.contracts.items k c.args.contract) c.from.ensures) refl refl
 
 pub invariant_of-self-2 : goal.invariant_of-self-2
 invariant_of-self-2 c =
     let more : (was c).opened < 64 = subst (λ (x : Machine). x.opened < 64) (sym c.self.view_is) c.in_ok-check_wire.ensures.1.3 in
     let g : Shared c.args.p c.args.q c.in_ok-r.r c.in_ok-r.t (was c).store c.hand_over.new.self =
-      all_shared (was c) c.args.p c.args.q c.args.arena c.in_ok-r.r c.in_ok-r.t c.take_ends.new.self c.hand_over.new.self c.self.invariant (runs_first c) (runs_second c) more c.in_ok-r.ensures.done c.hand_over.ensures.store c.hand_over.ensures.lawful in
+    all_shared (was c) c.args.p c.args.q c.args.arena c.in_ok-r.r c.in_ok-r.t c.take_ends.new.self c.hand_over.new.self c.self.invariant (runs_first c) (runs_second c) more c.in_ok-r.ensures.done c.hand_over.ensures.store c.hand_over.ensures.lawful in
     subst IsWhole (sym (made c)) (connected_whole c.hand_over.new.self c.args.p c.args.q c.in_ok-r.r c.in_ok-r.t c.args.contract (was c) c.self.invariant (runs_first c) (runs_second c) more c.begin_lines.ensures.sound g)
 
 pub returns : goal.returns
@@ -97,6 +97,6 @@ returns c =
     let done = wire_done c.args.p c.args.q c.args.arena c.in_ok-r.r c.in_ok-r.t c.args.contract (was c) c.take_ends.new.self heads c.in_ok-r.ensures.tests pair in
     let store = c.hand_over.ensures.store ∙ ap (λ (s : Store). moved c.args.p c.args.q c.in_ok-r.t (2 * (was c).opened + 1) s) pair.is in
     let end : wired c.args.p c.args.q c.in_ok-r.r c.in_ok-r.t c.args.contract (was c) ≡ is c =
-      sym (made c ∙ (ap (λ (s : Store). connected s c.args.p c.args.q c.in_ok-r.r c.in_ok-r.t c.args.contract (was c)) store
-        ∙ connected_is c.args.p c.args.q c.in_ok-r.r c.in_ok-r.t c.args.contract (was c) c.self.invariant (runs_first c) (runs_second c))) in
+    sym (made c ∙ (ap (λ (s : Store). connected s c.args.p c.args.q c.in_ok-r.r c.in_ok-r.t c.args.contract (was c)) store
+    ∙ connected_is c.args.p c.args.q c.in_ok-r.r c.in_ok-r.t c.args.contract (was c) c.self.invariant (runs_first c) (runs_second c))) in
     ap (λ (x : Machine). wire_channel c.args.p c.args.q c.args.arena c.args.contract x) (sym c.self.view_is) ∙ (done ∙ (λ i. (Ok (ends_at c.in_ok-r.r c.in_ok-r.t), end i)))
