@@ -72,3 +72,20 @@ pub alloc_gives : (p n a r : ℕ) (m : Machine) → first_refusal (alloc_heads m
 alloc_gives p n a r m h e f =
     let is : lowest m.store a ≡ r = ap (λ (o : Option ℕ). unwrap_or o 65535) e in
     alloc_done p n a m h f ∙ gives_at p (rounded n) (lowest m.store a) r m is
+
+-- ---- free
+
+abbrev free_answer : ℕ → ℕ → Machine → Answer ℕ
+free_answer p r m = (Ok (len m.store r), freed_block p r m)
+
+pub free_stopped : (p r : ℕ) (m : Machine) (e : Refused) → first_refusal (start m p) ≡ Some e → free p r m ≡ (Err e, m)
+unfolding free
+free_stopped p r m e h = ap (λ (o : Option Refused). answered o m (free_answer p r m)) (first_stop (start m p) (data_tests m p r) e h)
+
+pub free_refused : (p r : ℕ) (m : Machine) (e : Refused) → first_refusal (start m p) ≡ None → first_refusal (data_tests m p r) ≡ Some e → free p r m ≡ (Err e, m)
+unfolding free
+free_refused p r m e h f = ap (λ (o : Option Refused). answered o m (free_answer p r m)) (first_append (start m p) (data_tests m p r) h ∙ f)
+
+pub free_gives : (p r : ℕ) (m : Machine) → first_refusal (start m p) ≡ None → first_refusal (data_tests m p r) ≡ None → free p r m ≡ (Ok (len m.store r), freed_block p r m)
+unfolding free
+free_gives p r m h f = ap (λ (o : Option Refused). answered o m (free_answer p r m)) (first_append (start m p) (data_tests m p r) h ∙ f)

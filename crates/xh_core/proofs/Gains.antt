@@ -17,7 +17,10 @@ use Rattle.xh_core.specs.Machine.{Machine, place, line, is_current, status_of, i
 use Rattle.xh_core.specs.Gaining.{Gained}
 use Rattle.xh_core.specs.Refusing.{IsRunning}
 use Rattle.xh_model.specs.declared.event.Event.TheVariants.{Claim, Carve}
-use Rattle.xh_core.specs.BlockCommands.{allocated}
+use Rattle.std.specs.List.{position_or_len}
+use Rattle.xh_core.specs.BlockCommands.{allocated, freed_block}
+use Rattle.xh_core.proofs.Closing.{found, one_listed, frees_block}
+use Rattle.xh_core.proofs.Kept.{whole_one}
 use Rattle.xh_core.proofs.Fresh.{long_replicate}
 use Rattle.xh_core.proofs.Stores.{times-cons}
 use Rattle.xh_core.proofs.Room.{few, few_records, held_there}
@@ -214,3 +217,17 @@ unfolding allocated
 allocated_whole m p r n w run g f there long others =
     gained_whole p (r ∷ []) m (allocated p r n m) w run g refl refl refl refl refl refl (length-set m.buffers r (replicate n 0))
     (alloc_bytes m (after (Carve p r n) (after (Claim p r) m.store)) r n w f there long others)
+
+-- ---- free
+
+pub listed_place : (m : Machine) (p r : ℕ) → IsWhole m → IsRunning m p → holds m.store (Process p) r ≡ true →
+    position_or_len (λ q. q == r) (place m p).blocks.items < length (place m p).blocks.items
+listed_place m p r w run h =
+    let there : position_or_len (λ q. q == r) (blocks m p) < length (blocks m p) = found r (blocks m p) (one_listed m p r w h) in
+    subst (λ (xs : List ℕ). position_or_len (λ q. q == r) xs < length xs) (current_blocks m p run.0) there
+
+-- a data block is freed
+pub freed_whole : (m : Machine) (p r : ℕ) → IsWhole m → holds m.store (Process p) r ≡ true → end_of m r ≡ None → IsWhole (freed_block p r m)
+freed_whole m p r w h e =
+    let t : 0 < times r (blocks m p) = one_listed m p r w h in
+    subst IsWhole (frees_block m p r t e) (whole_one m p (position_or_len (λ q. q == r) (blocks m p)) w (found r (blocks m p) t))

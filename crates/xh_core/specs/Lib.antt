@@ -11,3 +11,4 @@ pub mod ChannelCommands
 pub mod PlaceCommands
 pub mod Gaining
 pub mod Checks
+pub mod Pairing

@@ -1,17 +1,17 @@
 -- The commands give and take.
-use Rattle.std.specs.Prelude.{◌≡◌, ℕ, ◌+◌, ◌-◌, ◌*◌, ◌/◌, ◌%◌, ◌<◌, ◌≤◌, ◌==◌, ◌&&◌, ◌||◌, Bool, true, false, not, cond, List, [], ◌∷◌, ◌++◌, Option, Some, None, is_none, length, map, nat_le, nat_lt, slice_set, slice_index_or, Result, Ok, Err}
+use Rattle.std.specs.Prelude.{◌≡◌, ℕ, ◌+◌, ◌-◌, ◌*◌, ◌%◌, ◌<◌, ◌≤◌, ◌==◌, ◌&&◌, ◌||◌, ◌⊎◌, Bool, true, false, not, List, [], ◌∷◌, ◌++◌, Option, Some, None, is_none, length, map, nat_le, nat_lt, slice_set, slice_index_or, Ok}
 use Rattle.std.specs.List.{remove, list_any, list_all, filter}
 use Rattle.xh_model.specs.declared.event.Holder.TheVariants.{Process}
 use Rattle.xh_model.specs.declared.event.Event.TheVariants.{Pass}
 use Rattle.xh_model.specs.declared.row.Row.{Row}
-use Rattle.xh_model.specs.Rows.{allowed}
+use Rattle.xh_model.specs.Rows.{allowed, IsFrontAllowed}
 use Rattle.xh_model.specs.Store.{Store, len, holds, after}
 use Rattle.xh_core.specs.declared.block.Block.{Block}
 use Rattle.xh_core.specs.declared.message.Message.{Message}
 use Rattle.xh_core.specs.declared.message.Taken.{Taken}
 use Rattle.xh_core.specs.declared.line.Line.{Line}
 use Rattle.xh_core.specs.declared.refused.Refused.TheVariants.{TooMany, NotOwned, Twice, Protocol, PeerClosed, Full, Empty}
-use Rattle.xh_core.specs.Machine.{Machine, end_of, blocks, with_list, line, waiting, peer, contract_of, next_state}
+use Rattle.xh_core.specs.Machine.{Machine, end_of, blocks, with_list, line, waiting, peer, tags_of, contract_of, next_state}
 use Rattle.xh_core.specs.Refusing.{Answer, Tests, IsRunning, answered, first_refusal, start, end_tests, toward}
 use Rattle.xh_core.specs.Sweeping.{accept_all}
 
@@ -86,6 +86,16 @@ given p e tag bs m =
 -- the number of the message in its direction
 unfoldable pub give : ℕ → ℕ → ℕ → List ℕ → Machine → Answer ℕ
 give p e tag bs m = answered (first_refusal (give_tests m p e tag bs)) m (Ok ((line m (peer (toward m e))).put + 1), given p e tag bs m)
+
+-- ---- what a contract keeps
+
+-- Under a contract the message at the front toward each end is one that its state allows, and messages wait for one of the two ends at most.
+abbrev pub IsOrderly : List Row → Line → Line → Type 0
+IsOrderly rows low high = IsFrontAllowed rows 0 low.state (tags_of low.waiting.items) × IsFrontAllowed rows 1 high.state (tags_of high.waiting.items) × ((tags_of low.waiting.items ≡ []) ⊎ (tags_of high.waiting.items ≡ []))
+
+-- so it is on each channel with a contract
+abbrev pub AreOrderly : Machine → Type 0
+AreOrderly m = (c : ℕ) (rows : List Row) → slice_index_or m.contracts c None ≡ Some rows → IsOrderly rows (line m (2 * c)) (line m (2 * c + 1))
 
 -- ---- take
 

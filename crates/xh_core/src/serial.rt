@@ -5,6 +5,8 @@ ghost use Rattle.xh_core.specs.Machine.{no_place, no_line};
 ghost use Rattle.xh_core.specs.PlaceCommands.{new_machine};
 
 mod blocks;
+mod books;
+mod channels;
 mod checks;
 mod ending;
 mod messages;

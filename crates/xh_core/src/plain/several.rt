@@ -2,7 +2,7 @@
 ghost use Rattle.std.specs.Prelude.{◌≡◌, ◌≢◌, ℕ, ◌<◌, ◌≤◌, ◌/◌, ◌%◌, ◌∷◌, [], Some, None, OnOk, OnErr, MatchResult, length, true};
 ghost use Rattle.std.specs.List.{position};
 ghost use Rattle.std.specs.Prelude.{is_none};
-ghost use Rattle.xh_model.specs.declared.event.Event.TheVariants.{Claim, Carve};
+ghost use Rattle.xh_model.specs.declared.event.Event.TheVariants.{Claim, Carve, GiveBack, Vacate};
 ghost use Rattle.xh_model.specs.Store.{IsLawful, after, arena_at, is_known, len, owner};
 ghost use Rattle.xh_core.specs.BlockCommands.{free_record, space_tests};
 ghost use Rattle.xh_core.specs.Gaining.{Gained};
@@ -81,5 +81,16 @@ impl Plain {
         }
         let _open = &self.records;
         Ok(())
+    }
+
+    /// The bytes of a record are given back, and the record is free. How many they were.
+    pub(crate) fn discard(&mut self, p: u16, r: u16) -> u32
+        ensures store { self.new ≡ after (Vacate p r) (after (GiveBack p r) self.old) }
+        ensures length { result ≡ len self.old r }
+    {
+        let len = self.len(r);
+        self.give_back(p, r);
+        self.vacate(p, r);
+        len
     }
 }

@@ -1,25 +1,38 @@
 //! Data blocks: they are made, cut, read, written and given back.
-ghost use Rattle.std.specs.Prelude.{◌≡◌, ◌≢◌, ◌+◌, ◌*◌, ◌/◌, ◌%◌, ◌<◌, ◌≤◌, ◌++◌, ◌∷◌, [], Some, Err, false, true, length, slice_set, slice_index_or};
+ghost use Rattle.std.specs.Prelude.{◌≡◌, ◌≢◌, ◌+◌, ◌*◌, ◌/◌, ◌%◌, ◌<◌, ◌≤◌, ◌==◌, ◌++◌, ◌∷◌, [], Some, Err, false, true, length, slice_set, slice_index_or};
+ghost use Rattle.std.specs.List.{position_or_len, remove};
 ghost use Rattle.xh_core.specs.Machine.{no_place};
 ghost use Rattle.xh_core.specs.BlockCommands.{free_record, rounded};
-ghost use Rattle.xh_core.specs.BlockCommands.{alloc as alloc_command};
+ghost use Rattle.xh_core.specs.BlockCommands.{alloc as alloc_command, free as free_command};
 ghost use Rattle.xh_core.specs.Refusing.{IsRunning, Tested};
 ghost use Rattle.xh_core.specs.Checks.{alloc_heads};
 
-use super::Serial;
 use crate::block::Block;
 use crate::buffer::Buffer;
 use crate::place::Place;
 use crate::refused::Refused;
+use crate::serial::Serial;
+use crate::serial::ending::place_of;
 use std::alloc::Global;
 
 /// A record goes to the end of the list of a process.
-fn list_record(places: &mut Vec<Place>, p: u16, r: u16)
+pub(super) fn list_record(places: &mut Vec<Place>, p: u16, r: u16)
     requires there { p % 32 < length places.old.items }
     requires room { length (slice_index_or places.old.items (p % 32) no_place).blocks.items < 2048 }
     ensures { let place = slice_index_or places.old.items (p % 32) no_place in places.new.items ≡ slice_set places.old.items (p % 32) (record place { blocks = record { items = place.blocks.items ++ r ∷ [] } }) }
 {
     places[usize::from(p % 32)].blocks.push(r);
+}
+
+/// A record leaves the list of a process.
+fn unlist_record(places: &mut Vec<Place>, p: u16, r: u16)
+    requires there { p % 32 < length places.old.items }
+    requires listed { let list = (slice_index_or places.old.items (p % 32) no_place).blocks.items in position_or_len (λ q. q == r) list < length list }
+    ensures { let place = slice_index_or places.old.items (p % 32) no_place in places.new.items ≡ slice_set places.old.items (p % 32) (record place { blocks = record { items = remove place.blocks.items (position_or_len (λ q. q == r) place.blocks.items) } }) }
+{
+    let blocks = &mut places[usize::from(p % 32)].blocks;
+    let at = place_of(blocks.as_slice(), r);
+    blocks.remove(at);
 }
 
 /// The next multiple of 16.
@@ -63,4 +76,19 @@ impl Serial {
         list_record(&mut self.places, p, r);
         Ok(Block { rec: r, len })
     }
+
+    /// A data block is given back: the bytes that it had. NoProcess, Ended, NotOwned, NotData.
+    pub fn free(&mut self, p: u16, r: u16) -> Result<u32, Refused>
+        ensures { free_command p r self.old ≡ (result, self.new) }
+    {
+        self.check_start(p)?;
+        self.check_data(p, r)?;
+        let len = self.plain.discard(p, r);
+        self.buffers[usize::from(r)] = Buffer::none();
+        unlist_record(&mut self.places, p, r);
+        Ok(len)
+    }
 }
+
+#[cfg(test)]
+mod tests;

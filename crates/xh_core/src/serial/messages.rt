@@ -1,9 +1,10 @@
 //! Messages: give and take.
-ghost use Rattle.std.specs.Prelude.{◌≡◌, ◌+◌, ◌-◌, ◌*◌, ◌/◌, ◌%◌, ◌<◌, ◌≤◌, length, slice_index_or, slice_set};
+ghost use Rattle.std.specs.Prelude.{◌≡◌, ◌+◌, ◌-◌, ◌*◌, ◌/◌, ◌%◌, ◌<◌, ◌≤◌, IfOk, false, length, slice_index_or, slice_set};
 ghost use Rattle.std.specs.List.{remove};
 ghost use Rattle.xh_model.specs.Store.{len, IsLawful};
-ghost use Rattle.xh_core.specs.Machine.{contract_of, no_line, peer};
-ghost use Rattle.xh_core.specs.MessageCommands.{described, give, no_message, pass_all, put_line, take, taken_line, told_line, without, LAST};
+ghost use Rattle.xh_core.specs.Machine.{contract_of, line, no_line, peer};
+ghost use Rattle.xh_core.specs.Refusing.{toward};
+ghost use Rattle.xh_core.specs.MessageCommands.{AreOrderly, described, give, is_banned, no_message, pass_all, put_line, take, taken_line, told_line, without, LAST};
 
 use crate::block::Block;
 use crate::contract::Contract;
@@ -11,8 +12,8 @@ use crate::line::Line;
 use crate::message::{Message, Taken};
 use crate::plain::Plain;
 use crate::refused::Refused;
-use crate::serial::sweep::{accept_blocks, state_after};
 use crate::serial::Serial;
+use crate::serial::sweep::{accept_blocks, state_after};
 use arrayvec::ArrayVec;
 use xh_model::Event;
 
@@ -22,11 +23,7 @@ pub(super) fn peer(d: u8) -> u8
     ensures is { result ≡ peer d }
     ensures within { result < 128 }
 {
-    if d % 2 == 0 {
-        d + 1
-    } else {
-        d - 1
-    }
+    if d % 2 == 0 { d + 1 } else { d - 1 }
 }
 
 /// These records as a list of their own.
@@ -103,7 +100,12 @@ fn take_front(lines: &mut Vec<Line>, contracts: &[Option<Contract>], d: u8) -> M
 {
     let line = &mut lines[usize::from(d)];
     let message = line.waiting.remove(0);
-    line.state = state_after(&contracts[usize::from(d / 2)], 1 - d % 2, line.state, message.tag);
+    line.state = state_after(
+        &contracts[usize::from(d / 2)],
+        1 - d % 2,
+        line.state,
+        message.tag,
+    );
     message
 }
 
@@ -140,8 +142,10 @@ impl Serial {
     /// block, Twice, Protocol, PeerClosed, Full. The last three hand all the blocks back.
     #[tactic(auto, unfolding(crate::specs::MessageCommands::give))]
     pub fn give(&mut self, p: u16, e: u16, tag: u16, blocks: &[u16]) -> Result<u64, Refused>
-        ensures { give p e tag blocks.now self.old ≡ (result, self.new) }
+        ensures is { give p e tag blocks.now self.old ≡ (result, self.new) }
+        ensures orderly { AreOrderly self.new }
     {
+        let _start = &self.plain;
         let own = self.check_give(p, e, tag, blocks)?;
         let to = peer(own);
         pass_blocks(&mut self.plain, p, to, blocks);
@@ -156,13 +160,22 @@ impl Serial {
     /// NoProcess, Ended, NotOwned, NotEndpoint, and where nothing waits PeerClosed or Empty.
     #[tactic(auto, unfolding(crate::specs::MessageCommands::take))]
     pub fn take(&mut self, p: u16, e: u16) -> Result<Taken, Refused>
-        ensures { take p e self.old ≡ (result, self.new) }
+        ensures is { take p e self.old ≡ (result, self.new) }
+        ensures allowed { IfOk result (λ taken. is_banned (contract_of self.old.contracts (toward self.old e)) (1 - toward self.old e % 2) (line self.old (toward self.old e)).state taken.tag ≡ false) }
+        ensures orderly { AreOrderly self.new }
     {
+        let _start = &self.plain;
         let d = self.check_take(p, e)?;
         let message = take_front(&mut self.lines, &self.contracts, d);
         let blocks = describe(&self.plain, &message.blocks);
         let place = &mut self.places[usize::from(p % 32)];
-        accept_blocks(&mut self.plain, &mut place.blocks, p, d, message.blocks.as_slice());
+        accept_blocks(
+            &mut self.plain,
+            &mut place.blocks,
+            p,
+            d,
+            message.blocks.as_slice(),
+        );
         Ok(Taken {
             no: message.no,
             tag: message.tag,
@@ -172,7 +185,9 @@ impl Serial {
 
     /// The same: on this heap nothing waits, so Empty is answered where `take` answers it.
     pub fn take_wait(&mut self, p: u16, e: u16) -> Result<Taken, Refused>
-        ensures { take p e self.old ≡ (result, self.new) }
+        ensures is { take p e self.old ≡ (result, self.new) }
+        ensures allowed { IfOk result (λ taken. is_banned (contract_of self.old.contracts (toward self.old e)) (1 - toward self.old e % 2) (line self.old (toward self.old e)).state taken.tag ≡ false) }
+        ensures orderly { AreOrderly self.new }
     {
         self.take(p, e)
     }

@@ -1,13 +1,13 @@
 //! Processes start, and are looked at.
-ghost use Rattle.std.specs.Prelude.{◌≡◌, ◌+◌, ◌*◌, ◌<◌, ◌≤◌, true, length};
+ghost use Rattle.std.specs.Prelude.{◌≡◌, ◌+◌, ◌*◌, ◌<◌, true};
 ghost use Rattle.std.specs.List.{position};
-ghost use Rattle.xh_core.specs.PlaceCommands.{can_start, started, spawn, glance, total};
+ghost use Rattle.xh_core.specs.PlaceCommands.{can_start, started, spawn, glance};
 
-use super::Serial;
 use crate::glance::Glance;
 use crate::place::Place;
-use crate::plain::Plain;
 use crate::refused::Refused;
+use crate::serial::books::total;
+use crate::serial::Serial;
 use crate::status::Status;
 
 /// Whether a process can start there.
@@ -42,20 +42,11 @@ fn start(place: &mut Place) -> u8
 }
 
 /// The number of a process.
-fn number(place: usize, generation: u8) -> u16
-    requires place { place < 32 }
-    requires generation { generation ≤ 127 }
+pub(super) fn number(place: usize, generation: u8) -> u16
+    requires { place < 32 }
     ensures { result ≡ place + 32 * generation }
 {
     place as u16 + 32 * u16::from(generation)
-}
-
-/// The bytes of a list of records.
-pub(super) fn total(plain: &Plain, records: &[u16]) -> u64
-    requires { length records.now ≤ 2048 }
-    ensures { result ≡ total plain.now records.now }
-{
-    records.iter().map(|r| u64::from(plain.len(*r))).sum()
 }
 
 impl Serial {
@@ -89,3 +80,6 @@ impl Serial {
         })
     }
 }
+
+#[cfg(test)]
+mod tests;
