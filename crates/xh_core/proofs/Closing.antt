@@ -1,8 +1,8 @@
 -- An endpoint that is moved to the end of its list.
-use Rattle.std.proofs.Common.{◌≡◌, ◌≢◌, ℕ, zero, suc, ◌+◌, ◌-◌, ◌/◌, ◌%◌, ◌<◌, ◌≤◌, List, [], ◌∷◌, ◌++◌, length, get_or, set, drop, Bool, true, false, cond, refl, sym, ap, ◌∙◌, subst, arith, ◌⊎◌, inl, inr, get_or-set_same, get_or-set_other, append-nil}
-use Rattle.std.specs.Prelude.{Option, Some, None, ◌==◌, slice_set, slice_index_or}
+use Rattle.std.proofs.Common.{◌≡◌, ℕ, zero, suc, ◌+◌, ◌-◌, ◌/◌, ◌%◌, ◌<◌, List, [], ◌∷◌, ◌++◌, length, drop, true, cond, refl, sym, ap, ◌∙◌, subst, arith, inl, inr, append-nil}
+use Rattle.std.specs.Prelude.{None, ◌==◌, slice_set, slice_index_or}
 use Rattle.std.specs.List.{remove, position_or_len}
-use Rattle.std.proofs.lemmas.Bool.{cases_eq, cases_lt, eq-eqb, ne_eqb, false≢true}
+use Rattle.std.proofs.lemmas.Bool.{cases_eq, eq-eqb, ne_eqb, false≢true}
 use Rattle.std.proofs.lemmas.List.{length-set, length-append}
 use Rattle.std.proofs.lemmas.List.Sums.{sum_by-append, sum_by-remove, passes_at_first}
 use Rattle.std.proofs.lemmas.List.Edits.{length-remove}
@@ -11,7 +11,7 @@ use Rattle.xh_model.specs.declared.event.Holder.TheVariants.{Process, Direction}
 use Rattle.xh_core.specs.declared.place.Place.{Place}
 use Rattle.xh_model.specs.Store.{holds, len, all_out}
 use Rattle.xh_core.proofs.Kept.{bytes_one}
-use Rattle.xh_core.specs.Machine.{Machine, times, blocks, arriving, listed, place, is_current, no_place, end_of, IsWhole}
+use Rattle.xh_core.specs.Machine.{Machine, times, blocks, listed, place, is_current, end_of, IsWhole}
 use Rattle.xh_core.specs.Refusing.{IsRunning}
 use Rattle.xh_core.specs.Sweeping.{sweep_one}
 use Rattle.xh_core.specs.EndingCommands.{last, moved_last}
@@ -27,16 +27,16 @@ count_append q xs ys = sum_by-append (λ x. cond {A = ℕ} (x == q) 1 0) xs ys
 pub found : (e : ℕ) (rs : List ℕ) → 0 < times e rs → position_or_len (λ q. q == e) rs < length rs
 found e [] h = absurd (omega (arith, h))
 found e (r ∷ rs) h = elim (cases_eq r e) [
-    inl s ↦ rw (eq-eqb r e s) (omega arith)
-    | inr n ↦ (let t : times e (r ∷ rs) ≡ times e rs = times-cons e r rs ∙ rw (ne_eqb r e n) (omega arith) in
+  | inl s ↦ rw (eq-eqb r e s) (omega arith)
+  | inr n ↦ (let t : times e (r ∷ rs) ≡ times e rs = times-cons e r rs ∙ rw (ne_eqb r e n) (omega arith) in
       let more : position_or_len (λ q. q == e) rs < length rs = found e rs (omega arith) in rw (ne_eqb r e n) (omega arith))
-  ]
+]
 
 pub is_found : (e : ℕ) (rs : List ℕ) → 0 < times e rs → slice_index_or rs (position_or_len (λ q. q == e) rs) 0 ≡ e
 is_found e rs h = let y : (slice_index_or rs (position_or_len (λ q. q == e) rs) 0 == e) ≡ true = passes_at_first (λ q. q == e) rs 0 (found e rs h) in elim (cases_eq (slice_index_or rs (position_or_len (λ q. q == e) rs) 0) e) [
-    inl s ↦ s
-    | inr n ↦ absurd (false≢true (sym (ne_eqb _ e n) ∙ y))
-  ]
+  | inl s ↦ s
+  | inr n ↦ absurd (false≢true (sym (ne_eqb _ e n) ∙ y))
+]
 
 times_last : (e q : ℕ) (rs : List ℕ) → 0 < times e rs → times q (last e rs) ≡ times q rs
 times_last e q rs h =
@@ -82,9 +82,9 @@ module _ (m : Machine) (p e : ℕ) (w : IsWhole m) (r : IsRunning m p) (h : hold
 
   once_last : (k : Holder) (q : ℕ) → times q (listed (moved_last p e m) k) ≡ cond (holds m.store k q) 1 0
   once_last (Process k) q = elim (cases_eq k p) [
-      inl s ↦ rw s (ap (times q) last_blocks ∙ (times_last e q (blocks m p) (one_listed m p e w h) ∙ w.once (Process p) q))
-      | inr n ↦ ap (times q) (list_else m.places p k x (place_there m p w) generation generation n) ∙ w.once (Process k) q
-    ]
+    | inl s ↦ rw s (ap (times q) last_blocks ∙ (times_last e q (blocks m p) (one_listed m p e w h) ∙ w.once (Process p) q))
+    | inr n ↦ ap (times q) (list_else m.places p k x (place_there m p w) generation generation n) ∙ w.once (Process k) q
+  ]
   once_last (Direction d) q = w.once (Direction d) q
 
   pub last_whole : IsWhole (moved_last p e m)
@@ -104,7 +104,7 @@ module _ (m : Machine) (p e : ℕ) (w : IsWhole m) (r : IsRunning m p) (h : hold
     contracts = w.contracts;
     wired = w.wired;
     opened = w.opened;
-    deep = w.deep
+    deep = w.deep;
   }
 
 set_again : {A : Type 0} (xs : List A) (i : ℕ) (d : A) → slice_set xs i (slice_index_or xs i d) ≡ xs

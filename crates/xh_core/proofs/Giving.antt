@@ -1,8 +1,8 @@
 -- A give leaves a whole machine.
-use Rattle.std.proofs.Common.{◌≡◌, ◌≢◌, ℕ, zero, suc, ◌+◌, ◌-◌, ◌*◌, ◌/◌, ◌%◌, ◌<◌, ◌≤◌, List, [], ◌∷◌, ◌++◌, length, get_or, set, Bool, true, false, cond, refl, sym, ap, ◌∙◌, subst, arith, ◌⊎◌, inl, inr, get_or-set_same, get_or-set_other, append-nil}
-use Rattle.std.specs.Prelude.{Option, Some, None, is_none, ◌==◌, ◌&&◌, ◌||◌, not, nat_lt, unwrap_or, slice_set, slice_index_or}
-use Rattle.std.specs.List.{filter, list_all, list_any}
-use Rattle.std.proofs.lemmas.Bool.{cases_eq, cases_Bool, cases_lt, false≢true, eq-eqb, ne_eqb, lt-ltb, ltb-true, ltb-false}
+use Rattle.std.proofs.Common.{◌≡◌, ◌≢◌, ℕ, ◌+◌, ◌*◌, ◌/◌, ◌%◌, ◌<◌, ◌≤◌, List, [], ◌∷◌, ◌++◌, length, Bool, true, false, cond, refl, sym, ap, ◌∙◌, subst, arith, inl, inr, get_or-set_same, get_or-set_other, append-nil}
+use Rattle.std.specs.Prelude.{Option, Some, None, is_none, ◌==◌, ◌&&◌, ◌||◌, nat_lt, unwrap_or, slice_set, slice_index_or}
+use Rattle.std.specs.List.{list_all, list_any}
+use Rattle.std.proofs.lemmas.Bool.{cases_eq, cases_Bool, false≢true, eq-eqb, ne_eqb, lt-ltb, ltb-true, ltb-false}
 use Rattle.std.proofs.lemmas.List.{length-set}
 use Rattle.std.proofs.lemmas.List.Concat.{flat_map-append}
 use Rattle.xh_model.specs.declared.event.Holder.{Holder}
@@ -11,25 +11,25 @@ use Rattle.xh_model.specs.declared.event.Event.TheVariants.{Pass}
 use Rattle.xh_core.specs.declared.message.Message.{Message}
 use Rattle.xh_core.specs.declared.place.Place.{Place}
 use Rattle.xh_core.specs.declared.line.Line.{Line}
-use Rattle.xh_model.specs.Store.{Store, owner, len, holds, after, change, IsLawful}
+use Rattle.xh_model.specs.Store.{Store, owner, len, holds, after, change}
 use Rattle.xh_model.specs.declared.row.Row.{Row}
 use Rattle.xh_model.specs.Rows.{allowed, IsValid, InStep}
 use Rattle.xh_model.proofs.InStep.{put_step}
-use Rattle.xh_core.specs.Machine.{Machine, times, blocks, place, no_place, line, no_line, waiting, peer, tags_of, contract_of, next_state, carried, on_way, listed, IsWhole}
+use Rattle.xh_core.specs.Machine.{Machine, times, blocks, place, line, no_line, waiting, peer, tags_of, contract_of, next_state, carried, on_way, listed, IsWhole}
 use Rattle.xh_core.specs.Refusing.{toward}
 use Rattle.xh_core.specs.MessageCommands.{MayGive, given, told_line, put_line, pass_all, without, has_twice, is_banned}
 use Rattle.xh_core.proofs.Stores.{done, is_there, owner-set, times-cons, same_len}
 use Rattle.xh_core.proofs.Machines.{place_there, list_here, list_else, current_generation, busy_place, generations_set, idle_set, way_here, way_else, peer_ne, peer_half, peer_below}
 use Rattle.xh_core.proofs.Stopping.{runs_busy}
 use Rattle.xh_core.proofs.Closing.{count_append}
-use Rattle.xh_core.proofs.Wired.{state_in, tags_in, IsPair, ArePaired, same_lines, wired_pair, half_apart}
-use Rattle.xh_core.proofs.Moved.{Moved, moved_whole, held_is}
+use Rattle.xh_core.proofs.Wired.{state_in, IsPair, same_lines, wired_pair, half_apart}
+use Rattle.xh_core.proofs.Moved.{Moved, moved_whole}
 
 pub any_times : (q : ℕ) (bs : List ℕ) → list_any (λ b. b == q) bs ≡ nat_lt 0 (times q bs)
 any_times q [] = refl
 any_times q (b ∷ bs) = let t : times q (b ∷ bs) ≡ cond (b == q) 1 0 + times q bs = times-cons q b bs in
     elim (cases_eq b q) [
-      inl e ↦ (let u : times q (b ∷ bs) ≡ 1 + times q bs = t ∙ rw (eq-eqb b q e) refl in rw (lt-ltb 0 (times q (b ∷ bs)) (omega arith), eq-eqb b q e) refl)
+      | inl e ↦ (let u : times q (b ∷ bs) ≡ 1 + times q bs = t ∙ rw (eq-eqb b q e) refl in rw (lt-ltb 0 (times q (b ∷ bs)) (omega arith), eq-eqb b q e) refl)
       | inr n ↦ (let u : times q (b ∷ bs) ≡ times q bs = t ∙ rw (ne_eqb b q n) (omega arith) in rw (u, ne_eqb b q n) (any_times q bs))
     ]
 
@@ -41,16 +41,16 @@ times_without q bs (r ∷ rs) =
     let more : times q (without bs rs) ≡ cond (nat_lt 0 (times q bs)) 0 (times q rs) = times_without q bs rs in
     let k : times q (r ∷ without bs rs) ≡ cond (r == q) 1 0 + times q (without bs rs) = times-cons q r (without bs rs) in
     elim (cases_Bool (nat_lt 0 (times r bs))) [
-      inl y ↦ rw (any_times r bs, y) (elim (cases_eq r q) [
-          inl e ↦ (let z : nat_lt 0 (times q bs) ≡ true = rw (sym e) y in rw z (rw z at more))
-          | inr n ↦ (let u : times q (r ∷ rs) ≡ times q rs = t ∙ rw (ne_eqb r q n) (omega arith) in rw u more)
-        ])
+      | inl y ↦ rw (any_times r bs, y) (elim (cases_eq r q) [
+        | inl e ↦ (let z : nat_lt 0 (times q bs) ≡ true = rw (sym e) y in rw z (rw z at more))
+        | inr n ↦ (let u : times q (r ∷ rs) ≡ times q rs = t ∙ rw (ne_eqb r q n) (omega arith) in rw u more)
+      ])
       | inr f ↦ rw (any_times r bs, f) (elim (cases_eq r q) [
-          inl e ↦ (let z : nat_lt 0 (times q bs) ≡ false = rw (sym e) f in
+        | inl e ↦ (let z : nat_lt 0 (times q bs) ≡ false = rw (sym e) f in
             let m2 : times q (without bs rs) ≡ times q rs = rw z at more in rw z (k ∙ (rw m2 (sym t))))
-          | inr n ↦ (let u : times q (r ∷ rs) ≡ times q rs = t ∙ rw (ne_eqb r q n) (omega arith) in
+        | inr n ↦ (let u : times q (r ∷ rs) ≡ times q rs = t ∙ rw (ne_eqb r q n) (omega arith) in
             let v : times q (r ∷ without bs rs) ≡ times q (without bs rs) = k ∙ rw (ne_eqb r q n) (omega arith) in rw u (v ∙ more))
-        ])
+      ])
     ]
 
 or_false : (a b : Bool) → (a || b) ≡ false → (a ≡ false) × (b ≡ false)
@@ -69,13 +69,13 @@ distinct_pass test (b ∷ bs) a t q =
     let apart = or_false (list_any (λ x. x == b) bs) (has_twice bs) t in
     let k : times q (b ∷ bs) ≡ cond (b == q) 1 0 + times q bs = times-cons q b bs in
     elim (cases_eq b q) [
-      inl e ↦ (
-        let none : times q bs ≤ 0 = ltb-false 0 (times q bs) (sym (any_times q bs) ∙ rw (sym e) apart.0) in
-        let one : times q (b ∷ bs) ≡ 1 + times q bs = k ∙ rw (eq-eqb b q e) refl in
-        let yes : test q ≡ true = rw (sym e) parts.0 in rw yes (omega arith))
+      | inl e ↦ (
+          let none : times q bs ≤ 0 = ltb-false 0 (times q bs) (sym (any_times q bs) ∙ rw (sym e) apart.0) in
+          let one : times q (b ∷ bs) ≡ 1 + times q bs = k ∙ rw (eq-eqb b q e) refl in
+          let yes : test q ≡ true = rw (sym e) parts.0 in rw yes (omega arith))
       | inr n ↦ (
-        let more = distinct_pass test bs parts.1 apart.1 q in
-        let same : times q (b ∷ bs) ≡ times q bs = k ∙ rw (ne_eqb b q n) (omega arith) in omega (arith, more, same))
+          let more = distinct_pass test bs parts.1 apart.1 q in
+          let same : times q (b ∷ bs) ≡ times q bs = k ∙ rw (ne_eqb b q n) (omega arith) in omega (arith, more, same))
     ]
 
 -- p passed these to d
@@ -90,7 +90,7 @@ pass_here p d r s l h n = done (Pass p r d) s (rw (lt-ltb d 128 l, h, lt-ltb 0 (
 first_one : (r : ℕ) (rs : List ℕ) (b : Bool) → times r (r ∷ rs) ≤ cond b 1 0 → (b ≡ true) × (times r rs ≡ 0)
 first_one r rs b h = let e : times r (r ∷ rs) ≡ 1 + times r rs = times-cons r r rs ∙ rw (eq-eqb r r refl) refl in
     elim (cases_Bool b) [
-      inl y ↦ (let k : times r (r ∷ rs) ≤ 1 = rw y at h in (y, omega arith))
+      | inl y ↦ (let k : times r (r ∷ rs) ≤ 1 = rw y at h in (y, omega arith))
       | inr n ↦ (let k : times r (r ∷ rs) ≤ 0 = rw n at h in absurd (omega arith))
     ]
 
@@ -98,10 +98,10 @@ all_passed : (d q r : ℕ) (rs : List ℕ) (o : Option Holder) →
     cond (nat_lt 0 (times q rs)) (Some (Direction d)) (cond (q == r) (Some (Direction d)) o) ≡ cond (nat_lt 0 (times q (r ∷ rs))) (Some (Direction d)) o
 all_passed d q r rs o = let t : times q (r ∷ rs) ≡ cond (r == q) 1 0 + times q rs = times-cons q r rs in
     elim (cases_eq q r) [
-      inl e ↦ (let u : times q (r ∷ rs) ≡ 1 + times q rs = t ∙ rw (eq-eqb r q (sym e)) refl in
-        rw (eq-eqb q r e, lt-ltb 0 (times q (r ∷ rs)) (omega arith)) (elim (cases_Bool (nat_lt 0 (times q rs))) [ inl y ↦ rw y refl | inr n ↦ rw n refl ]))
+      | inl e ↦ (let u : times q (r ∷ rs) ≡ 1 + times q rs = t ∙ rw (eq-eqb r q (sym e)) refl in
+          rw (eq-eqb q r e, lt-ltb 0 (times q (r ∷ rs)) (omega arith)) (elim (cases_Bool (nat_lt 0 (times q rs))) [ inl y ↦ rw y refl | inr n ↦ rw n refl ]))
       | inr n ↦ (let u : times q (r ∷ rs) ≡ times q rs = t ∙ rw (ne_eqb r q (λ e. n (sym e))) (omega arith) in
-        rw (ne_eqb q r n, u) refl)
+          rw (ne_eqb q r n, u) refl)
     ]
 
 pub passed_all : (p d : ℕ) (rs : List ℕ) (s : Store) → d < 128 → ((q : ℕ) → times q rs ≤ cond (holds s (Process p) q) 1 0) → ((q : ℕ) → holds s (Process p) q ≡ true → 0 < len s q) → Passed d rs s (pass_all p d rs s)
@@ -111,21 +111,21 @@ passed_all p d (r ∷ rs) s l h f =
     let is : after (Pass p r d) s ≡ change (Pass p r d) s = pass_here p d r s l first.0 (f r first.0) in
     let own : (q : ℕ) → owner (after (Pass p r d) s) q ≡ cond (q == r) (Some (Direction d)) (owner s q) = (λ q. rw is (owner-set s r q (Some (Direction d)) (is_there s (Process p) r first.0))) in
     let rest : (q : ℕ) → times q rs ≤ cond (holds (after (Pass p r d) s) (Process p) q) 1 0 = (λ q. elim (cases_eq q r) [
-        inl e ↦ (let z : times q rs ≡ 0 = rw e first.1 in omega (arith, z))
-        | inr n ↦ (let o : owner (after (Pass p r d) s) q ≡ owner s q = own q ∙ rw (ne_eqb q r n) refl in
+      | inl e ↦ (let z : times q rs ≡ 0 = rw e first.1 in omega (arith, z))
+      | inr n ↦ (let o : owner (after (Pass p r d) s) q ≡ owner s q = own q ∙ rw (ne_eqb q r n) refl in
           let t : times q (r ∷ rs) ≡ times q rs = times-cons q r rs ∙ rw (ne_eqb r q (λ e. n (sym e))) (omega arith) in
           rw o (subst (λ (x : ℕ). x ≤ cond (holds s (Process p) q) 1 0) t (h q)))
-      ]) in
+    ]) in
     let long : (q : ℕ) → len (after (Pass p r d) s) q ≡ len s q = (λ q. same_len s (after (Pass p r d) s) q (ap (λ (t : Store). t.arenas) is)) in
     let full : (q : ℕ) → holds (after (Pass p r d) s) (Process p) q ≡ true → 0 < len (after (Pass p r d) s) q = (λ q y. elim (cases_eq q r) [
-        inl e ↦ rw (long q, e) (f r first.0)
-        | inr n ↦ (let o : owner (after (Pass p r d) s) q ≡ owner s q = own q ∙ rw (ne_eqb q r n) refl in rw (long q) (f q (rw o at y)))
-      ]) in
+      | inl e ↦ rw (long q, e) (f r first.0)
+      | inr n ↦ (let o : owner (after (Pass p r d) s) q ≡ owner s q = own q ∙ rw (ne_eqb q r n) refl in rw (long q) (f q (rw o at y)))
+    ]) in
     let more : Passed d rs (after (Pass p r d) s) (pass_all p d rs (after (Pass p r d) s)) = passed_all p d rs (after (Pass p r d) s) l rest full in
     record {
       owners = λ q. more.owners q ∙ rw (own q) (all_passed d q r rs (owner s q));
       many = more.many ∙ (ap (λ (t : Store). length t.owners) is ∙ length-set s.owners r (Some (Direction d)));
-      arenas = more.arenas ∙ ap (λ (t : Store). t.arenas) is
+      arenas = more.arenas ∙ ap (λ (t : Store). t.arenas) is;
     }
 
 -- ---- the contract
@@ -150,8 +150,8 @@ give_pair rows lines new d tag bs valid free lo hi pair =
     let step : InStep rows (d % 2) row.0 (tags_of mine.waiting.items) theirs.state (tags_of theirs.waiting.items ++ tag ∷ []) = put_step rows (d % 2) mine.state tag row.0 theirs.state (tags_of mine.waiting.items) (tags_of theirs.waiting.items) valid pair row.1 in
     let more : tags_of (put_line tag bs theirs).waiting.items ≡ tags_of theirs.waiting.items ++ tag ∷ [] = tags_append theirs.waiting.items _ in
     same_lines rows (d % 2) (told_line (Some rows) (d % 2) tag mine) (slice_index_or new d no_line) (put_line tag bs theirs) (slice_index_or new (peer d) no_line) (sym lo) (sym hi)
-      (subst (λ (z : ℕ). InStep rows (d % 2) z (tags_of mine.waiting.items) theirs.state (tags_of (put_line tag bs theirs).waiting.items)) (sym next)
-        (subst (λ (xs : List ℕ). InStep rows (d % 2) row.0 (tags_of mine.waiting.items) theirs.state xs) (sym more) step))
+    (subst (λ (z : ℕ). InStep rows (d % 2) z (tags_of mine.waiting.items) theirs.state (tags_of (put_line tag bs theirs).waiting.items)) (sym next)
+    (subst (λ (xs : List ℕ). InStep rows (d % 2) row.0 (tags_of mine.waiting.items) theirs.state xs) (sym more) step))
 
 module _ (m : Machine) (p e tag : ℕ) (bs : List ℕ) (w : IsWhole m) (g : MayGive m p e tag bs (toward m e)) where
   abbrev own : ℕ
@@ -198,14 +198,14 @@ module _ (m : Machine) (p e tag : ℕ) (bs : List ℕ) (w : IsWhole m) (g : MayG
 
   left : (q : ℕ) → times q (without bs (blocks m p)) + times q bs ≡ times q (blocks m p)
   left q =
-    let a : times q (without bs (blocks m p)) ≡ cond (nat_lt 0 (times q bs)) 0 (times q (blocks m p)) = times_without q bs (blocks m p) in
-    let o : times q (blocks m p) ≡ cond {A = ℕ} (holds m.store (Process p) q) 1 0 = w.once (Process p) q in
-    let h = held q in
-    elim (cases_Bool (nat_lt 0 (times q bs))) [
-      inl t ↦ (let k : times q (without bs (blocks m p)) ≡ 0 = rw t at a in let l = ltb-true 0 (times q bs) t in
-        let one : cond {A = ℕ} (holds m.store (Process p) q) 1 0 ≤ 1 = (elim (cases_Bool (holds m.store (Process p) q)) [ inl u ↦ rw u (omega arith) | inr u ↦ rw u (omega arith) ]) in omega (arith, k, l, o, h, one))
-      | inr f ↦ (let k : times q (without bs (blocks m p)) ≡ times q (blocks m p) = rw f at a in let l : times q bs ≤ 0 = ltb-false 0 (times q bs) f in omega (arith, k, l))
-    ]
+      let a : times q (without bs (blocks m p)) ≡ cond (nat_lt 0 (times q bs)) 0 (times q (blocks m p)) = times_without q bs (blocks m p) in
+      let o : times q (blocks m p) ≡ cond {A = ℕ} (holds m.store (Process p) q) 1 0 = w.once (Process p) q in
+      let h = held q in
+      elim (cases_Bool (nat_lt 0 (times q bs))) [
+        | inl t ↦ (let k : times q (without bs (blocks m p)) ≡ 0 = rw t at a in let l = ltb-true 0 (times q bs) t in
+            let one : cond {A = ℕ} (holds m.store (Process p) q) 1 0 ≤ 1 = (elim (cases_Bool (holds m.store (Process p) q)) [ inl u ↦ rw u (omega arith) | inr u ↦ rw u (omega arith) ]) in omega (arith, k, l, o, h, one))
+        | inr f ↦ (let k : times q (without bs (blocks m p)) ≡ times q (blocks m p) = rw f at a in let l : times q bs ≤ 0 = ltb-false 0 (times q bs) f in omega (arith, k, l))
+      ]
 
   way : carried y.waiting.items ≡ on_way m d ++ bs
   way = flat_map-append (λ (k : Message). k.blocks.items) (waiting m d) _ ∙ ap (λ xs. on_way m d ++ xs) (append-nil bs)
@@ -213,9 +213,9 @@ module _ (m : Machine) (p e tag : ℕ) (bs : List ℕ) (w : IsWhole m) (g : MayG
   -- the direction toward the giver carries what it carried
   told_way : (k : ℕ) → carried (slice_index_or told k no_line).waiting.items ≡ on_way m k
   told_way k = elim (cases_eq k own) [
-      inl s ↦ rw s (way_here m.lines own z own_there)
-      | inr a ↦ way_else m.lines own k z a
-    ]
+    | inl s ↦ rw s (way_here m.lines own z own_there)
+    | inr a ↦ way_else m.lines own k z a
+  ]
 
   others : (k : Holder) → k ≢ Process p → k ≢ Direction d → (q : ℕ) → times q (listed n k) ≡ times q (listed m k)
   unfolding given
@@ -227,9 +227,9 @@ module _ (m : Machine) (p e tag : ℕ) (bs : List ℕ) (w : IsWhole m) (g : MayG
 
   wired : (rows : List Row) → contract_of m.contracts own ≡ Some rows → IsValid rows → IsPair rows m.lines own → IsPair rows (slice_set told d y) own
   wired rows is valid pair = give_pair rows m.lines (slice_set told d y) own tag bs valid
-    (subst (λ (o : Option (List Row)). is_banned o (own % 2) (line m own).state tag ≡ false) is g.allowed)
-    (own_now ∙ ap (λ (o : Option (List Row)). told_line o (own % 2) tag (line m own)) is)
-    (get_or-set_same told d y no_line there) pair
+      (subst (λ (o : Option (List Row)). is_banned o (own % 2) (line m own).state tag ≡ false) is g.allowed)
+      (own_now ∙ ap (λ (o : Option (List Row)). told_line o (own % 2) tag (line m own)) is)
+      (get_or-set_same told d y no_line there) pair
 
   other_lines : (k : ℕ) → k ≢ own → k ≢ d → slice_index_or (slice_set told d y) k no_line ≡ line m k
   other_lines k a b = get_or-set_other told d k y no_line b ∙ get_or-set_other m.lines own k z no_line a
@@ -255,7 +255,7 @@ module _ (m : Machine) (p e tag : ℕ) (bs : List ℕ) (w : IsWhole m) (g : MayG
     contracts = refl;
     wired = wired_pair m.contracts m.lines (slice_set told d y) own w.wired wired (λ k h. other_lines k (half_apart own k h) (λ s. h (ap (λ (i : ℕ). i / 2) s ∙ peer_half own)));
     opened = refl;
-    depth = refl
+    depth = refl;
   }
 
   pub given_whole : IsWhole n

@@ -1,21 +1,20 @@
 -- Sweeping one entry leaves a whole machine.
-use Rattle.std.proofs.Common.{◌≡◌, ◌≢◌, ℕ, zero, suc, ◌+◌, ◌-◌, ◌*◌, ◌/◌, ◌%◌, ◌<◌, ◌≤◌, List, [], ◌∷◌, ◌++◌, length, get_or, set, Bool, true, false, cond, refl, sym, ap, ◌∙◌, subst, arith, ◌⊎◌, inl, inr, rules, get_or-set_same, get_or-set_other}
-use Rattle.std.specs.Prelude.{Option, Some, None, IsSome, is_none, is_some, ◌&&◌, ◌==◌, not, nat_le, nat_lt, sum, slice_set, slice_index_or}
-use Rattle.std.proofs.lemmas.Bool.{cases_eq, cases_Bool, cases_lt, false≢true, eq-eqb, ne_eqb, lt-ltb, le-ltb, ltb-true, ltb-false}
-use Rattle.std.proofs.lemmas.List.{get_or_past, length-set, set_past}
-use Rattle.std.proofs.lemmas.List.Sums.{sum_by-set}
+use Rattle.std.proofs.Common.{◌≡◌, ◌≢◌, ℕ, zero, suc, ◌+◌, ◌-◌, ◌*◌, ◌/◌, ◌%◌, ◌<◌, ◌≤◌, List, [], length, true, false, cond, refl, sym, ap, ◌∙◌, arith, ◌⊎◌, inl, inr, get_or-set_same, get_or-set_other}
+use Rattle.std.specs.Prelude.{Option, Some, None, is_some, ◌==◌, nat_lt, slice_set, slice_index_or}
+use Rattle.std.proofs.lemmas.Bool.{cases_eq, cases_Bool, false≢true, eq-eqb, ne_eqb, lt-ltb, le-ltb}
+use Rattle.std.proofs.lemmas.List.{length-set}
 use Rattle.xh_model.specs.declared.event.Holder.{Holder}
 use Rattle.xh_model.specs.declared.event.Holder.TheVariants.{Process, Direction}
-use Rattle.xh_model.specs.Store.{Store, owner, len, holds, same_holder, is_held_by, is_known, can, change, all_out, IsOwner, IsLawful}
+use Rattle.xh_model.specs.Store.{Store, owner, len, holds, is_held_by, change, all_out, IsOwner, IsLawful}
 use Rattle.xh_model.specs.declared.event.Event.TheVariants.{GiveBack}
 use Rattle.xh_model.specs.declared.row.Row.{Row}
 use Rattle.xh_model.specs.Cover.{State}
 use Rattle.xh_model.proofs.Lawful.{back_lawful, back_bytes}
 use Rattle.xh_core.specs.declared.line.Line.{Line}
 use Rattle.xh_core.specs.declared.place.Place.{Place}
-use Rattle.xh_core.specs.Machine.{Machine, times, end_of, buffer, line, no_line, place, is_current, blocks, carried, on_way, arriving, listed, IsWhole, IsEnd}
+use Rattle.xh_core.specs.Machine.{Machine, times, end_of, buffer, line, no_line, is_current, blocks, arriving, listed, IsWhole, IsEnd}
 use Rattle.xh_core.specs.Sweeping.{sweep_one, sweep, shut_in}
-use Rattle.xh_core.proofs.Stores.{same_process, is_there, same_len, same_known, len_back, len_back_else, arena_there}
+use Rattle.xh_core.proofs.Stores.{is_there, same_len, same_known, len_back, len_back_else, arena_there}
 use Rattle.xh_core.proofs.Machines.{lists_current, current_range, place_here, place_there, generations_set, idle_set, busy_place, lists_busy}
 use Rattle.xh_core.proofs.Wired.{shut_wired}
 use Rattle.xh_core.proofs.Swept.{entry, new_owner, SweptOne, swept_one, entry_held, came_held, once_process, once_direction, ends_now, end_range}
@@ -28,7 +27,7 @@ other_owner m p from q w l n =
     let r : ℕ = entry m p from in
     let o : owner (sweep_one p from m).store q ≡ new_owner p r (arriving m r) q (owner m.store q) = (swept_one m p from w l).owners q in
     elim (cases_Bool (nat_lt 0 (times q (arriving m r)))) [
-      inl y ↦ (let c = came_held m q (end_of m r) w true y in inl (c.0, c.2, o ∙ rw (ne_eqb q r n, y) refl, y))
+      | inl y ↦ (let c = came_held m q (end_of m r) w true y in inl (c.0, c.2, o ∙ rw (ne_eqb q r n, y) refl, y))
       | inr f ↦ inr (o ∙ rw (ne_eqb q r n, f) refl, f)
     ]
 
@@ -52,11 +51,11 @@ len_else m p from q w l n = same_len (back p from m) (sweep_one p from m).store 
 owned_now : (m : Machine) (p from q : ℕ) → IsWhole m → from < length (blocks m p) → IsOwner (owner (sweep_one p from m).store q) (len (sweep_one p from m).store q)
 owned_now m p from q w l =
     elim (cases_eq q (entry m p from)) [
-      inl e ↦ rw (gone_owner m p from q w l e) (len_here m p from q w l e)
+      | inl e ↦ rw (gone_owner m p from q w l e) (len_here m p from q w l e)
       | inr n ↦ elim (other_owner m p from q w l n) [
-          inl c ↦ rw (c.2) (current_range m p w (lists_current m p from l))
-          | inr s ↦ rw (s.0, len_else m p from q w l n) (w.store.owned q)
-        ]
+        | inl c ↦ rw (c.2) (current_range m p w (lists_current m p from l))
+        | inr s ↦ rw (s.0, len_else m p from q w l n) (w.store.owned q)
+      ]
     ]
 
 none_held : (h : Holder) → is_held_by None h ≡ true → (n : ℕ) → 0 < n
@@ -65,11 +64,11 @@ none_held h e n = absurd (false≢true e)
 full_now : (m : Machine) (p from : ℕ) (h : Holder) (q : ℕ) → IsWhole m → from < length (blocks m p) → holds (sweep_one p from m).store h q ≡ true → 0 < len (sweep_one p from m).store q
 full_now m p from h q w l y =
     elim (cases_eq q (entry m p from)) [
-      inl e ↦ none_held h (ap (λ o. is_held_by o h) (sym (gone_owner m p from q w l e)) ∙ y) _
+      | inl e ↦ none_held h (ap (λ o. is_held_by o h) (sym (gone_owner m p from q w l e)) ∙ y) _
       | inr n ↦ rw (len_else m p from q w l n) (elim (other_owner m p from q w l n) [
-          inl c ↦ w.full (Direction c.0) q (rw (c.1) (eq-eqb c.0 c.0 refl))
-          | inr s ↦ w.full h q (ap (λ o. is_held_by o h) (sym s.0) ∙ y)
-        ])
+        | inl c ↦ w.full (Direction c.0) q (rw (c.1) (eq-eqb c.0 c.0 refl))
+        | inr s ↦ w.full h q (ap (λ o. is_held_by o h) (sym s.0) ∙ y)
+      ])
     ]
 
 once_now : (m : Machine) (p from : ℕ) (h : Holder) (q : ℕ) → IsWhole m → from < length (blocks m p) → times q (listed (sweep_one p from m) h) ≡ cond (holds (sweep_one p from m).store h q) 1 0
@@ -84,7 +83,7 @@ end_before : (m : Machine) (p from q d : ℕ) → IsWhole m → from < length (b
 end_before m p from q d w l e =
     let is : end_of (sweep_one p from m) q ≡ cond (q == entry m p from) None (end_of m q) = ends_now m p from q w l in
     elim (cases_eq q (entry m p from)) [
-      inl s ↦ (let n : end_of (sweep_one p from m) q ≡ None = is ∙ rw (eq-eqb q (entry m p from) s) refl in absurd (some_none d _ n e))
+      | inl s ↦ (let n : end_of (sweep_one p from m) q ≡ None = is ∙ rw (eq-eqb q (entry m p from) s) refl in absurd (some_none d _ n e))
       | inr n ↦ (let k : end_of (sweep_one p from m) q ≡ end_of m q = is ∙ rw (ne_eqb q (entry m p from) n) refl in (n, sym k ∙ e))
     ]
 
@@ -108,21 +107,21 @@ bytes_now m p from q w l =
     let k = w.buffers in
     let a : r < length m.store.owners = is_there m.store (Process p) r (entry_held m p from w l) in
     elim (cases_eq q r) [
-      inl e ↦ (
-        let gone : end_of (sweep_one p from m) q ≡ None = ends_now m p from q w l ∙ rw (eq-eqb q r e) refl in
-        let none : buffer (sweep_one p from m) q ≡ [] = ap (λ (x : ℕ). slice_index_or (slice_set m.buffers r []) x []) e ∙ get_or-set_same m.buffers r [] [] (omega (arith, k, a)) in
-        ap length none ∙ sym (rw (gone, len_here m p from q w l e) refl))
+      | inl e ↦ (
+          let gone : end_of (sweep_one p from m) q ≡ None = ends_now m p from q w l ∙ rw (eq-eqb q r e) refl in
+          let none : buffer (sweep_one p from m) q ≡ [] = ap (λ (x : ℕ). slice_index_or (slice_set m.buffers r []) x []) e ∙ get_or-set_same m.buffers r [] [] (omega (arith, k, a)) in
+          ap length none ∙ sym (rw (gone, len_here m p from q w l e) refl))
       | inr n ↦ (
-        let same_end : end_of (sweep_one p from m) q ≡ end_of m q = ends_now m p from q w l ∙ rw (ne_eqb q r n) refl in
-        let same_buffer : buffer (sweep_one p from m) q ≡ buffer m q = get_or-set_other m.buffers r q [] [] n in
-        rw (same_end, len_else m p from q w l n) (ap length same_buffer ∙ w.bytes q))
+          let same_end : end_of (sweep_one p from m) q ≡ end_of m q = ends_now m p from q w l ∙ rw (ne_eqb q r n) refl in
+          let same_buffer : buffer (sweep_one p from m) q ≡ buffer m q = get_or-set_other m.buffers r q [] [] n in
+          rw (same_end, len_else m p from q w l n) (ap length same_buffer ∙ w.bytes q))
     ]
 
 known_now : (m : Machine) (p from q : ℕ) → IsWhole m → from < length (blocks m p) → is_some (owner (sweep_one p from m).store q) ≡ true → is_some (owner m.store q) ≡ true
 known_now m p from q w l h = elim (cases_eq q (entry m p from)) [
-    inl e ↦ absurd (false≢true (ap is_some (sym (gone_owner m p from q w l e)) ∙ h))
-    | inr n ↦ elim (other_owner m p from q w l n) [ inl c ↦ rw (c.1) refl | inr s ↦ ap is_some (sym s.0) ∙ h ]
-  ]
+  | inl e ↦ absurd (false≢true (ap is_some (sym (gone_owner m p from q w l e)) ∙ h))
+  | inr n ↦ elim (other_owner m p from q w l n) [ inl c ↦ rw (c.1) refl | inr s ↦ ap is_some (sym s.0) ∙ h ]
+]
 
 lawful_now : (m : Machine) (p from : ℕ) → IsWhole m → from < length (blocks m p) → IsLawful (sweep_one p from m).store
 lawful_now m p from w l =
@@ -136,7 +135,7 @@ lawful_now m p from w l =
       covers = λ k. rw s.arenas (b.covers k);
       records = λ k. rw s.arenas (b.records k);
       owned = λ q. owned_now m p from q w l;
-      known = λ q h. same_known (back p from m) (sweep_one p from m).store q s.arenas ∙ b.known q (known_now m p from q w l h)
+      known = λ q h. same_known (back p from m) (sweep_one p from m).store q s.arenas ∙ b.known q (known_now m p from q w l h);
     }
 
 end_now : (m : Machine) (p from r d : ℕ) → IsWhole m → from < length (blocks m p) → end_of (sweep_one p from m) r ≡ Some d → IsEnd (sweep_one p from m) r d
@@ -147,7 +146,7 @@ end_now m p from r d w l e =
     record {
       held = elim (other_owner m p from r w l b.0) [ inl c ↦ rw (c.2) refl | inr k ↦ rw (k.0) was.held ];
       opened = was.opened;
-      alone = λ q f. was.alone q (end_before m p from q d w l f).1
+      alone = λ q f. was.alone q (end_before m p from q d w l f).1;
     }
 
 pub whole_one : (m : Machine) (p from : ℕ) → IsWhole m → from < length (blocks m p) → IsWhole (sweep_one p from m)
@@ -170,7 +169,7 @@ whole_one m p from w l =
       contracts = w.contracts;
       wired = shut_wired m.contracts m.lines (end_of m (entry m p from)) (end_range m (entry m p from) w) w.wired;
       opened = w.opened;
-      deep = w.deep
+      deep = w.deep;
     }
 
 -- the bytes of the swept entry are given back

@@ -1,11 +1,11 @@
 -- What is read of a machine's places and directions, after a change of one of them.
-use Rattle.std.proofs.Common.{◌≡◌, ◌≢◌, ℕ, zero, suc, ◌+◌, ◌-◌, ◌*◌, ◌/◌, ◌%◌, ◌<◌, ◌≤◌, List, [], ◌∷◌, ◌++◌, length, Bool, true, false, cond, refl, sym, ap, ◌∙◌, subst, arith, ◌⊎◌, inl, inr, get_or-set_same, get_or-set_other}
-use Rattle.std.specs.Prelude.{Option, Some, None, ◌==◌, ◌||◌, slice_set, slice_index_or}
-use Rattle.std.proofs.lemmas.Bool.{cases_eq, cases_Bool, cases_lt, false≢true, eq-eqb, ne_eqb, eqb-true}
-use Rattle.std.proofs.lemmas.List.{get_or_past, get_or_default, length-set}
+use Rattle.std.proofs.Common.{◌≡◌, ◌≢◌, ℕ, ◌*◌, ◌/◌, ◌%◌, ◌<◌, ◌≤◌, List, [], length, true, false, cond, refl, sym, ap, ◌∙◌, arith, inl, inr, get_or-set_same, get_or-set_other}
+use Rattle.std.specs.Prelude.{◌==◌, ◌||◌, slice_set, slice_index_or}
+use Rattle.std.proofs.lemmas.Bool.{cases_eq, cases_Bool, false≢true, eq-eqb, ne_eqb, eqb-true}
+use Rattle.std.proofs.lemmas.List.{get_or_default}
 use Rattle.xh_core.specs.declared.place.Place.{Place}
 use Rattle.xh_core.specs.declared.line.Line.{Line}
-use Rattle.xh_core.specs.Machine.{Machine, place, is_current, blocks, with_list, no_place, no_line, is_vacant, is_ended, line, peer, carried, waiting, on_way, IsWhole}
+use Rattle.xh_core.specs.Machine.{Machine, place, is_current, blocks, no_place, no_line, is_vacant, is_ended, peer, carried, IsWhole}
 
 -- machines with the same parts are one
 pub same_machine : (a b : Machine) → a.store ≡ b.store → a.ends ≡ b.ends → a.buffers ≡ b.buffers → a.places ≡ b.places → a.lines ≡ b.lines → a.contracts ≡ b.contracts → a.opened ≡ b.opened → a.depth ≡ b.depth → a ≡ b
@@ -46,14 +46,14 @@ same_process_number p k a b = omega arith
 -- another process's list stays
 pub list_else : (ps : List Place) (p k : ℕ) (x : Place) → p % 32 < length ps → (place_in ps p).generation ≡ p / 32 → x.generation ≡ p / 32 → k ≢ p → list_in (slice_set ps (p % 32) x) k ≡ list_in ps k
 list_else ps p k x l g h n = elim (cases_eq (k % 32) (p % 32)) [
-    inl e ↦ (
+  | inl e ↦ (
       let apart : p / 32 ≢ k / 32 = (λ s. n (same_process_number p k e (sym s))) in
       let now : place_in (slice_set ps (p % 32) x) k ≡ x = ap (λ (i : ℕ). slice_index_or (slice_set ps (p % 32) x) i no_place) e ∙ place_here ps p x l in
       let was : place_in ps k ≡ place_in ps p = ap (λ (i : ℕ). slice_index_or ps i no_place) e in
       no_list_at (slice_set ps (p % 32) x) k x now (rw h (ne_eqb (p / 32) (k / 32) apart))
       ∙ sym (no_list_at ps k (place_in ps p) was (rw g (ne_eqb (p / 32) (k / 32) apart))))
-    | inr d ↦ ap (λ (y : Place). cond (y.generation == (k / 32)) y.blocks.items []) (place_else ps p k x d)
-  ]
+  | inr d ↦ ap (λ (y : Place). cond (y.generation == (k / 32)) y.blocks.items []) (place_else ps p k x d)
+]
 
 pub current_generation : (m : Machine) (p : ℕ) → is_current m p ≡ true → (place m p).generation ≡ p / 32
 current_generation m p h = eqb-true _ _ h
@@ -61,9 +61,9 @@ current_generation m p h = eqb-true _ _ h
 -- a process with a list is the latest of its place
 pub lists_current : (m : Machine) (p from : ℕ) → from < length (blocks m p) → is_current m p ≡ true
 lists_current m p from l = elim (cases_Bool (is_current m p)) [
-    inl y ↦ y
-    | inr f ↦ (let z : blocks m p ≡ [] = rw f refl in let e : length (blocks m p) ≡ 0 = ap length z in absurd (omega (arith, e, l)))
-  ]
+  | inl y ↦ y
+  | inr f ↦ (let z : blocks m p ≡ [] = rw f refl in let e : length (blocks m p) ≡ 0 = ap length z in absurd (omega (arith, e, l)))
+]
 
 pub current_blocks : (m : Machine) (p : ℕ) → is_current m p ≡ true → blocks m p ≡ (place m p).blocks.items
 current_blocks m p h = rw h refl
@@ -82,19 +82,19 @@ pub record IsPlace (x : Place) : Type 0 where
 -- the places but for one
 pub generations_set : (m : Machine) (p : ℕ) (x : Place) → IsWhole m → IsPlace x → (k : ℕ) → (place_in (slice_set m.places (p % 32) x) k).generation ≤ 127
 generations_set m p x w is k = elim (cases_eq (k % 32) (p % 32)) [
-    inl e ↦ (let now : place_in (slice_set m.places (p % 32) x) k ≡ x = ap (λ (i : ℕ). slice_index_or (slice_set m.places (p % 32) x) i no_place) e ∙ place_here m.places p x (place_there m p w) in rw now is.generation)
-    | inr d ↦ rw (place_else m.places p k x d) (w.generations k)
-  ]
+  | inl e ↦ (let now : place_in (slice_set m.places (p % 32) x) k ≡ x = ap (λ (i : ℕ). slice_index_or (slice_set m.places (p % 32) x) i no_place) e ∙ place_here m.places p x (place_there m p w) in rw now is.generation)
+  | inr d ↦ rw (place_else m.places p k x d) (w.generations k)
+]
 
 pub idle_set : (m : Machine) (p : ℕ) (x : Place) → IsWhole m → IsPlace x → (k : ℕ) → (is_vacant (place_in (slice_set m.places (p % 32) x) k).status || is_ended (place_in (slice_set m.places (p % 32) x) k).status) ≡ true → (place_in (slice_set m.places (p % 32) x) k).blocks.items ≡ []
 idle_set m p x w is k h = elim (cases_eq (k % 32) (p % 32)) [
-    inl e ↦ (
+  | inl e ↦ (
       let now : place_in (slice_set m.places (p % 32) x) k ≡ x = ap (λ (i : ℕ). slice_index_or (slice_set m.places (p % 32) x) i no_place) e ∙ place_here m.places p x (place_there m p w) in
       ap (λ (y : Place). y.blocks.items) now ∙ is.idle (ap (λ (y : Place). is_vacant y.status || is_ended y.status) (sym now) ∙ h))
-    | inr d ↦ (
+  | inr d ↦ (
       let now = place_else m.places p k x d in
       ap (λ (y : Place). y.blocks.items) now ∙ w.idle k (ap (λ (y : Place). is_vacant y.status || is_ended y.status) (sym now) ∙ h))
-  ]
+]
 
 -- a place that is not idle may have any list
 pub busy_place : (m : Machine) (p : ℕ) (rs : List ℕ) → IsWhole m → (is_vacant (place m p).status || is_ended (place m p).status) ≡ false → IsPlace (record (place m p) { blocks = record { items = rs } })
@@ -103,10 +103,10 @@ busy_place m p rs w b = record { generation = w.generations p; idle = λ h. absu
 -- a place that lists something is not idle
 pub lists_busy : (m : Machine) (p from : ℕ) → IsWhole m → from < length (blocks m p) → (is_vacant (place m p).status || is_ended (place m p).status) ≡ false
 lists_busy m p from w l = elim (cases_Bool (is_vacant (place m p).status || is_ended (place m p).status)) [
-    inl y ↦ (let none : (place m p).blocks.items ≡ [] = w.idle p y in
+  | inl y ↦ (let none : (place m p).blocks.items ≡ [] = w.idle p y in
       let e : length (blocks m p) ≡ 0 = ap length (current_blocks m p (lists_current m p from l) ∙ none) in absurd (omega (arith, e, l)))
-    | inr f ↦ f
-  ]
+  | inr f ↦ f
+]
 
 -- ---- directions
 
@@ -118,15 +118,15 @@ way_else lines d k x n = ap (λ (y : Line). carried y.waiting.items) (get_or-set
 
 pub peer_half : (d : ℕ) → peer d / 2 ≡ d / 2
 peer_half d = elim (cases_eq (d % 2) 0) [
-    inl e ↦ rw (eq-eqb (d % 2) 0 e) (omega (arith, e))
-    | inr n ↦ rw (ne_eqb (d % 2) 0 n) (omega (arith, n))
-  ]
+  | inl e ↦ rw (eq-eqb (d % 2) 0 e) (omega (arith, e))
+  | inr n ↦ rw (ne_eqb (d % 2) 0 n) (omega (arith, n))
+]
 
 pub peer_ne : (d : ℕ) → peer d ≢ d
 peer_ne d = elim (cases_eq (d % 2) 0) [
-    inl e ↦ rw (eq-eqb (d % 2) 0 e) (λ s. omega (arith, e, s))
-    | inr n ↦ rw (ne_eqb (d % 2) 0 n) (λ s. omega (arith, n, s))
-  ]
+  | inl e ↦ rw (eq-eqb (d % 2) 0 e) (λ s. omega (arith, e, s))
+  | inr n ↦ rw (ne_eqb (d % 2) 0 n) (λ s. omega (arith, n, s))
+]
 
 pub peer_below : (d n : ℕ) → d < 2 * n → peer d < 2 * n
 peer_below d n l = let h = peer_half d in omega (arith, h, l)

@@ -1,11 +1,10 @@
 -- Records that go from one holder to another leave a whole machine.
-use Rattle.std.proofs.Common.{◌≡◌, ◌≢◌, ℕ, zero, suc, ◌+◌, ◌-◌, ◌*◌, ◌/◌, ◌%◌, ◌<◌, ◌≤◌, List, [], ◌∷◌, ◌++◌, length, get_or, set, Bool, true, false, cond, refl, sym, ap, ◌∙◌, subst, arith, ◌⊎◌, inl, inr, get_or-set_same, get_or-set_other}
-use Rattle.std.specs.Prelude.{Option, Some, None, IsSome, is_none, is_some, ◌==◌, ◌||◌, nat_lt, slice_set, slice_index_or}
-use Rattle.std.proofs.lemmas.Bool.{cases_eq, cases_Bool, cases_lt, false≢true, eq-eqb, ne_eqb, lt-ltb, le-ltb, ltb-true, ltb-false}
+use Rattle.std.proofs.Common.{◌≡◌, ◌≢◌, ℕ, ◌+◌, ◌*◌, ◌<◌, ◌≤◌, List, [], length, Bool, true, false, cond, refl, sym, ap, ◌∙◌, arith, ◌⊎◌, inl, inr}
+use Rattle.std.specs.Prelude.{Option, Some, None, is_some, ◌||◌, nat_lt, slice_index_or}
+use Rattle.std.proofs.lemmas.Bool.{cases_eq, cases_Bool, false≢true, eq-eqb, ne_eqb, ltb-true, ltb-false}
 use Rattle.xh_model.specs.declared.event.Holder.{Holder}
 use Rattle.xh_model.specs.declared.event.Holder.TheVariants.{Process, Direction}
-use Rattle.xh_model.specs.Store.{Store, owner, len, holds, same_holder, is_held_by, is_known, IsOwner, IsLawful}
-use Rattle.xh_model.specs.Cover.{State}
+use Rattle.xh_model.specs.Store.{owner, len, holds, same_holder, is_held_by, IsOwner, IsLawful}
 use Rattle.xh_core.specs.Machine.{Machine, times, end_of, buffer, place, line, no_line, listed, is_vacant, is_ended, AreWired, IsWhole, IsEnd}
 use Rattle.xh_core.proofs.Stores.{same_len, same_known}
 
@@ -28,9 +27,9 @@ holder_ne (Direction p) (Direction q) n = ne_eqb p q (λ e. n (ap (λ (x : ℕ).
 pub held_is : (o : Option Holder) (h : Holder) → is_held_by o h ≡ true → o ≡ Some h
 held_is None h e = absurd (false≢true e)
 held_is (Some g) h e = elim (cases_holder g h) [
-    inl s ↦ ap (λ (x : Holder). Some x) s
-    | inr n ↦ absurd (false≢true (sym (holder_ne g h n) ∙ e))
-  ]
+  | inl s ↦ ap (λ (x : Holder). Some x) s
+  | inr n ↦ absurd (false≢true (sym (holder_ne g h n) ∙ e))
+]
 
 abbrev pub IsHolder : Holder → Type 0
 IsHolder (Process p) = p < 4096
@@ -84,41 +83,41 @@ module _ (g h : Holder) (rs : List ℕ) (m n : Machine) (w : IsWhole m) (v : Mov
 
   pub once : (k : Holder) (q : ℕ) → times q (listed n k) ≡ cond (holds n.store k q) 1 0
   once k q = elim (cases_Bool (nat_lt 0 (times q rs))) [
-      inl y ↦ (
+    | inl y ↦ (
         let t = mover q y in
         let was : owner m.store q ≡ Some g = held_is (owner m.store q) g t.0 in
         let is : owner n.store q ≡ Some h = moved_owner q y in
         let left = v.left q in let right = v.right q in
         let at_g : times q (listed m g) ≡ 1 = w.once g q ∙ one_of _ t.0 in
         elim (cases_holder k g) [
-          inl e ↦ (let z : times q (listed n g) ≡ 0 = omega arith in rw (e, is, holder_ne h g (λ s. v.apart (sym s))) z)
+          | inl e ↦ (let z : times q (listed n g) ≡ 0 = omega arith in rw (e, is, holder_ne h g (λ s. v.apart (sym s))) z)
           | inr kg ↦ elim (cases_holder k h) [
-              inl e ↦ (
+            | inl e ↦ (
                 let before : times q (listed m h) ≡ 0 = w.once h q ∙ rw (was, holder_ne g h v.apart) refl in
                 let z : times q (listed n h) ≡ 1 = omega arith in rw (e, is, holder_refl h) z)
-              | inr kh ↦ (
+            | inr kh ↦ (
                 let before : times q (listed m k) ≡ 0 = w.once k q ∙ rw (was, holder_ne g k (λ s. kg (sym s))) refl in
                 rw (is, holder_ne h k (λ s. kh (sym s))) (v.others k kg kh q ∙ before))
-            ]
+          ]
         ])
-      | inr f ↦ (
+    | inr f ↦ (
         let z : times q rs ≤ 0 = ltb-false 0 (times q rs) f in
         let left = v.left q in let right = v.right q in
         let same : times q (listed n k) ≡ times q (listed m k) = elim (cases_holder k g) [
-            inl e ↦ rw e (omega arith)
-            | inr kg ↦ elim (cases_holder k h) [ inl e ↦ rw e (omega arith) | inr kh ↦ v.others k kg kh q ]
-          ] in
+          | inl e ↦ rw e (omega arith)
+          | inr kg ↦ elim (cases_holder k h) [ inl e ↦ rw e (omega arith) | inr kh ↦ v.others k kg kh q ]
+        ] in
         rw (kept_owner q f) (same ∙ w.once k q))
-    ]
+  ]
 
   had_bytes : (q : ℕ) → nat_lt 0 (times q rs) ≡ true → 0 < len n.store q
   had_bytes q y = rw (same_len m.store n.store q v.arenas) (w.full g q (mover q y).0)
 
   was_held : (q : ℕ) → is_some (owner n.store q) ≡ true → is_some (owner m.store q) ≡ true
   was_held q h = elim (cases_Bool (nat_lt 0 (times q rs))) [
-      inl y ↦ rw (held_is (owner m.store q) g (mover q y).0) refl
-      | inr f ↦ ap is_some (sym (kept_owner q f)) ∙ h
-    ]
+    | inl y ↦ rw (held_is (owner m.store q) g (mover q y).0) refl
+    | inr f ↦ ap is_some (sym (kept_owner q f)) ∙ h
+  ]
 
   still_held : (q : ℕ) → is_some (owner m.store q) ≡ true → is_some (owner n.store q) ≡ true
   still_held q h = elim (cases_Bool (nat_lt 0 (times q rs))) [ inl y ↦ rw (moved_owner q y) refl | inr f ↦ ap is_some (kept_owner q f) ∙ h ]
@@ -130,10 +129,10 @@ module _ (g h : Holder) (rs : List ℕ) (m n : Machine) (w : IsWhole m) (v : Mov
     covers = λ k. rw v.arenas (w.store.covers k);
     records = λ k. rw v.arenas (w.store.records k);
     owned = λ q. elim (cases_Bool (nat_lt 0 (times q rs))) [
-        inl y ↦ rw (moved_owner q y) (owner_any h (len n.store q) v.range (had_bytes q y))
-        | inr f ↦ rw (kept_owner q f, same_len m.store n.store q v.arenas) (w.store.owned q)
-      ];
-    known = λ q s. same_known m.store n.store q v.arenas ∙ w.store.known q (was_held q s)
+      | inl y ↦ rw (moved_owner q y) (owner_any h (len n.store q) v.range (had_bytes q y))
+      | inr f ↦ rw (kept_owner q f, same_len m.store n.store q v.arenas) (w.store.owned q)
+    ];
+    known = λ q s. same_known m.store n.store q v.arenas ∙ w.store.known q (was_held q s);
   }
 
   same_end : (q : ℕ) → end_of n q ≡ end_of m q
@@ -152,9 +151,9 @@ module _ (g h : Holder) (rs : List ℕ) (m n : Machine) (w : IsWhole m) (v : Mov
     store = lawful;
     once = once;
     full = λ k q y. elim (cases_Bool (nat_lt 0 (times q rs))) [
-        inl z ↦ had_bytes q z
-        | inr f ↦ rw (same_len m.store n.store q v.arenas) (w.full k q (ap (λ o. is_held_by o k) (sym (kept_owner q f)) ∙ y))
-      ];
+      | inl z ↦ had_bytes q z
+      | inr f ↦ rw (same_len m.store n.store q v.arenas) (w.full k q (ap (λ o. is_held_by o k) (sym (kept_owner q f)) ∙ y))
+    ];
     kinds = ap length v.ends ∙ (w.kinds ∙ sym v.many);
     ends = end_now;
     buffers = ap length v.buffers ∙ (w.buffers ∙ sym v.many);
@@ -167,5 +166,5 @@ module _ (g h : Holder) (rs : List ℕ) (m n : Machine) (w : IsWhole m) (v : Mov
     contracts = ap length v.contracts ∙ w.contracts;
     wired = rw v.contracts v.wired;
     opened = rw v.opened w.opened;
-    deep = rw v.depth w.deep
+    deep = rw v.depth w.deep;
   }

@@ -1,8 +1,8 @@
 -- Distinct records are no more than there are records.
-use Rattle.std.proofs.Common.{◌≡◌, ◌≢◌, ℕ, zero, suc, ◌+◌, ◌-◌, ◌*◌, ◌<◌, ◌≤◌, List, [], ◌∷◌, ◌++◌, length, get_or, drop, drop-cons, Bool, true, false, cond, refl, sym, ap, ◌∙◌, subst, arith, ◌⊎◌, inl, inr}
-use Rattle.std.specs.Prelude.{Option, Some, None, is_some, ◌==◌, nat_lt, slice_index_or, All}
+use Rattle.std.proofs.Common.{◌≡◌, ℕ, zero, suc, ◌+◌, ◌<◌, ◌≤◌, List, [], ◌∷◌, ◌++◌, length, drop, drop-cons, Bool, true, false, cond, refl, sym, ap, ◌∙◌, arith, inl, inr}
+use Rattle.std.specs.Prelude.{Option, Some, None, ◌==◌, slice_index_or}
 use Rattle.std.specs.List.{sum_by, range_with_len}
-use Rattle.std.proofs.lemmas.Bool.{cases_eq, cases_lt, cases_Bool, false≢true, eq-eqb, ne_eqb}
+use Rattle.std.proofs.lemmas.Bool.{cases_eq, cases_lt, cases_Bool, eq-eqb, ne_eqb}
 use Rattle.std.proofs.lemmas.List.{length-append}
 use Rattle.std.proofs.lemmas.List.Sums.{sum_by-cons, sum_by-append, sum_by-le}
 use Rattle.std.proofs.lemmas.List.FromFn.{length-range_with_len}
@@ -13,7 +13,7 @@ use Rattle.xh_model.specs.declared.event.Event.TheVariants.{Accept}
 use Rattle.xh_core.specs.declared.message.Message.{Message}
 use Rattle.xh_core.specs.Machine.{Machine, carried, times, blocks, way_in, on_way, listed, IsWhole}
 use Rattle.xh_core.specs.Sweeping.{accept_all}
-use Rattle.xh_core.proofs.Stores.{times-cons, same_process, is_there}
+use Rattle.xh_core.proofs.Stores.{times-cons, is_there}
 use Rattle.xh_model.proofs.Totals.{sum_zero, sum_add, sum_same}
 
 zero_after : (f : ℕ → ℕ) (from k : ℕ) → ((q : ℕ) → from ≤ q → f q ≡ 0) → sum_by f (range_with_len from k) ≡ 0
@@ -29,14 +29,14 @@ one_at p from (suc k) a b =
     let f : ℕ → ℕ = λ q. cond {A = ℕ} (p == q) 1 0 in
     let c : sum_by f (range_with_len from (suc k)) ≡ f from + sum_by f (range_with_len (from + 1) k) = sum_by-cons f from (range_with_len (from + 1) k) in
     elim (cases_eq p from) [
-      inl e ↦ (
-        let one : f from ≡ 1 = rw (eq-eqb p from e) refl in
-        let rest : sum_by f (range_with_len (from + 1) k) ≡ 0 = zero_after f (from + 1) k (λ q l. rw (ne_eqb p q (λ s. absurd (omega arith))) refl) in
-        omega arith)
+      | inl e ↦ (
+          let one : f from ≡ 1 = rw (eq-eqb p from e) refl in
+          let rest : sum_by f (range_with_len (from + 1) k) ≡ 0 = zero_after f (from + 1) k (λ q l. rw (ne_eqb p q (λ s. absurd (omega arith))) refl) in
+          omega arith)
       | inr d ↦ (
-        let one : f from ≡ 0 = rw (ne_eqb p from d) refl in
-        let rest : sum_by f (range_with_len (from + 1) k) ≡ 1 = one_at p (from + 1) k (omega arith) (omega arith) in
-        omega arith)
+          let one : f from ≡ 0 = rw (ne_eqb p from d) refl in
+          let rest : sum_by f (range_with_len (from + 1) k) ≡ 1 = one_at p (from + 1) k (omega arith) (omega arith) in
+          omega arith)
     ]
 
 -- each element counts once
@@ -65,9 +65,9 @@ not_two (Some (Direction e)) p d = let a = at_most_one (e == d) in omega arith
 
 pub held_there : (m : Machine) (h : Holder) (q : ℕ) → IsWhole m → 0 < times q (listed m h) → q < length m.store.owners
 held_there m h q w l = elim (cases_Bool (holds m.store h q)) [
-    inl y ↦ is_there m.store h q y
-    | inr f ↦ (let z : times q (listed m h) ≡ 0 = w.once h q ∙ rw f refl in absurd (omega arith))
-  ]
+  | inl y ↦ is_there m.store h q y
+  | inr f ↦ (let z : times q (listed m h) ≡ 0 = w.once h q ∙ rw f refl in absurd (omega arith))
+]
 
 pub few_records : (m : Machine) → IsWhole m → length m.store.owners ≤ 2048
 few_records m w = let a = w.store.few in let b = w.store.long in omega (arith, a, b)
@@ -81,8 +81,8 @@ room m p (Some d) w =
     let many : length m.store.owners ≤ 2048 = few_records m w in
     let both : (q : ℕ) → times q (blocks m p ++ on_way m d) ≡ times q (blocks m p) + times q (on_way m d) = λ q. sum_by-append (λ x. cond {A = ℕ} (x == q) 1 0) (blocks m p) (on_way m d) in
     let f : length (blocks m p ++ on_way m d) ≤ length m.store.owners = few (length m.store.owners) (blocks m p ++ on_way m d)
-      (λ q. let a = w.once (Process p) q in let b = w.once (Direction d) q in let e = both q in let t = not_two (owner m.store q) p d in omega arith)
-      (λ q l. let e = both q in elim (cases_lt 0 (times q (blocks m p))) [ inl y ↦ held_there m (Process p) q w y | inr n ↦ held_there m (Direction d) q w (omega arith) ]) in
+    (λ q. let a = w.once (Process p) q in let b = w.once (Direction d) q in let e = both q in let t = not_two (owner m.store q) p d in omega arith)
+    (λ q l. let e = both q in elim (cases_lt 0 (times q (blocks m p))) [ inl y ↦ held_there m (Process p) q w y | inr n ↦ held_there m (Direction d) q w (omega arith) ]) in
     let e = length-append (blocks m p) (on_way m d) in omega arith
 
 -- ---- what is left to accept

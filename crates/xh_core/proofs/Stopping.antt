@@ -1,8 +1,8 @@
 -- A change of a status alone.
-use Rattle.std.proofs.Common.{◌≡◌, ◌≢◌, ℕ, zero, suc, ◌+◌, ◌-◌, ◌/◌, ◌%◌, ◌<◌, ◌≤◌, List, [], ◌∷◌, ◌++◌, length, take, drop, Bool, true, false, cond, refl, sym, ap, ◌∙◌, subst, arith, ◌⊎◌, inl, inr}
-use Rattle.std.specs.Prelude.{Option, Some, None, ◌==◌, ◌||◌, not, nat_le, nat_lt, slice_set, slice_index_or}
+use Rattle.std.proofs.Common.{◌≡◌, ℕ, ◌/◌, ◌%◌, ◌<◌, ◌≤◌, List, [], ◌∷◌, ◌++◌, length, take, drop, Bool, true, false, cond, refl, sym, ap, ◌∙◌, subst, arith, inl, inr}
+use Rattle.std.specs.Prelude.{◌==◌, ◌||◌, nat_le, nat_lt, slice_index_or}
 use Rattle.std.specs.List.{flat_map}
-use Rattle.std.proofs.lemmas.Bool.{cases_eq, cases_Bool, cases_lt, false≢true, ne_eqb, ltb-false, le-ltb}
+use Rattle.std.proofs.lemmas.Bool.{cases_eq, false≢true}
 use Rattle.std.proofs.lemmas.List.{length-set}
 use Rattle.xh_model.specs.declared.event.Holder.{Holder}
 use Rattle.xh_model.specs.declared.event.Holder.TheVariants.{Process, Direction}
@@ -13,7 +13,7 @@ use Rattle.xh_core.specs.declared.status.Status.TheVariants.{Vacant, Running, En
 use Rattle.xh_core.specs.Machine.{Machine, times, blocks, arriving, listed, place, is_current, no_place, status_of, is_vacant, is_running, is_ended, with_status, IsWhole}
 use Rattle.xh_core.specs.Refusing.{IsRunning}
 use Rattle.xh_core.specs.Sweeping.{Sweeps}
-use Rattle.xh_core.proofs.Machines.{place_in, place_here, place_else, place_there, current_blocks, IsPlace, generations_set, idle_set}
+use Rattle.xh_core.proofs.Machines.{place_here, place_else, place_there, current_blocks, IsPlace, generations_set, idle_set}
 
 -- ---- what a status tells
 
@@ -52,12 +52,12 @@ listed_in x q = cond (x.generation == (q / 32)) x.blocks.items []
 
 pub status_blocks : (m : Machine) (p q : ℕ) (s : Status) → IsWhole m → blocks (with_status p s m) q ≡ blocks m q
 status_blocks m p q s w = elim (cases_eq (q % 32) (p % 32)) [
-    inl e ↦ (
+  | inl e ↦ (
       let now : place (with_status p s m) q ≡ record (place m p) { status = s } = ap (λ (i : ℕ). slice_index_or (with_status p s m).places i no_place) e ∙ place_here m.places p (record (place m p) { status = s }) (place_there m p w) in
       let was : place m q ≡ place m p = ap (λ (i : ℕ). slice_index_or m.places i no_place) e in
       ap (λ (x : Place). listed_in x q) now ∙ ap (λ (x : Place). listed_in x q) (sym was))
-    | inr d ↦ ap (λ (x : Place). listed_in x q) (place_else m.places p q (record (place m p) { status = s }) d)
-  ]
+  | inr d ↦ ap (λ (x : Place). listed_in x q) (place_else m.places p q (record (place m p) { status = s }) d)
+]
 
 pub status_current : (m : Machine) (p : ℕ) (s : Status) → IsWhole m → is_current m p ≡ true → is_current (with_status p s m) p ≡ true
 status_current m p s w h = ap (λ (x : Place). x.generation == (p / 32)) (place_here m.places p (record (place m p) { status = s }) (place_there m p w)) ∙ h
@@ -68,23 +68,23 @@ once_status m p s w (Direction d) r = w.once (Direction d) r
 
 pub status_whole : (m : Machine) (p : ℕ) (s : Status) → IsWhole m → IsPlace (record (place m p) { status = s }) → IsWhole (with_status p s m)
 status_whole m p s w is = record {
-    store = w.store;
-    once = once_status m p s w;
-    full = w.full;
-    kinds = w.kinds;
-    ends = λ r d e. let was = w.ends r d e in record { held = was.held; opened = was.opened; alone = was.alone };
-    buffers = w.buffers;
-    bytes = w.bytes;
-    places = length-set m.places (p % 32) (record (place m p) { status = s }) ∙ w.places;
-    generations = generations_set m p (record (place m p) { status = s }) w is;
-    idle = idle_set m p (record (place m p) { status = s }) w is;
-    lines = w.lines;
-    fresh = w.fresh;
-    contracts = w.contracts;
-    wired = w.wired;
-    opened = w.opened;
-    deep = w.deep
-  }
+  store = w.store;
+  once = once_status m p s w;
+  full = w.full;
+  kinds = w.kinds;
+  ends = λ r d e. let was = w.ends r d e in record { held = was.held; opened = was.opened; alone = was.alone };
+  buffers = w.buffers;
+  bytes = w.bytes;
+  places = length-set m.places (p % 32) (record (place m p) { status = s }) ∙ w.places;
+  generations = generations_set m p (record (place m p) { status = s }) w is;
+  idle = idle_set m p (record (place m p) { status = s }) w is;
+  lines = w.lines;
+  fresh = w.fresh;
+  contracts = w.contracts;
+  wired = w.wired;
+  opened = w.opened;
+  deep = w.deep;
+}
 
 pub ending_whole : (m : Machine) (p : ℕ) → IsWhole m → IsWhole (with_status p Ending m)
 ending_whole m p w = status_whole m p Ending w (record { generation = w.generations p; idle = λ h. absurd (false≢true h) })
@@ -111,7 +111,7 @@ sweeps_status m n p from budget s w h =
       in_flight = h.in_flight;
       before = h.before ∙ ap (take from) e;
       rest = h.rest ∙ ap (λ (xs : List ℕ). drop h.taken (drop from xs ++ h.accepted)) e;
-      left = h.left
+      left = h.left;
     }
 
 pub sweeps_status_after : (m n : Machine) (p from budget : ℕ) (s : Status) → IsWhole n → Sweeps p from budget m n → Sweeps p from budget m (with_status p s n)
@@ -127,5 +127,5 @@ sweeps_status_after m n p from budget s w h =
       in_flight = h.in_flight;
       before = ap (take from) e ∙ h.before;
       rest = ap (drop from) e ∙ h.rest;
-      left = λ l. h.left (subst (λ (xs : List ℕ). from < length xs) e l)
+      left = λ l. h.left (subst (λ (xs : List ℕ). from < length xs) e l);
     }

@@ -1,22 +1,19 @@
 -- What sweeping one entry leaves.
-use Rattle.std.proofs.Common.{◌≡◌, ◌≢◌, ℕ, zero, suc, ◌+◌, ◌-◌, ◌/◌, ◌%◌, ◌<◌, ◌≤◌, List, [], ◌∷◌, ◌++◌, length, get_or, set, Bool, true, false, cond, refl, sym, ap, ◌∙◌, subst, arith, ◌⊎◌, inl, inr, rules, get_or-set_same, get_or-set_other}
-use Rattle.std.specs.Prelude.{Option, Some, None, IsSome, is_none, is_some, ◌&&◌, ◌==◌, not, nat_le, nat_lt, slice_set, slice_index_or}
+use Rattle.std.proofs.Common.{◌≡◌, ◌≢◌, ℕ, ◌+◌, ◌/◌, ◌<◌, ◌≤◌, List, [], ◌++◌, length, Bool, true, false, cond, refl, sym, ap, ◌∙◌, arith, inl, inr, get_or-set_same, get_or-set_other}
+use Rattle.std.specs.Prelude.{Option, Some, None, ◌==◌, nat_lt, slice_index_or}
 use Rattle.std.specs.List.{remove}
-use Rattle.std.proofs.lemmas.Bool.{cases_eq, cases_Bool, cases_lt, false≢true, eq-eqb, ne_eqb, lt-ltb, le-ltb, ltb-true, ltb-false}
-use Rattle.std.proofs.lemmas.Bool.Decides.{nat_tests}
-use Rattle.std.proofs.lemmas.List.{get_or_past, length-set, length-append, get_or_append_left}
-use Rattle.std.proofs.lemmas.List.Sums.{sum_by-cons, sum_by-append, sum_by-remove, get_or-le-sum_by}
+use Rattle.std.proofs.lemmas.Bool.{cases_eq, cases_Bool, false≢true, eq-eqb, ne_eqb, lt-ltb, ltb-true, ltb-false}
+use Rattle.std.proofs.lemmas.List.{length-set, length-append, get_or_append_left}
+use Rattle.std.proofs.lemmas.List.Sums.{sum_by-append, sum_by-remove, get_or-le-sum_by}
 use Rattle.xh_model.specs.declared.event.Holder.{Holder}
 use Rattle.xh_model.specs.declared.event.Holder.TheVariants.{Process, Direction}
-use Rattle.xh_model.specs.declared.event.Event.{Event}
-use Rattle.xh_model.specs.declared.event.Event.TheVariants.{GiveBack, Vacate, Accept}
-use Rattle.xh_model.specs.Store.{Store, owner, len, holds, same_holder, is_held_by, can, change, after, IsOwner, IsLawful}
-use Rattle.xh_model.specs.declared.row.Row.{Row}
+use Rattle.xh_model.specs.declared.event.Event.TheVariants.{GiveBack, Vacate}
+use Rattle.xh_model.specs.Store.{Store, owner, len, holds, is_held_by, change, after}
 use Rattle.xh_model.specs.Cover.{State}
-use Rattle.xh_core.specs.Machine.{Machine, times, end_of, line, place, is_current, blocks, carried, way_in, on_way, arriving, listed, IsWhole, no_place, no_line}
-use Rattle.xh_core.specs.Sweeping.{accept_all, accept_from, sweep_one, shut_in}
+use Rattle.xh_core.specs.Machine.{Machine, times, end_of, place, blocks, way_in, on_way, arriving, IsWhole}
+use Rattle.xh_core.specs.Sweeping.{accept_from, sweep_one, shut_in}
 use Rattle.xh_core.proofs.Machines.{place_there, list_here, list_else, lists_current, current_generation, current_range, way_here, way_else}
-use Rattle.xh_core.proofs.Stores.{done, same_process, same_direction, is_there, owner-set, times-cons, Accepted, accepted_all, same_len, len_back, arena_there}
+use Rattle.xh_core.proofs.Stores.{done, same_process, same_direction, is_there, owner-set, Accepted, accepted_all, same_len, len_back, arena_there}
 
 -- the records on their way to an endpoint, if there is one
 abbrev pub on_way_to : Machine → Option ℕ → List ℕ
@@ -97,7 +94,7 @@ swept_one m p from w l =
     record {
       owners = λ q. rw is (owner-set t r q None there ∙ rw (a.owners q) refl);
       many = ap (λ (s : Store). length s.owners) is ∙ (length-set t.owners r None ∙ a.many);
-      arenas = ap (λ (s : Store). s.arenas) is ∙ same_back m.store t p r a.arenas
+      arenas = ap (λ (s : Store). s.arenas) is ∙ same_back m.store t p r a.arenas;
     }
 
 -- ---- lists and directions
@@ -121,9 +118,9 @@ is_at e (Some d) = e == d
 shut_at : (m : Machine) (o : Option ℕ) (e : ℕ) → ((d : ℕ) → o ≡ Some d → d < length m.lines) → way_in (shut_in m.contracts m.lines o) (Some e) ≡ cond (is_at e o) [] (on_way m e)
 shut_at m None e l = refl
 shut_at m (Some d) e l = elim (cases_eq e d) [
-    inl s ↦ rw (eq-eqb e d s, s) (way_here m.lines d _ (l d refl))
-    | inr n ↦ rw (ne_eqb e d n) (way_else m.lines d e _ n)
-  ]
+  | inl s ↦ rw (eq-eqb e d s, s) (way_here m.lines d _ (l d refl))
+  | inr n ↦ rw (ne_eqb e d n) (way_else m.lines d e _ n)
+]
 
 pub end_range : (m : Machine) (r : ℕ) → IsWhole m → (d : ℕ) → end_of m r ≡ Some d → d < length m.lines
 end_range m r w d e = let h = (w.ends r d e).opened in let o = w.opened in let n = w.lines in omega (arith, h, o, n)
@@ -139,7 +136,7 @@ ends_now m p from q w l =
     let k = w.kinds in
     let there : r < length m.ends = (let a : r < length m.store.owners = is_there m.store (Process p) r (entry_held m p from w l) in omega arith) in
     elim (cases_eq q r) [
-      inl e ↦ rw (eq-eqb q r e, e) (get_or-set_same m.ends r None None there)
+      | inl e ↦ rw (eq-eqb q r e, e) (get_or-set_same m.ends r None None there)
       | inr n ↦ rw (ne_eqb q r n) (get_or-set_other m.ends r q None None n)
     ]
 
@@ -147,9 +144,9 @@ ends_now m p from q w l =
 apart : (m : Machine) (q r : ℕ) (e o : Option ℕ) → IsWhole m → q ≢ r → end_of m q ≡ e → end_of m r ≡ o → (d : ℕ) → e ≡ Some d → is_at d o ≡ false
 apart m q r e None w n eq er d is = refl
 apart m q r e (Some c) w n eq er d is = elim (cases_eq d c) [
-    inl s ↦ absurd (n ((w.ends r c er).alone q (eq ∙ (is ∙ ap (λ (x : ℕ). Some x) s))))
-    | inr k ↦ ne_eqb d c k
-  ]
+  | inl s ↦ absurd (n ((w.ends r c er).alone q (eq ∙ (is ∙ ap (λ (x : ℕ). Some x) s))))
+  | inr k ↦ ne_eqb d c k
+]
 
 arriving_by : (m : Machine) (p from q : ℕ) (e : Option ℕ) → IsWhole m → q ≢ entry m p from → end_of m q ≡ e → on_way_to (sweep_one p from m) e ≡ on_way_to m e
 arriving_by m p from q None w n eq = refl
@@ -193,12 +190,12 @@ none_left : (m : Machine) (e q : ℕ) (o : Option ℕ) → IsWhole m → nat_lt 
     times q (on_way m e) ≡ cond (holds m.store (Direction e) q) 1 0 → times q (cond (is_at e o) [] (on_way m e)) ≡ cond (holds m.store (Direction e) q) 1 0
 none_left m e q None w f was = was
 none_left m e q (Some d) w f was = elim (cases_eq e d) [
-    inl s ↦ (let z : times q (on_way m d) ≤ 0 = ltb-false 0 (times q (on_way m d)) f in
+  | inl s ↦ (let z : times q (on_way m d) ≤ 0 = ltb-false 0 (times q (on_way m d)) f in
       let z2 : times q (on_way m e) ≤ 0 = rw s z in
       let z3 : times q (on_way m e) ≡ 0 = omega arith in
       rw (eq-eqb e d s) (sym z3 ∙ was))
-    | inr n ↦ rw (ne_eqb e d n) was
-  ]
+  | inr n ↦ rw (ne_eqb e d n) was
+]
 
 abbrev now : ℕ → ℕ → Machine → Machine
 now p from m = sweep_one p from m
@@ -214,36 +211,36 @@ once_process m p from k q w l =
     let own : owner m.store r ≡ Some (Process p) = same_process _ _ held in
     let was : times q (blocks m k) ≡ cond (holds m.store (Process k) q) 1 0 = w.once (Process k) q in
     elim (cases_eq k p) [
-      inl kp ↦ (
-        let t : times q (remove (blocks m p ++ came p from m) from) + cond (r == q) 1 0 ≡ times q (blocks m p) + times q (came p from m) = times_removed q from (blocks m p) (came p from m) l in
-        let was_p : times q (blocks m p) ≡ cond (holds m.store (Process p) q) 1 0 = w.once (Process p) q in
-        rw (kp, blocks_here m p from w l, owner_now m p from q w l) (elim (cases_eq q r) [
-          inl e ↦ (
-            let z : times q (came p from m) ≡ 0 = rw e (none_of_own m p r (end_of m r) w held) in
-            let one : cond {A = ℕ} (r == q) 1 0 ≡ 1 = rw (eq-eqb r q (sym e)) refl in
-            let has : times q (blocks m p) ≡ 1 = was_p ∙ rw (e, held) refl in
-            rw (eq-eqb q r e) (omega arith))
-          | inr n ↦ (
-            let none : cond {A = ℕ} (r == q) 1 0 ≡ 0 = rw (ne_eqb r q (λ e. n (sym e))) refl in
-            rw (ne_eqb q r n) (elim (cases_Bool (nat_lt 0 (times q (came p from m)))) [
-              inl y ↦ (
-                let c = came_held m q (end_of m r) w true y in
-                let other : holds m.store (Process p) q ≡ false = rw c.2 refl in
-                let zero_p : times q (blocks m p) ≡ 0 = was_p ∙ rw other refl in
-                let is_one : times q (came p from m) ≡ 1 = came_once m q (end_of m r) w y in
-                rw (y, eq-eqb p p refl) (omega arith))
-              | inr f ↦ (
-                let zero_c : times q (came p from m) ≤ 0 = ltb-false 0 (times q (came p from m)) f in
-                rw f (omega arith))
-            ]))
-        ]))
+      | inl kp ↦ (
+          let t : times q (remove (blocks m p ++ came p from m) from) + cond (r == q) 1 0 ≡ times q (blocks m p) + times q (came p from m) = times_removed q from (blocks m p) (came p from m) l in
+          let was_p : times q (blocks m p) ≡ cond (holds m.store (Process p) q) 1 0 = w.once (Process p) q in
+          rw (kp, blocks_here m p from w l, owner_now m p from q w l) (elim (cases_eq q r) [
+            | inl e ↦ (
+                let z : times q (came p from m) ≡ 0 = rw e (none_of_own m p r (end_of m r) w held) in
+                let one : cond {A = ℕ} (r == q) 1 0 ≡ 1 = rw (eq-eqb r q (sym e)) refl in
+                let has : times q (blocks m p) ≡ 1 = was_p ∙ rw (e, held) refl in
+                rw (eq-eqb q r e) (omega arith))
+            | inr n ↦ (
+                let none : cond {A = ℕ} (r == q) 1 0 ≡ 0 = rw (ne_eqb r q (λ e. n (sym e))) refl in
+                rw (ne_eqb q r n) (elim (cases_Bool (nat_lt 0 (times q (came p from m)))) [
+                  | inl y ↦ (
+                      let c = came_held m q (end_of m r) w true y in
+                      let other : holds m.store (Process p) q ≡ false = rw c.2 refl in
+                      let zero_p : times q (blocks m p) ≡ 0 = was_p ∙ rw other refl in
+                      let is_one : times q (came p from m) ≡ 1 = came_once m q (end_of m r) w y in
+                      rw (y, eq-eqb p p refl) (omega arith))
+                  | inr f ↦ (
+                      let zero_c : times q (came p from m) ≤ 0 = ltb-false 0 (times q (came p from m)) f in
+                      rw f (omega arith))
+                ]))
+          ]))
       | inr n ↦ rw (blocks_else m p from k w l n, owner_now m p from q w l) (was ∙ elim (cases_eq q r) [
-          inl e ↦ rw (e, eq-eqb r r refl, own, ne_eqb p k (λ x. n (sym x))) refl
-          | inr nq ↦ rw (ne_eqb q r nq) (elim (cases_Bool (nat_lt 0 (times q (came p from m)))) [
-              inl y ↦ (let c = came_held m q (end_of m r) w true y in rw (y, c.2, ne_eqb p k (λ x. n (sym x))) refl)
-              | inr f ↦ rw f refl
-            ])
+        | inl e ↦ rw (e, eq-eqb r r refl, own, ne_eqb p k (λ x. n (sym x))) refl
+        | inr nq ↦ rw (ne_eqb q r nq) (elim (cases_Bool (nat_lt 0 (times q (came p from m)))) [
+          | inl y ↦ (let c = came_held m q (end_of m r) w true y in rw (y, c.2, ne_eqb p k (λ x. n (sym x))) refl)
+          | inr f ↦ rw f refl
         ])
+      ])
     ]
 
 pub once_direction : (m : Machine) (p from e q : ℕ) → IsWhole m → from < length (blocks m p) → times q (on_way (now p from m) e) ≡ cond (holds (now p from m).store (Direction e) q) 1 0
@@ -253,14 +250,14 @@ once_direction m p from e q w l =
     let own : owner m.store r ≡ Some (Process p) = same_process _ _ held in
     let was : times q (on_way m e) ≡ cond (holds m.store (Direction e) q) 1 0 = w.once (Direction e) q in
     rw (way m p from e w, owner_now m p from q w l) (elim (cases_eq q r) [
-      inl s ↦ (let z : times q (on_way m e) ≡ 0 = was ∙ rw (s, own) refl in rw (eq-eqb q r s) (elim (cases_Bool (is_at e (end_of m r))) [ inl y ↦ rw y refl | inr f ↦ rw f z ]))
+      | inl s ↦ (let z : times q (on_way m e) ≡ 0 = was ∙ rw (s, own) refl in rw (eq-eqb q r s) (elim (cases_Bool (is_at e (end_of m r))) [ inl y ↦ rw y refl | inr f ↦ rw f z ]))
       | inr n ↦ rw (ne_eqb q r n) (elim (cases_Bool (nat_lt 0 (times q (came p from m)))) [
-          inl y ↦ (
+        | inl y ↦ (
             let c = came_held m q (end_of m r) w true y in
             rw y (elim (cases_eq e c.0) [
-              inl s ↦ rw (c.1, eq-eqb e c.0 s) refl
+              | inl s ↦ rw (c.1, eq-eqb e c.0 s) refl
               | inr d ↦ rw (c.1, ne_eqb e c.0 d) (was ∙ rw (c.2, ne_eqb c.0 e (λ x. d (sym x))) refl)
             ]))
-          | inr f ↦ rw f (none_left m e q (end_of m r) w f was)
-        ])
+        | inr f ↦ rw f (none_left m e q (end_of m r) w f was)
+      ])
     ])

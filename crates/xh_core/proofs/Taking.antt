@@ -1,19 +1,18 @@
 -- A take leaves a whole machine.
-use Rattle.std.proofs.Common.{◌≡◌, ◌≢◌, ℕ, zero, suc, ◌+◌, ◌-◌, ◌*◌, ◌/◌, ◌%◌, ◌<◌, ◌≤◌, List, [], ◌∷◌, ◌++◌, length, get_or, set, Bool, true, false, cond, refl, sym, ap, ◌∙◌, subst, arith, ◌⊎◌, inl, inr, get_or-set_same, get_or-set_other}
-use Rattle.std.specs.Prelude.{Option, Some, None, ◌==◌, nat_lt, unwrap_or, slice_set, slice_index_or}
+use Rattle.std.proofs.Common.{◌≡◌, ◌≢◌, ℕ, ◌+◌, ◌-◌, ◌/◌, ◌%◌, ◌<◌, List, [], ◌∷◌, ◌++◌, length, cond, refl, sym, ap, ◌∙◌, subst, arith, get_or-set_same, get_or-set_other}
+use Rattle.std.specs.Prelude.{Option, Some, unwrap_or, slice_set, slice_index_or}
 use Rattle.std.specs.List.{remove}
-use Rattle.std.proofs.lemmas.Bool.{cases_eq, cases_Bool, cases_lt, false≢true, eq-eqb, ne_eqb}
 use Rattle.std.proofs.lemmas.List.{length-set}
 use Rattle.xh_model.specs.declared.event.Holder.{Holder}
 use Rattle.xh_model.specs.declared.event.Holder.TheVariants.{Process, Direction}
 use Rattle.xh_model.specs.declared.row.Row.{Row}
-use Rattle.xh_model.specs.Rows.{allowed, IsValid, InStep}
-use Rattle.xh_model.specs.Store.{Store, owner, holds}
+use Rattle.xh_model.specs.Rows.{InStep}
+use Rattle.xh_model.specs.Store.{holds}
 use Rattle.xh_model.proofs.InStep.{take_step}
 use Rattle.xh_core.specs.declared.message.Message.{Message}
 use Rattle.xh_core.specs.declared.place.Place.{Place}
 use Rattle.xh_core.specs.declared.line.Line.{Line}
-use Rattle.xh_core.specs.Machine.{Machine, times, blocks, place, no_place, line, no_line, waiting, peer, tags_of, contract_of, next_state, carried, on_way, listed, IsWhole}
+use Rattle.xh_core.specs.Machine.{Machine, times, blocks, place, line, no_line, waiting, peer, tags_of, contract_of, next_state, carried, on_way, listed, IsWhole}
 use Rattle.xh_core.specs.Refusing.{toward}
 use Rattle.xh_core.specs.Sweeping.{accept_all}
 use Rattle.xh_core.specs.MessageCommands.{MayTake, taken, taken_line, front, no_message}
@@ -21,7 +20,7 @@ use Rattle.xh_core.proofs.Stores.{Accepted, accepted_all}
 use Rattle.xh_core.proofs.Machines.{place_there, list_here, list_else, current_generation, current_range, busy_place, generations_set, idle_set, way_here, way_else, peer_ne}
 use Rattle.xh_core.proofs.Stopping.{runs_busy}
 use Rattle.xh_core.proofs.Closing.{count_append}
-use Rattle.xh_core.proofs.Wired.{state_in, tags_in, IsPair, ArePaired, same_lines, wired_pair, half_apart}
+use Rattle.xh_core.proofs.Wired.{state_in, tags_in, IsPair, same_lines, wired_pair, half_apart}
 use Rattle.xh_core.proofs.Moved.{Moved, moved_whole}
 
 pub front_split : (ms : List Message) → 0 < length ms → carried ms ≡ (slice_index_or ms 0 no_message).blocks.items ++ carried (remove ms 0)
@@ -47,7 +46,7 @@ take_pair rows lines new d some lo hi pair =
     let s = take_step rows (d % 2) l.state tag (state_in lines (peer d)) rest (tags_in lines (peer d)) (subst (λ (xs : List ℕ). InStep rows (d % 2) l.state xs (state_in lines (peer d)) (tags_in lines (peer d))) split pair) in
     let next : next_state (Some rows) (1 - d % 2) l.state tag ≡ s.0 = ap (λ (o : Option ℕ). unwrap_or o l.state) s.1 in
     same_lines rows (d % 2) (taken_line (Some rows) (1 - d % 2) tag l) (slice_index_or new d no_line) (slice_index_or lines (peer d) no_line) (slice_index_or new (peer d) no_line) (sym lo) (sym hi)
-      (subst (λ (z : ℕ). InStep rows (d % 2) z rest (state_in lines (peer d)) (tags_in lines (peer d))) (sym next) s.2)
+    (subst (λ (z : ℕ). InStep rows (d % 2) z rest (state_in lines (peer d)) (tags_in lines (peer d))) (sym next) s.2)
 
 module _ (m : Machine) (p e : ℕ) (w : IsWhole m) (t : MayTake m p e (toward m e)) where
   abbrev d : ℕ
@@ -70,7 +69,7 @@ module _ (m : Machine) (p e : ℕ) (w : IsWhole m) (t : MayTake m p e (toward m 
 
   split : (q : ℕ) → times q (carried (remove (waiting m d) 0)) + times q came ≡ times q (on_way m d)
   split q = let s : times q (on_way m d) ≡ times q (came ++ carried (remove (waiting m d) 0)) = ap (times q) (front_split (waiting m d) t.some) in
-    let k = count_append q came (carried (remove (waiting m d) 0)) in omega (arith, s, k)
+      let k = count_append q came (carried (remove (waiting m d) 0)) in omega (arith, s, k)
 
   accepted : Accepted p came m.store (accept_all p d came m.store)
   accepted = accepted_all p d came m.store (current_range m p w t.runs.0) (λ q. let s = split q in let o : times q (on_way m d) ≡ cond {A = ℕ} (holds m.store (Direction d) q) 1 0 = w.once (Direction d) q in omega (arith, s, o))
@@ -85,8 +84,8 @@ module _ (m : Machine) (p e : ℕ) (w : IsWhole m) (t : MayTake m p e (toward m 
 
   wired : (rows : List Row) → contract_of m.contracts d ≡ Some rows → IsPair rows m.lines d → IsPair rows (slice_set m.lines d y) d
   wired rows is pair = take_pair rows m.lines (slice_set m.lines d y) d t.some
-    (get_or-set_same m.lines d y no_line there ∙ ap (λ (o : Option (List Row)). taken_line o (1 - d % 2) (front m e).tag (line m d)) is)
-    (get_or-set_other m.lines d (peer d) y no_line (peer_ne d)) pair
+      (get_or-set_same m.lines d y no_line there ∙ ap (λ (o : Option (List Row)). taken_line o (1 - d % 2) (front m e).tag (line m d)) is)
+      (get_or-set_other m.lines d (peer d) y no_line (peer_ne d)) pair
 
   moves : Moved (Direction d) (Process p) came m n
   unfolding taken
@@ -109,7 +108,7 @@ module _ (m : Machine) (p e : ℕ) (w : IsWhole m) (t : MayTake m p e (toward m 
     contracts = refl;
     wired = wired_pair m.contracts m.lines (slice_set m.lines d y) d w.wired (λ rows is valid pair. wired rows is pair) (λ k h. get_or-set_other m.lines d k y no_line (half_apart d k h));
     opened = refl;
-    depth = refl
+    depth = refl;
   }
 
   pub taken_whole : IsWhole n

@@ -1,11 +1,10 @@
 -- The commands alloc, split, read, write and free.
-use Rattle.std.specs.Prelude.{◌≡◌, ℕ, ◌+◌, ◌-◌, ◌*◌, ◌/◌, ◌%◌, ◌==◌, ◌||◌, Bool, not, cond, List, [], ◌∷◌, ◌++◌, Option, Some, None, is_none, length, take, drop, replicate, nat_le, nat_lt, option_map, unwrap_or, slice_set, slice_index_or, Result, Ok, Err}
+use Rattle.std.specs.Prelude.{ℕ, ◌+◌, ◌-◌, ◌*◌, ◌/◌, ◌%◌, ◌==◌, ◌||◌, Bool, not, List, [], ◌∷◌, ◌++◌, Option, is_none, length, take, drop, replicate, nat_le, nat_lt, option_map, unwrap_or, slice_set, Ok}
 use Rattle.std.specs.List.{remove, position, position_or_len, range_with_len}
 use Rattle.xh_model.specs.declared.event.Event.TheVariants.{Claim, Carve, Cut, GiveBack, Vacate}
 use Rattle.xh_model.specs.Cover.{first_fit}
 use Rattle.xh_model.specs.Store.{Store, arena_at, owner, len, after}
 use Rattle.xh_core.specs.declared.block.Block.{Block}
-use Rattle.xh_core.specs.declared.refused.Refused.{Refused}
 use Rattle.xh_core.specs.declared.refused.Refused.TheVariants.{OutOfMemory, BadSize, NoArena, NoSpace, NoRecord, BadCut, BadRange, Worn}
 use Rattle.xh_core.specs.Machine.{Machine, buffer, blocks, with_list}
 use Rattle.xh_core.specs.Refusing.{Answer, Tests, answered, first_refusal, start, data_tests}
@@ -39,9 +38,9 @@ alloc_tests is_refused m p n a = start m p
 -- a free record is claimed and carved; its bytes are zeros, and it goes to the end of the list
 unfoldable pub allocated : ℕ → ℕ → ℕ → Machine → Machine
 allocated p r n m = with_list p (blocks m p ++ r ∷ []) (record m {
-    store = after (Carve p r n) (after (Claim p r) m.store);
-    buffers = slice_set m.buffers r (replicate n 0);
-  })
+  store = after (Carve p r n) (after (Claim p r) m.store);
+  buffers = slice_set m.buffers r (replicate n 0);
+})
 
 unfoldable pub alloc : Bool → ℕ → ℕ → ℕ → Machine → Answer Block
 alloc is_refused p n a m = answered (first_refusal (alloc_tests is_refused m p n a)) m
@@ -61,9 +60,9 @@ split_tests is_refused m p r k = start m p ++ data_tests m p r
 -- a free record t is claimed and gets what is past the first k bytes of r; the buffer is cut in two
 unfoldable pub parted : ℕ → ℕ → ℕ → ℕ → Machine → Machine
 parted p r t k m = with_list p (blocks m p ++ t ∷ []) (record m {
-    store = after (Cut p r t k) (after (Claim p t) m.store);
-    buffers = slice_set (slice_set m.buffers t (drop k (buffer m r))) r (take k (buffer m r));
-  })
+  store = after (Cut p r t k) (after (Claim p t) m.store);
+  buffers = slice_set (slice_set m.buffers t (drop k (buffer m r))) r (take k (buffer m r));
+})
 
 unfoldable pub split : Bool → ℕ → ℕ → ℕ → Machine → Answer (Block × Block)
 split is_refused p r k m =
@@ -96,9 +95,9 @@ free_tests m p r = start m p ++ data_tests m p r
 -- the bytes of a block are given back, its record is vacated, and it leaves the list
 unfoldable pub freed_block : ℕ → ℕ → Machine → Machine
 freed_block p r m = with_list p (remove (blocks m p) (position_or_len (λ q. q == r) (blocks m p))) (record m {
-    store = after (Vacate p r) (after (GiveBack p r) m.store);
-    buffers = slice_set m.buffers r [];
-  })
+  store = after (Vacate p r) (after (GiveBack p r) m.store);
+  buffers = slice_set m.buffers r [];
+})
 
 -- the length of the block
 unfoldable pub free : ℕ → ℕ → Machine → Answer ℕ

@@ -1,5 +1,5 @@
 -- The commands open and wire, with a contract or without.
-use Rattle.std.specs.Prelude.{◌≡◌, ℕ, ◌+◌, ◌*◌, ◌==◌, ◌||◌, Bool, false, cond, List, [], ◌∷◌, ◌++◌, Option, Some, None, is_none, length, nat_le, slice_set, Result, Ok, Err}
+use Rattle.std.specs.Prelude.{ℕ, ◌+◌, ◌*◌, ◌==◌, ◌||◌, false, cond, List, [], ◌∷◌, ◌++◌, Option, Some, None, is_none, length, nat_le, slice_set, Ok}
 use Rattle.xh_model.specs.declared.event.Event.TheVariants.{Claim, Carve, Cut, Pass, Accept}
 use Rattle.xh_model.specs.declared.row.Row.{Row}
 use Rattle.xh_model.specs.Rows.{row_at}
@@ -7,7 +7,7 @@ use Rattle.xh_model.specs.Store.{Store, after}
 use Rattle.xh_core.specs.declared.block.Block.{Block}
 use Rattle.xh_core.specs.declared.line.Line.{Line}
 use Rattle.xh_core.specs.declared.refused.Refused.TheVariants.{NoArena, NoChannel, NoRecord}
-use Rattle.xh_core.specs.Machine.{Machine, blocks, with_list, no_line}
+use Rattle.xh_core.specs.Machine.{Machine, blocks, with_list}
 use Rattle.xh_core.specs.Refusing.{Answer, Tests, answered, first_refusal, start}
 use Rattle.xh_core.specs.BlockCommands.{free_record, lowest, space_tests}
 
@@ -45,12 +45,12 @@ ends_at r t = (record { rec = r; len = 32 }, record { rec = t; len = 32 })
 -- Two free records r and t are claimed, 64 bytes are carved for r and cut in halves: r is side 0 and t side 1 of the next channel.
 unfoldable pub opened : ℕ → ℕ → ℕ → Option (List Row) → Machine → Machine
 opened p r t contract m = record m {
-    store = after (Cut p r t 32) (after (Carve p r 64) (after (Claim p t) (after (Claim p r) m.store)));
-    ends = slice_set (slice_set m.ends r (Some (2 * m.opened))) t (Some (2 * m.opened + 1));
-    lines = slice_set (slice_set m.lines (2 * m.opened) (new_line contract)) (2 * m.opened + 1) (new_line contract);
-    contracts = slice_set m.contracts m.opened contract;
-    opened = m.opened + 1;
-  }
+  store = after (Cut p r t 32) (after (Carve p r 64) (after (Claim p t) (after (Claim p r) m.store)));
+  ends = slice_set (slice_set m.ends r (Some (2 * m.opened))) t (Some (2 * m.opened + 1));
+  lines = slice_set (slice_set m.lines (2 * m.opened) (new_line contract)) (2 * m.opened + 1) (new_line contract);
+  contracts = slice_set m.contracts m.opened contract;
+  opened = m.opened + 1;
+}
 
 -- both ends go to the end of the list
 unfoldable pub open_channel : ℕ → ℕ → Option (List Row) → Machine → Answer (Block × Block)

@@ -1,8 +1,7 @@
 -- The commands close, exit and kill.
-use Rattle.std.specs.Prelude.{◌≡◌, ℕ, ◌+◌, ◌-◌, ◌==◌, cond, List, [], ◌∷◌, ◌++◌, length, Result, Ok, Err}
+use Rattle.std.specs.Prelude.{ℕ, ◌-◌, ◌==◌, cond, List, [], ◌∷◌, ◌++◌, length, Ok, Err}
 use Rattle.std.specs.List.{remove, position_or_len}
 use Rattle.xh_model.specs.Store.{all_out}
-use Rattle.xh_core.specs.declared.refused.Refused.{Refused}
 use Rattle.xh_core.specs.declared.refused.Refused.TheVariants.{Unfinished}
 use Rattle.xh_core.specs.declared.status.Status.TheVariants.{Ending, Ended}
 use Rattle.xh_core.specs.Machine.{Machine, blocks, with_list, with_status}

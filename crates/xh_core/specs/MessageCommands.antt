@@ -1,5 +1,5 @@
 -- The commands give and take.
-use Rattle.std.specs.Prelude.{◌≡◌, ℕ, ◌+◌, ◌-◌, ◌*◌, ◌/◌, ◌%◌, ◌<◌, ◌≤◌, ◌==◌, ◌&&◌, ◌||◌, Bool, true, false, not, cond, List, [], ◌∷◌, ◌++◌, Option, Some, None, is_none, length, map, nat_le, nat_lt, slice_set, slice_index_or, Result, Ok, Err}
+use Rattle.std.specs.Prelude.{◌≡◌, ℕ, ◌+◌, ◌-◌, ◌*◌, ◌%◌, ◌<◌, ◌≤◌, ◌==◌, ◌&&◌, ◌||◌, Bool, true, false, not, List, [], ◌∷◌, ◌++◌, Option, Some, None, is_none, length, map, nat_le, nat_lt, slice_set, slice_index_or, Ok}
 use Rattle.std.specs.List.{remove, list_any, list_all, filter}
 use Rattle.xh_model.specs.declared.event.Holder.TheVariants.{Process}
 use Rattle.xh_model.specs.declared.event.Event.TheVariants.{Pass}

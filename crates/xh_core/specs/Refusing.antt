@@ -1,5 +1,5 @@
 -- How a command is refused: the refusals in the order of their tests.
-use Rattle.std.specs.Prelude.{◌≡◌, ℕ, ◌==◌, ◌||◌, Bool, true, cond, not, List, [], ◌∷◌, ◌++◌, Option, Some, None, is_some, is_none, Result, Ok, Err, MatchResult, unwrap_or}
+use Rattle.std.specs.Prelude.{◌≡◌, ℕ, Bool, true, cond, not, List, [], ◌∷◌, Option, Some, None, is_some, is_none, Result, Err, MatchResult, unwrap_or}
 use Rattle.xh_model.specs.declared.event.Holder.TheVariants.{Process}
 use Rattle.xh_model.specs.Store.{holds}
 use Rattle.xh_core.specs.declared.refused.Refused.{Refused}

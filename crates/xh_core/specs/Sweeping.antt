@@ -1,12 +1,12 @@
 -- The sweep: what reclaiming one entry of a list does, and as many as a budget allows.
-use Rattle.std.specs.Prelude.{◌≡◌, ℕ, zero, suc, ◌+◌, ◌-◌, ◌<◌, ◌≤◌, ◌/◌, ◌%◌, ◌==◌, Bool, true, cond, List, [], ◌∷◌, ◌++◌, Option, Some, None, length, take, drop, nat_lt, slice_set, slice_index_or}
+use Rattle.std.specs.Prelude.{◌≡◌, ℕ, zero, suc, ◌-◌, ◌<◌, ◌≤◌, ◌%◌, true, cond, List, [], ◌∷◌, ◌++◌, Option, Some, None, length, take, drop, nat_lt, slice_set, slice_index_or}
 use Rattle.std.specs.List.{flat_map, remove}
-use Rattle.xh_model.specs.declared.event.Holder.TheVariants.{Process, Direction}
+use Rattle.xh_model.specs.declared.event.Holder.TheVariants.{Direction}
 use Rattle.xh_model.specs.declared.event.Event.TheVariants.{GiveBack, Vacate, Accept}
 use Rattle.xh_model.specs.declared.row.Row.{Row}
 use Rattle.xh_model.specs.Store.{Store, owner, after}
 use Rattle.xh_core.specs.declared.line.Line.{Line}
-use Rattle.xh_core.specs.Machine.{Machine, end_of, blocks, with_list, line, no_line, tags_of, arriving, contract_of, drained_state, times}
+use Rattle.xh_core.specs.Machine.{Machine, end_of, blocks, with_list, no_line, tags_of, arriving, contract_of, drained_state, times}
 
 -- p accepts each of the records, which are in flight on d
 abbrev pub accept_all : ℕ → ℕ → List ℕ → Store → Store

@@ -11,8 +11,8 @@ ghost use Rattle.xh_core.specs.MessageCommands.{give_tests, has_twice, is_banned
 use crate::contract::Contract;
 use crate::line::Line;
 use crate::refused::Refused;
-use crate::serial::messages::{listed, peer};
 use crate::serial::Serial;
+use crate::serial::messages::{listed, peer};
 use crate::status::Status;
 use arrayvec::ArrayVec;
 use xh_model::Holder;

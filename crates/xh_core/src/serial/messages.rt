@@ -11,8 +11,8 @@ use crate::line::Line;
 use crate::message::{Message, Taken};
 use crate::plain::Plain;
 use crate::refused::Refused;
-use crate::serial::sweep::{accept_blocks, state_after};
 use crate::serial::Serial;
+use crate::serial::sweep::{accept_blocks, state_after};
 use arrayvec::ArrayVec;
 use xh_model::Event;
 
@@ -22,11 +22,7 @@ pub(super) fn peer(d: u8) -> u8
     ensures is { result ≡ peer d }
     ensures within { result < 128 }
 {
-    if d % 2 == 0 {
-        d + 1
-    } else {
-        d - 1
-    }
+    if d % 2 == 0 { d + 1 } else { d - 1 }
 }
 
 /// These records as a list of their own.
@@ -103,7 +99,12 @@ fn take_front(lines: &mut Vec<Line>, contracts: &[Option<Contract>], d: u8) -> M
 {
     let line = &mut lines[usize::from(d)];
     let message = line.waiting.remove(0);
-    line.state = state_after(&contracts[usize::from(d / 2)], 1 - d % 2, line.state, message.tag);
+    line.state = state_after(
+        &contracts[usize::from(d / 2)],
+        1 - d % 2,
+        line.state,
+        message.tag,
+    );
     message
 }
 
@@ -162,7 +163,13 @@ impl Serial {
         let message = take_front(&mut self.lines, &self.contracts, d);
         let blocks = describe(&self.plain, &message.blocks);
         let place = &mut self.places[usize::from(p % 32)];
-        accept_blocks(&mut self.plain, &mut place.blocks, p, d, message.blocks.as_slice());
+        accept_blocks(
+            &mut self.plain,
+            &mut place.blocks,
+            p,
+            d,
+            message.blocks.as_slice(),
+        );
         Ok(Taken {
             no: message.no,
             tag: message.tag,

@@ -36,7 +36,13 @@ fn state_at_end(contract: &Option<Contract>, side: u8, state: u8, messages: &[Me
 }
 
 /// `p` accepts these records, which are in flight on `d`, at the end of its list.
-pub(super) fn accept_blocks(plain: &mut Plain, list: &mut ArrayVec<u16, 2048>, p: u16, d: u8, blocks: &[u16])
+pub(super) fn accept_blocks(
+    plain: &mut Plain,
+    list: &mut ArrayVec<u16, 2048>,
+    p: u16,
+    d: u8,
+    blocks: &[u16],
+)
     requires { length list.old.items + length blocks.now ≤ 2048 }
     ensures store { plain.new ≡ accept_all p d blocks.now plain.old }
     ensures list { list.new.items ≡ list.old.items ++ blocks.now }
@@ -48,7 +54,13 @@ pub(super) fn accept_blocks(plain: &mut Plain, list: &mut ArrayVec<u16, 2048>, p
 }
 
 /// The same for the records of messages, front first.
-fn accept_messages(plain: &mut Plain, list: &mut ArrayVec<u16, 2048>, p: u16, d: u8, messages: &[Message])
+fn accept_messages(
+    plain: &mut Plain,
+    list: &mut ArrayVec<u16, 2048>,
+    p: u16,
+    d: u8,
+    messages: &[Message],
+)
     requires { length list.old.items + length (carried messages.now) ≤ 2048 }
     ensures store { plain.new ≡ accept_all p d (carried messages.now) plain.old }
     ensures list { list.new.items ≡ list.old.items ++ carried messages.now }
@@ -59,7 +71,14 @@ fn accept_messages(plain: &mut Plain, list: &mut ArrayVec<u16, 2048>, p: u16, d:
 }
 
 /// An end is closed, and `p` takes what is on its way to it.
-fn shut(plain: &mut Plain, list: &mut ArrayVec<u16, 2048>, lines: &mut Vec<Line>, contracts: &[Option<Contract>], p: u16, end: Option<u8>)
+fn shut(
+    plain: &mut Plain,
+    list: &mut ArrayVec<u16, 2048>,
+    lines: &mut Vec<Line>,
+    contracts: &[Option<Contract>],
+    p: u16,
+    end: Option<u8>,
+)
     requires room { length list.old.items + length (way_in lines.old.items end) ≤ 2048 }
     requires there { (d : ℕ) → end ≡ Some d → d < length lines.old.items }
     requires channel { (d : ℕ) → end ≡ Some d → d / 2 < length contracts.now }
@@ -97,7 +116,14 @@ impl Serial {
         let place = &mut self.places[usize::from(p % 32)];
         let r = place.blocks[from];
         let end = self.ends[usize::from(r)];
-        shut(&mut self.plain, &mut place.blocks, &mut self.lines, &self.contracts, p, end);
+        shut(
+            &mut self.plain,
+            &mut place.blocks,
+            &mut self.lines,
+            &self.contracts,
+            p,
+            end,
+        );
         self.plain.step(Event::GiveBack(p, r));
         self.plain.step(Event::Vacate(p, r));
         self.ends[usize::from(r)] = None;

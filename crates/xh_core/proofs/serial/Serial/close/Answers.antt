@@ -1,4 +1,4 @@
-use Rattle.std.proofs.Common.{◌≡◌, ◌∷◌, [], ◌+◌, ◌-◌, ◌≤◌, ◌<◌, ◌++◌, ℕ, List, length, drop, sym, ap, ◌∙◌, refl, subst, arith, rules, true, false, Ok, Err}
+use Rattle.std.proofs.Common.{◌≡◌, ◌∷◌, [], ◌-◌, ◌≤◌, ℕ, List, length, drop, sym, ap, ◌∙◌, subst, arith, true, Ok}
 use Rattle.xh_model.specs.Reclaimed.{Frees}
 use Rattle.xh_model.specs.declared.event.Holder.TheVariants.{Process}
 use Rattle.xh_model.specs.Store.{all_out, holds}

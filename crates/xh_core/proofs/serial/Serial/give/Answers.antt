@@ -1,9 +1,8 @@
-use Rattle.std.proofs.Common.{◌≡◌, ◌≢◌, ◌==◌, ◌++◌, ◌+◌, ◌-◌, ◌*◌, ◌/◌, ◌%◌, ◌≤◌, ◌<◌, ◌∷◌, [], ℕ, List, length, drop, sym, ap, ◌∙◌, refl, subst, arith, rules, Option, Some, None, Ok, Err, true, false, cond, get_or-set_other}
-use Rattle.std.specs.Prelude.{slice_index_or, slice_set, is_some, unwrap_or}
-use Rattle.xh_model.specs.declared.event.Holder.TheVariants.{Process}
+use Rattle.std.proofs.Common.{◌≡◌, ◌+◌, ◌%◌, ◌<◌, ℕ, length, sym, ap, ◌∙◌, refl, subst, Ok, get_or-set_other}
+use Rattle.std.specs.Prelude.{slice_index_or, slice_set, unwrap_or}
 use Rattle.xh_core.specs.declared.place.Place.{Place}
-use Rattle.xh_core.specs.Machine.{Machine, IsWhole, place, no_place, is_current, blocks}
-use Rattle.xh_core.proofs.Machines.{read_at, same_machine, place_there, lists_current, current_blocks}
+use Rattle.xh_core.specs.Machine.{Machine, IsWhole, place, no_place, blocks}
+use Rattle.xh_core.proofs.Machines.{read_at, same_machine, place_there, current_blocks}
 use Rattle.xh_core.specs.declared.line.Line.{Line}
 use Rattle.xh_core.specs.Machine.{line, no_line, peer, contract_of}
 use Rattle.xh_core.specs.Refusing.{toward}
@@ -31,11 +30,11 @@ invariant_of-self c =
     let tell : c.tell.new.lines.items ≡ slice_set m.lines own z = c.tell.ensures ∙ (λ i. slice_set m.lines (sym at i) (told_line (contract_of (c.deref.ensures.value i) (sym at i)) (sym at i % 2) c.args.tag (line m (sym at i)))) in
     let other : slice_index_or (slice_set m.lines own z) (peer own) no_line ≡ line m (peer own) = get_or-set_other m.lines own (peer own) z no_line (peer_ne own) in
     let lines : c.put.new.lines.items ≡ slice_set (slice_set m.lines own z) (peer own) (put_line c.args.tag c.args.blocks.now (line m (peer own))) =
-      c.put.ensures.line ∙ ((λ i. slice_set (tell i) (to i) (put_line c.args.tag c.args.blocks.now (slice_index_or (tell i) (to i) no_line))) ∙ ap (λ (y : Line). slice_set (slice_set m.lines own z) (peer own) (put_line c.args.tag c.args.blocks.now y)) other) in
+    c.put.ensures.line ∙ ((λ i. slice_set (tell i) (to i) (put_line c.args.tag c.args.blocks.now (slice_index_or (tell i) (to i) no_line))) ∙ ap (λ (y : Line). slice_set (slice_set m.lines own z) (peer own) (put_line c.args.tag c.args.blocks.now y)) other) in
     let n : Machine = record { store = c.pass_blocks.new.plain; ends = c.self.inside.ends.items; buffers = c.self.inside.buffers.items; places = slice_set c.self.inside.places.items c.from.result (record { blocks = c.unlist.new.list; status = c.index_mut-place.result.now.status; generation = c.index_mut-place.result.now.generation }); lines = c.put.new.lines.items; contracts = c.self.inside.contracts.items; opened = c.self.inside.opened; depth = c.self.inside.depth } in
     let same : n ≡ given c.args.p c.args.e c.args.tag c.args.blocks.now m = same_machine n (given c.args.p c.args.e c.args.tag c.args.blocks.now m) store refl refl
-      (λ i. slice_set c.self.inside.places.items (c.from.ensures i) (record { blocks = record { items = items i }; status = (pl i).status; generation = (pl i).generation }))
-      lines refl refl refl in
+    (λ i. slice_set c.self.inside.places.items (c.from.ensures i) (record { blocks = record { items = items i }; status = (pl i).status; generation = (pl i).generation }))
+    lines refl refl refl in
     subst IsWhole (sym same) (given_whole m c.args.p c.args.e c.args.tag c.args.blocks.now w g)
 
 pub returns : goal.returns
@@ -57,11 +56,11 @@ returns c =
     let tell : c.tell.new.lines.items ≡ slice_set m.lines own z = c.tell.ensures ∙ (λ i. slice_set m.lines (sym at i) (told_line (contract_of (c.deref.ensures.value i) (sym at i)) (sym at i % 2) c.args.tag (line m (sym at i)))) in
     let other : slice_index_or (slice_set m.lines own z) (peer own) no_line ≡ line m (peer own) = get_or-set_other m.lines own (peer own) z no_line (peer_ne own) in
     let lines : c.put.new.lines.items ≡ slice_set (slice_set m.lines own z) (peer own) (put_line c.args.tag c.args.blocks.now (line m (peer own))) =
-      c.put.ensures.line ∙ ((λ i. slice_set (tell i) (to i) (put_line c.args.tag c.args.blocks.now (slice_index_or (tell i) (to i) no_line))) ∙ ap (λ (y : Line). slice_set (slice_set m.lines own z) (peer own) (put_line c.args.tag c.args.blocks.now y)) other) in
+    c.put.ensures.line ∙ ((λ i. slice_set (tell i) (to i) (put_line c.args.tag c.args.blocks.now (slice_index_or (tell i) (to i) no_line))) ∙ ap (λ (y : Line). slice_set (slice_set m.lines own z) (peer own) (put_line c.args.tag c.args.blocks.now y)) other) in
     let n : Machine = record { store = c.pass_blocks.new.plain; ends = c.self.inside.ends.items; buffers = c.self.inside.buffers.items; places = slice_set c.self.inside.places.items c.from.result (record { blocks = c.unlist.new.list; status = c.index_mut-place.result.now.status; generation = c.index_mut-place.result.now.generation }); lines = c.put.new.lines.items; contracts = c.self.inside.contracts.items; opened = c.self.inside.opened; depth = c.self.inside.depth } in
     let same : n ≡ given c.args.p c.args.e c.args.tag c.args.blocks.now m = same_machine n (given c.args.p c.args.e c.args.tag c.args.blocks.now m) store refl refl
-      (λ i. slice_set c.self.inside.places.items (c.from.ensures i) (record { blocks = record { items = items i }; status = (pl i).status; generation = (pl i).generation }))
-      lines refl refl refl in
+    (λ i. slice_set c.self.inside.places.items (c.from.ensures i) (record { blocks = record { items = items i }; status = (pl i).status; generation = (pl i).generation }))
+    lines refl refl refl in
     let no : c.put.result ≡ (line m (peer own)).put + 1 = c.put.ensures.number ∙ ((λ i. (slice_index_or (tell i) (to i) no_line).put + 1) ∙ ap (λ (y : Line). y.put + 1) other) in
     let answer : (line c.args.self.now (peer (toward c.args.self.now c.args.e))).put + 1 ≡ c.put.result = sym (no ∙ ap (λ (x : Machine). (line x (peer (toward x c.args.e))).put + 1) c.self.view_is) in
     let left : given c.args.p c.args.e c.args.tag c.args.blocks.now c.args.self.now ≡ n = sym (same ∙ ap (given c.args.p c.args.e c.args.tag c.args.blocks.now) c.self.view_is) in

@@ -1,10 +1,10 @@
-use Rattle.std.proofs.Common.{◌≡◌, ◌≢◌, ◌==◌, ◌++◌, ◌+◌, ◌-◌, ◌*◌, ◌/◌, ◌%◌, ◌≤◌, ◌<◌, ◌∷◌, [], ℕ, List, length, drop, sym, ap, ◌∙◌, refl, subst, arith, rules, Option, Some, None, Ok, Err, true, false, cond}
-use Rattle.std.specs.Prelude.{slice_index_or, slice_set, is_some, unwrap_or}
+use Rattle.std.proofs.Common.{◌≡◌, ◌==◌, ◌++◌, ◌%◌, ◌<◌, ◌∷◌, [], length, sym, ap, ◌∙◌, subst, arith, rules, true}
+use Rattle.std.specs.Prelude.{slice_set}
 use Rattle.std.specs.List.{remove, position_or_len}
 use Rattle.xh_model.specs.declared.event.Holder.TheVariants.{Process}
 use Rattle.xh_core.specs.declared.place.Place.{Place}
-use Rattle.xh_core.specs.Machine.{Machine, IsWhole, place, no_place, is_current, blocks}
-use Rattle.xh_core.proofs.Machines.{read_at, same_machine, place_there, lists_current, current_blocks}
+use Rattle.xh_core.specs.Machine.{Machine, IsWhole, place, no_place, blocks}
+use Rattle.xh_core.proofs.Machines.{read_at, place_there, current_blocks}
 use Rattle.xh_model.specs.Store.{holds}
 use Rattle.xh_core.specs.Refusing.{IsRunning}
 use Rattle.xh_core.specs.EndingCommands.{last, moved_last}
@@ -38,5 +38,5 @@ invariant_of-self c =
     let at : c.place_of-at.result ≡ position_or_len (λ q. q == c.args.e) (blocks m c.args.p) = c.place_of-at.ensures.value ∙ ap (position_or_len (λ q. q == c.args.e)) (c.as_slice.ensures.value ∙ list) in
     let items : c.push.new.self.items ≡ last c.args.e (blocks m c.args.p) = c.push.ensures.items ∙ ap (λ xs. xs ++ c.args.e ∷ []) (c.remove.ensures.items ∙ (λ i. remove (list i) (at i))) in
     let same : record { store = c.self.inside.plain; ends = c.self.inside.ends.items; buffers = c.self.inside.buffers.items; places = slice_set c.self.inside.places.items c.from.result (record { blocks = c.push.new.self; status = c.index_mut-place.result.now.status; generation = c.index_mut-place.result.now.generation }); lines = c.self.inside.lines.items; contracts = c.self.inside.contracts.items; opened = c.self.inside.opened; depth = c.self.inside.depth } ≡ moved_last c.args.p c.args.e m =
-      (λ i. record { store = c.self.inside.plain; ends = c.self.inside.ends.items; buffers = c.self.inside.buffers.items; places = slice_set m.places (c.from.ensures i) (record { blocks = record { items = items i }; status = (pl i).status; generation = (pl i).generation }); lines = c.self.inside.lines.items; contracts = c.self.inside.contracts.items; opened = c.self.inside.opened; depth = c.self.inside.depth }) in
+    (λ i. record { store = c.self.inside.plain; ends = c.self.inside.ends.items; buffers = c.self.inside.buffers.items; places = slice_set m.places (c.from.ensures i) (record { blocks = record { items = items i }; status = (pl i).status; generation = (pl i).generation }); lines = c.self.inside.lines.items; contracts = c.self.inside.contracts.items; opened = c.self.inside.opened; depth = c.self.inside.depth }) in
     subst IsWhole (sym same) (last_whole m c.args.p c.args.e w runs held)

@@ -1,8 +1,7 @@
-use Rattle.std.proofs.Common.{◌≡◌, ◌+◌, ◌-◌, ◌≤◌, ◌<◌, ℕ, length, drop, sym, ap, ◌∙◌, refl, subst, arith}
-use Rattle.xh_model.specs.Store.{all_out}
+use Rattle.std.proofs.Common.{◌≡◌, ◌-◌, ◌≤◌, ◌<◌, length, drop, sym, ap, ◌∙◌, subst, arith}
 use Rattle.xh_model.specs.Reclaimed.{Frees}
 use Rattle.xh_core.specs.Machine.{Machine, IsWhole, blocks, arriving}
-use Rattle.xh_core.specs.Sweeping.{sweep, sweep_one, Sweeps}
+use Rattle.xh_core.specs.Sweeping.{sweep, Sweeps}
 use Rattle.xh_core.proofs.Kept.{sweep_step, sweep_stop}
 use Rattle.xh_core.proofs.Reclaiming.{sweep_frees}
 use Rattle.xh_core.proofs.Listed.{sweep_sweeps, finishes}
@@ -14,7 +13,7 @@ loop-left-preserved c =
     record {
       is = ap (sweep c.args.p c.args.from (c.loop-left.left - 1)) c.sweep_one.ensures.is ∙ (sym (sweep_step c.loop-left.left c.args.p c.args.from c.loop-left.self c.loop-left-test.true l) ∙ c.loop-left.invariant.is);
       bytes = (let d = c.loop-left.invariant.bytes in let e = c.sweep_one.ensures.bytes in omega (arith, d, e));
-      current = c.sweep_one.ensures.current
+      current = c.sweep_one.ensures.current;
     }
 
 pub returns-else-from-count-clause-list : goal.returns-else-from-count-clause-list

@@ -1,6 +1,6 @@
-use Rattle.std.proofs.Common.{◌≡◌, ◌≢◌, ◌==◌, ◌++◌, ◌+◌, ◌-◌, ◌*◌, ◌/◌, ◌%◌, ◌≤◌, ◌<◌, ◌∷◌, [], ℕ, List, length, drop, sym, ap, ◌∙◌, refl, subst, arith, rules, Option, Some, None, Ok, Err, true, false, cond}
-use Rattle.std.specs.Prelude.{slice_index_or, slice_set, is_some, unwrap_or}
-use Rattle.std.specs.List.{remove, position_or_len}
+use Rattle.std.proofs.Common.{◌≡◌, ◌++◌, ◌+◌, ◌*◌, ◌%◌, ◌≤◌, ◌<◌, ℕ, length, sym, ap, ◌∙◌, refl, subst, arith, rules, None, true}
+use Rattle.std.specs.Prelude.{slice_index_or, slice_set}
+use Rattle.std.specs.List.{remove}
 use Rattle.xh_model.specs.declared.event.Holder.TheVariants.{Process}
 use Rattle.xh_core.specs.declared.place.Place.{Place}
 use Rattle.xh_core.specs.Machine.{Machine, IsWhole, place, no_place, is_current, blocks}
@@ -133,15 +133,15 @@ invariant_of-self c =
     let end : c.index-end.result.now ≡ end_of m r = read_at c.self.inside.ends.items c.from-2.result r c.index-end.result.now None (omega (arith, kinds, there)) index c.index-end.ensures in
     let shut_store : c.shut.new.plain ≡ accept_from c.args.p (end_of m r) (arriving m r) m.store = c.shut.ensures.store ∙ ap (λ o. accept_from c.args.p o (way_in c.self.inside.lines.items o) c.self.inside.plain) end in
     let store : c.step-2.new.self ≡ (sweep_one c.args.p c.args.from m).store = c.step-2.ensures.after ∙ (ap (after (Vacate c.args.p (slice_index_or c.deref.result.now c.args.from 0))) (c.step.ensures.after ∙ ap (after (GiveBack c.args.p (slice_index_or c.deref.result.now c.args.from 0))) shut_store)
-      ∙ ap (λ q. after (Vacate c.args.p q) (after (GiveBack c.args.p q) (accept_from c.args.p (end_of m r) (arriving m r) m.store))) read) in
+    ∙ ap (λ q. after (Vacate c.args.p q) (after (GiveBack c.args.p q) (accept_from c.args.p (end_of m r) (arriving m r) m.store))) read) in
     let items : c.remove.new.self.items ≡ remove (blocks m c.args.p ++ arriving m r) c.args.from = c.remove.ensures.items ∙ ap (λ xs. remove xs c.args.from) (c.shut.ensures.list ∙ (λ i. list i ++ way_in c.self.inside.lines.items (end i))) in
     let lines : c.shut.new.lines.items ≡ shut_in m.contracts m.lines (end_of m r) = c.shut.ensures.lines ∙ (λ i. shut_in (c.deref-2.ensures.value i) c.self.inside.lines.items (end i)) in
     let n : Machine = record { store = c.step-2.new.self; ends = slice_set c.self.inside.ends.items c.from-3.result None; buffers = slice_set c.self.inside.buffers.items c.from-4.result c.none.result; places = slice_set c.self.inside.places.items c.from.result (record { blocks = c.remove.new.self; status = c.index_mut-place.result.now.status; generation = c.index_mut-place.result.now.generation }); lines = c.shut.new.lines.items; contracts = c.self.inside.contracts.items; opened = c.self.inside.opened; depth = c.self.inside.depth } in
     let same : n ≡ sweep_one c.args.p c.args.from m = same_machine n (sweep_one c.args.p c.args.from m) store
-      (ap (λ q. slice_set c.self.inside.ends.items q None) (c.from-3.ensures ∙ read))
-      (λ i. slice_set c.self.inside.buffers.items ((c.from-4.ensures ∙ read) i) (c.none.ensures i))
-      (λ i. slice_set c.self.inside.places.items (c.from.ensures i) (record { blocks = record { items = items i }; status = (pl i).status; generation = (pl i).generation }))
-      lines refl refl refl in
+    (ap (λ q. slice_set c.self.inside.ends.items q None) (c.from-3.ensures ∙ read))
+    (λ i. slice_set c.self.inside.buffers.items ((c.from-4.ensures ∙ read) i) (c.none.ensures i))
+    (λ i. slice_set c.self.inside.places.items (c.from.ensures i) (record { blocks = record { items = items i }; status = (pl i).status; generation = (pl i).generation }))
+    lines refl refl refl in
     subst IsWhole (sym same) (whole_one m c.args.p c.args.from w l)
 
 pub returns-clause-is : goal.returns-clause-is
@@ -161,15 +161,15 @@ returns-clause-is c =
     let end : c.index-end.result.now ≡ end_of m r = read_at c.self.inside.ends.items c.from-2.result r c.index-end.result.now None (omega (arith, kinds, there)) index c.index-end.ensures in
     let shut_store : c.shut.new.plain ≡ accept_from c.args.p (end_of m r) (arriving m r) m.store = c.shut.ensures.store ∙ ap (λ o. accept_from c.args.p o (way_in c.self.inside.lines.items o) c.self.inside.plain) end in
     let store : c.step-2.new.self ≡ (sweep_one c.args.p c.args.from m).store = c.step-2.ensures.after ∙ (ap (after (Vacate c.args.p (slice_index_or c.deref.result.now c.args.from 0))) (c.step.ensures.after ∙ ap (after (GiveBack c.args.p (slice_index_or c.deref.result.now c.args.from 0))) shut_store)
-      ∙ ap (λ q. after (Vacate c.args.p q) (after (GiveBack c.args.p q) (accept_from c.args.p (end_of m r) (arriving m r) m.store))) read) in
+    ∙ ap (λ q. after (Vacate c.args.p q) (after (GiveBack c.args.p q) (accept_from c.args.p (end_of m r) (arriving m r) m.store))) read) in
     let items : c.remove.new.self.items ≡ remove (blocks m c.args.p ++ arriving m r) c.args.from = c.remove.ensures.items ∙ ap (λ xs. remove xs c.args.from) (c.shut.ensures.list ∙ (λ i. list i ++ way_in c.self.inside.lines.items (end i))) in
     let lines : c.shut.new.lines.items ≡ shut_in m.contracts m.lines (end_of m r) = c.shut.ensures.lines ∙ (λ i. shut_in (c.deref-2.ensures.value i) c.self.inside.lines.items (end i)) in
     let n : Machine = record { store = c.step-2.new.self; ends = slice_set c.self.inside.ends.items c.from-3.result None; buffers = slice_set c.self.inside.buffers.items c.from-4.result c.none.result; places = slice_set c.self.inside.places.items c.from.result (record { blocks = c.remove.new.self; status = c.index_mut-place.result.now.status; generation = c.index_mut-place.result.now.generation }); lines = c.shut.new.lines.items; contracts = c.self.inside.contracts.items; opened = c.self.inside.opened; depth = c.self.inside.depth } in
     let same : n ≡ sweep_one c.args.p c.args.from m = same_machine n (sweep_one c.args.p c.args.from m) store
-      (ap (λ q. slice_set c.self.inside.ends.items q None) (c.from-3.ensures ∙ read))
-      (λ i. slice_set c.self.inside.buffers.items ((c.from-4.ensures ∙ read) i) (c.none.ensures i))
-      (λ i. slice_set c.self.inside.places.items (c.from.ensures i) (record { blocks = record { items = items i }; status = (pl i).status; generation = (pl i).generation }))
-      lines refl refl refl in
+    (ap (λ q. slice_set c.self.inside.ends.items q None) (c.from-3.ensures ∙ read))
+    (λ i. slice_set c.self.inside.buffers.items ((c.from-4.ensures ∙ read) i) (c.none.ensures i))
+    (λ i. slice_set c.self.inside.places.items (c.from.ensures i) (record { blocks = record { items = items i }; status = (pl i).status; generation = (pl i).generation }))
+    lines refl refl refl in
     same ∙ ap (sweep_one c.args.p c.args.from) c.self.view_is
 
 pub returns-clause-bytes : goal.returns-clause-bytes
@@ -189,15 +189,15 @@ returns-clause-bytes c =
     let end : c.index-end.result.now ≡ end_of m r = read_at c.self.inside.ends.items c.from-2.result r c.index-end.result.now None (omega (arith, kinds, there)) index c.index-end.ensures in
     let shut_store : c.shut.new.plain ≡ accept_from c.args.p (end_of m r) (arriving m r) m.store = c.shut.ensures.store ∙ ap (λ o. accept_from c.args.p o (way_in c.self.inside.lines.items o) c.self.inside.plain) end in
     let store : c.step-2.new.self ≡ (sweep_one c.args.p c.args.from m).store = c.step-2.ensures.after ∙ (ap (after (Vacate c.args.p (slice_index_or c.deref.result.now c.args.from 0))) (c.step.ensures.after ∙ ap (after (GiveBack c.args.p (slice_index_or c.deref.result.now c.args.from 0))) shut_store)
-      ∙ ap (λ q. after (Vacate c.args.p q) (after (GiveBack c.args.p q) (accept_from c.args.p (end_of m r) (arriving m r) m.store))) read) in
+    ∙ ap (λ q. after (Vacate c.args.p q) (after (GiveBack c.args.p q) (accept_from c.args.p (end_of m r) (arriving m r) m.store))) read) in
     let items : c.remove.new.self.items ≡ remove (blocks m c.args.p ++ arriving m r) c.args.from = c.remove.ensures.items ∙ ap (λ xs. remove xs c.args.from) (c.shut.ensures.list ∙ (λ i. list i ++ way_in c.self.inside.lines.items (end i))) in
     let lines : c.shut.new.lines.items ≡ shut_in m.contracts m.lines (end_of m r) = c.shut.ensures.lines ∙ (λ i. shut_in (c.deref-2.ensures.value i) c.self.inside.lines.items (end i)) in
     let n : Machine = record { store = c.step-2.new.self; ends = slice_set c.self.inside.ends.items c.from-3.result None; buffers = slice_set c.self.inside.buffers.items c.from-4.result c.none.result; places = slice_set c.self.inside.places.items c.from.result (record { blocks = c.remove.new.self; status = c.index_mut-place.result.now.status; generation = c.index_mut-place.result.now.generation }); lines = c.shut.new.lines.items; contracts = c.self.inside.contracts.items; opened = c.self.inside.opened; depth = c.self.inside.depth } in
     let same : n ≡ sweep_one c.args.p c.args.from m = same_machine n (sweep_one c.args.p c.args.from m) store
-      (ap (λ q. slice_set c.self.inside.ends.items q None) (c.from-3.ensures ∙ read))
-      (λ i. slice_set c.self.inside.buffers.items ((c.from-4.ensures ∙ read) i) (c.none.ensures i))
-      (λ i. slice_set c.self.inside.places.items (c.from.ensures i) (record { blocks = record { items = items i }; status = (pl i).status; generation = (pl i).generation }))
-      lines refl refl refl in
+    (ap (λ q. slice_set c.self.inside.ends.items q None) (c.from-3.ensures ∙ read))
+    (λ i. slice_set c.self.inside.buffers.items ((c.from-4.ensures ∙ read) i) (c.none.ensures i))
+    (λ i. slice_set c.self.inside.places.items (c.from.ensures i) (record { blocks = record { items = items i }; status = (pl i).status; generation = (pl i).generation }))
+    lines refl refl refl in
     let b : len m.store r + all_out (sweep_one c.args.p c.args.from m).store ≡ all_out m.store = bytes_one m c.args.p c.args.from w l in
     let out : all_out c.step-2.new.self ≡ all_out (sweep_one c.args.p c.args.from m).store = ap all_out store in
     let was : all_out m.store ≡ all_out c.args.self.now.store = ap (λ (x : Machine). all_out x.store) c.self.view_is in
@@ -220,13 +220,13 @@ returns-clause-current c =
     let end : c.index-end.result.now ≡ end_of m r = read_at c.self.inside.ends.items c.from-2.result r c.index-end.result.now None (omega (arith, kinds, there)) index c.index-end.ensures in
     let shut_store : c.shut.new.plain ≡ accept_from c.args.p (end_of m r) (arriving m r) m.store = c.shut.ensures.store ∙ ap (λ o. accept_from c.args.p o (way_in c.self.inside.lines.items o) c.self.inside.plain) end in
     let store : c.step-2.new.self ≡ (sweep_one c.args.p c.args.from m).store = c.step-2.ensures.after ∙ (ap (after (Vacate c.args.p (slice_index_or c.deref.result.now c.args.from 0))) (c.step.ensures.after ∙ ap (after (GiveBack c.args.p (slice_index_or c.deref.result.now c.args.from 0))) shut_store)
-      ∙ ap (λ q. after (Vacate c.args.p q) (after (GiveBack c.args.p q) (accept_from c.args.p (end_of m r) (arriving m r) m.store))) read) in
+    ∙ ap (λ q. after (Vacate c.args.p q) (after (GiveBack c.args.p q) (accept_from c.args.p (end_of m r) (arriving m r) m.store))) read) in
     let items : c.remove.new.self.items ≡ remove (blocks m c.args.p ++ arriving m r) c.args.from = c.remove.ensures.items ∙ ap (λ xs. remove xs c.args.from) (c.shut.ensures.list ∙ (λ i. list i ++ way_in c.self.inside.lines.items (end i))) in
     let lines : c.shut.new.lines.items ≡ shut_in m.contracts m.lines (end_of m r) = c.shut.ensures.lines ∙ (λ i. shut_in (c.deref-2.ensures.value i) c.self.inside.lines.items (end i)) in
     let n : Machine = record { store = c.step-2.new.self; ends = slice_set c.self.inside.ends.items c.from-3.result None; buffers = slice_set c.self.inside.buffers.items c.from-4.result c.none.result; places = slice_set c.self.inside.places.items c.from.result (record { blocks = c.remove.new.self; status = c.index_mut-place.result.now.status; generation = c.index_mut-place.result.now.generation }); lines = c.shut.new.lines.items; contracts = c.self.inside.contracts.items; opened = c.self.inside.opened; depth = c.self.inside.depth } in
     let same : n ≡ sweep_one c.args.p c.args.from m = same_machine n (sweep_one c.args.p c.args.from m) store
-      (ap (λ q. slice_set c.self.inside.ends.items q None) (c.from-3.ensures ∙ read))
-      (λ i. slice_set c.self.inside.buffers.items ((c.from-4.ensures ∙ read) i) (c.none.ensures i))
-      (λ i. slice_set c.self.inside.places.items (c.from.ensures i) (record { blocks = record { items = items i }; status = (pl i).status; generation = (pl i).generation }))
-      lines refl refl refl in
+    (ap (λ q. slice_set c.self.inside.ends.items q None) (c.from-3.ensures ∙ read))
+    (λ i. slice_set c.self.inside.buffers.items ((c.from-4.ensures ∙ read) i) (c.none.ensures i))
+    (λ i. slice_set c.self.inside.places.items (c.from.ensures i) (record { blocks = record { items = items i }; status = (pl i).status; generation = (pl i).generation }))
+    lines refl refl refl in
     subst (λ (x : Machine). is_current x c.args.p ≡ true) (sym same) (current_one m c.args.p c.args.from w l)

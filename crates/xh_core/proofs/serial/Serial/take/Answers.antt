@@ -1,13 +1,11 @@
-use Rattle.std.proofs.Common.{◌≡◌, ◌≢◌, ◌==◌, ◌++◌, ◌+◌, ◌-◌, ◌*◌, ◌/◌, ◌%◌, ◌≤◌, ◌<◌, ◌∷◌, [], ℕ, List, length, drop, sym, ap, ◌∙◌, refl, subst, arith, rules, Option, Some, None, Ok, Err, true, false, cond}
-use Rattle.std.specs.Prelude.{slice_index_or, slice_set, is_some, unwrap_or}
-use Rattle.std.specs.List.{remove, position_or_len}
-use Rattle.xh_model.specs.declared.event.Holder.TheVariants.{Process}
+use Rattle.std.proofs.Common.{◌≡◌, ◌++◌, ◌+◌, ◌-◌, ◌%◌, ◌≤◌, ◌<◌, length, sym, ap, ◌∙◌, refl, subst, arith, Some, Ok}
+use Rattle.std.specs.Prelude.{slice_index_or, slice_set, unwrap_or}
+use Rattle.std.specs.List.{remove}
 use Rattle.xh_core.specs.declared.place.Place.{Place}
-use Rattle.xh_core.specs.Machine.{Machine, IsWhole, place, no_place, is_current, blocks}
-use Rattle.xh_core.proofs.Machines.{read_at, same_machine, place_there, lists_current, current_blocks}
+use Rattle.xh_core.specs.Machine.{Machine, IsWhole, place, no_place, blocks}
+use Rattle.xh_core.proofs.Machines.{read_at, same_machine, place_there, current_blocks}
 use Rattle.std.proofs.lemmas.List.{length-append}
 use Rattle.xh_core.specs.declared.message.Message.{Message}
-use Rattle.xh_core.specs.declared.message.Taken.{Taken}
 use Rattle.xh_core.specs.Machine.{carried, on_way, waiting, line, contract_of}
 use Rattle.xh_core.specs.Refusing.{toward}
 use Rattle.xh_core.specs.Sweeping.{accept_all}
@@ -50,11 +48,11 @@ invariant_of-self c =
     let store : c.accept_blocks.new.plain ≡ accept_all c.args.p (toward m c.args.e) (front m c.args.e).blocks.items m.store = c.accept_blocks.ensures.store ∙ (λ i. accept_all c.args.p (sym at i) (came i) c.self.inside.plain) in
     let items : c.accept_blocks.new.list.items ≡ blocks m c.args.p ++ (front m c.args.e).blocks.items = c.accept_blocks.ensures.list ∙ (λ i. list i ++ came i) in
     let lines : c.take_front-message.new.lines.items ≡ slice_set m.lines (toward m c.args.e) (taken_line (contract_of m.contracts (toward m c.args.e)) (1 - toward m c.args.e % 2) (front m c.args.e).tag (line m (toward m c.args.e))) =
-      c.take_front-message.ensures.line ∙ (λ i. slice_set m.lines (sym at i) (taken_line (contract_of (c.deref.ensures.value i) (sym at i)) (1 - sym at i % 2) (got i).tag (line m (sym at i)))) in
+    c.take_front-message.ensures.line ∙ (λ i. slice_set m.lines (sym at i) (taken_line (contract_of (c.deref.ensures.value i) (sym at i)) (1 - sym at i % 2) (got i).tag (line m (sym at i)))) in
     let n : Machine = record { store = c.accept_blocks.new.plain; ends = c.self.inside.ends.items; buffers = c.self.inside.buffers.items; places = slice_set c.self.inside.places.items c.from.result (record { blocks = c.accept_blocks.new.list; status = c.index_mut-place.result.now.status; generation = c.index_mut-place.result.now.generation }); lines = c.take_front-message.new.lines.items; contracts = c.self.inside.contracts.items; opened = c.self.inside.opened; depth = c.self.inside.depth } in
     let same : n ≡ taken c.args.p c.args.e m = same_machine n (taken c.args.p c.args.e m) store refl refl
-      (λ i. slice_set c.self.inside.places.items (c.from.ensures i) (record { blocks = record { items = items i }; status = (pl i).status; generation = (pl i).generation }))
-      lines refl refl refl in
+    (λ i. slice_set c.self.inside.places.items (c.from.ensures i) (record { blocks = record { items = items i }; status = (pl i).status; generation = (pl i).generation }))
+    lines refl refl refl in
     subst IsWhole (sym same) (taken_whole m c.args.p c.args.e w t)
 
 pub returns : goal.returns
@@ -73,13 +71,13 @@ returns c =
     let store : c.accept_blocks.new.plain ≡ accept_all c.args.p (toward m c.args.e) (front m c.args.e).blocks.items m.store = c.accept_blocks.ensures.store ∙ (λ i. accept_all c.args.p (sym at i) (came i) c.self.inside.plain) in
     let items : c.accept_blocks.new.list.items ≡ blocks m c.args.p ++ (front m c.args.e).blocks.items = c.accept_blocks.ensures.list ∙ (λ i. list i ++ came i) in
     let lines : c.take_front-message.new.lines.items ≡ slice_set m.lines (toward m c.args.e) (taken_line (contract_of m.contracts (toward m c.args.e)) (1 - toward m c.args.e % 2) (front m c.args.e).tag (line m (toward m c.args.e))) =
-      c.take_front-message.ensures.line ∙ (λ i. slice_set m.lines (sym at i) (taken_line (contract_of (c.deref.ensures.value i) (sym at i)) (1 - sym at i % 2) (got i).tag (line m (sym at i)))) in
+    c.take_front-message.ensures.line ∙ (λ i. slice_set m.lines (sym at i) (taken_line (contract_of (c.deref.ensures.value i) (sym at i)) (1 - sym at i % 2) (got i).tag (line m (sym at i)))) in
     let n : Machine = record { store = c.accept_blocks.new.plain; ends = c.self.inside.ends.items; buffers = c.self.inside.buffers.items; places = slice_set c.self.inside.places.items c.from.result (record { blocks = c.accept_blocks.new.list; status = c.index_mut-place.result.now.status; generation = c.index_mut-place.result.now.generation }); lines = c.take_front-message.new.lines.items; contracts = c.self.inside.contracts.items; opened = c.self.inside.opened; depth = c.self.inside.depth } in
     let same : n ≡ taken c.args.p c.args.e m = same_machine n (taken c.args.p c.args.e m) store refl refl
-      (λ i. slice_set c.self.inside.places.items (c.from.ensures i) (record { blocks = record { items = items i }; status = (pl i).status; generation = (pl i).generation }))
-      lines refl refl refl in
+    (λ i. slice_set c.self.inside.places.items (c.from.ensures i) (record { blocks = record { items = items i }; status = (pl i).status; generation = (pl i).generation }))
+    lines refl refl refl in
     let blocks_are : c.describe-blocks.result.items ≡ described m.store (front m c.args.e).blocks.items = c.describe-blocks.ensures ∙ ap (λ (x : Message). described m.store x.blocks.items) got in
     let answer : told c.args.self.now (front c.args.self.now c.args.e) ≡ record { no = c.take_front-message.result.no; tag = c.take_front-message.result.tag; blocks = c.describe-blocks.result } =
-      sym ((λ i. record { no = (got i).no; tag = (got i).tag; blocks = record { items = blocks_are i } }) ∙ ap (λ (x : Machine). told x (front x c.args.e)) c.self.view_is) in
+    sym ((λ i. record { no = (got i).no; tag = (got i).tag; blocks = record { items = blocks_are i } }) ∙ ap (λ (x : Machine). told x (front x c.args.e)) c.self.view_is) in
     let left : taken c.args.p c.args.e c.args.self.now ≡ n = sym (same ∙ ap (taken c.args.p c.args.e) c.self.view_is) in
     rw (c.in_ok-d.ensures.0) (λ i. (Ok (answer i), left i))

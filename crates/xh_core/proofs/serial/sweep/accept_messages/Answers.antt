@@ -1,4 +1,4 @@
-use Rattle.std.proofs.Common.{◌≡◌, ◌++◌, ◌+◌, ◌≤◌, ℕ, List, length, drop, sym, ap, ◌∙◌, refl, arith, append_assoc}
+use Rattle.std.proofs.Common.{◌≡◌, ◌++◌, ◌+◌, ℕ, length, drop, sym, ap, ◌∙◌, arith, append_assoc}
 use Rattle.std.proofs.lemmas.List.{length-append}
 use Rattle.xh_core.specs.Machine.{carried}
 use Rattle.xh_core.specs.Sweeping.{accept_all}
@@ -24,7 +24,7 @@ loop-message-preserved c =
     let r = c.loop-message.invariant.room in
     record {
       store = rw (c.accept_blocks.ensures.store, c.as_slice.ensures.value) (sym (accept_append c.args.p c.args.d c.message-item.result.blocks.items (carried (drop (i + 1) c.args.messages.now)) c.loop-message.plain)
-        ∙ (ap (λ xs. accept_all c.args.p c.args.d xs c.loop-message.plain) (sym e) ∙ c.loop-message.invariant.store));
+          ∙ (ap (λ xs. accept_all c.args.p c.args.d xs c.loop-message.plain) (sym e) ∙ c.loop-message.invariant.store));
       room = omega arith;
-      list = rw list (append_assoc c.loop-message.list.items c.message-item.result.blocks.items (carried (drop (i + 1) c.args.messages.now)) ∙ (ap (λ xs. c.loop-message.list.items ++ xs) (sym e) ∙ c.loop-message.invariant.list))
+      list = rw list (append_assoc c.loop-message.list.items c.message-item.result.blocks.items (carried (drop (i + 1) c.args.messages.now)) ∙ (ap (λ xs. c.loop-message.list.items ++ xs) (sym e) ∙ c.loop-message.invariant.list));
     }
