@@ -1,3 +1,10 @@
+pub mod Boxes
+pub mod Directions
 pub mod Ends
+pub mod Marks
 pub mod Numbers
+pub mod Pairs
+pub mod Places
+pub mod Queues
 pub mod Refusals
+pub mod Signs

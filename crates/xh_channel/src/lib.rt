@@ -1,11 +1,22 @@
 //! The channels: their directions, their endpoints, and shutting.
 #![tactic(auto)]
 
+mod boxes;
+mod channels;
+mod desk;
+mod direction;
+mod endpoint;
 mod message;
+mod pair;
 mod refused;
+mod shutting;
+mod sign;
 mod spot;
+mod told;
 mod unsent;
 
+pub use channels::Channels;
+pub use endpoint::{Endpoint, compare};
 pub use message::Message;
 pub use refused::Refused;
 pub use spot::Spot;
