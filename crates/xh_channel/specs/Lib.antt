@@ -1,6 +1,7 @@
 pub mod Boxes
 pub mod Directions
 pub mod Ends
+pub mod Lines
 pub mod Marks
 pub mod Numbers
 pub mod Pairs

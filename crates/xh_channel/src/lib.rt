@@ -6,6 +6,9 @@ mod channels;
 mod desk;
 mod direction;
 mod endpoint;
+mod lane;
+mod line;
+mod line_end;
 mod message;
 mod pair;
 mod refused;
@@ -17,6 +20,7 @@ mod unsent;
 
 pub use channels::Channels;
 pub use endpoint::{Endpoint, compare};
+pub use line::Line;
 pub use message::Message;
 pub use refused::Refused;
 pub use spot::Spot;
