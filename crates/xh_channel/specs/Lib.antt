@@ -1,6 +1,7 @@
 pub mod Boxes
 pub mod Directions
 pub mod Ends
+pub mod Lanes
 pub mod Lines
 pub mod Marks
 pub mod Numbers
@@ -9,3 +10,4 @@ pub mod Places
 pub mod Queues
 pub mod Refusals
 pub mod Signs
+pub mod Turns

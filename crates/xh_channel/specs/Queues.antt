@@ -30,6 +30,13 @@ abbrev pub counts_of : Option Told → Counts → Counts
 counts_of None c = c
 counts_of (Some t) c = record { put = t.put; taken = t.taken; shut = t.shut }
 
+-- the number of the last message that it put, and of the last that it took
+abbrev pub told_put : ℕ → Counts → Counts
+told_put n c = record { put = n; taken = c.taken; shut = c.shut }
+
+abbrev pub told_taken : ℕ → Counts → Counts
+told_taken n c = record { put = c.put; taken = n; shut = c.shut }
+
 -- the same end of the same channel
 abbrev pub IsSameEnd : Posted → Posted → Type 0
 IsSameEnd old new = (new.channel ≡ old.channel) × (new.side ≡ old.side) × (new.has_contract ≡ old.has_contract) × (new.depth ≡ old.depth) × (new.out ≡ old.out) × (new.into ≡ old.into)

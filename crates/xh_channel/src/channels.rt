@@ -1,15 +1,18 @@
 //! All channels of a heap.
-ghost use Rattle.std.specs.Prelude.{◌≡◌, ℕ, ◌+◌, ◌*◌, ◌<◌, ◌≤◌, ◌⊎◌, true, false, length, List, Option, IfOk, IfErr, OnErr};
-ghost use Rattle.xh_channel.specs.Ends.{given_back};
+ghost use Rattle.std.specs.Prelude.{◌≡◌, ℕ, ◌+◌, ◌*◌, ◌<◌, ◌≤◌, ◌⊎◌, true, false, length, List, Option, IfOk, IfErr, MatchBool};
+ghost use Rattle.xh_channel.specs.Ends.{given_back, last_number};
+ghost use Rattle.xh_channel.specs.Lanes.{PutsByLine, TakesByLine};
 ghost use Rattle.xh_channel.specs.Queues.{IsSameEnd, PutsAs, TakesAs, ShutsAs};
 ghost use Rattle.xh_channel.specs.Pairs.{IsPair};
 ghost use Rattle.xh_channel.specs.Places.{IsPlaced, NoneFree, at_place, has_depth};
+ghost use Rattle.xh_channel.specs.Turns.{HasTurned, is_waited_for};
 ghost use Rattle.xh_channel.specs.declared.pair.Pair.{Pair};
 ghost use Rattle.xh_channel.specs.declared.refused.Refused.TheVariants.{OutOfMemory, BadSize, NoChannel};
 
 use crate::boxes::direction;
 use crate::desk::Desk;
 use crate::endpoint::Endpoint;
+use crate::lanes::Lanes;
 use crate::message::Message;
 use crate::pair::Pair;
 use crate::refused::Refused;
@@ -19,6 +22,7 @@ use crate::unsent::Unsent;
 use arrayvec::ArrayVec;
 use std::alloc::{AllocError, Global};
 use std::sync::{Condvar, Mutex, Wait};
+use xh_core::Contract;
 
 /// The number of channels.
 const CHANNELS: u8 = 64;
@@ -28,6 +32,7 @@ const CHANNELS: u8 = 64;
 pub struct Channels {
     depth: u8,
     desk: Mutex<Desk>,
+    lanes: Lanes,
     turned: Vec<Condvar>,
     ghost deep: { (1 ≤ depth) × (depth ≤ 16) },
     ghost each: { length turned.items ≡ 64 },
@@ -81,10 +86,12 @@ impl Channels {
             return Err(Refused::BadSize);
         }
         let free = pairs(alloc, depth as usize)?;
+        let lanes = Lanes::new(alloc)?;
         let turned = condvars(alloc)?;
         Ok(Channels {
             depth,
             desk: Mutex::new(Desk::new(free)),
+            lanes,
             turned,
         })
     }
@@ -101,17 +108,34 @@ impl Channels {
         Ok((low, high))
     }
 
+    /// As `open`, of a channel that goes by the contract. Both ends begin in its first state.
+    pub fn open_with<R: Wait>(
+        &self,
+        rt: &R,
+        contract: Contract,
+    ) -> Result<(Endpoint, Endpoint), Refused>
+        ensures ok { IfOk result (λ ends. IsPair ends.0 ends.1 × (ends.0.depth ≡ self.now.depth) × (ends.0.has_contract ≡ true)) }
+        ensures err { IfErr result (λ r. (r ≡ NoChannel) × ((found : List (Option Pair)) × NoneFree self.now.depth found)) }
+    {
+        let (low, high) = self.open(rt)?;
+        self.lanes.open(rt, low.spot().channel, contract, self.depth);
+        Ok((low.with_contract(), high.with_contract()))
+    }
+
     /// The number of a channel that was opened and never used is free again.
     pub fn cancel<R: Wait>(&self, rt: &R, low: Endpoint, high: Endpoint)
         requires { IsPair low high }
     {
+        if low.has_contract() {
+            self.lanes.cancel(rt, low.spot().channel);
+        }
         let low = low.without_contract();
         let high = high.without_contract();
         self.desk.lock(rt).cancel(Pair { low, high });
     }
 
     /// Puts a message, and answers its number, which is the count of this end's puts.
-    /// PeerClosed where the peer was seen shut, then Full where as many messages as the depth were seen to wait or the direction has carried 2^62 - 1. Each hands the blocks back.
+    /// PeerClosed where the peer was seen shut, then Full where as many messages as the depth were seen to wait or the direction has carried 2^62 - 1 of them. On a channel with a contract Protocol comes first, where the contract doesn't allow the message. Each hands the blocks back.
     pub fn put<R: Wait>(
         &self,
         rt: &R,
@@ -119,33 +143,48 @@ impl Channels {
         tag: u16,
         blocks: ArrayVec<u16, 8>,
     ) -> Result<u64, Unsent>
-        requires { end.old.has_contract ≡ false }
-        ensures put { PutsAs end.old end.new tag blocks result }
+        ensures put { MatchBool end.old.has_contract (PutsByLine end.old end.new tag blocks result) (PutsAs end.old end.new tag blocks result) }
+        ensures last { end.old.has_contract ≡ false → IfOk result (λ no. no ≤ last_number) }
         ensures back { IfErr result (λ u. given_back u ≡ blocks) }
         ensures same { IsSameEnd end.old end.new }
     {
-        let no = end.put(rt, tag, blocks)?;
-        self.tell(rt, end.spot());
+        let spot = end.spot();
+        let no = if end.has_contract() {
+            let no = self.lanes.put(rt, spot, tag, blocks)?;
+            end.was_put(no);
+            no
+        } else {
+            end.put(rt, tag, blocks)?
+        };
+        self.tell(rt, spot);
         Ok(no)
     }
 
-    /// Takes the message at the front. With none, PeerClosed where the peer was seen shut, and else Empty.
-    /// An end that was shut still takes what is left.
+    /// Takes the message at the front. With none, PeerClosed where the peer was seen shut, and else Empty. An end that was shut still takes what is left.
     pub fn take<R: Wait>(&self, rt: &R, end: &mut Endpoint) -> Result<Message, Refused>
-        requires { end.old.has_contract ≡ false }
-        ensures taken { TakesAs end.old end.new result }
+        ensures taken { MatchBool end.old.has_contract (TakesByLine end.old end.new result) (TakesAs end.old end.new result) }
         ensures same { IsSameEnd end.old end.new }
     {
-        end.take(rt)
+        if !end.has_contract() {
+            return end.take(rt);
+        }
+        let message = self.lanes.take(rt, end.spot())?;
+        end.was_taken(message.no);
+        Ok(message)
     }
 
     /// Shuts this end: no later put toward it succeeds.
     pub fn shut<R: Wait>(&self, rt: &R, end: &mut Endpoint)
-        requires { end.old.has_contract ≡ false }
         ensures { ShutsAs end.old end.new }
     {
-        end.shut();
-        self.tell(rt, end.spot());
+        let spot = end.spot();
+        if end.has_contract() {
+            self.lanes.shut(rt, spot);
+            end.was_shut();
+        } else {
+            end.shut();
+        }
+        self.tell(rt, spot);
     }
 
     // The channel's turn rises by one, and its waiters look again.
@@ -166,11 +205,20 @@ impl Channels {
     /// Returns where the channel's turn isn't `seen`, and at once where it is 2^64 - 1.
     pub fn wait<R: Wait>(&self, rt: &R, spot: Spot, seen: u64)
         requires { spot.channel < 64 }
+        ensures { (found : List ℕ) × HasTurned found spot.channel seen }
     {
         let channel = spot.channel as usize;
         let desk = self.desk.lock(rt);
-        self.turned[channel].wait_while(rt, desk, |desk| {
-            desk.turns[channel] == seen && seen != u64::MAX
-        });
+        let _desk = self.turned[channel].wait_while(
+            rt,
+            desk,
+            |desk| -> bool
+                requires { channel < 64 }
+                ensures { result ≡ is_waited_for desk.old.turns channel seen }
+            { desk.turns[channel] == seen && seen != u64::MAX },
+        );
     }
 }
+
+#[cfg(test)]
+mod tests;

@@ -1,11 +1,11 @@
 //! One end of a channel.
-ghost use Rattle.std.specs.Prelude.{◌≡◌, ℕ, ◌+◌, ◌*◌, ◌<◌, ◌≤◌, suc, true, false, List, [], OnErr, MatchBool};
+ghost use Rattle.std.specs.Prelude.{◌≡◌, ℕ, ◌+◌, ◌*◌, ◌<◌, ◌≤◌, suc, true, false, List, [], OnErr, IfOk, MatchBool};
 ghost use Rattle.crossbeam_queue.specs.Fifo.{Learns, Held};
 ghost use Rattle.xh_channel.specs.Boxes.{incoming_role};
 ghost use Rattle.xh_channel.specs.Directions.{Ordered, WaitsAfter};
-ghost use Rattle.xh_channel.specs.Ends.{Takes, no_counts, last_number};
+ghost use Rattle.xh_channel.specs.Ends.{Takes, last_number, no_counts, now_shut};
 ghost use Rattle.xh_channel.specs.Numbers.{message};
-ghost use Rattle.xh_channel.specs.Queues.{ComesNext, SawShut, SawOpen, IsSameBut, IsUnsent, Unpushed, PutsAs, TakesAs, ShutsAs};
+ghost use Rattle.xh_channel.specs.Queues.{ComesNext, SawShut, SawOpen, IsSameBut, IsUnsent, Unpushed, PutsAs, TakesAs, ShutsAs, told_put, told_taken};
 
 use crate::boxes::{self, Inbox, Outbox};
 use crate::direction::{Receiver, Role, Sender};
@@ -181,6 +181,7 @@ impl Endpoint {
     ) -> Result<u64, Unsent>
         requires { self.old.has_contract ≡ false }
         ensures put { PutsAs self.old self.new tag blocks result }
+        ensures last { IfOk result (λ no. no ≤ last_number) }
         ensures refused { OnErr result (IsSameBut self.old.sent self.old.got self.old self.new × (self.new.pushed ≡ self.old.pushed)) }
     {
         if self.sign.peer_is_shut() {
@@ -205,11 +206,11 @@ impl Endpoint {
         requires { (self.old.has_contract ≡ false) × (0 < self.old.counts.put) × (self.old.peer_shut ≡ false) }
         ensures { MatchBool result (self.new ≡ self.old) (IsUnsent self.old self.new) }
     {
-        if self.sign.peer_is_shut() {
+        let stays = !self.sign.peer_is_shut();
+        if !stays {
             self.put -= 1;
-            return false;
         }
-        true
+        stays
     }
 
     // Looks at the peer's word, pushes, and looks again.
@@ -221,6 +222,7 @@ impl Endpoint {
     ) -> Result<u64, Unsent>
         requires { self.old.has_contract ≡ false }
         ensures put { PutsAs self.old self.new tag blocks result }
+        ensures last { IfOk result (λ no. no ≤ last_number) }
         ensures refused { OnErr result (Unpushed self.old self.new (message (suc self.old.counts.put) tag blocks)) }
     {
         let back = copy_of(&blocks);
@@ -267,4 +269,37 @@ impl Endpoint {
     {
         self.sign.shut();
     }
+
+    // What the end was told of a put.
+    pub(crate) fn was_put(&mut self, no: u64)
+        requires { self.old.has_contract ≡ true }
+        ensures { self.new ≡ record self.old { counts = told_put no self.old.counts } }
+    {
+        if let Some(told) = &mut self.told {
+            told.put = no;
+        }
+    }
+
+    // What the end was told of a take.
+    pub(crate) fn was_taken(&mut self, no: u64)
+        requires { self.old.has_contract ≡ true }
+        ensures { self.new ≡ record self.old { counts = told_taken no self.old.counts } }
+    {
+        if let Some(told) = &mut self.told {
+            told.taken = no;
+        }
+    }
+
+    // What the end was told of its shutting.
+    pub(crate) fn was_shut(&mut self)
+        requires { self.old.has_contract ≡ true }
+        ensures { self.new ≡ record self.old { counts = now_shut self.old.counts } }
+    {
+        if let Some(told) = &mut self.told {
+            told.shut = true;
+        }
+    }
 }
+
+#[cfg(test)]
+mod tests;

@@ -7,6 +7,7 @@ mod desk;
 mod direction;
 mod endpoint;
 mod lane;
+mod lanes;
 mod line;
 mod line_end;
 mod message;
