@@ -118,7 +118,8 @@ impl Channels {
         ensures err { IfErr result (λ r. (r ≡ NoChannel) × ((found : List (Option Pair)) × NoneFree self.now.depth found)) }
     {
         let (low, high) = self.open(rt)?;
-        self.lanes.open(rt, low.spot().channel, contract, self.depth);
+        self.lanes
+            .open(rt, low.spot().channel, contract, self.depth);
         Ok((low.with_contract(), high.with_contract()))
     }
 

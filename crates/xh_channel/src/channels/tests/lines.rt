@@ -1,9 +1,7 @@
 use super::Channels;
-use crate::endpoint::Endpoint;
+use super::answers::Answer::{Refused as No, Sent, Taken};
+use super::answers::{put, take};
 use crate::refused::Refused;
-use crate::unsent::Unsent;
-use arrayvec::ArrayVec;
-use std::sync::Wait;
 use std::test::Fail;
 use xh_core::{Contract, Row};
 
@@ -24,21 +22,6 @@ fn request_and_reply() -> Option<Contract> {
     Contract::new(&[request, reply]).ok()
 }
 
-// A put's answer as a number: the message's, or 0 and the refusal's.
-fn sent<R: Wait>(rt: &R, channels: &Channels, end: &mut Endpoint, tag: u16) -> (u64, u8) {
-    match channels.put(rt, end, tag, ArrayVec::new()) {
-        Ok(no) => (no, 0),
-        Err(unsent) => (0, xh_core::Refused::from(unsent).number()),
-    }
-}
-
-fn taken<R: Wait>(rt: &R, channels: &Channels, end: &mut Endpoint) -> (u64, u8) {
-    match channels.take(rt, end) {
-        Ok(message) => (message.no, 0),
-        Err(refused) => (0, xh_core::Refused::from(refused).number()),
-    }
-}
-
 #[test]
 fn contract_refusals(rt: HostRuntime) -> Result<(), Fail> {
     let channels = Channels::new(rt.alloc(), 4)?;
@@ -47,22 +30,22 @@ fn contract_refusals(rt: HostRuntime) -> Result<(), Fail> {
     };
     let (mut a, mut b) = channels.open_with(&rt, contract)?;
     assert!(rt; a.has_contract() && b.has_contract());
-    assert_eq!(rt; sent(&rt, &channels, &mut a, 2), (0, 22));
-    assert_eq!(rt; sent(&rt, &channels, &mut b, 2), (0, 22));
-    assert_eq!(rt; sent(&rt, &channels, &mut a, 1), (1, 0));
-    assert_eq!(rt; sent(&rt, &channels, &mut a, 1), (0, 22));
-    assert_eq!(rt; sent(&rt, &channels, &mut b, 1), (0, 22));
-    assert_eq!(rt; taken(&rt, &channels, &mut b), (1, 0));
-    assert_eq!(rt; sent(&rt, &channels, &mut b, 2), (1, 0));
+    assert_eq!(rt; put(&rt, &channels, &mut a, 2, 7), No(22, Some(7)));
+    assert_eq!(rt; put(&rt, &channels, &mut b, 2, 7), No(22, Some(7)));
+    assert_eq!(rt; put(&rt, &channels, &mut a, 1, 7), Sent(1));
+    assert_eq!(rt; put(&rt, &channels, &mut a, 1, 7), No(22, Some(7)));
+    assert_eq!(rt; put(&rt, &channels, &mut b, 1, 7), No(22, Some(7)));
+    assert_eq!(rt; take(&rt, &channels, &mut b), Taken(1, 1, Some(7)));
+    assert_eq!(rt; put(&rt, &channels, &mut b, 2, 7), Sent(1));
     assert_eq!(rt; channels.turn(&rt, a.spot()), 2);
-    assert_eq!(rt; taken(&rt, &channels, &mut a), (1, 0));
-    assert_eq!(rt; sent(&rt, &channels, &mut a, 1), (2, 0));
+    assert_eq!(rt; take(&rt, &channels, &mut a), Taken(1, 2, Some(7)));
+    assert_eq!(rt; put(&rt, &channels, &mut a, 1, 7), Sent(2));
     channels.shut(&rt, &mut a);
     assert_eq!(rt; channels.turn(&rt, a.spot()), 4);
-    assert_eq!(rt; taken(&rt, &channels, &mut b), (2, 0));
-    assert_eq!(rt; taken(&rt, &channels, &mut b), (0, 15));
-    assert_eq!(rt; sent(&rt, &channels, &mut b, 2), (0, 15));
-    assert_eq!(rt; sent(&rt, &channels, &mut b, 1), (0, 22));
+    assert_eq!(rt; take(&rt, &channels, &mut b), Taken(2, 1, Some(7)));
+    assert_eq!(rt; take(&rt, &channels, &mut b), No(15, None));
+    assert_eq!(rt; put(&rt, &channels, &mut b, 2, 7), No(15, Some(7)));
+    assert_eq!(rt; put(&rt, &channels, &mut b, 1, 7), No(22, Some(7)));
     Ok(())
 }
 
@@ -78,8 +61,8 @@ fn a_cancelled_contract_is_gone(rt: HostRuntime) -> Result<(), Fail> {
     let (mut low, mut high) = channels.open(&rt)?;
     assert_eq!(rt; low.spot().channel, 0);
     assert!(rt; !low.has_contract() && !high.has_contract());
-    assert_eq!(rt; sent(&rt, &channels, &mut low, 9), (1, 0));
-    assert_eq!(rt; taken(&rt, &channels, &mut high), (1, 0));
+    assert_eq!(rt; put(&rt, &channels, &mut low, 9, 7), Sent(1));
+    assert_eq!(rt; take(&rt, &channels, &mut high), Taken(1, 9, Some(7)));
     Ok(())
 }
 

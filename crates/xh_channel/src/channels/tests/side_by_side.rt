@@ -2,24 +2,12 @@
 ghost use Rattle.std.specs.Prelude.{◌<◌};
 
 use super::Channels;
+use super::answers::{Answer, of_put, of_take, one_block, put, take};
 use crate::endpoint::Endpoint;
 use crate::line::Line;
-use crate::message::Message;
-use crate::refused::Refused;
-use crate::unsent::Unsent;
-use arrayvec::ArrayVec;
 use std::sync::Wait;
 use std::test::Fail;
 use xh_core::{Contract, Row};
-
-/// What both answer: the number of a message, its tag and its block, or the number of a refusal.
-#[derive(Clone, Copy, Debug, PartialEq)]
-enum Answer {
-    Sent(u64),
-    Taken(u64, u16, u16),
-    Refused(u8),
-    Done,
-}
 
 /// One call: a put by the side that may send, a take by either side, a shut of either side.
 #[derive(Clone, Copy, Debug)]
@@ -29,29 +17,6 @@ enum Call {
     TakeBySender,
     ShutSender,
     ShutReceiver,
-}
-
-fn of_put(answered: Result<u64, Unsent>) -> Answer {
-    match answered {
-        Ok(no) => Answer::Sent(no),
-        Err(unsent) => Answer::Refused(xh_core::Refused::from(unsent).number()),
-    }
-}
-
-fn of_take(answered: Result<Message, Refused>) -> Answer {
-    match answered {
-        Ok(message) => {
-            let block = message.blocks.first().copied().unwrap_or(0);
-            Answer::Taken(message.no, message.tag, block)
-        }
-        Err(refused) => Answer::Refused(xh_core::Refused::from(refused).number()),
-    }
-}
-
-fn one_block(block: u16) -> ArrayVec<u16, 8> {
-    let mut blocks = ArrayVec::new();
-    blocks.push(block);
-    blocks
 }
 
 // The contract under which one side alone sends, always with tag 1.
@@ -72,36 +37,36 @@ fn by_queue<R: Wait>(
     receiver: &mut Endpoint,
     call: Call,
     block: u16,
-) -> Answer {
+) -> Option<Answer> {
     match call {
-        Call::Put => of_put(channels.put(rt, sender, 1, one_block(block))),
-        Call::Take => of_take(channels.take(rt, receiver)),
-        Call::TakeBySender => of_take(channels.take(rt, sender)),
+        Call::Put => Some(put(rt, channels, sender, 1, block)),
+        Call::Take => Some(take(rt, channels, receiver)),
+        Call::TakeBySender => Some(take(rt, channels, sender)),
         Call::ShutSender => {
             channels.shut(rt, sender);
-            Answer::Done
+            None
         }
         Call::ShutReceiver => {
             channels.shut(rt, receiver);
-            Answer::Done
+            None
         }
     }
 }
 
-fn by_line(line: &mut Line, side: u8, call: Call, block: u16) -> Answer
+fn by_line(line: &mut Line, side: u8, call: Call, block: u16) -> Option<Answer>
     requires { side < 2 }
 {
     match call {
-        Call::Put => of_put(line.put(side, 1, one_block(block))),
-        Call::Take => of_take(line.take(1 - side)),
-        Call::TakeBySender => of_take(line.take(side)),
+        Call::Put => Some(of_put(line.put(side, 1, one_block(block)))),
+        Call::Take => Some(of_take(line.take(1 - side))),
+        Call::TakeBySender => Some(of_take(line.take(side))),
         Call::ShutSender => {
             line.shut(side);
-            Answer::Done
+            None
         }
         Call::ShutReceiver => {
             line.shut(1 - side);
-            Answer::Done
+            None
         }
     }
 }
@@ -144,7 +109,7 @@ fn queues_and_lines_answer_alike(rt: HostRuntime) -> Result<(), Fail> {
             let queued = by_queue(&rt, &channels, &mut sender, &mut receiver, call, block);
             let lined = by_line(&mut line, side, call, block);
             assert_eq!(rt; queued, lined, "run {run}, call {block}: {call:?}");
-            if matches!(queued, Answer::Taken(..)) {
+            if matches!(queued, Some(Answer::Taken(..))) {
                 taken = taken.wrapping_add(1);
             }
         }

@@ -125,7 +125,10 @@ fn a_put_races_a_shut(rt: HostRuntime) -> Result<(), Fail> {
             };
             assert!(rt; taken >= sent, "round {round}, channel {channel}");
             let rest = drain(&rt, &channels, &mut high, taken);
-            assert!(rt; rest.is_some_and(|all| all <= sent.wrapping_add(1)), "round {round}, channel {channel}");
+            assert!(rt;
+                rest.is_some_and(|all| all <= sent.wrapping_add(1)),
+                "round {round}, channel {channel}"
+            );
         }
     }
     Ok(())
