@@ -1,0 +1,6 @@
+use Rattle.std.proofs.Common.{◌≡◌, drop}
+use Rattle.xh_model.specs.Rows.{allowed}
+use Rattle.xh_core.proofs.contract.Contract.allows.Given as goal
+
+abbrev pub invariant-loop-row : goal.invariant-loop-row
+invariant-loop-row l = allowed (drop l.row-index l.self) l.state l.tag l.side ≡ allowed l.self l.state l.tag l.side

@@ -1,0 +1,7 @@
+use Rattle.std.proofs.Common.{subst}
+use Rattle.xh_core.specs.Talks.{AreInStep}
+use Rattle.xh_core.proofs.Orderly.{orderly}
+use Rattle.xh_core.proofs.talk.Talk.run.Goals as goal
+
+pub returns-clause-orderly : goal.returns-clause-orderly
+returns-clause-orderly c = orderly c.loop-turn.self.rows c.loop-turn.self.left c.loop-turn.self.right (subst (λ t. AreInStep t.rows 0 t.left t.right) c.self.view_is c.self.invariant.1)

@@ -1,0 +1,7 @@
+use Rattle.std.proofs.Common.{◌≡◌, drop}
+use Rattle.xh_core.specs.Talks.{after_all}
+use Rattle.xh_core.proofs.talk.Talk.run.Given as goal
+
+-- what is left makes of the talk now what all makes of the first
+abbrev pub invariant-loop-turn : goal.invariant-loop-turn
+invariant-loop-turn l = after_all (drop l.turn-index l.turns) l.self ≡ after_all l.turns l.fn.self

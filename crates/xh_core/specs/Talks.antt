@@ -1,0 +1,97 @@
+-- Two ends that talk under a contract: which turn can be done, and what it leaves.
+use Rattle.std.specs.Prelude.{◌≡◌, ◌⊎◌, ℕ, zero, suc, ◌-◌, ◌<◌, ◌&&◌, Bool, cond, List, [], ◌∷◌, ◌++◌, drop, Some, is_some, unwrap_or, length, nat_lt, slice_get, slice_index_or}
+use Rattle.xh_model.specs.declared.row.Row.{Row}
+use Rattle.xh_model.specs.declared.event.Outcome.{Outcome}
+use Rattle.xh_model.specs.declared.event.Outcome.TheVariants.{Done, Refused}
+use Rattle.xh_model.specs.Rows.{allowed, row_at, InStep, IsFrontAllowed}
+use Rattle.xh_core.specs.declared.talk_end.TalkEnd.{TalkEnd}
+use Rattle.xh_core.specs.declared.turn.Turn.{Turn}
+use Rattle.xh_core.specs.declared.turn.Turn.TheVariants.{Put, Take}
+
+-- the contract, the end 0 on the left and the end 1 on the right
+pub record Talked : Type 0 where
+  pub rows : List Row
+  pub left : TalkEnd
+  pub right : TalkEnd
+
+-- the end of a side
+abbrev pub end_of : Talked → ℕ → TalkEnd
+end_of talk zero = talk.left
+end_of talk (suc _) = talk.right
+
+-- the tags on their way to this end, the front one first
+abbrev pub waiting : TalkEnd → List ℕ
+waiting end = end.waiting.items
+
+abbrev pub end_with : ℕ → List ℕ → TalkEnd
+end_with at tags = record { state = at; waiting = record { items = tags } }
+
+-- a talk by the end of this side and the other one, its peer
+abbrev pub talk_by : List Row → ℕ → TalkEnd → TalkEnd → Talked
+talk_by rows zero own peer = record { rows = rows; left = own; right = peer }
+talk_by rows (suc _) own peer = record { rows = rows; left = peer; right = own }
+
+-- both ends are in the first row's state, and nothing waits
+abbrev pub new_talk : List Row → Talked
+new_talk rows = record { rows = rows; left = end_with (row_at rows 0).state []; right = end_with (row_at rows 0).state [] }
+
+-- the state after a message that this side puts; where none is allowed it stays
+abbrev pub moved : List Row → ℕ → ℕ → ℕ → ℕ
+moved rows state tag side = unwrap_or (allowed rows state tag side) state
+
+-- an end puts what its state allows, where fewer than 16 wait for its peer
+abbrev pub can_put : List Row → ℕ → ℕ → TalkEnd → TalkEnd → Bool
+can_put rows side tag own peer = is_some (allowed rows own.state tag side) && nat_lt (length (waiting peer)) 16
+
+-- an end takes where something waits for it
+abbrev pub can_take : TalkEnd → Bool
+can_take own = nat_lt 0 (length (waiting own))
+
+-- what a put leaves: the putting end moves, and the tag is at the back toward its peer
+abbrev pub after_put : List Row → ℕ → ℕ → TalkEnd → TalkEnd
+after_put rows side tag own = end_with (moved rows own.state tag side) (waiting own)
+
+abbrev pub with_tag : ℕ → TalkEnd → TalkEnd
+with_tag tag peer = end_with peer.state (waiting peer ++ tag ∷ [])
+
+-- what a take leaves: the taking end moves by the tag at the front, which is gone
+abbrev pub after_take : List Row → ℕ → TalkEnd → TalkEnd
+after_take rows side own = end_with (moved rows own.state (slice_index_or (waiting own) 0 0) (1 - side)) (drop 1 (waiting own))
+
+-- the condition of a turn
+abbrev pub can : Turn → Talked → Bool
+can (Put side tag) t = can_put t.rows side tag (end_of t side) (end_of t (1 - side))
+can (Take side) t = can_take (end_of t side)
+
+-- the change of a turn
+abbrev pub change : Turn → Talked → Talked
+change (Put side tag) t = talk_by t.rows side (after_put t.rows side tag (end_of t side)) (with_tag tag (end_of t (1 - side)))
+change (Take side) t = talk_by t.rows side (after_take t.rows side (end_of t side)) (end_of t (1 - side))
+
+-- a turn is done exactly where its condition holds; else nothing changes
+unfoldable pub after : Turn → Talked → Talked
+after turn t = cond (can turn t) (change turn t) t
+
+unfoldable pub outcome : Turn → Talked → Outcome
+outcome turn t = cond (can turn t) Done Refused
+
+-- the turns in order
+abbrev pub after_all : List Turn → Talked → Talked
+after_all [] t = t
+after_all (turn ∷ turns) t = after_all turns (after turn t)
+
+-- whose turn it is
+abbrev pub side_of : Turn → ℕ
+side_of (Put side tag) = side
+side_of (Take side) = side
+
+-- each turn is of side 0 or 1
+abbrev pub AreSided : List Turn → Type 0
+AreSided turns = (i : ℕ) (turn : Turn) → slice_get turns i ≡ Some turn → side_of turn < 2
+
+abbrev pub AreInStep : List Row → ℕ → TalkEnd → TalkEnd → Type 0
+AreInStep rows side own peer = InStep rows side own.state (waiting own) peer.state (waiting peer)
+
+-- each front message is one that its receiving end allows, and messages wait in one direction at most
+abbrev pub IsOrderly : Talked → Type 0
+IsOrderly t = IsFrontAllowed t.rows 0 t.left.state (waiting t.left) × IsFrontAllowed t.rows 1 t.right.state (waiting t.right) × ((waiting t.left ≡ []) ⊎ (waiting t.right ≡ []))

@@ -1,0 +1,9 @@
+pub mod NameLemmas
+pub mod Numbers
+pub mod WordLemmas
+pub mod Readings
+pub mod TableLemmas
+pub mod Writings
+pub mod SpellingWords
+pub mod Spellings
+pub mod SpellingLines

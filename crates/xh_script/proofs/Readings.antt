@@ -1,0 +1,44 @@
+-- Lemmas on readings that may stop.
+use Rattle.std.proofs.Common.{◌≡◌, ◌≤◌, ◌<◌, ◌+◌, ◌==◌, suc, ℕ, List, [], Result, Ok, Err, refl, ap, ◌∙◌, length, drop, map, sym, Bor, get_or, arith, add-one, drop-cons, le-ltb}
+use Rattle.std.specs.List.{slice_split}
+use Rattle.std.proofs.Math.ListN.{length-map}
+use Rattle.std.proofs.lemmas.List.Splits.{length-slice_split}
+use Rattle.std.proofs.lemmas.List.Sums.{count_by-le-length}
+use Rattle.xh_script.specs.Steps.{◌>>=◌, Stops}
+use Rattle.xh_script.specs.SoFar.{SoFar}
+use Rattle.xh_script.specs.Scripts.{Fails, at_line, after_line, after_lines, nothing_read, told_so_far, script_of}
+use Rattle.xh_script.specs.declared.fault.Kind.{Kind}
+use Rattle.xh_script.specs.declared.fault.Fault.{Fault}
+use Rattle.xh_script.specs.declared.fault.Fault.TheVariants.{Script, Memory, Read, Write, Gate, BadConfig}
+use Rattle.xh_script.specs.declared.stop.Stop.{Stop}
+use Rattle.xh_script.specs.declared.stop.Stop.TheVariants.{Bad, Memory as StopMemory}
+
+-- a stop is that of all that follows
+pub stops_then : {A B : Type 0} (stop : Stop) (r : Result A Kind) (f : A → Result B Kind) → Stops stop r → Stops stop (r >>= f)
+stops_then StopMemory r f h = tt
+stops_then (Bad kind) r f h = ap (λ x. x >>= f) h
+
+-- a failure is that of all that follows
+pub fails_then : {A B : Type 0} (e : Fault) (r : Result A Fault) (f : A → Result B Fault) → Fails e r → Fails e (r >>= f)
+fails_then Memory r f h = tt
+fails_then (Script n k) r f h = ap (λ x. x >>= f) h
+fails_then Read r f h = h
+fails_then Write r f h = h
+fails_then Gate r f h = h
+fails_then BadConfig r f h = h
+
+-- one more line was read
+pub goes_on : (lines : List (List ℕ)) (i : ℕ) (before now : SoFar) → i < length lines → at_line (i + 1) (after_line before (i + 1) (get_or lines i [])) ≡ Ok now
+    → after_lines before (i + 1) (drop i lines) ≡ after_lines now (i + 1 + 1) (drop (i + 1) lines)
+goes_on lines i before now below h = rw (drop-cons lines i [], h, add-one i) refl
+
+-- a line was not
+pub stops_at : (e : Fault) (lines : List (List ℕ)) (i : ℕ) (before : SoFar) → i < length lines → Fails e (at_line (i + 1) (after_line before (i + 1) (get_or lines i [])))
+    → Fails e (after_lines before (i + 1) (drop i lines))
+stops_at e lines i before below h = rw (drop-cons lines i []) (fails_then e _ (λ now. after_lines now (i + 1 + 1) (drop (suc i) lines)) h)
+
+pub lines_fit : (text : List ℕ) → length text ≤ 1048576 → length (slice_split (λ b. b == 10) text) ≤ 1048577
+lines_fit text short = omega (arith, length-slice_split (λ b. b == 10) text, count_by-le-length (λ b. b == 10) text)
+
+pub same_length : (items : List (Bor (List ℕ))) (lines : List (List ℕ)) → map (λ w. w.now) items ≡ lines → length items ≡ length lines
+same_length items lines e = simp length-map at (ap length e)

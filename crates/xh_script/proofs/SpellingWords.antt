@@ -1,0 +1,136 @@
+-- A word that is read as a name, a number, bytes or a row is spelled so.
+use Rattle.std.proofs.Common.{◌≡◌, ◌<◌, ◌≤◌, ◌+◌, ◌-◌, ◌*◌, ◌/◌, ◌%◌, ◌==◌, ◌&&◌, ◌||◌, ◌⊎◌, inl, inr, ℕ, Bool, true, false, List, [], ◌∷◌, length, map, Option, Some, None, Result, Ok, Err, refl, sym, ap, ◌∙◌, subst, arith, nat_le, nat_lt, if◌then◌else◌}
+use Rattle.std.specs.List.{list_all, slice_split, join_with_byte}
+use Rattle.std.specs.Fmt.{decimal}
+use Rattle.std.proofs.lemmas.Bool.{leb-true, leb-false, lt-ltb, le-ltb, eqb-true, and_parts, cases_Bool}
+use Rattle.std.proofs.lemmas.List.Splits.{join_with_byte-slice_split}
+use Rattle.arrayvec.specs.ArrayVec.{ArrayVec}
+use Rattle.xh_model.specs.declared.row.Row.{Row}
+use Rattle.xh_script.specs.Words.{is_name, number_of, is_digit, is_hex_letter, is_hex_digit, is_hex, hex_value, hex_bytes}
+use Rattle.xh_script.specs.Steps.{◌>>=◌}
+use Rattle.xh_script.specs.Forms.{name_at, names_at, number_or, number_at, number_between, bytes_at, optional_name, row_said, row_of, row_at, rows_at}
+use Rattle.xh_script.specs.Texts.{hex_digit, hex_text}
+use Rattle.xh_script.specs.Spelling.{row_text, contract_words}
+use Rattle.xh_script.proofs.Numbers.{is_decimal}
+use Rattle.xh_script.specs.declared.fault.Kind.{Kind}
+use Rattle.xh_script.specs.declared.fault.Kind.TheVariants.{BadWord, BadNumber, BadCount, BadHex}
+
+pub bind_ok : {A B : Type 0} (r : Result A Kind) (f : A → Result B Kind) (y : B) → (r >>= f) ≡ Ok y → (x : A) × (r ≡ Ok x) × (f x ≡ Ok y)
+bind_ok (Ok x) f y h = (x, refl, h)
+bind_ok (Err e) f y h = absurd (cc)
+
+pub same_ok : {A : Type 0} (x y : A) → (let r : Result A Kind = Ok x in r ≡ Ok y) → x ≡ y
+same_ok x y h = cc
+
+pub guarded : {A : Type 0} (b : Bool) (x : Result A Kind) (e : Kind) (y : A) → (if b then x else Err e) ≡ Ok y → (b ≡ true) × (x ≡ Ok y)
+guarded true x e y h = (refl, h)
+guarded false x e y h = absurd (cc)
+
+pub name_ok : (w p : List ℕ) → name_at w ≡ Ok p → w ≡ p
+unfolding name_at
+name_ok w p h = same_ok w p (guarded (is_name w) (Ok w) BadWord p h).1
+
+pub names_ok : (ws : List (List ℕ)) (xs : ArrayVec (List ℕ)) → names_at ws ≡ Ok xs → ws ≡ xs.items
+unfolding names_at
+names_ok ws xs h = ap (λ v. v.items) (same_ok (record { items = ws }) xs (guarded (list_all is_name ws) (Ok (record { items = ws })) BadWord xs h).1)
+
+number_by : (o : Option ℕ) (n : ℕ) → number_or o ≡ Ok n → o ≡ Some n
+number_by (Some m) n h = ap Some (same_ok m n h)
+number_by None n h = absurd (cc)
+
+pub number_ok : (w : List ℕ) (n : ℕ) → number_at w ≡ Ok n → w ≡ decimal n
+unfolding number_at
+number_ok w n h = is_decimal w n (number_by (number_of w) n h)
+
+pub between_ok : (low high : ℕ) (w : List ℕ) (n : ℕ) → number_between low high w ≡ Ok n → w ≡ decimal n
+unfolding number_between
+between_ok low high w n h =
+    let m = bind_ok (number_at w) _ n h in
+    let g = guarded (nat_le low m.0 && nat_le m.0 high) (Ok m.0) BadNumber n m.2 in
+    number_ok w m.0 m.1 ∙ ap decimal (same_ok m.0 n g.1)
+
+pub optional_ok : (o : Option (List ℕ)) (k : Option (List ℕ)) → optional_name o ≡ Ok k → contract_words o ≡ contract_words k
+unfolding optional_name
+optional_ok None k h = ap contract_words (same_ok None k h)
+optional_ok (Some w) k h =
+    let n = bind_ok (name_at w) _ k h in
+    ap (λ x. x ∷ []) (name_ok w n.0 n.1) ∙ ap contract_words (same_ok (Some n.0) k n.2)
+
+value_small : (b : ℕ) → hex_value b ≤ 15
+value_small b = elim (cases_Bool (is_digit b)) [
+  | inl d ↦ let t = and_parts _ _ d in rw d (omega (arith, leb-true b 57 t.1))
+  | inr d ↦ elim (cases_Bool (is_hex_letter b)) [
+    | inl l ↦ let t = and_parts _ _ l in rw (d, l) (omega (arith, leb-true b 102 t.1))
+    | inr l ↦ rw (d, l) (omega arith)
+  ]
+]
+
+other : (a b : Bool) → (a || b) ≡ true → a ≡ false → b ≡ true
+other true b h e = absurd (cc)
+other false b h e = h
+
+digit_back : (b : ℕ) → is_hex_digit b ≡ true → hex_digit (hex_value b) ≡ b
+digit_back b h = elim (cases_Bool (is_digit b)) [
+  | inl d ↦
+      let t = and_parts _ _ d in
+      let low : 48 ≤ b = leb-true 48 b t.0 in
+      let high : b ≤ 57 = leb-true b 57 t.1 in
+      rw (d, lt-ltb (b - 48) 10 (omega arith)) (omega arith)
+  | inr d ↦
+      let l = other (is_digit b) (is_hex_letter b) h d in
+      let t = and_parts _ _ l in
+      let low : 97 ≤ b = leb-true 97 b t.0 in
+      rw (d, l, le-ltb (b - 87) 10 (omega arith)) (omega arith)
+]
+
+hex_back : (word : List ℕ) (n : ℕ) → list_all is_hex_digit word ≡ true → length word ≡ 2 * n → hex_text (hex_bytes word) ≡ word
+hex_back [] n h e = refl
+hex_back (a ∷ []) n h e = absurd (omega arith)
+hex_back (a ∷ b ∷ more) n h e =
+    let t = and_parts _ _ h in
+    let u = and_parts _ _ t.1 in
+    let small = value_small b in
+    let high : (16 * hex_value a + hex_value b) / 16 ≡ hex_value a = omega arith in
+    let low : (16 * hex_value a + hex_value b) % 16 ≡ hex_value b = omega arith in
+    let rest = hex_back more (n - 1) u.1 (omega arith) in
+    rw (high, low, digit_back a t.0, digit_back b u.0, rest) refl
+
+pub bytes_ok : (w : List ℕ) (bytes : ArrayVec ℕ) → bytes_at w ≡ Ok bytes → w ≡ hex_text bytes.items
+unfolding bytes_at
+bytes_ok w bytes h =
+    let g = guarded (is_hex w) (Ok (record { items = hex_bytes w })) BadHex bytes h in
+    let t = and_parts _ _ g.0 in
+    let u = and_parts _ _ t.0 in
+    let even : length w % 2 ≡ 0 = eqb-true (length w % 2) 0 u.1 in
+    sym (hex_back w (length w / 2) t.1 (omega arith)) ∙ ap (λ v. hex_text v.items) (same_ok (record { items = hex_bytes w }) bytes g.1)
+
+row_said_ok : (s t d n : List ℕ) (r : Row) → row_said s t d n ≡ Ok r → s ∷ t ∷ d ∷ n ∷ [] ≡ decimal r.state ∷ decimal r.tag ∷ decimal r.side ∷ decimal r.next ∷ []
+unfolding row_said
+row_said_ok s t d n r h =
+    let a = bind_ok (number_between 0 15 s) _ r h in
+    let b = bind_ok (number_between 0 65535 t) _ r a.2 in
+    let c = bind_ok (number_between 0 1 d) _ r b.2 in
+    let e = bind_ok (number_between 0 15 n) _ r c.2 in
+    let words : s ∷ t ∷ d ∷ n ∷ [] ≡ decimal a.0 ∷ decimal b.0 ∷ decimal c.0 ∷ decimal e.0 ∷ [] =
+    cc (between_ok 0 15 s a.0 a.1, between_ok 0 65535 t b.0 b.1, between_ok 0 1 d c.0 c.1, between_ok 0 15 n e.0 e.1) in
+    words ∙ ap (λ q. decimal q.state ∷ decimal q.tag ∷ decimal q.side ∷ decimal q.next ∷ []) (same_ok (record { state = a.0; tag = b.0; side = c.0; next = e.0 }) r e.2)
+
+row_of_ok : (pieces : List (List ℕ)) (r : Row) → row_of pieces ≡ Ok r → pieces ≡ decimal r.state ∷ decimal r.tag ∷ decimal r.side ∷ decimal r.next ∷ []
+unfolding row_of
+row_of_ok [] r h = absurd (cc)
+row_of_ok (s ∷ []) r h = absurd (cc)
+row_of_ok (s ∷ t ∷ []) r h = absurd (cc)
+row_of_ok (s ∷ t ∷ d ∷ []) r h = absurd (cc)
+row_of_ok (s ∷ t ∷ d ∷ n ∷ []) r h = row_said_ok s t d n r h
+row_of_ok (s ∷ t ∷ d ∷ n ∷ x ∷ more) r h = absurd (cc)
+
+row_ok : (word : List ℕ) (r : Row) → row_at word ≡ Ok r → word ≡ row_text r
+row_ok word r h = sym (join_with_byte-slice_split 58 word) ∙ ap (join_with_byte 58) (row_of_ok (slice_split (λ b. b == 58) word) r h)
+
+pub rows_ok : (words : List (List ℕ)) (rows : List Row) → rows_at words ≡ Ok rows → words ≡ map row_text rows
+rows_ok [] rows h = ap (map row_text) (same_ok [] rows h)
+rows_ok (word ∷ words) rows h =
+    let r = bind_ok (row_at word) _ rows h in
+    let rs = bind_ok (rows_at words) _ rows r.2 in
+    let both : word ∷ words ≡ row_text r.0 ∷ map row_text rs.0 = cc (row_ok word r.0 r.1, rows_ok words rs.0 rs.1) in
+    both ∙ ap (map row_text) (same_ok (r.0 ∷ rs.0) rows rs.2)

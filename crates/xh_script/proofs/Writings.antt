@@ -1,0 +1,76 @@
+-- Lemmas on what is written in several calls.
+use Rattle.std.proofs.Common.{◌≡◌, ℕ, suc, Bool, true, List, [], ◌∷◌, ◌++◌, ◌/◌, ◌%◌, codes, Option, Some, None, Result, Ok, Err, refl, ap, sym, ◌∙◌, append_assoc, append-nil, map, drop, get_or, length, ◌<◌, ◌+◌, add-one, drop-cons, Bor}
+use Rattle.std.specs.List.{concat}
+use Rattle.xh_script.specs.Texts.{arena_text, arena_texts, place_text, place_texts, length_text, lengths_text, reply_text, answer_texts, hex_digit, hex_text}
+use Rattle.xh_script.specs.declared.reply.Answered.{Answered}
+use Rattle.xh_core.specs.declared.ledger.ArenaLine.{ArenaLine}
+use Rattle.xh_core.specs.declared.ledger.PlaceLine.{PlaceLine}
+use Rattle.std.specs.Io.KnownBytes.{Appends}
+use Rattle.xh_script.specs.Watching.{has_failed, inner_of, Writes, WritesFront, WritesOrFails}
+use Rattle.xh_script.specs.declared.watch.Watched.{Watched}
+use Rattle.xh_script.specs.declared.fault.Fault.{Fault}
+use Rattle.xh_script.specs.declared.fault.Fault.TheVariants.{Write}
+
+pub Appends-none : (a : Option (List ℕ)) → Appends a a []
+Appends-none None = tt
+Appends-none (Some x) = sym (append-nil x)
+
+pub Appends-then : (a b c : Option (List ℕ)) (x y : List ℕ) → Appends a b x → Appends b c y → Appends a c (x ++ y)
+Appends-then None b c x y p q = tt
+Appends-then (Some k) None c x y p q = absurd p
+Appends-then (Some k) (Some l) None x y p q = absurd q
+Appends-then (Some k) (Some l) (Some m) x y p q = q ∙ ap (λ t. t ++ y) p ∙ append_assoc k x y
+
+module _ {T : Type 0} (contents : T → Option (List ℕ)) where
+  pub Writes-none : (w : Watched T) → Writes contents w w []
+  Writes-none w = record { held = Appends-none (contents (inner_of w)); still = refl }
+
+  pub Writes-then : (a b c : Watched T) (x y : List ℕ) → Writes contents a b x → Writes contents b c y → Writes contents a c (x ++ y)
+  Writes-then a b c x y p q = record {
+    held = Appends-then (contents (inner_of a)) (contents (inner_of b)) (contents (inner_of c)) x y p.held q.held;
+    still = q.still ∙ p.still;
+  }
+
+  -- a front of what follows is a front of the whole
+  pub WritesFront-then : (a b c : Watched T) (x y : List ℕ) → Writes contents a b x → WritesFront contents b c y → WritesFront contents a c (x ++ y)
+  WritesFront-then a b c x y p q = record {
+    front = x ++ q.front;
+    rest = q.rest;
+    whole = ap (λ t. x ++ t) q.whole ∙ sym (append_assoc x q.front q.rest);
+    held = Appends-then (contents (inner_of a)) (contents (inner_of b)) (contents (inner_of c)) x q.front p.held q.held;
+    failed = q.failed;
+  }
+
+  -- nothing that follows is written
+  pub WritesFront-stops : (a b : Watched T) (x y : List ℕ) → WritesFront contents a b x → WritesFront contents a b (x ++ y)
+  WritesFront-stops a b x y q = record {
+    front = q.front;
+    rest = q.rest ++ y;
+    whole = ap (λ t. t ++ y) q.whole ∙ append_assoc q.front q.rest y;
+    held = q.held;
+    failed = q.failed;
+  }
+
+  pub WritesOrFails-then : (a b c : Watched T) (r : Result (Unit {0}) Fault) (x y : List ℕ) → Writes contents a b x → WritesOrFails contents b c r y → WritesOrFails contents a c r (x ++ y)
+  WritesOrFails-then a b c (Ok u) x y p q = Writes-then a b c x y p q
+  WritesOrFails-then a b c (Err e) x y p q = (q.0, WritesFront-then a b c x y p q.1)
+
+-- the pieces from the i-th on
+pub concat_at : (pieces : List (Bor (List ℕ))) (i : ℕ) → i < length pieces
+    → concat (map (λ p. p.now) (drop i pieces)) ≡ (get_or pieces i (record { ref_ptr = (0, 0); now = [] })).now ++ concat (map (λ p. p.now) (drop (i + 1) pieces))
+concat_at pieces i below = rw (drop-cons pieces i (record { ref_ptr = (0, 0); now = [] }), add-one i) refl
+
+pub arenas_at : (arenas : List ArenaLine) (i : ℕ) (d : ArenaLine) → i < length arenas → arena_texts i (drop i arenas) ≡ arena_text i (get_or arenas i d) ++ arena_texts (i + 1) (drop (i + 1) arenas)
+arenas_at arenas i d below = rw (drop-cons arenas i d, add-one i) refl
+
+pub places_at : (names : List (List ℕ)) (places : List PlaceLine) (i : ℕ) (d : PlaceLine) → i < length places → place_texts names (drop i places) ≡ place_text names (get_or places i d) ++ place_texts names (drop (i + 1) places)
+places_at names places i d below = rw (drop-cons places i d, add-one i) refl
+
+pub lengths_at : (lengths : List (Option ℕ)) (i : ℕ) (d : Option ℕ) → i < length lengths → lengths_text (drop i lengths) ≡ concat (codes " " ∷ length_text (get_or lengths i d) ∷ []) ++ lengths_text (drop (i + 1) lengths)
+lengths_at lengths i d below = rw (drop-cons lengths i d, add-one i) refl
+
+pub answers_at : (answers : List Answered) (i : ℕ) (a : Answered) → a ≡ get_or answers i a → i < length answers → answer_texts (drop i answers) ≡ reply_text a.line a.reply ++ answer_texts (drop (i + 1) answers)
+answers_at answers i a item below = rw (drop-cons answers i a, add-one i) (ap (λ b. reply_text b.line b.reply ++ answer_texts (drop (suc i) answers)) (sym item))
+
+pub hex_text_at : (bytes : List ℕ) (i : ℕ) (d : ℕ) → i < length bytes → hex_text (drop i bytes) ≡ hex_digit (get_or bytes i d / 16) ∷ hex_digit (get_or bytes i d % 16) ∷ hex_text (drop (i + 1) bytes)
+hex_text_at bytes i d below = rw (drop-cons bytes i d, add-one i) refl

@@ -1,0 +1,12 @@
+pub mod Words
+pub mod Steps
+pub mod Names
+pub mod Tables
+pub mod Forms
+pub mod Grammar
+pub mod SoFar
+pub mod Numbering
+pub mod Scripts
+pub mod Watching
+pub mod Texts
+pub mod Spelling

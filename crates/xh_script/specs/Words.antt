@@ -1,0 +1,58 @@
+-- What a word of a line may be.
+use Rattle.std.specs.Prelude.{ℕ, ◌+◌, ◌-◌, ◌*◌, ◌%◌, ◌^◌, ◌&&◌, ◌||◌, ◌==◌, Bool, false, not, List, [], ◌∷◌, length, nat_le, nat_lt, if◌then◌else◌, Option, Some, None, codes, slice_index}
+use Rattle.std.specs.List.{list_all, fold}
+use Rattle.std.specs.Str.{bytes_eq}
+
+abbrev pub is_lower : ℕ → Bool
+is_lower b = nat_le 97 b && nat_le b 122
+
+abbrev pub is_digit : ℕ → Bool
+is_digit b = nat_le 48 b && nat_le b 57
+
+abbrev pub is_name_byte : ℕ → Bool
+is_name_byte b = is_lower b || is_digit b
+
+-- the words that begin head lines
+abbrev pub is_keyword : List ℕ → Bool
+is_keyword word = bytes_eq word (codes "process") || bytes_eq word (codes "wire") || bytes_eq word (codes "contract")
+
+-- 1 to 16 lower-case letters or digits, a letter first, and no keyword
+abbrev pub is_name : List ℕ → Bool
+is_name word =
+    nat_lt 0 (length word) && nat_le (length word) 16 && is_lower (slice_index word 0)
+    && list_all is_name_byte word && not (is_keyword word)
+
+abbrev pub has_no_zero_in_front : List ℕ → Bool
+has_no_zero_in_front word = (length word == 1) || not (slice_index word 0 == 48)
+
+-- up to ten digits, with no zero in front of others
+abbrev pub is_numeral : List ℕ → Bool
+is_numeral word =
+    nat_lt 0 (length word) && nat_le (length word) 10 && has_no_zero_in_front word && list_all is_digit word
+
+-- what digits say
+abbrev pub value_of : List ℕ → ℕ
+value_of digits = fold (λ n b. n * 10 + (b - 48)) 0 digits
+
+-- the number below 2 ^ 32 that a word is
+abbrev pub number_of : List ℕ → Option ℕ
+number_of word = if is_numeral word && nat_lt (value_of word) (2 ^ 32) then Some (value_of word) else None
+
+abbrev pub is_hex_letter : ℕ → Bool
+is_hex_letter b = nat_le 97 b && nat_le b 102
+
+abbrev pub is_hex_digit : ℕ → Bool
+is_hex_digit b = is_digit b || is_hex_letter b
+
+-- 2 to 64 lower-case hexadecimal digits, an even count of them
+abbrev pub is_hex : List ℕ → Bool
+is_hex word = nat_le 2 (length word) && nat_le (length word) 64 && (length word % 2 == 0) && list_all is_hex_digit word
+
+-- what a hexadecimal digit says
+abbrev pub hex_value : ℕ → ℕ
+hex_value b = if is_digit b then b - 48 else if is_hex_letter b then b - 87 else 0
+
+-- the bytes that pairs of hexadecimal digits say
+abbrev pub hex_bytes : List ℕ → List ℕ
+hex_bytes (high ∷ low ∷ more) = (16 * hex_value high + hex_value low) ∷ hex_bytes more
+hex_bytes _ = []

@@ -1,0 +1,82 @@
+//! Why a run ended.
+ghost use Rattle.std.specs.Prelude.{◌≡◌};
+ghost use Rattle.xh_script.specs.Texts.{kind_name};
+ghost use Rattle.xh_script.specs.declared.fault.Fault.TheVariants.{Memory};
+
+use std::alloc::{AllocError, AllocFailed};
+
+/// What is wrong with a line of a script, or with the whole.
+#[derive(Clone, Copy, Debug, PartialEq, Eq)]
+pub enum Kind {
+    /// More than 1,048,576 bytes (told at line 0), 4,096 commands, 64 names of processes, 256
+    /// names of blocks of one process, or 16 contracts.
+    TooLong,
+    /// A line of more than 256 bytes without its line feed.
+    LongLine,
+    /// A byte of a command that is no printable ASCII.
+    BadByte,
+    /// An empty word, a word that is no verb, or one that is no name.
+    BadWord,
+    /// A command with another number of words.
+    BadCount,
+    /// A word that is no number, or one outside its range.
+    BadNumber,
+    /// A word that is not 1 to 32 bytes in lower-case hexadecimal digits.
+    BadHex,
+    /// A `contract`, `process` or `wire` behind another command.
+    LateHead,
+    /// A contract that is not valid, is declared twice, or is not declared on an earlier line.
+    BadContract,
+}
+
+impl Kind {
+    /// Its name.
+    pub fn name(self) -> &'static str
+        ensures { result.now ≡ kind_name self }
+    {
+        match self {
+            Kind::TooLong => "TooLong",
+            Kind::LongLine => "LongLine",
+            Kind::BadByte => "BadByte",
+            Kind::BadWord => "BadWord",
+            Kind::BadCount => "BadCount",
+            Kind::BadNumber => "BadNumber",
+            Kind::BadHex => "BadHex",
+            Kind::LateHead => "LateHead",
+            Kind::BadContract => "BadContract",
+        }
+    }
+}
+
+/// Why a run ended.
+#[derive(Clone, Copy, Debug, PartialEq, Eq)]
+pub enum Fault {
+    /// The lowest line of the script with a fault; 0 for the script as a whole.
+    Script { line: u32, kind: Kind },
+    /// A growth of memory was refused.
+    Memory,
+    /// The reader failed.
+    Read,
+    /// The writer failed, or took nothing.
+    Write,
+    /// A gate answered that a worker must stop.
+    Gate,
+    /// The configuration is outside its limits.
+    BadConfig,
+}
+
+impl From<AllocError> for Fault {
+    ghost from_gives = { λ _ e. e ≡ Memory };
+
+    fn from(_error: AllocError) -> Fault {
+        Fault::Memory
+    }
+}
+
+impl<T: Drop> From<AllocFailed<T>> for Fault {
+    ghost from_gives = { λ _ e. e ≡ Memory };
+
+    fn from(_error: AllocFailed<T>) -> Fault {
+        Fault::Memory
+    }
+}

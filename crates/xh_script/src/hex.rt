@@ -1,0 +1,57 @@
+//! Hexadecimal digits.
+ghost use Rattle.std.specs.Prelude.{◌≡◌, ◌≤◌, length};
+ghost use Rattle.std.specs.List.{list_all};
+ghost use Rattle.xh_script.specs.Words.{is_digit, is_hex_letter, is_hex_digit, is_hex, hex_value, hex_bytes};
+
+use arrayvec::ArrayVec;
+
+fn is_hex_letter(b: u8) -> bool
+    ensures { result ≡ is_hex_letter b }
+{
+    b'a' <= b && b <= b'f'
+}
+
+fn is_hex_digit(b: u8) -> bool
+    ensures { result ≡ is_hex_digit b }
+{
+    b.is_ascii_digit() || is_hex_letter(b)
+}
+
+fn has_hex_digits(word: &[u8]) -> bool
+    ensures { result ≡ list_all is_hex_digit word.now }
+{
+    word.iter().all(|b| is_hex_digit(*b))
+}
+
+/// Whether a word is 2 to 64 hexadecimal digits in lower case, an even count of them.
+pub(crate) fn is_hex(word: &[u8]) -> bool
+    ensures { result ≡ is_hex word.now }
+{
+    2 <= word.len() && word.len() <= 64 && word.len() % 2 == 0 && has_hex_digits(word)
+}
+
+/// What a hexadecimal digit says.
+fn hex_value(b: u8) -> u8
+    ensures is { result ≡ hex_value b }
+    ensures small { result ≤ 15 }
+{
+    if b.is_ascii_digit() {
+        b - b'0'
+    } else if is_hex_letter(b) {
+        b - b'a' + 10
+    } else {
+        0
+    }
+}
+
+/// The bytes that pairs of hexadecimal digits say.
+pub(crate) fn hex_bytes(word: &[u8]) -> ArrayVec<u8, 32>
+    requires { length word.now ≤ 64 }
+    ensures { result.items ≡ hex_bytes word.now }
+{
+    let mut bytes = ArrayVec::new();
+    for i in 0..word.len() / 2 {
+        bytes.push(16 * hex_value(word[2 * i]) + hex_value(word[2 * i + 1]));
+    }
+    bytes
+}

@@ -1,0 +1,17 @@
+//! What the grammar is good for.
+ghost use Rattle.std.specs.Prelude.{◌≡◌, ℕ, List, Ok, Some, slice_get};
+ghost use Rattle.xh_script.specs.Grammar.{said_by};
+ghost use Rattle.xh_script.specs.Names.{number_in};
+ghost use Rattle.xh_script.specs.Spelling.{IsSpelled};
+ghost use Rattle.xh_script.specs.declared.said.Said.{Said};
+
+/// What the words of a line are read as is spelled by these words: no number with a zero in
+/// front, no digit in upper case, no word too many is read as if it were not there.
+pub fn commands_are_spelled()
+    ensures { (words : List (List ℕ)) (said : Said) → said_by words ≡ Ok said → IsSpelled said words }
+{}
+
+/// The number of a name leads back to that name.
+pub fn numbers_tell_names()
+    ensures { (names : List (List ℕ)) (name : List ℕ) (n : ℕ) → number_in names name ≡ Some n → slice_get names n ≡ Some name }
+{}

@@ -1,0 +1,129 @@
+//! Names of processes and of blocks.
+ghost use Rattle.std.specs.Prelude.{◌≡◌, ◌≤◌, List, ℕ, length, if◌then◌else◌, Some, None};
+ghost use Rattle.std.specs.Str.{bytes_eq};
+ghost use Rattle.xh_script.specs.Words.{is_name, is_keyword, is_name_byte};
+ghost use Rattle.std.specs.List.{list_all};
+ghost use Rattle.std.specs.Cmp.Lexicographic.{nat_list_eq_equiv};
+ghost use Rattle.std.specs.Cmp.{partial_equiv_from_equiv};
+ghost use Rattle.std.specs.Hash as fed;
+ghost use Rattle.std.proofs.Common.{rules};
+ghost use Rattle.std.proofs.lemmas.Slice.Eq.{bytes_eq-Decides};
+
+use arrayvec::ArrayVec;
+use std::hash::{Hash, Hasher};
+use std::marker::Model;
+
+/// A name: a lower-case letter, and up to 15 such letters or digits.
+#[derive(Debug, Drop)]
+pub struct Name {
+    letters: ArrayVec<u8, 16>,
+}
+
+impl Model for Name {
+    ghost Value = { List ℕ };
+
+    ghost view = { λ n. n.letters.items };
+}
+
+impl PartialEq for Name {
+    ghost eq = { λ a b. bytes_eq a b };
+
+    ghost laws = { partial_equiv_from_equiv nat_list_eq_equiv };
+
+    fn eq(&self, other: &Name) -> bool {
+        self.letters.as_slice() == other.letters.as_slice()
+    }
+}
+
+impl Eq for Name {
+    ghost laws = { nat_list_eq_equiv };
+}
+
+impl Hash for Name {
+    ghost hash_input = { λ n. fed.str n };
+
+    ghost respects_eq = { Prim.search (bytes_eq-Decides, rules) };
+
+    fn hash<H: Hasher>(&self, state: &mut H) {
+        state.write(self.letters.as_slice());
+        state.write_u8(0xff);
+    }
+}
+
+impl Default for Name {
+    fn default() -> Name {
+        Name {
+            letters: ArrayVec::new(),
+        }
+    }
+}
+
+fn is_keyword(word: &[u8]) -> bool
+    ensures { result ≡ is_keyword word.now }
+{
+    word == b"process".as_slice() || word == b"wire".as_slice() || word == b"contract".as_slice()
+}
+
+fn is_name_byte(b: u8) -> bool
+    ensures { result ≡ is_name_byte b }
+{
+    b.is_ascii_lowercase() || b.is_ascii_digit()
+}
+
+fn has_name_bytes(word: &[u8]) -> bool
+    ensures { result ≡ list_all is_name_byte word.now }
+{
+    word.iter().all(|b| is_name_byte(*b))
+}
+
+/// Whether a word is a name.
+pub(crate) fn is_name(word: &[u8]) -> bool
+    ensures { result ≡ is_name word.now }
+{
+    !word.is_empty()
+        && word.len() <= 16
+        && word[0].is_ascii_lowercase()
+        && has_name_bytes(word)
+        && !is_keyword(word)
+}
+
+fn letters_of(word: &[u8]) -> ArrayVec<u8, 16>
+    requires { length word.now ≤ 16 }
+    ensures { result.items ≡ word.now }
+{
+    let mut letters = ArrayVec::new();
+    for b in word {
+        letters.push(*b);
+    }
+    letters
+}
+
+impl Name {
+    /// The name that a word is.
+    pub fn read(word: &[u8]) -> Option<Name>
+        ensures { result ≡ (if is_name word.now then Some word.now else None) }
+    {
+        if !is_name(word) {
+            return None;
+        }
+        Some(Name {
+            letters: letters_of(word),
+        })
+    }
+
+    /// Its letters.
+    pub fn as_bytes(&self) -> &[u8]
+        ensures { result.now ≡ self.now }
+    {
+        &self.letters
+    }
+
+    /// The same name once more.
+    pub fn copy(&self) -> Name
+        ensures { result ≡ self.now }
+    {
+        Name {
+            letters: letters_of(self.letters.as_slice()),
+        }
+    }
+}

@@ -1,0 +1,54 @@
+//! Numbers.
+ghost use Rattle.std.specs.Prelude.{◌≡◌, ◌<◌, ◌≤◌, true, length, IfSome};
+ghost use Rattle.std.specs.List.{list_all};
+ghost use Rattle.std.specs.Fmt.{decimal};
+ghost use Rattle.xh_script.specs.Words.{is_digit, has_no_zero_in_front, is_numeral, number_of, value_of};
+
+fn has_no_zero_in_front(word: &[u8]) -> bool
+    requires { 0 < length word.now }
+    ensures { result ≡ has_no_zero_in_front word.now }
+{
+    word.len() == 1 || word[0] != b'0'
+}
+
+fn has_digits(word: &[u8]) -> bool
+    ensures { result ≡ list_all is_digit word.now }
+{
+    word.iter().all(|b| b.is_ascii_digit())
+}
+
+/// Whether a word is up to ten digits, with no zero in front of others.
+fn is_numeral(word: &[u8]) -> bool
+    ensures { result ≡ is_numeral word.now }
+{
+    !word.is_empty() && word.len() <= 10 && has_no_zero_in_front(word) && has_digits(word)
+}
+
+/// What digits say.
+fn value_of(digits: &[u8]) -> u64
+    requires { length digits.now ≤ 10 }
+    ensures { result ≡ value_of digits.now }
+{
+    let mut value = 0u64;
+    for b in digits {
+        value = value * 10 + u64::from(b.saturating_sub(b'0'));
+    }
+    value
+}
+
+fn number_of(word: &[u8]) -> Option<u32>
+    ensures { result ≡ number_of word.now }
+{
+    if !is_numeral(word) {
+        return None;
+    }
+    u32::try_from(value_of(word)).ok()
+}
+
+/// The number below 2^32 whose decimal digits a word is.
+pub(crate) fn read_number(word: &[u8]) -> Option<u32>
+    ensures value { result ≡ number_of word.now }
+    ensures text { IfSome result (λ n. word.now ≡ decimal n) }
+{
+    number_of(word)
+}

@@ -1,0 +1,358 @@
+//! Numbers in place of names, form by form.
+ghost use Rattle.std.specs.Prelude.{◌≡◌, ◌<◌};
+ghost use Rattle.xh_script.specs.Steps.{Answers};
+ghost use Rattle.xh_script.specs.Numbering.{contract_numbered, process_numbered, wire_numbered, open_numbered, alloc_numbered, split_numbered, read_numbered, write_numbered, give_numbered, take_numbered, await_numbered, free_numbered, close_numbered, exit_numbered, kill_numbered, glance_numbered, again_numbered};
+ghost use Rattle.xh_script.specs.Scripts.{numbered};
+
+use crate::reading::Reading;
+use crate::table::table_of;
+use crate::{Command, Kind, Name, Said, Stop};
+use arrayvec::ArrayVec;
+use xh_model::Row;
+
+impl Reading {
+    /// A new contract.
+    #[tactic(auto, unfolding(crate::specs::Numbering::contract_numbered), using(crate::proofs::Readings::stops_then))]
+    fn number_contract(&mut self, name: &Name, rows: &[Row]) -> Result<Command, Stop>
+        ensures { Answers (λ c. (c, self.new)) result (contract_numbered self.old name.now rows.now) }
+    {
+        let Some(table) = table_of(rows) else {
+            return Err(Stop::Bad(Kind::BadContract));
+        };
+        if self.declared.number(name).is_some() {
+            return Err(Stop::Bad(Kind::BadContract));
+        }
+        let contract = self.declared.enter(16, name)?;
+        self.contracts.push(table)?;
+        Ok(Command::Contract { contract })
+    }
+
+    #[tactic(auto, unfolding(crate::specs::Numbering::process_numbered), using(crate::proofs::Readings::stops_then))]
+    fn number_process(&mut self, process: &Name) -> Result<Command, Stop>
+        ensures { Answers (λ c. (c, self.new)) result (process_numbered self.old process.now) }
+    {
+        let process = self.process(process)?;
+        Ok(Command::Process { process })
+    }
+
+    #[tactic(auto, unfolding(crate::specs::Numbering::wire_numbered), using(crate::proofs::Readings::stops_then))]
+    fn number_wire(
+        &mut self,
+        process: &Name,
+        first: &Name,
+        peer: &Name,
+        second: &Name,
+        arena: u32,
+        contract: &Option<Name>,
+    ) -> Result<Command, Stop>
+        ensures { Answers (λ c. (c, self.new)) result
+            (wire_numbered self.old process.now first.now peer.now second.now arena contract.now) }
+    {
+        let contract = self.contract(contract)?;
+        let (process, first) = self.both(process, first)?;
+        let (peer, second) = self.both(peer, second)?;
+        Ok(Command::Wire {
+            process,
+            first,
+            peer,
+            second,
+            arena,
+            contract,
+        })
+    }
+
+    #[tactic(auto, unfolding(crate::specs::Numbering::open_numbered), using(crate::proofs::Readings::stops_then))]
+    fn number_open(
+        &mut self,
+        process: &Name,
+        first: &Name,
+        second: &Name,
+        arena: u32,
+        contract: &Option<Name>,
+    ) -> Result<Command, Stop>
+        ensures { Answers (λ c. (c, self.new)) result
+            (open_numbered self.old process.now first.now second.now arena contract.now) }
+    {
+        let contract = self.contract(contract)?;
+        let (process, first) = self.both(process, first)?;
+        let second = self.block(process, second)?;
+        Ok(Command::Open {
+            process,
+            first,
+            second,
+            arena,
+            contract,
+        })
+    }
+
+    #[tactic(auto, unfolding(crate::specs::Numbering::alloc_numbered), using(crate::proofs::Readings::stops_then))]
+    fn number_alloc(
+        &mut self,
+        process: &Name,
+        block: &Name,
+        bytes: u32,
+        arena: u32,
+    ) -> Result<Command, Stop>
+        ensures { Answers (λ c. (c, self.new)) result
+            (alloc_numbered self.old process.now block.now bytes arena) }
+    {
+        let (process, block) = self.both(process, block)?;
+        Ok(Command::Alloc {
+            process,
+            block,
+            bytes,
+            arena,
+        })
+    }
+
+    #[tactic(auto, unfolding(crate::specs::Numbering::split_numbered), using(crate::proofs::Readings::stops_then))]
+    fn number_split(
+        &mut self,
+        process: &Name,
+        block: &Name,
+        at: u32,
+        tail: &Name,
+    ) -> Result<Command, Stop>
+        ensures { Answers (λ c. (c, self.new)) result
+            (split_numbered self.old process.now block.now at tail.now) }
+    {
+        let (process, block) = self.both(process, block)?;
+        let tail = self.block(process, tail)?;
+        Ok(Command::Split {
+            process,
+            block,
+            at,
+            tail,
+        })
+    }
+
+    #[tactic(auto, unfolding(crate::specs::Numbering::read_numbered), using(crate::proofs::Readings::stops_then))]
+    fn number_read(
+        &mut self,
+        process: &Name,
+        block: &Name,
+        at: u32,
+        len: u8,
+    ) -> Result<Command, Stop>
+        ensures { Answers (λ c. (c, self.new)) result
+            (read_numbered self.old process.now block.now at len) }
+    {
+        let (process, block) = self.both(process, block)?;
+        Ok(Command::Read {
+            process,
+            block,
+            at,
+            len,
+        })
+    }
+
+    #[tactic(auto, unfolding(crate::specs::Numbering::write_numbered), using(crate::proofs::Readings::stops_then))]
+    fn number_write(
+        &mut self,
+        process: &Name,
+        block: &Name,
+        at: u32,
+        bytes: ArrayVec<u8, 32>,
+    ) -> Result<Command, Stop>
+        ensures { Answers (λ c. (c, self.new)) result
+            (write_numbered self.old process.now block.now at bytes) }
+    {
+        let (process, block) = self.both(process, block)?;
+        Ok(Command::Write {
+            process,
+            block,
+            at,
+            bytes,
+        })
+    }
+
+    #[tactic(auto, unfolding(crate::specs::Numbering::give_numbered), using(crate::proofs::Readings::stops_then))]
+    fn number_give(
+        &mut self,
+        process: &Name,
+        endpoint: &Name,
+        tag: u16,
+        blocks: &ArrayVec<Name, 16>,
+    ) -> Result<Command, Stop>
+        ensures { Answers (λ c. (c, self.new)) result
+            (give_numbered self.old process.now endpoint.now tag blocks.now.items) }
+    {
+        let (process, endpoint) = self.both(process, endpoint)?;
+        let blocks = self.blocks(process, blocks)?;
+        Ok(Command::Give {
+            process,
+            endpoint,
+            tag,
+            blocks,
+        })
+    }
+
+    #[tactic(auto, unfolding(crate::specs::Numbering::take_numbered), using(crate::proofs::Readings::stops_then))]
+    fn number_take(
+        &mut self,
+        process: &Name,
+        endpoint: &Name,
+        blocks: &ArrayVec<Name, 8>,
+    ) -> Result<Command, Stop>
+        ensures { Answers (λ c. (c, self.new)) result
+            (take_numbered self.old process.now endpoint.now blocks.now.items) }
+    {
+        let (process, endpoint) = self.both(process, endpoint)?;
+        let blocks = self.blocks(process, blocks)?;
+        Ok(Command::Take {
+            process,
+            endpoint,
+            blocks,
+        })
+    }
+
+    #[tactic(auto, unfolding(crate::specs::Numbering::await_numbered), using(crate::proofs::Readings::stops_then))]
+    fn number_await(
+        &mut self,
+        process: &Name,
+        endpoint: &Name,
+        blocks: &ArrayVec<Name, 8>,
+    ) -> Result<Command, Stop>
+        ensures { Answers (λ c. (c, self.new)) result
+            (await_numbered self.old process.now endpoint.now blocks.now.items) }
+    {
+        let (process, endpoint) = self.both(process, endpoint)?;
+        let blocks = self.blocks(process, blocks)?;
+        Ok(Command::Await {
+            process,
+            endpoint,
+            blocks,
+        })
+    }
+
+    #[tactic(auto, unfolding(crate::specs::Numbering::free_numbered), using(crate::proofs::Readings::stops_then))]
+    fn number_free(&mut self, process: &Name, block: &Name) -> Result<Command, Stop>
+        ensures { Answers (λ c. (c, self.new)) result (free_numbered self.old process.now block.now) }
+    {
+        let (process, block) = self.both(process, block)?;
+        Ok(Command::Free { process, block })
+    }
+
+    #[tactic(auto, unfolding(crate::specs::Numbering::close_numbered), using(crate::proofs::Readings::stops_then))]
+    fn number_close(&mut self, process: &Name, endpoint: &Name) -> Result<Command, Stop>
+        ensures { Answers (λ c. (c, self.new)) result (close_numbered self.old process.now endpoint.now) }
+    {
+        let (process, endpoint) = self.both(process, endpoint)?;
+        Ok(Command::Close { process, endpoint })
+    }
+
+    #[tactic(auto, unfolding(crate::specs::Numbering::exit_numbered), using(crate::proofs::Readings::stops_then))]
+    fn number_exit(&mut self, process: &Name, budget: u16) -> Result<Command, Stop>
+        ensures { Answers (λ c. (c, self.new)) result (exit_numbered self.old process.now budget) }
+    {
+        let process = self.process(process)?;
+        Ok(Command::Exit { process, budget })
+    }
+
+    #[tactic(auto, unfolding(crate::specs::Numbering::kill_numbered), using(crate::proofs::Readings::stops_then))]
+    fn number_kill(&mut self, process: &Name, victim: &Name, budget: u16) -> Result<Command, Stop>
+        ensures { Answers (λ c. (c, self.new)) result
+            (kill_numbered self.old process.now victim.now budget) }
+    {
+        let process = self.process(process)?;
+        let victim = self.process(victim)?;
+        Ok(Command::Kill {
+            process,
+            victim,
+            budget,
+        })
+    }
+
+    #[tactic(auto, unfolding(crate::specs::Numbering::glance_numbered), using(crate::proofs::Readings::stops_then))]
+    fn number_glance(&mut self, process: &Name, other: &Name) -> Result<Command, Stop>
+        ensures { Answers (λ c. (c, self.new)) result (glance_numbered self.old process.now other.now) }
+    {
+        let process = self.process(process)?;
+        let other = self.process(other)?;
+        Ok(Command::Glance { process, other })
+    }
+
+    #[tactic(auto, unfolding(crate::specs::Numbering::again_numbered), using(crate::proofs::Readings::stops_then))]
+    fn number_again(&mut self, process: &Name) -> Result<Command, Stop>
+        ensures { Answers (λ c. (c, self.new)) result (again_numbered self.old process.now) }
+    {
+        let process = self.process(process)?;
+        Ok(Command::Again { process })
+    }
+
+    /// The command that a line says, with numbers for its names.
+    #[tactic(auto, unfolding(crate::specs::Scripts::numbered))]
+    pub(crate) fn number(&mut self, said: Said) -> Result<Command, Stop>
+        ensures { Answers (λ c. (c, self.new)) result (numbered self.old said) }
+    {
+        match said {
+            Said::Contract { name, rows } => self.number_contract(&name, &rows),
+            Said::Process { process } => self.number_process(&process),
+            Said::Wire {
+                process,
+                first,
+                peer,
+                second,
+                arena,
+                contract,
+            } => self.number_wire(&process, &first, &peer, &second, arena, &contract),
+            Said::Open {
+                process,
+                first,
+                second,
+                arena,
+                contract,
+            } => self.number_open(&process, &first, &second, arena, &contract),
+            Said::Alloc {
+                process,
+                block,
+                bytes,
+                arena,
+            } => self.number_alloc(&process, &block, bytes, arena),
+            Said::Split {
+                process,
+                block,
+                at,
+                tail,
+            } => self.number_split(&process, &block, at, &tail),
+            Said::Read {
+                process,
+                block,
+                at,
+                len,
+            } => self.number_read(&process, &block, at, len),
+            Said::Write {
+                process,
+                block,
+                at,
+                bytes,
+            } => self.number_write(&process, &block, at, bytes),
+            Said::Give {
+                process,
+                endpoint,
+                tag,
+                blocks,
+            } => self.number_give(&process, &endpoint, tag, &blocks),
+            Said::Take {
+                process,
+                endpoint,
+                blocks,
+            } => self.number_take(&process, &endpoint, &blocks),
+            Said::Await {
+                process,
+                endpoint,
+                blocks,
+            } => self.number_await(&process, &endpoint, &blocks),
+            Said::Free { process, block } => self.number_free(&process, &block),
+            Said::Close { process, endpoint } => self.number_close(&process, &endpoint),
+            Said::Exit { process, budget } => self.number_exit(&process, budget),
+            Said::Kill {
+                process,
+                victim,
+                budget,
+            } => self.number_kill(&process, &victim, budget),
+            Said::Glance { process, other } => self.number_glance(&process, &other),
+            Said::Again { process } => self.number_again(&process),
+        }
+    }
+}

@@ -1,0 +1,115 @@
+//! How a script is read.
+ghost use Rattle.std.specs.Prelude.{◌≡◌, ◌≤◌, ◌==◌, length};
+ghost use Rattle.xh_script.specs.Steps.{Answers};
+ghost use Rattle.xh_script.specs.Scripts.{is_head, with_line, with_said, at_line, after_line, after_lines, nothing_read, script_of, told, Gives};
+ghost use Rattle.std.specs.List.{slice_split};
+
+use crate::line::said_at;
+use crate::pieces::pieces;
+use crate::reading::Reading;
+use crate::{Command, Fault, Kind, Line, Said, Script, Stop};
+use std::alloc::Global;
+
+/// The most bytes of a script.
+pub const SCRIPT_LIMIT: usize = 1_048_576;
+
+fn is_head(said: &Said) -> bool
+    ensures { result ≡ is_head said.now }
+{
+    match said {
+        Said::Contract { .. } => true,
+        Said::Process { .. } => true,
+        Said::Wire { .. } => true,
+        Said::Open { .. } => false,
+        Said::Alloc { .. } => false,
+        Said::Split { .. } => false,
+        Said::Read { .. } => false,
+        Said::Write { .. } => false,
+        Said::Give { .. } => false,
+        Said::Take { .. } => false,
+        Said::Await { .. } => false,
+        Said::Free { .. } => false,
+        Said::Close { .. } => false,
+        Said::Exit { .. } => false,
+        Said::Kill { .. } => false,
+        Said::Glance { .. } => false,
+        Said::Again { .. } => false,
+    }
+}
+
+/// Adds a command.
+#[tactic(auto, unfolding(crate::specs::Scripts::with_line))]
+fn add_line(reading: &mut Reading, number: u32, head: bool, command: Command) -> Result<(), Stop>
+    ensures { Answers (λ _. reading.new) result (with_line reading.old number head command) }
+{
+    if reading.lines.len() >= 4096 {
+        return Err(Stop::Bad(Kind::TooLong));
+    }
+    reading.lines.push(Line { number, command })?;
+    reading.begun = reading.begun || !head;
+    Ok(())
+}
+
+/// Adds what a line says.
+#[tactic(auto, unfolding(crate::specs::Scripts::with_said), using(crate::proofs::Readings::stops_then))]
+fn add_said(reading: &mut Reading, number: u32, said: Said) -> Result<(), Stop>
+    ensures { Answers (λ _. reading.new) result (with_said reading.old number said) }
+{
+    let head = is_head(&said);
+    if head && reading.begun {
+        return Err(Stop::Bad(Kind::LateHead));
+    }
+    let command = reading.number(said)?;
+    add_line(reading, number, head, command)
+}
+
+/// Reads one more line.
+#[tactic(auto, unfolding(crate::specs::Scripts::after_line), using(crate::proofs::Readings::stops_then))]
+fn add_text(alloc: Global, reading: &mut Reading, number: u32, line: &[u8]) -> Result<(), Stop>
+    ensures { Answers (λ _. reading.new) result (after_line reading.old number line.now) }
+{
+    match said_at(alloc, line)? {
+        None => Ok(()),
+        Some(said) => add_said(reading, number, said),
+    }
+}
+
+/// Reads one more line, and tells its number with a fault.
+fn read_line(alloc: Global, reading: &mut Reading, number: u32, line: &[u8]) -> Result<(), Fault>
+    ensures { Gives (λ _. reading.new) result (at_line number (after_line reading.old number line.now)) }
+{
+    match add_text(alloc, reading, number, line) {
+        Ok(()) => Ok(()),
+        Err(Stop::Bad(kind)) => Err(Fault::Script { line: number, kind }),
+        Err(Stop::Memory) => Err(Fault::Memory),
+    }
+}
+
+/// Reads all lines of a text.
+fn read_lines(alloc: Global, text: &[u8]) -> Result<Reading, Fault>
+    requires { length text.now ≤ 1048576 }
+    ensures { Gives (λ r. r) result (after_lines nothing_read 1 (slice_split (λ b. b == 10) text.now)) }
+{
+    let lines = pieces(alloc, text, b'\n')?;
+    let mut reading = Reading::new(alloc)?;
+    for (i, line) in lines.iter().enumerate() {
+        read_line(alloc, &mut reading, i as u32 + 1, line)?;
+    }
+    Ok(reading)
+}
+
+/// The script that a text is: its commands, the names of its processes and its contracts. A fault
+/// is that of the lowest line with one; `Memory` comes only where a growth was refused.
+#[tactic(auto, unfolding(crate::specs::Scripts::script_of), using(crate::proofs::Readings::fails_then))]
+pub fn read_script(alloc: Global, text: &[u8]) -> Result<Script, Fault>
+    ensures { Gives told result (script_of text.now) }
+{
+    if text.len() > SCRIPT_LIMIT {
+        return Err(Fault::Script {
+            line: 0,
+            kind: Kind::TooLong,
+        });
+    }
+    let reading = read_lines(alloc, text)?;
+    Ok(reading.into_script())
+}

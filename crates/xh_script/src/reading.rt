@@ -1,0 +1,132 @@
+//! What has been read of a script.
+ghost use Rattle.std.specs.Prelude.{◌≡◌, ◌≤◌, ◌<◌, ◌&&◌, List, [], IfOk, length, map};
+ghost use Rattle.xh_script.specs.Steps.{Answers, Stops};
+ghost use Rattle.xh_script.specs.Numbering.{process_in, block_in, blocks_in, both_in, contract_in};
+ghost use Rattle.xh_script.specs.Scripts.{nothing_read, told, told_so_far};
+
+use crate::names::Names;
+use crate::{Kind, Line, Name, Script, Stop};
+use arrayvec::ArrayVec;
+use std::alloc::{AllocError, Global};
+use std::marker::Model;
+use xh_core::Contract;
+
+/// How many names of processes a script may have.
+const PROCESSES: usize = 64;
+
+/// What has been read of a script: the commands; the names of processes, of the blocks of each
+/// process by number, and of contracts; the contracts; and whether a command came that is no head
+/// line.
+#[derive(Drop)]
+pub(crate) struct Reading {
+    pub(crate) lines: Vec<Line>,
+    pub(crate) processes: Names,
+    pub(crate) blocks: Vec<Names>,
+    pub(crate) declared: Names,
+    pub(crate) contracts: Vec<Contract>,
+    pub(crate) begun: bool,
+}
+
+impl Model for Reading {
+    ghost use Rattle.std.specs.Prelude.{◌≡◌, ◌≤◌, length};
+    ghost use Rattle.xh_script.specs.SoFar.{SoFar};
+
+    ghost Value = { SoFar };
+
+    ghost view = { λ r. record { lines = r.lines.items; processes = r.processes; blocks = r.blocks.items; declared = r.declared; contracts = r.contracts.items; begun = r.begun } };
+
+    ghost invariant = { λ r. (length r.processes ≤ 64) × (length r.blocks.items ≡ 64) × (length r.declared ≤ 16) };
+}
+
+impl Reading {
+    /// Nothing.
+    pub(crate) fn new(alloc: Global) -> Result<Reading, AllocError>
+        ensures { IfOk result (λ r. r ≡ nothing_read) }
+    {
+        let mut blocks = Vec::new(alloc);
+        for made in 0..PROCESSES {
+            blocks.push(Names::new(alloc))?;
+        }
+        Ok(Reading {
+            lines: Vec::new(alloc),
+            processes: Names::new(alloc),
+            blocks,
+            declared: Names::new(alloc),
+            contracts: Vec::new(alloc),
+            begun: false,
+        })
+    }
+
+    /// The number of a process.
+    #[tactic(auto, unfolding(crate::specs::Numbering::process_in), using(crate::proofs::Readings::stops_then))]
+    pub(crate) fn process(&mut self, name: &Name) -> Result<u8, Stop>
+        ensures gives { Answers (λ n. (n, self.new)) result (process_in self.old name.now) }
+        ensures within { IfOk result (λ n. n < 64) }
+    {
+        let number = self.processes.enter(PROCESSES, name)?;
+        Ok(number)
+    }
+
+    /// The number of a block of a process.
+    #[tactic(auto, unfolding(crate::specs::Numbering::block_in), using(crate::proofs::Readings::stops_then))]
+    pub(crate) fn block(&mut self, process: u8, name: &Name) -> Result<u8, Stop>
+        requires { process < 64 }
+        ensures { Answers (λ n. (n, self.new)) result (block_in self.old process name.now) }
+    {
+        let number = self.blocks[usize::from(process)].enter(256, name)?;
+        Ok(number)
+    }
+
+    /// The numbers of blocks of a process.
+    pub(crate) fn blocks<const N: usize>(
+        &mut self,
+        process: u8,
+        names: &[Name],
+    ) -> Result<ArrayVec<u8, N>, Stop>
+        requires known { process < 64 }
+        requires room { length names.now ≤ N }
+        ensures { Answers (λ xs. (xs.items, self.new)) result (blocks_in self.old process names.now) }
+    {
+        let mut numbers = ArrayVec::new();
+        for name in names {
+            numbers.push(self.block(process, name)?);
+        }
+        Ok(numbers)
+    }
+
+    /// The numbers of a process and of one of its blocks.
+    #[tactic(auto, unfolding(crate::specs::Numbering::both_in), using(crate::proofs::Readings::stops_then))]
+    pub(crate) fn both(&mut self, process: &Name, block: &Name) -> Result<(u8, u8), Stop>
+        ensures gives { Answers (λ n. (n.0, n.1, self.new)) result (both_in self.old process.now block.now) }
+        ensures within { IfOk result (λ n. n.0 < 64) }
+    {
+        let process = self.process(process)?;
+        let block = self.block(process, block)?;
+        Ok((process, block))
+    }
+
+    /// The number of a contract that stands on an earlier line, where one is named.
+    #[tactic(auto, unfolding(crate::specs::Numbering::contract_in))]
+    pub(crate) fn contract(&self, name: &Option<Name>) -> Result<Option<u8>, Kind>
+        ensures { result ≡ contract_in self.now name.now }
+    {
+        let Some(name) = name else {
+            return Ok(None);
+        };
+        match self.declared.number(name) {
+            Some(number) => Ok(Some(number)),
+            None => Err(Kind::BadContract),
+        }
+    }
+
+    /// The script that has been read.
+    pub(crate) fn into_script(self) -> Script
+        ensures { told result ≡ told_so_far self }
+    {
+        Script {
+            lines: self.lines,
+            processes: self.processes.into_names(),
+            contracts: self.contracts,
+        }
+    }
+}

@@ -1,0 +1,287 @@
+//! How replies are written.
+ghost use Rattle.std.specs.Prelude.{◌≡◌, ◌≤◌, ◌<◌, ◌++◌, length, [], ◌∷◌, codes};
+ghost use Rattle.std.specs.List.{concat};
+ghost use Rattle.std.specs.Fmt.{decimal};
+ghost use Rattle.xh_script.specs.Watching.{WritesOrFails};
+ghost use Rattle.xh_core.specs.Refusals.{number_of, name_of};
+ghost use Rattle.xh_script.specs.Texts.{hex_digit, hex_text, length_text, lengths_text, number_text, numbers_text, taken_text, count_of, give_count_of, refusal_text, reply_text, answer_texts};
+
+use crate::put::{put, put_all};
+use crate::{Answered, Fault, Reply, Watched};
+use arrayvec::ArrayVec;
+use itoa::Buffer;
+use std::io::Write;
+use xh_core::Refused;
+
+#[tactic(auto, unfolding(crate::specs::Texts::number_text))]
+fn put_number<W: Write>(writer: &mut Watched<W>, line: u32, n: u64) -> Result<(), Fault>
+    ensures { WritesOrFails W.contents writer.old writer.new result (number_text line n) }
+{
+    let mut number = Buffer::new();
+    let mut answer = Buffer::new();
+    put_all(
+        writer,
+        &[
+            number.format(line).as_bytes(),
+            b" ok ",
+            answer.format(n).as_bytes(),
+            b"\n",
+        ],
+    )
+}
+
+#[tactic(auto, unfolding(crate::specs::Texts::numbers_text))]
+fn put_numbers<W: Write>(writer: &mut Watched<W>, line: u32, n: u64, m: u64) -> Result<(), Fault>
+    ensures { WritesOrFails W.contents writer.old writer.new result (numbers_text line n m) }
+{
+    let mut number = Buffer::new();
+    let mut first = Buffer::new();
+    let mut second = Buffer::new();
+    put_all(
+        writer,
+        &[
+            number.format(line).as_bytes(),
+            b" ok ",
+            first.format(n).as_bytes(),
+            b" ",
+            second.format(m).as_bytes(),
+            b"\n",
+        ],
+    )
+}
+
+fn put_done<W: Write>(writer: &mut Watched<W>, line: u32) -> Result<(), Fault>
+    ensures { WritesOrFails W.contents writer.old writer.new result
+        (concat (decimal line ∷ codes " ok\n" ∷ [])) }
+{
+    let mut number = Buffer::new();
+    put_all(writer, &[number.format(line).as_bytes(), b" ok\n"])
+}
+
+fn hex_digit(n: u8) -> u8
+    requires { n < 16 }
+    ensures { result ≡ hex_digit n }
+{
+    if n < 10 { b'0' + n } else { b'a' - 10 + n }
+}
+
+/// Two hexadecimal digits for each byte.
+fn hex_text(bytes: &[u8]) -> ArrayVec<u8, 64>
+    requires { length bytes.now ≤ 32 }
+    ensures { result.items ≡ hex_text bytes.now }
+{
+    let mut digits = ArrayVec::new();
+    for b in bytes {
+        digits.push(hex_digit(*b / 16));
+        digits.push(hex_digit(*b % 16));
+    }
+    digits
+}
+
+fn put_bytes<W: Write>(
+    writer: &mut Watched<W>,
+    line: u32,
+    bytes: &ArrayVec<u8, 32>,
+) -> Result<(), Fault>
+    ensures { WritesOrFails W.contents writer.old writer.new result
+        (concat (decimal line ∷ codes " ok " ∷ hex_text bytes.now.items ∷ codes "\n" ∷ [])) }
+{
+    let mut number = Buffer::new();
+    let digits = hex_text(bytes);
+    put_all(
+        writer,
+        &[
+            number.format(line).as_bytes(),
+            b" ok ",
+            digits.as_slice(),
+            b"\n",
+        ],
+    )
+}
+
+fn put_length<W: Write>(writer: &mut Watched<W>, length: Option<u32>) -> Result<(), Fault>
+    ensures { WritesOrFails W.contents writer.old writer.new result
+        (concat (codes " " ∷ length_text length ∷ [])) }
+{
+    let mut number = Buffer::new();
+    match length {
+        Some(n) => put_all(writer, &[b" ", number.format(n).as_bytes()]),
+        None => put_all(writer, &[b" ", b"-"]),
+    }
+}
+
+fn put_lengths<W: Write>(writer: &mut Watched<W>, lengths: &[Option<u32>]) -> Result<(), Fault>
+    ensures { WritesOrFails W.contents writer.old writer.new result (lengths_text lengths.now) }
+{
+    for length in lengths {
+        put_length(writer, *length)?;
+    }
+    Ok(())
+}
+
+fn put_message<W: Write>(
+    writer: &mut Watched<W>,
+    line: u32,
+    number: u64,
+    tag: u16,
+) -> Result<(), Fault>
+    ensures { WritesOrFails W.contents writer.old writer.new result
+        (concat (decimal line ∷ codes " ok " ∷ decimal number ∷ codes " " ∷ decimal tag ∷ [])) }
+{
+    let mut lines = Buffer::new();
+    let mut numbers = Buffer::new();
+    let mut tags = Buffer::new();
+    put_all(
+        writer,
+        &[
+            lines.format(line).as_bytes(),
+            b" ok ",
+            numbers.format(number).as_bytes(),
+            b" ",
+            tags.format(tag).as_bytes(),
+        ],
+    )
+}
+
+#[tactic(auto, unfolding(crate::specs::Texts::taken_text))]
+fn put_taken<W: Write>(
+    writer: &mut Watched<W>,
+    line: u32,
+    number: u64,
+    tag: u16,
+    lengths: &[Option<u32>],
+) -> Result<(), Fault>
+    ensures { WritesOrFails W.contents writer.old writer.new result (taken_text line number tag lengths.now) }
+{
+    put_message(writer, line, number, tag)?;
+    put_lengths(writer, lengths)?;
+    put(writer, b"\n")
+}
+
+fn count_of(refused: &Refused) -> Option<u32>
+    ensures { result ≡ count_of refused.now }
+{
+    match refused {
+        Refused::Full { back } => Some(back.len() as u32),
+        Refused::Unfinished { left } => Some(*left),
+        _ => None,
+    }
+}
+
+fn give_count_of(refused: &Refused) -> Option<u32>
+    ensures { result ≡ give_count_of refused.now }
+{
+    match refused {
+        Refused::Full { back } => Some(back.len() as u32),
+        Refused::PeerClosed { back } => Some(back.len() as u32),
+        Refused::Unfinished { left } => Some(*left),
+        _ => None,
+    }
+}
+
+#[tactic(auto, unfolding(crate::specs::Texts::refusal_text))]
+fn put_refusal<'a, W: Write>(
+    writer: &mut Watched<W>,
+    line: u32,
+    code: u8,
+    name: &'a [u8],
+    count: Option<u32>,
+) -> Result<(), Fault>
+    ensures { WritesOrFails W.contents writer.old writer.new result (refusal_text line code name.now count) }
+{
+    let mut lines = Buffer::new();
+    let mut codes = Buffer::new();
+    let mut counts = Buffer::new();
+    match count {
+        None => put_refused(
+            writer,
+            lines.format(line).as_bytes(),
+            codes.format(code).as_bytes(),
+            name,
+        ),
+        Some(n) => put_refused_with(
+            writer,
+            lines.format(line).as_bytes(),
+            codes.format(code).as_bytes(),
+            name,
+            counts.format(n).as_bytes(),
+        ),
+    }
+}
+
+fn put_refused<'a, W: Write>(
+    writer: &mut Watched<W>,
+    line: &'a [u8],
+    code: &'a [u8],
+    name: &'a [u8],
+) -> Result<(), Fault>
+    ensures { WritesOrFails W.contents writer.old writer.new result
+        (concat (line.now ∷ codes " no " ∷ code.now ∷ codes " " ∷ name.now ∷ codes "\n" ∷ [])) }
+{
+    put_all(writer, &[line, b" no ", code, b" ", name, b"\n"])
+}
+
+fn put_refused_with<'a, W: Write>(
+    writer: &mut Watched<W>,
+    line: &'a [u8],
+    code: &'a [u8],
+    name: &'a [u8],
+    count: &'a [u8],
+) -> Result<(), Fault>
+    ensures { WritesOrFails W.contents writer.old writer.new result
+        (concat (line.now ∷ codes " no " ∷ code.now ∷ codes " " ∷ name.now ∷ codes " " ∷ count.now ∷ codes "\n" ∷ [])) }
+{
+    put_all(
+        writer,
+        &[line, b" no ", code, b" ", name, b" ", count, b"\n"],
+    )
+}
+
+/// Writes the reply to the command of a line. Where the writer fails, or takes no byte, a front of
+/// the text was written, and the fault is `Write`.
+#[tactic(auto, unfolding(crate::specs::Texts::reply_text))]
+pub fn write_reply<W: Write>(writer: &mut Watched<W>, line: u32, reply: &Reply) -> Result<(), Fault>
+    ensures { WritesOrFails W.contents writer.old writer.new result (reply_text line reply.now) }
+{
+    match reply {
+        Reply::Done => put_done(writer, line),
+        Reply::Started(process) => put_number(writer, line, u64::from(*process)),
+        Reply::Length(length) => put_number(writer, line, u64::from(*length)),
+        Reply::Parts { head, tail } => {
+            put_numbers(writer, line, u64::from(*head), u64::from(*tail))
+        }
+        Reply::Bytes(bytes) => put_bytes(writer, line, bytes),
+        Reply::Given(number) => put_number(writer, line, *number),
+        Reply::Taken {
+            number,
+            tag,
+            blocks,
+        } => put_taken(writer, line, *number, *tag, blocks),
+        Reply::Reclaimed(bytes) => put_number(writer, line, *bytes),
+        Reply::Glance { blocks, bytes } => { put_numbers(writer, line, u64::from(*blocks), *bytes) }
+        Reply::NotGiven(refused) => put_refusal(
+            writer,
+            line,
+            refused.number(),
+            refused.name().as_bytes(),
+            give_count_of(refused),
+        ),
+        Reply::No(refused) => put_refusal(
+            writer,
+            line,
+            refused.number(),
+            refused.name().as_bytes(),
+            count_of(refused),
+        ),
+    }
+}
+
+/// Writes replies in their order, as `write_reply` does.
+pub fn write_answers<W: Write>(writer: &mut Watched<W>, answers: &[Answered]) -> Result<(), Fault>
+    ensures { WritesOrFails W.contents writer.old writer.new result (answer_texts answers.now) }
+{
+    for answered in answers {
+        write_reply(writer, answered.line, &answered.reply)?;
+    }
+    Ok(())
+}

@@ -1,0 +1,48 @@
+//! What is answered to a command.
+use arrayvec::ArrayVec;
+use xh_core::Refused;
+
+/// What is answered to a command, one variant for each form of text.
+#[derive(Debug, Drop)]
+pub enum Reply {
+    /// `contract`, `wire`, `open` and `write` are done.
+    Done,
+    /// `process` and `again` have a place; the process's number (place + 32 × generation).
+    Started(u16),
+    /// `alloc` and `free`: the block's length in bytes.
+    Length(u32),
+    /// `split`: the lengths of the two parts.
+    Parts {
+        head: u32,
+        tail: u32,
+    },
+    /// `read`: the bytes.
+    Bytes(ArrayVec<u8, 32>),
+    /// `give`: the message's number in its direction, from 1 on.
+    Given(u64),
+    /// `take` and `await`: the message's number, its tag, and the length of each block, or
+    /// `None` for one that another holds.
+    Taken {
+        number: u64,
+        tag: u16,
+        blocks: ArrayVec<Option<u32>, 8>,
+    },
+    /// `close`, `exit` and `kill`: the bytes that the command reclaimed.
+    Reclaimed(u64),
+    /// `glance`: how many blocks the process holds, and their bytes.
+    Glance {
+        blocks: u32,
+        bytes: u64,
+    },
+    /// A `give` is refused; a closed peer is told with the number of blocks handed back.
+    NotGiven(Refused),
+    /// Any other command is refused; a closed peer is told alone.
+    No(Refused),
+}
+
+/// A reply with the number of its command's line.
+#[derive(Debug, Drop)]
+pub struct Answered {
+    pub line: u32,
+    pub reply: Reply,
+}

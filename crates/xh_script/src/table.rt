@@ -1,0 +1,16 @@
+//! Contracts from the rows of a line.
+ghost use Rattle.std.specs.Prelude.{◌≡◌, Some, None, if◌then◌else◌};
+ghost use Rattle.xh_script.specs.Tables.{is_table};
+
+use xh_core::Contract;
+use xh_model::Row;
+
+/// The contract of these rows, if they are one.
+pub(crate) fn table_of(rows: &[Row]) -> Option<Contract>
+    ensures { result ≡ (if is_table rows.now then Some rows.now else None) }
+{
+    match Contract::new(rows) {
+        Ok(contract) => Some(contract),
+        Err(_) => None,
+    }
+}
