@@ -21,6 +21,7 @@ fn alloc_said(process: Name, block: &[u8], bytes: &[u8], arena: &[u8]) -> Result
 }
 
 /// `P alloc X BYTES ARENA`
+#[inline(never)]
 #[tactic(auto, unfolding(crate::specs::Forms::alloc_line))]
 pub(crate) fn alloc_line(process: Name, words: &[&[u8]]) -> Result<Said, Kind>
     ensures { result ≡ alloc_line process (map (λ w. w.now) words.now) }
@@ -47,6 +48,7 @@ fn split_said(process: Name, block: &[u8], at: &[u8], tail: &[u8]) -> Result<Sai
 }
 
 /// `P split X AT T`
+#[inline(never)]
 #[tactic(auto, unfolding(crate::specs::Forms::split_line))]
 pub(crate) fn split_line(process: Name, words: &[&[u8]]) -> Result<Said, Kind>
     ensures { result ≡ split_line process (map (λ w. w.now) words.now) }
@@ -73,6 +75,7 @@ fn read_said(process: Name, block: &[u8], at: &[u8], len: &[u8]) -> Result<Said,
 }
 
 /// `P read X AT LEN`
+#[inline(never)]
 #[tactic(auto, unfolding(crate::specs::Forms::read_line))]
 pub(crate) fn read_line(process: Name, words: &[&[u8]]) -> Result<Said, Kind>
     ensures { result ≡ read_line process (map (λ w. w.now) words.now) }
@@ -99,6 +102,7 @@ fn write_said(process: Name, block: &[u8], at: &[u8], bytes: &[u8]) -> Result<Sa
 }
 
 /// `P write X AT HEX`
+#[inline(never)]
 #[tactic(auto, unfolding(crate::specs::Forms::write_line))]
 pub(crate) fn write_line(process: Name, words: &[&[u8]]) -> Result<Said, Kind>
     ensures { result ≡ write_line process (map (λ w. w.now) words.now) }
@@ -110,6 +114,7 @@ pub(crate) fn write_line(process: Name, words: &[&[u8]]) -> Result<Said, Kind>
 }
 
 /// `P free X`
+#[inline(never)]
 #[tactic(auto, unfolding(crate::specs::Forms::free_line))]
 pub(crate) fn free_line(process: Name, words: &[&[u8]]) -> Result<Said, Kind>
     ensures { result ≡ free_line process (map (λ w. w.now) words.now) }

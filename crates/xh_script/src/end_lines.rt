@@ -9,6 +9,7 @@ use crate::{Kind, Name, Said};
 const FULL_BUDGET: u16 = 4096;
 
 /// `P exit`, or `P exit BUDGET`
+#[inline(never)]
 #[tactic(auto, unfolding(crate::specs::Forms::exit_line))]
 pub(crate) fn exit_line(process: Name, words: &[&[u8]]) -> Result<Said, Kind>
     ensures { result ≡ exit_line process (map (λ w. w.now) words.now) }
@@ -40,6 +41,7 @@ fn kill_said(process: Name, victim: &[u8], budget: &[u8]) -> Result<Said, Kind>
 }
 
 /// `P kill Q`, or `P kill Q BUDGET`
+#[inline(never)]
 #[tactic(auto, unfolding(crate::specs::Forms::kill_line))]
 pub(crate) fn kill_line(process: Name, words: &[&[u8]]) -> Result<Said, Kind>
     ensures { result ≡ kill_line process (map (λ w. w.now) words.now) }
@@ -56,6 +58,7 @@ pub(crate) fn kill_line(process: Name, words: &[&[u8]]) -> Result<Said, Kind>
 }
 
 /// `P glance Q`
+#[inline(never)]
 #[tactic(auto, unfolding(crate::specs::Forms::glance_line))]
 pub(crate) fn glance_line(process: Name, words: &[&[u8]]) -> Result<Said, Kind>
     ensures { result ≡ glance_line process (map (λ w. w.now) words.now) }
@@ -70,6 +73,7 @@ pub(crate) fn glance_line(process: Name, words: &[&[u8]]) -> Result<Said, Kind>
 }
 
 /// `P again`
+#[inline(never)]
 #[tactic(auto, unfolding(crate::specs::Forms::again_line))]
 pub(crate) fn again_line(process: Name, words: &[&[u8]]) -> Result<Said, Kind>
     ensures { result ≡ again_line process (map (λ w. w.now) words.now) }

@@ -11,6 +11,7 @@ use std::alloc::Global;
 use xh_model::Row;
 
 /// `process P`
+#[inline(never)]
 #[tactic(auto, unfolding(crate::specs::Forms::process_line))]
 pub(crate) fn process_line(words: &[&[u8]]) -> Result<Said, Kind>
     ensures { result ≡ process_line (map (λ w. w.now) words.now) }
@@ -52,6 +53,7 @@ fn wire_said(
 }
 
 /// `wire P E Q F ARENA`, and the name of a contract where one rules the channel
+#[inline(never)]
 #[tactic(auto, unfolding(crate::specs::Forms::wire_line))]
 pub(crate) fn wire_line(words: &[&[u8]]) -> Result<Said, Kind>
     ensures { result ≡ wire_line (map (λ w. w.now) words.now) }
@@ -125,6 +127,7 @@ fn contract_said(alloc: Global, name: &[u8], rows: &[&[u8]]) -> Result<Said, Sto
 }
 
 /// `contract K ROW ..`, with 1 to 16 rows
+#[inline(never)]
 #[tactic(auto, unfolding(crate::specs::Forms::contract_line))]
 pub(crate) fn contract_line(alloc: Global, words: &[&[u8]]) -> Result<Said, Stop>
     ensures { Answers (λ said. said) result (contract_line (map (λ w. w.now) words.now)) }

@@ -117,6 +117,7 @@ fn is_skipped(line: &[u8]) -> bool
 }
 
 /// What a line says, or none where the line is skipped.
+#[inline(never)]
 #[tactic(auto, unfolding(crate::specs::Grammar::said_at))]
 pub(crate) fn said_at(alloc: Global, line: &[u8]) -> Result<Option<Said>, Stop>
     ensures { Answers (λ said. said) result (said_at line.now) }

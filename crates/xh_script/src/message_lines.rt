@@ -29,6 +29,7 @@ fn open_said(
 }
 
 /// `P open E F ARENA`, and the name of a contract where one rules the channel
+#[inline(never)]
 #[tactic(auto, unfolding(crate::specs::Forms::open_line))]
 pub(crate) fn open_line(process: Name, words: &[&[u8]]) -> Result<Said, Kind>
     ensures { result ≡ open_line process (map (λ w. w.now) words.now) }
@@ -59,6 +60,7 @@ fn give_said(process: Name, endpoint: &[u8], tag: &[u8], blocks: &[&[u8]]) -> Re
 }
 
 /// `P give E TAG X ..`, with up to 16 names
+#[inline(never)]
 #[tactic(auto, unfolding(crate::specs::Forms::give_line))]
 pub(crate) fn give_line(process: Name, words: &[&[u8]]) -> Result<Said, Kind>
     ensures { result ≡ give_line process (map (λ w. w.now) words.now) }
@@ -88,6 +90,7 @@ fn take_said(process: Name, endpoint: &[u8], blocks: &[&[u8]]) -> Result<Said, K
 }
 
 /// `P take E X ..`, with up to 8 names
+#[inline(never)]
 #[tactic(auto, unfolding(crate::specs::Forms::take_line))]
 pub(crate) fn take_line(process: Name, words: &[&[u8]]) -> Result<Said, Kind>
     ensures { result ≡ take_line process (map (λ w. w.now) words.now) }
@@ -117,6 +120,7 @@ fn await_said(process: Name, endpoint: &[u8], blocks: &[&[u8]]) -> Result<Said, 
 }
 
 /// `P await E X ..`, with up to 8 names
+#[inline(never)]
 #[tactic(auto, unfolding(crate::specs::Forms::await_line))]
 pub(crate) fn await_line(process: Name, words: &[&[u8]]) -> Result<Said, Kind>
     ensures { result ≡ await_line process (map (λ w. w.now) words.now) }
@@ -132,6 +136,7 @@ pub(crate) fn await_line(process: Name, words: &[&[u8]]) -> Result<Said, Kind>
 }
 
 /// `P close E`
+#[inline(never)]
 #[tactic(auto, unfolding(crate::specs::Forms::close_line))]
 pub(crate) fn close_line(process: Name, words: &[&[u8]]) -> Result<Said, Kind>
     ensures { result ≡ close_line process (map (λ w. w.now) words.now) }

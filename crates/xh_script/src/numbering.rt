@@ -12,6 +12,7 @@ use xh_model::Row;
 
 impl Reading {
     /// A new contract.
+    #[inline(never)]
     #[tactic(auto, unfolding(crate::specs::Numbering::contract_numbered), using(crate::proofs::Readings::stops_then))]
     fn number_contract(&mut self, name: &Name, rows: &[Row]) -> Result<Command, Stop>
         ensures { Answers (λ c. (c, self.new)) result (contract_numbered self.old name.now rows.now) }
@@ -27,6 +28,7 @@ impl Reading {
         Ok(Command::Contract { contract })
     }
 
+    #[inline(never)]
     #[tactic(auto, unfolding(crate::specs::Numbering::process_numbered), using(crate::proofs::Readings::stops_then))]
     fn number_process(&mut self, process: &Name) -> Result<Command, Stop>
         ensures { Answers (λ c. (c, self.new)) result (process_numbered self.old process.now) }
@@ -35,6 +37,7 @@ impl Reading {
         Ok(Command::Process { process })
     }
 
+    #[inline(never)]
     #[tactic(auto, unfolding(crate::specs::Numbering::wire_numbered), using(crate::proofs::Readings::stops_then))]
     fn number_wire(
         &mut self,
@@ -61,6 +64,7 @@ impl Reading {
         })
     }
 
+    #[inline(never)]
     #[tactic(auto, unfolding(crate::specs::Numbering::open_numbered), using(crate::proofs::Readings::stops_then))]
     fn number_open(
         &mut self,
@@ -85,6 +89,7 @@ impl Reading {
         })
     }
 
+    #[inline(never)]
     #[tactic(auto, unfolding(crate::specs::Numbering::alloc_numbered), using(crate::proofs::Readings::stops_then))]
     fn number_alloc(
         &mut self,
@@ -105,6 +110,7 @@ impl Reading {
         })
     }
 
+    #[inline(never)]
     #[tactic(auto, unfolding(crate::specs::Numbering::split_numbered), using(crate::proofs::Readings::stops_then))]
     fn number_split(
         &mut self,
@@ -126,6 +132,7 @@ impl Reading {
         })
     }
 
+    #[inline(never)]
     #[tactic(auto, unfolding(crate::specs::Numbering::read_numbered), using(crate::proofs::Readings::stops_then))]
     fn number_read(
         &mut self,
@@ -146,6 +153,7 @@ impl Reading {
         })
     }
 
+    #[inline(never)]
     #[tactic(auto, unfolding(crate::specs::Numbering::write_numbered), using(crate::proofs::Readings::stops_then))]
     fn number_write(
         &mut self,
@@ -166,6 +174,7 @@ impl Reading {
         })
     }
 
+    #[inline(never)]
     #[tactic(auto, unfolding(crate::specs::Numbering::give_numbered), using(crate::proofs::Readings::stops_then))]
     fn number_give(
         &mut self,
@@ -187,6 +196,7 @@ impl Reading {
         })
     }
 
+    #[inline(never)]
     #[tactic(auto, unfolding(crate::specs::Numbering::take_numbered), using(crate::proofs::Readings::stops_then))]
     fn number_take(
         &mut self,
@@ -206,6 +216,7 @@ impl Reading {
         })
     }
 
+    #[inline(never)]
     #[tactic(auto, unfolding(crate::specs::Numbering::await_numbered), using(crate::proofs::Readings::stops_then))]
     fn number_await(
         &mut self,
@@ -225,6 +236,7 @@ impl Reading {
         })
     }
 
+    #[inline(never)]
     #[tactic(auto, unfolding(crate::specs::Numbering::free_numbered), using(crate::proofs::Readings::stops_then))]
     fn number_free(&mut self, process: &Name, block: &Name) -> Result<Command, Stop>
         ensures { Answers (λ c. (c, self.new)) result (free_numbered self.old process.now block.now) }
@@ -233,6 +245,7 @@ impl Reading {
         Ok(Command::Free { process, block })
     }
 
+    #[inline(never)]
     #[tactic(auto, unfolding(crate::specs::Numbering::close_numbered), using(crate::proofs::Readings::stops_then))]
     fn number_close(&mut self, process: &Name, endpoint: &Name) -> Result<Command, Stop>
         ensures { Answers (λ c. (c, self.new)) result (close_numbered self.old process.now endpoint.now) }
@@ -241,6 +254,7 @@ impl Reading {
         Ok(Command::Close { process, endpoint })
     }
 
+    #[inline(never)]
     #[tactic(auto, unfolding(crate::specs::Numbering::exit_numbered), using(crate::proofs::Readings::stops_then))]
     fn number_exit(&mut self, process: &Name, budget: u16) -> Result<Command, Stop>
         ensures { Answers (λ c. (c, self.new)) result (exit_numbered self.old process.now budget) }
@@ -249,6 +263,7 @@ impl Reading {
         Ok(Command::Exit { process, budget })
     }
 
+    #[inline(never)]
     #[tactic(auto, unfolding(crate::specs::Numbering::kill_numbered), using(crate::proofs::Readings::stops_then))]
     fn number_kill(&mut self, process: &Name, victim: &Name, budget: u16) -> Result<Command, Stop>
         ensures { Answers (λ c. (c, self.new)) result
@@ -263,6 +278,7 @@ impl Reading {
         })
     }
 
+    #[inline(never)]
     #[tactic(auto, unfolding(crate::specs::Numbering::glance_numbered), using(crate::proofs::Readings::stops_then))]
     fn number_glance(&mut self, process: &Name, other: &Name) -> Result<Command, Stop>
         ensures { Answers (λ c. (c, self.new)) result (glance_numbered self.old process.now other.now) }
@@ -272,6 +288,7 @@ impl Reading {
         Ok(Command::Glance { process, other })
     }
 
+    #[inline(never)]
     #[tactic(auto, unfolding(crate::specs::Numbering::again_numbered), using(crate::proofs::Readings::stops_then))]
     fn number_again(&mut self, process: &Name) -> Result<Command, Stop>
         ensures { Answers (λ c. (c, self.new)) result (again_numbered self.old process.now) }
@@ -281,6 +298,7 @@ impl Reading {
     }
 
     /// The command that a line says, with numbers for its names.
+    #[inline(never)]
     #[tactic(auto, unfolding(crate::specs::Scripts::numbered))]
     pub(crate) fn number(&mut self, said: Said) -> Result<Command, Stop>
         ensures { Answers (λ c. (c, self.new)) result (numbered self.old said) }

@@ -1,0 +1,58 @@
+//! The text of a ledger.
+use super::*;
+use crate::read_script;
+use arrayvec::ArrayVec;
+use std::test::Fail;
+
+const TEXT: &str = "arena 0 256 128 1 128 0\nprocess a running 1 32\nprocess b ended 3 96\nowned 128\nflight 0\nout 128\n";
+
+fn arenas() -> ArrayVec<ArenaLine, 8> {
+    let mut arenas = ArrayVec::new();
+    let _ = arenas.try_push(ArenaLine {
+        size: 256,
+        out: 128,
+        holes: 1,
+        taken: 128,
+        back: 0,
+    });
+    arenas
+}
+
+fn places() -> ArrayVec<PlaceLine, 32> {
+    let mut places = ArrayVec::new();
+    let _ = places.try_push(PlaceLine {
+        place: 0,
+        process: 0,
+        state: State::Running,
+        blocks: 1,
+        bytes: 32,
+    });
+    let _ = places.try_push(PlaceLine {
+        place: 1,
+        process: 33,
+        state: State::Ended,
+        blocks: 3,
+        bytes: 96,
+    });
+    places
+}
+
+#[test]
+fn one_ledger(rt: HostRuntime) -> Result<(), Fail> {
+    let alloc = rt.alloc();
+    let script = read_script(alloc, b"process a\nprocess b".as_slice()).map_err(|_| "a script")?;
+    let names = script.processes.as_slice();
+    let ledger = Ledger {
+        arenas: arenas(),
+        places: places(),
+        owned: 128,
+        flight: 0,
+        out: 128,
+    };
+    assert!(rt; ledger.places.iter().all(|line| usize::from(line.place) < names.len()));
+    let mut out = Vec::new(alloc);
+    let ended = write_ledger(&mut Watched::new(&mut out), &ledger, names);
+    assert!(rt; ended == Ok(()));
+    assert!(rt; out.as_slice() == TEXT.as_bytes());
+    Ok(())
+}
