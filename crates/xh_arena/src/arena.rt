@@ -213,6 +213,7 @@ impl Arena {
     pub fn holes(&self) -> &[(u32, u32)]
         ensures value { result.now ≡ holes_of self.now.cover }
         ensures all { AreHoles self.now.cover result.now }
+        ensures few { length result.now ≤ 257 }
         ensures lawful { IsLawful self.now }
     {
         self.holes.as_slice()
@@ -243,8 +244,9 @@ impl Arena {
     }
 
     /// How many bytes the arena has, handed out or not.
-    pub(crate) fn size(&self) -> u32
-        ensures { result ≡ length self.now.cover }
+    pub fn size(&self) -> u32
+        ensures size { result ≡ length self.now.cover }
+        ensures limit { result ≤ 1048576 }
     {
         self.size
     }

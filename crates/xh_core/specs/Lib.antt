@@ -1,3 +1,14 @@
 pub mod Refusals
 pub mod Tables
 pub mod Talks
+pub mod Machine
+pub mod Refusing
+pub mod Sweeping
+pub mod EndingCommands
+pub mod MessageCommands
+pub mod BlockCommands
+pub mod ChannelCommands
+pub mod PlaceCommands
+pub mod Gaining
+pub mod Checks
+pub mod Pairing

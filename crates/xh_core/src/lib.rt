@@ -1,18 +1,33 @@
 //! The pure machines: the ownership and the arenas, event by event, and the serial heap.
 #![tactic(auto)]
 
+mod block;
+mod buffer;
+mod config;
 mod contract;
+mod glance;
 mod ledger;
+mod line;
+mod message;
+mod place;
 mod plain;
 mod refused;
+mod serial;
+mod status;
 mod talk;
 mod talk_end;
 mod turn;
 
+pub use block::Block;
+pub use config::in_limits;
 pub use contract::Contract;
+pub use glance::Glance;
 pub use ledger::{ArenaLine, Ledger, PlaceLine, State};
+pub use message::Taken;
 pub use plain::Plain;
 pub use refused::Refused;
+pub use serial::Serial;
+pub use status::Status;
 pub use talk::Talk;
 pub use turn::Turn;
 pub use xh_model::{Config, Event, Holder, Outcome, Row};

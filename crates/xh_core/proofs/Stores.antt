@@ -1,0 +1,134 @@
+-- What accepting and giving back leave of a store.
+use Rattle.std.proofs.Common.{◌≡◌, ◌≢◌, ℕ, ◌+◌, ◌/◌, ◌%◌, ◌<◌, ◌≤◌, List, [], ◌∷◌, length, Bool, true, cond, refl, sym, ap, ◌∙◌, subst, arith, inl, inr, get_or-set_same, get_or-set_other}
+use Rattle.std.specs.Prelude.{Option, Some, None, ◌==◌, nat_lt, slice_set, slice_index_or}
+use Rattle.std.proofs.lemmas.Bool.{cases_eq, cases_Bool, cases_lt, false≢true, eq-eqb, ne_eqb, lt-ltb}
+use Rattle.std.proofs.lemmas.Bool.Decides.{nat_tests}
+use Rattle.std.proofs.lemmas.List.{get_or_past, length-set}
+use Rattle.std.proofs.lemmas.List.Sums.{sum_by-cons}
+use Rattle.xh_model.specs.declared.event.Holder.{Holder}
+use Rattle.xh_model.specs.declared.event.Holder.TheVariants.{Process, Direction}
+use Rattle.xh_model.specs.declared.event.Event.{Event}
+use Rattle.xh_model.specs.declared.event.Event.TheVariants.{GiveBack, Accept}
+use Rattle.xh_model.specs.Cover.{State, length_of}
+use Rattle.xh_model.specs.Store.{Store, no_arena, owner, arena_of, arena_at, len, holds, is_held_by, is_known, can, change, after, IsLawful}
+use Rattle.xh_model.proofs.Changed.{known_there}
+use Rattle.xh_model.proofs.Lawful.{held_known}
+use Rattle.xh_model.proofs.Returned.{given-own, given-other}
+use Rattle.xh_core.specs.Machine.{times}
+use Rattle.xh_core.specs.Sweeping.{accept_all}
+
+pub done : (e : Event) (s : Store) → can e s ≡ true → after e s ≡ change e s
+unfolding after
+done e s h = rw h refl
+
+pub same_process : (o : Option Holder) (p : ℕ) → is_held_by o (Process p) ≡ true → o ≡ Some (Process p)
+same_process None p h = absurd (false≢true h)
+same_process (Some (Process q)) p h = let e : q ≡ p = grind (arith, nat_tests, h) in ap (λ (x : ℕ). Some (Process x)) e
+same_process (Some (Direction q)) p h = absurd (false≢true h)
+
+pub same_direction : (o : Option Holder) (d : ℕ) → is_held_by o (Direction d) ≡ true → o ≡ Some (Direction d)
+same_direction None p h = absurd (false≢true h)
+same_direction (Some (Direction q)) p h = let e : q ≡ p = grind (arith, nat_tests, h) in ap (λ (x : ℕ). Some (Direction x)) e
+same_direction (Some (Process q)) p h = absurd (false≢true h)
+
+-- a record with a holder is there
+pub is_there : (s : Store) (h : Holder) (r : ℕ) → holds s h r ≡ true → r < length s.owners
+is_there s h r e = elim (cases_lt r (length s.owners)) [
+  | inl l ↦ l
+  | inr g ↦ let n : owner s r ≡ None = get_or_past s.owners r None g in absurd (false≢true (ap (λ o. is_held_by o h) (sym n) ∙ e))
+]
+
+pub owner-set : (s : Store) (r q : ℕ) (o : Option Holder) → r < length s.owners → slice_index_or (slice_set s.owners r o) q None ≡ cond (q == r) o (owner s q)
+owner-set s r q o l = elim (cases_eq q r) [
+  | inl e ↦ rw (eq-eqb q r e, e) (get_or-set_same s.owners r o None l)
+  | inr n ↦ rw (ne_eqb q r n) (get_or-set_other s.owners r q o None n)
+]
+
+pub times-cons : (q r : ℕ) (rs : List ℕ) → times q (r ∷ rs) ≡ cond (r == q) 1 0 + times q rs
+times-cons q r rs = sum_by-cons (λ x. cond (x == q) 1 0) r rs
+
+-- p accepted these
+pub record Accepted (p : ℕ) (rs : List ℕ) (s t : Store) : Type 0 where
+  pub owners : (q : ℕ) → owner t q ≡ cond (nat_lt 0 (times q rs)) (Some (Process p)) (owner s q)
+  pub many : length t.owners ≡ length s.owners
+  pub arenas : t.arenas ≡ s.arenas
+
+accept_here : (p d r : ℕ) (s : Store) → p < 4096 → holds s (Direction d) r ≡ true → after (Accept p r d) s ≡ change (Accept p r d) s
+accept_here p d r s l h = done (Accept p r d) s (rw (lt-ltb p 4096 l, h) refl)
+
+one_accepted : (p d r q : ℕ) (s : Store) → p < 4096 → holds s (Direction d) r ≡ true → owner (after (Accept p r d) s) q ≡ cond (q == r) (Some (Process p)) (owner s q)
+one_accepted p d r q s l h = rw (accept_here p d r s l h) (owner-set s r q (Some (Process p)) (is_there s (Direction d) r h))
+
+-- the first of them is held and stands no more behind
+first_held : (d r : ℕ) (rs : List ℕ) (b : Bool) → times r (r ∷ rs) ≤ cond b 1 0 → (b ≡ true) × (times r rs ≡ 0)
+first_held d r rs b h = let e : times r (r ∷ rs) ≡ 1 + times r rs = times-cons r r rs ∙ rw (eq-eqb r r refl) refl in
+    elim (cases_Bool b) [
+      | inl y ↦ (let k : times r (r ∷ rs) ≤ 1 = rw y at h in (y, omega arith))
+      | inr n ↦ (let k : times r (r ∷ rs) ≤ 0 = rw n at h in absurd (omega arith))
+    ]
+
+rest_held : (p d r : ℕ) (rs : List ℕ) (s : Store) → p < 4096 → ((q : ℕ) → times q (r ∷ rs) ≤ cond (holds s (Direction d) q) 1 0) →
+    holds s (Direction d) r ≡ true → (q : ℕ) → times q rs ≤ cond (holds (after (Accept p r d) s) (Direction d) q) 1 0
+rest_held p d r rs s l h held q = elim (cases_eq q r) [
+  | inl e ↦ (let z : times r rs ≡ 0 = (first_held d r rs (holds s (Direction d) r) (h r)).1 in
+      let z2 : times q rs ≡ 0 = rw e z in omega arith)
+  | inr n ↦ (let o : owner (after (Accept p r d) s) q ≡ owner s q = one_accepted p d r q s l held ∙ rw (ne_eqb q r n) refl in
+      let t : times q (r ∷ rs) ≡ times q rs = times-cons q r rs ∙ rw (ne_eqb r q (λ e. n (sym e))) (omega arith) in
+      let k : times q (r ∷ rs) ≤ cond (holds s (Direction d) q) 1 0 = h q in
+      let k2 : times q rs ≤ cond (holds s (Direction d) q) 1 0 = subst (λ (x : ℕ). x ≤ cond (holds s (Direction d) q) 1 0) t k in
+      rw o k2)
+]
+
+all_owners : (p q r : ℕ) (rs : List ℕ) (o : Option Holder) →
+    cond (nat_lt 0 (times q rs)) (Some (Process p)) (cond (q == r) (Some (Process p)) o) ≡ cond (nat_lt 0 (times q (r ∷ rs))) (Some (Process p)) o
+all_owners p q r rs o = let t : times q (r ∷ rs) ≡ cond (r == q) 1 0 + times q rs = times-cons q r rs in
+    elim (cases_eq q r) [
+      | inl e ↦ (let u : times q (r ∷ rs) ≡ 1 + times q rs = t ∙ rw (eq-eqb r q (sym e)) refl in
+          rw (eq-eqb q r e, lt-ltb 0 (times q (r ∷ rs)) (omega arith)) (elim (cases_Bool (nat_lt 0 (times q rs))) [ inl y ↦ rw y refl | inr n ↦ rw n refl ]))
+      | inr n ↦ (let u : times q (r ∷ rs) ≡ times q rs = t ∙ rw (ne_eqb r q (λ e. n (sym e))) (omega arith) in
+          rw (ne_eqb q r n, u) refl)
+    ]
+
+pub accepted_all : (p d : ℕ) (rs : List ℕ) (s : Store) → p < 4096 → ((q : ℕ) → times q rs ≤ cond (holds s (Direction d) q) 1 0) → Accepted p rs s (accept_all p d rs s)
+accepted_all p d [] s l h = record { owners = λ q. refl; many = refl; arenas = refl }
+accepted_all p d (r ∷ rs) s l h =
+    let held : holds s (Direction d) r ≡ true = (first_held d r rs (holds s (Direction d) r) (h r)).0 in
+    let is = accept_here p d r s l held in
+    let more : Accepted p rs (after (Accept p r d) s) (accept_all p d rs (after (Accept p r d) s)) = accepted_all p d rs (after (Accept p r d) s) l (rest_held p d r rs s l h held) in
+    record {
+      owners = λ q. more.owners q ∙ rw (one_accepted p d r q s l held) (all_owners p q r rs (owner s q));
+      many = more.many ∙ (ap (λ (t : Store). length t.owners) is ∙ length-set s.owners r (Some (Process p)));
+      arenas = more.arenas ∙ ap (λ (t : Store). t.arenas) is;
+    }
+
+-- ---- lengths
+
+-- lengths and the bytes handed out are read off the arenas alone
+pub same_len : (s t : Store) (q : ℕ) → t.arenas ≡ s.arenas → len t q ≡ len s q
+same_len s t q e = ap (λ (xs : List State). length_of (q % 256) (slice_index_or xs (q / 256) no_arena).cover) e
+
+pub same_known : (s t : Store) (q : ℕ) → t.arenas ≡ s.arenas → is_known t q ≡ is_known s q
+same_known s t q e = ap (λ (xs : List State). nat_lt (q % 256) (slice_index_or xs (q / 256) no_arena).records) e
+
+same_number : (q r : ℕ) → q / 256 ≡ r / 256 → q % 256 ≡ r % 256 → q ≡ r
+same_number q r a e = omega arith
+
+-- what is given back has no bytes
+pub len_back : (s : Store) (p r : ℕ) → r / 256 < length s.arenas → len (change (GiveBack p r) s) r ≡ 0
+len_back s p r l = ap (λ (a : State). length_of (r % 256) a.cover) (get_or-set_same s.arenas (r / 256) _ no_arena l) ∙ given-own (r % 256) (arena_of s r).cover
+
+-- the others have the bytes that they had
+pub len_back_else : (s : Store) (p r q : ℕ) → r / 256 < length s.arenas → q ≢ r → len (change (GiveBack p r) s) q ≡ len s q
+len_back_else s p r q l n = elim (cases_eq (q / 256) (r / 256)) [
+  | inl e ↦ (
+      let apart : q % 256 ≢ r % 256 = (λ f. n (same_number q r e f)) in
+      let now : arena_of (change (GiveBack p r) s) q ≡ arena_of (change (GiveBack p r) s) r = ap (λ (k : ℕ). arena_at (change (GiveBack p r) s) k) e in
+      let was : arena_of s q ≡ arena_of s r = ap (λ (k : ℕ). arena_at s k) e in
+      ap (λ (a : State). length_of (q % 256) a.cover) (now ∙ get_or-set_same s.arenas (r / 256) _ no_arena l)
+      ∙ (given-other (r % 256) (q % 256) (arena_of s r).cover apart ∙ ap (λ (a : State). length_of (q % 256) a.cover) (sym was)))
+  | inr d ↦ ap (λ (a : State). length_of (q % 256) a.cover) (get_or-set_other s.arenas (r / 256) (q / 256) _ no_arena d)
+]
+
+-- the arena of a record that someone holds is there
+pub arena_there : (s : Store) (h : Holder) (r : ℕ) → IsLawful s → holds s h r ≡ true → r / 256 < length s.arenas
+arena_there s h r w e = known_there s r (held_known s h r w e)

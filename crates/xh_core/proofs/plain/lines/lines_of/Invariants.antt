@@ -1,0 +1,6 @@
+use Rattle.std.proofs.Common.{◌≡◌, take, map}
+use Rattle.xh_core.specs.PlaceCommands.{arena_line}
+use Rattle.xh_core.proofs.plain.lines.lines_of.Given as goal
+
+abbrev pub invariant-loop-arena : goal.invariant-loop-arena
+invariant-loop-arena l = l.lines.items ≡ map arena_line (take l.arena-index l.arenas)

@@ -1,0 +1,102 @@
+use Rattle.std.proofs.Common.{◌≡◌, ◌∙◌, ◌*◌, ◌+◌, ◌%◌, ◌<◌, ℕ, List, length, sym, ap, refl, subst, Some, None, Ok}
+use Rattle.std.specs.Prelude.{Option, slice_set, slice_index_or}
+use Rattle.std.proofs.lemmas.Result.{err_from_is_err_and}
+use Rattle.xh_model.specs.declared.row.Row.{Row}
+use Rattle.xh_model.specs.Store.{Store}
+use Rattle.xh_core.specs.declared.place.Place.{Place}
+use Rattle.xh_core.specs.Machine.{Machine, IsWhole, no_place}
+use Rattle.xh_core.specs.Refusing.{first_refusal, IsRunning}
+use Rattle.xh_core.specs.ChannelCommands.{ends_at, wired, wire_channel}
+use Rattle.xh_core.specs.Pairing.{Paired, moved, pair_tests, wire_heads}
+use Rattle.xh_core.proofs.Machines.{same_machine}
+use Rattle.xh_core.proofs.Appended.{appended}
+use Rattle.xh_core.proofs.Connected.{connected, connected_whole, connected_is, room_p, room_q}
+use Rattle.xh_core.proofs.Opening.{wire_stopped, wire_no_room, wire_done, pair_there, all_shared}
+use Rattle.xh_core.proofs.Pairs.{Shared}
+use Rattle.xh_core.proofs.serial.Serial.connect.Goals as goal
+
+pub returns-in_err-check_wire : goal.returns-in_err-check_wire
+returns-in_err-check_wire c =
+    let e = err_from_is_err_and c.from_residual.result c.from_residual.ensures.1 in
+    rw (e.1, e.2) (wire_stopped c.args.p c.args.q c.args.arena c.args.contract c.args.self.now c.in_err-check_wire.field-0.0 c.in_err-check_wire.ensures)
+
+pub returns-in_err-r : goal.returns-in_err-r
+returns-in_err-r c =
+    let e = err_from_is_err_and c.from_residual-in_err-r.result c.from_residual-in_err-r.ensures.1 in
+    let room = subst (λ (x : Machine). first_refusal (pair_tests c.args.p x.store c.args.arena) ≡ Some c.in_err-r.field-0.0) c.self.view_is c.in_err-r.ensures.tests in
+    rw (e.1, e.2, c.in_err-r.ensures.unchanged, c.self.view_is) (wire_no_room c.args.p c.args.q c.args.arena c.args.contract c.args.self.now c.in_err-r.field-0.0 c.in_ok-check_wire.ensures.0 room)
+
+pub mark_ends-requires-clause-low : goal.mark_ends-requires-clause-low
+mark_ends-requires-clause-low c =
+    let m : Machine = record { store = c.self.inside.plain; ends = c.self.inside.ends.items; buffers = c.self.inside.buffers.items; places = c.self.inside.places.items; lines = c.self.inside.lines.items; contracts = c.self.inside.contracts.items; opened = c.self.inside.opened; depth = c.self.inside.depth } in
+    let runs : IsRunning m c.args.p = subst (λ (x : Machine). IsRunning x c.args.p) (sym c.self.view_is) c.in_ok-check_wire.ensures.1.0 in
+    (pair_there m c.args.p c.args.arena c.in_ok-r.r c.in_ok-r.t c.take_ends.new.self c.self.invariant runs c.in_ok-r.ensures.done).0
+
+pub mark_ends-requires-clause-high : goal.mark_ends-requires-clause-high
+mark_ends-requires-clause-high c =
+    let m : Machine = record { store = c.self.inside.plain; ends = c.self.inside.ends.items; buffers = c.self.inside.buffers.items; places = c.self.inside.places.items; lines = c.self.inside.lines.items; contracts = c.self.inside.contracts.items; opened = c.self.inside.opened; depth = c.self.inside.depth } in
+    let runs : IsRunning m c.args.p = subst (λ (x : Machine). IsRunning x c.args.p) (sym c.self.view_is) c.in_ok-check_wire.ensures.1.0 in
+    (pair_there m c.args.p c.args.arena c.in_ok-r.r c.in_ok-r.t c.take_ends.new.self c.self.invariant runs c.in_ok-r.ensures.done).1
+
+pub list_record-requires-clause-room : goal.list_record-requires-clause-room
+list_record-requires-clause-room c =
+    let m : Machine = record { store = c.self.inside.plain; ends = c.self.inside.ends.items; buffers = c.self.inside.buffers.items; places = c.self.inside.places.items; lines = c.self.inside.lines.items; contracts = c.self.inside.contracts.items; opened = c.self.inside.opened; depth = c.self.inside.depth } in
+    let runs_p : IsRunning m c.args.p = subst (λ (x : Machine). IsRunning x c.args.p) (sym c.self.view_is) c.in_ok-check_wire.ensures.1.0 in
+    let runs_q : IsRunning m c.args.q = subst (λ (x : Machine). IsRunning x c.args.q) (sym c.self.view_is) c.in_ok-check_wire.ensures.1.1 in
+    let more : m.opened < 64 = subst (λ (x : Machine). x.opened < 64) (sym c.self.view_is) c.in_ok-check_wire.ensures.1.3 in
+    let g : Shared c.args.p c.args.q c.in_ok-r.r c.in_ok-r.t m.store c.hand_over.new.self =
+    all_shared m c.args.p c.args.q c.args.arena c.in_ok-r.r c.in_ok-r.t c.take_ends.new.self c.hand_over.new.self c.self.invariant runs_p runs_q more c.in_ok-r.ensures.done c.hand_over.ensures.store c.hand_over.ensures.lawful in
+    room_p c.hand_over.new.self c.args.p c.args.q c.in_ok-r.r c.in_ok-r.t c.args.contract m c.self.invariant runs_p runs_q more c.begin_lines.ensures.sound g
+
+pub list_record-requires-2-clause-room : goal.list_record-requires-2-clause-room
+list_record-requires-2-clause-room c =
+    let m : Machine = record { store = c.self.inside.plain; ends = c.self.inside.ends.items; buffers = c.self.inside.buffers.items; places = c.self.inside.places.items; lines = c.self.inside.lines.items; contracts = c.self.inside.contracts.items; opened = c.self.inside.opened; depth = c.self.inside.depth } in
+    let runs_p : IsRunning m c.args.p = subst (λ (x : Machine). IsRunning x c.args.p) (sym c.self.view_is) c.in_ok-check_wire.ensures.1.0 in
+    let runs_q : IsRunning m c.args.q = subst (λ (x : Machine). IsRunning x c.args.q) (sym c.self.view_is) c.in_ok-check_wire.ensures.1.1 in
+    let more : m.opened < 64 = subst (λ (x : Machine). x.opened < 64) (sym c.self.view_is) c.in_ok-check_wire.ensures.1.3 in
+    let g : Shared c.args.p c.args.q c.in_ok-r.r c.in_ok-r.t m.store c.hand_over.new.self =
+    all_shared m c.args.p c.args.q c.args.arena c.in_ok-r.r c.in_ok-r.t c.take_ends.new.self c.hand_over.new.self c.self.invariant runs_p runs_q more c.in_ok-r.ensures.done c.hand_over.ensures.store c.hand_over.ensures.lawful in
+    let listed : c.list_record.new.places.items ≡ appended c.args.p c.in_ok-r.r m.places = c.list_record.ensures in
+    subst (λ (ps : List Place). length (slice_index_or ps (c.args.q % 32) no_place).blocks.items < 2048) (sym listed)
+    (room_q c.hand_over.new.self c.args.p c.args.q c.in_ok-r.r c.in_ok-r.t c.args.contract m c.self.invariant runs_p runs_q more c.begin_lines.ensures.sound g)
+
+-- ---- the machine at the end
+
+abbrev was : goal.After-list_record-2 → Machine
+was c = record { store = c.self.inside.plain; ends = c.self.inside.ends.items; buffers = c.self.inside.buffers.items; places = c.self.inside.places.items; lines = c.self.inside.lines.items; contracts = c.self.inside.contracts.items; opened = c.self.inside.opened; depth = c.self.inside.depth }
+
+abbrev is : goal.After-list_record-2 → Machine
+is c = record { store = c.hand_over.new.self; ends = c.mark_ends.new.ends.items; buffers = c.self.inside.buffers.items; places = c.list_record-2.new.places.items; lines = c.begin_lines.new.lines.items; contracts = slice_set c.self.inside.contracts.items c.from.result c.args.contract; opened = c.self.inside.opened + 1; depth = c.self.inside.depth }
+
+runs_first : (c : goal.After-list_record-2) → IsRunning (was c) c.args.p
+runs_first c = subst (λ (x : Machine). IsRunning x c.args.p) (sym c.self.view_is) c.in_ok-check_wire.ensures.1.0
+
+runs_second : (c : goal.After-list_record-2) → IsRunning (was c) c.args.q
+runs_second c = subst (λ (x : Machine). IsRunning x c.args.q) (sym c.self.view_is) c.in_ok-check_wire.ensures.1.1
+
+-- it is the one with a channel more
+made : (c : goal.After-list_record-2) → is c ≡ connected c.hand_over.new.self c.args.p c.args.q c.in_ok-r.r c.in_ok-r.t c.args.contract (was c)
+made c =
+    let first : c.list_record.new.places.items ≡ appended c.args.p c.in_ok-r.r (was c).places = c.list_record.ensures in
+    let second : c.list_record-2.new.places.items ≡ appended c.args.q c.in_ok-r.t c.list_record.new.places.items = c.list_record-2.ensures in
+    same_machine (is c) (connected c.hand_over.new.self c.args.p c.args.q c.in_ok-r.r c.in_ok-r.t c.args.contract (was c)) refl c.mark_ends.ensures refl
+    (second ∙ ap (λ (ps : List Place). appended c.args.q c.in_ok-r.t ps) first)
+    c.begin_lines.ensures.lines (ap (λ (k : ℕ). slice_set c.self.inside.contracts.items k c.args.contract) c.from.ensures) refl refl
+
+pub invariant_of-self-2 : goal.invariant_of-self-2
+invariant_of-self-2 c =
+    let more : (was c).opened < 64 = subst (λ (x : Machine). x.opened < 64) (sym c.self.view_is) c.in_ok-check_wire.ensures.1.3 in
+    let g : Shared c.args.p c.args.q c.in_ok-r.r c.in_ok-r.t (was c).store c.hand_over.new.self =
+    all_shared (was c) c.args.p c.args.q c.args.arena c.in_ok-r.r c.in_ok-r.t c.take_ends.new.self c.hand_over.new.self c.self.invariant (runs_first c) (runs_second c) more c.in_ok-r.ensures.done c.hand_over.ensures.store c.hand_over.ensures.lawful in
+    subst IsWhole (sym (made c)) (connected_whole c.hand_over.new.self c.args.p c.args.q c.in_ok-r.r c.in_ok-r.t c.args.contract (was c) c.self.invariant (runs_first c) (runs_second c) more c.begin_lines.ensures.sound g)
+
+pub returns : goal.returns
+returns c =
+    let heads = subst (λ (x : Machine). first_refusal (wire_heads x c.args.p c.args.q c.args.arena) ≡ None) (sym c.self.view_is) c.in_ok-check_wire.ensures.0 in
+    let pair : Paired c.args.p c.args.arena c.in_ok-r.r c.in_ok-r.t (was c).store c.take_ends.new.self = c.in_ok-r.ensures.done in
+    let done = wire_done c.args.p c.args.q c.args.arena c.in_ok-r.r c.in_ok-r.t c.args.contract (was c) c.take_ends.new.self heads c.in_ok-r.ensures.tests pair in
+    let store = c.hand_over.ensures.store ∙ ap (λ (s : Store). moved c.args.p c.args.q c.in_ok-r.t (2 * (was c).opened + 1) s) pair.is in
+    let end : wired c.args.p c.args.q c.in_ok-r.r c.in_ok-r.t c.args.contract (was c) ≡ is c =
+    sym (made c ∙ (ap (λ (s : Store). connected s c.args.p c.args.q c.in_ok-r.r c.in_ok-r.t c.args.contract (was c)) store
+    ∙ connected_is c.args.p c.args.q c.in_ok-r.r c.in_ok-r.t c.args.contract (was c) c.self.invariant (runs_first c) (runs_second c))) in
+    ap (λ (x : Machine). wire_channel c.args.p c.args.q c.args.arena c.args.contract x) (sym c.self.view_is) ∙ (done ∙ (λ i. (Ok (ends_at c.in_ok-r.r c.in_ok-r.t), end i)))

@@ -1,0 +1,6 @@
+use Rattle.std.proofs.Common.{◌∙◌, sym, None, Some}
+use Rattle.xh_core.proofs.Opening.{same_process}
+use Rattle.xh_core.proofs.serial.Serial.open.Goals as goal
+
+pub returns : goal.returns
+returns c = sym (same_process c.args.p c.args.arena None c.args.self.now) ∙ c.connect.ensures

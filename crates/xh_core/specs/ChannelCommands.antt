@@ -1,0 +1,78 @@
+-- The commands open and wire, with a contract or without.
+use Rattle.std.specs.Prelude.{ℕ, ◌+◌, ◌*◌, ◌==◌, ◌||◌, false, cond, List, [], ◌∷◌, ◌++◌, Option, Some, None, is_none, length, nat_le, slice_set, Ok}
+use Rattle.xh_model.specs.declared.event.Event.TheVariants.{Claim, Carve, Cut, Pass, Accept}
+use Rattle.xh_model.specs.declared.row.Row.{Row}
+use Rattle.xh_model.specs.Rows.{row_at}
+use Rattle.xh_model.specs.Store.{Store, after}
+use Rattle.xh_core.specs.declared.block.Block.{Block}
+use Rattle.xh_core.specs.declared.line.Line.{Line}
+use Rattle.xh_core.specs.declared.refused.Refused.TheVariants.{NoArena, NoChannel, NoRecord}
+use Rattle.xh_core.specs.Machine.{Machine, blocks, with_list}
+use Rattle.xh_core.specs.Refusing.{Answer, Tests, answered, first_refusal, start}
+use Rattle.xh_core.specs.BlockCommands.{free_record, lowest, space_tests}
+
+-- the records of the two ends: the lowest free one, and the lowest free one after that
+abbrev pub low_end : Store → ℕ → ℕ
+low_end s a = lowest s a
+
+abbrev pub claimed_once : ℕ → Store → ℕ → Store
+claimed_once p s a = after (Claim p (low_end s a)) s
+
+abbrev pub high_end : ℕ → Store → ℕ → ℕ
+high_end p s a = lowest (claimed_once p s a) a
+
+-- no arena, no channel, no two records, or no room for 64 bytes
+abbrev pub channel_tests : Machine → ℕ → ℕ → Tests
+channel_tests m p a =
+    (nat_le (length m.store.arenas) a, NoArena)
+    ∷ (nat_le 64 m.opened, NoChannel)
+    ∷ (is_none (free_record m.store a) || is_none (free_record (claimed_once p m.store a) a), NoRecord)
+    ∷ space_tests m.store a 64
+
+-- the state in which both ends begin
+abbrev pub first_state : Option (List Row) → ℕ
+first_state None = 0
+first_state (Some rows) = (row_at rows 0).state
+
+-- a new direction
+abbrev pub new_line : Option (List Row) → Line
+new_line contract = record { shut = false; state = first_state contract; put = 0; waiting = record { items = [] } }
+
+-- the two ends as blocks
+abbrev pub ends_at : ℕ → ℕ → Block × Block
+ends_at r t = (record { rec = r; len = 32 }, record { rec = t; len = 32 })
+
+-- Two free records r and t are claimed, 64 bytes are carved for r and cut in halves: r is side 0 and t side 1 of the next channel.
+unfoldable pub opened : ℕ → ℕ → ℕ → Option (List Row) → Machine → Machine
+opened p r t contract m = record m {
+  store = after (Cut p r t 32) (after (Carve p r 64) (after (Claim p t) (after (Claim p r) m.store)));
+  ends = slice_set (slice_set m.ends r (Some (2 * m.opened))) t (Some (2 * m.opened + 1));
+  lines = slice_set (slice_set m.lines (2 * m.opened) (new_line contract)) (2 * m.opened + 1) (new_line contract);
+  contracts = slice_set m.contracts m.opened contract;
+  opened = m.opened + 1;
+}
+
+-- both ends go to the end of the list
+unfoldable pub open_channel : ℕ → ℕ → Option (List Row) → Machine → Answer (Block × Block)
+open_channel p a contract m =
+    let r : ℕ = low_end m.store a in
+    let t : ℕ = high_end p m.store a in
+    answered (first_refusal (start m p ++ channel_tests m p a)) m
+    (Ok (ends_at r t), with_list p (blocks m p ++ r ∷ t ∷ []) (opened p r t contract m))
+
+-- the end t is passed on its own direction d, and accepted by q
+abbrev pub handed : ℕ → ℕ → ℕ → ℕ → Store → Store
+handed p q t d s = after (Accept q t d) (after (Pass p t d) s)
+
+-- a channel is opened, and its side 1 is handed to q; where p and q are one process it stays
+abbrev pub wired : ℕ → ℕ → ℕ → ℕ → Option (List Row) → Machine → Machine
+wired p q r t contract m =
+    let n : Machine = opened p r t contract m in
+    cond (p == q) (with_list p (blocks m p ++ r ∷ t ∷ []) n)
+    (with_list q (blocks m q ++ t ∷ []) (with_list p (blocks m p ++ r ∷ []) (record n { store = handed p q t (2 * m.opened + 1) n.store })))
+
+unfoldable pub wire_channel : ℕ → ℕ → ℕ → Option (List Row) → Machine → Answer (Block × Block)
+wire_channel p q a contract m =
+    let r : ℕ = low_end m.store a in
+    let t : ℕ = high_end p m.store a in
+    answered (first_refusal (start m p ++ start m q ++ channel_tests m p a)) m (Ok (ends_at r t), wired p q r t contract m)

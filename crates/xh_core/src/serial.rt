@@ -1,0 +1,142 @@
+//! The serial heap: places, channels and the bytes of blocks over the plain machine.
+ghost use Rattle.std.specs.Prelude.{◌≡◌, ◌⊎◌, ◌↔◌, [], None, Err, IfOk, IfErr, OnOk, length, replicate};
+ghost use Rattle.xh_model.specs.Store.{IsConfig};
+ghost use Rattle.xh_core.specs.Machine.{no_place, no_line};
+ghost use Rattle.xh_core.specs.PlaceCommands.{new_machine};
+
+mod blocks;
+mod books;
+mod channels;
+mod checks;
+mod ending;
+mod messages;
+mod places;
+mod sweep;
+
+use crate::buffer::Buffer;
+use crate::contract::Contract;
+use crate::line::Line;
+use crate::place::Place;
+use crate::plain::Plain;
+use crate::refused::Refused;
+use crate::status::Status;
+use arrayvec::ArrayVec;
+use std::alloc::{AllocError, Global};
+use std::marker::Model;
+use xh_model::Config;
+
+/// A heap whose commands are made one after the other.
+///
+/// A process is a number, place + 32 × generation; a record is 256 × arena + index. A direction is
+/// 2 × channel + the side that it leads to.
+#[derive(Drop)]
+pub struct Serial {
+    plain: Plain,
+    /// By record, the direction toward it, where it is an endpoint.
+    ends: Vec<Option<u8>>,
+    /// By record, its bytes, where it is a data block.
+    buffers: Vec<Buffer>,
+    places: Vec<Place>,
+    /// By direction.
+    lines: Vec<Line>,
+    /// By channel.
+    contracts: Vec<Option<Contract>>,
+    /// How many channels were opened.
+    opened: u8,
+    depth: u8,
+}
+
+impl Model for Serial {
+    ghost use Rattle.xh_core.specs.Machine.{Machine, IsWhole};
+
+    ghost Value = { Machine };
+
+    ghost view = { λ s. record { store = s.plain; ends = s.ends.items; buffers = s.buffers.items; places = s.places.items; lines = s.lines.items; contracts = s.contracts.items; opened = s.opened; depth = s.depth } };
+
+    ghost invariant = { λ s. IsWhole (record { store = s.plain; ends = s.ends.items; buffers = s.buffers.items; places = s.places.items; lines = s.lines.items; contracts = s.contracts.items; opened = s.opened; depth = s.depth }) };
+}
+
+/// No endpoint.
+fn no_ends(alloc: Global, count: usize) -> Result<Vec<Option<u8>>, AllocError>
+    ensures { IfOk result (λ ends. ends.items ≡ replicate count None) }
+{
+    vec![in alloc; None; count]
+}
+
+/// No bytes.
+fn no_buffers(alloc: Global, count: u16) -> Result<Vec<Buffer>, AllocError>
+    ensures { IfOk result (λ buffers. buffers.items ≡ replicate count []) }
+{
+    let mut buffers = Vec::with_capacity(alloc, usize::from(count))?;
+    for _ in 0..count {
+        buffers.push(Buffer::none())?;
+    }
+    Ok(buffers)
+}
+
+/// The places, all vacant.
+fn new_places(alloc: Global) -> Result<Vec<Place>, AllocError>
+    ensures { IfOk result (λ places. places.items ≡ replicate 32 no_place) }
+{
+    let mut places = Vec::with_capacity(alloc, 32)?;
+    for _ in 0..32u8 {
+        places.push(Place {
+            blocks: ArrayVec::new(),
+            status: Status::Vacant,
+            generation: 0,
+        })?;
+    }
+    Ok(places)
+}
+
+/// The directions of all channels.
+fn new_lines(alloc: Global) -> Result<Vec<Line>, AllocError>
+    ensures { IfOk result (λ lines. lines.items ≡ replicate 128 no_line) }
+{
+    let mut lines = Vec::with_capacity(alloc, 128)?;
+    for _ in 0..128u8 {
+        lines.push(Line {
+            shut: false,
+            state: 0,
+            put: 0,
+            waiting: ArrayVec::new(),
+        })?;
+    }
+    Ok(lines)
+}
+
+/// No contract for any channel.
+fn no_contracts(alloc: Global) -> Result<Vec<Option<Contract>>, AllocError>
+    ensures { IfOk result (λ contracts. contracts.items ≡ replicate 64 None) }
+{
+    let mut contracts = Vec::with_capacity(alloc, 64)?;
+    for _ in 0..64u8 {
+        contracts.push(None)?;
+    }
+    Ok(contracts)
+}
+
+impl Serial {
+    /// A heap without processes, channels and blocks. BadSize where the config is outside its
+    /// limits, then OutOfMemory. All room but that of the blocks' bytes is made here.
+    #[tactic(auto, unfolding(crate::specs::PlaceCommands::new_machine))]
+    pub fn new(alloc: Global, config: Config) -> Result<Serial, Refused>
+        ensures fresh { IfOk result (λ s. s ≡ new_machine config) }
+        ensures limits { OnOk result (IsConfig config) }
+        ensures bad_size { (result ≡ Err Refused.BadSize) ↔ (IsConfig config → ⊥) }
+        ensures refused { IfErr result (λ e. (e ≡ Refused.BadSize) ⊎ (e ≡ Refused.OutOfMemory)) }
+    {
+        let plain = Plain::new(alloc, config)?;
+        let count = 256 * u16::from(config.arenas);
+        Ok(Serial {
+            plain,
+            ends: no_ends(alloc, usize::from(count))?,
+            buffers: no_buffers(alloc, count)?,
+            places: new_places(alloc)?,
+            lines: new_lines(alloc)?,
+            contracts: no_contracts(alloc)?,
+            opened: 0,
+            depth: config.depth,
+        })
+    }
+}

@@ -1,0 +1,124 @@
+//! Blocks of one arena and of several: sizes, the places they get, and what a refused growth leaves.
+use crate::block::Block;
+use crate::refused::Refused;
+use crate::serial::Serial;
+use xh_model::Config;
+
+/// One arena of 256 bytes.
+fn small() -> Config {
+    Config {
+        arenas: 1,
+        bytes: 256,
+        records: 256,
+        depth: 4,
+        wear: 9_223_372_036_854_775_807,
+    }
+}
+
+/// The length of the block, or the number of the refusal.
+fn told(answer: Result<Block, Refused>) -> Result<u32, u8> {
+    match answer {
+        Ok(block) => Ok(block.len),
+        Err(refused) => Err(refused.number()),
+    }
+}
+
+#[test]
+fn sizes_and_full_arena(rt: HostRuntime) {
+    let mut heap = Serial::new(rt.alloc(), small()).expect(&rt, "room");
+    let a = heap.spawn().expect(&rt, "a place");
+    assert_eq!(rt; told(heap.alloc(rt.alloc(), a, 0, 0)), Err(2));
+    assert_eq!(rt; told(heap.alloc(rt.alloc(), a, 257, 0)), Err(2));
+    let x = heap.alloc(rt.alloc(), a, 256, 0).expect(&rt, "room");
+    assert_eq!(rt; x.len, 256);
+    assert_eq!(rt; told(heap.alloc(rt.alloc(), a, 1, 0)), Err(4));
+    assert_eq!(rt; told(heap.alloc(rt.alloc(), a, 16, 1)), Err(3));
+    assert_eq!(rt; heap.free(a, x.rec).ok(), Some(256));
+    assert!(rt; matches!(heap.free(a, x.rec), Err(Refused::NotOwned)));
+}
+
+/// Blocks go to the lowest hole that has room, and neighbouring holes are one.
+#[test]
+fn lowest_address_first(rt: HostRuntime) {
+    let config = Config { bytes: 64, records: 4, ..small() };
+    let mut heap = Serial::new(rt.alloc(), config).expect(&rt, "room");
+    let a = heap.spawn().expect(&rt, "a place");
+    let x = heap.alloc(rt.alloc(), a, 16, 0).expect(&rt, "room");
+    assert_eq!(rt; told(heap.alloc(rt.alloc(), a, 16, 0)), Ok(16));
+    let z = heap.alloc(rt.alloc(), a, 16, 0).expect(&rt, "room");
+    assert_eq!(rt; told(heap.alloc(rt.alloc(), a, 16, 0)), Ok(16));
+    assert_eq!(rt; (x.rec, z.rec), (0, 2));
+    assert_eq!(rt; heap.free(a, x.rec).ok(), Some(16));
+    assert_eq!(rt; heap.free(a, z.rec).ok(), Some(16));
+    assert_eq!(rt; told(heap.alloc(rt.alloc(), a, 32, 0)), Err(4));
+    assert_eq!(rt; heap.alloc(rt.alloc(), a, 16, 0).expect(&rt, "room").rec, 0);
+    assert_eq!(rt; heap.alloc(rt.alloc(), a, 16, 0).expect(&rt, "room").rec, 2);
+}
+
+#[test]
+fn records_and_arenas_run_out(rt: HostRuntime) {
+    let config = Config { arenas: 2, bytes: 64, records: 2, ..small() };
+    let mut heap = Serial::new(rt.alloc(), config).expect(&rt, "room");
+    let a = heap.spawn().expect(&rt, "a place");
+    assert_eq!(rt; told(heap.alloc(rt.alloc(), a, 16, 0)), Ok(16));
+    assert_eq!(rt; told(heap.alloc(rt.alloc(), a, 16, 0)), Ok(16));
+    assert_eq!(rt; told(heap.alloc(rt.alloc(), a, 16, 0)), Err(5));
+    assert_eq!(rt; heap.alloc(rt.alloc(), a, 16, 1).expect(&rt, "room").rec, 256);
+}
+
+#[test]
+fn worn_arena(rt: HostRuntime) {
+    let config = Config { wear: 96, ..small() };
+    let mut heap = Serial::new(rt.alloc(), config).expect(&rt, "room");
+    let a = heap.spawn().expect(&rt, "a place");
+    for _ in 0..2u8 {
+        let x = heap.alloc(rt.alloc(), a, 48, 0).expect(&rt, "room");
+        assert_eq!(rt; heap.free(a, x.rec).ok(), Some(48));
+    }
+    assert_eq!(rt; told(heap.alloc(rt.alloc(), a, 1, 0)), Err(19));
+}
+
+#[test]
+fn processes_that_are_none(rt: HostRuntime) {
+    let mut heap = Serial::new(rt.alloc(), small()).expect(&rt, "room");
+    assert_eq!(rt; told(heap.alloc(rt.alloc(), 0, 16, 0)), Err(11));
+    assert_eq!(rt; heap.spawn().ok(), Some(0));
+    assert_eq!(rt; told(heap.alloc(rt.alloc(), 0, 16, 0)), Ok(16));
+    for p in [1, 32, 255, 4_096, 65_535] {
+        assert_eq!(rt; told(heap.alloc(rt.alloc(), p, 16, 0)), Err(11));
+    }
+}
+
+/// A growth that is refused, whichever it is, is answered in its place of the order, and the same
+/// call after it answers as if there had been none: `rt try --test --fail-alloc N` refuses the N-th.
+#[test]
+fn a_refused_growth_of_alloc_leaves_nothing(rt: HostRuntime) {
+    let Ok(mut heap) = Serial::new(rt.alloc(), small()) else {
+        assert!(rt; Serial::new(rt.alloc(), small()).is_ok());
+        return;
+    };
+    let a = heap.spawn().expect(&rt, "a place");
+    let first = heap.alloc(rt.alloc(), a, 40, 0);
+    if let Err(refused) = &first {
+        assert_eq!(rt; refused.number(), 1);
+        assert_eq!(rt; told(heap.alloc(rt.alloc(), a, 40, 0)), Ok(48));
+    }
+    assert_eq!(rt; heap.alloc(rt.alloc(), a, 208, 0).expect(&rt, "the rest").rec, 1);
+}
+
+/// The order of the refusals with all growth refused from some one on:
+/// `rt try --test --fail-alloc N..` does so; with memory the last is NoSpace.
+#[test]
+fn the_order_where_all_growth_is_refused(rt: HostRuntime) {
+    let config = Config { arenas: 2, records: 1, ..small() };
+    let Ok(mut heap) = Serial::new(rt.alloc(), config) else {
+        return;
+    };
+    let a = heap.spawn().expect(&rt, "a place");
+    assert_eq!(rt; told(heap.alloc(rt.alloc(), a, 257, 0)), Err(2));
+    let first = told(heap.alloc(rt.alloc(), a, 256, 0));
+    assert!(rt; matches!(first, Ok(256) | Err(1)));
+    if first.is_ok() {
+        assert_eq!(rt; told(heap.alloc(rt.alloc(), a, 16, 0)), Err(5));
+    }
+}

@@ -1,0 +1,194 @@
+//! Messages: give and take.
+ghost use Rattle.std.specs.Prelude.{◌≡◌, ◌+◌, ◌-◌, ◌*◌, ◌/◌, ◌%◌, ◌<◌, ◌≤◌, IfOk, false, length, slice_index_or, slice_set};
+ghost use Rattle.std.specs.List.{remove};
+ghost use Rattle.xh_model.specs.Store.{len, IsLawful};
+ghost use Rattle.xh_core.specs.Machine.{contract_of, line, no_line, peer};
+ghost use Rattle.xh_core.specs.Refusing.{toward};
+ghost use Rattle.xh_core.specs.MessageCommands.{AreOrderly, described, give, is_banned, no_message, pass_all, put_line, take, taken_line, told_line, without, LAST};
+
+use crate::block::Block;
+use crate::contract::Contract;
+use crate::line::Line;
+use crate::message::{Message, Taken};
+use crate::plain::Plain;
+use crate::refused::Refused;
+use crate::serial::Serial;
+use crate::serial::sweep::{accept_blocks, state_after};
+use arrayvec::ArrayVec;
+use xh_model::Event;
+
+/// The other direction of a channel.
+pub(super) fn peer(d: u8) -> u8
+    requires { d < 128 }
+    ensures is { result ≡ peer d }
+    ensures within { result < 128 }
+{
+    if d % 2 == 0 { d + 1 } else { d - 1 }
+}
+
+/// These records as a list of their own.
+pub(super) fn listed(blocks: &[u16]) -> ArrayVec<u16, 8>
+    requires { length blocks.now ≤ 8 }
+    ensures { result.items ≡ blocks.now }
+{
+    let mut list = ArrayVec::new();
+    for r in blocks {
+        list.push(*r);
+    }
+    list
+}
+
+/// `p` passes these records to a direction.
+fn pass_blocks(plain: &mut Plain, p: u16, d: u8, blocks: &[u16])
+    ensures { plain.new ≡ pass_all p d blocks.now plain.old }
+{
+    for r in blocks {
+        plain.step(Event::Pass(p, *r, d));
+    }
+}
+
+/// The list without these records.
+fn unlist(list: &mut ArrayVec<u16, 2048>, blocks: &[u16])
+    ensures { list.new.items ≡ without blocks.now list.old.items }
+{
+    let mut kept = ArrayVec::new();
+    for r in list.as_slice() {
+        if !blocks.contains(r) {
+            kept.push(*r);
+        }
+    }
+    *list = kept;
+}
+
+/// The end that puts a message is in its contract's next state.
+fn tell(lines: &mut Vec<Line>, contracts: &[Option<Contract>], own: u8, tag: u16)
+    requires there { own < length lines.old.items }
+    requires channel { own / 2 < length contracts.now }
+    ensures { lines.new.items ≡ slice_set lines.old.items own (told_line (contract_of contracts.now own) (own % 2) tag (slice_index_or lines.old.items own no_line)) }
+{
+    let line = &mut lines[usize::from(own)];
+    line.state = state_after(&contracts[usize::from(own / 2)], own % 2, line.state, tag);
+}
+
+/// A message goes to the back of a direction. Its number.
+fn put(lines: &mut Vec<Line>, to: u8, tag: u16, blocks: &[u16]) -> u64
+    requires there { to < length lines.old.items }
+    requires few { length blocks.now ≤ 8 }
+    requires room { length (slice_index_or lines.old.items to no_line).waiting.items < 16 }
+    requires more { (slice_index_or lines.old.items to no_line).put < LAST }
+    ensures line { lines.new.items ≡ slice_set lines.old.items to (put_line tag blocks.now (slice_index_or lines.old.items to no_line)) }
+    ensures number { result ≡ (slice_index_or lines.old.items to no_line).put + 1 }
+{
+    let line = &mut lines[usize::from(to)];
+    let no = line.put + 1;
+    line.put = no;
+    line.waiting.push(Message {
+        no,
+        tag,
+        blocks: listed(blocks),
+    });
+    no
+}
+
+/// The front message of a direction, which moves its contract's state.
+fn take_front(lines: &mut Vec<Line>, contracts: &[Option<Contract>], d: u8) -> Message
+    requires there { d < length lines.old.items }
+    requires channel { d / 2 < length contracts.now }
+    requires some { 0 < length (slice_index_or lines.old.items d no_line).waiting.items }
+    ensures front { result ≡ slice_index_or (slice_index_or lines.old.items d no_line).waiting.items 0 no_message }
+    ensures line { lines.new.items ≡ slice_set lines.old.items d (taken_line (contract_of contracts.now d) (1 - d % 2) result.tag (slice_index_or lines.old.items d no_line)) }
+{
+    let line = &mut lines[usize::from(d)];
+    let message = line.waiting.remove(0);
+    line.state = state_after(
+        &contracts[usize::from(d / 2)],
+        1 - d % 2,
+        line.state,
+        message.tag,
+    );
+    message
+}
+
+/// The bytes of a record; none where nobody holds it.
+fn bytes_of(plain: &Plain, r: u16) -> u32
+    requires { IsLawful plain.now }
+    ensures { result ≡ len plain.now r }
+{
+    match plain.holder(r) {
+        Some(_) => plain.length(r),
+        None => 0,
+    }
+}
+
+/// Records as blocks.
+fn describe(plain: &Plain, blocks: &ArrayVec<u16, 8>) -> ArrayVec<Block, 8>
+    requires { IsLawful plain.now }
+    ensures { result.items ≡ described plain.now blocks.now.items }
+{
+    let mut list = ArrayVec::new();
+    for r in blocks.as_slice() {
+        list.push(Block {
+            rec: *r,
+            len: bytes_of(plain, *r),
+        });
+    }
+    list
+}
+
+impl Serial {
+    /// Puts a message at the back of the direction toward the other end. Its number there.
+    ///
+    /// NoProcess, Ended, NotOwned and NotEndpoint of `e`, TooMany (8 blocks at most), NotOwned of a
+    /// block, Twice, Protocol, PeerClosed, Full. The last three hand all the blocks back.
+    #[tactic(auto, unfolding(crate::specs::MessageCommands::give))]
+    pub fn give(&mut self, p: u16, e: u16, tag: u16, blocks: &[u16]) -> Result<u64, Refused>
+        ensures is { give p e tag blocks.now self.old ≡ (result, self.new) }
+        ensures orderly { AreOrderly self.new }
+    {
+        let _start = &self.plain;
+        let own = self.check_give(p, e, tag, blocks)?;
+        let to = peer(own);
+        pass_blocks(&mut self.plain, p, to, blocks);
+        let place = &mut self.places[usize::from(p % 32)];
+        unlist(&mut place.blocks, blocks);
+        tell(&mut self.lines, &self.contracts, own, tag);
+        Ok(put(&mut self.lines, to, tag, blocks))
+    }
+
+    /// Takes the message at the front of the direction toward `e`; its blocks are the taker's now.
+    ///
+    /// NoProcess, Ended, NotOwned, NotEndpoint, and where nothing waits PeerClosed or Empty.
+    #[tactic(auto, unfolding(crate::specs::MessageCommands::take))]
+    pub fn take(&mut self, p: u16, e: u16) -> Result<Taken, Refused>
+        ensures is { take p e self.old ≡ (result, self.new) }
+        ensures allowed { IfOk result (λ taken. is_banned (contract_of self.old.contracts (toward self.old e)) (1 - toward self.old e % 2) (line self.old (toward self.old e)).state taken.tag ≡ false) }
+        ensures orderly { AreOrderly self.new }
+    {
+        let _start = &self.plain;
+        let d = self.check_take(p, e)?;
+        let message = take_front(&mut self.lines, &self.contracts, d);
+        let blocks = describe(&self.plain, &message.blocks);
+        let place = &mut self.places[usize::from(p % 32)];
+        accept_blocks(
+            &mut self.plain,
+            &mut place.blocks,
+            p,
+            d,
+            message.blocks.as_slice(),
+        );
+        Ok(Taken {
+            no: message.no,
+            tag: message.tag,
+            blocks,
+        })
+    }
+
+    /// The same: on this heap nothing waits, so Empty is answered where `take` answers it.
+    pub fn take_wait(&mut self, p: u16, e: u16) -> Result<Taken, Refused>
+        ensures is { take p e self.old ≡ (result, self.new) }
+        ensures allowed { IfOk result (λ taken. is_banned (contract_of self.old.contracts (toward self.old e)) (1 - toward self.old e % 2) (line self.old (toward self.old e)).state taken.tag ≡ false) }
+        ensures orderly { AreOrderly self.new }
+    {
+        self.take(p, e)
+    }
+}
