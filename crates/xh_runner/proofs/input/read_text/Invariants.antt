@@ -1,0 +1,12 @@
+use Rattle.std.proofs.Common.{◌≡◌, ◌≤◌, ◌-◌, length}
+use Rattle.xh_script.specs.Watching.{Reads}
+use Rattle.xh_runner.proofs.input.read_text.Given as goal
+
+abbrev pub invariant-loop-room : goal.invariant-loop-room
+invariant-loop-room g l = record {
+  reads : Reads g.R.Read.remaining l.fn.reader l.reader l.text.items;
+  short : length l.text.items ≤ 1048577;
+}
+
+abbrev pub decreases-loop-room : goal.decreases-loop-room
+decreases-loop-room g l = 1048577 - length l.text.items

@@ -1,0 +1,6 @@
+pub mod Reading
+pub mod Bindings
+pub mod Meaning
+pub mod Worlds
+pub mod Output
+pub mod Runs

@@ -1,0 +1,52 @@
+//! The bytes of a script, read once from the front.
+ghost use Rattle.std.specs.Prelude.{◌≡◌, ◌<◌, ◌≤◌, ◌⊎◌, ℕ, List, ◌++◌, length, IfOk, IfErr, true};
+ghost use Rattle.std.specs.Io.KnownBytes.{IsAtEnd};
+ghost use Rattle.xh_script.specs.Watching.{has_failed, inner_of, Reads};
+ghost use Rattle.xh_runner.specs.Reading.{ReadsAtMost, ReadsScript};
+
+use std::alloc::Global;
+use std::io::Read;
+use xh_script::{Fault, Watched};
+
+/// The most bytes that a script may have.
+pub const SCRIPT_LIMIT: usize = 1_048_576;
+
+/// Reads once, and adds what was read.
+fn read_some<R: Read>(
+    reader: &mut Watched<R>,
+    text: &mut Vec<u8>,
+    room: &mut [u8],
+) -> Result<usize, Fault>
+    requires { 0 < length room.old }
+    ensures ok { IfOk result (λ n. (n ≤ length room.old) × ((bytes : List ℕ) × (length bytes ≡ n)
+        × Reads R.remaining reader.old reader.new bytes × (text.new.items ≡ text.old.items ++ bytes))) }
+    ensures end { IfOk result (λ n. n ≡ 0 → IsAtEnd (R.remaining (inner_of reader.new))) }
+    ensures err { IfErr result (λ e. (e ≡ Fault.Memory) ⊎ ((e ≡ Fault.Read) × (has_failed reader.new ≡ true))) }
+    ensures limit { ReadsAtMost R.remaining (length room.old) reader.old reader.new }
+{
+    match reader.read(room) {
+        None => Err(Fault::Read),
+        Some(n) => {
+            text.extend_from_slice(&room[..n])?;
+            Ok(n)
+        }
+    }
+}
+
+/// Reads to the end, or to one byte past the most that a script may have.
+pub fn read_text<R: Read>(alloc: Global, reader: &mut Watched<R>) -> Result<Vec<u8>, Fault>
+    ensures ok { IfOk result (λ text. ReadsScript R.remaining reader.old reader.new text.items × (length text.items ≤ 1048577)) }
+    ensures err { IfErr result (λ e. (e ≡ Fault.Memory) ⊎ ((e ≡ Fault.Read) × (has_failed reader.new ≡ true))) }
+    ensures limit { ReadsAtMost R.remaining 1048577 reader.old reader.new }
+{
+    let mut text = Vec::new(alloc);
+    let mut room = [0u8; 4096];
+    while text.len() <= SCRIPT_LIMIT {
+        let most = (SCRIPT_LIMIT + 1 - text.len()).min(4096);
+        let n = read_some(reader, &mut text, &mut room[..most])?;
+        if n == 0 {
+            return Ok(text);
+        }
+    }
+    Ok(text)
+}

@@ -1,0 +1,270 @@
+//! What the names of a script stand for.
+ghost use Rattle.std.specs.Prelude.{◌≡◌, ◌+◌, ◌*◌, ◌%◌, ◌≤◌, ◌==◌, if◌then◌else◌, length, map, replicate, codes, IfOk};
+ghost use Rattle.std.specs.List.{list_any};
+ghost use Rattle.xh_runner.specs.Bindings.{Bindings, no_bindings, nothings, number_of, has_place, entry, with_entry, with_each, without, without_each, without_but, without_below, record_of, records_of, started, bound, bound_each, unbound, unbound_each, unbound_but, unbound_all, names_by_place};
+ghost use Rattle.std.specs.Prelude.{slice_index_or, slice_set};
+
+use arrayvec::ArrayVec;
+use std::alloc::{AllocError, Global};
+use std::marker::Model;
+use xh_core::Block;
+use xh_script::Name;
+
+/// No process has this number, and no block this record: it stands for a process without a place,
+/// and for a name that is bound to nothing.
+pub(crate) const NOTHING: u16 = 65_535;
+
+/// The number of each process (by its name), the name of the latest process of each place, and the
+/// record of each block's name, 256 for each process.
+#[derive(Drop)]
+pub struct Names {
+    numbers: Vec<u16>,
+    latest: Vec<u8>,
+    records: Vec<u16>,
+}
+
+impl Model for Names {
+    ghost use Rattle.std.specs.Prelude.{◌≡◌, length};
+    ghost use Rattle.xh_runner.specs.Bindings.{Bindings};
+
+    ghost Value = { Bindings };
+
+    ghost view = { λ s. record { numbers = s.numbers.items; latest = s.latest.items; records = s.records.items } };
+
+    ghost invariant = { λ s. length s.latest.items ≡ 32 };
+}
+
+#[tactic(auto, unfolding(crate::specs::Bindings::nothings))]
+fn nothings(alloc: Global, count: usize) -> Result<Vec<u16>, AllocError>
+    ensures { IfOk result (λ entries. entries.items ≡ nothings count) }
+{
+    vec![in alloc; NOTHING; count]
+}
+
+fn zeros(alloc: Global, count: usize) -> Result<Vec<u8>, AllocError>
+    ensures { IfOk result (λ entries. entries.items ≡ replicate count 0) }
+{
+    vec![in alloc; 0; count]
+}
+
+fn at(entries: &[u16], index: usize) -> u16
+    ensures { result ≡ slice_index_or entries.now index 65535 }
+{
+    match entries.get(index) {
+        Some(entry) => *entry,
+        None => NOTHING,
+    }
+}
+
+fn put(entries: &mut [u16], index: usize, entry: u16)
+    ensures { entries.new ≡ slice_set entries.old index entry }
+{
+    if index < entries.len() {
+        entries[index] = entry;
+    }
+}
+
+fn entry(records: &[u16], process: u8, block: u8) -> u16
+    ensures { result ≡ entry records.now process block }
+{
+    at(records, 256 * usize::from(process) + usize::from(block))
+}
+
+fn set_entry(records: &mut [u16], process: u8, block: u8, rec: u16)
+    ensures { records.new ≡ with_entry records.old process block rec }
+{
+    put(records, 256 * usize::from(process) + usize::from(block), rec);
+}
+
+fn entries(records: &[u16], process: u8, blocks: &[u8]) -> ArrayVec<u16, 16>
+    requires { length blocks.now ≤ 16 }
+    ensures { result.items ≡ map (λ x. entry records.now process x) blocks.now }
+{
+    let mut found = ArrayVec::new();
+    for block in blocks {
+        found.push(entry(records, process, *block));
+    }
+    found
+}
+
+fn set_each(records: &mut [u16], process: u8, blocks: &[u8], message: &[Block])
+    ensures { records.new ≡ with_each records.old process blocks.now message.now }
+{
+    let count = blocks.len().min(message.len());
+    for i in 0..count {
+        set_entry(records, process, blocks[i], message[i].rec);
+    }
+}
+
+fn clear_each(records: &mut [u16], process: u8, blocks: &[u8])
+    ensures { records.new ≡ without_each records.old process blocks.now }
+{
+    for block in blocks {
+        set_entry(records, process, *block, NOTHING);
+    }
+}
+
+fn is_among(back: &[u16], rec: u16) -> bool
+    ensures { result ≡ list_any (λ r. r == rec) back.now }
+{
+    back.iter().any(|kept| *kept == rec)
+}
+
+fn clear_unless(records: &mut [u16], process: u8, block: u8, back: &[u16])
+    ensures { records.new ≡ (if list_any (λ r. r == entry records.old process block) back.now
+        then records.old else without records.old process block) }
+{
+    if !is_among(back, entry(records, process, block)) {
+        set_entry(records, process, block, NOTHING);
+    }
+}
+
+fn clear_but(records: &mut [u16], process: u8, blocks: &[u8], back: &[u16])
+    ensures { records.new ≡ without_but records.old process blocks.now back.now }
+{
+    for block in blocks {
+        clear_unless(records, process, *block, back);
+    }
+}
+
+fn clear_all(records: &mut [u16], process: u8)
+    ensures { records.new ≡ without_below records.old process 256 }
+{
+    for block in 0..256 {
+        put(records, 256 * usize::from(process) + block, NOTHING);
+    }
+}
+
+fn vacant() -> Name
+    ensures { result ≡ codes "vacant" }
+{
+    match Name::read(b"vacant") {
+        Some(name) => name,
+        None => unreachable!(),
+    }
+}
+
+fn name_at(processes: &[Name], process: u8) -> Name
+    ensures { result ≡ slice_index_or processes.now process (codes "vacant") }
+{
+    match processes.get(usize::from(process)) {
+        Some(name) => name.copy(),
+        None => vacant(),
+    }
+}
+
+fn names_at(alloc: Global, processes: &[Name], latest: &[u8]) -> Result<Vec<Name>, AllocError>
+    ensures { IfOk result (λ names. names.items ≡ map (λ p. slice_index_or processes.now p (codes "vacant")) latest.now) }
+{
+    let mut names = Vec::with_capacity(alloc, latest.len())?;
+    for process in latest {
+        names.push(name_at(processes, *process))?;
+    }
+    Ok(names)
+}
+
+impl Names {
+    /// No process has a place, and no name is bound.
+    #[tactic(auto, unfolding(crate::specs::Bindings::no_bindings))]
+    pub fn new(alloc: Global) -> Result<Names, AllocError>
+        ensures { IfOk result (λ names. names ≡ no_bindings) }
+    {
+        let numbers = nothings(alloc, 64)?;
+        let latest = zeros(alloc, 32)?;
+        let records = nothings(alloc, 16_384)?;
+        Ok(Names {
+            numbers,
+            latest,
+            records,
+        })
+    }
+
+    /// The number of a process, or `NOTHING` where no `process` line gave it a place.
+    pub fn number(&self, process: u8) -> u16
+        ensures { result ≡ number_of self.now process }
+    {
+        at(&self.numbers, usize::from(process))
+    }
+
+    /// Whether a `process` line gave the process a place.
+    pub fn has_place(&self, process: u8) -> bool
+        ensures { result ≡ has_place self.now process }
+    {
+        self.number(process) != NOTHING
+    }
+
+    /// The record of a block's name, or `NOTHING` where it is bound to none.
+    pub fn record_of(&self, process: u8, block: u8) -> u16
+        ensures { result ≡ record_of self.now process block }
+    {
+        entry(&self.records, process, block)
+    }
+
+    /// The records of several names, at most 16.
+    pub fn records_of(&self, process: u8, blocks: &[u8]) -> ArrayVec<u16, 16>
+        requires { length blocks.now ≤ 16 }
+        ensures { result.items ≡ records_of self.now process blocks.now }
+    {
+        entries(&self.records, process, blocks)
+    }
+
+    /// The process has this number, and is the latest of its place.
+    pub fn start(&mut self, process: u8, number: u16)
+        ensures { self.new ≡ started self.old process number }
+    {
+        put(&mut self.numbers, usize::from(process), number);
+        let place = usize::from(number % 32);
+        self.latest[place] = process;
+    }
+
+    /// The name stands for this record.
+    pub fn bind(&mut self, process: u8, block: u8, rec: u16)
+        ensures { self.new ≡ bound self.old process block rec }
+    {
+        set_entry(&mut self.records, process, block, rec);
+    }
+
+    /// The names stand for the blocks of a message, from left to right; names past the last block
+    /// stay as they were, and blocks past the last name have none.
+    pub fn bind_each(&mut self, process: u8, blocks: &[u8], message: &[Block])
+        ensures { self.new ≡ bound_each self.old process blocks.now message.now }
+    {
+        set_each(&mut self.records, process, blocks, message);
+    }
+
+    /// The name is bound to nothing.
+    pub fn unbind(&mut self, process: u8, block: u8)
+        ensures { self.new ≡ unbound self.old process block }
+    {
+        set_entry(&mut self.records, process, block, NOTHING);
+    }
+
+    /// The names are bound to nothing.
+    pub fn unbind_each(&mut self, process: u8, blocks: &[u8])
+        ensures { self.new ≡ unbound_each self.old process blocks.now }
+    {
+        clear_each(&mut self.records, process, blocks);
+    }
+
+    /// The names are bound to nothing whose records are not among these.
+    pub fn unbind_but(&mut self, process: u8, blocks: &[u8], back: &[u16])
+        ensures { self.new ≡ unbound_but self.old process blocks.now back.now }
+    {
+        clear_but(&mut self.records, process, blocks, back);
+    }
+
+    /// All names of the process for blocks are bound to nothing.
+    pub fn unbind_all(&mut self, process: u8)
+        ensures { self.new ≡ unbound_all self.old process }
+    {
+        clear_all(&mut self.records, process);
+    }
+
+    /// The names of the processes by place, 32 of them, from the names by number.
+    pub fn by_place(&self, alloc: Global, processes: &[Name]) -> Result<Vec<Name>, AllocError>
+        ensures names { IfOk result (λ names. names.items ≡ names_by_place processes.now self.now) }
+        ensures count { IfOk result (λ names. length names.items ≡ 32) }
+    {
+        names_at(alloc, processes, &self.latest)
+    }
+}

@@ -1,0 +1,67 @@
+//! A script from its bytes to its replies and its ledger, on the serial machine.
+ghost use Rattle.std.specs.Prelude.{◌≡◌, ◌++◌, ◌<◌, ◌⊎◌, length, IfOk, IfErr, OnOk, Err};
+ghost use Rattle.xh_model.specs.Store.{IsConfig};
+ghost use Rattle.xh_core.specs.PlaceCommands.{new_machine};
+ghost use Rattle.std.specs.List.{All};
+ghost use Rattle.xh_script.specs.Texts.{answer_texts, ledger_text};
+ghost use Rattle.xh_script.specs.Watching.{WritesOrFails};
+ghost use Rattle.xh_runner.specs.Reading.{ReadsAtMost};
+ghost use Rattle.xh_runner.specs.Runs.{Meant, Failed};
+
+use crate::input::read_text;
+use crate::session::Session;
+use std::alloc::Global;
+use std::io::{Read, Write};
+use xh_core::{Config, Ledger, Refused, Serial};
+use xh_script::{Answered, Fault, Name, Watched, read_script, write_answers, write_ledger};
+
+fn new_machine(alloc: Global, config: Config) -> Result<Serial, Fault>
+    ensures fresh { IfOk result (λ machine. machine ≡ new_machine config) }
+    ensures config { ¬ IsConfig config → result ≡ Err Fault.BadConfig }
+    ensures refused { IfErr result (λ e. ((e ≡ Fault.BadConfig) × ¬ IsConfig config) ⊎ (e ≡ Fault.Memory)) }
+{
+    match Serial::new(alloc, config) {
+        Ok(machine) => Ok(machine),
+        Err(Refused::BadSize) => Err(Fault::BadConfig),
+        Err(_) => Err(Fault::Memory),
+    }
+}
+
+/// Writes the replies, and then the ledger.
+fn write_output<W: Write>(
+    writer: &mut Watched<W>,
+    answers: &[Answered],
+    ledger: &Ledger,
+    names: &[Name],
+) -> Result<(), Fault>
+    requires { All (λ line. line.place < length names.now) ledger.now.places.items }
+    ensures { WritesOrFails W.contents writer.old writer.new result (answer_texts answers.now ++ ledger_text ledger.now names.now) }
+{
+    write_answers(writer, answers)?;
+    write_ledger(writer, ledger, names)
+}
+
+/// Runs the script that a reader gives to its end, and writes its replies and its ledger.
+///
+/// A config outside its limits is BadConfig, and nothing is read. The reader is asked for at most
+/// 1,048,577 bytes, so a reader without an end is TooLong. Memory comes where a growth was refused.
+/// But for Write, a fault leaves nothing written.
+pub fn run_serial<R: Read, W: Write>(
+    alloc: Global,
+    reader: &mut Watched<R>,
+    writer: &mut Watched<W>,
+    config: Config,
+) -> Result<(), Fault>
+    ensures ok { OnOk result (Meant R.remaining W.contents config reader.old reader.new writer.old writer.new) }
+    ensures err { IfErr result (Failed R.remaining W.contents config reader.old reader.new writer.old writer.new) }
+    ensures config { ¬ IsConfig config → result ≡ Err Fault.BadConfig }
+    ensures limit { ReadsAtMost R.remaining 1048577 reader.old reader.new }
+{
+    let machine = new_machine(alloc, config)?;
+    let text = read_text(alloc, reader)?;
+    let script = read_script(alloc, &text)?;
+    let mut session = Session::new(alloc, machine, &script.contracts)?;
+    let answers = session.run(alloc, &script.lines)?;
+    let names = session.names_by_place(alloc, &script.processes)?;
+    write_output(writer, &answers, &session.ledger(), &names)
+}

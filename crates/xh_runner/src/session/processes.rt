@@ -1,0 +1,125 @@
+//! The commands process, again, glance, close, exit and kill.
+ghost use Rattle.std.specs.Prelude.{◌≡◌};
+ghost use Rattle.xh_runner.specs.Bindings.{has_place};
+ghost use Rattle.xh_runner.specs.Meaning.{step, look, is_alive};
+ghost use Rattle.xh_runner.specs.Worlds.{world_of};
+
+use crate::session::Session;
+use xh_core::{Glance, Refused, Status};
+use xh_script::{Command, Reply};
+
+/// Whether a process runs, or is being reclaimed.
+fn is_alive(look: &Result<Glance, Refused>) -> bool
+    ensures { result ≡ is_alive look.now }
+{
+    match look {
+        Ok(look) => match look.state {
+            Status::Ended => false,
+            _ => true,
+        },
+        Err(_) => false,
+    }
+}
+
+impl<'a> Session<'a> {
+    /// What the place of a process shows of it; Ended where it shows a later process.
+    fn look(&self, number: u16) -> Result<Glance, Refused>
+        ensures { result ≡ look (world_of self.now) number }
+    {
+        match self.machine.glance((number % 32) as u8) {
+            Ok(look) if look.process == number => Ok(look),
+            Ok(_) => Err(Refused::Ended),
+            Err(refused) => Err(refused),
+        }
+    }
+
+    #[tactic(auto, unfolding(crate::specs::Meaning::step))]
+    pub(crate) fn process(&mut self, process: u8) -> Reply
+        ensures { step (world_of self.old) (Command.Process process) ≡ (result, world_of self.new) }
+    {
+        if self.names.has_place(process) {
+            return Reply::No(Refused::Twice);
+        }
+        match self.machine.spawn() {
+            Ok(number) => {
+                self.names.start(process, number);
+                Reply::Started(number)
+            }
+            Err(refused) => Reply::No(refused),
+        }
+    }
+
+    #[tactic(auto, unfolding(crate::specs::Meaning::step))]
+    pub(crate) fn again(&mut self, process: u8) -> Reply
+        ensures { step (world_of self.old) (Command.Again process) ≡ (result, world_of self.new) }
+    {
+        if !self.names.has_place(process) {
+            return Reply::No(Refused::NoProcess);
+        }
+        if is_alive(&self.look(self.names.number(process))) {
+            return Reply::No(Refused::Twice);
+        }
+        match self.machine.spawn() {
+            Ok(number) => {
+                self.names.start(process, number);
+                self.names.unbind_all(process);
+                Reply::Started(number)
+            }
+            Err(refused) => Reply::No(refused),
+        }
+    }
+
+    #[tactic(auto, unfolding(crate::specs::Meaning::step))]
+    pub(crate) fn glance(&mut self, process: u8, other: u8) -> Reply
+        ensures { step (world_of self.old) (Command.Glance process other) ≡ (result, world_of self.new) }
+    {
+        if !self.names.has_place(process) || !self.names.has_place(other) {
+            return Reply::No(Refused::NoProcess);
+        }
+        match self.look(self.names.number(other)) {
+            Ok(look) => Reply::Glance {
+                blocks: look.blocks,
+                bytes: look.bytes,
+            },
+            Err(refused) => Reply::No(refused),
+        }
+    }
+
+    #[tactic(auto, unfolding(crate::specs::Meaning::step))]
+    pub(crate) fn close(&mut self, process: u8, endpoint: u8) -> Reply
+        ensures { step (world_of self.old) (Command.Close process endpoint) ≡ (result, world_of self.new) }
+    {
+        let number = self.names.number(process);
+        let rec = self.names.record_of(process, endpoint);
+        match self.machine.close(number, rec) {
+            Ok(bytes) => {
+                self.names.unbind(process, endpoint);
+                Reply::Reclaimed(bytes)
+            }
+            Err(refused) => Reply::No(refused),
+        }
+    }
+
+    #[tactic(auto, unfolding(crate::specs::Meaning::step))]
+    pub(crate) fn exit(&mut self, process: u8, budget: u16) -> Reply
+        ensures { step (world_of self.old) (Command.Exit process budget) ≡ (result, world_of self.new) }
+    {
+        let number = self.names.number(process);
+        match self.machine.exit(number, u32::from(budget)) {
+            Ok(bytes) => Reply::Reclaimed(bytes),
+            Err(refused) => Reply::No(refused),
+        }
+    }
+
+    #[tactic(auto, unfolding(crate::specs::Meaning::step))]
+    pub(crate) fn kill(&mut self, process: u8, victim: u8, budget: u16) -> Reply
+        ensures { step (world_of self.old) (Command.Kill process victim budget) ≡ (result, world_of self.new) }
+    {
+        let by = self.names.number(process);
+        let number = self.names.number(victim);
+        match self.machine.kill(by, number, u32::from(budget)) {
+            Ok(bytes) => Reply::Reclaimed(bytes),
+            Err(refused) => Reply::No(refused),
+        }
+    }
+}

@@ -1,0 +1,75 @@
+//! Runs of a script on the serial machine, compared with what they are to write.
+use std::alloc::Global;
+use std::process::Abort;
+use std::test::Fail;
+use xh_core::Config;
+use xh_runner::run_serial;
+use xh_script::{Fault, Kind, Watched};
+
+/// One arena of 256 bytes.
+pub const SMALL: Config = Config {
+    arenas: 1,
+    bytes: 256,
+    records: 256,
+    depth: 4,
+    wear: 9_223_372_036_854_775_807,
+};
+
+/// The script is run to its end, and writes this.
+pub fn writes(
+    rt: &impl Abort,
+    alloc: Global,
+    config: Config,
+    script: &str,
+    wanted: &str,
+) -> Result<(), Fail> {
+    writes_bytes(rt, alloc, config, script.as_bytes(), wanted)
+}
+
+/// The same, for a script of bytes.
+pub fn writes_bytes(
+    rt: &impl Abort,
+    alloc: Global,
+    config: Config,
+    script: &[u8],
+    wanted: &str,
+) -> Result<(), Fail> {
+    let mut input = script;
+    let mut reader = Watched::new(&mut input);
+    let mut out = Vec::new(alloc);
+    let mut writer = Watched::new(&mut out);
+    let ended = run_serial(alloc, &mut reader, &mut writer, config);
+    assert!(rt; ended == Ok(()));
+    let text = out.as_slice();
+    assert!(rt; text == wanted.as_bytes());
+    Ok(())
+}
+
+/// The script has this fault in this line, and nothing is written.
+pub fn is_faulty(
+    rt: &impl Abort,
+    alloc: Global,
+    script: &str,
+    line: u32,
+    kind: Kind,
+) -> Result<(), Fail> {
+    is_faulty_in_bytes(rt, alloc, script.as_bytes(), line, kind)
+}
+
+/// The same, for a script of bytes.
+pub fn is_faulty_in_bytes(
+    rt: &impl Abort,
+    alloc: Global,
+    script: &[u8],
+    line: u32,
+    kind: Kind,
+) -> Result<(), Fail> {
+    let mut input = script;
+    let mut reader = Watched::new(&mut input);
+    let mut out = Vec::new(alloc);
+    let mut writer = Watched::new(&mut out);
+    let ended = run_serial(alloc, &mut reader, &mut writer, SMALL);
+    assert!(rt; ended == Err(Fault::Script { line, kind }), "line {line}");
+    assert!(rt; out.is_empty());
+    Ok(())
+}

@@ -1,0 +1,153 @@
+//! Readers and writers that fail, and a reader without an end.
+use crate::harness::SMALL;
+use std::io;
+use std::io::{Read, Write};
+use std::test::Fail;
+use xh_core::Config;
+use xh_runner::run_serial;
+use xh_script::{Fault, Kind, Watched};
+
+const SCRIPT: &str = "process a\nprocess b\nwire a e b f 0\na alloc x 40 0\na alloc y 16 0\na give e 7 x y\na give e 7 x\nb take f p q\nb write p 0 beef\nb read p 0 4\n";
+
+const OUTPUT: &str = "1 ok 0\n2 ok 1\n3 ok\n4 ok 48\n5 ok 16\n6 ok 1\n7 no 6 NotOwned\n8 ok 1 7 48 16\n9 ok\n10 ok beef0000\narena 0 256 128 1 128 0\nprocess a running 1 32\nprocess b running 3 96\nowned 128\nflight 0\nout 128\n";
+
+/// Gives one byte at a time, and fails at a given read.
+#[derive(Drop)]
+struct OneByOne<'a> {
+    left: &'a [u8],
+    reads: usize,
+}
+
+impl<'a> Read for OneByOne<'a> {
+    fn read(&mut self, room: &mut [u8]) -> io::Result<usize> {
+        if self.reads == 0 {
+            return Err(io::Error::from(io::ErrorKind::Other));
+        }
+        self.reads -= 1;
+        match self.left.split_first() {
+            Some((b, rest)) if !room.is_empty() => {
+                room[0] = *b;
+                self.left = rest;
+                Ok(1)
+            }
+            _ => Ok(0),
+        }
+    }
+}
+
+/// Gives the sign of a comment for ever.
+#[derive(Drop)]
+struct Endless;
+
+impl Read for Endless {
+    fn read(&mut self, room: &mut [u8]) -> io::Result<usize> {
+        room.fill(b'#');
+        Ok(room.len())
+    }
+}
+
+/// Takes one byte at a time, and fails, or takes none, at a given write.
+#[derive(Drop)]
+struct Choppy {
+    taken: Vec<u8>,
+    writes: usize,
+    is_failing: bool,
+}
+
+impl Write for Choppy {
+    fn write(&mut self, bytes: &[u8]) -> io::Result<usize> {
+        if self.writes == 0 {
+            if self.is_failing {
+                return Err(io::Error::from(io::ErrorKind::Other));
+            }
+            return Ok(0);
+        }
+        self.writes -= 1;
+        if bytes.is_empty() {
+            return Ok(0);
+        }
+        self.taken.push(bytes[0])?;
+        Ok(1)
+    }
+
+    fn flush(&mut self) -> io::Result<()> {
+        Ok(())
+    }
+}
+
+#[test]
+fn a_reader_fails_at_each_read(rt: HostRuntime) -> Result<(), Fail> {
+    let alloc = rt.alloc();
+    for reads in 0..=SCRIPT.len() {
+        let mut reader = Watched::new(OneByOne {
+            left: SCRIPT.as_bytes(),
+            reads,
+        });
+        let mut out = Vec::new(alloc);
+        let mut writer = Watched::new(&mut out);
+        let ended = run_serial(alloc, &mut reader, &mut writer, SMALL);
+        assert!(rt; ended == Err(Fault::Read));
+        assert!(rt; out.is_empty());
+    }
+    Ok(())
+}
+
+#[test]
+fn a_writer_fails_at_each_write(rt: HostRuntime) -> Result<(), Fail> {
+    let alloc = rt.alloc();
+    for turn in 0..2 * OUTPUT.len() {
+        let mut input = SCRIPT.as_bytes();
+        let mut reader = Watched::new(&mut input);
+        let mut out = Choppy {
+            taken: Vec::new(alloc),
+            writes: turn / 2,
+            is_failing: turn % 2 == 0,
+        };
+        let mut writer = Watched::new(&mut out);
+        let ended = run_serial(alloc, &mut reader, &mut writer, SMALL);
+        assert!(rt; ended == Err(Fault::Write));
+        assert!(rt; out.taken.as_slice() == &OUTPUT.as_bytes()[..turn / 2]);
+    }
+    Ok(())
+}
+
+#[test]
+fn a_reader_without_an_end(rt: HostRuntime) -> Result<(), Fail> {
+    let alloc = rt.alloc();
+    let mut reader = Watched::new(Endless);
+    let mut out = Vec::new(alloc);
+    let mut writer = Watched::new(&mut out);
+    let ended = run_serial(alloc, &mut reader, &mut writer, SMALL);
+    assert!(rt; ended == Err(Fault::Script { line: 0, kind: Kind::TooLong }));
+    assert!(rt; out.is_empty());
+    Ok(())
+}
+
+/// A config outside its limits is refused before the first read, which would fail.
+#[test]
+fn bad_configs(rt: HostRuntime) -> Result<(), Fail> {
+    let alloc = rt.alloc();
+    for config in [
+        Config { arenas: 0, ..SMALL },
+        Config { arenas: 9, ..SMALL },
+        Config { bytes: 40, ..SMALL },
+        Config { bytes: 0, ..SMALL },
+        Config { bytes: 1_048_592, ..SMALL },
+        Config { records: 0, ..SMALL },
+        Config { records: 257, ..SMALL },
+        Config { depth: 0, ..SMALL },
+        Config { depth: 17, ..SMALL },
+        Config { wear: 9_223_372_036_854_775_808, ..SMALL },
+    ] {
+        let mut reader = Watched::new(OneByOne {
+            left: SCRIPT.as_bytes(),
+            reads: 0,
+        });
+        let mut out = Vec::new(alloc);
+        let mut writer = Watched::new(&mut out);
+        let ended = run_serial(alloc, &mut reader, &mut writer, config);
+        assert!(rt; ended == Err(Fault::BadConfig));
+        assert!(rt; out.is_empty());
+    }
+    Ok(())
+}

@@ -1,0 +1,53 @@
+//! How a run that did not reach its end is told: a line on standard error, and a status.
+ghost use Rattle.std.specs.Prelude.{◌≡◌};
+ghost use Rattle.xheap.specs.Status.{status_of};
+
+use std::io::Write;
+use xh_script::Fault;
+
+/// The status of a run to the end.
+pub const DONE: u8 = 0;
+/// A fault of the script.
+pub const SCRIPT: u8 = 1;
+/// A fault of the command line.
+pub const WORDS: u8 = 2;
+/// Memory was refused.
+pub const MEMORY: u8 = 3;
+/// Reading or writing failed.
+pub const STREAM: u8 = 4;
+/// A fault that no run of the program meets.
+pub const INTERNAL: u8 = 5;
+
+/// Tells want of memory.
+pub fn out_of_memory<E: Write>(err: &mut E) -> u8
+    ensures { result ≡ MEMORY }
+{
+    let _ = err.write_all(b"xheap: out of memory\n");
+    MEMORY
+}
+
+/// Tells a fault. A fault of `err` itself is passed over.
+pub fn told<E: Write>(fault: Fault, err: &mut E) -> u8
+    ensures { result ≡ status_of fault }
+{
+    match fault {
+        Fault::Script { line, kind } => {
+            let name = kind.name();
+            let _ = writeln!(err, "xheap: line {line}: {name}");
+            SCRIPT
+        }
+        Fault::Memory => out_of_memory(err),
+        Fault::Read => {
+            let _ = err.write_all(b"xheap: read failed\n");
+            STREAM
+        }
+        Fault::Write => {
+            let _ = err.write_all(b"xheap: write failed\n");
+            STREAM
+        }
+        Fault::Gate | Fault::BadConfig => {
+            let _ = err.write_all(b"xheap: internal fault\n");
+            INTERNAL
+        }
+    }
+}

@@ -1,0 +1,26 @@
+//! The program `xheap`: a script on standard input, its replies and its ledger on standard output.
+#![tactic(auto)]
+
+mod fault;
+mod options;
+mod run;
+#[cfg(test)]
+mod tests;
+
+use std::env;
+use std::process::ExitCode;
+use xh_script::Watched;
+
+fn main(rt: HostRuntime) -> ExitCode {
+    let alloc = rt.alloc();
+    let mut input = Watched::new(rt.stdin());
+    let mut out = Watched::new(rt.stdout());
+    let mut err = rt.stderr();
+    let Ok(arguments) = env::args(&rt) else {
+        return ExitCode::from(fault::out_of_memory(&mut err));
+    };
+    let Ok(words) = arguments.collect::<Vec<String>>(alloc) else {
+        return ExitCode::from(fault::out_of_memory(&mut err));
+    };
+    ExitCode::from(run::run_main(alloc, &words, &mut input, &mut out, &mut err))
+}
