@@ -5,4 +5,4 @@ pub mod Seating
 pub mod Numbered
 pub mod Events
 pub mod Lent
-pub mod Closing
+pub mod Ended

@@ -28,6 +28,14 @@ fn nones<L: Drop>(alloc: Global, count: usize) -> Result<Vec<Option<L>>, AllocEr
     Ok(held)
 }
 
+// The word in a slot of the closed table.
+fn word_in<L>(closed: &Closed<Option<L>, Global>, slot: usize) -> u64
+    requires { IsWhole closed.now.words × (slot < slots_len closed.now.words) }
+    ensures { get_elem? (slots_items closed.now.words) slot ≡ some result }
+{
+    closed.word(slot)
+}
+
 // Reads all words, and takes for each slot the lot that was held, or else the one at home.
 fn unload<L: Drop>(
     mut closed: Closed<Option<L>, Global>,
@@ -43,7 +51,7 @@ fn unload<L: Drop>(
     ensures lots { (k : ℕ) (l : L) → get_elem? result.1.items k ≡ some l → or_else (slot_at held.items k) (slot_at (slots_items closed.slots) k) ≡ Some l }
 {
     for slot in 0..closed.slot_count() {
-        words.push_reserved(closed.word(slot));
+        words.push_reserved(word_in(&closed, slot));
         let home = closed.take(slot);
         let lot = held[slot].take();
         lots.push_reserved(lot.or(home).unwrap());

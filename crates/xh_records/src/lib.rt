@@ -11,6 +11,8 @@ mod rule;
 mod seat;
 mod seen;
 mod shape;
+#[cfg(test)]
+mod tests;
 mod view;
 mod word;
 

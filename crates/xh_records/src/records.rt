@@ -42,6 +42,14 @@ impl<B: Fits> Model for Records<B> {
     ghost invariant = { λ r. IsTable r.table.shared.table_id r.table.shared.key r.arenas r.records };
 }
 
+// The number of a record of an arena.
+fn number_at(arena: u8, index: u16) -> u16
+    requires { index < 256 }
+    ensures { (result / 256 ≡ arena) × (result % 256 ≡ index) }
+{
+    u16::from(arena) * 256 + index
+}
+
 // Each lot in a slot.
 fn in_slots<B: Drop>(alloc: Global, lots: Vec<Lot<B>>) -> Result<Vec<Option<Lot<B>>>, AllocError>
     ensures { IfOk result (λ slots. slots.items ≡ map Some lots.items) }
@@ -167,7 +175,7 @@ impl<B: Fits + Drop> Records<B> {
             words: ArrayVec::new(),
         };
         for index in 0..self.records {
-            let number = u16::from(arena) * 256 + index;
+            let number = number_at(arena, index);
             let found = self.take(seat, number, OwnerWord::Free);
             if found == 0 {
                 return Ok(number);

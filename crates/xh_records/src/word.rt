@@ -3,7 +3,7 @@ ghost use Rattle.std.specs.Prelude.{◌≡◌, IfSome, IfNone, Some};
 ghost use Rattle.xh_model.specs.Words.{word_of, IsHolder, IsWord};
 
 /// What an owner word says of its record.
-#[derive(Clone, Copy, Debug)]
+#[derive(Clone, Copy, Debug, PartialEq, Eq)]
 pub enum OwnerWord {
     /// Nobody holds it.
     Free,

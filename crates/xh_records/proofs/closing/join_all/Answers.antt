@@ -8,7 +8,7 @@ use Rattle.xh_records.specs.Seats.{Held, IsGathered, view_of}
 use Rattle.xh_records.specs.Showing.{Sits, spent, joined}
 use Rattle.xh_records.proofs.Keeps.{among_front}
 use Rattle.xh_records.proofs.Cuts.{joins}
-use Rattle.xh_records.proofs.Closing.{gathers, gathers_none}
+use Rattle.xh_records.proofs.Ended.{gathers, gathers_none}
 use Rattle.xh_records.proofs.closing.join_all.Goals as goal
 
 pub empty_out-hand-requires-clause-own : goal.empty_out-hand-requires-clause-own

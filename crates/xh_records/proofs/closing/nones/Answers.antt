@@ -1,7 +1,7 @@
 use Rattle.std.proofs.Common.{rules, arith, ◌≡◌, ℕ, refl, sym, ap, ◌∙◌, subst, []}
 use Rattle.std.specs.Prelude.{None}
 use Rattle.xh_records.specs.Slots.{slot_at}
-use Rattle.xh_records.proofs.Closing.{none_more}
+use Rattle.xh_records.proofs.Ended.{none_more}
 use Rattle.xh_records.proofs.closing.nones.Goals as goal
 
 pub loop-init : goal.loop-init

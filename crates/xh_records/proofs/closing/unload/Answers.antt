@@ -7,7 +7,7 @@ use mathlib.Core.Logic.{dite}
 use native.Mathlib.Decide.{ℕ_discrete}
 use lib.ListN.{get_elem?}
 use Rattle.xh_records.specs.Slots.{slot_at, or_else}
-use Rattle.xh_records.proofs.Closing.{or_is, read_is, value_of, is_some, take_one_more}
+use Rattle.xh_records.proofs.Ended.{or_is, read_is, value_of, is_some, take_one_more}
 use Rattle.xh_records.proofs.Cuts.{snoc_at}
 use Rattle.xh_records.proofs.closing.unload.Goals as goal
 
@@ -44,7 +44,7 @@ loop-slot-preserved g c =
       gone = λ k h. ap (λ z. get_or z k false) others.1 ∙ dite (ℕ_discrete k i)
           (λ e. ap (get_or (set (slots_filled c.loop-slot.closed.slots) i false) k) refl ∙ ap (λ (n : ℕ). get_or (set (slots_filled c.loop-slot.closed.slots) i false) n false) e ∙ get_or-set_same (slots_filled c.loop-slot.closed.slots) i false false long)
           (λ n. get_or-set_other (slots_filled c.loop-slot.closed.slots) i k false false n ∙ v.gone k (omega arith));
-      words = c.push_reserved.ensures.items ∙ ap (λ z. z ++ c.word.result ∷ []) v.words ∙ sym (take_one_more (slots_items c.args.closed.words) i c.word.result (subst (λ z. get_elem? (slots_items z) i ≡ some c.word.result) v.words_stay c.word.ensures)) ∙ ap (λ (n : ℕ). take n (slots_items c.args.closed.words)) next;
+      words = c.push_reserved.ensures.items ∙ ap (λ z. z ++ c.word_in.result ∷ []) v.words ∙ sym (take_one_more (slots_items c.args.closed.words) i c.word_in.result (subst (λ z. get_elem? (slots_items z) i ≡ some c.word_in.result) v.words_stay c.word_in.ensures)) ∙ ap (λ (n : ℕ). take n (slots_items c.args.closed.words)) next;
       words_long = search rules;
       lots_long = search rules;
       words_room = search rules;

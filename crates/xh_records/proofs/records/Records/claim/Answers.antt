@@ -11,12 +11,12 @@ use Rattle.xh_records.proofs.records.Records.claim.Goals as goal
 
 pub returns-then-found-eq0-clause-claimed : goal.returns-then-found-eq0-clause-claimed
 returns-then-found-eq0-clause-claimed g c =
-    let r : ℕ = c.from.result * 256 + c.loop-index.index in
+    let r : ℕ = c.number_at-number.result in
     subst (λ (z : Held g.row.B.Denot). (l : LotOf g.row.B.Denot) × (c.take-found.new.seat ≡ with_lots z (z.lots ++ (r, l) ∷ [])) × IsLotOf z.shape r l × IsEmpty l) c.loop-index.invariant.same (c.take-found.ensures.taken c.if-found-eq0.true)
 
 pub returns-then-found-eq0-clause-event : goal.returns-then-found-eq0-clause-event
 returns-then-found-eq0-clause-event g c =
-    let r : ℕ = c.from.result * 256 + c.loop-index.index in
+    let r : ℕ = c.number_at-number.result in
     subst (λ (z : Held g.row.B.Denot). IsStep g.B.Fits.is_fit c.args.self.now.shape z c.take-found.new.seat r None (Some (Process z.process)) none) c.loop-index.invariant.same (c.take-found.ensures.step c.if-found-eq0.true)
 
 pub loop-index-preserved : goal.loop-index-preserved

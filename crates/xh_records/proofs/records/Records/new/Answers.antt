@@ -88,3 +88,11 @@ invariant_of-all g c =
       small = subst (λ (z : ℕ). (0 < z) × (z ≤ 256)) (sym each) (c.requires.limits.0, c.requires.limits.1);
       places = subst (λ (z : ℕ). (0 < z) × (z ≤ 32)) (sym places) (c.requires.limits.2, c.requires.limits.3);
     }
+
+pub returns-clause-seats : goal.returns-clause-seats
+returns-clause-seats g c =
+    let i = c.loop-place.invariant in
+    let past : c.args.places ≤ c.loop-place.place = c.loop-place-test.false in
+    let most : c.loop-place.place ≤ c.args.places = c.loop-place.auto.place-end in
+    let end : c.loop-place.place ≡ c.args.places = omega arith in
+    (i.long ∙ end, λ k x at. let s = i.seats k x (slice_elem c.loop-place.seats.items k x at) in ((s.0, s.1), s.2, s.3))

@@ -7,7 +7,7 @@ use Rattle.xh_records.specs.Seats.{put, in_slot}
 use Rattle.xh_records.proofs.Lists.{put_both, slot_other}
 use Rattle.xh_records.proofs.Seating.{seat_is}
 use Rattle.xh_records.proofs.Lent.{lends, kept_two, after_two, still_listed, listed_as}
-use Rattle.xh_records.proofs.lending.Records.with_two.Goals as goal
+use Rattle.xh_records.proofs.records.Records.with_two.Goals as goal
 
 pub swap_slot-requires : goal.swap_slot-requires
 swap_slot-requires g c =

@@ -6,8 +6,8 @@ use Rattle.xh_records.specs.declared.shape.Shape.{Shape}
 use Rattle.xh_records.specs.Seats.{Held, AllSit, Ends}
 use Rattle.xh_records.proofs.Keeps.{in_range}
 use Rattle.xh_records.proofs.Lists.{elem_slice, slice_elem}
-use Rattle.xh_records.proofs.Closing.{some_lot, ends}
-use Rattle.xh_records.proofs.closing.Records.close.Goals as goal
+use Rattle.xh_records.proofs.Ended.{some_lot, ends}
+use Rattle.xh_records.proofs.records.Records.close.Goals as goal
 
 pub join_all-hand-requires : goal.join_all-hand-requires
 join_all-hand-requires g c =

@@ -6,7 +6,7 @@ use Rattle.xh_records.specs.Seats.{put}
 use Rattle.xh_records.proofs.Lists.{put_twice}
 use Rattle.xh_records.proofs.Seating.{seat_is}
 use Rattle.xh_records.proofs.Lent.{lends, kept, after_one, still_listed, listed_as}
-use Rattle.xh_records.proofs.lending.Records.with_lot.Goals as goal
+use Rattle.xh_records.proofs.records.Records.with_lot.Goals as goal
 
 pub swap_slot-requires : goal.swap_slot-requires
 swap_slot-requires g c =

@@ -1,0 +1,82 @@
+//! Worked examples: a record goes its round, two threads claim, and what is refused.
+ghost use Rattle.std.specs.Prelude.{◌≡◌, ◌≢◌, ℕ, ◌+◌, ◌<◌, ◌≤◌, ◌%◌, [], ◌∷◌, ◌++◌, length, IfSome, OnOk, OnErr, IfErr, Some};
+ghost use Rattle.xh_arena.specs.Views.{LotOf};
+ghost use Rattle.xh_records.specs.Showing.{IsLotOf, without};
+ghost use Rattle.xh_records.specs.Seats.{Held, IsRecord, IsSeatOf, lot_at, put, with_lots};
+
+mod rounds;
+mod threads;
+
+use crate::{OwnerWord, Records, Refused, Seat};
+use std::alloc::Global;
+use std::collections::LinkedList;
+use std::test::Fail;
+use xh_arena::{Fits, Lot, Tally, Vault};
+
+/// It fits each length.
+#[derive(Default, Drop)]
+struct Any;
+
+impl Fits for Any {
+    ghost use Rattle.std.specs.Prelude.{true};
+
+    ghost is_fit = { λ _ _. true };
+
+    fn fits(&self, _len: u32) -> bool {
+        true
+    }
+}
+
+/// One arena, and two places.
+struct Bench {
+    vault: Vault,
+    tally: Tally,
+    records: Records<Any>,
+    first: Seat<Any>,
+    second: Seat<Any>,
+    ghost own: { IsSeatOf records first × IsSeatOf records second },
+    ghost bare: { (first.lots ≡ []) × (second.lots ≡ []) },
+    ghost numbers: { (first.process ≡ 0) × (second.process ≡ 1) },
+    ghost names: { records.shape.names ≡ vault.id ∷ [] },
+    ghost places: { records.shape.places ≡ 2 },
+    ghost tally_of: { tally.id ≡ vault.id },
+}
+
+fn bench(alloc: Global, size: u32, count: u16, wear: u64) -> Option<Bench>
+    requires { (0 < count) × (count ≤ 256) }
+    ensures { IfSome result (λ b. b.records.shape.records ≡ count) }
+{
+    let (mut vault, lots, mut tallies) = Vault::new::<Any>(alloc, size, count, wear, 1).ok()?;
+    let mut names = LinkedList::new(alloc);
+    names.push_back(vault.name()).ok()?;
+    let (records, mut seats) = Records::new(alloc, lots, names, count, 2).ok()?;
+    let second = seats.pop()?;
+    let first = seats.pop()?;
+    let tally = tallies.pop()?;
+    Some(Bench {
+        vault,
+        tally,
+        records,
+        first,
+        second,
+    })
+}
+
+#[test]
+fn words_say_what_they_are(rt: HostRuntime) {
+    for (word, owner) in [
+        (0, OwnerWord::Free),
+        (1, OwnerWord::Owned(0)),
+        (5, OwnerWord::Owned(1)),
+        (129, OwnerWord::Owned(32)),
+        (16_381, OwnerWord::Owned(4_095)),
+        (22, OwnerWord::InFlight(5)),
+        (510, OwnerWord::InFlight(127)),
+    ] {
+        assert_eq!(rt; owner.encode(), word);
+        assert_eq!(rt; OwnerWord::decode(word), Some(owner));
+    }
+    for word in [3, 4, 7, 16_385, 514] {
+        assert_eq!(rt; OwnerWord::decode(word), None);
+    }
+}
