@@ -1,40 +1,40 @@
 -- The first of several refusals, and what alloc answers.
-use Rattle.std.proofs.Common.{◌≡◌, ◌≢◌, ℕ, ◌+◌, ◌/◌, List, [], ◌∷◌, ◌++◌, Bool, true, false, cond, refl, sym, ap, ◌∙◌, inl, inr, arith}
-use Rattle.std.specs.Prelude.{Option, Some, None, Result, Ok, Err, nat_lt, is_none, unwrap_or}
+use Rattle.std.proofs.Common.{◌≡◌, ◌≢◌, ℕ, ◌+◌, ◌-◌, ◌/◌, List, length, take, drop, [], ◌∷◌, ◌++◌, Bool, true, false, cond, refl, sym, ap, ◌∙◌, inl, inr, arith}
+use Rattle.std.specs.Prelude.{Option, Some, None, Result, Ok, Err, nat_lt, is_none, unwrap_or, slice_set}
 use Rattle.std.proofs.lemmas.Bool.{cases_Bool}
 use Rattle.xh_model.specs.Cover.{first_fit}
 use Rattle.xh_model.specs.Store.{Store, len, arena_at}
 use Rattle.xh_core.specs.declared.block.Block.{Block}
 use Rattle.xh_core.specs.declared.refused.Refused.{Refused}
 use Rattle.xh_core.specs.declared.refused.Refused.TheVariants.{OutOfMemory, NoSpace, Worn}
-use Rattle.xh_core.specs.Machine.{Machine}
+use Rattle.xh_core.specs.Machine.{Machine, buffer}
 use Rattle.xh_core.specs.Refusing.{Answer, Tests, answered, first_refusal, start, data_tests}
-use Rattle.xh_core.specs.BlockCommands.{free_record, lowest, rounded, space_tests, alloc_tests, alloc, allocated, free_tests, free, freed_block}
-use Rattle.xh_core.specs.Checks.{alloc_heads}
+use Rattle.xh_core.specs.BlockCommands.{free_record, lowest, rounded, space_tests, alloc_tests, alloc, allocated, free_tests, free, freed_block, split_tests, split, parted, range_tests, read, write, overwritten}
+use Rattle.xh_core.specs.Checks.{alloc_heads, split_heads}
 
 pub first_append : (xs ys : Tests) → first_refusal xs ≡ None → first_refusal (xs ++ ys) ≡ first_refusal ys
 first_append [] ys h = refl
 first_append (t ∷ xs) ys h = elim (cases_Bool t.0) [
-    inl y ↦ (let e : Some t.1 ≡ None = rw y at h in absurd (cc))
-    | inr n ↦ rw n (first_append xs ys (rw n at h))
-  ]
+  | inl y ↦ (let e : Some t.1 ≡ None = rw y at h in absurd (cc))
+  | inr n ↦ rw n (first_append xs ys (rw n at h))
+]
 
 pub first_stop : (xs ys : Tests) (e : Refused) → first_refusal xs ≡ Some e → first_refusal (xs ++ ys) ≡ Some e
 first_stop [] ys e h = absurd (cc)
 first_stop (t ∷ xs) ys e h = elim (cases_Bool t.0) [
-    inl y ↦ rw y (rw y at h)
-    | inr n ↦ rw n (first_stop xs ys e (rw n at h))
-  ]
+  | inl y ↦ rw y (rw y at h)
+  | inr n ↦ rw n (first_stop xs ys e (rw n at h))
+]
 
 -- where there is no room, it is never for want of memory
 pub no_memory_test : (s : Store) (a n : ℕ) (e : Refused) → first_refusal (space_tests s a n) ≡ Some e → e ≢ OutOfMemory
 no_memory_test s a n e h f = elim (cases_Bool (is_none (first_fit n (arena_at s a).cover))) [
-    inl y ↦ (let g : Some NoSpace ≡ Some e = rw y at h in absurd (cc))
-    | inr x ↦ elim (cases_Bool (nat_lt (arena_at s a).limit ((arena_at s a).wear + n))) [
-        inl y ↦ (let g : Some Worn ≡ Some e = rw (x, y) at h in absurd (cc))
-        | inr z ↦ (let g : None ≡ Some e = rw (x, z) at h in absurd (cc))
-      ]
+  | inl y ↦ (let g : Some NoSpace ≡ Some e = rw y at h in absurd (cc))
+  | inr x ↦ elim (cases_Bool (nat_lt (arena_at s a).limit ((arena_at s a).wear + n))) [
+    | inl y ↦ (let g : Some Worn ≡ Some e = rw (x, y) at h in absurd (cc))
+    | inr z ↦ (let g : None ≡ Some e = rw (x, z) at h in absurd (cc))
   ]
+]
 
 -- ---- alloc
 
@@ -89,3 +89,52 @@ free_refused p r m e h f = ap (λ (o : Option Refused). answered o m (free_answe
 pub free_gives : (p r : ℕ) (m : Machine) → first_refusal (start m p) ≡ None → first_refusal (data_tests m p r) ≡ None → free p r m ≡ (Ok (len m.store r), freed_block p r m)
 unfolding free
 free_gives p r m h f = ap (λ (o : Option Refused). answered o m (free_answer p r m)) (first_append (start m p) (data_tests m p r) h ∙ f)
+
+-- ---- split
+
+abbrev split_answer : ℕ → ℕ → ℕ → ℕ → Machine → Answer (Block × Block)
+split_answer p r t k m = ((Ok (record { rec = r; len = k }, record { rec = t; len = len m.store r - k })), parted p r t k m)
+
+abbrev split_later : Bool → Tests
+split_later b = (b, OutOfMemory) ∷ []
+
+pub split_stopped : (b : Bool) (p r k : ℕ) (m : Machine) (e : Refused) → first_refusal (split_heads m p r k) ≡ Some e → split b p r k m ≡ (Err e, m)
+unfolding split
+split_stopped b p r k m e h = ap (λ (o : Option Refused). answered o m (split_answer p r (lowest m.store (r / 256)) k m)) (first_stop (split_heads m p r k) (split_later b) e h)
+
+pub split_memory : (p r k : ℕ) (m : Machine) → first_refusal (split_heads m p r k) ≡ None → split true p r k m ≡ (Err OutOfMemory, m)
+unfolding split
+split_memory p r k m h = ap (λ (o : Option Refused). answered o m (split_answer p r (lowest m.store (r / 256)) k m)) (first_append (split_heads m p r k) (split_later true) h)
+
+split_done : (p r k : ℕ) (m : Machine) → first_refusal (split_heads m p r k) ≡ None → split false p r k m ≡ split_answer p r (lowest m.store (r / 256)) k m
+unfolding split
+split_done p r k m h = ap (λ (o : Option Refused). answered o m (split_answer p r (lowest m.store (r / 256)) k m)) (first_append (split_heads m p r k) (split_later false) h)
+
+pub split_gives : (p r k t : ℕ) (m : Machine) → first_refusal (split_heads m p r k) ≡ None → free_record m.store (r / 256) ≡ Some t →
+    split false p r k m ≡ (Ok (record { rec = r; len = k }, record { rec = t; len = len m.store r - k }), parted p r t k m)
+split_gives p r k t m h e = split_done p r k m h ∙ ap (λ (x : ℕ). split_answer p r x k m) (ap (λ (o : Option ℕ). unwrap_or o 65535) e)
+
+-- ---- read and write
+
+abbrev read_answer : ℕ → ℕ → ℕ → Machine → Answer (List ℕ)
+read_answer r at n m = (Ok (take n (drop at (buffer m r))), m)
+
+pub read_refused : (p r at n : ℕ) (m : Machine) (e : Refused) → first_refusal (range_tests m p r at n) ≡ Some e → read p r at n m ≡ (Err e, m)
+unfolding read
+read_refused p r at n m e h = ap (λ (o : Option Refused). answered o m (read_answer r at n m)) h
+
+pub read_gives : (p r at n : ℕ) (m : Machine) → first_refusal (range_tests m p r at n) ≡ None → read p r at n m ≡ (Ok (take n (drop at (buffer m r))), m)
+unfolding read
+read_gives p r at n m h = ap (λ (o : Option Refused). answered o m (read_answer r at n m)) h
+
+abbrev write_answer : ℕ → ℕ → List ℕ → Machine → Answer (Unit {0})
+write_answer r at bytes m = (Ok tt, record m { buffers = slice_set m.buffers r (overwritten at bytes (buffer m r)) })
+
+pub write_refused : (p r at : ℕ) (bytes : List ℕ) (m : Machine) (e : Refused) → first_refusal (range_tests m p r at (length bytes)) ≡ Some e → write p r at bytes m ≡ (Err e, m)
+unfolding write
+write_refused p r at bytes m e h = ap (λ (o : Option Refused). answered o m (write_answer r at bytes m)) h
+
+pub write_gives : (p r at : ℕ) (bytes : List ℕ) (m : Machine) → first_refusal (range_tests m p r at (length bytes)) ≡ None →
+    write p r at bytes m ≡ (Ok tt, record m { buffers = slice_set m.buffers r (overwritten at bytes (buffer m r)) })
+unfolding write
+write_gives p r at bytes m h = ap (λ (o : Option Refused). answered o m (write_answer r at bytes m)) h

@@ -1,6 +1,6 @@
 -- A free record is claimed, and gets bytes.
 use Rattle.std.proofs.Common.{◌≡◌, ◌≢◌, ℕ, zero, suc, ◌+◌, ◌*◌, ◌/◌, ◌%◌, ◌<◌, ◌≤◌, List, [], ◌∷◌, length, take, drop, length-drop, ◌-◌, Bool, true, false, cond, refl, sym, ap, ◌∙◌, subst, arith, ◌⊎◌, inl, inr, get_or-set_same, get_or-set_other}
-use Rattle.std.specs.Prelude.{Option, Some, None, is_none, is_some, slice_range, ◌&&◌, ◌==◌, nat_le, nat_lt, slice_set, slice_index_or, option_map, unwrap_or}
+use Rattle.std.specs.Prelude.{Option, Some, None, is_none, is_some, slice_range, ◌&&◌, ◌==◌, not, nat_le, nat_lt, slice_set, slice_index_or, option_map, unwrap_or}
 use Rattle.std.specs.List.{position, position_or_len, range_with_len}
 use Rattle.std.proofs.lemmas.Bool.{cases_eq, cases_Bool, cases_lt, false≢true, eq-eqb, ne_eqb, lt-ltb, le-ltb, ltb-true, ltb-false, and_parts, eqb-true}
 use Rattle.std.proofs.lemmas.Bool.Decides.{nat_tests}
@@ -11,14 +11,14 @@ use Rattle.xh_model.specs.declared.event.Holder.{Holder}
 use Rattle.xh_model.specs.declared.event.Holder.TheVariants.{Process, Direction}
 use Rattle.xh_model.specs.declared.event.Event.TheVariants.{Claim, Carve, Cut, GiveBack, Vacate}
 use Rattle.xh_model.specs.Cover.{State, first_fit}
-use Rattle.xh_model.specs.Store.{Store, owner, len, holds, is_known, arena_at, arena_of, can, change, after, has_room, with_owner, IsOwner, IsLawful}
+use Rattle.xh_model.specs.Store.{Store, owner, len, holds, is_held_by, is_known, arena_at, arena_of, can, change, after, has_room, with_owner, IsOwner, IsLawful}
 use Rattle.xh_model.proofs.Changed.{known_there}
 use Rattle.xh_core.specs.declared.refused.Refused.{Refused}
 use Rattle.xh_core.specs.Machine.{times}
 use Rattle.xh_core.specs.BlockCommands.{free_record, space_tests}
 use Rattle.xh_core.specs.Refusing.{first_refusal}
 use Rattle.xh_core.specs.Gaining.{Gained}
-use Rattle.xh_core.proofs.Stores.{done, times-cons, owner-set}
+use Rattle.xh_core.proofs.Stores.{done, times-cons, owner-set, same_len}
 
 -- ---- the lowest free record
 
@@ -49,7 +49,7 @@ free_is s a r w e =
     record {
       free = subst (λ (x : ℕ). owner s x ≡ None) found.2 (none_is (owner s (256 * a + found.0)) (subst (λ (x : ℕ). is_none (owner s (256 * a + x)) ≡ true) is at.1));
       known = rw (there.0, there.1) (lt-ltb found.0 (arena_at s a).records l);
-      arena = there.0
+      arena = there.0;
     }
 
 -- among so many owners in a row, the first that is none
@@ -83,7 +83,7 @@ found_free s a n o w l e is =
     let room : n ≤ length rest = (let d : length rest ≡ length s.owners - 256 * a = length-drop (256 * a) s.owners in omega (arith, d, within)) in
     let long : length (take n rest) ≡ n = length-take-le n rest room in
     let each : (i : ℕ) → i < n → is_none (slice_index_or (take n rest) i None) ≡ is_none (owner s (256 * a + i)) =
-      (λ i b. ap is_none (get_or-take n rest i None b ∙ get_or-drop (256 * a) s.owners i None)) in
+    (λ i b. ap is_none (get_or-take n rest i None b ∙ get_or-drop (256 * a) s.owners i None)) in
     ap (λ (x : Option ℕ). option_map (λ i. 256 * a + i) x) (is ∙ (ap (position is_none) part ∙ same_position (λ i. is_none (owner s (256 * a + i))) (take n rest) n long each))
     ∙ ap (λ (k : ℕ). option_map (λ i. 256 * a + i) (position (λ i. is_none (owner s (256 * a + i))) (range_with_len 0 k))) (sym e)
 
@@ -126,7 +126,7 @@ claimed s p r w l k f =
       many = ap (λ (t : Store). length t.owners) is ∙ length-set s.owners r (Some (Process p));
       holds = own_holder (after (Claim p r) s) p r (owners r ∙ rw (eq-eqb r r refl) refl);
       known = rw is k;
-      empty = rw is (no_bytes (owner s r) (len s r) f (w.owned r))
+      empty = rw is (no_bytes (owner s r) (len s r) f (w.owned r));
     }
 
 -- a claim that is taken back leaves all as it was
@@ -135,7 +135,7 @@ unclaimed s p r w l k f =
     let c : Claimed p r s (after (Claim p r) s) = claimed s p r w l k f in
     let can_vacate : can (Vacate p r) (after (Claim p r) s) ≡ true = rw (c.holds, c.empty) refl in
     let same : slice_set (slice_set s.owners r (Some (Process p))) r None ≡ s.owners =
-      set-set s.owners r (Some (Process p)) None ∙ (ap (λ (o : Option Holder). slice_set s.owners r o) (sym f) ∙ set-get_or s.owners r None) in
+    set-set s.owners r (Some (Process p)) None ∙ (ap (λ (o : Option Holder). slice_set s.owners r o) (sym f) ∙ set-get_or s.owners r None) in
     done (Vacate p r) (after (Claim p r) s) can_vacate ∙ (ap (λ (t : Store). with_owner r None t) c.is ∙ ap (λ (os : List (Option Holder)). record s { owners = os }) same)
 
 -- ---- bytes
@@ -161,25 +161,37 @@ swap-eqb q r = elim (cases_eq q r) [ inl e ↦ rw (eq-eqb q r e, eq-eqb r q (sym
 
 pub is_one : (q r : ℕ) → nat_lt 0 (times q (r ∷ [])) ≡ (q == r)
 is_one q r = ap (λ (n : ℕ). nat_lt 0 n) (one_time q r) ∙ elim (cases_eq q r) [
-    inl e ↦ rw (eq-eqb q r e, eq-eqb r q (sym e)) refl
-    | inr n ↦ rw (ne_eqb q r n, ne_eqb r q (λ e. n (sym e))) refl
-  ]
+  | inl e ↦ rw (eq-eqb q r e, eq-eqb r q (sym e)) refl
+  | inr n ↦ rw (ne_eqb q r n, ne_eqb r q (λ e. n (sym e))) refl
+]
 
 one_at_most : (q r : ℕ) → times q (r ∷ []) ≤ 1
 one_at_most q r = let e : times q (r ∷ []) ≡ cond (r == q) 1 0 = one_time q r in elim (cases_Bool (r == q)) [
-    inl y ↦ (let f : times q (r ∷ []) ≡ 1 = e ∙ rw y refl in omega (arith, f))
-    | inr n ↦ (let f : times q (r ∷ []) ≡ 0 = e ∙ rw n refl in omega (arith, f))
-  ]
+  | inl y ↦ (let f : times q (r ∷ []) ≡ 1 = e ∙ rw y refl in omega (arith, f))
+  | inr n ↦ (let f : times q (r ∷ []) ≡ 0 = e ∙ rw n refl in omega (arith, f))
+]
 
 -- one record is claimed, and has bytes then
 pub gained_one : (s t : Store) (p r : ℕ) → IsLawful t → Claimed p r s (after (Claim p r) s) → owner s r ≡ None → t.owners ≡ (after (Claim p r) s).owners → 0 < len t r →
     ((q : ℕ) → q ≢ r → 0 < len s q → 0 < len t q) → Gained p (r ∷ []) s t
 gained_one s t p r w c f same some kept = record {
-    lawful = w;
-    free = λ q y. let e : q ≡ r = eqb-true q r (sym (is_one q r) ∙ y) in subst (λ (x : ℕ). owner s x ≡ None) (sym e) f;
-    once = λ q. one_at_most q r;
-    owners = λ q. ap (λ (os : List (Option Holder)). slice_index_or os q None) same ∙ (c.owners q ∙ rw (is_one q r) refl);
-    full = λ q y. let e : q ≡ r = eqb-true q r (sym (is_one q r) ∙ y) in subst (λ (x : ℕ). 0 < len t x) (sym e) some;
-    kept = λ q l. elim (cases_eq q r) [ inl e ↦ subst (λ (x : ℕ). 0 < len t x) (sym e) some | inr n ↦ kept q n l ];
-    many = ap length same ∙ c.many
-  }
+  lawful = w;
+  free = λ q y. let e : q ≡ r = eqb-true q r (sym (is_one q r) ∙ y) in subst (λ (x : ℕ). owner s x ≡ None) (sym e) f;
+  once = λ q. one_at_most q r;
+  owners = λ q. ap (λ (os : List (Option Holder)). slice_index_or os q None) same ∙ (c.owners q ∙ rw (is_one q r) refl);
+  full = λ q y. let e : q ≡ r = eqb-true q r (sym (is_one q r) ∙ y) in subst (λ (x : ℕ). 0 < len t x) (sym e) some;
+  kept = λ q l. elim (cases_eq q r) [ inl e ↦ subst (λ (x : ℕ). 0 < len t x) (sym e) some | inr n ↦ kept q n l ];
+  many = ap length same ∙ c.many;
+}
+
+-- ---- a cut
+
+-- a record whose owner is none is another than one that is held
+pub apart : (s : Store) (p r t : ℕ) → holds s (Process p) r ≡ true → owner s t ≡ None → r ≢ t
+apart s p r t h f e = false≢true (sym (ap (λ (x : ℕ). holds s (Process p) x) e ∙ rw f refl) ∙ h)
+
+pub can_cut : (s u : Store) (p r t k : ℕ) → Claimed p t s u → holds s (Process p) r ≡ true → r ≢ t → r / 256 ≡ t / 256 → 0 < k → k % 16 ≡ 0 → k < len s r → can (Cut p r t k) u ≡ true
+can_cut s u p r t k cl held ne arena some multiple inside =
+    let own : holds u (Process p) r ≡ true = ap (λ (o : Option Holder). is_held_by o (Process p)) (cl.owners r ∙ rw (ne_eqb r t ne) refl) ∙ held in
+    let long : k < len u r = subst (λ (n : ℕ). k < n) (sym (same_len s u r cl.arenas)) inside in
+    rw (own, cl.holds, eq-eqb (r / 256) (t / 256) arena, ne_eqb r t ne, cl.empty, multiple, lt-ltb 0 k some, lt-ltb k (len u r) long) refl

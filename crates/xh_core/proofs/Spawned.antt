@@ -37,19 +37,19 @@ module _ (m : Machine) (p : ℕ) (w : IsWhole m) (c : can_start (place m p) ≡ 
 
   is_place : IsPlace (started (place m p))
   is_place = record {
-      generation = started_generation (is_vacant (place m p).status) (is_ended (place m p).status) (place m p).generation c (w.generations p);
-      idle = λ h. absurd (false≢true h)
-    }
+    generation = started_generation (is_vacant (place m p).status) (is_ended (place m p).status) (place m p).generation c (w.generations p);
+    idle = λ h. absurd (false≢true h);
+  }
 
   same_list : (k : ℕ) → blocks next k ≡ blocks m k
   same_list k = elim (cases_eq (k % 32) (p % 32)) [
-      inl e ↦ (
+    | inl e ↦ (
         let now : place_in next.places k ≡ started (place m p) = ap (λ (i : ℕ). slice_index_or next.places i no_place) e ∙ place_here m.places p (started (place m p)) (place_there m p w) in
         let was : place_in m.places k ≡ place m p = ap (λ (i : ℕ). slice_index_or m.places i no_place) e in
         ap (λ (x : Place). cond (x.generation == (k / 32)) x.blocks.items []) now ∙ (nothing_in (started (place m p)) k empty
         ∙ sym (ap (λ (x : Place). cond (x.generation == (k / 32)) x.blocks.items []) was ∙ nothing_in (place m p) k empty)))
-      | inr d ↦ ap (λ (x : Place). cond (x.generation == (k / 32)) x.blocks.items []) (place_else m.places p k (started (place m p)) d)
-    ]
+    | inr d ↦ ap (λ (x : Place). cond (x.generation == (k / 32)) x.blocks.items []) (place_else m.places p k (started (place m p)) d)
+  ]
 
   once : (h : Holder) (q : ℕ) → times q (listed next h) ≡ cond (holds m.store h q) 1 0
   once (Process k) q = ap (times q) (same_list k) ∙ w.once (Process k) q
@@ -57,23 +57,23 @@ module _ (m : Machine) (p : ℕ) (w : IsWhole m) (c : can_start (place m p) ≡ 
 
   pub started_whole : IsWhole next
   started_whole = record {
-      store = w.store;
-      once = once;
-      full = w.full;
-      kinds = w.kinds;
-      ends = λ r d e. let was : IsEnd m r d = w.ends r d e in record { held = was.held; opened = was.opened; alone = was.alone };
-      buffers = w.buffers;
-      bytes = w.bytes;
-      places = length-set m.places (p % 32) (started (place m p)) ∙ w.places;
-      generations = generations_set m p (started (place m p)) w is_place;
-      idle = idle_set m p (started (place m p)) w is_place;
-      lines = w.lines;
-      fresh = w.fresh;
-      contracts = w.contracts;
-      wired = w.wired;
-      opened = w.opened;
-      deep = w.deep
-    }
+    store = w.store;
+    once = once;
+    full = w.full;
+    kinds = w.kinds;
+    ends = λ r d e. let was : IsEnd m r d = w.ends r d e in record { held = was.held; opened = was.opened; alone = was.alone };
+    buffers = w.buffers;
+    bytes = w.bytes;
+    places = length-set m.places (p % 32) (started (place m p)) ∙ w.places;
+    generations = generations_set m p (started (place m p)) w is_place;
+    idle = idle_set m p (started (place m p)) w is_place;
+    lines = w.lines;
+    fresh = w.fresh;
+    contracts = w.contracts;
+    wired = w.wired;
+    opened = w.opened;
+    deep = w.deep;
+  }
 
 pub place_generation : (m : Machine) (k : ℕ) → IsWhole m → k < 32 → (slice_index_or m.places k no_place).generation ≤ 127
 place_generation m k w l = let e : k % 32 ≡ k = omega (arith, l) in subst (λ (i : ℕ). (slice_index_or m.places i no_place).generation ≤ 127) e (w.generations k)
@@ -102,7 +102,7 @@ ready m k w e =
       there = l;
       can = at.1;
       generation = started_generation (is_vacant (slice_index_or m.places k no_place).status) (is_ended (slice_index_or m.places k no_place).status) (slice_index_or m.places k no_place).generation at.1 g;
-      whole = spawned_whole m k w l at.1
+      whole = spawned_whole m k w l at.1;
     }
 
 pub entry_at : (ps : List Place) (k : ℕ) (x : Place) → length ps ≡ 32 → k < 32 → x ≡ slice_index_or ps k x → x ≡ slice_index_or ps k no_place

@@ -1,9 +1,10 @@
 //! Several events at a time, and what is read of the arenas.
-ghost use Rattle.std.specs.Prelude.{◌≡◌, ◌≢◌, ℕ, ◌<◌, ◌≤◌, ◌/◌, ◌%◌, ◌∷◌, [], Some, None, OnOk, OnErr, MatchResult, length, true};
+ghost use Rattle.std.specs.Prelude.{◌≡◌, ◌≢◌, ℕ, ◌+◌, ◌<◌, ◌≤◌, ◌/◌, ◌%◌, ◌∷◌, [], Some, None, OnOk, OnErr, MatchResult, length, true};
 ghost use Rattle.std.specs.List.{position};
 ghost use Rattle.std.specs.Prelude.{is_none};
-ghost use Rattle.xh_model.specs.declared.event.Event.TheVariants.{Claim, Carve, GiveBack, Vacate};
-ghost use Rattle.xh_model.specs.Store.{IsLawful, after, arena_at, is_known, len, owner};
+ghost use Rattle.xh_model.specs.declared.event.Event.TheVariants.{Claim, Carve, Cut, GiveBack, Vacate};
+ghost use Rattle.xh_model.specs.declared.event.Holder.TheVariants.{Process};
+ghost use Rattle.xh_model.specs.Store.{IsLawful, after, arena_at, holds, is_known, len, owner};
 ghost use Rattle.xh_core.specs.BlockCommands.{free_record, space_tests};
 ghost use Rattle.xh_core.specs.Gaining.{Gained};
 ghost use Rattle.xh_core.specs.Refusing.{first_refusal};
@@ -92,5 +93,27 @@ impl Plain {
         self.give_back(p, r);
         self.vacate(p, r);
         len
+    }
+
+    /// A free record is claimed, and gets the bytes of another past its first `k`.
+    pub(crate) fn part(&mut self, p: u16, r: u16, t: u16, k: u32)
+        requires lawful { IsLawful self.old }
+        requires process { p < 4096 }
+        requires held { holds self.old (Process p) r ≡ true }
+        requires known { is_known self.old t ≡ true }
+        requires free { owner self.old t ≡ None }
+        requires arena { r / 256 ≡ t / 256 }
+        requires some { 0 < k }
+        requires multiple { k % 16 ≡ 0 }
+        requires inside { k < len self.old r }
+        ensures store { self.new ≡ after (Cut p r t k) (after (Claim p t) self.old) }
+        ensures gained { Gained p (t ∷ []) self.old self.new }
+        ensures head { len self.new r ≡ k }
+        ensures tail { len self.new t + k ≡ len self.old r }
+        ensures others { (q : ℕ) → q ≢ r → q ≢ t → len self.new q ≡ len self.old q }
+    {
+        self.claim(p, t);
+        self.cut(p, r, t, k);
+        let _open = &self.records;
     }
 }

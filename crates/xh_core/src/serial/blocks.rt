@@ -1,11 +1,13 @@
 //! Data blocks: they are made, cut, read, written and given back.
-ghost use Rattle.std.specs.Prelude.{◌≡◌, ◌≢◌, ◌+◌, ◌*◌, ◌/◌, ◌%◌, ◌<◌, ◌≤◌, ◌==◌, ◌++◌, ◌∷◌, [], Some, Err, false, true, length, slice_set, slice_index_or};
+ghost use Rattle.std.specs.Prelude.{◌≡◌, ◌≢◌, ◌+◌, ◌*◌, ◌/◌, ◌%◌, ◌<◌, ◌≤◌, ◌==◌, ◌++◌, ◌∷◌, [], Some, None, Ok, Err, IfErr, OnErr, OnOk, false, true, length, slice_set, slice_index_or};
 ghost use Rattle.std.specs.List.{position_or_len, remove};
-ghost use Rattle.xh_core.specs.Machine.{no_place};
-ghost use Rattle.xh_core.specs.BlockCommands.{free_record, rounded};
-ghost use Rattle.xh_core.specs.BlockCommands.{alloc as alloc_command, free as free_command};
+ghost use Rattle.xh_core.specs.Machine.{end_of, no_place};
+ghost use Rattle.xh_model.specs.declared.event.Holder.TheVariants.{Process};
+ghost use Rattle.xh_model.specs.Store.{holds, len};
+ghost use Rattle.xh_core.specs.BlockCommands.{free_record, range_tests, rounded};
+ghost use Rattle.xh_core.specs.BlockCommands.{alloc as alloc_command, free as free_command, read as read_command, split as split_command, write as write_command};
 ghost use Rattle.xh_core.specs.Refusing.{IsRunning, Tested};
-ghost use Rattle.xh_core.specs.Checks.{alloc_heads};
+ghost use Rattle.xh_core.specs.Checks.{alloc_heads, split_heads, MaySplit};
 
 use crate::block::Block;
 use crate::buffer::Buffer;
@@ -87,6 +89,79 @@ impl Serial {
         self.buffers[usize::from(r)] = Buffer::none();
         unlist_record(&mut self.places, p, r);
         Ok(len)
+    }
+
+    /// Why a split is refused, or the record that it takes.
+    fn check_split(&self, p: u16, r: u16, k: u32) -> Result<u16, Refused>
+        ensures { Tested (split_heads self.now p r k) result (MaySplit self.now p r k) }
+    {
+        self.check_start(p)?;
+        self.check_data(p, r)?;
+        if k == 0 || k % 16 != 0 || k >= self.plain.len(r) {
+            return Err(Refused::BadCut);
+        }
+        match self.plain.free_record(u32::from(r / 256)) {
+            Some(t) => Ok(t),
+            None => Err(Refused::NoRecord),
+        }
+    }
+
+    /// A block is cut after its first `k` bytes, a multiple of 16: the head, which keeps its record,
+    /// and the tail. NoProcess, Ended, NotOwned, NotData, BadCut where `k` is 0, no multiple of 16 or
+    /// not less than the block has, NoRecord and OutOfMemory, in this order; each leaves all as it was.
+    pub fn split(
+        &mut self,
+        alloc: Global,
+        p: u16,
+        r: u16,
+        k: u32,
+    ) -> Result<(Block, Block), Refused>
+        ensures done { result ≢ Err Refused.OutOfMemory → split_command false p r k self.old ≡ (result, self.new) }
+        ensures refused { result ≡ Err Refused.OutOfMemory → split_command true p r k self.old ≡ (result, self.new) }
+    {
+        let t = self.check_split(p, r, k)?;
+        let tail = self.buffers[usize::from(r)].tail(alloc, k as usize)?;
+        let rest = self.plain.len(r) - k;
+        self.plain.part(p, r, t, k);
+        self.buffers[usize::from(t)] = tail;
+        self.buffers[usize::from(r)].shorten(k as usize);
+        list_record(&mut self.places, p, t);
+        Ok((Block { rec: r, len: k }, Block { rec: t, len: rest }))
+    }
+
+    /// Why bytes of a block cannot be reached.
+    fn check_range(&self, p: u16, r: u16, at: u32, count: usize) -> Result<(), Refused>
+        ensures { Tested (range_tests self.now p r at count) result (λ _. (holds self.now.store (Process p) r ≡ true) × (end_of self.now r ≡ None) × (at + count ≤ len self.now.store r)) }
+    {
+        self.check_start(p)?;
+        self.check_data(p, r)?;
+        let len = self.plain.len(r) as usize;
+        if count > len || at as usize > len - count {
+            return Err(Refused::BadRange);
+        }
+        Ok(())
+    }
+
+    /// The bytes of a block from `at` on, as many as `out` has room for. NoProcess, Ended, NotOwned,
+    /// NotData, and BadRange where they reach past its end; with these `out` stays as it was.
+    pub fn read(&self, p: u16, r: u16, at: u32, out: &mut [u8]) -> Result<(), Refused>
+        ensures done { OnOk result (read_command p r at (length out.old) self.now ≡ (Ok out.new, self.now)) }
+        ensures refused { IfErr result (λ refused. read_command p r at (length out.old) self.now ≡ (Err refused, self.now)) }
+        ensures kept { OnErr result (out.new ≡ out.old) }
+    {
+        self.check_range(p, r, at, out.len())?;
+        self.buffers[usize::from(r)].copy(at as usize, out);
+        Ok(())
+    }
+
+    /// These bytes come in the place of as many of a block from `at` on. NoProcess, Ended, NotOwned,
+    /// NotData, and BadRange where they reach past its end.
+    pub fn write(&mut self, p: u16, r: u16, at: u32, bytes: &[u8]) -> Result<(), Refused>
+        ensures { write_command p r at bytes.now self.old ≡ (result, self.new) }
+    {
+        self.check_range(p, r, at, bytes.len())?;
+        self.buffers[usize::from(r)].overwrite(at as usize, bytes);
+        Ok(())
     }
 }
 

@@ -9,8 +9,8 @@ use crate::line::Line;
 use crate::message::Message;
 use crate::place::Place;
 use crate::plain::Plain;
-use crate::serial::places::number;
 use crate::serial::Serial;
+use crate::serial::places::number;
 use crate::status::Status;
 use arrayvec::ArrayVec;
 

@@ -6,8 +6,8 @@ ghost use Rattle.xh_core.specs.PlaceCommands.{can_start, started, spawn, glance}
 use crate::glance::Glance;
 use crate::place::Place;
 use crate::refused::Refused;
-use crate::serial::books::total;
 use crate::serial::Serial;
+use crate::serial::books::total;
 use crate::status::Status;
 
 /// Whether a process can start there.

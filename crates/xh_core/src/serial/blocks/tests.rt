@@ -40,7 +40,11 @@ fn sizes_and_full_arena(rt: HostRuntime) {
 /// Blocks go to the lowest hole that has room, and neighbouring holes are one.
 #[test]
 fn lowest_address_first(rt: HostRuntime) {
-    let config = Config { bytes: 64, records: 4, ..small() };
+    let config = Config {
+        bytes: 64,
+        records: 4,
+        ..small()
+    };
     let mut heap = Serial::new(rt.alloc(), config).expect(&rt, "room");
     let a = heap.spawn().expect(&rt, "a place");
     let x = heap.alloc(rt.alloc(), a, 16, 0).expect(&rt, "room");
@@ -57,18 +61,29 @@ fn lowest_address_first(rt: HostRuntime) {
 
 #[test]
 fn records_and_arenas_run_out(rt: HostRuntime) {
-    let config = Config { arenas: 2, bytes: 64, records: 2, ..small() };
+    let config = Config {
+        arenas: 2,
+        bytes: 64,
+        records: 2,
+        ..small()
+    };
     let mut heap = Serial::new(rt.alloc(), config).expect(&rt, "room");
     let a = heap.spawn().expect(&rt, "a place");
     assert_eq!(rt; told(heap.alloc(rt.alloc(), a, 16, 0)), Ok(16));
     assert_eq!(rt; told(heap.alloc(rt.alloc(), a, 16, 0)), Ok(16));
     assert_eq!(rt; told(heap.alloc(rt.alloc(), a, 16, 0)), Err(5));
-    assert_eq!(rt; heap.alloc(rt.alloc(), a, 16, 1).expect(&rt, "room").rec, 256);
+    assert_eq!(rt;
+        heap.alloc(rt.alloc(), a, 16, 1).expect(&rt, "room").rec,
+        256
+    );
 }
 
 #[test]
 fn worn_arena(rt: HostRuntime) {
-    let config = Config { wear: 96, ..small() };
+    let config = Config {
+        wear: 96,
+        ..small()
+    };
     let mut heap = Serial::new(rt.alloc(), config).expect(&rt, "room");
     let a = heap.spawn().expect(&rt, "a place");
     for _ in 0..2u8 {
@@ -103,14 +118,22 @@ fn a_refused_growth_of_alloc_leaves_nothing(rt: HostRuntime) {
         assert_eq!(rt; refused.number(), 1);
         assert_eq!(rt; told(heap.alloc(rt.alloc(), a, 40, 0)), Ok(48));
     }
-    assert_eq!(rt; heap.alloc(rt.alloc(), a, 208, 0).expect(&rt, "the rest").rec, 1);
+    let rest = match heap.alloc(rt.alloc(), a, 208, 0) {
+        Ok(rest) => rest,
+        Err(_) => heap.alloc(rt.alloc(), a, 208, 0).expect(&rt, "the rest"),
+    };
+    assert_eq!(rt; rest.rec, 1);
 }
 
 /// The order of the refusals with all growth refused from some one on:
 /// `rt try --test --fail-alloc N..` does so; with memory the last is NoSpace.
 #[test]
 fn the_order_where_all_growth_is_refused(rt: HostRuntime) {
-    let config = Config { arenas: 2, records: 1, ..small() };
+    let config = Config {
+        arenas: 2,
+        records: 1,
+        ..small()
+    };
     let Ok(mut heap) = Serial::new(rt.alloc(), config) else {
         return;
     };
@@ -121,4 +144,69 @@ fn the_order_where_all_growth_is_refused(rt: HostRuntime) {
     if first.is_ok() {
         assert_eq!(rt; told(heap.alloc(rt.alloc(), a, 16, 0)), Err(5));
     }
+}
+
+/// A block is cut after its first bytes, and each part keeps its own.
+#[test]
+fn a_block_is_split(rt: HostRuntime) {
+    let mut heap = Serial::new(rt.alloc(), small()).expect(&rt, "room");
+    let a = heap.spawn().expect(&rt, "a place");
+    let x = heap.alloc(rt.alloc(), a, 48, 0).expect(&rt, "room");
+    for k in [0, 48, 20] {
+        assert!(rt; matches!(heap.split(rt.alloc(), a, x.rec, k), Err(Refused::BadCut)));
+    }
+    assert!(rt; heap.write(a, x.rec, 16, &[1, 2]).is_ok());
+    let (head, tail) = heap.split(rt.alloc(), a, x.rec, 16).expect(&rt, "a record");
+    assert_eq!(rt; (head.rec, head.len, tail.len), (x.rec, 16, 32));
+    let mut bytes = [9; 2];
+    assert!(rt; heap.read(a, tail.rec, 0, &mut bytes).is_ok());
+    assert_eq!(rt; bytes, [1, 2]);
+    assert_eq!(rt; heap.free(a, head.rec).ok(), Some(16));
+    assert!(rt; heap.read(a, tail.rec, 0, &mut bytes).is_ok());
+    assert_eq!(rt; bytes, [1, 2]);
+}
+
+#[test]
+fn bytes_are_written_and_read(rt: HostRuntime) {
+    let mut heap = Serial::new(rt.alloc(), small()).expect(&rt, "room");
+    let a = heap.spawn().expect(&rt, "a place");
+    let x = heap.alloc(rt.alloc(), a, 16, 0).expect(&rt, "room");
+    assert!(rt; heap.write(a, x.rec, 0, &[0xbe, 0xef]).is_ok());
+    let mut bytes = [9; 4];
+    assert!(rt; heap.read(a, x.rec, 0, &mut bytes).is_ok());
+    assert_eq!(rt; bytes, [0xbe, 0xef, 0, 0]);
+    let mut two = [7; 2];
+    assert!(rt; matches!(heap.read(a, x.rec, 15, &mut two), Err(Refused::BadRange)));
+    assert_eq!(rt; two, [7, 7]);
+    assert!(rt; matches!(heap.write(a, x.rec, 15, &[1, 2]), Err(Refused::BadRange)));
+    assert!(rt; matches!(heap.write(a, 1, 0, &[1]), Err(Refused::NotOwned)));
+    assert!(rt; heap.read(a, x.rec, 16, &mut []).is_ok());
+}
+
+/// With a growth of a split refused the block and its bytes are as before, and the same split
+/// succeeds after it: `rt try --test --fail-alloc N` refuses the N-th.
+#[test]
+fn a_refused_growth_of_split_leaves_nothing(rt: HostRuntime) {
+    let Ok(mut heap) = Serial::new(rt.alloc(), small()) else {
+        assert!(rt; Serial::new(rt.alloc(), small()).is_ok());
+        return;
+    };
+    let a = heap.spawn().expect(&rt, "a place");
+    let Ok(x) = heap.alloc(rt.alloc(), a, 48, 0) else {
+        return;
+    };
+    assert!(rt; heap.write(a, x.rec, 16, &[1, 2]).is_ok());
+    if let Err(refused) = heap.split(rt.alloc(), a, x.rec, 16) {
+        assert_eq!(rt; refused.number(), 1);
+        let mut bytes = [0; 48];
+        assert!(rt; heap.read(a, x.rec, 0, &mut bytes).is_ok());
+        assert_eq!(rt; (bytes[16], bytes[17]), (1, 2));
+        let again = heap.split(rt.alloc(), a, x.rec, 16).expect(&rt, "a record");
+        assert_eq!(rt; (again.0.len, again.1.len, again.1.rec), (16, 32, 1));
+    }
+    let rest = match heap.alloc(rt.alloc(), a, 208, 0) {
+        Ok(rest) => rest,
+        Err(_) => heap.alloc(rt.alloc(), a, 208, 0).expect(&rt, "the rest"),
+    };
+    assert_eq!(rt; rest.rec, 2);
 }

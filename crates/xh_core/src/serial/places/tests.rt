@@ -43,15 +43,24 @@ fn a_place_is_used_again(rt: HostRuntime) {
 fn glances(rt: HostRuntime) {
     let mut heap = Serial::new(rt.alloc(), small()).expect(&rt, "room");
     let vacant = heap.glance(0).expect(&rt, "a place");
-    assert_eq!(rt; (vacant.state, vacant.blocks, vacant.bytes), (Status::Vacant, 0, 0));
+    assert_eq!(rt;
+        (vacant.state, vacant.blocks, vacant.bytes),
+        (Status::Vacant, 0, 0)
+    );
     assert!(rt; matches!(heap.glance(32), Err(Refused::NoProcess)));
     let a = heap.spawn().expect(&rt, "a place");
     let x = heap.alloc(rt.alloc(), a, 40, 0).expect(&rt, "room");
     let one = heap.glance(0).expect(&rt, "a place");
-    assert_eq!(rt; (one.process, one.state, one.blocks, one.bytes), (0, Status::Running, 1, 48));
+    assert_eq!(rt;
+        (one.process, one.state, one.blocks, one.bytes),
+        (0, Status::Running, 1, 48)
+    );
     assert_eq!(rt; heap.free(a, x.rec).ok(), Some(48));
     let none = heap.glance(0).expect(&rt, "a place");
-    assert_eq!(rt; (none.state, none.blocks, none.bytes), (Status::Running, 0, 0));
+    assert_eq!(rt;
+        (none.state, none.blocks, none.bytes),
+        (Status::Running, 0, 0)
+    );
 }
 
 /// One process with a block of 40 bytes, rounded up to 48.
@@ -69,7 +78,10 @@ fn first_alloc(rt: HostRuntime) {
     }
     assert_eq!(rt; ledger.places.len(), 1);
     for place in ledger.places.as_slice() {
-        assert_eq!(rt; (place.place, place.process, place.state), (0, 0, State::Running));
+        assert_eq!(rt;
+            (place.place, place.process, place.state),
+            (0, 0, State::Running)
+        );
         assert_eq!(rt; (place.blocks, place.bytes), (1, 48));
     }
     assert_eq!(rt; (ledger.owned, ledger.flight, ledger.out), (48, 0, 48));

@@ -68,9 +68,9 @@ invariant_of-self-2 c =
     let store = c.in_ok-take.ensures.store in
     let there : c.in_ok-r.r < length c.self.inside.plain.owners = in_range c.self.inside.plain c.in_ok-r.r c.self.invariant.store (free c).known in
     subst IsWhole (sym (made c)) (allocated_whole (was c) c.args.p c.in_ok-r.r c.round-len.result c.self.invariant (rw (← c.self.view_is) at c.in_ok-r.ensures.1.0)
-      (subst (λ (t : Store). Gained c.args.p (c.in_ok-r.r ∷ []) c.self.inside.plain t) store c.in_ok-take.ensures.gained) (free c).free there
-      (subst (λ (t : Store). len t c.in_ok-r.r ≡ c.round-len.result) store c.in_ok-take.ensures.length)
-      (λ q ne. subst (λ (t : Store). len t q ≡ len c.self.inside.plain q) store (c.in_ok-take.ensures.others q ne)))
+    (subst (λ (t : Store). Gained c.args.p (c.in_ok-r.r ∷ []) c.self.inside.plain t) store c.in_ok-take.ensures.gained) (free c).free there
+    (subst (λ (t : Store). len t c.in_ok-r.r ≡ c.round-len.result) store c.in_ok-take.ensures.length)
+    (λ q ne. subst (λ (t : Store). len t q ≡ len c.self.inside.plain q) store (c.in_ok-take.ensures.others q ne)))
 
 pub returns-clause-done : goal.returns-clause-done
 returns-clause-done c = λ _.
