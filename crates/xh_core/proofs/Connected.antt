@@ -1,25 +1,24 @@
 -- A channel is opened, and the machine stays whole.
-use Rattle.std.proofs.Common.{◌≡◌, ◌≢◌, ℕ, zero, suc, ◌+◌, ◌*◌, ◌/◌, ◌%◌, ◌<◌, ◌≤◌, List, [], ◌∷◌, ◌++◌, length, Bool, true, false, cond, refl, sym, ap, ◌∙◌, subst, arith, ◌⊎◌, inl, inr, get_or-set_same, get_or-set_other}
+use Rattle.std.proofs.Common.{◌≡◌, ◌≢◌, ℕ, ◌+◌, ◌*◌, ◌<◌, ◌≤◌, List, [], ◌∷◌, ◌++◌, length, Bool, true, false, cond, refl, sym, ap, ◌∙◌, subst, arith, ◌⊎◌, inl, inr, get_or-set_same, get_or-set_other}
 use Rattle.std.specs.Prelude.{Option, Some, None, is_some, ◌==◌, slice_set, slice_index_or}
-use Rattle.std.proofs.lemmas.Bool.{cases_eq, cases_Bool, false≢true, eq-eqb, ne_eqb}
+use Rattle.std.proofs.lemmas.Bool.{cases_eq, eq-eqb, ne_eqb}
 use Rattle.std.proofs.lemmas.List.{length-append, length-set}
 use Rattle.std.proofs.lemmas.Option.{same_Some}
 use Rattle.xh_model.specs.declared.event.Holder.{Holder}
 use Rattle.xh_model.specs.declared.event.Holder.TheVariants.{Process, Direction}
 use Rattle.xh_model.specs.declared.event.Event.TheVariants.{Claim, Carve, Cut}
 use Rattle.xh_model.specs.declared.row.Row.{Row}
-use Rattle.xh_model.specs.Rows.{IsValid, InStep}
+use Rattle.xh_model.specs.Rows.{InStep}
 use Rattle.xh_model.specs.Store.{Store, owner, len, holds, is_held_by, after, IsQuiet}
-use Rattle.xh_core.specs.declared.place.Place.{Place}
 use Rattle.xh_core.specs.declared.line.Line.{Line}
-use Rattle.xh_core.specs.Machine.{Machine, line, no_line, blocks, buffer, carried, end_of, listed, on_way, way_in, tags_of, times, AreWired, IsEnd, IsWhole}
+use Rattle.xh_core.specs.Machine.{Machine, line, no_line, blocks, buffer, carried, end_of, listed, on_way, tags_of, times, AreWired, IsEnd, IsWhole}
 use Rattle.xh_core.specs.Refusing.{IsRunning}
 use Rattle.xh_core.specs.ChannelCommands.{new_line, opened, wired}
 use Rattle.xh_core.specs.Pairing.{IsSound, moved}
 use Rattle.xh_core.proofs.Machines.{place_in, list_in, same_machine}
 use Rattle.xh_core.proofs.Claiming.{no_bytes}
 use Rattle.xh_core.proofs.Room.{room}
-use Rattle.xh_core.proofs.Appended.{ArePlaces, IsBusy, whole_places, running_place, longer, appended, own_list, appended_places, appended_busy, appended_list, appended_twice, appended_both, times_longer, no_shorter}
+use Rattle.xh_core.proofs.Appended.{ArePlaces, IsBusy, whole_places, running_place, appended, own_list, appended_places, appended_busy, appended_list, appended_twice, appended_both, times_longer, no_shorter}
 use Rattle.xh_core.proofs.Pairs.{Shared}
 
 -- ---- both ends are in step

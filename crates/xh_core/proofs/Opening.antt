@@ -1,6 +1,6 @@
 -- What wire and open answer.
-use Rattle.std.proofs.Common.{◌≡◌, ◌≢◌, ℕ, ◌+◌, ◌*◌, ◌<◌, List, [], ◌∷◌, ◌++◌, length, Bool, true, false, cond, refl, sym, ap, ◌∙◌, subst, arith}
-use Rattle.std.specs.Prelude.{Option, Some, None, Result, Ok, Err, ◌==◌, not}
+use Rattle.std.proofs.Common.{◌≡◌, ℕ, ◌+◌, ◌*◌, ◌<◌, List, ◌++◌, length, Bool, true, false, cond, refl, sym, ap, ◌∙◌, subst, arith}
+use Rattle.std.specs.Prelude.{Option, Some, None, Ok, Err, ◌==◌, not}
 use Rattle.std.proofs.lemmas.Bool.{eq-eqb}
 use Rattle.xh_model.specs.declared.row.Row.{Row}
 use Rattle.xh_model.specs.Store.{Store, IsLawful}
@@ -9,11 +9,11 @@ use Rattle.xh_core.specs.declared.refused.Refused.{Refused}
 use Rattle.xh_core.specs.declared.refused.Refused.TheVariants.{NoProcess, Ended}
 use Rattle.xh_core.specs.Machine.{Machine, status_of, is_vacant, is_running, IsWhole}
 use Rattle.xh_core.specs.Refusing.{Answer, answered, first_refusal, start, IsRunning}
-use Rattle.xh_core.specs.ChannelCommands.{low_end, high_end, claimed_once, ends_at, channel_tests, opened, open_channel, wired, wire_channel}
+use Rattle.xh_core.specs.ChannelCommands.{low_end, high_end, claimed_once, ends_at, channel_tests, open_channel, wired, wire_channel}
 use Rattle.xh_core.specs.Pairing.{Paired, moved, pair_tests, wire_heads}
 use Rattle.xh_core.proofs.Machines.{current_range}
 use Rattle.xh_core.proofs.Firsts.{first_append, first_later}
-use Rattle.xh_core.proofs.Pairs.{TwoClaimed, Shared, lowest_is, paired_two, shared}
+use Rattle.xh_core.proofs.Pairs.{Shared, lowest_is, paired_two, shared}
 
 abbrev wire_answer : ℕ → ℕ → ℕ → ℕ → Option (List Row) → Machine → Answer (Block × Block)
 wire_answer p q r t contract m = (Ok (ends_at r t), wired p q r t contract m)

@@ -1,12 +1,11 @@
 -- Two free records are claimed and get bytes, and one of them changes hands.
-use Rattle.std.proofs.Common.{◌≡◌, ◌≢◌, ℕ, zero, suc, ◌+◌, ◌*◌, ◌/◌, ◌%◌, ◌<◌, ◌≤◌, List, [], ◌∷◌, length, Bool, true, false, cond, refl, sym, ap, ◌∙◌, subst, arith, ◌⊎◌, inl, inr, get_or-set_same, get_or-set_other}
-use Rattle.std.specs.Prelude.{Option, Some, None, is_none, is_some, ◌&&◌, ◌==◌, ◌||◌, not, nat_le, nat_lt, slice_set, slice_index_or, unwrap_or}
+use Rattle.std.proofs.Common.{◌≡◌, ◌≢◌, ℕ, ◌+◌, ◌/◌, ◌<◌, List, length, Bool, true, false, cond, refl, sym, ap, ◌∙◌, subst, arith, inl, inr, get_or-set_same}
+use Rattle.std.specs.Prelude.{Option, Some, None, is_none, ◌==◌, ◌||◌, slice_set, slice_index_or, unwrap_or}
 use Rattle.std.proofs.lemmas.Bool.{cases_eq, cases_Bool, false≢true, eq-eqb, ne_eqb, lt-ltb}
 use Rattle.std.proofs.lemmas.List.{length-set, set-set}
 use Rattle.xh_model.specs.declared.event.Holder.{Holder}
 use Rattle.xh_model.specs.declared.event.Holder.TheVariants.{Process, Direction}
 use Rattle.xh_model.specs.declared.event.Event.TheVariants.{Claim, Carve, Cut, Vacate, Pass, Accept}
-use Rattle.xh_model.specs.Cover.{State}
 use Rattle.xh_model.specs.Store.{Store, owner, len, holds, is_held_by, is_known, can, after, with_owner, IsLawful}
 use Rattle.xh_model.proofs.Lawful.{owner_lawful}
 use Rattle.xh_core.specs.declared.refused.Refused.{Refused}

@@ -1,5 +1,5 @@
 -- What it is that a process gets two records for the ends of a channel.
-use Rattle.std.specs.Prelude.{◌≡◌, ◌≢◌, ℕ, ◌==◌, ◌||◌, cond, ◌∷◌, ◌++◌, [], Option, Some, None, List, is_none, length, nat_le}
+use Rattle.std.specs.Prelude.{◌≡◌, ◌≢◌, ℕ, ◌==◌, ◌||◌, cond, ◌∷◌, ◌++◌, [], Option, Some, List, is_none, length, nat_le}
 use Rattle.xh_model.specs.declared.event.Event.TheVariants.{Claim, Carve, Cut}
 use Rattle.xh_model.specs.declared.row.Row.{Row}
 use Rattle.xh_model.specs.Rows.{IsValid}

@@ -1,9 +1,8 @@
-use Rattle.std.proofs.Common.{◌≡◌, ◌∙◌, ◌<◌, ℕ, List, ap, sym, refl, subst, true, length, Some}
+use Rattle.std.proofs.Common.{◌≡◌, ◌∙◌, ◌<◌, List, ap, sym, subst, length, Some}
 use Rattle.xh_model.specs.declared.event.Event.TheVariants.{Claim, Vacate}
 use Rattle.xh_model.specs.Cover.{State}
 use Rattle.xh_model.specs.Store.{Store, after}
 use Rattle.xh_core.specs.BlockCommands.{free_record}
-use Rattle.xh_core.specs.Pairing.{ClaimedTwo}
 use Rattle.xh_core.proofs.Claiming.{IsFree, free_is, unclaimed}
 use Rattle.xh_core.proofs.Pairs.{claim_arenas, once_is}
 use Rattle.xh_core.proofs.plain.Plain.claim_two.Goals as goal

@@ -1,6 +1,6 @@
-use Rattle.std.proofs.Common.{◌≡◌, ◌∙◌, ap, sym, refl, subst, Some, None}
+use Rattle.std.proofs.Common.{◌∙◌, ap, subst, Some, None}
 use Rattle.xh_model.specs.declared.event.Event.TheVariants.{Vacate}
-use Rattle.xh_model.specs.Store.{Store, IsLawful, after}
+use Rattle.xh_model.specs.Store.{IsLawful, after}
 use Rattle.xh_core.proofs.Pairs.{claimed_two, pair_room, paired}
 use Rattle.xh_core.proofs.plain.Plain.take_ends.Goals as goal
 

@@ -1,7 +1,6 @@
 use Rattle.std.proofs.Common.{◌≡◌, ◌∙◌, ◌*◌, ◌+◌, ◌%◌, ◌<◌, ℕ, List, length, sym, ap, refl, subst, Some, None, Ok}
-use Rattle.std.specs.Prelude.{Option, slice_set, slice_index_or}
+use Rattle.std.specs.Prelude.{slice_set, slice_index_or}
 use Rattle.std.proofs.lemmas.Result.{err_from_is_err_and}
-use Rattle.xh_model.specs.declared.row.Row.{Row}
 use Rattle.xh_model.specs.Store.{Store}
 use Rattle.xh_core.specs.declared.place.Place.{Place}
 use Rattle.xh_core.specs.Machine.{Machine, IsWhole, no_place}

@@ -1,4 +1,4 @@
-use Rattle.std.proofs.Common.{◌∙◌, sym, None, Some}
+use Rattle.std.proofs.Common.{◌∙◌, sym, Some}
 use Rattle.xh_core.proofs.Opening.{same_process}
 use Rattle.xh_core.proofs.serial.Serial.open_with.Goals as goal
 
