@@ -1,9 +1,9 @@
 -- The closed table: its words, the lots at home, and those that the seats had.
-use Rattle.std.proofs.Common.{◌≡◌, ℕ, zero, suc, ◌+◌, ◌*◌, ◌/◌, ◌%◌, ◌<◌, ◌≤◌, ◌≢◌, Bool, List, [], ◌∷◌, ◌++◌, map, length, take, get_or, sym, refl, ap, ◌∙◌, subst, ◌⊎◌, inl, inr, ⊎_elim, arith, cond, ne_eqb, rules}
+use Rattle.std.proofs.Common.{◌≡◌, ℕ, zero, suc, ◌<◌, ◌≤◌, Bool, List, [], ◌∷◌, ◌++◌, length, take, get_or, sym, refl, ap, ◌∙◌, subst, inl, inr, ⊎_elim, arith, cond, ne_eqb, rules}
 use Rattle.std.specs.Prelude.{Option, Some, None, slice_get}
 use Rattle.std.specs.Option.{option_or, IsSome}
 use Rattle.atomic_table.proofs.Lists.{at_index}
-use mathlib.Core.Option.{none, some, some-injective, some-ne-none}
+use mathlib.Core.Option.{some, some-injective, some-ne-none}
 use mathlib.Core.Logic.{dite}
 use native.Mathlib.Decide.{ℕ_discrete}
 use lib.ListN.{get_elem?}
@@ -12,11 +12,11 @@ use Rattle.xh_arena.specs.Views.{LotOf}
 use Rattle.xh_model.specs.declared.event.Holder.{Holder}
 use Rattle.xh_model.specs.declared.event.Holder.TheVariants.{Process, Direction}
 use Rattle.xh_model.specs.Slots.{index_of}
-use Rattle.xh_model.specs.Words.{Ownership, IsHeldBy, IsHolder, word_of, place_of, number_of}
+use Rattle.xh_model.specs.Words.{Ownership, IsHeldBy, word_of, place_of, number_of}
 use Rattle.xh_model.proofs.Words.{index_back}
 use Rattle.xh_records.specs.declared.shape.Shape.{Shape}
 use Rattle.xh_records.specs.declared.view.View.{View}
-use Rattle.xh_records.specs.Showing.{Among, Sits, Owns, IsLotAt, IsAway, IsEmpty, IsFull, HomeFits, ViewFits, Shows, Shown, spent}
+use Rattle.xh_records.specs.Showing.{Among, Sits, Owns, IsAway, ViewFits, Shows, Shown, spent}
 use Rattle.xh_records.specs.Seats.{Held, keys, owned_by, indices, lot_at, lot_in, slot_at, or_else, view_of, IsSmall, IsGathered, AllSit, Ends, EndsAs}
 use Rattle.xh_records.proofs.Keeps.{among_either, among_front, among_back, in_range, is_there, one_holder, same_place, never}
 use Rattle.xh_records.proofs.Lists.{among_owned, none_or_some, elem_slice, slice_elem}
@@ -45,8 +45,8 @@ gathers {B} m seats x v v' held held' at old places records long has fill = reco
       (λ n. old.full k r y there (omega arith) h);
   all_lots = λ k r y l there le e below. let inside : r < length held = omega arith in ⊎_elim
       (λ (a : lot_in r x ≡ None). dite (ℕ_discrete k m)
-          (λ q. let f : None ≡ Some l = sym a ∙ ap (λ (z : Held B). lot_in r z) (sym (same k y q there)) ∙ e in absurd (cc))
-          (λ n. let t = old.all_lots k r y l there (omega arith) e inside in (t.0, fill r inside ∙ ap (λ (z : Option (LotOf B)). or_else z (slot_at held r)) a ∙ t.1)))
+      (λ q. let f : None ≡ Some l = sym a ∙ ap (λ (z : Held B). lot_in r z) (sym (same k y q there)) ∙ e in absurd (cc))
+      (λ n. let t = old.all_lots k r y l there (omega arith) e inside in (t.0, fill r inside ∙ ap (λ (z : Option (LotOf B)). or_else z (slot_at held r)) a ∙ t.1)))
       (λ (b : (l' : LotOf B) × (lot_in r x ≡ Some l')). (b.0, fill r inside ∙ ap (λ (z : Option (LotOf B)). or_else z (slot_at held r)) b.1))
       (none_or_some (lot_in r x));
 }

@@ -1,23 +1,21 @@
 -- The step of a seat on one record is its event.
-use Rattle.std.proofs.Common.{◌≡◌, ℕ, ◌+◌, ◌*◌, ◌<◌, Bool, List, [], ◌∷◌, ◌++◌, map, length, set, get_or, sym, refl, ap, ◌∙◌, subst, inl}
-use Rattle.std.specs.Prelude.{Option, Some, None}
+use Rattle.std.proofs.Common.{◌≡◌, ℕ, ◌+◌, ◌<◌, Bool, List, [], length, set, get_or, sym, refl, ap, ◌∙◌, subst, inl}
+use Rattle.std.specs.Prelude.{Option, Some}
 use mathlib.Core.Option.{none, some}
-use mathlib.Core.Option as maybe
-use lib.ListN.{get_elem?}
 use Rattle.atomic_table.specs.Table.{State}
 use Rattle.xh_arena.specs.Views.{LotOf}
 use Rattle.xh_model.specs.declared.event.Holder.{Holder}
-use Rattle.xh_model.specs.declared.event.Holder.TheVariants.{Process, Direction}
+use Rattle.xh_model.specs.declared.event.Holder.TheVariants.{Process}
 use Rattle.xh_model.specs.Slots.{index_of}
 use Rattle.xh_model.specs.Words.{Ownership, IsHeldBy, IsHolder, word_of}
 use Rattle.xh_model.proofs.Words.{word_injective}
 use Rattle.xh_records.specs.declared.shape.Shape.{Shape}
 use Rattle.xh_records.specs.declared.view.View.{View}
-use Rattle.xh_records.specs.Showing.{Among, Sits, Owns, IsLotOf, IsLotAt, IsAway, IsHomeLot, Shows, gained, lost, renewed}
-use Rattle.xh_records.specs.Seats.{Held, lot_at, numbered, view_of, with_lots, IsSeat, IsStep, IsNoEvent}
+use Rattle.xh_records.specs.Showing.{Owns, IsLotAt, IsAway, IsHomeLot, Shows, gained, lost, renewed}
+use Rattle.xh_records.specs.Seats.{Held, lot_at, numbered, view_of, IsSeat, IsStep, IsNoEvent}
 use Rattle.atomic_table.specs.Table.{Me}
 use Rattle.atomic_table.specs.Seated.{TableId}
-use Rattle.xh_records.proofs.Numbered.{views_are, number_is}
+use Rattle.xh_records.proofs.Numbered.{views_are}
 use Rattle.xh_records.proofs.Keeps.{is_there, get_or-map, moved, takes_change, gives_change, home_is, renews}
 
 module _ {B : Type 0} (fits : B → ℕ → Bool) (s : Shape) where
@@ -55,7 +53,7 @@ module _ {B : Type 0} (fits : B → ℕ → Bool) (s : Shape) where
   pub renews_step : (old new : Held B) → view_of new ≡ renewed (view_of old) → old.lots ≡ [] → old.process + 32 < 4096 → IsNoEvent fits s old new
   renews_step old new is bare small t o shown seen =
       subst (λ (w : View). Shows fits s o t.words t.homes (set t.views old.id w)) (sym is)
-          (renews fits s o t.words t.homes t.views old.id old.process (view_of old) shown seen refl (bare_view old bare) small)
+      (renews fits s o t.words t.homes t.views old.id old.process (view_of old) shown seen refl (bare_view old bare) small)
     where
       bare_view : (x : Held B) → x.lots ≡ [] → (view_of x).records ≡ []
       bare_view x e = ap (λ (l : List (ℕ × LotOf B)). (view_of (record x { lots = l })).records) e

@@ -1,5 +1,5 @@
 -- A step on one record's word keeps the rule.
-use Rattle.std.proofs.Common.{◌≡◌, ℕ, zero, suc, ◌+◌, ◌*◌, ◌%◌, ◌<◌, ◌≢◌, Bool, true, false, List, [], ◌∷◌, ◌++◌, map, length, set, get_or, eqb, sym, refl, ap, ◌∙◌, subst, ◌⊎◌, inl, inr, ⊎_elim, arith, length-set, ne_eqb, eq-eqb, cond}
+use Rattle.std.proofs.Common.{◌≡◌, ℕ, zero, suc, ◌+◌, ◌<◌, ◌≢◌, Bool, List, [], ◌∷◌, ◌++◌, map, length, set, get_or, eqb, sym, refl, ap, ◌∙◌, subst, ◌⊎◌, inl, inr, ⊎_elim, arith, length-set, ne_eqb, eq-eqb, cond}
 use Rattle.std.specs.Prelude.{Option, Some, None}
 use mathlib.Core.Option.{none, some, some-injective, some-ne-none}
 use mathlib.Core.Option as maybe
@@ -7,14 +7,14 @@ use mathlib.Core.Logic.{dite}
 use native.Mathlib.Decide.{ℕ_discrete}
 use lib.ListN.{get_elem?}
 use lib.Seq.{map-set}
-use Rattle.atomic_table.specs.Table.{State, Me, Step, Act, put_back, takes, gives, keeps, step, stepped, Allows}
-use Rattle.atomic_table.proofs.Lists.{at_set, set_here, set_else, set_again, exchanged, at_map}
+use Rattle.atomic_table.specs.Table.{State, Me, Act, put_back, takes, gives, keeps, step, stepped, Allows}
+use Rattle.atomic_table.proofs.Lists.{at_set, set_here, set_else, set_again, at_map}
 use Rattle.xh_arena.specs.Views.{LotOf}
 use Rattle.xh_records.specs.declared.shape.Shape.{Shape}
 use Rattle.xh_records.specs.declared.view.View.{View}
 use Rattle.xh_model.specs.declared.event.Holder.{Holder}
 use Rattle.xh_model.specs.declared.event.Holder.TheVariants.{Process, Direction}
-use Rattle.xh_model.specs.Words.{Ownership, IsHeldBy, IsHolder, IsWord, word_of, place_of, number_of}
+use Rattle.xh_model.specs.Words.{Ownership, IsHeldBy, IsHolder, word_of, place_of}
 use Rattle.xh_model.proofs.Words.{word_injective}
 use Rattle.xh_records.specs.Steps.{took, gave, looked, aged, process_in}
 use prog.Atomic.{either}
@@ -147,17 +147,17 @@ pub among_without : (r : ℕ) (xs : List (ℕ × ℕ)) (x : ℕ × ℕ) → Amon
 among_without r [] x = λ h. absurd h
 among_without r (y ∷ ys) x = dite (ℕ_discrete y.0 r)
     (λ e. subst (λ (b : Bool). Among (cond b (without r ys) (y ∷ without r ys)) x → Among (y ∷ ys) x × (x.0 ≢ r)) (sym (eq-eqb y.0 r e))
-        (λ (h : Among (without r ys) x). let t = among_without r ys x h in (inr t.0, t.1)))
+    (λ (h : Among (without r ys) x). let t = among_without r ys x h in (inr t.0, t.1)))
     (λ n. subst (λ (b : Bool). Among (cond b (without r ys) (y ∷ without r ys)) x → Among (y ∷ ys) x × (x.0 ≢ r)) (sym (ne_eqb y.0 r n))
-        (λ (h : Among (y ∷ without r ys) x). ⊎_elim (λ (e : x ≡ y). (inl e, λ (q : x.0 ≡ r). n (ap (λ (z : ℕ × ℕ). z.0) (sym e) ∙ q))) (λ (u : Among (without r ys) x). let t = among_without r ys x u in (inr t.0, t.1)) h))
+    (λ (h : Among (y ∷ without r ys) x). ⊎_elim (λ (e : x ≡ y). (inl e, λ (q : x.0 ≡ r). n (ap (λ (z : ℕ × ℕ). z.0) (sym e) ∙ q))) (λ (u : Among (without r ys) x). let t = among_without r ys x u in (inr t.0, t.1)) h))
 
 pub among_kept : (r : ℕ) (xs : List (ℕ × ℕ)) (x : ℕ × ℕ) → x.0 ≢ r → Among xs x → Among (without r xs) x
 among_kept r [] x n h = absurd h
 among_kept r (y ∷ ys) x other h = dite (ℕ_discrete y.0 r)
     (λ e. subst (λ (b : Bool). Among (cond b (without r ys) (y ∷ without r ys)) x) (sym (eq-eqb y.0 r e))
-        (⊎_elim (λ (q : x ≡ y). absurd (other (ap (λ (z : ℕ × ℕ). z.0) q ∙ e))) (λ (u : Among ys x). among_kept r ys x other u) h))
+    (⊎_elim (λ (q : x ≡ y). absurd (other (ap (λ (z : ℕ × ℕ). z.0) q ∙ e))) (λ (u : Among ys x). among_kept r ys x other u) h))
     (λ n. subst (λ (b : Bool). Among (cond b (without r ys) (y ∷ without r ys)) x) (sym (ne_eqb y.0 r n))
-        (⊎_elim (λ (q : x ≡ y). inl q) (λ (u : Among ys x). inr (among_kept r ys x other u)) h))
+    (⊎_elim (λ (q : x ≡ y). inl q) (λ (u : Among ys x). inr (among_kept r ys x other u)) h))
 
 pub value_at : (l : List ℕ) (i d a : ℕ) → get_elem? l i ≡ some a → get_or l i d ≡ a
 value_at [] i d a e = absurd (some-ne-none a (sym e))
@@ -306,9 +306,9 @@ module _ {B : Type 0} (fits : B → ℕ → Bool) (s : Shape) where
       let sits_now : Sits w (p + 32) = subst (λ (k : List ℕ). Among k (p + 32)) (sym mine_now) (inl refl) in
       let only_now : (x : ℕ) → Sits w x → x ≡ p + 32 = λ x there. ⊎_elim (λ (e : x ≡ p + 32). e) (λ (z : ⊥). absurd z) (subst (λ (k : List ℕ). Among k x) mine_now there) in
       let none_held : (k x : ℕ) → IsHeldBy o k (Some (Process x)) → place_of x ≡ q → ⊥ = λ k x is e.
-          let at = shown.placed k x is in
-          let same : x ≡ p = at.1 ∙ ap shown.process_at e ∙ sym was.1 in
-          subst (λ (l : List (ℕ × ℕ)). Among l (k, x)) bare ((shown.views_fit id v here).owns_all k x is (subst (Sits v) (sym same) sits)) in
+      let at = shown.placed k x is in
+      let same : x ≡ p = at.1 ∙ ap shown.process_at e ∙ sym was.1 in
+      subst (λ (l : List (ℕ × ℕ)). Among l (k, x)) bare ((shown.views_fit id v here).owns_all k x is (subst (Sits v) (sym same) sits)) in
       let other : (j x : ℕ) (u : View) → j ≢ id → get_elem? vs j ≡ some u → Sits u x → place_of x ≢ q = λ j x u apart there sat e. apart ((shown.alone j x u there sat).2 ∙ ap shown.seat_of e ∙ sym was.2) in record {
         words_are = shown.words_are;
         holders = shown.holders;
@@ -319,21 +319,21 @@ module _ {B : Type 0} (fits : B → ℕ → Bool) (s : Shape) where
         placed = λ k x is. let at = shown.placed k x is in (at.0, at.1 ∙ sym (next_no (ℕ_discrete (place_of x) q) (p + 32) (shown.process_at (place_of x)) (none_held k x is)));
         seated = λ x lt. let at = shown.seated x lt in dite (ℕ_discrete x q)
             (λ e. let is : now x ≡ p + 32 = next_yes (ℕ_discrete x q) (p + 32) (shown.process_at x) e in
-                let seat : shown.seat_of x ≡ id = ap shown.seat_of e ∙ sym was.2 in
-                let turn : place_of (p + 32) ≡ place_of p = omega arith in
-                (w, subst (λ (j : ℕ). get_elem? (set vs id w) j ≡ some w) (sym seat) (set_here vs id w (in_range vs id v here)), subst (Sits w) (sym is) sits_now, ap place_of is ∙ turn ∙ sym e))
+            let seat : shown.seat_of x ≡ id = ap shown.seat_of e ∙ sym was.2 in
+            let turn : place_of (p + 32) ≡ place_of p = omega arith in
+            (w, subst (λ (j : ℕ). get_elem? (set vs id w) j ≡ some w) (sym seat) (set_here vs id w (in_range vs id v here)), subst (Sits w) (sym is) sits_now, ap place_of is ∙ turn ∙ sym e))
             (λ n. let is : now x ≡ shown.process_at x = next_no (ℕ_discrete x q) (p + 32) (shown.process_at x) n in
-                let apart : shown.seat_of x ≢ id = λ e.
-                    let same : at.0 ≡ v = some-injective at.0 v (sym at.1 ∙ subst (λ (j : ℕ). get_elem? vs j ≡ some v) (sym e) here) in
-                    let there : Sits v (shown.process_at x) = subst (λ (u : View). Sits u (shown.process_at x)) same at.2 in
-                    let one : shown.process_at x ≡ p = ⊎_elim (λ (z : shown.process_at x ≡ p). z) (λ (z : ⊥). absurd z) (subst (λ (k : List ℕ). Among k (shown.process_at x)) mine there) in
-                    n (sym at.3 ∙ ap place_of one) in
-                (at.0, set_else vs id (shown.seat_of x) w apart ∙ at.1, subst (Sits at.0) (sym is) at.2, ap place_of is ∙ at.3));
+            let apart : shown.seat_of x ≢ id = λ e.
+            let same : at.0 ≡ v = some-injective at.0 v (sym at.1 ∙ subst (λ (j : ℕ). get_elem? vs j ≡ some v) (sym e) here) in
+            let there : Sits v (shown.process_at x) = subst (λ (u : View). Sits u (shown.process_at x)) same at.2 in
+            let one : shown.process_at x ≡ p = ⊎_elim (λ (z : shown.process_at x ≡ p). z) (λ (z : ⊥). absurd z) (subst (λ (k : List ℕ). Among k (shown.process_at x)) mine there) in
+            n (sym at.3 ∙ ap place_of one) in
+            (at.0, set_else vs id (shown.seat_of x) w apart ∙ at.1, subst (Sits at.0) (sym is) at.2, ap place_of is ∙ at.3));
         alone = λ j x u there sat. ⊎_elim
             (λ (t : (j ≡ id) × (w ≡ u)). let e = only_now x (subst (λ (z : View). Sits z x) (sym t.1) sat) in let turn : place_of x ≡ q = omega arith in
-                (subst (λ (z : ℕ). z < s.places) (sym turn) was.0, e ∙ sym (next_yes (ℕ_discrete (place_of x) q) (p + 32) (shown.process_at (place_of x)) turn), t.0 ∙ was.2 ∙ ap shown.seat_of (sym turn), subst (λ (z : ℕ). z < 4096) (sym e) small))
+            (subst (λ (z : ℕ). z < s.places) (sym turn) was.0, e ∙ sym (next_yes (ℕ_discrete (place_of x) q) (p + 32) (shown.process_at (place_of x)) turn), t.0 ∙ was.2 ∙ ap shown.seat_of (sym turn), subst (λ (z : ℕ). z < 4096) (sym e) small))
             (λ (t : (j ≢ id) × (get_elem? vs j ≡ some u)). let at = shown.alone j x u t.1 sat in
-                (at.0, at.1 ∙ sym (next_no (ℕ_discrete (place_of x) q) (p + 32) (shown.process_at (place_of x)) (other j x u t.0 t.1 sat)), at.2, at.3))
+            (at.0, at.1 ∙ sym (next_no (ℕ_discrete (place_of x) q) (p + 32) (shown.process_at (place_of x)) (other j x u t.0 t.1 sat)), at.2, at.3))
             (at_set vs id j w u there);
         views_fit = λ j u there. ⊎_elim
             (λ (t : (j ≡ id) × (w ≡ u)). subst (ViewFits s o) t.1 record {

@@ -1,8 +1,6 @@
 -- A seat whose lots were lent.
-use Rattle.std.proofs.Common.{◌≡◌, ◌≢◌, ℕ, ◌+◌, ◌*◌, ◌/◌, ◌%◌, ◌<◌, List, [], ◌∷◌, sym, refl, ap, ◌∙◌, subst}
-use Rattle.std.specs.Prelude.{Option, Some, None}
-use mathlib.Core.Option.{some}
-use lib.ListN.{get_elem?}
+use Rattle.std.proofs.Common.{◌≡◌, ℕ, ◌%◌, ◌<◌, List, sym, ap, ◌∙◌, subst}
+use Rattle.std.specs.Prelude.{Option, Some}
 use Rattle.atomic_table.specs.Table.{Me}
 use Rattle.atomic_table.specs.Seated.{TableId}
 use Rattle.xh_arena.specs.Views.{LotOf}
@@ -10,9 +8,9 @@ use Rattle.xh_model.specs.Slots.{index_of}
 use Rattle.xh_model.specs.Words.{number_of}
 use Rattle.xh_records.specs.declared.view.View.{View}
 use Rattle.xh_records.specs.Showing.{IsLotOf, IsLotAt}
-use Rattle.xh_records.specs.Seats.{Held, IsListed, IsSeat, in_slot, keys, lot_at, numbered, put, with_lots}
-use Rattle.xh_records.proofs.Lists.{keys_put, slot_other}
-use Rattle.xh_records.proofs.Seating.{Reach, reaches, replaces, seat_is}
+use Rattle.xh_records.specs.Seats.{Held, IsListed, IsSeat, keys, lot_at, numbered, put, with_lots}
+use Rattle.xh_records.proofs.Lists.{keys_put}
+use Rattle.xh_records.proofs.Seating.{Reach, reaches, replaces}
 use Rattle.xh_records.proofs.Numbered.{number_is, put_numbered, slot_is, lot_there, held_same}
 use Rattle.xh_records.proofs.Events.{held}
 
@@ -52,6 +50,6 @@ module _ {B : Type 0} (x : Held B) (t : TableId) (id process : ℕ) (me : Me (Op
   pub after_two : (t' : TableId) (id' : ℕ) (me' : Me (Option (LotOf B)) View) (i j r q : ℕ) (l m left also : LotOf B) → Lent i r l → Lent j q m → IsLotOf x.shape r left → t' ≡ t → id' ≡ id → me' ≡ (me.0, put j (Some also) (put i (Some left) me.1)) → held t' id' process me' ≡ with_lots x (put q also (put r left x.lots))
   after_two t' id' me' i j r q l m left also one two lot et en e = held_same x t id process me is t' id' me' (put q also (put r left x.lots)) et en (ap (λ (z : Me (Option (LotOf B)) View). z.0.shape) e)
       (ap (λ (z : Me (Option (LotOf B)) View). numbered z.0.shape.records z.1) e
-        ∙ put_numbered me.0.shape seat.small (put i (Some left) me.1) j also (kept i r l left one lot).lots
-        ∙ ap (put (number_of me.0.shape.records j) also) (put_numbered me.0.shape seat.small me.1 i left seat.lots)
-        ∙ (λ k. put (two.number k) also (put (one.number k) left (is k).lots)))
+      ∙ put_numbered me.0.shape seat.small (put i (Some left) me.1) j also (kept i r l left one lot).lots
+      ∙ ap (put (number_of me.0.shape.records j) also) (put_numbered me.0.shape seat.small me.1 i left seat.lots)
+      ∙ (λ k. put (two.number k) also (put (one.number k) left (is k).lots)))

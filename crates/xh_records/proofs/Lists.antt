@@ -1,18 +1,17 @@
 -- Lists of numbers, and lists with keys.
-use Rattle.std.proofs.Common.{◌≡◌, ℕ, zero, suc, ◌+◌, ◌-◌, ◌*◌, ◌<◌, ◌≤◌, ◌≢◌, Bool, true, false, List, [], ◌∷◌, ◌++◌, map, length, set, take, drop, get_or, eqb, append_assoc, append-nil, get_or-set_same, get_or-set_other, sym, refl, ap, ◌∙◌, subst, ◌⊎◌, inl, inr, ⊎_elim, arith, length-set, ne_eqb, eq-eqb, cond, ◌||◌}
+use Rattle.std.proofs.Common.{◌≡◌, ℕ, zero, suc, ◌+◌, ◌<◌, ◌≤◌, ◌≢◌, Bool, true, false, List, [], ◌∷◌, ◌++◌, length, set, get_or, eqb, append_assoc, append-nil, get_or-set_same, get_or-set_other, sym, refl, ap, ◌∙◌, subst, ◌⊎◌, inl, inr, ⊎_elim, arith, ne_eqb, eq-eqb, cond, ◌||◌}
 use Rattle.std.specs.Prelude.{Option, Some, None, slice_get}
 use Rattle.std.specs.List.{remove, IsDistinct, AllByRecursion, list_any}
 use Rattle.std.proofs.lemmas.Map.Steps.{length-le_from_distinct_below}
-use mathlib.Core.Option.{none, some, some-injective, some-ne-none}
-use mathlib.Core.Option as maybe
+use mathlib.Core.Option.{some, some-injective, some-ne-none}
 use mathlib.Core.Logic.{dite}
 use native.Mathlib.Decide.{ℕ_discrete}
 use lib.ListN.{get_elem?}
 use Rattle.atomic_table.proofs.Lists.{at_index}
 use Rattle.xh_records.specs.Showing.{Among, without}
 use Rattle.xh_records.specs.Slots.{slot_at, or_else}
-use Rattle.xh_records.specs.Seats.{keys, owned_by, Distinct, AllBelow, turns, lot_at, in_slot, put}
-use Rattle.xh_records.proofs.Keeps.{among_either, among_front, among_back, in_range, is_there, value_at}
+use Rattle.xh_records.specs.Seats.{keys, owned_by, Distinct, AllBelow, turns, in_slot, put}
+use Rattle.xh_records.proofs.Keeps.{among_either, among_front, among_back, value_at}
 
 pub apart_all : (xs : List ℕ) (x : ℕ) → (Among xs x → ⊥) → AllByRecursion (λ y. eqb x y ≡ false) xs
 apart_all [] x n = tt
@@ -155,7 +154,7 @@ pub fills : {L : Type 0} (front : List (ℕ × Option L)) (slot : ℕ) (x result
     → ((r : ℕ) → r < n → slot_at held r ≡ or_else (in_slot r front) (slot_at held0 r)) → (r : ℕ) → r < n → slot_at (set held slot result) r ≡ or_else (in_slot r (front ++ (slot, x) ∷ [])) (slot_at held0 r)
 fills {L} front slot x result l held held0 n fresh is_some is_x inside before r below = dite (ℕ_discrete r slot)
     (λ e. let at : slot_at (set held slot result) r ≡ Some l = ap (slot_at (set held slot result)) e ∙ get_or-set_same held slot result None inside ∙ is_x ∙ is_some in
-        let lot : in_slot r (front ++ (slot, x) ∷ []) ≡ Some l = ap (λ (k : ℕ). in_slot k (front ++ (slot, x) ∷ [])) e ∙ slot_split slot x front [] fresh ∙ is_some in at ∙ sym (ap (λ (z : Option L). or_else z (slot_at held0 r)) lot))
+    let lot : in_slot r (front ++ (slot, x) ∷ []) ≡ Some l = ap (λ (k : ℕ). in_slot k (front ++ (slot, x) ∷ [])) e ∙ slot_split slot x front [] fresh ∙ is_some in at ∙ sym (ap (λ (z : Option L). or_else z (slot_at held0 r)) lot))
     (λ ne. get_or-set_other held slot r result None ne ∙ before r below ∙ sym (ap (λ (z : Option L). or_else z (slot_at held0 r)) (slot_front r slot x front ne)))
 
 pub all_front : {X : Type 0} (front back : List (ℕ × X)) → length (keys (front ++ back)) ≤ length front → front ≡ front ++ back
@@ -214,8 +213,8 @@ put_swap i j y z [] ne = refl
 put_swap {X} i j y z (w ∷ ws) ne = dite (ℕ_discrete w.0 i)
     (λ e. let nj : w.0 ≢ j = λ q. ne (sym e ∙ q) in ap (put i y) (put_there j z w ws nj) ∙ put_here i y w (put j z ws) e ∙ sym (ap (put j z) (put_here i y w ws e) ∙ put_there j z (i, y) ws ne))
     (λ n. dite (ℕ_discrete w.0 j)
-        (λ e. ap (put i y) (put_here j z w ws e) ∙ put_there i y (j, z) ws (λ q. ne (sym q)) ∙ sym (ap (put j z) (put_there i y w ws n) ∙ put_here j z w (put i y ws) e))
-        (λ m. ap (put i y) (put_there j z w ws m) ∙ put_there i y w (put j z ws) n ∙ ap (λ (l : List (ℕ × X)). w ∷ l) (put_swap i j y z ws ne) ∙ sym (ap (put j z) (put_there i y w ws n) ∙ put_there j z w (put i y ws) m)))
+    (λ e. ap (put i y) (put_here j z w ws e) ∙ put_there i y (j, z) ws (λ q. ne (sym q)) ∙ sym (ap (put j z) (put_there i y w ws n) ∙ put_here j z w (put i y ws) e))
+    (λ m. ap (put i y) (put_there j z w ws m) ∙ put_there i y w (put j z ws) n ∙ ap (λ (l : List (ℕ × X)). w ∷ l) (put_swap i j y z ws ne) ∙ sym (ap (put j z) (put_there i y w ws n) ∙ put_there j z w (put i y ws) m)))
 
 pub put_both : {X : Type 0} (i j : ℕ) (m n a b : X) (l : List (ℕ × X)) → i ≢ j → put j b (put i a (put j n (put i m l))) ≡ put j b (put i a l)
 put_both i j m n a b l ne = ap (put j b) (put_swap i j a n (put i m l) ne) ∙ put_twice j b n (put i a (put i m l)) ∙ ap (put j b) (put_twice i a m l)

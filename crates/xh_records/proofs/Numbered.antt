@@ -1,7 +1,6 @@
 -- A seat's lots by the numbers of their records.
-use Rattle.std.proofs.Common.{◌≡◌, ℕ, zero, suc, ◌+◌, ◌*◌, ◌/◌, ◌%◌, ◌<◌, ◌≤◌, ◌≢◌, Bool, List, [], ◌∷◌, ◌++◌, map, length, sym, refl, ap, ◌∙◌, subst, ◌⊎◌, inl, inr, ⊎_elim, arith, cond, eqb}
+use Rattle.std.proofs.Common.{◌≡◌, ℕ, ◌%◌, ◌<◌, ◌≤◌, List, [], ◌∷◌, ◌++◌, map, sym, refl, ap, ◌∙◌, subst, inl, inr, ⊎_elim}
 use Rattle.std.specs.Prelude.{Option, Some, None}
-use mathlib.Core.Option.{some}
 use mathlib.Core.Logic.{dite}
 use native.Mathlib.Decide.{ℕ_discrete}
 use Rattle.atomic_table.specs.Table.{Me}
@@ -13,7 +12,7 @@ use Rattle.xh_model.proofs.Words.{index_back, number_back}
 use Rattle.xh_records.specs.declared.shape.Shape.{Shape}
 use Rattle.xh_records.specs.declared.view.View.{View}
 use Rattle.xh_records.specs.Showing.{Among, IsLotOf, IsLotAt, without}
-use Rattle.xh_records.specs.Seats.{Held, keys, lot_at, lot_in, put, in_slot, with_lot, numbered, indices, owned_by, view_of, with_lots, AllLots, IsSmall, IsSeat}
+use Rattle.xh_records.specs.Seats.{Held, keys, lot_at, put, in_slot, with_lot, numbered, owned_by, view_of, with_lots, AllLots, IsSmall, IsSeat}
 use Rattle.xh_records.proofs.Lists.{here_first, not_here}
 
 pub index_injective : (n k j : ℕ) → 0 < n → n ≤ 256 → number_of n k ≡ number_of n j → k ≡ j
@@ -50,17 +49,17 @@ module _ {B : Type 0} (s : Shape) (small : IsSmall s) where
   without_numbered [] k all = refl
   without_numbered (x ∷ xs) k all = dite (ℕ_discrete x.0 k)
       (λ e. ap (numbered s.records) (here_first x.0 k (without k xs) (x ∷ without k xs) e) ∙ without_numbered xs k all.1
-          ∙ sym (ap (without (number_of s.records k)) (head_is x xs all.0.0 all.0.1) ∙ here_first (number_of s.records x.0) (number_of s.records k) _ _ (ap (number_of s.records) e)))
+      ∙ sym (ap (without (number_of s.records k)) (head_is x xs all.0.0 all.0.1) ∙ here_first (number_of s.records x.0) (number_of s.records k) _ _ (ap (number_of s.records) e)))
       (λ other. ap (numbered s.records) (not_here x.0 k (without k xs) (x ∷ without k xs) other) ∙ head_is x (without k xs) all.0.0 all.0.1 ∙ ap (λ (l : List (ℕ × LotOf B)). (number_of s.records x.0, all.0.0) ∷ l) (without_numbered xs k all.1)
-          ∙ sym (ap (without (number_of s.records k)) (head_is x xs all.0.0 all.0.1) ∙ not_here (number_of s.records x.0) (number_of s.records k) _ _ (λ e. other (index_injective s.records x.0 k small.0 small.1 e))))
+      ∙ sym (ap (without (number_of s.records k)) (head_is x xs all.0.0 all.0.1) ∙ not_here (number_of s.records x.0) (number_of s.records k) _ _ (λ e. other (index_injective s.records x.0 k small.0 small.1 e))))
 
   pub put_numbered : (xs : List (ℕ × Option (LotOf B))) (k : ℕ) (l : LotOf B) → AllLots s xs → numbered s.records (put k (Some l) xs) ≡ put (number_of s.records k) l (numbered s.records xs)
   put_numbered [] k l all = refl
   put_numbered (x ∷ xs) k l all = dite (ℕ_discrete x.0 k)
       (λ e. ap (numbered s.records) (here_first x.0 k ((k, Some l) ∷ xs) (x ∷ put k (Some l) xs) e)
-          ∙ sym (ap (put (number_of s.records k) l) (head_is x xs all.0.0 all.0.1) ∙ here_first (number_of s.records x.0) (number_of s.records k) _ _ (ap (number_of s.records) e)))
+      ∙ sym (ap (put (number_of s.records k) l) (head_is x xs all.0.0 all.0.1) ∙ here_first (number_of s.records x.0) (number_of s.records k) _ _ (ap (number_of s.records) e)))
       (λ other. ap (numbered s.records) (not_here x.0 k ((k, Some l) ∷ xs) (x ∷ put k (Some l) xs) other) ∙ head_is x (put k (Some l) xs) all.0.0 all.0.1 ∙ ap (λ (z : List (ℕ × LotOf B)). (number_of s.records x.0, all.0.0) ∷ z) (put_numbered xs k l all.1)
-          ∙ sym (ap (put (number_of s.records k) l) (head_is x xs all.0.0 all.0.1) ∙ not_here (number_of s.records x.0) (number_of s.records k) _ _ (λ e. other (index_injective s.records x.0 k small.0 small.1 e))))
+      ∙ sym (ap (put (number_of s.records k) l) (head_is x xs all.0.0 all.0.1) ∙ not_here (number_of s.records x.0) (number_of s.records k) _ _ (λ e. other (index_injective s.records x.0 k small.0 small.1 e))))
 
   pub none_numbered : (xs : List (ℕ × Option (LotOf B))) → AllLots s xs → numbered s.records xs ≡ [] → xs ≡ []
   none_numbered [] all e = refl

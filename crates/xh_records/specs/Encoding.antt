@@ -1,5 +1,5 @@
 -- What an owner word, as the code has it, says of who holds its record.
-use Rattle.std.specs.Prelude.{ℕ, Option, Some, None}
+use Rattle.std.specs.Prelude.{Option, Some, None}
 use Rattle.xh_model.specs.declared.event.Holder.{Holder}
 use Rattle.xh_model.specs.declared.event.Holder.TheVariants.{Process, Direction}
 use Rattle.xh_records.specs.declared.word.OwnerWord.{OwnerWord}

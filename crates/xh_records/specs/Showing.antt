@@ -1,5 +1,5 @@
 -- Words, home lots and views show an ownership.
-use Rattle.std.specs.Prelude.{◌≡◌, ◌≢◌, ℕ, zero, suc, ◌+◌, ◌%◌, ◌/◌, ◌<◌, slice_get, Bool, true, List, [], ◌∷◌, ◌++◌, ◌==◌, cond, map, length, Some, None, ◌⊎◌, Option}
+use Rattle.std.specs.Prelude.{◌≡◌, ℕ, zero, suc, ◌+◌, ◌%◌, ◌/◌, ◌<◌, slice_get, Bool, true, List, [], ◌∷◌, ◌++◌, ◌==◌, cond, map, length, Some, None, ◌⊎◌, Option}
 use mathlib.Core.Option.{none, some}
 use mathlib.Core.Option as maybe
 use lib.ListN.{get_elem?}

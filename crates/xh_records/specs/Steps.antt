@@ -1,5 +1,5 @@
 -- What each kind of step tells its seat, with both outcomes of a compare.
-use Rattle.std.specs.Prelude.{◌≡◌, ◌≢◌, ℕ, Bool, List, [], ◌∷◌, slice_index, Some, None, Option}
+use Rattle.std.specs.Prelude.{◌≡◌, ◌≢◌, ℕ, Bool, ◌∷◌, slice_index, Some, Option}
 use Rattle.atomic_table.specs.Table.{Me, Step, rest}
 use Rattle.xh_arena.specs.Views.{LotOf}
 use Rattle.xh_model.specs.declared.event.Holder.{Holder}

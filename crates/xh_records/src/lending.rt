@@ -66,11 +66,18 @@ impl<B: Fits + Drop> Records<B> {
     {
         let board = &self.table.shared;
         let slot = self.slot_of(number);
-        let Some(mut lot) = swap_slot(board, &mut seat.hand, seat.order.as_slice(), slot, None) else {
+        let Some(mut lot) = swap_slot(board, &mut seat.hand, seat.order.as_slice(), slot, None)
+        else {
             unreachable!()
         };
         let answer = call_at(f, &mut lot);
-        drop(swap_slot(board, &mut seat.hand, seat.order.as_slice(), slot, Some(lot)));
+        drop(swap_slot(
+            board,
+            &mut seat.hand,
+            seat.order.as_slice(),
+            slot,
+            Some(lot),
+        ));
         answer
     }
 

@@ -1,10 +1,9 @@
-use Rattle.std.proofs.Common.{rules, arith, ◌≡◌, ℕ, suc, ◌+◌, ◌-◌, ◌<◌, ◌≤◌, List, length, get_or, refl, sym, ap, ◌∙◌, subst, [], ◌∷◌, ◌++◌, append_assoc, append-nil, length-append}
-use Rattle.std.specs.Prelude.{Some, None, Option}
-use Rattle.std.specs.Vec.{vec_capacity, vec_len}
+use Rattle.std.proofs.Common.{rules, arith, ◌≡◌, ℕ, ◌+◌, ◌<◌, ◌≤◌, List, length, get_or, refl, sym, ap, ◌∙◌, subst, [], ◌∷◌, ◌++◌, append_assoc, append-nil, length-append}
+use Rattle.std.specs.Prelude.{None}
+use Rattle.std.specs.Vec.{vec_len}
 use Rattle.atomic_table.specs.Table.{rest, turned}
 use Rattle.xh_records.specs.Seats.{in_slot, lot_in, indices, Held, slot_at, or_else, keys, AllLots, AllBelow, Distinct}
 use Rattle.xh_records.specs.Showing.{Among}
-use Rattle.xh_arena.specs.Views.{LotOf}
 use Rattle.xh_records.proofs.Cuts.{hands_over}
 use Rattle.xh_records.proofs.Lists.{next_slot, all_front, index_is, fills, first_is, distinct_split, keys_append, below_at}
 use Rattle.xh_records.proofs.Seating.{lot_here, all_full}
@@ -99,8 +98,7 @@ returns-clause-full g c = λ k h.
 
 pub returns-clause-hand : goal.returns-clause-hand
 returns-clause-hand g c =
-    let f = c.loop-k.invariant.3 in
-    (
+    let f = c.loop-k.invariant.3 in (
       c.split_seat.ensures.3 ∙ f.table ∙ ap (λ h. h.table) c.seat.view_is,
       c.split_seat.ensures.4 ∙ ap (λ z. (z, [])) (f.view ∙ sym (views_are c.args.seat _ _ _ c.seat.inside.hand.me c.seat.view_is _ _ _ c.seat.invariant)),
     )

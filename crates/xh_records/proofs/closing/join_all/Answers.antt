@@ -1,10 +1,9 @@
-use Rattle.std.proofs.Common.{rules, arith, ◌≡◌, ℕ, suc, ◌+◌, ◌-◌, ◌<◌, ◌≤◌, List, length, inl, refl, sym, ap, ◌∙◌, subst, [], ◌∷◌, ◌++◌, append_assoc, append-nil, length-append, le_refl}
-use Rattle.std.specs.Prelude.{Some, None, Option}
-use Rattle.std.specs.Vec.{vec_capacity, vec_len}
+use Rattle.std.proofs.Common.{rules, arith, ◌≡◌, ℕ, suc, ◌<◌, ◌≤◌, length, inl, refl, sym, ap, ◌∙◌, subst, [], ◌∷◌, ◌++◌, append_assoc, length-append}
+use Rattle.std.specs.Vec.{vec_len}
 use mathlib.Core.Option.{some}
 use lib.ListN.{get_elem?}
 use Rattle.atomic_table.proofs.Lists.{at_last, at_longer}
-use Rattle.xh_records.specs.Seats.{Held, IsGathered, view_of}
+use Rattle.xh_records.specs.Seats.{IsGathered, view_of}
 use Rattle.xh_records.specs.Showing.{Sits, spent, joined}
 use Rattle.xh_records.proofs.Keeps.{among_front}
 use Rattle.xh_records.proofs.Cuts.{joins}

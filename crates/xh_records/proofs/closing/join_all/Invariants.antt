@@ -1,4 +1,4 @@
-use Rattle.std.proofs.Common.{◌≡◌, ℕ, ◌<◌, ◌++◌, List, length, []}
+use Rattle.std.proofs.Common.{◌≡◌, ℕ, ◌++◌, List, length, []}
 use Rattle.std.specs.Vec.{vec_len}
 use Rattle.xh_records.specs.Seats.{Held, IsGathered}
 use Rattle.xh_records.specs.Showing.{Sits}

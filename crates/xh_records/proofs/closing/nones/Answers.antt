@@ -1,4 +1,4 @@
-use Rattle.std.proofs.Common.{rules, arith, ◌≡◌, ℕ, refl, sym, ap, ◌∙◌, subst, []}
+use Rattle.std.proofs.Common.{rules, ◌≡◌, refl, sym, subst}
 use Rattle.std.specs.Prelude.{None}
 use Rattle.xh_records.specs.Slots.{slot_at}
 use Rattle.xh_records.proofs.Ended.{none_more}

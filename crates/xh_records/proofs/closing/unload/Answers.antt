@@ -1,6 +1,6 @@
-use Rattle.std.proofs.Common.{rules, arith, ◌≡◌, ◌≢◌, ℕ, suc, ◌+◌, ◌<◌, ◌≤◌, ◌⊎◌, ⊎_elim, length, take, get_or, set, true, false, refl, sym, ap, ◌∙◌, subst, [], ◌∷◌, ◌++◌, length-set, get_or-set_same, get_or-set_other}
+use Rattle.std.proofs.Common.{rules, arith, ◌≡◌, ℕ, suc, ◌+◌, ◌<◌, ⊎_elim, length, take, get_or, set, false, refl, sym, ap, ◌∙◌, subst, [], ◌∷◌, ◌++◌, get_or-set_same, get_or-set_other}
 use Rattle.std.specs.Prelude.{Some, None}
-use Rattle.std.specs.Vec.{vec_len, vec_capacity}
+use Rattle.std.specs.Vec.{vec_len}
 use Rattle.std.specs.Slots.{slots_items, slots_len, slots_filled, slots_counts}
 use mathlib.Core.Option.{some}
 use mathlib.Core.Logic.{dite}

@@ -1,7 +1,7 @@
-use Rattle.std.proofs.Common.{◌≡◌, ℕ, ◌≤◌, ◌<◌, length, take, get_or, true, false}
+use Rattle.std.proofs.Common.{◌≡◌, ℕ, ◌≤◌, ◌<◌, take, get_or, true, false}
 use Rattle.std.specs.Prelude.{Some}
 use Rattle.std.specs.Vec.{vec_len, vec_capacity}
-use Rattle.std.specs.Slots.{slots_items, slots_len, slots_filled, IsFull}
+use Rattle.std.specs.Slots.{slots_items, slots_len, slots_filled}
 use mathlib.Core.Option.{some}
 use lib.ListN.{get_elem?}
 use Rattle.xh_records.specs.Slots.{slot_at, or_else}

@@ -1,12 +1,11 @@
-use Rattle.std.proofs.Common.{arith, ◌≡◌, ℕ, suc, ◌+◌, ◌-◌, ◌<◌, ◌≤◌, List, length, refl, sym, ap, ◌∙◌, subst, [], ◌∷◌}
-use Rattle.std.specs.Prelude.{Some, Option}
+use Rattle.std.proofs.Common.{arith, ◌≡◌, ℕ, suc, ◌+◌, ◌-◌, ◌<◌, length, sym, ap, ◌∙◌, subst, ◌∷◌}
 use lib.ListN.{get_elem?}
 use mathlib.Core.Option.{some}
 use Rattle.atomic_table.specs.Table.{rest}
 use Rattle.xh_records.specs.declared.view.View.{View}
 use Rattle.xh_records.specs.Encoding.{holder_of}
-use Rattle.xh_records.specs.Seats.{Distinct, keys, turns}
-use Rattle.xh_records.specs.Showing.{Owns, IsLotAt, lost, without}
+use Rattle.xh_records.specs.Seats.{Distinct, turns}
+use Rattle.xh_records.specs.Showing.{Owns, IsLotAt, lost}
 use Rattle.xh_records.proofs.Keeps.{gives_lot}
 use Rattle.xh_records.proofs.Lists.{turned_at}
 use Rattle.xh_records.proofs.hand.give_slot.Goals as goal

@@ -1,4 +1,4 @@
-use Rattle.std.proofs.Common.{◌≡◌, ℕ, ◌<◌, sym, subst}
+use Rattle.std.proofs.Common.{ℕ, ◌<◌, sym, subst}
 use Rattle.xh_records.proofs.Keeps.{looks}
 use Rattle.xh_records.proofs.hand.look_at.Goals as goal
 

@@ -1,4 +1,3 @@
-use Rattle.std.proofs.Common.{rules}
 use Rattle.xh_records.proofs.Keeps.{ages}
 use Rattle.xh_records.proofs.hand.renew_hand.Goals as goal
 

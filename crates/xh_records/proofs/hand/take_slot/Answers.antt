@@ -1,4 +1,4 @@
-use Rattle.std.proofs.Common.{◌≡◌, ℕ, List, ◌++◌, [], ◌∷◌, get_or, ap, ◌∙◌}
+use Rattle.std.proofs.Common.{ℕ, List, ◌++◌, [], ◌∷◌, get_or, ap, ◌∙◌}
 use Rattle.std.specs.Prelude.{Some}
 use mathlib.Core.Option.{none}
 use Rattle.atomic_table.specs.Table.{turned}

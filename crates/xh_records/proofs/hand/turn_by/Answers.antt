@@ -1,4 +1,4 @@
-use Rattle.std.proofs.Common.{arith, ◌≡◌, ℕ, suc, ◌+◌, ◌-◌, refl, sym, ap, ◌∙◌}
+use Rattle.std.proofs.Common.{arith, ◌≡◌, ℕ, suc, ◌+◌, ◌-◌, ap, ◌∙◌}
 use Rattle.xh_records.specs.Seats.{turns}
 use Rattle.xh_records.proofs.hand.turn_by.Goals as goal
 

@@ -1,8 +1,8 @@
-use Rattle.std.proofs.Common.{rules, arith, ◌≡◌, ℕ, suc, ◌+◌, ◌-◌, ◌≤◌, length, refl, sym, ap, ◌∙◌, subst, [], ◌∷◌}
+use Rattle.std.proofs.Common.{arith, ◌≡◌, suc, ◌+◌, ◌-◌, length, sym, ap, ◌∙◌, subst, ◌∷◌}
 use lib.ListN.{get_elem?}
 use mathlib.Core.Option.{some}
 use Rattle.atomic_table.specs.Table.{rest}
-use Rattle.xh_records.specs.Seats.{Distinct, keys, turns, put}
+use Rattle.xh_records.specs.Seats.{Distinct, turns}
 use Rattle.xh_records.proofs.Lists.{turned_at, first_is}
 use Rattle.xh_records.proofs.lending.swap_slot.Goals as goal
 

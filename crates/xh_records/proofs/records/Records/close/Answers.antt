@@ -1,6 +1,6 @@
-use Rattle.std.proofs.Common.{rules, arith, ◌≡◌, ℕ, ◌<◌, ◌≤◌, length, refl, sym, ap, ◌∙◌, subst, []}
+use Rattle.std.proofs.Common.{rules, arith, ◌≡◌, ℕ, ◌<◌, length, sym, ap, ◌∙◌, subst}
 use Rattle.std.specs.Prelude.{Some, slice_get}
-use Rattle.std.specs.Vec.{vec_len, vec_capacity}
+use Rattle.std.specs.Vec.{vec_len}
 use Rattle.std.specs.Slots.{slots_items, slots_len, slots_counts}
 use Rattle.xh_records.specs.declared.shape.Shape.{Shape}
 use Rattle.xh_records.specs.Seats.{Held, AllSit, Ends}
@@ -44,4 +44,4 @@ returns g c =
     let all : AllSit key.places c.args.seats.items = subst (λ (z : Shape). AllSit z.places c.args.seats.items) (sym shape_is) c.requires.all in
     let done = ends g.B.Fits.is_fit key c.join_all-hand.result.id c.join_all-hand.result.me.0 (slots_items c.close_with.result.words) (slots_items c.close_with.result.slots) c.args.seats.items c.join_all-hand.new.held.items c.close_with.ensures.values.2 c.join_all-hand.ensures.gathered long c.self.invariant.small own all c.unload.result.1.items (c.unload.ensures.long ∙ count) c.unload.ensures.lots in
     subst (λ z. Ends g.B.Fits.is_fit z c.args.seats.items c.unload.result.0.items c.unload.result.1.items) shape_is
-        (subst (λ w. Ends g.B.Fits.is_fit key c.args.seats.items w c.unload.result.1.items) (sym c.unload.ensures.words) done)
+    (subst (λ w. Ends g.B.Fits.is_fit key c.args.seats.items w c.unload.result.1.items) (sym c.unload.ensures.words) done)

@@ -1,12 +1,12 @@
-use Rattle.std.proofs.Common.{rules, arith, ◌≡◌, ℕ, suc, ◌+◌, ◌-◌, ◌*◌, ◌/◌, ◌%◌, ◌<◌, ◌≤◌, ◌⊎◌, ⊎_elim, length, replicate, refl, sym, ap, ◌∙◌, subst, [], ◌∷◌, ◌++◌, length-append, mod-lt}
-use Rattle.std.specs.Prelude.{Some, None, slice_get}
-use Rattle.std.specs.Vec.{vec_capacity, vec_len}
+use Rattle.std.proofs.Common.{rules, arith, ◌≡◌, ℕ, suc, ◌+◌, ◌-◌, ◌*◌, ◌/◌, ◌%◌, ◌<◌, ◌≤◌, ⊎_elim, length, replicate, refl, sym, ap, ◌∙◌, subst, [], length-append, mod-lt}
+use Rattle.std.specs.Prelude.{Some, slice_get}
+use Rattle.std.specs.Vec.{vec_capacity}
 use lib.ListN.{get_elem?}
 use mathlib.Core.Option.{some}
 use Rattle.xh_model.specs.Words.{number_of}
 use Rattle.xh_model.proofs.Words.{arena_of_number, place_of_number}
 use Rattle.xh_records.specs.Showing.{dealt, dealt_from}
-use Rattle.xh_records.specs.Seats.{Held, IsSeat, IsSmall, numbered}
+use Rattle.xh_records.specs.Seats.{IsSmall, numbered}
 use Rattle.xh_records.proofs.Cuts.{dealer, deals, opens, snoc_at, mapped_length}
 use Rattle.xh_records.proofs.Lists.{elem_slice, slice_elem}
 use Rattle.xh_records.proofs.Seating.{seat_is}
@@ -17,11 +17,11 @@ new-made-requires g c =
     let n : ℕ = c.args.records in
     opens g.B.Fits.is_fit _ c.len-count.result _ c.args.lots.items _ (subst (λ (z : ℕ). z ≤ 32) (sym c.from-2.ensures) c.requires.limits.3) (let e : c.as_slice.result.now ≡ replicate c.len-count.result 0 = search rules in e) c.in_ok-slots.ensures (let e : length c.args.lots.items ≡ c.len-count.result = search rules in e)
     (λ k l at.
-        let e = c.requires.empty k l (elem_slice c.args.lots.items k l at) in
-        let below : k % n < n = mod-lt k c.requires.limits.0 in
-        let most : n ≤ 256 = c.requires.limits.1 in
-        let small : k % n < 256 = omega arith in
-        (subst (λ (z : ℕ). (l.index ≡ number_of z k % 256) × (slice_get c.args.names (number_of z k / 256) ≡ Some l.id)) (sym c.from.ensures) (e.0 ∙ sym (place_of_number n k small), ap (slice_get c.args.names) (arena_of_number n k small) ∙ e.1), e.2))
+    let e = c.requires.empty k l (elem_slice c.args.lots.items k l at) in
+    let below : k % n < n = mod-lt k c.requires.limits.0 in
+    let most : n ≤ 256 = c.requires.limits.1 in
+    let small : k % n < 256 = omega arith in
+    (subst (λ (z : ℕ). (l.index ≡ number_of z k % 256) × (slice_get c.args.names (number_of z k / 256) ≡ Some l.id)) (sym c.from.ensures) (e.0 ∙ sym (place_of_number n k small), ap (slice_get c.args.names) (arena_of_number n k small) ∙ e.1), e.2))
 
 pub split_seat-hand-requires : goal.split_seat-hand-requires
 split_seat-hand-requires g c =
@@ -43,7 +43,7 @@ invariant_of-push_reserved g c =
     let each : key.records ≡ c.args.records = ap (λ z. z.records) c.in-Ok.ensures.ok.5 ∙ c.from.ensures in
     let small : IsSmall key = subst (λ (z : ℕ). (0 < z) × (z ≤ 256)) (sym each) (c.requires.limits.0, c.requires.limits.1) in
     seat_is c.loop-place.place _ [] _ _ _ _ _ _ _ c.from-process.ensures empty refl refl (c.split_seat-hand.ensures.4 ∙ ap (λ x. (dealt x, [])) v)
-        record { processes = refl; ordered = refl; records = refl; lots = tt; distinct = tt; below = tt; room = room; small = small }
+    record { processes = refl; ordered = refl; records = refl; lots = tt; distinct = tt; below = tt; room = room; small = small }
 
 pub loop-place-preserved : goal.loop-place-preserved
 loop-place-preserved g c =

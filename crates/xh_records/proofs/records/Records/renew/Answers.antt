@@ -1,4 +1,4 @@
-use Rattle.std.proofs.Common.{arith, ◌≡◌, ℕ, ◌+◌, ◌/◌, ◌<◌, refl, ap, ◌∙◌, []}
+use Rattle.std.proofs.Common.{arith, ◌≡◌, ◌+◌, ◌/◌, ◌<◌, refl, ap, ◌∙◌, []}
 use Rattle.xh_model.specs.Slots.{index_of}
 use Rattle.xh_records.specs.Seats.{keys, owned_by}
 use Rattle.xh_records.proofs.Seating.{seat_is, grows_old}
@@ -25,5 +25,5 @@ returns-clause-event g c =
     let young : x.process / 32 < 127 = c.requires.generation in
     let small : x.process + 32 < 4096 = omega arith in
     renews_event g.B.Fits.is_fit c.args.self.now.shape x _ c.renew_hand.new.hand.table_id _ c.renew_hand.new.hand.id c.seat.inside.process me c.renew_hand.new.hand.me c.seat.view_is _ _ _ _ _ _ s 0 (index_of c.args.self.now.shape.records 0) refl (c.seat.inside.process + 32)
-        (seat_is _ _ _ _ _ _ _ _ _ _ refl refl refl (ap (λ z. z.slots) c.renew_hand.ensures.0) c.renew_hand.ensures.2 (grows_old _ _ _ _ me s bare))
-        (ap (λ m. m.0) c.renew_hand.ensures.2) c.requires.empty small
+    (seat_is _ _ _ _ _ _ _ _ _ _ refl refl refl (ap (λ z. z.slots) c.renew_hand.ensures.0) c.renew_hand.ensures.2 (grows_old _ _ _ _ me s bare))
+    (ap (λ m. m.0) c.renew_hand.ensures.2) c.requires.empty small

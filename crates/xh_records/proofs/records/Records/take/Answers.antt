@@ -1,4 +1,4 @@
-use Rattle.std.proofs.Common.{rules, arith, ◌≡◌, ℕ, ◌+◌, ◌%◌, ◌<◌, List, length, refl, sym, ap, ◌∙◌, subst, [], ◌∷◌, ◌++◌}
+use Rattle.std.proofs.Common.{rules, ◌≡◌, ℕ, ◌%◌, ◌<◌, length, refl, sym, ap, ◌∙◌, subst, [], ◌∷◌, ◌++◌}
 use Rattle.std.specs.Vec.{vec_capacity}
 use Rattle.xh_model.specs.Slots.{index_of}
 use Rattle.xh_model.specs.Words.{number_of}
@@ -31,7 +31,7 @@ invariant_of-seat g c =
     let t = c.take_slot-found.ensures.taken (c.if-found-wanted.true ∙ c.encode-wanted.ensures) in
     let inside : slot < c.seat.inside.hand.table_id.slots = subst (λ z. slot < z.slots) (sym (ap (λ h. h.table) c.seat.view_is ∙ c.requires.own.0)) c.slot_of-slot.ensures.inside.1 in
     seat_is _ _ _ _ _ _ _ _ _ _ refl c.push_reserved.ensures.items c.push_reserved.ensures.capacity (ap (λ z. z.slots) c.take_slot-found.ensures.same.0) t.1
-        (gains _ _ _ _ _ slot t.0 c.seat.invariant inside t.2 t.4)
+    (gains _ _ _ _ _ slot t.0 c.seat.invariant inside t.2 t.4)
 
 pub returns-then-found-wanted-clause-taken : goal.returns-then-found-wanted-clause-taken
 returns-then-found-wanted-clause-taken g c = λ same.
@@ -63,5 +63,5 @@ returns-then-found-wanted-clause-step g c = λ same.
     let t = c.take_slot-found.ensures.taken (c.if-found-wanted.true ∙ c.encode-wanted.ensures) in
     let inside : slot < c.seat.inside.hand.table_id.slots = subst (λ z. slot < z.slots) (sym (ap (λ h. h.table) c.seat.view_is ∙ c.requires.own.0)) c.slot_of-slot.ensures.inside.1 in
     takes_event g.B.Fits.is_fit c.args.self.now.shape c.args.seat.now _ c.take_slot-found.new.hand.table_id _ c.take_slot-found.new.hand.id _ me c.take_slot-found.new.hand.me c.seat.view_is _ _ _ _ _ _ c.seat.invariant c.args.number slot c.slot_of-slot.ensures.index (holder_of c.args.from) c.requires.away
-        (seat_is _ _ _ _ _ _ _ _ _ _ refl c.push_reserved.ensures.items c.push_reserved.ensures.capacity (ap (λ z. z.slots) c.take_slot-found.ensures.same.0) t.1 (gains _ _ _ _ _ slot t.0 c.seat.invariant inside t.2 t.4))
-        (ap (λ m. m.0) t.1)
+    (seat_is _ _ _ _ _ _ _ _ _ _ refl c.push_reserved.ensures.items c.push_reserved.ensures.capacity (ap (λ z. z.slots) c.take_slot-found.ensures.same.0) t.1 (gains _ _ _ _ _ slot t.0 c.seat.invariant inside t.2 t.4))
+    (ap (λ m. m.0) t.1)
