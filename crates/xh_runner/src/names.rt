@@ -73,7 +73,11 @@ fn entry(records: &[u16], process: u8, block: u8) -> u16
 fn set_entry(records: &mut [u16], process: u8, block: u8, rec: u16)
     ensures { records.new ≡ with_entry records.old process block rec }
 {
-    put(records, 256 * usize::from(process) + usize::from(block), rec);
+    put(
+        records,
+        256 * usize::from(process) + usize::from(block),
+        rec,
+    );
 }
 
 fn entries(records: &[u16], process: u8, blocks: &[u8]) -> ArrayVec<u16, 16>

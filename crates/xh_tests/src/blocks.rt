@@ -158,10 +158,7 @@ fn worn_arena(rt: HostRuntime) -> Result<(), Fail> {
     writes(
         &rt,
         rt.alloc(),
-        Config {
-            wear: 96,
-            ..SMALL
-        },
+        Config { wear: 96, ..SMALL },
         "process a\n\
          a alloc x 48 0\n\
          a free x\n\

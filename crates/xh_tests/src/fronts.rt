@@ -3,7 +3,8 @@ use crate::harness::{SMALL, is_faulty_in_bytes, writes_bytes};
 use std::test::Fail;
 use xh_script::Kind;
 
-const SCRIPT: &[u8] = b"process a\nprocess b\nwire a e b f 0\na alloc x 40 0\na alloc y 16 0\na give e 7 x y\na give e 7 x\nb take f p q\nb write p 0 beef\nb read p 0 4\n";
+const SCRIPT: &[u8] =
+    b"process a\nprocess b\nwire a e b f 0\na alloc x 40 0\na alloc y 16 0\na give e 7 x y\na give e 7 x\nb take f p q\nb write p 0 beef\nb read p 0 4\n";
 
 /// The fronts that are scripts, by their lengths, each with what it prints.
 #[test]

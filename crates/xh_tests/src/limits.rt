@@ -50,14 +50,16 @@ fn channels_run_out(rt: HostRuntime) -> Result<(), Fail> {
 #[test]
 fn hundred_rounds(rt: HostRuntime) -> Result<(), Fail> {
     let alloc = rt.alloc();
-    let mut script = "process a\nprocess b\nwire a e b f 0\na alloc x 16 1\na write x 0 2a\n"
-        .to_string(alloc)?;
+    let mut script =
+        "process a\nprocess b\nwire a e b f 0\na alloc x 16 1\na write x 0 2a\n".to_string(alloc)?;
     let mut wanted = "1 ok 0\n2 ok 1\n3 ok\n4 ok 16\n5 ok\n".to_string(alloc)?;
     for round in 1..101u16 {
         script.push_str("a give e 0 x\nb await f x\nb write x 0 2b\nb give f 0 x\na await e x\n")?;
         let first = 5 * round + 1;
         let (second, third, fourth, fifth) = (first + 1, first + 2, first + 3, first + 4);
-        wanted.push_str(format!(in alloc; "{first} ok {round}\n{second} ok {round} 0 16\n")?.as_str())?;
+        wanted.push_str(format!(in alloc;
+            "{first} ok {round}\n{second} ok {round} 0 16\n"
+        )?.as_str())?;
         wanted.push_str(format!(in alloc; "{third} ok\n{fourth} ok {round}\n")?.as_str())?;
         wanted.push_str(format!(in alloc; "{fifth} ok {round} 0 16\n")?.as_str())?;
     }
@@ -65,9 +67,6 @@ fn hundred_rounds(rt: HostRuntime) -> Result<(), Fail> {
     wanted.push_str("506 ok 2b\narena 0 256 64 1 64 0\narena 1 256 16 1 16 0\n")?;
     wanted.push_str("process a running 2 48\nprocess b running 1 32\n")?;
     wanted.push_str("owned 80\nflight 0\nout 80\n")?;
-    let config = Config {
-        arenas: 2,
-        ..SMALL
-    };
+    let config = Config { arenas: 2, ..SMALL };
     writes(&rt, alloc, config, script.as_str(), wanted.as_str())
 }

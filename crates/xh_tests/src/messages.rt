@@ -159,10 +159,7 @@ fn full_direction(rt: HostRuntime) -> Result<(), Fail> {
     writes(
         &rt,
         rt.alloc(),
-        Config {
-            depth: 1,
-            ..SMALL
-        },
+        Config { depth: 1, ..SMALL },
         "process a\n\
          process b\n\
          wire a e b f 0\n\

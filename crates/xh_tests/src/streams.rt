@@ -7,9 +7,11 @@ use xh_core::Config;
 use xh_runner::run_serial;
 use xh_script::{Fault, Kind, Watched};
 
-const SCRIPT: &str = "process a\nprocess b\nwire a e b f 0\na alloc x 40 0\na alloc y 16 0\na give e 7 x y\na give e 7 x\nb take f p q\nb write p 0 beef\nb read p 0 4\n";
+const SCRIPT: &str =
+    "process a\nprocess b\nwire a e b f 0\na alloc x 40 0\na alloc y 16 0\na give e 7 x y\na give e 7 x\nb take f p q\nb write p 0 beef\nb read p 0 4\n";
 
-const OUTPUT: &str = "1 ok 0\n2 ok 1\n3 ok\n4 ok 48\n5 ok 16\n6 ok 1\n7 no 6 NotOwned\n8 ok 1 7 48 16\n9 ok\n10 ok beef0000\narena 0 256 128 1 128 0\nprocess a running 1 32\nprocess b running 3 96\nowned 128\nflight 0\nout 128\n";
+const OUTPUT: &str =
+    "1 ok 0\n2 ok 1\n3 ok\n4 ok 48\n5 ok 16\n6 ok 1\n7 no 6 NotOwned\n8 ok 1 7 48 16\n9 ok\n10 ok beef0000\narena 0 256 128 1 128 0\nprocess a running 1 32\nprocess b running 3 96\nowned 128\nflight 0\nout 128\n";
 
 /// Gives one byte at a time, and fails at a given read.
 #[derive(Drop)]
@@ -118,7 +120,13 @@ fn a_reader_without_an_end(rt: HostRuntime) -> Result<(), Fail> {
     let mut out = Vec::new(alloc);
     let mut writer = Watched::new(&mut out);
     let ended = run_serial(alloc, &mut reader, &mut writer, SMALL);
-    assert!(rt; ended == Err(Fault::Script { line: 0, kind: Kind::TooLong }));
+    assert!(rt;
+        ended
+            == Err(Fault::Script {
+                line: 0,
+                kind: Kind::TooLong
+            })
+    );
     assert!(rt; out.is_empty());
     Ok(())
 }
@@ -132,12 +140,24 @@ fn bad_configs(rt: HostRuntime) -> Result<(), Fail> {
         Config { arenas: 9, ..SMALL },
         Config { bytes: 40, ..SMALL },
         Config { bytes: 0, ..SMALL },
-        Config { bytes: 1_048_592, ..SMALL },
-        Config { records: 0, ..SMALL },
-        Config { records: 257, ..SMALL },
+        Config {
+            bytes: 1_048_592,
+            ..SMALL
+        },
+        Config {
+            records: 0,
+            ..SMALL
+        },
+        Config {
+            records: 257,
+            ..SMALL
+        },
         Config { depth: 0, ..SMALL },
         Config { depth: 17, ..SMALL },
-        Config { wear: 9_223_372_036_854_775_808, ..SMALL },
+        Config {
+            wear: 9_223_372_036_854_775_808,
+            ..SMALL
+        },
     ] {
         let mut reader = Watched::new(OneByOne {
             left: SCRIPT.as_bytes(),

@@ -77,7 +77,8 @@ fn is_refused(rt: &impl Abort, alloc: Global, options: &[&str]) -> Result<(), Fa
 
 const FIRST: &str = "process a\na alloc x 40 0\n";
 
-const FIRST_OUTPUT: &str = "1 ok 0\n2 ok 48\narena 0 256 48 1 48 0\nprocess a running 1 48\nowned 48\nflight 0\nout 48\n";
+const FIRST_OUTPUT: &str =
+    "1 ok 0\n2 ok 48\narena 0 256 48 1 48 0\nprocess a running 1 48\nowned 48\nflight 0\nout 48\n";
 
 #[test]
 fn first_alloc(rt: HostRuntime) -> Result<(), Fail> {
@@ -150,10 +151,7 @@ fn depth_is_a_limit(rt: HostRuntime) -> Result<(), Fail> {
 #[test]
 fn script_faults(rt: HostRuntime) -> Result<(), Fail> {
     for (script, told) in [
-        (
-            "process a\na alloc x 040 0\n",
-            "xheap: line 2: BadNumber\n",
-        ),
+        ("process a\na alloc x 040 0\n", "xheap: line 2: BadNumber\n"),
         (
             "process a\na alloc x 1 0\nprocess b\n",
             "xheap: line 3: LateHead\n",
@@ -230,14 +228,26 @@ fn streams_fail(rt: HostRuntime) -> Result<(), Fail> {
     let mut out = Vec::new(alloc);
     let mut err = Vec::new(alloc);
     let mut broken = Watched::new(Broken);
-    let ended = run_main(alloc, &words, &mut broken, &mut Watched::new(&mut out), &mut err);
+    let ended = run_main(
+        alloc,
+        &words,
+        &mut broken,
+        &mut Watched::new(&mut out),
+        &mut err,
+    );
     assert!(&rt; ended == 4);
     let text = err.as_slice();
     assert!(&rt; text == b"xheap: read failed\n".as_slice());
     let mut input = FIRST.as_bytes();
     let mut told = Vec::new(alloc);
     let mut full = Watched::new(Broken);
-    let ended = run_main(alloc, &words, &mut Watched::new(&mut input), &mut full, &mut told);
+    let ended = run_main(
+        alloc,
+        &words,
+        &mut Watched::new(&mut input),
+        &mut full,
+        &mut told,
+    );
     assert!(&rt; ended == 4);
     let text = told.as_slice();
     assert!(&rt; text == b"xheap: write failed\n".as_slice());

@@ -81,7 +81,13 @@ impl<'a> Session<'a> {
     }
 
     #[tactic(auto, unfolding(crate::specs::Meaning::step))]
-    pub(crate) fn write(&mut self, process: u8, block: u8, at: u32, bytes: &ArrayVec<u8, 32>) -> Reply
+    pub(crate) fn write(
+        &mut self,
+        process: u8,
+        block: u8,
+        at: u32,
+        bytes: &ArrayVec<u8, 32>,
+    ) -> Reply
         ensures { step (world_of self.old) (Command.Write process block at bytes.now) ≡ (result, world_of self.new) }
     {
         let number = self.names.number(process);

@@ -19,7 +19,12 @@ fn contract_at<'a>(contracts: &'a [Contract], number: Option<u8>) -> Option<&'a 
 }
 
 impl<'a> Session<'a> {
-    fn open_channel(&mut self, p: u16, arena: u32, contract: Option<u8>) -> Result<(Block, Block), Refused>
+    fn open_channel(
+        &mut self,
+        p: u16,
+        arena: u32,
+        contract: Option<u8>,
+    ) -> Result<(Block, Block), Refused>
         ensures channel { open_channel p arena (contract_at (world_of self.old).contracts contract) (world_of self.old).machine ≡ (result, (world_of self.new).machine) }
         ensures names { self.new ≡ record self.old { machine = self.new.machine } }
     {
@@ -29,7 +34,13 @@ impl<'a> Session<'a> {
         }
     }
 
-    fn wire_channel(&mut self, p: u16, q: u16, arena: u32, contract: Option<u8>) -> Result<(Block, Block), Refused>
+    fn wire_channel(
+        &mut self,
+        p: u16,
+        q: u16,
+        arena: u32,
+        contract: Option<u8>,
+    ) -> Result<(Block, Block), Refused>
         ensures channel { wire_channel p q arena (contract_at (world_of self.old).contracts contract) (world_of self.old).machine ≡ (result, (world_of self.new).machine) }
         ensures names { self.new ≡ record self.old { machine = self.new.machine } }
     {
@@ -40,7 +51,13 @@ impl<'a> Session<'a> {
     }
 
     #[tactic(auto, unfolding(crate::specs::Meaning::step))]
-    pub(crate) fn open(&mut self, process: u8, names: (u8, u8), arena: u32, contract: Option<u8>) -> Reply
+    pub(crate) fn open(
+        &mut self,
+        process: u8,
+        names: (u8, u8),
+        arena: u32,
+        contract: Option<u8>,
+    ) -> Reply
         ensures { step (world_of self.old) (Command.Open process names.0 names.1 arena contract) ≡ (result, world_of self.new) }
     {
         let number = self.names.number(process);
@@ -55,7 +72,13 @@ impl<'a> Session<'a> {
     }
 
     #[tactic(auto, unfolding(crate::specs::Meaning::step))]
-    pub(crate) fn wire(&mut self, here: (u8, u8), there: (u8, u8), arena: u32, contract: Option<u8>) -> Reply
+    pub(crate) fn wire(
+        &mut self,
+        here: (u8, u8),
+        there: (u8, u8),
+        arena: u32,
+        contract: Option<u8>,
+    ) -> Reply
         ensures { step (world_of self.old) (Command.Wire here.0 here.1 there.0 there.1 arena contract) ≡ (result, world_of self.new) }
     {
         let p = self.names.number(here.0);

@@ -34,7 +34,13 @@ fn keep_back(names: &mut Names, process: u8, blocks: &[u8], refused: &Refused)
 
 impl<'a> Session<'a> {
     #[tactic(auto, unfolding(crate::specs::Meaning::step))]
-    pub(crate) fn give(&mut self, process: u8, endpoint: u8, tag: u16, blocks: &ArrayVec<u8, 16>) -> Reply
+    pub(crate) fn give(
+        &mut self,
+        process: u8,
+        endpoint: u8,
+        tag: u16,
+        blocks: &ArrayVec<u8, 16>,
+    ) -> Reply
         ensures { step (world_of self.old) (Command.Give process endpoint tag blocks.now) ≡ (result, world_of self.new) }
     {
         let number = self.names.number(process);
@@ -61,7 +67,8 @@ impl<'a> Session<'a> {
         let rec = self.names.record_of(process, endpoint);
         match self.machine.take(number, rec) {
             Ok(message) => {
-                self.names.bind_each(process, blocks.as_slice(), message.blocks.as_slice());
+                self.names
+                    .bind_each(process, blocks.as_slice(), message.blocks.as_slice());
                 Reply::Taken {
                     number: message.no,
                     tag: message.tag,
