@@ -27,17 +27,21 @@ books ls ts = Books ls (weigh (λ t. t.0) ts) (weigh (λ t. t.1) ts) (length ts)
 abbrev pub whole : List ℕ → List (ℕ × ℕ) → List Part
 whole ls ts = lots_from 0 ls ++ (tallies_from 0 ts ++ books ls ts ∷ [])
 
+-- the parts of a new vault: nothing was carved
 abbrev pub first_parts : ℕ → ℕ → List Part
 first_parts records workers = whole (replicate records 0) (replicate workers (0, 0))
 
--- the views together are one whole, however their parts are weighed, and the word is 0
+-- the rule of a vault's table: the word is 0, and all views together have each part of a vault once. "Each once, in
+-- whatever order" is said by weights: however parts are weighed, the views weigh what the whole weighs.
 abbrev pub Kept : {S : Type 0} → State S (List Part) → Type 0
 Kept s = (s.words ≡ 0 ∷ []) × ((ls : List ℕ) × (ts : List (ℕ × ℕ)) × ((h : Part → ℕ) → weigh (weigh h) s.views ≡ weigh h (whole ls ts)))
 
+-- the first part, as a list
 abbrev pub top : List Part → List Part
 top [] = []
 top (p ∷ ps) = p ∷ []
 
+-- the parts but the first
 abbrev pub below : List Part → List Part
 below [] = []
 below (p ∷ ps) = ps
@@ -46,6 +50,7 @@ below (p ∷ ps) = ps
 abbrev pub AreOfOneWhole : List Part → Type 0
 AreOfOneWhole v = (ls : List ℕ) × (ts : List (ℕ × ℕ)) × (others : List Part) × ((h : Part → ℕ) → weigh h v + weigh h others ≡ weigh h (whole ls ts))
 
+-- a step that changes nothing, and shows that the view belongs to one whole
 abbrev pub Looked : {S : Type 0} → Step S → Me S (List Part) → ℕ → Me S (List Part) → Type 0
 Looked s v n w = (w ≡ v) × AreOfOneWhole v.0
 

@@ -3,7 +3,8 @@ use Rattle.xh_arena.specs.declared.refused.Refused.{Refused}
 use Rattle.xh_arena.specs.declared.refused.Refused.TheVariants.{NoSpace, Worn, BadSize, OutOfMemory, BadCut}
 use Rattle.xh_model.specs.Cover.{State, IsFree, first_fit}
 
--- why n bytes cannot be carved
+-- why n bytes cannot be carved: no place has so many bytes of nothing in a row; or a place has, and the wear would pass
+-- its limit. A carving is refused for nothing else.
 abbrev pub RefusesCarve : ℕ → State → Refused → Type 0
 RefusesCarve n state NoSpace = (first_fit n state.cover ≡ None) × ((at : ℕ) → IsFree n state.cover at → ⊥)
 RefusesCarve n state Worn = IsSome (first_fit n state.cover) × (state.limit < state.wear + n)

@@ -6,12 +6,14 @@ use Rattle.xh_arena.specs.declared.parts.Part.TheVariants.{Books, Length, Moved}
 use Rattle.xh_model.specs.Cover.{State, AreLimits, lengths_of}
 use Rattle.xh_arena.specs.Parts.{weigh}
 
+-- a lot: whose it is, its record in that arena, its length, and what travels with it
 pub record LotOf (B : Type 0) : Type 0 where
   pub id : TableId
   pub index : ℕ
   pub len : ℕ
   pub body : B
 
+-- a tally: whose it is, its number, and the bytes that it has taken and given back
 pub record TallyOf : Type 0 where
   pub id : TableId
   pub number : ℕ
@@ -24,6 +26,8 @@ pub record Move : Type 0 where
   pub taken : ℕ
   pub back : ℕ
 
+-- a vault: its id, its arena, the bytes given back by all tallies, how many tallies it has, and those that it took in.
+-- The bytes that all tallies have taken are the arena's wear.
 pub record VaultOf : Type 0 where
   pub id : TableId
   pub arena : State
@@ -31,19 +35,23 @@ pub record VaultOf : Type 0 where
   pub workers : ℕ
   pub collected : List Move
 
+-- the part of a tally that was collected
 abbrev pub moved : Move → Part
 moved m = Moved m.number m.taken m.back
 
+-- the tallies among the parts
 abbrev pub moves_of : List Part → List Move
 moves_of [] = []
 moves_of (Moved j x y ∷ ps) = record { number = j; taken = x; back = y } ∷ moves_of ps
 moves_of (Books ls t b k ∷ ps) = moves_of ps
 moves_of (Length r n ∷ ps) = moves_of ps
 
+-- the bytes given back, by the books
 abbrev pub back_of : List Part → ℕ
 back_of (Books ls t b k ∷ ps) = b
 back_of _ = 0
 
+-- how many tallies there are, by the books
 abbrev pub workers_of : List Part → ℕ
 workers_of (Books ls t b k ∷ ps) = k
 workers_of _ = 0
@@ -57,6 +65,7 @@ pub record Booked : Type 0 where
   pub lengths : List ℕ
   pub wear : ℕ
 
+-- what they are to say of this arena
 abbrev pub booked : State → Booked
 booked state = record { lengths = lengths_of state; wear = state.wear }
 
@@ -68,6 +77,7 @@ Balanced a parts = (parts ≡ vault_parts a.lengths a.wear (back_of parts) (work
 abbrev pub AreLots : {B : Type 0} → (B → Type 0) → TableId → ℕ → List (LotOf B) → Type 0
 AreLots {B} new id count ls = (length ls ≡ count) × ((i : ℕ) (l : LotOf B) → slice_get ls i ≡ Some l → (l.id ≡ id) × (l.index ≡ i) × (l.len ≡ 0) × new l.body)
 
+-- the tallies of a new vault, in the order of their numbers: none has moved a byte
 abbrev pub AreTallies : TableId → ℕ → List TallyOf → Type 0
 AreTallies id count ts = (length ts ≡ count) × ((i : ℕ) (t : TallyOf) → slice_get ts i ≡ Some t → t ≡ record { id = id; number = i; taken = 0; back = 0 })
 

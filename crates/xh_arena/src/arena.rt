@@ -85,6 +85,7 @@ impl Arena {
         ensures bad_size { (result ≡ Err Refused.BadSize) ↔ (AreLimits size records wear → ⊥) }
         ensures lawful { IfOk result IsLawful }
         ensures lengths { IfOk result (λ arena. lengths_of arena ≡ replicate records 0) }
+        ensures empty { IfOk result (λ arena. (r : ℕ) → length_of r arena.cover ≡ 0) }
         ensures refused { IfErr result (λ e. (e ≡ Refused.BadSize) ⊎ (e ≡ Refused.OutOfMemory)) }
     {
         if !in_limits(size, records, wear) {

@@ -93,3 +93,6 @@ pub(crate) fn lots<B: Default + Drop>(
     }
     Some(all)
 }
+
+#[cfg(test)]
+mod tests;

@@ -172,7 +172,8 @@ impl Vault {
         ensures record { lot.old.index < self.old.arena.records }
         ensures known { length_of lot.old.index self.old.arena.cover ≡ lot.old.len }
     {
-        self.shares.look_at(&mut lot.share);
+        let share = &mut lot.share;
+        self.shares.look_at(share);
     }
 
     /// Takes a tally in for good. Once each tally of the vault was taken in, what they took is what the arena handed

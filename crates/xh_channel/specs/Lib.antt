@@ -1,4 +1,13 @@
+pub mod Boxes
+pub mod Directions
 pub mod Ends
-pub mod Numbers
-pub mod Refusals
+pub mod Lanes
 pub mod Lines
+pub mod Marks
+pub mod Numbers
+pub mod Pairs
+pub mod Places
+pub mod Queues
+pub mod Refusals
+pub mod Signs
+pub mod Turns

@@ -1,8 +1,10 @@
 //! Why a call on the channels did nothing.
 ghost use Rattle.std.specs.Prelude.{◌≡◌};
 ghost use Rattle.xh_channel.specs.Refusals.{same_refusal};
+ghost use Rattle.xh_channel.specs.declared.refused.Refused.TheVariants.{OutOfMemory};
 
 use arrayvec::ArrayVec;
+use std::alloc::AllocError;
 
 /// Why a call did nothing. The names are those of the heap's refusals.
 #[derive(Drop, Debug)]
@@ -30,5 +32,13 @@ impl From<Refused> for xh_core::Refused {
             Refused::PeerClosed { back } => xh_core::Refused::PeerClosed { back },
             Refused::Empty => xh_core::Refused::Empty,
         }
+    }
+}
+
+impl From<AllocError> for Refused {
+    ghost from_gives = { λ _ e. e ≡ OutOfMemory };
+
+    fn from(_error: AllocError) -> Refused {
+        Refused::OutOfMemory
     }
 }

@@ -81,7 +81,8 @@ length_is state r n e =
     let l : r < state.records = known_record state r n e in
     (l, same_length (length_of r state.cover) n (sym (length_at state r l) ∙ e))
 
-none_of : (r n : ℕ) → length_of r (replicate n None) ≡ 0
+-- no entry of nothing but nothing is a record
+pub none_of : (r n : ℕ) → length_of r (replicate n None) ≡ 0
 none_of r zero = refl
 none_of r (suc n) =
     let rest : length_of r (replicate n None) ≡ 0 = none_of r n in

@@ -1,12 +1,12 @@
 -- A word is a number exactly where it is the decimal text of one.
-use Rattle.std.proofs.Common.{◌≡◌, ◌<◌, ◌≤◌, ◌+◌, ◌*◌, ◌-◌, ◌^◌, ◌==◌, ◌||◌, ◌&&◌, not, ℕ, Bool, true, false, nat_le, nat_lt, List, length, get_or, Option, Some, None, IfSome, refl, sym, ap, ◌∙◌, rules, arith, if◌then◌else◌}
+use Rattle.std.proofs.Common.{◌≡◌, ◌+◌, ◌*◌, ◌-◌, ◌^◌, ◌&&◌, ℕ, Bool, true, false, List, length, get_or, Option, Some, None, IfSome, refl, sym, ap, ◌∙◌, rules, arith, if◌then◌else◌}
 use Rattle.std.specs.List.{list_all, fold}
 use Rattle.std.specs.Fmt.{decimal}
 use Rattle.std.proofs.lemmas.Bool.{ltb-true}
 use Rattle.std.proofs.lemmas.Bool.Decides.{nat_tests}
 use Rattle.std.proofs.lemmas.Fmt.{decimal-digits_value}
 use Rattle.std.proofs.lemmas.Str.Parse.{IsNumeralModel, numerals_by_fold}
-use Rattle.xh_script.specs.Words.{is_digit, is_numeral, has_no_zero_in_front, value_of, number_of}
+use Rattle.xh_script.specs.Words.{is_digit, has_no_zero_in_front, value_of, number_of}
 
 own : IsNumeralModel (λ ds. list_all is_digit ds ≡ true) value_of
 own = numerals_by_fold (λ ds. list_all is_digit ds ≡ true) (search rules) (λ n ds. fold (λ m b. m * 10 + (b - 48)) n ds) (search rules)

@@ -1,12 +1,12 @@
 -- Lemmas on readings that may stop.
-use Rattle.std.proofs.Common.{◌≡◌, ◌≤◌, ◌<◌, ◌+◌, ◌==◌, suc, ℕ, List, [], Result, Ok, Err, refl, ap, ◌∙◌, length, drop, map, sym, Bor, get_or, arith, add-one, drop-cons, le-ltb}
+use Rattle.std.proofs.Common.{◌≡◌, ◌≤◌, ◌<◌, ◌+◌, ◌==◌, suc, ℕ, List, [], Result, Ok, refl, ap, length, drop, map, Bor, get_or, arith, add-one, drop-cons}
 use Rattle.std.specs.List.{slice_split}
 use Rattle.std.proofs.Math.ListN.{length-map}
 use Rattle.std.proofs.lemmas.List.Splits.{length-slice_split}
 use Rattle.std.proofs.lemmas.List.Sums.{count_by-le-length}
 use Rattle.xh_script.specs.Steps.{◌>>=◌, Stops}
 use Rattle.xh_script.specs.SoFar.{SoFar}
-use Rattle.xh_script.specs.Scripts.{Fails, at_line, after_line, after_lines, nothing_read, told_so_far, script_of}
+use Rattle.xh_script.specs.Scripts.{Fails, at_line, after_line, after_lines}
 use Rattle.xh_script.specs.declared.fault.Kind.{Kind}
 use Rattle.xh_script.specs.declared.fault.Fault.{Fault}
 use Rattle.xh_script.specs.declared.fault.Fault.TheVariants.{Script, Memory, Read, Write, Gate, BadConfig}

@@ -3,7 +3,7 @@ use Rattle.std.proofs.Common.{◌≡◌, ◌⊎◌, inl, inr, ℕ, Bool, true, f
 use Rattle.std.specs.Str.{bytes_eq}
 use Rattle.std.specs.List.{list_all}
 use Rattle.std.proofs.lemmas.Slice.Eq.{bytes_eq-Decides}
-use Rattle.xh_script.specs.Forms.{name_at, process_line, wire_line, contract_line}
+use Rattle.xh_script.specs.Forms.{name_at}
 use Rattle.xh_script.specs.Grammar.{verb_text, is_verb, verb_at, form, verb_line, is_filled, line_by, said_by}
 use Rattle.xh_script.specs.Spelling.{IsSpelled}
 use Rattle.xh_script.proofs.SpellingWords.{bind_ok, same_ok, guarded, name_ok}

@@ -1,17 +1,12 @@
 -- What the words of a line are read as is spelled by these words.
-use Rattle.std.proofs.Common.{◌≡◌, ◌⊎◌, inl, inr, ◌&&◌, ℕ, Bool, true, false, List, [], ◌∷◌, Option, Some, None, Result, Ok, Err, codes, refl, sym, ap, ◌∙◌, subst, length, nat_le, map, if◌then◌else◌}
-use Rattle.std.specs.Str.{bytes_eq}
+use Rattle.std.proofs.Common.{◌≡◌, inl, inr, ◌&&◌, ℕ, List, [], ◌∷◌, Option, Some, None, Result, Ok, codes, refl, subst, length, nat_le, map}
 use Rattle.std.specs.Fmt.{decimal}
-use Rattle.std.specs.List.{list_all}
-use Rattle.std.proofs.lemmas.Slice.Eq.{bytes_eq-Decides}
-use Rattle.arrayvec.specs.ArrayVec.{ArrayVec}
-use Rattle.xh_script.specs.Steps.{◌>>=◌}
 use Rattle.xh_script.specs.Forms.{name_at, names_at, number_at, number_between, bytes_at, optional_name, rows_at, process_line, wire_said, wire_line, contract_said, contract_line, open_said, open_line, alloc_said, alloc_line, split_said, split_line, read_said, read_line, write_said, write_line, give_said, give_line, take_said, take_line, await_said, await_line, free_line, close_line, exit_line, kill_said, kill_line, glance_line, again_line}
 use Rattle.xh_script.specs.Texts.{hex_text}
 use Rattle.xh_script.specs.Spelling.{IsSpelled, row_text, contract_words}
 use Rattle.xh_script.proofs.SpellingWords.{bind_ok, same_ok, guarded, name_ok, names_ok, number_ok, between_ok, optional_ok, bytes_ok, rows_ok}
 use Rattle.xh_script.specs.declared.fault.Kind.{Kind}
-use Rattle.xh_script.specs.declared.fault.Kind.TheVariants.{BadWord, BadNumber, BadCount}
+use Rattle.xh_script.specs.declared.fault.Kind.TheVariants.{BadCount}
 use Rattle.xh_script.specs.declared.said.Said.{Said}
 use Rattle.xh_script.specs.declared.said.Said.TheVariants.{Contract, Process, Wire, Open, Alloc, Split, Read, Write, Give, Take, Await, Free, Close, Exit, Kill, Glance, Again}
 

@@ -1,15 +1,14 @@
 -- Lemmas on what is written in several calls.
-use Rattle.std.proofs.Common.{◌≡◌, ℕ, suc, Bool, true, List, [], ◌∷◌, ◌++◌, ◌/◌, ◌%◌, codes, Option, Some, None, Result, Ok, Err, refl, ap, sym, ◌∙◌, append_assoc, append-nil, map, drop, get_or, length, ◌<◌, ◌+◌, add-one, drop-cons, Bor}
+use Rattle.std.proofs.Common.{◌≡◌, ℕ, suc, List, [], ◌∷◌, ◌++◌, ◌/◌, ◌%◌, codes, Option, Some, None, Result, Ok, Err, refl, ap, sym, ◌∙◌, append_assoc, append-nil, map, drop, get_or, length, ◌<◌, ◌+◌, add-one, drop-cons, Bor}
 use Rattle.std.specs.List.{concat}
 use Rattle.xh_script.specs.Texts.{arena_text, arena_texts, place_text, place_texts, length_text, lengths_text, reply_text, answer_texts, hex_digit, hex_text}
 use Rattle.xh_script.specs.declared.reply.Answered.{Answered}
 use Rattle.xh_core.specs.declared.ledger.ArenaLine.{ArenaLine}
 use Rattle.xh_core.specs.declared.ledger.PlaceLine.{PlaceLine}
 use Rattle.std.specs.Io.KnownBytes.{Appends}
-use Rattle.xh_script.specs.Watching.{has_failed, inner_of, Writes, WritesFront, WritesOrFails}
+use Rattle.xh_script.specs.Watching.{inner_of, Writes, WritesFront, WritesOrFails}
 use Rattle.xh_script.specs.declared.watch.Watched.{Watched}
 use Rattle.xh_script.specs.declared.fault.Fault.{Fault}
-use Rattle.xh_script.specs.declared.fault.Fault.TheVariants.{Write}
 
 pub Appends-none : (a : Option (List ℕ)) → Appends a a []
 Appends-none None = tt

@@ -1,5 +1,5 @@
 -- The commands that lines say: numbers in place of names.
-use Rattle.std.specs.Prelude.{ℕ, ◌&&◌, List, [], ◌∷◌, ◌++◌, slice_index_or, slice_set, if◌then◌else◌, is_none, Option, Some, None, Result, Ok, Err}
+use Rattle.std.specs.Prelude.{ℕ, Bool, true, false, ◌&&◌, List, [], ◌∷◌, ◌++◌, slice_index_or, slice_set, if◌then◌else◌, is_none, Option, Some, None, Result, Ok, Err}
 use Rattle.arrayvec.specs.ArrayVec.{ArrayVec}
 use Rattle.xh_model.specs.declared.row.Row.{Row}
 use Rattle.xh_script.specs.Steps.{◌>>=◌}
@@ -113,3 +113,10 @@ glance_numbered r process other = process_in r process >>= λ p. process_in p.1 
 
 unfoldable pub again_numbered : SoFar → List ℕ → Result (Command × SoFar) Kind
 again_numbered r process = process_in r process >>= λ p. Ok (Again p.0, p.1)
+
+-- whether a command is a head line's
+abbrev pub is_head_command : Command → Bool
+is_head_command (Contract k) = true
+is_head_command (Process p) = true
+is_head_command (Wire p e q f a k) = true
+is_head_command _ = false

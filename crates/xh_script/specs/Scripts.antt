@@ -5,7 +5,7 @@ use Rattle.xh_model.specs.declared.row.Row.{Row}
 use Rattle.xh_script.specs.Steps.{◌>>=◌}
 use Rattle.xh_script.specs.SoFar.{SoFar}
 use Rattle.xh_script.specs.Grammar.{said_at}
-use Rattle.xh_script.specs.Numbering.{contract_numbered, process_numbered, wire_numbered, open_numbered, alloc_numbered, split_numbered, read_numbered, write_numbered, give_numbered, take_numbered, await_numbered, free_numbered, close_numbered, exit_numbered, kill_numbered, glance_numbered, again_numbered}
+use Rattle.xh_script.specs.Numbering.{is_head_command, contract_numbered, process_numbered, wire_numbered, open_numbered, alloc_numbered, split_numbered, read_numbered, write_numbered, give_numbered, take_numbered, await_numbered, free_numbered, close_numbered, exit_numbered, kill_numbered, glance_numbered, again_numbered}
 use Rattle.xh_script.specs.declared.fault.Kind.{Kind}
 use Rattle.xh_script.specs.declared.fault.Kind.TheVariants.{TooLong, LateHead}
 use Rattle.xh_script.specs.declared.fault.Fault.{Fault}
@@ -56,29 +56,38 @@ numbered r (Kill p q n) = kill_numbered r p q n
 numbered r (Glance p q) = glance_numbered r p q
 numbered r (Again p) = again_numbered r p
 
+-- the command that a line says, where its place in the script allows it
+unfoldable pub in_place : SoFar → Said → Result (Command × SoFar) Kind
+in_place r said = if is_head said && r.begun then Err LateHead else numbered r said
+
+abbrev pub placed : SoFar → Result Said Kind → Result (Command × SoFar) Kind
+placed r said = said >>= in_place r
+
+-- the same, of a line that may be skipped
+abbrev pub with_option : SoFar → Option Said → Result (Option Command × SoFar) Kind
+with_option r None = Ok (None, r)
+with_option r (Some said) = in_place r said >>= λ c. Ok (Some c.0, c.1)
+
+abbrev pub optional_placed : SoFar → Result (Option Said) Kind → Result (Option Command × SoFar) Kind
+optional_placed r said = said >>= with_option r
+
 -- one more command, of at most 4,096
-unfoldable pub with_line : SoFar → ℕ → Bool → Command → Result SoFar Kind
-with_line r number head command =
+unfoldable pub with_line : SoFar → ℕ → Command → Result SoFar Kind
+with_line r number command =
     if nat_lt (length r.lines) 4096 then
-    Ok (record r { lines = r.lines ++ record { number = number; command = command } ∷ []; begun = r.begun || not head })
+    Ok (record r { lines = r.lines ++ record { number = number; command = command } ∷ []; begun = r.begun || not (is_head_command command) })
     else Err TooLong
 
--- what has been read with one more line that says something
-unfoldable pub with_said : SoFar → ℕ → Said → Result SoFar Kind
-with_said r number said =
-    if is_head said && r.begun then Err LateHead
-    else numbered r said >>= λ c. with_line c.1 number (is_head said) c.0
-
-abbrev pub with_option : SoFar → ℕ → Option Said → Result SoFar Kind
-with_option r number None = Ok r
-with_option r number (Some said) = with_said r number said
+abbrev pub with_command : ℕ → SoFar → Option Command → Result SoFar Kind
+with_command number r None = Ok r
+with_command number r (Some command) = with_line r number command
 
 abbrev pub at_line : {A : Type 0} → ℕ → Result A Kind → Result A Fault
 at_line number (Ok x) = Ok x
 at_line number (Err kind) = Err (ScriptFault number kind)
 
 unfoldable pub after_line : SoFar → ℕ → List ℕ → Result SoFar Kind
-after_line r number line = said_at line >>= with_option r number
+after_line r number line = optional_placed r (said_at line) >>= λ c. with_command number c.1 c.0
 
 -- what has been read after these lines too, numbered from `number` on; the lowest line with a fault decides
 abbrev pub after_lines : SoFar → ℕ → List (List ℕ) → Result SoFar Fault

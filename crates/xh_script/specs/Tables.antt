@@ -1,5 +1,5 @@
 -- Whether rows are a table of a contract, as a test.
-use Rattle.std.specs.Prelude.{ℕ, ◌&&◌, ◌||◌, ◌==◌, Bool, true, not, List, [], ◌∷◌, length, nat_le}
+use Rattle.std.specs.Prelude.{◌&&◌, ◌||◌, ◌==◌, Bool, true, not, List, [], ◌∷◌, length, nat_le}
 use Rattle.std.specs.List.{list_all}
 use Rattle.xh_model.specs.declared.row.Row.{Row}
 

@@ -9,7 +9,7 @@ use Rattle.xh_core.specs.declared.ledger.ArenaLine.{ArenaLine}
 use Rattle.xh_core.specs.declared.ledger.PlaceLine.{PlaceLine}
 use Rattle.xh_core.specs.declared.ledger.Ledger.{Ledger}
 use Rattle.xh_core.specs.declared.refused.Refused.{Refused}
-use Rattle.xh_core.specs.declared.refused.Refused.TheVariants.{OutOfMemory, BadSize, NoArena, NoSpace, NoRecord, NotOwned, NotData, NotEndpoint, BadCut, BadRange, NoProcess, Ended, NoChannel, Full, PeerClosed, Empty, TooMany, Twice, Worn, Unfinished, NoPlace, Protocol}
+use Rattle.xh_core.specs.declared.refused.Refused.TheVariants.{Full, PeerClosed, Unfinished}
 use Rattle.xh_script.specs.declared.fault.Kind.{Kind}
 use Rattle.xh_script.specs.declared.fault.Kind.TheVariants.{TooLong, LongLine, BadByte, BadWord, BadCount, BadNumber, BadHex, LateHead, BadContract}
 use Rattle.xh_script.specs.declared.reply.Reply.{Reply}

@@ -1,6 +1,6 @@
 -- What is said of a reader or a writer that remembers its failures.
-use Rattle.std.specs.Prelude.{◌≡◌, ◌≤◌, ◌<◌, ℕ, Bool, true, List, ◌++◌, length, take, Option, Result, Ok, Err}
-use Rattle.std.specs.Io.KnownBytes.{Appends, Consumes, IsAtEnd, Keeps}
+use Rattle.std.specs.Prelude.{◌≡◌, ℕ, Bool, true, List, ◌++◌, Option, Result, Ok, Err}
+use Rattle.std.specs.Io.KnownBytes.{Appends, Consumes}
 use Rattle.xh_script.specs.declared.watch.Watched.{Watched}
 use Rattle.xh_script.specs.declared.fault.Fault.{Fault}
 use Rattle.xh_script.specs.declared.fault.Fault.TheVariants.{Write}

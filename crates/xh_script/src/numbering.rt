@@ -2,11 +2,10 @@
 ghost use Rattle.std.specs.Prelude.{◌≡◌, ◌<◌};
 ghost use Rattle.xh_script.specs.Steps.{Answers};
 ghost use Rattle.xh_script.specs.Numbering.{contract_numbered, process_numbered, wire_numbered, open_numbered, alloc_numbered, split_numbered, read_numbered, write_numbered, give_numbered, take_numbered, await_numbered, free_numbered, close_numbered, exit_numbered, kill_numbered, glance_numbered, again_numbered};
-ghost use Rattle.xh_script.specs.Scripts.{numbered};
 
 use crate::reading::Reading;
 use crate::table::table_of;
-use crate::{Command, Kind, Name, Said, Stop};
+use crate::{Command, Kind, Name, Stop};
 use arrayvec::ArrayVec;
 use xh_model::Row;
 
@@ -14,7 +13,7 @@ impl Reading {
     /// A new contract.
     #[inline(never)]
     #[tactic(auto, unfolding(crate::specs::Numbering::contract_numbered), using(crate::proofs::Readings::stops_then))]
-    fn number_contract(&mut self, name: &Name, rows: &[Row]) -> Result<Command, Stop>
+    pub(crate) fn number_contract(&mut self, name: &Name, rows: &[Row]) -> Result<Command, Stop>
         ensures { Answers (λ c. (c, self.new)) result (contract_numbered self.old name.now rows.now) }
     {
         let Some(table) = table_of(rows) else {
@@ -30,7 +29,7 @@ impl Reading {
 
     #[inline(never)]
     #[tactic(auto, unfolding(crate::specs::Numbering::process_numbered), using(crate::proofs::Readings::stops_then))]
-    fn number_process(&mut self, process: &Name) -> Result<Command, Stop>
+    pub(crate) fn number_process(&mut self, process: &Name) -> Result<Command, Stop>
         ensures { Answers (λ c. (c, self.new)) result (process_numbered self.old process.now) }
     {
         let process = self.process(process)?;
@@ -39,7 +38,7 @@ impl Reading {
 
     #[inline(never)]
     #[tactic(auto, unfolding(crate::specs::Numbering::wire_numbered), using(crate::proofs::Readings::stops_then))]
-    fn number_wire(
+    pub(crate) fn number_wire(
         &mut self,
         process: &Name,
         first: &Name,
@@ -66,7 +65,7 @@ impl Reading {
 
     #[inline(never)]
     #[tactic(auto, unfolding(crate::specs::Numbering::open_numbered), using(crate::proofs::Readings::stops_then))]
-    fn number_open(
+    pub(crate) fn number_open(
         &mut self,
         process: &Name,
         first: &Name,
@@ -91,7 +90,7 @@ impl Reading {
 
     #[inline(never)]
     #[tactic(auto, unfolding(crate::specs::Numbering::alloc_numbered), using(crate::proofs::Readings::stops_then))]
-    fn number_alloc(
+    pub(crate) fn number_alloc(
         &mut self,
         process: &Name,
         block: &Name,
@@ -112,7 +111,7 @@ impl Reading {
 
     #[inline(never)]
     #[tactic(auto, unfolding(crate::specs::Numbering::split_numbered), using(crate::proofs::Readings::stops_then))]
-    fn number_split(
+    pub(crate) fn number_split(
         &mut self,
         process: &Name,
         block: &Name,
@@ -134,7 +133,7 @@ impl Reading {
 
     #[inline(never)]
     #[tactic(auto, unfolding(crate::specs::Numbering::read_numbered), using(crate::proofs::Readings::stops_then))]
-    fn number_read(
+    pub(crate) fn number_read(
         &mut self,
         process: &Name,
         block: &Name,
@@ -155,7 +154,7 @@ impl Reading {
 
     #[inline(never)]
     #[tactic(auto, unfolding(crate::specs::Numbering::write_numbered), using(crate::proofs::Readings::stops_then))]
-    fn number_write(
+    pub(crate) fn number_write(
         &mut self,
         process: &Name,
         block: &Name,
@@ -176,7 +175,7 @@ impl Reading {
 
     #[inline(never)]
     #[tactic(auto, unfolding(crate::specs::Numbering::give_numbered), using(crate::proofs::Readings::stops_then))]
-    fn number_give(
+    pub(crate) fn number_give(
         &mut self,
         process: &Name,
         endpoint: &Name,
@@ -198,7 +197,7 @@ impl Reading {
 
     #[inline(never)]
     #[tactic(auto, unfolding(crate::specs::Numbering::take_numbered), using(crate::proofs::Readings::stops_then))]
-    fn number_take(
+    pub(crate) fn number_take(
         &mut self,
         process: &Name,
         endpoint: &Name,
@@ -218,7 +217,7 @@ impl Reading {
 
     #[inline(never)]
     #[tactic(auto, unfolding(crate::specs::Numbering::await_numbered), using(crate::proofs::Readings::stops_then))]
-    fn number_await(
+    pub(crate) fn number_await(
         &mut self,
         process: &Name,
         endpoint: &Name,
@@ -238,7 +237,7 @@ impl Reading {
 
     #[inline(never)]
     #[tactic(auto, unfolding(crate::specs::Numbering::free_numbered), using(crate::proofs::Readings::stops_then))]
-    fn number_free(&mut self, process: &Name, block: &Name) -> Result<Command, Stop>
+    pub(crate) fn number_free(&mut self, process: &Name, block: &Name) -> Result<Command, Stop>
         ensures { Answers (λ c. (c, self.new)) result (free_numbered self.old process.now block.now) }
     {
         let (process, block) = self.both(process, block)?;
@@ -247,7 +246,7 @@ impl Reading {
 
     #[inline(never)]
     #[tactic(auto, unfolding(crate::specs::Numbering::close_numbered), using(crate::proofs::Readings::stops_then))]
-    fn number_close(&mut self, process: &Name, endpoint: &Name) -> Result<Command, Stop>
+    pub(crate) fn number_close(&mut self, process: &Name, endpoint: &Name) -> Result<Command, Stop>
         ensures { Answers (λ c. (c, self.new)) result (close_numbered self.old process.now endpoint.now) }
     {
         let (process, endpoint) = self.both(process, endpoint)?;
@@ -256,7 +255,7 @@ impl Reading {
 
     #[inline(never)]
     #[tactic(auto, unfolding(crate::specs::Numbering::exit_numbered), using(crate::proofs::Readings::stops_then))]
-    fn number_exit(&mut self, process: &Name, budget: u16) -> Result<Command, Stop>
+    pub(crate) fn number_exit(&mut self, process: &Name, budget: u16) -> Result<Command, Stop>
         ensures { Answers (λ c. (c, self.new)) result (exit_numbered self.old process.now budget) }
     {
         let process = self.process(process)?;
@@ -265,7 +264,12 @@ impl Reading {
 
     #[inline(never)]
     #[tactic(auto, unfolding(crate::specs::Numbering::kill_numbered), using(crate::proofs::Readings::stops_then))]
-    fn number_kill(&mut self, process: &Name, victim: &Name, budget: u16) -> Result<Command, Stop>
+    pub(crate) fn number_kill(
+        &mut self,
+        process: &Name,
+        victim: &Name,
+        budget: u16,
+    ) -> Result<Command, Stop>
         ensures { Answers (λ c. (c, self.new)) result
             (kill_numbered self.old process.now victim.now budget) }
     {
@@ -280,7 +284,7 @@ impl Reading {
 
     #[inline(never)]
     #[tactic(auto, unfolding(crate::specs::Numbering::glance_numbered), using(crate::proofs::Readings::stops_then))]
-    fn number_glance(&mut self, process: &Name, other: &Name) -> Result<Command, Stop>
+    pub(crate) fn number_glance(&mut self, process: &Name, other: &Name) -> Result<Command, Stop>
         ensures { Answers (λ c. (c, self.new)) result (glance_numbered self.old process.now other.now) }
     {
         let process = self.process(process)?;
@@ -290,87 +294,10 @@ impl Reading {
 
     #[inline(never)]
     #[tactic(auto, unfolding(crate::specs::Numbering::again_numbered), using(crate::proofs::Readings::stops_then))]
-    fn number_again(&mut self, process: &Name) -> Result<Command, Stop>
+    pub(crate) fn number_again(&mut self, process: &Name) -> Result<Command, Stop>
         ensures { Answers (λ c. (c, self.new)) result (again_numbered self.old process.now) }
     {
         let process = self.process(process)?;
         Ok(Command::Again { process })
-    }
-
-    /// The command that a line says, with numbers for its names.
-    #[inline(never)]
-    #[tactic(auto, unfolding(crate::specs::Scripts::numbered))]
-    pub(crate) fn number(&mut self, said: Said) -> Result<Command, Stop>
-        ensures { Answers (λ c. (c, self.new)) result (numbered self.old said) }
-    {
-        match said {
-            Said::Contract { name, rows } => self.number_contract(&name, &rows),
-            Said::Process { process } => self.number_process(&process),
-            Said::Wire {
-                process,
-                first,
-                peer,
-                second,
-                arena,
-                contract,
-            } => self.number_wire(&process, &first, &peer, &second, arena, &contract),
-            Said::Open {
-                process,
-                first,
-                second,
-                arena,
-                contract,
-            } => self.number_open(&process, &first, &second, arena, &contract),
-            Said::Alloc {
-                process,
-                block,
-                bytes,
-                arena,
-            } => self.number_alloc(&process, &block, bytes, arena),
-            Said::Split {
-                process,
-                block,
-                at,
-                tail,
-            } => self.number_split(&process, &block, at, &tail),
-            Said::Read {
-                process,
-                block,
-                at,
-                len,
-            } => self.number_read(&process, &block, at, len),
-            Said::Write {
-                process,
-                block,
-                at,
-                bytes,
-            } => self.number_write(&process, &block, at, bytes),
-            Said::Give {
-                process,
-                endpoint,
-                tag,
-                blocks,
-            } => self.number_give(&process, &endpoint, tag, &blocks),
-            Said::Take {
-                process,
-                endpoint,
-                blocks,
-            } => self.number_take(&process, &endpoint, &blocks),
-            Said::Await {
-                process,
-                endpoint,
-                blocks,
-            } => self.number_await(&process, &endpoint, &blocks),
-            Said::Free { process, block } => self.number_free(&process, &block),
-            Said::Close { process, endpoint } => self.number_close(&process, &endpoint),
-            Said::Exit { process, budget } => self.number_exit(&process, budget),
-            Said::Kill {
-                process,
-                victim,
-                budget,
-            } => self.number_kill(&process, &victim, budget),
-            Said::Glance { process, other } => self.number_glance(&process, &other),
-            Said::Again { process } => self.number_again(&process),
-        }
     }
 }

@@ -1,66 +1,40 @@
 //! How a script is read.
 ghost use Rattle.std.specs.Prelude.{◌≡◌, ◌≤◌, ◌==◌, length};
+ghost use Rattle.xh_script.specs.Numbering.{is_head_command};
 ghost use Rattle.xh_script.specs.Steps.{Answers};
-ghost use Rattle.xh_script.specs.Scripts.{is_head, with_line, with_said, at_line, after_line, after_lines, nothing_read, script_of, told, Gives};
+ghost use Rattle.xh_script.specs.Scripts.{with_line, at_line, after_line, after_lines, nothing_read, script_of, told, Gives};
 ghost use Rattle.std.specs.List.{slice_split};
 
-use crate::line::said_at;
+use crate::line::command_at;
 use crate::pieces::pieces;
 use crate::reading::Reading;
-use crate::{Command, Fault, Kind, Line, Said, Script, Stop};
+use crate::{Command, Fault, Kind, Line, Script, Stop};
 use std::alloc::Global;
 
 /// The most bytes of a script.
 pub const SCRIPT_LIMIT: usize = 1_048_576;
 
-fn is_head(said: &Said) -> bool
-    ensures { result ≡ is_head said.now }
+fn is_head(command: &Command) -> bool
+    ensures { result ≡ is_head_command command.now }
 {
-    match said {
-        Said::Contract { .. } => true,
-        Said::Process { .. } => true,
-        Said::Wire { .. } => true,
-        Said::Open { .. } => false,
-        Said::Alloc { .. } => false,
-        Said::Split { .. } => false,
-        Said::Read { .. } => false,
-        Said::Write { .. } => false,
-        Said::Give { .. } => false,
-        Said::Take { .. } => false,
-        Said::Await { .. } => false,
-        Said::Free { .. } => false,
-        Said::Close { .. } => false,
-        Said::Exit { .. } => false,
-        Said::Kill { .. } => false,
-        Said::Glance { .. } => false,
-        Said::Again { .. } => false,
-    }
+    matches!(
+        command,
+        Command::Contract { .. } | Command::Process { .. } | Command::Wire { .. }
+    )
 }
 
 /// Adds a command.
 #[tactic(auto, unfolding(crate::specs::Scripts::with_line))]
-fn add_line(reading: &mut Reading, number: u32, head: bool, command: Command) -> Result<(), Stop>
-    ensures { Answers (λ _. reading.new) result (with_line reading.old number head command) }
+fn add_line(reading: &mut Reading, number: u32, command: Command) -> Result<(), Stop>
+    ensures { Answers (λ _. reading.new) result (with_line reading.old number command) }
 {
     if reading.lines.len() >= 4096 {
         return Err(Stop::Bad(Kind::TooLong));
     }
+    let head = is_head(&command);
     reading.lines.push(Line { number, command })?;
     reading.begun = reading.begun || !head;
     Ok(())
-}
-
-/// Adds what a line says.
-#[tactic(auto, unfolding(crate::specs::Scripts::with_said), using(crate::proofs::Readings::stops_then))]
-fn add_said(reading: &mut Reading, number: u32, said: Said) -> Result<(), Stop>
-    ensures { Answers (λ _. reading.new) result (with_said reading.old number said) }
-{
-    let head = is_head(&said);
-    if head && reading.begun {
-        return Err(Stop::Bad(Kind::LateHead));
-    }
-    let command = reading.number(said)?;
-    add_line(reading, number, head, command)
 }
 
 /// Reads one more line.
@@ -68,9 +42,9 @@ fn add_said(reading: &mut Reading, number: u32, said: Said) -> Result<(), Stop>
 fn add_text(alloc: Global, reading: &mut Reading, number: u32, line: &[u8]) -> Result<(), Stop>
     ensures { Answers (λ _. reading.new) result (after_line reading.old number line.now) }
 {
-    match said_at(alloc, line)? {
+    match command_at(alloc, reading, line)? {
         None => Ok(()),
-        Some(said) => add_said(reading, number, said),
+        Some(command) => add_line(reading, number, command),
     }
 }
 

@@ -1,9 +1,12 @@
-//! What a line says.
+//! What a line says: the language in which the grammar speaks.
 use crate::Name;
 use arrayvec::ArrayVec;
 use xh_model::Row;
 
 /// What a line says, with names as they stand.
+///
+/// The grammar of the contracts speaks of this; the reader goes from the words of a line to its
+/// command at once.
 #[derive(Debug, Drop)]
 pub enum Said {
     Contract {

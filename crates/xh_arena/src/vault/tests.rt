@@ -1,1 +1,126 @@
 //! A vault's calls with figures.
+ghost use Rattle.std.specs.Prelude.{◌≡◌};
+
+use crate::{Fits, Lot, Refused, Tally, Vault};
+use std::alloc::Global;
+use std::process::Abort;
+
+#[derive(Default, Drop)]
+struct Any {
+    seen: u32,
+}
+
+impl Fits for Any {
+    ghost use Rattle.std.specs.Prelude.{nat_le};
+
+    ghost is_fit = { λ any len. nat_le any.seen len };
+
+    fn fits(&self, len: u32) -> bool {
+        self.seen <= len
+    }
+}
+
+/// A vault with its first two lots and its two tallies.
+#[derive(Drop)]
+struct Hand {
+    vault: Vault,
+    first: Lot<Any>,
+    second: Lot<Any>,
+    one: Tally,
+    two: Tally,
+    ghost lots: { (first.id ≡ vault.id) × (second.id ≡ vault.id) × (first.len ≡ 0) × (second.len ≡ 0) },
+    ghost tallies: { (one.id ≡ vault.id) × (two.id ≡ vault.id) },
+}
+
+fn dealt(rt: &impl Abort, alloc: Global) -> Hand {
+    let Ok((vault, mut lots, mut tallies)) = Vault::new::<Any>(alloc, 64, 4, 80, 2) else {
+        panic!(rt; "no vault");
+    };
+    let first = lots.remove(0);
+    let second = lots.remove(0);
+    let one = tallies.remove(0);
+    let two = tallies.remove(0);
+    Hand {
+        vault,
+        first,
+        second,
+        one,
+        two,
+    }
+}
+
+#[test]
+fn worn_vault(rt: HostRuntime) {
+    let Hand {
+        mut vault,
+        mut first,
+        mut second,
+        mut one,
+        mut two,
+    } = dealt(&rt, rt.alloc());
+    assert_eq!(rt; (first.record(), second.record()), (0, 1));
+    assert_eq!(rt; vault.size(), 64);
+    let Ok(start) = vault.carve(&mut first, &mut one, 64) else {
+        panic!(rt; "no room");
+    };
+    assert_eq!(rt; start, 0);
+    vault.give_back(&mut first, &mut one);
+    assert!(rt; matches!(vault.carve(&mut second, &mut two, 32), Err(Refused::Worn)));
+    assert_eq!(rt; (one.taken(), one.back()), (64, 64));
+    assert_eq!(rt; (two.taken(), two.back()), (0, 0));
+    assert_eq!(rt; (vault.wear(), vault.handed_out()), (64, 0));
+    assert_eq!(rt; vault.holes(), [(0, 64)].as_slice());
+    let _name = vault.name();
+    vault.collect(one);
+    vault.collect(two);
+}
+
+#[test]
+fn a_lot_is_cut(rt: HostRuntime) {
+    let Hand {
+        mut vault,
+        mut first,
+        mut second,
+        mut one,
+        two: _,
+    } = dealt(&rt, rt.alloc());
+    let Ok(_start) = vault.carve(&mut first, &mut one, 48) else {
+        panic!(rt; "no room");
+    };
+    vault.cut(&mut first, &mut second, 16);
+    vault.audit(&mut first);
+    vault.audit(&mut second);
+    assert_eq!(rt; vault.extent(first.record()), Some((0, 16)));
+    assert_eq!(rt; vault.extent(second.record()), Some((16, 32)));
+    assert_eq!(rt; (first.len(), second.len()), (16, 32));
+    first.body_mut().seen = 3;
+    assert_eq!(rt; first.body().seen, 3);
+    assert!(rt; first.body().fits(16));
+}
+
+#[test]
+fn workers_are_1_to_33(rt: HostRuntime) {
+    assert!(rt;
+        matches!(
+            Vault::new::<Any>(rt.alloc(), 64, 4, 80, 0),
+            Err(Refused::BadSize)
+        )
+    );
+    assert!(rt;
+        matches!(
+            Vault::new::<Any>(rt.alloc(), 64, 4, 80, 34),
+            Err(Refused::BadSize)
+        )
+    );
+}
+
+/// With any growth refused, a new vault is either there or out of memory.
+#[test]
+fn growths_of_new(rt: HostRuntime) {
+    match Vault::new::<Any>(rt.alloc(), 64, 4, 80, 2) {
+        Ok((vault, lots, tallies)) => {
+            assert_eq!(rt; (vault.handed_out(), lots.len(), tallies.len()), (0, 4, 2))
+        }
+        Err(refused) => assert_eq!(rt; refused, Refused::OutOfMemory),
+    }
+}

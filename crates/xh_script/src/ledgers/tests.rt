@@ -4,7 +4,8 @@ use crate::read_script;
 use arrayvec::ArrayVec;
 use std::test::Fail;
 
-const TEXT: &str = "arena 0 256 128 1 128 0\nprocess a running 1 32\nprocess b ended 3 96\nowned 128\nflight 0\nout 128\n";
+const TEXT: &str =
+    "arena 0 256 128 1 128 0\nprocess a running 1 32\nprocess b ended 3 96\nowned 128\nflight 0\nout 128\n";
 
 fn arenas() -> ArrayVec<ArenaLine, 8> {
     let mut arenas = ArrayVec::new();
@@ -49,7 +50,12 @@ fn one_ledger(rt: HostRuntime) -> Result<(), Fail> {
         flight: 0,
         out: 128,
     };
-    assert!(rt; ledger.places.iter().all(|line| usize::from(line.place) < names.len()));
+    assert!(rt;
+        ledger
+            .places
+            .iter()
+            .all(|line| usize::from(line.place) < names.len())
+    );
     let mut out = Vec::new(alloc);
     let ended = write_ledger(&mut Watched::new(&mut out), &ledger, names);
     assert!(rt; ended == Ok(()));

@@ -35,8 +35,16 @@ const HOSTILE: [(&str, u32, Kind); 33] = [
     ("process a\na alloc x 1 0\nprocess b", 3, Kind::LateHead),
     ("contract k 0:1:0:1 0:2:1:0", 1, Kind::BadContract),
     ("contract k 0:1:0:1 0:1:0:2", 1, Kind::BadContract),
-    ("process a\ncontract k 0:1:0:1\na open e f 0 j", 3, Kind::BadContract),
-    ("contract k 0:1:0:1\ncontract k 0:1:0:1", 2, Kind::BadContract),
+    (
+        "process a\ncontract k 0:1:0:1\na open e f 0 j",
+        3,
+        Kind::BadContract,
+    ),
+    (
+        "contract k 0:1:0:1\ncontract k 0:1:0:1",
+        2,
+        Kind::BadContract,
+    ),
     ("a free x\ncontract k 0:1:0:1 0:2:1:0", 2, Kind::LateHead),
 ];
 
@@ -77,39 +85,94 @@ fn numbered(
 fn limits_of_scripts(rt: HostRuntime) -> Result<(), Fail> {
     let alloc = rt.alloc();
     let long = repeated(alloc, "#", "x", 256)?;
-    assert!(rt; read_script(alloc, long.as_bytes()).err() == Some(Fault::Script { line: 1, kind: Kind::LongLine }));
+    assert!(rt;
+        read_script(alloc, long.as_bytes()).err()
+            == Some(Fault::Script {
+                line: 1,
+                kind: Kind::LongLine
+            })
+    );
     let fits = repeated(alloc, "#", "x", 255)?;
     assert!(rt; read_script(alloc, fits.as_bytes()).is_ok());
     let commands = repeated(alloc, "process a\n", "a free x\n", 4096)?;
-    assert!(rt; read_script(alloc, commands.as_bytes()).err() == Some(Fault::Script { line: 4097, kind: Kind::TooLong }));
+    assert!(rt;
+        read_script(alloc, commands.as_bytes()).err()
+            == Some(Fault::Script {
+                line: 4097,
+                kind: Kind::TooLong
+            })
+    );
     let processes = numbered(alloc, "", "process p", 65, "")?;
-    assert!(rt; read_script(alloc, processes.as_bytes()).err() == Some(Fault::Script { line: 65, kind: Kind::TooLong }));
+    assert!(rt;
+        read_script(alloc, processes.as_bytes()).err()
+            == Some(Fault::Script {
+                line: 65,
+                kind: Kind::TooLong
+            })
+    );
     let blocks = numbered(alloc, "process a\n", "a alloc x", 257, " 1 0")?;
-    assert!(rt; read_script(alloc, blocks.as_bytes()).err() == Some(Fault::Script { line: 258, kind: Kind::TooLong }));
+    assert!(rt;
+        read_script(alloc, blocks.as_bytes()).err()
+            == Some(Fault::Script {
+                line: 258,
+                kind: Kind::TooLong
+            })
+    );
     let contracts = numbered(alloc, "", "contract k", 17, " 0:1:0:1")?;
-    assert!(rt; read_script(alloc, contracts.as_bytes()).err() == Some(Fault::Script { line: 17, kind: Kind::TooLong }));
+    assert!(rt;
+        read_script(alloc, contracts.as_bytes()).err()
+            == Some(Fault::Script {
+                line: 17,
+                kind: Kind::TooLong
+            })
+    );
     let bytes = repeated(alloc, "", "#", 1_048_577)?;
-    assert!(rt; read_script(alloc, bytes.as_bytes()).err() == Some(Fault::Script { line: 0, kind: Kind::TooLong }));
+    assert!(rt;
+        read_script(alloc, bytes.as_bytes()).err()
+            == Some(Fault::Script {
+                line: 0,
+                kind: Kind::TooLong
+            })
+    );
     Ok(())
 }
 
 /// One line of each form, among lines that are skipped.
-const FORMS: &str = "# forms\n\ncontract k 0:1:0:1 1:2:1:0\nprocess a\nprocess b\nwire a e b f 0\nwire a e b f 0 k\na open m n 0\na open m n 1 k\na alloc x 40 0\na split x 16 t\na read x 15 2\na write x 0 beef\na give e 7 x t\na take e\nb await f p q\na free x\na close e\na exit\na exit 1\nb kill a\nb kill c 4096\nc glance a\nb again";
+const FORMS: &str =
+    "# forms\n\ncontract k 0:1:0:1 1:2:1:0\nprocess a\nprocess b\nwire a e b f 0\nwire a e b f 0 k\na open m n 0\na open m n 1 k\na alloc x 40 0\na split x 16 t\na read x 15 2\na write x 0 beef\na give e 7 x t\na take e\nb await f p q\na free x\na close e\na exit\na exit 1\nb kill a\nb kill c 4096\nc glance a\nb again";
 
 /// What these lines are, with numbers for their names.
 const COMMANDS: [(u32, &str); 22] = [
     (3, "Contract { contract: 0 }"),
     (4, "Process { process: 0 }"),
     (5, "Process { process: 1 }"),
-    (6, "Wire { process: 0, first: 0, peer: 1, second: 0, arena: 0, contract: None }"),
-    (7, "Wire { process: 0, first: 0, peer: 1, second: 0, arena: 0, contract: Some(0) }"),
-    (8, "Open { process: 0, first: 1, second: 2, arena: 0, contract: None }"),
-    (9, "Open { process: 0, first: 1, second: 2, arena: 1, contract: Some(0) }"),
+    (
+        6,
+        "Wire { process: 0, first: 0, peer: 1, second: 0, arena: 0, contract: None }",
+    ),
+    (
+        7,
+        "Wire { process: 0, first: 0, peer: 1, second: 0, arena: 0, contract: Some(0) }",
+    ),
+    (
+        8,
+        "Open { process: 0, first: 1, second: 2, arena: 0, contract: None }",
+    ),
+    (
+        9,
+        "Open { process: 0, first: 1, second: 2, arena: 1, contract: Some(0) }",
+    ),
     (10, "Alloc { process: 0, block: 3, bytes: 40, arena: 0 }"),
     (11, "Split { process: 0, block: 3, at: 16, tail: 4 }"),
     (12, "Read { process: 0, block: 3, at: 15, len: 2 }"),
-    (13, "Write { process: 0, block: 3, at: 0, bytes: [190, 239] }"),
-    (14, "Give { process: 0, endpoint: 0, tag: 7, blocks: [3, 4] }"),
+    (
+        13,
+        "Write { process: 0, block: 3, at: 0, bytes: [190, 239] }",
+    ),
+    (
+        14,
+        "Give { process: 0, endpoint: 0, tag: 7, blocks: [3, 4] }",
+    ),
     (15, "Take { process: 0, endpoint: 0, blocks: [] }"),
     (16, "Await { process: 1, endpoint: 0, blocks: [1, 2] }"),
     (17, "Free { process: 0, block: 3 }"),

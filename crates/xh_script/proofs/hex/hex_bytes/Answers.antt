@@ -1,5 +1,4 @@
-use Rattle.std.proofs.Common.{◌≡◌, ◌≤◌, ◌+◌, ◌*◌, ◌++◌, [], drop, length, sym, ap, ◌∙◌, arith, append_assoc, append-nil, length-append, length-drop}
-use Rattle.xh_script.specs.Words.{hex_bytes}
+use Rattle.std.proofs.Common.{◌≤◌, ◌+◌, ◌*◌, ◌++◌, drop, length, sym, ap, ◌∙◌, arith, append_assoc, append-nil, length-append, length-drop}
 use Rattle.xh_script.proofs.WordLemmas.{hex_at, hex_none}
 use Rattle.xh_script.proofs.hex.hex_bytes.Goals as goal
 

@@ -1,7 +1,6 @@
-use Rattle.std.proofs.Common.{◌≡◌, ◌++◌, ◌+◌, [], map, drop, get_or, sym, ap, subst, ◌∙◌, append_assoc}
+use Rattle.std.proofs.Common.{◌++◌, sym, ap, subst, ◌∙◌, append_assoc}
 use Rattle.std.proofs.lemmas.Result.{err_from_is_err_and}
 use Rattle.xh_script.specs.Watching.{WritesFront}
-use Rattle.xh_script.specs.Texts.{arena_text, arena_texts}
 use Rattle.xh_script.proofs.Writings.{Writes-then, WritesFront-then, WritesFront-stops, arenas_at}
 use Rattle.xh_script.proofs.ledgers.put_arenas.Goals as goal
 

@@ -1,7 +1,7 @@
-use Rattle.std.proofs.Common.{◌≡◌, ◌++◌, ◌+◌, [], map, drop, get_or, sym, ap, subst, ◌∙◌, append_assoc}
+use Rattle.std.proofs.Common.{ap, subst, ◌∙◌}
 use Rattle.std.proofs.lemmas.Result.{err_from_is_err_and}
 use Rattle.xh_script.specs.Watching.{Writes, WritesFront}
-use Rattle.xh_script.specs.Texts.{arena_texts, place_texts, sums_text}
+use Rattle.xh_script.specs.Texts.{arena_texts, place_texts}
 use Rattle.xh_script.proofs.Writings.{WritesOrFails-then, WritesFront-then, WritesFront-stops}
 use Rattle.xh_script.proofs.ledgers.write_ledger.Goals as goal
 

@@ -1,4 +1,4 @@
-use Rattle.std.proofs.Common.{◌≡◌, ℕ, List, ◌++◌, map, drop, length}
+use Rattle.std.proofs.Common.{◌≡◌, ℕ, List, ◌++◌, map, drop}
 use Rattle.std.specs.List.{concat}
 use Rattle.xh_script.specs.Watching.{Writes}
 use Rattle.xh_script.proofs.put.put_all.Given as goal

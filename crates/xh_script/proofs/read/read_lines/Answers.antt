@@ -1,4 +1,4 @@
-use Rattle.std.proofs.Common.{◌≡◌, ◌<◌, ◌≤◌, ◌+◌, ◌==◌, [], arith, sym, ap, ◌∙◌, subst, get_or, length, map}
+use Rattle.std.proofs.Common.{◌<◌, ◌+◌, ◌==◌, [], arith, sym, ap, ◌∙◌, subst, get_or, length}
 use Rattle.std.specs.List.{slice_split}
 use Rattle.std.proofs.Math.ListN.{get_or-map}
 use Rattle.std.proofs.lemmas.Result.{err_from_is_err_and}

@@ -1,4 +1,4 @@
-use Rattle.std.proofs.Common.{◌≡◌, ◌≤◌, ◌+◌, ◌==◌, [], map, drop, length}
+use Rattle.std.proofs.Common.{◌≡◌, ◌≤◌, ◌+◌, ◌==◌, map, drop, length}
 use Rattle.std.specs.List.{slice_split}
 use Rattle.xh_script.specs.Scripts.{after_lines, nothing_read}
 use Rattle.xh_script.proofs.read.read_lines.Given as goal

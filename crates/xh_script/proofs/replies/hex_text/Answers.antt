@@ -1,4 +1,4 @@
-use Rattle.std.proofs.Common.{◌≡◌, ◌+◌, ◌*◌, ◌++◌, ap, ◌∙◌, arith, append_assoc, length-append}
+use Rattle.std.proofs.Common.{◌++◌, ap, ◌∙◌, arith, append_assoc, length-append}
 use Rattle.xh_script.proofs.Writings.{hex_text_at}
 use Rattle.xh_script.proofs.replies.hex_text.Goals as goal
 

@@ -1,6 +1,5 @@
-use Rattle.std.proofs.Common.{◌≡◌, ◌++◌, ap, subst, ◌∙◌}
+use Rattle.std.proofs.Common.{◌∙◌}
 use Rattle.std.proofs.lemmas.Result.{err_from_is_err_and}
-use Rattle.xh_script.specs.Watching.{Writes, WritesFront}
 use Rattle.xh_script.specs.Texts.{taken_text}
 use Rattle.xh_script.proofs.Writings.{WritesOrFails-then, WritesFront-then, WritesFront-stops}
 use Rattle.xh_script.proofs.replies.put_taken.Goals as goal

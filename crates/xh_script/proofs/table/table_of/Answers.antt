@@ -1,4 +1,4 @@
-use Rattle.std.proofs.Common.{◌≡◌, true, false, refl, ap}
+use Rattle.std.proofs.Common.{◌≡◌, true, false, refl}
 use Rattle.xh_script.specs.Tables.{is_table}
 use Rattle.xh_script.proofs.TableLemmas.{table_true, table_false}
 use Rattle.xh_script.proofs.table.table_of.Goals as goal

@@ -1,7 +1,7 @@
 use Rattle.std.proofs.Common.{◌≤◌, refl, arith, rules}
 use Rattle.std.proofs.lemmas.List.{length-replicate}
 use Rattle.xh_model.specs.Cover.{AreLimits}
-use Rattle.xh_model.proofs.Lengths.{lengths_new}
+use Rattle.xh_model.proofs.Lengths.{lengths_new, none_of}
 use Rattle.xh_arena.proofs.Kept.{kept-lawful}
 use Rattle.xh_arena.proofs.Steps.{new-kept, new-cover}
 use Rattle.xh_arena.proofs.arena.Arena.new.Goals as goal
@@ -28,3 +28,6 @@ returns-clause-lawful c = kept-lawful _ _ _ _ _ _ (invariant_of-result c).kept
 
 pub returns-clause-lengths : goal.returns-clause-lengths
 returns-clause-lengths c = rw (c.in-Ok.ensures, length-replicate, c.from.ensures) (lengths_new _ c.args.size (new-cover c.args.size c.args.records))
+
+pub returns-clause-empty : goal.returns-clause-empty
+returns-clause-empty c = λ r. rw (c.in-Ok.ensures, new-cover) (none_of r c.args.size)

@@ -1,0 +1,181 @@
+-- The closed table: its words, the lots at home, and those that the seats had.
+use Rattle.std.proofs.Common.{◌≡◌, ℕ, zero, suc, ◌<◌, ◌≤◌, Bool, List, [], ◌∷◌, ◌++◌, length, take, get_or, sym, refl, ap, ◌∙◌, subst, inl, inr, ⊎_elim, arith, cond, ne_eqb, rules}
+use Rattle.std.specs.Prelude.{Option, Some, None, slice_get}
+use Rattle.std.specs.Option.{option_or, IsSome}
+use Rattle.atomic_table.proofs.Lists.{at_index}
+use mathlib.Core.Option.{some, some-injective, some-ne-none}
+use mathlib.Core.Logic.{dite}
+use native.Mathlib.Decide.{ℕ_discrete}
+use lib.ListN.{get_elem?}
+use Rattle.atomic_table.specs.Table.{State, Final, Seen}
+use Rattle.xh_arena.specs.Views.{LotOf}
+use Rattle.xh_model.specs.declared.event.Holder.{Holder}
+use Rattle.xh_model.specs.declared.event.Holder.TheVariants.{Process, Direction}
+use Rattle.xh_model.specs.Slots.{index_of}
+use Rattle.xh_model.specs.Words.{Ownership, IsHeldBy, word_of, place_of, number_of}
+use Rattle.xh_model.proofs.Words.{index_back}
+use Rattle.xh_records.specs.declared.shape.Shape.{Shape}
+use Rattle.xh_records.specs.declared.view.View.{View}
+use Rattle.xh_records.specs.Showing.{Among, Sits, Owns, IsAway, ViewFits, Shows, Shown, spent}
+use Rattle.xh_records.specs.Seats.{Held, keys, owned_by, indices, lot_at, lot_in, slot_at, or_else, view_of, IsSmall, IsGathered, AllSit, Ends, EndsAs}
+use Rattle.xh_records.proofs.Keeps.{among_either, among_front, among_back, in_range, is_there, one_holder, same_place, never}
+use Rattle.xh_records.proofs.Lists.{among_owned, none_or_some, elem_slice, slice_elem}
+use Rattle.xh_records.proofs.Numbered.{among_map}
+
+-- one more seat is gathered
+pub gathers : {B : Type 0} (m : ℕ) (seats : List (Held B)) (x : Held B) (v v' : View) (held held' : List (Option (LotOf B))) → get_elem? seats m ≡ some x → IsGathered (suc m) seats v held → v'.processes ≡ v.processes ++ x.process ∷ [] → v'.records ≡ v.records ++ (view_of x).records → length held' ≡ length held
+    → ((r : ℕ) → Among (indices x) r → (l : LotOf B) × (lot_in r x ≡ Some l)) → ((r : ℕ) → r < length held → slot_at held' r ≡ or_else (lot_in r x) (slot_at held r)) → IsGathered m seats v' held'
+gathers {B} m seats x v v' held held' at old places records long has fill = record {
+  sits = λ k y there le. dite (ℕ_discrete k m)
+      (λ e. subst (λ (l : List ℕ). Among l y.process) (sym places) (among_back v.processes (x.process ∷ []) y.process (inl (ap (λ (z : Held B). z.process) (same k y e there)))))
+      (λ n. subst (λ (l : List ℕ). Among l y.process) (sym places) (among_front v.processes (x.process ∷ []) y.process (old.sits k y there (omega arith))));
+  records = λ r p owns. ⊎_elim
+      (λ (a : Owns v r p). let t = old.records r p a in (t.0, t.1, t.2, let le : suc m ≤ t.0 = t.3 in omega arith, t.4))
+      (λ (b : Among (view_of x).records (r, p)). (m, x, at, omega arith, b))
+      (among_either v.records (view_of x).records (r, p) (subst (λ (l : List (ℕ × ℕ)). Among l (r, p)) records owns));
+  all_records = λ k r p y there le owns. dite (ℕ_discrete k m)
+      (λ e. subst (λ (l : List (ℕ × ℕ)). Among l (r, p)) (sym records) (among_back v.records (view_of x).records (r, p) (subst (λ (z : Held B). Among (view_of z).records (r, p)) (same k y e there) owns)))
+      (λ n. subst (λ (l : List (ℕ × ℕ)). Among l (r, p)) (sym records) (among_front v.records (view_of x).records (r, p) (old.all_records k r p y there (omega arith) owns)));
+  lots = λ r l below e. let inside : r < length held = omega arith in ⊎_elim
+      (λ (a : lot_in r x ≡ None). let t = old.lots r l inside (sym (ap (λ (z : Option (LotOf B)). or_else z (slot_at held r)) a) ∙ sym (fill r inside) ∙ e) in (t.0, t.1, t.2, let le : suc m ≤ t.0 = t.3 in omega arith, t.4))
+      (λ (b : (l' : LotOf B) × (lot_in r x ≡ Some l')). (m, x, at, omega arith, b.1 ∙ sym (ap (λ (z : Option (LotOf B)). or_else z (slot_at held r)) b.1) ∙ sym (fill r inside) ∙ e))
+      (none_or_some (lot_in r x));
+  full = λ k r y there le h. dite (ℕ_discrete k m)
+      (λ e. subst (λ (z : Held B). (l : LotOf B) × (lot_in r z ≡ Some l)) (sym (same k y e there)) (has r (subst (λ (z : Held B). Among (indices z) r) (same k y e there) h)))
+      (λ n. old.full k r y there (omega arith) h);
+  all_lots = λ k r y l there le e below. let inside : r < length held = omega arith in ⊎_elim
+      (λ (a : lot_in r x ≡ None). dite (ℕ_discrete k m)
+      (λ q. let f : None ≡ Some l = sym a ∙ ap (λ (z : Held B). lot_in r z) (sym (same k y q there)) ∙ e in absurd (cc))
+      (λ n. let t = old.all_lots k r y l there (omega arith) e inside in (t.0, fill r inside ∙ ap (λ (z : Option (LotOf B)). or_else z (slot_at held r)) a ∙ t.1)))
+      (λ (b : (l' : LotOf B) × (lot_in r x ≡ Some l')). (b.0, fill r inside ∙ ap (λ (z : Option (LotOf B)). or_else z (slot_at held r)) b.1))
+      (none_or_some (lot_in r x));
+}
+  where
+    same : (k : ℕ) (y : Held B) → k ≡ m → get_elem? seats k ≡ some y → y ≡ x
+    same k y e there = some-injective y x (sym there ∙ ap (get_elem? seats) e ∙ at)
+
+-- none is gathered yet
+pub gathers_none : {B : Type 0} (seats : List (Held B)) (m : ℕ) (held : List (Option (LotOf B))) → length seats ≤ m → ((r : ℕ) → r < length held → slot_at held r ≡ None) → IsGathered m seats spent held
+gathers_none {B} seats m held past none_there = record {
+  sits = λ k y there le. absurd (let i = in_range seats k y there in omega arith);
+  records = λ r p owns. absurd owns;
+  all_records = λ k r p y there le owns. absurd (let i = in_range seats k y there in omega arith);
+  lots = λ r l below e. let f : None ≡ Some l = sym (none_there r below) ∙ e in absurd (cc);
+  full = λ k r y there le h. absurd (let i = in_range seats k y there in omega arith);
+  all_lots = λ k r y l there le e below. absurd (let i = in_range seats k y there in omega arith);
+}
+
+pub value_of : {A : Type 0} (l : List A) (i : ℕ) (d a : A) → get_elem? l i ≡ some a → get_or l i d ≡ a
+value_of [] i d a e = absurd (some-ne-none a (sym e))
+value_of (x ∷ xs) zero d a e = some-injective x a e
+value_of (x ∷ xs) (suc i) d a e = value_of xs i d a e
+
+owned_back : (q : ℕ) (xs : List ℕ) (r p : ℕ) → Among (owned_by q xs) (r, p) → Among xs r × (p ≡ q)
+owned_back q [] r p h = absurd h
+owned_back q (x ∷ xs) r p h = ⊎_elim (λ (e : (r, p) ≡ (x, q)). (inl (ap (λ (z : ℕ × ℕ). z.0) e), ap (λ (z : ℕ × ℕ). z.1) e)) (λ (t : Among (owned_by q xs) (r, p)). let u = owned_back q xs r p t in (inr u.0, u.1)) h
+
+has_key : {L : Type 0} (r : ℕ) (lots : List (ℕ × L)) (l : L) → lot_at r lots ≡ Some l → Among (keys lots) r
+has_key r [] l = λ e. absurd (cc)
+has_key {L} r (y ∷ ys) l = dite (ℕ_discrete y.0 r) (λ same e. inl (sym same)) (λ n. subst (λ (b : Bool). cond b (Some y.1) (lot_at r ys) ≡ Some l → Among (keys (y ∷ ys)) r) (sym (ne_eqb y.0 r n)) (λ (e : lot_at r ys ≡ Some l). inr (has_key r ys l e)))
+
+has_index : {B : Type 0} (x : Held B) (k : ℕ) (l : LotOf B) → IsSmall x.shape → lot_in k x ≡ Some l → Among (indices x) k
+has_index x k l small e = let n : ℕ = x.shape.records in
+    subst (λ (z : ℕ). Among (indices x) z) (index_back n k small.0 small.1) (among_map (index_of n) (keys x.lots) (number_of n k) (has_key (number_of n k) x.lots l e))
+
+pub take_one_more : {A : Type 0} (l : List A) (i : ℕ) (a : A) → get_elem? l i ≡ some a → take (suc i) l ≡ take i l ++ a ∷ []
+take_one_more [] i a e = absurd (some-ne-none a (sym e))
+take_one_more (x ∷ xs) zero a e = λ k. some-injective x a e k ∷ []
+take_one_more {A} (x ∷ xs) (suc i) a e = ap (λ (z : List A). x ∷ z) (take_one_more xs i a e)
+
+module _ {B : Type 0} (fits : B → ℕ → Bool) (s : Shape) (id : ℕ) (v : View) (ws : List ℕ) (xs : List (Option (LotOf B))) (seats : List (Held B)) (held : List (Option (LotOf B)))
+    (final : Final (Seen (Shown fits s) id v) ws xs) (gathered : IsGathered 0 seats v held) (long : length held ≡ length xs) (small : IsSmall s) (own : (j : ℕ) (x : Held B) → slice_get seats j ≡ Some x → x.shape ≡ s) (all : AllSit s.places seats) where
+  abbrev pub t : State (Option (LotOf B)) View
+  t = final.0
+
+  abbrev pub o : Ownership
+  o = final.1.0.0
+
+  shown : Shows fits s o t.words t.homes t.views
+  shown = final.1.0.1
+
+  fit : ViewFits s o v
+  fit = shown.views_fit id v final.1.1
+
+  count : length o ≡ length held
+  count = sym shown.homes_long ∙ final.3 ∙ sym long
+
+  -- a seat that has a lot has its record
+  by_seat : (j k : ℕ) (x : Held B) (l : LotOf B) → get_elem? seats j ≡ some x → lot_in k x ≡ Some l → IsHeldBy o k (Some (Process x.process))
+  by_seat j k x l at e =
+      let few : IsSmall x.shape = subst IsSmall (sym (own j x (elem_slice seats j x at))) small in
+      let mine = gathered.all_records j k x.process x at (omega arith) (among_owned x.process (indices x) k (has_index x k l few e)) in
+      (fit.is_owner k x.process mine).0
+
+  -- and a record of a process is in its seat, with the lot that was taken out
+  by_process : (k p : ℕ) → IsHeldBy o k (Some (Process p)) → (j : ℕ) × (x : Held B) × (get_elem? seats j ≡ some x) × (x.process ≡ p) × (l : LotOf B) × (lot_in k x ≡ Some l) × (slot_at held k ≡ Some l)
+  by_process k p is =
+      let at = shown.placed k p is in
+      let there = all (place_of p) at.0 in
+      let sits_there : Sits v there.1.process = gathered.sits there.0 there.1 (slice_elem seats there.0 there.1 there.2) (omega arith) in
+      let alone = shown.alone id there.1.process v final.1.1 sits_there in
+      let one : there.1.process ≡ p = alone.1 ∙ ap shown.process_at there.3 ∙ sym at.1 in
+      let sits : Sits v p = subst (λ (q : ℕ). Sits v q) one sits_there in
+      let owner = gathered.records k p (fit.owns_all k p is sits) in
+      let back = owned_back owner.1.process (indices owner.1) k p owner.4 in
+      let full = gathered.full owner.0 k owner.1 owner.2 (omega arith) back.0 in
+      let inside : k < length held = (let i = in_range o k (Some (Process p)) is in let e : length o ≡ length held = count in omega arith) in
+      let taken = gathered.all_lots owner.0 k owner.1 full.0 owner.2 (omega arith) full.1 inside in
+      let from = gathered.lots k taken.0 inside taken.1 in
+      let held_by = by_seat from.0 k from.1 taken.0 from.2 from.4 in
+      let same : from.1.process ≡ p = sym (same_place p from.1.process (ap word_of (one_holder o k (Some (Process p)) (Some (Process from.1.process)) is held_by))) in
+      (from.0, from.1, from.2, same, taken.0, from.4, taken.1)
+
+  not_taken : (k : ℕ) (h : Option Holder) → IsHeldBy o k h → IsAway h → slot_at held k ≡ None
+  not_taken k h is free = ⊎_elim (λ (e : slot_at held k ≡ None). e)
+      (λ (t : (l : LotOf B) × (slot_at held k ≡ Some l)). let from = gathered.lots k t.0 (let i = in_range o k h is in let e : length o ≡ length held = count in omega arith) t.1 in absurd (free from.1.process (one_holder o k h (Some (Process from.1.process)) is (by_seat from.0 k from.1 t.0 from.2 from.4))))
+      (none_or_some (slot_at held k))
+
+  free_away : IsAway None
+  free_away p e = let w : word_of None ≡ word_of (Some (Process p)) = ap word_of e in absurd (omega arith)
+
+  -- the lot of each record
+  pub ended : (k : ℕ) (h : Option Holder) → IsHeldBy o k h → (l : LotOf B) × (or_else (slot_at held k) (slot_at xs k) ≡ Some l) × EndsAs fits s seats k h l
+  ended k None is =
+      let home = shown.homes_are k None is in let lot = home.2 in
+      let at = final.4 k (Some lot.0) (home.1 ∙ ap some lot.1) in
+      (lot.0, ap (λ (z : Option (LotOf B)). or_else z (slot_at xs k)) (not_taken k None is free_away) ∙ value_of xs k None (Some lot.0) at, (lot.2, lot.3))
+  ended k (Some (Process p)) is = let t = by_process k p is in (t.4, ap (λ (z : Option (LotOf B)). or_else z (slot_at xs k)) t.6, (t.0, t.1, elem_slice seats t.0 t.1 t.2, t.3, t.5))
+  ended k (Some (Direction d)) is =
+      let home = shown.homes_are k (Some (Direction d)) is in let lot = home.2 in
+      let at = final.4 k (Some lot.0) (home.1 ∙ ap some lot.1) in
+      (lot.0, ap (λ (z : Option (LotOf B)). or_else z (slot_at xs k)) (not_taken k (Some (Direction d)) is (never d)) ∙ value_of xs k None (Some lot.0) at, (lot.2, lot.3))
+
+  pub some_lot : (k : ℕ) → k < length xs → (l : LotOf B) × (or_else (slot_at held k) (slot_at xs k) ≡ Some l)
+  some_lot k h = let there = is_there o k (let e : length o ≡ length held = count in omega arith) in let t = ended k there.0 there.1 in (t.0, t.1)
+
+  pub ends : (lots : List (LotOf B)) → length lots ≡ length xs → ((k : ℕ) (l : LotOf B) → get_elem? lots k ≡ some l → or_else (slot_at held k) (slot_at xs k) ≡ Some l) → Ends fits s seats ws lots
+  ends lots size are = record {
+    owners = o;
+    holders = shown.holders;
+    words_are = sym final.2 ∙ shown.words_are;
+    lots_long = size ∙ sym long ∙ sym count;
+    lots_are = λ k h l is at. let e = ended k h is in let f : Some e.0 ≡ Some l = sym e.1 ∙ are k l (slice_elem lots k l at) in let same : e.0 ≡ l = cc in subst (EndsAs fits s seats k h) same e.2;
+    held = λ j k x l at e. by_seat j k x l (slice_elem seats j x at) e;
+  }
+
+-- one more slot that has no lot
+pub none_more : {L : Type 0} (xs : List (Option L)) → ((r : ℕ) → slot_at xs r ≡ None) → (r : ℕ) → slot_at (xs ++ None ∷ []) r ≡ None
+none_more [] n zero = refl
+none_more [] n (suc r) = refl
+none_more (x ∷ xs) n zero = n zero
+none_more (x ∷ xs) n (suc r) = none_more xs (λ k. n (suc k)) r
+
+pub or_is : {L : Type 0} (a b : Option L) → option_or a b ≡ or_else a b
+or_is None b = refl
+or_is (Some x) b = refl
+
+pub read_is : {A : Type 0} (l : List A) (k : ℕ) (x d : A) → k < length l → x ≡ get_or l k x → get_or l k d ≡ x
+read_is l k x d h e = value_of l k d x (at_index l k x h e)
+
+pub is_some : {L : Type 0} (o : Option L) (l : L) → o ≡ Some l → IsSome o
+is_some o l e = subst IsSome (sym e) (search rules)

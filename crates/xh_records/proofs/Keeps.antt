@@ -1,0 +1,354 @@
+-- A step on one record's word keeps the rule.
+use Rattle.std.proofs.Common.{◌≡◌, ℕ, zero, suc, ◌+◌, ◌<◌, ◌≢◌, Bool, List, [], ◌∷◌, ◌++◌, map, length, set, get_or, eqb, sym, refl, ap, ◌∙◌, subst, ◌⊎◌, inl, inr, ⊎_elim, arith, length-set, ne_eqb, eq-eqb, cond}
+use Rattle.std.specs.Prelude.{Option, Some, None}
+use mathlib.Core.Option.{none, some, some-injective, some-ne-none}
+use mathlib.Core.Option as maybe
+use mathlib.Core.Logic.{dite}
+use native.Mathlib.Decide.{ℕ_discrete}
+use lib.ListN.{get_elem?}
+use lib.Seq.{map-set}
+use Rattle.atomic_table.specs.Table.{State, Me, Act, put_back, takes, gives, keeps, step, stepped, Allows}
+use Rattle.atomic_table.proofs.Lists.{at_set, set_here, set_else, set_again, at_map}
+use Rattle.xh_arena.specs.Views.{LotOf}
+use Rattle.xh_records.specs.declared.shape.Shape.{Shape}
+use Rattle.xh_records.specs.declared.view.View.{View}
+use Rattle.xh_model.specs.declared.event.Holder.{Holder}
+use Rattle.xh_model.specs.declared.event.Holder.TheVariants.{Process, Direction}
+use Rattle.xh_model.specs.Words.{Ownership, IsHeldBy, IsHolder, word_of, place_of}
+use Rattle.xh_model.proofs.Words.{word_injective}
+use Rattle.xh_records.specs.Steps.{took, gave, looked, aged, process_in}
+use prog.Atomic.{either}
+use Rattle.xh_records.specs.Showing.{Among, Sits, Owns, IsLotAt, IsAway, IsHomeLot, HomeFits, ViewFits, Shows, Shown, gained, lost, renewed, without}
+
+-- lists
+pub in_range : {A : Type 0} (l : List A) (i : ℕ) (a : A) → get_elem? l i ≡ some a → i < length l
+in_range [] i a e = absurd (some-ne-none a (sym e))
+in_range (x ∷ xs) zero a e = omega arith
+in_range (x ∷ xs) (suc i) a e = let h = in_range xs i a e in omega arith
+
+pub is_there : {A : Type 0} (l : List A) (i : ℕ) → i < length l → (a : A) × (get_elem? l i ≡ some a)
+is_there [] i h = absurd (omega arith)
+is_there (x ∷ xs) zero h = (x, refl)
+is_there (x ∷ xs) (suc i) h = is_there xs i (omega arith)
+
+pub get_or-map : {A : Type 0} (f : A → ℕ) (l : List A) (i d : ℕ) (a : A) → get_elem? l i ≡ some a → get_or (map f l) i d ≡ f a
+get_or-map f [] i d a e = absurd (some-ne-none a (sym e))
+get_or-map f (x ∷ xs) zero d a e = ap f (some-injective x a e)
+get_or-map f (x ∷ xs) (suc i) d a e = get_or-map f xs i d a e
+
+pub length-map_words : {A B : Type 0} (f : A → B) (l : List A) → length (map f l) ≡ length l
+length-map_words f [] = refl
+length-map_words f (x ∷ xs) = ap suc (length-map_words f xs)
+
+-- words
+pub never : (d q : ℕ) → Some (Direction d) ≡ Some (Process q) → ⊥
+never d q e = let w : word_of (Some (Direction d)) ≡ word_of (Some (Process q)) = ap word_of e in absurd (omega arith)
+
+pub one_holder : (o : Ownership) (r : ℕ) (h k : Option Holder) → IsHeldBy o r h → IsHeldBy o r k → h ≡ k
+one_holder o r h k a b = some-injective h k (sym a ∙ b)
+
+-- what one seat's view may become where a record goes from h to k
+pub record Change (v w : View) (r : ℕ) (h k : Option Holder) : Type 0 where
+  pub processes : w.processes ≡ v.processes
+  pub shape : w.shape ≡ v.shape
+  pub was_mine : (p : ℕ) → h ≡ Some (Process p) → Sits v p
+  pub is_mine : (p : ℕ) → k ≡ Some (Process p) → Sits v p
+  pub no_more : (r' p : ℕ) → r' ≢ r → Owns w r' p → Owns v r' p
+  pub no_less : (r' p : ℕ) → r' ≢ r → Owns v r' p → Owns w r' p
+  pub right : (p : ℕ) → Owns w r p → k ≡ Some (Process p)
+  pub left : (p : ℕ) → k ≡ Some (Process p) → Owns w r p
+
+module _ {B : Type 0} (fits : B → ℕ → Bool) (s : Shape) (o : Ownership) (ws : List ℕ) (hs : List (maybe.Option (Option (LotOf B)))) (vs : List View) (shown : Shows fits s o ws hs vs)
+    (id r : ℕ) (v w : View) (h k : Option Holder) (at : get_elem? vs id ≡ some v) (held : IsHeldBy o r h) (change : Change v w r h k) where
+  abbrev o' : Ownership
+  o' = set o r k
+
+  here : (p : ℕ) → k ≡ Some (Process p) → IsHeldBy o' r (Some (Process p))
+  here p e = set_here o r k (in_range o r h held) ∙ ap some e
+
+  sits : (p : ℕ) → Sits v p → Sits w p
+  sits p = subst (λ (l : List ℕ). Among l p) (sym change.processes)
+
+  sat : (p : ℕ) → Sits w p → Sits v p
+  sat p = subst (λ (l : List ℕ). Among l p) change.processes
+
+  mine_fits : ViewFits s o' w
+  mine_fits = let old = shown.views_fit id v at in record {
+    is_owner = λ r' p owns. dite (ℕ_discrete r' r)
+        (λ e. let now = change.right p (subst (λ (x : ℕ). Owns w x p) e owns) in (subst (λ (x : ℕ). IsHeldBy o' x (Some (Process p))) (sym e) (here p now), sits p (change.is_mine p now)))
+        (λ n. let was = old.is_owner r' p (change.no_more r' p n owns) in (set_else o r r' k n ∙ was.0, sits p was.1));
+    owns_all = λ r' p is there. ⊎_elim
+        (λ (t : (r' ≡ r) × (k ≡ Some (Process p))). subst (λ (x : ℕ). Owns w x p) (sym t.0) (change.left p t.1))
+        (λ (t : (r' ≢ r) × (get_elem? o r' ≡ some (Some (Process p)))). change.no_less r' p t.0 (old.owns_all r' p t.1 (sat p there)))
+        (at_set o r r' k (Some (Process p)) is);
+    knows = λ p there. change.shape ∙ old.knows p (sat p there);
+  }
+
+  apart : (j p : ℕ) (u : View) → j ≢ id → get_elem? vs j ≡ some u → Sits u p → Sits v p → ⊥
+  apart j p u other there a b = other ((shown.alone j p u there a).2 ∙ sym (shown.alone id p v at b).2)
+
+  others_fit : (j : ℕ) (u : View) → j ≢ id → get_elem? vs j ≡ some u → ViewFits s o' u
+  others_fit j u other there = let old = shown.views_fit j u there in record {
+    is_owner = λ r' p owns. let was = old.is_owner r' p owns in dite (ℕ_discrete r' r)
+        (λ e. absurd (apart j p u other there was.1 (change.was_mine p (one_holder o r h (Some (Process p)) held (subst (λ (x : ℕ). IsHeldBy o x (Some (Process p))) e was.0)))))
+        (λ n. (set_else o r r' k n ∙ was.0, was.1));
+    owns_all = λ r' p is sat. ⊎_elim
+        (λ (t : (r' ≡ r) × (k ≡ Some (Process p))). absurd (apart j p u other there sat (change.is_mine p t.1)))
+        (λ (t : (r' ≢ r) × (get_elem? o r' ≡ some (Some (Process p)))). old.owns_all r' p t.1 sat)
+        (at_set o r r' k (Some (Process p)) is);
+    knows = old.knows;
+  }
+
+  pub moved : (y : maybe.Option (Option (LotOf B))) → IsHolder k → HomeFits fits s r k y → Shows fits s o' (set ws r (word_of k)) (set hs r y) (set vs id w)
+  moved y good home = record {
+    words_are = ap (λ (l : List ℕ). set l r (word_of k)) shown.words_are ∙ sym (map-set word_of o r k);
+    holders = λ r' g is. ⊎_elim
+        (λ (t : (r' ≡ r) × (k ≡ g)). subst IsHolder t.1 good)
+        (λ (t : (r' ≢ r) × (get_elem? o r' ≡ some g)). shown.holders r' g t.1)
+        (at_set o r r' k g is);
+    homes_long = length-set hs r y ∙ shown.homes_long ∙ sym (length-set o r k);
+    homes_are = λ r' g is. ⊎_elim
+        (λ (t : (r' ≡ r) × (k ≡ g)). (y, subst (λ (x : ℕ). get_elem? (set hs r y) x ≡ some y) (sym t.0) (set_here hs r y (let i = in_range o r h held in let e = shown.homes_long in omega arith)), subst (λ (z : ℕ × Option Holder). HomeFits fits s z.0 z.1 y) (λ i. (sym t.0 i, t.1 i)) home))
+        (λ (t : (r' ≢ r) × (get_elem? o r' ≡ some g)). let was = shown.homes_are r' g t.1 in (was.0, set_else hs r r' y t.0 ∙ was.1, was.2))
+        (at_set o r r' k g is);
+    placed = λ r' p is. ⊎_elim
+        (λ (t : (r' ≡ r) × (k ≡ Some (Process p))). let z = shown.alone id p v at (change.is_mine p t.1) in (z.0, z.1))
+        (λ (t : (r' ≢ r) × (get_elem? o r' ≡ some (Some (Process p)))). shown.placed r' p t.1)
+        (at_set o r r' k (Some (Process p)) is);
+    process_at = shown.process_at;
+    seat_of = shown.seat_of;
+    seated = λ q lt. let was = shown.seated q lt in let p : ℕ = shown.process_at q in dite (ℕ_discrete (shown.seat_of q) id)
+        (λ e. (w, subst (λ (x : ℕ). get_elem? (set vs id w) x ≡ some w) (sym e) (set_here vs id w (in_range vs id v at)), sits p (subst (λ (u : View). Sits u p) (some-injective was.0 v (sym was.1 ∙ subst (λ (x : ℕ). get_elem? vs x ≡ some v) (sym e) at)) was.2), was.3))
+        (λ n. (was.0, set_else vs id (shown.seat_of q) w n ∙ was.1, was.2, was.3));
+    alone = λ j p u there sat_there. ⊎_elim
+        (λ (t : (j ≡ id) × (w ≡ u)). let was = shown.alone id p v at (sat p (subst (λ (x : View). Sits x p) (sym t.1) sat_there)) in (was.0, was.1, t.0 ∙ was.2, was.3))
+        (λ (t : (j ≢ id) × (get_elem? vs j ≡ some u)). shown.alone j p u t.1 sat_there)
+        (at_set vs id j w u there);
+    views_fit = λ j u there. ⊎_elim
+        (λ (t : (j ≡ id) × (w ≡ u)). subst (ViewFits s o') t.1 mine_fits)
+        (λ (t : (j ≢ id) × (get_elem? vs j ≡ some u)). others_fit j u t.0 t.1)
+        (at_set vs id j w u there);
+  }
+
+-- lists of records
+pub among_front : {A : Type 0} (xs ys : List A) (x : A) → Among xs x → Among (xs ++ ys) x
+among_front [] ys x h = absurd h
+among_front (y ∷ xs) ys x h = ⊎_elim (λ (e : x ≡ y). inl e) (λ (t : Among xs x). inr (among_front xs ys x t)) h
+
+pub among_back : {A : Type 0} (xs ys : List A) (x : A) → Among ys x → Among (xs ++ ys) x
+among_back [] ys x h = h
+among_back (y ∷ xs) ys x h = inr (among_back xs ys x h)
+
+pub among_either : {A : Type 0} (xs ys : List A) (x : A) → Among (xs ++ ys) x → Among xs x ⊎ Among ys x
+among_either [] ys x h = inr h
+among_either (y ∷ xs) ys x h = ⊎_elim (λ (e : x ≡ y). inl (inl e)) (λ (t : Among (xs ++ ys) x). ⊎_elim (λ (a : Among xs x). inl (inr a)) (λ (b : Among ys x). inr b) (among_either xs ys x t)) h
+
+pub among_without : (r : ℕ) (xs : List (ℕ × ℕ)) (x : ℕ × ℕ) → Among (without r xs) x → Among xs x × (x.0 ≢ r)
+among_without r [] x = λ h. absurd h
+among_without r (y ∷ ys) x = dite (ℕ_discrete y.0 r)
+    (λ e. subst (λ (b : Bool). Among (cond b (without r ys) (y ∷ without r ys)) x → Among (y ∷ ys) x × (x.0 ≢ r)) (sym (eq-eqb y.0 r e))
+    (λ (h : Among (without r ys) x). let t = among_without r ys x h in (inr t.0, t.1)))
+    (λ n. subst (λ (b : Bool). Among (cond b (without r ys) (y ∷ without r ys)) x → Among (y ∷ ys) x × (x.0 ≢ r)) (sym (ne_eqb y.0 r n))
+    (λ (h : Among (y ∷ without r ys) x). ⊎_elim (λ (e : x ≡ y). (inl e, λ (q : x.0 ≡ r). n (ap (λ (z : ℕ × ℕ). z.0) (sym e) ∙ q))) (λ (u : Among (without r ys) x). let t = among_without r ys x u in (inr t.0, t.1)) h))
+
+pub among_kept : (r : ℕ) (xs : List (ℕ × ℕ)) (x : ℕ × ℕ) → x.0 ≢ r → Among xs x → Among (without r xs) x
+among_kept r [] x n h = absurd h
+among_kept r (y ∷ ys) x other h = dite (ℕ_discrete y.0 r)
+    (λ e. subst (λ (b : Bool). Among (cond b (without r ys) (y ∷ without r ys)) x) (sym (eq-eqb y.0 r e))
+    (⊎_elim (λ (q : x ≡ y). absurd (other (ap (λ (z : ℕ × ℕ). z.0) q ∙ e))) (λ (u : Among ys x). among_kept r ys x other u) h))
+    (λ n. subst (λ (b : Bool). Among (cond b (without r ys) (y ∷ without r ys)) x) (sym (ne_eqb y.0 r n))
+    (⊎_elim (λ (q : x ≡ y). inl q) (λ (u : Among ys x). inr (among_kept r ys x other u)) h))
+
+pub value_at : (l : List ℕ) (i d a : ℕ) → get_elem? l i ≡ some a → get_or l i d ≡ a
+value_at [] i d a e = absurd (some-ne-none a (sym e))
+value_at (x ∷ xs) zero d a e = some-injective x a e
+value_at (x ∷ xs) (suc i) d a e = value_at xs i d a e
+
+-- one of two, by a test
+next_of : {X : Type 0} → Dec X → ℕ → ℕ → ℕ
+next_of (yes h) a b = a
+next_of (no n) a b = b
+
+next_yes : {X : Type 0} (d : Dec X) (a b : ℕ) → X → next_of d a b ≡ a
+unfolding next_of
+next_yes (yes h) a b x = refl
+next_yes (no n) a b x = absurd (n x)
+
+next_no : {X : Type 0} (d : Dec X) (a b : ℕ) → (X → ⊥) → next_of d a b ≡ b
+unfolding next_of
+next_no (yes h) a b x = absurd (x h)
+next_no (no n) a b x = refl
+
+pub same_place : (p q : ℕ) → word_of (Some (Process p)) ≡ word_of (Some (Process q)) → p ≡ q
+same_place p q e = omega arith
+
+module _ {B : Type 0} (fits : B → ℕ → Bool) (s : Shape) where
+  abbrev S : Type 0
+  S = Option (LotOf B)
+
+  abbrev M : Type 0
+  M = Me S View
+
+  -- the record at r, in a table that meets the rule
+  record At (t : State S View) (o : Ownership) (r : ℕ) : Type 0 where
+    holder : Option Holder
+    held : IsHeldBy o r holder
+    word_at : get_elem? t.words r ≡ some (word_of holder)
+
+  at : (t : State S View) (o : Ownership) (r slots : ℕ) → Shows fits s o t.words t.homes t.views → length t.homes ≡ slots → r < slots → At t o r
+  at t o r slots shown long inside = let there = is_there o r (let e = shown.homes_long in omega arith) in record {
+    holder = there.0;
+    held = there.1;
+    word_at = subst (λ (l : List ℕ). get_elem? l r ≡ some (word_of there.0)) (sym shown.words_are) (at_map word_of o r there.0 there.1);
+  }
+
+  -- a step that leaves all as it was
+  stays : (t : State S View) (id : ℕ) (me : M) (r : ℕ) (n : ℕ) → Shown fits s t → get_elem? t.views id ≡ some me.0 → get_elem? t.words r ≡ some n → Shown fits s (stepped t r n id me.1 me.0 keeps)
+  stays t id me r n holds here word = (holds.0, subst (λ (z : List ℕ × List View). Shows fits s holds.0 z.0 t.homes z.1) (λ i. (sym (set_again t.words r n word) i, sym (set_again t.views id me.0 here) i)) holds.1)
+
+  not_process : Option Holder → Type 0
+  not_process h = (p : ℕ) → h ≡ Some (Process p) → ⊥
+
+  pub takes_change : (o : Ownership) (v : View) (r p : ℕ) (h : Option Holder) → ViewFits s o v → IsHeldBy o r h → ((q : ℕ) → h ≡ Some (Process q) → ⊥) → v.processes ≡ p ∷ [] → Change v (gained v r p) r h (Some (Process p))
+  takes_change o v r p h fit held free mine = let sits_p : Sits v p = subst (λ (l : List ℕ). Among l p) (sym mine) (inl refl) in let turn = λ (q : ℕ) (e : Some (Process p) ≡ Some (Process q)). same_place p q (ap word_of e) in record {
+    processes = refl;
+    shape = refl;
+    was_mine = λ q e. absurd (free q e);
+    is_mine = λ q e. subst (λ (x : ℕ). Sits v x) (turn q e) sits_p;
+    no_more = λ r' q n owns. ⊎_elim (λ (a : Owns v r' q). a) (λ (b : Among ((r, p) ∷ []) (r', q)). ⊎_elim (λ (e : (r', q) ≡ (r, p)). absurd (n (ap (λ (z : ℕ × ℕ). z.0) e))) (λ (z : ⊥). absurd z) b) (among_either v.records ((r, p) ∷ []) (r', q) owns);
+    no_less = λ r' q n owns. among_front v.records ((r, p) ∷ []) (r', q) owns;
+    right = λ q owns. ⊎_elim (λ (a : Owns v r q). absurd (free q (one_holder o r h (Some (Process q)) held (fit.is_owner r q a).0))) (λ (b : Among ((r, p) ∷ []) (r, q)). ⊎_elim (λ (e : (r, q) ≡ (r, p)). ap (λ (z : ℕ × ℕ). Some (Process z.1)) (sym e)) (λ (z : ⊥). absurd z) b) (among_either v.records ((r, p) ∷ []) (r, q) owns);
+    left = λ q e. among_back v.records ((r, p) ∷ []) (r, q) (inl (ap (λ (x : ℕ). (r, x)) (sym (turn q e))));
+  }
+
+  -- what is at home, where no process holds the record
+  pub home_is : (r : ℕ) (h : Option Holder) (l : LotOf B) → IsLotAt s r l → IsHomeLot fits h l → HomeFits fits s r h (some (Some l))
+  home_is r None l is home = (l, refl, is, home)
+  home_is r (Some (Process p)) l is home = absurd home
+  home_is r (Some (Direction d)) l is home = (l, refl, is, home)
+
+  pub home_lot : (r : ℕ) (h : Option Holder) (x : maybe.Option S) → IsAway h → HomeFits fits s r h x → (l : LotOf B) × (x ≡ some (Some l)) × IsLotAt s r l × IsHomeLot fits h l
+  home_lot r None x away home = home
+  home_lot r (Some (Process p)) x away home = absurd (away p refl)
+  home_lot r (Some (Direction d)) x away home = home
+
+  -- a compare that takes
+  pub takes_lot : (slots id : ℕ) (me : M) (r old new p : ℕ) (h : Option Holder) (said : maybe.Option S) → old ≡ word_of h → new ≡ word_of (Some (Process p)) → IsAway h → r < slots → me.0.processes ≡ p ∷ []
+      → Allows (Shown fits s) slots id me r (λ n. either (eqb n old) new n) (took fits (step slots r old new said) me)
+  takes_lot slots id me r old new p h said is_old is_new free inside mine t holds long seen small =
+      let o = holds.0 in let shown = holds.1 in let a : At t o r = at t o r slots shown long inside in let n : ℕ = get_or t.words r 0 in let found : n ≡ word_of a.holder = value_at t.words r 0 (word_of a.holder) a.word_at in
+      let placed : process_in me.0 ≡ p = ap (λ (l : List ℕ). get_or l 0 0) mine in
+      let sits : Sits me.0 p = subst (λ (k : List ℕ). Among k p) (sym mine) (inl refl) in
+      let good : p < 4096 = (shown.alone id p me.0 seen sits).3 in dite (ℕ_discrete n old)
+      (λ hit. let same : a.holder ≡ h = word_injective a.holder h (sym found ∙ hit ∙ is_old) in let held : IsHeldBy o r h = subst (IsHeldBy o r) same a.held in let fit = shown.views_fit id me.0 seen in let x = shown.homes_are r h held in let l = home_lot r h x.0 free x.2 in let w : View = gained me.0 r p in let act : Act S = takes r (Some l.0) in (
+        w,
+        act,
+        x.1 ∙ ap some l.1,
+        subst (λ (m : ℕ). Shown fits s (stepped t r m id me.1 w act)) (sym (subst (λ (b : Bool). either b new n ≡ word_of (Some (Process p))) (sym (eq-eqb n old hit)) is_new))
+            (set o r (Some (Process p)), moved fits s o t.words t.homes t.views shown id r me.0 w h (Some (Process p)) seen held (takes_change o me.0 r p h fit held free mine) none good refl),
+        (
+          (λ _. (l.0, ap (λ (q : ℕ). (gained me.0 r q, (r, Some l.0) ∷ me.1)) (sym placed), subst (λ (z : Shape). IsLotAt z r l.0) (sym (fit.knows p sits)) l.2, (λ k e. subst (λ (z : Option Holder). IsHomeLot fits z l.0) (word_injective h k (sym is_old ∙ e)) l.3), λ q owns. free q (one_holder o r h (Some (Process q)) held (fit.is_owner r q owns).0))),
+          (λ miss. absurd (miss hit)),
+        ),
+      ))
+      (λ miss. (
+        me.0,
+        keeps,
+        tt,
+        subst (λ (b : Bool). Shown fits s (stepped t r (either b new n) id me.1 me.0 keeps)) (sym (ne_eqb n old miss)) (stays t id me r n holds seen (a.word_at ∙ ap some (sym found))),
+        ((λ hit. absurd (miss hit)), (λ _. (refl, (a.holder, shown.holders r a.holder a.held, found)))),
+      ))
+
+  pub gives_change : (o : Ownership) (v : View) (r p : ℕ) (k : Option Holder) → ViewFits s o v → Owns v r p → ((q : ℕ) → k ≡ Some (Process q) → ⊥) → Change v (lost v r) r (Some (Process p)) k
+  gives_change o v r p k fit owns free = let sits_p : Sits v p = (fit.is_owner r p owns).1 in record {
+    processes = refl;
+    shape = refl;
+    was_mine = λ q e. subst (λ (x : ℕ). Sits v x) (same_place p q (ap word_of e)) sits_p;
+    is_mine = λ q e. absurd (free q e);
+    no_more = λ r' q n still. (among_without r v.records (r', q) still).0;
+    no_less = λ r' q n was. among_kept r v.records (r', q) n was;
+    right = λ q still. absurd ((among_without r v.records (r, q) still).1 refl);
+    left = λ q e. absurd (free q e);
+  }
+
+  -- a store that gives
+  pub gives_lot : (slots id : ℕ) (me : M) (r new p : ℕ) (k : Option Holder) (lot : LotOf B) (rest_of : List (ℕ × S)) → new ≡ word_of k → IsAway k → IsHolder k → me.1 ≡ (r, Some lot) ∷ rest_of → Owns me.0 r p → IsLotAt me.0.shape r lot → IsHomeLot fits k lot
+      → Allows (Shown fits s) slots id me r (λ _. new) (λ _. gave (step slots r new 0 none) me new)
+  gives_lot slots id me r new p k lot rest_of is_new free good front owns is_lot home t holds long seen small =
+      let o = holds.0 in let shown = holds.1 in let fit = shown.views_fit id me.0 seen in let was = fit.is_owner r p owns in let w : View = lost me.0 r in let y : maybe.Option S = some (Some lot) in (
+        w,
+        gives,
+        tt,
+        (
+          set o r k,
+          subst (λ (z : ℕ × List (maybe.Option S)). Shows fits s (set o r k) (set t.words r z.0) z.1 (set t.views id w)) (λ i. (sym is_new i, ap (λ (c : List (ℕ × S)). put_back t.homes c) (sym front) i))
+              (moved fits s o t.words t.homes t.views shown id r me.0 w (Some (Process p)) k seen was.0 (gives_change o me.0 r p k fit owns free) y good (home_is r k lot (subst (λ (z : Shape). IsLotAt z r lot) (fit.knows p was.1) is_lot) home)),
+        ),
+        refl,
+      )
+
+  -- a load
+  pub looks : (slots id : ℕ) (me : M) (r : ℕ) → r < slots → Allows (Shown fits s) slots id me r (λ n. n) (looked (step slots r 0 0 none) me)
+  looks slots id me r inside t holds long seen small =
+      let a : At t holds.0 r = at t holds.0 r slots holds.1 long inside in
+      let found : get_or t.words r 0 ≡ word_of a.holder = value_at t.words r 0 (word_of a.holder) a.word_at in
+      (me.0, keeps, tt, stays t id me r (get_or t.words r 0) holds seen (a.word_at ∙ ap some (sym found)), (refl, (a.holder, holds.1.holders r a.holder a.held, found)))
+
+  -- a place of the next generation, where its process holds no record
+  pub renews : (o : Ownership) (ws : List ℕ) (hs : List (maybe.Option S)) (vs : List View) (id p : ℕ) (v : View) → Shows fits s o ws hs vs → get_elem? vs id ≡ some v → v.processes ≡ p ∷ [] → v.records ≡ [] → p + 32 < 4096 → Shows fits s o ws hs (set vs id (renewed v))
+  renews o ws hs vs id p v shown here mine bare small =
+      let w : View = renewed v in
+      let q : ℕ = place_of p in
+      let now : ℕ → ℕ = λ x. next_of (ℕ_discrete x q) (p + 32) (shown.process_at x) in
+      let sits : Sits v p = subst (λ (k : List ℕ). Among k p) (sym mine) (inl refl) in
+      let was = shown.alone id p v here sits in
+      let mine_now : w.processes ≡ (p + 32) ∷ [] = ap (map (λ (x : ℕ). x + 32)) mine in
+      let sits_now : Sits w (p + 32) = subst (λ (k : List ℕ). Among k (p + 32)) (sym mine_now) (inl refl) in
+      let only_now : (x : ℕ) → Sits w x → x ≡ p + 32 = λ x there. ⊎_elim (λ (e : x ≡ p + 32). e) (λ (z : ⊥). absurd z) (subst (λ (k : List ℕ). Among k x) mine_now there) in
+      let none_held : (k x : ℕ) → IsHeldBy o k (Some (Process x)) → place_of x ≡ q → ⊥ = λ k x is e.
+      let at = shown.placed k x is in
+      let same : x ≡ p = at.1 ∙ ap shown.process_at e ∙ sym was.1 in
+      subst (λ (l : List (ℕ × ℕ)). Among l (k, x)) bare ((shown.views_fit id v here).owns_all k x is (subst (Sits v) (sym same) sits)) in
+      let other : (j x : ℕ) (u : View) → j ≢ id → get_elem? vs j ≡ some u → Sits u x → place_of x ≢ q = λ j x u apart there sat e. apart ((shown.alone j x u there sat).2 ∙ ap shown.seat_of e ∙ sym was.2) in record {
+        words_are = shown.words_are;
+        holders = shown.holders;
+        homes_long = shown.homes_long;
+        homes_are = shown.homes_are;
+        process_at = now;
+        seat_of = shown.seat_of;
+        placed = λ k x is. let at = shown.placed k x is in (at.0, at.1 ∙ sym (next_no (ℕ_discrete (place_of x) q) (p + 32) (shown.process_at (place_of x)) (none_held k x is)));
+        seated = λ x lt. let at = shown.seated x lt in dite (ℕ_discrete x q)
+            (λ e. let is : now x ≡ p + 32 = next_yes (ℕ_discrete x q) (p + 32) (shown.process_at x) e in
+            let seat : shown.seat_of x ≡ id = ap shown.seat_of e ∙ sym was.2 in
+            let turn : place_of (p + 32) ≡ place_of p = omega arith in
+            (w, subst (λ (j : ℕ). get_elem? (set vs id w) j ≡ some w) (sym seat) (set_here vs id w (in_range vs id v here)), subst (Sits w) (sym is) sits_now, ap place_of is ∙ turn ∙ sym e))
+            (λ n. let is : now x ≡ shown.process_at x = next_no (ℕ_discrete x q) (p + 32) (shown.process_at x) n in
+            let apart : shown.seat_of x ≢ id = λ e.
+            let same : at.0 ≡ v = some-injective at.0 v (sym at.1 ∙ subst (λ (j : ℕ). get_elem? vs j ≡ some v) (sym e) here) in
+            let there : Sits v (shown.process_at x) = subst (λ (u : View). Sits u (shown.process_at x)) same at.2 in
+            let one : shown.process_at x ≡ p = ⊎_elim (λ (z : shown.process_at x ≡ p). z) (λ (z : ⊥). absurd z) (subst (λ (k : List ℕ). Among k (shown.process_at x)) mine there) in
+            n (sym at.3 ∙ ap place_of one) in
+            (at.0, set_else vs id (shown.seat_of x) w apart ∙ at.1, subst (Sits at.0) (sym is) at.2, ap place_of is ∙ at.3));
+        alone = λ j x u there sat. ⊎_elim
+            (λ (t : (j ≡ id) × (w ≡ u)). let e = only_now x (subst (λ (z : View). Sits z x) (sym t.1) sat) in let turn : place_of x ≡ q = omega arith in
+            (subst (λ (z : ℕ). z < s.places) (sym turn) was.0, e ∙ sym (next_yes (ℕ_discrete (place_of x) q) (p + 32) (shown.process_at (place_of x)) turn), t.0 ∙ was.2 ∙ ap shown.seat_of (sym turn), subst (λ (z : ℕ). z < 4096) (sym e) small))
+            (λ (t : (j ≢ id) × (get_elem? vs j ≡ some u)). let at = shown.alone j x u t.1 sat in
+            (at.0, at.1 ∙ sym (next_no (ℕ_discrete (place_of x) q) (p + 32) (shown.process_at (place_of x)) (other j x u t.0 t.1 sat)), at.2, at.3))
+            (at_set vs id j w u there);
+        views_fit = λ j u there. ⊎_elim
+            (λ (t : (j ≡ id) × (w ≡ u)). subst (ViewFits s o) t.1 record {
+              is_owner = λ k x owns. absurd (subst (λ (l : List (ℕ × ℕ)). Among l (k, x)) bare owns);
+              owns_all = λ k x is sat. let e = only_now x sat in let turn : place_of x ≡ q = omega arith in absurd (none_held k x is turn);
+              knows = λ x sat. (shown.views_fit id v here).knows p sits;
+            })
+            (λ (t : (j ≢ id) × (get_elem? vs j ≡ some u)). shown.views_fit j u t.1)
+            (at_set vs id j w u there);
+      }
+
+  -- a load, by a seat whose place has its next generation
+  pub ages : (slots id : ℕ) (me : M) (p : ℕ) → 0 < slots → me.0.processes ≡ p ∷ [] → me.0.records ≡ [] → p + 32 < 4096 → Allows (Shown fits s) slots id me 0 (λ n. n) (aged (step slots 0 0 0 none) me)
+  ages slots id me p some_slot mine bare small t holds long seen fit =
+      let a : At t holds.0 0 = at t holds.0 0 slots holds.1 long some_slot in
+      let n : ℕ = get_or t.words 0 0 in
+      let found : get_elem? t.words 0 ≡ some n = a.word_at ∙ ap some (sym (value_at t.words 0 0 (word_of a.holder) a.word_at)) in
+      (renewed me.0, keeps, tt, (holds.0, subst (λ (l : List ℕ). Shows fits s holds.0 l t.homes (set t.views id (renewed me.0))) (sym (set_again t.words 0 n found)) (renews holds.0 t.words t.homes t.views id p me.0 holds.1 seen mine bare small)), refl)

@@ -1,0 +1,112 @@
+-- A seat's lots by the numbers of their records.
+use Rattle.std.proofs.Common.{◌≡◌, ℕ, ◌%◌, ◌<◌, ◌≤◌, List, [], ◌∷◌, ◌++◌, map, sym, refl, ap, ◌∙◌, subst, inl, inr, ⊎_elim}
+use Rattle.std.specs.Prelude.{Option, Some, None}
+use mathlib.Core.Logic.{dite}
+use native.Mathlib.Decide.{ℕ_discrete}
+use Rattle.atomic_table.specs.Table.{Me}
+use Rattle.atomic_table.specs.Seated.{TableId}
+use Rattle.xh_arena.specs.Views.{LotOf}
+use Rattle.xh_model.specs.Slots.{index_of}
+use Rattle.xh_model.specs.Words.{number_of}
+use Rattle.xh_model.proofs.Words.{index_back, number_back}
+use Rattle.xh_records.specs.declared.shape.Shape.{Shape}
+use Rattle.xh_records.specs.declared.view.View.{View}
+use Rattle.xh_records.specs.Showing.{Among, IsLotOf, IsLotAt, without}
+use Rattle.xh_records.specs.Seats.{Held, keys, lot_at, put, in_slot, with_lot, numbered, owned_by, view_of, with_lots, AllLots, IsSmall, IsSeat}
+use Rattle.xh_records.proofs.Lists.{here_first, not_here}
+
+pub index_injective : (n k j : ℕ) → 0 < n → n ≤ 256 → number_of n k ≡ number_of n j → k ≡ j
+index_injective n k j pos most e = sym (index_back n k pos most) ∙ ap (index_of n) e ∙ index_back n j pos most
+
+with_lot_append : {L : Type 0} (r : ℕ) (o : Option L) (ls ms : List (ℕ × L)) → with_lot r o (ls ++ ms) ≡ with_lot r o ls ++ ms
+with_lot_append r None ls ms = refl
+with_lot_append r (Some l) ls ms = refl
+
+pub numbered_push : {L : Type 0} (n : ℕ) (xs : List (ℕ × Option L)) (k : ℕ) (l : L) → numbered n (xs ++ (k, Some l) ∷ []) ≡ numbered n xs ++ (number_of n k, l) ∷ []
+numbered_push n [] k l = refl
+numbered_push n (x ∷ xs) k l = ap (with_lot (number_of n x.0) x.1) (numbered_push n xs k l) ∙ with_lot_append (number_of n x.0) x.1 (numbered n xs) ((number_of n k, l) ∷ [])
+
+pub among_map : (f : ℕ → ℕ) (xs : List ℕ) (x : ℕ) → Among xs x → Among (map f xs) (f x)
+among_map f [] x h = absurd h
+among_map f (y ∷ ys) x h = ⊎_elim (λ (e : x ≡ y). inl (ap f e)) (λ (t : Among ys x). inr (among_map f ys x t)) h
+
+module _ {B : Type 0} (s : Shape) (small : IsSmall s) where
+  -- a slot that has a lot comes out with it
+  head_is : (x : ℕ × Option (LotOf B)) (xs : List (ℕ × Option (LotOf B))) (l : LotOf B) → x.1 ≡ Some l → numbered s.records (x ∷ xs) ≡ (number_of s.records x.0, l) ∷ numbered s.records xs
+  head_is x xs l e = ap (λ (z : Option (LotOf B)). with_lot (number_of s.records x.0) z (numbered s.records xs)) e
+
+  pub indices_are : (xs : List (ℕ × Option (LotOf B))) → AllLots s xs → map (index_of s.records) (keys (numbered s.records xs)) ≡ keys xs
+  indices_are [] all = refl
+  indices_are (x ∷ xs) all = ap (λ (l : List (ℕ × LotOf B)). map (index_of s.records) (keys l)) (head_is x xs all.0.0 all.0.1) ∙ (λ i. index_back s.records x.0 small.0 small.1 i ∷ indices_are xs all.1 i)
+
+  pub lot_numbered : (xs : List (ℕ × Option (LotOf B))) (k : ℕ) → AllLots s xs → lot_at (number_of s.records k) (numbered s.records xs) ≡ in_slot k xs
+  lot_numbered [] k all = refl
+  lot_numbered (x ∷ xs) k all = ap (lot_at (number_of s.records k)) (head_is x xs all.0.0 all.0.1) ∙ dite (ℕ_discrete x.0 k)
+      (λ e. here_first (number_of s.records x.0) (number_of s.records k) (Some all.0.0) (lot_at (number_of s.records k) (numbered s.records xs)) (ap (number_of s.records) e) ∙ sym all.0.1 ∙ sym (here_first x.0 k x.1 (in_slot k xs) e))
+      (λ other. not_here (number_of s.records x.0) (number_of s.records k) (Some all.0.0) (lot_at (number_of s.records k) (numbered s.records xs)) (λ e. other (index_injective s.records x.0 k small.0 small.1 e)) ∙ lot_numbered xs k all.1 ∙ sym (not_here x.0 k x.1 (in_slot k xs) other))
+
+  pub without_numbered : (xs : List (ℕ × Option (LotOf B))) (k : ℕ) → AllLots s xs → numbered s.records (without k xs) ≡ without (number_of s.records k) (numbered s.records xs)
+  without_numbered [] k all = refl
+  without_numbered (x ∷ xs) k all = dite (ℕ_discrete x.0 k)
+      (λ e. ap (numbered s.records) (here_first x.0 k (without k xs) (x ∷ without k xs) e) ∙ without_numbered xs k all.1
+      ∙ sym (ap (without (number_of s.records k)) (head_is x xs all.0.0 all.0.1) ∙ here_first (number_of s.records x.0) (number_of s.records k) _ _ (ap (number_of s.records) e)))
+      (λ other. ap (numbered s.records) (not_here x.0 k (without k xs) (x ∷ without k xs) other) ∙ head_is x (without k xs) all.0.0 all.0.1 ∙ ap (λ (l : List (ℕ × LotOf B)). (number_of s.records x.0, all.0.0) ∷ l) (without_numbered xs k all.1)
+      ∙ sym (ap (without (number_of s.records k)) (head_is x xs all.0.0 all.0.1) ∙ not_here (number_of s.records x.0) (number_of s.records k) _ _ (λ e. other (index_injective s.records x.0 k small.0 small.1 e))))
+
+  pub put_numbered : (xs : List (ℕ × Option (LotOf B))) (k : ℕ) (l : LotOf B) → AllLots s xs → numbered s.records (put k (Some l) xs) ≡ put (number_of s.records k) l (numbered s.records xs)
+  put_numbered [] k l all = refl
+  put_numbered (x ∷ xs) k l all = dite (ℕ_discrete x.0 k)
+      (λ e. ap (numbered s.records) (here_first x.0 k ((k, Some l) ∷ xs) (x ∷ put k (Some l) xs) e)
+      ∙ sym (ap (put (number_of s.records k) l) (head_is x xs all.0.0 all.0.1) ∙ here_first (number_of s.records x.0) (number_of s.records k) _ _ (ap (number_of s.records) e)))
+      (λ other. ap (numbered s.records) (not_here x.0 k ((k, Some l) ∷ xs) (x ∷ put k (Some l) xs) other) ∙ head_is x (put k (Some l) xs) all.0.0 all.0.1 ∙ ap (λ (z : List (ℕ × LotOf B)). (number_of s.records x.0, all.0.0) ∷ z) (put_numbered xs k l all.1)
+      ∙ sym (ap (put (number_of s.records k) l) (head_is x xs all.0.0 all.0.1) ∙ not_here (number_of s.records x.0) (number_of s.records k) _ _ (λ e. other (index_injective s.records x.0 k small.0 small.1 e))))
+
+  pub none_numbered : (xs : List (ℕ × Option (LotOf B))) → AllLots s xs → numbered s.records xs ≡ [] → xs ≡ []
+  none_numbered [] all e = refl
+  none_numbered (x ∷ xs) all e = let f : (number_of s.records x.0, all.0.0) ∷ numbered s.records xs ≡ [] = sym (head_is x xs all.0.0 all.0.1) ∙ e in absurd (cc)
+
+-- the number of the record in a slot
+pub number_is : (n m slot r : ℕ) → n ≡ m → slot ≡ index_of m r → r % 256 < m → number_of n slot ≡ r
+number_is n m slot r same at inside = (λ i. number_of (same i) (at i)) ∙ number_back m r inside
+
+module _ {B : Type 0} (x : Held B) (t : TableId) (id process : ℕ) (me : Me (Option (LotOf B)) View) (is : (let y : Held B = record { table = t; id = id; shape = me.0.shape; process = process; lots = numbered me.0.shape.records me.1 } in y ≡ x)) where
+  -- a seat's view
+  pub views_are : (order : List ℕ) (capacity slots : ℕ) → IsSeat process order capacity slots me → view_of x ≡ me.0
+  views_are order capacity slots seat = ap (λ (y : Held B). view_of y) (sym is) ∙ (λ i. record { shape = me.0.shape; processes = sym seat.processes i; records = (ap (owned_by process) (indices_are me.0.shape seat.small me.1 seat.lots ∙ sym seat.ordered) ∙ sym seat.records) i })
+
+  -- what a seat has in the slot of a record
+  pub slot_is : (order : List ℕ) (capacity slots : ℕ) → IsSeat process order capacity slots me → (slot r : ℕ) (y : Option (LotOf B)) → slot ≡ index_of x.shape.records r → r % 256 < x.shape.records → lot_at r x.lots ≡ y → in_slot slot me.1 ≡ y
+  slot_is order capacity slots seat slot r y at inside has =
+      let number : number_of me.0.shape.records slot ≡ r = number_is me.0.shape.records x.shape.records slot r (ap (λ (z : Held B). z.shape.records) is) at inside in
+      sym (lot_numbered me.0.shape seat.small me.1 slot seat.lots) ∙ (λ i. lot_at (number i) (is i).lots) ∙ has
+
+  -- the lot of a record is that of its slot
+  pub lot_there : (slot r : ℕ) (l : LotOf B) → slot ≡ index_of x.shape.records r → r % 256 < x.shape.records → IsLotOf x.shape r l → IsLotAt me.0.shape slot l
+  lot_there slot r l at inside lot =
+      let number : number_of me.0.shape.records slot ≡ r = number_is me.0.shape.records x.shape.records slot r (ap (λ (z : Held B). z.shape.records) is) at inside in
+      subst (λ (z : Shape × ℕ). IsLotOf z.0 z.1 l) (λ i. (ap (λ (y : Held B). y.shape) (sym is) i, sym number i)) lot
+
+  pub lot_back : (slot r : ℕ) (l : LotOf B) → slot ≡ index_of x.shape.records r → r % 256 < x.shape.records → IsLotAt me.0.shape slot l → IsLotOf x.shape r l
+  lot_back slot r l at inside lot =
+      let number : number_of me.0.shape.records slot ≡ r = number_is me.0.shape.records x.shape.records slot r (ap (λ (z : Held B). z.shape.records) is) at inside in
+      subst (λ (z : Shape × ℕ). IsLotOf z.0 z.1 l) (λ i. (ap (λ (y : Held B). y.shape) is i, number i)) lot
+
+  -- a record that the seat has not isn't in its list
+  pub fresh : (order : List ℕ) (capacity slots : ℕ) → IsSeat process order capacity slots me → (slot r : ℕ) → slot ≡ index_of x.shape.records r → (Among order slot → ⊥) → Among (keys x.lots) r → ⊥
+  fresh order capacity slots seat slot r at new h =
+      let n : ℕ = x.shape.records in
+      let there : Among (map (index_of n) (keys x.lots)) (index_of n r) = among_map (index_of n) (keys x.lots) r h in
+      let keys_are : map (index_of n) (keys x.lots) ≡ order = ap (λ (y : Held B). map (index_of y.shape.records) (keys y.lots)) (sym is) ∙ indices_are me.0.shape seat.small me.1 seat.lots ∙ sym seat.ordered in
+      new (subst (λ (z : List ℕ × ℕ). Among z.0 z.1) (λ i. (keys_are i, sym at i)) there)
+
+  -- the seat afterwards
+  pub held_is : (t' : TableId) (id' process' : ℕ) (me' : Me (Option (LotOf B)) View) (ls : List (ℕ × LotOf B)) → t' ≡ t → id' ≡ id → me'.0.shape ≡ me.0.shape → numbered me'.0.shape.records me'.1 ≡ ls
+      → (let y : Held B = record { table = t'; id = id'; shape = me'.0.shape; process = process'; lots = numbered me'.0.shape.records me'.1 } in y ≡ record x { process = process'; lots = ls })
+  held_is t' id' process' me' ls et en es el =
+      λ j. record { table = (et ∙ ap (λ (y : Held B). y.table) is) j; id = (en ∙ ap (λ (y : Held B). y.id) is) j; shape = (es ∙ ap (λ (y : Held B). y.shape) is) j; process = process'; lots = el j }
+
+  -- the seat afterwards, of the same process
+  pub held_same : (t' : TableId) (id' : ℕ) (me' : Me (Option (LotOf B)) View) (ls : List (ℕ × LotOf B)) → t' ≡ t → id' ≡ id → me'.0.shape ≡ me.0.shape → numbered me'.0.shape.records me'.1 ≡ ls
+      → (let y : Held B = record { table = t'; id = id'; shape = me'.0.shape; process = process; lots = numbered me'.0.shape.records me'.1 } in y ≡ with_lots x ls)
+  held_same t' id' me' ls et en es el =
+      λ j. record { table = (et ∙ ap (λ (y : Held B). y.table) is) j; id = (en ∙ ap (λ (y : Held B). y.id) is) j; shape = (es ∙ ap (λ (y : Held B). y.shape) is) j; process = (is j).process; lots = el j }

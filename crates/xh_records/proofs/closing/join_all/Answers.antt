@@ -1,0 +1,86 @@
+use Rattle.std.proofs.Common.{rules, arith, ◌≡◌, ℕ, suc, ◌<◌, ◌≤◌, length, inl, refl, sym, ap, ◌∙◌, subst, [], ◌∷◌, ◌++◌, append_assoc, length-append}
+use Rattle.std.specs.Vec.{vec_len}
+use mathlib.Core.Option.{some}
+use lib.ListN.{get_elem?}
+use Rattle.atomic_table.proofs.Lists.{at_last, at_longer}
+use Rattle.xh_records.specs.Seats.{IsGathered, view_of}
+use Rattle.xh_records.specs.Showing.{Sits, spent, joined}
+use Rattle.xh_records.proofs.Keeps.{among_front}
+use Rattle.xh_records.proofs.Cuts.{joins}
+use Rattle.xh_records.proofs.Ended.{gathers, gathers_none}
+use Rattle.xh_records.proofs.closing.join_all.Goals as goal
+
+pub empty_out-hand-requires-clause-own : goal.empty_out-hand-requires-clause-own
+empty_out-hand-requires-clause-own g c =
+    let m : ℕ = length c.pop.new.self.items in
+    let last = c.in-Some.last in
+    let at : get_elem? c.args.seats.items m ≡ some last = subst (λ z. get_elem? z m ≡ some last) (sym c.in-Some.ensures.items) (at_last c.pop.new.self.items last m refl) in
+    (c.requires.own m last at, c.requires.some_seat.1)
+
+pub loop-seat-init : goal.loop-seat-init
+loop-seat-init g c =
+    let m : ℕ = length c.pop.new.self.items in
+    let last = c.in-Some.last in
+    let at : get_elem? c.args.seats.items m ≡ some last = subst (λ z. get_elem? z m ≡ some last) (sym c.in-Some.ensures.items) (at_last c.pop.new.self.items last m refl) in
+    let e = c.empty_out-hand.ensures in
+    let size : length c.args.seats.items ≤ suc m = (let z = ap length c.in-Some.ensures.items ∙ length-append c.pop.new.self.items (last ∷ []) in omega arith) in (
+      last ∷ [],
+      last.process,
+      record {
+        split = c.in-Some.ensures.items;
+        placed = subst (λ v. Sits v last.process) (sym (ap (λ k. k.0) e.hand.1)) (inl refl);
+        table = e.hand.0 ∙ c.requires.own m last at;
+        bare = ap (λ k. k.1) e.hand.1;
+        gathered = gathers m c.args.seats.items last spent c.empty_out-hand.result.me.0 c.args.held.now.items c.empty_out-hand.new.held.items at
+            (gathers_none c.args.seats.items (suc m) c.args.held.now.items size (λ r h. c.requires.none r (let k : r < vec_len c.args.held.now = search rules in k)))
+            (ap (λ k. k.0.processes) e.hand.1) (ap (λ k. k.0.records) e.hand.1) (let k : length c.empty_out-hand.new.held.items ≡ length c.args.held.now.items = search rules in k) e.full
+            (λ r h. e.lots r (let k : r < vec_len c.args.held.now = search rules in k));
+        long = e.long;
+      },
+    )
+
+pub empty_out-other-requires-clause-own : goal.empty_out-other-requires-clause-own
+empty_out-other-requires-clause-own g c =
+    let i = c.loop-seat.invariant in let f = i.2 in
+    let m : ℕ = length c.pop-in-loop-seat.new.self.items in
+    let seat = c.in-Some-pop.seat in
+    let all : c.args.seats.items ≡ (c.pop-in-loop-seat.new.self.items ++ seat ∷ []) ++ i.0 = f.split ∙ ap (λ z. z ++ i.0) c.in-Some-pop.ensures.items in
+    let at : get_elem? c.args.seats.items m ≡ some seat = subst (λ z. get_elem? z m ≡ some seat) (sym all) (at_longer (c.pop-in-loop-seat.new.self.items ++ seat ∷ []) i.0 m seat (at_last c.pop-in-loop-seat.new.self.items seat m refl)) in
+    (c.requires.own m seat at, c.requires.some_seat.1)
+
+pub join_seat-requires : goal.join_seat-requires
+join_seat-requires g c =
+    let i = c.loop-seat.invariant in let f = i.2 in
+    let m : ℕ = length c.pop-in-loop-seat.new.self.items in
+    let seat = c.in-Some-pop.seat in
+    let all : c.args.seats.items ≡ (c.pop-in-loop-seat.new.self.items ++ seat ∷ []) ++ i.0 = f.split ∙ ap (λ z. z ++ i.0) c.in-Some-pop.ensures.items in
+    let at : get_elem? c.args.seats.items m ≡ some seat = subst (λ z. get_elem? z m ≡ some seat) (sym all) (at_longer (c.pop-in-loop-seat.new.self.items ++ seat ∷ []) i.0 m seat (at_last c.pop-in-loop-seat.new.self.items seat m refl)) in
+    let e = c.empty_out-other.ensures in
+    (f.table, e.hand.0 ∙ c.requires.own m seat at, ap (λ k. k.1) e.hand.1, c.requires.some_seat.1, joins g.B.Fits.is_fit _ _ _ i.1 _ _ f.placed)
+
+pub loop-seat-preserved : goal.loop-seat-preserved
+loop-seat-preserved g c =
+    let i = c.loop-seat.invariant in let f = i.2 in
+    let m : ℕ = length c.pop-in-loop-seat.new.self.items in
+    let seat = c.in-Some-pop.seat in
+    let all : c.args.seats.items ≡ (c.pop-in-loop-seat.new.self.items ++ seat ∷ []) ++ i.0 = f.split ∙ ap (λ z. z ++ i.0) c.in-Some-pop.ensures.items in
+    let at : get_elem? c.args.seats.items m ≡ some seat = subst (λ z. get_elem? z m ≡ some seat) (sym all) (at_longer (c.pop-in-loop-seat.new.self.items ++ seat ∷ []) i.0 m seat (at_last c.pop-in-loop-seat.new.self.items seat m refl)) in
+    let e = c.empty_out-other.ensures in
+    let j = c.join_seat.ensures in
+    let v = c.loop-seat.hand.me.0 in
+    let joined_is : c.join_seat.new.seat.me.0 ≡ joined v (view_of seat) = ap (λ k. k.0) j.2 ∙ ap (λ k. joined v k.0) e.hand.1 in
+    let size : length c.loop-seat.seats.items ≡ suc m = (let z = ap length c.in-Some-pop.ensures.items ∙ length-append c.pop-in-loop-seat.new.self.items (seat ∷ []) in omega arith) in (
+      seat ∷ i.0,
+      i.1,
+      record {
+        split = all ∙ append_assoc c.pop-in-loop-seat.new.self.items (seat ∷ []) i.0;
+        placed = subst (λ z. Sits z i.1) (sym joined_is) (among_front v.processes (seat.process ∷ []) i.1 f.placed);
+        table = j.0 ∙ f.table;
+        bare = ap (λ k. k.1) j.2 ∙ f.bare;
+        gathered = gathers m c.args.seats.items seat v c.join_seat.new.seat.me.0 c.loop-seat.held.items c.empty_out-other.new.held.items at
+            (subst (λ n. IsGathered n c.args.seats.items v c.loop-seat.held.items) size f.gathered)
+            (ap (λ k. k.processes) joined_is) (ap (λ k. k.records) joined_is) (let k : length c.empty_out-other.new.held.items ≡ length c.loop-seat.held.items = search rules in k) e.full
+            (λ r h. e.lots r (let k : r < vec_len c.loop-seat.held = search rules in k));
+        long = e.long ∙ f.long;
+      },
+    )

@@ -1,0 +1,20 @@
+use Rattle.std.proofs.Common.{◌≡◌, ℕ, ◌++◌, List, length, []}
+use Rattle.std.specs.Vec.{vec_len}
+use Rattle.xh_records.specs.Seats.{Held, IsGathered}
+use Rattle.xh_records.specs.Showing.{Sits}
+use Rattle.xh_records.proofs.closing.join_all.Given as goal
+
+abbrev pub invariant-loop-seat : goal.invariant-loop-seat
+invariant-loop-seat g l =
+    (done : List (Held g.row.B.Denot)) × (p : ℕ)
+    × record {
+      split : l.fn.seats.items ≡ l.seats.items ++ done;
+      placed : Sits l.hand.me.0 p;
+      table : l.hand.table_id ≡ l.board.table_id;
+      bare : l.hand.me.1 ≡ [];
+      gathered : IsGathered (length l.seats.items) l.fn.seats.items l.hand.me.0 l.held.items;
+      long : vec_len l.held ≡ vec_len l.fn.held;
+    }
+
+abbrev pub decreases-loop-seat : goal.decreases-loop-seat
+decreases-loop-seat g l = length l.seats.items

@@ -1,0 +1,55 @@
+use Rattle.std.proofs.Common.{arith, ◌≡◌, ℕ, suc, ◌+◌, ◌-◌, ◌<◌, length, sym, ap, ◌∙◌, subst, ◌∷◌}
+use lib.ListN.{get_elem?}
+use mathlib.Core.Option.{some}
+use Rattle.atomic_table.specs.Table.{rest}
+use Rattle.xh_records.specs.declared.view.View.{View}
+use Rattle.xh_records.specs.Encoding.{holder_of}
+use Rattle.xh_records.specs.Seats.{Distinct, turns}
+use Rattle.xh_records.specs.Showing.{Owns, IsLotAt, lost}
+use Rattle.xh_records.proofs.Keeps.{gives_lot}
+use Rattle.xh_records.proofs.Lists.{turned_at}
+use Rattle.xh_records.proofs.hand.give_slot.Goals as goal
+
+pub overflow_sub-after : goal.overflow_sub-after
+overflow_sub-after g c =
+    let l = c.requires.listed in
+    let t = turned_at c.args.hand.now.me.1 c.position-k.result c.args.slot (subst Distinct l.0 l.1) (subst (λ z. get_elem? z c.position-k.result ≡ some c.args.slot) l.0 c.position-k.ensures) in
+    let long : length c.args.order.now ≡ c.position-k.result + suc t.behind = ap length l.0 ∙ t.long in omega arith
+
+pub overflow_sub-after-2 : goal.overflow_sub-after-2
+overflow_sub-after-2 g c =
+    let l = c.requires.listed in
+    let t = turned_at c.args.hand.now.me.1 c.position-k.result c.args.slot (subst Distinct l.0 l.1) (subst (λ z. get_elem? z c.position-k.result ≡ some c.args.slot) l.0 c.position-k.ensures) in
+    let long : length c.args.order.now ≡ c.position-k.result + suc t.behind = ap length l.0 ∙ t.long in omega arith
+
+pub store-requires : goal.store-requires
+store-requires g c =
+    let l = c.requires.listed in
+    let t = turned_at c.args.hand.now.me.1 c.position-k.result c.args.slot (subst Distinct l.0 l.1) (subst (λ z. get_elem? z c.position-k.result ≡ some c.args.slot) l.0 c.position-k.ensures) in
+    let e = c.turn_by.ensures.2 in
+    let lot = c.requires.lot in (
+      c.turn_by.ensures.0 ∙ c.requires.own.0,
+      subst (λ (n : ℕ). n < c.args.board.now.table_id.words) (sym c.from.ensures) c.requires.own.1,
+      gives_lot g.B.Fits.is_fit c.args.board.now.key _ _ _ _ _ c.requires.owned.0 (holder_of c.args.to) lot.0 t.others c.encode-word.ensures c.requires.away.0 c.requires.away.1
+          (ap (λ m. m.1) e ∙ t.first ∙ (λ i. (sym c.from.ensures i, (sym t.is_value ∙ lot.1) i) ∷ t.others))
+          (subst (λ (z : View × ℕ). Owns z.0 z.1 c.requires.owned.0) (λ i. (sym (ap (λ m. m.0) e) i, sym c.from.ensures i)) c.requires.owned.1)
+          (subst (λ (z : View × ℕ). IsLotAt z.0.shape z.1 lot.0) (λ i. (sym (ap (λ m. m.0) e) i, sym c.from.ensures i)) lot.2)
+          lot.3,
+    )
+
+pub returns : goal.returns
+returns g c =
+    let l = c.requires.listed in
+    let t = turned_at c.args.hand.now.me.1 c.position-k.result c.args.slot (subst Distinct l.0 l.1) (subst (λ z. get_elem? z c.position-k.result ≡ some c.args.slot) l.0 c.position-k.ensures) in
+    let e = c.turn_by.ensures.2 in
+    let long : length c.args.order.now ≡ c.position-k.result + suc t.behind = ap length l.0 ∙ t.long in
+    let after : length c.args.order.now - c.position-k.result - 1 ≡ t.behind = omega arith in
+    let here = ap (λ m. m.1) e ∙ t.first in
+    let m2 = c.store.ensures.2 ∙ (λ i. (lost (e i).0 (c.from.ensures i), rest (here i))) in record {
+      hand = (
+        c.turn_by-2.ensures.0 ∙ c.store.ensures.0 ∙ c.turn_by.ensures.0,
+        c.turn_by-2.ensures.1 ∙ c.store.ensures.1 ∙ c.turn_by.ensures.1,
+        c.turn_by-2.ensures.2 ∙ (λ i. ((m2 i).0, turns (after i) (m2 i).1)) ∙ ap (λ z. (lost c.args.hand.now.me.0 c.args.slot, z)) t.gone,
+      );
+      place = c.position-k.ensures;
+    }

@@ -1,0 +1,10 @@
+use Rattle.std.proofs.Common.{ℕ, ◌<◌, sym, subst}
+use Rattle.xh_records.proofs.Keeps.{looks}
+use Rattle.xh_records.proofs.hand.look_at.Goals as goal
+
+pub load-requires : goal.load-requires
+load-requires g c = (
+  c.requires.own,
+  subst (λ (n : ℕ). n < c.args.board.now.table_id.words) (sym c.from.ensures) c.requires.inside.0,
+  looks g.B.Fits.is_fit c.args.board.now.key _ _ _ _ (subst (λ (n : ℕ). n < c.args.board.now.table_id.slots) (sym c.from.ensures) c.requires.inside.1),
+)

@@ -1,0 +1,16 @@
+use Rattle.std.proofs.Common.{◌≡◌, ℕ, ◌-◌, ◌≤◌, [], length}
+use Rattle.std.specs.Vec.{vec_capacity}
+use mathlib.Core.Option.{some}
+use lib.ListN.{get_elem?}
+use Rattle.xh_records.proofs.Cuts.{dealer}
+use Rattle.xh_records.specs.Seats.{Held}
+use Rattle.xh_records.proofs.records.Records.new.Given as goal
+
+abbrev pub invariant-loop-place : goal.invariant-loop-place
+invariant-loop-place g l = record {
+  here : l.dealer.table_id ≡ l.table.shared.table_id;
+  view : l.dealer.me.0 ≡ dealer l.table.shared.key l.place (l.places - l.place);
+  long : length l.seats.items ≡ l.place;
+  room : l.places ≤ vec_capacity l.seats;
+  seats : (k : ℕ) (x : Held g.row.B.Denot) → get_elem? l.seats.items k ≡ some x → (x.table ≡ l.table.shared.table_id) × (x.shape ≡ l.table.shared.key) × (x.process ≡ k) × (x.lots ≡ []);
+}

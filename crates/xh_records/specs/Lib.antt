@@ -1,0 +1,5 @@
+pub mod Slots
+pub mod Encoding
+pub mod Showing
+pub mod Steps
+pub mod Seats

@@ -1,0 +1,141 @@
+// Takes the table apart.
+ghost use Rattle.std.specs.Prelude.{◌≡◌, ℕ, ◌+◌, ◌<◌, ◌≤◌, [], length, slice_get, Some, None, IfOk, vec_len, vec_capacity};
+ghost use Rattle.std.specs.Slots.{slots_items, slots_len, IsFull as IsWhole};
+ghost use mathlib.Core.Option.{some};
+ghost use lib.ListN.{get_elem?};
+ghost use Rattle.xh_arena.specs.Views.{LotOf};
+ghost use Rattle.xh_records.specs.Slots.{slot_at, or_else};
+ghost use Rattle.xh_records.specs.Showing.{Among};
+ghost use Rattle.xh_records.specs.Seats.{AllSit, Ends, Held, IsGathered, IsSeatOf, indices, lot_in, view_of};
+
+use crate::hand::{Board, Hand};
+use crate::plays::{Both, Whole};
+use crate::records::Records;
+use crate::refused::Refused;
+use crate::seat::Seat;
+use atomic_table::Closed;
+use std::alloc::{AllocError, Global};
+use xh_arena::{Fits, Lot};
+
+// Slots with no lot.
+fn nones<L: Drop>(alloc: Global, count: usize) -> Result<Vec<Option<L>>, AllocError>
+    ensures { IfOk result (λ v. (vec_len v ≡ count) × ((k : ℕ) → slot_at v.items k ≡ None)) }
+{
+    let mut held = Vec::with_capacity(alloc, count)?;
+    for _ in 0..count {
+        held.push_reserved(None);
+    }
+    Ok(held)
+}
+
+// The word in a slot of the closed table.
+fn word_in<L>(closed: &Closed<Option<L>, Global>, slot: usize) -> u64
+    requires { IsWhole closed.now.words × (slot < slots_len closed.now.words) }
+    ensures { get_elem? (slots_items closed.now.words) slot ≡ some result }
+{
+    closed.word(slot)
+}
+
+// Reads all words, and takes for each slot the lot that was held, or else the one at home.
+fn unload<L: Drop>(
+    mut closed: Closed<Option<L>, Global>,
+    mut held: Vec<Option<L>>,
+    mut words: Vec<u64>,
+    mut lots: Vec<L>,
+) -> (Vec<u64>, Vec<L>)
+    requires full { IsWhole closed.words × IsWhole closed.slots × (slots_len closed.words ≡ slots_len closed.slots) × (vec_len held ≡ slots_len closed.slots) }
+    requires room { (words.items ≡ []) × (lots.items ≡ []) × (slots_len closed.slots ≤ vec_capacity words) × (slots_len closed.slots ≤ vec_capacity lots) }
+    requires some_lot { (k : ℕ) → k < slots_len closed.slots → (l : L) × (or_else (slot_at held.items k) (slot_at (slots_items closed.slots) k) ≡ Some l) }
+    ensures words { result.0.items ≡ slots_items closed.words }
+    ensures long { length result.1.items ≡ slots_len closed.slots }
+    ensures lots { (k : ℕ) (l : L) → get_elem? result.1.items k ≡ some l → or_else (slot_at held.items k) (slot_at (slots_items closed.slots) k) ≡ Some l }
+{
+    for slot in 0..closed.slot_count() {
+        words.push_reserved(word_in(&closed, slot));
+        let home = closed.take(slot);
+        let lot = held[slot].take();
+        lots.push_reserved(lot.or(home).unwrap());
+    }
+    closed.free();
+    (words, lots)
+}
+
+// Takes a seat's lots out of its slots, and gives its whole view.
+fn empty_out<B: Fits + Drop>(
+    board: &Board<B>,
+    seat: Seat<B>,
+    held: &mut Vec<Option<Lot<B>>>,
+) -> Hand<B>
+    requires own { (seat.table ≡ board.now.table_id) × (0 < board.now.table_id.words) }
+    requires long { vec_len held.old ≡ board.now.table_id.slots }
+    ensures hand { (result.table_id ≡ seat.table) × (result.me ≡ (view_of seat, [])) }
+    ensures long { vec_len held.new ≡ vec_len held.old }
+    ensures full { (k : ℕ) → Among (indices seat) k → (l : LotOf B) × (lot_in k seat ≡ Some l) }
+    ensures lots { (k : ℕ) → k < vec_len held.old → slot_at held.new.items k ≡ or_else (lot_in k seat) (slot_at held.old.items k) }
+{
+    let Seat {
+        mut hand,
+        order,
+        process: _,
+    } = seat;
+    for k in 0..order.len() {
+        let at = order[k];
+        let slot = usize::from(at);
+        let lot = board.exchange(&mut hand, slot, None);
+        held[slot] = lot;
+        hand.turn();
+    }
+    board.split_seat::<Whole>(&mut hand)
+}
+
+// Empties all seats, and joins their views.
+fn join_all<B: Fits + Drop>(
+    board: &Board<B>,
+    mut seats: Vec<Seat<B>>,
+    held: &mut Vec<Option<Lot<B>>>,
+) -> Hand<B>
+    requires own { (k : ℕ) (x : Held B) → get_elem? seats.items k ≡ some x → x.table ≡ board.now.table_id }
+    requires some_seat { (0 < vec_len seats) × (0 < board.now.table_id.words) }
+    requires long { vec_len held.old ≡ board.now.table_id.slots }
+    requires none { (k : ℕ) → k < vec_len held.old → slot_at held.old.items k ≡ None }
+    ensures hand { (result.table_id ≡ board.now.table_id) × (result.me.1 ≡ []) }
+    ensures gathered { IsGathered 0 seats.items result.me.0 held.new.items }
+    ensures long { vec_len held.new ≡ vec_len held.old }
+{
+    let Some(last) = seats.pop() else {
+        unreachable!()
+    };
+    let mut hand = empty_out(board, last, held);
+    while let Some(seat) = seats.pop() {
+        let other = empty_out(board, seat, held);
+        board.join_seat::<Both>(&mut hand, other);
+    }
+    hand
+}
+
+impl<B: Fits + Drop> Records<B> {
+    /// Takes the table apart, with the seats of all its places in any order: the owner word of each
+    /// record, and its lot, which its seat had or which was at home, in the order of the records.
+    /// OutOfMemory where a growth was refused; all that was handed in is then dropped.
+    pub fn close(
+        self,
+        alloc: Global,
+        seats: Vec<Seat<B>>,
+    ) -> Result<(Vec<u64>, Vec<Lot<B>>), Refused>
+        requires own { (k : ℕ) (x : Held B) → slice_get seats.items k ≡ Some x → IsSeatOf self x }
+        requires all { AllSit self.shape.places seats.items }
+        ensures { IfOk result (λ r. Ends B.is_fit self.shape seats.items r.0.items r.1.items) }
+    {
+        let count = self.table.slot_count();
+        let words = Vec::with_capacity(alloc, count)?;
+        let lots = Vec::with_capacity(alloc, count)?;
+        let mut held = nones(alloc, count)?;
+        let hand = join_all(&self.table.shared, seats, &mut held);
+        let Records {
+            table,
+            arenas: _,
+            records: _,
+        } = self;
+        Ok(unload(table.close_with(hand), held, words, lots))
+    }
+}

@@ -1,0 +1,156 @@
+// Single steps of a seat on the word in one slot, and what the slot has.
+ghost use Rattle.std.specs.Prelude.{◌≡◌, ◌≢◌, ℕ, ◌+◌, ◌<◌, ◌≤◌, ◌==◌, false, [], ◌∷◌, ◌++◌, length, slice_index, Some, Option};
+ghost use mathlib.Core.Option.{none, some};
+ghost use prog.Atomic.{either};
+ghost use lib.ListN.{get_elem?};
+ghost use Rattle.atomic_table.specs.Table.{step, Allows};
+ghost use Rattle.xh_arena.specs.Views.{LotOf};
+ghost use Rattle.xh_model.specs.Words.{word_of, IsHolder, IsWord};
+ghost use Rattle.xh_records.specs.Encoding.{holder_of};
+ghost use Rattle.xh_records.specs.Showing.{Shown, IsLotAt, IsAway, IsHomeLot, Owns, Sits, gained, lost, renewed, without};
+ghost use Rattle.xh_records.specs.Seats.{IsListed, turns, in_slot};
+
+use crate::plays::{Gives, Looks, Renews, Takes};
+use crate::rule::Showing;
+use crate::shape::Shape;
+use crate::view::View;
+use crate::word::OwnerWord;
+use atomic_table::{Play, Shared};
+use xh_arena::{Fits, Lot};
+
+/// The table, as all threads share it.
+pub(crate) type Board<B> = Shared<Option<Lot<B>>, View, Shape, Showing<B>>;
+
+/// A seat at the table.
+pub(crate) type Hand<B> = atomic_table::Seat<Option<Lot<B>>, View>;
+
+// Turns the hand's list so many times.
+pub(crate) fn turn_by<B>(hand: &mut Hand<B>, count: usize)
+    ensures { (hand.new.table_id ≡ hand.old.table_id) × (hand.new.id ≡ hand.old.id) × (hand.new.me ≡ (hand.old.me.0, turns count hand.old.me.1)) }
+{
+    for done in 0..count {
+        hand.turn();
+    }
+}
+
+// Whether one of the 32 slots from k on is this one. It compares all of them, which takes less time than stopping early.
+fn is_near(order: &[u16], k: usize, slot: u16) -> bool
+    requires { k + 32 ≤ length order.now }
+    ensures { result ≡ false → (j : ℕ) → k ≤ j → j < k + 32 → slice_index order.now j ≢ slot }
+{
+    let mut near = false;
+    for at in k..k + 32 {
+        near |= order[at] == slot;
+    }
+    near
+}
+
+// A place at or before the slot's, and near it.
+fn skip_far(order: &[u16], slot: u16) -> usize
+    requires { (k : ℕ) × (get_elem? order.now k ≡ some slot) }
+    ensures { (k : ℕ) × (result ≤ k) × (get_elem? order.now k ≡ some slot) }
+{
+    let mut k = 0;
+    while order.len() - k >= 32 && !is_near(order, k, slot) {
+        k += 32;
+    }
+    k
+}
+
+// Where the slot stands in the order.
+pub(crate) fn position(order: &[u16], slot: u16) -> usize
+    requires { (k : ℕ) × (get_elem? order.now k ≡ some slot) }
+    ensures { get_elem? order.now result ≡ some slot }
+{
+    let mut k = skip_far(order, slot);
+    while order[k] != slot {
+        k += 1;
+    }
+    k
+}
+
+// One compare on the word in a slot. The rule has to allow it, whatever the word is by then.
+fn compare<B: Fits, P: Play<Option<Lot<B>>, View>>(
+    board: &Board<B>,
+    hand: &mut Hand<B>,
+    slot: u16,
+    old: u64,
+    new: u64,
+) -> u64
+    requires own { (hand.old.table_id ≡ board.now.table_id) × (slot < board.now.table_id.words) }
+    requires allowed { Allows (Shown B.is_fit board.now.key) board.now.table_id.slots hand.old.id hand.old.me slot (λ n. either (n == old) new n) (P.then (step board.now.table_id.slots slot old new none) hand.old.me) }
+    ensures same { (hand.new.table_id ≡ hand.old.table_id) × (hand.new.id ≡ hand.old.id) }
+    ensures told { P.then (step board.now.table_id.slots slot old new none) hand.old.me result hand.new.me }
+{
+    board.compare_exchange::<P>(hand, usize::from(slot), old, new)
+}
+
+// Takes the slot of a record that it finds free, or in flight, for a process, behind the hand's other slots. It answers the word that it found.
+pub(crate) fn take_slot<B: Fits>(
+    board: &Board<B>,
+    hand: &mut Hand<B>,
+    slot: u16,
+    from: OwnerWord,
+    process: u16,
+) -> u64
+    requires own { hand.old.table_id ≡ board.now.table_id }
+    requires inside { (slot < board.now.table_id.words) × (slot < board.now.table_id.slots) }
+    requires process { hand.old.me.0.processes ≡ process ∷ [] }
+    requires away { IsAway (holder_of from) }
+    ensures same { (hand.new.table_id ≡ hand.old.table_id) × (hand.new.id ≡ hand.old.id) }
+    ensures taken { result ≡ word_of (holder_of from) → (l : LotOf B) × (hand.new.me ≡ (gained hand.old.me.0 slot process, hand.old.me.1 ++ (slot, Some l) ∷ [])) × IsLotAt hand.old.me.0.shape slot l × IsHomeLot B.is_fit (holder_of from) l × ((p : ℕ) → Owns hand.old.me.0 slot p → ⊥) }
+    ensures missed { result ≢ word_of (holder_of from) → (hand.new.me ≡ hand.old.me) × IsWord result }
+{
+    let wanted = from.encode();
+    let owned = OwnerWord::Owned(process).encode();
+    let found = compare::<B, Takes>(board, hand, slot, wanted, owned);
+    if found == wanted {
+        hand.turn();
+    }
+    found
+}
+
+// Stores the word of a record whose lot goes home. It answers where the slot stood in the order.
+pub(crate) fn give_slot<B: Fits>(
+    board: &Board<B>,
+    hand: &mut Hand<B>,
+    order: &[u16],
+    slot: u16,
+    to: OwnerWord,
+) -> usize
+    requires own { (hand.old.table_id ≡ board.now.table_id) × (slot < board.now.table_id.words) }
+    requires listed { IsListed order.now hand.old.me.1 slot }
+    requires away { IsAway (holder_of to) × IsHolder (holder_of to) }
+    requires lot { (l : LotOf B) × (in_slot slot hand.old.me.1 ≡ Some l) × IsLotAt hand.old.me.0.shape slot l × IsHomeLot B.is_fit (holder_of to) l }
+    requires owned { (p : ℕ) × Owns hand.old.me.0 slot p }
+    ensures hand { (hand.new.table_id ≡ hand.old.table_id) × (hand.new.id ≡ hand.old.id) × (hand.new.me ≡ (lost hand.old.me.0 slot, without slot hand.old.me.1)) }
+    ensures place { get_elem? order.now result ≡ some slot }
+{
+    let k = position(order, slot);
+    let after = order.len() - k - 1;
+    turn_by(hand, k);
+    let word = to.encode();
+    board.store::<Gives>(hand, usize::from(slot), word);
+    turn_by(hand, after);
+    k
+}
+
+// The word in a slot.
+pub(crate) fn look_at<B: Fits>(board: &Board<B>, hand: &mut Hand<B>, slot: u16) -> u64
+    requires own { hand.old.table_id ≡ board.now.table_id }
+    requires inside { (slot < board.now.table_id.words) × (slot < board.now.table_id.slots) }
+    ensures hand { (hand.new.table_id ≡ hand.old.table_id) × (hand.new.id ≡ hand.old.id) × (hand.new.me ≡ hand.old.me) }
+    ensures word { IsWord result }
+{
+    board.load::<Looks>(hand, usize::from(slot))
+}
+
+// The next generation of the hand's one place, which has no record.
+pub(crate) fn renew_hand<B: Fits>(board: &Board<B>, hand: &mut Hand<B>, process: u16)
+    requires own { (hand.old.table_id ≡ board.now.table_id) × (0 < board.now.table_id.words) × (0 < board.now.table_id.slots) }
+    requires process { (hand.old.me.0.processes ≡ process ∷ []) × (process + 32 < 4096) }
+    requires empty { hand.old.me.0.records ≡ [] }
+    ensures { (hand.new.table_id ≡ hand.old.table_id) × (hand.new.id ≡ hand.old.id) × (hand.new.me ≡ (renewed hand.old.me.0, hand.old.me.1)) }
+{
+    board.load::<Renews>(hand, 0);
+}

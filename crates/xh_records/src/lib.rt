@@ -1,0 +1,25 @@
+//! Owner words and slots of the records of all arenas: over every schedule each record has one holder.
+#![tactic(auto)]
+
+mod closing;
+mod hand;
+mod lending;
+mod plays;
+mod records;
+mod refused;
+mod rule;
+mod seat;
+mod seen;
+mod shape;
+#[cfg(test)]
+mod tests;
+mod view;
+mod word;
+
+pub use records::Records;
+pub use refused::Refused;
+pub use seat::Seat;
+pub use seen::Seen;
+pub use shape::Shape;
+pub use view::View;
+pub use word::OwnerWord;

@@ -1,0 +1,73 @@
+// What each kind of step does, and tells its seat.
+use crate::view::View;
+use atomic_table::{Join, Play, Split};
+use xh_arena::{Fits, Lot};
+
+/// Claim, from free, or accept, from in flight.
+pub(crate) struct Takes;
+
+impl<B: Fits> Play<Option<Lot<B>>, View> for Takes {
+    ghost use Rattle.xh_records.specs.Steps.{took};
+
+    ghost then = { took B.is_fit };
+}
+
+/// Pass, to in flight, or vacate, to free.
+pub(crate) struct Gives;
+
+impl<B> Play<Option<Lot<B>>, View> for Gives {
+    ghost use Rattle.xh_records.specs.Steps.{gave};
+
+    ghost then = { gave };
+}
+
+/// A plain load.
+pub(crate) struct Looks;
+
+impl<B> Play<Option<Lot<B>>, View> for Looks {
+    ghost use Rattle.xh_records.specs.Steps.{looked};
+
+    ghost then = { looked };
+}
+
+/// The next generation.
+pub(crate) struct Renews;
+
+impl<B> Play<Option<Lot<B>>, View> for Renews {
+    ghost use Rattle.xh_records.specs.Steps.{aged};
+
+    ghost then = { aged };
+}
+
+/// The first place goes to a new seat.
+pub(crate) struct Deal;
+
+impl Split<View> for Deal {
+    ghost use Rattle.xh_records.specs.Showing.{dealt_from, dealt};
+
+    ghost left = { dealt_from };
+
+    ghost right = { dealt };
+}
+
+/// The whole view goes to a new seat, which holds no slot.
+pub(crate) struct Whole;
+
+impl Split<View> for Whole {
+    ghost use Rattle.xh_records.specs.Showing.{spent};
+
+    ghost left = { λ _. spent };
+
+    ghost right = { λ v. v };
+}
+
+/// Two views become one.
+pub(crate) struct Both;
+
+impl Join<View> for Both {
+    ghost use Rattle.xh_records.specs.Showing.{joined, spent};
+
+    ghost both = { joined };
+
+    ghost spent = { spent };
+}
