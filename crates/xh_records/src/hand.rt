@@ -1,5 +1,5 @@
 // Single steps of a seat on the word in one slot, and what the slot has.
-ghost use Rattle.std.specs.Prelude.{◌≡◌, ◌≢◌, ℕ, ◌+◌, ◌<◌, ◌==◌, [], ◌∷◌, ◌++◌, length, Some, Option};
+ghost use Rattle.std.specs.Prelude.{◌≡◌, ◌≢◌, ℕ, ◌+◌, ◌<◌, ◌≤◌, ◌==◌, false, [], ◌∷◌, ◌++◌, length, slice_index, Some, Option};
 ghost use mathlib.Core.Option.{none, some};
 ghost use prog.Atomic.{either};
 ghost use lib.ListN.{get_elem?};
@@ -33,12 +33,36 @@ pub(crate) fn turn_by<B>(hand: &mut Hand<B>, count: usize)
     }
 }
 
+// Whether one of the 32 slots from k on is this one. It compares all of them, which takes less time than stopping early.
+fn is_near(order: &[u16], k: usize, slot: u16) -> bool
+    requires { k + 32 ≤ length order.now }
+    ensures { result ≡ false → (j : ℕ) → k ≤ j → j < k + 32 → slice_index order.now j ≢ slot }
+{
+    let mut near = false;
+    for at in k..k + 32 {
+        near |= order[at] == slot;
+    }
+    near
+}
+
+// A place at or before the slot's, and near it.
+fn skip_far(order: &[u16], slot: u16) -> usize
+    requires { (k : ℕ) × (get_elem? order.now k ≡ some slot) }
+    ensures { (k : ℕ) × (result ≤ k) × (get_elem? order.now k ≡ some slot) }
+{
+    let mut k = 0;
+    while order.len() - k >= 32 && !is_near(order, k, slot) {
+        k += 32;
+    }
+    k
+}
+
 // Where the slot stands in the order.
 pub(crate) fn position(order: &[u16], slot: u16) -> usize
     requires { (k : ℕ) × (get_elem? order.now k ≡ some slot) }
     ensures { get_elem? order.now result ≡ some slot }
 {
-    let mut k = 0;
+    let mut k = skip_far(order, slot);
     while order[k] != slot {
         k += 1;
     }

@@ -28,6 +28,7 @@ impl Fits for Any {
 }
 
 /// One arena, and two places.
+#[derive(Drop)]
 struct Bench {
     vault: Vault,
     tally: Tally,
@@ -42,7 +43,7 @@ struct Bench {
     ghost tally_of: { tally.id ≡ vault.id },
 }
 
-fn bench(alloc: Global, size: u32, count: u16, wear: u64) -> Option<Bench>
+fn make_bench(alloc: Global, size: u32, count: u16, wear: u64) -> Option<Bench>
     requires { (0 < count) × (count ≤ 256) }
     ensures { IfSome result (λ b. b.records.shape.records ≡ count) }
 {

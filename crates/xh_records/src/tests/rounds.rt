@@ -4,7 +4,7 @@ ghost use Rattle.xh_arena.specs.Views.{LotOf};
 ghost use Rattle.xh_records.specs.Showing.{IsLotOf, without};
 ghost use Rattle.xh_records.specs.Seats.{Held, IsRecord, IsSeatOf, lot_at, put, with_lots};
 
-use super::{Any, Bench, bench};
+use super::{Any, Bench, make_bench};
 use crate::{OwnerWord, Records, Refused, Seat};
 use std::process::Abort;
 use std::test::Fail;
@@ -42,17 +42,18 @@ fn give_back_at(
     records.with_lot(seat, number, &mut |lot: &mut Lot<Any>| vault.give_back(lot, tally));
 }
 
-/// The first seat claims the record, carves it and passes it on direction 5.
-fn give_away(
+/// The first seat claims record 0, carves it and passes it on the direction.
+pub(super) fn give_away(
     rt: &impl Abort,
     records: &Records<Any>,
     seat: &mut Seat<Any>,
     vault: &mut Vault,
     tally: &mut Tally,
+    direction: u8,
 )
     requires own { IsSeatOf records.now seat.old }
     requires bare { seat.old.lots ≡ [] }
-    requires names { records.now.shape.names ≡ vault.old.id ∷ [] }
+    requires names { (records.now.shape.names ≡ vault.old.id ∷ []) × (direction < 128) }
     requires ids { tally.old.id ≡ vault.old.id }
     ensures seat { seat.new ≡ with_lots seat.old [] }
     ensures ids { (tally.new.id ≡ vault.new.id) × (vault.new.id ≡ vault.old.id) }
@@ -66,8 +67,7 @@ fn give_away(
         panic!(rt; "no room");
     };
     assert_eq!(rt; start, 0);
-    records.pass(seat, number, 5);
-    assert_eq!(rt; records.owner_word(seat, number), 22);
+    records.pass(seat, number, direction);
 }
 
 /// The second seat accepts record 0, but not on direction 4, gives its bytes back and vacates it.
@@ -96,7 +96,7 @@ fn take_over(
 
 #[test]
 fn record_words(rt: HostRuntime) -> Result<(), Fail> {
-    let Some(bench) = bench(rt.alloc(), 64, 2, 1000) else {
+    let Some(bench) = make_bench(rt.alloc(), 64, 2, 1000) else {
         panic!(rt; "no bench");
     };
     let Bench {
@@ -107,7 +107,8 @@ fn record_words(rt: HostRuntime) -> Result<(), Fail> {
         mut second,
     } = bench;
     assert!(rt; records.has(1) && !records.has(2) && !records.has(256));
-    give_away(&rt, &records, &mut first, &mut vault, &mut tally);
+    give_away(&rt, &records, &mut first, &mut vault, &mut tally, 5);
+    assert_eq!(rt; records.owner_word(&mut first, 0), 22);
     take_over(&rt, &records, &mut second, &mut vault, &mut tally);
     assert_eq!(rt; (tally.taken(), tally.back()), (32, 32));
     assert_eq!(rt; records.renew(&mut first), 32);
@@ -121,7 +122,7 @@ fn record_words(rt: HostRuntime) -> Result<(), Fail> {
 /// With the first, the second or a later growth refused, the table is there or out of memory.
 #[test]
 fn growths(rt: HostRuntime) -> Result<(), Fail> {
-    let Some(bench) = bench(rt.alloc(), 64, 2, 1000) else {
+    let Some(bench) = make_bench(rt.alloc(), 64, 2, 1000) else {
         return Ok(());
     };
     let Bench {

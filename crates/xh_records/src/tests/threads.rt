@@ -2,11 +2,14 @@
 ghost use Rattle.std.specs.Prelude.{◌≡◌, ◌<◌, length};
 ghost use Rattle.xh_records.specs.Seats.{IsRecord, IsSeatOf};
 
-use super::{Any, Bench, bench};
+use super::rounds::give_away;
+use super::{Any, Bench, make_bench};
 use crate::{Records, Seat};
 use arrayvec::ArrayVec;
+use std::alloc::Global;
+use std::process::Abort;
 use std::test::Fail;
-use std::thread;
+use std::thread::{self, Threads};
 
 /// Claims until no record is free.
 fn claim_all(records: &Records<Any>, mut seat: Seat<Any>) -> (Seat<Any>, ArrayVec<u16, 16>)
@@ -23,8 +26,9 @@ fn claim_all(records: &Records<Any>, mut seat: Seat<Any>) -> (Seat<Any>, ArrayVe
     (seat, claimed)
 }
 
-fn one_claim_each_once(rt: &HostRuntime) -> Result<(), Fail> {
-    let Some(bench) = bench(rt.alloc(), 128, 8, 1000) else {
+/// Eight records, and two threads: each record is claimed once.
+fn claim_each<R: Abort + Threads + Sync>(rt: &R, alloc: Global) -> Result<(), Fail> {
+    let Some(bench) = make_bench(alloc, 128, 8, 1000) else {
         panic!(rt; "no bench");
     };
     let Bench {
@@ -38,11 +42,11 @@ fn one_claim_each_once(rt: &HostRuntime) -> Result<(), Fail> {
         rt,
         move ||
             requires { IsSeatOf all.now first × (0 < length all.now.shape.names) }
-            ensures { IsSeatOf all.now result.0 × (result.0.process ≡ first.process) }
+            ensures { IsSeatOf all.entry.now result.0 × (result.0.process ≡ first.entry.process) }
         { claim_all(all, first) },
         move ||
             requires { IsSeatOf all.now second × (0 < length all.now.shape.names) }
-            ensures { IsSeatOf all.now result.0 × (result.0.process ≡ second.process) }
+            ensures { IsSeatOf all.entry.now result.0 × (result.0.process ≡ second.entry.process) }
         { claim_all(all, second) },
     );
     let mut claims = [0; 8];
@@ -50,17 +54,68 @@ fn one_claim_each_once(rt: &HostRuntime) -> Result<(), Fail> {
         claims[usize::from(*number % 8)] += 1;
     }
     assert_eq!(rt; (claims, one.1.len() + other.1.len()), ([1; 8], 8));
-    let (words, _lots) = records.close(rt.alloc(), vec![in rt.alloc(); one.0, other.0]?)?;
+    let (words, _lots) = records.close(alloc, vec![in alloc; one.0, other.0]?)?;
     for word in words {
         assert!(rt; word == 1 || word == 5);
     }
     Ok(())
 }
 
+/// One try to accept record 0 from direction 0.
+fn accept_once(records: &Records<Any>, mut seat: Seat<Any>) -> (Seat<Any>, Result<(), u64>)
+    requires { IsSeatOf records.now seat × IsRecord records.now.shape 0 }
+    ensures { IsSeatOf records.now result.0 × (result.0.process ≡ seat.process) }
+{
+    let accepted = records.accept(&mut seat, 0, 0);
+    (seat, accepted)
+}
+
+/// A block in flight, and two threads: one accepts it, and the other finds the first one's word.
+fn accept_one<R: Abort + Threads + Sync>(rt: &R, alloc: Global) -> Result<(), Fail> {
+    let Some(bench) = make_bench(alloc, 128, 8, 1000) else {
+        panic!(rt; "no bench");
+    };
+    let Bench {
+        mut vault,
+        mut tally,
+        records,
+        mut first,
+        second,
+    } = bench;
+    give_away(rt, &records, &mut first, &mut vault, &mut tally, 0);
+    let all = &records;
+    let (one, other) = thread::join(
+        rt,
+        move ||
+            requires { IsSeatOf all.now first × IsRecord all.now.shape 0 }
+            ensures { IsSeatOf all.entry.now result.0 × (result.0.process ≡ first.entry.process) }
+        { accept_once(all, first) },
+        move ||
+            requires { IsSeatOf all.now second × IsRecord all.now.shape 0 }
+            ensures { IsSeatOf all.entry.now result.0 × (result.0.process ≡ second.entry.process) }
+        { accept_once(all, second) },
+    );
+    let word = match (one.1, other.1) {
+        (Ok(()), Err(word)) => {
+            assert_eq!(rt; word, 1);
+            word
+        }
+        (Err(word), Ok(())) => {
+            assert_eq!(rt; word, 5);
+            word
+        }
+        _ => panic!(rt; "not one of them"),
+    };
+    let (words, lots) = records.close(alloc, vec![in alloc; one.0, other.0]?)?;
+    assert_eq!(rt; (words[0], lots[0].len()), (word, 32));
+    Ok(())
+}
+
 #[test]
 fn one_claim_each(rt: HostRuntime) -> Result<(), Fail> {
     for _ in 0..20 {
-        one_claim_each_once(&rt)?;
+        claim_each(&rt, rt.alloc())?;
+        accept_one(&rt, rt.alloc())?;
     }
     Ok(())
 }

@@ -8,7 +8,7 @@ use Rattle.xh_records.proofs.Keeps.{in_range, is_there, value_at}
 use Rattle.xh_records.proofs.hand.position.Goals as goal
 
 pub loop-k-init : goal.loop-k-init
-loop-k-init c = (c.requires.0, omega arith, in_range c.args.order.now c.requires.0 c.args.slot c.requires.1, c.requires.1)
+loop-k-init c = let t = c.skip_far-k.ensures in (t.0, t.1, in_range c.args.order.now t.0 c.args.slot t.2, t.2)
 
 pub bounds-order-k : goal.bounds-order-k
 bounds-order-k c = let i = c.loop-k.invariant in let h : i.0 < length c.args.order.now = i.2 in let k : c.loop-k.k ≤ i.0 = i.1 in omega arith
