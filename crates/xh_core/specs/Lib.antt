@@ -9,3 +9,6 @@ pub mod MessageCommands
 pub mod BlockCommands
 pub mod ChannelCommands
 pub mod PlaceCommands
+pub mod Gaining
+pub mod Checks
+pub mod Pairing

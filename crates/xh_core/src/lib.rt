@@ -3,6 +3,7 @@
 
 mod block;
 mod buffer;
+mod config;
 mod contract;
 mod glance;
 mod ledger;
@@ -18,6 +19,7 @@ mod talk_end;
 mod turn;
 
 pub use block::Block;
+pub use config::in_limits;
 pub use contract::Contract;
 pub use glance::Glance;
 pub use ledger::{ArenaLine, Ledger, PlaceLine, State};

@@ -1,12 +1,15 @@
 //! The serial heap: places, channels and the bytes of blocks over the plain machine.
-ghost use Rattle.std.specs.Prelude.{◌≡◌, ◌*◌, ◌≤◌, ◌⊎◌, ◌↔◌, [], None, Err, IfOk, IfErr, OnOk, length, replicate};
-ghost use Rattle.xh_model.specs.Store.{IsConfig, IsLawful, new_store};
+ghost use Rattle.std.specs.Prelude.{◌≡◌, ◌⊎◌, ◌↔◌, [], None, Err, IfOk, IfErr, OnOk, length, replicate};
+ghost use Rattle.xh_model.specs.Store.{IsConfig};
 ghost use Rattle.xh_core.specs.Machine.{no_place, no_line};
 ghost use Rattle.xh_core.specs.PlaceCommands.{new_machine};
 
+mod blocks;
+mod channels;
 mod checks;
 mod ending;
 mod messages;
+mod places;
 mod sweep;
 
 use crate::buffer::Buffer;
@@ -50,21 +53,6 @@ impl Model for Serial {
     ghost view = { λ s. record { store = s.plain; ends = s.ends.items; buffers = s.buffers.items; places = s.places.items; lines = s.lines.items; contracts = s.contracts.items; opened = s.opened; depth = s.depth } };
 
     ghost invariant = { λ s. IsWhole (record { store = s.plain; ends = s.ends.items; buffers = s.buffers.items; places = s.places.items; lines = s.lines.items; contracts = s.contracts.items; opened = s.opened; depth = s.depth }) };
-}
-
-/// A plain machine, with the refusals of this crate.
-fn new_plain(alloc: Global, config: Config) -> Result<Plain, Refused>
-    ensures fresh { IfOk result (λ s. s ≡ new_store config) }
-    ensures lawful { IfOk result IsLawful }
-    ensures limits { OnOk result (IsConfig config) }
-    ensures bad_size { (result ≡ Err Refused.BadSize) ↔ (IsConfig config → ⊥) }
-    ensures refused { IfErr result (λ e. (e ≡ Refused.BadSize) ⊎ (e ≡ Refused.OutOfMemory)) }
-{
-    match Plain::new(alloc, config) {
-        Ok(plain) => Ok(plain),
-        Err(xh_arena::Refused::BadSize) => Err(Refused::BadSize),
-        Err(_) => Err(Refused::OutOfMemory),
-    }
 }
 
 /// No endpoint.
@@ -137,7 +125,7 @@ impl Serial {
         ensures bad_size { (result ≡ Err Refused.BadSize) ↔ (IsConfig config → ⊥) }
         ensures refused { IfErr result (λ e. (e ≡ Refused.BadSize) ⊎ (e ≡ Refused.OutOfMemory)) }
     {
-        let plain = new_plain(alloc, config)?;
+        let plain = Plain::new(alloc, config)?;
         let count = 256 * u16::from(config.arenas);
         Ok(Serial {
             plain,

@@ -1,0 +1,182 @@
+-- What a look shows of a vault's books, and that each change keeps them.
+use Rattle.std.proofs.Common.{◌≡◌, ℕ, zero, suc, ◌+◌, ◌-◌, ◌≤◌, ◌<◌, List, [], ◌∷◌, length, map, set, Some, refl, sym, ap, ◌∙◌, subst, arith}
+use Rattle.std.specs.Prelude.{slice_get, slice_set, slice_index}
+use Rattle.std.proofs.lemmas.Option.{get_or_from_slice_get}
+use Rattle.xh_arena.specs.declared.parts.Part.{Part}
+use Rattle.xh_arena.specs.declared.parts.Part.TheVariants.{Books, Length, Moved}
+use Rattle.xh_arena.specs.Parts.{weigh, tallies_from, whole, AreOfOneWhole, part_in, below, under, with_length, with_taken, with_back}
+use Rattle.xh_arena.specs.Views.{Booked, Move, moved, moves_of, back_of, workers_of, vault_parts, Balanced}
+use Rattle.xh_arena.proofs.Weights.{weigh-set, weigh-at, weigh-none}
+use Rattle.xh_arena.proofs.Wholes.{Stands, weigh-whole, lot_stands, tally_stands, books_stand, no_lots}
+
+stands : (p : Part) (ls : List ℕ) (ts : List (ℕ × ℕ)) → ((h : Part → ℕ) → h p ≤ weigh h (whole ls ts)) → Stands p ls ts
+stands p ls ts w = record { within = w }
+
+lot_shown : (i x : ℕ) (ls : List ℕ) (t b k : ℕ) (rest : List Part) → AreOfOneWhole (Length i x ∷ Books ls t b k ∷ rest) → slice_get ls i ≡ Some x
+lot_shown i x ls t b k rest f =
+    let same = books_stand ls t b k f.0 f.1 (stands (Books ls t b k) f.0 f.1 (λ h. omega (arith, f.3 h))) in
+    let at = lot_stands i x f.0 f.1 (stands (Length i x) f.0 f.1 (λ h. omega (arith, f.3 h))) in
+    let listed : f.0 ≡ ls = cc in
+    subst (λ (ms : List ℕ). slice_get ms i ≡ Some x) listed at
+
+tally_shown : (j x y : ℕ) (ls : List ℕ) (t b k : ℕ) (rest : List Part) → AreOfOneWhole (Moved j x y ∷ Books ls t b k ∷ rest) → (x ≤ t) × (y ≤ b)
+tally_shown j x y ls t b k rest f =
+    let same = books_stand ls t b k f.0 f.1 (stands (Books ls t b k) f.0 f.1 (λ h. omega (arith, f.3 h))) in
+    let at = tally_stands j x y f.0 f.1 (stands (Moved j x y) f.0 f.1 (λ h. omega (arith, f.3 h))) in
+    let T : weigh (λ (u : ℕ × ℕ). u.0) f.1 ≡ t = cc in
+    let B : weigh (λ (u : ℕ × ℕ). u.1) f.1 ≡ b = cc in
+    (omega (arith, weigh-at (λ (u : ℕ × ℕ). u.0) f.1 j (x, y) at), omega (arith, weigh-at (λ (u : ℕ × ℕ). u.1) f.1 j (x, y) at))
+
+tallies_weigh : (h : Part → ℕ) (g : ℕ × ℕ → ℕ) → ((j : ℕ) (u : ℕ × ℕ) → h (Moved j u.0 u.1) ≡ g u) → (i : ℕ) (ts : List (ℕ × ℕ)) → weigh h (tallies_from i ts) ≡ weigh g ts
+tallies_weigh h g e i [] = refl
+tallies_weigh h g e i (t ∷ ts) = omega (arith, e i t, tallies_weigh h g e (suc i) ts)
+
+moves_weigh : (h : Part → ℕ) (g : Move → ℕ) → ((m : Move) → h (moved m) ≡ g m) → (ms : List Move) → weigh h (map moved ms) ≡ weigh g ms
+moves_weigh h g e [] = refl
+moves_weigh h g e (m ∷ ms) = omega (arith, e m, moves_weigh h g e ms)
+
+weigh-ones : {X : Type 0} (xs : List X) → weigh (λ (x : X). 1) xs ≡ length xs
+weigh-ones [] = refl
+weigh-ones (x ∷ xs) = omega (arith, weigh-ones xs)
+
+abbrev one_tally : Part → ℕ
+one_tally (Moved j x y) = 1
+one_tally _ = 0
+
+abbrev taken_in : Part → ℕ
+taken_in (Moved j x y) = x
+taken_in _ = 0
+
+abbrev back_in : Part → ℕ
+back_in (Moved j x y) = y
+back_in _ = 0
+
+taken_none : (p : Part) → one_tally p ≡ 0 → taken_in p ≡ 0
+taken_none (Books l t b k) e = refl
+taken_none (Length r n) e = refl
+taken_none (Moved j x y) e = absurd (omega arith)
+
+back_none : (p : Part) → one_tally p ≡ 0 → back_in p ≡ 0
+back_none (Books l t b k) e = refl
+back_none (Length r n) e = refl
+back_none (Moved j x y) e = absurd (omega arith)
+
+pub all_shown : (ls : List ℕ) (t b k : ℕ) (ms : List Move) → AreOfOneWhole (vault_parts ls t b k ms) → length ms ≡ k → (weigh (λ (m : Move). m.taken) ms ≡ t) × (weigh (λ (m : Move). m.back) ms ≡ b)
+all_shown ls t b k ms f all =
+    let same = books_stand ls t b k f.0 f.1 (stands (Books ls t b k) f.0 f.1 (λ h. omega (arith, f.3 h))) in
+    let ts = f.1 in
+    let os = f.2 in
+    let T : weigh (λ (u : ℕ × ℕ). u.0) ts ≡ t = cc in
+    let B : weigh (λ (u : ℕ × ℕ). u.1) ts ≡ b = cc in
+    let K : length ts ≡ k = cc in
+    let none : weigh one_tally os ≡ 0 =
+    omega (arith, f.3 one_tally, weigh-whole one_tally f.0 ts, no_lots one_tally (λ _ _. refl) 0 f.0, tallies_weigh one_tally (λ _. 1) (λ _ _. refl) 0 ts, weigh-ones ts, moves_weigh one_tally (λ _. 1) (λ _. refl) ms, weigh-ones ms) in
+    let x = weigh-none one_tally taken_in taken_none os none in
+    let y = weigh-none one_tally back_in back_none os none in (
+      omega (arith, f.3 taken_in, weigh-whole taken_in f.0 ts, no_lots taken_in (λ _ _. refl) 0 f.0, tallies_weigh taken_in (λ u. u.0) (λ _ _. refl) 0 ts, moves_weigh taken_in (λ m. m.taken) (λ _. refl) ms),
+      omega (arith, f.3 back_in, weigh-whole back_in f.0 ts, no_lots back_in (λ _ _. refl) 0 f.0, tallies_weigh back_in (λ u. u.1) (λ _ _. refl) 0 ts, moves_weigh back_in (λ m. m.back) (λ _. refl) ms),
+    )
+
+-- the same of the vault's books
+pub lot_known : (vs : List (List Part)) (parts : List Part) (i x : ℕ) (a : Booked) → vs ≡ (Length i x ∷ []) ∷ [] → Balanced a parts → AreOfOneWhole (part_in vs ∷ parts) → slice_get a.lengths i ≡ Some x
+lot_known vs parts i x a e b f =
+    let all : part_in vs ∷ parts ≡ Length i x ∷ vault_parts a.lengths a.wear (back_of parts) (workers_of parts) (moves_of parts) = λ k. part_in (e k) ∷ b.0 k in
+    lot_shown i x a.lengths a.wear (back_of parts) (workers_of parts) (map moved (moves_of parts)) (subst AreOfOneWhole all f)
+
+pub tally_known : (vs : List (List Part)) (parts : List Part) (j x y : ℕ) (a : Booked) → vs ≡ (Moved j x y ∷ []) ∷ [] → Balanced a parts → AreOfOneWhole (part_in vs ∷ parts) → (x ≤ a.wear) × (y ≤ back_of parts)
+tally_known vs parts j x y a e b f =
+    let all : part_in vs ∷ parts ≡ Moved j x y ∷ vault_parts a.lengths a.wear (back_of parts) (workers_of parts) (moves_of parts) = λ k. part_in (e k) ∷ b.0 k in
+    tally_shown j x y a.lengths a.wear (back_of parts) (workers_of parts) (map moved (moves_of parts)) (subst AreOfOneWhole all f)
+
+pub all_known : (parts : List Part) (a : Booked) → Balanced a parts → AreOfOneWhole parts → length (moves_of parts) ≡ workers_of parts → (weigh (λ (m : Move). m.taken) (moves_of parts) ≡ a.wear) × (weigh (λ (m : Move). m.back) (moves_of parts) ≡ back_of parts)
+all_known parts a b f all = all_shown a.lengths a.wear (back_of parts) (workers_of parts) (moves_of parts) (subst AreOfOneWhole b.0 f) all
+
+moves_moved : (ms : List Move) → moves_of (map moved ms) ≡ ms
+moves_moved [] = refl
+moves_moved (m ∷ ms) = λ i. m ∷ moves_moved ms i
+
+-- books that are known whole are balanced
+pub settled : (a : Booked) (parts : List Part) (b k : ℕ) (ms : List Move) → parts ≡ vault_parts a.lengths a.wear b k ms → a.wear ≡ b + weigh (λ (n : ℕ). n) a.lengths → Balanced a parts
+settled a parts b k ms e w = subst (λ (ps : List Part). Balanced a ps) (sym e) (ap (λ l. vault_parts a.lengths a.wear b k l) (sym (moves_moved ms)), w)
+
+pub set_parts : (vs : List (List Part)) (parts now : List Part) (i x n : ℕ) (ls : List ℕ) (t b k : ℕ) (ms : List Move) → vs ≡ (Length i x ∷ []) ∷ [] → parts ≡ vault_parts ls t b k ms → now ≡ below (with_length n (part_in vs ∷ parts)) → now ≡ vault_parts (set ls i n) t b k ms
+set_parts vs parts now i x n ls t b k ms e p w = w ∙ (λ q. below (with_length n (part_in (e q) ∷ p q)))
+
+pub taken_parts : (vs : List (List Part)) (parts now : List Part) (j x y n : ℕ) (ls : List ℕ) (t b k : ℕ) (ms : List Move) → vs ≡ (Moved j x y ∷ []) ∷ [] → parts ≡ vault_parts ls t b k ms → now ≡ below (with_taken n (part_in vs ∷ parts)) → now ≡ vault_parts ls (t + n) b k ms
+taken_parts vs parts now j x y n ls t b k ms e p w = w ∙ (λ q. below (with_taken n (part_in (e q) ∷ p q)))
+
+pub back_parts : (vs : List (List Part)) (parts now : List Part) (j x y n : ℕ) (ls : List ℕ) (t b k : ℕ) (ms : List Move) → vs ≡ (Moved j x y ∷ []) ∷ [] → parts ≡ vault_parts ls t b k ms → now ≡ below (with_back n (part_in vs ∷ parts)) → now ≡ vault_parts ls t (b + n) k ms
+back_parts vs parts now j x y n ls t b k ms e p w = w ∙ (λ q. below (with_back n (part_in (e q) ∷ p q)))
+
+pub along : (a : Booked) (parts now : List Part) → now ≡ parts → Balanced a parts → Balanced a now
+along a parts now e b = subst (λ (ps : List Part). Balanced a ps) (sym e) b
+
+pub fits_along : (p : Part) (parts now : List Part) → now ≡ parts → AreOfOneWhole (p ∷ now) → AreOfOneWhole (p ∷ parts)
+fits_along p parts now e f = subst (λ (ps : List Part). AreOfOneWhole (p ∷ ps)) e f
+
+pub carve_kept : (a a' : Booked) (p p1 p2 : List Part) (vs ts : List (List Part)) (i m n j x y : ℕ) → Balanced a p → vs ≡ (Length i m ∷ []) ∷ [] → ts ≡ (Moved j x y ∷ []) ∷ [] → slice_get a.lengths i ≡ Some 0
+    → p1 ≡ below (with_length n (part_in vs ∷ p)) → p2 ≡ below (with_taken n (part_in ts ∷ p1)) → a'.lengths ≡ slice_set a.lengths i n → a'.wear ≡ a.wear + n → Balanced a' p2
+carve_kept a a' p p1 p2 vs ts i m n j x y b v t at e1 e2 l w =
+    let bk = back_of p in
+    let wk = workers_of p in
+    let ms = moves_of p in
+    let q1 = set_parts vs p p1 i m n a.lengths a.wear bk wk ms v b.0 e1 in
+    let q2 = taken_parts ts p1 p2 j x y n (slice_set a.lengths i n) a.wear bk wk ms t q1 e2 in
+    let total = weigh-set (λ (u : ℕ). u) a.lengths i 0 n at in
+    let sums : weigh (λ (u : ℕ). u) a'.lengths ≡ weigh (λ (u : ℕ). u) (slice_set a.lengths i n) = ap (λ l. weigh (λ (u : ℕ). u) l) l in
+    settled a' p2 bk wk ms (q2 ∙ (λ k. vault_parts (sym l k) (sym w k) bk wk ms)) (omega (arith, b.1))
+
+pub give_kept : (a a' : Booked) (p p1 p2 : List Part) (vs ts : List (List Part)) (i n j x y : ℕ) → Balanced a p → vs ≡ (Length i n ∷ []) ∷ [] → ts ≡ (Moved j x y ∷ []) ∷ [] → slice_get a.lengths i ≡ Some n
+    → p1 ≡ below (with_length 0 (part_in vs ∷ p)) → p2 ≡ below (with_back n (part_in ts ∷ p1)) → a'.lengths ≡ slice_set a.lengths i 0 → a'.wear ≡ a.wear → Balanced a' p2
+give_kept a a' p p1 p2 vs ts i n j x y b v t at e1 e2 l w =
+    let bk = back_of p in
+    let wk = workers_of p in
+    let ms = moves_of p in
+    let q1 = set_parts vs p p1 i n 0 a.lengths a.wear bk wk ms v b.0 e1 in
+    let q2 = back_parts ts p1 p2 j x y n (slice_set a.lengths i 0) a.wear bk wk ms t q1 e2 in
+    let total = weigh-set (λ (u : ℕ). u) a.lengths i n 0 at in
+    let sums : weigh (λ (u : ℕ). u) a'.lengths ≡ weigh (λ (u : ℕ). u) (slice_set a.lengths i 0) = ap (λ l. weigh (λ (u : ℕ). u) l) l in
+    settled a' p2 (bk + n) wk ms (q2 ∙ (λ k. vault_parts (sym l k) (sym w k) (bk + n) wk ms)) (omega (arith, b.1))
+
+pub get_set_other : {X : Type 0} (xs : List X) (i j : ℕ) (y : X) → (j ≡ i → ⊥) → slice_get (set xs i y) j ≡ slice_get xs j
+get_set_other [] i j y n = refl
+get_set_other (x ∷ xs) zero zero y n = absurd (n refl)
+get_set_other (x ∷ xs) zero (suc j) y n = refl
+get_set_other (x ∷ xs) (suc i) zero y n = refl
+get_set_other (x ∷ xs) (suc i) (suc j) y n = get_set_other xs i j y (λ e. n (ap suc e))
+
+-- records with different lengths are different
+pub apart : (ls : List ℕ) (i j m : ℕ) → slice_get ls i ≡ Some m → slice_get ls j ≡ Some 0 → 0 < m → j ≡ i → ⊥
+apart ls i j m a b h e = let c : Some m ≡ Some 0 = sym a ∙ ap (λ k. slice_get ls k) (sym e) ∙ b in let z : m ≡ 0 = cc in absurd (omega arith)
+
+pub cut_kept : (a a' : Booked) (p p1 p2 : List Part) (vs ts : List (List Part)) (i m j n k : ℕ) → Balanced a p → vs ≡ (Length i m ∷ []) ∷ [] → ts ≡ (Length j n ∷ []) ∷ [] → slice_get a.lengths i ≡ Some m → slice_get a.lengths j ≡ Some 0
+    → k < m → p1 ≡ below (with_length k (part_in vs ∷ p)) → p2 ≡ below (with_length (m - k) (part_in ts ∷ p1)) → a'.lengths ≡ slice_set (slice_set a.lengths i k) j (m - k) → a'.wear ≡ a.wear → Balanced a' p2
+cut_kept a a' p p1 p2 vs ts i m j n k b v t at there h e1 e2 l w =
+    let bk = back_of p in
+    let wk = workers_of p in
+    let ms = moves_of p in
+    let q1 = set_parts vs p p1 i m k a.lengths a.wear bk wk ms v b.0 e1 in
+    let q2 = set_parts ts p1 p2 j n (m - k) (slice_set a.lengths i k) a.wear bk wk ms t q1 e2 in
+    let total = weigh-set (λ (u : ℕ). u) a.lengths i m k at in
+    let still : slice_get (slice_set a.lengths i k) j ≡ Some 0 = get_set_other a.lengths i j k (apart a.lengths i j m at there (omega arith)) ∙ there in
+    let total' = weigh-set (λ (u : ℕ). u) (slice_set a.lengths i k) j 0 (m - k) still in
+    let sums : weigh (λ (u : ℕ). u) a'.lengths ≡ weigh (λ (u : ℕ). u) (slice_set (slice_set a.lengths i k) j (m - k)) = ap (λ l. weigh (λ (u : ℕ). u) l) l in
+    settled a' p2 bk wk ms (q2 ∙ (λ q. vault_parts (sym l q) (sym w q) bk wk ms)) (omega (arith, b.1))
+
+pub index_known : (ls : List ℕ) (i n : ℕ) → slice_get ls i ≡ Some n → slice_index ls i ≡ n
+index_known ls i n e = get_or_from_slice_get ls i n 0 e
+
+pub collect_kept : (a : Booked) (p p1 : List Part) (ts : List (List Part)) (j x y : ℕ) → Balanced a p → ts ≡ (Moved j x y ∷ []) ∷ [] → p1 ≡ under p (part_in ts ∷ []) → Balanced a p1
+collect_kept a p p1 ts j x y b t e =
+    settled a p1 (back_of p) (workers_of p) (record { number = j; taken = x; back = y } ∷ moves_of p) (e ∙ (λ q. under (b.0 q) (part_in (t q) ∷ []))) b.1
+
+-- what contracts see of the parts after a cut
+pub cut_parts : (a : Booked) (p p1 p2 : List Part) (vs ts : List (List Part)) (i m j n k : ℕ) → Balanced a p → vs ≡ (Length i m ∷ []) ∷ [] → ts ≡ (Length j n ∷ []) ∷ []
+    → p1 ≡ below (with_length k (part_in vs ∷ p)) → p2 ≡ below (with_length (m - k) (part_in ts ∷ p1)) → (back_of p2 ≡ back_of p) × (workers_of p2 ≡ workers_of p) × (moves_of p2 ≡ moves_of p)
+cut_parts a p p1 p2 vs ts i m j n k b v t e1 e2 =
+    let bk = back_of p in
+    let wk = workers_of p in
+    let ms = moves_of p in
+    let q1 = set_parts vs p p1 i m k a.lengths a.wear bk wk ms v b.0 e1 in
+    let q2 = set_parts ts p1 p2 j n (m - k) (slice_set a.lengths i k) a.wear bk wk ms t q1 e2 in
+    (ap back_of q2, ap workers_of q2, ap moves_of q2 ∙ moves_moved ms)

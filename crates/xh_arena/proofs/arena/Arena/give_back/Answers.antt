@@ -1,0 +1,64 @@
+use Rattle.std.proofs.Common.{◌<◌, length, refl, arith}
+use Rattle.std.proofs.lemmas.List.{length-set}
+use Rattle.std.specs.Vec.{vec_capacity}
+use Rattle.xh_model.specs.Cover.{length_of}
+use Rattle.xh_model.proofs.Lengths.{lengths_set}
+use Rattle.xh_arena.specs.Layout.{cover_of}
+use Rattle.xh_arena.proofs.Kept.{kept-lawful}
+use Rattle.xh_arena.proofs.Steps.{BackDone, back_by, holes_within}
+use Rattle.xh_arena.proofs.Room.{holes_room}
+use Rattle.xh_arena.proofs.arena.Arena.give_back.Goals as goal
+
+at_sum : (c : goal.After-self-1) → BackDone c.self.inside.size c.self.inside.extents.items c.self.inside.holes.items c.self.inside.handed_out c.args.r c.index.result.now
+at_sum c =
+    let known : c.args.r < length c.self.inside.extents.items = rw (← c.self.view_is) at c.requires.known in
+    let held : 0 < length_of c.args.r (cover_of c.self.inside.size c.self.inside.extents.items) = rw (← c.self.view_is) at c.requires.held in
+    back_by _ _ _ _ _ _ c.self.invariant.kept known held (rw c.from-index.ensures at c.index.ensures)
+
+done : (c : goal.After-add_hole) → BackDone c.self.inside.size c.self.inside.extents.items c.self.inside.holes.items c.self.inside.handed_out c.args.r c.index.result.now
+done c =
+    let known : c.args.r < length c.self.inside.extents.items = rw (← c.self.view_is) at c.requires.known in
+    let held : 0 < length_of c.args.r (cover_of c.self.inside.size c.self.inside.extents.items) = rw (← c.self.view_is) at c.requires.held in
+    back_by _ _ _ _ _ _ c.self.invariant.kept known held (rw c.from-index.ensures at c.index.ensures)
+
+pub overflow_sub-self : goal.overflow_sub-self
+overflow_sub-self c = (at_sum c).taken
+
+pub add_hole-requires-clause-room : goal.add_hole-requires-clause-room
+add_hole-requires-clause-room c =
+    let room : length c.self.inside.holes.items < vec_capacity c.self.inside.holes = holes_room _ _ _ _ _ c.self.invariant.kept c.self.invariant.spare in
+    omega (arith, c.self.inside.holes.ok)
+
+pub add_hole-requires-clause-within : goal.add_hole-requires-clause-within
+add_hole-requires-clause-within c = holes_within _ _ _ _ c.self.invariant.kept c.self.invariant.bytes
+
+pub invariant_of-self : goal.invariant_of-self
+invariant_of-self c = rw (c.from-index.ensures, c.add_hole.ensures.items) (record {
+  kept = (done c).kept;
+  bytes = c.self.invariant.bytes;
+  worn = c.self.invariant.worn;
+  most = c.self.invariant.most;
+  few = rw length-set c.self.invariant.few;
+  spare = rw length-set (let old = c.self.invariant.spare in let more = c.add_hole.ensures.capacity in omega arith);
+})
+
+pub returns-clause-back : goal.returns-clause-back
+returns-clause-back c = rw (c.from-index.ensures, ← c.self.view_is, (done c).cover, length-set c.self.inside.extents.items) refl
+
+pub returns-clause-others : goal.returns-clause-others
+returns-clause-others c = rw (c.from-index.ensures, ← c.self.view_is) (done c).others
+
+pub returns-clause-empty : goal.returns-clause-empty
+returns-clause-empty c = rw c.from-index.ensures (done c).empty
+
+pub returns-clause-bytes : goal.returns-clause-bytes
+returns-clause-bytes c = rw (c.from-index.ensures, ← c.self.view_is) (done c).bytes
+
+pub returns-clause-lawful : goal.returns-clause-lawful
+returns-clause-lawful c = kept-lawful _ _ _ _ _ _ (invariant_of-self c).kept
+
+pub returns-clause-lengths : goal.returns-clause-lengths
+returns-clause-lengths c =
+    let known : c.args.r < length c.self.inside.extents.items = rw (← c.self.view_is) at c.requires.known in
+    rw (c.from-index.ensures, ← c.self.view_is)
+    (lengths_set _ _ c.args.r 0 (length-set c.self.inside.extents.items c.args.r _) known (done c).empty (λ q ne. ((done c).others q ne).1))

@@ -1,0 +1,7 @@
+use Rattle.std.proofs.Common.{sym}
+use Rattle.std.proofs.lemmas.List.FromFn.{length-map-range_with_len}
+use Rattle.xh_arena.specs.Layout.{owner_of}
+use Rattle.xh_arena.proofs.arena.Arena.size.Goals as goal
+
+pub returns-clause-size : goal.returns-clause-size
+returns-clause-size c = rw (← c.self.view_is) (sym (length-map-range_with_len (owner_of c.self.inside.extents.items) 0 c.self.inside.size))

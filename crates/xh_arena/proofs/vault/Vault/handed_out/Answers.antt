@@ -1,0 +1,13 @@
+use Rattle.std.proofs.Common.{◌≡◌, ℕ, ◌+◌, sym, ap, ◌∙◌}
+use Rattle.xh_model.specs.Cover.{lengths_of}
+use Rattle.xh_model.proofs.Lengths.{sum-lengths}
+use Rattle.xh_arena.specs.Views.{back_of}
+use Rattle.xh_arena.proofs.Weights.{weigh_all}
+use Rattle.xh_arena.proofs.vault.Vault.handed_out.Goals as goal
+
+pub returns-clause-sum : goal.returns-clause-sum
+returns-clause-sum c = rw (← c.self.view_is) (c.handed_out.ensures.sum ∙ sym (sum-lengths c.self.inside.arena))
+
+pub returns-clause-books : goal.returns-clause-books
+returns-clause-books c =
+    rw (← c.self.view_is) (c.self.invariant.balanced.1 ∙ ap (λ n. back_of c.self.inside.shares.parts + n) (weigh_all (lengths_of c.self.inside.arena) ∙ (sum-lengths c.self.inside.arena ∙ sym c.handed_out.ensures.sum)))

@@ -1,0 +1,82 @@
+-- The parts of a vault's knowledge, and the rule that they keep: each stands once.
+use Rattle.std.specs.Prelude.{◌≡◌, ℕ, suc, ◌+◌, List, [], ◌∷◌, ◌++◌, length, replicate, slice_set}
+use Rattle.atomic_table.specs.Table.{State, Step, Me}
+use Rattle.xh_arena.specs.declared.parts.Part.{Part}
+use Rattle.xh_arena.specs.declared.parts.Part.TheVariants.{Books, Length, Moved}
+
+-- f of each, added up
+abbrev pub weigh : {X : Type 0} → (X → ℕ) → List X → ℕ
+weigh f [] = 0
+weigh f (x ∷ xs) = f x + weigh f xs
+
+-- the lots of the records from r on, with these lengths
+abbrev pub lots_from : ℕ → List ℕ → List Part
+lots_from r [] = []
+lots_from r (n ∷ ns) = Length r n ∷ lots_from (suc r) ns
+
+-- the tallies from number j on, each with what it has taken and given back
+abbrev pub tallies_from : ℕ → List (ℕ × ℕ) → List Part
+tallies_from j [] = []
+tallies_from j (t ∷ ts) = Moved j t.0 t.1 ∷ tallies_from (suc j) ts
+
+-- the vault's part: the books of taken and back are the sums over the tallies
+abbrev pub books : List ℕ → List (ℕ × ℕ) → Part
+books ls ts = Books ls (weigh (λ t. t.0) ts) (weigh (λ t. t.1) ts) (length ts)
+
+-- every part of a vault whose records have the lengths ls and whose tallies have moved ts, each once
+abbrev pub whole : List ℕ → List (ℕ × ℕ) → List Part
+whole ls ts = lots_from 0 ls ++ (tallies_from 0 ts ++ books ls ts ∷ [])
+
+abbrev pub first_parts : ℕ → ℕ → List Part
+first_parts records workers = whole (replicate records 0) (replicate workers (0, 0))
+
+-- the views together are one whole, however their parts are weighed, and the word is 0
+abbrev pub Kept : {S : Type 0} → State S (List Part) → Type 0
+Kept s = (s.words ≡ 0 ∷ []) × ((ls : List ℕ) × (ts : List (ℕ × ℕ)) × ((h : Part → ℕ) → weigh (weigh h) s.views ≡ weigh h (whole ls ts)))
+
+abbrev pub top : List Part → List Part
+top [] = []
+top (p ∷ ps) = p ∷ []
+
+abbrev pub below : List Part → List Part
+below [] = []
+below (p ∷ ps) = ps
+
+-- these parts, with others, are one whole
+abbrev pub AreOfOneWhole : List Part → Type 0
+AreOfOneWhole v = (ls : List ℕ) × (ts : List (ℕ × ℕ)) × (others : List Part) × ((h : Part → ℕ) → weigh h v + weigh h others ≡ weigh h (whole ls ts))
+
+abbrev pub Looked : {S : Type 0} → Step S → Me S (List Part) → ℕ → Me S (List Part) → Type 0
+Looked s v n w = (w ≡ v) × AreOfOneWhole v.0
+
+-- the view is what f makes of it
+abbrev pub Changed : (List Part → List Part) → {S : Type 0} → Step S → Me S (List Part) → ℕ → Me S (List Part) → Type 0
+Changed f s v n w = w ≡ (f v.0, v.1)
+
+-- the one part of a share that isn't blank
+abbrev pub part_in : List (List Part) → Part
+part_in ((p ∷ ps) ∷ vs) = p
+part_in _ = Length 0 0
+
+-- a share is one part
+abbrev pub IsOne : List (List Part) → Type 0
+IsOne vs = vs ≡ (part_in vs ∷ []) ∷ []
+
+-- the other's parts go under the top
+abbrev pub under : List Part → List Part → List Part
+under v w = top v ++ (w ++ below v)
+
+-- the lot on top of the books has the length n
+abbrev pub with_length : ℕ → List Part → List Part
+with_length n (Length r x ∷ Books ls t b k ∷ rest) = Length r n ∷ Books (slice_set ls r n) t b k ∷ rest
+with_length n v = v
+
+-- the tally on top of the books has taken n more
+abbrev pub with_taken : ℕ → List Part → List Part
+with_taken n (Moved j x y ∷ Books ls t b k ∷ rest) = Moved j (x + n) y ∷ Books ls (t + n) b k ∷ rest
+with_taken n v = v
+
+-- the tally on top of the books has given n more back
+abbrev pub with_back : ℕ → List Part → List Part
+with_back n (Moved j x y ∷ Books ls t b k ∷ rest) = Moved j x (y + n) ∷ Books ls t (b + n) k ∷ rest
+with_back n v = v

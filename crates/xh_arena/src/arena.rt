@@ -1,0 +1,255 @@
+//! An arena: its records' extents and its holes.
+ghost use Rattle.std.specs.Prelude.{◌≡◌, ◌≢◌, ℕ, ◌+◌, ◌-◌, ◌<◌, ◌≤◌, ◌%◌, ◌∷◌, [], ◌↔◌, IfOk, IfErr, OnOk, OnErr, IsOk, IsTrue, MatchOption, ◌⊎◌, Some, None, length, replicate, slice_set, vec_capacity};
+ghost use Rattle.std.specs.List.{range_with_len, sum_by};
+ghost use Rattle.xh_model.specs.Cover.{State, AreHoles, AreLimits, IsGoodCut, IsLeastFree, IsLawful, SameRun, bytes_out, carved, cut_past, first_fit, given_back, holes_of, length_of, lengths_of, run_of};
+ghost use Rattle.xh_arena.specs.Refusals.{RefusesCarve};
+
+use crate::holes::{add_hole, first_hole, take_front};
+use crate::refused::Refused;
+use std::alloc::{AllocError, Global};
+use std::marker::Model;
+
+/// The most bytes of an arena.
+pub(crate) const MOST_BYTES: u32 = 1_048_576;
+
+/// The most records of an arena.
+const MOST_RECORDS: u16 = 256;
+
+/// The most bytes that an arena can ever hand out.
+const MOST_WEAR: u64 = 9_223_372_036_854_775_807;
+
+/// A range of bytes: the extent of each record is a run of it, and all other bytes are holes.
+///
+/// Records are numbered from 0. Every start, length and size is in bytes, and a multiple of 16. The books take a few
+/// bytes for each record, whatever the size, and no call but `new` takes memory.
+#[derive(Drop)]
+pub struct Arena {
+    size: u32,
+    /// By record, the start and the length; the length is 0 where the record is empty.
+    extents: Vec<(u32, u32)>,
+    /// In rising order, each a start and a length.
+    holes: Vec<(u32, u32)>,
+    handed_out: u32,
+    wear: u64,
+    limit: u64,
+}
+
+impl Model for Arena {
+    ghost use Rattle.std.specs.Prelude.{length, vec_capacity};
+    ghost use Rattle.xh_model.specs.Cover.{State};
+    ghost use Rattle.xh_arena.specs.Layout.{IsArena, cover_of};
+
+    ghost Value = { State };
+
+    ghost view = { λ a. record { cover = cover_of a.size a.extents.items; records = length a.extents.items; wear = a.wear; limit = a.limit } };
+
+    ghost invariant = { λ a. IsArena a.size a.extents.items a.holes.items a.handed_out a.wear a.limit (vec_capacity a.holes) };
+}
+
+fn in_limits(size: u32, records: u16, wear: u64) -> bool
+    ensures { IsTrue result ↔ AreLimits size records wear }
+{
+    size >= 16
+        && size <= MOST_BYTES
+        && size % 16 == 0
+        && records >= 1
+        && records <= MOST_RECORDS
+        && wear <= MOST_WEAR
+}
+
+/// The extents of records that are all empty.
+fn no_extents(alloc: Global, count: usize) -> Result<Vec<(u32, u32)>, AllocError>
+    ensures { IfOk result (λ extents. extents.items ≡ replicate count (0, 0)) }
+{
+    vec![in alloc; (0, 0); count]
+}
+
+/// One hole, with room for more.
+fn one_hole(alloc: Global, size: u32, room: usize) -> Result<Vec<(u32, u32)>, AllocError>
+    ensures items { IfOk result (λ holes. holes.items ≡ (0, size) ∷ []) }
+    ensures room { IfOk result (λ holes. room ≤ vec_capacity holes) }
+{
+    let mut holes = Vec::with_capacity(alloc, room)?;
+    holes.push((0, size))?;
+    Ok(holes)
+}
+
+impl Arena {
+    /// An arena of `size` bytes for `records` records, all empty, that may ever hand out `wear` bytes.
+    ///
+    /// The size is 16 to 1,048,576 and a multiple of 16, the records are 1 to 256, and the wear is below 2^63: else
+    /// BadSize, before any memory is asked for. OutOfMemory only where a growth was refused. All room is taken here.
+    pub fn new(alloc: Global, size: u32, records: u16, wear: u64) -> Result<Arena, Refused>
+        ensures fresh { IfOk result (λ arena. arena ≡ record { cover = replicate size None; records = records; wear = 0; limit = wear }) }
+        ensures limits { OnOk result (AreLimits size records wear) }
+        ensures bad_size { (result ≡ Err Refused.BadSize) ↔ (AreLimits size records wear → ⊥) }
+        ensures lawful { IfOk result IsLawful }
+        ensures lengths { IfOk result (λ arena. lengths_of arena ≡ replicate records 0) }
+        ensures refused { IfErr result (λ e. (e ≡ Refused.BadSize) ⊎ (e ≡ Refused.OutOfMemory)) }
+    {
+        if !in_limits(size, records, wear) {
+            return Err(Refused::BadSize);
+        }
+        let Ok(extents) = no_extents(alloc, usize::from(records)) else {
+            return Err(Refused::OutOfMemory);
+        };
+        let Ok(holes) = one_hole(alloc, size, usize::from(records) + 2) else {
+            return Err(Refused::OutOfMemory);
+        };
+        Ok(Arena {
+            size,
+            extents,
+            holes,
+            handed_out: 0,
+            wear: 0,
+            limit: wear,
+        })
+    }
+
+    /// Gives the empty record `r` the first `n` bytes that are free in a row, and answers where they begin.
+    ///
+    /// `n` is a multiple of 16, at least 16. NoSpace where no hole holds `n`; then Worn where the bytes ever handed out
+    /// would pass the arena's limit.
+    pub fn carve(&mut self, r: u16, n: u32) -> Result<u32, Refused>
+        requires known { r < self.old.records }
+        requires empty { length_of r self.old.cover ≡ 0 }
+        requires some { 0 < n }
+        requires multiple { n % 16 ≡ 0 }
+        ensures place { IfOk result (λ at. first_fit n self.old.cover ≡ Some at) }
+        ensures least { IfOk result (IsLeastFree n self.old.cover) }
+        ensures carved { IfOk result (λ at. self.new ≡ record self.old { cover = carved r at n self.old.cover; wear = self.old.wear + n }) }
+        ensures within_limit { self.new.wear ≤ self.new.limit }
+        ensures reason { IfErr result (RefusesCarve n self.old) }
+        ensures unchanged { OnErr result (self.new ≡ self.old) }
+        ensures run { IfOk result (λ at. run_of r self.new.cover ≡ Some (at, n)) }
+        ensures length { OnOk result (length_of r self.new.cover ≡ n) }
+        ensures bytes { OnOk result (bytes_out self.new.cover ≡ bytes_out self.old.cover + n) }
+        ensures lengths { OnOk result (lengths_of self.new ≡ slice_set (lengths_of self.old) r n) }
+        ensures size { length self.new.cover ≡ length self.old.cover }
+        ensures records { self.new.records ≡ self.old.records }
+        ensures limit { self.new.limit ≡ self.old.limit }
+        ensures others { (q : ℕ) → q ≢ r → SameRun q self.old.cover self.new.cover }
+        ensures lawful { IsLawful self.new }
+    {
+        let Some(at) = first_hole(&self.holes, n) else {
+            return Err(Refused::NoSpace);
+        };
+        if self.limit - self.wear < u64::from(n) {
+            return Err(Refused::Worn);
+        }
+        let start = take_front(&mut self.holes, at, n);
+        self.extents[usize::from(r)] = (start, n);
+        self.handed_out += n;
+        self.wear += u64::from(n);
+        Ok(start)
+    }
+
+    /// Gives all of the record `r` past its first `k` bytes to the empty record `t`.
+    ///
+    /// BadCut where `k` is 0, not a multiple of 16, or not below the length of `r`.
+    pub fn cut(&mut self, r: u16, t: u16, k: u32) -> Result<(), Refused>
+        requires known { r < self.old.records }
+        requires tail_known { t < self.old.records }
+        requires other { t ≢ r }
+        requires empty { length_of t self.old.cover ≡ 0 }
+        ensures cut { OnOk result (self.new ≡ record self.old { cover = cut_past r t k self.old.cover }) }
+        ensures good { IsOk result ↔ IsGoodCut k (length_of r self.old.cover) }
+        ensures reason { IfErr result (λ e. e ≡ Refused.BadCut) }
+        ensures unchanged { OnErr result (self.new ≡ self.old) }
+        ensures runs { OnOk result ((s n : ℕ) → run_of r self.old.cover ≡ Some (s, n) → (run_of r self.new.cover ≡ Some (s, k)) × (run_of t self.new.cover ≡ Some (s + k, n - k))) }
+        ensures head { OnOk result (length_of r self.new.cover ≡ k) }
+        ensures tail { OnOk result (length_of t self.new.cover + k ≡ length_of r self.old.cover) }
+        ensures bytes { bytes_out self.new.cover ≡ bytes_out self.old.cover }
+        ensures lengths { OnOk result (lengths_of self.new ≡ slice_set (slice_set (lengths_of self.old) r k) t (length_of r self.old.cover - k)) }
+        ensures size { length self.new.cover ≡ length self.old.cover }
+        ensures records { self.new.records ≡ self.old.records }
+        ensures limit { self.new.limit ≡ self.old.limit }
+        ensures others { (q : ℕ) → q ≢ r → q ≢ t → SameRun q self.old.cover self.new.cover }
+        ensures lawful { IsLawful self.new }
+    {
+        let (head, tail) = (usize::from(r), usize::from(t));
+        let (start, length) = self.extents[head];
+        if k == 0 || k % 16 != 0 || k >= length {
+            return Err(Refused::BadCut);
+        }
+        self.extents[head] = (start, k);
+        self.extents[tail] = (start + k, length - k);
+        Ok(())
+    }
+
+    /// Makes the bytes of the record `r`, which has some, a hole, joined with the holes beside it. It cannot fail.
+    pub fn give_back(&mut self, r: u16)
+        requires known { r < self.old.records }
+        requires held { 0 < length_of r self.old.cover }
+        ensures back { self.new ≡ record self.old { cover = given_back r self.old.cover } }
+        ensures empty { length_of r self.new.cover ≡ 0 }
+        ensures bytes { bytes_out self.new.cover + length_of r self.old.cover ≡ bytes_out self.old.cover }
+        ensures lengths { lengths_of self.new ≡ slice_set (lengths_of self.old) r 0 }
+        ensures size { length self.new.cover ≡ length self.old.cover }
+        ensures records { self.new.records ≡ self.old.records }
+        ensures limit { self.new.limit ≡ self.old.limit }
+        ensures others { (q : ℕ) → q ≢ r → SameRun q self.old.cover self.new.cover }
+        ensures lawful { IsLawful self.new }
+    {
+        let index = usize::from(r);
+        let (start, length) = self.extents[index];
+        self.extents[index] = (0, 0);
+        self.handed_out -= length;
+        add_hole(&mut self.holes, start, length);
+    }
+
+    /// Where the bytes of the record `r` begin and how many they are, or nothing where it is empty.
+    pub fn extent(&self, r: u16) -> Option<(u32, u32)>
+        requires { r < self.now.records }
+        ensures is { result ≡ run_of r self.now.cover }
+        ensures length { MatchOption result (length_of r self.now.cover ≡ 0) (λ run. length_of r self.now.cover ≡ run.1) }
+    {
+        let extent = self.extents[usize::from(r)];
+        if extent.1 == 0 { None } else { Some(extent) }
+    }
+
+    /// The holes in rising order, each a start and a length. None is empty, and no two touch.
+    pub fn holes(&self) -> &[(u32, u32)]
+        ensures value { result.now ≡ holes_of self.now.cover }
+        ensures all { AreHoles self.now.cover result.now }
+        ensures few { length result.now ≤ 257 }
+        ensures lawful { IsLawful self.now }
+    {
+        self.holes.as_slice()
+    }
+
+    /// How many bytes the records have, together.
+    pub fn handed_out(&self) -> u32
+        ensures out { result ≡ bytes_out self.now.cover }
+        ensures sum { result ≡ sum_by (λ r. length_of r self.now.cover) (range_with_len 0 self.now.records) }
+    {
+        self.handed_out
+    }
+
+    /// How many bytes `carve` ever handed out. Bytes that were given back count, and a cut counts nothing.
+    pub fn wear(&self) -> u64
+        ensures wear { result ≡ self.now.wear }
+        ensures within_limit { self.now.wear ≤ self.now.limit }
+    {
+        self.wear
+    }
+
+    /// How many records there are, 1 to 256.
+    pub fn records(&self) -> u16
+        ensures records { result ≡ self.now.records }
+        ensures limit { result ≤ 256 }
+    {
+        self.extents.len() as u16
+    }
+
+    /// How many bytes the arena has, handed out or not.
+    pub fn size(&self) -> u32
+        ensures size { result ≡ length self.now.cover }
+        ensures limit { result ≤ 1048576 }
+    {
+        self.size
+    }
+}
+
+#[cfg(test)]
+mod tests;

@@ -1,0 +1,48 @@
+//! An arena's calls with figures.
+use super::Arena;
+use crate::refused::Refused;
+
+#[test]
+fn holes_merge(rt: HostRuntime) {
+    let mut arena = Arena::new(rt.alloc(), 256, 8, 1000).expect(&rt, "room");
+    let first = arena.carve(0, 16).expect(&rt, "a hole");
+    let second = arena.carve(1, 16).expect(&rt, "a hole");
+    let third = arena.carve(2, 16).expect(&rt, "a hole");
+    assert_eq!(rt; (first, second, third), (0, 16, 32));
+    arena.give_back(1);
+    assert_eq!(rt; arena.holes(), [(16, 16), (48, 208)].as_slice());
+    arena.give_back(0);
+    assert_eq!(rt; arena.holes(), [(0, 32), (48, 208)].as_slice());
+    arena.give_back(2);
+    assert_eq!(rt; arena.holes(), [(0, 256)].as_slice());
+    assert_eq!(rt; arena.handed_out(), 0);
+    assert_eq!(rt; arena.wear(), 48);
+}
+
+#[test]
+fn sizes_are_multiples_of_16(rt: HostRuntime) {
+    assert_eq!(rt;
+        Arena::new(rt.alloc(), 40, 8, 1000).err(),
+        Some(Refused::BadSize)
+    );
+}
+
+#[test]
+fn a_record_is_cut(rt: HostRuntime) {
+    let mut arena = Arena::new(rt.alloc(), 64, 2, 48).expect(&rt, "room");
+    assert_eq!(rt; arena.records(), 2);
+    assert_eq!(rt; arena.carve(0, 48), Ok(0));
+    assert!(rt; arena.extent(1).is_none());
+    assert_eq!(rt; arena.cut(0, 1, 16), Ok(()));
+    assert_eq!(rt; arena.extent(0), Some((0, 16)));
+    assert_eq!(rt; arena.extent(1), Some((16, 32)));
+}
+
+/// With the first, the second or a later growth refused, a new arena is either there or out of memory.
+#[test]
+fn growths_of_new(rt: HostRuntime) {
+    match Arena::new(rt.alloc(), 256, 8, 1000) {
+        Ok(arena) => assert_eq!(rt; arena.holes(), [(0, 256)].as_slice()),
+        Err(refused) => assert_eq!(rt; refused, Refused::OutOfMemory),
+    }
+}

@@ -1,0 +1,164 @@
+//! The table in a vault, with the vault's seat.
+ghost use Rattle.std.specs.Prelude.{◌≡◌, [], ◌∷◌, ◌++◌, IfOk};
+ghost use Rattle.xh_arena.specs.Holding.{view_in};
+ghost use Rattle.xh_arena.specs.Parts.{first_parts, part_in, IsOne, under, top, below, AreOfOneWhole, with_length, with_taken, with_back};
+
+use crate::name::Name;
+use crate::parts::{
+    Amount, Gives, Law, Looks, Nothing, OffTheTop, OnTop, Sets, Takes, Under, View,
+};
+use atomic_table::{Badge, Seat, Table};
+use std::alloc::{AllocError, Global};
+use std::marker::{Brand, Model};
+use std::mem;
+
+/// A vault's shares. Contracts see the parts that the vault itself has.
+#[derive(Drop)]
+pub struct Shares {
+    table: Table<(), View, (u16, u8), Law, Global>,
+    seat: Seat<(), View>,
+}
+
+impl Model for Shares {
+    ghost use Rattle.std.specs.Prelude.{◌≡◌};
+    ghost use Rattle.xh_arena.specs.Holding.{Holding};
+
+    ghost Value = { Holding };
+
+    ghost view = { λ s. record { id = s.seat.table_id; parts = s.seat.me.0 } };
+
+    ghost invariant = { λ s. (s.seat.table_id ≡ s.table.shared.table_id) × (s.table.shared.table_id.words ≡ 1) };
+}
+
+impl Shares {
+    /// All parts of a new vault.
+    pub fn new(alloc: Global, records: u16, workers: u8) -> Result<Shares, AllocError>
+        ensures { IfOk result (λ s. s.parts ≡ first_parts records workers) }
+    {
+        let (table, seat) = Table::of_words(alloc, &[0], &(records, workers))?;
+        Ok(Shares { table, seat })
+    }
+
+    /// The parts of a share go before the vault's own.
+    fn join(&mut self, share: &mut Badge<View>)
+        requires { (share.old.table_id ≡ self.old.id) × (share.old.views ≡ view_in share.old.views ∷ []) }
+        ensures { (self.new.id ≡ self.old.id) × (self.new.parts ≡ view_in share.old.views ++ self.old.parts) × (share.new.views ≡ []) }
+    {
+        let badge = mem::replace(share, Badge::blank());
+        let table = &self.table;
+        table
+            .shared
+            .join_seat::<OnTop>(&mut self.seat, badge.into_seat());
+    }
+
+    /// The first part goes to a share.
+    pub fn split(&mut self) -> Badge<View>
+        ensures { (self.new.id ≡ self.old.id) × (self.new.parts ≡ below self.old.parts) × (result.table_id ≡ self.old.id) × (result.views ≡ top self.old.parts ∷ []) }
+    {
+        let table = &self.table;
+        table
+            .shared
+            .split_seat::<OffTheTop>(&mut self.seat)
+            .into_badge()
+    }
+
+    /// Shows that the vault's own parts are of one whole.
+    pub fn look(&mut self)
+        ensures { (self.new ≡ self.old) × AreOfOneWhole self.old.parts }
+    {
+        let table = &self.table;
+        table.shared.load::<Looks>(&mut self.seat, 0);
+    }
+
+    /// The lot on top has a new length. The number is for the proof alone.
+    fn set_length<N: Amount>(&mut self, len: u32)
+        requires { N.amount ≡ len }
+        ensures { (self.new.id ≡ self.old.id) × (self.new.parts ≡ with_length len self.old.parts) }
+    {
+        let table = &self.table;
+        table.shared.load::<Sets<N>>(&mut self.seat, 0);
+    }
+
+    /// The tally on top has taken more.
+    fn take<N: Amount>(&mut self, bytes: u32)
+        requires { N.amount ≡ bytes }
+        ensures { (self.new.id ≡ self.old.id) × (self.new.parts ≡ with_taken bytes self.old.parts) }
+    {
+        let table = &self.table;
+        table.shared.load::<Takes<N>>(&mut self.seat, 0);
+    }
+
+    /// The tally on top has given more back.
+    fn give_back<N: Amount>(&mut self, bytes: u32)
+        requires { N.amount ≡ bytes }
+        ensures { (self.new.id ≡ self.old.id) × (self.new.parts ≡ with_back bytes self.old.parts) }
+    {
+        let table = &self.table;
+        table.shared.load::<Gives<N>>(&mut self.seat, 0);
+    }
+
+    /// A share of nothing.
+    pub fn name(&mut self) -> Name
+        ensures same { self.new ≡ self.old }
+        ensures name { result ≡ self.old.id }
+    {
+        let table = &self.table;
+        let seat = table.shared.split_seat::<Nothing>(&mut self.seat);
+        Name::of(seat.into_badge())
+    }
+
+    /// The part of a share that is taken in for good goes under the vault's own.
+    pub fn keep(&mut self, share: Badge<View>)
+        requires { (share.table_id ≡ self.old.id) × IsOne share.views }
+        ensures { (self.new.id ≡ self.old.id) × (self.new.parts ≡ under self.old.parts (part_in share.views ∷ [])) }
+    {
+        let table = &self.table;
+        table
+            .shared
+            .join_seat::<Under>(&mut self.seat, share.into_seat());
+    }
+
+    /// Shows that the share and the vault's own parts are of one whole.
+    pub fn look_at(&mut self, share: &mut Badge<View>)
+        requires { (share.old.table_id ≡ self.old.id) × IsOne share.old.views }
+        ensures same { (self.new ≡ self.old) × (share.new.table_id ≡ share.old.table_id) × (share.new.views ≡ share.old.views) }
+        ensures fits { AreOfOneWhole (part_in share.old.views ∷ self.old.parts) }
+    {
+        self.join(share);
+        self.look();
+        *share = self.split();
+    }
+
+    /// The lot of the share has a new length, and its book too.
+    pub fn set_length_of(&mut self, share: &mut Badge<View>, len: u32)
+        requires { (share.old.table_id ≡ self.old.id) × IsOne share.old.views }
+        ensures same { (self.new.id ≡ self.old.id) × (share.new.table_id ≡ share.old.table_id) }
+        ensures changed { let all = with_length len (part_in share.old.views ∷ self.old.parts) in (self.new.parts ≡ below all) × (share.new.views ≡ top all ∷ []) }
+    {
+        self.join(share);
+        self.set_length::<Brand>(len);
+        *share = self.split();
+    }
+
+    /// The tally of the share has taken so many bytes more, and so has the vault's book.
+    pub fn take_by(&mut self, share: &mut Badge<View>, bytes: u32)
+        requires { (share.old.table_id ≡ self.old.id) × IsOne share.old.views }
+        ensures same { (self.new.id ≡ self.old.id) × (share.new.table_id ≡ share.old.table_id) }
+        ensures changed { let all = with_taken bytes (part_in share.old.views ∷ self.old.parts) in (self.new.parts ≡ below all) × (share.new.views ≡ top all ∷ []) }
+    {
+        self.join(share);
+        self.take::<Brand>(bytes);
+        *share = self.split();
+    }
+
+    /// The tally of the share has given so many bytes more back, and so has the vault's book.
+    pub fn give_back_by(&mut self, share: &mut Badge<View>, bytes: u32)
+        requires { (share.old.table_id ≡ self.old.id) × IsOne share.old.views }
+        ensures same { (self.new.id ≡ self.old.id) × (share.new.table_id ≡ share.old.table_id) }
+        ensures changed { let all = with_back bytes (part_in share.old.views ∷ self.old.parts) in (self.new.parts ≡ below all) × (share.new.views ≡ top all ∷ []) }
+    {
+        self.join(share);
+        self.give_back::<Brand>(bytes);
+        *share = self.split();
+    }
+}

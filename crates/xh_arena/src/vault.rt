@@ -1,0 +1,247 @@
+//! A vault: an arena with its books.
+ghost use Rattle.std.specs.Prelude.{◌≡◌, ◌≢◌, ◌⊎◌, ℕ, ◌+◌, ◌-◌, ◌<◌, ◌≤◌, ◌%◌, [], ◌∷◌, length, map, sum, replicate, slice_get, slice_set, IfOk, IfErr, OnErr, OnOk, Err, Some, None, MatchOption, ◌↔◌};
+ghost use Rattle.xh_model.specs.Cover.{State, AreHoles, IsGoodCut, IsLeastFree, IsLawful, SameRun, bytes_out, carved, cut_past, first_fit, given_back, holes_of, length_of, lengths_of, run_of};
+ghost use Rattle.xh_arena.specs.Parts.{lots_from, tallies_from};
+ghost use Rattle.xh_arena.specs.Refusals.{RefusesCarve};
+ghost use Rattle.xh_arena.specs.Views.{LotOf, TallyOf, AreLots, AreTallies, AreVaultLimits};
+
+use crate::arena::Arena;
+use crate::fits::Fits;
+use crate::lot::{Lot, lots};
+use crate::name::Name;
+use crate::refused::Refused;
+use crate::shares::Shares;
+use crate::tally::{Tally, tallies};
+use std::alloc::Global;
+use std::marker::Model;
+
+/// The most tallies of a vault.
+const MOST_WORKERS: u8 = 33;
+
+/// An arena whose records' lengths are those of its lots, and whose bytes handed out and given back are those of its
+/// tallies. Bytes reach a record, and leave it, only with its lot in hand.
+#[derive(Drop)]
+pub struct Vault {
+    arena: Arena,
+    shares: Shares,
+}
+
+impl Model for Vault {
+    ghost use Rattle.xh_arena.specs.Views.{VaultOf, IsVault, back_of, workers_of, moves_of};
+
+    ghost Value = { VaultOf };
+
+    ghost view = { λ v. record { id = v.shares.id; arena = v.arena; back = back_of v.shares.parts; workers = workers_of v.shares.parts; collected = moves_of v.shares.parts } };
+
+    ghost invariant = { λ v. IsVault v.arena v.shares.parts };
+}
+
+impl Vault {
+    /// A vault over an arena of `size` bytes for `records` records that may ever hand out `wear` bytes, with its lots,
+    /// all empty, in the order of the records, and a tally for each of `workers` workers.
+    ///
+    /// BadSize where the size is not a multiple of 16 from 16 to 1,048,576, the records are not 1 to 256, the wear is
+    /// 2^63 or more, or the workers are not 1 to 33; then OutOfMemory where a growth was refused.
+    pub fn new<B: Default + Fits + Drop>(
+        alloc: Global,
+        size: u32,
+        records: u16,
+        wear: u64,
+        workers: u8,
+    ) -> Result<(Vault, Vec<Lot<B>>, Vec<Tally>), Refused>
+        ensures vault { IfOk result (λ r. r.0 ≡ record { id = r.0.id; arena = record { cover = replicate size None; records = records; wear = 0; limit = wear }; back = 0; workers = workers; collected = [] }) }
+        ensures lots { IfOk result (λ r. AreLots B.is_default r.0.id records r.1.items) }
+        ensures tallies { IfOk result (λ r. AreTallies r.0.id workers r.2.items) }
+        ensures limits { OnOk result (AreVaultLimits size records wear workers) }
+        ensures bad_size { (result ≡ Err Refused.BadSize) ↔ (AreVaultLimits size records wear workers → ⊥) }
+        ensures lawful { IfOk result (λ r. IsLawful r.0.arena) }
+        ensures lengths { IfOk result (λ r. lengths_of r.0.arena ≡ replicate records 0) }
+        ensures refused { IfErr result (λ e. (e ≡ Refused.BadSize) ⊎ (e ≡ Refused.OutOfMemory)) }
+    {
+        if workers < 1 || workers > MOST_WORKERS {
+            return Err(Refused::BadSize);
+        }
+        let arena = Arena::new(alloc, size, records, wear)?;
+        let Ok(mut shares) = Shares::new(alloc, records, workers) else {
+            return Err(Refused::OutOfMemory);
+        };
+        let Some(lots) = lots(alloc, &mut shares, records) else {
+            return Err(Refused::OutOfMemory);
+        };
+        let Some(tallies) = tallies(alloc, &mut shares, workers) else {
+            return Err(Refused::OutOfMemory);
+        };
+        Ok((Vault { arena, shares }, lots, tallies))
+    }
+
+    /// Gives the empty lot the first `n` bytes that are free in a row, counts them as taken by the tally, and answers
+    /// where they begin.
+    ///
+    /// `n` is a multiple of 16, at least 16. NoSpace where no hole holds `n`; then Worn where the bytes ever handed out
+    /// would pass the arena's limit.
+    pub fn carve<B>(&mut self, lot: &mut Lot<B>, tally: &mut Tally, n: u32) -> Result<u32, Refused>
+        requires ids { (lot.old.id ≡ self.old.id) × (tally.old.id ≡ self.old.id) }
+        requires empty { lot.old.len ≡ 0 }
+        requires some { 0 < n }
+        requires multiple { n % 16 ≡ 0 }
+        ensures vault { IfOk result (λ at. self.new ≡ record self.old { arena = record self.old.arena { cover = carved lot.old.index at n self.old.arena.cover; wear = self.old.arena.wear + n } }) }
+        ensures lot { OnOk result (lot.new ≡ record lot.old { len = n }) }
+        ensures tally { OnOk result (tally.new ≡ record tally.old { taken = tally.old.taken + n }) }
+        ensures place { IfOk result (λ at. first_fit n self.old.arena.cover ≡ Some at) }
+        ensures least { IfOk result (IsLeastFree n self.old.arena.cover) }
+        ensures reason { IfErr result (RefusesCarve n self.old.arena) }
+        ensures refused { OnErr result ((self.new ≡ self.old) × (lot.new ≡ lot.old) × (tally.new ≡ tally.old)) }
+        ensures within_limit { self.new.arena.wear ≤ self.new.arena.limit }
+        ensures run { IfOk result (λ at. run_of lot.old.index self.new.arena.cover ≡ Some (at, n)) }
+        ensures bytes { OnOk result (bytes_out self.new.arena.cover ≡ bytes_out self.old.arena.cover + n) }
+        ensures lengths { OnOk result (lengths_of self.new.arena ≡ slice_set (lengths_of self.old.arena) lot.old.index n) }
+        ensures size { length self.new.arena.cover ≡ length self.old.arena.cover }
+        ensures same { (self.new.id ≡ self.old.id) × (self.new.arena.records ≡ self.old.arena.records) × (self.new.arena.limit ≡ self.old.arena.limit) }
+        ensures others { (q : ℕ) → q ≢ lot.old.index → SameRun q self.old.arena.cover self.new.arena.cover }
+        ensures lawful { IsLawful self.new.arena }
+    {
+        self.shares.look_at(&mut lot.share);
+        self.shares.look_at(&mut tally.share);
+        let start = self.arena.carve(lot.index, n)?;
+        self.shares.set_length_of(&mut lot.share, n);
+        self.shares.take_by(&mut tally.share, n);
+        lot.len = n;
+        tally.taken += u64::from(n);
+        Ok(start)
+    }
+
+    /// Gives all of the head past its first `k` bytes to the empty tail. It cannot fail.
+    ///
+    /// `k` is a multiple of 16, at least 16 and below the length of the head.
+    pub fn cut<B>(&mut self, head: &mut Lot<B>, tail: &mut Lot<B>, k: u32)
+        requires ids { (head.old.id ≡ self.old.id) × (tail.old.id ≡ self.old.id) }
+        requires empty { tail.old.len ≡ 0 }
+        requires good { IsGoodCut k head.old.len }
+        ensures vault { self.new ≡ record self.old { arena = record self.old.arena { cover = cut_past head.old.index tail.old.index k self.old.arena.cover } } }
+        ensures head { head.new ≡ record head.old { len = k } }
+        ensures tail { tail.new ≡ record tail.old { len = head.old.len - k } }
+        ensures runs { (s n : ℕ) → run_of head.old.index self.old.arena.cover ≡ Some (s, n) → (run_of head.old.index self.new.arena.cover ≡ Some (s, k)) × (run_of tail.old.index self.new.arena.cover ≡ Some (s + k, n - k)) }
+        ensures bytes { bytes_out self.new.arena.cover ≡ bytes_out self.old.arena.cover }
+        ensures lengths { lengths_of self.new.arena ≡ slice_set (slice_set (lengths_of self.old.arena) head.old.index k) tail.old.index (head.old.len - k) }
+        ensures size { length self.new.arena.cover ≡ length self.old.arena.cover }
+        ensures same { (self.new.id ≡ self.old.id) × (self.new.arena.records ≡ self.old.arena.records) × (self.new.arena.limit ≡ self.old.arena.limit) }
+        ensures others { (q : ℕ) → q ≢ head.old.index → q ≢ tail.old.index → SameRun q self.old.arena.cover self.new.arena.cover }
+        ensures lawful { IsLawful self.new.arena }
+    {
+        self.shares.look_at(&mut head.share);
+        self.shares.look_at(&mut tail.share);
+        let rest = head.len - k;
+        let Ok(()) = self.arena.cut(head.index, tail.index, k) else {
+            unreachable!()
+        };
+        self.shares.set_length_of(&mut head.share, k);
+        self.shares.set_length_of(&mut tail.share, rest);
+        head.len = k;
+        tail.len = rest;
+    }
+
+    /// Makes the bytes of the lot, which has some, a hole, joined with the holes beside it, and counts them as given
+    /// back by the tally. It cannot fail: the lot's share is the length that the vault has in its books.
+    pub fn give_back<B>(&mut self, lot: &mut Lot<B>, tally: &mut Tally)
+        requires ids { (lot.old.id ≡ self.old.id) × (tally.old.id ≡ self.old.id) }
+        requires some { 0 < lot.old.len }
+        ensures vault { self.new ≡ record self.old { arena = record self.old.arena { cover = given_back lot.old.index self.old.arena.cover }; back = self.old.back + lot.old.len } }
+        ensures lot { lot.new ≡ record lot.old { len = 0 } }
+        ensures tally { tally.new ≡ record tally.old { back = tally.old.back + lot.old.len } }
+        ensures empty { length_of lot.old.index self.new.arena.cover ≡ 0 }
+        ensures bytes { bytes_out self.new.arena.cover + lot.old.len ≡ bytes_out self.old.arena.cover }
+        ensures lengths { lengths_of self.new.arena ≡ slice_set (lengths_of self.old.arena) lot.old.index 0 }
+        ensures size { length self.new.arena.cover ≡ length self.old.arena.cover }
+        ensures same { (self.new.id ≡ self.old.id) × (self.new.arena.records ≡ self.old.arena.records) × (self.new.arena.limit ≡ self.old.arena.limit) }
+        ensures others { (q : ℕ) → q ≢ lot.old.index → SameRun q self.old.arena.cover self.new.arena.cover }
+        ensures lawful { IsLawful self.new.arena }
+    {
+        self.shares.look_at(&mut lot.share);
+        self.shares.look_at(&mut tally.share);
+        self.arena.give_back(lot.index);
+        self.shares.set_length_of(&mut lot.share, 0);
+        self.shares.give_back_by(&mut tally.share, lot.len);
+        tally.back += u64::from(lot.len);
+        lot.len = 0;
+    }
+
+    /// Changes nothing, and shows that the lot's length is the length of its record's bytes.
+    pub fn audit<B>(&mut self, lot: &mut Lot<B>)
+        requires { lot.old.id ≡ self.old.id }
+        ensures same { (self.new ≡ self.old) × (lot.new ≡ lot.old) }
+        ensures record { lot.old.index < self.old.arena.records }
+        ensures known { length_of lot.old.index self.old.arena.cover ≡ lot.old.len }
+    {
+        self.shares.look_at(&mut lot.share);
+    }
+
+    /// Takes a tally in for good. Once each tally of the vault was taken in, what they took is what the arena handed
+    /// out, and what they gave back is what came back to it.
+    pub fn collect(&mut self, tally: Tally)
+        requires { tally.id ≡ self.old.id }
+        ensures kept { self.new ≡ record self.old { collected = record { number = tally.number; taken = tally.taken; back = tally.back } ∷ self.old.collected } }
+        ensures summed { length self.new.collected ≡ self.new.workers → (sum (map (λ m. m.taken) self.new.collected) ≡ self.new.arena.wear) × (sum (map (λ m. m.back) self.new.collected) ≡ self.new.back) }
+    {
+        let Tally {
+            number: _,
+            taken: _,
+            back: _,
+            share,
+        } = tally;
+        self.shares.keep(share);
+        self.shares.look();
+    }
+
+    /// A value without bytes that says which vault this is: its lots and tallies have the same id.
+    pub fn name(&mut self) -> Name
+        ensures same { self.new ≡ self.old }
+        ensures name { result ≡ self.old.id }
+    {
+        self.shares.name()
+    }
+
+    /// Where the bytes of the record `r` begin and how many they are, or nothing where it is empty.
+    pub fn extent(&self, r: u16) -> Option<(u32, u32)>
+        requires { r < self.now.arena.records }
+        ensures is { result ≡ run_of r self.now.arena.cover }
+        ensures length { MatchOption result (length_of r self.now.arena.cover ≡ 0) (λ run. length_of r self.now.arena.cover ≡ run.1) }
+    {
+        self.arena.extent(r)
+    }
+
+    /// The holes in rising order, each a start and a length. None is empty, and no two touch.
+    pub fn holes(&self) -> &[(u32, u32)]
+        ensures value { result.now ≡ holes_of self.now.arena.cover }
+        ensures all { AreHoles self.now.arena.cover result.now }
+        ensures lawful { IsLawful self.now.arena }
+    {
+        self.arena.holes()
+    }
+
+    /// How many bytes the records have, together.
+    pub fn handed_out(&self) -> u32
+        ensures out { result ≡ bytes_out self.now.arena.cover }
+        ensures sum { result ≡ sum (lengths_of self.now.arena) }
+        ensures books { self.now.arena.wear ≡ self.now.back + result }
+    {
+        self.arena.handed_out()
+    }
+
+    /// How many bytes `carve` ever handed out, which is what all tallies have taken.
+    pub fn wear(&self) -> u64
+        ensures wear { result ≡ self.now.arena.wear }
+        ensures within_limit { self.now.arena.wear ≤ self.now.arena.limit }
+    {
+        self.arena.wear()
+    }
+
+    /// How many bytes the arena has, handed out or not.
+    pub fn size(&self) -> u32
+        ensures { result ≡ length self.now.arena.cover }
+    {
+        self.arena.size()
+    }
+}
+
+#[cfg(test)]
+mod tests;

@@ -1,0 +1,1 @@
+//! A vault's calls with figures.

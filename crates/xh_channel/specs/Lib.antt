@@ -1,0 +1,4 @@
+pub mod Ends
+pub mod Numbers
+pub mod Refusals
+pub mod Lines

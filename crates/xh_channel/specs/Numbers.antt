@@ -1,0 +1,19 @@
+-- The numbers of the messages of a direction.
+use Rattle.std.specs.Prelude.{ℕ, List}
+use Rattle.arrayvec.specs.ArrayVec.{ArrayVec}
+use Rattle.xh_model.specs.Direction.{AreNumberedFrom}
+use Rattle.xh_channel.specs.declared.message.Message.{Message}
+
+abbrev pub message : ℕ → ℕ → ArrayVec ℕ → Message
+message number tag blocks = record { no = number; tag = tag; blocks = blocks }
+
+abbrev pub number : Message → ℕ
+number m = m.no
+
+-- the messages have the numbers after n, in order
+abbrev pub NumberedFrom : ℕ → List Message → Type 0
+NumberedFrom = AreNumberedFrom number
+
+-- the messages have the numbers 1, 2, .. in order
+abbrev pub Numbered : List Message → Type 0
+Numbered = NumberedFrom 0

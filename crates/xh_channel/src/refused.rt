@@ -1,0 +1,34 @@
+//! Why a call on the channels did nothing.
+ghost use Rattle.std.specs.Prelude.{◌≡◌};
+ghost use Rattle.xh_channel.specs.Refusals.{same_refusal};
+
+use arrayvec::ArrayVec;
+
+/// Why a call did nothing. The names are those of the heap's refusals.
+#[derive(Drop, Debug)]
+pub enum Refused {
+    /// A growth of memory was refused.
+    OutOfMemory,
+    /// The depth is not 1 to 16.
+    BadSize,
+    /// Each channel is taken.
+    NoChannel,
+    /// No message waits, and the peer is shut. Nothing is handed back.
+    PeerClosed { back: ArrayVec<u16, 8> },
+    /// No message waits.
+    Empty,
+}
+
+impl From<Refused> for xh_core::Refused {
+    ghost from_gives = { λ r e. e ≡ same_refusal r };
+
+    fn from(refused: Refused) -> xh_core::Refused {
+        match refused {
+            Refused::OutOfMemory => xh_core::Refused::OutOfMemory,
+            Refused::BadSize => xh_core::Refused::BadSize,
+            Refused::NoChannel => xh_core::Refused::NoChannel,
+            Refused::PeerClosed { back } => xh_core::Refused::PeerClosed { back },
+            Refused::Empty => xh_core::Refused::Empty,
+        }
+    }
+}

@@ -1,0 +1,8 @@
+//! The name of one end of a channel.
+
+/// One end of a channel: the channel, 0 to 63, and the side, 0 or 1.
+#[derive(Clone, Copy, Debug, PartialEq, Eq)]
+pub struct Spot {
+    pub channel: u8,
+    pub side: u8,
+}

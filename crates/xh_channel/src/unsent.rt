@@ -1,0 +1,28 @@
+//! Why a put was refused.
+ghost use Rattle.std.specs.Prelude.{◌≡◌};
+ghost use Rattle.xh_channel.specs.Refusals.{same_unsent};
+
+use arrayvec::ArrayVec;
+
+/// Why a put was refused. Each hands the blocks back.
+#[derive(Drop, Debug)]
+pub enum Unsent {
+    /// The channel's contract does not allow the message.
+    Protocol { back: ArrayVec<u16, 8> },
+    /// The peer is shut.
+    PeerClosed { back: ArrayVec<u16, 8> },
+    /// As many messages wait as may, or the direction has carried its last message.
+    Full { back: ArrayVec<u16, 8> },
+}
+
+impl From<Unsent> for xh_core::Refused {
+    ghost from_gives = { λ u e. e ≡ same_unsent u };
+
+    fn from(unsent: Unsent) -> xh_core::Refused {
+        match unsent {
+            Unsent::Protocol { back } => xh_core::Refused::Protocol { back },
+            Unsent::PeerClosed { back } => xh_core::Refused::PeerClosed { back },
+            Unsent::Full { back } => xh_core::Refused::Full { back },
+        }
+    }
+}

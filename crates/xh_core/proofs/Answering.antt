@@ -1,0 +1,91 @@
+-- The first of several refusals, and what alloc answers.
+use Rattle.std.proofs.Common.{◌≡◌, ◌≢◌, ℕ, ◌+◌, ◌/◌, List, [], ◌∷◌, ◌++◌, Bool, true, false, cond, refl, sym, ap, ◌∙◌, inl, inr, arith}
+use Rattle.std.specs.Prelude.{Option, Some, None, Result, Ok, Err, nat_lt, is_none, unwrap_or}
+use Rattle.std.proofs.lemmas.Bool.{cases_Bool}
+use Rattle.xh_model.specs.Cover.{first_fit}
+use Rattle.xh_model.specs.Store.{Store, len, arena_at}
+use Rattle.xh_core.specs.declared.block.Block.{Block}
+use Rattle.xh_core.specs.declared.refused.Refused.{Refused}
+use Rattle.xh_core.specs.declared.refused.Refused.TheVariants.{OutOfMemory, NoSpace, Worn}
+use Rattle.xh_core.specs.Machine.{Machine}
+use Rattle.xh_core.specs.Refusing.{Answer, Tests, answered, first_refusal, start, data_tests}
+use Rattle.xh_core.specs.BlockCommands.{free_record, lowest, rounded, space_tests, alloc_tests, alloc, allocated, free_tests, free, freed_block}
+use Rattle.xh_core.specs.Checks.{alloc_heads}
+
+pub first_append : (xs ys : Tests) → first_refusal xs ≡ None → first_refusal (xs ++ ys) ≡ first_refusal ys
+first_append [] ys h = refl
+first_append (t ∷ xs) ys h = elim (cases_Bool t.0) [
+    inl y ↦ (let e : Some t.1 ≡ None = rw y at h in absurd (cc))
+    | inr n ↦ rw n (first_append xs ys (rw n at h))
+  ]
+
+pub first_stop : (xs ys : Tests) (e : Refused) → first_refusal xs ≡ Some e → first_refusal (xs ++ ys) ≡ Some e
+first_stop [] ys e h = absurd (cc)
+first_stop (t ∷ xs) ys e h = elim (cases_Bool t.0) [
+    inl y ↦ rw y (rw y at h)
+    | inr n ↦ rw n (first_stop xs ys e (rw n at h))
+  ]
+
+-- where there is no room, it is never for want of memory
+pub no_memory_test : (s : Store) (a n : ℕ) (e : Refused) → first_refusal (space_tests s a n) ≡ Some e → e ≢ OutOfMemory
+no_memory_test s a n e h f = elim (cases_Bool (is_none (first_fit n (arena_at s a).cover))) [
+    inl y ↦ (let g : Some NoSpace ≡ Some e = rw y at h in absurd (cc))
+    | inr x ↦ elim (cases_Bool (nat_lt (arena_at s a).limit ((arena_at s a).wear + n))) [
+        inl y ↦ (let g : Some Worn ≡ Some e = rw (x, y) at h in absurd (cc))
+        | inr z ↦ (let g : None ≡ Some e = rw (x, z) at h in absurd (cc))
+      ]
+  ]
+
+-- ---- alloc
+
+abbrev alloc_answer : ℕ → ℕ → ℕ → Machine → Answer Block
+alloc_answer p n a m = (Ok (record { rec = lowest m.store a; len = rounded n }), allocated p (lowest m.store a) (rounded n) m)
+
+abbrev later : Bool → ℕ → ℕ → Machine → Tests
+later b n a m = (b, OutOfMemory) ∷ space_tests m.store a (rounded n)
+
+pub alloc_stopped : (b : Bool) (p n a : ℕ) (m : Machine) (e : Refused) → first_refusal (alloc_heads m p n a) ≡ Some e → alloc b p n a m ≡ (Err e, m)
+unfolding alloc
+alloc_stopped b p n a m e h = ap (λ (o : Option Refused). answered o m (alloc_answer p n a m)) (first_stop (alloc_heads m p n a) (later b n a m) e h)
+
+pub alloc_memory : (p n a : ℕ) (m : Machine) → first_refusal (alloc_heads m p n a) ≡ None → alloc true p n a m ≡ (Err OutOfMemory, m)
+unfolding alloc
+alloc_memory p n a m h = ap (λ (o : Option Refused). answered o m (alloc_answer p n a m)) (first_append (alloc_heads m p n a) (later true n a m) h)
+
+pub alloc_no_room : (p n a : ℕ) (m : Machine) (e : Refused) → first_refusal (alloc_heads m p n a) ≡ None → first_refusal (space_tests m.store a (rounded n)) ≡ Some e → alloc false p n a m ≡ (Err e, m)
+unfolding alloc
+alloc_no_room p n a m e h f = ap (λ (o : Option Refused). answered o m (alloc_answer p n a m)) (first_append (alloc_heads m p n a) (later false n a m) h ∙ f)
+
+pub alloc_done : (p n a : ℕ) (m : Machine) → first_refusal (alloc_heads m p n a) ≡ None → first_refusal (space_tests m.store a (rounded n)) ≡ None → alloc false p n a m ≡ alloc_answer p n a m
+unfolding alloc
+alloc_done p n a m h f = ap (λ (o : Option Refused). answered o m (alloc_answer p n a m)) (first_append (alloc_heads m p n a) (later false n a m) h ∙ f)
+
+abbrev given_at : ℕ → ℕ → ℕ → Machine → Answer Block
+given_at p n r m = (Ok (record { rec = r; len = n }), allocated p r n m)
+
+gives_at : (p n r t : ℕ) (m : Machine) → r ≡ t → given_at p n r m ≡ given_at p n t m
+gives_at p n r t m e = ap (λ (x : ℕ). given_at p n x m) e
+
+-- what it gives, by the record that was found
+pub alloc_gives : (p n a r : ℕ) (m : Machine) → first_refusal (alloc_heads m p n a) ≡ None → free_record m.store a ≡ Some r → first_refusal (space_tests m.store a (rounded n)) ≡ None →
+    alloc false p n a m ≡ (Ok (record { rec = r; len = rounded n }), allocated p r (rounded n) m)
+alloc_gives p n a r m h e f =
+    let is : lowest m.store a ≡ r = ap (λ (o : Option ℕ). unwrap_or o 65535) e in
+    alloc_done p n a m h f ∙ gives_at p (rounded n) (lowest m.store a) r m is
+
+-- ---- free
+
+abbrev free_answer : ℕ → ℕ → Machine → Answer ℕ
+free_answer p r m = (Ok (len m.store r), freed_block p r m)
+
+pub free_stopped : (p r : ℕ) (m : Machine) (e : Refused) → first_refusal (start m p) ≡ Some e → free p r m ≡ (Err e, m)
+unfolding free
+free_stopped p r m e h = ap (λ (o : Option Refused). answered o m (free_answer p r m)) (first_stop (start m p) (data_tests m p r) e h)
+
+pub free_refused : (p r : ℕ) (m : Machine) (e : Refused) → first_refusal (start m p) ≡ None → first_refusal (data_tests m p r) ≡ Some e → free p r m ≡ (Err e, m)
+unfolding free
+free_refused p r m e h f = ap (λ (o : Option Refused). answered o m (free_answer p r m)) (first_append (start m p) (data_tests m p r) h ∙ f)
+
+pub free_gives : (p r : ℕ) (m : Machine) → first_refusal (start m p) ≡ None → first_refusal (data_tests m p r) ≡ None → free p r m ≡ (Ok (len m.store r), freed_block p r m)
+unfolding free
+free_gives p r m h f = ap (λ (o : Option Refused). answered o m (free_answer p r m)) (first_append (start m p) (data_tests m p r) h ∙ f)

@@ -1,0 +1,185 @@
+-- A free record is claimed, and gets bytes.
+use Rattle.std.proofs.Common.{◌≡◌, ◌≢◌, ℕ, zero, suc, ◌+◌, ◌*◌, ◌/◌, ◌%◌, ◌<◌, ◌≤◌, List, [], ◌∷◌, length, take, drop, length-drop, ◌-◌, Bool, true, false, cond, refl, sym, ap, ◌∙◌, subst, arith, ◌⊎◌, inl, inr, get_or-set_same, get_or-set_other}
+use Rattle.std.specs.Prelude.{Option, Some, None, is_none, is_some, slice_range, ◌&&◌, ◌==◌, nat_le, nat_lt, slice_set, slice_index_or, option_map, unwrap_or}
+use Rattle.std.specs.List.{position, position_or_len, range_with_len}
+use Rattle.std.proofs.lemmas.Bool.{cases_eq, cases_Bool, cases_lt, false≢true, eq-eqb, ne_eqb, lt-ltb, le-ltb, ltb-true, ltb-false, and_parts, eqb-true}
+use Rattle.std.proofs.lemmas.Bool.Decides.{nat_tests}
+use Rattle.std.proofs.lemmas.List.{length-set, length-take-le, set-set, set-get_or, get_or-take, get_or-drop}
+use Rattle.std.proofs.lemmas.List.FromFn.{length-range_with_len, get_or-range_with_len}
+use Rattle.std.proofs.lemmas.List.Quantifiers.{position-Some}
+use Rattle.xh_model.specs.declared.event.Holder.{Holder}
+use Rattle.xh_model.specs.declared.event.Holder.TheVariants.{Process, Direction}
+use Rattle.xh_model.specs.declared.event.Event.TheVariants.{Claim, Carve, Cut, GiveBack, Vacate}
+use Rattle.xh_model.specs.Cover.{State, first_fit}
+use Rattle.xh_model.specs.Store.{Store, owner, len, holds, is_known, arena_at, arena_of, can, change, after, has_room, with_owner, IsOwner, IsLawful}
+use Rattle.xh_model.proofs.Changed.{known_there}
+use Rattle.xh_core.specs.declared.refused.Refused.{Refused}
+use Rattle.xh_core.specs.Machine.{times}
+use Rattle.xh_core.specs.BlockCommands.{free_record, space_tests}
+use Rattle.xh_core.specs.Refusing.{first_refusal}
+use Rattle.xh_core.specs.Gaining.{Gained}
+use Rattle.xh_core.proofs.Stores.{done, times-cons, owner-set}
+
+-- ---- the lowest free record
+
+pub record IsFree (s : Store) (a r : ℕ) : Type 0 where
+  pub free : owner s r ≡ None
+  pub known : is_known s r ≡ true
+  pub arena : r / 256 ≡ a
+
+some_is : (o : Option ℕ) (a r : ℕ) → option_map (λ i. 256 * a + i) o ≡ Some r → (i : ℕ) × (o ≡ Some i) × (256 * a + i ≡ r)
+some_is None a r e = absurd (false≢true (ap is_some e))
+some_is (Some i) a r e = (i, refl, cc)
+
+none_is : (o : Option Holder) → is_none o ≡ true → o ≡ None
+none_is None e = refl
+none_is (Some h) e = absurd (false≢true e)
+
+in_arena : (a i r : ℕ) → i < 256 → 256 * a + i ≡ r → (r / 256 ≡ a) × (r % 256 ≡ i)
+in_arena a i r l e = (omega arith, omega arith)
+
+pub free_is : (s : Store) (a r : ℕ) → IsLawful s → free_record s a ≡ Some r → IsFree s a r
+free_is s a r w e =
+    let found = some_is (position (λ i. is_none (owner s (256 * a + i))) (range_with_len 0 (arena_at s a).records)) a r e in
+    let at = position-Some (λ i. is_none (owner s (256 * a + i))) (range_with_len 0 (arena_at s a).records) found.0 0 found.1 in
+    let l : found.0 < (arena_at s a).records = omega (arith, at.0, length-range_with_len 0 (arena_at s a).records) in
+    let is : slice_index_or (range_with_len 0 (arena_at s a).records) found.0 0 ≡ found.0 = get_or-range_with_len 0 (arena_at s a).records found.0 0 l ∙ omega arith in
+    let few : (arena_at s a).records ≤ 256 = w.records a in
+    let there = in_arena a found.0 r (omega (arith, l, few)) found.2 in
+    record {
+      free = subst (λ (x : ℕ). owner s x ≡ None) found.2 (none_is (owner s (256 * a + found.0)) (subst (λ (x : ℕ). is_none (owner s (256 * a + x)) ≡ true) is at.1));
+      known = rw (there.0, there.1) (lt-ltb found.0 (arena_at s a).records l);
+      arena = there.0
+    }
+
+-- among so many owners in a row, the first that is none
+same_place : (p : ℕ → Bool) (os : List (Option Holder)) (at : ℕ) → ((i : ℕ) → i < length os → is_none (slice_index_or os i None) ≡ p (at + i)) →
+    position_or_len is_none os ≡ position_or_len p (range_with_len at (length os))
+same_place p [] at h = refl
+same_place p (o ∷ os) at h =
+    let e : at + 0 ≡ at = omega arith in
+    let here : is_none o ≡ p at = h 0 (omega arith) ∙ ap p e in
+    let next : (i : ℕ) → at + suc i ≡ at + 1 + i = (λ i. omega arith) in
+    let rest : position_or_len is_none os ≡ position_or_len p (range_with_len (at + 1) (length os)) = same_place p os (at + 1) (λ i l. h (suc i) (omega (arith, l)) ∙ ap p (next i)) in
+    elim (cases_Bool (p at)) [ inl y ↦ rw (here, y) refl | inr n ↦ rw (here, n, rest) refl ]
+
+pub same_position : (p : ℕ → Bool) (os : List (Option Holder)) (n : ℕ) → length os ≡ n → ((i : ℕ) → i < n → is_none (slice_index_or os i None) ≡ p i) →
+    position is_none os ≡ position p (range_with_len 0 n)
+same_position p os n e h =
+    let zero_more : (i : ℕ) → i ≡ 0 + i = (λ i. omega arith) in
+    let at : position_or_len is_none os ≡ position_or_len p (range_with_len 0 (length os)) = same_place p os 0 (λ i l. h i (subst (λ (k : ℕ). i < k) e l) ∙ ap p (zero_more i)) in
+    let l : length (range_with_len 0 (length os)) ≡ length os = length-range_with_len 0 (length os) in
+    subst (λ (k : ℕ). position is_none os ≡ position p (range_with_len 0 k)) e (rw (at, l) refl)
+
+-- what the first free one of an arena's records in the list of all owners makes of its number
+pub found_free : (s : Store) (a n : ℕ) (o : Option ℕ) → IsLawful s → a < length s.arenas → (arena_at s a).records ≡ n →
+    o ≡ position is_none (slice_range s.owners (256 * a) (256 * a + n)) → option_map (λ i. 256 * a + i) o ≡ free_record s a
+found_free s a n o w l e is =
+    let few : n ≤ 256 = subst (λ (k : ℕ). k ≤ 256) e (w.records a) in
+    let within : 256 * a + n ≤ length s.owners = (let long : length s.owners ≡ 256 * length s.arenas = w.long in omega (arith, l, few, long)) in
+    let count : (256 * a + n) - 256 * a ≡ n = omega arith in
+    let rest : List (Option Holder) = drop (256 * a) s.owners in
+    let part : slice_range s.owners (256 * a) (256 * a + n) ≡ take n rest = ap (λ (k : ℕ). take k rest) count in
+    let room : n ≤ length rest = (let d : length rest ≡ length s.owners - 256 * a = length-drop (256 * a) s.owners in omega (arith, d, within)) in
+    let long : length (take n rest) ≡ n = length-take-le n rest room in
+    let each : (i : ℕ) → i < n → is_none (slice_index_or (take n rest) i None) ≡ is_none (owner s (256 * a + i)) =
+      (λ i b. ap is_none (get_or-take n rest i None b ∙ get_or-drop (256 * a) s.owners i None)) in
+    ap (λ (x : Option ℕ). option_map (λ i. 256 * a + i) x) (is ∙ (ap (position is_none) part ∙ same_position (λ i. is_none (owner s (256 * a + i))) (take n rest) n long each))
+    ∙ ap (λ (k : ℕ). option_map (λ i. 256 * a + i) (position (λ i. is_none (owner s (256 * a + i))) (range_with_len 0 k))) (sym e)
+
+-- ---- a claim
+
+-- p claimed r
+pub record Claimed (p r : ℕ) (s t : Store) : Type 0 where
+  pub is : t ≡ with_owner r (Some (Process p)) s
+  pub there : r < length s.owners
+  pub owners : (q : ℕ) → owner t q ≡ cond (q == r) (Some (Process p)) (owner s q)
+  pub arenas : t.arenas ≡ s.arenas
+  pub many : length t.owners ≡ length s.owners
+  pub holds : holds t (Process p) r ≡ true
+  pub known : is_known t r ≡ true
+  pub empty : len t r ≡ 0
+
+pub no_bytes : (o : Option Holder) (n : ℕ) → o ≡ None → IsOwner o n → n ≡ 0
+no_bytes o n e i = subst (λ (x : Option Holder). IsOwner x n) e i
+
+pub in_range : (s : Store) (r : ℕ) → IsLawful s → is_known s r ≡ true → r < length s.owners
+in_range s r w k = let l = known_there s r k in let e = w.long in omega arith
+
+claim_is : (s : Store) (p r : ℕ) → p < 4096 → is_known s r ≡ true → owner s r ≡ None → after (Claim p r) s ≡ with_owner r (Some (Process p)) s
+claim_is s p r l k f = done (Claim p r) s (rw (lt-ltb p 4096 l, k, f) refl)
+
+own_holder : (s : Store) (p r : ℕ) → owner s r ≡ Some (Process p) → holds s (Process p) r ≡ true
+own_holder s p r e = rw e (eq-eqb p p refl)
+
+pub claimed : (s : Store) (p r : ℕ) → IsLawful s → p < 4096 → is_known s r ≡ true → owner s r ≡ None → Claimed p r s (after (Claim p r) s)
+claimed s p r w l k f =
+    let is : after (Claim p r) s ≡ with_owner r (Some (Process p)) s = claim_is s p r l k f in
+    let there : r < length s.owners = in_range s r w k in
+    let arenas : (after (Claim p r) s).arenas ≡ s.arenas = ap (λ (t : Store). t.arenas) is in
+    let owners : (q : ℕ) → owner (after (Claim p r) s) q ≡ cond (q == r) (Some (Process p)) (owner s q) = (λ q. ap (λ (t : Store). owner t q) is ∙ owner-set s r q (Some (Process p)) there) in
+    record {
+      is = is;
+      there = there;
+      owners = owners;
+      arenas = arenas;
+      many = ap (λ (t : Store). length t.owners) is ∙ length-set s.owners r (Some (Process p));
+      holds = own_holder (after (Claim p r) s) p r (owners r ∙ rw (eq-eqb r r refl) refl);
+      known = rw is k;
+      empty = rw is (no_bytes (owner s r) (len s r) f (w.owned r))
+    }
+
+-- a claim that is taken back leaves all as it was
+pub unclaimed : (s : Store) (p r : ℕ) → IsLawful s → p < 4096 → is_known s r ≡ true → owner s r ≡ None → after (Vacate p r) (after (Claim p r) s) ≡ s
+unclaimed s p r w l k f =
+    let c : Claimed p r s (after (Claim p r) s) = claimed s p r w l k f in
+    let can_vacate : can (Vacate p r) (after (Claim p r) s) ≡ true = rw (c.holds, c.empty) refl in
+    let same : slice_set (slice_set s.owners r (Some (Process p))) r None ≡ s.owners =
+      set-set s.owners r (Some (Process p)) None ∙ (ap (λ (o : Option Holder). slice_set s.owners r o) (sym f) ∙ set-get_or s.owners r None) in
+    done (Vacate p r) (after (Claim p r) s) can_vacate ∙ (ap (λ (t : Store). with_owner r None t) c.is ∙ ap (λ (os : List (Option Holder)). record s { owners = os }) same)
+
+-- ---- bytes
+
+-- the holders stay where bytes are carved or cut
+pub carve-owners : (s : Store) (p r n : ℕ) → (after (Carve p r n) s).owners ≡ s.owners
+unfolding after
+carve-owners s p r n = elim (cases_Bool (can (Carve p r n) s)) [ inl y ↦ rw y refl | inr f ↦ rw f refl ]
+
+pub cut-owners : (s : Store) (p r t k : ℕ) → (after (Cut p r t k) s).owners ≡ s.owners
+unfolding after
+cut-owners s p r t k = elim (cases_Bool (can (Cut p r t k) s)) [ inl y ↦ rw y refl | inr f ↦ rw f refl ]
+
+-- the tests of room speak of the arenas alone
+pub same_space : (s t : Store) (a n : ℕ) → t.arenas ≡ s.arenas → first_refusal (space_tests t a n) ≡ first_refusal (space_tests s a n)
+same_space s t a n e = rw e refl
+
+pub one_time : (q r : ℕ) → times q (r ∷ []) ≡ cond (r == q) 1 0
+one_time q r = times-cons q r [] ∙ elim (cases_Bool (r == q)) [ inl y ↦ rw y refl | inr f ↦ rw f refl ]
+
+swap-eqb : (q r : ℕ) → (r == q) ≡ (q == r)
+swap-eqb q r = elim (cases_eq q r) [ inl e ↦ rw (eq-eqb q r e, eq-eqb r q (sym e)) refl | inr n ↦ rw (ne_eqb q r n, ne_eqb r q (λ e. n (sym e))) refl ]
+
+pub is_one : (q r : ℕ) → nat_lt 0 (times q (r ∷ [])) ≡ (q == r)
+is_one q r = ap (λ (n : ℕ). nat_lt 0 n) (one_time q r) ∙ elim (cases_eq q r) [
+    inl e ↦ rw (eq-eqb q r e, eq-eqb r q (sym e)) refl
+    | inr n ↦ rw (ne_eqb q r n, ne_eqb r q (λ e. n (sym e))) refl
+  ]
+
+one_at_most : (q r : ℕ) → times q (r ∷ []) ≤ 1
+one_at_most q r = let e : times q (r ∷ []) ≡ cond (r == q) 1 0 = one_time q r in elim (cases_Bool (r == q)) [
+    inl y ↦ (let f : times q (r ∷ []) ≡ 1 = e ∙ rw y refl in omega (arith, f))
+    | inr n ↦ (let f : times q (r ∷ []) ≡ 0 = e ∙ rw n refl in omega (arith, f))
+  ]
+
+-- one record is claimed, and has bytes then
+pub gained_one : (s t : Store) (p r : ℕ) → IsLawful t → Claimed p r s (after (Claim p r) s) → owner s r ≡ None → t.owners ≡ (after (Claim p r) s).owners → 0 < len t r →
+    ((q : ℕ) → q ≢ r → 0 < len s q → 0 < len t q) → Gained p (r ∷ []) s t
+gained_one s t p r w c f same some kept = record {
+    lawful = w;
+    free = λ q y. let e : q ≡ r = eqb-true q r (sym (is_one q r) ∙ y) in subst (λ (x : ℕ). owner s x ≡ None) (sym e) f;
+    once = λ q. one_at_most q r;
+    owners = λ q. ap (λ (os : List (Option Holder)). slice_index_or os q None) same ∙ (c.owners q ∙ rw (is_one q r) refl);
+    full = λ q y. let e : q ≡ r = eqb-true q r (sym (is_one q r) ∙ y) in subst (λ (x : ℕ). 0 < len t x) (sym e) some;
+    kept = λ q l. elim (cases_eq q r) [ inl e ↦ subst (λ (x : ℕ). 0 < len t x) (sym e) some | inr n ↦ kept q n l ];
+    many = ap length same ∙ c.many
+  }

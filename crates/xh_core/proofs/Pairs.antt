@@ -1,0 +1,174 @@
+-- Two free records are claimed and get bytes, and one of them changes hands.
+use Rattle.std.proofs.Common.{◌≡◌, ◌≢◌, ℕ, zero, suc, ◌+◌, ◌*◌, ◌/◌, ◌%◌, ◌<◌, ◌≤◌, List, [], ◌∷◌, length, Bool, true, false, cond, refl, sym, ap, ◌∙◌, subst, arith, ◌⊎◌, inl, inr, get_or-set_same, get_or-set_other}
+use Rattle.std.specs.Prelude.{Option, Some, None, is_none, is_some, ◌&&◌, ◌==◌, ◌||◌, not, nat_le, nat_lt, slice_set, slice_index_or, unwrap_or}
+use Rattle.std.proofs.lemmas.Bool.{cases_eq, cases_Bool, false≢true, eq-eqb, ne_eqb, lt-ltb}
+use Rattle.std.proofs.lemmas.List.{length-set, set-set}
+use Rattle.xh_model.specs.declared.event.Holder.{Holder}
+use Rattle.xh_model.specs.declared.event.Holder.TheVariants.{Process, Direction}
+use Rattle.xh_model.specs.declared.event.Event.TheVariants.{Claim, Carve, Cut, Vacate, Pass, Accept}
+use Rattle.xh_model.specs.Cover.{State}
+use Rattle.xh_model.specs.Store.{Store, owner, len, holds, is_held_by, is_known, can, after, with_owner, IsLawful}
+use Rattle.xh_model.proofs.Lawful.{owner_lawful}
+use Rattle.xh_core.specs.BlockCommands.{free_record, lowest}
+use Rattle.xh_core.specs.ChannelCommands.{claimed_once, handed}
+use Rattle.xh_core.specs.Pairing.{ClaimedTwo, Paired, moved}
+use Rattle.xh_core.proofs.Stores.{done, owner-set, same_len}
+use Rattle.xh_core.proofs.Claiming.{IsFree, free_is, Claimed, claimed, unclaimed, carve-owners, cut-owners}
+
+-- p claimed r, and then t
+pub record TwoClaimed (p r t : ℕ) (s n : Store) : Type 0 where
+  pub apart : r ≢ t
+  pub both : r / 256 ≡ t / 256
+  pub free_r : owner s r ≡ None
+  pub free_t : owner s t ≡ None
+  pub there_r : r < length s.owners
+  pub there_t : t < length s.owners
+  pub known_r : is_known n r ≡ true
+  pub holds_r : holds n (Process p) r ≡ true
+  pub holds_t : holds n (Process p) t ≡ true
+  pub empty_r : len n r ≡ 0
+  pub empty_t : len n t ≡ 0
+  pub arenas : n.arenas ≡ s.arenas
+  pub owners : (q : ℕ) → owner n q ≡ cond (q == t) (Some (Process p)) (cond (q == r) (Some (Process p)) (owner s q))
+  pub many : length n.owners ≡ length s.owners
+  pub back : after (Vacate p r) (after (Vacate p t) n) ≡ s
+
+not_held : (s : Store) (p r : ℕ) → holds s (Process p) r ≡ true → owner s r ≡ None → ⊥
+not_held s p r h e = false≢true (ap (λ o. is_held_by o (Process p)) (sym e) ∙ h)
+
+own_holder : (s : Store) (p r : ℕ) → owner s r ≡ Some (Process p) → holds s (Process p) r ≡ true
+own_holder s p r e = rw e (eq-eqb p p refl)
+
+-- the number of the lowest free record, where there is one
+pub lowest_is : (s : Store) (a r : ℕ) → free_record s a ≡ Some r → lowest s a ≡ r
+lowest_is s a r e = ap (λ (o : Option ℕ). unwrap_or o 65535) e
+
+pub once_is : (p : ℕ) (s : Store) (a r : ℕ) → free_record s a ≡ Some r → claimed_once p s a ≡ after (Claim p r) s
+once_is p s a r e = ap (λ (x : ℕ). after (Claim p x) s) (lowest_is s a r e)
+
+pub claim_arenas : (s : Store) (p r : ℕ) → (after (Claim p r) s).arenas ≡ s.arenas
+unfolding after
+claim_arenas s p r = elim (cases_Bool (can (Claim p r) s)) [ inl y ↦ rw y refl | inr f ↦ rw f refl ]
+
+pub claim_lawful : (s : Store) (p r : ℕ) → IsLawful s → p < 4096 → is_known s r ≡ true → owner s r ≡ None → IsLawful (after (Claim p r) s)
+claim_lawful s p r w l k f = subst IsLawful (sym (claimed s p r w l k f).is) (owner_lawful s r (Some (Process p)) w k l)
+
+pub two_claimed : (s : Store) (p a r t : ℕ) → IsLawful s → p < 4096 → free_record s a ≡ Some r → free_record (after (Claim p r) s) a ≡ Some t →
+    TwoClaimed p r t s (after (Claim p t) (after (Claim p r) s))
+two_claimed s p a r t w l low high =
+    let fr : IsFree s a r = free_is s a r w low in
+    let mid : Store = after (Claim p r) s in
+    let one : Claimed p r s mid = claimed s p r w l fr.known fr.free in
+    let w1 : IsLawful mid = claim_lawful s p r w l fr.known fr.free in
+    let ft : IsFree mid a t = free_is mid a t w1 high in
+    let two : Claimed p t mid (after (Claim p t) mid) = claimed mid p t w1 l ft.known ft.free in
+    let apart : r ≢ t = (λ e. not_held mid p r one.holds (subst (λ (x : ℕ). owner mid x ≡ None) (sym e) ft.free)) in
+    let other : (t == r) ≡ false = ne_eqb t r (λ e. apart (sym e)) in
+    let else : (r == t) ≡ false = ne_eqb r t apart in
+    let own_r : owner (after (Claim p t) mid) r ≡ owner mid r = two.owners r ∙ rw else refl in
+    let kept_t : owner mid t ≡ owner s t = one.owners t ∙ rw other refl in
+    let same : (after (Claim p t) mid).arenas ≡ mid.arenas = two.arenas in
+    record {
+      apart = apart;
+      both = fr.arena ∙ sym ft.arena;
+      free_r = fr.free;
+      free_t = sym kept_t ∙ ft.free;
+      there_r = one.there;
+      there_t = subst (λ (n : ℕ). t < n) one.many two.there;
+      known_r = rw (two.is) (one.known);
+      holds_r = ap (λ o. is_held_by o (Process p)) own_r ∙ one.holds;
+      holds_t = two.holds;
+      empty_r = same_len mid (after (Claim p t) mid) r same ∙ one.empty;
+      empty_t = two.empty;
+      arenas = same ∙ one.arenas;
+      owners = λ q. two.owners q ∙ ap (λ (o : Option Holder). cond (q == t) (Some (Process p)) o) (one.owners q);
+      many = two.many ∙ one.many;
+      back = ap (after (Vacate p r)) (unclaimed mid p t w1 l ft.known ft.free) ∙ unclaimed s p r w l fr.known fr.free
+    }
+
+-- ---- an end changes hands
+
+handed_is : (p q t d : ℕ) (s : Store) → q < 4096 → d < 128 → holds s (Process p) t ≡ true → 0 < len s t → t < length s.owners → handed p q t d s ≡ with_owner t (Some (Process q)) s
+handed_is p q t d s ql dl h some there =
+    let passed : after (Pass p t d) s ≡ with_owner t (Some (Direction d)) s = done (Pass p t d) s (rw (lt-ltb d 128 dl, h, lt-ltb 0 (len s t) some) refl) in
+    let mid : Store = with_owner t (Some (Direction d)) s in
+    let own : owner mid t ≡ Some (Direction d) = get_or-set_same s.owners t (Some (Direction d)) None there in
+    let held : holds mid (Direction d) t ≡ true = rw own (eq-eqb d d refl) in
+    let accepted : after (Accept q t d) mid ≡ with_owner t (Some (Process q)) mid = done (Accept q t d) mid (rw (lt-ltb q 4096 ql, held) refl) in
+    let twice : slice_set (slice_set s.owners t (Some (Direction d))) t (Some (Process q)) ≡ slice_set s.owners t (Some (Process q)) = set-set s.owners t (Some (Direction d)) (Some (Process q)) in
+    ap (after (Accept q t d)) passed ∙ (accepted ∙ ap (λ (os : List (Option Holder)). record s { owners = os }) twice)
+
+-- p got r and q got t, which were free and have bytes now; the other records stayed as they were
+pub record Shared (p q r t : ℕ) (s n : Store) : Type 0 where
+  pub lawful : IsLawful n
+  pub apart : r ≢ t
+  pub free_r : owner s r ≡ None
+  pub free_t : owner s t ≡ None
+  pub there_r : r < length s.owners
+  pub there_t : t < length s.owners
+  pub owners : (k : ℕ) → owner n k ≡ cond (k == t) (Some (Process q)) (cond (k == r) (Some (Process p)) (owner s k))
+  pub full_r : 0 < len n r
+  pub full_t : 0 < len n t
+  pub kept : (k : ℕ) → k ≢ r → k ≢ t → len n k ≡ len s k
+  pub many : length n.owners ≡ length s.owners
+
+paired_owners : (p a r t : ℕ) (s n : Store) → Paired p a r t s n → n.owners ≡ (after (Claim p t) (after (Claim p r) s)).owners
+paired_owners p a r t s n g = let two : Store = after (Claim p t) (after (Claim p r) s) in
+    ap (λ (x : Store). x.owners) g.is ∙ (cut-owners (after (Carve p r 64) two) p r t 32 ∙ carve-owners two p r 64)
+
+moved_lens : (p q t d : ℕ) (s : Store) → q < 4096 → d < 128 → holds s (Process p) t ≡ true → 0 < len s t → t < length s.owners → (moved p q t d s).arenas ≡ s.arenas
+moved_lens p q t d s ql dl h some there = elim (cases_Bool (p == q)) [
+    inl y ↦ rw y refl
+    | inr f ↦ rw (f, handed_is p q t d s ql dl h some there) refl
+  ]
+
+moved_owners : (p q t d : ℕ) (s : Store) → q < 4096 → d < 128 → owner s t ≡ Some (Process p) → 0 < len s t → t < length s.owners → (k : ℕ) →
+    owner (moved p q t d s) k ≡ cond (k == t) (Some (Process q)) (owner s k)
+moved_owners p q t d s ql dl own some there k = elim (cases_eq p q) [
+    inl e ↦ rw (eq-eqb p q e) (elim (cases_eq k t) [
+        inl f ↦ rw (eq-eqb k t f) (ap (λ (x : ℕ). owner s x) f ∙ (own ∙ ap (λ (x : ℕ). Some (Process x)) e))
+        | inr n ↦ rw (ne_eqb k t n) refl
+      ])
+    | inr n ↦ rw (ne_eqb p q n, handed_is p q t d s ql dl (own_holder s p t own) some there) (owner-set s t k (Some (Process q)) there)
+  ]
+
+moved_many : (p q t d : ℕ) (s : Store) → q < 4096 → d < 128 → holds s (Process p) t ≡ true → 0 < len s t → t < length s.owners → length (moved p q t d s).owners ≡ length s.owners
+moved_many p q t d s ql dl h some there = elim (cases_Bool (p == q)) [
+    inl y ↦ rw y refl
+    | inr f ↦ rw (f, handed_is p q t d s ql dl h some there) (length-set s.owners t (Some (Process q)))
+  ]
+
+later_owner : (a b : Bool) (p q : ℕ) (o : Option Holder) → cond a (Some (Process q)) (cond a (Some (Process p)) (cond b (Some (Process p)) o)) ≡ cond a (Some (Process q)) (cond b (Some (Process p)) o)
+later_owner true b p q o = refl
+later_owner false b p q o = refl
+
+pub shared : (p q a r t d : ℕ) (s n : Store) → IsLawful s → p < 4096 → q < 4096 → d < 128 → Paired p a r t s n → IsLawful (moved p q t d n) → Shared p q r t s (moved p q t d n)
+shared p q a r t d s n w pl ql dl g lawful =
+    let high : free_record (after (Claim p r) s) a ≡ Some t = subst (λ (x : Store). free_record x a ≡ Some t) (once_is p s a r g.low) g.high in
+    let c : TwoClaimed p r t s (after (Claim p t) (after (Claim p r) s)) = two_claimed s p a r t w pl g.low high in
+    let same : n.owners ≡ (after (Claim p t) (after (Claim p r) s)).owners = paired_owners p a r t s n g in
+    let owners : (k : ℕ) → owner n k ≡ cond (k == t) (Some (Process p)) (cond (k == r) (Some (Process p)) (owner s k)) = (λ k. ap (λ (os : List (Option Holder)). slice_index_or os k None) same ∙ c.owners k) in
+    let own : owner n t ≡ Some (Process p) = owners t ∙ rw (eq-eqb t t refl) refl in
+    let h : holds n (Process p) t ≡ true = own_holder n p t own in
+    let many : length n.owners ≡ length s.owners = ap length same ∙ c.many in
+    let there : t < length n.owners = subst (λ (x : ℕ). t < x) (sym many) c.there_t in
+    let tail = g.tail in
+    let head = g.head in
+    let some : 0 < len n t = omega (arith, tail) in
+    let arenas : (moved p q t d n).arenas ≡ n.arenas = moved_lens p q t d n ql dl h some there in
+    let lens : (k : ℕ) → len (moved p q t d n) k ≡ len n k = (λ k. same_len n (moved p q t d n) k arenas) in
+    let lr : len (moved p q t d n) r ≡ 32 = lens r ∙ head in
+    let lt : len (moved p q t d n) t ≡ 32 = lens t ∙ tail in
+    record {
+      lawful = lawful;
+      apart = c.apart;
+      free_r = c.free_r;
+      free_t = c.free_t;
+      there_r = c.there_r;
+      there_t = c.there_t;
+      owners = λ k. moved_owners p q t d n ql dl own some there k ∙ (ap (λ (o : Option Holder). cond (k == t) (Some (Process q)) o) (owners k) ∙ later_owner (k == t) (k == r) p q (owner s k));
+      full_r = omega (arith, lr);
+      full_t = omega (arith, lt);
+      kept = λ k a b. lens k ∙ g.kept k a b;
+      many = moved_many p q t d n ql dl h some there ∙ many
+    }

@@ -1,0 +1,64 @@
+//! The records of a channel's two ends.
+ghost use Rattle.std.specs.Prelude.{◌≡◌, ◌||◌, ◌<◌, Some, None, IfOk, OnErr, MatchOption, MatchResult, is_none, length, true};
+ghost use Rattle.xh_model.specs.Store.{IsLawful};
+ghost use Rattle.xh_core.specs.BlockCommands.{free_record};
+ghost use Rattle.xh_core.specs.ChannelCommands.{claimed_once};
+ghost use Rattle.xh_core.specs.Pairing.{ClaimedTwo, Paired, moved, pair_tests};
+ghost use Rattle.xh_core.specs.Refusing.{first_refusal};
+
+use super::Plain;
+use crate::refused::Refused;
+
+impl Plain {
+    /// The two lowest free records of an arena are claimed, or none.
+    fn claim_two(&mut self, p: u16, arena: u32) -> Option<(u16, u16)>
+        requires lawful { IsLawful self.old }
+        requires process { p < 4096 }
+        requires arena { arena < length self.old.arenas }
+        ensures done { MatchOption result ((is_none (free_record self.old arena) || is_none (free_record (claimed_once p self.old arena) arena)) ≡ true) (λ ends. ClaimedTwo p arena ends.0 ends.1 self.old self.new) }
+        ensures unchanged { result ≡ None → self.new ≡ self.old }
+    {
+        let r = self.free_record(arena)?;
+        self.claim(p, r);
+        let Some(t) = self.free_record(arena) else {
+            self.vacate(p, r);
+            return None;
+        };
+        self.claim(p, t);
+        Some((r, t))
+    }
+
+    /// The two lowest free records of an arena get 32 bytes each, or all stays as it was.
+    pub(crate) fn take_ends(&mut self, p: u16, arena: u32) -> Result<(u16, u16), Refused>
+        requires lawful { IsLawful self.old }
+        requires process { p < 4096 }
+        requires arena { arena < length self.old.arenas }
+        ensures done { IfOk result (λ ends. Paired p arena ends.0 ends.1 self.old self.new) }
+        ensures tests { MatchResult result (λ _. first_refusal (pair_tests p self.old arena) ≡ None) (λ refused. first_refusal (pair_tests p self.old arena) ≡ Some refused) }
+        ensures unchanged { OnErr result (self.new ≡ self.old) }
+    {
+        let Some((r, t)) = self.claim_two(p, arena) else {
+            return Err(Refused::NoRecord);
+        };
+        if let Err(refused) = self.carve(p, r, 64) {
+            self.vacate(p, t);
+            self.vacate(p, r);
+            return Err(refused);
+        }
+        self.cut(p, r, t, 32);
+        let _open = &self.records;
+        Ok((r, t))
+    }
+
+    /// One process passes an end on its own direction, and another one accepts it.
+    pub(crate) fn hand_over(&mut self, p: u16, q: u16, t: u16, d: u8)
+        ensures store { self.new ≡ moved p q t d self.old }
+        ensures lawful { IsLawful self.new }
+    {
+        if p != q {
+            self.pass(p, t, d);
+            self.accept(q, t, d);
+        }
+        let _open = &self.records;
+    }
+}

@@ -1,0 +1,96 @@
+//! Several events at a time, and what is read of the arenas.
+ghost use Rattle.std.specs.Prelude.{◌≡◌, ◌≢◌, ℕ, ◌<◌, ◌≤◌, ◌/◌, ◌%◌, ◌∷◌, [], Some, None, OnOk, OnErr, MatchResult, length, true};
+ghost use Rattle.std.specs.List.{position};
+ghost use Rattle.std.specs.Prelude.{is_none};
+ghost use Rattle.xh_model.specs.declared.event.Event.TheVariants.{Claim, Carve, GiveBack, Vacate};
+ghost use Rattle.xh_model.specs.Store.{IsLawful, after, arena_at, is_known, len, owner};
+ghost use Rattle.xh_core.specs.BlockCommands.{free_record, space_tests};
+ghost use Rattle.xh_core.specs.Gaining.{Gained};
+ghost use Rattle.xh_core.specs.Refusing.{first_refusal};
+
+use super::Plain;
+use crate::refused::Refused;
+use xh_model::Holder;
+
+/// The first of the records that nobody holds.
+fn first_free(owners: &[Option<Holder>]) -> Option<usize>
+    ensures { result ≡ position is_none owners.now }
+{
+    owners.iter().position(|owner| owner.is_none())
+}
+
+impl Plain {
+    /// How many arenas there are.
+    pub(crate) fn arenas(&self) -> usize
+        ensures { result ≡ length self.now.arenas }
+    {
+        self.arenas.len()
+    }
+
+    /// The bytes of an arena, handed out or not.
+    pub(crate) fn size(&self, arena: u32) -> u32
+        requires { arena < length self.now.arenas }
+        ensures size { result ≡ length (arena_at self.now arena).cover }
+        ensures limit { result ≤ 1048576 }
+    {
+        self.arenas[arena as usize].size()
+    }
+
+    /// The bytes of a record.
+    pub(crate) fn len(&self, r: u16) -> u32
+        ensures { result ≡ len self.now r }
+    {
+        let _open = &self.records;
+        match self.holder(r) {
+            Some(_) => self.length(r),
+            None => 0,
+        }
+    }
+
+    /// The lowest record of an arena that nobody holds.
+    pub(crate) fn free_record(&self, arena: u32) -> Option<u16>
+        requires { arena < length self.now.arenas }
+        ensures { result ≡ free_record self.now arena }
+    {
+        let first = 256 * arena as usize;
+        match first_free(&self.owners[first..first + usize::from(self.records)]) {
+            Some(index) => Some((first + index) as u16),
+            None => None,
+        }
+    }
+
+    /// A free record is claimed and gets bytes, or all stays as it was.
+    pub(crate) fn take(&mut self, p: u16, r: u16, n: u32) -> Result<(), Refused>
+        requires lawful { IsLawful self.old }
+        requires process { p < 4096 }
+        requires known { is_known self.old r ≡ true }
+        requires free { owner self.old r ≡ None }
+        requires some { 0 < n }
+        requires multiple { n % 16 ≡ 0 }
+        ensures store { OnOk result (self.new ≡ after (Carve p r n) (after (Claim p r) self.old)) }
+        ensures gained { OnOk result (Gained p (r ∷ []) self.old self.new) }
+        ensures length { OnOk result (len self.new r ≡ n) }
+        ensures others { OnOk result ((q : ℕ) → q ≢ r → len self.new q ≡ len self.old q) }
+        ensures room { MatchResult result (λ _. first_refusal (space_tests self.old (r / 256) n) ≡ None) (λ refused. first_refusal (space_tests self.old (r / 256) n) ≡ Some refused) }
+        ensures unchanged { OnErr result (self.new ≡ self.old) }
+    {
+        self.claim(p, r);
+        if let Err(refused) = self.carve(p, r, n) {
+            self.vacate(p, r);
+            return Err(refused);
+        }
+        let _open = &self.records;
+        Ok(())
+    }
+
+    /// The bytes of a record are given back, and the record is free. How many they were.
+    pub(crate) fn discard(&mut self, p: u16, r: u16) -> u32
+        ensures store { self.new ≡ after (Vacate p r) (after (GiveBack p r) self.old) }
+        ensures length { result ≡ len self.old r }
+    {
+        let len = self.len(r);
+        self.give_back(p, r);
+        self.vacate(p, r);
+        len
+    }
+}

@@ -1,0 +1,124 @@
+//! Channels are opened, for one process or between two.
+ghost use Rattle.std.specs.Prelude.{◌≡◌, ◌+◌, ◌*◌, ◌<◌, [], Some, None, false, length, slice_set};
+ghost use Rattle.xh_core.specs.ChannelCommands.{first_state, new_line, open_channel, wire_channel};
+ghost use Rattle.xh_core.specs.Pairing.{IsSound, wire_heads};
+ghost use Rattle.xh_core.specs.Refusing.{IsRunning, Tested};
+
+use super::blocks::list_record;
+use super::Serial;
+use crate::block::Block;
+use crate::contract::Contract;
+use crate::line::Line;
+use crate::refused::Refused;
+use arrayvec::ArrayVec;
+
+/// The state in which both ends of a channel begin.
+fn first_state(contract: &Option<Contract>) -> u8
+    ensures state { result ≡ first_state contract.now }
+    ensures sound { IsSound contract.now }
+{
+    match contract {
+        Some(contract) => contract.first(),
+        None => 0,
+    }
+}
+
+/// A direction on which nothing was put.
+fn new_line(state: u8) -> Line
+    ensures { result ≡ record { shut = false; state = state; put = 0; waiting = record { items = [] } } }
+{
+    Line {
+        shut: false,
+        state,
+        put: 0,
+        waiting: ArrayVec::new(),
+    }
+}
+
+/// Both directions of a channel begin.
+fn begin_lines(lines: &mut Vec<Line>, channel: u8, contract: &Option<Contract>)
+    requires { 2 * channel + 1 < length lines.old.items }
+    ensures lines { lines.new.items ≡ slice_set (slice_set lines.old.items (2 * channel) (new_line contract.now)) (2 * channel + 1) (new_line contract.now) }
+    ensures sound { IsSound contract.now }
+{
+    let low = 2 * usize::from(channel);
+    let state = first_state(contract);
+    lines[low] = new_line(state);
+    lines[low + 1] = new_line(state);
+}
+
+/// Two records are the ends of a channel: `r` is side 0 and `t` side 1.
+fn mark_ends(ends: &mut Vec<Option<u8>>, r: u16, t: u16, channel: u8)
+    requires low { r < length ends.old.items }
+    requires high { t < length ends.old.items }
+    requires channel { channel < 64 }
+    ensures { ends.new.items ≡ slice_set (slice_set ends.old.items r (Some (2 * channel))) t (Some (2 * channel + 1)) }
+{
+    ends[usize::from(r)] = Some(2 * channel);
+    ends[usize::from(t)] = Some(2 * channel + 1);
+}
+
+impl Serial {
+    /// NoProcess and Ended of both processes, NoArena and NoChannel.
+    fn check_wire(&self, p: u16, q: u16, arena: u32) -> Result<(), Refused>
+        ensures { Tested (wire_heads self.now p q arena) result (λ _. IsRunning self.now p × IsRunning self.now q × (arena < length self.now.store.arenas) × (self.now.opened < 64)) }
+    {
+        self.check_start(p)?;
+        self.check_start(q)?;
+        if arena as usize >= self.plain.arenas() {
+            return Err(Refused::NoArena);
+        }
+        if self.opened >= 64 {
+            return Err(Refused::NoChannel);
+        }
+        Ok(())
+    }
+
+    /// A channel of `p`'s, whose side 1 goes to `q`.
+    fn connect(&mut self, p: u16, q: u16, arena: u32, contract: Option<Contract>) -> Result<(Block, Block), Refused>
+        ensures { wire_channel p q arena contract self.old ≡ (result, self.new) }
+    {
+        self.check_wire(p, q, arena)?;
+        let (r, t) = self.plain.take_ends(p, arena)?;
+        let channel = self.opened;
+        begin_lines(&mut self.lines, channel, &contract);
+        self.contracts[usize::from(channel)] = contract;
+        mark_ends(&mut self.ends, r, t, channel);
+        self.opened = channel + 1;
+        self.plain.hand_over(p, q, t, 2 * channel + 1);
+        list_record(&mut self.places, p, r);
+        list_record(&mut self.places, q, t);
+        Ok((Block { rec: r, len: 32 }, Block { rec: t, len: 32 }))
+    }
+
+    /// A new channel, the lowest that was not opened, whose two ends `p` holds: side 0 and side 1,
+    /// the halves of one run of 64 bytes of the arena. NoProcess, Ended, NoArena, NoChannel,
+    /// NoRecord, NoSpace and Worn, in this order; each leaves all as it was.
+    pub fn open(&mut self, p: u16, arena: u32) -> Result<(Block, Block), Refused>
+        ensures { open_channel p arena None self.old ≡ (result, self.new) }
+    {
+        self.connect(p, p, arena, None)
+    }
+
+    /// The same, and both ends go by a contract, from its first state on.
+    pub fn open_with(&mut self, p: u16, arena: u32, contract: Contract) -> Result<(Block, Block), Refused>
+        ensures { open_channel p arena (Some contract) self.old ≡ (result, self.new) }
+    {
+        self.connect(p, p, arena, Some(contract))
+    }
+
+    /// A new channel as by `open`, of which `p` holds side 0 and `q` side 1. NoProcess and Ended of
+    /// `p`, the same of `q`, and then as `open`. With `p` and `q` the same it is `open`.
+    pub fn wire(&mut self, p: u16, q: u16, arena: u32) -> Result<(Block, Block), Refused>
+        ensures { wire_channel p q arena None self.old ≡ (result, self.new) }
+    {
+        self.connect(p, q, arena, None)
+    }
+
+    /// The same, and both ends go by a contract, from its first state on.
+    pub fn wire_with(&mut self, p: u16, q: u16, arena: u32, contract: Contract) -> Result<(Block, Block), Refused>
+        ensures { wire_channel p q arena (Some contract) self.old ≡ (result, self.new) }
+    {
+        self.connect(p, q, arena, Some(contract))
+    }
+}
