@@ -139,3 +139,6 @@ impl Serial {
         })
     }
 }
+
+#[cfg(test)]
+mod tests;
