@@ -1,5 +1,5 @@
 -- The lengths of an arena's records as a list, and what a change of one or two records makes of it.
-use Rattle.std.proofs.Common.{◌≡◌, ℕ, ◌+◌, ◌-◌, ◌<◌, ◌≤◌, List, [], ◌∷◌, cond, length, get_or, set, map, refl, sym, ap, ◌∙◌, subst, Option, Some, None, zero, suc, arith, zero-add, inl, inr}
+use Rattle.std.proofs.Common.{◌≡◌, ℕ, ◌+◌, ◌<◌, ◌≤◌, ◌∷◌, cond, length, set, map, refl, sym, ap, ◌∙◌, Some, None, zero, suc, arith, zero-add, inl, inr}
 use Rattle.std.specs.Prelude.{◌≢◌, ◌==◌, slice_set, slice_get, replicate, sum}
 use Rattle.std.specs.List.{range_with_len, sum_by}
 use Rattle.std.proofs.lemmas.Bool.{cases_eq, eq-eqb, ne_eqb}

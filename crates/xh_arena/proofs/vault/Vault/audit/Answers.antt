@@ -1,5 +1,3 @@
-use Rattle.std.proofs.Common.{◌<◌, ℕ, sym, ap, ◌∙◌, subst}
-use Rattle.xh_model.specs.Cover.{length_of}
 use Rattle.xh_model.proofs.Lengths.{length_is}
 use Rattle.xh_arena.specs.Views.{booked}
 use Rattle.xh_arena.proofs.Shown.{lot_known}

@@ -3,7 +3,7 @@ use Rattle.std.specs.Prelude.{slice_set}
 use Rattle.xh_model.specs.Cover.{IsGoodCut, length_of, lengths_of}
 use Rattle.xh_model.proofs.Lengths.{length_is}
 use Rattle.xh_arena.specs.Views.{booked}
-use Rattle.xh_arena.proofs.Shown.{lot_known, along, fits_along, cut_kept, apart, cut_parts}
+use Rattle.xh_arena.proofs.Shown.{lot_known, along, fits_along, cut_kept, apart}
 use Rattle.xh_arena.proofs.vault.Vault.cut.Goals as goal
 
 pub cut-requires-clause-known : goal.cut-requires-clause-known

@@ -1,4 +1,4 @@
-use Rattle.std.proofs.Common.{◌≡◌, ℕ, ◌+◌, sym, ap, ◌∙◌}
+use Rattle.std.proofs.Common.{◌+◌, sym, ap, ◌∙◌}
 use Rattle.xh_model.specs.Cover.{lengths_of}
 use Rattle.xh_model.proofs.Lengths.{sum-lengths}
 use Rattle.xh_arena.specs.Views.{back_of}
