@@ -37,15 +37,12 @@ impl Plain {
         self.arenas[arena as usize].size()
     }
 
-    /// The bytes of a record.
+    /// The bytes of a record; none where there is no such record.
     pub(crate) fn len(&self, r: u16) -> u32
         ensures { result ≡ len self.now r }
     {
         let _open = &self.records;
-        match self.holder(r) {
-            Some(_) => self.length(r),
-            None => 0,
-        }
+        if self.knows(r) { self.length(r) } else { 0 }
     }
 
     /// The lowest record of an arena that nobody holds.

@@ -1,7 +1,7 @@
 //! Messages: give and take.
 ghost use Rattle.std.specs.Prelude.{◌≡◌, ◌+◌, ◌-◌, ◌*◌, ◌/◌, ◌%◌, ◌<◌, ◌≤◌, IfOk, false, length, slice_index_or, slice_set};
 ghost use Rattle.std.specs.List.{remove};
-ghost use Rattle.xh_model.specs.Store.{len, IsLawful};
+ghost use Rattle.xh_model.specs.Store.{len};
 ghost use Rattle.xh_core.specs.Machine.{contract_of, line, no_line, peer};
 ghost use Rattle.xh_core.specs.Refusing.{toward};
 ghost use Rattle.xh_core.specs.MessageCommands.{AreOrderly, described, give, is_banned, no_message, pass_all, put_line, take, taken_line, told_line, without, LAST};
@@ -109,27 +109,15 @@ fn take_front(lines: &mut Vec<Line>, contracts: &[Option<Contract>], d: u8) -> M
     message
 }
 
-/// The bytes of a record; none where nobody holds it.
-fn bytes_of(plain: &Plain, r: u16) -> u32
-    requires { IsLawful plain.now }
-    ensures { result ≡ len plain.now r }
-{
-    match plain.holder(r) {
-        Some(_) => plain.length(r),
-        None => 0,
-    }
-}
-
 /// Records as blocks.
 fn describe(plain: &Plain, blocks: &ArrayVec<u16, 8>) -> ArrayVec<Block, 8>
-    requires { IsLawful plain.now }
     ensures { result.items ≡ described plain.now blocks.now.items }
 {
     let mut list = ArrayVec::new();
     for r in blocks.as_slice() {
         list.push(Block {
             rec: *r,
-            len: bytes_of(plain, *r),
+            len: plain.len(*r),
         });
     }
     list
