@@ -1,6 +1,7 @@
 //! Channels are opened, for one process or between two.
 ghost use Rattle.std.specs.Prelude.{◌≡◌, ◌+◌, ◌*◌, ◌<◌, [], Some, None, false, length, slice_set};
 ghost use Rattle.xh_core.specs.ChannelCommands.{first_state, new_line, open_channel, wire_channel};
+ghost use Rattle.xh_core.specs.MessageCommands.{AreOrderly};
 ghost use Rattle.xh_core.specs.Pairing.{IsSound, wire_heads};
 ghost use Rattle.xh_core.specs.Refusing.{IsRunning, Tested};
 
@@ -82,7 +83,8 @@ impl Serial {
         arena: u32,
         contract: Option<Contract>,
     ) -> Result<(Block, Block), Refused>
-        ensures { wire_channel p q arena contract self.old ≡ (result, self.new) }
+        ensures is { wire_channel p q arena contract self.old ≡ (result, self.new) }
+        ensures orderly { AreOrderly self.new }
     {
         self.check_wire(p, q, arena)?;
         let (r, t) = self.plain.take_ends(p, arena)?;
@@ -101,7 +103,8 @@ impl Serial {
     /// the halves of one run of 64 bytes of the arena. NoProcess, Ended, NoArena, NoChannel,
     /// NoRecord, NoSpace and Worn, in this order; each leaves all as it was.
     pub fn open(&mut self, p: u16, arena: u32) -> Result<(Block, Block), Refused>
-        ensures { open_channel p arena None self.old ≡ (result, self.new) }
+        ensures is { open_channel p arena None self.old ≡ (result, self.new) }
+        ensures orderly { AreOrderly self.new }
     {
         self.connect(p, p, arena, None)
     }
@@ -113,7 +116,8 @@ impl Serial {
         arena: u32,
         contract: Contract,
     ) -> Result<(Block, Block), Refused>
-        ensures { open_channel p arena (Some contract) self.old ≡ (result, self.new) }
+        ensures is { open_channel p arena (Some contract) self.old ≡ (result, self.new) }
+        ensures orderly { AreOrderly self.new }
     {
         self.connect(p, p, arena, Some(contract))
     }
@@ -121,7 +125,8 @@ impl Serial {
     /// A new channel as by `open`, of which `p` holds side 0 and `q` side 1. NoProcess and Ended of
     /// `p`, the same of `q`, and then as `open`. With `p` and `q` the same it is `open`.
     pub fn wire(&mut self, p: u16, q: u16, arena: u32) -> Result<(Block, Block), Refused>
-        ensures { wire_channel p q arena None self.old ≡ (result, self.new) }
+        ensures is { wire_channel p q arena None self.old ≡ (result, self.new) }
+        ensures orderly { AreOrderly self.new }
     {
         self.connect(p, q, arena, None)
     }
@@ -134,7 +139,8 @@ impl Serial {
         arena: u32,
         contract: Contract,
     ) -> Result<(Block, Block), Refused>
-        ensures { wire_channel p q arena (Some contract) self.old ≡ (result, self.new) }
+        ensures is { wire_channel p q arena (Some contract) self.old ≡ (result, self.new) }
+        ensures orderly { AreOrderly self.new }
     {
         self.connect(p, q, arena, Some(contract))
     }

@@ -12,18 +12,29 @@ use Rattle.xh_core.proofs.Appended.{appended}
 use Rattle.xh_core.proofs.Connected.{connected, connected_whole, connected_is, room_p, room_q}
 use Rattle.xh_core.proofs.Opening.{wire_stopped, wire_no_room, wire_done, pair_there, all_shared}
 use Rattle.xh_core.proofs.Pairs.{Shared}
+use Rattle.xh_core.proofs.Wired.{wired_orderly}
 use Rattle.xh_core.proofs.serial.Serial.connect.Goals as goal
 
-pub returns-in_err-check_wire : goal.returns-in_err-check_wire
-returns-in_err-check_wire c =
+pub returns-in_err-check_wire-clause-is : goal.returns-in_err-check_wire-clause-is
+returns-in_err-check_wire-clause-is c =
     let e = err_from_is_err_and c.from_residual.result c.from_residual.ensures.1 in
     rw (e.1, e.2) (wire_stopped c.args.p c.args.q c.args.arena c.args.contract c.args.self.now c.in_err-check_wire.field-0.0 c.in_err-check_wire.ensures)
 
-pub returns-in_err-r : goal.returns-in_err-r
-returns-in_err-r c =
+pub returns-in_err-check_wire-clause-orderly : goal.returns-in_err-check_wire-clause-orderly
+returns-in_err-check_wire-clause-orderly c =
+    let w : IsWhole c.args.self.now = subst IsWhole c.self.view_is c.self.invariant in
+    wired_orderly c.args.self.now w.wired
+
+pub returns-in_err-r-clause-is : goal.returns-in_err-r-clause-is
+returns-in_err-r-clause-is c =
     let e = err_from_is_err_and c.from_residual-in_err-r.result c.from_residual-in_err-r.ensures.1 in
     let room = subst (λ (x : Machine). first_refusal (pair_tests c.args.p x.store c.args.arena) ≡ Some c.in_err-r.field-0.0) c.self.view_is c.in_err-r.ensures.tests in
     rw (e.1, e.2, c.in_err-r.ensures.unchanged, c.self.view_is) (wire_no_room c.args.p c.args.q c.args.arena c.args.contract c.args.self.now c.in_err-r.field-0.0 c.in_ok-check_wire.ensures.0 room)
+
+pub returns-in_err-r-clause-orderly : goal.returns-in_err-r-clause-orderly
+returns-in_err-r-clause-orderly c =
+    let m : Machine = record { store = c.take_ends.new.self; ends = c.self.inside.ends.items; buffers = c.self.inside.buffers.items; places = c.self.inside.places.items; lines = c.self.inside.lines.items; contracts = c.self.inside.contracts.items; opened = c.self.inside.opened; depth = c.self.inside.depth } in
+    wired_orderly m c.self.invariant.wired
 
 pub mark_ends-requires-clause-low : goal.mark_ends-requires-clause-low
 mark_ends-requires-clause-low c =
@@ -82,15 +93,21 @@ made c =
     (second ∙ ap (λ (ps : List Place). appended c.args.q c.in_ok-r.t ps) first)
     c.begin_lines.ensures.lines (ap (λ (k : ℕ). slice_set c.self.inside.contracts.items k c.args.contract) c.from.ensures) refl refl
 
-pub invariant_of-self-2 : goal.invariant_of-self-2
-invariant_of-self-2 c =
+whole : (c : goal.After-list_record-2) → IsWhole (is c)
+whole c =
     let more : (was c).opened < 64 = subst (λ (x : Machine). x.opened < 64) (sym c.self.view_is) c.in_ok-check_wire.ensures.1.3 in
     let g : Shared c.args.p c.args.q c.in_ok-r.r c.in_ok-r.t (was c).store c.hand_over.new.self =
     all_shared (was c) c.args.p c.args.q c.args.arena c.in_ok-r.r c.in_ok-r.t c.take_ends.new.self c.hand_over.new.self c.self.invariant (runs_first c) (runs_second c) more c.in_ok-r.ensures.done c.hand_over.ensures.store c.hand_over.ensures.lawful in
     subst IsWhole (sym (made c)) (connected_whole c.hand_over.new.self c.args.p c.args.q c.in_ok-r.r c.in_ok-r.t c.args.contract (was c) c.self.invariant (runs_first c) (runs_second c) more c.begin_lines.ensures.sound g)
 
-pub returns : goal.returns
-returns c =
+pub invariant_of-self-2 : goal.invariant_of-self-2
+invariant_of-self-2 c = whole c
+
+pub returns-clause-orderly : goal.returns-clause-orderly
+returns-clause-orderly c = wired_orderly (is c) (whole c).wired
+
+pub returns-clause-is : goal.returns-clause-is
+returns-clause-is c =
     let heads = subst (λ (x : Machine). first_refusal (wire_heads x c.args.p c.args.q c.args.arena) ≡ None) (sym c.self.view_is) c.in_ok-check_wire.ensures.0 in
     let pair : Paired c.args.p c.args.arena c.in_ok-r.r c.in_ok-r.t (was c).store c.take_ends.new.self = c.in_ok-r.ensures.done in
     let done = wire_done c.args.p c.args.q c.args.arena c.in_ok-r.r c.in_ok-r.t c.args.contract (was c) c.take_ends.new.self heads c.in_ok-r.ensures.tests pair in
