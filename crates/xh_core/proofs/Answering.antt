@@ -1,6 +1,6 @@
--- The first of several refusals, and what alloc answers.
-use Rattle.std.proofs.Common.{◌≡◌, ◌≢◌, ℕ, ◌+◌, ◌-◌, ◌/◌, List, length, take, drop, [], ◌∷◌, ◌++◌, Bool, true, false, cond, refl, sym, ap, ◌∙◌, inl, inr, arith}
-use Rattle.std.specs.Prelude.{Option, Some, None, Result, Ok, Err, nat_lt, is_none, unwrap_or, slice_set}
+-- What alloc, free, split, read and write answer.
+use Rattle.std.proofs.Common.{◌≡◌, ◌≢◌, ℕ, ◌+◌, ◌-◌, ◌/◌, List, length, take, drop, [], ◌∷◌, Bool, true, false, ap, ◌∙◌, inl, inr}
+use Rattle.std.specs.Prelude.{Option, Some, None, Ok, Err, nat_lt, is_none, unwrap_or, slice_set}
 use Rattle.std.proofs.lemmas.Bool.{cases_Bool}
 use Rattle.xh_model.specs.Cover.{first_fit}
 use Rattle.xh_model.specs.Store.{Store, len, arena_at}
@@ -9,22 +9,9 @@ use Rattle.xh_core.specs.declared.refused.Refused.{Refused}
 use Rattle.xh_core.specs.declared.refused.Refused.TheVariants.{OutOfMemory, NoSpace, Worn}
 use Rattle.xh_core.specs.Machine.{Machine, buffer}
 use Rattle.xh_core.specs.Refusing.{Answer, Tests, answered, first_refusal, start, data_tests}
-use Rattle.xh_core.specs.BlockCommands.{free_record, lowest, rounded, space_tests, alloc_tests, alloc, allocated, free_tests, free, freed_block, split_tests, split, parted, range_tests, read, write, overwritten}
+use Rattle.xh_core.specs.BlockCommands.{free_record, lowest, rounded, space_tests, alloc, allocated, free, freed_block, split, parted, range_tests, read, write, overwritten}
 use Rattle.xh_core.specs.Checks.{alloc_heads, split_heads}
-
-pub first_append : (xs ys : Tests) → first_refusal xs ≡ None → first_refusal (xs ++ ys) ≡ first_refusal ys
-first_append [] ys h = refl
-first_append (t ∷ xs) ys h = elim (cases_Bool t.0) [
-  | inl y ↦ (let e : Some t.1 ≡ None = rw y at h in absurd (cc))
-  | inr n ↦ rw n (first_append xs ys (rw n at h))
-]
-
-pub first_stop : (xs ys : Tests) (e : Refused) → first_refusal xs ≡ Some e → first_refusal (xs ++ ys) ≡ Some e
-first_stop [] ys e h = absurd (cc)
-first_stop (t ∷ xs) ys e h = elim (cases_Bool t.0) [
-  | inl y ↦ rw y (rw y at h)
-  | inr n ↦ rw n (first_stop xs ys e (rw n at h))
-]
+use Rattle.xh_core.proofs.Firsts.{first_append, first_later}
 
 -- where there is no room, it is never for want of memory
 pub no_memory_test : (s : Store) (a n : ℕ) (e : Refused) → first_refusal (space_tests s a n) ≡ Some e → e ≢ OutOfMemory
@@ -46,19 +33,19 @@ later b n a m = (b, OutOfMemory) ∷ space_tests m.store a (rounded n)
 
 pub alloc_stopped : (b : Bool) (p n a : ℕ) (m : Machine) (e : Refused) → first_refusal (alloc_heads m p n a) ≡ Some e → alloc b p n a m ≡ (Err e, m)
 unfolding alloc
-alloc_stopped b p n a m e h = ap (λ (o : Option Refused). answered o m (alloc_answer p n a m)) (first_stop (alloc_heads m p n a) (later b n a m) e h)
+alloc_stopped b p n a m e h = ap (λ (o : Option Refused). answered o m (alloc_answer p n a m)) (first_append (alloc_heads m p n a) (later b n a m) e h)
 
 pub alloc_memory : (p n a : ℕ) (m : Machine) → first_refusal (alloc_heads m p n a) ≡ None → alloc true p n a m ≡ (Err OutOfMemory, m)
 unfolding alloc
-alloc_memory p n a m h = ap (λ (o : Option Refused). answered o m (alloc_answer p n a m)) (first_append (alloc_heads m p n a) (later true n a m) h)
+alloc_memory p n a m h = ap (λ (o : Option Refused). answered o m (alloc_answer p n a m)) (first_later (alloc_heads m p n a) (later true n a m) h)
 
 pub alloc_no_room : (p n a : ℕ) (m : Machine) (e : Refused) → first_refusal (alloc_heads m p n a) ≡ None → first_refusal (space_tests m.store a (rounded n)) ≡ Some e → alloc false p n a m ≡ (Err e, m)
 unfolding alloc
-alloc_no_room p n a m e h f = ap (λ (o : Option Refused). answered o m (alloc_answer p n a m)) (first_append (alloc_heads m p n a) (later false n a m) h ∙ f)
+alloc_no_room p n a m e h f = ap (λ (o : Option Refused). answered o m (alloc_answer p n a m)) (first_later (alloc_heads m p n a) (later false n a m) h ∙ f)
 
 pub alloc_done : (p n a : ℕ) (m : Machine) → first_refusal (alloc_heads m p n a) ≡ None → first_refusal (space_tests m.store a (rounded n)) ≡ None → alloc false p n a m ≡ alloc_answer p n a m
 unfolding alloc
-alloc_done p n a m h f = ap (λ (o : Option Refused). answered o m (alloc_answer p n a m)) (first_append (alloc_heads m p n a) (later false n a m) h ∙ f)
+alloc_done p n a m h f = ap (λ (o : Option Refused). answered o m (alloc_answer p n a m)) (first_later (alloc_heads m p n a) (later false n a m) h ∙ f)
 
 abbrev given_at : ℕ → ℕ → ℕ → Machine → Answer Block
 given_at p n r m = (Ok (record { rec = r; len = n }), allocated p r n m)
@@ -80,15 +67,15 @@ free_answer p r m = (Ok (len m.store r), freed_block p r m)
 
 pub free_stopped : (p r : ℕ) (m : Machine) (e : Refused) → first_refusal (start m p) ≡ Some e → free p r m ≡ (Err e, m)
 unfolding free
-free_stopped p r m e h = ap (λ (o : Option Refused). answered o m (free_answer p r m)) (first_stop (start m p) (data_tests m p r) e h)
+free_stopped p r m e h = ap (λ (o : Option Refused). answered o m (free_answer p r m)) (first_append (start m p) (data_tests m p r) e h)
 
 pub free_refused : (p r : ℕ) (m : Machine) (e : Refused) → first_refusal (start m p) ≡ None → first_refusal (data_tests m p r) ≡ Some e → free p r m ≡ (Err e, m)
 unfolding free
-free_refused p r m e h f = ap (λ (o : Option Refused). answered o m (free_answer p r m)) (first_append (start m p) (data_tests m p r) h ∙ f)
+free_refused p r m e h f = ap (λ (o : Option Refused). answered o m (free_answer p r m)) (first_later (start m p) (data_tests m p r) h ∙ f)
 
 pub free_gives : (p r : ℕ) (m : Machine) → first_refusal (start m p) ≡ None → first_refusal (data_tests m p r) ≡ None → free p r m ≡ (Ok (len m.store r), freed_block p r m)
 unfolding free
-free_gives p r m h f = ap (λ (o : Option Refused). answered o m (free_answer p r m)) (first_append (start m p) (data_tests m p r) h ∙ f)
+free_gives p r m h f = ap (λ (o : Option Refused). answered o m (free_answer p r m)) (first_later (start m p) (data_tests m p r) h ∙ f)
 
 -- ---- split
 
@@ -100,15 +87,15 @@ split_later b = (b, OutOfMemory) ∷ []
 
 pub split_stopped : (b : Bool) (p r k : ℕ) (m : Machine) (e : Refused) → first_refusal (split_heads m p r k) ≡ Some e → split b p r k m ≡ (Err e, m)
 unfolding split
-split_stopped b p r k m e h = ap (λ (o : Option Refused). answered o m (split_answer p r (lowest m.store (r / 256)) k m)) (first_stop (split_heads m p r k) (split_later b) e h)
+split_stopped b p r k m e h = ap (λ (o : Option Refused). answered o m (split_answer p r (lowest m.store (r / 256)) k m)) (first_append (split_heads m p r k) (split_later b) e h)
 
 pub split_memory : (p r k : ℕ) (m : Machine) → first_refusal (split_heads m p r k) ≡ None → split true p r k m ≡ (Err OutOfMemory, m)
 unfolding split
-split_memory p r k m h = ap (λ (o : Option Refused). answered o m (split_answer p r (lowest m.store (r / 256)) k m)) (first_append (split_heads m p r k) (split_later true) h)
+split_memory p r k m h = ap (λ (o : Option Refused). answered o m (split_answer p r (lowest m.store (r / 256)) k m)) (first_later (split_heads m p r k) (split_later true) h)
 
 split_done : (p r k : ℕ) (m : Machine) → first_refusal (split_heads m p r k) ≡ None → split false p r k m ≡ split_answer p r (lowest m.store (r / 256)) k m
 unfolding split
-split_done p r k m h = ap (λ (o : Option Refused). answered o m (split_answer p r (lowest m.store (r / 256)) k m)) (first_append (split_heads m p r k) (split_later false) h)
+split_done p r k m h = ap (λ (o : Option Refused). answered o m (split_answer p r (lowest m.store (r / 256)) k m)) (first_later (split_heads m p r k) (split_later false) h)
 
 pub split_gives : (p r k t : ℕ) (m : Machine) → first_refusal (split_heads m p r k) ≡ None → free_record m.store (r / 256) ≡ Some t →
     split false p r k m ≡ (Ok (record { rec = r; len = k }, record { rec = t; len = len m.store r - k }), parted p r t k m)

@@ -8,9 +8,8 @@ use Rattle.xh_core.specs.declared.place.Place.{Place}
 use Rattle.xh_core.specs.declared.status.Status.{Status}
 use Rattle.xh_core.specs.Machine.{Machine, no_place, is_vacant, is_ended, times, IsWhole}
 use Rattle.xh_core.specs.Refusing.{IsRunning}
-use Rattle.xh_core.proofs.Machines.{place_in, list_in, place_here, place_else, list_here, list_else, current_generation}
+use Rattle.xh_core.proofs.Machines.{runs_busy, place_in, list_in, place_here, place_else, list_here, list_else, current_generation}
 use Rattle.xh_core.proofs.Claiming.{one_time}
-use Rattle.xh_core.proofs.Gains.{busy}
 
 -- what always holds of the places
 pub record ArePlaces (ps : List Place) : Type 0 where
@@ -27,7 +26,7 @@ pub whole_places : (m : Machine) → IsWhole m → ArePlaces m.places
 whole_places m w = record { long = w.places; generations = w.generations; idle = w.idle }
 
 pub running_place : (m : Machine) (p : ℕ) → IsRunning m p → IsBusy m.places p
-running_place m p r = record { current = current_generation m p r.0; busy = busy m p r }
+running_place m p r = record { current = current_generation m p r.0; busy = runs_busy m p r }
 
 -- r goes to the end of p's list
 abbrev pub longer : ℕ → Place → Place

@@ -1,24 +1,21 @@
 -- A free record is claimed, and gets bytes.
-use Rattle.std.proofs.Common.{◌≡◌, ◌≢◌, ℕ, zero, suc, ◌+◌, ◌*◌, ◌/◌, ◌%◌, ◌<◌, ◌≤◌, List, [], ◌∷◌, length, take, drop, length-drop, ◌-◌, Bool, true, false, cond, refl, sym, ap, ◌∙◌, subst, arith, ◌⊎◌, inl, inr, get_or-set_same, get_or-set_other}
-use Rattle.std.specs.Prelude.{Option, Some, None, is_none, is_some, slice_range, ◌&&◌, ◌==◌, not, nat_le, nat_lt, slice_set, slice_index_or, option_map, unwrap_or}
+use Rattle.std.proofs.Common.{◌≡◌, ◌≢◌, ℕ, suc, ◌+◌, ◌*◌, ◌/◌, ◌%◌, ◌<◌, ◌≤◌, List, [], ◌∷◌, length, take, drop, length-drop, ◌-◌, Bool, true, cond, refl, sym, ap, ◌∙◌, subst, arith, inl, inr}
+use Rattle.std.specs.Prelude.{Option, Some, None, is_none, is_some, slice_range, ◌==◌, nat_lt, slice_set, slice_index_or, option_map}
 use Rattle.std.specs.List.{position, position_or_len, range_with_len}
-use Rattle.std.proofs.lemmas.Bool.{cases_eq, cases_Bool, cases_lt, false≢true, eq-eqb, ne_eqb, lt-ltb, le-ltb, ltb-true, ltb-false, and_parts, eqb-true}
-use Rattle.std.proofs.lemmas.Bool.Decides.{nat_tests}
+use Rattle.std.proofs.lemmas.Bool.{cases_eq, cases_Bool, false≢true, eq-eqb, ne_eqb, lt-ltb, eqb-true}
 use Rattle.std.proofs.lemmas.List.{length-set, length-take-le, set-set, set-get_or, get_or-take, get_or-drop}
 use Rattle.std.proofs.lemmas.List.FromFn.{length-range_with_len, get_or-range_with_len}
 use Rattle.std.proofs.lemmas.List.Quantifiers.{position-Some}
 use Rattle.xh_model.specs.declared.event.Holder.{Holder}
-use Rattle.xh_model.specs.declared.event.Holder.TheVariants.{Process, Direction}
-use Rattle.xh_model.specs.declared.event.Event.TheVariants.{Claim, Carve, Cut, GiveBack, Vacate}
-use Rattle.xh_model.specs.Cover.{State, first_fit}
-use Rattle.xh_model.specs.Store.{Store, owner, len, holds, is_held_by, is_known, arena_at, arena_of, can, change, after, has_room, with_owner, IsOwner, IsLawful}
+use Rattle.xh_model.specs.declared.event.Holder.TheVariants.{Process}
+use Rattle.xh_model.specs.declared.event.Event.TheVariants.{Claim, Carve, Cut, Vacate}
+use Rattle.xh_model.specs.Store.{Store, owner, len, holds, is_held_by, is_known, arena_at, can, after, with_owner, IsOwner, IsLawful}
 use Rattle.xh_model.proofs.Changed.{known_there}
-use Rattle.xh_core.specs.declared.refused.Refused.{Refused}
 use Rattle.xh_core.specs.Machine.{times}
 use Rattle.xh_core.specs.BlockCommands.{free_record, space_tests}
 use Rattle.xh_core.specs.Refusing.{first_refusal}
 use Rattle.xh_core.specs.Gaining.{Gained}
-use Rattle.xh_core.proofs.Stores.{done, times-cons, owner-set, same_len}
+use Rattle.xh_core.proofs.Stores.{done, own_holder, times-cons, at_set, same_len}
 
 -- ---- the lowest free record
 
@@ -109,15 +106,12 @@ in_range s r w k = let l = known_there s r k in let e = w.long in omega arith
 claim_is : (s : Store) (p r : ℕ) → p < 4096 → is_known s r ≡ true → owner s r ≡ None → after (Claim p r) s ≡ with_owner r (Some (Process p)) s
 claim_is s p r l k f = done (Claim p r) s (rw (lt-ltb p 4096 l, k, f) refl)
 
-own_holder : (s : Store) (p r : ℕ) → owner s r ≡ Some (Process p) → holds s (Process p) r ≡ true
-own_holder s p r e = rw e (eq-eqb p p refl)
-
 pub claimed : (s : Store) (p r : ℕ) → IsLawful s → p < 4096 → is_known s r ≡ true → owner s r ≡ None → Claimed p r s (after (Claim p r) s)
 claimed s p r w l k f =
     let is : after (Claim p r) s ≡ with_owner r (Some (Process p)) s = claim_is s p r l k f in
     let there : r < length s.owners = in_range s r w k in
     let arenas : (after (Claim p r) s).arenas ≡ s.arenas = ap (λ (t : Store). t.arenas) is in
-    let owners : (q : ℕ) → owner (after (Claim p r) s) q ≡ cond (q == r) (Some (Process p)) (owner s q) = (λ q. ap (λ (t : Store). owner t q) is ∙ owner-set s r q (Some (Process p)) there) in
+    let owners : (q : ℕ) → owner (after (Claim p r) s) q ≡ cond (q == r) (Some (Process p)) (owner s q) = (λ q. ap (λ (t : Store). owner t q) is ∙ at_set s.owners r q (Some (Process p)) None there) in
     record {
       is = is;
       there = there;

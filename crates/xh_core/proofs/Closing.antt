@@ -16,8 +16,7 @@ use Rattle.xh_core.specs.Refusing.{IsRunning}
 use Rattle.xh_core.specs.Sweeping.{sweep_one}
 use Rattle.xh_core.specs.EndingCommands.{last, moved_last}
 use Rattle.xh_core.specs.BlockCommands.{freed_block}
-use Rattle.xh_core.proofs.Machines.{place_there, list_here, list_else, current_generation, busy_place, generations_set, idle_set, place_here}
-use Rattle.xh_core.proofs.Stopping.{runs_busy}
+use Rattle.xh_core.proofs.Machines.{runs_busy, place_there, list_here, list_else, current_generation, busy_place, generations_set, idle_set, place_here}
 use Rattle.xh_core.proofs.Stores.{times-cons}
 
 pub count_append : (q : ℕ) (xs ys : List ℕ) → times q (xs ++ ys) ≡ times q xs + times q ys

@@ -20,6 +20,7 @@ use Rattle.xh_core.proofs.Claiming.{no_bytes}
 use Rattle.xh_core.proofs.Room.{room}
 use Rattle.xh_core.proofs.Appended.{ArePlaces, IsBusy, whole_places, running_place, appended, own_list, appended_places, appended_busy, appended_list, appended_twice, appended_both, times_longer, no_shorter}
 use Rattle.xh_core.proofs.Pairs.{Shared}
+use Rattle.xh_core.proofs.Stores.{at_set}
 
 -- ---- both ends are in step
 
@@ -56,12 +57,6 @@ opened_wired contracts lines k contract wired known within valid c rows is =
     ]
 
 -- ---- the machine after it
-
-at_set : {A : Type 0} (xs : List A) (i k : ℕ) (x d : A) → i < length xs → slice_index_or (slice_set xs i x) k d ≡ cond (k == i) x (slice_index_or xs k d)
-at_set xs i k x d l = elim (cases_eq k i) [
-  | inl e ↦ ap (λ (j : ℕ). slice_index_or (slice_set xs i x) j d) e ∙ (get_or-set_same xs i x d l ∙ rw (eq-eqb k i e) refl)
-  | inr n ↦ get_or-set_other xs i k x d n ∙ rw (ne_eqb k i n) refl
-]
 
 zero_cond : (b : Bool) → cond {A = ℕ} b 0 0 ≡ 0
 zero_cond true = refl

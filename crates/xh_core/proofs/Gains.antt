@@ -1,19 +1,14 @@
 -- A process gains free records, and the machine stays whole.
-use Rattle.std.proofs.Common.{◌≡◌, ◌≢◌, ℕ, zero, suc, ◌+◌, ◌-◌, ◌*◌, ◌/◌, ◌%◌, ◌<◌, ◌≤◌, List, [], ◌∷◌, ◌++◌, length, take, drop, length-drop, Bool, true, false, cond, refl, sym, ap, ◌∙◌, subst, arith, ◌⊎◌, inl, inr, get_or-set_same, get_or-set_other}
-use Rattle.std.specs.Prelude.{Option, Some, None, is_some, is_none, ◌==◌, ◌||◌, not, nat_le, nat_lt, replicate, slice_set, slice_index_or}
-use Rattle.std.proofs.lemmas.Bool.{cases_eq, cases_Bool, cases_lt, false≢true, eq-eqb, ne_eqb, lt-ltb, le-ltb, ltb-true, ltb-false, eqb-true}
-use Rattle.std.proofs.lemmas.Bool.Decides.{nat_tests}
+use Rattle.std.proofs.Common.{◌≡◌, ◌≢◌, ℕ, ◌+◌, ◌-◌, ◌*◌, ◌/◌, ◌%◌, ◌<◌, ◌≤◌, List, [], ◌∷◌, ◌++◌, length, take, drop, length-drop, Bool, true, false, cond, refl, sym, ap, ◌∙◌, subst, arith, ◌⊎◌, inl, inr, get_or-set_same, get_or-set_other}
+use Rattle.std.specs.Prelude.{Option, Some, None, is_some, ◌==◌, ◌||◌, nat_lt, replicate, slice_set, slice_index_or}
+use Rattle.std.proofs.lemmas.Bool.{cases_eq, cases_Bool, false≢true, eq-eqb, ne_eqb, ltb-true, ltb-false}
 use Rattle.std.proofs.lemmas.List.{length-set, length-append, length-take-le}
 use Rattle.std.proofs.lemmas.List.Sums.{sum_by-append}
 use Rattle.xh_model.specs.declared.event.Holder.{Holder}
 use Rattle.xh_model.specs.declared.event.Holder.TheVariants.{Process, Direction}
-use Rattle.xh_model.specs.declared.row.Row.{Row}
-use Rattle.xh_model.specs.Store.{Store, owner, len, holds, same_holder, is_held_by, after, IsLawful, IsQuiet}
+use Rattle.xh_model.specs.Store.{Store, owner, len, holds, same_holder, is_held_by, after, IsQuiet}
 use Rattle.xh_core.specs.declared.place.Place.{Place}
-use Rattle.xh_core.specs.declared.line.Line.{Line}
-use Rattle.xh_core.specs.declared.status.Status.{Status}
-use Rattle.xh_core.specs.declared.status.Status.TheVariants.{Vacant, Running, Ending, Ended}
-use Rattle.xh_core.specs.Machine.{Machine, place, line, is_current, status_of, is_vacant, is_running, is_ended, blocks, buffer, with_list, with_status, end_of, listed, on_way, way_in, times, no_line, AreWired, IsEnd, IsWhole}
+use Rattle.xh_core.specs.Machine.{Machine, place, is_current, is_vacant, is_ended, blocks, buffer, with_list, end_of, listed, on_way, way_in, times, no_line, AreWired, IsEnd, IsWhole}
 use Rattle.xh_core.specs.Gaining.{Gained}
 use Rattle.xh_core.specs.Refusing.{IsRunning}
 use Rattle.xh_model.specs.declared.event.Event.TheVariants.{Claim, Carve, Cut, GiveBack, Vacate}
@@ -24,7 +19,7 @@ use Rattle.xh_core.proofs.Kept.{whole_one}
 use Rattle.xh_core.proofs.Fresh.{long_replicate}
 use Rattle.xh_core.proofs.Stores.{times-cons, is_there}
 use Rattle.xh_core.proofs.Room.{few, few_records, held_there}
-use Rattle.xh_core.proofs.Machines.{same_machine, current_blocks, place_in, list_in, list_here, list_else, current_generation, place_there, IsPlace, generations_set, idle_set, busy_place}
+use Rattle.xh_core.proofs.Machines.{runs_busy, same_machine, current_blocks, place_in, list_in, list_here, list_else, current_generation, place_there, IsPlace, generations_set, idle_set, busy_place}
 
 cases_holder : (a b : Holder) → (a ≡ b) ⊎ (a ≢ b)
 cases_holder (Process p) (Process q) = elim (cases_eq p q) [ inl e ↦ inl (ap (λ (x : ℕ). Process x) e) | inr n ↦ inr (λ e. n cc) ]
@@ -37,17 +32,6 @@ holder_ne (Process p) (Process q) n = ne_eqb p q (λ e. n (ap (λ (x : ℕ). Pro
 holder_ne (Process p) (Direction e) n = refl
 holder_ne (Direction d) (Process q) n = refl
 holder_ne (Direction p) (Direction q) n = ne_eqb p q (λ e. n (ap (λ (x : ℕ). Direction x) e))
-
--- ---- a process that runs
-
-running_busy : (s : Status) → is_running s ≡ true → (is_vacant s || is_ended s) ≡ false
-running_busy Vacant h = absurd (false≢true h)
-running_busy Running h = refl
-running_busy Ending h = absurd (false≢true h)
-running_busy Ended h = absurd (false≢true h)
-
-pub busy : (m : Machine) (p : ℕ) → IsRunning m p → (is_vacant (place m p).status || is_ended (place m p).status) ≡ false
-busy m p r = running_busy (place m p).status r.1
 
 -- ---- another list for a process
 
@@ -65,7 +49,7 @@ listing p rs m = record (place m p) { blocks = record { items = rs } }
 pub relisted : (p : ℕ) (rs : List ℕ) (m n : Machine) → IsWhole m → IsRunning m p → n.places ≡ (with_list p rs m).places → Relisted p rs m n
 relisted p rs m n w r e =
     let there = place_there m p w in
-    let is : IsPlace (listing p rs m) = busy_place m p rs w (busy m p r) in
+    let is : IsPlace (listing p rs m) = busy_place m p rs w (runs_busy m p r) in
     let g : (place m p).generation ≡ p / 32 = current_generation m p r.0 in
     record {
       here = ap (λ ps. list_in ps p) e ∙ list_here m.places p (listing p rs m) there r.0;

@@ -18,9 +18,8 @@ use Rattle.xh_model.proofs.InStep.{put_step}
 use Rattle.xh_core.specs.Machine.{Machine, times, blocks, place, line, no_line, waiting, peer, tags_of, contract_of, next_state, carried, on_way, listed, IsWhole}
 use Rattle.xh_core.specs.Refusing.{toward}
 use Rattle.xh_core.specs.MessageCommands.{MayGive, given, told_line, put_line, pass_all, without, has_twice, is_banned}
-use Rattle.xh_core.proofs.Stores.{done, is_there, owner-set, times-cons, same_len}
-use Rattle.xh_core.proofs.Machines.{place_there, list_here, list_else, current_generation, busy_place, generations_set, idle_set, way_here, way_else, peer_ne, peer_half, peer_below}
-use Rattle.xh_core.proofs.Stopping.{runs_busy}
+use Rattle.xh_core.proofs.Stores.{done, all_owners, is_there, at_set, times-cons, same_len}
+use Rattle.xh_core.proofs.Machines.{runs_busy, place_there, list_here, list_else, current_generation, busy_place, generations_set, idle_set, way_here, way_else, peer_ne, peer_half, peer_below}
 use Rattle.xh_core.proofs.Closing.{count_append}
 use Rattle.xh_core.proofs.Wired.{state_in, IsPair, same_lines, wired_pair, half_apart}
 use Rattle.xh_core.proofs.Moved.{Moved, moved_whole}
@@ -94,22 +93,12 @@ first_one r rs b h = let e : times r (r ∷ rs) ≡ 1 + times r rs = times-cons 
       | inr n ↦ (let k : times r (r ∷ rs) ≤ 0 = rw n at h in absurd (omega arith))
     ]
 
-all_passed : (d q r : ℕ) (rs : List ℕ) (o : Option Holder) →
-    cond (nat_lt 0 (times q rs)) (Some (Direction d)) (cond (q == r) (Some (Direction d)) o) ≡ cond (nat_lt 0 (times q (r ∷ rs))) (Some (Direction d)) o
-all_passed d q r rs o = let t : times q (r ∷ rs) ≡ cond (r == q) 1 0 + times q rs = times-cons q r rs in
-    elim (cases_eq q r) [
-      | inl e ↦ (let u : times q (r ∷ rs) ≡ 1 + times q rs = t ∙ rw (eq-eqb r q (sym e)) refl in
-          rw (eq-eqb q r e, lt-ltb 0 (times q (r ∷ rs)) (omega arith)) (elim (cases_Bool (nat_lt 0 (times q rs))) [ inl y ↦ rw y refl | inr n ↦ rw n refl ]))
-      | inr n ↦ (let u : times q (r ∷ rs) ≡ times q rs = t ∙ rw (ne_eqb r q (λ e. n (sym e))) (omega arith) in
-          rw (ne_eqb q r n, u) refl)
-    ]
-
 pub passed_all : (p d : ℕ) (rs : List ℕ) (s : Store) → d < 128 → ((q : ℕ) → times q rs ≤ cond (holds s (Process p) q) 1 0) → ((q : ℕ) → holds s (Process p) q ≡ true → 0 < len s q) → Passed d rs s (pass_all p d rs s)
 passed_all p d [] s l h f = record { owners = λ q. refl; many = refl; arenas = refl }
 passed_all p d (r ∷ rs) s l h f =
     let first = first_one r rs (holds s (Process p) r) (h r) in
     let is : after (Pass p r d) s ≡ change (Pass p r d) s = pass_here p d r s l first.0 (f r first.0) in
-    let own : (q : ℕ) → owner (after (Pass p r d) s) q ≡ cond (q == r) (Some (Direction d)) (owner s q) = (λ q. rw is (owner-set s r q (Some (Direction d)) (is_there s (Process p) r first.0))) in
+    let own : (q : ℕ) → owner (after (Pass p r d) s) q ≡ cond (q == r) (Some (Direction d)) (owner s q) = (λ q. rw is (at_set s.owners r q (Some (Direction d)) None (is_there s (Process p) r first.0))) in
     let rest : (q : ℕ) → times q rs ≤ cond (holds (after (Pass p r d) s) (Process p) q) 1 0 = (λ q. elim (cases_eq q r) [
       | inl e ↦ (let z : times q rs ≡ 0 = rw e first.1 in omega (arith, z))
       | inr n ↦ (let o : owner (after (Pass p r d) s) q ≡ owner s q = own q ∙ rw (ne_eqb q r n) refl in
@@ -123,7 +112,7 @@ passed_all p d (r ∷ rs) s l h f =
     ]) in
     let more : Passed d rs (after (Pass p r d) s) (pass_all p d rs (after (Pass p r d) s)) = passed_all p d rs (after (Pass p r d) s) l rest full in
     record {
-      owners = λ q. more.owners q ∙ rw (own q) (all_passed d q r rs (owner s q));
+      owners = λ q. more.owners q ∙ rw (own q) (all_owners (Direction d) q r rs (owner s q));
       many = more.many ∙ (ap (λ (t : Store). length t.owners) is ∙ length-set s.owners r (Some (Direction d)));
       arenas = more.arenas ∙ ap (λ (t : Store). t.arenas) is;
     }

@@ -5,7 +5,10 @@ use Rattle.std.proofs.lemmas.Bool.{cases_eq, cases_Bool, false≢true, eq-eqb, n
 use Rattle.std.proofs.lemmas.List.{get_or_default}
 use Rattle.xh_core.specs.declared.place.Place.{Place}
 use Rattle.xh_core.specs.declared.line.Line.{Line}
-use Rattle.xh_core.specs.Machine.{Machine, place, is_current, blocks, no_place, no_line, is_vacant, is_ended, peer, carried, IsWhole}
+use Rattle.xh_core.specs.declared.status.Status.{Status}
+use Rattle.xh_core.specs.declared.status.Status.TheVariants.{Vacant, Running, Ending, Ended}
+use Rattle.xh_core.specs.Machine.{Machine, place, is_current, blocks, no_place, no_line, is_vacant, is_running, is_ended, peer, carried, IsWhole}
+use Rattle.xh_core.specs.Refusing.{IsRunning}
 
 -- machines with the same parts are one
 pub same_machine : (a b : Machine) → a.store ≡ b.store → a.ends ≡ b.ends → a.buffers ≡ b.buffers → a.places ≡ b.places → a.lines ≡ b.lines → a.contracts ≡ b.contracts → a.opened ≡ b.opened → a.depth ≡ b.depth → a ≡ b
@@ -130,3 +133,14 @@ peer_ne d = elim (cases_eq (d % 2) 0) [
 
 pub peer_below : (d n : ℕ) → d < 2 * n → peer d < 2 * n
 peer_below d n l = let h = peer_half d in omega (arith, h, l)
+
+-- ---- a process that runs
+
+running_busy : (s : Status) → is_running s ≡ true → (is_vacant s || is_ended s) ≡ false
+running_busy Vacant h = absurd (false≢true h)
+running_busy Running h = refl
+running_busy Ending h = absurd (false≢true h)
+running_busy Ended h = absurd (false≢true h)
+
+pub runs_busy : (m : Machine) (p : ℕ) → IsRunning m p → (is_vacant (place m p).status || is_ended (place m p).status) ≡ false
+runs_busy m p r = running_busy (place m p).status r.1

@@ -14,7 +14,7 @@ use Rattle.xh_core.specs.BlockCommands.{free_record, lowest, space_tests}
 use Rattle.xh_core.specs.Refusing.{first_refusal}
 use Rattle.xh_core.specs.ChannelCommands.{claimed_once, handed}
 use Rattle.xh_core.specs.Pairing.{ClaimedTwo, Paired, moved, pair_tests}
-use Rattle.xh_core.proofs.Stores.{done, owner-set, same_len}
+use Rattle.xh_core.proofs.Stores.{done, own_holder, at_set, same_len}
 use Rattle.xh_core.proofs.Claiming.{IsFree, free_is, Claimed, claimed, unclaimed, carve-owners, cut-owners, same_space}
 
 -- p claimed r, and then t
@@ -37,9 +37,6 @@ pub record TwoClaimed (p r t : ℕ) (s n : Store) : Type 0 where
 
 not_held : (s : Store) (p r : ℕ) → holds s (Process p) r ≡ true → owner s r ≡ None → ⊥
 not_held s p r h e = false≢true (ap (λ o. is_held_by o (Process p)) (sym e) ∙ h)
-
-own_holder : (s : Store) (p r : ℕ) → owner s r ≡ Some (Process p) → holds s (Process p) r ≡ true
-own_holder s p r e = rw e (eq-eqb p p refl)
 
 -- the number of the lowest free record, where there is one
 pub lowest_is : (s : Store) (a r : ℕ) → free_record s a ≡ Some r → lowest s a ≡ r
@@ -178,7 +175,7 @@ moved_owners p q t d s ql dl own some there k = elim (cases_eq p q) [
     | inl f ↦ rw (eq-eqb k t f) (ap (λ (x : ℕ). owner s x) f ∙ (own ∙ ap (λ (x : ℕ). Some (Process x)) e))
     | inr n ↦ rw (ne_eqb k t n) refl
   ])
-  | inr n ↦ rw (ne_eqb p q n, handed_is p q t d s ql dl (own_holder s p t own) some there) (owner-set s t k (Some (Process q)) there)
+  | inr n ↦ rw (ne_eqb p q n, handed_is p q t d s ql dl (own_holder s p t own) some there) (at_set s.owners t k (Some (Process q)) None there)
 ]
 
 moved_many : (p q t d : ℕ) (s : Store) → q < 4096 → d < 128 → holds s (Process p) t ≡ true → 0 < len s t → t < length s.owners → length (moved p q t d s).owners ≡ length s.owners

@@ -1,7 +1,7 @@
 -- A process starts at a place that is free for it.
-use Rattle.std.proofs.Common.{◌≡◌, ◌≢◌, ℕ, ◌+◌, ◌*◌, ◌/◌, ◌%◌, ◌<◌, ◌≤◌, List, [], ◌∷◌, length, Bool, true, false, cond, refl, sym, ap, ◌∙◌, subst, arith, inl, inr}
-use Rattle.std.specs.Prelude.{Option, Some, None, ◌==◌, ◌||◌, ◌&&◌, nat_lt, slice_set, slice_index_or}
-use Rattle.std.proofs.lemmas.Bool.{cases_eq, cases_Bool, false≢true, ltb-true, and_parts}
+use Rattle.std.proofs.Common.{◌≡◌, ℕ, ◌+◌, ◌/◌, ◌%◌, ◌<◌, ◌≤◌, List, [], length, Bool, true, false, cond, refl, sym, ap, ◌∙◌, subst, arith, inl, inr}
+use Rattle.std.specs.Prelude.{Some, ◌==◌, ◌||◌, ◌&&◌, nat_lt, slice_set, slice_index_or}
+use Rattle.std.proofs.lemmas.Bool.{cases_eq, cases_Bool, false≢true, ltb-true}
 use Rattle.std.specs.List.{position}
 use Rattle.std.proofs.lemmas.List.{length-set, get_or_default}
 use Rattle.std.proofs.lemmas.List.Quantifiers.{position-Some}
@@ -9,11 +9,9 @@ use Rattle.xh_model.specs.declared.event.Holder.{Holder}
 use Rattle.xh_model.specs.declared.event.Holder.TheVariants.{Process, Direction}
 use Rattle.xh_model.specs.Store.{holds}
 use Rattle.xh_core.specs.declared.place.Place.{Place}
-use Rattle.xh_core.specs.declared.status.Status.{Status}
-use Rattle.xh_core.specs.declared.status.Status.TheVariants.{Vacant, Running, Ending, Ended}
-use Rattle.xh_core.specs.Machine.{Machine, place, no_place, is_current, is_vacant, is_ended, blocks, listed, times, end_of, IsEnd, IsWhole}
+use Rattle.xh_core.specs.Machine.{Machine, place, no_place, is_vacant, is_ended, blocks, listed, times, IsEnd, IsWhole}
 use Rattle.xh_core.specs.PlaceCommands.{can_start, started}
-use Rattle.xh_core.proofs.Machines.{place_in, list_in, place_here, place_else, place_there, IsPlace, generations_set, idle_set}
+use Rattle.xh_core.proofs.Machines.{place_in, place_here, place_else, place_there, IsPlace, generations_set, idle_set}
 
 idle_from : (v d b : Bool) → (v || (d && b)) ≡ true → (v || d) ≡ true
 idle_from true d b h = refl

@@ -9,7 +9,7 @@ use Rattle.xh_model.specs.declared.event.Holder.TheVariants.{Process, Direction}
 use Rattle.xh_model.specs.Store.{holds}
 use Rattle.xh_core.specs.declared.place.Place.{Place}
 use Rattle.xh_core.specs.declared.status.Status.{Status}
-use Rattle.xh_core.specs.declared.status.Status.TheVariants.{Vacant, Running, Ending, Ended}
+use Rattle.xh_core.specs.declared.status.Status.TheVariants.{Vacant, Ending, Ended}
 use Rattle.xh_core.specs.Machine.{Machine, times, blocks, arriving, listed, place, is_current, no_place, status_of, is_vacant, is_running, is_ended, with_status, IsWhole}
 use Rattle.xh_core.specs.Refusing.{IsRunning}
 use Rattle.xh_core.specs.Sweeping.{Sweeps}
@@ -35,15 +35,6 @@ stoppable_by false true s v e = refl
 
 pub stoppable : (m : Machine) (p : ℕ) → is_vacant (status_of m p) ≡ false → is_ended (status_of m p) ≡ false → is_current m p ≡ true
 stoppable m p v e = stoppable_by (nat_le 4096 p || nat_lt (place m p).generation (p / 32)) (is_current m p) (place m p).status v e
-
-running_busy : (s : Status) → is_running s ≡ true → (is_vacant s || is_ended s) ≡ false
-running_busy Vacant h = absurd (false≢true h)
-running_busy Running h = refl
-running_busy Ending h = absurd (false≢true h)
-running_busy Ended h = absurd (false≢true h)
-
-pub runs_busy : (m : Machine) (p : ℕ) → IsRunning m p → (is_vacant (place m p).status || is_ended (place m p).status) ≡ false
-runs_busy m p r = running_busy (place m p).status r.1
 
 -- ---- another status
 

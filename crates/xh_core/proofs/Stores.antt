@@ -38,11 +38,15 @@ is_there s h r e = elim (cases_lt r (length s.owners)) [
   | inr g ↦ let n : owner s r ≡ None = get_or_past s.owners r None g in absurd (false≢true (ap (λ o. is_held_by o h) (sym n) ∙ e))
 ]
 
-pub owner-set : (s : Store) (r q : ℕ) (o : Option Holder) → r < length s.owners → slice_index_or (slice_set s.owners r o) q None ≡ cond (q == r) o (owner s q)
-owner-set s r q o l = elim (cases_eq q r) [
-  | inl e ↦ rw (eq-eqb q r e, e) (get_or-set_same s.owners r o None l)
-  | inr n ↦ rw (ne_eqb q r n) (get_or-set_other s.owners r q o None n)
+-- what a list holds at each place once one place was written
+pub at_set : {A : Type 0} (xs : List A) (i k : ℕ) (x d : A) → i < length xs → slice_index_or (slice_set xs i x) k d ≡ cond (k == i) x (slice_index_or xs k d)
+at_set xs i k x d l = elim (cases_eq k i) [
+  | inl e ↦ ap (λ (j : ℕ). slice_index_or (slice_set xs i x) j d) e ∙ (get_or-set_same xs i x d l ∙ rw (eq-eqb k i e) refl)
+  | inr n ↦ get_or-set_other xs i k x d n ∙ rw (ne_eqb k i n) refl
 ]
+
+pub own_holder : (s : Store) (p r : ℕ) → owner s r ≡ Some (Process p) → holds s (Process p) r ≡ true
+own_holder s p r e = rw e (eq-eqb p p refl)
 
 pub times-cons : (q r : ℕ) (rs : List ℕ) → times q (r ∷ rs) ≡ cond (r == q) 1 0 + times q rs
 times-cons q r rs = sum_by-cons (λ x. cond (x == q) 1 0) r rs
@@ -57,7 +61,7 @@ accept_here : (p d r : ℕ) (s : Store) → p < 4096 → holds s (Direction d) r
 accept_here p d r s l h = done (Accept p r d) s (rw (lt-ltb p 4096 l, h) refl)
 
 one_accepted : (p d r q : ℕ) (s : Store) → p < 4096 → holds s (Direction d) r ≡ true → owner (after (Accept p r d) s) q ≡ cond (q == r) (Some (Process p)) (owner s q)
-one_accepted p d r q s l h = rw (accept_here p d r s l h) (owner-set s r q (Some (Process p)) (is_there s (Direction d) r h))
+one_accepted p d r q s l h = rw (accept_here p d r s l h) (at_set s.owners r q (Some (Process p)) None (is_there s (Direction d) r h))
 
 -- the first of them is held and stands no more behind
 first_held : (d r : ℕ) (rs : List ℕ) (b : Bool) → times r (r ∷ rs) ≤ cond b 1 0 → (b ≡ true) × (times r rs ≡ 0)
@@ -79,9 +83,10 @@ rest_held p d r rs s l h held q = elim (cases_eq q r) [
       rw o k2)
 ]
 
-all_owners : (p q r : ℕ) (rs : List ℕ) (o : Option Holder) →
-    cond (nat_lt 0 (times q rs)) (Some (Process p)) (cond (q == r) (Some (Process p)) o) ≡ cond (nat_lt 0 (times q (r ∷ rs))) (Some (Process p)) o
-all_owners p q r rs o = let t : times q (r ∷ rs) ≡ cond (r == q) 1 0 + times q rs = times-cons q r rs in
+-- h holds these and one more
+pub all_owners : (h : Holder) (q r : ℕ) (rs : List ℕ) (o : Option Holder) →
+    cond (nat_lt 0 (times q rs)) (Some h) (cond (q == r) (Some h) o) ≡ cond (nat_lt 0 (times q (r ∷ rs))) (Some h) o
+all_owners h q r rs o = let t : times q (r ∷ rs) ≡ cond (r == q) 1 0 + times q rs = times-cons q r rs in
     elim (cases_eq q r) [
       | inl e ↦ (let u : times q (r ∷ rs) ≡ 1 + times q rs = t ∙ rw (eq-eqb r q (sym e)) refl in
           rw (eq-eqb q r e, lt-ltb 0 (times q (r ∷ rs)) (omega arith)) (elim (cases_Bool (nat_lt 0 (times q rs))) [ inl y ↦ rw y refl | inr n ↦ rw n refl ]))
@@ -96,7 +101,7 @@ accepted_all p d (r ∷ rs) s l h =
     let is = accept_here p d r s l held in
     let more : Accepted p rs (after (Accept p r d) s) (accept_all p d rs (after (Accept p r d) s)) = accepted_all p d rs (after (Accept p r d) s) l (rest_held p d r rs s l h held) in
     record {
-      owners = λ q. more.owners q ∙ rw (one_accepted p d r q s l held) (all_owners p q r rs (owner s q));
+      owners = λ q. more.owners q ∙ rw (one_accepted p d r q s l held) (all_owners (Process p) q r rs (owner s q));
       many = more.many ∙ (ap (λ (t : Store). length t.owners) is ∙ length-set s.owners r (Some (Process p)));
       arenas = more.arenas ∙ ap (λ (t : Store). t.arenas) is;
     }

@@ -13,7 +13,7 @@ use Rattle.xh_model.specs.Cover.{State}
 use Rattle.xh_core.specs.Machine.{Machine, times, end_of, place, blocks, way_in, on_way, arriving, IsWhole}
 use Rattle.xh_core.specs.Sweeping.{accept_from, sweep_one, shut_in}
 use Rattle.xh_core.proofs.Machines.{place_there, list_here, list_else, lists_current, current_generation, current_range, way_here, way_else}
-use Rattle.xh_core.proofs.Stores.{done, same_process, same_direction, is_there, owner-set, Accepted, accepted_all, same_len, len_back, arena_there}
+use Rattle.xh_core.proofs.Stores.{done, same_process, same_direction, is_there, at_set, Accepted, accepted_all, same_len, len_back, arena_there}
 
 -- the records on their way to an endpoint, if there is one
 abbrev pub on_way_to : Machine → Option ℕ → List ℕ
@@ -92,7 +92,7 @@ swept_one m p from w l =
     let is : swept_store p r m ≡ change (Vacate p r) (change (GiveBack p r) t) = given_up p r t arena o n in
     let there : r < length t.owners = rw a.many (is_there m.store (Process p) r h) in
     record {
-      owners = λ q. rw is (owner-set t r q None there ∙ rw (a.owners q) refl);
+      owners = λ q. rw is (at_set t.owners r q None None there ∙ rw (a.owners q) refl);
       many = ap (λ (s : Store). length s.owners) is ∙ (length-set t.owners r None ∙ a.many);
       arenas = ap (λ (s : Store). s.arenas) is ∙ same_back m.store t p r a.arenas;
     }

@@ -1,12 +1,12 @@
 -- A take leaves a whole machine.
-use Rattle.std.proofs.Common.{◌≡◌, ◌≢◌, ℕ, true, false, ◌+◌, ◌-◌, ◌*◌, ◌/◌, ◌%◌, ◌<◌, List, [], ◌∷◌, ◌++◌, length, cond, refl, sym, ap, ◌∙◌, subst, arith, get_or-set_same, get_or-set_other}
+use Rattle.std.proofs.Common.{◌≡◌, ◌≢◌, ℕ, false, ◌+◌, ◌-◌, ◌/◌, ◌%◌, ◌<◌, List, [], ◌∷◌, ◌++◌, length, cond, refl, sym, ap, ◌∙◌, subst, arith, get_or-set_same, get_or-set_other}
 use Rattle.std.specs.Prelude.{Option, Some, None, is_none, unwrap_or, slice_set, slice_index_or}
 use Rattle.std.specs.List.{remove}
 use Rattle.std.proofs.lemmas.List.{length-set}
 use Rattle.xh_model.specs.declared.event.Holder.{Holder}
 use Rattle.xh_model.specs.declared.event.Holder.TheVariants.{Process, Direction}
 use Rattle.xh_model.specs.declared.row.Row.{Row}
-use Rattle.xh_model.specs.Rows.{allowed, InStep}
+use Rattle.xh_model.specs.Rows.{InStep}
 use Rattle.xh_model.specs.Store.{holds}
 use Rattle.xh_model.proofs.InStep.{take_step}
 use Rattle.xh_core.specs.declared.message.Message.{Message}
@@ -17,8 +17,7 @@ use Rattle.xh_core.specs.Refusing.{toward}
 use Rattle.xh_core.specs.Sweeping.{accept_all}
 use Rattle.xh_core.specs.MessageCommands.{MayTake, taken, taken_line, front, no_message, is_banned}
 use Rattle.xh_core.proofs.Stores.{Accepted, accepted_all}
-use Rattle.xh_core.proofs.Machines.{place_there, list_here, list_else, current_generation, current_range, busy_place, generations_set, idle_set, way_here, way_else, peer_ne}
-use Rattle.xh_core.proofs.Stopping.{runs_busy}
+use Rattle.xh_core.proofs.Machines.{runs_busy, place_there, list_here, list_else, current_generation, current_range, busy_place, generations_set, idle_set, way_here, way_else, peer_ne}
 use Rattle.xh_core.proofs.Closing.{count_append}
 use Rattle.xh_core.proofs.Wired.{state_in, tags_in, IsPair, same_lines, wired_pair, pair_of, half_apart}
 use Rattle.xh_core.proofs.Moved.{Moved, moved_whole}

@@ -8,7 +8,7 @@ use Rattle.xh_model.specs.Rows.{allowed, walk, IsValid, InStep}
 use Rattle.xh_model.proofs.InStep.{swap_step, drain_step, front_step}
 use Rattle.xh_core.specs.declared.line.Line.{Line}
 use Rattle.xh_core.specs.Machine.{Machine, line, no_line, peer, tags_of, contract_of, drained_state, AreWired}
-use Rattle.xh_core.specs.MessageCommands.{IsOrderly, AreOrderly}
+use Rattle.xh_core.specs.MessageCommands.{AreOrderly}
 use Rattle.xh_core.specs.Sweeping.{shut_line, shut_in}
 use Rattle.xh_core.proofs.Machines.{peer_ne}
 

@@ -1,8 +1,7 @@
-use Rattle.std.proofs.Common.{◌≡◌, ◌+◌, ◌*◌, ◌<◌, ℕ, length, sym, ap, ◌∙◌, subst, Some, None}
-use Rattle.std.specs.Prelude.{Option, is_none, slice_range}
+use Rattle.std.proofs.Common.{◌≡◌, ◌+◌, ◌*◌, ◌<◌, length, sym, ◌∙◌, Some, None}
+use Rattle.std.specs.Prelude.{is_none, slice_range}
 use Rattle.std.specs.List.{position}
-use Rattle.xh_model.specs.Store.{Store, arena_at}
-use Rattle.xh_core.specs.BlockCommands.{free_record}
+use Rattle.xh_model.specs.Store.{Store}
 use Rattle.xh_core.proofs.Claiming.{found_free}
 use Rattle.xh_core.proofs.plain.Plain.free_record.Goals as goal
 

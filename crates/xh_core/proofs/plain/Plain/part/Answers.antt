@@ -2,7 +2,7 @@ use Rattle.std.proofs.Common.{◌≡◌, ◌+◌, ◌∙◌, ◌<◌, ℕ, arith
 use Rattle.std.proofs.lemmas.Bool.{cases_eq}
 use Rattle.xh_model.specs.declared.event.Event.TheVariants.{Claim, Cut}
 use Rattle.xh_model.specs.Store.{Store, IsLawful, len, can, after}
-use Rattle.xh_core.proofs.Claiming.{Claimed, claimed, apart, can_cut, cut-owners, gained_one}
+use Rattle.xh_core.proofs.Claiming.{claimed, apart, can_cut, cut-owners, gained_one}
 use Rattle.xh_core.proofs.Stores.{same_len}
 use Rattle.xh_core.proofs.plain.Plain.part.Goals as goal
 

@@ -1,10 +1,8 @@
-use Rattle.std.proofs.Common.{◌≡◌, ◌∙◌, ◌/◌, ◌<◌, ℕ, List, sym, ap, subst, true}
-use Rattle.std.specs.Prelude.{Option}
-use Rattle.xh_model.specs.declared.event.Holder.{Holder}
+use Rattle.std.proofs.Common.{◌≡◌, ◌∙◌, ◌/◌, ◌<◌, ℕ, sym, ap, subst, true}
 use Rattle.xh_model.specs.declared.event.Holder.TheVariants.{Process}
-use Rattle.xh_model.specs.declared.event.Event.TheVariants.{Claim, Carve, Vacate}
+use Rattle.xh_model.specs.declared.event.Event.TheVariants.{Vacate}
 use Rattle.xh_model.specs.Store.{Store, IsLawful, holds, is_known, len, after}
-use Rattle.xh_core.proofs.Claiming.{Claimed, claimed, unclaimed, same_space, carve-owners, gained_one}
+use Rattle.xh_core.proofs.Claiming.{claimed, unclaimed, same_space, carve-owners, gained_one}
 use Rattle.xh_core.proofs.Stores.{same_len}
 use Rattle.xh_core.proofs.plain.Plain.take.Goals as goal
 

@@ -1,9 +1,7 @@
-use Rattle.std.proofs.Common.{◌≡◌, ◌∙◌, ◌/◌, ◌<◌, ◌++◌, ◌∷◌, [], ℕ, List, length, sym, ap, subst, refl, true, false, Some, None}
-use Rattle.std.specs.Prelude.{Option, replicate, slice_index_or, slice_set, ◌%◌}
+use Rattle.std.proofs.Common.{◌≡◌, ◌∙◌, ◌<◌, ◌++◌, ◌∷◌, [], ℕ, List, length, sym, ap, subst, refl, false, Some, None}
+use Rattle.std.specs.Prelude.{slice_set, ◌%◌}
 use Rattle.std.proofs.lemmas.Result.{err_from_is_err_and}
-use Rattle.xh_model.specs.declared.event.Event.TheVariants.{Claim, Carve}
-use Rattle.xh_model.specs.Store.{Store, after, len, owner, is_known}
-use Rattle.xh_core.specs.declared.place.Place.{Place}
+use Rattle.xh_model.specs.Store.{Store, len}
 use Rattle.xh_core.specs.Machine.{Machine, IsWhole, place, blocks}
 use Rattle.xh_core.specs.Refusing.{first_refusal}
 use Rattle.xh_core.specs.Gaining.{Gained}

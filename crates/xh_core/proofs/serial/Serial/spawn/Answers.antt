@@ -1,8 +1,8 @@
 use Rattle.std.proofs.Common.{◌≡◌, ◌∙◌, List, Some, sym, ap, subst}
-use Rattle.std.specs.Prelude.{slice_index_or, slice_set}
+use Rattle.std.specs.Prelude.{slice_set}
 use Rattle.std.specs.List.{position}
 use Rattle.xh_core.specs.declared.place.Place.{Place}
-use Rattle.xh_core.specs.Machine.{Machine, IsWhole, no_place}
+use Rattle.xh_core.specs.Machine.{Machine, IsWhole}
 use Rattle.xh_core.specs.PlaceCommands.{can_start, started}
 use Rattle.xh_core.proofs.Spawned.{Ready, ready, entry_at}
 use Rattle.xh_core.proofs.serial.Serial.spawn.Goals as goal
