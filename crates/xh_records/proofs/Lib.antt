@@ -6,3 +6,5 @@ pub mod Numbered
 pub mod Events
 pub mod Lent
 pub mod Ended
+pub mod OneVault
+pub mod OneLot

@@ -1,0 +1,150 @@
+// A record that is claimed, carved, passed, accepted, given back and vacated.
+ghost use Rattle.std.specs.Prelude.{◌≡◌, ◌≢◌, ℕ, ◌+◌, ◌<◌, ◌≤◌, ◌%◌, [], ◌∷◌, ◌++◌, length, IfSome, OnOk, OnErr, IfErr, Some};
+ghost use Rattle.xh_arena.specs.Views.{LotOf};
+ghost use Rattle.xh_records.specs.Showing.{IsLotOf, without};
+ghost use Rattle.xh_records.specs.Seats.{Held, IsRecord, IsSeatOf, lot_at, put, with_lots};
+
+use super::{Any, Bench, close_both, make_bench};
+use crate::{OwnerWord, Records, Refused, Seat};
+use std::process::Abort;
+use std::test::Fail;
+use xh_arena::{Lot, Tally, Vault};
+
+fn carve_at(
+    records: &Records<Any>,
+    seat: &mut Seat<Any>,
+    number: u16,
+    vault: &mut Vault,
+    tally: &mut Tally,
+) -> Option<u32>
+    requires own { IsSeatOf records.now seat.old × IsRecord records.now.shape number }
+    requires ids { tally.old.id ≡ vault.old.id }
+    requires held { (l : LotOf Any) × (lot_at number seat.old.lots ≡ Some l) × IsLotOf seat.old.shape number l × (l.id ≡ vault.old.id) × (l.len ≡ 0) }
+    ensures lot { IfSome result (λ _. (l : LotOf Any) → lot_at number seat.old.lots ≡ Some l → seat.new ≡ with_lots seat.old (put number (record l { len = 32 }) seat.old.lots)) }
+    ensures ids { (tally.new.id ≡ vault.new.id) × (vault.new.id ≡ vault.old.id) }
+{
+    records.with_lot(
+        seat,
+        number,
+        &mut |lot: &mut Lot<Any>| vault.carve(lot, tally, 32).ok(),
+    )
+}
+
+fn give_back_at(
+    records: &Records<Any>,
+    seat: &mut Seat<Any>,
+    number: u16,
+    vault: &mut Vault,
+    tally: &mut Tally,
+)
+    requires own { IsSeatOf records.now seat.old × IsRecord records.now.shape number }
+    requires ids { tally.old.id ≡ vault.old.id }
+    requires held { (l : LotOf Any) × (lot_at number seat.old.lots ≡ Some l) × IsLotOf seat.old.shape number l × (l.id ≡ vault.old.id) × (0 < l.len) }
+    ensures lot { (l : LotOf Any) → lot_at number seat.old.lots ≡ Some l → seat.new ≡ with_lots seat.old (put number (record l { len = 0 }) seat.old.lots) }
+    ensures ids { (tally.new.id ≡ vault.new.id) × (vault.new.id ≡ vault.old.id) }
+{
+    records.with_lot(
+        seat,
+        number,
+        &mut |lot: &mut Lot<Any>| vault.give_back(lot, tally),
+    );
+}
+
+/// The first seat claims record 0, carves it and passes it on the direction.
+pub(super) fn give_away(
+    rt: &impl Abort,
+    records: &Records<Any>,
+    seat: &mut Seat<Any>,
+    vault: &mut Vault,
+    tally: &mut Tally,
+    direction: u8,
+)
+    requires own { IsSeatOf records.now seat.old }
+    requires bare { seat.old.lots ≡ [] }
+    requires names { (records.now.shape.names ≡ vault.old.id ∷ []) × (direction < 128) }
+    requires ids { tally.old.id ≡ vault.old.id }
+    ensures seat { seat.new ≡ with_lots seat.old [] }
+    ensures ids { (tally.new.id ≡ vault.new.id) × (vault.new.id ≡ vault.old.id) }
+{
+    let Ok(number) = records.claim(seat, 0) else {
+        panic!(rt; "no record");
+    };
+    assert_eq!(rt; number, 0);
+    assert_eq!(rt; records.owner_word(seat, number), 1);
+    let Some(start) = carve_at(records, seat, number, vault, tally) else {
+        panic!(rt; "no room");
+    };
+    assert_eq!(rt; start, 0);
+    records.pass(seat, number, direction);
+}
+
+/// The second seat accepts record 0, but not on direction 4, gives its bytes back and vacates it.
+fn take_over(
+    rt: &impl Abort,
+    records: &Records<Any>,
+    seat: &mut Seat<Any>,
+    vault: &mut Vault,
+    tally: &mut Tally,
+)
+    requires own { IsSeatOf records.now seat.old × IsRecord records.now.shape 0 }
+    requires bare { seat.old.lots ≡ [] }
+    requires names { records.now.shape.names ≡ vault.old.id ∷ [] }
+    requires ids { tally.old.id ≡ vault.old.id }
+    ensures seat { seat.new ≡ with_lots seat.old [] }
+{
+    let Err(word) = records.accept(seat, 0, 4) else {
+        panic!(rt; "on another direction");
+    };
+    assert_eq!(rt; word, 22);
+    let Ok(()) = records.accept(seat, 0, 5) else {
+        panic!(rt; "not in flight");
+    };
+    assert_eq!(rt; records.owner_word(seat, 0), 5);
+    give_back_at(records, seat, 0, vault, tally);
+    records.vacate(seat, 0);
+    assert_eq!(rt; records.owner_word(seat, 0), 0);
+}
+
+#[test]
+fn record_words(rt: HostRuntime) -> Result<(), Fail> {
+    let Some(bench) = make_bench(rt.alloc(), 64, 2, 1000) else {
+        panic!(rt; "no bench");
+    };
+    let Bench {
+        mut vault,
+        mut tally,
+        records,
+        mut first,
+        mut second,
+    } = bench;
+    assert!(rt; records.has(1) && !records.has(2) && !records.has(256));
+    give_away(&rt, &records, &mut first, &mut vault, &mut tally, 5);
+    assert_eq!(rt; records.owner_word(&mut first, 0), 22);
+    take_over(&rt, &records, &mut second, &mut vault, &mut tally);
+    assert_eq!(rt; (tally.taken(), tally.back()), (32, 32));
+    assert_eq!(rt; records.renew(&mut first), 32);
+    assert_eq!(rt; (first.process(), second.process()), (32, 1));
+    let (words, lots) = close_both(rt.alloc(), records, first, second)?;
+    assert_eq!(rt; words.as_slice(), [0, 0].as_slice());
+    assert_eq!(rt; (lots[0].len(), lots[1].len(), lots.len()), (0, 0, 2));
+    Ok(())
+}
+
+/// With the first, the second or a later growth refused, the table is there or out of memory.
+#[test]
+fn growths(rt: HostRuntime) -> Result<(), Fail> {
+    let Some(bench) = make_bench(rt.alloc(), 64, 2, 1000) else {
+        return Ok(());
+    };
+    let Bench {
+        records,
+        first,
+        second,
+        ..
+    } = bench;
+    match close_both(rt.alloc(), records, first, second) {
+        Ok((words, lots)) => assert_eq!(rt; (words.len(), lots.len()), (2, 2)),
+        Err(Refused::OutOfMemory) => {}
+    }
+    Ok(())
+}
