@@ -4,6 +4,7 @@ pub mod Lists
 pub mod Seating
 pub mod Numbered
 pub mod Events
+pub mod After
 pub mod Lent
 pub mod Ended
 pub mod OneVault

@@ -15,6 +15,7 @@ use Rattle.xh_model.specs.Words.{Ownership, IsHeldBy, IsHolder, IsDone, record_o
 use Rattle.xh_records.specs.declared.shape.Shape.{Shape}
 use Rattle.xh_records.specs.declared.view.View.{View}
 use Rattle.xh_records.specs.Showing.{Among, IsLotAt, IsEmpty, IsFull, Owns, Shows}
+use Rattle.xh_records.specs.After.{IsAfter}
 pub use Rattle.xh_records.specs.Slots.{or_else, slot_at}
 
 -- the table of all records
@@ -150,11 +151,11 @@ module _ {B : Type 0} (fits : B → ℕ → Bool) (s : Shape) where
       → (o' : Ownership) × (IsHeldBy o (index_of s.records r) from × (o' ≡ slice_set o (index_of s.records r) to))
       × Shows fits s o' (slice_set t.words (index_of s.records r) (word_of to)) (slice_set t.homes (index_of s.records r) y) (slice_set t.views old.id (view_of new))
 
-  -- Whatever the table is when the seat steps from old to new on a record whose word is as the event wants: the table before shows an ownership, the event is done on it, and the table after shows that
+  -- Whatever the table is when the seat steps from old to new on a record whose word is as the event wants: the table before shows an ownership, the event is done on it, also by the meaning that it has in the core, and the table after shows that
   abbrev pub IsEvent : Held B → Held B → Event → Type 0
   IsEvent old new e = (t : State (Option (LotOf B)) View) (o : Ownership) → Shows fits s o t.words t.homes t.views → get_elem? t.views old.id ≡ some (view_of old)
       → index_of s.records (record_of e) < length o → slice_index t.words (index_of s.records (record_of e)) ≡ word_of (from_of e)
-      → (o' : Ownership) × IsDone s.records o e o'
+      → (o' : Ownership) × IsDone s.records o e o' × IsAfter s.records o e o'
       × Shows fits s o' (slice_set t.words (index_of s.records (record_of e)) (word_of (to_of e))) (slice_set t.homes (index_of s.records (record_of e)) (home_after old e)) (slice_set t.views old.id (view_of new))
 
   -- Whatever the table is when the seat steps from old to new, it shows the ownership that it showed before

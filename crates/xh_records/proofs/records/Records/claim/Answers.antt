@@ -1,11 +1,13 @@
-use Rattle.std.proofs.Common.{arith, ◌≡◌, ◌≢◌, ℕ, ◌+◌, ◌<◌, ◌≤◌, ◌∙◌, length, get_or, subst, sym, ap, ◌++◌, ◌∷◌, [], length-append}
+use Rattle.std.proofs.Common.{rules, arith, ◌%◌, ◌≡◌, ◌≢◌, ℕ, ◌+◌, ◌<◌, ◌≤◌, ◌∙◌, length, get_or, subst, sym, ap, ◌++◌, ◌∷◌, [], length-append}
 use Rattle.std.specs.Prelude.{Some, None}
 use mathlib.Core.Option.{none}
 use Rattle.xh_arena.specs.Views.{LotOf}
 use Rattle.xh_model.specs.declared.event.Holder.TheVariants.{Process}
+use Rattle.xh_model.specs.declared.event.Event.TheVariants.{Claim}
 use Rattle.xh_model.specs.Words.{IsWord}
 use Rattle.xh_records.specs.Showing.{IsLotOf, IsEmpty}
 use Rattle.xh_records.specs.Seats.{Held, with_lots, IsStep}
+use Rattle.xh_records.proofs.After.{is_event}
 use Rattle.xh_records.proofs.Lists.{seen_more}
 use Rattle.xh_records.proofs.records.Records.claim.Goals as goal
 
@@ -17,7 +19,9 @@ returns-then-found-eq0-clause-claimed g c =
 pub returns-then-found-eq0-clause-event : goal.returns-then-found-eq0-clause-event
 returns-then-found-eq0-clause-event g c =
     let r : ℕ = c.number_at-number.result in
-    subst (λ (z : Held g.row.B.Denot). IsStep g.B.Fits.is_fit c.args.self.now.shape z c.take-found.new.seat r None (Some (Process z.process)) none) c.loop-index.invariant.same (c.take-found.ensures.step c.if-found-eq0.true)
+    let below : r % 256 < c.args.self.now.shape.records = search rules in
+    is_event g.B.Fits.is_fit c.args.self.now.shape c.args.seat.now c.take-found.new.seat (Claim c.args.seat.now.process r) below
+    (subst (λ (z : Held g.row.B.Denot). IsStep g.B.Fits.is_fit c.args.self.now.shape z c.take-found.new.seat r None (Some (Process z.process)) none) c.loop-index.invariant.same (c.take-found.ensures.step c.if-found-eq0.true))
 
 pub loop-index-preserved : goal.loop-index-preserved
 loop-index-preserved g c =

@@ -1,0 +1,82 @@
+-- What is done on the ownership is what the core's events do.
+use Rattle.std.proofs.Common.{◌≡◌, ℕ, zero, suc, List, [], ◌∷◌, eq-eqb, ◌%◌, ◌<◌, Bool, true, cond, length, get_or, set, refl, sym, ap, ◌∙◌, subst}
+use Rattle.std.specs.Prelude.{Option, Some, None, ◌==◌}
+use Rattle.std.proofs.lemmas.Bool.{lt-ltb}
+use lib.ListN.{get_elem?}
+use mathlib.Core.Option.{some, some-injective, some-ne-none}
+use Rattle.atomic_table.proofs.Lists.{set_here}
+use Rattle.xh_model.specs.declared.event.Holder.{Holder}
+use Rattle.xh_model.specs.declared.event.Holder.TheVariants.{Process, Direction}
+use Rattle.xh_model.specs.declared.event.Event.{Event}
+use Rattle.xh_model.specs.declared.event.Event.TheVariants.{Claim, Carve, Cut, GiveBack, Vacate, Pass, Accept}
+use Rattle.xh_model.specs.Store.{Store, owner, arena_of, len, can, change, after}
+use Rattle.xh_model.specs.Slots.{index_of, AreOwners}
+use Rattle.xh_model.specs.Words.{Ownership, IsHeldBy, IsHolder, IsDone, record_of, from_of, to_of}
+use Rattle.xh_model.proofs.Slots.{assigned}
+use Rattle.xh_records.specs.declared.shape.Shape.{Shape}
+use Rattle.xh_records.specs.After.{Wants, IsAfter}
+use Rattle.xh_records.specs.Seats.{Held, IsStep, IsEvent, home_after}
+use Rattle.xh_records.proofs.Keeps.{in_range}
+
+-- an element that is there is read whatever stands for the others
+read_or : {A : Type 0} (l : List A) (i : ℕ) (a d : A) → get_elem? l i ≡ some a → get_or l i d ≡ a
+read_or [] i a d e = absurd (some-ne-none a (sym e))
+read_or (x ∷ xs) zero a d e = some-injective x a e
+read_or (x ∷ xs) (suc i) a d e = read_or xs i a d e
+
+-- an event that can be done changes the store
+does : (e : Event) (m : Store) → can e m ≡ true → after e m ≡ change e m
+unfolding after
+does e m able = ap (λ (b : Bool). cond b (change e m) m) able
+
+same_number : (p : ℕ) → (p == p) ≡ true
+same_number p = eq-eqb p p refl
+
+-- who has the record in the store
+owner_is : (n r : ℕ) (o : Ownership) (m : Store) (h : Option Holder) → r % 256 < n → AreOwners n o m → IsHeldBy o (index_of n r) h → owner m r ≡ h
+owner_is n r o m h there w held = w.each r ∙ rw (lt-ltb (r % 256) n there) (read_or o (index_of n r) h None held)
+
+pub can_be_done : (n : ℕ) (o : Ownership) (e : Event) (m : Store) → record_of e % 256 < n → IsHolder (to_of e) → IsHeldBy o (index_of n (record_of e)) (from_of e) → AreOwners n o m → (arena_of m (record_of e)).records ≡ n → Wants e (len m (record_of e)) → can e m ≡ true
+can_be_done n o (Claim p r) m there good held w each wants =
+    let own = owner_is n r o m None there w held in
+    let known = subst (λ (k : ℕ). r % 256 < k) (sym each) there in
+    rw (own, lt-ltb p 4096 good, lt-ltb (r % 256) (arena_of m r).records known) refl
+can_be_done n o (Vacate p r) m there good held w each wants =
+    let own = owner_is n r o m (Some (Process p)) there w held in
+    rw (own, same_number p, wants) refl
+can_be_done n o (Pass p r d) m there good held w each wants =
+    let own = owner_is n r o m (Some (Process p)) there w held in
+    rw (own, same_number p, lt-ltb d 128 good, lt-ltb 0 (len m r) wants) refl
+can_be_done n o (Accept p r d) m there good held w each wants =
+    let own = owner_is n r o m (Some (Direction d)) there w held in
+    rw (own, same_number d, lt-ltb p 4096 good) refl
+can_be_done n o (Carve p r k) m there good held w each wants = absurd wants
+can_be_done n o (Cut p r t k) m there good held w each wants = absurd wants
+can_be_done n o (GiveBack p r) m there good held w each wants = absurd wants
+
+changed : (n : ℕ) (o : Ownership) (e : Event) (m : Store) → record_of e % 256 < n → index_of n (record_of e) < length o → record_of e < length m.owners → AreOwners n o m → Wants e (len m (record_of e)) → AreOwners n (set o (index_of n (record_of e)) (to_of e)) (change e m)
+changed n o (Claim p r) m there inside known w wants = assigned n r o m (Some (Process p)) there known inside w
+changed n o (Vacate p r) m there inside known w wants = assigned n r o m None there known inside w
+changed n o (Pass p r d) m there inside known w wants = assigned n r o m (Some (Direction d)) there known inside w
+changed n o (Accept p r d) m there inside known w wants = assigned n r o m (Some (Process p)) there known inside w
+changed n o (Carve p r k) m there inside known w wants = absurd wants
+changed n o (Cut p r t k) m there inside known w wants = absurd wants
+changed n o (GiveBack p r) m there inside known w wants = absurd wants
+
+-- what is done on the ownership is the event
+pub done_after : (n : ℕ) (o o' : Ownership) (e : Event) → record_of e % 256 < n → IsHolder (to_of e) → IsDone n o e o' → IsAfter n o e o'
+done_after n o o' e there good done m w each known wants =
+    let able = can_be_done n o e m there good done.0 w each wants in
+    let inside = in_range o (index_of n (record_of e)) (from_of e) done.0 in (
+      able,
+      subst (λ (p : Ownership × Store). AreOwners n p.0 p.1) (λ i. (sym done.1 i, sym (does e m able) i)) (changed n o e m there inside known w wants),
+    )
+
+-- the step of a seat on the record of an event is the event
+pub is_event : {B : Type 0} (fits : B → ℕ → Bool) (s : Shape) (old new : Held B) (e : Event) → record_of e % 256 < s.records → IsStep fits s old new (record_of e) (from_of e) (to_of e) (home_after old e) → IsEvent fits s old new e
+is_event fits s old new e there step t o shown seen inside found =
+    let k : ℕ = index_of s.records (record_of e) in
+    let done = step t o shown seen inside found in
+    let to_there = subst (λ (q : Ownership). IsHeldBy q k (to_of e)) (sym done.1.1) (set_here o k (to_of e) inside) in
+    let good = done.2.holders k (to_of e) to_there in
+    (done.0, done.1, done_after s.records o done.0 e there good done.1, done.2)
