@@ -1,30 +1,18 @@
 -- Each move keeps the rule of a direction.
-use Rattle.std.proofs.Common.{◌≡◌, ◌≢◌, ℕ, zero, suc, ◌+◌, true, false, true≢false, List, [], ◌∷◌, ◌++◌, length, set, sym, refl, ap, ◌∙◌, subst, ⊎_elim, append_assoc, arith}
-use mathlib.Core.Option.{some, some-ne-none}
+use Rattle.std.proofs.Common.{◌≡◌, ◌≢◌, ℕ, suc, true, false, true≢false, List, [], ◌∷◌, ◌++◌, length, set, sym, refl, ap, ◌∙◌, subst, ⊎_elim, append_assoc, arith}
+use mathlib.Core.Option.{some}
 use lib.ListN.{get_elem?}
 use Rattle.crossbeam_queue.specs.Fifo.{Pushes, Pops, Forks, Merges, Learns}
 use Rattle.xh_model.proofs.Direction.{numbers_join, number_at, numbers_before}
-use Rattle.crossbeam_queue.proofs.Lists.{at_set, at_snoc}
+use Rattle.crossbeam_queue.proofs.Lists.{at_set}
 use Rattle.xh_channel.specs.declared.message.Message.{Message}
 use Rattle.xh_channel.specs.declared.direction.Role.{Role}
 use Rattle.xh_channel.specs.Numbers.{number, Numbered}
+use Rattle.xh_channel.proofs.Views.{Every, every_set, every_snoc, one_view}
 use Rattle.xh_channel.specs.Directions.{role, Fits, Ordered, WaitsFrom, WaitsTo, WaitsAfter, Sent, Got}
 
-at_end : (l : List Role) (a b : Role) (j : ℕ) → get_elem? l j ≢ some b → get_elem? (l ++ a ∷ []) j ≡ some b → j ≡ length l
-at_end [] a b zero n e = refl
-at_end [] a b (suc j) n e = absurd (some-ne-none b (sym e))
-at_end (x ∷ xs) a b zero n e = absurd (n e)
-at_end (x ∷ xs) a b (suc j) n e = ap suc (at_end xs a b j n e)
-
-abbrev All : (ℕ → Role → Type 0) → List Role → Type 0
-All F views = (port : ℕ) (v : Role) → get_elem? views port ≡ some v → F port v
-
-all_set : (F : ℕ → Role → Type 0) (views : List Role) (port : ℕ) (w : Role) → F port w → ((j : ℕ) (u : Role) → j ≢ port → get_elem? views j ≡ some u → F j u) → All F (set views port w)
-all_set F views port w mine others j u e = ⊎_elim (λ (x : (j ≡ port) × (w ≡ u)). subst (λ (y : ℕ × Role). F y.0 y.1) (λ i. (sym x.0 i, x.1 i)) mine)
-    (λ (x : (j ≢ port) × (get_elem? views j ≡ some u)). others j u x.0 x.1) (at_set views port j w u e)
-
 pub begins : Ordered [] (role true true [] [] ∷ [])
-begins = (0, 0, [], [], (refl, tt), all_set (Fits 0 0 [] []) (role true true [] [] ∷ []) 0 (role true true [] []) ((λ _. (refl, refl)), λ _. (refl, refl)) (λ j u other e. absurd (other (at_end [] _ u j (λ x. some-ne-none u (sym x)) e))))
+begins = (0, 0, [], [], (refl, tt), one_view (Fits 0 0 [] []) (role true true [] []) ((λ _. (refl, refl)), λ _. (refl, refl)))
 
 pub sends : (n port : ℕ) (v : Role) (x : Message) → v.pushes ≡ true → x.no ≡ suc (length v.sent) → Pushes Ordered n port v x (Sent v x)
 sends n port v x may next items views _ h at =
@@ -40,7 +28,7 @@ sends n port v x may next items views _ h at =
         sent,
         h.3,
         (ap (λ l. l ++ x ∷ []) h.4.0 ∙ append_assoc h.3 items (x ∷ []), numbered),
-        all_set (Fits h.0 h.1 sent h.3) views port w ((λ _. ((mine.0 may).0, ap (λ l. l ++ x ∷ []) same)), mine.1)
+        every_set (Fits h.0 h.1 sent h.3) views port w ((λ _. ((mine.0 may).0, ap (λ l. l ++ x ∷ []) same)), mine.1)
             (λ j u other e. ((λ p. absurd (other (((h.5 j u e).0 p).0 ∙ sym (mine.0 may).0))), (h.5 j u e).1)),
       ),
       (refl, subst (λ l. Numbered (l ++ x ∷ [])) (sym same) numbered),
@@ -60,7 +48,7 @@ gets port v may x items views h at =
         h.2,
         got,
         (split, h.4.1),
-        all_set (Fits h.0 h.1 h.2 got) views port w (mine.0, λ _. ((mine.1 may).0, ap (λ l. l ++ x ∷ []) same))
+        every_set (Fits h.0 h.1 h.2 got) views port w (mine.0, λ _. ((mine.1 may).0, ap (λ l. l ++ x ∷ []) same))
             (λ j u other e. ((h.5 j u e).0, λ p. absurd (other (((h.5 j u e).1 p).0 ∙ sym (mine.1 may).0)))),
       ),
       (
@@ -73,14 +61,13 @@ gets port v may x items views h at =
 pub forks : (port : ℕ) (v : Role) → v.pushes ≡ true → v.pops ≡ true → Forks Ordered port v (role true false v.sent []) (role false true [] v.got)
 forks port v a b items views h at = let l : Role = role true false v.sent [] in let r : Role = role false true [] v.got in let mine = h.5 port v at in let vs : List Role = set views port l in
     let Old : ℕ → Role → Type 0 = λ j u. (u.pushes ≡ true → (j ≡ h.0) × (u.sent ≡ h.2)) × (u.pops ≢ true) in
-    let old : All Old vs = all_set Old views port l ((λ _. mine.0 a), λ p. true≢false (sym p)) (λ j u other e. ((h.5 j u e).0, λ p. other (((h.5 j u e).1 p).0 ∙ sym (mine.1 b).0))) in (
+    let old : Every Old vs = every_set Old views port l ((λ _. mine.0 a), λ p. true≢false (sym p)) (λ j u other e. ((h.5 j u e).0, λ p. other (((h.5 j u e).1 p).0 ∙ sym (mine.1 b).0))) in (
       h.0,
       length vs,
       h.2,
       h.3,
       h.4,
-      λ j u e. ⊎_elim (λ x. ((old j u x).0, λ p. absurd ((old j u x).1 p)))
-          (λ (is : r ≡ u). ((λ p. absurd (true≢false (sym (ap (λ (y : Role). y.pushes) is ∙ p)))), λ p. (at_end vs r u j (λ x. (old j u x).1 p) e, ap (λ (y : Role). y.got) (sym is) ∙ (mine.1 b).1))) (at_snoc vs r u j e),
+      every_snoc (Fits h.0 (length vs) h.2 h.3) vs r ((λ p. absurd (true≢false (sym p))), λ _. (refl, (mine.1 b).1)) (λ j u e. ((old j u e).0, λ p. absurd ((old j u e).1 p))),
     )
 
 pub sender_learns : (port : ℕ) (v : Role) → v.pushes ≡ true → Learns Ordered port v (λ items. WaitsFrom v.sent items)
@@ -98,8 +85,8 @@ merges port v other u a b items views h at two at' =
     let was : get_elem? views other ≡ some u = ⊎_elim (λ x. absurd (two x.0)) (λ x. x.1) (at_set views port other both u at') in
     let theirs = (h.5 other u was).1 b in
     let Now : ℕ → Role → Type 0 = λ j y. j ≢ other → Fits h.0 port h.2 h.3 j y in
-    let now : All Now vs = all_set Now views port both (λ _. ((λ _. mine.0 a), λ _. (refl, theirs.1))) (λ j y _ e apart. ((h.5 j y e).0, λ p. absurd (apart (((h.5 j y e).1 p).0 ∙ sym theirs.0)))) in
-    (h.0, port, h.2, h.3, h.4, all_set (Fits h.0 port h.2 h.3) vs other none ((λ p. absurd (true≢false (sym p))), λ p. absurd (true≢false (sym p))) (λ j y apart e. now j y e apart))
+    let now : Every Now vs = every_set Now views port both (λ _. ((λ _. mine.0 a), λ _. (refl, theirs.1))) (λ j y _ e apart. ((h.5 j y e).0, λ p. absurd (apart (((h.5 j y e).1 p).0 ∙ sym theirs.0)))) in
+    (h.0, port, h.2, h.3, h.4, every_set (Fits h.0 port h.2 h.3) vs other none ((λ p. absurd (true≢false (sym p))), λ p. absurd (true≢false (sym p))) (λ j y apart e. now j y e apart))
 
 pub totals : (port : ℕ) (v : Role) → v.pushes ≡ true → v.pops ≡ true → Learns Ordered port v (λ items. WaitsAfter v.sent v.got items)
 totals port v a b items views h at =

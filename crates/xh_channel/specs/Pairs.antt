@@ -1,5 +1,5 @@
 -- The two ends of a channel that was just opened.
-use Rattle.std.specs.Prelude.{◌≡◌, ◌<◌, Bool}
+use Rattle.std.specs.Prelude.{◌≡◌, ◌<◌}
 use Rattle.xh_channel.specs.Ends.{no_counts}
 use Rattle.xh_channel.specs.Queues.{Posted}
 

@@ -1,5 +1,5 @@
 -- What contracts see of an endpoint, and what its calls do where its channel has no contract.
-use Rattle.std.specs.Prelude.{◌≡◌, ◌⊎◌, ℕ, suc, Bool, true, false, List, [], ◌∷◌, ◌++◌, Option, Some, None, Result, MatchResult}
+use Rattle.std.specs.Prelude.{◌≡◌, ◌⊎◌, ℕ, suc, Bool, true, false, List, [], ◌∷◌, ◌++◌, Option, Some, None, Result}
 use Rattle.arrayvec.specs.ArrayVec.{ArrayVec}
 use Rattle.atomic_table.specs.Seated.{TableId}
 use Rattle.crossbeam_queue.specs.Fifo.{Held}
@@ -7,7 +7,7 @@ use Rattle.xh_channel.specs.declared.message.Message.{Message}
 use Rattle.xh_channel.specs.declared.refused.Refused.{Refused}
 use Rattle.xh_channel.specs.declared.told.Told.{Told}
 use Rattle.xh_channel.specs.declared.unsent.Unsent.{Unsent}
-use Rattle.xh_channel.specs.Numbers.{message, Numbered}
+use Rattle.xh_channel.specs.Numbers.{Numbered}
 use Rattle.xh_channel.specs.Directions.{WaitsFrom, WaitsTo}
 use Rattle.xh_channel.specs.Ends.{Counts, Puts, Takes, now_shut}
 

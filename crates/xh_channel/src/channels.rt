@@ -17,15 +17,12 @@ use crate::message::Message;
 use crate::pair::Pair;
 use crate::refused::Refused;
 use crate::sign::Signs;
-use crate::spot::Spot;
+use crate::spot::{CHANNELS, Spot};
 use crate::unsent::Unsent;
 use arrayvec::ArrayVec;
 use std::alloc::{AllocError, Global};
 use std::sync::{Condvar, Mutex, Wait};
 use xh_core::Contract;
-
-/// The number of channels.
-const CHANNELS: u8 = 64;
 
 /// All channels of a heap. They are shared by reference.
 #[derive(Drop)]
@@ -58,7 +55,7 @@ fn pairs(alloc: Global, depth: usize) -> Result<Vec<Option<Pair>>, AllocError>
     ensures { IfOk result (λ v. (length v.items ≡ 64) × IsPlaced v.items × ((i : ℕ) → i < 64 → has_depth depth (at_place v.items i) ≡ true)) }
 {
     let mut signs = Signs::new(alloc)?;
-    let mut pairs = Vec::new(alloc);
+    let mut pairs = Vec::with_capacity(alloc, CHANNELS as usize)?;
     for channel in 0..CHANNELS {
         pairs.push(Some(pair(alloc, depth, &mut signs, channel)?))?;
     }
@@ -69,7 +66,7 @@ fn pairs(alloc: Global, depth: usize) -> Result<Vec<Option<Pair>>, AllocError>
 fn condvars(alloc: Global) -> Result<Vec<Condvar>, AllocError>
     ensures { IfOk result (λ v. length v.items ≡ 64) }
 {
-    let mut turned = Vec::new(alloc);
+    let mut turned = Vec::with_capacity(alloc, CHANNELS as usize)?;
     for _ in 0..CHANNELS {
         turned.push(Condvar::new())?;
     }

@@ -9,7 +9,7 @@ ghost use Rattle.xh_channel.specs.Queues.{ComesNext, SawShut, SawOpen, IsSameBut
 
 use crate::boxes::{self, Inbox, Outbox};
 use crate::direction::{Receiver, Role, Sender};
-use crate::message::Message;
+use crate::message::{LAST_NUMBER, Message};
 use crate::refused::Refused;
 use crate::sign::Sign;
 use crate::spot::Spot;
@@ -19,9 +19,6 @@ use arrayvec::ArrayVec;
 use crossbeam_queue::protocol::Lesson;
 use std::marker::Model;
 use std::sync::Wait;
-
-/// The number of messages that a direction carries at most.
-const LAST: u64 = (1 << 62) - 1;
 
 /// One end of a channel. It goes from owner to owner, and whoever has it may put, take and shut.
 #[derive(Drop)]
@@ -187,7 +184,7 @@ impl Endpoint {
         if self.sign.peer_is_shut() {
             return Err(Unsent::PeerClosed { back: blocks });
         }
-        if self.put == LAST {
+        if self.put == LAST_NUMBER {
             return Err(Unsent::Full { back: blocks });
         }
         let no = self.put + 1;

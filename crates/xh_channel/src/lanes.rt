@@ -7,15 +7,12 @@ use crate::lane::{put_through, shut_through, take_through};
 use crate::line::Line;
 use crate::message::Message;
 use crate::refused::Refused;
-use crate::spot::Spot;
+use crate::spot::{CHANNELS, Spot};
 use crate::unsent::Unsent;
 use arrayvec::ArrayVec;
 use std::alloc::{AllocError, Global};
 use std::sync::{Mutex, Wait};
 use xh_core::Contract;
-
-/// The number of channels.
-const CHANNELS: u8 = 64;
 
 /// Where a channel has a contract, its line is here.
 #[derive(Drop)]
@@ -28,7 +25,7 @@ pub struct Lanes {
 fn no_lines(alloc: Global) -> Result<Vec<Mutex<Option<Line>>>, AllocError>
     ensures { IfOk result (λ v. length v.items ≡ 64) }
 {
-    let mut lanes = Vec::new(alloc);
+    let mut lanes = Vec::with_capacity(alloc, CHANNELS as usize)?;
     for _ in 0..CHANNELS {
         lanes.push(Mutex::new(None))?;
     }

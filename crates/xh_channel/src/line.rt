@@ -5,15 +5,12 @@ ghost use Rattle.xh_channel.specs.Ends.{last_number};
 ghost use Rattle.xh_channel.specs.Lines.{AreInStep, Follows, IsNewLine, IsOrderly, PutsBetween, PutsOn, Shuts, TakesBetween, TakesOn, counts, waiting};
 
 use crate::line_end::LineEnd;
-use crate::message::Message;
+use crate::message::{LAST_NUMBER, Message};
 use crate::refused::Refused;
 use crate::unsent::Unsent;
 use arrayvec::ArrayVec;
 use std::marker::Model;
 use xh_core::Contract;
-
-/// The number of the last message that a direction carries.
-const LAST_NUMBER: u64 = (1 << 62) - 1;
 
 /// Both directions of a channel, its contract, and both ends' states and counts: side 0 is the left
 /// end, side 1 the right one.
