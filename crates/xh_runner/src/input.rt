@@ -6,10 +6,7 @@ ghost use Rattle.xh_runner.specs.Reading.{ReadsAtMost, ReadsScript};
 
 use std::alloc::Global;
 use std::io::Read;
-use xh_script::{Fault, Watched};
-
-/// The most bytes that a script may have.
-pub const SCRIPT_LIMIT: usize = 1_048_576;
+use xh_script::{Fault, SCRIPT_LIMIT, Watched};
 
 /// Reads once, and adds what was read.
 fn read_some<R: Read>(
@@ -34,7 +31,7 @@ fn read_some<R: Read>(
 }
 
 /// Reads to the end, or to one byte past the most that a script may have.
-pub fn read_text<R: Read>(alloc: Global, reader: &mut Watched<R>) -> Result<Vec<u8>, Fault>
+pub(crate) fn read_text<R: Read>(alloc: Global, reader: &mut Watched<R>) -> Result<Vec<u8>, Fault>
     ensures ok { IfOk result (λ text. ReadsScript R.remaining reader.old reader.new text.items × (length text.items ≤ 1048577)) }
     ensures err { IfErr result (λ e. (e ≡ Fault.Memory) ⊎ ((e ≡ Fault.Read) × (has_failed reader.new ≡ true))) }
     ensures limit { ReadsAtMost R.remaining 1048577 reader.old reader.new }

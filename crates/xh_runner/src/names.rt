@@ -17,7 +17,7 @@ pub(crate) const NOTHING: u16 = 65_535;
 /// The number of each process (by its name), the name of the latest process of each place, and the
 /// record of each block's name, 256 for each process.
 #[derive(Drop)]
-pub struct Names {
+pub(crate) struct Names {
     numbers: Vec<u16>,
     latest: Vec<u8>,
     records: Vec<u16>,
@@ -170,7 +170,7 @@ fn names_at(alloc: Global, processes: &[Name], latest: &[u8]) -> Result<Vec<Name
 impl Names {
     /// No process has a place, and no name is bound.
     #[tactic(auto, unfolding(crate::specs::Bindings::no_bindings))]
-    pub fn new(alloc: Global) -> Result<Names, AllocError>
+    pub(crate) fn new(alloc: Global) -> Result<Names, AllocError>
         ensures { IfOk result (λ names. names ≡ no_bindings) }
     {
         let numbers = nothings(alloc, 64)?;
@@ -184,28 +184,28 @@ impl Names {
     }
 
     /// The number of a process, or `NOTHING` where no `process` line gave it a place.
-    pub fn number(&self, process: u8) -> u16
+    pub(crate) fn number(&self, process: u8) -> u16
         ensures { result ≡ number_of self.now process }
     {
         at(&self.numbers, usize::from(process))
     }
 
     /// Whether a `process` line gave the process a place.
-    pub fn has_place(&self, process: u8) -> bool
+    pub(crate) fn has_place(&self, process: u8) -> bool
         ensures { result ≡ has_place self.now process }
     {
         self.number(process) != NOTHING
     }
 
     /// The record of a block's name, or `NOTHING` where it is bound to none.
-    pub fn record_of(&self, process: u8, block: u8) -> u16
+    pub(crate) fn record_of(&self, process: u8, block: u8) -> u16
         ensures { result ≡ record_of self.now process block }
     {
         entry(&self.records, process, block)
     }
 
     /// The records of several names, at most 16.
-    pub fn records_of(&self, process: u8, blocks: &[u8]) -> ArrayVec<u16, 16>
+    pub(crate) fn records_of(&self, process: u8, blocks: &[u8]) -> ArrayVec<u16, 16>
         requires { length blocks.now ≤ 16 }
         ensures { result.items ≡ records_of self.now process blocks.now }
     {
@@ -213,7 +213,7 @@ impl Names {
     }
 
     /// The process has this number, and is the latest of its place.
-    pub fn start(&mut self, process: u8, number: u16)
+    pub(crate) fn start(&mut self, process: u8, number: u16)
         ensures { self.new ≡ started self.old process number }
     {
         put(&mut self.numbers, usize::from(process), number);
@@ -222,7 +222,7 @@ impl Names {
     }
 
     /// The name stands for this record.
-    pub fn bind(&mut self, process: u8, block: u8, rec: u16)
+    pub(crate) fn bind(&mut self, process: u8, block: u8, rec: u16)
         ensures { self.new ≡ bound self.old process block rec }
     {
         set_entry(&mut self.records, process, block, rec);
@@ -230,42 +230,46 @@ impl Names {
 
     /// The names stand for the blocks of a message, from left to right; names past the last block
     /// stay as they were, and blocks past the last name have none.
-    pub fn bind_each(&mut self, process: u8, blocks: &[u8], message: &[Block])
+    pub(crate) fn bind_each(&mut self, process: u8, blocks: &[u8], message: &[Block])
         ensures { self.new ≡ bound_each self.old process blocks.now message.now }
     {
         set_each(&mut self.records, process, blocks, message);
     }
 
     /// The name is bound to nothing.
-    pub fn unbind(&mut self, process: u8, block: u8)
+    pub(crate) fn unbind(&mut self, process: u8, block: u8)
         ensures { self.new ≡ unbound self.old process block }
     {
         set_entry(&mut self.records, process, block, NOTHING);
     }
 
     /// The names are bound to nothing.
-    pub fn unbind_each(&mut self, process: u8, blocks: &[u8])
+    pub(crate) fn unbind_each(&mut self, process: u8, blocks: &[u8])
         ensures { self.new ≡ unbound_each self.old process blocks.now }
     {
         clear_each(&mut self.records, process, blocks);
     }
 
     /// The names are bound to nothing whose records are not among these.
-    pub fn unbind_but(&mut self, process: u8, blocks: &[u8], back: &[u16])
+    pub(crate) fn unbind_but(&mut self, process: u8, blocks: &[u8], back: &[u16])
         ensures { self.new ≡ unbound_but self.old process blocks.now back.now }
     {
         clear_but(&mut self.records, process, blocks, back);
     }
 
     /// All names of the process for blocks are bound to nothing.
-    pub fn unbind_all(&mut self, process: u8)
+    pub(crate) fn unbind_all(&mut self, process: u8)
         ensures { self.new ≡ unbound_all self.old process }
     {
         clear_all(&mut self.records, process);
     }
 
     /// The names of the processes by place, 32 of them, from the names by number.
-    pub fn by_place(&self, alloc: Global, processes: &[Name]) -> Result<Vec<Name>, AllocError>
+    pub(crate) fn by_place(
+        &self,
+        alloc: Global,
+        processes: &[Name],
+    ) -> Result<Vec<Name>, AllocError>
         ensures names { IfOk result (λ names. names.items ≡ names_by_place processes.now self.now) }
         ensures count { IfOk result (λ names. length names.items ≡ 32) }
     {

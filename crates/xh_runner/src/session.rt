@@ -18,7 +18,7 @@ use xh_script::{Answered, Command, Line, Name, Reply};
 
 /// A serial machine, what the names of a script stand for, and the script's contracts by number.
 #[derive(Drop)]
-pub struct Session<'a> {
+pub(crate) struct Session<'a> {
     machine: Serial,
     names: Names,
     contracts: &'a [Contract],
@@ -37,7 +37,7 @@ fn refusal(refused: Refused) -> Result<Reply, AllocError>
 
 impl<'a> Session<'a> {
     /// A machine with a script's contracts, and no name of the script that stands for anything.
-    pub fn new(
+    pub(crate) fn new(
         alloc: Global,
         machine: Serial,
         contracts: &'a [Contract],
@@ -53,82 +53,31 @@ impl<'a> Session<'a> {
 
     /// Does a command.
     #[tactic(auto, unfolding(crate::specs::Meaning::step))]
-    pub fn step(&mut self, alloc: Global, command: &Command) -> Result<Reply, AllocError>
+    fn step(&mut self, alloc: Global, command: &Command) -> Result<Reply, AllocError>
         ensures { IfOk result (λ reply. step (world_of self.old) command.now ≡ (reply, world_of self.new)) }
     {
         match command {
             Command::Contract { .. } => Ok(Reply::Done),
-            Command::Process { process } => Ok(self.process(*process)),
-            Command::Wire {
-                process,
-                first,
-                peer,
-                second,
-                arena,
-                contract,
-            } => Ok(self.wire((*process, *first), (*peer, *second), *arena, *contract)),
-            Command::Open {
-                process,
-                first,
-                second,
-                arena,
-                contract,
-            } => Ok(self.open(*process, (*first, *second), *arena, *contract)),
-            Command::Alloc {
-                process,
-                block,
-                bytes,
-                arena,
-            } => self.alloc(alloc, *process, *block, *bytes, *arena),
-            Command::Split {
-                process,
-                block,
-                at,
-                tail,
-            } => self.split(alloc, *process, *block, *at, *tail),
-            Command::Read {
-                process,
-                block,
-                at,
-                len,
-            } => Ok(self.read(*process, *block, *at, *len)),
-            Command::Write {
-                process,
-                block,
-                at,
-                bytes,
-            } => Ok(self.write(*process, *block, *at, bytes)),
-            Command::Give {
-                process,
-                endpoint,
-                tag,
-                blocks,
-            } => Ok(self.give(*process, *endpoint, *tag, blocks)),
-            Command::Take {
-                process,
-                endpoint,
-                blocks,
-            } => Ok(self.take(*process, *endpoint, blocks)),
-            Command::Await {
-                process,
-                endpoint,
-                blocks,
-            } => Ok(self.take(*process, *endpoint, blocks)),
-            Command::Free { process, block } => Ok(self.free(*process, *block)),
-            Command::Close { process, endpoint } => Ok(self.close(*process, *endpoint)),
-            Command::Exit { process, budget } => Ok(self.exit(*process, *budget)),
-            Command::Kill {
-                process,
-                victim,
-                budget,
-            } => Ok(self.kill(*process, *victim, *budget)),
-            Command::Glance { process, other } => Ok(self.glance(*process, *other)),
-            Command::Again { process } => Ok(self.again(*process)),
+            Command::Process { .. }
+            | Command::Again { .. }
+            | Command::Glance { .. }
+            | Command::Close { .. }
+            | Command::Exit { .. }
+            | Command::Kill { .. } => Ok(self.process_command(command)),
+            Command::Wire { .. } | Command::Open { .. } => Ok(self.channel_command(command)),
+            Command::Alloc { .. }
+            | Command::Split { .. }
+            | Command::Read { .. }
+            | Command::Write { .. }
+            | Command::Free { .. } => self.block_command(alloc, command),
+            Command::Give { .. } | Command::Take { .. } | Command::Await { .. } => {
+                Ok(self.message_command(command))
+            }
         }
     }
 
     /// Does commands in order.
-    pub fn run(&mut self, alloc: Global, lines: &[Line]) -> Result<Vec<Answered>, AllocError>
+    pub(crate) fn run(&mut self, alloc: Global, lines: &[Line]) -> Result<Vec<Answered>, AllocError>
         ensures answers { IfOk result (λ replies. replies.items ≡ answers (world_of self.old) lines.now) }
         ensures after { OnOk result (world_of self.new ≡ after (world_of self.old) lines.now) }
     {
@@ -144,7 +93,7 @@ impl<'a> Session<'a> {
     }
 
     /// What the machine holds.
-    pub fn ledger(&self) -> Ledger
+    pub(crate) fn ledger(&self) -> Ledger
         ensures value { result ≡ ledger_of (world_of self.now).machine }
         ensures places { All (λ line. line.place < 32) result.places.items }
     {
@@ -152,7 +101,11 @@ impl<'a> Session<'a> {
     }
 
     /// The names of the processes by place, 32 of them, from the names by number.
-    pub fn names_by_place(&self, alloc: Global, processes: &[Name]) -> Result<Vec<Name>, AllocError>
+    pub(crate) fn names_by_place(
+        &self,
+        alloc: Global,
+        processes: &[Name],
+    ) -> Result<Vec<Name>, AllocError>
         ensures names { IfOk result (λ names. names.items ≡ names_by_place processes.now (world_of self.now).names) }
         ensures count { IfOk result (λ names. length names.items ≡ 32) }
     {

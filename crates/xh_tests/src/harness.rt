@@ -7,7 +7,7 @@ use xh_runner::run_serial;
 use xh_script::{Fault, Kind, Watched};
 
 /// One arena of 256 bytes.
-pub const SMALL: Config = Config {
+pub(crate) const SMALL: Config = Config {
     arenas: 1,
     bytes: 256,
     records: 256,
@@ -16,7 +16,7 @@ pub const SMALL: Config = Config {
 };
 
 /// The script is run to its end, and writes this.
-pub fn writes(
+pub(crate) fn writes(
     rt: &impl Abort,
     alloc: Global,
     config: Config,
@@ -27,7 +27,7 @@ pub fn writes(
 }
 
 /// The same, for a script of bytes.
-pub fn writes_bytes(
+pub(crate) fn writes_bytes(
     rt: &impl Abort,
     alloc: Global,
     config: Config,
@@ -46,7 +46,7 @@ pub fn writes_bytes(
 }
 
 /// The script has this fault in this line, and nothing is written.
-pub fn is_faulty(
+pub(crate) fn is_faulty(
     rt: &impl Abort,
     alloc: Global,
     script: &str,
@@ -57,7 +57,7 @@ pub fn is_faulty(
 }
 
 /// The same, for a script of bytes.
-pub fn is_faulty_in_bytes(
+pub(crate) fn is_faulty_in_bytes(
     rt: &impl Abort,
     alloc: Global,
     script: &[u8],

@@ -6,20 +6,20 @@ use std::io::Write;
 use xh_script::Fault;
 
 /// The status of a run to the end.
-pub const DONE: u8 = 0;
+pub(crate) const DONE: u8 = 0;
 /// A fault of the script.
-pub const SCRIPT: u8 = 1;
+pub(crate) const SCRIPT: u8 = 1;
 /// A fault of the command line.
-pub const WORDS: u8 = 2;
+pub(crate) const WORDS: u8 = 2;
 /// Memory was refused.
-pub const MEMORY: u8 = 3;
+pub(crate) const MEMORY: u8 = 3;
 /// Reading or writing failed.
-pub const STREAM: u8 = 4;
+pub(crate) const STREAM: u8 = 4;
 /// A fault that no run of the program meets.
-pub const INTERNAL: u8 = 5;
+pub(crate) const INTERNAL: u8 = 5;
 
 /// Tells want of memory.
-pub fn out_of_memory<E: Write>(err: &mut E) -> u8
+pub(crate) fn out_of_memory<E: Write>(err: &mut E) -> u8
     ensures { result ≡ MEMORY }
 {
     let _ = err.write_all(b"xheap: out of memory\n");
@@ -27,7 +27,7 @@ pub fn out_of_memory<E: Write>(err: &mut E) -> u8
 }
 
 /// Tells a fault. A fault of `err` itself is passed over.
-pub fn told<E: Write>(fault: Fault, err: &mut E) -> u8
+pub(crate) fn told<E: Write>(fault: Fault, err: &mut E) -> u8
     ensures { result ≡ status_of fault }
 {
     match fault {

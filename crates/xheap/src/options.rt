@@ -16,7 +16,7 @@ Status: 0 done, 1 a fault of the script, 2 a fault of the command line, 3 out of
 
 /// What the command line asks for.
 #[derive(Clone, Copy, Debug)]
-pub struct Options {
+pub(crate) struct Options {
     pub serial: bool,
     pub config: Config,
 }
@@ -107,7 +107,7 @@ fn command<'a>(alloc: Global) -> Result<Command<'a>, Error> {
 
 /// What the words ask for; the first word is the program's own name. An error is clap's text, or
 /// want of memory.
-pub fn options_of<'a>(alloc: Global, words: &'a [String]) -> Result<Options, Error> {
+pub(crate) fn options_of<'a>(alloc: Global, words: &'a [String]) -> Result<Options, Error> {
     let matches = command(alloc)?.try_get_matches_from(words)?;
     Ok(Options {
         serial: matches.get_flag("serial"),

@@ -65,7 +65,7 @@ fn run<R: Read, W: Write, E: Write>(
 
 /// The program: its words (the first is its own name), its input and its outputs; the answer is its
 /// status. A fault of `err` is passed over, and so is one of `out` while help is printed.
-pub fn run_main<R: Read, W: Write, E: Write>(
+pub(crate) fn run_main<R: Read, W: Write, E: Write>(
     alloc: Global,
     words: &[String],
     reader: &mut Watched<R>,

@@ -1,5 +1,6 @@
 //! The commands alloc, split, read, write and free.
 ghost use Rattle.std.specs.Prelude.{◌≡◌, ◌≤◌, length, IfOk};
+ghost use Rattle.xh_runner.specs.Rooms.{IsBlockCommand};
 ghost use Rattle.xh_runner.specs.Meaning.{step};
 ghost use Rattle.xh_runner.specs.Worlds.{world_of};
 
@@ -20,8 +21,47 @@ fn array_of(bytes: &[u8]) -> ArrayVec<u8, 32>
 }
 
 impl<'a> Session<'a> {
+    /// Does a command of blocks.
+    pub(crate) fn block_command(
+        &mut self,
+        alloc: Global,
+        command: &Command,
+    ) -> Result<Reply, AllocError>
+        requires { IsBlockCommand command.now }
+        ensures { IfOk result (λ reply. step (world_of self.old) command.now ≡ (reply, world_of self.new)) }
+    {
+        match command {
+            Command::Alloc {
+                process,
+                block,
+                bytes,
+                arena,
+            } => self.alloc(alloc, *process, *block, *bytes, *arena),
+            Command::Split {
+                process,
+                block,
+                at,
+                tail,
+            } => self.split(alloc, *process, *block, *at, *tail),
+            Command::Read {
+                process,
+                block,
+                at,
+                len,
+            } => Ok(self.read(*process, *block, *at, *len)),
+            Command::Write {
+                process,
+                block,
+                at,
+                bytes,
+            } => Ok(self.write(*process, *block, *at, bytes)),
+            Command::Free { process, block } => Ok(self.free(*process, *block)),
+            _ => unreachable!(),
+        }
+    }
+
     #[tactic(auto, unfolding(crate::specs::Meaning::step))]
-    pub(crate) fn alloc(
+    fn alloc(
         &mut self,
         alloc: Global,
         process: u8,
@@ -42,7 +82,7 @@ impl<'a> Session<'a> {
     }
 
     #[tactic(auto, unfolding(crate::specs::Meaning::step))]
-    pub(crate) fn split(
+    fn split(
         &mut self,
         alloc: Global,
         process: u8,
@@ -67,7 +107,7 @@ impl<'a> Session<'a> {
     }
 
     #[tactic(auto, unfolding(crate::specs::Meaning::step))]
-    pub(crate) fn read(&mut self, process: u8, block: u8, at: u32, len: u8) -> Reply
+    fn read(&mut self, process: u8, block: u8, at: u32, len: u8) -> Reply
         ensures { step (world_of self.old) (Command.Read process block at len) ≡ (result, world_of self.new) }
     {
         let number = self.names.number(process);
@@ -81,13 +121,7 @@ impl<'a> Session<'a> {
     }
 
     #[tactic(auto, unfolding(crate::specs::Meaning::step))]
-    pub(crate) fn write(
-        &mut self,
-        process: u8,
-        block: u8,
-        at: u32,
-        bytes: &ArrayVec<u8, 32>,
-    ) -> Reply
+    fn write(&mut self, process: u8, block: u8, at: u32, bytes: &ArrayVec<u8, 32>) -> Reply
         ensures { step (world_of self.old) (Command.Write process block at bytes.now) ≡ (result, world_of self.new) }
     {
         let number = self.names.number(process);
@@ -99,7 +133,7 @@ impl<'a> Session<'a> {
     }
 
     #[tactic(auto, unfolding(crate::specs::Meaning::step))]
-    pub(crate) fn free(&mut self, process: u8, block: u8) -> Reply
+    fn free(&mut self, process: u8, block: u8) -> Reply
         ensures { step (world_of self.old) (Command.Free process block) ≡ (result, world_of self.new) }
     {
         let number = self.names.number(process);

@@ -2,6 +2,7 @@
 ghost use Rattle.std.specs.Prelude.{◌≡◌};
 ghost use Rattle.std.specs.Option.{option_map};
 ghost use Rattle.xh_core.specs.ChannelCommands.{open_channel, wire_channel};
+ghost use Rattle.xh_runner.specs.Rooms.{IsChannelCommand};
 ghost use Rattle.xh_runner.specs.Meaning.{step, contract_at};
 ghost use Rattle.xh_runner.specs.Worlds.{world_of};
 
@@ -19,6 +20,31 @@ fn contract_at<'a>(contracts: &'a [Contract], number: Option<u8>) -> Option<&'a 
 }
 
 impl<'a> Session<'a> {
+    /// Does a command of channels.
+    pub(crate) fn channel_command(&mut self, command: &Command) -> Reply
+        requires { IsChannelCommand command.now }
+        ensures { step (world_of self.old) command.now ≡ (result, world_of self.new) }
+    {
+        match command {
+            Command::Wire {
+                process,
+                first,
+                peer,
+                second,
+                arena,
+                contract,
+            } => self.wire((*process, *first), (*peer, *second), *arena, *contract),
+            Command::Open {
+                process,
+                first,
+                second,
+                arena,
+                contract,
+            } => self.open(*process, (*first, *second), *arena, *contract),
+            _ => unreachable!(),
+        }
+    }
+
     fn open_channel(
         &mut self,
         p: u16,
@@ -51,13 +77,7 @@ impl<'a> Session<'a> {
     }
 
     #[tactic(auto, unfolding(crate::specs::Meaning::step))]
-    pub(crate) fn open(
-        &mut self,
-        process: u8,
-        names: (u8, u8),
-        arena: u32,
-        contract: Option<u8>,
-    ) -> Reply
+    fn open(&mut self, process: u8, names: (u8, u8), arena: u32, contract: Option<u8>) -> Reply
         ensures { step (world_of self.old) (Command.Open process names.0 names.1 arena contract) ≡ (result, world_of self.new) }
     {
         let number = self.names.number(process);
@@ -72,13 +92,7 @@ impl<'a> Session<'a> {
     }
 
     #[tactic(auto, unfolding(crate::specs::Meaning::step))]
-    pub(crate) fn wire(
-        &mut self,
-        here: (u8, u8),
-        there: (u8, u8),
-        arena: u32,
-        contract: Option<u8>,
-    ) -> Reply
+    fn wire(&mut self, here: (u8, u8), there: (u8, u8), arena: u32, contract: Option<u8>) -> Reply
         ensures { step (world_of self.old) (Command.Wire here.0 here.1 there.0 there.1 arena contract) ≡ (result, world_of self.new) }
     {
         let p = self.names.number(here.0);

@@ -1,5 +1,6 @@
 //! The commands give and take.
 ghost use Rattle.std.specs.Prelude.{◌≡◌, ◌≤◌, length, map, Some};
+ghost use Rattle.xh_runner.specs.Rooms.{IsMessageCommand};
 ghost use Rattle.xh_runner.specs.Meaning.{step, handed_back};
 ghost use Rattle.xh_runner.specs.Worlds.{world_of};
 
@@ -33,14 +34,34 @@ fn keep_back(names: &mut Names, process: u8, blocks: &[u8], refused: &Refused)
 }
 
 impl<'a> Session<'a> {
+    /// Does a command of messages.
+    pub(crate) fn message_command(&mut self, command: &Command) -> Reply
+        requires { IsMessageCommand command.now }
+        ensures { step (world_of self.old) command.now ≡ (result, world_of self.new) }
+    {
+        match command {
+            Command::Give {
+                process,
+                endpoint,
+                tag,
+                blocks,
+            } => self.give(*process, *endpoint, *tag, blocks),
+            Command::Take {
+                process,
+                endpoint,
+                blocks,
+            } => self.take(*process, *endpoint, blocks),
+            Command::Await {
+                process,
+                endpoint,
+                blocks,
+            } => self.take(*process, *endpoint, blocks),
+            _ => unreachable!(),
+        }
+    }
+
     #[tactic(auto, unfolding(crate::specs::Meaning::step))]
-    pub(crate) fn give(
-        &mut self,
-        process: u8,
-        endpoint: u8,
-        tag: u16,
-        blocks: &ArrayVec<u8, 16>,
-    ) -> Reply
+    fn give(&mut self, process: u8, endpoint: u8, tag: u16, blocks: &ArrayVec<u8, 16>) -> Reply
         ensures { step (world_of self.old) (Command.Give process endpoint tag blocks.now) ≡ (result, world_of self.new) }
     {
         let number = self.names.number(process);
@@ -59,7 +80,7 @@ impl<'a> Session<'a> {
     }
 
     #[tactic(auto, unfolding(crate::specs::Meaning::step))]
-    pub(crate) fn take(&mut self, process: u8, endpoint: u8, blocks: &ArrayVec<u8, 8>) -> Reply
+    fn take(&mut self, process: u8, endpoint: u8, blocks: &ArrayVec<u8, 8>) -> Reply
         ensures now { step (world_of self.old) (Command.Take process endpoint blocks.now) ≡ (result, world_of self.new) }
         ensures waiting { step (world_of self.old) (Command.Await process endpoint blocks.now) ≡ (result, world_of self.new) }
     {

@@ -1,6 +1,7 @@
 //! The commands process, again, glance, close, exit and kill.
 ghost use Rattle.std.specs.Prelude.{◌≡◌};
 ghost use Rattle.xh_runner.specs.Bindings.{has_place};
+ghost use Rattle.xh_runner.specs.Rooms.{IsProcessCommand};
 ghost use Rattle.xh_runner.specs.Meaning.{step, look, is_alive};
 ghost use Rattle.xh_runner.specs.Worlds.{world_of};
 
@@ -22,6 +23,26 @@ fn is_alive(look: &Result<Glance, Refused>) -> bool
 }
 
 impl<'a> Session<'a> {
+    /// Does a command of processes.
+    pub(crate) fn process_command(&mut self, command: &Command) -> Reply
+        requires { IsProcessCommand command.now }
+        ensures { step (world_of self.old) command.now ≡ (result, world_of self.new) }
+    {
+        match command {
+            Command::Process { process } => self.process(*process),
+            Command::Again { process } => self.again(*process),
+            Command::Glance { process, other } => self.glance(*process, *other),
+            Command::Close { process, endpoint } => self.close(*process, *endpoint),
+            Command::Exit { process, budget } => self.exit(*process, *budget),
+            Command::Kill {
+                process,
+                victim,
+                budget,
+            } => self.kill(*process, *victim, *budget),
+            _ => unreachable!(),
+        }
+    }
+
     /// What the place of a process shows of it; Ended where it shows a later process.
     fn look(&self, number: u16) -> Result<Glance, Refused>
         ensures { result ≡ look (world_of self.now) number }
@@ -34,7 +55,7 @@ impl<'a> Session<'a> {
     }
 
     #[tactic(auto, unfolding(crate::specs::Meaning::step))]
-    pub(crate) fn process(&mut self, process: u8) -> Reply
+    fn process(&mut self, process: u8) -> Reply
         ensures { step (world_of self.old) (Command.Process process) ≡ (result, world_of self.new) }
     {
         if self.names.has_place(process) {
@@ -50,7 +71,7 @@ impl<'a> Session<'a> {
     }
 
     #[tactic(auto, unfolding(crate::specs::Meaning::step))]
-    pub(crate) fn again(&mut self, process: u8) -> Reply
+    fn again(&mut self, process: u8) -> Reply
         ensures { step (world_of self.old) (Command.Again process) ≡ (result, world_of self.new) }
     {
         if !self.names.has_place(process) {
@@ -70,7 +91,7 @@ impl<'a> Session<'a> {
     }
 
     #[tactic(auto, unfolding(crate::specs::Meaning::step))]
-    pub(crate) fn glance(&mut self, process: u8, other: u8) -> Reply
+    fn glance(&mut self, process: u8, other: u8) -> Reply
         ensures { step (world_of self.old) (Command.Glance process other) ≡ (result, world_of self.new) }
     {
         if !self.names.has_place(process) || !self.names.has_place(other) {
@@ -86,7 +107,7 @@ impl<'a> Session<'a> {
     }
 
     #[tactic(auto, unfolding(crate::specs::Meaning::step))]
-    pub(crate) fn close(&mut self, process: u8, endpoint: u8) -> Reply
+    fn close(&mut self, process: u8, endpoint: u8) -> Reply
         ensures { step (world_of self.old) (Command.Close process endpoint) ≡ (result, world_of self.new) }
     {
         let number = self.names.number(process);
@@ -101,7 +122,7 @@ impl<'a> Session<'a> {
     }
 
     #[tactic(auto, unfolding(crate::specs::Meaning::step))]
-    pub(crate) fn exit(&mut self, process: u8, budget: u16) -> Reply
+    fn exit(&mut self, process: u8, budget: u16) -> Reply
         ensures { step (world_of self.old) (Command.Exit process budget) ≡ (result, world_of self.new) }
     {
         let number = self.names.number(process);
@@ -112,7 +133,7 @@ impl<'a> Session<'a> {
     }
 
     #[tactic(auto, unfolding(crate::specs::Meaning::step))]
-    pub(crate) fn kill(&mut self, process: u8, victim: u8, budget: u16) -> Reply
+    fn kill(&mut self, process: u8, victim: u8, budget: u16) -> Reply
         ensures { step (world_of self.old) (Command.Kill process victim budget) ≡ (result, world_of self.new) }
     {
         let by = self.names.number(process);
