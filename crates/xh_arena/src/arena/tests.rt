@@ -38,11 +38,23 @@ fn a_record_is_cut(rt: HostRuntime) {
     assert_eq!(rt; arena.extent(1), Some((16, 32)));
 }
 
-/// With the first, the second or a later growth refused, a new arena is either there or out of memory.
+/// Where one growth is refused, whichever it is, one of two calls is out of memory, and the other makes a whole arena.
 #[test]
 fn growths_of_new(rt: HostRuntime) {
-    match Arena::new(rt.alloc(), 256, 8, 1000) {
-        Ok(arena) => assert_eq!(rt; arena.holes(), [(0, 256)].as_slice()),
-        Err(refused) => assert_eq!(rt; refused, Refused::OutOfMemory),
+    let mut refused_before = false;
+    for _ in 0..2 {
+        match Arena::new(rt.alloc(), 256, 8, 1000) {
+            Ok(mut arena) => {
+                assert_eq!(rt; (arena.size(), arena.records()), (256, 8));
+                assert_eq!(rt; (arena.handed_out(), arena.wear()), (0, 0));
+                assert_eq!(rt; arena.holes(), [(0, 256)].as_slice());
+                assert_eq!(rt; arena.carve(7, 256), Ok(0));
+            }
+            Err(refused) => {
+                assert_eq!(rt; refused, Refused::OutOfMemory);
+                assert!(rt; !refused_before);
+                refused_before = true;
+            }
+        }
     }
 }

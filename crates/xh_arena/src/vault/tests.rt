@@ -114,13 +114,34 @@ fn workers_are_1_to_33(rt: HostRuntime) {
     );
 }
 
-/// With any growth refused, a new vault is either there or out of memory.
+/// A vault of 64 bytes for 4 records and 2 workers as it is made: all lots are empty, and no tally moved a byte.
+fn assert_new(rt: &impl Abort, vault: &Vault, lots: &[Lot<Any>], tallies: &[Tally]) {
+    assert_eq!(rt;
+        (vault.size(), vault.handed_out(), vault.wear()),
+        (64, 0, 0)
+    );
+    assert_eq!(rt; vault.holes(), [(0, 64)].as_slice());
+    assert_eq!(rt; (lots.len(), tallies.len()), (4, 2));
+    for (index, lot) in lots.iter().enumerate() {
+        assert_eq!(rt; (usize::from(lot.record()), lot.len()), (index, 0));
+    }
+    for tally in tallies {
+        assert_eq!(rt; (tally.taken(), tally.back()), (0, 0));
+    }
+}
+
+/// Where one growth is refused, whichever it is, one of two calls is out of memory, and the other makes a whole vault.
 #[test]
 fn growths_of_new(rt: HostRuntime) {
-    match Vault::new::<Any>(rt.alloc(), 64, 4, 80, 2) {
-        Ok((vault, lots, tallies)) => {
-            assert_eq!(rt; (vault.handed_out(), lots.len(), tallies.len()), (0, 4, 2))
+    let mut refused_before = false;
+    for _ in 0..2 {
+        match Vault::new::<Any>(rt.alloc(), 64, 4, 80, 2) {
+            Ok((vault, lots, tallies)) => assert_new(&rt, &vault, &lots, &tallies),
+            Err(refused) => {
+                assert_eq!(rt; refused, Refused::OutOfMemory);
+                assert!(rt; !refused_before);
+                refused_before = true;
+            }
         }
-        Err(refused) => assert_eq!(rt; refused, Refused::OutOfMemory),
     }
 }
