@@ -1,12 +1,12 @@
 //! A record's share, with the body that travels with it.
-ghost use Rattle.std.specs.Prelude.{◌≡◌, ◌++◌, IfSome, drop, replicate};
+ghost use Rattle.std.specs.Prelude.{◌≡◌, ◌++◌, IfOk, drop, replicate};
 ghost use Rattle.xh_arena.specs.Parts.{lots_from};
 ghost use Rattle.xh_arena.specs.Views.{AreLots};
 
 use crate::parts::View;
 use crate::shares::Shares;
 use atomic_table::Badge;
-use std::alloc::Global;
+use std::alloc::{AllocError, Global};
 use std::marker::Model;
 
 /// One record of a vault: its length is always the length of its record's bytes, wherever the lot lies.
@@ -72,14 +72,12 @@ pub(crate) fn lots<B: Default + Drop>(
     alloc: Global,
     shares: &mut Shares,
     records: u16,
-) -> Option<Vec<Lot<B>>>
+) -> Result<Vec<Lot<B>>, AllocError>
     requires { shares.old.parts ≡ lots_from 0 (replicate records 0) ++ drop records shares.old.parts }
-    ensures made { IfSome result (λ v. AreLots B.is_default shares.old.id records v.items) }
-    ensures rest { IfSome result (λ _. (shares.new.id ≡ shares.old.id) × (shares.new.parts ≡ drop records shares.old.parts)) }
+    ensures made { IfOk result (λ v. AreLots B.is_default shares.old.id records v.items) }
+    ensures rest { IfOk result (λ _. (shares.new.id ≡ shares.old.id) × (shares.new.parts ≡ drop records shares.old.parts)) }
 {
-    let Ok(mut all) = Vec::with_capacity(alloc, usize::from(records)) else {
-        return None;
-    };
+    let mut all = Vec::with_capacity(alloc, usize::from(records))?;
     for index in 0..records {
         let lot = Lot {
             index,
@@ -87,11 +85,9 @@ pub(crate) fn lots<B: Default + Drop>(
             body: B::default(),
             share: shares.split(),
         };
-        if all.push(lot).is_err() {
-            return None;
-        }
+        all.push(lot)?;
     }
-    Some(all)
+    Ok(all)
 }
 
 #[cfg(test)]

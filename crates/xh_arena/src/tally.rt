@@ -1,12 +1,12 @@
 //! A worker's shares of one vault.
-ghost use Rattle.std.specs.Prelude.{◌≡◌, ◌++◌, IfSome, drop, replicate};
+ghost use Rattle.std.specs.Prelude.{◌≡◌, ◌++◌, IfOk, drop, replicate};
 ghost use Rattle.xh_arena.specs.Parts.{tallies_from};
 ghost use Rattle.xh_arena.specs.Views.{AreTallies};
 
 use crate::parts::View;
 use crate::shares::Shares;
 use atomic_table::Badge;
-use std::alloc::Global;
+use std::alloc::{AllocError, Global};
 use std::marker::Model;
 
 /// What one worker has taken from a vault and given back.
@@ -47,14 +47,16 @@ impl Tally {
 }
 
 /// A tally for each of the first parts.
-pub(crate) fn tallies(alloc: Global, shares: &mut Shares, workers: u8) -> Option<Vec<Tally>>
+pub(crate) fn tallies(
+    alloc: Global,
+    shares: &mut Shares,
+    workers: u8,
+) -> Result<Vec<Tally>, AllocError>
     requires { shares.old.parts ≡ tallies_from 0 (replicate workers (0, 0)) ++ drop workers shares.old.parts }
-    ensures made { IfSome result (λ v. AreTallies shares.old.id workers v.items) }
-    ensures rest { IfSome result (λ _. (shares.new.id ≡ shares.old.id) × (shares.new.parts ≡ drop workers shares.old.parts)) }
+    ensures made { IfOk result (λ v. AreTallies shares.old.id workers v.items) }
+    ensures rest { IfOk result (λ _. (shares.new.id ≡ shares.old.id) × (shares.new.parts ≡ drop workers shares.old.parts)) }
 {
-    let Ok(mut all) = Vec::with_capacity(alloc, usize::from(workers)) else {
-        return None;
-    };
+    let mut all = Vec::with_capacity(alloc, usize::from(workers))?;
     for number in 0..workers {
         let tally = Tally {
             number,
@@ -62,9 +64,7 @@ pub(crate) fn tallies(alloc: Global, shares: &mut Shares, workers: u8) -> Option
             back: 0,
             share: shares.split(),
         };
-        if all.push(tally).is_err() {
-            return None;
-        }
+        all.push(tally)?;
     }
-    Some(all)
+    Ok(all)
 }

@@ -65,10 +65,10 @@ impl Vault {
         let Ok(mut shares) = Shares::new(alloc, records, workers) else {
             return Err(Refused::OutOfMemory);
         };
-        let Some(lots) = lots(alloc, &mut shares, records) else {
+        let Ok(lots) = lots(alloc, &mut shares, records) else {
             return Err(Refused::OutOfMemory);
         };
-        let Some(tallies) = tallies(alloc, &mut shares, workers) else {
+        let Ok(tallies) = tallies(alloc, &mut shares, workers) else {
             return Err(Refused::OutOfMemory);
         };
         Ok((Vault { arena, shares }, lots, tallies))

@@ -15,13 +15,13 @@ lots-requires g c =
 
 pub tallies-requires : goal.tallies-requires
 tallies-requires g c =
-    let past = c.in-Some.ensures.rest.1 ∙ ap (λ ps. drop c.args.records ps) c.in-Ok.ensures ∙ drop_lots c.args.records c.args.workers in
+    let past = c.in-Ok-lots.ensures.rest.1 ∙ ap (λ ps. drop c.args.records ps) c.in-Ok.ensures ∙ drop_lots c.args.records c.args.workers in
     past ∙ ap (λ ps. tallies_from 0 (replicate c.args.workers (0, 0)) ++ ps) (sym (ap (λ ps. drop c.args.workers ps) past ∙ drop_tallies c.args.records c.args.workers))
 
 pub invariant_of-result : goal.invariant_of-result
 invariant_of-result g c =
-    let past = c.in-Some.ensures.rest.1 ∙ ap (λ ps. drop c.args.records ps) c.in-Ok.ensures ∙ drop_lots c.args.records c.args.workers in
-    let left = c.in-Some-tallies.ensures.rest.1 ∙ ap (λ ps. drop c.args.workers ps) past ∙ drop_tallies c.args.records c.args.workers ∙ ap (λ p. p ∷ []) (new_books c.args.records c.args.workers) in
+    let past = c.in-Ok-lots.ensures.rest.1 ∙ ap (λ ps. drop c.args.records ps) c.in-Ok.ensures ∙ drop_lots c.args.records c.args.workers in
+    let left = c.in-Ok-tallies.ensures.rest.1 ∙ ap (λ ps. drop c.args.workers ps) past ∙ drop_tallies c.args.records c.args.workers ∙ ap (λ p. p ∷ []) (new_books c.args.records c.args.workers) in
     let made = c.in_ok-arena.ensures.fresh in
     let limits = c.in_ok-arena.ensures.limits in
     let wear = ap (λ a. a.wear) made in
@@ -36,12 +36,12 @@ invariant_of-result g c =
 
 pub returns-clause-vault : goal.returns-clause-vault
 returns-clause-vault g c =
-    let past = c.in-Some.ensures.rest.1 ∙ ap (λ ps. drop c.args.records ps) c.in-Ok.ensures ∙ drop_lots c.args.records c.args.workers in
-    let left = c.in-Some-tallies.ensures.rest.1 ∙ ap (λ ps. drop c.args.workers ps) past ∙ drop_tallies c.args.records c.args.workers ∙ ap (λ p. p ∷ []) (new_books c.args.records c.args.workers) in
+    let past = c.in-Ok-lots.ensures.rest.1 ∙ ap (λ ps. drop c.args.records ps) c.in-Ok.ensures ∙ drop_lots c.args.records c.args.workers in
+    let left = c.in-Ok-tallies.ensures.rest.1 ∙ ap (λ ps. drop c.args.workers ps) past ∙ drop_tallies c.args.records c.args.workers ∙ ap (λ p. p ∷ []) (new_books c.args.records c.args.workers) in
     let made = c.in_ok-arena.ensures.fresh in
     λ q. record { id = c.tallies.new.shares.id; arena = made q; back = back_of (left q); workers = workers_of (left q); collected = moves_of (left q) }
 
 pub returns-clause-lots : goal.returns-clause-lots
 returns-clause-lots g c =
-    let id = c.in-Some-tallies.ensures.rest.0 ∙ c.in-Some.ensures.rest.0 in
-    subst (λ (z : TableId). AreLots g.B.Default.is_default z c.args.records c.in-Some.lots.items) (sym id) c.in-Some.ensures.made
+    let id = c.in-Ok-tallies.ensures.rest.0 ∙ c.in-Ok-lots.ensures.rest.0 in
+    subst (λ (z : TableId). AreLots g.B.Default.is_default z c.args.records c.in-Ok-lots.lots.items) (sym id) c.in-Ok-lots.ensures.made
