@@ -14,7 +14,9 @@ use crate::serial::places::number;
 use crate::status::Status;
 use arrayvec::ArrayVec;
 
-/// The bytes of these records.
+/// The bytes of these records. It is kept apart from its callers so that its loop has the registers
+/// for itself.
+#[inline(never)]
 pub(super) fn total(plain: &Plain, records: &[u16]) -> u64
     requires { length records.now ≤ 2048 }
     ensures sum { result ≡ total plain.now records.now }

@@ -1,6 +1,6 @@
 //! Messages: give and take.
-ghost use Rattle.std.specs.Prelude.{◌≡◌, ◌+◌, ◌-◌, ◌*◌, ◌/◌, ◌%◌, ◌<◌, ◌≤◌, IfOk, false, length, slice_index_or, slice_set};
-ghost use Rattle.std.specs.List.{remove};
+ghost use Rattle.std.specs.Prelude.{◌≡◌, ◌==◌, ℕ, true, ◌+◌, ◌-◌, ◌*◌, ◌/◌, ◌%◌, ◌<◌, ◌≤◌, IfOk, false, length, slice_index_or, slice_set};
+ghost use Rattle.std.specs.List.{list_any, remove};
 ghost use Rattle.xh_model.specs.Store.{len};
 ghost use Rattle.xh_core.specs.Machine.{contract_of, line, no_line, peer};
 ghost use Rattle.xh_core.specs.Refusing.{toward};
@@ -47,13 +47,40 @@ fn pass_blocks(plain: &mut Plain, p: u16, d: u8, blocks: &[u16])
     }
 }
 
+/// For each low byte whether one of these records has it.
+fn low_bytes(blocks: &[u16]) -> [bool; 256]
+    ensures { (r : ℕ) → list_any (λ b. b == r) blocks.now ≡ true → slice_index_or result (r % 256) false ≡ true }
+{
+    let mut marks = [false; 256];
+    for b in blocks {
+        marks[usize::from(*b % 256)] = true;
+    }
+    marks
+}
+
+/// Whether a record is one of these, whose low bytes are marked.
+fn is_among(marks: &[bool; 256], blocks: &[u16], r: u16) -> bool
+    requires { (q : ℕ) → list_any (λ b. b == q) blocks.now ≡ true → slice_index_or marks.now (q % 256) false ≡ true }
+    ensures { result ≡ list_any (λ b. b == r) blocks.now }
+{
+    marks[usize::from(r % 256)] && blocks.contains(&r)
+}
+
 /// The list without these records.
+///
+/// Most entries are passed by their low byte alone. It is kept apart from its callers so that its
+/// loop has the registers for itself.
+#[inline(never)]
 fn unlist(list: &mut ArrayVec<u16, 2048>, blocks: &[u16])
     ensures { list.new.items ≡ without blocks.now list.old.items }
 {
+    if blocks.is_empty() {
+        return;
+    }
+    let marks = low_bytes(blocks);
     let mut kept = ArrayVec::new();
     for r in list.as_slice() {
-        if !blocks.contains(r) {
+        if !is_among(&marks, blocks, *r) {
             kept.push(*r);
         }
     }
