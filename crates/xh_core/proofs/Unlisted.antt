@@ -1,32 +1,51 @@
 -- A list without some of its records, whose low bytes are marked in a table.
-use Rattle.std.proofs.Common.{◌≡◌, ℕ, [], ◌∷◌, ◌+◌, ◌%◌, ◌<◌, List, length, take, Bool, true, false, cond, refl, sym, ap, ◌∙◌, subst, arith, inl, inr}
-use Rattle.std.specs.Prelude.{◌==◌, ◌||◌, slice_set, slice_index_or}
+use Rattle.std.proofs.Common.{◌≡◌, ℕ, [], ◌∷◌, ◌+◌, ◌%◌, ◌<◌, List, length, take, Bool, true, false, refl, sym, ap, ◌∙◌, arith, inl, inr}
+use Rattle.std.specs.Prelude.{◌==◌, ◌||◌, replicate, slice_set, slice_index_or}
 use Rattle.std.specs.List.{list_any}
-use Rattle.std.proofs.lemmas.Bool.{cases_eq, cases_Bool, eq-eqb, ne_eqb, eqb-true}
+use Rattle.std.proofs.lemmas.Bool.{cases_eq, cases_Bool, false≢true, eq-eqb, ne_eqb, eqb-true}
+use Rattle.std.proofs.lemmas.List.{get_or-replicate}
 use Rattle.std.proofs.lemmas.List.Folds.{list_any_more}
-use Rattle.xh_core.specs.MessageCommands.{without}
+use Rattle.xh_core.specs.MessageCommands.{AreMarked, without}
 use Rattle.xh_core.proofs.Stores.{at_set}
 
-abbrev pub AreMarked : List Bool → List ℕ → Type 0
-AreMarked marks bs = (r : ℕ) → list_any (λ b. b == r) bs ≡ true → slice_index_or marks (r % 256) false ≡ true
+right_of_or : (a b : Bool) → b ≡ true → (a || b) ≡ true
+right_of_or true b h = refl
+right_of_or false b h = h
 
-left_of_or : (a b : Bool) → b ≡ false → (a || b) ≡ true → a ≡ true
-left_of_or true b f h = refl
-left_of_or false b f h = sym f ∙ h
+left_of_or : (a b : Bool) → b ≡ false → (a || b) ≡ a
+left_of_or true b h = refl
+left_of_or false b h = h
 
 -- one more of the records is marked
 pub marked_more : (marks : List Bool) (bs : List ℕ) (i at : ℕ) → length marks ≡ 256 → i < length bs → at ≡ slice_index_or bs i 0 % 256 → AreMarked marks (take i bs) → AreMarked (slice_set marks at true) (take (i + 1) bs)
-marked_more marks bs i at long l is h r any =
+marked_more marks bs i at long l is h k small =
     let within : at < length marks = omega (arith, is, long) in
-    let set : slice_index_or (slice_set marks at true) (r % 256) false ≡ cond ((r % 256) == at) true (slice_index_or marks (r % 256) false) = at_set marks at (r % 256) true false within in
-    elim (cases_eq (r % 256) at) [
-      | inl e ↦ set ∙ rw (eq-eqb (r % 256) at e) refl
-      | inr n ↦ elim (cases_Bool (slice_index_or bs i 0 == r)) [
-        | inl y ↦ absurd (n (sym (is ∙ ap (λ (x : ℕ). x % 256) (eqb-true (slice_index_or bs i 0) r y))))
-        | inr f ↦ (let before : list_any (λ b. b == r) (take i bs) ≡ true = left_of_or (list_any (λ b. b == r) (take i bs)) (slice_index_or bs i 0 == r) f (sym (list_any_more (λ b. b == r) bs i 0 l) ∙ any) in
-            set ∙ rw (ne_eqb (r % 256) at n) (h r before))
-      ]
+    let more : list_any (λ b. (b % 256) == k) (take (i + 1) bs) ≡ (list_any (λ b. (b % 256) == k) (take i bs) || ((slice_index_or bs i 0 % 256) == k)) = list_any_more (λ b. (b % 256) == k) bs i 0 l in
+    elim (cases_eq k at) [
+      | inl e ↦ at_set marks at k true false within ∙ (rw (eq-eqb k at e) refl
+          ∙ sym (more ∙ right_of_or (list_any (λ b. (b % 256) == k) (take i bs)) ((slice_index_or bs i 0 % 256) == k) (eq-eqb (slice_index_or bs i 0 % 256) k (sym is ∙ sym e))))
+      | inr n ↦ at_set marks at k true false within ∙ (rw (ne_eqb k at n) (h k small)
+          ∙ sym (more ∙ left_of_or (list_any (λ b. (b % 256) == k) (take i bs)) ((slice_index_or bs i 0 % 256) == k) (ne_eqb (slice_index_or bs i 0 % 256) k (λ f. n (sym (is ∙ f))))))
     ]
+
+-- a table without a mark
+pub none_marked : AreMarked (replicate 256 false) []
+none_marked k small = get_or-replicate 256 k false false small
+
+-- the low byte of one of the records is one of theirs
+same_byte : (r : ℕ) (bs : List ℕ) → list_any (λ b. b == r) bs ≡ true → list_any (λ b. (b % 256) == (r % 256)) bs ≡ true
+same_byte r [] h = h
+same_byte r (b ∷ bs) h = elim (cases_Bool (b == r)) [
+  | inl y ↦ rw (eq-eqb (b % 256) (r % 256) (ap (λ (x : ℕ). x % 256) (eqb-true b r y))) refl
+  | inr f ↦ right_of_or ((b % 256) == (r % 256)) (list_any (λ x. (x % 256) == (r % 256)) bs) (same_byte r bs (rw f at h))
+]
+
+-- a record whose low byte is not marked is none of them
+pub unmarked : (marks : List Bool) (bs : List ℕ) (r : ℕ) → AreMarked marks bs → slice_index_or marks (r % 256) false ≡ false → list_any (λ b. b == r) bs ≡ false
+unmarked marks bs r h n = elim (cases_Bool (list_any (λ b. b == r) bs)) [
+  | inl y ↦ absurd (false≢true (sym n ∙ (h (r % 256) (omega arith) ∙ same_byte r bs y)))
+  | inr f ↦ f
+]
 
 without_none : (rs : List ℕ) → rs ≡ without [] rs
 without_none [] = refl

@@ -65,6 +65,10 @@ pass_all p d (r ∷ rs) s = pass_all p d rs (after (Pass p r d) s)
 abbrev pub without : List ℕ → List ℕ → List ℕ
 without bs rs = filter (λ r. not (list_any (λ b. b == r) bs)) rs
 
+-- by low byte, whether one of the records has it
+abbrev pub AreMarked : List Bool → List ℕ → Type 0
+AreMarked marks bs = (k : ℕ) → k < 256 → slice_index_or marks k false ≡ list_any (λ b. (b % 256) == k) bs
+
 -- the end that puts a message is in its contract's next state
 abbrev pub told_line : Option (List Row) → ℕ → ℕ → Line → Line
 told_line contract side tag l = record l { state = next_state contract side l.state tag }

@@ -124,3 +124,6 @@ impl Serial {
         Ok(self.sweep(p, from, 4_096))
     }
 }
+
+#[cfg(test)]
+mod tests;

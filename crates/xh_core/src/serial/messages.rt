@@ -1,10 +1,10 @@
 //! Messages: give and take.
-ghost use Rattle.std.specs.Prelude.{◌≡◌, ◌==◌, ℕ, true, ◌+◌, ◌-◌, ◌*◌, ◌/◌, ◌%◌, ◌<◌, ◌≤◌, IfOk, false, length, slice_index_or, slice_set};
+ghost use Rattle.std.specs.Prelude.{◌≡◌, ◌==◌, ◌+◌, ◌-◌, ◌*◌, ◌/◌, ◌%◌, ◌<◌, ◌≤◌, IfOk, false, length, slice_index_or, slice_set};
 ghost use Rattle.std.specs.List.{list_any, remove};
 ghost use Rattle.xh_model.specs.Store.{len};
 ghost use Rattle.xh_core.specs.Machine.{contract_of, line, no_line, peer};
 ghost use Rattle.xh_core.specs.Refusing.{toward};
-ghost use Rattle.xh_core.specs.MessageCommands.{AreOrderly, described, give, is_banned, no_message, pass_all, put_line, take, taken_line, told_line, without, LAST};
+ghost use Rattle.xh_core.specs.MessageCommands.{AreMarked, AreOrderly, described, give, is_banned, no_message, pass_all, put_line, take, taken_line, told_line, without, LAST};
 
 use crate::block::Block;
 use crate::contract::Contract;
@@ -49,7 +49,7 @@ fn pass_blocks(plain: &mut Plain, p: u16, d: u8, blocks: &[u16])
 
 /// For each low byte whether one of these records has it.
 fn low_bytes(blocks: &[u16]) -> [bool; 256]
-    ensures { (r : ℕ) → list_any (λ b. b == r) blocks.now ≡ true → slice_index_or result (r % 256) false ≡ true }
+    ensures { AreMarked result blocks.now }
 {
     let mut marks = [false; 256];
     for b in blocks {
@@ -60,7 +60,7 @@ fn low_bytes(blocks: &[u16]) -> [bool; 256]
 
 /// Whether a record is one of these, whose low bytes are marked.
 fn is_among(marks: &[bool; 256], blocks: &[u16], r: u16) -> bool
-    requires { (q : ℕ) → list_any (λ b. b == q) blocks.now ≡ true → slice_index_or marks.now (q % 256) false ≡ true }
+    requires { AreMarked marks.now blocks.now }
     ensures { result ≡ list_any (λ b. b == r) blocks.now }
 {
     marks[usize::from(r % 256)] && blocks.contains(&r)
@@ -207,3 +207,6 @@ impl Serial {
         self.take(p, e)
     }
 }
+
+#[cfg(test)]
+mod tests;

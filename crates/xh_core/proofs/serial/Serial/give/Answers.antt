@@ -9,90 +9,72 @@ use Rattle.xh_core.specs.Refusing.{toward}
 use Rattle.xh_core.specs.MessageCommands.{MayGive, give, given, told_line, put_line, pass_all, without}
 use Rattle.xh_core.proofs.Machines.{peer_ne}
 use Rattle.xh_core.proofs.Giving.{given_whole}
-use Rattle.xh_core.specs.MessageCommands.{AreOrderly}
 use Rattle.xh_core.proofs.Wired.{wired_orderly}
 use Rattle.xh_core.proofs.serial.Serial.give.Goals as goal
 
-pub invariant_of-self : goal.invariant_of-self
+-- ---- the machine before and after
+
+abbrev was : goal.After-put → Machine
+was c = record { store = c.self.inside.plain; ends = c.self.inside.ends.items; buffers = c.self.inside.buffers.items; places = c.self.inside.places.items; lines = c.self.inside.lines.items; contracts = c.self.inside.contracts.items; opened = c.self.inside.opened; depth = c.self.inside.depth }
+
+abbrev is : goal.After-put → Machine
+is c = record { store = c.pass_blocks.new.plain; ends = c.self.inside.ends.items; buffers = c.self.inside.buffers.items; places = slice_set c.self.inside.places.items c.from.result (record { blocks = c.unlist.new.list; status = c.index_mut-place.result.now.status; generation = c.index_mut-place.result.now.generation }); lines = c.put.new.lines.items; contracts = c.self.inside.contracts.items; opened = c.self.inside.opened; depth = c.self.inside.depth }
+
+abbrev own : goal.After-put → ℕ
+own c = toward (was c) c.args.e
+
+may_there : (c : goal.After-put) → MayGive (was c) c.args.p c.args.e c.args.tag c.args.blocks.now c.in_ok-own.own
+may_there c = subst (λ (x : Machine). MayGive x c.args.p c.args.e c.args.tag c.args.blocks.now c.in_ok-own.own) (sym c.self.view_is) c.in_ok-own.ensures.1
+
+at : (c : goal.After-put) → own c ≡ c.in_ok-own.own
+at c = ap (λ o. unwrap_or o 128) (may_there c).toward
+
+may : (c : goal.After-put) → MayGive (was c) c.args.p c.args.e c.args.tag c.args.blocks.now (own c)
+may c = subst (MayGive (was c) c.args.p c.args.e c.args.tag c.args.blocks.now) (sym (at c)) (may_there c)
+
+to : (c : goal.After-put) → c.peer-to.result ≡ peer (own c)
+to c = c.peer-to.ensures.is ∙ ap peer (sym (at c))
+
+abbrev told : goal.After-put → Line
+told c = told_line (contract_of (was c).contracts (own c)) (own c % 2) c.args.tag (line (was c) (own c))
+
+tell : (c : goal.After-put) → c.tell.new.lines.items ≡ slice_set (was c).lines (own c) (told c)
+tell c = c.tell.ensures ∙ (λ i. slice_set (was c).lines (sym (at c) i) (told_line (contract_of (c.deref.ensures.value i) (sym (at c) i)) (sym (at c) i % 2) c.args.tag (line (was c) (sym (at c) i))))
+
+other : (c : goal.After-put) → slice_index_or (slice_set (was c).lines (own c) (told c)) (peer (own c)) no_line ≡ line (was c) (peer (own c))
+other c = get_or-set_other (was c).lines (own c) (peer (own c)) (told c) no_line (peer_ne (own c))
+
+-- it is the one after the command
+made : (c : goal.After-put) → is c ≡ given c.args.p c.args.e c.args.tag c.args.blocks.now (was c)
 unfolding given
-invariant_of-self c =
-    let m : Machine = record { store = c.self.inside.plain; ends = c.self.inside.ends.items; buffers = c.self.inside.buffers.items; places = c.self.inside.places.items; lines = c.self.inside.lines.items; contracts = c.self.inside.contracts.items; opened = c.self.inside.opened; depth = c.self.inside.depth } in
-    let w : IsWhole m = c.self.invariant in
-    let may : MayGive m c.args.p c.args.e c.args.tag c.args.blocks.now c.in_ok-own.own = subst (λ (x : Machine). MayGive x c.args.p c.args.e c.args.tag c.args.blocks.now c.in_ok-own.own) (sym c.self.view_is) c.in_ok-own.ensures.1 in
-    let at : toward m c.args.e ≡ c.in_ok-own.own = ap (λ o. unwrap_or o 128) may.toward in
-    let g : MayGive m c.args.p c.args.e c.args.tag c.args.blocks.now (toward m c.args.e) = subst (MayGive m c.args.p c.args.e c.args.tag c.args.blocks.now) (sym at) may in
-    let own : ℕ = toward m c.args.e in
-    let to : c.peer-to.result ≡ peer own = c.peer-to.ensures.is ∙ ap peer (sym at) in
-    let within : c.args.p % 32 < length c.self.inside.places.items = place_there m c.args.p w in
-    let pl : c.index_mut-place.result.now ≡ place m c.args.p = read_at c.self.inside.places.items c.from.result (c.args.p % 32) c.index_mut-place.result.now no_place within c.from.ensures c.index_mut-place.ensures.value in
-    let list : c.index_mut-place.result.now.blocks.items ≡ blocks m c.args.p = ap (λ (x : Place). x.blocks.items) pl ∙ sym (current_blocks m c.args.p g.runs.0) in
-    let store : c.pass_blocks.new.plain ≡ pass_all c.args.p (peer own) c.args.blocks.now m.store = c.pass_blocks.ensures ∙ ap (λ d. pass_all c.args.p d c.args.blocks.now c.self.inside.plain) to in
-    let items : c.unlist.new.list.items ≡ without c.args.blocks.now (blocks m c.args.p) = c.unlist.ensures ∙ ap (without c.args.blocks.now) list in
-    let z : Line = told_line (contract_of m.contracts own) (own % 2) c.args.tag (line m own) in
-    let tell : c.tell.new.lines.items ≡ slice_set m.lines own z = c.tell.ensures ∙ (λ i. slice_set m.lines (sym at i) (told_line (contract_of (c.deref.ensures.value i) (sym at i)) (sym at i % 2) c.args.tag (line m (sym at i)))) in
-    let other : slice_index_or (slice_set m.lines own z) (peer own) no_line ≡ line m (peer own) = get_or-set_other m.lines own (peer own) z no_line (peer_ne own) in
-    let lines : c.put.new.lines.items ≡ slice_set (slice_set m.lines own z) (peer own) (put_line c.args.tag c.args.blocks.now (line m (peer own))) =
-    c.put.ensures.line ∙ ((λ i. slice_set (tell i) (to i) (put_line c.args.tag c.args.blocks.now (slice_index_or (tell i) (to i) no_line))) ∙ ap (λ (y : Line). slice_set (slice_set m.lines own z) (peer own) (put_line c.args.tag c.args.blocks.now y)) other) in
-    let n : Machine = record { store = c.pass_blocks.new.plain; ends = c.self.inside.ends.items; buffers = c.self.inside.buffers.items; places = slice_set c.self.inside.places.items c.from.result (record { blocks = c.unlist.new.list; status = c.index_mut-place.result.now.status; generation = c.index_mut-place.result.now.generation }); lines = c.put.new.lines.items; contracts = c.self.inside.contracts.items; opened = c.self.inside.opened; depth = c.self.inside.depth } in
-    let same : n ≡ given c.args.p c.args.e c.args.tag c.args.blocks.now m = same_machine n (given c.args.p c.args.e c.args.tag c.args.blocks.now m) store refl refl
-    (λ i. slice_set c.self.inside.places.items (c.from.ensures i) (record { blocks = record { items = items i }; status = (pl i).status; generation = (pl i).generation }))
-    lines refl refl refl in
-    subst IsWhole (sym same) (given_whole m c.args.p c.args.e c.args.tag c.args.blocks.now w g)
+made c =
+    let within : c.args.p % 32 < length c.self.inside.places.items = place_there (was c) c.args.p c.self.invariant in
+    let place_is : c.index_mut-place.result.now ≡ place (was c) c.args.p = read_at c.self.inside.places.items c.from.result (c.args.p % 32) c.index_mut-place.result.now no_place within c.from.ensures c.index_mut-place.ensures.value in
+    let list : c.index_mut-place.result.now.blocks.items ≡ blocks (was c) c.args.p = ap (λ (x : Place). x.blocks.items) place_is ∙ sym (current_blocks (was c) c.args.p (may c).runs.0) in
+    let store : c.pass_blocks.new.plain ≡ pass_all c.args.p (peer (own c)) c.args.blocks.now (was c).store = c.pass_blocks.ensures ∙ ap (λ d. pass_all c.args.p d c.args.blocks.now c.self.inside.plain) (to c) in
+    let items : c.unlist.new.list.items ≡ without c.args.blocks.now (blocks (was c) c.args.p) = c.unlist.ensures ∙ ap (without c.args.blocks.now) list in
+    let lines : c.put.new.lines.items ≡ slice_set (slice_set (was c).lines (own c) (told c)) (peer (own c)) (put_line c.args.tag c.args.blocks.now (line (was c) (peer (own c)))) =
+    c.put.ensures.line ∙ ((λ i. slice_set (tell c i) (to c i) (put_line c.args.tag c.args.blocks.now (slice_index_or (tell c i) (to c i) no_line))) ∙ ap (λ (y : Line). slice_set (slice_set (was c).lines (own c) (told c)) (peer (own c)) (put_line c.args.tag c.args.blocks.now y)) (other c)) in
+    same_machine (is c) (given c.args.p c.args.e c.args.tag c.args.blocks.now (was c)) store refl refl
+    (λ i. slice_set c.self.inside.places.items (c.from.ensures i) (record { blocks = record { items = items i }; status = (place_is i).status; generation = (place_is i).generation }))
+    lines refl refl refl
+
+whole : (c : goal.After-put) → IsWhole (is c)
+whole c = subst IsWhole (sym (made c)) (given_whole (was c) c.args.p c.args.e c.args.tag c.args.blocks.now c.self.invariant (may c))
+
+pub invariant_of-self : goal.invariant_of-self
+invariant_of-self c = whole c
 
 pub returns-clause-is : goal.returns-clause-is
 unfolding give given
 returns-clause-is c =
-    let m : Machine = record { store = c.self.inside.plain; ends = c.self.inside.ends.items; buffers = c.self.inside.buffers.items; places = c.self.inside.places.items; lines = c.self.inside.lines.items; contracts = c.self.inside.contracts.items; opened = c.self.inside.opened; depth = c.self.inside.depth } in
-    let w : IsWhole m = c.self.invariant in
-    let may : MayGive m c.args.p c.args.e c.args.tag c.args.blocks.now c.in_ok-own.own = subst (λ (x : Machine). MayGive x c.args.p c.args.e c.args.tag c.args.blocks.now c.in_ok-own.own) (sym c.self.view_is) c.in_ok-own.ensures.1 in
-    let at : toward m c.args.e ≡ c.in_ok-own.own = ap (λ o. unwrap_or o 128) may.toward in
-    let g : MayGive m c.args.p c.args.e c.args.tag c.args.blocks.now (toward m c.args.e) = subst (MayGive m c.args.p c.args.e c.args.tag c.args.blocks.now) (sym at) may in
-    let own : ℕ = toward m c.args.e in
-    let to : c.peer-to.result ≡ peer own = c.peer-to.ensures.is ∙ ap peer (sym at) in
-    let within : c.args.p % 32 < length c.self.inside.places.items = place_there m c.args.p w in
-    let pl : c.index_mut-place.result.now ≡ place m c.args.p = read_at c.self.inside.places.items c.from.result (c.args.p % 32) c.index_mut-place.result.now no_place within c.from.ensures c.index_mut-place.ensures.value in
-    let list : c.index_mut-place.result.now.blocks.items ≡ blocks m c.args.p = ap (λ (x : Place). x.blocks.items) pl ∙ sym (current_blocks m c.args.p g.runs.0) in
-    let store : c.pass_blocks.new.plain ≡ pass_all c.args.p (peer own) c.args.blocks.now m.store = c.pass_blocks.ensures ∙ ap (λ d. pass_all c.args.p d c.args.blocks.now c.self.inside.plain) to in
-    let items : c.unlist.new.list.items ≡ without c.args.blocks.now (blocks m c.args.p) = c.unlist.ensures ∙ ap (without c.args.blocks.now) list in
-    let z : Line = told_line (contract_of m.contracts own) (own % 2) c.args.tag (line m own) in
-    let tell : c.tell.new.lines.items ≡ slice_set m.lines own z = c.tell.ensures ∙ (λ i. slice_set m.lines (sym at i) (told_line (contract_of (c.deref.ensures.value i) (sym at i)) (sym at i % 2) c.args.tag (line m (sym at i)))) in
-    let other : slice_index_or (slice_set m.lines own z) (peer own) no_line ≡ line m (peer own) = get_or-set_other m.lines own (peer own) z no_line (peer_ne own) in
-    let lines : c.put.new.lines.items ≡ slice_set (slice_set m.lines own z) (peer own) (put_line c.args.tag c.args.blocks.now (line m (peer own))) =
-    c.put.ensures.line ∙ ((λ i. slice_set (tell i) (to i) (put_line c.args.tag c.args.blocks.now (slice_index_or (tell i) (to i) no_line))) ∙ ap (λ (y : Line). slice_set (slice_set m.lines own z) (peer own) (put_line c.args.tag c.args.blocks.now y)) other) in
-    let n : Machine = record { store = c.pass_blocks.new.plain; ends = c.self.inside.ends.items; buffers = c.self.inside.buffers.items; places = slice_set c.self.inside.places.items c.from.result (record { blocks = c.unlist.new.list; status = c.index_mut-place.result.now.status; generation = c.index_mut-place.result.now.generation }); lines = c.put.new.lines.items; contracts = c.self.inside.contracts.items; opened = c.self.inside.opened; depth = c.self.inside.depth } in
-    let same : n ≡ given c.args.p c.args.e c.args.tag c.args.blocks.now m = same_machine n (given c.args.p c.args.e c.args.tag c.args.blocks.now m) store refl refl
-    (λ i. slice_set c.self.inside.places.items (c.from.ensures i) (record { blocks = record { items = items i }; status = (pl i).status; generation = (pl i).generation }))
-    lines refl refl refl in
-    let no : c.put.result ≡ (line m (peer own)).put + 1 = c.put.ensures.number ∙ ((λ i. (slice_index_or (tell i) (to i) no_line).put + 1) ∙ ap (λ (y : Line). y.put + 1) other) in
+    let no : c.put.result ≡ (line (was c) (peer (own c))).put + 1 = c.put.ensures.number ∙ ((λ i. (slice_index_or (tell c i) (to c i) no_line).put + 1) ∙ ap (λ (y : Line). y.put + 1) (other c)) in
     let answer : (line c.args.self.now (peer (toward c.args.self.now c.args.e))).put + 1 ≡ c.put.result = sym (no ∙ ap (λ (x : Machine). (line x (peer (toward x c.args.e))).put + 1) c.self.view_is) in
-    let left : given c.args.p c.args.e c.args.tag c.args.blocks.now c.args.self.now ≡ n = sym (same ∙ ap (given c.args.p c.args.e c.args.tag c.args.blocks.now) c.self.view_is) in
+    let left : given c.args.p c.args.e c.args.tag c.args.blocks.now c.args.self.now ≡ is c = sym (made c ∙ ap (given c.args.p c.args.e c.args.tag c.args.blocks.now) c.self.view_is) in
     rw (c.in_ok-own.ensures.0) (λ i. (Ok (answer i), left i))
 
 pub returns-clause-orderly : goal.returns-clause-orderly
-unfolding given
-returns-clause-orderly c =
-    let m : Machine = record { store = c.self.inside.plain; ends = c.self.inside.ends.items; buffers = c.self.inside.buffers.items; places = c.self.inside.places.items; lines = c.self.inside.lines.items; contracts = c.self.inside.contracts.items; opened = c.self.inside.opened; depth = c.self.inside.depth } in
-    let w : IsWhole m = c.self.invariant in
-    let may : MayGive m c.args.p c.args.e c.args.tag c.args.blocks.now c.in_ok-own.own = subst (λ (x : Machine). MayGive x c.args.p c.args.e c.args.tag c.args.blocks.now c.in_ok-own.own) (sym c.self.view_is) c.in_ok-own.ensures.1 in
-    let at : toward m c.args.e ≡ c.in_ok-own.own = ap (λ o. unwrap_or o 128) may.toward in
-    let g : MayGive m c.args.p c.args.e c.args.tag c.args.blocks.now (toward m c.args.e) = subst (MayGive m c.args.p c.args.e c.args.tag c.args.blocks.now) (sym at) may in
-    let own : ℕ = toward m c.args.e in
-    let to : c.peer-to.result ≡ peer own = c.peer-to.ensures.is ∙ ap peer (sym at) in
-    let within : c.args.p % 32 < length c.self.inside.places.items = place_there m c.args.p w in
-    let pl : c.index_mut-place.result.now ≡ place m c.args.p = read_at c.self.inside.places.items c.from.result (c.args.p % 32) c.index_mut-place.result.now no_place within c.from.ensures c.index_mut-place.ensures.value in
-    let list : c.index_mut-place.result.now.blocks.items ≡ blocks m c.args.p = ap (λ (x : Place). x.blocks.items) pl ∙ sym (current_blocks m c.args.p g.runs.0) in
-    let store : c.pass_blocks.new.plain ≡ pass_all c.args.p (peer own) c.args.blocks.now m.store = c.pass_blocks.ensures ∙ ap (λ d. pass_all c.args.p d c.args.blocks.now c.self.inside.plain) to in
-    let items : c.unlist.new.list.items ≡ without c.args.blocks.now (blocks m c.args.p) = c.unlist.ensures ∙ ap (without c.args.blocks.now) list in
-    let z : Line = told_line (contract_of m.contracts own) (own % 2) c.args.tag (line m own) in
-    let tell : c.tell.new.lines.items ≡ slice_set m.lines own z = c.tell.ensures ∙ (λ i. slice_set m.lines (sym at i) (told_line (contract_of (c.deref.ensures.value i) (sym at i)) (sym at i % 2) c.args.tag (line m (sym at i)))) in
-    let other : slice_index_or (slice_set m.lines own z) (peer own) no_line ≡ line m (peer own) = get_or-set_other m.lines own (peer own) z no_line (peer_ne own) in
-    let lines : c.put.new.lines.items ≡ slice_set (slice_set m.lines own z) (peer own) (put_line c.args.tag c.args.blocks.now (line m (peer own))) =
-    c.put.ensures.line ∙ ((λ i. slice_set (tell i) (to i) (put_line c.args.tag c.args.blocks.now (slice_index_or (tell i) (to i) no_line))) ∙ ap (λ (y : Line). slice_set (slice_set m.lines own z) (peer own) (put_line c.args.tag c.args.blocks.now y)) other) in
-    let n : Machine = record { store = c.pass_blocks.new.plain; ends = c.self.inside.ends.items; buffers = c.self.inside.buffers.items; places = slice_set c.self.inside.places.items c.from.result (record { blocks = c.unlist.new.list; status = c.index_mut-place.result.now.status; generation = c.index_mut-place.result.now.generation }); lines = c.put.new.lines.items; contracts = c.self.inside.contracts.items; opened = c.self.inside.opened; depth = c.self.inside.depth } in
-    let same : n ≡ given c.args.p c.args.e c.args.tag c.args.blocks.now m = same_machine n (given c.args.p c.args.e c.args.tag c.args.blocks.now m) store refl refl
-    (λ i. slice_set c.self.inside.places.items (c.from.ensures i) (record { blocks = record { items = items i }; status = (pl i).status; generation = (pl i).generation }))
-    lines refl refl refl in
-    subst AreOrderly (sym same) (wired_orderly (given c.args.p c.args.e c.args.tag c.args.blocks.now m) (given_whole m c.args.p c.args.e c.args.tag c.args.blocks.now w g).wired)
+returns-clause-orderly c = wired_orderly (is c) (whole c).wired
 
 pub returns-in_err-own-clause-orderly : goal.returns-in_err-own-clause-orderly
 returns-in_err-own-clause-orderly c =

@@ -1,7 +1,11 @@
-use Rattle.std.proofs.Common.{◌∙◌, subst, true}
+use Rattle.std.proofs.Common.{◌∙◌, refl, subst, true}
 use Rattle.std.proofs.lemmas.List.{length-set, take_all}
-use Rattle.xh_core.proofs.Unlisted.{AreMarked, marked_more}
+use Rattle.xh_core.specs.MessageCommands.{AreMarked}
+use Rattle.xh_core.proofs.Unlisted.{marked_more, none_marked}
 use Rattle.xh_core.proofs.serial.messages.low_bytes.Goals as goal
+
+pub loop-b-init : goal.loop-b-init
+loop-b-init c = record { marked = none_marked; long = refl }
 
 pub loop-b-preserved : goal.loop-b-preserved
 loop-b-preserved c = record {

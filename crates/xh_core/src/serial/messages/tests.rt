@@ -1,0 +1,74 @@
+//! Messages by calls: what goes along, and what a refusal hands back.
+use crate::message::Taken;
+use crate::refused::Refused;
+use crate::serial::Serial;
+use std::alloc::Global;
+use std::process::Abort;
+use xh_model::Config;
+
+/// The processes 0 and 1 hold the ends 0 and 1 of a channel in which one message may wait, and 0
+/// holds the block 2, of 16 bytes.
+fn wired(rt: &impl Abort, alloc: Global) -> Serial {
+    let config = Config {
+        arenas: 1,
+        bytes: 256,
+        records: 256,
+        depth: 1,
+        wear: 1_000,
+    };
+    let mut heap = Serial::new(alloc, config).expect(rt, "room");
+    assert_eq!(rt; heap.spawn().ok(), Some(0));
+    assert_eq!(rt; heap.spawn().ok(), Some(1));
+    assert!(rt; heap.wire(0, 1, 0).is_ok());
+    assert_eq!(rt;
+        heap.alloc(alloc, 0, 16, 0).ok().map(|block| block.rec),
+        Some(2)
+    );
+    heap
+}
+
+/// The number of a message, or that of the refusal.
+fn put(answer: Result<u64, Refused>) -> Result<u64, u8> {
+    answer.map_err(|refused| refused.number())
+}
+
+/// The number, the tag and how many blocks came, or the number of the refusal.
+fn told(answer: Result<Taken, Refused>) -> Result<(u64, u16, usize), u8> {
+    match answer {
+        Ok(taken) => Ok((taken.no, taken.tag, taken.blocks.len())),
+        Err(refused) => Err(refused.number()),
+    }
+}
+
+#[test]
+fn a_block_goes_along(rt: HostRuntime) {
+    let mut heap = wired(&rt, rt.alloc());
+    assert_eq!(rt; put(heap.give(0, 0, 7, &[2])), Ok(1));
+    assert!(rt; matches!(heap.free(0, 2), Err(Refused::NotOwned)));
+    let taken = heap.take(1, 1).expect(&rt, "a message");
+    assert_eq!(rt; (taken.no, taken.tag, taken.blocks.len()), (1, 7, 1));
+    for block in taken.blocks.as_slice() {
+        assert_eq!(rt; (block.rec, block.len), (2, 16));
+    }
+    assert_eq!(rt; heap.free(1, 2).ok(), Some(16));
+}
+
+#[test]
+fn a_message_that_waits_is_there_at_once(rt: HostRuntime) {
+    let mut heap = wired(&rt, rt.alloc());
+    assert_eq!(rt; put(heap.give(0, 0, 8, &[2])), Ok(1));
+    assert_eq!(rt; told(heap.take_wait(1, 1)), Ok((1, 8, 1)));
+    assert_eq!(rt; told(heap.take_wait(1, 1)), Err(16));
+    assert_eq!(rt; told(heap.take(0, 0)), Err(16));
+}
+
+#[test]
+fn a_full_direction_hands_back(rt: HostRuntime) {
+    let mut heap = wired(&rt, rt.alloc());
+    assert_eq!(rt; put(heap.give(0, 0, 0, &[])), Ok(1));
+    assert!(rt;
+        matches!(heap.give(0, 0, 0, &[2]), Err(Refused::Full { back }) if back.as_slice() == [2].as_slice())
+    );
+    assert_eq!(rt; told(heap.take(1, 1)), Ok((1, 0, 0)));
+    assert_eq!(rt; put(heap.give(0, 0, 0, &[2])), Ok(2));
+}
