@@ -1,9 +1,7 @@
 //! Worked examples: a record goes its round, two threads claim, and what is refused.
-ghost use Rattle.std.specs.Prelude.{◌≡◌, ◌≢◌, ℕ, ◌+◌, ◌<◌, ◌≤◌, ◌%◌, [], ◌∷◌, ◌++◌, length, IfSome, OnOk, OnErr, IfErr, IfOk, Some};
+ghost use Rattle.std.specs.Prelude.{◌≡◌, ◌<◌, ◌≤◌, [], ◌∷◌, length, IfSome, IfOk};
 ghost use Rattle.xh_model.specs.Words.{place_of};
-ghost use Rattle.xh_arena.specs.Views.{LotOf};
-ghost use Rattle.xh_records.specs.Showing.{IsLotOf, without};
-ghost use Rattle.xh_records.specs.Seats.{Held, IsRecord, IsSeatOf, lot_at, put, with_lots};
+ghost use Rattle.xh_records.specs.Seats.{IsSeatOf};
 
 mod rounds;
 mod threads;
@@ -11,7 +9,6 @@ mod threads;
 use crate::{OwnerWord, Records, Refused, Seat};
 use std::alloc::Global;
 use std::collections::LinkedList;
-use std::test::Fail;
 use xh_arena::{Fits, Lot, Tally, Vault};
 
 /// It fits each length.
@@ -44,6 +41,7 @@ struct Bench {
     ghost tally_of: { tally.id ≡ vault.id },
 }
 
+/// The bench of a new vault, unless a growth was refused.
 fn make_bench(alloc: Global, size: u32, count: u16, wear: u64) -> Option<Bench>
     requires { (0 < count) × (count ≤ 256) }
     ensures { IfSome result (λ b. b.records.shape.records ≡ count) }

@@ -1,15 +1,16 @@
 // A record that is claimed, carved, passed, accepted, given back and vacated.
-ghost use Rattle.std.specs.Prelude.{◌≡◌, ◌≢◌, ℕ, ◌+◌, ◌<◌, ◌≤◌, ◌%◌, [], ◌∷◌, ◌++◌, length, IfSome, OnOk, OnErr, IfErr, Some};
+ghost use Rattle.std.specs.Prelude.{◌≡◌, ◌<◌, [], ◌∷◌, IfSome, Some};
 ghost use Rattle.xh_arena.specs.Views.{LotOf};
-ghost use Rattle.xh_records.specs.Showing.{IsLotOf, without};
-ghost use Rattle.xh_records.specs.Seats.{Held, IsRecord, IsSeatOf, lot_at, put, with_lots};
+ghost use Rattle.xh_records.specs.Showing.{IsLotOf};
+ghost use Rattle.xh_records.specs.Seats.{IsRecord, IsSeatOf, lot_at, put, with_lots};
 
 use super::{Any, Bench, close_both, make_bench};
-use crate::{OwnerWord, Records, Refused, Seat};
+use crate::{Records, Refused, Seat};
 use std::process::Abort;
 use std::test::Fail;
 use xh_arena::{Lot, Tally, Vault};
 
+/// Carves 32 bytes for the record.
 fn carve_at(
     records: &Records<Any>,
     seat: &mut Seat<Any>,
@@ -30,6 +31,7 @@ fn carve_at(
     )
 }
 
+/// Gives the record's bytes back.
 fn give_back_at(
     records: &Records<Any>,
     seat: &mut Seat<Any>,
