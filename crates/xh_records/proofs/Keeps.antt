@@ -16,7 +16,7 @@ use Rattle.xh_model.specs.declared.event.Holder.{Holder}
 use Rattle.xh_model.specs.declared.event.Holder.TheVariants.{Process, Direction}
 use Rattle.xh_model.specs.Words.{Ownership, IsHeldBy, IsHolder, word_of, place_of}
 use Rattle.xh_model.proofs.Words.{word_injective}
-use Rattle.xh_records.specs.Steps.{took, gave, looked, aged, process_in}
+use Rattle.xh_records.specs.Steps.{Knows, took, gave, looked, aged, process_in}
 use prog.Atomic.{either}
 use Rattle.xh_records.specs.Showing.{Among, Sits, Owns, IsLotAt, IsAway, IsHomeLot, HomeFits, ViewFits, Shows, Shown, gained, lost, renewed, without}
 
@@ -206,6 +206,16 @@ module _ {B : Type 0} (fits : B → ℕ → Bool) (s : Shape) where
   stays : (t : State S View) (id : ℕ) (me : M) (r : ℕ) (n : ℕ) → Shown fits s t → get_elem? t.views id ≡ some me.0 → get_elem? t.words r ≡ some n → Shown fits s (stepped t r n id me.1 me.0 keeps)
   stays t id me r n holds here word = (holds.0, subst (λ (z : List ℕ × List View). Shows fits s holds.0 z.0 t.homes z.1) (λ i. (sym (set_again t.words r n word) i, sym (set_again t.views id me.0 here) i)) holds.1)
 
+  -- what a seat knows of the word of a record
+  knows_word : (o : Ownership) (v : View) (r n : ℕ) (h : Option Holder) → ViewFits s o v → IsHeldBy o r h → IsHolder h → n ≡ word_of h → Knows v r n
+  knows_word o v r n h fit held good is = (
+    (h, good, is),
+    λ p sits. (
+      (λ e. fit.owns_all r p (subst (IsHeldBy o r) (word_injective h (Some (Process p)) (sym is ∙ e)) held) sits),
+      (λ owns. is ∙ ap word_of (one_holder o r h (Some (Process p)) held (fit.is_owner r p owns).0)),
+    ),
+  )
+
   not_process : Option Holder → Type 0
   not_process h = (p : ℕ) → h ≡ Some (Process p) → ⊥
 
@@ -256,7 +266,7 @@ module _ {B : Type 0} (fits : B → ℕ → Bool) (s : Shape) where
         keeps,
         tt,
         subst (λ (b : Bool). Shown fits s (stepped t r (either b new n) id me.1 me.0 keeps)) (sym (ne_eqb n old miss)) (stays t id me r n holds seen (a.word_at ∙ ap some (sym found))),
-        ((λ hit. absurd (miss hit)), (λ _. (refl, (a.holder, shown.holders r a.holder a.held, found)))),
+        ((λ hit. absurd (miss hit)), (λ _. (refl, knows_word o me.0 r n a.holder (shown.views_fit id me.0 seen) a.held (shown.holders r a.holder a.held) found))),
       ))
 
   pub gives_change : (o : Ownership) (v : View) (r p : ℕ) (k : Option Holder) → ViewFits s o v → Owns v r p → ((q : ℕ) → k ≡ Some (Process q) → ⊥) → Change v (lost v r) r (Some (Process p)) k
@@ -292,7 +302,7 @@ module _ {B : Type 0} (fits : B → ℕ → Bool) (s : Shape) where
   looks slots id me r inside t holds long seen small =
       let a : At t holds.0 r = at t holds.0 r slots holds.1 long inside in
       let found : get_or t.words r 0 ≡ word_of a.holder = value_at t.words r 0 (word_of a.holder) a.word_at in
-      (me.0, keeps, tt, stays t id me r (get_or t.words r 0) holds seen (a.word_at ∙ ap some (sym found)), (refl, (a.holder, holds.1.holders r a.holder a.held, found)))
+      (me.0, keeps, tt, stays t id me r (get_or t.words r 0) holds seen (a.word_at ∙ ap some (sym found)), (refl, knows_word holds.0 me.0 r (get_or t.words r 0) a.holder (holds.1.views_fit id me.0 seen) a.held (holds.1.holders r a.holder a.held) found))
 
   -- a place of the next generation, where its process holds no record
   pub renews : (o : Ownership) (ws : List ℕ) (hs : List (maybe.Option S)) (vs : List View) (id p : ℕ) (v : View) → Shows fits s o ws hs vs → get_elem? vs id ≡ some v → v.processes ≡ p ∷ [] → v.records ≡ [] → p + 32 < 4096 → Shows fits s o ws hs (set vs id (renewed v))

@@ -3,28 +3,33 @@ use Rattle.std.specs.Prelude.{◌≡◌, ◌≢◌, ℕ, Bool, ◌∷◌, slice_
 use Rattle.atomic_table.specs.Table.{Me, Step, rest}
 use Rattle.xh_arena.specs.Views.{LotOf}
 use Rattle.xh_model.specs.declared.event.Holder.{Holder}
+use Rattle.xh_model.specs.declared.event.Holder.TheVariants.{Process}
 use Rattle.xh_model.specs.Words.{IsWord, word_of}
 use Rattle.xh_records.specs.declared.view.View.{View}
-use Rattle.xh_records.specs.Showing.{IsLotAt, IsHomeLot, Owns, gained, lost, renewed}
+use Rattle.xh_records.specs.Showing.{IsLotAt, IsHomeLot, Sits, Owns, gained, lost, renewed}
+
+-- what a seat knows of a word that it found at the index k: it is a word, and it names a process that the seat stands for exactly where the seat has that record
+abbrev pub Knows : View → ℕ → ℕ → Type 0
+Knows v k n = IsWord n × ((p : ℕ) → Sits v p → (n ≡ word_of (Some (Process p)) → Owns v k p) × (Owns v k p → n ≡ word_of (Some (Process p))))
 
 -- the process of a view that stands for one
 abbrev pub process_in : View → ℕ
 process_in v = slice_index v.processes 0
 
 module _ {B : Type 0} where
-  -- a compare that takes the record's lot, which is as it has to be at home, where it found the word that it wants; else all is as it was, and what it found is a word too
+  -- a compare that takes the record's lot, which is as it has to be at home, where it found the word that it wants; else all is as it was, and the seat knows what it found
   abbrev pub took : (B → ℕ → Bool) → Step (Option (LotOf B)) → Me (Option (LotOf B)) View → ℕ → Me (Option (LotOf B)) View → Type 0
   took fits st me n me' =
       (n ≡ st.first → (l : LotOf B) × (me' ≡ (gained me.0 st.word (process_in me.0), (st.word, Some l) ∷ me.1)) × IsLotAt me.0.shape st.word l × ((h : Option Holder) → st.first ≡ word_of h → IsHomeLot fits h l) × ((p : ℕ) → Owns me.0 st.word p → ⊥))
-      × (n ≢ st.first → (me' ≡ me) × IsWord n)
+      × (n ≢ st.first → (me' ≡ me) × Knows me.0 st.word n)
 
   -- a store that gives the lot back
   abbrev pub gave : Step (Option (LotOf B)) → Me (Option (LotOf B)) View → ℕ → Me (Option (LotOf B)) View → Type 0
   gave st me n me' = me' ≡ (lost me.0 st.word, rest me.1)
 
-  -- a load, which answers a word
+  -- a load, whose word the seat knows
   abbrev pub looked : Step (Option (LotOf B)) → Me (Option (LotOf B)) View → ℕ → Me (Option (LotOf B)) View → Type 0
-  looked st me n me' = (me' ≡ me) × IsWord n
+  looked st me n me' = (me' ≡ me) × Knows me.0 st.word n
 
   -- a load, by a seat that stands for its place anew
   abbrev pub aged : Step (Option (LotOf B)) → Me (Option (LotOf B)) View → ℕ → Me (Option (LotOf B)) View → Type 0

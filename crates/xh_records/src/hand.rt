@@ -5,9 +5,10 @@ ghost use prog.Atomic.{either};
 ghost use lib.ListN.{get_elem?};
 ghost use Rattle.atomic_table.specs.Table.{step, Allows};
 ghost use Rattle.xh_arena.specs.Views.{LotOf};
-ghost use Rattle.xh_model.specs.Words.{word_of, IsHolder, IsWord};
+ghost use Rattle.xh_model.specs.Words.{word_of, IsHolder};
 ghost use Rattle.xh_records.specs.Encoding.{holder_of};
 ghost use Rattle.xh_records.specs.Showing.{Shown, IsLotAt, IsAway, IsHomeLot, Owns, Sits, gained, lost, renewed, without};
+ghost use Rattle.xh_records.specs.Steps.{Knows};
 ghost use Rattle.xh_records.specs.Seats.{IsListed, turns, in_slot};
 
 use crate::plays::{Gives, Looks, Renews, Takes};
@@ -99,7 +100,7 @@ pub(crate) fn take_slot<B: Fits>(
     requires away { IsAway (holder_of from) }
     ensures same { (hand.new.table_id ≡ hand.old.table_id) × (hand.new.id ≡ hand.old.id) }
     ensures taken { result ≡ word_of (holder_of from) → (l : LotOf B) × (hand.new.me ≡ (gained hand.old.me.0 slot process, hand.old.me.1 ++ (slot, Some l) ∷ [])) × IsLotAt hand.old.me.0.shape slot l × IsHomeLot B.is_fit (holder_of from) l × ((p : ℕ) → Owns hand.old.me.0 slot p → ⊥) }
-    ensures missed { result ≢ word_of (holder_of from) → (hand.new.me ≡ hand.old.me) × IsWord result }
+    ensures missed { result ≢ word_of (holder_of from) → (hand.new.me ≡ hand.old.me) × Knows hand.old.me.0 slot result }
 {
     let wanted = from.encode();
     let owned = OwnerWord::Owned(process).encode();
@@ -140,7 +141,7 @@ pub(crate) fn look_at<B: Fits>(board: &Board<B>, hand: &mut Hand<B>, slot: u16) 
     requires own { hand.old.table_id ≡ board.now.table_id }
     requires inside { (slot < board.now.table_id.words) × (slot < board.now.table_id.slots) }
     ensures hand { (hand.new.table_id ≡ hand.old.table_id) × (hand.new.id ≡ hand.old.id) × (hand.new.me ≡ hand.old.me) }
-    ensures word { IsWord result }
+    ensures word { Knows hand.old.me.0 slot result }
 {
     board.load::<Looks>(hand, usize::from(slot))
 }

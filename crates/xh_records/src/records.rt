@@ -6,6 +6,7 @@ ghost use Rattle.xh_model.specs.declared.event.Event.TheVariants.{Claim, Vacate,
 ghost use Rattle.xh_model.specs.Slots.{index_of};
 ghost use Rattle.xh_model.specs.Words.{word_of, IsHolder, IsWord, generation_of};
 ghost use Rattle.xh_records.specs.Encoding.{holder_of};
+ghost use Rattle.xh_records.specs.Steps.{Knows};
 ghost use Rattle.xh_records.specs.Showing.{Among, IsLotOf, IsAway, IsHomeLot, IsEmpty, IsFull, without};
 
 use crate::hand::{give_slot, look_at, renew_hand, take_slot};
@@ -58,7 +59,7 @@ fn in_slots<B: Drop>(alloc: Global, lots: Vec<Lot<B>>) -> Result<Vec<Option<Lot<
 }
 
 impl<B: Fits + Drop> Records<B> {
-    ghost use Rattle.xh_records.specs.Seats.{Held, IsSeatOf, IsRecord, IsSmall, IsStep, IsEvent, IsNoEvent, keys, lot_at, with_lots};
+    ghost use Rattle.xh_records.specs.Seats.{Held, IsSeatOf, IsRecord, IsSmall, IsStep, IsEvent, IsNoEvent, keys, lot_at, view_of, with_lots};
 
     /// A table over the empty lots of whole vaults, one after the other, each of `records` lots (1 to
     /// 256), which have these names; and a seat for each of the `places` (1 to 32) at its first
@@ -133,7 +134,7 @@ impl<B: Fits + Drop> Records<B> {
         ensures taken { result ≡ word_of (holder_of from) → (l : LotOf B) × (seat.new ≡ with_lots seat.old (seat.old.lots ++ (number, l) ∷ [])) × IsLotOf seat.old.shape number l × IsHomeLot B.is_fit (holder_of from) l }
         ensures fresh { result ≡ word_of (holder_of from) → Among (keys seat.old.lots) number → ⊥ }
         ensures step { result ≡ word_of (holder_of from) → IsStep B.is_fit self.now.shape seat.old seat.new number (holder_of from) (Some (Process seat.old.process)) none }
-        ensures missed { result ≢ word_of (holder_of from) → (seat.new ≡ seat.old) × IsWord result }
+        ensures missed { result ≢ word_of (holder_of from) → (seat.new ≡ seat.old) × Knows (view_of seat.old) (index_of self.now.shape.records number) result }
     {
         let slot = self.slot_of(number);
         let wanted = from.encode();
@@ -193,7 +194,7 @@ impl<B: Fits + Drop> Records<B> {
         ensures accepted { OnOk result ((l : LotOf B) × (seat.new ≡ with_lots seat.old (seat.old.lots ++ (number, l) ∷ [])) × IsLotOf seat.old.shape number l × IsFull B.is_fit l) }
         ensures fresh { OnOk result (Among (keys seat.old.lots) number → ⊥) }
         ensures event { OnOk result (IsEvent B.is_fit self.now.shape seat.old seat.new (Accept seat.old.process number direction)) }
-        ensures missed { IfErr result (λ word. (word ≢ 2 + 4 * direction) × IsWord word × (seat.new ≡ seat.old)) }
+        ensures missed { IfErr result (λ word. (word ≢ 2 + 4 * direction) × Knows (view_of seat.old) (index_of self.now.shape.records number) word × (seat.new ≡ seat.old)) }
     {
         let wanted = OwnerWord::InFlight(direction);
         let found = self.take(seat, number, wanted);
@@ -227,11 +228,12 @@ impl<B: Fits + Drop> Records<B> {
         self.give(seat, number, OwnerWord::Free);
     }
 
-    /// A record's word at one moment, by any seat: `OwnerWord::decode` says what it means.
+    /// A record's word at one moment, by any seat: `OwnerWord::decode` says what it means. It names the
+    /// seat's own process exactly where the seat holds the record.
     pub fn owner_word(&self, seat: &mut Seat<B>, number: u16) -> u64
         requires own { IsSeatOf self.now seat.old }
         requires exists { IsRecord self.now.shape number }
-        ensures word { IsWord result }
+        ensures word { Knows (view_of seat.old) (index_of self.now.shape.records number) result }
         ensures same { seat.new ≡ seat.old }
     {
         let slot = self.slot_of(number);

@@ -31,7 +31,7 @@ loop-index-preserved g c =
       same = miss.0 ∙ i.same;
       long = ap length c.push.ensures.items ∙ length-append c.loop-index.seen.words.items (c.take-found.result ∷ []) ∙ ap (λ (n : ℕ). n + 1) long;
       seen = λ k below. subst (λ z. (get_or z k 0 ≢ 0) × IsWord (get_or z k 0)) (sym c.push.ensures.items)
-          (seen_more (λ n. (n ≢ 0) × IsWord n) c.loop-index.seen.words.items c.take-found.result (λ j m. i.seen j (omega arith)) (c.if-found-eq0.false, miss.1) k (omega arith));
+          (seen_more (λ n. (n ≢ 0) × IsWord n) c.loop-index.seen.words.items c.take-found.result (λ j m. i.seen j (omega arith)) (c.if-found-eq0.false, miss.1.0) k (omega arith));
     }
 
 pub returns-clause-seen : goal.returns-clause-seen

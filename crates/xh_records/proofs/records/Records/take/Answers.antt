@@ -5,7 +5,9 @@ use Rattle.xh_model.specs.Words.{number_of}
 use Rattle.xh_records.specs.Encoding.{holder_of}
 use Rattle.xh_records.specs.Seats.{numbered}
 use Rattle.xh_records.proofs.Seating.{not_among, has_room, gains, seat_is}
-use Rattle.xh_records.proofs.Numbered.{numbered_push, number_is, lot_back, fresh, held_same}
+use Rattle.xh_records.specs.declared.view.View.{View}
+use Rattle.xh_records.specs.Steps.{Knows}
+use Rattle.xh_records.proofs.Numbered.{views_are, numbered_push, number_is, lot_back, fresh, held_same}
 use Rattle.xh_records.proofs.Events.{takes_event}
 use Rattle.xh_records.proofs.records.Records.take.Goals as goal
 
@@ -65,3 +67,12 @@ returns-then-found-wanted-clause-step g c = λ same.
     takes_event g.B.Fits.is_fit c.args.self.now.shape c.args.seat.now _ c.take_slot-found.new.hand.table_id _ c.take_slot-found.new.hand.id _ me c.take_slot-found.new.hand.me c.seat.view_is _ _ _ _ _ _ c.seat.invariant c.args.number slot c.slot_of-slot.ensures.index (holder_of c.args.from) c.requires.away
     (seat_is _ _ _ _ _ _ _ _ _ _ refl c.push_reserved.ensures.items c.push_reserved.ensures.capacity (ap (λ z. z.slots) c.take_slot-found.ensures.same.0) t.1 (gains _ _ _ _ _ slot t.0 c.seat.invariant inside t.2 t.4))
     (ap (λ m. m.0) t.1)
+
+pub returns-else-found-wanted-clause-missed : goal.returns-else-found-wanted-clause-missed
+returns-else-found-wanted-clause-missed g c = λ other.
+    let same = c.take_slot-found.ensures.same in
+    let m = c.take_slot-found.ensures.missed other in
+    let x = c.args.seat.now in (
+      (λ i. record { table = same.0 i; id = same.1 i; shape = (m.0 i).0.shape; process = c.seat.inside.process; lots = numbered (m.0 i).0.shape.records (m.0 i).1 }) ∙ c.seat.view_is,
+      subst (λ (z : View × ℕ). Knows z.0 z.1 c.take_slot-found.result) (λ i. (sym (views_are x _ _ _ c.seat.inside.hand.me c.seat.view_is _ _ _ c.seat.invariant) i, c.slot_of-slot.ensures.index i)) m.1,
+    )
