@@ -1,10 +1,10 @@
--- A seat with no lot, as it gains one, changes it and loses it.
-use Rattle.std.proofs.Common.{◌≡◌, ℕ, List, [], ◌∷◌, ◌++◌, refl, sym, ap, ◌∙◌, subst}
+-- A seat with no lot, as it gains one or two, changes it and loses it.
+use Rattle.std.proofs.Common.{◌≡◌, ◌≢◌, ℕ, List, [], ◌∷◌, ◌++◌, refl, sym, ap, ◌∙◌, subst, inl}
 use Rattle.std.specs.Prelude.{Some}
 use Rattle.xh_arena.specs.Views.{LotOf}
-use Rattle.xh_records.specs.Showing.{without}
-use Rattle.xh_records.specs.Seats.{Held, RecordsOf, IsSeatOf, lot_at, put, with_lots}
-use Rattle.xh_records.proofs.Lists.{here_first}
+use Rattle.xh_records.specs.Showing.{Among, without}
+use Rattle.xh_records.specs.Seats.{Held, RecordsOf, IsSeatOf, keys, lot_at, put, with_lots}
+use Rattle.xh_records.proofs.Lists.{here_first, not_here}
 
 module _ {B : Type 0} (x y z : Held B) (r : ℕ) (l l' : LotOf B) where
   pub gains_one : x.lots ≡ [] → y ≡ with_lots x (x.lots ++ (r, l) ∷ []) → y ≡ with_lots x ((r, l) ∷ [])
@@ -22,3 +22,17 @@ module _ {B : Type 0} (x y z : Held B) (r : ℕ) (l l' : LotOf B) where
 -- it is of the same table
 pub still_of : {B : Type 0} (all : RecordsOf) (x y : Held B) (ls : List (ℕ × LotOf B)) → IsSeatOf all x → y ≡ with_lots x ls → IsSeatOf all y
 still_of {B} all x y ls own is = subst (λ (h : Held B). IsSeatOf all h) (sym is) own
+
+-- a seat with two lots
+module _ {B : Type 0} (x y z : Held B) (r q : ℕ) (l m : LotOf B) where
+  pub gains_two : y ≡ with_lots x ((r, l) ∷ []) → z ≡ with_lots y (y.lots ++ (q, m) ∷ []) → z ≡ with_lots x ((r, l) ∷ (q, m) ∷ [])
+  gains_two one gained = gained ∙ ap (λ (h : Held B). with_lots h (h.lots ++ (q, m) ∷ [])) one
+
+  pub apart : y ≡ with_lots x ((r, l) ∷ []) → (Among (keys y.lots) q → ⊥) → r ≢ q
+  apart one fresh same = fresh (subst (λ (h : Held B). Among (keys h.lots) q) (sym one) (inl (sym same)))
+
+  pub has_first : z ≡ with_lots x ((r, l) ∷ (q, m) ∷ []) → lot_at r z.lots ≡ Some l
+  has_first two = ap (λ (h : Held B). lot_at r h.lots) two ∙ here_first r r _ _ refl
+
+  pub has_second : z ≡ with_lots x ((r, l) ∷ (q, m) ∷ []) → r ≢ q → lot_at q z.lots ≡ Some m
+  has_second two other = ap (λ (h : Held B). lot_at q h.lots) two ∙ not_here r q _ _ other ∙ here_first q q _ _ refl

@@ -1,5 +1,5 @@
 -- A table over the lots of one vault, with two places.
-use Rattle.std.proofs.Common.{◌≡◌, ℕ, zero, suc, ◌%◌, ◌/◌, ◌<◌, ◌∙◌, List, [], ◌∷◌, refl, sym, ap, subst, arith}
+use Rattle.std.proofs.Common.{◌≡◌, ℕ, zero, suc, ◌%◌, ◌/◌, ◌<◌, ◌∙◌, List, [], ◌∷◌, refl, sym, ap, subst, arith, rules}
 use Rattle.std.specs.Prelude.{Some, slice_get}
 use Rattle.std.proofs.Math.Nat.{mod-eq_of_lt, div-eq_of_lt}
 use Rattle.std.proofs.lemmas.Option.{slice_get_within}
@@ -18,6 +18,10 @@ of_one_vault new id n names ls named lots k l at =
       (λ i. slice_get (named i) (div-eq_of_lt below i)) ∙ ap Some (sym lot.0),
       lot.2,
     )
+
+-- the lot of a record of arena 0 is of that vault
+pub id_is : {B : Type 0} (names : List TableId) (id : TableId) (r : ℕ) (l : LotOf B) → names ≡ id ∷ [] → r / 256 ≡ 0 → slice_get names (r / 256) ≡ Some l.id → l.id ≡ id
+id_is names id r l named first is = let e : Some id ≡ Some l.id = sym (λ i. slice_get (named i) (first i)) ∙ is in let same : l.id ≡ id = search rules in same
 
 -- seats at places 0 and 1 are at both places
 pub both_sit : {B : Type 0} (seats : List (Held B)) (x y : Held B) (places : ℕ) → places ≡ 2 → seats ≡ x ∷ y ∷ [] → place_of x.process ≡ 0 → place_of y.process ≡ 1 → AllSit places seats

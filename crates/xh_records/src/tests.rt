@@ -3,6 +3,7 @@ ghost use Rattle.std.specs.Prelude.{◌≡◌, ◌<◌, ◌≤◌, [], ◌∷◌
 ghost use Rattle.xh_model.specs.Words.{place_of};
 ghost use Rattle.xh_records.specs.Seats.{IsSeatOf};
 
+mod pairs;
 mod rounds;
 mod threads;
 

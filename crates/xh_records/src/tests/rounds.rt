@@ -11,7 +11,7 @@ use std::test::Fail;
 use xh_arena::{Lot, Tally, Vault};
 
 /// Carves 32 bytes for the record.
-fn carve_at(
+pub(super) fn carve_at(
     records: &Records<Any>,
     seat: &mut Seat<Any>,
     number: u16,

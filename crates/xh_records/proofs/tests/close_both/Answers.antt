@@ -1,4 +1,4 @@
-use Rattle.std.proofs.Common.{◌≡◌, ◌<◌, ℕ, ◌∙◌, List, [], ◌∷◌, Some, ap, sym, subst, refl, arith, rules}
+use Rattle.std.proofs.Common.{rules}
 use Rattle.xh_records.proofs.OneVault.{both_sit}
 use Rattle.xh_records.proofs.tests.close_both.Goals as goal
 

@@ -1,4 +1,4 @@
-use Rattle.std.proofs.Common.{arith, ◌≡◌, ◌<◌, ◌∙◌, refl}
+use Rattle.std.proofs.Common.{arith, ◌∙◌, refl}
 use Rattle.xh_records.proofs.OneLot.{gains_one, has_one, changes_one, loses_one, still_of}
 use Rattle.xh_records.proofs.tests.rounds.give_away.Goals as goal
 

@@ -1,4 +1,4 @@
-use Rattle.std.proofs.Common.{arith, ◌≡◌, [], ◌∙◌, ap, refl}
+use Rattle.std.proofs.Common.{◌≡◌, [], ◌∙◌, ap, refl}
 use Rattle.xh_records.specs.Seats.{Held}
 use Rattle.xh_records.specs.declared.tests.Any.{Any}
 use Rattle.xh_records.proofs.OneLot.{gains_one, has_one, changes_one, loses_one, still_of}
