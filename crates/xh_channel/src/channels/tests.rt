@@ -4,36 +4,34 @@ mod side_by_side;
 mod threads;
 
 use super::Channels;
-use crate::endpoint::compare;
+use crate::endpoint::{Endpoint, compare};
 use crate::refused::Refused;
 use crate::spot::Spot;
 use crate::unsent::Unsent;
-use answers::Answer::{Refused as No, Sent, Taken};
-use answers::{put, take};
+use answers::Answer::{Refused as No, Sent, Shut as Closed, Taken, Turn};
+use answers::Call::{Put, Shut, Take, Turn as Look};
+use answers::{assert_answers, opened};
 use arrayvec::ArrayVec;
+use std::sync::Wait;
 use std::test::Fail;
+
+fn is_at(spot: Spot, channel: u8, side: u8) -> bool {
+    spot == Spot { channel, side }
+}
+
+fn opens_at<R: Wait>(rt: &R, channels: &Channels, channel: u8) -> bool {
+    match channels.open(rt) {
+        Ok((low, high)) => is_at(low.spot(), channel, 0) && is_at(high.spot(), channel, 1),
+        Err(_) => false,
+    }
+}
 
 #[test]
 fn a_cancelled_number_is_free_again(rt: HostRuntime) -> Result<(), Fail> {
-    let channels = Channels::new(rt.alloc(), 1)?;
-    let (low, high) = channels.open(&rt)?;
-    assert_eq!(rt;
-        low.spot(),
-        Spot {
-            channel: 0,
-            side: 0
-        }
-    );
-    assert_eq!(rt;
-        high.spot(),
-        Spot {
-            channel: 0,
-            side: 1
-        }
-    );
+    let (channels, low, high) = opened(&rt, rt.alloc(), 1)?;
+    assert!(rt; is_at(low.spot(), 0, 0) && is_at(high.spot(), 0, 1));
     channels.cancel(&rt, low, high);
-    let (low, high) = channels.open(&rt)?;
-    assert_eq!(rt; (low.spot().channel, high.spot().channel), (0, 0));
+    assert!(rt; opens_at(&rt, &channels, 0));
     Ok(())
 }
 
@@ -52,16 +50,23 @@ fn a_depth_is_one_to_sixteen(rt: HostRuntime) {
 
 #[test]
 fn direction_until_shut(rt: HostRuntime) -> Result<(), Fail> {
-    let channels = Channels::new(rt.alloc(), 2)?;
-    let (mut low, mut high) = channels.open(&rt)?;
-    assert!(rt; matches!(channels.put(&rt, &mut low, 5, ArrayVec::new()), Ok(1)));
-    assert_eq!(rt; put(&rt, &channels, &mut low, 5, 7), Sent(2));
-    assert_eq!(rt; put(&rt, &channels, &mut low, 5, 8), No(14, Some(8)));
-    channels.shut(&rt, &mut low);
-    assert_eq!(rt; take(&rt, &channels, &mut high), Taken(1, 5, None));
-    assert_eq!(rt; take(&rt, &channels, &mut high), Taken(2, 5, Some(7)));
-    assert_eq!(rt; take(&rt, &channels, &mut high), No(15, None));
-    assert_eq!(rt; put(&rt, &channels, &mut high, 5, 9), No(15, Some(9)));
+    let (channels, mut low, mut high) = opened(&rt, rt.alloc(), 2)?;
+    assert_answers(
+        &rt,
+        &channels,
+        &mut low,
+        &mut high,
+        &[
+            (0, Put(5, None), Sent(1)),
+            (0, Put(5, None), Sent(2)),
+            (0, Put(5, None), No(14, None)),
+            (0, Shut, Closed),
+            (1, Take, Taken(1, 5, None)),
+            (1, Take, Taken(2, 5, None)),
+            (1, Take, No(15, None)),
+            (1, Put(5, None), No(15, None)),
+        ],
+    );
     Ok(())
 }
 
@@ -69,11 +74,7 @@ fn direction_until_shut(rt: HostRuntime) -> Result<(), Fail> {
 fn channels_run_out(rt: HostRuntime) -> Result<(), Fail> {
     let channels = Channels::new(rt.alloc(), 1)?;
     for channel in 0..64 {
-        let (low, high) = channels.open(&rt)?;
-        assert_eq!(rt;
-            (low.spot().channel, high.spot().channel),
-            (channel, channel)
-        );
+        assert!(rt; opens_at(&rt, &channels, channel), "channel {channel}");
     }
     assert!(rt; matches!(channels.open(&rt), Err(Refused::NoChannel)));
     Ok(())
@@ -81,80 +82,113 @@ fn channels_run_out(rt: HostRuntime) -> Result<(), Fail> {
 
 #[test]
 fn what_an_end_sends_it_does_not_take(rt: HostRuntime) -> Result<(), Fail> {
-    let channels = Channels::new(rt.alloc(), 2)?;
-    let (mut low, mut high) = channels.open(&rt)?;
-    assert_eq!(rt; put(&rt, &channels, &mut low, 5, 7), Sent(1));
-    assert_eq!(rt; take(&rt, &channels, &mut low), No(16, None));
-    assert_eq!(rt; put(&rt, &channels, &mut high, 6, 8), Sent(1));
-    assert_eq!(rt; take(&rt, &channels, &mut low), Taken(1, 6, Some(8)));
-    assert_eq!(rt; take(&rt, &channels, &mut high), Taken(1, 5, Some(7)));
+    let (channels, mut low, mut high) = opened(&rt, rt.alloc(), 2)?;
+    assert_answers(
+        &rt,
+        &channels,
+        &mut low,
+        &mut high,
+        &[
+            (0, Put(5, Some(7)), Sent(1)),
+            (0, Take, No(16, None)),
+            (1, Put(6, Some(8)), Sent(1)),
+            (0, Take, Taken(1, 6, Some(8))),
+            (1, Take, Taken(1, 5, Some(7))),
+        ],
+    );
     Ok(())
 }
 
 #[test]
 fn an_end_that_was_shut_takes_what_is_left(rt: HostRuntime) -> Result<(), Fail> {
-    let channels = Channels::new(rt.alloc(), 2)?;
-    let (mut low, mut high) = channels.open(&rt)?;
-    assert_eq!(rt; put(&rt, &channels, &mut low, 5, 7), Sent(1));
-    channels.shut(&rt, &mut high);
-    assert_eq!(rt; put(&rt, &channels, &mut low, 5, 8), No(15, Some(8)));
-    assert_eq!(rt; take(&rt, &channels, &mut high), Taken(1, 5, Some(7)));
-    assert_eq!(rt; take(&rt, &channels, &mut high), No(16, None));
+    let (channels, mut low, mut high) = opened(&rt, rt.alloc(), 2)?;
+    assert_answers(
+        &rt,
+        &channels,
+        &mut low,
+        &mut high,
+        &[
+            (0, Put(5, Some(7)), Sent(1)),
+            (1, Shut, Closed),
+            (0, Put(5, Some(8)), No(15, Some(8))),
+            (1, Take, Taken(1, 5, Some(7))),
+            (1, Take, No(16, None)),
+        ],
+    );
     Ok(())
+}
+
+const BLOCKS: [u16; 8] = [8, 100, 200, 300, 400, 500, 600, 2047];
+
+fn takes_all_blocks<R: Wait>(rt: &R, channels: &Channels, end: &mut Endpoint) -> bool {
+    match channels.take(rt, end) {
+        Ok(message) => message.blocks.as_slice() == BLOCKS.as_slice(),
+        Err(_) => false,
+    }
 }
 
 #[test]
 fn a_message_has_all_its_blocks(rt: HostRuntime) -> Result<(), Fail> {
-    let channels = Channels::new(rt.alloc(), 1)?;
-    let (mut low, mut high) = channels.open(&rt)?;
-    let blocks = ArrayVec::from([8, 100, 200, 300, 400, 500, 600, 2047]);
-    let sent = blocks.clone()?;
-    assert!(rt; channels.put(&rt, &mut low, 5, sent).is_ok());
-    let message = channels.take(&rt, &mut high)?;
-    assert_eq!(rt; message.blocks.as_slice(), blocks.as_slice());
+    let (channels, mut low, mut high) = opened(&rt, rt.alloc(), 1)?;
+    let sent = channels.put(&rt, &mut low, 5, ArrayVec::from(BLOCKS));
+    assert!(rt; sent.is_ok());
+    assert!(rt; takes_all_blocks(&rt, &channels, &mut high));
     Ok(())
 }
 
 #[test]
 fn the_turn_rises_with_each_put_and_shut(rt: HostRuntime) -> Result<(), Fail> {
-    let channels = Channels::new(rt.alloc(), 1)?;
-    let (mut low, mut high) = channels.open(&rt)?;
-    let spot = high.spot();
-    assert_eq!(rt; channels.turn(&rt, spot), 0);
-    assert_eq!(rt; put(&rt, &channels, &mut low, 5, 7), Sent(1));
-    assert_eq!(rt; channels.turn(&rt, spot), 1);
-    assert_eq!(rt; put(&rt, &channels, &mut low, 5, 7), No(14, Some(7)));
-    assert_eq!(rt; take(&rt, &channels, &mut high), Taken(1, 5, Some(7)));
-    assert_eq!(rt; take(&rt, &channels, &mut high), No(16, None));
-    assert_eq!(rt; channels.turn(&rt, spot), 1);
-    channels.shut(&rt, &mut low);
-    assert_eq!(rt; channels.turn(&rt, spot), 2);
-    assert_eq!(rt;
-        channels.turn(
-            &rt,
-            Spot {
-                channel: 1,
-                side: 0
-            }
-        ),
-        0
+    let (channels, mut low, mut high) = opened(&rt, rt.alloc(), 1)?;
+    assert_answers(
+        &rt,
+        &channels,
+        &mut low,
+        &mut high,
+        &[
+            (0, Look, Turn(0)),
+            (0, Put(5, Some(7)), Sent(1)),
+            (1, Look, Turn(1)),
+            (0, Put(5, Some(7)), No(14, Some(7))),
+            (1, Take, Taken(1, 5, Some(7))),
+            (1, Take, No(16, None)),
+            (1, Look, Turn(1)),
+            (0, Shut, Closed),
+            (1, Look, Turn(2)),
+            (0, Look, Turn(2)),
+        ],
     );
-    channels.wait(&rt, spot, 1);
-    channels.wait(&rt, spot, u64::MAX);
+    Ok(())
+}
+
+#[test]
+fn a_turn_that_was_not_seen_is_not_waited_for(rt: HostRuntime) -> Result<(), Fail> {
+    let (channels, mut low, _high) = opened(&rt, rt.alloc(), 1)?;
+    channels.shut(&rt, &mut low);
+    for (channel, turn) in [(0, 1), (1, 0)] {
+        let spot = Spot { channel, side: 0 };
+        assert_eq!(rt; channels.turn(&rt, spot), turn, "channel {channel}");
+        channels.wait(&rt, spot, 1 - turn);
+        channels.wait(&rt, spot, u64::MAX);
+    }
     Ok(())
 }
 
 #[test]
 fn both_ends_of_a_direction_are_compared(rt: HostRuntime) -> Result<(), Fail> {
-    let channels = Channels::new(rt.alloc(), 2)?;
-    let (mut low, mut high) = channels.open(&rt)?;
-    assert_eq!(rt; put(&rt, &channels, &mut low, 5, 7), Sent(1));
-    assert_eq!(rt; put(&rt, &channels, &mut low, 6, 8), Sent(2));
-    assert_eq!(rt; take(&rt, &channels, &mut high), Taken(1, 5, Some(7)));
+    let (channels, mut low, mut high) = opened(&rt, rt.alloc(), 2)?;
+    let before = [
+        (0, Put(5, Some(7)), Sent(1)),
+        (0, Put(6, Some(8)), Sent(2)),
+        (1, Take, Taken(1, 5, Some(7))),
+    ];
+    assert_answers(&rt, &channels, &mut low, &mut high, &before);
     let (mut low, mut high) = compare(low, high);
-    assert_eq!(rt; put(&rt, &channels, &mut low, 7, 9), Sent(3));
-    assert_eq!(rt; take(&rt, &channels, &mut high), Taken(2, 6, Some(8)));
-    assert_eq!(rt; take(&rt, &channels, &mut high), Taken(3, 7, Some(9)));
+    let after = [
+        (0, Put(7, Some(9)), Sent(3)),
+        (1, Take, Taken(2, 6, Some(8))),
+        (1, Take, Taken(3, 7, Some(9))),
+    ];
+    assert_answers(&rt, &channels, &mut low, &mut high, &after);
     Ok(())
 }
 
@@ -164,10 +198,12 @@ fn a_refused_growth_is_out_of_memory(rt: HostRuntime) -> Result<(), Fail> {
     if let Err(refused) = Channels::new(rt.alloc(), 2) {
         assert!(rt; matches!(refused, Refused::OutOfMemory));
     }
-    let channels = Channels::new(rt.alloc(), 2)?;
-    let (mut low, mut high) = channels.open(&rt)?;
-    assert_eq!(rt; put(&rt, &channels, &mut low, 5, 7), Sent(1));
-    assert_eq!(rt; take(&rt, &channels, &mut high), Taken(1, 5, Some(7)));
+    let (channels, mut low, mut high) = opened(&rt, rt.alloc(), 2)?;
+    let calls = [
+        (0, Put(5, Some(7)), Sent(1)),
+        (1, Take, Taken(1, 5, Some(7))),
+    ];
+    assert_answers(&rt, &channels, &mut low, &mut high, &calls);
     Ok(())
 }
 

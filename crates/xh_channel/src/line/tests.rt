@@ -77,6 +77,38 @@ fn a_line_full_then_shut(rt: HostRuntime) {
     }
 }
 
+#[test]
+fn a_direction_that_has_carried_its_last_message_is_full(rt: HostRuntime) {
+    let made = Contract::new(&rows()[2..]);
+    assert!(rt; made.is_ok());
+    if let Ok(contract) = made {
+        let mut line = Line {
+            contract,
+            depth: 2,
+            left: LineEnd {
+                put: LAST_NUMBER - 1,
+                ..LineEnd::new(0)
+            },
+            right: LineEnd {
+                taken: LAST_NUMBER - 1,
+                ..LineEnd::new(0)
+            },
+        };
+        assert!(rt; matches!(put(&mut line, 0, 9), Ok(LAST_NUMBER)));
+        assert!(rt;
+            matches!(
+                line.take(1),
+                Ok(Message {
+                    no: LAST_NUMBER,
+                    ..
+                })
+            )
+        );
+        assert!(rt; matches!(put(&mut line, 0, 3), Err(Unsent::Full { .. })));
+        assert!(rt; matches!(line.take(1), Err(Refused::Empty)));
+    }
+}
+
 fn blocks_of(record: u16) -> ArrayVec<u16, 8> {
     let mut blocks = ArrayVec::new();
     blocks.push(record);

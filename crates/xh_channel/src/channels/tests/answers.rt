@@ -1,4 +1,6 @@
-//! What a put or a take answered, to be compared.
+//! Calls on a channel and what they answer, to be compared.
+ghost use Rattle.std.specs.Prelude.{IfOk};
+ghost use Rattle.xh_channel.specs.Pairs.{IsPair};
 ghost use Rattle.xh_channel.specs.Queues.{IsSameEnd};
 
 use crate::channels::Channels;
@@ -7,19 +9,34 @@ use crate::message::Message;
 use crate::refused::Refused;
 use crate::unsent::Unsent;
 use arrayvec::ArrayVec;
+use std::alloc::Global;
+use std::process::Abort;
 use std::sync::Wait;
 
-/// The number of a message that was put; its number, tag and block; or the number of a refusal and the block handed back.
+/// A call by one end: a put with a tag and at most one block, a take, a shut, a look at the turn.
+#[derive(Clone, Copy, Debug)]
+pub enum Call {
+    Put(u16, Option<u16>),
+    Take,
+    Shut,
+    Turn,
+}
+
+/// The number of a message that was put; its number, tag and block; the number of a refusal and the block handed back; nothing, of a shut; the turn.
 #[derive(Clone, Copy, Debug, PartialEq)]
 pub enum Answer {
     Sent(u64),
     Taken(u64, u16, Option<u16>),
     Refused(u8, Option<u16>),
+    Shut,
+    Turn(u64),
 }
 
-pub fn one_block(block: u16) -> ArrayVec<u16, 8> {
+pub fn blocks_of(block: Option<u16>) -> ArrayVec<u16, 8> {
     let mut blocks = ArrayVec::new();
-    blocks.push(block);
+    if let Some(block) = block {
+        blocks.push(block);
+    }
     blocks
 }
 
@@ -44,15 +61,63 @@ pub fn of_take(answered: Result<Message, Refused>) -> Answer {
     }
 }
 
-/// Puts a message with one block.
-pub fn put<R: Wait>(rt: &R, channels: &Channels, end: &mut Endpoint, tag: u16, block: u16) -> Answer
-    ensures { IsSameEnd end.old end.new }
+/// Channels of a depth, and both ends of the first.
+pub fn opened<R: Wait>(
+    rt: &R,
+    alloc: Global,
+    depth: u8,
+) -> Result<(Channels, Endpoint, Endpoint), Refused>
+    ensures { IfOk result (λ all. IsPair all.1 all.2) }
 {
-    of_put(channels.put(rt, end, tag, one_block(block)))
+    let channels = Channels::new(alloc, depth)?;
+    let (low, high) = channels.open(rt)?;
+    Ok((channels, low, high))
 }
 
-pub fn take<R: Wait>(rt: &R, channels: &Channels, end: &mut Endpoint) -> Answer
+fn by_end<R: Wait>(rt: &R, channels: &Channels, end: &mut Endpoint, call: Call) -> Answer
     ensures { IsSameEnd end.old end.new }
 {
-    of_take(channels.take(rt, end))
+    match call {
+        Call::Put(tag, block) => of_put(channels.put(rt, end, tag, blocks_of(block))),
+        Call::Take => of_take(channels.take(rt, end)),
+        Call::Shut => {
+            channels.shut(rt, end);
+            Answer::Shut
+        }
+        Call::Turn => Answer::Turn(channels.turn(rt, end.spot())),
+    }
+}
+
+/// What the call answers, by the end of side 0 or else by that of side 1.
+pub fn answer_of<R: Wait>(
+    rt: &R,
+    channels: &Channels,
+    low: &mut Endpoint,
+    high: &mut Endpoint,
+    side: u8,
+    call: Call,
+) -> Answer
+    ensures { IsSameEnd low.old low.new × IsSameEnd high.old high.new }
+{
+    if side == 0 {
+        by_end(rt, channels, low, call)
+    } else {
+        by_end(rt, channels, high, call)
+    }
+}
+
+/// Makes each call by the end of its side, and compares what it answers.
+pub fn assert_answers<R: Wait + Abort>(
+    rt: &R,
+    channels: &Channels,
+    low: &mut Endpoint,
+    high: &mut Endpoint,
+    calls: &[(u8, Call, Answer)],
+)
+    ensures { IsSameEnd low.old low.new × IsSameEnd high.old high.new }
+{
+    for (at, (side, call, expected)) in calls.iter().enumerate() {
+        let answered = answer_of(rt, channels, low, high, *side, *call);
+        assert_eq!(rt; answered, *expected, "call {at}: {call:?} by side {side}");
+    }
 }

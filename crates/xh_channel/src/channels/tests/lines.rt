@@ -1,12 +1,20 @@
+ghost use Rattle.std.specs.Prelude.{IfOk};
+ghost use Rattle.xh_channel.specs.Pairs.{IsPair};
+
 use super::Channels;
-use super::answers::Answer::{Refused as No, Sent, Taken};
-use super::answers::{put, take};
+use super::answers::Answer::{Refused as No, Sent, Shut as Closed, Taken, Turn};
+use super::answers::Call::{Put, Shut, Take, Turn as Look};
+use super::answers::assert_answers;
+use crate::endpoint::Endpoint;
 use crate::refused::Refused;
+use std::alloc::Global;
+use std::process::Abort;
+use std::sync::Wait;
 use std::test::Fail;
 use xh_core::{Contract, Row};
 
 // A request (tag 1) by side 0, a reply (tag 2) by side 1, and again.
-fn request_and_reply() -> Option<Contract> {
+fn request_and_reply(rt: &impl Abort) -> Contract {
     let request = Row {
         state: 0,
         tag: 1,
@@ -19,50 +27,79 @@ fn request_and_reply() -> Option<Contract> {
         side: 1,
         next: 0,
     };
-    Contract::new(&[request, reply]).ok()
+    let Ok(contract) = Contract::new(&[request, reply]) else {
+        panic!(rt; "the table is valid");
+    };
+    contract
+}
+
+// Channels of a depth, and both ends of the first, which goes by the contract.
+fn opened_with<R: Wait + Abort>(
+    rt: &R,
+    alloc: Global,
+    depth: u8,
+) -> Result<(Channels, Endpoint, Endpoint), Refused>
+    ensures { IfOk result (λ all. IsPair all.1 all.2) }
+{
+    let channels = Channels::new(alloc, depth)?;
+    let (low, high) = channels.open_with(rt, request_and_reply(rt))?;
+    Ok((channels, low, high))
 }
 
 #[test]
 fn contract_refusals(rt: HostRuntime) -> Result<(), Fail> {
-    let channels = Channels::new(rt.alloc(), 4)?;
-    let Some(contract) = request_and_reply() else {
-        panic!(rt; "the table is valid");
-    };
-    let (mut a, mut b) = channels.open_with(&rt, contract)?;
-    assert!(rt; a.has_contract() && b.has_contract());
-    assert_eq!(rt; put(&rt, &channels, &mut a, 2, 7), No(22, Some(7)));
-    assert_eq!(rt; put(&rt, &channels, &mut b, 2, 7), No(22, Some(7)));
-    assert_eq!(rt; put(&rt, &channels, &mut a, 1, 7), Sent(1));
-    assert_eq!(rt; put(&rt, &channels, &mut a, 1, 7), No(22, Some(7)));
-    assert_eq!(rt; put(&rt, &channels, &mut b, 1, 7), No(22, Some(7)));
-    assert_eq!(rt; take(&rt, &channels, &mut b), Taken(1, 1, Some(7)));
-    assert_eq!(rt; put(&rt, &channels, &mut b, 2, 7), Sent(1));
-    assert_eq!(rt; channels.turn(&rt, a.spot()), 2);
-    assert_eq!(rt; take(&rt, &channels, &mut a), Taken(1, 2, Some(7)));
-    assert_eq!(rt; put(&rt, &channels, &mut a, 1, 7), Sent(2));
-    channels.shut(&rt, &mut a);
-    assert_eq!(rt; channels.turn(&rt, a.spot()), 4);
-    assert_eq!(rt; take(&rt, &channels, &mut b), Taken(2, 1, Some(7)));
-    assert_eq!(rt; take(&rt, &channels, &mut b), No(15, None));
-    assert_eq!(rt; put(&rt, &channels, &mut b, 2, 7), No(15, Some(7)));
-    assert_eq!(rt; put(&rt, &channels, &mut b, 1, 7), No(22, Some(7)));
+    let (channels, mut low, mut high) = opened_with(&rt, rt.alloc(), 4)?;
+    assert!(rt; low.has_contract() && high.has_contract());
+    assert_answers(
+        &rt,
+        &channels,
+        &mut low,
+        &mut high,
+        &[
+            (0, Put(2, Some(7)), No(22, Some(7))),
+            (1, Put(2, Some(7)), No(22, Some(7))),
+            (0, Put(1, Some(7)), Sent(1)),
+            (0, Put(1, Some(7)), No(22, Some(7))),
+            (1, Put(1, Some(7)), No(22, Some(7))),
+            (1, Take, Taken(1, 1, Some(7))),
+            (1, Put(2, Some(7)), Sent(1)),
+            (0, Look, Turn(2)),
+            (0, Take, Taken(1, 2, Some(7))),
+            (0, Put(1, Some(7)), Sent(2)),
+            (0, Shut, Closed),
+            (0, Look, Turn(4)),
+            (1, Take, Taken(2, 1, Some(7))),
+            (1, Take, No(15, None)),
+            (1, Put(2, Some(7)), No(15, Some(7))),
+            (1, Put(1, Some(7)), No(22, Some(7))),
+        ],
+    );
     Ok(())
 }
 
 // A cancelled number loses its contract.
 #[test]
 fn a_cancelled_contract_is_gone(rt: HostRuntime) -> Result<(), Fail> {
-    let channels = Channels::new(rt.alloc(), 1)?;
-    let Some(contract) = request_and_reply() else {
-        panic!(rt; "the table is valid");
-    };
-    let (low, high) = channels.open_with(&rt, contract)?;
+    let (channels, low, high) = opened_with(&rt, rt.alloc(), 1)?;
     channels.cancel(&rt, low, high);
     let (mut low, mut high) = channels.open(&rt)?;
     assert_eq!(rt; low.spot().channel, 0);
     assert!(rt; !low.has_contract() && !high.has_contract());
-    assert_eq!(rt; put(&rt, &channels, &mut low, 9, 7), Sent(1));
-    assert_eq!(rt; take(&rt, &channels, &mut high), Taken(1, 9, Some(7)));
+    assert_answers(
+        &rt,
+        &channels,
+        &mut low,
+        &mut high,
+        &[
+            (0, Put(9, Some(7)), Sent(1)),
+            (1, Take, Taken(1, 9, Some(7))),
+        ],
+    );
+    Ok(())
+}
+
+fn opens_one_more<R: Wait + Abort>(rt: &R, channels: &Channels) -> Result<(), Refused> {
+    let (_low, _high) = channels.open_with(rt, request_and_reply(rt))?;
     Ok(())
 }
 
@@ -70,14 +107,8 @@ fn a_cancelled_contract_is_gone(rt: HostRuntime) -> Result<(), Fail> {
 fn channels_with_contracts_run_out(rt: HostRuntime) -> Result<(), Fail> {
     let channels = Channels::new(rt.alloc(), 1)?;
     for _ in 0..64 {
-        let Some(contract) = request_and_reply() else {
-            panic!(rt; "the table is valid");
-        };
-        assert!(rt; channels.open_with(&rt, contract).is_ok());
+        assert!(rt; opens_one_more(&rt, &channels).is_ok());
     }
-    let Some(contract) = request_and_reply() else {
-        panic!(rt; "the table is valid");
-    };
-    assert!(rt; matches!(channels.open_with(&rt, contract), Err(Refused::NoChannel)));
+    assert!(rt; matches!(opens_one_more(&rt, &channels), Err(Refused::NoChannel)));
     Ok(())
 }

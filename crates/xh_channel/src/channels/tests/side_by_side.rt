@@ -2,22 +2,11 @@
 ghost use Rattle.std.specs.Prelude.{◌<◌};
 
 use super::Channels;
-use super::answers::{Answer, of_put, of_take, one_block, put, take};
-use crate::endpoint::Endpoint;
+use super::answers::Call::{Put, Shut, Take};
+use super::answers::{Answer, Call, answer_of, blocks_of, of_put, of_take};
 use crate::line::Line;
-use std::sync::Wait;
 use std::test::Fail;
 use xh_core::{Contract, Row};
-
-/// One call: a put by the side that may send, a take by either side, a shut of either side.
-#[derive(Clone, Copy, Debug)]
-enum Call {
-    Put,
-    Take,
-    TakeBySender,
-    ShutSender,
-    ShutReceiver,
-}
 
 // The contract under which one side alone sends, always with tag 1.
 fn always_from(side: u8) -> Option<Contract> {
@@ -30,44 +19,18 @@ fn always_from(side: u8) -> Option<Contract> {
     Contract::new(&[row]).ok()
 }
 
-fn by_queue<R: Wait>(
-    rt: &R,
-    channels: &Channels,
-    sender: &mut Endpoint,
-    receiver: &mut Endpoint,
-    call: Call,
-    block: u16,
-) -> Option<Answer> {
-    match call {
-        Call::Put => Some(put(rt, channels, sender, 1, block)),
-        Call::Take => Some(take(rt, channels, receiver)),
-        Call::TakeBySender => Some(take(rt, channels, sender)),
-        Call::ShutSender => {
-            channels.shut(rt, sender);
-            None
-        }
-        Call::ShutReceiver => {
-            channels.shut(rt, receiver);
-            None
-        }
-    }
-}
-
-fn by_line(line: &mut Line, side: u8, call: Call, block: u16) -> Option<Answer>
+fn by_line(line: &mut Line, side: u8, call: Call) -> Answer
     requires { side < 2 }
 {
     match call {
-        Call::Put => Some(of_put(line.put(side, 1, one_block(block)))),
-        Call::Take => Some(of_take(line.take(1 - side))),
-        Call::TakeBySender => Some(of_take(line.take(side))),
-        Call::ShutSender => {
+        Put(tag, block) => of_put(line.put(side, tag, blocks_of(block))),
+        Take => of_take(line.take(side)),
+        Shut => {
             line.shut(side);
-            None
+            Answer::Shut
         }
-        Call::ShutReceiver => {
-            line.shut(1 - side);
-            None
-        }
+        // a line has no turn
+        Call::Turn => Answer::Turn(0),
     }
 }
 
@@ -77,18 +40,18 @@ fn drawn(seed: u64) -> u64 {
         .wrapping_add(1_442_695_040_888_963_407)
 }
 
-// Puts and takes are common, and shuts are rare.
-fn call_of(draw: u64) -> Call {
+// Whether the sender makes the call, and which. Puts and takes are common, and shuts are rare.
+fn call_of(draw: u64, block: u16) -> (bool, Call) {
     match draw % 64 {
-        0..=29 => Call::Put,
-        30..=55 => Call::Take,
-        56..=61 => Call::TakeBySender,
-        62 => Call::ShutSender,
-        _ => Call::ShutReceiver,
+        0..=29 => (true, Put(1, Some(block))),
+        30..=55 => (false, Take),
+        56..=61 => (true, Take),
+        62 => (true, Shut),
+        _ => (false, Shut),
     }
 }
 
-// Each of 64 channels carries 200 calls, each from one side, on a queue and on a line.
+// Each of 64 channels carries 200 calls, each message from one side, on a queue and on a line.
 #[test]
 fn queues_and_lines_answer_alike(rt: HostRuntime) -> Result<(), Fail> {
     let depth = 3;
@@ -96,20 +59,24 @@ fn queues_and_lines_answer_alike(rt: HostRuntime) -> Result<(), Fail> {
     let mut seed = 2026;
     let mut taken = 0u64;
     for run in 0..64u8 {
-        let side = run % 2;
-        let (low, high) = channels.open(&rt)?;
-        let (mut sender, mut receiver) = if side == 0 { (low, high) } else { (high, low) };
-        let Some(contract) = always_from(side) else {
+        let sender = run % 2;
+        let (mut low, mut high) = channels.open(&rt)?;
+        let Some(contract) = always_from(sender) else {
             panic!(rt; "the table is valid");
         };
         let mut line = Line::new(contract, depth);
         for block in 0..200u16 {
             seed = drawn(seed);
-            let call = call_of(seed >> 33);
-            let queued = by_queue(&rt, &channels, &mut sender, &mut receiver, call, block);
-            let lined = by_line(&mut line, side, call, block);
-            assert_eq!(rt; queued, lined, "run {run}, call {block}: {call:?}");
-            if matches!(queued, Some(Answer::Taken(..))) {
+            let (by_sender, call) = call_of(seed >> 33, block);
+            let side = if by_sender { sender } else { 1 - sender };
+            let queued = answer_of(&rt, &channels, &mut low, &mut high, side, call);
+            let lined = by_line(&mut line, side, call);
+            assert_eq!(rt;
+                queued,
+                lined,
+                "run {run}, call {block}: {call:?} by side {side}"
+            );
+            if matches!(queued, Answer::Taken(..)) {
                 taken = taken.wrapping_add(1);
             }
         }
