@@ -7,3 +7,5 @@ pub mod Writings
 pub mod SpellingWords
 pub mod Spellings
 pub mod SpellingLines
+pub mod SayingWords
+pub mod SayingLines

@@ -8,7 +8,7 @@ use Rattle.std.proofs.lemmas.Fmt.{decimal-digits_value}
 use Rattle.std.proofs.lemmas.Str.Parse.{IsNumeralModel, numerals_by_fold}
 use Rattle.xh_script.specs.Words.{is_digit, has_no_zero_in_front, value_of, number_of}
 
-own : IsNumeralModel (λ ds. list_all is_digit ds ≡ true) value_of
+pub own : IsNumeralModel (λ ds. list_all is_digit ds ≡ true) value_of
 own = numerals_by_fold (λ ds. list_all is_digit ds ≡ true) (search rules) (λ n ds. fold (λ m b. m * 10 + (b - 48)) n ds) (search rules)
 
 both : (a b : Bool) → (a && b) ≡ true → (a ≡ true) × (b ≡ true)

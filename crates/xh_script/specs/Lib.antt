@@ -10,3 +10,4 @@ pub mod Scripts
 pub mod Watching
 pub mod Texts
 pub mod Spelling
+pub mod Sayable

@@ -31,7 +31,7 @@ mod word;
 
 pub use command::{Command, Line};
 pub use fault::{Fault, Kind};
-pub use laws::{commands_are_spelled, numbers_tell_names};
+pub use laws::{commands_are_spelled, numbers_tell_names, spelled_commands_are_read};
 pub use ledgers::write_ledger;
 pub use name::Name;
 pub use read::{SCRIPT_LIMIT, read_script};

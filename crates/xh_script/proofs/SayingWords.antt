@@ -1,0 +1,177 @@
+-- The text of a name, a number, bytes or a row is read as it.
+use Rattle.std.proofs.Common.{◌≡◌, ◌<◌, ◌≤◌, ◌+◌, ◌*◌, ◌/◌, ◌%◌, ◌^◌, ◌==◌, inl, inr, ℕ, zero, suc, true, false, List, [], ◌∷◌, ◌++◌, length, get_or, map, Some, Result, Ok, refl, ap, ◌∙◌, arith, nat_lt, length-append}
+use Rattle.std.specs.List.{list_all, slice_split, onto_first}
+use Rattle.std.specs.Fmt.{decimal}
+use Rattle.std.proofs.lemmas.Bool.{leb-true, le-leb, lt-ltb, ltb-true, ltb-false, eq-eqb, ne_eqb, and_parts, and_from, or_right, not_from_false, cases_Bool}
+use Rattle.std.proofs.lemmas.Bool.Decides.{nat_tests}
+use Rattle.std.proofs.lemmas.Fmt.{decimal_nonempty, first_decimal, length-decimal-le, digits_decimal, digits_value-decimal, decimal_digit}
+use Rattle.std.proofs.lemmas.List.Splits.{slice_split-cons_yes, slice_split-cons_no}
+use Rattle.arrayvec.specs.ArrayVec.{ArrayVec}
+use Rattle.xh_model.specs.declared.row.Row.{Row}
+use Rattle.xh_script.specs.Words.{is_name, is_digit, has_no_zero_in_front, is_numeral, value_of, is_hex_letter, is_hex_digit, is_hex, hex_value, hex_bytes}
+use Rattle.xh_script.specs.Steps.{◌>>=◌}
+use Rattle.xh_script.specs.Forms.{name_at, names_at, number_at, number_between, bytes_at, optional_name, row_said, row_of, row_at, rows_at}
+use Rattle.xh_script.specs.Grammar.{is_filled}
+use Rattle.xh_script.specs.Texts.{hex_digit, hex_text}
+use Rattle.xh_script.specs.Spelling.{row_text}
+use Rattle.xh_script.specs.Sayable.{IsName, IsBetween, IsRow, AreRows, AreBytes}
+use Rattle.xh_script.proofs.Numbers.{own}
+use Rattle.xh_script.specs.declared.fault.Kind.{Kind}
+
+-- what a reading gives, goes on
+pub then_ok : {A B : Type 0} (r : Result A Kind) (x : A) (f : A → Result B Kind) (y : Result B Kind) → r ≡ Ok x → f x ≡ y → (r >>= f) ≡ y
+then_ok r x f y h k = rw h k
+
+pub name_back : (w : List ℕ) → IsName w → name_at w ≡ Ok w
+unfolding name_at
+name_back w h = rw h refl
+
+pub names_back : (ws : List (List ℕ)) → list_all is_name ws ≡ true → names_at ws ≡ Ok (record { items = ws })
+unfolding names_at
+names_back ws h = rw h refl
+
+pub optional_back : (w : List ℕ) → IsName w → optional_name (Some w) ≡ Ok (Some w)
+unfolding optional_name
+optional_back w h = rw (name_back w h) refl
+
+-- ---- numbers
+
+front_back : (n : ℕ) → n < 2 ^ 32 → has_no_zero_in_front (decimal n) ≡ true
+front_back zero h = rw (decimal_digit 0 (omega arith)) refl
+front_back (suc n) h =
+    let first = first_decimal (suc n) (omega arith) (omega arith) in
+    or_right (length (decimal (suc n)) == 1) _ (not_from_false _ (ne_eqb (get_or (decimal (suc n)) 0 0) 48 (omega arith)))
+
+numeral_back : (n : ℕ) → n < 2 ^ 32 → is_numeral (decimal n) ≡ true
+numeral_back n h =
+    and_from _ _ (and_from _ _ (and_from _ _ (lt-ltb 0 (length (decimal n)) (decimal_nonempty n (omega arith))) (le-leb (length (decimal n)) 10 (length-decimal-le 10 n (omega arith) (omega arith) (omega arith)))) (front_back n h)) (digits_decimal own n (omega arith))
+
+pub number_back : (n : ℕ) → n < 2 ^ 32 → number_at (decimal n) ≡ Ok n
+unfolding number_at
+number_back n h =
+    let value : value_of (decimal n) ≡ n = digits_value-decimal own n (omega arith) in
+    rw (numeral_back n h, value, lt-ltb n (2 ^ 32) h) refl
+
+pub between_back : (low high n : ℕ) → high ≤ 65535 → IsBetween low high n → number_between low high (decimal n) ≡ Ok n
+unfolding number_between
+between_back low high n small h = rw (number_back n (omega (arith, h.1)), le-leb low n h.0, le-leb n high h.1) refl
+
+pub number_filled : (n : ℕ) → n < 2 ^ 32 → is_filled (decimal n) ≡ true
+number_filled n h = lt-ltb 0 (length (decimal n)) (decimal_nonempty n (omega arith))
+
+pub name_filled : (w : List ℕ) → IsName w → is_filled w ≡ true
+name_filled w h = (and_parts _ _ (and_parts _ _ (and_parts _ _ (and_parts _ _ h).0).0).0).0
+
+pub names_filled : (ws : List (List ℕ)) → list_all is_name ws ≡ true → list_all is_filled ws ≡ true
+names_filled [] h = refl
+names_filled (w ∷ ws) h = let t = and_parts _ _ h in and_from _ _ (name_filled w t.0) (names_filled ws t.1)
+
+-- ---- bytes
+
+digit_value : (d : ℕ) → d ≤ 15 → (is_hex_digit (hex_digit d) ≡ true) × (hex_value (hex_digit d) ≡ d)
+digit_value d h = elim (cases_Bool (nat_lt d 10)) [
+  | inl b ↦
+      let below = ltb-true d 10 b in
+      let yes : is_digit (48 + d) ≡ true = and_from _ _ (le-leb 48 (48 + d) (omega arith)) (le-leb (48 + d) 57 (omega arith)) in
+      (rw (b, yes) refl, rw (b, yes) (omega arith))
+  | inr b ↦
+      let above = ltb-false d 10 b in
+      let no : is_digit (87 + d) ≡ false = grind (arith, nat_tests) in
+      let yes : is_hex_letter (87 + d) ≡ true = and_from _ _ (le-leb 97 (87 + d) (omega arith)) (le-leb (87 + d) 102 (omega arith)) in
+      (rw (b, no, yes) refl, rw (b, no, yes) (omega arith))
+]
+
+bytes_told : (bytes : List ℕ) → list_all (λ b. nat_lt b 256) bytes ≡ true → hex_bytes (hex_text bytes) ≡ bytes
+bytes_told [] h = refl
+bytes_told (b ∷ bytes) h =
+    let t = and_parts _ _ h in
+    let below : b < 256 = ltb-true b 256 t.0 in
+    let high = digit_value (b / 16) (omega arith) in
+    let low = digit_value (b % 16) (omega arith) in
+    let whole : 16 * (b / 16) + b % 16 ≡ b = omega arith in
+    rw (high.1, low.1, bytes_told bytes t.1) (ap (λ x. x ∷ bytes) whole)
+
+hex_digits : (bytes : List ℕ) → list_all (λ b. nat_lt b 256) bytes ≡ true → list_all is_hex_digit (hex_text bytes) ≡ true
+hex_digits [] h = refl
+hex_digits (b ∷ bytes) h =
+    let t = and_parts _ _ h in
+    let below : b < 256 = ltb-true b 256 t.0 in
+    let high = digit_value (b / 16) (omega arith) in
+    let low = digit_value (b % 16) (omega arith) in
+    and_from _ _ high.0 (and_from _ _ low.0 (hex_digits bytes t.1))
+
+length-hex_text : (bytes : List ℕ) → length (hex_text bytes) ≡ 2 * length bytes
+length-hex_text [] = refl
+length-hex_text (b ∷ bytes) = omega (arith, length-hex_text bytes)
+
+hex_back : (bytes : List ℕ) → AreBytes bytes → is_hex (hex_text bytes) ≡ true
+hex_back bytes h =
+    let long = length-hex_text bytes in
+    let n = length (hex_text bytes) in
+    and_from _ _ (and_from _ _ (and_from _ _ (le-leb 2 n (omega (arith, h.1.0))) (le-leb n 64 (omega (arith, h.1.1)))) (eq-eqb (n % 2) 0 (omega arith))) (hex_digits bytes h.0)
+
+pub bytes_back : (bytes : ArrayVec ℕ) → AreBytes bytes.items → bytes_at (hex_text bytes.items) ≡ Ok bytes
+unfolding bytes_at
+bytes_back bytes h = rw (hex_back bytes.items h, bytes_told bytes.items h.0) refl
+
+pub bytes_filled : (bytes : List ℕ) → AreBytes bytes → is_filled (hex_text bytes) ≡ true
+bytes_filled bytes h = lt-ltb 0 (length (hex_text bytes)) (omega (arith, length-hex_text bytes, h.1.0))
+
+-- ---- rows
+
+not_colon : (d : ℕ) → is_digit d ≡ true → (d == 58) ≡ false
+not_colon d h =
+    let t = and_parts _ _ h in
+    ne_eqb d 58 (omega (arith, leb-true d 57 t.1))
+
+split_digits : (ds rest : List ℕ) → list_all is_digit ds ≡ true → slice_split (λ b. b == 58) (ds ++ 58 ∷ rest) ≡ ds ∷ slice_split (λ b. b == 58) rest
+split_digits [] rest h = slice_split-cons_yes (λ b. b == 58) 58 rest refl
+split_digits (d ∷ ds) rest h =
+    let t = and_parts _ _ h in
+    slice_split-cons_no (λ b. b == 58) d (ds ++ 58 ∷ rest) (not_colon d t.0) ∙ ap (onto_first d) (split_digits ds rest t.1)
+
+last_digits : (ds : List ℕ) → list_all is_digit ds ≡ true → slice_split (λ b. b == 58) ds ≡ ds ∷ []
+last_digits [] h = refl
+last_digits (d ∷ ds) h =
+    let t = and_parts _ _ h in
+    slice_split-cons_no (λ b. b == 58) d ds (not_colon d t.0) ∙ ap (onto_first d) (last_digits ds t.1)
+
+digits : (n : ℕ) → n ≤ 65535 → list_all is_digit (decimal n) ≡ true
+digits n h = digits_decimal own n (omega arith)
+
+row_said_back : (row : Row) → IsRow row → row_said (decimal row.state) (decimal row.tag) (decimal row.side) (decimal row.next) ≡ Ok row
+unfolding row_said
+row_said_back row h =
+    rw (
+      between_back 0 15 row.state (omega arith) (omega arith, h.0),
+      between_back 0 65535 row.tag (omega arith) (omega arith, h.1),
+      between_back 0 1 row.side (omega arith) (omega arith, h.2),
+      between_back 0 15 row.next (omega arith) (omega arith, h.3),
+    ) refl
+
+row_of_back : (row : Row) → IsRow row → row_of (decimal row.state ∷ decimal row.tag ∷ decimal row.side ∷ decimal row.next ∷ []) ≡ Ok row
+unfolding row_of
+row_of_back row h = row_said_back row h
+
+row_back : (row : Row) → IsRow row → row_at (row_text row) ≡ Ok row
+row_back row h =
+    let state = split_digits (decimal row.state) _ (digits row.state (omega (arith, h.0))) in
+    let tag = split_digits (decimal row.tag) _ (digits row.tag h.1) in
+    let side = split_digits (decimal row.side) _ (digits row.side (omega (arith, h.2))) in
+    let next = last_digits (decimal row.next) (digits row.next (omega (arith, h.3))) in
+    let pieces = state ∙ ap (λ ws. decimal row.state ∷ ws) (tag ∙ ap (λ ws. decimal row.tag ∷ ws) (side ∙ ap (λ ws. decimal row.side ∷ ws) next)) in
+    ap row_of pieces ∙ row_of_back row h
+
+pub rows_back : (rows : List Row) → AreRows rows → rows_at (map row_text rows) ≡ Ok rows
+rows_back [] h = refl
+rows_back (row ∷ rows) h = then_ok (row_at (row_text row)) row _ _ (row_back row h.0) (then_ok (rows_at (map row_text rows)) rows _ _ (rows_back rows h.1) refl)
+
+front_filled : (xs ys : List ℕ) → 0 < length xs → is_filled (xs ++ ys) ≡ true
+front_filled xs ys h = lt-ltb 0 (length (xs ++ ys)) (omega (arith, length-append xs ys, h))
+
+row_filled : (row : Row) → IsRow row → is_filled (row_text row) ≡ true
+row_filled row h = front_filled (decimal row.state) _ (decimal_nonempty row.state (omega (arith, h.0)))
+
+pub rows_filled : (rows : List Row) → AreRows rows → list_all is_filled (map row_text rows) ≡ true
+rows_filled [] h = refl
+rows_filled (row ∷ rows) h = and_from _ _ (row_filled row h.0) (rows_filled rows h.1)
