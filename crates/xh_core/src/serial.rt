@@ -140,3 +140,6 @@ impl Serial {
         })
     }
 }
+
+#[cfg(test)]
+mod tests;

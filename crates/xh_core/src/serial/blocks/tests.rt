@@ -125,24 +125,47 @@ fn a_refused_growth_of_alloc_leaves_nothing(rt: HostRuntime) {
     assert_eq!(rt; rest.rec, 1);
 }
 
-/// The order of the refusals with all growth refused from some one on:
-/// `rt try --test --fail-alloc N..` does so; with memory the last is NoSpace.
+/// What is tested ahead of memory is answered whether or not the growth of that call is refused, and
+/// want of memory ahead of want of room: `rt try --test --fail-alloc N` refuses the N-th growth, and
+/// a call has one at most.
 #[test]
-fn the_order_where_all_growth_is_refused(rt: HostRuntime) {
+fn refusals_ahead_of_memory(rt: HostRuntime) {
     let config = Config {
         arenas: 2,
+        records: 2,
+        ..small()
+    };
+    let Ok(mut heap) = Serial::new(rt.alloc(), config) else {
+        return;
+    };
+    assert_eq!(rt; heap.spawn().ok(), Some(0));
+    assert_eq!(rt; told(heap.alloc(rt.alloc(), 1, 16, 0)), Err(11));
+    assert_eq!(rt; told(heap.alloc(rt.alloc(), 0, 16, 2)), Err(3));
+    assert_eq!(rt; told(heap.alloc(rt.alloc(), 0, 257, 0)), Err(2));
+    let first = told(heap.alloc(rt.alloc(), 0, 256, 0));
+    assert!(rt; matches!(first, Ok(256) | Err(1)));
+    if first.is_ok() {
+        let full = told(heap.alloc(rt.alloc(), 0, 16, 0));
+        assert!(rt; matches!(full, Err(4 | 1)));
+        assert!(rt; full == Err(4) || told(heap.alloc(rt.alloc(), 0, 16, 0)) == Err(4));
+    }
+}
+
+/// So it is of a split, whose last test ahead of memory is that of a record.
+#[test]
+fn refusals_of_split_ahead_of_memory(rt: HostRuntime) {
+    let config = Config {
         records: 1,
         ..small()
     };
     let Ok(mut heap) = Serial::new(rt.alloc(), config) else {
         return;
     };
-    let a = heap.spawn().expect(&rt, "a place");
-    assert_eq!(rt; told(heap.alloc(rt.alloc(), a, 257, 0)), Err(2));
-    let first = told(heap.alloc(rt.alloc(), a, 256, 0));
-    assert!(rt; matches!(first, Ok(256) | Err(1)));
-    if first.is_ok() {
-        assert_eq!(rt; told(heap.alloc(rt.alloc(), a, 16, 0)), Err(5));
+    assert_eq!(rt; heap.spawn().ok(), Some(0));
+    if heap.alloc(rt.alloc(), 0, 48, 0).is_ok() {
+        assert!(rt; matches!(heap.split(rt.alloc(), 0, 0, 20), Err(Refused::BadCut)));
+        assert!(rt; matches!(heap.split(rt.alloc(), 0, 0, 16), Err(Refused::NoRecord)));
+        assert!(rt; matches!(heap.alloc(rt.alloc(), 0, 16, 0), Err(Refused::NoRecord)));
     }
 }
 
