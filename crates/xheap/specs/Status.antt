@@ -1,10 +1,16 @@
 -- How a run of the program ends, and with which status.
-use Rattle.std.specs.Prelude.{◌≡◌, ◌⊎◌, ℕ, List, Option}
+use Rattle.std.specs.Prelude.{◌≡◌, ◌≢◌, ◌⊎◌, ℕ, List, Option}
+use Rattle.clap.specs.declared.error.kind.ErrorKind.{ErrorKind}
+use Rattle.clap.specs.declared.error.kind.ErrorKind.TheVariants.{DisplayHelp, DisplayVersion}
 use Rattle.xh_model.specs.declared.event.Config.{Config}
 use Rattle.xh_script.specs.declared.fault.Fault.{Fault}
 use Rattle.xh_script.specs.declared.fault.Fault.TheVariants.{Script, Memory, Read, Write, Gate, BadConfig}
 use Rattle.xh_script.specs.declared.watch.Watched.{Watched}
 use Rattle.xh_runner.specs.Runs.{Meant, Failed}
+
+-- the words of the command line are wrong, and ask neither for help nor for the version
+abbrev pub IsMistake : ErrorKind → Type 0
+IsMistake kind = (kind ≢ DisplayHelp) × (kind ≢ DisplayVersion)
 
 -- the status of a fault
 abbrev pub status_of : Fault → ℕ

@@ -1,6 +1,7 @@
 //! The whole program, over any reader and writers.
 ghost use Rattle.std.specs.Prelude.{◌≡◌, ◌⊎◌};
-ghost use Rattle.xheap.specs.Status.{Ran, Told};
+ghost use Rattle.clap.specs.Values.{kind_of};
+ghost use Rattle.xheap.specs.Status.{Ran, Told, IsMistake};
 
 use crate::fault::{DONE, WORDS, out_of_memory, told};
 use crate::options::{Options, options_of};
@@ -29,7 +30,10 @@ fn explained<W: Write, E: Write>(
     out: &mut Watched<W>,
     err: &mut E,
 ) -> u8
-    ensures { (result ≡ 0) ⊎ (((result ≡ 2) ⊎ (result ≡ 3)) × (out.new ≡ out.old)) }
+    ensures status { (result ≡ 0) ⊎ (((result ≡ 2) ⊎ (result ≡ 3)) × (out.new ≡ out.old)) }
+    ensures help { result ≡ 0 → ¬ IsMistake (kind_of error.now) }
+    ensures words { result ≡ 2 → IsMistake (kind_of error.now) }
+    ensures memory { kind_of error.now ≡ ErrorKind.OutOfMemory → result ≡ 3 }
 {
     if error.kind() == ErrorKind::OutOfMemory {
         return out_of_memory(err);
