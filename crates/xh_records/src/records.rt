@@ -160,6 +160,23 @@ impl<B: Fits + Drop> Records<B> {
         seat.order.remove(k);
     }
 
+    // Takes a record that is free. The error is the word that it found, which says something else.
+    fn claim_one(&self, seat: &mut Seat<B>, number: u16) -> Result<(), u64>
+        requires own { IsSeatOf self.now seat.old }
+        requires exists { IsRecord self.now.shape number }
+        ensures claimed { OnOk result ((l : LotOf B) × (seat.new ≡ with_lots seat.old (seat.old.lots ++ (number, l) ∷ [])) × IsLotOf seat.old.shape number l × IsEmpty l) }
+        ensures fresh { OnOk result (Among (keys seat.old.lots) number → ⊥) }
+        ensures event { OnOk result (IsEvent B.is_fit self.now.shape seat.old seat.new (Claim seat.old.process number)) }
+        ensures missed { IfErr result (λ word. (word ≢ 0) × Knows (view_of seat.old) (index_of self.now.shape.records number) word × (seat.new ≡ seat.old)) }
+    {
+        let word = self.take(seat, number, OwnerWord::Free);
+        if word == OwnerWord::Free.encode() {
+            Ok(())
+        } else {
+            Err(word)
+        }
+    }
+
     /// Takes the first record of the arena that it finds free: one compare a record, from index 0 on.
     /// Its lot is empty. The error has a word for each record, none of them free.
     pub fn claim(&self, seat: &mut Seat<B>, arena: u8) -> Result<u16, Seen>
@@ -177,11 +194,10 @@ impl<B: Fits + Drop> Records<B> {
         };
         for index in 0..self.records {
             let number = number_at(arena, index);
-            let found = self.take(seat, number, OwnerWord::Free);
-            if found == 0 {
-                return Ok(number);
+            match self.claim_one(seat, number) {
+                Ok(()) => return Ok(number),
+                Err(word) => seen.words.push(word),
             }
-            seen.words.push(found);
         }
         Err(seen)
     }

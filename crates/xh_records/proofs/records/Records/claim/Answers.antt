@@ -1,37 +1,30 @@
 use Rattle.std.proofs.Common.{rules, arith, ◌%◌, ◌≡◌, ◌≢◌, ℕ, ◌+◌, ◌<◌, ◌≤◌, ◌∙◌, length, get_or, subst, sym, ap, ◌++◌, ◌∷◌, [], length-append}
-use Rattle.std.specs.Prelude.{Some, None}
-use mathlib.Core.Option.{none}
 use Rattle.xh_arena.specs.Views.{LotOf}
-use Rattle.xh_model.specs.declared.event.Holder.TheVariants.{Process}
 use Rattle.xh_model.specs.declared.event.Event.TheVariants.{Claim}
 use Rattle.xh_model.specs.Words.{IsWord}
 use Rattle.xh_records.specs.Showing.{IsLotOf, IsEmpty}
-use Rattle.xh_records.specs.Seats.{Held, with_lots, IsStep}
-use Rattle.xh_records.proofs.After.{is_event}
+use Rattle.xh_records.specs.Seats.{Held, with_lots, IsEvent}
 use Rattle.xh_records.proofs.Lists.{seen_more}
 use Rattle.xh_records.proofs.records.Records.claim.Goals as goal
 
-pub returns-then-found-eq0-clause-claimed : goal.returns-then-found-eq0-clause-claimed
-returns-then-found-eq0-clause-claimed g c =
+pub returns-in-Ok-clause-claimed : goal.returns-in-Ok-clause-claimed
+returns-in-Ok-clause-claimed g c =
     let r : ℕ = c.number_at-number.result in
-    subst (λ (z : Held g.row.B.Denot). (l : LotOf g.row.B.Denot) × (c.take-found.new.seat ≡ with_lots z (z.lots ++ (r, l) ∷ [])) × IsLotOf z.shape r l × IsEmpty l) c.loop-index.invariant.same (c.take-found.ensures.taken c.if-found-eq0.true)
+    subst (λ (z : Held g.row.B.Denot). (l : LotOf g.row.B.Denot) × (c.claim_one.new.seat ≡ with_lots z (z.lots ++ (r, l) ∷ [])) × IsLotOf z.shape r l × IsEmpty l) c.loop-index.invariant.same c.in-Ok.ensures.claimed
 
-pub returns-then-found-eq0-clause-event : goal.returns-then-found-eq0-clause-event
-returns-then-found-eq0-clause-event g c =
-    let r : ℕ = c.number_at-number.result in
-    let below : r % 256 < c.args.self.now.shape.records = search rules in
-    is_event g.B.Fits.is_fit c.args.self.now.shape c.args.seat.now c.take-found.new.seat (Claim c.args.seat.now.process r) below
-    (subst (λ (z : Held g.row.B.Denot). IsStep g.B.Fits.is_fit c.args.self.now.shape z c.take-found.new.seat r None (Some (Process z.process)) none) c.loop-index.invariant.same (c.take-found.ensures.step c.if-found-eq0.true))
+pub returns-in-Ok-clause-event : goal.returns-in-Ok-clause-event
+returns-in-Ok-clause-event g c =
+    subst (λ (z : Held g.row.B.Denot). IsEvent g.B.Fits.is_fit c.args.self.now.shape z c.claim_one.new.seat (Claim z.process c.number_at-number.result)) c.loop-index.invariant.same c.in-Ok.ensures.event
 
 pub loop-index-preserved : goal.loop-index-preserved
 loop-index-preserved g c =
     let i = c.loop-index.invariant in
-    let miss = c.take-found.ensures.missed c.if-found-eq0.false in
+    let miss = c.in-Err.ensures.missed in
     let long : length c.loop-index.seen.words.items ≡ c.loop-index.index = i.long in record {
-      same = miss.0 ∙ i.same;
-      long = ap length c.push.ensures.items ∙ length-append c.loop-index.seen.words.items (c.take-found.result ∷ []) ∙ ap (λ (n : ℕ). n + 1) long;
+      same = miss.2 ∙ i.same;
+      long = ap length c.push.ensures.items ∙ length-append c.loop-index.seen.words.items (c.in-Err.word ∷ []) ∙ ap (λ (n : ℕ). n + 1) long;
       seen = λ k below. subst (λ z. (get_or z k 0 ≢ 0) × IsWord (get_or z k 0)) (sym c.push.ensures.items)
-          (seen_more (λ n. (n ≢ 0) × IsWord n) c.loop-index.seen.words.items c.take-found.result (λ j m. i.seen j (omega arith)) (c.if-found-eq0.false, miss.1.0) k (omega arith));
+          (seen_more (λ n. (n ≢ 0) × IsWord n) c.loop-index.seen.words.items c.in-Err.word (λ j m. i.seen j (omega arith)) (miss.0, miss.1.0) k (omega arith));
     }
 
 pub returns-clause-seen : goal.returns-clause-seen
