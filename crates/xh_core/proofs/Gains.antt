@@ -2,7 +2,7 @@
 use Rattle.std.proofs.Common.{◌≡◌, ◌≢◌, ℕ, ◌+◌, ◌-◌, ◌*◌, ◌/◌, ◌%◌, ◌<◌, ◌≤◌, List, [], ◌∷◌, ◌++◌, length, take, drop, length-drop, Bool, true, false, cond, refl, sym, ap, ◌∙◌, subst, arith, ◌⊎◌, inl, inr, get_or-set_same, get_or-set_other}
 use Rattle.std.specs.Prelude.{Option, Some, None, is_some, ◌==◌, ◌||◌, nat_lt, replicate, slice_set, slice_index_or}
 use Rattle.std.proofs.lemmas.Bool.{cases_eq, cases_Bool, false≢true, eq-eqb, ne_eqb, ltb-true, ltb-false}
-use Rattle.std.proofs.lemmas.List.{length-set, length-append, length-take-le}
+use Rattle.std.proofs.lemmas.List.{length-set, length-append, length-take-le, set_comm}
 use Rattle.std.proofs.lemmas.List.Sums.{sum_by-append}
 use Rattle.xh_model.specs.declared.event.Holder.{Holder}
 use Rattle.xh_model.specs.declared.event.Holder.TheVariants.{Process, Direction}
@@ -312,13 +312,13 @@ pub buffer_length : (m : Machine) (r : ℕ) → IsWhole m → end_of m r ≡ Non
 buffer_length m r w d = w.bytes r ∙ rw d refl
 
 -- the machine whose fields these are is what a split makes of m
-pub parted_is : (m : Machine) (p r t k i j : ℕ) (s : Store) (b c : List ℕ) (ps : List Place) → is_current m p ≡ true → s ≡ after (Cut p r t k) (after (Claim p t) m.store) → i ≡ t → j ≡ r →
+pub parted_is : (m : Machine) (p r t k i j : ℕ) (s : Store) (b c : List ℕ) (ps : List Place) → is_current m p ≡ true → r ≢ t → s ≡ after (Cut p r t k) (after (Claim p t) m.store) → i ≡ t → j ≡ r →
     b ≡ drop k (buffer m r) → c ≡ take k (buffer m r) → ps ≡ slice_set m.places (p % 32) (record (place m p) { blocks = record { items = (place m p).blocks.items ++ t ∷ [] } }) →
-    record m { store = s; buffers = slice_set (slice_set m.buffers i b) j c; places = ps } ≡ parted p r t k m
+    record m { store = s; buffers = slice_set (slice_set m.buffers j c) i b; places = ps } ≡ parted p r t k m
 unfolding parted
-parted_is m p r t k i j s b c ps current store at_t at_r tail head listed =
-    same_machine (record m { store = s; buffers = slice_set (slice_set m.buffers i b) j c; places = ps }) (parted p r t k m) store refl
-    (ap (λ (x : ℕ). slice_set (slice_set m.buffers x b) j c) at_t ∙ (ap (λ (x : ℕ). slice_set (slice_set m.buffers t b) x c) at_r
-    ∙ (ap (λ (x : List ℕ). slice_set (slice_set m.buffers t x) r c) tail ∙ ap (λ (x : List ℕ). slice_set (slice_set m.buffers t (drop k (buffer m r))) r x) head)))
+parted_is m p r t k i j s b c ps current ne store at_t at_r tail head listed =
+    same_machine (record m { store = s; buffers = slice_set (slice_set m.buffers j c) i b; places = ps }) (parted p r t k m) store refl
+    (ap (λ (x : ℕ). slice_set (slice_set m.buffers j c) x b) at_t ∙ (ap (λ (x : ℕ). slice_set (slice_set m.buffers x c) t b) at_r ∙ (set_comm m.buffers r t c b ne
+    ∙ (ap (λ (x : List ℕ). slice_set (slice_set m.buffers t x) r c) tail ∙ ap (λ (x : List ℕ). slice_set (slice_set m.buffers t (drop k (buffer m r))) r x) head))))
     (listed ∙ ap (λ (xs : List ℕ). slice_set m.places (p % 32) (record (place m p) { blocks = record { items = xs ++ t ∷ [] } })) (sym (current_blocks m p current)))
     refl refl refl refl

@@ -12,3 +12,4 @@ pub mod PlaceCommands
 pub mod Gaining
 pub mod Checks
 pub mod Pairing
+pub mod Paging

@@ -1,30 +1,23 @@
 //! The bytes of a block.
-ghost use Rattle.std.specs.Prelude.{◌≡◌, ◌+◌, ◌≤◌, [], IfOk, drop, length, replicate, take};
+ghost use Rattle.std.specs.Prelude.{◌≡◌, ◌+◌, ◌≤◌, [], IfOk, OnErr, OnOk, drop, length, replicate, take};
 ghost use Rattle.xh_core.specs.BlockCommands.{overwritten};
 
+use crate::pages::Pages;
 use std::alloc::{AllocError, Global};
 use std::marker::Model;
 
 /// The bytes of a data block; none for a record that is no data block.
 #[derive(Drop)]
 pub(crate) struct Buffer {
-    bytes: Option<Vec<u8>>,
+    pages: Option<Pages>,
 }
 
 impl Model for Buffer {
-    ghost use Rattle.std.specs.Prelude.{List, ℕ, [], option_map, unwrap_or};
+    ghost use Rattle.std.specs.Prelude.{List, ℕ, [], unwrap_or};
 
     ghost Value = { List ℕ };
 
-    ghost view = { λ b. unwrap_or (option_map (λ bytes. bytes.items) b.bytes) [] };
-}
-
-/// Bytes come in the place of as many from `at` on.
-fn put(old: &mut Vec<u8>, at: usize, bytes: &[u8])
-    requires { at + length bytes.now ≤ length old.old.items }
-    ensures { old.new.items ≡ overwritten at bytes.now old.old.items }
-{
-    old[at..at + bytes.len()].copy_from_slice(bytes);
+    ghost view = { λ b. unwrap_or b.pages [] };
 }
 
 impl Buffer {
@@ -32,24 +25,15 @@ impl Buffer {
     pub(crate) fn none() -> Buffer
         ensures { result ≡ [] }
     {
-        Buffer { bytes: None }
+        Buffer { pages: None }
     }
 
     /// So many zeros.
     pub(crate) fn zeroed(alloc: Global, count: u32) -> Result<Buffer, AllocError>
         ensures { IfOk result (λ b. b ≡ replicate count 0) }
     {
-        let bytes = vec![in alloc; 0u8; count as usize]?;
-        Ok(Buffer { bytes: Some(bytes) })
-    }
-    /// The bytes.
-    pub(crate) fn as_slice(&self) -> &[u8]
-        ensures { result.now ≡ self.now }
-    {
-        match &self.bytes {
-            Some(bytes) => bytes.as_slice(),
-            None => &[],
-        }
+        let pages = Pages::zeroed(alloc, count)?;
+        Ok(Buffer { pages: Some(pages) })
     }
 
     /// Writes the bytes from `at` on into `out`, as many as it has room for.
@@ -57,9 +41,10 @@ impl Buffer {
         requires { at + length out.old ≤ length self.now }
         ensures { out.new ≡ take (length out.old) (drop at self.now) }
     {
-        let bytes = self.as_slice();
-        let rest = &bytes[at..];
-        out.copy_from_slice(&rest[..out.len()]);
+        match &self.pages {
+            Some(pages) => pages.copy(at, out),
+            None => {}
+        }
     }
 
     /// These bytes come in the place of as many from `at` on.
@@ -67,29 +52,26 @@ impl Buffer {
         requires { at + length bytes.now ≤ length self.old }
         ensures { self.new ≡ overwritten at bytes.now self.old }
     {
-        match &mut self.bytes {
-            Some(old) => put(old, at, bytes),
+        match &mut self.pages {
+            Some(pages) => pages.overwrite(at, bytes),
             None => {}
         }
     }
 
-    /// What is past the first `at` bytes.
-    pub(crate) fn tail(&self, alloc: Global, at: usize) -> Result<Buffer, AllocError>
-        requires { at ≤ length self.now }
-        ensures { IfOk result (λ tail. tail ≡ drop at self.now) }
+    /// Only the first `at` bytes stay, and what is past them is the answer. A refused growth leaves
+    /// the bytes as they were.
+    pub(crate) fn split(&mut self, alloc: Global, at: usize) -> Result<Buffer, AllocError>
+        requires { at ≤ length self.old }
+        ensures tail { IfOk result (λ tail. tail ≡ drop at self.old) }
+        ensures head { OnOk result (self.new ≡ take at self.old) }
+        ensures kept { OnErr result (self.new ≡ self.old) }
     {
-        let bytes = self.as_slice();
-        let tail = bytes[at..].to_vec(alloc)?;
-        Ok(Buffer { bytes: Some(tail) })
-    }
-
-    /// Only the first `at` bytes stay.
-    pub(crate) fn shorten(&mut self, at: usize)
-        ensures { self.new ≡ take at self.old }
-    {
-        match &mut self.bytes {
-            Some(bytes) => bytes.truncate(at),
-            None => {}
+        match &mut self.pages {
+            Some(pages) => {
+                let tail = pages.split(alloc, at)?;
+                Ok(Buffer { pages: Some(tail) })
+            }
+            None => Ok(Buffer::none()),
         }
     }
 }

@@ -9,6 +9,7 @@ mod glance;
 mod ledger;
 mod line;
 mod message;
+mod pages;
 mod place;
 mod plain;
 mod refused;

@@ -120,11 +120,10 @@ impl Serial {
         ensures refused { result ≡ Err Refused.OutOfMemory → split_command true p r k self.old ≡ (result, self.new) }
     {
         let t = self.check_split(p, r, k)?;
-        let tail = self.buffers[usize::from(r)].tail(alloc, k as usize)?;
+        let tail = self.buffers[usize::from(r)].split(alloc, k as usize)?;
         let rest = self.plain.len(r) - k;
         self.plain.part(p, r, t, k);
         self.buffers[usize::from(t)] = tail;
-        self.buffers[usize::from(r)].shorten(k as usize);
         list_record(&mut self.places, p, t);
         Ok((Block { rec: r, len: k }, Block { rec: t, len: rest }))
     }

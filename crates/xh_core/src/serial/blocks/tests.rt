@@ -233,3 +233,40 @@ fn a_refused_growth_of_split_leaves_nothing(rt: HostRuntime) {
     };
     assert_eq!(rt; rest.rec, 2);
 }
+
+/// Of a large block only a few bytes are written. Each part of a cut keeps its own, whether the head
+/// or the tail is the smaller.
+#[test]
+fn a_few_bytes_of_a_large_block(rt: HostRuntime) {
+    let config = Config {
+        bytes: 1_048_576,
+        ..small()
+    };
+    let mut heap = Serial::new(rt.alloc(), config).expect(&rt, "room");
+    let a = heap.spawn().expect(&rt, "a place");
+    let x = heap.alloc(rt.alloc(), a, 1_048_576, 0).expect(&rt, "room");
+    for at in [1_022, 524_286, 1_048_572] {
+        assert!(rt; heap.write(a, x.rec, at, &[1, 2, 3, 4]).is_ok());
+    }
+    let mut bytes = [9; 6];
+    assert!(rt; heap.read(a, x.rec, 1_021, &mut bytes).is_ok());
+    assert_eq!(rt; bytes, [0, 1, 2, 3, 4, 0]);
+    let (head, rest) = heap
+        .split(rt.alloc(), a, x.rec, 1_024)
+        .expect(&rt, "a record");
+    let (_, tail) = heap
+        .split(rt.alloc(), a, rest.rec, 1_046_528)
+        .expect(&rt, "a record");
+    assert!(rt; heap.read(a, head.rec, 1_018, &mut bytes).is_ok());
+    assert_eq!(rt; bytes, [0, 0, 0, 0, 1, 2]);
+    assert!(rt; heap.read(a, rest.rec, 0, &mut bytes).is_ok());
+    assert_eq!(rt; bytes, [3, 4, 0, 0, 0, 0]);
+    assert!(rt; heap.read(a, rest.rec, 523_261, &mut bytes).is_ok());
+    assert_eq!(rt; bytes, [0, 1, 2, 3, 4, 0]);
+    assert!(rt; heap.read(a, tail.rec, 1_018, &mut bytes).is_ok());
+    assert_eq!(rt; bytes, [0, 0, 1, 2, 3, 4]);
+    assert_eq!(rt; heap.free(a, rest.rec).ok(), Some(1_046_528));
+    let y = heap.alloc(rt.alloc(), a, 1_046_528, 0).expect(&rt, "room");
+    assert!(rt; heap.read(a, y.rec, 0, &mut bytes).is_ok());
+    assert_eq!(rt; bytes, [0; 6]);
+}

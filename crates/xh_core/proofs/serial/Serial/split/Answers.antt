@@ -1,6 +1,6 @@
-use Rattle.std.proofs.Common.{◌≡◌, ◌≢◌, ◌∙◌, ◌+◌, ◌/◌, ◌<◌, ◌∷◌, [], ℕ, List, length, take, drop, arith, sym, ap, subst, true, false, Some, None, get_or-set_other}
+use Rattle.std.proofs.Common.{◌≡◌, ◌≢◌, ◌∙◌, ◌+◌, ◌/◌, ◌<◌, ◌∷◌, [], ℕ, List, length, take, drop, arith, sym, ap, subst, true, false, Some, None}
 use Rattle.std.specs.Prelude.{slice_set}
-use Rattle.std.proofs.lemmas.List.{length-set}
+use Rattle.std.proofs.lemmas.List.{set-get_or}
 use Rattle.std.proofs.lemmas.Result.{err_from_is_err_and}
 use Rattle.xh_model.specs.declared.event.Holder.TheVariants.{Process}
 use Rattle.xh_model.specs.Store.{Store, holds, len}
@@ -22,7 +22,12 @@ returns-in_err-t-clause-done c = λ _.
     rw (e.1, e.2) (split_stopped false c.args.p c.args.r c.args.k c.args.self.now c.in_err-t.field-0.0 c.in_err-t.ensures)
 
 pub returns-in_err-tail-clause-refused : goal.returns-in_err-tail-clause-refused
-returns-in_err-tail-clause-refused c = λ h. rw h (split_memory c.args.p c.args.r c.args.k c.args.self.now c.in_ok-t.ensures.0)
+returns-in_err-tail-clause-refused c = λ h.
+    let m : Machine = record { store = c.self.inside.plain; ends = c.self.inside.ends.items; buffers = c.self.inside.buffers.items; places = c.self.inside.places.items; lines = c.self.inside.lines.items; contracts = c.self.inside.contracts.items; opened = c.self.inside.opened; depth = c.self.inside.depth } in
+    let tested : first_refusal (split_heads m c.args.p c.args.r c.args.k) ≡ None = rw (← c.self.view_is) at c.in_ok-t.ensures.0 in
+    let kept : slice_set m.buffers c.from.result c.split.new.self ≡ m.buffers =
+    ap (λ (b : List ℕ). slice_set m.buffers c.from.result b) (c.in_err-tail.ensures.kept ∙ c.index_mut.ensures.value) ∙ set-get_or m.buffers c.from.result c.index_mut.result.now in
+    rw (h, kept, ← c.self.view_is) (split_memory c.args.p c.args.r c.args.k m tested)
 
 pub part-requires-clause-known : goal.part-requires-clause-known
 part-requires-clause-known c =
@@ -53,8 +58,8 @@ list_record-requires-clause-room c =
     let runs : IsRunning m c.args.p = rw (← c.self.view_is) at c.in_ok-t.ensures.1.runs in
     room_for m c.args.p c.in_ok-t.t c.self.invariant runs f.free (in_range m.store c.in_ok-t.t c.self.invariant.store f.known)
 
-pub invariant_of-self : goal.invariant_of-self
-invariant_of-self c =
+pub invariant_of-self-2 : goal.invariant_of-self-2
+invariant_of-self-2 c =
     let m : Machine = record { store = c.self.inside.plain; ends = c.self.inside.ends.items; buffers = c.self.inside.buffers.items; places = c.self.inside.places.items; lines = c.self.inside.lines.items; contracts = c.self.inside.contracts.items; opened = c.self.inside.opened; depth = c.self.inside.depth } in
     let found : free_record m.store (c.args.r / 256) ≡ Some c.in_ok-t.t = rw (← c.self.view_is) at c.in_ok-t.ensures.1.found in
     let f : IsFree m.store (c.args.r / 256) c.in_ok-t.t = free_is m.store (c.args.r / 256) c.in_ok-t.t c.self.invariant.store found in
@@ -62,16 +67,11 @@ invariant_of-self c =
     let held : holds m.store (Process c.args.p) c.args.r ≡ true = rw (← c.self.view_is) at c.in_ok-t.ensures.1.held in
     let ne : c.args.r ≢ c.in_ok-t.t = apart m.store c.args.p c.args.r c.in_ok-t.t held f.free in
     let there : c.args.r < length m.buffers = held_buffer m c.args.p c.args.r c.self.invariant held in
-    let old : c.index.result.now ≡ buffer m c.args.r = read_at m.buffers c.from.result c.args.r c.index.result.now [] there c.from.ensures c.index.ensures in
-    let tail : c.in_ok-tail.tail ≡ drop c.args.k (buffer m c.args.r) = c.in_ok-tail.ensures ∙ ap (λ (xs : List ℕ). drop c.args.k xs) old in
-    let bs : List (List ℕ) = slice_set m.buffers c.from-2.result c.in_ok-tail.tail in
-    let still : c.args.r < length bs = subst (λ (n : ℕ). c.args.r < n) (sym (length-set m.buffers c.from-2.result c.in_ok-tail.tail)) there in
-    let away : c.args.r ≢ c.from-2.result = (λ e. ne (e ∙ c.from-2.ensures)) in
-    let same : c.index_mut-3.result.now ≡ buffer m c.args.r =
-    read_at bs c.from-3.result c.args.r c.index_mut-3.result.now [] still c.from-3.ensures c.index_mut-3.ensures.value ∙ get_or-set_other m.buffers c.from-2.result c.args.r c.in_ok-tail.tail [] away in
-    let head : c.shorten.new.self ≡ take c.args.k (buffer m c.args.r) = c.shorten.ensures ∙ ap (λ (xs : List ℕ). take c.args.k xs) same in
-    let made = parted_is m c.args.p c.args.r c.in_ok-t.t c.args.k c.from-2.result c.from-3.result c.part.new.self c.in_ok-tail.tail c.shorten.new.self c.list_record.new.places.items runs.0
-    c.part.ensures.store c.from-2.ensures c.from-3.ensures tail head c.list_record.ensures in
+    let old : c.index_mut.result.now ≡ buffer m c.args.r = read_at m.buffers c.from.result c.args.r c.index_mut.result.now [] there c.from.ensures c.index_mut.ensures.value in
+    let tail : c.in_ok-tail.tail ≡ drop c.args.k (buffer m c.args.r) = c.in_ok-tail.ensures.tail ∙ ap (λ (xs : List ℕ). drop c.args.k xs) old in
+    let head : c.split.new.self ≡ take c.args.k (buffer m c.args.r) = c.in_ok-tail.ensures.head ∙ ap (λ (xs : List ℕ). take c.args.k xs) old in
+    let made = parted_is m c.args.p c.args.r c.in_ok-t.t c.args.k c.from-2.result c.from.result c.part.new.self c.in_ok-tail.tail c.split.new.self c.list_record.new.places.items runs.0 ne
+    c.part.ensures.store c.from-2.ensures c.from.ensures tail head c.list_record.ensures in
     let bare : end_of m c.args.r ≡ None = rw (← c.self.view_is) at c.in_ok-t.ensures.1.no_end in
     let inside : c.args.k < len m.store c.args.r = rw (← c.self.view_is) at c.in_ok-t.ensures.1.inside in
     let store = c.part.ensures.store in
@@ -91,15 +91,10 @@ returns-clause-done c = λ _.
     let held : holds m.store (Process c.args.p) c.args.r ≡ true = rw (← c.self.view_is) at c.in_ok-t.ensures.1.held in
     let ne : c.args.r ≢ c.in_ok-t.t = apart m.store c.args.p c.args.r c.in_ok-t.t held f.free in
     let there : c.args.r < length m.buffers = held_buffer m c.args.p c.args.r c.self.invariant held in
-    let old : c.index.result.now ≡ buffer m c.args.r = read_at m.buffers c.from.result c.args.r c.index.result.now [] there c.from.ensures c.index.ensures in
-    let tail : c.in_ok-tail.tail ≡ drop c.args.k (buffer m c.args.r) = c.in_ok-tail.ensures ∙ ap (λ (xs : List ℕ). drop c.args.k xs) old in
-    let bs : List (List ℕ) = slice_set m.buffers c.from-2.result c.in_ok-tail.tail in
-    let still : c.args.r < length bs = subst (λ (n : ℕ). c.args.r < n) (sym (length-set m.buffers c.from-2.result c.in_ok-tail.tail)) there in
-    let away : c.args.r ≢ c.from-2.result = (λ e. ne (e ∙ c.from-2.ensures)) in
-    let same : c.index_mut-3.result.now ≡ buffer m c.args.r =
-    read_at bs c.from-3.result c.args.r c.index_mut-3.result.now [] still c.from-3.ensures c.index_mut-3.ensures.value ∙ get_or-set_other m.buffers c.from-2.result c.args.r c.in_ok-tail.tail [] away in
-    let head : c.shorten.new.self ≡ take c.args.k (buffer m c.args.r) = c.shorten.ensures ∙ ap (λ (xs : List ℕ). take c.args.k xs) same in
-    let made = parted_is m c.args.p c.args.r c.in_ok-t.t c.args.k c.from-2.result c.from-3.result c.part.new.self c.in_ok-tail.tail c.shorten.new.self c.list_record.new.places.items runs.0
-    c.part.ensures.store c.from-2.ensures c.from-3.ensures tail head c.list_record.ensures in
+    let old : c.index_mut.result.now ≡ buffer m c.args.r = read_at m.buffers c.from.result c.args.r c.index_mut.result.now [] there c.from.ensures c.index_mut.ensures.value in
+    let tail : c.in_ok-tail.tail ≡ drop c.args.k (buffer m c.args.r) = c.in_ok-tail.ensures.tail ∙ ap (λ (xs : List ℕ). drop c.args.k xs) old in
+    let head : c.split.new.self ≡ take c.args.k (buffer m c.args.r) = c.in_ok-tail.ensures.head ∙ ap (λ (xs : List ℕ). take c.args.k xs) old in
+    let made = parted_is m c.args.p c.args.r c.in_ok-t.t c.args.k c.from-2.result c.from.result c.part.new.self c.in_ok-tail.tail c.split.new.self c.list_record.new.places.items runs.0 ne
+    c.part.ensures.store c.from-2.ensures c.from.ensures tail head c.list_record.ensures in
     let tested : first_refusal (split_heads m c.args.p c.args.r c.args.k) ≡ None = rw (← c.self.view_is) at c.in_ok-t.ensures.0 in
     rw (made, c.len.ensures, ← c.self.view_is) (split_gives c.args.p c.args.r c.args.k c.in_ok-t.t m tested found)
