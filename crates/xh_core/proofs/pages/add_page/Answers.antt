@@ -1,5 +1,4 @@
-use Rattle.std.proofs.Common.{rules, ◌≡◌, ◌++◌, length, refl}
-use Rattle.xh_core.specs.Paging.{byte_at}
+use Rattle.std.proofs.Common.{rules, ◌≡◌, length, refl}
 use Rattle.xh_core.proofs.Paging.{added_here, added_else}
 use Rattle.xh_core.proofs.pages.add_page.Goals as goal
 

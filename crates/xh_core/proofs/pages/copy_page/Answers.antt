@@ -1,6 +1,6 @@
-use Rattle.std.proofs.Common.{rules, ◌≡◌, ◌+◌, ◌*◌, ◌/◌, ◌%◌, ◌≤◌, length, sym, ap, ◌∙◌, arith}
+use Rattle.std.proofs.Common.{rules, ◌≡◌, ◌+◌, ◌*◌, ◌%◌, ◌≤◌, length, sym, ap, ◌∙◌, arith}
 use Rattle.std.proofs.lemmas.List.{get_or_past}
-use Rattle.xh_core.specs.Paging.{entry, nowhere, missing}
+use Rattle.xh_core.specs.Paging.{entry, nowhere}
 use Rattle.xh_core.proofs.Paging.{byte_missing}
 use Rattle.xh_core.proofs.pages.copy_page.Goals as goal
 

@@ -1,4 +1,4 @@
-use Rattle.std.proofs.Common.{◌∙◌, ◌/◌}
+use Rattle.std.proofs.Common.{◌∙◌}
 use Rattle.xh_core.proofs.Paging.{set_here, set_else}
 use Rattle.xh_core.proofs.pages.put.Goals as goal
 

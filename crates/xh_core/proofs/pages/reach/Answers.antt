@@ -1,7 +1,7 @@
-use Rattle.std.proofs.Common.{rules, ◌≡◌, ◌+◌, ◌*◌, ◌/◌, ◌%◌, ◌≤◌, ℕ, length, replicate, sym, ◌∙◌, ap, inl, inr, arith}
+use Rattle.std.proofs.Common.{rules, ◌≡◌, ◌/◌, ◌%◌, ◌≤◌, length, sym, ◌∙◌, ap, inl, inr, arith}
 use Rattle.std.proofs.lemmas.Bool.{cases_eq}
 use Rattle.std.proofs.lemmas.List.{get_or-replicate}
-use Rattle.xh_core.specs.Paging.{byte_at, entry, nowhere, missing}
+use Rattle.xh_core.specs.Paging.{entry, nowhere}
 use Rattle.xh_core.proofs.Paging.{byte_missing}
 use Rattle.xh_core.proofs.pages.reach.Goals as goal
 

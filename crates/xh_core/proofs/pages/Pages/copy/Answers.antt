@@ -1,5 +1,4 @@
-use Rattle.std.proofs.Common.{◌≡◌, ◌+◌, ◌≤◌, length, take, drop, ap, sym, ◌∙◌, ℕ, List, arith}
-use Rattle.xh_core.specs.Paging.{shown}
+use Rattle.std.proofs.Common.{◌≡◌, ◌+◌, length, take, drop, ap, sym, ◌∙◌, ℕ, List, arith}
 use Rattle.xh_core.proofs.Paging.{shown_length, shown_is, shown_part}
 use Rattle.xh_core.proofs.pages.Pages.copy.Goals as goal
 

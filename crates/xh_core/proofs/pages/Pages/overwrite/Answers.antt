@@ -1,6 +1,5 @@
-use Rattle.std.proofs.Common.{◌≡◌, ◌+◌, ◌≤◌, length, ap, sym, ◌∙◌, ℕ, List, arith}
+use Rattle.std.proofs.Common.{◌≡◌, length, ap, sym, ◌∙◌, ℕ, List, arith}
 use Rattle.xh_core.specs.BlockCommands.{overwritten}
-use Rattle.xh_core.specs.Paging.{shown}
 use Rattle.xh_core.proofs.Paging.{shown_length, shown_over}
 use Rattle.xh_core.proofs.pages.Pages.overwrite.Goals as goal
 

@@ -1,5 +1,5 @@
-use Rattle.std.proofs.Common.{◌≡◌, ◌+◌, ◌-◌, ◌*◌, ◌/◌, ◌%◌, ◌<◌, ◌≤◌, length, take, drop, ap, sym, ◌∙◌, ℕ, List, arith}
-use Rattle.xh_core.specs.Paging.{byte_at, shown}
+use Rattle.std.proofs.Common.{◌≡◌, ◌+◌, ◌*◌, ◌/◌, ◌%◌, length, take, drop, ap, sym, ◌∙◌, ℕ, List, arith}
+use Rattle.xh_core.specs.Paging.{byte_at}
 use Rattle.xh_core.proofs.Paging.{shown_length, shown_moved, shown_part}
 use Rattle.xh_core.proofs.pages.Pages.part.Goals as goal
 

@@ -1,5 +1,4 @@
-use Rattle.std.proofs.Common.{◌≡◌, ◌≤◌, length, take, ap, sym, ◌∙◌, subst, ℕ, List, arith}
-use Rattle.xh_core.specs.Paging.{shown}
+use Rattle.std.proofs.Common.{◌≡◌, length, take, ap, sym, ◌∙◌, ℕ, List, arith}
 use Rattle.xh_core.proofs.Paging.{shown_length, shown_take}
 use Rattle.xh_core.proofs.pages.Pages.shorten.Goals as goal
 

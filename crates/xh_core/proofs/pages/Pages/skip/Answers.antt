@@ -1,5 +1,4 @@
-use Rattle.std.proofs.Common.{◌≡◌, ◌≤◌, length, drop, ap, sym, ◌∙◌, subst, ℕ, List, arith}
-use Rattle.xh_core.specs.Paging.{shown}
+use Rattle.std.proofs.Common.{◌≡◌, length, drop, ap, sym, ◌∙◌, ℕ, List, arith}
 use Rattle.xh_core.proofs.Paging.{shown_length, shown_drop}
 use Rattle.xh_core.proofs.pages.Pages.skip.Goals as goal
 

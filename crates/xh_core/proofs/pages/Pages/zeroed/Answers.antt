@@ -1,6 +1,5 @@
-use Rattle.std.proofs.Common.{◌≡◌, ◌+◌, ◌≤◌, ℕ, List, length, arith, sym, ap}
+use Rattle.std.proofs.Common.{◌≤◌, length, arith}
 use Rattle.xh_core.proofs.Paging.{shown_zeros}
-use Rattle.xh_core.specs.Paging.{shown, missing}
 use Rattle.xh_core.proofs.pages.Pages.zeroed.Goals as goal
 
 pub returns : goal.returns
