@@ -58,13 +58,13 @@ fn direction_until_shut(rt: HostRuntime) -> Result<(), Fail> {
         &mut high,
         &[
             (0, Put(5, None), Sent(1)),
-            (0, Put(5, None), Sent(2)),
-            (0, Put(5, None), No(14, None)),
+            (0, Put(5, Some(7)), Sent(2)),
+            (0, Put(5, Some(8)), No(14, Some(8))),
             (0, Shut, Closed),
             (1, Take, Taken(1, 5, None)),
-            (1, Take, Taken(2, 5, None)),
+            (1, Take, Taken(2, 5, Some(7))),
             (1, Take, No(15, None)),
-            (1, Put(5, None), No(15, None)),
+            (1, Put(5, Some(9)), No(15, Some(9))),
         ],
     );
     Ok(())
