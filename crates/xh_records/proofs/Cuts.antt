@@ -12,8 +12,9 @@ use Rattle.xh_records.specs.declared.shape.Shape.{Shape}
 use Rattle.xh_records.specs.declared.view.View.{View}
 use Rattle.xh_model.specs.declared.event.Holder.{Holder}
 use Rattle.xh_model.specs.declared.event.Holder.TheVariants.{Process}
-use Rattle.xh_model.specs.Words.{Ownership, IsHeldBy, IsHolder, word_of, place_of}
-use Rattle.xh_records.specs.Showing.{Among, Sits, Owns, IsLotAt, IsEmpty, HomeFits, ViewFits, Shows, Shown, spent, joined, dealt, dealt_from, places_from, all_places}
+use Rattle.xh_model.specs.Words.{IsHeldBy, IsHolder, word_of, place_of}
+use Rattle.xh_records.specs.Showing.{Among, Sits, Owns, IsLotAt, IsEmpty, HomeFits, ViewFits, Shows, Shown, spent, joined, dealt, dealt_from, dealer, IsDealer, places_from, all_places}
+use Rattle.xh_records.specs.Seats.{SplitIsNoEvent, JoinIsNoEvent}
 use Rattle.xh_records.proofs.Keeps.{in_range, is_there, among_front, among_back, among_either}
 
 pub snoc_at : {A : Type 0} (l : List A) (a b : A) (j : ℕ) → get_elem? (l ++ a ∷ []) j ≡ some b → (get_elem? l j ≡ some b) ⊎ ((a ≡ b) × (j ≡ length l))
@@ -54,15 +55,9 @@ pub record Cut (v l r : View) : Type 0 where
   pub hands_shape : (p : ℕ) → Sits r p → r.shape ≡ v.shape
 
 module _ {B : Type 0} (fits : B → ℕ → Bool) (s : Shape) where
-  pub splits : (id : ℕ) (v l r : View) → Cut v l r → Splits (Shown {B = B} fits s) id v l r
-  splits id v l r cut t holds here = (holds.0, after)
+  cuts : (id : ℕ) (v l r : View) → Cut v l r → SplitIsNoEvent {B = B} fits s id v l r
+  cuts id v l r cut t o shown here = after
     where
-      o : Ownership
-      o = holds.0
-
-      shown : Shows fits s o t.words t.homes t.views
-      shown = holds.1
-
       vs : List View
       vs = t.views
 
@@ -138,16 +133,13 @@ module _ {B : Type 0} (fits : B → ℕ → Bool) (s : Shape) where
             (there j u e);
       }
 
+  pub splits : (id : ℕ) (v l r : View) → SplitIsNoEvent {B = B} fits s id v l r → Splits (Shown {B = B} fits s) id v l r
+  splits id v l r none t holds here = (holds.0, none t holds.0 holds.1 here)
+
   -- the joining seat has a place
-  pub joins : (id other p₀ : ℕ) (v w : View) → Sits v p₀ → Joins (Shown {B = B} fits s) id v other w (joined v w) spent
-  joins id other p₀ v w placed t holds here apart seen = (holds.0, after)
+  pub joins_both : (id other p₀ : ℕ) (v w : View) → Sits v p₀ → JoinIsNoEvent {B = B} fits s id v other w (joined v w)
+  joins_both id other p₀ v w placed t o shown here apart w_here = after
     where
-      o : Ownership
-      o = holds.0
-
-      shown : Shows fits s o t.words t.homes t.views
-      shown = holds.1
-
       vs : List View
       vs = t.views
 
@@ -156,9 +148,6 @@ module _ {B : Type 0} (fits : B → ℕ → Bool) (s : Shape) where
 
       now : List View
       now = set (set vs id both) other spent
-
-      w_here : get_elem? vs other ≡ some w
-      w_here = sym (set_else vs id other both apart) ∙ seen
 
       fit_v : ViewFits s o v
       fit_v = shown.views_fit id v here
@@ -221,13 +210,13 @@ module _ {B : Type 0} (fits : B → ℕ → Bool) (s : Shape) where
             (there j u e);
       }
 
+  pub joins : (id other : ℕ) (v w both : View) → JoinIsNoEvent {B = B} fits s id v other w both → Joins (Shown {B = B} fits s) id v other w both spent
+  joins id other v w both none t holds here apart seen = (holds.0, none t holds.0 holds.1 here apart (sym (set_else t.views id other both apart) ∙ seen))
+
 -- a new seat of one place
 from_least : (a k p : ℕ) → Among (places_from a k) p → a ≤ p
 from_least a zero p h = absurd h
 from_least a (suc k) p h = ⊎_elim (λ (e : p ≡ a). omega arith) (λ (t : Among (places_from (suc a) k) p). let l = from_least (suc a) k p t in omega arith) h
-
-abbrev pub dealer : Shape → ℕ → ℕ → View
-dealer s p k = record { shape = s; processes = places_from p k; records = [] }
 
 deal_cut : (s : Shape) (p k : ℕ) → Cut (dealer s p (suc k)) (dealer s (suc p) k) (dealt (dealer s p (suc k)))
 deal_cut s p k = record {
@@ -257,11 +246,12 @@ whole_cut v = record {
   hands_shape = λ q h. refl;
 }
 
-pub deals : {B : Type 0} (fits : B → ℕ → Bool) (s : Shape) (id : ℕ) (v : View) (z : Shape) (p k : ℕ) → v ≡ dealer z p (suc k) → Splits (Shown {B = B} fits s) id v (dealt_from v) (dealt v)
-deals {B} fits s id v z p k is = subst (λ (u : View). Splits (Shown {B = B} fits s) id u (dealt_from u) (dealt u)) (sym is) (splits fits s id (dealer z p (suc k)) (dealer z (suc p) k) (dealt (dealer z p (suc k))) (deal_cut z p k))
+pub deals : {B : Type 0} (fits : B → ℕ → Bool) (s : Shape) (id : ℕ) (v : View) → IsDealer v → SplitIsNoEvent {B = B} fits s id v (dealt_from v) (dealt v)
+deals {B} fits s id v is = let z : Shape = is.0 in let p : ℕ = is.1 in let k : ℕ = is.2 in
+    subst (λ (u : View). SplitIsNoEvent {B = B} fits s id u (dealt_from u) (dealt u)) (sym is.3) (cuts fits s id (dealer z p (suc k)) (dealer z (suc p) k) (dealt (dealer z p (suc k))) (deal_cut z p k))
 
-pub hands_over : {B : Type 0} (fits : B → ℕ → Bool) (s : Shape) (id : ℕ) (v : View) → Splits (Shown {B = B} fits s) id v spent v
-hands_over fits s id v = splits fits s id v spent v (whole_cut v)
+pub hands_over : {B : Type 0} (fits : B → ℕ → Bool) (s : Shape) (id : ℕ) (v : View) → SplitIsNoEvent {B = B} fits s id v spent v
+hands_over fits s id v = cuts fits s id v spent v (whole_cut v)
 
 -- the table at the start
 none_there : (n r : ℕ) (h : Option Holder) → IsHeldBy (replicate n None) r h → h ≡ None

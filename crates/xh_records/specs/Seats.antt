@@ -1,5 +1,5 @@
 -- A seat and the table, as contracts see them.
-use Rattle.std.specs.Prelude.{◌≡◌, ℕ, zero, suc, ◌*◌, ◌/◌, ◌%◌, ◌<◌, ◌≤◌, Bool, List, [], ◌∷◌, ◌==◌, cond, map, length, slice_get, slice_index, slice_set, Some, None, Option}
+use Rattle.std.specs.Prelude.{◌≡◌, ℕ, zero, suc, ◌*◌, ◌/◌, ◌%◌, ◌<◌, ◌≤◌, ◌≢◌, Bool, List, [], ◌∷◌, ◌++◌, ◌==◌, cond, map, length, slice_get, slice_index, slice_set, Some, None, Option}
 use mathlib.Core.Option.{none, some}
 use mathlib.Core.Option as maybe
 use lib.ListN.{get_elem?}
@@ -14,7 +14,7 @@ use Rattle.xh_model.specs.Slots.{index_of}
 use Rattle.xh_model.specs.Words.{Ownership, IsHeldBy, IsHolder, IsDone, record_of, from_of, to_of, word_of, number_of, place_of}
 use Rattle.xh_records.specs.declared.shape.Shape.{Shape}
 use Rattle.xh_records.specs.declared.view.View.{View}
-use Rattle.xh_records.specs.Showing.{Among, IsLotAt, IsEmpty, IsFull, Owns, Shows}
+use Rattle.xh_records.specs.Showing.{Among, IsLotAt, IsEmpty, IsFull, Owns, Shows, spent}
 use Rattle.xh_records.specs.After.{IsAfter}
 pub use Rattle.xh_records.specs.Slots.{or_else, slot_at}
 
@@ -162,6 +162,17 @@ module _ {B : Type 0} (fits : B → ℕ → Bool) (s : Shape) where
   abbrev pub IsNoEvent : Held B → Held B → Type 0
   IsNoEvent old new = (t : State (Option (LotOf B)) View) (o : Ownership) → Shows fits s o t.words t.homes t.views → get_elem? t.views old.id ≡ some (view_of old)
       → Shows fits s o t.words t.homes (slice_set t.views old.id (view_of new))
+
+  -- The same of a seat with the view v that keeps a part of it, and gives the other to a new seat
+  abbrev pub SplitIsNoEvent : ℕ → View → View → View → Type 0
+  SplitIsNoEvent id v kept given = (t : State (Option (LotOf B)) View) (o : Ownership) → Shows fits s o t.words t.homes t.views → get_elem? t.views id ≡ some v
+      → Shows fits s o t.words t.homes (slice_set t.views id kept ++ given ∷ [])
+
+  -- The same of two seats with the views v and w, of which the first has both afterwards, and the other is spent
+  abbrev pub JoinIsNoEvent : ℕ → View → ℕ → View → View → Type 0
+  JoinIsNoEvent id v other w both = (t : State (Option (LotOf B)) View) (o : Ownership) → Shows fits s o t.words t.homes t.views → get_elem? t.views id ≡ some v
+      → other ≢ id → get_elem? t.views other ≡ some w
+      → Shows fits s o t.words t.homes (slice_set (slice_set t.views id both) other spent)
 
 -- the lot of the record at an index, by its holder at the end: that of the seat of its process, or the one at home
 module _ {B : Type 0} (fits : B → ℕ → Bool) (s : Shape) (seats : List (Held B)) where

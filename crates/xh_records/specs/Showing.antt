@@ -107,6 +107,14 @@ module _ {B : Type 0} (fits : B → ℕ → Bool) where
   abbrev pub Shown : Shape → State (Option (LotOf B)) View → Type 0
   Shown s t = (o : Ownership) × Shows fits s o t.words t.homes t.views
 
+-- the view of a seat that stands for k places from p on, each of generation 0, and has no record
+abbrev pub dealer : Shape → ℕ → ℕ → View
+dealer s p k = record { shape = s; processes = places_from p k; records = [] }
+
+-- it stands so for one place at least
+abbrev pub IsDealer : View → Type 0
+IsDealer v = (s : Shape) × (p : ℕ) × (k : ℕ) × (v ≡ dealer s p (suc k))
+
 -- a seat that stands for several places deals its first one out, with no record
 abbrev pub tail_of : List ℕ → List ℕ
 tail_of [] = []

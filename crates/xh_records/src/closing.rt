@@ -8,8 +8,7 @@ ghost use Rattle.xh_records.specs.Slots.{slot_at, or_else};
 ghost use Rattle.xh_records.specs.Showing.{Among};
 ghost use Rattle.xh_records.specs.Seats.{AllSit, Ends, Held, IsGathered, IsSeatOf, indices, lot_in, view_of};
 
-use crate::hand::{Board, Hand};
-use crate::plays::{Both, Whole};
+use crate::hand::{Board, Hand, hand_over, join};
 use crate::records::Records;
 use crate::refused::Refused;
 use crate::seat::Seat;
@@ -85,7 +84,7 @@ fn empty_out<B: Fits + Drop>(
         held[slot] = lot;
         hand.turn();
     }
-    board.split_seat::<Whole>(&mut hand)
+    hand_over(board, &mut hand)
 }
 
 // Empties all seats, and joins their views.
@@ -108,7 +107,7 @@ fn join_all<B: Fits + Drop>(
     let mut hand = empty_out(board, last, held);
     while let Some(seat) = seats.pop() {
         let other = empty_out(board, seat, held);
-        board.join_seat::<Both>(&mut hand, other);
+        join(board, &mut hand, other);
     }
     hand
 }

@@ -7,11 +7,11 @@ ghost use Rattle.atomic_table.specs.Table.{step, Allows};
 ghost use Rattle.xh_arena.specs.Views.{LotOf};
 ghost use Rattle.xh_model.specs.Words.{word_of, IsHolder};
 ghost use Rattle.xh_records.specs.Encoding.{holder_of};
-ghost use Rattle.xh_records.specs.Showing.{Shown, IsLotAt, IsAway, IsHomeLot, Owns, Sits, gained, lost, renewed, without};
+ghost use Rattle.xh_records.specs.Showing.{Shown, IsLotAt, IsAway, IsHomeLot, IsDealer, Owns, Sits, dealt, dealt_from, gained, joined, lost, renewed, spent, without};
 ghost use Rattle.xh_records.specs.Steps.{Knows};
-ghost use Rattle.xh_records.specs.Seats.{IsListed, turns, in_slot};
+ghost use Rattle.xh_records.specs.Seats.{IsListed, JoinIsNoEvent, SplitIsNoEvent, turns, in_slot};
 
-use crate::plays::{Gives, Looks, Renews, Takes};
+use crate::plays::{Both, Deal, Gives, Looks, Renews, Takes, Whole};
 use crate::rule::Showing;
 use crate::shape::Shape;
 use crate::view::View;
@@ -154,4 +154,36 @@ pub(crate) fn renew_hand<B: Fits>(board: &Board<B>, hand: &mut Hand<B>, process:
     ensures { (hand.new.table_id ≡ hand.old.table_id) × (hand.new.id ≡ hand.old.id) × (hand.new.me ≡ (renewed hand.old.me.0, hand.old.me.1)) }
 {
     board.load::<Renews>(hand, 0);
+}
+
+// The first place of the hand, which stands for places of generation 0 and has no record, goes to a new seat.
+pub(crate) fn deal<B: Fits>(board: &Board<B>, hand: &mut Hand<B>) -> Hand<B>
+    requires own { (hand.old.table_id ≡ board.now.table_id) × (0 < board.now.table_id.words) }
+    requires places { IsDealer hand.old.me.0 }
+    ensures hand { (hand.new.table_id ≡ hand.old.table_id) × (hand.new.id ≡ hand.old.id) × (hand.new.me ≡ (dealt_from hand.old.me.0, hand.old.me.1)) }
+    ensures seat { (result.table_id ≡ hand.old.table_id) × (result.me ≡ (dealt hand.old.me.0, [])) }
+    ensures event { SplitIsNoEvent B.is_fit board.now.key hand.old.id hand.old.me.0 hand.new.me.0 result.me.0 }
+{
+    board.split_seat::<Deal>(hand)
+}
+
+// The hand's whole view goes to a new seat, which has no slot.
+pub(crate) fn hand_over<B: Fits>(board: &Board<B>, hand: &mut Hand<B>) -> Hand<B>
+    requires own { (hand.old.table_id ≡ board.now.table_id) × (0 < board.now.table_id.words) }
+    ensures hand { (hand.new.table_id ≡ hand.old.table_id) × (hand.new.id ≡ hand.old.id) × (hand.new.me ≡ (spent, hand.old.me.1)) }
+    ensures seat { (result.table_id ≡ hand.old.table_id) × (result.me ≡ (hand.old.me.0, [])) }
+    ensures event { SplitIsNoEvent B.is_fit board.now.key hand.old.id hand.old.me.0 hand.new.me.0 result.me.0 }
+{
+    board.split_seat::<Whole>(hand)
+}
+
+// The other hand, which has no slot, gives its view to this one, which stands for a place.
+pub(crate) fn join<B: Fits>(board: &Board<B>, hand: &mut Hand<B>, other: Hand<B>)
+    requires own { (hand.old.table_id ≡ board.now.table_id) × (other.table_id ≡ board.now.table_id) × (0 < board.now.table_id.words) }
+    requires empty { other.me.1 ≡ [] }
+    requires place { (p : ℕ) × Sits hand.old.me.0 p }
+    ensures hand { (hand.new.table_id ≡ hand.old.table_id) × (hand.new.id ≡ hand.old.id) × (hand.new.me ≡ (joined hand.old.me.0 other.me.0, hand.old.me.1)) }
+    ensures event { JoinIsNoEvent B.is_fit board.now.key hand.old.id hand.old.me.0 other.id other.me.0 hand.new.me.0 }
+{
+    board.join_seat::<Both>(hand, other);
 }

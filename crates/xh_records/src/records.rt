@@ -9,8 +9,7 @@ ghost use Rattle.xh_records.specs.Encoding.{holder_of};
 ghost use Rattle.xh_records.specs.Steps.{Knows};
 ghost use Rattle.xh_records.specs.Showing.{Among, IsLotOf, IsAway, IsHomeLot, IsEmpty, IsFull, without};
 
-use crate::hand::{give_slot, look_at, renew_hand, take_slot};
-use crate::plays::Deal;
+use crate::hand::{deal, give_slot, look_at, renew_hand, take_slot};
 use crate::refused::Refused;
 use crate::rule::Showing;
 use crate::seat::Seat;
@@ -94,7 +93,7 @@ impl<B: Fits + Drop> Records<B> {
         let mut seats = Vec::with_capacity(alloc, usize::from(places))?;
         for place in 0..places {
             let order = Vec::with_capacity(alloc, count)?;
-            let hand = table.shared.split_seat::<Deal>(&mut dealer);
+            let hand = deal(&table.shared, &mut dealer);
             let process = u16::from(place);
             seats.push_reserved(Seat {
                 hand,

@@ -4,7 +4,6 @@ use Rattle.std.specs.Vec.{vec_len}
 use Rattle.atomic_table.specs.Table.{rest, turned}
 use Rattle.xh_records.specs.Seats.{in_slot, lot_in, indices, Held, slot_at, or_else, keys, AllLots, AllBelow, Distinct}
 use Rattle.xh_records.specs.Showing.{Among}
-use Rattle.xh_records.proofs.Cuts.{hands_over}
 use Rattle.xh_records.proofs.Lists.{next_slot, all_front, index_is, fills, first_is, distinct_split, keys_append, below_at}
 use Rattle.xh_records.proofs.Seating.{lot_here, all_full}
 use Rattle.xh_records.proofs.Numbered.{indices_are, lot_numbered, views_are}
@@ -74,8 +73,8 @@ loop-k-preserved g c =
       },
     )
 
-pub split_seat-requires : goal.split_seat-requires
-split_seat-requires g c = let f = c.loop-k.invariant.3 in (f.table ∙ ap (λ h. h.table) c.seat.view_is ∙ c.requires.own.0, c.requires.own.1, hands_over g.B.Fits.is_fit _ _ _)
+pub hand_over-requires : goal.hand_over-requires
+hand_over-requires g c = let f = c.loop-k.invariant.3 in record { own = (f.table ∙ ap (λ h. h.table) c.seat.view_is ∙ c.requires.own.0, c.requires.own.1) }
 
 -- what the seat has at an index
 pub returns-clause-lots : goal.returns-clause-lots
@@ -99,6 +98,6 @@ returns-clause-full g c = λ k h.
 pub returns-clause-hand : goal.returns-clause-hand
 returns-clause-hand g c =
     let f = c.loop-k.invariant.3 in (
-      c.split_seat.ensures.3 ∙ f.table ∙ ap (λ h. h.table) c.seat.view_is,
-      c.split_seat.ensures.4 ∙ ap (λ z. (z, [])) (f.view ∙ sym (views_are c.args.seat _ _ _ c.seat.inside.hand.me c.seat.view_is _ _ _ c.seat.invariant)),
+      c.hand_over.ensures.seat.0 ∙ f.table ∙ ap (λ h. h.table) c.seat.view_is,
+      c.hand_over.ensures.seat.1 ∙ ap (λ z. (z, [])) (f.view ∙ sym (views_are c.args.seat _ _ _ c.seat.inside.hand.me c.seat.view_is _ _ _ c.seat.invariant)),
     )

@@ -6,7 +6,6 @@ use Rattle.atomic_table.proofs.Lists.{at_last, at_longer}
 use Rattle.xh_records.specs.Seats.{IsGathered, view_of}
 use Rattle.xh_records.specs.Showing.{Sits, spent, joined}
 use Rattle.xh_records.proofs.Keeps.{among_front}
-use Rattle.xh_records.proofs.Cuts.{joins}
 use Rattle.xh_records.proofs.Ended.{gathers, gathers_none}
 use Rattle.xh_records.proofs.closing.join_all.Goals as goal
 
@@ -48,15 +47,18 @@ empty_out-other-requires-clause-own g c =
     let at : get_elem? c.args.seats.items m ≡ some seat = subst (λ z. get_elem? z m ≡ some seat) (sym all) (at_longer (c.pop-in-loop-seat.new.self.items ++ seat ∷ []) i.0 m seat (at_last c.pop-in-loop-seat.new.self.items seat m refl)) in
     (c.requires.own m seat at, c.requires.some_seat.1)
 
-pub join_seat-requires : goal.join_seat-requires
-join_seat-requires g c =
+pub join-requires-clause-own : goal.join-requires-clause-own
+join-requires-clause-own g c =
     let i = c.loop-seat.invariant in let f = i.2 in
     let m : ℕ = length c.pop-in-loop-seat.new.self.items in
     let seat = c.in-Some-pop.seat in
     let all : c.args.seats.items ≡ (c.pop-in-loop-seat.new.self.items ++ seat ∷ []) ++ i.0 = f.split ∙ ap (λ z. z ++ i.0) c.in-Some-pop.ensures.items in
     let at : get_elem? c.args.seats.items m ≡ some seat = subst (λ z. get_elem? z m ≡ some seat) (sym all) (at_longer (c.pop-in-loop-seat.new.self.items ++ seat ∷ []) i.0 m seat (at_last c.pop-in-loop-seat.new.self.items seat m refl)) in
     let e = c.empty_out-other.ensures in
-    (f.table, e.hand.0 ∙ c.requires.own m seat at, ap (λ k. k.1) e.hand.1, c.requires.some_seat.1, joins g.B.Fits.is_fit _ _ _ i.1 _ _ f.placed)
+    (f.table, e.hand.0 ∙ c.requires.own m seat at, c.requires.some_seat.1)
+
+pub join-requires-clause-place : goal.join-requires-clause-place
+join-requires-clause-place g c = let i = c.loop-seat.invariant in (i.1, i.2.placed)
 
 pub loop-seat-preserved : goal.loop-seat-preserved
 loop-seat-preserved g c =
@@ -66,9 +68,9 @@ loop-seat-preserved g c =
     let all : c.args.seats.items ≡ (c.pop-in-loop-seat.new.self.items ++ seat ∷ []) ++ i.0 = f.split ∙ ap (λ z. z ++ i.0) c.in-Some-pop.ensures.items in
     let at : get_elem? c.args.seats.items m ≡ some seat = subst (λ z. get_elem? z m ≡ some seat) (sym all) (at_longer (c.pop-in-loop-seat.new.self.items ++ seat ∷ []) i.0 m seat (at_last c.pop-in-loop-seat.new.self.items seat m refl)) in
     let e = c.empty_out-other.ensures in
-    let j = c.join_seat.ensures in
+    let j = c.join.ensures.hand in
     let v = c.loop-seat.hand.me.0 in
-    let joined_is : c.join_seat.new.seat.me.0 ≡ joined v (view_of seat) = ap (λ k. k.0) j.2 ∙ ap (λ k. joined v k.0) e.hand.1 in
+    let joined_is : c.join.new.hand.me.0 ≡ joined v (view_of seat) = ap (λ k. k.0) j.2 ∙ ap (λ k. joined v k.0) e.hand.1 in
     let size : length c.loop-seat.seats.items ≡ suc m = (let z = ap length c.in-Some-pop.ensures.items ∙ length-append c.pop-in-loop-seat.new.self.items (seat ∷ []) in omega arith) in (
       seat ∷ i.0,
       i.1,
@@ -77,7 +79,7 @@ loop-seat-preserved g c =
         placed = subst (λ z. Sits z i.1) (sym joined_is) (among_front v.processes (seat.process ∷ []) i.1 f.placed);
         table = j.0 ∙ f.table;
         bare = ap (λ k. k.1) j.2 ∙ f.bare;
-        gathered = gathers m c.args.seats.items seat v c.join_seat.new.seat.me.0 c.loop-seat.held.items c.empty_out-other.new.held.items at
+        gathered = gathers m c.args.seats.items seat v c.join.new.hand.me.0 c.loop-seat.held.items c.empty_out-other.new.held.items at
             (subst (λ n. IsGathered n c.args.seats.items v c.loop-seat.held.items) size f.gathered)
             (ap (λ k. k.processes) joined_is) (ap (λ k. k.records) joined_is) (let k : length c.empty_out-other.new.held.items ≡ length c.loop-seat.held.items = search rules in k) e.full
             (λ r h. e.lots r (let k : r < vec_len c.loop-seat.held = search rules in k));

@@ -5,9 +5,9 @@ use lib.ListN.{get_elem?}
 use mathlib.Core.Option.{some}
 use Rattle.xh_model.specs.Words.{number_of}
 use Rattle.xh_model.proofs.Words.{arena_of_number, place_of_number}
-use Rattle.xh_records.specs.Showing.{dealt, dealt_from}
+use Rattle.xh_records.specs.Showing.{dealer, dealt, dealt_from}
 use Rattle.xh_records.specs.Seats.{IsSmall, numbered}
-use Rattle.xh_records.proofs.Cuts.{dealer, deals, opens, snoc_at, mapped_length}
+use Rattle.xh_records.proofs.Cuts.{opens, snoc_at, mapped_length}
 use Rattle.xh_records.proofs.Lists.{elem_slice, slice_elem}
 use Rattle.xh_records.proofs.Seating.{seat_is}
 use Rattle.xh_records.proofs.records.Records.new.Goals as goal
@@ -23,12 +23,16 @@ new-made-requires g c =
     let small : k % n < 256 = omega arith in
     (subst (λ (z : ℕ). (l.index ≡ number_of z k % 256) × (slice_get c.args.names (number_of z k / 256) ≡ Some l.id)) (sym c.from.ensures) (e.0 ∙ sym (place_of_number n k small), ap (slice_get c.args.names) (arena_of_number n k small) ∙ e.1), e.2))
 
-pub split_seat-hand-requires : goal.split_seat-hand-requires
-split_seat-hand-requires g c =
+pub deal-hand-requires-clause-own : goal.deal-hand-requires-clause-own
+deal-hand-requires-clause-own g c = (c.loop-place.invariant.here, search rules)
+
+pub deal-hand-requires-clause-places : goal.deal-hand-requires-clause-places
+deal-hand-requires-clause-places g c =
     let i = c.loop-place.invariant in
+    let key = c.in-Ok.table.shared.key in
     let below : c.loop-place.place < c.args.places = c.loop-place-test.true in
     let one : c.args.places - c.loop-place.place ≡ suc (c.args.places - (c.loop-place.place + 1)) = omega arith in
-    (i.here, search rules, deals g.B.Fits.is_fit _ _ _ c.in-Ok.table.shared.key c.loop-place.place (c.args.places - (c.loop-place.place + 1)) (i.view ∙ ap (dealer c.in-Ok.table.shared.key c.loop-place.place) one))
+    (key, c.loop-place.place, c.args.places - (c.loop-place.place + 1), i.view ∙ ap (dealer key c.loop-place.place) one)
 
 pub invariant_of-push_reserved : goal.invariant_of-push_reserved
 invariant_of-push_reserved g c =
@@ -38,11 +42,11 @@ invariant_of-push_reserved g c =
     let one : c.args.places - c.loop-place.place ≡ suc (c.args.places - (c.loop-place.place + 1)) = omega arith in
     let v = i.view ∙ ap (dealer key c.loop-place.place) one in
     let empty : c.in_ok-order.order.items ≡ [] = search rules in
-    let slots : c.split_seat-hand.result.table_id.slots ≡ c.len-count.result = ap (λ z. z.slots) (c.split_seat-hand.ensures.3 ∙ i.here) ∙ c.in-Ok.ensures.ok.1 ∙ ap length c.in_ok-slots.ensures ∙ mapped_length Some c.args.lots.items ∙ (let e : length c.args.lots.items ≡ c.len-count.result = search rules in e) in
-    let room : c.split_seat-hand.result.table_id.slots ≤ vec_capacity c.in_ok-order.order = subst (λ (z : ℕ). z ≤ vec_capacity c.in_ok-order.order) (sym slots) c.in_ok-order.ensures.capacity in
+    let slots : c.deal-hand.result.table_id.slots ≡ c.len-count.result = ap (λ z. z.slots) (c.deal-hand.ensures.seat.0 ∙ i.here) ∙ c.in-Ok.ensures.ok.1 ∙ ap length c.in_ok-slots.ensures ∙ mapped_length Some c.args.lots.items ∙ (let e : length c.args.lots.items ≡ c.len-count.result = search rules in e) in
+    let room : c.deal-hand.result.table_id.slots ≤ vec_capacity c.in_ok-order.order = subst (λ (z : ℕ). z ≤ vec_capacity c.in_ok-order.order) (sym slots) c.in_ok-order.ensures.capacity in
     let each : key.records ≡ c.args.records = ap (λ z. z.records) c.in-Ok.ensures.ok.5 ∙ c.from.ensures in
     let small : IsSmall key = subst (λ (z : ℕ). (0 < z) × (z ≤ 256)) (sym each) (c.requires.limits.0, c.requires.limits.1) in
-    seat_is c.loop-place.place _ [] _ _ _ _ _ _ _ c.from-process.ensures empty refl refl (c.split_seat-hand.ensures.4 ∙ ap (λ x. (dealt x, [])) v)
+    seat_is c.loop-place.place _ [] _ _ _ _ _ _ _ c.from-process.ensures empty refl refl (c.deal-hand.ensures.seat.1 ∙ ap (λ x. (dealt x, [])) v)
     record { processes = refl; ordered = refl; records = refl; lots = tt; distinct = tt; below = tt; room = room; small = small }
 
 pub loop-place-preserved : goal.loop-place-preserved
@@ -53,15 +57,15 @@ loop-place-preserved g c =
     let one : c.args.places - c.loop-place.place ≡ suc (c.args.places - (c.loop-place.place + 1)) = omega arith in
     let next : suc c.loop-place.place ≡ c.loop-place.place + 1 = omega arith in
     let v = i.view ∙ ap (dealer key c.loop-place.place) one in
-    let me = c.split_seat-hand.ensures.4 in record {
-      here = c.split_seat-hand.ensures.0 ∙ i.here;
-      view = ap (λ m. m.0) c.split_seat-hand.ensures.2 ∙ ap dealt_from v ∙ ap (λ (n : ℕ). dealer key n (c.args.places - (c.loop-place.place + 1))) next;
+    let me = c.deal-hand.ensures.seat.1 in record {
+      here = c.deal-hand.ensures.hand.0 ∙ i.here;
+      view = ap (λ m. m.0) c.deal-hand.ensures.hand.2 ∙ ap dealt_from v ∙ ap (λ (n : ℕ). dealer key n (c.args.places - (c.loop-place.place + 1))) next;
       long = ap length c.push_reserved.ensures.items ∙ length-append _ _ ∙ ap (λ (n : ℕ). n + 1) i.long;
       room = search rules;
       seats = λ k x at. ⊎_elim
           (λ old. i.seats k x old)
           (λ new. (
-            ap (λ h. h.table) (sym new.0) ∙ c.split_seat-hand.ensures.3 ∙ i.here,
+            ap (λ h. h.table) (sym new.0) ∙ c.deal-hand.ensures.seat.0 ∙ i.here,
             ap (λ h. h.shape) (sym new.0) ∙ ap (λ m. m.0.shape) me ∙ ap (λ x. (dealt x).shape) v,
             ap (λ h. h.process) (sym new.0) ∙ c.from-process.ensures ∙ sym i.long ∙ sym new.1,
             ap (λ h. h.lots) (sym new.0) ∙ ap (λ m. numbered m.0.shape.records m.1) me,

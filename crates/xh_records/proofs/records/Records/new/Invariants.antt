@@ -2,8 +2,8 @@ use Rattle.std.proofs.Common.{◌≡◌, ℕ, ◌-◌, ◌≤◌, [], length}
 use Rattle.std.specs.Vec.{vec_capacity}
 use mathlib.Core.Option.{some}
 use lib.ListN.{get_elem?}
-use Rattle.xh_records.proofs.Cuts.{dealer}
 use Rattle.xh_records.specs.Seats.{Held}
+use Rattle.xh_records.specs.Showing.{dealer}
 use Rattle.xh_records.proofs.records.Records.new.Given as goal
 
 abbrev pub invariant-loop-place : goal.invariant-loop-place
