@@ -1,4 +1,4 @@
-// Single steps of a seat on the word in one slot, and what the slot has.
+// Single steps of a seat: on the word in one slot and what the slot has, and those that change views alone.
 ghost use Rattle.std.specs.Prelude.{◌≡◌, ◌≢◌, ℕ, ◌+◌, ◌<◌, ◌≤◌, ◌==◌, false, [], ◌∷◌, ◌++◌, length, slice_index, Some, Option};
 ghost use mathlib.Core.Option.{none, some};
 ghost use prog.Atomic.{either};
@@ -156,7 +156,7 @@ pub(crate) fn renew_hand<B: Fits>(board: &Board<B>, hand: &mut Hand<B>, process:
     board.load::<Renews>(hand, 0);
 }
 
-// The first place of the hand, which stands for places of generation 0 and has no record, goes to a new seat.
+// The first place of the hand goes to a new seat. The hand stands for places of generation 0, and has no record.
 pub(crate) fn deal<B: Fits>(board: &Board<B>, hand: &mut Hand<B>) -> Hand<B>
     requires own { (hand.old.table_id ≡ board.now.table_id) × (0 < board.now.table_id.words) }
     requires places { IsDealer hand.old.me.0 }
