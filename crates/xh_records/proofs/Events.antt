@@ -2,6 +2,7 @@
 use Rattle.std.proofs.Common.{◌≡◌, ℕ, ◌+◌, ◌<◌, Bool, List, [], length, set, get_or, sym, refl, ap, ◌∙◌, subst, inl}
 use Rattle.std.specs.Prelude.{Option, Some}
 use mathlib.Core.Option.{none, some}
+use Rattle.atomic_table.proofs.Lists.{set_again}
 use Rattle.atomic_table.specs.Table.{State}
 use Rattle.xh_arena.specs.Views.{LotOf}
 use Rattle.xh_model.specs.declared.event.Holder.{Holder}
@@ -57,6 +58,11 @@ module _ {B : Type 0} (fits : B → ℕ → Bool) (s : Shape) where
     where
       bare_view : (x : Held B) → x.lots ≡ [] → (view_of x).records ≡ []
       bare_view x e = ap (λ (l : List (ℕ × LotOf B)). (view_of (record x { lots = l })).records) e
+
+  -- a seat that is as it was
+  pub stays_step : (x y : Held B) → y ≡ x → IsNoEvent fits s x y
+  stays_step x y is t o shown seen =
+      subst (λ (vs : List View). Shows fits s o t.words t.homes vs) (sym (set_again t.views x.id (view_of x) seen) ∙ ap (λ (z : Held B). set t.views x.id (view_of z)) (sym is)) shown
 
 -- a seat as contracts see it
 abbrev pub held : {B : Type 0} → TableId → ℕ → ℕ → Me (Option (LotOf B)) View → Held B

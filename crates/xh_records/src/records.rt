@@ -250,6 +250,7 @@ impl<B: Fits + Drop> Records<B> {
         requires exists { IsRecord self.now.shape number }
         ensures word { Knows (view_of seat.old) (index_of self.now.shape.records number) result }
         ensures same { seat.new ≡ seat.old }
+        ensures event { IsNoEvent B.is_fit self.now.shape seat.old seat.new }
     {
         let slot = self.slot_of(number);
         look_at(&self.table.shared, &mut seat.hand, slot)
