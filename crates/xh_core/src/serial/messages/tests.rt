@@ -72,3 +72,42 @@ fn a_full_direction_hands_back(rt: HostRuntime) {
     assert_eq!(rt; told(heap.take(1, 1)), Ok((1, 0, 0)));
     assert_eq!(rt; put(heap.give(0, 0, 0, &[2])), Ok(2));
 }
+
+/// Refused calls take nothing along: a message without blocks is the first.
+#[test]
+fn refusals_of_give(rt: HostRuntime) {
+    let mut heap = wired(&rt, rt.alloc());
+    assert_eq!(rt; put(heap.give(0, 0, 1, &[2, 2])), Err(18));
+    assert_eq!(rt; put(heap.give(0, 0, 1, &[0])), Err(18));
+    assert_eq!(rt;
+        put(heap.give(0, 0, 1, &[2, 2, 2, 2, 2, 2, 2, 2, 2])),
+        Err(17)
+    );
+    assert_eq!(rt; put(heap.give(0, 2, 1, &[])), Err(8));
+    assert!(rt; matches!(heap.free(0, 0), Err(Refused::NotData)));
+    assert!(rt; matches!(heap.read(0, 2, 15, &mut [0; 2]), Err(Refused::BadRange)));
+    assert_eq!(rt; put(heap.give(0, 0, 1, &[])), Ok(1));
+    assert_eq!(rt; told(heap.take(1, 1)), Ok((1, 1, 0)));
+    assert_eq!(rt; told(heap.take(1, 1)), Err(16));
+    assert!(rt; matches!(heap.open(0, 9), Err(Refused::NoArena)));
+    let ledger = heap.ledger();
+    assert_eq!(rt; (ledger.owned, ledger.flight, ledger.out), (80, 0, 80));
+}
+
+/// Where more than one refusal applies, the first in the order is answered.
+#[test]
+fn the_first_refusal_of_give(rt: HostRuntime) {
+    let mut heap = wired(&rt, rt.alloc());
+    assert_eq!(rt; put(heap.give(2, 3, 0, &[3; 9])), Err(11));
+    assert_eq!(rt; put(heap.give(0, 3, 0, &[3; 9])), Err(6));
+    assert_eq!(rt; put(heap.give(0, 2, 0, &[3; 9])), Err(8));
+    assert_eq!(rt; put(heap.give(0, 0, 0, &[3; 9])), Err(17));
+    assert_eq!(rt; put(heap.give(0, 0, 0, &[3, 3])), Err(6));
+    assert_eq!(rt; put(heap.give(0, 0, 0, &[])), Ok(1));
+    assert_eq!(rt; put(heap.give(0, 0, 0, &[2, 2])), Err(18));
+    assert_eq!(rt; put(heap.give(0, 0, 0, &[2])), Err(14));
+    assert_eq!(rt; put(heap.exit(1, 1)), Ok(32));
+    assert_eq!(rt; put(heap.give(1, 3, 0, &[3; 9])), Err(12));
+    assert_eq!(rt; put(heap.give(0, 0, 0, &[2, 2])), Err(18));
+    assert_eq!(rt; put(heap.give(0, 0, 0, &[2])), Err(15));
+}
