@@ -1,12 +1,13 @@
 //! Ends by calls: what is reclaimed, and what stays.
+use crate::ledger::State;
 use crate::refused::Refused;
 use crate::serial::Serial;
 use std::alloc::Global;
 use std::process::Abort;
 use xh_model::Config;
 
-/// The processes 0 and 1 hold the ends 0 and 1 of a channel, and 0 holds the block 2, of 16 bytes.
-fn wired(rt: &impl Abort, alloc: Global) -> Serial {
+/// The process 0 runs alone.
+fn alone(rt: &impl Abort, alloc: Global) -> Serial {
     let config = Config {
         arenas: 1,
         bytes: 256,
@@ -16,6 +17,12 @@ fn wired(rt: &impl Abort, alloc: Global) -> Serial {
     };
     let mut heap = Serial::new(alloc, config).expect(rt, "room");
     assert_eq!(rt; heap.spawn().ok(), Some(0));
+    heap
+}
+
+/// The processes 0 and 1 hold the ends 0 and 1 of a channel, and 0 holds the block 2, of 16 bytes.
+fn wired(rt: &impl Abort, alloc: Global) -> Serial {
+    let mut heap = alone(rt, alloc);
     assert_eq!(rt; heap.spawn().ok(), Some(1));
     assert!(rt; heap.wire(0, 1, 0).is_ok());
     assert_eq!(rt;
@@ -76,4 +83,26 @@ fn a_kill_reclaims_ends_in_flight(rt: HostRuntime) {
     assert_eq!(rt; told(heap.kill(0, 1, 4_096)), Ok(80));
     assert_eq!(rt; told(heap.give(0, near.rec, 3, &[])), Err(15));
     assert_eq!(rt; told(heap.give(0, 0, 3, &[])), Err(15));
+}
+
+/// An end that was sent to itself stays in flight where its process ends: nobody can take it.
+#[test]
+fn endpoint_in_flight_to_itself(rt: HostRuntime) {
+    let mut heap = alone(&rt, rt.alloc());
+    assert!(rt; heap.open(0, 0).is_ok());
+    assert_eq!(rt; told(heap.give(0, 0, 0, &[1])), Ok(1));
+    assert_eq!(rt; told(heap.exit(0, 4_096)), Ok(32));
+    let ledger = heap.ledger();
+    for arena in ledger.arenas.as_slice() {
+        assert_eq!(rt; (arena.size, arena.out, arena.holes), (256, 32, 2));
+        assert_eq!(rt; (arena.taken, arena.back), (64, 32));
+    }
+    for place in ledger.places.as_slice() {
+        assert_eq!(rt;
+            (place.state, place.blocks, place.bytes),
+            (State::Ended, 0, 0)
+        );
+    }
+    assert_eq!(rt; (ledger.arenas.len(), ledger.places.len()), (1, 1));
+    assert_eq!(rt; (ledger.owned, ledger.flight, ledger.out), (0, 32, 32));
 }
