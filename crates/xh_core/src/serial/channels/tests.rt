@@ -1,6 +1,7 @@
 //! Channels by calls: who holds which end, what a contract refuses, and the order of the refusals.
 use crate::block::Block;
 use crate::contract::Contract;
+use crate::message::Taken;
 use crate::refused::Refused;
 use crate::serial::Serial;
 use std::alloc::Global;
@@ -54,6 +55,14 @@ fn told(answer: Result<(Block, Block), Refused>) -> Result<(u16, u32, u16, u32),
 /// The number of a message, or that of the refusal.
 fn put(answer: Result<u64, Refused>) -> Result<u64, u8> {
     answer.map_err(|refused| refused.number())
+}
+
+/// The number, the tag and how many blocks came, or the number of the refusal.
+fn got(answer: Result<Taken, Refused>) -> Result<(u64, u16, usize), u8> {
+    match answer {
+        Ok(taken) => Ok((taken.no, taken.tag, taken.blocks.len())),
+        Err(refused) => Err(refused.number()),
+    }
 }
 
 #[test]
@@ -163,4 +172,48 @@ fn records_room_and_wear(rt: HostRuntime) {
         assert_eq!(rt; (look.blocks, look.bytes), (2, 64));
         assert_eq!(rt; told(heap.wire(1, 0, 1)), Ok((256, 32, 257, 32)));
     }
+}
+
+/// Two ends that speak in turn: a message out of turn is refused, and advances nothing.
+#[test]
+fn contract_refusals(rt: HostRuntime) {
+    let mut heap = two_processes(&rt, rt.alloc(), small());
+    assert_eq!(rt;
+        told(heap.wire_with(0, 1, 0, question_and_answer(&rt))),
+        Ok((0, 32, 1, 32))
+    );
+    assert_eq!(rt; put(heap.give(0, 0, 2, &[])), Err(22));
+    assert_eq!(rt; put(heap.give(1, 1, 2, &[])), Err(22));
+    assert_eq!(rt; put(heap.give(0, 0, 1, &[])), Ok(1));
+    assert_eq!(rt; put(heap.give(0, 0, 1, &[])), Err(22));
+    assert_eq!(rt; put(heap.give(1, 1, 1, &[])), Err(22));
+    assert_eq!(rt; got(heap.take(1, 1)), Ok((1, 1, 0)));
+    assert_eq!(rt; put(heap.give(1, 1, 2, &[])), Ok(1));
+    assert_eq!(rt; got(heap.take(0, 0)), Ok((1, 2, 0)));
+    assert_eq!(rt; put(heap.give(0, 0, 1, &[])), Ok(2));
+}
+
+/// The contract is asked after the blocks, and ahead of the peer and of the room.
+#[test]
+fn a_contract_is_asked_before_the_room(rt: HostRuntime) {
+    let config = Config {
+        depth: 1,
+        ..small()
+    };
+    let mut heap = two_processes(&rt, rt.alloc(), config);
+    let more = Row {
+        state: 0,
+        tag: 1,
+        side: 0,
+        next: 0,
+    };
+    let contract = Contract::new(&[more]).expect(&rt, "a valid table");
+    assert!(rt; heap.wire_with(0, 1, 0, contract).is_ok());
+    assert_eq!(rt; put(heap.give(0, 0, 1, &[])), Ok(1));
+    assert_eq!(rt; put(heap.give(0, 0, 2, &[0])), Err(18));
+    assert_eq!(rt; put(heap.give(0, 0, 2, &[])), Err(22));
+    assert_eq!(rt; put(heap.give(0, 0, 1, &[])), Err(14));
+    assert_eq!(rt; put(heap.exit(1, 1)), Ok(32));
+    assert_eq!(rt; put(heap.give(0, 0, 2, &[])), Err(22));
+    assert_eq!(rt; put(heap.give(0, 0, 1, &[])), Err(15));
 }
