@@ -98,3 +98,38 @@ fn an_empty_ledger(rt: HostRuntime) {
     assert_eq!(rt; (ledger.arenas.len(), ledger.places.len()), (1, 0));
     assert_eq!(rt; (ledger.owned, ledger.flight, ledger.out), (0, 0, 0));
 }
+
+/// Processes that start and end in turn: each place's generations one after the other, and then
+/// the next place's, until none is left.
+#[test]
+fn every_process_number(rt: HostRuntime) {
+    let mut heap = Serial::new(rt.alloc(), small()).expect(&rt, "room");
+    for place in 0..32u16 {
+        for generation in 0..128u16 {
+            let process = place + 32 * generation;
+            assert_eq!(rt; heap.spawn().ok(), Some(process));
+            assert_eq!(rt; heap.exit(process, 1).ok(), Some(0));
+        }
+    }
+    assert!(rt; matches!(heap.spawn(), Err(Refused::NoPlace)));
+}
+
+/// The lowest place is used again first, and the number of a process that has ended stays ended,
+/// though another runs at its place.
+#[test]
+fn places_by_generation(rt: HostRuntime) {
+    let mut heap = Serial::new(rt.alloc(), small()).expect(&rt, "room");
+    assert_eq!(rt; heap.spawn().ok(), Some(0));
+    assert_eq!(rt; heap.spawn().ok(), Some(1));
+    assert_eq!(rt; heap.exit(0, 4_096).ok(), Some(0));
+    assert_eq!(rt; heap.exit(1, 4_096).ok(), Some(0));
+    assert_eq!(rt; heap.spawn().ok(), Some(32));
+    assert!(rt; matches!(heap.alloc(rt.alloc(), 0, 1, 0), Err(Refused::Ended)));
+    assert_eq!(rt; heap.spawn().ok(), Some(33));
+    assert!(rt; matches!(heap.kill(33, 0, 4_096), Err(Refused::Ended)));
+    for (place, process) in [(0, 32), (1, 33)] {
+        let look = heap.glance(place).expect(&rt, "a place");
+        assert_eq!(rt; (look.process, look.state), (process, Status::Running));
+        assert_eq!(rt; (look.blocks, look.bytes), (0, 0));
+    }
+}
