@@ -13,3 +13,4 @@ pub mod Gaining
 pub mod Checks
 pub mod Pairing
 pub mod Paging
+pub mod Measuring

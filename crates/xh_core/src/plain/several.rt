@@ -42,7 +42,7 @@ impl Plain {
         ensures { result ≡ len self.now r }
     {
         let _open = &self.records;
-        if self.knows(r) { self.length(r) } else { 0 }
+        self.lengths.get(usize::from(r)).copied().unwrap_or(0)
     }
 
     /// The lowest record of an arena that nobody holds.
