@@ -1,5 +1,5 @@
 //! Several events at a time, and what is read of the arenas.
-ghost use Rattle.std.specs.Prelude.{◌≡◌, ◌≢◌, ℕ, ◌+◌, ◌<◌, ◌≤◌, ◌/◌, ◌%◌, ◌∷◌, [], Some, None, OnOk, OnErr, MatchResult, length, true};
+ghost use Rattle.std.specs.Prelude.{◌≡◌, ◌≢◌, ℕ, ◌+◌, ◌<◌, ◌≤◌, ◌/◌, ◌%◌, ◌∷◌, [], Some, None, OnOk, OnErr, MatchResult, length, slice_index_or, true};
 ghost use Rattle.std.specs.List.{position};
 ghost use Rattle.std.specs.Prelude.{is_none};
 ghost use Rattle.xh_model.specs.declared.event.Event.TheVariants.{Claim, Carve, Cut, GiveBack, Vacate};
@@ -20,6 +20,13 @@ fn first_free(owners: &[Option<Holder>]) -> Option<usize>
     owners.iter().position(|owner| owner.is_none())
 }
 
+/// The length of a record in a list of lengths; none past its end.
+pub(crate) fn length_at(lengths: &[u32], r: u16) -> u32
+    ensures { result ≡ slice_index_or lengths.now r 0 }
+{
+    lengths.get(usize::from(r)).copied().unwrap_or(0)
+}
+
 impl Plain {
     /// How many arenas there are.
     pub(crate) fn arenas(&self) -> usize
@@ -37,12 +44,19 @@ impl Plain {
         self.arenas[arena as usize].size()
     }
 
+    /// The bytes of each record, by its number.
+    pub(crate) fn lengths(&self) -> &[u32]
+        ensures { (r : ℕ) → slice_index_or result.now r 0 ≡ len self.now r }
+    {
+        let _open = &self.records;
+        self.lengths.as_slice()
+    }
+
     /// The bytes of a record; none where there is no such record.
     pub(crate) fn len(&self, r: u16) -> u32
         ensures { result ≡ len self.now r }
     {
-        let _open = &self.records;
-        self.lengths.get(usize::from(r)).copied().unwrap_or(0)
+        length_at(self.lengths(), r)
     }
 
     /// The lowest record of an arena that nobody holds.

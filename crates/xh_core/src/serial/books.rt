@@ -8,7 +8,7 @@ use crate::ledger::{Ledger, PlaceLine, State};
 use crate::line::Line;
 use crate::message::Message;
 use crate::place::Place;
-use crate::plain::Plain;
+use crate::plain::{Plain, length_at};
 use crate::serial::Serial;
 use crate::serial::places::number;
 use crate::status::Status;
@@ -22,9 +22,10 @@ pub(super) fn total(plain: &Plain, records: &[u16]) -> u64
     ensures sum { result ≡ total plain.now records.now }
     ensures most { result ≤ length records.now * 4294967295 }
 {
+    let lengths = plain.lengths();
     let mut sum = 0u64;
     for r in records {
-        sum += u64::from(plain.len(*r));
+        sum += u64::from(length_at(lengths, *r));
     }
     sum
 }
