@@ -1,7 +1,21 @@
 //! A heap is made, and what a refused growth leaves.
 use super::Serial;
+use crate::message::Taken;
 use crate::refused::Refused;
 use xh_model::Config;
+
+/// The number of a message, or the bytes of an ending, or the number of the refusal.
+pub(super) fn told(answer: Result<u64, Refused>) -> Result<u64, u8> {
+    answer.map_err(|refused| refused.number())
+}
+
+/// The number, the tag and how many blocks came, or the number of the refusal.
+pub(super) fn taken(answer: Result<Taken, Refused>) -> Result<(u64, u16, usize), u8> {
+    match answer {
+        Ok(taken) => Ok((taken.no, taken.tag, taken.blocks.len())),
+        Err(refused) => Err(refused.number()),
+    }
+}
 
 fn two_arenas() -> Config {
     Config {

@@ -1,9 +1,9 @@
 //! Channels by calls: who holds which end, what a contract refuses, and the order of the refusals.
 use crate::block::Block;
 use crate::contract::Contract;
-use crate::message::Taken;
 use crate::refused::Refused;
 use crate::serial::Serial;
+use crate::serial::tests::{taken, told};
 use std::alloc::Global;
 use std::process::Abort;
 use xh_model::{Config, Row};
@@ -45,22 +45,9 @@ fn question_and_answer(rt: &impl Abort) -> Contract {
 }
 
 /// The records and lengths of both ends, or the number of the refusal.
-fn told(answer: Result<(Block, Block), Refused>) -> Result<(u16, u32, u16, u32), u8> {
+fn ends(answer: Result<(Block, Block), Refused>) -> Result<(u16, u32, u16, u32), u8> {
     match answer {
         Ok((low, high)) => Ok((low.rec, low.len, high.rec, high.len)),
-        Err(refused) => Err(refused.number()),
-    }
-}
-
-/// The number of a message, or that of the refusal.
-fn put(answer: Result<u64, Refused>) -> Result<u64, u8> {
-    answer.map_err(|refused| refused.number())
-}
-
-/// The number, the tag and how many blocks came, or the number of the refusal.
-fn got(answer: Result<Taken, Refused>) -> Result<(u64, u16, usize), u8> {
-    match answer {
-        Ok(taken) => Ok((taken.no, taken.tag, taken.blocks.len())),
         Err(refused) => Err(refused.number()),
     }
 }
@@ -68,11 +55,11 @@ fn got(answer: Result<Taken, Refused>) -> Result<(u64, u16, usize), u8> {
 #[test]
 fn a_process_holds_both_ends(rt: HostRuntime) {
     let mut heap = two_processes(&rt, rt.alloc(), small());
-    assert_eq!(rt; told(heap.open(0, 1)), Ok((256, 32, 257, 32)));
-    assert_eq!(rt; told(heap.open(1, 0)), Ok((0, 32, 1, 32)));
-    assert_eq!(rt; told(heap.wire(0, 0, 1)), Ok((258, 32, 259, 32)));
-    assert_eq!(rt; put(heap.give(0, 256, 7, &[])), Ok(1));
-    assert_eq!(rt; put(heap.give(0, 257, 8, &[])), Ok(1));
+    assert_eq!(rt; ends(heap.open(0, 1)), Ok((256, 32, 257, 32)));
+    assert_eq!(rt; ends(heap.open(1, 0)), Ok((0, 32, 1, 32)));
+    assert_eq!(rt; ends(heap.wire(0, 0, 1)), Ok((258, 32, 259, 32)));
+    assert_eq!(rt; told(heap.give(0, 256, 7, &[])), Ok(1));
+    assert_eq!(rt; told(heap.give(0, 257, 8, &[])), Ok(1));
     let taken = heap.take(0, 256).expect(&rt, "a message");
     assert_eq!(rt; (taken.no, taken.tag), (1, 8));
     let look = heap.glance(0).expect(&rt, "a place");
@@ -82,9 +69,9 @@ fn a_process_holds_both_ends(rt: HostRuntime) {
 #[test]
 fn each_process_holds_one_end(rt: HostRuntime) {
     let mut heap = two_processes(&rt, rt.alloc(), small());
-    assert_eq!(rt; told(heap.wire(0, 1, 0)), Ok((0, 32, 1, 32)));
-    assert_eq!(rt; put(heap.give(0, 1, 7, &[])), Err(6));
-    assert_eq!(rt; put(heap.give(0, 0, 7, &[])), Ok(1));
+    assert_eq!(rt; ends(heap.wire(0, 1, 0)), Ok((0, 32, 1, 32)));
+    assert_eq!(rt; told(heap.give(0, 1, 7, &[])), Err(6));
+    assert_eq!(rt; told(heap.give(0, 0, 7, &[])), Ok(1));
     let taken = heap.take(1, 1).expect(&rt, "a message");
     assert_eq!(rt; (taken.no, taken.tag), (1, 7));
     for place in [0, 1] {
@@ -97,40 +84,40 @@ fn each_process_holds_one_end(rt: HostRuntime) {
 fn ends_under_a_contract(rt: HostRuntime) {
     let mut heap = two_processes(&rt, rt.alloc(), small());
     assert_eq!(rt;
-        told(heap.open_with(0, 0, question_and_answer(&rt))),
+        ends(heap.open_with(0, 0, question_and_answer(&rt))),
         Ok((0, 32, 1, 32))
     );
-    assert_eq!(rt; put(heap.give(0, 0, 2, &[])), Err(22));
-    assert_eq!(rt; put(heap.give(0, 1, 2, &[])), Err(22));
-    assert_eq!(rt; put(heap.give(0, 0, 1, &[])), Ok(1));
+    assert_eq!(rt; told(heap.give(0, 0, 2, &[])), Err(22));
+    assert_eq!(rt; told(heap.give(0, 1, 2, &[])), Err(22));
+    assert_eq!(rt; told(heap.give(0, 0, 1, &[])), Ok(1));
     assert_eq!(rt;
-        told(heap.wire_with(0, 1, 1, question_and_answer(&rt))),
+        ends(heap.wire_with(0, 1, 1, question_and_answer(&rt))),
         Ok((256, 32, 257, 32))
     );
-    assert_eq!(rt; put(heap.give(1, 257, 2, &[])), Err(22));
-    assert_eq!(rt; put(heap.give(0, 256, 1, &[])), Ok(1));
+    assert_eq!(rt; told(heap.give(1, 257, 2, &[])), Err(22));
+    assert_eq!(rt; told(heap.give(0, 256, 1, &[])), Ok(1));
     assert_eq!(rt; heap.take(1, 257).ok().map(|taken| taken.tag), Some(1));
-    assert_eq!(rt; put(heap.give(1, 257, 2, &[])), Ok(1));
+    assert_eq!(rt; told(heap.give(1, 257, 2, &[])), Ok(1));
 }
 
 #[test]
 fn the_start_is_tested_first(rt: HostRuntime) {
     let mut heap = two_processes(&rt, rt.alloc(), small());
-    assert_eq!(rt; told(heap.open(2, 2)), Err(11));
-    assert_eq!(rt; told(heap.open(0, 2)), Err(3));
-    assert_eq!(rt; put(heap.exit(1, 10)), Ok(0));
-    assert_eq!(rt; told(heap.open(1, 2)), Err(12));
-    assert_eq!(rt; told(heap.wire(2, 1, 2)), Err(11));
-    assert_eq!(rt; told(heap.wire(1, 2, 2)), Err(12));
-    assert_eq!(rt; told(heap.wire(0, 2, 2)), Err(11));
-    assert_eq!(rt; told(heap.wire(0, 1, 2)), Err(12));
-    assert_eq!(rt; told(heap.wire(0, 0, 2)), Err(3));
+    assert_eq!(rt; ends(heap.open(2, 2)), Err(11));
+    assert_eq!(rt; ends(heap.open(0, 2)), Err(3));
+    assert_eq!(rt; told(heap.exit(1, 10)), Ok(0));
+    assert_eq!(rt; ends(heap.open(1, 2)), Err(12));
+    assert_eq!(rt; ends(heap.wire(2, 1, 2)), Err(11));
+    assert_eq!(rt; ends(heap.wire(1, 2, 2)), Err(12));
+    assert_eq!(rt; ends(heap.wire(0, 2, 2)), Err(11));
+    assert_eq!(rt; ends(heap.wire(0, 1, 2)), Err(12));
+    assert_eq!(rt; ends(heap.wire(0, 0, 2)), Err(3));
     assert_eq!(rt;
-        told(heap.wire_with(0, 1, 2, question_and_answer(&rt))),
+        ends(heap.wire_with(0, 1, 2, question_and_answer(&rt))),
         Err(12)
     );
     assert_eq!(rt;
-        told(heap.open_with(0, 2, question_and_answer(&rt))),
+        ends(heap.open_with(0, 2, question_and_answer(&rt))),
         Err(3)
     );
 }
@@ -149,9 +136,9 @@ fn channels_run_out_before_records(rt: HostRuntime) {
     for _ in 0..64u8 {
         assert!(rt; heap.open(0, 0).is_ok());
     }
-    assert_eq!(rt; told(heap.open(0, 0)), Err(13));
-    assert_eq!(rt; told(heap.wire(0, 1, 0)), Err(13));
-    assert_eq!(rt; told(heap.open(0, 1)), Err(3));
+    assert_eq!(rt; ends(heap.open(0, 0)), Err(13));
+    assert_eq!(rt; ends(heap.wire(0, 1, 0)), Err(13));
+    assert_eq!(rt; ends(heap.open(0, 1)), Err(3));
 }
 
 /// A refused call leaves no end behind.
@@ -165,12 +152,12 @@ fn records_room_and_wear(rt: HostRuntime) {
             ..small()
         };
         let mut heap = two_processes(&rt, rt.alloc(), config);
-        assert_eq!(rt; told(heap.open(0, 0)), Ok((0, 32, 1, 32)));
-        assert_eq!(rt; told(heap.open(0, 0)), Err(refusal));
-        assert_eq!(rt; told(heap.wire(1, 0, 0)), Err(refusal));
+        assert_eq!(rt; ends(heap.open(0, 0)), Ok((0, 32, 1, 32)));
+        assert_eq!(rt; ends(heap.open(0, 0)), Err(refusal));
+        assert_eq!(rt; ends(heap.wire(1, 0, 0)), Err(refusal));
         let look = heap.glance(0).expect(&rt, "a place");
         assert_eq!(rt; (look.blocks, look.bytes), (2, 64));
-        assert_eq!(rt; told(heap.wire(1, 0, 1)), Ok((256, 32, 257, 32)));
+        assert_eq!(rt; ends(heap.wire(1, 0, 1)), Ok((256, 32, 257, 32)));
     }
 }
 
@@ -179,18 +166,18 @@ fn records_room_and_wear(rt: HostRuntime) {
 fn contract_refusals(rt: HostRuntime) {
     let mut heap = two_processes(&rt, rt.alloc(), small());
     assert_eq!(rt;
-        told(heap.wire_with(0, 1, 0, question_and_answer(&rt))),
+        ends(heap.wire_with(0, 1, 0, question_and_answer(&rt))),
         Ok((0, 32, 1, 32))
     );
-    assert_eq!(rt; put(heap.give(0, 0, 2, &[])), Err(22));
-    assert_eq!(rt; put(heap.give(1, 1, 2, &[])), Err(22));
-    assert_eq!(rt; put(heap.give(0, 0, 1, &[])), Ok(1));
-    assert_eq!(rt; put(heap.give(0, 0, 1, &[])), Err(22));
-    assert_eq!(rt; put(heap.give(1, 1, 1, &[])), Err(22));
-    assert_eq!(rt; got(heap.take(1, 1)), Ok((1, 1, 0)));
-    assert_eq!(rt; put(heap.give(1, 1, 2, &[])), Ok(1));
-    assert_eq!(rt; got(heap.take(0, 0)), Ok((1, 2, 0)));
-    assert_eq!(rt; put(heap.give(0, 0, 1, &[])), Ok(2));
+    assert_eq!(rt; told(heap.give(0, 0, 2, &[])), Err(22));
+    assert_eq!(rt; told(heap.give(1, 1, 2, &[])), Err(22));
+    assert_eq!(rt; told(heap.give(0, 0, 1, &[])), Ok(1));
+    assert_eq!(rt; told(heap.give(0, 0, 1, &[])), Err(22));
+    assert_eq!(rt; told(heap.give(1, 1, 1, &[])), Err(22));
+    assert_eq!(rt; taken(heap.take(1, 1)), Ok((1, 1, 0)));
+    assert_eq!(rt; told(heap.give(1, 1, 2, &[])), Ok(1));
+    assert_eq!(rt; taken(heap.take(0, 0)), Ok((1, 2, 0)));
+    assert_eq!(rt; told(heap.give(0, 0, 1, &[])), Ok(2));
 }
 
 /// The contract is asked after the blocks, and ahead of the peer and of the room.
@@ -209,11 +196,11 @@ fn a_contract_is_asked_before_the_room(rt: HostRuntime) {
     };
     let contract = Contract::new(&[more]).expect(&rt, "a valid table");
     assert!(rt; heap.wire_with(0, 1, 0, contract).is_ok());
-    assert_eq!(rt; put(heap.give(0, 0, 1, &[])), Ok(1));
-    assert_eq!(rt; put(heap.give(0, 0, 2, &[0])), Err(18));
-    assert_eq!(rt; put(heap.give(0, 0, 2, &[])), Err(22));
-    assert_eq!(rt; put(heap.give(0, 0, 1, &[])), Err(14));
-    assert_eq!(rt; put(heap.exit(1, 1)), Ok(32));
-    assert_eq!(rt; put(heap.give(0, 0, 2, &[])), Err(22));
-    assert_eq!(rt; put(heap.give(0, 0, 1, &[])), Err(15));
+    assert_eq!(rt; told(heap.give(0, 0, 1, &[])), Ok(1));
+    assert_eq!(rt; told(heap.give(0, 0, 2, &[0])), Err(18));
+    assert_eq!(rt; told(heap.give(0, 0, 2, &[])), Err(22));
+    assert_eq!(rt; told(heap.give(0, 0, 1, &[])), Err(14));
+    assert_eq!(rt; told(heap.exit(1, 1)), Ok(32));
+    assert_eq!(rt; told(heap.give(0, 0, 2, &[])), Err(22));
+    assert_eq!(rt; told(heap.give(0, 0, 1, &[])), Err(15));
 }

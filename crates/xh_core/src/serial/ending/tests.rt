@@ -2,6 +2,7 @@
 use crate::ledger::State;
 use crate::refused::Refused;
 use crate::serial::Serial;
+use crate::serial::tests::told;
 use std::alloc::Global;
 use std::process::Abort;
 use xh_model::Config;
@@ -30,11 +31,6 @@ fn wired(rt: &impl Abort, alloc: Global) -> Serial {
         Some(2)
     );
     heap
-}
-
-/// A number, or that of the refusal.
-fn told(answer: Result<u64, Refused>) -> Result<u64, u8> {
-    answer.map_err(|refused| refused.number())
 }
 
 /// What a process sent before it ended stays: the peer takes it, and then learns of the end.

@@ -1,7 +1,7 @@
 //! Messages by calls: what goes along, and what a refusal hands back.
-use crate::message::Taken;
 use crate::refused::Refused;
 use crate::serial::Serial;
+use crate::serial::tests::{taken, told};
 use std::alloc::Global;
 use std::process::Abort;
 use xh_model::Config;
@@ -27,23 +27,10 @@ fn wired(rt: &impl Abort, alloc: Global) -> Serial {
     heap
 }
 
-/// The number of a message, or that of the refusal.
-fn put(answer: Result<u64, Refused>) -> Result<u64, u8> {
-    answer.map_err(|refused| refused.number())
-}
-
-/// The number, the tag and how many blocks came, or the number of the refusal.
-fn told(answer: Result<Taken, Refused>) -> Result<(u64, u16, usize), u8> {
-    match answer {
-        Ok(taken) => Ok((taken.no, taken.tag, taken.blocks.len())),
-        Err(refused) => Err(refused.number()),
-    }
-}
-
 #[test]
 fn a_block_goes_along(rt: HostRuntime) {
     let mut heap = wired(&rt, rt.alloc());
-    assert_eq!(rt; put(heap.give(0, 0, 7, &[2])), Ok(1));
+    assert_eq!(rt; told(heap.give(0, 0, 7, &[2])), Ok(1));
     assert!(rt; matches!(heap.free(0, 2), Err(Refused::NotOwned)));
     let taken = heap.take(1, 1).expect(&rt, "a message");
     assert_eq!(rt; (taken.no, taken.tag, taken.blocks.len()), (1, 7, 1));
@@ -56,39 +43,39 @@ fn a_block_goes_along(rt: HostRuntime) {
 #[test]
 fn a_message_that_waits_is_there_at_once(rt: HostRuntime) {
     let mut heap = wired(&rt, rt.alloc());
-    assert_eq!(rt; put(heap.give(0, 0, 8, &[2])), Ok(1));
-    assert_eq!(rt; told(heap.take_wait(1, 1)), Ok((1, 8, 1)));
-    assert_eq!(rt; told(heap.take_wait(1, 1)), Err(16));
-    assert_eq!(rt; told(heap.take(0, 0)), Err(16));
+    assert_eq!(rt; told(heap.give(0, 0, 8, &[2])), Ok(1));
+    assert_eq!(rt; taken(heap.take_wait(1, 1)), Ok((1, 8, 1)));
+    assert_eq!(rt; taken(heap.take_wait(1, 1)), Err(16));
+    assert_eq!(rt; taken(heap.take(0, 0)), Err(16));
 }
 
 #[test]
 fn a_full_direction_hands_back(rt: HostRuntime) {
     let mut heap = wired(&rt, rt.alloc());
-    assert_eq!(rt; put(heap.give(0, 0, 0, &[])), Ok(1));
+    assert_eq!(rt; told(heap.give(0, 0, 0, &[])), Ok(1));
     assert!(rt;
         matches!(heap.give(0, 0, 0, &[2]), Err(Refused::Full { back }) if back.as_slice() == [2].as_slice())
     );
-    assert_eq!(rt; told(heap.take(1, 1)), Ok((1, 0, 0)));
-    assert_eq!(rt; put(heap.give(0, 0, 0, &[2])), Ok(2));
+    assert_eq!(rt; taken(heap.take(1, 1)), Ok((1, 0, 0)));
+    assert_eq!(rt; told(heap.give(0, 0, 0, &[2])), Ok(2));
 }
 
 /// Refused calls take nothing along: a message without blocks is the first.
 #[test]
 fn refusals_of_give(rt: HostRuntime) {
     let mut heap = wired(&rt, rt.alloc());
-    assert_eq!(rt; put(heap.give(0, 0, 1, &[2, 2])), Err(18));
-    assert_eq!(rt; put(heap.give(0, 0, 1, &[0])), Err(18));
+    assert_eq!(rt; told(heap.give(0, 0, 1, &[2, 2])), Err(18));
+    assert_eq!(rt; told(heap.give(0, 0, 1, &[0])), Err(18));
     assert_eq!(rt;
-        put(heap.give(0, 0, 1, &[2, 2, 2, 2, 2, 2, 2, 2, 2])),
+        told(heap.give(0, 0, 1, &[2, 2, 2, 2, 2, 2, 2, 2, 2])),
         Err(17)
     );
-    assert_eq!(rt; put(heap.give(0, 2, 1, &[])), Err(8));
+    assert_eq!(rt; told(heap.give(0, 2, 1, &[])), Err(8));
     assert!(rt; matches!(heap.free(0, 0), Err(Refused::NotData)));
     assert!(rt; matches!(heap.read(0, 2, 15, &mut [0; 2]), Err(Refused::BadRange)));
-    assert_eq!(rt; put(heap.give(0, 0, 1, &[])), Ok(1));
-    assert_eq!(rt; told(heap.take(1, 1)), Ok((1, 1, 0)));
-    assert_eq!(rt; told(heap.take(1, 1)), Err(16));
+    assert_eq!(rt; told(heap.give(0, 0, 1, &[])), Ok(1));
+    assert_eq!(rt; taken(heap.take(1, 1)), Ok((1, 1, 0)));
+    assert_eq!(rt; taken(heap.take(1, 1)), Err(16));
     assert!(rt; matches!(heap.open(0, 9), Err(Refused::NoArena)));
     let ledger = heap.ledger();
     assert_eq!(rt; (ledger.owned, ledger.flight, ledger.out), (80, 0, 80));
@@ -98,16 +85,16 @@ fn refusals_of_give(rt: HostRuntime) {
 #[test]
 fn the_first_refusal_of_give(rt: HostRuntime) {
     let mut heap = wired(&rt, rt.alloc());
-    assert_eq!(rt; put(heap.give(2, 3, 0, &[3; 9])), Err(11));
-    assert_eq!(rt; put(heap.give(0, 3, 0, &[3; 9])), Err(6));
-    assert_eq!(rt; put(heap.give(0, 2, 0, &[3; 9])), Err(8));
-    assert_eq!(rt; put(heap.give(0, 0, 0, &[3; 9])), Err(17));
-    assert_eq!(rt; put(heap.give(0, 0, 0, &[3, 3])), Err(6));
-    assert_eq!(rt; put(heap.give(0, 0, 0, &[])), Ok(1));
-    assert_eq!(rt; put(heap.give(0, 0, 0, &[2, 2])), Err(18));
-    assert_eq!(rt; put(heap.give(0, 0, 0, &[2])), Err(14));
-    assert_eq!(rt; put(heap.exit(1, 1)), Ok(32));
-    assert_eq!(rt; put(heap.give(1, 3, 0, &[3; 9])), Err(12));
-    assert_eq!(rt; put(heap.give(0, 0, 0, &[2, 2])), Err(18));
-    assert_eq!(rt; put(heap.give(0, 0, 0, &[2])), Err(15));
+    assert_eq!(rt; told(heap.give(2, 3, 0, &[3; 9])), Err(11));
+    assert_eq!(rt; told(heap.give(0, 3, 0, &[3; 9])), Err(6));
+    assert_eq!(rt; told(heap.give(0, 2, 0, &[3; 9])), Err(8));
+    assert_eq!(rt; told(heap.give(0, 0, 0, &[3; 9])), Err(17));
+    assert_eq!(rt; told(heap.give(0, 0, 0, &[3, 3])), Err(6));
+    assert_eq!(rt; told(heap.give(0, 0, 0, &[])), Ok(1));
+    assert_eq!(rt; told(heap.give(0, 0, 0, &[2, 2])), Err(18));
+    assert_eq!(rt; told(heap.give(0, 0, 0, &[2])), Err(14));
+    assert_eq!(rt; told(heap.exit(1, 1)), Ok(32));
+    assert_eq!(rt; told(heap.give(1, 3, 0, &[3; 9])), Err(12));
+    assert_eq!(rt; told(heap.give(0, 0, 0, &[2, 2])), Err(18));
+    assert_eq!(rt; told(heap.give(0, 0, 0, &[2])), Err(15));
 }
