@@ -2,11 +2,11 @@
 use Rattle.std.proofs.Common.{◌≡◌, ◌≢◌, ℕ, ◌+◌, ◌-◌, ◌*◌, ◌/◌, ◌%◌, ◌<◌, ◌≤◌, List, [], ◌∷◌, ◌++◌, length, take, drop, length-drop, Bool, true, false, cond, refl, sym, ap, ◌∙◌, subst, arith, ◌⊎◌, inl, inr, get_or-set_same, get_or-set_other}
 use Rattle.std.specs.Prelude.{Option, Some, None, is_some, ◌==◌, ◌||◌, nat_lt, replicate, slice_set, slice_index_or}
 use Rattle.std.proofs.lemmas.Bool.{cases_eq, cases_Bool, false≢true, eq-eqb, ne_eqb, ltb-true, ltb-false}
-use Rattle.std.proofs.lemmas.List.{length-set, length-append, length-take-le, set_comm}
+use Rattle.std.proofs.lemmas.List.{length-set, length-append, length-take-le, nil_from_length, set-set, set-get_or}
 use Rattle.std.proofs.lemmas.List.Sums.{sum_by-append}
 use Rattle.xh_model.specs.declared.event.Holder.{Holder}
 use Rattle.xh_model.specs.declared.event.Holder.TheVariants.{Process, Direction}
-use Rattle.xh_model.specs.Store.{Store, owner, len, holds, same_holder, is_held_by, after, IsQuiet}
+use Rattle.xh_model.specs.Store.{Store, owner, len, holds, same_holder, is_held_by, is_known, after, IsQuiet}
 use Rattle.xh_core.specs.declared.place.Place.{Place}
 use Rattle.xh_core.specs.Machine.{Machine, place, is_current, is_vacant, is_ended, blocks, buffer, with_list, end_of, listed, on_way, way_in, times, no_line, AreWired, IsEnd, IsWhole}
 use Rattle.xh_core.specs.Gaining.{Gained}
@@ -14,6 +14,7 @@ use Rattle.xh_core.specs.Refusing.{IsRunning}
 use Rattle.xh_model.specs.declared.event.Event.TheVariants.{Claim, Carve, Cut, GiveBack, Vacate}
 use Rattle.std.specs.List.{position_or_len, remove}
 use Rattle.xh_core.specs.BlockCommands.{allocated, freed_block, overwritten, parted}
+use Rattle.xh_core.proofs.Claiming.{in_range, no_bytes}
 use Rattle.xh_core.proofs.Closing.{found, one_listed, frees_block}
 use Rattle.xh_core.proofs.Kept.{whole_one}
 use Rattle.xh_core.proofs.Fresh.{long_replicate}
@@ -160,6 +161,19 @@ at_most_one : (b : Bool) → cond {A = ℕ} b 1 0 ≤ 1
 at_most_one true = omega arith
 at_most_one false = omega arith
 
+-- a free record has a buffer, and no bytes in it
+pub free_there : (m : Machine) (r : ℕ) → IsWhole m → is_known m.store r ≡ true → r < length m.buffers
+free_there m r w k = subst (λ (n : ℕ). r < n) (sym w.buffers) (in_range m.store r w.store k)
+
+pub free_buffer : (m : Machine) (r : ℕ) → IsWhole m → owner m.store r ≡ None → buffer m r ≡ []
+free_buffer m r w f =
+    let none : end_of m r ≡ None = free_no_end m r w f in
+    nil_from_length (buffer m r) (w.bytes r ∙ rw none (no_bytes (owner m.store r) (len m.store r) f (w.store.owned r)))
+
+-- what was written over an empty place goes when the place is emptied
+pub emptied_again : (bs : List (List ℕ)) (r : ℕ) (b : List ℕ) → slice_index_or bs r [] ≡ [] → slice_set (slice_set bs r b) r [] ≡ bs
+emptied_again bs r b e = set-set bs r b [] ∙ (ap (λ (x : List ℕ). slice_set bs r x) (sym e) ∙ set-get_or bs r [])
+
 -- the list of a process has room for a record that nobody holds
 pub room_for : (m : Machine) (p r : ℕ) → IsWhole m → IsRunning m p → owner m.store r ≡ None → r < length m.store.owners → length (place m p).blocks.items < 2048
 room_for m p r w run f there =
@@ -211,13 +225,12 @@ listed_place m p r w run h =
     subst (λ (xs : List ℕ). position_or_len (λ q. q == r) xs < length xs) (current_blocks m p run.0) there
 
 -- the machine whose fields these are is what a free makes of m
-pub freed_is : (m : Machine) (p r k : ℕ) (s : Store) (b : List ℕ) (ps : List Place) → is_current m p ≡ true → s ≡ after (Vacate p r) (after (GiveBack p r) m.store) → k ≡ r → b ≡ [] →
+pub freed_is : (m : Machine) (p r : ℕ) (s : Store) (bs : List (List ℕ)) (ps : List Place) → is_current m p ≡ true → s ≡ after (Vacate p r) (after (GiveBack p r) m.store) → bs ≡ slice_set m.buffers r [] →
     ps ≡ slice_set m.places (p % 32) (record (place m p) { blocks = record { items = remove (place m p).blocks.items (position_or_len (λ q. q == r) (place m p).blocks.items) } }) →
-    record m { store = s; buffers = slice_set m.buffers k b; places = ps } ≡ freed_block p r m
+    record m { store = s; buffers = bs; places = ps } ≡ freed_block p r m
 unfolding freed_block
-freed_is m p r k s b ps c store at none listed =
-    same_machine (record m { store = s; buffers = slice_set m.buffers k b; places = ps }) (freed_block p r m) store refl
-    (ap (λ (j : ℕ). slice_set m.buffers j b) at ∙ ap (λ (x : List ℕ). slice_set m.buffers r x) none)
+freed_is m p r s bs ps c store buffers listed =
+    same_machine (record m { store = s; buffers = bs; places = ps }) (freed_block p r m) store refl buffers
     (listed ∙ ap (λ (xs : List ℕ). slice_set m.places (p % 32) (record (place m p) { blocks = record { items = remove xs (position_or_len (λ q. q == r) xs) } })) (sym (current_blocks m p c)))
     refl refl refl refl
 
@@ -312,13 +325,11 @@ pub buffer_length : (m : Machine) (r : ℕ) → IsWhole m → end_of m r ≡ Non
 buffer_length m r w d = w.bytes r ∙ rw d refl
 
 -- the machine whose fields these are is what a split makes of m
-pub parted_is : (m : Machine) (p r t k i j : ℕ) (s : Store) (b c : List ℕ) (ps : List Place) → is_current m p ≡ true → r ≢ t → s ≡ after (Cut p r t k) (after (Claim p t) m.store) → i ≡ t → j ≡ r →
-    b ≡ drop k (buffer m r) → c ≡ take k (buffer m r) → ps ≡ slice_set m.places (p % 32) (record (place m p) { blocks = record { items = (place m p).blocks.items ++ t ∷ [] } }) →
-    record m { store = s; buffers = slice_set (slice_set m.buffers j c) i b; places = ps } ≡ parted p r t k m
+pub parted_is : (m : Machine) (p r t k : ℕ) (s : Store) (bs : List (List ℕ)) (ps : List Place) → is_current m p ≡ true → s ≡ after (Cut p r t k) (after (Claim p t) m.store) →
+    bs ≡ slice_set (slice_set m.buffers t (drop k (buffer m r))) r (take k (buffer m r)) → ps ≡ slice_set m.places (p % 32) (record (place m p) { blocks = record { items = (place m p).blocks.items ++ t ∷ [] } }) →
+    record m { store = s; buffers = bs; places = ps } ≡ parted p r t k m
 unfolding parted
-parted_is m p r t k i j s b c ps current ne store at_t at_r tail head listed =
-    same_machine (record m { store = s; buffers = slice_set (slice_set m.buffers j c) i b; places = ps }) (parted p r t k m) store refl
-    (ap (λ (x : ℕ). slice_set (slice_set m.buffers j c) x b) at_t ∙ (ap (λ (x : ℕ). slice_set (slice_set m.buffers x c) t b) at_r ∙ (set_comm m.buffers r t c b ne
-    ∙ (ap (λ (x : List ℕ). slice_set (slice_set m.buffers t x) r c) tail ∙ ap (λ (x : List ℕ). slice_set (slice_set m.buffers t (drop k (buffer m r))) r x) head))))
+parted_is m p r t k s bs ps current store buffers listed =
+    same_machine (record m { store = s; buffers = bs; places = ps }) (parted p r t k m) store refl buffers
     (listed ∙ ap (λ (xs : List ℕ). slice_set m.places (p % 32) (record (place m p) { blocks = record { items = xs ++ t ∷ [] } })) (sym (current_blocks m p current)))
     refl refl refl refl

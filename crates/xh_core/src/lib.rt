@@ -2,14 +2,13 @@
 #![tactic(auto)]
 
 mod block;
-mod buffer;
 mod config;
 mod contract;
 mod glance;
 mod ledger;
 mod line;
+mod memory;
 mod message;
-mod pages;
 mod place;
 mod plain;
 mod refused;

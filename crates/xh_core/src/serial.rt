@@ -1,5 +1,5 @@
 //! The serial heap: places, channels and the bytes of blocks over the plain machine.
-ghost use Rattle.std.specs.Prelude.{◌≡◌, ◌⊎◌, ◌↔◌, [], None, Err, IfOk, IfErr, OnOk, length, replicate};
+ghost use Rattle.std.specs.Prelude.{◌≡◌, ◌⊎◌, ◌↔◌, None, Err, IfOk, IfErr, OnOk, replicate};
 ghost use Rattle.xh_model.specs.Store.{IsConfig};
 ghost use Rattle.xh_core.specs.Machine.{no_place, no_line};
 ghost use Rattle.xh_core.specs.PlaceCommands.{new_machine};
@@ -13,9 +13,9 @@ mod messages;
 mod places;
 mod sweep;
 
-use crate::buffer::Buffer;
 use crate::contract::Contract;
 use crate::line::Line;
+use crate::memory::Memory;
 use crate::place::Place;
 use crate::plain::Plain;
 use crate::refused::Refused;
@@ -35,7 +35,7 @@ pub struct Serial {
     /// By record, the direction toward it, where it is an endpoint.
     ends: Vec<Option<u8>>,
     /// By record, its bytes, where it is a data block.
-    buffers: Vec<Buffer>,
+    memory: Memory,
     places: Vec<Place>,
     /// By direction.
     lines: Vec<Line>,
@@ -51,9 +51,9 @@ impl Model for Serial {
 
     ghost Value = { Machine };
 
-    ghost view = { λ s. record { store = s.plain; ends = s.ends.items; buffers = s.buffers.items; places = s.places.items; lines = s.lines.items; contracts = s.contracts.items; opened = s.opened; depth = s.depth } };
+    ghost view = { λ s. record { store = s.plain; ends = s.ends.items; buffers = s.memory; places = s.places.items; lines = s.lines.items; contracts = s.contracts.items; opened = s.opened; depth = s.depth } };
 
-    ghost invariant = { λ s. IsWhole (record { store = s.plain; ends = s.ends.items; buffers = s.buffers.items; places = s.places.items; lines = s.lines.items; contracts = s.contracts.items; opened = s.opened; depth = s.depth }) };
+    ghost invariant = { λ s. IsWhole (record { store = s.plain; ends = s.ends.items; buffers = s.memory; places = s.places.items; lines = s.lines.items; contracts = s.contracts.items; opened = s.opened; depth = s.depth }) };
 }
 
 /// No endpoint.
@@ -61,17 +61,6 @@ fn no_ends(alloc: Global, count: usize) -> Result<Vec<Option<u8>>, AllocError>
     ensures { IfOk result (λ ends. ends.items ≡ replicate count None) }
 {
     vec![in alloc; None; count]
-}
-
-/// No bytes.
-fn no_buffers(alloc: Global, count: u16) -> Result<Vec<Buffer>, AllocError>
-    ensures { IfOk result (λ buffers. buffers.items ≡ replicate count []) }
-{
-    let mut buffers = Vec::with_capacity(alloc, usize::from(count))?;
-    for _ in 0..count {
-        buffers.push(Buffer::none())?;
-    }
-    Ok(buffers)
 }
 
 /// The places, all vacant.
@@ -131,7 +120,7 @@ impl Serial {
         Ok(Serial {
             plain,
             ends: no_ends(alloc, usize::from(count))?,
-            buffers: no_buffers(alloc, count)?,
+            memory: Memory::none(alloc, count)?,
             places: new_places(alloc)?,
             lines: new_lines(alloc)?,
             contracts: no_contracts(alloc)?,

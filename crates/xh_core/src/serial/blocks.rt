@@ -10,7 +10,6 @@ ghost use Rattle.xh_core.specs.Refusing.{IsRunning, Tested};
 ghost use Rattle.xh_core.specs.Checks.{alloc_heads, split_heads, MaySplit};
 
 use crate::block::Block;
-use crate::buffer::Buffer;
 use crate::place::Place;
 use crate::refused::Refused;
 use crate::serial::Serial;
@@ -72,9 +71,11 @@ impl Serial {
     {
         let r = self.check_alloc(p, n, arena)?;
         let len = round(n);
-        let buffer = Buffer::zeroed(alloc, len)?;
-        self.plain.take(p, r, len)?;
-        self.buffers[usize::from(r)] = buffer;
+        self.memory.zeroed(alloc, r, len)?;
+        if let Err(refused) = self.plain.take(p, r, len) {
+            self.memory.clear(r);
+            return Err(refused);
+        }
         list_record(&mut self.places, p, r);
         Ok(Block { rec: r, len })
     }
@@ -86,7 +87,7 @@ impl Serial {
         self.check_start(p)?;
         self.check_data(p, r)?;
         let len = self.plain.discard(p, r);
-        self.buffers[usize::from(r)] = Buffer::none();
+        self.memory.clear(r);
         unlist_record(&mut self.places, p, r);
         Ok(len)
     }
@@ -120,10 +121,9 @@ impl Serial {
         ensures refused { result ≡ Err Refused.OutOfMemory → split_command true p r k self.old ≡ (result, self.new) }
     {
         let t = self.check_split(p, r, k)?;
-        let tail = self.buffers[usize::from(r)].split(alloc, k as usize)?;
+        self.memory.split(alloc, r, t, k as usize)?;
         let rest = self.plain.len(r) - k;
         self.plain.part(p, r, t, k);
-        self.buffers[usize::from(t)] = tail;
         list_record(&mut self.places, p, t);
         Ok((Block { rec: r, len: k }, Block { rec: t, len: rest }))
     }
@@ -149,7 +149,7 @@ impl Serial {
         ensures kept { OnErr result (out.new ≡ out.old) }
     {
         self.check_range(p, r, at, out.len())?;
-        self.buffers[usize::from(r)].copy(at as usize, out);
+        self.memory.copy(r, at as usize, out);
         Ok(())
     }
 
@@ -159,7 +159,7 @@ impl Serial {
         ensures { write_command p r at bytes.now self.old ≡ (result, self.new) }
     {
         self.check_range(p, r, at, bytes.len())?;
-        self.buffers[usize::from(r)].overwrite(at as usize, bytes);
+        self.memory.overwrite(r, at as usize, bytes);
         Ok(())
     }
 }

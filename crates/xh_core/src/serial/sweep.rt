@@ -5,7 +5,6 @@ ghost use Rattle.xh_model.specs.Store.{all_out};
 ghost use Rattle.xh_core.specs.Machine.{arriving, blocks, carried, drained_state, is_current, next_state, tags_of, way_in};
 ghost use Rattle.xh_core.specs.Sweeping.{accept_all, accept_from, shut_in, sweep, sweep_one, Sweeps};
 
-use crate::buffer::Buffer;
 use crate::contract::Contract;
 use crate::line::Line;
 use crate::message::Message;
@@ -127,7 +126,7 @@ impl Serial {
         self.plain.step(Event::GiveBack(p, r));
         self.plain.step(Event::Vacate(p, r));
         self.ends[usize::from(r)] = None;
-        self.buffers[usize::from(r)] = Buffer::none();
+        self.memory.clear(r);
         place.blocks.remove(from);
     }
 

@@ -127,7 +127,7 @@ fn a_refused_growth_of_alloc_leaves_nothing(rt: HostRuntime) {
 
 /// What is tested ahead of memory is answered whether or not the growth of that call is refused, and
 /// want of memory ahead of want of room: `rt try --test --fail-alloc N` refuses the N-th growth. A
-/// call has two at most, one right after the other.
+/// call has three at most, one right after the other.
 #[test]
 fn refusals_ahead_of_memory(rt: HostRuntime) {
     let config = Config {

@@ -1,14 +1,16 @@
 use Rattle.std.proofs.Common.{◌≡◌, ◌∙◌, ◌<◌, ◌++◌, ◌∷◌, [], ℕ, List, length, sym, ap, subst, refl, false, Some, None}
-use Rattle.std.specs.Prelude.{slice_set, ◌%◌}
+use Rattle.std.specs.Prelude.{replicate, slice_set, ◌%◌}
+use Rattle.std.proofs.lemmas.List.{length-set}
 use Rattle.std.proofs.lemmas.Result.{err_from_is_err_and}
 use Rattle.xh_model.specs.Store.{Store, len}
 use Rattle.xh_core.specs.Machine.{Machine, IsWhole, place, blocks}
 use Rattle.xh_core.specs.Refusing.{first_refusal}
 use Rattle.xh_core.specs.Gaining.{Gained}
 use Rattle.xh_core.specs.BlockCommands.{allocated, free_record, rounded, space_tests}
+use Rattle.xh_core.specs.Checks.{alloc_heads}
 use Rattle.xh_core.proofs.Machines.{current_blocks, same_machine}
 use Rattle.xh_core.proofs.Claiming.{IsFree, free_is, in_range}
-use Rattle.xh_core.proofs.Gains.{room_for, allocated_whole}
+use Rattle.xh_core.proofs.Gains.{room_for, free_there, free_buffer, emptied_again, allocated_whole}
 use Rattle.xh_core.proofs.Answering.{alloc_stopped, alloc_memory, alloc_no_room, alloc_gives}
 use Rattle.xh_core.proofs.serial.Serial.alloc.Goals as goal
 
@@ -17,8 +19,42 @@ returns-in_err-r-clause-done c = λ _.
     let e = err_from_is_err_and c.from_residual.result c.from_residual.ensures.1 in
     rw (e.1, e.2) (alloc_stopped false c.args.p c.args.n c.args.arena c.args.self.now c.in_err-r.field-0.0 c.in_err-r.ensures)
 
-pub returns-in_err-buffer-clause-refused : goal.returns-in_err-buffer-clause-refused
-returns-in_err-buffer-clause-refused c = λ h. rw h (alloc_memory c.args.p c.args.n c.args.arena c.args.self.now c.in_ok-r.ensures.0)
+pub zeroed-requires : goal.zeroed-requires
+zeroed-requires c =
+    let m : Machine = record { store = c.self.inside.plain; ends = c.self.inside.ends.items; buffers = c.self.inside.memory; places = c.self.inside.places.items; lines = c.self.inside.lines.items; contracts = c.self.inside.contracts.items; opened = c.self.inside.opened; depth = c.self.inside.depth } in
+    let f : IsFree m.store c.args.arena c.in_ok-r.r = free_is m.store c.args.arena c.in_ok-r.r c.self.invariant.store (rw (← c.self.view_is) at c.in_ok-r.ensures.1.1) in
+    free_there m c.in_ok-r.r c.self.invariant f.known
+
+pub returns-in_err-zeroed-clause-refused : goal.returns-in_err-zeroed-clause-refused
+returns-in_err-zeroed-clause-refused c = λ h.
+    let m : Machine = record { store = c.self.inside.plain; ends = c.self.inside.ends.items; buffers = c.self.inside.memory; places = c.self.inside.places.items; lines = c.self.inside.lines.items; contracts = c.self.inside.contracts.items; opened = c.self.inside.opened; depth = c.self.inside.depth } in
+    let tested : first_refusal (alloc_heads m c.args.p c.args.n c.args.arena) ≡ None = rw (← c.self.view_is) at c.in_ok-r.ensures.0 in
+    rw (h, c.in_err-zeroed.ensures.kept, ← c.self.view_is) (alloc_memory c.args.p c.args.n c.args.arena m tested)
+
+pub clear-requires : goal.clear-requires
+clear-requires c =
+    let m : Machine = record { store = c.self.inside.plain; ends = c.self.inside.ends.items; buffers = c.self.inside.memory; places = c.self.inside.places.items; lines = c.self.inside.lines.items; contracts = c.self.inside.contracts.items; opened = c.self.inside.opened; depth = c.self.inside.depth } in
+    let f : IsFree m.store c.args.arena c.in_ok-r.r = free_is m.store c.args.arena c.in_ok-r.r c.self.invariant.store (rw (← c.self.view_is) at c.in_ok-r.ensures.1.1) in
+    let long : length c.zeroed.new.self ≡ length m.buffers = ap length c.in_ok-zeroed.ensures.done ∙ length-set m.buffers c.in_ok-r.r (replicate c.round-len.result 0) in
+    subst (λ (k : ℕ). c.in_ok-r.r < k) (sym long) (free_there m c.in_ok-r.r c.self.invariant f.known)
+
+pub invariant_of-self-in-Err : goal.invariant_of-self-in-Err
+invariant_of-self-in-Err c =
+    let m : Machine = record { store = c.self.inside.plain; ends = c.self.inside.ends.items; buffers = c.self.inside.memory; places = c.self.inside.places.items; lines = c.self.inside.lines.items; contracts = c.self.inside.contracts.items; opened = c.self.inside.opened; depth = c.self.inside.depth } in
+    let f : IsFree m.store c.args.arena c.in_ok-r.r = free_is m.store c.args.arena c.in_ok-r.r c.self.invariant.store (rw (← c.self.view_is) at c.in_ok-r.ensures.1.1) in
+    let restored : c.clear.new.self ≡ m.buffers = c.clear.ensures ∙ (ap (λ (bs : List (List ℕ)). slice_set bs c.in_ok-r.r []) c.in_ok-zeroed.ensures.done
+    ∙ emptied_again m.buffers c.in_ok-r.r (replicate c.round-len.result 0) (free_buffer m c.in_ok-r.r c.self.invariant f.free)) in
+    subst IsWhole (sym (same_machine (record m { store = c.take.new.self; buffers = c.clear.new.self }) m c.in-Err.ensures.unchanged refl restored refl refl refl refl refl)) c.self.invariant
+
+pub returns-in-Err-clause-done : goal.returns-in-Err-clause-done
+returns-in-Err-clause-done c = λ _.
+    let m : Machine = record { store = c.self.inside.plain; ends = c.self.inside.ends.items; buffers = c.self.inside.memory; places = c.self.inside.places.items; lines = c.self.inside.lines.items; contracts = c.self.inside.contracts.items; opened = c.self.inside.opened; depth = c.self.inside.depth } in
+    let f : IsFree m.store c.args.arena c.in_ok-r.r = free_is m.store c.args.arena c.in_ok-r.r c.self.invariant.store (rw (← c.self.view_is) at c.in_ok-r.ensures.1.1) in
+    let restored : c.clear.new.self ≡ m.buffers = c.clear.ensures ∙ (ap (λ (bs : List (List ℕ)). slice_set bs c.in_ok-r.r []) c.in_ok-zeroed.ensures.done
+    ∙ emptied_again m.buffers c.in_ok-r.r (replicate c.round-len.result 0) (free_buffer m c.in_ok-r.r c.self.invariant f.free)) in
+    let tested : first_refusal (alloc_heads m c.args.p c.args.n c.args.arena) ≡ None = rw (← c.self.view_is) at c.in_ok-r.ensures.0 in
+    let room : first_refusal (space_tests m.store c.args.arena (rounded c.args.n)) ≡ Some c.in-Err.refused = rw (f.arena, c.round-len.ensures) at c.in-Err.ensures.room in
+    rw (c.in-Err.ensures.unchanged, restored, ← c.self.view_is) (alloc_no_room c.args.p c.args.n c.args.arena m c.in-Err.refused tested room)
 
 pub take-requires-clause-known : goal.take-requires-clause-known
 take-requires-clause-known c =
@@ -28,25 +64,17 @@ pub take-requires-clause-free : goal.take-requires-clause-free
 take-requires-clause-free c =
     let f : IsFree c.self.inside.plain c.args.arena c.in_ok-r.r = free_is c.self.inside.plain c.args.arena c.in_ok-r.r c.self.invariant.store (rw (← c.self.view_is) at c.in_ok-r.ensures.1.1) in f.free
 
-pub returns-in_err-take-clause-done : goal.returns-in_err-take-clause-done
-returns-in_err-take-clause-done c = λ _.
-    let e = err_from_is_err_and c.from_residual-in_err-take.result c.from_residual-in_err-take.ensures.1 in
-    let f : IsFree c.self.inside.plain c.args.arena c.in_ok-r.r = free_is c.self.inside.plain c.args.arena c.in_ok-r.r c.self.invariant.store (rw (← c.self.view_is) at c.in_ok-r.ensures.1.1) in
-    let room : first_refusal (space_tests c.self.inside.plain c.args.arena (rounded c.args.n)) ≡ Some c.in_err-take.field-0.0 = rw (f.arena, c.round-len.ensures) at c.in_err-take.ensures.room in
-    let space = subst (λ (x : Machine). first_refusal (space_tests x.store c.args.arena (rounded c.args.n)) ≡ Some c.in_err-take.field-0.0) c.self.view_is room in
-    rw (e.1, e.2, c.in_err-take.ensures.unchanged, c.self.view_is) (alloc_no_room c.args.p c.args.n c.args.arena c.args.self.now c.in_err-take.field-0.0 c.in_ok-r.ensures.0 space)
-
 pub list_record-requires-clause-room : goal.list_record-requires-clause-room
 list_record-requires-clause-room c =
-    let m : Machine = record { store = c.self.inside.plain; ends = c.self.inside.ends.items; buffers = c.self.inside.buffers.items; places = c.self.inside.places.items; lines = c.self.inside.lines.items; contracts = c.self.inside.contracts.items; opened = c.self.inside.opened; depth = c.self.inside.depth } in
+    let m : Machine = record { store = c.self.inside.plain; ends = c.self.inside.ends.items; buffers = c.self.inside.memory; places = c.self.inside.places.items; lines = c.self.inside.lines.items; contracts = c.self.inside.contracts.items; opened = c.self.inside.opened; depth = c.self.inside.depth } in
     let f : IsFree m.store c.args.arena c.in_ok-r.r = free_is m.store c.args.arena c.in_ok-r.r c.self.invariant.store (rw (← c.self.view_is) at c.in_ok-r.ensures.1.1) in
     room_for m c.args.p c.in_ok-r.r c.self.invariant (rw (← c.self.view_is) at c.in_ok-r.ensures.1.0) f.free (in_range m.store c.in_ok-r.r c.self.invariant.store f.known)
 
 abbrev was : goal.After-list_record → Machine
-was c = record { store = c.self.inside.plain; ends = c.self.inside.ends.items; buffers = c.self.inside.buffers.items; places = c.self.inside.places.items; lines = c.self.inside.lines.items; contracts = c.self.inside.contracts.items; opened = c.self.inside.opened; depth = c.self.inside.depth }
+was c = record { store = c.self.inside.plain; ends = c.self.inside.ends.items; buffers = c.self.inside.memory; places = c.self.inside.places.items; lines = c.self.inside.lines.items; contracts = c.self.inside.contracts.items; opened = c.self.inside.opened; depth = c.self.inside.depth }
 
 abbrev is : goal.After-list_record → Machine
-is c = record { store = c.take.new.self; ends = c.self.inside.ends.items; buffers = slice_set c.self.inside.buffers.items c.from.result c.in_ok-buffer.buffer; places = c.list_record.new.places.items; lines = c.self.inside.lines.items; contracts = c.self.inside.contracts.items; opened = c.self.inside.opened; depth = c.self.inside.depth }
+is c = record { store = c.take.new.self; ends = c.self.inside.ends.items; buffers = c.zeroed.new.self; places = c.list_record.new.places.items; lines = c.self.inside.lines.items; contracts = c.self.inside.contracts.items; opened = c.self.inside.opened; depth = c.self.inside.depth }
 
 free : (c : goal.After-list_record) → IsFree c.self.inside.plain c.args.arena c.in_ok-r.r
 free c = free_is c.self.inside.plain c.args.arena c.in_ok-r.r c.self.invariant.store (rw (← c.self.view_is) at c.in_ok-r.ensures.1.1)
@@ -56,22 +84,22 @@ made : (c : goal.After-list_record) → is c ≡ allocated c.args.p c.in_ok-r.r 
 unfolding allocated
 made c =
     let listed : blocks (was c) c.args.p ≡ (place (was c) c.args.p).blocks.items = current_blocks (was c) c.args.p (rw (← c.self.view_is) at c.in_ok-r.ensures.1.0).0 in
-    same_machine (is c) (allocated c.args.p c.in_ok-r.r c.round-len.result (was c)) c.in_ok-take.ensures.store refl
-    (ap (λ (k : ℕ). slice_set c.self.inside.buffers.items k c.in_ok-buffer.buffer) c.from.ensures ∙ ap (λ (b : List ℕ). slice_set c.self.inside.buffers.items c.in_ok-r.r b) c.in_ok-buffer.ensures)
+    same_machine (is c) (allocated c.args.p c.in_ok-r.r c.round-len.result (was c)) c.in_default.ensures.store refl
+    c.in_ok-zeroed.ensures.done
     (c.list_record.ensures ∙ ap (λ (xs : List ℕ). slice_set (was c).places (c.args.p % 32) (record (place (was c) c.args.p) { blocks = record { items = xs ++ c.in_ok-r.r ∷ [] } })) (sym listed))
     refl refl refl refl
 
 pub invariant_of-self-2 : goal.invariant_of-self-2
 invariant_of-self-2 c =
-    let store = c.in_ok-take.ensures.store in
+    let store = c.in_default.ensures.store in
     let there : c.in_ok-r.r < length c.self.inside.plain.owners = in_range c.self.inside.plain c.in_ok-r.r c.self.invariant.store (free c).known in
     subst IsWhole (sym (made c)) (allocated_whole (was c) c.args.p c.in_ok-r.r c.round-len.result c.self.invariant (rw (← c.self.view_is) at c.in_ok-r.ensures.1.0)
-    (subst (λ (t : Store). Gained c.args.p (c.in_ok-r.r ∷ []) c.self.inside.plain t) store c.in_ok-take.ensures.gained) (free c).free there
-    (subst (λ (t : Store). len t c.in_ok-r.r ≡ c.round-len.result) store c.in_ok-take.ensures.length)
-    (λ q ne. subst (λ (t : Store). len t q ≡ len c.self.inside.plain q) store (c.in_ok-take.ensures.others q ne)))
+    (subst (λ (t : Store). Gained c.args.p (c.in_ok-r.r ∷ []) c.self.inside.plain t) store c.in_default.ensures.gained) (free c).free there
+    (subst (λ (t : Store). len t c.in_ok-r.r ≡ c.round-len.result) store c.in_default.ensures.length)
+    (λ q ne. subst (λ (t : Store). len t q ≡ len c.self.inside.plain q) store (c.in_default.ensures.others q ne)))
 
 pub returns-clause-done : goal.returns-clause-done
 returns-clause-done c = λ _.
-    let room : first_refusal (space_tests c.self.inside.plain c.args.arena (rounded c.args.n)) ≡ None = rw ((free c).arena, c.round-len.ensures) at c.in_ok-take.ensures.room in
+    let room : first_refusal (space_tests c.self.inside.plain c.args.arena (rounded c.args.n)) ≡ None = rw ((free c).arena, c.round-len.ensures) at c.in_default.ensures.room in
     let found : free_record (was c).store c.args.arena ≡ Some c.in_ok-r.r = rw (← c.self.view_is) at c.in_ok-r.ensures.1.1 in
     rw (made c, c.round-len.ensures, ← c.self.view_is) (alloc_gives c.args.p c.args.n c.args.arena c.in_ok-r.r (was c) (rw (← c.self.view_is) at c.in_ok-r.ensures.0) found room)

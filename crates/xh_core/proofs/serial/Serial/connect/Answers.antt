@@ -33,24 +33,24 @@ returns-in_err-r-clause-is c =
 
 pub returns-in_err-r-clause-orderly : goal.returns-in_err-r-clause-orderly
 returns-in_err-r-clause-orderly c =
-    let m : Machine = record { store = c.take_ends.new.self; ends = c.self.inside.ends.items; buffers = c.self.inside.buffers.items; places = c.self.inside.places.items; lines = c.self.inside.lines.items; contracts = c.self.inside.contracts.items; opened = c.self.inside.opened; depth = c.self.inside.depth } in
+    let m : Machine = record { store = c.take_ends.new.self; ends = c.self.inside.ends.items; buffers = c.self.inside.memory; places = c.self.inside.places.items; lines = c.self.inside.lines.items; contracts = c.self.inside.contracts.items; opened = c.self.inside.opened; depth = c.self.inside.depth } in
     wired_orderly m c.self.invariant.wired
 
 pub mark_ends-requires-clause-low : goal.mark_ends-requires-clause-low
 mark_ends-requires-clause-low c =
-    let m : Machine = record { store = c.self.inside.plain; ends = c.self.inside.ends.items; buffers = c.self.inside.buffers.items; places = c.self.inside.places.items; lines = c.self.inside.lines.items; contracts = c.self.inside.contracts.items; opened = c.self.inside.opened; depth = c.self.inside.depth } in
+    let m : Machine = record { store = c.self.inside.plain; ends = c.self.inside.ends.items; buffers = c.self.inside.memory; places = c.self.inside.places.items; lines = c.self.inside.lines.items; contracts = c.self.inside.contracts.items; opened = c.self.inside.opened; depth = c.self.inside.depth } in
     let runs : IsRunning m c.args.p = subst (λ (x : Machine). IsRunning x c.args.p) (sym c.self.view_is) c.in_ok-check_wire.ensures.1.0 in
     (pair_there m c.args.p c.args.arena c.in_ok-r.r c.in_ok-r.t c.take_ends.new.self c.self.invariant runs c.in_ok-r.ensures.done).0
 
 pub mark_ends-requires-clause-high : goal.mark_ends-requires-clause-high
 mark_ends-requires-clause-high c =
-    let m : Machine = record { store = c.self.inside.plain; ends = c.self.inside.ends.items; buffers = c.self.inside.buffers.items; places = c.self.inside.places.items; lines = c.self.inside.lines.items; contracts = c.self.inside.contracts.items; opened = c.self.inside.opened; depth = c.self.inside.depth } in
+    let m : Machine = record { store = c.self.inside.plain; ends = c.self.inside.ends.items; buffers = c.self.inside.memory; places = c.self.inside.places.items; lines = c.self.inside.lines.items; contracts = c.self.inside.contracts.items; opened = c.self.inside.opened; depth = c.self.inside.depth } in
     let runs : IsRunning m c.args.p = subst (λ (x : Machine). IsRunning x c.args.p) (sym c.self.view_is) c.in_ok-check_wire.ensures.1.0 in
     (pair_there m c.args.p c.args.arena c.in_ok-r.r c.in_ok-r.t c.take_ends.new.self c.self.invariant runs c.in_ok-r.ensures.done).1
 
 pub list_record-requires-clause-room : goal.list_record-requires-clause-room
 list_record-requires-clause-room c =
-    let m : Machine = record { store = c.self.inside.plain; ends = c.self.inside.ends.items; buffers = c.self.inside.buffers.items; places = c.self.inside.places.items; lines = c.self.inside.lines.items; contracts = c.self.inside.contracts.items; opened = c.self.inside.opened; depth = c.self.inside.depth } in
+    let m : Machine = record { store = c.self.inside.plain; ends = c.self.inside.ends.items; buffers = c.self.inside.memory; places = c.self.inside.places.items; lines = c.self.inside.lines.items; contracts = c.self.inside.contracts.items; opened = c.self.inside.opened; depth = c.self.inside.depth } in
     let runs_p : IsRunning m c.args.p = subst (λ (x : Machine). IsRunning x c.args.p) (sym c.self.view_is) c.in_ok-check_wire.ensures.1.0 in
     let runs_q : IsRunning m c.args.q = subst (λ (x : Machine). IsRunning x c.args.q) (sym c.self.view_is) c.in_ok-check_wire.ensures.1.1 in
     let more : m.opened < 64 = subst (λ (x : Machine). x.opened < 64) (sym c.self.view_is) c.in_ok-check_wire.ensures.1.3 in
@@ -60,7 +60,7 @@ list_record-requires-clause-room c =
 
 pub list_record-requires-2-clause-room : goal.list_record-requires-2-clause-room
 list_record-requires-2-clause-room c =
-    let m : Machine = record { store = c.self.inside.plain; ends = c.self.inside.ends.items; buffers = c.self.inside.buffers.items; places = c.self.inside.places.items; lines = c.self.inside.lines.items; contracts = c.self.inside.contracts.items; opened = c.self.inside.opened; depth = c.self.inside.depth } in
+    let m : Machine = record { store = c.self.inside.plain; ends = c.self.inside.ends.items; buffers = c.self.inside.memory; places = c.self.inside.places.items; lines = c.self.inside.lines.items; contracts = c.self.inside.contracts.items; opened = c.self.inside.opened; depth = c.self.inside.depth } in
     let runs_p : IsRunning m c.args.p = subst (λ (x : Machine). IsRunning x c.args.p) (sym c.self.view_is) c.in_ok-check_wire.ensures.1.0 in
     let runs_q : IsRunning m c.args.q = subst (λ (x : Machine). IsRunning x c.args.q) (sym c.self.view_is) c.in_ok-check_wire.ensures.1.1 in
     let more : m.opened < 64 = subst (λ (x : Machine). x.opened < 64) (sym c.self.view_is) c.in_ok-check_wire.ensures.1.3 in
@@ -73,10 +73,10 @@ list_record-requires-2-clause-room c =
 -- ---- the machine at the end
 
 abbrev was : goal.After-list_record-2 → Machine
-was c = record { store = c.self.inside.plain; ends = c.self.inside.ends.items; buffers = c.self.inside.buffers.items; places = c.self.inside.places.items; lines = c.self.inside.lines.items; contracts = c.self.inside.contracts.items; opened = c.self.inside.opened; depth = c.self.inside.depth }
+was c = record { store = c.self.inside.plain; ends = c.self.inside.ends.items; buffers = c.self.inside.memory; places = c.self.inside.places.items; lines = c.self.inside.lines.items; contracts = c.self.inside.contracts.items; opened = c.self.inside.opened; depth = c.self.inside.depth }
 
 abbrev is : goal.After-list_record-2 → Machine
-is c = record { store = c.hand_over.new.self; ends = c.mark_ends.new.ends.items; buffers = c.self.inside.buffers.items; places = c.list_record-2.new.places.items; lines = c.begin_lines.new.lines.items; contracts = slice_set c.self.inside.contracts.items c.from.result c.args.contract; opened = c.self.inside.opened + 1; depth = c.self.inside.depth }
+is c = record { store = c.hand_over.new.self; ends = c.mark_ends.new.ends.items; buffers = c.self.inside.memory; places = c.list_record-2.new.places.items; lines = c.begin_lines.new.lines.items; contracts = slice_set c.self.inside.contracts.items c.from.result c.args.contract; opened = c.self.inside.opened + 1; depth = c.self.inside.depth }
 
 runs_first : (c : goal.After-list_record-2) → IsRunning (was c) c.args.p
 runs_first c = subst (λ (x : Machine). IsRunning x c.args.p) (sym c.self.view_is) c.in_ok-check_wire.ensures.1.0

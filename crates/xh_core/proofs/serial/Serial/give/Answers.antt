@@ -15,10 +15,10 @@ use Rattle.xh_core.proofs.serial.Serial.give.Goals as goal
 -- ---- the machine before and after
 
 abbrev was : goal.After-put → Machine
-was c = record { store = c.self.inside.plain; ends = c.self.inside.ends.items; buffers = c.self.inside.buffers.items; places = c.self.inside.places.items; lines = c.self.inside.lines.items; contracts = c.self.inside.contracts.items; opened = c.self.inside.opened; depth = c.self.inside.depth }
+was c = record { store = c.self.inside.plain; ends = c.self.inside.ends.items; buffers = c.self.inside.memory; places = c.self.inside.places.items; lines = c.self.inside.lines.items; contracts = c.self.inside.contracts.items; opened = c.self.inside.opened; depth = c.self.inside.depth }
 
 abbrev is : goal.After-put → Machine
-is c = record { store = c.pass_blocks.new.plain; ends = c.self.inside.ends.items; buffers = c.self.inside.buffers.items; places = slice_set c.self.inside.places.items c.from.result (record { blocks = c.unlist.new.list; status = c.index_mut-place.result.now.status; generation = c.index_mut-place.result.now.generation }); lines = c.put.new.lines.items; contracts = c.self.inside.contracts.items; opened = c.self.inside.opened; depth = c.self.inside.depth }
+is c = record { store = c.pass_blocks.new.plain; ends = c.self.inside.ends.items; buffers = c.self.inside.memory; places = slice_set c.self.inside.places.items c.from.result (record { blocks = c.unlist.new.list; status = c.index_mut-place.result.now.status; generation = c.index_mut-place.result.now.generation }); lines = c.put.new.lines.items; contracts = c.self.inside.contracts.items; opened = c.self.inside.opened; depth = c.self.inside.depth }
 
 abbrev own : goal.After-put → ℕ
 own c = toward (was c) c.args.e

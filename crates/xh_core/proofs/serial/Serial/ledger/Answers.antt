@@ -10,7 +10,7 @@ use Rattle.xh_core.proofs.serial.Serial.ledger.Goals as goal
 pub returns-clause-fields : goal.returns-clause-fields
 unfolding ledger_of
 returns-clause-fields c =
-    let m : Machine = record { store = c.self.inside.plain; ends = c.self.inside.ends.items; buffers = c.self.inside.buffers.items; places = c.self.inside.places.items; lines = c.self.inside.lines.items; contracts = c.self.inside.contracts.items; opened = c.self.inside.opened; depth = c.self.inside.depth } in
+    let m : Machine = record { store = c.self.inside.plain; ends = c.self.inside.ends.items; buffers = c.self.inside.memory; places = c.self.inside.places.items; lines = c.self.inside.lines.items; contracts = c.self.inside.contracts.items; opened = c.self.inside.opened; depth = c.self.inside.depth } in
     let lines : c.place_lines.result.items ≡ place_lines m.store 0 m.places = c.place_lines.ensures.lines ∙ ap (λ (ps : List Place). place_lines m.store 0 ps) c.as_slice.ensures.value in
     let owned : c.owned.result ≡ sum_by (λ place. total m.store place.blocks.items) m.places =
     c.owned.ensures ∙ ap (λ (ps : List Place). sum_by (λ place. total m.store place.blocks.items) ps) c.as_slice-2.ensures.value in

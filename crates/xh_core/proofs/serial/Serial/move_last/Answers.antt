@@ -13,7 +13,7 @@ use Rattle.xh_core.proofs.serial.Serial.move_last.Goals as goal
 
 pub remove-requires : goal.remove-requires
 remove-requires c =
-    let m : Machine = record { store = c.self.inside.plain; ends = c.self.inside.ends.items; buffers = c.self.inside.buffers.items; places = c.self.inside.places.items; lines = c.self.inside.lines.items; contracts = c.self.inside.contracts.items; opened = c.self.inside.opened; depth = c.self.inside.depth } in
+    let m : Machine = record { store = c.self.inside.plain; ends = c.self.inside.ends.items; buffers = c.self.inside.memory; places = c.self.inside.places.items; lines = c.self.inside.lines.items; contracts = c.self.inside.contracts.items; opened = c.self.inside.opened; depth = c.self.inside.depth } in
     let w : IsWhole m = c.self.invariant in
     let within : c.args.p % 32 < length c.self.inside.places.items = place_there m c.args.p w in
     let pl : c.index_mut-place.result.now ≡ place m c.args.p = read_at c.self.inside.places.items c.from.result (c.args.p % 32) c.index_mut-place.result.now no_place within c.from.ensures c.index_mut-place.ensures.value in
@@ -28,7 +28,7 @@ remove-requires c =
 
 pub invariant_of-self : goal.invariant_of-self
 invariant_of-self c =
-    let m : Machine = record { store = c.self.inside.plain; ends = c.self.inside.ends.items; buffers = c.self.inside.buffers.items; places = c.self.inside.places.items; lines = c.self.inside.lines.items; contracts = c.self.inside.contracts.items; opened = c.self.inside.opened; depth = c.self.inside.depth } in
+    let m : Machine = record { store = c.self.inside.plain; ends = c.self.inside.ends.items; buffers = c.self.inside.memory; places = c.self.inside.places.items; lines = c.self.inside.lines.items; contracts = c.self.inside.contracts.items; opened = c.self.inside.opened; depth = c.self.inside.depth } in
     let w : IsWhole m = c.self.invariant in
     let within : c.args.p % 32 < length c.self.inside.places.items = place_there m c.args.p w in
     let pl : c.index_mut-place.result.now ≡ place m c.args.p = read_at c.self.inside.places.items c.from.result (c.args.p % 32) c.index_mut-place.result.now no_place within c.from.ensures c.index_mut-place.ensures.value in
@@ -37,6 +37,6 @@ invariant_of-self c =
     let list : c.index_mut-place.result.now.blocks.items ≡ blocks m c.args.p = ap (λ (x : Place). x.blocks.items) pl ∙ sym (current_blocks m c.args.p runs.0) in
     let at : c.place_of-at.result ≡ position_or_len (λ q. q == c.args.e) (blocks m c.args.p) = c.place_of-at.ensures.value ∙ ap (position_or_len (λ q. q == c.args.e)) (c.as_slice.ensures.value ∙ list) in
     let items : c.push.new.self.items ≡ last c.args.e (blocks m c.args.p) = c.push.ensures.items ∙ ap (λ xs. xs ++ c.args.e ∷ []) (c.remove.ensures.items ∙ (λ i. remove (list i) (at i))) in
-    let same : record { store = c.self.inside.plain; ends = c.self.inside.ends.items; buffers = c.self.inside.buffers.items; places = slice_set c.self.inside.places.items c.from.result (record { blocks = c.push.new.self; status = c.index_mut-place.result.now.status; generation = c.index_mut-place.result.now.generation }); lines = c.self.inside.lines.items; contracts = c.self.inside.contracts.items; opened = c.self.inside.opened; depth = c.self.inside.depth } ≡ moved_last c.args.p c.args.e m =
-    (λ i. record { store = c.self.inside.plain; ends = c.self.inside.ends.items; buffers = c.self.inside.buffers.items; places = slice_set m.places (c.from.ensures i) (record { blocks = record { items = items i }; status = (pl i).status; generation = (pl i).generation }); lines = c.self.inside.lines.items; contracts = c.self.inside.contracts.items; opened = c.self.inside.opened; depth = c.self.inside.depth }) in
+    let same : record { store = c.self.inside.plain; ends = c.self.inside.ends.items; buffers = c.self.inside.memory; places = slice_set c.self.inside.places.items c.from.result (record { blocks = c.push.new.self; status = c.index_mut-place.result.now.status; generation = c.index_mut-place.result.now.generation }); lines = c.self.inside.lines.items; contracts = c.self.inside.contracts.items; opened = c.self.inside.opened; depth = c.self.inside.depth } ≡ moved_last c.args.p c.args.e m =
+    (λ i. record { store = c.self.inside.plain; ends = c.self.inside.ends.items; buffers = c.self.inside.memory; places = slice_set m.places (c.from.ensures i) (record { blocks = record { items = items i }; status = (pl i).status; generation = (pl i).generation }); lines = c.self.inside.lines.items; contracts = c.self.inside.contracts.items; opened = c.self.inside.opened; depth = c.self.inside.depth }) in
     subst IsWhole (sym same) (last_whole m c.args.p c.args.e w runs held)

@@ -1,13 +1,11 @@
-use Rattle.std.proofs.Common.{◌≡◌, ◌∙◌, [], ℕ, List, length, take, drop, ap, true, None}
+use Rattle.std.proofs.Common.{◌≡◌, length, true, None}
 use Rattle.std.proofs.lemmas.Result.{err_from_is_err_and}
 use Rattle.xh_model.specs.declared.event.Holder.TheVariants.{Process}
 use Rattle.xh_model.specs.Store.{holds}
-use Rattle.xh_core.specs.Machine.{Machine, buffer}
+use Rattle.xh_core.specs.Machine.{Machine}
 use Rattle.xh_core.specs.Refusing.{first_refusal}
 use Rattle.xh_core.specs.BlockCommands.{range_tests}
-use Rattle.xh_core.proofs.Machines.{read_at}
 use Rattle.xh_core.proofs.Answering.{read_refused, read_gives}
-use Rattle.xh_core.proofs.Gains.{held_buffer}
 use Rattle.xh_core.proofs.serial.Serial.read.Goals as goal
 
 pub returns-in_err-check_range-clause-refused : goal.returns-in_err-check_range-clause-refused
@@ -17,9 +15,8 @@ returns-in_err-check_range-clause-refused c =
 
 pub returns-clause-done : goal.returns-clause-done
 returns-clause-done c =
-    let m : Machine = record { store = c.self.inside.plain; ends = c.self.inside.ends.items; buffers = c.self.inside.buffers.items; places = c.self.inside.places.items; lines = c.self.inside.lines.items; contracts = c.self.inside.contracts.items; opened = c.self.inside.opened; depth = c.self.inside.depth } in
+    let m : Machine = record { store = c.self.inside.plain; ends = c.self.inside.ends.items; buffers = c.self.inside.memory; places = c.self.inside.places.items; lines = c.self.inside.lines.items; contracts = c.self.inside.contracts.items; opened = c.self.inside.opened; depth = c.self.inside.depth } in
     let held : holds m.store (Process c.args.p) c.args.r ≡ true = rw (← c.self.view_is) at c.in_ok-check_range.ensures.1.0 in
     let tested : first_refusal (range_tests m c.args.p c.args.r c.args.at (length c.args.out.now)) ≡ None = rw (← c.self.view_is) at c.in_ok-check_range.ensures.0 in
-    let bytes : c.index.result.now ≡ buffer m c.args.r = read_at m.buffers c.from.result c.args.r c.index.result.now [] (held_buffer m c.args.p c.args.r c.self.invariant held) c.from.ensures c.index.ensures in
-    rw (c.copy.ensures ∙ ap (λ (xs : List ℕ). take (length c.args.out.now) (drop c.args.at xs)) bytes, ← c.self.view_is)
+    rw (c.copy.ensures, ← c.self.view_is)
     (read_gives c.args.p c.args.r c.args.at (length c.args.out.now) m tested)

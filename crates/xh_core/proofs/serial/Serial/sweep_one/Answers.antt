@@ -1,4 +1,4 @@
-use Rattle.std.proofs.Common.{◌≡◌, ◌++◌, ◌+◌, ◌*◌, ◌%◌, ◌≤◌, ◌<◌, ℕ, length, sym, ap, ◌∙◌, refl, subst, arith, rules, None, true}
+use Rattle.std.proofs.Common.{◌≡◌, [], ◌++◌, ◌+◌, ◌*◌, ◌%◌, ◌≤◌, ◌<◌, ℕ, length, sym, ap, ◌∙◌, refl, subst, arith, rules, None, true}
 use Rattle.std.specs.Prelude.{slice_index_or, slice_set}
 use Rattle.std.specs.List.{remove}
 use Rattle.xh_model.specs.declared.event.Holder.TheVariants.{Process}
@@ -17,7 +17,7 @@ use Rattle.xh_core.proofs.serial.Serial.sweep_one.Goals as goal
 
 pub index-end-requires : goal.index-end-requires
 index-end-requires c =
-    let m : Machine = record { store = c.self.inside.plain; ends = c.self.inside.ends.items; buffers = c.self.inside.buffers.items; places = c.self.inside.places.items; lines = c.self.inside.lines.items; contracts = c.self.inside.contracts.items; opened = c.self.inside.opened; depth = c.self.inside.depth } in
+    let m : Machine = record { store = c.self.inside.plain; ends = c.self.inside.ends.items; buffers = c.self.inside.memory; places = c.self.inside.places.items; lines = c.self.inside.lines.items; contracts = c.self.inside.contracts.items; opened = c.self.inside.opened; depth = c.self.inside.depth } in
     let w : IsWhole m = c.self.invariant in
     let within : c.args.p % 32 < length c.self.inside.places.items = place_there m c.args.p w in
     let pl : c.index_mut-place.result.now ≡ place m c.args.p = read_at c.self.inside.places.items c.from.result (c.args.p % 32) c.index_mut-place.result.now no_place within c.from.ensures c.index_mut-place.ensures.value in
@@ -33,7 +33,7 @@ index-end-requires c =
 
 pub shut-requires-clause-room : goal.shut-requires-clause-room
 shut-requires-clause-room c =
-    let m : Machine = record { store = c.self.inside.plain; ends = c.self.inside.ends.items; buffers = c.self.inside.buffers.items; places = c.self.inside.places.items; lines = c.self.inside.lines.items; contracts = c.self.inside.contracts.items; opened = c.self.inside.opened; depth = c.self.inside.depth } in
+    let m : Machine = record { store = c.self.inside.plain; ends = c.self.inside.ends.items; buffers = c.self.inside.memory; places = c.self.inside.places.items; lines = c.self.inside.lines.items; contracts = c.self.inside.contracts.items; opened = c.self.inside.opened; depth = c.self.inside.depth } in
     let w : IsWhole m = c.self.invariant in
     let within : c.args.p % 32 < length c.self.inside.places.items = place_there m c.args.p w in
     let pl : c.index_mut-place.result.now ≡ place m c.args.p = read_at c.self.inside.places.items c.from.result (c.args.p % 32) c.index_mut-place.result.now no_place within c.from.ensures c.index_mut-place.ensures.value in
@@ -49,7 +49,7 @@ shut-requires-clause-room c =
 
 pub shut-requires-clause-there : goal.shut-requires-clause-there
 shut-requires-clause-there c =
-    let m : Machine = record { store = c.self.inside.plain; ends = c.self.inside.ends.items; buffers = c.self.inside.buffers.items; places = c.self.inside.places.items; lines = c.self.inside.lines.items; contracts = c.self.inside.contracts.items; opened = c.self.inside.opened; depth = c.self.inside.depth } in
+    let m : Machine = record { store = c.self.inside.plain; ends = c.self.inside.ends.items; buffers = c.self.inside.memory; places = c.self.inside.places.items; lines = c.self.inside.lines.items; contracts = c.self.inside.contracts.items; opened = c.self.inside.opened; depth = c.self.inside.depth } in
     let w : IsWhole m = c.self.invariant in
     let within : c.args.p % 32 < length c.self.inside.places.items = place_there m c.args.p w in
     let pl : c.index_mut-place.result.now ≡ place m c.args.p = read_at c.self.inside.places.items c.from.result (c.args.p % 32) c.index_mut-place.result.now no_place within c.from.ensures c.index_mut-place.ensures.value in
@@ -65,7 +65,7 @@ shut-requires-clause-there c =
 
 pub shut-requires-clause-channel : goal.shut-requires-clause-channel
 shut-requires-clause-channel c =
-    let m : Machine = record { store = c.self.inside.plain; ends = c.self.inside.ends.items; buffers = c.self.inside.buffers.items; places = c.self.inside.places.items; lines = c.self.inside.lines.items; contracts = c.self.inside.contracts.items; opened = c.self.inside.opened; depth = c.self.inside.depth } in
+    let m : Machine = record { store = c.self.inside.plain; ends = c.self.inside.ends.items; buffers = c.self.inside.memory; places = c.self.inside.places.items; lines = c.self.inside.lines.items; contracts = c.self.inside.contracts.items; opened = c.self.inside.opened; depth = c.self.inside.depth } in
     let w : IsWhole m = c.self.invariant in
     let within : c.args.p % 32 < length c.self.inside.places.items = place_there m c.args.p w in
     let pl : c.index_mut-place.result.now ≡ place m c.args.p = read_at c.self.inside.places.items c.from.result (c.args.p % 32) c.index_mut-place.result.now no_place within c.from.ensures c.index_mut-place.ensures.value in
@@ -83,7 +83,7 @@ shut-requires-clause-channel c =
 
 pub index_mut-requires : goal.index_mut-requires
 index_mut-requires c =
-    let m : Machine = record { store = c.self.inside.plain; ends = c.self.inside.ends.items; buffers = c.self.inside.buffers.items; places = c.self.inside.places.items; lines = c.self.inside.lines.items; contracts = c.self.inside.contracts.items; opened = c.self.inside.opened; depth = c.self.inside.depth } in
+    let m : Machine = record { store = c.self.inside.plain; ends = c.self.inside.ends.items; buffers = c.self.inside.memory; places = c.self.inside.places.items; lines = c.self.inside.lines.items; contracts = c.self.inside.contracts.items; opened = c.self.inside.opened; depth = c.self.inside.depth } in
     let w : IsWhole m = c.self.invariant in
     let within : c.args.p % 32 < length c.self.inside.places.items = place_there m c.args.p w in
     let pl : c.index_mut-place.result.now ≡ place m c.args.p = read_at c.self.inside.places.items c.from.result (c.args.p % 32) c.index_mut-place.result.now no_place within c.from.ensures c.index_mut-place.ensures.value in
@@ -98,9 +98,9 @@ index_mut-requires c =
     let n : c.from-3.result < length c.self.inside.ends.items = omega (arith, index3, kinds, there) in
     search (rules, n)
 
-pub index_mut-requires-2 : goal.index_mut-requires-2
-index_mut-requires-2 c =
-    let m : Machine = record { store = c.self.inside.plain; ends = c.self.inside.ends.items; buffers = c.self.inside.buffers.items; places = c.self.inside.places.items; lines = c.self.inside.lines.items; contracts = c.self.inside.contracts.items; opened = c.self.inside.opened; depth = c.self.inside.depth } in
+pub clear-requires : goal.clear-requires
+clear-requires c =
+    let m : Machine = record { store = c.self.inside.plain; ends = c.self.inside.ends.items; buffers = c.self.inside.memory; places = c.self.inside.places.items; lines = c.self.inside.lines.items; contracts = c.self.inside.contracts.items; opened = c.self.inside.opened; depth = c.self.inside.depth } in
     let w : IsWhole m = c.self.invariant in
     let within : c.args.p % 32 < length c.self.inside.places.items = place_there m c.args.p w in
     let pl : c.index_mut-place.result.now ≡ place m c.args.p = read_at c.self.inside.places.items c.from.result (c.args.p % 32) c.index_mut-place.result.now no_place within c.from.ensures c.index_mut-place.ensures.value in
@@ -109,17 +109,13 @@ index_mut-requires-2 c =
     let r : ℕ = entry m c.args.p c.args.from in
     let read : slice_index_or c.deref.result.now c.args.from 0 ≡ entry m c.args.p c.args.from = ap (λ xs. slice_index_or xs c.args.from 0) (c.deref.ensures.0 ∙ list) in
     let there : r < length c.self.inside.plain.owners = is_there m.store (Process c.args.p) r (entry_held m c.args.p c.args.from w l) in
-    let kinds : length c.self.inside.ends.items ≡ length c.self.inside.plain.owners = w.kinds in
-    let index : c.from-2.result ≡ r = c.from-2.ensures ∙ read in
-    let index4 : c.from-4.result ≡ r = c.from-4.ensures ∙ read in
-    let long : length c.self.inside.buffers.items ≡ length c.self.inside.plain.owners = w.buffers in
-    let n : c.from-4.result < length c.self.inside.buffers.items = omega (arith, index4, long, there) in
-    search (rules, n)
+    let long : length c.self.inside.memory ≡ length c.self.inside.plain.owners = w.buffers in
+    omega (arith, read, long, there)
 
 pub invariant_of-self : goal.invariant_of-self
 unfolding sweep_one
 invariant_of-self c =
-    let m : Machine = record { store = c.self.inside.plain; ends = c.self.inside.ends.items; buffers = c.self.inside.buffers.items; places = c.self.inside.places.items; lines = c.self.inside.lines.items; contracts = c.self.inside.contracts.items; opened = c.self.inside.opened; depth = c.self.inside.depth } in
+    let m : Machine = record { store = c.self.inside.plain; ends = c.self.inside.ends.items; buffers = c.self.inside.memory; places = c.self.inside.places.items; lines = c.self.inside.lines.items; contracts = c.self.inside.contracts.items; opened = c.self.inside.opened; depth = c.self.inside.depth } in
     let w : IsWhole m = c.self.invariant in
     let within : c.args.p % 32 < length c.self.inside.places.items = place_there m c.args.p w in
     let pl : c.index_mut-place.result.now ≡ place m c.args.p = read_at c.self.inside.places.items c.from.result (c.args.p % 32) c.index_mut-place.result.now no_place within c.from.ensures c.index_mut-place.ensures.value in
@@ -136,10 +132,10 @@ invariant_of-self c =
     ∙ ap (λ q. after (Vacate c.args.p q) (after (GiveBack c.args.p q) (accept_from c.args.p (end_of m r) (arriving m r) m.store))) read) in
     let items : c.remove.new.self.items ≡ remove (blocks m c.args.p ++ arriving m r) c.args.from = c.remove.ensures.items ∙ ap (λ xs. remove xs c.args.from) (c.shut.ensures.list ∙ (λ i. list i ++ way_in c.self.inside.lines.items (end i))) in
     let lines : c.shut.new.lines.items ≡ shut_in m.contracts m.lines (end_of m r) = c.shut.ensures.lines ∙ (λ i. shut_in (c.deref-2.ensures.value i) c.self.inside.lines.items (end i)) in
-    let n : Machine = record { store = c.step-2.new.self; ends = slice_set c.self.inside.ends.items c.from-3.result None; buffers = slice_set c.self.inside.buffers.items c.from-4.result c.none.result; places = slice_set c.self.inside.places.items c.from.result (record { blocks = c.remove.new.self; status = c.index_mut-place.result.now.status; generation = c.index_mut-place.result.now.generation }); lines = c.shut.new.lines.items; contracts = c.self.inside.contracts.items; opened = c.self.inside.opened; depth = c.self.inside.depth } in
+    let n : Machine = record { store = c.step-2.new.self; ends = slice_set c.self.inside.ends.items c.from-3.result None; buffers = c.clear.new.self; places = slice_set c.self.inside.places.items c.from.result (record { blocks = c.remove.new.self; status = c.index_mut-place.result.now.status; generation = c.index_mut-place.result.now.generation }); lines = c.shut.new.lines.items; contracts = c.self.inside.contracts.items; opened = c.self.inside.opened; depth = c.self.inside.depth } in
     let same : n ≡ sweep_one c.args.p c.args.from m = same_machine n (sweep_one c.args.p c.args.from m) store
     (ap (λ q. slice_set c.self.inside.ends.items q None) (c.from-3.ensures ∙ read))
-    (λ i. slice_set c.self.inside.buffers.items ((c.from-4.ensures ∙ read) i) (c.none.ensures i))
+    (c.clear.ensures ∙ ap (λ q. slice_set c.self.inside.memory q []) read)
     (λ i. slice_set c.self.inside.places.items (c.from.ensures i) (record { blocks = record { items = items i }; status = (pl i).status; generation = (pl i).generation }))
     lines refl refl refl in
     subst IsWhole (sym same) (whole_one m c.args.p c.args.from w l)
@@ -147,7 +143,7 @@ invariant_of-self c =
 pub returns-clause-is : goal.returns-clause-is
 unfolding sweep_one
 returns-clause-is c =
-    let m : Machine = record { store = c.self.inside.plain; ends = c.self.inside.ends.items; buffers = c.self.inside.buffers.items; places = c.self.inside.places.items; lines = c.self.inside.lines.items; contracts = c.self.inside.contracts.items; opened = c.self.inside.opened; depth = c.self.inside.depth } in
+    let m : Machine = record { store = c.self.inside.plain; ends = c.self.inside.ends.items; buffers = c.self.inside.memory; places = c.self.inside.places.items; lines = c.self.inside.lines.items; contracts = c.self.inside.contracts.items; opened = c.self.inside.opened; depth = c.self.inside.depth } in
     let w : IsWhole m = c.self.invariant in
     let within : c.args.p % 32 < length c.self.inside.places.items = place_there m c.args.p w in
     let pl : c.index_mut-place.result.now ≡ place m c.args.p = read_at c.self.inside.places.items c.from.result (c.args.p % 32) c.index_mut-place.result.now no_place within c.from.ensures c.index_mut-place.ensures.value in
@@ -164,10 +160,10 @@ returns-clause-is c =
     ∙ ap (λ q. after (Vacate c.args.p q) (after (GiveBack c.args.p q) (accept_from c.args.p (end_of m r) (arriving m r) m.store))) read) in
     let items : c.remove.new.self.items ≡ remove (blocks m c.args.p ++ arriving m r) c.args.from = c.remove.ensures.items ∙ ap (λ xs. remove xs c.args.from) (c.shut.ensures.list ∙ (λ i. list i ++ way_in c.self.inside.lines.items (end i))) in
     let lines : c.shut.new.lines.items ≡ shut_in m.contracts m.lines (end_of m r) = c.shut.ensures.lines ∙ (λ i. shut_in (c.deref-2.ensures.value i) c.self.inside.lines.items (end i)) in
-    let n : Machine = record { store = c.step-2.new.self; ends = slice_set c.self.inside.ends.items c.from-3.result None; buffers = slice_set c.self.inside.buffers.items c.from-4.result c.none.result; places = slice_set c.self.inside.places.items c.from.result (record { blocks = c.remove.new.self; status = c.index_mut-place.result.now.status; generation = c.index_mut-place.result.now.generation }); lines = c.shut.new.lines.items; contracts = c.self.inside.contracts.items; opened = c.self.inside.opened; depth = c.self.inside.depth } in
+    let n : Machine = record { store = c.step-2.new.self; ends = slice_set c.self.inside.ends.items c.from-3.result None; buffers = c.clear.new.self; places = slice_set c.self.inside.places.items c.from.result (record { blocks = c.remove.new.self; status = c.index_mut-place.result.now.status; generation = c.index_mut-place.result.now.generation }); lines = c.shut.new.lines.items; contracts = c.self.inside.contracts.items; opened = c.self.inside.opened; depth = c.self.inside.depth } in
     let same : n ≡ sweep_one c.args.p c.args.from m = same_machine n (sweep_one c.args.p c.args.from m) store
     (ap (λ q. slice_set c.self.inside.ends.items q None) (c.from-3.ensures ∙ read))
-    (λ i. slice_set c.self.inside.buffers.items ((c.from-4.ensures ∙ read) i) (c.none.ensures i))
+    (c.clear.ensures ∙ ap (λ q. slice_set c.self.inside.memory q []) read)
     (λ i. slice_set c.self.inside.places.items (c.from.ensures i) (record { blocks = record { items = items i }; status = (pl i).status; generation = (pl i).generation }))
     lines refl refl refl in
     same ∙ ap (sweep_one c.args.p c.args.from) c.self.view_is
@@ -175,7 +171,7 @@ returns-clause-is c =
 pub returns-clause-bytes : goal.returns-clause-bytes
 unfolding sweep_one
 returns-clause-bytes c =
-    let m : Machine = record { store = c.self.inside.plain; ends = c.self.inside.ends.items; buffers = c.self.inside.buffers.items; places = c.self.inside.places.items; lines = c.self.inside.lines.items; contracts = c.self.inside.contracts.items; opened = c.self.inside.opened; depth = c.self.inside.depth } in
+    let m : Machine = record { store = c.self.inside.plain; ends = c.self.inside.ends.items; buffers = c.self.inside.memory; places = c.self.inside.places.items; lines = c.self.inside.lines.items; contracts = c.self.inside.contracts.items; opened = c.self.inside.opened; depth = c.self.inside.depth } in
     let w : IsWhole m = c.self.invariant in
     let within : c.args.p % 32 < length c.self.inside.places.items = place_there m c.args.p w in
     let pl : c.index_mut-place.result.now ≡ place m c.args.p = read_at c.self.inside.places.items c.from.result (c.args.p % 32) c.index_mut-place.result.now no_place within c.from.ensures c.index_mut-place.ensures.value in
@@ -192,10 +188,10 @@ returns-clause-bytes c =
     ∙ ap (λ q. after (Vacate c.args.p q) (after (GiveBack c.args.p q) (accept_from c.args.p (end_of m r) (arriving m r) m.store))) read) in
     let items : c.remove.new.self.items ≡ remove (blocks m c.args.p ++ arriving m r) c.args.from = c.remove.ensures.items ∙ ap (λ xs. remove xs c.args.from) (c.shut.ensures.list ∙ (λ i. list i ++ way_in c.self.inside.lines.items (end i))) in
     let lines : c.shut.new.lines.items ≡ shut_in m.contracts m.lines (end_of m r) = c.shut.ensures.lines ∙ (λ i. shut_in (c.deref-2.ensures.value i) c.self.inside.lines.items (end i)) in
-    let n : Machine = record { store = c.step-2.new.self; ends = slice_set c.self.inside.ends.items c.from-3.result None; buffers = slice_set c.self.inside.buffers.items c.from-4.result c.none.result; places = slice_set c.self.inside.places.items c.from.result (record { blocks = c.remove.new.self; status = c.index_mut-place.result.now.status; generation = c.index_mut-place.result.now.generation }); lines = c.shut.new.lines.items; contracts = c.self.inside.contracts.items; opened = c.self.inside.opened; depth = c.self.inside.depth } in
+    let n : Machine = record { store = c.step-2.new.self; ends = slice_set c.self.inside.ends.items c.from-3.result None; buffers = c.clear.new.self; places = slice_set c.self.inside.places.items c.from.result (record { blocks = c.remove.new.self; status = c.index_mut-place.result.now.status; generation = c.index_mut-place.result.now.generation }); lines = c.shut.new.lines.items; contracts = c.self.inside.contracts.items; opened = c.self.inside.opened; depth = c.self.inside.depth } in
     let same : n ≡ sweep_one c.args.p c.args.from m = same_machine n (sweep_one c.args.p c.args.from m) store
     (ap (λ q. slice_set c.self.inside.ends.items q None) (c.from-3.ensures ∙ read))
-    (λ i. slice_set c.self.inside.buffers.items ((c.from-4.ensures ∙ read) i) (c.none.ensures i))
+    (c.clear.ensures ∙ ap (λ q. slice_set c.self.inside.memory q []) read)
     (λ i. slice_set c.self.inside.places.items (c.from.ensures i) (record { blocks = record { items = items i }; status = (pl i).status; generation = (pl i).generation }))
     lines refl refl refl in
     let b : len m.store r + all_out (sweep_one c.args.p c.args.from m).store ≡ all_out m.store = bytes_one m c.args.p c.args.from w l in
@@ -206,7 +202,7 @@ returns-clause-bytes c =
 pub returns-clause-current : goal.returns-clause-current
 unfolding sweep_one
 returns-clause-current c =
-    let m : Machine = record { store = c.self.inside.plain; ends = c.self.inside.ends.items; buffers = c.self.inside.buffers.items; places = c.self.inside.places.items; lines = c.self.inside.lines.items; contracts = c.self.inside.contracts.items; opened = c.self.inside.opened; depth = c.self.inside.depth } in
+    let m : Machine = record { store = c.self.inside.plain; ends = c.self.inside.ends.items; buffers = c.self.inside.memory; places = c.self.inside.places.items; lines = c.self.inside.lines.items; contracts = c.self.inside.contracts.items; opened = c.self.inside.opened; depth = c.self.inside.depth } in
     let w : IsWhole m = c.self.invariant in
     let within : c.args.p % 32 < length c.self.inside.places.items = place_there m c.args.p w in
     let pl : c.index_mut-place.result.now ≡ place m c.args.p = read_at c.self.inside.places.items c.from.result (c.args.p % 32) c.index_mut-place.result.now no_place within c.from.ensures c.index_mut-place.ensures.value in
@@ -223,10 +219,10 @@ returns-clause-current c =
     ∙ ap (λ q. after (Vacate c.args.p q) (after (GiveBack c.args.p q) (accept_from c.args.p (end_of m r) (arriving m r) m.store))) read) in
     let items : c.remove.new.self.items ≡ remove (blocks m c.args.p ++ arriving m r) c.args.from = c.remove.ensures.items ∙ ap (λ xs. remove xs c.args.from) (c.shut.ensures.list ∙ (λ i. list i ++ way_in c.self.inside.lines.items (end i))) in
     let lines : c.shut.new.lines.items ≡ shut_in m.contracts m.lines (end_of m r) = c.shut.ensures.lines ∙ (λ i. shut_in (c.deref-2.ensures.value i) c.self.inside.lines.items (end i)) in
-    let n : Machine = record { store = c.step-2.new.self; ends = slice_set c.self.inside.ends.items c.from-3.result None; buffers = slice_set c.self.inside.buffers.items c.from-4.result c.none.result; places = slice_set c.self.inside.places.items c.from.result (record { blocks = c.remove.new.self; status = c.index_mut-place.result.now.status; generation = c.index_mut-place.result.now.generation }); lines = c.shut.new.lines.items; contracts = c.self.inside.contracts.items; opened = c.self.inside.opened; depth = c.self.inside.depth } in
+    let n : Machine = record { store = c.step-2.new.self; ends = slice_set c.self.inside.ends.items c.from-3.result None; buffers = c.clear.new.self; places = slice_set c.self.inside.places.items c.from.result (record { blocks = c.remove.new.self; status = c.index_mut-place.result.now.status; generation = c.index_mut-place.result.now.generation }); lines = c.shut.new.lines.items; contracts = c.self.inside.contracts.items; opened = c.self.inside.opened; depth = c.self.inside.depth } in
     let same : n ≡ sweep_one c.args.p c.args.from m = same_machine n (sweep_one c.args.p c.args.from m) store
     (ap (λ q. slice_set c.self.inside.ends.items q None) (c.from-3.ensures ∙ read))
-    (λ i. slice_set c.self.inside.buffers.items ((c.from-4.ensures ∙ read) i) (c.none.ensures i))
+    (c.clear.ensures ∙ ap (λ q. slice_set c.self.inside.memory q []) read)
     (λ i. slice_set c.self.inside.places.items (c.from.ensures i) (record { blocks = record { items = items i }; status = (pl i).status; generation = (pl i).generation }))
     lines refl refl refl in
     subst (λ (x : Machine). is_current x c.args.p ≡ true) (sym same) (current_one m c.args.p c.args.from w l)

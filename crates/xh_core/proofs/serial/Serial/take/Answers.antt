@@ -18,7 +18,7 @@ use Rattle.xh_core.proofs.serial.Serial.take.Goals as goal
 
 pub accept_blocks-requires : goal.accept_blocks-requires
 accept_blocks-requires c =
-    let m : Machine = record { store = c.self.inside.plain; ends = c.self.inside.ends.items; buffers = c.self.inside.buffers.items; places = c.self.inside.places.items; lines = c.self.inside.lines.items; contracts = c.self.inside.contracts.items; opened = c.self.inside.opened; depth = c.self.inside.depth } in
+    let m : Machine = record { store = c.self.inside.plain; ends = c.self.inside.ends.items; buffers = c.self.inside.memory; places = c.self.inside.places.items; lines = c.self.inside.lines.items; contracts = c.self.inside.contracts.items; opened = c.self.inside.opened; depth = c.self.inside.depth } in
     let w : IsWhole m = c.self.invariant in
     let may : MayTake m c.args.p c.args.e c.in_ok-d.d = subst (λ (x : Machine). MayTake x c.args.p c.args.e c.in_ok-d.d) (sym c.self.view_is) c.in_ok-d.ensures.1 in
     let at : toward m c.args.e ≡ c.in_ok-d.d = ap (λ o. unwrap_or o 128) may.toward in
@@ -37,7 +37,7 @@ accept_blocks-requires c =
 pub invariant_of-self : goal.invariant_of-self
 unfolding taken
 invariant_of-self c =
-    let m : Machine = record { store = c.self.inside.plain; ends = c.self.inside.ends.items; buffers = c.self.inside.buffers.items; places = c.self.inside.places.items; lines = c.self.inside.lines.items; contracts = c.self.inside.contracts.items; opened = c.self.inside.opened; depth = c.self.inside.depth } in
+    let m : Machine = record { store = c.self.inside.plain; ends = c.self.inside.ends.items; buffers = c.self.inside.memory; places = c.self.inside.places.items; lines = c.self.inside.lines.items; contracts = c.self.inside.contracts.items; opened = c.self.inside.opened; depth = c.self.inside.depth } in
     let w : IsWhole m = c.self.invariant in
     let may : MayTake m c.args.p c.args.e c.in_ok-d.d = subst (λ (x : Machine). MayTake x c.args.p c.args.e c.in_ok-d.d) (sym c.self.view_is) c.in_ok-d.ensures.1 in
     let at : toward m c.args.e ≡ c.in_ok-d.d = ap (λ o. unwrap_or o 128) may.toward in
@@ -51,7 +51,7 @@ invariant_of-self c =
     let items : c.accept_blocks.new.list.items ≡ blocks m c.args.p ++ (front m c.args.e).blocks.items = c.accept_blocks.ensures.list ∙ (λ i. list i ++ came i) in
     let lines : c.take_front-message.new.lines.items ≡ slice_set m.lines (toward m c.args.e) (taken_line (contract_of m.contracts (toward m c.args.e)) (1 - toward m c.args.e % 2) (front m c.args.e).tag (line m (toward m c.args.e))) =
     c.take_front-message.ensures.line ∙ (λ i. slice_set m.lines (sym at i) (taken_line (contract_of (c.deref.ensures.value i) (sym at i)) (1 - sym at i % 2) (got i).tag (line m (sym at i)))) in
-    let n : Machine = record { store = c.accept_blocks.new.plain; ends = c.self.inside.ends.items; buffers = c.self.inside.buffers.items; places = slice_set c.self.inside.places.items c.from.result (record { blocks = c.accept_blocks.new.list; status = c.index_mut-place.result.now.status; generation = c.index_mut-place.result.now.generation }); lines = c.take_front-message.new.lines.items; contracts = c.self.inside.contracts.items; opened = c.self.inside.opened; depth = c.self.inside.depth } in
+    let n : Machine = record { store = c.accept_blocks.new.plain; ends = c.self.inside.ends.items; buffers = c.self.inside.memory; places = slice_set c.self.inside.places.items c.from.result (record { blocks = c.accept_blocks.new.list; status = c.index_mut-place.result.now.status; generation = c.index_mut-place.result.now.generation }); lines = c.take_front-message.new.lines.items; contracts = c.self.inside.contracts.items; opened = c.self.inside.opened; depth = c.self.inside.depth } in
     let same : n ≡ taken c.args.p c.args.e m = same_machine n (taken c.args.p c.args.e m) store refl refl
     (λ i. slice_set c.self.inside.places.items (c.from.ensures i) (record { blocks = record { items = items i }; status = (pl i).status; generation = (pl i).generation }))
     lines refl refl refl in
@@ -60,7 +60,7 @@ invariant_of-self c =
 pub returns-clause-is : goal.returns-clause-is
 unfolding take taken
 returns-clause-is c =
-    let m : Machine = record { store = c.self.inside.plain; ends = c.self.inside.ends.items; buffers = c.self.inside.buffers.items; places = c.self.inside.places.items; lines = c.self.inside.lines.items; contracts = c.self.inside.contracts.items; opened = c.self.inside.opened; depth = c.self.inside.depth } in
+    let m : Machine = record { store = c.self.inside.plain; ends = c.self.inside.ends.items; buffers = c.self.inside.memory; places = c.self.inside.places.items; lines = c.self.inside.lines.items; contracts = c.self.inside.contracts.items; opened = c.self.inside.opened; depth = c.self.inside.depth } in
     let w : IsWhole m = c.self.invariant in
     let may : MayTake m c.args.p c.args.e c.in_ok-d.d = subst (λ (x : Machine). MayTake x c.args.p c.args.e c.in_ok-d.d) (sym c.self.view_is) c.in_ok-d.ensures.1 in
     let at : toward m c.args.e ≡ c.in_ok-d.d = ap (λ o. unwrap_or o 128) may.toward in
@@ -74,7 +74,7 @@ returns-clause-is c =
     let items : c.accept_blocks.new.list.items ≡ blocks m c.args.p ++ (front m c.args.e).blocks.items = c.accept_blocks.ensures.list ∙ (λ i. list i ++ came i) in
     let lines : c.take_front-message.new.lines.items ≡ slice_set m.lines (toward m c.args.e) (taken_line (contract_of m.contracts (toward m c.args.e)) (1 - toward m c.args.e % 2) (front m c.args.e).tag (line m (toward m c.args.e))) =
     c.take_front-message.ensures.line ∙ (λ i. slice_set m.lines (sym at i) (taken_line (contract_of (c.deref.ensures.value i) (sym at i)) (1 - sym at i % 2) (got i).tag (line m (sym at i)))) in
-    let n : Machine = record { store = c.accept_blocks.new.plain; ends = c.self.inside.ends.items; buffers = c.self.inside.buffers.items; places = slice_set c.self.inside.places.items c.from.result (record { blocks = c.accept_blocks.new.list; status = c.index_mut-place.result.now.status; generation = c.index_mut-place.result.now.generation }); lines = c.take_front-message.new.lines.items; contracts = c.self.inside.contracts.items; opened = c.self.inside.opened; depth = c.self.inside.depth } in
+    let n : Machine = record { store = c.accept_blocks.new.plain; ends = c.self.inside.ends.items; buffers = c.self.inside.memory; places = slice_set c.self.inside.places.items c.from.result (record { blocks = c.accept_blocks.new.list; status = c.index_mut-place.result.now.status; generation = c.index_mut-place.result.now.generation }); lines = c.take_front-message.new.lines.items; contracts = c.self.inside.contracts.items; opened = c.self.inside.opened; depth = c.self.inside.depth } in
     let same : n ≡ taken c.args.p c.args.e m = same_machine n (taken c.args.p c.args.e m) store refl refl
     (λ i. slice_set c.self.inside.places.items (c.from.ensures i) (record { blocks = record { items = items i }; status = (pl i).status; generation = (pl i).generation }))
     lines refl refl refl in
@@ -87,7 +87,7 @@ returns-clause-is c =
 pub returns-clause-orderly : goal.returns-clause-orderly
 unfolding taken
 returns-clause-orderly c =
-    let m : Machine = record { store = c.self.inside.plain; ends = c.self.inside.ends.items; buffers = c.self.inside.buffers.items; places = c.self.inside.places.items; lines = c.self.inside.lines.items; contracts = c.self.inside.contracts.items; opened = c.self.inside.opened; depth = c.self.inside.depth } in
+    let m : Machine = record { store = c.self.inside.plain; ends = c.self.inside.ends.items; buffers = c.self.inside.memory; places = c.self.inside.places.items; lines = c.self.inside.lines.items; contracts = c.self.inside.contracts.items; opened = c.self.inside.opened; depth = c.self.inside.depth } in
     let w : IsWhole m = c.self.invariant in
     let may : MayTake m c.args.p c.args.e c.in_ok-d.d = subst (λ (x : Machine). MayTake x c.args.p c.args.e c.in_ok-d.d) (sym c.self.view_is) c.in_ok-d.ensures.1 in
     let at : toward m c.args.e ≡ c.in_ok-d.d = ap (λ o. unwrap_or o 128) may.toward in
@@ -101,7 +101,7 @@ returns-clause-orderly c =
     let items : c.accept_blocks.new.list.items ≡ blocks m c.args.p ++ (front m c.args.e).blocks.items = c.accept_blocks.ensures.list ∙ (λ i. list i ++ came i) in
     let lines : c.take_front-message.new.lines.items ≡ slice_set m.lines (toward m c.args.e) (taken_line (contract_of m.contracts (toward m c.args.e)) (1 - toward m c.args.e % 2) (front m c.args.e).tag (line m (toward m c.args.e))) =
     c.take_front-message.ensures.line ∙ (λ i. slice_set m.lines (sym at i) (taken_line (contract_of (c.deref.ensures.value i) (sym at i)) (1 - sym at i % 2) (got i).tag (line m (sym at i)))) in
-    let n : Machine = record { store = c.accept_blocks.new.plain; ends = c.self.inside.ends.items; buffers = c.self.inside.buffers.items; places = slice_set c.self.inside.places.items c.from.result (record { blocks = c.accept_blocks.new.list; status = c.index_mut-place.result.now.status; generation = c.index_mut-place.result.now.generation }); lines = c.take_front-message.new.lines.items; contracts = c.self.inside.contracts.items; opened = c.self.inside.opened; depth = c.self.inside.depth } in
+    let n : Machine = record { store = c.accept_blocks.new.plain; ends = c.self.inside.ends.items; buffers = c.self.inside.memory; places = slice_set c.self.inside.places.items c.from.result (record { blocks = c.accept_blocks.new.list; status = c.index_mut-place.result.now.status; generation = c.index_mut-place.result.now.generation }); lines = c.take_front-message.new.lines.items; contracts = c.self.inside.contracts.items; opened = c.self.inside.opened; depth = c.self.inside.depth } in
     let same : n ≡ taken c.args.p c.args.e m = same_machine n (taken c.args.p c.args.e m) store refl refl
     (λ i. slice_set c.self.inside.places.items (c.from.ensures i) (record { blocks = record { items = items i }; status = (pl i).status; generation = (pl i).generation }))
     lines refl refl refl in
@@ -115,7 +115,7 @@ returns-in_err-d-clause-orderly c =
 pub returns-clause-allowed : goal.returns-clause-allowed
 unfolding taken
 returns-clause-allowed c =
-    let m : Machine = record { store = c.self.inside.plain; ends = c.self.inside.ends.items; buffers = c.self.inside.buffers.items; places = c.self.inside.places.items; lines = c.self.inside.lines.items; contracts = c.self.inside.contracts.items; opened = c.self.inside.opened; depth = c.self.inside.depth } in
+    let m : Machine = record { store = c.self.inside.plain; ends = c.self.inside.ends.items; buffers = c.self.inside.memory; places = c.self.inside.places.items; lines = c.self.inside.lines.items; contracts = c.self.inside.contracts.items; opened = c.self.inside.opened; depth = c.self.inside.depth } in
     let w : IsWhole m = c.self.invariant in
     let may : MayTake m c.args.p c.args.e c.in_ok-d.d = subst (λ (x : Machine). MayTake x c.args.p c.args.e c.in_ok-d.d) (sym c.self.view_is) c.in_ok-d.ensures.1 in
     let at : toward m c.args.e ≡ c.in_ok-d.d = ap (λ o. unwrap_or o 128) may.toward in
@@ -129,7 +129,7 @@ returns-clause-allowed c =
     let items : c.accept_blocks.new.list.items ≡ blocks m c.args.p ++ (front m c.args.e).blocks.items = c.accept_blocks.ensures.list ∙ (λ i. list i ++ came i) in
     let lines : c.take_front-message.new.lines.items ≡ slice_set m.lines (toward m c.args.e) (taken_line (contract_of m.contracts (toward m c.args.e)) (1 - toward m c.args.e % 2) (front m c.args.e).tag (line m (toward m c.args.e))) =
     c.take_front-message.ensures.line ∙ (λ i. slice_set m.lines (sym at i) (taken_line (contract_of (c.deref.ensures.value i) (sym at i)) (1 - sym at i % 2) (got i).tag (line m (sym at i)))) in
-    let n : Machine = record { store = c.accept_blocks.new.plain; ends = c.self.inside.ends.items; buffers = c.self.inside.buffers.items; places = slice_set c.self.inside.places.items c.from.result (record { blocks = c.accept_blocks.new.list; status = c.index_mut-place.result.now.status; generation = c.index_mut-place.result.now.generation }); lines = c.take_front-message.new.lines.items; contracts = c.self.inside.contracts.items; opened = c.self.inside.opened; depth = c.self.inside.depth } in
+    let n : Machine = record { store = c.accept_blocks.new.plain; ends = c.self.inside.ends.items; buffers = c.self.inside.memory; places = slice_set c.self.inside.places.items c.from.result (record { blocks = c.accept_blocks.new.list; status = c.index_mut-place.result.now.status; generation = c.index_mut-place.result.now.generation }); lines = c.take_front-message.new.lines.items; contracts = c.self.inside.contracts.items; opened = c.self.inside.opened; depth = c.self.inside.depth } in
     let same : n ≡ taken c.args.p c.args.e m = same_machine n (taken c.args.p c.args.e m) store refl refl
     (λ i. slice_set c.self.inside.places.items (c.from.ensures i) (record { blocks = record { items = items i }; status = (pl i).status; generation = (pl i).generation }))
     lines refl refl refl in

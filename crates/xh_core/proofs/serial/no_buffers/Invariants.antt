@@ -1,7 +1,0 @@
-use Rattle.std.proofs.Common.{◌≡◌}
-use Rattle.std.specs.Prelude.{replicate}
-use Rattle.std.specs.Prelude.{[]}
-use Rattle.xh_core.proofs.serial.no_buffers.Given as goal
-
-abbrev pub invariant-loop : goal.invariant-loop
-invariant-loop l = l.buffers.items ≡ replicate l.counter ([])
