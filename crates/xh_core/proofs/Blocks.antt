@@ -127,12 +127,12 @@ pub byte_of_other : (spans : List Span) (before after : Stock) (pages r s : ℕ)
     byte_at (get_or spans s no_span).index after.pages j ≡ byte_at (get_or spans s no_span).index before.pages j
 byte_of_other spans before after pages r s old j all l is short others ne =
     let index : List ℕ = (get_or spans s no_span).index in
-    let e : ℕ = entry index (j / 256) in
+    let e : ℕ = entry index (j / 512) in
     let few = all.few in
     elim (cases_eq e nowhere) [
       | inl h ↦ byte_missing index after.pages j (omega (arith, short)) h ∙ sym (byte_missing index before.pages j (omega (arith, few)) h)
       | inr real ↦
-          let stands_there : 1 ≤ times e index = times_at e index (j / 256) real refl in
+          let stands_there : 1 ≤ times e index = times_at e index (j / 512) real refl in
           let m : s < length spans = elim (cases_lt s (length spans)) [
             | inl m ↦ m
             | inr past ↦ (let none : get_or spans s no_span ≡ no_span = get_or_past spans s no_span past in
@@ -141,7 +141,7 @@ byte_of_other spans before after pages r s old j all l is short others ne =
           let two : times e old.index + times e index ≤ sum_by (stands e) spans = subst (λ (span : Span). times e span.index + times e index ≤ sum_by (stands e) spans) is (sum_two (stands e) spans r s no_span (λ g. ne (sym g)) l m) in
           let once = all.once e real in
           let away : times e old.index + at_hand e before ≡ 0 = omega (arith, stands_there, two, once) in
-          byte_is index after.pages j e refl ∙ (ap (λ (page : List ℕ). get_or page (j % 256) 0) (others e real away) ∙ sym (byte_is index before.pages j e refl))
+          byte_is index after.pages j e refl ∙ (ap (λ (page : List ℕ). get_or page (j % 512) 0) (others e real away) ∙ sym (byte_is index before.pages j e refl))
     ]
 
 pub bytes_of_other : (spans : List Span) (before after : Stock) (pages r s : ℕ) (old : Span) → AreSpans spans before pages → r < length spans → get_or spans r no_span ≡ old →

@@ -8,12 +8,12 @@ use Rattle.xh_core.specs.Paging.{byte_at, entry, nowhere, page_at, shown}
 
 -- ---- one byte
 
-pub byte_is : (index : List ℕ) (pages : List (List ℕ)) (j e : ℕ) → entry index (j / 256) ≡ e → byte_at index pages j ≡ get_or (page_at pages e) (j % 256) 0
+pub byte_is : (index : List ℕ) (pages : List (List ℕ)) (j e : ℕ) → entry index (j / 512) ≡ e → byte_at index pages j ≡ get_or (page_at pages e) (j % 512) 0
 unfolding byte_at
-byte_is index pages j e h = ap (λ (k : ℕ). get_or (page_at pages k) (j % 256) 0) h
+byte_is index pages j e h = ap (λ (k : ℕ). get_or (page_at pages k) (j % 512) 0) h
 
-pub byte_missing : (index : List ℕ) (pages : List (List ℕ)) (j : ℕ) → length pages ≤ nowhere → entry index (j / 256) ≡ nowhere → byte_at index pages j ≡ 0
-byte_missing index pages j short h = byte_is index pages j nowhere h ∙ ap (λ (page : List ℕ). get_or page (j % 256) 0) (get_or_past pages nowhere [] short)
+pub byte_missing : (index : List ℕ) (pages : List (List ℕ)) (j : ℕ) → length pages ≤ nowhere → entry index (j / 512) ≡ nowhere → byte_at index pages j ≡ 0
+byte_missing index pages j short h = byte_is index pages j nowhere h ∙ ap (λ (page : List ℕ). get_or page (j % 512) 0) (get_or_past pages nowhere [] short)
 
 -- ---- the bytes as a list
 
@@ -50,7 +50,7 @@ shown_drop first count at index pages l =
 
 pub shown_zeros : (count entries : ℕ) (pages : List (List ℕ)) → length pages ≤ nowhere → shown 0 count (replicate entries nowhere) pages ≡ replicate count 0
 shown_zeros count entries pages short = shown_is 0 count (replicate entries nowhere) pages (replicate count 0) (length-replicate count 0)
-    (λ k l. get_or-replicate count k 0 0 l ∙ sym (byte_missing (replicate entries nowhere) pages (0 + k) short (none entries ((0 + k) / 256))))
+    (λ k l. get_or-replicate count k 0 0 l ∙ sym (byte_missing (replicate entries nowhere) pages (0 + k) short (none entries ((0 + k) / 512))))
   where
     none : (n p : ℕ) → get_or (replicate n nowhere) p nowhere ≡ nowhere
     none n p = elim (cases_lt p n) [

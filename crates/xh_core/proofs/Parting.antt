@@ -1,11 +1,12 @@
 -- Pages leave one index for another, and a block's bytes are cut in two.
-use Rattle.std.proofs.Common.{◌≡◌, ◌≢◌, ◌⊎◌, ℕ, suc, min, ◌+◌, ◌-◌, ◌*◌, ◌/◌, ◌%◌, ◌<◌, ◌≤◌, ◌==◌, cond, not, List, [], ◌∷◌, length, get_or, set, take, drop, refl, sym, ap, ◌∙◌, subst, inl, inr, arith, Result, Ok, Err}
+use Rattle.std.proofs.Common.{◌≡◌, ◌≢◌, ◌⊎◌, ℕ, suc, ◌+◌, ◌-◌, ◌*◌, ◌/◌, ◌%◌, ◌<◌, ◌≤◌, ◌==◌, cond, not, List, [], ◌∷◌, length, get_or, set, take, drop, refl, sym, ap, ◌∙◌, subst, inl, inr, arith, Result, Ok, Err}
 use Rattle.std.specs.Prelude.{IfOk}
 use Rattle.std.proofs.lemmas.Bool.{cases_eq, cases_lt}
 use Rattle.std.proofs.lemmas.List.{get_or-set_other, get_or-set_same, get_or_past, length-drop, take_all}
 use Rattle.std.proofs.lemmas.List.Sums.{sum_by-cons}
 use Rattle.xh_core.specs.Machine.{times}
 use Rattle.xh_core.specs.Paging.{AreApart, Grown, Parted, Span, Stock, byte_at, bytes_of, entry, nowhere, page_at, shown, there}
+use Rattle.xh_core.proofs.Growing.{has_page}
 use Rattle.xh_core.proofs.Paging.{byte_is, shown_drop, shown_length, shown_moved, shown_part, shown_take}
 use Rattle.xh_core.proofs.Places.{is_missing, is_other, times_at, times_none, times_set, there_set}
 
@@ -27,6 +28,7 @@ pub record Moving (old index part : List ℕ) (low page : ℕ) : Type 0 where
   pub all : there index + there part ≡ there old
   pub moved : (p : ℕ) → p < page → entry part p ≡ entry old (low + p)
   pub rest : (p : ℕ) → page ≤ p → entry part p ≡ nowhere
+  pub gone : (p : ℕ) → p < page → entry index (low + p) ≡ nowhere
   pub others : (p : ℕ) → (p < low) ⊎ (low + page ≤ p) → entry index p ≡ entry old p
 
 pub moving_none : (index part : List ℕ) (low : ℕ) → ((p : ℕ) → entry part p ≡ nowhere) → Moving index index part low 0
@@ -35,6 +37,7 @@ moving_none index part low none = record {
   all = let a = there_none part none in omega (arith, a);
   moved = λ p l. absurd (omega (arith, l));
   rest = λ p _. none p;
+  gone = λ p l. absurd (omega (arith, l));
   others = λ p _. refl;
 }
 
@@ -64,6 +67,10 @@ module _ (old index part : List ℕ) (low page : ℕ) (m : Moving old index part
       | inr n ↦ get_or-set_other part page p (entry index (low + page)) nowhere n ∙ m.moved p (omega (arith, below, n))
     ];
     rest = λ p above. get_or-set_other part page p (entry index (low + page)) nowhere (omega (arith, above)) ∙ m.rest p (omega (arith, above));
+    gone = λ p below. elim (cases_eq p page) [
+      | inl e ↦ subst (λ (q : ℕ). entry (set index (low + page) nowhere) (low + q) ≡ nowhere) (sym e) (get_or-set_same index (low + page) nowhere nowhere in_list)
+      | inr n ↦ get_or-set_other index (low + page) (low + p) nowhere nowhere (omega (arith, n)) ∙ m.gone p (omega (arith, below, n))
+    ];
     others = λ p away. elim away [
       | inl below ↦ get_or-set_other index (low + page) p nowhere nowhere (omega (arith, below)) ∙ m.others p (inl below)
       | inr above ↦ get_or-set_other index (low + page) p nowhere nowhere (omega (arith, above)) ∙ m.others p (inr (omega (arith, above)))
@@ -79,24 +86,24 @@ moving_next old index part low page e m l in_list h =
 -- ---- the bytes of pages that left
 
 -- a byte is read alike where its page has the same place
-pub byte_same : (index later : List ℕ) (pages : List (List ℕ)) (i j : ℕ) → entry later (i / 256) ≡ entry index (j / 256) → i % 256 ≡ j % 256 → byte_at later pages i ≡ byte_at index pages j
+pub byte_same : (index later : List ℕ) (pages : List (List ℕ)) (i j : ℕ) → entry later (i / 512) ≡ entry index (j / 512) → i % 512 ≡ j % 512 → byte_at later pages i ≡ byte_at index pages j
 byte_same index later pages i j page offset =
-    byte_is later pages i (entry index (j / 256)) page ∙ (ap (λ (o : ℕ). get_or (page_at pages (entry index (j / 256))) o 0) offset ∙ sym (byte_is index pages j (entry index (j / 256)) refl))
+    byte_is later pages i (entry index (j / 512)) page ∙ (ap (λ (o : ℕ). get_or (page_at pages (entry index (j / 512))) o 0) offset ∙ sym (byte_is index pages j (entry index (j / 512)) refl))
 
-module _ (start count : ℕ) (old part : List ℕ) (fits : length part ≡ (start % 256 + count + 255) / 256) where
-  part_shown : (pages : List (List ℕ)) → ((p : ℕ) → p < length part → entry part p ≡ entry old (start / 256 + p)) → shown (start % 256) count part pages ≡ shown start count old pages
-  part_shown pages moved = shown_moved (start % 256) start count old part pages pages (λ k l.
-      let i : ℕ = start % 256 + k in
-      let e : (start + k) / 256 ≡ start / 256 + i / 256 = omega arith in
-      byte_same old part pages i (start + k) (moved (i / 256) (omega (arith, l, fits)) ∙ ap (entry old) (sym e)) (omega arith))
+module _ (start count : ℕ) (old part : List ℕ) (fits : length part ≡ (start % 512 + count + 511) / 512) where
+  part_shown : (pages : List (List ℕ)) → ((p : ℕ) → p < length part → entry part p ≡ entry old (start / 512 + p)) → shown (start % 512) count part pages ≡ shown start count old pages
+  part_shown pages moved = shown_moved (start % 512) start count old part pages pages (λ k l.
+      let i : ℕ = start % 512 + k in
+      let e : (start + k) / 512 ≡ start / 512 + i / 512 = omega arith in
+      byte_same old part pages i (start + k) (moved (i / 512) (omega (arith, l, fits)) ∙ ap (entry old) (sym e)) (omega arith))
 
   pub part_bytes : (first len from : ℕ) (pages : List (List ℕ)) → start ≡ first + from → from + count ≤ len →
-      ((p : ℕ) → p < length part → entry part p ≡ entry old (start / 256 + p)) → shown (start % 256) count part pages ≡ take count (drop from (shown first len old pages))
+      ((p : ℕ) → p < length part → entry part p ≡ entry old (start / 512 + p)) → shown (start % 512) count part pages ≡ take count (drop from (shown first len old pages))
   part_bytes first len from pages is within moved = part_shown pages moved ∙ (ap (λ (s : ℕ). shown s count old pages) is ∙ shown_part first len from count old pages within)
 
-  pub left_bytes : (index : List ℕ) (pages : List (List ℕ)) (end j : ℕ) → end ≡ start + count → ((p : ℕ) → (p < start / 256) ⊎ (start / 256 + length part ≤ p) → entry index p ≡ entry old p) →
-      (j / 256 < start / 256) ⊎ ((end + 255) / 256 ≤ j / 256) → byte_at index pages j ≡ byte_at old pages j
-  left_bytes index pages end j is others away = byte_same old index pages j j (others (j / 256) (elim away [ inl l ↦ inl l | inr g ↦ inr (omega (arith, g, is, fits)) ])) refl
+  pub left_bytes : (index : List ℕ) (pages : List (List ℕ)) (end j : ℕ) → end ≡ start + count → ((p : ℕ) → (p < start / 512) ⊎ (start / 512 + length part ≤ p) → entry index p ≡ entry old p) →
+      (j / 512 < start / 512) ⊎ ((end + 511) / 512 ≤ j / 512) → byte_at index pages j ≡ byte_at old pages j
+  left_bytes index pages end j is others away = byte_same old index pages j j (others (j / 512) (elim away [ inl l ↦ inl l | inr g ↦ inr (omega (arith, g, is, fits)) ])) refl
 
 -- ---- what pages that left keep, while the other index takes pages
 
@@ -108,15 +115,15 @@ apart_part part apart places = record {
 }
 
 -- where an index reads alike past its end, so does the page at no place
-pub nowhere_alike : (index later : List ℕ) (pages now : List (List ℕ)) (from o : ℕ) → length later ≡ length index → from ≤ 256 * length index → ((j : ℕ) → from ≤ j → byte_at later now j ≡ byte_at index pages j) → o < 256 →
+pub nowhere_alike : (index later : List ℕ) (pages now : List (List ℕ)) (from o : ℕ) → length later ≡ length index → from ≤ 512 * length index → ((j : ℕ) → from ≤ j → byte_at later now j ≡ byte_at index pages j) → o < 512 →
     get_or (page_at now nowhere) o 0 ≡ get_or (page_at pages nowhere) o 0
 nowhere_alike index later pages now from o long within same l =
-    let j : ℕ = 256 * length index + o in
-    let p : j / 256 ≡ length index = omega (arith, l) in
-    let q : j % 256 ≡ o = omega (arith, l) in
-    let a : byte_at later now j ≡ get_or (page_at now nowhere) (j % 256) 0 = byte_is later now j nowhere (get_or_past later (j / 256) nowhere (omega (arith, p, long))) in
-    let b : byte_at index pages j ≡ get_or (page_at pages nowhere) (j % 256) 0 = byte_is index pages j nowhere (get_or_past index (j / 256) nowhere (omega (arith, p))) in
-    let c : get_or (page_at now nowhere) (j % 256) 0 ≡ get_or (page_at pages nowhere) (j % 256) 0 = sym a ∙ (same j (omega (arith, within)) ∙ b) in
+    let j : ℕ = 512 * length index + o in
+    let p : j / 512 ≡ length index = omega (arith, l) in
+    let q : j % 512 ≡ o = omega (arith, l) in
+    let a : byte_at later now j ≡ get_or (page_at now nowhere) (j % 512) 0 = byte_is later now j nowhere (get_or_past later (j / 512) nowhere (omega (arith, p, long))) in
+    let b : byte_at index pages j ≡ get_or (page_at pages nowhere) (j % 512) 0 = byte_is index pages j nowhere (get_or_past index (j / 512) nowhere (omega (arith, p))) in
+    let c : get_or (page_at now nowhere) (j % 512) 0 ≡ get_or (page_at pages nowhere) (j % 512) 0 = sym a ∙ (same j (omega (arith, within)) ∙ b) in
     subst (λ (n : ℕ). get_or (page_at now nowhere) n 0 ≡ get_or (page_at pages nowhere) n 0) q c
 
 module _ {old index later : List ℕ} (part : List ℕ) {before after : Stock} (apart : AreApart old before) (places : (k : ℕ) → k ≢ nowhere → times k index + times k part ≡ times k old) (grown : Grown index later before after) where
@@ -128,16 +135,16 @@ module _ {old index later : List ℕ} (part : List ℕ) {before after : Stock} (
       let t = times_at (entry part page) part page real refl in
       grown.others (entry part page) real (omega (arith, a, b, t))
 
-  part_byte : ((o : ℕ) → o < 256 → get_or (page_at after.pages nowhere) o 0 ≡ get_or (page_at before.pages nowhere) o 0) → (j : ℕ) → byte_at part after.pages j ≡ byte_at part before.pages j
+  part_byte : ((o : ℕ) → o < 512 → get_or (page_at after.pages nowhere) o 0 ≡ get_or (page_at before.pages nowhere) o 0) → (j : ℕ) → byte_at part after.pages j ≡ byte_at part before.pages j
   part_byte alike j =
-      let e : ℕ = entry part (j / 256) in
+      let e : ℕ = entry part (j / 512) in
       elim (cases_eq e nowhere) [
-        | inl h ↦ byte_is part after.pages j nowhere h ∙ (alike (j % 256) (omega arith) ∙ sym (byte_is part before.pages j nowhere h))
-        | inr n ↦ byte_is part after.pages j e refl ∙ (ap (λ (page : List ℕ). get_or page (j % 256) 0) (part_page (j / 256) n) ∙ sym (byte_is part before.pages j e refl))
+        | inl h ↦ byte_is part after.pages j nowhere h ∙ (alike (j % 512) (omega arith) ∙ sym (byte_is part before.pages j nowhere h))
+        | inr n ↦ byte_is part after.pages j e refl ∙ (ap (λ (page : List ℕ). get_or page (j % 512) 0) (part_page (j / 512) n) ∙ sym (byte_is part before.pages j e refl))
       ]
 
   -- the bytes of the part are as they were, where the index reads alike past its end
-  pub part_kept : (from : ℕ) → length later ≡ length index → from ≤ 256 * length index → ((j : ℕ) → from ≤ j → byte_at later after.pages j ≡ byte_at index before.pages j) →
+  pub part_kept : (from : ℕ) → length later ≡ length index → from ≤ 512 * length index → ((j : ℕ) → from ≤ j → byte_at later after.pages j ≡ byte_at index before.pages j) →
       (first count : ℕ) → shown first count part after.pages ≡ shown first count part before.pages
   part_kept from long within same first count = shown_moved first first count part part before.pages after.pages
       (λ k _. part_byte (λ o l. nowhere_alike index later before.pages after.pages from o long within same l) (first + k))
@@ -153,23 +160,6 @@ parted_swap p = record {
   others = p.others;
 }
 
--- ---- the page that both have a part in
-
--- a byte that is put back, or was not touched
-pub byte_mended : (old index later edge : List ℕ) (pages now : List (List ℕ)) (from count j : ℕ) →
-    ((i : ℕ) → i < count → get_or edge i 0 ≡ byte_at old pages (from + i)) →
-    ((i : ℕ) → i < count → byte_at later now (from + i) ≡ get_or edge i 0) →
-    ((i : ℕ) → (i < from) ⊎ (from + count ≤ i) → byte_at later now i ≡ byte_at index pages i) →
-    ((j < from) ⊎ (from + count ≤ j) → byte_at index pages j ≡ byte_at old pages j) → byte_at later now j ≡ byte_at old pages j
-byte_mended old index later edge pages now from count j read here others left = elim (cases_lt j from) [
-  | inl below ↦ others j (inl below) ∙ left (inl below)
-  | inr above ↦ elim (cases_lt j (from + count)) [
-    | inl inside ↦ (let e : from + (j - from) ≡ j = omega (arith, above) in let l : j - from < count = omega (arith, above, inside) in
-        subst (λ (i : ℕ). byte_at later now i ≡ byte_at old pages i) e (here (j - from) l ∙ read (j - from) l))
-    | inr past ↦ others j (inr past) ∙ left (inr past)
-  ]
-]
-
 -- ---- a block is cut in two
 
 -- all bytes past the first
@@ -184,20 +174,41 @@ pub record Left (old : Span) (index : List ℕ) (part : Span) (from count : ℕ)
   pub long : length index ≡ length old.index
   pub places : (k : ℕ) → k ≢ nowhere → times k index + times k part.index ≡ times k old.index
   pub all : there index + there part.index ≡ there old.index
-  pub others : (pages : List (List ℕ)) (j : ℕ) → (j / 256 < (old.first + from) / 256) ⊎ ((old.first + (from + count) + 255) / 256 ≤ j / 256) → byte_at index pages j ≡ byte_at old.index pages j
+  pub others : (pages : List (List ℕ)) (j : ℕ) → (j / 512 < (old.first + from) / 512) ⊎ ((old.first + (from + count) + 511) / 512 ≤ j / 512) → byte_at index pages j ≡ byte_at old.index pages j
 
--- These bytes came in the place of as many from byte `at` on.
-pub record Mended (index later new : List ℕ) (before after : Stock) (at : ℕ) : Type 0 where
+-- The page of byte `cut`, unless `cut` is its first byte, is there again as it was.
+pub record Shared (old index later : List ℕ) (before after : Stock) (cut : ℕ) : Type 0 where
   pub pages : Grown index later before after
   pub long : length later ≡ length index
-  pub within : at + length new ≤ 256 * length index
-  pub here : (i : ℕ) → i < length new → byte_at later after.pages (at + i) ≡ get_or new i 0
-  pub others : (j : ℕ) → (j < at) ⊎ (at + length new ≤ j) → byte_at later after.pages j ≡ byte_at index before.pages j
+  pub in_list : 0 < cut % 512 → cut / 512 < length index
+  pub here : (j : ℕ) → 0 < cut % 512 → j / 512 ≡ cut / 512 → byte_at later after.pages j ≡ byte_at old before.pages j
+  pub others : (j : ℕ) → (j / 512 ≢ cut / 512) ⊎ (cut % 512 ≡ 0) → byte_at later after.pages j ≡ byte_at index before.pages j
 
-module _ {old : Span} {index : List ℕ} {part : Span} {from count : ℕ} (left : Left old index part from count) {later new : List ℕ} {before after : Stock} {at : ℕ} (m : Mended index later new before after at) where
+-- each place of the part has a page
+pub part_there : (old part : List ℕ) (stock : Stock) (low : ℕ) → AreApart old stock → ((p : ℕ) → p < length part → entry part p ≡ entry old (low + p)) → (p : ℕ) → entry part p ≢ nowhere → entry part p < length stock.pages
+part_there old part stock low apart moved p real = elim (cases_lt p (length part)) [
+  | inl l ↦ has_page old stock (low + p) (entry part p) apart real (sym (moved p l))
+  | inr g ↦ absurd (real (get_or_past part p nowhere g))
+]
+
+-- what is read in the part's page is read in the old one
+pub shared_byte : (old part : List ℕ) (pages : List (List ℕ)) (low cut j : ℕ) → ((p : ℕ) → p < length part → entry part p ≡ entry old (low + p)) → low ≤ cut / 512 → cut / 512 < low + length part → j / 512 ≡ cut / 512 →
+    get_or (page_at pages (entry part (cut / 512 - low))) (j % 512) 0 ≡ byte_at old pages j
+shared_byte old part pages low cut j moved from to page =
+    let e : low + (cut / 512 - low) ≡ j / 512 = omega (arith, from, page) in
+    ap (λ (n : ℕ). get_or (page_at pages n) (j % 512) 0) (moved (cut / 512 - low) (omega (arith, from, to)) ∙ ap (entry old) e)
+    ∙ sym (byte_is old pages j (entry old (j / 512)) refl)
+
+module _ {old : Span} {index : List ℕ} {part : Span} {from count : ℕ} (left : Left old index part from count) {later : List ℕ} {before after : Stock} {cut : ℕ} (m : Shared old.index index later before after cut) where
   pub cut_part : AreApart old.index before → bytes_of after.pages part ≡ take count (drop from (bytes_of before.pages old))
   cut_part apart =
-      part_kept part.index apart left.places m.pages (at + length new) m.long m.within (λ j l. m.others j (inr l)) part.first part.len ∙ left.bytes before.pages
+      part_kept part.index apart left.places m.pages (512 * length index) m.long (omega arith) past part.first part.len ∙ left.bytes before.pages
+    where
+      past : (j : ℕ) → 512 * length index ≤ j → byte_at later after.pages j ≡ byte_at index before.pages j
+      past j l = elim (cases_lt 0 (cut % 512)) [
+        | inl some ↦ (let in_list = m.in_list some in m.others j (inl (omega (arith, l, in_list))))
+        | inr none ↦ m.others j (inr (omega (arith, none)))
+      ]
 
   pub cut_pages : (first len : ℕ) → Parted old (record { index = later; first = first; len = len }) part before after
   cut_pages first len = record {
@@ -210,23 +221,30 @@ module _ {old : Span} {index : List ℕ} {part : Span} {from count : ℕ} (left 
     others = λ k real none. m.pages.others k real (let b = left.places k real in omega (arith, none, b));
   }
 
-  module _ (read : (i : ℕ) → i < length new → get_or new i 0 ≡ byte_at old.index before.pages (at + i)) where
-    cut_byte : (j : ℕ) → ((j < at) ⊎ (at + length new ≤ j) → (j / 256 < (old.first + from) / 256) ⊎ ((old.first + (from + count) + 255) / 256 ≤ j / 256)) → byte_at later after.pages j ≡ byte_at old.index before.pages j
-    cut_byte j away = byte_mended old.index index later new before.pages after.pages at (length new) j read m.here m.others (λ out. left.others before.pages j (away out))
+  -- the first bytes stay
+  pub cut_head : from ≤ old.len → cut ≡ old.first + from → shown old.first from later after.pages ≡ take from (bytes_of before.pages old)
+  cut_head within start = shown_moved old.first old.first from old.index later before.pages after.pages byte ∙ shown_take old.first old.len old.index before.pages from within
+    where
+      byte : (k : ℕ) → k < from → byte_at later after.pages (old.first + k) ≡ byte_at old.index before.pages (old.first + k)
+      byte k l = elim (cases_eq ((old.first + k) / 512) (cut / 512)) [
+        | inl e ↦ m.here (old.first + k) (omega (arith, l, e, start)) e
+        | inr ne ↦ m.others (old.first + k) (inl ne) ∙ left.others before.pages (old.first + k) (inl (omega (arith, l, ne, start)))
+      ]
 
-    -- the first bytes stay
-    pub cut_head : from ≤ old.len → at + length new ≡ old.first + from → length new ≡ min ((old.first + from) % 256) from → shown old.first from later after.pages ≡ take from (bytes_of before.pages old)
-    cut_head within start edge =
-        shown_moved old.first old.first from old.index later before.pages after.pages
-        (λ k l. cut_byte (old.first + k) (λ out. elim out [ inl below ↦ inl (omega (arith, l, below, start, edge)) | inr above ↦ absurd (omega (arith, l, above, start)) ]))
-        ∙ shown_take old.first old.len old.index before.pages from within
-
-    -- the bytes past the first stay
-    pub cut_tail : count ≤ old.len → from ≡ 0 → at ≡ old.first + count → length new ≡ min ((256 - at % 256) % 256) (old.len - count) → shown at (old.len - count) later after.pages ≡ drop count (bytes_of before.pages old)
-    cut_tail within none start edge =
-        shown_moved at at (old.len - count) old.index later before.pages after.pages
-        (λ k l. cut_byte (at + k) (λ out. elim out [ inl below ↦ absurd (omega (arith, below)) | inr above ↦ inr (omega (arith, l, above, start, none, edge)) ]))
-        ∙ (ap (λ (s : ℕ). shown s (old.len - count) old.index before.pages) start ∙ shown_drop old.first old.len count old.index before.pages within)
+  -- the bytes past the first stay
+  pub cut_tail : count ≤ old.len → from ≡ 0 → cut ≡ old.first + count → shown cut (old.len - count) later after.pages ≡ drop count (bytes_of before.pages old)
+  cut_tail within none start =
+      shown_moved cut cut (old.len - count) old.index later before.pages after.pages (λ k _. byte k)
+      ∙ (ap (λ (s : ℕ). shown s (old.len - count) old.index before.pages) start ∙ shown_drop old.first old.len count old.index before.pages within)
+    where
+      byte : (k : ℕ) → byte_at later after.pages (cut + k) ≡ byte_at old.index before.pages (cut + k)
+      byte k = elim (cases_eq ((cut + k) / 512) (cut / 512)) [
+        | inl e ↦ elim (cases_lt 0 (cut % 512)) [
+          | inl some ↦ m.here (cut + k) some e
+          | inr whole ↦ m.others (cut + k) (inr (omega (arith, whole))) ∙ left.others before.pages (cut + k) (inr (omega (arith, whole, none, start)))
+        ]
+        | inr ne ↦ m.others (cut + k) (inl ne) ∙ left.others before.pages (cut + k) (inr (omega (arith, ne, none, start)))
+      ]
 
 -- ---- a block of which no page is there
 
@@ -237,12 +255,12 @@ no_entry index p none = elim (cases_eq (entry index p) nowhere) [
 ]
 
 -- the bytes past the first, which no page has
-pub zeros_past : (span : Span) (part : List ℕ) (at count : ℕ) (pages : List (List ℕ)) → there span.index ≡ 0 → there part ≡ 0 → at ≤ span.len → count ≡ span.len - at → shown ((span.first + at) % 256) count part pages ≡ drop at (bytes_of pages span)
+pub zeros_past : (span : Span) (part : List ℕ) (at count : ℕ) (pages : List (List ℕ)) → there span.index ≡ 0 → there part ≡ 0 → at ≤ span.len → count ≡ span.len - at → shown ((span.first + at) % 512) count part pages ≡ drop at (bytes_of pages span)
 zeros_past span part at count pages none none_part l is =
-    shown_moved ((span.first + at) % 256) (span.first + at) count span.index part pages pages (λ k _.
-    let i : ℕ = (span.first + at) % 256 + k in
+    shown_moved ((span.first + at) % 512) (span.first + at) count span.index part pages pages (λ k _.
+    let i : ℕ = (span.first + at) % 512 + k in
     let j : ℕ = span.first + at + k in
-    byte_same span.index part pages i j (no_entry part (i / 256) none_part ∙ sym (no_entry span.index (j / 256) none)) (omega arith))
+    byte_same span.index part pages i j (no_entry part (i / 512) none_part ∙ sym (no_entry span.index (j / 512) none)) (omega arith))
     ∙ (ap (λ (n : ℕ). shown (span.first + at) n span.index pages) is ∙ shown_drop span.first span.len at span.index pages l)
 
 pub zeros_parted : (old one tail : Span) (stock : Stock) → one.index ≡ old.index → there tail.index ≡ 0 → length tail.index ≤ length old.index → Parted old one tail stock stock

@@ -1,4 +1,4 @@
--- The bytes of blocks in pages of 256 bytes, of which only those are there in which something was written; they lie in one pool.
+-- The bytes of blocks in pages of 512 bytes, of which only those are there in which something was written; they lie in one pool.
 use Rattle.std.specs.Prelude.{◌≡◌, ◌≢◌, ℕ, ◌+◌, ◌*◌, ◌/◌, ◌%◌, ◌≤◌, ◌==◌, cond, not, List, [], length, map, nat_le, slice_index_or}
 use Rattle.std.specs.List.{count_by, range_with_len, sum_by}
 use Rattle.xh_core.specs.Machine.{times}
@@ -19,7 +19,7 @@ page_at pages place = slice_index_or pages place []
 
 -- byte j: 0 in a page that is not there
 unfoldable pub byte_at : List ℕ → List (List ℕ) → ℕ → ℕ
-byte_at index pages j = slice_index_or (page_at pages (entry index (j / 256))) (j % 256) 0
+byte_at index pages j = slice_index_or (page_at pages (entry index (j / 512))) (j % 512) 0
 
 -- so many bytes from the first on
 abbrev pub shown : ℕ → ℕ → List ℕ → List (List ℕ) → List ℕ

@@ -7,7 +7,7 @@ use std::alloc::{AllocError, Global};
 use std::marker::Model;
 
 /// The bytes of a page.
-pub(super) const PAGE: usize = 256;
+pub(super) const PAGE: usize = 512;
 
 /// Stands in an index for a page that is not there.
 pub(super) const NOWHERE: u32 = 4_294_967_295;
@@ -18,7 +18,7 @@ const MOST: usize = 16_777_216;
 /// Pages, by place. A block's index says which are its own.
 #[derive(Drop)]
 pub(super) struct Pool {
-    pages: Vec<[u8; 256]>,
+    pages: Vec<[u8; 512]>,
     /// The places that no block has.
     spare: Vec<u32>,
     /// How many pages there is room for, and as many spare places.
@@ -105,7 +105,7 @@ impl Pool {
 
     /// Byte `offset` of the page at a place: 0 where there is none.
     pub(super) fn byte(&self, place: u32, offset: usize) -> u8
-        requires { offset < 256 }
+        requires { offset < 512 }
         ensures { result ≡ slice_index_or (page_at self.now.pages place) offset 0 }
     {
         match self.pages.get(place as usize) {
@@ -117,7 +117,7 @@ impl Pool {
     /// Byte `offset` of the page at a place is `b` from now on.
     pub(super) fn set(&mut self, place: u32, offset: usize, b: u8)
         requires there { place < length self.old.pages }
-        requires within { offset < 256 }
+        requires within { offset < 512 }
         ensures pages { self.new.pages ≡ slice_set self.old.pages place (slice_set (page_at self.old.pages place) offset b) }
         ensures here { slice_index_or (page_at self.new.pages place) offset 0 ≡ b }
         ensures spare { self.new.spare ≡ self.old.spare }
@@ -126,8 +126,16 @@ impl Pool {
         self.pages[place as usize][offset] = b;
     }
 
-    /// A place leaves the pool, with a page of zeros: a spare one, or else a new one.
-    pub(super) fn take(&mut self) -> u32
+    /// The bytes of the page at a place.
+    pub(super) fn page(&self, place: u32) -> [u8; 512]
+        requires { place < length self.now.pages }
+        ensures { result ≡ page_at self.now.pages place }
+    {
+        self.pages[place as usize]
+    }
+
+    /// A place leaves the pool, with a page of these bytes: a spare one, or else a new one.
+    pub(super) fn take(&mut self, bytes: [u8; 512]) -> u32
         requires once { (k : ℕ) → k ≢ nowhere → at_hand k self.old ≤ 1 }
         requires real { times nowhere self.old.spare ≡ 0 }
         requires room { length self.old.pages < length self.old.spare + self.old.room }
@@ -137,18 +145,18 @@ impl Pool {
         ensures taken { (k : ℕ) → at_hand k self.new + times k (result ∷ []) ≡ at_hand k self.old }
         ensures spare { times nowhere self.new.spare ≡ 0 }
         ensures one { length self.new.pages + length self.old.spare ≡ length self.old.pages + (length self.new.spare + 1) }
-        ensures zeros { page_at self.new.pages result ≡ replicate 256 0 }
+        ensures bytes { page_at self.new.pages result ≡ bytes }
         ensures others { (k : ℕ) → k ≢ result → page_at self.new.pages k ≡ page_at self.old.pages k }
         ensures room { self.new.room ≡ self.old.room }
     {
         match self.spare.pop() {
             Some(place) => {
-                self.pages[place as usize] = [0; 256];
+                self.pages[place as usize] = bytes;
                 place
             }
             None => {
                 let place = self.pages.len() as u32;
-                let _room = self.pages.push([0; 256]);
+                let _room = self.pages.push(bytes);
                 place
             }
         }

@@ -1,8 +1,8 @@
 //! The bytes of one block, in pages of a pool.
-ghost use Rattle.std.specs.Prelude.{◌≡◌, ◌≢◌, ◌⊎◌, ◌==◌, cond, not, List, ℕ, ◌+◌, ◌*◌, ◌/◌, ◌%◌, ◌<◌, ◌≤◌, IfOk, OnOk, OnErr, drop, length, replicate, slice_index_or, take};
+ghost use Rattle.std.specs.Prelude.{◌≡◌, ◌≢◌, ◌⊎◌, ◌==◌, cond, not, List, ℕ, ◌+◌, ◌-◌, ◌*◌, ◌/◌, ◌%◌, ◌<◌, ◌≤◌, IfOk, OnOk, OnErr, drop, length, replicate, slice_index_or, take};
 ghost use Rattle.xh_core.specs.BlockCommands.{overwritten};
 ghost use Rattle.xh_core.specs.Machine.{times};
-ghost use Rattle.xh_core.specs.Paging.{AreApart, Grown, HasRoom, Parted, Stock, byte_at, bytes_of, entry, no_span, nowhere, there};
+ghost use Rattle.xh_core.specs.Paging.{AreApart, Grown, HasRoom, Parted, Stock, byte_at, bytes_of, entry, no_span, nowhere, page_at, there};
 
 use crate::memory::pool::{NOWHERE, PAGE, Pool};
 use std::alloc::{AllocError, Global};
@@ -29,13 +29,13 @@ impl Model for Sparse {
 
     ghost view = { λ s. record { index = s.index.items; first = s.first; len = s.len } };
 
-    ghost invariant = { λ s. (s.first + s.len ≤ 256 * length s.index.items) × (there s.index.items ≡ s.held) × (length s.index.items ≤ 16777216) };
+    ghost invariant = { λ s. (s.first + s.len ≤ 512 * length s.index.items) × (there s.index.items ≡ s.held) × (length s.index.items ≤ 16777216) };
 }
 
 /// Byte `j`.
 #[tactic(auto, unfolding(crate::specs::Paging::byte_at))]
 fn byte(index: &[u32], pool: &Pool, j: usize) -> u8
-    requires { j < 256 * length index.now }
+    requires { j < 512 * length index.now }
     ensures { result ≡ byte_at index.now pool.now.pages j }
 {
     pool.byte(index[j / PAGE], j % PAGE)
@@ -44,7 +44,7 @@ fn byte(index: &[u32], pool: &Pool, j: usize) -> u8
 /// The bytes from byte `at` on, as many as `out` has room for.
 fn get_all(index: &[u32], pool: &Pool, at: usize, out: &mut [u8])
     requires few { length index.now ≤ 16777216 }
-    requires within { at + length out.old ≤ 256 * length index.now }
+    requires within { at + length out.old ≤ 512 * length index.now }
     ensures long { length out.new ≡ length out.old }
     ensures bytes { (k : ℕ) → k < length out.old → slice_index_or out.new k 0 ≡ byte_at index.now pool.now.pages (at + k) }
 {
@@ -67,13 +67,13 @@ fn reach(index: &mut Vec<u32>, pool: &mut Pool, page: usize) -> usize
     if index[page] != NOWHERE {
         return 0;
     }
-    index[page] = pool.take();
+    index[page] = pool.take([0; 512]);
     1
 }
 
 /// Byte `j` is `b` from now on: how many pages came for that.
 fn put(index: &mut Vec<u32>, pool: &mut Pool, j: usize, b: u8) -> usize
-    requires within { j < 256 * length index.old.items }
+    requires within { j < 512 * length index.old.items }
     requires apart { AreApart index.old.items pool.old }
     requires room { HasRoom (length index.old.items) index.old.items pool.old }
     ensures pages { Grown index.old.items index.new.items pool.old pool.new }
@@ -90,7 +90,7 @@ fn put(index: &mut Vec<u32>, pool: &mut Pool, j: usize, b: u8) -> usize
 /// These bytes come in the place of as many from byte `at` on: how many pages came for that.
 fn put_all(index: &mut Vec<u32>, pool: &mut Pool, at: usize, new: &[u8]) -> usize
     requires few { length index.old.items ≤ 16777216 }
-    requires within { at + length new.now ≤ 256 * length index.old.items }
+    requires within { at + length new.now ≤ 512 * length index.old.items }
     requires apart { AreApart index.old.items pool.old }
     requires room { HasRoom (length index.old.items) index.old.items pool.old }
     ensures pages { Grown index.old.items index.new.items pool.old pool.new }
@@ -106,17 +106,30 @@ fn put_all(index: &mut Vec<u32>, pool: &mut Pool, at: usize, new: &[u8]) -> usiz
     more
 }
 
-/// So many bytes from byte `at` on, fewer than a page's.
-fn edge(index: &[u32], pool: &Pool, at: usize, count: usize) -> [u8; 256]
-    requires few { length index.now ≤ 16777216 }
-    requires less { count ≤ 255 }
-    requires within { at + count ≤ 256 * length index.now }
-    ensures long { length result ≡ 256 }
-    ensures bytes { (k : ℕ) → k < count → slice_index_or result k 0 ≡ byte_at index.now pool.now.pages (at + k) }
+/// The page of byte `cut`, unless `cut` is its first byte, comes back as it is in the part that left,
+/// whose first page is `low`: how many pages came for that.
+fn share(index: &mut Vec<u32>, pool: &mut Pool, part: &[u32], low: usize, cut: usize) -> usize
+    requires in_list { 0 < cut % 512 → cut / 512 < length index.old.items }
+    requires in_part { 0 < cut % 512 → (low ≤ cut / 512) × (cut / 512 < low + length part.now) }
+    requires gone { 0 < cut % 512 → entry index.old.items (cut / 512) ≡ nowhere }
+    requires there { (p : ℕ) → entry part.now p ≢ nowhere → entry part.now p < length pool.old.pages }
+    requires apart { AreApart index.old.items pool.old }
+    requires room { HasRoom (length index.old.items) index.old.items pool.old }
+    ensures pages { Grown index.old.items index.new.items pool.old pool.new }
+    ensures long { length index.new.items ≡ length index.old.items }
+    ensures more { there index.new.items ≡ there index.old.items + result }
+    ensures here { (j : ℕ) → 0 < cut % 512 → j / 512 ≡ cut / 512 → byte_at index.new.items pool.new.pages j ≡ slice_index_or (page_at pool.old.pages (entry part.now (cut / 512 - low))) (j % 512) 0 }
+    ensures others { (j : ℕ) → (j / 512 ≢ cut / 512) ⊎ (cut % 512 ≡ 0) → byte_at index.new.items pool.new.pages j ≡ byte_at index.old.items pool.old.pages j }
 {
-    let mut bytes = [0; 256];
-    get_all(index, pool, at, &mut bytes[..count]);
-    bytes
+    if cut % PAGE == 0 {
+        return 0;
+    }
+    let place = part[cut / PAGE - low];
+    if place == NOWHERE {
+        return 0;
+    }
+    index[cut / PAGE] = pool.take(pool.page(place));
+    1
 }
 
 /// How many pages an entry of an index stands for, 0 or 1.
@@ -137,6 +150,7 @@ fn move_pages(index: &mut Vec<u32>, low: usize, part: &mut Vec<u32>) -> usize
     ensures all { there index.new.items + there part.new.items ≡ there index.old.items }
     ensures value { result ≡ there part.new.items }
     ensures moved { (p : ℕ) → p < length part.old.items → entry part.new.items p ≡ entry index.old.items (low + p) }
+    ensures gone { (p : ℕ) → p < length part.old.items → entry index.new.items (low + p) ≡ nowhere }
     ensures others { (p : ℕ) → (p < low) ⊎ (low + length part.old.items ≤ p) → entry index.new.items p ≡ entry index.old.items p }
 {
     let mut moved = 0;
@@ -164,7 +178,7 @@ impl Sparse {
 
     /// So many zeros.
     pub(super) fn zeros(alloc: Global, count: u32) -> Result<Sparse, AllocError>
-        ensures index { IfOk result (λ s. s.index ≡ replicate ((count + 255) / 256) nowhere) }
+        ensures index { IfOk result (λ s. s.index ≡ replicate ((count + 511) / 512) nowhere) }
         ensures first { IfOk result (λ s. s.first ≡ 0) }
         ensures len { IfOk result (λ s. s.len ≡ count) }
     {
@@ -223,11 +237,14 @@ impl Sparse {
     fn detach(&mut self, alloc: Global, from: usize, count: usize) -> Result<Sparse, AllocError>
         requires { from + count ≤ self.old.len }
         ensures part { IfOk result (λ part. (pages : List (List ℕ)) → bytes_of pages part ≡ take count (drop from (bytes_of pages self.old))) }
+        ensures size { IfOk result (λ part. length part.index ≡ ((self.old.first + from) % 512 + count + 511) / 512) }
+        ensures moved { IfOk result (λ part. (p : ℕ) → p < length part.index → entry part.index p ≡ entry self.old.index ((self.old.first + from) / 512 + p)) }
+        ensures gone { IfOk result (λ part. (p : ℕ) → p < length part.index → entry self.new.index ((self.old.first + from) / 512 + p) ≡ nowhere) }
         ensures long { IfOk result (λ part. length part.index ≤ length self.old.index) }
         ensures places { IfOk result (λ part. (k : ℕ) → k ≢ nowhere → times k self.new.index + times k part.index ≡ times k self.old.index) }
         ensures all { IfOk result (λ part. there self.new.index + there part.index ≡ there self.old.index) }
         ensures same { OnOk result ((length self.new.index ≡ length self.old.index) × (self.new.first ≡ self.old.first) × (self.new.len ≡ self.old.len)) }
-        ensures others { OnOk result ((pages : List (List ℕ)) (j : ℕ) → (j / 256 < (self.old.first + from) / 256) ⊎ ((self.old.first + (from + count) + 255) / 256 ≤ j / 256) → byte_at self.new.index pages j ≡ byte_at self.old.index pages j) }
+        ensures others { OnOk result ((pages : List (List ℕ)) (j : ℕ) → (j / 512 < (self.old.first + from) / 512) ⊎ ((self.old.first + (from + count) + 511) / 512 ≤ j / 512) → byte_at self.new.index pages j ≡ byte_at self.old.index pages j) }
         ensures kept { OnErr result (self.new ≡ self.old) }
     {
         let start = self.first + from;
@@ -243,8 +260,8 @@ impl Sparse {
         })
     }
 
-    /// The bytes past the first `at` leave, in pages of their own. What these bytes keep of the page
-    /// that both have a part in, they get anew.
+    /// The bytes past the first `at` leave, in pages of their own. The page that both have a part in
+    /// is copied.
     fn split_back(
         &mut self,
         alloc: Global,
@@ -260,10 +277,14 @@ impl Sparse {
         ensures kept { OnErr result ((self.new ≡ self.old) × (pool.new ≡ pool.old)) }
     {
         let cut = self.first + at;
-        let count = (cut % PAGE).min(at);
-        let edge = edge(self.index.as_slice(), pool, cut - count, count);
         let tail = self.detach(alloc, at, self.len - at)?;
-        self.held += put_all(&mut self.index, pool, cut - count, &edge[..count]);
+        self.held += share(
+            &mut self.index,
+            pool,
+            tail.index.as_slice(),
+            cut / PAGE,
+            cut,
+        );
         self.len = at;
         Ok(tail)
     }
@@ -284,10 +305,9 @@ impl Sparse {
         ensures kept { OnErr result ((self.new ≡ self.old) × (pool.new ≡ pool.old)) }
     {
         let cut = self.first + at;
-        let count = ((PAGE - cut % PAGE) % PAGE).min(self.len - at);
-        let edge = edge(self.index.as_slice(), pool, cut, count);
+        let low = self.first / PAGE;
         let head = self.detach(alloc, 0, at)?;
-        self.held += put_all(&mut self.index, pool, cut, &edge[..count]);
+        self.held += share(&mut self.index, pool, head.index.as_slice(), low, cut);
         self.first = cut;
         self.len -= at;
         Ok(head)
@@ -315,8 +335,8 @@ impl Sparse {
     }
 
     /// Only the first `at` bytes stay, and what is past them is the answer. The pages of the smaller
-    /// of the two move to an index of their own; of the page that both have a part in, the larger
-    /// gets its part anew. A refused growth leaves all as it was.
+    /// of the two move to an index of their own, and the page that both have a part in is copied. A
+    /// refused growth leaves all as it was.
     pub(super) fn split(
         &mut self,
         alloc: Global,

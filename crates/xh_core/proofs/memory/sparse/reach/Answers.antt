@@ -15,4 +15,4 @@ returns-clause-same c =
     let short : length c.args.pool.now.pages ≤ nowhere = omega (arith, few) in
     let short_later : length c.take.new.self.pages ≤ nowhere = omega (arith, few) in
     let free = taken_free c.args.index.now.items c.args.pool.now c.take.new.self c.take.result c.requires.apart c.take.ensures.real (c.take.ensures.taken c.take.result) in
-    reached c.args.index.now.items c.args.pool.now.pages c.take.new.self.pages c.args.page c.take.result c.requires.in_list gone free c.take.ensures.zeros short short_later c.take.ensures.others
+    reached c.args.index.now.items c.args.pool.now.pages c.take.new.self.pages c.args.page c.take.result c.requires.in_list free short short_later c.take.ensures.others gone c.take.ensures.bytes

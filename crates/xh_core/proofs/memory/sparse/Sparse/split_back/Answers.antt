@@ -1,11 +1,15 @@
-use Rattle.std.proofs.Common.{◌≡◌, ◌+◌, ◌-◌, ◌<◌, ℕ, List, take, slice_index_or, length, ap, ◌∙◌, arith}
-use Rattle.std.proofs.lemmas.List.{get_or-take, length-take-le}
-use Rattle.xh_core.specs.Paging.{Span, byte_at}
-use Rattle.xh_core.proofs.Parting.{Left, Mended, apart_part, cut_part, cut_pages, cut_head, past_all}
+use Rattle.std.proofs.Common.{◌≡◌, ◌+◌, ◌-◌, ◌/◌, length, refl, ap, ◌∙◌, arith}
+use Rattle.xh_core.specs.Paging.{Span}
+use Rattle.xh_core.proofs.Parting.{Left, Shared, apart_part, cut_head, cut_part, cut_pages, part_there, past_all, shared_byte}
 use Rattle.xh_core.proofs.memory.sparse.Sparse.split_back.Goals as goal
 
-pub put_all-requires-clause-apart : goal.put_all-requires-clause-apart
-put_all-requires-clause-apart c = rw (ap (λ (s : Span). s.index) c.self-2.view_is) (apart_part c.in_ok-tail.tail.index c.requires.apart c.in_ok-tail.ensures.places)
+pub share-requires-clause-there : goal.share-requires-clause-there
+share-requires-clause-there c =
+    let slice : c.as_slice.result.now ≡ c.in_ok-tail.tail.index = c.as_slice.ensures.value ∙ ap (λ (s : Span). s.index) c.tail.view_is in
+    rw slice (part_there c.args.self.now.index c.in_ok-tail.tail.index c.args.pool.now _ c.requires.apart c.in_ok-tail.ensures.moved)
+
+pub share-requires-clause-apart : goal.share-requires-clause-apart
+share-requires-clause-apart c = rw (ap (λ (s : Span). s.index) c.self-2.view_is) (apart_part c.in_ok-tail.tail.index c.requires.apart c.in_ok-tail.ensures.places)
 
 left : (c : goal.After-self-2-1) → Left c.args.self.now c.self-2.inside.index.items c.in_ok-tail.tail c.args.at (c.detach.inside.len - c.args.at)
 left c = rw (ap (λ (s : Span). s.index) c.self-2.view_is) (record {
@@ -17,39 +21,33 @@ left c = rw (ap (λ (s : Span). s.index) c.self-2.view_is) (record {
   others = c.in_ok-tail.ensures.others;
 })
 
-edge_long : (c : goal.After-self-2-1) → length (take c.min-count.result c.edge-edge.result) ≡ c.min-count.result
-edge_long c = length-take-le c.min-count.result c.edge-edge.result (omega arith)
-
-mended : (c : goal.After-self-2-1) → Mended c.self-2.inside.index.items c.put_all.new.index.items (take c.min-count.result c.edge-edge.result) c.args.pool.now c.put_all.new.pool (c.self.inside.first + c.args.at - c.min-count.result)
-mended c =
-    let long = edge_long c in
-    let v : length c.self-2.inside.index.items ≡ length c.detach-2.new.self.index = ap (λ (s : Span). length s.index) c.self-2.view_is in
-    let w : length c.self.inside.index.items ≡ length c.args.self.now.index = ap (λ (s : Span). length s.index) c.self.view_is in
-    let n : c.self.inside.len ≡ c.args.self.now.len = ap (λ (s : Span). s.len) c.self.view_is in
+shared : (c : goal.After-self-2-1) → Shared c.args.self.now.index c.self-2.inside.index.items c.share.new.index.items c.args.pool.now c.share.new.pool (c.args.self.now.first + c.args.at)
+shared c =
+    let first : c.self.inside.first ≡ c.args.self.now.first = ap (λ (s : Span). s.first) c.self.view_is in
+    let len : c.self.inside.len ≡ c.args.self.now.len = ap (λ (s : Span). s.len) c.self.view_is in
+    let old : length c.self.inside.index.items ≡ length c.args.self.now.index = ap (λ (s : Span). length s.index) c.self.view_is in
+    let new : length c.self-2.inside.index.items ≡ length c.detach-2.new.self.index = ap (λ (s : Span). length s.index) c.self-2.view_is in
+    let slice : c.as_slice.result.now ≡ c.in_ok-tail.tail.index = c.as_slice.ensures.value ∙ ap (λ (s : Span). s.index) c.tail.view_is in
+    let fits = c.self.invariant.0 in
+    let size = c.in_ok-tail.ensures.size in
+    let here = rw (first, slice) at c.share.ensures.here in
     record {
-      pages = c.put_all.ensures.pages;
-      long = c.put_all.ensures.long;
-      within = omega (arith, long, v, w, n, c.in_ok-tail.ensures.same.0);
-      here = c.put_all.ensures.here;
-      others = c.put_all.ensures.others;
+      pages = c.share.ensures.pages;
+      long = c.share.ensures.long;
+      in_list = λ some. omega (arith, some, fits, first, len, old, new, c.in_ok-tail.ensures.same.0);
+      here = λ j some page. here j some page
+          ∙ shared_byte c.args.self.now.index c.in_ok-tail.tail.index c.args.pool.now.pages ((c.args.self.now.first + c.args.at) / 512) (c.args.self.now.first + c.args.at) j c.in_ok-tail.ensures.moved (omega arith) (omega (arith, size, some)) page;
+      others = rw first at c.share.ensures.others;
     }
 
-read : (c : goal.After-self-2-1) (i : ℕ) → i < length (take c.min-count.result c.edge-edge.result) → slice_index_or (take c.min-count.result c.edge-edge.result) i 0 ≡ byte_at c.args.self.now.index c.args.pool.now.pages (c.self.inside.first + c.args.at - c.min-count.result + i)
-read c i l =
-    let m : i < c.min-count.result = omega (arith, l, edge_long c) in
-    get_or-take c.min-count.result c.edge-edge.result i 0 m ∙ (c.edge-edge.ensures.bytes i m
-    ∙ ap (λ (index : List ℕ). byte_at index c.args.pool.now.pages (c.self.inside.first + c.args.at - c.min-count.result + i)) (c.as_slice.ensures.value ∙ ap (λ (s : Span). s.index) c.self.view_is))
-
 pub returns-clause-tail : goal.returns-clause-tail
-returns-clause-tail c = cut_part (left c) (mended c) c.requires.apart
+returns-clause-tail c = cut_part (left c) (shared c) c.requires.apart
     ∙ past_all c.args.self.now c.args.pool.now.pages c.args.at (c.detach.inside.len - c.args.at) (ap (λ (s : Span). s.len - c.args.at) c.detach.view_is)
-
-pub returns-clause-pages : goal.returns-clause-pages
-returns-clause-pages c = cut_pages (left c) (mended c) c.self-2.inside.first c.args.at
 
 pub returns-clause-head : goal.returns-clause-head
 returns-clause-head c =
     let first : c.self-2.inside.first ≡ c.args.self.now.first = ap (λ (s : Span). s.first) c.self-2.view_is ∙ c.in_ok-tail.ensures.same.1 in
-    let cut : c.self.inside.first ≡ c.args.self.now.first = ap (λ (s : Span). s.first) c.self.view_is in
-    let long = edge_long c in
-    rw first (cut_head (left c) (mended c) (read c) c.requires.within (omega (arith, long, cut)) (omega (arith, long, cut)))
+    rw first (cut_head (left c) (shared c) c.requires.within refl)
+
+pub returns-clause-pages : goal.returns-clause-pages
+returns-clause-pages c = cut_pages (left c) (shared c) c.self-2.inside.first c.args.at
