@@ -4,7 +4,7 @@ use Rattle.std.specs.Prelude.{None, ◌==◌, slice_set, slice_index_or}
 use Rattle.std.specs.List.{remove, position_or_len}
 use Rattle.std.proofs.lemmas.Bool.{cases_eq, eq-eqb, ne_eqb, false≢true}
 use Rattle.std.proofs.lemmas.List.{length-set, length-append}
-use Rattle.std.proofs.lemmas.List.Sums.{sum_by-append, sum_by-remove, passes_at_first}
+use Rattle.std.proofs.lemmas.List.Sums.{sum_by-remove, passes_at_first}
 use Rattle.std.proofs.lemmas.List.Edits.{length-remove}
 use Rattle.xh_model.specs.declared.event.Holder.{Holder}
 use Rattle.xh_model.specs.declared.event.Holder.TheVariants.{Process, Direction}
@@ -17,10 +17,7 @@ use Rattle.xh_core.specs.Sweeping.{sweep_one}
 use Rattle.xh_core.specs.EndingCommands.{last, moved_last}
 use Rattle.xh_core.specs.BlockCommands.{freed_block}
 use Rattle.xh_core.proofs.Machines.{runs_busy, place_there, list_here, list_else, current_generation, busy_place, generations_set, idle_set, place_here}
-use Rattle.xh_core.proofs.Stores.{times-cons}
-
-pub count_append : (q : ℕ) (xs ys : List ℕ) → times q (xs ++ ys) ≡ times q xs + times q ys
-count_append q xs ys = sum_by-append (λ x. cond {A = ℕ} (x == q) 1 0) xs ys
+use Rattle.xh_core.proofs.Stores.{count_append, times-cons}
 
 -- where the first e stands
 pub found : (e : ℕ) (rs : List ℕ) → 0 < times e rs → position_or_len (λ q. q == e) rs < length rs

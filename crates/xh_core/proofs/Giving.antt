@@ -18,9 +18,8 @@ use Rattle.xh_model.proofs.InStep.{put_step}
 use Rattle.xh_core.specs.Machine.{Machine, times, blocks, place, line, no_line, waiting, peer, tags_of, contract_of, next_state, carried, on_way, listed, IsWhole}
 use Rattle.xh_core.specs.Refusing.{toward}
 use Rattle.xh_core.specs.MessageCommands.{MayGive, given, told_line, put_line, pass_all, without, has_twice, is_banned}
-use Rattle.xh_core.proofs.Stores.{done, all_owners, is_there, at_set, times-cons, same_len}
+use Rattle.xh_core.proofs.Stores.{count_append, done, all_owners, is_there, at_set, times-cons, same_len}
 use Rattle.xh_core.proofs.Machines.{runs_busy, place_there, list_here, list_else, current_generation, busy_place, generations_set, idle_set, way_here, way_else, peer_ne, peer_half, peer_below}
-use Rattle.xh_core.proofs.Closing.{count_append}
 use Rattle.xh_core.proofs.Wired.{state_in, IsPair, same_lines, wired_pair, half_apart}
 use Rattle.xh_core.proofs.Moved.{Moved, moved_whole}
 

@@ -4,9 +4,10 @@ use Rattle.std.specs.List.{sum_by}
 use Rattle.std.proofs.lemmas.Bool.{cases_Bool, cases_eq, cases_lt, eq-eqb, le-leb, ne_eqb}
 use Rattle.std.proofs.lemmas.List.{get_or-drop, get_or_past, length-drop, length-set}
 use Rattle.std.proofs.lemmas.List.Folds.{sum_by-replicate}
-use Rattle.std.proofs.lemmas.List.Sums.{get_or-le-sum_by, sum_by-set, sum_by-append, sum_by-cons, sum_by-take-drop, sum_by-drop_more, count_by-le-length}
+use Rattle.std.proofs.lemmas.List.Sums.{get_or-le-sum_by, sum_by-set, sum_by-cons, sum_by-take-drop, sum_by-drop_more, count_by-le-length}
 use Rattle.xh_core.specs.Machine.{times}
 use Rattle.xh_core.specs.Paging.{Stock, at_hand, entry, nowhere, there}
+use Rattle.xh_core.proofs.Stores.{count_append}
 
 -- ---- sums
 
@@ -36,9 +37,6 @@ is_other k e h = rw (ne_eqb e k h) refl
 
 pub times_set : (k : ℕ) (index : List ℕ) (page new : ℕ) → page < length index → times k (set index page new) + cond (entry index page == k) 1 0 ≡ times k index + cond (new == k) 1 0
 times_set k index page new l = sum_by-set (λ e. cond (e == k) 1 0) index page new nowhere l
-
-pub times_append : (k : ℕ) (places more : List ℕ) → times k (places ++ more) ≡ times k places + times k more
-times_append k places more = sum_by-append (λ e. cond (e == k) 1 0) places more
 
 -- a place stands where it is read
 pub times_at : (k : ℕ) (index : List ℕ) (page : ℕ) → k ≢ nowhere → entry index page ≡ k → 1 ≤ times k index
@@ -113,10 +111,10 @@ times_none k index real none = let t = times_there k index real in omega (arith,
 -- a spare place has a page
 pub spare_there : (stock : Stock) (rest : List ℕ) (place : ℕ) → stock.spare ≡ rest ++ place ∷ [] → ((k : ℕ) → k ≢ nowhere → at_hand k stock ≤ 1) → times nowhere stock.spare ≡ 0 → place < length stock.pages
 spare_there stock rest place spare once real =
-    let n = times_append nowhere rest (place ∷ []) in
+    let n = count_append nowhere rest (place ∷ []) in
     let s : times nowhere stock.spare ≡ times nowhere (rest ++ place ∷ []) = ap (times nowhere) spare in
     let ne : place ≢ nowhere = λ e. (let o = is_one nowhere place e in omega (arith, n, s, real, o)) in
-    let p = times_append place rest (place ∷ []) in
+    let p = count_append place rest (place ∷ []) in
     let t : times place stock.spare ≡ times place (rest ++ place ∷ []) = ap (times place) spare in
     let o = is_one place place refl in
     elim (cases_lt place (length stock.pages)) [

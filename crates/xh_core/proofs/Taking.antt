@@ -16,9 +16,8 @@ use Rattle.xh_core.specs.Machine.{Machine, times, blocks, place, line, no_line, 
 use Rattle.xh_core.specs.Refusing.{toward}
 use Rattle.xh_core.specs.Sweeping.{accept_all}
 use Rattle.xh_core.specs.MessageCommands.{MayTake, taken, taken_line, front, no_message, is_banned}
-use Rattle.xh_core.proofs.Stores.{Accepted, accepted_all}
+use Rattle.xh_core.proofs.Stores.{count_append, Accepted, accepted_all}
 use Rattle.xh_core.proofs.Machines.{runs_busy, place_there, list_here, list_else, current_generation, current_range, busy_place, generations_set, idle_set, way_here, way_else, peer_ne}
-use Rattle.xh_core.proofs.Closing.{count_append}
 use Rattle.xh_core.proofs.Wired.{state_in, tags_in, IsPair, same_lines, wired_pair, pair_of, half_apart}
 use Rattle.xh_core.proofs.Moved.{Moved, moved_whole}
 
