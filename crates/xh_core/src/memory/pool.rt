@@ -18,7 +18,7 @@ const MOST: usize = 16_777_216;
 /// Pages, by place. A block's index says which are its own.
 #[derive(Drop)]
 pub(super) struct Pool {
-    pages: Vec<[u8; 512]>,
+    pages: Vec<[u8; PAGE]>,
     /// The places that no block has.
     spare: Vec<u32>,
     /// How many pages there is room for, and as many spare places.
@@ -127,7 +127,7 @@ impl Pool {
     }
 
     /// The bytes of the page at a place.
-    pub(super) fn page(&self, place: u32) -> [u8; 512]
+    pub(super) fn page(&self, place: u32) -> [u8; PAGE]
         requires { place < length self.now.pages }
         ensures { result ≡ page_at self.now.pages place }
     {
@@ -135,7 +135,7 @@ impl Pool {
     }
 
     /// A place leaves the pool, with a page of these bytes: a spare one, or else a new one.
-    pub(super) fn take(&mut self, bytes: [u8; 512]) -> u32
+    pub(super) fn take(&mut self, bytes: [u8; PAGE]) -> u32
         requires once { (k : ℕ) → k ≢ nowhere → at_hand k self.old ≤ 1 }
         requires real { times nowhere self.old.spare ≡ 0 }
         requires room { length self.old.pages < length self.old.spare + self.old.room }

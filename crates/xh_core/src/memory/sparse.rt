@@ -67,7 +67,7 @@ fn reach(index: &mut Vec<u32>, pool: &mut Pool, page: usize) -> usize
     if index[page] != NOWHERE {
         return 0;
     }
-    index[page] = pool.take([0; 512]);
+    index[page] = pool.take([0; PAGE]);
     1
 }
 
