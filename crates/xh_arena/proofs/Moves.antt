@@ -7,7 +7,7 @@ use Rattle.atomic_table.specs.Table.{Me, step, keeps, Allows, Splits, Joins, ope
 use Rattle.atomic_table.proofs.Lists.{set_again}
 use Rattle.xh_arena.specs.declared.parts.Part.{Part}
 use Rattle.xh_arena.specs.declared.parts.Part.TheVariants.{Books, Length, Moved}
-use Rattle.xh_arena.specs.Parts.{weigh, books, whole, first_parts, Kept, Looked, Changed, top, below, under, with_length, with_taken, with_back}
+use Rattle.xh_arena.specs.inner.Parts.{weigh, books, whole, first_parts, Kept, Looked, Changed, top, below, under, with_length, with_taken, with_back}
 use Rattle.xh_arena.proofs.Weights.{weigh-append, weigh-set, others_of}
 use Rattle.xh_arena.proofs.Wholes.{Stands, weigh-whole, lot_stands, tally_stands, books_stand, lot_set, tally_set}
 

@@ -4,9 +4,13 @@ use Rattle.std.specs.Prelude.{slice_get, slice_set, slice_index}
 use Rattle.std.proofs.lemmas.Option.{get_or_from_slice_get}
 use Rattle.xh_arena.specs.declared.parts.Part.{Part}
 use Rattle.xh_arena.specs.declared.parts.Part.TheVariants.{Books, Length, Moved}
-use Rattle.xh_arena.specs.Parts.{weigh, tallies_from, whole, AreOfOneWhole, part_in, below, under, with_length, with_taken, with_back}
-use Rattle.xh_arena.specs.Views.{Booked, Move, moved, moves_of, back_of, workers_of, vault_parts, Balanced}
-use Rattle.xh_arena.proofs.Weights.{weigh-set, weigh-at, weigh-none}
+use Rattle.xh_arena.specs.inner.Parts.{weigh, tallies_from, whole, AreOfOneWhole, part_in, below, under, with_length, with_taken, with_back}
+use Rattle.xh_model.specs.Arena.{ArenaState, lengths_of}
+use Rattle.xh_model.proofs.Lengths.{length_is}
+use Rattle.xh_arena.specs.Sharing.{IsLotOf}
+use Rattle.xh_arena.specs.Views.{LotOf, Move, AreSummed}
+use Rattle.xh_arena.specs.inner.Books.{Booked, moved, moves_of, back_of, workers_of, vault_parts, Balanced}
+use Rattle.xh_arena.proofs.Weights.{weigh-set, weigh-at, weigh-none, weigh_sum}
 use Rattle.xh_arena.proofs.Wholes.{Stands, weigh-whole, lot_stands, tally_stands, books_stand, no_lots}
 
 stands : (p : Part) (ls : List ℕ) (ts : List (ℕ × ℕ)) → ((h : Part → ℕ) → h p ≤ weigh h (whole ls ts)) → Stands p ls ts
@@ -61,7 +65,14 @@ back_none (Books l t b k) e = refl
 back_none (Length r n) e = refl
 back_none (Moved j x y) e = absurd (omega arith)
 
-pub all_shown : (ls : List ℕ) (t b k : ℕ) (ms : List Move) → AreOfOneWhole (vault_parts ls t b k ms) → length ms ≡ k → (weigh (λ (m : Move). m.taken) ms ≡ t) × (weigh (λ (m : Move). m.back) ms ≡ b)
+-- while a tally is elsewhere, not all were collected
+one_shown : (j x y : ℕ) (ls : List ℕ) (t b k : ℕ) (ms : List Move) → AreOfOneWhole (Moved j x y ∷ vault_parts ls t b k ms) → length ms < k
+one_shown j x y ls t b k ms f =
+    let same = books_stand ls t b k f.0 f.1 (stands (Books ls t b k) f.0 f.1 (λ h. omega (arith, f.3 h))) in
+    let K : length f.1 ≡ k = cc in
+    omega (arith, f.3 one_tally, weigh-whole one_tally f.0 f.1, no_lots one_tally (λ _ _. refl) 0 f.0, tallies_weigh one_tally (λ _. 1) (λ _ _. refl) 0 f.1, weigh-ones f.1, moves_weigh one_tally (λ _. 1) (λ _. refl) ms, weigh-ones ms)
+
+all_shown : (ls : List ℕ) (t b k : ℕ) (ms : List Move) → AreOfOneWhole (vault_parts ls t b k ms) → length ms ≡ k → (weigh (λ (m : Move). m.taken) ms ≡ t) × (weigh (λ (m : Move). m.back) ms ≡ b)
 all_shown ls t b k ms f all =
     let same = books_stand ls t b k f.0 f.1 (stands (Books ls t b k) f.0 f.1 (λ h. omega (arith, f.3 h))) in
     let ts = f.1 in
@@ -83,21 +94,41 @@ lot_known vs parts i x a e b f =
     let all : part_in vs ∷ parts ≡ Length i x ∷ vault_parts a.lengths a.wear (back_of parts) (workers_of parts) (moves_of parts) = λ k. part_in (e k) ∷ b.0 k in
     lot_shown i x a.lengths a.wear (back_of parts) (workers_of parts) (map moved (moves_of parts)) (subst AreOfOneWhole all f)
 
+-- a lot that is known so is a lot of the vault, as contracts see both
+pub lot_of : {B : Type 0} (arena now : ArenaState) (lot seen : LotOf B) → slice_get (lengths_of arena) lot.index ≡ Some lot.len → arena ≡ now → lot ≡ seen → IsLotOf now seen
+lot_of arena now lot seen e a l =
+    let is = length_is arena lot.index lot.len e in
+    rw (← a, ← l) (record { known = is.0; length = is.1 })
+
 pub tally_known : (vs : List (List Part)) (parts : List Part) (j x y : ℕ) (a : Booked) → vs ≡ (Moved j x y ∷ []) ∷ [] → Balanced a parts → AreOfOneWhole (part_in vs ∷ parts) → (x ≤ a.wear) × (y ≤ back_of parts)
 tally_known vs parts j x y a e b f =
     let all : part_in vs ∷ parts ≡ Moved j x y ∷ vault_parts a.lengths a.wear (back_of parts) (workers_of parts) (moves_of parts) = λ k. part_in (e k) ∷ b.0 k in
     tally_shown j x y a.lengths a.wear (back_of parts) (workers_of parts) (map moved (moves_of parts)) (subst AreOfOneWhole all f)
 
-pub all_known : (parts : List Part) (a : Booked) → Balanced a parts → AreOfOneWhole parts → length (moves_of parts) ≡ workers_of parts → (weigh (λ (m : Move). m.taken) (moves_of parts) ≡ a.wear) × (weigh (λ (m : Move). m.back) (moves_of parts) ≡ back_of parts)
-all_known parts a b f all = all_shown a.lengths a.wear (back_of parts) (workers_of parts) (moves_of parts) (subst AreOfOneWhole b.0 f) all
+pub tally_left : (vs : List (List Part)) (parts : List Part) (j x y : ℕ) (a : Booked) → vs ≡ (Moved j x y ∷ []) ∷ [] → Balanced a parts → AreOfOneWhole (part_in vs ∷ parts) → length (moves_of parts) < workers_of parts
+tally_left vs parts j x y a e b f =
+    let all : part_in vs ∷ parts ≡ Moved j x y ∷ vault_parts a.lengths a.wear (back_of parts) (workers_of parts) (moves_of parts) = λ k. part_in (e k) ∷ b.0 k in
+    one_shown j x y a.lengths a.wear (back_of parts) (workers_of parts) (moves_of parts) (subst AreOfOneWhole all f)
+
+-- of parts that are of one whole, the tallies taken in sum up
+all_summed : (ls : List ℕ) (t b k : ℕ) (ms : List Move) → AreOfOneWhole (vault_parts ls t b k ms) → AreSummed t b k ms
+all_summed ls t b k ms f all =
+    let sums = all_shown ls t b k ms f all in
+    (sym (weigh_sum (λ (m : Move). m.taken) ms) ∙ sums.0, sym (weigh_sum (λ (m : Move). m.back) ms) ∙ sums.1)
+
+-- where some tally was not collected, nothing is said of the sums
+not_all : (t b k : ℕ) (ms : List Move) → length ms < k → AreSummed t b k ms
+not_all t b k ms l all = absurd (omega arith)
 
 moves_moved : (ms : List Move) → moves_of (map moved ms) ≡ ms
 moves_moved [] = refl
 moves_moved (m ∷ ms) = λ i. m ∷ moves_moved ms i
 
 -- books that are known whole are balanced
-pub settled : (a : Booked) (parts : List Part) (b k : ℕ) (ms : List Move) → parts ≡ vault_parts a.lengths a.wear b k ms → a.wear ≡ b + weigh (λ (n : ℕ). n) a.lengths → Balanced a parts
-settled a parts b k ms e w = subst (λ (ps : List Part). Balanced a ps) (sym e) (ap (λ l. vault_parts a.lengths a.wear b k l) (sym (moves_moved ms)), w)
+pub settled : (a : Booked) (parts : List Part) (b k : ℕ) (ms : List Move) → parts ≡ vault_parts a.lengths a.wear b k ms → a.wear ≡ b + weigh (λ (n : ℕ). n) a.lengths → AreSummed a.wear b k ms → Balanced a parts
+settled a parts b k ms e w s =
+    subst (λ (ps : List Part). Balanced a ps) (sym e)
+    (ap (λ l. vault_parts a.lengths a.wear b k l) (sym (moves_moved ms)), w, subst (λ (l : List Move). AreSummed a.wear b k l) (sym (moves_moved ms)) s)
 
 pub set_parts : (vs : List (List Part)) (parts now : List Part) (i x n : ℕ) (ls : List ℕ) (t b k : ℕ) (ms : List Move) → vs ≡ (Length i x ∷ []) ∷ [] → parts ≡ vault_parts ls t b k ms → now ≡ below (with_length n (part_in vs ∷ parts)) → now ≡ vault_parts (set ls i n) t b k ms
 set_parts vs parts now i x n ls t b k ms e p w = w ∙ (λ q. below (with_length n (part_in (e q) ∷ p q)))
@@ -114,9 +145,9 @@ along a parts now e b = subst (λ (ps : List Part). Balanced a ps) (sym e) b
 pub fits_along : (p : Part) (parts now : List Part) → now ≡ parts → AreOfOneWhole (p ∷ now) → AreOfOneWhole (p ∷ parts)
 fits_along p parts now e f = subst (λ (ps : List Part). AreOfOneWhole (p ∷ ps)) e f
 
-pub carve_kept : (a a' : Booked) (p p1 p2 : List Part) (vs ts : List (List Part)) (i m n j x y : ℕ) → Balanced a p → vs ≡ (Length i m ∷ []) ∷ [] → ts ≡ (Moved j x y ∷ []) ∷ [] → slice_get a.lengths i ≡ Some 0
+pub carve_kept : (a a' : Booked) (p p1 p2 : List Part) (vs ts : List (List Part)) (i m n j x y : ℕ) → Balanced a p → vs ≡ (Length i m ∷ []) ∷ [] → ts ≡ (Moved j x y ∷ []) ∷ [] → slice_get a.lengths i ≡ Some 0 → length (moves_of p) < workers_of p
     → p1 ≡ below (with_length n (part_in vs ∷ p)) → p2 ≡ below (with_taken n (part_in ts ∷ p1)) → a'.lengths ≡ slice_set a.lengths i n → a'.wear ≡ a.wear + n → Balanced a' p2
-carve_kept a a' p p1 p2 vs ts i m n j x y b v t at e1 e2 l w =
+carve_kept a a' p p1 p2 vs ts i m n j x y b v t at left e1 e2 l w =
     let bk = back_of p in
     let wk = workers_of p in
     let ms = moves_of p in
@@ -124,11 +155,11 @@ carve_kept a a' p p1 p2 vs ts i m n j x y b v t at e1 e2 l w =
     let q2 = taken_parts ts p1 p2 j x y n (slice_set a.lengths i n) a.wear bk wk ms t q1 e2 in
     let total = weigh-set (λ (u : ℕ). u) a.lengths i 0 n at in
     let sums : weigh (λ (u : ℕ). u) a'.lengths ≡ weigh (λ (u : ℕ). u) (slice_set a.lengths i n) = ap (λ l. weigh (λ (u : ℕ). u) l) l in
-    settled a' p2 bk wk ms (q2 ∙ (λ k. vault_parts (sym l k) (sym w k) bk wk ms)) (omega (arith, b.1))
+    settled a' p2 bk wk ms (q2 ∙ (λ k. vault_parts (sym l k) (sym w k) bk wk ms)) (omega (arith, b.1)) (not_all a'.wear bk wk ms left)
 
-pub give_kept : (a a' : Booked) (p p1 p2 : List Part) (vs ts : List (List Part)) (i n j x y : ℕ) → Balanced a p → vs ≡ (Length i n ∷ []) ∷ [] → ts ≡ (Moved j x y ∷ []) ∷ [] → slice_get a.lengths i ≡ Some n
+pub give_kept : (a a' : Booked) (p p1 p2 : List Part) (vs ts : List (List Part)) (i n j x y : ℕ) → Balanced a p → vs ≡ (Length i n ∷ []) ∷ [] → ts ≡ (Moved j x y ∷ []) ∷ [] → slice_get a.lengths i ≡ Some n → length (moves_of p) < workers_of p
     → p1 ≡ below (with_length 0 (part_in vs ∷ p)) → p2 ≡ below (with_back n (part_in ts ∷ p1)) → a'.lengths ≡ slice_set a.lengths i 0 → a'.wear ≡ a.wear → Balanced a' p2
-give_kept a a' p p1 p2 vs ts i n j x y b v t at e1 e2 l w =
+give_kept a a' p p1 p2 vs ts i n j x y b v t at left e1 e2 l w =
     let bk = back_of p in
     let wk = workers_of p in
     let ms = moves_of p in
@@ -136,7 +167,7 @@ give_kept a a' p p1 p2 vs ts i n j x y b v t at e1 e2 l w =
     let q2 = back_parts ts p1 p2 j x y n (slice_set a.lengths i 0) a.wear bk wk ms t q1 e2 in
     let total = weigh-set (λ (u : ℕ). u) a.lengths i n 0 at in
     let sums : weigh (λ (u : ℕ). u) a'.lengths ≡ weigh (λ (u : ℕ). u) (slice_set a.lengths i 0) = ap (λ l. weigh (λ (u : ℕ). u) l) l in
-    settled a' p2 (bk + n) wk ms (q2 ∙ (λ k. vault_parts (sym l k) (sym w k) (bk + n) wk ms)) (omega (arith, b.1))
+    settled a' p2 (bk + n) wk ms (q2 ∙ (λ k. vault_parts (sym l k) (sym w k) (bk + n) wk ms)) (omega (arith, b.1)) (not_all a'.wear (bk + n) wk ms left)
 
 pub get_set_other : {X : Type 0} (xs : List X) (i j : ℕ) (y : X) → (j ≡ i → ⊥) → slice_get (set xs i y) j ≡ slice_get xs j
 get_set_other [] i j y n = refl
@@ -161,14 +192,16 @@ cut_kept a a' p p1 p2 vs ts i m j n k b v t at there h e1 e2 l w =
     let still : slice_get (slice_set a.lengths i k) j ≡ Some 0 = get_set_other a.lengths i j k (apart a.lengths i j m at there (omega arith)) ∙ there in
     let total' = weigh-set (λ (u : ℕ). u) (slice_set a.lengths i k) j 0 (m - k) still in
     let sums : weigh (λ (u : ℕ). u) a'.lengths ≡ weigh (λ (u : ℕ). u) (slice_set (slice_set a.lengths i k) j (m - k)) = ap (λ l. weigh (λ (u : ℕ). u) l) l in
-    settled a' p2 bk wk ms (q2 ∙ (λ q. vault_parts (sym l q) (sym w q) bk wk ms)) (omega (arith, b.1))
+    settled a' p2 bk wk ms (q2 ∙ (λ q. vault_parts (sym l q) (sym w q) bk wk ms)) (omega (arith, b.1)) (subst (λ (wear : ℕ). AreSummed wear bk wk ms) (sym w) b.2)
 
 pub index_known : (ls : List ℕ) (i n : ℕ) → slice_get ls i ≡ Some n → slice_index ls i ≡ n
 index_known ls i n e = get_or_from_slice_get ls i n 0 e
 
-pub collect_kept : (a : Booked) (p p1 : List Part) (ts : List (List Part)) (j x y : ℕ) → Balanced a p → ts ≡ (Moved j x y ∷ []) ∷ [] → p1 ≡ under p (part_in ts ∷ []) → Balanced a p1
-collect_kept a p p1 ts j x y b t e =
-    settled a p1 (back_of p) (workers_of p) (record { number = j; taken = x; back = y } ∷ moves_of p) (e ∙ (λ q. under (b.0 q) (part_in (t q) ∷ []))) b.1
+pub collect_kept : (a : Booked) (p p1 : List Part) (ts : List (List Part)) (j x y : ℕ) → Balanced a p → ts ≡ (Moved j x y ∷ []) ∷ [] → p1 ≡ under p (part_in ts ∷ []) → AreOfOneWhole p1 → Balanced a p1
+collect_kept a p p1 ts j x y b t e f =
+    let ms : List Move = record { number = j; taken = x; back = y } ∷ moves_of p in
+    let now : p1 ≡ vault_parts a.lengths a.wear (back_of p) (workers_of p) ms = e ∙ (λ q. under (b.0 q) (part_in (t q) ∷ [])) in
+    settled a p1 (back_of p) (workers_of p) ms now b.1 (all_summed a.lengths a.wear (back_of p) (workers_of p) ms (subst AreOfOneWhole now f))
 
 -- what contracts see of the parts after a cut
 pub cut_parts : (a : Booked) (p p1 p2 : List Part) (vs ts : List (List Part)) (i m j n k : ℕ) → Balanced a p → vs ≡ (Length i m ∷ []) ∷ [] → ts ≡ (Length j n ∷ []) ∷ []

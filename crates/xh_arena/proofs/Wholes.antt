@@ -6,7 +6,7 @@ use Rattle.std.proofs.lemmas.Slice.Eq.{slice_eq-Decides}
 use Rattle.std.proofs.lemmas.Bool.Decides.{Decides-eqb}
 use Rattle.xh_arena.specs.declared.parts.Part.{Part}
 use Rattle.xh_arena.specs.declared.parts.Part.TheVariants.{Books, Length, Moved}
-use Rattle.xh_arena.specs.Parts.{weigh, lots_from, tallies_from, books, whole}
+use Rattle.xh_arena.specs.inner.Parts.{weigh, lots_from, tallies_from, books, whole}
 use Rattle.xh_arena.proofs.Weights.{weigh-append}
 
 pub weigh-whole : (h : Part → ℕ) (ls : List ℕ) (ts : List (ℕ × ℕ)) → weigh h (whole ls ts) ≡ weigh h (lots_from 0 ls) + (weigh h (tallies_from 0 ts) + h (books ls ts))

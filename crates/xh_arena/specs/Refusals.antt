@@ -1,13 +1,12 @@
-use Rattle.std.specs.Prelude.{◌≡◌, ℕ, ◌+◌, ◌<◌, None, IsSome}
+use Rattle.std.specs.Prelude.{ℕ}
 use Rattle.xh_arena.specs.declared.refused.Refused.{Refused}
 use Rattle.xh_arena.specs.declared.refused.Refused.TheVariants.{NoSpace, Worn, BadSize, OutOfMemory, BadCut}
-use Rattle.xh_model.specs.Cover.{State, IsFree, first_fit}
+use Rattle.xh_model.specs.Arena.{ArenaState, HasNoSpace, IsWorn}
 
--- why n bytes cannot be carved: no place has so many bytes of nothing in a row; or a place has, and the wear would pass
--- its limit. A carving is refused for nothing else.
-abbrev pub RefusesCarve : ℕ → State → Refused → Type 0
-RefusesCarve n state NoSpace = (first_fit n state.cover ≡ None) × ((at : ℕ) → IsFree n state.cover at → ⊥)
-RefusesCarve n state Worn = IsSome (first_fit n state.cover) × (state.limit < state.wear + n)
-RefusesCarve n state BadSize = ⊥
-RefusesCarve n state OutOfMemory = ⊥
-RefusesCarve n state BadCut = ⊥
+-- why n bytes cannot be carved of an arena: for these two reasons, and for nothing else
+abbrev pub RefusesCarve : ℕ → ArenaState → Refused → Type 0
+RefusesCarve n arena NoSpace = HasNoSpace n arena
+RefusesCarve n arena Worn = IsWorn n arena
+RefusesCarve n arena BadSize = ⊥
+RefusesCarve n arena OutOfMemory = ⊥
+RefusesCarve n arena BadCut = ⊥

@@ -1,22 +1,16 @@
 //! An arena: its records' extents and its holes.
-ghost use Rattle.std.specs.Prelude.{◌≡◌, ◌≢◌, ℕ, ◌+◌, ◌-◌, ◌<◌, ◌≤◌, ◌%◌, ◌∷◌, [], ◌↔◌, IfOk, IfErr, OnOk, OnErr, IsOk, IsTrue, MatchOption, ◌⊎◌, Some, None, length, replicate, slice_set, vec_capacity};
+ghost use Rattle.std.specs.Prelude.{◌≡◌, ◌≢◌, ℕ, ◌+◌, ◌<◌, ◌≤◌, ◌%◌, ◌∷◌, [], ◌↔◌, IfOk, IfErr, OnOk, IsOk, MatchOption, ◌⊎◌, Err, None, length, replicate, vec_capacity};
 ghost use Rattle.std.specs.List.{range_with_len, sum_by};
-ghost use Rattle.xh_model.specs.Cover.{State, AreHoles, AreLimits, IsGoodCut, IsLeastFree, IsLawful, SameRun, bytes_out, carved, cut_past, first_fit, given_back, holes_of, length_of, lengths_of, run_of};
+ghost use Rattle.xh_model.specs.Cover.{AreHoles, SameRun, bytes_out, holes_of, length_of, run_of};
+ghost use Rattle.xh_model.specs.Arena.{AreLimits, IsCarved, IsCut, IsGivenBack, IsGoodCut, IsLawfulArena};
 ghost use Rattle.xh_arena.specs.Refusals.{RefusesCarve};
 
 use crate::holes::{add_hole, first_hole, take_front};
 use crate::refused::Refused;
 use std::alloc::{AllocError, Global};
 use std::marker::Model;
-
-/// The most bytes of an arena.
-pub(crate) const MOST_BYTES: u32 = 1_048_576;
-
-/// The most records of an arena.
-const MOST_RECORDS: u16 = 256;
-
-/// The most bytes that an arena can ever hand out.
-const MOST_WEAR: u64 = 9_223_372_036_854_775_807;
+use xh_model::is_in_arena_limits;
+use xh_model::limits::{MAX_BYTES, MAX_RECORDS, UNIT};
 
 /// A range of bytes: the extent of each record is a run of it, and all other bytes are holes.
 ///
@@ -36,25 +30,14 @@ pub struct Arena {
 
 impl Model for Arena {
     ghost use Rattle.std.specs.Prelude.{length, vec_capacity};
-    ghost use Rattle.xh_model.specs.Cover.{State};
-    ghost use Rattle.xh_arena.specs.Layout.{IsArena, cover_of};
+    ghost use Rattle.xh_model.specs.Arena.{ArenaState};
+    ghost use Rattle.xh_arena.specs.inner.Layout.{IsArena, cover_of};
 
-    ghost Value = { State };
+    ghost Value = { ArenaState };
 
     ghost view = { λ a. record { cover = cover_of a.size a.extents.items; records = length a.extents.items; wear = a.wear; limit = a.limit } };
 
     ghost invariant = { λ a. IsArena a.size a.extents.items a.holes.items a.handed_out a.wear a.limit (vec_capacity a.holes) };
-}
-
-fn in_limits(size: u32, records: u16, wear: u64) -> bool
-    ensures { IsTrue result ↔ AreLimits size records wear }
-{
-    size >= 16
-        && size <= MOST_BYTES
-        && size % 16 == 0
-        && records >= 1
-        && records <= MOST_RECORDS
-        && wear <= MOST_WEAR
 }
 
 /// The extents of records that are all empty.
@@ -83,12 +66,11 @@ impl Arena {
         ensures fresh { IfOk result (λ arena. arena ≡ record { cover = replicate size None; records = records; wear = 0; limit = wear }) }
         ensures limits { OnOk result (AreLimits size records wear) }
         ensures bad_size { (result ≡ Err Refused.BadSize) ↔ (AreLimits size records wear → ⊥) }
-        ensures lawful { IfOk result IsLawful }
-        ensures lengths { IfOk result (λ arena. lengths_of arena ≡ replicate records 0) }
+        ensures lawful { IfOk result IsLawfulArena }
         ensures empty { IfOk result (λ arena. (r : ℕ) → length_of r arena.cover ≡ 0) }
         ensures refused { IfErr result (λ e. (e ≡ Refused.BadSize) ⊎ (e ≡ Refused.OutOfMemory)) }
     {
-        if !in_limits(size, records, wear) {
+        if !is_in_arena_limits(size, records, wear) {
             return Err(Refused::BadSize);
         }
         let Ok(extents) = no_extents(alloc, usize::from(records)) else {
@@ -115,22 +97,14 @@ impl Arena {
         requires known { r < self.old.records }
         requires empty { length_of r self.old.cover ≡ 0 }
         requires some { 0 < n }
-        requires multiple { n % 16 ≡ 0 }
-        ensures place { IfOk result (λ at. first_fit n self.old.cover ≡ Some at) }
-        ensures least { IfOk result (IsLeastFree n self.old.cover) }
-        ensures carved { IfOk result (λ at. self.new ≡ record self.old { cover = carved r at n self.old.cover; wear = self.old.wear + n }) }
-        ensures within_limit { self.new.wear ≤ self.new.limit }
-        ensures reason { IfErr result (RefusesCarve n self.old) }
-        ensures unchanged { OnErr result (self.new ≡ self.old) }
-        ensures run { IfOk result (λ at. run_of r self.new.cover ≡ Some (at, n)) }
+        requires multiple { n % UNIT ≡ 0 }
+        ensures done { IfOk result (λ at. IsCarved r n at self.old self.new) }
+        ensures refused { IfErr result (λ e. RefusesCarve n self.old e × (self.new ≡ self.old)) }
+        ensures exact { (e : Refused) → RefusesCarve n self.old e → result ≡ Err e }
         ensures length { OnOk result (length_of r self.new.cover ≡ n) }
-        ensures bytes { OnOk result (bytes_out self.new.cover ≡ bytes_out self.old.cover + n) }
-        ensures lengths { OnOk result (lengths_of self.new ≡ slice_set (lengths_of self.old) r n) }
-        ensures size { length self.new.cover ≡ length self.old.cover }
-        ensures records { self.new.records ≡ self.old.records }
-        ensures limit { self.new.limit ≡ self.old.limit }
         ensures others { (q : ℕ) → q ≢ r → SameRun q self.old.cover self.new.cover }
-        ensures lawful { IsLawful self.new }
+        ensures records { self.new.records ≡ self.old.records }
+        ensures lawful { IsLawfulArena self.new }
     {
         let Some(at) = first_hole(&self.holes, n) else {
             return Err(Refused::NoSpace);
@@ -153,24 +127,16 @@ impl Arena {
         requires tail_known { t < self.old.records }
         requires other { t ≢ r }
         requires empty { length_of t self.old.cover ≡ 0 }
-        ensures cut { OnOk result (self.new ≡ record self.old { cover = cut_past r t k self.old.cover }) }
-        ensures good { IsOk result ↔ IsGoodCut k (length_of r self.old.cover) }
-        ensures reason { IfErr result (λ e. e ≡ Refused.BadCut) }
-        ensures unchanged { OnErr result (self.new ≡ self.old) }
-        ensures runs { OnOk result ((s n : ℕ) → run_of r self.old.cover ≡ Some (s, n) → (run_of r self.new.cover ≡ Some (s, k)) × (run_of t self.new.cover ≡ Some (s + k, n - k))) }
-        ensures head { OnOk result (length_of r self.new.cover ≡ k) }
-        ensures tail { OnOk result (length_of t self.new.cover + k ≡ length_of r self.old.cover) }
-        ensures bytes { bytes_out self.new.cover ≡ bytes_out self.old.cover }
-        ensures lengths { OnOk result (lengths_of self.new ≡ slice_set (slice_set (lengths_of self.old) r k) t (length_of r self.old.cover - k)) }
-        ensures size { length self.new.cover ≡ length self.old.cover }
-        ensures records { self.new.records ≡ self.old.records }
-        ensures limit { self.new.limit ≡ self.old.limit }
+        ensures done { OnOk result (IsCut r t k self.old self.new) }
+        ensures refused { IfErr result (λ e. (e ≡ Refused.BadCut) × (self.new ≡ self.old)) }
+        ensures exact { IsOk result ↔ IsGoodCut k (length_of r self.old.cover) }
         ensures others { (q : ℕ) → q ≢ r → q ≢ t → SameRun q self.old.cover self.new.cover }
-        ensures lawful { IsLawful self.new }
+        ensures records { self.new.records ≡ self.old.records }
+        ensures lawful { IsLawfulArena self.new }
     {
         let (head, tail) = (usize::from(r), usize::from(t));
         let (start, length) = self.extents[head];
-        if k == 0 || k % 16 != 0 || k >= length {
+        if k == 0 || k % UNIT != 0 || k >= length {
             return Err(Refused::BadCut);
         }
         self.extents[head] = (start, k);
@@ -182,15 +148,11 @@ impl Arena {
     pub fn give_back(&mut self, r: u16)
         requires known { r < self.old.records }
         requires held { 0 < length_of r self.old.cover }
-        ensures back { self.new ≡ record self.old { cover = given_back r self.old.cover } }
+        ensures done { IsGivenBack r self.old self.new }
         ensures empty { length_of r self.new.cover ≡ 0 }
-        ensures bytes { bytes_out self.new.cover + length_of r self.old.cover ≡ bytes_out self.old.cover }
-        ensures lengths { lengths_of self.new ≡ slice_set (lengths_of self.old) r 0 }
-        ensures size { length self.new.cover ≡ length self.old.cover }
-        ensures records { self.new.records ≡ self.old.records }
-        ensures limit { self.new.limit ≡ self.old.limit }
         ensures others { (q : ℕ) → q ≢ r → SameRun q self.old.cover self.new.cover }
-        ensures lawful { IsLawful self.new }
+        ensures records { self.new.records ≡ self.old.records }
+        ensures lawful { IsLawfulArena self.new }
     {
         let index = usize::from(r);
         let (start, length) = self.extents[index];
@@ -213,8 +175,8 @@ impl Arena {
     pub fn holes(&self) -> &[(u32, u32)]
         ensures value { result.now ≡ holes_of self.now.cover }
         ensures all { AreHoles self.now.cover result.now }
-        ensures few { length result.now ≤ 257 }
-        ensures lawful { IsLawful self.now }
+        ensures few { length result.now ≤ MAX_RECORDS + 1 }
+        ensures lawful { IsLawfulArena self.now }
     {
         self.holes.as_slice()
     }
@@ -238,7 +200,7 @@ impl Arena {
     /// How many records there are, 1 to 256.
     pub fn records(&self) -> u16
         ensures records { result ≡ self.now.records }
-        ensures limit { result ≤ 256 }
+        ensures limit { (1 ≤ result) × (result ≤ MAX_RECORDS) }
     {
         self.extents.len() as u16
     }
@@ -246,7 +208,8 @@ impl Arena {
     /// How many bytes the arena has, handed out or not.
     pub fn size(&self) -> u32
         ensures size { result ≡ length self.now.cover }
-        ensures limit { result ≤ 1048576 }
+        ensures limit { (UNIT ≤ result) × (result ≤ MAX_BYTES) }
+        ensures multiple { result % UNIT ≡ 0 }
     {
         self.size
     }

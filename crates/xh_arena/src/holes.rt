@@ -1,9 +1,9 @@
 //! The sorted list of an arena's holes: how one is found, shortened and put in again.
 ghost use Rattle.std.specs.Prelude.{◌≡◌, ◌+◌, ◌<◌, ◌≤◌, ◌++◌, All, length, take, drop, nat_le, slice_index_or, vec_capacity, vec_len};
 ghost use Rattle.std.specs.List.{position};
-ghost use Rattle.xh_arena.specs.Layout.{hole_place, join_above, join_run, shrunk};
+ghost use Rattle.xh_arena.specs.inner.Layout.{hole_place, join_above, join_run, shrunk};
 
-use crate::arena::MOST_BYTES;
+use xh_model::limits::MAX_BYTES;
 
 /// The first hole of at least `n` bytes.
 pub(crate) fn first_hole(holes: &[(u32, u32)], n: u32) -> Option<usize>
@@ -14,7 +14,7 @@ pub(crate) fn first_hole(holes: &[(u32, u32)], n: u32) -> Option<usize>
 
 /// The first hole that does not end before `start`.
 fn first_reaching(holes: &[(u32, u32)], start: u32) -> Option<usize>
-    requires { All (λ hole. hole.0 + hole.1 ≤ MOST_BYTES) holes.now }
+    requires { All (λ hole. hole.0 + hole.1 ≤ MAX_BYTES) holes.now }
     ensures { result ≡ position (λ hole. nat_le start (hole.0 + hole.1)) holes.now }
 {
     holes.iter().position(|hole| start <= hole.0 + hole.1)
@@ -22,7 +22,7 @@ fn first_reaching(holes: &[(u32, u32)], start: u32) -> Option<usize>
 
 /// Where a run from `start` on belongs among the holes.
 fn place_of(holes: &[(u32, u32)], start: u32) -> usize
-    requires { All (λ hole. hole.0 + hole.1 ≤ MOST_BYTES) holes.now }
+    requires { All (λ hole. hole.0 + hole.1 ≤ MAX_BYTES) holes.now }
     ensures place { result ≡ hole_place start holes.now }
     ensures in_list { result ≤ length holes.now }
 {
@@ -33,7 +33,7 @@ fn place_of(holes: &[(u32, u32)], start: u32) -> usize
 pub(crate) fn take_front(holes: &mut Vec<(u32, u32)>, at: usize, n: u32) -> u32
     requires in_list { at < length holes.old.items }
     requires fits { n ≤ (slice_index_or holes.old.items at (0, 0)).1 }
-    requires within { All (λ hole. hole.0 + hole.1 ≤ MOST_BYTES) holes.old.items }
+    requires within { All (λ hole. hole.0 + hole.1 ≤ MAX_BYTES) holes.old.items }
     ensures start { result ≡ (slice_index_or holes.old.items at (0, 0)).0 }
     ensures items { holes.new.items ≡ take at holes.old.items ++ (shrunk n (slice_index_or holes.old.items at (0, 0)) ++ drop (at + 1) holes.old.items) }
     ensures capacity { vec_capacity holes.new ≡ vec_capacity holes.old }
@@ -50,7 +50,7 @@ pub(crate) fn take_front(holes: &mut Vec<(u32, u32)>, at: usize, n: u32) -> u32
 /// Joins the hole at `at` with the next one, where that begins at its end.
 fn join_next(holes: &mut Vec<(u32, u32)>, at: usize)
     requires in_list { at < length holes.old.items }
-    requires within { All (λ hole. hole.0 + hole.1 ≤ MOST_BYTES) holes.old.items }
+    requires within { All (λ hole. hole.0 + hole.1 ≤ MAX_BYTES) holes.old.items }
     ensures items { let hole = slice_index_or holes.old.items at (0, 0) in holes.new.items ≡ take at holes.old.items ++ join_above hole.0 hole.1 (drop (at + 1) holes.old.items) }
     ensures capacity { vec_capacity holes.old ≤ vec_capacity holes.new }
 {
@@ -68,8 +68,8 @@ fn join_next(holes: &mut Vec<(u32, u32)>, at: usize)
 /// Puts a run in among the holes, joined with those that it touches.
 pub(crate) fn add_hole(holes: &mut Vec<(u32, u32)>, start: u32, length: u32)
     requires room { vec_len holes.old < vec_capacity holes.old }
-    requires within { All (λ hole. hole.0 + hole.1 ≤ MOST_BYTES) holes.old.items }
-    requires run { start + length ≤ MOST_BYTES }
+    requires within { All (λ hole. hole.0 + hole.1 ≤ MAX_BYTES) holes.old.items }
+    requires run { start + length ≤ MAX_BYTES }
     ensures items { let at = hole_place start holes.old.items in holes.new.items ≡ take at holes.old.items ++ join_run start length (drop at holes.old.items) }
     ensures capacity { vec_capacity holes.old ≤ vec_capacity holes.new }
 {

@@ -1,6 +1,6 @@
 //! A record's share, with the body that travels with it.
 ghost use Rattle.std.specs.Prelude.{◌≡◌, ◌++◌, IfOk, drop, replicate};
-ghost use Rattle.xh_arena.specs.Parts.{lots_from};
+ghost use Rattle.xh_arena.specs.inner.Parts.{lots_from};
 ghost use Rattle.xh_arena.specs.Views.{AreLots};
 
 use crate::parts::View;

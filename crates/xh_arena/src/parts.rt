@@ -20,7 +20,7 @@ pub type View = LinkedList<Part>;
 pub struct Law;
 
 impl TableRule<(), View, (u16, u8)> for Law {
-    ghost use Rattle.xh_arena.specs.Parts.{Kept, first_parts};
+    ghost use Rattle.xh_arena.specs.inner.Parts.{Kept, first_parts};
 
     ghost holds = { λ _ s. Kept s };
 
@@ -31,7 +31,7 @@ impl TableRule<(), View, (u16, u8)> for Law {
 pub struct OffTheTop;
 
 impl Split<View> for OffTheTop {
-    ghost use Rattle.xh_arena.specs.Parts.{top, below};
+    ghost use Rattle.xh_arena.specs.inner.Parts.{top, below};
 
     ghost left = { below };
 
@@ -64,7 +64,7 @@ impl Split<View> for Nothing {
 pub struct Looks;
 
 impl Play<(), View> for Looks {
-    ghost use Rattle.xh_arena.specs.Parts.{Looked};
+    ghost use Rattle.xh_arena.specs.inner.Parts.{Looked};
 
     ghost then = { Looked };
 }
@@ -86,7 +86,7 @@ pub struct Sets<N> {
 }
 
 impl<N: Amount> Play<(), View> for Sets<N> {
-    ghost use Rattle.xh_arena.specs.Parts.{Changed, with_length};
+    ghost use Rattle.xh_arena.specs.inner.Parts.{Changed, with_length};
 
     ghost then = { Changed (with_length N.amount) };
 }
@@ -97,7 +97,7 @@ pub struct Takes<N> {
 }
 
 impl<N: Amount> Play<(), View> for Takes<N> {
-    ghost use Rattle.xh_arena.specs.Parts.{Changed, with_taken};
+    ghost use Rattle.xh_arena.specs.inner.Parts.{Changed, with_taken};
 
     ghost then = { Changed (with_taken N.amount) };
 }
@@ -108,7 +108,7 @@ pub struct Gives<N> {
 }
 
 impl<N: Amount> Play<(), View> for Gives<N> {
-    ghost use Rattle.xh_arena.specs.Parts.{Changed, with_back};
+    ghost use Rattle.xh_arena.specs.inner.Parts.{Changed, with_back};
 
     ghost then = { Changed (with_back N.amount) };
 }
@@ -118,7 +118,7 @@ pub struct Under;
 
 impl Join<View> for Under {
     ghost use Rattle.std.specs.Prelude.{[]};
-    ghost use Rattle.xh_arena.specs.Parts.{under};
+    ghost use Rattle.xh_arena.specs.inner.Parts.{under};
 
     ghost both = { under };
 

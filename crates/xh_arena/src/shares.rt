@@ -1,7 +1,7 @@
 //! The table in a vault, with the vault's seat.
 ghost use Rattle.std.specs.Prelude.{◌≡◌, [], ◌∷◌, ◌++◌, IfOk};
-ghost use Rattle.xh_arena.specs.Holding.{view_in};
-ghost use Rattle.xh_arena.specs.Parts.{first_parts, part_in, IsOne, under, top, below, AreOfOneWhole, with_length, with_taken, with_back};
+ghost use Rattle.xh_arena.specs.inner.Holding.{view_in};
+ghost use Rattle.xh_arena.specs.inner.Parts.{first_parts, part_in, IsOne, under, top, below, AreOfOneWhole, with_length, with_taken, with_back};
 
 use crate::name::Name;
 use crate::parts::{
@@ -21,7 +21,7 @@ pub struct Shares {
 
 impl Model for Shares {
     ghost use Rattle.std.specs.Prelude.{◌≡◌};
-    ghost use Rattle.xh_arena.specs.Holding.{Holding};
+    ghost use Rattle.xh_arena.specs.inner.Holding.{Holding};
 
     ghost Value = { Holding };
 

@@ -1,6 +1,6 @@
 //! A worker's shares of one vault.
 ghost use Rattle.std.specs.Prelude.{◌≡◌, ◌++◌, IfOk, drop, replicate};
-ghost use Rattle.xh_arena.specs.Parts.{tallies_from};
+ghost use Rattle.xh_arena.specs.inner.Parts.{tallies_from};
 ghost use Rattle.xh_arena.specs.Views.{AreTallies};
 
 use crate::parts::View;

@@ -1,9 +1,11 @@
 //! A vault: an arena with its books.
 ghost use Rattle.std.specs.Prelude.{◌≡◌, ◌≢◌, ◌⊎◌, ℕ, ◌+◌, ◌-◌, ◌<◌, ◌≤◌, ◌%◌, [], ◌∷◌, length, map, sum, replicate, slice_get, slice_set, IfOk, IfErr, OnErr, OnOk, Err, Some, None, MatchOption, ◌↔◌};
-ghost use Rattle.xh_model.specs.Cover.{State, AreHoles, IsGoodCut, IsLeastFree, IsLawful, SameRun, bytes_out, carved, cut_past, first_fit, given_back, holes_of, length_of, lengths_of, run_of};
-ghost use Rattle.xh_arena.specs.Parts.{lots_from, tallies_from};
+ghost use Rattle.xh_model.specs.Cover.{AreHoles, bytes_out, holes_of, length_of, run_of};
+ghost use Rattle.xh_model.specs.Arena.{IsGoodCut, IsLawfulArena, lengths_of};
+ghost use Rattle.xh_arena.specs.inner.Parts.{lots_from, tallies_from};
 ghost use Rattle.xh_arena.specs.Refusals.{RefusesCarve};
-ghost use Rattle.xh_arena.specs.Views.{LotOf, TallyOf, AreLots, AreTallies, AreVaultLimits};
+ghost use Rattle.xh_arena.specs.Sharing.{IsLotOf, IsVaultCarved, IsVaultCut, IsVaultGivenBack};
+ghost use Rattle.xh_arena.specs.Views.{AreLots, AreSummed, AreTallies, AreVaultLimits};
 
 use crate::arena::Arena;
 use crate::fits::Fits;
@@ -14,9 +16,7 @@ use crate::shares::Shares;
 use crate::tally::{Tally, tallies};
 use std::alloc::Global;
 use std::marker::Model;
-
-/// The most tallies of a vault.
-const MOST_WORKERS: u8 = 33;
+use xh_model::limits::{MAX_BYTES, MAX_RECORDS, MAX_WORKERS, UNIT};
 
 /// An arena whose records' lengths are those of its lots, and whose bytes handed out and given back are those of its
 /// tallies. Bytes reach a record, and leave it, only with its lot in hand.
@@ -27,7 +27,8 @@ pub struct Vault {
 }
 
 impl Model for Vault {
-    ghost use Rattle.xh_arena.specs.Views.{VaultOf, IsVault, back_of, workers_of, moves_of};
+    ghost use Rattle.xh_arena.specs.Views.{VaultOf};
+    ghost use Rattle.xh_arena.specs.inner.Books.{IsVault, back_of, workers_of, moves_of};
 
     ghost Value = { VaultOf };
 
@@ -54,11 +55,10 @@ impl Vault {
         ensures tallies { IfOk result (λ r. AreTallies r.0.id workers r.2.items) }
         ensures limits { OnOk result (AreVaultLimits size records wear workers) }
         ensures bad_size { (result ≡ Err Refused.BadSize) ↔ (AreVaultLimits size records wear workers → ⊥) }
-        ensures lawful { IfOk result (λ r. IsLawful r.0.arena) }
-        ensures lengths { IfOk result (λ r. lengths_of r.0.arena ≡ replicate records 0) }
+        ensures lawful { IfOk result (λ r. IsLawfulArena r.0.arena) }
         ensures refused { IfErr result (λ e. (e ≡ Refused.BadSize) ⊎ (e ≡ Refused.OutOfMemory)) }
     {
-        if workers < 1 || workers > MOST_WORKERS {
+        if workers < 1 || workers > MAX_WORKERS {
             return Err(Refused::BadSize);
         }
         let arena = Arena::new(alloc, size, records, wear)?;
@@ -83,22 +83,12 @@ impl Vault {
         requires ids { (lot.old.id ≡ self.old.id) × (tally.old.id ≡ self.old.id) }
         requires empty { lot.old.len ≡ 0 }
         requires some { 0 < n }
-        requires multiple { n % 16 ≡ 0 }
-        ensures vault { IfOk result (λ at. self.new ≡ record self.old { arena = record self.old.arena { cover = carved lot.old.index at n self.old.arena.cover; wear = self.old.arena.wear + n } }) }
-        ensures lot { OnOk result (lot.new ≡ record lot.old { len = n }) }
-        ensures tally { OnOk result (tally.new ≡ record tally.old { taken = tally.old.taken + n }) }
-        ensures place { IfOk result (λ at. first_fit n self.old.arena.cover ≡ Some at) }
-        ensures least { IfOk result (IsLeastFree n self.old.arena.cover) }
-        ensures reason { IfErr result (RefusesCarve n self.old.arena) }
-        ensures refused { OnErr result ((self.new ≡ self.old) × (lot.new ≡ lot.old) × (tally.new ≡ tally.old)) }
-        ensures within_limit { self.new.arena.wear ≤ self.new.arena.limit }
-        ensures run { IfOk result (λ at. run_of lot.old.index self.new.arena.cover ≡ Some (at, n)) }
-        ensures bytes { OnOk result (bytes_out self.new.arena.cover ≡ bytes_out self.old.arena.cover + n) }
-        ensures lengths { OnOk result (lengths_of self.new.arena ≡ slice_set (lengths_of self.old.arena) lot.old.index n) }
-        ensures size { length self.new.arena.cover ≡ length self.old.arena.cover }
-        ensures same { (self.new.id ≡ self.old.id) × (self.new.arena.records ≡ self.old.arena.records) × (self.new.arena.limit ≡ self.old.arena.limit) }
-        ensures others { (q : ℕ) → q ≢ lot.old.index → SameRun q self.old.arena.cover self.new.arena.cover }
-        ensures lawful { IsLawful self.new.arena }
+        requires multiple { n % UNIT ≡ 0 }
+        ensures lot { IsLotOf self.old.arena lot.old }
+        ensures done { IfOk result (λ at. IsVaultCarved n at self.old self.new lot.old lot.new tally.old tally.new) }
+        ensures refused { IfErr result (λ e. RefusesCarve n self.old.arena e × (self.new ≡ self.old) × (lot.new ≡ lot.old) × (tally.new ≡ tally.old)) }
+        ensures exact { (e : Refused) → RefusesCarve n self.old.arena e → result ≡ Err e }
+        ensures lawful { IsLawfulArena self.new.arena }
     {
         self.shares.look_at(&mut lot.share);
         self.shares.look_at(&mut tally.share);
@@ -117,16 +107,9 @@ impl Vault {
         requires ids { (head.old.id ≡ self.old.id) × (tail.old.id ≡ self.old.id) }
         requires empty { tail.old.len ≡ 0 }
         requires good { IsGoodCut k head.old.len }
-        ensures vault { self.new ≡ record self.old { arena = record self.old.arena { cover = cut_past head.old.index tail.old.index k self.old.arena.cover } } }
-        ensures head { head.new ≡ record head.old { len = k } }
-        ensures tail { tail.new ≡ record tail.old { len = head.old.len - k } }
-        ensures runs { (s n : ℕ) → run_of head.old.index self.old.arena.cover ≡ Some (s, n) → (run_of head.old.index self.new.arena.cover ≡ Some (s, k)) × (run_of tail.old.index self.new.arena.cover ≡ Some (s + k, n - k)) }
-        ensures bytes { bytes_out self.new.arena.cover ≡ bytes_out self.old.arena.cover }
-        ensures lengths { lengths_of self.new.arena ≡ slice_set (slice_set (lengths_of self.old.arena) head.old.index k) tail.old.index (head.old.len - k) }
-        ensures size { length self.new.arena.cover ≡ length self.old.arena.cover }
-        ensures same { (self.new.id ≡ self.old.id) × (self.new.arena.records ≡ self.old.arena.records) × (self.new.arena.limit ≡ self.old.arena.limit) }
-        ensures others { (q : ℕ) → q ≢ head.old.index → q ≢ tail.old.index → SameRun q self.old.arena.cover self.new.arena.cover }
-        ensures lawful { IsLawful self.new.arena }
+        ensures lots { IsLotOf self.old.arena head.old × IsLotOf self.old.arena tail.old }
+        ensures done { IsVaultCut k self.old self.new head.old head.new tail.old tail.new }
+        ensures lawful { IsLawfulArena self.new.arena }
     {
         self.shares.look_at(&mut head.share);
         self.shares.look_at(&mut tail.share);
@@ -145,16 +128,9 @@ impl Vault {
     pub fn give_back<B>(&mut self, lot: &mut Lot<B>, tally: &mut Tally)
         requires ids { (lot.old.id ≡ self.old.id) × (tally.old.id ≡ self.old.id) }
         requires some { 0 < lot.old.len }
-        ensures vault { self.new ≡ record self.old { arena = record self.old.arena { cover = given_back lot.old.index self.old.arena.cover }; back = self.old.back + lot.old.len } }
-        ensures lot { lot.new ≡ record lot.old { len = 0 } }
-        ensures tally { tally.new ≡ record tally.old { back = tally.old.back + lot.old.len } }
-        ensures empty { length_of lot.old.index self.new.arena.cover ≡ 0 }
-        ensures bytes { bytes_out self.new.arena.cover + lot.old.len ≡ bytes_out self.old.arena.cover }
-        ensures lengths { lengths_of self.new.arena ≡ slice_set (lengths_of self.old.arena) lot.old.index 0 }
-        ensures size { length self.new.arena.cover ≡ length self.old.arena.cover }
-        ensures same { (self.new.id ≡ self.old.id) × (self.new.arena.records ≡ self.old.arena.records) × (self.new.arena.limit ≡ self.old.arena.limit) }
-        ensures others { (q : ℕ) → q ≢ lot.old.index → SameRun q self.old.arena.cover self.new.arena.cover }
-        ensures lawful { IsLawful self.new.arena }
+        ensures lot { IsLotOf self.old.arena lot.old }
+        ensures done { IsVaultGivenBack self.old self.new lot.old lot.new tally.old tally.new }
+        ensures lawful { IsLawfulArena self.new.arena }
     {
         self.shares.look_at(&mut lot.share);
         self.shares.look_at(&mut tally.share);
@@ -169,8 +145,7 @@ impl Vault {
     pub fn audit<B>(&mut self, lot: &mut Lot<B>)
         requires { lot.old.id ≡ self.old.id }
         ensures same { (self.new ≡ self.old) × (lot.new ≡ lot.old) }
-        ensures record { lot.old.index < self.old.arena.records }
-        ensures known { length_of lot.old.index self.old.arena.cover ≡ lot.old.len }
+        ensures lot { IsLotOf self.old.arena lot.old }
     {
         let share = &mut lot.share;
         self.shares.look_at(share);
@@ -181,7 +156,7 @@ impl Vault {
     pub fn collect(&mut self, tally: Tally)
         requires { tally.id ≡ self.old.id }
         ensures kept { self.new ≡ record self.old { collected = record { number = tally.number; taken = tally.taken; back = tally.back } ∷ self.old.collected } }
-        ensures summed { length self.new.collected ≡ self.new.workers → (sum (map (λ m. m.taken) self.new.collected) ≡ self.new.arena.wear) × (sum (map (λ m. m.back) self.new.collected) ≡ self.new.back) }
+        ensures summed { AreSummed self.new.arena.wear self.new.back self.new.workers self.new.collected }
     {
         let Tally {
             number: _,
@@ -214,7 +189,8 @@ impl Vault {
     pub fn holes(&self) -> &[(u32, u32)]
         ensures value { result.now ≡ holes_of self.now.arena.cover }
         ensures all { AreHoles self.now.arena.cover result.now }
-        ensures lawful { IsLawful self.now.arena }
+        ensures few { length result.now ≤ MAX_RECORDS + 1 }
+        ensures lawful { IsLawfulArena self.now.arena }
     {
         self.arena.holes()
     }
@@ -232,13 +208,24 @@ impl Vault {
     pub fn wear(&self) -> u64
         ensures wear { result ≡ self.now.arena.wear }
         ensures within_limit { self.now.arena.wear ≤ self.now.arena.limit }
+        ensures summed { AreSummed result self.now.back self.now.workers self.now.collected }
     {
         self.arena.wear()
     }
 
+    /// How many records there are, 1 to 256.
+    pub fn records(&self) -> u16
+        ensures records { result ≡ self.now.arena.records }
+        ensures limit { (1 ≤ result) × (result ≤ MAX_RECORDS) }
+    {
+        self.arena.records()
+    }
+
     /// How many bytes the arena has, handed out or not.
     pub fn size(&self) -> u32
-        ensures { result ≡ length self.now.arena.cover }
+        ensures size { result ≡ length self.now.arena.cover }
+        ensures limit { (UNIT ≤ result) × (result ≤ MAX_BYTES) }
+        ensures multiple { result % UNIT ≡ 0 }
     {
         self.arena.size()
     }

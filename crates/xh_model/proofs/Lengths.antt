@@ -5,7 +5,8 @@ use Rattle.std.specs.List.{range_with_len, sum_by}
 use Rattle.std.proofs.lemmas.Bool.{cases_eq, eq-eqb, ne_eqb}
 use Rattle.std.proofs.lemmas.List.Sums.{sum_by-cons, sum-map}
 use Rattle.std.proofs.lemmas.List.FromFn.{length-map-range_with_len}
-use Rattle.xh_model.specs.Cover.{State, is_of, length_of, lengths_of}
+use Rattle.xh_model.specs.Cover.{is_of, length_of}
+use Rattle.xh_model.specs.Arena.{ArenaState, lengths_of}
 
 same_map : (f g : ℕ → ℕ) (at n : ℕ) → ((q : ℕ) → at ≤ q → g q ≡ f q) → map g (range_with_len at n) ≡ map f (range_with_len at n)
 same_map f g at zero h = refl
@@ -30,7 +31,7 @@ table_set f g n r m l e h =
     all ∙ ap (λ x. set (map f (range_with_len 0 n)) r x) (ap g z ∙ e)
 
 -- one record has a new length
-pub lengths_set : (old new : State) (r n : ℕ) → new.records ≡ old.records → r < old.records → length_of r new.cover ≡ n →
+pub lengths_set : (old new : ArenaState) (r n : ℕ) → new.records ≡ old.records → r < old.records → length_of r new.cover ≡ n →
     ((q : ℕ) → q ≢ r → length_of q new.cover ≡ length_of q old.cover) → lengths_of new ≡ slice_set (lengths_of old) r n
 unfolding lengths_of
 lengths_set old new r n e l is others =
@@ -38,7 +39,7 @@ lengths_set old new r n e l is others =
     ∙ table_set (λ q. length_of q old.cover) (λ q. length_of q new.cover) old.records r n l is others
 
 -- two records have new lengths
-pub lengths_set_two : (old new : State) (r t k m : ℕ) → new.records ≡ old.records → r < old.records → t < old.records → t ≢ r →
+pub lengths_set_two : (old new : ArenaState) (r t k m : ℕ) → new.records ≡ old.records → r < old.records → t < old.records → t ≢ r →
     length_of r new.cover ≡ k → length_of t new.cover ≡ m →
     ((q : ℕ) → q ≢ r → q ≢ t → length_of q new.cover ≡ length_of q old.cover) → lengths_of new ≡ slice_set (slice_set (lengths_of old) r k) t m
 unfolding lengths_of
@@ -64,7 +65,7 @@ map_past f at zero r x e = absurd (cc)
 map_past f at (suc n) zero x e = omega arith
 map_past f at (suc n) (suc r) x e = let l : r < n = map_past f (at + 1) n r x e in omega arith
 
-known_record : (state : State) (r n : ℕ) → slice_get (lengths_of state) r ≡ Some n → r < state.records
+known_record : (state : ArenaState) (r n : ℕ) → slice_get (lengths_of state) r ≡ Some n → r < state.records
 unfolding lengths_of
 known_record state r n e = map_past (λ q. length_of q state.cover) 0 state.records r n e
 
@@ -72,11 +73,11 @@ same_length : (a b : ℕ) → Some a ≡ Some b → a ≡ b
 same_length a b e = cc
 
 -- what the list has at a record is its length
-pub length_at : (state : State) (r : ℕ) → r < state.records → slice_get (lengths_of state) r ≡ Some (length_of r state.cover)
+pub length_at : (state : ArenaState) (r : ℕ) → r < state.records → slice_get (lengths_of state) r ≡ Some (length_of r state.cover)
 unfolding lengths_of
 length_at state r l = let z : 0 + r ≡ r = zero-add r in map_get (λ q. length_of q state.cover) 0 state.records r l ∙ ap (λ j. Some (length_of j state.cover)) z
 
-pub length_is : (state : State) (r n : ℕ) → slice_get (lengths_of state) r ≡ Some n → (r < state.records) × (length_of r state.cover ≡ n)
+pub length_is : (state : ArenaState) (r n : ℕ) → slice_get (lengths_of state) r ≡ Some n → (r < state.records) × (length_of r state.cover ≡ n)
 length_is state r n e =
     let l : r < state.records = known_record state r n e in
     (l, same_length (length_of r state.cover) n (sym (length_at state r l) ∙ e))
@@ -94,15 +95,15 @@ zeros f at zero h = refl
 zeros f at (suc n) h = rw (h at) (ap (λ xs. 0 ∷ xs) (zeros f (at + 1) n h))
 
 -- the records of a new arena are empty
-pub lengths_new : (state : State) (size : ℕ) → state.cover ≡ replicate size None → lengths_of state ≡ replicate state.records 0
+pub lengths_new : (state : ArenaState) (size : ℕ) → state.cover ≡ replicate size None → lengths_of state ≡ replicate state.records 0
 unfolding lengths_of
 lengths_new state size e = zeros (λ q. length_of q state.cover) 0 state.records (λ q. ap (λ cover. length_of q cover) e ∙ none_of q size)
 
-pub length-lengths : (state : State) → length (lengths_of state) ≡ state.records
+pub length-lengths : (state : ArenaState) → length (lengths_of state) ≡ state.records
 unfolding lengths_of
 length-lengths state = length-map-range_with_len (λ q. length_of q state.cover) 0 state.records
 
 -- the lengths of all records, added up
-pub sum-lengths : (state : State) → sum (lengths_of state) ≡ sum_by (λ r. length_of r state.cover) (range_with_len 0 state.records)
+pub sum-lengths : (state : ArenaState) → sum (lengths_of state) ≡ sum_by (λ r. length_of r state.cover) (range_with_len 0 state.records)
 unfolding lengths_of
 sum-lengths state = sum-map (λ r. length_of r state.cover) (range_with_len 0 state.records)

@@ -2,6 +2,7 @@
 use Rattle.std.specs.Prelude.{◌≡◌, ℕ, ◌<◌, ◌≤◌, ◌-◌, ◌==◌, ◌&&◌, Bool, cond, List, [], ◌∷◌, ◌⊎◌, Option, Some, None, IfSome, IsSome, length, slice_get, slice_index_or}
 use Rattle.std.specs.Option.{option_and_then}
 use Rattle.xh_model.specs.declared.row.Row.{Row}
+use Rattle.xh_model.specs.declared.limits.TheConstants.{MAX_ROWS, STATES}
 
 -- what is read beyond the last row
 abbrev pub no_row : Row
@@ -11,13 +12,13 @@ no_row = record { state = 0; tag = 0; side = 0; next = 0 }
 abbrev pub row_at : List Row → ℕ → Row
 row_at rows i = slice_index_or rows i no_row
 
--- there are 16 states and two sides
+-- the states are those that there are, and the sides are two
 abbrev pub IsRow : Row → Type 0
-IsRow row = (row.state ≤ 15) × (row.side ≤ 1) × (row.next ≤ 15)
+IsRow row = (row.state < STATES) × (row.side ≤ 1) × (row.next < STATES)
 
--- a table has 1 to 16 rows
+-- a table has some rows and not too many
 abbrev pub IsInRange : List Row → Type 0
-IsInRange rows = (1 ≤ length rows) × (length rows ≤ 16) × ((i : ℕ) → i < length rows → IsRow (row_at rows i))
+IsInRange rows = (1 ≤ length rows) × (length rows ≤ MAX_ROWS) × ((i : ℕ) → i < length rows → IsRow (row_at rows i))
 
 -- two rows of one state have one sending side, and not one tag
 abbrev pub Agree : Row → Row → Type 0

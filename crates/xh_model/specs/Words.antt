@@ -7,6 +7,7 @@ use Rattle.xh_model.specs.declared.event.Holder.TheVariants.{Process, Direction}
 use Rattle.xh_model.specs.declared.event.Event.{Event}
 use Rattle.xh_model.specs.declared.event.Event.TheVariants.{Claim, Carve, Cut, GiveBack, Vacate, Pass, Accept}
 use Rattle.xh_model.specs.Slots.{index_of}
+use Rattle.xh_model.specs.declared.limits.TheConstants.{MAX_RECORDS, PLACES, PROCESSES, DIRECTIONS}
 
 -- the word of a record that is free, owned by a process, or in flight on a direction
 abbrev pub word_of : Option Holder → ℕ
@@ -14,11 +15,11 @@ word_of None = 0
 word_of (Some (Process p)) = 1 + 4 * p
 word_of (Some (Direction d)) = 2 + 4 * d
 
--- there are 4096 process numbers, and 128 directions
+-- the number of a process, or of a direction, is one that there is
 abbrev pub IsHolder : Option Holder → Type 0
 IsHolder None = Unit {0}
-IsHolder (Some (Process p)) = p < 4096
-IsHolder (Some (Direction d)) = d < 128
+IsHolder (Some (Process p)) = p < PROCESSES
+IsHolder (Some (Direction d)) = d < DIRECTIONS
 
 -- the word says something: it is that of some holder
 abbrev pub IsWord : ℕ → Type 0
@@ -26,14 +27,14 @@ IsWord word = (h : Option Holder) × IsHolder h × (word ≡ word_of h)
 
 -- a process number is a place and a generation
 abbrev pub place_of : ℕ → ℕ
-place_of p = p % 32
+place_of p = p % PLACES
 
 abbrev pub generation_of : ℕ → ℕ
-generation_of p = p / 32
+generation_of p = p / PLACES
 
 -- the number of the record at an index, with n records in an arena
 abbrev pub number_of : ℕ → ℕ → ℕ
-number_of n k = (k / n) * 256 + k % n
+number_of n k = (k / n) * MAX_RECORDS + k % n
 
 -- the holder of each record that there is, in the order of the records; a record with none is free
 abbrev pub Ownership : Type 0

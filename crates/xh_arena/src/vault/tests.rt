@@ -75,6 +75,42 @@ fn worn_vault(rt: HostRuntime) {
     vault.collect(two);
 }
 
+/// To the last byte of its limit a vault carves; then it is worn where there is a hole, and has no space where there
+/// is none, and a refusal changes neither the lot nor the tally.
+#[test]
+fn carved_to_its_limit(rt: HostRuntime) {
+    let Hand {
+        mut vault,
+        mut first,
+        mut second,
+        mut one,
+        mut two,
+    } = dealt(&rt, rt.alloc());
+    let Ok(start) = vault.carve(&mut first, &mut one, 64) else {
+        panic!(rt; "no room");
+    };
+    assert_eq!(rt; start, 0);
+    let Err(full) = vault.carve(&mut second, &mut two, 16) else {
+        panic!(rt; "more room than the size");
+    };
+    assert_eq!(rt; full, Refused::NoSpace);
+    assert_eq!(rt; (second.len(), two.taken()), (0, 0));
+    vault.give_back(&mut first, &mut one);
+    let Ok(again) = vault.carve(&mut second, &mut two, 16) else {
+        panic!(rt; "no room");
+    };
+    assert_eq!(rt; again, 0);
+    let Err(worn) = vault.carve(&mut first, &mut one, 16) else {
+        panic!(rt; "more than the limit");
+    };
+    assert_eq!(rt; worn, Refused::Worn);
+    assert_eq!(rt; (first.len(), one.taken()), (0, 64));
+    assert_eq!(rt;
+        (vault.wear(), vault.handed_out(), vault.records()),
+        (80, 16, 4)
+    );
+}
+
 #[test]
 fn a_lot_is_cut(rt: HostRuntime) {
     let Hand {

@@ -1,16 +1,13 @@
-use Rattle.std.proofs.Common.{◌≡◌, ◌<◌, ◌+◌, ◌-◌, ◌≤◌, length, sym, ◌∙◌, Some, None, arith, rules, refl}
+use Rattle.std.proofs.Common.{◌≡◌, ◌<◌, ◌+◌, ◌-◌, ◌≤◌, length, sym, ◌∙◌, Some, None, arith, rules, refl, ap}
+use Rattle.std.specs.Prelude.{Err, slice_index_or}
 use Rattle.std.proofs.lemmas.List.{length-set}
 use Rattle.xh_model.specs.Cover.{length_of}
-use Rattle.xh_model.proofs.Lengths.{lengths_set}
-use Rattle.xh_arena.specs.Layout.{cover_of}
+use Rattle.xh_model.proofs.Calls.{carved_length, carved_others}
+use Rattle.xh_arena.specs.inner.Layout.{cover_of}
 use Rattle.xh_arena.proofs.Kept.{kept-lawful}
 use Rattle.xh_arena.proofs.Steps.{Carved, carved_by, no_hole, no_place, found_at, holes_within}
+use Rattle.xh_arena.proofs.Refusing.{not_refused, only_no_space, only_worn}
 use Rattle.xh_arena.proofs.arena.Arena.carve.Goals as goal
-
-pub returns-in_default-clause-reason : goal.returns-in_default-clause-reason
-returns-in_default-clause-reason c =
-    let none : found_at c.args.n c.self.inside.holes.items ≡ None = rw (← c.deref.ensures.value) (sym c.first_hole.ensures ∙ c.in_default.is) in
-    rw (← c.self.view_is) (no_hole _ _ _ _ _ c.self.invariant.kept c.requires.some none, no_place _ _ _ _ _ c.self.invariant.kept c.requires.some none)
 
 at_worn : (c : goal.Then-self-from) → Carved c.self.inside.size c.self.inside.extents.items c.self.inside.holes.items c.self.inside.handed_out c.args.r c.args.n c.in-Some.at
 at_worn c =
@@ -40,11 +37,6 @@ done c =
     let found : found_at c.args.n c.self.inside.holes.items ≡ Some c.in-Some.at = rw (← c.deref.ensures.value) (sym c.first_hole.ensures ∙ c.in-Some.is) in
     carved_by _ _ _ _ _ _ _ c.self.invariant.kept known empty c.requires.some c.requires.multiple found
 
-pub returns-then-self-from-clause-reason : goal.returns-then-self-from-clause-reason
-returns-then-self-from-clause-reason c =
-    let more : c.self.inside.limit - c.self.inside.wear < c.args.n = rw c.from.ensures at c.if-self-from.true in
-    rw (← c.self.view_is, (at_worn c).place) (refl, omega arith)
-
 pub take_front-start-requires-clause-fits : goal.take_front-start-requires-clause-fits
 take_front-start-requires-clause-fits c = (at_take c).fits
 
@@ -53,54 +45,65 @@ overflow_add-self c =
     let room : c.self.inside.handed_out + c.args.n ≤ c.self.inside.size = (at_sum c).room in
     search rules
 
-pub returns-clause-place : goal.returns-clause-place
-returns-clause-place c = rw (c.take_front-start.ensures.start, ← c.self.view_is) (done c).place
-
-pub returns-clause-carved : goal.returns-clause-carved
-returns-clause-carved c =
-    rw (c.take_front-start.ensures.start, c.from-2.ensures, c.from-3.ensures, ← c.self.view_is, (done c).cover, length-set c.self.inside.extents.items) refl
-
-pub returns-clause-run : goal.returns-clause-run
-returns-clause-run c = rw (c.take_front-start.ensures.start, c.from-2.ensures) (done c).run
-
-pub returns-clause-others : goal.returns-clause-others
-returns-clause-others c = rw (c.take_front-start.ensures.start, c.from-2.ensures, ← c.self.view_is) (done c).others
-
 pub take_front-start-requires-clause-within : goal.take_front-start-requires-clause-within
-take_front-start-requires-clause-within c = holes_within _ _ _ _ c.self.invariant.kept c.self.invariant.bytes
+take_front-start-requires-clause-within c = holes_within _ _ _ _ c.self.invariant.kept c.self.invariant.limits.most_bytes
 
 pub invariant_of-self : goal.invariant_of-self
 invariant_of-self c =
     let room : c.self.inside.handed_out + c.args.n ≤ c.self.inside.size = (done c).room in
     rw (c.take_front-start.ensures.start, c.take_front-start.ensures.items, c.from-2.ensures, c.from-3.ensures, c.take_front-start.ensures.capacity) (record {
       kept = (done c).kept;
-      bytes = c.self.invariant.bytes;
       worn = omega arith;
-      most = c.self.invariant.most;
-      few = rw length-set c.self.invariant.few;
+      limits = rw length-set c.self.invariant.limits;
       spare = rw length-set c.self.invariant.spare;
     })
+
+pub returns-in_default-clause-refused : goal.returns-in_default-clause-refused
+returns-in_default-clause-refused c =
+    let none : found_at c.args.n c.self.inside.holes.items ≡ None = rw (← c.deref.ensures.value) (sym c.first_hole.ensures ∙ c.in_default.is) in
+    (rw (← c.self.view_is) (record { none = no_hole _ _ _ _ _ c.self.invariant.kept c.requires.some none; nowhere = no_place _ _ _ _ _ c.self.invariant.kept c.requires.some none }), refl)
+
+pub returns-in_default-clause-exact : goal.returns-in_default-clause-exact
+returns-in_default-clause-exact c = λ e no. ap (λ x. Err x) (only_no_space _ _ (returns-in_default-clause-refused c).0.none e no)
 
 pub returns-in_default-clause-lawful : goal.returns-in_default-clause-lawful
 returns-in_default-clause-lawful c = rw (← c.self.view_is) (kept-lawful _ _ _ _ _ _ c.self.invariant.kept)
 
+pub returns-then-self-from-clause-refused : goal.returns-then-self-from-clause-refused
+returns-then-self-from-clause-refused c =
+    let more : c.self.inside.limit - c.self.inside.wear < c.args.n = rw c.from.ensures at c.if-self-from.true in
+    (rw (← c.self.view_is) (record { some = rw (at_worn c).place refl; past = omega arith }), refl)
+
+pub returns-then-self-from-clause-exact : goal.returns-then-self-from-clause-exact
+returns-then-self-from-clause-exact c = λ e no. ap (λ x. Err x) (only_worn c.args.n (slice_index_or c.self.inside.holes.items c.in-Some.at (0, 0)).0 c.args.self.now (rw (← c.self.view_is) (at_worn c).place) e no)
+
 pub returns-then-self-from-clause-lawful : goal.returns-then-self-from-clause-lawful
 returns-then-self-from-clause-lawful c = rw (← c.self.view_is) (kept-lawful _ _ _ _ _ _ c.self.invariant.kept)
 
-pub returns-clause-length : goal.returns-clause-length
-returns-clause-length c = rw (c.take_front-start.ensures.start, c.from-2.ensures) (done c).count
+pub returns-clause-done : goal.returns-clause-done
+returns-clause-done c = record {
+  known = c.requires.known;
+  empty = c.requires.empty;
+  some = c.requires.some;
+  first = rw (c.take_front-start.ensures.start, ← c.self.view_is) (done c).place;
+  least = rw (c.take_front-start.ensures.start, ← c.self.view_is) (done c).least;
+  change = rw (c.take_front-start.ensures.start, c.from-2.ensures, c.from-3.ensures, ← c.self.view_is, (done c).cover, length-set c.self.inside.extents.items) refl;
+  run = rw (c.take_front-start.ensures.start, c.from-2.ensures) (done c).run;
+  within_limit = (invariant_of-self c).worn;
+}
 
-pub returns-clause-bytes : goal.returns-clause-bytes
-returns-clause-bytes c = rw (c.take_front-start.ensures.start, c.from-2.ensures, ← c.self.view_is) (done c).bytes
+pub returns-clause-exact : goal.returns-clause-exact
+returns-clause-exact c = λ e no.
+    let left = c.if-self-from.false in
+    let worn = c.self.invariant.worn in
+    let within : c.self.inside.wear + c.args.n ≤ c.self.inside.limit = omega (arith, c.from.ensures) in
+    absurd (not_refused c.args.n c.take_front-start.result c.args.self.now (returns-clause-done c).first (rw (← c.self.view_is) within) e no)
 
 pub returns-clause-lawful : goal.returns-clause-lawful
 returns-clause-lawful c = kept-lawful _ _ _ _ _ _ (invariant_of-self c).kept
 
-pub returns-clause-least : goal.returns-clause-least
-returns-clause-least c = rw (c.take_front-start.ensures.start, ← c.self.view_is) (done c).least
+pub returns-clause-length : goal.returns-clause-length
+returns-clause-length c = carved_length _ _ _ _ _ (returns-clause-done c)
 
-pub returns-clause-lengths : goal.returns-clause-lengths
-returns-clause-lengths c =
-    let known : c.args.r < length c.self.inside.extents.items = rw (← c.self.view_is) at c.requires.known in
-    rw (c.take_front-start.ensures.start, c.from-2.ensures, c.from-3.ensures, ← c.self.view_is)
-    (lengths_set _ _ c.args.r c.args.n (length-set c.self.inside.extents.items c.args.r _) known (done c).count (λ q ne. ((done c).others q ne).1))
+pub returns-clause-others : goal.returns-clause-others
+returns-clause-others c = carved_others _ _ _ _ _ (returns-clause-done c)

@@ -2,15 +2,15 @@ use Rattle.std.proofs.Common.{◌≡◌, ◌<◌, length, set, refl, ◌∙◌, 
 use Rattle.std.proofs.lemmas.Bool.{false≢true}
 use Rattle.std.proofs.lemmas.List.{length-set}
 use Rattle.xh_model.specs.Cover.{length_of}
-use Rattle.xh_model.proofs.Lengths.{lengths_set_two}
-use Rattle.xh_arena.specs.Layout.{cover_of}
+use Rattle.xh_model.proofs.Calls.{cut_others}
+use Rattle.xh_arena.specs.inner.Layout.{cover_of}
 use Rattle.xh_arena.proofs.Kept.{kept-lawful}
 use Rattle.xh_arena.proofs.Steps.{CutDone, cut_by, read_length}
 use Rattle.xh_arena.proofs.arena.Arena.cut.Goals as goal
 use Rattle.xh_arena.proofs.arena.Arena.cut.Goals.{then-k-eq0-via-then-k-eq0, then-k-eq0-via-else-k-eq0+then-k-ne0, then-k-eq0-via-else-k-eq0+else-k-ne0+then-k-length}
 
-pub returns-then-k-eq0-clause-good : goal.returns-then-k-eq0-clause-good
-returns-then-k-eq0-clause-good c =
+pub returns-then-k-eq0-clause-exact : goal.returns-then-k-eq0-clause-exact
+returns-then-k-eq0-clause-exact c =
     let known : c.args.r < length c.self.inside.extents.items = rw (← c.self.view_is) at c.requires.known in
     let size : length_of c.args.r c.args.self.now.cover ≡ c.index.result.now.1 =
     rw (← c.self.view_is) (read_length _ _ _ _ _ _ c.self.invariant.kept known (rw c.from-head.ensures at c.index.ensures)) in (
@@ -21,6 +21,9 @@ returns-then-k-eq0-clause-good c =
         | then-k-eq0-via-else-k-eq0+else-k-ne0+then-k-length w ↦ let fits : c.args.k < c.index.result.now.1 = rw size at g.2 in absurd (omega (arith, w.if-k-length.true))
       ],
     )
+
+pub returns-then-k-eq0-clause-lawful : goal.returns-then-k-eq0-clause-lawful
+returns-then-k-eq0-clause-lawful c = rw (← c.self.view_is) (kept-lawful _ _ _ _ _ _ c.self.invariant.kept)
 
 done : (c : goal.After-self-2-1) → CutDone c.self.inside.size c.self.inside.extents.items c.self.inside.holes.items c.self.inside.handed_out c.args.r c.args.t c.args.k c.index.result.now
 done c =
@@ -33,50 +36,31 @@ done c =
 pub invariant_of-self : goal.invariant_of-self
 invariant_of-self c = rw (c.from-head.ensures, c.from-tail.ensures) (record {
   kept = (done c).kept;
-  bytes = c.self.invariant.bytes;
   worn = c.self.invariant.worn;
-  most = c.self.invariant.most;
-  few = rw (length-set, length-set) c.self.invariant.few;
+  limits = rw (length-set, length-set) c.self.invariant.limits;
   spare = rw (length-set, length-set) c.self.invariant.spare;
 })
 
-pub returns-clause-cut : goal.returns-clause-cut
-returns-clause-cut c =
-    rw (c.from-head.ensures, c.from-tail.ensures, ← c.self.view_is, (done c).cover, length-set (set c.self.inside.extents.items c.args.r (c.index.result.now.0, c.args.k)), length-set c.self.inside.extents.items) refl
-
-pub returns-clause-good : goal.returns-clause-good
-returns-clause-good c =
+pub returns-clause-exact : goal.returns-clause-exact
+returns-clause-exact c =
     let known : c.args.r < length c.self.inside.extents.items = rw (← c.self.view_is) at c.requires.known in
     let size : length_of c.args.r c.args.self.now.cover ≡ c.index.result.now.1 =
     rw (← c.self.view_is) (read_length _ _ _ _ _ _ c.self.invariant.kept known (rw c.from-head.ensures at c.index.ensures)) in
     (λ f. (omega arith, c.if-k-ne0.false, rw size c.if-k-length.false), λ g. refl)
 
-pub returns-clause-others : goal.returns-clause-others
-returns-clause-others c = rw (c.from-head.ensures, c.from-tail.ensures, ← c.self.view_is) (done c).others
-
-pub returns-then-k-eq0-clause-lawful : goal.returns-then-k-eq0-clause-lawful
-returns-then-k-eq0-clause-lawful c = rw (← c.self.view_is) (kept-lawful _ _ _ _ _ _ c.self.invariant.kept)
-
-pub returns-clause-head : goal.returns-clause-head
-returns-clause-head c = rw (c.from-head.ensures, c.from-tail.ensures) (done c).head
-
-pub returns-clause-tail : goal.returns-clause-tail
-returns-clause-tail c = rw (c.from-head.ensures, c.from-tail.ensures, ← c.self.view_is) (done c).tail
-
-pub returns-clause-bytes : goal.returns-clause-bytes
-returns-clause-bytes c = rw (c.from-head.ensures, c.from-tail.ensures, ← c.self.view_is) (done c).bytes
+pub returns-clause-done : goal.returns-clause-done
+returns-clause-done c = record {
+  known = c.requires.known;
+  tail_known = c.requires.tail_known;
+  other = c.requires.other;
+  empty = c.requires.empty;
+  good = (returns-clause-exact c).0 refl;
+  change = rw (c.from-head.ensures, c.from-tail.ensures, ← c.self.view_is, (done c).cover, length-set (set c.self.inside.extents.items c.args.r (c.index.result.now.0, c.args.k)), length-set c.self.inside.extents.items) refl;
+  runs = rw (c.from-head.ensures, c.from-tail.ensures, ← c.self.view_is) (done c).runs;
+}
 
 pub returns-clause-lawful : goal.returns-clause-lawful
 returns-clause-lawful c = kept-lawful _ _ _ _ _ _ (invariant_of-self c).kept
 
-pub returns-clause-runs : goal.returns-clause-runs
-returns-clause-runs c = rw (c.from-head.ensures, c.from-tail.ensures, ← c.self.view_is) (done c).runs
-
-pub returns-clause-lengths : goal.returns-clause-lengths
-returns-clause-lengths c =
-    let known : c.args.r < length c.self.inside.extents.items = rw (← c.self.view_is) at c.requires.known in
-    let tail_known : c.args.t < length c.self.inside.extents.items = rw (← c.self.view_is) at c.requires.tail_known in
-    rw (c.from-head.ensures, c.from-tail.ensures, ← c.self.view_is)
-    (lengths_set_two _ _ c.args.r c.args.t c.args.k _
-    (length-set (set c.self.inside.extents.items c.args.r (c.index.result.now.0, c.args.k)) c.args.t _ ∙ length-set c.self.inside.extents.items c.args.r _)
-    known tail_known c.requires.other (done c).head (let whole = (done c).tail in omega arith) (λ q nr nt. ((done c).others q nr nt).1))
+pub returns-clause-others : goal.returns-clause-others
+returns-clause-others c = cut_others _ _ _ _ _ (returns-clause-done c)

@@ -2,8 +2,8 @@ use Rattle.std.proofs.Common.{◌<◌, length, refl, arith}
 use Rattle.std.proofs.lemmas.List.{length-set}
 use Rattle.std.specs.Vec.{vec_capacity}
 use Rattle.xh_model.specs.Cover.{length_of}
-use Rattle.xh_model.proofs.Lengths.{lengths_set}
-use Rattle.xh_arena.specs.Layout.{cover_of}
+use Rattle.xh_model.proofs.Calls.{back_length, back_others}
+use Rattle.xh_arena.specs.inner.Layout.{cover_of}
 use Rattle.xh_arena.proofs.Kept.{kept-lawful}
 use Rattle.xh_arena.proofs.Steps.{BackDone, back_by, holes_within}
 use Rattle.xh_arena.proofs.Room.{holes_room}
@@ -30,35 +30,28 @@ add_hole-requires-clause-room c =
     omega (arith, c.self.inside.holes.ok)
 
 pub add_hole-requires-clause-within : goal.add_hole-requires-clause-within
-add_hole-requires-clause-within c = holes_within _ _ _ _ c.self.invariant.kept c.self.invariant.bytes
+add_hole-requires-clause-within c = holes_within _ _ _ _ c.self.invariant.kept c.self.invariant.limits.most_bytes
 
 pub invariant_of-self : goal.invariant_of-self
 invariant_of-self c = rw (c.from-index.ensures, c.add_hole.ensures.items) (record {
   kept = (done c).kept;
-  bytes = c.self.invariant.bytes;
   worn = c.self.invariant.worn;
-  most = c.self.invariant.most;
-  few = rw length-set c.self.invariant.few;
+  limits = rw length-set c.self.invariant.limits;
   spare = rw length-set (let old = c.self.invariant.spare in let more = c.add_hole.ensures.capacity in omega arith);
 })
 
-pub returns-clause-back : goal.returns-clause-back
-returns-clause-back c = rw (c.from-index.ensures, ← c.self.view_is, (done c).cover, length-set c.self.inside.extents.items) refl
-
-pub returns-clause-others : goal.returns-clause-others
-returns-clause-others c = rw (c.from-index.ensures, ← c.self.view_is) (done c).others
-
-pub returns-clause-empty : goal.returns-clause-empty
-returns-clause-empty c = rw c.from-index.ensures (done c).empty
-
-pub returns-clause-bytes : goal.returns-clause-bytes
-returns-clause-bytes c = rw (c.from-index.ensures, ← c.self.view_is) (done c).bytes
+pub returns-clause-done : goal.returns-clause-done
+returns-clause-done c = record {
+  known = c.requires.known;
+  held = c.requires.held;
+  change = rw (c.from-index.ensures, ← c.self.view_is, (done c).cover, length-set c.self.inside.extents.items) refl;
+}
 
 pub returns-clause-lawful : goal.returns-clause-lawful
 returns-clause-lawful c = kept-lawful _ _ _ _ _ _ (invariant_of-self c).kept
 
-pub returns-clause-lengths : goal.returns-clause-lengths
-returns-clause-lengths c =
-    let known : c.args.r < length c.self.inside.extents.items = rw (← c.self.view_is) at c.requires.known in
-    rw (c.from-index.ensures, ← c.self.view_is)
-    (lengths_set _ _ c.args.r 0 (length-set c.self.inside.extents.items c.args.r _) known (done c).empty (λ q ne. ((done c).others q ne).1))
+pub returns-clause-empty : goal.returns-clause-empty
+returns-clause-empty c = back_length _ _ _ (returns-clause-done c)
+
+pub returns-clause-others : goal.returns-clause-others
+returns-clause-others c = back_others _ _ _ (returns-clause-done c)

@@ -16,4 +16,4 @@ returns-clause-lawful c = rw (← c.self.view_is) (kept-lawful _ _ _ _ _ _ c.sel
 pub returns-clause-few : goal.returns-clause-few
 returns-clause-few c =
     let most = holes_by_records _ _ _ _ c.self.invariant.kept in
-    let records = c.self.invariant.few in rw c.as_slice.ensures.value (omega (arith, most, records))
+    let records = c.self.invariant.limits.most_records in rw c.as_slice.ensures.value (omega (arith, most, records))

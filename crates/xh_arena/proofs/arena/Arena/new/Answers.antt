@@ -1,22 +1,20 @@
 use Rattle.std.proofs.Common.{◌≤◌, refl, arith, rules}
 use Rattle.std.proofs.lemmas.List.{length-replicate}
-use Rattle.xh_model.specs.Cover.{AreLimits}
-use Rattle.xh_model.proofs.Lengths.{lengths_new, none_of}
+use Rattle.xh_model.specs.Arena.{AreLimits}
+use Rattle.xh_model.proofs.Lengths.{none_of}
 use Rattle.xh_arena.proofs.Kept.{kept-lawful}
 use Rattle.xh_arena.proofs.Steps.{new-kept, new-cover}
 use Rattle.xh_arena.proofs.arena.Arena.new.Goals as goal
 
 pub invariant_of-result : goal.invariant_of-result
 invariant_of-result c =
-    let l = c.if-not-in_limits.ensures in let m = c.if-not-in_limits.false in
+    let l = c.if-not-is_in_arena_limits.ensures in let m = c.if-not-is_in_arena_limits.false in
     let limits : AreLimits c.args.size c.args.records c.args.wear = search rules in
     let some : 16 ≤ c.args.size = limits.some_bytes in
     rw (c.in-Ok.ensures, c.in-Ok-one_hole.ensures.items) (record {
       kept = new-kept c.args.size c.from.result (omega arith) limits.multiple;
-      bytes = limits.most_bytes;
       worn = omega arith;
-      most = limits.most_wear;
-      few = (let few = limits.most_records in let same = c.from.ensures in rw length-replicate (omega arith));
+      limits = rw (length-replicate, c.from.ensures) limits;
       spare = (let room = c.in-Ok-one_hole.ensures.room in rw length-replicate (omega arith));
     })
 
@@ -25,9 +23,6 @@ returns-clause-fresh c = rw (c.in-Ok.ensures, new-cover, length-replicate, c.fro
 
 pub returns-clause-lawful : goal.returns-clause-lawful
 returns-clause-lawful c = kept-lawful _ _ _ _ _ _ (invariant_of-result c).kept
-
-pub returns-clause-lengths : goal.returns-clause-lengths
-returns-clause-lengths c = rw (c.in-Ok.ensures, length-replicate, c.from.ensures) (lengths_new _ c.args.size (new-cover c.args.size c.args.records))
 
 pub returns-clause-empty : goal.returns-clause-empty
 returns-clause-empty c = λ r. rw (c.in-Ok.ensures, new-cover) (none_of r c.args.size)

@@ -1,6 +1,6 @@
 use Rattle.std.proofs.Common.{sym}
 use Rattle.std.proofs.lemmas.List.FromFn.{length-map-range_with_len}
-use Rattle.xh_arena.specs.Layout.{owner_of}
+use Rattle.xh_arena.specs.inner.Layout.{owner_of}
 use Rattle.xh_arena.proofs.arena.Arena.size.Goals as goal
 
 pub returns-clause-size : goal.returns-clause-size

@@ -1,8 +1,10 @@
 use Rattle.std.proofs.Common.{◌≡◌, ℕ, ◌+◌, ◌<◌, sym, ap, ◌∙◌, subst, arith}
-use Rattle.xh_model.specs.Cover.{length_of, lengths_of, bytes_out}
+use Rattle.xh_model.specs.Cover.{length_of, bytes_out}
+use Rattle.xh_model.specs.Arena.{lengths_of}
+use Rattle.xh_model.proofs.Calls.{back_wear, back_limit, back_lengths}
 use Rattle.xh_model.proofs.Lengths.{length_is}
-use Rattle.xh_arena.specs.Views.{booked}
-use Rattle.xh_arena.proofs.Shown.{lot_known, tally_known, along, fits_along, give_kept}
+use Rattle.xh_arena.specs.inner.Books.{booked}
+use Rattle.xh_arena.proofs.Shown.{lot_known, lot_of, tally_known, tally_left, along, fits_along, give_kept}
 use Rattle.xh_arena.proofs.Weights.{weigh-at}
 use Rattle.xh_arena.proofs.vault.Vault.give_back.Goals as goal
 
@@ -27,19 +29,16 @@ pub invariant_of-self : goal.invariant_of-self
 invariant_of-self g c =
     let known = lot_known _ _ _ _ (booked c.self.inside.arena) c.lot.invariant c.self.invariant.balanced c.look_at.ensures.fits in
     let start = along (booked c.self.inside.arena) _ _ (ap (λ s. s.parts) (c.look_at-2.ensures.same.0 ∙ c.look_at.ensures.same.0)) c.self.invariant.balanced in
-    let back = c.give_back.ensures.back in
+    let fits = fits_along _ _ _ (ap (λ s. s.parts) (sym c.look_at-2.ensures.same.0)) c.look_at-2.ensures.fits in
+    let left = tally_left _ _ _ _ _ (booked c.self.inside.arena) c.tally.invariant start fits in
+    let back = c.give_back.ensures.done in
     record {
-      balanced = give_kept (booked c.self.inside.arena) (booked c.give_back.new.self) _ _ _ _ _ _ _ _ _ _ start (c.look_at.ensures.same.2 ∙ c.lot.invariant) (c.look_at-2.ensures.same.2 ∙ c.tally.invariant) known
-          c.set_length_of.ensures.changed.0 c.give_back_by.ensures.changed.0 c.give_back.ensures.lengths (ap (λ a. a.wear) back);
-      worn = (let wear = ap (λ a. a.wear) back in let limit = ap (λ a. a.limit) back in let worn = c.self.invariant.worn in omega arith);
-      most = (let limit = ap (λ a. a.limit) back in let most = c.self.invariant.most in omega arith);
+      balanced = give_kept (booked c.self.inside.arena) (booked c.give_back.new.self) _ _ _ _ _ _ _ _ _ _ start (c.look_at.ensures.same.2 ∙ c.lot.invariant) (c.look_at-2.ensures.same.2 ∙ c.tally.invariant) known left
+          c.set_length_of.ensures.changed.0 c.give_back_by.ensures.changed.0 (back_lengths _ _ _ back) (back_wear _ _ _ back);
+      worn = (let wear = back_wear _ _ _ back in let limit = back_limit _ _ _ back in let worn = c.self.invariant.worn in omega arith);
+      most = (let limit = back_limit _ _ _ back in let most = c.self.invariant.most in omega arith);
     }
 
-pub returns-clause-bytes : goal.returns-clause-bytes
-returns-clause-bytes g c =
-    let known = lot_known _ _ _ _ (booked c.self.inside.arena) c.lot.invariant c.self.invariant.balanced c.look_at.ensures.fits in
-    let len : length_of c.lot.inside.index c.self.inside.arena.cover ≡ c.lot.inside.len = (length_is c.self.inside.arena _ _ known).1 in
-    rw (← c.self.view_is, ← c.lot.view_is) (ap (λ m. bytes_out c.give_back.new.self.cover + m) (sym len) ∙ c.give_back.ensures.bytes)
-
-pub returns-clause-others : goal.returns-clause-others
-returns-clause-others g c = rw (← c.self.view_is, ← c.lot.view_is) c.give_back.ensures.others
+pub returns-clause-lot : goal.returns-clause-lot
+returns-clause-lot g c =
+    lot_of _ _ _ _ (lot_known _ _ _ _ (booked c.self.inside.arena) c.lot.invariant c.self.invariant.balanced c.look_at.ensures.fits) (ap (λ v. v.arena) c.self.view_is) c.lot.view_is

@@ -1,7 +1,7 @@
 use Rattle.std.proofs.Common.{◌+◌, sym, ap, ◌∙◌}
-use Rattle.xh_model.specs.Cover.{lengths_of}
+use Rattle.xh_model.specs.Arena.{lengths_of}
 use Rattle.xh_model.proofs.Lengths.{sum-lengths}
-use Rattle.xh_arena.specs.Views.{back_of}
+use Rattle.xh_arena.specs.inner.Books.{back_of}
 use Rattle.xh_arena.proofs.Weights.{weigh_all}
 use Rattle.xh_arena.proofs.vault.Vault.handed_out.Goals as goal
 

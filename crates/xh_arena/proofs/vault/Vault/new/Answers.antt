@@ -1,8 +1,10 @@
 use Rattle.std.proofs.Common.{◌≡◌, ℕ, ◌++◌, [], ◌∷◌, drop, replicate, sym, ap, ◌∙◌, subst, arith}
 use Rattle.atomic_table.specs.Seated.{TableId}
-use Rattle.xh_arena.specs.Parts.{weigh, lots_from, tallies_from}
-use Rattle.xh_model.specs.Cover.{lengths_of}
-use Rattle.xh_arena.specs.Views.{booked, AreLots, back_of, workers_of, moves_of, vault_parts}
+use Rattle.xh_arena.specs.inner.Parts.{weigh, lots_from, tallies_from}
+use Rattle.xh_model.specs.Arena.{lengths_of}
+use Rattle.xh_arena.specs.Views.{AreLots}
+use Rattle.xh_arena.specs.inner.Books.{booked, back_of, workers_of, moves_of, vault_parts}
+use Rattle.xh_model.proofs.Lengths.{lengths_new}
 use Rattle.xh_arena.proofs.Weights.{weigh_zeros}
 use Rattle.xh_arena.proofs.Shown.{settled}
 use Rattle.xh_arena.proofs.Dealt.{drop_lots, drop_tallies, new_books}
@@ -26,10 +28,10 @@ invariant_of-result g c =
     let limits = c.in_ok-arena.ensures.limits in
     let wear = ap (λ a. a.wear) made in
     let limit = ap (λ a. a.limit) made in
-    let lengths = c.in_ok-arena.ensures.lengths in
+    let lengths = lengths_new _ c.args.size (ap (λ a. a.cover) made) ∙ ap (λ n. replicate n 0) (ap (λ a. a.records) made) in
     let none : weigh (λ (n : ℕ). n) (lengths_of c.in_ok-arena.arena) ≡ 0 = ap (λ ls. weigh (λ (n : ℕ). n) ls) lengths ∙ weigh_zeros c.args.records in
     record {
-      balanced = settled (booked c.in_ok-arena.arena) c.tallies.new.shares.parts 0 c.args.workers [] (left ∙ (λ q. vault_parts (sym lengths q) (sym wear q) 0 c.args.workers [])) (omega arith);
+      balanced = settled (booked c.in_ok-arena.arena) c.tallies.new.shares.parts 0 c.args.workers [] (left ∙ (λ q. vault_parts (sym lengths q) (sym wear q) 0 c.args.workers [])) (omega arith) (λ all. absurd (omega arith));
       worn = omega arith;
       most = (let most = limits.most_wear in omega arith);
     }
