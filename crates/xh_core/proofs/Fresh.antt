@@ -2,11 +2,12 @@
 use Rattle.std.proofs.Common.{◌≡◌, ℕ, zero, suc, ◌+◌, ◌*◌, ◌%◌, ◌<◌, List, [], ◌∷◌, ◌++◌, length, Bool, true, false, cond, refl, sym, ap, ◌∙◌, subst, arith}
 use Rattle.std.specs.Prelude.{Option, Some, None, is_some, replicate, slice_index_or}
 use Rattle.std.proofs.lemmas.Bool.{false≢true}
-use Rattle.xh_model.specs.declared.event.Config.{Config}
+use Rattle.xh_model.specs.declared.config.Config.{Config}
 use Rattle.xh_model.specs.declared.event.Holder.{Holder}
 use Rattle.xh_model.specs.declared.event.Holder.TheVariants.{Process, Direction}
 use Rattle.xh_model.specs.declared.row.Row.{Row}
-use Rattle.xh_model.specs.Store.{owner, len, holds, is_held_by, IsConfig, IsLawful, IsOwner, new_store}
+use Rattle.xh_model.specs.Store.{owner, len, holds, is_held_by, IsLawful, IsOwner, new_store}
+use Rattle.xh_model.specs.Config.{IsConfig}
 use Rattle.xh_core.specs.declared.place.Place.{Place}
 use Rattle.xh_core.specs.Machine.{Machine, times, carried, blocks, buffer, place, line, is_current, on_way, listed, no_place, no_line, end_of, IsWhole}
 use Rattle.xh_core.specs.PlaceCommands.{new_machine}

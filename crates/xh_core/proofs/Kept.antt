@@ -8,7 +8,7 @@ use Rattle.xh_model.specs.declared.event.Holder.TheVariants.{Process, Direction}
 use Rattle.xh_model.specs.Store.{Store, owner, len, holds, is_held_by, change, all_out, IsOwner, IsLawful}
 use Rattle.xh_model.specs.declared.event.Event.TheVariants.{GiveBack}
 use Rattle.xh_model.specs.declared.row.Row.{Row}
-use Rattle.xh_model.specs.Cover.{State}
+use Rattle.xh_model.specs.Arena.{ArenaState}
 use Rattle.xh_model.proofs.Lawful.{back_lawful, back_bytes}
 use Rattle.xh_core.specs.declared.line.Line.{Line}
 use Rattle.xh_core.specs.declared.place.Place.{Place}
@@ -178,7 +178,7 @@ bytes_one m p from w l =
     let r : ℕ = entry m p from in
     let held : holds m.store (Process p) r ≡ true = entry_held m p from w l in
     let e : all_out (back p from m) + len m.store r ≡ all_out m.store = back_bytes m.store p r w.store (rw (held, lt-ltb 0 (len m.store r) (w.full (Process p) r held)) refl) in
-    let a : all_out (sweep_one p from m).store ≡ all_out (back p from m) = ap (λ (xs : List State). all_out (record { owners = m.store.owners; arenas = xs })) (swept_one m p from w l).arenas in
+    let a : all_out (sweep_one p from m).store ≡ all_out (back p from m) = ap (λ (xs : List ArenaState). all_out (record { owners = m.store.owners; arenas = xs })) (swept_one m p from w l).arenas in
     omega (arith, e, a)
 
 pub sweep_step : (n p from : ℕ) (m : Machine) → 0 < n → from < length (blocks m p) → sweep p from n m ≡ sweep p from (n - 1) (sweep_one p from m)

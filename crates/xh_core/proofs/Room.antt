@@ -15,29 +15,7 @@ use Rattle.xh_core.specs.Machine.{Machine, carried, times, blocks, way_in, on_wa
 use Rattle.xh_core.specs.Sweeping.{accept_all}
 use Rattle.xh_core.proofs.Stores.{times-cons, is_there}
 use Rattle.xh_model.proofs.Totals.{sum_zero, sum_add, sum_same}
-
-zero_after : (f : ℕ → ℕ) (from k : ℕ) → ((q : ℕ) → from ≤ q → f q ≡ 0) → sum_by f (range_with_len from k) ≡ 0
-zero_after f from zero h = refl
-zero_after f from (suc k) h =
-    let c : sum_by f (range_with_len from (suc k)) ≡ f from + sum_by f (range_with_len (from + 1) k) = sum_by-cons f from (range_with_len (from + 1) k) in
-    let z = h from (omega arith) in
-    let rest = zero_after f (from + 1) k (λ q l. h q (omega arith)) in omega arith
-
-one_at : (p from k : ℕ) → from ≤ p → p < from + k → sum_by (λ q. cond {A = ℕ} (p == q) 1 0) (range_with_len from k) ≡ 1
-one_at p from zero a b = absurd (omega arith)
-one_at p from (suc k) a b =
-    let f : ℕ → ℕ = λ q. cond {A = ℕ} (p == q) 1 0 in
-    let c : sum_by f (range_with_len from (suc k)) ≡ f from + sum_by f (range_with_len (from + 1) k) = sum_by-cons f from (range_with_len (from + 1) k) in
-    elim (cases_eq p from) [
-      | inl e ↦ (
-          let one : f from ≡ 1 = rw (eq-eqb p from e) refl in
-          let rest : sum_by f (range_with_len (from + 1) k) ≡ 0 = zero_after f (from + 1) k (λ q l. rw (ne_eqb p q (λ s. absurd (omega arith))) refl) in
-          omega arith)
-      | inr d ↦ (
-          let one : f from ≡ 0 = rw (ne_eqb p from d) refl in
-          let rest : sum_by f (range_with_len (from + 1) k) ≡ 1 = one_at p (from + 1) k (omega arith) (omega arith) in
-          omega arith)
-    ]
+use Rattle.xh_core.proofs.Ranges.{picked}
 
 -- each element counts once
 counted : (n : ℕ) (rs : List ℕ) → ((q : ℕ) → 0 < times q rs → q < n) → sum_by (λ q. times q rs) (range_with_len 0 n) ≡ length rs
@@ -46,7 +24,7 @@ counted n (r ∷ rs) h =
     let here : r < n = h r (let t : times r (r ∷ rs) ≡ 1 + times r rs = times-cons r r rs ∙ rw (eq-eqb r r refl) refl in omega arith) in
     let rest : sum_by (λ q. times q rs) (range_with_len 0 n) ≡ length rs = counted n rs (λ q l. h q (let t = times-cons q r rs in omega arith)) in
     sum_same (λ q. times q (r ∷ rs)) (λ q. cond {A = ℕ} (r == q) 1 0 + times q rs) (range_with_len 0 n) (λ q. times-cons q r rs)
-    ∙ (sum_add (λ q. cond {A = ℕ} (r == q) 1 0) (λ q. times q rs) (range_with_len 0 n) ∙ rw (one_at r 0 n (omega arith) (omega arith), rest) (omega arith))
+    ∙ (sum_add (λ q. cond {A = ℕ} (r == q) 1 0) (λ q. times q rs) (range_with_len 0 n) ∙ rw (picked 1 r 0 n (omega arith) (omega arith), rest) (omega arith))
 
 pub few : (n : ℕ) (rs : List ℕ) → ((q : ℕ) → times q rs ≤ 1) → ((q : ℕ) → 0 < times q rs → q < n) → length rs ≤ n
 few n rs one in_range =

@@ -9,7 +9,8 @@ use Rattle.xh_model.specs.declared.event.Holder.{Holder}
 use Rattle.xh_model.specs.declared.event.Holder.TheVariants.{Process, Direction}
 use Rattle.xh_model.specs.declared.event.Event.{Event}
 use Rattle.xh_model.specs.declared.event.Event.TheVariants.{GiveBack, Accept}
-use Rattle.xh_model.specs.Cover.{State, length_of}
+use Rattle.xh_model.specs.Cover.{length_of}
+use Rattle.xh_model.specs.Arena.{ArenaState}
 use Rattle.xh_model.specs.Store.{Store, no_arena, owner, arena_of, arena_at, len, holds, is_held_by, is_known, can, change, after, IsLawful}
 use Rattle.xh_model.proofs.Changed.{known_there}
 use Rattle.xh_model.proofs.Lawful.{held_known}
@@ -113,17 +114,17 @@ accepted_all p d (r ∷ rs) s l h =
 
 -- lengths and the bytes handed out are read off the arenas alone
 pub same_len : (s t : Store) (q : ℕ) → t.arenas ≡ s.arenas → len t q ≡ len s q
-same_len s t q e = ap (λ (xs : List State). length_of (q % 256) (slice_index_or xs (q / 256) no_arena).cover) e
+same_len s t q e = ap (λ (xs : List ArenaState). length_of (q % 256) (slice_index_or xs (q / 256) no_arena).cover) e
 
 pub same_known : (s t : Store) (q : ℕ) → t.arenas ≡ s.arenas → is_known t q ≡ is_known s q
-same_known s t q e = ap (λ (xs : List State). nat_lt (q % 256) (slice_index_or xs (q / 256) no_arena).records) e
+same_known s t q e = ap (λ (xs : List ArenaState). nat_lt (q % 256) (slice_index_or xs (q / 256) no_arena).records) e
 
 same_number : (q r : ℕ) → q / 256 ≡ r / 256 → q % 256 ≡ r % 256 → q ≡ r
 same_number q r a e = omega arith
 
 -- what is given back has no bytes
 pub len_back : (s : Store) (p r : ℕ) → r / 256 < length s.arenas → len (change (GiveBack p r) s) r ≡ 0
-len_back s p r l = ap (λ (a : State). length_of (r % 256) a.cover) (get_or-set_same s.arenas (r / 256) _ no_arena l) ∙ given-own (r % 256) (arena_of s r).cover
+len_back s p r l = ap (λ (a : ArenaState). length_of (r % 256) a.cover) (get_or-set_same s.arenas (r / 256) _ no_arena l) ∙ given-own (r % 256) (arena_of s r).cover
 
 -- the others have the bytes that they had
 pub len_back_else : (s : Store) (p r q : ℕ) → r / 256 < length s.arenas → q ≢ r → len (change (GiveBack p r) s) q ≡ len s q
@@ -132,9 +133,9 @@ len_back_else s p r q l n = elim (cases_eq (q / 256) (r / 256)) [
       let apart : q % 256 ≢ r % 256 = (λ f. n (same_number q r e f)) in
       let now : arena_of (change (GiveBack p r) s) q ≡ arena_of (change (GiveBack p r) s) r = ap (λ (k : ℕ). arena_at (change (GiveBack p r) s) k) e in
       let was : arena_of s q ≡ arena_of s r = ap (λ (k : ℕ). arena_at s k) e in
-      ap (λ (a : State). length_of (q % 256) a.cover) (now ∙ get_or-set_same s.arenas (r / 256) _ no_arena l)
-      ∙ (given-other (r % 256) (q % 256) (arena_of s r).cover apart ∙ ap (λ (a : State). length_of (q % 256) a.cover) (sym was)))
-  | inr d ↦ ap (λ (a : State). length_of (q % 256) a.cover) (get_or-set_other s.arenas (r / 256) (q / 256) _ no_arena d)
+      ap (λ (a : ArenaState). length_of (q % 256) a.cover) (now ∙ get_or-set_same s.arenas (r / 256) _ no_arena l)
+      ∙ (given-other (r % 256) (q % 256) (arena_of s r).cover apart ∙ ap (λ (a : ArenaState). length_of (q % 256) a.cover) (sym was)))
+  | inr d ↦ ap (λ (a : ArenaState). length_of (q % 256) a.cover) (get_or-set_other s.arenas (r / 256) (q / 256) _ no_arena d)
 ]
 
 -- the arena of a record that someone holds is there

@@ -9,7 +9,7 @@ use Rattle.xh_model.specs.declared.event.Holder.{Holder}
 use Rattle.xh_model.specs.declared.event.Holder.TheVariants.{Process, Direction}
 use Rattle.xh_model.specs.declared.event.Event.TheVariants.{GiveBack, Vacate}
 use Rattle.xh_model.specs.Store.{Store, owner, len, holds, is_held_by, change, after}
-use Rattle.xh_model.specs.Cover.{State}
+use Rattle.xh_model.specs.Arena.{ArenaState}
 use Rattle.xh_core.specs.Machine.{Machine, times, end_of, place, blocks, way_in, on_way, arriving, IsWhole}
 use Rattle.xh_core.specs.Sweeping.{accept_from, sweep_one, shut_in}
 use Rattle.xh_core.proofs.Machines.{place_there, list_here, list_else, lists_current, current_generation, current_range, way_here, way_else}
@@ -77,7 +77,7 @@ swept_store p r m = after (Vacate p r) (after (GiveBack p r) (accepted_store p r
 
 -- the arenas after a record is given back, by the arenas before
 same_back : (s t : Store) (p r : ℕ) → t.arenas ≡ s.arenas → (change (GiveBack p r) t).arenas ≡ (change (GiveBack p r) s).arenas
-same_back s t p r e = ap (λ (xs : List State). (change (GiveBack p r) (record { owners = s.owners; arenas = xs })).arenas) e
+same_back s t p r e = ap (λ (xs : List ArenaState). (change (GiveBack p r) (record { owners = s.owners; arenas = xs })).arenas) e
 
 pub swept_one : (m : Machine) (p from : ℕ) → IsWhole m → from < length (blocks m p) → SweptOne p from (entry m p from) m (sweep_one p from m)
 unfolding sweep_one

@@ -12,5 +12,5 @@ pub mod PlaceCommands
 pub mod Gaining
 pub mod Checks
 pub mod Pairing
-pub mod Paging
 pub mod Measuring
+pub mod Wearing

@@ -1,6 +1,6 @@
 //! The limits that a machine is made with.
 ghost use Rattle.std.specs.Prelude.{◌↔◌, IsTrue};
-ghost use Rattle.xh_model.specs.Store.{IsConfig};
+ghost use Rattle.xh_model.specs.Config.{IsConfig};
 
 use xh_model::Config;
 
@@ -10,13 +10,5 @@ use xh_model::Config;
 pub fn in_limits(config: &Config) -> bool
     ensures { IsTrue result ↔ IsConfig config.now }
 {
-    (1..=8).contains(&config.arenas)
-        && config.bytes >= 16
-        && config.bytes <= 1_048_576
-        && config.bytes % 16 == 0
-        && config.records >= 1
-        && config.records <= 256
-        && config.depth >= 1
-        && config.depth <= 16
-        && config.wear <= 9_223_372_036_854_775_807
+    config.is_in_limits()
 }

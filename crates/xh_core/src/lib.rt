@@ -1,4 +1,7 @@
 //! The pure machines: the ownership and the arenas, event by event, and the serial heap.
+//!
+//! A line such as `let _start = &self.plain;` only reads a field: it opens the struct for the proof,
+//! which knows the type's invariant from there on. It stands where a method calls nothing but methods.
 #![tactic(auto)]
 
 mod block;

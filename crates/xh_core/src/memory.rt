@@ -1,98 +1,82 @@
 //! The bytes of all blocks.
-ghost use Rattle.std.specs.Prelude.{◌≡◌, ◌≢◌, ◌+◌, ◌^◌, ◌≤◌, ◌<◌, [], IfOk, MatchResult, OnErr, OnOk, drop, length, map, replicate, slice_index_or, slice_set, take};
+ghost use Rattle.std.specs.Prelude.{◌≡◌, ◌≢◌, ◌+◌, ◌≤◌, ◌<◌, [], IfOk, OnErr, OnOk, drop, length, replicate, slice_index_or, slice_set, take};
 ghost use Rattle.xh_core.specs.BlockCommands.{overwritten};
-ghost use Rattle.xh_core.specs.Paging.{AreSpans, bytes_of, no_span, there};
 
-mod pool;
-mod sparse;
-
-use crate::memory::pool::Pool;
-use crate::memory::sparse::Sparse;
 use std::alloc::{AllocError, Global};
 use std::marker::Model;
-use std::mem::replace;
 
-/// The bytes of each record's block, in pages that are there only where something was written: what
-/// they cost follows what was written, not how many they are.
+/// The bytes of a data block; none for a record that is no data block.
+#[derive(Drop)]
+struct Buffer {
+    bytes: Vec<u8>,
+}
+
+impl Model for Buffer {
+    ghost use Rattle.std.specs.Prelude.{List, ℕ};
+
+    ghost Value = { List ℕ };
+
+    ghost view = { λ b. b.bytes.items };
+}
+
+impl Buffer {
+    fn none(alloc: Global) -> Buffer
+        ensures { result ≡ [] }
+    {
+        Buffer {
+            bytes: Vec::new(alloc),
+        }
+    }
+
+    fn zeroed(alloc: Global, count: u32) -> Result<Buffer, AllocError>
+        ensures { IfOk result (λ buffer. buffer ≡ replicate count 0) }
+    {
+        let bytes = vec![in alloc; 0; count as usize]?;
+        Ok(Buffer { bytes })
+    }
+
+    fn copy(&self, at: usize, out: &mut [u8])
+        requires { at + length out.old ≤ length self.now }
+        ensures { out.new ≡ take (length out.old) (drop at self.now) }
+    {
+        out.copy_from_slice(&self.bytes[at..at + out.len()]);
+    }
+
+    fn overwrite(&mut self, at: usize, bytes: &[u8])
+        requires { at + length bytes.now ≤ length self.old }
+        ensures { self.new ≡ overwritten at bytes.now self.old }
+    {
+        self.bytes[at..at + bytes.len()].copy_from_slice(bytes);
+    }
+
+    /// What is past the first `at` bytes goes to a buffer of its own, and its memory here is given
+    /// back.
+    fn split_off(&mut self, alloc: Global, at: usize) -> Result<Buffer, AllocError>
+        requires { at ≤ length self.old }
+        ensures head { OnOk result (self.new ≡ take at self.old) }
+        ensures tail { IfOk result (λ tail. tail ≡ drop at self.old) }
+        ensures kept { OnErr result (self.new ≡ self.old) }
+    {
+        let tail = self.bytes[at..].to_vec(alloc)?;
+        self.bytes.truncate(at);
+        self.bytes.shrink_to_fit();
+        Ok(Buffer { bytes: tail })
+    }
+}
+
+/// The bytes of each record's block, one buffer for each, of exactly its length.
 #[derive(Drop)]
 pub(crate) struct Memory {
     /// By record.
-    blocks: Vec<Sparse>,
-    pool: Pool,
-    /// How many pages all blocks may have together. The pool has room for them.
-    promised: usize,
+    buffers: Vec<Buffer>,
 }
 
 impl Model for Memory {
-    ghost use Rattle.std.specs.Prelude.{List, ℕ, map};
-    ghost use Rattle.xh_core.specs.Paging.{AreSpans, bytes_of};
+    ghost use Rattle.std.specs.Prelude.{List, ℕ};
 
     ghost Value = { List (List ℕ) };
 
-    ghost view = { λ m. map (bytes_of m.pool.pages) m.blocks.items };
-
-    ghost invariant = { λ m. AreSpans m.blocks.items m.pool m.promised };
-}
-
-/// So many blocks without bytes.
-fn no_blocks(alloc: Global, count: u16) -> Result<Vec<Sparse>, AllocError>
-    ensures { IfOk result (λ blocks. blocks.items ≡ replicate count no_span) }
-{
-    let mut blocks = Vec::with_capacity(alloc, usize::from(count))?;
-    for _ in 0..count {
-        blocks.push(Sparse::none(alloc))?;
-    }
-    Ok(blocks)
-}
-
-/// A record has this block from now on, of which no page is there, and the pages of what it had are
-/// spare. How many pages are promised then.
-fn renew(blocks: &mut Vec<Sparse>, pool: &mut Pool, promised: usize, r: u16, block: Sparse) -> usize
-    requires there { r < length blocks.old.items }
-    requires zeros { there block.index ≡ 0 }
-    requires spans { AreSpans blocks.old.items pool.old promised }
-    requires room { promised + length block.index ≤ pool.old.room }
-    requires few { promised + length block.index < 2 ^ 64 }
-    ensures spans { AreSpans blocks.new.items pool.new result }
-    ensures blocks { blocks.new.items ≡ slice_set blocks.old.items r block }
-    ensures pages { pool.new.pages ≡ pool.old.pages }
-    ensures room { pool.new.room ≡ pool.old.room }
-{
-    let more = promised + block.pages();
-    let old = replace(&mut blocks[usize::from(r)], block);
-    old.give_back(pool);
-    more - old.pages()
-}
-
-/// Only the first `at` bytes of a record stay, and the record `t`, which has no block, gets what is
-/// past them. How many pages are promised then. A refused growth leaves all bytes as they were.
-fn part(
-    alloc: Global,
-    blocks: &mut Vec<Sparse>,
-    pool: &mut Pool,
-    promised: usize,
-    r: u16,
-    t: u16,
-    at: usize,
-) -> Result<usize, AllocError>
-    requires there { r < length blocks.old.items }
-    requires within { at ≤ (slice_index_or blocks.old.items r no_span).len }
-    requires other { t < length blocks.old.items }
-    requires apart { r ≢ t }
-    requires empty { slice_index_or blocks.old.items t no_span ≡ no_span }
-    requires spans { AreSpans blocks.old.items pool.old promised }
-    ensures spans { MatchResult result (λ now. AreSpans blocks.new.items pool.new now) (λ _. AreSpans blocks.new.items pool.new promised) }
-    ensures done { OnOk result (let bytes = map (bytes_of pool.old.pages) blocks.old.items in let old = slice_index_or bytes r [] in map (bytes_of pool.new.pages) blocks.new.items ≡ slice_set (slice_set bytes t (drop at old)) r (take at old)) }
-    ensures kept { OnErr result (map (bytes_of pool.new.pages) blocks.new.items ≡ map (bytes_of pool.old.pages) blocks.old.items) }
-{
-    let pages = blocks[usize::from(r)].pages();
-    let room = promised.checked_add(pages).ok_or(AllocError)?;
-    pool.reserve(room)?;
-    let block = &mut blocks[usize::from(r)];
-    let tail = block.split(alloc, pool, at)?;
-    let now = promised - pages + (block.pages() + tail.pages());
-    blocks[usize::from(t)] = tail;
-    Ok(now)
+    ghost view = { λ m. m.buffers.items };
 }
 
 impl Memory {
@@ -100,11 +84,11 @@ impl Memory {
     pub(crate) fn none(alloc: Global, count: u16) -> Result<Memory, AllocError>
         ensures { IfOk result (λ memory. memory ≡ replicate count []) }
     {
-        Ok(Memory {
-            blocks: no_blocks(alloc, count)?,
-            pool: Pool::new(alloc),
-            promised: 0,
-        })
+        let mut buffers = Vec::with_capacity(alloc, usize::from(count))?;
+        for _ in 0..count {
+            buffers.push(Buffer::none(alloc))?;
+        }
+        Ok(Memory { buffers })
     }
 
     /// A record has so many zeros from now on. A refused growth leaves all as it was.
@@ -113,10 +97,7 @@ impl Memory {
         ensures done { OnOk result (self.new ≡ slice_set self.old r (replicate count 0)) }
         ensures kept { OnErr result (self.new ≡ self.old) }
     {
-        let block = Sparse::zeros(alloc, count)?;
-        let room = self.promised.checked_add(block.pages()).ok_or(AllocError)?;
-        self.pool.reserve(room)?;
-        self.promised = renew(&mut self.blocks, &mut self.pool, self.promised, r, block);
+        self.buffers[usize::from(r)] = Buffer::zeroed(alloc, count)?;
         Ok(())
     }
 
@@ -125,8 +106,7 @@ impl Memory {
         requires { r < length self.old }
         ensures { self.new ≡ slice_set self.old r [] }
     {
-        let none = Sparse::none(*self.blocks.allocator());
-        self.promised = renew(&mut self.blocks, &mut self.pool, self.promised, r, none);
+        self.buffers[usize::from(r)] = Buffer::none(*self.buffers.allocator());
     }
 
     /// Writes the bytes of a record from `at` on into `out`, as many as it has room for.
@@ -135,7 +115,7 @@ impl Memory {
         requires within { at + length out.old ≤ length (slice_index_or self.now r []) }
         ensures { out.new ≡ take (length out.old) (drop at (slice_index_or self.now r [])) }
     {
-        self.blocks[usize::from(r)].copy(&self.pool, at, out);
+        self.buffers[usize::from(r)].copy(at, out);
     }
 
     /// These bytes come in the place of as many of a record from `at` on.
@@ -144,11 +124,11 @@ impl Memory {
         requires within { at + length bytes.now ≤ length (slice_index_or self.old r []) }
         ensures { self.new ≡ slice_set self.old r (overwritten at bytes.now (slice_index_or self.old r [])) }
     {
-        self.blocks[usize::from(r)].overwrite(&mut self.pool, at, bytes);
+        self.buffers[usize::from(r)].overwrite(at, bytes);
     }
 
-    /// Only the first `at` bytes of a record stay, and the record `t`, which has none, gets what is
-    /// past them. A refused growth leaves all as it was.
+    /// Only the first `at` bytes of a record stay, and the record `t` gets what is past them. A
+    /// refused growth leaves all as it was.
     pub(crate) fn split(
         &mut self,
         alloc: Global,
@@ -160,21 +140,11 @@ impl Memory {
         requires within { at ≤ length (slice_index_or self.old r []) }
         requires other { t < length self.old }
         requires apart { r ≢ t }
-        requires empty { slice_index_or self.old t [] ≡ [] }
         ensures done { OnOk result (let old = slice_index_or self.old r [] in self.new ≡ slice_set (slice_set self.old t (drop at old)) r (take at old)) }
         ensures kept { OnErr result (self.new ≡ self.old) }
     {
-        let none = Sparse::none(alloc);
-        self.promised = renew(&mut self.blocks, &mut self.pool, self.promised, t, none);
-        self.promised = part(
-            alloc,
-            &mut self.blocks,
-            &mut self.pool,
-            self.promised,
-            r,
-            t,
-            at,
-        )?;
+        let tail = self.buffers[usize::from(r)].split_off(alloc, at)?;
+        self.buffers[usize::from(t)] = tail;
         Ok(())
     }
 }

@@ -1,6 +1,6 @@
 //! The serial heap: places, channels and the bytes of blocks over the plain machine.
 ghost use Rattle.std.specs.Prelude.{◌≡◌, ◌⊎◌, ◌↔◌, None, Err, IfOk, IfErr, OnOk, replicate};
-ghost use Rattle.xh_model.specs.Store.{IsConfig};
+ghost use Rattle.xh_model.specs.Config.{IsConfig};
 ghost use Rattle.xh_core.specs.Machine.{no_place, no_line};
 ghost use Rattle.xh_core.specs.PlaceCommands.{new_machine};
 

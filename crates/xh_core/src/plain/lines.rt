@@ -1,6 +1,7 @@
 //! The ledger's lines of the arenas.
-ghost use Rattle.std.specs.Prelude.{◌≡◌, ◌≤◌, length, map};
+ghost use Rattle.std.specs.Prelude.{◌≡◌, ◌+◌, ◌≤◌, All, length, map};
 ghost use Rattle.xh_core.specs.PlaceCommands.{arena_line};
+ghost use Rattle.xh_core.specs.Wearing.{IsCarved};
 
 use crate::ledger::ArenaLine;
 use crate::plain::Plain;
@@ -8,7 +9,9 @@ use arrayvec::ArrayVec;
 use xh_arena::Arena;
 
 fn arena_line(arena: &Arena) -> ArenaLine
-    ensures { result ≡ arena_line arena.now }
+    requires { IsCarved arena.now }
+    ensures line { result ≡ arena_line arena.now }
+    ensures sum { result.out + result.back ≡ result.taken }
 {
     let out = arena.handed_out();
     let taken = arena.wear();
@@ -17,13 +20,15 @@ fn arena_line(arena: &Arena) -> ArenaLine
         out,
         holes: arena.holes().len() as u32,
         taken,
-        back: taken.saturating_sub(u64::from(out)),
+        back: taken - u64::from(out),
     }
 }
 
 fn lines_of(arenas: &[Arena]) -> ArrayVec<ArenaLine, 8>
-    requires { length arenas.now ≤ 8 }
-    ensures { result.items ≡ map arena_line arenas.now }
+    requires few { length arenas.now ≤ 8 }
+    requires carved { All IsCarved arenas.now }
+    ensures lines { result.items ≡ map arena_line arenas.now }
+    ensures sums { All (λ line. line.out + line.back ≡ line.taken) result.items }
 {
     let mut lines = ArrayVec::new();
     for arena in arenas {
@@ -35,7 +40,8 @@ fn lines_of(arenas: &[Arena]) -> ArrayVec<ArenaLine, 8>
 impl Plain {
     /// A line for each arena.
     pub(crate) fn arena_lines(&self) -> ArrayVec<ArenaLine, 8>
-        ensures { result.items ≡ map arena_line self.now.arenas }
+        ensures lines { result.items ≡ map arena_line self.now.arenas }
+        ensures sums { All (λ line. line.out + line.back ≡ line.taken) result.items }
     {
         lines_of(&self.arenas)
     }

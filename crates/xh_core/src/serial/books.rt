@@ -1,5 +1,5 @@
 //! What the ledger tells: the arenas, the places, and the sums of their bytes.
-ghost use Rattle.std.specs.Prelude.{◌≡◌, ◌<◌, ◌≤◌, ◌*◌, All, length};
+ghost use Rattle.std.specs.Prelude.{◌≡◌, ◌+◌, ◌<◌, ◌≤◌, ◌*◌, All, length};
 ghost use Rattle.std.specs.List.{sum_by};
 ghost use Rattle.xh_core.specs.Machine.{is_vacant};
 ghost use Rattle.xh_core.specs.PlaceCommands.{ledger_of, line_state, place_line, place_lines, total};
@@ -118,6 +118,8 @@ impl Serial {
     /// What the heap holds now, line by line.
     pub fn ledger(&self) -> Ledger
         ensures fields { result ≡ ledger_of self.now }
+        ensures sums { result.out ≡ result.owned + result.flight }
+        ensures arenas { All (λ line. line.out + line.back ≡ line.taken) result.arenas.items }
         ensures places { All (λ line. line.place < 32) result.places.items }
     {
         Ledger {

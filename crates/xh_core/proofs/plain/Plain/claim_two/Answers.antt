@@ -1,6 +1,6 @@
 use Rattle.std.proofs.Common.{◌≡◌, ◌∙◌, ◌<◌, List, ap, sym, subst, length, Some}
 use Rattle.xh_model.specs.declared.event.Event.TheVariants.{Claim, Vacate}
-use Rattle.xh_model.specs.Cover.{State}
+use Rattle.xh_model.specs.Arena.{ArenaState}
 use Rattle.xh_model.specs.Store.{Store, after}
 use Rattle.xh_core.specs.BlockCommands.{free_record}
 use Rattle.xh_core.proofs.Claiming.{IsFree, free_is, unclaimed}
@@ -10,7 +10,7 @@ use Rattle.xh_core.proofs.plain.Plain.claim_two.Goals as goal
 pub free_record-requires-2 : goal.free_record-requires-2
 free_record-requires-2 c =
     let same = ap (λ (s : Store). s.arenas) c.claim.ensures.after ∙ claim_arenas c.args.self.now c.args.p c.in_ok-r.r in
-    subst (λ (xs : List State). c.args.arena < length xs) (sym same) c.requires.arena
+    subst (λ (xs : List ArenaState). c.args.arena < length xs) (sym same) c.requires.arena
 
 pub returns-in_default-clause-unchanged : goal.returns-in_default-clause-unchanged
 returns-in_default-clause-unchanged c = λ _.

@@ -1,6 +1,7 @@
-use Rattle.std.proofs.Common.{◌≡◌, take, map}
+use Rattle.std.proofs.Common.{◌≡◌, ◌+◌, take, map}
+use Rattle.std.specs.List.{All}
 use Rattle.xh_core.specs.PlaceCommands.{arena_line}
 use Rattle.xh_core.proofs.plain.lines.lines_of.Given as goal
 
 abbrev pub invariant-loop-arena : goal.invariant-loop-arena
-invariant-loop-arena l = l.lines.items ≡ map arena_line (take l.arena-index l.arenas)
+invariant-loop-arena l = (l.lines.items ≡ map arena_line (take l.arena-index l.arenas)) × All (λ line. line.out + line.back ≡ line.taken) l.lines.items

@@ -33,13 +33,6 @@ split-requires-clause-apart c =
     let held : holds m.store (Process c.args.p) c.args.r ≡ true = rw (← c.self.view_is) at c.in_ok-t.ensures.1.held in
     apart m.store c.args.p c.args.r c.in_ok-t.t held f.free
 
-pub split-requires-clause-empty : goal.split-requires-clause-empty
-split-requires-clause-empty c =
-    let m : Machine = record { store = c.self.inside.plain; ends = c.self.inside.ends.items; buffers = c.self.inside.memory; places = c.self.inside.places.items; lines = c.self.inside.lines.items; contracts = c.self.inside.contracts.items; opened = c.self.inside.opened; depth = c.self.inside.depth } in
-    let found : free_record m.store (c.args.r / 256) ≡ Some c.in_ok-t.t = rw (← c.self.view_is) at c.in_ok-t.ensures.1.found in
-    let f : IsFree m.store (c.args.r / 256) c.in_ok-t.t = free_is m.store (c.args.r / 256) c.in_ok-t.t c.self.invariant.store found in
-    free_buffer m c.in_ok-t.t c.self.invariant f.free
-
 pub returns-in_err-split-clause-refused : goal.returns-in_err-split-clause-refused
 returns-in_err-split-clause-refused c = λ h.
     let m : Machine = record { store = c.self.inside.plain; ends = c.self.inside.ends.items; buffers = c.self.inside.memory; places = c.self.inside.places.items; lines = c.self.inside.lines.items; contracts = c.self.inside.contracts.items; opened = c.self.inside.opened; depth = c.self.inside.depth } in
