@@ -4,7 +4,6 @@ use Rattle.std.specs.Prelude.{Option, Some, None, ◌==◌}
 use Rattle.std.proofs.lemmas.Bool.{lt-ltb}
 use lib.ListN.{get_elem?}
 use mathlib.Core.Option.{some, some-injective, some-ne-none}
-use Rattle.atomic_table.proofs.Lists.{set_here}
 use Rattle.xh_model.specs.declared.event.Holder.{Holder}
 use Rattle.xh_model.specs.declared.event.Holder.TheVariants.{Process, Direction}
 use Rattle.xh_model.specs.declared.event.Event.{Event}
@@ -13,10 +12,8 @@ use Rattle.xh_model.specs.Store.{Store, owner, arena_of, len, can, change, after
 use Rattle.xh_model.specs.Slots.{index_of, AreOwners}
 use Rattle.xh_model.specs.Words.{Ownership, IsHeldBy, IsHolder, IsDone, record_of, from_of, to_of}
 use Rattle.xh_model.proofs.Slots.{assigned}
-use Rattle.xh_records.specs.declared.shape.Shape.{Shape}
 use Rattle.xh_records.specs.After.{Wants, IsAfter}
-use Rattle.xh_records.specs.Seats.{Held, IsStep, IsEvent, home_after}
-use Rattle.xh_records.proofs.Keeps.{in_range}
+use Rattle.xh_records.proofs.History.{in_range}
 
 -- an element that is there is read whatever stands for the others
 read_or : {A : Type 0} (l : List A) (i : ℕ) (a d : A) → get_elem? l i ≡ some a → get_or l i d ≡ a
@@ -71,12 +68,3 @@ done_after n o o' e there good done m w each known wants =
       able,
       subst (λ (p : Ownership × Store). AreOwners n p.0 p.1) (λ i. (sym done.1 i, sym (does e m able) i)) (changed n o e m there inside known w wants),
     )
-
--- the step of a seat on the record of an event is the event
-pub is_event : {B : Type 0} (fits : B → ℕ → Bool) (s : Shape) (old new : Held B) (e : Event) → record_of e % 256 < s.records → IsStep fits s old new (record_of e) (from_of e) (to_of e) (home_after old e) → IsEvent fits s old new e
-is_event fits s old new e there step t o shown seen inside found =
-    let k : ℕ = index_of s.records (record_of e) in
-    let done = step t o shown seen inside found in
-    let to_there = subst (λ (q : Ownership). IsHeldBy q k (to_of e)) (sym done.1.1) (set_here o k (to_of e) inside) in
-    let good = done.2.holders k (to_of e) to_there in
-    (done.0, done.1, done_after s.records o done.0 e there good done.1, done.2)

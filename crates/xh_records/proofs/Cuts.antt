@@ -5,27 +5,28 @@ use mathlib.Core.Option.{some, some-injective, some-ne-none}
 use mathlib.Core.Logic.{dite}
 use native.Mathlib.Decide.{ℕ_discrete}
 use lib.ListN.{get_elem?}
-use Rattle.atomic_table.specs.Table.{Splits, Joins, opening}
+use Rattle.atomic_table.specs.Table.{State, Splits, Joins, opening}
 use Rattle.atomic_table.proofs.Lists.{at_set, set_here, set_else, at_longer, at_last, at_map}
 use Rattle.xh_arena.specs.Views.{LotOf}
+use Rattle.xh_model.specs.Keyed.{Among, Distinct}
+use Rattle.xh_model.proofs.Keyed.{among_back, among_either, among_front, dec_among}
 use Rattle.xh_records.specs.declared.shape.Shape.{Shape}
 use Rattle.xh_records.specs.declared.view.View.{View}
 use Rattle.xh_model.specs.declared.event.Holder.{Holder}
 use Rattle.xh_model.specs.declared.event.Holder.TheVariants.{Process}
-use Rattle.xh_model.specs.Words.{IsHeldBy, IsHolder, word_of, place_of}
-use Rattle.xh_records.specs.Showing.{Among, Sits, Owns, IsLotAt, IsEmpty, HomeFits, ViewFits, Shows, Shown, spent, joined, dealt, dealt_from, dealer, IsDealer, places_from, all_places}
-use Rattle.xh_records.specs.Seats.{SplitIsNoEvent, JoinIsNoEvent}
-use Rattle.xh_records.proofs.Keeps.{in_range, is_there, among_front, among_back, among_either}
+use Rattle.xh_model.specs.Words.{Ownership, IsHeldBy, IsHolder, word_of, place_of}
+use Rattle.xh_model.specs.declared.event.Event.{Event}
+use Rattle.xh_records.specs.History.{by_place}
+use Rattle.xh_records.proofs.History.{Same, part, two_is, lists_there, lists_back}
+use Rattle.xh_records.specs.Showing.{Sits, Owns, IsLotAt, IsEmpty, IsSmall, HomeFits, ViewFits, ViewTells, Shows, Shown, spent, joined, dealt, dealt_from, dealer, IsDealer, places_from, all_places}
+use Rattle.xh_records.proofs.Keeps.{in_range, is_there}
+use Rattle.xh_records.proofs.Distinct.{distinct_places, few_places}
 
 pub snoc_at : {A : Type 0} (l : List A) (a b : A) (j : ℕ) → get_elem? (l ++ a ∷ []) j ≡ some b → (get_elem? l j ≡ some b) ⊎ ((a ≡ b) × (j ≡ length l))
 snoc_at [] a b zero e = inr (some-injective a b e, refl)
 snoc_at [] a b (suc j) e = absurd (some-ne-none b (sym e))
 snoc_at (x ∷ xs) a b zero e = inl e
 snoc_at (x ∷ xs) a b (suc j) e = ⊎_elim (λ (t : get_elem? xs j ≡ some b). inl t) (λ (t : (a ≡ b) × (j ≡ length xs)). inr (t.0, ap suc t.1)) (snoc_at xs a b j e)
-
-dec_among : (l : List ℕ) (p : ℕ) → Dec (Among l p)
-dec_among [] p = no (λ h. h)
-dec_among (x ∷ xs) p = dite (ℕ_discrete p x) (λ e. yes (inl e)) (λ n. dite (dec_among xs p) (λ h. yes (inr h)) (λ m. no (λ h. ⊎_elim (λ (e : p ≡ x). n e) (λ (t : Among xs p). m t) h)))
 
 pick : {X : Type 0} → Dec X → ℕ → ℕ → ℕ
 pick (yes h) a b = a
@@ -53,9 +54,49 @@ pub record Cut (v l r : View) : Type 0 where
   pub hands_all : (k p : ℕ) → Owns v k p → Sits r p → Owns r k p
   pub keeps_shape : (p : ℕ) → Sits l p → l.shape ≡ v.shape
   pub hands_shape : (p : ℕ) → Sits r p → r.shape ≡ v.shape
+  pub keeps_list : (p : ℕ) → Sits l p → (es : List Event) × Among l.done (place_of p, es)
+  pub keeps_only : (q : ℕ) (es : List Event) → Among l.done (q, es) → Among v.done (q, es) × ((p : ℕ) × Sits l p × (q ≡ place_of p))
+  pub hands_list : (p : ℕ) (es : List Event) → Sits r p → Among v.done (place_of p, es) → (now : List Event) × Among r.done (place_of p, now)
+  pub hands_only : (q : ℕ) (es : List Event) → Among r.done (q, es) → Among v.done (q, es)
+  pub hands_place : (p q : ℕ) (es : List Event) → Sits v p → q ≡ place_of p → Among r.done (q, es) → (k : ℕ) × Sits r k × (q ≡ place_of k)
+  pub keeps_places : Distinct (map place_of v.processes) → Distinct (map place_of l.processes)
+  pub hands_places : Distinct (map place_of v.processes) → Distinct (map place_of r.processes)
+
+-- a list of a view, by the place
+list_at : (log : List Event) (v : View) (p q : ℕ) (es : List Event) → ViewTells log v → q ≡ place_of p → Among v.done (q, es) → Same (q, es) (part log p)
+list_at log v p q es tells at there = ap (λ (z : List Event). (q, z)) (tells.only q es there).3 ∙ ap (λ (z : ℕ). (z, by_place z log)) at
+
+-- the parts of a view that is cut
+tells_kept : (log : List Event) (v l r : View) → Cut v l r → ViewTells log v → ViewTells log l
+tells_kept log v l r cut old = record {
+  has = λ p sits. let t = cut.keeps_list p sits in subst (Among l.done) (list_at log v p (place_of p) t.0 old refl (cut.keeps_only (place_of p) t.0 t.1).0) t.1;
+  only = λ q es there. let t = cut.keeps_only q es there in (t.1.0, t.1.1, t.1.2, (old.only q es t.0).3);
+}
+
+tells_handed : (log : List Event) (v l r : View) → Cut v l r → ViewTells log v → ViewTells log r
+tells_handed log v l r cut old = record {
+  has = λ p sits. let t = cut.hands_list p (by_place (place_of p) log) sits (old.has p (cut.hands p sits)) in subst (Among r.done) (list_at log v p (place_of p) t.0 old refl (cut.hands_only (place_of p) t.0 t.1)) t.1;
+  only = λ q es there.
+      let in_v = cut.hands_only q es there in
+      let t = old.only q es in_v in
+      let k = cut.hands_place t.0 q es t.1 t.2 there in
+      (k.0, k.1, k.2, t.3);
+}
 
 module _ {B : Type 0} (fits : B → ℕ → Bool) (s : Shape) where
-  cuts : (id : ℕ) (v l r : View) → Cut v l r → SplitIsNoEvent {B = B} fits s id v l r
+  -- a table that shows an ownership still does after a seat with the view v keeps a part of it, and gives the other to a new seat
+  abbrev KeepsSplit : ℕ → View → View → View → Type 0
+  KeepsSplit id v kept given = (t : State (Option (LotOf B)) View) (o : Ownership) → Shows fits s o t.words t.homes t.views → get_elem? t.views id ≡ some v
+      → Shows fits s o t.words t.homes (set t.views id kept ++ given ∷ [])
+
+  -- the same of two seats with the views v and w, of which the first has both afterwards, and the other is spent
+  abbrev KeepsJoin : ℕ → View → ℕ → View → View → Type 0
+  KeepsJoin id v other w both = (t : State (Option (LotOf B)) View) (o : Ownership) → Shows fits s o t.words t.homes t.views → get_elem? t.views id ≡ some v
+      → other ≢ id → get_elem? t.views other ≡ some w
+      → Shows fits s o t.words t.homes (set (set t.views id both) other spent)
+
+module _ {B : Type 0} (fits : B → ℕ → Bool) (s : Shape) where
+  cuts : (id : ℕ) (v l r : View) → Cut v l r → KeepsSplit {B = B} fits s id v l r
   cuts id v l r cut t o shown here = after
     where
       vs : List View
@@ -81,6 +122,7 @@ module _ {B : Type 0} (fits : B → ℕ → Bool) (s : Shape) where
         is_owner = λ k p owns. let w = cut.keeps_record k p owns in let z = old.is_owner k p w.0 in (z.0, w.1 z.1);
         owns_all = λ k p is sits. cut.keeps_all k p (old.owns_all k p is (cut.keeps p sits)) sits;
         knows = λ p sits. cut.keeps_shape p sits ∙ old.knows p (cut.keeps p sits);
+        places = cut.keeps_places old.places;
       }
 
       r_fits : ViewFits s o r
@@ -88,6 +130,7 @@ module _ {B : Type 0} (fits : B → ℕ → Bool) (s : Shape) where
         is_owner = λ k p owns. let w = cut.hands_record k p owns in let z = old.is_owner k p w.0 in (z.0, w.1 z.1);
         owns_all = λ k p is sits. cut.hands_all k p (old.owns_all k p is (cut.hands p sits)) sits;
         knows = λ p sits. cut.hands_shape p sits ∙ old.knows p (cut.hands p sits);
+        places = cut.hands_places old.places;
       }
 
       there : (j : ℕ) (u : View) → get_elem? (set vs id l ++ r ∷ []) j ≡ some u → (((j ≡ id) × (l ≡ u)) ⊎ ((j ≢ id) × (get_elem? vs j ≡ some u))) ⊎ ((r ≡ u) × (j ≡ n))
@@ -131,13 +174,23 @@ module _ {B : Type 0} (fits : B → ℕ → Bool) (s : Shape) where
             (λ (a : ((j ≡ id) × (l ≡ u)) ⊎ ((j ≢ id) × (get_elem? vs j ≡ some u))). ⊎_elim (λ (x : (j ≡ id) × (l ≡ u)). subst (ViewFits s o) x.1 l_fits) (λ (x : (j ≢ id) × (get_elem? vs j ≡ some u)). shown.views_fit j u x.1) a)
             (λ (x : (r ≡ u) × (j ≡ n)). subst (ViewFits s o) x.0 r_fits)
             (there j u e);
+        small = shown.small;
+        log = shown.log;
+        history = let told = shown.history.tells id v here in record {
+          leads = shown.history.leads;
+          theirs = shown.history.theirs;
+          tells = λ j u e. ⊎_elim
+              (λ (a : ((j ≡ id) × (l ≡ u)) ⊎ ((j ≢ id) × (get_elem? vs j ≡ some u))). ⊎_elim (λ (x : (j ≡ id) × (l ≡ u)). subst (ViewTells shown.log) x.1 (tells_kept shown.log v l r cut told)) (λ (x : (j ≢ id) × (get_elem? vs j ≡ some u)). shown.history.tells j u x.1) a)
+              (λ (x : (r ≡ u) × (j ≡ n)). subst (ViewTells shown.log) x.0 (tells_handed shown.log v l r cut told))
+              (there j u e);
+        };
       }
 
-  pub splits : (id : ℕ) (v l r : View) → SplitIsNoEvent {B = B} fits s id v l r → Splits (Shown {B = B} fits s) id v l r
+  pub splits : (id : ℕ) (v l r : View) → KeepsSplit {B = B} fits s id v l r → Splits (Shown {B = B} fits s) id v l r
   splits id v l r none t holds here = (holds.0, none t holds.0 holds.1 here)
 
   -- the joining seat has a place
-  pub joins_both : (id other p₀ : ℕ) (v w : View) → Sits v p₀ → JoinIsNoEvent {B = B} fits s id v other w (joined v w)
+  pub joins_both : (id other p₀ : ℕ) (v w : View) → Sits v p₀ → KeepsJoin {B = B} fits s id v other w (joined v w)
   joins_both id other p₀ v w placed t o shown here apart w_here = after
     where
       vs : List View
@@ -163,10 +216,30 @@ module _ {B : Type 0} (fits : B → ℕ → Bool) (s : Shape) where
         is_owner = λ k p owns. ⊎_elim (λ (a : Owns v k p). let z = fit_v.is_owner k p a in (z.0, among_front v.processes w.processes p z.1)) (λ (b : Owns w k p). let z = fit_w.is_owner k p b in (z.0, among_back v.processes w.processes p z.1)) (among_either v.records w.records (k, p) owns);
         owns_all = λ k p is sits. ⊎_elim (λ (a : Sits v p). among_front v.records w.records (k, p) (fit_v.owns_all k p is a)) (λ (b : Sits w p). among_back v.records w.records (k, p) (fit_w.owns_all k p is b)) (among_either v.processes w.processes p sits);
         knows = λ p sits. fit_v.knows p₀ placed;
+        places = distinct_places v.processes w.processes fit_v.places fit_w.places
+            (λ p q in_v in_w e. apart ((shown.alone other q w w_here in_w).2 ∙ sym (ap shown.seat_of e) ∙ sym (shown.alone id p v here in_v).2));
       }
 
+      told_v : ViewTells shown.log v
+      told_v = shown.history.tells id v here
+
+      told_w : ViewTells shown.log w
+      told_w = shown.history.tells other w w_here
+
+      both_tells : ViewTells shown.log both
+      both_tells = record {
+        has = λ p sits. ⊎_elim (λ (a : Sits v p). among_front v.done w.done (part shown.log p) (told_v.has p a)) (λ (b : Sits w p). among_back v.done w.done (part shown.log p) (told_w.has p b)) (among_either v.processes w.processes p sits);
+        only = λ q es told. ⊎_elim
+            (λ (a : Among v.done (q, es)). let t = told_v.only q es a in (t.0, among_front v.processes w.processes t.0 t.1, t.2, t.3))
+            (λ (b : Among w.done (q, es)). let t = told_w.only q es b in (t.0, among_back v.processes w.processes t.0 t.1, t.2, t.3))
+            (among_either v.done w.done (q, es) told);
+      }
+
+      spent_tells : ViewTells shown.log spent
+      spent_tells = record { has = λ p sits. absurd sits; only = λ q es told. absurd told }
+
       spent_fits : ViewFits s o spent
-      spent_fits = record { is_owner = λ k p owns. absurd owns; owns_all = λ k p is sits. absurd sits; knows = λ p sits. absurd sits }
+      spent_fits = record { is_owner = λ k p owns. absurd owns; owns_all = λ k p is sits. absurd sits; knows = λ p sits. absurd sits; places = tt }
 
       there : (j : ℕ) (u : View) → get_elem? now j ≡ some u → ((j ≡ other) × (spent ≡ u)) ⊎ ((j ≢ other) × (((j ≡ id) × (both ≡ u)) ⊎ ((j ≢ id) × (get_elem? vs j ≡ some u))))
       there j u e = ⊎_elim (λ (a : (j ≡ other) × (spent ≡ u)). inl a) (λ (b : (j ≢ other) × (get_elem? (set vs id both) j ≡ some u)). inr (b.0, at_set vs id j both u b.1)) (at_set (set vs id both) other j spent u e)
@@ -208,9 +281,19 @@ module _ {B : Type 0} (fits : B → ℕ → Bool) (s : Shape) where
             (λ (a : (j ≡ other) × (spent ≡ u)). subst (ViewFits s o) a.1 spent_fits)
             (λ (b : (j ≢ other) × (((j ≡ id) × (both ≡ u)) ⊎ ((j ≢ id) × (get_elem? vs j ≡ some u)))). ⊎_elim (λ (x : (j ≡ id) × (both ≡ u)). subst (ViewFits s o) x.1 both_fits) (λ (x : (j ≢ id) × (get_elem? vs j ≡ some u)). shown.views_fit j u x.1) b.1)
             (there j u e);
+        small = shown.small;
+        log = shown.log;
+        history = record {
+          leads = shown.history.leads;
+          theirs = shown.history.theirs;
+          tells = λ j u e. ⊎_elim
+              (λ (a : (j ≡ other) × (spent ≡ u)). subst (ViewTells shown.log) a.1 spent_tells)
+              (λ (b : (j ≢ other) × (((j ≡ id) × (both ≡ u)) ⊎ ((j ≢ id) × (get_elem? vs j ≡ some u)))). ⊎_elim (λ (x : (j ≡ id) × (both ≡ u)). subst (ViewTells shown.log) x.1 both_tells) (λ (x : (j ≢ id) × (get_elem? vs j ≡ some u)). shown.history.tells j u x.1) b.1)
+              (there j u e);
+        };
       }
 
-  pub joins : (id other : ℕ) (v w both : View) → JoinIsNoEvent {B = B} fits s id v other w both → Joins (Shown {B = B} fits s) id v other w both spent
+  pub joins : (id other : ℕ) (v w both : View) → KeepsJoin {B = B} fits s id v other w both → Joins (Shown {B = B} fits s) id v other w both spent
   joins id other v w both none t holds here apart seen = (holds.0, none t holds.0 holds.1 here apart (sym (set_else t.views id other both apart) ∙ seen))
 
 -- a new seat of one place
@@ -230,6 +313,13 @@ deal_cut s p k = record {
   hands_all = λ r q h m. h;
   keeps_shape = λ q h. refl;
   hands_shape = λ q h. refl;
+  keeps_list = λ q h. ([], lists_there (places_from (suc p) k) q h);
+  keeps_only = λ q es h. let t = lists_back (places_from (suc p) k) q es h in (inr h, (t.0, t.1, t.2));
+  hands_list = λ q es h there. ⊎_elim (λ (e : q ≡ p). ([], inl (ap (λ (z : ℕ). (place_of z, [])) e))) (λ (z : ⊥). absurd z) h;
+  hands_only = λ q es h. ⊎_elim (λ (e : Same (q, es) (place_of p, [])). inl e) (λ (z : ⊥). absurd z) h;
+  hands_place = λ j q es sits at h. ⊎_elim (λ (e : Same (q, es) (place_of p, [])). (p, inl refl, (two_is q (place_of p) es [] e).0)) (λ (z : ⊥). absurd z) h;
+  keeps_places = λ d. d.1;
+  hands_places = λ d. ((λ z. z), tt);
 }
 
 whole_cut : (v : View) → Cut v spent v
@@ -244,13 +334,20 @@ whole_cut v = record {
   hands_all = λ r q h m. h;
   keeps_shape = λ q h. absurd h;
   hands_shape = λ q h. refl;
+  keeps_list = λ q h. absurd h;
+  keeps_only = λ q es h. absurd h;
+  hands_list = λ q es h there. (es, there);
+  hands_only = λ q es h. h;
+  hands_place = λ p q es sits at h. (p, sits, at);
+  keeps_places = λ d. tt;
+  hands_places = λ d. d;
 }
 
-pub deals : {B : Type 0} (fits : B → ℕ → Bool) (s : Shape) (id : ℕ) (v : View) → IsDealer v → SplitIsNoEvent {B = B} fits s id v (dealt_from v) (dealt v)
+pub deals : {B : Type 0} (fits : B → ℕ → Bool) (s : Shape) (id : ℕ) (v : View) → IsDealer v → KeepsSplit {B = B} fits s id v (dealt_from v) (dealt v)
 deals {B} fits s id v is = let z : Shape = is.0 in let p : ℕ = is.1 in let k : ℕ = is.2 in
-    subst (λ (u : View). SplitIsNoEvent {B = B} fits s id u (dealt_from u) (dealt u)) (sym is.3) (cuts fits s id (dealer z p (suc k)) (dealer z (suc p) k) (dealt (dealer z p (suc k))) (deal_cut z p k))
+    subst (λ (u : View). KeepsSplit {B = B} fits s id u (dealt_from u) (dealt u)) (sym is.3) (cuts fits s id (dealer z p (suc k)) (dealer z (suc p) k) (dealt (dealer z p (suc k))) (deal_cut z p k))
 
-pub hands_over : {B : Type 0} (fits : B → ℕ → Bool) (s : Shape) (id : ℕ) (v : View) → SplitIsNoEvent {B = B} fits s id v spent v
+pub hands_over : {B : Type 0} (fits : B → ℕ → Bool) (s : Shape) (id : ℕ) (v : View) → KeepsSplit {B = B} fits s id v spent v
 hands_over fits s id v = cuts fits s id v spent v (whole_cut v)
 
 -- the table at the start
@@ -279,9 +376,9 @@ from_most : (a k p : ℕ) → Among (places_from a k) p → p < a + k
 from_most a zero p h = absurd h
 from_most a (suc k) p h = ⊎_elim (λ (e : p ≡ a). omega arith) (λ (t : Among (places_from (suc a) k) p). let l = from_most (suc a) k p t in omega arith) h
 
-pub opens : {B : Type 0} (fits : B → ℕ → Bool) (s : Shape) (n : ℕ) (words : List ℕ) (lots : List (LotOf B)) (slots : List (Option (LotOf B))) → s.places ≤ 32 → words ≡ replicate n 0 → slots ≡ map Some lots → length lots ≡ n → ((k : ℕ) (l : LotOf B) → get_elem? lots k ≡ some l → IsLotAt s k l × IsEmpty l)
+pub opens : {B : Type 0} (fits : B → ℕ → Bool) (s : Shape) (n : ℕ) (words : List ℕ) (lots : List (LotOf B)) (slots : List (Option (LotOf B))) → s.places ≤ 32 → words ≡ replicate n 0 → slots ≡ map Some lots → length lots ≡ n → ((k : ℕ) (l : LotOf B) → get_elem? lots k ≡ some l → IsLotAt s k l × IsEmpty l) → IsSmall s
     → Shown fits s (opening words slots (all_places s))
-opens {B} fits s n words lots slots few zeros wrapped long empty = (
+opens {B} fits s n words lots slots few zeros wrapped long empty small = (
   replicate n None,
   record {
     words_are = zeros ∙ all_free n;
@@ -298,6 +395,9 @@ opens {B} fits s n words lots slots few zeros wrapped long empty = (
     seated = λ q lt. (all_places s, refl, sits_from 0 s.places q (omega arith) (omega arith), (let m : s.places ≤ 32 = few in let e : q % 32 ≡ q = omega arith in e));
     alone = λ id p v there sits. only id p v there sits;
     views_fit = λ id v there. first id v there;
+    small = small;
+    log = [];
+    history = record { leads = ap (λ (k : ℕ). replicate k None) (sym (length-none n)); theirs = λ e h. absurd h; tells = λ id v there. told id v there };
   },
 )
   where
@@ -309,7 +409,14 @@ opens {B} fits s n words lots slots few zeros wrapped long empty = (
     only (suc id) p v there sits = absurd (some-ne-none v (sym there))
 
     begins : ViewFits s (replicate n None) (all_places s)
-    begins = record { is_owner = λ r p h. absurd h; owns_all = λ r p is h. absurd (nobody r p is); knows = λ p h. refl }
+    begins = record { is_owner = λ r p h. absurd h; owns_all = λ r p is h. absurd (nobody r p is); knows = λ p h. refl; places = few_places 0 s.places (omega (arith, few)) }
+
+    untold : ViewTells [] (all_places s)
+    untold = record { has = λ p sits. lists_there (places_from 0 s.places) p sits; only = λ q es there. let t = lists_back (places_from 0 s.places) q es there in (t.0, t.1, t.2, t.3) }
+
+    told : (id : ℕ) (v : View) → get_elem? (all_places s ∷ []) id ≡ some v → ViewTells [] v
+    told zero v there = subst (ViewTells []) (some-injective (all_places s) v there) untold
+    told (suc id) v there = absurd (some-ne-none v (sym there))
 
     first : (id : ℕ) (v : View) → get_elem? (all_places s ∷ []) id ≡ some v → ViewFits s (replicate n None) v
     first zero v there = subst (ViewFits s (replicate n None)) (some-injective (all_places s) v there) begins

@@ -1,5 +1,5 @@
 -- The closed table: its words, the lots at home, and those that the seats had.
-use Rattle.std.proofs.Common.{◌≡◌, ℕ, zero, suc, ◌<◌, ◌≤◌, Bool, List, [], ◌∷◌, ◌++◌, length, take, get_or, sym, refl, ap, ◌∙◌, subst, inl, inr, ⊎_elim, arith, cond, ne_eqb, rules}
+use Rattle.std.proofs.Common.{◌≡◌, ℕ, zero, suc, ◌*◌, ◌<◌, map, length-append, ◌≤◌, Bool, List, [], ◌∷◌, ◌++◌, length, take, get_or, sym, refl, ap, ◌∙◌, subst, inl, inr, ⊎_elim, arith, cond, ne_eqb, rules}
 use Rattle.std.specs.Prelude.{Option, Some, None, slice_get}
 use Rattle.std.specs.Option.{option_or, IsSome}
 use Rattle.atomic_table.proofs.Lists.{at_index}
@@ -12,23 +12,48 @@ use Rattle.xh_arena.specs.Views.{LotOf}
 use Rattle.xh_model.specs.declared.event.Holder.{Holder}
 use Rattle.xh_model.specs.declared.event.Holder.TheVariants.{Process, Direction}
 use Rattle.xh_model.specs.Slots.{index_of}
+use Rattle.xh_model.specs.declared.event.Event.{Event}
 use Rattle.xh_model.specs.Words.{Ownership, IsHeldBy, word_of, place_of, number_of}
 use Rattle.xh_model.proofs.Words.{index_back}
+use Rattle.xh_model.specs.Keyed.{Among, Distinct, keys, value_at}
+use Rattle.xh_model.proofs.Keyed.{among_back, among_either, among_front}
 use Rattle.xh_records.specs.declared.shape.Shape.{Shape}
 use Rattle.xh_records.specs.declared.view.View.{View}
-use Rattle.xh_records.specs.Showing.{Among, Sits, Owns, IsAway, ViewFits, Shows, Shown, spent}
-use Rattle.xh_records.specs.Seats.{Held, keys, owned_by, indices, lot_at, lot_in, slot_at, or_else, view_of, IsSmall, IsGathered, AllSit, Ends, EndsAs}
-use Rattle.xh_records.proofs.Keeps.{among_either, among_front, among_back, in_range, is_there, one_holder, same_place, never}
+use Rattle.xh_records.specs.Showing.{Sits, Owns, IsAway, ViewFits, Shows, Shown, spent}
+use Rattle.xh_records.specs.Seats.{Held, owned_by, indices, lot_in, slot_at, or_else, view_of, IsSmall, IsGathered, Ends, EndsAs}
+use Rattle.xh_records.proofs.Keeps.{in_range, is_there, one_holder, same_place, never}
 use Rattle.xh_records.proofs.Lists.{among_owned, none_or_some, elem_slice, slice_elem}
 use Rattle.xh_records.proofs.Numbered.{among_map}
+use Rattle.xh_records.proofs.Distinct.{process_in, not_twice, distinct_front, covers}
+use Rattle.xh_records.proofs.Cuts.{mapped_length}
+
+-- each place has its seat among these
+abbrev AllSit : {B : Type 0} → ℕ → List (Held B) → Type 0
+AllSit {B} places seats = (q : ℕ) → q < places → (j : ℕ) × (x : Held B) × (slice_get seats j ≡ Some x) × (place_of x.process ≡ q)
 
 -- one more seat is gathered
-pub gathers : {B : Type 0} (m : ℕ) (seats : List (Held B)) (x : Held B) (v v' : View) (held held' : List (Option (LotOf B))) → get_elem? seats m ≡ some x → IsGathered (suc m) seats v held → v'.processes ≡ v.processes ++ x.process ∷ [] → v'.records ≡ v.records ++ (view_of x).records → length held' ≡ length held
+pub gathers : {B : Type 0} (m : ℕ) (seats : List (Held B)) (x : Held B) (v v' : View) (held held' : List (Option (LotOf B))) → get_elem? seats m ≡ some x → IsGathered (suc m) seats v held → v'.processes ≡ v.processes ++ x.process ∷ [] → v'.records ≡ v.records ++ (view_of x).records → v'.done ≡ v.done ++ (view_of x).done → length held' ≡ length held
     → ((r : ℕ) → Among (indices x) r → (l : LotOf B) × (lot_in r x ≡ Some l)) → ((r : ℕ) → r < length held → slot_at held' r ≡ or_else (lot_in r x) (slot_at held r)) → IsGathered m seats v' held'
-gathers {B} m seats x v v' held held' at old places records long has fill = record {
+gathers {B} m seats x v v' held held' at old places records lists long has fill = record {
+  each = λ p h. ⊎_elim
+      (λ (a : Among v.processes p). old.each p a)
+      (λ (b : Among (x.process ∷ []) p). (m, x, at, ⊎_elim (λ (e : p ≡ x.process). sym e) (λ (z : ⊥). absurd z) b))
+      (among_either v.processes (x.process ∷ []) p (subst (λ (l : List ℕ). Among l p) places h));
+  count = let c = old.count in let l = ap length places ∙ length-append v.processes (x.process ∷ []) in omega arith;
+  one = λ d i j y z at_y at_z le le' e.
+      let d' : Distinct (map place_of (v.processes ++ x.process ∷ [])) = subst (λ (l : List ℕ). Distinct (map place_of l)) places d in
+      dite (ℕ_discrete i m)
+      (λ a. dite (ℕ_discrete j m) (λ b. a ∙ sym b)
+      (λ n. absurd (not_twice v.processes x.process z.process d' (old.sits j z at_z (omega arith)) (ap place_of (sym e ∙ ap (λ (u : Held B). u.process) (same i y a at_y))))))
+      (λ k. dite (ℕ_discrete j m)
+      (λ b. absurd (not_twice v.processes x.process y.process d' (old.sits i y at_y (omega arith)) (ap place_of (e ∙ ap (λ (u : Held B). u.process) (same j z b at_z)))))
+      (λ n. old.one (distinct_front v.processes x.process d') i j y z at_y at_z (omega arith) (omega arith) e));
   sits = λ k y there le. dite (ℕ_discrete k m)
       (λ e. subst (λ (l : List ℕ). Among l y.process) (sym places) (among_back v.processes (x.process ∷ []) y.process (inl (ap (λ (z : Held B). z.process) (same k y e there)))))
       (λ n. subst (λ (l : List ℕ). Among l y.process) (sym places) (among_front v.processes (x.process ∷ []) y.process (old.sits k y there (omega arith))));
+  done = λ k y there le. dite (ℕ_discrete k m)
+      (λ e. subst (λ (l : List (ℕ × List Event)). Among l (place_of y.process, y.done)) (sym lists) (among_back v.done (view_of x).done (place_of y.process, y.done) (inl (ap (λ (z : Held B). (place_of z.process, z.done)) (same k y e there)))))
+      (λ n. subst (λ (l : List (ℕ × List Event)). Among l (place_of y.process, y.done)) (sym lists) (among_front v.done (view_of x).done (place_of y.process, y.done) (old.done k y there (omega arith))));
   records = λ r p owns. ⊎_elim
       (λ (a : Owns v r p). let t = old.records r p a in (t.0, t.1, t.2, let le : suc m ≤ t.0 = t.3 in omega arith, t.4))
       (λ (b : Among (view_of x).records (r, p)). (m, x, at, omega arith, b))
@@ -55,9 +80,13 @@ gathers {B} m seats x v v' held held' at old places records long has fill = reco
     same k y e there = some-injective y x (sym there ∙ ap (get_elem? seats) e ∙ at)
 
 -- none is gathered yet
-pub gathers_none : {B : Type 0} (seats : List (Held B)) (m : ℕ) (held : List (Option (LotOf B))) → length seats ≤ m → ((r : ℕ) → r < length held → slot_at held r ≡ None) → IsGathered m seats spent held
+pub gathers_none : {B : Type 0} (seats : List (Held B)) (m : ℕ) (held : List (Option (LotOf B))) → length seats ≡ m → ((r : ℕ) → r < length held → slot_at held r ≡ None) → IsGathered m seats spent held
 gathers_none {B} seats m held past none_there = record {
+  each = λ p h. absurd h;
+  count = omega (arith, past);
+  one = λ d i j x y at_x at_y le le' e. absurd (let k = in_range seats i x at_x in omega arith);
   sits = λ k y there le. absurd (let i = in_range seats k y there in omega arith);
+  done = λ k y there le. absurd (let i = in_range seats k y there in omega arith);
   records = λ r p owns. absurd owns;
   all_records = λ k r p y there le owns. absurd (let i = in_range seats k y there in omega arith);
   lots = λ r l below e. let f : None ≡ Some l = sym (none_there r below) ∙ e in absurd (cc);
@@ -74,9 +103,9 @@ owned_back : (q : ℕ) (xs : List ℕ) (r p : ℕ) → Among (owned_by q xs) (r,
 owned_back q [] r p h = absurd h
 owned_back q (x ∷ xs) r p h = ⊎_elim (λ (e : (r, p) ≡ (x, q)). (inl (ap (λ (z : ℕ × ℕ). z.0) e), ap (λ (z : ℕ × ℕ). z.1) e)) (λ (t : Among (owned_by q xs) (r, p)). let u = owned_back q xs r p t in (inr u.0, u.1)) h
 
-has_key : {L : Type 0} (r : ℕ) (lots : List (ℕ × L)) (l : L) → lot_at r lots ≡ Some l → Among (keys lots) r
+has_key : {L : Type 0} (r : ℕ) (lots : List (ℕ × L)) (l : L) → value_at r lots ≡ Some l → Among (keys lots) r
 has_key r [] l = λ e. absurd (cc)
-has_key {L} r (y ∷ ys) l = dite (ℕ_discrete y.0 r) (λ same e. inl (sym same)) (λ n. subst (λ (b : Bool). cond b (Some y.1) (lot_at r ys) ≡ Some l → Among (keys (y ∷ ys)) r) (sym (ne_eqb y.0 r n)) (λ (e : lot_at r ys ≡ Some l). inr (has_key r ys l e)))
+has_key {L} r (y ∷ ys) l = dite (ℕ_discrete y.0 r) (λ same e. inl (sym same)) (λ n. subst (λ (b : Bool). cond b (Some y.1) (value_at r ys) ≡ Some l → Among (keys (y ∷ ys)) r) (sym (ne_eqb y.0 r n)) (λ (e : value_at r ys ≡ Some l). inr (has_key r ys l e)))
 
 has_index : {B : Type 0} (x : Held B) (k : ℕ) (l : LotOf B) → IsSmall x.shape → lot_in k x ≡ Some l → Among (indices x) k
 has_index x k l small e = let n : ℕ = x.shape.records in
@@ -88,7 +117,7 @@ take_one_more (x ∷ xs) zero a e = λ k. some-injective x a e k ∷ []
 take_one_more {A} (x ∷ xs) (suc i) a e = ap (λ (z : List A). x ∷ z) (take_one_more xs i a e)
 
 module _ {B : Type 0} (fits : B → ℕ → Bool) (s : Shape) (id : ℕ) (v : View) (ws : List ℕ) (xs : List (Option (LotOf B))) (seats : List (Held B)) (held : List (Option (LotOf B)))
-    (final : Final (Seen (Shown fits s) id v) ws xs) (gathered : IsGathered 0 seats v held) (long : length held ≡ length xs) (small : IsSmall s) (own : (j : ℕ) (x : Held B) → slice_get seats j ≡ Some x → x.shape ≡ s) (all : AllSit s.places seats) where
+    (final : Final (Seen (Shown fits s) id v) ws xs) (gathered : IsGathered 0 seats v held) (long : length held ≡ length xs) (small : IsSmall s) (own : (j : ℕ) (x : Held B) → slice_get seats j ≡ Some x → x.shape ≡ s) (every : length seats ≡ s.places) (sized : length xs ≡ length s.names * s.records) where
   abbrev pub t : State (Option (LotOf B)) View
   t = final.0
 
@@ -100,6 +129,16 @@ module _ {B : Type 0} (fits : B → ℕ → Bool) (s : Shape) (id : ℕ) (v : Vi
 
   fit : ViewFits s o v
   fit = shown.views_fit id v final.1.1
+
+  -- each place has its seat
+  all : AllSit s.places seats
+  all q inside =
+      let places : List ℕ = map place_of v.processes in
+      let long : length places ≡ s.places = mapped_length place_of v.processes ∙ (let c = gathered.count in let e = every in omega arith) in
+      let below : (x : ℕ) → Among places x → x < s.places = λ x h. let r = process_in v.processes x h in subst (λ (z : ℕ). z < s.places) r.2 (shown.alone id r.0 v final.1.1 r.1).0 in
+      let r = process_in v.processes q (covers s.places places fit.places below long q inside) in
+      let t = gathered.each r.0 r.1 in
+      (t.0, t.1, elem_slice seats t.0 t.1 t.2, ap place_of t.3 ∙ r.2)
 
   count : length o ≡ length held
   count = sym shown.homes_long ∙ final.3 ∙ sym long
@@ -156,11 +195,17 @@ module _ {B : Type 0} (fits : B → ℕ → Bool) (s : Shape) (id : ℕ) (v : Vi
   pub ends : (lots : List (LotOf B)) → length lots ≡ length xs → ((k : ℕ) (l : LotOf B) → get_elem? lots k ≡ some l → or_else (slot_at held k) (slot_at xs k) ≡ Some l) → Ends fits s seats ws lots
   ends lots size are = record {
     owners = o;
+    log = shown.log;
+    leads = shown.history.leads;
+    theirs = shown.history.theirs;
+    parts = λ j x at. ((shown.history.tells id v final.1.1).only (place_of x.process) x.done (gathered.done j x (slice_elem seats j x at) (omega arith))).3;
     holders = shown.holders;
     words_are = sym final.2 ∙ shown.words_are;
     lots_long = size ∙ sym long ∙ sym count;
+    all = size ∙ sized;
     lots_are = λ k h l is at. let e = ended k h is in let f : Some e.0 ≡ Some l = sym e.1 ∙ are k l (slice_elem lots k l at) in let same : e.0 ≡ l = cc in subst (EndsAs fits s seats k h) same e.2;
     held = λ j k x l at e. by_seat j k x l (slice_elem seats j x at) e;
+    one = λ i j x y at_x at_y e. gathered.one fit.places i j x y (slice_elem seats i x at_x) (slice_elem seats j y at_y) (omega arith) (omega arith) e;
   }
 
 -- one more slot that has no lot

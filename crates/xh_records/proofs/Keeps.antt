@@ -1,5 +1,5 @@
 -- A step on one record's word keeps the rule.
-use Rattle.std.proofs.Common.{◌≡◌, ℕ, zero, suc, ◌+◌, ◌<◌, ◌≢◌, Bool, List, [], ◌∷◌, ◌++◌, map, length, set, get_or, eqb, sym, refl, ap, ◌∙◌, subst, ◌⊎◌, inl, inr, ⊎_elim, arith, length-set, ne_eqb, eq-eqb, cond}
+use Rattle.std.proofs.Common.{◌≡◌, ℕ, zero, suc, ◌+◌, ◌%◌, ◌<◌, ◌≢◌, Bool, List, [], ◌∷◌, ◌++◌, map, length, set, get_or, eqb, sym, refl, ap, ◌∙◌, subst, inl, inr, ⊎_elim, arith, length-set, ne_eqb, eq-eqb, cond}
 use Rattle.std.specs.Prelude.{Option, Some, None}
 use mathlib.Core.Option.{none, some, some-injective, some-ne-none}
 use mathlib.Core.Option as maybe
@@ -7,25 +7,28 @@ use mathlib.Core.Logic.{dite}
 use native.Mathlib.Decide.{ℕ_discrete}
 use lib.ListN.{get_elem?}
 use lib.Seq.{map-set}
-use Rattle.atomic_table.specs.Table.{State, Me, Act, put_back, takes, gives, keeps, step, stepped, Allows}
+use Rattle.atomic_table.specs.Table.{State, Me, Act, rest, put_back, takes, gives, keeps, step, stepped, Allows}
 use Rattle.atomic_table.proofs.Lists.{at_set, set_here, set_else, set_again, at_map}
 use Rattle.xh_arena.specs.Views.{LotOf}
+use Rattle.xh_model.specs.Keyed.{Among, Distinct, without}
+use Rattle.xh_model.proofs.Keyed.{among_back, among_either, among_front}
 use Rattle.xh_records.specs.declared.shape.Shape.{Shape}
 use Rattle.xh_records.specs.declared.view.View.{View}
 use Rattle.xh_model.specs.declared.event.Holder.{Holder}
 use Rattle.xh_model.specs.declared.event.Holder.TheVariants.{Process, Direction}
-use Rattle.xh_model.specs.Words.{Ownership, IsHeldBy, IsHolder, word_of, place_of}
-use Rattle.xh_model.proofs.Words.{word_injective}
+use Rattle.xh_model.specs.declared.event.Event.{Event}
+use Rattle.xh_model.specs.Slots.{index_of}
+use Rattle.xh_model.specs.Words.{Ownership, IsHeldBy, IsHolder, IsDone, word_of, place_of, number_of, record_of, from_of, to_of}
+use Rattle.xh_model.proofs.Words.{word_injective, index_back, number_inside}
+use Rattle.xh_records.specs.History.{taking, giving, process_of, by_place}
+use Rattle.xh_records.proofs.History.{more_history}
+pub use Rattle.xh_records.proofs.History.{in_range}
+use Rattle.xh_records.proofs.After.{done_after}
 use Rattle.xh_records.specs.Steps.{Knows, took, gave, looked, aged, process_in}
 use prog.Atomic.{either}
-use Rattle.xh_records.specs.Showing.{Among, Sits, Owns, IsLotAt, IsAway, IsHomeLot, HomeFits, ViewFits, Shows, Shown, gained, lost, renewed, without}
+use Rattle.xh_records.specs.Showing.{Sits, Owns, IsLotAt, IsAway, IsHomeLot, HomeFits, ViewFits, ViewTells, IsAlone, IsSmall, Shows, Shown, adds, gained, lost, renewed}
 
 -- lists
-pub in_range : {A : Type 0} (l : List A) (i : ℕ) (a : A) → get_elem? l i ≡ some a → i < length l
-in_range [] i a e = absurd (some-ne-none a (sym e))
-in_range (x ∷ xs) zero a e = omega arith
-in_range (x ∷ xs) (suc i) a e = let h = in_range xs i a e in omega arith
-
 pub is_there : {A : Type 0} (l : List A) (i : ℕ) → i < length l → (a : A) × (get_elem? l i ≡ some a)
 is_there [] i h = absurd (omega arith)
 is_there (x ∷ xs) zero h = (x, refl)
@@ -58,8 +61,17 @@ pub record Change (v w : View) (r : ℕ) (h k : Option Holder) : Type 0 where
   pub right : (p : ℕ) → Owns w r p → k ≡ Some (Process p)
   pub left : (p : ℕ) → k ≡ Some (Process p) → Owns w r p
 
+-- the event by which it does
+pub record By (s : Shape) (v w : View) (r : ℕ) (h k : Option Holder) (e : Event) : Type 0 where
+  pub inside : record_of e % 256 < s.records
+  pub index : index_of s.records (record_of e) ≡ r
+  pub from : from_of e ≡ h
+  pub to : to_of e ≡ k
+  pub alone : IsAlone v (process_of e)
+  pub done : w.done ≡ adds e v.done
+
 module _ {B : Type 0} (fits : B → ℕ → Bool) (s : Shape) (o : Ownership) (ws : List ℕ) (hs : List (maybe.Option (Option (LotOf B)))) (vs : List View) (shown : Shows fits s o ws hs vs)
-    (id r : ℕ) (v w : View) (h k : Option Holder) (at : get_elem? vs id ≡ some v) (held : IsHeldBy o r h) (change : Change v w r h k) where
+    (id r : ℕ) (v w : View) (h k : Option Holder) (at : get_elem? vs id ≡ some v) (held : IsHeldBy o r h) (change : Change v w r h k) (e : Event) (by : By s v w r h k e) where
   abbrev o' : Ownership
   o' = set o r k
 
@@ -82,6 +94,7 @@ module _ {B : Type 0} (fits : B → ℕ → Bool) (s : Shape) (o : Ownership) (w
         (λ (t : (r' ≢ r) × (get_elem? o r' ≡ some (Some (Process p)))). change.no_less r' p t.0 (old.owns_all r' p t.1 (sat p there)))
         (at_set o r r' k (Some (Process p)) is);
     knows = λ p there. change.shape ∙ old.knows p (sat p there);
+    places = subst (λ (l : List ℕ). Distinct (map place_of l)) (sym change.processes) old.places;
   }
 
   apart : (j p : ℕ) (u : View) → j ≢ id → get_elem? vs j ≡ some u → Sits u p → Sits v p → ⊥
@@ -97,7 +110,17 @@ module _ {B : Type 0} (fits : B → ℕ → Bool) (s : Shape) (o : Ownership) (w
         (λ (t : (r' ≢ r) × (get_elem? o r' ≡ some (Some (Process p)))). old.owns_all r' p t.1 sat)
         (at_set o r r' k (Some (Process p)) is);
     knows = old.knows;
+    places = old.places;
   }
+
+  done : IsDone s.records o e o'
+  done = subst (λ (z : ℕ × Option Holder × Option Holder). IsHeldBy o z.0 z.1 × (set o r k ≡ set o z.0 z.2)) (λ i. (sym by.index i, sym by.from i, sym by.to i)) (held, refl)
+
+  mine : Sits v (process_of e)
+  mine = subst (λ (l : List ℕ). Among l (process_of e)) (sym by.alone.0) (inl refl)
+
+  elsewhere : (j p : ℕ) (u : View) → j ≢ id → get_elem? vs j ≡ some u → Sits u p → place_of (process_of e) ≢ place_of p
+  elsewhere j p u other there sits same = other ((shown.alone j p u there sits).2 ∙ ap shown.seat_of (sym same) ∙ sym (shown.alone id (process_of e) v at mine).2)
 
   pub moved : (y : maybe.Option (Option (LotOf B))) → IsHolder k → HomeFits fits s r k y → Shows fits s o' (set ws r (word_of k)) (set hs r y) (set vs id w)
   moved y good home = record {
@@ -128,20 +151,10 @@ module _ {B : Type 0} (fits : B → ℕ → Bool) (s : Shape) (o : Ownership) (w
         (λ (t : (j ≡ id) × (w ≡ u)). subst (ViewFits s o') t.1 mine_fits)
         (λ (t : (j ≢ id) × (get_elem? vs j ≡ some u)). others_fit j u t.0 t.1)
         (at_set vs id j w u there);
+    small = shown.small;
+    log = shown.log ++ e ∷ [];
+    history = more_history s o o' vs shown.log id v w e shown.history done (done_after s.records o o' e by.inside (subst IsHolder (sym by.to) good) done) (length-set o r k) (shown.alone id (process_of e) v at mine).0 at by.alone change.processes by.done elsewhere;
   }
-
--- lists of records
-pub among_front : {A : Type 0} (xs ys : List A) (x : A) → Among xs x → Among (xs ++ ys) x
-among_front [] ys x h = absurd h
-among_front (y ∷ xs) ys x h = ⊎_elim (λ (e : x ≡ y). inl e) (λ (t : Among xs x). inr (among_front xs ys x t)) h
-
-pub among_back : {A : Type 0} (xs ys : List A) (x : A) → Among ys x → Among (xs ++ ys) x
-among_back [] ys x h = h
-among_back (y ∷ xs) ys x h = inr (among_back xs ys x h)
-
-pub among_either : {A : Type 0} (xs ys : List A) (x : A) → Among (xs ++ ys) x → Among xs x ⊎ Among ys x
-among_either [] ys x h = inr h
-among_either (y ∷ xs) ys x h = ⊎_elim (λ (e : x ≡ y). inl (inl e)) (λ (t : Among (xs ++ ys) x). ⊎_elim (λ (a : Among xs x). inl (inr a)) (λ (b : Among ys x). inr b) (among_either xs ys x t)) h
 
 pub among_without : (r : ℕ) (xs : List (ℕ × ℕ)) (x : ℕ × ℕ) → Among (without r xs) x → Among xs x × (x.0 ≢ r)
 among_without r [] x = λ h. absurd h
@@ -159,10 +172,10 @@ among_kept r (y ∷ ys) x other h = dite (ℕ_discrete y.0 r)
     (λ n. subst (λ (b : Bool). Among (cond b (without r ys) (y ∷ without r ys)) x) (sym (ne_eqb y.0 r n))
     (⊎_elim (λ (q : x ≡ y). inl q) (λ (u : Among ys x). inr (among_kept r ys x other u)) h))
 
-pub value_at : (l : List ℕ) (i d a : ℕ) → get_elem? l i ≡ some a → get_or l i d ≡ a
-value_at [] i d a e = absurd (some-ne-none a (sym e))
-value_at (x ∷ xs) zero d a e = some-injective x a e
-value_at (x ∷ xs) (suc i) d a e = value_at xs i d a e
+pub nth_is : (l : List ℕ) (i d a : ℕ) → get_elem? l i ≡ some a → get_or l i d ≡ a
+nth_is [] i d a e = absurd (some-ne-none a (sym e))
+nth_is (x ∷ xs) zero d a e = some-injective x a e
+nth_is (x ∷ xs) (suc i) d a e = nth_is xs i d a e
 
 -- one of two, by a test
 next_of : {X : Type 0} → Dec X → ℕ → ℕ → ℕ
@@ -219,7 +232,7 @@ module _ {B : Type 0} (fits : B → ℕ → Bool) (s : Shape) where
   not_process : Option Holder → Type 0
   not_process h = (p : ℕ) → h ≡ Some (Process p) → ⊥
 
-  pub takes_change : (o : Ownership) (v : View) (r p : ℕ) (h : Option Holder) → ViewFits s o v → IsHeldBy o r h → ((q : ℕ) → h ≡ Some (Process q) → ⊥) → v.processes ≡ p ∷ [] → Change v (gained v r p) r h (Some (Process p))
+  pub takes_change : (o : Ownership) (v : View) (r p : ℕ) (h : Option Holder) → ViewFits s o v → IsHeldBy o r h → ((q : ℕ) → h ≡ Some (Process q) → ⊥) → v.processes ≡ p ∷ [] → Change v (gained v r p h) r h (Some (Process p))
   takes_change o v r p h fit held free mine = let sits_p : Sits v p = subst (λ (l : List ℕ). Among l p) (sym mine) (inl refl) in let turn = λ (q : ℕ) (e : Some (Process p) ≡ Some (Process q)). same_place p q (ap word_of e) in record {
     processes = refl;
     shape = refl;
@@ -230,6 +243,17 @@ module _ {B : Type 0} (fits : B → ℕ → Bool) (s : Shape) where
     right = λ q owns. ⊎_elim (λ (a : Owns v r q). absurd (free q (one_holder o r h (Some (Process q)) held (fit.is_owner r q a).0))) (λ (b : Among ((r, p) ∷ []) (r, q)). ⊎_elim (λ (e : (r, q) ≡ (r, p)). ap (λ (z : ℕ × ℕ). Some (Process z.1)) (sym e)) (λ (z : ⊥). absurd z) b) (among_either v.records ((r, p) ∷ []) (r, q) owns);
     left = λ q e. among_back v.records ((r, p) ∷ []) (r, q) (inl (ap (λ (x : ℕ). (r, x)) (sym (turn q e))));
   }
+
+  -- the event of a step that takes, or gives
+  pub takes_by : (v : View) (r p : ℕ) (h : Option Holder) → ((q : ℕ) → h ≡ Some (Process q) → ⊥) → IsSmall s → v.shape ≡ s → IsAlone v p → By s v (gained v r p h) r h (Some (Process p)) (taking p (number_of s.records r) h)
+  takes_by v r p None away small same alone = record { inside = number_inside s.records r small.0 small.1; index = index_back s.records r small.0 small.1; from = refl; to = refl; alone = alone; done = ap (λ (z : Shape). adds (taking p (number_of z.records r) None) v.done) same }
+  takes_by v r p (Some (Process q)) away small same alone = absurd (away q refl)
+  takes_by v r p (Some (Direction d)) away small same alone = record { inside = number_inside s.records r small.0 small.1; index = index_back s.records r small.0 small.1; from = refl; to = refl; alone = alone; done = ap (λ (z : Shape). adds (taking p (number_of z.records r) (Some (Direction d))) v.done) same }
+
+  pub gives_by : (v : View) (r p : ℕ) (k : Option Holder) → ((q : ℕ) → k ≡ Some (Process q) → ⊥) → IsSmall s → v.shape ≡ s → IsAlone v p → By s v (lost v r p k) r (Some (Process p)) k (giving p (number_of s.records r) k)
+  gives_by v r p None away small same alone = record { inside = number_inside s.records r small.0 small.1; index = index_back s.records r small.0 small.1; from = refl; to = refl; alone = alone; done = ap (λ (z : Shape). adds (giving p (number_of z.records r) None) v.done) same }
+  gives_by v r p (Some (Process q)) away small same alone = absurd (away q refl)
+  gives_by v r p (Some (Direction d)) away small same alone = record { inside = number_inside s.records r small.0 small.1; index = index_back s.records r small.0 small.1; from = refl; to = refl; alone = alone; done = ap (λ (z : Shape). adds (giving p (number_of z.records r) (Some (Direction d))) v.done) same }
 
   -- what is at home, where no process holds the record
   pub home_is : (r : ℕ) (h : Option Holder) (l : LotOf B) → IsLotAt s r l → IsHomeLot fits h l → HomeFits fits s r h (some (Some l))
@@ -243,21 +267,22 @@ module _ {B : Type 0} (fits : B → ℕ → Bool) (s : Shape) where
   home_lot r (Some (Direction d)) x away home = home
 
   -- a compare that takes
-  pub takes_lot : (slots id : ℕ) (me : M) (r old new p : ℕ) (h : Option Holder) (said : maybe.Option S) → old ≡ word_of h → new ≡ word_of (Some (Process p)) → IsAway h → r < slots → me.0.processes ≡ p ∷ []
+  pub takes_lot : (slots id : ℕ) (me : M) (r old new p : ℕ) (h : Option Holder) (said : maybe.Option S) → old ≡ word_of h → new ≡ word_of (Some (Process p)) → IsAway h → r < slots → IsAlone me.0 p
       → Allows (Shown fits s) slots id me r (λ n. either (eqb n old) new n) (took fits (step slots r old new said) me)
-  takes_lot slots id me r old new p h said is_old is_new free inside mine t holds long seen small =
-      let o = holds.0 in let shown = holds.1 in let a : At t o r = at t o r slots shown long inside in let n : ℕ = get_or t.words r 0 in let found : n ≡ word_of a.holder = value_at t.words r 0 (word_of a.holder) a.word_at in
+  takes_lot slots id me r old new p h said is_old is_new free inside alone t holds long seen small =
+      let mine : me.0.processes ≡ p ∷ [] = alone.0 in
+      let o = holds.0 in let shown = holds.1 in let a : At t o r = at t o r slots shown long inside in let n : ℕ = get_or t.words r 0 in let found : n ≡ word_of a.holder = nth_is t.words r 0 (word_of a.holder) a.word_at in
       let placed : process_in me.0 ≡ p = ap (λ (l : List ℕ). get_or l 0 0) mine in
       let sits : Sits me.0 p = subst (λ (k : List ℕ). Among k p) (sym mine) (inl refl) in
       let good : p < 4096 = (shown.alone id p me.0 seen sits).3 in dite (ℕ_discrete n old)
-      (λ hit. let same : a.holder ≡ h = word_injective a.holder h (sym found ∙ hit ∙ is_old) in let held : IsHeldBy o r h = subst (IsHeldBy o r) same a.held in let fit = shown.views_fit id me.0 seen in let x = shown.homes_are r h held in let l = home_lot r h x.0 free x.2 in let w : View = gained me.0 r p in let act : Act S = takes r (Some l.0) in (
+      (λ hit. let same : a.holder ≡ h = word_injective a.holder h (sym found ∙ hit ∙ is_old) in let held : IsHeldBy o r h = subst (IsHeldBy o r) same a.held in let fit = shown.views_fit id me.0 seen in let x = shown.homes_are r h held in let l = home_lot r h x.0 free x.2 in let w : View = gained me.0 r p h in let act : Act S = takes r (Some l.0) in (
         w,
         act,
         x.1 ∙ ap some l.1,
         subst (λ (m : ℕ). Shown fits s (stepped t r m id me.1 w act)) (sym (subst (λ (b : Bool). either b new n ≡ word_of (Some (Process p))) (sym (eq-eqb n old hit)) is_new))
-            (set o r (Some (Process p)), moved fits s o t.words t.homes t.views shown id r me.0 w h (Some (Process p)) seen held (takes_change o me.0 r p h fit held free mine) none good refl),
+            (set o r (Some (Process p)), moved fits s o t.words t.homes t.views shown id r me.0 w h (Some (Process p)) seen held (takes_change o me.0 r p h fit held free mine) (taking p (number_of s.records r) h) (takes_by me.0 r p h free shown.small (fit.knows p sits) alone) none good refl),
         (
-          (λ _. (l.0, ap (λ (q : ℕ). (gained me.0 r q, (r, Some l.0) ∷ me.1)) (sym placed), subst (λ (z : Shape). IsLotAt z r l.0) (sym (fit.knows p sits)) l.2, (λ k e. subst (λ (z : Option Holder). IsHomeLot fits z l.0) (word_injective h k (sym is_old ∙ e)) l.3), λ q owns. free q (one_holder o r h (Some (Process q)) held (fit.is_owner r q owns).0))),
+          (λ _. (l.0, (λ k e. let is : h ≡ k = word_injective h k (sym is_old ∙ e) in ((λ i. (gained me.0 r (sym placed i) (is i), (r, Some l.0) ∷ me.1)), subst (λ (z : Option Holder). IsHomeLot fits z l.0) is l.3)), subst (λ (z : Shape). IsLotAt z r l.0) (sym (fit.knows p sits)) l.2, λ q owns. free q (one_holder o r h (Some (Process q)) held (fit.is_owner r q owns).0))),
           (λ miss. absurd (miss hit)),
         ),
       ))
@@ -269,7 +294,7 @@ module _ {B : Type 0} (fits : B → ℕ → Bool) (s : Shape) where
         ((λ hit. absurd (miss hit)), (λ _. (refl, knows_word o me.0 r n a.holder (shown.views_fit id me.0 seen) a.held (shown.holders r a.holder a.held) found))),
       ))
 
-  pub gives_change : (o : Ownership) (v : View) (r p : ℕ) (k : Option Holder) → ViewFits s o v → Owns v r p → ((q : ℕ) → k ≡ Some (Process q) → ⊥) → Change v (lost v r) r (Some (Process p)) k
+  pub gives_change : (o : Ownership) (v : View) (r p : ℕ) (k : Option Holder) → ViewFits s o v → Owns v r p → ((q : ℕ) → k ≡ Some (Process q) → ⊥) → Change v (lost v r p k) r (Some (Process p)) k
   gives_change o v r p k fit owns free = let sits_p : Sits v p = (fit.is_owner r p owns).1 in record {
     processes = refl;
     shape = refl;
@@ -282,26 +307,26 @@ module _ {B : Type 0} (fits : B → ℕ → Bool) (s : Shape) where
   }
 
   -- a store that gives
-  pub gives_lot : (slots id : ℕ) (me : M) (r new p : ℕ) (k : Option Holder) (lot : LotOf B) (rest_of : List (ℕ × S)) → new ≡ word_of k → IsAway k → IsHolder k → me.1 ≡ (r, Some lot) ∷ rest_of → Owns me.0 r p → IsLotAt me.0.shape r lot → IsHomeLot fits k lot
+  pub gives_lot : (slots id : ℕ) (me : M) (r new p : ℕ) (k : Option Holder) (lot : LotOf B) (rest_of : List (ℕ × S)) → new ≡ word_of k → IsAway k → IsHolder k → me.1 ≡ (r, Some lot) ∷ rest_of → IsAlone me.0 p → Owns me.0 r p → IsLotAt me.0.shape r lot → IsHomeLot fits k lot
       → Allows (Shown fits s) slots id me r (λ _. new) (λ _. gave (step slots r new 0 none) me new)
-  gives_lot slots id me r new p k lot rest_of is_new free good front owns is_lot home t holds long seen small =
-      let o = holds.0 in let shown = holds.1 in let fit = shown.views_fit id me.0 seen in let was = fit.is_owner r p owns in let w : View = lost me.0 r in let y : maybe.Option S = some (Some lot) in (
+  gives_lot slots id me r new p k lot rest_of is_new free good front alone owns is_lot home t holds long seen small =
+      let o = holds.0 in let shown = holds.1 in let fit = shown.views_fit id me.0 seen in let was = fit.is_owner r p owns in let w : View = lost me.0 r p k in let placed : process_in me.0 ≡ p = ap (λ (l : List ℕ). get_or l 0 0) alone.0 in let y : maybe.Option S = some (Some lot) in (
         w,
         gives,
         tt,
         (
           set o r k,
           subst (λ (z : ℕ × List (maybe.Option S)). Shows fits s (set o r k) (set t.words r z.0) z.1 (set t.views id w)) (λ i. (sym is_new i, ap (λ (c : List (ℕ × S)). put_back t.homes c) (sym front) i))
-              (moved fits s o t.words t.homes t.views shown id r me.0 w (Some (Process p)) k seen was.0 (gives_change o me.0 r p k fit owns free) y good (home_is r k lot (subst (λ (z : Shape). IsLotAt z r lot) (fit.knows p was.1) is_lot) home)),
+              (moved fits s o t.words t.homes t.views shown id r me.0 w (Some (Process p)) k seen was.0 (gives_change o me.0 r p k fit owns free) (giving p (number_of s.records r) k) (gives_by me.0 r p k free shown.small (fit.knows p was.1) alone) y good (home_is r k lot (subst (λ (z : Shape). IsLotAt z r lot) (fit.knows p was.1) is_lot) home)),
         ),
-        refl,
+        (λ j e. let is : k ≡ j = word_injective k j (sym is_new ∙ e) in (λ i. (lost me.0 r (sym placed i) (is i), rest me.1))),
       )
 
   -- a load
   pub looks : (slots id : ℕ) (me : M) (r : ℕ) → r < slots → Allows (Shown fits s) slots id me r (λ n. n) (looked (step slots r 0 0 none) me)
   looks slots id me r inside t holds long seen small =
       let a : At t holds.0 r = at t holds.0 r slots holds.1 long inside in
-      let found : get_or t.words r 0 ≡ word_of a.holder = value_at t.words r 0 (word_of a.holder) a.word_at in
+      let found : get_or t.words r 0 ≡ word_of a.holder = nth_is t.words r 0 (word_of a.holder) a.word_at in
       (me.0, keeps, tt, stays t id me r (get_or t.words r 0) holds seen (a.word_at ∙ ap some (sym found)), (refl, knows_word holds.0 me.0 r (get_or t.words r 0) a.holder (holds.1.views_fit id me.0 seen) a.held (holds.1.holders r a.holder a.held) found))
 
   -- a place of the next generation, where its process holds no record
@@ -350,9 +375,25 @@ module _ {B : Type 0} (fits : B → ℕ → Bool) (s : Shape) where
               is_owner = λ k x owns. absurd (subst (λ (l : List (ℕ × ℕ)). Among l (k, x)) bare owns);
               owns_all = λ k x is sat. let e = only_now x sat in let turn : place_of x ≡ q = omega arith in absurd (none_held k x is turn);
               knows = λ x sat. (shown.views_fit id v here).knows p sits;
+              places = subst (λ (l : List ℕ). Distinct (map place_of l)) (sym mine_now) ((λ z. z), tt);
             })
             (λ (t : (j ≢ id) × (get_elem? vs j ≡ some u)). shown.views_fit j u t.1)
             (at_set vs id j w u there);
+        small = shown.small;
+        log = shown.log;
+        history = record {
+          leads = shown.history.leads;
+          theirs = shown.history.theirs;
+          tells = λ j u there. ⊎_elim
+              (λ (t : (j ≡ id) × (w ≡ u)). subst (ViewTells shown.log) t.1 (let old = shown.history.tells id v here in let turn : place_of p ≡ place_of (p + 32) = omega arith in record {
+                has = λ x sat. let e = only_now x sat in subst (λ (z : ℕ). Among v.done (z, by_place z shown.log)) (turn ∙ ap place_of (sym e)) (old.has p sits);
+                only = λ y es among. let one = old.only y es among in
+                    let e : one.0 ≡ p = ⊎_elim (λ (z : one.0 ≡ p). z) (λ (z : ⊥). absurd z) (subst (λ (k : List ℕ). Among k one.0) mine one.1) in
+                    (p + 32, sits_now, one.2 ∙ ap place_of e ∙ turn, one.3);
+              }))
+              (λ (t : (j ≢ id) × (get_elem? vs j ≡ some u)). shown.history.tells j u t.1)
+              (at_set vs id j w u there);
+        };
       }
 
   -- a load, by a seat whose place has its next generation
@@ -360,5 +401,5 @@ module _ {B : Type 0} (fits : B → ℕ → Bool) (s : Shape) where
   ages slots id me p some_slot mine bare small t holds long seen fit =
       let a : At t holds.0 0 = at t holds.0 0 slots holds.1 long some_slot in
       let n : ℕ = get_or t.words 0 0 in
-      let found : get_elem? t.words 0 ≡ some n = a.word_at ∙ ap some (sym (value_at t.words 0 0 (word_of a.holder) a.word_at)) in
+      let found : get_elem? t.words 0 ≡ some n = a.word_at ∙ ap some (sym (nth_is t.words 0 0 (word_of a.holder) a.word_at)) in
       (renewed me.0, keeps, tt, (holds.0, subst (λ (l : List ℕ). Shows fits s holds.0 l t.homes (set t.views id (renewed me.0))) (sym (set_again t.words 0 n found)) (renews holds.0 t.words t.homes t.views id p me.0 holds.1 seen mine bare small)), refl)

@@ -6,17 +6,17 @@ use Rattle.atomic_table.specs.Seated.{TableId}
 use Rattle.xh_arena.specs.Views.{LotOf}
 use Rattle.xh_model.specs.Slots.{index_of}
 use Rattle.xh_model.specs.Words.{number_of}
+use Rattle.xh_model.specs.Keyed.{keys, put, value_at}
+use Rattle.xh_model.proofs.Keyed.{put_keys}
 use Rattle.xh_records.specs.declared.view.View.{View}
-use Rattle.xh_records.specs.Showing.{IsLotOf, IsLotAt}
-use Rattle.xh_records.specs.Seats.{Held, IsListed, IsSeat, keys, lot_at, numbered, put, with_lots}
-use Rattle.xh_records.proofs.Lists.{keys_put}
+use Rattle.xh_records.specs.Showing.{IsLotOf, IsLotAt, events_in}
+use Rattle.xh_records.specs.Seats.{Held, IsListed, IsSeat, numbered, with_lots}
 use Rattle.xh_records.proofs.Seating.{Reach, reaches, replaces}
-use Rattle.xh_records.proofs.Numbered.{number_is, put_numbered, slot_is, lot_there, held_same}
-use Rattle.xh_records.proofs.Events.{held}
+use Rattle.xh_records.proofs.Numbered.{held, number_is, put_numbered, slot_is, lot_there, held_same}
 
 -- the list after something was put into a slot is still in this order
 pub still_listed : {X : Type 0} (order : List ℕ) (slot j : ℕ) (y : X) (ls now : List (ℕ × X)) → IsListed order ls j → now ≡ put slot y ls → IsListed order now j
-still_listed order slot j y ls now listed e = (listed.0 ∙ sym (keys_put slot y ls) ∙ ap keys (sym e), listed.1, listed.2)
+still_listed order slot j y ls now listed e = (listed.0 ∙ sym (put_keys slot y ls) ∙ ap keys (sym e), listed.1, listed.2)
 
 pub listed_as : {X : Type 0} (a b : List ℕ) (ls : List (ℕ × X)) (slot : ℕ) → a ≡ b → IsListed b ls slot → IsListed a ls slot
 listed_as a b ls slot e = subst (λ (z : List ℕ). IsListed z ls slot) (sym e)
@@ -28,7 +28,7 @@ module _ {B : Type 0} (x : Held B) (t : TableId) (id process : ℕ) (me : Me (Op
     pub number : number_of me.0.shape.records slot ≡ r
     pub there : (y : LotOf B) → IsLotOf x.shape r y → IsLotAt me.0.shape slot y
 
-  pub lends : (slot r : ℕ) (l : LotOf B) → slot ≡ index_of x.shape.records r → r % 256 < x.shape.records → lot_at r x.lots ≡ Some l → Lent slot r l
+  pub lends : (slot r : ℕ) (l : LotOf B) → slot ≡ index_of x.shape.records r → r % 256 < x.shape.records → value_at r x.lots ≡ Some l → Lent slot r l
   lends slot r l at inside has = record {
     reach = reaches process order capacity slots me slot l seat (slot_is x t id process me is order capacity slots seat slot r (Some l) at inside has);
     number = number_is me.0.shape.records x.shape.records slot r (ap (λ (z : Held B). z.shape.records) is) at inside;
@@ -42,6 +42,7 @@ module _ {B : Type 0} (x : Held B) (t : TableId) (id process : ℕ) (me : Me (Op
   pub after_one : (t' : TableId) (id' : ℕ) (me' : Me (Option (LotOf B)) View) (slot r : ℕ) (l left : LotOf B) → Lent slot r l → t' ≡ t → id' ≡ id → me' ≡ (me.0, put slot (Some left) me.1) → held t' id' process me' ≡ with_lots x (put r left x.lots)
   after_one t' id' me' slot r l left lent et en e = held_same x t id process me is t' id' me' (put r left x.lots) et en (ap (λ (m : Me (Option (LotOf B)) View). m.0.shape) e)
       (ap (λ (m : Me (Option (LotOf B)) View). numbered m.0.shape.records m.1) e ∙ put_numbered me.0.shape seat.small me.1 slot left seat.lots ∙ (λ i. put (lent.number i) left (is i).lots))
+      (ap (λ (m : Me (Option (LotOf B)) View). events_in m.0) e)
 
   -- the seat after two lots were lent
   pub kept_two : (i j r q : ℕ) (l m left also : LotOf B) → Lent i r l → Lent j q m → IsLotOf x.shape r left → IsLotOf x.shape q also → IsSeat process order capacity slots (me.0, put j (Some also) (put i (Some left) me.1))
@@ -53,3 +54,4 @@ module _ {B : Type 0} (x : Held B) (t : TableId) (id process : ℕ) (me : Me (Op
       ∙ put_numbered me.0.shape seat.small (put i (Some left) me.1) j also (kept i r l left one lot).lots
       ∙ ap (put (number_of me.0.shape.records j) also) (put_numbered me.0.shape seat.small me.1 i left seat.lots)
       ∙ (λ k. put (two.number k) also (put (one.number k) left (is k).lots)))
+      (ap (λ (z : Me (Option (LotOf B)) View). events_in z.0) e)

@@ -1,10 +1,11 @@
+pub mod History
+pub mod After
 pub mod Keeps
-pub mod Cuts
 pub mod Lists
+pub mod Distinct
+pub mod Cuts
 pub mod Seating
 pub mod Numbered
-pub mod Events
-pub mod After
 pub mod Lent
 pub mod Ended
 pub mod OneVault

@@ -1,5 +1,5 @@
 -- A seat's lots by the numbers of their records.
-use Rattle.std.proofs.Common.{◌≡◌, ℕ, ◌%◌, ◌<◌, ◌≤◌, List, [], ◌∷◌, ◌++◌, map, sym, refl, ap, ◌∙◌, subst, inl, inr, ⊎_elim}
+use Rattle.std.proofs.Common.{◌≡◌, ℕ, suc, ◌*◌, ◌/◌, length, arith, ◌%◌, ◌<◌, ◌≤◌, List, [], ◌∷◌, ◌++◌, map, sym, refl, ap, ◌∙◌, subst, inl, inr, ⊎_elim}
 use Rattle.std.specs.Prelude.{Option, Some, None}
 use mathlib.Core.Logic.{dite}
 use native.Mathlib.Decide.{ℕ_discrete}
@@ -7,13 +7,17 @@ use Rattle.atomic_table.specs.Table.{Me}
 use Rattle.atomic_table.specs.Seated.{TableId}
 use Rattle.xh_arena.specs.Views.{LotOf}
 use Rattle.xh_model.specs.Slots.{index_of}
+use Rattle.xh_model.specs.declared.event.Event.{Event}
 use Rattle.xh_model.specs.Words.{number_of}
-use Rattle.xh_model.proofs.Words.{index_back, number_back}
+use Rattle.xh_model.proofs.Words.{number_inside, index_back, number_back}
+use Rattle.xh_model.specs.Keyed.{Among, keys, put, value_at, without}
+use Rattle.xh_records.proofs.History.{in_range}
+use Rattle.xh_records.proofs.Lists.{slice_elem}
+use Rattle.xh_model.proofs.Keyed.{here_first, not_here, value_here, value_there}
 use Rattle.xh_records.specs.declared.shape.Shape.{Shape}
 use Rattle.xh_records.specs.declared.view.View.{View}
-use Rattle.xh_records.specs.Showing.{Among, IsLotOf, IsLotAt, without}
-use Rattle.xh_records.specs.Seats.{Held, keys, lot_at, put, in_slot, with_lot, numbered, owned_by, view_of, with_lots, AllLots, IsSmall, IsSeat}
-use Rattle.xh_records.proofs.Lists.{here_first, not_here}
+use Rattle.xh_records.specs.Showing.{IsLotOf, IsLotAt, events_in}
+use Rattle.xh_records.specs.Seats.{Held, in_slot, with_lot, numbered, owned_by, view_of, did, with_lots, AllLots, IsSmall, IsSeat, IsRecord}
 
 pub index_injective : (n k j : ℕ) → 0 < n → n ≤ 256 → number_of n k ≡ number_of n j → k ≡ j
 index_injective n k j pos most e = sym (index_back n k pos most) ∙ ap (index_of n) e ∙ index_back n j pos most
@@ -39,11 +43,11 @@ module _ {B : Type 0} (s : Shape) (small : IsSmall s) where
   indices_are [] all = refl
   indices_are (x ∷ xs) all = ap (λ (l : List (ℕ × LotOf B)). map (index_of s.records) (keys l)) (head_is x xs all.0.0 all.0.1) ∙ (λ i. index_back s.records x.0 small.0 small.1 i ∷ indices_are xs all.1 i)
 
-  pub lot_numbered : (xs : List (ℕ × Option (LotOf B))) (k : ℕ) → AllLots s xs → lot_at (number_of s.records k) (numbered s.records xs) ≡ in_slot k xs
+  pub lot_numbered : (xs : List (ℕ × Option (LotOf B))) (k : ℕ) → AllLots s xs → value_at (number_of s.records k) (numbered s.records xs) ≡ in_slot k xs
   lot_numbered [] k all = refl
-  lot_numbered (x ∷ xs) k all = ap (lot_at (number_of s.records k)) (head_is x xs all.0.0 all.0.1) ∙ dite (ℕ_discrete x.0 k)
-      (λ e. here_first (number_of s.records x.0) (number_of s.records k) (Some all.0.0) (lot_at (number_of s.records k) (numbered s.records xs)) (ap (number_of s.records) e) ∙ sym all.0.1 ∙ sym (here_first x.0 k x.1 (in_slot k xs) e))
-      (λ other. not_here (number_of s.records x.0) (number_of s.records k) (Some all.0.0) (lot_at (number_of s.records k) (numbered s.records xs)) (λ e. other (index_injective s.records x.0 k small.0 small.1 e)) ∙ lot_numbered xs k all.1 ∙ sym (not_here x.0 k x.1 (in_slot k xs) other))
+  lot_numbered (x ∷ xs) k all = ap (value_at (number_of s.records k)) (head_is x xs all.0.0 all.0.1) ∙ dite (ℕ_discrete x.0 k)
+      (λ e. here_first (number_of s.records x.0) (number_of s.records k) (Some all.0.0) (value_at (number_of s.records k) (numbered s.records xs)) (ap (number_of s.records) e) ∙ sym all.0.1 ∙ sym (here_first x.0 k x.1 (in_slot k xs) e))
+      (λ other. not_here (number_of s.records x.0) (number_of s.records k) (Some all.0.0) (value_at (number_of s.records k) (numbered s.records xs)) (λ e. other (index_injective s.records x.0 k small.0 small.1 e)) ∙ lot_numbered xs k all.1 ∙ sym (not_here x.0 k x.1 (in_slot k xs) other))
 
   pub without_numbered : (xs : List (ℕ × Option (LotOf B))) (k : ℕ) → AllLots s xs → numbered s.records (without k xs) ≡ without (number_of s.records k) (numbered s.records xs)
   without_numbered [] k all = refl
@@ -65,20 +69,45 @@ module _ {B : Type 0} (s : Shape) (small : IsSmall s) where
   none_numbered [] all e = refl
   none_numbered (x ∷ xs) all e = let f : (number_of s.records x.0, all.0.0) ∷ numbered s.records xs ≡ [] = sym (head_is x xs all.0.0 all.0.1) ∙ e in absurd (cc)
 
+module _ {B : Type 0} (s : Shape) (small : IsSmall s) where
+  pub length-numbered : (xs : List (ℕ × Option (LotOf B))) → AllLots s xs → length (numbered s.records xs) ≡ length xs
+  length-numbered [] all = refl
+  length-numbered (x ∷ xs) all = ap length (head_is s small x xs all.0.0 all.0.1) ∙ ap suc (length-numbered xs all.1)
+
+  -- a lot beside a record's number is that of its slot
+  own_lot : (r : ℕ) (l : LotOf B) (xs : List (ℕ × Option (LotOf B))) → AllLots s xs → value_at r (numbered s.records xs) ≡ Some l → (k : ℕ) × (number_of s.records k ≡ r) × IsLotAt s k l
+  own_lot r l [] all = λ e. absurd (cc)
+  own_lot r l (x ∷ xs) all =
+      let y : ℕ × LotOf B = (number_of s.records x.0, all.0.0) in
+      let head = ap (value_at r) (sym (head_is s small x xs all.0.0 all.0.1)) in dite (ℕ_discrete y.0 r)
+      (λ same e. let f : Some y.1 ≡ Some l = sym (value_here r y (numbered s.records xs) same) ∙ head ∙ e in let is : y.1 ≡ l = cc in (x.0, same, subst (IsLotAt s x.0) is all.0.2))
+      (λ other e. own_lot r l xs all.1 (sym (value_there r y (numbered s.records xs) other) ∙ head ∙ e))
+
+  -- and the record is one of the table
+  pub own_record : (r : ℕ) (l : LotOf B) (xs : List (ℕ × Option (LotOf B))) → AllLots s xs → value_at r (numbered s.records xs) ≡ Some l → IsRecord s r × IsLotOf s r l
+  own_record r l xs all e =
+      let t = own_lot r l xs all e in
+      let arena = in_range s.names (number_of s.records t.0 / 256) l.id (slice_elem s.names _ l.id t.2.1) in
+      subst (λ (z : ℕ). IsRecord s z × IsLotOf s z l) t.1 ((arena, number_inside s.records t.0 small.0 small.1), t.2)
+
+-- a seat as contracts see it
+abbrev pub held : {B : Type 0} → TableId → ℕ → ℕ → Me (Option (LotOf B)) View → Held B
+held t id process me = record { table = t; id = id; shape = me.0.shape; process = process; lots = numbered me.0.shape.records me.1; done = events_in me.0 }
+
 -- the number of the record in a slot
 pub number_is : (n m slot r : ℕ) → n ≡ m → slot ≡ index_of m r → r % 256 < m → number_of n slot ≡ r
 number_is n m slot r same at inside = (λ i. number_of (same i) (at i)) ∙ number_back m r inside
 
-module _ {B : Type 0} (x : Held B) (t : TableId) (id process : ℕ) (me : Me (Option (LotOf B)) View) (is : (let y : Held B = record { table = t; id = id; shape = me.0.shape; process = process; lots = numbered me.0.shape.records me.1 } in y ≡ x)) where
+module _ {B : Type 0} (x : Held B) (t : TableId) (id process : ℕ) (me : Me (Option (LotOf B)) View) (is : held t id process me ≡ x) where
   -- a seat's view
   pub views_are : (order : List ℕ) (capacity slots : ℕ) → IsSeat process order capacity slots me → view_of x ≡ me.0
-  views_are order capacity slots seat = ap (λ (y : Held B). view_of y) (sym is) ∙ (λ i. record { shape = me.0.shape; processes = sym seat.processes i; records = (ap (owned_by process) (indices_are me.0.shape seat.small me.1 seat.lots ∙ sym seat.ordered) ∙ sym seat.records) i })
+  views_are order capacity slots seat = ap (λ (y : Held B). view_of y) (sym is) ∙ (λ i. record { shape = me.0.shape; processes = sym seat.processes i; records = (ap (owned_by process) (indices_are me.0.shape seat.small me.1 seat.lots ∙ sym seat.ordered) ∙ sym seat.records) i; done = sym seat.done i })
 
   -- what a seat has in the slot of a record
-  pub slot_is : (order : List ℕ) (capacity slots : ℕ) → IsSeat process order capacity slots me → (slot r : ℕ) (y : Option (LotOf B)) → slot ≡ index_of x.shape.records r → r % 256 < x.shape.records → lot_at r x.lots ≡ y → in_slot slot me.1 ≡ y
+  pub slot_is : (order : List ℕ) (capacity slots : ℕ) → IsSeat process order capacity slots me → (slot r : ℕ) (y : Option (LotOf B)) → slot ≡ index_of x.shape.records r → r % 256 < x.shape.records → value_at r x.lots ≡ y → in_slot slot me.1 ≡ y
   slot_is order capacity slots seat slot r y at inside has =
       let number : number_of me.0.shape.records slot ≡ r = number_is me.0.shape.records x.shape.records slot r (ap (λ (z : Held B). z.shape.records) is) at inside in
-      sym (lot_numbered me.0.shape seat.small me.1 slot seat.lots) ∙ (λ i. lot_at (number i) (is i).lots) ∙ has
+      sym (lot_numbered me.0.shape seat.small me.1 slot seat.lots) ∙ (λ i. value_at (number i) (is i).lots) ∙ has
 
   -- the lot of a record is that of its slot
   pub lot_there : (slot r : ℕ) (l : LotOf B) → slot ≡ index_of x.shape.records r → r % 256 < x.shape.records → IsLotOf x.shape r l → IsLotAt me.0.shape slot l
@@ -100,13 +129,19 @@ module _ {B : Type 0} (x : Held B) (t : TableId) (id process : ℕ) (me : Me (Op
       new (subst (λ (z : List ℕ × ℕ). Among z.0 z.1) (λ i. (keys_are i, sym at i)) there)
 
   -- the seat afterwards
-  pub held_is : (t' : TableId) (id' process' : ℕ) (me' : Me (Option (LotOf B)) View) (ls : List (ℕ × LotOf B)) → t' ≡ t → id' ≡ id → me'.0.shape ≡ me.0.shape → numbered me'.0.shape.records me'.1 ≡ ls
-      → (let y : Held B = record { table = t'; id = id'; shape = me'.0.shape; process = process'; lots = numbered me'.0.shape.records me'.1 } in y ≡ record x { process = process'; lots = ls })
-  held_is t' id' process' me' ls et en es el =
-      λ j. record { table = (et ∙ ap (λ (y : Held B). y.table) is) j; id = (en ∙ ap (λ (y : Held B). y.id) is) j; shape = (es ∙ ap (λ (y : Held B). y.shape) is) j; process = process'; lots = el j }
+  pub held_is : (t' : TableId) (id' process' : ℕ) (me' : Me (Option (LotOf B)) View) (ls : List (ℕ × LotOf B)) → t' ≡ t → id' ≡ id → me'.0.shape ≡ me.0.shape → numbered me'.0.shape.records me'.1 ≡ ls → events_in me'.0 ≡ events_in me.0
+      → held t' id' process' me' ≡ record x { process = process'; lots = ls }
+  held_is t' id' process' me' ls et en es el ed =
+      λ j. record { table = (et ∙ ap (λ (y : Held B). y.table) is) j; id = (en ∙ ap (λ (y : Held B). y.id) is) j; shape = (es ∙ ap (λ (y : Held B). y.shape) is) j; process = process'; lots = el j; done = (ed ∙ ap (λ (y : Held B). y.done) is) j }
 
   -- the seat afterwards, of the same process
-  pub held_same : (t' : TableId) (id' : ℕ) (me' : Me (Option (LotOf B)) View) (ls : List (ℕ × LotOf B)) → t' ≡ t → id' ≡ id → me'.0.shape ≡ me.0.shape → numbered me'.0.shape.records me'.1 ≡ ls
-      → (let y : Held B = record { table = t'; id = id'; shape = me'.0.shape; process = process; lots = numbered me'.0.shape.records me'.1 } in y ≡ with_lots x ls)
-  held_same t' id' me' ls et en es el =
-      λ j. record { table = (et ∙ ap (λ (y : Held B). y.table) is) j; id = (en ∙ ap (λ (y : Held B). y.id) is) j; shape = (es ∙ ap (λ (y : Held B). y.shape) is) j; process = (is j).process; lots = el j }
+  pub held_same : (t' : TableId) (id' : ℕ) (me' : Me (Option (LotOf B)) View) (ls : List (ℕ × LotOf B)) → t' ≡ t → id' ≡ id → me'.0.shape ≡ me.0.shape → numbered me'.0.shape.records me'.1 ≡ ls → events_in me'.0 ≡ events_in me.0
+      → held t' id' process me' ≡ with_lots x ls
+  held_same t' id' me' ls et en es el ed =
+      λ j. record { table = (et ∙ ap (λ (y : Held B). y.table) is) j; id = (en ∙ ap (λ (y : Held B). y.id) is) j; shape = (es ∙ ap (λ (y : Held B). y.shape) is) j; process = (is j).process; lots = el j; done = (ed ∙ ap (λ (y : Held B). y.done) is) j }
+
+  -- the seat afterwards, with one more event
+  pub held_did : (t' : TableId) (id' : ℕ) (me' : Me (Option (LotOf B)) View) (ls : List (ℕ × LotOf B)) (e : Event) → t' ≡ t → id' ≡ id → me'.0.shape ≡ me.0.shape → numbered me'.0.shape.records me'.1 ≡ ls → events_in me'.0 ≡ events_in me.0 ++ e ∷ []
+      → held t' id' process me' ≡ did e (with_lots x ls)
+  held_did t' id' me' ls e et en es el ed =
+      λ j. record { table = (et ∙ ap (λ (y : Held B). y.table) is) j; id = (en ∙ ap (λ (y : Held B). y.id) is) j; shape = (es ∙ ap (λ (y : Held B). y.shape) is) j; process = (is j).process; lots = el j; done = (ed ∙ ap (λ (y : Held B). y.done ++ e ∷ []) is) j }

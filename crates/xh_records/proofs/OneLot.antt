@@ -2,22 +2,23 @@
 use Rattle.std.proofs.Common.{◌≡◌, ◌≢◌, ℕ, List, [], ◌∷◌, ◌++◌, refl, sym, ap, ◌∙◌, subst, inl}
 use Rattle.std.specs.Prelude.{Some}
 use Rattle.xh_arena.specs.Views.{LotOf}
-use Rattle.xh_records.specs.Showing.{Among, without}
-use Rattle.xh_records.specs.Seats.{Held, RecordsOf, IsSeatOf, keys, lot_at, put, with_lots}
-use Rattle.xh_records.proofs.Lists.{here_first, not_here}
+use Rattle.xh_model.specs.declared.event.Event.{Event}
+use Rattle.xh_model.specs.Keyed.{Among, keys, put, value_at, without}
+use Rattle.xh_model.proofs.Keyed.{here_first, not_here}
+use Rattle.xh_records.specs.Seats.{Held, RecordsOf, IsSeatOf, did, with_lots}
 
 module _ {B : Type 0} (x y z : Held B) (r : ℕ) (l l' : LotOf B) where
   pub gains_one : x.lots ≡ [] → y ≡ with_lots x (x.lots ++ (r, l) ∷ []) → y ≡ with_lots x ((r, l) ∷ [])
   gains_one none gained = gained ∙ ap (λ (ls : List (ℕ × LotOf B)). with_lots x (ls ++ (r, l) ∷ [])) none
 
-  pub has_one : y ≡ with_lots x ((r, l) ∷ []) → lot_at r y.lots ≡ Some l
-  has_one one = ap (λ (h : Held B). lot_at r h.lots) one ∙ here_first r r _ _ refl
+  pub has_one : y ≡ with_lots x ((r, l) ∷ []) → value_at r y.lots ≡ Some l
+  has_one one = ap (λ (h : Held B). value_at r h.lots) one ∙ here_first r r _ _ refl
 
   pub changes_one : y ≡ with_lots x ((r, l) ∷ []) → z ≡ with_lots y (put r l' y.lots) → z ≡ with_lots x ((r, l') ∷ [])
   changes_one one changed = changed ∙ ap (λ (h : Held B). with_lots h (put r l' h.lots)) one ∙ ap (with_lots x) (here_first r r ((r, l') ∷ []) _ refl)
 
-  pub loses_one : y ≡ with_lots x ((r, l) ∷ []) → z ≡ with_lots y (without r y.lots) → z ≡ with_lots x []
-  loses_one one lost = lost ∙ ap (λ (h : Held B). with_lots h (without r h.lots)) one ∙ ap (with_lots x) (here_first r r [] _ refl)
+  pub loses_one : (e : Event) → y ≡ with_lots x ((r, l) ∷ []) → z ≡ did e (with_lots y (without r y.lots)) → z ≡ with_lots (did e x) []
+  loses_one e one lost = lost ∙ ap (λ (h : Held B). did e (with_lots h (without r h.lots))) one ∙ ap (with_lots (did e x)) (here_first r r [] _ refl)
 
 -- it is of the same table
 pub still_of : {B : Type 0} (all : RecordsOf) (x y : Held B) (ls : List (ℕ × LotOf B)) → IsSeatOf all x → y ≡ with_lots x ls → IsSeatOf all y
@@ -25,14 +26,14 @@ still_of {B} all x y ls own is = subst (λ (h : Held B). IsSeatOf all h) (sym is
 
 -- a seat with two lots
 module _ {B : Type 0} (x y z : Held B) (r q : ℕ) (l m : LotOf B) where
-  pub gains_two : y ≡ with_lots x ((r, l) ∷ []) → z ≡ with_lots y (y.lots ++ (q, m) ∷ []) → z ≡ with_lots x ((r, l) ∷ (q, m) ∷ [])
-  gains_two one gained = gained ∙ ap (λ (h : Held B). with_lots h (h.lots ++ (q, m) ∷ [])) one
+  pub gains_two : (e : Event) → y ≡ with_lots x ((r, l) ∷ []) → z ≡ did e (with_lots y (y.lots ++ (q, m) ∷ [])) → z ≡ with_lots (did e x) ((r, l) ∷ (q, m) ∷ [])
+  gains_two e one gained = gained ∙ ap (λ (h : Held B). did e (with_lots h (h.lots ++ (q, m) ∷ []))) one
 
   pub apart : y ≡ with_lots x ((r, l) ∷ []) → (Among (keys y.lots) q → ⊥) → r ≢ q
   apart one fresh same = fresh (subst (λ (h : Held B). Among (keys h.lots) q) (sym one) (inl (sym same)))
 
-  pub has_first : z ≡ with_lots x ((r, l) ∷ (q, m) ∷ []) → lot_at r z.lots ≡ Some l
-  has_first two = ap (λ (h : Held B). lot_at r h.lots) two ∙ here_first r r _ _ refl
+  pub has_first : z ≡ with_lots x ((r, l) ∷ (q, m) ∷ []) → value_at r z.lots ≡ Some l
+  has_first two = ap (λ (h : Held B). value_at r h.lots) two ∙ here_first r r _ _ refl
 
-  pub has_second : z ≡ with_lots x ((r, l) ∷ (q, m) ∷ []) → r ≢ q → lot_at q z.lots ≡ Some m
-  has_second two other = ap (λ (h : Held B). lot_at q h.lots) two ∙ not_here r q _ _ other ∙ here_first q q _ _ refl
+  pub has_second : z ≡ with_lots x ((r, l) ∷ (q, m) ∷ []) → r ≢ q → value_at q z.lots ≡ Some m
+  has_second two other = ap (λ (h : Held B). value_at q h.lots) two ∙ not_here r q _ _ other ∙ here_first q q _ _ refl

@@ -8,12 +8,17 @@ use native.Mathlib.Decide.{ℕ_discrete}
 use lib.ListN.{get_elem?}
 use Rattle.atomic_table.specs.Table.{Me}
 use Rattle.xh_arena.specs.Views.{LotOf}
+use Rattle.xh_model.specs.Keyed.{Among, Distinct, keys, put, without}
+use Rattle.xh_model.proofs.Keyed.{among_back, distinct_push, distinct_split, here_first, keys_append, keys_push, length-keys, not_here, put_keys, split_at_key, without_split}
 use Rattle.xh_records.specs.declared.shape.Shape.{Shape}
 use Rattle.xh_records.specs.declared.view.View.{View}
-use Rattle.xh_records.specs.Showing.{Among, Owns, IsLotAt, gained, lost, renewed, without}
-use Rattle.xh_records.specs.Seats.{keys, owned_by, Distinct, AllBelow, AllLots, IsSeat, in_slot, put}
-use Rattle.xh_records.proofs.Keeps.{among_back}
-use Rattle.xh_records.proofs.Lists.{few, distinct_push, below_push, keys_push, owned_push, among_owned, split_at_key, keys_append, length-keys, here_first, not_here, without_split, slot_split, distinct_split, below_split, owned_without, remove_split, below_at, stands, keys_put}
+use Rattle.xh_model.specs.declared.event.Holder.{Holder}
+use Rattle.xh_model.specs.Words.{number_of, place_of}
+use Rattle.xh_records.specs.History.{taking, giving}
+use Rattle.xh_records.proofs.History.{adds_one}
+use Rattle.xh_records.specs.Showing.{IsAlone, Owns, IsLotAt, events_in, gained, lost, renewed}
+use Rattle.xh_records.specs.Seats.{owned_by, AllBelow, AllLots, IsSeat, in_slot}
+use Rattle.xh_records.proofs.Lists.{few, below_push, owned_push, among_owned, slot_split, below_split, owned_without, remove_split, below_at, stands}
 
 lots_push : {B : Type 0} (s : Shape) (xs : List (ℕ × Option (LotOf B))) (i : ℕ) (l : LotOf B) → AllLots s xs → IsLotAt s i l → AllLots s (xs ++ (i, Some l) ∷ [])
 lots_push s [] i l a h = ((l, refl, h), tt)
@@ -51,17 +56,21 @@ module _ {B : Type 0} (process : ℕ) (order : List ℕ) (capacity slots : ℕ) 
   pub not_among : (i : ℕ) → IsSeat process order capacity slots me → ((p : ℕ) → Owns me.0 i p → ⊥) → Among order i → ⊥
   not_among i seat new h = new process (subst (λ (l : List (ℕ × ℕ)). Among l (i, process)) (sym seat.records) (among_owned process order i h))
 
+  pub is_alone : IsSeat process order capacity slots me → IsAlone me.0 process
+  is_alone seat = (seat.processes, seat.done)
+
   -- one more slot has room
   pub has_room : (i : ℕ) → IsSeat process order capacity slots me → i < slots → ((p : ℕ) → Owns me.0 i p → ⊥) → length order < capacity
   has_room i seat inside new =
       let most : length (i ∷ order) ≤ slots = few slots (i ∷ order) (inside, seat.below) (not_among i seat new, seat.distinct) in let room : slots ≤ capacity = seat.room in let size : length (i ∷ order) ≡ suc (length order) = refl in omega arith
 
-  pub gains : (i : ℕ) (l : LotOf B) → IsSeat process order capacity slots me → i < slots → IsLotAt me.0.shape i l → ((p : ℕ) → Owns me.0 i p → ⊥)
-      → IsSeat process (order ++ i ∷ []) capacity slots (gained me.0 i process, me.1 ++ (i, Some l) ∷ [])
-  gains i l seat inside lot new = record {
+  pub gains : (i : ℕ) (l : LotOf B) (h : Option Holder) → IsSeat process order capacity slots me → i < slots → IsLotAt me.0.shape i l → ((p : ℕ) → Owns me.0 i p → ⊥)
+      → IsSeat process (order ++ i ∷ []) capacity slots (gained me.0 i process h, me.1 ++ (i, Some l) ∷ [])
+  gains i l h seat inside lot new = record {
     processes = seat.processes;
     ordered = ap (λ (k : List ℕ). k ++ i ∷ []) seat.ordered ∙ sym (keys_push me.1 (i, Some l));
     records = ap (λ (k : List (ℕ × ℕ)). k ++ (i, process) ∷ []) seat.records ∙ sym (owned_push process order i);
+    done = (adds_one (taking process (number_of me.0.shape.records i) h) (place_of process) me.0.done seat.done).1;
     lots = lots_push me.0.shape me.1 i l seat.lots lot;
     distinct = distinct_push order i seat.distinct (not_among i seat new);
     below = below_push slots order i seat.below inside;
@@ -87,8 +96,8 @@ module _ {B : Type 0} (process : ℕ) (order : List ℕ) (capacity slots : ℕ) 
       }
 
   -- the seat without the slot that stands behind k others
-  pub loses : (k i : ℕ) → IsSeat process order capacity slots me → get_elem? order k ≡ some i → IsSeat process (remove order k) capacity slots (lost me.0 i, without i me.1)
-  loses k i seat at =
+  pub loses : (k i : ℕ) (h : Option Holder) → IsSeat process order capacity slots me → get_elem? order k ≡ some i → IsSeat process (remove order k) capacity slots (lost me.0 i process h, without i me.1)
+  loses k i h seat at =
       let t = split_at_key me.1 k i (subst (λ (o : List ℕ). get_elem? o k ≡ some i) seat.ordered at) in
       let a = t.0 in let b = t.2 in
       let same : order ≡ keys a ++ i ∷ keys b = seat.ordered ∙ ap keys t.3 ∙ keys_append a ((i, t.1) ∷ b) in
@@ -98,6 +107,7 @@ module _ {B : Type 0} (process : ℕ) (order : List ℕ) (capacity slots : ℕ) 
       record {
         processes = seat.processes;
         ordered = order_is ∙ sym (keys_append a b) ∙ ap keys (sym rest_is);
+        done = (adds_one (giving process (number_of me.0.shape.records i) h) (place_of process) me.0.done seat.done).1;
         records = ap (without i) (seat.records ∙ ap (owned_by process) same) ∙ owned_without process i (keys a) (keys b) d.0 d.1 ∙ ap (owned_by process) (sym order_is);
         lots = subst (AllLots me.0.shape) (sym rest_is) (lots_split me.0.shape a (i, t.1) b (subst (AllLots me.0.shape) t.3 seat.lots)).1;
         distinct = subst Distinct (sym order_is) d.2;
@@ -109,8 +119,9 @@ module _ {B : Type 0} (process : ℕ) (order : List ℕ) (capacity slots : ℕ) 
   pub replaces : (i : ℕ) (y : LotOf B) → IsSeat process order capacity slots me → IsLotAt me.0.shape i y → IsSeat process order capacity slots (me.0, put i (Some y) me.1)
   replaces i y seat is = record {
     processes = seat.processes;
-    ordered = seat.ordered ∙ sym (keys_put i (Some y) me.1);
+    ordered = seat.ordered ∙ sym (put_keys i (Some y) me.1);
     records = seat.records;
+    done = seat.done;
     lots = lots_put me.0.shape i y me.1 is seat.lots;
     distinct = seat.distinct;
     below = seat.below;
@@ -123,6 +134,7 @@ module _ {B : Type 0} (process : ℕ) (order : List ℕ) (capacity slots : ℕ) 
   grows_old seat bare = let none : order ≡ [] = seat.ordered ∙ ap keys bare in record {
     processes = ap (map (λ (p : ℕ). p + 32)) seat.processes;
     ordered = seat.ordered;
+    done = let turn : place_of process ≡ place_of (process + 32) = omega arith in seat.done ∙ ap (λ (q : ℕ). (q, events_in me.0) ∷ []) turn;
     records = seat.records ∙ ap (owned_by process) none ∙ ap (owned_by (process + 32)) (sym none);
     lots = seat.lots;
     distinct = seat.distinct;

@@ -1,6 +1,7 @@
 pub mod Slots
 pub mod Encoding
+pub mod After
+pub mod History
 pub mod Showing
 pub mod Steps
-pub mod After
 pub mod Seats

@@ -4,9 +4,9 @@ ghost use Rattle.std.specs.Slots.{slots_items, slots_len, IsFull as IsWhole};
 ghost use mathlib.Core.Option.{some};
 ghost use lib.ListN.{get_elem?};
 ghost use Rattle.xh_arena.specs.Views.{LotOf};
+ghost use Rattle.xh_model.specs.Keyed.{Among};
 ghost use Rattle.xh_records.specs.Slots.{slot_at, or_else};
-ghost use Rattle.xh_records.specs.Showing.{Among};
-ghost use Rattle.xh_records.specs.Seats.{AllSit, Ends, Held, IsGathered, IsSeatOf, indices, lot_in, view_of};
+ghost use Rattle.xh_records.specs.Seats.{Ends, Held, IsGathered, IsSeatOf, indices, lot_in, view_of};
 
 use crate::hand::{Board, Hand, hand_over, join};
 use crate::records::Records;
@@ -122,7 +122,7 @@ impl<B: Fits + Drop> Records<B> {
         seats: Vec<Seat<B>>,
     ) -> Result<(Vec<u64>, Vec<Lot<B>>), Refused>
         requires own { (k : ℕ) (x : Held B) → slice_get seats.items k ≡ Some x → IsSeatOf self x }
-        requires all { AllSit self.shape.places seats.items }
+        requires all { vec_len seats ≡ self.shape.places }
         ensures { IfOk result (λ r. Ends B.is_fit self.shape seats.items r.0.items r.1.items) }
     {
         let count = self.table.slot_count();

@@ -1,15 +1,16 @@
 // Single steps of a seat: on the word in one slot and what the slot has, and those that change views alone.
-ghost use Rattle.std.specs.Prelude.{◌≡◌, ◌≢◌, ℕ, ◌+◌, ◌<◌, ◌≤◌, ◌==◌, false, [], ◌∷◌, ◌++◌, length, slice_index, Some, Option};
+ghost use Rattle.std.specs.Prelude.{◌≡◌, ◌≢◌, ℕ, ◌+◌, ◌<◌, ◌≤◌, ◌==◌, false, [], ◌∷◌, ◌++◌, length, slice_index, Some, Option, OnOk, IfErr};
 ghost use mathlib.Core.Option.{none, some};
 ghost use prog.Atomic.{either};
 ghost use lib.ListN.{get_elem?};
 ghost use Rattle.atomic_table.specs.Table.{step, Allows};
 ghost use Rattle.xh_arena.specs.Views.{LotOf};
 ghost use Rattle.xh_model.specs.Words.{word_of, IsHolder};
+ghost use Rattle.xh_model.specs.Keyed.{without};
 ghost use Rattle.xh_records.specs.Encoding.{holder_of};
-ghost use Rattle.xh_records.specs.Showing.{Shown, IsLotAt, IsAway, IsHomeLot, IsDealer, Owns, Sits, dealt, dealt_from, gained, joined, lost, renewed, spent, without};
-ghost use Rattle.xh_records.specs.Steps.{Knows};
-ghost use Rattle.xh_records.specs.Seats.{IsListed, JoinIsNoEvent, SplitIsNoEvent, turns, in_slot};
+ghost use Rattle.xh_records.specs.Showing.{Shown, IsLotAt, IsAlone, IsAway, IsHomeLot, IsDealer, Owns, Sits, dealt, dealt_from, gained, joined, lost, renewed, spent};
+ghost use Rattle.xh_records.specs.Steps.{Knows, process_in};
+ghost use Rattle.xh_records.specs.Seats.{IsListed, in_slot, turns};
 
 use crate::plays::{Both, Deal, Gives, Looks, Renews, Takes, Whole};
 use crate::rule::Showing;
@@ -70,45 +71,31 @@ pub(crate) fn position(order: &[u16], slot: u16) -> usize
     k
 }
 
-// One compare on the word in a slot. The rule has to allow it, whatever the word is by then.
-fn compare<B: Fits, P: Play<Option<Lot<B>>, View>>(
-    board: &Board<B>,
-    hand: &mut Hand<B>,
-    slot: u16,
-    old: u64,
-    new: u64,
-) -> u64
-    requires own { (hand.old.table_id ≡ board.now.table_id) × (slot < board.now.table_id.words) }
-    requires allowed { Allows (Shown B.is_fit board.now.key) board.now.table_id.slots hand.old.id hand.old.me slot (λ n. either (n == old) new n) (P.then (step board.now.table_id.slots slot old new none) hand.old.me) }
-    ensures same { (hand.new.table_id ≡ hand.old.table_id) × (hand.new.id ≡ hand.old.id) }
-    ensures told { P.then (step board.now.table_id.slots slot old new none) hand.old.me result hand.new.me }
-{
-    board.compare_exchange::<P>(hand, usize::from(slot), old, new)
-}
-
-// Takes the slot of a record that it finds free, or in flight, for a process, behind the hand's other slots. It answers the word that it found.
+// Takes the slot of a record that it finds free, or in flight, for a process, behind the hand's other slots. The error is the word that it found, which says something else.
 pub(crate) fn take_slot<B: Fits>(
     board: &Board<B>,
     hand: &mut Hand<B>,
     slot: u16,
     from: OwnerWord,
     process: u16,
-) -> u64
+) -> Result<(), u64>
     requires own { hand.old.table_id ≡ board.now.table_id }
     requires inside { (slot < board.now.table_id.words) × (slot < board.now.table_id.slots) }
-    requires process { hand.old.me.0.processes ≡ process ∷ [] }
+    requires process { IsAlone hand.old.me.0 process }
     requires away { IsAway (holder_of from) }
     ensures same { (hand.new.table_id ≡ hand.old.table_id) × (hand.new.id ≡ hand.old.id) }
-    ensures taken { result ≡ word_of (holder_of from) → (l : LotOf B) × (hand.new.me ≡ (gained hand.old.me.0 slot process, hand.old.me.1 ++ (slot, Some l) ∷ [])) × IsLotAt hand.old.me.0.shape slot l × IsHomeLot B.is_fit (holder_of from) l × ((p : ℕ) → Owns hand.old.me.0 slot p → ⊥) }
-    ensures missed { result ≢ word_of (holder_of from) → (hand.new.me ≡ hand.old.me) × Knows hand.old.me.0 slot result }
+    ensures taken { OnOk result ((l : LotOf B) × (hand.new.me ≡ (gained hand.old.me.0 slot process (holder_of from), hand.old.me.1 ++ (slot, Some l) ∷ [])) × IsLotAt hand.old.me.0.shape slot l × IsHomeLot B.is_fit (holder_of from) l × ((p : ℕ) → Owns hand.old.me.0 slot p → ⊥)) }
+    ensures missed { IfErr result (λ word. (word ≢ word_of (holder_of from)) × Knows hand.old.me.0 slot word × (hand.new.me ≡ hand.old.me)) }
 {
     let wanted = from.encode();
     let owned = OwnerWord::Owned(process).encode();
-    let found = compare::<B, Takes>(board, hand, slot, wanted, owned);
-    if found == wanted {
-        hand.turn();
+    let at = usize::from(slot);
+    let found = board.compare_exchange::<Takes>(hand, at, wanted, owned);
+    if found != wanted {
+        return Err(found);
     }
-    found
+    hand.turn();
+    Ok(())
 }
 
 // Stores the word of a record whose lot goes home. It answers where the slot stood in the order.
@@ -123,8 +110,8 @@ pub(crate) fn give_slot<B: Fits>(
     requires listed { IsListed order.now hand.old.me.1 slot }
     requires away { IsAway (holder_of to) × IsHolder (holder_of to) }
     requires lot { (l : LotOf B) × (in_slot slot hand.old.me.1 ≡ Some l) × IsLotAt hand.old.me.0.shape slot l × IsHomeLot B.is_fit (holder_of to) l }
-    requires owned { (p : ℕ) × Owns hand.old.me.0 slot p }
-    ensures hand { (hand.new.table_id ≡ hand.old.table_id) × (hand.new.id ≡ hand.old.id) × (hand.new.me ≡ (lost hand.old.me.0 slot, without slot hand.old.me.1)) }
+    requires owned { (p : ℕ) × IsAlone hand.old.me.0 p × Owns hand.old.me.0 slot p }
+    ensures hand { (hand.new.table_id ≡ hand.old.table_id) × (hand.new.id ≡ hand.old.id) × (hand.new.me ≡ (lost hand.old.me.0 slot (process_in hand.old.me.0) (holder_of to), without slot hand.old.me.1)) }
     ensures place { get_elem? order.now result ≡ some slot }
 {
     let k = position(order, slot);
@@ -162,7 +149,6 @@ pub(crate) fn deal<B: Fits>(board: &Board<B>, hand: &mut Hand<B>) -> Hand<B>
     requires places { IsDealer hand.old.me.0 }
     ensures hand { (hand.new.table_id ≡ hand.old.table_id) × (hand.new.id ≡ hand.old.id) × (hand.new.me ≡ (dealt_from hand.old.me.0, hand.old.me.1)) }
     ensures seat { (result.table_id ≡ hand.old.table_id) × (result.me ≡ (dealt hand.old.me.0, [])) }
-    ensures event { SplitIsNoEvent B.is_fit board.now.key hand.old.id hand.old.me.0 hand.new.me.0 result.me.0 }
 {
     board.split_seat::<Deal>(hand)
 }
@@ -172,7 +158,6 @@ pub(crate) fn hand_over<B: Fits>(board: &Board<B>, hand: &mut Hand<B>) -> Hand<B
     requires own { (hand.old.table_id ≡ board.now.table_id) × (0 < board.now.table_id.words) }
     ensures hand { (hand.new.table_id ≡ hand.old.table_id) × (hand.new.id ≡ hand.old.id) × (hand.new.me ≡ (spent, hand.old.me.1)) }
     ensures seat { (result.table_id ≡ hand.old.table_id) × (result.me ≡ (hand.old.me.0, [])) }
-    ensures event { SplitIsNoEvent B.is_fit board.now.key hand.old.id hand.old.me.0 hand.new.me.0 result.me.0 }
 {
     board.split_seat::<Whole>(hand)
 }
@@ -183,7 +168,6 @@ pub(crate) fn join<B: Fits>(board: &Board<B>, hand: &mut Hand<B>, other: Hand<B>
     requires empty { other.me.1 ≡ [] }
     requires place { (p : ℕ) × Sits hand.old.me.0 p }
     ensures hand { (hand.new.table_id ≡ hand.old.table_id) × (hand.new.id ≡ hand.old.id) × (hand.new.me ≡ (joined hand.old.me.0 other.me.0, hand.old.me.1)) }
-    ensures event { JoinIsNoEvent B.is_fit board.now.key hand.old.id hand.old.me.0 other.id other.me.0 hand.new.me.0 }
 {
     board.join_seat::<Both>(hand, other);
 }

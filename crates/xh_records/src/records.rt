@@ -1,13 +1,15 @@
 ghost use Rattle.std.specs.Prelude.{◌≡◌, ◌≢◌, ℕ, ◌+◌, ◌*◌, ◌/◌, ◌%◌, ◌<◌, ◌≤◌, [], ◌∷◌, ◌++◌, length, slice_get, slice_index, Some, IfOk, IfErr, OnErr, OnOk, MatchBool, map};
-ghost use mathlib.Core.Option.{none, some};
+ghost use mathlib.Core.Option.{none};
 ghost use Rattle.xh_arena.specs.Views.{LotOf};
-ghost use Rattle.xh_model.specs.declared.event.Holder.TheVariants.{Process};
 ghost use Rattle.xh_model.specs.declared.event.Event.TheVariants.{Claim, Vacate, Pass, Accept};
+ghost use Rattle.xh_model.specs.declared.limits.TheConstants.{MAX_ARENAS};
 ghost use Rattle.xh_model.specs.Slots.{index_of};
 ghost use Rattle.xh_model.specs.Words.{word_of, IsHolder, IsWord, generation_of};
+ghost use Rattle.xh_model.specs.Keyed.{Among, keys, value_at, without};
 ghost use Rattle.xh_records.specs.Encoding.{holder_of};
-ghost use Rattle.xh_records.specs.Steps.{Knows};
-ghost use Rattle.xh_records.specs.Showing.{Among, IsLotOf, IsAway, IsHomeLot, IsEmpty, IsFull, without};
+ghost use Rattle.xh_records.specs.History.{taking, giving};
+ghost use Rattle.xh_records.specs.Steps.{Knows, SawTaken};
+ghost use Rattle.xh_records.specs.Showing.{IsLotOf, IsAway, IsHomeLot, IsEmpty, IsFull};
 
 use crate::hand::{deal, give_slot, look_at, renew_hand, take_slot};
 use crate::refused::Refused;
@@ -28,7 +30,7 @@ use xh_arena::{Fits, Lot, Name};
 #[derive(Drop)]
 pub struct Records<B: Fits> {
     pub(crate) table: Table<Option<Lot<B>>, View, Shape, Showing<B>, Global>,
-    pub(crate) arenas: usize,
+    pub(crate) arenas: u8,
     pub(crate) records: u16,
 }
 
@@ -58,7 +60,7 @@ fn in_slots<B: Drop>(alloc: Global, lots: Vec<Lot<B>>) -> Result<Vec<Option<Lot<
 }
 
 impl<B: Fits + Drop> Records<B> {
-    ghost use Rattle.xh_records.specs.Seats.{Held, IsSeatOf, IsRecord, IsSmall, IsStep, IsEvent, IsNoEvent, keys, lot_at, view_of, with_lots};
+    ghost use Rattle.xh_records.specs.Seats.{Held, IsSeatOf, IsRecord, did, view_of, with_lots};
 
     /// A table over the empty lots of whole vaults, one after the other, each of `records` lots (1 to
     /// 256), which have these names; and a seat for each of the `places` (1 to 32) at its first
@@ -71,11 +73,12 @@ impl<B: Fits + Drop> Records<B> {
         places: u8,
     ) -> Result<(Records<B>, Vec<Seat<B>>), Refused>
         requires limits { (0 < records) × (records ≤ 256) × (0 < places) × (places ≤ 32) }
+        requires few { length names ≤ MAX_ARENAS }
         requires whole { (0 < length lots.items) × (length lots.items ≡ length names * records) }
         requires empty { (k : ℕ) (l : LotOf B) → slice_get lots.items k ≡ Some l → (l.index ≡ k % records) × (slice_get names (k / records) ≡ Some l.id) × IsEmpty l }
         ensures shape { IfOk result (λ r. r.0.shape ≡ record { records = records; places = places; names = names }) }
         ensures slots { IfOk result (λ r. r.0.table.slots ≡ length lots.items) }
-        ensures seats { IfOk result (λ r. (length r.1.items ≡ places) × ((k : ℕ) (x : Held B) → slice_get r.1.items k ≡ Some x → IsSeatOf r.0 x × (x.process ≡ k) × (x.lots ≡ []))) }
+        ensures seats { IfOk result (λ r. (length r.1.items ≡ places) × ((k : ℕ) (x : Held B) → slice_get r.1.items k ≡ Some x → IsSeatOf r.0 x × (x.process ≡ k) × (x.lots ≡ []) × (x.done ≡ []))) }
     {
         let count = lots.len();
         let arenas = names.len();
@@ -103,17 +106,31 @@ impl<B: Fits + Drop> Records<B> {
         }
         let all = Records {
             table,
-            arenas,
+            arenas: arenas as u8,
             records,
         };
         Ok((all, seats))
+    }
+
+    /// How many arenas there are.
+    pub fn arenas(&self) -> u8
+        ensures { (result ≡ length self.now.shape.names) × (result ≤ MAX_ARENAS) }
+    {
+        self.arenas
+    }
+
+    /// How many records each arena has.
+    pub fn per_arena(&self) -> u16
+        ensures { (result ≡ self.now.shape.records) × (0 < result) × (result ≤ 256) × (self.now.table.slots ≡ length self.now.shape.names * self.now.shape.records) }
+    {
+        self.records
     }
 
     /// Whether there is a record of this number: 256 times its arena, and its index there.
     pub fn has(&self, number: u16) -> bool
         ensures { MatchBool result (IsRecord self.now.shape number) (IsRecord self.now.shape number → ⊥) }
     {
-        usize::from(number / 256) < self.arenas && number % 256 < self.records
+        number / 256 < u16::from(self.arenas) && number % 256 < self.records
     }
 
     // Where a record's word and slot are.
@@ -125,23 +142,23 @@ impl<B: Fits + Drop> Records<B> {
         number / 256 * self.records + number % 256
     }
 
-    // One compare on a record's word, which takes the record where it found it as wanted. It answers the word that it found.
-    fn take(&self, seat: &mut Seat<B>, number: u16, from: OwnerWord) -> u64
+    // One compare on a record's word, which takes the record where it finds it as wanted. The error is the word that it found, which says something else.
+    fn take(&self, seat: &mut Seat<B>, number: u16, from: OwnerWord) -> Result<(), u64>
         requires own { IsSeatOf self.now seat.old }
         requires exists { IsRecord self.now.shape number }
         requires away { IsAway (holder_of from) }
-        ensures taken { result ≡ word_of (holder_of from) → (l : LotOf B) × (seat.new ≡ with_lots seat.old (seat.old.lots ++ (number, l) ∷ [])) × IsLotOf seat.old.shape number l × IsHomeLot B.is_fit (holder_of from) l }
-        ensures fresh { result ≡ word_of (holder_of from) → Among (keys seat.old.lots) number → ⊥ }
-        ensures step { result ≡ word_of (holder_of from) → IsStep B.is_fit self.now.shape seat.old seat.new number (holder_of from) (Some (Process seat.old.process)) none }
-        ensures missed { result ≢ word_of (holder_of from) → (seat.new ≡ seat.old) × Knows (view_of seat.old) (index_of self.now.shape.records number) result }
+        ensures taken { OnOk result ((l : LotOf B) × (seat.new ≡ did (taking seat.old.process number (holder_of from)) (with_lots seat.old (seat.old.lots ++ (number, l) ∷ []))) × IsLotOf seat.old.shape number l × IsHomeLot B.is_fit (holder_of from) l) }
+        ensures fresh { OnOk result (Among (keys seat.old.lots) number → ⊥) }
+        ensures missed { IfErr result (λ word. (word ≢ word_of (holder_of from)) × Knows (view_of seat.old) (index_of self.now.shape.records number) word × (seat.new ≡ seat.old)) }
     {
         let slot = self.slot_of(number);
-        let wanted = from.encode();
-        let found = take_slot(&self.table.shared, &mut seat.hand, slot, from, seat.process);
-        if found == wanted {
-            seat.order.push_reserved(slot);
+        match take_slot(&self.table.shared, &mut seat.hand, slot, from, seat.process) {
+            Ok(()) => {
+                seat.order.push_reserved(slot);
+                Ok(())
+            }
+            Err(word) => Err(word),
         }
-        found
     }
 
     // One store on the word of a record that the seat holds, whose lot goes home.
@@ -149,9 +166,8 @@ impl<B: Fits + Drop> Records<B> {
         requires own { IsSeatOf self.now seat.old }
         requires exists { IsRecord self.now.shape number }
         requires away { IsAway (holder_of to) × IsHolder (holder_of to) }
-        requires held { (l : LotOf B) × (lot_at number seat.old.lots ≡ Some l) × IsHomeLot B.is_fit (holder_of to) l }
-        ensures given { seat.new ≡ with_lots seat.old (without number seat.old.lots) }
-        ensures step { IsStep B.is_fit self.now.shape seat.old seat.new number (Some (Process seat.old.process)) (holder_of to) (some (lot_at number seat.old.lots)) }
+        requires held { (l : LotOf B) × (value_at number seat.old.lots ≡ Some l) × IsHomeLot B.is_fit (holder_of to) l }
+        ensures { seat.new ≡ did (giving seat.old.process number (holder_of to)) (with_lots seat.old (without number seat.old.lots)) }
     {
         let slot = self.slot_of(number);
         let board = &self.table.shared;
@@ -159,33 +175,14 @@ impl<B: Fits + Drop> Records<B> {
         seat.order.remove(k);
     }
 
-    // Takes a record that is free. The error is the word that it found, which says something else.
-    fn claim_one(&self, seat: &mut Seat<B>, number: u16) -> Result<(), u64>
-        requires own { IsSeatOf self.now seat.old }
-        requires exists { IsRecord self.now.shape number }
-        ensures claimed { OnOk result ((l : LotOf B) × (seat.new ≡ with_lots seat.old (seat.old.lots ++ (number, l) ∷ [])) × IsLotOf seat.old.shape number l × IsEmpty l) }
-        ensures fresh { OnOk result (Among (keys seat.old.lots) number → ⊥) }
-        ensures event { OnOk result (IsEvent B.is_fit self.now.shape seat.old seat.new (Claim seat.old.process number)) }
-        ensures missed { IfErr result (λ word. (word ≢ 0) × Knows (view_of seat.old) (index_of self.now.shape.records number) word × (seat.new ≡ seat.old)) }
-    {
-        let word = self.take(seat, number, OwnerWord::Free);
-        if word == OwnerWord::Free.encode() {
-            Ok(())
-        } else {
-            Err(word)
-        }
-    }
-
-    /// Takes the first record of the arena that it finds free: one compare a record, from index 0 on.
-    /// Its lot is empty. The error has a word for each record, none of them free.
-    pub fn claim(&self, seat: &mut Seat<B>, arena: u8) -> Result<u16, Seen>
+    // One compare on each record of the arena, up to the first that it finds free. The error has the words that it found.
+    fn claim_seen(&self, seat: &mut Seat<B>, arena: u8) -> Result<u16, Seen>
         requires own { IsSeatOf self.now seat.old }
         requires arena { arena < length self.now.shape.names }
         ensures record { IfOk result (λ r. (r / 256 ≡ arena) × (r % 256 < self.now.shape.records)) }
-        ensures claimed { IfOk result (λ r. (l : LotOf B) × (seat.new ≡ with_lots seat.old (seat.old.lots ++ (r, l) ∷ [])) × IsLotOf seat.old.shape r l × IsEmpty l) }
+        ensures claimed { IfOk result (λ r. (l : LotOf B) × (seat.new ≡ did (Claim seat.old.process r) (with_lots seat.old (seat.old.lots ++ (r, l) ∷ []))) × IsLotOf seat.old.shape r l × IsEmpty l) }
         ensures fresh { IfOk result (λ r. Among (keys seat.old.lots) r → ⊥) }
-        ensures event { IfOk result (λ r. IsEvent B.is_fit self.now.shape seat.old seat.new (Claim seat.old.process r)) }
-        ensures seen { IfErr result (λ s. (length s.words.items ≡ self.now.shape.records) × ((k : ℕ) → k < self.now.shape.records → (slice_index s.words.items k ≢ 0) × IsWord (slice_index s.words.items k))) }
+        ensures seen { IfErr result (λ s. SawTaken (view_of seat.old) arena s.words.items) }
         ensures missed { OnErr result (seat.new ≡ seat.old) }
     {
         let mut seen = Seen {
@@ -193,7 +190,7 @@ impl<B: Fits + Drop> Records<B> {
         };
         for index in 0..self.records {
             let number = number_at(arena, index);
-            match self.claim_one(seat, number) {
+            match self.take(seat, number, OwnerWord::Free) {
                 Ok(()) => return Ok(number),
                 Err(word) => seen.words.push(word),
             }
@@ -201,23 +198,40 @@ impl<B: Fits + Drop> Records<B> {
         Err(seen)
     }
 
+    /// Takes the first record of the arena that it finds free, from index 0 on. Its lot is empty. The
+    /// error has a word for each record, which it found there at one moment, none of them free.
+    pub fn claim(&self, seat: &mut Seat<B>, arena: u8) -> Result<u16, Seen>
+        requires own { IsSeatOf self.now seat.old }
+        requires arena { arena < length self.now.shape.names }
+        ensures record { IfOk result (λ r. (r / 256 ≡ arena) × (r % 256 < self.now.shape.records)) }
+        ensures claimed { IfOk result (λ r. (l : LotOf B) × (seat.new ≡ did (Claim seat.old.process r) (with_lots seat.old (seat.old.lots ++ (r, l) ∷ []))) × IsLotOf seat.old.shape r l × IsEmpty l) }
+        ensures fresh { IfOk result (λ r. Among (keys seat.old.lots) r → ⊥) }
+        ensures seen { IfErr result (λ s. SawTaken (view_of seat.old) arena s.words.items) }
+        ensures missed { OnErr result (seat.new ≡ seat.old) }
+    {
+        // A look at a record that is taken costs much less than a compare.
+        for index in 0..self.records {
+            let number = number_at(arena, index);
+            if self.owner_word(seat, number) != OwnerWord::Free.encode() {
+                continue;
+            }
+            if let Ok(()) = self.take(seat, number, OwnerWord::Free) {
+                return Ok(number);
+            }
+        }
+        self.claim_seen(seat, arena)
+    }
+
     /// Takes a record that is in flight on the direction (0 to 127). The error is the word that it
     /// found, which says something else.
     pub fn accept(&self, seat: &mut Seat<B>, number: u16, direction: u8) -> Result<(), u64>
         requires own { IsSeatOf self.now seat.old }
         requires exists { IsRecord self.now.shape number × (direction < 128) }
-        ensures accepted { OnOk result ((l : LotOf B) × (seat.new ≡ with_lots seat.old (seat.old.lots ++ (number, l) ∷ [])) × IsLotOf seat.old.shape number l × IsFull B.is_fit l) }
+        ensures accepted { OnOk result ((l : LotOf B) × (seat.new ≡ did (Accept seat.old.process number direction) (with_lots seat.old (seat.old.lots ++ (number, l) ∷ []))) × IsLotOf seat.old.shape number l × IsFull B.is_fit l) }
         ensures fresh { OnOk result (Among (keys seat.old.lots) number → ⊥) }
-        ensures event { OnOk result (IsEvent B.is_fit self.now.shape seat.old seat.new (Accept seat.old.process number direction)) }
         ensures missed { IfErr result (λ word. (word ≢ 2 + 4 * direction) × Knows (view_of seat.old) (index_of self.now.shape.records number) word × (seat.new ≡ seat.old)) }
     {
-        let wanted = OwnerWord::InFlight(direction);
-        let found = self.take(seat, number, wanted);
-        if found == wanted.encode() {
-            Ok(())
-        } else {
-            Err(found)
-        }
+        self.take(seat, number, OwnerWord::InFlight(direction))
     }
 
     /// Puts a record that the seat holds, whose lot is well formed, in flight on the direction (0 to
@@ -225,9 +239,8 @@ impl<B: Fits + Drop> Records<B> {
     pub fn pass(&self, seat: &mut Seat<B>, number: u16, direction: u8)
         requires own { IsSeatOf self.now seat.old }
         requires exists { IsRecord self.now.shape number × (direction < 128) }
-        requires held { (l : LotOf B) × (lot_at number seat.old.lots ≡ Some l) × IsFull B.is_fit l }
-        ensures passed { seat.new ≡ with_lots seat.old (without number seat.old.lots) }
-        ensures event { IsEvent B.is_fit self.now.shape seat.old seat.new (Pass seat.old.process number direction) }
+        requires held { (l : LotOf B) × (value_at number seat.old.lots ≡ Some l) × IsFull B.is_fit l }
+        ensures passed { seat.new ≡ did (Pass seat.old.process number direction) (with_lots seat.old (without number seat.old.lots)) }
     {
         self.give(seat, number, OwnerWord::InFlight(direction));
     }
@@ -236,9 +249,8 @@ impl<B: Fits + Drop> Records<B> {
     pub fn vacate(&self, seat: &mut Seat<B>, number: u16)
         requires own { IsSeatOf self.now seat.old }
         requires exists { IsRecord self.now.shape number }
-        requires held { (l : LotOf B) × (lot_at number seat.old.lots ≡ Some l) × IsEmpty l }
-        ensures vacated { seat.new ≡ with_lots seat.old (without number seat.old.lots) }
-        ensures event { IsEvent B.is_fit self.now.shape seat.old seat.new (Vacate seat.old.process number) }
+        requires held { (l : LotOf B) × (value_at number seat.old.lots ≡ Some l) × IsEmpty l }
+        ensures vacated { seat.new ≡ did (Vacate seat.old.process number) (with_lots seat.old (without number seat.old.lots)) }
     {
         self.give(seat, number, OwnerWord::Free);
     }
@@ -250,7 +262,6 @@ impl<B: Fits + Drop> Records<B> {
         requires exists { IsRecord self.now.shape number }
         ensures word { Knows (view_of seat.old) (index_of self.now.shape.records number) result }
         ensures same { seat.new ≡ seat.old }
-        ensures event { IsNoEvent B.is_fit self.now.shape seat.old seat.new }
     {
         let slot = self.slot_of(number);
         look_at(&self.table.shared, &mut seat.hand, slot)
@@ -264,7 +275,6 @@ impl<B: Fits + Drop> Records<B> {
         requires generation { generation_of seat.old.process < 127 }
         ensures process { result ≡ seat.old.process + 32 }
         ensures renewed { seat.new ≡ record seat.old { process = seat.old.process + 32 } }
-        ensures event { IsNoEvent B.is_fit self.now.shape seat.old seat.new }
     {
         renew_hand(&self.table.shared, &mut seat.hand, seat.process);
         seat.process += 32;

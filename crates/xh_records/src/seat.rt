@@ -1,4 +1,8 @@
-ghost use Rattle.std.specs.Prelude.{◌≡◌};
+ghost use Rattle.std.specs.Prelude.{◌≡◌, ◌≤◌, ℕ, Some, length};
+ghost use Rattle.xh_arena.specs.Views.{LotOf};
+ghost use Rattle.xh_model.specs.Keyed.{value_at};
+ghost use Rattle.xh_records.specs.Seats.{IsRecord};
+ghost use Rattle.xh_records.specs.Showing.{IsLotOf};
 
 use crate::hand::Hand;
 use std::marker::Model;
@@ -17,10 +21,11 @@ pub struct Seat<B> {
 impl<B> Model for Seat<B> {
     ghost use Rattle.std.specs.Vec.{vec_capacity};
     ghost use Rattle.xh_records.specs.Seats.{Held, IsSeat, numbered};
+    ghost use Rattle.xh_records.specs.Showing.{events_in};
 
     ghost Value = { Held B };
 
-    ghost view = { λ s. record { table = s.hand.table_id; id = s.hand.id; shape = s.hand.me.0.shape; process = s.process; lots = numbered s.hand.me.0.shape.records s.hand.me.1 } };
+    ghost view = { λ s. record { table = s.hand.table_id; id = s.hand.id; shape = s.hand.me.0.shape; process = s.process; lots = numbered s.hand.me.0.shape.records s.hand.me.1; done = events_in s.hand.me.0 } };
 
     ghost invariant = { λ s. IsSeat s.process s.order.items (vec_capacity s.order) s.hand.table_id.slots s.hand.me };
 }
@@ -31,5 +36,15 @@ impl<B> Seat<B> {
         ensures { result ≡ self.now.process }
     {
         self.process
+    }
+
+    /// How many records it holds. Each is a record of the table, and the seat has that record's own
+    /// lot.
+    pub fn count(&self) -> usize
+        ensures count { result ≡ length self.now.lots }
+        ensures few { result ≤ self.now.table.slots }
+        ensures lots { (r : ℕ) (l : LotOf B) → value_at r self.now.lots ≡ Some l → IsRecord self.now.shape r × IsLotOf self.now.shape r l }
+    {
+        self.order.len()
     }
 }

@@ -1,6 +1,5 @@
 //! Worked examples: a record goes its round, two threads claim, and what is refused.
 ghost use Rattle.std.specs.Prelude.{◌≡◌, ◌<◌, ◌≤◌, [], ◌∷◌, length, IfSome, IfOk};
-ghost use Rattle.xh_model.specs.Words.{place_of};
 ghost use Rattle.xh_records.specs.Seats.{IsSeatOf};
 
 mod pairs;
@@ -75,7 +74,6 @@ fn close_both(
     second: Seat<Any>,
 ) -> Result<(Vec<u64>, Vec<Lot<Any>>), Refused>
     requires own { IsSeatOf records first × IsSeatOf records second × (records.shape.places ≡ 2) }
-    requires places { (place_of first.process ≡ 0) × (place_of second.process ≡ 1) }
     ensures long { IfOk result (λ r. length r.0.items ≡ length r.1.items) }
 {
     let Ok(seats) = vec![in alloc; first, second] else {

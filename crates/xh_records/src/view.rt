@@ -1,11 +1,13 @@
 use crate::shape::Shape;
 use std::collections::LinkedList;
+use xh_model::Event;
 
 /// What a seat at the table knows: the processes that it stands for, each a place with its generation,
-/// and the records that it holds, each by its index beside the process that owns it. No value of it is
-/// ever made.
+/// the records that it holds, each by its index beside the process that owns it, and for each place the
+/// events that its processes did, in their order. No value of it is ever made.
 pub struct View {
     pub shape: Shape,
     pub processes: LinkedList<u64>,
     pub records: LinkedList<(u64, u64)>,
+    pub done: LinkedList<(u64, LinkedList<Event>)>,
 }

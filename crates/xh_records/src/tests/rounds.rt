@@ -1,8 +1,9 @@
 // A record that is claimed, carved, passed, accepted, given back and vacated.
-ghost use Rattle.std.specs.Prelude.{◌≡◌, ◌<◌, [], ◌∷◌, IfSome, Some};
+ghost use Rattle.std.specs.Prelude.{◌≡◌, ◌<◌, [], ◌∷◌, IfSome, Some, length};
 ghost use Rattle.xh_arena.specs.Views.{LotOf};
+ghost use Rattle.xh_model.specs.Keyed.{put, value_at};
 ghost use Rattle.xh_records.specs.Showing.{IsLotOf};
-ghost use Rattle.xh_records.specs.Seats.{IsRecord, IsSeatOf, lot_at, put, with_lots};
+ghost use Rattle.xh_records.specs.Seats.{IsRecord, IsSeatOf, with_lots};
 
 use super::{Any, Bench, close_both, make_bench};
 use crate::{Records, Refused, Seat};
@@ -20,8 +21,8 @@ pub(super) fn carve_at(
 ) -> Option<u32>
     requires own { IsSeatOf records.now seat.old × IsRecord records.now.shape number }
     requires ids { tally.old.id ≡ vault.old.id }
-    requires held { (l : LotOf Any) × (lot_at number seat.old.lots ≡ Some l) × IsLotOf seat.old.shape number l × (l.id ≡ vault.old.id) × (l.len ≡ 0) }
-    ensures lot { IfSome result (λ _. (l : LotOf Any) → lot_at number seat.old.lots ≡ Some l → seat.new ≡ with_lots seat.old (put number (record l { len = 32 }) seat.old.lots)) }
+    requires held { (l : LotOf Any) × (value_at number seat.old.lots ≡ Some l) × IsLotOf seat.old.shape number l × (l.id ≡ vault.old.id) × (l.len ≡ 0) }
+    ensures lot { IfSome result (λ _. (l : LotOf Any) → value_at number seat.old.lots ≡ Some l → seat.new ≡ with_lots seat.old (put number (record l { len = 32 }) seat.old.lots)) }
     ensures ids { (tally.new.id ≡ vault.new.id) × (vault.new.id ≡ vault.old.id) }
 {
     records.with_lot(
@@ -41,8 +42,8 @@ fn give_back_at(
 )
     requires own { IsSeatOf records.now seat.old × IsRecord records.now.shape number }
     requires ids { tally.old.id ≡ vault.old.id }
-    requires held { (l : LotOf Any) × (lot_at number seat.old.lots ≡ Some l) × IsLotOf seat.old.shape number l × (l.id ≡ vault.old.id) × (0 < l.len) }
-    ensures lot { (l : LotOf Any) → lot_at number seat.old.lots ≡ Some l → seat.new ≡ with_lots seat.old (put number (record l { len = 0 }) seat.old.lots) }
+    requires held { (l : LotOf Any) × (value_at number seat.old.lots ≡ Some l) × IsLotOf seat.old.shape number l × (l.id ≡ vault.old.id) × (0 < l.len) }
+    ensures lot { (l : LotOf Any) → value_at number seat.old.lots ≡ Some l → seat.new ≡ with_lots seat.old (put number (record l { len = 0 }) seat.old.lots) }
     ensures ids { (tally.new.id ≡ vault.new.id) × (vault.new.id ≡ vault.old.id) }
 {
     records.with_lot(
@@ -65,7 +66,7 @@ pub(super) fn give_away(
     requires bare { seat.old.lots ≡ [] }
     requires names { (records.now.shape.names ≡ vault.old.id ∷ []) × (direction < 128) }
     requires ids { tally.old.id ≡ vault.old.id }
-    ensures seat { seat.new ≡ with_lots seat.old [] }
+    ensures seat { (seat.new.table ≡ seat.old.table) × (seat.new.shape ≡ seat.old.shape) × (seat.new.process ≡ seat.old.process) × (seat.new.lots ≡ []) }
     ensures ids { (tally.new.id ≡ vault.new.id) × (vault.new.id ≡ vault.old.id) }
 {
     let Ok(number) = records.claim(seat, 0) else {
@@ -92,7 +93,7 @@ fn take_over(
     requires bare { seat.old.lots ≡ [] }
     requires names { records.now.shape.names ≡ vault.old.id ∷ [] }
     requires ids { tally.old.id ≡ vault.old.id }
-    ensures seat { seat.new ≡ with_lots seat.old [] }
+    ensures seat { (seat.new.table ≡ seat.old.table) × (seat.new.shape ≡ seat.old.shape) × (seat.new.process ≡ seat.old.process) × (seat.new.lots ≡ []) }
 {
     let Err(word) = records.accept(seat, 0, 4) else {
         panic!(rt; "on another direction");
@@ -129,6 +130,44 @@ fn record_words(rt: HostRuntime) -> Result<(), Fail> {
     let (words, lots) = close_both(rt.alloc(), records, first, second)?;
     assert_eq!(rt; words.as_slice(), [0, 0].as_slice());
     assert_eq!(rt; (lots[0].len(), lots[1].len(), lots.len()), (0, 0, 2));
+    Ok(())
+}
+
+/// The seat claims a record of arena 0.
+fn claim_next(rt: &impl Abort, records: &Records<Any>, seat: &mut Seat<Any>) -> u16
+    requires { IsSeatOf records.now seat.old × (0 < length records.now.shape.names) }
+    ensures { IsSeatOf records.now seat.new }
+{
+    let Ok(number) = records.claim(seat, 0) else {
+        panic!(rt; "no record");
+    };
+    number
+}
+
+/// A full arena: a record in flight, one of the first process and one of the second.
+#[test]
+fn full_arena(rt: HostRuntime) -> Result<(), Fail> {
+    let Some(bench) = make_bench(rt.alloc(), 64, 3, 1000) else {
+        panic!(rt; "no bench");
+    };
+    let Bench {
+        mut vault,
+        mut tally,
+        records,
+        mut first,
+        mut second,
+    } = bench;
+    assert_eq!(rt; (records.arenas(), records.per_arena()), (1, 3));
+    give_away(&rt, &records, &mut first, &mut vault, &mut tally, 5);
+    assert_eq!(rt; claim_next(&rt, &records, &mut first), 1);
+    assert_eq!(rt; claim_next(&rt, &records, &mut second), 2);
+    assert_eq!(rt; (first.count(), second.count()), (1, 1));
+    let Err(seen) = records.claim(&mut second, 0) else {
+        panic!(rt; "one was free");
+    };
+    let words: [u64; 3] = [22, 1, 5];
+    assert_eq!(rt; seen.words.as_slice(), words.as_slice());
+    assert_eq!(rt; second.count(), 1);
     Ok(())
 }
 

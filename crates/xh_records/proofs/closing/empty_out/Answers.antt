@@ -2,9 +2,10 @@ use Rattle.std.proofs.Common.{rules, arith, ◌≡◌, ℕ, ◌+◌, ◌<◌, �
 use Rattle.std.specs.Prelude.{None}
 use Rattle.std.specs.Vec.{vec_len}
 use Rattle.atomic_table.specs.Table.{rest, turned}
-use Rattle.xh_records.specs.Seats.{in_slot, lot_in, indices, Held, slot_at, or_else, keys, AllLots, AllBelow, Distinct}
-use Rattle.xh_records.specs.Showing.{Among}
-use Rattle.xh_records.proofs.Lists.{next_slot, all_front, index_is, fills, first_is, distinct_split, keys_append, below_at}
+use Rattle.xh_model.specs.Keyed.{Among, Distinct, keys}
+use Rattle.xh_model.proofs.Keyed.{distinct_split, keys_append}
+use Rattle.xh_records.specs.Seats.{in_slot, lot_in, indices, Held, slot_at, or_else, AllLots, AllBelow}
+use Rattle.xh_records.proofs.Lists.{next_slot, all_front, index_is, fills, first_is, below_at}
 use Rattle.xh_records.proofs.Seating.{lot_here, all_full}
 use Rattle.xh_records.proofs.Numbered.{indices_are, lot_numbered, views_are}
 use Rattle.xh_records.proofs.closing.empty_out.Goals as goal

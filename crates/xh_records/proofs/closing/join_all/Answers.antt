@@ -1,11 +1,11 @@
-use Rattle.std.proofs.Common.{rules, arith, ◌≡◌, ℕ, suc, ◌<◌, ◌≤◌, length, inl, refl, sym, ap, ◌∙◌, subst, [], ◌∷◌, ◌++◌, append_assoc, length-append}
+use Rattle.std.proofs.Common.{rules, arith, ◌≡◌, ℕ, suc, ◌<◌, length, inl, refl, sym, ap, ◌∙◌, subst, [], ◌∷◌, ◌++◌, append_assoc, length-append}
 use Rattle.std.specs.Vec.{vec_len}
 use mathlib.Core.Option.{some}
 use lib.ListN.{get_elem?}
 use Rattle.atomic_table.proofs.Lists.{at_last, at_longer}
+use Rattle.xh_model.proofs.Keyed.{among_front}
 use Rattle.xh_records.specs.Seats.{IsGathered, view_of}
 use Rattle.xh_records.specs.Showing.{Sits, spent, joined}
-use Rattle.xh_records.proofs.Keeps.{among_front}
 use Rattle.xh_records.proofs.Ended.{gathers, gathers_none}
 use Rattle.xh_records.proofs.closing.join_all.Goals as goal
 
@@ -22,7 +22,7 @@ loop-seat-init g c =
     let last = c.in-Some.last in
     let at : get_elem? c.args.seats.items m ≡ some last = subst (λ z. get_elem? z m ≡ some last) (sym c.in-Some.ensures.items) (at_last c.pop.new.self.items last m refl) in
     let e = c.empty_out-hand.ensures in
-    let size : length c.args.seats.items ≤ suc m = (let z = ap length c.in-Some.ensures.items ∙ length-append c.pop.new.self.items (last ∷ []) in omega arith) in (
+    let size : length c.args.seats.items ≡ suc m = (let z = ap length c.in-Some.ensures.items ∙ length-append c.pop.new.self.items (last ∷ []) in omega arith) in (
       last ∷ [],
       last.process,
       record {
@@ -32,7 +32,7 @@ loop-seat-init g c =
         bare = ap (λ k. k.1) e.hand.1;
         gathered = gathers m c.args.seats.items last spent c.empty_out-hand.result.me.0 c.args.held.now.items c.empty_out-hand.new.held.items at
             (gathers_none c.args.seats.items (suc m) c.args.held.now.items size (λ r h. c.requires.none r (let k : r < vec_len c.args.held.now = search rules in k)))
-            (ap (λ k. k.0.processes) e.hand.1) (ap (λ k. k.0.records) e.hand.1) (let k : length c.empty_out-hand.new.held.items ≡ length c.args.held.now.items = search rules in k) e.full
+            (ap (λ k. k.0.processes) e.hand.1) (ap (λ k. k.0.records) e.hand.1) (ap (λ k. k.0.done) e.hand.1) (let k : length c.empty_out-hand.new.held.items ≡ length c.args.held.now.items = search rules in k) e.full
             (λ r h. e.lots r (let k : r < vec_len c.args.held.now = search rules in k));
         long = e.long;
       },
@@ -81,7 +81,7 @@ loop-seat-preserved g c =
         bare = ap (λ k. k.1) j.2 ∙ f.bare;
         gathered = gathers m c.args.seats.items seat v c.join.new.hand.me.0 c.loop-seat.held.items c.empty_out-other.new.held.items at
             (subst (λ n. IsGathered n c.args.seats.items v c.loop-seat.held.items) size f.gathered)
-            (ap (λ k. k.processes) joined_is) (ap (λ k. k.records) joined_is) (let k : length c.empty_out-other.new.held.items ≡ length c.loop-seat.held.items = search rules in k) e.full
+            (ap (λ k. k.processes) joined_is) (ap (λ k. k.records) joined_is) (ap (λ k. k.done) joined_is) (let k : length c.empty_out-other.new.held.items ≡ length c.loop-seat.held.items = search rules in k) e.full
             (λ r h. e.lots r (let k : r < vec_len c.loop-seat.held = search rules in k));
         long = e.long ∙ f.long;
       },

@@ -2,10 +2,12 @@ use Rattle.std.proofs.Common.{arith, ◌≡◌, ℕ, suc, ◌+◌, ◌-◌, ◌<
 use lib.ListN.{get_elem?}
 use mathlib.Core.Option.{some}
 use Rattle.atomic_table.specs.Table.{rest}
+use Rattle.xh_model.specs.Keyed.{Distinct}
 use Rattle.xh_records.specs.declared.view.View.{View}
 use Rattle.xh_records.specs.Encoding.{holder_of}
-use Rattle.xh_records.specs.Seats.{Distinct, turns}
-use Rattle.xh_records.specs.Showing.{Owns, IsLotAt, lost}
+use Rattle.xh_records.specs.Seats.{turns}
+use Rattle.xh_records.specs.Steps.{process_in}
+use Rattle.xh_records.specs.Showing.{IsAlone, Owns, IsLotAt, lost}
 use Rattle.xh_records.proofs.Keeps.{gives_lot}
 use Rattle.xh_records.proofs.Lists.{turned_at}
 use Rattle.xh_records.proofs.hand.give_slot.Goals as goal
@@ -32,7 +34,8 @@ store-requires g c =
       subst (λ (n : ℕ). n < c.args.board.now.table_id.words) (sym c.from.ensures) c.requires.own.1,
       gives_lot g.B.Fits.is_fit c.args.board.now.key _ _ _ _ _ c.requires.owned.0 (holder_of c.args.to) lot.0 t.others c.encode-word.ensures c.requires.away.0 c.requires.away.1
           (ap (λ m. m.1) e ∙ t.first ∙ (λ i. (sym c.from.ensures i, (sym t.is_value ∙ lot.1) i) ∷ t.others))
-          (subst (λ (z : View × ℕ). Owns z.0 z.1 c.requires.owned.0) (λ i. (sym (ap (λ m. m.0) e) i, sym c.from.ensures i)) c.requires.owned.1)
+          (subst (λ (z : View). IsAlone z c.requires.owned.0) (sym (ap (λ m. m.0) e)) c.requires.owned.1)
+          (subst (λ (z : View × ℕ). Owns z.0 z.1 c.requires.owned.0) (λ i. (sym (ap (λ m. m.0) e) i, sym c.from.ensures i)) c.requires.owned.2)
           (subst (λ (z : View × ℕ). IsLotAt z.0.shape z.1 lot.0) (λ i. (sym (ap (λ m. m.0) e) i, sym c.from.ensures i)) lot.2)
           lot.3,
     )
@@ -45,11 +48,12 @@ returns g c =
     let long : length c.args.order.now ≡ c.position-k.result + suc t.behind = ap length l.0 ∙ t.long in
     let after : length c.args.order.now - c.position-k.result - 1 ≡ t.behind = omega arith in
     let here = ap (λ m. m.1) e ∙ t.first in
-    let m2 = c.store.ensures.2 ∙ (λ i. (lost (e i).0 (c.from.ensures i), rest (here i))) in record {
+    let h = holder_of c.args.to in
+    let m2 = c.store.ensures.2 h c.encode-word.ensures ∙ (λ i. (lost (e i).0 (c.from.ensures i) (process_in (e i).0) h, rest (here i))) in record {
       hand = (
         c.turn_by-2.ensures.0 ∙ c.store.ensures.0 ∙ c.turn_by.ensures.0,
         c.turn_by-2.ensures.1 ∙ c.store.ensures.1 ∙ c.turn_by.ensures.1,
-        c.turn_by-2.ensures.2 ∙ (λ i. ((m2 i).0, turns (after i) (m2 i).1)) ∙ ap (λ z. (lost c.args.hand.now.me.0 c.args.slot, z)) t.gone,
+        c.turn_by-2.ensures.2 ∙ (λ i. ((m2 i).0, turns (after i) (m2 i).1)) ∙ ap (λ z. (lost c.args.hand.now.me.0 c.args.slot (process_in c.args.hand.now.me.0) h, z)) t.gone,
       );
       place = c.position-k.ensures;
     }

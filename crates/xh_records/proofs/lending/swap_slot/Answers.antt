@@ -2,7 +2,8 @@ use Rattle.std.proofs.Common.{arith, ◌≡◌, suc, ◌+◌, ◌-◌, length, s
 use lib.ListN.{get_elem?}
 use mathlib.Core.Option.{some}
 use Rattle.atomic_table.specs.Table.{rest}
-use Rattle.xh_records.specs.Seats.{Distinct, turns}
+use Rattle.xh_model.specs.Keyed.{Distinct}
+use Rattle.xh_records.specs.Seats.{turns}
 use Rattle.xh_records.proofs.Lists.{turned_at, first_is}
 use Rattle.xh_records.proofs.lending.swap_slot.Goals as goal
 

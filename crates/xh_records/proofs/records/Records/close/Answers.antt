@@ -1,23 +1,21 @@
-use Rattle.std.proofs.Common.{rules, arith, ◌≡◌, ℕ, ◌<◌, length, sym, ap, ◌∙◌, subst}
+use Rattle.std.proofs.Common.{rules, arith, ◌≡◌, ℕ, ◌*◌, ◌<◌, length, sym, ap, ◌∙◌, subst}
 use Rattle.std.specs.Prelude.{Some, slice_get}
 use Rattle.std.specs.Vec.{vec_len}
 use Rattle.std.specs.Slots.{slots_items, slots_len, slots_counts}
 use Rattle.xh_records.specs.declared.shape.Shape.{Shape}
-use Rattle.xh_records.specs.Seats.{Held, AllSit, Ends}
-use Rattle.xh_records.proofs.Keeps.{in_range}
-use Rattle.xh_records.proofs.Lists.{elem_slice, slice_elem}
+use Rattle.xh_records.specs.Seats.{Held, Ends}
+use Rattle.xh_records.proofs.Lists.{elem_slice}
 use Rattle.xh_records.proofs.Ended.{some_lot, ends}
 use Rattle.xh_records.proofs.records.Records.close.Goals as goal
 
 pub join_all-hand-requires : goal.join_all-hand-requires
 join_all-hand-requires g c =
     let some_place : 0 < c.args.self.shape.places = subst (λ (z : Shape). 0 < z.places) (ap (λ r. r.shape) c.self.view_is) c.self.invariant.places.0 in
-    let first = c.requires.all 0 some_place in
-    let there : first.0 < length c.args.seats.items = in_range c.args.seats.items first.0 first.1 (slice_elem c.args.seats.items first.0 first.1 first.2) in record {
+    let every = c.requires.all in record {
       own = λ k x at. (c.requires.own k x (elem_slice c.args.seats.items k x at)).0 ∙ sym (ap (λ r. r.table) c.self.view_is);
-      some_seat = ((let size : vec_len c.args.seats ≡ length c.args.seats.items = search rules in omega arith), c.self.invariant.some);
+      some_seat = (omega arith, c.self.invariant.some);
       long = search rules;
-      none = search rules;
+      none = λ k below. c.in_ok-held.ensures.1 k;
     }
 
 pub unload-requires-clause-some_lot : goal.unload-requires-clause-some_lot
@@ -29,8 +27,10 @@ unload-requires-clause-some_lot g c =
     let long : length c.join_all-hand.new.held.items ≡ length (slots_items c.close_with.result.slots) = sym size ∙ held_long ∙ count in
     let shape_is : key ≡ c.args.self.shape = ap (λ r. r.shape) c.self.view_is in
     let own : (j : ℕ) (x : Held g.row.B.Denot) → slice_get c.args.seats.items j ≡ Some x → x.shape ≡ key = λ j x at. (c.requires.own j x at).1 ∙ sym shape_is in
-    let all : AllSit key.places c.args.seats.items = subst (λ (z : Shape). AllSit z.places c.args.seats.items) (sym shape_is) c.requires.all in
-    λ k h. some_lot g.B.Fits.is_fit key c.join_all-hand.result.id c.join_all-hand.result.me.0 (slots_items c.close_with.result.words) (slots_items c.close_with.result.slots) c.args.seats.items c.join_all-hand.new.held.items c.close_with.ensures.values.2 c.join_all-hand.ensures.gathered long c.self.invariant.small own all k (subst (λ (n : ℕ). k < n) count h)
+    let size_is : vec_len c.args.seats ≡ length c.args.seats.items = search rules in
+    let all : length c.args.seats.items ≡ key.places = sym size_is ∙ c.requires.all ∙ ap (λ (z : Shape). z.places) (sym shape_is) in
+    let sized : length (slots_items c.close_with.result.slots) ≡ length key.names * key.records = (let a : slots_len c.close_with.result.slots ≡ c.self.inside.table.shared.table_id.slots = search rules in sym count ∙ a ∙ c.self.invariant.slots) in
+    λ k h. some_lot g.B.Fits.is_fit key c.join_all-hand.result.id c.join_all-hand.result.me.0 (slots_items c.close_with.result.words) (slots_items c.close_with.result.slots) c.args.seats.items c.join_all-hand.new.held.items c.close_with.ensures.values.2 c.join_all-hand.ensures.gathered long c.self.invariant.small own all sized k (subst (λ (n : ℕ). k < n) count h)
 
 pub returns : goal.returns
 returns g c =
@@ -41,7 +41,9 @@ returns g c =
     let long : length c.join_all-hand.new.held.items ≡ length (slots_items c.close_with.result.slots) = sym size ∙ held_long ∙ count in
     let shape_is : key ≡ c.args.self.shape = ap (λ r. r.shape) c.self.view_is in
     let own : (j : ℕ) (x : Held g.row.B.Denot) → slice_get c.args.seats.items j ≡ Some x → x.shape ≡ key = λ j x at. (c.requires.own j x at).1 ∙ sym shape_is in
-    let all : AllSit key.places c.args.seats.items = subst (λ (z : Shape). AllSit z.places c.args.seats.items) (sym shape_is) c.requires.all in
-    let done = ends g.B.Fits.is_fit key c.join_all-hand.result.id c.join_all-hand.result.me.0 (slots_items c.close_with.result.words) (slots_items c.close_with.result.slots) c.args.seats.items c.join_all-hand.new.held.items c.close_with.ensures.values.2 c.join_all-hand.ensures.gathered long c.self.invariant.small own all c.unload.result.1.items (c.unload.ensures.long ∙ count) c.unload.ensures.lots in
+    let size_is : vec_len c.args.seats ≡ length c.args.seats.items = search rules in
+    let all : length c.args.seats.items ≡ key.places = sym size_is ∙ c.requires.all ∙ ap (λ (z : Shape). z.places) (sym shape_is) in
+    let sized : length (slots_items c.close_with.result.slots) ≡ length key.names * key.records = (let a : slots_len c.close_with.result.slots ≡ c.self.inside.table.shared.table_id.slots = search rules in sym count ∙ a ∙ c.self.invariant.slots) in
+    let done = ends g.B.Fits.is_fit key c.join_all-hand.result.id c.join_all-hand.result.me.0 (slots_items c.close_with.result.words) (slots_items c.close_with.result.slots) c.args.seats.items c.join_all-hand.new.held.items c.close_with.ensures.values.2 c.join_all-hand.ensures.gathered long c.self.invariant.small own all sized c.unload.result.1.items (c.unload.ensures.long ∙ count) c.unload.ensures.lots in
     subst (λ z. Ends g.B.Fits.is_fit z c.args.seats.items c.unload.result.0.items c.unload.result.1.items) shape_is
     (subst (λ w. Ends g.B.Fits.is_fit key c.args.seats.items w c.unload.result.1.items) (sym c.unload.ensures.words) done)

@@ -1,17 +1,31 @@
-use Rattle.std.proofs.Common.{rules, ◌≡◌, ℕ, ◌%◌, ◌<◌, length, refl, sym, ap, ◌∙◌, subst}
-use Rattle.std.specs.Prelude.{Some}
+use Rattle.std.proofs.Common.{rules, ◌≡◌, ℕ, ◌%◌, ◌<◌, List, [], ◌∷◌, ◌++◌, get_or, length, refl, sym, ap, ◌∙◌, subst}
+use Rattle.std.specs.Prelude.{Option, Some}
 use lib.ListN.{get_elem?}
 use mathlib.Core.Option.{some}
 use Rattle.xh_model.specs.Slots.{index_of}
 use Rattle.xh_model.specs.Words.{number_of}
+use Rattle.xh_model.specs.Keyed.{Distinct, without}
 use Rattle.xh_records.specs.Encoding.{holder_of}
-use Rattle.xh_records.specs.Showing.{without}
-use Rattle.xh_records.specs.Seats.{Distinct, numbered}
+use Rattle.xh_model.specs.declared.event.Holder.{Holder}
+use Rattle.atomic_table.specs.Table.{Me}
+use Rattle.xh_arena.specs.Views.{LotOf}
+use Rattle.xh_records.specs.declared.view.View.{View}
+use Rattle.xh_records.specs.History.{giving}
+use Rattle.xh_records.specs.Steps.{process_in}
+use Rattle.xh_records.proofs.History.{adds_one}
+use Rattle.xh_records.specs.Showing.{events_in, lost}
+use Rattle.xh_records.specs.Seats.{numbered}
 use Rattle.xh_records.proofs.Keeps.{in_range}
-use Rattle.xh_records.proofs.Seating.{reaches, loses, seat_is}
-use Rattle.xh_records.proofs.Numbered.{without_numbered, number_is, slot_is, held_same}
-use Rattle.xh_records.proofs.Events.{gives_event}
+use Rattle.xh_records.proofs.Seating.{reaches, loses, is_alone, seat_is}
+use Rattle.xh_records.proofs.Numbered.{without_numbered, number_is, slot_is, held_did}
 use Rattle.xh_records.proofs.records.Records.give.Goals as goal
+
+abbrev Is : {B : Type 0} → Me (Option (LotOf B)) View → Me (Option (LotOf B)) View → Type 0
+Is x y = x ≡ y
+
+-- the process of a seat's view is the seat's
+who : {B : Type 0} {p : ℕ} (me : Me (Option (LotOf B)) View) (slot : ℕ) (h : Option Holder) → me.0.processes ≡ p ∷ [] → Is (lost me.0 slot (process_in me.0) h, without slot me.1) (lost me.0 slot p h, without slot me.1)
+who me slot h mine = ap (λ (l : List ℕ). (lost me.0 slot (get_or l 0 0) h, without slot me.1)) mine
 
 pub give_slot-k-requires : goal.give_slot-k-requires
 give_slot-k-requires g c =
@@ -28,7 +42,7 @@ give_slot-k-requires g c =
       listed = (order ∙ reach.listed.0, subst Distinct (sym order) reach.listed.1, (reach.listed.2.0, subst (λ z. get_elem? z reach.listed.2.0 ≡ some slot) (sym order) reach.listed.2.1));
       away = c.requires.away;
       lot = (h.0, reach.has, reach.lot, h.2);
-      owned = (c.seat.inside.process, reach.owns);
+      owned = (c.seat.inside.process, is_alone _ _ _ _ _ c.seat.invariant, reach.owns);
     }
 
 pub remove-requires : goal.remove-requires
@@ -40,27 +54,17 @@ remove-requires g c =
 pub invariant_of-seat : goal.invariant_of-seat
 invariant_of-seat g c =
     let place : get_elem? c.seat.inside.order.items c.give_slot-k.result ≡ some c.slot_of-slot.result = subst (λ z. get_elem? z c.give_slot-k.result ≡ some c.slot_of-slot.result) c.as_slice.ensures.value c.give_slot-k.ensures.place in
-    seat_is _ _ _ _ _ _ _ _ _ _ refl c.remove.ensures.items c.remove.ensures.capacity (ap (λ z. z.slots) c.give_slot-k.ensures.hand.0) c.give_slot-k.ensures.hand.2
-    (loses _ _ _ _ c.seat.inside.hand.me c.give_slot-k.result c.slot_of-slot.result c.seat.invariant place)
+    seat_is _ _ _ _ _ _ _ _ _ _ refl c.remove.ensures.items c.remove.ensures.capacity (ap (λ z. z.slots) c.give_slot-k.ensures.hand.0) (c.give_slot-k.ensures.hand.2 ∙ who _ _ _ c.seat.invariant.processes)
+    (loses _ _ _ _ c.seat.inside.hand.me c.give_slot-k.result c.slot_of-slot.result (holder_of c.args.to) c.seat.invariant place)
 
-pub returns-clause-given : goal.returns-clause-given
-returns-clause-given g c =
+pub returns : goal.returns
+returns g c =
     let slot : ℕ = c.slot_of-slot.result in
     let x = c.args.seat.now in let me = c.seat.inside.hand.me in let last = c.give_slot-k.ensures.hand in
     let at : slot ≡ index_of x.shape.records c.args.number = c.slot_of-slot.ensures.index ∙ ap (λ z. index_of z.records c.args.number) (sym c.requires.own.1) in
     let below : c.args.number % 256 < x.shape.records = subst (λ z. c.args.number % 256 < z.records) (sym c.requires.own.1) c.requires.exists.1 in
     let number : number_of me.0.shape.records slot ≡ c.args.number = number_is _ x.shape.records slot c.args.number (ap (λ z. z.shape.records) c.seat.view_is) at below in
-    held_same x _ _ _ me c.seat.view_is _ _ c.give_slot-k.new.hand.me _ last.0 last.1 (ap (λ m. m.0.shape) last.2)
+    let h = holder_of c.args.to in
+    held_did x _ _ _ me c.seat.view_is _ _ c.give_slot-k.new.hand.me _ (giving x.process c.args.number h) last.0 last.1 (ap (λ m. m.0.shape) last.2)
     (ap (λ m. numbered m.0.shape.records m.1) last.2 ∙ without_numbered me.0.shape c.seat.invariant.small me.1 slot c.seat.invariant.lots ∙ (λ i. without (number i) (c.seat.view_is i).lots))
-
-pub returns-clause-step : goal.returns-clause-step
-returns-clause-step g c =
-    let slot : ℕ = c.slot_of-slot.result in
-    let x = c.args.seat.now in let me = c.seat.inside.hand.me in let h = c.requires.held in let last = c.give_slot-k.ensures.hand in
-    let at : slot ≡ index_of x.shape.records c.args.number = c.slot_of-slot.ensures.index ∙ ap (λ z. index_of z.records c.args.number) (sym c.requires.own.1) in
-    let below : c.args.number % 256 < x.shape.records = subst (λ z. c.args.number % 256 < z.records) (sym c.requires.own.1) c.requires.exists.1 in
-    let reach = reaches _ _ _ _ me slot h.0 c.seat.invariant (slot_is x _ _ _ me c.seat.view_is _ _ _ c.seat.invariant slot c.args.number (Some h.0) at below h.1) in
-    let place : get_elem? c.seat.inside.order.items c.give_slot-k.result ≡ some slot = subst (λ z. get_elem? z c.give_slot-k.result ≡ some slot) c.as_slice.ensures.value c.give_slot-k.ensures.place in
-    gives_event g.B.Fits.is_fit c.args.self.now.shape x _ c.give_slot-k.new.hand.table_id _ c.give_slot-k.new.hand.id _ me c.give_slot-k.new.hand.me c.seat.view_is _ _ _ _ _ _ c.seat.invariant c.args.number slot c.slot_of-slot.ensures.index (holder_of c.args.to) h.0 c.requires.away.0 c.requires.away.1
-    (seat_is _ _ _ _ _ _ _ _ _ _ refl c.remove.ensures.items c.remove.ensures.capacity (ap (λ z. z.slots) last.0) last.2 (loses _ _ _ _ me c.give_slot-k.result slot c.seat.invariant place))
-    (ap (λ m. m.0) last.2) reach.owns reach.lot c.requires.own.1 h.2 h.1
+    (ap (λ m. events_in m.0) (last.2 ∙ who me slot h c.seat.invariant.processes) ∙ (adds_one (giving c.seat.inside.process (number_of me.0.shape.records slot) h) _ me.0.done c.seat.invariant.done).0 ∙ (λ i. events_in me.0 ++ giving (c.seat.view_is i).process (number i) h ∷ []))

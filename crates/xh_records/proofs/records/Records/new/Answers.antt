@@ -5,7 +5,7 @@ use lib.ListN.{get_elem?}
 use mathlib.Core.Option.{some}
 use Rattle.xh_model.specs.Words.{number_of}
 use Rattle.xh_model.proofs.Words.{arena_of_number, place_of_number}
-use Rattle.xh_records.specs.Showing.{dealer, dealt, dealt_from}
+use Rattle.xh_records.specs.Showing.{dealer, dealt, dealt_from, events_in}
 use Rattle.xh_records.specs.Seats.{IsSmall, numbered}
 use Rattle.xh_records.proofs.Cuts.{opens, snoc_at, mapped_length}
 use Rattle.xh_records.proofs.Lists.{elem_slice, slice_elem}
@@ -22,6 +22,7 @@ new-made-requires g c =
     let most : n ≤ 256 = c.requires.limits.1 in
     let small : k % n < 256 = omega arith in
     (subst (λ (z : ℕ). (l.index ≡ number_of z k % 256) × (slice_get c.args.names (number_of z k / 256) ≡ Some l.id)) (sym c.from.ensures) (e.0 ∙ sym (place_of_number n k small), ap (slice_get c.args.names) (arena_of_number n k small) ∙ e.1), e.2))
+    (subst (λ (z : ℕ). (0 < z) × (z ≤ 256)) (sym c.from.ensures) (c.requires.limits.0, c.requires.limits.1))
 
 pub deal-hand-requires-clause-own : goal.deal-hand-requires-clause-own
 deal-hand-requires-clause-own g c = (c.loop-place.invariant.here, search rules)
@@ -47,7 +48,7 @@ invariant_of-push_reserved g c =
     let each : key.records ≡ c.args.records = ap (λ z. z.records) c.in-Ok.ensures.ok.5 ∙ c.from.ensures in
     let small : IsSmall key = subst (λ (z : ℕ). (0 < z) × (z ≤ 256)) (sym each) (c.requires.limits.0, c.requires.limits.1) in
     seat_is c.loop-place.place _ [] _ _ _ _ _ _ _ c.from-process.ensures empty refl refl (c.deal-hand.ensures.seat.1 ∙ ap (λ x. (dealt x, [])) v)
-    record { processes = refl; ordered = refl; records = refl; lots = tt; distinct = tt; below = tt; room = room; small = small }
+    record { processes = refl; ordered = refl; records = refl; done = refl; lots = tt; distinct = tt; below = tt; room = room; small = small }
 
 pub loop-place-preserved : goal.loop-place-preserved
 loop-place-preserved g c =
@@ -69,6 +70,7 @@ loop-place-preserved g c =
             ap (λ h. h.shape) (sym new.0) ∙ ap (λ m. m.0.shape) me ∙ ap (λ x. (dealt x).shape) v,
             ap (λ h. h.process) (sym new.0) ∙ c.from-process.ensures ∙ sym i.long ∙ sym new.1,
             ap (λ h. h.lots) (sym new.0) ∙ ap (λ m. numbered m.0.shape.records m.1) me,
+            ap (λ h. h.done) (sym new.0) ∙ ap (λ m. events_in m.0) me ∙ ap (λ x. events_in (dealt x)) v,
           ))
           (snoc_at c.loop-place.seats.items _ x k (subst (λ l. get_elem? l k ≡ some x) c.push_reserved.ensures.items at));
     }
@@ -88,6 +90,7 @@ invariant_of-all g c =
       slots = slots ∙ count;
       some = subst (λ (z : ℕ). 0 < z) (sym (words ∙ sym long)) c.requires.whole.0;
       arenas = ap length names ∙ sym c.len-arenas.ensures.value;
+      few = subst (λ (z : ℕ). z ≤ 8) (sym (ap length names)) c.requires.few;
       records = each;
       small = subst (λ (z : ℕ). (0 < z) × (z ≤ 256)) (sym each) (c.requires.limits.0, c.requires.limits.1);
       places = subst (λ (z : ℕ). (0 < z) × (z ≤ 32)) (sym places) (c.requires.limits.2, c.requires.limits.3);
@@ -99,4 +102,4 @@ returns-clause-seats g c =
     let past : c.args.places ≤ c.loop-place.place = c.loop-place-test.false in
     let most : c.loop-place.place ≤ c.args.places = c.loop-place.auto.place-end in
     let end : c.loop-place.place ≡ c.args.places = omega arith in
-    (i.long ∙ end, λ k x at. let s = i.seats k x (slice_elem c.loop-place.seats.items k x at) in ((s.0, s.1), s.2, s.3))
+    (i.long ∙ end, λ k x at. let s = i.seats k x (slice_elem c.loop-place.seats.items k x at) in ((s.0, s.1), s.2, s.3, s.4))

@@ -12,5 +12,5 @@ invariant-loop-place g l = record {
   view : l.dealer.me.0 ≡ dealer l.table.shared.key l.place (l.places - l.place);
   long : length l.seats.items ≡ l.place;
   room : l.places ≤ vec_capacity l.seats;
-  seats : (k : ℕ) (x : Held g.row.B.Denot) → get_elem? l.seats.items k ≡ some x → (x.table ≡ l.table.shared.table_id) × (x.shape ≡ l.table.shared.key) × (x.process ≡ k) × (x.lots ≡ []);
+  seats : (k : ℕ) (x : Held g.row.B.Denot) → get_elem? l.seats.items k ≡ some x → (x.table ≡ l.table.shared.table_id) × (x.shape ≡ l.table.shared.key) × (x.process ≡ k) × (x.lots ≡ []) × (x.done ≡ []);
 }

@@ -1,15 +1,9 @@
-use Rattle.std.proofs.Common.{ℕ, sym, subst, ◌∙◌}
+use Rattle.std.proofs.Common.{ℕ, sym, subst}
 use Rattle.xh_records.specs.declared.view.View.{View}
 use Rattle.xh_records.specs.Steps.{Knows}
-use Rattle.xh_records.proofs.Events.{held, stays_step}
 use Rattle.xh_records.proofs.Numbered.{views_are}
 use Rattle.xh_records.proofs.records.Records.owner_word.Goals as goal
 
 pub returns-clause-word : goal.returns-clause-word
 returns-clause-word g c =
     subst (λ (z : View × ℕ). Knows z.0 z.1 c.look_at.result) (λ i. (sym (views_are c.args.seat.now _ _ _ c.seat.inside.hand.me c.seat.view_is _ _ _ c.seat.invariant) i, c.slot_of-slot.ensures.index i)) c.look_at.ensures.word
-
-pub returns-clause-event : goal.returns-clause-event
-returns-clause-event g c =
-    let e = c.look_at.ensures.hand in
-    stays_step g.B.Fits.is_fit c.args.self.now.shape c.args.seat.now _ ((λ i. held (e.0 i) (e.1 i) c.seat.inside.process (e.2 i)) ∙ c.seat.view_is)

@@ -2,8 +2,8 @@ use Rattle.std.proofs.Common.{◌≡◌, ◌%◌, ◌<◌, refl, sym, ap, ◌∙
 use Rattle.std.specs.Prelude.{Some, None}
 use Rattle.std.specs.Fn.{CalledAtMut}
 use Rattle.xh_model.specs.Slots.{index_of}
-use Rattle.xh_records.specs.Seats.{put}
-use Rattle.xh_records.proofs.Lists.{put_twice}
+use Rattle.xh_model.specs.Keyed.{put}
+use Rattle.xh_model.proofs.Keyed.{put_twice}
 use Rattle.xh_records.proofs.Seating.{seat_is}
 use Rattle.xh_records.proofs.Lent.{lends, kept, after_one, still_listed, listed_as}
 use Rattle.xh_records.proofs.records.Records.with_lot.Goals as goal

@@ -3,8 +3,10 @@ use Rattle.std.specs.Prelude.{Some, None}
 use Rattle.std.specs.Fn.{CalledAtPairMut}
 use Rattle.xh_model.specs.Slots.{index_of}
 use Rattle.xh_model.proofs.Numbers.{index_apart}
-use Rattle.xh_records.specs.Seats.{put, in_slot}
-use Rattle.xh_records.proofs.Lists.{put_both, slot_other}
+use Rattle.xh_model.specs.Keyed.{put}
+use Rattle.xh_model.proofs.Keyed.{put_both}
+use Rattle.xh_records.specs.Seats.{in_slot}
+use Rattle.xh_records.proofs.Lists.{slot_other}
 use Rattle.xh_records.proofs.Seating.{seat_is}
 use Rattle.xh_records.proofs.Lent.{lends, kept_two, after_two, still_listed, listed_as}
 use Rattle.xh_records.proofs.records.Records.with_two.Goals as goal

@@ -1,6 +1,7 @@
 use Rattle.std.proofs.Common.{arith, ◌<◌, ℕ, ◌∷◌, [], ◌∙◌, length, refl, ap, sym, subst}
 use Rattle.xh_records.specs.Showing.{IsLotOf}
-use Rattle.xh_records.specs.Seats.{Held}
+use Rattle.xh_model.specs.declared.event.Event.TheVariants.{Claim}
+use Rattle.xh_records.specs.Seats.{Held, did}
 use Rattle.xh_records.specs.declared.tests.Any.{Any}
 use Rattle.xh_records.proofs.OneVault.{id_is}
 use Rattle.xh_records.proofs.OneLot.{gains_one, has_one, changes_one, gains_two, apart, has_first, has_second, still_of}
@@ -8,7 +9,7 @@ use Rattle.xh_records.proofs.tests.pairs.cut_in_two.Goals as goal
 
 pub claim-requires-2-clause-own : goal.claim-requires-2-clause-own
 claim-requires-2-clause-own g c =
-    let x = c.args.seat.now in
+    let x = did (Claim c.args.seat.now.process c.in-Ok.first) c.args.seat.now in
     let l = c.in-Ok.ensures.claimed.0 in
     let one = gains_one x _ x c.in-Ok.first l l c.requires.bare c.in-Ok.ensures.claimed.1 in
     let carved = changes_one x _ _ c.in-Ok.first l (record l { len = 32 }) one (c.in-Some.ensures.lot l (has_one x _ x c.in-Ok.first l l one)) in
@@ -16,17 +17,18 @@ claim-requires-2-clause-own g c =
 
 pub cut_at-requires-clause-own : goal.cut_at-requires-clause-own
 cut_at-requires-clause-own g c =
-    let x = c.args.seat.now in
+    let x = did (Claim c.args.seat.now.process c.in-Ok.first) c.args.seat.now in
     let l = c.in-Ok.ensures.claimed.0 in
     let one = gains_one x _ x c.in-Ok.first l l c.requires.bare c.in-Ok.ensures.claimed.1 in
     let carved = changes_one x _ _ c.in-Ok.first l (record l { len = 32 }) one (c.in-Some.ensures.lot l (has_one x _ x c.in-Ok.first l l one)) in
     let m = c.in-Ok-claim.ensures.claimed.0 in
-    let two = gains_two x _ _ c.in-Ok.first c.in-Ok-claim.second (record l { len = 32 }) m carved c.in-Ok-claim.ensures.claimed.1 in
-    still_of _ x _ _ c.requires.own two
+    let again = Claim c.carve_at.new.seat.process c.in-Ok-claim.second in let x2 = did again x in
+    let two = gains_two x _ _ c.in-Ok.first c.in-Ok-claim.second (record l { len = 32 }) m again carved c.in-Ok-claim.ensures.claimed.1 in
+    still_of _ x2 _ _ c.requires.own two
 
 pub cut_at-requires-clause-exists : goal.cut_at-requires-clause-exists
 cut_at-requires-clause-exists g c =
-    let x = c.args.seat.now in
+    let x = did (Claim c.args.seat.now.process c.in-Ok.first) c.args.seat.now in
     let l = c.in-Ok.ensures.claimed.0 in
     let one = gains_one x _ x c.in-Ok.first l l c.requires.bare c.in-Ok.ensures.claimed.1 in
     let carved = changes_one x _ _ c.in-Ok.first l (record l { len = 32 }) one (c.in-Some.ensures.lot l (has_one x _ x c.in-Ok.first l l one)) in
@@ -37,12 +39,13 @@ cut_at-requires-clause-exists g c =
 
 pub cut_at-requires-clause-held : goal.cut_at-requires-clause-held
 cut_at-requires-clause-held g c =
-    let x = c.args.seat.now in
+    let x = did (Claim c.args.seat.now.process c.in-Ok.first) c.args.seat.now in
     let l = c.in-Ok.ensures.claimed.0 in
     let one = gains_one x _ x c.in-Ok.first l l c.requires.bare c.in-Ok.ensures.claimed.1 in
     let carved = changes_one x _ _ c.in-Ok.first l (record l { len = 32 }) one (c.in-Some.ensures.lot l (has_one x _ x c.in-Ok.first l l one)) in
     let m = c.in-Ok-claim.ensures.claimed.0 in
-    let two = gains_two x _ _ c.in-Ok.first c.in-Ok-claim.second (record l { len = 32 }) m carved c.in-Ok-claim.ensures.claimed.1 in
+    let again = Claim c.carve_at.new.seat.process c.in-Ok-claim.second in let x2 = did again x in
+    let two = gains_two x _ _ c.in-Ok.first c.in-Ok-claim.second (record l { len = 32 }) m again carved c.in-Ok-claim.ensures.claimed.1 in
     let other = apart x _ x _ c.in-Ok-claim.second (record l { len = 32 }) l carved c.in-Ok-claim.ensures.fresh in
     let is_first = c.in-Ok.ensures.claimed.2 in
     let is_second = c.in-Ok-claim.ensures.claimed.2 in
@@ -51,8 +54,8 @@ cut_at-requires-clause-held g c =
     let second = subst (λ (h : Held Any). IsLotOf h.shape c.in-Ok-claim.second m) (sym two) (subst (λ (h : Held Any). IsLotOf h.shape c.in-Ok-claim.second m) carved is_second) in (
       record l { len = 32 },
       m,
-      has_first x x _ c.in-Ok.first c.in-Ok-claim.second (record l { len = 32 }) m two,
-      has_second x x _ c.in-Ok.first c.in-Ok-claim.second (record l { len = 32 }) m two other,
+      has_first x2 x2 _ c.in-Ok.first c.in-Ok-claim.second (record l { len = 32 }) m two,
+      has_second x2 x2 _ c.in-Ok.first c.in-Ok-claim.second (record l { len = 32 }) m two other,
       first,
       second,
       id_is _ _ c.in-Ok.first l here c.in-Ok.ensures.«record».0 first.1,
@@ -63,10 +66,11 @@ cut_at-requires-clause-held g c =
 
 pub returns : goal.returns
 returns g c =
-    let x = c.args.seat.now in
+    let x = did (Claim c.args.seat.now.process c.in-Ok.first) c.args.seat.now in
     let l = c.in-Ok.ensures.claimed.0 in
     let one = gains_one x _ x c.in-Ok.first l l c.requires.bare c.in-Ok.ensures.claimed.1 in
     let carved = changes_one x _ _ c.in-Ok.first l (record l { len = 32 }) one (c.in-Some.ensures.lot l (has_one x _ x c.in-Ok.first l l one)) in
     let m = c.in-Ok-claim.ensures.claimed.0 in
-    let two = gains_two x _ _ c.in-Ok.first c.in-Ok-claim.second (record l { len = 32 }) m carved c.in-Ok-claim.ensures.claimed.1 in
+    let again = Claim c.carve_at.new.seat.process c.in-Ok-claim.second in let x2 = did again x in
+    let two = gains_two x _ _ c.in-Ok.first c.in-Ok-claim.second (record l { len = 32 }) m again carved c.in-Ok-claim.ensures.claimed.1 in
     (c.cut_at.ensures.0, c.cut_at.ensures.1 ∙ ap (λ (h : Held Any). h.process) two)

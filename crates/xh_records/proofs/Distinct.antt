@@ -1,0 +1,62 @@
+-- Lists in which no number stands twice.
+use Rattle.std.proofs.Common.{◌≡◌, ℕ, zero, suc, ◌+◌, ◌%◌, ◌<◌, ◌≤◌, List, [], ◌∷◌, ◌++◌, map, length, sym, refl, ap, ◌∙◌, subst, inl, inr, ⊎_elim, arith}
+use mathlib.Core.Logic.{dite}
+use Rattle.xh_model.specs.Words.{place_of}
+use Rattle.xh_model.specs.Keyed.{Among, Distinct}
+use Rattle.xh_model.proofs.Keyed.{among_back, among_either, among_front, dec_among}
+use Rattle.xh_records.specs.Showing.{places_from}
+use Rattle.xh_records.specs.Seats.{AllBelow}
+use Rattle.xh_records.proofs.Lists.{few}
+
+-- the places of processes
+pub place_in : (ps : List ℕ) (p : ℕ) → Among ps p → Among (map place_of ps) (place_of p)
+place_in [] p h = absurd h
+place_in (x ∷ xs) p h = ⊎_elim (λ (e : p ≡ x). inl (ap place_of e)) (λ (t : Among xs p). inr (place_in xs p t)) h
+
+pub process_in : (ps : List ℕ) (q : ℕ) → Among (map place_of ps) q → (p : ℕ) × Among ps p × (place_of p ≡ q)
+process_in [] q h = absurd h
+process_in (x ∷ xs) q h = ⊎_elim (λ (e : q ≡ place_of x). (x, inl refl, sym e)) (λ (t : Among (map place_of xs) q). let r = process_in xs q t in (r.0, inr r.1, r.2)) h
+
+pub distinct_places : (xs ys : List ℕ) → Distinct (map place_of xs) → Distinct (map place_of ys) → ((p q : ℕ) → Among xs p → Among ys q → place_of p ≡ place_of q → ⊥) → Distinct (map place_of (xs ++ ys))
+distinct_places [] ys a b none = b
+distinct_places (x ∷ xs) ys a b none = (
+  λ h. let r = process_in (xs ++ ys) (place_of x) h in ⊎_elim
+      (λ (t : Among xs r.0). a.0 (subst (Among (map place_of xs)) r.2 (place_in xs r.0 t)))
+      (λ (t : Among ys r.0). none x r.0 (inl refl) t (sym r.2))
+      (among_either xs ys r.0 r.1),
+  distinct_places xs ys a.1 b (λ p q t u e. none p q (inr t) u e),
+)
+
+pub not_twice : (xs : List ℕ) (y p : ℕ) → Distinct (map place_of (xs ++ y ∷ [])) → Among xs p → place_of p ≡ place_of y → ⊥
+not_twice [] y p d h e = h
+not_twice (x ∷ xs) y p d h e = ⊎_elim
+    (λ (s : p ≡ x). d.0 (subst (Among (map place_of (xs ++ y ∷ []))) (sym e ∙ ap place_of s) (place_in (xs ++ y ∷ []) y (among_back xs (y ∷ []) y (inl refl)))))
+    (λ (t : Among xs p). not_twice xs y p d.1 t e)
+    h
+
+pub distinct_front : (xs : List ℕ) (y : ℕ) → Distinct (map place_of (xs ++ y ∷ [])) → Distinct (map place_of xs)
+distinct_front [] y d = tt
+distinct_front (x ∷ xs) y d = (
+  λ h. let r = process_in xs (place_of x) h in d.0 (subst (Among (map place_of (xs ++ y ∷ []))) r.2 (place_in (xs ++ y ∷ []) r.0 (among_front xs (y ∷ []) r.0 r.1))),
+  distinct_front xs y d.1,
+)
+
+least : (a k p : ℕ) → Among (places_from a k) p → (a ≤ p) × (p < a + k)
+least a zero p h = absurd h
+least a (suc k) p h = ⊎_elim (λ (e : p ≡ a). (omega arith, omega arith)) (λ (t : Among (places_from (suc a) k) p). let l = least (suc a) k p t in let b = l.0 in let c = l.1 in (omega arith, omega arith)) h
+
+pub few_places : (a k : ℕ) → a + k ≤ 32 → Distinct (map place_of (places_from a k))
+few_places a zero few = tt
+few_places a (suc k) few = (
+  λ h. let r = process_in (places_from (suc a) k) (place_of a) h in let l = least (suc a) k r.0 r.1 in let b = l.0 in let c = l.1 in let e : r.0 % 32 ≡ a % 32 = r.2 in absurd (omega arith),
+  few_places (suc a) k (omega arith),
+)
+
+all_below : (n : ℕ) (xs : List ℕ) → ((x : ℕ) → Among xs x → x < n) → AllBelow n xs
+all_below n [] below = tt
+all_below n (x ∷ xs) below = (below x (inl refl), all_below n xs (λ y h. below y (inr h)))
+
+-- n different numbers below n are all of them
+pub covers : (n : ℕ) (xs : List ℕ) → Distinct xs → ((x : ℕ) → Among xs x → x < n) → length xs ≡ n → (q : ℕ) → q < n → Among xs q
+covers n xs d below long q inside = dite (dec_among xs q) (λ h. h)
+    (λ none. let most = few n (q ∷ xs) (inside, all_below n xs below) (none, d) in absurd (omega arith))

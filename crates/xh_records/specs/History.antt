@@ -1,0 +1,43 @@
+-- The events on the records of a table, in their order.
+use Rattle.std.specs.Prelude.{◌≡◌, ℕ, List, [], ◌∷◌, ◌==◌, cond, replicate, Option, Some, None}
+use Rattle.xh_model.specs.declared.event.Holder.{Holder}
+use Rattle.xh_model.specs.declared.event.Holder.TheVariants.{Process, Direction}
+use Rattle.xh_model.specs.declared.event.Event.{Event}
+use Rattle.xh_model.specs.declared.event.Event.TheVariants.{Claim, Carve, Cut, GiveBack, Vacate, Pass, Accept}
+use Rattle.xh_model.specs.Words.{Ownership, IsDone, place_of}
+use Rattle.xh_records.specs.After.{IsAfter}
+
+-- no record of n is held
+abbrev pub all_free : ℕ → Ownership
+all_free n = replicate n None
+
+-- the events, in this order, lead from the ownership o to o', with n records in an arena, each also by the meaning that it has in the core
+abbrev pub LeadsTo : ℕ → Ownership → List Event → Ownership → Type 0
+LeadsTo n o [] o' = o' ≡ o
+LeadsTo n o (e ∷ es) o' = (m : Ownership) × IsDone n o e m × IsAfter n o e m × LeadsTo n m es o'
+
+-- the process of an event
+abbrev pub process_of : Event → ℕ
+process_of (Claim p r) = p
+process_of (Carve p r n) = p
+process_of (Cut p r t k) = p
+process_of (GiveBack p r) = p
+process_of (Vacate p r) = p
+process_of (Pass p r d) = p
+process_of (Accept p r d) = p
+
+-- those of the processes at the place q, in their order
+abbrev pub by_place : ℕ → List Event → List Event
+by_place q [] = []
+by_place q (e ∷ es) = cond (place_of (process_of e) == q) (e ∷ by_place q es) (by_place q es)
+
+-- the process p takes the record r from where it is, or gives it there
+abbrev pub taking : ℕ → ℕ → Option Holder → Event
+taking p r None = Claim p r
+taking p r (Some (Process q)) = Claim p r
+taking p r (Some (Direction d)) = Accept p r d
+
+abbrev pub giving : ℕ → ℕ → Option Holder → Event
+giving p r None = Vacate p r
+giving p r (Some (Process q)) = Vacate p r
+giving p r (Some (Direction d)) = Pass p r d
