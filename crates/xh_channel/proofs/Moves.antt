@@ -76,7 +76,8 @@ sender_learns port v a items views h at = (h.3, ((h.5 port v at).0 a).1 ∙ h.4.
 pub receiver_learns : (port : ℕ) (v : Role) → v.pops ≡ true → Learns Ordered port v (λ items. WaitsTo v.got items)
 receiver_learns port v b items views h at = subst Numbered (h.4.0 ∙ ap (λ l. l ++ items) (sym ((h.5 port v at).1 b).1)) h.4.1
 
-pub merges : (port : ℕ) (v : Role) (other : ℕ) (u : Role) → v.pushes ≡ true → u.pops ≡ true → Merges Ordered port v other u (role true true v.sent u.got) (role false false [] [])
+pub merges : (port : ℕ) (v : Role) (other : ℕ) (u : Role) → v.pushes ≡ true → u.pops ≡ true
+    → Merges Ordered port v other u (role true true v.sent u.got) (role false false [] [])
 merges port v other u a b items views h at two at' =
     let both : Role = role true true v.sent u.got in
     let none : Role = role false false [] [] in

@@ -1,19 +1,15 @@
 -- A channel with a contract, as it is lent under its lock.
-use Rattle.std.specs.Prelude.{◌≡◌, ◌⊎◌, ℕ, zero, suc, ◌+◌, ◌-◌, ◌≤◌, true, false, List, [], ◌∷◌, ◌++◌, length, Option, Some, None, IsSome, Result, MatchResult}
+use Rattle.std.specs.Prelude.{◌≡◌, ◌⊎◌, ℕ, zero, suc, ◌+◌, ◌-◌, ◌≤◌, true, false, List, [], ◌∷◌, ◌++◌, length, Some, None, IsSome, Result}
 use Rattle.arrayvec.specs.ArrayVec.{ArrayVec}
+use Rattle.xh_model.specs.declared.limits.TheConstants.{MAX_DEPTH, MAX_MESSAGES}
 use Rattle.xh_model.specs.declared.row.Row.{Row}
 use Rattle.xh_model.specs.Rows.{allowed, row_at, IsValid, InStep, IsFrontAllowed}
 use Rattle.xh_channel.specs.declared.message.Message.{Message}
 use Rattle.xh_channel.specs.declared.line_end.LineEnd.{LineEnd}
 use Rattle.xh_channel.specs.declared.refused.Refused.{Refused}
-use Rattle.xh_channel.specs.declared.refused.Refused.TheVariants as refused
 use Rattle.xh_channel.specs.declared.unsent.Unsent.{Unsent}
-use Rattle.xh_channel.specs.declared.unsent.Unsent.TheVariants.{PeerClosed}
 use Rattle.xh_channel.specs.Numbers.{NumberedFrom}
-use Rattle.xh_channel.specs.Ends.{Counts, Puts, Takes, last_number, no_counts, now_shut}
-
-abbrev pub counts : LineEnd → Counts
-counts end = record { put = end.put; taken = end.taken; shut = end.shut }
+use Rattle.xh_channel.specs.Ends.{Puts, Takes, no_counts, now_shut}
 
 -- the messages on their way to this end, the front one first
 abbrev pub waiting : LineEnd → List Message
@@ -29,20 +25,20 @@ tags end = tags_of (waiting end)
 
 -- what an end put is what its peer took and then what waits for the peer, numbered on
 abbrev pub Follows : LineEnd → LineEnd → Type 0
-Follows own peer = (own.put ≡ peer.taken + length (waiting peer)) × NumberedFrom peer.taken (waiting peer)
+Follows own peer = (own.counts.put ≡ peer.counts.taken + length (waiting peer)) × NumberedFrom peer.counts.taken (waiting peer)
 
 -- a put by `own` toward `peer`: on success the message is at the back, and the state of `own` moves by the contract
 abbrev pub PutsBetween : List Row → ℕ → ℕ → LineEnd → LineEnd → LineEnd → LineEnd → ℕ → ArrayVec ℕ → Result ℕ Unsent → Type 0
 PutsBetween rows depth side own own' peer peer' tag =
     Puts (λ m. (waiting peer' ≡ waiting peer ++ m ∷ []) × (allowed rows own.state tag side ≡ Some own'.state))
     (allowed rows own.state tag side ≡ None) (IsSome (allowed rows own.state tag side))
-    (length (waiting peer) ≡ depth) (peer.shut ≡ true) (peer.shut ≡ false) (counts own) (counts own') tag
+    (length (waiting peer) ≡ depth) (peer.counts.shut ≡ true) (peer.counts.shut ≡ false) own.counts own'.counts tag
 
 -- a take by `own`: on success it gives the front message, which the state of `own` allowed `peer` to put, and that state moves by the contract
 abbrev pub TakesBetween : List Row → ℕ → LineEnd → LineEnd → LineEnd → Result Message Refused → Type 0
 TakesBetween rows side own own' peer =
     Takes (λ m. (waiting own ≡ m ∷ waiting own') × (allowed rows own.state m.tag (1 - side) ≡ Some own'.state))
-    (waiting own ≡ []) (peer.shut ≡ true) (peer.shut ≡ false) (counts own) (counts own')
+    (waiting own ≡ []) (peer.counts.shut ≡ true) (peer.counts.shut ≡ false) own.counts own'.counts
 
 -- both ends go by the contract together
 abbrev pub AreInStep : List Row → ℕ → LineEnd → LineEnd → Type 0
@@ -51,11 +47,11 @@ AreInStep rows side own peer = InStep rows side own.state (tags own) peer.state 
 -- the ends are in step, each direction is in order, and no more messages wait than the depth
 pub record IsLine (rows : List Row) (depth : ℕ) (left right : LineEnd) : Type 0 where
   pub some_depth : 1 ≤ depth
-  pub most_depth : depth ≤ 16
+  pub most_depth : depth ≤ MAX_DEPTH
   pub few_left : length (waiting left) ≤ depth
   pub few_right : length (waiting right) ≤ depth
-  pub left_numbers : left.put ≤ last_number
-  pub right_numbers : right.put ≤ last_number
+  pub left_numbers : left.counts.put ≤ MAX_MESSAGES
+  pub right_numbers : right.counts.put ≤ MAX_MESSAGES
   pub to_right : Follows left right
   pub to_left : Follows right left
   pub valid : IsValid rows
@@ -75,7 +71,7 @@ end_of line (suc _) = line.right
 
 -- an end in the first state, which has carried nothing
 abbrev pub IsFresh : List Row → LineEnd → Type 0
-IsFresh rows end = (end.state ≡ (row_at rows 0).state) × (waiting end ≡ []) × (counts end ≡ no_counts)
+IsFresh rows end = (end.state ≡ (row_at rows 0).state) × (waiting end ≡ []) × (end.counts ≡ no_counts)
 
 abbrev pub IsNewLine : List Row → ℕ → Lined → Type 0
 IsNewLine rows depth line = (line.rows ≡ rows) × (line.depth ≡ depth) × IsFresh rows line.left × IsFresh rows line.right
@@ -88,7 +84,7 @@ pub record PutsOn (old new : Lined) (side tag : ℕ) (blocks : ArrayVec ℕ) (re
   pub put : PutsBetween old.rows old.depth side (end_of old side) (end_of new side) (end_of old (1 - side)) (end_of new (1 - side)) tag blocks result
   pub rules : SameRules old new
   pub waits : waiting (end_of new side) ≡ waiting (end_of old side)
-  pub counts : counts (end_of new (1 - side)) ≡ counts (end_of old (1 - side))
+  pub counts : (end_of new (1 - side)).counts ≡ (end_of old (1 - side)).counts
   pub state : (end_of new (1 - side)).state ≡ (end_of old (1 - side)).state
 
 -- a take by a side, which leaves its peer
@@ -99,7 +95,7 @@ pub record TakesOn (old new : Lined) (side : ℕ) (result : Result Message Refus
 
 -- the side is marked as shut, and nothing else changes
 pub record Shuts (old new : Lined) (side : ℕ) : Type 0 where
-  pub shut : counts (end_of new side) ≡ now_shut (counts (end_of old side))
+  pub shut : (end_of new side).counts ≡ now_shut (end_of old side).counts
   pub rules : SameRules old new
   pub waits : waiting (end_of new side) ≡ waiting (end_of old side)
   pub state : (end_of new side).state ≡ (end_of old side).state
@@ -111,25 +107,3 @@ AreOrderly rows left right = IsFrontAllowed rows 0 left.state (tags left) × IsF
 
 abbrev pub IsOrderly : Lined → Type 0
 IsOrderly line = AreOrderly line.rows line.left line.right
-
--- the answer of a put where no line is there: the blocks come back
-abbrev pub IsClosed : ArrayVec ℕ → Result ℕ Unsent → Type 0
-IsClosed blocks result = MatchResult result (λ _. ⊥) (λ u. u ≡ PeerClosed blocks)
-
--- the refusal of a take where no line is there
-abbrev pub IsNothing : Refused → Type 0
-IsNothing (refused.PeerClosed back) = back.items ≡ []
-IsNothing _ = ⊥
-
--- a put on the line that is there, or on none
-abbrev pub PutsThrough : Option Lined → Option Lined → ℕ → ℕ → ArrayVec ℕ → Result ℕ Unsent → Type 0
-PutsThrough None after side tag blocks result = IsClosed blocks result × (after ≡ None)
-PutsThrough (Some old) after side tag blocks result = (new : Lined) × (after ≡ Some new) × PutsOn old new side tag blocks result
-
-abbrev pub TakesThrough : Option Lined → Option Lined → ℕ → Result Message Refused → Type 0
-TakesThrough None after side result = MatchResult result (λ _. ⊥) IsNothing × (after ≡ None)
-TakesThrough (Some old) after side result = (new : Lined) × (after ≡ Some new) × TakesOn old new side result
-
-abbrev pub ShutsThrough : Option Lined → Option Lined → ℕ → Type 0
-ShutsThrough None after side = after ≡ None
-ShutsThrough (Some old) after side = (new : Lined) × (after ≡ Some new) × Shuts old new side

@@ -1,17 +1,22 @@
 -- What contracts see of an endpoint, and what its calls do where its channel has no contract.
-use Rattle.std.specs.Prelude.{◌≡◌, ◌⊎◌, ℕ, suc, Bool, true, false, List, [], ◌∷◌, ◌++◌, Option, Some, None, Result}
+use Rattle.std.specs.Prelude.{◌≡◌, ◌⊎◌, ℕ, suc, ◌+◌, ◌*◌, ◌≤◌, Bool, true, false, List, [], ◌∷◌, ◌++◌, length, Option, Some, None, is_some, Result}
 use Rattle.arrayvec.specs.ArrayVec.{ArrayVec}
 use Rattle.atomic_table.specs.Seated.{TableId}
 use Rattle.crossbeam_queue.specs.Fifo.{Held}
+use Rattle.xh_model.specs.declared.limits.TheConstants.{MAX_MESSAGES}
+use Rattle.xh_channel.specs.declared.counts.Counts.{Counts}
 use Rattle.xh_channel.specs.declared.message.Message.{Message}
 use Rattle.xh_channel.specs.declared.refused.Refused.{Refused}
-use Rattle.xh_channel.specs.declared.told.Told.{Told}
+use Rattle.xh_channel.specs.declared.spot.Spot.{Spot}
 use Rattle.xh_channel.specs.declared.unsent.Unsent.{Unsent}
+use Rattle.xh_channel.specs.ClosedWords.{ClosedView}
 use Rattle.xh_channel.specs.Numbers.{Numbered}
 use Rattle.xh_channel.specs.Directions.{WaitsFrom, WaitsTo}
-use Rattle.xh_channel.specs.Ends.{Counts, Puts, Takes, now_shut}
+use Rattle.xh_channel.specs.Ends.{Puts, Takes, now_shut}
+use Rattle.xh_channel.specs.QueueEnds.{Outgoing, Incoming}
 
--- its spot and counts, whether its channel has a contract, the depth and its two queues. Of its queues: the messages that it put and took, all that it pushed, and whether it saw its peer shut
+-- its spot and counts, whether its channel has a contract, the depth and its two queues.
+-- Of its queues: the messages that it put and took, all that it pushed, and whether it saw its peer shut
 pub record Posted : Type 0 where
   pub channel : ℕ
   pub side : ℕ
@@ -25,25 +30,35 @@ pub record Posted : Type 0 where
   pub got : List Message
   pub peer_shut : Bool
 
--- where the channel has a contract the end counts as it was told
-abbrev pub counts_of : Option Told → Counts → Counts
+-- where the channel has a contract the end counts as its line does
+abbrev pub counts_of : Option Counts → Counts → Counts
 counts_of None c = c
-counts_of (Some t) c = record { put = t.put; taken = t.taken; shut = t.shut }
+counts_of (Some line) c = line
 
--- the number of the last message that it put, and of the last that it took
-abbrev pub told_put : ℕ → Counts → Counts
-told_put n c = record { put = n; taken = c.taken; shut = c.shut }
-
-abbrev pub told_taken : ℕ → Counts → Counts
-told_taken n c = record { put = c.put; taken = n; shut = c.shut }
+-- the parts of an endpoint are those of its spot, and of what it pushed it sent all but one message at most, which met a shut peer
+pub record IsEnd (spot : Spot) (out : Outgoing) (into : Incoming) (word : ClosedView) (put : ℕ) (line : Option Counts) : Type 0 where
+  pub own_word : word.word ≡ 2 * spot.channel + spot.side
+  pub some_sent : put ≤ length out.sent
+  pub all_sent : word.peer_shut ≡ false → put ≡ length out.sent
+  pub numbers : put ≤ MAX_MESSAGES
+  pub unused : is_some line ≡ true → (put ≡ 0) × (into.got ≡ []) × (word.shut ≡ false)
 
 -- the same end of the same channel
-abbrev pub IsSameEnd : Posted → Posted → Type 0
-IsSameEnd old new = (new.channel ≡ old.channel) × (new.side ≡ old.side) × (new.has_contract ≡ old.has_contract) × (new.depth ≡ old.depth) × (new.out ≡ old.out) × (new.into ≡ old.into)
+pub record IsSameEnd (old new : Posted) : Type 0 where
+  pub channel : new.channel ≡ old.channel
+  pub side : new.side ≡ old.side
+  pub has_contract : new.has_contract ≡ old.has_contract
+  pub depth : new.depth ≡ old.depth
+  pub out : new.out ≡ old.out
+  pub into : new.into ≡ old.into
 
 -- of what it sent and got and saw, only what it sent may differ, only what it got, neither
 abbrev pub IsSameBut : List Message → List Message → Posted → Posted → Type 0
 IsSameBut sent got old new = IsSameEnd old new × (new.sent ≡ sent) × (new.got ≡ got) × (old.peer_shut ≡ true → new.peer_shut ≡ true)
+
+-- all that it sent, pushed and got stays, and what it saw
+abbrev pub KeepsItsMessages : Posted → Posted → Type 0
+KeepsItsMessages old new = IsSameBut old.sent old.got old new × (new.pushed ≡ old.pushed)
 
 -- it went to the back of what was sent, which is numbered
 abbrev pub GoesBack : Posted → Posted → Message → Type 0
@@ -54,12 +69,12 @@ abbrev pub ComesNext : Posted → Posted → Message → Type 0
 ComesNext old new m = IsSameBut old.sent (old.got ++ m ∷ []) old new × (new.pushed ≡ old.pushed) × Numbered new.got
 
 -- at one moment of the call as many of its messages waited as the depth
-abbrev pub SawFull : Posted → Posted → Type 0
-SawFull old new = Held old.depth (WaitsFrom old.sent)
+abbrev pub SawFull : Posted → Type 0
+SawFull old = Held old.depth (WaitsFrom old.pushed)
 
 -- at one moment of the call nothing waited for it
-abbrev pub SawEmpty : Posted → Posted → Type 0
-SawEmpty old new = Held 0 (WaitsTo old.got)
+abbrev pub SawEmpty : Posted → Type 0
+SawEmpty old = Held 0 (WaitsTo old.got)
 
 abbrev pub SawShut : Posted → Posted → Type 0
 SawShut old new = new.peer_shut ≡ true
@@ -67,22 +82,34 @@ SawShut old new = new.peer_shut ≡ true
 abbrev pub SawOpen : Posted → Posted → Type 0
 SawOpen old new = (old.peer_shut ≡ false) × (new.peer_shut ≡ false)
 
--- no contract bans a message
+-- a put, which no contract bans; `full` says that as many messages as the depth were seen to wait
+abbrev pub PutsWhere : Type 0 → Posted → Posted → ℕ → ArrayVec ℕ → Result ℕ Unsent → Type 0
+PutsWhere full old new = Puts (GoesBack old new) ⊥ (Unit {0}) full (SawShut old new) (SawOpen old new) old.counts new.counts
+
 abbrev pub PutsAs : Posted → Posted → ℕ → ArrayVec ℕ → Result ℕ Unsent → Type 0
-PutsAs old new = Puts (GoesBack old new) ⊥ (Unit {0}) (SawFull old new) (SawShut old new) (SawOpen old new) old.counts new.counts
+PutsAs old new = PutsWhere (SawFull old) old new
 
 -- a put that is refused leaves nothing behind, or one message that only the shut peer can find
 abbrev pub Unpushed : Posted → Posted → Message → Type 0
 Unpushed old new m = IsSameBut old.sent old.got old new × ((new.pushed ≡ old.pushed) ⊎ ((new.pushed ≡ old.pushed ++ m ∷ []) × (new.peer_shut ≡ true)))
 
 -- the last message that was sent is only pushed: the peer was shut meanwhile
-abbrev pub IsUnsent : Posted → Posted → Type 0
-IsUnsent old new = IsSameEnd old new × (new.got ≡ old.got) × (new.pushed ≡ old.pushed) × (new.peer_shut ≡ true)
-    × (suc new.counts.put ≡ old.counts.put) × (new.counts.taken ≡ old.counts.taken) × (new.counts.shut ≡ old.counts.shut)
-    × ((before : List Message) (m : Message) → old.sent ≡ before ++ m ∷ [] → new.sent ≡ before)
+pub record IsUnsent (old new : Posted) : Type 0 where
+  pub same : IsSameEnd old new
+  pub got : new.got ≡ old.got
+  pub pushed : new.pushed ≡ old.pushed
+  pub closed : new.peer_shut ≡ true
+  pub put : suc new.counts.put ≡ old.counts.put
+  pub taken : new.counts.taken ≡ old.counts.taken
+  pub shut : new.counts.shut ≡ old.counts.shut
+  pub sent : (before : List Message) (m : Message) → old.sent ≡ before ++ m ∷ [] → new.sent ≡ before
+
+-- a take; `empty` says that nothing was seen to wait
+abbrev pub TakesWhere : Type 0 → Posted → Posted → Result Message Refused → Type 0
+TakesWhere empty old new = Takes (ComesNext old new) empty (SawShut old new) (SawOpen old new) old.counts new.counts
 
 abbrev pub TakesAs : Posted → Posted → Result Message Refused → Type 0
-TakesAs old new = Takes (ComesNext old new) (SawEmpty old new) (SawShut old new) (SawOpen old new) old.counts new.counts
+TakesAs old new = TakesWhere (SawEmpty old) old new
 
 abbrev pub ShutsAs : Posted → Posted → Type 0
-ShutsAs old new = (new.counts ≡ now_shut old.counts) × IsSameBut old.sent old.got old new × (new.pushed ≡ old.pushed)
+ShutsAs old new = (new.counts ≡ now_shut old.counts) × KeepsItsMessages old new

@@ -1,105 +1,123 @@
 //! All channels of a heap.
-ghost use Rattle.std.specs.Prelude.{◌≡◌, ℕ, ◌+◌, ◌*◌, ◌<◌, ◌≤◌, ◌⊎◌, true, false, length, List, Option, IfOk, IfErr, MatchBool};
-ghost use Rattle.xh_channel.specs.Ends.{given_back, last_number};
-ghost use Rattle.xh_channel.specs.Lanes.{PutsByLine, TakesByLine};
-ghost use Rattle.xh_channel.specs.Queues.{IsSameEnd, PutsAs, TakesAs, ShutsAs};
+ghost use Rattle.std.specs.Prelude.{◌≡◌, ℕ, ◌+◌, ◌*◌, ◌<◌, ◌≤◌, ◌⊎◌, suc, true, false, length, IfOk, IfErr, OnErr, MatchBool};
+ghost use Rattle.crossbeam_queue.specs.Fifo.{Learns, Held};
+ghost use Rattle.xh_model.specs.declared.limits.TheConstants.{CHANNELS, MAX_DEPTH, MAX_MESSAGES};
+ghost use Rattle.xh_channel.specs.ContractEnds.{PutsByLine, TakesByLine};
+ghost use Rattle.xh_channel.specs.Directions.{Ordered};
+ghost use Rattle.xh_channel.specs.Ends.{given_back};
+ghost use Rattle.xh_channel.specs.FreeNumbers.{StandAtTheirNumbers, at_place, has_depth};
+ghost use Rattle.xh_channel.specs.Numbers.{message};
 ghost use Rattle.xh_channel.specs.Pairs.{IsPair};
-ghost use Rattle.xh_channel.specs.Places.{IsPlaced, NoneFree, at_place, has_depth};
-ghost use Rattle.xh_channel.specs.Turns.{HasTurned, is_waited_for};
-ghost use Rattle.xh_channel.specs.declared.pair.Pair.{Pair};
+ghost use Rattle.xh_channel.specs.QueueEnds.{incoming_role, outgoing_role};
+ghost use Rattle.xh_channel.specs.Queues.{IsSameEnd, KeepsItsMessages, PutsAs, PutsWhere, ShutsAs, TakesAs, TakesWhere, Unpushed};
 ghost use Rattle.xh_channel.specs.declared.refused.Refused.TheVariants.{OutOfMemory, BadSize, NoChannel};
 
-use crate::boxes::direction;
-use crate::desk::Desk;
+use crate::closed_word::ClosedWords;
+use crate::direction::{Receiver, Role, Sender};
 use crate::endpoint::Endpoint;
-use crate::lanes::Lanes;
+use crate::free_numbers::FreeNumbers;
+use crate::free_pair::FreePair;
 use crate::message::Message;
-use crate::pair::Pair;
+use crate::queue_end::direction;
 use crate::refused::Refused;
-use crate::sign::Signs;
-use crate::spot::{CHANNELS, Spot};
+use crate::room::Room;
+use crate::spot::Spot;
 use crate::unsent::Unsent;
 use arrayvec::ArrayVec;
+use crossbeam_queue::protocol::Lesson;
 use std::alloc::{AllocError, Global};
-use std::sync::{Condvar, Mutex, Wait};
+use std::sync::atomic::AtomicU64;
+use std::sync::{Arc, Mutex, Wait};
 use xh_core::Contract;
+use xh_model::limits::{CHANNELS, MAX_BLOCKS, MAX_DEPTH};
 
 /// All channels of a heap. They are shared by reference.
 #[derive(Drop)]
 pub struct Channels {
     depth: u8,
-    desk: Mutex<Desk>,
-    lanes: Lanes,
-    turned: Vec<Condvar>,
-    ghost deep: { (1 ≤ depth) × (depth ≤ 16) },
-    ghost each: { length turned.items ≡ 64 },
+    // all ends of these channels share it
+    probe: Arc<AtomicU64, Global>,
+    free: Mutex<FreeNumbers>,
+    rooms: Vec<Room>,
+    ghost deep: { (1 ≤ depth) × (depth ≤ MAX_DEPTH) },
+    ghost each: { length rooms.items ≡ CHANNELS },
 }
 
 // Both ends of the channel that is made next.
-fn pair(alloc: Global, depth: usize, signs: &mut Signs, channel: u8) -> Result<Pair, AllocError>
-    requires { (0 < depth) × (channel < 64) × (signs.old ≡ 2 * channel) }
-    ensures { IfOk result (λ p. (p.low.channel ≡ channel) × (p.low.depth ≡ depth) × (signs.new ≡ 2 * channel + 2)) }
+fn pair(
+    alloc: Global,
+    depth: usize,
+    words: &mut ClosedWords,
+    channel: u8,
+) -> Result<FreePair, AllocError>
+    requires { (0 < depth) × (channel < CHANNELS) × (words.old ≡ 2 * channel) }
+    ensures { IfOk result (λ p. (p.low.channel ≡ channel) × (p.low.depth ≡ depth) × (words.new ≡ 2 * channel + 2)) }
 {
-    let (low_out, high_in) = direction(alloc, depth)?;
-    let (high_out, low_in) = direction(alloc, depth)?;
+    let (low_sender, high_receiver) = direction(alloc, depth)?;
+    let (high_sender, low_receiver) = direction(alloc, depth)?;
     let low_spot = Spot { channel, side: 0 };
-    let low = Endpoint::new(low_spot, low_out, low_in, signs.next()?);
+    let low = Endpoint::new(low_spot, low_sender, low_receiver, words.next()?);
     let high_spot = Spot { channel, side: 1 };
-    let high = Endpoint::new(high_spot, high_out, high_in, signs.next()?);
-    Ok(Pair { low, high })
+    let high = Endpoint::new(high_spot, high_sender, high_receiver, words.next()?);
+    Ok(FreePair { low, high })
 }
 
 // The pair of each number.
-fn pairs(alloc: Global, depth: usize) -> Result<Vec<Option<Pair>>, AllocError>
-    requires { 0 < depth }
-    ensures { IfOk result (λ v. (length v.items ≡ 64) × IsPlaced v.items × ((i : ℕ) → i < 64 → has_depth depth (at_place v.items i) ≡ true)) }
+fn pairs(
+    alloc: Global,
+    depth: usize,
+    words: &mut ClosedWords,
+) -> Result<Vec<Option<FreePair>>, AllocError>
+    requires { (0 < depth) × (words.old ≡ 0) }
+    ensures { IfOk result (λ v. (length v.items ≡ CHANNELS) × StandAtTheirNumbers v.items × ((i : ℕ) → i < CHANNELS → has_depth depth (at_place v.items i) ≡ true)) }
 {
-    let mut signs = Signs::new(alloc)?;
     let mut pairs = Vec::with_capacity(alloc, CHANNELS as usize)?;
     for channel in 0..CHANNELS {
-        pairs.push(Some(pair(alloc, depth, &mut signs, channel)?))?;
+        pairs.push(Some(pair(alloc, depth, words, channel)?))?;
     }
     Ok(pairs)
 }
 
-// What each channel's waiters sleep on.
-fn condvars(alloc: Global) -> Result<Vec<Condvar>, AllocError>
-    ensures { IfOk result (λ v. length v.items ≡ 64) }
+// The room of each number.
+fn rooms(alloc: Global) -> Result<Vec<Room>, AllocError>
+    ensures { IfOk result (λ v. length v.items ≡ CHANNELS) }
 {
-    let mut turned = Vec::with_capacity(alloc, CHANNELS as usize)?;
+    let mut rooms = Vec::with_capacity(alloc, CHANNELS as usize)?;
     for _ in 0..CHANNELS {
-        turned.push(Condvar::new())?;
+        rooms.push(Room::new())?;
     }
-    Ok(turned)
+    Ok(rooms)
 }
 
 impl Channels {
-    /// All 64 channels, none of them open. `depth` is the number of messages that may wait in a direction, 1 to 16, and else BadSize. OutOfMemory where a growth is refused.
+    /// All 64 channels, none of them open. `depth` is the number of messages that may wait in a
+    /// direction, 1 to 16, and else BadSize. OutOfMemory where a growth is refused.
     pub fn new(alloc: Global, depth: u8) -> Result<Channels, Refused>
-        ensures ok { IfOk result (λ c. (c.depth ≡ depth) × (1 ≤ depth) × (depth ≤ 16)) }
-        ensures err { IfErr result (λ r. ((r ≡ BadSize) × ((depth ≡ 0) ⊎ (16 < depth))) ⊎ ((r ≡ OutOfMemory) × (1 ≤ depth) × (depth ≤ 16))) }
+        ensures ok { IfOk result (λ c. (c.depth ≡ depth) × (1 ≤ depth) × (depth ≤ MAX_DEPTH)) }
+        ensures err { IfErr result (λ r. ((r ≡ BadSize) × ((depth ≡ 0) ⊎ (MAX_DEPTH < depth))) ⊎ ((r ≡ OutOfMemory) × (1 ≤ depth) × (depth ≤ MAX_DEPTH))) }
     {
-        if depth == 0 || depth > 16 {
+        if depth == 0 || depth > MAX_DEPTH {
             return Err(Refused::BadSize);
         }
-        let free = pairs(alloc, depth as usize)?;
-        let lanes = Lanes::new(alloc)?;
-        let turned = condvars(alloc)?;
+        let mut words = ClosedWords::new(alloc)?;
+        let free = pairs(alloc, depth as usize, &mut words)?;
+        let rooms = rooms(alloc)?;
         Ok(Channels {
             depth,
-            desk: Mutex::new(Desk::new(free)),
-            lanes,
-            turned,
+            probe: words.into_probe(),
+            free: Mutex::new(FreeNumbers::new(free)),
+            rooms,
         })
     }
 
-    /// Both ends of a free channel, side 0 first, with nothing put, nothing taken and neither shut. NoChannel where each number was found taken.
+    /// Both ends of the lowest channel that is free, side 0 first, with nothing put, nothing taken and
+    /// neither shut. NoChannel where none is free.
     pub fn open<R: Wait>(&self, rt: &R) -> Result<(Endpoint, Endpoint), Refused>
         ensures ok { IfOk result (λ ends. IsPair ends.0 ends.1 × (ends.0.depth ≡ self.now.depth) × (ends.0.has_contract ≡ false)) }
-        ensures err { IfErr result (λ r. (r ≡ NoChannel) × ((found : List (Option Pair)) × NoneFree self.now.depth found)) }
+        ensures err { IfErr result (λ r. r ≡ NoChannel) }
     {
-        let found = self.desk.lock(rt).open(self.depth as usize);
-        let Some(Pair { low, high }) = found else {
+        let found = self.free.lock(rt).open(self.depth as usize);
+        let Some(FreePair { low, high }) = found else {
             return Err(Refused::NoChannel);
         };
         Ok((low, high))
@@ -112,61 +130,109 @@ impl Channels {
         contract: Contract,
     ) -> Result<(Endpoint, Endpoint), Refused>
         ensures ok { IfOk result (λ ends. IsPair ends.0 ends.1 × (ends.0.depth ≡ self.now.depth) × (ends.0.has_contract ≡ true)) }
-        ensures err { IfErr result (λ r. (r ≡ NoChannel) × ((found : List (Option Pair)) × NoneFree self.now.depth found)) }
+        ensures err { IfErr result (λ r. r ≡ NoChannel) }
     {
         let (low, high) = self.open(rt)?;
-        self.lanes
-            .open(rt, low.spot().channel, contract, self.depth);
+        self.rooms[low.spot().channel as usize].begin(rt, contract, self.depth);
         Ok((low.with_contract(), high.with_contract()))
     }
 
-    /// The number of a channel that was opened and never used is free again.
+    /// The number of a channel that was opened here and never used is free again. Ends of other
+    /// channels than these are dropped, and no number becomes free.
     pub fn cancel<R: Wait>(&self, rt: &R, low: Endpoint, high: Endpoint)
         requires { IsPair low high }
     {
+        let mut free = self.free.lock(rt);
+        if !low.shares(&self.probe) {
+            return;
+        }
         if low.has_contract() {
-            self.lanes.cancel(rt, low.spot().channel);
+            self.rooms[low.spot().channel as usize].end(rt);
         }
         let low = low.without_contract();
         let high = high.without_contract();
-        self.desk.lock(rt).cancel(Pair { low, high });
+        free.cancel(FreePair { low, high });
     }
 
     /// Puts a message, and answers its number, which is the count of this end's puts.
-    /// PeerClosed where the peer was seen shut, then Full where as many messages as the depth were seen to wait or the direction has carried 2^62 - 1 of them. On a channel with a contract Protocol comes first, where the contract doesn't allow the message. Each hands the blocks back.
+    /// PeerClosed where the peer was seen shut, then Full where as many messages as the depth were seen
+    /// to wait or the direction has carried 2^62 - 1 of them. On a channel with a contract Protocol
+    /// comes first, where the contract doesn't allow the message. Each hands the blocks back. After
+    /// PeerClosed the shut end may still take a message with the numbers of these blocks, where it was
+    /// shut between the push and the second look: who has a block is what its owner word says.
     pub fn put<R: Wait>(
         &self,
         rt: &R,
         end: &mut Endpoint,
         tag: u16,
-        blocks: ArrayVec<u16, 8>,
+        blocks: ArrayVec<u16, MAX_BLOCKS>,
     ) -> Result<u64, Unsent>
-        ensures put { MatchBool end.old.has_contract (PutsByLine end.old end.new tag blocks result) (PutsAs end.old end.new tag blocks result) }
-        ensures last { end.old.has_contract ≡ false → IfOk result (λ no. no ≤ last_number) }
+        ensures put { MatchBool end.old.has_contract (PutsByLine end.old end.new result) (PutsAs end.old end.new tag blocks result) }
+        ensures last { IfOk result (λ no. no ≤ MAX_MESSAGES) }
         ensures back { IfErr result (λ u. given_back u ≡ blocks) }
+        ensures kept { OnErr result (Unpushed end.old end.new (message (suc end.old.counts.put) tag blocks)) }
+        ensures same { IsSameEnd end.old end.new }
+    {
+        self.put_as::<Sender, R>(rt, end, tag, blocks)
+    }
+
+    /// As `put`. `M` is any lesson that the sending end may learn of what waits, and Full comes only
+    /// where it was learned of as many messages as the depth.
+    pub fn put_as<M: Lesson<Message, Role>, R: Wait>(
+        &self,
+        rt: &R,
+        end: &mut Endpoint,
+        tag: u16,
+        blocks: ArrayVec<u16, MAX_BLOCKS>,
+    ) -> Result<u64, Unsent>
+        requires { (id : ℕ) → Learns Ordered id (outgoing_role end.old.pushed) (M.fact (outgoing_role end.old.pushed)) }
+        ensures put { MatchBool end.old.has_contract (PutsByLine end.old end.new result)
+            (PutsWhere (Held end.old.depth (M.fact (outgoing_role end.old.pushed))) end.old end.new tag blocks result) }
+        ensures last { IfOk result (λ no. no ≤ MAX_MESSAGES) }
+        ensures back { IfErr result (λ u. given_back u ≡ blocks) }
+        ensures kept { OnErr result (Unpushed end.old end.new (message (suc end.old.counts.put) tag blocks)) }
         ensures same { IsSameEnd end.old end.new }
     {
         let spot = end.spot();
-        let no = if end.has_contract() {
-            let no = self.lanes.put(rt, spot, tag, blocks)?;
+        let room = &self.rooms[spot.channel as usize];
+        if end.has_contract() {
+            let no = room.put(rt, spot.side, tag, blocks)?;
             end.was_put(no);
-            no
-        } else {
-            end.put(rt, tag, blocks)?
-        };
-        self.tell(rt, spot);
+            return Ok(no);
+        }
+        let no = end.put_as::<M, R>(rt, tag, blocks)?;
+        room.rouse(rt);
         Ok(no)
     }
 
-    /// Takes the message at the front. With none, PeerClosed where the peer was seen shut, and else Empty. An end that was shut still takes what is left.
+    /// Takes the message at the front. With none, PeerClosed where the peer was seen shut, and else
+    /// Empty. An end that was shut still takes what is left.
     pub fn take<R: Wait>(&self, rt: &R, end: &mut Endpoint) -> Result<Message, Refused>
         ensures taken { MatchBool end.old.has_contract (TakesByLine end.old end.new result) (TakesAs end.old end.new result) }
+        ensures kept { OnErr result (KeepsItsMessages end.old end.new) }
+        ensures same { IsSameEnd end.old end.new }
+    {
+        self.take_as::<Receiver, R>(rt, end)
+    }
+
+    /// As `take`. `M` is any lesson that the receiving end may learn of what waits, and Empty and
+    /// PeerClosed come only where it was learned of no messages.
+    pub fn take_as<M: Lesson<Message, Role>, R: Wait>(
+        &self,
+        rt: &R,
+        end: &mut Endpoint,
+    ) -> Result<Message, Refused>
+        requires { (id : ℕ) → Learns Ordered id (incoming_role end.old.got) (M.fact (incoming_role end.old.got)) }
+        ensures taken { MatchBool end.old.has_contract (TakesByLine end.old end.new result)
+            (TakesWhere (Held 0 (M.fact (incoming_role end.old.got))) end.old end.new result) }
+        ensures kept { OnErr result (KeepsItsMessages end.old end.new) }
         ensures same { IsSameEnd end.old end.new }
     {
         if !end.has_contract() {
-            return end.take(rt);
+            return end.take_as::<M, R>(rt);
         }
-        let message = self.lanes.take(rt, end.spot())?;
+        let spot = end.spot();
+        let message = self.rooms[spot.channel as usize].take(rt, spot.side)?;
         end.was_taken(message.no);
         Ok(message)
     }
@@ -176,45 +242,33 @@ impl Channels {
         ensures { ShutsAs end.old end.new }
     {
         let spot = end.spot();
+        let room = &self.rooms[spot.channel as usize];
         if end.has_contract() {
-            self.lanes.shut(rt, spot);
+            room.shut(rt, spot.side);
             end.was_shut();
         } else {
             end.shut();
+            room.rouse(rt);
         }
-        self.tell(rt, spot);
     }
 
-    // The channel's turn rises by one, and its waiters look again.
-    fn tell<R: Wait>(&self, rt: &R, spot: Spot)
-        requires { spot.channel < 64 }
-    {
-        self.desk.lock(rt).turn(spot.channel);
-        self.turned[spot.channel as usize].notify_all();
+    /// The channel's turn rises by one, and all that wait there look again. For whoever ends a process
+    /// without shutting its endpoint: the process may wait at the endpoint's spot, and no put comes.
+    pub fn rouse<R: Wait>(&self, rt: &R, spot: Spot) {
+        self.rooms[spot.channel as usize].rouse(rt);
     }
 
-    /// How many puts that succeeded and shuts there were at this channel. At 2^64 - 1 it stays.
-    pub fn turn<R: Wait>(&self, rt: &R, spot: Spot) -> u64
-        requires { spot.channel < 64 }
-    {
-        self.desk.lock(rt).turns[spot.channel as usize]
+    /// How many puts that succeeded, shuts and calls of `rouse` there were at this channel. At 2^64 - 1 it stays.
+    /// To wait for a message, first read the turn, then take, and where nothing waits call `wait` with
+    /// the turn that was read: a put between the take and the `wait` isn't slept through.
+    pub fn turn<R: Wait>(&self, _rt: &R, spot: Spot) -> u64 {
+        self.rooms[spot.channel as usize].turn()
     }
 
-    /// Returns where the channel's turn isn't `seen`, and at once where it is 2^64 - 1.
-    pub fn wait<R: Wait>(&self, rt: &R, spot: Spot, seen: u64)
-        requires { spot.channel < 64 }
-        ensures { (found : List ℕ) × HasTurned found spot.channel seen }
-    {
-        let channel = spot.channel as usize;
-        let desk = self.desk.lock(rt);
-        let _desk = self.turned[channel].wait_while(
-            rt,
-            desk,
-            |desk| -> bool
-                requires { channel < 64 }
-                ensures { result ≡ is_waited_for desk.old.turns channel seen }
-            { desk.turns[channel] == seen && seen != u64::MAX },
-        );
+    /// Returns where the channel's turn isn't `seen`, and at once where it is 2^64 - 1. Only a put that
+    /// succeeds, a shut and `rouse` end a wait: nothing else that happens to the waiter's process does.
+    pub fn wait<R: Wait>(&self, rt: &R, spot: Spot, seen: u64) {
+        self.rooms[spot.channel as usize].wait(rt, seen);
     }
 }
 

@@ -1,61 +1,65 @@
 //! One end of a channel.
 ghost use Rattle.std.specs.Prelude.{◌≡◌, ℕ, ◌+◌, ◌*◌, ◌<◌, ◌≤◌, suc, true, false, List, [], OnErr, IfOk, MatchBool};
 ghost use Rattle.crossbeam_queue.specs.Fifo.{Learns, Held};
-ghost use Rattle.xh_channel.specs.Boxes.{incoming_role};
+ghost use Rattle.xh_model.specs.declared.limits.TheConstants.{CHANNELS, MAX_MESSAGES};
+ghost use Rattle.xh_channel.specs.ContractEnds.{counted_put, counted_taken};
 ghost use Rattle.xh_channel.specs.Directions.{Ordered, WaitsAfter};
-ghost use Rattle.xh_channel.specs.Ends.{Takes, last_number, no_counts, now_shut};
+ghost use Rattle.xh_channel.specs.Ends.{no_counts, now_shut};
 ghost use Rattle.xh_channel.specs.Numbers.{message};
-ghost use Rattle.xh_channel.specs.Queues.{ComesNext, SawShut, SawOpen, IsSameBut, IsUnsent, Unpushed, PutsAs, TakesAs, ShutsAs, told_put, told_taken};
+ghost use Rattle.xh_channel.specs.QueueEnds.{incoming_role, outgoing_role};
+ghost use Rattle.xh_channel.specs.Queues.{IsSameBut, IsUnsent, KeepsItsMessages, Unpushed, PutsWhere, TakesWhere, ShutsAs};
 
-use crate::boxes::{self, Inbox, Outbox};
-use crate::direction::{Receiver, Role, Sender};
-use crate::message::{LAST_NUMBER, Message};
+use crate::closed_word::ClosedWord;
+use crate::counts::Counts;
+use crate::direction::Role;
+use crate::message::Message;
+use crate::queue_end::{self, ReceivingEnd, SendingEnd};
 use crate::refused::Refused;
-use crate::sign::Sign;
 use crate::spot::Spot;
-use crate::told::Told;
 use crate::unsent::Unsent;
 use arrayvec::ArrayVec;
 use crossbeam_queue::protocol::Lesson;
 use std::marker::Model;
 use std::sync::Wait;
+use std::sync::atomic::AtomicU64;
+use xh_model::limits::{MAX_BLOCKS, MAX_MESSAGES};
 
 /// One end of a channel. It goes from owner to owner, and whoever has it may put, take and shut.
 #[derive(Drop)]
 pub struct Endpoint {
     spot: Spot,
-    outbox: Outbox,
-    inbox: Inbox,
-    sign: Sign,
+    sender: SendingEnd,
+    receiver: ReceivingEnd,
+    word: ClosedWord,
     put: u64,
-    told: Option<Told>,
+    // where the channel has a contract, what its line said that this end carried
+    line_counts: Option<Counts>,
 }
 
 impl Model for Endpoint {
-    ghost use Rattle.std.specs.Prelude.{◌≡◌, ◌+◌, ◌*◌, ◌<◌, ◌≤◌, true, false, [], length, take, is_some};
-    ghost use Rattle.xh_channel.specs.Ends.{last_number};
-    ghost use Rattle.xh_channel.specs.Queues.{Posted, counts_of};
+    ghost use Rattle.std.specs.Prelude.{length, take, is_some};
+    ghost use Rattle.xh_channel.specs.Queues.{IsEnd, Posted, counts_of};
 
     ghost Value = { Posted };
 
     ghost view = { λ e. record {
       channel = e.spot.channel;
       side = e.spot.side;
-      counts = counts_of e.told (record { put = e.put; taken = length e.inbox.got; shut = e.sign.shut });
-      has_contract = is_some e.told;
-      depth = e.outbox.depth;
-      out = e.outbox.queue;
-      into = e.inbox.queue;
-      sent = take e.put e.outbox.sent;
-      pushed = e.outbox.sent;
-      got = e.inbox.got;
-      peer_shut = e.sign.peer_shut;
+      counts = counts_of e.line_counts (record { put = e.put; taken = length e.receiver.got; shut = e.word.shut });
+      has_contract = is_some e.line_counts;
+      depth = e.sender.depth;
+      out = e.sender.queue;
+      into = e.receiver.queue;
+      sent = take e.put e.sender.sent;
+      pushed = e.sender.sent;
+      got = e.receiver.got;
+      peer_shut = e.word.peer_shut;
     } };
 
-    ghost invariant = { λ e. (e.spot.channel < 64) × (e.spot.side < 2) × (e.sign.word ≡ 2 * e.spot.channel + e.spot.side) × (e.put ≤ length e.outbox.sent) × (e.sign.peer_shut ≡ false → e.put ≡ length e.outbox.sent) × (e.put ≤ last_number) × (is_some e.told ≡ true → (e.put ≡ 0) × (e.inbox.got ≡ []) × (e.sign.shut ≡ false)) };
+    ghost invariant = { λ e. IsEnd e.spot e.sender e.receiver e.word e.put e.line_counts };
 }
 
-fn copy_of(blocks: &ArrayVec<u16, 8>) -> ArrayVec<u16, 8>
+fn copy_of(blocks: &ArrayVec<u16, MAX_BLOCKS>) -> ArrayVec<u16, MAX_BLOCKS>
     ensures { result ≡ blocks.now }
 {
     let Ok(copy) = blocks.clone() else {
@@ -72,62 +76,39 @@ pub fn compare(from: Endpoint, to: Endpoint) -> (Endpoint, Endpoint)
     ensures prefix { (items : List Message) × WaitsAfter from.pushed to.got items }
     ensures sent { from.peer_shut ≡ false → from.pushed ≡ from.sent }
 {
-    let Endpoint {
-        spot,
-        outbox,
-        inbox,
-        sign,
-        put,
-        told,
-    } = from;
-    let Endpoint {
-        spot: to_spot,
-        outbox: to_outbox,
-        inbox: to_inbox,
-        sign: to_sign,
-        put: to_put,
-        told: to_told,
-    } = to;
-    let (outbox, to_inbox) = boxes::compare(outbox, to_inbox);
-    let from = Endpoint {
-        spot,
-        outbox,
-        inbox,
-        sign,
-        put,
-        told,
-    };
-    let to = Endpoint {
-        spot: to_spot,
-        outbox: to_outbox,
-        inbox: to_inbox,
-        sign: to_sign,
-        put: to_put,
-        told: to_told,
-    };
+    let (sender, receiver) = queue_end::compare(from.sender, to.receiver);
+    let from = Endpoint { sender, ..from };
+    let to = Endpoint { receiver, ..to };
     (from, to)
 }
 
 impl Endpoint {
     // An end with nothing put and nothing taken.
-    pub(crate) fn new(spot: Spot, outbox: Outbox, inbox: Inbox, sign: Sign) -> Endpoint
-        requires spot { (spot.channel < 64) × (spot.side < 2) × (sign.word ≡ 2 * spot.channel + spot.side) }
-        requires new { (outbox.sent ≡ []) × (inbox.got ≡ []) × (sign.shut ≡ false) }
-        ensures { (result.channel ≡ spot.channel) × (result.side ≡ spot.side) × (result.counts ≡ no_counts) × (result.has_contract ≡ false) × (result.depth ≡ outbox.depth) × (result.out ≡ outbox.queue) × (result.into ≡ inbox.queue) }
+    pub(crate) fn new(
+        spot: Spot,
+        sender: SendingEnd,
+        receiver: ReceivingEnd,
+        word: ClosedWord,
+    ) -> Endpoint
+        requires word { word.word ≡ 2 * spot.channel + spot.side }
+        requires new { (sender.sent ≡ []) × (receiver.got ≡ []) × (word.shut ≡ false) }
+        ensures spot { (result.channel ≡ spot.channel) × (result.side ≡ spot.side) }
+        ensures queues { (result.depth ≡ sender.depth) × (result.out ≡ sender.queue) × (result.into ≡ receiver.queue) }
+        ensures unused { (result.counts ≡ no_counts) × (result.has_contract ≡ false) }
     {
         Endpoint {
             spot,
-            outbox,
-            inbox,
-            sign,
+            sender,
+            receiver,
+            word,
             put: 0,
-            told: None,
+            line_counts: None,
         }
     }
 
     /// Its channel, 0 to 63, and its side, 0 or 1.
     pub fn spot(&self) -> Spot
-        ensures { (result.channel ≡ self.now.channel) × (result.side ≡ self.now.side) × (result.channel < 64) × (result.side < 2) }
+        ensures { (result.channel ≡ self.now.channel) × (result.side ≡ self.now.side) × (result.channel < CHANNELS) × (result.side < 2) }
     {
         self.spot
     }
@@ -136,13 +117,18 @@ impl Endpoint {
     pub fn has_contract(&self) -> bool
         ensures { result ≡ self.now.has_contract }
     {
-        self.told.is_some()
+        self.line_counts.is_some()
     }
 
     pub(crate) fn depth(&self) -> usize
         ensures { result ≡ self.now.depth }
     {
-        self.outbox.depth()
+        self.sender.depth()
+    }
+
+    // Whether its closed word shares this probe.
+    pub(crate) fn shares(&self, probe: &AtomicU64) -> bool {
+        self.word.shares(probe)
     }
 
     // The channel gets a contract.
@@ -150,13 +136,8 @@ impl Endpoint {
         requires { (self.has_contract ≡ false) × (self.counts ≡ no_counts) }
         ensures { result ≡ record self { has_contract = true } }
     {
-        let none = Told {
-            put: 0,
-            taken: 0,
-            shut: false,
-        };
         Endpoint {
-            told: Some(none),
+            line_counts: Some(Counts::none()),
             ..self
         }
     }
@@ -166,30 +147,34 @@ impl Endpoint {
         requires { self.counts ≡ no_counts }
         ensures { result ≡ record self { has_contract = false } }
     {
-        Endpoint { told: None, ..self }
+        Endpoint {
+            line_counts: None,
+            ..self
+        }
     }
 
-    // Looks at the peer's word, and pushes.
-    pub(crate) fn send<R: Wait>(
+    // Looks at the peer's word, and pushes. `M` says what is learned where the queue is full.
+    pub(crate) fn send<M: Lesson<Message, Role>, R: Wait>(
         &mut self,
         rt: &R,
         tag: u16,
-        blocks: ArrayVec<u16, 8>,
+        blocks: ArrayVec<u16, MAX_BLOCKS>,
     ) -> Result<u64, Unsent>
-        requires { self.old.has_contract ≡ false }
-        ensures put { PutsAs self.old self.new tag blocks result }
-        ensures last { IfOk result (λ no. no ≤ last_number) }
-        ensures refused { OnErr result (IsSameBut self.old.sent self.old.got self.old self.new × (self.new.pushed ≡ self.old.pushed)) }
+        requires queue { self.old.has_contract ≡ false }
+        requires lesson { (id : ℕ) → Learns Ordered id (outgoing_role self.old.pushed) (M.fact (outgoing_role self.old.pushed)) }
+        ensures put { PutsWhere (Held self.old.depth (M.fact (outgoing_role self.old.pushed))) self.old self.new tag blocks result }
+        ensures last { IfOk result (λ no. no ≤ MAX_MESSAGES) }
+        ensures refused { OnErr result (KeepsItsMessages self.old self.new) }
     {
-        if self.sign.peer_is_shut() {
+        if self.word.peer_is_shut() {
             return Err(Unsent::PeerClosed { back: blocks });
         }
-        if self.put == LAST_NUMBER {
+        if self.put == MAX_MESSAGES {
             return Err(Unsent::Full { back: blocks });
         }
         let no = self.put + 1;
         let message = Message { no, tag, blocks };
-        if let Err(message) = self.outbox.push::<Sender, R>(rt, message) {
+        if let Err(message) = self.sender.push::<M, R>(rt, message) {
             return Err(Unsent::Full {
                 back: message.blocks,
             });
@@ -203,7 +188,7 @@ impl Endpoint {
         requires { (self.old.has_contract ≡ false) × (0 < self.old.counts.put) × (self.old.peer_shut ≡ false) }
         ensures { MatchBool result (self.new ≡ self.old) (IsUnsent self.old self.new) }
     {
-        let stays = !self.sign.peer_is_shut();
+        let stays = !self.word.peer_is_shut();
         if !stays {
             self.put -= 1;
         }
@@ -211,19 +196,20 @@ impl Endpoint {
     }
 
     // Looks at the peer's word, pushes, and looks again.
-    pub(crate) fn put<R: Wait>(
+    pub(crate) fn put_as<M: Lesson<Message, Role>, R: Wait>(
         &mut self,
         rt: &R,
         tag: u16,
-        blocks: ArrayVec<u16, 8>,
+        blocks: ArrayVec<u16, MAX_BLOCKS>,
     ) -> Result<u64, Unsent>
-        requires { self.old.has_contract ≡ false }
-        ensures put { PutsAs self.old self.new tag blocks result }
-        ensures last { IfOk result (λ no. no ≤ last_number) }
+        requires queue { self.old.has_contract ≡ false }
+        requires lesson { (id : ℕ) → Learns Ordered id (outgoing_role self.old.pushed) (M.fact (outgoing_role self.old.pushed)) }
+        ensures put { PutsWhere (Held self.old.depth (M.fact (outgoing_role self.old.pushed))) self.old self.new tag blocks result }
+        ensures last { IfOk result (λ no. no ≤ MAX_MESSAGES) }
         ensures refused { OnErr result (Unpushed self.old self.new (message (suc self.old.counts.put) tag blocks)) }
     {
         let back = copy_of(&blocks);
-        let no = self.send(rt, tag, blocks)?;
+        let no = self.send::<M, R>(rt, tag, blocks)?;
         if !self.stays_sent() {
             return Err(Unsent::PeerClosed { back });
         }
@@ -237,11 +223,11 @@ impl Endpoint {
     ) -> Result<Message, Refused>
         requires queue { self.old.has_contract ≡ false }
         requires lesson { (id : ℕ) → Learns Ordered id (incoming_role self.old.got) (M.fact (incoming_role self.old.got)) }
-        ensures taken { Takes (ComesNext self.old self.new) (Held 0 (M.fact (incoming_role self.old.got))) (SawShut self.old self.new) (SawOpen self.old self.new) self.old.counts self.new.counts result }
-        ensures refused { OnErr result (IsSameBut self.old.sent self.old.got self.old self.new × (self.new.pushed ≡ self.old.pushed)) }
+        ensures taken { TakesWhere (Held 0 (M.fact (incoming_role self.old.got))) self.old self.new result }
+        ensures refused { OnErr result (KeepsItsMessages self.old self.new) }
     {
-        let closed = self.sign.peer_is_shut();
-        match self.inbox.pop::<M, R>(rt) {
+        let closed = self.word.peer_is_shut();
+        match self.receiver.pop::<M, R>(rt) {
             Some(message) => Ok(message),
             None if closed => Err(Refused::PeerClosed {
                 back: ArrayVec::new(),
@@ -250,50 +236,41 @@ impl Endpoint {
         }
     }
 
-    // Takes the message at the front.
-    pub(crate) fn take<R: Wait>(&mut self, rt: &R) -> Result<Message, Refused>
-        requires { self.old.has_contract ≡ false }
-        ensures taken { TakesAs self.old self.new result }
-        ensures refused { OnErr result (IsSameBut self.old.sent self.old.got self.old self.new × (self.new.pushed ≡ self.old.pushed)) }
-    {
-        self.take_as::<Receiver, R>(rt)
-    }
-
     // No later put toward this side succeeds.
     pub(crate) fn shut(&mut self)
         requires { self.old.has_contract ≡ false }
         ensures { ShutsAs self.old self.new }
     {
-        self.sign.shut();
+        self.word.shut();
     }
 
-    // What the end was told of a put.
+    // The line put a message of this end.
     pub(crate) fn was_put(&mut self, no: u64)
         requires { self.old.has_contract ≡ true }
-        ensures { self.new ≡ record self.old { counts = told_put no self.old.counts } }
+        ensures { self.new ≡ record self.old { counts = counted_put no self.old.counts } }
     {
-        if let Some(told) = &mut self.told {
-            told.put = no;
+        if let Some(counts) = &mut self.line_counts {
+            counts.put = no;
         }
     }
 
-    // What the end was told of a take.
+    // The line took a message for this end.
     pub(crate) fn was_taken(&mut self, no: u64)
         requires { self.old.has_contract ≡ true }
-        ensures { self.new ≡ record self.old { counts = told_taken no self.old.counts } }
+        ensures { self.new ≡ record self.old { counts = counted_taken no self.old.counts } }
     {
-        if let Some(told) = &mut self.told {
-            told.taken = no;
+        if let Some(counts) = &mut self.line_counts {
+            counts.taken = no;
         }
     }
 
-    // What the end was told of its shutting.
+    // The line shut this end.
     pub(crate) fn was_shut(&mut self)
         requires { self.old.has_contract ≡ true }
         ensures { self.new ≡ record self.old { counts = now_shut self.old.counts } }
     {
-        if let Some(told) = &mut self.told {
-            told.shut = true;
+        if let Some(counts) = &mut self.line_counts {
+            counts.shut = true;
         }
     }
 }

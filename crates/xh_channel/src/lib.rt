@@ -1,25 +1,26 @@
 //! The channels: their directions, their endpoints, and shutting.
 #![tactic(auto)]
 
-mod boxes;
 mod channels;
-mod desk;
+mod closed_rule;
+mod closed_word;
+mod counts;
 mod direction;
 mod endpoint;
-mod lane;
-mod lanes;
+mod free_numbers;
+mod free_pair;
+mod kept;
 mod line;
 mod line_end;
 mod message;
-mod pair;
+mod queue_end;
 mod refused;
-mod shutting;
-mod sign;
+mod room;
 mod spot;
-mod told;
 mod unsent;
 
 pub use channels::Channels;
+pub use direction::{Receiver, Role, Sender};
 pub use endpoint::{Endpoint, compare};
 pub use line::Line;
 pub use message::Message;

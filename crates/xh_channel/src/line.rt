@@ -1,16 +1,17 @@
-//! A channel with a contract, as it lies under its lock.
-ghost use Rattle.std.specs.Prelude.{◌≡◌, ◌-◌, ◌<◌, ◌≤◌, length, OnErr};
+//! The line of a channel with a contract, as it lies under the channel's lock.
+ghost use Rattle.std.specs.Prelude.{◌≡◌, ◌-◌, ◌<◌, ◌≤◌, length, IfOk, OnErr};
 ghost use Rattle.xh_model.specs.Rows.{IsValid};
-ghost use Rattle.xh_channel.specs.Ends.{last_number};
-ghost use Rattle.xh_channel.specs.Lines.{AreInStep, Follows, IsNewLine, IsOrderly, PutsBetween, PutsOn, Shuts, TakesBetween, TakesOn, counts, waiting};
+ghost use Rattle.xh_model.specs.declared.limits.TheConstants.{MAX_DEPTH, MAX_MESSAGES};
+ghost use Rattle.xh_channel.specs.Lines.{AreInStep, Follows, IsNewLine, IsOrderly, PutsBetween, PutsOn, Shuts, TakesBetween, TakesOn, waiting};
 
 use crate::line_end::LineEnd;
-use crate::message::{LAST_NUMBER, Message};
+use crate::message::Message;
 use crate::refused::Refused;
 use crate::unsent::Unsent;
 use arrayvec::ArrayVec;
 use std::marker::Model;
 use xh_core::Contract;
+use xh_model::limits::{MAX_BLOCKS, MAX_MESSAGES};
 
 /// Both directions of a channel, its contract, and both ends' states and counts: side 0 is the left
 /// end, side 1 the right one.
@@ -39,31 +40,31 @@ fn put_between(
     own: &mut LineEnd,
     peer: &mut LineEnd,
     tag: u16,
-    blocks: ArrayVec<u16, 8>,
+    blocks: ArrayVec<u16, MAX_BLOCKS>,
 ) -> Result<u64, Unsent>
-    requires depth { (depth ≤ 16) × (length (waiting peer.old) ≤ depth) }
-    requires order { Follows own.old peer.old × (own.old.put ≤ last_number) }
+    requires depth { (depth ≤ MAX_DEPTH) × (length (waiting peer.old) ≤ depth) }
+    requires order { Follows own.old peer.old × (own.old.counts.put ≤ MAX_MESSAGES) }
     requires valid { IsValid contract.now }
     requires step { AreInStep contract.now side own.old peer.old }
     ensures put { PutsBetween contract.now depth side own.old own.new peer.old peer.new tag blocks result }
-    ensures order { Follows own.new peer.new × (own.new.put ≤ last_number) }
+    ensures order { Follows own.new peer.new × (own.new.counts.put ≤ MAX_MESSAGES) }
     ensures step { AreInStep contract.now side own.new peer.new }
     ensures depth { length (waiting peer.new) ≤ depth }
-    ensures rest { (waiting own.new ≡ waiting own.old) × (counts peer.new ≡ counts peer.old) × (peer.new.state ≡ peer.old.state) }
+    ensures rest { (waiting own.new ≡ waiting own.old) × (peer.new.counts ≡ peer.old.counts) × (peer.new.state ≡ peer.old.state) }
     ensures refused { OnErr result ((peer.new ≡ peer.old) × (own.new ≡ own.old)) }
 {
     let Some(next) = contract.allows(own.state, tag, side) else {
         return Err(Unsent::Protocol { back: blocks });
     };
-    if peer.shut {
+    if peer.counts.shut {
         return Err(Unsent::PeerClosed { back: blocks });
     }
-    if peer.waiting.len() == depth || own.put == LAST_NUMBER {
+    if peer.waiting.len() == depth || own.counts.put == MAX_MESSAGES {
         return Err(Unsent::Full { back: blocks });
     }
-    let no = own.put + 1;
+    let no = own.counts.put + 1;
     peer.waiting.push(Message { no, tag, blocks });
-    own.put = no;
+    own.counts.put = no;
     own.state = next;
     Ok(no)
 }
@@ -84,7 +85,7 @@ fn take_between(
     ensures refused { OnErr result (own.new ≡ own.old) }
 {
     if own.waiting.is_empty() {
-        if peer.shut {
+        if peer.counts.shut {
             let back = ArrayVec::new();
             return Err(Refused::PeerClosed { back });
         }
@@ -94,7 +95,7 @@ fn take_between(
     let Some(next) = contract.allows(own.state, message.tag, 1 - side) else {
         unreachable!()
     };
-    own.taken += 1;
+    own.counts.taken += 1;
     own.state = next;
     Ok(message)
 }
@@ -103,7 +104,7 @@ impl Line {
     /// Nothing waits, neither side is shut, and both ends are in the first state. The depth is how
     /// many messages may wait in a direction.
     pub fn new(contract: Contract, depth: u8) -> Line
-        requires { (1 ≤ depth) × (depth ≤ 16) }
+        requires { (1 ≤ depth) × (depth ≤ MAX_DEPTH) }
         ensures { IsNewLine contract depth result }
     {
         let state = contract.first();
@@ -119,9 +120,15 @@ impl Line {
     /// end does not allow it, then PeerClosed where the peer is shut, then Full where as many wait
     /// as the depth or the direction has carried its last message. Each hands the blocks back and
     /// changes nothing.
-    pub fn put(&mut self, side: u8, tag: u16, blocks: ArrayVec<u16, 8>) -> Result<u64, Unsent>
+    pub fn put(
+        &mut self,
+        side: u8,
+        tag: u16,
+        blocks: ArrayVec<u16, MAX_BLOCKS>,
+    ) -> Result<u64, Unsent>
         requires { side < 2 }
         ensures put { PutsOn self.old self.new side tag blocks result }
+        ensures last { IfOk result (λ no. no ≤ MAX_MESSAGES) }
         ensures refused { OnErr result (self.new ≡ self.old) }
         ensures orderly { IsOrderly self.new }
     {
@@ -154,6 +161,7 @@ impl Line {
     pub fn take(&mut self, side: u8) -> Result<Message, Refused>
         requires { side < 2 }
         ensures taken { TakesOn self.old self.new side result }
+        ensures last { IfOk result (λ m. m.no ≤ MAX_MESSAGES) }
         ensures refused { OnErr result (self.new ≡ self.old) }
         ensures orderly { IsOrderly self.new }
     {
@@ -171,9 +179,9 @@ impl Line {
         ensures orderly { IsOrderly self.new }
     {
         if side == 0 {
-            self.left.shut = true;
+            self.left.counts.shut = true;
         } else {
-            self.right.shut = true;
+            self.right.counts.shut = true;
         }
     }
 }

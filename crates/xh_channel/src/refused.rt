@@ -5,6 +5,7 @@ ghost use Rattle.xh_channel.specs.declared.refused.Refused.TheVariants.{OutOfMem
 
 use arrayvec::ArrayVec;
 use std::alloc::AllocError;
+use xh_model::limits::MAX_BLOCKS;
 
 /// Why a call did nothing. The names are those of the heap's refusals.
 #[derive(Drop, Debug)]
@@ -16,7 +17,7 @@ pub enum Refused {
     /// Each channel is taken.
     NoChannel,
     /// No message waits, and the peer is shut. Nothing is handed back.
-    PeerClosed { back: ArrayVec<u16, 8> },
+    PeerClosed { back: ArrayVec<u16, MAX_BLOCKS> },
     /// No message waits.
     Empty,
 }

@@ -3,16 +3,17 @@ ghost use Rattle.std.specs.Prelude.{◌≡◌};
 ghost use Rattle.xh_channel.specs.Refusals.{same_unsent};
 
 use arrayvec::ArrayVec;
+use xh_model::limits::MAX_BLOCKS;
 
 /// Why a put was refused. Each hands the blocks back.
 #[derive(Drop, Debug)]
 pub enum Unsent {
     /// The channel's contract does not allow the message.
-    Protocol { back: ArrayVec<u16, 8> },
+    Protocol { back: ArrayVec<u16, MAX_BLOCKS> },
     /// The peer is shut.
-    PeerClosed { back: ArrayVec<u16, 8> },
+    PeerClosed { back: ArrayVec<u16, MAX_BLOCKS> },
     /// As many messages wait as may, or the direction has carried its last message.
-    Full { back: ArrayVec<u16, 8> },
+    Full { back: ArrayVec<u16, MAX_BLOCKS> },
 }
 
 impl From<Unsent> for xh_core::Refused {

@@ -1,7 +1,9 @@
 mod answers;
 mod lines;
+mod refusals;
 mod side_by_side;
 mod threads;
+mod waits;
 
 use super::Channels;
 use crate::endpoint::{Endpoint, compare};
@@ -16,7 +18,7 @@ use std::sync::Wait;
 use std::test::Fail;
 
 fn is_at(spot: Spot, channel: u8, side: u8) -> bool {
-    spot == Spot { channel, side }
+    spot.channel == channel && spot.side == side
 }
 
 fn opens_at<R: Wait>(rt: &R, channels: &Channels, channel: u8) -> bool {
@@ -32,6 +34,15 @@ fn a_cancelled_number_is_free_again(rt: HostRuntime) -> Result<(), Fail> {
     assert!(rt; is_at(low.spot(), 0, 0) && is_at(high.spot(), 0, 1));
     channels.cancel(&rt, low, high);
     assert!(rt; opens_at(&rt, &channels, 0));
+    Ok(())
+}
+
+#[test]
+fn a_pair_of_other_channels_frees_no_number(rt: HostRuntime) -> Result<(), Fail> {
+    let (channels, _low, _high) = opened(&rt, rt.alloc(), 1)?;
+    let (_others, low, high) = opened(&rt, rt.alloc(), 1)?;
+    channels.cancel(&rt, low, high);
+    assert!(rt; opens_at(&rt, &channels, 1));
     Ok(())
 }
 

@@ -1,6 +1,7 @@
 ghost use Rattle.std.specs.Prelude.{◌<◌};
 
 use super::*;
+use crate::counts::Counts;
 use std::test::*;
 use xh_core::Row;
 
@@ -86,20 +87,26 @@ fn a_direction_that_has_carried_its_last_message_is_full(rt: HostRuntime) {
             contract,
             depth: 2,
             left: LineEnd {
-                put: LAST_NUMBER - 1,
+                counts: Counts {
+                    put: MAX_MESSAGES - 1,
+                    ..Counts::none()
+                },
                 ..LineEnd::new(0)
             },
             right: LineEnd {
-                taken: LAST_NUMBER - 1,
+                counts: Counts {
+                    taken: MAX_MESSAGES - 1,
+                    ..Counts::none()
+                },
                 ..LineEnd::new(0)
             },
         };
-        assert!(rt; matches!(put(&mut line, 0, 9), Ok(LAST_NUMBER)));
+        assert!(rt; matches!(put(&mut line, 0, 9), Ok(MAX_MESSAGES)));
         assert!(rt;
             matches!(
                 line.take(1),
                 Ok(Message {
-                    no: LAST_NUMBER,
+                    no: MAX_MESSAGES,
                     ..
                 })
             )
@@ -109,7 +116,7 @@ fn a_direction_that_has_carried_its_last_message_is_full(rt: HostRuntime) {
     }
 }
 
-fn blocks_of(record: u16) -> ArrayVec<u16, 8> {
+fn blocks_of(record: u16) -> ArrayVec<u16, MAX_BLOCKS> {
     let mut blocks = ArrayVec::new();
     blocks.push(record);
     blocks

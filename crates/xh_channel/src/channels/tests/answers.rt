@@ -12,6 +12,7 @@ use arrayvec::ArrayVec;
 use std::alloc::Global;
 use std::process::Abort;
 use std::sync::Wait;
+use xh_model::limits::MAX_BLOCKS;
 
 /// A call by one end: a put with a tag and at most one block, a take, a shut, a look at the turn.
 #[derive(Clone, Copy, Debug)]
@@ -32,7 +33,7 @@ pub enum Answer {
     Turn(u64),
 }
 
-pub fn blocks_of(block: Option<u16>) -> ArrayVec<u16, 8> {
+pub fn blocks_of(block: Option<u16>) -> ArrayVec<u16, MAX_BLOCKS> {
     let mut blocks = ArrayVec::new();
     if let Some(block) = block {
         blocks.push(block);
@@ -40,7 +41,7 @@ pub fn blocks_of(block: Option<u16>) -> ArrayVec<u16, 8> {
     blocks
 }
 
-fn first(blocks: &ArrayVec<u16, 8>) -> Option<u16> {
+fn first(blocks: &ArrayVec<u16, MAX_BLOCKS>) -> Option<u16> {
     blocks.first().copied()
 }
 

@@ -112,3 +112,43 @@ fn channels_with_contracts_run_out(rt: HostRuntime) -> Result<(), Fail> {
     assert!(rt; matches!(opens_one_more(&rt, &channels), Err(Refused::NoChannel)));
     Ok(())
 }
+
+// The contract under which side 0 sends any number of messages of tag 1.
+fn one_way(rt: &impl Abort) -> Contract {
+    let row = Row {
+        state: 0,
+        tag: 1,
+        side: 0,
+        next: 0,
+    };
+    let Ok(contract) = Contract::new(&[row]) else {
+        panic!(rt; "the table is valid");
+    };
+    contract
+}
+
+#[test]
+fn a_channel_with_a_contract_is_full_at_its_depth(rt: HostRuntime) -> Result<(), Fail> {
+    for depth in [1u8, 3, 16] {
+        let channels = Channels::new(rt.alloc(), depth)?;
+        let (mut low, mut high) = channels.open_with(&rt, one_way(&rt))?;
+        for no in 1..=u64::from(depth) {
+            assert_answers(
+                &rt,
+                &channels,
+                &mut low,
+                &mut high,
+                &[(0, Put(1, None), Sent(no))],
+            );
+        }
+        let last = u64::from(depth) + 1;
+        let calls = [
+            (0, Put(1, Some(7)), No(14, Some(7))),
+            (1, Take, Taken(1, 1, None)),
+            (0, Put(1, Some(7)), Sent(last)),
+            (0, Put(1, Some(8)), No(14, Some(8))),
+        ];
+        assert_answers(&rt, &channels, &mut low, &mut high, &calls);
+    }
+    Ok(())
+}

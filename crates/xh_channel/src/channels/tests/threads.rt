@@ -5,7 +5,8 @@ use crate::unsent::Unsent;
 use arrayvec::ArrayVec;
 use std::sync::Wait;
 use std::test::Fail;
-use std::thread;
+use std::{hint, thread};
+use xh_model::limits::MAX_BLOCKS;
 
 const MESSAGES: u64 = 100_000;
 
@@ -14,7 +15,7 @@ fn tag_of(no: u64) -> u16 {
     (no % 60_000) as u16
 }
 
-fn blocks_of(no: u64) -> ArrayVec<u16, 8> {
+fn blocks_of(no: u64) -> ArrayVec<u16, MAX_BLOCKS> {
     let mut blocks = ArrayVec::new();
     blocks.push((no % 2048) as u16);
     blocks
@@ -128,6 +129,50 @@ fn a_put_races_a_shut(rt: HostRuntime) -> Result<(), Fail> {
             assert!(rt;
                 rest.is_some_and(|all| all <= sent.wrapping_add(1)),
                 "round {round}, channel {channel}"
+            );
+        }
+    }
+    Ok(())
+}
+
+// Puts one message after a while, and shuts the end.
+fn put_and_shut<R: Wait>(rt: &R, channels: &Channels, mut end: Endpoint, pause: u64) -> bool {
+    for _ in 0..pause {
+        hint::spin_loop();
+    }
+    let sent = channels.put(rt, &mut end, 5, ArrayVec::new()).is_ok();
+    channels.shut(rt, &mut end);
+    sent
+}
+
+// Takes until the peer is closed, and answers how many messages came.
+fn take_to_the_end<R: Wait>(rt: &R, channels: &Channels, mut end: Endpoint) -> u64 {
+    let mut taken = 0u64;
+    for _ in rt.forever() {
+        match channels.take(rt, &mut end) {
+            Ok(_) => taken = taken.wrapping_add(1),
+            Err(Refused::Empty) => (),
+            Err(_) => break,
+        }
+    }
+    taken
+}
+
+// PeerClosed comes after the last message: a take looks at the peer's word before it pops.
+#[test]
+fn a_take_races_a_put_and_a_shut(rt: HostRuntime) -> Result<(), Fail> {
+    for round in 0..50u64 {
+        let channels = Channels::new(rt.alloc(), 1)?;
+        for channel in 0..64u64 {
+            let (low, high) = channels.open(&rt)?;
+            let (sent, taken) = thread::join(
+                &rt,
+                || put_and_shut(&rt, &channels, low, channel * 8),
+                || take_to_the_end(&rt, &channels, high),
+            );
+            assert!(rt;
+                sent && taken == 1,
+                "round {round}, channel {channel}: {taken} came"
             );
         }
     }

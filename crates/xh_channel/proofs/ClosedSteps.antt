@@ -1,0 +1,131 @@
+-- Each step on a closed word keeps the rule.
+use Rattle.std.proofs.Common.{◌≡◌, ◌≢◌, ◌⊎◌, inl, inr, ℕ, zero, suc, ◌<◌, Bool, true, false, true≢false, List, [], ◌∷◌, length, set}
+use Rattle.std.proofs.Common.{sym, refl, ap, ◌∙◌, subst, ⊎_elim, replicate, eqb, eq-eqb, ne_eqb, cond, arith}
+use Rattle.std.proofs.lemmas.List.{set-get_or}
+use Rattle.std.specs.Prelude.{slice_index}
+use mathlib.Core.Option.{some, none, some-injective, some-ne-none}
+use mathlib.Core.Logic.{dite}
+use native.Mathlib.Decide.{ℕ_discrete}
+use lib.ListN.{get_elem?}
+use Rattle.atomic_table.specs.Table.{State, Me, step, keeps, Allows, Splits, opening}
+use Rattle.atomic_table.proofs.Lists.{at_set, set_here, set_else}
+use Rattle.xh_model.specs.declared.limits.TheConstants.{DIRECTIONS}
+use Rattle.xh_channel.specs.declared.closed_rule.Sight.{Sight}
+use Rattle.xh_channel.specs.ClosedWords.{sight, bit, peer, FitsSight, Shows, Shut, Looked, one_word, other_words}
+use Rattle.xh_channel.proofs.Views.{every_set, every_snoc, one_view}
+
+all_zero : (k w : ℕ) → w < k → get_elem? {A = ℕ} (replicate k 0) w ≡ some 0
+all_zero zero w h = absurd (omega arith)
+all_zero (suc k) zero h = refl
+all_zero (suc k) (suc w) h = all_zero k w (omega arith)
+
+only_zero : (k w n : ℕ) → get_elem? {A = ℕ} (replicate k 0) w ≡ some n → n ≡ 0
+only_zero zero w n e = absurd (some-ne-none n (sym e))
+only_zero (suc k) zero n e = sym (some-injective 0 n e)
+only_zero (suc k) (suc w) n e = only_zero k w n e
+
+found : (ws : List ℕ) (w n : ℕ) → get_elem? ws w ≡ some n → slice_index ws w ≡ n
+found [] w n e = absurd (some-ne-none n (sym e))
+found (x ∷ xs) zero n e = some-injective x n e
+found (x ∷ xs) (suc w) n e = found xs w n e
+
+there : (ws : List ℕ) (w n : ℕ) → get_elem? ws w ≡ some n → w < length ws
+there [] w n e = absurd (some-ne-none n (sym e))
+there (x ∷ xs) zero n e = omega arith
+there (x ∷ xs) (suc w) n e = let h = there xs w n e in omega arith
+
+pub begins : {S : Type 0} (xs : List S) → Shows (opening (replicate DIRECTIONS 0) xs (sight 0 DIRECTIONS false false))
+begins xs =
+    let ws : List ℕ = replicate DIRECTIONS 0 in
+    let start : Sight = sight 0 DIRECTIONS false false in
+    ((λ _. 0), (λ w n e. inl (only_zero DIRECTIONS w n e)), one_view (FitsSight (λ _. 0) ws) start ((λ w _ h. (refl, all_zero DIRECTIONS w h)), λ p. absurd (true≢false (sym p))))
+
+-- the keeper of the word w changes to k
+abbrev kept_by : (ℕ → ℕ) → ℕ → ℕ → ℕ → ℕ
+kept_by keeper w k u = cond (eqb u w) k (keeper u)
+
+kept_here : (keeper : ℕ → ℕ) (w k : ℕ) → kept_by keeper w k w ≡ k
+kept_here keeper w k = ap (λ b. cond b k (keeper w)) (eq-eqb w w refl)
+
+kept_else : (keeper : ℕ → ℕ) (w k u : ℕ) → u ≢ w → kept_by keeper w k u ≡ keeper u
+kept_else keeper w k u ne = ap (λ b. cond b k (keeper u)) (ne_eqb u w ne)
+
+pub splits : {S : Type 0} (id : ℕ) (v : Sight) → v.from < v.upto → Splits (Shows {S = S}) id v (other_words v) (one_word v)
+splits id v some_word s h at =
+    let mine = (h.2 id v at).0 in
+    let left : Sight = other_words v in
+    let right : Sight = one_word v in
+    let vs : List Sight = set s.views id left in
+    let keeper = kept_by h.0 v.from (length vs) in
+    let first = mine v.from (omega arith) some_word in (
+      keeper,
+      h.1,
+      every_snoc (FitsSight keeper s.words) vs right (
+        (λ w a b. let same : v.from ≡ w = omega arith in
+            subst (λ (u : ℕ). (keeper u ≡ length vs) × (get_elem? s.words u ≡ some (bit v.shut))) same (kept_here h.0 v.from (length vs), first.1)),
+        λ p. absurd (true≢false (sym p)),
+      )
+          (every_set (FitsSight keeper s.words) s.views id left
+          ((λ w a b. let m = mine w (omega arith) b in (kept_else h.0 v.from (length vs) w (λ e. absurd (omega arith)) ∙ m.0, m.1)), λ p. absurd (true≢false (sym p)))
+          (λ j u other e. let f = h.2 j u e in
+          ((λ w a b. let m = f.0 w a b in (kept_else h.0 v.from (length vs) w (λ is. other (sym m.0 ∙ ap h.0 is ∙ first.0)) ∙ m.0, m.1)), f.1))),
+    )
+
+bits : (b : Bool) → (bit b ≡ 0) ⊎ (bit b ≡ 1)
+bits false = inl refl
+bits true = inr refl
+
+pub shuts : {S : Type 0} (slots id : ℕ) (me : Me S Sight) → me.0.upto ≡ suc me.0.from
+    → Allows Shows slots id me me.0.from (λ _. 1) (λ _. Shut (step slots me.0.from 1 0 none) me 1)
+shuts slots id me one s h _ at _ =
+    let v = me.0 in
+    let w : Sight = sight v.from v.upto true v.peer_shut in
+    let mine = (h.2 id v at).0 v.from (omega arith) (omega arith) in
+    let ws : List ℕ = set s.words v.from 1 in
+    let here = set_here s.words v.from 1 (there s.words v.from (bit v.shut) mine.1) in
+    let still : (u : ℕ) → get_elem? s.words u ≡ some 1 → get_elem? ws u ≡ some 1 =
+    λ u e. dite (ℕ_discrete u v.from) (λ is. subst (λ (x : ℕ). get_elem? ws x ≡ some 1) (sym is) here) (λ ne. set_else s.words v.from u 1 ne ∙ e) in (
+      w,
+      keeps,
+      tt,
+      (
+        h.0,
+        (λ u n e. ⊎_elim (λ (x : (u ≡ v.from) × (1 ≡ n)). inr (sym x.1)) (λ (x : (u ≢ v.from) × (get_elem? s.words u ≡ some n)). h.1 u n x.1) (at_set s.words v.from u 1 n e)),
+        every_set (FitsSight h.0 ws) s.views id w
+            ((λ u a b. let same : v.from ≡ u = omega arith in subst (λ (x : ℕ). (h.0 x ≡ id) × (get_elem? ws x ≡ some 1)) same (mine.0, here)), λ p. still (peer v.from) ((h.2 id v at).1 p))
+            (λ j u other e. let f = h.2 j u e in
+            ((λ x a b. let m = f.0 x a b in (m.0, set_else s.words v.from x 1 (λ is. other (sym m.0 ∙ ap h.0 is ∙ mine.0)) ∙ m.1)), λ p. still (peer u.from) (f.1 p))),
+      ),
+      refl,
+    )
+
+at_one : (ws : List ℕ) (w : ℕ) → slice_index ws w ≡ 1 → get_elem? ws w ≡ some 1
+at_one [] w e = absurd (omega arith)
+at_one (x ∷ xs) zero e = ap some e
+at_one (x ∷ xs) (suc w) e = at_one xs w e
+
+not_true : (b : Bool) → b ≢ true → b ≡ false
+not_true false n = refl
+not_true true n = absurd (n refl)
+
+-- the words stay, and the seat has a view that is true of them
+same_words : {S : Type 0} (s : State S Sight) (id i : ℕ) (v w : Sight) (h : Shows s) → get_elem? s.views id ≡ some v → FitsSight h.0 s.words id w
+    → Shows {S = S} (record { words = set s.words i (slice_index s.words i); homes = s.homes; views = set s.views id w })
+same_words s id i v w h at fits =
+    subst (λ (ws : List ℕ). Shows (record { words = ws; homes = s.homes; views = set s.views id w })) (sym (set-get_or s.words i 0))
+    (h.0, h.1, every_set (FitsSight h.0 s.words) s.views id w fits (λ j u _ e. h.2 j u e))
+
+pub looks : {S : Type 0} (slots id : ℕ) (me : Me S Sight) (i : ℕ) → i ≡ peer me.0.from
+    → Allows Shows slots id me i (λ n. n) (Looked (step slots i 0 0 none) me)
+looks slots id me i is s h _ at _ =
+    let v = me.0 in
+    let seen : Sight = sight v.from v.upto v.shut true in
+    let mine = h.2 id v at in
+    let is_one : (w : ℕ) → Type 0 = λ w. get_elem? s.words w ≡ some 1 in
+    dite (ℕ_discrete (slice_index s.words i) 1)
+    (λ one. (seen, keeps, tt, same_words s id i v seen h at (mine.0, λ _. subst is_one is (at_one s.words i one)), ((λ _. refl), λ ne. absurd (ne one))))
+    (λ ne. (v, keeps, tt, same_words s id i v v h at mine, ((λ e. absurd (ne e)), λ _. (refl, not_true v.peer_shut (λ p. ne (found s.words i 1 (subst is_one (sym is) (mine.1 p))))))))
+
+pub shuts_at : {S : Type 0} (slots id : ℕ) (me : Me S Sight) (i : ℕ) → me.0.from ≡ i → me.0.upto ≡ suc i
+    → Allows Shows slots id me i (λ _. 1) (λ _. Shut (step slots i 1 0 none) me 1)
+shuts_at slots id me i is one = subst (λ (w : ℕ). Allows Shows slots id me w (λ _. 1) (λ _. Shut (step slots w 1 0 none) me 1)) is (shuts slots id me (one ∙ ap suc (sym is)))

@@ -1,0 +1,27 @@
+-- A pair more at the end of the places.
+use Rattle.std.proofs.Common.{◌≡◌, ℕ, zero, suc, ◌+◌, ◌<◌, true, List, [], ◌∷◌, ◌++◌, length, Option, Some, None, sym, ap, ◌∙◌, arith}
+use Rattle.std.proofs.lemmas.Option.{none-some}
+use Rattle.xh_channel.specs.declared.free_pair.FreePair.{FreePair}
+use Rattle.xh_channel.specs.FreeNumbers.{at_place, has_depth, StandAtTheirNumbers}
+
+abbrev channel_of : Option FreePair → ℕ
+channel_of None = 0
+channel_of (Some r) = r.low.channel
+
+push_at : (xs : List (Option FreePair)) (k : ℕ) (p : FreePair) → ((i : ℕ) (q : FreePair) → at_place xs i ≡ Some q → q.low.channel ≡ i + k) → p.low.channel ≡ length xs + k
+    → (i : ℕ) (q : FreePair) → at_place (xs ++ Some p ∷ []) i ≡ Some q → q.low.channel ≡ i + k
+push_at [] k p old is zero q e = ap channel_of (sym e) ∙ is
+push_at [] k p old is (suc i) q e = absurd (none-some q e)
+push_at (y ∷ ys) k p old is zero q e = old 0 q e
+push_at (y ∷ ys) k p old is (suc i) q e = push_at ys (suc k) p (λ j r f. old (suc j) r f ∙ omega arith) (is ∙ omega arith) i q e ∙ omega arith
+
+pub placed_push : (xs : List (Option FreePair)) (n : ℕ) (p : FreePair) → length xs ≡ n → StandAtTheirNumbers xs → p.low.channel ≡ n → StandAtTheirNumbers (xs ++ Some p ∷ [])
+placed_push xs n p long old is i q e = push_at xs 0 p (λ j r f. old j r f ∙ omega arith) (omega arith) i q e ∙ omega arith
+
+pub free_push : (d : ℕ) (xs : List (Option FreePair)) (n : ℕ) (x : Option FreePair) → length xs ≡ n → ((i : ℕ) → i < n → has_depth d (at_place xs i) ≡ true) → has_depth d x ≡ true
+    → (i : ℕ) → i < n + 1 → has_depth d (at_place (xs ++ x ∷ []) i) ≡ true
+free_push d [] n x long old new zero h = new
+free_push d [] n x long old new (suc i) h = absurd (omega arith)
+free_push d (y ∷ ys) zero x long old new i h = absurd (omega arith)
+free_push d (y ∷ ys) (suc n) x long old new zero h = old 0 (omega arith)
+free_push d (y ∷ ys) (suc n) x long old new (suc i) h = free_push d ys n x (omega arith) (λ k b. old (suc k) (omega arith)) new i (omega arith)

@@ -1,0 +1,26 @@
+use Rattle.std.proofs.Common.{◌∙◌, ap, inr, ◌++◌, ◌∷◌, []}
+use Rattle.xh_channel.specs.Numbers.{message}
+use Rattle.xh_channel.proofs.endpoint.Endpoint.put_as.Goals as goal
+
+pub returns-then-not-stays_sent-clause-refused : goal.returns-then-not-stays_sent-clause-refused
+returns-then-not-stays_sent-clause-refused g c =
+    let sent = c.in_ok-no.ensures.put in
+    let went = sent.4 in
+    let same = went.0.0 in
+    let un = c.if-not-stays_sent.ensures in
+    let ends = un.same in (
+      (
+        record {
+          channel = ends.channel ∙ same.channel;
+          side = ends.side ∙ same.side;
+          has_contract = ends.has_contract ∙ same.has_contract;
+          depth = ends.depth ∙ same.depth;
+          out = ends.out ∙ same.out;
+          into = ends.into ∙ same.into;
+        },
+        un.sent _ _ went.0.1,
+        un.got ∙ went.0.2,
+        λ _. un.closed,
+      ),
+      inr (un.pushed ∙ (went.1 ∙ ap (λ n. c.args.self.now.pushed ++ message n c.args.tag c.args.blocks ∷ []) sent.0), un.closed),
+    )

@@ -1,0 +1,64 @@
+-- The closed words: each is 0 or 1, one seat alone stores it, and a seat that saw its peer's word at 1 knows that it stays.
+use Rattle.std.specs.Prelude.{◌≡◌, ◌≢◌, ◌⊎◌, ℕ, suc, ◌-◌, ◌*◌, ◌%◌, ◌<◌, ◌≤◌, Bool, true, false, List, []}
+use mathlib.Core.Option.{some}
+use lib.ListN.{get_elem?}
+use Rattle.atomic_table.specs.Seated.{TableId}
+use Rattle.atomic_table.specs.Table.{State, Step, Me}
+use Rattle.xh_model.specs.declared.limits.TheConstants.{DIRECTIONS}
+use Rattle.xh_channel.specs.declared.closed_rule.Sight.{Sight}
+
+abbrev pub sight : ℕ → ℕ → Bool → Bool → Sight
+sight from upto shut peer_shut = record { from = from; upto = upto; shut = shut; peer_shut = peer_shut }
+
+abbrev pub bit : Bool → ℕ
+bit false = 0
+bit true = 1
+
+-- the word of the other side of the channel: side 0 is even
+abbrev pub peer : ℕ → ℕ
+peer w = suc w - 2 * (w % 2)
+
+module _ (keeper : ℕ → ℕ) (words : List ℕ) (id : ℕ) (v : Sight) where
+  abbrev pub Keeps : Type 0
+  Keeps = (w : ℕ) → v.from ≤ w → w < v.upto → (keeper w ≡ id) × (get_elem? words w ≡ some (bit v.shut))
+
+  abbrev pub FitsSight : Type 0
+  FitsSight = Keeps × (v.peer_shut ≡ true → get_elem? words (peer v.from) ≡ some 1)
+
+module _ {S : Type 0} where
+  abbrev pub Shows : State S Sight → Type 0
+  Shows s = (keeper : ℕ → ℕ) × ((w n : ℕ) → get_elem? s.words w ≡ some n → (n ≡ 0) ⊎ (n ≡ 1))
+      × ((id : ℕ) (v : Sight) → get_elem? s.views id ≡ some v → FitsSight keeper s.words id v)
+
+  abbrev pub Shut : Step S → Me S Sight → ℕ → Me S Sight → Type 0
+  Shut st m r m' = m' ≡ (sight m.0.from m.0.upto true m.0.peer_shut, m.1)
+
+  abbrev pub Looked : Step S → Me S Sight → ℕ → Me S Sight → Type 0
+  Looked st m r m' = (r ≡ 1 → m' ≡ (sight m.0.from m.0.upto m.0.shut true, m.1)) × (r ≢ 1 → (m' ≡ m) × (m.0.peer_shut ≡ false))
+
+abbrev pub one_word : Sight → Sight
+one_word v = sight v.from (suc v.from) v.shut false
+
+abbrev pub other_words : Sight → Sight
+other_words v = sight (suc v.from) v.upto v.shut false
+
+-- what contracts see of an end's closed word: which it is, whether it was shut, and whether it saw its peer's shut
+pub record ClosedView : Type 0 where
+  pub word : ℕ
+  pub shut : Bool
+  pub peer_shut : Bool
+
+abbrev pub own_shut : ClosedView → ClosedView
+own_shut m = record { word = m.word; shut = true; peer_shut = m.peer_shut }
+
+abbrev pub peer_seen_shut : ClosedView → ClosedView
+peer_seen_shut m = record { word = m.word; shut = m.shut; peer_shut = true }
+
+-- the seat is that of one word of the table, and holds no slot
+pub record IsWordSeat (table seat : TableId) (me : Me (Unit {0}) Sight) (word : ℕ) : Type 0 where
+  pub same : seat ≡ table
+  pub size : seat.words ≡ DIRECTIONS
+  pub slots : me.1 ≡ []
+  pub from : me.0.from ≡ word
+  pub upto : me.0.upto ≡ suc word
+  pub there : word < DIRECTIONS

@@ -1,0 +1,54 @@
+// The closed words, one for each end: 0 open, 1 shut. No value of a `Sight` is made.
+use atomic_table::{Play, Split, Table, TableRule};
+use std::alloc::Global;
+
+/// The words from `from` to `upto` are for this seat alone to store, and show whether they were shut.
+pub struct Sight {
+    pub from: u64,
+    pub upto: u64,
+    pub shut: bool,
+    pub peer_shut: bool,
+}
+
+pub struct Shutting;
+
+impl TableRule<(), Sight, ()> for Shutting {
+    ghost use Rattle.std.specs.Prelude.{false};
+    ghost use Rattle.xh_model.specs.declared.limits.TheConstants.{DIRECTIONS};
+    ghost use Rattle.xh_channel.specs.ClosedWords.{sight, Shows};
+
+    ghost holds = { λ _ s. Shows s };
+
+    ghost first = { λ _. sight 0 DIRECTIONS false false };
+}
+
+/// The first word goes to a new seat.
+pub struct OneWord;
+
+impl Split<Sight> for OneWord {
+    ghost use Rattle.xh_channel.specs.ClosedWords.{one_word, other_words};
+
+    ghost left = { other_words };
+
+    ghost right = { one_word };
+}
+
+/// The seat's word is 1 now.
+pub struct Shuts;
+
+impl Play<(), Sight> for Shuts {
+    ghost use Rattle.xh_channel.specs.ClosedWords.{Shut};
+
+    ghost then = { Shut };
+}
+
+/// A load of the peer's word.
+pub struct Looks;
+
+impl Play<(), Sight> for Looks {
+    ghost use Rattle.xh_channel.specs.ClosedWords.{Looked};
+
+    ghost then = { Looked };
+}
+
+pub type Words = Table<(), Sight, (), Shutting, Global>;
