@@ -1,0 +1,4 @@
+pub mod Words
+pub mod Histories
+pub mod Pen
+pub mod Look

@@ -1,0 +1,33 @@
+-- A glance as one word: the state, 4 times the count of blocks, 2^14 times the bytes, 2^48 times the generation.
+use Rattle.std.specs.Prelude.{ℕ, zero, suc, ◌+◌, ◌*◌, ◌/◌, ◌%◌, ◌<◌, ◌^◌}
+use Rattle.xh_core.specs.declared.status.Status.{Status}
+use Rattle.xh_core.specs.declared.status.Status.TheVariants.{Vacant, Running, Ending, Ended}
+use Rattle.xh_core.specs.declared.glance.Glance.{Glance}
+
+abbrev pub code_of : Status → ℕ
+code_of Vacant = 0
+code_of Running = 1
+code_of Ending = 2
+code_of Ended = 3
+
+abbrev pub state_of : ℕ → Status
+state_of zero = Vacant
+state_of (suc zero) = Running
+state_of (suc (suc zero)) = Ending
+state_of _ = Ended
+
+-- what a word has room for
+abbrev pub IsPackable : Glance → Type 0
+IsPackable g = (g.blocks < 2 ^ 12) × (g.bytes < 2 ^ 34)
+
+-- a process's place is its number's remainder by the count of places, 32, and its generation the quotient
+abbrev pub word_of : Glance → ℕ
+word_of g = code_of g.state + 4 * g.blocks + 16384 * g.bytes + 281474976710656 * (g.process / 32)
+
+-- what the word of a place tells
+abbrev pub glance_of : ℕ → ℕ → Glance
+glance_of p n = record { process = p + 32 * ((n / 281474976710656) % 2048); state = state_of (n % 4); blocks = (n / 4) % 4096; bytes = (n / 16384) % 17179869184 }
+
+-- the first entry of a place's history
+abbrev pub vacant : ℕ → Glance
+vacant p = record { process = p; state = Vacant; blocks = 0; bytes = 0 }

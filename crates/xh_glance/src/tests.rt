@@ -1,0 +1,70 @@
+//! Glances by calls.
+ghost use Rattle.std.specs.Prelude.{◌≡◌, ◌%◌};
+ghost use Rattle.xh_model.specs.declared.limits.TheConstants.{PLACES};
+ghost use Rattle.xh_glance.specs.Words.{IsPackable};
+
+use crate::Glances;
+use std::process::Abort;
+use std::test::Fail;
+use xh_core::{Glance, Status};
+
+/// A full place of the last generation: 2,048 blocks of 1,048,576 bytes.
+fn full() -> Glance
+    ensures packable { IsPackable result }
+    ensures place { result.process % PLACES ≡ 3 }
+{
+    Glance {
+        process: 3 + 32 * 127,
+        state: Status::Ending,
+        blocks: 2048,
+        bytes: 2_147_483_648,
+    }
+}
+
+/// A process of the first generation, with one block.
+fn small() -> Glance
+    ensures packable { IsPackable result }
+    ensures place { result.process % PLACES ≡ 3 }
+{
+    Glance {
+        process: 3,
+        state: Status::Running,
+        blocks: 1,
+        bytes: 48,
+    }
+}
+
+fn told(glance: Glance) -> (u16, Status, u32, u64) {
+    (glance.process, glance.state, glance.blocks, glance.bytes)
+}
+
+#[test]
+fn the_last_entry_is_seen(rt: HostRuntime) -> Result<(), Fail> {
+    let (glances, mut pens, mut looks) = Glances::new(rt.alloc(), 2)?;
+    let mut second = looks.remove(1);
+    let mut first = looks.remove(0);
+    let mut pen = pens.remove(3);
+    assert_eq!(rt;
+        told(glances.look(&mut first, 3)),
+        (3, Status::Vacant, 0, 0)
+    );
+    glances.store(&mut pen, small());
+    assert_eq!(rt;
+        told(glances.look(&mut first, 3)),
+        (3, Status::Running, 1, 48)
+    );
+    glances.store(&mut pen, full());
+    assert_eq!(rt;
+        told(glances.look(&mut first, 3)),
+        (4067, Status::Ending, 2048, 2_147_483_648)
+    );
+    assert_eq!(rt;
+        told(glances.look(&mut second, 3)),
+        (4067, Status::Ending, 2048, 2_147_483_648)
+    );
+    assert_eq!(rt;
+        told(glances.look(&mut second, 31)),
+        (31, Status::Vacant, 0, 0)
+    );
+    Ok(())
+}

@@ -1,0 +1,53 @@
+//! A glance as one word.
+ghost use Rattle.std.specs.Prelude.{◌≡◌, ◌<◌};
+ghost use Rattle.xh_model.specs.declared.limits.TheConstants.{PLACES};
+ghost use Rattle.xh_glance.specs.Words.{IsPackable, glance_of, word_of};
+
+use xh_core::{Glance, Status};
+use xh_model::limits::PLACES;
+
+/// The weight of the count of blocks; below it stands the state.
+const BLOCKS: u64 = 4;
+
+/// The weight of the bytes. So the count of blocks is below 4,096.
+const BYTES: u64 = 16_384;
+
+/// The weight of the process's generation. So the bytes are below 2^34.
+const GENERATION: u64 = 281_474_976_710_656;
+
+pub(crate) fn pack(glance: Glance) -> u64
+    requires { IsPackable glance }
+    ensures { result ≡ word_of glance }
+{
+    let state = match glance.state {
+        Status::Vacant => 0,
+        Status::Running => 1,
+        Status::Ending => 2,
+        Status::Ended => 3,
+    };
+    let generation = glance.process / u16::from(PLACES);
+    state
+        + BLOCKS * u64::from(glance.blocks)
+        + BYTES * glance.bytes
+        + GENERATION * u64::from(generation)
+}
+
+/// What the word of a place tells.
+pub(crate) fn unpack(place: u8, word: u64) -> Glance
+    requires { place < PLACES }
+    ensures { result ≡ glance_of place word }
+{
+    let state = match word % BLOCKS {
+        0 => Status::Vacant,
+        1 => Status::Running,
+        2 => Status::Ending,
+        _ => Status::Ended,
+    };
+    let generation = (word / GENERATION % 2048) as u16;
+    Glance {
+        process: u16::from(place) + 32 * generation,
+        state,
+        blocks: (word / BLOCKS % 4096) as u32,
+        bytes: word / BYTES % 17_179_869_184,
+    }
+}
