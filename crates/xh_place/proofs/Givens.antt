@@ -1,0 +1,67 @@
+-- The loops of a give over its blocks.
+use Rattle.std.proofs.Common.{◌≡◌, ◌≢◌, ℕ, zero, suc, ◌+◌, ◌<◌, ⊎_elim, inl, inr, List, [], ◌∷◌, length, drop, get_or, refl, sym, ap, ◌∙◌, subst, arith}
+use Rattle.std.specs.Prelude.{Some, None}
+use mathlib.Core.Logic.{dite}
+use native.Mathlib.Decide.{ℕ_discrete}
+use Rattle.xh_arena.specs.Views.{LotOf}
+use Rattle.xh_model.specs.Keyed.{Among, Distinct, value_at, without}
+use Rattle.xh_model.proofs.Keyed.{next, without_at, without_other}
+use Rattle.xh_records.specs.Seats.{Held, with_lots}
+use Rattle.xh_place.specs.Lots.{HasNow, bare}
+use Rattle.xh_place.specs.declared.body.Body.{Body}
+use Rattle.xh_place.specs.declared.body.Header.{Header}
+use Rattle.xh_place.specs.Places.{IsBlock, header_in}
+
+pub next_one : {X : Type 0} (k : ℕ) (xs : List X) (d : X) → k < length xs → drop k xs ≡ get_or xs k d ∷ drop (k + 1) xs
+next_one k xs d h = let z : suc k ≡ k + 1 = omega arith in next k xs d h ∙ ap (λ (j : ℕ). get_or xs k d ∷ drop j xs) z
+
+pub among_get : (k : ℕ) (xs : List ℕ) (d : ℕ) → k < length xs → Among xs (get_or xs k d)
+among_get k [] d h = absurd (omega arith)
+among_get zero (x ∷ xs) d h = inl refl
+among_get (suc k) (x ∷ xs) d h = inr (among_get k xs d (omega arith))
+
+-- of the given records those in `more` are to go, and the others went
+abbrev pub IsPassing : List ℕ → List ℕ → Held Body → Held Body → Type 0
+IsPassing given more old seat = HasNow old seat.lots seat
+    × ((r : ℕ) → (Among more r → ⊥) → Among given r → value_at r seat.lots ≡ None)
+    × ((r : ℕ) → Among more r → value_at r seat.lots ≡ value_at r old.lots)
+    × ((r : ℕ) → (Among given r → ⊥) → value_at r seat.lots ≡ value_at r old.lots)
+    × Distinct more
+
+pub passing : (given more : List ℕ) (r : ℕ) (old seat last : Held Body) → Among given r → IsPassing given (r ∷ more) old seat → HasNow seat (without r seat.lots) last → IsPassing given more old last
+passing given more r old seat last among is new =
+    let at : (q : ℕ) → r ≢ q → value_at q last.lots ≡ value_at q seat.lots = λ q n. ap (λ (h : Held Body). value_at q h.lots) new ∙ without_other q r seat.lots n in (
+      new ∙ (λ i. with_lots (is.0 i) (without r seat.lots)) ∙ sym (ap (λ (h : Held Body). with_lots (bare old) h.lots) new),
+      (λ q n a. dite (ℕ_discrete r q)
+          (λ e. ap (λ (h : Held Body). value_at q h.lots) new ∙ subst (λ (z : ℕ). value_at z (without r seat.lots) ≡ None) e (without_at r seat.lots))
+          (λ other. at q other ∙ is.1 q (λ h. ⊎_elim (λ (e : q ≡ r). other (sym e)) n h) a)),
+      (λ q a. let other : r ≢ q = λ e. is.4.0 (subst (λ (z : ℕ). Among more z) (sym e) a) in at q other ∙ is.2 q (inr a)),
+      (λ q n. let other : r ≢ q = λ e. n (subst (λ (z : ℕ). Among given z) e among) in at q other ∙ is.3 q n),
+      is.4.1,
+    )
+
+-- of the given records those in `more` are still away; of the others those that came back are in the seat, and in the list with their lengths and kinds
+abbrev pub IsAccepting : List ℕ → List ℕ → Held Body → Held Body → List (ℕ × Header) → Type 0
+IsAccepting given more old seat back = HasNow old seat.lots seat
+    × ((r : ℕ) → Among given r → value_at r back ≡ header_in (value_at r seat.lots))
+    × ((r : ℕ) (m : LotOf Body) → Among given r → value_at r seat.lots ≡ Some m → IsBlock old.shape r m)
+    × ((r : ℕ) → Among more r → value_at r seat.lots ≡ None)
+    × ((r : ℕ) → (Among given r → ⊥) → value_at r seat.lots ≡ value_at r old.lots)
+    × Distinct more
+
+pub accepting : (given more : List ℕ) (r : ℕ) (old seat last : Held Body) (back new : List (ℕ × Header)) → Among given r → IsAccepting given (r ∷ more) old seat back
+    → HasNow seat last.lots last → (value_at r seat.lots ≡ None → value_at r back ≡ None → value_at r new ≡ header_in (value_at r last.lots)) → ((m : LotOf Body) → value_at r seat.lots ≡ None → value_at r last.lots ≡ Some m → IsBlock seat.shape r m)
+    → ((q : ℕ) → r ≢ q → (value_at q last.lots ≡ value_at q seat.lots) × (value_at q new ≡ value_at q back)) → IsAccepting given more old last new
+accepting given more r old seat last back new among is same here good others =
+    let none : value_at r seat.lots ≡ None = is.3 r (inl refl) in (
+      same ∙ (λ i. with_lots (is.0 i) last.lots),
+      (λ q a. dite (ℕ_discrete r q)
+          (λ e. subst (λ (z : ℕ). value_at z new ≡ header_in (value_at z last.lots)) e (here none (is.1 r among ∙ ap header_in none)))
+          (λ n. (others q n).1 ∙ is.1 q a ∙ sym (ap header_in (others q n).0))),
+      (λ q m a. dite (ℕ_discrete r q)
+          (λ e f. subst (λ (z : ℕ). IsBlock old.shape z m) e (subst (λ s. IsBlock s r m) (ap (λ (h : Held Body). h.shape) is.0) (good m none (ap (λ (z : ℕ). value_at z last.lots) e ∙ f))))
+          (λ n f. is.2 q m a (sym (others q n).0 ∙ f))),
+      (λ q a. let other : r ≢ q = λ e. is.5.0 (subst (λ (z : ℕ). Among more z) (sym e) a) in (others q other).0 ∙ is.3 q (inr a)),
+      (λ q n. let other : r ≢ q = λ e. n (subst (λ (z : ℕ). Among given z) e among) in (others q other).0 ∙ is.4 q n),
+      is.5.1,
+    )

@@ -1,0 +1,76 @@
+-- A seat, and a place, that gained two records at once.
+use Rattle.std.proofs.Common.{◌≡◌, ◌≢◌, ℕ, ◌+◌, ◌/◌, ◌<◌, ◌≤◌, ⊎_elim, inl, inr, List, [], ◌∷◌, ◌++◌, length, append_assoc, refl, sym, ap, ◌∙◌, subst, arith, true}
+use Rattle.std.specs.Prelude.{Some, None}
+use Rattle.xh_arena.specs.Views.{LotOf}
+use Rattle.xh_core.specs.declared.status.Status.{Status}
+use Rattle.xh_model.specs.Keyed.{Among, keys, value_at, put, without}
+use Rattle.xh_model.proofs.Keyed.{among_either, keys_push, last_at, last_other, last_put, last_without, put_split}
+use Rattle.xh_records.specs.Seats.{Held, with_lots}
+use Rattle.xh_place.specs.declared.body.Body.{Body}
+use Rattle.xh_place.specs.declared.body.Header.{Header}
+use Rattle.xh_place.specs.Lots.{HasNow, bare}
+use Rattle.xh_place.specs.Opening.{AreMade, HasTwoMore}
+use Rattle.xh_place.specs.Places.{Item, PlaceOf, with_blocks, header_of, item_of, IsBlock, IsPlace}
+use Rattle.xh_place.specs.Refusals.{is_over}
+use Rattle.xh_place.proofs.Gained.{has}
+use Rattle.xh_place.proofs.Steps.{has_room, view_of, won}
+
+-- with one record, and with the other too
+abbrev pub with_one : Held Body → ℕ → LotOf Body → Held Body
+with_one seat r l = with_lots seat (seat.lots ++ (r, l) ∷ [])
+
+module _ (arena : ℕ) (old new : Held Body) (r t : ℕ) (l m : LotOf Body) (two : HasTwoMore arena old new r t l m) where
+  pub then_other : HasNow (with_one old r l) ((with_one old r l).lots ++ (t, m) ∷ []) new
+  then_other = two.lots ∙ ap (with_lots (bare old)) (sym (append_assoc old.lots ((r, l) ∷ []) ((t, m) ∷ [])))
+
+  pub other_fresh : Among (keys (with_one old r l).lots) t → ⊥
+  other_fresh h = ⊎_elim two.second_fresh (λ b. ⊎_elim (λ e. two.apart (sym e)) (λ z. z) b)
+      (among_either (keys old.lots) (r ∷ []) t (subst (λ (ks : List ℕ). Among ks t) (keys_push old.lots (r, l)) h))
+
+  -- what it has at both
+  pub has_other : value_at t new.lots ≡ Some m
+  has_other = has (with_one old r l) new t m then_other other_fresh
+
+  pub has_first : value_at r new.lots ≡ Some l
+  has_first = ap (λ (h : Held Body). value_at r h.lots) then_other ∙ last_other r t m (with_one old r l).lots (λ e. two.apart (sym e)) ∙ last_at r l old.lots two.first_fresh
+
+  -- without the other, and without both
+  pub back_to_one : (last : Held Body) → HasNow new (without t new.lots) last → HasNow (with_one old r l) (with_one old r l).lots last
+  back_to_one last then = then ∙ ap (λ (h : Held Body). with_lots h (without t h.lots)) then_other ∙ ap (with_lots (bare old)) (last_without t m (with_one old r l).lots other_fresh)
+
+module _ (seat last : Held Body) (xs : List (ℕ × Header)) (room total : ℕ) (state : Status) (is : IsPlace seat xs room total state) (alive : is_over state ≡ true → ⊥)
+    (arena r t : ℕ) (l m : LotOf Body) (made : AreMade arena seat last r t l m) where
+  abbrev xs_one : List (ℕ × Header)
+  xs_one = xs ++ (r, header_of (item_of l)) ∷ []
+
+  first_more : IsPlace (with_one seat r l) xs_one room (total + l.len) state × ((p : PlaceOf) → view_of seat xs state ≡ p → view_of (with_one seat r l) xs_one state ≡ with_blocks p (p.blocks ++ (r, item_of l) ∷ []))
+  first_more = won seat xs room total state is (with_one seat r l) r l xs_one room l.len made.two.first_fresh refl made.first alive refl refl refl
+
+  pub room_first : (length xs < room) × (length xs < 2048)
+  room_first = has_room seat xs room total state is r made.first.exists made.two.first_fresh
+
+  pub room_second : (length xs_one < room) × (length xs_one < 2048)
+  room_second = has_room (with_one seat r l) xs_one room (total + l.len) state first_more.0 t made.second.exists (other_fresh arena seat last r t l m made.two)
+
+  pub opened : (ys : List (ℕ × Header)) (room' n : ℕ) → ys ≡ xs_one ++ (t, header_of (item_of m)) ∷ [] → room' ≡ room → n ≡ total + l.len + m.len
+      → IsPlace last ys room' n state × ((p : PlaceOf) → view_of seat xs state ≡ p → view_of last ys state ≡ with_blocks p (p.blocks ++ (r, item_of l) ∷ (t, item_of m) ∷ []))
+  opened ys room' n items same sum =
+      let second = won (with_one seat r l) xs_one room (total + l.len) state first_more.0 last t m ys room' m.len (other_fresh arena seat last r t l m made.two) (then_other arena seat last r t l m made.two) made.second alive items same refl in (
+        subst (λ (z : ℕ). IsPlace last ys room' z state) (sym sum) second.0,
+        λ p e. second.1 (with_blocks p (p.blocks ++ (r, item_of l) ∷ [])) (first_more.1 p e) ∙ ap (with_blocks p) (append_assoc p.blocks ((r, item_of l) ∷ []) ((t, item_of m) ∷ [])),
+      )
+
+-- both lots changed in their places, and both gone
+module _ (lots : List (ℕ × LotOf Body)) (r t : ℕ) (first : Among (keys lots) r → ⊥) (second : Among (keys lots) t → ⊥) (apart : r ≢ t) where
+  late : (l : LotOf Body) → Among (keys (lots ++ (r, l) ∷ [])) t → ⊥
+  late l h = ⊎_elim second (λ b. ⊎_elim (λ e. apart (sym e)) (λ z. z) b) (among_either (keys lots) (r ∷ []) t (subst (λ (ks : List ℕ). Among ks t) (keys_push lots (r, l)) h))
+
+  pub both_put : (l m l' m' : LotOf Body) → put t m' (put r l' (lots ++ (r, l) ∷ (t, m) ∷ [])) ≡ lots ++ (r, l') ∷ (t, m') ∷ []
+  both_put l m l' m' =
+      ap (put t m') (put_split r l l' lots ((t, m) ∷ []) first ∙ sym (append_assoc lots ((r, l') ∷ []) ((t, m) ∷ [])))
+      ∙ last_put t m m' (lots ++ (r, l') ∷ []) (late l') ∙ append_assoc lots ((r, l') ∷ []) ((t, m') ∷ [])
+
+  pub both_gone : (l m : LotOf Body) → without r (without t (lots ++ (r, l) ∷ (t, m) ∷ [])) ≡ lots
+  both_gone l m =
+      ap (λ (z : List (ℕ × LotOf Body)). without r (without t z)) (sym (append_assoc lots ((r, l) ∷ []) ((t, m) ∷ [])))
+      ∙ ap (without r) (last_without t m (lots ++ (r, l) ∷ []) (late l)) ∙ last_without r l lots first

@@ -1,0 +1,147 @@
+-- A block cut in two.
+use Rattle.std.proofs.Common.{◌≡◌, ◌≢◌, ℕ, ◌+◌, ◌-◌, ◌/◌, ◌<◌, ◌≤◌, List, [], ◌∷◌, ◌++◌, length, drop, take, true, false, eqb, refl, sym, ap, ◌∙◌, subst, arith, rules, length-take-le, length-drop}
+use Rattle.std.specs.Prelude.{Some, None, Option, ◌&&◌, nat_le}
+use mathlib.Core.Logic.{dite}
+use native.Mathlib.Decide.{ℕ_discrete}
+use Rattle.xh_arena.specs.Views.{LotOf}
+use Rattle.xh_core.specs.Refusing.{first_refusal}
+use Rattle.xh_core.specs.declared.status.Status.{Status}
+use Rattle.xh_core.specs.declared.status.Status.TheVariants.{Vacant, Running, Ending, Ended}
+use Rattle.xh_model.specs.Keyed.{Among, keys, value_at, put}
+use Rattle.xh_model.proofs.Keyed.{at_key, front_at, here_first, not_here, last_put, length-keys, put_keys}
+use Rattle.xh_model.specs.Arena.{IsGoodCut}
+use Rattle.xh_records.specs.Showing.{IsLotOf}
+use Rattle.xh_records.specs.Seats.{Held, IsRecord, IsSeatOf, RecordsOf, with_lots}
+use Rattle.xh_place.specs.Lots.{HasNow, IsCut, IsData, bare}
+use Rattle.xh_place.specs.declared.body.Body.{Body}
+use Rattle.xh_place.specs.declared.body.Body.TheVariants.{Nothing, Data, End}
+use Rattle.xh_place.specs.declared.body.Header.{Header}
+use Rattle.xh_place.specs.declared.body.Kind.TheVariants as kind
+use Rattle.xh_place.specs.Bodies.{Content, bytes, spot, content_of, fits_in, front, kind_of, rest}
+use Rattle.xh_place.specs.Places.{Item, PlaceOf, header_of, header_in, item_of, IsBlock, IsPlace, shown, sum_of, with_blocks}
+use Rattle.xh_place.specs.Refusals.{is_running, split_tests}
+use Rattle.xh_place.proofs.Found.{unmoved}
+use Rattle.xh_place.proofs.Gained.{fits_bytes, has}
+use Rattle.xh_place.proofs.Settled.{becomes, becomes_shown, sum_put}
+use Rattle.xh_place.proofs.Steps.{view_of, won, over_running}
+
+-- a change ahead of the last entry
+put_front : {X : Type 0} (r t : ℕ) (y z : X) (xs : List (ℕ × X)) → r ≢ t → put r y (xs ++ (t, z) ∷ []) ≡ put r y xs ++ (t, z) ∷ []
+put_front r t y z [] n = not_here t r ((r, y) ∷ []) ((t, z) ∷ []) (λ e. n (sym e))
+put_front r t y z (x ∷ xs) n = dite (ℕ_discrete x.0 r)
+    (λ same. here_first x.0 r ((r, y) ∷ (xs ++ (t, z) ∷ [])) (x ∷ put r y (xs ++ (t, z) ∷ [])) same ∙ sym (ap (λ (l : List (ℕ × _)). l ++ (t, z) ∷ []) (here_first x.0 r ((r, y) ∷ xs) (x ∷ put r y xs) same)))
+    (λ other. not_here x.0 r ((r, y) ∷ (xs ++ (t, z) ∷ [])) (x ∷ put r y (xs ++ (t, z) ∷ [])) other ∙ ap (λ (l : List (ℕ × _)). x ∷ l) (put_front r t y z xs n) ∙ sym (ap (λ (l : List (ℕ × _)). l ++ (t, z) ∷ []) (not_here x.0 r ((r, y) ∷ xs) (x ∷ put r y xs) other)))
+
+still_fresh : {X : Type 0} (r t : ℕ) (y : X) (xs : List (ℕ × X)) → (Among (keys xs) t → ⊥) → Among (keys (put r y xs)) t → ⊥
+still_fresh r t y xs fresh a = fresh (subst (λ (ks : List ℕ). Among ks t) (put_keys r y xs) a)
+
+-- the seat that claimed t, whose two lots then changed
+pub cut_up : (seat mid last : Held Body) (r t : ℕ) (l0 h m : LotOf Body) → HasNow seat (seat.lots ++ (t, l0) ∷ []) mid → (Among (keys seat.lots) t → ⊥) → r ≢ t → last ≡ with_lots mid (put t m (put r h mid.lots)) → HasNow seat (put r h seat.lots ++ (t, m) ∷ []) last
+cut_up seat mid last r t l0 h m is fresh apart new =
+    ap bare new ∙ ap (λ (s : Held Body). with_lots s (put t m (put r h s.lots))) is
+    ∙ ap (λ (ls : List (ℕ × LotOf Body)). with_lots (bare seat) (put t m ls)) (put_front r t h l0 seat.lots apart)
+    ∙ ap (with_lots (bare seat)) (last_put t l0 m (put r h seat.lots) (still_fresh r t h seat.lots fresh))
+
+-- the bytes of a data block
+pub data_of : (b : Body) (n : ℕ) → kind_of (content_of b) ≡ kind.Data → fits_in b n ≡ true → (xs : List ℕ) × (content_of b ≡ bytes xs) × (length xs ≡ n) × (n ≤ 1048576)
+data_of Nothing n k e = absurd (cc)
+data_of (Data v) n k e = (v.items, refl, search rules, search rules)
+data_of (End p) n k e = absurd (cc)
+
+running_is : (s : Status) → is_running s ≡ true → s ≡ Running
+running_is Running e = refl
+running_is Vacant e = absurd (cc)
+running_is Ending e = absurd (cc)
+running_is Ended e = absurd (cc)
+
+-- the list and its place after the cut
+pub parted : (seat last : Held Body) (xs ys : List (ℕ × Header)) (room cap total : ℕ) (state : Status) (r t : ℕ) (l h m : LotOf Body) → is_running state ≡ true → IsPlace seat xs room total state
+    → value_at r seat.lots ≡ Some l → IsBlock seat.shape r h → IsBlock seat.shape t m → (Among (keys seat.lots) t → ⊥) → HasNow seat (put r h seat.lots ++ (t, m) ∷ []) last
+    → h.len + m.len ≡ l.len → ys ≡ put r (header_of (item_of h)) xs ++ (t, header_of (item_of m)) ∷ [] → cap ≡ room
+    → IsPlace last ys cap total state × ((p : PlaceOf) → view_of seat xs state ≡ p → view_of last ys state ≡ with_blocks p (put r (item_of h) p.blocks ++ (t, item_of m) ∷ []))
+parted seat last xs ys room cap total state r t l h m run is at head tail fresh new lens items caps =
+    subst (λ s. IsPlace seat xs room total s → IsPlace last ys cap total s × ((p : PlaceOf) → view_of seat xs s ≡ p → view_of last ys s ≡ with_blocks p (put r (item_of h) p.blocks ++ (t, item_of m) ∷ []))) (sym (running_is state run))
+    (λ is.
+    let xs1 : List (ℕ × Header) = put r (header_of (item_of h)) xs in
+    let seat1 : Held Body = with_lots seat (put r h seat.lots) in
+    let is0 : IsPlace seat xs room (sum_of xs) Running = subst (λ (n : ℕ). IsPlace seat xs room n Running) is.sum is in
+    let is1 : IsPlace seat1 xs1 room (sum_of xs1) Running = becomes room seat xs r l h is0 at head in
+    let both = won seat1 xs1 room (sum_of xs1) Running is1 last t m ys cap m.len (still_fresh r t h seat.lots fresh) new tail (over_running Running refl) items caps refl in
+    let moved : sum_of xs1 + l.len ≡ sum_of xs + h.len = sum_put xs r (header_of (item_of l)) (header_of (item_of h)) (is.same r ∙ ap header_in at) in
+    let all : total ≡ sum_of xs = is.sum in
+    let sum : sum_of xs1 + m.len ≡ total = omega arith in (
+      subst (λ (n : ℕ). IsPlace last ys cap n Running) sum both.0,
+      λ p v. both.1 (view_of seat1 xs1 Running) refl
+          ∙ ap (λ (bs : List (ℕ × Item)). with_blocks (view_of seat xs Running) (bs ++ (t, item_of m) ∷ [])) (becomes_shown room seat.lots xs r l h at is.distinct)
+          ∙ ap (λ (q : PlaceOf). with_blocks q (put r (item_of h) q.blocks ++ (t, item_of m) ∷ [])) v,
+    )) is
+
+-- A seat that claimed t, to cut r: what it has of both
+pub record Cutting (all : RecordsOf) (seat mid : Held Body) (r t : ℕ) (l l0 : LotOf Body) : Type 0 where
+  pub own : IsSeatOf all mid
+  pub head : value_at r mid.lots ≡ Some l
+  pub tail : value_at t mid.lots ≡ Some l0
+  pub apart : r ≢ t
+  pub head_lot : IsLotOf mid.shape r l
+  pub tail_lot : IsLotOf mid.shape t l0
+  pub exist : IsRecord all.shape r × IsRecord all.shape t
+  pub is : HasNow seat (seat.lots ++ (t, l0) ∷ []) mid
+
+pub cutting : (all : RecordsOf) (seat mid : Held Body) (r t : ℕ) (l l0 : LotOf Body) → IsSeatOf all seat → value_at r seat.lots ≡ Some l → IsBlock seat.shape r l → IsRecord all.shape t → IsLotOf seat.shape t l0 → (Among (keys seat.lots) t → ⊥) → HasNow seat (seat.lots ++ (t, l0) ∷ []) mid → Cutting all seat mid r t l l0
+cutting all seat mid r t l l0 own at block exists lot fresh is = record {
+  own = (ap (λ (h : Held Body). h.table) is ∙ own.0, ap (λ (h : Held Body). h.shape) is ∙ own.1);
+  head = ap (λ (h : Held Body). value_at r h.lots) is ∙ front_at r l seat.lots ((t, l0) ∷ []) at;
+  tail = has seat mid t l0 is fresh;
+  apart = λ e. fresh (subst (λ (z : ℕ). Among (keys seat.lots) z) e (at_key r l seat.lots at));
+  head_lot = subst (λ (h : Held Body). IsLotOf h.shape r l) (sym is) block.lot;
+  tail_lot = subst (λ (h : Held Body). IsLotOf h.shape t l0) (sym is) lot;
+  exist = (subst (λ s. IsRecord s r) own.1 block.exists, exists);
+  is = is;
+}
+
+-- one of the two was lent, and put back
+pub lent : (all : RecordsOf) (seat mid last : Held Body) (r t : ℕ) (l l0 : LotOf Body) → Cutting all seat mid r t l l0 → last ≡ with_lots mid (put r l mid.lots) → Cutting all seat last r t l l0
+lent all seat mid last r t l l0 c new = subst (λ (h : Held Body). Cutting all seat h r t l l0) (sym (unmoved mid last r l c.head new)) c
+
+pub is_cut : (all : RecordsOf) (seat mid last : Held Body) (r t k : ℕ) (l l0 h m : LotOf Body) (b : Body) → Cutting all seat mid r t l l0 → (Among (keys seat.lots) t → ⊥) → IsBlock seat.shape r l → IsLotOf seat.shape t l0 → IsRecord seat.shape t → IsData l → IsGoodCut k l.len → t / 256 ≡ r / 256
+    → h ≡ record l { len = k; body = h.body } → content_of h.body ≡ front k (content_of l.body) → m ≡ record l0 { len = l.len - k; body = b } → content_of b ≡ rest k (content_of l.body)
+    → last ≡ with_lots mid (put t m (put r h mid.lots)) → IsCut seat last r k l t
+is_cut all seat mid last r t k l l0 h m b c fresh block lot exists held good arena head head_bytes tail tail_bytes new =
+    let d = data_of l.body l.len held.0 held.1 in let xs : List ℕ = d.0 in
+    let long : length xs ≡ l.len = d.2 in let most : l.len ≤ 1048576 = d.3 in let below : k < l.len = good.2 in let some : 0 < k = good.0 in
+    let h_len : h.len ≡ k = ap (λ (z : LotOf Body). z.len) head in let m_len : m.len ≡ l.len - k = ap (λ (z : LotOf Body). z.len) tail in
+    let h_bytes : content_of h.body ≡ bytes (take k xs) = head_bytes ∙ ap (front k) d.1 in
+    let body : m.body ≡ b = ap (λ (z : LotOf Body). z.body) tail in
+    let m_bytes : content_of m.body ≡ bytes (drop k xs) = ap content_of body ∙ tail_bytes ∙ ap (rest k) d.1 in
+    let h_long : length (take k xs) ≡ h.len = length-take-le k xs (omega arith) ∙ sym h_len in
+    let m_long : length (drop k xs) ≡ m.len = length-drop k xs ∙ ap (λ (n : ℕ). n - k) long ∙ sym m_len in (
+      h,
+      m,
+      fresh,
+      cut_up seat mid last r t l0 h m c.is fresh c.apart new,
+      record { exists = block.exists; lot = (ap (λ (z : LotOf Body). z.index) head ∙ block.lot.0, block.lot.1 ∙ ap (λ (z : LotOf Body). Some z.id) (sym head)); full = (omega arith, fits_bytes h.body (take k xs) h.len h_bytes h_long (omega arith) (omega arith)) },
+      record { exists = exists; lot = (ap (λ (z : LotOf Body). z.index) tail ∙ lot.0, lot.1 ∙ ap (λ (z : LotOf Body). Some z.id) (sym tail)); full = (omega arith, fits_bytes m.body (drop k xs) m.len m_bytes m_long (omega arith) (omega arith)) },
+      h_len,
+      omega arith,
+      head_bytes,
+      ap content_of body ∙ tail_bytes,
+      arena,
+    )
+
+-- a cut keeps the kind
+pub front_kind : (k : ℕ) (x : Content) → kind_of (front k x) ≡ kind_of x
+front_kind k (bytes xs) = refl
+front_kind k (spot channel side) = refl
+
+pub rest_kind : (k : ℕ) (x : Content) → kind_of (rest k x) ≡ kind_of x
+rest_kind k (bytes xs) = refl
+rest_kind k (spot channel side) = refl
+
+pub put_long : {X : Type 0} (r : ℕ) (y : X) (xs : List (ℕ × X)) → length (put r y xs) ≡ length xs
+put_long r y xs = sym (length-keys (put r y xs)) ∙ ap length (put_keys r y xs) ∙ length-keys xs
+
+pub may_cut : (s : Status) (found : Option Item) (k : ℕ) → first_refusal (split_tests s found k) ≡ None → is_running s ≡ true
+may_cut Running found k e = refl
+may_cut Vacant found k e = absurd (cc)
+may_cut Ending found k e = absurd (cc)
+may_cut Ended found k e = absurd (cc)

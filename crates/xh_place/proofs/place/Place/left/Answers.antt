@@ -1,0 +1,15 @@
+use Rattle.std.proofs.Common.{rules, arith, ◌≡◌, ℕ, ◌-◌, ◌<◌, ◌≤◌, length, sym, ap, ◌∙◌, [], true}
+use Rattle.std.specs.Vec.{vec_capacity}
+use Rattle.xh_place.specs.Refusals.{is_over}
+use Rattle.xh_place.proofs.Steps.{count_bound, shown_long}
+use Rattle.xh_place.proofs.place.Place.left.Goals as goal
+
+pub overflow_cast-result : goal.overflow_cast-result
+overflow_cast-result c =
+    let few : length c.self.inside.list.items ≤ 2048 = count_bound c.self.inside.seat c.self.inside.list.items (vec_capacity c.self.inside.list) c.self.inside.total c.self.inside.state c.self.invariant in
+    search rules
+
+pub returns-clause-left : goal.returns-clause-left
+returns-clause-left c =
+    let long : length c.self.inside.list.items ≡ length c.args.self.now.blocks = sym (shown_long c.self.inside.seat.lots c.self.inside.list.items) ∙ ap (λ p. length p.blocks) c.self.view_is in
+    search rules

@@ -1,0 +1,7 @@
+use Rattle.std.proofs.Common.{◌≡◌, take, true}
+use Rattle.std.specs.List.{list_all}
+use Rattle.xh_place.specs.Messages.{is_listed}
+use Rattle.xh_place.proofs.place.Place.lists_all.Given as goal
+
+abbrev pub invariant-loop-r : goal.invariant-loop-r
+invariant-loop-r l = list_all (is_listed l.self.blocks) (take l.r-index l.blocks) ≡ true

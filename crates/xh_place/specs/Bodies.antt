@@ -1,0 +1,49 @@
+-- What contracts see of what a block carries.
+use Rattle.std.specs.Prelude.{ℕ, Bool, true, false, ◌==◌, ◌&&◌, nat_le, ◌+◌, List, [], ◌++◌, take, drop, length}
+use Rattle.xh_model.specs.declared.limits.TheConstants.{MAX_BYTES, END_BYTES}
+use Rattle.xh_place.specs.declared.body.Body.{Body}
+use Rattle.xh_place.specs.declared.body.Body.TheVariants.{Nothing, Data, End}
+use Rattle.xh_place.specs.declared.body.Kind.{Kind}
+use Rattle.xh_place.specs.declared.body.Kind.TheVariants as kind
+
+-- bytes, or the end of a channel at a side
+pub data Content : Type 0 where
+  bytes : List ℕ → Content
+  spot : ℕ → ℕ → Content
+
+abbrev pub content_of : Body → Content
+content_of Nothing = bytes []
+content_of (Data v) = bytes v.items
+content_of (End e) = spot e.channel e.side
+
+abbrev pub kind_of : Content → Kind
+kind_of (bytes xs) = kind.Data
+kind_of (spot channel side) = kind.End
+
+-- whether it may travel with a record of n bytes
+abbrev pub fits_in : Body → ℕ → Bool
+fits_in Nothing n = false
+fits_in (Data v) n = (length v.items == n) && nat_le n MAX_BYTES
+fits_in (End e) n = n == END_BYTES
+
+abbrev pub is_data : Kind → Bool
+is_data kind.Data = true
+is_data kind.End = false
+
+-- its n bytes from `at` on, and what it is with these bytes there
+abbrev pub part : ℕ → ℕ → Content → List ℕ
+part at n (bytes xs) = take n (drop at xs)
+part at n (spot channel side) = []
+
+abbrev pub patched : ℕ → List ℕ → Content → Content
+patched at ys (bytes xs) = bytes (take at xs ++ (ys ++ drop (at + length ys) xs))
+patched at ys (spot channel side) = spot channel side
+
+-- its first k bytes, and those past them
+abbrev pub front : ℕ → Content → Content
+front k (bytes xs) = bytes (take k xs)
+front k (spot channel side) = spot channel side
+
+abbrev pub rest : ℕ → Content → Content
+rest k (bytes xs) = bytes (drop k xs)
+rest k (spot channel side) = spot channel side

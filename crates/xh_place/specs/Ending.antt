@@ -1,0 +1,76 @@
+-- What reclaiming does: the sweep, and the calls that end an endpoint or a process.
+use Rattle.std.specs.Prelude.{◌≡◌, ℕ, ◌+◌, ◌-◌, ◌<◌, ◌≤◌, ◌==◌, cond, List, [], ◌∷◌, ◌++◌, length, map, take, drop, Option, Some, None, Result, Ok, Err}
+use Rattle.xh_arena.specs.Views.{TallyOf}
+use Rattle.xh_core.specs.declared.refused.Refused.{Refused}
+use Rattle.xh_core.specs.declared.refused.Refused.TheVariants as refused
+use Rattle.xh_core.specs.declared.status.Status.{Status}
+use Rattle.xh_core.specs.declared.status.Status.TheVariants.{Ending, Ended}
+use Rattle.xh_model.specs.Keyed.{value_at, without}
+use Rattle.xh_core.specs.Refusing.{Tests}
+use Rattle.xh_model.specs.declared.limits.TheConstants.{MAX_BUDGET}
+use Rattle.xh_place.specs.Refusals.{is_over}
+use Rattle.xh_place.specs.Places.{Item, PlaceOf, with_blocks, total_of}
+
+-- So many blocks were reclaimed: the list from `from` on is the old one from there, followed by what was accepted, without its first blocks.
+-- The bytes are those that the list had and gained, less those that it has.
+pub record IsSweptBy (from count : ℕ) (old new : List (ℕ × Item)) (bytes : ℕ) : Type 0 where
+  pub accepted : List (ℕ × Item)
+  pub there : count ≤ length (drop from old ++ accepted)
+  pub list : new ≡ take from old ++ drop count (drop from old ++ accepted)
+  pub sum : bytes + total_of new ≡ total_of old + total_of accepted
+
+-- A sweep: no more blocks were reclaimed than the budget, and blocks are left from `from` on only where it is used up.
+pub record IsSwept (from budget : ℕ) (old new : List (ℕ × Item)) (bytes left : ℕ) : Type 0 where
+  pub count : ℕ
+  pub by : IsSweptBy from count old new bytes
+  pub within : count ≤ budget
+  pub rest : left ≡ length new - from
+  pub more : 0 < left → count ≡ budget
+
+-- the bytes that a worker has given back, of all arenas, and its tallies but for these bytes
+abbrev pub back_of : List TallyOf → ℕ
+back_of [] = 0
+back_of (t ∷ ts) = t.back + back_of ts
+
+abbrev pub but_back : List TallyOf → List TallyOf
+but_back [] = []
+but_back (t ∷ ts) = record t { back = 0 } ∷ but_back ts
+
+-- the worker has given so many bytes back, and moved no others
+abbrev pub HasGivenBack : ℕ → List TallyOf → List TallyOf → Type 0
+HasGivenBack bytes old new = (back_of new ≡ back_of old + bytes) × (but_back new ≡ but_back old)
+
+-- the bytes, or how many blocks are left
+abbrev pub reclaimed : ℕ → ℕ → Result ℕ Refused
+reclaimed bytes left = cond (left == 0) (Ok bytes) (Err (refused.Unfinished left))
+
+-- a process is ending while it has blocks
+abbrev pub ending : ℕ → Status
+ending left = cond (left == 0) Ended Ending
+
+-- ---- stop
+
+-- there is no process, or it has ended
+abbrev pub stop_tests : Status → Tests
+stop_tests state = (is_over state, refused.Ended) ∷ []
+
+-- the whole list is swept
+abbrev pub IsStopped : ℕ → PlaceOf → PlaceOf → ℕ → Result ℕ Refused → Type 0
+IsStopped budget old new bytes result = IsSwept 0 budget old.blocks new.blocks bytes (length new.blocks)
+    × (new ≡ record old { blocks = new.blocks; state = ending (length new.blocks) }) × (result ≡ reclaimed bytes (length new.blocks))
+
+-- ---- close
+
+-- the block of a record, where it is one, as a list
+abbrev pub alone : ℕ → Option Item → List (ℕ × Item)
+alone r None = []
+alone r (Some x) = (r, x) ∷ []
+
+-- the list with the record at its end
+abbrev pub last : ℕ → List (ℕ × Item) → List (ℕ × Item)
+last r xs = without r xs ++ alone r (value_at r xs)
+
+-- the endpoint goes to the end of the list, and the list is swept from there
+abbrev pub IsClosed : ℕ → PlaceOf → PlaceOf → ℕ → Result ℕ Refused → Type 0
+IsClosed e old new bytes result = (left : ℕ) × IsSwept (length (without e old.blocks)) MAX_BUDGET (last e old.blocks) new.blocks bytes left
+    × (new ≡ with_blocks old new.blocks) × (result ≡ reclaimed bytes left)

@@ -1,0 +1,95 @@
+-- Endpoints of a place: what a call on one is refused for, and what opening and handing over do.
+use Rattle.std.specs.Prelude.{◌≡◌, ◌⊎◌, ℕ, ◌+◌, ◌*◌, ◌/◌, ◌==◌, ◌&&◌, Bool, true, false, cond, not, nat_lt, List, [], ◌∷◌, ◌++◌, length, Option, Some, None, is_none, Result, Err, MatchOption, MatchResult, IfErr, OnOk}
+use Rattle.xh_channel.specs.Queues.{Posted}
+use Rattle.xh_core.specs.declared.block.Block.{Block}
+use Rattle.xh_core.specs.declared.refused.Refused.{Refused}
+use Rattle.xh_core.specs.declared.refused.Refused.TheVariants.{Ended, NoArena, NoRecord, NoSpace, Worn, NotOwned, NotEndpoint}
+use Rattle.xh_core.specs.declared.status.Status.{Status}
+use Rattle.xh_core.specs.declared.status.Status.TheVariants as status
+use Rattle.xh_model.specs.declared.limits.TheConstants.{END_BYTES, MAX_BUDGET}
+use Rattle.xh_core.specs.Refusing.{Tests, first_refusal}
+use Rattle.xh_place.specs.Bodies.{Content, bytes, spot, kind_of, is_data}
+use Rattle.xh_arena.specs.Views.{TallyOf}
+use Rattle.xh_place.specs.declared.opening.Unopened.{Unopened}
+use Rattle.xh_place.specs.Tallies.{took}
+use Rattle.xh_place.specs.Places.{Item, PlaceOf, with_blocks}
+use Rattle.xh_place.specs.Refusals.{is_running}
+use Rattle.xh_place.specs.Ending.{IsSwept}
+
+-- the call answers the first refusal whose test is true, and then these stay as they were; where none is, it does what is said
+abbrev pub RefusedOr : {A : Type 0} → Tests → Result A Refused → Type 0 → Type 0 → Type 0
+RefusedOr tests result same done = MatchOption (first_refusal tests) done (λ refused. (result ≡ Err refused) × same)
+
+-- whether it is an endpoint
+abbrev pub has_end : Option Item → Bool
+has_end None = false
+has_end (Some x) = not (is_data (kind_of x.content))
+
+-- the direction toward an endpoint
+abbrev pub toward : Content → ℕ
+toward (bytes xs) = 128
+toward (spot channel side) = 2 * channel + side
+
+abbrev pub toward_in : Option Item → ℕ
+toward_in None = 128
+toward_in (Some x) = toward x.content
+
+-- the process does not run, no such block is listed, or it is no endpoint
+abbrev pub end_tests : Status → Option Item → Tests
+end_tests state found = (not (is_running state), Ended) ∷ (is_none found, NotOwned) ∷ (not (has_end found), NotEndpoint) ∷ []
+
+-- ---- open
+
+abbrev pub open_tests : Status → ℕ → ℕ → Tests
+open_tests state arena arenas = (not (is_running state), Ended) ∷ (not (nat_lt arena arenas), NoArena) ∷ []
+
+-- an endpoint's block
+abbrev pub end_block : Posted → Item
+end_block p = record { len = END_BYTES; content = spot p.channel p.side }
+
+-- an endpoint's length, and a record of the arena
+abbrev pub IsEndIn : ℕ → Block → Type 0
+IsEndIn arena b = (b.len ≡ END_BYTES) × (b.rec / 256 ≡ arena)
+
+-- Both ends are the last blocks of the list, side 0 first, each of 32 bytes of the arena; or nothing has changed, and the ends are handed back.
+abbrev pub Opens : ℕ → Posted → Posted → PlaceOf → PlaceOf → List TallyOf → List TallyOf → Result (Block × Block) Unopened → Type 0
+Opens arena low high old new tallies left result = MatchResult result
+    (λ ends. (new ≡ with_blocks old (old.blocks ++ (ends.0.rec, end_block low) ∷ (ends.1.rec, end_block high) ∷ [])) × IsEndIn arena ends.0 × IsEndIn arena ends.1 × (left ≡ took arena (2 * END_BYTES) tallies))
+    (λ u. (u.low ≡ low) × (u.high ≡ high) × (new ≡ old) × (left ≡ tallies))
+
+-- no two records of the arena were free, or it has no 64 bytes
+abbrev pub IsLack : Refused → Type 0
+IsLack refused = (refused ≡ NoRecord) ⊎ ((refused ≡ NoSpace) ⊎ (refused ≡ Worn))
+
+-- the first refusal whose test is true, else a lack
+abbrev pub IsUnopened : Tests → Result (Block × Block) Unopened → Type 0
+IsUnopened tests result = MatchOption (first_refusal tests) (IfErr result (λ u. IsLack u.why)) (λ refused. IfErr result (λ u. u.why ≡ refused) × OnOk result ⊥)
+
+-- ---- one end handed to another place
+
+-- the process runs here
+abbrev pub is_here : PlaceOf → ℕ → Bool
+is_here p process = is_running p.state && (p.process == process)
+
+-- a process that had ended is ending again while blocks are left
+abbrev pub ending_again : Status → ℕ → Status
+ending_again status.Ended left = cond (left == 0) status.Ended status.Ending
+ending_again status.Vacant left = status.Vacant
+ending_again status.Running left = status.Running
+ending_again status.Ending left = status.Ending
+
+-- one that had ended is ending while blocks come
+abbrev pub awake : Status → Status
+awake status.Ended = status.Ending
+awake status.Vacant = status.Vacant
+awake status.Running = status.Running
+awake status.Ending = status.Ending
+
+-- the endpoint came to the end of the list, and was swept from there
+abbrev pub IsSweptLate : ℕ → PlaceOf → PlaceOf → ℕ → Type 0
+IsSweptLate r old new sum = (x : Item) × (left : ℕ) × IsSwept (length old.blocks) MAX_BUDGET (old.blocks ++ (r, x) ∷ []) new.blocks sum left × (new ≡ with_blocks old new.blocks)
+
+-- an endpoint came that nobody is here for: so it was swept
+abbrev pub IsTooLate : ℕ → PlaceOf → PlaceOf → ℕ → Type 0
+IsTooLate r old new sum = (x : Item) × (left : ℕ) × IsSwept (length old.blocks) MAX_BUDGET (old.blocks ++ (r, x) ∷ []) new.blocks sum left
+    × (new ≡ record old { blocks = new.blocks; state = ending_again old.state (length new.blocks) })

@@ -1,0 +1,13 @@
+pub mod Lots
+pub mod Vaults
+pub mod Bodies
+pub mod Places
+pub mod Refusals
+pub mod Tallies
+pub mod Settling
+pub mod Splitting
+pub mod Taking
+pub mod Ending
+pub mod Ends
+pub mod Messages
+pub mod Opening

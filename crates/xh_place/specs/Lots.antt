@@ -1,0 +1,27 @@
+-- What the private steps of a place do to its seat. The events that the seat did are the record table's to tell.
+use Rattle.std.specs.Prelude.{◌≡◌, ◌≢◌, ℕ, ◌+◌, ◌/◌, List, [], ◌∷◌, ◌++◌, Some, true}
+use Rattle.xh_arena.specs.Views.{LotOf}
+use Rattle.xh_model.specs.Keyed.{Among, keys, put, value_at}
+use Rattle.xh_records.specs.Seats.{Held, with_lots}
+use Rattle.xh_place.specs.declared.body.Body.{Body}
+use Rattle.xh_place.specs.declared.body.Kind.TheVariants as kind
+use Rattle.xh_place.specs.Bodies.{content_of, fits_in, front, kind_of, rest}
+use Rattle.xh_place.specs.Places.{IsBlock}
+
+-- a seat but for its events
+abbrev pub bare : Held Body → Held Body
+bare seat = record seat { done = [] }
+
+-- the seat has these lots now, and all else but its events is as it was
+abbrev pub HasNow : Held Body → List (ℕ × LotOf Body) → Held Body → Type 0
+HasNow old lots new = bare new ≡ with_lots (bare old) lots
+
+-- a data block's lot: a buffer of its length
+abbrev pub IsData : LotOf Body → Type 0
+IsData l = (kind_of (content_of l.body) ≡ kind.Data) × (fits_in l.body l.len ≡ true)
+
+-- the lot l of the record r keeps its first k bytes, and those past them are in a record t of the same arena that the seat didn't hold
+abbrev pub IsCut : Held Body → Held Body → ℕ → ℕ → LotOf Body → ℕ → Type 0
+IsCut old new r k l t = (h m : LotOf Body) × (Among (keys old.lots) t → ⊥) × HasNow old (put r h old.lots ++ (t, m) ∷ []) new
+    × IsBlock old.shape r h × IsBlock old.shape t m × (h.len ≡ k) × (h.len + m.len ≡ l.len)
+    × (content_of h.body ≡ front k (content_of l.body)) × (content_of m.body ≡ rest k (content_of l.body)) × (t / 256 ≡ r / 256)

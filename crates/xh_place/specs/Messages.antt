@@ -1,0 +1,49 @@
+-- Give and take: their refusals, and what they do to the place.
+use Rattle.std.specs.Prelude.{◌≡◌, ℕ, ◌<◌, not, nat_lt, Bool, List, [], ◌∷◌, ◌++◌, length, is_some, Result, MatchResult}
+use Rattle.std.specs.List.{list_all}
+use Rattle.xh_core.specs.declared.refused.Refused.{Refused}
+use Rattle.xh_core.specs.declared.refused.Refused.TheVariants.{TooMany, NotOwned, Twice, Protocol, PeerClosed, Full, Empty}
+use Rattle.xh_core.specs.MessageCommands.{has_twice}
+use Rattle.xh_core.specs.Refusing.{Tests}
+use Rattle.xh_model.specs.Keyed.{Among, keys, value_at}
+use Rattle.xh_place.specs.declared.got.Taken.{Taken}
+use Rattle.xh_place.specs.Places.{Item, PlaceOf, with_blocks}
+use Rattle.xh_place.specs.Ends.{end_tests}
+use Rattle.xh_place.specs.Settling.{settled}
+use Rattle.xh_place.specs.Taking.{AreGot}
+
+-- ---- give
+
+abbrev pub is_listed : List (ℕ × Item) → ℕ → Bool
+is_listed xs r = is_some (value_at r xs)
+
+-- more than 8 blocks, one that is not listed, or one that stands twice among them and the endpoint
+abbrev pub given_tests : List (ℕ × Item) → ℕ → List ℕ → Tests
+given_tests xs e given = (nat_lt 8 (length given), TooMany) ∷ (not (list_all (is_listed xs) given), NotOwned) ∷ (has_twice (e ∷ given), Twice) ∷ []
+
+abbrev pub give_tests : PlaceOf → ℕ → List ℕ → Tests
+give_tests p e given = end_tests p.state (value_at e p.blocks) ++ given_tests p.blocks e given
+
+-- why the message did not go, and which blocks came back
+abbrev pub IsUnsent : List ℕ → Refused → Type 0
+IsUnsent back (Protocol named) = named.items ≡ back
+IsUnsent back (PeerClosed named) = named.items ≡ back
+IsUnsent back (Full named) = named.items ≡ back
+IsUnsent back _ = ⊥
+
+-- Each given block has left the list, or came back and is in its old place, with the length and content that it has now. None came back where the message went.
+abbrev pub IsSent : List ℕ → PlaceOf → PlaceOf → Result ℕ Refused → Type 0
+IsSent given old new result = (back : List (ℕ × Item)) × (new ≡ with_blocks old (settled given (λ r. value_at r back) old.blocks)) × ((r : ℕ) → Among (keys back) r → Among given r)
+    × MatchResult result (λ no. keys back ≡ []) (IsUnsent (keys back))
+
+-- ---- take
+
+-- why no message was taken
+abbrev pub IsUntaken : Refused → Type 0
+IsUntaken (PeerClosed back) = back.items ≡ []
+IsUntaken Empty = Unit {0}
+IsUntaken _ = ⊥
+
+-- the blocks of the message that were on the direction are the last of the list, in their order
+abbrev pub IsTaken : ℕ → PlaceOf → PlaceOf → Taken → Type 0
+IsTaken direction old new taken = (ys : List (ℕ × Item)) × (new ≡ with_blocks old (old.blocks ++ ys)) × AreGot direction ys taken.blocks.items

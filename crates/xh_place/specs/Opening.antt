@@ -1,0 +1,30 @@
+-- What the private steps of an open do to a seat.
+use Rattle.std.specs.Prelude.{◌≡◌, ◌≢◌, ℕ, ◌/◌, [], ◌∷◌, ◌++◌}
+use Rattle.xh_arena.specs.Views.{LotOf}
+use Rattle.xh_model.specs.Keyed.{Among, keys}
+use Rattle.xh_records.specs.Showing.{IsEmpty, IsLotOf}
+use Rattle.xh_records.specs.Seats.{Held, IsRecord}
+use Rattle.xh_place.specs.declared.body.Body.{Body}
+use Rattle.xh_place.specs.Lots.{HasNow}
+use Rattle.xh_place.specs.Places.{IsBlock}
+
+-- two more records of the arena, neither of which it had
+pub record HasTwoMore (arena : ℕ) (old new : Held Body) (r t : ℕ) (l m : LotOf Body) : Type 0 where
+  pub lots : HasNow old (old.lots ++ (r, l) ∷ (t, m) ∷ []) new
+  pub first_fresh : Among (keys old.lots) r → ⊥
+  pub second_fresh : Among (keys old.lots) t → ⊥
+  pub apart : r ≢ t
+  pub first_arena : r / 256 ≡ arena
+  pub second_arena : t / 256 ≡ arena
+
+-- they are empty
+pub record AreClaimed (arena : ℕ) (old new : Held Body) (r t : ℕ) (l m : LotOf Body) : Type 0 where
+  pub two : HasTwoMore arena old new r t l m
+  pub first : IsRecord old.shape r × IsLotOf old.shape r l × IsEmpty l
+  pub second : IsRecord old.shape t × IsLotOf old.shape t m × IsEmpty m
+
+-- they are blocks
+pub record AreMade (arena : ℕ) (old new : Held Body) (r t : ℕ) (l m : LotOf Body) : Type 0 where
+  pub two : HasTwoMore arena old new r t l m
+  pub first : IsBlock old.shape r l
+  pub second : IsBlock old.shape t m

@@ -1,0 +1,12 @@
+-- What a split does to a place.
+use Rattle.std.specs.Prelude.{◌≡◌, ℕ, ◌+◌, ◌/◌, [], ◌∷◌, ◌++◌, Some}
+use Rattle.xh_core.specs.declared.block.Block.{Block}
+use Rattle.xh_model.specs.Keyed.{put, value_at}
+use Rattle.xh_place.specs.Bodies.{front, rest}
+use Rattle.xh_place.specs.Places.{Item, PlaceOf, with_blocks}
+
+-- the block r keeps its first k bytes and its place in the list; those past them are a new block of the same arena, at its end
+abbrev pub IsSplit : PlaceOf → PlaceOf → ℕ → ℕ → Block → Block → Type 0
+IsSplit old new r k head tail = (x : Item) × (value_at r old.blocks ≡ Some x)
+    × (new ≡ with_blocks old (put r (record { len = k; content = front k x.content }) old.blocks ++ (tail.rec, record { len = tail.len; content = rest k x.content }) ∷ []))
+    × (head ≡ record { rec = r; len = k }) × (tail.rec / 256 ≡ r / 256) × (k + tail.len ≡ x.len)

@@ -1,0 +1,31 @@
+-- Why no bytes came, by what the call saw of the vaults.
+use Rattle.std.specs.Prelude.{◌≡◌, ℕ}
+use Rattle.xh_arena.specs.declared.refused.Refused.{Refused}
+use Rattle.xh_arena.specs.declared.refused.Refused.TheVariants as arena
+use Rattle.xh_arena.specs.Refusals.{RefusesCarve}
+use Rattle.xh_arena.specs.Views.{VaultOf}
+use Rattle.xh_core.specs.declared.refused.Refused.{Refused as Reason}
+use Rattle.xh_core.specs.declared.refused.Refused.TheVariants as reason
+use Rattle.xh_model.specs.Arena.{IsLawfulArena}
+
+-- the arena's refusal, among those of the heap
+abbrev pub reason_of : Refused → Reason
+reason_of arena.OutOfMemory = reason.OutOfMemory
+reason_of arena.BadSize = reason.BadSize
+reason_of arena.NoSpace = reason.NoSpace
+reason_of arena.BadCut = reason.BadCut
+reason_of arena.Worn = reason.Worn
+
+-- `changes old new a v w` says: from old to new the vault of the arena a became w, where it was v, and nothing else changed
+module _ {V : Type 0} (changes : V → V → ℕ → VaultOf → VaultOf → Type 0) (old new : V) (a n : ℕ) where
+  -- the call found a lawful vault that refuses to carve n bytes, and left it as it was
+  abbrev pub IsRefusedAt : Refused → Type 0
+  IsRefusedAt e = (v : VaultOf) × changes old new a v v × IsLawfulArena v.arena × RefusesCarve n v.arena e
+
+  -- no record was found free, or then a growth was refused, and no vault was touched; or then the vault refused
+  abbrev pub IsNoBlock : Reason → Type 0
+  IsNoBlock reason.NoRecord = new ≡ old
+  IsNoBlock reason.OutOfMemory = new ≡ old
+  IsNoBlock reason.NoSpace = IsRefusedAt arena.NoSpace
+  IsNoBlock reason.Worn = IsRefusedAt arena.Worn
+  IsNoBlock _ = ⊥

@@ -1,0 +1,23 @@
+//! A process's place: its list, its total and its state.
+#![tactic(auto)]
+
+mod body;
+mod bytes;
+mod gate;
+mod giving;
+mod got;
+mod list;
+mod lots;
+mod opening;
+mod place;
+mod reclaiming;
+#[cfg(test)]
+mod tests;
+mod vaults;
+
+pub use body::{Body, Header, Kind};
+pub use gate::{Gate, OpenGate, Point};
+pub use got::{Got, Taken};
+pub use opening::Unopened;
+pub use place::Place;
+pub use vaults::Vaults;

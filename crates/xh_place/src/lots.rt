@@ -1,0 +1,335 @@
+// What a place does to the lots of its seat: each call lends one of them, or two, to one function.
+ghost use Rattle.std.specs.Prelude.{◌≡◌, ◌≢◌, ◌⊎◌, ℕ, ◌+◌, ◌-◌, ◌*◌, ◌%◌, ◌/◌, ◌<◌, ◌≤◌, ◌++◌, ◌∷◌, [], Some, IfOk, IfErr, IfSome, OnOk, OnErr, slice_get, length, replicate, true};
+ghost use Rattle.xh_arena.specs.Views.{LotOf};
+ghost use Rattle.xh_model.specs.Arena.{IsGoodCut};
+ghost use Rattle.xh_model.specs.Keyed.{Among, keys, value_at, put, without};
+ghost use Rattle.xh_records.specs.Showing.{IsLotOf, IsFull};
+ghost use Rattle.xh_records.specs.Seats.{Held, IsSeatOf, IsRecord, with_lots};
+ghost use Rattle.xh_model.specs.declared.limits.TheConstants.{MAX_BYTES, UNIT};
+ghost use Rattle.xh_place.specs.Lots.{HasNow, IsCut, IsData};
+ghost use Rattle.xh_place.specs.Vaults.{IsNoBlock, IsRefusedAt, reason_of};
+ghost use Rattle.xh_place.specs.declared.body.Body.{Body};
+ghost use Rattle.xh_place.specs.declared.body.Kind.TheVariants as kind;
+ghost use Rattle.xh_place.specs.Bodies.{bytes, front, content_of, fits_in, kind_of};
+ghost use Rattle.xh_place.specs.Places.{IsBlock, item_of, header_of};
+
+use crate::body::{Body, Header, Kind};
+use crate::bytes::rest_of;
+use crate::gate::{Gate, Point};
+use crate::vaults::Vaults;
+use std::alloc::Global;
+use std::mem;
+use xh_arena::{Lot, Refused, Tally};
+use xh_core::Refused as Reason;
+use xh_records::{Records, Seat};
+
+// The lot gets bytes and a body.
+fn fill<V: Vaults>(
+    vaults: &mut V,
+    arena: u8,
+    lot: &mut Lot<Body>,
+    tally: &mut Tally,
+    n: u32,
+    body: &mut Body,
+) -> Result<u32, Refused>
+    requires ids { (slice_get (V.names vaults.old) arena ≡ Some lot.old.id) × (tally.old.id ≡ lot.old.id) }
+    requires empty { lot.old.len ≡ 0 }
+    requires size { (0 < n) × (n % UNIT ≡ 0) × (n ≤ V.extent vaults.old) }
+    ensures same { (V.names vaults.new ≡ V.names vaults.old) × (V.extent vaults.new ≡ V.extent vaults.old) }
+    ensures lot { OnOk result (lot.new ≡ record lot.old { len = n; body = body.old }) }
+    ensures tally { OnOk result (tally.new ≡ record tally.old { taken = tally.old.taken + n }) }
+    ensures refused { OnErr result ((lot.new ≡ lot.old) × (tally.new ≡ tally.old)) }
+    ensures why { IfErr result (IsRefusedAt V.changes vaults.old vaults.new arena n) }
+{
+    let start = vaults.carve(arena, lot, tally, n)?;
+    mem::swap(lot.body_mut(), body);
+    Ok(start)
+}
+
+// The lot of the record gets bytes and a body.
+pub(crate) fn fill_lot<V: Vaults>(
+    records: &Records<Body>,
+    seat: &mut Seat<Body>,
+    r: u16,
+    vaults: &mut V,
+    tally: &mut Tally,
+    n: u32,
+    body: &mut Body,
+) -> Result<u32, Refused>
+    requires own { IsSeatOf records.now seat.old × IsRecord records.now.shape r }
+    requires held { (l : LotOf Body) × (value_at r seat.old.lots ≡ Some l) × (l.len ≡ 0) × IsLotOf seat.old.shape r l × (slice_get (V.names vaults.old) (r / 256) ≡ Some l.id) × (tally.old.id ≡ l.id) }
+    requires size { (0 < n) × (n % UNIT ≡ 0) × (n ≤ V.extent vaults.old) }
+    ensures same { (V.names vaults.new ≡ V.names vaults.old) × (V.extent vaults.new ≡ V.extent vaults.old) }
+    ensures seat { OnOk result ((l : LotOf Body) → value_at r seat.old.lots ≡ Some l → seat.new ≡ with_lots seat.old (put r (record l { len = n; body = body.old }) seat.old.lots)) }
+    ensures tally { OnOk result (tally.new ≡ record tally.old { taken = tally.old.taken + n }) }
+    ensures refused { OnErr result ((l : LotOf Body) → value_at r seat.old.lots ≡ Some l → (seat.new ≡ with_lots seat.old (put r l seat.old.lots)) × (tally.new ≡ tally.old)) }
+    ensures why { IfErr result (IsRefusedAt V.changes vaults.old vaults.new (r / 256) n) }
+{
+    let arena = (r / 256) as u8;
+    records.with_lot(
+        seat,
+        r,
+        &mut |lot: &mut Lot<Body>| fill(vaults, arena, lot, tally, n, body),
+    )
+}
+
+// The lot's bytes go back, and its body is gone.
+fn empty<V: Vaults>(vaults: &mut V, arena: u8, lot: &mut Lot<Body>, tally: &mut Tally)
+    requires ids { (slice_get (V.names vaults.old) arena ≡ Some lot.old.id) × (tally.old.id ≡ lot.old.id) }
+    requires some { 0 < lot.old.len }
+    ensures same { (V.names vaults.new ≡ V.names vaults.old) × (V.extent vaults.new ≡ V.extent vaults.old) }
+    ensures lot { (lot.new.index ≡ lot.old.index) × (lot.new.id ≡ lot.old.id) × (lot.new.len ≡ 0) }
+    ensures tally { tally.new ≡ record tally.old { back = tally.old.back + lot.old.len } }
+{
+    vaults.give_back(arena, lot, tally);
+    *lot.body_mut() = Body::Nothing;
+}
+
+// The bytes of the record's lot go back.
+pub(crate) fn empty_lot<V: Vaults>(
+    records: &Records<Body>,
+    seat: &mut Seat<Body>,
+    r: u16,
+    vaults: &mut V,
+    tally: &mut Tally,
+)
+    requires own { IsSeatOf records.now seat.old × IsRecord records.now.shape r }
+    requires held { (l : LotOf Body) × (value_at r seat.old.lots ≡ Some l) × (0 < l.len) × IsLotOf seat.old.shape r l × (slice_get (V.names vaults.old) (r / 256) ≡ Some l.id) × (tally.old.id ≡ l.id) }
+    ensures same { (V.names vaults.new ≡ V.names vaults.old) × (V.extent vaults.new ≡ V.extent vaults.old) }
+    ensures lot { (l : LotOf Body) → value_at r seat.old.lots ≡ Some l → ((m : LotOf Body) × (m.len ≡ 0) × (seat.new ≡ with_lots seat.old (put r m seat.old.lots))) × (tally.new ≡ record tally.old { back = tally.old.back + l.len }) }
+{
+    let arena = (r / 256) as u8;
+    records.with_lot(
+        seat,
+        r,
+        &mut |lot: &mut Lot<Body>| empty(vaults, arena, lot, tally),
+    )
+}
+
+// The lot gets another body, and gives the one that it had.
+fn swap(lot: &mut Lot<Body>, body: &mut Body)
+    requires { 0 ≤ lot.old.len }
+    ensures { (body.new ≡ lot.old.body) × (lot.new ≡ record lot.old { body = body.old }) }
+{
+    mem::swap(lot.body_mut(), body);
+}
+
+// The record's lot gets another body, and gives the one that it had.
+pub(crate) fn swap_body(records: &Records<Body>, seat: &mut Seat<Body>, r: u16, body: &mut Body)
+    requires own { IsSeatOf records.now seat.old × IsRecord records.now.shape r }
+    requires held { (l : LotOf Body) × (value_at r seat.old.lots ≡ Some l) × IsLotOf seat.old.shape r l × (0 ≤ l.len) }
+    ensures { (l : LotOf Body) → value_at r seat.old.lots ≡ Some l → (body.new ≡ l.body) × (seat.new ≡ with_lots seat.old (put r (record l { body = body.old }) seat.old.lots)) }
+{
+    records.with_lot(seat, r, &mut |lot: &mut Lot<Body>| swap(lot, body))
+}
+
+// A buffer of zeros.
+fn zeros(alloc: Global, count: u32) -> Option<Vec<u8>>
+    ensures { IfSome result (λ v. v.items ≡ replicate count 0) }
+{
+    let Ok(all) = vec![in alloc; 0u8; count as usize] else {
+        return None;
+    };
+    Some(all)
+}
+
+pub(crate) fn reason(refused: Refused) -> Reason
+    ensures { result ≡ reason_of refused }
+{
+    match refused {
+        Refused::OutOfMemory => Reason::OutOfMemory,
+        Refused::BadSize => Reason::BadSize,
+        Refused::NoSpace => Reason::NoSpace,
+        Refused::BadCut => Reason::BadCut,
+        Refused::Worn => Reason::Worn,
+    }
+}
+
+// The place of a seat.
+pub(crate) fn place_of(seat: &Seat<Body>) -> u8 {
+    (seat.process() % 32) as u8
+}
+
+// Claims a record of the arena, and gives it bytes and a buffer of zeros.
+pub(crate) fn make_block<V: Vaults, G: Gate>(
+    alloc: Global,
+    records: &Records<Body>,
+    seat: &mut Seat<Body>,
+    n: u32,
+    arena: u8,
+    vaults: &mut V,
+    tally: &mut Tally,
+    gate: &G,
+) -> Result<u16, Reason>
+    requires own { IsSeatOf records.now seat.old }
+    requires names { V.names vaults.old ≡ seat.old.shape.names }
+    requires tally { (arena < length (V.names vaults.old)) × (slice_get (V.names vaults.old) arena ≡ Some tally.old.id) }
+    requires size { (0 < n) × (n % UNIT ≡ 0) × (n ≤ V.extent vaults.old) × (n ≤ MAX_BYTES) }
+    ensures same { (V.names vaults.new ≡ V.names vaults.old) × (V.extent vaults.new ≡ V.extent vaults.old) }
+    ensures arena { IfOk result (λ r. r / 256 ≡ arena) }
+    ensures block { IfOk result (λ r. (l : LotOf Body) × (Among (keys seat.old.lots) r → ⊥) × HasNow seat.old (seat.old.lots ++ (r, l) ∷ []) seat.new × IsBlock seat.old.shape r l × (l.len ≡ n) × (content_of l.body ≡ bytes (replicate n 0))) }
+    ensures tally { OnOk result (tally.new ≡ record tally.old { taken = tally.old.taken + n }) }
+    ensures refused { OnErr result (HasNow seat.old seat.old.lots seat.new × (tally.new ≡ tally.old)) }
+    ensures why { IfErr result (IsNoBlock V.changes vaults.old vaults.new arena n) }
+{
+    let Ok(r) = records.claim(seat, arena) else {
+        return Err(Reason::NoRecord);
+    };
+    gate.between(place_of(seat), Point::Claimed);
+    let Some(buffer) = zeros(alloc, n) else {
+        records.vacate(seat, r);
+        return Err(Reason::OutOfMemory);
+    };
+    let mut body = Body::Data(buffer);
+    let filled = fill_lot(records, seat, r, vaults, tally, n, &mut body);
+    let Err(refused) = filled else {
+        return Ok(r);
+    };
+    records.vacate(seat, r);
+    Err(reason(refused))
+}
+
+// Gives a block's bytes back, and makes its record free.
+pub(crate) fn give_up<V: Vaults, G: Gate>(
+    records: &Records<Body>,
+    seat: &mut Seat<Body>,
+    r: u16,
+    vaults: &mut V,
+    tally: &mut Tally,
+    gate: &G,
+)
+    requires own { IsSeatOf records.now seat.old × IsRecord records.now.shape r }
+    requires held { (l : LotOf Body) × (value_at r seat.old.lots ≡ Some l) × (0 < l.len) × IsLotOf seat.old.shape r l × (slice_get (V.names vaults.old) (r / 256) ≡ Some l.id) × (tally.old.id ≡ l.id) }
+    ensures same { (V.names vaults.new ≡ V.names vaults.old) × (V.extent vaults.new ≡ V.extent vaults.old) }
+    ensures seat { HasNow seat.old (without r seat.old.lots) seat.new }
+    ensures tally { (l : LotOf Body) → value_at r seat.old.lots ≡ Some l → tally.new ≡ record tally.old { back = tally.old.back + l.len } }
+{
+    empty_lot(records, seat, r, vaults, tally);
+    gate.between(place_of(seat), Point::Returned);
+    records.vacate(seat, r);
+}
+
+// The lot's length and kind.
+fn look(lot: &mut Lot<Body>, header: &mut Header)
+    requires { fits_in lot.old.body lot.old.len ≡ true }
+    ensures lot { lot.new ≡ lot.old }
+    ensures seen { header.new ≡ header_of (item_of lot.old) }
+{
+    header.len = lot.len();
+    header.kind = match lot.body() {
+        Body::Data(_) => Kind::Data,
+        Body::End(_) => Kind::End,
+        Body::Nothing => unreachable!(),
+    };
+}
+
+fn look_at(records: &Records<Body>, seat: &mut Seat<Body>, r: u16, header: &mut Header)
+    requires own { IsSeatOf records.now seat.old × IsRecord records.now.shape r }
+    requires held { (l : LotOf Body) × (value_at r seat.old.lots ≡ Some l) × IsLotOf seat.old.shape r l × (fits_in l.body l.len ≡ true) }
+    ensures { (l : LotOf Body) → value_at r seat.old.lots ≡ Some l → (header.new ≡ header_of (item_of l)) × (seat.new ≡ with_lots seat.old (put r l seat.old.lots)) }
+{
+    records.with_lot(seat, r, &mut |lot: &mut Lot<Body>| look(lot, header))
+}
+
+// Accepts a record, and looks at its lot. The error is the word that was seen.
+pub(crate) fn accept_block(
+    records: &Records<Body>,
+    seat: &mut Seat<Body>,
+    r: u16,
+    direction: u8,
+) -> Result<Header, u64>
+    requires own { IsSeatOf records.now seat.old × IsRecord records.now.shape r × (direction < 128) }
+    ensures here { IfOk result (λ s. (l : LotOf Body) × (Among (keys seat.old.lots) r → ⊥) × HasNow seat.old (seat.old.lots ++ (r, l) ∷ []) seat.new × IsBlock seat.old.shape r l × (s ≡ header_of (item_of l))) }
+    ensures missing { IfErr result (λ word. (word ≢ 2 + 4 * direction) × (seat.new ≡ seat.old)) }
+{
+    records.accept(seat, r, direction)?;
+    let mut header = Header {
+        len: 0,
+        kind: Kind::Data,
+    };
+    look_at(records, seat, r, &mut header);
+    Ok(header)
+}
+
+// The tail's lot gets the bytes past the first `k`, and its body the other.
+fn part<V: Vaults>(
+    vaults: &mut V,
+    arena: u8,
+    head: &mut Lot<Body>,
+    tail: &mut Lot<Body>,
+    k: u32,
+    body: &mut Body,
+)
+    requires ids { (slice_get (V.names vaults.old) arena ≡ Some head.old.id) × (tail.old.id ≡ head.old.id) }
+    requires empty { tail.old.len ≡ 0 }
+    requires good { IsGoodCut k head.old.len × (fits_in head.old.body head.old.len ≡ true) × (kind_of (content_of head.old.body) ≡ kind.Data) }
+    ensures same { (V.names vaults.new ≡ V.names vaults.old) × (V.extent vaults.new ≡ V.extent vaults.old) }
+    ensures head { head.new ≡ record head.old { len = k; body = head.new.body } }
+    ensures content { content_of head.new.body ≡ front k (content_of head.old.body) }
+    ensures tail { tail.new ≡ record tail.old { len = head.old.len - k; body = body.old } }
+{
+    vaults.cut(arena, head, tail, k);
+    mem::swap(tail.body_mut(), body);
+    let Body::Data(buffer) = head.body_mut() else {
+        unreachable!()
+    };
+    buffer.truncate(k as usize);
+}
+
+// The same of two records.
+pub(crate) fn part_lots<V: Vaults>(
+    records: &Records<Body>,
+    seat: &mut Seat<Body>,
+    r: u16,
+    t: u16,
+    vaults: &mut V,
+    k: u32,
+    body: &mut Body,
+)
+    requires own { IsSeatOf records.now seat.old × IsRecord records.now.shape r × IsRecord records.now.shape t × (r ≢ t) }
+    requires held { (l m : LotOf Body) × (value_at r seat.old.lots ≡ Some l) × (value_at t seat.old.lots ≡ Some m) × IsLotOf seat.old.shape r l × IsLotOf seat.old.shape t m × (slice_get (V.names vaults.old) (r / 256) ≡ Some l.id) × (m.id ≡ l.id) × (m.len ≡ 0) × IsGoodCut k l.len × (fits_in l.body l.len ≡ true) × (kind_of (content_of l.body) ≡ kind.Data) }
+    ensures same { (V.names vaults.new ≡ V.names vaults.old) × (V.extent vaults.new ≡ V.extent vaults.old) }
+    ensures parted { (l m : LotOf Body) → value_at r seat.old.lots ≡ Some l → value_at t seat.old.lots ≡ Some m → (h : LotOf Body) × (h ≡ record l { len = k; body = h.body }) × (content_of h.body ≡ front k (content_of l.body)) × (seat.new ≡ with_lots seat.old (put t (record m { len = l.len - k; body = body.old }) (put r h seat.old.lots))) }
+{
+    let arena = (r / 256) as u8;
+    records.with_two(
+        seat,
+        r,
+        t,
+        &mut |head: &mut Lot<Body>, tail: &mut Lot<Body>| {
+            part(vaults, arena, head, tail, k, body)
+        },
+    )
+}
+
+// Claims a record of the block's arena, and gives it the block's bytes past the first `k`, with a buffer
+// of their own.
+pub(crate) fn cut_block<V: Vaults, G: Gate>(
+    alloc: Global,
+    records: &Records<Body>,
+    seat: &mut Seat<Body>,
+    r: u16,
+    k: u32,
+    vaults: &mut V,
+    gate: &G,
+) -> Result<u16, Reason>
+    requires own { IsSeatOf records.now seat.old }
+    requires names { V.names vaults.old ≡ seat.old.shape.names }
+    requires held { (l : LotOf Body) × (value_at r seat.old.lots ≡ Some l) × IsBlock seat.old.shape r l × IsData l × IsGoodCut k l.len }
+    ensures same { (V.names vaults.new ≡ V.names vaults.old) × (V.extent vaults.new ≡ V.extent vaults.old) }
+    ensures cut { IfOk result (λ t. (l : LotOf Body) → value_at r seat.old.lots ≡ Some l → IsCut seat.old seat.new r k l t) }
+    ensures refused { OnErr result (HasNow seat.old seat.old.lots seat.new × (vaults.new ≡ vaults.old)) }
+    ensures why { IfErr result (λ e. (e ≡ Reason.NoRecord) ⊎ (e ≡ Reason.OutOfMemory)) }
+{
+    let Ok(t) = records.claim(seat, (r / 256) as u8) else {
+        return Err(Reason::NoRecord);
+    };
+    gate.between(place_of(seat), Point::Claimed);
+    let Some(buffer) = rest_of(alloc, records, seat, r, k as usize) else {
+        records.vacate(seat, t);
+        return Err(Reason::OutOfMemory);
+    };
+    let mut body = Body::Data(buffer);
+    part_lots(records, seat, r, t, vaults, k, &mut body);
+    Ok(t)
+}

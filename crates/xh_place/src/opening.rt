@@ -1,0 +1,201 @@
+// What opening does to the seat: two records get 32 bytes each, and the two ends of a channel.
+ghost use Rattle.std.specs.Prelude.{◌≡◌, ◌≢◌, ◌⊎◌, ℕ, ◌+◌, ◌*◌, ◌/◌, ◌%◌, ◌<◌, ◌≤◌, List, [], ◌∷◌, ◌++◌, length, Some, IfOk, IfErr, IfSome, OnOk, OnErr, MatchOption, slice_get, true};
+ghost use Rattle.xh_arena.specs.Views.{LotOf};
+ghost use Rattle.xh_channel.specs.Queues.{Posted};
+ghost use Rattle.xh_model.specs.Keyed.{Among, keys, put, value_at, without};
+ghost use Rattle.xh_records.specs.Showing.{IsEmpty, IsLotOf};
+ghost use Rattle.xh_records.specs.Seats.{Held, IsRecord, IsSeatOf, with_lots};
+ghost use Rattle.xh_model.specs.declared.limits.TheConstants.{END_BYTES};
+ghost use Rattle.xh_place.specs.declared.body.Body.{Body};
+ghost use Rattle.xh_place.specs.declared.body.Body.TheVariants.{End};
+ghost use Rattle.xh_place.specs.Ends.{IsLack, end_block};
+ghost use Rattle.xh_place.specs.Lots.{HasNow};
+ghost use Rattle.xh_place.specs.Opening.{AreClaimed, AreMade};
+ghost use Rattle.xh_place.specs.Places.{IsBlock, item_of};
+
+use crate::body::Body;
+use crate::gate::{Gate, Point};
+use crate::lots::{place_of, reason};
+use crate::vaults::Vaults;
+use std::mem;
+use xh_arena::{Lot, Refused, Tally};
+use xh_channel::Endpoint;
+use xh_core::Refused as Reason;
+use xh_model::limits::END_BYTES;
+use xh_records::{Records, Seat};
+
+/// Why an open was refused. It hands the ends back.
+#[derive(Drop)]
+pub struct Unopened {
+    pub why: Reason,
+    pub low: Endpoint,
+    pub high: Endpoint,
+}
+
+// The first lot gets 64 bytes, of which the second gets half; each gets a body.
+fn halve<V: Vaults>(
+    vaults: &mut V,
+    arena: u8,
+    low: &mut Lot<Body>,
+    high: &mut Lot<Body>,
+    tally: &mut Tally,
+    first: &mut Body,
+    second: &mut Body,
+) -> Result<u32, Refused>
+    requires ids { (slice_get (V.names vaults.old) arena ≡ Some low.old.id) × (high.old.id ≡ low.old.id) × (tally.old.id ≡ low.old.id) }
+    requires empty { (low.old.len ≡ 0) × (high.old.len ≡ 0) }
+    requires size { 2 * END_BYTES ≤ V.extent vaults.old }
+    ensures same { (V.names vaults.new ≡ V.names vaults.old) × (V.extent vaults.new ≡ V.extent vaults.old) }
+    ensures low { OnOk result (low.new ≡ record low.old { len = END_BYTES; body = first.old }) }
+    ensures high { OnOk result (high.new ≡ record high.old { len = END_BYTES; body = second.old }) }
+    ensures tally { OnOk result (tally.new ≡ record tally.old { taken = tally.old.taken + 2 * END_BYTES }) }
+    ensures refused { OnErr result ((low.new ≡ low.old) × (high.new ≡ high.old) × (tally.new ≡ tally.old) × (first.new ≡ first.old) × (second.new ≡ second.old)) }
+    ensures reason { IfErr result (λ e. (e ≡ Refused.NoSpace) ⊎ (e ≡ Refused.Worn)) }
+{
+    let start = vaults.carve(arena, low, tally, 2 * END_BYTES)?;
+    vaults.cut(arena, low, high, END_BYTES);
+    mem::swap(low.body_mut(), first);
+    mem::swap(high.body_mut(), second);
+    Ok(start)
+}
+
+// The same of two records.
+fn halve_lots<V: Vaults>(
+    records: &Records<Body>,
+    seat: &mut Seat<Body>,
+    r: u16,
+    t: u16,
+    vaults: &mut V,
+    tally: &mut Tally,
+    first: &mut Body,
+    second: &mut Body,
+) -> Result<u32, Refused>
+    requires own { IsSeatOf records.now seat.old × IsRecord records.now.shape r × IsRecord records.now.shape t × (r ≢ t) }
+    requires held { (l m : LotOf Body) × (value_at r seat.old.lots ≡ Some l) × (value_at t seat.old.lots ≡ Some m) × IsLotOf seat.old.shape r l × IsLotOf seat.old.shape t m × (slice_get (V.names vaults.old) (r / 256) ≡ Some l.id) × (m.id ≡ l.id) × (tally.old.id ≡ l.id) × (l.len ≡ 0) × (m.len ≡ 0) }
+    requires size { 2 * END_BYTES ≤ V.extent vaults.old }
+    ensures same { (V.names vaults.new ≡ V.names vaults.old) × (V.extent vaults.new ≡ V.extent vaults.old) }
+    ensures halved { OnOk result ((l m : LotOf Body) → value_at r seat.old.lots ≡ Some l → value_at t seat.old.lots ≡ Some m → seat.new ≡ with_lots seat.old (put t (record m { len = END_BYTES; body = second.old }) (put r (record l { len = END_BYTES; body = first.old }) seat.old.lots))) }
+    ensures tally { OnOk result (tally.new ≡ record tally.old { taken = tally.old.taken + 2 * END_BYTES }) }
+    ensures refused { OnErr result ((l m : LotOf Body) → value_at r seat.old.lots ≡ Some l → value_at t seat.old.lots ≡ Some m → (seat.new ≡ with_lots seat.old (put t m (put r l seat.old.lots))) × (tally.new ≡ tally.old) × (first.new ≡ first.old) × (second.new ≡ second.old)) }
+    ensures reason { IfErr result (λ e. (e ≡ Refused.NoSpace) ⊎ (e ≡ Refused.Worn)) }
+{
+    let arena = (r / 256) as u8;
+    records.with_two(
+        seat,
+        r,
+        t,
+        &mut |low: &mut Lot<Body>, high: &mut Lot<Body>| {
+            halve(vaults, arena, low, high, tally, first, second)
+        },
+    )
+}
+
+// Claims two records of the arena.
+fn claim_two<G: Gate>(
+    records: &Records<Body>,
+    seat: &mut Seat<Body>,
+    arena: u8,
+    gate: &G,
+) -> Option<(u16, u16)>
+    requires own { IsSeatOf records.now seat.old }
+    requires arena { arena < length seat.old.shape.names }
+    ensures { MatchOption result (HasNow seat.old seat.old.lots seat.new) (λ r. (l m : LotOf Body) × AreClaimed arena seat.old seat.new r.0 r.1 l m) }
+{
+    let Ok(r) = records.claim(seat, arena) else {
+        return None;
+    };
+    gate.between(place_of(seat), Point::Claimed);
+    let Ok(t) = records.claim(seat, arena) else {
+        records.vacate(seat, r);
+        return None;
+    };
+    gate.between(place_of(seat), Point::Claimed);
+    Some((r, t))
+}
+
+// Two records that were claimed are free again.
+fn vacate_two(records: &Records<Body>, seat: &mut Seat<Body>, r: u16, t: u16)
+    requires own { IsSeatOf records.now seat.old × IsRecord records.now.shape r × IsRecord records.now.shape t × (t ≢ r) }
+    requires held { (l m : LotOf Body) × (value_at r seat.old.lots ≡ Some l) × (value_at t seat.old.lots ≡ Some m) × IsEmpty l × IsEmpty m }
+    ensures { HasNow seat.old (without r (without t seat.old.lots)) seat.new }
+{
+    records.vacate(seat, t);
+    records.vacate(seat, r);
+}
+
+// The endpoint that a body is.
+fn end_in(body: Body) -> Endpoint
+    requires { (p : Posted) × (body ≡ End p) }
+    ensures { body ≡ End result }
+{
+    match body {
+        Body::End(end) => end,
+        Body::Nothing => unreachable!(),
+        Body::Data(_bytes) => unreachable!(),
+    }
+}
+
+// Two records that were claimed get 32 bytes and an end each.
+fn fit_ends<V: Vaults>(
+    records: &Records<Body>,
+    seat: &mut Seat<Body>,
+    r: u16,
+    t: u16,
+    low: Endpoint,
+    high: Endpoint,
+    vaults: &mut V,
+    tally: &mut Tally,
+) -> Result<(), Unopened>
+    requires own { IsSeatOf records.now seat.old × IsRecord records.now.shape r × IsRecord records.now.shape t × (r ≢ t) }
+    requires held { (l m : LotOf Body) × (value_at r seat.old.lots ≡ Some l) × (value_at t seat.old.lots ≡ Some m) × IsLotOf seat.old.shape r l × IsLotOf seat.old.shape t m × (slice_get (V.names vaults.old) (r / 256) ≡ Some l.id) × (m.id ≡ l.id) × (tally.old.id ≡ l.id) × (l.len ≡ 0) × (m.len ≡ 0) }
+    ensures same { (V.names vaults.new ≡ V.names vaults.old) × (V.extent vaults.new ≡ V.extent vaults.old) }
+    ensures fitted { OnOk result ((l m : LotOf Body) → value_at r seat.old.lots ≡ Some l → value_at t seat.old.lots ≡ Some m → seat.new ≡ with_lots seat.old (put t (record m { len = END_BYTES; body = End high }) (put r (record l { len = END_BYTES; body = End low }) seat.old.lots))) }
+    ensures tally { OnOk result (tally.new ≡ record tally.old { taken = tally.old.taken + 2 * END_BYTES }) }
+    ensures refused { IfErr result (λ u. (seat.new ≡ seat.old) × (tally.new ≡ tally.old) × (u.low ≡ low) × (u.high ≡ high) × IsLack u.why) }
+{
+    if vaults.size() < 2 * END_BYTES {
+        let why = Reason::NoSpace;
+        return Err(Unopened { why, low, high });
+    }
+    let mut first = Body::End(low);
+    let mut second = Body::End(high);
+    let halved = halve_lots(records, seat, r, t, vaults, tally, &mut first, &mut second);
+    let Err(refused) = halved else {
+        return Ok(());
+    };
+    let low = end_in(first);
+    let high = end_in(second);
+    let why = reason(refused);
+    Err(Unopened { why, low, high })
+}
+
+// Claims two records of the arena, and gives each half of 64 bytes and an end.
+pub(crate) fn make_ends<V: Vaults, G: Gate>(
+    records: &Records<Body>,
+    seat: &mut Seat<Body>,
+    low: Endpoint,
+    high: Endpoint,
+    arena: u8,
+    vaults: &mut V,
+    tally: &mut Tally,
+    gate: &G,
+) -> Result<(u16, u16), Unopened>
+    requires own { IsSeatOf records.now seat.old }
+    requires names { V.names vaults.old ≡ seat.old.shape.names }
+    requires tally { (arena < length (V.names vaults.old)) × (slice_get (V.names vaults.old) arena ≡ Some tally.old.id) }
+    ensures same { (V.names vaults.new ≡ V.names vaults.old) × (V.extent vaults.new ≡ V.extent vaults.old) }
+    ensures made { IfOk result (λ r. (l m : LotOf Body) × AreMade arena seat.old seat.new r.0 r.1 l m × (item_of l ≡ end_block low) × (item_of m ≡ end_block high)) }
+    ensures tally { OnOk result (tally.new ≡ record tally.old { taken = tally.old.taken + 2 * END_BYTES }) }
+    ensures refused { IfErr result (λ u. HasNow seat.old seat.old.lots seat.new × (tally.new ≡ tally.old) × (u.low ≡ low) × (u.high ≡ high) × IsLack u.why) }
+{
+    let Some((r, t)) = claim_two(records, seat, arena, gate) else {
+        let why = Reason::NoRecord;
+        return Err(Unopened { why, low, high });
+    };
+    let fitted = fit_ends(records, seat, r, t, low, high, vaults, tally);
+    let Err(unopened) = fitted else {
+        return Ok((r, t));
+    };
+    vacate_two(records, seat, r, t);
+    Err(unopened)
+}

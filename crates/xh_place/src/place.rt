@@ -1,0 +1,175 @@
+//! A process's place.
+ghost use Rattle.std.specs.Prelude.{◌≡◌, ◌⊎◌, ◌*◌, ◌<◌, ◌≤◌, [], length, IfOk, IfErr, true};
+ghost use Rattle.xh_core.specs.declared.status.Status.TheVariants as status;
+ghost use Rattle.xh_model.specs.declared.limits.TheConstants.{MAX_ARENAS};
+ghost use Rattle.xh_model.specs.Keyed.{value_at};
+ghost use Rattle.xh_model.specs.Words.{generation_of};
+ghost use Rattle.xh_place.specs.Places.{AreBlocks, IsPlaceOf, Lists, headers, line, line_in, started, state_of, total_of};
+ghost use Rattle.xh_place.specs.Refusals.{is_running, is_over, entry_of};
+
+mod blocks;
+mod ending;
+mod ends;
+mod messages;
+
+use crate::body::{Body, Header};
+use crate::list::entry;
+use std::alloc::Global;
+use std::marker::Model;
+use xh_core::{PlaceLine, Refused, State, Status};
+use xh_records::{Records, Seat};
+
+/// A place: the seat that holds the lots of its blocks, their list in the order gained, their total
+/// and how far its process has come.
+#[derive(Drop)]
+pub struct Place {
+    seat: Seat<Body>,
+    list: Vec<(u16, Header)>,
+    total: u64,
+    state: Status,
+}
+
+impl Model for Place {
+    ghost use Rattle.std.specs.Prelude.{vec_capacity};
+    ghost use Rattle.xh_place.specs.Places.{PlaceOf, IsPlace, shown};
+
+    ghost Value = { PlaceOf };
+
+    ghost view = { λ p. record { table = p.seat.table; shape = p.seat.shape; process = p.seat.process; blocks = shown p.seat.lots p.list.items; state = p.state } };
+
+    ghost invariant = { λ p. IsPlace p.seat p.list.items (vec_capacity p.list) p.total p.state };
+}
+
+fn is_running(state: Status) -> bool
+    ensures { result ≡ is_running state }
+{
+    matches!(state, Status::Running)
+}
+
+fn is_over(state: Status) -> bool
+    ensures { result ≡ is_over state }
+{
+    matches!(state, Status::Vacant | Status::Ended)
+}
+
+// The state, as the ledger has it.
+fn state_of(state: Status) -> State
+    ensures { result ≡ state_of state }
+{
+    match state {
+        Status::Vacant | Status::Running => State::Running,
+        Status::Ending => State::Ending,
+        Status::Ended => State::Ended,
+    }
+}
+
+impl Place {
+    /// A place that nobody has yet, on a seat that holds nothing. `room` is the number of records of all
+    /// arenas, of which there are at most 8. OutOfMemory where a growth was refused.
+    pub fn new(alloc: Global, seat: Seat<Body>, room: u16) -> Result<Place, Refused>
+        requires empty { seat.lots ≡ [] }
+        requires room { room ≡ length seat.shape.names * seat.shape.records }
+        requires arenas { length seat.shape.names ≤ MAX_ARENAS }
+        ensures place { IfOk result (λ p. p ≡ record { table = seat.table; shape = seat.shape; process = seat.process; blocks = []; state = status.Vacant }) }
+        ensures refused { IfErr result (λ e. e ≡ Refused.OutOfMemory) }
+    {
+        let list = Vec::with_capacity(alloc, usize::from(room))?;
+        Ok(Place {
+            seat,
+            list,
+            total: 0,
+            state: Status::Vacant,
+        })
+    }
+
+    /// The place is a process's from now on: its first one, or the next, of which there are at most 128.
+    pub fn start(&mut self, records: &Records<Body>)
+        requires own { IsPlaceOf records.now self.old }
+        requires free { (self.old.state ≡ status.Vacant) ⊎ ((self.old.state ≡ status.Ended) × (generation_of self.old.process < 127)) }
+        ensures { self.new ≡ started self.old }
+    {
+        if let Status::Ended = self.state {
+            records.renew(&mut self.seat);
+        }
+        self.state = Status::Running;
+    }
+
+    /// Its blocks, each by its record, with its length and kind, in the order gained.
+    pub fn blocks(&self) -> &[(u16, Header)]
+        ensures list { result.now ≡ headers self.now.blocks }
+        ensures blocks { AreBlocks self.now.blocks }
+        ensures none { is_over self.now.state ≡ true → self.now.blocks ≡ [] }
+    {
+        self.list.as_slice()
+    }
+
+    /// How many bytes its blocks have.
+    pub fn total(&self) -> u64
+        ensures total { result ≡ total_of self.now.blocks }
+        ensures blocks { AreBlocks self.now.blocks }
+    {
+        self.total
+    }
+
+    /// The number of its latest process: the place, and 32 times the generation.
+    pub fn process(&self) -> u16
+        ensures { result ≡ self.now.process }
+    {
+        self.seat.process()
+    }
+
+    /// How far its process has come.
+    pub fn state(&self) -> Status
+        ensures { result ≡ self.now.state }
+    {
+        self.state
+    }
+
+    // A block's length and kind.
+    fn header(&self, r: u16) -> Option<Header>
+        ensures { result ≡ entry_of (value_at r self.now.blocks) }
+    {
+        entry(self.list.as_slice(), r)
+    }
+
+    fn count(&self) -> usize
+        ensures { result ≡ length self.now.blocks }
+    {
+        self.list.len()
+    }
+
+    /// Gives the seat, which holds the blocks of the list and no others, and what the ledger says of the
+    /// place, unless nobody has had it.
+    pub fn end(self) -> (Seat<Body>, Option<PlaceLine>)
+        ensures same { (result.0.table ≡ self.table) × (result.0.shape ≡ self.shape) × (result.0.process ≡ self.process) }
+        ensures lists { Lists result.0 self.blocks }
+        ensures nothing { is_over self.state ≡ true → result.0.lots ≡ [] }
+        ensures line { result.1 ≡ line_in self.state (line self) }
+    {
+        let line = self.line();
+        let Place {
+            seat,
+            list: _,
+            total: _,
+            state,
+        } = self;
+        match state {
+            Status::Vacant => (seat, None),
+            _ => (seat, Some(line)),
+        }
+    }
+
+    // What the ledger says of it.
+    fn line(&self) -> PlaceLine
+        ensures { result ≡ line self.now }
+    {
+        let process = self.seat.process();
+        PlaceLine {
+            place: (process % 32) as u8,
+            process,
+            state: state_of(self.state),
+            blocks: self.list.len() as u32,
+            bytes: self.total,
+        }
+    }
+}

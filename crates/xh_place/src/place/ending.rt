@@ -1,0 +1,263 @@
+//! How a place is reclaimed.
+ghost use Rattle.std.specs.Prelude.{◌≡◌, ◌≢◌, ℕ, ◌+◌, ◌-◌, ◌*◌, ◌<◌, ◌≤◌, ◌⊎◌, List, [], ◌∷◌, ◌++◌, length, take, drop, Some, true};
+ghost use Rattle.xh_core.specs.declared.status.Status.TheVariants as status;
+ghost use Rattle.xh_model.specs.Keyed.{Distinct, keys};
+ghost use Rattle.xh_records.specs.Seats.{IsRecord};
+ghost use Rattle.xh_place.specs.Bodies.{kind_of};
+ghost use Rattle.xh_place.specs.Ending.{HasGivenBack, IsStopped, IsSwept, IsSweptBy, ending, reclaimed, stop_tests};
+ghost use Rattle.xh_place.specs.Ends.{RefusedOr, IsTooLate, IsSweptLate, awake, ending_again};
+ghost use Rattle.xh_place.specs.Places.{Item, IsPlaceOf, total_of, with_blocks};
+ghost use Rattle.xh_place.specs.Refusals.{is_over};
+ghost use Rattle.xh_place.specs.Tallies.{ids_of};
+
+use crate::body::{Body, Kind};
+use crate::gate::Gate;
+use crate::place::{Place, is_over};
+use crate::reclaiming::{cut_out, give_up_all, run};
+use crate::vaults::Vaults;
+use std::sync::Wait;
+use xh_arena::Tally;
+use xh_channel::Channels;
+use xh_core::{Refused, Status};
+use xh_model::limits::MAX_BUDGET;
+use xh_records::Records;
+
+// The bytes, or how many blocks are left.
+pub(super) fn reclaimed(bytes: u64, left: u16) -> Result<u64, Refused>
+    ensures { result ≡ reclaimed bytes left }
+{
+    if left == 0 {
+        return Ok(bytes);
+    }
+    Err(Refused::Unfinished {
+        left: u32::from(left),
+    })
+}
+
+fn ending(left: u16) -> Status
+    ensures { result ≡ ending left }
+{
+    if left == 0 {
+        return Status::Ended;
+    }
+    Status::Ending
+}
+
+// What a place goes back to that was in this state before an endpoint came.
+fn ending_again(state: Status, left: u16) -> Status
+    ensures { result ≡ ending_again state left }
+{
+    if state == Status::Ended {
+        return ending(left);
+    }
+    state
+}
+
+impl Place {
+    // The block at a place of the list: its record and its kind.
+    fn at(&self, k: usize) -> (u16, Kind)
+        requires { k < length self.now.blocks }
+        ensures block { (x : Item) × (more : List (ℕ × Item)) × (drop k self.now.blocks ≡ (result.0, x) ∷ more) × (result.1 ≡ kind_of x.content) }
+        ensures distinct { Distinct (keys self.now.blocks) }
+    {
+        let (r, header) = self.list[k];
+        (r, header.kind)
+    }
+
+    // How many blocks the list has from a place on. A place that is over has none.
+    pub(super) fn left(&self, from: usize) -> u16
+        ensures left { result ≡ length self.now.blocks - from }
+        ensures quiet { is_over self.now.state ≡ true → self.now.blocks ≡ [] }
+    {
+        self.list.len().saturating_sub(from) as u16
+    }
+
+    // The place is in another state. One that is over has no block.
+    fn set_state(&mut self, state: Status)
+        requires { is_over state ≡ true → self.old.blocks ≡ [] }
+        ensures { self.new ≡ record self.old { state = state } }
+    {
+        self.state = state;
+    }
+
+    // The block at `from` of the list is given up, and the data blocks after it, at most so many. It answers the bytes and how many they were.
+    fn give_up_run<V: Vaults, G: Gate>(
+        &mut self,
+        records: &Records<Body>,
+        from: usize,
+        most: u16,
+        vaults: &mut V,
+        tallies: &mut [Tally],
+        gate: &G,
+    ) -> (u64, u16)
+        requires own { IsPlaceOf records.now self.old }
+        requires names { (V.names vaults.old ≡ self.old.shape.names) × (ids_of tallies.old ≡ self.old.shape.names) }
+        requires alive { is_over self.old.state ≢ true }
+        requires some { (from < length self.old.blocks) × (0 < most) }
+        ensures same { (V.names vaults.new ≡ V.names vaults.old) × (V.extent vaults.new ≡ V.extent vaults.old) × (ids_of tallies.new ≡ ids_of tallies.old) }
+        ensures count { (0 < result.1) × (result.1 ≤ most) × (from + result.1 ≤ length self.old.blocks) }
+        ensures list { self.new ≡ with_blocks self.old (take from self.old.blocks ++ drop (from + result.1) self.old.blocks) }
+        ensures bytes { (result.0 + total_of self.new.blocks ≡ total_of self.old.blocks) × (result.0 ≤ result.1 * 4294967295) }
+        ensures back { HasGivenBack result.0 tallies.old tallies.new }
+    {
+        let list = self.list.as_slice();
+        let count = run(list, from, most);
+        let end = from + usize::from(count);
+        let blocks = &list[from..end];
+        let bytes = give_up_all(records, &mut self.seat, blocks, vaults, tallies, gate);
+        cut_out(&mut self.list, from, end);
+        self.total -= bytes;
+        (bytes, count)
+    }
+
+    // The block at `from` of the list goes, and the data blocks after it, at most so many. What waits for it, where it is an endpoint, comes to the end of the list. It answers the bytes and how many blocks went.
+    fn reclaim<R: Wait, V: Vaults, G: Gate>(
+        &mut self,
+        rt: &R,
+        records: &Records<Body>,
+        channels: &Channels,
+        from: usize,
+        most: u16,
+        vaults: &mut V,
+        tallies: &mut [Tally],
+        gate: &G,
+    ) -> (u64, u16)
+        requires own { IsPlaceOf records.now self.old }
+        requires names { (V.names vaults.old ≡ self.old.shape.names) × (ids_of tallies.old ≡ self.old.shape.names) }
+        requires alive { is_over self.old.state ≢ true }
+        requires some { (from < length self.old.blocks) × (0 < most) }
+        ensures same { (V.names vaults.new ≡ V.names vaults.old) × (V.extent vaults.new ≡ V.extent vaults.old) × (ids_of tallies.new ≡ ids_of tallies.old) }
+        ensures count { (0 < result.1) × (result.1 ≤ most) × (result.0 ≤ result.1 * 4294967295) }
+        ensures list { self.new ≡ with_blocks self.old self.new.blocks }
+        ensures swept { IsSweptBy from result.1 self.old.blocks self.new.blocks result.0 }
+        ensures back { HasGivenBack result.0 tallies.old tallies.new }
+    {
+        let (r, kind) = self.at(from);
+        self.drain_end(rt, records, channels, r, kind, gate);
+        self.give_up_run(records, from, most, vaults, tallies, gate)
+    }
+
+    /// The blocks of the list from `from` on go, as far as the budget goes; what waits for an endpoint
+    /// that goes comes to the end of the list, to go with them. It answers the bytes, and how many blocks
+    /// are left from there.
+    pub fn sweep<R: Wait, V: Vaults, G: Gate>(
+        &mut self,
+        rt: &R,
+        records: &Records<Body>,
+        channels: &Channels,
+        from: usize,
+        budget: u16,
+        vaults: &mut V,
+        tallies: &mut [Tally],
+        gate: &G,
+    ) -> (u64, usize)
+        requires own { IsPlaceOf records.now self.old }
+        requires names { (V.names vaults.old ≡ self.old.shape.names) × (ids_of tallies.old ≡ self.old.shape.names) }
+        ensures same { (V.names vaults.new ≡ V.names vaults.old) × (V.extent vaults.new ≡ V.extent vaults.old) × (ids_of tallies.new ≡ ids_of tallies.old) }
+        ensures list { self.new ≡ with_blocks self.old self.new.blocks }
+        ensures swept { IsSwept from budget self.old.blocks self.new.blocks result.0 result.1 }
+        ensures back { HasGivenBack result.0 tallies.old tallies.new }
+    {
+        let mut bytes = 0;
+        let mut used = 0;
+        while used < budget && self.left(from) > 0 {
+            let most = budget - used;
+            let (more, count) = self.reclaim(
+                rt, records, channels, from, most, vaults, tallies, gate,
+            );
+            bytes += more;
+            used += count;
+        }
+        (bytes, usize::from(self.left(from)))
+    }
+
+    /// The process ends, or goes on ending: its blocks go, as far as the budget goes, with what was on its way to its endpoints. It answers the bytes reclaimed.
+    /// Ended where the place is Vacant or Ended; Unfinished with the blocks left, and then the process is ending.
+    pub fn stop<R: Wait, V: Vaults, G: Gate>(
+        &mut self,
+        rt: &R,
+        records: &Records<Body>,
+        channels: &Channels,
+        budget: u16,
+        vaults: &mut V,
+        tallies: &mut [Tally],
+        gate: &G,
+    ) -> Result<u64, Refused>
+        requires own { IsPlaceOf records.now self.old }
+        requires names { (V.names vaults.old ≡ self.old.shape.names) × (ids_of tallies.old ≡ self.old.shape.names) }
+        ensures same { (V.names vaults.new ≡ V.names vaults.old) × (V.extent vaults.new ≡ V.extent vaults.old) × (ids_of tallies.new ≡ ids_of tallies.old) }
+        ensures stopped { RefusedOr (stop_tests self.old.state) result ((self.new ≡ self.old) × (tallies.new ≡ tallies.old))
+            ((bytes : ℕ) × IsStopped budget self.old self.new bytes result × HasGivenBack bytes tallies.old tallies.new) }
+    {
+        if is_over(self.state()) {
+            return Err(Refused::Ended);
+        }
+        self.set_state(Status::Ending);
+        let (bytes, _left) = self.sweep(rt, records, channels, 0, budget, vaults, tallies, gate);
+        let left = self.left(0);
+        self.set_state(ending(left));
+        reclaimed(bytes, left)
+    }
+
+    // An endpoint comes that nobody is here for: it is swept at once.
+    pub(super) fn turn_away<R: Wait, V: Vaults, G: Gate>(
+        &mut self,
+        rt: &R,
+        records: &Records<Body>,
+        channels: &Channels,
+        r: u16,
+        direction: u8,
+        vaults: &mut V,
+        tallies: &mut [Tally],
+        gate: &G,
+    )
+        requires own { IsPlaceOf records.now self.old × IsRecord records.now.shape r × (direction < 128) }
+        requires names { (V.names vaults.old ≡ self.old.shape.names) × (ids_of tallies.old ≡ self.old.shape.names) }
+        requires taken { self.old.state ≢ status.Vacant }
+        ensures same { (V.names vaults.new ≡ V.names vaults.old) × (V.extent vaults.new ≡ V.extent vaults.old) × (ids_of tallies.new ≡ ids_of tallies.old) }
+        ensures swept { ((self.new ≡ self.old) × (tallies.new ≡ tallies.old)) ⊎ ((bytes : ℕ) × IsTooLate r self.old self.new bytes × HasGivenBack bytes tallies.old tallies.new) }
+    {
+        let state = self.state();
+        self.wake();
+        self.sweep_late(rt, records, channels, r, direction, vaults, tallies, gate);
+        self.set_state(ending_again(state, self.left(0)));
+    }
+
+    // A process that had ended is ending again.
+    fn wake(&mut self)
+        requires { self.old.state ≢ status.Vacant }
+        ensures woken { self.new ≡ record self.old { state = awake self.old.state } }
+        ensures quiet { self.old.state ≡ status.Ended → self.old.blocks ≡ [] }
+    {
+        if self.state == Status::Ended {
+            self.state = Status::Ending;
+        }
+    }
+
+    // Takes an endpoint, and sweeps it at once.
+    fn sweep_late<R: Wait, V: Vaults, G: Gate>(
+        &mut self,
+        rt: &R,
+        records: &Records<Body>,
+        channels: &Channels,
+        r: u16,
+        direction: u8,
+        vaults: &mut V,
+        tallies: &mut [Tally],
+        gate: &G,
+    )
+        requires own { IsPlaceOf records.now self.old × IsRecord records.now.shape r × (direction < 128) }
+        requires names { (V.names vaults.old ≡ self.old.shape.names) × (ids_of tallies.old ≡ self.old.shape.names) }
+        requires alive { is_over self.old.state ≢ true }
+        ensures same { (V.names vaults.new ≡ V.names vaults.old) × (V.extent vaults.new ≡ V.extent vaults.old) × (ids_of tallies.new ≡ ids_of tallies.old) }
+        ensures swept { ((self.new ≡ self.old) × (tallies.new ≡ tallies.old)) ⊎ ((bytes : ℕ) × IsSweptLate r self.old self.new bytes × HasGivenBack bytes tallies.old tallies.new) }
+    {
+        let from = self.count();
+        let Ok(_block) = self.accept(records, r, direction) else {
+            return;
+        };
+        let _swept = self.sweep(
+            rt, records, channels, from, MAX_BUDGET, vaults, tallies, gate,
+        );
+    }
+}

@@ -1,0 +1,242 @@
+//! Messages that a place gives and takes.
+ghost use Rattle.std.specs.Prelude.{◌≡◌, ◌≢◌, ℕ, ◌+◌, ◌*◌, ◌<◌, List, [], ◌∷◌, ◌++◌, Some, IfOk, IfErr, MatchResult, true};
+ghost use Rattle.std.specs.List.{list_all};
+ghost use Rattle.xh_core.specs.declared.status.Status.TheVariants as status;
+ghost use Rattle.xh_channel.specs.Refusals.{same_refusal};
+ghost use Rattle.xh_core.specs.MessageCommands.{has_twice};
+ghost use Rattle.xh_core.specs.Refusing.{Tested};
+ghost use Rattle.xh_model.specs.Keyed.{Among, Distinct, keys, value_at};
+ghost use Rattle.xh_records.specs.Seats.{IsRecord};
+ghost use Rattle.xh_place.specs.declared.body.Kind.TheVariants as kind;
+ghost use Rattle.xh_place.specs.Bodies.{kind_of};
+ghost use Rattle.xh_place.specs.Ends.{RefusedOr, end_tests, toward_in};
+ghost use Rattle.xh_place.specs.Messages.{give_tests, given_tests, is_listed, IsSent, IsTaken, IsUntaken};
+ghost use Rattle.xh_place.specs.Places.{Item, IsPlaceOf, with_blocks};
+ghost use Rattle.xh_place.specs.Refusals.{is_over};
+ghost use Rattle.xh_place.specs.Taking.{AreGot, IsGot};
+
+use crate::body::{Body, Header};
+use crate::gate::{Gate, Point};
+use crate::giving::{Given, answer, give_all};
+use crate::got::{Got, Taken};
+use crate::list::{settle, sum};
+use crate::lots::{accept_block, place_of, swap_body};
+use crate::place::Place;
+use arrayvec::ArrayVec;
+use std::sync::Wait;
+use xh_channel::{Channels, Message, Refused as Untaken};
+use xh_core::{Block, Refused};
+use xh_records::Records;
+
+// Whether a record stands twice among these.
+fn is_twice(blocks: &[u16]) -> bool
+    ensures { result ≡ has_twice blocks.now }
+{
+    match blocks {
+        [] => false,
+        [first, rest @ ..] => rest.contains(first) || is_twice(rest),
+    }
+}
+
+impl Place {
+    /// Gives blocks of the list, by the endpoint `e`, in a message with a tag. It answers the message's number.
+    /// Ended, NotOwned and NotEndpoint are of the endpoint; then TooMany of more than 8 blocks, NotOwned of a block, Twice. Protocol, PeerClosed and Full name the blocks that came back.
+    pub fn give<R: Wait, G: Gate>(
+        &mut self,
+        rt: &R,
+        records: &Records<Body>,
+        channels: &Channels,
+        e: u16,
+        tag: u16,
+        blocks: &[u16],
+        gate: &G,
+    ) -> Result<u64, Refused>
+        requires own { IsPlaceOf records.now self.old }
+        ensures { RefusedOr (give_tests self.old e blocks.now) result (self.new ≡ self.old) (IsSent blocks.now self.old self.new result) }
+    {
+        self.test_end(e)?;
+        let given = self.test_given(e, blocks)?;
+        self.send(rt, records, channels, e, tag, &given, gate)
+    }
+
+    // Whether each of the records is one of the list.
+    fn lists_all(&self, blocks: &[u16]) -> bool
+        ensures { result ≡ list_all (is_listed self.now.blocks) blocks.now }
+    {
+        for r in blocks {
+            if self.header(*r).is_none() {
+                return false;
+            }
+        }
+        true
+    }
+
+    // The tests of a give on its blocks.
+    fn test_given(&self, e: u16, blocks: &[u16]) -> Result<ArrayVec<u16, 8>, Refused>
+        ensures { Tested (given_tests self.now.blocks e blocks.now) result (λ given. given.items ≡ blocks.now) }
+    {
+        let mut given = ArrayVec::new();
+        let Ok(()) = given.try_extend_from_slice(blocks) else {
+            return Err(Refused::TooMany);
+        };
+        if !self.lists_all(blocks) {
+            return Err(Refused::NotOwned);
+        }
+        if blocks.contains(&e) || is_twice(blocks) {
+            return Err(Refused::Twice);
+        }
+        Ok(given)
+    }
+
+    // Passes the blocks of a give, puts the message, and settles the list with what came back.
+    fn send<R: Wait, G: Gate>(
+        &mut self,
+        rt: &R,
+        records: &Records<Body>,
+        channels: &Channels,
+        e: u16,
+        tag: u16,
+        given: &ArrayVec<u16, 8>,
+        gate: &G,
+    ) -> Result<u64, Refused>
+        requires own { IsPlaceOf records.now self.old }
+        requires running { self.old.state ≡ status.Running }
+        requires end { (x : Item) × (value_at e self.old.blocks ≡ Some x) × (kind_of x.content ≡ kind.End) }
+        requires given { Distinct given.now.items × (Among given.now.items e → ⊥) }
+        requires listed { (r : ℕ) → Among given.now.items r → (x : Item) × (value_at r self.old.blocks ≡ Some x) }
+        ensures { IsSent given.now.items self.old self.new result }
+    {
+        let Given { put, back } = give_all(
+            rt,
+            records,
+            &mut self.seat,
+            channels,
+            e,
+            tag,
+            given,
+            gate,
+        );
+        settle(&mut self.list, given.as_slice(), back.as_slice());
+        self.total = sum(self.list.as_slice());
+        answer(put, &back)
+    }
+
+    /// Takes the message at the front of the direction toward the endpoint `e`. Its blocks come to the end of the list.
+    /// Ended, NotOwned, NotEndpoint; then PeerClosed or Empty where no message waits.
+    pub fn take<R: Wait, G: Gate>(
+        &mut self,
+        rt: &R,
+        records: &Records<Body>,
+        channels: &Channels,
+        e: u16,
+        gate: &G,
+    ) -> Result<Taken, Refused>
+        requires own { IsPlaceOf records.now self.old }
+        ensures { RefusedOr (end_tests self.old.state (value_at e self.old.blocks)) result (self.new ≡ self.old)
+            (MatchResult result (IsTaken (toward_in (value_at e self.old.blocks)) self.old self.new) (λ refused. IsUntaken refused × (self.new ≡ self.old))) }
+    {
+        self.test_end(e)?;
+        self.take_message(rt, records, channels, e, gate)
+    }
+
+    // Takes the message at the front for an endpoint of the list, and its blocks.
+    pub(super) fn take_message<R: Wait, G: Gate>(
+        &mut self,
+        rt: &R,
+        records: &Records<Body>,
+        channels: &Channels,
+        e: u16,
+        gate: &G,
+    ) -> Result<Taken, Refused>
+        requires own { IsPlaceOf records.now self.old }
+        requires alive { is_over self.old.state ≢ true }
+        requires end { (x : Item) × (value_at e self.old.blocks ≡ Some x) × (kind_of x.content ≡ kind.End) }
+        ensures { MatchResult result (IsTaken (toward_in (value_at e self.old.blocks)) self.old self.new) (λ refused. IsUntaken refused × (self.new ≡ self.old)) }
+    {
+        let (taken, direction) = self.pop(rt, records, channels, e);
+        let message = taken?;
+        gate.between(place_of(&self.seat), Point::Popped);
+        let blocks = self.take_all(records, &message, direction);
+        let Message { no, tag, .. } = message;
+        Ok(Taken { no, tag, blocks })
+    }
+
+    // Takes the message at the front for an endpoint of the list. With the answer goes the direction.
+    fn pop<R: Wait>(
+        &mut self,
+        rt: &R,
+        records: &Records<Body>,
+        channels: &Channels,
+        e: u16,
+    ) -> (Result<Message, Untaken>, u8)
+        requires own { IsPlaceOf records.now self.old }
+        requires end { (x : Item) × (value_at e self.old.blocks ≡ Some x) × (kind_of x.content ≡ kind.End) }
+        ensures same { self.new ≡ self.old }
+        ensures direction { (result.1 ≡ toward_in (value_at e self.old.blocks)) × (result.1 < 128) }
+        ensures none { IfErr result.0 (λ refused. IsUntaken (same_refusal refused)) }
+    {
+        let mut body = Body::Nothing;
+        swap_body(records, &mut self.seat, e, &mut body);
+        let Body::End(end) = &mut body else {
+            unreachable!()
+        };
+        let spot = end.spot();
+        let taken = channels.take(rt, end);
+        swap_body(records, &mut self.seat, e, &mut body);
+        (taken, 2 * spot.channel + spot.side)
+    }
+
+    // Takes a block that is in flight on the direction, at the end of the list. The error is the word
+    // that was seen.
+    pub(super) fn accept(
+        &mut self,
+        records: &Records<Body>,
+        r: u16,
+        direction: u8,
+    ) -> Result<Block, u64>
+        requires own { IsPlaceOf records.now self.old × IsRecord records.now.shape r × (direction < 128) }
+        requires alive { is_over self.old.state ≢ true }
+        ensures here { IfOk result (λ b. (b.rec ≡ r) × ((x : Item) × (x.len ≡ b.len) × (self.new ≡ with_blocks self.old (self.old.blocks ++ (r, x) ∷ [])))) }
+        ensures missing { IfErr result (λ word. (word ≢ 2 + 4 * direction) × (self.new ≡ self.old)) }
+    {
+        let header = accept_block(records, &mut self.seat, r, direction)?;
+        let Header { len, .. } = header;
+        self.list.push_reserved((r, header));
+        self.total += u64::from(len);
+        Ok(Block { rec: r, len })
+    }
+
+    // Takes a block of a message, at the end of the list. A record that doesn't exist is free.
+    fn take_one(&mut self, records: &Records<Body>, r: u16, direction: u8) -> Got
+        requires own { IsPlaceOf records.now self.old × (direction < 128) }
+        requires alive { is_over self.old.state ≢ true }
+        ensures { (ys : List (ℕ × Item)) × (self.new ≡ with_blocks self.old (self.old.blocks ++ ys)) × IsGot direction ys result }
+    {
+        if !records.has(r) {
+            return Got::Missing { rec: r, word: 0 };
+        }
+        match self.accept(records, r, direction) {
+            Ok(block) => Got::Here(block),
+            Err(word) => Got::Missing { rec: r, word },
+        }
+    }
+
+    // Takes the blocks of a message, at the end of the list: what each answers, in their order.
+    fn take_all(
+        &mut self,
+        records: &Records<Body>,
+        message: &Message,
+        direction: u8,
+    ) -> ArrayVec<Got, 8>
+        requires own { IsPlaceOf records.now self.old × (direction < 128) }
+        requires alive { is_over self.old.state ≢ true }
+        ensures { (ys : List (ℕ × Item)) × (self.new ≡ with_blocks self.old (self.old.blocks ++ ys)) × AreGot direction ys result.items }
+    {
+        let mut got = ArrayVec::new();
+        for k in 0..message.blocks.len() {
+            let r = message.blocks[k];
+            got.push(self.take_one(records, r, direction));
+        }
+        got
+    }
+}

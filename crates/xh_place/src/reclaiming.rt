@@ -1,0 +1,93 @@
+// What reclaiming does to the seat and the list: blocks that stand one after another are given up together.
+ghost use Rattle.std.specs.Prelude.{◌≡◌, ◌≢◌, ℕ, ◌+◌, ◌*◌, ◌/◌, ◌<◌, ◌≤◌, List, ◌++◌, length, take, drop, Some, None, vec_capacity};
+ghost use Rattle.xh_arena.specs.Views.{LotOf};
+ghost use Rattle.xh_model.specs.Keyed.{Among, Distinct, keys, value_at, without};
+ghost use Rattle.xh_records.specs.Seats.{IsSeatOf};
+ghost use Rattle.xh_place.specs.declared.body.Body.{Body};
+ghost use Rattle.xh_place.specs.declared.body.Header.{Header};
+ghost use Rattle.xh_place.specs.Ending.{HasGivenBack};
+ghost use Rattle.xh_place.specs.Lots.{HasNow};
+ghost use Rattle.xh_place.specs.Places.{IsBlock, header_of, item_of, sum_of};
+ghost use Rattle.xh_place.specs.Tallies.{gave, ids_of};
+
+use crate::body::{Body, Header, Kind};
+use crate::gate::Gate;
+use crate::lots::give_up;
+use crate::vaults::Vaults;
+use xh_arena::Tally;
+use xh_records::{Records, Seat};
+
+// How many blocks are reclaimed together: the one at `from`, and the data blocks after it, at most so many.
+pub(crate) fn run(list: &[(u16, Header)], from: usize, most: u16) -> u16
+    requires { (from < length list.now) × (0 < most) }
+    ensures { (0 < result) × (result ≤ most) × (from + result ≤ length list.now) }
+{
+    let mut count = 1;
+    while count < most && from + usize::from(count) < list.len() {
+        let (_, header) = list[from + usize::from(count)];
+        if header.kind == Kind::End {
+            break;
+        }
+        count += 1;
+    }
+    count
+}
+
+// The list without the entries from `from` to `end`.
+pub(crate) fn cut_out(list: &mut Vec<(u16, Header)>, from: usize, end: usize)
+    requires { (from ≤ end) × (end ≤ length list.old.items) }
+    ensures items { list.new.items ≡ take from list.old.items ++ drop end list.old.items }
+    ensures room { vec_capacity list.new ≡ vec_capacity list.old }
+{
+    list.drain(from..end);
+}
+
+// A block's bytes go back, and its record is free.
+fn give_up_at<V: Vaults, G: Gate>(
+    records: &Records<Body>,
+    seat: &mut Seat<Body>,
+    r: u16,
+    vaults: &mut V,
+    tallies: &mut [Tally],
+    gate: &G,
+)
+    requires own { IsSeatOf records.now seat.old }
+    requires names { (V.names vaults.old ≡ seat.old.shape.names) × (ids_of tallies.old ≡ seat.old.shape.names) }
+    requires held { (l : LotOf Body) × (value_at r seat.old.lots ≡ Some l) × IsBlock seat.old.shape r l }
+    ensures same { (V.names vaults.new ≡ V.names vaults.old) × (V.extent vaults.new ≡ V.extent vaults.old) × (ids_of tallies.new ≡ ids_of tallies.old) }
+    ensures seat { HasNow seat.old (without r seat.old.lots) seat.new }
+    ensures back { (l : LotOf Body) → value_at r seat.old.lots ≡ Some l → tallies.new ≡ gave (r / 256) l.len tallies.old }
+{
+    let tally = &mut tallies[usize::from(r / 256)];
+    give_up(records, seat, r, vaults, tally, gate);
+}
+
+// The bytes of the blocks go back, and their records are free, one after another. It answers the bytes.
+pub(crate) fn give_up_all<V: Vaults, G: Gate>(
+    records: &Records<Body>,
+    seat: &mut Seat<Body>,
+    blocks: &[(u16, Header)],
+    vaults: &mut V,
+    tallies: &mut [Tally],
+    gate: &G,
+) -> u64
+    requires own { IsSeatOf records.now seat.old }
+    requires names { (V.names vaults.old ≡ seat.old.shape.names) × (ids_of tallies.old ≡ seat.old.shape.names) }
+    requires distinct { Distinct (keys blocks.now) }
+    requires held { (r : ℕ) (h : Header) → value_at r blocks.now ≡ Some h → (l : LotOf Body) × (value_at r seat.old.lots ≡ Some l) × IsBlock seat.old.shape r l × (h.len ≡ l.len) }
+    requires few { length blocks.now ≤ 2048 }
+    ensures same { (V.names vaults.new ≡ V.names vaults.old) × (V.extent vaults.new ≡ V.extent vaults.old) × (ids_of tallies.new ≡ ids_of tallies.old) }
+    ensures seat { HasNow seat.old seat.new.lots seat.new }
+    ensures gone { (r : ℕ) → Among (keys blocks.now) r → value_at r seat.new.lots ≡ None }
+    ensures others { (r : ℕ) → (Among (keys blocks.now) r → ⊥) → value_at r seat.new.lots ≡ value_at r seat.old.lots }
+    ensures bytes { (result ≡ sum_of blocks.now) × (result ≤ length blocks.now * 4294967295) }
+    ensures back { HasGivenBack result tallies.old tallies.new }
+{
+    let mut bytes = 0;
+    for k in 0..blocks.len() {
+        let (r, header) = blocks[k];
+        give_up_at(records, seat, r, vaults, tallies, gate);
+        bytes += u64::from(header.len);
+    }
+    bytes
+}
