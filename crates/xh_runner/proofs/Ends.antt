@@ -6,7 +6,7 @@ use Rattle.xh_script.specs.declared.fault.Fault.{Fault}
 use Rattle.xh_script.specs.declared.fault.Fault.TheVariants.{Script, Write as WriteFault}
 use Rattle.xh_script.specs.declared.fault.Kind.TheVariants.{TooLong}
 use Rattle.xh_script.specs.declared.watch.Watched.{Watched}
-use Rattle.xh_script.specs.Scripts.{Told, script_of}
+use Rattle.xh_script.specs.Scripts.{Listing, script_of}
 use Rattle.xh_script.specs.Watching.{Writes, WritesFront, WritesOrFails}
 
 pub Consumes-then : (a b c : Option (List ℕ)) (x y : List ℕ) → Consumes a b x → Consumes b c y → Consumes a c (x ++ y)
@@ -24,13 +24,13 @@ pub written : {W : Type 0} (contents : W → Option (List ℕ)) (old new : Watch
 written contents old new (Ok u) bytes P h f = f h
 written contents old new (Err e) bytes P h f = tt
 
-short_by : (b : Bool) (text : List ℕ) (rest : Result Told Fault) (script : Told) → nat_lt 1048576 (length text) ≡ b
+short_by : (b : Bool) (text : List ℕ) (rest : Result Listing Fault) (script : Listing) → nat_lt 1048576 (length text) ≡ b
     → (if b then Err (Script 0 TooLong) else rest) ≡ Ok script → length text ≤ 1048576
 short_by true text rest script e h = absurd (cc)
 short_by false text rest script e h = ltb-false 1048576 (length text) e
 
 -- what is read as a script is no longer than one
-pub script_short : (text : List ℕ) (script : Told) → script_of text ≡ Ok script → length text ≤ 1048576
+pub script_short : (text : List ℕ) (script : Listing) → script_of text ≡ Ok script → length text ≤ 1048576
 unfolding script_of
 script_short text script h = short_by (nat_lt 1048576 (length text)) text _ script refl h
 

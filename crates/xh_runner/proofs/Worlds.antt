@@ -1,11 +1,11 @@
 -- Lemmas on worlds.
 use Rattle.std.proofs.Common.{◌≡◌, ◌<◌, ◌+◌, ◌++◌, suc, ℕ, List, ◌∷◌, length, drop, get_or, refl, ap, add-one, drop-cons}
-use Rattle.xh_model.specs.declared.event.Config.{Config}
+use Rattle.xh_model.specs.declared.config.Config.{Config}
 use Rattle.xh_model.specs.declared.row.Row.{Row}
 use Rattle.xh_core.specs.Machine.{Machine}
 use Rattle.xh_core.specs.PlaceCommands.{new_machine, ledger_of}
 use Rattle.xh_core.specs.declared.ledger.Ledger.{Ledger}
-use Rattle.xh_script.specs.Scripts.{Told}
+use Rattle.xh_script.specs.Scripts.{Listing}
 use Rattle.xh_script.specs.Texts.{answer_texts, ledger_text}
 use Rattle.xh_script.specs.declared.command.Line.{Line}
 use Rattle.xh_script.specs.declared.reply.Reply.{Reply}
@@ -24,13 +24,13 @@ pub after_at : (w now : World) (reply : Reply) (lines : List Line) (i : ℕ) (li
 after_at w now reply lines i line below e h = rw (drop-cons lines i line, e, add-one i) (ap (λ (s : Reply × World). after s.1 (drop (suc i) lines)) h)
 
 -- what is written for a script, from what its run tells
-pub meant : (config : Config) (script : Told) (m : Machine) (contracts : List (List Row)) (start end : World) (lines : List Line) (processes : List (List ℕ))
-    (replies written : List Answered) (names told : List (List ℕ)) (ledger : Ledger)
+pub meant : (config : Config) (script : Listing) (m : Machine) (contracts : List (List Row)) (start end : World) (lines : List Line) (processes : List (List ℕ))
+    (replies written : List Answered) (names named : List (List ℕ)) (ledger : Ledger)
     → m ≡ new_machine config → contracts ≡ script.contracts → start ≡ record { machine = m; names = no_bindings; contracts = contracts }
     → lines ≡ script.lines → replies ≡ answers start lines → end ≡ after start lines
     → processes ≡ script.processes → names ≡ names_by_place processes end.names
-    → written ≡ replies → told ≡ names → ledger ≡ ledger_of end.machine
-    → answer_texts written ++ ledger_text ledger told ≡ meaning config script
+    → written ≡ replies → named ≡ names → ledger ≡ ledger_of end.machine
+    → answer_texts written ++ ledger_text ledger named ≡ meaning config script
 unfolding meaning
-meant config script m contracts start end lines processes replies written names told ledger fresh tables begin said answered ended people places same shown held =
+meant config script m contracts start end lines processes replies written names named ledger fresh tables begin said answered ended people places same shown held =
     rw (same, shown, held, places, answered, ended, people, said, begin, fresh, tables) refl

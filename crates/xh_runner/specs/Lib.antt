@@ -4,4 +4,3 @@ pub mod Meaning
 pub mod Worlds
 pub mod Output
 pub mod Runs
-pub mod Rooms

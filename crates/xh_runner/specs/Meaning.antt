@@ -1,6 +1,6 @@
 -- What a script means: the reply to each command, and what the machine holds at the end.
 use Rattle.std.specs.Prelude.{ℕ, ◌%◌, ◌==◌, ◌||◌, min, Bool, false, not, List, [], ◌∷◌, map, if◌then◌else◌, Option, Some, None, Result, Ok, Err, slice_get}
-use Rattle.xh_model.specs.declared.event.Config.{Config}
+use Rattle.xh_model.specs.declared.config.Config.{Config}
 use Rattle.xh_model.specs.declared.row.Row.{Row}
 use Rattle.xh_core.specs.declared.block.Block.{Block}
 use Rattle.xh_core.specs.declared.glance.Glance.{Glance as Look}
@@ -15,7 +15,10 @@ use Rattle.xh_core.specs.ChannelCommands.{open_channel, wire_channel}
 use Rattle.xh_core.specs.MessageCommands.{give, take}
 use Rattle.xh_core.specs.EndingCommands.{close, exit, kill}
 use Rattle.xh_script.specs.declared.command.Command.{Command}
-use Rattle.xh_script.specs.declared.command.Command.TheVariants.{Contract, Process, Wire, Open, Alloc, Split, Read, Write, Give, Take, Await, Free, Close, Exit, Kill, Glance, Again}
+use Rattle.xh_script.specs.declared.command.Word.{Word}
+use Rattle.xh_script.specs.declared.form.Form.{Form}
+use Rattle.xh_script.specs.declared.form.Form.TheVariants.{Contract, Process, Wire, Open, Alloc, Split, Read, Write, Give, Take, Await, Free, Close, Exit, Kill, Glance, Again}
+use Rattle.xh_script.specs.Operands.{name, number, number_or, contract, bytes, blocks}
 use Rattle.xh_script.specs.declared.command.Line.{Line}
 use Rattle.xh_script.specs.declared.reply.Reply.{Reply}
 use Rattle.xh_script.specs.declared.reply.Reply.TheVariants.{Done, Started, Length, Parts, Bytes, Given, Taken, Reclaimed, NotGiven, No}
@@ -46,9 +49,9 @@ contract_at contracts (Some k) = slice_get contracts k
 
 -- The reply to a command and the world after it, by what the machine answered: with success the reply tells the answer and
 -- names may stand for something else; a refusal binds nothing.
-abbrev pub told : {A : Type 0} → (A → Reply) → (A → Bindings → Bindings) → World → Answer A → Reply × World
-told reply change w (Ok a, m) = (reply a, record w { machine = m; names = change a w.names })
-told reply change w (Err refused, m) = (No refused, record w { machine = m })
+abbrev pub replied : {A : Type 0} → (A → Reply) → (A → Bindings → Bindings) → World → Answer A → Reply × World
+replied reply change w (Ok a, m) = (reply a, record w { machine = m; names = change a w.names })
+replied reply change w (Err refused, m) = (No refused, record w { machine = m })
 
 abbrev pub same : {A : Type 0} → A → Bindings → Bindings
 same a names = names
@@ -94,28 +97,80 @@ is_alive (Err refused) = false
 abbrev pub renewed : ℕ → ℕ → Bindings → Bindings
 renewed p n names = unbound_all (started names p n) p
 
--- The reply to a command, and the world after it. A line reads at most 32 bytes.
-unfoldable pub step : World → Command → Reply × World
-step w (Contract k) = (Done, w)
-step w (Process p) = if has_place w.names p then (No Twice, w) else told Started (λ n names. started names p n) w (spawn w.machine)
-step w (Wire p e q f a k) = told (λ _. Done) (with_ends p e q f) w (wire_channel (process w p) (process w q) a (contract_at w.contracts k) w.machine)
-step w (Open p e f a k) = told (λ _. Done) (with_ends p e p f) w (open_channel (process w p) a (contract_at w.contracts k) w.machine)
-step w (Alloc p x n a) = told (λ b. Length b.len) (λ b names. bound names p x b.rec) w (alloc false (process w p) n a w.machine)
-step w (Split p x at t) = told (λ parts. Parts parts.0.len parts.1.len) (λ parts names. bound names p t parts.1.rec) w (split false (process w p) (block w p x) at w.machine)
-step w (Read p x at n) = told (λ bytes. Bytes (record { items = bytes })) same w (read (process w p) (block w p x) at (min n 32) w.machine)
-step w (Write p x at bytes) = told (λ _. Done) same w (write (process w p) (block w p x) at bytes.items w.machine)
-step w (Give p e tag xs) = given p xs.items w (give (process w p) (block w p e) tag (records_of w.names p xs.items) w.machine)
-step w (Take p e xs) = told taken (λ message names. bound_each names p xs.items message.blocks.items) w (take (process w p) (block w p e) w.machine)
-step w (Await p e xs) = told taken (λ message names. bound_each names p xs.items message.blocks.items) w (take (process w p) (block w p e) w.machine)
-step w (Free p x) = told Length (λ _ names. unbound names p x) w (free (process w p) (block w p x) w.machine)
-step w (Close p e) = told Reclaimed (λ _ names. unbound names p e) w (close (process w p) (block w p e) w.machine)
-step w (Exit p budget) = told Reclaimed same w (exit (process w p) budget w.machine)
-step w (Kill p q budget) = told Reclaimed same w (kill (process w p) (process w q) budget w.machine)
-step w (Glance p q) = if not (has_place w.names p) || not (has_place w.names q) then (No NoProcess, w) else looked w (look w (process w q))
-step w (Again p) =
+-- ---- each command: the reply, and the world after it
+
+abbrev pub process_step : World → ℕ → Reply × World
+process_step w p = if has_place w.names p then (No Twice, w) else replied Started (λ n names. started names p n) w (spawn w.machine)
+
+abbrev pub wire_step : World → ℕ → ℕ → ℕ → ℕ → ℕ → Option ℕ → Reply × World
+wire_step w p e q f a k = replied (λ _. Done) (with_ends p e q f) w (wire_channel (process w p) (process w q) a (contract_at w.contracts k) w.machine)
+
+abbrev pub open_step : World → ℕ → ℕ → ℕ → ℕ → Option ℕ → Reply × World
+open_step w p e f a k = replied (λ _. Done) (with_ends p e p f) w (open_channel (process w p) a (contract_at w.contracts k) w.machine)
+
+abbrev pub alloc_step : World → ℕ → ℕ → ℕ → ℕ → Reply × World
+alloc_step w p x n a = replied (λ b. Length b.len) (λ b names. bound names p x b.rec) w (alloc false (process w p) n a w.machine)
+
+abbrev pub split_step : World → ℕ → ℕ → ℕ → ℕ → Reply × World
+split_step w p x at t = replied (λ parts. Parts parts.0.len parts.1.len) (λ parts names. bound names p t parts.1.rec) w (split false (process w p) (block w p x) at w.machine)
+
+-- a line reads at most 32 bytes
+abbrev pub read_step : World → ℕ → ℕ → ℕ → ℕ → Reply × World
+read_step w p x at n = replied (λ bytes. Bytes (record { items = bytes })) same w (read (process w p) (block w p x) at (min n 32) w.machine)
+
+abbrev pub write_step : World → ℕ → ℕ → ℕ → List ℕ → Reply × World
+write_step w p x at bytes = replied (λ _. Done) same w (write (process w p) (block w p x) at bytes w.machine)
+
+-- a tag is at most 65535
+abbrev pub give_step : World → ℕ → ℕ → ℕ → List ℕ → Reply × World
+give_step w p e tag xs = given p xs w (give (process w p) (block w p e) (min tag 65535) (records_of w.names p xs) w.machine)
+
+abbrev pub take_step : World → ℕ → ℕ → List ℕ → Reply × World
+take_step w p e xs = replied taken (λ message names. bound_each names p xs message.blocks.items) w (take (process w p) (block w p e) w.machine)
+
+abbrev pub free_step : World → ℕ → ℕ → Reply × World
+free_step w p x = replied Length (λ _ names. unbound names p x) w (free (process w p) (block w p x) w.machine)
+
+abbrev pub close_step : World → ℕ → ℕ → Reply × World
+close_step w p e = replied Reclaimed (λ _ names. unbound names p e) w (close (process w p) (block w p e) w.machine)
+
+abbrev pub exit_step : World → ℕ → ℕ → Reply × World
+exit_step w p budget = replied Reclaimed same w (exit (process w p) budget w.machine)
+
+abbrev pub kill_step : World → ℕ → ℕ → ℕ → Reply × World
+kill_step w p q budget = replied Reclaimed same w (kill (process w p) (process w q) budget w.machine)
+
+abbrev pub glance_step : World → ℕ → ℕ → Reply × World
+glance_step w p q = if not (has_place w.names p) || not (has_place w.names q) then (No NoProcess, w) else looked w (look w (process w q))
+
+abbrev pub again_step : World → ℕ → Reply × World
+again_step w p =
     if not (has_place w.names p) then (No NoProcess, w)
     else if is_alive (look w (process w p)) then (No Twice, w)
-    else told Started (λ n names. renewed p n names) w (spawn w.machine)
+    else replied Started (λ n names. renewed p n names) w (spawn w.machine)
+
+-- the reply to a command, and the world after it; the words stand where the form's row of the table has them, and a sweep has a budget of 4,096 where none is named
+unfoldable pub step_by : World → Form → List (Word ℕ) → Reply × World
+step_by w Contract ws = (Done, w)
+step_by w Process ws = process_step w (name ws 0)
+step_by w Wire ws = wire_step w (name ws 0) (name ws 1) (name ws 2) (name ws 3) (number ws 4) (contract ws 5)
+step_by w Open ws = open_step w (name ws 0) (name ws 1) (name ws 2) (number ws 3) (contract ws 4)
+step_by w Alloc ws = alloc_step w (name ws 0) (name ws 1) (number ws 2) (number ws 3)
+step_by w Split ws = split_step w (name ws 0) (name ws 1) (number ws 2) (name ws 3)
+step_by w Read ws = read_step w (name ws 0) (name ws 1) (number ws 2) (number ws 3)
+step_by w Write ws = write_step w (name ws 0) (name ws 1) (number ws 2) (bytes ws 3)
+step_by w Give ws = give_step w (name ws 0) (name ws 1) (number ws 2) (blocks ws 3)
+step_by w Take ws = take_step w (name ws 0) (name ws 1) (blocks ws 2)
+step_by w Await ws = take_step w (name ws 0) (name ws 1) (blocks ws 2)
+step_by w Free ws = free_step w (name ws 0) (name ws 1)
+step_by w Close ws = close_step w (name ws 0) (name ws 1)
+step_by w Exit ws = exit_step w (name ws 0) (number_or ws 1 4096)
+step_by w Kill ws = kill_step w (name ws 0) (name ws 1) (number_or ws 2 4096)
+step_by w Glance ws = glance_step w (name ws 0) (name ws 1)
+step_by w Again ws = again_step w (name ws 0)
+
+abbrev pub step : World → Command ℕ → Reply × World
+step w c = step_by w c.form c.words.items
 
 -- the reply to each line's command, in order
 abbrev pub answers : World → List Line → List Answered

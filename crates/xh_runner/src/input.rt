@@ -1,7 +1,7 @@
 //! The bytes of a script, read once from the front.
-ghost use Rattle.std.specs.Prelude.{◌≡◌, ◌<◌, ◌≤◌, ◌⊎◌, ℕ, List, ◌++◌, length, IfOk, IfErr, true};
+ghost use Rattle.std.specs.Prelude.{◌≡◌, ◌≢◌, ◌<◌, ◌≤◌, ◌⊎◌, ℕ, List, ◌++◌, length, IfOk, IfErr};
 ghost use Rattle.std.specs.Io.KnownBytes.{IsAtEnd};
-ghost use Rattle.xh_script.specs.Watching.{has_failed, inner_of, Reads};
+ghost use Rattle.xh_script.specs.Watching.{failures, inner_of, Reads};
 ghost use Rattle.xh_runner.specs.Reading.{ReadsAtMost, ReadsScript};
 
 use std::alloc::Global;
@@ -18,7 +18,7 @@ fn read_some<R: Read>(
     ensures ok { IfOk result (λ n. (n ≤ length room.old) × ((bytes : List ℕ) × (length bytes ≡ n)
         × Reads R.remaining reader.old reader.new bytes × (text.new.items ≡ text.old.items ++ bytes))) }
     ensures end { IfOk result (λ n. n ≡ 0 → IsAtEnd (R.remaining (inner_of reader.new))) }
-    ensures err { IfErr result (λ e. (e ≡ Fault.Memory) ⊎ ((e ≡ Fault.Read) × (has_failed reader.new ≡ true))) }
+    ensures err { IfErr result (λ e. (e ≡ Fault.Memory) ⊎ ((e ≡ Fault.Read) × (failures reader.new ≢ failures reader.old))) }
     ensures limit { ReadsAtMost R.remaining (length room.old) reader.old reader.new }
 {
     match reader.read(room) {
@@ -33,7 +33,7 @@ fn read_some<R: Read>(
 /// Reads to the end, or to one byte past the most that a script may have.
 pub(crate) fn read_text<R: Read>(alloc: Global, reader: &mut Watched<R>) -> Result<Vec<u8>, Fault>
     ensures ok { IfOk result (λ text. ReadsScript R.remaining reader.old reader.new text.items × (length text.items ≤ 1048577)) }
-    ensures err { IfErr result (λ e. (e ≡ Fault.Memory) ⊎ ((e ≡ Fault.Read) × (has_failed reader.new ≡ true))) }
+    ensures err { IfErr result (λ e. (e ≡ Fault.Memory) ⊎ ((e ≡ Fault.Read) × (failures reader.new ≢ failures reader.old))) }
     ensures limit { ReadsAtMost R.remaining 1048577 reader.old reader.new }
 {
     let mut text = Vec::new(alloc);

@@ -80,8 +80,8 @@ fn set_entry(records: &mut [u16], process: u8, block: u8, rec: u16)
     );
 }
 
-fn entries(records: &[u16], process: u8, blocks: &[u8]) -> ArrayVec<u16, 16>
-    requires { length blocks.now ≤ 16 }
+fn entries(records: &[u16], process: u8, blocks: &[u8]) -> ArrayVec<u16, 19>
+    requires { length blocks.now ≤ 19 }
     ensures { result.items ≡ map (λ x. entry records.now process x) blocks.now }
 {
     let mut found = ArrayVec::new();
@@ -204,9 +204,9 @@ impl Names {
         entry(&self.records, process, block)
     }
 
-    /// The records of several names, at most 16.
-    pub(crate) fn records_of(&self, process: u8, blocks: &[u8]) -> ArrayVec<u16, 16>
-        requires { length blocks.now ≤ 16 }
+    /// The records of several names, at most 19.
+    pub(crate) fn records_of(&self, process: u8, blocks: &[u8]) -> ArrayVec<u16, 19>
+        requires { length blocks.now ≤ 19 }
         ensures { result.items ≡ records_of self.now process blocks.now }
     {
         entries(&self.records, process, blocks)

@@ -1,6 +1,6 @@
 //! A script from its bytes to its replies and its ledger, on the serial machine.
 ghost use Rattle.std.specs.Prelude.{◌≡◌, ◌++◌, ◌<◌, ◌⊎◌, length, IfOk, IfErr, OnOk, Err};
-ghost use Rattle.xh_model.specs.Store.{IsConfig};
+ghost use Rattle.xh_model.specs.Config.{IsConfig};
 ghost use Rattle.xh_core.specs.PlaceCommands.{new_machine};
 ghost use Rattle.std.specs.List.{All};
 ghost use Rattle.xh_script.specs.Texts.{answer_texts, ledger_text};

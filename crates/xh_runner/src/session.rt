@@ -14,7 +14,7 @@ mod processes;
 use crate::names::Names;
 use std::alloc::{AllocError, Global};
 use xh_core::{Contract, Ledger, Refused, Serial};
-use xh_script::{Answered, Command, Line, Name, Reply};
+use xh_script::{Answered, Command, Form, Line, Name, Reply};
 
 /// A serial machine, what the names of a script stand for, and the script's contracts by number.
 #[derive(Drop)]
@@ -51,29 +51,39 @@ impl<'a> Session<'a> {
         })
     }
 
-    /// Does a command.
-    #[tactic(auto, unfolding(crate::specs::Meaning::step))]
-    fn step(&mut self, alloc: Global, command: &Command) -> Result<Reply, AllocError>
-        ensures { IfOk result (λ reply. step (world_of self.old) command.now ≡ (reply, world_of self.new)) }
+    /// Does a command; its words stand where the form's row of the table has them.
+    #[tactic(auto, unfolding(crate::specs::Meaning::step_by))]
+    fn step(&mut self, alloc: Global, c: &Command<u8>) -> Result<Reply, AllocError>
+        ensures { IfOk result (λ reply. step (world_of self.old) c.now ≡ (reply, world_of self.new)) }
     {
-        match command {
-            Command::Contract { .. } => Ok(Reply::Done),
-            Command::Process { .. }
-            | Command::Again { .. }
-            | Command::Glance { .. }
-            | Command::Close { .. }
-            | Command::Exit { .. }
-            | Command::Kill { .. } => Ok(self.process_command(command)),
-            Command::Wire { .. } | Command::Open { .. } => Ok(self.channel_command(command)),
-            Command::Alloc { .. }
-            | Command::Split { .. }
-            | Command::Read { .. }
-            | Command::Write { .. }
-            | Command::Free { .. } => self.block_command(alloc, command),
-            Command::Give { .. } | Command::Take { .. } | Command::Await { .. } => {
-                Ok(self.message_command(command))
-            }
-        }
+        Ok(match c.form {
+            Form::Contract => Reply::Done,
+            Form::Process => self.process(c.name(0)),
+            Form::Wire => self.wire(
+                (c.name(0), c.name(1)),
+                (c.name(2), c.name(3)),
+                c.number(4),
+                c.contract(5),
+            ),
+            Form::Open => self.open(
+                c.name(0),
+                (c.name(1), c.name(2)),
+                c.number(3),
+                c.contract(4),
+            ),
+            Form::Alloc => self.alloc(alloc, c.name(0), c.name(1), c.number(2), c.number(3))?,
+            Form::Split => self.split(alloc, c.name(0), c.name(1), c.number(2), c.name(3))?,
+            Form::Read => self.read(c.name(0), c.name(1), c.number(2), c.number(3)),
+            Form::Write => self.write(c.name(0), c.name(1), c.number(2), c.bytes(3)),
+            Form::Give => self.give(c.name(0), c.name(1), c.number(2), &c.blocks(3)),
+            Form::Take | Form::Await => self.take(c.name(0), c.name(1), &c.blocks(2)),
+            Form::Free => self.free(c.name(0), c.name(1)),
+            Form::Close => self.close(c.name(0), c.name(1)),
+            Form::Exit => self.exit(c.name(0), c.number_or(1, 4096)),
+            Form::Kill => self.kill(c.name(0), c.name(1), c.number_or(2, 4096)),
+            Form::Glance => self.glance(c.name(0), c.name(1)),
+            Form::Again => self.again(c.name(0)),
+        })
     }
 
     /// Does commands in order.

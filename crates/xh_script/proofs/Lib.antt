@@ -5,7 +5,6 @@ pub mod Readings
 pub mod TableLemmas
 pub mod Writings
 pub mod SpellingWords
-pub mod Spellings
 pub mod SpellingLines
 pub mod SayingWords
 pub mod SayingLines

@@ -10,13 +10,17 @@ use Rattle.arrayvec.specs.ArrayVec.{ArrayVec}
 use Rattle.xh_model.specs.declared.row.Row.{Row}
 use Rattle.xh_script.specs.Words.{is_name, is_digit, has_no_zero_in_front, is_numeral, value_of, is_hex_letter, is_hex_digit, is_hex, hex_value, hex_bytes}
 use Rattle.xh_script.specs.Steps.{◌>>=◌}
-use Rattle.xh_script.specs.Forms.{name_at, names_at, number_at, number_between, bytes_at, optional_name, row_said, row_of, row_at, rows_at}
-use Rattle.xh_script.specs.Grammar.{is_filled}
+use Rattle.xh_script.specs.Sorts.{name_at, number_at, number_between, bytes_at, row_said, row_of, row_at, word_at}
+use Rattle.xh_script.specs.Forms.{Row as Shape, sort_at}
+use Rattle.xh_script.specs.Grammar.{is_filled, words_from}
 use Rattle.xh_script.specs.Texts.{hex_digit, hex_text}
-use Rattle.xh_script.specs.Spelling.{row_text}
-use Rattle.xh_script.specs.Sayable.{IsName, IsBetween, IsRow, AreRows, AreBytes}
+use Rattle.xh_script.specs.Spelling.{row_text, word_text}
+use Rattle.xh_script.specs.Sayable.{IsName, IsBetween, IsRow, AreBytes, IsOf, AreOf}
 use Rattle.xh_script.proofs.Numbers.{own}
 use Rattle.xh_script.specs.declared.fault.Kind.{Kind}
+use Rattle.xh_script.specs.declared.form.Sort.{Sort}
+use Rattle.xh_script.specs.declared.form.Sort.TheVariants as sort
+use Rattle.xh_script.specs.declared.command.Word.{Word}
 
 -- what a reading gives, goes on
 pub then_ok : {A B : Type 0} (r : Result A Kind) (x : A) (f : A → Result B Kind) (y : Result B Kind) → r ≡ Ok x → f x ≡ y → (r >>= f) ≡ y
@@ -25,14 +29,6 @@ then_ok r x f y h k = rw h k
 pub name_back : (w : List ℕ) → IsName w → name_at w ≡ Ok w
 unfolding name_at
 name_back w h = rw h refl
-
-pub names_back : (ws : List (List ℕ)) → list_all is_name ws ≡ true → names_at ws ≡ Ok (record { items = ws })
-unfolding names_at
-names_back ws h = rw h refl
-
-pub optional_back : (w : List ℕ) → IsName w → optional_name (Some w) ≡ Ok (Some w)
-unfolding optional_name
-optional_back w h = rw (name_back w h) refl
 
 -- ---- numbers
 
@@ -52,19 +48,15 @@ number_back n h =
     let value : value_of (decimal n) ≡ n = digits_value-decimal own n (omega arith) in
     rw (numeral_back n h, value, lt-ltb n (2 ^ 32) h) refl
 
-pub between_back : (low high n : ℕ) → high ≤ 65535 → IsBetween low high n → number_between low high (decimal n) ≡ Ok n
+between_back : (low high n : ℕ) → n < 2 ^ 32 → IsBetween low high n → number_between low high (decimal n) ≡ Ok n
 unfolding number_between
-between_back low high n small h = rw (number_back n (omega (arith, h.1)), le-leb low n h.0, le-leb n high h.1) refl
+between_back low high n small h = rw (number_back n small, le-leb low n h.0, le-leb n high h.1) refl
 
 pub number_filled : (n : ℕ) → n < 2 ^ 32 → is_filled (decimal n) ≡ true
 number_filled n h = lt-ltb 0 (length (decimal n)) (decimal_nonempty n (omega arith))
 
 pub name_filled : (w : List ℕ) → IsName w → is_filled w ≡ true
 name_filled w h = (and_parts _ _ (and_parts _ _ (and_parts _ _ (and_parts _ _ h).0).0).0).0
-
-pub names_filled : (ws : List (List ℕ)) → list_all is_name ws ≡ true → list_all is_filled ws ≡ true
-names_filled [] h = refl
-names_filled (w ∷ ws) h = let t = and_parts _ _ h in and_from _ _ (name_filled w t.0) (names_filled ws t.1)
 
 -- ---- bytes
 
@@ -143,10 +135,10 @@ row_said_back : (row : Row) → IsRow row → row_said (decimal row.state) (deci
 unfolding row_said
 row_said_back row h =
     rw (
-      between_back 0 15 row.state (omega arith) (omega arith, h.0),
-      between_back 0 65535 row.tag (omega arith) (omega arith, h.1),
-      between_back 0 1 row.side (omega arith) (omega arith, h.2),
-      between_back 0 15 row.next (omega arith) (omega arith, h.3),
+      between_back 0 15 row.state (omega (arith, h.0)) (omega arith, h.0),
+      between_back 0 65535 row.tag (omega (arith, h.1)) (omega arith, h.1),
+      between_back 0 1 row.side (omega (arith, h.2)) (omega arith, h.2),
+      between_back 0 15 row.next (omega (arith, h.3)) (omega arith, h.3),
     ) refl
 
 row_of_back : (row : Row) → IsRow row → row_of (decimal row.state ∷ decimal row.tag ∷ decimal row.side ∷ decimal row.next ∷ []) ≡ Ok row
@@ -162,16 +154,36 @@ row_back row h =
     let pieces = state ∙ ap (λ ws. decimal row.state ∷ ws) (tag ∙ ap (λ ws. decimal row.tag ∷ ws) (side ∙ ap (λ ws. decimal row.side ∷ ws) next)) in
     ap row_of pieces ∙ row_of_back row h
 
-pub rows_back : (rows : List Row) → AreRows rows → rows_at (map row_text rows) ≡ Ok rows
-rows_back [] h = refl
-rows_back (row ∷ rows) h = then_ok (row_at (row_text row)) row _ _ (row_back row h.0) (then_ok (rows_at (map row_text rows)) rows _ _ (rows_back rows h.1) refl)
-
 front_filled : (xs ys : List ℕ) → 0 < length xs → is_filled (xs ++ ys) ≡ true
 front_filled xs ys h = lt-ltb 0 (length (xs ++ ys)) (omega (arith, length-append xs ys, h))
 
 row_filled : (row : Row) → IsRow row → is_filled (row_text row) ≡ true
 row_filled row h = front_filled (decimal row.state) _ (decimal_nonempty row.state (omega (arith, h.0)))
 
-pub rows_filled : (rows : List Row) → AreRows rows → list_all is_filled (map row_text rows) ≡ true
-rows_filled [] h = refl
-rows_filled (row ∷ rows) h = and_from _ _ (row_filled row h.0) (rows_filled rows h.1)
+-- ---- words
+
+word_back : (s : Sort) (x : Word (List ℕ)) → IsOf s x → word_at s (word_text x) ≡ Ok x
+unfolding word_at
+word_back sort.Process x h = rw (h.1, name_back h.0 h.2) refl
+word_back sort.Block x h = rw (h.1, name_back h.0 h.2) refl
+word_back sort.Contract x h = rw (h.1, name_back h.0 h.2) refl
+word_back (sort.Number least most) x h = rw (h.1, between_back least most h.0 h.3 h.2) refl
+word_back sort.Bytes x h = rw (h.1, bytes_back h.0 h.2) refl
+word_back sort.Row x h = rw (h.1, row_back h.0 h.2) refl
+
+word_filled : (s : Sort) (x : Word (List ℕ)) → IsOf s x → is_filled (word_text x) ≡ true
+word_filled sort.Process x h = rw h.1 (name_filled h.0 h.2)
+word_filled sort.Block x h = rw h.1 (name_filled h.0 h.2)
+word_filled sort.Contract x h = rw h.1 (name_filled h.0 h.2)
+word_filled (sort.Number least most) x h = rw h.1 (number_filled h.0 h.3)
+word_filled sort.Bytes x h = rw h.1 (bytes_filled h.0.items h.2)
+word_filled sort.Row x h = rw h.1 (row_filled h.0 h.2)
+
+-- the texts of words are read as them
+pub words_back : (row : Shape) (i : ℕ) (xs : List (Word (List ℕ))) → AreOf row i xs → words_from row i (map word_text xs) ≡ Ok xs
+words_back row i [] h = refl
+words_back row i (x ∷ xs) h = then_ok (word_at (sort_at row i) (word_text x)) x _ _ (word_back (sort_at row i) x h.0) (then_ok (words_from row (i + 1) (map word_text xs)) xs _ _ (words_back row (i + 1) xs h.1) refl)
+
+pub words_filled : (row : Shape) (i : ℕ) (xs : List (Word (List ℕ))) → AreOf row i xs → list_all is_filled (map word_text xs) ≡ true
+words_filled row i [] h = refl
+words_filled row i (x ∷ xs) h = and_from _ _ (word_filled (sort_at row i) x h.0) (words_filled row (i + 1) xs h.1)

@@ -8,12 +8,18 @@ use Rattle.arrayvec.specs.ArrayVec.{ArrayVec}
 use Rattle.xh_model.specs.declared.row.Row.{Row}
 use Rattle.xh_script.specs.Words.{is_name, number_of, is_digit, is_hex_letter, is_hex_digit, is_hex, hex_value, hex_bytes}
 use Rattle.xh_script.specs.Steps.{◌>>=◌}
-use Rattle.xh_script.specs.Forms.{name_at, names_at, number_or, number_at, number_between, bytes_at, optional_name, row_said, row_of, row_at, rows_at}
+use Rattle.xh_script.specs.Sorts.{name_at, number_or, number_at, number_between, bytes_at, row_said, row_of, row_at, word_at}
+use Rattle.xh_script.specs.Forms.{Row as Shape, sort_at}
+use Rattle.xh_script.specs.Grammar.{words_from}
 use Rattle.xh_script.specs.Texts.{hex_digit, hex_text}
-use Rattle.xh_script.specs.Spelling.{row_text, contract_words}
+use Rattle.xh_script.specs.Spelling.{row_text, word_text}
 use Rattle.xh_script.proofs.Numbers.{is_decimal}
 use Rattle.xh_script.specs.declared.fault.Kind.{Kind}
 use Rattle.xh_script.specs.declared.fault.Kind.TheVariants.{BadWord, BadNumber, BadHex}
+use Rattle.xh_script.specs.declared.form.Sort.{Sort}
+use Rattle.xh_script.specs.declared.form.Sort.TheVariants as sort
+use Rattle.xh_script.specs.declared.command.Word.{Word}
+use Rattle.xh_script.specs.declared.command.Word.TheVariants.{Process, Block, Contract, Number, Bytes, Row as RowWord}
 
 pub bind_ok : {A B : Type 0} (r : Result A Kind) (f : A → Result B Kind) (y : B) → (r >>= f) ≡ Ok y → (x : A) × (r ≡ Ok x) × (f x ≡ Ok y)
 bind_ok (Ok x) f y h = (x, refl, h)
@@ -30,10 +36,6 @@ pub name_ok : (w p : List ℕ) → name_at w ≡ Ok p → w ≡ p
 unfolding name_at
 name_ok w p h = same_ok w p (guarded (is_name w) (Ok w) BadWord p h).1
 
-pub names_ok : (ws : List (List ℕ)) (xs : ArrayVec (List ℕ)) → names_at ws ≡ Ok xs → ws ≡ xs.items
-unfolding names_at
-names_ok ws xs h = ap (λ v. v.items) (same_ok (record { items = ws }) xs (guarded (list_all is_name ws) (Ok (record { items = ws })) BadWord xs h).1)
-
 number_by : (o : Option ℕ) (n : ℕ) → number_or o ≡ Ok n → o ≡ Some n
 number_by (Some m) n h = ap Some (same_ok m n h)
 number_by None n h = absurd (cc)
@@ -48,13 +50,6 @@ between_ok low high w n h =
     let m = bind_ok (number_at w) _ n h in
     let g = guarded (nat_le low m.0 && nat_le m.0 high) (Ok m.0) BadNumber n m.2 in
     number_ok w m.0 m.1 ∙ ap decimal (same_ok m.0 n g.1)
-
-pub optional_ok : (o : Option (List ℕ)) (k : Option (List ℕ)) → optional_name o ≡ Ok k → contract_words o ≡ contract_words k
-unfolding optional_name
-optional_ok None k h = ap contract_words (same_ok None k h)
-optional_ok (Some w) k h =
-    let n = bind_ok (name_at w) _ k h in
-    ap (λ x. x ∷ []) (name_ok w n.0 n.1) ∙ ap contract_words (same_ok (Some n.0) k n.2)
 
 value_small : (b : ℕ) → hex_value b ≤ 15
 value_small b = elim (cases_Bool (is_digit b)) [
@@ -127,10 +122,20 @@ row_of_ok (s ∷ t ∷ d ∷ n ∷ x ∷ more) r h = absurd (cc)
 row_ok : (word : List ℕ) (r : Row) → row_at word ≡ Ok r → word ≡ row_text r
 row_ok word r h = sym (join_with_byte-slice_split 58 word) ∙ ap (join_with_byte 58) (row_of_ok (slice_split (λ b. b == 58) word) r h)
 
-pub rows_ok : (words : List (List ℕ)) (rows : List Row) → rows_at words ≡ Ok rows → words ≡ map row_text rows
-rows_ok [] rows h = ap (map row_text) (same_ok [] rows h)
-rows_ok (word ∷ words) rows h =
-    let r = bind_ok (row_at word) _ rows h in
-    let rs = bind_ok (rows_at words) _ rows r.2 in
-    let both : word ∷ words ≡ row_text r.0 ∷ map row_text rs.0 = cc (row_ok word r.0 r.1, rows_ok words rs.0 rs.1) in
-    both ∙ ap (map row_text) (same_ok (r.0 ∷ rs.0) rows rs.2)
+word_ok : (s : Sort) (w : List ℕ) (x : Word (List ℕ)) → word_at s w ≡ Ok x → w ≡ word_text x
+unfolding word_at
+word_ok sort.Process w x h = let p = bind_ok (name_at w) _ x h in name_ok w p.0 p.1 ∙ ap word_text (same_ok (Process p.0) x p.2)
+word_ok sort.Block w x h = let p = bind_ok (name_at w) _ x h in name_ok w p.0 p.1 ∙ ap word_text (same_ok (Block p.0) x p.2)
+word_ok sort.Contract w x h = let p = bind_ok (name_at w) _ x h in name_ok w p.0 p.1 ∙ ap word_text (same_ok (Contract p.0) x p.2)
+word_ok (sort.Number least most) w x h = let n = bind_ok (number_between least most w) _ x h in between_ok least most w n.0 n.1 ∙ ap word_text (same_ok (Number n.0) x n.2)
+word_ok sort.Bytes w x h = let b = bind_ok (bytes_at w) _ x h in bytes_ok w b.0 b.1 ∙ ap word_text (same_ok (Bytes b.0) x b.2)
+word_ok sort.Row w x h = let r = bind_ok (row_at w) _ x h in row_ok w r.0 r.1 ∙ ap word_text (same_ok (RowWord r.0) x r.2)
+
+-- words are the texts of what they say
+pub words_ok : (row : Shape) (i : ℕ) (ws : List (List ℕ)) (xs : List (Word (List ℕ))) → words_from row i ws ≡ Ok xs → ws ≡ map word_text xs
+words_ok row i [] xs h = ap (map word_text) (same_ok [] xs h)
+words_ok row i (w ∷ ws) xs h =
+    let x = bind_ok (word_at (sort_at row i) w) _ xs h in
+    let more = bind_ok (words_from row (i + 1) ws) _ xs x.2 in
+    let both : w ∷ ws ≡ word_text x.0 ∷ map word_text more.0 = cc (word_ok (sort_at row i) w x.0 x.1, words_ok row (i + 1) ws more.0 more.1) in
+    both ∙ ap (map word_text) (same_ok (x.0 ∷ more.0) xs more.2)

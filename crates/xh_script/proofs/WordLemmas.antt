@@ -1,41 +1,31 @@
 -- Lemmas on the words of a line.
-use Rattle.std.proofs.Common.{◌≡◌, ◌<◌, ◌≤◌, ◌+◌, ◌*◌, ℕ, suc, Bool, true, false, List, [], ◌∷◌, ◌++◌, Some, None, map, take, drop, length, get_or, Bor, refl, ◌∙◌, arith, drop-cons, if◌then◌else◌}
-use Rattle.std.specs.List.{list_all}
-use Rattle.std.proofs.lemmas.List.{map_more}
-use Rattle.std.proofs.lemmas.List.Folds.{list_all-append, list_all-map, list_all_at}
-use Rattle.xh_script.specs.Words.{is_name, hex_value, hex_bytes}
+use Rattle.std.proofs.Common.{◌≡◌, ◌<◌, ◌≤◌, ◌+◌, ◌*◌, ℕ, suc, List, [], ◌∷◌, ◌++◌, Result, Ok, Err, map, drop, length, get_or, Bor, refl, sym, ap, arith, add-one, drop-cons, append_assoc}
+use Rattle.xh_script.specs.Steps.{◌>>=◌}
+use Rattle.xh_script.specs.Forms.{Row, sort_at}
+use Rattle.xh_script.specs.Sorts.{word_at}
+use Rattle.xh_script.specs.Grammar.{words_from}
+use Rattle.xh_script.specs.Words.{hex_value, hex_bytes}
+use Rattle.xh_script.specs.declared.fault.Kind.{Kind}
+use Rattle.xh_script.specs.declared.command.Word.{Word}
+use Rattle.xh_script.specs.declared.command.Word.TheVariants.{Number}
+use Rattle.xh_script.specs.Operands.{name, blocks}
+use Rattle.std.proofs.lemmas.Option.{slice_get-get_or}
 
 -- what is read beyond the last word
 abbrev pub no_word : Bor (List ℕ)
 no_word = record { ref_ptr = (0, 0); now = [] }
 
-pub read_some : (b : Bool) (n w : List ℕ) → Some n ≡ (if b then Some w else None) → (b ≡ true) × (n ≡ w)
-read_some true n w h = (refl, cc)
-read_some false n w h = absurd (cc)
+push_then : {A : Type 0} (r : Result (List A) Kind) (words : List A) (w : A) → ((r >>= λ ws. Ok (w ∷ ws)) >>= λ more. Ok (words ++ more)) ≡ (r >>= λ more. Ok ((words ++ w ∷ []) ++ more))
+push_then (Ok ws) words w = ap Ok (sym (append_assoc words (w ∷ []) ws))
+push_then (Err e) words w = refl
 
-pub read_none : (b : Bool) (w : List ℕ) → None ≡ (if b then Some w else None) → b ≡ false
-read_none true w h = absurd (cc)
-read_none false w h = refl
-
--- one more word is a name
-pub names_more : (words : List (Bor (List ℕ))) (i : ℕ) (names : List (List ℕ)) (n : List ℕ) → i < length words
-    → names ≡ map (λ w. w.now) (take i words) → list_all is_name (map (λ w. w.now) (take i words)) ≡ true
-    → Some n ≡ (if is_name (get_or words i no_word).now then Some (get_or words i no_word).now else None)
-    → (names ++ n ∷ [] ≡ map (λ w. w.now) (take (i + 1) words)) × (list_all is_name (map (λ w. w.now) (take (i + 1) words)) ≡ true)
-names_more words i names n below same fine h =
-    let found = read_some (is_name (get_or words i no_word).now) n _ h in
-    let more = map_more (λ w. w.now) words i no_word below in (
-      rw (same, found.1, more) refl,
-      rw (more, list_all-append is_name (map (λ w. w.now) (take i words)) ((get_or words i no_word).now ∷ []), fine, found.0) refl,
-    )
-
--- one of the words is no name
-pub names_none : (words : List (Bor (List ℕ))) (i : ℕ) → i < length words
-    → None ≡ (if is_name (get_or words i no_word).now then Some (get_or words i no_word).now else None)
-    → list_all is_name (map (λ w. w.now) words) ≡ false
-names_none words i below h =
-    list_all-map is_name (λ w. w.now) words
-    ∙ list_all_at (λ w. is_name w.now) words i no_word below (read_none (is_name (get_or words i no_word).now) _ h)
+-- one more word was read
+pub words_more : (row : Row) (i j : ℕ) (others : List (Bor (List ℕ))) (words : List (Word (List ℕ))) (w : Word (List ℕ)) → i < length others
+    → word_at (sort_at row j) (get_or others i no_word).now ≡ Ok w
+    → (words_from row j (map (λ w. w.now) (drop i others)) >>= λ more. Ok (words ++ more))
+    ≡ (words_from row (j + 1) (map (λ w. w.now) (drop (i + 1) others)) >>= λ more. Ok ((words ++ w ∷ []) ++ more))
+words_more row i j others words w below h =
+    rw (drop-cons others i no_word below, add-one i, h) (push_then (words_from row (j + 1) (map (λ w. w.now) (drop (suc i) others))) words w)
 
 -- the bytes from the i-th digit on
 pub hex_at : (word : List ℕ) (i j k : ℕ) → j ≡ i + 1 → k ≡ i + 2 → j < length word
@@ -52,3 +42,9 @@ pub hex_none : (word : List ℕ) → length word ≤ 1 → hex_bytes word ≡ []
 hex_none [] h = refl
 hex_none (a ∷ []) h = refl
 hex_none (a ∷ b ∷ more) h = absurd (omega arith)
+
+-- the blocks from a word on are it and those behind it
+pub blocks_at : (words : List (Word ℕ)) (k : ℕ) → k < length words → blocks words k ≡ name words k ∷ blocks words (k + 1)
+blocks_at words k below =
+    let d : Word ℕ = Number 0 in
+    rw (drop-cons words k d below, slice_get-get_or words k d below, add-one k) refl

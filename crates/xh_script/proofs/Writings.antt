@@ -37,7 +37,7 @@ module _ {T : Type 0} (contents : T → Option (List ℕ)) where
     rest = q.rest;
     whole = ap (λ t. x ++ t) q.whole ∙ sym (append_assoc x q.front q.rest);
     held = Appends-then (contents (inner_of a)) (contents (inner_of b)) (contents (inner_of c)) x q.front p.held q.held;
-    failed = q.failed;
+    failed = λ e. q.failed (e ∙ sym p.still);
   }
 
   -- nothing that follows is written

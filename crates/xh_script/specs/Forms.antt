@@ -1,240 +1,118 @@
--- The forms of lines: what the words of a line say, with names as they stand.
-use Rattle.std.specs.Prelude.{ℕ, ◌&&◌, ◌==◌, List, [], ◌∷◌, length, nat_le, if◌then◌else◌, Option, Some, None, Result, Ok, Err}
-use Rattle.std.specs.List.{list_all, slice_split}
-use Rattle.arrayvec.specs.ArrayVec.{ArrayVec}
-use Rattle.xh_model.specs.declared.row.Row.{Row}
-use Rattle.xh_script.specs.Words.{is_name, number_of, is_hex, hex_bytes}
-use Rattle.xh_script.specs.Steps.{◌>>=◌}
+-- The table of the language: a row for each form of line.
+use Rattle.std.specs.Prelude.{◌≡◌, ℕ, ◌+◌, ◌&&◌, Bool, true, false, List, [], ◌∷◌, length, nat_le, slice_index_or, if◌then◌else◌, Result, Ok, Err, codes}
+use Rattle.std.specs.Str.{bytes_eq}
 use Rattle.xh_script.specs.declared.fault.Kind.{Kind}
-use Rattle.xh_script.specs.declared.fault.Kind.TheVariants.{BadWord, BadCount, BadNumber, BadHex}
-use Rattle.xh_script.specs.declared.said.Said.{Said}
-use Rattle.xh_script.specs.declared.said.Said.TheVariants.{Contract, Process, Wire, Open, Alloc, Split, Read, Write, Give, Take, Await, Free, Close, Exit, Kill, Glance, Again}
+use Rattle.xh_script.specs.declared.fault.Kind.TheVariants.{BadWord}
+use Rattle.xh_script.specs.declared.form.Sort.{Sort}
+use Rattle.xh_script.specs.declared.form.Sort.TheVariants as sort
+use Rattle.xh_script.specs.declared.form.Form.{Form}
+use Rattle.xh_script.specs.declared.form.Form.TheVariants.{Contract, Process, Wire, Open, Alloc, Split, Read, Write, Give, Take, Await, Free, Close, Exit, Kill, Glance, Again}
 
--- ---- words
+-- what the words of a form are: these in order, and then `least` to `most` words of the sort `more`. The form's own word does not count, and the process
+-- ahead of a verb is the first word
+pub record Row : Type 0 where
+  pub words : List Sort
+  pub more : Sort
+  pub least : ℕ
+  pub most : ℕ
 
-unfoldable pub name_at : List ℕ → Result (List ℕ) Kind
-name_at word = if is_name word then Ok word else Err BadWord
+abbrev pub number : Sort
+number = sort.Number 0 4294967295
 
-unfoldable pub names_at : List (List ℕ) → Result (ArrayVec (List ℕ)) Kind
-names_at words = if list_all is_name words then Ok (record { items = words }) else Err BadWord
+abbrev pub tag : Sort
+tag = sort.Number 0 65535
 
-abbrev pub number_or : Option ℕ → Result ℕ Kind
-number_or (Some n) = Ok n
-number_or None = Err BadNumber
+abbrev pub len : Sort
+len = sort.Number 1 32
 
-unfoldable pub number_at : List ℕ → Result ℕ Kind
-number_at word = number_or (number_of word)
+abbrev pub budget : Sort
+budget = sort.Number 1 4096
 
--- a number with a least and a greatest value
-unfoldable pub number_between : ℕ → ℕ → List ℕ → Result ℕ Kind
-number_between low high word = number_at word >>= λ n. if nat_le low n && nat_le n high then Ok n else Err BadNumber
+-- these words, and then some more
+abbrev pub and_more : List Sort → Sort → ℕ → ℕ → Row
+and_more words more least most = record { words = words; more = more; least = least; most = most }
 
-unfoldable pub bytes_at : List ℕ → Result (ArrayVec ℕ) Kind
-bytes_at word = if is_hex word then Ok (record { items = hex_bytes word }) else Err BadHex
+-- these words and no more
+abbrev pub just : List Sort → Row
+just words = and_more words sort.Block 0 0
 
--- the name of a contract, where one is named
-unfoldable pub optional_name : Option (List ℕ) → Result (Option (List ℕ)) Kind
-optional_name None = Ok None
-optional_name (Some word) = name_at word >>= λ k. Ok (Some k)
+unfoldable pub shape : Form → Row
+shape Contract = and_more (sort.Contract ∷ []) sort.Row 1 16
+shape Process = just (sort.Process ∷ [])
+shape Wire = and_more (sort.Process ∷ sort.Block ∷ sort.Process ∷ sort.Block ∷ number ∷ []) sort.Contract 0 1
+shape Open = and_more (sort.Process ∷ sort.Block ∷ sort.Block ∷ number ∷ []) sort.Contract 0 1
+shape Alloc = just (sort.Process ∷ sort.Block ∷ number ∷ number ∷ [])
+shape Split = just (sort.Process ∷ sort.Block ∷ number ∷ sort.Block ∷ [])
+shape Read = just (sort.Process ∷ sort.Block ∷ number ∷ len ∷ [])
+shape Write = just (sort.Process ∷ sort.Block ∷ number ∷ sort.Bytes ∷ [])
+shape Give = and_more (sort.Process ∷ sort.Block ∷ tag ∷ []) sort.Block 0 16
+shape Take = and_more (sort.Process ∷ sort.Block ∷ []) sort.Block 0 8
+shape Await = and_more (sort.Process ∷ sort.Block ∷ []) sort.Block 0 8
+shape Free = just (sort.Process ∷ sort.Block ∷ [])
+shape Close = just (sort.Process ∷ sort.Block ∷ [])
+shape Exit = and_more (sort.Process ∷ []) budget 0 1
+shape Kill = and_more (sort.Process ∷ sort.Process ∷ []) budget 0 1
+shape Glance = just (sort.Process ∷ sort.Process ∷ [])
+shape Again = just (sort.Process ∷ [])
 
--- ---- head lines
+-- what the word at a place has to be
+abbrev pub sort_at : Row → ℕ → Sort
+sort_at row i = slice_index_or row.words i row.more
 
--- `process P`
-unfoldable pub process_line : List (List ℕ) → Result Said Kind
-process_line (process ∷ []) = do
-  p ← name_at process
-  Ok (Process p)
-process_line _ = Err BadCount
+-- whether a line of the form may have so many words
+abbrev pub has_count : Row → ℕ → Bool
+has_count row count = nat_le (length row.words + row.least) count && nat_le count (length row.words + row.most)
 
--- `wire P E Q F ARENA`, and the name of a contract where one rules the channel
-unfoldable pub wire_said : List ℕ → List ℕ → List ℕ → List ℕ → List ℕ → Option (List ℕ) → Result Said Kind
-wire_said process first peer second arena contract = do
-  p ← name_at process
-  e ← name_at first
-  q ← name_at peer
-  f ← name_at second
-  a ← number_at arena
-  k ← optional_name contract
-  Ok (Wire p e q f a k)
+-- the text of a form's own word
+abbrev pub form_text : Form → List ℕ
+form_text Contract = codes "contract"
+form_text Process = codes "process"
+form_text Wire = codes "wire"
+form_text Open = codes "open"
+form_text Alloc = codes "alloc"
+form_text Split = codes "split"
+form_text Read = codes "read"
+form_text Write = codes "write"
+form_text Give = codes "give"
+form_text Take = codes "take"
+form_text Await = codes "await"
+form_text Free = codes "free"
+form_text Close = codes "close"
+form_text Exit = codes "exit"
+form_text Kill = codes "kill"
+form_text Glance = codes "glance"
+form_text Again = codes "again"
 
-unfoldable pub wire_line : List (List ℕ) → Result Said Kind
-wire_line (process ∷ first ∷ peer ∷ second ∷ arena ∷ []) = wire_said process first peer second arena None
-wire_line (process ∷ first ∷ peer ∷ second ∷ arena ∷ contract ∷ []) = wire_said process first peer second arena (Some contract)
-wire_line _ = Err BadCount
+-- the lines that begin with their own word, and stand ahead of all others
+abbrev pub is_head : Form → Bool
+is_head Contract = true
+is_head Process = true
+is_head Wire = true
+is_head _ = false
 
--- four numbers joined by `:`, the state, the tag, the sending side and the next state
-unfoldable pub row_said : List ℕ → List ℕ → List ℕ → List ℕ → Result Row Kind
-row_said state tag side next = do
-  s ← number_between 0 15 state
-  t ← number_between 0 65535 tag
-  d ← number_between 0 1 side
-  n ← number_between 0 15 next
-  Ok (record { state = s; tag = t; side = d; next = n })
+-- the lines that declare a contract
+abbrev pub declares : Form → Bool
+declares Contract = true
+declares _ = false
 
-unfoldable pub row_of : List (List ℕ) → Result Row Kind
-row_of (state ∷ tag ∷ side ∷ next ∷ []) = row_said state tag side next
-row_of _ = Err BadNumber
+abbrev pub has_text : List ℕ → Form → Bool
+has_text word form = bytes_eq word (form_text form)
 
-abbrev pub row_at : List ℕ → Result Row Kind
-row_at word = row_of (slice_split (λ b. b == 58) word)
-
-abbrev pub rows_at : List (List ℕ) → Result (List Row) Kind
-rows_at [] = Ok []
-rows_at (word ∷ words) = row_at word >>= λ row. rows_at words >>= λ rows. Ok (row ∷ rows)
-
--- `contract K ROW ..`, with 1 to 16 rows
-unfoldable pub contract_said : List ℕ → List (List ℕ) → Result Said Kind
-contract_said name rows = do
-  k ← name_at name
-  r ← rows_at rows
-  Ok (Contract k (record { items = r }))
-
-unfoldable pub contract_line : List (List ℕ) → Result Said Kind
-contract_line (name ∷ rows) = if nat_le 1 (length rows) && nat_le (length rows) 16 then contract_said name rows else Err BadCount
-contract_line _ = Err BadCount
-
--- ---- lines of a process: the words behind its name and the verb
-
--- `P open E F ARENA`, and the name of a contract where one rules the channel
-unfoldable pub open_said : List ℕ → List ℕ → List ℕ → List ℕ → Option (List ℕ) → Result Said Kind
-open_said p first second arena contract = do
-  e ← name_at first
-  f ← name_at second
-  a ← number_at arena
-  k ← optional_name contract
-  Ok (Open p e f a k)
-
-unfoldable pub open_line : List ℕ → List (List ℕ) → Result Said Kind
-open_line p (first ∷ second ∷ arena ∷ []) = open_said p first second arena None
-open_line p (first ∷ second ∷ arena ∷ contract ∷ []) = open_said p first second arena (Some contract)
-open_line p _ = Err BadCount
-
--- `P alloc X BYTES ARENA`
-unfoldable pub alloc_said : List ℕ → List ℕ → List ℕ → List ℕ → Result Said Kind
-alloc_said p block bytes arena = do
-  x ← name_at block
-  n ← number_at bytes
-  a ← number_at arena
-  Ok (Alloc p x n a)
-
-unfoldable pub alloc_line : List ℕ → List (List ℕ) → Result Said Kind
-alloc_line p (block ∷ bytes ∷ arena ∷ []) = alloc_said p block bytes arena
-alloc_line p _ = Err BadCount
-
--- `P split X AT T`
-unfoldable pub split_said : List ℕ → List ℕ → List ℕ → List ℕ → Result Said Kind
-split_said p block at tail = do
-  x ← name_at block
-  n ← number_at at
-  t ← name_at tail
-  Ok (Split p x n t)
-
-unfoldable pub split_line : List ℕ → List (List ℕ) → Result Said Kind
-split_line p (block ∷ at ∷ tail ∷ []) = split_said p block at tail
-split_line p _ = Err BadCount
-
--- `P read X AT LEN`
-unfoldable pub read_said : List ℕ → List ℕ → List ℕ → List ℕ → Result Said Kind
-read_said p block at len = do
-  x ← name_at block
-  n ← number_at at
-  l ← number_between 1 32 len
-  Ok (Read p x n l)
-
-unfoldable pub read_line : List ℕ → List (List ℕ) → Result Said Kind
-read_line p (block ∷ at ∷ len ∷ []) = read_said p block at len
-read_line p _ = Err BadCount
-
--- `P write X AT HEX`
-unfoldable pub write_said : List ℕ → List ℕ → List ℕ → List ℕ → Result Said Kind
-write_said p block at bytes = do
-  x ← name_at block
-  n ← number_at at
-  b ← bytes_at bytes
-  Ok (Write p x n b)
-
-unfoldable pub write_line : List ℕ → List (List ℕ) → Result Said Kind
-write_line p (block ∷ at ∷ bytes ∷ []) = write_said p block at bytes
-write_line p _ = Err BadCount
-
--- `P give E TAG X ..`, with up to 16 names
-unfoldable pub give_said : List ℕ → List ℕ → List ℕ → List (List ℕ) → Result Said Kind
-give_said p endpoint tag blocks = do
-  e ← name_at endpoint
-  t ← number_between 0 65535 tag
-  xs ← names_at blocks
-  Ok (Give p e t xs)
-
-unfoldable pub give_line : List ℕ → List (List ℕ) → Result Said Kind
-give_line p (endpoint ∷ tag ∷ blocks) = if nat_le (length blocks) 16 then give_said p endpoint tag blocks else Err BadCount
-give_line p _ = Err BadCount
-
--- `P take E X ..`, with up to 8 names
-unfoldable pub take_said : List ℕ → List ℕ → List (List ℕ) → Result Said Kind
-take_said p endpoint blocks = do
-  e ← name_at endpoint
-  xs ← names_at blocks
-  Ok (Take p e xs)
-
-unfoldable pub take_line : List ℕ → List (List ℕ) → Result Said Kind
-take_line p (endpoint ∷ blocks) = if nat_le (length blocks) 8 then take_said p endpoint blocks else Err BadCount
-take_line p _ = Err BadCount
-
--- `P await E X ..`, with up to 8 names
-unfoldable pub await_said : List ℕ → List ℕ → List (List ℕ) → Result Said Kind
-await_said p endpoint blocks = do
-  e ← name_at endpoint
-  xs ← names_at blocks
-  Ok (Await p e xs)
-
-unfoldable pub await_line : List ℕ → List (List ℕ) → Result Said Kind
-await_line p (endpoint ∷ blocks) = if nat_le (length blocks) 8 then await_said p endpoint blocks else Err BadCount
-await_line p _ = Err BadCount
-
--- `P free X`
-unfoldable pub free_line : List ℕ → List (List ℕ) → Result Said Kind
-free_line p (block ∷ []) = do
-  x ← name_at block
-  Ok (Free p x)
-free_line p _ = Err BadCount
-
--- `P close E`
-unfoldable pub close_line : List ℕ → List (List ℕ) → Result Said Kind
-close_line p (endpoint ∷ []) = do
-  e ← name_at endpoint
-  Ok (Close p e)
-close_line p _ = Err BadCount
-
--- `P exit`, or `P exit BUDGET`
-unfoldable pub exit_line : List ℕ → List (List ℕ) → Result Said Kind
-exit_line p [] = Ok (Exit p 4096)
-exit_line p (budget ∷ []) = do
-  n ← number_between 1 4096 budget
-  Ok (Exit p n)
-exit_line p _ = Err BadCount
-
--- `P kill Q`, or `P kill Q BUDGET`
-unfoldable pub kill_said : List ℕ → List ℕ → List ℕ → Result Said Kind
-kill_said p victim budget = do
-  q ← name_at victim
-  n ← number_between 1 4096 budget
-  Ok (Kill p q n)
-
-unfoldable pub kill_line : List ℕ → List (List ℕ) → Result Said Kind
-kill_line p (victim ∷ []) = do
-  q ← name_at victim
-  Ok (Kill p q 4096)
-kill_line p (victim ∷ budget ∷ []) = kill_said p victim budget
-kill_line p _ = Err BadCount
-
--- `P glance Q`
-unfoldable pub glance_line : List ℕ → List (List ℕ) → Result Said Kind
-glance_line p (other ∷ []) = do
-  q ← name_at other
-  Ok (Glance p q)
-glance_line p _ = Err BadCount
-
--- `P again`
-unfoldable pub again_line : List ℕ → List (List ℕ) → Result Said Kind
-again_line p [] = Ok (Again p)
-again_line p _ = Err BadCount
+-- the form that a verb has
+unfoldable pub verb_at : List ℕ → Result Form Kind
+verb_at word =
+    if has_text word Open then Ok Open
+    else if has_text word Alloc then Ok Alloc
+    else if has_text word Split then Ok Split
+    else if has_text word Read then Ok Read
+    else if has_text word Write then Ok Write
+    else if has_text word Give then Ok Give
+    else if has_text word Take then Ok Take
+    else if has_text word Await then Ok Await
+    else if has_text word Free then Ok Free
+    else if has_text word Close then Ok Close
+    else if has_text word Exit then Ok Exit
+    else if has_text word Kill then Ok Kill
+    else if has_text word Glance then Ok Glance
+    else if has_text word Again then Ok Again
+    else Err BadWord

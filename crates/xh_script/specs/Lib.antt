@@ -3,9 +3,11 @@ pub mod Steps
 pub mod Names
 pub mod Tables
 pub mod Forms
+pub mod Sorts
 pub mod Grammar
 pub mod SoFar
 pub mod Numbering
+pub mod Operands
 pub mod Scripts
 pub mod Watching
 pub mod Texts

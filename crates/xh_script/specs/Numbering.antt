@@ -1,15 +1,19 @@
 -- The commands that lines say: numbers in place of names.
-use Rattle.std.specs.Prelude.{ℕ, Bool, true, false, ◌&&◌, List, [], ◌∷◌, ◌++◌, slice_index_or, slice_set, if◌then◌else◌, is_none, Option, Some, None, Result, Ok, Err}
-use Rattle.arrayvec.specs.ArrayVec.{ArrayVec}
+use Rattle.std.specs.Prelude.{ℕ, Bool, true, ◌&&◌, ◌||◌, not, List, [], ◌∷◌, ◌++◌, slice_index_or, slice_set, if◌then◌else◌, is_some, is_none, Option, Some, None, Result, Ok, Err}
+use Rattle.std.specs.List.{list_all}
 use Rattle.xh_model.specs.declared.row.Row.{Row}
 use Rattle.xh_script.specs.Steps.{◌>>=◌}
 use Rattle.xh_script.specs.Names.{number_in, entered}
+use Rattle.xh_script.specs.Forms.{is_head, declares}
 use Rattle.xh_script.specs.Tables.{is_table}
 use Rattle.xh_script.specs.SoFar.{SoFar}
 use Rattle.xh_script.specs.declared.fault.Kind.{Kind}
-use Rattle.xh_script.specs.declared.fault.Kind.TheVariants.{BadContract}
+use Rattle.xh_script.specs.declared.fault.Kind.TheVariants.{BadContract, LateHead}
+use Rattle.xh_script.specs.declared.form.Form.{Form}
+use Rattle.xh_script.specs.declared.form.Form.TheVariants as form
 use Rattle.xh_script.specs.declared.command.Command.{Command}
-use Rattle.xh_script.specs.declared.command.Command.TheVariants.{Contract, Process, Wire, Open, Alloc, Split, Read, Write, Give, Take, Await, Free, Close, Exit, Kill, Glance, Again}
+use Rattle.xh_script.specs.declared.command.Word.{Word}
+use Rattle.xh_script.specs.declared.command.Word.TheVariants.{Process, Block, Contract, Number, Bytes, Row as RowWord}
 
 -- the number of a process, of at most 64
 unfoldable pub process_in : SoFar → List ℕ → Result (ℕ × SoFar) Kind
@@ -19,104 +23,54 @@ process_in r name = entered 64 r.processes name >>= λ e. Ok (e.0, record r { pr
 unfoldable pub block_in : SoFar → ℕ → List ℕ → Result (ℕ × SoFar) Kind
 block_in r p name = entered 256 (slice_index_or r.blocks p []) name >>= λ e. Ok (e.0, record r { blocks = slice_set r.blocks p e.1 })
 
--- the numbers of blocks of one process, from left to right
-abbrev pub blocks_in : SoFar → ℕ → List (List ℕ) → Result (List ℕ × SoFar) Kind
-blocks_in r p [] = Ok ([], r)
-blocks_in r p (name ∷ names) = block_in r p name >>= λ x. blocks_in x.1 p names >>= λ xs. Ok (x.0 ∷ xs.0, xs.1)
-
--- the numbers of a process and of one of its blocks
-unfoldable pub both_in : SoFar → List ℕ → List ℕ → Result (ℕ × ℕ × SoFar) Kind
-both_in r process block = process_in r process >>= λ p. block_in p.1 p.0 block >>= λ x. Ok (p.0, x.0, x.1)
-
-abbrev pub found : Option ℕ → Result (Option ℕ) Kind
-found (Some n) = Ok (Some n)
+abbrev pub found : Option ℕ → Result ℕ Kind
+found (Some n) = Ok n
 found None = Err BadContract
 
--- the number of a contract that stands on an earlier line, where one is named
-unfoldable pub contract_in : SoFar → Option (List ℕ) → Result (Option ℕ) Kind
-contract_in r None = Ok None
-contract_in r (Some name) = found (number_in r.declared name)
+-- a word with a number for its name, where the process that was named last has the number p; and the number of the process that is named last then
+unfoldable pub word_in : SoFar → ℕ → Word (List ℕ) → Result (ℕ × Word ℕ × SoFar) Kind
+word_in r p (Process name) = process_in r name >>= λ q. Ok (q.0, Process q.0, q.1)
+word_in r p (Block name) = block_in r p name >>= λ x. Ok (p, Block x.0, x.1)
+word_in r p (Contract name) = found (number_in r.declared name) >>= λ k. Ok (p, Contract k, r)
+word_in r p (Number n) = Ok (p, Number n, r)
+word_in r p (Bytes bytes) = Ok (p, Bytes bytes, r)
+word_in r p (RowWord row) = Ok (p, RowWord row, r)
 
--- ---- each form of line
+-- words with numbers for their names, from left to right
+abbrev pub words_in : SoFar → ℕ → List (Word (List ℕ)) → Result (List (Word ℕ) × SoFar) Kind
+words_in r p [] = Ok ([], r)
+words_in r p (word ∷ words) = word_in r p word >>= λ w. words_in w.2 w.0 words >>= λ ws. Ok (w.1 ∷ ws.0, ws.1)
 
--- a new contract, of at most 16, with a valid table
-unfoldable pub contract_numbered : SoFar → List ℕ → List Row → Result (Command × SoFar) Kind
-contract_numbered r name rows =
-    if is_table rows && is_none (number_in r.declared name) then
-    (entered 16 r.declared name >>= λ e. Ok (Contract e.0, record r { declared = e.1; contracts = r.contracts ++ rows ∷ [] }))
+-- a contract that is named stands on an earlier line
+abbrev pub is_known : SoFar → Word (List ℕ) → Bool
+is_known r (Contract name) = is_some (number_in r.declared name)
+is_known r _ = true
+
+unfoldable pub numbered : SoFar → Form → List (Word (List ℕ)) → Result (Command ℕ × SoFar) Kind
+numbered r form words =
+    if list_all (is_known r) words then
+    (words_in r 0 words >>= λ ws. Ok (record { form = form; words = record { items = ws.0 } }, ws.1))
     else Err BadContract
 
-unfoldable pub process_numbered : SoFar → List ℕ → Result (Command × SoFar) Kind
-process_numbered r process = process_in r process >>= λ p. Ok (Process p.0, p.1)
+abbrev pub rows_in : List (Word (List ℕ)) → List Row
+rows_in [] = []
+rows_in (RowWord row ∷ words) = row ∷ rows_in words
+rows_in (_ ∷ words) = rows_in words
 
-unfoldable pub wire_numbered : SoFar → List ℕ → List ℕ → List ℕ → List ℕ → ℕ → Option (List ℕ) → Result (Command × SoFar) Kind
-wire_numbered r process first peer second arena contract = do
-  k ← contract_in r contract
-  e ← both_in r process first
-  f ← both_in e.2 peer second
-  Ok (Wire e.0 e.1 f.0 f.1 arena k, f.2)
+-- a new contract, of at most 16, with a valid table
+unfoldable pub declared_by : SoFar → List ℕ → List Row → Result (Command ℕ × SoFar) Kind
+declared_by r name rows =
+    if is_table rows && is_none (number_in r.declared name) then
+    (entered 16 r.declared name >>= λ e. Ok (record { form = form.Contract; words = record { items = Contract e.0 ∷ [] } }, record r { declared = e.1; contracts = r.contracts ++ rows ∷ [] }))
+    else Err BadContract
 
-unfoldable pub open_numbered : SoFar → List ℕ → List ℕ → List ℕ → ℕ → Option (List ℕ) → Result (Command × SoFar) Kind
-open_numbered r process first second arena contract = do
-  k ← contract_in r contract
-  e ← both_in r process first
-  f ← block_in e.2 e.0 second
-  Ok (Open e.0 e.1 f.0 arena k, f.1)
+unfoldable pub declared : SoFar → List (Word (List ℕ)) → Result (Command ℕ × SoFar) Kind
+declared r (Contract name ∷ words) = declared_by r name (rows_in words)
+declared r _ = Err BadContract
 
-unfoldable pub alloc_numbered : SoFar → List ℕ → List ℕ → ℕ → ℕ → Result (Command × SoFar) Kind
-alloc_numbered r process block bytes arena = both_in r process block >>= λ x. Ok (Alloc x.0 x.1 bytes arena, x.2)
-
-unfoldable pub split_numbered : SoFar → List ℕ → List ℕ → ℕ → List ℕ → Result (Command × SoFar) Kind
-split_numbered r process block at tail = do
-  x ← both_in r process block
-  t ← block_in x.2 x.0 tail
-  Ok (Split x.0 x.1 at t.0, t.1)
-
-unfoldable pub read_numbered : SoFar → List ℕ → List ℕ → ℕ → ℕ → Result (Command × SoFar) Kind
-read_numbered r process block at len = both_in r process block >>= λ x. Ok (Read x.0 x.1 at len, x.2)
-
-unfoldable pub write_numbered : SoFar → List ℕ → List ℕ → ℕ → ArrayVec ℕ → Result (Command × SoFar) Kind
-write_numbered r process block at bytes = both_in r process block >>= λ x. Ok (Write x.0 x.1 at bytes, x.2)
-
-unfoldable pub give_numbered : SoFar → List ℕ → List ℕ → ℕ → List (List ℕ) → Result (Command × SoFar) Kind
-give_numbered r process endpoint tag blocks = do
-  e ← both_in r process endpoint
-  xs ← blocks_in e.2 e.0 blocks
-  Ok (Give e.0 e.1 tag (record { items = xs.0 }), xs.1)
-
-unfoldable pub take_numbered : SoFar → List ℕ → List ℕ → List (List ℕ) → Result (Command × SoFar) Kind
-take_numbered r process endpoint blocks = do
-  e ← both_in r process endpoint
-  xs ← blocks_in e.2 e.0 blocks
-  Ok (Take e.0 e.1 (record { items = xs.0 }), xs.1)
-
-unfoldable pub await_numbered : SoFar → List ℕ → List ℕ → List (List ℕ) → Result (Command × SoFar) Kind
-await_numbered r process endpoint blocks = do
-  e ← both_in r process endpoint
-  xs ← blocks_in e.2 e.0 blocks
-  Ok (Await e.0 e.1 (record { items = xs.0 }), xs.1)
-
-unfoldable pub free_numbered : SoFar → List ℕ → List ℕ → Result (Command × SoFar) Kind
-free_numbered r process block = both_in r process block >>= λ x. Ok (Free x.0 x.1, x.2)
-
-unfoldable pub close_numbered : SoFar → List ℕ → List ℕ → Result (Command × SoFar) Kind
-close_numbered r process endpoint = both_in r process endpoint >>= λ e. Ok (Close e.0 e.1, e.2)
-
-unfoldable pub exit_numbered : SoFar → List ℕ → ℕ → Result (Command × SoFar) Kind
-exit_numbered r process budget = process_in r process >>= λ p. Ok (Exit p.0 budget, p.1)
-
-unfoldable pub kill_numbered : SoFar → List ℕ → List ℕ → ℕ → Result (Command × SoFar) Kind
-kill_numbered r process victim budget = process_in r process >>= λ p. process_in p.1 victim >>= λ q. Ok (Kill p.0 q.0 budget, q.1)
-
-unfoldable pub glance_numbered : SoFar → List ℕ → List ℕ → Result (Command × SoFar) Kind
-glance_numbered r process other = process_in r process >>= λ p. process_in p.1 other >>= λ q. Ok (Glance p.0 q.0, q.1)
-
-unfoldable pub again_numbered : SoFar → List ℕ → Result (Command × SoFar) Kind
-again_numbered r process = process_in r process >>= λ p. Ok (Again p.0, p.1)
-
--- whether a command is a head line's
-abbrev pub is_head_command : Command → Bool
-is_head_command (Contract k) = true
-is_head_command (Process p) = true
-is_head_command (Wire p e q f a k) = true
-is_head_command _ = false
+-- the command that a line says, where its place in the script allows it: `contract`, `process` and `wire` stand ahead of all other commands
+unfoldable pub placed : SoFar → Command (List ℕ) → Result (Command ℕ × SoFar) Kind
+placed r c =
+    if is_head c.form && r.begun then Err LateHead
+    else if declares c.form then declared r c.words.items
+    else numbered (record r { begun = r.begun || not (is_head c.form) }) c.form c.words.items

@@ -1,10 +1,11 @@
 -- Whether rows are a table of a contract, as a test.
-use Rattle.std.specs.Prelude.{◌&&◌, ◌||◌, ◌==◌, Bool, true, not, List, [], ◌∷◌, length, nat_le}
+use Rattle.std.specs.Prelude.{◌&&◌, ◌||◌, ◌==◌, Bool, true, not, List, [], ◌∷◌, length, nat_le, nat_lt}
 use Rattle.std.specs.List.{list_all}
 use Rattle.xh_model.specs.declared.row.Row.{Row}
+use Rattle.xh_model.specs.declared.limits.TheConstants.{MAX_ROWS, STATES}
 
 abbrev pub is_row : Row → Bool
-is_row row = nat_le row.state 15 && nat_le row.side 1 && nat_le row.next 15
+is_row row = nat_lt row.state STATES && nat_le row.side 1 && nat_lt row.next STATES
 
 -- two rows of one state have one sending side, and not one tag
 abbrev pub agree : Row → Row → Bool
@@ -16,4 +17,4 @@ all_agree (row ∷ rows) = list_all (agree row) rows && all_agree rows
 
 -- 1 to 16 rows in range, of which each two agree
 unfoldable pub is_table : List Row → Bool
-is_table rows = nat_le 1 (length rows) && nat_le (length rows) 16 && list_all is_row rows && all_agree rows
+is_table rows = nat_le 1 (length rows) && nat_le (length rows) MAX_ROWS && list_all is_row rows && all_agree rows

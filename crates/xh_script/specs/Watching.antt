@@ -1,13 +1,14 @@
--- What is said of a reader or a writer that remembers its failures.
-use Rattle.std.specs.Prelude.{◌≡◌, ℕ, Bool, true, List, ◌++◌, Option, Result, Ok, Err}
+-- What is said of a reader or a writer whose failures are counted.
+use Rattle.std.specs.Prelude.{◌≡◌, ◌≢◌, ℕ, List, ◌++◌, Option, Result, Ok, Err}
 use Rattle.std.specs.Io.KnownBytes.{Appends, Consumes}
 use Rattle.xh_script.specs.declared.watch.Watched.{Watched}
 use Rattle.xh_script.specs.declared.fault.Fault.{Fault}
 use Rattle.xh_script.specs.declared.fault.Fault.TheVariants.{Write}
 
 module _ {T : Type 0} where
-  abbrev pub has_failed : Watched T → Bool
-  has_failed w = w.has_failed
+  -- how many of its calls have failed
+  abbrev pub failures : Watched T → ℕ
+  failures w = w.failures
 
   abbrev pub inner_of : Watched T → T
   inner_of w = w.inner
@@ -15,12 +16,12 @@ module _ {T : Type 0} where
   -- a read gave these bytes, the next of those that remain
   pub record Reads (remaining : T → Option (List ℕ)) (old new : Watched T) (bytes : List ℕ) : Type 0 where
     pub taken : Consumes (remaining (inner_of old)) (remaining (inner_of new)) bytes
-    pub still : has_failed new ≡ has_failed old
+    pub still : failures new ≡ failures old
 
   -- these bytes were written behind what was there
   pub record Writes (contents : T → Option (List ℕ)) (old new : Watched T) (bytes : List ℕ) : Type 0 where
     pub held : Appends (contents (inner_of old)) (contents (inner_of new)) bytes
-    pub still : has_failed new ≡ has_failed old
+    pub still : failures new ≡ failures old
 
   -- a front of these bytes was written, and then a call of the writer failed
   pub record WritesFront (contents : T → Option (List ℕ)) (old new : Watched T) (bytes : List ℕ) : Type 0 where
@@ -28,7 +29,7 @@ module _ {T : Type 0} where
     pub rest : List ℕ
     pub whole : bytes ≡ front ++ rest
     pub held : Appends (contents (inner_of old)) (contents (inner_of new)) front
-    pub failed : has_failed new ≡ true
+    pub failed : failures new ≢ failures old
 
   -- all of the bytes were written at Ok, and a front of them at Err, which is Write
   abbrev pub WritesOrFails : (T → Option (List ℕ)) → Watched T → Watched T → Result (Unit {0}) Fault → List ℕ → Type 0

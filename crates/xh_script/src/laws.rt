@@ -3,19 +3,19 @@ ghost use Rattle.std.specs.Prelude.{◌≡◌, ℕ, List, Ok, Some, slice_get};
 ghost use Rattle.xh_script.specs.Grammar.{said_by};
 ghost use Rattle.xh_script.specs.Names.{number_in};
 ghost use Rattle.xh_script.specs.Sayable.{IsSayable};
-ghost use Rattle.xh_script.specs.Spelling.{IsSpelled};
-ghost use Rattle.xh_script.specs.declared.said.Said.{Said};
+ghost use Rattle.xh_script.specs.Spelling.{spelled};
+ghost use Rattle.xh_script.specs.declared.command.Command.{Command};
 
 /// What the words of a line are read as is spelled by these words: no number with a zero in
 /// front, no digit in upper case, no word too many is read as if it were not there.
 pub fn commands_are_spelled()
-    ensures { (words : List (List ℕ)) (said : Said) → said_by words ≡ Ok said → IsSpelled said words }
+    ensures { (words : List (List ℕ)) (c : Command (List ℕ)) → said_by words ≡ Ok c → words ≡ spelled c }
 {}
 
 /// The words that spell a command are read as it, where its names, numbers and counts are within the
 /// limits of the language: no command that can be said is out of reach.
 pub fn spelled_commands_are_read()
-    ensures { (said : Said) (words : List (List ℕ)) → IsSayable said → IsSpelled said words → said_by words ≡ Ok said }
+    ensures { (c : Command (List ℕ)) → IsSayable c → said_by (spelled c) ≡ Ok c }
 {}
 
 /// The number of a name leads back to that name.

@@ -1,56 +1,49 @@
 //! What a line says.
-ghost use Rattle.std.specs.Prelude.{◌≡◌, map};
+ghost use Rattle.std.specs.Prelude.{◌≡◌, ◌∷◌, map};
 ghost use Rattle.std.specs.List.{list_all};
 ghost use Rattle.xh_script.specs.Steps.{Answers};
-ghost use Rattle.xh_script.specs.Scripts.{placed, optional_placed};
-ghost use Rattle.xh_script.specs.Grammar.{form, verb_line, is_filled, line_by, said_by, is_printable, is_skipped, said_at};
+ghost use Rattle.xh_script.specs.Grammar.{said, head_line, verb_line, is_filled, line_by, said_by, is_printable, is_skipped, said_at};
 
-use crate::block_lines::{alloc_line, free_line, read_line, split_line, write_line};
-use crate::end_lines::{again_line, exit_line, glance_line, kill_line};
-use crate::head_lines::{contract_line, process_line, wire_line};
-use crate::message_lines::{await_line, close_line, give_line, open_line, take_line};
+use crate::name::is_name;
 use crate::pieces::pieces;
-use crate::reading::Reading;
-use crate::verb::{Verb, verb_at};
-use crate::word::name_at;
-use crate::{Command, Kind, Name, Stop};
+use crate::word::words_of;
+use crate::{Command, Form, Kind, Name, Stop};
 use std::alloc::Global;
 
-/// The command that a verb and the words behind it say.
-#[tactic(auto, unfolding(crate::specs::Grammar::form), using(crate::proofs::Readings::stops_then))]
-fn form(reading: &mut Reading, verb: Verb, process: &Name, words: &[&[u8]]) -> Result<Command, Stop>
-    ensures { Answers (λ c. (c, reading.new)) result
-        (placed reading.old (form verb process.now (map (λ w. w.now) words.now))) }
+/// The command of a form with these words, a first one and others.
+#[tactic(auto, unfolding(crate::specs::Grammar::said), using(crate::proofs::Readings::stops_then))]
+fn said(alloc: Global, form: Form, first: &[u8], others: &[&[u8]]) -> Result<Command<Name>, Stop>
+    ensures { Answers (λ c. c) result (said form first.now (map (λ w. w.now) others.now)) }
 {
-    match verb {
-        Verb::Open => open_line(reading, process, words),
-        Verb::Alloc => alloc_line(reading, process, words),
-        Verb::Split => split_line(reading, process, words),
-        Verb::Read => read_line(reading, process, words),
-        Verb::Write => write_line(reading, process, words),
-        Verb::Give => give_line(reading, process, words),
-        Verb::Take => take_line(reading, process, words),
-        Verb::Await => await_line(reading, process, words),
-        Verb::Free => free_line(reading, process, words),
-        Verb::Close => close_line(reading, process, words),
-        Verb::Exit => exit_line(reading, process, words),
-        Verb::Kill => kill_line(reading, process, words),
-        Verb::Glance => glance_line(reading, process, words),
-        Verb::Again => again_line(reading, process, words),
+    let shape = form.shape();
+    if !shape.has_count(1 + others.len()) {
+        return Err(Stop::Bad(Kind::BadCount));
     }
+    let words = words_of(alloc, &shape, first, others)?;
+    Ok(Command { form, words })
 }
 
-/// The command that the words of a process say behind its name.
-#[tactic(auto, unfolding(crate::specs::Grammar::verb_line), using(crate::proofs::Readings::stops_then))]
-fn verb_line(reading: &mut Reading, process: &Name, words: &[&[u8]]) -> Result<Command, Stop>
-    ensures { Answers (λ c. (c, reading.new)) result
-        (placed reading.old (verb_line process.now (map (λ w. w.now) words.now))) }
+/// The command of a line whose first word is a form's own.
+#[tactic(auto, unfolding(crate::specs::Grammar::head_line), using(crate::proofs::Readings::stops_then))]
+fn head_line(alloc: Global, form: Form, words: &[&[u8]]) -> Result<Command<Name>, Stop>
+    ensures { Answers (λ c. c) result (head_line form (map (λ w. w.now) words.now)) }
 {
-    let [verb, words @ ..] = words else {
+    let [first, others @ ..] = words else {
         return Err(Stop::Bad(Kind::BadCount));
     };
-    let verb = verb_at(verb)?;
-    form(reading, verb, process, words)
+    said(alloc, form, first, others)
+}
+
+/// The command of a line whose first word is the name of a process.
+#[tactic(auto, unfolding(crate::specs::Grammar::verb_line), using(crate::proofs::Readings::stops_then))]
+fn verb_line(alloc: Global, process: &[u8], words: &[&[u8]]) -> Result<Command<Name>, Stop>
+    ensures { Answers (λ c. c) result (verb_line process.now (map (λ w. w.now) words.now)) }
+{
+    let [verb, others @ ..] = words else {
+        return Err(Stop::Bad(Kind::BadCount));
+    };
+    let form = Form::of_verb(verb)?;
+    said(alloc, form, process, others)
 }
 
 fn are_filled(words: &[&[u8]]) -> bool
@@ -65,40 +58,36 @@ fn are_filled(words: &[&[u8]]) -> bool
 }
 
 /// The command that the words of a line say, by the first of them.
-#[tactic(auto, unfolding(crate::specs::Grammar::line_by), using(crate::proofs::Readings::stops_then))]
-fn line_by(
-    alloc: Global,
-    reading: &mut Reading,
-    first: &[u8],
-    words: &[&[u8]],
-) -> Result<Command, Stop>
-    ensures { Answers (λ c. (c, reading.new)) result
-        (placed reading.old (line_by first.now (map (λ w. w.now) words.now))) }
+#[tactic(auto, unfolding(crate::specs::Grammar::line_by, crate::specs::Sorts::name_at), using(crate::proofs::Readings::stops_then))]
+fn line_by(alloc: Global, first: &[u8], words: &[&[u8]]) -> Result<Command<Name>, Stop>
+    ensures { Answers (λ c. c) result (line_by first.now (map (λ w. w.now) words.now)) }
 {
     if first == b"process".as_slice() {
-        return process_line(reading, words);
+        return head_line(alloc, Form::Process, words);
     }
     if first == b"wire".as_slice() {
-        return wire_line(reading, words);
+        return head_line(alloc, Form::Wire, words);
     }
     if first == b"contract".as_slice() {
-        return contract_line(alloc, reading, words);
+        return head_line(alloc, Form::Contract, words);
     }
-    let process = name_at(first)?;
-    verb_line(reading, &process, words)
+    if is_name(first) {
+        verb_line(alloc, first, words)
+    } else {
+        Err(Stop::Bad(Kind::BadWord))
+    }
 }
 
 /// The command that the words of a line say.
 #[tactic(auto, unfolding(crate::specs::Grammar::said_by), using(crate::proofs::Readings::stops_then))]
-fn said_by(alloc: Global, reading: &mut Reading, words: &[&[u8]]) -> Result<Command, Stop>
-    ensures { Answers (λ c. (c, reading.new)) result
-        (placed reading.old (said_by (map (λ w. w.now) words.now))) }
+fn said_by(alloc: Global, words: &[&[u8]]) -> Result<Command<Name>, Stop>
+    ensures { Answers (λ c. c) result (said_by (map (λ w. w.now) words.now)) }
 {
-    let [first, rest @ ..] = words else {
+    let [first, others @ ..] = words else {
         return Err(Stop::Bad(Kind::BadWord));
     };
     if are_filled(words) {
-        line_by(alloc, reading, first, rest)
+        line_by(alloc, first, others)
     } else {
         Err(Stop::Bad(Kind::BadWord))
     }
@@ -127,12 +116,8 @@ fn is_skipped(line: &[u8]) -> bool
 
 /// The command that a line says, or none where the line is skipped.
 #[tactic(auto, unfolding(crate::specs::Grammar::said_at), using(crate::proofs::Readings::stops_then))]
-pub(crate) fn command_at(
-    alloc: Global,
-    reading: &mut Reading,
-    line: &[u8],
-) -> Result<Option<Command>, Stop>
-    ensures { Answers (λ c. (c, reading.new)) result (optional_placed reading.old (said_at line.now)) }
+pub(crate) fn said_at(alloc: Global, line: &[u8]) -> Result<Option<Command<Name>>, Stop>
+    ensures { Answers (λ c. c) result (said_at line.now) }
 {
     if line.len() > 256 {
         return Err(Stop::Bad(Kind::LongLine));
@@ -144,6 +129,6 @@ pub(crate) fn command_at(
         return Err(Stop::Bad(Kind::BadByte));
     }
     let words = pieces(alloc, line, b' ')?;
-    let command = said_by(alloc, reading, &words)?;
-    Ok(Some(command))
+    let said = said_by(alloc, &words)?;
+    Ok(Some(said))
 }

@@ -1,8 +1,11 @@
 //! Numbers.
-ghost use Rattle.std.specs.Prelude.{◌≡◌, ◌<◌, ◌≤◌, true, length, IfSome};
+ghost use Rattle.std.specs.Prelude.{◌≡◌, ◌<◌, ◌≤◌, true, length, IfSome, IfOk};
 ghost use Rattle.std.specs.List.{list_all};
 ghost use Rattle.std.specs.Fmt.{decimal};
 ghost use Rattle.xh_script.specs.Words.{is_digit, has_no_zero_in_front, is_numeral, number_of, value_of};
+ghost use Rattle.xh_script.specs.Sorts.{number_at, number_between};
+
+use crate::Kind;
 
 fn has_no_zero_in_front(word: &[u8]) -> bool
     requires { 0 < length word.now }
@@ -46,9 +49,58 @@ fn number_of(word: &[u8]) -> Option<u32>
 }
 
 /// The number below 2^32 whose decimal digits a word is.
-pub(crate) fn read_number(word: &[u8]) -> Option<u32>
+fn read_number(word: &[u8]) -> Option<u32>
     ensures value { result ≡ number_of word.now }
     ensures text { IfSome result (λ n. word.now ≡ decimal n) }
 {
     number_of(word)
+}
+
+/// The number below 2^32 that a word is.
+#[tactic(auto, unfolding(crate::specs::Sorts::number_at))]
+fn number_at(word: &[u8]) -> Result<u32, Kind>
+    ensures { result ≡ number_at word.now }
+{
+    match read_number(word) {
+        Some(number) => Ok(number),
+        None => Err(Kind::BadNumber),
+    }
+}
+
+/// The number that a word is, if it is in this range.
+#[tactic(auto, unfolding(crate::specs::Sorts::number_between))]
+pub(crate) fn number_between(low: u32, high: u32, word: &[u8]) -> Result<u32, Kind>
+    ensures is { result ≡ number_between low high word.now }
+    ensures within { IfOk result (λ n. n ≤ high) }
+{
+    let number = number_at(word)?;
+    if low <= number && number <= high {
+        Ok(number)
+    } else {
+        Err(Kind::BadNumber)
+    }
+}
+
+/// A state of a contract.
+pub(crate) fn state_at(word: &[u8]) -> Result<u8, Kind>
+    ensures { result ≡ number_between 0 15 word.now }
+{
+    let number = number_between(0, 15, word)?;
+    Ok(number as u8)
+}
+
+/// A side of a channel.
+pub(crate) fn side_at(word: &[u8]) -> Result<u8, Kind>
+    ensures { result ≡ number_between 0 1 word.now }
+{
+    let number = number_between(0, 1, word)?;
+    Ok(number as u8)
+}
+
+/// A tag.
+pub(crate) fn tag_at(word: &[u8]) -> Result<u16, Kind>
+    ensures { result ≡ number_between 0 65535 word.now }
+{
+    let number = number_between(0, 65_535, word)?;
+    Ok(number as u16)
 }

@@ -1,20 +1,117 @@
-//! Numbers in place of names, form by form.
-ghost use Rattle.std.specs.Prelude.{◌≡◌, ◌<◌};
+//! Numbers in place of names.
+ghost use Rattle.std.specs.Prelude.{◌≡◌, ◌<◌, ◌≤◌, IfOk, length};
+ghost use Rattle.std.specs.List.{list_all};
 ghost use Rattle.xh_script.specs.Steps.{Answers};
-ghost use Rattle.xh_script.specs.Numbering.{contract_numbered, process_numbered, wire_numbered, open_numbered, alloc_numbered, split_numbered, read_numbered, write_numbered, give_numbered, take_numbered, await_numbered, free_numbered, close_numbered, exit_numbered, kill_numbered, glance_numbered, again_numbered};
+ghost use Rattle.xh_script.specs.Numbering.{word_in, words_in, is_known, numbered, rows_in, declared_by, declared, placed};
 
 use crate::reading::Reading;
 use crate::table::table_of;
-use crate::{Command, Kind, Name, Stop};
+use crate::{Command, Form, Kind, Name, Stop, Word};
 use arrayvec::ArrayVec;
 use xh_model::Row;
 
+/// The same bytes once more.
+fn copy_of(bytes: &[u8]) -> ArrayVec<u8, 32>
+    requires { length bytes.now ≤ 32 }
+    ensures { result.items ≡ bytes.now }
+{
+    let mut copy = ArrayVec::new();
+    for byte in bytes {
+        copy.push(*byte);
+    }
+    copy
+}
+
+/// The rows among words.
+fn rows_in(words: &[Word<Name>]) -> ArrayVec<Row, 19>
+    requires { length words.now ≤ 19 }
+    ensures { result.items ≡ rows_in words.now }
+{
+    let mut rows = ArrayVec::new();
+    for word in words {
+        if let Word::Row(row) = word {
+            rows.push(*row);
+        }
+    }
+    rows
+}
+
 impl Reading {
+    /// A word with a number for its name, where `process` was named last; and the process that is
+    /// named last then.
+    #[tactic(auto, unfolding(crate::specs::Numbering::word_in), using(crate::proofs::Readings::stops_then))]
+    fn number(&mut self, process: u8, word: &Word<Name>) -> Result<(u8, Word<u8>), Stop>
+        requires { process < 64 }
+        ensures gives { Answers (λ w. (w.0, w.1, self.new)) result (word_in self.old process word.now) }
+        ensures within { IfOk result (λ w. w.0 < 64) }
+    {
+        match word {
+            Word::Process(name) => {
+                let number = self.process(name)?;
+                Ok((number, Word::Process(number)))
+            }
+            Word::Block(name) => {
+                let number = self.block(process, name)?;
+                Ok((process, Word::Block(number)))
+            }
+            Word::Contract(name) => match self.declared.number(name) {
+                Some(number) => Ok((process, Word::Contract(number))),
+                None => Err(Stop::Bad(Kind::BadContract)),
+            },
+            Word::Number(number) => Ok((process, Word::Number(*number))),
+            Word::Bytes(bytes) => Ok((process, Word::Bytes(copy_of(bytes)))),
+            Word::Row(row) => Ok((process, Word::Row(*row))),
+        }
+    }
+
+    /// Words with numbers for their names, from left to right.
+    fn numbers(&mut self, words: &[Word<Name>]) -> Result<ArrayVec<Word<u8>, 19>, Stop>
+        requires { length words.now ≤ 19 }
+        ensures { Answers (λ ws. (ws.items, self.new)) result (words_in self.old 0 words.now) }
+    {
+        let mut process = 0;
+        let mut numbers = ArrayVec::new();
+        for word in words {
+            let (named, number) = self.number(process, word)?;
+            process = named;
+            numbers.push(number);
+        }
+        Ok(numbers)
+    }
+
+    /// Whether a contract that is named stands on an earlier line.
+    fn is_known(&self, word: &Word<Name>) -> bool
+        ensures { result ≡ is_known self.now word.now }
+    {
+        match word {
+            Word::Contract(name) => self.declared.number(name).is_some(),
+            _ => true,
+        }
+    }
+
+    fn are_known(&self, words: &[Word<Name>]) -> bool
+        ensures { result ≡ list_all (is_known self.now) words.now }
+    {
+        words.iter().all(|word| self.is_known(word))
+    }
+
+    /// A command of words that names what was declared before.
+    #[tactic(auto, unfolding(crate::specs::Numbering::numbered), using(crate::proofs::Readings::stops_then))]
+    fn numbered(&mut self, form: Form, words: &[Word<Name>]) -> Result<Command<u8>, Stop>
+        requires { length words.now ≤ 19 }
+        ensures { Answers (λ c. (c, self.new)) result (numbered self.old form words.now) }
+    {
+        if !self.are_known(words) {
+            return Err(Stop::Bad(Kind::BadContract));
+        }
+        let words = self.numbers(words)?;
+        Ok(Command { form, words })
+    }
+
     /// A new contract.
-    #[inline(never)]
-    #[tactic(auto, unfolding(crate::specs::Numbering::contract_numbered), using(crate::proofs::Readings::stops_then))]
-    pub(crate) fn number_contract(&mut self, name: &Name, rows: &[Row]) -> Result<Command, Stop>
-        ensures { Answers (λ c. (c, self.new)) result (contract_numbered self.old name.now rows.now) }
+    #[tactic(auto, unfolding(crate::specs::Numbering::declared_by), using(crate::proofs::Readings::stops_then))]
+    fn declared_by(&mut self, name: &Name, rows: &[Row]) -> Result<Command<u8>, Stop>
+        ensures { Answers (λ c. (c, self.new)) result (declared_by self.old name.now rows.now) }
     {
         let Some(table) = table_of(rows) else {
             return Err(Stop::Bad(Kind::BadContract));
@@ -24,280 +121,42 @@ impl Reading {
         }
         let contract = self.declared.enter(16, name)?;
         self.contracts.push(table)?;
-        Ok(Command::Contract { contract })
-    }
-
-    #[inline(never)]
-    #[tactic(auto, unfolding(crate::specs::Numbering::process_numbered), using(crate::proofs::Readings::stops_then))]
-    pub(crate) fn number_process(&mut self, process: &Name) -> Result<Command, Stop>
-        ensures { Answers (λ c. (c, self.new)) result (process_numbered self.old process.now) }
-    {
-        let process = self.process(process)?;
-        Ok(Command::Process { process })
-    }
-
-    #[inline(never)]
-    #[tactic(auto, unfolding(crate::specs::Numbering::wire_numbered), using(crate::proofs::Readings::stops_then))]
-    pub(crate) fn number_wire(
-        &mut self,
-        process: &Name,
-        first: &Name,
-        peer: &Name,
-        second: &Name,
-        arena: u32,
-        contract: &Option<Name>,
-    ) -> Result<Command, Stop>
-        ensures { Answers (λ c. (c, self.new)) result
-            (wire_numbered self.old process.now first.now peer.now second.now arena contract.now) }
-    {
-        let contract = self.contract(contract)?;
-        let (process, first) = self.both(process, first)?;
-        let (peer, second) = self.both(peer, second)?;
-        Ok(Command::Wire {
-            process,
-            first,
-            peer,
-            second,
-            arena,
-            contract,
+        let mut words = ArrayVec::new();
+        words.push(Word::Contract(contract));
+        Ok(Command {
+            form: Form::Contract,
+            words,
         })
     }
 
-    #[inline(never)]
-    #[tactic(auto, unfolding(crate::specs::Numbering::open_numbered), using(crate::proofs::Readings::stops_then))]
-    pub(crate) fn number_open(
-        &mut self,
-        process: &Name,
-        first: &Name,
-        second: &Name,
-        arena: u32,
-        contract: &Option<Name>,
-    ) -> Result<Command, Stop>
-        ensures { Answers (λ c. (c, self.new)) result
-            (open_numbered self.old process.now first.now second.now arena contract.now) }
+    /// The contract that a line declares.
+    #[tactic(auto, unfolding(crate::specs::Numbering::declared), using(crate::proofs::Readings::stops_then))]
+    fn declare(&mut self, words: &[Word<Name>]) -> Result<Command<u8>, Stop>
+        requires { length words.now ≤ 19 }
+        ensures { Answers (λ c. (c, self.new)) result (declared self.old words.now) }
     {
-        let contract = self.contract(contract)?;
-        let (process, first) = self.both(process, first)?;
-        let second = self.block(process, second)?;
-        Ok(Command::Open {
-            process,
-            first,
-            second,
-            arena,
-            contract,
-        })
+        let [first, rows @ ..] = words else {
+            return Err(Stop::Bad(Kind::BadContract));
+        };
+        match first {
+            Word::Contract(name) => self.declared_by(name, &rows_in(rows)),
+            _ => Err(Stop::Bad(Kind::BadContract)),
+        }
     }
 
-    #[inline(never)]
-    #[tactic(auto, unfolding(crate::specs::Numbering::alloc_numbered), using(crate::proofs::Readings::stops_then))]
-    pub(crate) fn number_alloc(
-        &mut self,
-        process: &Name,
-        block: &Name,
-        bytes: u32,
-        arena: u32,
-    ) -> Result<Command, Stop>
-        ensures { Answers (λ c. (c, self.new)) result
-            (alloc_numbered self.old process.now block.now bytes arena) }
+    /// The command that a line says, where its place in the script allows it.
+    #[tactic(auto, unfolding(crate::specs::Numbering::placed), using(crate::proofs::Readings::stops_then))]
+    pub(crate) fn place(&mut self, said: Command<Name>) -> Result<Command<u8>, Stop>
+        ensures { Answers (λ c. (c, self.new)) result (placed self.old said) }
     {
-        let (process, block) = self.both(process, block)?;
-        Ok(Command::Alloc {
-            process,
-            block,
-            bytes,
-            arena,
-        })
-    }
-
-    #[inline(never)]
-    #[tactic(auto, unfolding(crate::specs::Numbering::split_numbered), using(crate::proofs::Readings::stops_then))]
-    pub(crate) fn number_split(
-        &mut self,
-        process: &Name,
-        block: &Name,
-        at: u32,
-        tail: &Name,
-    ) -> Result<Command, Stop>
-        ensures { Answers (λ c. (c, self.new)) result
-            (split_numbered self.old process.now block.now at tail.now) }
-    {
-        let (process, block) = self.both(process, block)?;
-        let tail = self.block(process, tail)?;
-        Ok(Command::Split {
-            process,
-            block,
-            at,
-            tail,
-        })
-    }
-
-    #[inline(never)]
-    #[tactic(auto, unfolding(crate::specs::Numbering::read_numbered), using(crate::proofs::Readings::stops_then))]
-    pub(crate) fn number_read(
-        &mut self,
-        process: &Name,
-        block: &Name,
-        at: u32,
-        len: u8,
-    ) -> Result<Command, Stop>
-        ensures { Answers (λ c. (c, self.new)) result
-            (read_numbered self.old process.now block.now at len) }
-    {
-        let (process, block) = self.both(process, block)?;
-        Ok(Command::Read {
-            process,
-            block,
-            at,
-            len,
-        })
-    }
-
-    #[inline(never)]
-    #[tactic(auto, unfolding(crate::specs::Numbering::write_numbered), using(crate::proofs::Readings::stops_then))]
-    pub(crate) fn number_write(
-        &mut self,
-        process: &Name,
-        block: &Name,
-        at: u32,
-        bytes: ArrayVec<u8, 32>,
-    ) -> Result<Command, Stop>
-        ensures { Answers (λ c. (c, self.new)) result
-            (write_numbered self.old process.now block.now at bytes) }
-    {
-        let (process, block) = self.both(process, block)?;
-        Ok(Command::Write {
-            process,
-            block,
-            at,
-            bytes,
-        })
-    }
-
-    #[inline(never)]
-    #[tactic(auto, unfolding(crate::specs::Numbering::give_numbered), using(crate::proofs::Readings::stops_then))]
-    pub(crate) fn number_give(
-        &mut self,
-        process: &Name,
-        endpoint: &Name,
-        tag: u16,
-        blocks: &ArrayVec<Name, 16>,
-    ) -> Result<Command, Stop>
-        ensures { Answers (λ c. (c, self.new)) result
-            (give_numbered self.old process.now endpoint.now tag blocks.now.items) }
-    {
-        let (process, endpoint) = self.both(process, endpoint)?;
-        let blocks = self.blocks(process, blocks)?;
-        Ok(Command::Give {
-            process,
-            endpoint,
-            tag,
-            blocks,
-        })
-    }
-
-    #[inline(never)]
-    #[tactic(auto, unfolding(crate::specs::Numbering::take_numbered), using(crate::proofs::Readings::stops_then))]
-    pub(crate) fn number_take(
-        &mut self,
-        process: &Name,
-        endpoint: &Name,
-        blocks: &ArrayVec<Name, 8>,
-    ) -> Result<Command, Stop>
-        ensures { Answers (λ c. (c, self.new)) result
-            (take_numbered self.old process.now endpoint.now blocks.now.items) }
-    {
-        let (process, endpoint) = self.both(process, endpoint)?;
-        let blocks = self.blocks(process, blocks)?;
-        Ok(Command::Take {
-            process,
-            endpoint,
-            blocks,
-        })
-    }
-
-    #[inline(never)]
-    #[tactic(auto, unfolding(crate::specs::Numbering::await_numbered), using(crate::proofs::Readings::stops_then))]
-    pub(crate) fn number_await(
-        &mut self,
-        process: &Name,
-        endpoint: &Name,
-        blocks: &ArrayVec<Name, 8>,
-    ) -> Result<Command, Stop>
-        ensures { Answers (λ c. (c, self.new)) result
-            (await_numbered self.old process.now endpoint.now blocks.now.items) }
-    {
-        let (process, endpoint) = self.both(process, endpoint)?;
-        let blocks = self.blocks(process, blocks)?;
-        Ok(Command::Await {
-            process,
-            endpoint,
-            blocks,
-        })
-    }
-
-    #[inline(never)]
-    #[tactic(auto, unfolding(crate::specs::Numbering::free_numbered), using(crate::proofs::Readings::stops_then))]
-    pub(crate) fn number_free(&mut self, process: &Name, block: &Name) -> Result<Command, Stop>
-        ensures { Answers (λ c. (c, self.new)) result (free_numbered self.old process.now block.now) }
-    {
-        let (process, block) = self.both(process, block)?;
-        Ok(Command::Free { process, block })
-    }
-
-    #[inline(never)]
-    #[tactic(auto, unfolding(crate::specs::Numbering::close_numbered), using(crate::proofs::Readings::stops_then))]
-    pub(crate) fn number_close(&mut self, process: &Name, endpoint: &Name) -> Result<Command, Stop>
-        ensures { Answers (λ c. (c, self.new)) result (close_numbered self.old process.now endpoint.now) }
-    {
-        let (process, endpoint) = self.both(process, endpoint)?;
-        Ok(Command::Close { process, endpoint })
-    }
-
-    #[inline(never)]
-    #[tactic(auto, unfolding(crate::specs::Numbering::exit_numbered), using(crate::proofs::Readings::stops_then))]
-    pub(crate) fn number_exit(&mut self, process: &Name, budget: u16) -> Result<Command, Stop>
-        ensures { Answers (λ c. (c, self.new)) result (exit_numbered self.old process.now budget) }
-    {
-        let process = self.process(process)?;
-        Ok(Command::Exit { process, budget })
-    }
-
-    #[inline(never)]
-    #[tactic(auto, unfolding(crate::specs::Numbering::kill_numbered), using(crate::proofs::Readings::stops_then))]
-    pub(crate) fn number_kill(
-        &mut self,
-        process: &Name,
-        victim: &Name,
-        budget: u16,
-    ) -> Result<Command, Stop>
-        ensures { Answers (λ c. (c, self.new)) result
-            (kill_numbered self.old process.now victim.now budget) }
-    {
-        let process = self.process(process)?;
-        let victim = self.process(victim)?;
-        Ok(Command::Kill {
-            process,
-            victim,
-            budget,
-        })
-    }
-
-    #[inline(never)]
-    #[tactic(auto, unfolding(crate::specs::Numbering::glance_numbered), using(crate::proofs::Readings::stops_then))]
-    pub(crate) fn number_glance(&mut self, process: &Name, other: &Name) -> Result<Command, Stop>
-        ensures { Answers (λ c. (c, self.new)) result (glance_numbered self.old process.now other.now) }
-    {
-        let process = self.process(process)?;
-        let other = self.process(other)?;
-        Ok(Command::Glance { process, other })
-    }
-
-    #[inline(never)]
-    #[tactic(auto, unfolding(crate::specs::Numbering::again_numbered), using(crate::proofs::Readings::stops_then))]
-    pub(crate) fn number_again(&mut self, process: &Name) -> Result<Command, Stop>
-        ensures { Answers (λ c. (c, self.new)) result (again_numbered self.old process.now) }
-    {
-        let process = self.process(process)?;
-        Ok(Command::Again { process })
+        let head = said.form.is_head();
+        if head && self.begun {
+            return Err(Stop::Bad(Kind::LateHead));
+        }
+        if said.form.declares() {
+            return self.declare(&said.words);
+        }
+        self.begun = self.begun || !head;
+        self.numbered(said.form, &said.words)
     }
 }

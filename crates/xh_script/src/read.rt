@@ -1,40 +1,42 @@
 //! How a script is read.
 ghost use Rattle.std.specs.Prelude.{◌≡◌, ◌≤◌, ◌==◌, length};
-ghost use Rattle.xh_script.specs.Numbering.{is_head_command};
 ghost use Rattle.xh_script.specs.Steps.{Answers};
-ghost use Rattle.xh_script.specs.Scripts.{with_line, at_line, after_line, after_lines, nothing_read, script_of, told, Gives};
+ghost use Rattle.xh_script.specs.Scripts.{with_line, with_command, at_line, after_line, after_lines, nothing_read, script_of, listing_of, Gives};
 ghost use Rattle.std.specs.List.{slice_split};
 
-use crate::line::command_at;
+use crate::line::said_at;
 use crate::pieces::pieces;
 use crate::reading::Reading;
-use crate::{Command, Fault, Kind, Line, Script, Stop};
+use crate::{Command, Fault, Kind, Line, Name, Script, Stop};
 use std::alloc::Global;
 
 /// The most bytes of a script.
 pub const SCRIPT_LIMIT: usize = 1_048_576;
 
-fn is_head(command: &Command) -> bool
-    ensures { result ≡ is_head_command command.now }
-{
-    matches!(
-        command,
-        Command::Contract { .. } | Command::Process { .. } | Command::Wire { .. }
-    )
-}
-
 /// Adds a command.
 #[tactic(auto, unfolding(crate::specs::Scripts::with_line))]
-fn add_line(reading: &mut Reading, number: u32, command: Command) -> Result<(), Stop>
+fn add_line(reading: &mut Reading, number: u32, command: Command<u8>) -> Result<(), Stop>
     ensures { Answers (λ _. reading.new) result (with_line reading.old number command) }
 {
     if reading.lines.len() >= 4096 {
         return Err(Stop::Bad(Kind::TooLong));
     }
-    let head = is_head(&command);
     reading.lines.push(Line { number, command })?;
-    reading.begun = reading.begun || !head;
     Ok(())
+}
+
+/// Adds what a line says.
+#[tactic(auto, using(crate::proofs::Readings::stops_then))]
+fn add_said(reading: &mut Reading, number: u32, said: Option<Command<Name>>) -> Result<(), Stop>
+    ensures { Answers (λ _. reading.new) result (with_command reading.old number said) }
+{
+    match said {
+        None => Ok(()),
+        Some(said) => {
+            let command = reading.place(said)?;
+            add_line(reading, number, command)
+        }
+    }
 }
 
 /// Reads one more line.
@@ -42,13 +44,11 @@ fn add_line(reading: &mut Reading, number: u32, command: Command) -> Result<(), 
 fn add_text(alloc: Global, reading: &mut Reading, number: u32, line: &[u8]) -> Result<(), Stop>
     ensures { Answers (λ _. reading.new) result (after_line reading.old number line.now) }
 {
-    match command_at(alloc, reading, line)? {
-        None => Ok(()),
-        Some(command) => add_line(reading, number, command),
-    }
+    let said = said_at(alloc, line)?;
+    add_said(reading, number, said)
 }
 
-/// Reads one more line, and tells its number with a fault.
+/// Reads one more line, and gives its number with a fault.
 fn read_line(alloc: Global, reading: &mut Reading, number: u32, line: &[u8]) -> Result<(), Fault>
     ensures { Gives (λ _. reading.new) result (at_line number (after_line reading.old number line.now)) }
 {
@@ -76,7 +76,7 @@ fn read_lines(alloc: Global, text: &[u8]) -> Result<Reading, Fault>
 /// is that of the lowest line with one; `Memory` comes only where a growth was refused.
 #[tactic(auto, unfolding(crate::specs::Scripts::script_of), using(crate::proofs::Readings::fails_then))]
 pub fn read_script(alloc: Global, text: &[u8]) -> Result<Script, Fault>
-    ensures { Gives told result (script_of text.now) }
+    ensures { Gives listing_of result (script_of text.now) }
 {
     if text.len() > SCRIPT_LIMIT {
         return Err(Fault::Script {

@@ -1,12 +1,11 @@
 //! What has been read of a script.
-ghost use Rattle.std.specs.Prelude.{◌≡◌, ◌≤◌, ◌<◌, ◌&&◌, List, [], IfOk, length, map};
-ghost use Rattle.xh_script.specs.Steps.{Answers, Stops};
-ghost use Rattle.xh_script.specs.Numbering.{process_in, block_in, blocks_in, both_in, contract_in};
-ghost use Rattle.xh_script.specs.Scripts.{nothing_read, told, told_so_far};
+ghost use Rattle.std.specs.Prelude.{◌≡◌, ◌<◌, IfOk};
+ghost use Rattle.xh_script.specs.Steps.{Answers};
+ghost use Rattle.xh_script.specs.Numbering.{process_in, block_in};
+ghost use Rattle.xh_script.specs.Scripts.{nothing_read, listing_of, listing_so_far};
 
 use crate::names::Names;
-use crate::{Kind, Line, Name, Script, Stop};
-use arrayvec::ArrayVec;
+use crate::{Line, Name, Script, Stop};
 use std::alloc::{AllocError, Global};
 use std::marker::Model;
 use xh_core::Contract;
@@ -77,51 +76,9 @@ impl Reading {
         Ok(number)
     }
 
-    /// The numbers of blocks of a process.
-    pub(crate) fn blocks<const N: usize>(
-        &mut self,
-        process: u8,
-        names: &[Name],
-    ) -> Result<ArrayVec<u8, N>, Stop>
-        requires known { process < 64 }
-        requires room { length names.now ≤ N }
-        ensures { Answers (λ xs. (xs.items, self.new)) result (blocks_in self.old process names.now) }
-    {
-        let mut numbers = ArrayVec::new();
-        for name in names {
-            numbers.push(self.block(process, name)?);
-        }
-        Ok(numbers)
-    }
-
-    /// The numbers of a process and of one of its blocks.
-    #[tactic(auto, unfolding(crate::specs::Numbering::both_in), using(crate::proofs::Readings::stops_then))]
-    pub(crate) fn both(&mut self, process: &Name, block: &Name) -> Result<(u8, u8), Stop>
-        ensures gives { Answers (λ n. (n.0, n.1, self.new)) result (both_in self.old process.now block.now) }
-        ensures within { IfOk result (λ n. n.0 < 64) }
-    {
-        let process = self.process(process)?;
-        let block = self.block(process, block)?;
-        Ok((process, block))
-    }
-
-    /// The number of a contract that stands on an earlier line, where one is named.
-    #[tactic(auto, unfolding(crate::specs::Numbering::contract_in))]
-    pub(crate) fn contract(&self, name: &Option<Name>) -> Result<Option<u8>, Kind>
-        ensures { result ≡ contract_in self.now name.now }
-    {
-        let Some(name) = name else {
-            return Ok(None);
-        };
-        match self.declared.number(name) {
-            Some(number) => Ok(Some(number)),
-            None => Err(Kind::BadContract),
-        }
-    }
-
     /// The script that has been read.
     pub(crate) fn into_script(self) -> Script
-        ensures { told result ≡ told_so_far self }
+        ensures { listing_of result ≡ listing_so_far self }
     {
         Script {
             lines: self.lines,

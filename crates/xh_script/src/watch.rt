@@ -1,26 +1,28 @@
-//! Readers and writers that remember whether a call of theirs failed.
-ghost use Rattle.std.specs.Prelude.{◌≡◌, ◌<◌, ◌≤◌, [], take, length, IfSome, IfNone, true, false};
+//! Readers and writers that count which of their calls failed.
+ghost use Rattle.std.specs.Prelude.{◌≡◌, ◌≢◌, ◌<◌, ◌≤◌, [], take, length, IfSome, IfNone};
 ghost use Rattle.std.specs.Io.KnownBytes.{Appends, Consumes, IsAtEnd, Keeps};
-ghost use Rattle.xh_script.specs.Watching.{has_failed, inner_of, Reads, Writes};
+ghost use Rattle.xh_script.specs.Watching.{failures, inner_of, Reads, Writes, WritesOrFails};
 
+use crate::Fault;
 use std::io::{Read, Write};
 
-/// A reader or a writer, and whether one of its calls has failed.
+/// A reader or a writer, and how many of its calls have failed (modulo 2^64, so that no count is
+/// that of the call before).
 #[derive(Drop)]
 pub struct Watched<T> {
     inner: T,
-    has_failed: bool,
+    failures: u64,
 }
 
 impl<T> Watched<T> {
     /// No call has failed yet.
     pub fn new(stream: T) -> Watched<T>
         ensures inner { inner_of result ≡ stream }
-        ensures still { has_failed result ≡ false }
+        ensures still { failures result ≡ 0 }
     {
         Watched {
             inner: stream,
-            has_failed: false,
+            failures: 0,
         }
     }
 }
@@ -32,12 +34,12 @@ impl<R: Read> Watched<R> {
         ensures some { IfSome result (λ n. Reads R.remaining self.old self.new (take n room.new)) }
         ensures end { IfSome result (λ n. n ≡ 0 → 0 < length room.new → IsAtEnd (R.remaining (inner_of self.new))) }
         ensures none { IfNone result (Keeps (R.remaining (inner_of self.old)) (R.remaining (inner_of self.new))
-            × (has_failed self.new ≡ true)) }
+            × (failures self.new ≢ failures self.old)) }
     {
         match self.inner.read(room) {
             Ok(n) => Some(n),
             Err(_) => {
-                self.has_failed = true;
+                self.failures = self.failures.wrapping_add(1);
                 None
             }
         }
@@ -51,17 +53,26 @@ impl<W: Write> Watched<W> {
         ensures bound { IfSome result (λ n. (0 < n) × (n ≤ length bytes.now)) }
         ensures some { IfSome result (λ n. Writes W.contents self.old self.new (take n bytes.now)) }
         ensures none { IfNone result (Appends (W.contents (inner_of self.old)) (W.contents (inner_of self.new)) []
-            × (has_failed self.new ≡ true)) }
+            × (failures self.new ≢ failures self.old)) }
     {
         match self.inner.write(bytes) {
-            Ok(0) => {
-                self.has_failed = true;
+            Ok(n) if n > 0 => Some(n),
+            _ => {
+                self.failures = self.failures.wrapping_add(1);
                 None
             }
-            Ok(n) => Some(n),
+        }
+    }
+
+    /// Sends everything that was written on its way.
+    pub fn flush(&mut self) -> Result<(), Fault>
+        ensures { WritesOrFails W.contents self.old self.new result [] }
+    {
+        match self.inner.flush() {
+            Ok(()) => Ok(()),
             Err(_) => {
-                self.has_failed = true;
-                None
+                self.failures = self.failures.wrapping_add(1);
+                Err(Fault::Write)
             }
         }
     }

@@ -1,8 +1,8 @@
-//! How a run that did not reach its end is told: a line on standard error, and a status.
-ghost use Rattle.std.specs.Prelude.{◌≡◌};
+//! How a run that did not reach its end is reported: a line on standard error, and a status.
+ghost use Rattle.std.specs.Prelude.{◌≡◌, ◌≢◌};
 ghost use Rattle.xheap.specs.Status.{status_of};
 
-use std::io::Write;
+use std::io::{ErrorKind, Write};
 use xh_script::Fault;
 
 /// The status of a run to the end.
@@ -18,7 +18,7 @@ pub(crate) const STREAM: u8 = 4;
 /// A fault that no run of the program meets.
 pub(crate) const INTERNAL: u8 = 5;
 
-/// Tells want of memory.
+/// Reports want of memory.
 pub(crate) fn out_of_memory<E: Write>(err: &mut E) -> u8
     ensures { result ≡ MEMORY }
 {
@@ -26,8 +26,21 @@ pub(crate) fn out_of_memory<E: Write>(err: &mut E) -> u8
     MEMORY
 }
 
-/// Tells a fault. A fault of `err` itself is passed over.
-pub(crate) fn told<E: Write>(fault: Fault, err: &mut E) -> u8
+/// Reports that the words of the command line cannot be read: a word that is no UTF-8 is a fault of
+/// the command line, unless memory was refused.
+pub(crate) fn unread_words<E: Write>(kind: ErrorKind, err: &mut E) -> u8
+    ensures memory { kind ≡ ErrorKind.OutOfMemory → result ≡ MEMORY }
+    ensures words { kind ≢ ErrorKind.OutOfMemory → result ≡ WORDS }
+{
+    if kind == ErrorKind::OutOfMemory {
+        return out_of_memory(err);
+    }
+    let _ = err.write_all(b"xheap: a word of the command line is not UTF-8\n");
+    WORDS
+}
+
+/// Reports a fault. A fault of `err` itself is passed over.
+pub(crate) fn report<E: Write>(fault: Fault, err: &mut E) -> u8
     ensures { result ≡ status_of fault }
 {
     match fault {

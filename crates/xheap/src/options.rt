@@ -3,6 +3,9 @@ use clap::builder::ValueParser;
 use clap::{Arg, ArgAction, Command, Error};
 use std::alloc::Global;
 use xh_core::Config;
+use xh_model::limits::{MAX_ARENAS, MAX_BYTES, MAX_DEPTH, MAX_RECORDS, MAX_WEAR, UNIT};
+
+const VERSION: &str = "1.0";
 
 const ABOUT: &str = "Runs a script of processes that pass blocks of memory to each other.";
 
@@ -14,11 +17,9 @@ const CLOSING: &str =
     "Example: printf 'process a\\na alloc x 40 0\\n' | xheap --serial --bytes 256\n\
 Status: 0 done, 1 a fault of the script, 2 a fault of the command line, 3 out of memory, 4 reading or writing failed.";
 
-/// What the command line asks for.
-#[derive(Clone, Copy, Debug)]
-pub(crate) struct Options {
-    pub serial: bool,
-    pub config: Config,
+/// A number from 1 to this.
+fn most<'a>(most: u64) -> ValueParser<'a> {
+    ValueParser::unsigned(1, most)
 }
 
 /// An option with a value, and its default.
@@ -45,7 +46,7 @@ fn serial<'a>(alloc: Global) -> Arg<'a> {
 }
 
 fn arenas<'a>(alloc: Global) -> Arg<'a> {
-    option(alloc, "arenas", "COUNT", ValueParser::unsigned(1, 8), "1").help(
+    option(alloc, "arenas", "COUNT", most(u64::from(MAX_ARENAS)), "1").help(
         "Number of arenas, 1 to 8",
     )
 }
@@ -55,7 +56,7 @@ fn bytes<'a>(alloc: Global) -> Arg<'a> {
         alloc,
         "bytes",
         "BYTES",
-        ValueParser::unsigned(16, 1_048_576),
+        ValueParser::unsigned(u64::from(UNIT), u64::from(MAX_BYTES)),
         "65536",
     )
     .help("Size of each arena in bytes, a multiple of 16 from 16 to 1048576")
@@ -66,14 +67,14 @@ fn records<'a>(alloc: Global) -> Arg<'a> {
         alloc,
         "records",
         "COUNT",
-        ValueParser::unsigned(1, 256),
+        most(u64::from(MAX_RECORDS)),
         "256",
     )
     .help("Most blocks that an arena holds at once, 1 to 256")
 }
 
 fn depth<'a>(alloc: Global) -> Arg<'a> {
-    option(alloc, "depth", "COUNT", ValueParser::unsigned(1, 16), "4").help(
+    option(alloc, "depth", "COUNT", most(u64::from(MAX_DEPTH)), "4").help(
         "Most messages that wait in one direction of a channel, 1 to 16",
     )
 }
@@ -83,7 +84,7 @@ fn wear<'a>(alloc: Global) -> Arg<'a> {
         alloc,
         "wear",
         "BYTES",
-        ValueParser::unsigned(0, 9_223_372_036_854_775_807),
+        ValueParser::unsigned(0, MAX_WEAR),
         "9223372036854775807",
     )
     .help("Most bytes that an arena ever hands out, 0 to 9223372036854775807")
@@ -93,6 +94,7 @@ fn wear<'a>(alloc: Global) -> Arg<'a> {
 fn command<'a>(alloc: Global) -> Result<Command<'a>, Error> {
     Ok(
         Command::new(alloc, "xheap")
+            .version(VERSION)
             .about(ABOUT)
             .long_about(DETAIL)
             .after_help(CLOSING)
@@ -105,20 +107,15 @@ fn command<'a>(alloc: Global) -> Result<Command<'a>, Error> {
     )
 }
 
-/// What the words ask for; the first word is the program's own name. An error is clap's text, or
-/// want of memory.
-pub(crate) fn options_of<'a>(alloc: Global, words: &'a [String]) -> Result<Options, Error> {
+/// The limits that the words ask for; the first word is the program's own name. An error is clap's
+/// text, or want of memory. `--serial` says nothing of the limits.
+pub(crate) fn config_of<'a>(alloc: Global, words: &'a [String]) -> Result<Config, Error> {
     let matches = command(alloc)?.try_get_matches_from(words)?;
-    Ok(Options {
-        serial: matches.get_flag("serial"),
-        config: Config {
-            arenas: matches.get_one::<u8>("arenas").unwrap_or(1),
-            bytes: matches.get_one::<u32>("bytes").unwrap_or(65_536),
-            records: matches.get_one::<u16>("records").unwrap_or(256),
-            depth: matches.get_one::<u8>("depth").unwrap_or(4),
-            wear: matches
-                .get_one::<u64>("wear")
-                .unwrap_or(9_223_372_036_854_775_807),
-        },
+    Ok(Config {
+        arenas: matches.get_one("arenas").unwrap_or(1),
+        bytes: matches.get_one("bytes").unwrap_or(65_536),
+        records: matches.get_one("records").unwrap_or(MAX_RECORDS),
+        depth: matches.get_one("depth").unwrap_or(4),
+        wear: matches.get_one("wear").unwrap_or(MAX_WEAR),
     })
 }

@@ -1,16 +1,19 @@
 //! The whole program, over any reader and writers.
-ghost use Rattle.std.specs.Prelude.{◌≡◌, ◌⊎◌};
+ghost use Rattle.std.specs.Prelude.{◌≡◌, ◌⊎◌, IfErr, OnOk};
 ghost use Rattle.clap.specs.Values.{kind_of};
-ghost use Rattle.xheap.specs.Status.{Ran, Told, IsMistake};
+ghost use Rattle.xh_runner.specs.Runs.{Meant, Failed};
+ghost use Rattle.xheap.specs.Status.{Ran, Explained, IsMistake};
 
-use crate::fault::{DONE, WORDS, out_of_memory, told};
-use crate::options::{Options, options_of};
+use crate::fault::{DONE, WORDS, out_of_memory, report};
+use crate::options::config_of;
 use clap::Error;
 use clap::error::ErrorKind;
 use std::alloc::Global;
 use std::io::{Read, Write};
+use xh_core::Config;
+use xh_model::limits::UNIT;
 use xh_runner::run_serial;
-use xh_script::Watched;
+use xh_script::{Fault, Watched};
 
 /// Writes a text, as far as the writer takes it.
 fn print<W: Write>(out: &mut Watched<W>, text: &[u8]) {
@@ -21,9 +24,10 @@ fn print<W: Write>(out: &mut Watched<W>, text: &[u8]) {
             None => return,
         }
     }
+    let _ = out.flush();
 }
 
-/// Tells what is wrong with the command line, or prints the help that it asks for.
+/// Tells what is wrong with the command line, or prints the help or the version that it asks for.
 fn explained<W: Write, E: Write>(
     alloc: Global,
     error: &Error,
@@ -43,32 +47,47 @@ fn explained<W: Write, E: Write>(
         return WORDS;
     }
     match format!(in alloc; "{error}") {
-        Ok(help) => {
-            print(out, help.as_bytes());
+        Ok(text) => {
+            print(out, text.as_bytes());
             DONE
         }
         Err(_) => out_of_memory(err),
     }
 }
 
-/// Runs the script that the reader gives, as the options say.
+/// Runs the script that the reader gives, and sends all of its output on its way.
+fn run_to_end<R: Read, W: Write>(
+    alloc: Global,
+    config: Config,
+    reader: &mut Watched<R>,
+    out: &mut Watched<W>,
+) -> Result<(), Fault>
+    ensures ok { OnOk result (Meant R.remaining W.contents config reader.old reader.new out.old out.new) }
+    ensures err { IfErr result (Failed R.remaining W.contents config reader.old reader.new out.old out.new) }
+{
+    run_serial(alloc, reader, out, config)?;
+    out.flush()
+}
+
+/// Runs the script that the reader gives, with these limits.
 fn run<R: Read, W: Write, E: Write>(
     alloc: Global,
-    options: Options,
+    config: Config,
     reader: &mut Watched<R>,
     out: &mut Watched<W>,
     err: &mut E,
 ) -> u8
-    ensures { Ran R.remaining W.contents reader.old reader.new out.old out.new result }
+    ensures { Ran R.remaining W.contents config reader.old reader.new out.old out.new result }
 {
-    match run_serial(alloc, reader, out, options.config) {
+    match run_to_end(alloc, config, reader, out) {
         Ok(()) => DONE,
-        Err(fault) => told(fault, err),
+        Err(fault) => report(fault, err),
     }
 }
 
 /// The program: its words (the first is its own name), its input and its outputs; the answer is its
-/// status. A fault of `err` is passed over, and so is one of `out` while help is printed.
+/// status. A fault of `err` is passed over, and so is one of `out` while help or the version is
+/// printed.
 pub(crate) fn run_main<R: Read, W: Write, E: Write>(
     alloc: Global,
     words: &[String],
@@ -76,15 +95,15 @@ pub(crate) fn run_main<R: Read, W: Write, E: Write>(
     out: &mut Watched<W>,
     err: &mut E,
 ) -> u8
-    ensures { Ran R.remaining W.contents reader.old reader.new out.old out.new result
-        ⊎ Told R.remaining W.contents reader.old reader.new out.old out.new result }
+    ensures { ((config : Config) × Ran R.remaining W.contents config reader.old reader.new out.old out.new result)
+        ⊎ Explained R.remaining W.contents reader.old reader.new out.old out.new result }
 {
-    match options_of(alloc, words) {
+    match config_of(alloc, words) {
         Err(error) => explained(alloc, &error, out, err),
-        Ok(options) if options.config.bytes % 16 != 0 => {
+        Ok(config) if config.bytes % UNIT != 0 => {
             let _ = err.write_all(b"xheap: --bytes must be a multiple of 16\n");
             WORDS
         }
-        Ok(options) => run(alloc, options, reader, out, err),
+        Ok(config) => run(alloc, config, reader, out, err),
     }
 }

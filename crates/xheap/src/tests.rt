@@ -1,4 +1,5 @@
 //! The program by its words: what it prints on both outputs, and its status.
+use crate::fault::unread_words;
 use crate::run::run_main;
 use std::alloc::Global;
 use std::io;
@@ -27,6 +28,20 @@ impl Write for Broken {
     }
 }
 
+/// A writer that takes all bytes, and fails when they are sent on their way.
+#[derive(Drop)]
+struct Unflushed;
+
+impl Write for Unflushed {
+    fn write(&mut self, bytes: &[u8]) -> io::Result<usize> {
+        Ok(bytes.len())
+    }
+
+    fn flush(&mut self) -> io::Result<()> {
+        Err(io::Error::from(io::ErrorKind::Other))
+    }
+}
+
 fn words_of(alloc: Global, options: &[&str]) -> Result<Vec<String>, Fail> {
     let mut words = Vec::new(alloc);
     words.push("xheap".to_string(alloc)?)?;
@@ -44,7 +59,7 @@ fn ends(
     script: &str,
     status: u8,
     wanted: &str,
-    told: &str,
+    report: &str,
 ) -> Result<(), Fail> {
     let words = words_of(alloc, options)?;
     let mut input = script.as_bytes();
@@ -57,11 +72,11 @@ fn ends(
     let printed = out.as_slice();
     assert!(rt; printed == wanted.as_bytes());
     let text = err.as_slice();
-    assert!(rt; text == told.as_bytes());
+    assert!(rt; text == report.as_bytes());
     Ok(())
 }
 
-/// With these words no script is read, nothing is printed, and something is told.
+/// With these words no script is read, nothing is printed, and something is reported.
 fn is_refused(rt: &impl Abort, alloc: Global, options: &[&str]) -> Result<(), Fail> {
     let words = words_of(alloc, options)?;
     let mut reader = Watched::new(Broken);
@@ -150,7 +165,7 @@ fn depth_is_a_limit(rt: HostRuntime) -> Result<(), Fail> {
 
 #[test]
 fn script_faults(rt: HostRuntime) -> Result<(), Fail> {
-    for (script, told) in [
+    for (script, report) in [
         ("process a\na alloc x 040 0\n", "xheap: line 2: BadNumber\n"),
         (
             "process a\na alloc x 1 0\nprocess b\n",
@@ -172,7 +187,7 @@ fn script_faults(rt: HostRuntime) -> Result<(), Fail> {
             script,
             1,
             "",
-            told,
+            report,
         )?;
     }
     Ok(())
@@ -206,23 +221,79 @@ fn refused_words(rt: HostRuntime) -> Result<(), Fail> {
     is_refused(&rt, alloc, &["script"])
 }
 
-#[test]
-fn help_is_printed(rt: HostRuntime) -> Result<(), Fail> {
-    let alloc = rt.alloc();
-    let words = words_of(alloc, &["--help"])?;
+/// With this word something is printed, and no script is read.
+fn is_printed(rt: &impl Abort, alloc: Global, word: &str) -> Result<(), Fail> {
+    let words = words_of(alloc, &[word])?;
     let mut reader = Watched::new(Broken);
     let mut out = Vec::new(alloc);
     let mut writer = Watched::new(&mut out);
     let mut err = Vec::new(alloc);
     let ended = run_main(alloc, &words, &mut reader, &mut writer, &mut err);
-    assert!(&rt; ended == 0);
-    assert!(&rt; !out.is_empty());
-    assert!(&rt; err.is_empty());
+    assert!(rt; ended == 0);
+    assert!(rt; !out.is_empty());
+    assert!(rt; err.is_empty());
     Ok(())
 }
 
 #[test]
-fn streams_fail(rt: HostRuntime) -> Result<(), Fail> {
+fn help_and_version_are_printed(rt: HostRuntime) -> Result<(), Fail> {
+    let alloc = rt.alloc();
+    is_printed(&rt, alloc, "--help")?;
+    is_printed(&rt, alloc, "--version")
+}
+
+/// With these words on a full device: the status, and what is reported.
+fn on_a_full_device<W: Write + Drop>(
+    rt: &impl Abort,
+    alloc: Global,
+    device: W,
+    options: &[&str],
+    status: u8,
+    report: &str,
+) -> Result<(), Fail> {
+    let words = words_of(alloc, options)?;
+    let mut input = FIRST.as_bytes();
+    let mut reader = Watched::new(&mut input);
+    let mut full = Watched::new(device);
+    let mut err = Vec::new(alloc);
+    let ended = run_main(alloc, &words, &mut reader, &mut full, &mut err);
+    assert!(rt; ended == status, "status {ended}");
+    let text = err.as_slice();
+    assert!(rt; text == report.as_bytes());
+    Ok(())
+}
+
+/// Help onto a full device is passed over; the output of a script is not.
+#[test]
+fn full_devices(rt: HostRuntime) -> Result<(), Fail> {
+    let alloc = rt.alloc();
+    let failed = "xheap: write failed\n";
+    on_a_full_device(&rt, alloc, Broken, &["--help"], 0, "")?;
+    on_a_full_device(&rt, alloc, Broken, &["--version"], 0, "")?;
+    on_a_full_device(&rt, alloc, Broken, &["--serial"], 4, failed)?;
+    on_a_full_device(&rt, alloc, Unflushed, &["--help"], 0, "")?;
+    on_a_full_device(&rt, alloc, Unflushed, &["--serial"], 4, failed)
+}
+
+/// A word that is no UTF-8 is a fault of the command line, and want of memory is not.
+#[test]
+fn words_that_cannot_be_read(rt: HostRuntime) -> Result<(), Fail> {
+    let alloc = rt.alloc();
+    let mut err = Vec::new(alloc);
+    let status = unread_words(io::ErrorKind::InvalidData, &mut err);
+    assert!(&rt; status == 2);
+    let text = err.as_slice();
+    assert!(&rt; text == b"xheap: a word of the command line is not UTF-8\n".as_slice());
+    let mut err = Vec::new(alloc);
+    let status = unread_words(io::ErrorKind::OutOfMemory, &mut err);
+    assert!(&rt; status == 3);
+    let text = err.as_slice();
+    assert!(&rt; text == b"xheap: out of memory\n".as_slice());
+    Ok(())
+}
+
+#[test]
+fn reader_fails(rt: HostRuntime) -> Result<(), Fail> {
     let alloc = rt.alloc();
     let words = words_of(alloc, &["--serial"])?;
     let mut out = Vec::new(alloc);
@@ -238,18 +309,5 @@ fn streams_fail(rt: HostRuntime) -> Result<(), Fail> {
     assert!(&rt; ended == 4);
     let text = err.as_slice();
     assert!(&rt; text == b"xheap: read failed\n".as_slice());
-    let mut input = FIRST.as_bytes();
-    let mut told = Vec::new(alloc);
-    let mut full = Watched::new(Broken);
-    let ended = run_main(
-        alloc,
-        &words,
-        &mut Watched::new(&mut input),
-        &mut full,
-        &mut told,
-    );
-    assert!(&rt; ended == 4);
-    let text = told.as_slice();
-    assert!(&rt; text == b"xheap: write failed\n".as_slice());
     Ok(())
 }

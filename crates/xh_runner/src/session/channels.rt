@@ -2,13 +2,12 @@
 ghost use Rattle.std.specs.Prelude.{◌≡◌};
 ghost use Rattle.std.specs.Option.{option_map};
 ghost use Rattle.xh_core.specs.ChannelCommands.{open_channel, wire_channel};
-ghost use Rattle.xh_runner.specs.Rooms.{IsChannelCommand};
-ghost use Rattle.xh_runner.specs.Meaning.{step, contract_at};
+ghost use Rattle.xh_runner.specs.Meaning.{open_step, wire_step, contract_at};
 ghost use Rattle.xh_runner.specs.Worlds.{world_of};
 
 use crate::session::Session;
 use xh_core::{Block, Contract, Refused};
-use xh_script::{Command, Reply};
+use xh_script::Reply;
 
 fn contract_at<'a>(contracts: &'a [Contract], number: Option<u8>) -> Option<&'a Contract>
     ensures { option_map (λ c. c.now) result ≡ contract_at contracts.now number }
@@ -20,31 +19,6 @@ fn contract_at<'a>(contracts: &'a [Contract], number: Option<u8>) -> Option<&'a 
 }
 
 impl<'a> Session<'a> {
-    /// Does a command of channels.
-    pub(crate) fn channel_command(&mut self, command: &Command) -> Reply
-        requires { IsChannelCommand command.now }
-        ensures { step (world_of self.old) command.now ≡ (result, world_of self.new) }
-    {
-        match command {
-            Command::Wire {
-                process,
-                first,
-                peer,
-                second,
-                arena,
-                contract,
-            } => self.wire((*process, *first), (*peer, *second), *arena, *contract),
-            Command::Open {
-                process,
-                first,
-                second,
-                arena,
-                contract,
-            } => self.open(*process, (*first, *second), *arena, *contract),
-            _ => unreachable!(),
-        }
-    }
-
     fn open_channel(
         &mut self,
         p: u16,
@@ -76,9 +50,14 @@ impl<'a> Session<'a> {
         }
     }
 
-    #[tactic(auto, unfolding(crate::specs::Meaning::step))]
-    fn open(&mut self, process: u8, names: (u8, u8), arena: u32, contract: Option<u8>) -> Reply
-        ensures { step (world_of self.old) (Command.Open process names.0 names.1 arena contract) ≡ (result, world_of self.new) }
+    pub(crate) fn open(
+        &mut self,
+        process: u8,
+        names: (u8, u8),
+        arena: u32,
+        contract: Option<u8>,
+    ) -> Reply
+        ensures { open_step (world_of self.old) process names.0 names.1 arena contract ≡ (result, world_of self.new) }
     {
         let number = self.names.number(process);
         match self.open_channel(number, arena, contract) {
@@ -91,9 +70,14 @@ impl<'a> Session<'a> {
         }
     }
 
-    #[tactic(auto, unfolding(crate::specs::Meaning::step))]
-    fn wire(&mut self, here: (u8, u8), there: (u8, u8), arena: u32, contract: Option<u8>) -> Reply
-        ensures { step (world_of self.old) (Command.Wire here.0 here.1 there.0 there.1 arena contract) ≡ (result, world_of self.new) }
+    pub(crate) fn wire(
+        &mut self,
+        here: (u8, u8),
+        there: (u8, u8),
+        arena: u32,
+        contract: Option<u8>,
+    ) -> Reply
+        ensures { wire_step (world_of self.old) here.0 here.1 there.0 there.1 arena contract ≡ (result, world_of self.new) }
     {
         let p = self.names.number(here.0);
         let q = self.names.number(there.0);

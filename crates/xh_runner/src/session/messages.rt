@@ -1,14 +1,13 @@
 //! The commands give and take.
 ghost use Rattle.std.specs.Prelude.{◌≡◌, ◌≤◌, length, map, Some};
-ghost use Rattle.xh_runner.specs.Rooms.{IsMessageCommand};
-ghost use Rattle.xh_runner.specs.Meaning.{step, handed_back};
+ghost use Rattle.xh_runner.specs.Meaning.{give_step, take_step, handed_back};
 ghost use Rattle.xh_runner.specs.Worlds.{world_of};
 
 use crate::names::Names;
 use crate::session::Session;
 use arrayvec::ArrayVec;
 use xh_core::{Block, Refused};
-use xh_script::{Command, Reply};
+use xh_script::Reply;
 
 fn lengths_of(blocks: &[Block]) -> ArrayVec<Option<u32>, 8>
     requires { length blocks.now ≤ 8 }
@@ -34,62 +33,35 @@ fn keep_back(names: &mut Names, process: u8, blocks: &[u8], refused: &Refused)
 }
 
 impl<'a> Session<'a> {
-    /// Does a command of messages.
-    pub(crate) fn message_command(&mut self, command: &Command) -> Reply
-        requires { IsMessageCommand command.now }
-        ensures { step (world_of self.old) command.now ≡ (result, world_of self.new) }
-    {
-        match command {
-            Command::Give {
-                process,
-                endpoint,
-                tag,
-                blocks,
-            } => self.give(*process, *endpoint, *tag, blocks),
-            Command::Take {
-                process,
-                endpoint,
-                blocks,
-            } => self.take(*process, *endpoint, blocks),
-            Command::Await {
-                process,
-                endpoint,
-                blocks,
-            } => self.take(*process, *endpoint, blocks),
-            _ => unreachable!(),
-        }
-    }
-
-    #[tactic(auto, unfolding(crate::specs::Meaning::step))]
-    fn give(&mut self, process: u8, endpoint: u8, tag: u16, blocks: &ArrayVec<u8, 16>) -> Reply
-        ensures { step (world_of self.old) (Command.Give process endpoint tag blocks.now) ≡ (result, world_of self.new) }
+    pub(crate) fn give(&mut self, process: u8, endpoint: u8, tag: u32, blocks: &[u8]) -> Reply
+        requires { length blocks.now ≤ 19 }
+        ensures { give_step (world_of self.old) process endpoint tag blocks.now ≡ (result, world_of self.new) }
     {
         let number = self.names.number(process);
         let rec = self.names.record_of(process, endpoint);
-        let records = self.names.records_of(process, blocks.as_slice());
+        let records = self.names.records_of(process, blocks);
+        let tag = tag.min(65_535) as u16;
         match self.machine.give(number, rec, tag, records.as_slice()) {
             Ok(message) => {
-                self.names.unbind_each(process, blocks.as_slice());
+                self.names.unbind_each(process, blocks);
                 Reply::Given(message)
             }
             Err(refused) => {
-                keep_back(&mut self.names, process, blocks.as_slice(), &refused);
+                keep_back(&mut self.names, process, blocks, &refused);
                 Reply::NotGiven(refused)
             }
         }
     }
 
-    #[tactic(auto, unfolding(crate::specs::Meaning::step))]
-    fn take(&mut self, process: u8, endpoint: u8, blocks: &ArrayVec<u8, 8>) -> Reply
-        ensures now { step (world_of self.old) (Command.Take process endpoint blocks.now) ≡ (result, world_of self.new) }
-        ensures waiting { step (world_of self.old) (Command.Await process endpoint blocks.now) ≡ (result, world_of self.new) }
+    pub(crate) fn take(&mut self, process: u8, endpoint: u8, blocks: &[u8]) -> Reply
+        ensures { take_step (world_of self.old) process endpoint blocks.now ≡ (result, world_of self.new) }
     {
         let number = self.names.number(process);
         let rec = self.names.record_of(process, endpoint);
         match self.machine.take(number, rec) {
             Ok(message) => {
                 self.names
-                    .bind_each(process, blocks.as_slice(), message.blocks.as_slice());
+                    .bind_each(process, blocks, message.blocks.as_slice());
                 Reply::Taken {
                     number: message.no,
                     tag: message.tag,

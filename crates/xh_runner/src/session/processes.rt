@@ -1,13 +1,12 @@
 //! The commands process, again, glance, close, exit and kill.
 ghost use Rattle.std.specs.Prelude.{◌≡◌};
 ghost use Rattle.xh_runner.specs.Bindings.{has_place};
-ghost use Rattle.xh_runner.specs.Rooms.{IsProcessCommand};
-ghost use Rattle.xh_runner.specs.Meaning.{step, look, is_alive};
+ghost use Rattle.xh_runner.specs.Meaning.{process_step, again_step, glance_step, close_step, exit_step, kill_step, look, is_alive};
 ghost use Rattle.xh_runner.specs.Worlds.{world_of};
 
 use crate::session::Session;
 use xh_core::{Glance, Refused, Status};
-use xh_script::{Command, Reply};
+use xh_script::Reply;
 
 /// Whether a process runs, or is being reclaimed.
 fn is_alive(look: &Result<Glance, Refused>) -> bool
@@ -23,26 +22,6 @@ fn is_alive(look: &Result<Glance, Refused>) -> bool
 }
 
 impl<'a> Session<'a> {
-    /// Does a command of processes.
-    pub(crate) fn process_command(&mut self, command: &Command) -> Reply
-        requires { IsProcessCommand command.now }
-        ensures { step (world_of self.old) command.now ≡ (result, world_of self.new) }
-    {
-        match command {
-            Command::Process { process } => self.process(*process),
-            Command::Again { process } => self.again(*process),
-            Command::Glance { process, other } => self.glance(*process, *other),
-            Command::Close { process, endpoint } => self.close(*process, *endpoint),
-            Command::Exit { process, budget } => self.exit(*process, *budget),
-            Command::Kill {
-                process,
-                victim,
-                budget,
-            } => self.kill(*process, *victim, *budget),
-            _ => unreachable!(),
-        }
-    }
-
     /// What the place of a process shows of it; Ended where it shows a later process.
     fn look(&self, number: u16) -> Result<Glance, Refused>
         ensures { result ≡ look (world_of self.now) number }
@@ -54,9 +33,8 @@ impl<'a> Session<'a> {
         }
     }
 
-    #[tactic(auto, unfolding(crate::specs::Meaning::step))]
-    fn process(&mut self, process: u8) -> Reply
-        ensures { step (world_of self.old) (Command.Process process) ≡ (result, world_of self.new) }
+    pub(crate) fn process(&mut self, process: u8) -> Reply
+        ensures { process_step (world_of self.old) process ≡ (result, world_of self.new) }
     {
         if self.names.has_place(process) {
             return Reply::No(Refused::Twice);
@@ -70,9 +48,8 @@ impl<'a> Session<'a> {
         }
     }
 
-    #[tactic(auto, unfolding(crate::specs::Meaning::step))]
-    fn again(&mut self, process: u8) -> Reply
-        ensures { step (world_of self.old) (Command.Again process) ≡ (result, world_of self.new) }
+    pub(crate) fn again(&mut self, process: u8) -> Reply
+        ensures { again_step (world_of self.old) process ≡ (result, world_of self.new) }
     {
         if !self.names.has_place(process) {
             return Reply::No(Refused::NoProcess);
@@ -90,9 +67,8 @@ impl<'a> Session<'a> {
         }
     }
 
-    #[tactic(auto, unfolding(crate::specs::Meaning::step))]
-    fn glance(&mut self, process: u8, other: u8) -> Reply
-        ensures { step (world_of self.old) (Command.Glance process other) ≡ (result, world_of self.new) }
+    pub(crate) fn glance(&mut self, process: u8, other: u8) -> Reply
+        ensures { glance_step (world_of self.old) process other ≡ (result, world_of self.new) }
     {
         if !self.names.has_place(process) || !self.names.has_place(other) {
             return Reply::No(Refused::NoProcess);
@@ -106,9 +82,8 @@ impl<'a> Session<'a> {
         }
     }
 
-    #[tactic(auto, unfolding(crate::specs::Meaning::step))]
-    fn close(&mut self, process: u8, endpoint: u8) -> Reply
-        ensures { step (world_of self.old) (Command.Close process endpoint) ≡ (result, world_of self.new) }
+    pub(crate) fn close(&mut self, process: u8, endpoint: u8) -> Reply
+        ensures { close_step (world_of self.old) process endpoint ≡ (result, world_of self.new) }
     {
         let number = self.names.number(process);
         let rec = self.names.record_of(process, endpoint);
@@ -121,24 +96,22 @@ impl<'a> Session<'a> {
         }
     }
 
-    #[tactic(auto, unfolding(crate::specs::Meaning::step))]
-    fn exit(&mut self, process: u8, budget: u16) -> Reply
-        ensures { step (world_of self.old) (Command.Exit process budget) ≡ (result, world_of self.new) }
+    pub(crate) fn exit(&mut self, process: u8, budget: u32) -> Reply
+        ensures { exit_step (world_of self.old) process budget ≡ (result, world_of self.new) }
     {
         let number = self.names.number(process);
-        match self.machine.exit(number, u32::from(budget)) {
+        match self.machine.exit(number, budget) {
             Ok(bytes) => Reply::Reclaimed(bytes),
             Err(refused) => Reply::No(refused),
         }
     }
 
-    #[tactic(auto, unfolding(crate::specs::Meaning::step))]
-    fn kill(&mut self, process: u8, victim: u8, budget: u16) -> Reply
-        ensures { step (world_of self.old) (Command.Kill process victim budget) ≡ (result, world_of self.new) }
+    pub(crate) fn kill(&mut self, process: u8, victim: u8, budget: u32) -> Reply
+        ensures { kill_step (world_of self.old) process victim budget ≡ (result, world_of self.new) }
     {
         let by = self.names.number(process);
         let number = self.names.number(victim);
-        match self.machine.kill(by, number, u32::from(budget)) {
+        match self.machine.kill(by, number, budget) {
             Ok(bytes) => Reply::Reclaimed(bytes),
             Err(refused) => Reply::No(refused),
         }

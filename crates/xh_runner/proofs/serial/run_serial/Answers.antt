@@ -1,6 +1,6 @@
 use Rattle.std.proofs.Common.{◌≡◌, ◌++◌, Ok, sym, ap, subst, ◌∙◌}
 use Rattle.xh_script.specs.Watching.{Writes, WritesFront}
-use Rattle.xh_script.specs.Scripts.{script_of, told}
+use Rattle.xh_script.specs.Scripts.{script_of, listing_of}
 use Rattle.xh_script.specs.Texts.{answer_texts, ledger_text}
 use Rattle.xh_runner.specs.Output.{meaning}
 use Rattle.xh_runner.specs.Worlds.{world_of}
@@ -12,7 +12,7 @@ use Rattle.xh_runner.proofs.serial.run_serial.Goals as goal
 pub returns-clause-ok : goal.returns-clause-ok
 returns-clause-ok g c =
     let text = c.in_ok-text.text.items in
-    let script = told c.in_ok-script.script in
+    let script = listing_of c.in_ok-script.script in
     let says : script_of text ≡ Ok script = ap script_of (sym c.deref.ensures.value) ∙ c.in_ok-script.ensures in
     let whole = meant c.args.config script _ _ (world_of c.in_ok-session.session) (world_of c.run.new.self) c.deref-3.result.now c.deref-4.result.now
     c.in_ok-answers.answers.items c.deref-5.result.now c.in_ok-names.names.items c.deref-6.result.now c.ledger.result
@@ -30,7 +30,7 @@ returns-clause-ok g c =
 pub returns-clause-err : goal.returns-clause-err
 returns-clause-err g c =
     let text = c.in_ok-text.text.items in
-    let script = told c.in_ok-script.script in
+    let script = listing_of c.in_ok-script.script in
     let says : script_of text ≡ Ok script = ap script_of (sym c.deref.ensures.value) ∙ c.in_ok-script.ensures in
     let whole = meant c.args.config script _ _ (world_of c.in_ok-session.session) (world_of c.run.new.self) c.deref-3.result.now c.deref-4.result.now
     c.in_ok-answers.answers.items c.deref-5.result.now c.in_ok-names.names.items c.deref-6.result.now c.ledger.result

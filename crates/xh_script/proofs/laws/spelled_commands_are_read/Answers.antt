@@ -1,5 +1,5 @@
-use Rattle.xh_script.proofs.SayingLines.{said_back}
+use Rattle.xh_script.proofs.SayingLines.{command_back}
 use Rattle.xh_script.proofs.laws.spelled_commands_are_read.Goals as goal
 
 pub returns : goal.returns
-returns c = said_back
+returns c = command_back

@@ -10,9 +10,9 @@ loop-line-preserved c =
     let i = c.loop-line.line-index in
     let lines = c.args.lines.now in
     let line = c.line-item.result in
-    let told = answers_at old now c.in_ok-reply.reply lines i line c.loop-line-test.true (sym c.line-item.is) c.in_ok-reply.ensures in
+    let answered = answers_at old now c.in_ok-reply.reply lines i line c.loop-line-test.true (sym c.line-item.is) c.in_ok-reply.ensures in
     let rest = after_at old now c.in_ok-reply.reply lines i line c.loop-line-test.true (sym c.line-item.is) c.in_ok-reply.ensures in
     record {
-      told = rw c.in_ok-push.ensures.items (append_assoc c.loop-line.replies.items _ _ ∙ ap (λ t. c.loop-line.replies.items ++ t) (sym told) ∙ c.loop-line.invariant.told);
+      answered = rw c.in_ok-push.ensures.items (append_assoc c.loop-line.replies.items _ _ ∙ ap (λ t. c.loop-line.replies.items ++ t) (sym answered) ∙ c.loop-line.invariant.answered);
       rest = sym rest ∙ c.loop-line.invariant.rest;
     }

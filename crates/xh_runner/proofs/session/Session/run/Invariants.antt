@@ -5,6 +5,6 @@ use Rattle.xh_runner.proofs.session.Session.run.Given as goal
 
 abbrev pub invariant-loop-line : goal.invariant-loop-line
 invariant-loop-line l = record {
-  told : l.replies.items ++ answers (world_of l.self) (drop l.line-index l.lines) ≡ answers (world_of l.fn.self) l.lines;
+  answered : l.replies.items ++ answers (world_of l.self) (drop l.line-index l.lines) ≡ answers (world_of l.fn.self) l.lines;
   rest : after (world_of l.self) (drop l.line-index l.lines) ≡ after (world_of l.fn.self) l.lines;
 }

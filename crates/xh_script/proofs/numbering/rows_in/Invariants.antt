@@ -1,0 +1,9 @@
+use Rattle.std.proofs.Common.{◌≡◌, ◌≤◌, ◌++◌, drop, length}
+use Rattle.xh_script.specs.Numbering.{rows_in}
+use Rattle.xh_script.proofs.numbering.rows_in.Given as goal
+
+abbrev pub invariant-loop-word : goal.invariant-loop-word
+invariant-loop-word l = record {
+  rest : rows_in l.words ≡ l.rows.items ++ rows_in (drop l.word-index l.words);
+  count : length l.rows.items ≤ l.word-index;
+}

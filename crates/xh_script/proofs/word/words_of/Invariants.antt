@@ -1,0 +1,10 @@
+use Rattle.std.proofs.Common.{◌≡◌, ◌+◌, ◌++◌, ◌∷◌, Ok, drop, map, length}
+use Rattle.xh_script.specs.Steps.{◌>>=◌}
+use Rattle.xh_script.specs.Grammar.{words_from}
+use Rattle.xh_script.proofs.word.words_of.Given as goal
+
+abbrev pub invariant-loop-word : goal.invariant-loop-word
+invariant-loop-word l = record {
+  rest : words_from l.shape 0 (l.first ∷ map (λ w. w.now) l.others) ≡ (words_from l.shape (l.word-index + 1) (map (λ w. w.now) (drop l.word-index l.others)) >>= λ more. Ok (l.words.items ++ more));
+  count : length l.words.items ≡ l.word-index + 1;
+}

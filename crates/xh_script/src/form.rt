@@ -1,0 +1,216 @@
+//! The table of the language: a row for each form of line.
+ghost use Rattle.std.specs.Prelude.{◌≡◌, ◌≤◌, ◌+◌, length, true};
+ghost use Rattle.xh_script.specs.Forms.{just, and_more, shape, is_head, declares, verb_at, sort_at, has_count};
+
+use crate::Kind;
+use std::marker::Model;
+
+/// What a word of a line has to be.
+#[derive(Clone, Copy, Debug)]
+pub enum Sort {
+    /// The name of a process.
+    Process,
+    /// The name of a block of the process that was named last.
+    Block,
+    /// The name of a contract.
+    Contract,
+    /// A number in this range.
+    Number { least: u32, most: u32 },
+    /// 1 to 32 bytes in hexadecimal digits.
+    Bytes,
+    /// A row of a contract.
+    Row,
+}
+
+/// The forms of lines: `contract`, `process` and `wire` by their first word, all others by the verb
+/// behind the name of a process.
+#[derive(Clone, Copy, Debug)]
+pub enum Form {
+    Contract,
+    Process,
+    Wire,
+    Open,
+    Alloc,
+    Split,
+    Read,
+    Write,
+    Give,
+    Take,
+    Await,
+    Free,
+    Close,
+    Exit,
+    Kill,
+    Glance,
+    Again,
+}
+
+/// The words of a form: these in order, and then `least` to `most` words of the sort `more`. The
+/// form's own word does not count, and the process ahead of a verb is the first word.
+#[derive(Drop)]
+pub(crate) struct Shape {
+    words: &'static [Sort],
+    more: Sort,
+    least: usize,
+    most: usize,
+}
+
+impl Model for Shape {
+    ghost use Rattle.xh_script.specs.Forms.{Row};
+
+    ghost Value = { Row };
+
+    ghost view = { λ s. record { words = s.words.now; more = s.more; least = s.least; most = s.most } };
+}
+
+const NUMBER: Sort = Sort::Number {
+    least: 0,
+    most: 4_294_967_295,
+};
+
+const TAG: Sort = Sort::Number {
+    least: 0,
+    most: 65_535,
+};
+
+const LEN: Sort = Sort::Number { least: 1, most: 32 };
+
+const BUDGET: Sort = Sort::Number {
+    least: 1,
+    most: 4096,
+};
+
+/// These words and no more.
+fn just(words: &'static [Sort]) -> Shape
+    ensures { result ≡ just words.now }
+{
+    and_more(words, Sort::Block, 0, 0)
+}
+
+/// These words, and then some more.
+fn and_more(words: &'static [Sort], more: Sort, least: usize, most: usize) -> Shape
+    ensures { result ≡ and_more words.now more least most }
+{
+    Shape {
+        words,
+        more,
+        least,
+        most,
+    }
+}
+
+impl Form {
+    /// Its row of the table.
+    #[tactic(auto, unfolding(crate::specs::Forms::shape))]
+    pub(crate) fn shape(self) -> Shape
+        ensures is { result ≡ shape self }
+        ensures fits { (length (shape self).words + (shape self).most ≤ 19) × ((shape self).least ≤ (shape self).most) }
+    {
+        match self {
+            Form::Contract => and_more(&[Sort::Contract], Sort::Row, 1, 16),
+            Form::Process => just(&[Sort::Process]),
+            Form::Wire => and_more(
+                &[
+                    Sort::Process,
+                    Sort::Block,
+                    Sort::Process,
+                    Sort::Block,
+                    NUMBER,
+                ],
+                Sort::Contract,
+                0,
+                1,
+            ),
+            Form::Open => and_more(
+                &[Sort::Process, Sort::Block, Sort::Block, NUMBER],
+                Sort::Contract,
+                0,
+                1,
+            ),
+            Form::Alloc => just(&[Sort::Process, Sort::Block, NUMBER, NUMBER]),
+            Form::Split => just(&[Sort::Process, Sort::Block, NUMBER, Sort::Block]),
+            Form::Read => just(&[Sort::Process, Sort::Block, NUMBER, LEN]),
+            Form::Write => just(&[Sort::Process, Sort::Block, NUMBER, Sort::Bytes]),
+            Form::Give => and_more(&[Sort::Process, Sort::Block, TAG], Sort::Block, 0, 16),
+            Form::Take | Form::Await => and_more(&[Sort::Process, Sort::Block], Sort::Block, 0, 8),
+            Form::Free | Form::Close => just(&[Sort::Process, Sort::Block]),
+            Form::Exit => and_more(&[Sort::Process], BUDGET, 0, 1),
+            Form::Kill => and_more(&[Sort::Process, Sort::Process], BUDGET, 0, 1),
+            Form::Glance => just(&[Sort::Process, Sort::Process]),
+            Form::Again => just(&[Sort::Process]),
+        }
+    }
+
+    /// Whether its lines stand ahead of all others.
+    pub(crate) fn is_head(self) -> bool
+        ensures { result ≡ is_head self }
+    {
+        matches!(self, Form::Contract | Form::Process | Form::Wire)
+    }
+
+    /// Whether its lines declare a contract.
+    pub(crate) fn declares(self) -> bool
+        ensures { result ≡ declares self }
+    {
+        matches!(self, Form::Contract)
+    }
+
+    /// The form that a verb has.
+    #[tactic(auto, unfolding(crate::specs::Forms::verb_at))]
+    pub(crate) fn of_verb(word: &[u8]) -> Result<Form, Kind>
+        ensures { result ≡ verb_at word.now }
+    {
+        if word == b"open".as_slice() {
+            Ok(Form::Open)
+        } else if word == b"alloc".as_slice() {
+            Ok(Form::Alloc)
+        } else if word == b"split".as_slice() {
+            Ok(Form::Split)
+        } else if word == b"read".as_slice() {
+            Ok(Form::Read)
+        } else if word == b"write".as_slice() {
+            Ok(Form::Write)
+        } else if word == b"give".as_slice() {
+            Ok(Form::Give)
+        } else if word == b"take".as_slice() {
+            Ok(Form::Take)
+        } else if word == b"await".as_slice() {
+            Ok(Form::Await)
+        } else if word == b"free".as_slice() {
+            Ok(Form::Free)
+        } else if word == b"close".as_slice() {
+            Ok(Form::Close)
+        } else if word == b"exit".as_slice() {
+            Ok(Form::Exit)
+        } else if word == b"kill".as_slice() {
+            Ok(Form::Kill)
+        } else if word == b"glance".as_slice() {
+            Ok(Form::Glance)
+        } else if word == b"again".as_slice() {
+            Ok(Form::Again)
+        } else {
+            Err(Kind::BadWord)
+        }
+    }
+}
+
+impl Shape {
+    /// What the word at this place has to be.
+    pub(crate) fn sort(&self, i: usize) -> Sort
+        ensures { result ≡ sort_at self.now i }
+    {
+        match self.words.get(i) {
+            Some(sort) => *sort,
+            None => self.more,
+        }
+    }
+
+    /// Whether a line of the form may have so many words.
+    pub(crate) fn has_count(&self, count: usize) -> bool
+        requires { (length self.now.words + self.now.most ≤ 19) × (self.now.least ≤ self.now.most) }
+        ensures is { result ≡ has_count self.now count }
+        ensures within { result ≡ true → count ≤ 19 }
+    {
+        self.words.len() + self.least <= count && count <= self.words.len() + self.most
+    }
+}

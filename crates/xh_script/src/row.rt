@@ -1,0 +1,45 @@
+//! Rows of contracts.
+ghost use Rattle.std.specs.Prelude.{◌≡◌, map};
+ghost use Rattle.xh_script.specs.Sorts.{row_said, row_of, row_at};
+ghost use Rattle.xh_script.specs.Steps.{Answers};
+
+use crate::number::{side_at, state_at, tag_at};
+use crate::pieces::pieces;
+use crate::{Kind, Stop};
+use std::alloc::Global;
+use xh_model::Row;
+
+#[tactic(auto, unfolding(crate::specs::Sorts::row_said))]
+fn row_said(state: &[u8], tag: &[u8], side: &[u8], next: &[u8]) -> Result<Row, Kind>
+    ensures { result ≡ row_said state.now tag.now side.now next.now }
+{
+    let state = state_at(state)?;
+    let tag = tag_at(tag)?;
+    let side = side_at(side)?;
+    let next = state_at(next)?;
+    Ok(Row {
+        state,
+        tag,
+        side,
+        next,
+    })
+}
+
+#[tactic(auto, unfolding(crate::specs::Sorts::row_of))]
+fn row_of(numbers: &[&[u8]]) -> Result<Row, Kind>
+    ensures { result ≡ row_of (map (λ w. w.now) numbers.now) }
+{
+    let [state, tag, side, next] = numbers else {
+        return Err(Kind::BadNumber);
+    };
+    row_said(state, tag, side, next)
+}
+
+/// The row that a word says.
+pub(crate) fn row_at(alloc: Global, word: &[u8]) -> Result<Row, Stop>
+    ensures { Answers (λ row. row) result (row_at word.now) }
+{
+    let numbers = pieces(alloc, word, b':')?;
+    let row = row_of(&numbers)?;
+    Ok(row)
+}
