@@ -39,7 +39,7 @@ changes f slots id me keep s kept len at fits =
       keeps,
       tt,
       (word_stays (λ m. m) s.words refl kept.0, (k.0, k.1, λ h. b.2 (f me.0) h ∙ k.2 h)),
-      refl,
+      (refl, (b.1.0, b.1.1, b.0, b.1.2)),
     )
 
 pub looks : {S : Type 0} (slots id : ℕ) (me : Me S (List Part)) → Allows Kept slots id me 0 (λ m. m) (Looked (step slots 0 0 0 none) me)

@@ -1,7 +1,6 @@
 -- What a look shows of a vault's books, and that each change keeps them.
 use Rattle.std.proofs.Common.{◌≡◌, ℕ, zero, suc, ◌+◌, ◌-◌, ◌≤◌, ◌<◌, List, [], ◌∷◌, length, map, set, Some, refl, sym, ap, ◌∙◌, subst, arith}
-use Rattle.std.specs.Prelude.{slice_get, slice_set, slice_index}
-use Rattle.std.proofs.lemmas.Option.{get_or_from_slice_get}
+use Rattle.std.specs.Prelude.{slice_get, slice_set}
 use Rattle.xh_arena.specs.declared.parts.Part.{Part}
 use Rattle.xh_arena.specs.declared.parts.Part.TheVariants.{Books, Length, Moved}
 use Rattle.xh_arena.specs.inner.Parts.{weigh, tallies_from, whole, AreOfOneWhole, part_in, below, under, with_length, with_taken, with_back}
@@ -70,7 +69,16 @@ one_shown : (j x y : ℕ) (ls : List ℕ) (t b k : ℕ) (ms : List Move) → Are
 one_shown j x y ls t b k ms f =
     let same = books_stand ls t b k f.0 f.1 (stands (Books ls t b k) f.0 f.1 (λ h. omega (arith, f.3 h))) in
     let K : length f.1 ≡ k = cc in
-    omega (arith, f.3 one_tally, weigh-whole one_tally f.0 f.1, no_lots one_tally (λ _ _. refl) 0 f.0, tallies_weigh one_tally (λ _. 1) (λ _ _. refl) 0 f.1, weigh-ones f.1, moves_weigh one_tally (λ _. 1) (λ _. refl) ms, weigh-ones ms)
+    omega (
+      arith,
+      f.3 one_tally,
+      weigh-whole one_tally f.0 f.1,
+      no_lots one_tally (λ _ _. refl) 0 f.0,
+      tallies_weigh one_tally (λ _. 1) (λ _ _. refl) 0 f.1,
+      weigh-ones f.1,
+      moves_weigh one_tally (λ _. 1) (λ _. refl) ms,
+      weigh-ones ms,
+    )
 
 all_shown : (ls : List ℕ) (t b k : ℕ) (ms : List Move) → AreOfOneWhole (vault_parts ls t b k ms) → length ms ≡ k → (weigh (λ (m : Move). m.taken) ms ≡ t) × (weigh (λ (m : Move). m.back) ms ≡ b)
 all_shown ls t b k ms f all =
@@ -81,18 +89,46 @@ all_shown ls t b k ms f all =
     let B : weigh (λ (u : ℕ × ℕ). u.1) ts ≡ b = cc in
     let K : length ts ≡ k = cc in
     let none : weigh one_tally os ≡ 0 =
-    omega (arith, f.3 one_tally, weigh-whole one_tally f.0 ts, no_lots one_tally (λ _ _. refl) 0 f.0, tallies_weigh one_tally (λ _. 1) (λ _ _. refl) 0 ts, weigh-ones ts, moves_weigh one_tally (λ _. 1) (λ _. refl) ms, weigh-ones ms) in
+    omega (
+      arith,
+      f.3 one_tally,
+      weigh-whole one_tally f.0 ts,
+      no_lots one_tally (λ _ _. refl) 0 f.0,
+      tallies_weigh one_tally (λ _. 1) (λ _ _. refl) 0 ts,
+      weigh-ones ts,
+      moves_weigh one_tally (λ _. 1) (λ _. refl) ms,
+      weigh-ones ms,
+    ) in
     let x = weigh-none one_tally taken_in taken_none os none in
     let y = weigh-none one_tally back_in back_none os none in (
-      omega (arith, f.3 taken_in, weigh-whole taken_in f.0 ts, no_lots taken_in (λ _ _. refl) 0 f.0, tallies_weigh taken_in (λ u. u.0) (λ _ _. refl) 0 ts, moves_weigh taken_in (λ m. m.taken) (λ _. refl) ms),
-      omega (arith, f.3 back_in, weigh-whole back_in f.0 ts, no_lots back_in (λ _ _. refl) 0 f.0, tallies_weigh back_in (λ u. u.1) (λ _ _. refl) 0 ts, moves_weigh back_in (λ m. m.back) (λ _. refl) ms),
+      omega (
+        arith,
+        f.3 taken_in,
+        weigh-whole taken_in f.0 ts,
+        no_lots taken_in (λ _ _. refl) 0 f.0,
+        tallies_weigh taken_in (λ u. u.0) (λ _ _. refl) 0 ts,
+        moves_weigh taken_in (λ m. m.taken) (λ _. refl) ms,
+      ),
+      omega (
+        arith,
+        f.3 back_in,
+        weigh-whole back_in f.0 ts,
+        no_lots back_in (λ _ _. refl) 0 f.0,
+        tallies_weigh back_in (λ u. u.1) (λ _ _. refl) 0 ts,
+        moves_weigh back_in (λ m. m.back) (λ _. refl) ms,
+      ),
     )
 
--- the same of the vault's books
-pub lot_known : (vs : List (List Part)) (parts : List Part) (i x : ℕ) (a : Booked) → vs ≡ (Length i x ∷ []) ∷ [] → Balanced a parts → AreOfOneWhole (part_in vs ∷ parts) → slice_get a.lengths i ≡ Some x
-lot_known vs parts i x a e b f =
-    let all : part_in vs ∷ parts ≡ Length i x ∷ vault_parts a.lengths a.wear (back_of parts) (workers_of parts) (moves_of parts) = λ k. part_in (e k) ∷ b.0 k in
-    lot_shown i x a.lengths a.wear (back_of parts) (workers_of parts) (map moved (moves_of parts)) (subst AreOfOneWhole all f)
+-- the same of the vault's parts
+lot_in : (vs : List (List Part)) (parts : List Part) (i x : ℕ) (ls : List ℕ) (t b k : ℕ) (ms : List Move) → vs ≡ (Length i x ∷ []) ∷ [] → parts ≡ vault_parts ls t b k ms
+    → AreOfOneWhole (part_in vs ∷ parts) → slice_get ls i ≡ Some x
+lot_in vs parts i x ls t b k ms e p f =
+    let all : part_in vs ∷ parts ≡ Length i x ∷ vault_parts ls t b k ms = λ q. part_in (e q) ∷ p q in
+    lot_shown i x ls t b k (map moved ms) (subst AreOfOneWhole all f)
+
+pub lot_known : (vs : List (List Part)) (parts : List Part) (i x : ℕ) (a : Booked) → vs ≡ (Length i x ∷ []) ∷ [] → Balanced a parts → AreOfOneWhole (part_in vs ∷ parts)
+    → slice_get a.lengths i ≡ Some x
+lot_known vs parts i x a e b f = lot_in vs parts i x a.lengths a.wear (back_of parts) (workers_of parts) (moves_of parts) e b.0 f
 
 -- a lot that is known so is a lot of the vault, as contracts see both
 pub lot_of : {B : Type 0} (arena now : ArenaState) (lot seen : LotOf B) → slice_get (lengths_of arena) lot.index ≡ Some lot.len → arena ≡ now → lot ≡ seen → IsLotOf now seen
@@ -100,15 +136,17 @@ lot_of arena now lot seen e a l =
     let is = length_is arena lot.index lot.len e in
     rw (← a, ← l) (record { known = is.0; length = is.1 })
 
-pub tally_known : (vs : List (List Part)) (parts : List Part) (j x y : ℕ) (a : Booked) → vs ≡ (Moved j x y ∷ []) ∷ [] → Balanced a parts → AreOfOneWhole (part_in vs ∷ parts) → (x ≤ a.wear) × (y ≤ back_of parts)
-tally_known vs parts j x y a e b f =
-    let all : part_in vs ∷ parts ≡ Moved j x y ∷ vault_parts a.lengths a.wear (back_of parts) (workers_of parts) (moves_of parts) = λ k. part_in (e k) ∷ b.0 k in
-    tally_shown j x y a.lengths a.wear (back_of parts) (workers_of parts) (map moved (moves_of parts)) (subst AreOfOneWhole all f)
+tally_in : (vs : List (List Part)) (parts : List Part) (j x y : ℕ) (ls : List ℕ) (t b k : ℕ) (ms : List Move) → vs ≡ (Moved j x y ∷ []) ∷ [] → parts ≡ vault_parts ls t b k ms
+    → AreOfOneWhole (part_in vs ∷ parts) → (x ≤ t) × (y ≤ b)
+tally_in vs parts j x y ls t b k ms e p f =
+    let all : part_in vs ∷ parts ≡ Moved j x y ∷ vault_parts ls t b k ms = λ q. part_in (e q) ∷ p q in
+    tally_shown j x y ls t b k (map moved ms) (subst AreOfOneWhole all f)
 
-pub tally_left : (vs : List (List Part)) (parts : List Part) (j x y : ℕ) (a : Booked) → vs ≡ (Moved j x y ∷ []) ∷ [] → Balanced a parts → AreOfOneWhole (part_in vs ∷ parts) → length (moves_of parts) < workers_of parts
-tally_left vs parts j x y a e b f =
-    let all : part_in vs ∷ parts ≡ Moved j x y ∷ vault_parts a.lengths a.wear (back_of parts) (workers_of parts) (moves_of parts) = λ k. part_in (e k) ∷ b.0 k in
-    one_shown j x y a.lengths a.wear (back_of parts) (workers_of parts) (moves_of parts) (subst AreOfOneWhole all f)
+tally_left : (vs : List (List Part)) (parts : List Part) (j x y : ℕ) (ls : List ℕ) (t b k : ℕ) (ms : List Move) → vs ≡ (Moved j x y ∷ []) ∷ [] → parts ≡ vault_parts ls t b k ms
+    → AreOfOneWhole (part_in vs ∷ parts) → length ms < k
+tally_left vs parts j x y ls t b k ms e p f =
+    let all : part_in vs ∷ parts ≡ Moved j x y ∷ vault_parts ls t b k ms = λ q. part_in (e q) ∷ p q in
+    one_shown j x y ls t b k ms (subst AreOfOneWhole all f)
 
 -- of parts that are of one whole, the tallies taken in sum up
 all_summed : (ls : List ℕ) (t b k : ℕ) (ms : List Move) → AreOfOneWhole (vault_parts ls t b k ms) → AreSummed t b k ms
@@ -125,91 +163,122 @@ moves_moved [] = refl
 moves_moved (m ∷ ms) = λ i. m ∷ moves_moved ms i
 
 -- books that are known whole are balanced
-pub settled : (a : Booked) (parts : List Part) (b k : ℕ) (ms : List Move) → parts ≡ vault_parts a.lengths a.wear b k ms → a.wear ≡ b + weigh (λ (n : ℕ). n) a.lengths → AreSummed a.wear b k ms → Balanced a parts
+pub settled : (a : Booked) (parts : List Part) (b k : ℕ) (ms : List Move) → parts ≡ vault_parts a.lengths a.wear b k ms → a.wear ≡ b + weigh (λ (n : ℕ). n) a.lengths
+    → AreSummed a.wear b k ms → Balanced a parts
 settled a parts b k ms e w s =
     subst (λ (ps : List Part). Balanced a ps) (sym e)
     (ap (λ l. vault_parts a.lengths a.wear b k l) (sym (moves_moved ms)), w, subst (λ (l : List Move). AreSummed a.wear b k l) (sym (moves_moved ms)) s)
 
-pub set_parts : (vs : List (List Part)) (parts now : List Part) (i x n : ℕ) (ls : List ℕ) (t b k : ℕ) (ms : List Move) → vs ≡ (Length i x ∷ []) ∷ [] → parts ≡ vault_parts ls t b k ms → now ≡ below (with_length n (part_in vs ∷ parts)) → now ≡ vault_parts (set ls i n) t b k ms
+pub set_parts : (vs : List (List Part)) (parts now : List Part) (i x n : ℕ) (ls : List ℕ) (t b k : ℕ) (ms : List Move) → vs ≡ (Length i x ∷ []) ∷ [] → parts ≡ vault_parts ls t b k ms
+    → now ≡ below (with_length n (part_in vs ∷ parts)) → now ≡ vault_parts (set ls i n) t b k ms
 set_parts vs parts now i x n ls t b k ms e p w = w ∙ (λ q. below (with_length n (part_in (e q) ∷ p q)))
 
-pub taken_parts : (vs : List (List Part)) (parts now : List Part) (j x y n : ℕ) (ls : List ℕ) (t b k : ℕ) (ms : List Move) → vs ≡ (Moved j x y ∷ []) ∷ [] → parts ≡ vault_parts ls t b k ms → now ≡ below (with_taken n (part_in vs ∷ parts)) → now ≡ vault_parts ls (t + n) b k ms
+pub taken_parts : (vs : List (List Part)) (parts now : List Part) (j x y n : ℕ) (ls : List ℕ) (t b k : ℕ) (ms : List Move) → vs ≡ (Moved j x y ∷ []) ∷ [] → parts ≡ vault_parts ls t b k ms
+    → now ≡ below (with_taken n (part_in vs ∷ parts)) → now ≡ vault_parts ls (t + n) b k ms
 taken_parts vs parts now j x y n ls t b k ms e p w = w ∙ (λ q. below (with_taken n (part_in (e q) ∷ p q)))
 
-pub back_parts : (vs : List (List Part)) (parts now : List Part) (j x y n : ℕ) (ls : List ℕ) (t b k : ℕ) (ms : List Move) → vs ≡ (Moved j x y ∷ []) ∷ [] → parts ≡ vault_parts ls t b k ms → now ≡ below (with_back n (part_in vs ∷ parts)) → now ≡ vault_parts ls t (b + n) k ms
+pub back_parts : (vs : List (List Part)) (parts now : List Part) (j x y n : ℕ) (ls : List ℕ) (t b k : ℕ) (ms : List Move) → vs ≡ (Moved j x y ∷ []) ∷ [] → parts ≡ vault_parts ls t b k ms
+    → now ≡ below (with_back n (part_in vs ∷ parts)) → now ≡ vault_parts ls t (b + n) k ms
 back_parts vs parts now j x y n ls t b k ms e p w = w ∙ (λ q. below (with_back n (part_in (e q) ∷ p q)))
 
-pub along : (a : Booked) (parts now : List Part) → now ≡ parts → Balanced a parts → Balanced a now
-along a parts now e b = subst (λ (ps : List Part). Balanced a ps) (sym e) b
+-- what a carving of n bytes for the lot i, by a tally with x taken and y back, shows of the books a, and that the parts after it keep them
+pub record CarveShown (a : Booked) (now : List Part) (i n x y : ℕ) : Type 0 where
+  pub tally : x ≤ a.wear
+  pub kept : (a' : Booked) → a'.lengths ≡ slice_set a.lengths i n → a'.wear ≡ a.wear + n → Balanced a' now
 
-pub fits_along : (p : Part) (parts now : List Part) → now ≡ parts → AreOfOneWhole (p ∷ now) → AreOfOneWhole (p ∷ parts)
-fits_along p parts now e f = subst (λ (ps : List Part). AreOfOneWhole (p ∷ ps)) e f
-
-pub carve_kept : (a a' : Booked) (p p1 p2 : List Part) (vs ts : List (List Part)) (i m n j x y : ℕ) → Balanced a p → vs ≡ (Length i m ∷ []) ∷ [] → ts ≡ (Moved j x y ∷ []) ∷ [] → slice_get a.lengths i ≡ Some 0 → length (moves_of p) < workers_of p
-    → p1 ≡ below (with_length n (part_in vs ∷ p)) → p2 ≡ below (with_taken n (part_in ts ∷ p1)) → a'.lengths ≡ slice_set a.lengths i n → a'.wear ≡ a.wear + n → Balanced a' p2
-carve_kept a a' p p1 p2 vs ts i m n j x y b v t at left e1 e2 l w =
+pub carve_shown : (a : Booked) (p p1 now : List Part) (vs ts : List (List Part)) (i m n j x y : ℕ) → Balanced a p → vs ≡ (Length i m ∷ []) ∷ [] → ts ≡ (Moved j x y ∷ []) ∷ []
+    → slice_get a.lengths i ≡ Some 0
+    → p1 ≡ below (with_length n (part_in vs ∷ p)) → AreOfOneWhole (part_in ts ∷ p1) → now ≡ below (with_taken n (part_in ts ∷ p1)) → CarveShown a now i n x y
+carve_shown a p p1 now vs ts i m n j x y b v t at e1 f e2 =
     let bk = back_of p in
     let wk = workers_of p in
     let ms = moves_of p in
     let q1 = set_parts vs p p1 i m n a.lengths a.wear bk wk ms v b.0 e1 in
-    let q2 = taken_parts ts p1 p2 j x y n (slice_set a.lengths i n) a.wear bk wk ms t q1 e2 in
+    let q2 = taken_parts ts p1 now j x y n (slice_set a.lengths i n) a.wear bk wk ms t q1 e2 in
+    let left = tally_left ts p1 j x y (slice_set a.lengths i n) a.wear bk wk ms t q1 f in
     let total = weigh-set (λ (u : ℕ). u) a.lengths i 0 n at in
-    let sums : weigh (λ (u : ℕ). u) a'.lengths ≡ weigh (λ (u : ℕ). u) (slice_set a.lengths i n) = ap (λ l. weigh (λ (u : ℕ). u) l) l in
-    settled a' p2 bk wk ms (q2 ∙ (λ k. vault_parts (sym l k) (sym w k) bk wk ms)) (omega (arith, b.1)) (not_all a'.wear bk wk ms left)
+    record {
+      tally = (tally_in ts p1 j x y (slice_set a.lengths i n) a.wear bk wk ms t q1 f).0;
+      kept = λ a' l w.
+          let sums : weigh (λ (u : ℕ). u) a'.lengths ≡ weigh (λ (u : ℕ). u) (slice_set a.lengths i n) = ap (λ l. weigh (λ (u : ℕ). u) l) l in
+          settled a' now bk wk ms (q2 ∙ (λ k. vault_parts (sym l k) (sym w k) bk wk ms)) (omega (arith, b.1)) (not_all a'.wear bk wk ms left);
+    }
 
-pub give_kept : (a a' : Booked) (p p1 p2 : List Part) (vs ts : List (List Part)) (i n j x y : ℕ) → Balanced a p → vs ≡ (Length i n ∷ []) ∷ [] → ts ≡ (Moved j x y ∷ []) ∷ [] → slice_get a.lengths i ≡ Some n → length (moves_of p) < workers_of p
-    → p1 ≡ below (with_length 0 (part_in vs ∷ p)) → p2 ≡ below (with_back n (part_in ts ∷ p1)) → a'.lengths ≡ slice_set a.lengths i 0 → a'.wear ≡ a.wear → Balanced a' p2
-give_kept a a' p p1 p2 vs ts i n j x y b v t at left e1 e2 l w =
+-- what a giving back of the n bytes of the lot i, by a tally with x taken and y back, shows of the books a, and that the parts after it keep them
+pub record BackShown (a : Booked) (p now : List Part) (i n x y : ℕ) : Type 0 where
+  pub lot : slice_get a.lengths i ≡ Some n
+  pub tally : y ≤ back_of p
+  pub kept : (a' : Booked) → a'.lengths ≡ slice_set a.lengths i 0 → a'.wear ≡ a.wear → Balanced a' now
+
+pub back_shown : (a : Booked) (p p1 now : List Part) (vs ts : List (List Part)) (i n j x y : ℕ) → Balanced a p → vs ≡ (Length i n ∷ []) ∷ [] → ts ≡ (Moved j x y ∷ []) ∷ []
+    → AreOfOneWhole (part_in vs ∷ p)
+    → p1 ≡ below (with_length 0 (part_in vs ∷ p)) → AreOfOneWhole (part_in ts ∷ p1) → now ≡ below (with_back n (part_in ts ∷ p1)) → BackShown a p now i n x y
+back_shown a p p1 now vs ts i n j x y b v t f1 e1 f2 e2 =
     let bk = back_of p in
     let wk = workers_of p in
     let ms = moves_of p in
+    let at = lot_known vs p i n a v b f1 in
     let q1 = set_parts vs p p1 i n 0 a.lengths a.wear bk wk ms v b.0 e1 in
-    let q2 = back_parts ts p1 p2 j x y n (slice_set a.lengths i 0) a.wear bk wk ms t q1 e2 in
+    let q2 = back_parts ts p1 now j x y n (slice_set a.lengths i 0) a.wear bk wk ms t q1 e2 in
+    let left = tally_left ts p1 j x y (slice_set a.lengths i 0) a.wear bk wk ms t q1 f2 in
     let total = weigh-set (λ (u : ℕ). u) a.lengths i n 0 at in
-    let sums : weigh (λ (u : ℕ). u) a'.lengths ≡ weigh (λ (u : ℕ). u) (slice_set a.lengths i 0) = ap (λ l. weigh (λ (u : ℕ). u) l) l in
-    settled a' p2 (bk + n) wk ms (q2 ∙ (λ k. vault_parts (sym l k) (sym w k) (bk + n) wk ms)) (omega (arith, b.1)) (not_all a'.wear (bk + n) wk ms left)
+    record {
+      lot = at;
+      tally = (tally_in ts p1 j x y (slice_set a.lengths i 0) a.wear bk wk ms t q1 f2).1;
+      kept = λ a' l w.
+          let sums : weigh (λ (u : ℕ). u) a'.lengths ≡ weigh (λ (u : ℕ). u) (slice_set a.lengths i 0) = ap (λ l. weigh (λ (u : ℕ). u) l) l in
+          settled a' now (bk + n) wk ms (q2 ∙ (λ k. vault_parts (sym l k) (sym w k) (bk + n) wk ms)) (omega (arith, b.1)) (not_all a'.wear (bk + n) wk ms left);
+    }
 
-pub get_set_other : {X : Type 0} (xs : List X) (i j : ℕ) (y : X) → (j ≡ i → ⊥) → slice_get (set xs i y) j ≡ slice_get xs j
+get_set_other : {X : Type 0} (xs : List X) (i j : ℕ) (y : X) → (j ≡ i → ⊥) → slice_get (set xs i y) j ≡ slice_get xs j
 get_set_other [] i j y n = refl
 get_set_other (x ∷ xs) zero zero y n = absurd (n refl)
 get_set_other (x ∷ xs) zero (suc j) y n = refl
 get_set_other (x ∷ xs) (suc i) zero y n = refl
 get_set_other (x ∷ xs) (suc i) (suc j) y n = get_set_other xs i j y (λ e. n (ap suc e))
 
--- records with different lengths are different
-pub apart : (ls : List ℕ) (i j m : ℕ) → slice_get ls i ≡ Some m → slice_get ls j ≡ Some 0 → 0 < m → j ≡ i → ⊥
-apart ls i j m a b h e = let c : Some m ≡ Some 0 = sym a ∙ ap (λ k. slice_get ls k) (sym e) ∙ b in let z : m ≡ 0 = cc in absurd (omega arith)
+get_set_same : {X : Type 0} (xs : List X) (i : ℕ) (x y : X) → slice_get xs i ≡ Some x → slice_get (set xs i y) i ≡ Some y
+get_set_same [] i x y e = absurd (cc)
+get_set_same (z ∷ xs) zero x y e = refl
+get_set_same (z ∷ xs) (suc i) x y e = get_set_same xs i x y e
 
-pub cut_kept : (a a' : Booked) (p p1 p2 : List Part) (vs ts : List (List Part)) (i m j n k : ℕ) → Balanced a p → vs ≡ (Length i m ∷ []) ∷ [] → ts ≡ (Length j n ∷ []) ∷ [] → slice_get a.lengths i ≡ Some m → slice_get a.lengths j ≡ Some 0
-    → k < m → p1 ≡ below (with_length k (part_in vs ∷ p)) → p2 ≡ below (with_length (m - k) (part_in ts ∷ p1)) → a'.lengths ≡ slice_set (slice_set a.lengths i k) j (m - k) → a'.wear ≡ a.wear → Balanced a' p2
-cut_kept a a' p p1 p2 vs ts i m j n k b v t at there h e1 e2 l w =
+-- a record whose length is 0 after that of another was set to some bytes is another record
+apart : (ls : List ℕ) (i j m k : ℕ) → slice_get ls i ≡ Some m → slice_get (set ls i k) j ≡ Some 0 → 0 < k → j ≡ i → ⊥
+apart ls i j m k a b h e =
+    let c : Some k ≡ Some 0 = sym (get_set_same ls i m k a) ∙ ap (λ r. slice_get (set ls i k) r) (sym e) ∙ b in
+    let z : k ≡ 0 = cc in absurd (omega arith)
+
+-- what a cut of the m bytes of the lot i after k bytes, for the empty lot j, shows of the books a, and that the parts after it keep them
+pub record CutShown (a : Booked) (now : List Part) (i m j k : ℕ) : Type 0 where
+  pub head : slice_get a.lengths i ≡ Some m
+  pub tail : slice_get a.lengths j ≡ Some 0
+  pub other : j ≡ i → ⊥
+  pub kept : (a' : Booked) → a'.lengths ≡ slice_set (slice_set a.lengths i k) j (m - k) → a'.wear ≡ a.wear → Balanced a' now
+
+pub cut_shown : (a : Booked) (p p1 now : List Part) (vs ts : List (List Part)) (i m j n k : ℕ) → Balanced a p → vs ≡ (Length i m ∷ []) ∷ [] → ts ≡ (Length j n ∷ []) ∷ [] → n ≡ 0 → 0 < k → k < m
+    → AreOfOneWhole (part_in vs ∷ p) → p1 ≡ below (with_length k (part_in vs ∷ p)) → AreOfOneWhole (part_in ts ∷ p1) → now ≡ below (with_length (m - k) (part_in ts ∷ p1)) → CutShown a now i m j k
+cut_shown a p p1 now vs ts i m j n k b v t z some below_m f1 e1 f2 e2 =
     let bk = back_of p in
     let wk = workers_of p in
     let ms = moves_of p in
+    let at = lot_known vs p i m a v b f1 in
     let q1 = set_parts vs p p1 i m k a.lengths a.wear bk wk ms v b.0 e1 in
-    let q2 = set_parts ts p1 p2 j n (m - k) (slice_set a.lengths i k) a.wear bk wk ms t q1 e2 in
+    let q2 = set_parts ts p1 now j n (m - k) (slice_set a.lengths i k) a.wear bk wk ms t q1 e2 in
+    let there : slice_get (slice_set a.lengths i k) j ≡ Some 0 = lot_in ts p1 j n (slice_set a.lengths i k) a.wear bk wk ms t q1 f2 ∙ ap Some z in
+    let other : j ≡ i → ⊥ = apart a.lengths i j m k at there some in
     let total = weigh-set (λ (u : ℕ). u) a.lengths i m k at in
-    let still : slice_get (slice_set a.lengths i k) j ≡ Some 0 = get_set_other a.lengths i j k (apart a.lengths i j m at there (omega arith)) ∙ there in
-    let total' = weigh-set (λ (u : ℕ). u) (slice_set a.lengths i k) j 0 (m - k) still in
-    let sums : weigh (λ (u : ℕ). u) a'.lengths ≡ weigh (λ (u : ℕ). u) (slice_set (slice_set a.lengths i k) j (m - k)) = ap (λ l. weigh (λ (u : ℕ). u) l) l in
-    settled a' p2 bk wk ms (q2 ∙ (λ q. vault_parts (sym l q) (sym w q) bk wk ms)) (omega (arith, b.1)) (subst (λ (wear : ℕ). AreSummed wear bk wk ms) (sym w) b.2)
-
-pub index_known : (ls : List ℕ) (i n : ℕ) → slice_get ls i ≡ Some n → slice_index ls i ≡ n
-index_known ls i n e = get_or_from_slice_get ls i n 0 e
+    let total' = weigh-set (λ (u : ℕ). u) (slice_set a.lengths i k) j 0 (m - k) there in
+    record {
+      head = at;
+      tail = sym (get_set_other a.lengths i j k other) ∙ there;
+      other = other;
+      kept = λ a' l w.
+          let sums : weigh (λ (u : ℕ). u) a'.lengths ≡ weigh (λ (u : ℕ). u) (slice_set (slice_set a.lengths i k) j (m - k)) = ap (λ l. weigh (λ (u : ℕ). u) l) l in
+          settled a' now bk wk ms (q2 ∙ (λ q. vault_parts (sym l q) (sym w q) bk wk ms)) (omega (arith, b.1)) (subst (λ (wear : ℕ). AreSummed wear bk wk ms) (sym w) b.2);
+    }
 
 pub collect_kept : (a : Booked) (p p1 : List Part) (ts : List (List Part)) (j x y : ℕ) → Balanced a p → ts ≡ (Moved j x y ∷ []) ∷ [] → p1 ≡ under p (part_in ts ∷ []) → AreOfOneWhole p1 → Balanced a p1
 collect_kept a p p1 ts j x y b t e f =
     let ms : List Move = record { number = j; taken = x; back = y } ∷ moves_of p in
     let now : p1 ≡ vault_parts a.lengths a.wear (back_of p) (workers_of p) ms = e ∙ (λ q. under (b.0 q) (part_in (t q) ∷ [])) in
     settled a p1 (back_of p) (workers_of p) ms now b.1 (all_summed a.lengths a.wear (back_of p) (workers_of p) ms (subst AreOfOneWhole now f))
-
--- what contracts see of the parts after a cut
-pub cut_parts : (a : Booked) (p p1 p2 : List Part) (vs ts : List (List Part)) (i m j n k : ℕ) → Balanced a p → vs ≡ (Length i m ∷ []) ∷ [] → ts ≡ (Length j n ∷ []) ∷ []
-    → p1 ≡ below (with_length k (part_in vs ∷ p)) → p2 ≡ below (with_length (m - k) (part_in ts ∷ p1)) → (back_of p2 ≡ back_of p) × (workers_of p2 ≡ workers_of p) × (moves_of p2 ≡ moves_of p)
-cut_parts a p p1 p2 vs ts i m j n k b v t e1 e2 =
-    let bk = back_of p in
-    let wk = workers_of p in
-    let ms = moves_of p in
-    let q1 = set_parts vs p p1 i m k a.lengths a.wear bk wk ms v b.0 e1 in
-    let q2 = set_parts ts p1 p2 j n (m - k) (slice_set a.lengths i k) a.wear bk wk ms t q1 e2 in
-    (ap back_of q2, ap workers_of q2, ap moves_of q2 ∙ moves_moved ms)

@@ -63,7 +63,8 @@ find_lot : (r x i : ℕ) (ls : List ℕ) → 1 ≤ weigh (is_lot r x) (lots_from
 find_lot r x i [] h = absurd (omega arith)
 find_lot r x i (n ∷ ns) h = by (λ g. find_lot r x (suc i) ns g) (eqb i r && eqb n x) refl
   where
-    by : (1 ≤ weigh (is_lot r x) (lots_from (suc i) ns) → (k : ℕ) × (r ≡ suc i + k) × (slice_get ns k ≡ Some x)) → (b : Bool) → eqb i r && eqb n x ≡ b → (k : ℕ) × (r ≡ i + k) × (slice_get (n ∷ ns) k ≡ Some x)
+    by : (1 ≤ weigh (is_lot r x) (lots_from (suc i) ns) → (k : ℕ) × (r ≡ suc i + k) × (slice_get ns k ≡ Some x)) → (b : Bool) → eqb i r && eqb n x ≡ b
+        → (k : ℕ) × (r ≡ i + k) × (slice_get (n ∷ ns) k ≡ Some x)
     by more true e = let s = both (eqb i r) (eqb n x) e in let a : i ≡ r = (Decides-eqb i r).0 s.0 in let b : n ≡ x = (Decides-eqb n x).0 s.1 in (0, omega arith, ap Some b)
     by more false e =
         let h' : 1 ≤ one false + weigh (is_lot r x) (lots_from (suc i) ns) = subst (λ (t : Bool). 1 ≤ one t + weigh (is_lot r x) (lots_from (suc i) ns)) e h in
@@ -74,7 +75,8 @@ find_tally : (j x y i : ℕ) (ts : List (ℕ × ℕ)) → 1 ≤ weigh (is_tally 
 find_tally j x y i [] h = absurd (omega arith)
 find_tally j x y i (t ∷ rest) h = by (λ g. find_tally j x y (suc i) rest g) (eqb i j && (eqb t.0 x && eqb t.1 y)) refl
   where
-    by : (1 ≤ weigh (is_tally j x y) (tallies_from (suc i) rest) → (k : ℕ) × (j ≡ suc i + k) × (slice_get rest k ≡ Some (x, y))) → (b : Bool) → eqb i j && (eqb t.0 x && eqb t.1 y) ≡ b → (k : ℕ) × (j ≡ i + k) × (slice_get (t ∷ rest) k ≡ Some (x, y))
+    by : (1 ≤ weigh (is_tally j x y) (tallies_from (suc i) rest) → (k : ℕ) × (j ≡ suc i + k) × (slice_get rest k ≡ Some (x, y))) → (b : Bool) → eqb i j && (eqb t.0 x && eqb t.1 y) ≡ b
+        → (k : ℕ) × (j ≡ i + k) × (slice_get (t ∷ rest) k ≡ Some (x, y))
     by more true e =
         let s = both (eqb i j) (eqb t.0 x && eqb t.1 y) e in
         let u = both (eqb t.0 x) (eqb t.1 y) s.1 in
@@ -145,7 +147,8 @@ lots_set h i (m ∷ ms) (suc r) x n e =
     let next' = subst (λ (k : ℕ). weigh h (lots_from (suc i) (set ms r n)) + h (Length k x) ≡ weigh h (lots_from (suc i) ms) + h (Length k n)) at next in
     omega arith
 
-pub tallies_set : (h : Part → ℕ) (i : ℕ) (ts : List (ℕ × ℕ)) (j x y u w : ℕ) → slice_get ts j ≡ Some (x, y) → weigh h (tallies_from i (set ts j (u, w))) + h (Moved (i + j) x y) ≡ weigh h (tallies_from i ts) + h (Moved (i + j) u w)
+pub tallies_set : (h : Part → ℕ) (i : ℕ) (ts : List (ℕ × ℕ)) (j x y u w : ℕ) → slice_get ts j ≡ Some (x, y)
+    → weigh h (tallies_from i (set ts j (u, w))) + h (Moved (i + j) x y) ≡ weigh h (tallies_from i ts) + h (Moved (i + j) u w)
 tallies_set h i [] j x y u w e = absurd (cc)
 tallies_set h i (t ∷ rest) zero x y u w e = let same : t ≡ (x, y) = cc in rw (same, add-zero) (omega arith)
 tallies_set h i (t ∷ rest) (suc j) x y u w e =
@@ -157,5 +160,7 @@ tallies_set h i (t ∷ rest) (suc j) x y u w e =
 pub lot_set : (h : Part → ℕ) (ls : List ℕ) (r x n : ℕ) → slice_get ls r ≡ Some x → weigh h (lots_from 0 (set ls r n)) + h (Length r x) ≡ weigh h (lots_from 0 ls) + h (Length r n)
 lot_set h ls r x n e = subst (λ (k : ℕ). weigh h (lots_from 0 (set ls r n)) + h (Length k x) ≡ weigh h (lots_from 0 ls) + h (Length k n)) (zero-add r) (lots_set h 0 ls r x n e)
 
-pub tally_set : (h : Part → ℕ) (ts : List (ℕ × ℕ)) (j x y u w : ℕ) → slice_get ts j ≡ Some (x, y) → weigh h (tallies_from 0 (set ts j (u, w))) + h (Moved j x y) ≡ weigh h (tallies_from 0 ts) + h (Moved j u w)
-tally_set h ts j x y u w e = subst (λ (k : ℕ). weigh h (tallies_from 0 (set ts j (u, w))) + h (Moved k x y) ≡ weigh h (tallies_from 0 ts) + h (Moved k u w)) (zero-add j) (tallies_set h 0 ts j x y u w e)
+pub tally_set : (h : Part → ℕ) (ts : List (ℕ × ℕ)) (j x y u w : ℕ) → slice_get ts j ≡ Some (x, y)
+    → weigh h (tallies_from 0 (set ts j (u, w))) + h (Moved j x y) ≡ weigh h (tallies_from 0 ts) + h (Moved j u w)
+tally_set h ts j x y u w e = subst (λ (k : ℕ). weigh h (tallies_from 0 (set ts j (u, w))) + h (Moved k x y) ≡ weigh h (tallies_from 0 ts) + h (Moved k u w)) (zero-add j)
+    (tallies_set h 0 ts j x y u w e)

@@ -1,11 +1,8 @@
 -- What contracts see of a vault, a lot and a tally. `id` is the same in all that one `Vault::new` gave.
-use Rattle.std.specs.Prelude.{◌≡◌, ℕ, ◌+◌, ◌<◌, ◌≤◌, ◌^◌, List, [], ◌∷◌, map, length, sum, slice_get, Some}
+use Rattle.std.specs.Prelude.{◌≡◌, ℕ, ◌≤◌, List, map, length, sum, slice_get, Some}
 use Rattle.atomic_table.specs.Seated.{TableId}
-use Rattle.xh_arena.specs.declared.parts.Part.{Part}
-use Rattle.xh_arena.specs.declared.parts.Part.TheVariants.{Books, Length, Moved}
-use Rattle.xh_model.specs.Arena.{ArenaState, AreLimits, lengths_of}
-use Rattle.xh_model.specs.declared.limits.TheConstants.{MAX_WEAR, MAX_WORKERS}
-use Rattle.xh_arena.specs.inner.Parts.{weigh}
+use Rattle.xh_model.specs.Arena.{ArenaState, AreLimits}
+use Rattle.xh_model.specs.declared.limits.TheConstants.{MAX_WORKERS}
 
 -- a lot: whose it is, its record in that arena, its length, and what travels with it
 pub record LotOf (B : Type 0) : Type 0 where

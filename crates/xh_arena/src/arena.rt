@@ -1,60 +1,63 @@
 //! An arena: its records' extents and its holes.
-ghost use Rattle.std.specs.Prelude.{◌≡◌, ◌≢◌, ℕ, ◌+◌, ◌<◌, ◌≤◌, ◌%◌, ◌∷◌, [], ◌↔◌, IfOk, IfErr, OnOk, IsOk, MatchOption, ◌⊎◌, Err, None, length, replicate, vec_capacity};
+ghost use Rattle.std.specs.Prelude.{◌≡◌, ◌≢◌, ℕ, ◌+◌, ◌<◌, ◌≤◌, ◌%◌, ◌∷◌, [], ◌↔◌, IfOk, IfErr, OnOk, IsOk, MatchOption, ◌⊎◌, Err, None, length, replicate};
+ghost use Rattle.std.specs.Box.{boxed_slice_items};
 ghost use Rattle.std.specs.List.{range_with_len, sum_by};
 ghost use Rattle.xh_model.specs.Cover.{AreHoles, SameRun, bytes_out, holes_of, length_of, run_of};
 ghost use Rattle.xh_model.specs.Arena.{AreLimits, IsCarved, IsCut, IsGivenBack, IsGoodCut, IsLawfulArena};
 ghost use Rattle.xh_arena.specs.Refusals.{RefusesCarve};
 
-use crate::holes::{add_hole, first_hole, take_front};
+use crate::holes::{Holes, add_hole, first_hole, take_front};
 use crate::refused::Refused;
 use std::alloc::{AllocError, Global};
+use std::boxed::BoxedSlice;
 use std::marker::Model;
 use xh_model::is_in_arena_limits;
 use xh_model::limits::{MAX_BYTES, MAX_RECORDS, UNIT};
 
 /// A range of bytes: the extent of each record is a run of it, and all other bytes are holes.
 ///
-/// Records are numbered from 0. Every start, length and size is in bytes, and a multiple of 16. The books take a few
-/// bytes for each record, whatever the size, and no call but `new` takes memory.
+/// Records are numbered from 0. Every start, length and size is in bytes, and a multiple of 16. The holes take 2 KiB in
+/// the arena itself, and each record 8 bytes, whatever the size. Neither can grow: no call but `new` takes memory.
 #[derive(Drop)]
 pub struct Arena {
     size: u32,
     /// By record, the start and the length; the length is 0 where the record is empty.
-    extents: Vec<(u32, u32)>,
+    extents: BoxedSlice<(u32, u32), Global>,
     /// In rising order, each a start and a length.
-    holes: Vec<(u32, u32)>,
+    holes: Holes,
     handed_out: u32,
     wear: u64,
     limit: u64,
 }
 
 impl Model for Arena {
-    ghost use Rattle.std.specs.Prelude.{length, vec_capacity};
+    ghost use Rattle.std.specs.Prelude.{length};
+    ghost use Rattle.std.specs.Box.{boxed_slice_items};
     ghost use Rattle.xh_model.specs.Arena.{ArenaState};
     ghost use Rattle.xh_arena.specs.inner.Layout.{IsArena, cover_of};
 
     ghost Value = { ArenaState };
 
-    ghost view = { λ a. record { cover = cover_of a.size a.extents.items; records = length a.extents.items; wear = a.wear; limit = a.limit } };
+    ghost view = { λ a. record { cover = cover_of a.size (boxed_slice_items a.extents); records = length (boxed_slice_items a.extents); wear = a.wear; limit = a.limit } };
 
-    ghost invariant = { λ a. IsArena a.size a.extents.items a.holes.items a.handed_out a.wear a.limit (vec_capacity a.holes) };
+    ghost invariant = { λ a. IsArena a.size (boxed_slice_items a.extents) a.holes.items a.handed_out a.wear a.limit };
 }
 
 /// The extents of records that are all empty.
-fn no_extents(alloc: Global, count: usize) -> Result<Vec<(u32, u32)>, AllocError>
-    ensures { IfOk result (λ extents. extents.items ≡ replicate count (0, 0)) }
+fn no_extents(alloc: Global, count: usize) -> Result<BoxedSlice<(u32, u32), Global>, AllocError>
+    ensures { IfOk result (λ extents. boxed_slice_items extents ≡ replicate count (0, 0)) }
 {
-    vec![in alloc; (0, 0); count]
+    let extents = vec![in alloc; (0, 0); count]?;
+    Ok(extents.into_boxed_slice())
 }
 
-/// One hole, with room for more.
-fn one_hole(alloc: Global, size: u32, room: usize) -> Result<Vec<(u32, u32)>, AllocError>
-    ensures items { IfOk result (λ holes. holes.items ≡ (0, size) ∷ []) }
-    ensures room { IfOk result (λ holes. room ≤ vec_capacity holes) }
+/// One hole.
+fn one_hole(size: u32) -> Holes
+    ensures { result.items ≡ (0, size) ∷ [] }
 {
-    let mut holes = Vec::with_capacity(alloc, room)?;
-    holes.push((0, size))?;
-    Ok(holes)
+    let mut holes = Holes::new();
+    holes.push((0, size));
+    holes
 }
 
 impl Arena {
@@ -76,13 +79,10 @@ impl Arena {
         let Ok(extents) = no_extents(alloc, usize::from(records)) else {
             return Err(Refused::OutOfMemory);
         };
-        let Ok(holes) = one_hole(alloc, size, usize::from(records) + 2) else {
-            return Err(Refused::OutOfMemory);
-        };
         Ok(Arena {
             size,
             extents,
-            holes,
+            holes: one_hole(size),
             handed_out: 0,
             wear: 0,
             limit: wear,

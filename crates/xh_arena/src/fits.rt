@@ -7,7 +7,8 @@ pub trait Fits {
 
     ghost is_fit: { Self → ℕ → Bool };
 
-    /// Whether the body is well formed for a record of `len` bytes.
+    /// Whether the body is well formed for a record of `len` bytes. For none that is a blank body, which
+    /// takes no memory.
     fn fits(&self, len: u32) -> bool
         ensures { result ≡ is_fit self.now len };
 }

@@ -73,7 +73,7 @@ impl Shares {
     /// The lot on top has a new length. The number is for the proof alone.
     fn set_length<N: Amount>(&mut self, len: u32)
         requires { N.amount ≡ len }
-        ensures { (self.new.id ≡ self.old.id) × (self.new.parts ≡ with_length len self.old.parts) }
+        ensures { (self.new.id ≡ self.old.id) × (self.new.parts ≡ with_length len self.old.parts) × AreOfOneWhole self.old.parts }
     {
         let table = &self.table;
         table.shared.load::<Sets<N>>(&mut self.seat, 0);
@@ -82,7 +82,7 @@ impl Shares {
     /// The tally on top has taken more.
     fn take<N: Amount>(&mut self, bytes: u32)
         requires { N.amount ≡ bytes }
-        ensures { (self.new.id ≡ self.old.id) × (self.new.parts ≡ with_taken bytes self.old.parts) }
+        ensures { (self.new.id ≡ self.old.id) × (self.new.parts ≡ with_taken bytes self.old.parts) × AreOfOneWhole self.old.parts }
     {
         let table = &self.table;
         table.shared.load::<Takes<N>>(&mut self.seat, 0);
@@ -91,7 +91,7 @@ impl Shares {
     /// The tally on top has given more back.
     fn give_back<N: Amount>(&mut self, bytes: u32)
         requires { N.amount ≡ bytes }
-        ensures { (self.new.id ≡ self.old.id) × (self.new.parts ≡ with_back bytes self.old.parts) }
+        ensures { (self.new.id ≡ self.old.id) × (self.new.parts ≡ with_back bytes self.old.parts) × AreOfOneWhole self.old.parts }
     {
         let table = &self.table;
         table.shared.load::<Gives<N>>(&mut self.seat, 0);
@@ -118,21 +118,38 @@ impl Shares {
             .join_seat::<Under>(&mut self.seat, share.into_seat());
     }
 
+    /// The share's part goes before the vault's own, and all are of one whole.
+    pub fn hold(&mut self, share: &mut Badge<View>)
+        requires { (share.old.table_id ≡ self.old.id) × IsOne share.old.views }
+        ensures held { (self.new.id ≡ self.old.id) × (self.new.parts ≡ part_in share.old.views ∷ self.old.parts) }
+        ensures fits { AreOfOneWhole (part_in share.old.views ∷ self.old.parts) }
+    {
+        self.join(share);
+        self.look();
+    }
+
+    /// The lot that is held has a new length, and its book too.
+    pub fn set_held(&mut self, len: u32)
+        ensures { (self.new.id ≡ self.old.id) × (self.new.parts ≡ with_length len self.old.parts) }
+    {
+        self.set_length::<Brand>(len);
+    }
+
     /// Shows that the share and the vault's own parts are of one whole.
     pub fn look_at(&mut self, share: &mut Badge<View>)
         requires { (share.old.table_id ≡ self.old.id) × IsOne share.old.views }
         ensures same { (self.new ≡ self.old) × (share.new.table_id ≡ share.old.table_id) × (share.new.views ≡ share.old.views) }
         ensures fits { AreOfOneWhole (part_in share.old.views ∷ self.old.parts) }
     {
-        self.join(share);
-        self.look();
+        self.hold(share);
         *share = self.split();
     }
 
-    /// The lot of the share has a new length, and its book too.
+    /// The lot of the share has a new length, and its book too. What it had belongs to one whole.
     pub fn set_length_of(&mut self, share: &mut Badge<View>, len: u32)
         requires { (share.old.table_id ≡ self.old.id) × IsOne share.old.views }
         ensures same { (self.new.id ≡ self.old.id) × (share.new.table_id ≡ share.old.table_id) }
+        ensures fits { AreOfOneWhole (part_in share.old.views ∷ self.old.parts) }
         ensures changed { let all = with_length len (part_in share.old.views ∷ self.old.parts) in (self.new.parts ≡ below all) × (share.new.views ≡ top all ∷ []) }
     {
         self.join(share);
@@ -144,6 +161,7 @@ impl Shares {
     pub fn take_by(&mut self, share: &mut Badge<View>, bytes: u32)
         requires { (share.old.table_id ≡ self.old.id) × IsOne share.old.views }
         ensures same { (self.new.id ≡ self.old.id) × (share.new.table_id ≡ share.old.table_id) }
+        ensures fits { AreOfOneWhole (part_in share.old.views ∷ self.old.parts) }
         ensures changed { let all = with_taken bytes (part_in share.old.views ∷ self.old.parts) in (self.new.parts ≡ below all) × (share.new.views ≡ top all ∷ []) }
     {
         self.join(share);
@@ -155,6 +173,7 @@ impl Shares {
     pub fn give_back_by(&mut self, share: &mut Badge<View>, bytes: u32)
         requires { (share.old.table_id ≡ self.old.id) × IsOne share.old.views }
         ensures same { (self.new.id ≡ self.old.id) × (share.new.table_id ≡ share.old.table_id) }
+        ensures fits { AreOfOneWhole (part_in share.old.views ∷ self.old.parts) }
         ensures changed { let all = with_back bytes (part_in share.old.views ∷ self.old.parts) in (self.new.parts ≡ below all) × (share.new.views ≡ top all ∷ []) }
     {
         self.join(share);

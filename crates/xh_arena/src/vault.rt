@@ -50,7 +50,13 @@ impl Vault {
         wear: u64,
         workers: u8,
     ) -> Result<(Vault, Vec<Lot<B>>, Vec<Tally>), Refused>
-        ensures vault { IfOk result (λ r. r.0 ≡ record { id = r.0.id; arena = record { cover = replicate size None; records = records; wear = 0; limit = wear }; back = 0; workers = workers; collected = [] }) }
+        ensures vault { IfOk result (λ r. r.0 ≡ record {
+          id = r.0.id;
+          arena = record { cover = replicate size None; records = records; wear = 0; limit = wear };
+          back = 0;
+          workers = workers;
+          collected = [];
+        }) }
         ensures lots { IfOk result (λ r. AreLots B.is_default r.0.id records r.1.items) }
         ensures tallies { IfOk result (λ r. AreTallies r.0.id workers r.2.items) }
         ensures limits { OnOk result (AreVaultLimits size records wear workers) }
@@ -90,10 +96,16 @@ impl Vault {
         ensures exact { (e : Refused) → RefusesCarve n self.old.arena e → result ≡ Err e }
         ensures lawful { IsLawfulArena self.new.arena }
     {
-        self.shares.look_at(&mut lot.share);
-        self.shares.look_at(&mut tally.share);
-        let start = self.arena.carve(lot.index, n)?;
-        self.shares.set_length_of(&mut lot.share, n);
+        self.shares.hold(&mut lot.share);
+        let start = match self.arena.carve(lot.index, n) {
+            Ok(at) => at,
+            Err(refused) => {
+                lot.share = self.shares.split();
+                return Err(refused);
+            }
+        };
+        self.shares.set_held(n);
+        lot.share = self.shares.split();
         self.shares.take_by(&mut tally.share, n);
         lot.len = n;
         tally.taken += u64::from(n);
@@ -111,14 +123,12 @@ impl Vault {
         ensures done { IsVaultCut k self.old self.new head.old head.new tail.old tail.new }
         ensures lawful { IsLawfulArena self.new.arena }
     {
-        self.shares.look_at(&mut head.share);
-        self.shares.look_at(&mut tail.share);
         let rest = head.len - k;
+        self.shares.set_length_of(&mut head.share, k);
+        self.shares.set_length_of(&mut tail.share, rest);
         let Ok(()) = self.arena.cut(head.index, tail.index, k) else {
             unreachable!()
         };
-        self.shares.set_length_of(&mut head.share, k);
-        self.shares.set_length_of(&mut tail.share, rest);
         head.len = k;
         tail.len = rest;
     }
@@ -132,11 +142,9 @@ impl Vault {
         ensures done { IsVaultGivenBack self.old self.new lot.old lot.new tally.old tally.new }
         ensures lawful { IsLawfulArena self.new.arena }
     {
-        self.shares.look_at(&mut lot.share);
-        self.shares.look_at(&mut tally.share);
-        self.arena.give_back(lot.index);
         self.shares.set_length_of(&mut lot.share, 0);
         self.shares.give_back_by(&mut tally.share, lot.len);
+        self.arena.give_back(lot.index);
         tally.back += u64::from(lot.len);
         lot.len = 0;
     }

@@ -54,9 +54,9 @@ AreOfOneWhole v = (ls : List ℕ) × (ts : List (ℕ × ℕ)) × (others : List 
 abbrev pub Looked : {S : Type 0} → Step S → Me S (List Part) → ℕ → Me S (List Part) → Type 0
 Looked s v n w = (w ≡ v) × AreOfOneWhole v.0
 
--- the view is what f makes of it
+-- the view is what f makes of it, and it belonged to one whole
 abbrev pub Changed : (List Part → List Part) → {S : Type 0} → Step S → Me S (List Part) → ℕ → Me S (List Part) → Type 0
-Changed f s v n w = w ≡ (f v.0, v.1)
+Changed f s v n w = (w ≡ (f v.0, v.1)) × AreOfOneWhole v.0
 
 -- the one part of a share that isn't blank
 abbrev pub part_in : List (List Part) → Part

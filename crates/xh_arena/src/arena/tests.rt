@@ -1,6 +1,8 @@
 //! An arena's calls with figures.
 use super::Arena;
 use crate::refused::Refused;
+use std::alloc::Global;
+use std::process::Abort;
 
 #[test]
 fn holes_merge(rt: HostRuntime) {
@@ -55,6 +57,25 @@ fn a_record_is_cut(rt: HostRuntime) {
     assert_eq!(rt; arena.cut(0, 1, 16), Ok(()));
     assert_eq!(rt; arena.extent(0), Some((0, 16)));
     assert_eq!(rt; arena.extent(1), Some((16, 32)));
+}
+
+/// What a cut of 32 bytes after `k` answers.
+fn cut_of_32(rt: &impl Abort, alloc: Global, k: u32) -> Result<(), Refused> {
+    let mut arena = Arena::new(alloc, 64, 2, 64).expect(rt, "room");
+    assert_eq!(rt; arena.carve(0, 32), Ok(0));
+    assert!(rt; arena.extent(1).is_none());
+    let cut = arena.cut(0, 1, k);
+    assert_eq!(rt; arena.extent(1).is_some(), cut.is_ok());
+    cut
+}
+
+/// After no bytes, after some that are no multiple of 16, and after all of them or more, no record is cut.
+#[test]
+fn bad_cuts_are_refused(rt: HostRuntime) {
+    for k in [0, 8, 32, 48] {
+        assert_eq!(rt; cut_of_32(&rt, rt.alloc(), k), Err(Refused::BadCut));
+    }
+    assert_eq!(rt; cut_of_32(&rt, rt.alloc(), 16), Ok(()));
 }
 
 /// Where one growth is refused, whichever it is, one of two calls is out of memory, and the other makes a whole arena.

@@ -1,4 +1,5 @@
 use Rattle.std.proofs.Common.{◌≡◌, ◌<◌, ◌+◌, ◌-◌, ◌≤◌, length, sym, ◌∙◌, Some, None, arith, rules, refl, ap}
+use Rattle.std.specs.Box.{boxed_slice_items}
 use Rattle.std.specs.Prelude.{Err, slice_index_or}
 use Rattle.std.proofs.lemmas.List.{length-set}
 use Rattle.xh_model.specs.Cover.{length_of}
@@ -9,32 +10,32 @@ use Rattle.xh_arena.proofs.Steps.{Carved, carved_by, no_hole, no_place, found_at
 use Rattle.xh_arena.proofs.Refusing.{not_refused, only_no_space, only_worn}
 use Rattle.xh_arena.proofs.arena.Arena.carve.Goals as goal
 
-at_worn : (c : goal.Then-self-from) → Carved c.self.inside.size c.self.inside.extents.items c.self.inside.holes.items c.self.inside.handed_out c.args.r c.args.n c.in-Some.at
+at_worn : (c : goal.Then-self-from) → Carved c.self.inside.size (boxed_slice_items c.self.inside.extents) c.self.inside.holes.items c.self.inside.handed_out c.args.r c.args.n c.in-Some.at
 at_worn c =
-    let known : c.args.r < length c.self.inside.extents.items = rw (← c.self.view_is) at c.requires.known in
-    let empty : length_of c.args.r (cover_of c.self.inside.size c.self.inside.extents.items) ≡ 0 = rw (← c.self.view_is) at c.requires.empty in
-    let found : found_at c.args.n c.self.inside.holes.items ≡ Some c.in-Some.at = rw (← c.deref.ensures.value) (sym c.first_hole.ensures ∙ c.in-Some.is) in
+    let known : c.args.r < length (boxed_slice_items c.self.inside.extents) = rw (← c.self.view_is) at c.requires.known in
+    let empty : length_of c.args.r (cover_of c.self.inside.size (boxed_slice_items c.self.inside.extents)) ≡ 0 = rw (← c.self.view_is) at c.requires.empty in
+    let found : found_at c.args.n c.self.inside.holes.items ≡ Some c.in-Some.at = rw (← c.deref.ensures.0) (sym c.first_hole.ensures ∙ c.in-Some.is) in
     carved_by _ _ _ _ _ _ _ c.self.invariant.kept known empty c.requires.some c.requires.multiple found
 
-at_take : (c : goal.After-take_front-arg-1) → Carved c.self.inside.size c.self.inside.extents.items c.self.inside.holes.items c.self.inside.handed_out c.args.r c.args.n c.in-Some.at
+at_take : (c : goal.After-take_front-arg-1) → Carved c.self.inside.size (boxed_slice_items c.self.inside.extents) c.self.inside.holes.items c.self.inside.handed_out c.args.r c.args.n c.in-Some.at
 at_take c =
-    let known : c.args.r < length c.self.inside.extents.items = rw (← c.self.view_is) at c.requires.known in
-    let empty : length_of c.args.r (cover_of c.self.inside.size c.self.inside.extents.items) ≡ 0 = rw (← c.self.view_is) at c.requires.empty in
-    let found : found_at c.args.n c.self.inside.holes.items ≡ Some c.in-Some.at = rw (← c.deref.ensures.value) (sym c.first_hole.ensures ∙ c.in-Some.is) in
+    let known : c.args.r < length (boxed_slice_items c.self.inside.extents) = rw (← c.self.view_is) at c.requires.known in
+    let empty : length_of c.args.r (cover_of c.self.inside.size (boxed_slice_items c.self.inside.extents)) ≡ 0 = rw (← c.self.view_is) at c.requires.empty in
+    let found : found_at c.args.n c.self.inside.holes.items ≡ Some c.in-Some.at = rw (← c.deref.ensures.0) (sym c.first_hole.ensures ∙ c.in-Some.is) in
     carved_by _ _ _ _ _ _ _ c.self.invariant.kept known empty c.requires.some c.requires.multiple found
 
-at_sum : (c : goal.After-self-1) → Carved c.self.inside.size c.self.inside.extents.items c.self.inside.holes.items c.self.inside.handed_out c.args.r c.args.n c.in-Some.at
+at_sum : (c : goal.After-self-1) → Carved c.self.inside.size (boxed_slice_items c.self.inside.extents) c.self.inside.holes.items c.self.inside.handed_out c.args.r c.args.n c.in-Some.at
 at_sum c =
-    let known : c.args.r < length c.self.inside.extents.items = rw (← c.self.view_is) at c.requires.known in
-    let empty : length_of c.args.r (cover_of c.self.inside.size c.self.inside.extents.items) ≡ 0 = rw (← c.self.view_is) at c.requires.empty in
-    let found : found_at c.args.n c.self.inside.holes.items ≡ Some c.in-Some.at = rw (← c.deref.ensures.value) (sym c.first_hole.ensures ∙ c.in-Some.is) in
+    let known : c.args.r < length (boxed_slice_items c.self.inside.extents) = rw (← c.self.view_is) at c.requires.known in
+    let empty : length_of c.args.r (cover_of c.self.inside.size (boxed_slice_items c.self.inside.extents)) ≡ 0 = rw (← c.self.view_is) at c.requires.empty in
+    let found : found_at c.args.n c.self.inside.holes.items ≡ Some c.in-Some.at = rw (← c.deref.ensures.0) (sym c.first_hole.ensures ∙ c.in-Some.is) in
     carved_by _ _ _ _ _ _ _ c.self.invariant.kept known empty c.requires.some c.requires.multiple found
 
-done : (c : goal.After-self-3-1) → Carved c.self.inside.size c.self.inside.extents.items c.self.inside.holes.items c.self.inside.handed_out c.args.r c.args.n c.in-Some.at
+done : (c : goal.After-self-3-1) → Carved c.self.inside.size (boxed_slice_items c.self.inside.extents) c.self.inside.holes.items c.self.inside.handed_out c.args.r c.args.n c.in-Some.at
 done c =
-    let known : c.args.r < length c.self.inside.extents.items = rw (← c.self.view_is) at c.requires.known in
-    let empty : length_of c.args.r (cover_of c.self.inside.size c.self.inside.extents.items) ≡ 0 = rw (← c.self.view_is) at c.requires.empty in
-    let found : found_at c.args.n c.self.inside.holes.items ≡ Some c.in-Some.at = rw (← c.deref.ensures.value) (sym c.first_hole.ensures ∙ c.in-Some.is) in
+    let known : c.args.r < length (boxed_slice_items c.self.inside.extents) = rw (← c.self.view_is) at c.requires.known in
+    let empty : length_of c.args.r (cover_of c.self.inside.size (boxed_slice_items c.self.inside.extents)) ≡ 0 = rw (← c.self.view_is) at c.requires.empty in
+    let found : found_at c.args.n c.self.inside.holes.items ≡ Some c.in-Some.at = rw (← c.deref.ensures.0) (sym c.first_hole.ensures ∙ c.in-Some.is) in
     carved_by _ _ _ _ _ _ _ c.self.invariant.kept known empty c.requires.some c.requires.multiple found
 
 pub take_front-start-requires-clause-fits : goal.take_front-start-requires-clause-fits
@@ -51,16 +52,15 @@ take_front-start-requires-clause-within c = holes_within _ _ _ _ c.self.invarian
 pub invariant_of-self : goal.invariant_of-self
 invariant_of-self c =
     let room : c.self.inside.handed_out + c.args.n ≤ c.self.inside.size = (done c).room in
-    rw (c.take_front-start.ensures.start, c.take_front-start.ensures.items, c.from-2.ensures, c.from-3.ensures, c.take_front-start.ensures.capacity) (record {
+    rw (c.take_front-start.ensures.start, c.take_front-start.ensures.items, c.from-2.ensures, c.from-3.ensures) (record {
       kept = (done c).kept;
       worn = omega arith;
       limits = rw length-set c.self.invariant.limits;
-      spare = rw length-set c.self.invariant.spare;
     })
 
 pub returns-in_default-clause-refused : goal.returns-in_default-clause-refused
 returns-in_default-clause-refused c =
-    let none : found_at c.args.n c.self.inside.holes.items ≡ None = rw (← c.deref.ensures.value) (sym c.first_hole.ensures ∙ c.in_default.is) in
+    let none : found_at c.args.n c.self.inside.holes.items ≡ None = rw (← c.deref.ensures.0) (sym c.first_hole.ensures ∙ c.in_default.is) in
     (rw (← c.self.view_is) (record { none = no_hole _ _ _ _ _ c.self.invariant.kept c.requires.some none; nowhere = no_place _ _ _ _ _ c.self.invariant.kept c.requires.some none }), refl)
 
 pub returns-in_default-clause-exact : goal.returns-in_default-clause-exact
@@ -75,7 +75,8 @@ returns-then-self-from-clause-refused c =
     (rw (← c.self.view_is) (record { some = rw (at_worn c).place refl; past = omega arith }), refl)
 
 pub returns-then-self-from-clause-exact : goal.returns-then-self-from-clause-exact
-returns-then-self-from-clause-exact c = λ e no. ap (λ x. Err x) (only_worn c.args.n (slice_index_or c.self.inside.holes.items c.in-Some.at (0, 0)).0 c.args.self.now (rw (← c.self.view_is) (at_worn c).place) e no)
+returns-then-self-from-clause-exact c = λ e no. ap (λ x. Err x) (only_worn c.args.n (slice_index_or c.self.inside.holes.items c.in-Some.at (0, 0)).0 c.args.self.now
+    (rw (← c.self.view_is) (at_worn c).place) e no)
 
 pub returns-then-self-from-clause-lawful : goal.returns-then-self-from-clause-lawful
 returns-then-self-from-clause-lawful c = rw (← c.self.view_is) (kept-lawful _ _ _ _ _ _ c.self.invariant.kept)
@@ -87,7 +88,7 @@ returns-clause-done c = record {
   some = c.requires.some;
   first = rw (c.take_front-start.ensures.start, ← c.self.view_is) (done c).place;
   least = rw (c.take_front-start.ensures.start, ← c.self.view_is) (done c).least;
-  change = rw (c.take_front-start.ensures.start, c.from-2.ensures, c.from-3.ensures, ← c.self.view_is, (done c).cover, length-set c.self.inside.extents.items) refl;
+  change = rw (c.take_front-start.ensures.start, c.from-2.ensures, c.from-3.ensures, ← c.self.view_is, (done c).cover, length-set (boxed_slice_items c.self.inside.extents)) refl;
   run = rw (c.take_front-start.ensures.start, c.from-2.ensures) (done c).run;
   within_limit = (invariant_of-self c).worn;
 }

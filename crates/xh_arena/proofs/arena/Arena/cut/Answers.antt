@@ -1,4 +1,5 @@
-use Rattle.std.proofs.Common.{◌≡◌, ◌<◌, length, set, refl, ◌∙◌, arith}
+use Rattle.std.proofs.Common.{◌≡◌, ◌<◌, length, set, refl, arith}
+use Rattle.std.specs.Box.{boxed_slice_items}
 use Rattle.std.proofs.lemmas.Bool.{false≢true}
 use Rattle.std.proofs.lemmas.List.{length-set}
 use Rattle.xh_model.specs.Cover.{length_of}
@@ -11,7 +12,7 @@ use Rattle.xh_arena.proofs.arena.Arena.cut.Goals.{then-k-eq0-via-then-k-eq0, the
 
 pub returns-then-k-eq0-clause-exact : goal.returns-then-k-eq0-clause-exact
 returns-then-k-eq0-clause-exact c =
-    let known : c.args.r < length c.self.inside.extents.items = rw (← c.self.view_is) at c.requires.known in
+    let known : c.args.r < length (boxed_slice_items c.self.inside.extents) = rw (← c.self.view_is) at c.requires.known in
     let size : length_of c.args.r c.args.self.now.cover ≡ c.index.result.now.1 =
     rw (← c.self.view_is) (read_length _ _ _ _ _ _ c.self.invariant.kept known (rw c.from-head.ensures at c.index.ensures)) in (
       λ f. absurd (false≢true f),
@@ -25,11 +26,11 @@ returns-then-k-eq0-clause-exact c =
 pub returns-then-k-eq0-clause-lawful : goal.returns-then-k-eq0-clause-lawful
 returns-then-k-eq0-clause-lawful c = rw (← c.self.view_is) (kept-lawful _ _ _ _ _ _ c.self.invariant.kept)
 
-done : (c : goal.After-self-2-1) → CutDone c.self.inside.size c.self.inside.extents.items c.self.inside.holes.items c.self.inside.handed_out c.args.r c.args.t c.args.k c.index.result.now
+done : (c : goal.After-self-2-1) → CutDone c.self.inside.size (boxed_slice_items c.self.inside.extents) c.self.inside.holes.items c.self.inside.handed_out c.args.r c.args.t c.args.k c.index.result.now
 done c =
-    let known : c.args.r < length c.self.inside.extents.items = rw (← c.self.view_is) at c.requires.known in
-    let tail_known : c.args.t < length c.self.inside.extents.items = rw (← c.self.view_is) at c.requires.tail_known in
-    let empty : length_of c.args.t (cover_of c.self.inside.size c.self.inside.extents.items) ≡ 0 = rw (← c.self.view_is) at c.requires.empty in
+    let known : c.args.r < length (boxed_slice_items c.self.inside.extents) = rw (← c.self.view_is) at c.requires.known in
+    let tail_known : c.args.t < length (boxed_slice_items c.self.inside.extents) = rw (← c.self.view_is) at c.requires.tail_known in
+    let empty : length_of c.args.t (cover_of c.self.inside.size (boxed_slice_items c.self.inside.extents)) ≡ 0 = rw (← c.self.view_is) at c.requires.empty in
     cut_by _ _ _ _ _ _ _ _ c.self.invariant.kept known tail_known c.requires.other empty (rw c.from-head.ensures at c.index.ensures)
     (omega arith) c.if-k-ne0.false c.if-k-length.false
 
@@ -38,12 +39,11 @@ invariant_of-self c = rw (c.from-head.ensures, c.from-tail.ensures) (record {
   kept = (done c).kept;
   worn = c.self.invariant.worn;
   limits = rw (length-set, length-set) c.self.invariant.limits;
-  spare = rw (length-set, length-set) c.self.invariant.spare;
 })
 
 pub returns-clause-exact : goal.returns-clause-exact
 returns-clause-exact c =
-    let known : c.args.r < length c.self.inside.extents.items = rw (← c.self.view_is) at c.requires.known in
+    let known : c.args.r < length (boxed_slice_items c.self.inside.extents) = rw (← c.self.view_is) at c.requires.known in
     let size : length_of c.args.r c.args.self.now.cover ≡ c.index.result.now.1 =
     rw (← c.self.view_is) (read_length _ _ _ _ _ _ c.self.invariant.kept known (rw c.from-head.ensures at c.index.ensures)) in
     (λ f. (omega arith, c.if-k-ne0.false, rw size c.if-k-length.false), λ g. refl)
@@ -55,7 +55,14 @@ returns-clause-done c = record {
   other = c.requires.other;
   empty = c.requires.empty;
   good = (returns-clause-exact c).0 refl;
-  change = rw (c.from-head.ensures, c.from-tail.ensures, ← c.self.view_is, (done c).cover, length-set (set c.self.inside.extents.items c.args.r (c.index.result.now.0, c.args.k)), length-set c.self.inside.extents.items) refl;
+  change = rw (
+    c.from-head.ensures,
+    c.from-tail.ensures,
+    ← c.self.view_is,
+    (done c).cover,
+    length-set (set (boxed_slice_items c.self.inside.extents) c.args.r (c.index.result.now.0, c.args.k)),
+    length-set (boxed_slice_items c.self.inside.extents),
+  ) refl;
   runs = rw (c.from-head.ensures, c.from-tail.ensures, ← c.self.view_is) (done c).runs;
 }
 

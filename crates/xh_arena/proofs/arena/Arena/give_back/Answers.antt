@@ -1,50 +1,50 @@
-use Rattle.std.proofs.Common.{◌<◌, length, refl, arith}
+use Rattle.std.proofs.Common.{◌<◌, length, refl}
+use Rattle.std.specs.Box.{boxed_slice_items}
 use Rattle.std.proofs.lemmas.List.{length-set}
-use Rattle.std.specs.Vec.{vec_capacity}
 use Rattle.xh_model.specs.Cover.{length_of}
 use Rattle.xh_model.proofs.Calls.{back_length, back_others}
 use Rattle.xh_arena.specs.inner.Layout.{cover_of}
 use Rattle.xh_arena.proofs.Kept.{kept-lawful}
-use Rattle.xh_arena.proofs.Steps.{BackDone, back_by, holes_within}
+use Rattle.xh_arena.proofs.Steps.{BackDone, back_by, holes_within, holes_rising}
 use Rattle.xh_arena.proofs.Room.{holes_room}
 use Rattle.xh_arena.proofs.arena.Arena.give_back.Goals as goal
 
-at_sum : (c : goal.After-self-1) → BackDone c.self.inside.size c.self.inside.extents.items c.self.inside.holes.items c.self.inside.handed_out c.args.r c.index.result.now
+at_sum : (c : goal.After-self-1) → BackDone c.self.inside.size (boxed_slice_items c.self.inside.extents) c.self.inside.holes.items c.self.inside.handed_out c.args.r c.index.result.now
 at_sum c =
-    let known : c.args.r < length c.self.inside.extents.items = rw (← c.self.view_is) at c.requires.known in
-    let held : 0 < length_of c.args.r (cover_of c.self.inside.size c.self.inside.extents.items) = rw (← c.self.view_is) at c.requires.held in
+    let known : c.args.r < length (boxed_slice_items c.self.inside.extents) = rw (← c.self.view_is) at c.requires.known in
+    let held : 0 < length_of c.args.r (cover_of c.self.inside.size (boxed_slice_items c.self.inside.extents)) = rw (← c.self.view_is) at c.requires.held in
     back_by _ _ _ _ _ _ c.self.invariant.kept known held (rw c.from-index.ensures at c.index.ensures)
 
-done : (c : goal.After-add_hole) → BackDone c.self.inside.size c.self.inside.extents.items c.self.inside.holes.items c.self.inside.handed_out c.args.r c.index.result.now
+done : (c : goal.After-add_hole) → BackDone c.self.inside.size (boxed_slice_items c.self.inside.extents) c.self.inside.holes.items c.self.inside.handed_out c.args.r c.index.result.now
 done c =
-    let known : c.args.r < length c.self.inside.extents.items = rw (← c.self.view_is) at c.requires.known in
-    let held : 0 < length_of c.args.r (cover_of c.self.inside.size c.self.inside.extents.items) = rw (← c.self.view_is) at c.requires.held in
+    let known : c.args.r < length (boxed_slice_items c.self.inside.extents) = rw (← c.self.view_is) at c.requires.known in
+    let held : 0 < length_of c.args.r (cover_of c.self.inside.size (boxed_slice_items c.self.inside.extents)) = rw (← c.self.view_is) at c.requires.held in
     back_by _ _ _ _ _ _ c.self.invariant.kept known held (rw c.from-index.ensures at c.index.ensures)
 
 pub overflow_sub-self : goal.overflow_sub-self
 overflow_sub-self c = (at_sum c).taken
 
 pub add_hole-requires-clause-room : goal.add_hole-requires-clause-room
-add_hole-requires-clause-room c =
-    let room : length c.self.inside.holes.items < vec_capacity c.self.inside.holes = holes_room _ _ _ _ _ c.self.invariant.kept c.self.invariant.spare in
-    omega (arith, c.self.inside.holes.ok)
+add_hole-requires-clause-room c = holes_room _ _ _ _ c.self.invariant.kept c.self.invariant.limits.most_records
+
+pub add_hole-requires-clause-rising : goal.add_hole-requires-clause-rising
+add_hole-requires-clause-rising c = holes_rising _ _ _ _ c.self.invariant.kept
 
 pub add_hole-requires-clause-within : goal.add_hole-requires-clause-within
 add_hole-requires-clause-within c = holes_within _ _ _ _ c.self.invariant.kept c.self.invariant.limits.most_bytes
 
 pub invariant_of-self : goal.invariant_of-self
-invariant_of-self c = rw (c.from-index.ensures, c.add_hole.ensures.items) (record {
+invariant_of-self c = rw (c.from-index.ensures, c.add_hole.ensures) (record {
   kept = (done c).kept;
   worn = c.self.invariant.worn;
   limits = rw length-set c.self.invariant.limits;
-  spare = rw length-set (let old = c.self.invariant.spare in let more = c.add_hole.ensures.capacity in omega arith);
 })
 
 pub returns-clause-done : goal.returns-clause-done
 returns-clause-done c = record {
   known = c.requires.known;
   held = c.requires.held;
-  change = rw (c.from-index.ensures, ← c.self.view_is, (done c).cover, length-set c.self.inside.extents.items) refl;
+  change = rw (c.from-index.ensures, ← c.self.view_is, (done c).cover, length-set (boxed_slice_items c.self.inside.extents)) refl;
 }
 
 pub returns-clause-lawful : goal.returns-clause-lawful

@@ -1,8 +1,10 @@
 use Rattle.std.proofs.Common.{sym, ◌∙◌}
+use Rattle.std.specs.Box.{boxed_slice_items}
 use Rattle.xh_model.proofs.Sums.{lawful-bytes_out}
 use Rattle.xh_arena.proofs.Kept.{kept-lawful}
 use Rattle.xh_arena.proofs.arena.Arena.handed_out.Goals as goal
 
 pub returns-clause-sum : goal.returns-clause-sum
 returns-clause-sum c =
-    rw (← c.self.view_is) (c.self.invariant.kept.counted ∙ sym (lawful-bytes_out _ (kept-lawful c.self.inside.size c.self.inside.extents.items c.self.inside.holes.items c.self.inside.handed_out c.self.inside.wear c.self.inside.limit c.self.invariant.kept)))
+    rw (← c.self.view_is) (c.self.invariant.kept.counted ∙ sym (lawful-bytes_out _ (kept-lawful c.self.inside.size
+    (boxed_slice_items c.self.inside.extents) c.self.inside.holes.items c.self.inside.handed_out c.self.inside.wear c.self.inside.limit c.self.invariant.kept)))

@@ -11,11 +11,10 @@ invariant_of-result c =
     let l = c.if-not-is_in_arena_limits.ensures in let m = c.if-not-is_in_arena_limits.false in
     let limits : AreLimits c.args.size c.args.records c.args.wear = search rules in
     let some : 16 ≤ c.args.size = limits.some_bytes in
-    rw (c.in-Ok.ensures, c.in-Ok-one_hole.ensures.items) (record {
+    rw (c.in-Ok.ensures, c.one_hole.ensures) (record {
       kept = new-kept c.args.size c.from.result (omega arith) limits.multiple;
       worn = omega arith;
       limits = rw (length-replicate, c.from.ensures) limits;
-      spare = (let room = c.in-Ok-one_hole.ensures.room in rw length-replicate (omega arith));
     })
 
 pub returns-clause-fresh : goal.returns-clause-fresh

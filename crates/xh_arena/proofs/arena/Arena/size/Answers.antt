@@ -1,7 +1,8 @@
 use Rattle.std.proofs.Common.{sym}
+use Rattle.std.specs.Box.{boxed_slice_items}
 use Rattle.std.proofs.lemmas.List.FromFn.{length-map-range_with_len}
 use Rattle.xh_arena.specs.inner.Layout.{owner_of}
 use Rattle.xh_arena.proofs.arena.Arena.size.Goals as goal
 
 pub returns-clause-size : goal.returns-clause-size
-returns-clause-size c = rw (← c.self.view_is) (sym (length-map-range_with_len (owner_of c.self.inside.extents.items) 0 c.self.inside.size))
+returns-clause-size c = rw (← c.self.view_is) (sym (length-map-range_with_len (owner_of (boxed_slice_items c.self.inside.extents)) 0 c.self.inside.size))

@@ -10,4 +10,5 @@ returns-clause-sum c = rw (← c.self.view_is) (c.handed_out.ensures.sum ∙ sym
 
 pub returns-clause-books : goal.returns-clause-books
 returns-clause-books c =
-    rw (← c.self.view_is) (c.self.invariant.balanced.1 ∙ ap (λ n. back_of c.self.inside.shares.parts + n) (weigh_all (lengths_of c.self.inside.arena) ∙ (sum-lengths c.self.inside.arena ∙ sym c.handed_out.ensures.sum)))
+    rw (← c.self.view_is) (c.self.invariant.balanced.1 ∙ ap (λ n. back_of c.self.inside.shares.parts + n)
+    (weigh_all (lengths_of c.self.inside.arena) ∙ (sum-lengths c.self.inside.arena ∙ sym c.handed_out.ensures.sum)))

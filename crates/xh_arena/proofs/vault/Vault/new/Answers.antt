@@ -31,7 +31,8 @@ invariant_of-result g c =
     let lengths = lengths_new _ c.args.size (ap (λ a. a.cover) made) ∙ ap (λ n. replicate n 0) (ap (λ a. a.records) made) in
     let none : weigh (λ (n : ℕ). n) (lengths_of c.in_ok-arena.arena) ≡ 0 = ap (λ ls. weigh (λ (n : ℕ). n) ls) lengths ∙ weigh_zeros c.args.records in
     record {
-      balanced = settled (booked c.in_ok-arena.arena) c.tallies.new.shares.parts 0 c.args.workers [] (left ∙ (λ q. vault_parts (sym lengths q) (sym wear q) 0 c.args.workers [])) (omega arith) (λ all. absurd (omega arith));
+      balanced = settled (booked c.in_ok-arena.arena) c.tallies.new.shares.parts 0 c.args.workers [] (left ∙ (λ q. vault_parts (sym lengths q) (sym wear q) 0 c.args.workers []))
+          (omega arith) (λ all. absurd (omega arith));
       worn = omega arith;
       most = (let most = limits.most_wear in omega arith);
     }
