@@ -1,5 +1,6 @@
 -- Two ends that talk under a contract: which turn can be done, and what it leaves.
 use Rattle.std.specs.Prelude.{◌≡◌, ◌⊎◌, ℕ, zero, suc, ◌-◌, ◌<◌, ◌&&◌, Bool, cond, List, [], ◌∷◌, ◌++◌, drop, Some, is_some, unwrap_or, length, nat_lt, slice_get, slice_index_or}
+use Rattle.xh_model.specs.declared.limits.TheConstants.{MAX_DEPTH}
 use Rattle.xh_model.specs.declared.row.Row.{Row}
 use Rattle.xh_model.specs.declared.event.Outcome.{Outcome}
 use Rattle.xh_model.specs.declared.event.Outcome.TheVariants.{Done, Refused}
@@ -39,9 +40,9 @@ new_talk rows = record { rows = rows; left = end_with (row_at rows 0).state []; 
 abbrev pub moved : List Row → ℕ → ℕ → ℕ → ℕ
 moved rows state tag side = unwrap_or (allowed rows state tag side) state
 
--- an end puts what its state allows, where fewer than 16 wait for its peer
+-- an end puts what its state allows, where there is room toward its peer
 abbrev pub can_put : List Row → ℕ → ℕ → TalkEnd → TalkEnd → Bool
-can_put rows side tag own peer = is_some (allowed rows own.state tag side) && nat_lt (length (waiting peer)) 16
+can_put rows side tag own peer = is_some (allowed rows own.state tag side) && nat_lt (length (waiting peer)) MAX_DEPTH
 
 -- an end takes where something waits for it
 abbrev pub can_take : TalkEnd → Bool
@@ -92,6 +93,10 @@ AreSided turns = (i : ℕ) (turn : Turn) → slice_get turns i ≡ Some turn →
 abbrev pub AreInStep : List Row → ℕ → TalkEnd → TalkEnd → Type 0
 AreInStep rows side own peer = InStep rows side own.state (waiting own) peer.state (waiting peer)
 
+-- Side 0 is in `state`, and `tags` are on their way to it; side 1 is in `state'`, and `tags'` are on their way to that one:
 -- each front message is one that its receiving end allows, and messages wait in one direction at most
+abbrev pub AreOrderly : List Row → ℕ → List ℕ → ℕ → List ℕ → Type 0
+AreOrderly rows state tags state' tags' = IsFrontAllowed rows 0 state tags × IsFrontAllowed rows 1 state' tags' × ((tags ≡ []) ⊎ (tags' ≡ []))
+
 abbrev pub IsOrderly : Talked → Type 0
-IsOrderly t = IsFrontAllowed t.rows 0 t.left.state (waiting t.left) × IsFrontAllowed t.rows 1 t.right.state (waiting t.right) × ((waiting t.left ≡ []) ⊎ (waiting t.right ≡ []))
+IsOrderly t = AreOrderly t.rows t.left.state (waiting t.left) t.right.state (waiting t.right)

@@ -7,11 +7,12 @@ use crate::refused::Refused;
 use arrayvec::ArrayVec;
 use std::marker::Model;
 use xh_model::Row;
+use xh_model::limits::{MAX_ROWS, STATES};
 
 /// A valid table of 1 to 16 rows. The first row's state is the first state.
 #[derive(Drop)]
 pub struct Contract {
-    rows: ArrayVec<Row, 16>,
+    rows: ArrayVec<Row, MAX_ROWS>,
 }
 
 impl Model for Contract {
@@ -29,7 +30,7 @@ impl Model for Contract {
 fn is_row(row: &Row) -> bool
     ensures { MatchBool result (IsRow row.now) (¬ IsRow row.now) }
 {
-    row.state <= 15 && row.side <= 1 && row.next <= 15
+    row.state < STATES && row.side <= 1 && row.next < STATES
 }
 
 /// Whether two rows may stand in one table.
@@ -42,7 +43,7 @@ fn agree(a: &Row, b: &Row) -> bool
 fn is_in_range(rows: &[Row]) -> bool
     ensures { MatchBool result (IsInRange rows.now) (¬ IsInRange rows.now) }
 {
-    if rows.is_empty() || rows.len() > 16 {
+    if rows.is_empty() || rows.len() > MAX_ROWS {
         return false;
     }
     for at in 0..rows.len() {

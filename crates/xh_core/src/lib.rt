@@ -5,7 +5,6 @@
 #![tactic(auto)]
 
 mod block;
-mod config;
 mod contract;
 mod glance;
 mod ledger;
@@ -22,7 +21,6 @@ mod talk_end;
 mod turn;
 
 pub use block::Block;
-pub use config::in_limits;
 pub use contract::Contract;
 pub use glance::Glance;
 pub use ledger::{ArenaLine, Ledger, PlaceLine, State};

@@ -5,53 +5,76 @@ ghost use Rattle.xh_core.specs.declared.refused.Refused.TheVariants.{OutOfMemory
 
 use arrayvec::ArrayVec;
 use std::alloc::{AllocError, AllocFailed};
+use thiserror::Error;
 
 /// Why a command is refused.
-#[derive(Drop, Debug)]
+#[derive(Debug, Drop, Error)]
 pub enum Refused {
     /// A growth of memory was refused.
+    #[error("a growth of memory was refused")]
     OutOfMemory,
     /// A size is outside its limits.
+    #[error("a size is outside its limits")]
     BadSize,
     /// There is no such arena.
+    #[error("there is no such arena")]
     NoArena,
     /// No hole of the arena holds that many bytes.
+    #[error("no hole of the arena holds that many bytes")]
     NoSpace,
     /// Each record of the arena is taken.
+    #[error("each record of the arena is taken")]
     NoRecord,
     /// The process does not own such a block.
+    #[error("the process does not own such a block")]
     NotOwned,
     /// The block is an endpoint.
+    #[error("the block is an endpoint")]
     NotData,
     /// The block is no endpoint.
+    #[error("the block is no endpoint")]
     NotEndpoint,
     /// The cut is not a multiple of 16 inside the block.
+    #[error("the cut is not a multiple of 16 inside the block")]
     BadCut,
     /// The bytes reach past the end of the block.
+    #[error("the bytes reach past the end of the block")]
     BadRange,
     /// There is no such process.
+    #[error("there is no such process")]
     NoProcess,
     /// The process is ending or has ended.
+    #[error("the process is ending or has ended")]
     Ended,
     /// Each channel is taken.
+    #[error("each channel is taken")]
     NoChannel,
     /// The direction holds as many messages as it may; the blocks are handed back.
+    #[error("the direction holds as many messages as it may")]
     Full { back: ArrayVec<u16, 8> },
     /// The peer is closed; the blocks of a give are handed back.
+    #[error("the peer is closed")]
     PeerClosed { back: ArrayVec<u16, 8> },
     /// No message waits.
+    #[error("no message waits")]
     Empty,
     /// A message carries at most 8 blocks.
+    #[error("a message carries at most 8 blocks")]
     TooMany,
     /// A block, or a name, stands twice.
+    #[error("a block or a name stands twice")]
     Twice,
     /// The arena has handed out as many bytes as it ever may.
+    #[error("the arena has handed out as many bytes as it ever may")]
     Worn,
     /// The budget was used up; so many blocks are left.
+    #[error("the budget was used up, and {left} blocks are left")]
     Unfinished { left: u32 },
     /// Each place is taken.
+    #[error("each place is taken")]
     NoPlace,
     /// The channel's contract does not allow the message; the blocks are handed back.
+    #[error("the channel's contract does not allow the message")]
     Protocol { back: ArrayVec<u16, 8> },
 }
 
