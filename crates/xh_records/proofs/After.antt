@@ -13,7 +13,7 @@ use Rattle.xh_model.specs.Slots.{index_of, AreOwners}
 use Rattle.xh_model.specs.Words.{Ownership, IsHeldBy, IsHolder, IsDone, record_of, from_of, to_of}
 use Rattle.xh_model.proofs.Slots.{assigned}
 use Rattle.xh_records.specs.After.{Wants, IsAfter}
-use Rattle.xh_records.proofs.History.{in_range}
+use Rattle.xh_records.proofs.Elements.{in_range}
 
 -- an element that is there is read whatever stands for the others
 read_or : {A : Type 0} (l : List A) (i : ℕ) (a d : A) → get_elem? l i ≡ some a → get_or l i d ≡ a
@@ -33,7 +33,8 @@ same_number p = eq-eqb p p refl
 owner_is : (n r : ℕ) (o : Ownership) (m : Store) (h : Option Holder) → r % 256 < n → AreOwners n o m → IsHeldBy o (index_of n r) h → owner m r ≡ h
 owner_is n r o m h there w held = w.each r ∙ rw (lt-ltb (r % 256) n there) (read_or o (index_of n r) h None held)
 
-pub can_be_done : (n : ℕ) (o : Ownership) (e : Event) (m : Store) → record_of e % 256 < n → IsHolder (to_of e) → IsHeldBy o (index_of n (record_of e)) (from_of e) → AreOwners n o m → (arena_of m (record_of e)).records ≡ n → Wants e (len m (record_of e)) → can e m ≡ true
+pub can_be_done : (n : ℕ) (o : Ownership) (e : Event) (m : Store) → record_of e % 256 < n → IsHolder (to_of e) → IsHeldBy o (index_of n (record_of e)) (from_of e) → AreOwners n o m
+    → (arena_of m (record_of e)).records ≡ n → Wants e (len m (record_of e)) → can e m ≡ true
 can_be_done n o (Claim p r) m there good held w each wants =
     let own = owner_is n r o m None there w held in
     let known = subst (λ (k : ℕ). r % 256 < k) (sym each) there in
@@ -51,7 +52,8 @@ can_be_done n o (Carve p r k) m there good held w each wants = absurd wants
 can_be_done n o (Cut p r t k) m there good held w each wants = absurd wants
 can_be_done n o (GiveBack p r) m there good held w each wants = absurd wants
 
-changed : (n : ℕ) (o : Ownership) (e : Event) (m : Store) → record_of e % 256 < n → index_of n (record_of e) < length o → record_of e < length m.owners → AreOwners n o m → Wants e (len m (record_of e)) → AreOwners n (set o (index_of n (record_of e)) (to_of e)) (change e m)
+changed : (n : ℕ) (o : Ownership) (e : Event) (m : Store) → record_of e % 256 < n → index_of n (record_of e) < length o → record_of e < length m.owners → AreOwners n o m
+    → Wants e (len m (record_of e)) → AreOwners n (set o (index_of n (record_of e)) (to_of e)) (change e m)
 changed n o (Claim p r) m there inside known w wants = assigned n r o m (Some (Process p)) there known inside w
 changed n o (Vacate p r) m there inside known w wants = assigned n r o m None there known inside w
 changed n o (Pass p r d) m there inside known w wants = assigned n r o m (Some (Direction d)) there known inside w

@@ -1,46 +1,25 @@
 -- A view cut in two, and two views in one.
-use Rattle.std.proofs.Common.{◌≡◌, ℕ, zero, suc, ◌+◌, ◌%◌, ◌<◌, ◌≤◌, ◌≢◌, Bool, List, [], ◌∷◌, ◌++◌, map, length, set, replicate, sym, refl, ap, ◌∙◌, subst, ◌⊎◌, inl, inr, ⊎_elim, arith, length-set}
-use Rattle.std.specs.Prelude.{Option, Some, None}
-use mathlib.Core.Option.{some, some-injective, some-ne-none}
+use Rattle.std.proofs.Common.{◌≡◌, ℕ, suc, ◌<◌, ◌≢◌, Bool, List, [], ◌∷◌, ◌++◌, map, length, set, sym, refl, ap, ◌∙◌, subst, ◌⊎◌, inl, inr, ⊎_elim, arith, length-set}
+use Rattle.std.specs.Prelude.{Option}
+use mathlib.Core.Option.{some, some-injective}
 use mathlib.Core.Logic.{dite}
 use native.Mathlib.Decide.{ℕ_discrete}
 use lib.ListN.{get_elem?}
-use Rattle.atomic_table.specs.Table.{State, Splits, Joins, opening}
-use Rattle.atomic_table.proofs.Lists.{at_set, set_here, set_else, at_longer, at_last, at_map}
+use Rattle.atomic_table.specs.Table.{State, Splits, Joins}
+use Rattle.atomic_table.proofs.Lists.{at_set, set_here, set_else, at_longer, at_last}
 use Rattle.xh_arena.specs.Views.{LotOf}
 use Rattle.xh_model.specs.Keyed.{Among, Distinct}
 use Rattle.xh_model.proofs.Keyed.{among_back, among_either, among_front, dec_among}
 use Rattle.xh_records.specs.declared.shape.Shape.{Shape}
 use Rattle.xh_records.specs.declared.view.View.{View}
-use Rattle.xh_model.specs.declared.event.Holder.{Holder}
-use Rattle.xh_model.specs.declared.event.Holder.TheVariants.{Process}
-use Rattle.xh_model.specs.Words.{Ownership, IsHeldBy, IsHolder, word_of, place_of}
+use Rattle.xh_model.specs.Words.{Ownership, place_of}
 use Rattle.xh_model.specs.declared.event.Event.{Event}
 use Rattle.xh_records.specs.History.{by_place}
+use Rattle.xh_records.specs.Showing.{Sits, Owns, ViewFits, ViewTells, Shows, Shown}
+use Rattle.xh_records.specs.inner.Views.{spent, joined, dealt, dealt_from, dealer, IsDealer, places_from}
 use Rattle.xh_records.proofs.History.{Same, part, two_is, lists_there, lists_back}
-use Rattle.xh_records.specs.Showing.{Sits, Owns, IsLotAt, IsEmpty, IsSmall, HomeFits, ViewFits, ViewTells, Shows, Shown, spent, joined, dealt, dealt_from, dealer, IsDealer, places_from, all_places}
-use Rattle.xh_records.proofs.Keeps.{in_range, is_there}
-use Rattle.xh_records.proofs.Distinct.{distinct_places, few_places}
-
-pub snoc_at : {A : Type 0} (l : List A) (a b : A) (j : ℕ) → get_elem? (l ++ a ∷ []) j ≡ some b → (get_elem? l j ≡ some b) ⊎ ((a ≡ b) × (j ≡ length l))
-snoc_at [] a b zero e = inr (some-injective a b e, refl)
-snoc_at [] a b (suc j) e = absurd (some-ne-none b (sym e))
-snoc_at (x ∷ xs) a b zero e = inl e
-snoc_at (x ∷ xs) a b (suc j) e = ⊎_elim (λ (t : get_elem? xs j ≡ some b). inl t) (λ (t : (a ≡ b) × (j ≡ length xs)). inr (t.0, ap suc t.1)) (snoc_at xs a b j e)
-
-pick : {X : Type 0} → Dec X → ℕ → ℕ → ℕ
-pick (yes h) a b = a
-pick (no n) a b = b
-
-pick_yes : {X : Type 0} (d : Dec X) (a b : ℕ) → X → pick d a b ≡ a
-unfolding pick
-pick_yes (yes h) a b x = refl
-pick_yes (no n) a b x = absurd (n x)
-
-pick_no : {X : Type 0} (d : Dec X) (a b : ℕ) → (X → ⊥) → pick d a b ≡ b
-unfolding pick
-pick_no (yes h) a b x = absurd (x h)
-pick_no (no n) a b x = refl
+use Rattle.xh_records.proofs.Elements.{in_range, snoc_at, pick, pick_yes, pick_no}
+use Rattle.xh_records.proofs.Distinct.{distinct_places, least}
 
 -- what a seat keeps and what it gives, of its view
 pub record Cut (v l r : View) : Type 0 where
@@ -75,7 +54,8 @@ tells_kept log v l r cut old = record {
 
 tells_handed : (log : List Event) (v l r : View) → Cut v l r → ViewTells log v → ViewTells log r
 tells_handed log v l r cut old = record {
-  has = λ p sits. let t = cut.hands_list p (by_place (place_of p) log) sits (old.has p (cut.hands p sits)) in subst (Among r.done) (list_at log v p (place_of p) t.0 old refl (cut.hands_only (place_of p) t.0 t.1)) t.1;
+  has = λ p sits. let t = cut.hands_list p (by_place (place_of p) log) sits (old.has p (cut.hands p sits)) in subst (Among r.done)
+      (list_at log v p (place_of p) t.0 old refl (cut.hands_only (place_of p) t.0 t.1)) t.1;
   only = λ q es there.
       let in_v = cut.hands_only q es there in
       let t = old.only q es in_v in
@@ -134,18 +114,22 @@ module _ {B : Type 0} (fits : B → ℕ → Bool) (s : Shape) where
       }
 
       there : (j : ℕ) (u : View) → get_elem? (set vs id l ++ r ∷ []) j ≡ some u → (((j ≡ id) × (l ≡ u)) ⊎ ((j ≢ id) × (get_elem? vs j ≡ some u))) ⊎ ((r ≡ u) × (j ≡ n))
-      there j u e = ⊎_elim (λ (a : get_elem? (set vs id l) j ≡ some u). inl (at_set vs id j l u a)) (λ (b : (r ≡ u) × (j ≡ length (set vs id l))). inr (b.0, b.1 ∙ length-set vs id l)) (snoc_at (set vs id l) r u j e)
+      there j u e = ⊎_elim (λ (a : get_elem? (set vs id l) j ≡ some u). inl (at_set vs id j l u a)) (λ (b : (r ≡ u) × (j ≡ length (set vs id l))). inr (b.0, b.1 ∙ length-set vs id l))
+          (snoc_at (set vs id l) r u j e)
 
       not_handed : (j p : ℕ) (u : View) → j ≢ id → get_elem? vs j ≡ some u → Sits u p → Sits r p → ⊥
       not_handed j p u other e sits h = other ((shown.alone j p u e sits).2 ∙ sym (shown.alone id p v here (cut.hands p h)).2)
 
-      alone' : (j p : ℕ) (u : View) → get_elem? (set vs id l ++ r ∷ []) j ≡ some u → Sits u p → (place_of p < s.places) × (p ≡ shown.process_at (place_of p)) × (j ≡ seat_of' (place_of p)) × (p < 4096)
+      alone' : (j p : ℕ) (u : View) → get_elem? (set vs id l ++ r ∷ []) j ≡ some u → Sits u p
+          → (place_of p < s.places) × (p ≡ shown.process_at (place_of p)) × (j ≡ seat_of' (place_of p)) × (p < 4096)
       alone' j p u e sits = ⊎_elim
           (λ (a : ((j ≡ id) × (l ≡ u)) ⊎ ((j ≢ id) × (get_elem? vs j ≡ some u))). ⊎_elim
-          (λ (x : (j ≡ id) × (l ≡ u)). let in_l : Sits l p = subst (λ (z : View). Sits z p) (sym x.1) sits in let w = shown.alone id p v here (cut.keeps p in_l) in (w.0, w.1, x.0 ∙ w.2 ∙ sym (stays_at p w.1 (λ h. cut.apart p in_l h)), w.3))
+          (λ (x : (j ≡ id) × (l ≡ u)). let in_l : Sits l p = subst (λ (z : View). Sits z p) (sym x.1) sits in
+          let w = shown.alone id p v here (cut.keeps p in_l) in (w.0, w.1, x.0 ∙ w.2 ∙ sym (stays_at p w.1 (λ h. cut.apart p in_l h)), w.3))
           (λ (x : (j ≢ id) × (get_elem? vs j ≡ some u)). let w = shown.alone j p u x.1 sits in (w.0, w.1, w.2 ∙ sym (stays_at p w.1 (not_handed j p u x.0 x.1 sits)), w.3))
           a)
-          (λ (x : (r ≡ u) × (j ≡ n)). let in_r : Sits r p = subst (λ (z : View). Sits z p) (sym x.0) sits in let w = shown.alone id p v here (cut.hands p in_r) in (w.0, w.1, x.1 ∙ sym (goes_to p w.1 in_r), w.3))
+          (λ (x : (r ≡ u) × (j ≡ n)). let in_r : Sits r p = subst (λ (z : View). Sits z p) (sym x.0) sits in
+          let w = shown.alone id p v here (cut.hands p in_r) in (w.0, w.1, x.1 ∙ sym (goes_to p w.1 in_r), w.3))
           (there j u e)
 
       at_new : get_elem? (set vs id l ++ r ∷ []) n ≡ some r
@@ -155,9 +139,19 @@ module _ {B : Type 0} (fits : B → ℕ → Bool) (s : Shape) where
       seated' q lt = let was = shown.seated q lt in let p : ℕ = shown.process_at q in dite (dec_among r.processes p)
           (λ h. (r, subst (λ (k : ℕ). get_elem? (set vs id l ++ r ∷ []) k ≡ some r) (sym (pick_yes (dec_among r.processes p) n (shown.seat_of q) h)) at_new, h, was.3))
           (λ no_h. let k_is : seat_of' q ≡ shown.seat_of q = pick_no (dec_among r.processes p) n (shown.seat_of q) no_h in dite (ℕ_discrete (shown.seat_of q) id)
-          (λ e. let in_v : Sits v p = subst (λ (u : View). Sits u p) (some-injective was.0 v (sym was.1 ∙ ap (get_elem? vs) e ∙ here)) was.2 in
-          (l, subst (λ (k : ℕ). get_elem? (set vs id l ++ r ∷ []) k ≡ some l) (sym (k_is ∙ e)) (at_longer (set vs id l) (r ∷ []) id l (set_here vs id l (in_range vs id v here))), ⊎_elim (λ (a : Sits l p). a) (λ (b : Sits r p). absurd (no_h b)) (cut.either p in_v), was.3))
-          (λ other. (was.0, subst (λ (k : ℕ). get_elem? (set vs id l ++ r ∷ []) k ≡ some was.0) (sym k_is) (at_longer (set vs id l) (r ∷ []) (shown.seat_of q) was.0 (set_else vs id (shown.seat_of q) l other ∙ was.1)), was.2, was.3)))
+          (λ e. let in_v : Sits v p = subst (λ (u : View). Sits u p) (some-injective was.0 v (sym was.1 ∙ ap (get_elem? vs) e ∙ here)) was.2 in (
+            l,
+            subst (λ (k : ℕ). get_elem? (set vs id l ++ r ∷ []) k ≡ some l) (sym (k_is ∙ e)) (at_longer (set vs id l) (r ∷ []) id l (set_here vs id l (in_range vs id v here))),
+            ⊎_elim (λ (a : Sits l p). a) (λ (b : Sits r p). absurd (no_h b)) (cut.either p in_v),
+            was.3,
+          ))
+          (λ other. (
+            was.0,
+            subst (λ (k : ℕ). get_elem? (set vs id l ++ r ∷ []) k ≡ some was.0) (sym k_is)
+                (at_longer (set vs id l) (r ∷ []) (shown.seat_of q) was.0 (set_else vs id (shown.seat_of q) l other ∙ was.1)),
+            was.2,
+            was.3,
+          )))
 
       after : Shows fits s o t.words t.homes (set vs id l ++ r ∷ [])
       after = record {
@@ -171,7 +165,8 @@ module _ {B : Type 0} (fits : B → ℕ → Bool) (s : Shape) where
         seated = seated';
         alone = alone';
         views_fit = λ j u e. ⊎_elim
-            (λ (a : ((j ≡ id) × (l ≡ u)) ⊎ ((j ≢ id) × (get_elem? vs j ≡ some u))). ⊎_elim (λ (x : (j ≡ id) × (l ≡ u)). subst (ViewFits s o) x.1 l_fits) (λ (x : (j ≢ id) × (get_elem? vs j ≡ some u)). shown.views_fit j u x.1) a)
+            (λ (a : ((j ≡ id) × (l ≡ u)) ⊎ ((j ≢ id) × (get_elem? vs j ≡ some u))). ⊎_elim (λ (x : (j ≡ id) × (l ≡ u)). subst (ViewFits s o) x.1 l_fits)
+            (λ (x : (j ≢ id) × (get_elem? vs j ≡ some u)). shown.views_fit j u x.1) a)
             (λ (x : (r ≡ u) × (j ≡ n)). subst (ViewFits s o) x.0 r_fits)
             (there j u e);
         small = shown.small;
@@ -180,7 +175,8 @@ module _ {B : Type 0} (fits : B → ℕ → Bool) (s : Shape) where
           leads = shown.history.leads;
           theirs = shown.history.theirs;
           tells = λ j u e. ⊎_elim
-              (λ (a : ((j ≡ id) × (l ≡ u)) ⊎ ((j ≢ id) × (get_elem? vs j ≡ some u))). ⊎_elim (λ (x : (j ≡ id) × (l ≡ u)). subst (ViewTells shown.log) x.1 (tells_kept shown.log v l r cut told)) (λ (x : (j ≢ id) × (get_elem? vs j ≡ some u)). shown.history.tells j u x.1) a)
+              (λ (a : ((j ≡ id) × (l ≡ u)) ⊎ ((j ≢ id) × (get_elem? vs j ≡ some u))). ⊎_elim (λ (x : (j ≡ id) × (l ≡ u)). subst (ViewTells shown.log) x.1 (tells_kept shown.log v l r cut told))
+              (λ (x : (j ≢ id) × (get_elem? vs j ≡ some u)). shown.history.tells j u x.1) a)
               (λ (x : (r ≡ u) × (j ≡ n)). subst (ViewTells shown.log) x.0 (tells_handed shown.log v l r cut told))
               (there j u e);
         };
@@ -213,8 +209,10 @@ module _ {B : Type 0} (fits : B → ℕ → Bool) (s : Shape) where
 
       both_fits : ViewFits s o both
       both_fits = record {
-        is_owner = λ k p owns. ⊎_elim (λ (a : Owns v k p). let z = fit_v.is_owner k p a in (z.0, among_front v.processes w.processes p z.1)) (λ (b : Owns w k p). let z = fit_w.is_owner k p b in (z.0, among_back v.processes w.processes p z.1)) (among_either v.records w.records (k, p) owns);
-        owns_all = λ k p is sits. ⊎_elim (λ (a : Sits v p). among_front v.records w.records (k, p) (fit_v.owns_all k p is a)) (λ (b : Sits w p). among_back v.records w.records (k, p) (fit_w.owns_all k p is b)) (among_either v.processes w.processes p sits);
+        is_owner = λ k p owns. ⊎_elim (λ (a : Owns v k p). let z = fit_v.is_owner k p a in (z.0, among_front v.processes w.processes p z.1))
+            (λ (b : Owns w k p). let z = fit_w.is_owner k p b in (z.0, among_back v.processes w.processes p z.1)) (among_either v.records w.records (k, p) owns);
+        owns_all = λ k p is sits. ⊎_elim (λ (a : Sits v p). among_front v.records w.records (k, p) (fit_v.owns_all k p is a))
+            (λ (b : Sits w p). among_back v.records w.records (k, p) (fit_w.owns_all k p is b)) (among_either v.processes w.processes p sits);
         knows = λ p sits. fit_v.knows p₀ placed;
         places = distinct_places v.processes w.processes fit_v.places fit_w.places
             (λ p q in_v in_w e. apart ((shown.alone other q w w_here in_w).2 ∙ sym (ap shown.seat_of e) ∙ sym (shown.alone id p v here in_v).2));
@@ -228,7 +226,8 @@ module _ {B : Type 0} (fits : B → ℕ → Bool) (s : Shape) where
 
       both_tells : ViewTells shown.log both
       both_tells = record {
-        has = λ p sits. ⊎_elim (λ (a : Sits v p). among_front v.done w.done (part shown.log p) (told_v.has p a)) (λ (b : Sits w p). among_back v.done w.done (part shown.log p) (told_w.has p b)) (among_either v.processes w.processes p sits);
+        has = λ p sits. ⊎_elim (λ (a : Sits v p). among_front v.done w.done (part shown.log p) (told_v.has p a)) (λ (b : Sits w p). among_back v.done w.done (part shown.log p) (told_w.has p b))
+            (among_either v.processes w.processes p sits);
         only = λ q es told. ⊎_elim
             (λ (a : Among v.done (q, es)). let t = told_v.only q es a in (t.0, among_front v.processes w.processes t.0 t.1, t.2, t.3))
             (λ (b : Among w.done (q, es)). let t = told_w.only q es b in (t.0, among_back v.processes w.processes t.0 t.1, t.2, t.3))
@@ -242,7 +241,8 @@ module _ {B : Type 0} (fits : B → ℕ → Bool) (s : Shape) where
       spent_fits = record { is_owner = λ k p owns. absurd owns; owns_all = λ k p is sits. absurd sits; knows = λ p sits. absurd sits; places = tt }
 
       there : (j : ℕ) (u : View) → get_elem? now j ≡ some u → ((j ≡ other) × (spent ≡ u)) ⊎ ((j ≢ other) × (((j ≡ id) × (both ≡ u)) ⊎ ((j ≢ id) × (get_elem? vs j ≡ some u))))
-      there j u e = ⊎_elim (λ (a : (j ≡ other) × (spent ≡ u)). inl a) (λ (b : (j ≢ other) × (get_elem? (set vs id both) j ≡ some u)). inr (b.0, at_set vs id j both u b.1)) (at_set (set vs id both) other j spent u e)
+      there j u e = ⊎_elim (λ (a : (j ≡ other) × (spent ≡ u)). inl a) (λ (b : (j ≢ other) × (get_elem? (set vs id both) j ≡ some u)). inr (b.0, at_set vs id j both u b.1))
+          (at_set (set vs id both) other j spent u e)
 
       at_id : get_elem? now id ≡ some both
       at_id = set_else (set vs id both) other id spent (λ e. apart (sym e)) ∙ set_here vs id both (in_range vs id v here)
@@ -252,19 +252,41 @@ module _ {B : Type 0} (fits : B → ℕ → Bool) (s : Shape) where
           (λ (a : (j ≡ other) × (spent ≡ u)). absurd (subst (λ (z : View). Sits z p) (sym a.1) sits))
           (λ (b : (j ≢ other) × (((j ≡ id) × (both ≡ u)) ⊎ ((j ≢ id) × (get_elem? vs j ≡ some u)))). ⊎_elim
           (λ (x : (j ≡ id) × (both ≡ u)). ⊎_elim
-          (λ (in_v : Sits v p). let z = shown.alone id p v here in_v in (z.0, z.1, x.0 ∙ z.2 ∙ sym (pick_no (ℕ_discrete (shown.seat_of q) other) id (shown.seat_of q) (λ k. apart (sym (z.2 ∙ k)))), z.3))
+          (λ (in_v : Sits v p). let z = shown.alone id p v here in_v in (
+            z.0,
+            z.1,
+            x.0 ∙ z.2
+                ∙ sym (pick_no (ℕ_discrete (shown.seat_of q) other) id (shown.seat_of q) (λ k. apart (sym (z.2 ∙ k)))),
+            z.3,
+          ))
           (λ (in_w : Sits w p). let z = shown.alone other p w w_here in_w in (z.0, z.1, x.0 ∙ sym (pick_yes (ℕ_discrete (shown.seat_of q) other) id (shown.seat_of q) (sym z.2)), z.3))
           (among_either v.processes w.processes p (subst (λ (z : View). Sits z p) (sym x.1) sits)))
-          (λ (x : (j ≢ id) × (get_elem? vs j ≡ some u)). let z = shown.alone j p u x.1 sits in (z.0, z.1, z.2 ∙ sym (pick_no (ℕ_discrete (shown.seat_of q) other) id (shown.seat_of q) (λ k. b.0 (z.2 ∙ k))), z.3))
+          (λ (x : (j ≢ id) × (get_elem? vs j ≡ some u)). let z = shown.alone j p u x.1 sits in
+          (z.0, z.1, z.2 ∙ sym (pick_no (ℕ_discrete (shown.seat_of q) other) id (shown.seat_of q) (λ k. b.0 (z.2 ∙ k))), z.3))
           b.1)
           (there j u e)
 
       seated' : (q : ℕ) → q < s.places → (u : View) × (get_elem? now (seat_of' q) ≡ some u) × Sits u (shown.process_at q) × (place_of (shown.process_at q) ≡ q)
       seated' q lt = let was = shown.seated q lt in let p : ℕ = shown.process_at q in dite (ℕ_discrete (shown.seat_of q) other)
-          (λ e. (both, subst (λ (k : ℕ). get_elem? now k ≡ some both) (sym (pick_yes (ℕ_discrete (shown.seat_of q) other) id (shown.seat_of q) e)) at_id, among_back v.processes w.processes p (subst (λ (u : View). Sits u p) (some-injective was.0 w (sym was.1 ∙ ap (get_elem? vs) e ∙ w_here)) was.2), was.3))
+          (λ e. (
+            both,
+            subst (λ (k : ℕ). get_elem? now k ≡ some both) (sym (pick_yes (ℕ_discrete (shown.seat_of q) other) id (shown.seat_of q) e)) at_id,
+            among_back v.processes w.processes p (subst (λ (u : View). Sits u p) (some-injective was.0 w (sym was.1 ∙ ap (get_elem? vs) e ∙ w_here)) was.2),
+            was.3,
+          ))
           (λ n. let k_is : seat_of' q ≡ shown.seat_of q = pick_no (ℕ_discrete (shown.seat_of q) other) id (shown.seat_of q) n in dite (ℕ_discrete (shown.seat_of q) id)
-          (λ e. (both, subst (λ (k : ℕ). get_elem? now k ≡ some both) (sym (k_is ∙ e)) at_id, among_front v.processes w.processes p (subst (λ (u : View). Sits u p) (some-injective was.0 v (sym was.1 ∙ ap (get_elem? vs) e ∙ here)) was.2), was.3))
-          (λ m. (was.0, subst (λ (k : ℕ). get_elem? now k ≡ some was.0) (sym k_is) (set_else (set vs id both) other (shown.seat_of q) spent n ∙ set_else vs id (shown.seat_of q) both m ∙ was.1), was.2, was.3)))
+          (λ e. (
+            both,
+            subst (λ (k : ℕ). get_elem? now k ≡ some both) (sym (k_is ∙ e)) at_id,
+            among_front v.processes w.processes p (subst (λ (u : View). Sits u p) (some-injective was.0 v (sym was.1 ∙ ap (get_elem? vs) e ∙ here)) was.2),
+            was.3,
+          ))
+          (λ m. (
+            was.0,
+            subst (λ (k : ℕ). get_elem? now k ≡ some was.0) (sym k_is) (set_else (set vs id both) other (shown.seat_of q) spent n ∙ set_else vs id (shown.seat_of q) both m ∙ was.1),
+            was.2,
+            was.3,
+          )))
 
       after : Shows fits s o t.words t.homes now
       after = record {
@@ -279,7 +301,8 @@ module _ {B : Type 0} (fits : B → ℕ → Bool) (s : Shape) where
         alone = alone';
         views_fit = λ j u e. ⊎_elim
             (λ (a : (j ≡ other) × (spent ≡ u)). subst (ViewFits s o) a.1 spent_fits)
-            (λ (b : (j ≢ other) × (((j ≡ id) × (both ≡ u)) ⊎ ((j ≢ id) × (get_elem? vs j ≡ some u)))). ⊎_elim (λ (x : (j ≡ id) × (both ≡ u)). subst (ViewFits s o) x.1 both_fits) (λ (x : (j ≢ id) × (get_elem? vs j ≡ some u)). shown.views_fit j u x.1) b.1)
+            (λ (b : (j ≢ other) × (((j ≡ id) × (both ≡ u)) ⊎ ((j ≢ id) × (get_elem? vs j ≡ some u)))). ⊎_elim (λ (x : (j ≡ id) × (both ≡ u)). subst (ViewFits s o) x.1 both_fits)
+            (λ (x : (j ≢ id) × (get_elem? vs j ≡ some u)). shown.views_fit j u x.1) b.1)
             (there j u e);
         small = shown.small;
         log = shown.log;
@@ -288,7 +311,8 @@ module _ {B : Type 0} (fits : B → ℕ → Bool) (s : Shape) where
           theirs = shown.history.theirs;
           tells = λ j u e. ⊎_elim
               (λ (a : (j ≡ other) × (spent ≡ u)). subst (ViewTells shown.log) a.1 spent_tells)
-              (λ (b : (j ≢ other) × (((j ≡ id) × (both ≡ u)) ⊎ ((j ≢ id) × (get_elem? vs j ≡ some u)))). ⊎_elim (λ (x : (j ≡ id) × (both ≡ u)). subst (ViewTells shown.log) x.1 both_tells) (λ (x : (j ≢ id) × (get_elem? vs j ≡ some u)). shown.history.tells j u x.1) b.1)
+              (λ (b : (j ≢ other) × (((j ≡ id) × (both ≡ u)) ⊎ ((j ≢ id) × (get_elem? vs j ≡ some u)))). ⊎_elim (λ (x : (j ≡ id) × (both ≡ u)). subst (ViewTells shown.log) x.1 both_tells)
+              (λ (x : (j ≢ id) × (get_elem? vs j ≡ some u)). shown.history.tells j u x.1) b.1)
               (there j u e);
         };
       }
@@ -297,16 +321,12 @@ module _ {B : Type 0} (fits : B → ℕ → Bool) (s : Shape) where
   joins id other v w both none t holds here apart seen = (holds.0, none t holds.0 holds.1 here apart (sym (set_else t.views id other both apart) ∙ seen))
 
 -- a new seat of one place
-from_least : (a k p : ℕ) → Among (places_from a k) p → a ≤ p
-from_least a zero p h = absurd h
-from_least a (suc k) p h = ⊎_elim (λ (e : p ≡ a). omega arith) (λ (t : Among (places_from (suc a) k) p). let l = from_least (suc a) k p t in omega arith) h
-
 deal_cut : (s : Shape) (p k : ℕ) → Cut (dealer s p (suc k)) (dealer s (suc p) k) (dealt (dealer s p (suc k)))
 deal_cut s p k = record {
   keeps = λ q h. inr h;
   hands = λ q h. ⊎_elim (λ (e : q ≡ p). inl e) (λ (z : ⊥). absurd z) h;
   either = λ q h. ⊎_elim (λ (e : q ≡ p). inr (inl e)) (λ (t : Among (places_from (suc p) k) q). inl t) h;
-  apart = λ q h m. ⊎_elim (λ (e : q ≡ p). let l = from_least (suc p) k q h in absurd (omega arith)) (λ (z : ⊥). z) m;
+  apart = λ q h m. ⊎_elim (λ (e : q ≡ p). let l = (least (suc p) k q h).0 in absurd (omega arith)) (λ (z : ⊥). z) m;
   keeps_record = λ r q h. absurd h;
   keeps_all = λ r q h m. h;
   hands_record = λ r q h. absurd h;
@@ -349,75 +369,3 @@ deals {B} fits s id v is = let z : Shape = is.0 in let p : ℕ = is.1 in let k :
 
 pub hands_over : {B : Type 0} (fits : B → ℕ → Bool) (s : Shape) (id : ℕ) (v : View) → KeepsSplit {B = B} fits s id v spent v
 hands_over fits s id v = cuts fits s id v spent v (whole_cut v)
-
--- the table at the start
-none_there : (n r : ℕ) (h : Option Holder) → IsHeldBy (replicate n None) r h → h ≡ None
-none_there zero r h e = absurd (some-ne-none h (sym e))
-none_there (suc n) zero h e = sym (some-injective None h e)
-none_there (suc n) (suc r) h e = none_there n r h e
-
-all_free : (n : ℕ) → replicate n 0 ≡ map word_of (replicate n None)
-all_free zero = refl
-all_free (suc n) = ap (λ (l : List ℕ). 0 ∷ l) (all_free n)
-
-length-none : (n : ℕ) → length (replicate {A = Option Holder} n None) ≡ n
-length-none zero = refl
-length-none (suc n) = ap suc (length-none n)
-
-pub mapped_length : {A C : Type 0} (f : A → C) (l : List A) → length (map f l) ≡ length l
-mapped_length f [] = refl
-mapped_length f (x ∷ xs) = ap suc (mapped_length f xs)
-
-sits_from : (a k p : ℕ) → a ≤ p → p < a + k → Among (places_from a k) p
-sits_from a zero p lo hi = absurd (omega arith)
-sits_from a (suc k) p lo hi = dite (ℕ_discrete p a) (λ e. inl e) (λ n. inr (sits_from (suc a) k p (omega arith) (omega arith)))
-
-from_most : (a k p : ℕ) → Among (places_from a k) p → p < a + k
-from_most a zero p h = absurd h
-from_most a (suc k) p h = ⊎_elim (λ (e : p ≡ a). omega arith) (λ (t : Among (places_from (suc a) k) p). let l = from_most (suc a) k p t in omega arith) h
-
-pub opens : {B : Type 0} (fits : B → ℕ → Bool) (s : Shape) (n : ℕ) (words : List ℕ) (lots : List (LotOf B)) (slots : List (Option (LotOf B))) → s.places ≤ 32 → words ≡ replicate n 0 → slots ≡ map Some lots → length lots ≡ n → ((k : ℕ) (l : LotOf B) → get_elem? lots k ≡ some l → IsLotAt s k l × IsEmpty l) → IsSmall s
-    → Shown fits s (opening words slots (all_places s))
-opens {B} fits s n words lots slots few zeros wrapped long empty small = (
-  replicate n None,
-  record {
-    words_are = zeros ∙ all_free n;
-    holders = λ r h is. subst IsHolder (sym (none_there n r h is)) tt;
-    homes_long = mapped_length some slots ∙ ap length wrapped ∙ mapped_length Some lots ∙ long ∙ sym (length-none n);
-    homes_are = λ r h is.
-        let there = is_there lots r (let i = in_range (replicate n None) r h is in let e = length-none n in omega arith) in
-        let e = empty r there.0 there.1 in
-        let at : get_elem? (map some slots) r ≡ some (some (Some there.0)) = at_map some slots r (Some there.0) (subst (λ (z : List (Option (LotOf B))). get_elem? z r ≡ some (Some there.0)) (sym wrapped) (at_map Some lots r there.0 there.1)) in
-        (some (Some there.0), at, subst (λ (k : Option Holder). HomeFits fits s r k (some (Some there.0))) (sym (none_there n r h is)) (there.0, refl, e.0, e.1));
-    process_at = λ q. q;
-    seat_of = λ q. 0;
-    placed = λ r p is. absurd (nobody r p is);
-    seated = λ q lt. (all_places s, refl, sits_from 0 s.places q (omega arith) (omega arith), (let m : s.places ≤ 32 = few in let e : q % 32 ≡ q = omega arith in e));
-    alone = λ id p v there sits. only id p v there sits;
-    views_fit = λ id v there. first id v there;
-    small = small;
-    log = [];
-    history = record { leads = ap (λ (k : ℕ). replicate k None) (sym (length-none n)); theirs = λ e h. absurd h; tells = λ id v there. told id v there };
-  },
-)
-  where
-    nobody : (r p : ℕ) → IsHeldBy (replicate n None) r (Some (Process p)) → ⊥
-    nobody r p is = let e : Some (Process p) ≡ None = none_there n r (Some (Process p)) is in let w : word_of (Some (Process p)) ≡ word_of None = ap word_of e in absurd (omega arith)
-
-    only : (id p : ℕ) (v : View) → get_elem? (all_places s ∷ []) id ≡ some v → Sits v p → (place_of p < s.places) × (p ≡ place_of p) × (id ≡ 0) × (p < 4096)
-    only zero p v there sits = let l : p < 0 + s.places = from_most 0 s.places p (subst (λ (u : View). Sits u p) (sym (some-injective (all_places s) v there)) sits) in let m : s.places ≤ 32 = few in let e : p % 32 ≡ p = omega arith in (omega arith, sym e, refl, omega arith)
-    only (suc id) p v there sits = absurd (some-ne-none v (sym there))
-
-    begins : ViewFits s (replicate n None) (all_places s)
-    begins = record { is_owner = λ r p h. absurd h; owns_all = λ r p is h. absurd (nobody r p is); knows = λ p h. refl; places = few_places 0 s.places (omega (arith, few)) }
-
-    untold : ViewTells [] (all_places s)
-    untold = record { has = λ p sits. lists_there (places_from 0 s.places) p sits; only = λ q es there. let t = lists_back (places_from 0 s.places) q es there in (t.0, t.1, t.2, t.3) }
-
-    told : (id : ℕ) (v : View) → get_elem? (all_places s ∷ []) id ≡ some v → ViewTells [] v
-    told zero v there = subst (ViewTells []) (some-injective (all_places s) v there) untold
-    told (suc id) v there = absurd (some-ne-none v (sym there))
-
-    first : (id : ℕ) (v : View) → get_elem? (all_places s ∷ []) id ≡ some v → ViewFits s (replicate n None) v
-    first zero v there = subst (ViewFits s (replicate n None)) (some-injective (all_places s) v there) begins
-    first (suc id) v there = absurd (some-ne-none v (sym there))

@@ -4,8 +4,8 @@ use mathlib.Core.Logic.{dite}
 use Rattle.xh_model.specs.Words.{place_of}
 use Rattle.xh_model.specs.Keyed.{Among, Distinct}
 use Rattle.xh_model.proofs.Keyed.{among_back, among_either, among_front, dec_among}
-use Rattle.xh_records.specs.Showing.{places_from}
-use Rattle.xh_records.specs.Seats.{AllBelow}
+use Rattle.xh_records.specs.inner.Views.{places_from}
+use Rattle.xh_records.specs.inner.Hands.{AllBelow}
 use Rattle.xh_records.proofs.Lists.{few}
 
 -- the places of processes
@@ -17,7 +17,8 @@ pub process_in : (ps : List ℕ) (q : ℕ) → Among (map place_of ps) q → (p 
 process_in [] q h = absurd h
 process_in (x ∷ xs) q h = ⊎_elim (λ (e : q ≡ place_of x). (x, inl refl, sym e)) (λ (t : Among (map place_of xs) q). let r = process_in xs q t in (r.0, inr r.1, r.2)) h
 
-pub distinct_places : (xs ys : List ℕ) → Distinct (map place_of xs) → Distinct (map place_of ys) → ((p q : ℕ) → Among xs p → Among ys q → place_of p ≡ place_of q → ⊥) → Distinct (map place_of (xs ++ ys))
+pub distinct_places : (xs ys : List ℕ) → Distinct (map place_of xs) → Distinct (map place_of ys) → ((p q : ℕ) → Among xs p → Among ys q → place_of p ≡ place_of q → ⊥)
+    → Distinct (map place_of (xs ++ ys))
 distinct_places [] ys a b none = b
 distinct_places (x ∷ xs) ys a b none = (
   λ h. let r = process_in (xs ++ ys) (place_of x) h in ⊎_elim
@@ -41,9 +42,10 @@ distinct_front (x ∷ xs) y d = (
   distinct_front xs y d.1,
 )
 
-least : (a k p : ℕ) → Among (places_from a k) p → (a ≤ p) × (p < a + k)
+pub least : (a k p : ℕ) → Among (places_from a k) p → (a ≤ p) × (p < a + k)
 least a zero p h = absurd h
-least a (suc k) p h = ⊎_elim (λ (e : p ≡ a). (omega arith, omega arith)) (λ (t : Among (places_from (suc a) k) p). let l = least (suc a) k p t in let b = l.0 in let c = l.1 in (omega arith, omega arith)) h
+least a (suc k) p h = ⊎_elim (λ (e : p ≡ a). (omega arith, omega arith)) (λ (t : Among (places_from (suc a) k) p). let l = least (suc a) k p t in let b = l.0 in
+    let c = l.1 in (omega arith, omega arith)) h
 
 pub few_places : (a k : ℕ) → a + k ≤ 32 → Distinct (map place_of (places_from a k))
 few_places a zero few = tt

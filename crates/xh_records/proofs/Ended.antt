@@ -1,5 +1,36 @@
 -- The closed table: its words, the lots at home, and those that the seats had.
-use Rattle.std.proofs.Common.{◌≡◌, ℕ, zero, suc, ◌*◌, ◌<◌, map, length-append, ◌≤◌, Bool, List, [], ◌∷◌, ◌++◌, length, take, get_or, sym, refl, ap, ◌∙◌, subst, inl, inr, ⊎_elim, arith, cond, ne_eqb, rules}
+use Rattle.std.proofs.Common.{
+  ◌≡◌,
+  ℕ,
+  zero,
+  suc,
+  ◌*◌,
+  ◌<◌,
+  map,
+  length-append,
+  ◌≤◌,
+  Bool,
+  List,
+  [],
+  ◌∷◌,
+  ◌++◌,
+  length,
+  take,
+  get_or,
+  sym,
+  refl,
+  ap,
+  ◌∙◌,
+  subst,
+  inl,
+  inr,
+  ⊎_elim,
+  arith,
+  cond,
+  ne_eqb,
+  rules,
+}
+use Rattle.std.proofs.lemmas.List.{length-map}
 use Rattle.std.specs.Prelude.{Option, Some, None, slice_get}
 use Rattle.std.specs.Option.{option_or, IsSome}
 use Rattle.atomic_table.proofs.Lists.{at_index}
@@ -19,20 +50,24 @@ use Rattle.xh_model.specs.Keyed.{Among, Distinct, keys, value_at}
 use Rattle.xh_model.proofs.Keyed.{among_back, among_either, among_front}
 use Rattle.xh_records.specs.declared.shape.Shape.{Shape}
 use Rattle.xh_records.specs.declared.view.View.{View}
-use Rattle.xh_records.specs.Showing.{Sits, Owns, IsAway, ViewFits, Shows, Shown, spent}
-use Rattle.xh_records.specs.Seats.{Held, owned_by, indices, lot_in, slot_at, or_else, view_of, IsSmall, IsGathered, Ends, EndsAs}
-use Rattle.xh_records.proofs.Keeps.{in_range, is_there, one_holder, same_place, never}
-use Rattle.xh_records.proofs.Lists.{among_owned, none_or_some, elem_slice, slice_elem}
-use Rattle.xh_records.proofs.Numbered.{among_map}
+use Rattle.xh_records.specs.Showing.{Sits, Owns, ViewFits, Shows, Shown, IsSmall}
+use Rattle.xh_records.specs.Seats.{Held, owned_by, indices, lot_in, view_of, Ends, EndsAs}
+use Rattle.xh_records.specs.inner.Events.{IsAway}
+use Rattle.xh_records.specs.inner.Views.{spent}
+use Rattle.xh_records.specs.inner.Gathering.{slot_at, or_else, IsGathered}
+use Rattle.xh_records.proofs.Elements.{in_range, is_there, elem_slice, slice_elem, nth_is}
+use Rattle.xh_records.proofs.Keeps.{one_holder, same_place, never}
+use Rattle.xh_records.proofs.Lists.{among_owned, none_or_some}
 use Rattle.xh_records.proofs.Distinct.{process_in, not_twice, distinct_front, covers}
-use Rattle.xh_records.proofs.Cuts.{mapped_length}
+use Rattle.xh_records.proofs.Numbered.{among_map}
 
 -- each place has its seat among these
 abbrev AllSit : {B : Type 0} → ℕ → List (Held B) → Type 0
 AllSit {B} places seats = (q : ℕ) → q < places → (j : ℕ) × (x : Held B) × (slice_get seats j ≡ Some x) × (place_of x.process ≡ q)
 
 -- one more seat is gathered
-pub gathers : {B : Type 0} (m : ℕ) (seats : List (Held B)) (x : Held B) (v v' : View) (held held' : List (Option (LotOf B))) → get_elem? seats m ≡ some x → IsGathered (suc m) seats v held → v'.processes ≡ v.processes ++ x.process ∷ [] → v'.records ≡ v.records ++ (view_of x).records → v'.done ≡ v.done ++ (view_of x).done → length held' ≡ length held
+pub gathers : {B : Type 0} (m : ℕ) (seats : List (Held B)) (x : Held B) (v v' : View) (held held' : List (Option (LotOf B))) → get_elem? seats m ≡ some x → IsGathered (suc m) seats v held
+    → v'.processes ≡ v.processes ++ x.process ∷ [] → v'.records ≡ v.records ++ (view_of x).records → v'.done ≡ v.done ++ (view_of x).done → length held' ≡ length held
     → ((r : ℕ) → Among (indices x) r → (l : LotOf B) × (lot_in r x ≡ Some l)) → ((r : ℕ) → r < length held → slot_at held' r ≡ or_else (lot_in r x) (slot_at held r)) → IsGathered m seats v' held'
 gathers {B} m seats x v v' held held' at old places records lists long has fill = record {
   each = λ p h. ⊎_elim
@@ -52,17 +87,21 @@ gathers {B} m seats x v v' held held' at old places records lists long has fill 
       (λ e. subst (λ (l : List ℕ). Among l y.process) (sym places) (among_back v.processes (x.process ∷ []) y.process (inl (ap (λ (z : Held B). z.process) (same k y e there)))))
       (λ n. subst (λ (l : List ℕ). Among l y.process) (sym places) (among_front v.processes (x.process ∷ []) y.process (old.sits k y there (omega arith))));
   done = λ k y there le. dite (ℕ_discrete k m)
-      (λ e. subst (λ (l : List (ℕ × List Event)). Among l (place_of y.process, y.done)) (sym lists) (among_back v.done (view_of x).done (place_of y.process, y.done) (inl (ap (λ (z : Held B). (place_of z.process, z.done)) (same k y e there)))))
-      (λ n. subst (λ (l : List (ℕ × List Event)). Among l (place_of y.process, y.done)) (sym lists) (among_front v.done (view_of x).done (place_of y.process, y.done) (old.done k y there (omega arith))));
+      (λ e. subst (λ (l : List (ℕ × List Event)). Among l (place_of y.process, y.done)) (sym lists)
+      (among_back v.done (view_of x).done (place_of y.process, y.done) (inl (ap (λ (z : Held B). (place_of z.process, z.done)) (same k y e there)))))
+      (λ n. subst (λ (l : List (ℕ × List Event)). Among l (place_of y.process, y.done)) (sym lists)
+      (among_front v.done (view_of x).done (place_of y.process, y.done) (old.done k y there (omega arith))));
   records = λ r p owns. ⊎_elim
       (λ (a : Owns v r p). let t = old.records r p a in (t.0, t.1, t.2, let le : suc m ≤ t.0 = t.3 in omega arith, t.4))
       (λ (b : Among (view_of x).records (r, p)). (m, x, at, omega arith, b))
       (among_either v.records (view_of x).records (r, p) (subst (λ (l : List (ℕ × ℕ)). Among l (r, p)) records owns));
   all_records = λ k r p y there le owns. dite (ℕ_discrete k m)
-      (λ e. subst (λ (l : List (ℕ × ℕ)). Among l (r, p)) (sym records) (among_back v.records (view_of x).records (r, p) (subst (λ (z : Held B). Among (view_of z).records (r, p)) (same k y e there) owns)))
+      (λ e. subst (λ (l : List (ℕ × ℕ)). Among l (r, p)) (sym records) (among_back v.records (view_of x).records (r, p)
+      (subst (λ (z : Held B). Among (view_of z).records (r, p)) (same k y e there) owns)))
       (λ n. subst (λ (l : List (ℕ × ℕ)). Among l (r, p)) (sym records) (among_front v.records (view_of x).records (r, p) (old.all_records k r p y there (omega arith) owns)));
   lots = λ r l below e. let inside : r < length held = omega arith in ⊎_elim
-      (λ (a : lot_in r x ≡ None). let t = old.lots r l inside (sym (ap (λ (z : Option (LotOf B)). or_else z (slot_at held r)) a) ∙ sym (fill r inside) ∙ e) in (t.0, t.1, t.2, let le : suc m ≤ t.0 = t.3 in omega arith, t.4))
+      (λ (a : lot_in r x ≡ None). let t = old.lots r l inside (sym (ap (λ (z : Option (LotOf B)). or_else z (slot_at held r)) a) ∙ sym (fill r inside) ∙ e) in
+      (t.0, t.1, t.2, let le : suc m ≤ t.0 = t.3 in omega arith, t.4))
       (λ (b : (l' : LotOf B) × (lot_in r x ≡ Some l')). (m, x, at, omega arith, b.1 ∙ sym (ap (λ (z : Option (LotOf B)). or_else z (slot_at held r)) b.1) ∙ sym (fill r inside) ∙ e))
       (none_or_some (lot_in r x));
   full = λ k r y there le h. dite (ℕ_discrete k m)
@@ -80,7 +119,8 @@ gathers {B} m seats x v v' held held' at old places records lists long has fill 
     same k y e there = some-injective y x (sym there ∙ ap (get_elem? seats) e ∙ at)
 
 -- none is gathered yet
-pub gathers_none : {B : Type 0} (seats : List (Held B)) (m : ℕ) (held : List (Option (LotOf B))) → length seats ≡ m → ((r : ℕ) → r < length held → slot_at held r ≡ None) → IsGathered m seats spent held
+pub gathers_none : {B : Type 0} (seats : List (Held B)) (m : ℕ) (held : List (Option (LotOf B))) → length seats ≡ m → ((r : ℕ) → r < length held → slot_at held r ≡ None)
+    → IsGathered m seats spent held
 gathers_none {B} seats m held past none_there = record {
   each = λ p h. absurd h;
   count = omega (arith, past);
@@ -94,18 +134,15 @@ gathers_none {B} seats m held past none_there = record {
   all_lots = λ k r y l there le e below. absurd (let i = in_range seats k y there in omega arith);
 }
 
-pub value_of : {A : Type 0} (l : List A) (i : ℕ) (d a : A) → get_elem? l i ≡ some a → get_or l i d ≡ a
-value_of [] i d a e = absurd (some-ne-none a (sym e))
-value_of (x ∷ xs) zero d a e = some-injective x a e
-value_of (x ∷ xs) (suc i) d a e = value_of xs i d a e
-
 owned_back : (q : ℕ) (xs : List ℕ) (r p : ℕ) → Among (owned_by q xs) (r, p) → Among xs r × (p ≡ q)
 owned_back q [] r p h = absurd h
-owned_back q (x ∷ xs) r p h = ⊎_elim (λ (e : (r, p) ≡ (x, q)). (inl (ap (λ (z : ℕ × ℕ). z.0) e), ap (λ (z : ℕ × ℕ). z.1) e)) (λ (t : Among (owned_by q xs) (r, p)). let u = owned_back q xs r p t in (inr u.0, u.1)) h
+owned_back q (x ∷ xs) r p h = ⊎_elim (λ (e : (r, p) ≡ (x, q)). (inl (ap (λ (z : ℕ × ℕ). z.0) e), ap (λ (z : ℕ × ℕ). z.1) e))
+    (λ (t : Among (owned_by q xs) (r, p)). let u = owned_back q xs r p t in (inr u.0, u.1)) h
 
 has_key : {L : Type 0} (r : ℕ) (lots : List (ℕ × L)) (l : L) → value_at r lots ≡ Some l → Among (keys lots) r
 has_key r [] l = λ e. absurd (cc)
-has_key {L} r (y ∷ ys) l = dite (ℕ_discrete y.0 r) (λ same e. inl (sym same)) (λ n. subst (λ (b : Bool). cond b (Some y.1) (value_at r ys) ≡ Some l → Among (keys (y ∷ ys)) r) (sym (ne_eqb y.0 r n)) (λ (e : value_at r ys ≡ Some l). inr (has_key r ys l e)))
+has_key {L} r (y ∷ ys) l = dite (ℕ_discrete y.0 r) (λ same e. inl (sym same)) (λ n. subst (λ (b : Bool). cond b (Some y.1) (value_at r ys) ≡ Some l → Among (keys (y ∷ ys)) r)
+    (sym (ne_eqb y.0 r n)) (λ (e : value_at r ys ≡ Some l). inr (has_key r ys l e)))
 
 has_index : {B : Type 0} (x : Held B) (k : ℕ) (l : LotOf B) → IsSmall x.shape → lot_in k x ≡ Some l → Among (indices x) k
 has_index x k l small e = let n : ℕ = x.shape.records in
@@ -117,7 +154,8 @@ take_one_more (x ∷ xs) zero a e = λ k. some-injective x a e k ∷ []
 take_one_more {A} (x ∷ xs) (suc i) a e = ap (λ (z : List A). x ∷ z) (take_one_more xs i a e)
 
 module _ {B : Type 0} (fits : B → ℕ → Bool) (s : Shape) (id : ℕ) (v : View) (ws : List ℕ) (xs : List (Option (LotOf B))) (seats : List (Held B)) (held : List (Option (LotOf B)))
-    (final : Final (Seen (Shown fits s) id v) ws xs) (gathered : IsGathered 0 seats v held) (long : length held ≡ length xs) (small : IsSmall s) (own : (j : ℕ) (x : Held B) → slice_get seats j ≡ Some x → x.shape ≡ s) (every : length seats ≡ s.places) (sized : length xs ≡ length s.names * s.records) where
+    (final : Final (Seen (Shown fits s) id v) ws xs) (gathered : IsGathered 0 seats v held) (long : length held ≡ length xs) (small : IsSmall s)
+    (own : (j : ℕ) (x : Held B) → slice_get seats j ≡ Some x → x.shape ≡ s) (every : length seats ≡ s.places) (sized : length xs ≡ length s.names * s.records) where
   abbrev pub t : State (Option (LotOf B)) View
   t = final.0
 
@@ -134,7 +172,7 @@ module _ {B : Type 0} (fits : B → ℕ → Bool) (s : Shape) (id : ℕ) (v : Vi
   all : AllSit s.places seats
   all q inside =
       let places : List ℕ = map place_of v.processes in
-      let long : length places ≡ s.places = mapped_length place_of v.processes ∙ (let c = gathered.count in let e = every in omega arith) in
+      let long : length places ≡ s.places = length-map v.processes place_of ∙ (let c = gathered.count in let e = every in omega arith) in
       let below : (x : ℕ) → Among places x → x < s.places = λ x h. let r = process_in v.processes x h in subst (λ (z : ℕ). z < s.places) r.2 (shown.alone id r.0 v final.1.1 r.1).0 in
       let r = process_in v.processes q (covers s.places places fit.places below long q inside) in
       let t = gathered.each r.0 r.1 in
@@ -151,7 +189,8 @@ module _ {B : Type 0} (fits : B → ℕ → Bool) (s : Shape) (id : ℕ) (v : Vi
       (fit.is_owner k x.process mine).0
 
   -- and a record of a process is in its seat, with the lot that was taken out
-  by_process : (k p : ℕ) → IsHeldBy o k (Some (Process p)) → (j : ℕ) × (x : Held B) × (get_elem? seats j ≡ some x) × (x.process ≡ p) × (l : LotOf B) × (lot_in k x ≡ Some l) × (slot_at held k ≡ Some l)
+  by_process : (k p : ℕ) → IsHeldBy o k (Some (Process p)) → (j : ℕ) × (x : Held B) × (get_elem? seats j ≡ some x) × (x.process ≡ p) × (l : LotOf B) × (lot_in k x ≡ Some l)
+      × (slot_at held k ≡ Some l)
   by_process k p is =
       let at = shown.placed k p is in
       let there = all (place_of p) at.0 in
@@ -171,7 +210,8 @@ module _ {B : Type 0} (fits : B → ℕ → Bool) (s : Shape) (id : ℕ) (v : Vi
 
   not_taken : (k : ℕ) (h : Option Holder) → IsHeldBy o k h → IsAway h → slot_at held k ≡ None
   not_taken k h is free = ⊎_elim (λ (e : slot_at held k ≡ None). e)
-      (λ (t : (l : LotOf B) × (slot_at held k ≡ Some l)). let from = gathered.lots k t.0 (let i = in_range o k h is in let e : length o ≡ length held = count in omega arith) t.1 in absurd (free from.1.process (one_holder o k h (Some (Process from.1.process)) is (by_seat from.0 k from.1 t.0 from.2 from.4))))
+      (λ (t : (l : LotOf B) × (slot_at held k ≡ Some l)). let from = gathered.lots k t.0 (let i = in_range o k h is in let e : length o ≡ length held = count in omega arith) t.1 in absurd
+      (free from.1.process (one_holder o k h (Some (Process from.1.process)) is (by_seat from.0 k from.1 t.0 from.2 from.4))))
       (none_or_some (slot_at held k))
 
   free_away : IsAway None
@@ -182,12 +222,12 @@ module _ {B : Type 0} (fits : B → ℕ → Bool) (s : Shape) (id : ℕ) (v : Vi
   ended k None is =
       let home = shown.homes_are k None is in let lot = home.2 in
       let at = final.4 k (Some lot.0) (home.1 ∙ ap some lot.1) in
-      (lot.0, ap (λ (z : Option (LotOf B)). or_else z (slot_at xs k)) (not_taken k None is free_away) ∙ value_of xs k None (Some lot.0) at, (lot.2, lot.3))
+      (lot.0, ap (λ (z : Option (LotOf B)). or_else z (slot_at xs k)) (not_taken k None is free_away) ∙ nth_is xs k None (Some lot.0) at, (lot.2, lot.3))
   ended k (Some (Process p)) is = let t = by_process k p is in (t.4, ap (λ (z : Option (LotOf B)). or_else z (slot_at xs k)) t.6, (t.0, t.1, elem_slice seats t.0 t.1 t.2, t.3, t.5))
   ended k (Some (Direction d)) is =
       let home = shown.homes_are k (Some (Direction d)) is in let lot = home.2 in
       let at = final.4 k (Some lot.0) (home.1 ∙ ap some lot.1) in
-      (lot.0, ap (λ (z : Option (LotOf B)). or_else z (slot_at xs k)) (not_taken k (Some (Direction d)) is (never d)) ∙ value_of xs k None (Some lot.0) at, (lot.2, lot.3))
+      (lot.0, ap (λ (z : Option (LotOf B)). or_else z (slot_at xs k)) (not_taken k (Some (Direction d)) is (never d)) ∙ nth_is xs k None (Some lot.0) at, (lot.2, lot.3))
 
   pub some_lot : (k : ℕ) → k < length xs → (l : LotOf B) × (or_else (slot_at held k) (slot_at xs k) ≡ Some l)
   some_lot k h = let there = is_there o k (let e : length o ≡ length held = count in omega arith) in let t = ended k there.0 there.1 in (t.0, t.1)
@@ -220,7 +260,7 @@ or_is None b = refl
 or_is (Some x) b = refl
 
 pub read_is : {A : Type 0} (l : List A) (k : ℕ) (x d : A) → k < length l → x ≡ get_or l k x → get_or l k d ≡ x
-read_is l k x d h e = value_of l k d x (at_index l k x h e)
+read_is l k x d h e = nth_is l k d x (at_index l k x h e)
 
 pub is_some : {L : Type 0} (o : Option L) (l : L) → o ≡ Some l → IsSome o
 is_some o l e = subst IsSome (sym e) (search rules)

@@ -1,7 +1,7 @@
 -- The list of all events, as it grows, and the views' parts of it.
-use Rattle.std.proofs.Common.{◌≡◌, ℕ, zero, suc, ◌<◌, ◌≢◌, Bool, true, false, List, [], ◌∷◌, ◌++◌, length, set, sym, refl, ap, ◌∙◌, subst, ◌⊎◌, inl, inr, ⊎_elim, eq-eqb, ne_eqb, cond, arith}
+use Rattle.std.proofs.Common.{◌≡◌, ℕ, ◌<◌, ◌≢◌, Bool, true, false, List, [], ◌∷◌, ◌++◌, length, set, sym, refl, ap, ◌∙◌, subst, ◌⊎◌, inl, inr, ⊎_elim, eq-eqb, ne_eqb, cond}
 use Rattle.std.specs.Prelude.{◌==◌}
-use mathlib.Core.Option.{some, some-ne-none}
+use mathlib.Core.Option.{some}
 use lib.ListN.{get_elem?}
 use Rattle.atomic_table.proofs.Lists.{at_set}
 use Rattle.xh_model.specs.declared.event.Event.{Event}
@@ -11,13 +11,8 @@ use Rattle.xh_records.specs.declared.shape.Shape.{Shape}
 use Rattle.xh_records.specs.declared.view.View.{View}
 use Rattle.xh_records.specs.After.{IsAfter}
 use Rattle.xh_records.specs.History.{LeadsTo, all_free, by_place, process_of}
-use Rattle.xh_records.specs.Showing.{Sits, ViewTells, IsHistory, IsAlone, adds, events_in, first_list, no_events}
-
--- an element that is there is within the list
-pub in_range : {A : Type 0} (l : List A) (i : ℕ) (a : A) → get_elem? l i ≡ some a → i < length l
-in_range [] i a e = absurd (some-ne-none a (sym e))
-in_range (x ∷ xs) zero a e = omega arith
-in_range (x ∷ xs) (suc i) a e = let h = in_range xs i a e in omega arith
+use Rattle.xh_records.specs.Showing.{Sits, ViewTells, IsHistory}
+use Rattle.xh_records.specs.inner.Views.{IsAlone, adds, events_in, first_list, no_events}
 
 -- one more event
 pub leads_more : (n : ℕ) (o m o' : Ownership) (log : List Event) (e : Event) → LeadsTo n o log m → IsDone n m e o' → IsAfter n m e o' → LeadsTo n o (log ++ e ∷ []) o'
@@ -34,7 +29,8 @@ cond_append false x l m = refl
 
 pub by_place_more : (q : ℕ) (log : List Event) (e : Event) → place_of (process_of e) ≡ q → by_place q (log ++ e ∷ []) ≡ by_place q log ++ e ∷ []
 by_place_more q [] e at = ap (λ (b : Bool). cond b (e ∷ []) []) (eq-eqb (place_of (process_of e)) q at)
-by_place_more q (x ∷ xs) e at = ap (λ (z : List Event). cond (place_of (process_of x) == q) (x ∷ z) z) (by_place_more q xs e at) ∙ cond_append (place_of (process_of x) == q) x (by_place q xs) (e ∷ [])
+by_place_more q (x ∷ xs) e at = ap (λ (z : List Event). cond (place_of (process_of x) == q) (x ∷ z) z) (by_place_more q xs e at)
+    ∙ cond_append (place_of (process_of x) == q) x (by_place q xs) (e ∷ [])
 
 pub by_place_less : (q : ℕ) (log : List Event) (e : Event) → place_of (process_of e) ≢ q → by_place q (log ++ e ∷ []) ≡ by_place q log
 by_place_less q [] e n = ap (λ (b : Bool). cond b (e ∷ []) []) (ne_eqb (place_of (process_of e)) q n)
@@ -82,11 +78,14 @@ tells_others log u e tells apart =
     }
 
 -- one more event, by the seat id
-pub more_history : (s : Shape) (o o' : Ownership) (views : List View) (log : List Event) (id : ℕ) (v w : View) (e : Event) → IsHistory s o views log → IsDone s.records o e o' → IsAfter s.records o e o' → length o' ≡ length o → place_of (process_of e) < s.places → get_elem? views id ≡ some v → IsAlone v (process_of e) → w.processes ≡ v.processes → w.done ≡ adds e v.done
+pub more_history : (s : Shape) (o o' : Ownership) (views : List View) (log : List Event) (id : ℕ) (v w : View) (e : Event) → IsHistory s o views log → IsDone s.records o e o'
+    → IsAfter s.records o e o' → length o' ≡ length o → place_of (process_of e) < s.places → get_elem? views id ≡ some v → IsAlone v (process_of e) → w.processes ≡ v.processes
+    → w.done ≡ adds e v.done
     → ((j p : ℕ) (u : View) → j ≢ id → get_elem? views j ≡ some u → Sits u p → place_of (process_of e) ≢ place_of p) → IsHistory s o' (set views id w) (log ++ e ∷ [])
 more_history s o o' views log id v w e old done after long inside at alone same more apart = record {
   leads = subst (λ (n : ℕ). LeadsTo s.records (all_free n) (log ++ e ∷ []) o') (sym long) (leads_more s.records (all_free (length o)) o o' log e old.leads done after);
-  theirs = λ x there. ⊎_elim (λ (a : Among log x). old.theirs x a) (λ (b : Among (e ∷ []) x). ⊎_elim (λ (i : x ≡ e). subst (λ (z : Event). place_of (process_of z) < s.places) (sym i) inside) (λ (z : ⊥). absurd z) b) (either log x there);
+  theirs = λ x there. ⊎_elim (λ (a : Among log x). old.theirs x a) (λ (b : Among (e ∷ []) x). ⊎_elim (λ (i : x ≡ e). subst (λ (z : Event). place_of (process_of z) < s.places) (sym i) inside)
+      (λ (z : ⊥). absurd z) b) (either log x there);
   tells = λ j u there. ⊎_elim
       (λ (t : (j ≡ id) × (w ≡ u)). subst (ViewTells (log ++ e ∷ [])) t.1 (tells_mine log v w e (old.tells id v at) alone same more))
       (λ (t : (j ≢ id) × (get_elem? views j ≡ some u)). tells_others log u e (old.tells j u t.1) (λ p sits. apart j p u t.0 t.1 sits))
@@ -110,4 +109,5 @@ lists_there (x ∷ xs) p h = ⊎_elim (λ (e : p ≡ x). inl (ap (λ (z : ℕ). 
 
 pub lists_back : (ps : List ℕ) (q : ℕ) (es : List Event) → Among (no_events ps) (q, es) → (p : ℕ) × Among ps p × (q ≡ place_of p) × (es ≡ [])
 lists_back [] q es h = absurd h
-lists_back (x ∷ xs) q es h = ⊎_elim (λ (e : Same (q, es) (place_of x, [])). let is = two_is q (place_of x) es [] e in (x, inl refl, is.0, is.1)) (λ (t : Among (no_events xs) (q, es)). let u = lists_back xs q es t in (u.0, inr u.1, u.2, u.3)) h
+lists_back (x ∷ xs) q es h = ⊎_elim (λ (e : Same (q, es) (place_of x, [])). let is = two_is q (place_of x) es [] e in (x, inl refl, is.0, is.1))
+    (λ (t : Among (no_events xs) (q, es)). let u = lists_back xs q es t in (u.0, inr u.1, u.2, u.3)) h

@@ -1,5 +1,5 @@
 -- A step on one record's word keeps the rule.
-use Rattle.std.proofs.Common.{◌≡◌, ℕ, zero, suc, ◌+◌, ◌%◌, ◌<◌, ◌≢◌, Bool, List, [], ◌∷◌, ◌++◌, map, length, set, get_or, eqb, sym, refl, ap, ◌∙◌, subst, inl, inr, ⊎_elim, arith, length-set, ne_eqb, eq-eqb, cond}
+use Rattle.std.proofs.Common.{◌≡◌, ℕ, ◌%◌, ◌<◌, ◌≢◌, Bool, List, [], ◌∷◌, ◌++◌, map, length, set, get_or, eqb, sym, refl, ap, ◌∙◌, subst, inl, inr, ⊎_elim, arith, length-set, ne_eqb, eq-eqb, cond}
 use Rattle.std.specs.Prelude.{Option, Some, None}
 use mathlib.Core.Option.{none, some, some-injective, some-ne-none}
 use mathlib.Core.Option as maybe
@@ -20,28 +20,16 @@ use Rattle.xh_model.specs.declared.event.Event.{Event}
 use Rattle.xh_model.specs.Slots.{index_of}
 use Rattle.xh_model.specs.Words.{Ownership, IsHeldBy, IsHolder, IsDone, word_of, place_of, number_of, record_of, from_of, to_of}
 use Rattle.xh_model.proofs.Words.{word_injective, index_back, number_inside}
-use Rattle.xh_records.specs.History.{taking, giving, process_of, by_place}
+use Rattle.xh_records.specs.History.{process_of}
+use Rattle.xh_records.specs.Showing.{Sits, Owns, IsLotAt, HomeFits, ViewFits, IsSmall, Shows, Shown}
+use Rattle.xh_records.specs.Seats.{Knows}
+use Rattle.xh_records.specs.inner.Events.{taking, giving, IsAway, IsHomeLot}
+use Rattle.xh_records.specs.inner.Views.{IsAlone, adds, gained, lost}
+use Rattle.xh_records.specs.inner.Steps.{took, gave, looked, process_in}
 use Rattle.xh_records.proofs.History.{more_history}
-pub use Rattle.xh_records.proofs.History.{in_range}
 use Rattle.xh_records.proofs.After.{done_after}
-use Rattle.xh_records.specs.Steps.{Knows, took, gave, looked, aged, process_in}
+use Rattle.xh_records.proofs.Elements.{in_range, is_there, nth_is}
 use prog.Atomic.{either}
-use Rattle.xh_records.specs.Showing.{Sits, Owns, IsLotAt, IsAway, IsHomeLot, HomeFits, ViewFits, ViewTells, IsAlone, IsSmall, Shows, Shown, adds, gained, lost, renewed}
-
--- lists
-pub is_there : {A : Type 0} (l : List A) (i : ℕ) → i < length l → (a : A) × (get_elem? l i ≡ some a)
-is_there [] i h = absurd (omega arith)
-is_there (x ∷ xs) zero h = (x, refl)
-is_there (x ∷ xs) (suc i) h = is_there xs i (omega arith)
-
-pub get_or-map : {A : Type 0} (f : A → ℕ) (l : List A) (i d : ℕ) (a : A) → get_elem? l i ≡ some a → get_or (map f l) i d ≡ f a
-get_or-map f [] i d a e = absurd (some-ne-none a (sym e))
-get_or-map f (x ∷ xs) zero d a e = ap f (some-injective x a e)
-get_or-map f (x ∷ xs) (suc i) d a e = get_or-map f xs i d a e
-
-pub length-map_words : {A B : Type 0} (f : A → B) (l : List A) → length (map f l) ≡ length l
-length-map_words f [] = refl
-length-map_words f (x ∷ xs) = ap suc (length-map_words f xs)
 
 -- words
 pub never : (d q : ℕ) → Some (Direction d) ≡ Some (Process q) → ⊥
@@ -131,7 +119,11 @@ module _ {B : Type 0} (fits : B → ℕ → Bool) (s : Shape) (o : Ownership) (w
         (at_set o r r' k g is);
     homes_long = length-set hs r y ∙ shown.homes_long ∙ sym (length-set o r k);
     homes_are = λ r' g is. ⊎_elim
-        (λ (t : (r' ≡ r) × (k ≡ g)). (y, subst (λ (x : ℕ). get_elem? (set hs r y) x ≡ some y) (sym t.0) (set_here hs r y (let i = in_range o r h held in let e = shown.homes_long in omega arith)), subst (λ (z : ℕ × Option Holder). HomeFits fits s z.0 z.1 y) (λ i. (sym t.0 i, t.1 i)) home))
+        (λ (t : (r' ≡ r) × (k ≡ g)). (
+          y,
+          subst (λ (x : ℕ). get_elem? (set hs r y) x ≡ some y) (sym t.0) (set_here hs r y (let i = in_range o r h held in let e = shown.homes_long in omega arith)),
+          subst (λ (z : ℕ × Option Holder). HomeFits fits s z.0 z.1 y) (λ i. (sym t.0 i, t.1 i)) home,
+        ))
         (λ (t : (r' ≢ r) × (get_elem? o r' ≡ some g)). let was = shown.homes_are r' g t.1 in (was.0, set_else hs r r' y t.0 ∙ was.1, was.2))
         (at_set o r r' k g is);
     placed = λ r' p is. ⊎_elim
@@ -141,7 +133,12 @@ module _ {B : Type 0} (fits : B → ℕ → Bool) (s : Shape) (o : Ownership) (w
     process_at = shown.process_at;
     seat_of = shown.seat_of;
     seated = λ q lt. let was = shown.seated q lt in let p : ℕ = shown.process_at q in dite (ℕ_discrete (shown.seat_of q) id)
-        (λ e. (w, subst (λ (x : ℕ). get_elem? (set vs id w) x ≡ some w) (sym e) (set_here vs id w (in_range vs id v at)), sits p (subst (λ (u : View). Sits u p) (some-injective was.0 v (sym was.1 ∙ subst (λ (x : ℕ). get_elem? vs x ≡ some v) (sym e) at)) was.2), was.3))
+        (λ e. (
+          w,
+          subst (λ (x : ℕ). get_elem? (set vs id w) x ≡ some w) (sym e) (set_here vs id w (in_range vs id v at)),
+          sits p (subst (λ (u : View). Sits u p) (some-injective was.0 v (sym was.1 ∙ subst (λ (x : ℕ). get_elem? vs x ≡ some v) (sym e) at)) was.2),
+          was.3,
+        ))
         (λ n. (was.0, set_else vs id (shown.seat_of q) w n ∙ was.1, was.2, was.3));
     alone = λ j p u there sat_there. ⊎_elim
         (λ (t : (j ≡ id) × (w ≡ u)). let was = shown.alone id p v at (sat p (subst (λ (x : View). Sits x p) (sym t.1) sat_there)) in (was.0, was.1, t.0 ∙ was.2, was.3))
@@ -153,7 +150,8 @@ module _ {B : Type 0} (fits : B → ℕ → Bool) (s : Shape) (o : Ownership) (w
         (at_set vs id j w u there);
     small = shown.small;
     log = shown.log ++ e ∷ [];
-    history = more_history s o o' vs shown.log id v w e shown.history done (done_after s.records o o' e by.inside (subst IsHolder (sym by.to) good) done) (length-set o r k) (shown.alone id (process_of e) v at mine).0 at by.alone change.processes by.done elsewhere;
+    history = more_history s o o' vs shown.log id v w e shown.history done (done_after s.records o o' e by.inside (subst IsHolder (sym by.to) good) done) (length-set o r k)
+        (shown.alone id (process_of e) v at mine).0 at by.alone change.processes by.done elsewhere;
   }
 
 pub among_without : (r : ℕ) (xs : List (ℕ × ℕ)) (x : ℕ × ℕ) → Among (without r xs) x → Among xs x × (x.0 ≢ r)
@@ -162,7 +160,8 @@ among_without r (y ∷ ys) x = dite (ℕ_discrete y.0 r)
     (λ e. subst (λ (b : Bool). Among (cond b (without r ys) (y ∷ without r ys)) x → Among (y ∷ ys) x × (x.0 ≢ r)) (sym (eq-eqb y.0 r e))
     (λ (h : Among (without r ys) x). let t = among_without r ys x h in (inr t.0, t.1)))
     (λ n. subst (λ (b : Bool). Among (cond b (without r ys) (y ∷ without r ys)) x → Among (y ∷ ys) x × (x.0 ≢ r)) (sym (ne_eqb y.0 r n))
-    (λ (h : Among (y ∷ without r ys) x). ⊎_elim (λ (e : x ≡ y). (inl e, λ (q : x.0 ≡ r). n (ap (λ (z : ℕ × ℕ). z.0) (sym e) ∙ q))) (λ (u : Among (without r ys) x). let t = among_without r ys x u in (inr t.0, t.1)) h))
+    (λ (h : Among (y ∷ without r ys) x). ⊎_elim (λ (e : x ≡ y). (inl e, λ (q : x.0 ≡ r). n (ap (λ (z : ℕ × ℕ). z.0) (sym e) ∙ q)))
+    (λ (u : Among (without r ys) x). let t = among_without r ys x u in (inr t.0, t.1)) h))
 
 pub among_kept : (r : ℕ) (xs : List (ℕ × ℕ)) (x : ℕ × ℕ) → x.0 ≢ r → Among xs x → Among (without r xs) x
 among_kept r [] x n h = absurd h
@@ -171,26 +170,6 @@ among_kept r (y ∷ ys) x other h = dite (ℕ_discrete y.0 r)
     (⊎_elim (λ (q : x ≡ y). absurd (other (ap (λ (z : ℕ × ℕ). z.0) q ∙ e))) (λ (u : Among ys x). among_kept r ys x other u) h))
     (λ n. subst (λ (b : Bool). Among (cond b (without r ys) (y ∷ without r ys)) x) (sym (ne_eqb y.0 r n))
     (⊎_elim (λ (q : x ≡ y). inl q) (λ (u : Among ys x). inr (among_kept r ys x other u)) h))
-
-pub nth_is : (l : List ℕ) (i d a : ℕ) → get_elem? l i ≡ some a → get_or l i d ≡ a
-nth_is [] i d a e = absurd (some-ne-none a (sym e))
-nth_is (x ∷ xs) zero d a e = some-injective x a e
-nth_is (x ∷ xs) (suc i) d a e = nth_is xs i d a e
-
--- one of two, by a test
-next_of : {X : Type 0} → Dec X → ℕ → ℕ → ℕ
-next_of (yes h) a b = a
-next_of (no n) a b = b
-
-next_yes : {X : Type 0} (d : Dec X) (a b : ℕ) → X → next_of d a b ≡ a
-unfolding next_of
-next_yes (yes h) a b x = refl
-next_yes (no n) a b x = absurd (n x)
-
-next_no : {X : Type 0} (d : Dec X) (a b : ℕ) → (X → ⊥) → next_of d a b ≡ b
-unfolding next_of
-next_no (yes h) a b x = absurd (x h)
-next_no (no n) a b x = refl
 
 pub same_place : (p q : ℕ) → word_of (Some (Process p)) ≡ word_of (Some (Process q)) → p ≡ q
 same_place p q e = omega arith
@@ -203,12 +182,12 @@ module _ {B : Type 0} (fits : B → ℕ → Bool) (s : Shape) where
   M = Me S View
 
   -- the record at r, in a table that meets the rule
-  record At (t : State S View) (o : Ownership) (r : ℕ) : Type 0 where
-    holder : Option Holder
-    held : IsHeldBy o r holder
-    word_at : get_elem? t.words r ≡ some (word_of holder)
+  pub record At (t : State S View) (o : Ownership) (r : ℕ) : Type 0 where
+    pub holder : Option Holder
+    pub held : IsHeldBy o r holder
+    pub word_at : get_elem? t.words r ≡ some (word_of holder)
 
-  at : (t : State S View) (o : Ownership) (r slots : ℕ) → Shows fits s o t.words t.homes t.views → length t.homes ≡ slots → r < slots → At t o r
+  pub at : (t : State S View) (o : Ownership) (r slots : ℕ) → Shows fits s o t.words t.homes t.views → length t.homes ≡ slots → r < slots → At t o r
   at t o r slots shown long inside = let there = is_there o r (let e = shown.homes_long in omega arith) in record {
     holder = there.0;
     held = there.1;
@@ -217,7 +196,11 @@ module _ {B : Type 0} (fits : B → ℕ → Bool) (s : Shape) where
 
   -- a step that leaves all as it was
   stays : (t : State S View) (id : ℕ) (me : M) (r : ℕ) (n : ℕ) → Shown fits s t → get_elem? t.views id ≡ some me.0 → get_elem? t.words r ≡ some n → Shown fits s (stepped t r n id me.1 me.0 keeps)
-  stays t id me r n holds here word = (holds.0, subst (λ (z : List ℕ × List View). Shows fits s holds.0 z.0 t.homes z.1) (λ i. (sym (set_again t.words r n word) i, sym (set_again t.views id me.0 here) i)) holds.1)
+  stays t id me r n holds here word = (
+    holds.0,
+    subst (λ (z : List ℕ × List View). Shows fits s holds.0 z.0 t.homes z.1)
+        (λ i. (sym (set_again t.words r n word) i, sym (set_again t.views id me.0 here) i)) holds.1,
+  )
 
   -- what a seat knows of the word of a record
   knows_word : (o : Ownership) (v : View) (r n : ℕ) (h : Option Holder) → ViewFits s o v → IsHeldBy o r h → IsHolder h → n ≡ word_of h → Knows v r n
@@ -232,28 +215,63 @@ module _ {B : Type 0} (fits : B → ℕ → Bool) (s : Shape) where
   not_process : Option Holder → Type 0
   not_process h = (p : ℕ) → h ≡ Some (Process p) → ⊥
 
-  pub takes_change : (o : Ownership) (v : View) (r p : ℕ) (h : Option Holder) → ViewFits s o v → IsHeldBy o r h → ((q : ℕ) → h ≡ Some (Process q) → ⊥) → v.processes ≡ p ∷ [] → Change v (gained v r p h) r h (Some (Process p))
-  takes_change o v r p h fit held free mine = let sits_p : Sits v p = subst (λ (l : List ℕ). Among l p) (sym mine) (inl refl) in let turn = λ (q : ℕ) (e : Some (Process p) ≡ Some (Process q)). same_place p q (ap word_of e) in record {
-    processes = refl;
-    shape = refl;
-    was_mine = λ q e. absurd (free q e);
-    is_mine = λ q e. subst (λ (x : ℕ). Sits v x) (turn q e) sits_p;
-    no_more = λ r' q n owns. ⊎_elim (λ (a : Owns v r' q). a) (λ (b : Among ((r, p) ∷ []) (r', q)). ⊎_elim (λ (e : (r', q) ≡ (r, p)). absurd (n (ap (λ (z : ℕ × ℕ). z.0) e))) (λ (z : ⊥). absurd z) b) (among_either v.records ((r, p) ∷ []) (r', q) owns);
-    no_less = λ r' q n owns. among_front v.records ((r, p) ∷ []) (r', q) owns;
-    right = λ q owns. ⊎_elim (λ (a : Owns v r q). absurd (free q (one_holder o r h (Some (Process q)) held (fit.is_owner r q a).0))) (λ (b : Among ((r, p) ∷ []) (r, q)). ⊎_elim (λ (e : (r, q) ≡ (r, p)). ap (λ (z : ℕ × ℕ). Some (Process z.1)) (sym e)) (λ (z : ⊥). absurd z) b) (among_either v.records ((r, p) ∷ []) (r, q) owns);
-    left = λ q e. among_back v.records ((r, p) ∷ []) (r, q) (inl (ap (λ (x : ℕ). (r, x)) (sym (turn q e))));
-  }
+  pub takes_change : (o : Ownership) (v : View) (r p : ℕ) (h : Option Holder) → ViewFits s o v → IsHeldBy o r h → ((q : ℕ) → h ≡ Some (Process q) → ⊥) → v.processes ≡ p ∷ []
+      → Change v (gained v r p h) r h (Some (Process p))
+  takes_change o v r p h fit held free mine = let sits_p : Sits v p = subst (λ (l : List ℕ). Among l p) (sym mine) (inl refl) in
+      let turn = λ (q : ℕ) (e : Some (Process p) ≡ Some (Process q)). same_place p q (ap word_of e) in record {
+        processes = refl;
+        shape = refl;
+        was_mine = λ q e. absurd (free q e);
+        is_mine = λ q e. subst (λ (x : ℕ). Sits v x) (turn q e) sits_p;
+        no_more = λ r' q n owns. ⊎_elim (λ (a : Owns v r' q). a) (λ (b : Among ((r, p) ∷ []) (r', q)). ⊎_elim (λ (e : (r', q) ≡ (r, p)). absurd (n (ap (λ (z : ℕ × ℕ). z.0) e)))
+            (λ (z : ⊥). absurd z) b) (among_either v.records ((r, p) ∷ []) (r', q) owns);
+        no_less = λ r' q n owns. among_front v.records ((r, p) ∷ []) (r', q) owns;
+        right = λ q owns. ⊎_elim (λ (a : Owns v r q). absurd (free q (one_holder o r h (Some (Process q)) held (fit.is_owner r q a).0)))
+            (λ (b : Among ((r, p) ∷ []) (r, q)). ⊎_elim (λ (e : (r, q) ≡ (r, p)). ap (λ (z : ℕ × ℕ). Some (Process z.1)) (sym e)) (λ (z : ⊥). absurd z) b)
+            (among_either v.records ((r, p) ∷ []) (r, q) owns);
+        left = λ q e. among_back v.records ((r, p) ∷ []) (r, q) (inl (ap (λ (x : ℕ). (r, x)) (sym (turn q e))));
+      }
 
   -- the event of a step that takes, or gives
-  pub takes_by : (v : View) (r p : ℕ) (h : Option Holder) → ((q : ℕ) → h ≡ Some (Process q) → ⊥) → IsSmall s → v.shape ≡ s → IsAlone v p → By s v (gained v r p h) r h (Some (Process p)) (taking p (number_of s.records r) h)
-  takes_by v r p None away small same alone = record { inside = number_inside s.records r small.0 small.1; index = index_back s.records r small.0 small.1; from = refl; to = refl; alone = alone; done = ap (λ (z : Shape). adds (taking p (number_of z.records r) None) v.done) same }
+  pub takes_by : (v : View) (r p : ℕ) (h : Option Holder) → ((q : ℕ) → h ≡ Some (Process q) → ⊥) → IsSmall s → v.shape ≡ s → IsAlone v p
+      → By s v (gained v r p h) r h (Some (Process p)) (taking p (number_of s.records r) h)
+  takes_by v r p None away small same alone = record {
+    inside = number_inside s.records r small.0 small.1;
+    index = index_back s.records r small.0 small.1;
+    from = refl;
+    to = refl;
+    alone = alone;
+    done = ap (λ (z : Shape). adds (taking p (number_of z.records r) None) v.done) same;
+  }
   takes_by v r p (Some (Process q)) away small same alone = absurd (away q refl)
-  takes_by v r p (Some (Direction d)) away small same alone = record { inside = number_inside s.records r small.0 small.1; index = index_back s.records r small.0 small.1; from = refl; to = refl; alone = alone; done = ap (λ (z : Shape). adds (taking p (number_of z.records r) (Some (Direction d))) v.done) same }
+  takes_by v r p (Some (Direction d)) away small same alone = record {
+    inside = number_inside s.records r small.0 small.1;
+    index = index_back s.records r small.0 small.1;
+    from = refl;
+    to = refl;
+    alone = alone;
+    done = ap (λ (z : Shape). adds (taking p (number_of z.records r) (Some (Direction d))) v.done) same;
+  }
 
-  pub gives_by : (v : View) (r p : ℕ) (k : Option Holder) → ((q : ℕ) → k ≡ Some (Process q) → ⊥) → IsSmall s → v.shape ≡ s → IsAlone v p → By s v (lost v r p k) r (Some (Process p)) k (giving p (number_of s.records r) k)
-  gives_by v r p None away small same alone = record { inside = number_inside s.records r small.0 small.1; index = index_back s.records r small.0 small.1; from = refl; to = refl; alone = alone; done = ap (λ (z : Shape). adds (giving p (number_of z.records r) None) v.done) same }
+  pub gives_by : (v : View) (r p : ℕ) (k : Option Holder) → ((q : ℕ) → k ≡ Some (Process q) → ⊥) → IsSmall s → v.shape ≡ s → IsAlone v p
+      → By s v (lost v r p k) r (Some (Process p)) k (giving p (number_of s.records r) k)
+  gives_by v r p None away small same alone = record {
+    inside = number_inside s.records r small.0 small.1;
+    index = index_back s.records r small.0 small.1;
+    from = refl;
+    to = refl;
+    alone = alone;
+    done = ap (λ (z : Shape). adds (giving p (number_of z.records r) None) v.done) same;
+  }
   gives_by v r p (Some (Process q)) away small same alone = absurd (away q refl)
-  gives_by v r p (Some (Direction d)) away small same alone = record { inside = number_inside s.records r small.0 small.1; index = index_back s.records r small.0 small.1; from = refl; to = refl; alone = alone; done = ap (λ (z : Shape). adds (giving p (number_of z.records r) (Some (Direction d))) v.done) same }
+  gives_by v r p (Some (Direction d)) away small same alone = record {
+    inside = number_inside s.records r small.0 small.1;
+    index = index_back s.records r small.0 small.1;
+    from = refl;
+    to = refl;
+    alone = alone;
+    done = ap (λ (z : Shape). adds (giving p (number_of z.records r) (Some (Direction d))) v.done) same;
+  }
 
   -- what is at home, where no process holds the record
   pub home_is : (r : ℕ) (h : Option Holder) (l : LotOf B) → IsLotAt s r l → IsHomeLot fits h l → HomeFits fits s r h (some (Some l))
@@ -271,18 +289,32 @@ module _ {B : Type 0} (fits : B → ℕ → Bool) (s : Shape) where
       → Allows (Shown fits s) slots id me r (λ n. either (eqb n old) new n) (took fits (step slots r old new said) me)
   takes_lot slots id me r old new p h said is_old is_new free inside alone t holds long seen small =
       let mine : me.0.processes ≡ p ∷ [] = alone.0 in
-      let o = holds.0 in let shown = holds.1 in let a : At t o r = at t o r slots shown long inside in let n : ℕ = get_or t.words r 0 in let found : n ≡ word_of a.holder = nth_is t.words r 0 (word_of a.holder) a.word_at in
+      let o = holds.0 in let shown = holds.1 in let a : At t o r = at t o r slots shown long inside in let n : ℕ = get_or t.words r 0 in
+      let found : n ≡ word_of a.holder = nth_is t.words r 0 (word_of a.holder) a.word_at in
       let placed : process_in me.0 ≡ p = ap (λ (l : List ℕ). get_or l 0 0) mine in
       let sits : Sits me.0 p = subst (λ (k : List ℕ). Among k p) (sym mine) (inl refl) in
       let good : p < 4096 = (shown.alone id p me.0 seen sits).3 in dite (ℕ_discrete n old)
-      (λ hit. let same : a.holder ≡ h = word_injective a.holder h (sym found ∙ hit ∙ is_old) in let held : IsHeldBy o r h = subst (IsHeldBy o r) same a.held in let fit = shown.views_fit id me.0 seen in let x = shown.homes_are r h held in let l = home_lot r h x.0 free x.2 in let w : View = gained me.0 r p h in let act : Act S = takes r (Some l.0) in (
+      (λ hit. let same : a.holder ≡ h = word_injective a.holder h (sym found ∙ hit ∙ is_old) in let held : IsHeldBy o r h = subst (IsHeldBy o r) same a.held in
+      let fit = shown.views_fit id me.0 seen in let x = shown.homes_are r h held in let l = home_lot r h x.0 free x.2 in let w : View = gained me.0 r p h in
+      let act : Act S = takes r (Some l.0) in (
         w,
         act,
         x.1 ∙ ap some l.1,
-        subst (λ (m : ℕ). Shown fits s (stepped t r m id me.1 w act)) (sym (subst (λ (b : Bool). either b new n ≡ word_of (Some (Process p))) (sym (eq-eqb n old hit)) is_new))
-            (set o r (Some (Process p)), moved fits s o t.words t.homes t.views shown id r me.0 w h (Some (Process p)) seen held (takes_change o me.0 r p h fit held free mine) (taking p (number_of s.records r) h) (takes_by me.0 r p h free shown.small (fit.knows p sits) alone) none good refl),
+        subst (λ (m : ℕ). Shown fits s (stepped t r m id me.1 w act)) (sym (subst (λ (b : Bool). either b new n ≡ word_of (Some (Process p))) (sym (eq-eqb n old hit)) is_new)) (
+          set o r (Some (Process p)),
+          moved fits s o t.words t.homes t.views shown id r me.0 w h (Some (Process p)) seen held (takes_change o me.0 r p h fit held free mine)
+              (taking p (number_of s.records r) h) (takes_by me.0 r p h free shown.small (fit.knows p sits) alone) none good refl,
+        ),
         (
-          (λ _. (l.0, (λ k e. let is : h ≡ k = word_injective h k (sym is_old ∙ e) in ((λ i. (gained me.0 r (sym placed i) (is i), (r, Some l.0) ∷ me.1)), subst (λ (z : Option Holder). IsHomeLot fits z l.0) is l.3)), subst (λ (z : Shape). IsLotAt z r l.0) (sym (fit.knows p sits)) l.2, λ q owns. free q (one_holder o r h (Some (Process q)) held (fit.is_owner r q owns).0))),
+          (λ _. (
+            l.0,
+            (λ k e. let is : h ≡ k = word_injective h k (sym is_old ∙ e) in (
+              (λ i. (gained me.0 r (sym placed i) (is i), (r, Some l.0) ∷ me.1)),
+              subst (λ (z : Option Holder). IsHomeLot fits z l.0) is l.3,
+            )),
+            subst (λ (z : Shape). IsLotAt z r l.0) (sym (fit.knows p sits)) l.2,
+            λ q owns. free q (one_holder o r h (Some (Process q)) held (fit.is_owner r q owns).0),
+          )),
           (λ miss. absurd (miss hit)),
         ),
       ))
@@ -307,17 +339,21 @@ module _ {B : Type 0} (fits : B → ℕ → Bool) (s : Shape) where
   }
 
   -- a store that gives
-  pub gives_lot : (slots id : ℕ) (me : M) (r new p : ℕ) (k : Option Holder) (lot : LotOf B) (rest_of : List (ℕ × S)) → new ≡ word_of k → IsAway k → IsHolder k → me.1 ≡ (r, Some lot) ∷ rest_of → IsAlone me.0 p → Owns me.0 r p → IsLotAt me.0.shape r lot → IsHomeLot fits k lot
+  pub gives_lot : (slots id : ℕ) (me : M) (r new p : ℕ) (k : Option Holder) (lot : LotOf B) (rest_of : List (ℕ × S)) → new ≡ word_of k → IsAway k → IsHolder k → me.1 ≡ (r, Some lot) ∷ rest_of
+      → IsAlone me.0 p → Owns me.0 r p → IsLotAt me.0.shape r lot → IsHomeLot fits k lot
       → Allows (Shown fits s) slots id me r (λ _. new) (λ _. gave (step slots r new 0 none) me new)
   gives_lot slots id me r new p k lot rest_of is_new free good front alone owns is_lot home t holds long seen small =
-      let o = holds.0 in let shown = holds.1 in let fit = shown.views_fit id me.0 seen in let was = fit.is_owner r p owns in let w : View = lost me.0 r p k in let placed : process_in me.0 ≡ p = ap (λ (l : List ℕ). get_or l 0 0) alone.0 in let y : maybe.Option S = some (Some lot) in (
+      let o = holds.0 in let shown = holds.1 in let fit = shown.views_fit id me.0 seen in let was = fit.is_owner r p owns in let w : View = lost me.0 r p k in
+      let placed : process_in me.0 ≡ p = ap (λ (l : List ℕ). get_or l 0 0) alone.0 in let y : maybe.Option S = some (Some lot) in (
         w,
         gives,
         tt,
         (
           set o r k,
-          subst (λ (z : ℕ × List (maybe.Option S)). Shows fits s (set o r k) (set t.words r z.0) z.1 (set t.views id w)) (λ i. (sym is_new i, ap (λ (c : List (ℕ × S)). put_back t.homes c) (sym front) i))
-              (moved fits s o t.words t.homes t.views shown id r me.0 w (Some (Process p)) k seen was.0 (gives_change o me.0 r p k fit owns free) (giving p (number_of s.records r) k) (gives_by me.0 r p k free shown.small (fit.knows p was.1) alone) y good (home_is r k lot (subst (λ (z : Shape). IsLotAt z r lot) (fit.knows p was.1) is_lot) home)),
+          subst (λ (z : ℕ × List (maybe.Option S)). Shows fits s (set o r k) (set t.words r z.0) z.1 (set t.views id w))
+              (λ i. (sym is_new i, ap (λ (c : List (ℕ × S)). put_back t.homes c) (sym front) i))
+              (moved fits s o t.words t.homes t.views shown id r me.0 w (Some (Process p)) k seen was.0 (gives_change o me.0 r p k fit owns free) (giving p (number_of s.records r) k)
+              (gives_by me.0 r p k free shown.small (fit.knows p was.1) alone) y good (home_is r k lot (subst (λ (z : Shape). IsLotAt z r lot) (fit.knows p was.1) is_lot) home)),
         ),
         (λ j e. let is : k ≡ j = word_injective k j (sym is_new ∙ e) in (λ i. (lost me.0 r (sym placed i) (is i), rest me.1))),
       )
@@ -326,80 +362,10 @@ module _ {B : Type 0} (fits : B → ℕ → Bool) (s : Shape) where
   pub looks : (slots id : ℕ) (me : M) (r : ℕ) → r < slots → Allows (Shown fits s) slots id me r (λ n. n) (looked (step slots r 0 0 none) me)
   looks slots id me r inside t holds long seen small =
       let a : At t holds.0 r = at t holds.0 r slots holds.1 long inside in
-      let found : get_or t.words r 0 ≡ word_of a.holder = nth_is t.words r 0 (word_of a.holder) a.word_at in
-      (me.0, keeps, tt, stays t id me r (get_or t.words r 0) holds seen (a.word_at ∙ ap some (sym found)), (refl, knows_word holds.0 me.0 r (get_or t.words r 0) a.holder (holds.1.views_fit id me.0 seen) a.held (holds.1.holders r a.holder a.held) found))
-
-  -- a place of the next generation, where its process holds no record
-  pub renews : (o : Ownership) (ws : List ℕ) (hs : List (maybe.Option S)) (vs : List View) (id p : ℕ) (v : View) → Shows fits s o ws hs vs → get_elem? vs id ≡ some v → v.processes ≡ p ∷ [] → v.records ≡ [] → p + 32 < 4096 → Shows fits s o ws hs (set vs id (renewed v))
-  renews o ws hs vs id p v shown here mine bare small =
-      let w : View = renewed v in
-      let q : ℕ = place_of p in
-      let now : ℕ → ℕ = λ x. next_of (ℕ_discrete x q) (p + 32) (shown.process_at x) in
-      let sits : Sits v p = subst (λ (k : List ℕ). Among k p) (sym mine) (inl refl) in
-      let was = shown.alone id p v here sits in
-      let mine_now : w.processes ≡ (p + 32) ∷ [] = ap (map (λ (x : ℕ). x + 32)) mine in
-      let sits_now : Sits w (p + 32) = subst (λ (k : List ℕ). Among k (p + 32)) (sym mine_now) (inl refl) in
-      let only_now : (x : ℕ) → Sits w x → x ≡ p + 32 = λ x there. ⊎_elim (λ (e : x ≡ p + 32). e) (λ (z : ⊥). absurd z) (subst (λ (k : List ℕ). Among k x) mine_now there) in
-      let none_held : (k x : ℕ) → IsHeldBy o k (Some (Process x)) → place_of x ≡ q → ⊥ = λ k x is e.
-      let at = shown.placed k x is in
-      let same : x ≡ p = at.1 ∙ ap shown.process_at e ∙ sym was.1 in
-      subst (λ (l : List (ℕ × ℕ)). Among l (k, x)) bare ((shown.views_fit id v here).owns_all k x is (subst (Sits v) (sym same) sits)) in
-      let other : (j x : ℕ) (u : View) → j ≢ id → get_elem? vs j ≡ some u → Sits u x → place_of x ≢ q = λ j x u apart there sat e. apart ((shown.alone j x u there sat).2 ∙ ap shown.seat_of e ∙ sym was.2) in record {
-        words_are = shown.words_are;
-        holders = shown.holders;
-        homes_long = shown.homes_long;
-        homes_are = shown.homes_are;
-        process_at = now;
-        seat_of = shown.seat_of;
-        placed = λ k x is. let at = shown.placed k x is in (at.0, at.1 ∙ sym (next_no (ℕ_discrete (place_of x) q) (p + 32) (shown.process_at (place_of x)) (none_held k x is)));
-        seated = λ x lt. let at = shown.seated x lt in dite (ℕ_discrete x q)
-            (λ e. let is : now x ≡ p + 32 = next_yes (ℕ_discrete x q) (p + 32) (shown.process_at x) e in
-            let seat : shown.seat_of x ≡ id = ap shown.seat_of e ∙ sym was.2 in
-            let turn : place_of (p + 32) ≡ place_of p = omega arith in
-            (w, subst (λ (j : ℕ). get_elem? (set vs id w) j ≡ some w) (sym seat) (set_here vs id w (in_range vs id v here)), subst (Sits w) (sym is) sits_now, ap place_of is ∙ turn ∙ sym e))
-            (λ n. let is : now x ≡ shown.process_at x = next_no (ℕ_discrete x q) (p + 32) (shown.process_at x) n in
-            let apart : shown.seat_of x ≢ id = λ e.
-            let same : at.0 ≡ v = some-injective at.0 v (sym at.1 ∙ subst (λ (j : ℕ). get_elem? vs j ≡ some v) (sym e) here) in
-            let there : Sits v (shown.process_at x) = subst (λ (u : View). Sits u (shown.process_at x)) same at.2 in
-            let one : shown.process_at x ≡ p = ⊎_elim (λ (z : shown.process_at x ≡ p). z) (λ (z : ⊥). absurd z) (subst (λ (k : List ℕ). Among k (shown.process_at x)) mine there) in
-            n (sym at.3 ∙ ap place_of one) in
-            (at.0, set_else vs id (shown.seat_of x) w apart ∙ at.1, subst (Sits at.0) (sym is) at.2, ap place_of is ∙ at.3));
-        alone = λ j x u there sat. ⊎_elim
-            (λ (t : (j ≡ id) × (w ≡ u)). let e = only_now x (subst (λ (z : View). Sits z x) (sym t.1) sat) in let turn : place_of x ≡ q = omega arith in
-            (subst (λ (z : ℕ). z < s.places) (sym turn) was.0, e ∙ sym (next_yes (ℕ_discrete (place_of x) q) (p + 32) (shown.process_at (place_of x)) turn), t.0 ∙ was.2 ∙ ap shown.seat_of (sym turn), subst (λ (z : ℕ). z < 4096) (sym e) small))
-            (λ (t : (j ≢ id) × (get_elem? vs j ≡ some u)). let at = shown.alone j x u t.1 sat in
-            (at.0, at.1 ∙ sym (next_no (ℕ_discrete (place_of x) q) (p + 32) (shown.process_at (place_of x)) (other j x u t.0 t.1 sat)), at.2, at.3))
-            (at_set vs id j w u there);
-        views_fit = λ j u there. ⊎_elim
-            (λ (t : (j ≡ id) × (w ≡ u)). subst (ViewFits s o) t.1 record {
-              is_owner = λ k x owns. absurd (subst (λ (l : List (ℕ × ℕ)). Among l (k, x)) bare owns);
-              owns_all = λ k x is sat. let e = only_now x sat in let turn : place_of x ≡ q = omega arith in absurd (none_held k x is turn);
-              knows = λ x sat. (shown.views_fit id v here).knows p sits;
-              places = subst (λ (l : List ℕ). Distinct (map place_of l)) (sym mine_now) ((λ z. z), tt);
-            })
-            (λ (t : (j ≢ id) × (get_elem? vs j ≡ some u)). shown.views_fit j u t.1)
-            (at_set vs id j w u there);
-        small = shown.small;
-        log = shown.log;
-        history = record {
-          leads = shown.history.leads;
-          theirs = shown.history.theirs;
-          tells = λ j u there. ⊎_elim
-              (λ (t : (j ≡ id) × (w ≡ u)). subst (ViewTells shown.log) t.1 (let old = shown.history.tells id v here in let turn : place_of p ≡ place_of (p + 32) = omega arith in record {
-                has = λ x sat. let e = only_now x sat in subst (λ (z : ℕ). Among v.done (z, by_place z shown.log)) (turn ∙ ap place_of (sym e)) (old.has p sits);
-                only = λ y es among. let one = old.only y es among in
-                    let e : one.0 ≡ p = ⊎_elim (λ (z : one.0 ≡ p). z) (λ (z : ⊥). absurd z) (subst (λ (k : List ℕ). Among k one.0) mine one.1) in
-                    (p + 32, sits_now, one.2 ∙ ap place_of e ∙ turn, one.3);
-              }))
-              (λ (t : (j ≢ id) × (get_elem? vs j ≡ some u)). shown.history.tells j u t.1)
-              (at_set vs id j w u there);
-        };
-      }
-
-  -- a load, by a seat whose place has its next generation
-  pub ages : (slots id : ℕ) (me : M) (p : ℕ) → 0 < slots → me.0.processes ≡ p ∷ [] → me.0.records ≡ [] → p + 32 < 4096 → Allows (Shown fits s) slots id me 0 (λ n. n) (aged (step slots 0 0 0 none) me)
-  ages slots id me p some_slot mine bare small t holds long seen fit =
-      let a : At t holds.0 0 = at t holds.0 0 slots holds.1 long some_slot in
-      let n : ℕ = get_or t.words 0 0 in
-      let found : get_elem? t.words 0 ≡ some n = a.word_at ∙ ap some (sym (nth_is t.words 0 0 (word_of a.holder) a.word_at)) in
-      (renewed me.0, keeps, tt, (holds.0, subst (λ (l : List ℕ). Shows fits s holds.0 l t.homes (set t.views id (renewed me.0))) (sym (set_again t.words 0 n found)) (renews holds.0 t.words t.homes t.views id p me.0 holds.1 seen mine bare small)), refl)
+      let found : get_or t.words r 0 ≡ word_of a.holder = nth_is t.words r 0 (word_of a.holder) a.word_at in (
+        me.0,
+        keeps,
+        tt,
+        stays t id me r (get_or t.words r 0) holds seen (a.word_at ∙ ap some (sym found)),
+        (refl, knows_word holds.0 me.0 r (get_or t.words r 0) a.holder (holds.1.views_fit id me.0 seen) a.held (holds.1.holders r a.holder a.held) found),
+      )

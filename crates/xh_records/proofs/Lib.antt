@@ -1,9 +1,12 @@
 pub mod History
 pub mod After
+pub mod Elements
 pub mod Keeps
+pub mod Ages
 pub mod Lists
 pub mod Distinct
 pub mod Cuts
+pub mod Opening
 pub mod Seating
 pub mod Numbered
 pub mod Lent

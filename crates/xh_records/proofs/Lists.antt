@@ -1,18 +1,56 @@
 -- Lists of numbers, and lists with keys.
-use Rattle.std.proofs.Common.{◌≡◌, ℕ, zero, suc, ◌+◌, ◌<◌, ◌≤◌, ◌≢◌, Bool, true, false, List, [], ◌∷◌, ◌++◌, length, set, get_or, eqb, append_assoc, append-nil, get_or-set_same, get_or-set_other, sym, refl, ap, ◌∙◌, subst, ◌⊎◌, inl, inr, ⊎_elim, arith, ne_eqb, cond, ◌||◌}
-use Rattle.std.specs.Prelude.{Option, Some, None, slice_get}
+use Rattle.std.proofs.Common.{
+  ◌≡◌,
+  ℕ,
+  zero,
+  suc,
+  ◌+◌,
+  ◌<◌,
+  ◌≤◌,
+  ◌≢◌,
+  Bool,
+  true,
+  false,
+  List,
+  [],
+  ◌∷◌,
+  ◌++◌,
+  length,
+  set,
+  get_or,
+  eqb,
+  append_assoc,
+  append-nil,
+  get_or-set_same,
+  get_or-set_other,
+  sym,
+  refl,
+  ap,
+  ◌∙◌,
+  subst,
+  ◌⊎◌,
+  inl,
+  inr,
+  ⊎_elim,
+  arith,
+  ne_eqb,
+  cond,
+  ◌||◌,
+}
+use Rattle.std.specs.Prelude.{Option, Some, None}
 use Rattle.std.specs.List.{remove, IsDistinct, AllByRecursion, list_any}
 use Rattle.std.proofs.lemmas.Map.Steps.{length-le_from_distinct_below}
-use mathlib.Core.Option.{some, some-injective, some-ne-none}
+use mathlib.Core.Option.{some}
 use mathlib.Core.Logic.{dite}
 use native.Mathlib.Decide.{ℕ_discrete}
 use lib.ListN.{get_elem?}
 use Rattle.atomic_table.proofs.Lists.{at_index}
 use Rattle.xh_model.specs.Keyed.{Among, Distinct, keys, put, without}
 use Rattle.xh_model.proofs.Keyed.{distinct_split, here_first, keys_append, length-keys, not_here, put_here, put_split, put_there, split_at_key, without_split}
-use Rattle.xh_records.specs.Slots.{slot_at, or_else}
-use Rattle.xh_records.specs.Seats.{owned_by, AllBelow, turns, in_slot}
-use Rattle.xh_records.proofs.Keeps.{nth_is}
+use Rattle.xh_records.specs.Seats.{owned_by}
+use Rattle.xh_records.specs.inner.Hands.{AllBelow, turns, in_slot}
+use Rattle.xh_records.specs.inner.Gathering.{slot_at, or_else}
+use Rattle.xh_records.proofs.Elements.{nth_is}
 
 pub apart_all : (xs : List ℕ) (x : ℕ) → (Among xs x → ⊥) → AllByRecursion (λ y. eqb x y ≡ false) xs
 apart_all [] x n = tt
@@ -59,7 +97,8 @@ below_split n (y ∷ ys) i b h = (h.0, below_split n ys i b h.1)
 
 pub owned_without : (p i : ℕ) (a b : List ℕ) → (Among a i → ⊥) → (Among b i → ⊥) → without i (owned_by p (a ++ i ∷ b)) ≡ owned_by p (a ++ b)
 owned_without p i [] [] n m = here_first i i _ _ refl
-owned_without p i [] (y ∷ ys) n m = here_first i i _ _ refl ∙ (not_here y i _ _ (λ e. m (inl (sym e))) ∙ ap (λ (l : List (ℕ × ℕ)). (y, p) ∷ l) (sym (here_first i i _ _ refl) ∙ owned_without p i [] ys n (λ h. m (inr h))))
+owned_without p i [] (y ∷ ys) n m = here_first i i _ _ refl ∙ (not_here y i _ _ (λ e. m (inl (sym e)))
+    ∙ ap (λ (l : List (ℕ × ℕ)). (y, p) ∷ l) (sym (here_first i i _ _ refl) ∙ owned_without p i [] ys n (λ h. m (inr h))))
 owned_without p i (y ∷ ys) b n m = not_here y i _ _ (λ e. n (inl (sym e))) ∙ ap (λ (l : List (ℕ × ℕ)). (y, p) ∷ l) (owned_without p i ys b (λ h. n (inr h)) m)
 
 pub remove_split : (a : List ℕ) (i : ℕ) (b : List ℕ) → remove (a ++ i ∷ b) (length a) ≡ a ++ b
@@ -84,7 +123,8 @@ pub first_is : {X : Type 0} (i : ℕ) (x y : X) (l xs ys : List (ℕ × X)) → 
 first_is i x y l xs ys p q = let e : (i, x) ∷ xs ≡ (i, y) ∷ ys = sym p ∙ q in let f : (i, x) ≡ (i, y) = cc in ap (λ (z : ℕ × _). z.1) f
 
 -- a seat's slots, taken out one by one
-pub next_slot : {X : Type 0} (front back : List (ℕ × X)) (slot : ℕ) → length front < length (keys (front ++ back)) → slot ≡ get_or (keys (front ++ back)) (length front) 0 → (x : X) × (more : List (ℕ × X)) × (back ≡ (slot, x) ∷ more)
+pub next_slot : {X : Type 0} (front back : List (ℕ × X)) (slot : ℕ) → length front < length (keys (front ++ back)) → slot ≡ get_or (keys (front ++ back)) (length front) 0
+    → (x : X) × (more : List (ℕ × X)) × (back ≡ (slot, x) ∷ more)
 next_slot [] [] slot h e = absurd (omega arith)
 next_slot [] (y ∷ ys) slot h e = (y.1, ys, ap (λ (n : ℕ). (n, y.1) ∷ ys) (sym e))
 next_slot (z ∷ zs) back slot h e = next_slot zs back slot (omega arith) e
@@ -93,11 +133,14 @@ pub slot_front : {L : Type 0} (r slot : ℕ) (x : Option L) (front : List (ℕ �
 slot_front r slot x [] n = not_here slot r _ _ (λ e. n (sym e))
 slot_front r slot x (y ∷ ys) n = ap (λ z. cond (eqb y.0 r) y.1 z) (slot_front r slot x ys n)
 
-pub fills : {L : Type 0} (front : List (ℕ × Option L)) (slot : ℕ) (x result : Option L) (l : L) (held held0 : List (Option L)) (n : ℕ) → (Among (keys front) slot → ⊥) → x ≡ Some l → result ≡ x → slot < length held
-    → ((r : ℕ) → r < n → slot_at held r ≡ or_else (in_slot r front) (slot_at held0 r)) → (r : ℕ) → r < n → slot_at (set held slot result) r ≡ or_else (in_slot r (front ++ (slot, x) ∷ [])) (slot_at held0 r)
+pub fills : {L : Type 0} (front : List (ℕ × Option L)) (slot : ℕ) (x result : Option L) (l : L) (held held0 : List (Option L)) (n : ℕ) → (Among (keys front) slot → ⊥) → x ≡ Some l → result ≡ x
+    → slot < length held
+    → ((r : ℕ) → r < n → slot_at held r ≡ or_else (in_slot r front) (slot_at held0 r)) → (r : ℕ) → r < n
+    → slot_at (set held slot result) r ≡ or_else (in_slot r (front ++ (slot, x) ∷ [])) (slot_at held0 r)
 fills {L} front slot x result l held held0 n fresh is_some is_x inside before r below = dite (ℕ_discrete r slot)
     (λ e. let at : slot_at (set held slot result) r ≡ Some l = ap (slot_at (set held slot result)) e ∙ get_or-set_same held slot result None inside ∙ is_x ∙ is_some in
-    let lot : in_slot r (front ++ (slot, x) ∷ []) ≡ Some l = ap (λ (k : ℕ). in_slot k (front ++ (slot, x) ∷ [])) e ∙ slot_split slot x front [] fresh ∙ is_some in at ∙ sym (ap (λ (z : Option L). or_else z (slot_at held0 r)) lot))
+    let lot : in_slot r (front ++ (slot, x) ∷ []) ≡ Some l = ap (λ (k : ℕ). in_slot k (front ++ (slot, x) ∷ [])) e ∙ slot_split slot x front [] fresh ∙ is_some in at
+    ∙ sym (ap (λ (z : Option L). or_else z (slot_at held0 r)) lot))
     (λ ne. get_or-set_other held slot r result None ne ∙ before r below ∙ sym (ap (λ (z : Option L). or_else z (slot_at held0 r)) (slot_front r slot x front ne)))
 
 pub all_front : {X : Type 0} (front back : List (ℕ × X)) → length (keys (front ++ back)) ≤ length front → front ≡ front ++ back
@@ -133,7 +176,8 @@ turned_at {L} l k slot distinct at =
       behind = length b;
       first = ap (turns k) t.3 ∙ ap (λ (n : ℕ). turns n (a ++ (slot, x) ∷ b)) (sym t.4) ∙ turns_over a ((slot, x) ∷ b);
       is_value = ap (in_slot slot) t.3 ∙ slot_split slot x a b d.0;
-      long = ap length (ap keys t.3 ∙ keys_append a ((slot, x) ∷ b)) ∙ (let e = length_at (keys a) slot (keys b) in let f = length-keys a in let g = length-keys b in let n : length a ≡ k = t.4 in omega arith);
+      long = ap length (ap keys t.3 ∙ keys_append a ((slot, x) ∷ b)) ∙ (let e = length_at (keys a) slot (keys b) in let f = length-keys a in let g = length-keys b in
+          let n : length a ≡ k = t.4 in omega arith);
       again = λ y. turns_over ((slot, y) ∷ b) a ∙ sym (ap (put slot y) t.3 ∙ put_split slot x y a b d.0);
       gone = turns_over b a ∙ sym (ap (without slot) t.3 ∙ without_split slot x a b d.0 d.1);
     }
@@ -150,14 +194,3 @@ seen_more P [] x h p zero l = p
 seen_more P [] x h p (suc k) l = absurd (omega arith)
 seen_more P (y ∷ ys) x h p zero l = h zero (omega arith)
 seen_more P (y ∷ ys) x h p (suc k) l = seen_more (λ j. P (suc j)) ys x (λ j m. h (suc j) (omega arith)) p k (omega arith)
-
--- the two ways to read a list
-pub elem_slice : {A : Type 0} (l : List A) (k : ℕ) (x : A) → get_elem? l k ≡ some x → slice_get l k ≡ Some x
-elem_slice [] k x e = absurd (some-ne-none x (sym e))
-elem_slice (y ∷ ys) zero x e = ap (λ z. Some z) (some-injective y x e)
-elem_slice (y ∷ ys) (suc k) x e = elem_slice ys k x e
-
-pub slice_elem : {A : Type 0} (l : List A) (k : ℕ) (x : A) → slice_get l k ≡ Some x → get_elem? l k ≡ some x
-slice_elem [] k x e = let f : None ≡ Some x = e in absurd (cc)
-slice_elem (y ∷ ys) zero x e = let f : Some y ≡ Some x = e in let g : y ≡ x = cc in ap (λ z. some z) g
-slice_elem (y ∷ ys) (suc k) x e = slice_elem ys k x e

@@ -1,5 +1,5 @@
 -- A seat's lots by the numbers of their records.
-use Rattle.std.proofs.Common.{◌≡◌, ℕ, suc, ◌*◌, ◌/◌, length, arith, ◌%◌, ◌<◌, ◌≤◌, List, [], ◌∷◌, ◌++◌, map, sym, refl, ap, ◌∙◌, subst, inl, inr, ⊎_elim}
+use Rattle.std.proofs.Common.{◌≡◌, ℕ, suc, ◌/◌, length, ◌%◌, ◌<◌, ◌≤◌, List, [], ◌∷◌, ◌++◌, map, sym, refl, ap, ◌∙◌, subst, inl, inr, ⊎_elim}
 use Rattle.std.specs.Prelude.{Option, Some, None}
 use mathlib.Core.Logic.{dite}
 use native.Mathlib.Decide.{ℕ_discrete}
@@ -11,13 +11,17 @@ use Rattle.xh_model.specs.declared.event.Event.{Event}
 use Rattle.xh_model.specs.Words.{number_of}
 use Rattle.xh_model.proofs.Words.{number_inside, index_back, number_back}
 use Rattle.xh_model.specs.Keyed.{Among, keys, put, value_at, without}
-use Rattle.xh_records.proofs.History.{in_range}
-use Rattle.xh_records.proofs.Lists.{slice_elem}
+use Rattle.xh_records.proofs.Elements.{in_range, slice_elem}
 use Rattle.xh_model.proofs.Keyed.{here_first, not_here, value_here, value_there}
 use Rattle.xh_records.specs.declared.shape.Shape.{Shape}
 use Rattle.xh_records.specs.declared.view.View.{View}
-use Rattle.xh_records.specs.Showing.{IsLotOf, IsLotAt, events_in}
-use Rattle.xh_records.specs.Seats.{Held, in_slot, with_lot, numbered, owned_by, view_of, did, with_lots, AllLots, IsSmall, IsSeat, IsRecord}
+use Rattle.xh_records.specs.Showing.{IsLotOf, IsLotAt, IsSmall}
+use Rattle.xh_model.specs.declared.event.Holder.{Holder}
+use Rattle.xh_model.specs.declared.event.Holder.TheVariants.{Process, Direction}
+use Rattle.xh_records.specs.inner.Events.{taking, giving}
+use Rattle.xh_records.specs.Seats.{HasGained, HasLost, Held, owned_by, view_of, did, with_lots, IsRecord}
+use Rattle.xh_records.specs.inner.Views.{events_in}
+use Rattle.xh_records.specs.inner.Hands.{in_slot, with_lot, numbered, AllLots, IsSeat}
 
 pub index_injective : (n k j : ℕ) → 0 < n → n ≤ 256 → number_of n k ≡ number_of n j → k ≡ j
 index_injective n k j pos most e = sym (index_back n k pos most) ∙ ap (index_of n) e ∙ index_back n j pos most
@@ -41,29 +45,36 @@ module _ {B : Type 0} (s : Shape) (small : IsSmall s) where
 
   pub indices_are : (xs : List (ℕ × Option (LotOf B))) → AllLots s xs → map (index_of s.records) (keys (numbered s.records xs)) ≡ keys xs
   indices_are [] all = refl
-  indices_are (x ∷ xs) all = ap (λ (l : List (ℕ × LotOf B)). map (index_of s.records) (keys l)) (head_is x xs all.0.0 all.0.1) ∙ (λ i. index_back s.records x.0 small.0 small.1 i ∷ indices_are xs all.1 i)
+  indices_are (x ∷ xs) all = ap (λ (l : List (ℕ × LotOf B)). map (index_of s.records) (keys l)) (head_is x xs all.0.0 all.0.1)
+      ∙ (λ i. index_back s.records x.0 small.0 small.1 i ∷ indices_are xs all.1 i)
 
   pub lot_numbered : (xs : List (ℕ × Option (LotOf B))) (k : ℕ) → AllLots s xs → value_at (number_of s.records k) (numbered s.records xs) ≡ in_slot k xs
   lot_numbered [] k all = refl
   lot_numbered (x ∷ xs) k all = ap (value_at (number_of s.records k)) (head_is x xs all.0.0 all.0.1) ∙ dite (ℕ_discrete x.0 k)
-      (λ e. here_first (number_of s.records x.0) (number_of s.records k) (Some all.0.0) (value_at (number_of s.records k) (numbered s.records xs)) (ap (number_of s.records) e) ∙ sym all.0.1 ∙ sym (here_first x.0 k x.1 (in_slot k xs) e))
-      (λ other. not_here (number_of s.records x.0) (number_of s.records k) (Some all.0.0) (value_at (number_of s.records k) (numbered s.records xs)) (λ e. other (index_injective s.records x.0 k small.0 small.1 e)) ∙ lot_numbered xs k all.1 ∙ sym (not_here x.0 k x.1 (in_slot k xs) other))
+      (λ e. here_first (number_of s.records x.0) (number_of s.records k) (Some all.0.0) (value_at (number_of s.records k) (numbered s.records xs)) (ap (number_of s.records) e) ∙ sym all.0.1
+      ∙ sym (here_first x.0 k x.1 (in_slot k xs) e))
+      (λ other. not_here (number_of s.records x.0) (number_of s.records k) (Some all.0.0) (value_at (number_of s.records k) (numbered s.records xs))
+      (λ e. other (index_injective s.records x.0 k small.0 small.1 e)) ∙ lot_numbered xs k all.1 ∙ sym (not_here x.0 k x.1 (in_slot k xs) other))
 
   pub without_numbered : (xs : List (ℕ × Option (LotOf B))) (k : ℕ) → AllLots s xs → numbered s.records (without k xs) ≡ without (number_of s.records k) (numbered s.records xs)
   without_numbered [] k all = refl
   without_numbered (x ∷ xs) k all = dite (ℕ_discrete x.0 k)
       (λ e. ap (numbered s.records) (here_first x.0 k (without k xs) (x ∷ without k xs) e) ∙ without_numbered xs k all.1
       ∙ sym (ap (without (number_of s.records k)) (head_is x xs all.0.0 all.0.1) ∙ here_first (number_of s.records x.0) (number_of s.records k) _ _ (ap (number_of s.records) e)))
-      (λ other. ap (numbered s.records) (not_here x.0 k (without k xs) (x ∷ without k xs) other) ∙ head_is x (without k xs) all.0.0 all.0.1 ∙ ap (λ (l : List (ℕ × LotOf B)). (number_of s.records x.0, all.0.0) ∷ l) (without_numbered xs k all.1)
-      ∙ sym (ap (without (number_of s.records k)) (head_is x xs all.0.0 all.0.1) ∙ not_here (number_of s.records x.0) (number_of s.records k) _ _ (λ e. other (index_injective s.records x.0 k small.0 small.1 e))))
+      (λ other. ap (numbered s.records) (not_here x.0 k (without k xs) (x ∷ without k xs) other) ∙ head_is x (without k xs) all.0.0 all.0.1
+      ∙ ap (λ (l : List (ℕ × LotOf B)). (number_of s.records x.0, all.0.0) ∷ l) (without_numbered xs k all.1)
+      ∙ sym (ap (without (number_of s.records k)) (head_is x xs all.0.0 all.0.1) ∙ not_here (number_of s.records x.0) (number_of s.records k) _ _
+      (λ e. other (index_injective s.records x.0 k small.0 small.1 e))))
 
   pub put_numbered : (xs : List (ℕ × Option (LotOf B))) (k : ℕ) (l : LotOf B) → AllLots s xs → numbered s.records (put k (Some l) xs) ≡ put (number_of s.records k) l (numbered s.records xs)
   put_numbered [] k l all = refl
   put_numbered (x ∷ xs) k l all = dite (ℕ_discrete x.0 k)
       (λ e. ap (numbered s.records) (here_first x.0 k ((k, Some l) ∷ xs) (x ∷ put k (Some l) xs) e)
       ∙ sym (ap (put (number_of s.records k) l) (head_is x xs all.0.0 all.0.1) ∙ here_first (number_of s.records x.0) (number_of s.records k) _ _ (ap (number_of s.records) e)))
-      (λ other. ap (numbered s.records) (not_here x.0 k ((k, Some l) ∷ xs) (x ∷ put k (Some l) xs) other) ∙ head_is x (put k (Some l) xs) all.0.0 all.0.1 ∙ ap (λ (z : List (ℕ × LotOf B)). (number_of s.records x.0, all.0.0) ∷ z) (put_numbered xs k l all.1)
-      ∙ sym (ap (put (number_of s.records k) l) (head_is x xs all.0.0 all.0.1) ∙ not_here (number_of s.records x.0) (number_of s.records k) _ _ (λ e. other (index_injective s.records x.0 k small.0 small.1 e))))
+      (λ other. ap (numbered s.records) (not_here x.0 k ((k, Some l) ∷ xs) (x ∷ put k (Some l) xs) other) ∙ head_is x (put k (Some l) xs) all.0.0 all.0.1
+      ∙ ap (λ (z : List (ℕ × LotOf B)). (number_of s.records x.0, all.0.0) ∷ z) (put_numbered xs k l all.1)
+      ∙ sym (ap (put (number_of s.records k) l) (head_is x xs all.0.0 all.0.1) ∙ not_here (number_of s.records x.0) (number_of s.records k) _ _
+      (λ e. other (index_injective s.records x.0 k small.0 small.1 e))))
 
   pub none_numbered : (xs : List (ℕ × Option (LotOf B))) → AllLots s xs → numbered s.records xs ≡ [] → xs ≡ []
   none_numbered [] all e = refl
@@ -90,6 +101,18 @@ module _ {B : Type 0} (s : Shape) (small : IsSmall s) where
       let arena = in_range s.names (number_of s.records t.0 / 256) l.id (slice_elem s.names _ l.id t.2.1) in
       subst (λ (z : ℕ). IsRecord s z × IsLotOf s z l) t.1 ((arena, number_inside s.records t.0 small.0 small.1), t.2)
 
+-- what a seat gained or lost, by the event of a step
+pub gained_by : {B : Type 0} (x y : Held B) (p r : ℕ) (h : Option Holder) (is : LotOf B → Type 0) (l : LotOf B) → y ≡ did (taking p r h) (with_lots x (x.lots ++ (r, l) ∷ [])) → IsLotOf x.shape r l
+    → is l → HasGained (taking p r h) is x y
+gained_by x y p r None is l e lot good = (l, e, lot, good)
+gained_by x y p r (Some (Process q)) is l e lot good = (l, e, lot, good)
+gained_by x y p r (Some (Direction d)) is l e lot good = (l, e, lot, good)
+
+pub lost_by : {B : Type 0} (x y : Held B) (p r : ℕ) (h : Option Holder) → y ≡ did (giving p r h) (with_lots x (without r x.lots)) → HasLost (giving p r h) x y
+lost_by x y p r None e = e
+lost_by x y p r (Some (Process q)) e = e
+lost_by x y p r (Some (Direction d)) e = e
+
 -- a seat as contracts see it
 abbrev pub held : {B : Type 0} → TableId → ℕ → ℕ → Me (Option (LotOf B)) View → Held B
 held t id process me = record { table = t; id = id; shape = me.0.shape; process = process; lots = numbered me.0.shape.records me.1; done = events_in me.0 }
@@ -101,10 +124,16 @@ number_is n m slot r same at inside = (λ i. number_of (same i) (at i)) ∙ numb
 module _ {B : Type 0} (x : Held B) (t : TableId) (id process : ℕ) (me : Me (Option (LotOf B)) View) (is : held t id process me ≡ x) where
   -- a seat's view
   pub views_are : (order : List ℕ) (capacity slots : ℕ) → IsSeat process order capacity slots me → view_of x ≡ me.0
-  views_are order capacity slots seat = ap (λ (y : Held B). view_of y) (sym is) ∙ (λ i. record { shape = me.0.shape; processes = sym seat.processes i; records = (ap (owned_by process) (indices_are me.0.shape seat.small me.1 seat.lots ∙ sym seat.ordered) ∙ sym seat.records) i; done = sym seat.done i })
+  views_are order capacity slots seat = ap (λ (y : Held B). view_of y) (sym is) ∙ (λ i. record {
+    shape = me.0.shape;
+    processes = sym seat.processes i;
+    records = (ap (owned_by process) (indices_are me.0.shape seat.small me.1 seat.lots ∙ sym seat.ordered) ∙ sym seat.records) i;
+    done = sym seat.done i;
+  })
 
   -- what a seat has in the slot of a record
-  pub slot_is : (order : List ℕ) (capacity slots : ℕ) → IsSeat process order capacity slots me → (slot r : ℕ) (y : Option (LotOf B)) → slot ≡ index_of x.shape.records r → r % 256 < x.shape.records → value_at r x.lots ≡ y → in_slot slot me.1 ≡ y
+  pub slot_is : (order : List ℕ) (capacity slots : ℕ) → IsSeat process order capacity slots me → (slot r : ℕ) (y : Option (LotOf B)) → slot ≡ index_of x.shape.records r → r % 256 < x.shape.records
+      → value_at r x.lots ≡ y → in_slot slot me.1 ≡ y
   slot_is order capacity slots seat slot r y at inside has =
       let number : number_of me.0.shape.records slot ≡ r = number_is me.0.shape.records x.shape.records slot r (ap (λ (z : Held B). z.shape.records) is) at inside in
       sym (lot_numbered me.0.shape seat.small me.1 slot seat.lots) ∙ (λ i. value_at (number i) (is i).lots) ∙ has
@@ -125,23 +154,48 @@ module _ {B : Type 0} (x : Held B) (t : TableId) (id process : ℕ) (me : Me (Op
   fresh order capacity slots seat slot r at new h =
       let n : ℕ = x.shape.records in
       let there : Among (map (index_of n) (keys x.lots)) (index_of n r) = among_map (index_of n) (keys x.lots) r h in
-      let keys_are : map (index_of n) (keys x.lots) ≡ order = ap (λ (y : Held B). map (index_of y.shape.records) (keys y.lots)) (sym is) ∙ indices_are me.0.shape seat.small me.1 seat.lots ∙ sym seat.ordered in
+      let keys_are : map (index_of n) (keys x.lots) ≡ order = ap (λ (y : Held B). map (index_of y.shape.records) (keys y.lots)) (sym is) ∙ indices_are me.0.shape seat.small me.1 seat.lots
+      ∙ sym seat.ordered in
       new (subst (λ (z : List ℕ × ℕ). Among z.0 z.1) (λ i. (keys_are i, sym at i)) there)
 
   -- the seat afterwards
-  pub held_is : (t' : TableId) (id' process' : ℕ) (me' : Me (Option (LotOf B)) View) (ls : List (ℕ × LotOf B)) → t' ≡ t → id' ≡ id → me'.0.shape ≡ me.0.shape → numbered me'.0.shape.records me'.1 ≡ ls → events_in me'.0 ≡ events_in me.0
+  pub held_is : (t' : TableId) (id' process' : ℕ) (me' : Me (Option (LotOf B)) View) (ls : List (ℕ × LotOf B)) → t' ≡ t → id' ≡ id → me'.0.shape ≡ me.0.shape
+      → numbered me'.0.shape.records me'.1 ≡ ls → events_in me'.0 ≡ events_in me.0
       → held t' id' process' me' ≡ record x { process = process'; lots = ls }
   held_is t' id' process' me' ls et en es el ed =
-      λ j. record { table = (et ∙ ap (λ (y : Held B). y.table) is) j; id = (en ∙ ap (λ (y : Held B). y.id) is) j; shape = (es ∙ ap (λ (y : Held B). y.shape) is) j; process = process'; lots = el j; done = (ed ∙ ap (λ (y : Held B). y.done) is) j }
+      λ j. record {
+        table = (et ∙ ap (λ (y : Held B). y.table) is) j;
+        id = (en ∙ ap (λ (y : Held B). y.id) is) j;
+        shape = (es ∙ ap (λ (y : Held B). y.shape) is) j;
+        process = process';
+        lots = el j;
+        done = (ed ∙ ap (λ (y : Held B). y.done) is) j;
+      }
 
   -- the seat afterwards, of the same process
-  pub held_same : (t' : TableId) (id' : ℕ) (me' : Me (Option (LotOf B)) View) (ls : List (ℕ × LotOf B)) → t' ≡ t → id' ≡ id → me'.0.shape ≡ me.0.shape → numbered me'.0.shape.records me'.1 ≡ ls → events_in me'.0 ≡ events_in me.0
+  pub held_same : (t' : TableId) (id' : ℕ) (me' : Me (Option (LotOf B)) View) (ls : List (ℕ × LotOf B)) → t' ≡ t → id' ≡ id → me'.0.shape ≡ me.0.shape → numbered me'.0.shape.records me'.1 ≡ ls
+      → events_in me'.0 ≡ events_in me.0
       → held t' id' process me' ≡ with_lots x ls
   held_same t' id' me' ls et en es el ed =
-      λ j. record { table = (et ∙ ap (λ (y : Held B). y.table) is) j; id = (en ∙ ap (λ (y : Held B). y.id) is) j; shape = (es ∙ ap (λ (y : Held B). y.shape) is) j; process = (is j).process; lots = el j; done = (ed ∙ ap (λ (y : Held B). y.done) is) j }
+      λ j. record {
+        table = (et ∙ ap (λ (y : Held B). y.table) is) j;
+        id = (en ∙ ap (λ (y : Held B). y.id) is) j;
+        shape = (es ∙ ap (λ (y : Held B). y.shape) is) j;
+        process = (is j).process;
+        lots = el j;
+        done = (ed ∙ ap (λ (y : Held B). y.done) is) j;
+      }
 
   -- the seat afterwards, with one more event
-  pub held_did : (t' : TableId) (id' : ℕ) (me' : Me (Option (LotOf B)) View) (ls : List (ℕ × LotOf B)) (e : Event) → t' ≡ t → id' ≡ id → me'.0.shape ≡ me.0.shape → numbered me'.0.shape.records me'.1 ≡ ls → events_in me'.0 ≡ events_in me.0 ++ e ∷ []
+  pub held_did : (t' : TableId) (id' : ℕ) (me' : Me (Option (LotOf B)) View) (ls : List (ℕ × LotOf B)) (e : Event) → t' ≡ t → id' ≡ id → me'.0.shape ≡ me.0.shape
+      → numbered me'.0.shape.records me'.1 ≡ ls → events_in me'.0 ≡ events_in me.0 ++ e ∷ []
       → held t' id' process me' ≡ did e (with_lots x ls)
   held_did t' id' me' ls e et en es el ed =
-      λ j. record { table = (et ∙ ap (λ (y : Held B). y.table) is) j; id = (en ∙ ap (λ (y : Held B). y.id) is) j; shape = (es ∙ ap (λ (y : Held B). y.shape) is) j; process = (is j).process; lots = el j; done = (ed ∙ ap (λ (y : Held B). y.done ++ e ∷ []) is) j }
+      λ j. record {
+        table = (et ∙ ap (λ (y : Held B). y.table) is) j;
+        id = (en ∙ ap (λ (y : Held B). y.id) is) j;
+        shape = (es ∙ ap (λ (y : Held B). y.shape) is) j;
+        process = (is j).process;
+        lots = el j;
+        done = (ed ∙ ap (λ (y : Held B). y.done ++ e ∷ []) is) j;
+      }

@@ -14,17 +14,20 @@ use Rattle.xh_records.specs.declared.shape.Shape.{Shape}
 use Rattle.xh_records.specs.declared.view.View.{View}
 use Rattle.xh_model.specs.declared.event.Holder.{Holder}
 use Rattle.xh_model.specs.Words.{number_of, place_of}
-use Rattle.xh_records.specs.History.{taking, giving}
+use Rattle.xh_records.specs.Showing.{Owns, IsLotAt}
+use Rattle.xh_records.specs.Seats.{owned_by}
+use Rattle.xh_records.specs.inner.Events.{taking, giving}
+use Rattle.xh_records.specs.inner.Views.{IsAlone, events_in, gained, lost, renewed}
+use Rattle.xh_records.specs.inner.Hands.{AllBelow, AllLots, IsSeat, in_slot}
 use Rattle.xh_records.proofs.History.{adds_one}
-use Rattle.xh_records.specs.Showing.{IsAlone, Owns, IsLotAt, events_in, gained, lost, renewed}
-use Rattle.xh_records.specs.Seats.{owned_by, AllBelow, AllLots, IsSeat, in_slot}
 use Rattle.xh_records.proofs.Lists.{few, below_push, owned_push, among_owned, slot_split, below_split, owned_without, remove_split, below_at, stands}
 
 lots_push : {B : Type 0} (s : Shape) (xs : List (ℕ × Option (LotOf B))) (i : ℕ) (l : LotOf B) → AllLots s xs → IsLotAt s i l → AllLots s (xs ++ (i, Some l) ∷ [])
 lots_push s [] i l a h = ((l, refl, h), tt)
 lots_push s (x ∷ xs) i l a h = (a.0, lots_push s xs i l a.1 h)
 
-lots_split : {B : Type 0} (s : Shape) (a : List (ℕ × Option (LotOf B))) (x : ℕ × Option (LotOf B)) (b : List (ℕ × Option (LotOf B))) → AllLots s (a ++ x ∷ b) → ((l : LotOf B) × (x.1 ≡ Some l) × IsLotAt s x.0 l) × AllLots s (a ++ b)
+lots_split : {B : Type 0} (s : Shape) (a : List (ℕ × Option (LotOf B))) (x : ℕ × Option (LotOf B)) (b : List (ℕ × Option (LotOf B))) → AllLots s (a ++ x ∷ b)
+    → ((l : LotOf B) × (x.1 ≡ Some l) × IsLotAt s x.0 l) × AllLots s (a ++ b)
 lots_split s [] x b h = h
 lots_split s (y ∷ ys) x b h = let t = lots_split s ys x b h.1 in (t.0, (h.0, t.1))
 
@@ -34,7 +37,8 @@ lots_put s i y (x ∷ xs) is all = dite (ℕ_discrete x.0 i)
     (λ e. subst (AllLots s) (sym (here_first x.0 i ((i, Some y) ∷ xs) (x ∷ put i (Some y) xs) e)) ((y, refl, is), all.1))
     (λ n. subst (AllLots s) (sym (not_here x.0 i ((i, Some y) ∷ xs) (x ∷ put i (Some y) xs) n)) (all.0, lots_put s i y xs is all.1))
 
-pub lot_here : {B : Type 0} (s : Shape) (front : List (ℕ × Option (LotOf B))) (x : ℕ × Option (LotOf B)) (more : List (ℕ × Option (LotOf B))) → AllLots s (front ++ x ∷ more) → (l : LotOf B) × (x.1 ≡ Some l)
+pub lot_here : {B : Type 0} (s : Shape) (front : List (ℕ × Option (LotOf B))) (x : ℕ × Option (LotOf B)) (more : List (ℕ × Option (LotOf B))) → AllLots s (front ++ x ∷ more)
+    → (l : LotOf B) × (x.1 ≡ Some l)
 lot_here s front x more all = let t = (lots_split s front x more all).0 in (t.0, t.1)
 
 -- every slot of a seat has a lot
@@ -62,7 +66,8 @@ module _ {B : Type 0} (process : ℕ) (order : List ℕ) (capacity slots : ℕ) 
   -- one more slot has room
   pub has_room : (i : ℕ) → IsSeat process order capacity slots me → i < slots → ((p : ℕ) → Owns me.0 i p → ⊥) → length order < capacity
   has_room i seat inside new =
-      let most : length (i ∷ order) ≤ slots = few slots (i ∷ order) (inside, seat.below) (not_among i seat new, seat.distinct) in let room : slots ≤ capacity = seat.room in let size : length (i ∷ order) ≡ suc (length order) = refl in omega arith
+      let most : length (i ∷ order) ≤ slots = few slots (i ∷ order) (inside, seat.below) (not_among i seat new, seat.distinct) in let room : slots ≤ capacity = seat.room in
+      let size : length (i ∷ order) ≡ suc (length order) = refl in omega arith
 
   pub gains : (i : ℕ) (l : LotOf B) (h : Option Holder) → IsSeat process order capacity slots me → i < slots → IsLotAt me.0.shape i l → ((p : ℕ) → Owns me.0 i p → ⊥)
       → IsSeat process (order ++ i ∷ []) capacity slots (gained me.0 i process h, me.1 ++ (i, Some l) ∷ [])
@@ -91,19 +96,22 @@ module _ {B : Type 0} (process : ℕ) (order : List ℕ) (capacity slots : ℕ) 
         listed = (seat.ordered, seat.distinct, (at.0, subst (λ (o : List ℕ). get_elem? o at.0 ≡ some i) (sym seat.ordered) at.1));
         has = has;
         lot = subst (IsLotAt me.0.shape i) (let e : Some l ≡ Some mine.0 = mine.1 in let f : l ≡ mine.0 = cc in sym f) mine.2;
-        owns = subst (λ (z : List (ℕ × ℕ)). Among z (i, process)) (sym seat.records) (among_owned process order i (subst (λ (z : List ℕ). Among z i) (sym same) (among_back (keys a) (i ∷ keys b) i (inl refl))));
+        owns = subst (λ (z : List (ℕ × ℕ)). Among z (i, process)) (sym seat.records) (among_owned process order i
+            (subst (λ (z : List ℕ). Among z i) (sym same) (among_back (keys a) (i ∷ keys b) i (inl refl))));
         inside = below_at slots (keys a) i (keys b) (subst (AllBelow slots) same seat.below);
       }
 
   -- the seat without the slot that stands behind k others
-  pub loses : (k i : ℕ) (h : Option Holder) → IsSeat process order capacity slots me → get_elem? order k ≡ some i → IsSeat process (remove order k) capacity slots (lost me.0 i process h, without i me.1)
+  pub loses : (k i : ℕ) (h : Option Holder) → IsSeat process order capacity slots me → get_elem? order k ≡ some i
+      → IsSeat process (remove order k) capacity slots (lost me.0 i process h, without i me.1)
   loses k i h seat at =
       let t = split_at_key me.1 k i (subst (λ (o : List ℕ). get_elem? o k ≡ some i) seat.ordered at) in
       let a = t.0 in let b = t.2 in
       let same : order ≡ keys a ++ i ∷ keys b = seat.ordered ∙ ap keys t.3 ∙ keys_append a ((i, t.1) ∷ b) in
       let d = distinct_split (keys a) i (keys b) (subst Distinct same seat.distinct) in
       let rest_is : without i me.1 ≡ a ++ b = ap (without i) t.3 ∙ without_split i t.1 a b d.0 d.1 in
-      let order_is : remove order k ≡ keys a ++ keys b = ap (λ (z : List ℕ). remove z k) same ∙ ap (remove (keys a ++ i ∷ keys b)) (sym t.4 ∙ sym (length-keys a)) ∙ remove_split (keys a) i (keys b) in
+      let order_is : remove order k ≡ keys a ++ keys b = ap (λ (z : List ℕ). remove z k) same ∙ ap (remove (keys a ++ i ∷ keys b)) (sym t.4 ∙ sym (length-keys a))
+      ∙ remove_split (keys a) i (keys b) in
       record {
         processes = seat.processes;
         ordered = order_is ∙ sym (keys_append a b) ∙ ap keys (sym rest_is);
@@ -143,5 +151,7 @@ module _ {B : Type 0} (process : ℕ) (order : List ℕ) (capacity slots : ℕ) 
     small = seat.small;
   }
 
-pub seat_is : {B : Type 0} (process p : ℕ) (a a' : List ℕ) (b b' c c' : ℕ) (d d' : Me (Option (LotOf B)) View) → p ≡ process → a' ≡ a → b' ≡ b → c' ≡ c → d' ≡ d → IsSeat process a b c d → IsSeat p a' b' c' d'
-seat_is {B} process p a a' b b' c c' d d' ep ea eb ec ed = subst (λ (z : ℕ × List ℕ × ℕ × ℕ × Me (Option (LotOf B)) View). IsSeat z.0 z.1 z.2 z.3 z.4) (λ i. (sym ep i, sym ea i, sym eb i, sym ec i, sym ed i))
+pub seat_is : {B : Type 0} (process p : ℕ) (a a' : List ℕ) (b b' c c' : ℕ) (d d' : Me (Option (LotOf B)) View) → p ≡ process → a' ≡ a → b' ≡ b → c' ≡ c → d' ≡ d → IsSeat process a b c d
+    → IsSeat p a' b' c' d'
+seat_is {B} process p a a' b b' c c' d d' ep ea eb ec ed = subst (λ (z : ℕ × List ℕ × ℕ × ℕ × Me (Option (LotOf B)) View). IsSeat z.0 z.1 z.2 z.3 z.4)
+    (λ i. (sym ep i, sym ea i, sym eb i, sym ec i, sym ed i))

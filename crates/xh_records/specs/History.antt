@@ -1,7 +1,5 @@
 -- The events on the records of a table, in their order.
-use Rattle.std.specs.Prelude.{◌≡◌, ℕ, List, [], ◌∷◌, ◌==◌, cond, replicate, Option, Some, None}
-use Rattle.xh_model.specs.declared.event.Holder.{Holder}
-use Rattle.xh_model.specs.declared.event.Holder.TheVariants.{Process, Direction}
+use Rattle.std.specs.Prelude.{◌≡◌, ℕ, List, [], ◌∷◌, ◌==◌, cond, replicate, None}
 use Rattle.xh_model.specs.declared.event.Event.{Event}
 use Rattle.xh_model.specs.declared.event.Event.TheVariants.{Claim, Carve, Cut, GiveBack, Vacate, Pass, Accept}
 use Rattle.xh_model.specs.Words.{Ownership, IsDone, place_of}
@@ -30,14 +28,3 @@ process_of (Accept p r d) = p
 abbrev pub by_place : ℕ → List Event → List Event
 by_place q [] = []
 by_place q (e ∷ es) = cond (place_of (process_of e) == q) (e ∷ by_place q es) (by_place q es)
-
--- the process p takes the record r from where it is, or gives it there
-abbrev pub taking : ℕ → ℕ → Option Holder → Event
-taking p r None = Claim p r
-taking p r (Some (Process q)) = Claim p r
-taking p r (Some (Direction d)) = Accept p r d
-
-abbrev pub giving : ℕ → ℕ → Option Holder → Event
-giving p r None = Vacate p r
-giving p r (Some (Process q)) = Vacate p r
-giving p r (Some (Direction d)) = Pass p r d

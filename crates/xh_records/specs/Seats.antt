@@ -1,33 +1,26 @@
--- A seat and the table, as contracts see them.
-use Rattle.std.specs.Prelude.{◌≡◌, ℕ, zero, suc, ◌+◌, ◌*◌, ◌/◌, ◌%◌, ◌<◌, ◌≤◌, ◌≢◌, Bool, List, [], ◌∷◌, ◌++◌, ◌==◌, cond, map, length, slice_get, slice_index, slice_set, Some, None, Option}
-use mathlib.Core.Option.{none, some}
-use mathlib.Core.Option as maybe
-use lib.ListN.{get_elem?}
-use Rattle.atomic_table.specs.Table.{State, Me, turned}
+-- A seat and the table, as contracts see them, and what the calls do to a seat.
+use Rattle.std.specs.Prelude.{◌≡◌, ℕ, ◌+◌, ◌*◌, ◌/◌, ◌%◌, ◌<◌, ◌≢◌, Bool, List, [], ◌∷◌, ◌++◌, map, length, slice_get, slice_index, Some, None, Option}
 use Rattle.atomic_table.specs.Seated.{TableId}
 use Rattle.xh_arena.specs.Views.{LotOf}
 use Rattle.xh_model.specs.declared.event.Holder.{Holder}
 use Rattle.xh_model.specs.declared.event.Holder.TheVariants.{Process, Direction}
 use Rattle.xh_model.specs.declared.event.Event.{Event}
-use Rattle.xh_model.specs.declared.event.Event.TheVariants.{Claim, Carve, Cut, GiveBack, Vacate, Pass, Accept}
-use Rattle.xh_model.specs.declared.limits.TheConstants.{MAX_ARENAS}
+use Rattle.xh_model.specs.declared.limits.TheConstants.{MAX_RECORDS}
 use Rattle.xh_model.specs.Slots.{index_of}
-use Rattle.xh_model.specs.Words.{Ownership, IsHeldBy, IsHolder, IsDone, record_of, from_of, to_of, word_of, number_of, place_of}
-use Rattle.xh_model.specs.Keyed.{Among, Distinct, keys, value_at}
+use Rattle.xh_model.specs.Words.{Ownership, IsHeldBy, IsHolder, IsWord, record_of, word_of, number_of, place_of}
+use Rattle.xh_model.specs.Keyed.{Among, keys, value_at, without}
 use Rattle.xh_records.specs.declared.shape.Shape.{Shape}
 use Rattle.xh_records.specs.declared.view.View.{View}
-use Rattle.xh_records.specs.Showing.{IsLotAt, IsEmpty, IsFull, Owns, Shows, events_in, spent}
-use Rattle.xh_records.specs.After.{IsAfter}
+use Rattle.xh_records.specs.Showing.{IsLotOf, IsLotAt, IsEmpty, IsFull, Owns, Sits}
 use Rattle.xh_records.specs.History.{LeadsTo, all_free, by_place, process_of}
-pub use Rattle.xh_records.specs.Slots.{or_else, slot_at}
-pub use Rattle.xh_records.specs.Showing.{IsSmall}
 
 -- the table of all records
 pub record RecordsOf : Type 0 where
   pub table : TableId
   pub shape : Shape
 
--- the table, the seat's number there, the process that it stands for, the lots of the records that the process owns, each beside its record's number, in the order gained, and the events that the seat did, in their order
+-- the table, the seat's number there, the process that it stands for, the lots of the records that the process owns, each beside its record's number, in the order gained, and the events that the
+-- seat did, in their order
 pub record Held (B : Type 0) : Type 0 where
   pub table : TableId
   pub id : ℕ
@@ -42,7 +35,7 @@ IsSeatOf all x = (x.table ≡ all.table) × (x.shape ≡ all.shape)
 
 -- there is such a record
 abbrev pub IsRecord : Shape → ℕ → Type 0
-IsRecord s r = (r / 256 < length s.names) × (r % 256 < s.records)
+IsRecord s r = (r / MAX_RECORDS < length s.names) × (r % MAX_RECORDS < s.records)
 
 -- the seat with these lots
 abbrev pub with_lots : {B : Type 0} → Held B → List (ℕ × LotOf B) → Held B
@@ -52,19 +45,13 @@ with_lots x l = record x { lots = l }
 abbrev pub did : {B : Type 0} → Event → Held B → Held B
 did e x = record x { done = x.done ++ e ∷ [] }
 
--- what a hand has in the slot k
-abbrev pub in_slot : {L : Type 0} → ℕ → List (ℕ × Option L) → Option L
-in_slot k [] = None
-in_slot k (x ∷ xs) = cond (x.0 == k) x.1 (in_slot k xs)
+-- by the event e the seat gained the lot of its record, behind its others, and of that lot this holds
+abbrev pub HasGained : {B : Type 0} → Event → (LotOf B → Type 0) → Held B → Held B → Type 0
+HasGained {B} e is x y = (l : LotOf B) × (y ≡ did e (with_lots x (x.lots ++ (record_of e, l) ∷ []))) × IsLotOf x.shape (record_of e) l × is l
 
--- the lots of a hand, by the numbers of their records, with n records in an arena
-abbrev pub with_lot : {L : Type 0} → ℕ → Option L → List (ℕ × L) → List (ℕ × L)
-with_lot r None ls = ls
-with_lot r (Some l) ls = (r, l) ∷ ls
-
-abbrev pub numbered : {L : Type 0} → ℕ → List (ℕ × Option L) → List (ℕ × L)
-numbered n [] = []
-numbered n (x ∷ xs) = with_lot (number_of n x.0) x.1 (numbered n xs)
+-- by the event e the seat lost the lot of its record
+abbrev pub HasLost : {B : Type 0} → Event → Held B → Held B → Type 0
+HasLost e x y = y ≡ did e (with_lots x (without (record_of e) x.lots))
 
 -- the indices of a seat's records, and its lot of the record at an index
 abbrev pub indices : {B : Type 0} → Held B → List ℕ
@@ -81,52 +68,22 @@ owned_by p (k ∷ ks) = (k, p) ∷ owned_by p ks
 abbrev pub view_of : {B : Type 0} → Held B → View
 view_of x = record { shape = x.shape; processes = x.process ∷ []; records = owned_by x.process (indices x); done = (place_of x.process, x.done) ∷ [] }
 
-abbrev pub AllBelow : ℕ → List ℕ → Type 0
-AllBelow n [] = Unit {0}
-AllBelow n (x ∷ xs) = (x < n) × AllBelow n xs
+-- what a seat knows of a word that it found at the index k: it is a word, and it names a process that the seat stands for exactly where the seat has that record
+abbrev pub Knows : View → ℕ → ℕ → Type 0
+Knows v k n = IsWord n × ((p : ℕ) → Sits v p → (n ≡ word_of (Some (Process p)) → Owns v k p) × (Owns v k p → n ≡ word_of (Some (Process p))))
 
--- these are the slots of a hand, each once, and one of them is this
-abbrev pub IsListed : {X : Type 0} → List ℕ → List (ℕ × X) → ℕ → Type 0
-IsListed order ls slot = (order ≡ keys ls) × Distinct order × ((k : ℕ) × (get_elem? order k ≡ some slot))
+-- a word for each record of an arena, none of them free, as the seat found them
+abbrev pub SawTaken : View → ℕ → List ℕ → Type 0
+SawTaken v arena words = (length words ≡ v.shape.records) × ((k : ℕ) → k < v.shape.records → (slice_index words k ≢ 0) × Knows v (arena * v.shape.records + k) (slice_index words k))
 
--- what the type of the table keeps: a word and a slot for each record of each arena
-pub record IsTable (table : TableId) (s : Shape) (count each : ℕ) : Type 0 where
-  pub words : table.words ≡ length s.names * s.records
-  pub slots : table.slots ≡ length s.names * s.records
-  pub some : 0 < table.words
-  pub arenas : length s.names ≡ count
-  pub few : length s.names ≤ MAX_ARENAS
-  pub records : s.records ≡ each
-  pub small : IsSmall s
-  pub places : (0 < s.places) × (s.places ≤ 32)
-
-module _ {B : Type 0} where
-  -- each slot of a hand has the lot of its record
-  abbrev pub AllLots : Shape → List (ℕ × Option (LotOf B)) → Type 0
-  AllLots s [] = Unit {0}
-  AllLots s (x ∷ xs) = ((l : LotOf B) × (x.1 ≡ Some l) × IsLotAt s x.0 l) × AllLots s xs
-
-  -- what a seat's type keeps
-  pub record IsSeat (process : ℕ) (order : List ℕ) (capacity slots : ℕ) (me : Me (Option (LotOf B)) View) : Type 0 where
-    pub processes : me.0.processes ≡ process ∷ []
-    pub ordered : order ≡ keys me.1
-    pub records : me.0.records ≡ owned_by process order
-    pub done : me.0.done ≡ (place_of process, events_in me.0) ∷ []
-    pub lots : AllLots me.0.shape me.1
-    pub distinct : Distinct order
-    pub below : AllBelow slots order
-    pub room : slots ≤ capacity
-    pub small : IsSmall me.0.shape
-
--- k turns of a hand's list
-abbrev pub turns : {X : Type 0} → ℕ → List (ℕ × X) → List (ℕ × X)
-turns zero l = l
-turns (suc k) l = turns k (turned l)
+-- the seat found this word at the record r, which isn't that of the holder h, and is as it was
+abbrev pub HasMissed : {B : Type 0} → Shape → Option Holder → ℕ → ℕ → Held B → Held B → Type 0
+HasMissed s h r word x y = (word ≢ word_of h) × Knows (view_of x) (index_of s.records r) word × (y ≡ x)
 
 -- the lot of the record at an index, by its holder at the end: that of the seat of its process, or the one at home
 module _ {B : Type 0} (fits : B → ℕ → Bool) (s : Shape) (seats : List (Held B)) where
   abbrev pub EndsAs : ℕ → Option Holder → LotOf B → Type 0
-  EndsAs k None l = IsLotAt s k l × IsEmpty l
+  EndsAs k None l = IsLotAt s k l × IsEmpty fits l
   EndsAs k (Some (Process p)) l = (j : ℕ) × (x : Held B) × (slice_get seats j ≡ Some x) × (x.process ≡ p) × (lot_in k x ≡ Some l)
   EndsAs k (Some (Direction d)) l = IsLotAt s k l × IsFull fits l
 
@@ -144,16 +101,3 @@ module _ {B : Type 0} (fits : B → ℕ → Bool) (s : Shape) (seats : List (Hel
     pub lots_are : (k : ℕ) (h : Option Holder) (l : LotOf B) → IsHeldBy owners k h → slice_get lots k ≡ Some l → EndsAs k h l
     pub held : (j k : ℕ) (x : Held B) (l : LotOf B) → slice_get seats j ≡ Some x → lot_in k x ≡ Some l → IsHeldBy owners k (Some (Process x.process))
     pub one : (i j : ℕ) (x y : Held B) → slice_get seats i ≡ Some x → slice_get seats j ≡ Some y → x.process ≡ y.process → i ≡ j
-
--- the seats from the m-th on are in one view, and their lots in these slots; where no place stands twice in the view, no two of the seats have one place
-pub record IsGathered {B : Type 0} (m : ℕ) (seats : List (Held B)) (v : View) (held : List (Option (LotOf B))) : Type 0 where
-  pub sits : (j : ℕ) (x : Held B) → get_elem? seats j ≡ some x → m ≤ j → Among v.processes x.process
-  pub done : (j : ℕ) (x : Held B) → get_elem? seats j ≡ some x → m ≤ j → Among v.done (place_of x.process, x.done)
-  pub each : (p : ℕ) → Among v.processes p → (j : ℕ) × (x : Held B) × (get_elem? seats j ≡ some x) × (x.process ≡ p)
-  pub count : length v.processes + m ≡ length seats
-  pub one : Distinct (map place_of v.processes) → (i j : ℕ) (x y : Held B) → get_elem? seats i ≡ some x → get_elem? seats j ≡ some y → m ≤ i → m ≤ j → x.process ≡ y.process → i ≡ j
-  pub records : (k p : ℕ) → Owns v k p → (j : ℕ) × (x : Held B) × (get_elem? seats j ≡ some x) × (m ≤ j) × Owns (view_of x) k p
-  pub all_records : (j k p : ℕ) (x : Held B) → get_elem? seats j ≡ some x → m ≤ j → Owns (view_of x) k p → Owns v k p
-  pub lots : (k : ℕ) (l : LotOf B) → k < length held → slot_at held k ≡ Some l → (j : ℕ) × (x : Held B) × (get_elem? seats j ≡ some x) × (m ≤ j) × (lot_in k x ≡ Some l)
-  pub full : (j k : ℕ) (x : Held B) → get_elem? seats j ≡ some x → m ≤ j → Among (indices x) k → (l : LotOf B) × (lot_in k x ≡ Some l)
-  pub all_lots : (j k : ℕ) (x : Held B) (l : LotOf B) → get_elem? seats j ≡ some x → m ≤ j → lot_in k x ≡ Some l → k < length held → (l' : LotOf B) × (slot_at held k ≡ Some l')

@@ -5,8 +5,8 @@ ghost use mathlib.Core.Option.{some};
 ghost use lib.ListN.{get_elem?};
 ghost use Rattle.xh_arena.specs.Views.{LotOf};
 ghost use Rattle.xh_model.specs.Keyed.{Among};
-ghost use Rattle.xh_records.specs.Slots.{slot_at, or_else};
-ghost use Rattle.xh_records.specs.Seats.{Ends, Held, IsGathered, IsSeatOf, indices, lot_in, view_of};
+ghost use Rattle.xh_records.specs.Seats.{Ends, Held, IsSeatOf, indices, lot_in, view_of};
+ghost use Rattle.xh_records.specs.inner.Gathering.{slot_at, or_else, IsGathered};
 
 use crate::hand::{Board, Hand, hand_over, join};
 use crate::records::Records;

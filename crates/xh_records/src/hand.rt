@@ -5,12 +5,17 @@ ghost use prog.Atomic.{either};
 ghost use lib.ListN.{get_elem?};
 ghost use Rattle.atomic_table.specs.Table.{step, Allows};
 ghost use Rattle.xh_arena.specs.Views.{LotOf};
+ghost use Rattle.xh_model.specs.declared.limits.TheConstants.{PLACES, PROCESSES};
 ghost use Rattle.xh_model.specs.Words.{word_of, IsHolder};
 ghost use Rattle.xh_model.specs.Keyed.{without};
+ghost use Rattle.xh_records.specs.declared.hand.TheConstants.{NEAR};
 ghost use Rattle.xh_records.specs.Encoding.{holder_of};
-ghost use Rattle.xh_records.specs.Showing.{Shown, IsLotAt, IsAlone, IsAway, IsHomeLot, IsDealer, Owns, Sits, dealt, dealt_from, gained, joined, lost, renewed, spent};
-ghost use Rattle.xh_records.specs.Steps.{Knows, process_in};
-ghost use Rattle.xh_records.specs.Seats.{IsListed, in_slot, turns};
+ghost use Rattle.xh_records.specs.Showing.{Shown, IsLotAt, Owns, Sits};
+ghost use Rattle.xh_records.specs.Seats.{Knows};
+ghost use Rattle.xh_records.specs.inner.Events.{IsAway, IsHomeLot};
+ghost use Rattle.xh_records.specs.inner.Views.{IsAlone, IsDealer, dealt, dealt_from, gained, joined, lost, renewed, spent};
+ghost use Rattle.xh_records.specs.inner.Steps.{process_in};
+ghost use Rattle.xh_records.specs.inner.Hands.{IsListed, in_slot, turns};
 
 use crate::plays::{Both, Deal, Gives, Looks, Renews, Takes, Whole};
 use crate::rule::Showing;
@@ -35,13 +40,16 @@ pub(crate) fn turn_by<B>(hand: &mut Hand<B>, count: usize)
     }
 }
 
-// Whether one of the 32 slots from k on is this one. It compares all of them, which takes less time than stopping early.
+// How many slots are compared at once.
+const NEAR: usize = 32;
+
+// Whether one of the slots from k on, so many, is this one. It compares all of them, which takes less time than stopping early.
 fn is_near(order: &[u16], k: usize, slot: u16) -> bool
-    requires { k + 32 ≤ length order.now }
-    ensures { result ≡ false → (j : ℕ) → k ≤ j → j < k + 32 → slice_index order.now j ≢ slot }
+    requires { k + NEAR ≤ length order.now }
+    ensures { result ≡ false → (j : ℕ) → k ≤ j → j < k + NEAR → slice_index order.now j ≢ slot }
 {
     let mut near = false;
-    for at in k..k + 32 {
+    for at in k..k + NEAR {
         near |= order[at] == slot;
     }
     near
@@ -53,8 +61,8 @@ fn skip_far(order: &[u16], slot: u16) -> usize
     ensures { (k : ℕ) × (result ≤ k) × (get_elem? order.now k ≡ some slot) }
 {
     let mut k = 0;
-    while order.len() - k >= 32 && !is_near(order, k, slot) {
-        k += 32;
+    while order.len() - k >= NEAR && !is_near(order, k, slot) {
+        k += NEAR;
     }
     k
 }
@@ -84,7 +92,8 @@ pub(crate) fn take_slot<B: Fits>(
     requires process { IsAlone hand.old.me.0 process }
     requires away { IsAway (holder_of from) }
     ensures same { (hand.new.table_id ≡ hand.old.table_id) × (hand.new.id ≡ hand.old.id) }
-    ensures taken { OnOk result ((l : LotOf B) × (hand.new.me ≡ (gained hand.old.me.0 slot process (holder_of from), hand.old.me.1 ++ (slot, Some l) ∷ [])) × IsLotAt hand.old.me.0.shape slot l × IsHomeLot B.is_fit (holder_of from) l × ((p : ℕ) → Owns hand.old.me.0 slot p → ⊥)) }
+    ensures taken { OnOk result ((l : LotOf B) × (hand.new.me ≡ (gained hand.old.me.0 slot process (holder_of from), hand.old.me.1 ++ (slot, Some l) ∷ [])) × IsLotAt hand.old.me.0.shape slot l
+        × IsHomeLot B.is_fit (holder_of from) l × ((p : ℕ) → Owns hand.old.me.0 slot p → ⊥)) }
     ensures missed { IfErr result (λ word. (word ≢ word_of (holder_of from)) × Knows hand.old.me.0 slot word × (hand.new.me ≡ hand.old.me)) }
 {
     let wanted = from.encode();
@@ -111,7 +120,8 @@ pub(crate) fn give_slot<B: Fits>(
     requires away { IsAway (holder_of to) × IsHolder (holder_of to) }
     requires lot { (l : LotOf B) × (in_slot slot hand.old.me.1 ≡ Some l) × IsLotAt hand.old.me.0.shape slot l × IsHomeLot B.is_fit (holder_of to) l }
     requires owned { (p : ℕ) × IsAlone hand.old.me.0 p × Owns hand.old.me.0 slot p }
-    ensures hand { (hand.new.table_id ≡ hand.old.table_id) × (hand.new.id ≡ hand.old.id) × (hand.new.me ≡ (lost hand.old.me.0 slot (process_in hand.old.me.0) (holder_of to), without slot hand.old.me.1)) }
+    ensures hand { (hand.new.table_id ≡ hand.old.table_id) × (hand.new.id ≡ hand.old.id) × (hand.new.me ≡
+        (lost hand.old.me.0 slot (process_in hand.old.me.0) (holder_of to), without slot hand.old.me.1)) }
     ensures place { get_elem? order.now result ≡ some slot }
 {
     let k = position(order, slot);
@@ -136,7 +146,7 @@ pub(crate) fn look_at<B: Fits>(board: &Board<B>, hand: &mut Hand<B>, slot: u16) 
 // The next generation of the hand's one place, which has no record.
 pub(crate) fn renew_hand<B: Fits>(board: &Board<B>, hand: &mut Hand<B>, process: u16)
     requires own { (hand.old.table_id ≡ board.now.table_id) × (0 < board.now.table_id.words) × (0 < board.now.table_id.slots) }
-    requires process { (hand.old.me.0.processes ≡ process ∷ []) × (process + 32 < 4096) }
+    requires process { (hand.old.me.0.processes ≡ process ∷ []) × (process + PLACES < PROCESSES) }
     requires empty { hand.old.me.0.records ≡ [] }
     ensures { (hand.new.table_id ≡ hand.old.table_id) × (hand.new.id ≡ hand.old.id) × (hand.new.me ≡ (renewed hand.old.me.0, hand.old.me.1)) }
 {

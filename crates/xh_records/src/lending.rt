@@ -7,7 +7,8 @@ ghost use lib.ListN.{get_elem?};
 ghost use Rattle.xh_arena.specs.Views.{LotOf};
 ghost use Rattle.xh_model.specs.Keyed.{put, value_at};
 ghost use Rattle.xh_records.specs.Showing.{IsLotOf};
-ghost use Rattle.xh_records.specs.Seats.{IsListed, IsSeatOf, IsRecord, in_slot, with_lots};
+ghost use Rattle.xh_records.specs.Seats.{IsSeatOf, IsRecord, with_lots};
+ghost use Rattle.xh_records.specs.inner.Hands.{IsListed, in_slot};
 
 use crate::hand::{Board, Hand, position, turn_by};
 use crate::records::Records;
@@ -62,8 +63,10 @@ impl<B: Fits + Drop> Records<B> {
     ) -> A
         requires own { IsSeatOf self.now seat.old }
         requires exists { IsRecord self.now.shape number }
-        requires held { (l : LotOf B) × (value_at number seat.old.lots ≡ Some l) × ((lent : MutBor (LotOf B)) → lent.now ≡ l → F.pre f.old lent) × ((answer : A) (after : F) (left : LotOf B) → CalledAtMut F.FnMut f.old l answer after left → IsLotOf seat.old.shape number left) }
-        ensures { (l : LotOf B) × (left : LotOf B) × (value_at number seat.old.lots ≡ Some l) × CalledAtMut F.FnMut f.old l result f.new left × (seat.new ≡ with_lots seat.old (put number left seat.old.lots)) }
+        requires held { (l : LotOf B) × (value_at number seat.old.lots ≡ Some l) × ((lent : MutBor (LotOf B)) → lent.now ≡ l → F.pre f.old lent)
+            × ((answer : A) (after : F) (left : LotOf B) → CalledAtMut F.FnMut f.old l answer after left → IsLotOf seat.old.shape number left) }
+        ensures { (l : LotOf B) × (left : LotOf B) × (value_at number seat.old.lots ≡ Some l) × CalledAtMut F.FnMut f.old l result f.new left
+            × (seat.new ≡ with_lots seat.old (put number left seat.old.lots)) }
     {
         let board = &self.table.shared;
         let slot = self.slot_of(number);
@@ -93,8 +96,10 @@ impl<B: Fits + Drop> Records<B> {
     ) -> A
         requires own { IsSeatOf self.now seat.old }
         requires exists { IsRecord self.now.shape first × IsRecord self.now.shape second × (first ≢ second) }
-        requires held { (l m : LotOf B) × (value_at first seat.old.lots ≡ Some l) × (value_at second seat.old.lots ≡ Some m) × ((x y : MutBor (LotOf B)) → x.now ≡ l → y.now ≡ m → F.pre f.old x y) × ((answer : A) (after : F) (left also : LotOf B) → CalledAtPairMut F.FnMut f.old l m answer after left also → IsLotOf seat.old.shape first left × IsLotOf seat.old.shape second also) }
-        ensures { (l m left also : LotOf B) × (value_at first seat.old.lots ≡ Some l) × (value_at second seat.old.lots ≡ Some m) × CalledAtPairMut F.FnMut f.old l m result f.new left also × (seat.new ≡ with_lots seat.old (put second also (put first left seat.old.lots))) }
+        requires held { (l m : LotOf B) × (value_at first seat.old.lots ≡ Some l) × (value_at second seat.old.lots ≡ Some m) × ((x y : MutBor (LotOf B)) → x.now ≡ l → y.now ≡ m → F.pre f.old x y)
+            × ((answer : A) (after : F) (left also : LotOf B) → CalledAtPairMut F.FnMut f.old l m answer after left also → IsLotOf seat.old.shape first left × IsLotOf seat.old.shape second also) }
+        ensures { (l m left also : LotOf B) × (value_at first seat.old.lots ≡ Some l) × (value_at second seat.old.lots ≡ Some m) × CalledAtPairMut F.FnMut f.old l m result f.new left also
+            × (seat.new ≡ with_lots seat.old (put second also (put first left seat.old.lots))) }
     {
         let board = &self.table.shared;
         let i = self.slot_of(first);

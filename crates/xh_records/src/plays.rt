@@ -7,7 +7,7 @@ use xh_arena::{Fits, Lot};
 pub(crate) struct Takes;
 
 impl<B: Fits> Play<Option<Lot<B>>, View> for Takes {
-    ghost use Rattle.xh_records.specs.Steps.{took};
+    ghost use Rattle.xh_records.specs.inner.Steps.{took};
 
     ghost then = { took B.is_fit };
 }
@@ -16,7 +16,7 @@ impl<B: Fits> Play<Option<Lot<B>>, View> for Takes {
 pub(crate) struct Gives;
 
 impl<B> Play<Option<Lot<B>>, View> for Gives {
-    ghost use Rattle.xh_records.specs.Steps.{gave};
+    ghost use Rattle.xh_records.specs.inner.Steps.{gave};
 
     ghost then = { gave };
 }
@@ -25,7 +25,7 @@ impl<B> Play<Option<Lot<B>>, View> for Gives {
 pub(crate) struct Looks;
 
 impl<B> Play<Option<Lot<B>>, View> for Looks {
-    ghost use Rattle.xh_records.specs.Steps.{looked};
+    ghost use Rattle.xh_records.specs.inner.Steps.{looked};
 
     ghost then = { looked };
 }
@@ -34,7 +34,7 @@ impl<B> Play<Option<Lot<B>>, View> for Looks {
 pub(crate) struct Renews;
 
 impl<B> Play<Option<Lot<B>>, View> for Renews {
-    ghost use Rattle.xh_records.specs.Steps.{aged};
+    ghost use Rattle.xh_records.specs.inner.Steps.{aged};
 
     ghost then = { aged };
 }
@@ -43,7 +43,7 @@ impl<B> Play<Option<Lot<B>>, View> for Renews {
 pub(crate) struct Deal;
 
 impl Split<View> for Deal {
-    ghost use Rattle.xh_records.specs.Showing.{dealt_from, dealt};
+    ghost use Rattle.xh_records.specs.inner.Views.{dealt_from, dealt};
 
     ghost left = { dealt_from };
 
@@ -54,7 +54,7 @@ impl Split<View> for Deal {
 pub(crate) struct Whole;
 
 impl Split<View> for Whole {
-    ghost use Rattle.xh_records.specs.Showing.{spent};
+    ghost use Rattle.xh_records.specs.inner.Views.{spent};
 
     ghost left = { λ _. spent };
 
@@ -65,7 +65,7 @@ impl Split<View> for Whole {
 pub(crate) struct Both;
 
 impl Join<View> for Both {
-    ghost use Rattle.xh_records.specs.Showing.{joined, spent};
+    ghost use Rattle.xh_records.specs.inner.Views.{joined, spent};
 
     ghost both = { joined };
 

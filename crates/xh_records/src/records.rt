@@ -2,14 +2,15 @@ ghost use Rattle.std.specs.Prelude.{◌≡◌, ◌≢◌, ℕ, ◌+◌, ◌*◌,
 ghost use mathlib.Core.Option.{none};
 ghost use Rattle.xh_arena.specs.Views.{LotOf};
 ghost use Rattle.xh_model.specs.declared.event.Event.TheVariants.{Claim, Vacate, Pass, Accept};
-ghost use Rattle.xh_model.specs.declared.limits.TheConstants.{MAX_ARENAS};
+ghost use Rattle.xh_model.specs.declared.event.Holder.TheVariants.{Direction};
+ghost use Rattle.xh_model.specs.declared.limits.TheConstants.{DIRECTIONS, GENERATIONS, MAX_ARENAS, MAX_RECORDS, PLACES};
 ghost use Rattle.xh_model.specs.Slots.{index_of};
 ghost use Rattle.xh_model.specs.Words.{word_of, IsHolder, IsWord, generation_of};
 ghost use Rattle.xh_model.specs.Keyed.{Among, keys, value_at, without};
 ghost use Rattle.xh_records.specs.Encoding.{holder_of};
-ghost use Rattle.xh_records.specs.History.{taking, giving};
-ghost use Rattle.xh_records.specs.Steps.{Knows, SawTaken};
-ghost use Rattle.xh_records.specs.Showing.{IsLotOf, IsAway, IsHomeLot, IsEmpty, IsFull};
+ghost use Rattle.xh_records.specs.Showing.{IsLotOf, IsEmpty, IsFull};
+ghost use Rattle.xh_records.specs.Seats.{Knows, SawTaken};
+ghost use Rattle.xh_records.specs.inner.Events.{taking, giving, IsAway, IsHomeLot};
 
 use crate::hand::{deal, give_slot, look_at, renew_hand, take_slot};
 use crate::refused::Refused;
@@ -25,6 +26,7 @@ use std::alloc::{AllocError, Global};
 use std::collections::LinkedList;
 use std::marker::Model;
 use xh_arena::{Fits, Lot, Name};
+use xh_model::limits::{MAX_RECORDS, PLACES};
 
 /// The owner words of all records, and the slots of their lots.
 #[derive(Drop)]
@@ -35,7 +37,8 @@ pub struct Records<B: Fits> {
 }
 
 impl<B: Fits> Model for Records<B> {
-    ghost use Rattle.xh_records.specs.Seats.{RecordsOf, IsTable};
+    ghost use Rattle.xh_records.specs.Seats.{RecordsOf};
+    ghost use Rattle.xh_records.specs.inner.Hands.{IsTable};
 
     ghost Value = { RecordsOf };
 
@@ -46,10 +49,10 @@ impl<B: Fits> Model for Records<B> {
 
 // The number of a record of an arena.
 fn number_at(arena: u8, index: u16) -> u16
-    requires { index < 256 }
-    ensures { (result / 256 ≡ arena) × (result % 256 ≡ index) }
+    requires { index < MAX_RECORDS }
+    ensures { (result / MAX_RECORDS ≡ arena) × (result % MAX_RECORDS ≡ index) }
 {
-    u16::from(arena) * 256 + index
+    u16::from(arena) * MAX_RECORDS + index
 }
 
 // Each lot in a slot.
@@ -60,7 +63,7 @@ fn in_slots<B: Drop>(alloc: Global, lots: Vec<Lot<B>>) -> Result<Vec<Option<Lot<
 }
 
 impl<B: Fits + Drop> Records<B> {
-    ghost use Rattle.xh_records.specs.Seats.{Held, IsSeatOf, IsRecord, did, view_of, with_lots};
+    ghost use Rattle.xh_records.specs.Seats.{Held, IsSeatOf, IsRecord, HasGained, HasLost, HasMissed, view_of};
 
     /// A table over the empty lots of whole vaults, one after the other, each of `records` lots (1 to
     /// 256), which have these names; and a seat for each of the `places` (1 to 32) at its first
@@ -72,10 +75,10 @@ impl<B: Fits + Drop> Records<B> {
         records: u16,
         places: u8,
     ) -> Result<(Records<B>, Vec<Seat<B>>), Refused>
-        requires limits { (0 < records) × (records ≤ 256) × (0 < places) × (places ≤ 32) }
+        requires limits { (0 < records) × (records ≤ MAX_RECORDS) × (0 < places) × (places ≤ PLACES) }
         requires few { length names ≤ MAX_ARENAS }
         requires whole { (0 < length lots.items) × (length lots.items ≡ length names * records) }
-        requires empty { (k : ℕ) (l : LotOf B) → slice_get lots.items k ≡ Some l → (l.index ≡ k % records) × (slice_get names (k / records) ≡ Some l.id) × IsEmpty l }
+        requires empty { (k : ℕ) (l : LotOf B) → slice_get lots.items k ≡ Some l → (l.index ≡ k % records) × (slice_get names (k / records) ≡ Some l.id) × IsEmpty B.is_fit l }
         ensures shape { IfOk result (λ r. r.0.shape ≡ record { records = records; places = places; names = names }) }
         ensures slots { IfOk result (λ r. r.0.table.slots ≡ length lots.items) }
         ensures seats { IfOk result (λ r. (length r.1.items ≡ places) × ((k : ℕ) (x : Held B) → slice_get r.1.items k ≡ Some x → IsSeatOf r.0 x × (x.process ≡ k) × (x.lots ≡ []) × (x.done ≡ []))) }
@@ -121,7 +124,7 @@ impl<B: Fits + Drop> Records<B> {
 
     /// How many records each arena has.
     pub fn per_arena(&self) -> u16
-        ensures { (result ≡ self.now.shape.records) × (0 < result) × (result ≤ 256) × (self.now.table.slots ≡ length self.now.shape.names * self.now.shape.records) }
+        ensures { (result ≡ self.now.shape.records) × (0 < result) × (result ≤ MAX_RECORDS) × (self.now.table.slots ≡ length self.now.shape.names * self.now.shape.records) }
     {
         self.records
     }
@@ -130,7 +133,7 @@ impl<B: Fits + Drop> Records<B> {
     pub fn has(&self, number: u16) -> bool
         ensures { MatchBool result (IsRecord self.now.shape number) (IsRecord self.now.shape number → ⊥) }
     {
-        number / 256 < u16::from(self.arenas) && number % 256 < self.records
+        number / MAX_RECORDS < u16::from(self.arenas) && number % MAX_RECORDS < self.records
     }
 
     // Where a record's word and slot are.
@@ -139,7 +142,7 @@ impl<B: Fits + Drop> Records<B> {
         ensures index { result ≡ index_of self.now.shape.records number }
         ensures inside { (result < self.now.table.words) × (result < self.now.table.slots) }
     {
-        number / 256 * self.records + number % 256
+        number / MAX_RECORDS * self.records + number % MAX_RECORDS
     }
 
     // One compare on a record's word, which takes the record where it finds it as wanted. The error is the word that it found, which says something else.
@@ -147,9 +150,9 @@ impl<B: Fits + Drop> Records<B> {
         requires own { IsSeatOf self.now seat.old }
         requires exists { IsRecord self.now.shape number }
         requires away { IsAway (holder_of from) }
-        ensures taken { OnOk result ((l : LotOf B) × (seat.new ≡ did (taking seat.old.process number (holder_of from)) (with_lots seat.old (seat.old.lots ++ (number, l) ∷ []))) × IsLotOf seat.old.shape number l × IsHomeLot B.is_fit (holder_of from) l) }
+        ensures taken { OnOk result (HasGained (taking seat.old.process number (holder_of from)) (IsHomeLot B.is_fit (holder_of from)) seat.old seat.new) }
         ensures fresh { OnOk result (Among (keys seat.old.lots) number → ⊥) }
-        ensures missed { IfErr result (λ word. (word ≢ word_of (holder_of from)) × Knows (view_of seat.old) (index_of self.now.shape.records number) word × (seat.new ≡ seat.old)) }
+        ensures missed { IfErr result (λ word. HasMissed self.now.shape (holder_of from) number word seat.old seat.new) }
     {
         let slot = self.slot_of(number);
         match take_slot(&self.table.shared, &mut seat.hand, slot, from, seat.process) {
@@ -167,7 +170,7 @@ impl<B: Fits + Drop> Records<B> {
         requires exists { IsRecord self.now.shape number }
         requires away { IsAway (holder_of to) × IsHolder (holder_of to) }
         requires held { (l : LotOf B) × (value_at number seat.old.lots ≡ Some l) × IsHomeLot B.is_fit (holder_of to) l }
-        ensures { seat.new ≡ did (giving seat.old.process number (holder_of to)) (with_lots seat.old (without number seat.old.lots)) }
+        ensures { HasLost (giving seat.old.process number (holder_of to)) seat.old seat.new }
     {
         let slot = self.slot_of(number);
         let board = &self.table.shared;
@@ -179,8 +182,8 @@ impl<B: Fits + Drop> Records<B> {
     fn claim_seen(&self, seat: &mut Seat<B>, arena: u8) -> Result<u16, Seen>
         requires own { IsSeatOf self.now seat.old }
         requires arena { arena < length self.now.shape.names }
-        ensures record { IfOk result (λ r. (r / 256 ≡ arena) × (r % 256 < self.now.shape.records)) }
-        ensures claimed { IfOk result (λ r. (l : LotOf B) × (seat.new ≡ did (Claim seat.old.process r) (with_lots seat.old (seat.old.lots ++ (r, l) ∷ []))) × IsLotOf seat.old.shape r l × IsEmpty l) }
+        ensures record { IfOk result (λ r. (r / MAX_RECORDS ≡ arena) × (r % MAX_RECORDS < self.now.shape.records)) }
+        ensures claimed { IfOk result (λ r. HasGained (Claim seat.old.process r) (IsEmpty B.is_fit) seat.old seat.new) }
         ensures fresh { IfOk result (λ r. Among (keys seat.old.lots) r → ⊥) }
         ensures seen { IfErr result (λ s. SawTaken (view_of seat.old) arena s.words.items) }
         ensures missed { OnErr result (seat.new ≡ seat.old) }
@@ -198,13 +201,13 @@ impl<B: Fits + Drop> Records<B> {
         Err(seen)
     }
 
-    /// Takes the first record of the arena that it finds free, from index 0 on. Its lot is empty. The
-    /// error has a word for each record, which it found there at one moment, none of them free.
+    /// Takes the first record of the arena that it finds free, from index 0 on. Its lot is empty: no
+    /// bytes, and a blank body. The error has a word for each record, which it found there at one moment, none of them free.
     pub fn claim(&self, seat: &mut Seat<B>, arena: u8) -> Result<u16, Seen>
         requires own { IsSeatOf self.now seat.old }
         requires arena { arena < length self.now.shape.names }
-        ensures record { IfOk result (λ r. (r / 256 ≡ arena) × (r % 256 < self.now.shape.records)) }
-        ensures claimed { IfOk result (λ r. (l : LotOf B) × (seat.new ≡ did (Claim seat.old.process r) (with_lots seat.old (seat.old.lots ++ (r, l) ∷ []))) × IsLotOf seat.old.shape r l × IsEmpty l) }
+        ensures record { IfOk result (λ r. (r / MAX_RECORDS ≡ arena) × (r % MAX_RECORDS < self.now.shape.records)) }
+        ensures claimed { IfOk result (λ r. HasGained (Claim seat.old.process r) (IsEmpty B.is_fit) seat.old seat.new) }
         ensures fresh { IfOk result (λ r. Among (keys seat.old.lots) r → ⊥) }
         ensures seen { IfErr result (λ s. SawTaken (view_of seat.old) arena s.words.items) }
         ensures missed { OnErr result (seat.new ≡ seat.old) }
@@ -226,10 +229,10 @@ impl<B: Fits + Drop> Records<B> {
     /// found, which says something else.
     pub fn accept(&self, seat: &mut Seat<B>, number: u16, direction: u8) -> Result<(), u64>
         requires own { IsSeatOf self.now seat.old }
-        requires exists { IsRecord self.now.shape number × (direction < 128) }
-        ensures accepted { OnOk result ((l : LotOf B) × (seat.new ≡ did (Accept seat.old.process number direction) (with_lots seat.old (seat.old.lots ++ (number, l) ∷ []))) × IsLotOf seat.old.shape number l × IsFull B.is_fit l) }
+        requires exists { IsRecord self.now.shape number × (direction < DIRECTIONS) }
+        ensures accepted { OnOk result (HasGained (Accept seat.old.process number direction) (IsFull B.is_fit) seat.old seat.new) }
         ensures fresh { OnOk result (Among (keys seat.old.lots) number → ⊥) }
-        ensures missed { IfErr result (λ word. (word ≢ 2 + 4 * direction) × Knows (view_of seat.old) (index_of self.now.shape.records number) word × (seat.new ≡ seat.old)) }
+        ensures missed { IfErr result (λ word. HasMissed self.now.shape (Some (Direction direction)) number word seat.old seat.new) }
     {
         self.take(seat, number, OwnerWord::InFlight(direction))
     }
@@ -238,19 +241,20 @@ impl<B: Fits + Drop> Records<B> {
     /// 127).
     pub fn pass(&self, seat: &mut Seat<B>, number: u16, direction: u8)
         requires own { IsSeatOf self.now seat.old }
-        requires exists { IsRecord self.now.shape number × (direction < 128) }
+        requires exists { IsRecord self.now.shape number × (direction < DIRECTIONS) }
         requires held { (l : LotOf B) × (value_at number seat.old.lots ≡ Some l) × IsFull B.is_fit l }
-        ensures passed { seat.new ≡ did (Pass seat.old.process number direction) (with_lots seat.old (without number seat.old.lots)) }
+        ensures passed { HasLost (Pass seat.old.process number direction) seat.old seat.new }
     {
         self.give(seat, number, OwnerWord::InFlight(direction));
     }
 
-    /// Makes a record that the seat holds, and whose lot is empty, free.
+    /// Makes a record that the seat holds free. Its lot is empty, so that no free record keeps memory:
+    /// no bytes, and a blank body.
     pub fn vacate(&self, seat: &mut Seat<B>, number: u16)
         requires own { IsSeatOf self.now seat.old }
         requires exists { IsRecord self.now.shape number }
-        requires held { (l : LotOf B) × (value_at number seat.old.lots ≡ Some l) × IsEmpty l }
-        ensures vacated { seat.new ≡ did (Vacate seat.old.process number) (with_lots seat.old (without number seat.old.lots)) }
+        requires held { (l : LotOf B) × (value_at number seat.old.lots ≡ Some l) × IsEmpty B.is_fit l }
+        ensures vacated { HasLost (Vacate seat.old.process number) seat.old seat.new }
     {
         self.give(seat, number, OwnerWord::Free);
     }
@@ -272,12 +276,12 @@ impl<B: Fits + Drop> Records<B> {
     pub fn renew(&self, seat: &mut Seat<B>) -> u16
         requires own { IsSeatOf self.now seat.old }
         requires empty { seat.old.lots ≡ [] }
-        requires generation { generation_of seat.old.process < 127 }
-        ensures process { result ≡ seat.old.process + 32 }
-        ensures renewed { seat.new ≡ record seat.old { process = seat.old.process + 32 } }
+        requires generation { generation_of seat.old.process + 1 < GENERATIONS }
+        ensures process { result ≡ seat.old.process + PLACES }
+        ensures renewed { seat.new ≡ record seat.old { process = seat.old.process + PLACES } }
     {
         renew_hand(&self.table.shared, &mut seat.hand, seat.process);
-        seat.process += 32;
+        seat.process += u16::from(PLACES);
         seat.process
     }
 }

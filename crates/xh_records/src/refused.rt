@@ -1,9 +1,11 @@
 use std::alloc::AllocError;
+use thiserror::Error;
 
 /// Why a table of records wasn't made, or not closed.
-#[derive(Debug, Drop)]
+#[derive(Debug, Drop, Error)]
 pub enum Refused {
     /// A growth was refused. What was handed in is dropped.
+    #[error("a growth of memory was refused")]
     OutOfMemory,
 }
 

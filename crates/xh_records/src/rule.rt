@@ -10,7 +10,8 @@ pub struct Showing<B> {
 }
 
 impl<B: Fits> TableRule<Option<Lot<B>>, View, Shape> for Showing<B> {
-    ghost use Rattle.xh_records.specs.Showing.{Shown, all_places};
+    ghost use Rattle.xh_records.specs.Showing.{Shown};
+    ghost use Rattle.xh_records.specs.inner.Views.{all_places};
 
     ghost holds = { Shown B.is_fit };
 

@@ -1,8 +1,8 @@
 ghost use Rattle.std.specs.Prelude.{◌≡◌, ◌≤◌, ℕ, Some, length};
 ghost use Rattle.xh_arena.specs.Views.{LotOf};
 ghost use Rattle.xh_model.specs.Keyed.{value_at};
-ghost use Rattle.xh_records.specs.Seats.{IsRecord};
 ghost use Rattle.xh_records.specs.Showing.{IsLotOf};
+ghost use Rattle.xh_records.specs.Seats.{IsRecord};
 
 use crate::hand::Hand;
 use std::marker::Model;
@@ -20,12 +20,20 @@ pub struct Seat<B> {
 
 impl<B> Model for Seat<B> {
     ghost use Rattle.std.specs.Vec.{vec_capacity};
-    ghost use Rattle.xh_records.specs.Seats.{Held, IsSeat, numbered};
-    ghost use Rattle.xh_records.specs.Showing.{events_in};
+    ghost use Rattle.xh_records.specs.Seats.{Held};
+    ghost use Rattle.xh_records.specs.inner.Views.{events_in};
+    ghost use Rattle.xh_records.specs.inner.Hands.{IsSeat, numbered};
 
     ghost Value = { Held B };
 
-    ghost view = { λ s. record { table = s.hand.table_id; id = s.hand.id; shape = s.hand.me.0.shape; process = s.process; lots = numbered s.hand.me.0.shape.records s.hand.me.1; done = events_in s.hand.me.0 } };
+    ghost view = { λ s. record {
+      table = s.hand.table_id;
+      id = s.hand.id;
+      shape = s.hand.me.0.shape;
+      process = s.process;
+      lots = numbered s.hand.me.0.shape.records s.hand.me.1;
+      done = events_in s.hand.me.0;
+    } };
 
     ghost invariant = { λ s. IsSeat s.process s.order.items (vec_capacity s.order) s.hand.table_id.slots s.hand.me };
 }

@@ -1,5 +1,6 @@
 //! Worked examples: a record goes its round, two threads claim, and what is refused.
 ghost use Rattle.std.specs.Prelude.{◌≡◌, ◌<◌, ◌≤◌, [], ◌∷◌, length, IfSome, IfOk};
+ghost use Rattle.xh_model.specs.declared.limits.TheConstants.{MAX_RECORDS};
 ghost use Rattle.xh_records.specs.Seats.{IsSeatOf};
 
 mod pairs;
@@ -43,7 +44,7 @@ struct Bench {
 
 /// The bench of a new vault, unless a growth was refused.
 fn make_bench(alloc: Global, size: u32, count: u16, wear: u64) -> Option<Bench>
-    requires { (0 < count) × (count ≤ 256) }
+    requires { (0 < count) × (count ≤ MAX_RECORDS) }
     ensures { IfSome result (λ b. b.records.shape.records ≡ count) }
 {
     let Ok((mut vault, lots, mut tallies)) = Vault::new::<Any>(alloc, size, count, wear, 1) else {

@@ -2,6 +2,8 @@
 ghost use Rattle.std.specs.Prelude.{◌≡◌, IfSome, IfNone, Some};
 ghost use Rattle.xh_model.specs.Words.{word_of, IsHolder, IsWord};
 
+use xh_model::limits::{DIRECTIONS, PROCESSES};
+
 /// What an owner word says of its record.
 #[derive(Clone, Copy, Debug, PartialEq, Eq)]
 pub enum OwnerWord {
@@ -36,8 +38,8 @@ impl OwnerWord {
         let number = word / 4;
         match word % 4 {
             0 if number == 0 => Some(OwnerWord::Free),
-            1 if number < 4096 => Some(OwnerWord::Owned(number as u16)),
-            2 if number < 128 => Some(OwnerWord::InFlight(number as u8)),
+            1 if number < u64::from(PROCESSES) => Some(OwnerWord::Owned(number as u16)),
+            2 if number < u64::from(DIRECTIONS) => Some(OwnerWord::InFlight(number as u8)),
             _ => None,
         }
     }

@@ -1,6 +1,7 @@
 // A record that is claimed, carved, passed, accepted, given back and vacated.
 ghost use Rattle.std.specs.Prelude.{◌≡◌, ◌<◌, [], ◌∷◌, IfSome, Some, length};
 ghost use Rattle.xh_arena.specs.Views.{LotOf};
+ghost use Rattle.xh_model.specs.declared.limits.TheConstants.{DIRECTIONS};
 ghost use Rattle.xh_model.specs.Keyed.{put, value_at};
 ghost use Rattle.xh_records.specs.Showing.{IsLotOf};
 ghost use Rattle.xh_records.specs.Seats.{IsRecord, IsSeatOf, with_lots};
@@ -64,7 +65,7 @@ pub(super) fn give_away(
 )
     requires own { IsSeatOf records.now seat.old }
     requires bare { seat.old.lots ≡ [] }
-    requires names { (records.now.shape.names ≡ vault.old.id ∷ []) × (direction < 128) }
+    requires names { (records.now.shape.names ≡ vault.old.id ∷ []) × (direction < DIRECTIONS) }
     requires ids { tally.old.id ≡ vault.old.id }
     ensures seat { (seat.new.table ≡ seat.old.table) × (seat.new.shape ≡ seat.old.shape) × (seat.new.process ≡ seat.old.process) × (seat.new.lots ≡ []) }
     ensures ids { (tally.new.id ≡ vault.new.id) × (vault.new.id ≡ vault.old.id) }

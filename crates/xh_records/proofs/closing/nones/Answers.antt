@@ -1,6 +1,6 @@
 use Rattle.std.proofs.Common.{rules, ◌≡◌, refl, sym, subst}
 use Rattle.std.specs.Prelude.{None}
-use Rattle.xh_records.specs.Slots.{slot_at}
+use Rattle.xh_records.specs.inner.Gathering.{slot_at}
 use Rattle.xh_records.proofs.Ended.{none_more}
 use Rattle.xh_records.proofs.closing.nones.Goals as goal
 

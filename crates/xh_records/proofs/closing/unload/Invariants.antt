@@ -4,7 +4,7 @@ use Rattle.std.specs.Vec.{vec_len, vec_capacity}
 use Rattle.std.specs.Slots.{slots_items, slots_len, slots_filled}
 use mathlib.Core.Option.{some}
 use lib.ListN.{get_elem?}
-use Rattle.xh_records.specs.Slots.{slot_at, or_else}
+use Rattle.xh_records.specs.inner.Gathering.{slot_at, or_else}
 use Rattle.xh_records.proofs.closing.unload.Given as goal
 
 abbrev pub invariant-loop-slot : goal.invariant-loop-slot

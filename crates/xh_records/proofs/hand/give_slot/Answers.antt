@@ -5,29 +5,37 @@ use Rattle.atomic_table.specs.Table.{rest}
 use Rattle.xh_model.specs.Keyed.{Distinct}
 use Rattle.xh_records.specs.declared.view.View.{View}
 use Rattle.xh_records.specs.Encoding.{holder_of}
-use Rattle.xh_records.specs.Seats.{turns}
-use Rattle.xh_records.specs.Steps.{process_in}
-use Rattle.xh_records.specs.Showing.{IsAlone, Owns, IsLotAt, lost}
+use Rattle.xh_records.specs.Showing.{Owns, IsLotAt}
+use Rattle.xh_records.specs.inner.Views.{IsAlone, lost}
+use Rattle.xh_records.specs.inner.Steps.{process_in}
+use Rattle.xh_records.specs.inner.Hands.{turns}
 use Rattle.xh_records.proofs.Keeps.{gives_lot}
-use Rattle.xh_records.proofs.Lists.{turned_at}
+use Rattle.xh_records.proofs.Lists.{Turned, turned_at}
+use Rattle.xh_records.proofs.hand.give_slot.Given.{Over}
+use Rattle.xh_records.proofs.hand.give_slot.Goals.{After-position-k}
 use Rattle.xh_records.proofs.hand.give_slot.Goals as goal
+
+-- the hand's list, turned to the slot
+at_slot : (g : Over) (c : After-position-k g) → Turned c.args.hand.now.me.1 c.position-k.result c.args.slot
+at_slot g c = let l = c.requires.listed in turned_at c.args.hand.now.me.1 c.position-k.result c.args.slot (subst Distinct l.0 l.1)
+    (subst (λ z. get_elem? z c.position-k.result ≡ some c.args.slot) l.0 c.position-k.ensures)
 
 pub overflow_sub-after : goal.overflow_sub-after
 overflow_sub-after g c =
     let l = c.requires.listed in
-    let t = turned_at c.args.hand.now.me.1 c.position-k.result c.args.slot (subst Distinct l.0 l.1) (subst (λ z. get_elem? z c.position-k.result ≡ some c.args.slot) l.0 c.position-k.ensures) in
+    let t = at_slot g (goal.at.overflow_sub-after g c).After-position-k in
     let long : length c.args.order.now ≡ c.position-k.result + suc t.behind = ap length l.0 ∙ t.long in omega arith
 
 pub overflow_sub-after-2 : goal.overflow_sub-after-2
 overflow_sub-after-2 g c =
     let l = c.requires.listed in
-    let t = turned_at c.args.hand.now.me.1 c.position-k.result c.args.slot (subst Distinct l.0 l.1) (subst (λ z. get_elem? z c.position-k.result ≡ some c.args.slot) l.0 c.position-k.ensures) in
+    let t = at_slot g (goal.at.overflow_sub-after-2 g c).After-position-k in
     let long : length c.args.order.now ≡ c.position-k.result + suc t.behind = ap length l.0 ∙ t.long in omega arith
 
 pub store-requires : goal.store-requires
 store-requires g c =
     let l = c.requires.listed in
-    let t = turned_at c.args.hand.now.me.1 c.position-k.result c.args.slot (subst Distinct l.0 l.1) (subst (λ z. get_elem? z c.position-k.result ≡ some c.args.slot) l.0 c.position-k.ensures) in
+    let t = at_slot g (goal.at.store-requires g c).After-position-k in
     let e = c.turn_by.ensures.2 in
     let lot = c.requires.lot in (
       c.turn_by.ensures.0 ∙ c.requires.own.0,
@@ -43,7 +51,7 @@ store-requires g c =
 pub returns : goal.returns
 returns g c =
     let l = c.requires.listed in
-    let t = turned_at c.args.hand.now.me.1 c.position-k.result c.args.slot (subst Distinct l.0 l.1) (subst (λ z. get_elem? z c.position-k.result ≡ some c.args.slot) l.0 c.position-k.ensures) in
+    let t = at_slot g (goal.at.returns g c).After-position-k in
     let e = c.turn_by.ensures.2 in
     let long : length c.args.order.now ≡ c.position-k.result + suc t.behind = ap length l.0 ∙ t.long in
     let after : length c.args.order.now - c.position-k.result - 1 ≡ t.behind = omega arith in

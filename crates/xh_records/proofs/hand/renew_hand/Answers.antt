@@ -1,4 +1,4 @@
-use Rattle.xh_records.proofs.Keeps.{ages}
+use Rattle.xh_records.proofs.Ages.{ages}
 use Rattle.xh_records.proofs.hand.renew_hand.Goals as goal
 
 pub load-requires : goal.load-requires

@@ -1,7 +1,7 @@
 use Rattle.std.proofs.Common.{rules, arith, ◌≡◌, ◌+◌, ◌≤◌, get_or, false}
 use mathlib.Core.Logic.{dite}
 use native.Mathlib.Decide.{dec_lt}
-use Rattle.xh_records.proofs.Keeps.{in_range, nth_is}
+use Rattle.xh_records.proofs.Elements.{in_range, nth_is}
 use Rattle.xh_records.proofs.hand.skip_far.Goals as goal
 
 pub loop-k-init : goal.loop-k-init

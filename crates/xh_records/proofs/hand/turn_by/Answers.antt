@@ -1,5 +1,5 @@
 use Rattle.std.proofs.Common.{arith, ◌≡◌, ℕ, suc, ◌+◌, ◌-◌, ap, ◌∙◌}
-use Rattle.xh_records.specs.Seats.{turns}
+use Rattle.xh_records.specs.inner.Hands.{turns}
 use Rattle.xh_records.proofs.hand.turn_by.Goals as goal
 
 pub loop-done-preserved : goal.loop-done-preserved

@@ -3,20 +3,27 @@ use lib.ListN.{get_elem?}
 use mathlib.Core.Option.{some}
 use Rattle.atomic_table.specs.Table.{rest}
 use Rattle.xh_model.specs.Keyed.{Distinct}
-use Rattle.xh_records.specs.Seats.{turns}
-use Rattle.xh_records.proofs.Lists.{turned_at, first_is}
+use Rattle.xh_records.specs.inner.Hands.{turns}
+use Rattle.xh_records.proofs.Lists.{Turned, turned_at, first_is}
+use Rattle.xh_records.proofs.lending.swap_slot.Given.{Over}
+use Rattle.xh_records.proofs.lending.swap_slot.Goals.{After-position-k}
 use Rattle.xh_records.proofs.lending.swap_slot.Goals as goal
+
+-- the hand's list, turned to the slot
+at_slot : (g : Over) (c : After-position-k g) → Turned c.args.hand.now.me.1 c.position-k.result c.args.slot
+at_slot g c = let l = c.requires.listed in turned_at c.args.hand.now.me.1 c.position-k.result c.args.slot (subst Distinct l.0 l.1)
+    (subst (λ z. get_elem? z c.position-k.result ≡ some c.args.slot) l.0 c.position-k.ensures)
 
 pub overflow_sub-after : goal.overflow_sub-after
 overflow_sub-after g c =
     let l = c.requires.listed in
-    let t = turned_at c.args.hand.now.me.1 c.position-k.result c.args.slot (subst Distinct l.0 l.1) (subst (λ z. get_elem? z c.position-k.result ≡ some c.args.slot) l.0 c.position-k.ensures) in
+    let t = at_slot g (goal.at.overflow_sub-after g c).After-position-k in
     let long : length c.args.order.now ≡ c.position-k.result + suc t.behind = ap length l.0 ∙ t.long in omega arith
 
 pub exchange-found-requires : goal.exchange-found-requires
 exchange-found-requires g c =
     let l = c.requires.listed in
-    let t = turned_at c.args.hand.now.me.1 c.position-k.result c.args.slot (subst Distinct l.0 l.1) (subst (λ z. get_elem? z c.position-k.result ≡ some c.args.slot) l.0 c.position-k.ensures) in
+    let t = at_slot g (goal.at.exchange-found-requires g c).After-position-k in
     let here = ap (λ m. m.1) c.turn_by.ensures.2 ∙ t.first in
     let there = here ∙ (λ i. (sym c.from.ensures i, t.value) ∷ t.others) in
     (c.turn_by.ensures.0 ∙ c.requires.own, (t.value, there ∙ ap (λ z. (c.from.result, t.value) ∷ z) (ap rest (sym there))))
@@ -24,7 +31,7 @@ exchange-found-requires g c =
 pub returns : goal.returns
 returns g c =
     let l = c.requires.listed in
-    let t = turned_at c.args.hand.now.me.1 c.position-k.result c.args.slot (subst Distinct l.0 l.1) (subst (λ z. get_elem? z c.position-k.result ≡ some c.args.slot) l.0 c.position-k.ensures) in
+    let t = at_slot g (goal.at.returns g c).After-position-k in
     let here = ap (λ m. m.1) c.turn_by.ensures.2 ∙ t.first in
     let long : length c.args.order.now ≡ c.position-k.result + suc t.behind = ap length l.0 ∙ t.long in
     let after : length c.args.order.now - c.position-k.result ≡ suc t.behind = omega arith in

@@ -1,4 +1,4 @@
-use Rattle.std.proofs.Common.{◌≡◌, ◌∙◌, List, [], ◌∷◌, length, drop, Some, ap, refl, subst, sym, arith, rules, length-drop}
+use Rattle.std.proofs.Common.{◌≡◌, ◌∙◌, List, [], ◌∷◌, length, drop, Some, true, ap, refl, subst, sym, arith, rules, length-drop}
 use Rattle.std.specs.Prelude.{slice_get}
 use Rattle.std.proofs.lemmas.Option.{slice_get_read}
 use Rattle.xh_records.specs.Seats.{Held}
@@ -7,7 +7,7 @@ use Rattle.xh_records.proofs.OneVault.{of_one_vault}
 use Rattle.xh_records.proofs.tests.make_bench.Goals as goal
 
 pub new-requires-2-clause-empty : goal.new-requires-2-clause-empty
-new-requires-2-clause-empty c = of_one_vault _ _ c.args.count _ c.in-Ok.lots.items (search rules) c.in-Ok.ensures.lots
+new-requires-2-clause-empty c = of_one_vault _ (λ b n. true) _ c.args.count _ c.in-Ok.lots.items (λ b new. refl) (search rules) c.in-Ok.ensures.lots
 
 get_drop_one : {X : Type 0} (xs : List X) (x : X) → slice_get (drop 1 xs) 0 ≡ Some x → slice_get xs 1 ≡ Some x
 get_drop_one [] x e = absurd (cc)

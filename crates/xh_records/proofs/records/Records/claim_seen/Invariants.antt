@@ -1,6 +1,5 @@
 use Rattle.std.proofs.Common.{◌≡◌, ◌≢◌, ℕ, ◌+◌, ◌*◌, ◌<◌, length, get_or}
-use Rattle.xh_records.specs.Seats.{view_of}
-use Rattle.xh_records.specs.Steps.{Knows}
+use Rattle.xh_records.specs.Seats.{view_of, Knows}
 use Rattle.xh_records.proofs.records.Records.claim_seen.Given as goal
 
 abbrev pub invariant-loop-index : goal.invariant-loop-index

@@ -4,8 +4,10 @@ use Rattle.std.specs.Vec.{vec_len}
 use Rattle.std.specs.Slots.{slots_items, slots_len, slots_counts}
 use Rattle.xh_records.specs.declared.shape.Shape.{Shape}
 use Rattle.xh_records.specs.Seats.{Held, Ends}
-use Rattle.xh_records.proofs.Lists.{elem_slice}
+use Rattle.xh_records.proofs.Elements.{elem_slice}
 use Rattle.xh_records.proofs.Ended.{some_lot, ends}
+use Rattle.xh_records.proofs.records.Records.close.Given.{Over}
+use Rattle.xh_records.proofs.records.Records.close.Goals.{After-close_with}
 use Rattle.xh_records.proofs.records.Records.close.Goals as goal
 
 pub join_all-hand-requires : goal.join_all-hand-requires
@@ -18,32 +20,41 @@ join_all-hand-requires g c =
       none = λ k below. c.in_ok-held.ensures.1 k;
     }
 
+-- the sizes of what is taken apart
+module _ (g : Over) (c : After-close_with g) where
+  count : slots_len c.close_with.result.slots ≡ length (slots_items c.close_with.result.slots)
+  count = (slots_counts c.close_with.result.slots).0
+
+  long : length c.join_all-hand.new.held.items ≡ length (slots_items c.close_with.result.slots)
+  long =
+      let held_long : vec_len c.join_all-hand.new.held ≡ slots_len c.close_with.result.slots = search rules in
+      let size : vec_len c.join_all-hand.new.held ≡ length c.join_all-hand.new.held.items = search rules in sym size ∙ held_long ∙ count
+
+  shape_is : c.self.inside.table.shared.key ≡ c.args.self.shape
+  shape_is = ap (λ r. r.shape) c.self.view_is
+
+  own : (j : ℕ) (x : Held g.row.B.Denot) → slice_get c.args.seats.items j ≡ Some x → x.shape ≡ c.self.inside.table.shared.key
+  own j x at = (c.requires.own j x at).1 ∙ sym shape_is
+
+  all : length c.args.seats.items ≡ c.self.inside.table.shared.key.places
+  all = let size : vec_len c.args.seats ≡ length c.args.seats.items = search rules in sym size ∙ c.requires.all ∙ ap (λ (z : Shape). z.places) (sym shape_is)
+
+  sized : length (slots_items c.close_with.result.slots) ≡ length c.self.inside.table.shared.key.names * c.self.inside.table.shared.key.records
+  sized = let a : slots_len c.close_with.result.slots ≡ c.self.inside.table.shared.table_id.slots = search rules in sym count ∙ a ∙ c.self.invariant.slots
+
 pub unload-requires-clause-some_lot : goal.unload-requires-clause-some_lot
 unload-requires-clause-some_lot g c =
-    let key = c.self.inside.table.shared.key in
-    let count : slots_len c.close_with.result.slots ≡ length (slots_items c.close_with.result.slots) = (slots_counts c.close_with.result.slots).0 in
-    let held_long : vec_len c.join_all-hand.new.held ≡ slots_len c.close_with.result.slots = search rules in
-    let size : vec_len c.join_all-hand.new.held ≡ length c.join_all-hand.new.held.items = search rules in
-    let long : length c.join_all-hand.new.held.items ≡ length (slots_items c.close_with.result.slots) = sym size ∙ held_long ∙ count in
-    let shape_is : key ≡ c.args.self.shape = ap (λ r. r.shape) c.self.view_is in
-    let own : (j : ℕ) (x : Held g.row.B.Denot) → slice_get c.args.seats.items j ≡ Some x → x.shape ≡ key = λ j x at. (c.requires.own j x at).1 ∙ sym shape_is in
-    let size_is : vec_len c.args.seats ≡ length c.args.seats.items = search rules in
-    let all : length c.args.seats.items ≡ key.places = sym size_is ∙ c.requires.all ∙ ap (λ (z : Shape). z.places) (sym shape_is) in
-    let sized : length (slots_items c.close_with.result.slots) ≡ length key.names * key.records = (let a : slots_len c.close_with.result.slots ≡ c.self.inside.table.shared.table_id.slots = search rules in sym count ∙ a ∙ c.self.invariant.slots) in
-    λ k h. some_lot g.B.Fits.is_fit key c.join_all-hand.result.id c.join_all-hand.result.me.0 (slots_items c.close_with.result.words) (slots_items c.close_with.result.slots) c.args.seats.items c.join_all-hand.new.held.items c.close_with.ensures.values.2 c.join_all-hand.ensures.gathered long c.self.invariant.small own all sized k (subst (λ (n : ℕ). k < n) count h)
+    let s = (goal.at.unload-requires-clause-some_lot g c).After-close_with in
+    λ k h. some_lot g.B.Fits.is_fit c.self.inside.table.shared.key c.join_all-hand.result.id c.join_all-hand.result.me.0 (slots_items c.close_with.result.words)
+    (slots_items c.close_with.result.slots) c.args.seats.items c.join_all-hand.new.held.items
+    c.close_with.ensures.values.2 c.join_all-hand.ensures.gathered (long g s) c.self.invariant.small (own g s) (all g s) (sized g s) k (subst (λ (n : ℕ). k < n) (count g s) h)
 
 pub returns : goal.returns
 returns g c =
-    let key = c.self.inside.table.shared.key in
-    let count : slots_len c.close_with.result.slots ≡ length (slots_items c.close_with.result.slots) = (slots_counts c.close_with.result.slots).0 in
-    let held_long : vec_len c.join_all-hand.new.held ≡ slots_len c.close_with.result.slots = search rules in
-    let size : vec_len c.join_all-hand.new.held ≡ length c.join_all-hand.new.held.items = search rules in
-    let long : length c.join_all-hand.new.held.items ≡ length (slots_items c.close_with.result.slots) = sym size ∙ held_long ∙ count in
-    let shape_is : key ≡ c.args.self.shape = ap (λ r. r.shape) c.self.view_is in
-    let own : (j : ℕ) (x : Held g.row.B.Denot) → slice_get c.args.seats.items j ≡ Some x → x.shape ≡ key = λ j x at. (c.requires.own j x at).1 ∙ sym shape_is in
-    let size_is : vec_len c.args.seats ≡ length c.args.seats.items = search rules in
-    let all : length c.args.seats.items ≡ key.places = sym size_is ∙ c.requires.all ∙ ap (λ (z : Shape). z.places) (sym shape_is) in
-    let sized : length (slots_items c.close_with.result.slots) ≡ length key.names * key.records = (let a : slots_len c.close_with.result.slots ≡ c.self.inside.table.shared.table_id.slots = search rules in sym count ∙ a ∙ c.self.invariant.slots) in
-    let done = ends g.B.Fits.is_fit key c.join_all-hand.result.id c.join_all-hand.result.me.0 (slots_items c.close_with.result.words) (slots_items c.close_with.result.slots) c.args.seats.items c.join_all-hand.new.held.items c.close_with.ensures.values.2 c.join_all-hand.ensures.gathered long c.self.invariant.small own all sized c.unload.result.1.items (c.unload.ensures.long ∙ count) c.unload.ensures.lots in
-    subst (λ z. Ends g.B.Fits.is_fit z c.args.seats.items c.unload.result.0.items c.unload.result.1.items) shape_is
+    let s = (goal.at.returns g c).After-close_with in let key = c.self.inside.table.shared.key in
+    let done = ends g.B.Fits.is_fit key c.join_all-hand.result.id c.join_all-hand.result.me.0 (slots_items c.close_with.result.words)
+    (slots_items c.close_with.result.slots) c.args.seats.items c.join_all-hand.new.held.items
+    c.close_with.ensures.values.2 c.join_all-hand.ensures.gathered (long g s) c.self.invariant.small (own g s) (all g s) (sized g s) c.unload.result.1.items
+    (c.unload.ensures.long ∙ count g s) c.unload.ensures.lots in
+    subst (λ z. Ends g.B.Fits.is_fit z c.args.seats.items c.unload.result.0.items c.unload.result.1.items) (shape_is g s)
     (subst (λ w. Ends g.B.Fits.is_fit key c.args.seats.items w c.unload.result.1.items) (sym c.unload.ensures.words) done)

@@ -1,39 +1,47 @@
-use Rattle.std.proofs.Common.{rules, ◌≡◌, ℕ, ◌%◌, ◌<◌, List, [], ◌∷◌, ◌++◌, get_or, length, refl, sym, ap, ◌∙◌, subst}
-use Rattle.std.specs.Prelude.{Option, Some}
+use Rattle.std.proofs.Common.{rules, ◌≡◌, ℕ, ◌<◌, List, [], ◌∷◌, ◌++◌, get_or, length, refl, sym, ap, ◌∙◌, subst}
+use Rattle.std.specs.Prelude.{Option}
 use lib.ListN.{get_elem?}
 use mathlib.Core.Option.{some}
-use Rattle.xh_model.specs.Slots.{index_of}
 use Rattle.xh_model.specs.Words.{number_of}
 use Rattle.xh_model.specs.Keyed.{Distinct, without}
 use Rattle.xh_records.specs.Encoding.{holder_of}
+use Rattle.xh_records.specs.inner.Events.{giving}
+use Rattle.xh_records.specs.inner.Views.{events_in, lost}
+use Rattle.xh_records.specs.inner.Steps.{process_in}
+use Rattle.xh_records.specs.inner.Hands.{numbered}
 use Rattle.xh_model.specs.declared.event.Holder.{Holder}
 use Rattle.atomic_table.specs.Table.{Me}
 use Rattle.xh_arena.specs.Views.{LotOf}
 use Rattle.xh_records.specs.declared.view.View.{View}
-use Rattle.xh_records.specs.History.{giving}
-use Rattle.xh_records.specs.Steps.{process_in}
 use Rattle.xh_records.proofs.History.{adds_one}
-use Rattle.xh_records.specs.Showing.{events_in, lost}
-use Rattle.xh_records.specs.Seats.{numbered}
-use Rattle.xh_records.proofs.Keeps.{in_range}
-use Rattle.xh_records.proofs.Seating.{reaches, loses, is_alone, seat_is}
-use Rattle.xh_records.proofs.Numbered.{without_numbered, number_is, slot_is, held_did}
+use Rattle.xh_records.proofs.Elements.{in_range}
+use Rattle.xh_records.proofs.Seating.{loses, is_alone, seat_is}
+use Rattle.xh_records.proofs.Numbered.{without_numbered, lost_by, held_did}
+use Rattle.xh_records.proofs.Lent.{Lent, lends, spot_of}
+use Rattle.xh_records.proofs.records.Records.give.Given.{Over}
+use Rattle.xh_records.proofs.records.Records.give.Goals.{After-as_slice, After-give_slot-k}
 use Rattle.xh_records.proofs.records.Records.give.Goals as goal
 
 abbrev Is : {B : Type 0} → Me (Option (LotOf B)) View → Me (Option (LotOf B)) View → Type 0
 Is x y = x ≡ y
 
 -- the process of a seat's view is the seat's
-who : {B : Type 0} {p : ℕ} (me : Me (Option (LotOf B)) View) (slot : ℕ) (h : Option Holder) → me.0.processes ≡ p ∷ [] → Is (lost me.0 slot (process_in me.0) h, without slot me.1) (lost me.0 slot p h, without slot me.1)
+who : {B : Type 0} {p : ℕ} (me : Me (Option (LotOf B)) View) (slot : ℕ) (h : Option Holder) → me.0.processes ≡ p ∷ []
+    → Is (lost me.0 slot (process_in me.0) h, without slot me.1) (lost me.0 slot p h, without slot me.1)
 who me slot h mine = ap (λ (l : List ℕ). (lost me.0 slot (get_or l 0 0) h, without slot me.1)) mine
+
+-- where the lot is, and where its slot stands
+lent : (g : Over) (c : After-as_slice g) → Lent c.args.seat.now _ _ _ c.seat.inside.hand.me c.seat.view_is _ _ _ c.seat.invariant c.slot_of-slot.result c.args.number c.requires.held.0
+lent g c = lends _ _ _ _ _ _ _ _ _ _ _ _ _ (spot_of _ _ _ _ _ c.seat.view_is c.args.self.now _ _ c.requires.own c.requires.exists c.slot_of-slot.ensures.index) c.requires.held.1
+
+place : (g : Over) (c : After-give_slot-k g) → get_elem? c.seat.inside.order.items c.give_slot-k.result ≡ some c.slot_of-slot.result
+place g c = subst (λ z. get_elem? z c.give_slot-k.result ≡ some c.slot_of-slot.result) c.as_slice.ensures.value c.give_slot-k.ensures.place
 
 pub give_slot-k-requires : goal.give_slot-k-requires
 give_slot-k-requires g c =
     let slot : ℕ = c.slot_of-slot.result in
     let x = c.args.seat.now in let me = c.seat.inside.hand.me in let h = c.requires.held in
-    let at : slot ≡ index_of x.shape.records c.args.number = c.slot_of-slot.ensures.index ∙ ap (λ z. index_of z.records c.args.number) (sym c.requires.own.1) in
-    let below : c.args.number % 256 < x.shape.records = subst (λ z. c.args.number % 256 < z.records) (sym c.requires.own.1) c.requires.exists.1 in
-    let reach = reaches _ _ _ _ me slot h.0 c.seat.invariant (slot_is x _ _ _ me c.seat.view_is _ _ _ c.seat.invariant slot c.args.number (Some h.0) at below h.1) in
+    let reach = (lent g (goal.at.give_slot-k-requires g c).After-as_slice).reach in
     let order : c.as_slice.result.now ≡ c.seat.inside.order.items = c.as_slice.ensures.value in record {
       own = (
         ap (λ y. y.table) c.seat.view_is ∙ c.requires.own.0 ∙ sym (ap (λ r. r.table) c.self.view_is),
@@ -47,24 +55,23 @@ give_slot-k-requires g c =
 
 pub remove-requires : goal.remove-requires
 remove-requires g c =
-    let place : get_elem? c.seat.inside.order.items c.give_slot-k.result ≡ some c.slot_of-slot.result = subst (λ z. get_elem? z c.give_slot-k.result ≡ some c.slot_of-slot.result) c.as_slice.ensures.value c.give_slot-k.ensures.place in
-    let inside : c.give_slot-k.result < length c.seat.inside.order.items = in_range c.seat.inside.order.items c.give_slot-k.result c.slot_of-slot.result place in
+    let inside : c.give_slot-k.result < length c.seat.inside.order.items = in_range c.seat.inside.order.items c.give_slot-k.result c.slot_of-slot.result
+    (place g (goal.at.remove-requires g c).After-give_slot-k) in
     search rules
 
 pub invariant_of-seat : goal.invariant_of-seat
 invariant_of-seat g c =
-    let place : get_elem? c.seat.inside.order.items c.give_slot-k.result ≡ some c.slot_of-slot.result = subst (λ z. get_elem? z c.give_slot-k.result ≡ some c.slot_of-slot.result) c.as_slice.ensures.value c.give_slot-k.ensures.place in
-    seat_is _ _ _ _ _ _ _ _ _ _ refl c.remove.ensures.items c.remove.ensures.capacity (ap (λ z. z.slots) c.give_slot-k.ensures.hand.0) (c.give_slot-k.ensures.hand.2 ∙ who _ _ _ c.seat.invariant.processes)
-    (loses _ _ _ _ c.seat.inside.hand.me c.give_slot-k.result c.slot_of-slot.result (holder_of c.args.to) c.seat.invariant place)
+    seat_is _ _ _ _ _ _ _ _ _ _ refl c.remove.ensures.items c.remove.ensures.capacity (ap (λ z. z.slots) c.give_slot-k.ensures.hand.0)
+    (c.give_slot-k.ensures.hand.2 ∙ who _ _ _ c.seat.invariant.processes)
+    (loses _ _ _ _ c.seat.inside.hand.me c.give_slot-k.result c.slot_of-slot.result (holder_of c.args.to) c.seat.invariant (place g (goal.at.invariant_of-seat g c).After-give_slot-k))
 
 pub returns : goal.returns
 returns g c =
     let slot : ℕ = c.slot_of-slot.result in
     let x = c.args.seat.now in let me = c.seat.inside.hand.me in let last = c.give_slot-k.ensures.hand in
-    let at : slot ≡ index_of x.shape.records c.args.number = c.slot_of-slot.ensures.index ∙ ap (λ z. index_of z.records c.args.number) (sym c.requires.own.1) in
-    let below : c.args.number % 256 < x.shape.records = subst (λ z. c.args.number % 256 < z.records) (sym c.requires.own.1) c.requires.exists.1 in
-    let number : number_of me.0.shape.records slot ≡ c.args.number = number_is _ x.shape.records slot c.args.number (ap (λ z. z.shape.records) c.seat.view_is) at below in
+    let number : number_of me.0.shape.records slot ≡ c.args.number = (lent g (goal.at.returns g c).After-as_slice).number in
     let h = holder_of c.args.to in
-    held_did x _ _ _ me c.seat.view_is _ _ c.give_slot-k.new.hand.me _ (giving x.process c.args.number h) last.0 last.1 (ap (λ m. m.0.shape) last.2)
+    lost_by x _ x.process c.args.number h (held_did x _ _ _ me c.seat.view_is _ _ c.give_slot-k.new.hand.me _ (giving x.process c.args.number h) last.0 last.1 (ap (λ m. m.0.shape) last.2)
     (ap (λ m. numbered m.0.shape.records m.1) last.2 ∙ without_numbered me.0.shape c.seat.invariant.small me.1 slot c.seat.invariant.lots ∙ (λ i. without (number i) (c.seat.view_is i).lots))
-    (ap (λ m. events_in m.0) (last.2 ∙ who me slot h c.seat.invariant.processes) ∙ (adds_one (giving c.seat.inside.process (number_of me.0.shape.records slot) h) _ me.0.done c.seat.invariant.done).0 ∙ (λ i. events_in me.0 ++ giving (c.seat.view_is i).process (number i) h ∷ []))
+    (ap (λ m. events_in m.0) (last.2 ∙ who me slot h c.seat.invariant.processes) ∙ (adds_one
+    (giving c.seat.inside.process (number_of me.0.shape.records slot) h) _ me.0.done c.seat.invariant.done).0 ∙ (λ i. events_in me.0 ++ giving (c.seat.view_is i).process (number i) h ∷ [])))

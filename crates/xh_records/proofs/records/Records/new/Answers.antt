@@ -1,27 +1,33 @@
 use Rattle.std.proofs.Common.{rules, arith, ◌≡◌, ℕ, suc, ◌+◌, ◌-◌, ◌*◌, ◌/◌, ◌%◌, ◌<◌, ◌≤◌, ⊎_elim, length, replicate, refl, sym, ap, ◌∙◌, subst, [], length-append, mod-lt}
+use Rattle.std.proofs.lemmas.List.{length-map}
 use Rattle.std.specs.Prelude.{Some, slice_get}
 use Rattle.std.specs.Vec.{vec_capacity}
 use lib.ListN.{get_elem?}
 use mathlib.Core.Option.{some}
 use Rattle.xh_model.specs.Words.{number_of}
 use Rattle.xh_model.proofs.Words.{arena_of_number, place_of_number}
-use Rattle.xh_records.specs.Showing.{dealer, dealt, dealt_from, events_in}
-use Rattle.xh_records.specs.Seats.{IsSmall, numbered}
-use Rattle.xh_records.proofs.Cuts.{opens, snoc_at, mapped_length}
-use Rattle.xh_records.proofs.Lists.{elem_slice, slice_elem}
+use Rattle.xh_records.specs.Showing.{IsSmall}
+use Rattle.xh_records.specs.inner.Views.{dealer, dealt, dealt_from, events_in}
+use Rattle.xh_records.specs.inner.Hands.{numbered}
+use Rattle.xh_records.proofs.Elements.{snoc_at, elem_slice, slice_elem}
+use Rattle.xh_records.proofs.Opening.{opens}
 use Rattle.xh_records.proofs.Seating.{seat_is}
 use Rattle.xh_records.proofs.records.Records.new.Goals as goal
 
 pub new-made-requires : goal.new-made-requires
 new-made-requires g c =
     let n : ℕ = c.args.records in
-    opens g.B.Fits.is_fit _ c.len-count.result _ c.args.lots.items _ (subst (λ (z : ℕ). z ≤ 32) (sym c.from-2.ensures) c.requires.limits.3) (let e : c.as_slice.result.now ≡ replicate c.len-count.result 0 = search rules in e) c.in_ok-slots.ensures (let e : length c.args.lots.items ≡ c.len-count.result = search rules in e)
+    opens g.B.Fits.is_fit _ c.len-count.result _ c.args.lots.items _ (subst (λ (z : ℕ). z ≤ 32) (sym c.from-2.ensures) c.requires.limits.3)
+    (let e : c.as_slice.result.now ≡ replicate c.len-count.result 0 = search rules in e) c.in_ok-slots.ensures (let e : length c.args.lots.items ≡ c.len-count.result = search rules in e)
     (λ k l at.
     let e = c.requires.empty k l (elem_slice c.args.lots.items k l at) in
     let below : k % n < n = mod-lt k c.requires.limits.0 in
     let most : n ≤ 256 = c.requires.limits.1 in
-    let small : k % n < 256 = omega arith in
-    (subst (λ (z : ℕ). (l.index ≡ number_of z k % 256) × (slice_get c.args.names (number_of z k / 256) ≡ Some l.id)) (sym c.from.ensures) (e.0 ∙ sym (place_of_number n k small), ap (slice_get c.args.names) (arena_of_number n k small) ∙ e.1), e.2))
+    let small : k % n < 256 = omega arith in (
+      subst (λ (z : ℕ). (l.index ≡ number_of z k % 256) × (slice_get c.args.names (number_of z k / 256) ≡ Some l.id)) (sym c.from.ensures)
+          (e.0 ∙ sym (place_of_number n k small), ap (slice_get c.args.names) (arena_of_number n k small) ∙ e.1),
+      e.2,
+    ))
     (subst (λ (z : ℕ). (0 < z) × (z ≤ 256)) (sym c.from.ensures) (c.requires.limits.0, c.requires.limits.1))
 
 pub deal-hand-requires-clause-own : goal.deal-hand-requires-clause-own
@@ -43,7 +49,8 @@ invariant_of-push_reserved g c =
     let one : c.args.places - c.loop-place.place ≡ suc (c.args.places - (c.loop-place.place + 1)) = omega arith in
     let v = i.view ∙ ap (dealer key c.loop-place.place) one in
     let empty : c.in_ok-order.order.items ≡ [] = search rules in
-    let slots : c.deal-hand.result.table_id.slots ≡ c.len-count.result = ap (λ z. z.slots) (c.deal-hand.ensures.seat.0 ∙ i.here) ∙ c.in-Ok.ensures.ok.1 ∙ ap length c.in_ok-slots.ensures ∙ mapped_length Some c.args.lots.items ∙ (let e : length c.args.lots.items ≡ c.len-count.result = search rules in e) in
+    let slots : c.deal-hand.result.table_id.slots ≡ c.len-count.result = ap (λ z. z.slots) (c.deal-hand.ensures.seat.0 ∙ i.here) ∙ c.in-Ok.ensures.ok.1 ∙ ap length c.in_ok-slots.ensures
+    ∙ length-map c.args.lots.items Some ∙ (let e : length c.args.lots.items ≡ c.len-count.result = search rules in e) in
     let room : c.deal-hand.result.table_id.slots ≤ vec_capacity c.in_ok-order.order = subst (λ (z : ℕ). z ≤ vec_capacity c.in_ok-order.order) (sym slots) c.in_ok-order.ensures.capacity in
     let each : key.records ≡ c.args.records = ap (λ z. z.records) c.in-Ok.ensures.ok.5 ∙ c.from.ensures in
     let small : IsSmall key = subst (λ (z : ℕ). (0 < z) × (z ≤ 256)) (sym each) (c.requires.limits.0, c.requires.limits.1) in
@@ -84,7 +91,7 @@ invariant_of-all g c =
     let names : key.names ≡ c.args.names = ap (λ z. z.names) ok.5 in
     let count : c.len-count.result ≡ length key.names * key.records = sym long ∙ c.requires.whole.1 ∙ (λ i. length (sym names i) * sym each i) in
     let words : c.in-Ok.table.shared.table_id.words ≡ c.len-count.result = search rules in
-    let slots : c.in-Ok.table.shared.table_id.slots ≡ c.len-count.result = ok.1 ∙ ap length c.in_ok-slots.ensures ∙ mapped_length Some c.args.lots.items ∙ long in
+    let slots : c.in-Ok.table.shared.table_id.slots ≡ c.len-count.result = ok.1 ∙ ap length c.in_ok-slots.ensures ∙ length-map c.args.lots.items Some ∙ long in
     let places : key.places ≡ c.args.places = ap (λ z. z.places) ok.5 ∙ c.from-2.ensures in record {
       words = words ∙ count;
       slots = slots ∙ count;

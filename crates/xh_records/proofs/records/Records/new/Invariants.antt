@@ -3,7 +3,7 @@ use Rattle.std.specs.Vec.{vec_capacity}
 use mathlib.Core.Option.{some}
 use lib.ListN.{get_elem?}
 use Rattle.xh_records.specs.Seats.{Held}
-use Rattle.xh_records.specs.Showing.{dealer}
+use Rattle.xh_records.specs.inner.Views.{dealer}
 use Rattle.xh_records.proofs.records.Records.new.Given as goal
 
 abbrev pub invariant-loop-place : goal.invariant-loop-place
@@ -12,5 +12,6 @@ invariant-loop-place g l = record {
   view : l.dealer.me.0 ≡ dealer l.table.shared.key l.place (l.places - l.place);
   long : length l.seats.items ≡ l.place;
   room : l.places ≤ vec_capacity l.seats;
-  seats : (k : ℕ) (x : Held g.row.B.Denot) → get_elem? l.seats.items k ≡ some x → (x.table ≡ l.table.shared.table_id) × (x.shape ≡ l.table.shared.key) × (x.process ≡ k) × (x.lots ≡ []) × (x.done ≡ []);
+  seats : (k : ℕ) (x : Held g.row.B.Denot) → get_elem? l.seats.items k ≡ some x → (x.table ≡ l.table.shared.table_id) × (x.shape ≡ l.table.shared.key) × (x.process ≡ k) × (x.lots ≡ [])
+      × (x.done ≡ []);
 }

@@ -1,4 +1,4 @@
-use Rattle.std.proofs.Common.{arith, ◌≡◌, ◌+◌, ◌/◌, ◌<◌, refl, ap, ◌∙◌, []}
+use Rattle.std.proofs.Common.{◌≡◌, ℕ, ◌+◌, refl, ap, ◌∙◌, []}
 use Rattle.xh_model.specs.Keyed.{keys}
 use Rattle.xh_records.specs.Seats.{owned_by}
 use Rattle.xh_records.proofs.Seating.{seat_is, grows_old}
@@ -15,4 +15,5 @@ pub invariant_of-seat : goal.invariant_of-seat
 invariant_of-seat g c =
     let s = c.seat.invariant in
     let bare : c.seat.inside.hand.me.1 ≡ [] = none_numbered c.seat.inside.hand.me.0.shape s.small c.seat.inside.hand.me.1 s.lots (ap (λ h. h.lots) c.seat.view_is ∙ c.requires.empty) in
-    seat_is _ _ _ _ _ _ _ _ _ _ refl refl refl (ap (λ z. z.slots) c.renew_hand.ensures.0) c.renew_hand.ensures.2 (grows_old _ _ _ _ c.seat.inside.hand.me s bare)
+    seat_is _ _ _ _ _ _ _ _ _ _ (ap (λ (n : ℕ). c.seat.inside.process + n) c.from.ensures) refl refl (ap (λ z. z.slots) c.renew_hand.ensures.0) c.renew_hand.ensures.2
+    (grows_old _ _ _ _ c.seat.inside.hand.me s bare)

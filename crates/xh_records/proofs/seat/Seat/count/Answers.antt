@@ -1,5 +1,4 @@
 use Rattle.std.proofs.Common.{rules, ◌≡◌, ℕ, ◌≤◌, length, sym, ap, ◌∙◌, subst}
-use Rattle.std.specs.Vec.{vec_len}
 use Rattle.xh_model.specs.Keyed.{value_at}
 use Rattle.xh_model.proofs.Keyed.{length-keys}
 use Rattle.xh_records.specs.Showing.{IsLotOf}
@@ -18,7 +17,8 @@ returns-clause-count g c =
 pub returns-clause-few : goal.returns-clause-few
 returns-clause-few g c =
     let s = c.self.invariant in
-    let most : length c.self.inside.order.items ≤ c.args.self.now.table.slots = subst (λ (z : ℕ). length c.self.inside.order.items ≤ z) (ap (λ x. x.table.slots) c.self.view_is) (few _ c.self.inside.order.items s.below s.distinct) in
+    let most : length c.self.inside.order.items ≤ c.args.self.now.table.slots = subst (λ (z : ℕ). length c.self.inside.order.items ≤ z) (ap (λ x. x.table.slots) c.self.view_is)
+    (few _ c.self.inside.order.items s.below s.distinct) in
     search (rules, most)
 
 pub returns-clause-lots : goal.returns-clause-lots

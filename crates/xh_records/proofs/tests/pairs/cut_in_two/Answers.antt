@@ -1,7 +1,7 @@
 use Rattle.std.proofs.Common.{arith, ◌<◌, ℕ, ◌∷◌, [], ◌∙◌, length, refl, ap, sym, subst}
 use Rattle.xh_records.specs.Showing.{IsLotOf}
-use Rattle.xh_model.specs.declared.event.Event.TheVariants.{Claim}
 use Rattle.xh_records.specs.Seats.{Held, did}
+use Rattle.xh_model.specs.declared.event.Event.TheVariants.{Claim}
 use Rattle.xh_records.specs.declared.tests.Any.{Any}
 use Rattle.xh_records.proofs.OneVault.{id_is}
 use Rattle.xh_records.proofs.OneLot.{gains_one, has_one, changes_one, gains_two, apart, has_first, has_second, still_of}
@@ -61,7 +61,7 @@ cut_at-requires-clause-held g c =
       id_is _ _ c.in-Ok.first l here c.in-Ok.ensures.«record».0 first.1,
       id_is _ _ c.in-Ok-claim.second m here c.in-Ok-claim.ensures.«record».0 second.1,
       refl,
-      c.in-Ok-claim.ensures.claimed.3,
+      c.in-Ok-claim.ensures.claimed.3.0,
     )
 
 pub returns : goal.returns

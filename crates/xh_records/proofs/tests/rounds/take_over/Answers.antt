@@ -21,7 +21,7 @@ vacate-requires-clause-held g c =
     let bare : x.lots ≡ [] = ap (λ (h : Held Any). h.lots) c.in-Err.ensures.missed.2 ∙ c.requires.bare in
     let one = gains_one x _ x 0 l l bare (c.owner_word.ensures.same ∙ c.in-Ok.ensures.accepted.1) in
     let two = changes_one x _ _ 0 l (record l { len = 0 }) one (c.give_back_at.ensures.lot l (has_one x _ x 0 l l one)) in
-    (record l { len = 0 }, has_one x _ x 0 (record l { len = 0 }) l two, refl)
+    (record l { len = 0 }, has_one x _ x 0 (record l { len = 0 }) l two, (refl, refl))
 
 pub owner_word-requires-2-clause-own : goal.owner_word-requires-2-clause-own
 owner_word-requires-2-clause-own g c =

@@ -1,20 +1,14 @@
 -- What each kind of step tells its seat, with both outcomes of a compare.
-use Rattle.std.specs.Prelude.{◌≡◌, ◌≢◌, ℕ, ◌+◌, ◌*◌, ◌<◌, Bool, List, ◌∷◌, length, slice_index, Some, Option}
+use Rattle.std.specs.Prelude.{◌≡◌, ◌≢◌, ℕ, ◌∷◌, Bool, slice_index, Some, Option}
 use Rattle.atomic_table.specs.Table.{Me, Step, rest}
 use Rattle.xh_arena.specs.Views.{LotOf}
 use Rattle.xh_model.specs.declared.event.Holder.{Holder}
-use Rattle.xh_model.specs.declared.event.Holder.TheVariants.{Process}
-use Rattle.xh_model.specs.Words.{IsWord, word_of}
+use Rattle.xh_model.specs.Words.{word_of}
 use Rattle.xh_records.specs.declared.view.View.{View}
-use Rattle.xh_records.specs.Showing.{IsLotAt, IsHomeLot, Sits, Owns, gained, lost, renewed}
-
--- what a seat knows of a word that it found at the index k: it is a word, and it names a process that the seat stands for exactly where the seat has that record
-abbrev pub Knows : View → ℕ → ℕ → Type 0
-Knows v k n = IsWord n × ((p : ℕ) → Sits v p → (n ≡ word_of (Some (Process p)) → Owns v k p) × (Owns v k p → n ≡ word_of (Some (Process p))))
-
--- a word for each record of an arena, none of them free, as the seat found them
-abbrev pub SawTaken : View → ℕ → List ℕ → Type 0
-SawTaken v arena words = (length words ≡ v.shape.records) × ((k : ℕ) → k < v.shape.records → (slice_index words k ≢ 0) × Knows v (arena * v.shape.records + k) (slice_index words k))
+use Rattle.xh_records.specs.Showing.{IsLotAt, Owns}
+use Rattle.xh_records.specs.Seats.{Knows}
+use Rattle.xh_records.specs.inner.Events.{IsHomeLot}
+use Rattle.xh_records.specs.inner.Views.{gained, lost, renewed}
 
 -- the process of a view that stands for one
 abbrev pub process_in : View → ℕ
@@ -24,7 +18,8 @@ module _ {B : Type 0} where
   -- a compare that takes the record's lot, which is as it has to be at home, where it found the word that it wants, and is an event; else all is as it was, and the seat knows what it found
   abbrev pub took : (B → ℕ → Bool) → Step (Option (LotOf B)) → Me (Option (LotOf B)) View → ℕ → Me (Option (LotOf B)) View → Type 0
   took fits st me n me' =
-      (n ≡ st.first → (l : LotOf B) × ((h : Option Holder) → st.first ≡ word_of h → (me' ≡ (gained me.0 st.word (process_in me.0) h, (st.word, Some l) ∷ me.1)) × IsHomeLot fits h l) × IsLotAt me.0.shape st.word l × ((p : ℕ) → Owns me.0 st.word p → ⊥))
+      (n ≡ st.first → (l : LotOf B) × ((h : Option Holder) → st.first ≡ word_of h → (me' ≡ (gained me.0 st.word (process_in me.0) h, (st.word, Some l) ∷ me.1)) × IsHomeLot fits h l)
+      × IsLotAt me.0.shape st.word l × ((p : ℕ) → Owns me.0 st.word p → ⊥))
       × (n ≢ st.first → (me' ≡ me) × Knows me.0 st.word n)
 
   -- a store that gives the lot back, and is an event

@@ -1,0 +1,85 @@
+-- The table at the start: no record is held, and one seat stands for all places.
+use Rattle.std.proofs.Common.{◌≡◌, ℕ, zero, suc, ◌+◌, ◌%◌, ◌<◌, ◌≤◌, Bool, List, [], ◌∷◌, map, length, replicate, sym, refl, ap, ◌∙◌, subst, inl, inr, arith}
+use Rattle.std.proofs.lemmas.List.{length-map, length-replicate}
+use Rattle.std.specs.Prelude.{Option, Some, None}
+use mathlib.Core.Option.{some, some-injective, some-ne-none}
+use mathlib.Core.Logic.{dite}
+use native.Mathlib.Decide.{ℕ_discrete}
+use lib.ListN.{get_elem?}
+use Rattle.atomic_table.specs.Table.{opening}
+use Rattle.atomic_table.proofs.Lists.{at_map}
+use Rattle.xh_arena.specs.Views.{LotOf}
+use Rattle.xh_model.specs.Keyed.{Among}
+use Rattle.xh_model.specs.declared.event.Holder.{Holder}
+use Rattle.xh_model.specs.declared.event.Holder.TheVariants.{Process}
+use Rattle.xh_model.specs.Words.{IsHeldBy, IsHolder, word_of, place_of}
+use Rattle.xh_records.specs.declared.shape.Shape.{Shape}
+use Rattle.xh_records.specs.declared.view.View.{View}
+use Rattle.xh_records.specs.Showing.{Sits, IsLotAt, IsEmpty, IsSmall, HomeFits, ViewFits, ViewTells, Shown}
+use Rattle.xh_records.specs.inner.Views.{places_from, all_places}
+use Rattle.xh_records.proofs.History.{lists_there, lists_back}
+use Rattle.xh_records.proofs.Elements.{in_range, is_there}
+use Rattle.xh_records.proofs.Distinct.{few_places, least}
+
+-- the table at the start
+none_there : (n r : ℕ) (h : Option Holder) → IsHeldBy (replicate n None) r h → h ≡ None
+none_there zero r h e = absurd (some-ne-none h (sym e))
+none_there (suc n) zero h e = sym (some-injective None h e)
+none_there (suc n) (suc r) h e = none_there n r h e
+
+all_free : (n : ℕ) → replicate n 0 ≡ map word_of (replicate n None)
+all_free zero = refl
+all_free (suc n) = ap (λ (l : List ℕ). 0 ∷ l) (all_free n)
+
+sits_from : (a k p : ℕ) → a ≤ p → p < a + k → Among (places_from a k) p
+sits_from a zero p lo hi = absurd (omega arith)
+sits_from a (suc k) p lo hi = dite (ℕ_discrete p a) (λ e. inl e) (λ n. inr (sits_from (suc a) k p (omega arith) (omega arith)))
+
+pub opens : {B : Type 0} (fits : B → ℕ → Bool) (s : Shape) (n : ℕ) (words : List ℕ) (lots : List (LotOf B)) (slots : List (Option (LotOf B))) → s.places ≤ 32 → words ≡ replicate n 0
+    → slots ≡ map Some lots → length lots ≡ n → ((k : ℕ) (l : LotOf B) → get_elem? lots k ≡ some l → IsLotAt s k l × IsEmpty fits l) → IsSmall s
+    → Shown fits s (opening words slots (all_places s))
+opens {B} fits s n words lots slots few zeros wrapped long empty small = (
+  replicate n None,
+  record {
+    words_are = zeros ∙ all_free n;
+    holders = λ r h is. subst IsHolder (sym (none_there n r h is)) tt;
+    homes_long = length-map slots some ∙ ap length wrapped ∙ length-map lots Some ∙ long ∙ sym (length-replicate {A = Option Holder} n None);
+    homes_are = λ r h is.
+        let there = is_there lots r (let i = in_range (replicate n None) r h is in let e = length-replicate {A = Option Holder} n None in omega arith) in
+        let e = empty r there.0 there.1 in
+        let at : get_elem? (map some slots) r ≡ some (some (Some there.0)) = at_map some slots r (Some there.0)
+        (subst (λ (z : List (Option (LotOf B))). get_elem? z r ≡ some (Some there.0)) (sym wrapped) (at_map Some lots r there.0 there.1)) in
+        (some (Some there.0), at, subst (λ (k : Option Holder). HomeFits fits s r k (some (Some there.0))) (sym (none_there n r h is)) (there.0, refl, e.0, e.1));
+    process_at = λ q. q;
+    seat_of = λ q. 0;
+    placed = λ r p is. absurd (nobody r p is);
+    seated = λ q lt. (all_places s, refl, sits_from 0 s.places q (omega arith) (omega arith), (let m : s.places ≤ 32 = few in let e : q % 32 ≡ q = omega arith in e));
+    alone = λ id p v there sits. only id p v there sits;
+    views_fit = λ id v there. first id v there;
+    small = small;
+    log = [];
+    history = record { leads = ap (λ (k : ℕ). replicate k None) (sym (length-replicate {A = Option Holder} n None)); theirs = λ e h. absurd h; tells = λ id v there. told id v there };
+  },
+)
+  where
+    nobody : (r p : ℕ) → IsHeldBy (replicate n None) r (Some (Process p)) → ⊥
+    nobody r p is = let e : Some (Process p) ≡ None = none_there n r (Some (Process p)) is in let w : word_of (Some (Process p)) ≡ word_of None = ap word_of e in absurd (omega arith)
+
+    only : (id p : ℕ) (v : View) → get_elem? (all_places s ∷ []) id ≡ some v → Sits v p → (place_of p < s.places) × (p ≡ place_of p) × (id ≡ 0) × (p < 4096)
+    only zero p v there sits = let l : p < 0 + s.places = (least 0 s.places p (subst (λ (u : View). Sits u p) (sym (some-injective (all_places s) v there)) sits)).1 in let m : s.places ≤ 32 = few in
+        let e : p % 32 ≡ p = omega arith in (omega arith, sym e, refl, omega arith)
+    only (suc id) p v there sits = absurd (some-ne-none v (sym there))
+
+    begins : ViewFits s (replicate n None) (all_places s)
+    begins = record { is_owner = λ r p h. absurd h; owns_all = λ r p is h. absurd (nobody r p is); knows = λ p h. refl; places = few_places 0 s.places (omega (arith, few)) }
+
+    untold : ViewTells [] (all_places s)
+    untold = record { has = λ p sits. lists_there (places_from 0 s.places) p sits; only = λ q es there. let t = lists_back (places_from 0 s.places) q es there in (t.0, t.1, t.2, t.3) }
+
+    told : (id : ℕ) (v : View) → get_elem? (all_places s ∷ []) id ≡ some v → ViewTells [] v
+    told zero v there = subst (ViewTells []) (some-injective (all_places s) v there) untold
+    told (suc id) v there = absurd (some-ne-none v (sym there))
+
+    first : (id : ℕ) (v : View) → get_elem? (all_places s ∷ []) id ≡ some v → ViewFits s (replicate n None) v
+    first zero v there = subst (ViewFits s (replicate n None)) (some-injective (all_places s) v there) begins
+    first (suc id) v there = absurd (some-ne-none v (sym there))

@@ -1,0 +1,6 @@
+-- What the private steps go by. No exported call's promise needs it to be read.
+pub mod Events
+pub mod Views
+pub mod Steps
+pub mod Hands
+pub mod Gathering
