@@ -11,7 +11,7 @@ use Rattle.atomic_table.specs.Table.{State, Me, step, keeps, Allows, Splits, ope
 use Rattle.atomic_table.proofs.Lists.{at_set, set_here, set_else}
 use Rattle.xh_model.specs.declared.limits.TheConstants.{DIRECTIONS}
 use Rattle.xh_channel.specs.declared.closed_rule.Sight.{Sight}
-use Rattle.xh_channel.specs.ClosedWords.{sight, bit, peer, FitsSight, Shows, Shut, Looked, one_word, other_words}
+use Rattle.xh_channel.specs.inner.ClosedWords.{sight, bit, peer, FitsSight, Shows, Shut, Looked, one_word, other_words}
 use Rattle.xh_channel.proofs.Views.{every_set, every_snoc, one_view}
 
 all_zero : (k w : ℕ) → w < k → get_elem? {A = ℕ} (replicate k 0) w ≡ some 0

@@ -2,7 +2,7 @@
 use Rattle.std.proofs.Common.{◌≡◌, ℕ, zero, suc, ◌+◌, ◌<◌, true, List, [], ◌∷◌, ◌++◌, length, Option, Some, None, sym, ap, ◌∙◌, arith}
 use Rattle.std.proofs.lemmas.Option.{none-some}
 use Rattle.xh_channel.specs.declared.free_pair.FreePair.{FreePair}
-use Rattle.xh_channel.specs.FreeNumbers.{at_place, has_depth, StandAtTheirNumbers}
+use Rattle.xh_channel.specs.inner.FreeNumbers.{at_place, has_depth, StandAtTheirNumbers}
 
 abbrev channel_of : Option FreePair → ℕ
 channel_of None = 0

@@ -86,7 +86,8 @@ merges port v other u a b items views h at two at' =
     let was : get_elem? views other ≡ some u = ⊎_elim (λ x. absurd (two x.0)) (λ x. x.1) (at_set views port other both u at') in
     let theirs = (h.5 other u was).1 b in
     let Now : ℕ → Role → Type 0 = λ j y. j ≢ other → Fits h.0 port h.2 h.3 j y in
-    let now : Every Now vs = every_set Now views port both (λ _. ((λ _. mine.0 a), λ _. (refl, theirs.1))) (λ j y _ e apart. ((h.5 j y e).0, λ p. absurd (apart (((h.5 j y e).1 p).0 ∙ sym theirs.0)))) in
+    let now : Every Now vs = every_set Now views port both (λ _. ((λ _. mine.0 a), λ _. (refl, theirs.1)))
+    (λ j y _ e apart. ((h.5 j y e).0, λ p. absurd (apart (((h.5 j y e).1 p).0 ∙ sym theirs.0)))) in
     (h.0, port, h.2, h.3, h.4, every_set (Fits h.0 port h.2 h.3) vs other none ((λ p. absurd (true≢false (sym p))), λ p. absurd (true≢false (sym p))) (λ j y apart e. now j y e apart))
 
 pub totals : (port : ℕ) (v : Role) → v.pushes ≡ true → v.pops ≡ true → Learns Ordered port v (λ items. WaitsAfter v.sent v.got items)

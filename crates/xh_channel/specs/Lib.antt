@@ -1,12 +1,10 @@
-pub mod ClosedWords
+pub mod inner
 pub mod ContractEnds
 pub mod Directions
 pub mod Ends
-pub mod FreeNumbers
 pub mod Lines
 pub mod Numbers
 pub mod Pairs
 pub mod QueueEnds
 pub mod Queues
 pub mod Refusals
-pub mod Rooms

@@ -1,27 +1,24 @@
 -- A channel with a contract, as it is lent under its lock.
-use Rattle.std.specs.Prelude.{◌≡◌, ◌⊎◌, ℕ, zero, suc, ◌+◌, ◌-◌, ◌≤◌, true, false, List, [], ◌∷◌, ◌++◌, length, Some, None, IsSome, Result}
+use Rattle.std.specs.Prelude.{◌≡◌, ℕ, zero, suc, ◌+◌, ◌-◌, ◌≤◌, true, false, List, [], ◌∷◌, ◌++◌, length, map, Some, None, IsSome, Result}
 use Rattle.arrayvec.specs.ArrayVec.{ArrayVec}
 use Rattle.xh_model.specs.declared.limits.TheConstants.{MAX_DEPTH, MAX_MESSAGES}
 use Rattle.xh_model.specs.declared.row.Row.{Row}
-use Rattle.xh_model.specs.Rows.{allowed, row_at, IsValid, InStep, IsFrontAllowed}
+use Rattle.xh_model.specs.Rows.{allowed, row_at, IsValid, InStep}
+use Rattle.xh_core.specs.Talks.{AreOrderly}
 use Rattle.xh_channel.specs.declared.message.Message.{Message}
 use Rattle.xh_channel.specs.declared.line_end.LineEnd.{LineEnd}
 use Rattle.xh_channel.specs.declared.refused.Refused.{Refused}
 use Rattle.xh_channel.specs.declared.unsent.Unsent.{Unsent}
-use Rattle.xh_channel.specs.Numbers.{NumberedFrom}
+use Rattle.xh_channel.specs.Numbers.{NumberedFrom, tag}
 use Rattle.xh_channel.specs.Ends.{Puts, Takes, no_counts, now_shut}
 
 -- the messages on their way to this end, the front one first
 abbrev pub waiting : LineEnd → List Message
 waiting end = end.waiting.items
 
-abbrev pub tags_of : List Message → List ℕ
-tags_of [] = []
-tags_of (m ∷ ms) = m.tag ∷ tags_of ms
-
 -- the tags of the messages on their way to this end
 abbrev pub tags : LineEnd → List ℕ
-tags end = tags_of (waiting end)
+tags end = map tag (waiting end)
 
 -- what an end put is what its peer took and then what waits for the peer, numbered on
 abbrev pub Follows : LineEnd → LineEnd → Type 0
@@ -102,8 +99,5 @@ pub record Shuts (old new : Lined) (side : ℕ) : Type 0 where
   pub peer : end_of new (1 - side) ≡ end_of old (1 - side)
 
 -- each front message is one that its receiving end allows, and messages wait in one direction at most
-abbrev pub AreOrderly : List Row → LineEnd → LineEnd → Type 0
-AreOrderly rows left right = IsFrontAllowed rows 0 left.state (tags left) × IsFrontAllowed rows 1 right.state (tags right) × ((waiting left ≡ []) ⊎ (waiting right ≡ []))
-
 abbrev pub IsOrderly : Lined → Type 0
-IsOrderly line = AreOrderly line.rows line.left line.right
+IsOrderly line = AreOrderly line.rows line.left.state (tags line.left) line.right.state (tags line.right)

@@ -1,4 +1,4 @@
--- The numbers of the messages of a direction.
+-- The numbers and the tags of the messages of a direction.
 use Rattle.std.specs.Prelude.{ℕ, List}
 use Rattle.arrayvec.specs.ArrayVec.{ArrayVec}
 use Rattle.xh_model.specs.Direction.{AreNumberedFrom}
@@ -9,6 +9,9 @@ message number tag blocks = record { no = number; tag = tag; blocks = blocks }
 
 abbrev pub number : Message → ℕ
 number m = m.no
+
+abbrev pub tag : Message → ℕ
+tag m = m.tag
 
 -- the messages have the numbers after n, in order
 abbrev pub NumberedFrom : ℕ → List Message → Type 0

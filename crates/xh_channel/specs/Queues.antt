@@ -9,7 +9,7 @@ use Rattle.xh_channel.specs.declared.message.Message.{Message}
 use Rattle.xh_channel.specs.declared.refused.Refused.{Refused}
 use Rattle.xh_channel.specs.declared.spot.Spot.{Spot}
 use Rattle.xh_channel.specs.declared.unsent.Unsent.{Unsent}
-use Rattle.xh_channel.specs.ClosedWords.{ClosedView}
+use Rattle.xh_channel.specs.inner.ClosedWords.{ClosedView}
 use Rattle.xh_channel.specs.Numbers.{Numbered}
 use Rattle.xh_channel.specs.Directions.{WaitsFrom, WaitsTo}
 use Rattle.xh_channel.specs.Ends.{Puts, Takes, now_shut}

@@ -5,7 +5,7 @@ ghost use Rattle.xh_model.specs.declared.limits.TheConstants.{CHANNELS, MAX_DEPT
 ghost use Rattle.xh_channel.specs.ContractEnds.{PutsByLine, TakesByLine};
 ghost use Rattle.xh_channel.specs.Directions.{Ordered};
 ghost use Rattle.xh_channel.specs.Ends.{given_back};
-ghost use Rattle.xh_channel.specs.FreeNumbers.{StandAtTheirNumbers, at_place, has_depth};
+ghost use Rattle.xh_channel.specs.inner.FreeNumbers.{StandAtTheirNumbers, at_place, has_depth};
 ghost use Rattle.xh_channel.specs.Numbers.{message};
 ghost use Rattle.xh_channel.specs.Pairs.{IsPair};
 ghost use Rattle.xh_channel.specs.QueueEnds.{incoming_role, outgoing_role};

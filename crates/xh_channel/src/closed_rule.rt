@@ -15,7 +15,7 @@ pub struct Shutting;
 impl TableRule<(), Sight, ()> for Shutting {
     ghost use Rattle.std.specs.Prelude.{false};
     ghost use Rattle.xh_model.specs.declared.limits.TheConstants.{DIRECTIONS};
-    ghost use Rattle.xh_channel.specs.ClosedWords.{sight, Shows};
+    ghost use Rattle.xh_channel.specs.inner.ClosedWords.{sight, Shows};
 
     ghost holds = { λ _ s. Shows s };
 
@@ -26,7 +26,7 @@ impl TableRule<(), Sight, ()> for Shutting {
 pub struct OneWord;
 
 impl Split<Sight> for OneWord {
-    ghost use Rattle.xh_channel.specs.ClosedWords.{one_word, other_words};
+    ghost use Rattle.xh_channel.specs.inner.ClosedWords.{one_word, other_words};
 
     ghost left = { other_words };
 
@@ -37,7 +37,7 @@ impl Split<Sight> for OneWord {
 pub struct Shuts;
 
 impl Play<(), Sight> for Shuts {
-    ghost use Rattle.xh_channel.specs.ClosedWords.{Shut};
+    ghost use Rattle.xh_channel.specs.inner.ClosedWords.{Shut};
 
     ghost then = { Shut };
 }
@@ -46,7 +46,7 @@ impl Play<(), Sight> for Shuts {
 pub struct Looks;
 
 impl Play<(), Sight> for Looks {
-    ghost use Rattle.xh_channel.specs.ClosedWords.{Looked};
+    ghost use Rattle.xh_channel.specs.inner.ClosedWords.{Looked};
 
     ghost then = { Looked };
 }

@@ -1,7 +1,7 @@
 // An end's closed word.
 ghost use Rattle.std.specs.Prelude.{◌≡◌, ◌+◌, ◌<◌, true, false, IfOk, IsTrue};
 ghost use Rattle.xh_model.specs.declared.limits.TheConstants.{DIRECTIONS};
-ghost use Rattle.xh_channel.specs.ClosedWords.{ClosedView, own_shut, peer_seen_shut};
+ghost use Rattle.xh_channel.specs.inner.ClosedWords.{ClosedView, own_shut, peer_seen_shut};
 
 use crate::closed_rule::{Looks, OneWord, Shuts, Sight, Words};
 use atomic_table::{Seat, Table};
@@ -24,7 +24,7 @@ pub struct ClosedWord {
 
 impl Model for ClosedWord {
     ghost use Rattle.std.specs.Arc.{arc_value};
-    ghost use Rattle.xh_channel.specs.ClosedWords.{IsWordSeat, ClosedView};
+    ghost use Rattle.xh_channel.specs.inner.ClosedWords.{IsWordSeat, ClosedView};
 
     ghost Value = { ClosedView };
 
@@ -47,7 +47,7 @@ impl Model for ClosedWords {
     ghost use Rattle.std.specs.Prelude.{ℕ, ◌≡◌, ◌≤◌, false};
     ghost use Rattle.std.specs.Arc.{arc_value};
     ghost use Rattle.xh_model.specs.declared.limits.TheConstants.{DIRECTIONS};
-    ghost use Rattle.xh_channel.specs.ClosedWords.{sight};
+    ghost use Rattle.xh_channel.specs.inner.ClosedWords.{sight};
 
     ghost Value = { ℕ };
 

@@ -1,7 +1,7 @@
 //! The free numbers of channels.
 ghost use Rattle.std.specs.Prelude.{◌≡◌, ℕ, ◌<◌, true, false, Option, Some, None, MatchOption, slice_set, ◌+◌, length};
 ghost use Rattle.xh_model.specs.declared.limits.TheConstants.{CHANNELS};
-ghost use Rattle.xh_channel.specs.FreeNumbers.{at_place, has_depth, StandAtTheirNumbers, NoneFree};
+ghost use Rattle.xh_channel.specs.inner.FreeNumbers.{at_place, has_depth, StandAtTheirNumbers, NoneFree};
 
 use crate::free_pair::FreePair;
 

@@ -1,6 +1,7 @@
 //! The channels: their directions, their endpoints, and shutting.
 #![tactic(auto)]
 
+mod channel_state;
 mod channels;
 mod closed_rule;
 mod closed_word;
@@ -9,7 +10,6 @@ mod direction;
 mod endpoint;
 mod free_numbers;
 mod free_pair;
-mod kept;
 mod line;
 mod line_end;
 mod message;

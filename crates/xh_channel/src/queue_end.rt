@@ -80,7 +80,7 @@ pub fn direction(alloc: Global, depth: usize) -> Result<(SendingEnd, ReceivingEn
 /// Shows, of both ends of a direction, that what was popped is a prefix of what was pushed.
 pub fn compare(sender: SendingEnd, receiver: ReceivingEnd) -> (SendingEnd, ReceivingEnd)
     requires { receiver.queue ≡ sender.queue }
-    ensures same { (result.0.queue ≡ sender.queue) × (result.1.queue ≡ sender.queue) × (result.0.depth ≡ sender.depth) × (result.0.sent ≡ sender.sent) × (result.1.got ≡ receiver.got) }
+    ensures same { (result.0 ≡ sender) × (result.1 ≡ receiver) }
     ensures prefix { (items : List Message) × WaitsAfter sender.sent receiver.got items }
 {
     let SendingEnd { queue, mut pass } = sender;

@@ -5,20 +5,26 @@ ghost use Rattle.xh_channel.specs.declared.refused.Refused.TheVariants.{OutOfMem
 
 use arrayvec::ArrayVec;
 use std::alloc::AllocError;
+use thiserror::Error;
 use xh_model::limits::MAX_BLOCKS;
 
 /// Why a call did nothing. The names are those of the heap's refusals.
-#[derive(Drop, Debug)]
+#[derive(Drop, Debug, Error)]
 pub enum Refused {
     /// A growth of memory was refused.
+    #[error("out of memory")]
     OutOfMemory,
     /// The depth is not 1 to 16.
+    #[error("the depth is not 1 to 16")]
     BadSize,
     /// Each channel is taken.
+    #[error("each channel is taken")]
     NoChannel,
     /// No message waits, and the peer is shut. Nothing is handed back.
+    #[error("no message waits, and the peer is shut")]
     PeerClosed { back: ArrayVec<u16, MAX_BLOCKS> },
     /// No message waits.
+    #[error("no message waits")]
     Empty,
 }
 

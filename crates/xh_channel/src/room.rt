@@ -4,7 +4,7 @@ ghost use Rattle.xh_model.specs.declared.limits.TheConstants.{MAX_DEPTH};
 ghost use Rattle.xh_channel.specs.ContractEnds.{IsNumber, IsUntaken};
 ghost use Rattle.xh_channel.specs.Ends.{given_back};
 
-use crate::kept::Kept;
+use crate::channel_state::ChannelState;
 use crate::message::Message;
 use crate::refused::Refused;
 use crate::unsent::Unsent;
@@ -21,7 +21,7 @@ const LOOKS: u8 = 100;
 /// A channel's own lock, and what its waiters sleep on.
 #[derive(Drop)]
 pub struct Room {
-    kept: Mutex<Kept>,
+    state: Mutex<ChannelState>,
     // the turn under the lock, for looks that take no lock
     shown: AtomicU64,
     turned: Condvar,
@@ -30,7 +30,7 @@ pub struct Room {
 impl Room {
     pub fn new() -> Room {
         Room {
-            kept: Mutex::new(Kept::new()),
+            state: Mutex::new(ChannelState::new()),
             shown: AtomicU64::new(0),
             turned: Condvar::new(),
         }
@@ -40,12 +40,12 @@ impl Room {
     pub fn begin<R: Wait>(&self, rt: &R, contract: Contract, depth: u8)
         requires { (1 ≤ depth) × (depth ≤ MAX_DEPTH) }
     {
-        self.kept.lock(rt).begin(contract, depth);
+        self.state.lock(rt).begin(contract, depth);
     }
 
     /// The channel has no contract any more.
     pub fn end<R: Wait>(&self, rt: &R) {
-        self.kept.lock(rt).end();
+        self.state.lock(rt).end();
     }
 
     /// The put of the channel's line, which wakes its waiters.
@@ -60,9 +60,9 @@ impl Room {
         ensures number { IfOk result (λ n. IsNumber n) }
         ensures back { IfErr result (λ u. given_back u ≡ blocks) }
     {
-        let mut kept = self.kept.lock(rt);
-        let no = kept.put(side, tag, blocks)?;
-        self.show(kept);
+        let mut state = self.state.lock(rt);
+        let no = state.put(side, tag, blocks)?;
+        self.show(state);
         Ok(no)
     }
 
@@ -72,29 +72,29 @@ impl Room {
         ensures number { IfOk result (λ m. IsNumber m.no) }
         ensures refused { IfErr result (λ r. IsUntaken r) }
     {
-        self.kept.lock(rt).take(side)
+        self.state.lock(rt).take(side)
     }
 
     /// The shut of the channel's line, which wakes its waiters.
     pub fn shut<R: Wait>(&self, rt: &R, side: u8)
         requires { side < 2 }
     {
-        let mut kept = self.kept.lock(rt);
-        kept.shut(side);
-        self.show(kept);
+        let mut state = self.state.lock(rt);
+        state.shut(side);
+        self.show(state);
     }
 
     /// The turn rises by one, and all that wait here look again.
     pub fn rouse<R: Wait>(&self, rt: &R) {
-        let mut kept = self.kept.lock(rt);
-        kept.raise_turn();
-        self.show(kept);
+        let mut state = self.state.lock(rt);
+        state.raise_turn();
+        self.show(state);
     }
 
     // Shows the turn, lets the lock go, and wakes all that sleep.
-    fn show(&self, kept: MutexGuard<'_, Kept>) {
-        self.shown.store(kept.turn, Ordering::SeqCst);
-        drop(kept);
+    fn show(&self, state: MutexGuard<'_, ChannelState>) {
+        self.shown.store(state.turn, Ordering::SeqCst);
+        drop(state);
         self.turned.notify_all();
     }
 
@@ -119,9 +119,9 @@ impl Room {
         if self.turns_soon(seen) {
             return;
         }
-        let kept = self.kept.lock(rt);
-        let _kept = self
+        let state = self.state.lock(rt);
+        let _state = self
             .turned
-            .wait_while(rt, kept, |kept| kept.is_waited_for(seen));
+            .wait_while(rt, state, |state| state.is_waited_for(seen));
     }
 }

@@ -3,16 +3,20 @@ ghost use Rattle.std.specs.Prelude.{◌≡◌};
 ghost use Rattle.xh_channel.specs.Refusals.{same_unsent};
 
 use arrayvec::ArrayVec;
+use thiserror::Error;
 use xh_model::limits::MAX_BLOCKS;
 
 /// Why a put was refused. Each hands the blocks back.
-#[derive(Drop, Debug)]
+#[derive(Drop, Debug, Error)]
 pub enum Unsent {
     /// The channel's contract does not allow the message.
+    #[error("the contract does not allow the message")]
     Protocol { back: ArrayVec<u16, MAX_BLOCKS> },
     /// The peer is shut.
+    #[error("the peer is shut")]
     PeerClosed { back: ArrayVec<u16, MAX_BLOCKS> },
     /// As many messages wait as may, or the direction has carried its last message.
+    #[error("the direction is full")]
     Full { back: ArrayVec<u16, MAX_BLOCKS> },
 }
 

@@ -257,3 +257,14 @@ fn the_heap_knows_each_refusal(rt: HostRuntime) {
         assert_eq!(rt; xh_core::Refused::from(unsent).number(), number);
     }
 }
+
+#[test]
+fn each_refusal_has_its_text(rt: HostRuntime) -> Result<(), Fail> {
+    let back = ArrayVec::new();
+    let closed = format!(in rt.alloc(); "{}", Refused::PeerClosed { back })?;
+    assert_eq!(rt; closed.as_str(), "no message waits, and the peer is shut");
+    let back = ArrayVec::new();
+    let full = format!(in rt.alloc(); "{}", Unsent::Full { back })?;
+    assert_eq!(rt; full.as_str(), "the direction is full");
+    Ok(())
+}

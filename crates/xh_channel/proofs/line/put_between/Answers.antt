@@ -1,8 +1,8 @@
 use Rattle.std.proofs.Common.{rules, arith, sym, ◌∙◌}
+use Rattle.std.proofs.lemmas.List.{map-append}
 use Rattle.xh_model.proofs.Direction.{numbers_join}
 use Rattle.xh_model.proofs.InStep.{put_step}
-use Rattle.xh_channel.specs.Numbers.{number}
-use Rattle.xh_channel.proofs.Orders.{tags_snoc}
+use Rattle.xh_channel.specs.Numbers.{number, tag}
 use Rattle.xh_channel.proofs.line.put_between.Goals as goal
 
 pub returns-clause-order : goal.returns-clause-order
@@ -11,4 +11,4 @@ returns-clause-order c =
     ((omega (arith, was.0.0, c.push.ensures.len), rw c.push.ensures.items (numbers_join number _ _ _ was.0.1 (omega (arith, was.0.0)))), search rules)
 
 pub returns-clause-step : goal.returns-clause-step
-returns-clause-step c = rw (c.push.ensures.items, tags_snoc) (put_step _ _ _ c.args.tag _ _ _ _ c.requires.valid c.requires.step (sym c.allows.ensures ∙ c.in-Some.is))
+returns-clause-step c = rw (c.push.ensures.items, map-append tag) (put_step _ _ _ c.args.tag _ _ _ _ c.requires.valid c.requires.step (sym c.allows.ensures ∙ c.in-Some.is))

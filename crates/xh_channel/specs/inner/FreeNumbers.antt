@@ -1,5 +1,5 @@
--- Private steps: the free numbers. The pair of a number that is free stands at its place.
-use Rattle.std.specs.Prelude.{◌≡◌, ℕ, ◌<◌, Bool, false, ◌==◌, List, Option, Some, None, length, slice_index_or}
+-- The free numbers. The pair of a number that is free stands at its place.
+use Rattle.std.specs.Prelude.{◌≡◌, ℕ, ◌<◌, Bool, false, ◌==◌, List, Option, Some, None, slice_index_or}
 use Rattle.xh_model.specs.declared.limits.TheConstants.{CHANNELS}
 use Rattle.xh_channel.specs.declared.free_pair.FreePair.{FreePair}
 

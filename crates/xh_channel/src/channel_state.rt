@@ -4,7 +4,7 @@ ghost use Rattle.xh_model.specs.declared.limits.TheConstants.{MAX_DEPTH};
 ghost use Rattle.xh_channel.specs.ContractEnds.{IsNumber, IsUntaken};
 ghost use Rattle.xh_channel.specs.Ends.{given_back};
 ghost use Rattle.xh_channel.specs.Lines.{IsNewLine, Lined};
-ghost use Rattle.xh_channel.specs.Rooms.{PutsThrough, ShutsThrough, TakesThrough, is_waited_for, next_turn};
+ghost use Rattle.xh_channel.specs.inner.Rooms.{PutsThrough, ShutsThrough, TakesThrough, is_waited_for, next_turn};
 
 use crate::line::Line;
 use crate::message::Message;
@@ -16,16 +16,16 @@ use xh_model::limits::MAX_BLOCKS;
 
 /// The channel's turn, and its line where it has a contract.
 #[derive(Drop)]
-pub struct Kept {
+pub struct ChannelState {
     pub turn: u64,
     pub line: Option<Line>,
 }
 
-impl Kept {
-    pub fn new() -> Kept
+impl ChannelState {
+    pub fn new() -> ChannelState
         ensures { (result.turn ≡ 0) × (result.line ≡ None) }
     {
-        Kept {
+        ChannelState {
             turn: 0,
             line: None,
         }

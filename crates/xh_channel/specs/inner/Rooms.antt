@@ -1,4 +1,4 @@
--- Private steps: what lies under the lock of a channel, its turn and its line.
+-- What lies under the lock of a channel, its turn and its line.
 use Rattle.std.specs.Prelude.{◌≡◌, ℕ, ◌+◌, Bool, ◌==◌, ◌&&◌, not, min, [], Option, Some, None, Result, MatchResult}
 use Rattle.arrayvec.specs.ArrayVec.{ArrayVec}
 use Rattle.xh_channel.specs.declared.message.Message.{Message}
