@@ -1,6 +1,6 @@
 -- A seat that has gained a record.
 use Rattle.std.proofs.Common.{◌≡◌, ℕ, ◌/◌, ◌<◌, ◌≤◌, List, [], ◌∷◌, ◌++◌, length, refl, sym, ap, ◌∙◌, subst, true, eq-eqb, eqb, arith, rules}
-use Rattle.std.specs.Prelude.{Some, slice_get, ◌&&◌, nat_le}
+use Rattle.std.specs.Prelude.{Some, slice_get, ◌&&◌, nat_le, nat_lt}
 use Rattle.atomic_table.specs.Seated.{TableId}
 use Rattle.xh_arena.specs.Views.{LotOf}
 use Rattle.xh_model.specs.Keyed.{Among, keys, value_at, put, without}
@@ -38,7 +38,7 @@ module _ (seat new : Held Body) (r : ℕ) (l : LotOf Body) (is : HasNow seat (se
 
 pub fits_bytes : (b : Body) (xs : List ℕ) (n : ℕ) → content_of b ≡ bytes xs → length xs ≡ n → 0 < n → n ≤ 1048576 → fits_in b n ≡ true
 fits_bytes Nothing xs n e long some most = let same : [] ≡ xs = cc in let none : 0 ≡ n = ap length same ∙ long in absurd (omega arith)
-fits_bytes (Data v) xs n e long some most = let same : v.items ≡ xs = cc in let a : eqb (length v.items) n ≡ true = eq-eqb (length v.items) n (ap length same ∙ long) in let b : nat_le n 1048576 ≡ true = search rules in (λ i. a i && b i)
+fits_bytes (Data v) xs n e long some most = let same : v.items ≡ xs = cc in let a : eqb (length v.items) n ≡ true = eq-eqb (length v.items) n (ap length same ∙ long) in let b : nat_le n 1048576 ≡ true = search rules in let d : nat_lt 0 n ≡ true = search rules in (λ i. a i && (d i && b i))
 fits_bytes (End p) xs n e long some most = absurd (cc)
 
 pub is_end : (b : Body) → kind_of (content_of b) ≡ kind.End → (p : Posted) × (b ≡ End p)

@@ -17,4 +17,3 @@ pub mod Out
 pub mod Untaken
 pub mod Ended
 pub mod GiveTests
-pub mod Owned

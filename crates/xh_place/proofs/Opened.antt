@@ -1,19 +1,19 @@
 -- A seat, and a place, that gained two records at once.
 use Rattle.std.proofs.Common.{◌≡◌, ◌≢◌, ℕ, ◌+◌, ◌/◌, ◌<◌, ◌≤◌, ⊎_elim, inl, inr, List, [], ◌∷◌, ◌++◌, length, append_assoc, refl, sym, ap, ◌∙◌, subst, arith, true}
-use Rattle.std.specs.Prelude.{Some, None}
+use Rattle.std.specs.Prelude.{Some, None, Option}
 use Rattle.xh_arena.specs.Views.{LotOf}
 use Rattle.xh_core.specs.declared.status.Status.{Status}
 use Rattle.xh_model.specs.Keyed.{Among, keys, value_at, put, without}
 use Rattle.xh_model.proofs.Keyed.{among_either, keys_push, last_at, last_other, last_put, last_without, put_split}
-use Rattle.xh_records.specs.Seats.{Held, with_lots}
+use Rattle.xh_records.specs.Seats.{Held, IsRecord, with_lots}
 use Rattle.xh_place.specs.declared.body.Body.{Body}
 use Rattle.xh_place.specs.declared.body.Header.{Header}
 use Rattle.xh_place.specs.Lots.{HasNow, bare}
 use Rattle.xh_place.specs.Opening.{AreMade, HasTwoMore}
-use Rattle.xh_place.specs.Places.{Item, PlaceOf, with_blocks, header_of, item_of, IsBlock, IsPlace}
+use Rattle.xh_place.specs.Places.{Item, PlaceOf, with_blocks, header_in, header_of, item_in, item_of, shown, IsBlock, IsPlace}
 use Rattle.xh_place.specs.Refusals.{is_over}
 use Rattle.xh_place.proofs.Gained.{has}
-use Rattle.xh_place.proofs.Steps.{has_room, view_of, won}
+use Rattle.xh_place.proofs.Steps.{has_room, shown_at, view_of, won}
 
 -- with one record, and with the other too
 abbrev pub with_one : Held Body → ℕ → LotOf Body → Held Body
@@ -58,6 +58,19 @@ module _ (seat last : Held Body) (xs : List (ℕ × Header)) (room total : ℕ) 
       let second = won (with_one seat r l) xs_one room (total + l.len) state first_more.0 last t m ys room' m.len (other_fresh arena seat last r t l m made.two) (then_other arena seat last r t l m made.two) made.second alive items same refl in (
         subst (λ (z : ℕ). IsPlace last ys room' z state) (sym sum) second.0,
         λ p e. second.1 (with_blocks p (p.blocks ++ (r, item_of l) ∷ [])) (first_more.1 p e) ∙ ap (with_blocks p) (append_assoc p.blocks ((r, item_of l) ∷ []) ((t, item_of m) ∷ [])),
+      )
+
+  -- both stand in the list
+  pub both_listed : (ys : List (ℕ × Header)) (room' n : ℕ) → IsPlace last ys room' n state → (low high : Item) → item_of l ≡ low → item_of m ≡ high
+      → (value_at r (shown last.lots ys) ≡ Some low) × IsRecord last.shape r × (value_at t (shown last.lots ys) ≡ Some high) × IsRecord last.shape t
+  both_listed ys room' n is' low high first second =
+      let shape : seat.shape ≡ last.shape = sym (ap (λ (h : Held Body). h.shape) made.two.lots) in
+      let at : (q : ℕ) (k : LotOf Body) (x : Item) → value_at q last.lots ≡ Some k → item_of k ≡ x → value_at q (shown last.lots ys) ≡ Some x =
+      λ q k x held e. shown_at last.lots ys q (header_of (item_of k)) (is'.same q ∙ ap header_in held) ∙ ap (λ (o : Option (LotOf Body)). Some (item_in o)) held ∙ ap (λ (z : Item). Some z) e in (
+        at r l low (has_first arena seat last r t l m made.two) first,
+        subst (λ s. IsRecord s r) shape made.first.exists,
+        at t m high (has_other arena seat last r t l m made.two) second,
+        subst (λ s. IsRecord s t) shape made.second.exists,
       )
 
 -- both lots changed in their places, and both gone

@@ -44,7 +44,7 @@ cut_up seat mid last r t l0 h m is fresh apart new =
 
 -- the bytes of a data block
 pub data_of : (b : Body) (n : ℕ) → kind_of (content_of b) ≡ kind.Data → fits_in b n ≡ true → (xs : List ℕ) × (content_of b ≡ bytes xs) × (length xs ≡ n) × (n ≤ 1048576)
-data_of Nothing n k e = absurd (cc)
+data_of Nothing n k e = ([], refl, search rules, search rules)
 data_of (Data v) n k e = (v.items, refl, search rules, search rules)
 data_of (End p) n k e = absurd (cc)
 

@@ -17,7 +17,7 @@ use Rattle.xh_place.proofs.Found.{Found, found}
 use Rattle.xh_place.proofs.Steps.{count_bound, shown_at, shown_keys, shown_long, sum_shown, total_bound, view_of}
 
 fits_whole : (b : Body) (n : ℕ) → fits_in b n ≡ true → Fits (content_of b) n
-fits_whole Nothing n e = absurd (cc)
+fits_whole Nothing n e = (search rules, search rules)
 fits_whole (Data v) n e = (search rules, search rules)
 fits_whole (End p) n e = search rules
 

@@ -12,7 +12,8 @@ use Rattle.xh_model.proofs.Words.{number_back}
 use Rattle.xh_records.specs.declared.shape.Shape.{Shape}
 use Rattle.xh_model.specs.Keyed.{Among, Distinct, keys, value_at, put, without}
 use Rattle.xh_model.proofs.Keyed.{absent, at_key, distinct_push, distinct_without, get_key, here_first, keys_push, length-keys, last_at, last_other, next, no_key, none_at, not_here, put_at, put_other, put_same, put_twice, without_at, without_other}
-use Rattle.xh_records.specs.Seats.{Held, IsRecord, AllBelow, with_lots}
+use Rattle.xh_records.specs.Seats.{Held, IsRecord, with_lots}
+use Rattle.xh_records.specs.inner.Hands.{AllBelow}
 use Rattle.xh_place.specs.Lots.{HasNow, bare}
 use Rattle.xh_records.proofs.Lists.{few}
 use Rattle.xh_place.specs.declared.body.Body.{Body}
@@ -139,7 +140,7 @@ below_all s (r ∷ rs) few all = let a : r / 256 < length s.names = all.0.0 in l
 
 -- a block's length
 fit_small : (b : Body) (n : ℕ) → fits_in b n ≡ true → n ≤ 1048576
-fit_small Nothing n e = absurd (cc)
+fit_small Nothing n e = search rules
 fit_small (Data v) n e = search rules
 fit_small (End p) n e = search rules
 

@@ -1,5 +1,5 @@
 -- What contracts see of what a block carries.
-use Rattle.std.specs.Prelude.{ℕ, Bool, true, false, ◌==◌, ◌&&◌, nat_le, ◌+◌, List, [], ◌++◌, take, drop, length}
+use Rattle.std.specs.Prelude.{ℕ, Bool, true, false, ◌==◌, ◌&&◌, nat_le, nat_lt, ◌+◌, List, [], ◌++◌, take, drop, length}
 use Rattle.xh_model.specs.declared.limits.TheConstants.{MAX_BYTES, END_BYTES}
 use Rattle.xh_place.specs.declared.body.Body.{Body}
 use Rattle.xh_place.specs.declared.body.Body.TheVariants.{Nothing, Data, End}
@@ -20,10 +20,10 @@ abbrev pub kind_of : Content → Kind
 kind_of (bytes xs) = kind.Data
 kind_of (spot channel side) = kind.End
 
--- whether it may travel with a record of n bytes
+-- whether it may travel with a record of n bytes; with none, only nothing may
 abbrev pub fits_in : Body → ℕ → Bool
-fits_in Nothing n = false
-fits_in (Data v) n = (length v.items == n) && nat_le n MAX_BYTES
+fits_in Nothing n = n == 0
+fits_in (Data v) n = (length v.items == n) && (nat_lt 0 n && nat_le n MAX_BYTES)
 fits_in (End e) n = n == END_BYTES
 
 abbrev pub is_data : Kind → Bool

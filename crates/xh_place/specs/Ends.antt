@@ -3,11 +3,13 @@ use Rattle.std.specs.Prelude.{◌≡◌, ◌⊎◌, ℕ, ◌+◌, ◌*◌, ◌/�
 use Rattle.xh_channel.specs.Queues.{Posted}
 use Rattle.xh_core.specs.declared.block.Block.{Block}
 use Rattle.xh_core.specs.declared.refused.Refused.{Refused}
-use Rattle.xh_core.specs.declared.refused.Refused.TheVariants.{Ended, NoArena, NoRecord, NoSpace, Worn, NotOwned, NotEndpoint}
+use Rattle.xh_core.specs.declared.refused.Refused.TheVariants.{Ended, NoArena, NotOwned, NotEndpoint}
 use Rattle.xh_core.specs.declared.status.Status.{Status}
 use Rattle.xh_core.specs.declared.status.Status.TheVariants as status
 use Rattle.xh_model.specs.declared.limits.TheConstants.{END_BYTES, MAX_BUDGET}
 use Rattle.xh_core.specs.Refusing.{Tests, first_refusal}
+use Rattle.xh_model.specs.Keyed.{value_at}
+use Rattle.xh_records.specs.Seats.{IsRecord}
 use Rattle.xh_place.specs.Bodies.{Content, bytes, spot, kind_of, is_data}
 use Rattle.xh_arena.specs.Views.{TallyOf}
 use Rattle.xh_place.specs.declared.opening.Unopened.{Unopened}
@@ -57,13 +59,14 @@ Opens arena low high old new tallies left result = MatchResult result
     (λ ends. (new ≡ with_blocks old (old.blocks ++ (ends.0.rec, end_block low) ∷ (ends.1.rec, end_block high) ∷ [])) × IsEndIn arena ends.0 × IsEndIn arena ends.1 × (left ≡ took arena (2 * END_BYTES) tallies))
     (λ u. (u.low ≡ low) × (u.high ≡ high) × (new ≡ old) × (left ≡ tallies))
 
--- no two records of the arena were free, or it has no 64 bytes
-abbrev pub IsLack : Refused → Type 0
-IsLack refused = (refused ≡ NoRecord) ⊎ ((refused ≡ NoSpace) ⊎ (refused ≡ Worn))
+-- both are blocks of the list, and their records exist
+abbrev pub AreListed : Posted → Posted → PlaceOf → Block × Block → Type 0
+AreListed low high p ends = (value_at ends.0.rec p.blocks ≡ Some (end_block low)) × IsRecord p.shape ends.0.rec
+    × (value_at ends.1.rec p.blocks ≡ Some (end_block high)) × IsRecord p.shape ends.1.rec
 
--- the first refusal whose test is true, else a lack
-abbrev pub IsUnopened : Tests → Result (Block × Block) Unopened → Type 0
-IsUnopened tests result = MatchOption (first_refusal tests) (IfErr result (λ u. IsLack u.why)) (λ refused. IfErr result (λ u. u.why ≡ refused) × OnOk result ⊥)
+-- the first refusal whose test is true, and then the vaults are as they were; else what there was a lack of
+abbrev pub IsUnopened : Tests → Type 0 → (Refused → Type 0) → Result (Block × Block) Unopened → Type 0
+IsUnopened tests same lack result = MatchOption (first_refusal tests) (IfErr result (λ u. lack u.why)) (λ refused. IfErr result (λ u. u.why ≡ refused) × OnOk result ⊥ × same)
 
 -- ---- one end handed to another place
 

@@ -1,5 +1,5 @@
 -- What the private steps of a place do to its seat. The events that the seat did are the record table's to tell.
-use Rattle.std.specs.Prelude.{◌≡◌, ◌≢◌, ℕ, ◌+◌, ◌/◌, List, [], ◌∷◌, ◌++◌, Some, true}
+use Rattle.std.specs.Prelude.{◌≡◌, ◌≢◌, ℕ, ◌+◌, ◌/◌, ◌<◌, List, [], ◌∷◌, ◌++◌, Some, true}
 use Rattle.xh_arena.specs.Views.{LotOf}
 use Rattle.xh_model.specs.Keyed.{Among, keys, put, value_at}
 use Rattle.xh_records.specs.Seats.{Held, with_lots}
@@ -16,9 +16,9 @@ bare seat = record seat { done = [] }
 abbrev pub HasNow : Held Body → List (ℕ × LotOf Body) → Held Body → Type 0
 HasNow old lots new = bare new ≡ with_lots (bare old) lots
 
--- a data block's lot: a buffer of its length
+-- a data block's lot: a buffer of its length, which isn't 0
 abbrev pub IsData : LotOf Body → Type 0
-IsData l = (kind_of (content_of l.body) ≡ kind.Data) × (fits_in l.body l.len ≡ true)
+IsData l = (kind_of (content_of l.body) ≡ kind.Data) × (fits_in l.body l.len ≡ true) × (0 < l.len)
 
 -- the lot l of the record r keeps its first k bytes, and those past them are in a record t of the same arena that the seat didn't hold
 abbrev pub IsCut : Held Body → Held Body → ℕ → ℕ → LotOf Body → ℕ → Type 0

@@ -5,6 +5,7 @@ use Rattle.xh_model.specs.Keyed.{Among, keys}
 use Rattle.xh_records.specs.Showing.{IsEmpty, IsLotOf}
 use Rattle.xh_records.specs.Seats.{Held, IsRecord}
 use Rattle.xh_place.specs.declared.body.Body.{Body}
+use Rattle.xh_place.specs.Bodies.{fits_in}
 use Rattle.xh_place.specs.Lots.{HasNow}
 use Rattle.xh_place.specs.Places.{IsBlock}
 
@@ -20,8 +21,8 @@ pub record HasTwoMore (arena : ℕ) (old new : Held Body) (r t : ℕ) (l m : Lot
 -- they are empty
 pub record AreClaimed (arena : ℕ) (old new : Held Body) (r t : ℕ) (l m : LotOf Body) : Type 0 where
   pub two : HasTwoMore arena old new r t l m
-  pub first : IsRecord old.shape r × IsLotOf old.shape r l × IsEmpty l
-  pub second : IsRecord old.shape t × IsLotOf old.shape t m × IsEmpty m
+  pub first : IsRecord old.shape r × IsLotOf old.shape r l × IsEmpty fits_in l
+  pub second : IsRecord old.shape t × IsLotOf old.shape t m × IsEmpty fits_in m
 
 -- they are blocks
 pub record AreMade (arena : ℕ) (old new : Held Body) (r t : ℕ) (l m : LotOf Body) : Type 0 where

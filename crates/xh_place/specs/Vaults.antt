@@ -1,5 +1,5 @@
 -- Why no bytes came, by what the call saw of the vaults.
-use Rattle.std.specs.Prelude.{◌≡◌, ℕ}
+use Rattle.std.specs.Prelude.{◌≡◌, ◌⊎◌, ℕ, ◌<◌}
 use Rattle.xh_arena.specs.declared.refused.Refused.{Refused}
 use Rattle.xh_arena.specs.declared.refused.Refused.TheVariants as arena
 use Rattle.xh_arena.specs.Refusals.{RefusesCarve}
@@ -29,3 +29,10 @@ module _ {V : Type 0} (changes : V → V → ℕ → VaultOf → VaultOf → Typ
   IsNoBlock reason.NoSpace = IsRefusedAt arena.NoSpace
   IsNoBlock reason.Worn = IsRefusedAt arena.Worn
   IsNoBlock _ = ⊥
+
+  -- no two records were found free, and no vault was touched; or no arena has so many bytes, or then the vault refused
+  abbrev pub IsNoPair : ℕ → Reason → Type 0
+  IsNoPair extent reason.NoRecord = new ≡ old
+  IsNoPair extent reason.NoSpace = ((extent < n) × (new ≡ old)) ⊎ IsRefusedAt arena.NoSpace
+  IsNoPair extent reason.Worn = IsRefusedAt arena.Worn
+  IsNoPair extent _ = ⊥

@@ -14,6 +14,11 @@ pub enum Body {
 }
 
 impl Default for Body {
+    ghost use Rattle.std.specs.Prelude.{◌≡◌};
+    ghost use Rattle.xh_place.specs.declared.body.Body.TheVariants.{Nothing};
+
+    ghost is_default = { λ b. b ≡ Nothing };
+
     fn default() -> Body {
         Body::Nothing
     }
@@ -26,8 +31,8 @@ impl Fits for Body {
 
     fn fits(&self, len: u32) -> bool {
         match self {
-            Body::Nothing => false,
-            Body::Data(bytes) => bytes.len() == len as usize && len <= MAX_BYTES,
+            Body::Nothing => len == 0,
+            Body::Data(bytes) => bytes.len() == len as usize && 0 < len && len <= MAX_BYTES,
             Body::End(_) => len == END_BYTES,
         }
     }

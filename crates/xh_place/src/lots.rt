@@ -9,6 +9,7 @@ ghost use Rattle.xh_model.specs.declared.limits.TheConstants.{MAX_BYTES, UNIT};
 ghost use Rattle.xh_place.specs.Lots.{HasNow, IsCut, IsData};
 ghost use Rattle.xh_place.specs.Vaults.{IsNoBlock, IsRefusedAt, reason_of};
 ghost use Rattle.xh_place.specs.declared.body.Body.{Body};
+ghost use Rattle.xh_place.specs.declared.body.Body.TheVariants.{Nothing};
 ghost use Rattle.xh_place.specs.declared.body.Kind.TheVariants as kind;
 ghost use Rattle.xh_place.specs.Bodies.{bytes, front, content_of, fits_in, kind_of};
 ghost use Rattle.xh_place.specs.Places.{IsBlock, item_of, header_of};
@@ -78,7 +79,7 @@ fn empty<V: Vaults>(vaults: &mut V, arena: u8, lot: &mut Lot<Body>, tally: &mut 
     requires ids { (slice_get (V.names vaults.old) arena ≡ Some lot.old.id) × (tally.old.id ≡ lot.old.id) }
     requires some { 0 < lot.old.len }
     ensures same { (V.names vaults.new ≡ V.names vaults.old) × (V.extent vaults.new ≡ V.extent vaults.old) }
-    ensures lot { (lot.new.index ≡ lot.old.index) × (lot.new.id ≡ lot.old.id) × (lot.new.len ≡ 0) }
+    ensures lot { lot.new ≡ record lot.old { len = 0; body = Nothing } }
     ensures tally { tally.new ≡ record tally.old { back = tally.old.back + lot.old.len } }
 {
     vaults.give_back(arena, lot, tally);
@@ -96,7 +97,7 @@ pub(crate) fn empty_lot<V: Vaults>(
     requires own { IsSeatOf records.now seat.old × IsRecord records.now.shape r }
     requires held { (l : LotOf Body) × (value_at r seat.old.lots ≡ Some l) × (0 < l.len) × IsLotOf seat.old.shape r l × (slice_get (V.names vaults.old) (r / 256) ≡ Some l.id) × (tally.old.id ≡ l.id) }
     ensures same { (V.names vaults.new ≡ V.names vaults.old) × (V.extent vaults.new ≡ V.extent vaults.old) }
-    ensures lot { (l : LotOf Body) → value_at r seat.old.lots ≡ Some l → ((m : LotOf Body) × (m.len ≡ 0) × (seat.new ≡ with_lots seat.old (put r m seat.old.lots))) × (tally.new ≡ record tally.old { back = tally.old.back + l.len }) }
+    ensures lot { (l : LotOf Body) → value_at r seat.old.lots ≡ Some l → (seat.new ≡ with_lots seat.old (put r (record l { len = 0; body = Nothing }) seat.old.lots)) × (tally.new ≡ record tally.old { back = tally.old.back + l.len }) }
 {
     let arena = (r / 256) as u8;
     records.with_lot(
@@ -211,7 +212,7 @@ pub(crate) fn give_up<V: Vaults, G: Gate>(
 
 // The lot's length and kind.
 fn look(lot: &mut Lot<Body>, header: &mut Header)
-    requires { fits_in lot.old.body lot.old.len ≡ true }
+    requires { IsFull fits_in lot.old }
     ensures lot { lot.new ≡ lot.old }
     ensures seen { header.new ≡ header_of (item_of lot.old) }
 {
@@ -225,7 +226,7 @@ fn look(lot: &mut Lot<Body>, header: &mut Header)
 
 fn look_at(records: &Records<Body>, seat: &mut Seat<Body>, r: u16, header: &mut Header)
     requires own { IsSeatOf records.now seat.old × IsRecord records.now.shape r }
-    requires held { (l : LotOf Body) × (value_at r seat.old.lots ≡ Some l) × IsLotOf seat.old.shape r l × (fits_in l.body l.len ≡ true) }
+    requires held { (l : LotOf Body) × (value_at r seat.old.lots ≡ Some l) × IsLotOf seat.old.shape r l × IsFull fits_in l }
     ensures { (l : LotOf Body) → value_at r seat.old.lots ≡ Some l → (header.new ≡ header_of (item_of l)) × (seat.new ≡ with_lots seat.old (put r l seat.old.lots)) }
 {
     records.with_lot(seat, r, &mut |lot: &mut Lot<Body>| look(lot, header))

@@ -8,10 +8,12 @@ ghost use Rattle.xh_records.specs.Seats.{Held, IsRecord, IsSeatOf, with_lots};
 ghost use Rattle.xh_model.specs.declared.limits.TheConstants.{END_BYTES};
 ghost use Rattle.xh_place.specs.declared.body.Body.{Body};
 ghost use Rattle.xh_place.specs.declared.body.Body.TheVariants.{End};
-ghost use Rattle.xh_place.specs.Ends.{IsLack, end_block};
+ghost use Rattle.xh_place.specs.Bodies.{fits_in};
+ghost use Rattle.xh_place.specs.Ends.{end_block};
 ghost use Rattle.xh_place.specs.Lots.{HasNow};
 ghost use Rattle.xh_place.specs.Opening.{AreClaimed, AreMade};
 ghost use Rattle.xh_place.specs.Places.{IsBlock, item_of};
+ghost use Rattle.xh_place.specs.Vaults.{IsNoPair, IsRefusedAt};
 
 use crate::body::Body;
 use crate::gate::{Gate, Point};
@@ -50,7 +52,7 @@ fn halve<V: Vaults>(
     ensures high { OnOk result (high.new ≡ record high.old { len = END_BYTES; body = second.old }) }
     ensures tally { OnOk result (tally.new ≡ record tally.old { taken = tally.old.taken + 2 * END_BYTES }) }
     ensures refused { OnErr result ((low.new ≡ low.old) × (high.new ≡ high.old) × (tally.new ≡ tally.old) × (first.new ≡ first.old) × (second.new ≡ second.old)) }
-    ensures reason { IfErr result (λ e. (e ≡ Refused.NoSpace) ⊎ (e ≡ Refused.Worn)) }
+    ensures why { IfErr result (IsRefusedAt V.changes vaults.old vaults.new arena (2 * END_BYTES)) }
 {
     let start = vaults.carve(arena, low, tally, 2 * END_BYTES)?;
     vaults.cut(arena, low, high, END_BYTES);
@@ -77,7 +79,7 @@ fn halve_lots<V: Vaults>(
     ensures halved { OnOk result ((l m : LotOf Body) → value_at r seat.old.lots ≡ Some l → value_at t seat.old.lots ≡ Some m → seat.new ≡ with_lots seat.old (put t (record m { len = END_BYTES; body = second.old }) (put r (record l { len = END_BYTES; body = first.old }) seat.old.lots))) }
     ensures tally { OnOk result (tally.new ≡ record tally.old { taken = tally.old.taken + 2 * END_BYTES }) }
     ensures refused { OnErr result ((l m : LotOf Body) → value_at r seat.old.lots ≡ Some l → value_at t seat.old.lots ≡ Some m → (seat.new ≡ with_lots seat.old (put t m (put r l seat.old.lots))) × (tally.new ≡ tally.old) × (first.new ≡ first.old) × (second.new ≡ second.old)) }
-    ensures reason { IfErr result (λ e. (e ≡ Refused.NoSpace) ⊎ (e ≡ Refused.Worn)) }
+    ensures why { IfErr result (IsRefusedAt V.changes vaults.old vaults.new (r / 256) (2 * END_BYTES)) }
 {
     let arena = (r / 256) as u8;
     records.with_two(
@@ -116,7 +118,7 @@ fn claim_two<G: Gate>(
 // Two records that were claimed are free again.
 fn vacate_two(records: &Records<Body>, seat: &mut Seat<Body>, r: u16, t: u16)
     requires own { IsSeatOf records.now seat.old × IsRecord records.now.shape r × IsRecord records.now.shape t × (t ≢ r) }
-    requires held { (l m : LotOf Body) × (value_at r seat.old.lots ≡ Some l) × (value_at t seat.old.lots ≡ Some m) × IsEmpty l × IsEmpty m }
+    requires held { (l m : LotOf Body) × (value_at r seat.old.lots ≡ Some l) × (value_at t seat.old.lots ≡ Some m) × IsEmpty fits_in l × IsEmpty fits_in m }
     ensures { HasNow seat.old (without r (without t seat.old.lots)) seat.new }
 {
     records.vacate(seat, t);
@@ -151,7 +153,8 @@ fn fit_ends<V: Vaults>(
     ensures same { (V.names vaults.new ≡ V.names vaults.old) × (V.extent vaults.new ≡ V.extent vaults.old) }
     ensures fitted { OnOk result ((l m : LotOf Body) → value_at r seat.old.lots ≡ Some l → value_at t seat.old.lots ≡ Some m → seat.new ≡ with_lots seat.old (put t (record m { len = END_BYTES; body = End high }) (put r (record l { len = END_BYTES; body = End low }) seat.old.lots))) }
     ensures tally { OnOk result (tally.new ≡ record tally.old { taken = tally.old.taken + 2 * END_BYTES }) }
-    ensures refused { IfErr result (λ u. (seat.new ≡ seat.old) × (tally.new ≡ tally.old) × (u.low ≡ low) × (u.high ≡ high) × IsLack u.why) }
+    ensures refused { IfErr result (λ u. (seat.new ≡ seat.old) × (tally.new ≡ tally.old) × (u.low ≡ low) × (u.high ≡ high)) }
+    ensures why { IfErr result (λ u. IsNoPair V.changes vaults.old vaults.new (r / 256) (2 * END_BYTES) (V.extent vaults.old) u.why) }
 {
     if vaults.size() < 2 * END_BYTES {
         let why = Reason::NoSpace;
@@ -186,7 +189,8 @@ pub(crate) fn make_ends<V: Vaults, G: Gate>(
     ensures same { (V.names vaults.new ≡ V.names vaults.old) × (V.extent vaults.new ≡ V.extent vaults.old) }
     ensures made { IfOk result (λ r. (l m : LotOf Body) × AreMade arena seat.old seat.new r.0 r.1 l m × (item_of l ≡ end_block low) × (item_of m ≡ end_block high)) }
     ensures tally { OnOk result (tally.new ≡ record tally.old { taken = tally.old.taken + 2 * END_BYTES }) }
-    ensures refused { IfErr result (λ u. HasNow seat.old seat.old.lots seat.new × (tally.new ≡ tally.old) × (u.low ≡ low) × (u.high ≡ high) × IsLack u.why) }
+    ensures refused { IfErr result (λ u. HasNow seat.old seat.old.lots seat.new × (tally.new ≡ tally.old) × (u.low ≡ low) × (u.high ≡ high)) }
+    ensures why { IfErr result (λ u. IsNoPair V.changes vaults.old vaults.new arena (2 * END_BYTES) (V.extent vaults.old) u.why) }
 {
     let Some((r, t)) = claim_two(records, seat, arena, gate) else {
         let why = Reason::NoRecord;

@@ -1,11 +1,15 @@
 //! Worked examples by calls over vaults that one thread has.
 ghost use Rattle.std.specs.Prelude.{◌≡◌, ◌<◌, ◌≤◌, map};
+ghost use Rattle.xh_core.specs.declared.status.Status.TheVariants.{Vacant};
 ghost use Rattle.xh_place.specs.Places.{IsPlaceOf};
 ghost use Rattle.xh_place.specs.Tallies.{ids_of};
 
 mod calls;
 mod desk;
 mod ends;
+mod growths;
+mod pairs;
+mod threads;
 mod vaults;
 
 use crate::{Body, OpenGate, Place};
@@ -27,6 +31,7 @@ struct Bench {
     ghost own: { IsPlaceOf records first × IsPlaceOf records second },
     ghost names: { map (λ v. v.id) vaults.vaults.items ≡ records.shape.names },
     ghost ids: { ids_of tallies.items ≡ records.shape.names },
+    ghost vacant: { second.state ≡ Vacant },
 }
 
 /// Calls of the first place.
@@ -63,6 +68,18 @@ impl Bench {
     fn account(&self) -> Option<(u64, u64)> {
         let tally = self.tallies.first()?;
         Some((tally.taken(), tally.back()))
+    }
+
+    /// The vault's first hole, the bytes that it has handed out, and its wear.
+    fn gauges(&self) -> (Option<(u32, u32)>, u32, u64) {
+        match self.vaults.vaults.first() {
+            Some(vault) => (
+                vault.holes().first().copied(),
+                vault.handed_out(),
+                vault.wear(),
+            ),
+            None => (None, 0, 0),
+        }
     }
 
     /// How many blocks the place has, and their bytes.

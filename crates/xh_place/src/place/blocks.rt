@@ -15,7 +15,7 @@ ghost use Rattle.xh_place.specs.Vaults.{IsNoBlock};
 use crate::body::{Body, Header, Kind};
 use crate::bytes::{read_lot, write_lot};
 use crate::gate::Gate;
-use crate::list::{entry, remove, replace};
+use crate::list::{remove, replace};
 use crate::lots::{cut_block, give_up, make_block};
 use crate::place::{Place, is_running};
 use crate::vaults::Vaults;
@@ -93,30 +93,28 @@ impl Place {
     }
 
     // A block's bytes go back, and its record is free. It answers the bytes.
-    pub(super) fn give_up<V: Vaults, G: Gate>(
+    fn give_up<V: Vaults, G: Gate>(
         &mut self,
         records: &Records<Body>,
         r: u16,
+        header: Header,
         vaults: &mut V,
         tallies: &mut [Tally],
         gate: &G,
     ) -> u32
         requires own { IsPlaceOf records.now self.old }
         requires names { (V.names vaults.old ≡ self.old.shape.names) × (ids_of tallies.old ≡ self.old.shape.names) }
-        requires listed { (x : Item) × (value_at r self.old.blocks ≡ Some x) }
+        requires listed { entry_of (value_at r self.old.blocks) ≡ Some header }
         ensures same { (V.names vaults.new ≡ V.names vaults.old) × (V.extent vaults.new ≡ V.extent vaults.old) × (ids_of tallies.new ≡ ids_of tallies.old) }
         ensures list { self.new ≡ with_blocks self.old (without r self.old.blocks) }
-        ensures bytes { (x : Item) → value_at r self.old.blocks ≡ Some x → result ≡ x.len }
+        ensures bytes { result ≡ header.len }
         ensures back { tallies.new ≡ gave (r / 256) result tallies.old }
     {
-        let Some(Header { len, .. }) = entry(self.list.as_slice(), r) else {
-            unreachable!()
-        };
+        remove(&mut self.list, r);
         let tally = &mut tallies[usize::from(r / 256)];
         give_up(records, &mut self.seat, r, vaults, tally, gate);
-        remove(&mut self.list, r);
-        self.total -= u64::from(len);
-        len
+        self.total -= u64::from(header.len);
+        header.len
     }
 
     // The tests of a call on a data block.
@@ -153,8 +151,8 @@ impl Place {
         ensures bytes { Tested (data_tests self.old.state (value_at r self.old.blocks)) result (λ n. n ≡ len_in (value_at r self.old.blocks)) }
         ensures refused { OnErr result ((self.new ≡ self.old) × (vaults.new ≡ vaults.old) × (tallies.new ≡ tallies.old)) }
     {
-        self.test_data(r)?;
-        Ok(self.give_up(records, r, vaults, tallies, gate))
+        let header = self.test_data(r)?;
+        Ok(self.give_up(records, r, header, vaults, tallies, gate))
     }
 
     // The tests of a call on `count` bytes of a data block from `at` on.

@@ -6,7 +6,7 @@ ghost use Rattle.xh_records.specs.Seats.{IsRecord};
 ghost use Rattle.xh_place.specs.Bodies.{kind_of};
 ghost use Rattle.xh_place.specs.Ending.{HasGivenBack, IsStopped, IsSwept, IsSweptBy, ending, reclaimed, stop_tests};
 ghost use Rattle.xh_place.specs.Ends.{RefusedOr, IsTooLate, IsSweptLate, awake, ending_again};
-ghost use Rattle.xh_place.specs.Places.{Item, IsPlaceOf, total_of, with_blocks};
+ghost use Rattle.xh_place.specs.Places.{Item, IsPlaceOf, IsSamePlace, total_of, with_blocks};
 ghost use Rattle.xh_place.specs.Refusals.{is_over};
 ghost use Rattle.xh_place.specs.Tallies.{ids_of};
 
@@ -186,6 +186,7 @@ impl Place {
         requires own { IsPlaceOf records.now self.old }
         requires names { (V.names vaults.old ≡ self.old.shape.names) × (ids_of tallies.old ≡ self.old.shape.names) }
         ensures same { (V.names vaults.new ≡ V.names vaults.old) × (V.extent vaults.new ≡ V.extent vaults.old) × (ids_of tallies.new ≡ ids_of tallies.old) }
+        ensures place { IsSamePlace self.old self.new }
         ensures stopped { RefusedOr (stop_tests self.old.state) result ((self.new ≡ self.old) × (tallies.new ≡ tallies.old))
             ((bytes : ℕ) × IsStopped budget self.old self.new bytes result × HasGivenBack bytes tallies.old tallies.new) }
     {
@@ -215,6 +216,7 @@ impl Place {
         requires names { (V.names vaults.old ≡ self.old.shape.names) × (ids_of tallies.old ≡ self.old.shape.names) }
         requires taken { self.old.state ≢ status.Vacant }
         ensures same { (V.names vaults.new ≡ V.names vaults.old) × (V.extent vaults.new ≡ V.extent vaults.old) × (ids_of tallies.new ≡ ids_of tallies.old) }
+        ensures place { IsSamePlace self.old self.new }
         ensures swept { ((self.new ≡ self.old) × (tallies.new ≡ tallies.old)) ⊎ ((bytes : ℕ) × IsTooLate r self.old self.new bytes × HasGivenBack bytes tallies.old tallies.new) }
     {
         let state = self.state();
@@ -250,6 +252,7 @@ impl Place {
         requires names { (V.names vaults.old ≡ self.old.shape.names) × (ids_of tallies.old ≡ self.old.shape.names) }
         requires alive { is_over self.old.state ≢ true }
         ensures same { (V.names vaults.new ≡ V.names vaults.old) × (V.extent vaults.new ≡ V.extent vaults.old) × (ids_of tallies.new ≡ ids_of tallies.old) }
+        ensures place { IsSamePlace self.old self.new }
         ensures swept { ((self.new ≡ self.old) × (tallies.new ≡ tallies.old)) ⊎ ((bytes : ℕ) × IsSweptLate r self.old self.new bytes × HasGivenBack bytes tallies.old tallies.new) }
     {
         let from = self.count();

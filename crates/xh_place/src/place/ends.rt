@@ -8,10 +8,12 @@ ghost use Rattle.xh_records.specs.Seats.{IsRecord};
 ghost use Rattle.xh_place.specs.declared.body.Kind.TheVariants as kind;
 ghost use Rattle.xh_place.specs.Bodies.{kind_of, spot};
 ghost use Rattle.xh_place.specs.Ending.{HasGivenBack, IsClosed, last};
-ghost use Rattle.xh_place.specs.Ends.{RefusedOr, end_tests, has_end, open_tests, Opens, IsUnopened, is_here, IsTooLate};
-ghost use Rattle.xh_place.specs.Places.{Item, IsPlaceOf, with_blocks};
+ghost use Rattle.xh_place.specs.Ends.{RefusedOr, end_tests, has_end, open_tests, AreListed, Opens, IsUnopened, is_here, IsTooLate};
+ghost use Rattle.xh_place.specs.Places.{Item, IsPlaceOf, IsSamePlace, with_blocks};
 ghost use Rattle.xh_place.specs.Refusals.{is_over};
+ghost use Rattle.xh_model.specs.declared.limits.TheConstants.{END_BYTES};
 ghost use Rattle.xh_place.specs.Tallies.{ids_of};
+ghost use Rattle.xh_place.specs.Vaults.{IsNoPair};
 
 use crate::body::{Body, Header, Kind};
 use crate::gate::{Gate, Point};
@@ -97,7 +99,9 @@ impl Place {
         requires fresh { IsPair low high × (low.has_contract ≡ false) }
         ensures same { (V.names vaults.new ≡ V.names vaults.old) × (V.extent vaults.new ≡ V.extent vaults.old) × (ids_of tallies.new ≡ ids_of tallies.old) }
         ensures opened { Opens arena low high self.old self.new tallies.old tallies.new result }
-        ensures why { IsUnopened (open_tests self.old.state arena (length self.old.shape.names)) result }
+        ensures place { IsSamePlace self.old self.new }
+        ensures ends { IfOk result (AreListed low high self.new) }
+        ensures why { IsUnopened (open_tests self.old.state arena (length self.old.shape.names)) (vaults.new ≡ vaults.old) (IsNoPair V.changes vaults.old vaults.new arena (2 * END_BYTES) (V.extent vaults.old)) result }
     {
         self.open_pair(records, low, high, arena, vaults, tallies, gate)
     }
@@ -118,7 +122,9 @@ impl Place {
         requires fresh { IsPair low high × (low.has_contract ≡ true) }
         ensures same { (V.names vaults.new ≡ V.names vaults.old) × (V.extent vaults.new ≡ V.extent vaults.old) × (ids_of tallies.new ≡ ids_of tallies.old) }
         ensures opened { Opens arena low high self.old self.new tallies.old tallies.new result }
-        ensures why { IsUnopened (open_tests self.old.state arena (length self.old.shape.names)) result }
+        ensures place { IsSamePlace self.old self.new }
+        ensures ends { IfOk result (AreListed low high self.new) }
+        ensures why { IsUnopened (open_tests self.old.state arena (length self.old.shape.names)) (vaults.new ≡ vaults.old) (IsNoPair V.changes vaults.old vaults.new arena (2 * END_BYTES) (V.extent vaults.old)) result }
     {
         self.open_pair(records, low, high, arena, vaults, tallies, gate)
     }
@@ -138,7 +144,9 @@ impl Place {
         requires names { (V.names vaults.old ≡ self.old.shape.names) × (ids_of tallies.old ≡ self.old.shape.names) }
         ensures same { (V.names vaults.new ≡ V.names vaults.old) × (V.extent vaults.new ≡ V.extent vaults.old) × (ids_of tallies.new ≡ ids_of tallies.old) }
         ensures opened { Opens arena low high self.old self.new tallies.old tallies.new result }
-        ensures why { IsUnopened (open_tests self.old.state arena (length self.old.shape.names)) result }
+        ensures place { IsSamePlace self.old self.new }
+        ensures ends { IfOk result (AreListed low high self.new) }
+        ensures why { IsUnopened (open_tests self.old.state arena (length self.old.shape.names)) (vaults.new ≡ vaults.old) (IsNoPair V.changes vaults.old vaults.new arena (2 * END_BYTES) (V.extent vaults.old)) result }
     {
         if !is_running(self.state) {
             let why = Refused::Ended;
@@ -212,6 +220,7 @@ impl Place {
         requires own { IsPlaceOf records.now self.old × IsRecord records.now.shape r × (direction < 128) }
         requires names { (V.names vaults.old ≡ self.old.shape.names) × (ids_of tallies.old ≡ self.old.shape.names) }
         ensures same { (V.names vaults.new ≡ V.names vaults.old) × (V.extent vaults.new ≡ V.extent vaults.old) × (ids_of tallies.new ≡ ids_of tallies.old) }
+        ensures place { IsSamePlace self.old self.new }
         ensures here { IfOk result (λ b. (is_here self.old process ≡ true) × (b.rec ≡ r) × ((x : Item) × (x.len ≡ b.len) × (self.new ≡ with_blocks self.old (self.old.blocks ++ (r, x) ∷ []))) × (tallies.new ≡ tallies.old)) }
         ensures away { IfErr result (λ e. (e ≡ Refused.Ended) × (((self.new ≡ self.old) × (tallies.new ≡ tallies.old)) ⊎ ((is_here self.old process ≡ false) × (self.old.state ≢ status.Vacant) × ((bytes : ℕ) × IsTooLate r self.old self.new bytes × HasGivenBack bytes tallies.old tallies.new)))) }
     {
@@ -243,6 +252,7 @@ impl Place {
         requires own { IsPlaceOf records.now self.old }
         requires names { (V.names vaults.old ≡ self.old.shape.names) × (ids_of tallies.old ≡ self.old.shape.names) }
         ensures same { (V.names vaults.new ≡ V.names vaults.old) × (V.extent vaults.new ≡ V.extent vaults.old) × (ids_of tallies.new ≡ ids_of tallies.old) }
+        ensures place { IsSamePlace self.old self.new }
         ensures closed { RefusedOr (end_tests self.old.state (value_at e self.old.blocks)) result ((self.new ≡ self.old) × (tallies.new ≡ tallies.old))
             ((bytes : ℕ) × IsClosed e self.old self.new bytes result × HasGivenBack bytes tallies.old tallies.new) }
     {

@@ -11,7 +11,7 @@ ghost use Rattle.xh_place.specs.declared.body.Kind.TheVariants as kind;
 ghost use Rattle.xh_place.specs.Bodies.{kind_of};
 ghost use Rattle.xh_place.specs.Ends.{RefusedOr, end_tests, toward_in};
 ghost use Rattle.xh_place.specs.Messages.{give_tests, given_tests, is_listed, IsSent, IsTaken, IsUntaken};
-ghost use Rattle.xh_place.specs.Places.{Item, IsPlaceOf, with_blocks};
+ghost use Rattle.xh_place.specs.Places.{Item, IsPlaceOf, IsSamePlace, with_blocks};
 ghost use Rattle.xh_place.specs.Refusals.{is_over};
 ghost use Rattle.xh_place.specs.Taking.{AreGot, IsGot};
 
@@ -52,7 +52,8 @@ impl Place {
         gate: &G,
     ) -> Result<u64, Refused>
         requires own { IsPlaceOf records.now self.old }
-        ensures { RefusedOr (give_tests self.old e blocks.now) result (self.new ≡ self.old) (IsSent blocks.now self.old self.new result) }
+        ensures place { IsSamePlace self.old self.new }
+        ensures given { RefusedOr (give_tests self.old e blocks.now) result (self.new ≡ self.old) (IsSent blocks.now self.old self.new result) }
     {
         self.test_end(e)?;
         let given = self.test_given(e, blocks)?;
@@ -104,7 +105,8 @@ impl Place {
         requires end { (x : Item) × (value_at e self.old.blocks ≡ Some x) × (kind_of x.content ≡ kind.End) }
         requires given { Distinct given.now.items × (Among given.now.items e → ⊥) }
         requires listed { (r : ℕ) → Among given.now.items r → (x : Item) × (value_at r self.old.blocks ≡ Some x) }
-        ensures { IsSent given.now.items self.old self.new result }
+        ensures place { IsSamePlace self.old self.new }
+        ensures sent { IsSent given.now.items self.old self.new result }
     {
         let Given { put, back } = give_all(
             rt,
@@ -132,7 +134,8 @@ impl Place {
         gate: &G,
     ) -> Result<Taken, Refused>
         requires own { IsPlaceOf records.now self.old }
-        ensures { RefusedOr (end_tests self.old.state (value_at e self.old.blocks)) result (self.new ≡ self.old)
+        ensures place { IsSamePlace self.old self.new }
+        ensures taken { RefusedOr (end_tests self.old.state (value_at e self.old.blocks)) result (self.new ≡ self.old)
             (MatchResult result (IsTaken (toward_in (value_at e self.old.blocks)) self.old self.new) (λ refused. IsUntaken refused × (self.new ≡ self.old))) }
     {
         self.test_end(e)?;
@@ -151,7 +154,8 @@ impl Place {
         requires own { IsPlaceOf records.now self.old }
         requires alive { is_over self.old.state ≢ true }
         requires end { (x : Item) × (value_at e self.old.blocks ≡ Some x) × (kind_of x.content ≡ kind.End) }
-        ensures { MatchResult result (IsTaken (toward_in (value_at e self.old.blocks)) self.old self.new) (λ refused. IsUntaken refused × (self.new ≡ self.old)) }
+        ensures place { IsSamePlace self.old self.new }
+        ensures taken { MatchResult result (IsTaken (toward_in (value_at e self.old.blocks)) self.old self.new) (λ refused. IsUntaken refused × (self.new ≡ self.old)) }
     {
         let (taken, direction) = self.pop(rt, records, channels, e);
         let message = taken?;
@@ -196,6 +200,7 @@ impl Place {
     ) -> Result<Block, u64>
         requires own { IsPlaceOf records.now self.old × IsRecord records.now.shape r × (direction < 128) }
         requires alive { is_over self.old.state ≢ true }
+        ensures place { IsSamePlace self.old self.new }
         ensures here { IfOk result (λ b. (b.rec ≡ r) × ((x : Item) × (x.len ≡ b.len) × (self.new ≡ with_blocks self.old (self.old.blocks ++ (r, x) ∷ [])))) }
         ensures missing { IfErr result (λ word. (word ≢ 2 + 4 * direction) × (self.new ≡ self.old)) }
     {
@@ -230,7 +235,8 @@ impl Place {
     ) -> ArrayVec<Got, 8>
         requires own { IsPlaceOf records.now self.old × (direction < 128) }
         requires alive { is_over self.old.state ≢ true }
-        ensures { (ys : List (ℕ × Item)) × (self.new ≡ with_blocks self.old (self.old.blocks ++ ys)) × AreGot direction ys result.items }
+        ensures place { IsSamePlace self.old self.new }
+        ensures got { (ys : List (ℕ × Item)) × (self.new ≡ with_blocks self.old (self.old.blocks ++ ys)) × AreGot direction ys result.items }
     {
         let mut got = ArrayVec::new();
         for k in 0..message.blocks.len() {

@@ -1,4 +1,4 @@
-// A running place and all channels, as calls of one thread reach them.
+// Two places of two processes and all channels, as calls of one thread reach them.
 ghost use Rattle.std.specs.Prelude.{◌≡◌, ◌<◌, ◌≤◌, map};
 ghost use Rattle.xh_place.specs.Places.{IsPlaceOf};
 ghost use Rattle.xh_place.specs.Tallies.{ids_of};
@@ -7,21 +7,23 @@ use super::vaults::Plain;
 use super::{Bench, make_bench};
 use crate::{Body, OpenGate, Place, Taken};
 use std::alloc::Global;
+use std::mem;
 use std::sync::Wait;
 use xh_arena::Tally;
-use xh_channel::Channels;
-use xh_core::{Block, Refused};
+use xh_channel::{Channels, Spot};
+use xh_core::{Block, Contract, Refused, Status};
 use xh_records::Records;
 
-/// One arena, one account, all channels and a place.
+/// One arena, one account, all channels and two places. Calls are of the place whose turn it is.
 #[derive(Drop)]
 pub(super) struct Desk {
-    records: Records<Body>,
+    pub(super) records: Records<Body>,
     vaults: Plain,
     tallies: Vec<Tally>,
-    channels: Channels,
-    pub(super) first: Place,
-    ghost own: { IsPlaceOf records first },
+    pub(super) channels: Channels,
+    pub(super) place: Place,
+    pub(super) other: Place,
+    ghost own: { IsPlaceOf records place × IsPlaceOf records other },
     ghost names: { map (λ v. v.id) vaults.vaults.items ≡ records.shape.names },
     ghost ids: { ids_of tallies.items ≡ records.shape.names },
 }
@@ -33,24 +35,58 @@ pub(super) fn make_desk(alloc: Global, size: u32, depth: u8) -> Option<Desk> {
         vaults,
         tallies,
         first,
+        mut second,
         ..
     } = make_bench(alloc, size, 8)?;
     let channels = Channels::new(alloc, depth).ok()?;
+    second.start(&records);
     Some(Desk {
         records,
         vaults,
         tallies,
         channels,
-        first,
+        place: first,
+        other: second,
     })
 }
 
 impl Desk {
+    /// It is the other place's turn.
+    pub(super) fn turn(&mut self) {
+        mem::swap(&mut self.place, &mut self.other);
+    }
+
     pub(super) fn alloc(&mut self, alloc: Global, n: u32) -> Result<Block, Refused> {
         let tallies = self.tallies.as_mut_slice();
         let vaults = &mut self.vaults;
-        self.first
+        self.place
             .alloc(alloc, &self.records, n, 0, vaults, tallies, &OpenGate)
+    }
+
+    pub(super) fn split(
+        &mut self,
+        alloc: Global,
+        r: u16,
+        k: u32,
+    ) -> Result<(Block, Block), Refused> {
+        let vaults = &mut self.vaults;
+        self.place
+            .split(alloc, &self.records, r, k, vaults, &OpenGate)
+    }
+
+    pub(super) fn read(&mut self, r: u16, at: u32, out: &mut [u8]) -> Result<(), Refused> {
+        self.place.read(&self.records, r, at, out)
+    }
+
+    pub(super) fn write(&mut self, r: u16, at: u32, bytes: &[u8]) -> Result<(), Refused> {
+        self.place.write(&self.records, r, at, bytes)
+    }
+
+    pub(super) fn free(&mut self, r: u16) -> Result<u32, Refused> {
+        let tallies = self.tallies.as_mut_slice();
+        let vaults = &mut self.vaults;
+        self.place
+            .free(&self.records, r, vaults, tallies, &OpenGate)
     }
 
     /// The records of both ends of a new channel.
@@ -59,10 +95,76 @@ impl Desk {
         let tallies = self.tallies.as_mut_slice();
         let vaults = &mut self.vaults;
         let made = self
-            .first
+            .place
             .open(&self.records, low, high, 0, vaults, tallies, &OpenGate);
         let (a, b) = made.ok()?;
         Some((a.rec, b.rec))
+    }
+
+    /// The same under a contract.
+    pub(super) fn open_with<R: Wait>(&mut self, rt: &R, contract: Contract) -> Option<(u16, u16)> {
+        let (low, high) = self.channels.open_with(rt, contract).ok()?;
+        let tallies = self.tallies.as_mut_slice();
+        let vaults = &mut self.vaults;
+        let made = self
+            .place
+            .open_with(&self.records, low, high, 0, vaults, tallies, &OpenGate);
+        let (a, b) = made.ok()?;
+        Some((a.rec, b.rec))
+    }
+
+    /// An endpoint goes over to the other place.
+    pub(super) fn hand_over<R: Wait>(&mut self, rt: &R, e: u16) -> Option<()> {
+        let Status::Running = self.place.state() else {
+            return None;
+        };
+        if !self.records.has(e) {
+            return None;
+        }
+        let spot = self.place.spot(&self.records, e)?;
+        let direction = 2 * spot.channel + spot.side;
+        self.place.pass_end(&self.records, e, direction);
+        self.accept(rt, e, direction)
+    }
+
+    // The other place takes an endpoint.
+    fn accept<R: Wait>(&mut self, rt: &R, e: u16, direction: u8) -> Option<()>
+        requires { direction < 128 }
+    {
+        if !self.records.has(e) {
+            return None;
+        }
+        let process = self.other.process();
+        let tallies = self.tallies.as_mut_slice();
+        let vaults = &mut self.vaults;
+        let channels = &self.channels;
+        let came = self.other.accept_end(
+            rt,
+            &self.records,
+            channels,
+            process,
+            e,
+            direction,
+            vaults,
+            tallies,
+            &OpenGate,
+        );
+        came.ok()?;
+        Some(())
+    }
+
+    /// The records of a new channel's end here and of its end at the other place.
+    pub(super) fn wire<R: Wait>(&mut self, rt: &R) -> Option<(u16, u16)> {
+        let (e, f) = self.open(rt)?;
+        self.hand_over(rt, f)?;
+        Some((e, f))
+    }
+
+    /// The channel and sides of an endpoint here and of one at the other place.
+    pub(super) fn spots(&mut self, e: u16, f: u16) -> Option<(Spot, Spot)> {
+        let low = self.place.spot(&self.records, e)?;
+        let high = self.other.spot(&self.records, f)?;
+        Some((low, high))
     }
 
     pub(super) fn give<R: Wait>(
@@ -72,11 +174,11 @@ impl Desk {
         tag: u16,
         blocks: &[u16],
     ) -> Result<u64, Refused> {
-        self.first.give(rt, &self.records, &self.channels, e, tag, blocks, &OpenGate)
+        self.place.give(rt, &self.records, &self.channels, e, tag, blocks, &OpenGate)
     }
 
     pub(super) fn take<R: Wait>(&mut self, rt: &R, e: u16) -> Result<Taken, Refused> {
-        self.first
+        self.place
             .take(rt, &self.records, &self.channels, e, &OpenGate)
     }
 
@@ -84,7 +186,7 @@ impl Desk {
         let tallies = self.tallies.as_mut_slice();
         let vaults = &mut self.vaults;
         let channels = &self.channels;
-        self.first
+        self.place
             .close_end(rt, &self.records, channels, e, vaults, tallies, &OpenGate)
     }
 
@@ -92,7 +194,7 @@ impl Desk {
         let tallies = self.tallies.as_mut_slice();
         let vaults = &mut self.vaults;
         let channels = &self.channels;
-        self.first.stop(
+        self.place.stop(
             rt,
             &self.records,
             channels,

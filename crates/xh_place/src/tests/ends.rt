@@ -26,7 +26,7 @@ fn refusals_of_give(rt: HostRuntime) -> Result<(), Fail> {
     let taken = desk.take(&rt, f)?;
     assert_eq!(rt; (taken.no, taken.tag, taken.blocks.len()), (1, 1, 0));
     assert!(rt; matches!(desk.take(&rt, f), Err(Refused::Empty)));
-    assert_eq!(rt; desk.first.total(), 80);
+    assert_eq!(rt; desk.place.total(), 80);
     Ok(())
 }
 
@@ -47,12 +47,12 @@ fn full_direction(rt: HostRuntime) -> Result<(), Fail> {
         panic!(rt; "not full");
     };
     assert_eq!(rt; back.as_slice(), [y].as_slice());
-    assert_eq!(rt; desk.first.total(), 80);
+    assert_eq!(rt; desk.place.total(), 80);
     let taken = desk.take(&rt, f)?;
     let came = [Got::Here(Block { rec: x, len: 16 })];
     assert_eq!(rt; taken.blocks.as_slice(), came.as_slice());
     assert_eq!(rt; desk.give(&rt, e, 0, &[y])?, 2);
-    assert_eq!(rt; desk.first.total(), 80);
+    assert_eq!(rt; desk.place.total(), 80);
     Ok(())
 }
 
@@ -66,10 +66,10 @@ fn unfinished_kill(rt: HostRuntime) -> Result<(), Fail> {
     desk.alloc(alloc, 16)?;
     desk.alloc(alloc, 32)?;
     assert!(rt; matches!(desk.stop(&rt, 1), Err(Refused::Unfinished { left: 1 })));
-    assert!(rt; desk.first.state() == Status::Ending);
-    assert_eq!(rt; desk.first.total(), 32);
+    assert!(rt; desk.place.state() == Status::Ending);
+    assert_eq!(rt; desk.place.total(), 32);
     assert_eq!(rt; desk.stop(&rt, 1)?, 32);
-    assert!(rt; desk.first.state() == Status::Ended);
+    assert!(rt; desk.place.state() == Status::Ended);
     assert!(rt; matches!(desk.stop(&rt, 1), Err(Refused::Ended)));
     Ok(())
 }
@@ -108,7 +108,7 @@ fn close_reclaims_messages(rt: HostRuntime) -> Result<(), Fail> {
         panic!(rt; "not closed");
     };
     assert_eq!(rt; back.as_slice(), [y].as_slice());
-    assert_eq!(rt; desk.first.total(), 48);
+    assert_eq!(rt; desk.place.total(), 48);
     assert_eq!(rt; desk.moved(), (96, 48));
     Ok(())
 }

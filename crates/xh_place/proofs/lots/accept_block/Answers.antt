@@ -6,7 +6,7 @@ use Rattle.xh_place.proofs.lots.accept_block.Goals as goal
 pub look_at-requires-clause-held : goal.look_at-requires-clause-held
 look_at-requires-clause-held c =
     let t = c.in_ok-accept.ensures.accepted in
-    (t.0, has c.args.seat.now c.accept.new.seat c.args.r t.0 (ap bare t.1) c.in_ok-accept.ensures.fresh, lot_is c.args.seat.now c.accept.new.seat c.args.r t.0 (ap bare t.1) c.in_ok-accept.ensures.fresh t.2, t.3.1)
+    (t.0, has c.args.seat.now c.accept.new.seat c.args.r t.0 (ap bare t.1) c.in_ok-accept.ensures.fresh, lot_is c.args.seat.now c.accept.new.seat c.args.r t.0 (ap bare t.1) c.in_ok-accept.ensures.fresh t.2, t.3)
 
 pub returns-clause-here : goal.returns-clause-here
 returns-clause-here c =

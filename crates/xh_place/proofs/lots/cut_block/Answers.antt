@@ -62,7 +62,7 @@ part_lots-requires-clause-held g c =
     let k = cutting all seat c.claim.new.seat r n h.0 t.0 c.requires.own h.1 h.2 exists t.2 c.in-Ok.ensures.fresh (ap bare t.1) in
     let j = lent all seat c.claim.new.seat c.rest_of.new.seat r n h.0 t.0 k (c.rest_of.ensures h.0 k.head).1 in
     let e : Some t.0.id ≡ Some h.0.id = sym t.2.1 ∙ ap (slice_get seat.shape.names) c.in-Ok.ensures.record.0 ∙ h.2.lot.1 in let ids : t.0.id ≡ h.0.id = cc in
-    (h.0, t.0, j.head, j.tail, j.head_lot, j.tail_lot, ap (λ (z : List TableId). slice_get z (r / 256)) c.requires.names ∙ h.2.lot.1, ids, t.3, h.4, h.3.1, h.3.0)
+    (h.0, t.0, j.head, j.tail, j.head_lot, j.tail_lot, ap (λ (z : List TableId). slice_get z (r / 256)) c.requires.names ∙ h.2.lot.1, ids, t.3.0, h.4, h.3.1, h.3.0)
 
 pub returns-clause-cut : goal.returns-clause-cut
 returns-clause-cut g c = λ l at.

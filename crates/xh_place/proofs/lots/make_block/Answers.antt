@@ -17,7 +17,7 @@ pub fill_lot-filled-requires-clause-held : goal.fill_lot-filled-requires-clause-
 fill_lot-filled-requires-clause-held g c =
     let t = c.in-Ok.ensures.claimed in let r : ℕ = c.in-Ok.r in
     let n = named c.args.seat.now c.claim.new.seat r t.0 (ap bare t.1) c.in-Ok.ensures.fresh _ c.args.arena _ t.2 c.in-Ok.ensures.record.0 c.requires.names c.requires.tally.1 in
-    (t.0, has c.args.seat.now c.claim.new.seat r t.0 (ap bare t.1) c.in-Ok.ensures.fresh, t.3, lot_is c.args.seat.now c.claim.new.seat r t.0 (ap bare t.1) c.in-Ok.ensures.fresh t.2, n.0, n.1)
+    (t.0, has c.args.seat.now c.claim.new.seat r t.0 (ap bare t.1) c.in-Ok.ensures.fresh, t.3.0, lot_is c.args.seat.now c.claim.new.seat r t.0 (ap bare t.1) c.in-Ok.ensures.fresh t.2, n.0, n.1)
 
 pub vacate-requires-2-clause-own : goal.vacate-requires-2-clause-own
 vacate-requires-2-clause-own g c =

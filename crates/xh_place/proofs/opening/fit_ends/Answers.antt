@@ -1,8 +1,7 @@
-use Rattle.std.proofs.Common.{◌≡◌, ℕ, ⊎_elim, inl, inr, sym, ap, ◌∙◌}
+use Rattle.std.proofs.Common.{◌≡◌, ℕ, sym, ap, ◌∙◌}
 use Rattle.xh_model.specs.Keyed.{put}
 use Rattle.xh_model.proofs.Keyed.{put_same}
 use Rattle.xh_records.specs.Seats.{with_lots}
-use Rattle.xh_place.specs.Vaults.{reason_of}
 use Rattle.xh_place.proofs.Out.{same_end}
 use Rattle.xh_place.proofs.opening.fit_ends.Goals as goal
 
@@ -19,5 +18,4 @@ returns-clause-refused g c =
       f.1,
       same_end c.halve_lots-halved.new.first c.end_in-low.result c.args.low c.end_in-low.ensures f.2,
       same_end c.halve_lots-halved.new.second c.end_in-high.result c.args.high c.end_in-high.ensures f.3,
-      inr (⊎_elim (λ e. inl (c.reason-why.ensures ∙ ap reason_of e)) (λ e. inr (c.reason-why.ensures ∙ ap reason_of e)) c.in-Err.ensures.reason),
     )

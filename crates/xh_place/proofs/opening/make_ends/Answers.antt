@@ -38,8 +38,8 @@ fit_ends-fitted-requires-clause-held g c =
       ap (λ (z : List TableId). slice_get z (r / 256)) c.requires.names ∙ mine,
       one,
       other,
-      k.2.first.2,
-      k.2.second.2,
+      k.2.first.2.0,
+      k.2.second.2.0,
     )
 
 pub returns-in_default-fitted-clause-made : goal.returns-in_default-fitted-clause-made
@@ -91,5 +91,4 @@ returns-clause-refused g c =
       f.1,
       f.2,
       f.3,
-      f.4,
     )

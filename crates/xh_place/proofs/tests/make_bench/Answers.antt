@@ -7,12 +7,13 @@ use Rattle.xh_records.specs.Seats.{Held}
 use Rattle.xh_records.proofs.OneVault.{of_one_vault}
 use Rattle.xh_core.specs.declared.status.Status.TheVariants.{Vacant}
 use Rattle.xh_place.specs.declared.body.Body.{Body}
+use Rattle.xh_place.specs.Bodies.{fits_in}
 use Rattle.xh_place.specs.Places.{PlaceOf}
 use Rattle.xh_place.proofs.Plain.{ids_one, second_of}
 use Rattle.xh_place.proofs.tests.make_bench.Goals as goal
 
 pub new-requires-clause-empty : goal.new-requires-clause-empty
-new-requires-clause-empty c = of_one_vault _ _ c.args.count _ c.in-Ok.lots.items (search rules) c.in-Ok.ensures.lots
+new-requires-clause-empty c = of_one_vault _ fits_in _ c.args.count _ c.in-Ok.lots.items (λ b new. ap (λ (z : Body). fits_in z 0) new) (search rules) c.in-Ok.ensures.lots
 
 pub new-requires-2-clause-empty : goal.new-requires-2-clause-empty
 new-requires-2-clause-empty c =
@@ -97,4 +98,5 @@ invariant_of-result c =
       );
       names = search rules;
       ids = ids_one c.in-Ok.vault.id c.in-Ok.tallies.items c.in-Ok.ensures.tallies ∙ sym names;
+      vacant = ap (λ (p : PlaceOf). p.state) place2;
     }

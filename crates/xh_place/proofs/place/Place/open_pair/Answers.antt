@@ -3,11 +3,12 @@ use Rattle.std.specs.Prelude.{slice_get, Some}
 use Rattle.std.specs.Vec.{vec_capacity}
 use Rattle.xh_place.specs.declared.body.Header.{Header}
 use Rattle.xh_place.specs.declared.body.Kind.TheVariants as kind
+use Rattle.xh_place.specs.Ends.{end_block}
 use Rattle.xh_place.specs.Refusals.{is_running}
 use Rattle.xh_place.specs.Places.{Item, header_of, item_of, with_blocks}
 use Rattle.xh_place.specs.Tallies.{ids_of, took}
 use Rattle.xh_place.proofs.Counted.{ids_at, ids_long, ids_took, took_set}
-use Rattle.xh_place.proofs.Opened.{opened, room_first, room_second}
+use Rattle.xh_place.proofs.Opened.{both_listed, opened, room_first, room_second}
 use Rattle.xh_place.proofs.Steps.{kept, over_running, total_bound}
 use Rattle.xh_place.proofs.place.Place.open_pair.Goals as goal
 
@@ -90,6 +91,20 @@ returns-clause-opened g c =
       (refl, k.2.two.second_arena),
       paid ∙ ap (λ (a : ℕ). took a 64 c.args.tallies.now) c.from-2.ensures,
     )
+
+pub returns-clause-ends : goal.returns-clause-ends
+returns-clause-ends g c =
+    let seat = c.self.inside.seat in let xs = c.self.inside.list.items in let room : ℕ = vec_capacity c.self.inside.list in let total : ℕ = c.self.inside.total in let state = c.self.inside.state in let is = c.self.invariant in
+    let k = c.in_ok-made.ensures.made in let l = k.0 in let m = k.1 in let r : ℕ = c.in_ok-made.made.0 in let q : ℕ = c.in_ok-made.made.1 in
+    let run : is_running state ≡ true = search rules in let alive = over_running state run in
+    let header : Header = record { len = 32; kind = kind.End } in
+    let one : header ≡ header_of (item_of l) = ap header_of (sym k.3) in let other : header ≡ header_of (item_of m) = ap header_of (sym k.4) in
+    let first : c.push_reserved.new.self.items ≡ xs ++ (r, header_of (item_of l)) ∷ [] = c.push_reserved.ensures.items ∙ ap (λ (z : Header). xs ++ (r, z) ∷ []) one in
+    let items : c.push_reserved-2.new.self.items ≡ (xs ++ (r, header_of (item_of l)) ∷ []) ++ (q, header_of (item_of m)) ∷ [] = c.push_reserved-2.ensures.items ∙ (λ i. first i ++ (q, other i) ∷ []) in
+    let len : l.len ≡ 32 = ap (λ (x : Item). x.len) k.3 in let len2 : m.len ≡ 32 = ap (λ (x : Item). x.len) k.4 in
+    let sum : total + c.from-3.result ≡ total + l.len + m.len = omega (arith, c.from-3.ensures, len, len2) in
+    let both = opened seat c.make_ends.new.seat xs room total state is alive c.args.arena r q l m k.2 c.push_reserved-2.new.self.items (vec_capacity c.push_reserved-2.new.self) (total + c.from-3.result) items (c.push_reserved-2.ensures.capacity ∙ c.push_reserved.ensures.capacity) sum in
+    both_listed seat c.make_ends.new.seat xs room total state is alive c.args.arena r q l m k.2 c.push_reserved-2.new.self.items (vec_capacity c.push_reserved-2.new.self) (total + c.from-3.result) both.0 (end_block c.args.low) (end_block c.args.high) k.3 k.4
 
 pub invariant_of-self : goal.invariant_of-self
 invariant_of-self g c =

@@ -53,8 +53,8 @@ invariant_of-self g c =
     a.same a.others a.good a.back (c.settle.ensures.items ∙ (λ i. settled (c.as_slice.ensures.value i) (λ r. value_at r (c.as_slice-2.ensures.value i)) xs)) c.settle.ensures.room in
     subst (λ (n : ℕ). IsPlace last ys cap n state) (sym (c.sum-self-inside.ensures ∙ ap sum_of c.as_slice-3.ensures.value)) all.0
 
-pub returns : goal.returns
-returns g c =
+pub returns-clause-sent : goal.returns-clause-sent
+returns-clause-sent g c =
     let seat = c.self.inside.seat in let xs = c.self.inside.list.items in let room : ℕ = vec_capacity c.self.inside.list in let total : ℕ = c.self.inside.total in let state = c.self.inside.state in let is = c.self.invariant in
     let block : (r : ℕ) (x : Item) → value_at r c.args.self.now.blocks ≡ Some x → (l : LotOf Body) × (value_at r seat.lots ≡ Some l) × (header_of x ≡ header_of (item_of l)) × IsBlock seat.shape r l × (value_at r (shown seat.lots xs) ≡ Some (item_of l)) = λ r x at. lot_of seat xs room total state is r (header_of x) (listed seat xs room total state is c.args.self.now c.self.view_is r x at) in
     let q = c.requires.end in let t = block c.args.e q.0 q.1 in

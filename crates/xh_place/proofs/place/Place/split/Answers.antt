@@ -19,7 +19,7 @@ cut_block-requires-clause-held g c =
     let f = found seat xs room total state is c.args.self.now c.self.view_is r q.0 q.1 in
     let run : is_running state ≡ true = ap (λ p. is_running p.state) c.self.view_is ∙ may_cut c.args.self.now.state (value_at r c.args.self.now.blocks) c.args.k c.in_ok-len.ensures.0 in
     let full : f.lot.len ≡ c.in_ok-len.len = ap (λ (x : Item). x.len) f.same ∙ q.3 in
-    (f.lot, f.held, f.block, (ap (λ (x : Item). kind_of x.content) f.same ∙ q.2, f.block.full.1), (q.4.0, q.4.1, subst (λ (z : ℕ). c.args.k < z) (sym full) q.4.2))
+    (f.lot, f.held, f.block, (ap (λ (x : Item). kind_of x.content) f.same ∙ q.2, f.block.full.1, f.block.full.0), (q.4.0, q.4.1, subst (λ (z : ℕ). c.args.k < z) (sym full) q.4.2))
 
 pub invariant_of-self : goal.invariant_of-self
 invariant_of-self g c =

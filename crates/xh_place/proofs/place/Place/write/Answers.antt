@@ -21,7 +21,7 @@ write_lot-requires-clause-held c =
     let q = c.in_ok-test_range.ensures.1 in
     let f = found c.self.inside.seat c.self.inside.list.items (vec_capacity c.self.inside.list) c.self.inside.total c.self.inside.state c.self.invariant c.args.self.now c.self.view_is c.args.r q.0 q.1 in
     let len : f.lot.len ≡ q.0.len = ap (λ (x : Item). x.len) f.same in
-    (f.lot, f.held, f.block.lot, (ap (λ (x : Item). kind_of x.content) f.same ∙ q.2, f.block.full.1), subst (λ (n : ℕ). c.args.at + length c.args.bytes.now ≤ n) (sym len) q.3)
+    (f.lot, f.held, f.block.lot, (ap (λ (x : Item). kind_of x.content) f.same ∙ q.2, f.block.full.1, f.block.full.0), subst (λ (n : ℕ). c.args.at + length c.args.bytes.now ≤ n) (sym len) q.3)
 
 pub invariant_of-self : goal.invariant_of-self
 invariant_of-self c =
