@@ -1,0 +1,10 @@
+pub mod Lists
+pub mod Taking
+pub mod Fresh
+pub mod Makings
+pub mod Last
+pub mod Reclaims
+pub mod Ended
+pub mod Vaulted
+pub mod Listed
+pub mod Wired

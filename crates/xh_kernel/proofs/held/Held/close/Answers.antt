@@ -1,0 +1,16 @@
+use Rattle.std.proofs.Common.{rules, List, sym, subst}
+use Rattle.std.proofs.lemmas.List.{with_items_is, places}
+use Rattle.xh_arena.specs.Views.{TallyOf}
+use Rattle.xh_model.specs.Keyed.{value_at}
+use Rattle.xh_place.specs.Ends.{end_tests}
+use Rattle.xh_kernel.specs.Reclaims.{HasReclaimed}
+use Rattle.xh_kernel.proofs.Ended.{account_of, closed}
+use Rattle.xh_kernel.proofs.held.Held.close.Goals as goal
+
+pub returns-clause-account : goal.returns-clause-account
+returns-clause-account g c =
+    let place = c.args.self.now.place in
+    subst (λ (ts : List TallyOf). HasReclaimed c.args.account.now (account_of c.account.inside.number ts) c.close_end-answer.result)
+    (sym (with_items_is c.account.inside.tallies c.close_end-answer.new.tallies (search (rules, places))))
+    (closed c.account.inside.number c.account.inside.tallies.items c.as_mut_slice-tallies.result.now c.close_end-answer.new.tallies c.args.account.now c.account.view_is c.as_mut_slice-tallies.ensures.value
+    place c.close_end-answer.new.self c.close_end-answer.result c.args.e (end_tests place.state (value_at c.args.e place.blocks)) c.close_end-answer.ensures.closed)

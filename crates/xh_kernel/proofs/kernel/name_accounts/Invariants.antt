@@ -1,0 +1,14 @@
+use Rattle.std.proofs.Common.{◌≡◌, ◌+◌, ◌<◌, ℕ, vec_len}
+use Rattle.std.specs.Prelude.{slice_index_or}
+use Rattle.std.specs.Vec.Iter.{into_iter_items, into_iter_len}
+use Rattle.xh_kernel.specs.declared.account.Bundle.{Bundle}
+use Rattle.xh_kernel.specs.Accounts.{AreFresh}
+use Rattle.xh_kernel.specs.inner.Making.{IsBundle}
+use Rattle.xh_kernel.proofs.kernel.name_accounts.Given as goal
+
+abbrev pub invariant-loop-bundle : goal.invariant-loop-bundle
+invariant-loop-bundle g l =
+    let done = vec_len l.accounts in let rest = l.bundle-iterator in
+    (done + into_iter_len rest ≡ vec_len l.fn.bundles)
+    × ((k : ℕ) (d : Bundle) → k < into_iter_len rest → IsBundle g.N.Names.parts.records.shape.names (done + k) (slice_index_or (into_iter_items rest) k d))
+    × AreFresh g.N.Names.parts.records.shape.names l.accounts.items

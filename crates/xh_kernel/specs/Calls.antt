@@ -1,0 +1,81 @@
+-- What each call of a process does to its place, and why it is refused.
+use Rattle.std.specs.Prelude.{◌≡◌, ◌⊎◌, ℕ, ◌/◌, ◌<◌, ◌&&◌, ◌||◌, Bool, true, false, nat_lt, List, [], ◌∷◌, ◌++◌, length, replicate, Option, Some, Result, Err, IfErr, IfOk, MatchOption, OnErr, OnOk}
+use Rattle.xh_arena.specs.Views.{VaultOf}
+use Rattle.xh_core.specs.declared.block.Block.{Block}
+use Rattle.xh_core.specs.declared.refused.Refused.{Refused}
+use Rattle.xh_core.specs.declared.refused.Refused.TheVariants.{NoRecord, NoSpace, OutOfMemory, Worn}
+use Rattle.xh_core.specs.Machine.{is_vacant, is_ended}
+use Rattle.xh_core.specs.Refusing.{Tested, first_refusal}
+use Rattle.xh_model.specs.Arena.{ArenaState, HasNoSpace, IsLawfulArena, IsWorn}
+use Rattle.xh_model.specs.Keyed.{put, value_at, without}
+use Rattle.xh_model.specs.Words.{generation_of}
+use Rattle.xh_place.specs.Bodies.{bytes, part, patched}
+use Rattle.xh_place.specs.Places.{Item, PlaceOf, started, with_blocks}
+use Rattle.xh_place.specs.Refusals.{alloc_tests, data_tests, len_in, range_tests, rounded, split_tests}
+use Rattle.xh_place.specs.Splitting.{IsSplit}
+use Rattle.xh_kernel.specs.Parts.{PartsOf, IsVaultOf}
+use Rattle.xh_kernel.specs.Places.{start}
+
+-- ---- spawn
+
+-- whether a process can start there: nobody has had the place, or its process has ended and was not the last
+abbrev pub can_start : PlaceOf → Bool
+can_start p = is_vacant p.state || (is_ended p.state && nat_lt (generation_of p.process) 127)
+
+-- its next process runs now; or none can start there
+abbrev pub Spawns : PlaceOf → PlaceOf → Option ℕ → Type 0
+Spawns old new result = MatchOption result ((can_start old ≡ false) × (new ≡ old))
+    (λ p. (can_start old ≡ true) × (new ≡ started old) × (p ≡ new.process))
+
+-- ---- alloc
+
+-- some lawful vault of the arena was seen of which this is so
+abbrev pub IsOfSome : PartsOf → ℕ → (ArenaState → Type 0) → Type 0
+IsOfSome parts a P = (v : VaultOf) × IsVaultOf parts a v × IsLawfulArena v.arena × P v.arena
+
+-- no record or no memory was had, or n bytes could not be carved of the arena
+abbrev pub IsLack : PartsOf → ℕ → ℕ → Refused → Type 0
+IsLack parts a n NoRecord = Unit {0}
+IsLack parts a n OutOfMemory = Unit {0}
+IsLack parts a n NoSpace = IsOfSome parts a (HasNoSpace n)
+IsLack parts a n Worn = IsOfSome parts a (IsWorn n)
+IsLack parts a n _ = ⊥
+
+-- a new data block of at least n bytes of the arena, all of them zero, is the last of the list
+pub record Allocates (parts : PartsOf) (p n arena : ℕ) (old new : PlaceOf) (result : Result Block Refused) : Type 0 where
+  pub made : IfOk result (λ b. new ≡ with_blocks old (old.blocks ++ (b.rec, record { len = b.len; content = bytes (replicate b.len 0) }) ∷ []))
+  pub block : IfOk result (λ b. (b.len ≡ rounded n) × (b.rec / 256 ≡ arena))
+  pub refused : OnErr result (new ≡ old)
+  pub why : MatchOption (first_refusal (start p old ++ alloc_tests old.state arena (length parts.records.shape.names) n parts.size))
+      (IfErr result (IsLack parts arena (rounded n))) (λ refused. result ≡ Err refused)
+
+-- ---- split
+
+-- the block is cut after its first k bytes
+pub record Splits (p r k : ℕ) (old new : PlaceOf) (result : Result (Block × Block) Refused) : Type 0 where
+  pub cut : IfOk result (λ ends. IsSplit old new r k ends.0 ends.1)
+  pub refused : OnErr result (new ≡ old)
+  pub why : MatchOption (first_refusal (start p old ++ split_tests old.state (value_at r old.blocks) k))
+      (IfErr result (λ e. (e ≡ NoRecord) ⊎ (e ≡ OutOfMemory))) (λ refused. result ≡ Err refused)
+
+-- ---- read, write
+
+-- the bytes of the block from `at` on are there now
+pub record Reads (p r at : ℕ) (place : PlaceOf) (before after : List ℕ) (result : Result (Unit {0}) Refused) : Type 0 where
+  pub read : Tested (start p place ++ range_tests place.state (value_at r place.blocks) at (length before)) result
+      (λ _. (x : Item) × (value_at r place.blocks ≡ Some x) × (after ≡ part at (length before) x.content))
+  pub refused : OnErr result (after ≡ before)
+
+-- these bytes stand in the block from `at` on
+pub record Writes (p r at : ℕ) (xs : List ℕ) (old new : PlaceOf) (result : Result (Unit {0}) Refused) : Type 0 where
+  pub written : Tested (start p old ++ range_tests old.state (value_at r old.blocks) at (length xs)) result
+      (λ _. (x : Item) × (value_at r old.blocks ≡ Some x) × (new ≡ with_blocks old (put r (record x { content = patched at xs x.content }) old.blocks)))
+  pub refused : OnErr result (new ≡ old)
+
+-- ---- free
+
+-- the block is gone, and its length is the answer
+pub record Frees (p r : ℕ) (old new : PlaceOf) (result : Result ℕ Refused) : Type 0 where
+  pub freed : OnOk result (new ≡ with_blocks old (without r old.blocks))
+  pub length : Tested (start p old ++ data_tests old.state (value_at r old.blocks)) result (λ n. n ≡ len_in (value_at r old.blocks))
+  pub refused : OnErr result (new ≡ old)

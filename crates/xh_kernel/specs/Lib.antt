@@ -1,0 +1,9 @@
+pub mod Parts
+pub mod Accounts
+pub mod Places
+pub mod Calls
+pub mod Reclaims
+pub mod Channels
+pub mod Messages
+pub mod Endings
+pub mod inner

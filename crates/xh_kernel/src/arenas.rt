@@ -1,0 +1,82 @@
+//! The locks of the arenas.
+ghost use Rattle.std.specs.Prelude.{◌≡◌, ◌≤◌, ◌%◌, All, IfOk, length, vec_len};
+ghost use Rattle.xh_model.specs.declared.limits.TheConstants.{MAX_ARENAS, MAX_BYTES, UNIT};
+ghost use Rattle.xh_kernel.specs.Parts.{IsOpen, vault_names};
+
+use crate::kept::Kept;
+use crate::names::Names;
+use std::alloc::{AllocError, Global};
+use std::sync::Mutex;
+use xh_arena::Vault;
+
+/// One lock for each arena, and how many arenas there are, and how many bytes each has.
+#[derive(Drop)]
+pub(crate) struct Arenas<N: Names> {
+    pub(crate) count: u8,
+    pub(crate) size: u32,
+    pub(crate) arena0: Mutex<Kept<N, 0>>,
+    pub(crate) arena1: Mutex<Kept<N, 1>>,
+    pub(crate) arena2: Mutex<Kept<N, 2>>,
+    pub(crate) arena3: Mutex<Kept<N, 3>>,
+    pub(crate) arena4: Mutex<Kept<N, 4>>,
+    pub(crate) arena5: Mutex<Kept<N, 5>>,
+    pub(crate) arena6: Mutex<Kept<N, 6>>,
+    pub(crate) arena7: Mutex<Kept<N, 7>>,
+    ghost counted: { (count ≡ length N.parts.records.shape.names) × (count ≤ MAX_ARENAS) },
+    ghost sized: { (size ≡ N.parts.size) × (size % UNIT ≡ 0) × (size ≤ MAX_BYTES) },
+}
+
+impl<N: Names> Arenas<N> {
+    // The vaults of all arenas behind their locks.
+    pub(crate) fn new(vaults: Vec<Vault>, size: u32) -> Arenas<N>
+        requires sized { (size ≡ N.parts.size) × (size % UNIT ≡ 0) × (size ≤ MAX_BYTES) }
+        requires names { vault_names vaults.items ≡ N.parts.records.shape.names }
+        requires open_vaults { All (IsOpen N.parts) vaults.items }
+        requires few { vec_len vaults ≤ MAX_ARENAS }
+    {
+        let count = vaults.len() as u8;
+        let mut rest = vaults.into_iter();
+        Arenas {
+            count,
+            size,
+            arena0: Mutex::new(Kept::next(&mut rest)),
+            arena1: Mutex::new(Kept::next(&mut rest)),
+            arena2: Mutex::new(Kept::next(&mut rest)),
+            arena3: Mutex::new(Kept::next(&mut rest)),
+            arena4: Mutex::new(Kept::next(&mut rest)),
+            arena5: Mutex::new(Kept::next(&mut rest)),
+            arena6: Mutex::new(Kept::next(&mut rest)),
+            arena7: Mutex::new(Kept::next(&mut rest)),
+        }
+    }
+
+    // The vaults, by arena, out of their locks.
+    pub(crate) fn into_vaults(self, alloc: Global) -> Result<Vec<Vault>, AllocError>
+        ensures names { IfOk result (λ v. vault_names v.items ≡ N.parts.records.shape.names) }
+        ensures open_vaults { IfOk result (λ v. All (IsOpen N.parts) v.items) }
+        ensures few { IfOk result (λ v. vec_len v ≤ MAX_ARENAS) }
+    {
+        let Arenas {
+            count,
+            size: _,
+            arena0,
+            arena1,
+            arena2,
+            arena3,
+            arena4,
+            arena5,
+            arena6,
+            arena7,
+        } = self;
+        let mut vaults = Vec::with_capacity(alloc, usize::from(count))?;
+        arena0.into_inner().put_back(&mut vaults)?;
+        arena1.into_inner().put_back(&mut vaults)?;
+        arena2.into_inner().put_back(&mut vaults)?;
+        arena3.into_inner().put_back(&mut vaults)?;
+        arena4.into_inner().put_back(&mut vaults)?;
+        arena5.into_inner().put_back(&mut vaults)?;
+        arena6.into_inner().put_back(&mut vaults)?;
+        arena7.into_inner().put_back(&mut vaults)?;
+        Ok(vaults)
+    }
+}

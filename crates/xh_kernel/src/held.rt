@@ -1,0 +1,138 @@
+//! What lies behind a place's lock.
+ghost use Rattle.std.specs.Prelude.{◌≡◌, ◌<◌, ◌^◌, length};
+ghost use Rattle.xh_core.specs.declared.status.Status.TheVariants as status;
+ghost use Rattle.xh_core.specs.Refusing.{Tested};
+ghost use Rattle.xh_model.specs.Words.{place_of};
+ghost use Rattle.xh_place.specs.Places.{IsPlaceOf};
+ghost use Rattle.xh_kernel.specs.Calls.{Spawns};
+ghost use Rattle.xh_kernel.specs.Places.{IsHeldOf, IsTold, start, status_of, stop};
+
+mod blocks;
+mod channels;
+mod endings;
+mod messages;
+
+use crate::names::Names;
+use crate::shared::Shared;
+pub(crate) use channels::Wired;
+pub(crate) use messages::Look;
+use std::marker::PhantomData;
+use xh_channel::Spot;
+use xh_core::{Glance, Refused, Status};
+use xh_glance::{Glances, Pen};
+use xh_model::limits::{GENERATIONS, PLACES, PROCESSES};
+use xh_place::Place;
+
+/// A place, the pen of its glances, and the endpoint that its process waits at. Whenever the lock is
+/// free, the last entry of the pen's history is what the place is.
+#[derive(Drop)]
+pub(crate) struct Held<N: Names> {
+    pub(crate) place: Place,
+    pub(crate) pen: Pen,
+    pub(crate) waits: Option<Spot>,
+    of: PhantomData<N>,
+    ghost named: { IsHeldOf N.parts place pen },
+    ghost told: { IsTold place pen },
+}
+
+// How many blocks a place has.
+fn count_of(place: &Place) -> u32
+    ensures count { result ≡ length place.now.blocks }
+    ensures few { result < 2 ^ 12 }
+{
+    place.blocks().len() as u32
+}
+
+// One more entry of the place's history: what it is now.
+pub(crate) fn tell(glances: &Glances, pen: &mut Pen, place: &Place)
+    requires pen { (pen.old.glances ≡ glances.now) × (place_of place.now.process ≡ pen.old.number) }
+    ensures same { (pen.new.glances ≡ pen.old.glances) × (pen.new.number ≡ pen.old.number) }
+    ensures told { IsTold place.now pen.new }
+{
+    let glance = Glance {
+        process: place.process(),
+        state: place.state(),
+        blocks: count_of(place),
+        bytes: place.total(),
+    };
+    glances.store(pen, glance);
+}
+
+impl<N: Names> Held<N> {
+    // A place and its pen, which has told what the place is.
+    pub(crate) fn new(place: Place, pen: Pen) -> Held<N>
+        requires named { IsHeldOf N.parts place pen }
+        requires told { IsTold place pen }
+    {
+        Held {
+            place,
+            pen,
+            waits: None,
+            of: PhantomData,
+        }
+    }
+
+    pub(crate) fn into_place(self) -> Place
+        ensures { IsPlaceOf N.parts.records result }
+    {
+        let Held {
+            place,
+            pen: _,
+            waits: _,
+            of: _,
+        } = self;
+        place
+    }
+
+    // How far the process has come.
+    fn status_of(&self, p: u16) -> Status
+        ensures { result ≡ status_of p self.now.place }
+    {
+        let latest = self.place.process();
+        let places = u16::from(PLACES);
+        if p >= PROCESSES || latest / places < p / places {
+            return Status::Vacant;
+        }
+        if latest == p {
+            return self.place.state();
+        }
+        Status::Ended
+    }
+
+    // The tests of a call by the process: it is the latest of the place, and runs.
+    pub(crate) fn start(&self, p: u16) -> Result<(), Refused>
+        ensures { Tested (start p self.now.place) result (λ _. (self.now.place.process ≡ p) × (self.now.place.state ≡ status.Running)) }
+    {
+        match self.status_of(p) {
+            Status::Vacant => Err(Refused::NoProcess),
+            Status::Running => Ok(()),
+            Status::Ending | Status::Ended => Err(Refused::Ended),
+        }
+    }
+
+    // The tests of an end of the process: it is the latest of the place, and has not ended.
+    pub(crate) fn stop_test(&self, p: u16) -> Result<(), Refused>
+        ensures { Tested (stop p self.now.place) result (λ _. self.now.place.process ≡ p) }
+    {
+        match self.status_of(p) {
+            Status::Vacant => Err(Refused::NoProcess),
+            Status::Running | Status::Ending => Ok(()),
+            Status::Ended => Err(Refused::Ended),
+        }
+    }
+
+    // The next process of the place runs now, where there is one: its number.
+    pub(crate) fn spawn(&mut self, shared: &Shared<N>) -> Option<u16>
+        ensures { Spawns self.old.place self.new.place result }
+    {
+        let again = self.place.process() / u16::from(PLACES) + 1 < GENERATIONS;
+        match self.place.state() {
+            Status::Vacant => (),
+            Status::Ended if again => (),
+            _ => return None,
+        }
+        self.place.start(&shared.records);
+        tell(&shared.glances, &mut self.pen, &self.place);
+        Some(self.place.process())
+    }
+}

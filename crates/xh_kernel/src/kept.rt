@@ -1,0 +1,117 @@
+//! What lies behind an arena's lock.
+ghost use Rattle.std.specs.Prelude.{◌≡◌, ◌+◌, ◌-◌, ◌%◌, ◌<◌, slice_get, Some, take, drop, All, IfErr, IfOk, OnErr, OnOk};
+ghost use Rattle.std.specs.Vec.Iter.{into_iter_items};
+ghost use Rattle.xh_arena.specs.Refusals.{RefusesCarve};
+ghost use Rattle.xh_arena.specs.Views.{VaultOf};
+ghost use Rattle.xh_model.specs.Arena.{IsGoodCut, IsLawfulArena};
+ghost use Rattle.xh_model.specs.declared.limits.TheConstants.{UNIT};
+ghost use Rattle.xh_kernel.specs.Parts.{IsOpen, IsVaultOf, vault_names};
+
+use crate::names::Names;
+use std::alloc::AllocError;
+use std::marker::{Model, PhantomData};
+use std::vec::IntoIter;
+use xh_arena::{Lot, Refused, Tally, Vault};
+use xh_place::Body;
+
+/// The vault of arena A, where the kernel has that arena.
+#[derive(Drop)]
+pub(crate) struct Kept<N: Names, const A: u8> {
+    vault: Option<Vault>,
+    of: PhantomData<N>,
+}
+
+impl<N: Names, const A: u8> Model for Kept<N, A> {
+    ghost use Rattle.std.specs.Prelude.{◌≤◌, length, Option, MatchOption};
+    ghost use Rattle.xh_arena.specs.Views.{VaultOf};
+    ghost use Rattle.xh_kernel.specs.Parts.{IsVaultOf};
+
+    ghost Value = { Option VaultOf };
+
+    ghost view = { λ k. k.vault };
+
+    ghost invariant = { λ k. MatchOption k.vault (length N.parts.records.shape.names ≤ A) (IsVaultOf N.parts A) };
+}
+
+impl<N: Names, const A: u8> Kept<N, A> {
+    // The next vault, which is that of arena A, where there is one.
+    pub(crate) fn next(rest: &mut IntoIter<Vault>) -> Kept<N, A>
+        requires names { vault_names (into_iter_items rest.old) ≡ drop A N.parts.records.shape.names }
+        requires open_vaults { All (IsOpen N.parts) (into_iter_items rest.old) }
+        ensures names { vault_names (into_iter_items rest.new) ≡ drop (A + 1) N.parts.records.shape.names }
+        ensures open_vaults { All (IsOpen N.parts) (into_iter_items rest.new) }
+    {
+        match rest.next() {
+            Some(vault) => Kept {
+                vault: Some(vault),
+                of: PhantomData,
+            },
+            None => Kept {
+                vault: None,
+                of: PhantomData,
+            },
+        }
+    }
+
+    // Puts the vault behind those of the arenas below A.
+    pub(crate) fn put_back(self, vaults: &mut Vec<Vault>) -> Result<(), AllocError>
+        requires names { vault_names vaults.old.items ≡ take A N.parts.records.shape.names }
+        requires open_vaults { All (IsOpen N.parts) vaults.old.items }
+        ensures names { OnOk result (vault_names vaults.new.items ≡ take (A + 1) N.parts.records.shape.names) }
+        ensures open_vaults { OnOk result (All (IsOpen N.parts) vaults.new.items) }
+    {
+        let Kept { vault, of: _ } = self;
+        if let Some(vault) = vault {
+            vaults.push(vault)?;
+        }
+        Ok(())
+    }
+
+    // As `Vault::carve`, of this arena.
+    pub(crate) fn carve(
+        &mut self,
+        lot: &mut Lot<Body>,
+        tally: &mut Tally,
+        n: u32,
+    ) -> Result<u32, Refused>
+        requires ids { (slice_get N.parts.records.shape.names A ≡ Some lot.old.id) × (tally.old.id ≡ lot.old.id) }
+        requires empty { lot.old.len ≡ 0 }
+        requires size { (0 < n) × (n % UNIT ≡ 0) }
+        ensures lot { OnOk result (lot.new ≡ record lot.old { len = n }) }
+        ensures tally { OnOk result (tally.new ≡ record tally.old { taken = tally.old.taken + n }) }
+        ensures refused { OnErr result ((lot.new ≡ lot.old) × (tally.new ≡ tally.old)) }
+        ensures why { IfErr result (λ e. (v : VaultOf) × IsVaultOf N.parts A v × IsLawfulArena v.arena × RefusesCarve n v.arena e) }
+    {
+        let Some(vault) = &mut self.vault else {
+            unreachable!()
+        };
+        vault.carve(lot, tally, n)
+    }
+
+    // As `Vault::cut`, of this arena.
+    pub(crate) fn cut(&mut self, head: &mut Lot<Body>, tail: &mut Lot<Body>, k: u32)
+        requires ids { (slice_get N.parts.records.shape.names A ≡ Some head.old.id) × (tail.old.id ≡ head.old.id) }
+        requires empty { tail.old.len ≡ 0 }
+        requires good { IsGoodCut k head.old.len }
+        ensures head { head.new ≡ record head.old { len = k } }
+        ensures tail { tail.new ≡ record tail.old { len = head.old.len - k } }
+    {
+        let Some(vault) = &mut self.vault else {
+            unreachable!()
+        };
+        vault.cut(head, tail, k)
+    }
+
+    // As `Vault::give_back`, of this arena.
+    pub(crate) fn give_back(&mut self, lot: &mut Lot<Body>, tally: &mut Tally)
+        requires ids { (slice_get N.parts.records.shape.names A ≡ Some lot.old.id) × (tally.old.id ≡ lot.old.id) }
+        requires some { 0 < lot.old.len }
+        ensures lot { lot.new ≡ record lot.old { len = 0 } }
+        ensures tally { tally.new ≡ record tally.old { back = tally.old.back + lot.old.len } }
+    {
+        let Some(vault) = &mut self.vault else {
+            unreachable!()
+        };
+        vault.give_back(lot, tally)
+    }
+}

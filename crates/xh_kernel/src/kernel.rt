@@ -1,0 +1,150 @@
+//! The locks of the places, and the calls.
+ghost use Rattle.std.specs.Prelude.{◌≡◌, ◌<◌, [], All, IfErr, IfOk, Some, vec_len};
+ghost use Rattle.xh_glance.specs.Look.{fresh_look};
+ghost use Rattle.xh_glance.specs.Pen.{fresh_pen};
+ghost use Rattle.xh_model.specs.declared.limits.TheConstants.{PLACES};
+ghost use Rattle.xh_place.specs.Places.{IsPlaceOf, PlaceOf};
+ghost use Rattle.xh_records.specs.Seats.{IsSeatOf};
+ghost use Rattle.xh_kernel.specs.Accounts.{AreFresh};
+ghost use Rattle.xh_kernel.specs.Calls.{Spawns};
+ghost use Rattle.xh_kernel.specs.inner.Making.{AreBundles, ArePens, AreSeats};
+
+mod blocks;
+mod channels;
+mod endings;
+mod glances;
+mod messages;
+mod settling;
+
+use crate::account::{Account, Bundle};
+use crate::arenas::Arenas;
+use crate::held::Held;
+use crate::names::Names;
+use crate::parts::Parts;
+use crate::shared::Shared;
+use std::alloc::Global;
+use std::sync::{Mutex, Wait};
+use xh_core::Refused;
+use xh_glance::{Look, Pen};
+use xh_model::limits::PLACES;
+use xh_place::{Body, Gate, Place};
+use xh_records::{Records, Seat};
+
+/// An exchange heap for many threads: a lock for each place, each arena and each channel. Each call takes
+/// the lock of its place, then that of a channel or of an arena, and never those of two places.
+#[derive(Drop)]
+pub struct Kernel<N: Names> {
+    shared: Shared<N>,
+    places: Vec<Mutex<Held<N>>>,
+    ghost all: { vec_len places ≡ PLACES },
+}
+
+// The lock of a place that nobody has yet, beside its pen.
+fn lock_place<N: Names>(
+    alloc: Global,
+    records: &Records<Body>,
+    seat: Seat<Body>,
+    pen: Pen,
+) -> Result<Mutex<Held<N>>, Refused>
+    requires records { records.now ≡ N.parts.records }
+    requires seat { IsSeatOf N.parts.records seat × (seat.lots ≡ []) × (seat.process < PLACES) }
+    requires pen { pen ≡ fresh_pen N.parts.glances seat.process }
+    ensures { IfErr result (λ e. e ≡ Refused.OutOfMemory) }
+{
+    let room = u16::from(records.arenas()) * records.per_arena();
+    let place = Place::new(alloc, seat, room)?;
+    Ok(Mutex::new(Held::new(place, pen)))
+}
+
+// A lock for each place.
+fn lock_places<N: Names>(
+    alloc: Global,
+    records: &Records<Body>,
+    seats: Vec<Seat<Body>>,
+    pens: Vec<Pen>,
+) -> Result<Vec<Mutex<Held<N>>>, Refused>
+    requires records { records.now ≡ N.parts.records }
+    requires seats { AreSeats N.parts.records seats.items }
+    requires pens { ArePens N.parts.glances pens.items }
+    ensures count { IfOk result (λ l. vec_len l ≡ PLACES) }
+    ensures refused { IfErr result (λ e. e ≡ Refused.OutOfMemory) }
+{
+    let mut locks = Vec::with_capacity(alloc, seats.len())?;
+    let mut left = pens.into_iter();
+    for seat in seats {
+        let Some(pen) = left.next() else {
+            unreachable!()
+        };
+        locks.push(lock_place(alloc, records, seat, pen)?)?;
+    }
+    Ok(locks)
+}
+
+// An account for each bundle.
+fn name_accounts<N: Names>(alloc: Global, bundles: Vec<Bundle>) -> Result<Vec<Account<N>>, Refused>
+    requires { AreBundles N.parts.records.shape.names bundles.items }
+    ensures count { IfOk result (λ v. vec_len v ≡ vec_len bundles) }
+    ensures fresh { IfOk result (λ v. AreFresh N.parts.records.shape.names v.items) }
+    ensures refused { IfErr result (λ e. e ≡ Refused.OutOfMemory) }
+{
+    let mut accounts = Vec::with_capacity(alloc, bundles.len())?;
+    for bundle in bundles {
+        accounts.push(Account::named(bundle))?;
+    }
+    Ok(accounts)
+}
+
+impl<N: Names> Kernel<N> {
+    /// A kernel in which no process runs, with an account and a look for each worker. OutOfMemory where a
+    /// growth was refused.
+    pub fn new(
+        alloc: Global,
+        parts: Parts,
+    ) -> Result<(Kernel<N>, Vec<Account<N>>, Vec<Look>), Refused>
+        requires { parts ≡ N.parts }
+        ensures accounts { IfOk result (λ r. (vec_len r.1 ≡ parts.workers) × AreFresh N.parts.records.shape.names r.1.items) }
+        ensures looks { IfOk result (λ r. (vec_len r.2 ≡ parts.workers) × All (λ l. l ≡ fresh_look N.parts.glances) r.2.items) }
+        ensures refused { IfErr result (λ e. e ≡ Refused.OutOfMemory) }
+    {
+        let Parts {
+            vaults,
+            records,
+            seats,
+            channels,
+            glances,
+            pens,
+            bundles,
+            looks,
+            size,
+        } = parts;
+        let places = lock_places(alloc, &records, seats, pens)?;
+        let accounts = name_accounts(alloc, bundles)?;
+        let shared = Shared {
+            records,
+            channels,
+            glances,
+            arenas: Arenas::new(vaults, size),
+        };
+        Ok((Kernel { shared, places }, accounts, looks))
+    }
+
+    // The lock of the process's place.
+    fn lock_of(&self, p: u16) -> &Mutex<Held<N>> {
+        &self.places[usize::from(p % u16::from(PLACES))]
+    }
+
+    /// A process runs from now on at the lowest place that was found without one: nobody has had the place,
+    /// or its process has ended and was not the 128th. It answers the process's number, the place and 32
+    /// times the generation. NoPlace where none was found.
+    pub fn spawn<R: Wait, G: Gate>(&self, rt: &R, _gate: &G) -> Result<u16, Refused>
+        ensures found { IfOk result (λ p. (old : PlaceOf) × (new : PlaceOf) × IsPlaceOf N.parts.records old × Spawns old new (Some p)) }
+        ensures none { IfErr result (λ e. e ≡ Refused.NoPlace) }
+    {
+        for place in &self.places {
+            if let Some(p) = place.lock(rt).spawn(&self.shared) {
+                return Ok(p);
+            }
+        }
+        Err(Refused::NoPlace)
+    }
+}

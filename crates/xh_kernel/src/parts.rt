@@ -1,0 +1,85 @@
+//! What a kernel is made of.
+ghost use Rattle.std.specs.Prelude.{◌≡◌, ◌⊎◌, ◌↔◌, Err, IfErr, IfOk, OnOk, length};
+ghost use Rattle.xh_kernel.specs.Parts.{ArePartsLimits};
+
+use crate::account::Bundle;
+use crate::making::{Makings, make_vaults};
+use std::alloc::Global;
+use std::marker::Model;
+use xh_arena::Vault;
+use xh_channel::Channels;
+use xh_core::{Config, Refused};
+use xh_glance::{Glances, Look, Pen};
+use xh_model::limits::{MAX_WORKERS, PLACES};
+use xh_place::Body;
+use xh_records::{Records, Seat};
+
+/// All that a kernel is made of, not yet behind locks.
+#[derive(Drop)]
+pub struct Parts {
+    pub(crate) vaults: Vec<Vault>,
+    pub(crate) records: Records<Body>,
+    pub(crate) seats: Vec<Seat<Body>>,
+    pub(crate) channels: Channels,
+    pub(crate) glances: Glances,
+    pub(crate) pens: Vec<Pen>,
+    pub(crate) bundles: Vec<Bundle>,
+    pub(crate) looks: Vec<Look>,
+    pub(crate) size: u32,
+}
+
+impl Model for Parts {
+    ghost use Rattle.std.specs.Prelude.{vec_len};
+    ghost use Rattle.xh_kernel.specs.Parts.{PartsOf};
+    ghost use Rattle.xh_kernel.specs.inner.Making.{AreParts};
+
+    ghost Value = { PartsOf };
+
+    ghost view = { λ p. record { records = p.records; workers = vec_len p.bundles; size = p.size; glances = p.glances } };
+
+    ghost invariant = { λ p. AreParts (record { records = p.records; workers = vec_len p.bundles; size = p.size; glances = p.glances })
+        p.vaults.items p.seats.items p.pens.items p.bundles.items p.looks.items };
+}
+
+impl Parts {
+    /// The parts of an empty kernel of 32 places and 64 channels, for so many workers, 1 to 33, each of
+    /// which gets an account and a look.
+    ///
+    /// BadSize where the configuration or the count of workers is outside its limits; then OutOfMemory
+    /// where a growth was refused.
+    pub fn new(alloc: Global, config: Config, workers: u8) -> Result<Parts, Refused>
+        ensures limits { OnOk result (ArePartsLimits config workers) }
+        ensures bad_size { (result ≡ Err Refused.BadSize) ↔ (ArePartsLimits config workers → ⊥) }
+        ensures refused { IfErr result (λ e. (e ≡ Refused.BadSize) ⊎ (e ≡ Refused.OutOfMemory)) }
+        ensures parts { IfOk result (λ p. (p.workers ≡ workers) × (p.size ≡ config.bytes) × (p.records.shape.records ≡ config.records) × (length p.records.shape.names ≡ config.arenas)) }
+    {
+        if !config.is_in_limits() || workers == 0 || workers > MAX_WORKERS {
+            return Err(Refused::BadSize);
+        }
+        let Makings {
+            vaults,
+            lots,
+            names,
+            bundles,
+        } = make_vaults(alloc, config, workers)?;
+        let made = Records::new(alloc, lots, names, config.records, PLACES);
+        let Ok((records, seats)) = made else {
+            return Err(Refused::OutOfMemory);
+        };
+        let Ok(channels) = Channels::new(alloc, config.depth) else {
+            return Err(Refused::OutOfMemory);
+        };
+        let (glances, pens, looks) = Glances::new(alloc, workers)?;
+        Ok(Parts {
+            vaults,
+            records,
+            seats,
+            channels,
+            glances,
+            pens,
+            bundles,
+            looks,
+            size: config.bytes,
+        })
+    }
+}

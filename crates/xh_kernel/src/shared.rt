@@ -1,0 +1,34 @@
+//! What the calls of all places share.
+ghost use Rattle.std.specs.Prelude.{◌≡◌};
+ghost use Rattle.xh_model.specs.declared.limits.TheConstants.{PLACES};
+
+use crate::arenas::Arenas;
+use crate::lent::Lent;
+use crate::names::Names;
+use std::sync::Wait;
+use xh_channel::Channels;
+use xh_glance::Glances;
+use xh_place::Body;
+use xh_records::Records;
+
+/// The records, the channels, the glances and the locks of the arenas. A call reaches them with the lock
+/// of its place in hand.
+#[derive(Drop)]
+pub(crate) struct Shared<N: Names> {
+    pub(crate) records: Records<Body>,
+    pub(crate) channels: Channels,
+    pub(crate) glances: Glances,
+    pub(crate) arenas: Arenas<N>,
+    ghost named: { (records ≡ N.parts.records) × (glances ≡ N.parts.glances) },
+    ghost places: { records.shape.places ≡ PLACES },
+}
+
+impl<N: Names> Shared<N> {
+    // The vaults, each under its arena's lock for one call.
+    pub(crate) fn vaults<'a, R: Wait>(&'a self, rt: &'a R) -> Lent<'a, N, R> {
+        Lent {
+            rt,
+            arenas: &self.arenas,
+        }
+    }
+}
