@@ -1,0 +1,82 @@
+-- The places' seats and lines, one place after the other.
+use Rattle.std.proofs.Common.{◌≡◌, ℕ, ◌+◌, ◌≤◌, true, List, [], ◌∷◌, ◌++◌, length, refl, sym, ap, ◌∙◌, subst, append_assoc, append-nil, length-append, arith}
+use Rattle.std.specs.Prelude.{Option, Some, None}
+use Rattle.std.specs.List.{cons_option, sum_by}
+use Rattle.std.proofs.lemmas.List.Elements.{filter_map-append}
+use Rattle.std.proofs.lemmas.List.Sums.{sum_by-append, sum_by-cons}
+use Rattle.xh_core.specs.declared.ledger.PlaceLine.{PlaceLine}
+use Rattle.xh_core.specs.declared.status.Status.{Status}
+use Rattle.xh_core.specs.declared.status.Status.TheVariants.{Vacant, Running, Ending, Ended}
+use Rattle.xh_model.specs.Keyed.{value_at}
+use Rattle.xh_model.proofs.Keyed.{value_here}
+use Rattle.xh_place.specs.declared.body.Body.{Body}
+use Rattle.xh_place.specs.Places.{Item, Lists, PlaceOf, line, line_in, total_of}
+use Rattle.xh_place.specs.Refusals.{is_over}
+use Rattle.xh_records.specs.Seats.{Held}
+use Rattle.xh_books.specs.Ledgers.{bytes_owned, place_lines}
+use Rattle.xh_books.specs.inner.Steps.{AreSeats, IsSeatOfPlace}
+
+pub seats_push : (xs : List (Held Body)) (ps : List PlaceOf) (x : Held Body) (p : PlaceOf) → AreSeats xs ps → IsSeatOfPlace x p → AreSeats (xs ++ x ∷ []) (ps ++ p ∷ [])
+seats_push [] [] x p are is = (is, tt)
+seats_push [] (q ∷ ps) x p are is = absurd are
+seats_push (y ∷ xs) [] x p are is = absurd are
+seats_push (y ∷ xs) (q ∷ ps) x p are is = (are.0, seats_push xs ps x p are.1 is)
+
+-- a seat that holds nothing is that of a place without blocks
+no_blocks : (x : Held Body) (bs : List (ℕ × Item)) → Lists x bs → x.lots ≡ [] → bs ≡ []
+no_blocks x [] lists e = refl
+no_blocks x (b ∷ bs) lists e =
+    let t = lists.listed b.0 b.1 (value_here b.0 b bs refl) in
+    let f : None ≡ Some t.0 = sym (ap (value_at b.0) e) ∙ t.1 in absurd (cc)
+
+-- the line of a place has its bytes, and a place without a line has none
+line_bytes : (s : Status) (p : PlaceOf) → (is_over s ≡ true → p.blocks ≡ []) → sum_by (λ l. l.bytes) (cons_option (line_in s (line p)) []) ≡ total_of p.blocks
+line_bytes Vacant p none = sym (ap total_of (none refl))
+line_bytes Running p none = let c = sum_by-cons (λ (l : PlaceLine). l.bytes) (line p) [] in omega arith
+line_bytes Ending p none = let c = sum_by-cons (λ (l : PlaceLine). l.bytes) (line p) [] in omega arith
+line_bytes Ended p none = let c = sum_by-cons (λ (l : PlaceLine). l.bytes) (line p) [] in omega arith
+
+-- of all places these are ended, and the rest not yet
+pub record EndedSoFar (all rest : List PlaceOf) (seats : List (Held Body)) (lines : List PlaceLine) : Type 0 where
+  pub done : List PlaceOf
+  pub split : all ≡ done ++ rest
+  pub seats_are : AreSeats seats done
+  pub lines_are : lines ≡ place_lines done
+  pub owned : sum_by (λ l. l.bytes) lines ≡ bytes_owned done
+
+pub none_ended : (all : List PlaceOf) (seats : List (Held Body)) (lines : List PlaceLine) → seats ≡ [] → lines ≡ [] → EndedSoFar all all seats lines
+none_ended all seats lines s l = record {
+  done = [];
+  split = refl;
+  seats_are = subst (λ (xs : List (Held Body)). AreSeats xs []) (sym s) tt;
+  lines_are = l;
+  owned = ap (λ (ls : List PlaceLine). sum_by (λ x. x.bytes) ls) l;
+}
+
+pub one_ended : (all rest now_ : List PlaceOf) (p : PlaceOf) (seats seats' : List (Held Body)) (lines lines' : List PlaceLine) (x : Held Body) (o : Option PlaceLine)
+    → EndedSoFar all now_ seats lines → now_ ≡ p ∷ rest
+    → IsSeatOfPlace x p → (is_over p.state ≡ true → x.lots ≡ []) → o ≡ line_in p.state (line p) → seats' ≡ seats ++ x ∷ [] → lines' ≡ lines ++ cons_option o [] → EndedSoFar all rest seats' lines'
+one_ended all rest now_ p seats seats' lines lines' x o was next is none line_is more_seats more_lines =
+    let mine : List PlaceLine = cons_option (line_in p.state (line p)) [] in
+    let lines_now : lines' ≡ lines ++ mine = more_lines ∙ ap (λ z. lines ++ cons_option z []) line_is in
+    record {
+      done = was.done ++ p ∷ [];
+      split = was.split ∙ ap (λ l. was.done ++ l) next ∙ sym (append_assoc was.done (p ∷ []) rest);
+      seats_are = subst (λ (xs : List (Held Body)). AreSeats xs (was.done ++ p ∷ [])) (sym more_seats) (seats_push seats was.done x p was.seats_are is);
+      lines_are = lines_now ∙ ap (λ l. l ++ mine) was.lines_are ∙ sym (filter_map-append (λ (q : PlaceOf). line_in q.state (line q)) was.done (p ∷ []));
+      owned =
+          (let a = ap (λ (ls : List PlaceLine). sum_by (λ l. l.bytes) ls) lines_now in
+          let b = sum_by-append (λ (l : PlaceLine). l.bytes) lines mine in
+          let c = line_bytes p.state p (λ over. no_blocks x p.blocks is.lists (none over)) in
+          let d = sum_by-append (λ (q : PlaceOf). total_of q.blocks) was.done (p ∷ []) in
+          let e = sum_by-cons (λ (q : PlaceOf). total_of q.blocks) p [] in
+          let f = was.owned in omega arith);
+    }
+
+-- once none is left
+pub all_ended : (all : List PlaceOf) (seats : List (Held Body)) (lines : List PlaceLine) (was : EndedSoFar all [] seats lines) → was.done ≡ all
+all_ended all seats lines was = sym (was.split ∙ append-nil was.done)
+
+pub one_more : (lines lines' : List PlaceLine) (o : Option PlaceLine) → lines' ≡ lines ++ cons_option o [] → length lines' ≤ length lines + 1
+one_more lines lines' None e = let l = ap length e ∙ length-append lines [] in omega arith
+one_more lines lines' (Some x) e = let l = ap length e ∙ length-append lines (x ∷ []) in omega arith

@@ -1,0 +1,55 @@
+use Rattle.std.proofs.Common.{arith, ◌≡◌, ℕ, ◌+◌, All, List, map, sym, ap, ◌∙◌, subst}
+use Rattle.std.specs.List.{sum_by}
+use Rattle.arrayvec.specs.ArrayVec.{ArrayVec}
+use Rattle.xh_core.specs.declared.ledger.ArenaLine.{ArenaLine}
+use Rattle.xh_core.specs.declared.ledger.PlaceLine.{PlaceLine}
+use Rattle.xh_model.specs.Arena.{ArenaState}
+use Rattle.xh_books.specs.Ledgers.{all_back}
+use Rattle.xh_books.specs.inner.Steps.{AreBooks, arenas_of, closed_line, lens_of}
+use Rattle.xh_books.proofs.Audited.{each_open}
+use Rattle.xh_books.proofs.Closed.{Sums, sums}
+use Rattle.xh_books.proofs.closing.close_books.Goals.{After-arena_lines-arenas}
+use Rattle.xh_books.proofs.closing.close_books.Goals as goal
+
+pub audit-vaults-requires-clause-each : goal.audit-vaults-requires-clause-each
+audit-vaults-requires-clause-each g c =
+    let count : g.N.Names.parts.records.shape.records ≡ c.from-each.result = ap (λ r. r.shape.records) (sym c.requires.records) ∙ sym (c.from-each.ensures ∙ c.per_arena.ensures.0) in
+    subst (λ (xs : List ArenaState). All (λ a. a.records ≡ c.from-each.result) xs) (sym c.gather-vaults.ensures.gathered.arenas)
+    (subst (λ (n : ℕ). All (λ a. a.records ≡ n) (arenas_of c.args.vaults.items)) count (each_open g.N.Names.parts c.args.vaults.items c.requires.vaults.1))
+
+facts : (g : _) (c : After-arena_lines-arenas g) → Sums c.args.accounts.items c.args.vaults.items c.args.places.items c.arena_lines-arenas.result.items
+facts g c = sums g.N.Names.parts c.args.records.shape.records c.args.accounts.items c.args.vaults.items c.gather-vaults.result.items c.audit-vaults.result.items c.args.places.items
+    (lens_of c.in_ok-_words.lots.items) c.arena_lines-arenas.result.items record {
+      count = ap (λ r. r.shape.records) c.requires.records;
+      small = let a = c.per_arena.ensures.0 in let b = c.per_arena.ensures.2 in omega arith;
+      vaults = c.requires.vaults.0;
+      fresh = c.requires.vaults.1;
+      named = c.gather-vaults.ensures.names;
+      gathered = c.gather-vaults.ensures.gathered;
+      same = c.audit-vaults.ensures.same;
+      known = c.audit-vaults.ensures.known;
+      split = c.in_ok-_words.ensures.owned;
+      lines_are = c.arena_lines-arenas.ensures.lines ∙ ap (λ vs. map closed_line vs) c.as_slice.ensures.value;
+      books = subst (All AreBooks) c.as_slice.ensures.value c.arena_lines-arenas.ensures.books;
+    }
+
+pub ledger-requires : goal.ledger-requires
+ledger-requires g c =
+    let f = facts g c in let own = c.in_ok-_words.ensures.lines.1 in let out = f.out in omega arith
+
+pub returns-clause-flight : goal.returns-clause-flight
+returns-clause-flight g c =
+    let f = facts g c.before.before.before in let own = c.in_ok-_words.ensures.lines.1 in
+    let all = c.ledger.ensures.all in let a = c.ledger.ensures.owned in let b = c.ledger.ensures.out in let out = f.out in omega arith
+
+pub returns-clause-moved : goal.returns-clause-moved
+returns-clause-moved g c = let f = facts g c.before.before.before in f.moved ∙ ap (λ z. all_back c.args.accounts.items + z) (sym c.ledger.ensures.out)
+
+pub returns-clause-balanced : goal.returns-clause-balanced
+returns-clause-balanced g c =
+    let f = facts g c.before.before.before in record {
+      arenas = subst (λ (ls : ArrayVec ArenaLine). All (λ a. a.taken ≡ a.back + a.out) ls.items) (sym c.ledger.ensures.lines.0) f.even;
+      owned = c.ledger.ensures.owned ∙ ap (λ (ls : ArrayVec PlaceLine). sum_by (λ p. p.bytes) ls.items) (sym c.ledger.ensures.lines.1);
+      out = c.ledger.ensures.out ∙ ap (λ (ls : ArrayVec ArenaLine). sum_by (λ a. a.out) ls.items) (sym c.ledger.ensures.lines.0);
+      all = c.ledger.ensures.all;
+    }

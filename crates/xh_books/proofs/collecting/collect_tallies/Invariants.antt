@@ -1,0 +1,12 @@
+use Rattle.std.proofs.Common.{◌≡◌, ◌++◌, take, drop}
+use Rattle.std.specs.Vec.Iter.{into_iter_items}
+use Rattle.xh_kernel.specs.Parts.{vault_names}
+use Rattle.xh_place.specs.Tallies.{ids_of}
+use Rattle.xh_books.specs.inner.Steps.{with_tallies}
+use Rattle.xh_books.proofs.collecting.collect_tallies.Given as goal
+
+abbrev pub invariant-loop-tally : goal.invariant-loop-tally
+invariant-loop-tally l =
+    let rest = into_iter_items l.tally-iterator in
+    (take l.arena l.vaults ++ with_tallies (drop l.arena l.vaults) rest ≡ with_tallies l.fn.vaults l.fn.tallies.items)
+    × (ids_of rest ≡ vault_names (drop l.arena l.vaults))

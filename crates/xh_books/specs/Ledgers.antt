@@ -1,0 +1,79 @@
+-- The ledger of closed books: what it says of the vaults, the places and the accounts that were handed in.
+use Rattle.std.specs.Prelude.{◌≡◌, ℕ, suc, ◌+◌, ◌*◌, Bool, cond, is_some, List, [], ◌∷◌, All, length, map, slice_index, sum}
+use Rattle.std.specs.List.{filter_map, list_any, sum_by}
+use Rattle.xh_arena.specs.Views.{VaultOf}
+use Rattle.xh_core.specs.declared.ledger.ArenaLine.{ArenaLine}
+use Rattle.xh_core.specs.declared.ledger.Ledger.{Ledger}
+use Rattle.xh_core.specs.declared.ledger.PlaceLine.{PlaceLine}
+use Rattle.xh_kernel.specs.Accounts.{AccountOf}
+use Rattle.xh_model.specs.declared.limits.TheConstants.{MAX_RECORDS}
+use Rattle.xh_model.specs.Arena.{lengths_of}
+use Rattle.xh_model.specs.Cover.{bytes_out, holes_of}
+use Rattle.xh_model.specs.Keyed.{value_at}
+use Rattle.xh_place.specs.Places.{PlaceOf, line, line_in, total_of}
+
+-- ---- arenas
+
+-- the bytes of an arena that a worker took, and those that it gave back
+abbrev pub taken_of : ℕ → AccountOf → ℕ
+taken_of arena a = slice_index (map (λ t. t.taken) a.tallies) arena
+
+abbrev pub back_of : ℕ → AccountOf → ℕ
+back_of arena a = slice_index (map (λ t. t.back) a.tallies) arena
+
+-- the line of an arena: what its vault says of size, bytes handed out and holes, and what all workers took and gave back
+abbrev pub arena_line : List AccountOf → ℕ → VaultOf → ArenaLine
+arena_line accounts arena v = record {
+  size = length v.arena.cover;
+  out = bytes_out v.arena.cover;
+  holes = length (holes_of v.arena.cover);
+  taken = sum_by (taken_of arena) accounts;
+  back = sum_by (back_of arena) accounts;
+}
+
+-- those of the arenas from a number on
+abbrev pub arena_lines : List AccountOf → ℕ → List VaultOf → List ArenaLine
+arena_lines accounts arena [] = []
+arena_lines accounts arena (v ∷ vs) = arena_line accounts arena v ∷ arena_lines accounts (suc arena) vs
+
+-- all that the workers took of all arenas, and all that they gave back
+abbrev pub all_taken : List AccountOf → ℕ
+all_taken = sum_by (λ a. sum_by (λ t. t.taken) a.tallies)
+
+abbrev pub all_back : List AccountOf → ℕ
+all_back = sum_by (λ a. sum_by (λ t. t.back) a.tallies)
+
+-- ---- places
+
+-- the lines of the places, in their order; one that nobody has had has none
+abbrev pub place_lines : List PlaceOf → List PlaceLine
+place_lines = filter_map (λ p. line_in p.state (line p))
+
+-- the sum of the places' totals
+abbrev pub bytes_owned : List PlaceOf → ℕ
+bytes_owned = sum_by (λ p. total_of p.blocks)
+
+-- whether the record stands in some place's list
+abbrev pub is_listed : ℕ → List PlaceOf → Bool
+is_listed r = list_any (λ p. is_some (value_at r p.blocks))
+
+-- ---- what is in flight
+
+-- the lengths of the records from the number r on, with 0 for each that stands in a place's list
+abbrev pub unlisted : List PlaceOf → ℕ → List ℕ → List ℕ
+unlisted places r [] = []
+unlisted places r (n ∷ ns) = cond (is_listed r places) 0 n ∷ unlisted places (suc r) ns
+
+-- the bytes, in the vaults of the arenas from a number on, of the records that stand in no place's list
+abbrev pub bytes_in_flight : List PlaceOf → ℕ → List VaultOf → ℕ
+bytes_in_flight places arena [] = 0
+bytes_in_flight places arena (v ∷ vs) = sum (unlisted places (arena * MAX_RECORDS) (lengths_of v.arena)) + bytes_in_flight places (suc arena) vs
+
+-- ---- the sums
+
+-- each arena has handed out what was taken of it less what came back; the sums are those of the lines; what was handed out is owned or in flight
+pub record IsBalanced (l : Ledger) : Type 0 where
+  pub arenas : All (λ a. a.taken ≡ a.back + a.out) l.arenas.items
+  pub owned : l.owned ≡ sum_by (λ p. p.bytes) l.places.items
+  pub out : l.out ≡ sum_by (λ a. a.out) l.arenas.items
+  pub all : l.out ≡ l.owned + l.flight

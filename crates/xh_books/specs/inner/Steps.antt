@@ -1,0 +1,100 @@
+-- What the steps of closing say: taking the accounts in, ending the places, closing the table, auditing.
+use Rattle.std.specs.Prelude.{◌≡◌, ℕ, suc, ◌+◌, ◌/◌, ◌%◌, ◌<◌, false, cond, List, [], ◌∷◌, ◌++◌, All, length, map, slice_get, Some, sum}
+use Rattle.std.specs.List.{sum_by}
+use Rattle.atomic_table.specs.Seated.{TableId}
+use Rattle.xh_arena.specs.Views.{LotOf, TallyOf, VaultOf}
+use Rattle.xh_core.specs.declared.ledger.ArenaLine.{ArenaLine}
+use Rattle.xh_kernel.specs.Accounts.{AccountOf}
+use Rattle.xh_kernel.specs.Parts.{vault_names}
+use Rattle.xh_model.specs.declared.event.Holder.TheVariants.{Direction}
+use Rattle.xh_model.specs.declared.limits.TheConstants.{DIRECTIONS}
+use Rattle.xh_model.specs.Arena.{ArenaState, lengths_of}
+use Rattle.xh_model.specs.Cover.{bytes_out, holes_of}
+use Rattle.xh_model.specs.Words.{number_of, word_of}
+use Rattle.xh_place.specs.declared.body.Body.{Body}
+use Rattle.xh_place.specs.Places.{PlaceOf, Lists}
+use Rattle.xh_records.specs.Seats.{Held}
+use Rattle.xh_books.specs.Ledgers.{arena_lines, is_listed}
+
+-- ---- the accounts
+
+-- the vault with one more tally taken in
+abbrev pub with_tally : VaultOf → TallyOf → VaultOf
+with_tally v t = record v { collected = record { number = t.number; taken = t.taken; back = t.back } ∷ v.collected }
+
+-- each vault takes in the tally of its arena
+abbrev pub with_tallies : List VaultOf → List TallyOf → List VaultOf
+with_tallies [] ts = []
+with_tallies (v ∷ vs) [] = v ∷ vs
+with_tallies (v ∷ vs) (t ∷ ts) = with_tally v t ∷ with_tallies vs ts
+
+-- the vaults take in all accounts
+abbrev pub with_accounts : List VaultOf → List AccountOf → List VaultOf
+with_accounts vs [] = vs
+with_accounts vs (a ∷ rest) = with_accounts (with_tallies vs a.tallies) rest
+
+-- a vault that took in all its tallies
+abbrev pub IsFull : VaultOf → Type 0
+IsFull v = length v.collected ≡ v.workers
+
+-- the line of such a vault
+abbrev pub closed_line : VaultOf → ArenaLine
+closed_line v = record {
+  size = length v.arena.cover;
+  out = bytes_out v.arena.cover;
+  holes = length (holes_of v.arena.cover);
+  taken = sum_by (λ m. m.taken) v.collected;
+  back = sum_by (λ m. m.back) v.collected;
+}
+
+-- its books: the bytes handed out are the lengths of its records, and what was taken less what came back
+abbrev pub AreBooks : VaultOf → Type 0
+AreBooks v = (bytes_out v.arena.cover ≡ sum (lengths_of v.arena)) × (sum_by (λ m. m.taken) v.collected ≡ sum_by (λ m. m.back) v.collected + bytes_out v.arena.cover)
+
+abbrev pub arenas_of : List VaultOf → List ArenaState
+arenas_of = map (λ v. v.arena)
+
+-- the vaults with all accounts taken in
+pub record AreGathered (accounts : List AccountOf) (old new : List VaultOf) : Type 0 where
+  pub names : vault_names new ≡ vault_names old
+  pub arenas : arenas_of new ≡ arenas_of old
+  pub full : All IsFull new
+  pub lines : map closed_line new ≡ arena_lines accounts 0 old
+
+-- ---- the places
+
+-- the seat that a place gave at its end
+pub record IsSeatOfPlace (x : Held Body) (p : PlaceOf) : Type 0 where
+  pub same : (x.table ≡ p.table) × (x.shape ≡ p.shape) × (x.process ≡ p.process)
+  pub lists : Lists x p.blocks
+
+-- those of all places, in their order
+abbrev pub AreSeats : List (Held Body) → List PlaceOf → Type 0
+AreSeats [] [] = Unit {0}
+AreSeats [] (p ∷ ps) = ⊥
+AreSeats (x ∷ xs) [] = ⊥
+AreSeats (x ∷ xs) (p ∷ ps) = IsSeatOfPlace x p × AreSeats xs ps
+
+-- ---- the table
+
+-- the lengths of all records of all arenas, in their order
+abbrev pub all_lengths : List ArenaState → List ℕ
+all_lengths [] = []
+all_lengths (a ∷ rest) = lengths_of a ++ all_lengths rest
+
+abbrev pub lens_of : List (LotOf Body) → List ℕ
+lens_of = map (λ l. l.len)
+
+-- each lot is of the vault of its arena, with n records in each
+abbrev pub AreAt : ℕ → List TableId → List (LotOf Body) → Type 0
+AreAt n names ls = (k : ℕ) (l : LotOf Body) → slice_get ls k ≡ Some l → (slice_get names (k / n) ≡ Some l.id) × (l.index ≡ k % n)
+
+-- the lengths from the index k on, with n records in each arena, and 0 for each record that stands in a place's list
+abbrev pub unlisted_from : List PlaceOf → ℕ → ℕ → List ℕ → List ℕ
+unlisted_from places n k [] = []
+unlisted_from places n k (x ∷ xs) = cond (is_listed (number_of n k) places) 0 x ∷ unlisted_from places n (suc k) xs
+
+-- a record that stands in no place's list and has bytes is in flight on a direction: its word says so
+abbrev pub SayInFlight : List PlaceOf → ℕ → List ℕ → List ℕ → Type 0
+SayInFlight places n words lens =
+    (k m : ℕ) → slice_get lens k ≡ Some m → 0 < m → is_listed (number_of n k) places ≡ false → (d : ℕ) × (d < DIRECTIONS) × (slice_get words k ≡ Some (word_of (Some (Direction d))))

@@ -1,0 +1,92 @@
+//! Closing the books.
+ghost use Rattle.std.specs.Prelude.{◌≡◌, ◌+◌, ◌*◌, ◌≤◌, All, IfErr, IfOk, length, sum, vec_len};
+ghost use Rattle.std.specs.List.{sum_by};
+ghost use Rattle.xh_kernel.specs.Parts.{IsOpen, vault_names};
+ghost use Rattle.xh_model.specs.declared.limits.TheConstants.{MAX_ARENAS};
+ghost use Rattle.xh_place.specs.Places.{IsPlaceOf};
+ghost use Rattle.xh_books.specs.inner.Steps.{AreAt, SayInFlight, lens_of, unlisted_from};
+ghost use Rattle.xh_books.specs.Ledgers.{IsBalanced, all_back, all_taken, arena_lines, bytes_in_flight, bytes_owned, place_lines};
+
+use crate::auditing::audit;
+use crate::collecting::gather;
+use crate::lines::{arena_lines, bytes_in, bytes_out, end_places};
+use arrayvec::ArrayVec;
+use std::alloc::Global;
+use xh_arena::{Lot, Vault};
+use xh_core::{ArenaLine, Ledger, PlaceLine, Refused};
+use xh_kernel::{Account, Names};
+use xh_place::{Body, Place};
+use xh_records::Records;
+
+// Ends all places and closes the table of their records: the owner word and the lot of each record, and the lines of the places.
+fn close_table(
+    alloc: Global,
+    records: Records<Body>,
+    places: Vec<Place>,
+) -> Result<(Vec<u64>, Vec<Lot<Body>>, ArrayVec<PlaceLine, 32>), Refused>
+    requires places { All (IsPlaceOf records) places.items × (vec_len places ≡ records.shape.places) }
+    ensures lots { IfOk result (λ r. (length r.1.items ≡ length records.shape.names * records.shape.records) × AreAt records.shape.records records.shape.names r.1.items) }
+    ensures owned { IfOk result (λ r. sum (lens_of r.1.items) ≡ bytes_owned places.items + sum (unlisted_from places.items records.shape.records 0 (lens_of r.1.items))) }
+    ensures words { IfOk result (λ r. SayInFlight places.items records.shape.records r.0.items (lens_of r.1.items)) }
+    ensures lines { IfOk result (λ r. (r.2.items ≡ place_lines places.items) × (sum_by (λ l. l.bytes) r.2.items ≡ bytes_owned places.items)) }
+    ensures refused { IfErr result (λ e. e ≡ Refused.OutOfMemory) }
+{
+    let (seats, lines) = end_places(alloc, places)?;
+    let Ok((words, lots)) = records.close(alloc, seats) else {
+        return Err(Refused::OutOfMemory);
+    };
+    Ok((words, lots, lines))
+}
+
+// The ledger of these lines.
+pub(crate) fn ledger(arenas: ArrayVec<ArenaLine, 8>, places: ArrayVec<PlaceLine, 32>) -> Ledger
+    requires { sum_by (λ p. p.bytes) places.items ≤ sum_by (λ a. a.out) arenas.items }
+    ensures lines { (result.arenas ≡ arenas) × (result.places ≡ places) }
+    ensures owned { result.owned ≡ sum_by (λ p. p.bytes) places.items }
+    ensures out { result.out ≡ sum_by (λ a. a.out) arenas.items }
+    ensures all { result.out ≡ result.owned + result.flight }
+{
+    let out = bytes_out(arenas.as_slice());
+    let owned = bytes_in(places.as_slice());
+    Ledger {
+        arenas,
+        places,
+        owned,
+        flight: out - owned,
+        out,
+    }
+}
+
+/// Closes the books of a kernel that was settled, with the accounts of all its workers: the vaults by
+/// arena, the places by number, which hold all seats of the records, and the records. The accounts may
+/// come in any order.
+///
+/// The ledger is exact. A record that stands in no place's list and has bytes is in flight: its word,
+/// in the closed table, names a direction. OutOfMemory where a growth was refused; all that was handed in
+/// is then dropped.
+pub fn close_books<N: Names>(
+    alloc: Global,
+    vaults: Vec<Vault>,
+    places: Vec<Place>,
+    records: Records<Body>,
+    accounts: Vec<Account<N>>,
+) -> Result<Ledger, Refused>
+    requires vaults { (vault_names vaults.items ≡ N.parts.records.shape.names) × All (IsOpen N.parts) vaults.items × (vec_len vaults ≤ MAX_ARENAS) }
+    requires places { All (IsPlaceOf records) places.items × (vec_len places ≡ records.shape.places) }
+    requires records { records ≡ N.parts.records }
+    requires accounts { vec_len accounts ≡ N.parts.workers }
+    ensures arenas { IfOk result (λ l. l.arenas.items ≡ arena_lines accounts.items 0 vaults.items) }
+    ensures places { IfOk result (λ l. l.places.items ≡ place_lines places.items) }
+    ensures owned { IfOk result (λ l. l.owned ≡ bytes_owned places.items) }
+    ensures flight { IfOk result (λ l. l.flight ≡ bytes_in_flight places.items 0 vaults.items) }
+    ensures moved { IfOk result (λ l. all_taken accounts.items ≡ all_back accounts.items + l.out) }
+    ensures balanced { IfOk result IsBalanced }
+    ensures refused { IfErr result (λ e. e ≡ Refused.OutOfMemory) }
+{
+    let each = usize::from(records.per_arena());
+    let vaults = gather(vaults, accounts);
+    let (_words, lots, places) = close_table(alloc, records, places)?;
+    let vaults = audit(vaults, lots, each);
+    let arenas = arena_lines(vaults.as_slice());
+    Ok(ledger(arenas, places))
+}

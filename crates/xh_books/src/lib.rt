@@ -1,0 +1,11 @@
+//! Closing the books: the ledger of what a kernel held, exact once its workers are joined.
+#![tactic(auto)]
+
+mod auditing;
+mod closing;
+mod collecting;
+mod lines;
+#[cfg(test)]
+mod tests;
+
+pub use closing::close_books;

@@ -1,0 +1,95 @@
+// The lines of a ledger.
+ghost use Rattle.std.specs.Prelude.{◌≡◌, ◌+◌, ◌<◌, ◌≤◌, ◌^◌, ◌++◌, [], All, IfOk, length, map, vec_len};
+ghost use Rattle.std.specs.List.{cons_option, sum_by};
+ghost use Rattle.arrayvec.specs.ArrayVec.{array_vec_len};
+ghost use Rattle.xh_model.specs.declared.limits.TheConstants.{MAX_ARENAS, PLACES};
+ghost use Rattle.xh_books.specs.inner.Steps.{AreBooks, AreSeats, IsFull, closed_line};
+ghost use Rattle.xh_books.specs.Ledgers.{bytes_owned, place_lines};
+
+use arrayvec::ArrayVec;
+use std::alloc::{AllocError, Global};
+use xh_arena::Vault;
+use xh_core::{ArenaLine, PlaceLine};
+use xh_place::{Body, Place};
+use xh_records::Seat;
+
+// The line of an arena, of a vault that took in all its tallies.
+fn arena_line(vault: &Vault) -> ArenaLine
+    requires { IsFull vault.now }
+    ensures line { result ≡ closed_line vault.now }
+    ensures books { AreBooks vault.now }
+{
+    let out = vault.handed_out();
+    let taken = vault.wear();
+    ArenaLine {
+        size: vault.size(),
+        out,
+        holes: vault.holes().len() as u32,
+        taken,
+        back: taken - u64::from(out),
+    }
+}
+
+// The lines of all arenas.
+pub(crate) fn arena_lines(vaults: &[Vault]) -> ArrayVec<ArenaLine, 8>
+    requires few { length vaults.now ≤ MAX_ARENAS }
+    requires full { All IsFull vaults.now }
+    ensures lines { result.items ≡ map closed_line vaults.now }
+    ensures books { All AreBooks vaults.now }
+{
+    let mut lines = ArrayVec::new();
+    for vault in vaults {
+        lines.push(arena_line(vault));
+    }
+    lines
+}
+
+// The bytes that all arenas handed out.
+pub(crate) fn bytes_out(lines: &[ArenaLine]) -> u64
+    requires { length lines.now ≤ MAX_ARENAS }
+    ensures { result ≡ sum_by (λ l. l.out) lines.now }
+{
+    let mut out = 0u64;
+    for line in lines {
+        out += u64::from(line.out);
+    }
+    out
+}
+
+// The bytes that all places own.
+pub(crate) fn bytes_in(lines: &[PlaceLine]) -> u64
+    requires { sum_by (λ l. l.bytes) lines.now < 2 ^ 64 }
+    ensures { result ≡ sum_by (λ l. l.bytes) lines.now }
+{
+    lines.iter().map(|line| line.bytes).sum()
+}
+
+// One line more, where there is one.
+fn push_line(lines: &mut ArrayVec<PlaceLine, 32>, line: Option<PlaceLine>)
+    requires { array_vec_len lines.old < PLACES }
+    ensures { lines.new.items ≡ lines.old.items ++ cons_option line [] }
+{
+    if let Some(line) = line {
+        lines.push(line);
+    }
+}
+
+// The seats of all places, and the lines of those that somebody has had.
+pub(crate) fn end_places(
+    alloc: Global,
+    places: Vec<Place>,
+) -> Result<(Vec<Seat<Body>>, ArrayVec<PlaceLine, 32>), AllocError>
+    requires { vec_len places ≤ PLACES }
+    ensures seats { IfOk result (λ r. AreSeats r.0.items places.items) }
+    ensures lines { IfOk result (λ r. r.1.items ≡ place_lines places.items) }
+    ensures owned { IfOk result (λ r. sum_by (λ l. l.bytes) r.1.items ≡ bytes_owned places.items) }
+{
+    let mut seats = Vec::with_capacity(alloc, places.len())?;
+    let mut lines = ArrayVec::new();
+    for place in places {
+        let (seat, line) = place.end();
+        seats.push(seat)?;
+        push_line(&mut lines, line);
+    }
+    Ok((seats, lines))
+}
