@@ -1,7 +1,9 @@
 -- Lemmas on how a run ends.
 use Rattle.std.specs.Io.KnownBytes.{Consumes}
-use Rattle.std.proofs.Common.{◌≡◌, ◌≤◌, ◌++◌, ◌+◌, append_assoc, length-append, arith, Some, None, ℕ, Bool, true, false, List, length, nat_lt, if◌then◌else◌, Option, Result, Ok, Err, OnOk, IfErr, refl, ap, sym, subst, ◌∙◌}
+use Rattle.std.proofs.Common.{◌≡◌, ◌≤◌, ◌++◌, ◌+◌, append_assoc, length-append, arith, Some, None, ℕ, Bool, true, false, List, length, nat_lt, if◌then◌else◌, Option, Result, Ok, Err, OnOk}
+use Rattle.std.proofs.Common.{IfErr, refl, ap, sym, subst, ◌∙◌}
 use Rattle.std.proofs.lemmas.Bool.{ltb-false}
+use Rattle.xh_script.specs.declared.limits.TheConstants.{MAX_SCRIPT}
 use Rattle.xh_script.specs.declared.fault.Fault.{Fault}
 use Rattle.xh_script.specs.declared.fault.Fault.TheVariants.{Script, Write as WriteFault}
 use Rattle.xh_script.specs.declared.fault.Kind.TheVariants.{TooLong}
@@ -15,7 +17,7 @@ Consumes-then (Some k) None c x y p q = absurd p
 Consumes-then (Some k) (Some l) None x y p q = absurd q
 Consumes-then (Some k) (Some l) (Some m) x y p q = p ∙ ap (λ t. x ++ t) q ∙ sym (append_assoc x y m)
 
-pub length_both : (x y : List ℕ) (a b : ℕ) → length x ≡ a → length y ≤ b → a + b ≤ 1048577 → length (x ++ y) ≤ 1048577
+pub length_both : (x y : List ℕ) (a b : ℕ) → length x ≡ a → length y ≤ b → a + b ≤ MAX_SCRIPT + 1 → length (x ++ y) ≤ MAX_SCRIPT + 1
 length_both x y a b e h s = simp length-append (omega arith)
 
 -- what was written in full
@@ -24,15 +26,15 @@ pub written : {W : Type 0} (contents : W → Option (List ℕ)) (old new : Watch
 written contents old new (Ok u) bytes P h f = f h
 written contents old new (Err e) bytes P h f = tt
 
-short_by : (b : Bool) (text : List ℕ) (rest : Result Listing Fault) (script : Listing) → nat_lt 1048576 (length text) ≡ b
-    → (if b then Err (Script 0 TooLong) else rest) ≡ Ok script → length text ≤ 1048576
+short_by : (b : Bool) (text : List ℕ) (rest : Result Listing Fault) (script : Listing) → nat_lt MAX_SCRIPT (length text) ≡ b
+    → (if b then Err (Script 0 TooLong) else rest) ≡ Ok script → length text ≤ MAX_SCRIPT
 short_by true text rest script e h = absurd (cc)
-short_by false text rest script e h = ltb-false 1048576 (length text) e
+short_by false text rest script e h = ltb-false MAX_SCRIPT (length text) e
 
 -- what is read as a script is no longer than one
-pub script_short : (text : List ℕ) (script : Listing) → script_of text ≡ Ok script → length text ≤ 1048576
+pub script_short : (text : List ℕ) (script : Listing) → script_of text ≡ Ok script → length text ≤ MAX_SCRIPT
 unfolding script_of
-script_short text script h = short_by (nat_lt 1048576 (length text)) text _ script refl h
+script_short text script h = short_by (nat_lt MAX_SCRIPT (length text)) text _ script refl h
 
 -- what was written in part
 pub cut_off : {W : Type 0} (contents : W → Option (List ℕ)) (old new : Watched W) (r : Result (Unit {0}) Fault) (bytes : List ℕ) (P : Fault → Type 0)

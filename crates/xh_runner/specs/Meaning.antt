@@ -1,10 +1,11 @@
 -- What a script means: the reply to each command, and what the machine holds at the end.
-use Rattle.std.specs.Prelude.{ℕ, ◌%◌, ◌==◌, ◌||◌, min, Bool, false, not, List, [], ◌∷◌, map, if◌then◌else◌, Option, Some, None, Result, Ok, Err, slice_get}
+use Rattle.std.specs.Prelude.{ℕ, ◌%◌, ◌==◌, ◌||◌, min, Bool, false, not, List, [], ◌∷◌, map, if◌then◌else◌, option_map, Option, Some, None, Result, Ok, Err, slice_get}
 use Rattle.xh_model.specs.declared.config.Config.{Config}
+use Rattle.xh_model.specs.declared.limits.TheConstants.{PLACES, MAX_BUDGET}
+use Rattle.xh_script.specs.declared.limits.TheConstants.{MAX_LEN, MAX_TAG}
 use Rattle.xh_model.specs.declared.row.Row.{Row}
 use Rattle.xh_core.specs.declared.block.Block.{Block}
 use Rattle.xh_core.specs.declared.glance.Glance.{Glance as Look}
-use Rattle.xh_core.specs.declared.message.Taken.{Taken as Message}
 use Rattle.xh_core.specs.declared.refused.Refused.{Refused}
 use Rattle.xh_core.specs.declared.refused.Refused.TheVariants.{NoProcess, Ended, Twice, Full, PeerClosed, Protocol}
 use Rattle.xh_core.specs.Machine.{Machine, is_ended}
@@ -18,12 +19,14 @@ use Rattle.xh_script.specs.declared.command.Command.{Command}
 use Rattle.xh_script.specs.declared.command.Word.{Word}
 use Rattle.xh_script.specs.declared.form.Form.{Form}
 use Rattle.xh_script.specs.declared.form.Form.TheVariants.{Contract, Process, Wire, Open, Alloc, Split, Read, Write, Give, Take, Await, Free, Close, Exit, Kill, Glance, Again}
-use Rattle.xh_script.specs.Operands.{name, number, number_or, contract, bytes, blocks}
+use Rattle.xh_script.specs.Operands.{name, number, number_or, contract, bytes, from}
 use Rattle.xh_script.specs.declared.command.Line.{Line}
 use Rattle.xh_script.specs.declared.reply.Reply.{Reply}
 use Rattle.xh_script.specs.declared.reply.Reply.TheVariants.{Done, Started, Length, Parts, Bytes, Given, Taken, Reclaimed, NotGiven, No}
 use Rattle.xh_script.specs.declared.reply.Reply.TheVariants as reply
 use Rattle.xh_script.specs.declared.reply.Answered.{Answered}
+use Rattle.xh_runner.specs.declared.received.Received.{Received}
+use Rattle.xh_runner.specs.Machines.{receives}
 use Rattle.xh_runner.specs.Bindings.{Bindings, no_bindings, number_of, has_place, record_of, records_of, started, bound, bound_each, unbound, unbound_each, unbound_but, unbound_all}
 
 -- the machine, what the names of the script stand for, and the script's contracts by number
@@ -61,20 +64,20 @@ abbrev pub with_ends : ℕ → ℕ → ℕ → ℕ → Block × Block → Bindin
 with_ends p e q f ends names = bound (bound names p e ends.0.rec) q f ends.1.rec
 
 -- the names of blocks that a refused give hands back stay
-abbrev pub handed_back : ℕ → List ℕ → Refused → Bindings → Bindings
+abbrev pub handed_back : ℕ → List (Word ℕ) → Refused → Bindings → Bindings
 handed_back p xs (Full back) names = unbound_but names p xs back.items
 handed_back p xs (PeerClosed back) names = unbound_but names p xs back.items
 handed_back p xs (Protocol back) names = unbound_but names p xs back.items
 handed_back p xs _ names = names
 
 -- the names of blocks that went are unbound
-abbrev pub given : ℕ → List ℕ → World → Answer ℕ → Reply × World
+abbrev pub given : ℕ → List (Word ℕ) → World → Answer ℕ → Reply × World
 given p xs w (Ok number, m) = (Given number, record w { machine = m; names = unbound_each w.names p xs })
 given p xs w (Err refused, m) = (NotGiven refused, record w { machine = m; names = handed_back p xs refused w.names })
 
--- a taken message; on the serial machine none of its blocks is missing
-abbrev pub taken : Message → Reply
-taken message = Taken message.no message.tag (record { items = map (λ b. Some b.len) message.blocks.items })
+-- a taken message
+abbrev pub taken : Received → Reply
+taken message = Taken message.number message.tag (record { items = map (option_map (λ b. b.len)) message.blocks.items })
 
 -- what a place shows of a process: Ended where it shows a later one
 abbrev pub shown : ℕ → Result Look Refused → Result Look Refused
@@ -82,7 +85,7 @@ shown n (Ok look) = if look.process == n then Ok look else Err Ended
 shown n (Err refused) = Err refused
 
 abbrev pub look : World → ℕ → Result Look Refused
-look w n = shown n (glance (n % 32) w.machine)
+look w n = shown n (glance (n % PLACES) w.machine)
 
 abbrev pub looked : World → Result Look Refused → Reply × World
 looked w (Ok look) = (reply.Glance look.blocks look.bytes, w)
@@ -114,19 +117,19 @@ alloc_step w p x n a = replied (λ b. Length b.len) (λ b names. bound names p x
 abbrev pub split_step : World → ℕ → ℕ → ℕ → ℕ → Reply × World
 split_step w p x at t = replied (λ parts. Parts parts.0.len parts.1.len) (λ parts names. bound names p t parts.1.rec) w (split false (process w p) (block w p x) at w.machine)
 
--- a line reads at most 32 bytes
+-- a line reads at most so many bytes
 abbrev pub read_step : World → ℕ → ℕ → ℕ → ℕ → Reply × World
-read_step w p x at n = replied (λ bytes. Bytes (record { items = bytes })) same w (read (process w p) (block w p x) at (min n 32) w.machine)
+read_step w p x at n = replied (λ bytes. Bytes (record { items = bytes })) same w (read (process w p) (block w p x) at (min n MAX_LEN) w.machine)
 
 abbrev pub write_step : World → ℕ → ℕ → ℕ → List ℕ → Reply × World
 write_step w p x at bytes = replied (λ _. Done) same w (write (process w p) (block w p x) at bytes w.machine)
 
--- a tag is at most 65535
-abbrev pub give_step : World → ℕ → ℕ → ℕ → List ℕ → Reply × World
-give_step w p e tag xs = given p xs w (give (process w p) (block w p e) (min tag 65535) (records_of w.names p xs) w.machine)
+-- a tag is at most so great
+abbrev pub give_step : World → ℕ → ℕ → ℕ → List (Word ℕ) → Reply × World
+give_step w p e tag xs = given p xs w (give (process w p) (block w p e) (min tag MAX_TAG) (records_of w.names p xs) w.machine)
 
-abbrev pub take_step : World → ℕ → ℕ → List ℕ → Reply × World
-take_step w p e xs = replied taken (λ message names. bound_each names p xs message.blocks.items) w (take (process w p) (block w p e) w.machine)
+abbrev pub take_step : World → ℕ → ℕ → List (Word ℕ) → Reply × World
+take_step w p e xs = replied taken (λ message names. bound_each names p xs message.blocks.items) w (receives (take (process w p) (block w p e) w.machine))
 
 abbrev pub free_step : World → ℕ → ℕ → Reply × World
 free_step w p x = replied Length (λ _ names. unbound names p x) w (free (process w p) (block w p x) w.machine)
@@ -149,7 +152,7 @@ again_step w p =
     else if is_alive (look w (process w p)) then (No Twice, w)
     else replied Started (λ n names. renewed p n names) w (spawn w.machine)
 
--- the reply to a command, and the world after it; the words stand where the form's row of the table has them, and a sweep has a budget of 4,096 where none is named
+-- the reply to a command, and the world after it; the words stand where the form's row of the table has them, and a sweep has the greatest budget where none is named
 unfoldable pub step_by : World → Form → List (Word ℕ) → Reply × World
 step_by w Contract ws = (Done, w)
 step_by w Process ws = process_step w (name ws 0)
@@ -159,13 +162,13 @@ step_by w Alloc ws = alloc_step w (name ws 0) (name ws 1) (number ws 2) (number 
 step_by w Split ws = split_step w (name ws 0) (name ws 1) (number ws 2) (name ws 3)
 step_by w Read ws = read_step w (name ws 0) (name ws 1) (number ws 2) (number ws 3)
 step_by w Write ws = write_step w (name ws 0) (name ws 1) (number ws 2) (bytes ws 3)
-step_by w Give ws = give_step w (name ws 0) (name ws 1) (number ws 2) (blocks ws 3)
-step_by w Take ws = take_step w (name ws 0) (name ws 1) (blocks ws 2)
-step_by w Await ws = take_step w (name ws 0) (name ws 1) (blocks ws 2)
+step_by w Give ws = give_step w (name ws 0) (name ws 1) (number ws 2) (from ws 3)
+step_by w Take ws = take_step w (name ws 0) (name ws 1) (from ws 2)
+step_by w Await ws = take_step w (name ws 0) (name ws 1) (from ws 2)
 step_by w Free ws = free_step w (name ws 0) (name ws 1)
 step_by w Close ws = close_step w (name ws 0) (name ws 1)
-step_by w Exit ws = exit_step w (name ws 0) (number_or ws 1 4096)
-step_by w Kill ws = kill_step w (name ws 0) (name ws 1) (number_or ws 2 4096)
+step_by w Exit ws = exit_step w (name ws 0) (number_or ws 1 MAX_BUDGET)
+step_by w Kill ws = kill_step w (name ws 0) (name ws 1) (number_or ws 2 MAX_BUDGET)
 step_by w Glance ws = glance_step w (name ws 0) (name ws 1)
 step_by w Again ws = again_step w (name ws 0)
 

@@ -1,6 +1,7 @@
 -- Reading the bytes of a script.
 use Rattle.std.specs.Prelude.{◌≡◌, ◌≤◌, ℕ, List, length, Option}
 use Rattle.std.specs.Io.KnownBytes.{Consumes, IsAtEnd}
+use Rattle.xh_script.specs.declared.limits.TheConstants.{MAX_SCRIPT}
 use Rattle.xh_script.specs.declared.watch.Watched.{Watched}
 use Rattle.xh_script.specs.Watching.{inner_of, Reads}
 
@@ -10,4 +11,4 @@ ReadsAtMost remaining most old new = (bytes : List ℕ) × Consumes (remaining (
 
 -- the reader gave these bytes, and has no more, or gave more than a script may have
 abbrev pub ReadsScript : {R : Type 0} → (R → Option (List ℕ)) → Watched R → Watched R → List ℕ → Type 0
-ReadsScript remaining old new text = Reads remaining old new text × (length text ≤ 1048576 → IsAtEnd (remaining (inner_of new)))
+ReadsScript remaining old new text = Reads remaining old new text × (length text ≤ MAX_SCRIPT → IsAtEnd (remaining (inner_of new)))

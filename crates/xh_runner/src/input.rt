@@ -1,12 +1,14 @@
 //! The bytes of a script, read once from the front.
-ghost use Rattle.std.specs.Prelude.{◌≡◌, ◌≢◌, ◌<◌, ◌≤◌, ◌⊎◌, ℕ, List, ◌++◌, length, IfOk, IfErr};
+ghost use Rattle.std.specs.Prelude.{◌≡◌, ◌≢◌, ◌<◌, ◌≤◌, ◌+◌, ◌⊎◌, ℕ, List, ◌++◌, length, IfOk, IfErr};
 ghost use Rattle.std.specs.Io.KnownBytes.{IsAtEnd};
+ghost use Rattle.xh_script.specs.declared.limits.TheConstants.{MAX_SCRIPT};
 ghost use Rattle.xh_script.specs.Watching.{failures, inner_of, Reads};
 ghost use Rattle.xh_runner.specs.Reading.{ReadsAtMost, ReadsScript};
 
 use std::alloc::Global;
 use std::io::Read;
-use xh_script::{Fault, SCRIPT_LIMIT, Watched};
+use xh_script::limits::MAX_SCRIPT;
+use xh_script::{Fault, Watched};
 
 /// Reads once, and adds what was read.
 fn read_some<R: Read>(
@@ -32,14 +34,14 @@ fn read_some<R: Read>(
 
 /// Reads to the end, or to one byte past the most that a script may have.
 pub(crate) fn read_text<R: Read>(alloc: Global, reader: &mut Watched<R>) -> Result<Vec<u8>, Fault>
-    ensures ok { IfOk result (λ text. ReadsScript R.remaining reader.old reader.new text.items × (length text.items ≤ 1048577)) }
+    ensures ok { IfOk result (λ text. ReadsScript R.remaining reader.old reader.new text.items × (length text.items ≤ MAX_SCRIPT + 1)) }
     ensures err { IfErr result (λ e. (e ≡ Fault.Memory) ⊎ ((e ≡ Fault.Read) × (failures reader.new ≢ failures reader.old))) }
-    ensures limit { ReadsAtMost R.remaining 1048577 reader.old reader.new }
+    ensures limit { ReadsAtMost R.remaining (MAX_SCRIPT + 1) reader.old reader.new }
 {
     let mut text = Vec::new(alloc);
     let mut room = [0u8; 4096];
-    while text.len() <= SCRIPT_LIMIT {
-        let most = (SCRIPT_LIMIT + 1 - text.len()).min(4096);
+    while text.len() <= MAX_SCRIPT {
+        let most = (MAX_SCRIPT + 1 - text.len()).min(4096);
         let n = read_some(reader, &mut text, &mut room[..most])?;
         if n == 0 {
             return Ok(text);

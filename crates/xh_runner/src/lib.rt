@@ -2,7 +2,9 @@
 #![tactic(auto)]
 
 mod input;
+mod machine;
 mod names;
+mod received;
 mod serial;
 mod session;
 

@@ -1,21 +1,28 @@
 //! What the names of a script stand for.
 ghost use Rattle.std.specs.Prelude.{◌≡◌, ◌+◌, ◌*◌, ◌%◌, ◌≤◌, ◌==◌, if◌then◌else◌, length, map, replicate, codes, IfOk};
 ghost use Rattle.std.specs.List.{list_any};
-ghost use Rattle.xh_runner.specs.Bindings.{Bindings, no_bindings, nothings, number_of, has_place, entry, with_entry, with_each, without, without_each, without_but, without_below, record_of, records_of, started, bound, bound_each, unbound, unbound_each, unbound_but, unbound_all, names_by_place};
+ghost use Rattle.xh_runner.specs.Bindings.{Bindings, no_bindings, nothings, number_of, has_place, entry, with_entry, with_block, with_each, without, without_each, without_but};
+ghost use Rattle.xh_runner.specs.Bindings.{without_below, record_of, records_of, started, bound, bound_each, unbound, unbound_each, unbound_but, unbound_all, names_by_place};
 ghost use Rattle.std.specs.Prelude.{slice_index_or, slice_set};
+ghost use Rattle.xh_model.specs.declared.limits.TheConstants.{PLACES};
+ghost use Rattle.xh_script.specs.declared.limits.TheConstants.{MAX_WORDS, MAX_BLOCK_NAMES};
+ghost use Rattle.xh_script.specs.Operands.{name_in};
+ghost use Rattle.xh_runner.specs.declared.names.TheConstants.{NOTHING};
 
 use arrayvec::ArrayVec;
 use std::alloc::{AllocError, Global};
 use std::marker::Model;
 use xh_core::Block;
-use xh_script::Name;
+use xh_model::limits::PLACES;
+use xh_script::limits::{MAX_BLOCK_NAMES, MAX_PROCESSES, MAX_WORDS};
+use xh_script::{Name, Word};
 
 /// No process has this number, and no block this record: it stands for a process without a place,
 /// and for a name that is bound to nothing.
 pub(crate) const NOTHING: u16 = 65_535;
 
 /// The number of each process (by its name), the name of the latest process of each place, and the
-/// record of each block's name, 256 for each process.
+/// record of each block's name, those of one process behind those of another.
 #[derive(Drop)]
 pub(crate) struct Names {
     numbers: Vec<u16>,
@@ -26,12 +33,13 @@ pub(crate) struct Names {
 impl Model for Names {
     ghost use Rattle.std.specs.Prelude.{◌≡◌, length};
     ghost use Rattle.xh_runner.specs.Bindings.{Bindings};
+    ghost use Rattle.xh_model.specs.declared.limits.TheConstants.{PLACES};
 
     ghost Value = { Bindings };
 
     ghost view = { λ s. record { numbers = s.numbers.items; latest = s.latest.items; records = s.records.items } };
 
-    ghost invariant = { λ s. length s.latest.items ≡ 32 };
+    ghost invariant = { λ s. length s.latest.items ≡ PLACES };
 }
 
 #[tactic(auto, unfolding(crate::specs::Bindings::nothings))]
@@ -48,7 +56,7 @@ fn zeros(alloc: Global, count: usize) -> Result<Vec<u8>, AllocError>
 }
 
 fn at(entries: &[u16], index: usize) -> u16
-    ensures { result ≡ slice_index_or entries.now index 65535 }
+    ensures { result ≡ slice_index_or entries.now index NOTHING }
 {
     match entries.get(index) {
         Some(entry) => *entry,
@@ -67,7 +75,10 @@ fn put(entries: &mut [u16], index: usize, entry: u16)
 fn entry(records: &[u16], process: u8, block: u8) -> u16
     ensures { result ≡ entry records.now process block }
 {
-    at(records, 256 * usize::from(process) + usize::from(block))
+    at(
+        records,
+        MAX_BLOCK_NAMES * usize::from(process) + usize::from(block),
+    )
 }
 
 fn set_entry(records: &mut [u16], process: u8, block: u8, rec: u16)
@@ -75,36 +86,44 @@ fn set_entry(records: &mut [u16], process: u8, block: u8, rec: u16)
 {
     put(
         records,
-        256 * usize::from(process) + usize::from(block),
+        MAX_BLOCK_NAMES * usize::from(process) + usize::from(block),
         rec,
     );
 }
 
-fn entries(records: &[u16], process: u8, blocks: &[u8]) -> ArrayVec<u16, 19>
-    requires { length blocks.now ≤ 19 }
-    ensures { result.items ≡ map (λ x. entry records.now process x) blocks.now }
+fn entries(records: &[u16], process: u8, words: &[Word<u8>]) -> ArrayVec<u16, MAX_WORDS>
+    requires { length words.now ≤ MAX_WORDS }
+    ensures { result.items ≡ map (λ x. entry records.now process (name_in x)) words.now }
 {
     let mut found = ArrayVec::new();
-    for block in blocks {
-        found.push(entry(records, process, *block));
+    for word in words {
+        found.push(entry(records, process, word.name()));
     }
     found
 }
 
-fn set_each(records: &mut [u16], process: u8, blocks: &[u8], message: &[Block])
-    ensures { records.new ≡ with_each records.old process blocks.now message.now }
+fn set_block(records: &mut [u16], process: u8, name: u8, block: &Option<Block>)
+    ensures { records.new ≡ with_block records.old process name block.now }
 {
-    let count = blocks.len().min(message.len());
-    for i in 0..count {
-        set_entry(records, process, blocks[i], message[i].rec);
+    if let Some(block) = block {
+        set_entry(records, process, name, block.rec);
     }
 }
 
-fn clear_each(records: &mut [u16], process: u8, blocks: &[u8])
-    ensures { records.new ≡ without_each records.old process blocks.now }
+fn set_each(records: &mut [u16], process: u8, words: &[Word<u8>], message: &[Option<Block>])
+    ensures { records.new ≡ with_each records.old process words.now message.now }
 {
-    for block in blocks {
-        set_entry(records, process, *block, NOTHING);
+    let count = words.len().min(message.len());
+    for i in 0..count {
+        set_block(records, process, words[i].name(), &message[i]);
+    }
+}
+
+fn clear_each(records: &mut [u16], process: u8, words: &[Word<u8>])
+    ensures { records.new ≡ without_each records.old process words.now }
+{
+    for word in words {
+        set_entry(records, process, word.name(), NOTHING);
     }
 }
 
@@ -123,19 +142,23 @@ fn clear_unless(records: &mut [u16], process: u8, block: u8, back: &[u16])
     }
 }
 
-fn clear_but(records: &mut [u16], process: u8, blocks: &[u8], back: &[u16])
-    ensures { records.new ≡ without_but records.old process blocks.now back.now }
+fn clear_but(records: &mut [u16], process: u8, words: &[Word<u8>], back: &[u16])
+    ensures { records.new ≡ without_but records.old process words.now back.now }
 {
-    for block in blocks {
-        clear_unless(records, process, *block, back);
+    for word in words {
+        clear_unless(records, process, word.name(), back);
     }
 }
 
 fn clear_all(records: &mut [u16], process: u8)
-    ensures { records.new ≡ without_below records.old process 256 }
+    ensures { records.new ≡ without_below records.old process MAX_BLOCK_NAMES }
 {
-    for block in 0..256 {
-        put(records, 256 * usize::from(process) + block, NOTHING);
+    for block in 0..MAX_BLOCK_NAMES {
+        put(
+            records,
+            MAX_BLOCK_NAMES * usize::from(process) + block,
+            NOTHING,
+        );
     }
 }
 
@@ -173,9 +196,9 @@ impl Names {
     pub(crate) fn new(alloc: Global) -> Result<Names, AllocError>
         ensures { IfOk result (λ names. names ≡ no_bindings) }
     {
-        let numbers = nothings(alloc, 64)?;
-        let latest = zeros(alloc, 32)?;
-        let records = nothings(alloc, 16_384)?;
+        let numbers = nothings(alloc, MAX_PROCESSES)?;
+        let latest = zeros(alloc, usize::from(PLACES))?;
+        let records = nothings(alloc, MAX_PROCESSES * MAX_BLOCK_NAMES)?;
         Ok(Names {
             numbers,
             latest,
@@ -204,12 +227,12 @@ impl Names {
         entry(&self.records, process, block)
     }
 
-    /// The records of several names, at most 19.
-    pub(crate) fn records_of(&self, process: u8, blocks: &[u8]) -> ArrayVec<u16, 19>
-        requires { length blocks.now ≤ 19 }
-        ensures { result.items ≡ records_of self.now process blocks.now }
+    /// The records of the names that words say.
+    pub(crate) fn records_of(&self, process: u8, words: &[Word<u8>]) -> ArrayVec<u16, MAX_WORDS>
+        requires { length words.now ≤ MAX_WORDS }
+        ensures { result.items ≡ records_of self.now process words.now }
     {
-        entries(&self.records, process, blocks)
+        entries(&self.records, process, words)
     }
 
     /// The process has this number, and is the latest of its place.
@@ -217,7 +240,7 @@ impl Names {
         ensures { self.new ≡ started self.old process number }
     {
         put(&mut self.numbers, usize::from(process), number);
-        let place = usize::from(number % 32);
+        let place = usize::from(number % u16::from(PLACES));
         self.latest[place] = process;
     }
 
@@ -228,12 +251,12 @@ impl Names {
         set_entry(&mut self.records, process, block, rec);
     }
 
-    /// The names stand for the blocks of a message, from left to right; names past the last block
-    /// stay as they were, and blocks past the last name have none.
-    pub(crate) fn bind_each(&mut self, process: u8, blocks: &[u8], message: &[Block])
-        ensures { self.new ≡ bound_each self.old process blocks.now message.now }
+    /// The names that words say stand for the blocks of a message, from left to right. Names past the
+    /// last block and those of missing blocks stay as they were; blocks past the last name have none.
+    pub(crate) fn bind_each(&mut self, process: u8, words: &[Word<u8>], message: &[Option<Block>])
+        ensures { self.new ≡ bound_each self.old process words.now message.now }
     {
-        set_each(&mut self.records, process, blocks, message);
+        set_each(&mut self.records, process, words, message);
     }
 
     /// The name is bound to nothing.
@@ -243,18 +266,18 @@ impl Names {
         set_entry(&mut self.records, process, block, NOTHING);
     }
 
-    /// The names are bound to nothing.
-    pub(crate) fn unbind_each(&mut self, process: u8, blocks: &[u8])
-        ensures { self.new ≡ unbound_each self.old process blocks.now }
+    /// The names that words say are bound to nothing.
+    pub(crate) fn unbind_each(&mut self, process: u8, words: &[Word<u8>])
+        ensures { self.new ≡ unbound_each self.old process words.now }
     {
-        clear_each(&mut self.records, process, blocks);
+        clear_each(&mut self.records, process, words);
     }
 
-    /// The names are bound to nothing whose records are not among these.
-    pub(crate) fn unbind_but(&mut self, process: u8, blocks: &[u8], back: &[u16])
-        ensures { self.new ≡ unbound_but self.old process blocks.now back.now }
+    /// The names that words say are bound to nothing whose records are not among these.
+    pub(crate) fn unbind_but(&mut self, process: u8, words: &[Word<u8>], back: &[u16])
+        ensures { self.new ≡ unbound_but self.old process words.now back.now }
     {
-        clear_but(&mut self.records, process, blocks, back);
+        clear_but(&mut self.records, process, words, back);
     }
 
     /// All names of the process for blocks are bound to nothing.
@@ -271,7 +294,7 @@ impl Names {
         processes: &[Name],
     ) -> Result<Vec<Name>, AllocError>
         ensures names { IfOk result (λ names. names.items ≡ names_by_place processes.now self.now) }
-        ensures count { IfOk result (λ names. length names.items ≡ 32) }
+        ensures count { IfOk result (λ names. length names.items ≡ PLACES) }
     {
         names_at(alloc, processes, &self.latest)
     }

@@ -1,9 +1,10 @@
 //! A script from its bytes to its replies and its ledger, on the serial machine.
-ghost use Rattle.std.specs.Prelude.{◌≡◌, ◌++◌, ◌<◌, ◌⊎◌, length, IfOk, IfErr, OnOk, Err};
+ghost use Rattle.std.specs.Prelude.{◌≡◌, ◌+◌, ◌++◌, ◌<◌, ◌⊎◌, length, IfOk, IfErr, OnOk, Err};
 ghost use Rattle.xh_model.specs.Config.{IsConfig};
 ghost use Rattle.xh_core.specs.PlaceCommands.{new_machine};
 ghost use Rattle.std.specs.List.{All};
 ghost use Rattle.xh_script.specs.Texts.{answer_texts, ledger_text};
+ghost use Rattle.xh_script.specs.declared.limits.TheConstants.{MAX_SCRIPT};
 ghost use Rattle.xh_script.specs.Watching.{WritesOrFails};
 ghost use Rattle.xh_runner.specs.Reading.{ReadsAtMost};
 ghost use Rattle.xh_runner.specs.Runs.{Meant, Failed};
@@ -44,7 +45,7 @@ fn write_output<W: Write>(
 /// Runs the script that a reader gives to its end, and writes its replies and its ledger.
 ///
 /// A config outside its limits is BadConfig, and nothing is read. The reader is asked for at most
-/// 1,048,577 bytes, so a reader without an end is TooLong. Memory comes where a growth was refused.
+/// one byte more than a script may have, so a reader without an end is TooLong. Memory comes where a growth was refused.
 /// But for Write, a fault leaves nothing written.
 pub fn run_serial<R: Read, W: Write>(
     alloc: Global,
@@ -55,7 +56,7 @@ pub fn run_serial<R: Read, W: Write>(
     ensures ok { OnOk result (Meant R.remaining W.contents config reader.old reader.new writer.old writer.new) }
     ensures err { IfErr result (Failed R.remaining W.contents config reader.old reader.new writer.old writer.new) }
     ensures config { ¬ IsConfig config → result ≡ Err Fault.BadConfig }
-    ensures limit { ReadsAtMost R.remaining 1048577 reader.old reader.new }
+    ensures limit { ReadsAtMost R.remaining (MAX_SCRIPT + 1) reader.old reader.new }
 {
     let machine = new_machine(alloc, config)?;
     let text = read_text(alloc, reader)?;

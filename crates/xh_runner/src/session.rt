@@ -1,48 +1,47 @@
-//! A script on the serial machine, command by command.
-ghost use Rattle.std.specs.Prelude.{◌≡◌, ◌≢◌, ◌<◌, length, IfOk, OnOk, IsErr, Ok};
-ghost use Rattle.xh_runner.specs.Bindings.{no_bindings, names_by_place};
+//! A script on a machine, command by command.
+ghost use Rattle.std.specs.Prelude.{◌≡◌, ◌≢◌, ◌<◌, length, IfOk, OnOk, false};
 ghost use Rattle.std.specs.List.{All};
 ghost use Rattle.xh_core.specs.PlaceCommands.{ledger_of};
+ghost use Rattle.xh_model.specs.declared.limits.TheConstants.{PLACES};
+ghost use Rattle.xh_runner.specs.Bindings.{no_bindings, names_by_place};
 ghost use Rattle.xh_runner.specs.Meaning.{step, answers, after};
-ghost use Rattle.xh_runner.specs.Worlds.{world_of};
+ghost use Rattle.xh_runner.specs.Worlds.{world_of, StepsOrLacks};
 
 mod blocks;
 mod channels;
 mod messages;
 mod processes;
 
+use crate::machine::Machine;
 use crate::names::Names;
 use std::alloc::{AllocError, Global};
 use xh_core::{Contract, Ledger, Refused, Serial};
+use xh_model::limits::MAX_BUDGET;
 use xh_script::{Answered, Command, Form, Line, Name, Reply};
 
-/// A serial machine, what the names of a script stand for, and the script's contracts by number.
+/// A machine, what the names of a script stand for, and the script's contracts by number.
 #[derive(Drop)]
-pub(crate) struct Session<'a> {
-    machine: Serial,
+pub(crate) struct Session<'a, M> {
+    machine: M,
     names: Names,
     contracts: &'a [Contract],
 }
 
-/// A refusal is a reply, but for want of memory, which ends the run.
-fn refusal(refused: Refused) -> Result<Reply, AllocError>
-    ensures reply { refused ≢ Refused.OutOfMemory → result ≡ Ok (Reply.No refused) }
-    ensures memory { refused ≡ Refused.OutOfMemory → IsErr result }
+/// Whether memory was refused.
+fn lacks_memory(reply: &Reply) -> bool
+    ensures { result ≡ false → reply.now ≢ Reply.No Refused.OutOfMemory }
 {
-    match refused {
-        Refused::OutOfMemory => Err(AllocError),
-        other => Ok(Reply::No(other)),
-    }
+    matches!(reply, Reply::No(Refused::OutOfMemory))
 }
 
-impl<'a> Session<'a> {
+impl<'a, M: Machine> Session<'a, M> {
     /// A machine with a script's contracts, and no name of the script that stands for anything.
     pub(crate) fn new(
         alloc: Global,
-        machine: Serial,
+        machine: M,
         contracts: &'a [Contract],
-    ) -> Result<Session<'a>, AllocError>
-        ensures { IfOk result (λ s. world_of s ≡ record { machine = machine; names = no_bindings; contracts = contracts.entry.now }) }
+    ) -> Result<Session<'a, M>, AllocError>
+        ensures { IfOk result (λ s. world_of M.state s ≡ record { machine = M.state machine; names = no_bindings; contracts = contracts.entry.now }) }
     {
         Ok(Session {
             machine,
@@ -51,12 +50,13 @@ impl<'a> Session<'a> {
         })
     }
 
-    /// Does a command; its words stand where the form's row of the table has them.
+    /// Does a command; its words stand where the form's row of the table has them. Where memory is
+    /// refused, the reply says so.
     #[tactic(auto, unfolding(crate::specs::Meaning::step_by))]
-    fn step(&mut self, alloc: Global, c: &Command<u8>) -> Result<Reply, AllocError>
-        ensures { IfOk result (λ reply. step (world_of self.old) c.now ≡ (reply, world_of self.new)) }
+    pub(crate) fn step(&mut self, alloc: Global, c: &Command<u8>) -> Reply
+        ensures { StepsOrLacks M.alone (step (world_of M.state self.old) c.now) result (world_of M.state self.new) }
     {
-        Ok(match c.form {
+        match c.form {
             Form::Contract => Reply::Done,
             Form::Process => self.process(c.name(0)),
             Form::Wire => self.wire(
@@ -71,29 +71,47 @@ impl<'a> Session<'a> {
                 c.number(3),
                 c.contract(4),
             ),
-            Form::Alloc => self.alloc(alloc, c.name(0), c.name(1), c.number(2), c.number(3))?,
-            Form::Split => self.split(alloc, c.name(0), c.name(1), c.number(2), c.name(3))?,
+            Form::Alloc => self.alloc(alloc, c.name(0), c.name(1), c.number(2), c.number(3)),
+            Form::Split => self.split(alloc, c.name(0), c.name(1), c.number(2), c.name(3)),
             Form::Read => self.read(c.name(0), c.name(1), c.number(2), c.number(3)),
             Form::Write => self.write(c.name(0), c.name(1), c.number(2), c.bytes(3)),
-            Form::Give => self.give(c.name(0), c.name(1), c.number(2), &c.blocks(3)),
-            Form::Take | Form::Await => self.take(c.name(0), c.name(1), &c.blocks(2)),
+            Form::Give => self.give(c.name(0), c.name(1), c.number(2), c.from(3)),
+            Form::Take => self.take(false, c.name(0), c.name(1), c.from(2)),
+            Form::Await => self.take(true, c.name(0), c.name(1), c.from(2)),
             Form::Free => self.free(c.name(0), c.name(1)),
             Form::Close => self.close(c.name(0), c.name(1)),
-            Form::Exit => self.exit(c.name(0), c.number_or(1, 4096)),
-            Form::Kill => self.kill(c.name(0), c.name(1), c.number_or(2, 4096)),
+            Form::Exit => self.exit(c.name(0), c.number_or(1, u32::from(MAX_BUDGET))),
+            Form::Kill => self.kill(c.name(0), c.name(1), c.number_or(2, u32::from(MAX_BUDGET))),
             Form::Glance => self.glance(c.name(0), c.name(1)),
             Form::Again => self.again(c.name(0)),
-        })
+        }
     }
 
-    /// Does commands in order.
+    /// The names of the processes by place, 32 of them, from the names by number.
+    pub(crate) fn names_by_place(
+        &self,
+        alloc: Global,
+        processes: &[Name],
+    ) -> Result<Vec<Name>, AllocError>
+        ensures names { IfOk result (λ names. names.items ≡ names_by_place processes.now (world_of M.state self.now).names) }
+        ensures count { IfOk result (λ names. length names.items ≡ PLACES) }
+    {
+        self.names.by_place(alloc, processes)
+    }
+}
+
+impl<'a> Session<'a, Serial> {
+    /// Does commands in order. Want of memory ends the run.
     pub(crate) fn run(&mut self, alloc: Global, lines: &[Line]) -> Result<Vec<Answered>, AllocError>
-        ensures answers { IfOk result (λ replies. replies.items ≡ answers (world_of self.old) lines.now) }
-        ensures after { OnOk result (world_of self.new ≡ after (world_of self.old) lines.now) }
+        ensures answers { IfOk result (λ replies. replies.items ≡ answers (world_of (λ m. m) self.old) lines.now) }
+        ensures after { OnOk result (world_of (λ m. m) self.new ≡ after (world_of (λ m. m) self.old) lines.now) }
     {
         let mut replies = Vec::with_capacity(alloc, lines.len())?;
         for line in lines {
-            let reply = self.step(alloc, &line.command)?;
+            let reply = self.step(alloc, &line.command);
+            if lacks_memory(&reply) {
+                return Err(AllocError);
+            }
             replies.push(Answered {
                 line: line.number,
                 reply,
@@ -104,21 +122,9 @@ impl<'a> Session<'a> {
 
     /// What the machine holds.
     pub(crate) fn ledger(&self) -> Ledger
-        ensures value { result ≡ ledger_of (world_of self.now).machine }
-        ensures places { All (λ line. line.place < 32) result.places.items }
+        ensures value { result ≡ ledger_of (world_of (λ m. m) self.now).machine }
+        ensures places { All (λ line. line.place < PLACES) result.places.items }
     {
         self.machine.ledger()
-    }
-
-    /// The names of the processes by place, 32 of them, from the names by number.
-    pub(crate) fn names_by_place(
-        &self,
-        alloc: Global,
-        processes: &[Name],
-    ) -> Result<Vec<Name>, AllocError>
-        ensures names { IfOk result (λ names. names.items ≡ names_by_place processes.now (world_of self.now).names) }
-        ensures count { IfOk result (λ names. length names.items ≡ 32) }
-    {
-        self.names.by_place(alloc, processes)
     }
 }

@@ -4,6 +4,7 @@ use Rattle.std.specs.List.{slice_split}
 use Rattle.std.proofs.Math.ListN.{length-map}
 use Rattle.std.proofs.lemmas.List.Splits.{length-slice_split}
 use Rattle.std.proofs.lemmas.List.Sums.{count_by-le-length}
+use Rattle.xh_script.specs.declared.limits.TheConstants.{MAX_SCRIPT}
 use Rattle.xh_script.specs.Steps.{◌>>=◌, Stops}
 use Rattle.xh_script.specs.SoFar.{SoFar}
 use Rattle.xh_script.specs.Scripts.{Fails, at_line, after_line, after_lines}
@@ -37,7 +38,7 @@ pub stops_at : (e : Fault) (lines : List (List ℕ)) (i : ℕ) (before : SoFar) 
     → Fails e (after_lines before (i + 1) (drop i lines))
 stops_at e lines i before below h = rw (drop-cons lines i []) (fails_then e _ (λ now. after_lines now (i + 1 + 1) (drop (suc i) lines)) h)
 
-pub lines_fit : (text : List ℕ) → length text ≤ 1048576 → length (slice_split (λ b. b == 10) text) ≤ 1048577
+pub lines_fit : (text : List ℕ) → length text ≤ MAX_SCRIPT → length (slice_split (λ b. b == 10) text) ≤ MAX_SCRIPT + 1
 lines_fit text short = omega (arith, length-slice_split (λ b. b == 10) text, count_by-le-length (λ b. b == 10) text)
 
 pub same_length : (items : List (Bor (List ℕ))) (lines : List (List ℕ)) → map (λ w. w.now) items ≡ lines → length items ≡ length lines

@@ -1,5 +1,6 @@
 -- The text of a name, a number, bytes or a row is read as it.
-use Rattle.std.proofs.Common.{◌≡◌, ◌<◌, ◌≤◌, ◌+◌, ◌*◌, ◌/◌, ◌%◌, ◌^◌, ◌==◌, inl, inr, ℕ, zero, suc, true, false, List, [], ◌∷◌, ◌++◌, length, get_or, map, Some, Result, Ok, refl, ap, ◌∙◌, arith, nat_lt, length-append}
+use Rattle.std.proofs.Common.{◌≡◌, ◌-◌, ◌<◌, ◌≤◌, ◌+◌, ◌*◌, ◌/◌, ◌%◌, ◌^◌, ◌==◌, inl, inr, ℕ, zero, suc, true, false, List, [], ◌∷◌, ◌++◌, length, get_or, map, Some, Result, Ok, refl, ap}
+use Rattle.std.proofs.Common.{◌∙◌, arith, nat_lt, length-append}
 use Rattle.std.specs.List.{list_all, slice_split, onto_first}
 use Rattle.std.specs.Fmt.{decimal}
 use Rattle.std.proofs.lemmas.Bool.{leb-true, le-leb, lt-ltb, ltb-true, ltb-false, eq-eqb, ne_eqb, and_parts, and_from, or_right, not_from_false, cases_Bool}
@@ -8,6 +9,8 @@ use Rattle.std.proofs.lemmas.Fmt.{decimal_nonempty, first_decimal, length-decima
 use Rattle.std.proofs.lemmas.List.Splits.{slice_split-cons_yes, slice_split-cons_no}
 use Rattle.arrayvec.specs.ArrayVec.{ArrayVec}
 use Rattle.xh_model.specs.declared.row.Row.{Row}
+use Rattle.xh_model.specs.declared.limits.TheConstants.{STATES}
+use Rattle.xh_script.specs.declared.limits.TheConstants.{MAX_TAG}
 use Rattle.xh_script.specs.Words.{is_name, is_digit, has_no_zero_in_front, is_numeral, value_of, is_hex_letter, is_hex_digit, is_hex, hex_value, hex_bytes}
 use Rattle.xh_script.specs.Steps.{◌>>=◌}
 use Rattle.xh_script.specs.Sorts.{name_at, number_at, number_between, bytes_at, row_said, row_of, row_at, word_at}
@@ -40,7 +43,8 @@ front_back (suc n) h =
 
 numeral_back : (n : ℕ) → n < 2 ^ 32 → is_numeral (decimal n) ≡ true
 numeral_back n h =
-    and_from _ _ (and_from _ _ (and_from _ _ (lt-ltb 0 (length (decimal n)) (decimal_nonempty n (omega arith))) (le-leb (length (decimal n)) 10 (length-decimal-le 10 n (omega arith) (omega arith) (omega arith)))) (front_back n h)) (digits_decimal own n (omega arith))
+    and_from _ _ (and_from _ _ (and_from _ _ (lt-ltb 0 (length (decimal n)) (decimal_nonempty n (omega arith)))
+    (le-leb (length (decimal n)) 10 (length-decimal-le 10 n (omega arith) (omega arith) (omega arith)))) (front_back n h)) (digits_decimal own n (omega arith))
 
 pub number_back : (n : ℕ) → n < 2 ^ 32 → number_at (decimal n) ≡ Ok n
 unfolding number_at
@@ -135,10 +139,10 @@ row_said_back : (row : Row) → IsRow row → row_said (decimal row.state) (deci
 unfolding row_said
 row_said_back row h =
     rw (
-      between_back 0 15 row.state (omega (arith, h.0)) (omega arith, h.0),
-      between_back 0 65535 row.tag (omega (arith, h.1)) (omega arith, h.1),
+      between_back 0 (STATES - 1) row.state (omega (arith, h.0)) (omega arith, omega (arith, h.0)),
+      between_back 0 MAX_TAG row.tag (omega (arith, h.1)) (omega arith, h.1),
       between_back 0 1 row.side (omega (arith, h.2)) (omega arith, h.2),
-      between_back 0 15 row.next (omega (arith, h.3)) (omega arith, h.3),
+      between_back 0 (STATES - 1) row.next (omega (arith, h.3)) (omega arith, omega (arith, h.3)),
     ) refl
 
 row_of_back : (row : Row) → IsRow row → row_of (decimal row.state ∷ decimal row.tag ∷ decimal row.side ∷ decimal row.next ∷ []) ≡ Ok row
@@ -182,7 +186,8 @@ word_filled sort.Row x h = rw h.1 (row_filled h.0 h.2)
 -- the texts of words are read as them
 pub words_back : (row : Shape) (i : ℕ) (xs : List (Word (List ℕ))) → AreOf row i xs → words_from row i (map word_text xs) ≡ Ok xs
 words_back row i [] h = refl
-words_back row i (x ∷ xs) h = then_ok (word_at (sort_at row i) (word_text x)) x _ _ (word_back (sort_at row i) x h.0) (then_ok (words_from row (i + 1) (map word_text xs)) xs _ _ (words_back row (i + 1) xs h.1) refl)
+words_back row i (x ∷ xs) h = then_ok (word_at (sort_at row i) (word_text x)) x _ _ (word_back (sort_at row i) x h.0)
+    (then_ok (words_from row (i + 1) (map word_text xs)) xs _ _ (words_back row (i + 1) xs h.1) refl)
 
 pub words_filled : (row : Shape) (i : ℕ) (xs : List (Word (List ℕ))) → AreOf row i xs → list_all is_filled (map word_text xs) ≡ true
 words_filled row i [] h = refl

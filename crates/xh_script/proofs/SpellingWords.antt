@@ -1,11 +1,14 @@
 -- A word that is read as a name, a number, bytes or a row is spelled so.
-use Rattle.std.proofs.Common.{◌≡◌, ◌≤◌, ◌+◌, ◌-◌, ◌*◌, ◌/◌, ◌%◌, ◌==◌, ◌&&◌, ◌||◌, inl, inr, ℕ, Bool, true, false, List, [], ◌∷◌, length, map, Option, Some, None, Result, Ok, Err, refl, sym, ap, ◌∙◌, arith, nat_le, if◌then◌else◌}
+use Rattle.std.proofs.Common.{◌≡◌, ◌≤◌, ◌+◌, ◌-◌, ◌*◌, ◌/◌, ◌%◌, ◌==◌, ◌&&◌, ◌||◌, inl, inr, ℕ, Bool, true, false, List, [], ◌∷◌, length, map, Option, Some, None, Result, Ok, Err, refl}
+use Rattle.std.proofs.Common.{sym, ap, ◌∙◌, arith, nat_le, if◌then◌else◌}
 use Rattle.std.specs.List.{list_all, slice_split, join_with_byte}
 use Rattle.std.specs.Fmt.{decimal}
 use Rattle.std.proofs.lemmas.Bool.{leb-true, lt-ltb, le-ltb, eqb-true, and_parts, cases_Bool}
 use Rattle.std.proofs.lemmas.List.Splits.{join_with_byte-slice_split}
 use Rattle.arrayvec.specs.ArrayVec.{ArrayVec}
 use Rattle.xh_model.specs.declared.row.Row.{Row}
+use Rattle.xh_model.specs.declared.limits.TheConstants.{STATES}
+use Rattle.xh_script.specs.declared.limits.TheConstants.{MAX_TAG}
 use Rattle.xh_script.specs.Words.{is_name, number_of, is_digit, is_hex_letter, is_hex_digit, is_hex, hex_value, hex_bytes}
 use Rattle.xh_script.specs.Steps.{◌>>=◌}
 use Rattle.xh_script.specs.Sorts.{name_at, number_or, number_at, number_between, bytes_at, row_said, row_of, row_at, word_at}
@@ -102,12 +105,12 @@ bytes_ok w bytes h =
 row_said_ok : (s t d n : List ℕ) (r : Row) → row_said s t d n ≡ Ok r → s ∷ t ∷ d ∷ n ∷ [] ≡ decimal r.state ∷ decimal r.tag ∷ decimal r.side ∷ decimal r.next ∷ []
 unfolding row_said
 row_said_ok s t d n r h =
-    let a = bind_ok (number_between 0 15 s) _ r h in
-    let b = bind_ok (number_between 0 65535 t) _ r a.2 in
+    let a = bind_ok (number_between 0 (STATES - 1) s) _ r h in
+    let b = bind_ok (number_between 0 MAX_TAG t) _ r a.2 in
     let c = bind_ok (number_between 0 1 d) _ r b.2 in
-    let e = bind_ok (number_between 0 15 n) _ r c.2 in
+    let e = bind_ok (number_between 0 (STATES - 1) n) _ r c.2 in
     let words : s ∷ t ∷ d ∷ n ∷ [] ≡ decimal a.0 ∷ decimal b.0 ∷ decimal c.0 ∷ decimal e.0 ∷ [] =
-    cc (between_ok 0 15 s a.0 a.1, between_ok 0 65535 t b.0 b.1, between_ok 0 1 d c.0 c.1, between_ok 0 15 n e.0 e.1) in
+    cc (between_ok 0 (STATES - 1) s a.0 a.1, between_ok 0 MAX_TAG t b.0 b.1, between_ok 0 1 d c.0 c.1, between_ok 0 (STATES - 1) n e.0 e.1) in
     words ∙ ap (λ q. decimal q.state ∷ decimal q.tag ∷ decimal q.side ∷ decimal q.next ∷ []) (same_ok (record { state = a.0; tag = b.0; side = c.0; next = e.0 }) r e.2)
 
 row_of_ok : (pieces : List (List ℕ)) (r : Row) → row_of pieces ≡ Ok r → pieces ≡ decimal r.state ∷ decimal r.tag ∷ decimal r.side ∷ decimal r.next ∷ []

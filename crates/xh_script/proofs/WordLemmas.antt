@@ -7,9 +7,6 @@ use Rattle.xh_script.specs.Grammar.{words_from}
 use Rattle.xh_script.specs.Words.{hex_value, hex_bytes}
 use Rattle.xh_script.specs.declared.fault.Kind.{Kind}
 use Rattle.xh_script.specs.declared.command.Word.{Word}
-use Rattle.xh_script.specs.declared.command.Word.TheVariants.{Number}
-use Rattle.xh_script.specs.Operands.{name, blocks}
-use Rattle.std.proofs.lemmas.Option.{slice_get-get_or}
 
 -- what is read beyond the last word
 abbrev pub no_word : Bor (List ℕ)
@@ -42,9 +39,3 @@ pub hex_none : (word : List ℕ) → length word ≤ 1 → hex_bytes word ≡ []
 hex_none [] h = refl
 hex_none (a ∷ []) h = refl
 hex_none (a ∷ b ∷ more) h = absurd (omega arith)
-
--- the blocks from a word on are it and those behind it
-pub blocks_at : (words : List (Word ℕ)) (k : ℕ) → k < length words → blocks words k ≡ name words k ∷ blocks words (k + 1)
-blocks_at words k below =
-    let d : Word ℕ = Number 0 in
-    rw (drop-cons words k d below, slice_get-get_or words k d below, add-one k) refl

@@ -1,6 +1,8 @@
 -- The table of the language: a row for each form of line.
 use Rattle.std.specs.Prelude.{◌≡◌, ℕ, ◌+◌, ◌&&◌, Bool, true, false, List, [], ◌∷◌, length, nat_le, slice_index_or, if◌then◌else◌, Result, Ok, Err, codes}
 use Rattle.std.specs.Str.{bytes_eq}
+use Rattle.xh_model.specs.declared.limits.TheConstants.{MAX_BLOCKS, MAX_BUDGET, MAX_ROWS}
+use Rattle.xh_script.specs.declared.limits.TheConstants.{MAX_GIVEN, MAX_LEN, MAX_TAG}
 use Rattle.xh_script.specs.declared.fault.Kind.{Kind}
 use Rattle.xh_script.specs.declared.fault.Kind.TheVariants.{BadWord}
 use Rattle.xh_script.specs.declared.form.Sort.{Sort}
@@ -20,13 +22,13 @@ abbrev pub number : Sort
 number = sort.Number 0 4294967295
 
 abbrev pub tag : Sort
-tag = sort.Number 0 65535
+tag = sort.Number 0 MAX_TAG
 
 abbrev pub len : Sort
-len = sort.Number 1 32
+len = sort.Number 1 MAX_LEN
 
 abbrev pub budget : Sort
-budget = sort.Number 1 4096
+budget = sort.Number 1 MAX_BUDGET
 
 -- these words, and then some more
 abbrev pub and_more : List Sort → Sort → ℕ → ℕ → Row
@@ -37,7 +39,7 @@ abbrev pub just : List Sort → Row
 just words = and_more words sort.Block 0 0
 
 unfoldable pub shape : Form → Row
-shape Contract = and_more (sort.Contract ∷ []) sort.Row 1 16
+shape Contract = and_more (sort.Contract ∷ []) sort.Row 1 MAX_ROWS
 shape Process = just (sort.Process ∷ [])
 shape Wire = and_more (sort.Process ∷ sort.Block ∷ sort.Process ∷ sort.Block ∷ number ∷ []) sort.Contract 0 1
 shape Open = and_more (sort.Process ∷ sort.Block ∷ sort.Block ∷ number ∷ []) sort.Contract 0 1
@@ -45,9 +47,9 @@ shape Alloc = just (sort.Process ∷ sort.Block ∷ number ∷ number ∷ [])
 shape Split = just (sort.Process ∷ sort.Block ∷ number ∷ sort.Block ∷ [])
 shape Read = just (sort.Process ∷ sort.Block ∷ number ∷ len ∷ [])
 shape Write = just (sort.Process ∷ sort.Block ∷ number ∷ sort.Bytes ∷ [])
-shape Give = and_more (sort.Process ∷ sort.Block ∷ tag ∷ []) sort.Block 0 16
-shape Take = and_more (sort.Process ∷ sort.Block ∷ []) sort.Block 0 8
-shape Await = and_more (sort.Process ∷ sort.Block ∷ []) sort.Block 0 8
+shape Give = and_more (sort.Process ∷ sort.Block ∷ tag ∷ []) sort.Block 0 MAX_GIVEN
+shape Take = and_more (sort.Process ∷ sort.Block ∷ []) sort.Block 0 MAX_BLOCKS
+shape Await = and_more (sort.Process ∷ sort.Block ∷ []) sort.Block 0 MAX_BLOCKS
 shape Free = just (sort.Process ∷ sort.Block ∷ [])
 shape Close = just (sort.Process ∷ sort.Block ∷ [])
 shape Exit = and_more (sort.Process ∷ []) budget 0 1

@@ -2,6 +2,7 @@
 use Rattle.std.specs.Prelude.{ℕ, ◌+◌, ◌&&◌, ◌==◌, Bool, true, List, [], ◌∷◌, length, nat_le, nat_lt, if◌then◌else◌, Option, Some, None, Result, Ok, Err}
 use Rattle.std.specs.List.{list_all, slice_split}
 use Rattle.std.specs.Str.{bytes_eq}
+use Rattle.xh_script.specs.declared.limits.TheConstants.{MAX_LINE}
 use Rattle.xh_script.specs.Steps.{◌>>=◌}
 use Rattle.xh_script.specs.Forms.{Row, shape, sort_at, has_count, form_text, has_text, verb_at}
 use Rattle.xh_script.specs.Sorts.{name_at, word_at}
@@ -61,7 +62,7 @@ is_skipped (b ∷ line) = b == 35
 -- what a line says, or none where the line is skipped
 unfoldable pub said_at : List ℕ → Result (Option (Command (List ℕ))) Kind
 said_at line =
-    if nat_lt 256 (length line) then Err LongLine
+    if nat_lt MAX_LINE (length line) then Err LongLine
     else if is_skipped line then Ok None
     else if list_all is_printable line then (said_by (slice_split (λ b. b == 32) line) >>= λ said. Ok (Some said))
     else Err BadByte

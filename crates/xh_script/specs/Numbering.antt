@@ -2,6 +2,7 @@
 use Rattle.std.specs.Prelude.{ℕ, Bool, true, ◌&&◌, ◌||◌, not, List, [], ◌∷◌, ◌++◌, slice_index_or, slice_set, if◌then◌else◌, is_some, is_none, Option, Some, None, Result, Ok, Err}
 use Rattle.std.specs.List.{list_all}
 use Rattle.xh_model.specs.declared.row.Row.{Row}
+use Rattle.xh_script.specs.declared.limits.TheConstants.{MAX_PROCESSES, MAX_BLOCK_NAMES, MAX_CONTRACTS}
 use Rattle.xh_script.specs.Steps.{◌>>=◌}
 use Rattle.xh_script.specs.Names.{number_in, entered}
 use Rattle.xh_script.specs.Forms.{is_head, declares}
@@ -15,13 +16,13 @@ use Rattle.xh_script.specs.declared.command.Command.{Command}
 use Rattle.xh_script.specs.declared.command.Word.{Word}
 use Rattle.xh_script.specs.declared.command.Word.TheVariants.{Process, Block, Contract, Number, Bytes, Row as RowWord}
 
--- the number of a process, of at most 64
+-- the number of a process
 unfoldable pub process_in : SoFar → List ℕ → Result (ℕ × SoFar) Kind
-process_in r name = entered 64 r.processes name >>= λ e. Ok (e.0, record r { processes = e.1 })
+process_in r name = entered MAX_PROCESSES r.processes name >>= λ e. Ok (e.0, record r { processes = e.1 })
 
--- the number of a block among its process's, of at most 256
+-- the number of a block among its process's
 unfoldable pub block_in : SoFar → ℕ → List ℕ → Result (ℕ × SoFar) Kind
-block_in r p name = entered 256 (slice_index_or r.blocks p []) name >>= λ e. Ok (e.0, record r { blocks = slice_set r.blocks p e.1 })
+block_in r p name = entered MAX_BLOCK_NAMES (slice_index_or r.blocks p []) name >>= λ e. Ok (e.0, record r { blocks = slice_set r.blocks p e.1 })
 
 abbrev pub found : Option ℕ → Result ℕ Kind
 found (Some n) = Ok n
@@ -57,11 +58,14 @@ rows_in [] = []
 rows_in (RowWord row ∷ words) = row ∷ rows_in words
 rows_in (_ ∷ words) = rows_in words
 
--- a new contract, of at most 16, with a valid table
+-- a new contract, with a valid table
 unfoldable pub declared_by : SoFar → List ℕ → List Row → Result (Command ℕ × SoFar) Kind
 declared_by r name rows =
     if is_table rows && is_none (number_in r.declared name) then
-    (entered 16 r.declared name >>= λ e. Ok (record { form = form.Contract; words = record { items = Contract e.0 ∷ [] } }, record r { declared = e.1; contracts = r.contracts ++ rows ∷ [] }))
+    (entered MAX_CONTRACTS r.declared name >>= λ e. Ok (
+      record { form = form.Contract; words = record { items = Contract e.0 ∷ [] } },
+      record r { declared = e.1; contracts = r.contracts ++ rows ∷ [] },
+    ))
     else Err BadContract
 
 unfoldable pub declared : SoFar → List (Word (List ℕ)) → Result (Command ℕ × SoFar) Kind

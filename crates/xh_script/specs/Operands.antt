@@ -1,12 +1,17 @@
 -- What the words of a command say, by their place in its row of the table. A word of another sort, which no row has there, says 0 or nothing.
-use Rattle.std.specs.Prelude.{ℕ, List, [], ◌∷◌, map, drop, slice_get, Option, Some, None}
+use Rattle.std.specs.Prelude.{ℕ, List, [], drop, slice_get, Option, Some, None}
 use Rattle.xh_script.specs.declared.command.Word.{Word}
 use Rattle.xh_script.specs.declared.command.Word.TheVariants.{Process, Block, Contract, Number, Bytes}
 
+-- the number that a word names
+abbrev pub name_in : Word ℕ → ℕ
+name_in (Process n) = n
+name_in (Block n) = n
+name_in _ = 0
+
 abbrev pub name_of : Option (Word ℕ) → ℕ
-name_of (Some (Process n)) = n
-name_of (Some (Block n)) = n
-name_of _ = 0
+name_of (Some word) = name_in word
+name_of None = 0
 
 -- the number of a process or of a block
 abbrev pub name : List (Word ℕ) → ℕ → ℕ
@@ -38,6 +43,6 @@ bytes_of _ = []
 abbrev pub bytes : List (Word ℕ) → ℕ → List ℕ
 bytes words i = bytes_of (slice_get words i)
 
--- the numbers of the blocks from a place on
-abbrev pub blocks : List (Word ℕ) → ℕ → List ℕ
-blocks words i = map (λ w. name_of (Some w)) (drop i words)
+-- the words from a place on
+abbrev pub from : List (Word ℕ) → ℕ → List (Word ℕ)
+from words i = drop i words

@@ -3,6 +3,8 @@ use Rattle.std.specs.Prelude.{◌≡◌, ◌<◌, ◌≤◌, ◌+◌, ◌^◌, �
 use Rattle.std.specs.List.{list_all}
 use Rattle.arrayvec.specs.ArrayVec.{ArrayVec}
 use Rattle.xh_model.specs.declared.row.Row.{Row}
+use Rattle.xh_model.specs.declared.limits.TheConstants.{STATES}
+use Rattle.xh_script.specs.declared.limits.TheConstants.{MAX_HEX, MAX_TAG}
 use Rattle.xh_script.specs.Words.{is_name}
 use Rattle.xh_script.specs.Forms.{Row as Shape, shape, sort_at, has_count}
 use Rattle.xh_script.specs.declared.form.Sort.{Sort}
@@ -18,11 +20,10 @@ abbrev pub IsBetween : ℕ → ℕ → ℕ → Type 0
 IsBetween low high n = (low ≤ n) × (n ≤ high)
 
 abbrev pub IsRow : Row → Type 0
-IsRow row = (row.state ≤ 15) × (row.tag ≤ 65535) × (row.side ≤ 1) × (row.next ≤ 15)
+IsRow row = (row.state < STATES) × (row.tag ≤ MAX_TAG) × (row.side ≤ 1) × (row.next < STATES)
 
--- 1 to 32 bytes
 abbrev pub AreBytes : List ℕ → Type 0
-AreBytes bytes = (list_all (λ b. nat_lt b 256) bytes ≡ true) × IsBetween 1 32 (length bytes)
+AreBytes bytes = (list_all (λ b. nat_lt b 256) bytes ≡ true) × IsBetween 1 MAX_HEX (length bytes)
 
 -- a word is of a sort
 abbrev pub IsOf : Sort → Word (List ℕ) → Type 0

@@ -2,6 +2,7 @@
 use Rattle.std.specs.Prelude.{◌≡◌, ℕ, ◌+◌, ◌==◌, false, List, [], ◌∷◌, ◌++◌, length, replicate, nat_lt, if◌then◌else◌, Option, Some, None, Result, Ok, Err, ⊤}
 use Rattle.std.specs.List.{slice_split}
 use Rattle.xh_model.specs.declared.row.Row.{Row}
+use Rattle.xh_script.specs.declared.limits.TheConstants.{MAX_COMMANDS, MAX_PROCESSES, MAX_SCRIPT}
 use Rattle.xh_script.specs.Steps.{◌>>=◌}
 use Rattle.xh_script.specs.SoFar.{SoFar}
 use Rattle.xh_script.specs.Grammar.{said_at}
@@ -14,10 +15,10 @@ use Rattle.xh_script.specs.declared.command.Command.{Command}
 use Rattle.xh_script.specs.declared.command.Line.{Line}
 use Rattle.xh_script.specs.declared.script.Script.{Script}
 
--- one more command, of at most 4,096
+-- one more command
 unfoldable pub with_line : SoFar → ℕ → Command ℕ → Result SoFar Kind
 with_line r number command =
-    if nat_lt (length r.lines) 4096 then Ok (record r { lines = r.lines ++ record { number = number; command = command } ∷ [] })
+    if nat_lt (length r.lines) MAX_COMMANDS then Ok (record r { lines = r.lines ++ record { number = number; command = command } ∷ [] })
     else Err TooLong
 
 -- what a line says, or nothing where it is skipped
@@ -39,7 +40,7 @@ after_lines r number (line ∷ lines) = at_line number (after_line r number line
 
 -- nothing has been read
 abbrev pub nothing_read : SoFar
-nothing_read = record { lines = []; processes = []; blocks = replicate 64 []; declared = []; contracts = []; begun = false }
+nothing_read = record { lines = []; processes = []; blocks = replicate MAX_PROCESSES []; declared = []; contracts = []; begun = false }
 
 -- the commands of a script, the names of its processes by number, and its contracts by number
 pub record Listing : Type 0 where
@@ -56,7 +57,7 @@ listing_of s = record { lines = s.lines.items; processes = s.processes.items; co
 -- the script that a text is, or its fault
 unfoldable pub script_of : List ℕ → Result Listing Fault
 script_of text =
-    if nat_lt 1048576 (length text) then Err (ScriptFault 0 TooLong)
+    if nat_lt MAX_SCRIPT (length text) then Err (ScriptFault 0 TooLong)
     else after_lines nothing_read 1 (slice_split (λ b. b == 10) text) >>= λ r. Ok (listing_so_far r)
 
 -- ---- what a function answers where reading gives this, unless memory runs out

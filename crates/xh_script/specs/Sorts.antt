@@ -1,8 +1,10 @@
 -- What a word says that is of a sort.
-use Rattle.std.specs.Prelude.{ℕ, ◌&&◌, ◌==◌, List, [], ◌∷◌, nat_le, if◌then◌else◌, Option, Some, None, Result, Ok, Err}
+use Rattle.std.specs.Prelude.{ℕ, ◌-◌, ◌&&◌, ◌==◌, List, [], ◌∷◌, nat_le, if◌then◌else◌, Option, Some, None, Result, Ok, Err}
 use Rattle.std.specs.List.{slice_split}
 use Rattle.arrayvec.specs.ArrayVec.{ArrayVec}
 use Rattle.xh_model.specs.declared.row.Row.{Row}
+use Rattle.xh_model.specs.declared.limits.TheConstants.{STATES}
+use Rattle.xh_script.specs.declared.limits.TheConstants.{MAX_TAG}
 use Rattle.xh_script.specs.Words.{is_name, number_of, is_hex, hex_bytes}
 use Rattle.xh_script.specs.Steps.{◌>>=◌}
 use Rattle.xh_script.specs.declared.fault.Kind.{Kind}
@@ -32,10 +34,10 @@ bytes_at word = if is_hex word then Ok (record { items = hex_bytes word }) else 
 -- four numbers joined by `:`, the state, the tag, the sending side and the next state
 unfoldable pub row_said : List ℕ → List ℕ → List ℕ → List ℕ → Result Row Kind
 row_said state tag side next = do
-  s ← number_between 0 15 state
-  t ← number_between 0 65535 tag
+  s ← number_between 0 (STATES - 1) state
+  t ← number_between 0 MAX_TAG tag
   d ← number_between 0 1 side
-  n ← number_between 0 15 next
+  n ← number_between 0 (STATES - 1) next
   Ok (record { state = s; tag = t; side = d; next = n })
 
 unfoldable pub row_of : List (List ℕ) → Result Row Kind

@@ -15,6 +15,6 @@ abbrev pub all_agree : List Row → Bool
 all_agree [] = true
 all_agree (row ∷ rows) = list_all (agree row) rows && all_agree rows
 
--- 1 to 16 rows in range, of which each two agree
+-- rows in range, of which each two agree
 unfoldable pub is_table : List Row → Bool
 is_table rows = nat_le 1 (length rows) && nat_le (length rows) MAX_ROWS && list_all is_row rows && all_agree rows

@@ -106,7 +106,8 @@ state_text EndedState = codes "ended"
 
 -- `arena A SIZE OUT HOLES TAKEN BACK`
 unfoldable pub arena_text : ℕ → ArenaLine → List ℕ
-arena_text n a = concat (codes "arena " ∷ decimal n ∷ codes " " ∷ decimal a.size ∷ codes " " ∷ decimal a.out ∷ codes " " ∷ decimal a.holes ∷ codes " " ∷ decimal a.taken ∷ codes " " ∷ decimal a.back ∷ codes "\n" ∷ [])
+arena_text n a = concat (codes "arena " ∷ decimal n ∷ codes " " ∷ decimal a.size ∷ codes " " ∷ decimal a.out
+    ∷ codes " " ∷ decimal a.holes ∷ codes " " ∷ decimal a.taken ∷ codes " " ∷ decimal a.back ∷ codes "\n" ∷ [])
 
 -- the arenas' lines, numbered from n on
 abbrev pub arena_texts : ℕ → List ArenaLine → List ℕ

@@ -1,22 +1,24 @@
 //! Commands: what the lines of a script say.
 ghost use Rattle.std.specs.Prelude.{◌≡◌, ◌≤◌, length};
-ghost use Rattle.xh_script.specs.Operands.{name, number, number_or, contract, bytes, blocks};
+ghost use Rattle.xh_script.specs.declared.limits.TheConstants.{MAX_WORDS};
+ghost use Rattle.xh_script.specs.Operands.{name_in, name, number, number_or, contract, bytes, from};
 
 use crate::Form;
+use crate::limits::{MAX_HEX, MAX_WORDS};
 use arrayvec::ArrayVec;
 use xh_model::Row;
 
 /// What a word of a line says. `N` stands for a name: a `Name` as it is read, or its number. A
-/// process's number is its place among the names of processes (at most 64), a block's that among the
-/// names of its process's blocks (at most 256), a contract's that among the contracts (at most 16).
+/// process's number is its place among the names of processes, a block's that among the names of its
+/// process's blocks, a contract's that among the contracts.
 #[derive(Debug, Drop)]
 pub enum Word<N> {
     Process(N),
     Block(N),
     Contract(N),
     Number(u32),
-    /// 1 to 32 bytes.
-    Bytes(ArrayVec<u8, 32>),
+    /// At least one byte.
+    Bytes(ArrayVec<u8, MAX_HEX>),
     Row(Row),
 }
 
@@ -30,7 +32,7 @@ impl<N> Default for Word<N> {
 #[derive(Debug, Drop)]
 pub struct Command<N> {
     pub form: Form,
-    pub words: ArrayVec<Word<N>, 19>,
+    pub words: ArrayVec<Word<N>, MAX_WORDS>,
 }
 
 /// A command with the number of its line, from 1 on; lines without a command count too.
@@ -40,15 +42,27 @@ pub struct Line {
     pub command: Command<u8>,
 }
 
+impl Word<u8> {
+    /// The number of the process or of the block that the word names.
+    pub fn name(&self) -> u8
+        ensures { result ≡ name_in self.now }
+    {
+        match self {
+            Word::Process(name) => *name,
+            Word::Block(name) => *name,
+            _ => 0,
+        }
+    }
+}
+
 impl Command<u8> {
     /// The number of the process or of the block that the word at `i` names.
     pub fn name(&self, i: usize) -> u8
         ensures { result ≡ name self.now.words.items i }
     {
         match self.words.get(i) {
-            Some(Word::Process(name)) => *name,
-            Some(Word::Block(name)) => *name,
-            _ => 0,
+            Some(word) => word.name(),
+            None => 0,
         }
     }
 
@@ -89,15 +103,14 @@ impl Command<u8> {
         }
     }
 
-    /// The numbers of the blocks from the word at `i` on.
-    pub fn blocks(&self, i: usize) -> ArrayVec<u8, 19>
-        ensures is { result.items ≡ blocks self.now.words.items i }
-        ensures within { length result.items ≤ 19 }
+    /// The words from the one at `i` on.
+    pub fn from(&self, i: usize) -> &[Word<u8>]
+        ensures is { result.now ≡ from self.now.words.items i }
+        ensures within { length result.now ≤ MAX_WORDS }
     {
-        let mut blocks = ArrayVec::new();
-        for k in i..self.words.len() {
-            blocks.push(self.name(k));
+        match self.words.get(i..) {
+            Some(words) => words,
+            None => &[],
         }
-        blocks
     }
 }

@@ -8,10 +8,10 @@ use std::alloc::{AllocError, AllocFailed};
 /// What is wrong with a line of a script, or with the whole.
 #[derive(Clone, Copy, Debug, PartialEq, Eq)]
 pub enum Kind {
-    /// More than 1,048,576 bytes (told at line 0), 4,096 commands, 64 names of processes, 256
-    /// names of blocks of one process, or 16 contracts.
+    /// More bytes (a fault of line 0), commands, names of processes, names of blocks of one process
+    /// or contracts than `limits` has.
     TooLong,
-    /// A line of more than 256 bytes without its line feed.
+    /// A line of more bytes than `limits` has, without its line feed.
     LongLine,
     /// A byte of a command that is no printable ASCII.
     BadByte,
@@ -21,7 +21,7 @@ pub enum Kind {
     BadCount,
     /// A word that is no number, or one outside its range.
     BadNumber,
-    /// A word that is not 1 to 32 bytes in lower-case hexadecimal digits.
+    /// A word that is no HEX: lower-case hexadecimal digits, two for each of 1 to 32 bytes.
     BadHex,
     /// A `contract`, `process` or `wire` behind another command.
     LateHead,

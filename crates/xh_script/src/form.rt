@@ -1,9 +1,12 @@
 //! The table of the language: a row for each form of line.
 ghost use Rattle.std.specs.Prelude.{◌≡◌, ◌≤◌, ◌+◌, length, true};
 ghost use Rattle.xh_script.specs.Forms.{just, and_more, shape, is_head, declares, verb_at, sort_at, has_count};
+ghost use Rattle.xh_script.specs.declared.limits.TheConstants.{MAX_WORDS};
 
 use crate::Kind;
+use crate::limits::{MAX_GIVEN, MAX_LEN, MAX_TAG};
 use std::marker::Model;
+use xh_model::limits::{MAX_BLOCKS, MAX_BUDGET, MAX_ROWS};
 
 /// What a word of a line has to be.
 #[derive(Clone, Copy, Debug)]
@@ -70,14 +73,17 @@ const NUMBER: Sort = Sort::Number {
 
 const TAG: Sort = Sort::Number {
     least: 0,
-    most: 65_535,
+    most: MAX_TAG,
 };
 
-const LEN: Sort = Sort::Number { least: 1, most: 32 };
+const LEN: Sort = Sort::Number {
+    least: 1,
+    most: MAX_LEN,
+};
 
 const BUDGET: Sort = Sort::Number {
     least: 1,
-    most: 4096,
+    most: MAX_BUDGET as u32,
 };
 
 /// These words and no more.
@@ -104,10 +110,10 @@ impl Form {
     #[tactic(auto, unfolding(crate::specs::Forms::shape))]
     pub(crate) fn shape(self) -> Shape
         ensures is { result ≡ shape self }
-        ensures fits { (length (shape self).words + (shape self).most ≤ 19) × ((shape self).least ≤ (shape self).most) }
+        ensures fits { (length (shape self).words + (shape self).most ≤ MAX_WORDS) × ((shape self).least ≤ (shape self).most) }
     {
         match self {
-            Form::Contract => and_more(&[Sort::Contract], Sort::Row, 1, 16),
+            Form::Contract => and_more(&[Sort::Contract], Sort::Row, 1, MAX_ROWS),
             Form::Process => just(&[Sort::Process]),
             Form::Wire => and_more(
                 &[
@@ -131,8 +137,18 @@ impl Form {
             Form::Split => just(&[Sort::Process, Sort::Block, NUMBER, Sort::Block]),
             Form::Read => just(&[Sort::Process, Sort::Block, NUMBER, LEN]),
             Form::Write => just(&[Sort::Process, Sort::Block, NUMBER, Sort::Bytes]),
-            Form::Give => and_more(&[Sort::Process, Sort::Block, TAG], Sort::Block, 0, 16),
-            Form::Take | Form::Await => and_more(&[Sort::Process, Sort::Block], Sort::Block, 0, 8),
+            Form::Give => and_more(
+                &[Sort::Process, Sort::Block, TAG],
+                Sort::Block,
+                0,
+                MAX_GIVEN,
+            ),
+            Form::Take | Form::Await => and_more(
+                &[Sort::Process, Sort::Block],
+                Sort::Block,
+                0,
+                MAX_BLOCKS,
+            ),
             Form::Free | Form::Close => just(&[Sort::Process, Sort::Block]),
             Form::Exit => and_more(&[Sort::Process], BUDGET, 0, 1),
             Form::Kill => and_more(&[Sort::Process, Sort::Process], BUDGET, 0, 1),
@@ -207,9 +223,9 @@ impl Shape {
 
     /// Whether a line of the form may have so many words.
     pub(crate) fn has_count(&self, count: usize) -> bool
-        requires { (length self.now.words + self.now.most ≤ 19) × (self.now.least ≤ self.now.most) }
+        requires { (length self.now.words + self.now.most ≤ MAX_WORDS) × (self.now.least ≤ self.now.most) }
         ensures is { result ≡ has_count self.now count }
-        ensures within { result ≡ true → count ≤ 19 }
+        ensures within { result ≡ true → count ≤ MAX_WORDS }
     {
         self.words.len() + self.least <= count && count <= self.words.len() + self.most
     }

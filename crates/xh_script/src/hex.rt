@@ -1,8 +1,10 @@
 //! Hexadecimal digits.
-ghost use Rattle.std.specs.Prelude.{◌≡◌, ◌≤◌, length};
+ghost use Rattle.std.specs.Prelude.{◌≡◌, ◌≤◌, ◌*◌, length};
 ghost use Rattle.std.specs.List.{list_all};
 ghost use Rattle.xh_script.specs.Words.{is_digit, is_hex_letter, is_hex_digit, is_hex, hex_value, hex_bytes};
+ghost use Rattle.xh_script.specs.declared.limits.TheConstants.{MAX_HEX};
 
+use crate::limits::MAX_HEX;
 use arrayvec::ArrayVec;
 
 fn is_hex_letter(b: u8) -> bool
@@ -23,11 +25,11 @@ fn has_hex_digits(word: &[u8]) -> bool
     word.iter().all(|b| is_hex_digit(*b))
 }
 
-/// Whether a word is 2 to 64 hexadecimal digits in lower case, an even count of them.
+/// Whether a word is hexadecimal digits in lower case, two for each byte, of one byte or more.
 pub(crate) fn is_hex(word: &[u8]) -> bool
     ensures { result ≡ is_hex word.now }
 {
-    2 <= word.len() && word.len() <= 64 && word.len() % 2 == 0 && has_hex_digits(word)
+    2 <= word.len() && word.len() <= 2 * MAX_HEX && word.len() % 2 == 0 && has_hex_digits(word)
 }
 
 /// What a hexadecimal digit says.
@@ -45,8 +47,8 @@ fn hex_value(b: u8) -> u8
 }
 
 /// The bytes that pairs of hexadecimal digits say.
-pub(crate) fn hex_bytes(word: &[u8]) -> ArrayVec<u8, 32>
-    requires { length word.now ≤ 64 }
+pub(crate) fn hex_bytes(word: &[u8]) -> ArrayVec<u8, MAX_HEX>
+    requires { length word.now ≤ 2 * MAX_HEX }
     ensures { result.items ≡ hex_bytes word.now }
 {
     let mut bytes = ArrayVec::new();

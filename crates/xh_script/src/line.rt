@@ -4,6 +4,7 @@ ghost use Rattle.std.specs.List.{list_all};
 ghost use Rattle.xh_script.specs.Steps.{Answers};
 ghost use Rattle.xh_script.specs.Grammar.{said, head_line, verb_line, is_filled, line_by, said_by, is_printable, is_skipped, said_at};
 
+use crate::limits::MAX_LINE;
 use crate::name::is_name;
 use crate::pieces::pieces;
 use crate::word::words_of;
@@ -119,7 +120,7 @@ fn is_skipped(line: &[u8]) -> bool
 pub(crate) fn said_at(alloc: Global, line: &[u8]) -> Result<Option<Command<Name>>, Stop>
     ensures { Answers (λ c. c) result (said_at line.now) }
 {
-    if line.len() > 256 {
+    if line.len() > MAX_LINE {
         return Err(Stop::Bad(Kind::LongLine));
     }
     if is_skipped(line) {

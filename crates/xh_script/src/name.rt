@@ -8,15 +8,17 @@ ghost use Rattle.std.specs.Cmp.{partial_equiv_from_equiv};
 ghost use Rattle.std.specs.Hash as fed;
 ghost use Rattle.std.proofs.Common.{rules};
 ghost use Rattle.std.proofs.lemmas.Slice.Eq.{bytes_eq-Decides};
+ghost use Rattle.xh_script.specs.declared.limits.TheConstants.{MAX_NAME};
 
+use crate::limits::MAX_NAME;
 use arrayvec::ArrayVec;
 use std::hash::{Hash, Hasher};
 use std::marker::Model;
 
-/// A name: a lower-case letter, and up to 15 such letters or digits.
+/// A name: a lower-case letter, and then such letters or digits, 16 in all at most.
 #[derive(Debug, Drop)]
 pub struct Name {
-    letters: ArrayVec<u8, 16>,
+    letters: ArrayVec<u8, MAX_NAME>,
 }
 
 impl Model for Name {
@@ -81,14 +83,14 @@ pub(crate) fn is_name(word: &[u8]) -> bool
     ensures { result ≡ is_name word.now }
 {
     !word.is_empty()
-        && word.len() <= 16
+        && word.len() <= MAX_NAME
         && word[0].is_ascii_lowercase()
         && has_name_bytes(word)
         && !is_keyword(word)
 }
 
-fn letters_of(word: &[u8]) -> ArrayVec<u8, 16>
-    requires { length word.now ≤ 16 }
+fn letters_of(word: &[u8]) -> ArrayVec<u8, MAX_NAME>
+    requires { length word.now ≤ MAX_NAME }
     ensures { result.items ≡ word.now }
 {
     let mut letters = ArrayVec::new();

@@ -2,13 +2,14 @@
 ghost use Rattle.std.specs.Prelude.{◌≡◌, ◌≤◌, ◌<◌, ◌++◌, ◌∷◌, [], None, IfOk, IfErr, OnOk, IfSome, length};
 ghost use Rattle.xh_script.specs.Steps.{Answers};
 ghost use Rattle.xh_script.specs.Names.{number_in, entered};
+ghost use Rattle.xh_script.specs.declared.limits.TheConstants.{MAX_BLOCK_NAMES};
 
 use crate::{Kind, Name, Stop};
 use std::alloc::Global;
 use std::collections::HashMap;
 use std::marker::Model;
 
-/// Up to 256 different names. The number of a name is its place among them.
+/// Different names, at most as many as a process has for its blocks. The number of a name is its place among them.
 #[derive(Drop)]
 pub(crate) struct Names {
     names: Vec<Name>,
@@ -20,12 +21,13 @@ impl Model for Names {
     ghost use Rattle.std.specs.HashMap.{get};
     ghost use Rattle.std.specs.Str.{bytes_eq};
     ghost use Rattle.xh_script.specs.Names.{number_in};
+    ghost use Rattle.xh_script.specs.declared.limits.TheConstants.{MAX_BLOCK_NAMES};
 
     ghost Value = { List (List ℕ) };
 
     ghost view = { λ n. n.names.items };
 
-    ghost invariant = { λ n. (length n.names.items ≤ 256) × ((q : List ℕ) → get bytes_eq n.numbers q ≡ number_in n.names.items q) };
+    ghost invariant = { λ n. (length n.names.items ≤ MAX_BLOCK_NAMES) × ((q : List ℕ) → get bytes_eq n.numbers q ≡ number_in n.names.items q) };
 }
 
 impl Names {
@@ -49,7 +51,7 @@ impl Names {
 
     /// Adds a new name behind the others.
     fn add(&mut self, name: &Name) -> Result<(), Stop>
-        requires room { length self.old < 256 }
+        requires room { length self.old < MAX_BLOCK_NAMES }
         requires new { number_in self.old name.now ≡ None }
         ensures added { OnOk result (self.new ≡ self.old ++ name.now ∷ []) }
         ensures refused { IfErr result (λ stop. (stop ≡ Stop.Memory) × (self.new ≡ self.old)) }
@@ -68,7 +70,7 @@ impl Names {
     /// The number of a name, which comes behind the others if it is new.
     #[tactic(auto, unfolding(crate::specs::Names::entered))]
     pub(crate) fn enter(&mut self, most: usize, name: &Name) -> Result<u8, Stop>
-        requires { most ≤ 256 }
+        requires { most ≤ MAX_BLOCK_NAMES }
         ensures gives { Answers (λ n. (n, self.new)) result (entered most self.old name.now) }
         ensures within { length self.old ≤ most → IfOk result (λ n. n < most) }
         ensures short { length self.old ≤ most → length self.new ≤ most }

@@ -1,11 +1,15 @@
 //! Numbers.
-ghost use Rattle.std.specs.Prelude.{◌≡◌, ◌<◌, ◌≤◌, true, length, IfSome, IfOk};
+ghost use Rattle.std.specs.Prelude.{◌≡◌, ◌-◌, ◌<◌, ◌≤◌, true, length, IfSome, IfOk};
 ghost use Rattle.std.specs.List.{list_all};
 ghost use Rattle.std.specs.Fmt.{decimal};
 ghost use Rattle.xh_script.specs.Words.{is_digit, has_no_zero_in_front, is_numeral, number_of, value_of};
 ghost use Rattle.xh_script.specs.Sorts.{number_at, number_between};
+ghost use Rattle.xh_model.specs.declared.limits.TheConstants.{STATES};
+ghost use Rattle.xh_script.specs.declared.limits.TheConstants.{MAX_DIGITS, MAX_TAG};
 
 use crate::Kind;
+use crate::limits::{MAX_DIGITS, MAX_TAG};
+use xh_model::limits::STATES;
 
 fn has_no_zero_in_front(word: &[u8]) -> bool
     requires { 0 < length word.now }
@@ -20,16 +24,16 @@ fn has_digits(word: &[u8]) -> bool
     word.iter().all(|b| b.is_ascii_digit())
 }
 
-/// Whether a word is up to ten digits, with no zero in front of others.
+/// Whether a word is digits, with no zero in front of others.
 fn is_numeral(word: &[u8]) -> bool
     ensures { result ≡ is_numeral word.now }
 {
-    !word.is_empty() && word.len() <= 10 && has_no_zero_in_front(word) && has_digits(word)
+    !word.is_empty() && word.len() <= MAX_DIGITS && has_no_zero_in_front(word) && has_digits(word)
 }
 
 /// What digits say.
 fn value_of(digits: &[u8]) -> u64
-    requires { length digits.now ≤ 10 }
+    requires { length digits.now ≤ MAX_DIGITS }
     ensures { result ≡ value_of digits.now }
 {
     let mut value = 0u64;
@@ -83,9 +87,9 @@ pub(crate) fn number_between(low: u32, high: u32, word: &[u8]) -> Result<u32, Ki
 
 /// A state of a contract.
 pub(crate) fn state_at(word: &[u8]) -> Result<u8, Kind>
-    ensures { result ≡ number_between 0 15 word.now }
+    ensures { result ≡ number_between 0 (STATES - 1) word.now }
 {
-    let number = number_between(0, 15, word)?;
+    let number = number_between(0, u32::from(STATES) - 1, word)?;
     Ok(number as u8)
 }
 
@@ -99,8 +103,8 @@ pub(crate) fn side_at(word: &[u8]) -> Result<u8, Kind>
 
 /// A tag.
 pub(crate) fn tag_at(word: &[u8]) -> Result<u16, Kind>
-    ensures { result ≡ number_between 0 65535 word.now }
+    ensures { result ≡ number_between 0 MAX_TAG word.now }
 {
-    let number = number_between(0, 65_535, word)?;
+    let number = number_between(0, MAX_TAG, word)?;
     Ok(number as u16)
 }

@@ -3,7 +3,9 @@ ghost use Rattle.std.specs.Prelude.{◌≡◌, ◌<◌, ◌≤◌, IfOk, length}
 ghost use Rattle.std.specs.List.{list_all};
 ghost use Rattle.xh_script.specs.Steps.{Answers};
 ghost use Rattle.xh_script.specs.Numbering.{word_in, words_in, is_known, numbered, rows_in, declared_by, declared, placed};
+ghost use Rattle.xh_script.specs.declared.limits.TheConstants.{MAX_HEX, MAX_PROCESSES, MAX_WORDS};
 
+use crate::limits::{MAX_CONTRACTS, MAX_HEX, MAX_WORDS};
 use crate::reading::Reading;
 use crate::table::table_of;
 use crate::{Command, Form, Kind, Name, Stop, Word};
@@ -11,8 +13,8 @@ use arrayvec::ArrayVec;
 use xh_model::Row;
 
 /// The same bytes once more.
-fn copy_of(bytes: &[u8]) -> ArrayVec<u8, 32>
-    requires { length bytes.now ≤ 32 }
+fn copy_of(bytes: &[u8]) -> ArrayVec<u8, MAX_HEX>
+    requires { length bytes.now ≤ MAX_HEX }
     ensures { result.items ≡ bytes.now }
 {
     let mut copy = ArrayVec::new();
@@ -23,8 +25,8 @@ fn copy_of(bytes: &[u8]) -> ArrayVec<u8, 32>
 }
 
 /// The rows among words.
-fn rows_in(words: &[Word<Name>]) -> ArrayVec<Row, 19>
-    requires { length words.now ≤ 19 }
+fn rows_in(words: &[Word<Name>]) -> ArrayVec<Row, MAX_WORDS>
+    requires { length words.now ≤ MAX_WORDS }
     ensures { result.items ≡ rows_in words.now }
 {
     let mut rows = ArrayVec::new();
@@ -41,9 +43,9 @@ impl Reading {
     /// named last then.
     #[tactic(auto, unfolding(crate::specs::Numbering::word_in), using(crate::proofs::Readings::stops_then))]
     fn number(&mut self, process: u8, word: &Word<Name>) -> Result<(u8, Word<u8>), Stop>
-        requires { process < 64 }
+        requires { process < MAX_PROCESSES }
         ensures gives { Answers (λ w. (w.0, w.1, self.new)) result (word_in self.old process word.now) }
-        ensures within { IfOk result (λ w. w.0 < 64) }
+        ensures within { IfOk result (λ w. w.0 < MAX_PROCESSES) }
     {
         match word {
             Word::Process(name) => {
@@ -65,8 +67,8 @@ impl Reading {
     }
 
     /// Words with numbers for their names, from left to right.
-    fn numbers(&mut self, words: &[Word<Name>]) -> Result<ArrayVec<Word<u8>, 19>, Stop>
-        requires { length words.now ≤ 19 }
+    fn numbers(&mut self, words: &[Word<Name>]) -> Result<ArrayVec<Word<u8>, MAX_WORDS>, Stop>
+        requires { length words.now ≤ MAX_WORDS }
         ensures { Answers (λ ws. (ws.items, self.new)) result (words_in self.old 0 words.now) }
     {
         let mut process = 0;
@@ -98,7 +100,7 @@ impl Reading {
     /// A command of words that names what was declared before.
     #[tactic(auto, unfolding(crate::specs::Numbering::numbered), using(crate::proofs::Readings::stops_then))]
     fn numbered(&mut self, form: Form, words: &[Word<Name>]) -> Result<Command<u8>, Stop>
-        requires { length words.now ≤ 19 }
+        requires { length words.now ≤ MAX_WORDS }
         ensures { Answers (λ c. (c, self.new)) result (numbered self.old form words.now) }
     {
         if !self.are_known(words) {
@@ -119,7 +121,7 @@ impl Reading {
         if self.declared.number(name).is_some() {
             return Err(Stop::Bad(Kind::BadContract));
         }
-        let contract = self.declared.enter(16, name)?;
+        let contract = self.declared.enter(MAX_CONTRACTS, name)?;
         self.contracts.push(table)?;
         let mut words = ArrayVec::new();
         words.push(Word::Contract(contract));
@@ -132,7 +134,7 @@ impl Reading {
     /// The contract that a line declares.
     #[tactic(auto, unfolding(crate::specs::Numbering::declared), using(crate::proofs::Readings::stops_then))]
     fn declare(&mut self, words: &[Word<Name>]) -> Result<Command<u8>, Stop>
-        requires { length words.now ≤ 19 }
+        requires { length words.now ≤ MAX_WORDS }
         ensures { Answers (λ c. (c, self.new)) result (declared self.old words.now) }
     {
         let [first, rows @ ..] = words else {

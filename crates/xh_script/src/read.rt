@@ -3,22 +3,21 @@ ghost use Rattle.std.specs.Prelude.{◌≡◌, ◌≤◌, ◌==◌, length};
 ghost use Rattle.xh_script.specs.Steps.{Answers};
 ghost use Rattle.xh_script.specs.Scripts.{with_line, with_command, at_line, after_line, after_lines, nothing_read, script_of, listing_of, Gives};
 ghost use Rattle.std.specs.List.{slice_split};
+ghost use Rattle.xh_script.specs.declared.limits.TheConstants.{MAX_SCRIPT};
 
+use crate::limits::{MAX_COMMANDS, MAX_SCRIPT};
 use crate::line::said_at;
 use crate::pieces::pieces;
 use crate::reading::Reading;
 use crate::{Command, Fault, Kind, Line, Name, Script, Stop};
 use std::alloc::Global;
 
-/// The most bytes of a script.
-pub const SCRIPT_LIMIT: usize = 1_048_576;
-
 /// Adds a command.
 #[tactic(auto, unfolding(crate::specs::Scripts::with_line))]
 fn add_line(reading: &mut Reading, number: u32, command: Command<u8>) -> Result<(), Stop>
     ensures { Answers (λ _. reading.new) result (with_line reading.old number command) }
 {
-    if reading.lines.len() >= 4096 {
+    if reading.lines.len() >= MAX_COMMANDS {
         return Err(Stop::Bad(Kind::TooLong));
     }
     reading.lines.push(Line { number, command })?;
@@ -61,7 +60,7 @@ fn read_line(alloc: Global, reading: &mut Reading, number: u32, line: &[u8]) -> 
 
 /// Reads all lines of a text.
 fn read_lines(alloc: Global, text: &[u8]) -> Result<Reading, Fault>
-    requires { length text.now ≤ 1048576 }
+    requires { length text.now ≤ MAX_SCRIPT }
     ensures { Gives (λ r. r) result (after_lines nothing_read 1 (slice_split (λ b. b == 10) text.now)) }
 {
     let lines = pieces(alloc, text, b'\n')?;
@@ -78,7 +77,7 @@ fn read_lines(alloc: Global, text: &[u8]) -> Result<Reading, Fault>
 pub fn read_script(alloc: Global, text: &[u8]) -> Result<Script, Fault>
     ensures { Gives listing_of result (script_of text.now) }
 {
-    if text.len() > SCRIPT_LIMIT {
+    if text.len() > MAX_SCRIPT {
         return Err(Fault::Script {
             line: 0,
             kind: Kind::TooLong,

@@ -3,15 +3,14 @@ ghost use Rattle.std.specs.Prelude.{◌≡◌, ◌<◌, IfOk};
 ghost use Rattle.xh_script.specs.Steps.{Answers};
 ghost use Rattle.xh_script.specs.Numbering.{process_in, block_in};
 ghost use Rattle.xh_script.specs.Scripts.{nothing_read, listing_of, listing_so_far};
+ghost use Rattle.xh_script.specs.declared.limits.TheConstants.{MAX_PROCESSES};
 
+use crate::limits::{MAX_BLOCK_NAMES, MAX_PROCESSES};
 use crate::names::Names;
 use crate::{Line, Name, Script, Stop};
 use std::alloc::{AllocError, Global};
 use std::marker::Model;
 use xh_core::Contract;
-
-/// How many names of processes a script may have.
-const PROCESSES: usize = 64;
 
 /// What has been read of a script: the commands; the names of processes, of the blocks of each
 /// process by number, and of contracts; the contracts; and whether a command came that is no head
@@ -29,12 +28,13 @@ pub(crate) struct Reading {
 impl Model for Reading {
     ghost use Rattle.std.specs.Prelude.{◌≡◌, ◌≤◌, length};
     ghost use Rattle.xh_script.specs.SoFar.{SoFar};
+    ghost use Rattle.xh_script.specs.declared.limits.TheConstants.{MAX_PROCESSES, MAX_CONTRACTS};
 
     ghost Value = { SoFar };
 
     ghost view = { λ r. record { lines = r.lines.items; processes = r.processes; blocks = r.blocks.items; declared = r.declared; contracts = r.contracts.items; begun = r.begun } };
 
-    ghost invariant = { λ r. (length r.processes ≤ 64) × (length r.blocks.items ≡ 64) × (length r.declared ≤ 16) };
+    ghost invariant = { λ r. (length r.processes ≤ MAX_PROCESSES) × (length r.blocks.items ≡ MAX_PROCESSES) × (length r.declared ≤ MAX_CONTRACTS) };
 }
 
 impl Reading {
@@ -43,7 +43,7 @@ impl Reading {
         ensures { IfOk result (λ r. r ≡ nothing_read) }
     {
         let mut blocks = Vec::new(alloc);
-        for made in 0..PROCESSES {
+        for made in 0..MAX_PROCESSES {
             blocks.push(Names::new(alloc))?;
         }
         Ok(Reading {
@@ -60,19 +60,19 @@ impl Reading {
     #[tactic(auto, unfolding(crate::specs::Numbering::process_in), using(crate::proofs::Readings::stops_then))]
     pub(crate) fn process(&mut self, name: &Name) -> Result<u8, Stop>
         ensures gives { Answers (λ n. (n, self.new)) result (process_in self.old name.now) }
-        ensures within { IfOk result (λ n. n < 64) }
+        ensures within { IfOk result (λ n. n < MAX_PROCESSES) }
     {
-        let number = self.processes.enter(PROCESSES, name)?;
+        let number = self.processes.enter(MAX_PROCESSES, name)?;
         Ok(number)
     }
 
     /// The number of a block of a process.
     #[tactic(auto, unfolding(crate::specs::Numbering::block_in), using(crate::proofs::Readings::stops_then))]
     pub(crate) fn block(&mut self, process: u8, name: &Name) -> Result<u8, Stop>
-        requires { process < 64 }
+        requires { process < MAX_PROCESSES }
         ensures { Answers (λ n. (n, self.new)) result (block_in self.old process name.now) }
     {
-        let number = self.blocks[usize::from(process)].enter(256, name)?;
+        let number = self.blocks[usize::from(process)].enter(MAX_BLOCK_NAMES, name)?;
         Ok(number)
     }
 

@@ -5,13 +5,18 @@ ghost use Rattle.std.specs.Fmt.{decimal};
 ghost use Rattle.xh_script.specs.Watching.{WritesOrFails};
 ghost use Rattle.xh_core.specs.Refusals.{number_of, name_of};
 ghost use Rattle.xh_script.specs.Texts.{hex_digit, hex_text, length_text, lengths_text, number_text, numbers_text, taken_text, count_of, give_count_of, refusal_text, reply_text, answer_texts};
+ghost use Rattle.xh_script.specs.declared.limits.TheConstants.{MAX_HEX};
 
+use crate::limits::MAX_HEX;
 use crate::put::{put, put_all};
 use crate::{Answered, Fault, Reply, Watched};
 use arrayvec::ArrayVec;
 use itoa::Buffer;
 use std::io::Write;
 use xh_core::Refused;
+
+/// The digits of a HEX, at most.
+const DIGITS: usize = 2 * MAX_HEX;
 
 #[tactic(auto, unfolding(crate::specs::Texts::number_text))]
 fn put_number<W: Write>(writer: &mut Watched<W>, line: u32, n: u64) -> Result<(), Fault>
@@ -66,8 +71,8 @@ fn hex_digit(n: u8) -> u8
 }
 
 /// Two hexadecimal digits for each byte.
-fn hex_text(bytes: &[u8]) -> ArrayVec<u8, 64>
-    requires { length bytes.now ≤ 32 }
+fn hex_text(bytes: &[u8]) -> ArrayVec<u8, DIGITS>
+    requires { length bytes.now ≤ MAX_HEX }
     ensures { result.items ≡ hex_text bytes.now }
 {
     let mut digits = ArrayVec::new();
@@ -81,7 +86,7 @@ fn hex_text(bytes: &[u8]) -> ArrayVec<u8, 64>
 fn put_bytes<W: Write>(
     writer: &mut Watched<W>,
     line: u32,
-    bytes: &ArrayVec<u8, 32>,
+    bytes: &ArrayVec<u8, MAX_HEX>,
 ) -> Result<(), Fault>
     ensures { WritesOrFails W.contents writer.old writer.new result
         (concat (decimal line ∷ codes " ok " ∷ hex_text bytes.now.items ∷ codes "\n" ∷ [])) }

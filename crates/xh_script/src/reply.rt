@@ -1,6 +1,8 @@
 //! What is answered to a command.
+use crate::limits::MAX_HEX;
 use arrayvec::ArrayVec;
 use xh_core::Refused;
+use xh_model::limits::MAX_BLOCKS;
 
 /// What is answered to a command, one variant for each form of text.
 #[derive(Debug, Drop)]
@@ -17,7 +19,7 @@ pub enum Reply {
         tail: u32,
     },
     /// `read`: the bytes.
-    Bytes(ArrayVec<u8, 32>),
+    Bytes(ArrayVec<u8, MAX_HEX>),
     /// `give`: the message's number in its direction, from 1 on.
     Given(u64),
     /// `take` and `await`: the message's number, its tag, and the length of each block, or
@@ -25,7 +27,7 @@ pub enum Reply {
     Taken {
         number: u64,
         tag: u16,
-        blocks: ArrayVec<Option<u32>, 8>,
+        blocks: ArrayVec<Option<u32>, MAX_BLOCKS>,
     },
     /// `close`, `exit` and `kill`: the bytes that the command reclaimed.
     Reclaimed(u64),
@@ -34,9 +36,9 @@ pub enum Reply {
         blocks: u32,
         bytes: u64,
     },
-    /// A `give` is refused; a closed peer is told with the number of blocks handed back.
+    /// A `give` is refused; a closed peer comes with the number of blocks handed back.
     NotGiven(Refused),
-    /// Any other command is refused; a closed peer is told alone.
+    /// Any other command is refused; a closed peer comes alone.
     No(Refused),
 }
 

@@ -3,9 +3,11 @@ ghost use Rattle.std.specs.Prelude.{◌≡◌, ◌<◌, ◌∷◌, map, length};
 ghost use Rattle.xh_script.specs.Grammar.{words_from};
 ghost use Rattle.xh_script.specs.Sorts.{name_at, bytes_at, word_at};
 ghost use Rattle.xh_script.specs.Steps.{Answers};
+ghost use Rattle.xh_script.specs.declared.limits.TheConstants.{MAX_WORDS};
 
 use crate::form::{Shape, Sort};
 use crate::hex::{hex_bytes, is_hex};
+use crate::limits::{MAX_HEX, MAX_WORDS};
 use crate::number::number_between;
 use crate::row::row_at;
 use crate::{Kind, Name, Stop, Word};
@@ -25,7 +27,7 @@ pub(crate) fn name_at(word: &[u8]) -> Result<Name, Kind>
 
 /// The bytes that hexadecimal digits say.
 #[tactic(auto, unfolding(crate::specs::Sorts::bytes_at))]
-fn bytes_at(word: &[u8]) -> Result<ArrayVec<u8, 32>, Kind>
+fn bytes_at(word: &[u8]) -> Result<ArrayVec<u8, MAX_HEX>, Kind>
     ensures { result ≡ bytes_at word.now }
 {
     if is_hex(word) {
@@ -74,8 +76,8 @@ pub(crate) fn words_of(
     shape: &Shape,
     first: &[u8],
     others: &[&[u8]],
-) -> Result<ArrayVec<Word<Name>, 19>, Stop>
-    requires { length others.now < 19 }
+) -> Result<ArrayVec<Word<Name>, MAX_WORDS>, Stop>
+    requires { length others.now < MAX_WORDS }
     ensures { Answers (λ ws. ws.items) result (words_from shape.now 0 (first.now ∷ map (λ w. w.now) others.now)) }
 {
     let mut words = ArrayVec::new();

@@ -6,8 +6,6 @@ mod blocks;
 #[cfg(test)]
 mod endings;
 #[cfg(test)]
-mod examples;
-#[cfg(test)]
 mod faults;
 #[cfg(test)]
 mod fronts;

@@ -11,7 +11,9 @@ const SCRIPT: &str =
     "process a\nprocess b\nwire a e b f 0\na alloc x 40 0\na alloc y 16 0\na give e 7 x y\na give e 7 x\nb take f p q\nb write p 0 beef\nb read p 0 4\n";
 
 const OUTPUT: &str =
-    "1 ok 0\n2 ok 1\n3 ok\n4 ok 48\n5 ok 16\n6 ok 1\n7 no 6 NotOwned\n8 ok 1 7 48 16\n9 ok\n10 ok beef0000\narena 0 256 128 1 128 0\nprocess a running 1 32\nprocess b running 3 96\nowned 128\nflight 0\nout 128\n";
+    "1 ok 0\n2 ok 1\n3 ok\n4 ok 48\n5 ok 16\n6 ok 1\n7 no 6 NotOwned\n8 ok 1 7 48 16\n9 ok\n\
+     10 ok beef0000\narena 0 256 128 1 128 0\nprocess a running 1 32\nprocess b running 3 96\n\
+     owned 128\nflight 0\nout 128\n";
 
 /// Gives one byte at a time, and fails at a given read.
 #[derive(Drop)]

@@ -1,16 +1,14 @@
 -- How a run of the program ends, and with which status.
 use Rattle.std.specs.Prelude.{◌≡◌, ◌≢◌, ◌⊎◌, ℕ, List, Option}
+use Rattle.clap.specs.Words.{Text}
 use Rattle.clap.specs.declared.error.kind.ErrorKind.{ErrorKind}
-use Rattle.clap.specs.declared.error.kind.ErrorKind.TheVariants.{DisplayHelp, DisplayVersion}
+use Rattle.clap.specs.declared.error.kind.ErrorKind.TheVariants.{OutOfMemory}
 use Rattle.xh_model.specs.declared.config.Config.{Config}
 use Rattle.xh_script.specs.declared.fault.Fault.{Fault}
 use Rattle.xh_script.specs.declared.fault.Fault.TheVariants.{Script, Memory, Read, Write, Gate, BadConfig}
 use Rattle.xh_script.specs.declared.watch.Watched.{Watched}
 use Rattle.xh_runner.specs.Runs.{Meant, Failed}
-
--- the words of the command line are wrong, and ask neither for help nor for the version
-abbrev pub IsMistake : ErrorKind → Type 0
-IsMistake kind = (kind ≢ DisplayHelp) × (kind ≢ DisplayVersion)
+use Rattle.xheap.specs.Options.{IsMistake, AreOptions, AreQuestion, AreWrong, options_of}
 
 -- the status of a fault
 abbrev pub status_of : Fault → ℕ
@@ -21,12 +19,22 @@ status_of Write = 4
 status_of Gate = 5
 status_of BadConfig = 5
 
+-- the command line's answer of a kind was given: help or the version was printed, or nothing, where it is a mistake or memory was refused
+abbrev pub Explained : {W : Type 0} → ErrorKind → Watched W → Watched W → ℕ → Type 0
+Explained kind out out' status = ((status ≡ 0) × ¬ IsMistake kind)
+    ⊎ (((status ≡ 2) × (kind ≢ OutOfMemory) × IsMistake kind × (out' ≡ out))
+    ⊎ ((status ≡ 3) × (out' ≡ out)))
+
 module _ {R W : Type 0} (remaining : R → Option (List ℕ)) (contents : W → Option (List ℕ)) where
   -- a script was run with these limits: 0 where what it means was written, else the status of the fault
   abbrev pub Ran : Config → Watched R → Watched R → Watched W → Watched W → ℕ → Type 0
   Ran config reader reader' out out' status = ((status ≡ 0) × Meant remaining contents config reader reader' out out')
       ⊎ ((fault : Fault) × (status ≡ status_of fault) × Failed remaining contents config reader reader' out out' fault)
 
-  -- no script was read: help or the version was printed, or nothing was written, with status 2, or 3 for want of memory
-  abbrev pub Explained : Watched R → Watched R → Watched W → Watched W → ℕ → Type 0
-  Explained reader reader' out out' status = (reader' ≡ reader) × ((status ≡ 0) ⊎ (((status ≡ 2) ⊎ (status ≡ 3)) × (out' ≡ out)))
+  -- the words decide: with options a script is run with their limits; else nothing is read, and but for help and the version nothing is written. 3 also stands for
+  -- memory that was refused before a script was read
+  abbrev pub Ended : List Text → Watched R → Watched R → Watched W → Watched W → ℕ → Type 0
+  Ended words reader reader' out out' status = (AreOptions words × Ran (options_of words) reader reader' out out' status)
+      ⊎ (((status ≡ 0) × AreQuestion words × (reader' ≡ reader))
+      ⊎ (((status ≡ 2) × AreWrong words × (reader' ≡ reader) × (out' ≡ out))
+      ⊎ ((status ≡ 3) × (reader' ≡ reader) × (out' ≡ out))))

@@ -1,8 +1,9 @@
 //! The whole program, over any reader and writers.
-ghost use Rattle.std.specs.Prelude.{◌≡◌, ◌⊎◌, IfErr, OnOk};
+ghost use Rattle.std.specs.Prelude.{IfErr, OnOk};
 ghost use Rattle.clap.specs.Values.{kind_of};
 ghost use Rattle.xh_runner.specs.Runs.{Meant, Failed};
-ghost use Rattle.xheap.specs.Status.{Ran, Explained, IsMistake};
+ghost use Rattle.xheap.specs.Options.{texts_of};
+ghost use Rattle.xheap.specs.Status.{Ended, Explained, Ran};
 
 use crate::fault::{DONE, WORDS, out_of_memory, report};
 use crate::options::config_of;
@@ -34,10 +35,7 @@ fn explained<W: Write, E: Write>(
     out: &mut Watched<W>,
     err: &mut E,
 ) -> u8
-    ensures status { (result ≡ 0) ⊎ (((result ≡ 2) ⊎ (result ≡ 3)) × (out.new ≡ out.old)) }
-    ensures help { result ≡ 0 → ¬ IsMistake (kind_of error.now) }
-    ensures words { result ≡ 2 → IsMistake (kind_of error.now) }
-    ensures memory { kind_of error.now ≡ ErrorKind.OutOfMemory → result ≡ 3 }
+    ensures { Explained (kind_of error.now) out.old out.new result }
 {
     if error.kind() == ErrorKind::OutOfMemory {
         return out_of_memory(err);
@@ -95,8 +93,7 @@ pub(crate) fn run_main<R: Read, W: Write, E: Write>(
     out: &mut Watched<W>,
     err: &mut E,
 ) -> u8
-    ensures { ((config : Config) × Ran R.remaining W.contents config reader.old reader.new out.old out.new result)
-        ⊎ Explained R.remaining W.contents reader.old reader.new out.old out.new result }
+    ensures { Ended R.remaining W.contents (texts_of words.now) reader.old reader.new out.old out.new result }
 {
     match config_of(alloc, words) {
         Err(error) => explained(alloc, &error, out, err),

@@ -1,15 +1,18 @@
 //! The commands alloc, split, read, write and free.
-ghost use Rattle.std.specs.Prelude.{◌≡◌, ◌≤◌, length, IfOk};
+ghost use Rattle.std.specs.Prelude.{◌≡◌, ◌≤◌, length};
+ghost use Rattle.xh_script.specs.declared.limits.TheConstants.{MAX_HEX};
 ghost use Rattle.xh_runner.specs.Meaning.{alloc_step, split_step, read_step, write_step, free_step};
-ghost use Rattle.xh_runner.specs.Worlds.{world_of};
+ghost use Rattle.xh_runner.specs.Worlds.{world_of, Steps, StepsOrLacks};
 
-use crate::session::{Session, refusal};
+use crate::machine::Machine;
+use crate::session::Session;
 use arrayvec::ArrayVec;
-use std::alloc::{AllocError, Global};
+use std::alloc::Global;
 use xh_script::Reply;
+use xh_script::limits::{MAX_HEX, MAX_LEN};
 
-fn array_of(bytes: &[u8]) -> ArrayVec<u8, 32>
-    requires { length bytes.now ≤ 32 }
+fn array_of(bytes: &[u8]) -> ArrayVec<u8, MAX_HEX>
+    requires { length bytes.now ≤ MAX_HEX }
     ensures { result.items ≡ bytes.now }
 {
     let mut array = ArrayVec::new();
@@ -19,7 +22,7 @@ fn array_of(bytes: &[u8]) -> ArrayVec<u8, 32>
     array
 }
 
-impl<'a> Session<'a> {
+impl<'a, M: Machine> Session<'a, M> {
     pub(crate) fn alloc(
         &mut self,
         alloc: Global,
@@ -27,16 +30,16 @@ impl<'a> Session<'a> {
         block: u8,
         bytes: u32,
         arena: u32,
-    ) -> Result<Reply, AllocError>
-        ensures { IfOk result (λ reply. alloc_step (world_of self.old) process block bytes arena ≡ (reply, world_of self.new)) }
+    ) -> Reply
+        ensures { StepsOrLacks M.alone (alloc_step (world_of M.state self.old) process block bytes arena) result (world_of M.state self.new) }
     {
         let number = self.names.number(process);
         match self.machine.alloc(alloc, number, bytes, arena) {
             Ok(made) => {
                 self.names.bind(process, block, made.rec);
-                Ok(Reply::Length(made.len))
+                Reply::Length(made.len)
             }
-            Err(refused) => refusal(refused),
+            Err(refused) => Reply::No(refused),
         }
     }
 
@@ -47,30 +50,30 @@ impl<'a> Session<'a> {
         block: u8,
         at: u32,
         tail: u8,
-    ) -> Result<Reply, AllocError>
-        ensures { IfOk result (λ reply. split_step (world_of self.old) process block at tail ≡ (reply, world_of self.new)) }
+    ) -> Reply
+        ensures { StepsOrLacks M.alone (split_step (world_of M.state self.old) process block at tail) result (world_of M.state self.new) }
     {
         let number = self.names.number(process);
         let rec = self.names.record_of(process, block);
         match self.machine.split(alloc, number, rec, at) {
             Ok((head, rest)) => {
                 self.names.bind(process, tail, rest.rec);
-                Ok(Reply::Parts {
+                Reply::Parts {
                     head: head.len,
                     tail: rest.len,
-                })
+                }
             }
-            Err(refused) => refusal(refused),
+            Err(refused) => Reply::No(refused),
         }
     }
 
     pub(crate) fn read(&mut self, process: u8, block: u8, at: u32, len: u32) -> Reply
-        ensures { read_step (world_of self.old) process block at len ≡ (result, world_of self.new) }
+        ensures { Steps M.alone (read_step (world_of M.state self.old) process block at len) result (world_of M.state self.new) }
     {
         let number = self.names.number(process);
         let rec = self.names.record_of(process, block);
-        let mut bytes = [0u8; 32];
-        let room = &mut bytes[..(len as usize).min(32)];
+        let mut bytes = [0u8; MAX_HEX];
+        let room = &mut bytes[..len.min(MAX_LEN) as usize];
         match self.machine.read(number, rec, at, room) {
             Ok(()) => Reply::Bytes(array_of(room)),
             Err(refused) => Reply::No(refused),
@@ -78,7 +81,7 @@ impl<'a> Session<'a> {
     }
 
     pub(crate) fn write(&mut self, process: u8, block: u8, at: u32, bytes: &[u8]) -> Reply
-        ensures { write_step (world_of self.old) process block at bytes.now ≡ (result, world_of self.new) }
+        ensures { Steps M.alone (write_step (world_of M.state self.old) process block at bytes.now) result (world_of M.state self.new) }
     {
         let number = self.names.number(process);
         let rec = self.names.record_of(process, block);
@@ -89,7 +92,7 @@ impl<'a> Session<'a> {
     }
 
     pub(crate) fn free(&mut self, process: u8, block: u8) -> Reply
-        ensures { free_step (world_of self.old) process block ≡ (result, world_of self.new) }
+        ensures { Steps M.alone (free_step (world_of M.state self.old) process block) result (world_of M.state self.new) }
     {
         let number = self.names.number(process);
         let rec = self.names.record_of(process, block);

@@ -1,69 +1,95 @@
 //! The commands give and take.
-ghost use Rattle.std.specs.Prelude.{◌≡◌, ◌≤◌, length, map, Some};
+ghost use Rattle.std.specs.Prelude.{◌≡◌, ◌≤◌, length, map, option_map};
+ghost use Rattle.xh_model.specs.declared.limits.TheConstants.{MAX_BLOCKS};
+ghost use Rattle.xh_script.specs.declared.limits.TheConstants.{MAX_WORDS};
 ghost use Rattle.xh_runner.specs.Meaning.{give_step, take_step, handed_back};
-ghost use Rattle.xh_runner.specs.Worlds.{world_of};
+ghost use Rattle.xh_runner.specs.Worlds.{world_of, Steps};
 
+use crate::machine::Machine;
 use crate::names::Names;
 use crate::session::Session;
 use arrayvec::ArrayVec;
 use xh_core::{Block, Refused};
-use xh_script::Reply;
+use xh_model::limits::MAX_BLOCKS;
+use xh_script::limits::MAX_TAG;
+use xh_script::{Reply, Word};
 
-fn lengths_of(blocks: &[Block]) -> ArrayVec<Option<u32>, 8>
-    requires { length blocks.now ≤ 8 }
-    ensures { result.items ≡ map (λ b. Some b.len) blocks.now }
+fn length_of(block: &Option<Block>) -> Option<u32>
+    ensures { result ≡ option_map (λ b. b.len) block.now }
+{
+    match block {
+        Some(block) => Some(block.len),
+        None => None,
+    }
+}
+
+fn lengths_of(blocks: &[Option<Block>]) -> ArrayVec<Option<u32>, MAX_BLOCKS>
+    requires { length blocks.now ≤ MAX_BLOCKS }
+    ensures { result.items ≡ map (option_map (λ b. b.len)) blocks.now }
 {
     let mut lengths = ArrayVec::new();
     for block in blocks {
-        lengths.push(Some(block.len));
+        lengths.push(length_of(block));
     }
     lengths
 }
 
 /// A refused give unbinds the names of the blocks that were not handed back.
-fn keep_back(names: &mut Names, process: u8, blocks: &[u8], refused: &Refused)
-    ensures { names.new ≡ handed_back process blocks.now refused.now names.old }
+fn keep_back(names: &mut Names, process: u8, words: &[Word<u8>], refused: &Refused)
+    ensures { names.new ≡ handed_back process words.now refused.now names.old }
 {
     match refused {
-        Refused::Full { back } => names.unbind_but(process, blocks, back.as_slice()),
-        Refused::PeerClosed { back } => names.unbind_but(process, blocks, back.as_slice()),
-        Refused::Protocol { back } => names.unbind_but(process, blocks, back.as_slice()),
+        Refused::Full { back } => names.unbind_but(process, words, back.as_slice()),
+        Refused::PeerClosed { back } => names.unbind_but(process, words, back.as_slice()),
+        Refused::Protocol { back } => names.unbind_but(process, words, back.as_slice()),
         _ => {}
     }
 }
 
-impl<'a> Session<'a> {
-    pub(crate) fn give(&mut self, process: u8, endpoint: u8, tag: u32, blocks: &[u8]) -> Reply
-        requires { length blocks.now ≤ 19 }
-        ensures { give_step (world_of self.old) process endpoint tag blocks.now ≡ (result, world_of self.new) }
+impl<'a, M: Machine> Session<'a, M> {
+    pub(crate) fn give(&mut self, process: u8, endpoint: u8, tag: u32, words: &[Word<u8>]) -> Reply
+        requires { length words.now ≤ MAX_WORDS }
+        ensures { Steps M.alone (give_step (world_of M.state self.old) process endpoint tag words.now) result (world_of M.state self.new) }
     {
         let number = self.names.number(process);
         let rec = self.names.record_of(process, endpoint);
-        let records = self.names.records_of(process, blocks);
-        let tag = tag.min(65_535) as u16;
+        let records = self.names.records_of(process, words);
+        let tag = tag.min(MAX_TAG) as u16;
         match self.machine.give(number, rec, tag, records.as_slice()) {
             Ok(message) => {
-                self.names.unbind_each(process, blocks);
+                self.names.unbind_each(process, words);
                 Reply::Given(message)
             }
             Err(refused) => {
-                keep_back(&mut self.names, process, blocks, &refused);
+                keep_back(&mut self.names, process, words, &refused);
                 Reply::NotGiven(refused)
             }
         }
     }
 
-    pub(crate) fn take(&mut self, process: u8, endpoint: u8, blocks: &[u8]) -> Reply
-        ensures { take_step (world_of self.old) process endpoint blocks.now ≡ (result, world_of self.new) }
+    /// Takes a message, and waits for one where others can send it.
+    pub(crate) fn take(
+        &mut self,
+        waits: bool,
+        process: u8,
+        endpoint: u8,
+        words: &[Word<u8>],
+    ) -> Reply
+        ensures { Steps M.alone (take_step (world_of M.state self.old) process endpoint words.now) result (world_of M.state self.new) }
     {
         let number = self.names.number(process);
         let rec = self.names.record_of(process, endpoint);
-        match self.machine.take(number, rec) {
+        let answer = if waits {
+            self.machine.take_wait(number, rec)
+        } else {
+            self.machine.take(number, rec)
+        };
+        match answer {
             Ok(message) => {
                 self.names
-                    .bind_each(process, blocks, message.blocks.as_slice());
+                    .bind_each(process, words, message.blocks.as_slice());
                 Reply::Taken {
-                    number: message.no,
+                    number: message.number,
                     tag: message.tag,
                     blocks: lengths_of(message.blocks.as_slice()),
                 }

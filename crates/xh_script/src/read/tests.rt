@@ -75,8 +75,10 @@ fn a_contract_too_many(rt: HostRuntime) -> Result<(), Fail> {
 }
 
 /// One line of each form, among lines that are skipped.
-const FORMS: &str =
-    "# forms\n\ncontract k 0:1:0:1 1:2:1:0\nprocess a\nprocess b\nwire a e b f 0\nwire a e b f 0 k\na open m n 0\na open m n 1 k\na alloc x 40 0\na split x 16 t\na read x 15 2\na write x 0 beef\na give e 7 x t\na take e\nb await f p q\na free x\na close e\na exit\na exit 1\nb kill a\nb kill c 4096\nc glance a\nb again";
+const FORMS: &str = "# forms\n\ncontract k 0:1:0:1 1:2:1:0\nprocess a\nprocess b\nwire a e b f 0\n\
+     wire a e b f 0 k\na open m n 0\na open m n 1 k\na alloc x 40 0\na split x 16 t\n\
+     a read x 15 2\na write x 0 beef\na give e 7 x t\na take e\nb await f p q\na free x\n\
+     a close e\na exit\na exit 1\nb kill a\nb kill c 4096\nc glance a\nb again";
 
 /// What these lines are, with numbers for their names.
 const COMMANDS: [(u32, &str); 22] = [

@@ -1,4 +1,6 @@
-use Rattle.std.proofs.Common.{sym, ap, ◌∙◌, slice_set, ◌*◌, ◌+◌}
+use Rattle.std.proofs.Common.{sym, ap, slice_set, ◌*◌, ◌+◌}
+use Rattle.xh_script.specs.declared.limits.TheConstants.{MAX_BLOCK_NAMES}
+use Rattle.xh_runner.specs.declared.names.TheConstants.{NOTHING}
 use Rattle.xh_runner.proofs.Bindings.{without_below-none, without_below-more}
 use Rattle.xh_runner.proofs.names.clear_all.Goals as goal
 
@@ -10,5 +12,5 @@ loop-block-preserved c =
     let i = c.loop-block.block in
     let p = c.args.process in
     let more = without_below-more c.args.records.now p i in
-    let here = ap (λ r. slice_set r (256 * p + i) 65535) c.loop-block.invariant in
+    let here = ap (λ r. slice_set r (MAX_BLOCK_NAMES * p + i) NOTHING) c.loop-block.invariant in
     cc

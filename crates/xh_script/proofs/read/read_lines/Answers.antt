@@ -32,7 +32,8 @@ loop-i-preserved c =
     let at = sym (get_or-map (λ w. w.now) items i (record { ref_ptr = (0, 0); now = [] })) ∙ ap (λ ls. get_or ls i []) c.loop-i.invariant.lines in
     let below : i < length lines = omega (arith, same_length items lines c.loop-i.invariant.lines, c.loop-i-test.true) in
     record {
-      rest = sym (goes_on lines i c.loop-i.reading c.read_line.new.reading below (ap (λ line. at_line (i + 1) (after_line c.loop-i.reading (i + 1) line)) (sym at) ∙ c.in_ok-read_line.ensures)) ∙ c.loop-i.invariant.rest;
+      rest = sym (goes_on lines i c.loop-i.reading c.read_line.new.reading below
+          (ap (λ line. at_line (i + 1) (after_line c.loop-i.reading (i + 1) line)) (sym at) ∙ c.in_ok-read_line.ensures)) ∙ c.loop-i.invariant.rest;
       lines = c.loop-i.invariant.lines;
       short = c.loop-i.invariant.short;
     }

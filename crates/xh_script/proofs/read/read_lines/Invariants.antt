@@ -1,5 +1,6 @@
 use Rattle.std.proofs.Common.{◌≡◌, ◌≤◌, ◌+◌, ◌==◌, map, drop, length}
 use Rattle.std.specs.List.{slice_split}
+use Rattle.xh_script.specs.declared.limits.TheConstants.{MAX_SCRIPT}
 use Rattle.xh_script.specs.Scripts.{after_lines, nothing_read}
 use Rattle.xh_script.proofs.read.read_lines.Given as goal
 
@@ -9,5 +10,5 @@ invariant-loop-i l =
     record {
       rest : after_lines l.reading (l.i + 1) (drop l.i lines) ≡ after_lines nothing_read 1 lines;
       lines : map (λ w. w.now) l.line-items ≡ lines;
-      short : length l.text ≤ 1048576;
+      short : length l.text ≤ MAX_SCRIPT;
     }

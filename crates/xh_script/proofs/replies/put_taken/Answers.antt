@@ -14,7 +14,11 @@ pub returns-in_err-put_lengths : goal.returns-in_err-put_lengths
 unfolding taken_text
 returns-in_err-put_lengths g c =
     let p = err_from_is_err_and c.from_residual-in_err-put_lengths.result c.from_residual-in_err-put_lengths.ensures.1 in
-    rw p.1 (p.2 ∙ c.in_err-put_lengths.ensures.0, WritesFront-then g.W.Write.contents _ _ _ _ _ c.in_ok-put_message.ensures (WritesFront-stops g.W.Write.contents _ _ _ _ c.in_err-put_lengths.ensures.1))
+    rw p.1 (
+      p.2 ∙ c.in_err-put_lengths.ensures.0,
+      WritesFront-then g.W.Write.contents _ _ _ _ _ c.in_ok-put_message.ensures
+          (WritesFront-stops g.W.Write.contents _ _ _ _ c.in_err-put_lengths.ensures.1),
+    )
 
 pub returns : goal.returns
 unfolding taken_text

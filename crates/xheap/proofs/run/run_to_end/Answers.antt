@@ -8,7 +8,8 @@ use Rattle.xheap.proofs.run.run_to_end.Goals as goal
 pub returns-clause-err : goal.returns-clause-err
 returns-clause-err g c =
     let m = c.in_ok-run_serial.ensures.ok in
-    cut_off g.W.Write.contents _ _ c.flush.result [] (Failed g.R.Read.remaining g.W.Write.contents c.args.config c.args.reader.now c.run_serial.new.reader c.args.out.now c.flush.new.self) c.flush.ensures (λ w. record {
+    cut_off g.W.Write.contents _ _ c.flush.result []
+    (Failed g.R.Read.remaining g.W.Write.contents c.args.config c.args.reader.now c.run_serial.new.reader c.args.out.now c.flush.new.self) c.flush.ensures (λ w. record {
       text = m.text;
       script = m.script;
       reads = m.reads;

@@ -1,4 +1,5 @@
 use Rattle.std.proofs.Common.{◌≡◌, ◌≤◌, ◌++◌, ◌∷◌, [], None, length, arith, ap, length-append}
+use Rattle.xh_script.specs.declared.limits.TheConstants.{MAX_BLOCK_NAMES}
 use Rattle.xh_script.specs.Names.{number_in}
 use Rattle.xh_script.proofs.NameLemmas.{number_more}
 use Rattle.xh_script.proofs.names.Names.add.Goals as goal
@@ -8,6 +9,6 @@ invariant_of-self-in-Ok c =
     let names = c.self.inside.names.items in
     let name = c.args.name.now in
     let items : c.push.new.self.items ≡ names ++ name ∷ [] = cc (c.in_ok-push.ensures.items, c.copy.ensures) in
-    let room : length c.push.new.self.items ≤ 256 = rw (items, length-append names (name ∷ [])) (omega (arith, ap length c.self.view_is, c.requires.room)) in
+    let room : length c.push.new.self.items ≤ MAX_BLOCK_NAMES = rw (items, length-append names (name ∷ [])) (omega (arith, ap length c.self.view_is, c.requires.room)) in
     let new : number_in names name ≡ None = cc (c.requires.new) in
     (room, λ q. rw (items, number_more names name q new) (cc (c.in-Ok.ensures.updates.0 q, c.self.invariant.1 q, c.copy-2.ensures, c.len-number.ensures)))

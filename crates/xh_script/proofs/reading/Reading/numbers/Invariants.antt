@@ -1,4 +1,5 @@
 use Rattle.std.proofs.Common.{◌≡◌, ◌<◌, ◌++◌, Ok, drop, length}
+use Rattle.xh_script.specs.declared.limits.TheConstants.{MAX_PROCESSES}
 use Rattle.xh_script.specs.Steps.{◌>>=◌}
 use Rattle.xh_script.specs.Numbering.{words_in}
 use Rattle.xh_script.proofs.reading.Reading.numbers.Given as goal
@@ -7,5 +8,5 @@ abbrev pub invariant-loop-word : goal.invariant-loop-word
 invariant-loop-word l = record {
   rest : words_in l.fn.self 0 l.words ≡ (words_in l.self l.process (drop l.word-index l.words) >>= λ more. Ok (l.numbers.items ++ more.0, more.1));
   count : length l.numbers.items ≡ l.word-index;
-  known : l.process < 64;
+  known : l.process < MAX_PROCESSES;
 }
