@@ -205,7 +205,7 @@ fn both_ends_of_a_direction_are_compared(rt: HostRuntime) -> Result<(), Fail> {
 
 // Run with each growth refused in turn: the first answer is then OutOfMemory, and the next one isn't.
 #[test]
-fn a_refused_growth_is_out_of_memory(rt: HostRuntime) -> Result<(), Fail> {
+fn out_of_memory_leaves_nothing(rt: HostRuntime) -> Result<(), Fail> {
     if let Err(refused) = Channels::new(rt.alloc(), 2) {
         assert!(rt; matches!(refused, Refused::OutOfMemory));
     }
