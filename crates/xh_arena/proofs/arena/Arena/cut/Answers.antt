@@ -23,6 +23,9 @@ returns-then-k-eq0-clause-exact c =
       ],
     )
 
+pub returns-then-k-eq0-clause-refused : goal.returns-then-k-eq0-clause-refused
+returns-then-k-eq0-clause-refused c = (refl, refl)
+
 pub returns-then-k-eq0-clause-lawful : goal.returns-then-k-eq0-clause-lawful
 returns-then-k-eq0-clause-lawful c = rw (← c.self.view_is) (kept-lawful _ _ _ _ _ _ c.self.invariant.kept)
 
