@@ -1,5 +1,10 @@
 //! What a heap holds, line by line.
 use arrayvec::ArrayVec;
+use xh_model::limits::{MAX_ARENAS, PLACES};
+
+pub(crate) const ARENA_LINES: usize = MAX_ARENAS as usize;
+
+pub(crate) const PLACE_LINES: usize = PLACES as usize;
 
 /// What a process may do: it runs, its blocks are being reclaimed, or all of them are.
 #[derive(Clone, Copy, Debug, PartialEq, Eq, Default)]
@@ -36,8 +41,8 @@ pub struct PlaceLine {
 /// out.
 #[derive(Drop, Debug)]
 pub struct Ledger {
-    pub arenas: ArrayVec<ArenaLine, 8>,
-    pub places: ArrayVec<PlaceLine, 32>,
+    pub arenas: ArrayVec<ArenaLine, ARENA_LINES>,
+    pub places: ArrayVec<PlaceLine, PLACE_LINES>,
     pub owned: u64,
     pub flight: u64,
     pub out: u64,

@@ -1,6 +1,7 @@
 //! A message of a direction.
 use crate::block::Block;
 use arrayvec::ArrayVec;
+use xh_model::limits::MAX_BLOCKS;
 
 /// A message that waits in a direction: its number there, counted from 1, its tag, and the records
 /// that it carries.
@@ -8,7 +9,7 @@ use arrayvec::ArrayVec;
 pub(crate) struct Message {
     pub(crate) no: u64,
     pub(crate) tag: u16,
-    pub(crate) blocks: ArrayVec<u16, 8>,
+    pub(crate) blocks: ArrayVec<u16, MAX_BLOCKS>,
 }
 
 /// A message that was taken: its number in its direction, its tag, and its blocks, which are the
@@ -17,5 +18,5 @@ pub(crate) struct Message {
 pub struct Taken {
     pub no: u64,
     pub tag: u16,
-    pub blocks: ArrayVec<Block, 8>,
+    pub blocks: ArrayVec<Block, MAX_BLOCKS>,
 }

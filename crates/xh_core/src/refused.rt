@@ -6,6 +6,7 @@ ghost use Rattle.xh_core.specs.declared.refused.Refused.TheVariants.{OutOfMemory
 use arrayvec::ArrayVec;
 use std::alloc::{AllocError, AllocFailed};
 use thiserror::Error;
+use xh_model::limits::MAX_BLOCKS;
 
 /// Why a command is refused.
 #[derive(Debug, Drop, Error)]
@@ -51,10 +52,10 @@ pub enum Refused {
     NoChannel,
     /// The direction holds as many messages as it may; the blocks are handed back.
     #[error("the direction holds as many messages as it may")]
-    Full { back: ArrayVec<u16, 8> },
+    Full { back: ArrayVec<u16, MAX_BLOCKS> },
     /// The peer is closed; the blocks of a give are handed back.
     #[error("the peer is closed")]
-    PeerClosed { back: ArrayVec<u16, 8> },
+    PeerClosed { back: ArrayVec<u16, MAX_BLOCKS> },
     /// No message waits.
     #[error("no message waits")]
     Empty,
@@ -75,7 +76,7 @@ pub enum Refused {
     NoPlace,
     /// The channel's contract does not allow the message; the blocks are handed back.
     #[error("the channel's contract does not allow the message")]
-    Protocol { back: ArrayVec<u16, 8> },
+    Protocol { back: ArrayVec<u16, MAX_BLOCKS> },
 }
 
 impl Refused {

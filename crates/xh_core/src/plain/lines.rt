@@ -1,9 +1,10 @@
 //! The ledger's lines of the arenas.
 ghost use Rattle.std.specs.Prelude.{◌≡◌, ◌+◌, ◌≤◌, All, length, map};
+ghost use Rattle.xh_model.specs.declared.limits.TheConstants.{MAX_ARENAS};
 ghost use Rattle.xh_core.specs.PlaceCommands.{arena_line};
 ghost use Rattle.xh_core.specs.Wearing.{IsCarved};
 
-use crate::ledger::ArenaLine;
+use crate::ledger::{ARENA_LINES, ArenaLine};
 use crate::plain::Plain;
 use arrayvec::ArrayVec;
 use xh_arena::Arena;
@@ -24,8 +25,8 @@ fn arena_line(arena: &Arena) -> ArenaLine
     }
 }
 
-fn lines_of(arenas: &[Arena]) -> ArrayVec<ArenaLine, 8>
-    requires few { length arenas.now ≤ 8 }
+fn lines_of(arenas: &[Arena]) -> ArrayVec<ArenaLine, ARENA_LINES>
+    requires few { length arenas.now ≤ MAX_ARENAS }
     requires carved { All IsCarved arenas.now }
     ensures lines { result.items ≡ map arena_line arenas.now }
     ensures sums { All (λ line. line.out + line.back ≡ line.taken) result.items }
@@ -39,7 +40,7 @@ fn lines_of(arenas: &[Arena]) -> ArrayVec<ArenaLine, 8>
 
 impl Plain {
     /// A line for each arena.
-    pub(crate) fn arena_lines(&self) -> ArrayVec<ArenaLine, 8>
+    pub(crate) fn arena_lines(&self) -> ArrayVec<ArenaLine, ARENA_LINES>
         ensures lines { result.items ≡ map arena_line self.now.arenas }
         ensures sums { All (λ line. line.out + line.back ≡ line.taken) result.items }
     {

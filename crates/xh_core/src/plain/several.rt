@@ -2,6 +2,7 @@
 ghost use Rattle.std.specs.Prelude.{◌≡◌, ◌≢◌, ℕ, ◌+◌, ◌<◌, ◌≤◌, ◌/◌, ◌%◌, ◌∷◌, [], Some, None, OnOk, OnErr, MatchResult, length, slice_index_or, true};
 ghost use Rattle.std.specs.List.{position};
 ghost use Rattle.std.specs.Prelude.{is_none};
+ghost use Rattle.xh_model.specs.declared.limits.TheConstants.{UNIT};
 ghost use Rattle.xh_model.specs.declared.event.Event.TheVariants.{Claim, Carve, Cut, GiveBack, Vacate};
 ghost use Rattle.xh_model.specs.declared.event.Holder.TheVariants.{Process};
 ghost use Rattle.xh_model.specs.Store.{IsLawful, after, arena_at, holds, is_known, len, owner};
@@ -78,7 +79,7 @@ impl Plain {
         requires known { is_known self.old r ≡ true }
         requires free { owner self.old r ≡ None }
         requires some { 0 < n }
-        requires multiple { n % 16 ≡ 0 }
+        requires multiple { n % UNIT ≡ 0 }
         ensures store { OnOk result (self.new ≡ after (Carve p r n) (after (Claim p r) self.old)) }
         ensures gained { OnOk result (Gained p (r ∷ []) self.old self.new) }
         ensures length { OnOk result (len self.new r ≡ n) }
@@ -115,7 +116,7 @@ impl Plain {
         requires free { owner self.old t ≡ None }
         requires arena { r / 256 ≡ t / 256 }
         requires some { 0 < k }
-        requires multiple { k % 16 ≡ 0 }
+        requires multiple { k % UNIT ≡ 0 }
         requires inside { k < len self.old r }
         ensures store { self.new ≡ after (Cut p r t k) (after (Claim p t) self.old) }
         ensures gained { Gained p (t ∷ []) self.old self.new }

@@ -15,6 +15,7 @@ use crate::refused::Refused;
 use crate::serial::Serial;
 use crate::serial::ending::place_of;
 use std::alloc::Global;
+use xh_model::limits::UNIT;
 
 /// A record goes to the end of the list of a process.
 pub(super) fn list_record(places: &mut Vec<Place>, p: u16, r: u16)
@@ -41,7 +42,7 @@ fn round(n: u32) -> u32
     requires { n ≤ 1048576 }
     ensures { result ≡ rounded n }
 {
-    (n + 15) / 16 * 16
+    (n + (UNIT - 1)) / UNIT * UNIT
 }
 
 impl Serial {
@@ -98,7 +99,7 @@ impl Serial {
     {
         self.check_start(p)?;
         self.check_data(p, r)?;
-        if k == 0 || k % 16 != 0 || k >= self.plain.len(r) {
+        if k == 0 || k % UNIT != 0 || k >= self.plain.len(r) {
             return Err(Refused::BadCut);
         }
         match self.plain.free_record(u32::from(r / 256)) {

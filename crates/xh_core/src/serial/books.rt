@@ -1,10 +1,11 @@
 //! What the ledger tells: the arenas, the places, and the sums of their bytes.
 ghost use Rattle.std.specs.Prelude.{◌≡◌, ◌+◌, ◌<◌, ◌≤◌, ◌*◌, All, length};
 ghost use Rattle.std.specs.List.{sum_by};
+ghost use Rattle.xh_model.specs.declared.limits.TheConstants.{MAX_DEPTH};
 ghost use Rattle.xh_core.specs.Machine.{is_vacant};
 ghost use Rattle.xh_core.specs.PlaceCommands.{ledger_of, line_state, place_line, place_lines, total};
 
-use crate::ledger::{Ledger, PlaceLine, State};
+use crate::ledger::{Ledger, PLACE_LINES, PlaceLine, State};
 use crate::line::Line;
 use crate::message::Message;
 use crate::place::Place;
@@ -44,7 +45,7 @@ fn owned(plain: &Plain, places: &[Place]) -> u64
 
 /// The bytes of the blocks in these messages.
 fn carried(plain: &Plain, messages: &[Message]) -> u64
-    requires { length messages.now ≤ 16 }
+    requires { length messages.now ≤ MAX_DEPTH }
     ensures sum { result ≡ sum_by (λ message. total plain.now message.blocks.items) messages.now }
     ensures most { result ≤ 549755813760 }
 {
@@ -100,7 +101,7 @@ fn place_line(plain: &Plain, at: usize, place: &Place) -> PlaceLine
 }
 
 /// A line for each place that was ever used.
-fn place_lines(plain: &Plain, places: &[Place]) -> ArrayVec<PlaceLine, 32>
+fn place_lines(plain: &Plain, places: &[Place]) -> ArrayVec<PlaceLine, PLACE_LINES>
     requires { length places.now ≤ 32 }
     ensures lines { result.items ≡ place_lines plain.now 0 places.now }
     ensures places { All (λ line. line.place < 32) result.items }

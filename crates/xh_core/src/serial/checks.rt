@@ -16,6 +16,7 @@ use crate::serial::messages::{listed, peer};
 use crate::status::Status;
 use arrayvec::ArrayVec;
 use xh_model::Holder;
+use xh_model::limits::MAX_BLOCKS;
 
 /// Whether a record stands twice among these.
 fn is_twice(blocks: &[u16]) -> bool
@@ -158,7 +159,7 @@ impl Serial {
     {
         self.check_start(p)?;
         let d = self.check_end(p, e)?;
-        if blocks.len() > 8 {
+        if blocks.len() > MAX_BLOCKS {
             return Err(Refused::TooMany);
         }
         if !self.holds_all(p, blocks) {

@@ -1,6 +1,7 @@
 //! Messages: give and take.
 ghost use Rattle.std.specs.Prelude.{◌≡◌, ◌==◌, ◌+◌, ◌-◌, ◌*◌, ◌/◌, ◌%◌, ◌<◌, ◌≤◌, IfOk, false, length, slice_index_or, slice_set};
 ghost use Rattle.std.specs.List.{list_any, remove};
+ghost use Rattle.xh_model.specs.declared.limits.TheConstants.{MAX_BLOCKS, MAX_DEPTH};
 ghost use Rattle.xh_model.specs.Store.{len};
 ghost use Rattle.xh_core.specs.Machine.{contract_of, line, no_line, peer};
 ghost use Rattle.xh_core.specs.Refusing.{toward};
@@ -16,6 +17,7 @@ use crate::serial::Serial;
 use crate::serial::sweep::{accept_blocks, state_after};
 use arrayvec::ArrayVec;
 use xh_model::Event;
+use xh_model::limits::MAX_BLOCKS;
 
 /// The other direction of a channel.
 pub(super) fn peer(d: u8) -> u8
@@ -27,8 +29,8 @@ pub(super) fn peer(d: u8) -> u8
 }
 
 /// These records as a list of their own.
-pub(super) fn listed(blocks: &[u16]) -> ArrayVec<u16, 8>
-    requires { length blocks.now ≤ 8 }
+pub(super) fn listed(blocks: &[u16]) -> ArrayVec<u16, MAX_BLOCKS>
+    requires { length blocks.now ≤ MAX_BLOCKS }
     ensures { result.items ≡ blocks.now }
 {
     let mut list = ArrayVec::new();
@@ -100,8 +102,8 @@ fn tell(lines: &mut Vec<Line>, contracts: &[Option<Contract>], own: u8, tag: u16
 /// A message goes to the back of a direction. Its number.
 fn put(lines: &mut Vec<Line>, to: u8, tag: u16, blocks: &[u16]) -> u64
     requires there { to < length lines.old.items }
-    requires few { length blocks.now ≤ 8 }
-    requires room { length (slice_index_or lines.old.items to no_line).waiting.items < 16 }
+    requires few { length blocks.now ≤ MAX_BLOCKS }
+    requires room { length (slice_index_or lines.old.items to no_line).waiting.items < MAX_DEPTH }
     requires more { (slice_index_or lines.old.items to no_line).put < LAST }
     ensures line { lines.new.items ≡ slice_set lines.old.items to (put_line tag blocks.now (slice_index_or lines.old.items to no_line)) }
     ensures number { result ≡ (slice_index_or lines.old.items to no_line).put + 1 }
@@ -137,7 +139,7 @@ fn take_front(lines: &mut Vec<Line>, contracts: &[Option<Contract>], d: u8) -> M
 }
 
 /// Records as blocks.
-fn describe(plain: &Plain, blocks: &ArrayVec<u16, 8>) -> ArrayVec<Block, 8>
+fn describe(plain: &Plain, blocks: &ArrayVec<u16, MAX_BLOCKS>) -> ArrayVec<Block, MAX_BLOCKS>
     ensures { result.items ≡ described plain.now blocks.now.items }
 {
     let mut list = ArrayVec::new();
