@@ -5,7 +5,7 @@ use Rattle.xh_model.specs.Words.{place_of}
 use Rattle.xh_model.specs.Keyed.{Among, Distinct}
 use Rattle.xh_model.proofs.Keyed.{among_back, among_either, among_front, dec_among}
 use Rattle.xh_records.specs.inner.Views.{places_from}
-use Rattle.xh_records.specs.inner.Hands.{AllBelow}
+use Rattle.xh_records.specs.inner.Tokens.{AllBelow}
 use Rattle.xh_records.proofs.Lists.{few}
 
 -- the places of processes

@@ -15,7 +15,7 @@ use Rattle.xh_records.specs.declared.view.View.{View}
 use Rattle.xh_records.specs.Showing.{IsLotOf, IsLotAt}
 use Rattle.xh_records.specs.Seats.{RecordsOf, Held, IsRecord, IsSeatOf, with_lots}
 use Rattle.xh_records.specs.inner.Views.{events_in}
-use Rattle.xh_records.specs.inner.Hands.{IsListed, IsSeat, numbered}
+use Rattle.xh_records.specs.inner.Tokens.{IsListed, IsSeat, numbered}
 use Rattle.xh_records.proofs.Seating.{Reach, reaches, replaces}
 use Rattle.xh_records.proofs.Numbered.{held, number_is, put_numbered, slot_is, lot_there, held_same}
 

@@ -48,7 +48,7 @@ use Rattle.atomic_table.proofs.Lists.{at_index}
 use Rattle.xh_model.specs.Keyed.{Among, Distinct, keys, put, without}
 use Rattle.xh_model.proofs.Keyed.{distinct_split, here_first, keys_append, length-keys, not_here, put_here, put_split, put_there, split_at_key, without_split}
 use Rattle.xh_records.specs.Seats.{owned_by}
-use Rattle.xh_records.specs.inner.Hands.{AllBelow, turns, in_slot}
+use Rattle.xh_records.specs.inner.Tokens.{AllBelow, turns, in_slot}
 use Rattle.xh_records.specs.inner.Gathering.{slot_at, or_else}
 use Rattle.xh_records.proofs.Elements.{nth_is}
 

@@ -21,7 +21,7 @@ use Rattle.xh_model.specs.declared.event.Holder.TheVariants.{Process, Direction}
 use Rattle.xh_records.specs.inner.Events.{taking, giving}
 use Rattle.xh_records.specs.Seats.{HasGained, HasLost, Held, owned_by, view_of, did, with_lots, IsRecord}
 use Rattle.xh_records.specs.inner.Views.{events_in}
-use Rattle.xh_records.specs.inner.Hands.{in_slot, with_lot, numbered, AllLots, IsSeat}
+use Rattle.xh_records.specs.inner.Tokens.{in_slot, with_lot, numbered, AllLots, IsSeat}
 
 pub index_injective : (n k j : ℕ) → 0 < n → n ≤ 256 → number_of n k ≡ number_of n j → k ≡ j
 index_injective n k j pos most e = sym (index_back n k pos most) ∙ ap (index_of n) e ∙ index_back n j pos most

@@ -18,7 +18,7 @@ use Rattle.xh_records.specs.Showing.{Owns, IsLotAt}
 use Rattle.xh_records.specs.Seats.{owned_by}
 use Rattle.xh_records.specs.inner.Events.{taking, giving}
 use Rattle.xh_records.specs.inner.Views.{IsAlone, events_in, gained, lost, renewed}
-use Rattle.xh_records.specs.inner.Hands.{AllBelow, AllLots, IsSeat, in_slot}
+use Rattle.xh_records.specs.inner.Tokens.{AllBelow, AllLots, IsSeat, in_slot}
 use Rattle.xh_records.proofs.History.{adds_one}
 use Rattle.xh_records.proofs.Lists.{few, below_push, owned_push, among_owned, slot_split, below_split, owned_without, remove_split, below_at, stands}
 

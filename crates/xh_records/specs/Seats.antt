@@ -19,7 +19,7 @@ pub record RecordsOf : Type 0 where
   pub table : TableId
   pub shape : Shape
 
--- the table, the seat's number there, the process that it stands for, the lots of the records that the process owns, each beside its record's number, in the order gained, and the events that the
+-- a seat: its table, its number there, the process that it stands for, the lots of the records that the process owns, each beside its record's number, in the order gained, and the events that the
 -- seat did, in their order
 pub record Held (B : Type 0) : Type 0 where
   pub table : TableId

@@ -2,5 +2,5 @@
 pub mod Events
 pub mod Views
 pub mod Steps
-pub mod Hands
+pub mod Tokens
 pub mod Gathering

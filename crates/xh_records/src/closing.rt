@@ -8,10 +8,10 @@ ghost use Rattle.xh_model.specs.Keyed.{Among};
 ghost use Rattle.xh_records.specs.Seats.{Ends, Held, IsSeatOf, indices, lot_in, view_of};
 ghost use Rattle.xh_records.specs.inner.Gathering.{slot_at, or_else, IsGathered};
 
-use crate::hand::{Board, Hand, hand_over, join};
 use crate::records::Records;
 use crate::refused::Refused;
 use crate::seat::Seat;
+use crate::token::{Board, Token, hand_over, join};
 use atomic_table::Closed;
 use std::alloc::{AllocError, Global};
 use xh_arena::{Fits, Lot};
@@ -64,27 +64,27 @@ fn empty_out<B: Fits + Drop>(
     board: &Board<B>,
     seat: Seat<B>,
     held: &mut Vec<Option<Lot<B>>>,
-) -> Hand<B>
+) -> Token<B>
     requires own { (seat.table ≡ board.now.table_id) × (0 < board.now.table_id.words) }
     requires long { vec_len held.old ≡ board.now.table_id.slots }
-    ensures hand { (result.table_id ≡ seat.table) × (result.me ≡ (view_of seat, [])) }
+    ensures token { (result.table_id ≡ seat.table) × (result.me ≡ (view_of seat, [])) }
     ensures long { vec_len held.new ≡ vec_len held.old }
     ensures full { (k : ℕ) → Among (indices seat) k → (l : LotOf B) × (lot_in k seat ≡ Some l) }
     ensures lots { (k : ℕ) → k < vec_len held.old → slot_at held.new.items k ≡ or_else (lot_in k seat) (slot_at held.old.items k) }
 {
     let Seat {
-        mut hand,
+        mut token,
         order,
         process: _,
     } = seat;
     for k in 0..order.len() {
         let at = order[k];
         let slot = usize::from(at);
-        let lot = board.exchange(&mut hand, slot, None);
+        let lot = board.exchange(&mut token, slot, None);
         held[slot] = lot;
-        hand.turn();
+        token.turn();
     }
-    hand_over(board, &mut hand)
+    hand_over(board, &mut token)
 }
 
 // Empties all seats, and joins their views.
@@ -92,24 +92,24 @@ fn join_all<B: Fits + Drop>(
     board: &Board<B>,
     mut seats: Vec<Seat<B>>,
     held: &mut Vec<Option<Lot<B>>>,
-) -> Hand<B>
+) -> Token<B>
     requires own { (k : ℕ) (x : Held B) → get_elem? seats.items k ≡ some x → x.table ≡ board.now.table_id }
     requires some_seat { (0 < vec_len seats) × (0 < board.now.table_id.words) }
     requires long { vec_len held.old ≡ board.now.table_id.slots }
     requires none { (k : ℕ) → k < vec_len held.old → slot_at held.old.items k ≡ None }
-    ensures hand { (result.table_id ≡ board.now.table_id) × (result.me.1 ≡ []) }
+    ensures token { (result.table_id ≡ board.now.table_id) × (result.me.1 ≡ []) }
     ensures gathered { IsGathered 0 seats.items result.me.0 held.new.items }
     ensures long { vec_len held.new ≡ vec_len held.old }
 {
     let Some(last) = seats.pop() else {
         unreachable!()
     };
-    let mut hand = empty_out(board, last, held);
+    let mut token = empty_out(board, last, held);
     while let Some(seat) = seats.pop() {
         let other = empty_out(board, seat, held);
-        join(board, &mut hand, other);
+        join(board, &mut token, other);
     }
-    hand
+    token
 }
 
 impl<B: Fits + Drop> Records<B> {
@@ -129,12 +129,12 @@ impl<B: Fits + Drop> Records<B> {
         let words = Vec::with_capacity(alloc, count)?;
         let lots = Vec::with_capacity(alloc, count)?;
         let mut held = nones(alloc, count)?;
-        let hand = join_all(&self.table.shared, seats, &mut held);
+        let token = join_all(&self.table.shared, seats, &mut held);
         let Records {
             table,
             arenas: _,
             records: _,
         } = self;
-        Ok(unload(table.close_with(hand), held, words, lots))
+        Ok(unload(table.close_with(token), held, words, lots))
     }
 }

@@ -8,11 +8,11 @@ ghost use Rattle.xh_arena.specs.Views.{LotOf};
 ghost use Rattle.xh_model.specs.Keyed.{put, value_at};
 ghost use Rattle.xh_records.specs.Showing.{IsLotOf};
 ghost use Rattle.xh_records.specs.Seats.{IsSeatOf, IsRecord, with_lots};
-ghost use Rattle.xh_records.specs.inner.Hands.{IsListed, in_slot};
+ghost use Rattle.xh_records.specs.inner.Tokens.{IsListed, in_slot};
 
-use crate::hand::{Board, Hand, position, turn_by};
 use crate::records::Records;
 use crate::seat::Seat;
+use crate::token::{Board, Token, position, turn_by};
 use xh_arena::{Fits, Lot};
 
 // One call of `f` at `x`.
@@ -31,24 +31,24 @@ fn call_at_two<X, A, F: FnMut(&mut X, &mut X) -> A>(f: &mut F, x: &mut X, y: &mu
     f(x, y)
 }
 
-// Puts a lot or nothing into a slot that the hand holds, and gives what was there. The list keeps its order.
+// Puts a lot or nothing into a slot that the token holds, and gives what was there. The list keeps its order.
 fn swap_slot<B: Fits>(
     board: &Board<B>,
-    hand: &mut Hand<B>,
+    token: &mut Token<B>,
     order: &[u16],
     slot: u16,
     new: Option<Lot<B>>,
 ) -> Option<Lot<B>>
-    requires own { hand.old.table_id ≡ board.now.table_id }
-    requires listed { IsListed order.now hand.old.me.1 slot }
-    ensures hand { (hand.new.table_id ≡ hand.old.table_id) × (hand.new.id ≡ hand.old.id) × (hand.new.me ≡ (hand.old.me.0, put slot new hand.old.me.1)) }
-    ensures value { result ≡ in_slot slot hand.old.me.1 }
+    requires own { token.old.table_id ≡ board.now.table_id }
+    requires listed { IsListed order.now token.old.me.1 slot }
+    ensures token { (token.new.table_id ≡ token.old.table_id) × (token.new.id ≡ token.old.id) × (token.new.me ≡ (token.old.me.0, put slot new token.old.me.1)) }
+    ensures value { result ≡ in_slot slot token.old.me.1 }
 {
     let k = position(order, slot);
     let after = order.len() - k;
-    turn_by(hand, k);
-    let found = board.exchange(hand, usize::from(slot), new);
-    turn_by(hand, after);
+    turn_by(token, k);
+    let found = board.exchange(token, usize::from(slot), new);
+    turn_by(token, after);
     found
 }
 
@@ -70,14 +70,14 @@ impl<B: Fits + Drop> Records<B> {
     {
         let board = &self.table.shared;
         let slot = self.slot_of(number);
-        let Some(mut lot) = swap_slot(board, &mut seat.hand, seat.order.as_slice(), slot, None)
+        let Some(mut lot) = swap_slot(board, &mut seat.token, seat.order.as_slice(), slot, None)
         else {
             unreachable!()
         };
         let answer = call_at(f, &mut lot);
         drop(swap_slot(
             board,
-            &mut seat.hand,
+            &mut seat.token,
             seat.order.as_slice(),
             slot,
             Some(lot),
@@ -104,15 +104,17 @@ impl<B: Fits + Drop> Records<B> {
         let board = &self.table.shared;
         let i = self.slot_of(first);
         let j = self.slot_of(second);
-        let Some(mut left) = swap_slot(board, &mut seat.hand, seat.order.as_slice(), i, None) else {
+        let Some(mut left) = swap_slot(board, &mut seat.token, seat.order.as_slice(), i, None)
+        else {
             unreachable!()
         };
-        let Some(mut also) = swap_slot(board, &mut seat.hand, seat.order.as_slice(), j, None) else {
+        let Some(mut also) = swap_slot(board, &mut seat.token, seat.order.as_slice(), j, None)
+        else {
             unreachable!()
         };
         let answer = call_at_two(f, &mut left, &mut also);
-        drop(swap_slot(board, &mut seat.hand, seat.order.as_slice(), i, Some(left)));
-        drop(swap_slot(board, &mut seat.hand, seat.order.as_slice(), j, Some(also)));
+        drop(swap_slot(board, &mut seat.token, seat.order.as_slice(), i, Some(left)));
+        drop(swap_slot(board, &mut seat.token, seat.order.as_slice(), j, Some(also)));
         answer
     }
 }

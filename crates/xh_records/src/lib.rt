@@ -2,7 +2,6 @@
 #![tactic(auto)]
 
 mod closing;
-mod hand;
 mod lending;
 mod plays;
 mod records;
@@ -13,6 +12,7 @@ mod seen;
 mod shape;
 #[cfg(test)]
 mod tests;
+mod token;
 mod view;
 mod word;
 

@@ -12,12 +12,12 @@ ghost use Rattle.xh_records.specs.Showing.{IsLotOf, IsEmpty, IsFull};
 ghost use Rattle.xh_records.specs.Seats.{Knows, SawTaken};
 ghost use Rattle.xh_records.specs.inner.Events.{taking, giving, IsAway, IsHomeLot};
 
-use crate::hand::{deal, give_slot, look_at, renew_hand, take_slot};
 use crate::refused::Refused;
 use crate::rule::Showing;
 use crate::seat::Seat;
 use crate::seen::Seen;
 use crate::shape::Shape;
+use crate::token::{deal, give_slot, look_at, renew_token, take_slot};
 use crate::view::View;
 use crate::word::OwnerWord;
 use arrayvec::ArrayVec;
@@ -38,7 +38,7 @@ pub struct Records<B: Fits> {
 
 impl<B: Fits> Model for Records<B> {
     ghost use Rattle.xh_records.specs.Seats.{RecordsOf};
-    ghost use Rattle.xh_records.specs.inner.Hands.{IsTable};
+    ghost use Rattle.xh_records.specs.inner.Tokens.{IsTable};
 
     ghost Value = { RecordsOf };
 
@@ -99,10 +99,10 @@ impl<B: Fits + Drop> Records<B> {
         let mut seats = Vec::with_capacity(alloc, usize::from(places))?;
         for place in 0..places {
             let order = Vec::with_capacity(alloc, count)?;
-            let hand = deal(&table.shared, &mut dealer);
+            let token = deal(&table.shared, &mut dealer);
             let process = u16::from(place);
             seats.push_reserved(Seat {
-                hand,
+                token,
                 order,
                 process,
             });
@@ -155,7 +155,13 @@ impl<B: Fits + Drop> Records<B> {
         ensures missed { IfErr result (λ word. HasMissed self.now.shape (holder_of from) number word seat.old seat.new) }
     {
         let slot = self.slot_of(number);
-        match take_slot(&self.table.shared, &mut seat.hand, slot, from, seat.process) {
+        match take_slot(
+            &self.table.shared,
+            &mut seat.token,
+            slot,
+            from,
+            seat.process,
+        ) {
             Ok(()) => {
                 seat.order.push_reserved(slot);
                 Ok(())
@@ -174,7 +180,7 @@ impl<B: Fits + Drop> Records<B> {
     {
         let slot = self.slot_of(number);
         let board = &self.table.shared;
-        let k = give_slot(board, &mut seat.hand, seat.order.as_slice(), slot, to);
+        let k = give_slot(board, &mut seat.token, seat.order.as_slice(), slot, to);
         seat.order.remove(k);
     }
 
@@ -268,7 +274,7 @@ impl<B: Fits + Drop> Records<B> {
         ensures same { seat.new ≡ seat.old }
     {
         let slot = self.slot_of(number);
-        look_at(&self.table.shared, &mut seat.hand, slot)
+        look_at(&self.table.shared, &mut seat.token, slot)
     }
 
     /// The seat, which holds no record, stands for the next generation of its place, at most 127. The
@@ -280,7 +286,7 @@ impl<B: Fits + Drop> Records<B> {
         ensures process { result ≡ seat.old.process + PLACES }
         ensures renewed { seat.new ≡ record seat.old { process = seat.old.process + PLACES } }
     {
-        renew_hand(&self.table.shared, &mut seat.hand, seat.process);
+        renew_token(&self.table.shared, &mut seat.token, seat.process);
         seat.process += u16::from(PLACES);
         seat.process
     }

@@ -4,7 +4,7 @@ ghost use Rattle.xh_model.specs.Keyed.{value_at};
 ghost use Rattle.xh_records.specs.Showing.{IsLotOf};
 ghost use Rattle.xh_records.specs.Seats.{IsRecord};
 
-use crate::hand::Hand;
+use crate::token::Token;
 use std::marker::Model;
 use xh_arena::Lot;
 
@@ -12,8 +12,8 @@ use xh_arena::Lot;
 /// another thread.
 #[derive(Drop)]
 pub struct Seat<B> {
-    pub(crate) hand: Hand<B>,
-    // The slots, in the order of the hand's list.
+    pub(crate) token: Token<B>,
+    // The slots, in the order of the token's list.
     pub(crate) order: Vec<u16>,
     pub(crate) process: u16,
 }
@@ -22,20 +22,20 @@ impl<B> Model for Seat<B> {
     ghost use Rattle.std.specs.Vec.{vec_capacity};
     ghost use Rattle.xh_records.specs.Seats.{Held};
     ghost use Rattle.xh_records.specs.inner.Views.{events_in};
-    ghost use Rattle.xh_records.specs.inner.Hands.{IsSeat, numbered};
+    ghost use Rattle.xh_records.specs.inner.Tokens.{IsSeat, numbered};
 
     ghost Value = { Held B };
 
     ghost view = { λ s. record {
-      table = s.hand.table_id;
-      id = s.hand.id;
-      shape = s.hand.me.0.shape;
+      table = s.token.table_id;
+      id = s.token.id;
+      shape = s.token.me.0.shape;
       process = s.process;
-      lots = numbered s.hand.me.0.shape.records s.hand.me.1;
-      done = events_in s.hand.me.0;
+      lots = numbered s.token.me.0.shape.records s.token.me.1;
+      done = events_in s.token.me.0;
     } };
 
-    ghost invariant = { λ s. IsSeat s.process s.order.items (vec_capacity s.order) s.hand.table_id.slots s.hand.me };
+    ghost invariant = { λ s. IsSeat s.process s.order.items (vec_capacity s.order) s.token.table_id.slots s.token.me };
 }
 
 impl<B> Seat<B> {

@@ -22,7 +22,8 @@ fn cut_at(
 ) -> (u32, u32)
     requires own { IsSeatOf records.now seat.old }
     requires exists { IsRecord records.now.shape first × IsRecord records.now.shape second × (first ≢ second) }
-    requires held { (l m : LotOf Any) × (value_at first seat.old.lots ≡ Some l) × (value_at second seat.old.lots ≡ Some m) × IsLotOf seat.old.shape first l × IsLotOf seat.old.shape second m × (l.id ≡ vault.old.id) × (m.id ≡ vault.old.id) × (l.len ≡ 32) × (m.len ≡ 0) }
+    requires held { (l m : LotOf Any) × (value_at first seat.old.lots ≡ Some l) × (value_at second seat.old.lots ≡ Some m) × IsLotOf seat.old.shape first l
+        × IsLotOf seat.old.shape second m × (l.id ≡ vault.old.id) × (m.id ≡ vault.old.id) × (l.len ≡ 32) × (m.len ≡ 0) }
     ensures { IsSeatOf records.now seat.new × (seat.new.process ≡ seat.old.process) }
 {
     records.with_two(

@@ -6,7 +6,7 @@ use Rattle.xh_arena.specs.Views.{LotOf}
 use Rattle.xh_model.specs.Keyed.{Among, Distinct, keys}
 use Rattle.xh_model.proofs.Keyed.{distinct_split, keys_append}
 use Rattle.xh_records.specs.Seats.{lot_in, indices, Held}
-use Rattle.xh_records.specs.inner.Hands.{in_slot, AllLots, AllBelow}
+use Rattle.xh_records.specs.inner.Tokens.{in_slot, AllLots, AllBelow}
 use Rattle.xh_records.specs.inner.Gathering.{slot_at, or_else}
 use Rattle.xh_records.proofs.Lists.{next_slot, all_front, index_is, fills, first_is, below_at}
 use Rattle.xh_records.proofs.Seating.{lot_here, all_full}
@@ -16,7 +16,7 @@ use Rattle.xh_records.proofs.closing.empty_out.Goals.{After-from-slot}
 use Rattle.xh_records.proofs.closing.empty_out.Goals as goal
 
 pub loop-k-init : goal.loop-k-init
-loop-k-init g c = ([], c.seat.inside.hand.me.1, [], record { split = refl; done = refl; left = sym (append-nil c.seat.inside.hand.me.1); view = refl; table = refl; long = refl; lots = λ r h. refl })
+loop-k-init g c = ([], c.seat.inside.token.me.1, [], record { split = refl; done = refl; left = sym (append-nil c.seat.inside.token.me.1); view = refl; table = refl; long = refl; lots = λ r h. refl })
 
 -- the seat's next slot, and what it has there
 module _ (g : Over) (c : After-from-slot g) where
@@ -34,7 +34,7 @@ module _ (g : Over) (c : After-from-slot g) where
       ∙ ap (λ (z : ℕ). get_or c.seat.inside.order.items c.loop-k.k z) (sym c.from-slot.ensures) in
       next_slot front back slot (omega arith) (index_is c.seat.inside.order.items c.loop-k.k slot (omega arith) at ∙ (λ j. get_or (order_is j) (sym done j) 0))
 
-  here : c.loop-k.hand.me.1 ≡ (c.from-slot.result, next.0) ∷ (next.1 ++ c.loop-k.invariant.2)
+  here : c.loop-k.token.me.1 ≡ (c.from-slot.result, next.0) ∷ (next.1 ++ c.loop-k.invariant.2)
   here = c.loop-k.invariant.3.left ∙ ap (λ z. z ++ c.loop-k.invariant.2) next.2
 
   all : c.seat.inside.order.items ≡ keys c.loop-k.invariant.0 ++ c.from-slot.result ∷ keys next.1
@@ -42,8 +42,8 @@ module _ (g : Over) (c : After-from-slot g) where
 
   inside : c.from-slot.result < vec_len c.loop-k.held
   inside =
-      let below : c.from-slot.result < c.seat.inside.hand.table_id.slots = below_at _ (keys c.loop-k.invariant.0) c.from-slot.result (keys next.1)
-      (subst (AllBelow c.seat.inside.hand.table_id.slots) all c.seat.invariant.below) in
+      let below : c.from-slot.result < c.seat.inside.token.table_id.slots = below_at _ (keys c.loop-k.invariant.0) c.from-slot.result (keys next.1)
+      (subst (AllBelow c.seat.inside.token.table_id.slots) all c.seat.invariant.below) in
       subst (λ (n : ℕ). c.from-slot.result < n) (ap (λ z. z.slots) (ap (λ h. h.table) c.seat.view_is ∙ c.requires.own.0) ∙ sym c.requires.long ∙ sym c.loop-k.invariant.3.long) below
 
 pub exchange-lot-requires : goal.exchange-lot-requires
@@ -61,7 +61,7 @@ loop-k-preserved g c =
     let slot : ℕ = c.from-slot.result in let one = next g s in
     let fits : slot < vec_len c.loop-k.held = inside g s in
     let d = distinct_split (keys front) slot (keys one.1) (subst Distinct (all g s) c.seat.invariant.distinct) in
-    let lot = lot_here c.seat.inside.hand.me.0.shape front (slot, one.0) one.1 (subst (AllLots c.seat.inside.hand.me.0.shape) (f.split ∙ ap (λ z. front ++ z) one.2) c.seat.invariant.lots) in
+    let lot = lot_here c.seat.inside.token.me.0.shape front (slot, one.0) one.1 (subst (AllLots c.seat.inside.token.me.0.shape) (f.split ∙ ap (λ z. front ++ z) one.2) c.seat.invariant.lots) in
     let got = first_is slot _ _ _ _ _ c.exchange-lot.ensures.2 (here g s) in (
       front ++ (slot, one.0) ∷ [],
       one.1,
@@ -85,7 +85,7 @@ pub returns-clause-lots : goal.returns-clause-lots
 returns-clause-lots g c =
     let i = c.loop-k.invariant in
     let front = i.0 in let back = i.1 in let f = i.3 in
-    let me = c.seat.inside.hand.me in let seat = c.seat.invariant in
+    let me = c.seat.inside.token.me in let seat = c.seat.invariant in
     let ended : c.len-k-end.result ≤ c.loop-k.k = c.loop-k-test.false in
     let done : length front ≡ c.loop-k.k = f.done in
     let size : length c.seat.inside.order.items ≡ length (keys (front ++ back)) = ap length (c.seat.invariant.ordered ∙ ap keys f.split) in
@@ -95,14 +95,14 @@ returns-clause-lots g c =
 
 pub returns-clause-full : goal.returns-clause-full
 returns-clause-full g c = λ k h.
-    let me = c.seat.inside.hand.me in let seat = c.seat.invariant in
+    let me = c.seat.inside.token.me in let seat = c.seat.invariant in
     let there : Among (keys me.1) k = subst (λ (z : List ℕ). Among z k) (ap (λ (x : Held g.row.B.Denot). indices x) (sym c.seat.view_is) ∙ indices_are me.0.shape seat.small me.1 seat.lots) h in
     let t = all_full me.0.shape me.1 seat.lots k there in
     (t.0, ap (λ (x : Held g.row.B.Denot). lot_in k x) (sym c.seat.view_is) ∙ lot_numbered me.0.shape seat.small me.1 k seat.lots ∙ t.1)
 
-pub returns-clause-hand : goal.returns-clause-hand
-returns-clause-hand g c =
+pub returns-clause-token : goal.returns-clause-token
+returns-clause-token g c =
     let f = c.loop-k.invariant.3 in (
       c.hand_over.ensures.seat.0 ∙ f.table ∙ ap (λ h. h.table) c.seat.view_is,
-      c.hand_over.ensures.seat.1 ∙ ap (λ z. (z, [])) (f.view ∙ sym (views_are c.args.seat _ _ _ c.seat.inside.hand.me c.seat.view_is _ _ _ c.seat.invariant)),
+      c.hand_over.ensures.seat.1 ∙ ap (λ z. (z, [])) (f.view ∙ sym (views_are c.args.seat _ _ _ c.seat.inside.token.me c.seat.view_is _ _ _ c.seat.invariant)),
     )

@@ -2,7 +2,7 @@ use Rattle.std.proofs.Common.{◌≡◌, ℕ, ◌<◌, ◌++◌, List, length}
 use Rattle.std.specs.Prelude.{Option}
 use Rattle.std.specs.Vec.{vec_len}
 use Rattle.xh_arena.specs.Views.{LotOf}
-use Rattle.xh_records.specs.inner.Hands.{in_slot}
+use Rattle.xh_records.specs.inner.Tokens.{in_slot}
 use Rattle.xh_records.specs.inner.Gathering.{slot_at, or_else}
 use Rattle.xh_records.proofs.closing.empty_out.Given as goal
 
@@ -10,11 +10,11 @@ abbrev pub invariant-loop-k : goal.invariant-loop-k
 invariant-loop-k g l =
     (front : List (ℕ × Option (LotOf g.row.B.Denot))) × (back : List (ℕ × Option (LotOf g.row.B.Denot))) × (junk : List (ℕ × Option (LotOf g.row.B.Denot)))
     × record {
-      split : l.initial.hand.me.1 ≡ front ++ back;
+      split : l.initial.token.me.1 ≡ front ++ back;
       done : length front ≡ l.k;
-      left : l.hand.me.1 ≡ back ++ junk;
-      view : l.hand.me.0 ≡ l.initial.hand.me.0;
-      table : l.hand.table_id ≡ l.initial.hand.table_id;
+      left : l.token.me.1 ≡ back ++ junk;
+      view : l.token.me.0 ≡ l.initial.token.me.0;
+      table : l.token.table_id ≡ l.initial.token.table_id;
       long : vec_len l.held ≡ vec_len l.fn.held;
       lots : (r : ℕ) → r < vec_len l.fn.held → slot_at l.held.items r ≡ or_else (in_slot r front) (slot_at l.fn.held.items r);
     }

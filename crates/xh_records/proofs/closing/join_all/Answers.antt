@@ -28,27 +28,27 @@ module _ (g : Over) (c : In-Some-pop g) where
       subst (λ z. get_elem? z m ≡ some c.in-Some-pop.seat) (sym split) (at_longer (c.pop-in-loop-seat.new.self.items ++ c.in-Some-pop.seat ∷ []) c.loop-seat.invariant.0 m c.in-Some-pop.seat
       (at_last c.pop-in-loop-seat.new.self.items c.in-Some-pop.seat m refl))
 
-pub empty_out-hand-requires-clause-own : goal.empty_out-hand-requires-clause-own
-empty_out-hand-requires-clause-own g c = (c.requires.own _ c.in-Some.last (last_at g (goal.at.empty_out-hand-requires-clause-own g c).In-Some), c.requires.some_seat.1)
+pub empty_out-token-requires-clause-own : goal.empty_out-token-requires-clause-own
+empty_out-token-requires-clause-own g c = (c.requires.own _ c.in-Some.last (last_at g (goal.at.empty_out-token-requires-clause-own g c).In-Some), c.requires.some_seat.1)
 
 pub loop-seat-init : goal.loop-seat-init
 loop-seat-init g c =
     let m : ℕ = length c.pop.new.self.items in
     let last = c.in-Some.last in
     let at = last_at g (goal.at.loop-seat-init g c).In-Some in
-    let e = c.empty_out-hand.ensures in
+    let e = c.empty_out-token.ensures in
     let size : length c.args.seats.items ≡ suc m = (let z = ap length c.in-Some.ensures.items ∙ length-append c.pop.new.self.items (last ∷ []) in omega arith) in (
       last ∷ [],
       last.process,
       record {
         split = c.in-Some.ensures.items;
-        placed = subst (λ v. Sits v last.process) (sym (ap (λ k. k.0) e.hand.1)) (inl refl);
-        table = e.hand.0 ∙ c.requires.own m last at;
-        bare = ap (λ k. k.1) e.hand.1;
-        gathered = gathers m c.args.seats.items last spent c.empty_out-hand.result.me.0 c.args.held.now.items c.empty_out-hand.new.held.items at
+        placed = subst (λ v. Sits v last.process) (sym (ap (λ k. k.0) e.token.1)) (inl refl);
+        table = e.token.0 ∙ c.requires.own m last at;
+        bare = ap (λ k. k.1) e.token.1;
+        gathered = gathers m c.args.seats.items last spent c.empty_out-token.result.me.0 c.args.held.now.items c.empty_out-token.new.held.items at
             (gathers_none c.args.seats.items (suc m) c.args.held.now.items size (λ r h. c.requires.none r (let k : r < vec_len c.args.held.now = search rules in k)))
-            (ap (λ k. k.0.processes) e.hand.1) (ap (λ k. k.0.records) e.hand.1) (ap (λ k. k.0.done) e.hand.1)
-            (let k : length c.empty_out-hand.new.held.items ≡ length c.args.held.now.items = search rules in k) e.full
+            (ap (λ k. k.0.processes) e.token.1) (ap (λ k. k.0.records) e.token.1) (ap (λ k. k.0.done) e.token.1)
+            (let k : length c.empty_out-token.new.held.items ≡ length c.args.held.now.items = search rules in k) e.full
             (λ r h. e.lots r (let k : r < vec_len c.args.held.now = search rules in k));
         long = e.long;
       },
@@ -60,7 +60,7 @@ empty_out-other-requires-clause-own g c = (c.requires.own _ c.in-Some-pop.seat (
 pub join-requires-clause-own : goal.join-requires-clause-own
 join-requires-clause-own g c = (
   c.loop-seat.invariant.2.table,
-  c.empty_out-other.ensures.hand.0 ∙ c.requires.own _ c.in-Some-pop.seat (seat_at g (goal.at.join-requires-clause-own g c).In-Some-pop),
+  c.empty_out-other.ensures.token.0 ∙ c.requires.own _ c.in-Some-pop.seat (seat_at g (goal.at.join-requires-clause-own g c).In-Some-pop),
   c.requires.some_seat.1,
 )
 
@@ -74,9 +74,9 @@ loop-seat-preserved g c =
     let seat = c.in-Some-pop.seat in
     let s = (goal.at.loop-seat-preserved g c).In-Some-pop in let all = split g s in let at = seat_at g s in
     let e = c.empty_out-other.ensures in
-    let j = c.join.ensures.hand in
-    let v = c.loop-seat.hand.me.0 in
-    let joined_is : c.join.new.hand.me.0 ≡ joined v (view_of seat) = ap (λ k. k.0) j.2 ∙ ap (λ k. joined v k.0) e.hand.1 in
+    let j = c.join.ensures.token in
+    let v = c.loop-seat.token.me.0 in
+    let joined_is : c.join.new.token.me.0 ≡ joined v (view_of seat) = ap (λ k. k.0) j.2 ∙ ap (λ k. joined v k.0) e.token.1 in
     let size : length c.loop-seat.seats.items ≡ suc m = (let z = ap length c.in-Some-pop.ensures.items ∙ length-append c.pop-in-loop-seat.new.self.items (seat ∷ []) in omega arith) in (
       seat ∷ i.0,
       i.1,
@@ -85,7 +85,7 @@ loop-seat-preserved g c =
         placed = subst (λ z. Sits z i.1) (sym joined_is) (among_front v.processes (seat.process ∷ []) i.1 f.placed);
         table = j.0 ∙ f.table;
         bare = ap (λ k. k.1) j.2 ∙ f.bare;
-        gathered = gathers m c.args.seats.items seat v c.join.new.hand.me.0 c.loop-seat.held.items c.empty_out-other.new.held.items at
+        gathered = gathers m c.args.seats.items seat v c.join.new.token.me.0 c.loop-seat.held.items c.empty_out-other.new.held.items at
             (subst (λ n. IsGathered n c.args.seats.items v c.loop-seat.held.items) size f.gathered)
             (ap (λ k. k.processes) joined_is) (ap (λ k. k.records) joined_is) (ap (λ k. k.done) joined_is)
             (let k : length c.empty_out-other.new.held.items ≡ length c.loop-seat.held.items = search rules in k) e.full

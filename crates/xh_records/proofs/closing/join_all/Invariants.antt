@@ -10,10 +10,10 @@ invariant-loop-seat g l =
     (done : List (Held g.row.B.Denot)) × (p : ℕ)
     × record {
       split : l.fn.seats.items ≡ l.seats.items ++ done;
-      placed : Sits l.hand.me.0 p;
-      table : l.hand.table_id ≡ l.board.table_id;
-      bare : l.hand.me.1 ≡ [];
-      gathered : IsGathered (length l.seats.items) l.fn.seats.items l.hand.me.0 l.held.items;
+      placed : Sits l.token.me.0 p;
+      table : l.token.table_id ≡ l.board.table_id;
+      bare : l.token.me.1 ≡ [];
+      gathered : IsGathered (length l.seats.items) l.fn.seats.items l.token.me.0 l.held.items;
       long : vec_len l.held ≡ vec_len l.fn.held;
     }
 

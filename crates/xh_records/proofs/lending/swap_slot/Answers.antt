@@ -3,15 +3,15 @@ use lib.ListN.{get_elem?}
 use mathlib.Core.Option.{some}
 use Rattle.atomic_table.specs.Table.{rest}
 use Rattle.xh_model.specs.Keyed.{Distinct}
-use Rattle.xh_records.specs.inner.Hands.{turns}
+use Rattle.xh_records.specs.inner.Tokens.{turns}
 use Rattle.xh_records.proofs.Lists.{Turned, turned_at, first_is}
 use Rattle.xh_records.proofs.lending.swap_slot.Given.{Over}
 use Rattle.xh_records.proofs.lending.swap_slot.Goals.{After-position-k}
 use Rattle.xh_records.proofs.lending.swap_slot.Goals as goal
 
--- the hand's list, turned to the slot
-at_slot : (g : Over) (c : After-position-k g) → Turned c.args.hand.now.me.1 c.position-k.result c.args.slot
-at_slot g c = let l = c.requires.listed in turned_at c.args.hand.now.me.1 c.position-k.result c.args.slot (subst Distinct l.0 l.1)
+-- the token's list, turned to the slot
+at_slot : (g : Over) (c : After-position-k g) → Turned c.args.token.now.me.1 c.position-k.result c.args.slot
+at_slot g c = let l = c.requires.listed in turned_at c.args.token.now.me.1 c.position-k.result c.args.slot (subst Distinct l.0 l.1)
     (subst (λ z. get_elem? z c.position-k.result ≡ some c.args.slot) l.0 c.position-k.ensures)
 
 pub overflow_sub-after : goal.overflow_sub-after
@@ -37,10 +37,10 @@ returns g c =
     let after : length c.args.order.now - c.position-k.result ≡ suc t.behind = omega arith in
     let m1 = c.turn_by.ensures.2 in
     let m2 = c.exchange-found.ensures.3 ∙ (λ i. ((m1 i).0, (c.from.ensures i, c.args.new) ∷ rest (here i))) in record {
-      hand = (
+      token = (
         c.turn_by-2.ensures.0 ∙ c.exchange-found.ensures.0 ∙ c.turn_by.ensures.0,
         c.turn_by-2.ensures.1 ∙ c.exchange-found.ensures.1 ∙ c.turn_by.ensures.1,
-        c.turn_by-2.ensures.2 ∙ (λ i. ((m2 i).0, turns (after i) (m2 i).1)) ∙ ap (λ z. (c.args.hand.now.me.0, z)) (t.again c.args.new),
+        c.turn_by-2.ensures.2 ∙ (λ i. ((m2 i).0, turns (after i) (m2 i).1)) ∙ ap (λ z. (c.args.token.now.me.0, z)) (t.again c.args.new),
       );
       value = first_is c.from.result _ _ _ _ _ c.exchange-found.ensures.2 (here ∙ (λ i. (sym c.from.ensures i, t.value) ∷ t.others)) ∙ sym t.is_value;
     }

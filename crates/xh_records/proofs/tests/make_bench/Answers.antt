@@ -20,7 +20,8 @@ invariant_of-result c =
     let items = c.in-Ok-new.seats.items in
     let first = seats.1 0 c.remove-first.result (slice_get_read items (length items) 0 c.remove-first.result refl (omega (arith, seats.0)) c.remove-first.ensures.value) in
     let left : c.remove-first.new.self.items ≡ drop 1 items = c.remove-first.ensures.items in
-    let next = slice_get_read c.remove-first.new.self.items (length c.remove-first.new.self.items) 0 c.remove-second.result refl (omega (arith, ap length left, length-drop 1 items, seats.0)) c.remove-second.ensures.value in
+    let next = slice_get_read c.remove-first.new.self.items (length c.remove-first.new.self.items) 0 c.remove-second.result refl
+    (omega (arith, ap length left, length-drop 1 items, seats.0)) c.remove-second.ensures.value in
     let second = seats.1 1 c.remove-second.result (get_drop_one items c.remove-second.result (subst (λ (xs : List (Held Any)). slice_get xs 0 ≡ Some c.remove-second.result) left next)) in
     let shape = c.in-Ok-new.ensures.shape in
     let tallies = c.in-Ok.ensures.tallies in

@@ -1,4 +1,4 @@
-use Rattle.std.proofs.Common.{arith, ◌≡◌, ◌≢◌, ℕ, ◌+◌, ◌*◌, ◌<◌, ◌≤◌, ◌∙◌, length, get_or, subst, sym, ap, ◌∷◌, [], length-append}
+use Rattle.std.proofs.Common.{arith, ◌≡◌, ◌≢◌, ℕ, ◌+◌, ◌*◌, ◌<◌, ◌≤◌, ◌∙◌, length, get_or, subst, sym, ap, length-append}
 use Rattle.xh_model.specs.declared.event.Event.TheVariants.{Claim}
 use Rattle.xh_records.specs.Showing.{IsEmpty}
 use Rattle.xh_records.specs.Seats.{Held, HasGained, view_of, Knows}

@@ -10,8 +10,8 @@ use Rattle.xh_records.proofs.records.Records.close.Given.{Over}
 use Rattle.xh_records.proofs.records.Records.close.Goals.{After-close_with}
 use Rattle.xh_records.proofs.records.Records.close.Goals as goal
 
-pub join_all-hand-requires : goal.join_all-hand-requires
-join_all-hand-requires g c =
+pub join_all-token-requires : goal.join_all-token-requires
+join_all-token-requires g c =
     let some_place : 0 < c.args.self.shape.places = subst (λ (z : Shape). 0 < z.places) (ap (λ r. r.shape) c.self.view_is) c.self.invariant.places.0 in
     let every = c.requires.all in record {
       own = λ k x at. (c.requires.own k x (elem_slice c.args.seats.items k x at)).0 ∙ sym (ap (λ r. r.table) c.self.view_is);
@@ -25,10 +25,10 @@ module _ (g : Over) (c : After-close_with g) where
   count : slots_len c.close_with.result.slots ≡ length (slots_items c.close_with.result.slots)
   count = (slots_counts c.close_with.result.slots).0
 
-  long : length c.join_all-hand.new.held.items ≡ length (slots_items c.close_with.result.slots)
+  long : length c.join_all-token.new.held.items ≡ length (slots_items c.close_with.result.slots)
   long =
-      let held_long : vec_len c.join_all-hand.new.held ≡ slots_len c.close_with.result.slots = search rules in
-      let size : vec_len c.join_all-hand.new.held ≡ length c.join_all-hand.new.held.items = search rules in sym size ∙ held_long ∙ count
+      let held_long : vec_len c.join_all-token.new.held ≡ slots_len c.close_with.result.slots = search rules in
+      let size : vec_len c.join_all-token.new.held ≡ length c.join_all-token.new.held.items = search rules in sym size ∙ held_long ∙ count
 
   shape_is : c.self.inside.table.shared.key ≡ c.args.self.shape
   shape_is = ap (λ r. r.shape) c.self.view_is
@@ -45,16 +45,16 @@ module _ (g : Over) (c : After-close_with g) where
 pub unload-requires-clause-some_lot : goal.unload-requires-clause-some_lot
 unload-requires-clause-some_lot g c =
     let s = (goal.at.unload-requires-clause-some_lot g c).After-close_with in
-    λ k h. some_lot g.B.Fits.is_fit c.self.inside.table.shared.key c.join_all-hand.result.id c.join_all-hand.result.me.0 (slots_items c.close_with.result.words)
-    (slots_items c.close_with.result.slots) c.args.seats.items c.join_all-hand.new.held.items
-    c.close_with.ensures.values.2 c.join_all-hand.ensures.gathered (long g s) c.self.invariant.small (own g s) (all g s) (sized g s) k (subst (λ (n : ℕ). k < n) (count g s) h)
+    λ k h. some_lot g.B.Fits.is_fit c.self.inside.table.shared.key c.join_all-token.result.id c.join_all-token.result.me.0 (slots_items c.close_with.result.words)
+    (slots_items c.close_with.result.slots) c.args.seats.items c.join_all-token.new.held.items
+    c.close_with.ensures.values.2 c.join_all-token.ensures.gathered (long g s) c.self.invariant.small (own g s) (all g s) (sized g s) k (subst (λ (n : ℕ). k < n) (count g s) h)
 
 pub returns : goal.returns
 returns g c =
     let s = (goal.at.returns g c).After-close_with in let key = c.self.inside.table.shared.key in
-    let done = ends g.B.Fits.is_fit key c.join_all-hand.result.id c.join_all-hand.result.me.0 (slots_items c.close_with.result.words)
-    (slots_items c.close_with.result.slots) c.args.seats.items c.join_all-hand.new.held.items
-    c.close_with.ensures.values.2 c.join_all-hand.ensures.gathered (long g s) c.self.invariant.small (own g s) (all g s) (sized g s) c.unload.result.1.items
+    let done = ends g.B.Fits.is_fit key c.join_all-token.result.id c.join_all-token.result.me.0 (slots_items c.close_with.result.words)
+    (slots_items c.close_with.result.slots) c.args.seats.items c.join_all-token.new.held.items
+    c.close_with.ensures.values.2 c.join_all-token.ensures.gathered (long g s) c.self.invariant.small (own g s) (all g s) (sized g s) c.unload.result.1.items
     (c.unload.ensures.long ∙ count g s) c.unload.ensures.lots in
     subst (λ z. Ends g.B.Fits.is_fit z c.args.seats.items c.unload.result.0.items c.unload.result.1.items) (shape_is g s)
     (subst (λ w. Ends g.B.Fits.is_fit key c.args.seats.items w c.unload.result.1.items) (sym c.unload.ensures.words) done)

@@ -8,7 +8,7 @@ use Rattle.xh_records.specs.Encoding.{holder_of}
 use Rattle.xh_records.specs.inner.Events.{giving}
 use Rattle.xh_records.specs.inner.Views.{events_in, lost}
 use Rattle.xh_records.specs.inner.Steps.{process_in}
-use Rattle.xh_records.specs.inner.Hands.{numbered}
+use Rattle.xh_records.specs.inner.Tokens.{numbered}
 use Rattle.xh_model.specs.declared.event.Holder.{Holder}
 use Rattle.atomic_table.specs.Table.{Me}
 use Rattle.xh_arena.specs.Views.{LotOf}
@@ -31,7 +31,7 @@ who : {B : Type 0} {p : ℕ} (me : Me (Option (LotOf B)) View) (slot : ℕ) (h :
 who me slot h mine = ap (λ (l : List ℕ). (lost me.0 slot (get_or l 0 0) h, without slot me.1)) mine
 
 -- where the lot is, and where its slot stands
-lent : (g : Over) (c : After-as_slice g) → Lent c.args.seat.now _ _ _ c.seat.inside.hand.me c.seat.view_is _ _ _ c.seat.invariant c.slot_of-slot.result c.args.number c.requires.held.0
+lent : (g : Over) (c : After-as_slice g) → Lent c.args.seat.now _ _ _ c.seat.inside.token.me c.seat.view_is _ _ _ c.seat.invariant c.slot_of-slot.result c.args.number c.requires.held.0
 lent g c = lends _ _ _ _ _ _ _ _ _ _ _ _ _ (spot_of _ _ _ _ _ c.seat.view_is c.args.self.now _ _ c.requires.own c.requires.exists c.slot_of-slot.ensures.index) c.requires.held.1
 
 place : (g : Over) (c : After-give_slot-k g) → get_elem? c.seat.inside.order.items c.give_slot-k.result ≡ some c.slot_of-slot.result
@@ -40,7 +40,7 @@ place g c = subst (λ z. get_elem? z c.give_slot-k.result ≡ some c.slot_of-slo
 pub give_slot-k-requires : goal.give_slot-k-requires
 give_slot-k-requires g c =
     let slot : ℕ = c.slot_of-slot.result in
-    let x = c.args.seat.now in let me = c.seat.inside.hand.me in let h = c.requires.held in
+    let x = c.args.seat.now in let me = c.seat.inside.token.me in let h = c.requires.held in
     let reach = (lent g (goal.at.give_slot-k-requires g c).After-as_slice).reach in
     let order : c.as_slice.result.now ≡ c.seat.inside.order.items = c.as_slice.ensures.value in record {
       own = (
@@ -61,17 +61,17 @@ remove-requires g c =
 
 pub invariant_of-seat : goal.invariant_of-seat
 invariant_of-seat g c =
-    seat_is _ _ _ _ _ _ _ _ _ _ refl c.remove.ensures.items c.remove.ensures.capacity (ap (λ z. z.slots) c.give_slot-k.ensures.hand.0)
-    (c.give_slot-k.ensures.hand.2 ∙ who _ _ _ c.seat.invariant.processes)
-    (loses _ _ _ _ c.seat.inside.hand.me c.give_slot-k.result c.slot_of-slot.result (holder_of c.args.to) c.seat.invariant (place g (goal.at.invariant_of-seat g c).After-give_slot-k))
+    seat_is _ _ _ _ _ _ _ _ _ _ refl c.remove.ensures.items c.remove.ensures.capacity (ap (λ z. z.slots) c.give_slot-k.ensures.token.0)
+    (c.give_slot-k.ensures.token.2 ∙ who _ _ _ c.seat.invariant.processes)
+    (loses _ _ _ _ c.seat.inside.token.me c.give_slot-k.result c.slot_of-slot.result (holder_of c.args.to) c.seat.invariant (place g (goal.at.invariant_of-seat g c).After-give_slot-k))
 
 pub returns : goal.returns
 returns g c =
     let slot : ℕ = c.slot_of-slot.result in
-    let x = c.args.seat.now in let me = c.seat.inside.hand.me in let last = c.give_slot-k.ensures.hand in
+    let x = c.args.seat.now in let me = c.seat.inside.token.me in let last = c.give_slot-k.ensures.token in
     let number : number_of me.0.shape.records slot ≡ c.args.number = (lent g (goal.at.returns g c).After-as_slice).number in
     let h = holder_of c.args.to in
-    lost_by x _ x.process c.args.number h (held_did x _ _ _ me c.seat.view_is _ _ c.give_slot-k.new.hand.me _ (giving x.process c.args.number h) last.0 last.1 (ap (λ m. m.0.shape) last.2)
+    lost_by x _ x.process c.args.number h (held_did x _ _ _ me c.seat.view_is _ _ c.give_slot-k.new.token.me _ (giving x.process c.args.number h) last.0 last.1 (ap (λ m. m.0.shape) last.2)
     (ap (λ m. numbered m.0.shape.records m.1) last.2 ∙ without_numbered me.0.shape c.seat.invariant.small me.1 slot c.seat.invariant.lots ∙ (λ i. without (number i) (c.seat.view_is i).lots))
     (ap (λ m. events_in m.0) (last.2 ∙ who me slot h c.seat.invariant.processes) ∙ (adds_one
     (giving c.seat.inside.process (number_of me.0.shape.records slot) h) _ me.0.done c.seat.invariant.done).0 ∙ (λ i. events_in me.0 ++ giving (c.seat.view_is i).process (number i) h ∷ [])))

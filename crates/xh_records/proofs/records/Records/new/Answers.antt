@@ -8,11 +8,15 @@ use Rattle.xh_model.specs.Words.{number_of}
 use Rattle.xh_model.proofs.Words.{arena_of_number, place_of_number}
 use Rattle.xh_records.specs.Showing.{IsSmall}
 use Rattle.xh_records.specs.inner.Views.{dealer, dealt, dealt_from, events_in}
-use Rattle.xh_records.specs.inner.Hands.{numbered}
+use Rattle.xh_records.specs.inner.Tokens.{numbered}
 use Rattle.xh_records.proofs.Elements.{snoc_at, elem_slice, slice_elem}
 use Rattle.xh_records.proofs.Opening.{opens}
 use Rattle.xh_records.proofs.Seating.{seat_is}
 use Rattle.xh_records.proofs.records.Records.new.Goals as goal
+
+-- of the places that are left one is the next
+one_left : (count k : ℕ) → k < count → count - k ≡ suc (count - (k + 1))
+one_left count k below = omega arith
 
 pub new-made-requires : goal.new-made-requires
 new-made-requires g c =
@@ -30,50 +34,43 @@ new-made-requires g c =
     ))
     (subst (λ (z : ℕ). (0 < z) × (z ≤ 256)) (sym c.from.ensures) (c.requires.limits.0, c.requires.limits.1))
 
-pub deal-hand-requires-clause-own : goal.deal-hand-requires-clause-own
-deal-hand-requires-clause-own g c = (c.loop-place.invariant.here, search rules)
+pub deal-token-requires-clause-own : goal.deal-token-requires-clause-own
+deal-token-requires-clause-own g c = (c.loop-place.invariant.here, search rules)
 
-pub deal-hand-requires-clause-places : goal.deal-hand-requires-clause-places
-deal-hand-requires-clause-places g c =
-    let i = c.loop-place.invariant in
+pub deal-token-requires-clause-places : goal.deal-token-requires-clause-places
+deal-token-requires-clause-places g c =
     let key = c.in-Ok.table.shared.key in
-    let below : c.loop-place.place < c.args.places = c.loop-place-test.true in
-    let one : c.args.places - c.loop-place.place ≡ suc (c.args.places - (c.loop-place.place + 1)) = omega arith in
-    (key, c.loop-place.place, c.args.places - (c.loop-place.place + 1), i.view ∙ ap (dealer key c.loop-place.place) one)
+    (key, c.loop-place.place, c.args.places - (c.loop-place.place + 1), c.loop-place.invariant.view ∙ ap (dealer key c.loop-place.place) (one_left _ _ c.loop-place-test.true))
 
 pub invariant_of-push_reserved : goal.invariant_of-push_reserved
 invariant_of-push_reserved g c =
     let i = c.loop-place.invariant in
     let key = c.in-Ok.table.shared.key in
-    let below : c.loop-place.place < c.args.places = c.loop-place-test.true in
-    let one : c.args.places - c.loop-place.place ≡ suc (c.args.places - (c.loop-place.place + 1)) = omega arith in
-    let v = i.view ∙ ap (dealer key c.loop-place.place) one in
+    let v = i.view ∙ ap (dealer key c.loop-place.place) (one_left _ _ c.loop-place-test.true) in
     let empty : c.in_ok-order.order.items ≡ [] = search rules in
-    let slots : c.deal-hand.result.table_id.slots ≡ c.len-count.result = ap (λ z. z.slots) (c.deal-hand.ensures.seat.0 ∙ i.here) ∙ c.in-Ok.ensures.ok.1 ∙ ap length c.in_ok-slots.ensures
+    let slots : c.deal-token.result.table_id.slots ≡ c.len-count.result = ap (λ z. z.slots) (c.deal-token.ensures.seat.0 ∙ i.here) ∙ c.in-Ok.ensures.ok.1 ∙ ap length c.in_ok-slots.ensures
     ∙ length-map c.args.lots.items Some ∙ (let e : length c.args.lots.items ≡ c.len-count.result = search rules in e) in
-    let room : c.deal-hand.result.table_id.slots ≤ vec_capacity c.in_ok-order.order = subst (λ (z : ℕ). z ≤ vec_capacity c.in_ok-order.order) (sym slots) c.in_ok-order.ensures.capacity in
+    let room : c.deal-token.result.table_id.slots ≤ vec_capacity c.in_ok-order.order = subst (λ (z : ℕ). z ≤ vec_capacity c.in_ok-order.order) (sym slots) c.in_ok-order.ensures.capacity in
     let each : key.records ≡ c.args.records = ap (λ z. z.records) c.in-Ok.ensures.ok.5 ∙ c.from.ensures in
     let small : IsSmall key = subst (λ (z : ℕ). (0 < z) × (z ≤ 256)) (sym each) (c.requires.limits.0, c.requires.limits.1) in
-    seat_is c.loop-place.place _ [] _ _ _ _ _ _ _ c.from-process.ensures empty refl refl (c.deal-hand.ensures.seat.1 ∙ ap (λ x. (dealt x, [])) v)
+    seat_is c.loop-place.place _ [] _ _ _ _ _ _ _ c.from-process.ensures empty refl refl (c.deal-token.ensures.seat.1 ∙ ap (λ x. (dealt x, [])) v)
     record { processes = refl; ordered = refl; records = refl; done = refl; lots = tt; distinct = tt; below = tt; room = room; small = small }
 
 pub loop-place-preserved : goal.loop-place-preserved
 loop-place-preserved g c =
     let i = c.loop-place.invariant in
     let key = c.in-Ok.table.shared.key in
-    let below : c.loop-place.place < c.args.places = c.loop-place-test.true in
-    let one : c.args.places - c.loop-place.place ≡ suc (c.args.places - (c.loop-place.place + 1)) = omega arith in
     let next : suc c.loop-place.place ≡ c.loop-place.place + 1 = omega arith in
-    let v = i.view ∙ ap (dealer key c.loop-place.place) one in
-    let me = c.deal-hand.ensures.seat.1 in record {
-      here = c.deal-hand.ensures.hand.0 ∙ i.here;
-      view = ap (λ m. m.0) c.deal-hand.ensures.hand.2 ∙ ap dealt_from v ∙ ap (λ (n : ℕ). dealer key n (c.args.places - (c.loop-place.place + 1))) next;
+    let v = i.view ∙ ap (dealer key c.loop-place.place) (one_left _ _ c.loop-place-test.true) in
+    let me = c.deal-token.ensures.seat.1 in record {
+      here = c.deal-token.ensures.token.0 ∙ i.here;
+      view = ap (λ m. m.0) c.deal-token.ensures.token.2 ∙ ap dealt_from v ∙ ap (λ (n : ℕ). dealer key n (c.args.places - (c.loop-place.place + 1))) next;
       long = ap length c.push_reserved.ensures.items ∙ length-append _ _ ∙ ap (λ (n : ℕ). n + 1) i.long;
       room = search rules;
       seats = λ k x at. ⊎_elim
           (λ old. i.seats k x old)
           (λ new. (
-            ap (λ h. h.table) (sym new.0) ∙ c.deal-hand.ensures.seat.0 ∙ i.here,
+            ap (λ h. h.table) (sym new.0) ∙ c.deal-token.ensures.seat.0 ∙ i.here,
             ap (λ h. h.shape) (sym new.0) ∙ ap (λ m. m.0.shape) me ∙ ap (λ x. (dealt x).shape) v,
             ap (λ h. h.process) (sym new.0) ∙ c.from-process.ensures ∙ sym i.long ∙ sym new.1,
             ap (λ h. h.lots) (sym new.0) ∙ ap (λ m. numbered m.0.shape.records m.1) me,

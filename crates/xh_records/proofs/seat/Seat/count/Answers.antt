@@ -9,7 +9,7 @@ use Rattle.xh_records.proofs.seat.Seat.count.Goals as goal
 
 pub returns-clause-count : goal.returns-clause-count
 returns-clause-count g c =
-    let s = c.self.invariant in let me = c.self.inside.hand.me in
+    let s = c.self.invariant in let me = c.self.inside.token.me in
     let long : length c.self.inside.order.items ≡ length c.args.self.now.lots =
     ap length s.ordered ∙ length-keys me.1 ∙ sym (length-numbered me.0.shape s.small me.1 s.lots) ∙ ap (λ x. length x.lots) c.self.view_is in
     search (rules, long)
@@ -23,6 +23,6 @@ returns-clause-few g c =
 
 pub returns-clause-lots : goal.returns-clause-lots
 returns-clause-lots g c = λ r l at.
-    let s = c.self.invariant in let me = c.self.inside.hand.me in
+    let s = c.self.invariant in let me = c.self.inside.token.me in
     subst (λ (z : Held g.row.B.Denot). IsRecord z.shape r × IsLotOf z.shape r l) c.self.view_is
     (own_record me.0.shape s.small r l me.1 s.lots (ap (λ x. value_at r x.lots) c.self.view_is ∙ at))

@@ -1,7 +1,7 @@
 use Rattle.std.proofs.Common.{◌≡◌, ℕ, ◌≤◌, ◌<◌, length, ◌-◌}
 use mathlib.Core.Option.{some}
 use lib.ListN.{get_elem?}
-use Rattle.xh_records.proofs.hand.position.Given as goal
+use Rattle.xh_records.proofs.token.position.Given as goal
 
 abbrev pub invariant-loop-k : goal.invariant-loop-k
 invariant-loop-k l = (j : ℕ) × (l.k ≤ j) × (j < length l.order) × (get_elem? l.order j ≡ some l.slot)

@@ -1,4 +1,4 @@
--- A hand's list of slots, and what the types of a seat and of the table keep.
+-- A token's list of slots, and what the types of a seat and of the table keep.
 use Rattle.std.specs.Prelude.{◌≡◌, ℕ, zero, suc, ◌*◌, ◌<◌, ◌≤◌, List, [], ◌∷◌, ◌==◌, cond, length, Some, None, Option}
 use mathlib.Core.Option.{some}
 use lib.ListN.{get_elem?}
@@ -14,12 +14,12 @@ use Rattle.xh_records.specs.Showing.{IsLotAt, IsSmall}
 use Rattle.xh_records.specs.Seats.{owned_by}
 use Rattle.xh_records.specs.inner.Views.{events_in}
 
--- what a hand has in the slot k
+-- what a token has in the slot k
 abbrev pub in_slot : {L : Type 0} → ℕ → List (ℕ × Option L) → Option L
 in_slot k [] = None
 in_slot k (x ∷ xs) = cond (x.0 == k) x.1 (in_slot k xs)
 
--- the lots of a hand, by the numbers of their records, with n records in an arena
+-- the lots of a token, by the numbers of their records, with n records in an arena
 abbrev pub with_lot : {L : Type 0} → ℕ → Option L → List (ℕ × L) → List (ℕ × L)
 with_lot r None ls = ls
 with_lot r (Some l) ls = (r, l) ∷ ls
@@ -33,11 +33,11 @@ abbrev pub AllBelow : ℕ → List ℕ → Type 0
 AllBelow n [] = Unit {0}
 AllBelow n (x ∷ xs) = (x < n) × AllBelow n xs
 
--- these are the slots of a hand, each once, and one of them is this
+-- these are the slots of a token, each once, and one of them is this
 abbrev pub IsListed : {X : Type 0} → List ℕ → List (ℕ × X) → ℕ → Type 0
 IsListed order ls slot = (order ≡ keys ls) × Distinct order × ((k : ℕ) × (get_elem? order k ≡ some slot))
 
--- k turns of a hand's list
+-- k turns of a token's list
 abbrev pub turns : {X : Type 0} → ℕ → List (ℕ × X) → List (ℕ × X)
 turns zero l = l
 turns (suc k) l = turns k (turned l)
@@ -54,7 +54,7 @@ pub record IsTable (table : TableId) (s : Shape) (count each : ℕ) : Type 0 whe
   pub places : (0 < s.places) × (s.places ≤ PLACES)
 
 module _ {B : Type 0} where
-  -- each slot of a hand has the lot of its record
+  -- each slot of a token has the lot of its record
   abbrev pub AllLots : Shape → List (ℕ × Option (LotOf B)) → Type 0
   AllLots s [] = Unit {0}
   AllLots s (x ∷ xs) = ((l : LotOf B) × (x.1 ≡ Some l) × IsLotAt s x.0 l) × AllLots s xs

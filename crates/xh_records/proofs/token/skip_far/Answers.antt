@@ -2,7 +2,7 @@ use Rattle.std.proofs.Common.{rules, arith, ◌≡◌, ◌+◌, ◌≤◌, get_o
 use mathlib.Core.Logic.{dite}
 use native.Mathlib.Decide.{dec_lt}
 use Rattle.xh_records.proofs.Elements.{in_range, nth_is}
-use Rattle.xh_records.proofs.hand.skip_far.Goals as goal
+use Rattle.xh_records.proofs.token.skip_far.Goals as goal
 
 pub loop-k-init : goal.loop-k-init
 loop-k-init c = (c.requires.0, omega arith, in_range c.args.order.now c.requires.0 c.args.slot c.requires.1, c.requires.1)

@@ -1,7 +1,7 @@
 use Rattle.std.proofs.Common.{rules, arith, ◌≡◌, ℕ, ◌<◌, ◌≤◌, length, get_or, sym, ap, ◌∙◌}
 use mathlib.Core.Option.{some}
 use Rattle.xh_records.proofs.Elements.{in_range, is_there, nth_is}
-use Rattle.xh_records.proofs.hand.position.Goals as goal
+use Rattle.xh_records.proofs.token.position.Goals as goal
 
 pub loop-k-init : goal.loop-k-init
 loop-k-init c = let t = c.skip_far-k.ensures in (t.0, t.1, in_range c.args.order.now t.0 c.args.slot t.2, t.2)

@@ -1,6 +1,6 @@
 use Rattle.std.proofs.Common.{ℕ, ◌<◌, sym, subst}
 use Rattle.xh_records.proofs.Keeps.{looks}
-use Rattle.xh_records.proofs.hand.look_at.Goals as goal
+use Rattle.xh_records.proofs.token.look_at.Goals as goal
 
 pub load-requires : goal.load-requires
 load-requires g c = (

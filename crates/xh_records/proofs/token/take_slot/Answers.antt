@@ -6,7 +6,7 @@ use Rattle.xh_records.specs.Encoding.{holder_of}
 use Rattle.xh_records.specs.Showing.{IsLotAt, Owns}
 use Rattle.xh_records.specs.inner.Views.{gained}
 use Rattle.xh_records.proofs.Keeps.{takes_lot}
-use Rattle.xh_records.proofs.hand.take_slot.Goals as goal
+use Rattle.xh_records.proofs.token.take_slot.Goals as goal
 
 pub compare_exchange-found-requires : goal.compare_exchange-found-requires
 compare_exchange-found-requires g c =
@@ -20,7 +20,7 @@ pub returns-clause-taken : goal.returns-clause-taken
 returns-clause-taken g c =
     let t = c.compare_exchange-found.ensures.2.0 c.if-found-wanted.false in
     let u = t.1 (holder_of c.args.from) c.encode-wanted.ensures in
-    let me = c.args.hand.now.me in
+    let me = c.args.token.now.me in
     let one = ap (λ (l : List ℕ). get_or l 0 0) c.requires.process.0 in (
       t.0,
       c.turn.ensures.2 ∙ ap (λ m. (m.0, turned m.1)) u.0 ∙ (λ i. (gained me.0 (c.from-at.ensures i) (one i) (holder_of c.args.from), me.1 ++ (c.from-at.ensures i, Some t.0) ∷ [])),

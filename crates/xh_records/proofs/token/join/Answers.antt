@@ -1,5 +1,5 @@
 use Rattle.xh_records.proofs.Cuts.{joins, joins_both}
-use Rattle.xh_records.proofs.hand.join.Goals as goal
+use Rattle.xh_records.proofs.token.join.Goals as goal
 
 pub join_seat-requires : goal.join_seat-requires
 join_seat-requires g c =

@@ -8,16 +8,16 @@ use Rattle.xh_records.specs.Encoding.{holder_of}
 use Rattle.xh_records.specs.Showing.{Owns, IsLotAt}
 use Rattle.xh_records.specs.inner.Views.{IsAlone, lost}
 use Rattle.xh_records.specs.inner.Steps.{process_in}
-use Rattle.xh_records.specs.inner.Hands.{turns}
+use Rattle.xh_records.specs.inner.Tokens.{turns}
 use Rattle.xh_records.proofs.Keeps.{gives_lot}
 use Rattle.xh_records.proofs.Lists.{Turned, turned_at}
-use Rattle.xh_records.proofs.hand.give_slot.Given.{Over}
-use Rattle.xh_records.proofs.hand.give_slot.Goals.{After-position-k}
-use Rattle.xh_records.proofs.hand.give_slot.Goals as goal
+use Rattle.xh_records.proofs.token.give_slot.Given.{Over}
+use Rattle.xh_records.proofs.token.give_slot.Goals.{After-position-k}
+use Rattle.xh_records.proofs.token.give_slot.Goals as goal
 
--- the hand's list, turned to the slot
-at_slot : (g : Over) (c : After-position-k g) → Turned c.args.hand.now.me.1 c.position-k.result c.args.slot
-at_slot g c = let l = c.requires.listed in turned_at c.args.hand.now.me.1 c.position-k.result c.args.slot (subst Distinct l.0 l.1)
+-- the token's list, turned to the slot
+at_slot : (g : Over) (c : After-position-k g) → Turned c.args.token.now.me.1 c.position-k.result c.args.slot
+at_slot g c = let l = c.requires.listed in turned_at c.args.token.now.me.1 c.position-k.result c.args.slot (subst Distinct l.0 l.1)
     (subst (λ z. get_elem? z c.position-k.result ≡ some c.args.slot) l.0 c.position-k.ensures)
 
 pub overflow_sub-after : goal.overflow_sub-after
@@ -58,10 +58,10 @@ returns g c =
     let here = ap (λ m. m.1) e ∙ t.first in
     let h = holder_of c.args.to in
     let m2 = c.store.ensures.2 h c.encode-word.ensures ∙ (λ i. (lost (e i).0 (c.from.ensures i) (process_in (e i).0) h, rest (here i))) in record {
-      hand = (
+      token = (
         c.turn_by-2.ensures.0 ∙ c.store.ensures.0 ∙ c.turn_by.ensures.0,
         c.turn_by-2.ensures.1 ∙ c.store.ensures.1 ∙ c.turn_by.ensures.1,
-        c.turn_by-2.ensures.2 ∙ (λ i. ((m2 i).0, turns (after i) (m2 i).1)) ∙ ap (λ z. (lost c.args.hand.now.me.0 c.args.slot (process_in c.args.hand.now.me.0) h, z)) t.gone,
+        c.turn_by-2.ensures.2 ∙ (λ i. ((m2 i).0, turns (after i) (m2 i).1)) ∙ ap (λ z. (lost c.args.token.now.me.0 c.args.slot (process_in c.args.token.now.me.0) h, z)) t.gone,
       );
       place = c.position-k.ensures;
     }

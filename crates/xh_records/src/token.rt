@@ -1,0 +1,183 @@
+// Single steps of a token: on the word in one slot and what the slot has, and those that change views alone.
+ghost use Rattle.std.specs.Prelude.{◌≡◌, ◌≢◌, ℕ, ◌+◌, ◌<◌, ◌≤◌, ◌==◌, false, [], ◌∷◌, ◌++◌, length, slice_index, Some, Option, OnOk, IfErr};
+ghost use mathlib.Core.Option.{none, some};
+ghost use prog.Atomic.{either};
+ghost use lib.ListN.{get_elem?};
+ghost use Rattle.atomic_table.specs.Table.{step, Allows};
+ghost use Rattle.xh_arena.specs.Views.{LotOf};
+ghost use Rattle.xh_model.specs.declared.limits.TheConstants.{PLACES, PROCESSES};
+ghost use Rattle.xh_model.specs.Words.{word_of, IsHolder};
+ghost use Rattle.xh_model.specs.Keyed.{without};
+ghost use Rattle.xh_records.specs.declared.token.TheConstants.{NEAR};
+ghost use Rattle.xh_records.specs.Encoding.{holder_of};
+ghost use Rattle.xh_records.specs.Showing.{Shown, IsLotAt, Owns, Sits};
+ghost use Rattle.xh_records.specs.Seats.{Knows};
+ghost use Rattle.xh_records.specs.inner.Events.{IsAway, IsHomeLot};
+ghost use Rattle.xh_records.specs.inner.Views.{IsAlone, IsDealer, dealt, dealt_from, gained, joined, lost, renewed, spent};
+ghost use Rattle.xh_records.specs.inner.Steps.{process_in};
+ghost use Rattle.xh_records.specs.inner.Tokens.{IsListed, in_slot, turns};
+
+use crate::plays::{Both, Deal, Gives, Looks, Renews, Takes, Whole};
+use crate::rule::Showing;
+use crate::shape::Shape;
+use crate::view::View;
+use crate::word::OwnerWord;
+use atomic_table::{Play, Shared};
+use xh_arena::{Fits, Lot};
+
+/// The table, as all threads share it.
+pub(crate) type Board<B> = Shared<Option<Lot<B>>, View, Shape, Showing<B>>;
+
+/// What a seat has at the table: its view, and its slots. The table calls that a seat, too.
+pub(crate) type Token<B> = atomic_table::Seat<Option<Lot<B>>, View>;
+
+// Turns the token's list so many times.
+pub(crate) fn turn_by<B>(token: &mut Token<B>, count: usize)
+    ensures { (token.new.table_id ≡ token.old.table_id) × (token.new.id ≡ token.old.id) × (token.new.me ≡ (token.old.me.0, turns count token.old.me.1)) }
+{
+    for done in 0..count {
+        token.turn();
+    }
+}
+
+// How many slots are compared at once.
+const NEAR: usize = 32;
+
+// Whether one of the slots from k on, so many, is this one. It compares all of them, which takes less time than stopping early.
+fn is_near(order: &[u16], k: usize, slot: u16) -> bool
+    requires { k + NEAR ≤ length order.now }
+    ensures { result ≡ false → (j : ℕ) → k ≤ j → j < k + NEAR → slice_index order.now j ≢ slot }
+{
+    let mut near = false;
+    for at in k..k + NEAR {
+        near |= order[at] == slot;
+    }
+    near
+}
+
+// A place at or before the slot's, and near it.
+fn skip_far(order: &[u16], slot: u16) -> usize
+    requires { (k : ℕ) × (get_elem? order.now k ≡ some slot) }
+    ensures { (k : ℕ) × (result ≤ k) × (get_elem? order.now k ≡ some slot) }
+{
+    let mut k = 0;
+    while order.len() - k >= NEAR && !is_near(order, k, slot) {
+        k += NEAR;
+    }
+    k
+}
+
+// Where the slot stands in the order.
+pub(crate) fn position(order: &[u16], slot: u16) -> usize
+    requires { (k : ℕ) × (get_elem? order.now k ≡ some slot) }
+    ensures { get_elem? order.now result ≡ some slot }
+{
+    let mut k = skip_far(order, slot);
+    while order[k] != slot {
+        k += 1;
+    }
+    k
+}
+
+// Takes the slot of a record that it finds free, or in flight, for a process, behind the token's other slots. The error is the word that it found, which says something else.
+pub(crate) fn take_slot<B: Fits>(
+    board: &Board<B>,
+    token: &mut Token<B>,
+    slot: u16,
+    from: OwnerWord,
+    process: u16,
+) -> Result<(), u64>
+    requires own { token.old.table_id ≡ board.now.table_id }
+    requires inside { (slot < board.now.table_id.words) × (slot < board.now.table_id.slots) }
+    requires process { IsAlone token.old.me.0 process }
+    requires away { IsAway (holder_of from) }
+    ensures same { (token.new.table_id ≡ token.old.table_id) × (token.new.id ≡ token.old.id) }
+    ensures taken { OnOk result ((l : LotOf B) × (token.new.me ≡ (gained token.old.me.0 slot process (holder_of from), token.old.me.1 ++ (slot, Some l) ∷ [])) × IsLotAt token.old.me.0.shape slot l
+        × IsHomeLot B.is_fit (holder_of from) l × ((p : ℕ) → Owns token.old.me.0 slot p → ⊥)) }
+    ensures missed { IfErr result (λ word. (word ≢ word_of (holder_of from)) × Knows token.old.me.0 slot word × (token.new.me ≡ token.old.me)) }
+{
+    let wanted = from.encode();
+    let owned = OwnerWord::Owned(process).encode();
+    let at = usize::from(slot);
+    let found = board.compare_exchange::<Takes>(token, at, wanted, owned);
+    if found != wanted {
+        return Err(found);
+    }
+    token.turn();
+    Ok(())
+}
+
+// Stores the word of a record whose lot goes home. It answers where the slot stood in the order.
+pub(crate) fn give_slot<B: Fits>(
+    board: &Board<B>,
+    token: &mut Token<B>,
+    order: &[u16],
+    slot: u16,
+    to: OwnerWord,
+) -> usize
+    requires own { (token.old.table_id ≡ board.now.table_id) × (slot < board.now.table_id.words) }
+    requires listed { IsListed order.now token.old.me.1 slot }
+    requires away { IsAway (holder_of to) × IsHolder (holder_of to) }
+    requires lot { (l : LotOf B) × (in_slot slot token.old.me.1 ≡ Some l) × IsLotAt token.old.me.0.shape slot l × IsHomeLot B.is_fit (holder_of to) l }
+    requires owned { (p : ℕ) × IsAlone token.old.me.0 p × Owns token.old.me.0 slot p }
+    ensures token { (token.new.table_id ≡ token.old.table_id) × (token.new.id ≡ token.old.id) × (token.new.me ≡
+        (lost token.old.me.0 slot (process_in token.old.me.0) (holder_of to), without slot token.old.me.1)) }
+    ensures place { get_elem? order.now result ≡ some slot }
+{
+    let k = position(order, slot);
+    let after = order.len() - k - 1;
+    turn_by(token, k);
+    let word = to.encode();
+    board.store::<Gives>(token, usize::from(slot), word);
+    turn_by(token, after);
+    k
+}
+
+// The word in a slot.
+pub(crate) fn look_at<B: Fits>(board: &Board<B>, token: &mut Token<B>, slot: u16) -> u64
+    requires own { token.old.table_id ≡ board.now.table_id }
+    requires inside { (slot < board.now.table_id.words) × (slot < board.now.table_id.slots) }
+    ensures token { (token.new.table_id ≡ token.old.table_id) × (token.new.id ≡ token.old.id) × (token.new.me ≡ token.old.me) }
+    ensures word { Knows token.old.me.0 slot result }
+{
+    board.load::<Looks>(token, usize::from(slot))
+}
+
+// The next generation of the token's one place, which has no record.
+pub(crate) fn renew_token<B: Fits>(board: &Board<B>, token: &mut Token<B>, process: u16)
+    requires own { (token.old.table_id ≡ board.now.table_id) × (0 < board.now.table_id.words) × (0 < board.now.table_id.slots) }
+    requires process { (token.old.me.0.processes ≡ process ∷ []) × (process + PLACES < PROCESSES) }
+    requires empty { token.old.me.0.records ≡ [] }
+    ensures { (token.new.table_id ≡ token.old.table_id) × (token.new.id ≡ token.old.id) × (token.new.me ≡ (renewed token.old.me.0, token.old.me.1)) }
+{
+    board.load::<Renews>(token, 0);
+}
+
+// The first place of the token goes to a new one. The token stands for places of generation 0, and has no record.
+pub(crate) fn deal<B: Fits>(board: &Board<B>, token: &mut Token<B>) -> Token<B>
+    requires own { (token.old.table_id ≡ board.now.table_id) × (0 < board.now.table_id.words) }
+    requires places { IsDealer token.old.me.0 }
+    ensures token { (token.new.table_id ≡ token.old.table_id) × (token.new.id ≡ token.old.id) × (token.new.me ≡ (dealt_from token.old.me.0, token.old.me.1)) }
+    ensures seat { (result.table_id ≡ token.old.table_id) × (result.me ≡ (dealt token.old.me.0, [])) }
+{
+    board.split_seat::<Deal>(token)
+}
+
+// The token's whole view goes to a new one, which has no slot.
+pub(crate) fn hand_over<B: Fits>(board: &Board<B>, token: &mut Token<B>) -> Token<B>
+    requires own { (token.old.table_id ≡ board.now.table_id) × (0 < board.now.table_id.words) }
+    ensures token { (token.new.table_id ≡ token.old.table_id) × (token.new.id ≡ token.old.id) × (token.new.me ≡ (spent, token.old.me.1)) }
+    ensures seat { (result.table_id ≡ token.old.table_id) × (result.me ≡ (token.old.me.0, [])) }
+{
+    board.split_seat::<Whole>(token)
+}
+
+// The other token, which has no slot, gives its view to this one, which stands for a place.
+pub(crate) fn join<B: Fits>(board: &Board<B>, token: &mut Token<B>, other: Token<B>)
+    requires own { (token.old.table_id ≡ board.now.table_id) × (other.table_id ≡ board.now.table_id) × (0 < board.now.table_id.words) }
+    requires empty { other.me.1 ≡ [] }
+    requires place { (p : ℕ) × Sits token.old.me.0 p }
+    ensures token { (token.new.table_id ≡ token.old.table_id) × (token.new.id ≡ token.old.id) × (token.new.me ≡ (joined token.old.me.0 other.me.0, token.old.me.1)) }
+{
+    board.join_seat::<Both>(token, other);
+}
