@@ -40,13 +40,6 @@ impl ChannelState {
         self.line = Some(Line::new(contract, depth));
     }
 
-    /// The channel has no contract any more.
-    pub fn end(&mut self)
-        ensures { (self.new.line ≡ None) × (self.new.turn ≡ self.old.turn) }
-    {
-        self.line = None;
-    }
-
     /// Where the turn is 2^64 - 1 it stays.
     pub fn raise_turn(&mut self)
         ensures { (self.new.turn ≡ next_turn self.old.turn) × (self.new.line ≡ self.old.line) }

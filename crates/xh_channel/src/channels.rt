@@ -12,10 +12,11 @@ ghost use Rattle.xh_channel.specs.QueueEnds.{incoming_role, outgoing_role};
 ghost use Rattle.xh_channel.specs.Queues.{IsSameEnd, KeepsItsMessages, PutsAs, PutsWhere, ShutsAs, TakesAs, TakesWhere, Unpushed};
 ghost use Rattle.xh_channel.specs.declared.refused.Refused.TheVariants.{OutOfMemory, BadSize, NoChannel};
 
+use crate::channel_end::ChannelEnd;
 use crate::closed_word::ClosedWords;
 use crate::direction::{Receiver, Role, Sender};
 use crate::endpoint::Endpoint;
-use crate::free_numbers::FreeNumbers;
+use crate::free_numbers::{FreeNumbers, Home};
 use crate::free_pair::FreePair;
 use crate::message::Message;
 use crate::queue_end::direction;
@@ -26,7 +27,6 @@ use crate::unsent::Unsent;
 use arrayvec::ArrayVec;
 use crossbeam_queue::protocol::Lesson;
 use std::alloc::{AllocError, Global};
-use std::sync::atomic::AtomicU64;
 use std::sync::{Arc, Mutex, Wait};
 use xh_core::Contract;
 use xh_model::limits::{CHANNELS, MAX_BLOCKS, MAX_DEPTH};
@@ -35,9 +35,7 @@ use xh_model::limits::{CHANNELS, MAX_BLOCKS, MAX_DEPTH};
 #[derive(Drop)]
 pub struct Channels {
     depth: u8,
-    // all ends of these channels share it
-    probe: Arc<AtomicU64, Global>,
-    free: Mutex<FreeNumbers>,
+    home: Home,
     rooms: Vec<Room>,
     ghost deep: { (1 ≤ depth) × (depth ≤ MAX_DEPTH) },
     ghost each: { length rooms.items ≡ CHANNELS },
@@ -56,9 +54,9 @@ fn pair(
     let (low_sender, high_receiver) = direction(alloc, depth)?;
     let (high_sender, low_receiver) = direction(alloc, depth)?;
     let low_spot = Spot { channel, side: 0 };
-    let low = Endpoint::new(low_spot, low_sender, low_receiver, words.next()?);
+    let low = ChannelEnd::new(low_spot, low_sender, low_receiver, words.next()?);
     let high_spot = Spot { channel, side: 1 };
-    let high = Endpoint::new(high_spot, high_sender, high_receiver, words.next()?);
+    let high = ChannelEnd::new(high_spot, high_sender, high_receiver, words.next()?);
     Ok(FreePair { low, high })
 }
 
@@ -89,6 +87,13 @@ fn rooms(alloc: Global) -> Result<Vec<Room>, AllocError>
     Ok(rooms)
 }
 
+// The pairs under a lock that all ends share.
+fn home(alloc: Global, pairs: Vec<Option<FreePair>>) -> Result<Home, AllocError>
+    requires { (length pairs.items ≡ CHANNELS) × StandAtTheirNumbers pairs.items }
+{
+    Ok(Arc::new(alloc, Mutex::new(FreeNumbers::new(pairs)))?)
+}
+
 impl Channels {
     /// All 64 channels, none of them open. `depth` is the number of messages that may wait in a
     /// direction, 1 to 16, and else BadSize. OutOfMemory where a growth is refused.
@@ -100,12 +105,11 @@ impl Channels {
             return Err(Refused::BadSize);
         }
         let mut words = ClosedWords::new(alloc)?;
-        let free = pairs(alloc, depth as usize, &mut words)?;
+        let pairs = pairs(alloc, depth as usize, &mut words)?;
         let rooms = rooms(alloc)?;
         Ok(Channels {
             depth,
-            probe: words.into_probe(),
-            free: Mutex::new(FreeNumbers::new(free)),
+            home: home(alloc, pairs)?,
             rooms,
         })
     }
@@ -116,9 +120,22 @@ impl Channels {
         ensures ok { IfOk result (λ ends. IsPair ends.0 ends.1 × (ends.0.depth ≡ self.now.depth) × (ends.0.has_contract ≡ false)) }
         ensures err { IfErr result (λ r. r ≡ NoChannel) }
     {
-        let found = self.free.lock(rt).open(self.depth as usize);
+        let own: Result<_, _> = Arc::try_clone(&self.home);
+        let peers: Result<_, _> = Arc::try_clone(&self.home);
+        let (Ok(own), Ok(peers)) = (own, peers) else {
+            return Err(Refused::NoChannel);
+        };
+        let found = self.home.lock(rt).open(self.depth as usize);
         let Some(FreePair { low, high }) = found else {
             return Err(Refused::NoChannel);
+        };
+        let low = Endpoint {
+            inner: low,
+            home: own,
+        };
+        let high = Endpoint {
+            inner: high,
+            home: peers,
         };
         Ok((low, high))
     }
@@ -137,21 +154,15 @@ impl Channels {
         Ok((low.with_contract(), high.with_contract()))
     }
 
-    /// The number of a channel that was opened here and never used is free again. Ends of other
-    /// channels than these are dropped, and no number becomes free.
+    /// The number of a channel that was never used is free again, where it was opened: of a pair of
+    /// another heap's channels it is free there, and no number of these.
     pub fn cancel<R: Wait>(&self, rt: &R, low: Endpoint, high: Endpoint)
         requires { IsPair low high }
     {
-        let mut free = self.free.lock(rt);
-        if !low.shares(&self.probe) {
-            return;
-        }
-        if low.has_contract() {
-            self.rooms[low.spot().channel as usize].end(rt);
-        }
+        let Endpoint { inner: low, home } = low;
         let low = low.without_contract();
-        let high = high.without_contract();
-        free.cancel(FreePair { low, high });
+        let high = high.inner.without_contract();
+        home.lock(rt).cancel(FreePair { low, high });
     }
 
     /// Puts a message, and answers its number, which is the count of this end's puts.
@@ -193,14 +204,15 @@ impl Channels {
         ensures kept { OnErr result (Unpushed end.old end.new (message (suc end.old.counts.put) tag blocks)) }
         ensures same { IsSameEnd end.old end.new }
     {
-        let spot = end.spot();
+        let own = &mut end.inner;
+        let spot = own.spot();
         let room = &self.rooms[spot.channel as usize];
-        if end.has_contract() {
+        if own.has_contract() {
             let no = room.put(rt, spot.side, tag, blocks)?;
-            end.was_put(no);
+            own.was_put(no);
             return Ok(no);
         }
-        let no = end.put_as::<M, R>(rt, tag, blocks)?;
+        let no = own.put_as::<M, R>(rt, tag, blocks)?;
         room.rouse(rt);
         Ok(no)
     }
@@ -228,12 +240,13 @@ impl Channels {
         ensures kept { OnErr result (KeepsItsMessages end.old end.new) }
         ensures same { IsSameEnd end.old end.new }
     {
-        if !end.has_contract() {
-            return end.take_as::<M, R>(rt);
+        let own = &mut end.inner;
+        if !own.has_contract() {
+            return own.take_as::<M, R>(rt);
         }
-        let spot = end.spot();
+        let spot = own.spot();
         let message = self.rooms[spot.channel as usize].take(rt, spot.side)?;
-        end.was_taken(message.no);
+        own.was_taken(message.no);
         Ok(message)
     }
 
@@ -241,13 +254,14 @@ impl Channels {
     pub fn shut<R: Wait>(&self, rt: &R, end: &mut Endpoint)
         ensures { ShutsAs end.old end.new }
     {
-        let spot = end.spot();
+        let own = &mut end.inner;
+        let spot = own.spot();
         let room = &self.rooms[spot.channel as usize];
-        if end.has_contract() {
+        if own.has_contract() {
             room.shut(rt, spot.side);
-            end.was_shut();
+            own.was_shut();
         } else {
-            end.shut();
+            own.shut();
             room.rouse(rt);
         }
     }

@@ -8,7 +8,6 @@ use atomic_table::{Seat, Table};
 use std::alloc::{AllocError, Global};
 use std::marker::Model;
 use std::sync::Arc;
-use std::sync::atomic::{AtomicU64, Ordering};
 use xh_model::limits::DIRECTIONS;
 
 const WORDS: usize = DIRECTIONS as usize;
@@ -17,7 +16,6 @@ const WORDS: usize = DIRECTIONS as usize;
 #[derive(Drop)]
 pub struct ClosedWord {
     words: Arc<Words, Global>,
-    probe: Arc<AtomicU64, Global>,
     seat: Seat<(), Sight>,
     word: u8,
 }
@@ -37,8 +35,6 @@ impl Model for ClosedWord {
 #[derive(Drop)]
 pub struct ClosedWords {
     words: Arc<Words, Global>,
-    // all words of one table share this count, and tell by it that they do
-    probe: Arc<AtomicU64, Global>,
     rest: Seat<(), Sight>,
     next: u8,
 }
@@ -63,10 +59,8 @@ impl ClosedWords {
     {
         let (table, rest) = Table::of_words(alloc, &[0; WORDS], &())?;
         let words = Arc::new(alloc, table)?;
-        let probe = Arc::new(alloc, AtomicU64::new(0))?;
         Ok(ClosedWords {
             words,
-            probe,
             rest,
             next: 0,
         })
@@ -77,22 +71,11 @@ impl ClosedWords {
         ensures { IfOk result (λ s. (s.word ≡ self.old) × (s.shut ≡ false) × (s.peer_shut ≡ false) × (self.new ≡ self.old + 1)) }
     {
         let words = Arc::try_clone(&self.words)?;
-        let probe = Arc::try_clone(&self.probe)?;
         let table = &self.words;
         let seat = table.shared.split_seat::<OneWord>(&mut self.rest);
         let word = self.next;
         self.next += 1;
-        Ok(ClosedWord {
-            words,
-            probe,
-            seat,
-            word,
-        })
-    }
-
-    /// What tells whether a word is one of these.
-    pub fn into_probe(self) -> Arc<AtomicU64, Global> {
-        self.probe
+        Ok(ClosedWord { words, seat, word })
     }
 }
 
@@ -115,12 +98,5 @@ impl ClosedWord {
         let peer = self.word + 1 - 2 * (self.word % 2);
         let table = &self.words;
         table.shared.load::<Looks>(&mut self.seat, peer as usize) == 1
-    }
-
-    /// Whether the word shares this probe: a mark made here shows there. One call at a time.
-    pub fn shares(&self, probe: &AtomicU64) -> bool {
-        let before = self.probe.load(Ordering::SeqCst);
-        probe.fetch_add(1, Ordering::SeqCst);
-        self.probe.load(Ordering::SeqCst) == before.wrapping_add(1)
     }
 }

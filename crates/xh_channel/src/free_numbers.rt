@@ -4,6 +4,8 @@ ghost use Rattle.xh_model.specs.declared.limits.TheConstants.{CHANNELS};
 ghost use Rattle.xh_channel.specs.inner.FreeNumbers.{at_place, has_depth, StandAtTheirNumbers, NoneFree};
 
 use crate::free_pair::FreePair;
+use std::alloc::Global;
+use std::sync::{Arc, Mutex};
 
 /// A number is free where its pair is here.
 #[derive(Drop)]
@@ -11,6 +13,9 @@ pub struct FreeNumbers {
     pub pairs: Vec<Option<FreePair>>,
     ghost placed: { (length pairs.items ≡ CHANNELS) × StandAtTheirNumbers pairs.items },
 }
+
+/// The free numbers of the channels of one heap. Each endpoint that is out knows them.
+pub type Home = Arc<Mutex<FreeNumbers>, Global>;
 
 fn fits(place: &Option<FreePair>, depth: usize) -> bool
     ensures { result ≡ has_depth depth place.now }

@@ -2,13 +2,13 @@
 ghost use Rattle.std.specs.Prelude.{◌≡◌, false};
 ghost use Rattle.xh_channel.specs.Pairs.{IsPair};
 
-use crate::endpoint::Endpoint;
+use crate::channel_end::ChannelEnd;
 
 /// Both ends of a channel whose number is free.
 #[derive(Drop)]
 pub struct FreePair {
-    pub low: Endpoint,
-    pub high: Endpoint,
+    pub low: ChannelEnd,
+    pub high: ChannelEnd,
     ghost fresh: { IsPair low high },
     ghost plain: { low.has_contract ≡ false },
 }

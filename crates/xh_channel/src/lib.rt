@@ -1,6 +1,7 @@
 //! The channels: their directions, their endpoints, and shutting.
 #![tactic(auto)]
 
+mod channel_end;
 mod channel_state;
 mod channels;
 mod closed_rule;

@@ -43,11 +43,6 @@ impl Room {
         self.state.lock(rt).begin(contract, depth);
     }
 
-    /// The channel has no contract any more.
-    pub fn end<R: Wait>(&self, rt: &R) {
-        self.state.lock(rt).end();
-    }
-
     /// The put of the channel's line, which wakes its waiters.
     pub fn put<R: Wait>(
         &self,

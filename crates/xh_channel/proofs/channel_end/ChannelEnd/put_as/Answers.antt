@@ -1,6 +1,6 @@
 use Rattle.std.proofs.Common.{◌∙◌, ap, inr, ◌++◌, ◌∷◌, []}
 use Rattle.xh_channel.specs.Numbers.{message}
-use Rattle.xh_channel.proofs.endpoint.Endpoint.put_as.Goals as goal
+use Rattle.xh_channel.proofs.channel_end.ChannelEnd.put_as.Goals as goal
 
 pub returns-then-not-stays_sent-clause-refused : goal.returns-then-not-stays_sent-clause-refused
 returns-then-not-stays_sent-clause-refused g c =
