@@ -1,5 +1,5 @@
 -- How far a process has come, before a sweep and after it.
-use Rattle.std.proofs.Common.{◌≡◌, ◌≢◌, ℕ, zero, suc, ◌-◌, ◌⊎◌, ⊎_elim, inl, inr, List, [], ◌∷◌, ◌++◌, length, refl, sym, ap, ◌∙◌, subst, arith, true}
+use Rattle.std.proofs.Common.{◌≡◌, ◌≢◌, ℕ, ◌-◌, ◌⊎◌, ⊎_elim, inl, inr, List, [], ◌∷◌, ◌++◌, length, refl, sym, ap, ◌∙◌, subst, arith, true}
 use Rattle.xh_arena.specs.Views.{TallyOf}
 use Rattle.xh_core.specs.declared.status.Status.{Status}
 use Rattle.xh_core.specs.declared.status.Status.TheVariants.{Vacant, Running, Ending, Ended}
@@ -52,6 +52,7 @@ turned r n old mid swept new told now quiet woken came left last =
     let list : mid.blocks ≡ old.blocks = ap (λ (p : PlaceOf). p.blocks) woken in
     let by : IsSwept (length old.blocks) MAX_BUDGET (old.blocks ++ (r, late.0) ∷ []) new.blocks h.0 late.1 = subst (λ (z : List (ℕ × Item) × List (ℕ × Item)). IsSwept (length z.0) MAX_BUDGET (z.0 ++ (r, late.0) ∷ []) z.1 h.0 late.1) (λ i. (list i, sym blocks i)) late.2 in
     let whole : new ≡ record old { blocks = new.blocks; state = ending_again old.state (length new.blocks) } =
-    then ∙ ap (λ (p : PlaceOf). record p { blocks = swept.blocks; state = ending_again old.state (length swept.blocks) }) (late.3 ∙ ap (λ (p : PlaceOf). with_blocks p swept.blocks) woken) ∙ ap (λ (es : List (ℕ × Item)). record old { blocks = es; state = ending_again old.state (length es) }) (sym blocks) in
+    then ∙ ap (λ (p : PlaceOf). record p { blocks = swept.blocks; state = ending_again old.state (length swept.blocks) }) (late.3 ∙ ap (λ (p : PlaceOf). with_blocks p swept.blocks) woken)
+    ∙ ap (λ (es : List (ℕ × Item)). record old { blocks = es; state = ending_again old.state (length es) }) (sym blocks) in
     inr (h.0, (late.0, late.1, by, whole), h.2))
     came

@@ -1,16 +1,16 @@
 -- What a call that names a block of the list knows of it.
-use Rattle.std.proofs.Common.{◌≡◌, ℕ, List, ◌∷◌, length, drop, take, true, false, refl, sym, ap, ◌∙◌, subst, arith, rules}
-use Rattle.std.specs.Prelude.{Some, None, Option}
+use Rattle.std.proofs.Common.{◌≡◌, ℕ, List, sym, ap, ◌∙◌}
+use Rattle.std.specs.Prelude.{Some}
 use Rattle.xh_arena.specs.Views.{LotOf}
 use Rattle.xh_core.specs.declared.status.Status.{Status}
 use Rattle.xh_model.specs.Keyed.{value_at, put}
 use Rattle.xh_model.proofs.Keyed.{put_same}
 use Rattle.xh_records.specs.Seats.{Held, with_lots}
-use Rattle.xh_place.specs.Lots.{HasNow, bare}
+use Rattle.xh_place.specs.Lots.{bare}
 use Rattle.xh_place.specs.declared.body.Body.{Body}
 use Rattle.xh_place.specs.declared.body.Header.{Header}
-use Rattle.xh_place.specs.Places.{Item, PlaceOf, header_of, item_of, IsBlock, IsPlace, shown, with_blocks}
-use Rattle.xh_place.proofs.Steps.{listed, lot_of, view_of, changes, changes_shown, shows, kept}
+use Rattle.xh_place.specs.Places.{Item, PlaceOf, header_of, item_of, IsBlock, IsPlace, with_blocks}
+use Rattle.xh_place.proofs.Steps.{listed, lot_of, view_of, changes, changes_shown, shows}
 
 pub record Found (seat : Held Body) (xs : List (ℕ × Header)) (r : ℕ) (x : Item) : Type 0 where
   pub lot : LotOf Body
@@ -31,7 +31,8 @@ pub unmoved : (seat last : Held Body) (r : ℕ) (l : LotOf Body) → value_at r 
 unmoved seat last r l at new = new ∙ ap (with_lots seat) (put_same r l seat.lots at)
 
 -- its lot is another of the same length and kind
-pub rewritten : (seat last : Held Body) (xs : List (ℕ × Header)) (room total : ℕ) (state : Status) → IsPlace seat xs room total state → (r : ℕ) (l m : LotOf Body) → value_at r seat.lots ≡ Some l → last ≡ with_lots seat (put r m seat.lots) → IsBlock seat.shape r m → header_of (item_of m) ≡ header_of (item_of l)
+pub rewritten : (seat last : Held Body) (xs : List (ℕ × Header)) (room total : ℕ) (state : Status) → IsPlace seat xs room total state → (r : ℕ) (l m : LotOf Body) → value_at r seat.lots ≡ Some l
+    → last ≡ with_lots seat (put r m seat.lots) → IsBlock seat.shape r m → header_of (item_of m) ≡ header_of (item_of l)
     → IsPlace last xs room total state × ((p : PlaceOf) → view_of seat xs state ≡ p → view_of last xs state ≡ with_blocks p (put r (item_of m) p.blocks))
 rewritten seat last xs room total state is r l m at new good alike = (
   changes seat xs room total state is last r l m at (ap bare new) good alike,

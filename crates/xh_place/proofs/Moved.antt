@@ -1,19 +1,18 @@
 -- A block that goes to the end of the list.
-use Rattle.std.proofs.Common.{◌≡◌, ◌≢◌, ℕ, suc, ◌+◌, ◌<◌, ◌≤◌, List, [], ◌∷◌, ◌++◌, length, refl, sym, ap, ◌∙◌, subst, arith, true}
-use Rattle.std.specs.Prelude.{Some, None, Option}
+use Rattle.std.proofs.Common.{◌≡◌, ℕ, suc, List, [], ◌∷◌, ◌++◌, length, refl, sym, ap, ◌∙◌, subst, true}
+use Rattle.std.specs.Prelude.{Some, None}
 use mathlib.Core.Logic.{dite}
 use native.Mathlib.Decide.{ℕ_discrete}
 use Rattle.xh_arena.specs.Views.{LotOf}
 use Rattle.xh_core.specs.declared.status.Status.{Status}
 use Rattle.xh_core.specs.declared.status.Status.TheVariants.{Vacant, Running, Ending, Ended}
 use Rattle.xh_model.specs.Keyed.{Among, Distinct, keys, value_at, without}
-use Rattle.xh_model.proofs.Keyed.{absent, at_key, distinct_push, distinct_without, keys_push, last_at, last_other, no_key, value_here, value_there, without_at, without_here, without_other, without_there}
-use Rattle.xh_records.specs.Seats.{Held, with_lots}
+use Rattle.xh_model.proofs.Keyed.{absent, distinct_push, distinct_without, keys_push, last_at, last_other, no_key, value_there, without_at, without_here, without_other, without_there}
+use Rattle.xh_records.specs.Seats.{Held}
 use Rattle.xh_place.specs.declared.body.Body.{Body}
 use Rattle.xh_place.specs.declared.body.Header.{Header}
-use Rattle.xh_place.specs.Lots.{HasNow}
 use Rattle.xh_place.specs.Ending.{alone, last}
-use Rattle.xh_place.specs.Places.{Item, PlaceOf, with_blocks, header_in, item_in, shown, sum_of, IsPlace, IsQuiet}
+use Rattle.xh_place.specs.Places.{PlaceOf, with_blocks, header_in, shown, IsPlace, IsQuiet}
 use Rattle.xh_place.specs.Refusals.{is_over}
 use Rattle.xh_place.proofs.Steps.{quiet_alive, shown_at, shown_last, shown_without, shows, sum_last, sum_without, view_of}
 

@@ -1,6 +1,6 @@
 -- A seat, and a place, that gained two records at once.
-use Rattle.std.proofs.Common.{◌≡◌, ◌≢◌, ℕ, ◌+◌, ◌/◌, ◌<◌, ◌≤◌, ⊎_elim, inl, inr, List, [], ◌∷◌, ◌++◌, length, append_assoc, refl, sym, ap, ◌∙◌, subst, arith, true}
-use Rattle.std.specs.Prelude.{Some, None, Option}
+use Rattle.std.proofs.Common.{◌≡◌, ◌≢◌, ℕ, ◌+◌, ◌<◌, ⊎_elim, List, [], ◌∷◌, ◌++◌, length, append_assoc, refl, sym, ap, ◌∙◌, subst, true}
+use Rattle.std.specs.Prelude.{Some, Option}
 use Rattle.xh_arena.specs.Views.{LotOf}
 use Rattle.xh_core.specs.declared.status.Status.{Status}
 use Rattle.xh_model.specs.Keyed.{Among, keys, value_at, put, without}
@@ -10,7 +10,7 @@ use Rattle.xh_place.specs.declared.body.Body.{Body}
 use Rattle.xh_place.specs.declared.body.Header.{Header}
 use Rattle.xh_place.specs.Lots.{HasNow, bare}
 use Rattle.xh_place.specs.Opening.{AreMade, HasTwoMore}
-use Rattle.xh_place.specs.Places.{Item, PlaceOf, with_blocks, header_in, header_of, item_in, item_of, shown, IsBlock, IsPlace}
+use Rattle.xh_place.specs.Places.{Item, PlaceOf, with_blocks, header_in, header_of, item_in, item_of, shown, IsPlace}
 use Rattle.xh_place.specs.Refusals.{is_over}
 use Rattle.xh_place.proofs.Gained.{has}
 use Rattle.xh_place.proofs.Steps.{has_room, shown_at, view_of, won}

@@ -1,5 +1,5 @@
 -- An endpoint that a call takes out of its lot, works on, and puts back.
-use Rattle.std.proofs.Common.{◌≡◌, ℕ, List, refl, sym, ap, ◌∙◌, subst, true}
+use Rattle.std.proofs.Common.{◌≡◌, ℕ, List, sym, ap, ◌∙◌}
 use Rattle.std.specs.Prelude.{Some}
 use Rattle.xh_arena.specs.Views.{LotOf}
 use Rattle.xh_channel.specs.Queues.{Posted}

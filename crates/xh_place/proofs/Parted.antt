@@ -1,6 +1,6 @@
 -- A block cut in two.
-use Rattle.std.proofs.Common.{◌≡◌, ◌≢◌, ℕ, ◌+◌, ◌-◌, ◌/◌, ◌<◌, ◌≤◌, List, [], ◌∷◌, ◌++◌, length, drop, take, true, false, eqb, refl, sym, ap, ◌∙◌, subst, arith, rules, length-take-le, length-drop}
-use Rattle.std.specs.Prelude.{Some, None, Option, ◌&&◌, nat_le}
+use Rattle.std.proofs.Common.{◌≡◌, ◌≢◌, ℕ, ◌+◌, ◌-◌, ◌/◌, ◌<◌, ◌≤◌, List, [], ◌∷◌, ◌++◌, length, drop, take, true, refl, sym, ap, ◌∙◌, subst, arith, rules, length-take-le, length-drop}
+use Rattle.std.specs.Prelude.{Some, None, Option}
 use mathlib.Core.Logic.{dite}
 use native.Mathlib.Decide.{ℕ_discrete}
 use Rattle.xh_arena.specs.Views.{LotOf}
@@ -18,7 +18,7 @@ use Rattle.xh_place.specs.declared.body.Body.TheVariants.{Nothing, Data, End}
 use Rattle.xh_place.specs.declared.body.Header.{Header}
 use Rattle.xh_place.specs.declared.body.Kind.TheVariants as kind
 use Rattle.xh_place.specs.Bodies.{Content, bytes, spot, content_of, fits_in, front, kind_of, rest}
-use Rattle.xh_place.specs.Places.{Item, PlaceOf, header_of, header_in, item_of, IsBlock, IsPlace, shown, sum_of, with_blocks}
+use Rattle.xh_place.specs.Places.{Item, PlaceOf, header_of, header_in, item_of, IsBlock, IsPlace, sum_of, with_blocks}
 use Rattle.xh_place.specs.Refusals.{is_running, split_tests}
 use Rattle.xh_place.proofs.Found.{unmoved}
 use Rattle.xh_place.proofs.Gained.{fits_bytes, has}
@@ -87,7 +87,8 @@ pub record Cutting (all : RecordsOf) (seat mid : Held Body) (r t : ℕ) (l l0 : 
   pub exist : IsRecord all.shape r × IsRecord all.shape t
   pub is : HasNow seat (seat.lots ++ (t, l0) ∷ []) mid
 
-pub cutting : (all : RecordsOf) (seat mid : Held Body) (r t : ℕ) (l l0 : LotOf Body) → IsSeatOf all seat → value_at r seat.lots ≡ Some l → IsBlock seat.shape r l → IsRecord all.shape t → IsLotOf seat.shape t l0 → (Among (keys seat.lots) t → ⊥) → HasNow seat (seat.lots ++ (t, l0) ∷ []) mid → Cutting all seat mid r t l l0
+pub cutting : (all : RecordsOf) (seat mid : Held Body) (r t : ℕ) (l l0 : LotOf Body) → IsSeatOf all seat → value_at r seat.lots ≡ Some l → IsBlock seat.shape r l → IsRecord all.shape t → IsLotOf seat.shape t l0
+    → (Among (keys seat.lots) t → ⊥) → HasNow seat (seat.lots ++ (t, l0) ∷ []) mid → Cutting all seat mid r t l l0
 cutting all seat mid r t l l0 own at block exists lot fresh is = record {
   own = (ap (λ (h : Held Body). h.table) is ∙ own.0, ap (λ (h : Held Body). h.shape) is ∙ own.1);
   head = ap (λ (h : Held Body). value_at r h.lots) is ∙ front_at r l seat.lots ((t, l0) ∷ []) at;

@@ -1,10 +1,9 @@
 -- A block in which some bytes were overwritten.
-use Rattle.std.proofs.Common.{◌≡◌, ℕ, ◌+◌, ◌-◌, ◌<◌, ◌≤◌, List, ◌∷◌, ◌++◌, length, drop, take, true, refl, sym, ap, ◌∙◌, subst, arith, length-append, length-take-le, length-drop}
+use Rattle.std.proofs.Common.{◌≡◌, ℕ, ◌+◌, ◌-◌, ◌<◌, ◌≤◌, List, ◌++◌, length, drop, take, sym, ap, ◌∙◌, arith, length-append, length-take-le, length-drop}
 use Rattle.std.specs.Prelude.{Some}
 use Rattle.xh_arena.specs.Views.{LotOf}
 use Rattle.xh_records.specs.declared.shape.Shape.{Shape}
 use Rattle.xh_place.specs.declared.body.Body.{Body}
-use Rattle.xh_place.specs.declared.body.Header.{Header}
 use Rattle.xh_place.specs.declared.body.Kind.TheVariants as kind
 use Rattle.xh_place.specs.Bodies.{bytes, content_of, kind_of, patched}
 use Rattle.xh_place.specs.Places.{Item, IsBlock, header_of, item_of}

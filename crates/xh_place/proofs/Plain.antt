@@ -1,6 +1,6 @@
 -- The names of vaults that one thread has.
-use Rattle.std.proofs.Common.{◌≡◌, ℕ, zero, suc, ◌<◌, List, [], ◌∷◌, length, map, drop, get_or, set, refl, sym, ap, ◌∙◌, arith}
-use Rattle.std.specs.Prelude.{Some, None, slice_get, Result, Ok, Err, IfOk, IfErr}
+use Rattle.std.proofs.Common.{◌≡◌, ℕ, zero, suc, ◌<◌, List, [], ◌∷◌, length, map, drop, get_or, set, refl, ap, arith}
+use Rattle.std.specs.Prelude.{Some, slice_get, Result, Ok, Err, IfOk, IfErr}
 use Rattle.atomic_table.specs.Seated.{TableId}
 use Rattle.xh_arena.specs.declared.refused.Refused.{Refused}
 use Rattle.xh_arena.specs.Refusals.{RefusesCarve}

@@ -98,7 +98,8 @@ module _ (room : ℕ) where
   step seat xs r l (Some m) is at good = (becomes seat xs r l m is at (good m refl), becomes_shown seat.lots xs r l m at is.distinct)
 
   -- all given blocks
-  pub settles : (given : List ℕ) (back : ℕ → Option (LotOf Body)) (seat : Held Body) (xs : List (ℕ × Header)) → IsSum seat xs → Distinct given → ((r : ℕ) → Among given r → (l : LotOf Body) × (value_at r seat.lots ≡ Some l)) → ((r : ℕ) (m : LotOf Body) → Among given r → back r ≡ Some m → IsBlock seat.shape r m)
+  pub settles : (given : List ℕ) (back : ℕ → Option (LotOf Body)) (seat : Held Body) (xs : List (ℕ × Header)) → IsSum seat xs → Distinct given
+      → ((r : ℕ) → Among given r → (l : LotOf Body) × (value_at r seat.lots ≡ Some l)) → ((r : ℕ) (m : LotOf Body) → Among given r → back r ≡ Some m → IsBlock seat.shape r m)
       → IsSum (with_lots seat (settled given back seat.lots)) (settled given (λ r. header_in (back r)) xs)
       × (shown (settled given back seat.lots) (settled given (λ r. header_in (back r)) xs) ≡ settled given (λ r. items_in (back r)) (shown seat.lots xs))
   settles [] back seat xs is d held good = (is, refl)
@@ -141,7 +142,9 @@ sent seat last xs room total given e l m is at good item d apart held same other
     let seat1 : Held Body = with_lots seat (put e m seat.lots) in
     let is1 : IsPlace seat1 xs room total Running = changes seat xs room total Running is seat1 e l m at refl good (ap header_of item) in
     let sum1 : IsSum room seat1 xs = subst (λ (n : ℕ). IsPlace seat1 xs room n Running) is1.sum is1 in
-    let shown1 : shown seat1.lots xs ≡ shown seat.lots xs = shown_put seat.lots xs e l m at is.distinct ∙ put_same e (item_of m) (shown seat.lots xs) (shown_at seat.lots xs e (header_of (item_of l)) (is.same e ∙ ap header_in at) ∙ ap (λ (z : Option (LotOf Body)). Some (item_in z)) at ∙ ap (λ (z : Item). Some z) (sym item)) in
+    let shown1 : shown seat1.lots xs ≡ shown seat.lots xs = shown_put seat.lots xs e l m at is.distinct
+    ∙ put_same e (item_of m) (shown seat.lots xs) (shown_at seat.lots xs e (header_of (item_of l)) (is.same e ∙ ap header_in at) ∙ ap (λ (z : Option (LotOf Body)). Some (item_in z)) at
+    ∙ ap (λ (z : Item). Some z) (sym item)) in
     let b : ℕ → Option (LotOf Body) = λ r. value_at r last.lots in
     let held1 : (r : ℕ) → Among given r → (k : LotOf Body) × (value_at r seat1.lots ≡ Some k) = λ r a. ((held r a).0, put_other r e m seat.lots (λ q. apart (subst (λ (z : ℕ). Among given z) (sym q) a)) ∙ (held r a).1) in
     let all = settles room given b seat1 xs sum1 d held1 (λ r k a f. back r k a f) in

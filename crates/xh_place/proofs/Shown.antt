@@ -1,5 +1,5 @@
 -- What the value of a place keeps, and how its list and its seat belong together.
-use Rattle.std.proofs.Common.{◌≡◌, ℕ, ◌+◌, ◌*◌, ◌<◌, ◌≤◌, List, [], ◌∷◌, length, true, refl, sym, ap, ◌∙◌, subst, arith, rules}
+use Rattle.std.proofs.Common.{◌≡◌, ℕ, ◌≤◌, List, [], ◌∷◌, true, refl, sym, ap, ◌∙◌, subst, rules}
 use Rattle.std.specs.Prelude.{Some, None, Option}
 use Rattle.xh_arena.specs.Views.{LotOf}
 use Rattle.xh_core.specs.declared.status.Status.{Status}
@@ -11,7 +11,7 @@ use Rattle.xh_place.specs.declared.body.Body.{Body}
 use Rattle.xh_place.specs.declared.body.Body.TheVariants.{Nothing, Data, End}
 use Rattle.xh_place.specs.declared.body.Header.{Header}
 use Rattle.xh_place.specs.Bodies.{content_of, fits_in}
-use Rattle.xh_place.specs.Places.{AreBlocks, Fits, Item, IsPlace, IsQuiet, IsWhole, Lists, PlaceOf, header_in, header_of, headers, item_in, item_of, shown, sum_of, total_of}
+use Rattle.xh_place.specs.Places.{AreBlocks, Fits, Item, IsPlace, IsQuiet, IsWhole, Lists, header_in, header_of, headers, item_in, item_of, shown}
 use Rattle.xh_place.specs.Refusals.{is_over}
 use Rattle.xh_place.proofs.Found.{Found, found}
 use Rattle.xh_place.proofs.Steps.{count_bound, shown_at, shown_keys, shown_long, sum_shown, total_bound, view_of}

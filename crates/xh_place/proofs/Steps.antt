@@ -13,7 +13,7 @@ use Rattle.xh_records.specs.declared.shape.Shape.{Shape}
 use Rattle.xh_model.specs.Keyed.{Among, Distinct, keys, value_at, put, without}
 use Rattle.xh_model.proofs.Keyed.{absent, at_key, distinct_push, distinct_without, get_key, here_first, keys_push, length-keys, last_at, last_other, next, no_key, none_at, not_here, put_at, put_other, put_same, put_twice, without_at, without_other}
 use Rattle.xh_records.specs.Seats.{Held, IsRecord, with_lots}
-use Rattle.xh_records.specs.inner.Hands.{AllBelow}
+use Rattle.xh_records.specs.inner.Tokens.{AllBelow}
 use Rattle.xh_place.specs.Lots.{HasNow, bare}
 use Rattle.xh_records.proofs.Lists.{few}
 use Rattle.xh_place.specs.declared.body.Body.{Body}
@@ -39,7 +39,8 @@ pub shown_without : (lots : List (ℕ × LotOf Body)) (r : ℕ) (xs : List (ℕ 
 shown_without lots r [] = refl
 shown_without lots r (x ∷ xs) = dite (ℕ_discrete x.0 r)
     (λ same. ap (shown lots) (here_first x.0 r (without r xs) (x ∷ without r xs) same) ∙ shown_without lots r xs ∙ sym (here_first x.0 r (without r (shown lots xs)) ((x.0, item_in (value_at x.0 lots)) ∷ without r (shown lots xs)) same))
-    (λ other. ap (shown lots) (not_here x.0 r (without r xs) (x ∷ without r xs) other) ∙ ap (λ (l : List (ℕ × Item)). (x.0, item_in (value_at x.0 lots)) ∷ l) (shown_without lots r xs) ∙ sym (not_here x.0 r (without r (shown lots xs)) ((x.0, item_in (value_at x.0 lots)) ∷ without r (shown lots xs)) other))
+    (λ other. ap (shown lots) (not_here x.0 r (without r xs) (x ∷ without r xs) other) ∙ ap (λ (l : List (ℕ × Item)). (x.0, item_in (value_at x.0 lots)) ∷ l) (shown_without lots r xs)
+    ∙ sym (not_here x.0 r (without r (shown lots xs)) ((x.0, item_in (value_at x.0 lots)) ∷ without r (shown lots xs)) other))
 
 pub shown_keys : (lots : List (ℕ × LotOf Body)) (xs : List (ℕ × Header)) → keys (shown lots xs) ≡ keys xs
 shown_keys lots [] = refl
@@ -169,7 +170,8 @@ kept seat last xs room total state e is = record {
 }
 
 -- the place's blocks are what f makes of them
-pub shows : (p : PlaceOf) (seat last : Held Body) (xs ys : List (ℕ × Header)) (state : Status) (lots : List (ℕ × LotOf Body)) (f : List (ℕ × Item) → List (ℕ × Item)) → view_of seat xs state ≡ p → HasNow seat lots last → shown last.lots ys ≡ f (shown seat.lots xs) → view_of last ys state ≡ with_blocks p (f p.blocks)
+pub shows : (p : PlaceOf) (seat last : Held Body) (xs ys : List (ℕ × Header)) (state : Status) (lots : List (ℕ × LotOf Body)) (f : List (ℕ × Item) → List (ℕ × Item)) → view_of seat xs state ≡ p
+    → HasNow seat lots last → shown last.lots ys ≡ f (shown seat.lots xs) → view_of last ys state ≡ with_blocks p (f p.blocks)
 shows p seat last xs ys state lots f is new blocks =
     (λ i. record { table = (new i).table; shape = (new i).shape; process = (new i).process; blocks = blocks i; state = state }) ∙ ap (λ (q : PlaceOf). with_blocks q (f q.blocks)) is
 
@@ -344,7 +346,8 @@ module _ (seat : Held Body) (xs : List (ℕ × Header)) (room total : ℕ) (stat
     changes_shown = ap (λ (h : Held Body). shown h.lots xs) new ∙ shown_put seat.lots xs r l m at is.distinct
 
   -- a body that was out and came back as another of the same content
-  pub swapped : (mid last : Held Body) (r : ℕ) (l : LotOf Body) (b b' : Body) → value_at r seat.lots ≡ Some l → mid ≡ with_lots seat (put r (record l { body = b }) seat.lots) → last ≡ with_lots mid (put r (record l { body = b' }) mid.lots) → content_of b' ≡ content_of l.body → fits_in b' l.len ≡ true
+  pub swapped : (mid last : Held Body) (r : ℕ) (l : LotOf Body) (b b' : Body) → value_at r seat.lots ≡ Some l → mid ≡ with_lots seat (put r (record l { body = b }) seat.lots)
+      → last ≡ with_lots mid (put r (record l { body = b' }) mid.lots) → content_of b' ≡ content_of l.body → fits_in b' l.len ≡ true
       → IsPlace last xs room total state × ((p : PlaceOf) → view_of seat xs state ≡ p → view_of last xs state ≡ p)
   swapped mid last r l b b' at out back same fits =
       let m : LotOf Body = record l { body = b' } in

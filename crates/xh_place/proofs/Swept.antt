@@ -1,9 +1,9 @@
 -- Sweeps one after another, and what a worker gave back.
-use Rattle.std.proofs.Common.{◌≡◌, ℕ, zero, suc, ◌+◌, ◌*◌, ◌<◌, ◌≤◌, ◌⊎◌, ⊎_elim, inl, inr, List, [], ◌∷◌, ◌++◌, length, take, drop, length-append, append_assoc, append-nil, refl, sym, ap, ◌∙◌, subst, arith}
+use Rattle.std.proofs.Common.{◌≡◌, ℕ, zero, suc, ◌+◌, ◌<◌, ◌≤◌, ◌⊎◌, ⊎_elim, inl, inr, List, [], ◌∷◌, ◌++◌, length, take, drop, length-append, append_assoc, append-nil, refl, sym, ap, ◌∙◌, subst, arith}
 use Rattle.std.proofs.lemmas.List.{drop-append-le, take-append-le}
 use Rattle.std.proofs.Math.Seq.{drop-append_seam, take-append_seam}
 use Rattle.xh_arena.specs.Views.{TallyOf}
-use Rattle.xh_place.specs.Ending.{HasGivenBack, IsSweptBy, back_of, but_back}
+use Rattle.xh_place.specs.Ending.{HasGivenBack, IsSweptBy, back_of}
 use Rattle.xh_place.specs.Places.{Item, PlaceOf, total_of, with_blocks}
 use Rattle.xh_place.specs.Tallies.{gave}
 

@@ -1,5 +1,5 @@
 -- Endpoints of a place: what a call on one is refused for, and what opening and handing over do.
-use Rattle.std.specs.Prelude.{◌≡◌, ◌⊎◌, ℕ, ◌+◌, ◌*◌, ◌/◌, ◌==◌, ◌&&◌, Bool, true, false, cond, not, nat_lt, List, [], ◌∷◌, ◌++◌, length, Option, Some, None, is_none, Result, Err, MatchOption, MatchResult, IfErr, OnOk}
+use Rattle.std.specs.Prelude.{◌≡◌, ℕ, ◌+◌, ◌*◌, ◌/◌, ◌==◌, ◌&&◌, Bool, false, cond, not, nat_lt, List, [], ◌∷◌, ◌++◌, length, Option, Some, None, is_none, Result, Err, MatchOption, MatchResult, IfErr, OnOk}
 use Rattle.xh_channel.specs.Queues.{Posted}
 use Rattle.xh_core.specs.declared.block.Block.{Block}
 use Rattle.xh_core.specs.declared.refused.Refused.{Refused}
@@ -56,7 +56,8 @@ IsEndIn arena b = (b.len ≡ END_BYTES) × (b.rec / 256 ≡ arena)
 -- Both ends are the last blocks of the list, side 0 first, each of 32 bytes of the arena; or nothing has changed, and the ends are handed back.
 abbrev pub Opens : ℕ → Posted → Posted → PlaceOf → PlaceOf → List TallyOf → List TallyOf → Result (Block × Block) Unopened → Type 0
 Opens arena low high old new tallies left result = MatchResult result
-    (λ ends. (new ≡ with_blocks old (old.blocks ++ (ends.0.rec, end_block low) ∷ (ends.1.rec, end_block high) ∷ [])) × IsEndIn arena ends.0 × IsEndIn arena ends.1 × (left ≡ took arena (2 * END_BYTES) tallies))
+    (λ ends. (new ≡ with_blocks old (old.blocks ++ (ends.0.rec, end_block low) ∷ (ends.1.rec, end_block high) ∷ [])) × IsEndIn arena ends.0 × IsEndIn arena ends.1
+    × (left ≡ took arena (2 * END_BYTES) tallies))
     (λ u. (u.low ≡ low) × (u.high ≡ high) × (new ≡ old) × (left ≡ tallies))
 
 -- both are blocks of the list, and their records exist

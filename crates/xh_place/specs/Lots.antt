@@ -1,7 +1,7 @@
 -- What the private steps of a place do to its seat. The events that the seat did are the record table's to tell.
-use Rattle.std.specs.Prelude.{◌≡◌, ◌≢◌, ℕ, ◌+◌, ◌/◌, ◌<◌, List, [], ◌∷◌, ◌++◌, Some, true}
+use Rattle.std.specs.Prelude.{◌≡◌, ℕ, ◌+◌, ◌/◌, ◌<◌, List, [], ◌∷◌, ◌++◌, true}
 use Rattle.xh_arena.specs.Views.{LotOf}
-use Rattle.xh_model.specs.Keyed.{Among, keys, put, value_at}
+use Rattle.xh_model.specs.Keyed.{Among, keys, put}
 use Rattle.xh_records.specs.Seats.{Held, with_lots}
 use Rattle.xh_place.specs.declared.body.Body.{Body}
 use Rattle.xh_place.specs.declared.body.Kind.TheVariants as kind

@@ -1,5 +1,5 @@
 -- Give and take: their refusals, and what they do to the place.
-use Rattle.std.specs.Prelude.{◌≡◌, ℕ, ◌<◌, not, nat_lt, Bool, List, [], ◌∷◌, ◌++◌, length, is_some, Result, MatchResult}
+use Rattle.std.specs.Prelude.{◌≡◌, ℕ, not, nat_lt, Bool, List, [], ◌∷◌, ◌++◌, length, is_some, Result, MatchResult}
 use Rattle.std.specs.List.{list_all}
 use Rattle.xh_core.specs.declared.refused.Refused.{Refused}
 use Rattle.xh_core.specs.declared.refused.Refused.TheVariants.{TooMany, NotOwned, Twice, Protocol, PeerClosed, Full, Empty}

@@ -1,5 +1,5 @@
 -- The refusals of each call that the place alone decides, in the order of their tests.
-use Rattle.std.specs.Prelude.{ℕ, ◌+◌, ◌*◌, ◌/◌, ◌%◌, ◌++◌, Bool, true, false, not, nat_le, nat_lt, ◌==◌, ◌||◌, List, [], ◌∷◌, Option, Some, None, is_none}
+use Rattle.std.specs.Prelude.{ℕ, ◌+◌, ◌++◌, Bool, true, false, not, nat_le, nat_lt, ◌==◌, ◌||◌, List, [], ◌∷◌, Option, Some, None, is_none}
 pub use Rattle.xh_core.specs.BlockCommands.{is_bad_cut, rounded}
 pub use Rattle.xh_core.specs.Machine.{is_running}
 use Rattle.xh_core.specs.declared.refused.Refused.{Refused}

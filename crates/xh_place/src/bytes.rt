@@ -63,7 +63,8 @@ pub(crate) fn write_lot(
 )
     requires own { IsSeatOf records.now seat.old × IsRecord records.now.shape r }
     requires held { (l : LotOf Body) × (value_at r seat.old.lots ≡ Some l) × IsLotOf seat.old.shape r l × IsData l × (at + length bytes.now ≤ l.len) }
-    ensures { (l : LotOf Body) → value_at r seat.old.lots ≡ Some l → (m : LotOf Body) × (m ≡ record l { body = m.body }) × (content_of m.body ≡ patched at bytes.now (content_of l.body)) × (seat.new ≡ with_lots seat.old (put r m seat.old.lots)) }
+    ensures { (l : LotOf Body) → value_at r seat.old.lots ≡ Some l → (m : LotOf Body) × (m ≡ record l { body = m.body }) × (content_of m.body ≡ patched at bytes.now (content_of l.body))
+        × (seat.new ≡ with_lots seat.old (put r m seat.old.lots)) }
 {
     records.with_lot(
         seat,

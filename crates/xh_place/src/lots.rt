@@ -97,7 +97,8 @@ pub(crate) fn empty_lot<V: Vaults>(
     requires own { IsSeatOf records.now seat.old × IsRecord records.now.shape r }
     requires held { (l : LotOf Body) × (value_at r seat.old.lots ≡ Some l) × (0 < l.len) × IsLotOf seat.old.shape r l × (slice_get (V.names vaults.old) (r / 256) ≡ Some l.id) × (tally.old.id ≡ l.id) }
     ensures same { (V.names vaults.new ≡ V.names vaults.old) × (V.extent vaults.new ≡ V.extent vaults.old) }
-    ensures lot { (l : LotOf Body) → value_at r seat.old.lots ≡ Some l → (seat.new ≡ with_lots seat.old (put r (record l { len = 0; body = Nothing }) seat.old.lots)) × (tally.new ≡ record tally.old { back = tally.old.back + l.len }) }
+    ensures lot { (l : LotOf Body) → value_at r seat.old.lots ≡ Some l → (seat.new ≡ with_lots seat.old (put r (record l { len = 0; body = Nothing }) seat.old.lots))
+        × (tally.new ≡ record tally.old { back = tally.old.back + l.len }) }
 {
     let arena = (r / 256) as u8;
     records.with_lot(
@@ -168,7 +169,8 @@ pub(crate) fn make_block<V: Vaults, G: Gate>(
     requires size { (0 < n) × (n % UNIT ≡ 0) × (n ≤ V.extent vaults.old) × (n ≤ MAX_BYTES) }
     ensures same { (V.names vaults.new ≡ V.names vaults.old) × (V.extent vaults.new ≡ V.extent vaults.old) }
     ensures arena { IfOk result (λ r. r / 256 ≡ arena) }
-    ensures block { IfOk result (λ r. (l : LotOf Body) × (Among (keys seat.old.lots) r → ⊥) × HasNow seat.old (seat.old.lots ++ (r, l) ∷ []) seat.new × IsBlock seat.old.shape r l × (l.len ≡ n) × (content_of l.body ≡ bytes (replicate n 0))) }
+    ensures block { IfOk result (λ r. (l : LotOf Body) × (Among (keys seat.old.lots) r → ⊥) × HasNow seat.old (seat.old.lots ++ (r, l) ∷ []) seat.new × IsBlock seat.old.shape r l
+        × (l.len ≡ n) × (content_of l.body ≡ bytes (replicate n 0))) }
     ensures tally { OnOk result (tally.new ≡ record tally.old { taken = tally.old.taken + n }) }
     ensures refused { OnErr result (HasNow seat.old seat.old.lots seat.new × (tally.new ≡ tally.old)) }
     ensures why { IfErr result (IsNoBlock V.changes vaults.old vaults.new arena n) }
@@ -240,7 +242,8 @@ pub(crate) fn accept_block(
     direction: u8,
 ) -> Result<Header, u64>
     requires own { IsSeatOf records.now seat.old × IsRecord records.now.shape r × (direction < 128) }
-    ensures here { IfOk result (λ s. (l : LotOf Body) × (Among (keys seat.old.lots) r → ⊥) × HasNow seat.old (seat.old.lots ++ (r, l) ∷ []) seat.new × IsBlock seat.old.shape r l × (s ≡ header_of (item_of l))) }
+    ensures here { IfOk result (λ s. (l : LotOf Body) × (Among (keys seat.old.lots) r → ⊥) × HasNow seat.old (seat.old.lots ++ (r, l) ∷ []) seat.new × IsBlock seat.old.shape r l
+        × (s ≡ header_of (item_of l))) }
     ensures missing { IfErr result (λ word. (word ≢ 2 + 4 * direction) × (seat.new ≡ seat.old)) }
 {
     records.accept(seat, r, direction)?;
@@ -288,9 +291,12 @@ pub(crate) fn part_lots<V: Vaults>(
     body: &mut Body,
 )
     requires own { IsSeatOf records.now seat.old × IsRecord records.now.shape r × IsRecord records.now.shape t × (r ≢ t) }
-    requires held { (l m : LotOf Body) × (value_at r seat.old.lots ≡ Some l) × (value_at t seat.old.lots ≡ Some m) × IsLotOf seat.old.shape r l × IsLotOf seat.old.shape t m × (slice_get (V.names vaults.old) (r / 256) ≡ Some l.id) × (m.id ≡ l.id) × (m.len ≡ 0) × IsGoodCut k l.len × (fits_in l.body l.len ≡ true) × (kind_of (content_of l.body) ≡ kind.Data) }
+    requires held { (l m : LotOf Body) × (value_at r seat.old.lots ≡ Some l) × (value_at t seat.old.lots ≡ Some m) × IsLotOf seat.old.shape r l × IsLotOf seat.old.shape t m
+        × (slice_get (V.names vaults.old) (r / 256) ≡ Some l.id) × (m.id ≡ l.id) × (m.len ≡ 0) × IsGoodCut k l.len × (fits_in l.body l.len ≡ true)
+        × (kind_of (content_of l.body) ≡ kind.Data) }
     ensures same { (V.names vaults.new ≡ V.names vaults.old) × (V.extent vaults.new ≡ V.extent vaults.old) }
-    ensures parted { (l m : LotOf Body) → value_at r seat.old.lots ≡ Some l → value_at t seat.old.lots ≡ Some m → (h : LotOf Body) × (h ≡ record l { len = k; body = h.body }) × (content_of h.body ≡ front k (content_of l.body)) × (seat.new ≡ with_lots seat.old (put t (record m { len = l.len - k; body = body.old }) (put r h seat.old.lots))) }
+    ensures parted { (l m : LotOf Body) → value_at r seat.old.lots ≡ Some l → value_at t seat.old.lots ≡ Some m → (h : LotOf Body) × (h ≡ record l { len = k; body = h.body })
+        × (content_of h.body ≡ front k (content_of l.body)) × (seat.new ≡ with_lots seat.old (put t (record m { len = l.len - k; body = body.old }) (put r h seat.old.lots))) }
 {
     let arena = (r / 256) as u8;
     records.with_two(

@@ -73,12 +73,15 @@ fn halve_lots<V: Vaults>(
     second: &mut Body,
 ) -> Result<u32, Refused>
     requires own { IsSeatOf records.now seat.old × IsRecord records.now.shape r × IsRecord records.now.shape t × (r ≢ t) }
-    requires held { (l m : LotOf Body) × (value_at r seat.old.lots ≡ Some l) × (value_at t seat.old.lots ≡ Some m) × IsLotOf seat.old.shape r l × IsLotOf seat.old.shape t m × (slice_get (V.names vaults.old) (r / 256) ≡ Some l.id) × (m.id ≡ l.id) × (tally.old.id ≡ l.id) × (l.len ≡ 0) × (m.len ≡ 0) }
+    requires held { (l m : LotOf Body) × (value_at r seat.old.lots ≡ Some l) × (value_at t seat.old.lots ≡ Some m) × IsLotOf seat.old.shape r l × IsLotOf seat.old.shape t m
+        × (slice_get (V.names vaults.old) (r / 256) ≡ Some l.id) × (m.id ≡ l.id) × (tally.old.id ≡ l.id) × (l.len ≡ 0) × (m.len ≡ 0) }
     requires size { 2 * END_BYTES ≤ V.extent vaults.old }
     ensures same { (V.names vaults.new ≡ V.names vaults.old) × (V.extent vaults.new ≡ V.extent vaults.old) }
-    ensures halved { OnOk result ((l m : LotOf Body) → value_at r seat.old.lots ≡ Some l → value_at t seat.old.lots ≡ Some m → seat.new ≡ with_lots seat.old (put t (record m { len = END_BYTES; body = second.old }) (put r (record l { len = END_BYTES; body = first.old }) seat.old.lots))) }
+    ensures halved { OnOk result ((l m : LotOf Body) → value_at r seat.old.lots ≡ Some l → value_at t seat.old.lots ≡ Some m
+        → seat.new ≡ with_lots seat.old (put t (record m { len = END_BYTES; body = second.old }) (put r (record l { len = END_BYTES; body = first.old }) seat.old.lots))) }
     ensures tally { OnOk result (tally.new ≡ record tally.old { taken = tally.old.taken + 2 * END_BYTES }) }
-    ensures refused { OnErr result ((l m : LotOf Body) → value_at r seat.old.lots ≡ Some l → value_at t seat.old.lots ≡ Some m → (seat.new ≡ with_lots seat.old (put t m (put r l seat.old.lots))) × (tally.new ≡ tally.old) × (first.new ≡ first.old) × (second.new ≡ second.old)) }
+    ensures refused { OnErr result ((l m : LotOf Body) → value_at r seat.old.lots ≡ Some l → value_at t seat.old.lots ≡ Some m
+        → (seat.new ≡ with_lots seat.old (put t m (put r l seat.old.lots))) × (tally.new ≡ tally.old) × (first.new ≡ first.old) × (second.new ≡ second.old)) }
     ensures why { IfErr result (IsRefusedAt V.changes vaults.old vaults.new (r / 256) (2 * END_BYTES)) }
 {
     let arena = (r / 256) as u8;
@@ -149,9 +152,11 @@ fn fit_ends<V: Vaults>(
     tally: &mut Tally,
 ) -> Result<(), Unopened>
     requires own { IsSeatOf records.now seat.old × IsRecord records.now.shape r × IsRecord records.now.shape t × (r ≢ t) }
-    requires held { (l m : LotOf Body) × (value_at r seat.old.lots ≡ Some l) × (value_at t seat.old.lots ≡ Some m) × IsLotOf seat.old.shape r l × IsLotOf seat.old.shape t m × (slice_get (V.names vaults.old) (r / 256) ≡ Some l.id) × (m.id ≡ l.id) × (tally.old.id ≡ l.id) × (l.len ≡ 0) × (m.len ≡ 0) }
+    requires held { (l m : LotOf Body) × (value_at r seat.old.lots ≡ Some l) × (value_at t seat.old.lots ≡ Some m) × IsLotOf seat.old.shape r l × IsLotOf seat.old.shape t m
+        × (slice_get (V.names vaults.old) (r / 256) ≡ Some l.id) × (m.id ≡ l.id) × (tally.old.id ≡ l.id) × (l.len ≡ 0) × (m.len ≡ 0) }
     ensures same { (V.names vaults.new ≡ V.names vaults.old) × (V.extent vaults.new ≡ V.extent vaults.old) }
-    ensures fitted { OnOk result ((l m : LotOf Body) → value_at r seat.old.lots ≡ Some l → value_at t seat.old.lots ≡ Some m → seat.new ≡ with_lots seat.old (put t (record m { len = END_BYTES; body = End high }) (put r (record l { len = END_BYTES; body = End low }) seat.old.lots))) }
+    ensures fitted { OnOk result ((l m : LotOf Body) → value_at r seat.old.lots ≡ Some l → value_at t seat.old.lots ≡ Some m
+        → seat.new ≡ with_lots seat.old (put t (record m { len = END_BYTES; body = End high }) (put r (record l { len = END_BYTES; body = End low }) seat.old.lots))) }
     ensures tally { OnOk result (tally.new ≡ record tally.old { taken = tally.old.taken + 2 * END_BYTES }) }
     ensures refused { IfErr result (λ u. (seat.new ≡ seat.old) × (tally.new ≡ tally.old) × (u.low ≡ low) × (u.high ≡ high)) }
     ensures why { IfErr result (λ u. IsNoPair V.changes vaults.old vaults.new (r / 256) (2 * END_BYTES) (V.extent vaults.old) u.why) }

@@ -8,7 +8,9 @@ mod calls;
 mod desk;
 mod ends;
 mod growths;
+mod notes;
 mod pairs;
+mod points;
 mod threads;
 mod vaults;
 

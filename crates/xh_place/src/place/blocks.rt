@@ -57,7 +57,8 @@ impl Place {
         ensures block { IfOk result (λ b. (b.len ≡ rounded n) × (b.rec / 256 ≡ arena)) }
         ensures taken { IfOk result (λ b. tallies.new ≡ took arena b.len tallies.old) }
         ensures refused { OnErr result ((self.new ≡ self.old) × (tallies.new ≡ tallies.old)) }
-        ensures why { MatchOption (first_refusal (alloc_tests self.old.state arena (length self.old.shape.names) n (V.extent vaults.old))) (IfErr result (IsNoBlock V.changes vaults.old vaults.new arena (rounded n))) (λ refused. (result ≡ Err refused) × (vaults.new ≡ vaults.old)) }
+        ensures why { MatchOption (first_refusal (alloc_tests self.old.state arena (length self.old.shape.names) n (V.extent vaults.old)))
+            (IfErr result (IsNoBlock V.changes vaults.old vaults.new arena (rounded n))) (λ refused. (result ≡ Err refused) × (vaults.new ≡ vaults.old)) }
     {
         if !is_running(self.state) {
             return Err(Refused::Ended);
@@ -157,7 +158,8 @@ impl Place {
 
     // The tests of a call on `count` bytes of a data block from `at` on.
     fn test_range(&self, r: u16, at: u32, count: usize) -> Result<(), Refused>
-        ensures { Tested (range_tests self.now.state (value_at r self.now.blocks) at count) result (λ _. (x : Item) × (value_at r self.now.blocks ≡ Some x) × (kind_of x.content ≡ kind.Data) × (at + count ≤ x.len)) }
+        ensures { Tested (range_tests self.now.state (value_at r self.now.blocks) at count) result
+            (λ _. (x : Item) × (value_at r self.now.blocks ≡ Some x) × (kind_of x.content ≡ kind.Data) × (at + count ≤ x.len)) }
     {
         let header = self.test_data(r)?;
         let len = header.len as usize;
@@ -186,7 +188,8 @@ impl Place {
         ensures place { IsSamePlace self.old self.new }
         ensures cut { IfOk result (λ ends. IsSplit self.old self.new r k ends.0 ends.1) }
         ensures refused { OnErr result ((self.new ≡ self.old) × (vaults.new ≡ vaults.old)) }
-        ensures why { MatchOption (first_refusal (split_tests self.old.state (value_at r self.old.blocks) k)) (IfErr result (λ e. (e ≡ Refused.NoRecord) ⊎ (e ≡ Refused.OutOfMemory))) (λ refused. result ≡ Err refused) }
+        ensures why { MatchOption (first_refusal (split_tests self.old.state (value_at r self.old.blocks) k)) (IfErr result (λ e. (e ≡ Refused.NoRecord) ⊎ (e ≡ Refused.OutOfMemory)))
+            (λ refused. result ≡ Err refused) }
     {
         let len = self.test_cut(r, k)?;
         let rec = cut_block(alloc, records, &mut self.seat, r, k, vaults, gate)?;
@@ -199,7 +202,8 @@ impl Place {
 
     // The tests of a split: the block's length.
     fn test_cut(&self, r: u16, k: u32) -> Result<u32, Refused>
-        ensures { Tested (split_tests self.now.state (value_at r self.now.blocks) k) result (λ n. (x : Item) × (value_at r self.now.blocks ≡ Some x) × (kind_of x.content ≡ kind.Data) × (x.len ≡ n) × IsGoodCut k n) }
+        ensures { Tested (split_tests self.now.state (value_at r self.now.blocks) k) result
+            (λ n. (x : Item) × (value_at r self.now.blocks ≡ Some x) × (kind_of x.content ≡ kind.Data) × (x.len ≡ n) × IsGoodCut k n) }
     {
         let header = self.test_data(r)?;
         if k == 0 || k % UNIT != 0 || k >= header.len {
@@ -219,7 +223,8 @@ impl Place {
     ) -> Result<(), Refused>
         requires own { IsPlaceOf records.now self.old }
         ensures same { self.new ≡ self.old }
-        ensures read { Tested (range_tests self.old.state (value_at r self.old.blocks) at (length out.old)) result (λ _. (x : Item) × (value_at r self.old.blocks ≡ Some x) × (out.new ≡ part at (length out.old) x.content)) }
+        ensures read { Tested (range_tests self.old.state (value_at r self.old.blocks) at (length out.old)) result
+            (λ _. (x : Item) × (value_at r self.old.blocks ≡ Some x) × (out.new ≡ part at (length out.old) x.content)) }
         ensures refused { OnErr result (out.new ≡ out.old) }
     {
         self.test_range(r, at, out.len())?;
@@ -238,7 +243,8 @@ impl Place {
     ) -> Result<(), Refused>
         requires own { IsPlaceOf records.now self.old }
         ensures place { IsSamePlace self.old self.new }
-        ensures written { Tested (range_tests self.old.state (value_at r self.old.blocks) at (length bytes.now)) result (λ _. (x : Item) × (value_at r self.old.blocks ≡ Some x) × (self.new ≡ with_blocks self.old (put r (record x { content = patched at bytes.now x.content }) self.old.blocks))) }
+        ensures written { Tested (range_tests self.old.state (value_at r self.old.blocks) at (length bytes.now)) result
+            (λ _. (x : Item) × (value_at r self.old.blocks ≡ Some x) × (self.new ≡ with_blocks self.old (put r (record x { content = patched at bytes.now x.content }) self.old.blocks))) }
         ensures refused { OnErr result (self.new ≡ self.old) }
     {
         self.test_range(r, at, bytes.len())?;

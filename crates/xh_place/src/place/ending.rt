@@ -110,7 +110,8 @@ impl Place {
         (bytes, count)
     }
 
-    // The block at `from` of the list goes, and the data blocks after it, at most so many. What waits for it, where it is an endpoint, comes to the end of the list. It answers the bytes and how many blocks went.
+    // The block at `from` of the list goes, and the data blocks after it, at most so many. What waits for
+    // it, where it is an endpoint, comes to the end of the list. It answers the bytes and how many blocks went.
     fn reclaim<R: Wait, V: Vaults, G: Gate>(
         &mut self,
         rt: &R,

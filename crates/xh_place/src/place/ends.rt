@@ -33,7 +33,8 @@ use xh_records::Records;
 impl Place {
     // The tests of a call on an endpoint.
     pub(super) fn test_end(&self, e: u16) -> Result<(), Refused>
-        ensures { Tested (end_tests self.now.state (value_at e self.now.blocks)) result (λ _. (self.now.state ≡ status.Running) × ((x : Item) × (value_at e self.now.blocks ≡ Some x) × (kind_of x.content ≡ kind.End))) }
+        ensures { Tested (end_tests self.now.state (value_at e self.now.blocks)) result
+            (λ _. (self.now.state ≡ status.Running) × ((x : Item) × (value_at e self.now.blocks ≡ Some x) × (kind_of x.content ≡ kind.End))) }
     {
         if !is_running(self.state()) {
             return Err(Refused::Ended);
@@ -101,7 +102,8 @@ impl Place {
         ensures opened { Opens arena low high self.old self.new tallies.old tallies.new result }
         ensures place { IsSamePlace self.old self.new }
         ensures ends { IfOk result (AreListed low high self.new) }
-        ensures why { IsUnopened (open_tests self.old.state arena (length self.old.shape.names)) (vaults.new ≡ vaults.old) (IsNoPair V.changes vaults.old vaults.new arena (2 * END_BYTES) (V.extent vaults.old)) result }
+        ensures why { IsUnopened (open_tests self.old.state arena (length self.old.shape.names)) (vaults.new ≡ vaults.old)
+            (IsNoPair V.changes vaults.old vaults.new arena (2 * END_BYTES) (V.extent vaults.old)) result }
     {
         self.open_pair(records, low, high, arena, vaults, tallies, gate)
     }
@@ -124,7 +126,8 @@ impl Place {
         ensures opened { Opens arena low high self.old self.new tallies.old tallies.new result }
         ensures place { IsSamePlace self.old self.new }
         ensures ends { IfOk result (AreListed low high self.new) }
-        ensures why { IsUnopened (open_tests self.old.state arena (length self.old.shape.names)) (vaults.new ≡ vaults.old) (IsNoPair V.changes vaults.old vaults.new arena (2 * END_BYTES) (V.extent vaults.old)) result }
+        ensures why { IsUnopened (open_tests self.old.state arena (length self.old.shape.names)) (vaults.new ≡ vaults.old)
+            (IsNoPair V.changes vaults.old vaults.new arena (2 * END_BYTES) (V.extent vaults.old)) result }
     {
         self.open_pair(records, low, high, arena, vaults, tallies, gate)
     }
@@ -146,7 +149,8 @@ impl Place {
         ensures opened { Opens arena low high self.old self.new tallies.old tallies.new result }
         ensures place { IsSamePlace self.old self.new }
         ensures ends { IfOk result (AreListed low high self.new) }
-        ensures why { IsUnopened (open_tests self.old.state arena (length self.old.shape.names)) (vaults.new ≡ vaults.old) (IsNoPair V.changes vaults.old vaults.new arena (2 * END_BYTES) (V.extent vaults.old)) result }
+        ensures why { IsUnopened (open_tests self.old.state arena (length self.old.shape.names)) (vaults.new ≡ vaults.old)
+            (IsNoPair V.changes vaults.old vaults.new arena (2 * END_BYTES) (V.extent vaults.old)) result }
     {
         if !is_running(self.state) {
             let why = Refused::Ended;
@@ -221,8 +225,11 @@ impl Place {
         requires names { (V.names vaults.old ≡ self.old.shape.names) × (ids_of tallies.old ≡ self.old.shape.names) }
         ensures same { (V.names vaults.new ≡ V.names vaults.old) × (V.extent vaults.new ≡ V.extent vaults.old) × (ids_of tallies.new ≡ ids_of tallies.old) }
         ensures place { IsSamePlace self.old self.new }
-        ensures here { IfOk result (λ b. (is_here self.old process ≡ true) × (b.rec ≡ r) × ((x : Item) × (x.len ≡ b.len) × (self.new ≡ with_blocks self.old (self.old.blocks ++ (r, x) ∷ []))) × (tallies.new ≡ tallies.old)) }
-        ensures away { IfErr result (λ e. (e ≡ Refused.Ended) × (((self.new ≡ self.old) × (tallies.new ≡ tallies.old)) ⊎ ((is_here self.old process ≡ false) × (self.old.state ≢ status.Vacant) × ((bytes : ℕ) × IsTooLate r self.old self.new bytes × HasGivenBack bytes tallies.old tallies.new)))) }
+        ensures here { IfOk result (λ b. (is_here self.old process ≡ true) × (b.rec ≡ r)
+            × ((x : Item) × (x.len ≡ b.len) × (self.new ≡ with_blocks self.old (self.old.blocks ++ (r, x) ∷ []))) × (tallies.new ≡ tallies.old)) }
+        ensures away { IfErr result (λ e. (e ≡ Refused.Ended) × (((self.new ≡ self.old) × (tallies.new ≡ tallies.old))
+            ⊎ ((is_here self.old process ≡ false) × (self.old.state ≢ status.Vacant)
+            × ((bytes : ℕ) × IsTooLate r self.old self.new bytes × HasGivenBack bytes tallies.old tallies.new)))) }
     {
         if self.state() == Status::Vacant {
             return Err(Refused::Ended);

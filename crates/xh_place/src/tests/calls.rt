@@ -10,6 +10,7 @@ fn place_calls(rt: HostRuntime) -> Result<(), Fail> {
         panic!(rt; "no bench");
     };
     assert_eq!(rt; bench.alloc(rt.alloc(), 40, 0)?, Block { rec: 0, len: 48 });
+    assert!(rt; matches!(bench.alloc(rt.alloc(), 16, 1), Err(Refused::NoArena)));
     let (head, tail) = bench.split(rt.alloc(), 0, 16)?;
     assert_eq!(rt; head, Block { rec: 0, len: 16 });
     assert_eq!(rt; tail, Block { rec: 1, len: 32 });

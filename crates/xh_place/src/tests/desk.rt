@@ -3,9 +3,10 @@ ghost use Rattle.std.specs.Prelude.{◌≡◌, ◌<◌, ◌≤◌, map};
 ghost use Rattle.xh_place.specs.Places.{IsPlaceOf};
 ghost use Rattle.xh_place.specs.Tallies.{ids_of};
 
+use super::notes::Notes;
 use super::vaults::Plain;
 use super::{Bench, make_bench};
-use crate::{Body, OpenGate, Place, Taken};
+use crate::{Body, Place, Taken};
 use std::alloc::Global;
 use std::mem;
 use std::sync::Wait;
@@ -14,15 +15,16 @@ use xh_channel::{Channels, Spot};
 use xh_core::{Block, Contract, Refused, Status};
 use xh_records::Records;
 
-/// One arena, one account, all channels and two places. Calls are of the place whose turn it is.
+/// One arena, one account, all channels and two places. Calls are of the place whose turn it is, and where they stop is noted.
 #[derive(Drop)]
 pub(super) struct Desk {
     pub(super) records: Records<Body>,
-    vaults: Plain,
-    tallies: Vec<Tally>,
+    pub(super) vaults: Plain,
+    pub(super) tallies: Vec<Tally>,
     pub(super) channels: Channels,
     pub(super) place: Place,
     pub(super) other: Place,
+    pub(super) notes: Notes,
     ghost own: { IsPlaceOf records place × IsPlaceOf records other },
     ghost names: { map (λ v. v.id) vaults.vaults.items ≡ records.shape.names },
     ghost ids: { ids_of tallies.items ≡ records.shape.names },
@@ -47,6 +49,7 @@ pub(super) fn make_desk(alloc: Global, size: u32, depth: u8) -> Option<Desk> {
         channels,
         place: first,
         other: second,
+        notes: Notes::new(),
     })
 }
 
@@ -60,7 +63,7 @@ impl Desk {
         let tallies = self.tallies.as_mut_slice();
         let vaults = &mut self.vaults;
         self.place
-            .alloc(alloc, &self.records, n, 0, vaults, tallies, &OpenGate)
+            .alloc(alloc, &self.records, n, 0, vaults, tallies, &self.notes)
     }
 
     pub(super) fn split(
@@ -71,7 +74,7 @@ impl Desk {
     ) -> Result<(Block, Block), Refused> {
         let vaults = &mut self.vaults;
         self.place
-            .split(alloc, &self.records, r, k, vaults, &OpenGate)
+            .split(alloc, &self.records, r, k, vaults, &self.notes)
     }
 
     pub(super) fn read(&mut self, r: u16, at: u32, out: &mut [u8]) -> Result<(), Refused> {
@@ -86,7 +89,7 @@ impl Desk {
         let tallies = self.tallies.as_mut_slice();
         let vaults = &mut self.vaults;
         self.place
-            .free(&self.records, r, vaults, tallies, &OpenGate)
+            .free(&self.records, r, vaults, tallies, &self.notes)
     }
 
     /// The records of both ends of a new channel.
@@ -96,7 +99,7 @@ impl Desk {
         let vaults = &mut self.vaults;
         let made = self
             .place
-            .open(&self.records, low, high, 0, vaults, tallies, &OpenGate);
+            .open(&self.records, low, high, 0, vaults, tallies, &self.notes);
         let (a, b) = made.ok()?;
         Some((a.rec, b.rec))
     }
@@ -108,7 +111,7 @@ impl Desk {
         let vaults = &mut self.vaults;
         let made = self
             .place
-            .open_with(&self.records, low, high, 0, vaults, tallies, &OpenGate);
+            .open_with(&self.records, low, high, 0, vaults, tallies, &self.notes);
         let (a, b) = made.ok()?;
         Some((a.rec, b.rec))
     }
@@ -127,8 +130,8 @@ impl Desk {
         self.accept(rt, e, direction)
     }
 
-    // The other place takes an endpoint.
-    fn accept<R: Wait>(&mut self, rt: &R, e: u16, direction: u8) -> Option<()>
+    /// The other place takes an endpoint that is in flight on the direction.
+    pub(super) fn accept<R: Wait>(&mut self, rt: &R, e: u16, direction: u8) -> Option<()>
         requires { direction < 128 }
     {
         if !self.records.has(e) {
@@ -147,7 +150,7 @@ impl Desk {
             direction,
             vaults,
             tallies,
-            &OpenGate,
+            &self.notes,
         );
         came.ok()?;
         Some(())
@@ -174,20 +177,27 @@ impl Desk {
         tag: u16,
         blocks: &[u16],
     ) -> Result<u64, Refused> {
-        self.place.give(rt, &self.records, &self.channels, e, tag, blocks, &OpenGate)
+        self.place.give(
+            rt,
+            &self.records,
+            &self.channels,
+            e,
+            tag,
+            blocks,
+            &self.notes,
+        )
     }
 
     pub(super) fn take<R: Wait>(&mut self, rt: &R, e: u16) -> Result<Taken, Refused> {
         self.place
-            .take(rt, &self.records, &self.channels, e, &OpenGate)
+            .take(rt, &self.records, &self.channels, e, &self.notes)
     }
 
     pub(super) fn close<R: Wait>(&mut self, rt: &R, e: u16) -> Result<u64, Refused> {
         let tallies = self.tallies.as_mut_slice();
         let vaults = &mut self.vaults;
         let channels = &self.channels;
-        self.place
-            .close_end(rt, &self.records, channels, e, vaults, tallies, &OpenGate)
+        self.place.close_end(rt, &self.records, channels, e, vaults, tallies, &self.notes)
     }
 
     pub(super) fn stop<R: Wait>(&mut self, rt: &R, budget: u16) -> Result<u64, Refused> {
@@ -201,7 +211,7 @@ impl Desk {
             budget,
             vaults,
             tallies,
-            &OpenGate,
+            &self.notes,
         )
     }
 

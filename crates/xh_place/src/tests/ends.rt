@@ -22,6 +22,8 @@ fn refusals_of_give(rt: HostRuntime) -> Result<(), Fail> {
     assert!(rt; matches!(desk.give(&rt, x, 1, &[]), Err(Refused::NotEndpoint)));
     assert!(rt; matches!(desk.give(&rt, 7, 1, &[]), Err(Refused::NotOwned)));
     assert!(rt; matches!(desk.give(&rt, e, 1, &[7]), Err(Refused::NotOwned)));
+    assert!(rt; matches!(desk.free(e), Err(Refused::NotData)));
+    assert!(rt; matches!(desk.read(x, 15, &mut [9; 2]), Err(Refused::BadRange)));
     assert_eq!(rt; desk.give(&rt, e, 1, &[])?, 1);
     let taken = desk.take(&rt, f)?;
     assert_eq!(rt; (taken.no, taken.tag, taken.blocks.len()), (1, 1, 0));
@@ -68,6 +70,7 @@ fn unfinished_kill(rt: HostRuntime) -> Result<(), Fail> {
     assert!(rt; matches!(desk.stop(&rt, 1), Err(Refused::Unfinished { left: 1 })));
     assert!(rt; desk.place.state() == Status::Ending);
     assert_eq!(rt; desk.place.total(), 32);
+    assert!(rt; matches!(desk.free(1), Err(Refused::Ended)));
     assert_eq!(rt; desk.stop(&rt, 1)?, 32);
     assert!(rt; desk.place.state() == Status::Ended);
     assert!(rt; matches!(desk.stop(&rt, 1), Err(Refused::Ended)));
@@ -109,6 +112,8 @@ fn close_reclaims_messages(rt: HostRuntime) -> Result<(), Fail> {
     };
     assert_eq!(rt; back.as_slice(), [y].as_slice());
     assert_eq!(rt; desk.place.total(), 48);
-    assert_eq!(rt; desk.moved(), (96, 48));
+    assert_eq!(rt; desk.free(y)?, 16);
+    assert_eq!(rt; desk.place.total(), 32);
+    assert_eq!(rt; desk.moved(), (96, 64));
     Ok(())
 }

@@ -38,6 +38,22 @@ fn give_take_and_write(rt: HostRuntime) -> Result<(), Fail> {
     Ok(())
 }
 
+/// An end that isn't in flight on the direction stays where it is.
+#[test]
+fn end_that_is_not_in_flight(rt: HostRuntime) -> Result<(), Fail> {
+    let Some(mut desk) = make_desk(rt.alloc(), 256, 4) else {
+        panic!(rt; "no desk");
+    };
+    let Some((_, f)) = desk.open(&rt) else {
+        panic!(rt; "no channel");
+    };
+    assert!(rt; desk.accept(&rt, f, 1).is_none());
+    assert_eq!(rt; (desk.place.total(), desk.other.total()), (64, 0));
+    assert!(rt; desk.hand_over(&rt, f).is_some());
+    assert_eq!(rt; (desk.place.total(), desk.other.total()), (32, 32));
+    Ok(())
+}
+
 /// The tail of a block goes to the other place with its bytes.
 #[test]
 fn split_and_give_the_tail(rt: HostRuntime) -> Result<(), Fail> {

@@ -1,13 +1,13 @@
-use Rattle.std.proofs.Common.{arith, ◌≡◌, ◌≢◌, ℕ, ◌-◌, ◌/◌, ◌%◌, ◌<◌, ◌≤◌, List, length, refl, sym, ap, ◌∙◌, subst}
+use Rattle.std.proofs.Common.{arith, ◌≡◌, ℕ, ◌-◌, ◌/◌, ◌<◌, List, length, refl, sym, ap, ◌∙◌, subst}
 use Rattle.std.specs.Prelude.{Some, slice_get}
 use Rattle.atomic_table.specs.Seated.{TableId}
 use Rattle.xh_arena.specs.Views.{LotOf}
-use Rattle.xh_records.specs.Seats.{Held, IsRecord}
+use Rattle.xh_records.specs.Seats.{IsRecord}
 use Rattle.xh_place.specs.Lots.{IsCut, bare}
 use Rattle.xh_place.specs.declared.body.Body.{Body}
 use Rattle.xh_place.specs.declared.body.Body.TheVariants.{Data}
 use Rattle.xh_place.proofs.Gained.{undone}
-use Rattle.xh_place.proofs.Parted.{Cutting, cutting, lent, is_cut}
+use Rattle.xh_place.proofs.Parted.{cutting, lent, is_cut}
 use Rattle.xh_place.proofs.lots.cut_block.Goals as goal
 
 pub rest_of-requires-clause-held : goal.rest_of-requires-clause-held

@@ -1,4 +1,4 @@
-use Rattle.std.proofs.Common.{rules, arith, ℕ, ◌≤◌, refl, ap, ◌∙◌, replicate}
+use Rattle.std.proofs.Common.{rules, ℕ, refl, ap, ◌∙◌, replicate}
 use Rattle.std.proofs.lemmas.List.{length-replicate}
 use Rattle.xh_records.specs.Seats.{Held}
 use Rattle.xh_place.specs.Lots.{bare}

@@ -1,4 +1,4 @@
-use Rattle.std.proofs.Common.{◌≡◌, ℕ, sym, ap, ◌∙◌}
+use Rattle.std.proofs.Common.{ap, ◌∙◌}
 use Rattle.xh_model.specs.Keyed.{put}
 use Rattle.xh_model.proofs.Keyed.{put_same}
 use Rattle.xh_records.specs.Seats.{with_lots}

@@ -1,4 +1,4 @@
-use Rattle.std.proofs.Common.{◌≡◌, ℕ, ap, ◌∙◌}
+use Rattle.std.proofs.Common.{ap, ◌∙◌}
 use Rattle.xh_model.specs.Keyed.{value_at, without}
 use Rattle.xh_model.proofs.Keyed.{without_other}
 use Rattle.xh_records.specs.Seats.{Held, with_lots}

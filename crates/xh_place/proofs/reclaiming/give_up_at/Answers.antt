@@ -1,9 +1,6 @@
-use Rattle.std.proofs.Common.{arith, ◌≡◌, ℕ, ◌+◌, ◌/◌, ◌<◌, length, get_or, sym, ap, ◌∙◌, subst}
+use Rattle.std.proofs.Common.{arith, ◌≡◌, ℕ, ◌/◌, ◌<◌, length, get_or, sym, ap, ◌∙◌, subst}
 use Rattle.std.specs.Prelude.{slice_get, Some}
-use Rattle.xh_model.specs.Keyed.{value_at}
 use Rattle.xh_records.specs.Seats.{IsRecord}
-use Rattle.xh_arena.specs.Views.{LotOf}
-use Rattle.xh_place.specs.declared.body.Body.{Body}
 use Rattle.xh_place.specs.Tallies.{gave, ids_of}
 use Rattle.xh_place.proofs.Counted.{gave_set, ids_at, ids_gave, ids_long}
 use Rattle.xh_place.proofs.reclaiming.give_up_at.Goals as goal

@@ -1,4 +1,4 @@
-use Rattle.std.proofs.Common.{ℕ, ◌+◌, ◌-◌, ◌<◌, ◌≤◌, length}
+use Rattle.std.proofs.Common.{◌+◌, ◌-◌, ◌<◌, ◌≤◌, length}
 use Rattle.xh_place.proofs.reclaiming.run.Given as goal
 
 abbrev pub invariant-loop-count : goal.invariant-loop-count

@@ -22,7 +22,8 @@ overflow_add-self c =
     let same = ap (λ p. p.shape) c.self.view_is ∙ c.requires.own.0.1 in
     let fits = has_room seat xs room total state is c.args.r t.3.exists t.1 in
     let alive : is_over state ≡ true → ⊥ = λ e. c.requires.alive (ap (λ p. is_over p.state) (sym c.self.view_is) ∙ e) in
-    let few : length xs < 2048 = fits.1 in let most : total ≤ length xs * 1048576 = small seat xs room total state is in let one : c.from.result ≤ 1048576 = subst (λ (z : ℕ). z ≤ 1048576) (sym (c.from.ensures ∙ ap (λ (z : Header). z.len) t.4)) (block_small t.3) in let sum : total + c.from.result < 18446744073709551616 = omega arith in search rules
+    let few : length xs < 2048 = fits.1 in let most : total ≤ length xs * 1048576 = small seat xs room total state is in let one : c.from.result ≤ 1048576 =
+    subst (λ (z : ℕ). z ≤ 1048576) (sym (c.from.ensures ∙ ap (λ (z : Header). z.len) t.4)) (block_small t.3) in let sum : total + c.from.result < 18446744073709551616 = omega arith in search rules
 
 pub invariant_of-self-2 : goal.invariant_of-self-2
 invariant_of-self-2 c =
@@ -32,7 +33,8 @@ invariant_of-self-2 c =
     let fits = has_room seat xs room total state is c.args.r t.3.exists t.1 in
     let alive : is_over state ≡ true → ⊥ = λ e. c.requires.alive (ap (λ p. is_over p.state) (sym c.self.view_is) ∙ e) in
     let len : c.from.result ≡ l.len = c.from.ensures ∙ ap (λ (z : Header). z.len) t.4 in
-    let both = won seat xs room total state is c.accept_block.new.seat c.args.r l c.push_reserved.new.self.items (vec_capacity c.push_reserved.new.self) c.from.result t.1 t.2 t.3 alive (c.push_reserved.ensures.items ∙ ap (λ (z : Header). xs ++ (c.args.r, z) ∷ []) t.4) c.push_reserved.ensures.capacity len in
+    let both = won seat xs room total state is c.accept_block.new.seat c.args.r l c.push_reserved.new.self.items (vec_capacity c.push_reserved.new.self) c.from.result t.1 t.2 t.3 alive
+    (c.push_reserved.ensures.items ∙ ap (λ (z : Header). xs ++ (c.args.r, z) ∷ []) t.4) c.push_reserved.ensures.capacity len in
     both.0
 
 pub returns-clause-here : goal.returns-clause-here
@@ -43,5 +45,6 @@ returns-clause-here c =
     let fits = has_room seat xs room total state is c.args.r t.3.exists t.1 in
     let alive : is_over state ≡ true → ⊥ = λ e. c.requires.alive (ap (λ p. is_over p.state) (sym c.self.view_is) ∙ e) in
     let len : c.from.result ≡ l.len = c.from.ensures ∙ ap (λ (z : Header). z.len) t.4 in
-    let both = won seat xs room total state is c.accept_block.new.seat c.args.r l c.push_reserved.new.self.items (vec_capacity c.push_reserved.new.self) c.from.result t.1 t.2 t.3 alive (c.push_reserved.ensures.items ∙ ap (λ (z : Header). xs ++ (c.args.r, z) ∷ []) t.4) c.push_reserved.ensures.capacity len in
+    let both = won seat xs room total state is c.accept_block.new.seat c.args.r l c.push_reserved.new.self.items (vec_capacity c.push_reserved.new.self) c.from.result t.1 t.2 t.3 alive
+    (c.push_reserved.ensures.items ∙ ap (λ (z : Header). xs ++ (c.args.r, z) ∷ []) t.4) c.push_reserved.ensures.capacity len in
     (refl, (item_of l, sym (ap (λ (z : Header). z.len) t.4), both.1 c.args.self.now c.self.view_is))

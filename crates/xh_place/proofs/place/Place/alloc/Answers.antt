@@ -37,7 +37,8 @@ overflow_add-self g c =
     let fits = has_room seat xs room total state is r t.3.exists t.1 in
     let run : is_running state ≡ true = search rules in
     let alive = over_running state run in
-    let few : length xs < 2048 = fits.1 in let most : total ≤ length xs * 1048576 = small seat xs room total state is in let one : c.from-3.result ≤ 1048576 = subst (λ (z : ℕ). z ≤ 1048576) (sym (c.from-3.ensures ∙ sym t.4)) (block_small t.3) in let sum : total + c.from-3.result < 18446744073709551616 = omega arith in search rules
+    let few : length xs < 2048 = fits.1 in let most : total ≤ length xs * 1048576 = small seat xs room total state is in let one : c.from-3.result ≤ 1048576 =
+    subst (λ (z : ℕ). z ≤ 1048576) (sym (c.from-3.ensures ∙ sym t.4)) (block_small t.3) in let sum : total + c.from-3.result < 18446744073709551616 = omega arith in search rules
 
 pub invariant_of-self-2 : goal.invariant_of-self-2
 invariant_of-self-2 g c =

@@ -1,7 +1,6 @@
-use Rattle.std.proofs.Common.{◌≡◌, ◌++◌, append_assoc, ap, ◌∙◌}
+use Rattle.std.proofs.Common.{ap, ◌∙◌}
 use Rattle.xh_model.specs.Keyed.{value_at}
 use Rattle.xh_model.proofs.Keyed.{front_at}
-use Rattle.xh_place.specs.Places.{with_blocks}
 use Rattle.xh_place.proofs.place.Place.drain.Goals as goal
 
 pub take_message-requires-clause-end : goal.take_message-requires-clause-end

@@ -45,7 +45,8 @@ give_up-requires-clause-held g c =
       t.3.full.0,
       t.3.lot,
       ap (λ z. slice_get z (c.args.r / 256)) (c.requires.names.0 ∙ sym names) ∙ t.3.lot.1,
-      (let id : Some (get_or c.args.tallies.now c.from.result c.index-tallies-from.result).id ≡ Some t.0.id = sym (ids_at c.args.tallies.now c.from.result c.index-tallies-from.result inside) ∙ (λ i. slice_get ((c.requires.names.1 ∙ sym names) i) (c.from.ensures i)) ∙ t.3.lot.1 in let e : (get_or c.args.tallies.now c.from.result c.index-tallies-from.result).id ≡ t.0.id = cc in e),
+      (let id : Some (get_or c.args.tallies.now c.from.result c.index-tallies-from.result).id ≡ Some t.0.id = sym (ids_at c.args.tallies.now c.from.result c.index-tallies-from.result inside)
+          ∙ (λ i. slice_get ((c.requires.names.1 ∙ sym names) i) (c.from.ensures i)) ∙ t.3.lot.1 in let e : (get_or c.args.tallies.now c.from.result c.index-tallies-from.result).id ≡ t.0.id = cc in e),
     )
 
 pub overflow_sub-self : goal.overflow_sub-self
@@ -77,7 +78,9 @@ returns-clause-same g c =
     let long : length c.args.tallies.now ≡ length seat.shape.names = sym (ids_long c.args.tallies.now) ∙ ap length (c.requires.names.1 ∙ sym names) in
     let arena : c.args.r / 256 < length seat.shape.names = t.3.exists.0 in
     let inside : c.from.result < length c.args.tallies.now = omega (arith, c.from.ensures) in
-    let paid = gave_set c.args.tallies.now c.from.result c.args.header.len c.index-tallies-from.result c.give_up.new.tally inside (c.give_up.ensures.tally t.0 t.1 ∙ ap (λ (z : ℕ). record (get_or c.args.tallies.now c.from.result c.index-tallies-from.result) { back = (get_or c.args.tallies.now c.from.result c.index-tallies-from.result).back + z }) (sym (ap (λ (z : Header). z.len) t.2))) in
+    let paid = gave_set c.args.tallies.now c.from.result c.args.header.len c.index-tallies-from.result c.give_up.new.tally inside (c.give_up.ensures.tally t.0 t.1
+    ∙ ap (λ (z : ℕ). record (get_or c.args.tallies.now c.from.result c.index-tallies-from.result) { back = (get_or c.args.tallies.now c.from.result c.index-tallies-from.result).back + z })
+    (sym (ap (λ (z : Header). z.len) t.2))) in
     (c.give_up.ensures.same.0, c.give_up.ensures.same.1, ap ids_of paid ∙ ids_gave c.args.tallies.now c.from.result c.args.header.len)
 
 pub returns-clause-list : goal.returns-clause-list
@@ -100,5 +103,7 @@ returns-clause-back g c =
     let long : length c.args.tallies.now ≡ length seat.shape.names = sym (ids_long c.args.tallies.now) ∙ ap length (c.requires.names.1 ∙ sym names) in
     let arena : c.args.r / 256 < length seat.shape.names = t.3.exists.0 in
     let inside : c.from.result < length c.args.tallies.now = omega (arith, c.from.ensures) in
-    let paid = gave_set c.args.tallies.now c.from.result c.args.header.len c.index-tallies-from.result c.give_up.new.tally inside (c.give_up.ensures.tally t.0 t.1 ∙ ap (λ (z : ℕ). record (get_or c.args.tallies.now c.from.result c.index-tallies-from.result) { back = (get_or c.args.tallies.now c.from.result c.index-tallies-from.result).back + z }) (sym (ap (λ (z : Header). z.len) t.2))) in
+    let paid = gave_set c.args.tallies.now c.from.result c.args.header.len c.index-tallies-from.result c.give_up.new.tally inside (c.give_up.ensures.tally t.0 t.1
+    ∙ ap (λ (z : ℕ). record (get_or c.args.tallies.now c.from.result c.index-tallies-from.result) { back = (get_or c.args.tallies.now c.from.result c.index-tallies-from.result).back + z })
+    (sym (ap (λ (z : Header). z.len) t.2))) in
     paid ∙ ap (λ (a : ℕ). gave a c.args.header.len c.args.tallies.now) c.from.ensures

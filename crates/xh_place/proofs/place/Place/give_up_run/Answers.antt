@@ -1,5 +1,5 @@
-use Rattle.std.proofs.Common.{rules, arith, ◌≡◌, ℕ, ◌+◌, ◌-◌, ◌*◌, ◌<◌, ◌≤◌, List, [], ◌∷◌, ◌++◌, length, take, drop, refl, sym, ap, ◌∙◌, subst, true}
-use Rattle.std.specs.Prelude.{Some, None}
+use Rattle.std.proofs.Common.{arith, ◌≡◌, ℕ, ◌+◌, ◌*◌, ◌≤◌, List, ◌++◌, length, take, drop, refl, sym, ap, ◌∙◌, subst, true}
+use Rattle.std.specs.Prelude.{None}
 use Rattle.std.specs.List.{slice_range}
 use Rattle.std.specs.Vec.{vec_capacity}
 use Rattle.xh_model.specs.Keyed.{Among, Distinct, keys, value_at}
@@ -83,7 +83,8 @@ returns-clause-list g c =
     let gone : (r : ℕ) → Among (keys (slice_range xs c.args.from end)) r → value_at r last.lots ≡ None = λ r h. a.gone r (subst (λ (l : List (ℕ × Header)). Among (keys (slice_range l c.args.from end)) r) (sym all) h) in
     let others : (r : ℕ) → (Among (keys (slice_range xs c.args.from end)) r → ⊥) → value_at r last.lots ≡ value_at r seat.lots = λ r n. a.others r (λ h. n (subst (λ (l : List (ℕ × Header)). Among (keys (slice_range l c.args.from end)) r) all h)) in
     let bytes : c.give_up_all-bytes.result ≡ sum_of (slice_range xs c.args.from end) = a.bytes.0 ∙ ap (λ (l : List (ℕ × Header)). sum_of (slice_range l c.args.from end)) all in
-    slice_shows seat xs room total state is c.args.from end ordered inside last alive a.seat gone others c.cut_out.new.list.items c.cut_out.ensures.items c.args.self.now c.self.view_is ∙ ap (λ (n : ℕ). with_blocks c.args.self.now (take c.args.from c.args.self.now.blocks ++ drop (c.args.from + n) c.args.self.now.blocks)) c.from.ensures
+    slice_shows seat xs room total state is c.args.from end ordered inside last alive a.seat gone others c.cut_out.new.list.items c.cut_out.ensures.items c.args.self.now c.self.view_is
+    ∙ ap (λ (n : ℕ). with_blocks c.args.self.now (take c.args.from c.args.self.now.blocks ++ drop (c.args.from + n) c.args.self.now.blocks)) c.from.ensures
 
 pub returns-clause-bytes : goal.returns-clause-bytes
 returns-clause-bytes g c =
@@ -98,6 +99,8 @@ returns-clause-bytes g c =
     let bytes : c.give_up_all-bytes.result ≡ sum_of (slice_range xs c.args.from end) = a.bytes.0 ∙ ap (λ (l : List (ℕ × Header)). sum_of (slice_range l c.args.from end)) all in
     let few : length (slice_range c.as_slice-list.result.now c.args.from end) ≡ length (slice_range xs c.args.from end) = ap (λ (l : List (ℕ × Header)). length (slice_range l c.args.from end)) all in
     let both = slice_both seat xs room total state is c.args.from end ordered inside in (
-      ap (λ (n : ℕ). n + total_of (view_of last c.cut_out.new.list.items state).blocks) bytes ∙ slice_total seat xs room total state is c.args.from end ordered inside last alive a.seat gone others c.cut_out.new.list.items c.cut_out.ensures.items c.args.self.now (view_of last c.cut_out.new.list.items state) c.self.view_is refl,
+      ap (λ (n : ℕ). n + total_of (view_of last c.cut_out.new.list.items state).blocks) bytes
+          ∙ slice_total seat xs room total state is c.args.from end ordered inside last alive a.seat gone others c.cut_out.new.list.items c.cut_out.ensures.items c.args.self.now
+          (view_of last c.cut_out.new.list.items state) c.self.view_is refl,
       (let one : length (slice_range c.as_slice-list.result.now c.args.from end) ≡ c.run-count.result = omega (arith, few, both, c.from.ensures) in subst (λ (n : ℕ). c.give_up_all-bytes.result ≤ n * 4294967295) one a.bytes.1),
     )

@@ -1,6 +1,5 @@
-use Rattle.std.proofs.Common.{rules, arith, ◌≡◌, ℕ, ◌-◌, ◌<◌, ◌≤◌, length, sym, ap, ◌∙◌, [], true}
+use Rattle.std.proofs.Common.{rules, ◌≡◌, ◌≤◌, length, sym, ap, ◌∙◌}
 use Rattle.std.specs.Vec.{vec_capacity}
-use Rattle.xh_place.specs.Refusals.{is_over}
 use Rattle.xh_place.proofs.Steps.{count_bound, shown_long}
 use Rattle.xh_place.proofs.place.Place.left.Goals as goal
 

@@ -1,10 +1,9 @@
-use Rattle.std.proofs.Common.{rules, arith, ◌≡◌, ℕ, suc, ◌+◌, ◌<◌, ◌≤◌, List, [], ◌∷◌, ◌++◌, length, sym, ap, ◌∙◌, subst, true}
+use Rattle.std.proofs.Common.{rules, arith, ◌≡◌, ℕ, suc, ◌<◌, ◌≤◌, List, [], ◌∷◌, ◌++◌, length, sym, ap, ◌∙◌, subst}
 use Rattle.std.specs.Prelude.{Some, None}
 use Rattle.std.specs.Vec.{vec_capacity}
 use Rattle.xh_model.specs.Keyed.{value_at, without}
 use Rattle.xh_place.specs.declared.body.Header.{Header}
 use Rattle.xh_place.specs.Places.{header_of, IsPlace}
-use Rattle.xh_place.specs.Refusals.{is_over}
 use Rattle.xh_place.proofs.Moved.{alive_if, moved, moved_shows, without_long}
 use Rattle.xh_place.proofs.Steps.{count_room, listed, view_of}
 use Rattle.xh_place.proofs.place.Place.move_last.Goals as goal
@@ -29,7 +28,8 @@ invariant_of-self c =
     let xs = c.self.inside.list.items in
     let here : value_at c.args.r xs ≡ Some c.in-Some.header = sym (c.entry.ensures ∙ ap (value_at c.args.r) c.as_slice.ensures.value) ∙ c.in-Some.is in
     let items : c.push_reserved.new.self.items ≡ without c.args.r xs ++ (c.args.r, c.in-Some.header) ∷ [] = c.push_reserved.ensures.items ∙ ap (λ (l : List (ℕ × Header)). l ++ (c.args.r, c.in-Some.header) ∷ []) c.remove.ensures.items in
-    let is = moved c.self.inside.seat xs (vec_capacity c.self.inside.list) c.self.inside.total c.self.inside.state c.self.invariant (alive_if c.self.inside.seat xs (vec_capacity c.self.inside.list) c.self.inside.total c.self.inside.state c.self.invariant c.args.r c.in-Some.header here) c.args.r c.in-Some.header here in
+    let is = moved c.self.inside.seat xs (vec_capacity c.self.inside.list) c.self.inside.total c.self.inside.state c.self.invariant
+    (alive_if c.self.inside.seat xs (vec_capacity c.self.inside.list) c.self.inside.total c.self.inside.state c.self.invariant c.args.r c.in-Some.header here) c.args.r c.in-Some.header here in
     subst (λ (z : List (ℕ × Header) × ℕ). IsPlace c.self.inside.seat z.0 z.1 c.self.inside.total c.self.inside.state) (λ i. (sym items i, sym (c.push_reserved.ensures.capacity ∙ c.remove.ensures.room) i)) is
 
 pub returns : goal.returns
@@ -38,4 +38,6 @@ returns c =
     let here : value_at c.args.r xs ≡ Some c.in-Some.header = sym (c.entry.ensures ∙ ap (value_at c.args.r) c.as_slice.ensures.value) ∙ c.in-Some.is in
     let items : c.push_reserved.new.self.items ≡ without c.args.r xs ++ (c.args.r, c.in-Some.header) ∷ [] = c.push_reserved.ensures.items ∙ ap (λ (l : List (ℕ × Header)). l ++ (c.args.r, c.in-Some.header) ∷ []) c.remove.ensures.items in
     ap (λ (z : List (ℕ × Header)). view_of c.self.inside.seat z c.self.inside.state) items
-    ∙ moved_shows c.self.inside.seat xs (vec_capacity c.self.inside.list) c.self.inside.total c.self.inside.state c.self.invariant (alive_if c.self.inside.seat xs (vec_capacity c.self.inside.list) c.self.inside.total c.self.inside.state c.self.invariant c.args.r c.in-Some.header here) c.args.r c.in-Some.header here c.args.self.now c.self.view_is
+    ∙ moved_shows c.self.inside.seat xs (vec_capacity c.self.inside.list) c.self.inside.total c.self.inside.state c.self.invariant
+    (alive_if c.self.inside.seat xs
+    (vec_capacity c.self.inside.list) c.self.inside.total c.self.inside.state c.self.invariant c.args.r c.in-Some.header here) c.args.r c.in-Some.header here c.args.self.now c.self.view_is

@@ -1,5 +1,5 @@
-use Rattle.std.proofs.Common.{rules, arith, ◌≡◌, ℕ, ◌+◌, ◌*◌, ◌<◌, ◌≤◌, List, [], ◌∷◌, ◌++◌, length, refl, sym, ap, ◌∙◌, subst, true}
-use Rattle.std.specs.Prelude.{slice_get, Some}
+use Rattle.std.proofs.Common.{rules, arith, ◌≡◌, ℕ, ◌+◌, ◌<◌, ◌≤◌, List, [], ◌∷◌, ◌++◌, length, refl, sym, ap, ◌∙◌, subst, true}
+use Rattle.std.specs.Prelude.{slice_get}
 use Rattle.std.specs.Vec.{vec_capacity}
 use Rattle.xh_place.specs.declared.body.Header.{Header}
 use Rattle.xh_place.specs.declared.body.Kind.TheVariants as kind

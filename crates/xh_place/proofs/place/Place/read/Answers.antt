@@ -1,10 +1,9 @@
-use Rattle.std.proofs.Common.{arith, ◌≡◌, ℕ, ◌+◌, ◌≤◌, length, refl, sym, ap, ◌∙◌, subst}
-use Rattle.std.specs.Prelude.{Some}
+use Rattle.std.proofs.Common.{◌≡◌, ℕ, ◌+◌, ◌≤◌, length, sym, ap, ◌∙◌, subst}
 use Rattle.std.specs.Vec.{vec_capacity}
 use Rattle.xh_records.specs.Seats.{IsRecord}
 use Rattle.xh_place.specs.Bodies.{kind_of, part}
 use Rattle.xh_place.specs.Places.{Item, IsPlace}
-use Rattle.xh_place.proofs.Found.{Found, found, unmoved}
+use Rattle.xh_place.proofs.Found.{found, unmoved}
 use Rattle.xh_place.proofs.Steps.{view_of}
 use Rattle.xh_place.proofs.place.Place.read.Goals as goal
 

@@ -1,6 +1,5 @@
-use Rattle.std.proofs.Common.{rules, arith, ◌≡◌, ℕ, ◌+◌, ◌<◌, ◌≤◌, List, ◌++◌, length, take, drop, length-append, sym, ap, ◌∙◌}
+use Rattle.std.proofs.Common.{arith, ◌≡◌, ◌+◌, ◌++◌, length, take, drop, length-append, ap, ◌∙◌}
 use Rattle.xh_model.proofs.Keyed.{value_drop}
-use Rattle.xh_place.specs.Places.{Item, with_blocks}
 use Rattle.xh_place.proofs.Swept.{swept_run, twice}
 use Rattle.xh_place.proofs.place.Place.reclaim.Goals as goal
 

@@ -16,7 +16,8 @@ use Rattle.xh_place.proofs.place.Place.send.Goals as goal
 pub give_all-put-requires-clause-end : goal.give_all-put-requires-clause-end
 give_all-put-requires-clause-end g c =
     let seat = c.self.inside.seat in let xs = c.self.inside.list.items in let room : ℕ = vec_capacity c.self.inside.list in let total : ℕ = c.self.inside.total in let state = c.self.inside.state in let is = c.self.invariant in
-    let block : (r : ℕ) (x : Item) → value_at r c.args.self.now.blocks ≡ Some x → (l : LotOf Body) × (value_at r seat.lots ≡ Some l) × (header_of x ≡ header_of (item_of l)) × IsBlock seat.shape r l × (value_at r (shown seat.lots xs) ≡ Some (item_of l)) = λ r x at. lot_of seat xs room total state is r (header_of x) (listed seat xs room total state is c.args.self.now c.self.view_is r x at) in
+    let block : (r : ℕ) (x : Item) → value_at r c.args.self.now.blocks ≡ Some x → (l : LotOf Body) × (value_at r seat.lots ≡ Some l) × (header_of x ≡ header_of (item_of l)) × IsBlock seat.shape r l
+    × (value_at r (shown seat.lots xs) ≡ Some (item_of l)) = λ r x at. lot_of seat xs room total state is r (header_of x) (listed seat xs room total state is c.args.self.now c.self.view_is r x at) in
     let q = c.requires.end in let t = block c.args.e q.0 q.1 in
     let held : (r : ℕ) → Among c.args.given.now.items r → (k : LotOf Body) × (value_at r seat.lots ≡ Some k) × IsBlock seat.shape r k = λ r a. let h = c.requires.listed r a in let u = block r h.0 h.1 in (u.0, u.1, u.3) in
     (t.0, t.1, t.3, sym (ap (λ (z : Header). z.kind) t.2) ∙ q.2)
@@ -24,7 +25,8 @@ give_all-put-requires-clause-end g c =
 pub give_all-put-requires-clause-held : goal.give_all-put-requires-clause-held
 give_all-put-requires-clause-held g c =
     let seat = c.self.inside.seat in let xs = c.self.inside.list.items in let room : ℕ = vec_capacity c.self.inside.list in let total : ℕ = c.self.inside.total in let state = c.self.inside.state in let is = c.self.invariant in
-    let block : (r : ℕ) (x : Item) → value_at r c.args.self.now.blocks ≡ Some x → (l : LotOf Body) × (value_at r seat.lots ≡ Some l) × (header_of x ≡ header_of (item_of l)) × IsBlock seat.shape r l × (value_at r (shown seat.lots xs) ≡ Some (item_of l)) = λ r x at. lot_of seat xs room total state is r (header_of x) (listed seat xs room total state is c.args.self.now c.self.view_is r x at) in
+    let block : (r : ℕ) (x : Item) → value_at r c.args.self.now.blocks ≡ Some x → (l : LotOf Body) × (value_at r seat.lots ≡ Some l) × (header_of x ≡ header_of (item_of l)) × IsBlock seat.shape r l
+    × (value_at r (shown seat.lots xs) ≡ Some (item_of l)) = λ r x at. lot_of seat xs room total state is r (header_of x) (listed seat xs room total state is c.args.self.now c.self.view_is r x at) in
     let q = c.requires.end in let t = block c.args.e q.0 q.1 in
     let held : (r : ℕ) → Among c.args.given.now.items r → (k : LotOf Body) × (value_at r seat.lots ≡ Some k) × IsBlock seat.shape r k = λ r a. let h = c.requires.listed r a in let u = block r h.0 h.1 in (u.0, u.1, u.3) in
     held
@@ -32,7 +34,8 @@ give_all-put-requires-clause-held g c =
 pub sum-self-inside-requires : goal.sum-self-inside-requires
 sum-self-inside-requires g c =
     let seat = c.self.inside.seat in let xs = c.self.inside.list.items in let room : ℕ = vec_capacity c.self.inside.list in let total : ℕ = c.self.inside.total in let state = c.self.inside.state in let is = c.self.invariant in
-    let block : (r : ℕ) (x : Item) → value_at r c.args.self.now.blocks ≡ Some x → (l : LotOf Body) × (value_at r seat.lots ≡ Some l) × (header_of x ≡ header_of (item_of l)) × IsBlock seat.shape r l × (value_at r (shown seat.lots xs) ≡ Some (item_of l)) = λ r x at. lot_of seat xs room total state is r (header_of x) (listed seat xs room total state is c.args.self.now c.self.view_is r x at) in
+    let block : (r : ℕ) (x : Item) → value_at r c.args.self.now.blocks ≡ Some x → (l : LotOf Body) × (value_at r seat.lots ≡ Some l) × (header_of x ≡ header_of (item_of l)) × IsBlock seat.shape r l
+    × (value_at r (shown seat.lots xs) ≡ Some (item_of l)) = λ r x at. lot_of seat xs room total state is r (header_of x) (listed seat xs room total state is c.args.self.now c.self.view_is r x at) in
     let q = c.requires.end in let t = block c.args.e q.0 q.1 in
     let held : (r : ℕ) → Among c.args.given.now.items r → (k : LotOf Body) × (value_at r seat.lots ≡ Some k) × IsBlock seat.shape r k = λ r a. let h = c.requires.listed r a in let u = block r h.0 h.1 in (u.0, u.1, u.3) in
     let last = c.give_all-put.new.seat in let ys = c.settle.new.list.items in let cap : ℕ = vec_capacity c.settle.new.list in let gained = c.give_all-put.result.back.items in let a = c.give_all-put.ensures in
@@ -44,7 +47,8 @@ sum-self-inside-requires g c =
 pub invariant_of-self : goal.invariant_of-self
 invariant_of-self g c =
     let seat = c.self.inside.seat in let xs = c.self.inside.list.items in let room : ℕ = vec_capacity c.self.inside.list in let total : ℕ = c.self.inside.total in let state = c.self.inside.state in let is = c.self.invariant in
-    let block : (r : ℕ) (x : Item) → value_at r c.args.self.now.blocks ≡ Some x → (l : LotOf Body) × (value_at r seat.lots ≡ Some l) × (header_of x ≡ header_of (item_of l)) × IsBlock seat.shape r l × (value_at r (shown seat.lots xs) ≡ Some (item_of l)) = λ r x at. lot_of seat xs room total state is r (header_of x) (listed seat xs room total state is c.args.self.now c.self.view_is r x at) in
+    let block : (r : ℕ) (x : Item) → value_at r c.args.self.now.blocks ≡ Some x → (l : LotOf Body) × (value_at r seat.lots ≡ Some l) × (header_of x ≡ header_of (item_of l)) × IsBlock seat.shape r l
+    × (value_at r (shown seat.lots xs) ≡ Some (item_of l)) = λ r x at. lot_of seat xs room total state is r (header_of x) (listed seat xs room total state is c.args.self.now c.self.view_is r x at) in
     let q = c.requires.end in let t = block c.args.e q.0 q.1 in
     let held : (r : ℕ) → Among c.args.given.now.items r → (k : LotOf Body) × (value_at r seat.lots ≡ Some k) × IsBlock seat.shape r k = λ r a. let h = c.requires.listed r a in let u = block r h.0 h.1 in (u.0, u.1, u.3) in
     let last = c.give_all-put.new.seat in let ys = c.settle.new.list.items in let cap : ℕ = vec_capacity c.settle.new.list in let gained = c.give_all-put.result.back.items in let a = c.give_all-put.ensures in
@@ -56,7 +60,8 @@ invariant_of-self g c =
 pub returns-clause-sent : goal.returns-clause-sent
 returns-clause-sent g c =
     let seat = c.self.inside.seat in let xs = c.self.inside.list.items in let room : ℕ = vec_capacity c.self.inside.list in let total : ℕ = c.self.inside.total in let state = c.self.inside.state in let is = c.self.invariant in
-    let block : (r : ℕ) (x : Item) → value_at r c.args.self.now.blocks ≡ Some x → (l : LotOf Body) × (value_at r seat.lots ≡ Some l) × (header_of x ≡ header_of (item_of l)) × IsBlock seat.shape r l × (value_at r (shown seat.lots xs) ≡ Some (item_of l)) = λ r x at. lot_of seat xs room total state is r (header_of x) (listed seat xs room total state is c.args.self.now c.self.view_is r x at) in
+    let block : (r : ℕ) (x : Item) → value_at r c.args.self.now.blocks ≡ Some x → (l : LotOf Body) × (value_at r seat.lots ≡ Some l) × (header_of x ≡ header_of (item_of l)) × IsBlock seat.shape r l
+    × (value_at r (shown seat.lots xs) ≡ Some (item_of l)) = λ r x at. lot_of seat xs room total state is r (header_of x) (listed seat xs room total state is c.args.self.now c.self.view_is r x at) in
     let q = c.requires.end in let t = block c.args.e q.0 q.1 in
     let held : (r : ℕ) → Among c.args.given.now.items r → (k : LotOf Body) × (value_at r seat.lots ≡ Some k) × IsBlock seat.shape r k = λ r a. let h = c.requires.listed r a in let u = block r h.0 h.1 in (u.0, u.1, u.3) in
     let last = c.give_all-put.new.seat in let ys = c.settle.new.list.items in let cap : ℕ = vec_capacity c.settle.new.list in let gained = c.give_all-put.result.back.items in let a = c.give_all-put.ensures in

@@ -1,11 +1,8 @@
-use Rattle.std.proofs.Common.{arith, ◌≡◌, ℕ, ◌+◌, ◌*◌, refl, sym, ap, ◌∙◌, subst}
-use Rattle.std.specs.Prelude.{Some}
+use Rattle.std.proofs.Common.{arith, ◌≡◌, sym, ap, ◌∙◌, subst}
 use Rattle.std.specs.Vec.{vec_capacity}
-use Rattle.xh_model.specs.Keyed.{value_at}
 use Rattle.xh_records.specs.Showing.{IsLotOf}
 use Rattle.xh_records.specs.Seats.{Held, IsRecord}
 use Rattle.xh_channel.specs.Queues.{Posted}
-use Rattle.xh_place.specs.Places.{Item}
 use Rattle.xh_place.proofs.Out.{end_of_block, hollow, hollow_at, put_back, same_end}
 use Rattle.xh_place.proofs.place.Place.shut.Goals as goal
 
@@ -51,7 +48,9 @@ invariant_of-self g c =
     let at = hollow_at c.self.inside.seat c.self.inside.list.items (vec_capacity c.self.inside.list) c.self.inside.total c.self.inside.state c.self.invariant c.args.e q.0 t c.swap_body.new.seat out.1 in
     let was : c.in-End.end ≡ t.end = same_end c.swap_body.new.body c.in-End.end t.end c.in-End.is (out.0 ∙ t.body) in
     let back = c.swap_body-2.ensures (hollow t.lot) at in
-    let both = put_back c.self.inside.seat c.self.inside.list.items (vec_capacity c.self.inside.list) c.self.inside.total c.self.inside.state c.self.invariant c.args.e q.0 t c.swap_body.new.seat out.1 c.swap_body-2.new.seat c.shut.new.end back.1 (c.shut.ensures.1.0.0.channel ∙ ap (λ (p : Posted). p.channel) was) (c.shut.ensures.1.0.0.side ∙ ap (λ (p : Posted). p.side) was) in
+    let both = put_back c.self.inside.seat c.self.inside.list.items
+    (vec_capacity c.self.inside.list) c.self.inside.total c.self.inside.state c.self.invariant c.args.e q.0 t c.swap_body.new.seat out.1 c.swap_body-2.new.seat c.shut.new.end back.1
+    (c.shut.ensures.1.0.0.channel ∙ ap (λ (p : Posted). p.channel) was) (c.shut.ensures.1.0.0.side ∙ ap (λ (p : Posted). p.side) was) in
     both.0
 
 pub returns : goal.returns
@@ -62,5 +61,7 @@ returns g c =
     let at = hollow_at c.self.inside.seat c.self.inside.list.items (vec_capacity c.self.inside.list) c.self.inside.total c.self.inside.state c.self.invariant c.args.e q.0 t c.swap_body.new.seat out.1 in
     let was : c.in-End.end ≡ t.end = same_end c.swap_body.new.body c.in-End.end t.end c.in-End.is (out.0 ∙ t.body) in
     let back = c.swap_body-2.ensures (hollow t.lot) at in
-    let both = put_back c.self.inside.seat c.self.inside.list.items (vec_capacity c.self.inside.list) c.self.inside.total c.self.inside.state c.self.invariant c.args.e q.0 t c.swap_body.new.seat out.1 c.swap_body-2.new.seat c.shut.new.end back.1 (c.shut.ensures.1.0.0.channel ∙ ap (λ (p : Posted). p.channel) was) (c.shut.ensures.1.0.0.side ∙ ap (λ (p : Posted). p.side) was) in
+    let both = put_back c.self.inside.seat c.self.inside.list.items
+    (vec_capacity c.self.inside.list) c.self.inside.total c.self.inside.state c.self.invariant c.args.e q.0 t c.swap_body.new.seat out.1 c.swap_body-2.new.seat c.shut.new.end back.1
+    (c.shut.ensures.1.0.0.channel ∙ ap (λ (p : Posted). p.channel) was) (c.shut.ensures.1.0.0.side ∙ ap (λ (p : Posted). p.side) was) in
     record { same = both.1 c.args.self.now c.self.view_is }

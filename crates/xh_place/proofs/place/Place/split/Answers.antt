@@ -1,5 +1,4 @@
-use Rattle.std.proofs.Common.{rules, arith, ◌≡◌, ℕ, ◌+◌, ◌-◌, ◌/◌, ◌<◌, ◌≤◌, List, [], ◌∷◌, ◌++◌, length, refl, sym, ap, ◌∙◌, subst, true}
-use Rattle.std.specs.Prelude.{Some}
+use Rattle.std.proofs.Common.{rules, arith, ◌≡◌, ℕ, ◌+◌, ◌-◌, ◌<◌, [], ◌∷◌, ◌++◌, length, refl, sym, ap, ◌∙◌, subst, true}
 use Rattle.std.specs.Vec.{vec_capacity}
 use Rattle.xh_model.specs.Keyed.{put, value_at}
 use Rattle.xh_place.specs.declared.body.Header.{Header}
@@ -7,7 +6,7 @@ use Rattle.xh_place.specs.declared.body.Kind.TheVariants as kind
 use Rattle.xh_place.specs.Bodies.{content_of, front, kind_of, rest}
 use Rattle.xh_place.specs.Places.{Item, header_of, item_of, with_blocks}
 use Rattle.xh_place.specs.Refusals.{is_running}
-use Rattle.xh_place.proofs.Found.{Found, found}
+use Rattle.xh_place.proofs.Found.{found}
 use Rattle.xh_place.proofs.Parted.{front_kind, may_cut, parted, put_long, rest_kind}
 use Rattle.xh_place.proofs.Steps.{has_room, kept}
 use Rattle.xh_place.proofs.place.Place.split.Goals as goal
@@ -70,7 +69,8 @@ returns-clause-cut g c =
     let both = parted seat c.cut_block.new.seat xs c.push_reserved.new.self.items room (vec_capacity c.push_reserved.new.self) total state r n f.lot cut.0 cut.1 run is f.held cut.4 cut.5 cut.2 cut.3 cut.7 items (c.push_reserved.ensures.capacity ∙ c.replace.ensures.room) in (
       q.0,
       q.1,
-      both.1 c.args.self.now c.self.view_is ∙ (λ i. with_blocks c.args.self.now (put r (record { len = cut.6 i; content = (cut.8 ∙ ap (λ (x : Item). front c.args.k x.content) f.same) i }) c.args.self.now.blocks ++ (n, record { len = tail i; content = (cut.9 ∙ ap (λ (x : Item). rest c.args.k x.content) f.same) i }) ∷ [])),
+      both.1 c.args.self.now c.self.view_is ∙ (λ i. with_blocks c.args.self.now (put r (record { len = cut.6 i; content = (cut.8 ∙ ap (λ (x : Item). front c.args.k x.content) f.same) i }) c.args.self.now.blocks
+          ++ (n, record { len = tail i; content = (cut.9 ∙ ap (λ (x : Item). rest c.args.k x.content) f.same) i }) ∷ [])),
       refl,
       cut.10,
       (let a : c.args.k < c.in_ok-len.len = q.4.2 in let b : q.0.len ≡ c.in_ok-len.len = q.3 in omega arith),

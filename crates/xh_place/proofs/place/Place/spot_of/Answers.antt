@@ -1,7 +1,6 @@
-use Rattle.std.proofs.Common.{arith, ◌≡◌, ℕ, ◌+◌, ◌*◌, refl, sym, ap, ◌∙◌, subst}
+use Rattle.std.proofs.Common.{arith, ◌≡◌, sym, ap, ◌∙◌, subst}
 use Rattle.std.specs.Prelude.{Some}
 use Rattle.std.specs.Vec.{vec_capacity}
-use Rattle.xh_model.specs.Keyed.{value_at}
 use Rattle.xh_records.specs.Showing.{IsLotOf}
 use Rattle.xh_records.specs.Seats.{Held, IsRecord}
 use Rattle.xh_channel.specs.Queues.{Posted}
@@ -52,7 +51,9 @@ invariant_of-self c =
     let at = hollow_at c.self.inside.seat c.self.inside.list.items (vec_capacity c.self.inside.list) c.self.inside.total c.self.inside.state c.self.invariant c.args.e q.0 t c.swap_body.new.seat out.1 in
     let was : c.in-End.end ≡ t.end = same_end c.swap_body.new.body c.in-End.end t.end c.in-End.is (out.0 ∙ t.body) in
     let back = c.swap_body-2.ensures (hollow t.lot) at in
-    let both = put_back c.self.inside.seat c.self.inside.list.items (vec_capacity c.self.inside.list) c.self.inside.total c.self.inside.state c.self.invariant c.args.e q.0 t c.swap_body.new.seat out.1 c.swap_body-2.new.seat c.in-End.end back.1 (ap (λ (p : Posted). p.channel) was) (ap (λ (p : Posted). p.side) was) in
+    let both = put_back c.self.inside.seat c.self.inside.list.items
+    (vec_capacity c.self.inside.list) c.self.inside.total c.self.inside.state c.self.invariant c.args.e q.0 t c.swap_body.new.seat out.1 c.swap_body-2.new.seat c.in-End.end back.1
+    (ap (λ (p : Posted). p.channel) was) (ap (λ (p : Posted). p.side) was) in
     both.0
 
 pub returns-clause-same : goal.returns-clause-same
@@ -63,7 +64,9 @@ returns-clause-same c =
     let at = hollow_at c.self.inside.seat c.self.inside.list.items (vec_capacity c.self.inside.list) c.self.inside.total c.self.inside.state c.self.invariant c.args.e q.0 t c.swap_body.new.seat out.1 in
     let was : c.in-End.end ≡ t.end = same_end c.swap_body.new.body c.in-End.end t.end c.in-End.is (out.0 ∙ t.body) in
     let back = c.swap_body-2.ensures (hollow t.lot) at in
-    let both = put_back c.self.inside.seat c.self.inside.list.items (vec_capacity c.self.inside.list) c.self.inside.total c.self.inside.state c.self.invariant c.args.e q.0 t c.swap_body.new.seat out.1 c.swap_body-2.new.seat c.in-End.end back.1 (ap (λ (p : Posted). p.channel) was) (ap (λ (p : Posted). p.side) was) in
+    let both = put_back c.self.inside.seat c.self.inside.list.items
+    (vec_capacity c.self.inside.list) c.self.inside.total c.self.inside.state c.self.invariant c.args.e q.0 t c.swap_body.new.seat out.1 c.swap_body-2.new.seat c.in-End.end back.1
+    (ap (λ (p : Posted). p.channel) was) (ap (λ (p : Posted). p.side) was) in
     both.1 c.args.self.now c.self.view_is
 
 pub returns-clause-spot : goal.returns-clause-spot
@@ -74,6 +77,8 @@ returns-clause-spot c =
     let at = hollow_at c.self.inside.seat c.self.inside.list.items (vec_capacity c.self.inside.list) c.self.inside.total c.self.inside.state c.self.invariant c.args.e q.0 t c.swap_body.new.seat out.1 in
     let was : c.in-End.end ≡ t.end = same_end c.swap_body.new.body c.in-End.end t.end c.in-End.is (out.0 ∙ t.body) in
     let back = c.swap_body-2.ensures (hollow t.lot) at in
-    let both = put_back c.self.inside.seat c.self.inside.list.items (vec_capacity c.self.inside.list) c.self.inside.total c.self.inside.state c.self.invariant c.args.e q.0 t c.swap_body.new.seat out.1 c.swap_body-2.new.seat c.in-End.end back.1 (ap (λ (p : Posted). p.channel) was) (ap (λ (p : Posted). p.side) was) in
+    let both = put_back c.self.inside.seat c.self.inside.list.items
+    (vec_capacity c.self.inside.list) c.self.inside.total c.self.inside.state c.self.invariant c.args.e q.0 t c.swap_body.new.seat out.1 c.swap_body-2.new.seat c.in-End.end back.1
+    (ap (λ (p : Posted). p.channel) was) (ap (λ (p : Posted). p.side) was) in
     λ x found. let two : Some q.0 ≡ Some x = sym q.1 ∙ found in let one : q.0 ≡ x = cc in
     sym (ap (λ (z : Item). z.content) one) ∙ t.content ∙ (λ i. spot (sym (c.spot-spot.ensures.0 ∙ ap (λ (p : Posted). p.channel) was) i) (sym (c.spot-spot.ensures.1 ∙ ap (λ (p : Posted). p.side) was) i))

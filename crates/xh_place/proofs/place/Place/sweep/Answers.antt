@@ -1,4 +1,4 @@
-use Rattle.std.proofs.Common.{rules, arith, ◌≡◌, ℕ, ◌+◌, ◌-◌, ◌*◌, ◌<◌, ◌≤◌, ⊎_elim, length, sym, ap, ◌∙◌}
+use Rattle.std.proofs.Common.{arith, ℕ, ◌+◌, ◌<◌, length, ◌∙◌}
 use Rattle.xh_place.specs.Ending.{IsSweptBy}
 use Rattle.xh_place.proofs.Swept.{gave_more, started, swept_more, twice_own}
 use Rattle.xh_place.proofs.place.Place.sweep.Goals as goal
@@ -8,7 +8,8 @@ loop-used-preserved g c =
     let i = c.loop-used.invariant in let old = c.args.self.now in let mid = c.loop-used.self in let new = c.reclaim-more.new.self in let used : ℕ = c.loop-used.used in let from : ℕ = c.args.from in
     let some : from < length mid.blocks = omega arith in
     let inside : from < length old.blocks = started from old.blocks mid.blocks some i.4 in
-    let by : IsSweptBy from (used + c.reclaim-more.result.1) old.blocks new.blocks (c.loop-used.bytes + c.reclaim-more.result.0) = swept_more from used c.reclaim-more.result.1 c.loop-used.bytes c.reclaim-more.result.0 old.blocks mid.blocks new.blocks (omega (arith, inside)) i.3 c.reclaim-more.ensures.swept in (
+    let by : IsSweptBy from (used + c.reclaim-more.result.1) old.blocks new.blocks (c.loop-used.bytes + c.reclaim-more.result.0) =
+    swept_more from used c.reclaim-more.result.1 c.loop-used.bytes c.reclaim-more.result.0 old.blocks mid.blocks new.blocks (omega (arith, inside)) i.3 c.reclaim-more.ensures.swept in (
       omega arith,
       omega (arith, i.1, c.reclaim-more.ensures.count.2),
       twice_own old mid new i.2 c.reclaim-more.ensures.list,

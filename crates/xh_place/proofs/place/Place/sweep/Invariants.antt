@@ -1,4 +1,4 @@
-use Rattle.std.proofs.Common.{◌≡◌, ℕ, ◌+◌, ◌-◌, ◌*◌, ◌≤◌, length}
+use Rattle.std.proofs.Common.{◌≡◌, ◌-◌, ◌*◌, ◌≤◌, length}
 use Rattle.xh_place.specs.Ending.{HasGivenBack, IsSweptBy}
 use Rattle.xh_place.specs.Places.{with_blocks}
 use Rattle.xh_place.specs.Tallies.{ids_of}

@@ -1,4 +1,4 @@
-use Rattle.std.proofs.Common.{◌≡◌, ap, ◌∙◌}
+use Rattle.std.proofs.Common.{ap, ◌∙◌}
 use Rattle.xh_place.specs.Ends.{ending_again}
 use Rattle.xh_place.proofs.Ended.{turned}
 use Rattle.xh_place.proofs.place.Place.turn_away.Goals as goal

@@ -1,11 +1,10 @@
-use Rattle.std.proofs.Common.{arith, ◌≡◌, ℕ, ◌+◌, ◌≤◌, length, refl, sym, ap, ◌∙◌, subst}
-use Rattle.std.specs.Prelude.{Some}
+use Rattle.std.proofs.Common.{◌≡◌, ℕ, ◌+◌, ◌≤◌, length, sym, ap, ◌∙◌, subst}
 use Rattle.std.specs.Vec.{vec_capacity}
 use Rattle.xh_model.specs.Keyed.{put}
 use Rattle.xh_records.specs.Seats.{IsRecord}
-use Rattle.xh_place.specs.Bodies.{kind_of, patched}
-use Rattle.xh_place.specs.Places.{Item, IsPlace, with_blocks}
-use Rattle.xh_place.proofs.Found.{Found, found, rewritten}
+use Rattle.xh_place.specs.Bodies.{kind_of}
+use Rattle.xh_place.specs.Places.{Item, with_blocks}
+use Rattle.xh_place.proofs.Found.{found, rewritten}
 use Rattle.xh_place.proofs.Patched.{is_patched}
 use Rattle.xh_place.proofs.place.Place.write.Goals as goal
 
