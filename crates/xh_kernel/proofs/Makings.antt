@@ -1,16 +1,15 @@
 -- Vaults with their lots and names, one after the other.
-use Rattle.std.proofs.Common.{◌≡◌, ℕ, suc, ◌+◌, ◌*◌, ◌/◌, ◌%◌, ◌<◌, List, [], ◌∷◌, ◌++◌, ◌⊎◌, inl, inr, ⊎_elim, map, length, get_or, All, sym, refl, ap, ◌∙◌, subst, arith, suc-mul, length-append}
+use Rattle.std.proofs.Common.{◌≡◌, ℕ, suc, ◌+◌, ◌*◌, ◌/◌, ◌%◌, ◌<◌, List, [], ◌∷◌, ◌++◌, ⊎_elim, length, sym, refl, ap, ◌∙◌, subst, arith, suc-mul, length-append}
 use Rattle.std.specs.Prelude.{Some, slice_get, true}
 use Rattle.std.proofs.lemmas.List.{map_push}
 use Rattle.std.proofs.lemmas.List.Elements.{All-push}
 use Rattle.std.proofs.lemmas.Nat.{div-mul-add, mod-mul-add}
 use Rattle.atomic_table.specs.Seated.{TableId}
 use Rattle.xh_arena.specs.Views.{LotOf, VaultOf, AreLots}
-use Rattle.xh_records.specs.Showing.{IsEmpty}
 use Rattle.xh_place.specs.Bodies.{fits_in}
 use Rattle.xh_place.specs.declared.body.Body.{Body}
-use Rattle.xh_kernel.specs.Parts.{vault_names, IsNew}
-use Rattle.xh_kernel.specs.inner.Making.{AreAllLots, AreMakings}
+use Rattle.xh_kernel.specs.Parts.{IsNew}
+use Rattle.xh_kernel.specs.inner.Making.{AreMakings}
 use Rattle.xh_kernel.proofs.Lists.{front_at, below_get, last_at, split_at}
 
 pub none_made : (w n size : ℕ) → AreMakings w n size [] [] []

@@ -1,10 +1,9 @@
 -- What an account says of the bytes that went back.
-use Rattle.std.proofs.Common.{◌≡◌, ℕ, ◌+◌, List, refl, sym, ap, ◌∙◌, subst, arith}
-use Rattle.std.specs.Prelude.{Bool, true, false, cond, ◌==◌, Option, Some, None, Result, Ok, Err, MatchOption, length}
-use Rattle.xh_arena.specs.Views.{TallyOf}
+use Rattle.std.proofs.Common.{◌≡◌, ℕ, ◌+◌, sym, ap, ◌∙◌, subst, arith}
+use Rattle.std.specs.Prelude.{Bool, true, false, cond, ◌==◌, Result, Ok, Err}
 use Rattle.xh_core.specs.declared.refused.Refused.{Refused}
 use Rattle.xh_core.specs.declared.refused.Refused.TheVariants.{Unfinished}
-use Rattle.xh_place.specs.Ending.{HasGivenBack, back_of, but_back, reclaimed}
+use Rattle.xh_place.specs.Ending.{back_of, but_back, reclaimed}
 use Rattle.xh_kernel.specs.Accounts.{AccountOf}
 use Rattle.xh_kernel.specs.Reclaims.{HasBack, HasReclaimed}
 

@@ -1,5 +1,5 @@
 -- What a kernel's lock knows of a place, and the refusals by the number of a process.
-use Rattle.std.specs.Prelude.{◌≡◌, ℕ, ◌%◌, ◌==◌, cond, not, nat_le, nat_lt, ◌||◌, List, [], ◌∷◌, Option, Some, None, length}
+use Rattle.std.specs.Prelude.{◌≡◌, ℕ, ◌==◌, cond, not, nat_le, nat_lt, ◌||◌, List, [], ◌∷◌, Option, Some, None, length}
 use Rattle.xh_core.specs.declared.glance.Glance.{Glance}
 use Rattle.xh_core.specs.declared.refused.Refused.TheVariants.{NoProcess, Ended as IsOver}
 use Rattle.xh_core.specs.declared.status.Status.{Status}
@@ -7,7 +7,7 @@ use Rattle.xh_core.specs.declared.status.Status.TheVariants.{Vacant, Ended}
 use Rattle.xh_core.specs.Machine.{is_vacant, is_running, is_ended}
 use Rattle.xh_core.specs.Refusing.{Tests}
 use Rattle.xh_glance.specs.Pen.{PenOf}
-use Rattle.xh_model.specs.declared.limits.TheConstants.{PLACES, PROCESSES}
+use Rattle.xh_model.specs.declared.limits.TheConstants.{PROCESSES}
 use Rattle.xh_model.specs.Words.{generation_of, place_of}
 use Rattle.xh_place.specs.Places.{PlaceOf, IsPlaceOf, total_of}
 use Rattle.xh_kernel.specs.Parts.{PartsOf}

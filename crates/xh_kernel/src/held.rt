@@ -1,8 +1,7 @@
 //! What lies behind a place's lock.
-ghost use Rattle.std.specs.Prelude.{◌≡◌, ◌<◌, ◌^◌, length};
+ghost use Rattle.std.specs.Prelude.{◌≡◌};
 ghost use Rattle.xh_core.specs.declared.status.Status.TheVariants as status;
 ghost use Rattle.xh_core.specs.Refusing.{Tested};
-ghost use Rattle.xh_model.specs.Words.{place_of};
 ghost use Rattle.xh_place.specs.Places.{IsPlaceOf};
 ghost use Rattle.xh_kernel.specs.Calls.{Spawns};
 ghost use Rattle.xh_kernel.specs.Places.{IsHeldOf, IsTold, start, status_of, stop};
@@ -14,48 +13,26 @@ mod messages;
 
 use crate::names::Names;
 use crate::shared::Shared;
+use crate::teller::Teller;
 pub(crate) use channels::Wired;
 pub(crate) use messages::Look;
 use std::marker::PhantomData;
 use xh_channel::Spot;
-use xh_core::{Glance, Refused, Status};
-use xh_glance::{Glances, Pen};
+use xh_core::{Refused, Status};
+use xh_glance::Pen;
 use xh_model::limits::{GENERATIONS, PLACES, PROCESSES};
 use xh_place::Place;
 
-/// A place, the pen of its glances, and the endpoint that its process waits at. Whenever the lock is
-/// free, the last entry of the pen's history is what the place is.
+/// A place, who tells its glances, and the endpoint that its process waits at. Whenever the lock is
+/// free, the last entry of the place's history is what the place is.
 #[derive(Drop)]
 pub(crate) struct Held<N: Names> {
     pub(crate) place: Place,
-    pub(crate) pen: Pen,
+    pub(crate) teller: Teller,
     pub(crate) waits: Option<Spot>,
     of: PhantomData<N>,
-    ghost named: { IsHeldOf N.parts place pen },
-    ghost told: { IsTold place pen },
-}
-
-// How many blocks a place has.
-fn count_of(place: &Place) -> u32
-    ensures count { result ≡ length place.now.blocks }
-    ensures few { result < 2 ^ 12 }
-{
-    place.blocks().len() as u32
-}
-
-// One more entry of the place's history: what it is now.
-pub(crate) fn tell(glances: &Glances, pen: &mut Pen, place: &Place)
-    requires pen { (pen.old.glances ≡ glances.now) × (place_of place.now.process ≡ pen.old.number) }
-    ensures same { (pen.new.glances ≡ pen.old.glances) × (pen.new.number ≡ pen.old.number) }
-    ensures told { IsTold place.now pen.new }
-{
-    let glance = Glance {
-        process: place.process(),
-        state: place.state(),
-        blocks: count_of(place),
-        bytes: place.total(),
-    };
-    glances.store(pen, glance);
+    ghost named: { IsHeldOf N.parts place teller.pen },
+    ghost told: { IsTold place teller.pen },
 }
 
 impl<N: Names> Held<N> {
@@ -64,9 +41,10 @@ impl<N: Names> Held<N> {
         requires named { IsHeldOf N.parts place pen }
         requires told { IsTold place pen }
     {
+        let teller = Teller::new(pen, &place);
         Held {
             place,
-            pen,
+            teller,
             waits: None,
             of: PhantomData,
         }
@@ -77,7 +55,7 @@ impl<N: Names> Held<N> {
     {
         let Held {
             place,
-            pen: _,
+            teller: _,
             waits: _,
             of: _,
         } = self;
@@ -132,7 +110,7 @@ impl<N: Names> Held<N> {
             _ => return None,
         }
         self.place.start(&shared.records);
-        tell(&shared.glances, &mut self.pen, &self.place);
+        self.teller.tell(&shared.glances, &self.place);
         Some(self.place.process())
     }
 }

@@ -11,6 +11,7 @@ mod making;
 mod names;
 mod parts;
 mod shared;
+mod teller;
 
 pub use account::Account;
 pub use kernel::Kernel;

@@ -1,8 +1,9 @@
 //! Worked examples by calls of a kernel, by one worker.
-ghost use Rattle.std.specs.Prelude.{◌≡◌, All, IfSome};
-ghost use Rattle.xh_glance.specs.Look.{fresh_look};
+ghost use Rattle.std.specs.Prelude.{◌≡◌};
 
+mod bench;
 mod blocks;
+mod contracts;
 mod endings;
 mod messages;
 mod passing;
@@ -10,124 +11,14 @@ mod places;
 mod waiting;
 mod wiring;
 
-use crate::{Account, Kernel, Names, Parts};
+use crate::{Kernel, Names, Parts};
+use bench::{Bench, benched};
 use std::alloc::Global;
 use std::marker::Brand;
 use std::process::Abort;
 use std::sync::Wait;
 use std::test::Fail;
-use xh_core::{Block, Config, Refused, Status};
-use xh_glance::Look;
-use xh_place::{OpenGate, Taken};
-
-/// A kernel with its worker's account and look.
-#[derive(Drop)]
-struct Bench<N: Names> {
-    kernel: Kernel<N>,
-    account: Account<N>,
-    look: Look,
-    ghost own: { look.glances ≡ N.parts.glances },
-}
-
-impl<N: Names> Bench<N> {
-    fn spawn<R: Wait>(&self, rt: &R) -> Result<u16, Refused> {
-        self.kernel.spawn(rt, &OpenGate)
-    }
-
-    fn alloc<R: Wait>(
-        &mut self,
-        rt: &R,
-        alloc: Global,
-        p: u16,
-        n: u32,
-        arena: u32,
-    ) -> Result<Block, Refused> {
-        let account = &mut self.account;
-        self.kernel
-            .alloc(rt, alloc, p, n, arena, account, &OpenGate)
-    }
-
-    fn split<R: Wait>(
-        &self,
-        rt: &R,
-        alloc: Global,
-        p: u16,
-        r: u16,
-        k: u32,
-    ) -> Result<(Block, Block), Refused> {
-        self.kernel.split(rt, alloc, p, r, k, &OpenGate)
-    }
-
-    fn read<R: Wait>(
-        &self,
-        rt: &R,
-        p: u16,
-        r: u16,
-        at: u32,
-        out: &mut [u8],
-    ) -> Result<(), Refused> {
-        self.kernel.read(rt, p, r, at, out, &OpenGate)
-    }
-
-    fn write<R: Wait>(&self, rt: &R, p: u16, r: u16, at: u32, bytes: &[u8]) -> Result<(), Refused> {
-        self.kernel.write(rt, p, r, at, bytes, &OpenGate)
-    }
-
-    fn free<R: Wait>(&mut self, rt: &R, p: u16, r: u16) -> Result<u32, Refused> {
-        let account = &mut self.account;
-        self.kernel.free(rt, p, r, account, &OpenGate)
-    }
-
-    /// The records of both ends of a channel of `p` and `q`, of arena 0.
-    fn wire<R: Wait>(&mut self, rt: &R, p: u16, q: u16) -> Result<(u16, u16), Refused> {
-        let account = &mut self.account;
-        let (low, high) = self.kernel.wire(rt, p, q, 0, account, &OpenGate)?;
-        Ok((low.rec, high.rec))
-    }
-
-    /// The records of both ends of a channel of the process, of an arena.
-    fn open<R: Wait>(&mut self, rt: &R, p: u16, arena: u32) -> Result<(u16, u16), Refused> {
-        let account = &mut self.account;
-        let (low, high) = self.kernel.open(rt, p, arena, account, &OpenGate)?;
-        Ok((low.rec, high.rec))
-    }
-
-    fn give<R: Wait>(
-        &self,
-        rt: &R,
-        p: u16,
-        e: u16,
-        tag: u16,
-        blocks: &[u16],
-    ) -> Result<u64, Refused> {
-        self.kernel.give(rt, p, e, tag, blocks, &OpenGate)
-    }
-
-    fn take<R: Wait>(&self, rt: &R, p: u16, e: u16) -> Result<Taken, Refused> {
-        self.kernel.take(rt, p, e, &OpenGate)
-    }
-
-    fn close<R: Wait>(&mut self, rt: &R, p: u16, e: u16) -> Result<u64, Refused> {
-        let account = &mut self.account;
-        self.kernel.close(rt, p, e, account, &OpenGate)
-    }
-
-    fn exit<R: Wait>(&mut self, rt: &R, p: u16, budget: u16) -> Result<u64, Refused> {
-        let account = &mut self.account;
-        self.kernel.exit(rt, p, budget, account, &OpenGate)
-    }
-
-    fn kill<R: Wait>(&mut self, rt: &R, by: u16, victim: u16, budget: u16) -> Result<u64, Refused> {
-        let account = &mut self.account;
-        self.kernel.kill(rt, by, victim, budget, account, &OpenGate)
-    }
-
-    /// The latest process of a place, its state, and how many blocks of how many bytes it has.
-    fn glance(&mut self, place: u8) -> Option<(u16, Status, u32, u64)> {
-        let seen = self.kernel.glance(place, &mut self.look).ok()?;
-        Some((seen.process, seen.state, seen.blocks, seen.bytes))
-    }
-}
+use xh_core::{Config, Refused};
 
 /// A test over a kernel.
 #[derive(Clone, Copy)]
@@ -137,6 +28,7 @@ enum Case {
     RecordsAndArenasRunOut,
     PlaceCalls,
     Glances,
+    FirstGlance,
     Settling,
     GiveTakeAndWrite,
     InFlight,
@@ -144,6 +36,7 @@ enum Case {
     FullDirection,
     SplitAndGiveTheTail,
     ContractRefusals,
+    TwoContracts,
     KillReclaimsNestedEndpoints,
     ExitLeavesSentMessages,
     ExitsAndKills,
@@ -178,31 +71,6 @@ fn waiting_of(bytes: u32, depth: u8) -> Config {
     }
 }
 
-/// The look of the last worker.
-fn last_look<N: Names>(mut looks: Vec<Look>) -> Option<Look>
-    requires { All (λ l. l ≡ fresh_look N.parts.glances) looks.items }
-    ensures { IfSome result (λ l. l ≡ fresh_look N.parts.glances) }
-{
-    looks.pop()
-}
-
-/// The kernel with its worker's account and look.
-fn benched<N: Names>(
-    kernel: Kernel<N>,
-    mut accounts: Vec<Account<N>>,
-    looks: Vec<Look>,
-) -> Option<Bench<N>>
-    requires { All (λ l. l ≡ fresh_look N.parts.glances) looks.items }
-{
-    let account = accounts.pop()?;
-    let look = last_look::<N>(looks)?;
-    Some(Bench {
-        kernel,
-        account,
-        look,
-    })
-}
-
 /// The case, over a kernel made of the parts.
 fn over<N: Names, R: Wait + Abort>(
     rt: &R,
@@ -222,13 +90,15 @@ fn over<N: Names, R: Wait + Abort>(
         Case::RecordsAndArenasRunOut => blocks::records_and_arenas_run_out(rt, alloc, &mut bench),
         Case::PlaceCalls => blocks::place_calls(rt, alloc, &mut bench),
         Case::Glances => places::glances(rt, alloc, &mut bench),
+        Case::FirstGlance => places::first_glance(rt, alloc, &mut bench),
         Case::Settling => places::settling(rt, alloc, bench),
         Case::GiveTakeAndWrite => messages::give_take_and_write(rt, alloc, &mut bench),
         Case::InFlight => messages::in_flight(rt, alloc, &mut bench),
         Case::RefusalsOfGive => messages::refusals_of_give(rt, alloc, &mut bench),
         Case::FullDirection => messages::full_direction(rt, alloc, &mut bench),
         Case::SplitAndGiveTheTail => messages::split_and_give_the_tail(rt, alloc, &mut bench),
-        Case::ContractRefusals => messages::contract_refusals(rt, alloc, &mut bench),
+        Case::ContractRefusals => contracts::contract_refusals(rt, &mut bench),
+        Case::TwoContracts => contracts::two_contracts(rt, &mut bench),
         Case::KillReclaimsNestedEndpoints => endings::kill_reclaims_nested_endpoints(
             rt, alloc, &mut bench,
         ),
@@ -288,6 +158,12 @@ fn glances(rt: HostRuntime) -> Result<(), Fail> {
 }
 
 #[test]
+fn first_glance(rt: HostRuntime) -> Result<(), Fail> {
+    let config = arenas_of(1, 256, 8);
+    with_kernel(&rt, rt.alloc(), config, Case::FirstGlance)
+}
+
+#[test]
 fn settling(rt: HostRuntime) -> Result<(), Fail> {
     let config = arenas_of(8, 256, 8);
     with_kernel(&rt, rt.alloc(), config, Case::Settling)
@@ -341,6 +217,12 @@ fn split_and_give_the_tail(rt: HostRuntime) -> Result<(), Fail> {
 fn contract_refusals(rt: HostRuntime) -> Result<(), Fail> {
     let config = waiting_of(256, 4);
     with_kernel(&rt, rt.alloc(), config, Case::ContractRefusals)
+}
+
+#[test]
+fn two_contracts(rt: HostRuntime) -> Result<(), Fail> {
+    let config = waiting_of(256, 4);
+    with_kernel(&rt, rt.alloc(), config, Case::TwoContracts)
 }
 
 #[test]

@@ -1,5 +1,5 @@
 -- What one look for a message does to the place.
-use Rattle.std.specs.Prelude.{◌≡◌, ◌≢◌, ℕ, IfErr}
+use Rattle.std.specs.Prelude.{◌≢◌, ℕ, IfErr}
 use Rattle.xh_core.specs.declared.refused.Refused.TheVariants.{Empty}
 use Rattle.xh_kernel.specs.declared.held.messages.Look.{Look}
 use Rattle.xh_kernel.specs.declared.held.messages.Look.TheVariants.{Done, Later}

@@ -4,7 +4,7 @@ ghost use Rattle.xh_kernel.specs.Accounts.{has_taken, has_given};
 ghost use Rattle.xh_kernel.specs.Calls.{Allocates, Splits, Reads, Writes, Frees};
 
 use crate::account::Account;
-use crate::held::{Held, tell};
+use crate::held::Held;
 use crate::names::Names;
 use crate::shared::Shared;
 use std::alloc::Global;
@@ -31,7 +31,7 @@ impl<N: Names> Held<N> {
         let mut vaults = shared.vaults(rt);
         let tallies = account.tallies.as_mut_slice();
         let answer = self.place.alloc(alloc, &shared.records, n, arena, &mut vaults, tallies, gate);
-        tell(&shared.glances, &mut self.pen, &self.place);
+        self.teller.tell(&shared.glances, &self.place);
         answer
     }
 
@@ -52,7 +52,7 @@ impl<N: Names> Held<N> {
         let answer = self
             .place
             .split(alloc, &shared.records, r, k, &mut vaults, gate);
-        tell(&shared.glances, &mut self.pen, &self.place);
+        self.teller.tell(&shared.glances, &self.place);
         answer
     }
 
@@ -83,7 +83,7 @@ impl<N: Names> Held<N> {
     {
         self.start(p)?;
         let answer = self.place.write(&shared.records, r, at, bytes);
-        tell(&shared.glances, &mut self.pen, &self.place);
+        self.teller.tell(&shared.glances, &self.place);
         answer
     }
 
@@ -105,7 +105,7 @@ impl<N: Names> Held<N> {
         let answer = self
             .place
             .free(&shared.records, r, &mut vaults, tallies, gate);
-        tell(&shared.glances, &mut self.pen, &self.place);
+        self.teller.tell(&shared.glances, &self.place);
         answer
     }
 }

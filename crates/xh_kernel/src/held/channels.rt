@@ -6,8 +6,10 @@ ghost use Rattle.xh_core.specs.declared.status.Status.TheVariants as status;
 ghost use Rattle.xh_core.specs.Refusing.{Tested};
 ghost use Rattle.xh_model.specs.declared.limits.TheConstants.{END_BYTES};
 ghost use Rattle.xh_model.specs.Keyed.{without};
-ghost use Rattle.xh_place.specs.Ends.{is_here, open_tests, AreListed};
-ghost use Rattle.xh_place.specs.Places.{Item, PlaceOf, with_blocks};
+ghost use Rattle.xh_place.specs.Ends.{is_here, open_tests, AreListed, IsUnopened, Opens as HasOpened};
+ghost use Rattle.xh_place.specs.Places.{IsPlaceOf, IsSamePlace, Item, PlaceOf, with_blocks};
+ghost use Rattle.xh_place.specs.Tallies.{ids_of};
+ghost use Rattle.xh_place.specs.Vaults.{IsNoPair};
 ghost use Rattle.xh_records.specs.Seats.{IsRecord};
 ghost use Rattle.xh_kernel.specs.Accounts.{has_taken};
 ghost use Rattle.xh_kernel.specs.Channels.{Opens};
@@ -15,13 +17,15 @@ ghost use Rattle.xh_kernel.specs.Places.{start};
 ghost use Rattle.xh_kernel.specs.Reclaims.{HasBack};
 
 use crate::account::Account;
-use crate::held::{Held, tell};
+use crate::held::Held;
 use crate::names::Names;
 use crate::shared::Shared;
 use std::sync::Wait;
-use xh_channel::Spot;
+use xh_arena::Tally;
+use xh_channel::{Endpoint, Spot};
 use xh_core::{Block, Contract, Refused};
-use xh_place::{Gate, Unopened};
+use xh_place::{Body, Gate, Place, Unopened, Vaults};
+use xh_records::Records;
 
 /// A channel whose side 1 is on its way: both ends' blocks, and the spot of side 0.
 #[derive(Drop)]
@@ -29,6 +33,49 @@ pub(crate) struct Wired {
     pub(crate) low: Block,
     pub(crate) high: Block,
     pub(crate) spot: Spot,
+}
+
+// Both ends of a new channel, with a contract or without.
+fn open_channel<N: Names, R: Wait>(
+    rt: &R,
+    shared: &Shared<N>,
+    contract: Option<Contract>,
+) -> Result<(Endpoint, Endpoint), Refused>
+    ensures ok { IfOk result (λ ends. IsPair ends.0 ends.1 × (ends.0.has_contract ≡ is_some contract)) }
+    ensures err { IfErr result (λ e. e ≡ Refused.NoChannel) }
+{
+    let ends = match contract {
+        Some(contract) => shared.channels.open_with(rt, contract)?,
+        None => shared.channels.open(rt)?,
+    };
+    Ok(ends)
+}
+
+// As the place's own `open` or `open_with`, whichever the ends are for.
+fn list_ends<V: Vaults, G: Gate>(
+    place: &mut Place,
+    records: &Records<Body>,
+    low: Endpoint,
+    high: Endpoint,
+    arena: u32,
+    vaults: &mut V,
+    tallies: &mut [Tally],
+    gate: &G,
+) -> Result<(Block, Block), Unopened>
+    requires own { IsPlaceOf records.now place.old }
+    requires names { (V.names vaults.old ≡ place.old.shape.names) × (ids_of tallies.old ≡ place.old.shape.names) }
+    requires fresh { IsPair low high }
+    ensures same { (V.names vaults.new ≡ V.names vaults.old) × (V.extent vaults.new ≡ V.extent vaults.old) × (ids_of tallies.new ≡ ids_of tallies.old) }
+    ensures opened { HasOpened arena low high place.old place.new tallies.old tallies.new result }
+    ensures place { IsSamePlace place.old place.new }
+    ensures ends { IfOk result (AreListed low high place.new) }
+    ensures why { IsUnopened (open_tests place.old.state arena (length place.old.shape.names)) (vaults.new ≡ vaults.old)
+        (IsNoPair V.changes vaults.old vaults.new arena (2 * END_BYTES) (V.extent vaults.old)) result }
+{
+    if low.has_contract() {
+        return place.open_with(records, low, high, arena, vaults, tallies, gate);
+    }
+    place.open(records, low, high, arena, vaults, tallies, gate)
 }
 
 // Where the ends could not be listed their channel is free again.
@@ -61,67 +108,6 @@ impl<N: Names> Held<N> {
         Ok(())
     }
 
-    fn open_plain<R: Wait, G: Gate>(
-        &mut self,
-        rt: &R,
-        shared: &Shared<N>,
-        p: u16,
-        arena: u32,
-        account: &mut Account<N>,
-        gate: &G,
-    ) -> Result<(Block, Block), Refused>
-        ensures place { Opens N.parts p arena false self.old.place self.new.place result }
-        ensures ends { IfOk result (λ ends. (self.new.place.state ≡ status.Running) × ((low : Posted) × (high : Posted) × AreListed low high self.new.place ends)) }
-        ensures account { MatchResult result (λ _. account.new ≡ has_taken arena (2 * END_BYTES) account.old) (λ _. account.new ≡ account.old) }
-    {
-        self.test_open(shared, p, arena)?;
-        let (low, high) = shared.channels.open(rt)?;
-        let mut vaults = shared.vaults(rt);
-        let tallies = account.tallies.as_mut_slice();
-        let opened = self.place.open(
-            &shared.records,
-            low,
-            high,
-            arena,
-            &mut vaults,
-            tallies,
-            gate,
-        );
-        tell(&shared.glances, &mut self.pen, &self.place);
-        finish(rt, shared, opened)
-    }
-
-    fn open_ruled<R: Wait, G: Gate>(
-        &mut self,
-        rt: &R,
-        shared: &Shared<N>,
-        p: u16,
-        arena: u32,
-        contract: Contract,
-        account: &mut Account<N>,
-        gate: &G,
-    ) -> Result<(Block, Block), Refused>
-        ensures place { Opens N.parts p arena true self.old.place self.new.place result }
-        ensures ends { IfOk result (λ ends. (self.new.place.state ≡ status.Running) × ((low : Posted) × (high : Posted) × AreListed low high self.new.place ends)) }
-        ensures account { MatchResult result (λ _. account.new ≡ has_taken arena (2 * END_BYTES) account.old) (λ _. account.new ≡ account.old) }
-    {
-        self.test_open(shared, p, arena)?;
-        let (low, high) = shared.channels.open_with(rt, contract)?;
-        let mut vaults = shared.vaults(rt);
-        let tallies = account.tallies.as_mut_slice();
-        let opened = self.place.open_with(
-            &shared.records,
-            low,
-            high,
-            arena,
-            &mut vaults,
-            tallies,
-            gate,
-        );
-        tell(&shared.glances, &mut self.pen, &self.place);
-        finish(rt, shared, opened)
-    }
-
     // Opens a channel, with a contract or without.
     pub(crate) fn open<R: Wait, G: Gate>(
         &mut self,
@@ -137,10 +123,15 @@ impl<N: Names> Held<N> {
         ensures ends { IfOk result (λ ends. (self.new.place.state ≡ status.Running) × ((low : Posted) × (high : Posted) × AreListed low high self.new.place ends)) }
         ensures account { MatchResult result (λ _. account.new ≡ has_taken arena (2 * END_BYTES) account.old) (λ _. account.new ≡ account.old) }
     {
-        match contract {
-            Some(contract) => self.open_ruled(rt, shared, p, arena, contract, account, gate),
-            None => self.open_plain(rt, shared, p, arena, account, gate),
-        }
+        self.test_open(shared, p, arena)?;
+        let (low, high) = open_channel(rt, shared, contract)?;
+        let records = &shared.records;
+        let mut vaults = shared.vaults(rt);
+        let tallies = account.tallies.as_mut_slice();
+        let place = &mut self.place;
+        let opened = list_ends(place, records, low, high, arena, &mut vaults, tallies, gate);
+        self.teller.tell(&shared.glances, &self.place);
+        finish(rt, shared, opened)
     }
 
     // Opens a channel, and passes side 1 on its own direction.
@@ -154,7 +145,8 @@ impl<N: Names> Held<N> {
         account: &mut Account<N>,
         gate: &G,
     ) -> Result<Wired, Refused>
-        ensures place { (middle : PlaceOf) × MatchResult result (λ w. Opens N.parts p arena (is_some contract) self.old.place middle (Ok (w.low, w.high))) (λ e. Opens N.parts p arena (is_some contract) self.old.place middle (Err e))
+        ensures place { (middle : PlaceOf) × MatchResult result (λ w. Opens N.parts p arena (is_some contract) self.old.place middle (Ok (w.low, w.high)))
+            (λ e. Opens N.parts p arena (is_some contract) self.old.place middle (Err e))
             × MatchResult result (λ w. self.new.place ≡ with_blocks middle (without w.high.rec middle.blocks)) (λ _. self.new.place ≡ middle) }
         ensures exists { IfOk result (λ w. IsRecord N.parts.records.shape w.high.rec) }
         ensures account { MatchResult result (λ _. account.new ≡ has_taken arena (2 * END_BYTES) account.old) (λ _. account.new ≡ account.old) }
@@ -165,7 +157,7 @@ impl<N: Names> Held<N> {
         };
         self.place
             .pass_end(&shared.records, high.rec, 2 * spot.channel + 1);
-        tell(&shared.glances, &mut self.pen, &self.place);
+        self.teller.tell(&shared.glances, &self.place);
         Ok(Wired { low, high, spot })
     }
 
@@ -198,7 +190,7 @@ impl<N: Names> Held<N> {
             tallies,
             gate,
         );
-        tell(&shared.glances, &mut self.pen, &self.place);
+        self.teller.tell(&shared.glances, &self.place);
         answer
     }
 

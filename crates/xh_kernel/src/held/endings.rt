@@ -3,7 +3,7 @@ ghost use Rattle.xh_kernel.specs.Endings.{Closes, Stops};
 ghost use Rattle.xh_kernel.specs.Reclaims.{HasReclaimed};
 
 use crate::account::Account;
-use crate::held::{Held, tell};
+use crate::held::Held;
 use crate::names::Names;
 use crate::shared::Shared;
 use std::sync::Wait;
@@ -35,7 +35,7 @@ impl<N: Names> Held<N> {
             tallies,
             gate,
         );
-        tell(&shared.glances, &mut self.pen, &self.place);
+        self.teller.tell(&shared.glances, &self.place);
         answer
     }
 
@@ -64,7 +64,7 @@ impl<N: Names> Held<N> {
             tallies,
             gate,
         );
-        tell(&shared.glances, &mut self.pen, &self.place);
+        self.teller.tell(&shared.glances, &self.place);
         if let Some(spot) = self.waits.take() {
             shared.channels.rouse(rt, spot);
         }

@@ -2,7 +2,7 @@
 ghost use Rattle.xh_kernel.specs.inner.Looking.{LooksFor};
 ghost use Rattle.xh_kernel.specs.Messages.{Gives, Takes};
 
-use crate::held::{Held, tell};
+use crate::held::Held;
 use crate::names::Names;
 use crate::shared::Shared;
 use std::sync::Wait;
@@ -33,7 +33,7 @@ impl<N: Names> Held<N> {
     {
         self.start(p)?;
         let answer = self.place.give(rt, &shared.records, &shared.channels, e, tag, blocks, gate);
-        tell(&shared.glances, &mut self.pen, &self.place);
+        self.teller.tell(&shared.glances, &self.place);
         answer
     }
 
@@ -51,7 +51,7 @@ impl<N: Names> Held<N> {
         let answer = self
             .place
             .take(rt, &shared.records, &shared.channels, e, gate);
-        tell(&shared.glances, &mut self.pen, &self.place);
+        self.teller.tell(&shared.glances, &self.place);
         answer
     }
 

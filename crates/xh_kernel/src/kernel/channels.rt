@@ -69,7 +69,8 @@ impl<N: Names> Kernel<N> {
         gate: &G,
     ) -> Result<(Block, Block), Refused>
         ensures account { MatchResult result (λ _. account.new ≡ has_taken arena (2 * END_BYTES) account.old) (HasUnwired arena account.old account.new) }
-        ensures first { (first : PlaceOf) × (second : PlaceOf) × IsPlaceOf N.parts.records first × IsPlaceOf N.parts.records second × MatchOption (first_refusal (start p first ++ start q second)) (Wires N.parts p q arena false result) (λ refused. result ≡ Err refused) }
+        ensures first { (first : PlaceOf) × (second : PlaceOf) × IsPlaceOf N.parts.records first × IsPlaceOf N.parts.records second × MatchOption (first_refusal (start p first ++ start q second))
+            (Wires N.parts p q arena false result) (λ refused. result ≡ Err refused) }
     {
         self.connect(rt, p, q, arena, None, account, gate)
     }
@@ -86,7 +87,8 @@ impl<N: Names> Kernel<N> {
         gate: &G,
     ) -> Result<(Block, Block), Refused>
         ensures account { MatchResult result (λ _. account.new ≡ has_taken arena (2 * END_BYTES) account.old) (HasUnwired arena account.old account.new) }
-        ensures first { (first : PlaceOf) × (second : PlaceOf) × IsPlaceOf N.parts.records first × IsPlaceOf N.parts.records second × MatchOption (first_refusal (start p first ++ start q second)) (Wires N.parts p q arena true result) (λ refused. result ≡ Err refused) }
+        ensures first { (first : PlaceOf) × (second : PlaceOf) × IsPlaceOf N.parts.records first × IsPlaceOf N.parts.records second × MatchOption (first_refusal (start p first ++ start q second))
+            (Wires N.parts p q arena true result) (λ refused. result ≡ Err refused) }
     {
         self.connect(rt, p, q, arena, Some(contract), account, gate)
     }
@@ -103,7 +105,8 @@ impl<N: Names> Kernel<N> {
         gate: &G,
     ) -> Result<(Block, Block), Refused>
         ensures account { MatchResult result (λ _. account.new ≡ has_taken arena (2 * END_BYTES) account.old) (HasUnwired arena account.old account.new) }
-        ensures first { (first : PlaceOf) × (second : PlaceOf) × IsPlaceOf N.parts.records first × IsPlaceOf N.parts.records second × MatchOption (first_refusal (start p first ++ start q second)) (Wires N.parts p q arena (is_some contract) result) (λ refused. result ≡ Err refused) }
+        ensures first { (first : PlaceOf) × (second : PlaceOf) × IsPlaceOf N.parts.records first × IsPlaceOf N.parts.records second × MatchOption (first_refusal (start p first ++ start q second))
+            (Wires N.parts p q arena (is_some contract) result) (λ refused. result ≡ Err refused) }
     {
         self.look_at(rt, p)?;
         self.look_at(rt, q)?;
@@ -125,7 +128,8 @@ impl<N: Names> Kernel<N> {
         account: &mut Account<N>,
         gate: &G,
     ) -> Result<Wired, Refused>
-        ensures place { (old : PlaceOf) × (new : PlaceOf) × IsPlaceOf N.parts.records old × MatchResult result (λ w. Opens N.parts p arena (is_some contract) old new (Ok (w.low, w.high))) (λ e. Opens N.parts p arena (is_some contract) old new (Err e)) }
+        ensures place { (old : PlaceOf) × (new : PlaceOf) × IsPlaceOf N.parts.records old × MatchResult result (λ w. Opens N.parts p arena (is_some contract) old new (Ok (w.low, w.high)))
+            (λ e. Opens N.parts p arena (is_some contract) old new (Err e)) }
         ensures exists { IfOk result (λ w. IsRecord N.parts.records.shape w.high.rec) }
         ensures account { MatchResult result (λ _. account.new ≡ has_taken arena (2 * END_BYTES) account.old) (λ _. account.new ≡ account.old) }
     {

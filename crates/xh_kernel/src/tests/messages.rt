@@ -5,9 +5,8 @@ use std::alloc::Global;
 use std::process::Abort;
 use std::sync::Wait;
 use std::test::Fail;
-use xh_core::{Block, Contract, Refused};
-use xh_model::Row;
-use xh_place::{Got, OpenGate};
+use xh_core::{Block, Refused};
+use xh_place::Got;
 
 /// Blocks go to the other process, which has them alone.
 pub fn give_take_and_write<N: Names, R: Wait + Abort>(
@@ -131,46 +130,6 @@ pub fn split_and_give_the_tail<N: Names, R: Wait + Abort>(
     assert_eq!(rt; two, [1, 2]);
     assert_eq!(rt; bench.free(rt, a, x)?, 16);
     assert_eq!(rt; bench.account.moved(0), Some((112, 16)));
-    Ok(())
-}
-
-/// A message that the contract doesn't allow is refused, and the next that it allows goes.
-pub fn contract_refusals<N: Names, R: Wait + Abort>(
-    rt: &R,
-    alloc: Global,
-    bench: &mut Bench<N>,
-) -> Result<(), Fail> {
-    let request = Row {
-        state: 0,
-        tag: 1,
-        side: 0,
-        next: 1,
-    };
-    let reply = Row {
-        state: 1,
-        tag: 2,
-        side: 1,
-        next: 0,
-    };
-    let contract = Contract::new(&[request, reply])?;
-    let a = bench.spawn(rt)?;
-    let b = bench.spawn(rt)?;
-    let account = &mut bench.account;
-    let (low, high) = bench
-        .kernel
-        .wire_with(rt, a, b, 0, contract, account, &OpenGate)?;
-    let (e, f) = (low.rec, high.rec);
-    assert!(rt; matches!(bench.give(rt, a, e, 2, &[]), Err(Refused::Protocol { .. })));
-    assert!(rt; matches!(bench.give(rt, b, f, 2, &[]), Err(Refused::Protocol { .. })));
-    assert_eq!(rt; bench.give(rt, a, e, 1, &[])?, 1);
-    assert!(rt; matches!(bench.give(rt, a, e, 1, &[]), Err(Refused::Protocol { .. })));
-    assert!(rt; matches!(bench.give(rt, b, f, 1, &[]), Err(Refused::Protocol { .. })));
-    let taken = bench.take(rt, b, f)?;
-    assert_eq!(rt; (taken.no, taken.tag), (1, 1));
-    assert_eq!(rt; bench.give(rt, b, f, 2, &[])?, 1);
-    let taken = bench.take(rt, a, e)?;
-    assert_eq!(rt; (taken.no, taken.tag), (1, 2));
-    assert_eq!(rt; bench.give(rt, a, e, 1, &[])?, 2);
     Ok(())
 }
 

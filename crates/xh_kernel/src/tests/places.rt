@@ -33,6 +33,18 @@ pub fn glances<N: Names, R: Wait + Abort>(
     Ok(())
 }
 
+/// The first look that is made sees what the calls before it did, and not the place that nobody had.
+pub fn first_glance<N: Names, R: Wait + Abort>(
+    rt: &R,
+    alloc: Global,
+    bench: &mut Bench<N>,
+) -> Result<(), Fail> {
+    let p = bench.spawn(rt)?;
+    bench.alloc(rt, alloc, p, 40, 0)?;
+    assert_eq!(rt; bench.glance(0), Some((0, Status::Running, 1, 48)));
+    Ok(())
+}
+
 /// What a kernel gives, taken apart.
 pub fn settling<N: Names, R: Wait + Abort>(
     rt: &R,

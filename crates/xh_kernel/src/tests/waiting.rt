@@ -10,7 +10,7 @@ use std::test::Fail;
 use std::thread;
 use std::thread::Threads;
 use xh_core::{Config, Refused};
-use xh_place::{OpenGate, Taken};
+use xh_place::{Got, OpenGate, Taken};
 
 /// What ends the wait.
 #[derive(Clone, Copy)]
@@ -22,13 +22,14 @@ enum Ender {
     ClosesItsEnd,
 }
 
-/// A process at its end of a channel, and the other at the other.
+/// A process at its end of a channel, and the other at the other, with a block to give.
 #[derive(Clone, Copy)]
 struct Pair {
     p: u16,
     q: u16,
     e: u16,
     f: u16,
+    x: u16,
 }
 
 fn pause(turns: u64) {
@@ -42,10 +43,13 @@ fn drawn(seed: u64) -> u64 {
         .wrapping_add(1_442_695_040_888_963_407)
 }
 
-// A message is 1, Ended 2, PeerClosed 3, NotOwned 4.
+// A message with its block is 1, Ended 2, PeerClosed 3, NotOwned 4.
 fn coded(answer: Result<Taken, Refused>) -> u64 {
     match answer {
-        Ok(_) => 1,
+        Ok(taken) => match taken.blocks.first() {
+            Some(Got::Here(_)) => 1,
+            _ => 0,
+        },
         Err(Refused::Ended) => 2,
         Err(Refused::PeerClosed { .. }) => 3,
         Err(Refused::NotOwned) => 4,
@@ -63,12 +67,14 @@ fn make_pair<N: Names, R: Wait>(
     let p = kernel.spawn(rt, &OpenGate)?;
     let q = kernel.spawn(rt, &OpenGate)?;
     kernel.alloc(rt, alloc, p, 16, 0, account, &OpenGate)?;
+    let given = kernel.alloc(rt, alloc, q, 16, 0, account, &OpenGate)?;
     let (low, high) = kernel.wire(rt, p, q, 0, account, &OpenGate)?;
     Ok(Pair {
         p,
         q,
         e: low.rec,
         f: high.rec,
+        x: given.rec,
     })
 }
 
@@ -79,9 +85,9 @@ fn end_wait<N: Names, R: Wait>(
     pair: Pair,
     ender: Ender,
 ) {
-    let Pair { p, q, e, f } = pair;
+    let Pair { p, q, e, f, x } = pair;
     let _done = match ender {
-        Ender::Gives => kernel.give(rt, q, f, 7, &[], &OpenGate),
+        Ender::Gives => kernel.give(rt, q, f, 7, &[x], &OpenGate),
         Ender::Closes => kernel.close(rt, q, f, account, &OpenGate),
         Ender::Kills => kernel.kill(rt, q, p, 4096, account, &OpenGate),
         Ender::KillsInPart => kernel.kill(rt, q, p, 1, account, &OpenGate),
@@ -129,7 +135,7 @@ fn round<N: Names + Send + Sync, R: Threads + Wait + Sync>(
     Ok(answered)
 }
 
-// How often the waiting process answered so, in 60 rounds over one kernel.
+// How often the waiting process answered so, in 64 rounds over one kernel, which has a channel for each; 0 where not all bytes came back.
 fn rounds_over<N: Names + Send + Sync, R: Threads + Wait + Sync>(
     rt: &R,
     alloc: Global,
@@ -145,17 +151,20 @@ fn rounds_over<N: Names + Send + Sync, R: Threads + Wait + Sync>(
     };
     let mut seed = 1u64;
     let mut count = 0u64;
-    for _ in 0..60 {
+    for _ in 0..64 {
         seed = drawn(seed);
         let answer = round(rt, alloc, &kernel, &mut account, ender, seed >> 20)?;
         if answer == want {
             count = count.wrapping_add(1);
         }
     }
+    if account.moved(0).is_none_or(|(taken, back)| taken != back) {
+        return Ok(0);
+    }
     Ok(count)
 }
 
-// How often the waiting process answered so, in 1,200 rounds.
+// How often the waiting process answered so, in 2,048 rounds.
 fn rounds<R: Threads + Wait + Sync>(
     rt: &R,
     alloc: Global,
@@ -170,7 +179,7 @@ fn rounds<R: Threads + Wait + Sync>(
         wear: 1_000_000,
     };
     let mut count = 0u64;
-    for _ in 0..20 {
+    for _ in 0..32 {
         let parts = Parts::new(alloc, config, 1)?;
         count = count.wrapping_add(rounds_over::<Brand, R>(rt, alloc, parts, ender, want)?);
     }
@@ -180,34 +189,34 @@ fn rounds<R: Threads + Wait + Sync>(
 /// A process that waits is given a message.
 #[test]
 fn waits_and_is_given(rt: HostRuntime) -> Result<(), Fail> {
-    assert_eq!(rt; rounds(&rt, rt.alloc(), Ender::Gives, 1)?, 1200);
+    assert_eq!(rt; rounds(&rt, rt.alloc(), Ender::Gives, 1)?, 2048);
     Ok(())
 }
 
 /// The peer of a process that waits closes.
 #[test]
 fn waits_and_its_peer_closes(rt: HostRuntime) -> Result<(), Fail> {
-    assert_eq!(rt; rounds(&rt, rt.alloc(), Ender::Closes, 3)?, 1200);
+    assert_eq!(rt; rounds(&rt, rt.alloc(), Ender::Closes, 3)?, 2048);
     Ok(())
 }
 
 /// A process that waits is killed.
 #[test]
 fn waits_and_is_killed(rt: HostRuntime) -> Result<(), Fail> {
-    assert_eq!(rt; rounds(&rt, rt.alloc(), Ender::Kills, 2)?, 1200);
+    assert_eq!(rt; rounds(&rt, rt.alloc(), Ender::Kills, 2)?, 2048);
     Ok(())
 }
 
 /// A process that waits is killed in part: its endpoint is not reached.
 #[test]
 fn waits_and_is_killed_in_part(rt: HostRuntime) -> Result<(), Fail> {
-    assert_eq!(rt; rounds(&rt, rt.alloc(), Ender::KillsInPart, 2)?, 1200);
+    assert_eq!(rt; rounds(&rt, rt.alloc(), Ender::KillsInPart, 2)?, 2048);
     Ok(())
 }
 
 /// The end that a process waits at is closed by another thread.
 #[test]
 fn waits_and_its_end_is_closed(rt: HostRuntime) -> Result<(), Fail> {
-    assert_eq!(rt; rounds(&rt, rt.alloc(), Ender::ClosesItsEnd, 4)?, 1200);
+    assert_eq!(rt; rounds(&rt, rt.alloc(), Ender::ClosesItsEnd, 4)?, 2048);
     Ok(())
 }

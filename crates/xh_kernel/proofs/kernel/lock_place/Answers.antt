@@ -1,4 +1,4 @@
-use Rattle.std.proofs.Common.{rules, ap, ◌∙◌}
+use Rattle.std.proofs.Common.{ap}
 use Rattle.xh_place.specs.Places.{PlaceOf}
 use Rattle.xh_kernel.proofs.Last.{told_first}
 use Rattle.xh_kernel.proofs.kernel.lock_place.Goals as goal

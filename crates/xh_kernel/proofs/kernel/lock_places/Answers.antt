@@ -1,4 +1,4 @@
-use Rattle.std.proofs.Common.{rules, arith, ◌≡◌, ◌<◌, ◌+◌, [], vec_len, ap, sym, ◌∙◌}
+use Rattle.std.proofs.Common.{rules, arith, ◌≡◌, ◌<◌, [], vec_len, ap, sym, ◌∙◌}
 use Rattle.std.specs.Vec.Iter.{into_iter_len}
 use Rattle.xh_glance.specs.Pen.{PenOf, fresh_pen}
 use Rattle.xh_place.specs.declared.body.Body.{Body}

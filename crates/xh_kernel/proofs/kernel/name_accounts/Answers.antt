@@ -1,5 +1,4 @@
-use Rattle.std.proofs.Common.{rules, ◌≡◌, ℕ, ◌<◌, ◌+◌, length, vec_len, ap, ◌∙◌}
-use Rattle.std.specs.Prelude.{slice_index_or}
+use Rattle.std.proofs.Common.{rules, ◌≡◌, ℕ, ◌+◌, length, ap, ◌∙◌}
 use Rattle.xh_kernel.specs.Accounts.{AccountOf, fresh}
 use Rattle.xh_kernel.proofs.Lists.{each_push}
 use Rattle.xh_kernel.proofs.kernel.name_accounts.Goals as goal

@@ -1,9 +1,8 @@
-use Rattle.std.proofs.Common.{rules, ◌≡◌, ◌∷◌, ◌++◌, [], length, sym, ap, ◌∙◌, subst}
+use Rattle.std.proofs.Common.{length, ap, ◌∙◌}
 use Rattle.std.proofs.lemmas.List.{length-replicate}
 use Rattle.xh_arena.specs.Views.{VaultOf}
 use Rattle.xh_place.specs.Bodies.{fits_in}
 use Rattle.xh_place.specs.declared.body.Body.{Body}
-use Rattle.xh_kernel.specs.inner.Making.{AreMakings}
 use Rattle.xh_kernel.proofs.Makings.{makings_more, new_vault}
 use Rattle.xh_kernel.proofs.making.add_vault.Goals as goal
 

@@ -1,4 +1,4 @@
-use Rattle.std.proofs.Common.{rules, ◌≡◌, ◌+◌, ◌∷◌, ◌++◌, [], map, length, ap, ◌∙◌, subst, sym}
+use Rattle.std.proofs.Common.{rules, ◌≡◌, ◌+◌, ◌∷◌, ◌++◌, [], map, length, ◌∙◌}
 use Rattle.xh_kernel.specs.Accounts.{fresh_tally}
 use Rattle.xh_kernel.specs.inner.Making.{IsBundle}
 use Rattle.xh_kernel.proofs.Lists.{each_push, there}

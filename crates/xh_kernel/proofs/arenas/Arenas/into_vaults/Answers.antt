@@ -1,4 +1,4 @@
-use Rattle.std.proofs.Common.{rules, arith, ◌≡◌, ◌≤◌, length, vec_len, sym, ap, ◌∙◌}
+use Rattle.std.proofs.Common.{arith, length, ap, ◌∙◌}
 use Rattle.std.proofs.lemmas.List.{length-map}
 use Rattle.xh_arena.specs.Views.{VaultOf}
 use Rattle.xh_kernel.proofs.Taking.{take_all}

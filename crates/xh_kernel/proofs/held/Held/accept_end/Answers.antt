@@ -8,7 +8,9 @@ use Rattle.xh_kernel.proofs.held.Held.accept_end.Goals as goal
 
 pub returns-clause-account : goal.returns-clause-account
 returns-clause-account g c =
-    subst (λ (ts : List TallyOf). MatchResult c.accept_end-answer.result (λ _. account_of c.account.inside.number ts ≡ c.args.account.now) (λ _. (bytes : ℕ) × HasBack bytes c.args.account.now (account_of c.account.inside.number ts)))
+    subst (λ (ts : List TallyOf). MatchResult c.accept_end-answer.result (λ _. account_of c.account.inside.number ts ≡ c.args.account.now)
+    (λ _. (bytes : ℕ) × HasBack bytes c.args.account.now (account_of c.account.inside.number ts)))
     (sym (with_items_is c.account.inside.tallies c.accept_end-answer.new.tallies (search (rules, places))))
-    (received c.account.inside.number c.account.inside.tallies.items c.as_mut_slice-tallies.result.now c.accept_end-answer.new.tallies c.args.account.now c.account.view_is c.as_mut_slice-tallies.ensures.value
+    (received c.account.inside.number c.account.inside.tallies.items c.as_mut_slice-tallies.result.now c.accept_end-answer.new.tallies
+    c.args.account.now c.account.view_is c.as_mut_slice-tallies.ensures.value
     c.args.self.now.place c.accept_end-answer.new.self c.args.q c.args.r c.accept_end-answer.result c.accept_end-answer.ensures.here c.accept_end-answer.ensures.away)

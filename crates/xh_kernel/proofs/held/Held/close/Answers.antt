@@ -12,5 +12,6 @@ returns-clause-account g c =
     let place = c.args.self.now.place in
     subst (λ (ts : List TallyOf). HasReclaimed c.args.account.now (account_of c.account.inside.number ts) c.close_end-answer.result)
     (sym (with_items_is c.account.inside.tallies c.close_end-answer.new.tallies (search (rules, places))))
-    (closed c.account.inside.number c.account.inside.tallies.items c.as_mut_slice-tallies.result.now c.close_end-answer.new.tallies c.args.account.now c.account.view_is c.as_mut_slice-tallies.ensures.value
+    (closed c.account.inside.number c.account.inside.tallies.items c.as_mut_slice-tallies.result.now c.close_end-answer.new.tallies
+    c.args.account.now c.account.view_is c.as_mut_slice-tallies.ensures.value
     place c.close_end-answer.new.self c.close_end-answer.result c.args.e (end_tests place.state (value_at c.args.e place.blocks)) c.close_end-answer.ensures.closed)

@@ -11,5 +11,6 @@ returns-clause-account g c =
     let place = c.args.self.now.place in
     subst (λ (ts : List TallyOf). HasReclaimed c.args.account.now (account_of c.account.inside.number ts) c.stop-answer.result)
     (sym (with_items_is c.account.inside.tallies c.stop-answer.new.tallies (search (rules, places))))
-    (stopped c.account.inside.number c.account.inside.tallies.items c.as_mut_slice-tallies.result.now c.stop-answer.new.tallies c.args.account.now c.account.view_is c.as_mut_slice-tallies.ensures.value
+    (stopped c.account.inside.number c.account.inside.tallies.items c.as_mut_slice-tallies.result.now c.stop-answer.new.tallies
+    c.args.account.now c.account.view_is c.as_mut_slice-tallies.ensures.value
     place c.stop-answer.new.self c.stop-answer.result c.args.budget (stop_tests place.state) c.stop-answer.ensures.stopped)

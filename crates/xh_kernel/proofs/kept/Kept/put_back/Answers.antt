@@ -1,8 +1,8 @@
-use Rattle.std.proofs.Common.{rules, ◌≡◌, ◌≤◌, ◌∷◌, ◌++◌, [], length, Option, Some, sym, ap, ◌∙◌, subst}
+use Rattle.std.proofs.Common.{◌≡◌, ◌≤◌, ◌∷◌, ◌++◌, [], length, Option, Some, ap, ◌∙◌, subst}
 use Rattle.std.specs.Prelude.{slice_get, MatchOption}
 use Rattle.std.proofs.lemmas.List.{map_push}
 use Rattle.xh_arena.specs.Views.{VaultOf}
-use Rattle.xh_kernel.specs.Parts.{vault_names, IsOpen}
+use Rattle.xh_kernel.specs.Parts.{IsOpen}
 use Rattle.xh_kernel.proofs.Taking.{take_more}
 use Rattle.xh_kernel.proofs.kept.Kept.put_back.Goals as goal
 

@@ -1,5 +1,5 @@
-use Rattle.std.proofs.Common.{rules, ◌≡◌, ℕ, sym, subst, inr}
-use Rattle.std.specs.Prelude.{Err, Result, is_some}
+use Rattle.std.proofs.Common.{rules, ◌≡◌, sym, subst, inr}
+use Rattle.std.specs.Prelude.{Err, is_some}
 use Rattle.xh_kernel.specs.Channels.{Wires}
 use Rattle.xh_kernel.specs.Places.{start}
 use Rattle.xh_kernel.proofs.Wired.{neither, second, wired}

@@ -1,4 +1,4 @@
-use Rattle.std.proofs.Common.{All, ap, ◌∙◌, subst}
+use Rattle.std.proofs.Common.{All, ◌∙◌, subst}
 use Rattle.xh_kernel.specs.Parts.{IsOpen}
 use Rattle.xh_kernel.proofs.kernel.Kernel.new.Goals as goal
 

@@ -1,4 +1,4 @@
-use Rattle.std.proofs.Common.{rules, ◌≡◌, ℕ}
+use Rattle.std.proofs.Common.{rules, ℕ}
 use Rattle.xh_kernel.proofs.Lists.{each_push}
 use Rattle.xh_place.specs.Places.{IsPlaceOf, PlaceOf}
 use Rattle.xh_kernel.proofs.kernel.settling.unlock_places.Goals as goal

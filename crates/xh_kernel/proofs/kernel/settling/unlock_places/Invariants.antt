@@ -1,6 +1,6 @@
 use Rattle.std.proofs.Common.{◌≡◌, ◌+◌, All, vec_len}
 use Rattle.xh_place.specs.Places.{IsPlaceOf}
-use Rattle.std.specs.Vec.Iter.{into_iter_items, into_iter_len}
+use Rattle.std.specs.Vec.Iter.{into_iter_len}
 use Rattle.xh_kernel.proofs.kernel.settling.unlock_places.Given as goal
 
 abbrev pub invariant-loop-lock : goal.invariant-loop-lock

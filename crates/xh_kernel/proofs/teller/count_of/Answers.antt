@@ -1,6 +1,6 @@
 use Rattle.std.proofs.Common.{rules, ◌≡◌, ◌≤◌, length, ap, ◌∙◌}
 use Rattle.xh_kernel.proofs.Last.{long_headers}
-use Rattle.xh_kernel.proofs.held.count_of.Goals as goal
+use Rattle.xh_kernel.proofs.teller.count_of.Goals as goal
 
 pub overflow_cast-result : goal.overflow_cast-result
 overflow_cast-result c =

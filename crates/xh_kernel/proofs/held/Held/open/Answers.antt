@@ -1,0 +1,8 @@
+use Rattle.xh_kernel.proofs.Listed.{listed}
+use Rattle.xh_kernel.proofs.held.Held.open.Goals as goal
+
+pub returns-clause-ends : goal.returns-clause-ends
+returns-clause-ends g c =
+    listed c.list_ends-opened.result c.finish.result c.in_ok-low.low c.in_ok-low.high c.args.self.now.place
+    c.list_ends-opened.new.place c.args.arena c.as_mut_slice-tallies.result.now c.list_ends-opened.new.tallies
+    c.in_ok-test_open.ensures.1 c.list_ends-opened.ensures.opened c.list_ends-opened.ensures.ends c.finish.ensures
