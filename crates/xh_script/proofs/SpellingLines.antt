@@ -1,10 +1,11 @@
 -- What a line is read as is spelled by its words.
-use Rattle.std.proofs.Common.{◌≡◌, ◌⊎◌, ◌+◌, inl, inr, ℕ, Bool, true, false, List, [], ◌∷◌, length, map, Result, Ok, Err, refl, sym, ap, ◌∙◌, subst, if◌then◌else◌}
+use Rattle.std.proofs.Common.{◌≡◌, ◌⊎◌, ◌+◌, inl, inr, ℕ, Bool, true, false, List, [], ◌∷◌, length, map, Result, Ok, Err, not, refl, sym, ap, ◌∙◌, subst, if◌then◌else◌}
 use Rattle.std.specs.Str.{bytes_eq}
 use Rattle.std.specs.List.{list_all}
 use Rattle.std.proofs.lemmas.Slice.Eq.{bytes_eq-Decides}
+use Rattle.std.proofs.lemmas.Bool.{and_parts, not-true}
 use Rattle.xh_script.specs.Sorts.{name_at}
-use Rattle.xh_script.specs.Forms.{shape, has_count, is_head, form_text, has_text, verb_at}
+use Rattle.xh_script.specs.Forms.{shape, has_count, is_head, form_text, has_text, form_among, verbs, verb_at}
 use Rattle.xh_script.specs.Grammar.{words_from, said, head_line, verb_line, is_filled, line_by, said_by}
 use Rattle.xh_script.specs.Spelling.{word_text, behind_first, spelled}
 use Rattle.xh_script.proofs.SpellingWords.{bind_ok, same_ok, guarded, name_ok, words_ok}
@@ -12,7 +13,7 @@ use Rattle.xh_script.specs.declared.fault.Kind.{Kind}
 use Rattle.xh_script.specs.declared.fault.Kind.TheVariants.{BadWord, BadCount}
 use Rattle.xh_script.specs.declared.command.Command.{Command}
 use Rattle.xh_script.specs.declared.form.Form.{Form}
-use Rattle.xh_script.specs.declared.form.Form.TheVariants.{Contract, Process, Wire, Open, Alloc, Split, Read, Write, Give, Take, Await, Free, Close, Exit, Kill, Glance, Again}
+use Rattle.xh_script.specs.declared.form.Form.TheVariants.{Contract, Process, Wire}
 
 chosen : {A : Type 0} (b : Bool) (x y z : A) → (if b then x else y) ≡ z → ((b ≡ true) × (x ≡ z)) ⊎ ((b ≡ false) × (y ≡ z))
 chosen true x y z h = inl (refl, h)
@@ -25,21 +26,19 @@ same_bytes a b h = (bytes_eq-Decides a b).0 h
 abbrev IsVerb : List ℕ → Form → Type 0
 IsVerb word form = (word ≡ form_text form) × (is_head form ≡ false)
 
--- one verb was tried: it is that one, or what is found behind it is a verb
-one_verb : (word : List ℕ) (tried form : Form) (more : Result Form Kind) → is_head tried ≡ false → (if has_text word tried then Ok tried else more) ≡ Ok form
-    → (more ≡ Ok form → IsVerb word form) → IsVerb word form
-one_verb word tried form more plain h rest = elim (chosen (has_text word tried) (Ok tried) more (Ok form) h) [
-  | inl k ↦ subst (λ f. IsVerb word f) (same_ok tried form k.1) (same_bytes word (form_text tried) k.0, plain)
-  | inr k ↦ rest k.1
-]
+-- a form that is found among some, none of them a head's
+form_found : (forms : List Form) (word : List ℕ) (form : Form) → list_all (λ f. not (is_head f)) forms ≡ true → form_among forms word ≡ Ok form → IsVerb word form
+form_found [] word form plain h = absurd (cc)
+form_found (tried ∷ forms) word form plain h =
+    let p = and_parts _ _ plain in
+    elim (chosen (has_text word tried) (Ok tried) (form_among forms word) (Ok form) h) [
+      | inl k ↦ subst (λ f. IsVerb word f) (same_ok tried form k.1) (same_bytes word (form_text tried) k.0, not-true (is_head tried) p.0)
+      | inr k ↦ form_found forms word form p.1 k.1
+    ]
 
 verb_ok : (word : List ℕ) (form : Form) → verb_at word ≡ Ok form → IsVerb word form
 unfolding verb_at
-verb_ok word v h =
-    one_verb word Open v _ refl h (λ h1. one_verb word Alloc v _ refl h1 (λ h2. one_verb word Split v _ refl h2 (λ h3. one_verb word Read v _ refl h3 (λ h4.
-    one_verb word Write v _ refl h4 (λ h5. one_verb word Give v _ refl h5 (λ h6. one_verb word Take v _ refl h6 (λ h7. one_verb word Await v _ refl h7 (λ h8.
-    one_verb word Free v _ refl h8 (λ h9. one_verb word Close v _ refl h9 (λ h10. one_verb word Exit v _ refl h10 (λ h11. one_verb word Kill v _ refl h11 (λ h12.
-    one_verb word Glance v _ refl h12 (λ h13. one_verb word Again v (Err BadWord) refl h13 (λ h14. absurd (cc)))))))))))))))
+verb_ok word form h = form_found verbs word form refl h
 
 -- a command has its form, and its words are their texts
 parts_ok : (form : Form) (first : List ℕ) (words : List (List ℕ)) (c : Command (List ℕ)) → said form first words ≡ Ok c → (c.form ≡ form) × (first ∷ words ≡ map word_text c.words.items)

@@ -100,21 +100,15 @@ declares _ = false
 abbrev pub has_text : List ℕ → Form → Bool
 has_text word form = bytes_eq word (form_text form)
 
+-- the forms whose lines begin with a process, and their own word, a verb, behind it
+abbrev pub verbs : List Form
+verbs = Open ∷ Alloc ∷ Split ∷ Read ∷ Write ∷ Give ∷ Take ∷ Await ∷ Free ∷ Close ∷ Exit ∷ Kill ∷ Glance ∷ Again ∷ []
+
+-- the first of these forms whose own word this is
+abbrev pub form_among : List Form → List ℕ → Result Form Kind
+form_among [] word = Err BadWord
+form_among (form ∷ forms) word = if has_text word form then Ok form else form_among forms word
+
 -- the form that a verb has
 unfoldable pub verb_at : List ℕ → Result Form Kind
-verb_at word =
-    if has_text word Open then Ok Open
-    else if has_text word Alloc then Ok Alloc
-    else if has_text word Split then Ok Split
-    else if has_text word Read then Ok Read
-    else if has_text word Write then Ok Write
-    else if has_text word Give then Ok Give
-    else if has_text word Take then Ok Take
-    else if has_text word Await then Ok Await
-    else if has_text word Free then Ok Free
-    else if has_text word Close then Ok Close
-    else if has_text word Exit then Ok Exit
-    else if has_text word Kill then Ok Kill
-    else if has_text word Glance then Ok Glance
-    else if has_text word Again then Ok Again
-    else Err BadWord
+verb_at word = form_among verbs word

@@ -66,6 +66,14 @@ impl Model for Shape {
     ghost view = { λ s. record { words = s.words.now; more = s.more; least = s.least; most = s.most } };
 }
 
+const PROCESS: Sort = Sort::Process;
+
+const BLOCK: Sort = Sort::Block;
+
+const CONTRACT: Sort = Sort::Contract;
+
+const BYTES: Sort = Sort::Bytes;
+
 const NUMBER: Sort = Sort::Number {
     least: 0,
     most: 4_294_967_295,
@@ -90,7 +98,7 @@ const BUDGET: Sort = Sort::Number {
 fn just(words: &'static [Sort]) -> Shape
     ensures { result ≡ just words.now }
 {
-    and_more(words, Sort::Block, 0, 0)
+    and_more(words, BLOCK, 0, 0)
 }
 
 /// These words, and then some more.
@@ -113,52 +121,26 @@ impl Form {
         ensures fits { (length (shape self).words + (shape self).most ≤ MAX_WORDS) × ((shape self).least ≤ (shape self).most) }
     {
         match self {
-            Form::Contract => and_more(&[Sort::Contract], Sort::Row, 1, MAX_ROWS),
-            Form::Process => just(&[Sort::Process]),
-            Form::Wire => and_more(
-                &[
-                    Sort::Process,
-                    Sort::Block,
-                    Sort::Process,
-                    Sort::Block,
-                    NUMBER,
-                ],
-                Sort::Contract,
-                0,
-                1,
-            ),
-            Form::Open => and_more(
-                &[Sort::Process, Sort::Block, Sort::Block, NUMBER],
-                Sort::Contract,
-                0,
-                1,
-            ),
-            Form::Alloc => just(&[Sort::Process, Sort::Block, NUMBER, NUMBER]),
-            Form::Split => just(&[Sort::Process, Sort::Block, NUMBER, Sort::Block]),
-            Form::Read => just(&[Sort::Process, Sort::Block, NUMBER, LEN]),
-            Form::Write => just(&[Sort::Process, Sort::Block, NUMBER, Sort::Bytes]),
-            Form::Give => and_more(
-                &[Sort::Process, Sort::Block, TAG],
-                Sort::Block,
-                0,
-                MAX_GIVEN,
-            ),
-            Form::Take | Form::Await => and_more(
-                &[Sort::Process, Sort::Block],
-                Sort::Block,
-                0,
-                MAX_BLOCKS,
-            ),
-            Form::Free | Form::Close => just(&[Sort::Process, Sort::Block]),
-            Form::Exit => and_more(&[Sort::Process], BUDGET, 0, 1),
-            Form::Kill => and_more(&[Sort::Process, Sort::Process], BUDGET, 0, 1),
-            Form::Glance => just(&[Sort::Process, Sort::Process]),
-            Form::Again => just(&[Sort::Process]),
+            Form::Contract => and_more(&[CONTRACT], Sort::Row, 1, MAX_ROWS),
+            Form::Process => just(&[PROCESS]),
+            Form::Wire => and_more(&[PROCESS, BLOCK, PROCESS, BLOCK, NUMBER], CONTRACT, 0, 1),
+            Form::Open => and_more(&[PROCESS, BLOCK, BLOCK, NUMBER], CONTRACT, 0, 1),
+            Form::Alloc => just(&[PROCESS, BLOCK, NUMBER, NUMBER]),
+            Form::Split => just(&[PROCESS, BLOCK, NUMBER, BLOCK]),
+            Form::Read => just(&[PROCESS, BLOCK, NUMBER, LEN]),
+            Form::Write => just(&[PROCESS, BLOCK, NUMBER, BYTES]),
+            Form::Give => and_more(&[PROCESS, BLOCK, TAG], BLOCK, 0, MAX_GIVEN),
+            Form::Take | Form::Await => and_more(&[PROCESS, BLOCK], BLOCK, 0, MAX_BLOCKS),
+            Form::Free | Form::Close => just(&[PROCESS, BLOCK]),
+            Form::Exit => and_more(&[PROCESS], BUDGET, 0, 1),
+            Form::Kill => and_more(&[PROCESS, PROCESS], BUDGET, 0, 1),
+            Form::Glance => just(&[PROCESS, PROCESS]),
+            Form::Again => just(&[PROCESS]),
         }
     }
 
     /// Whether its lines stand ahead of all others.
-    pub(crate) fn is_head(self) -> bool
+    pub fn is_head(self) -> bool
         ensures { result ≡ is_head self }
     {
         matches!(self, Form::Contract | Form::Process | Form::Wire)
