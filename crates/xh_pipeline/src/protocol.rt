@@ -1,0 +1,33 @@
+//! What the processes of the pipeline agree on.
+
+/// The bytes of a block.
+pub(crate) const BLOCK: u32 = 64 * 1024;
+
+/// How many rounds there are, and how many blocks a round has. The producer waits for each round's end.
+pub(crate) const ROUNDS: u8 = 16;
+
+pub(crate) const EACH: u8 = 4;
+
+/// The first stage hangs at the block after so many.
+pub(crate) const LIMIT: u32 = 32;
+
+/// What each stage adds to the first byte of a block.
+pub(crate) const MARK: u8 = 64;
+
+/// The tags of messages. A block on its way; blocks before this message may be missing; no block
+/// comes after it.
+pub(crate) const DATA: u16 = 0;
+
+pub(crate) const LOST: u16 = 1;
+
+pub(crate) const END: u16 = 2;
+
+/// The sink's answers: the round came whole; it has to be made again.
+pub(crate) const WHOLE: u16 = 3;
+
+pub(crate) const AGAIN: u16 = 4;
+
+/// Between the supervisor and the others: here are endpoints; this process goes no further.
+pub(crate) const ENDS: u16 = 5;
+
+pub(crate) const HUNG: u16 = 6;
