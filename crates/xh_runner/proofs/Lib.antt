@@ -1,3 +1,4 @@
 pub mod Ends
 pub mod Bindings
 pub mod Worlds
+pub mod Lines

@@ -1,7 +1,10 @@
 pub mod Reading
 pub mod Bindings
 pub mod Machines
+pub mod Jobs
 pub mod Meaning
 pub mod Worlds
 pub mod Output
 pub mod Runs
+pub mod Reports
+pub mod Reported

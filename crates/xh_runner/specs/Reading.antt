@@ -1,5 +1,5 @@
 -- Reading the bytes of a script.
-use Rattle.std.specs.Prelude.{◌≡◌, ◌≤◌, ℕ, List, length, Option}
+use Rattle.std.specs.Prelude.{◌≤◌, ℕ, List, length, Option}
 use Rattle.std.specs.Io.KnownBytes.{Consumes, IsAtEnd}
 use Rattle.xh_script.specs.declared.limits.TheConstants.{MAX_SCRIPT}
 use Rattle.xh_script.specs.declared.watch.Watched.{Watched}

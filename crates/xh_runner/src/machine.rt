@@ -9,6 +9,7 @@ ghost use Rattle.xh_core.specs.EndingCommands.{close, exit, kill};
 ghost use Rattle.xh_runner.specs.Machines.{Does, DoesOrLacks, receives};
 
 mod serial;
+pub(crate) mod worker;
 
 use crate::received::Received;
 use std::alloc::Global;

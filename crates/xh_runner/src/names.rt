@@ -7,6 +7,7 @@ ghost use Rattle.std.specs.Prelude.{slice_index_or, slice_set};
 ghost use Rattle.xh_model.specs.declared.limits.TheConstants.{PLACES};
 ghost use Rattle.xh_script.specs.declared.limits.TheConstants.{MAX_WORDS, MAX_BLOCK_NAMES};
 ghost use Rattle.xh_script.specs.Operands.{name_in};
+ghost use Rattle.xh_runner.specs.Reports.{process_at};
 ghost use Rattle.xh_runner.specs.declared.names.TheConstants.{NOTHING};
 
 use arrayvec::ArrayVec;
@@ -218,6 +219,38 @@ impl Names {
         ensures { result ≡ has_place self.now process }
     {
         self.number(process) != NOTHING
+    }
+
+    /// The process that has a place, where one has it.
+    pub(crate) fn process_at(&self, place: u8) -> Option<u8>
+        ensures { result ≡ process_at self.now place }
+    {
+        let process = *self.latest.get(usize::from(place))?;
+        if self.number(process) == u16::from(place) {
+            Some(process)
+        } else {
+            None
+        }
+    }
+
+    /// What the names stand for, once more.
+    pub(crate) fn copy(&self, alloc: Global) -> Result<Names, AllocError>
+        ensures { IfOk result (λ names. names ≡ self.now) }
+    {
+        Ok(Names {
+            numbers: Vec::from_slice(alloc, &self.numbers)?,
+            latest: Vec::from_slice(alloc, &self.latest)?,
+            records: Vec::from_slice(alloc, &self.records)?,
+        })
+    }
+
+    /// The names of processes stand for the numbers that they stand for elsewhere.
+    pub(crate) fn follow(&mut self, others: &Names)
+        ensures { length self.old.numbers ≡ length others.now.numbers → self.new ≡ record self.old { numbers = others.now.numbers } }
+    {
+        if self.numbers.len() == others.numbers.len() {
+            self.numbers.copy_from_slice(&others.numbers);
+        }
     }
 
     /// The record of a block's name, or `NOTHING` where it is bound to none.

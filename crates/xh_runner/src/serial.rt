@@ -29,7 +29,7 @@ fn new_machine(alloc: Global, config: Config) -> Result<Serial, Fault>
 }
 
 /// Writes the replies, and then the ledger.
-fn write_output<W: Write>(
+pub(crate) fn write_output<W: Write>(
     writer: &mut Watched<W>,
     answers: &[Answered],
     ledger: &Ledger,

@@ -50,6 +50,43 @@ impl<'a, M: Machine> Session<'a, M> {
         })
     }
 
+    /// A machine with what the names of a script stand for, and the script's contracts.
+    pub(crate) fn with_names(machine: M, names: Names, contracts: &'a [Contract]) -> Session<'a, M>
+        ensures { world_of M.state result ≡ record { machine = M.state machine; names = names; contracts = contracts.entry.now } }
+    {
+        Session {
+            machine,
+            names,
+            contracts,
+        }
+    }
+
+    /// What the names stand for.
+    pub(crate) fn names(&self) -> &Names
+        ensures { result.now ≡ (world_of M.state self.now).names }
+    {
+        &self.names
+    }
+
+    /// The names of processes stand for the numbers that they stand for elsewhere.
+    pub(crate) fn follow(&mut self, others: &Names)
+        ensures { length self.old.names.numbers ≡ length others.now.numbers → self.new ≡ record self.old { names = record self.old.names { numbers = others.now.numbers } } }
+    {
+        self.names.follow(others);
+    }
+
+    /// The machine, and what the names stand for.
+    pub(crate) fn into_parts(self) -> (M, Names)
+        ensures { (result.0 ≡ self.entry.machine) × (result.1 ≡ self.entry.names) }
+    {
+        let Session {
+            machine,
+            names,
+            contracts: _,
+        } = self;
+        (machine, names)
+    }
+
     /// Does a command; its words stand where the form's row of the table has them. Where memory is
     /// refused, the reply says so.
     #[tactic(auto, unfolding(crate::specs::Meaning::step_by))]

@@ -82,6 +82,15 @@ config_in rows = record {
 abbrev pub options_of : List Text → Config
 options_of words = config_in (matches_of command_line words)
 
+-- `--serial` is among what was found exactly where the flag is up
+abbrev pub Serially : List Row → Bool → Type 0
+Serially rows flag = (one_of (codes "serial") rows ≡ Some (codes "true") → flag ≡ true)
+    × (one_of (codes "serial") rows ≡ Some (codes "false") → flag ≡ false)
+    × (one_of (codes "serial") rows ≡ None → flag ≡ false)
+
+abbrev pub serially : List Text → Bool → Type 0
+serially words = Serially (matches_of command_line words)
+
 -- ---- which words say what
 
 -- the command line takes the words

@@ -27,5 +27,5 @@ fn main(rt: HostRuntime) -> ExitCode {
         return ExitCode::from(fault::out_of_memory(&mut err));
     };
     let mut out = Watched::new(buffer);
-    ExitCode::from(run::run_main(alloc, &words, &mut input, &mut out, &mut err))
+    ExitCode::from(run::run_main(&rt, alloc, &words, &mut input, &mut out, &mut err))
 }

@@ -2,7 +2,7 @@
 ghost use Rattle.std.specs.Prelude.{◌≡◌, IfOk};
 ghost use Rattle.clap.specs.Words.{FailsBy, app_of, fault_of, found_of, matches_of, rows_of};
 ghost use Rattle.xheap.specs.Options as spec;
-ghost use Rattle.xheap.specs.Options.{HasRule, command_line, config_in, options_of, texts_of, valued};
+ghost use Rattle.xheap.specs.Options.{HasRule, Serially, command_line, config_in, options_of, serially, texts_of, valued};
 
 use clap::builder::ValueParser;
 use clap::{Arg, ArgAction, ArgMatches, Command, Error};
@@ -132,12 +132,30 @@ fn limits(matches: &ArgMatches) -> Config
     }
 }
 
-/// The limits that the words ask for; the first word is the program's own name. An error is clap's
+/// What the words ask for: the limits, and whether the commands are to be done one by one.
+#[derive(Drop)]
+pub(crate) struct Options {
+    pub(crate) config: Config,
+    pub(crate) serial: bool,
+}
+
+/// Whether `--serial` was found.
+fn is_serial(matches: &ArgMatches) -> bool
+    ensures { Serially (rows_of (found_of matches.now)) result }
+{
+    matches.get_flag("serial")
+}
+
+/// What the words ask for; the first word is the program's own name. An error is clap's
 /// text, or want of memory.
-pub(crate) fn config_of<'a>(alloc: Global, words: &'a [String]) -> Result<Config, Error>
-    ensures config { IfOk result (λ config. config ≡ options_of (texts_of words.entry.now)) }
+pub(crate) fn options_of<'a>(alloc: Global, words: &'a [String]) -> Result<Options, Error>
+    ensures config { IfOk result (λ options. options.config ≡ options_of (texts_of words.entry.now)) }
+    ensures serial { IfOk result (λ options. serially (texts_of words.entry.now) options.serial) }
     ensures fault { FailsBy (fault_of command_line (texts_of words.entry.now)) result }
 {
     let matches = matched(alloc, words)?;
-    Ok(limits(&matches))
+    Ok(Options {
+        config: limits(&matches),
+        serial: is_serial(&matches),
+    })
 }

@@ -3,17 +3,20 @@ ghost use Rattle.std.specs.Prelude.{IfErr, OnOk};
 ghost use Rattle.clap.specs.Values.{kind_of};
 ghost use Rattle.xh_runner.specs.Runs.{Meant, Failed};
 ghost use Rattle.xheap.specs.Options.{texts_of};
-ghost use Rattle.xheap.specs.Status.{Ended, Explained, Ran};
+ghost use Rattle.xh_runner.specs.Reported.{Reported, Stopped};
+ghost use Rattle.xheap.specs.Status.{Ended, Explained, RanBy};
 
 use crate::fault::{DONE, WORDS, out_of_memory, report};
-use crate::options::config_of;
+use crate::options::{Options, options_of};
 use clap::Error;
 use clap::error::ErrorKind;
 use std::alloc::Global;
 use std::io::{Read, Write};
+use std::sync::Wait;
+use std::thread::Threads;
 use xh_core::Config;
 use xh_model::limits::UNIT;
-use xh_runner::run_serial;
+use xh_runner::{run_parallel, run_serial};
 use xh_script::{Fault, Watched};
 
 /// Writes a text, as far as the writer takes it.
@@ -67,17 +70,38 @@ fn run_to_end<R: Read, W: Write>(
     out.flush()
 }
 
-/// Runs the script that the reader gives, with these limits.
-fn run<R: Read, W: Write, E: Write>(
+/// The same, each process on a thread of its own.
+fn run_threads_to_end<T: Threads + Wait + Sync, R: Read, W: Write>(
+    rt: &T,
     alloc: Global,
     config: Config,
     reader: &mut Watched<R>,
     out: &mut Watched<W>,
+) -> Result<(), Fault>
+    ensures ok { OnOk result (Reported R.remaining W.contents config reader.old reader.new out.old out.new) }
+    ensures err { IfErr result (Stopped R.remaining W.contents config reader.old reader.new out.old out.new) }
+{
+    run_parallel(rt, alloc, reader, out, config)?;
+    out.flush()
+}
+
+/// Runs the script that the reader gives, as the options ask.
+fn run<T: Threads + Wait + Sync, R: Read, W: Write, E: Write>(
+    rt: &T,
+    alloc: Global,
+    options: Options,
+    reader: &mut Watched<R>,
+    out: &mut Watched<W>,
     err: &mut E,
 ) -> u8
-    ensures { Ran R.remaining W.contents config reader.old reader.new out.old out.new result }
+    ensures { RanBy R.remaining W.contents options.serial options.config reader.old reader.new out.old out.new result }
 {
-    match run_to_end(alloc, config, reader, out) {
+    let ended = if options.serial {
+        run_to_end(alloc, options.config, reader, out)
+    } else {
+        run_threads_to_end(rt, alloc, options.config, reader, out)
+    };
+    match ended {
         Ok(()) => DONE,
         Err(fault) => report(fault, err),
     }
@@ -86,7 +110,8 @@ fn run<R: Read, W: Write, E: Write>(
 /// The program: its words (the first is its own name), its input and its outputs; the answer is its
 /// status. A fault of `err` is passed over, and so is one of `out` while help or the version is
 /// printed.
-pub(crate) fn run_main<R: Read, W: Write, E: Write>(
+pub(crate) fn run_main<T: Threads + Wait + Sync, R: Read, W: Write, E: Write>(
+    rt: &T,
     alloc: Global,
     words: &[String],
     reader: &mut Watched<R>,
@@ -95,12 +120,12 @@ pub(crate) fn run_main<R: Read, W: Write, E: Write>(
 ) -> u8
     ensures { Ended R.remaining W.contents (texts_of words.now) reader.old reader.new out.old out.new result }
 {
-    match config_of(alloc, words) {
+    match options_of(alloc, words) {
         Err(error) => explained(alloc, &error, out, err),
-        Ok(config) if config.bytes % UNIT != 0 => {
+        Ok(options) if options.config.bytes % UNIT != 0 => {
             let _ = err.write_all(b"xheap: --bytes must be a multiple of 16\n");
             WORDS
         }
-        Ok(config) => run(alloc, config, reader, out, err),
+        Ok(options) => run(rt, alloc, options, reader, out, err),
     }
 }

@@ -5,7 +5,9 @@ use std::alloc::Global;
 use std::io;
 use std::io::{Read, Write};
 use std::process::Abort;
+use std::sync::Wait;
 use std::test::Fail;
+use std::thread::Threads;
 use xh_script::Watched;
 
 /// A reader that fails, and a writer that fails.
@@ -53,7 +55,7 @@ fn words_of(alloc: Global, options: &[&str]) -> Result<Vec<String>, Fail> {
 
 /// With these options the script ends with this status and prints this.
 fn ends(
-    rt: &impl Abort,
+    rt: &(impl Abort + Threads + Wait + Sync),
     alloc: Global,
     options: &[&str],
     script: &str,
@@ -67,7 +69,7 @@ fn ends(
     let mut out = Vec::new(alloc);
     let mut writer = Watched::new(&mut out);
     let mut err = Vec::new(alloc);
-    let ended = run_main(alloc, &words, &mut reader, &mut writer, &mut err);
+    let ended = run_main(rt, alloc, &words, &mut reader, &mut writer, &mut err);
     assert!(rt; ended == status, "status {ended}");
     let printed = out.as_slice();
     assert!(rt; printed == wanted.as_bytes());
@@ -77,13 +79,17 @@ fn ends(
 }
 
 /// With these words no script is read, nothing is printed, and something is reported.
-fn is_refused(rt: &impl Abort, alloc: Global, options: &[&str]) -> Result<(), Fail> {
+fn is_refused(
+    rt: &(impl Abort + Threads + Wait + Sync),
+    alloc: Global,
+    options: &[&str],
+) -> Result<(), Fail> {
     let words = words_of(alloc, options)?;
     let mut reader = Watched::new(Broken);
     let mut out = Vec::new(alloc);
     let mut writer = Watched::new(&mut out);
     let mut err = Vec::new(alloc);
-    let ended = run_main(alloc, &words, &mut reader, &mut writer, &mut err);
+    let ended = run_main(rt, alloc, &words, &mut reader, &mut writer, &mut err);
     assert!(rt; ended == 2, "status {ended}");
     assert!(rt; out.is_empty());
     assert!(rt; !err.is_empty());
@@ -104,6 +110,44 @@ fn first_alloc(rt: HostRuntime) -> Result<(), Fail> {
         FIRST,
         0,
         FIRST_OUTPUT,
+        "",
+    )
+}
+
+/// Without `--serial` each process has a thread.
+#[test]
+fn first_alloc_on_threads(rt: HostRuntime) -> Result<(), Fail> {
+    ends(
+        &rt,
+        rt.alloc(),
+        &["--bytes", "256"],
+        FIRST,
+        0,
+        FIRST_OUTPUT,
+        "",
+    )
+}
+
+/// Both ends wait for each other's message, which the serial machine answers with Empty.
+#[test]
+fn await_waits_on_threads(rt: HostRuntime) -> Result<(), Fail> {
+    ends(
+        &rt,
+        rt.alloc(),
+        &["--bytes", "256"],
+        "process a\nprocess b\nwire a e b f 0\nb await f\na give e 7\n",
+        0,
+        "1 ok 0\n\
+         2 ok 1\n\
+         3 ok\n\
+         4 ok 1 7\n\
+         5 ok 1\n\
+         arena 0 256 64 1 64 0\n\
+         process a running 1 32\n\
+         process b running 1 32\n\
+         owned 64\n\
+         flight 0\n\
+         out 64\n",
         "",
     )
 }
@@ -189,6 +233,7 @@ fn script_faults(rt: HostRuntime) -> Result<(), Fail> {
             "",
             report,
         )?;
+        ends(&rt, rt.alloc(), &["--bytes", "256"], script, 1, "", report)?;
     }
     Ok(())
 }
@@ -222,13 +267,17 @@ fn refused_words(rt: HostRuntime) -> Result<(), Fail> {
 }
 
 /// With this word something is printed, and no script is read.
-fn is_printed(rt: &impl Abort, alloc: Global, word: &str) -> Result<(), Fail> {
+fn is_printed(
+    rt: &(impl Abort + Threads + Wait + Sync),
+    alloc: Global,
+    word: &str,
+) -> Result<(), Fail> {
     let words = words_of(alloc, &[word])?;
     let mut reader = Watched::new(Broken);
     let mut out = Vec::new(alloc);
     let mut writer = Watched::new(&mut out);
     let mut err = Vec::new(alloc);
-    let ended = run_main(alloc, &words, &mut reader, &mut writer, &mut err);
+    let ended = run_main(rt, alloc, &words, &mut reader, &mut writer, &mut err);
     assert!(rt; ended == 0);
     assert!(rt; !out.is_empty());
     assert!(rt; err.is_empty());
@@ -244,7 +293,7 @@ fn help_and_version_are_printed(rt: HostRuntime) -> Result<(), Fail> {
 
 /// With these words on a full device: the status, and what is reported.
 fn on_a_full_device<W: Write + Drop>(
-    rt: &impl Abort,
+    rt: &(impl Abort + Threads + Wait + Sync),
     alloc: Global,
     device: W,
     options: &[&str],
@@ -256,7 +305,7 @@ fn on_a_full_device<W: Write + Drop>(
     let mut reader = Watched::new(&mut input);
     let mut full = Watched::new(device);
     let mut err = Vec::new(alloc);
-    let ended = run_main(alloc, &words, &mut reader, &mut full, &mut err);
+    let ended = run_main(rt, alloc, &words, &mut reader, &mut full, &mut err);
     assert!(rt; ended == status, "status {ended}");
     let text = err.as_slice();
     assert!(rt; text == report.as_bytes());
@@ -271,6 +320,7 @@ fn full_devices(rt: HostRuntime) -> Result<(), Fail> {
     on_a_full_device(&rt, alloc, Broken, &["--help"], 0, "")?;
     on_a_full_device(&rt, alloc, Broken, &["--version"], 0, "")?;
     on_a_full_device(&rt, alloc, Broken, &["--serial"], 4, failed)?;
+    on_a_full_device(&rt, alloc, Broken, &[], 4, failed)?;
     on_a_full_device(&rt, alloc, Unflushed, &["--help"], 0, "")?;
     on_a_full_device(&rt, alloc, Unflushed, &["--serial"], 4, failed)
 }
@@ -300,6 +350,7 @@ fn reader_fails(rt: HostRuntime) -> Result<(), Fail> {
     let mut err = Vec::new(alloc);
     let mut broken = Watched::new(Broken);
     let ended = run_main(
+        &rt,
         alloc,
         &words,
         &mut broken,

@@ -1,4 +1,4 @@
-use Rattle.std.proofs.Common.{◌+◌, ◌++◌, refl, arith, rules, length}
+use Rattle.std.proofs.Common.{◌++◌, refl, rules, length}
 use Rattle.xh_runner.proofs.Ends.{Consumes-then, length_both}
 use Rattle.xh_runner.proofs.input.read_text.Goals as goal
 

@@ -1,0 +1,17 @@
+use Rattle.std.proofs.Common.{◌≡◌, ℕ, All, IfOk, Result, Ok, Err, length, subst, ◌∙◌}
+use Rattle.xh_kernel.specs.Parts.{PartsOf}
+use Rattle.xh_model.specs.declared.config.Config.{Config}
+use Rattle.xh_script.specs.declared.fault.Fault.{Fault}
+use Rattle.xh_runner.specs.Reports.{HasArenas}
+use Rattle.xh_runner.specs.declared.threads.Report.{Report}
+use Rattle.xh_runner.proofs.threads.run_threads.Goals as goal
+
+has_arenas : (result : Result Report Fault) (config : Config) (parts : PartsOf)
+    → IfOk result (λ r. length r.ledger.arenas.items ≡ length parts.records.shape.names) → IfOk result (λ r. All (λ a. a.size ≡ parts.size) r.ledger.arenas.items)
+    → (parts.size ≡ config.bytes) × (length parts.records.shape.names ≡ config.arenas) → IfOk result (λ r. HasArenas config r.ledger)
+has_arenas (Ok r) config parts n s e = record { count = n ∙ e.1; sizes = subst (λ (k : ℕ). All (λ a. a.size ≡ k) r.ledger.arenas.items) e.0 s }
+has_arenas (Err e) config parts n s w = tt
+
+pub returns-clause-arenas : goal.returns-clause-arenas
+returns-clause-arenas g c =
+    has_arenas c.run_named.result c.args.config c.in_ok-parts.parts c.run_named.ensures.count c.run_named.ensures.sizes c.in_ok-parts.ensures.arenas

@@ -1,0 +1,109 @@
+//! A run of a script on threads, over a kernel that is made, used and settled here.
+ghost use Rattle.std.specs.Prelude.{◌≡◌, ◌<◌, ◌⊎◌, All, IfErr, IfOk, Err, length};
+ghost use Rattle.xh_books.specs.Ledgers.{IsBalanced};
+ghost use Rattle.xh_model.specs.Config.{IsConfig};
+ghost use Rattle.xh_model.specs.declared.limits.TheConstants.{MAX_WORKERS, PLACES};
+ghost use Rattle.xh_runner.specs.Reports.{AreAnswersTo, HasArenas};
+
+mod crew;
+mod job;
+mod replies;
+mod run;
+
+use crate::threads::run::{Outcome, run_script};
+use std::alloc::Global;
+use std::marker::Brand;
+use std::sync::Wait;
+use std::thread::Threads;
+use xh_books::close_books;
+use xh_core::{Config, Ledger, Refused};
+use xh_kernel::{Kernel, Names, Parts};
+use xh_model::limits::MAX_WORKERS;
+use xh_place::Gate;
+use xh_script::{Answered, Fault, Name, Script};
+
+/// What a run on threads answered: the replies in the order of the script, the ledger of the closed
+/// books, and the name of the latest process of each of the 32 places; one that nobody has had is called
+/// vacant, and the ledger has no line of it.
+#[derive(Drop)]
+pub struct Report {
+    pub answers: Vec<Answered>,
+    pub ledger: Ledger,
+    pub names: Vec<Name>,
+}
+
+fn new_parts(alloc: Global, config: Config) -> Result<Parts, Fault>
+    ensures workers { IfOk result (λ parts. parts.workers ≡ MAX_WORKERS) }
+    ensures arenas { IfOk result (λ parts. (parts.size ≡ config.bytes) × (length parts.records.shape.names ≡ config.arenas)) }
+    ensures config { ¬ IsConfig config → result ≡ Err Fault.BadConfig }
+    ensures refused { IfErr result (λ e. ((e ≡ Fault.BadConfig) × ¬ IsConfig config) ⊎ (e ≡ Fault.Memory)) }
+{
+    match Parts::new(alloc, config, MAX_WORKERS) {
+        Ok(parts) => Ok(parts),
+        Err(Refused::BadSize) => Err(Fault::BadConfig),
+        Err(_) => Err(Fault::Memory),
+    }
+}
+
+// Runs a script over a kernel that is made of the parts, settles it and closes its books.
+fn run_named<N: Names + Send + Sync, R: Threads + Wait + Sync, G: Gate + Sync>(
+    rt: &R,
+    alloc: Global,
+    parts: Parts,
+    script: &Script,
+    gate: &G,
+) -> Result<Report, Fault>
+    requires names { parts ≡ N.parts }
+    requires workers { parts.workers ≡ MAX_WORKERS }
+    ensures answers { IfOk result (λ r. AreAnswersTo script.now.lines.items r.answers.items) }
+    ensures count { IfOk result (λ r. length r.ledger.arenas.items ≡ length parts.records.shape.names) }
+    ensures sizes { IfOk result (λ r. All (λ a. a.size ≡ parts.size) r.ledger.arenas.items) }
+    ensures balanced { IfOk result (λ r. IsBalanced r.ledger) }
+    ensures names { IfOk result (λ r. (length r.names.items ≡ PLACES) × All (λ line. line.place < PLACES) r.ledger.places.items) }
+    ensures refused { IfErr result (λ e. (e ≡ Fault.Memory) ⊎ (e ≡ Fault.Gate)) }
+{
+    let Ok((kernel, accounts, looks)) = Kernel::<N>::new(alloc, parts) else {
+        return Err(Fault::Memory);
+    };
+    let Outcome {
+        answers,
+        names,
+        accounts,
+    } = run_script(rt, alloc, &kernel, accounts, looks, script, gate)?;
+    let Ok((vaults, places, records)) = kernel.settle(alloc) else {
+        return Err(Fault::Memory);
+    };
+    let Ok(ledger) = close_books(alloc, vaults, places, records, accounts) else {
+        return Err(Fault::Memory);
+    };
+    Ok(Report {
+        answers,
+        ledger,
+        names,
+    })
+}
+
+/// Runs a script on threads: the head lines in order, and then the commands of each process that has a
+/// place in a thread of its own; once all are joined the kernel is settled, and its books are closed.
+///
+/// BadConfig where the config is outside its limits; Memory where a growth outside the commands was
+/// refused, or a thread; Gate where the gate stopped a worker. A command that a growth was refused to has
+/// the reply OutOfMemory, and the run goes on. A script whose workers wait for messages that nobody gives
+/// doesn't end.
+pub fn run_threads<R: Threads + Wait + Sync, G: Gate + Sync>(
+    rt: &R,
+    alloc: Global,
+    script: &Script,
+    config: Config,
+    gate: &G,
+) -> Result<Report, Fault>
+    ensures answers { IfOk result (λ r. AreAnswersTo script.now.lines.items r.answers.items) }
+    ensures arenas { IfOk result (λ r. HasArenas config r.ledger) }
+    ensures balanced { IfOk result (λ r. IsBalanced r.ledger) }
+    ensures names { IfOk result (λ r. (length r.names.items ≡ PLACES) × All (λ line. line.place < PLACES) r.ledger.places.items) }
+    ensures config { ¬ IsConfig config → result ≡ Err Fault.BadConfig }
+    ensures refused { IfErr result (λ e. ((e ≡ Fault.BadConfig) × ¬ IsConfig config) ⊎ ((e ≡ Fault.Memory) ⊎ (e ≡ Fault.Gate))) }
+{
+    let parts = new_parts(alloc, config)?;
+    run_named::<Brand, R, G>(rt, alloc, parts, script, gate)
+}

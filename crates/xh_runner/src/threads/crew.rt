@@ -1,0 +1,185 @@
+//! The workers of a run, and one thread for each.
+ghost use Rattle.std.specs.Prelude.{◌≡◌, ◌+◌, All, IfOk, vec_len};
+
+use crate::machine::worker::Worker;
+use crate::names::Names as Bindings;
+use crate::session::Session;
+use crate::threads::job::{Done, Job, Shared, is_of};
+use std::alloc::{AllocError, Global};
+use std::sync::Wait;
+use std::thread;
+use std::thread::{JoinHandle, Scope, Threads};
+use xh_core::Contract;
+use xh_glance::Look;
+use xh_kernel::{Account, Kernel, Names};
+use xh_place::Gate;
+use xh_script::Line;
+
+/// A worker for each account and look, in order.
+pub(super) fn hire<'a, N: Names, R, G>(
+    rt: &'a R,
+    alloc: Global,
+    kernel: &'a Kernel<N>,
+    gate: &'a G,
+    accounts: Vec<Account<N>>,
+    looks: Vec<Look>,
+) -> Result<Vec<Worker<'a, N, R, G>>, AllocError>
+    requires count { vec_len looks ≡ vec_len accounts }
+    requires own { All (λ l. l.glances ≡ N.parts.glances) looks.items }
+    ensures { IfOk result (λ workers. vec_len workers ≡ vec_len accounts) }
+{
+    let mut workers = Vec::with_capacity(alloc, accounts.len())?;
+    let mut looks = looks.into_iter();
+    for account in accounts {
+        let Some(look) = looks.next() else {
+            unreachable!()
+        };
+        workers.push(Worker {
+            rt,
+            kernel,
+            gate,
+            account,
+            look,
+        })?;
+    }
+    Ok(workers)
+}
+
+fn count_of(lines: &[Line], process: u8) -> usize {
+    lines.iter().filter(|line| is_of(line, process)).count()
+}
+
+// The job of a process at a place.
+fn job<'a, N: Names, R: Wait, G: Gate>(
+    alloc: Global,
+    worker: Worker<'a, N, R, G>,
+    names: &Bindings,
+    contracts: &'a [Contract],
+    lines: &[Line],
+    process: u8,
+    place: u8,
+) -> Result<Job<'a, N, R, G>, AllocError> {
+    let gate = worker.gate;
+    let names = names.copy(alloc)?;
+    Ok(Job {
+        session: Session::with_names(worker, names, contracts),
+        gate,
+        process,
+        place,
+        replies: Vec::with_capacity(alloc, count_of(lines, process))?,
+    })
+}
+
+/// The jobs of the processes that have a place, the lowest place first, and the accounts of the workers that
+/// have nothing to do.
+pub(super) fn deal<'a, N: Names, R: Wait, G: Gate>(
+    alloc: Global,
+    workers: Vec<Worker<'a, N, R, G>>,
+    names: &Bindings,
+    contracts: &'a [Contract],
+    lines: &[Line],
+) -> Result<(Vec<Job<'a, N, R, G>>, Vec<Account<N>>), AllocError>
+    ensures { IfOk result (λ r. vec_len r.0 + vec_len r.1 ≡ vec_len workers.entry) }
+{
+    let mut jobs = Vec::with_capacity(alloc, workers.len())?;
+    let mut idle = Vec::with_capacity(alloc, workers.len())?;
+    let mut place = 0u8;
+    for worker in workers {
+        match names.process_at(place) {
+            Some(process) => {
+                jobs.push(job(alloc, worker, names, contracts, lines, process, place)?)?;
+            }
+            None => idle.push(worker.into_account())?,
+        }
+        place = place.saturating_add(1);
+    }
+    Ok((jobs, idle))
+}
+
+// Starts a thread for each job.
+fn start_all<
+    's,
+    'a: 's,
+    E,
+    N: Names + Send + Sync + 's,
+    R: Threads + Wait + Sync + 's,
+    G: Gate + Sync + 's,
+>(
+    scope: &Scope<'s, E>,
+    rt: &'s R,
+    alloc: Global,
+    jobs: Vec<Job<'a, N, R, G>>,
+    shared: &'s Shared<'a>,
+) -> Result<Vec<JoinHandle<Done<N>>>, AllocError>
+    ensures { IfOk result (λ handles. vec_len handles ≡ vec_len jobs.entry) }
+{
+    let mut handles = Vec::with_capacity(alloc, jobs.len())?;
+    for job in jobs {
+        handles.push(scope.spawn(move || job.work(rt, alloc, shared))?)?;
+    }
+    Ok(handles)
+}
+
+// Starts all, and lets them work if all were started.
+fn start_at_once<
+    's,
+    'a: 's,
+    E,
+    N: Names + Send + Sync + 's,
+    R: Threads + Wait + Sync + 's,
+    G: Gate + Sync + 's,
+>(
+    scope: &Scope<'s, E>,
+    rt: &'s R,
+    alloc: Global,
+    jobs: Vec<Job<'a, N, R, G>>,
+    shared: &'s Shared<'a>,
+) -> Result<Vec<JoinHandle<Done<N>>>, AllocError>
+    ensures { IfOk result (λ handles. vec_len handles ≡ vec_len jobs.entry) }
+{
+    let mut started = shared.started.lock(rt);
+    let handles = start_all(scope, rt, alloc, jobs, shared)?;
+    *started = true;
+    Ok(handles)
+}
+
+fn join_all<N: Names + Send, R: Threads>(
+    rt: &R,
+    alloc: Global,
+    handles: Vec<JoinHandle<Done<N>>>,
+) -> Result<Vec<Done<N>>, AllocError>
+    ensures { IfOk result (λ done. vec_len done ≡ vec_len handles) }
+{
+    let mut all = Vec::with_capacity(alloc, handles.len())?;
+    for handle in handles {
+        all.push(handle.join(rt))?;
+    }
+    Ok(all)
+}
+
+/// Does each job in a thread of its own, and joins all.
+pub(super) fn run_jobs<
+    's,
+    'a: 's,
+    N: Names + Send + Sync,
+    R: Threads + Wait + Sync,
+    G: Gate + Sync,
+>(
+    rt: &'s R,
+    alloc: Global,
+    jobs: Vec<Job<'a, N, R, G>>,
+    shared: &'s Shared<'a>,
+) -> Result<Vec<Done<N>>, AllocError>
+    ensures { IfOk result (λ done. vec_len done ≡ vec_len jobs.entry) }
+{
+    thread::scope(
+        thread::scope_env(),
+        rt,
+        |scope| -> Result<Vec<Done<N>>, AllocError>
+            ensures { IfOk result (λ done. vec_len done ≡ vec_len jobs.entry) }
+        {
+            let handles = start_at_once(scope, rt, alloc, jobs, shared)?;
+            join_all(rt, alloc, handles)
+        },
+    )
+}

@@ -1,0 +1,107 @@
+//! What one worker does.
+ghost use Rattle.std.specs.Prelude.{◌≡◌};
+ghost use Rattle.xh_runner.specs.Jobs.{Answers, is_of};
+
+use crate::machine::worker::Worker;
+use crate::names::Names as Bindings;
+use crate::session::Session;
+use crate::threads::replies::Placed;
+use std::alloc::{AllocError, Global};
+use std::sync::{Mutex, Wait};
+use xh_kernel::{Account, Names};
+use xh_place::Gate;
+use xh_script::{Line, Reply};
+
+/// What all workers of a run share: the lines of the script, what the names of processes stand for by
+/// now, and whether all workers could be started.
+#[derive(Drop)]
+pub(super) struct Shared<'a> {
+    pub(super) lines: &'a [Line],
+    pub(super) names: Mutex<Bindings>,
+    pub(super) started: Mutex<bool>,
+}
+
+/// The commands of a process, which has the place from the head on; room for their replies.
+#[derive(Drop)]
+pub(super) struct Job<'a, N: Names, R, G> {
+    pub(super) session: Session<'a, Worker<'a, N, R, G>>,
+    pub(super) gate: &'a G,
+    pub(super) process: u8,
+    pub(super) place: u8,
+    pub(super) replies: Vec<Placed>,
+}
+
+/// What a worker leaves: its account, the replies, and whether they had room.
+#[derive(Drop)]
+pub(super) struct Done<N: Names> {
+    pub(super) account: Account<N>,
+    pub(super) replies: Vec<Placed>,
+    pub(super) kept: Result<(), AllocError>,
+}
+
+/// Whether the line is a command of the process.
+pub(super) fn is_of(line: &Line, process: u8) -> bool
+    ensures { result ≡ is_of line.now process }
+{
+    !line.command.form.is_head() && line.command.name(0) == process
+}
+
+impl<'a, N: Names, R: Wait, G: Gate> Job<'a, N, R, G> {
+    // Does a command; names of processes stand for what they stand for at its start.
+    fn step(&mut self, rt: &R, alloc: Global, shared: &Shared<'a>, line: &Line) -> Reply
+        ensures process { self.new.process ≡ self.old.process }
+        ensures replies { self.new.replies ≡ self.old.replies }
+    {
+        self.session.follow(&shared.names.lock(rt));
+        let reply = self.session.step(alloc, &line.command);
+        if let Reply::Started(number) = reply {
+            shared.names.lock(rt).start(self.process, number);
+        }
+        reply
+    }
+
+    // Does the commands in order, as far as the gate lets them.
+    fn run(&mut self, rt: &R, alloc: Global, shared: &Shared<'a>) -> Result<(), AllocError>
+        ensures { Answers self.old.process shared.now.lines.now self.old.replies.items self.new.replies.items }
+    {
+        let mut command = 0u32;
+        for index in 0..shared.lines.len() {
+            let line = &shared.lines[index];
+            if is_of(line, self.process) {
+                if !self.gate.before(self.place, command) {
+                    return Ok(());
+                }
+                let reply = self.step(rt, alloc, shared, line);
+                self.replies.push(Placed { index, reply })?;
+                self.gate.after(self.place, command);
+                command = command.saturating_add(1);
+            }
+        }
+        Ok(())
+    }
+
+    /// Does the commands once all workers were started; none where one could not be.
+    pub(super) fn work(mut self, rt: &R, alloc: Global, shared: &Shared<'a>) -> Done<N>
+        ensures { Answers self.entry.process shared.now.lines.now self.entry.replies.items result.replies.items }
+    {
+        let started = *shared.started.lock(rt);
+        let kept = if started {
+            self.run(rt, alloc, shared)
+        } else {
+            Ok(())
+        };
+        let Job {
+            session,
+            gate: _,
+            process: _,
+            place: _,
+            replies,
+        } = self;
+        let (worker, _) = session.into_parts();
+        Done {
+            account: worker.into_account(),
+            replies,
+            kept,
+        }
+    }
+}

@@ -1,0 +1,10 @@
+use Rattle.std.proofs.Common.{codes, ◌∙◌}
+use Rattle.clap.specs.Words.{found_of}
+use Rattle.clap.proofs.WalkLemmas.{one_text-rows}
+use Rattle.xheap.proofs.options.is_serial.Goals as goal
+
+pub returns : goal.returns
+returns c =
+    let found = found_of c.args.matches.now in
+    let same = one_text-rows found (codes "serial") in
+    (λ e. c.get_flag.ensures.value (same ∙ e), λ e. c.get_flag.ensures.other (same ∙ e), λ e. c.get_flag.ensures.none (same ∙ e))
