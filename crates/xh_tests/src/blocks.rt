@@ -1,12 +1,12 @@
 //! Blocks: sizes, placement, wear, records.
-use crate::harness::{SMALL, writes};
+use crate::harness::{SMALL, writes_both_ways};
 use std::test::Fail;
 use xh_core::Config;
 
 /// A block of 40 bytes gets 48.
 #[test]
 fn first_alloc(rt: HostRuntime) -> Result<(), Fail> {
-    writes(
+    writes_both_ways(
         &rt,
         rt.alloc(),
         SMALL,
@@ -25,7 +25,7 @@ fn first_alloc(rt: HostRuntime) -> Result<(), Fail> {
 /// A script without commands has a ledger.
 #[test]
 fn empty_script(rt: HostRuntime) -> Result<(), Fail> {
-    writes(
+    writes_both_ways(
         &rt,
         rt.alloc(),
         SMALL,
@@ -40,7 +40,7 @@ fn empty_script(rt: HostRuntime) -> Result<(), Fail> {
 /// Comments and empty lines are no commands.
 #[test]
 fn skipped_lines(rt: HostRuntime) -> Result<(), Fail> {
-    writes(
+    writes_both_ways(
         &rt,
         rt.alloc(),
         SMALL,
@@ -56,7 +56,7 @@ fn skipped_lines(rt: HostRuntime) -> Result<(), Fail> {
 /// Sizes that an arena can't hand out, and an arena that is full.
 #[test]
 fn sizes_and_full_arena(rt: HostRuntime) -> Result<(), Fail> {
-    writes(
+    writes_both_ways(
         &rt,
         rt.alloc(),
         SMALL,
@@ -85,7 +85,7 @@ fn sizes_and_full_arena(rt: HostRuntime) -> Result<(), Fail> {
 /// The lowest hole that is long enough is taken.
 #[test]
 fn lowest_address_first(rt: HostRuntime) -> Result<(), Fail> {
-    writes(
+    writes_both_ways(
         &rt,
         rt.alloc(),
         Config {
@@ -124,7 +124,7 @@ fn lowest_address_first(rt: HostRuntime) -> Result<(), Fail> {
 /// Each arena has records of its own.
 #[test]
 fn records_and_arenas_run_out(rt: HostRuntime) -> Result<(), Fail> {
-    writes(
+    writes_both_ways(
         &rt,
         rt.alloc(),
         Config {
@@ -155,7 +155,7 @@ fn records_and_arenas_run_out(rt: HostRuntime) -> Result<(), Fail> {
 /// An arena hands out no more bytes than its wear allows.
 #[test]
 fn worn_arena(rt: HostRuntime) -> Result<(), Fail> {
-    writes(
+    writes_both_ways(
         &rt,
         rt.alloc(),
         Config { wear: 96, ..SMALL },

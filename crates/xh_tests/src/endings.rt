@@ -1,5 +1,5 @@
 //! Endings: close, exit, kill, and what they reclaim.
-use crate::harness::{SMALL, writes};
+use crate::harness::{SMALL, writes, writes_both_ways};
 use std::test::Fail;
 
 /// A kill reclaims what waits for an endpoint that waits for the victim's.
@@ -173,7 +173,7 @@ fn finished_kill(rt: HostRuntime) -> Result<(), Fail> {
 /// An endpoint on its way to itself is never reclaimed.
 #[test]
 fn endpoint_in_flight_to_itself(rt: HostRuntime) -> Result<(), Fail> {
-    writes(
+    writes_both_ways(
         &rt,
         rt.alloc(),
         SMALL,

@@ -1,10 +1,12 @@
 //! Runs of a script on the serial machine, compared with what they are to write.
 use std::alloc::Global;
 use std::process::Abort;
+use std::sync::Wait;
 use std::test::Fail;
+use std::thread::Threads;
 use xh_core::Config;
-use xh_runner::run_serial;
-use xh_script::{Fault, Kind, Watched};
+use xh_runner::{Gate, OpenGate, run_serial, run_threads};
+use xh_script::{Fault, Kind, Watched, read_script, write_answers, write_ledger};
 
 /// One arena of 256 bytes.
 pub(crate) const SMALL: Config = Config {
@@ -71,5 +73,37 @@ pub(crate) fn is_faulty_in_bytes(
     let ended = run_serial(alloc, &mut reader, &mut writer, SMALL);
     assert!(rt; ended == Err(Fault::Script { line, kind }), "line {line}");
     assert!(rt; out.is_empty());
+    Ok(())
+}
+
+/// The script is run on the serial machine and then on threads, and writes this each time.
+pub(crate) fn writes_both_ways(
+    rt: &(impl Abort + Threads + Wait + Sync),
+    alloc: Global,
+    config: Config,
+    script: &str,
+    wanted: &str,
+) -> Result<(), Fail> {
+    writes(rt, alloc, config, script, wanted)?;
+    writes_on_threads(rt, alloc, config, script, &OpenGate, wanted)
+}
+
+/// The script is run on threads to its end, and writes this.
+pub(crate) fn writes_on_threads(
+    rt: &(impl Abort + Threads + Wait + Sync),
+    alloc: Global,
+    config: Config,
+    script: &str,
+    gate: &(impl Gate + Sync),
+    wanted: &str,
+) -> Result<(), Fail> {
+    let script = read_script(alloc, script.as_bytes())?;
+    let report = run_threads(rt, alloc, &script, config, gate)?;
+    let mut out = Vec::new(alloc);
+    let mut writer = Watched::new(&mut out);
+    write_answers(&mut writer, &report.answers)?;
+    write_ledger(&mut writer, &report.ledger, &report.names)?;
+    let text = out.as_slice();
+    assert!(rt; text == wanted.as_bytes());
     Ok(())
 }

@@ -2,6 +2,8 @@
 #![tactic(auto)]
 
 #[cfg(test)]
+mod at_points;
+#[cfg(test)]
 mod blocks;
 #[cfg(test)]
 mod endings;
@@ -10,12 +12,22 @@ mod faults;
 #[cfg(test)]
 mod fronts;
 #[cfg(test)]
+mod gates;
+#[cfg(test)]
 mod harness;
+#[cfg(test)]
+mod holds;
 #[cfg(test)]
 mod limits;
 #[cfg(test)]
 mod messages;
 #[cfg(test)]
+mod on_threads;
+#[cfg(test)]
+mod orders;
+#[cfg(test)]
 mod processes;
+#[cfg(test)]
+mod random;
 #[cfg(test)]
 mod streams;

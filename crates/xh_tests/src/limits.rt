@@ -1,5 +1,5 @@
 //! Long scripts: places and channels that run out, and a hundred rounds of one block.
-use crate::harness::{SMALL, writes};
+use crate::harness::{SMALL, writes_both_ways};
 use std::test::Fail;
 use xh_core::Config;
 
@@ -21,7 +21,7 @@ fn places_run_out(rt: HostRuntime) -> Result<(), Fail> {
     replies.push_str("arena 0 256 0 1 0 0\n")?;
     replies.push_str(places.as_str())?;
     replies.push_str("owned 0\nflight 0\nout 0\n")?;
-    writes(&rt, alloc, SMALL, script.as_str(), replies.as_str())
+    writes_both_ways(&rt, alloc, SMALL, script.as_str(), replies.as_str())
 }
 
 /// 65 channels are opened where there are 64.
@@ -43,7 +43,7 @@ fn channels_run_out(rt: HostRuntime) -> Result<(), Fail> {
         bytes: 65_536,
         ..SMALL
     };
-    writes(&rt, alloc, config, script.as_str(), wanted.as_str())
+    writes_both_ways(&rt, alloc, config, script.as_str(), wanted.as_str())
 }
 
 /// A block goes to another process and back, a hundred times.
@@ -68,5 +68,5 @@ fn hundred_rounds(rt: HostRuntime) -> Result<(), Fail> {
     wanted.push_str("process a running 2 48\nprocess b running 1 32\n")?;
     wanted.push_str("owned 80\nflight 0\nout 80\n")?;
     let config = Config { arenas: 2, ..SMALL };
-    writes(&rt, alloc, config, script.as_str(), wanted.as_str())
+    writes_both_ways(&rt, alloc, config, script.as_str(), wanted.as_str())
 }

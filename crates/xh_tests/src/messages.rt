@@ -1,5 +1,5 @@
 //! Messages: blocks that pass from one process to another.
-use crate::harness::{SMALL, writes};
+use crate::harness::{SMALL, writes, writes_both_ways};
 use std::test::Fail;
 use xh_core::Config;
 
@@ -42,7 +42,7 @@ fn give_take_and_write(rt: HostRuntime) -> Result<(), Fail> {
 /// A message that nobody has taken is held by its direction.
 #[test]
 fn in_flight(rt: HostRuntime) -> Result<(), Fail> {
-    writes(
+    writes_both_ways(
         &rt,
         rt.alloc(),
         SMALL,

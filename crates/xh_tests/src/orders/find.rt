@@ -1,0 +1,130 @@
+//! An order of the commands of a script in which the serial machine answers the same.
+use crate::orders::scripts::Play;
+use crate::orders::texts::{after_number, line_and_rest, without_holes};
+use std::alloc::{AllocError, Global};
+use xh_runner::run_serial;
+use xh_script::Watched;
+
+const TRIES: u32 = 2_000;
+
+/// What a search came to.
+#[derive(Clone, Copy, Debug, PartialEq, Eq)]
+pub(super) enum Found {
+    Yes,
+    No,
+    CutOff,
+}
+
+/// What a run on threads wrote: the reply to each command, without its number, and the ledger.
+#[derive(Debug, Drop)]
+pub(super) struct Written {
+    pub(super) replies: Vec<Vec<u8>>,
+    pub(super) ledger: Vec<u8>,
+}
+
+// What the serial machine writes where the commands come in this order.
+fn serial_text(alloc: Global, play: &Play, order: &[usize]) -> Result<Vec<u8>, AllocError> {
+    let mut script = play.head.clone()?;
+    for index in order {
+        if let Some(line) = play.lines.get(*index) {
+            script.push_str(&line.text)?;
+        }
+    }
+    let mut input = script.as_bytes();
+    let mut reader = Watched::new(&mut input);
+    let mut out = Vec::new(alloc);
+    let mut writer = Watched::new(&mut out);
+    match run_serial(alloc, &mut reader, &mut writer, play.config) {
+        Ok(()) => Ok(out),
+        Err(_) => Err(AllocError),
+    }
+}
+
+// Whether a reply is the serial machine's. A give that found its peer closed may have been sent all the same.
+fn is_answer(loose: bool, reply: &[u8], serial: &[u8]) -> bool {
+    let unsent = reply == b" no 15 PeerClosed 0\n".as_slice();
+    reply == serial || (loose && unsent && serial.starts_with(b" ok "))
+}
+
+// Whether ledgers are the same.
+fn is_ledger(alloc: Global, exact: bool, ledger: &[u8], serial: &[u8]) -> Result<bool, AllocError> {
+    if exact {
+        Ok(ledger == serial)
+    } else {
+        Ok(without_holes(alloc, ledger)? == without_holes(alloc, serial)?)
+    }
+}
+
+// Whether the serial machine answers the last command of the order so, and after all of them has the ledger.
+fn fits(
+    alloc: Global,
+    play: &Play,
+    written: &Written,
+    order: &[usize],
+) -> Result<bool, AllocError> {
+    let text = serial_text(alloc, play, order)?;
+    let number = u32::try_from(order.len())
+        .unwrap_or(0)
+        .saturating_add(play.heads);
+    let (line, rest) = line_and_rest(&text, number);
+    let Some(last) = order.last() else {
+        return Ok(false);
+    };
+    let Some(reply) = written.replies.get(*last) else {
+        return Ok(false);
+    };
+    if !is_answer(play.loose, reply, after_number(line)) {
+        return Ok(false);
+    }
+    if order.len() < play.lines.len() {
+        return Ok(true);
+    }
+    is_ledger(alloc, play.exact, &written.ledger, rest)
+}
+
+// The next command of the first process, from this one on, that has one left.
+fn next_of(play: &Play, order: &[usize], process: usize) -> Option<usize> {
+    for (index, line) in play.lines.iter().enumerate() {
+        if line.process >= process && !order.contains(&index) {
+            return Some(index);
+        }
+    }
+    None
+}
+
+// The process behind that of a command.
+fn behind(play: &Play, index: usize) -> usize {
+    match play.lines.get(index) {
+        Some(line) => line.process.saturating_add(1),
+        None => 0,
+    }
+}
+
+/// Looks for an order that respects each process's own, depth first, with so many tries.
+pub(super) fn find_order(
+    alloc: Global,
+    play: &Play,
+    written: &Written,
+) -> Result<Found, AllocError> {
+    let mut order = Vec::new(alloc);
+    let mut process = 0usize;
+    for _ in 0..TRIES {
+        if order.len() == play.lines.len() {
+            return Ok(Found::Yes);
+        }
+        if let Some(index) = next_of(play, &order, process) {
+            order.push(index)?;
+            if fits(alloc, play, written, &order)? {
+                process = 0;
+            } else {
+                order.pop();
+                process = behind(play, index);
+            }
+        } else if let Some(index) = order.pop() {
+            process = behind(play, index);
+        } else {
+            return Ok(Found::No);
+        }
+    }
+    Ok(Found::CutOff)
+}
