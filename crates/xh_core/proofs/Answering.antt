@@ -9,8 +9,7 @@ use Rattle.xh_core.specs.declared.refused.Refused.{Refused}
 use Rattle.xh_core.specs.declared.refused.Refused.TheVariants.{OutOfMemory, NoSpace, Worn}
 use Rattle.xh_core.specs.Machine.{Machine, buffer}
 use Rattle.xh_core.specs.Refusing.{Answer, Tests, answered, first_refusal, start, data_tests}
-use Rattle.xh_core.specs.BlockCommands.{free_record, lowest, rounded, space_tests, alloc, allocated, free, freed_block, split, parted, range_tests, read, write, overwritten}
-use Rattle.xh_core.specs.Checks.{alloc_heads, split_heads}
+use Rattle.xh_core.specs.BlockCommands.{alloc_heads, split_heads, free_record, lowest, rounded, space_tests, alloc, allocated, free, freed_block, split, parted, range_tests, read, write, overwritten}
 use Rattle.xh_core.proofs.Firsts.{first_append, first_later}
 
 -- where there is no room, it is never for want of memory

@@ -91,7 +91,8 @@ module _ (ps : List Place) (p r : ℕ) (a : ArePlaces ps) (b : IsBusy ps p) wher
   pub appended_twice : (t : ℕ) → appended p t (appended p r ps) ≡ slice_set ps (p % 32) (record (place_in ps p) { blocks = record { items = list_in ps p ++ r ∷ t ∷ [] } })
   appended_twice t =
       let here : place_in (appended p r ps) p ≡ longer r (place_in ps p) = place_here ps p (longer r (place_in ps p)) within in
-      let items : ((place_in ps p).blocks.items ++ r ∷ []) ++ t ∷ [] ≡ list_in ps p ++ r ∷ t ∷ [] = append_assoc (place_in ps p).blocks.items (r ∷ []) (t ∷ []) ∙ ap (λ (xs : List ℕ). xs ++ r ∷ t ∷ []) (sym (own_list ps p b)) in
+      let items : ((place_in ps p).blocks.items ++ r ∷ []) ++ t ∷ [] ≡ list_in ps p ++ r ∷ t ∷ [] = append_assoc (place_in ps p).blocks.items (r ∷ []) (t ∷ [])
+      ∙ ap (λ (xs : List ℕ). xs ++ r ∷ t ∷ []) (sym (own_list ps p b)) in
       ap (λ (x : Place). slice_set (appended p r ps) (p % 32) (longer t x)) here
       ∙ (set-set ps (p % 32) (longer r (place_in ps p)) (longer t (longer r (place_in ps p)))
       ∙ ap (λ (xs : List ℕ). slice_set ps (p % 32) (record (place_in ps p) { blocks = record { items = xs } })) items)

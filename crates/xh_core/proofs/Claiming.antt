@@ -14,7 +14,7 @@ use Rattle.xh_model.proofs.Changed.{known_there}
 use Rattle.xh_core.specs.Machine.{times}
 use Rattle.xh_core.specs.BlockCommands.{free_record, space_tests}
 use Rattle.xh_core.specs.Refusing.{first_refusal}
-use Rattle.xh_core.specs.Gaining.{Gained}
+use Rattle.xh_core.specs.inner.Gaining.{Gained}
 use Rattle.xh_core.proofs.Stores.{done, own_holder, times-cons, at_set, same_len}
 
 -- ---- the lowest free record

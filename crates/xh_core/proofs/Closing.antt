@@ -1,10 +1,10 @@
 -- An endpoint that is moved to the end of its list.
-use Rattle.std.proofs.Common.{◌≡◌, ℕ, zero, suc, ◌+◌, ◌-◌, ◌/◌, ◌%◌, ◌<◌, List, [], ◌∷◌, ◌++◌, length, drop, true, cond, refl, sym, ap, ◌∙◌, subst, arith, inl, inr, append-nil}
-use Rattle.std.specs.Prelude.{None, ◌==◌, slice_set, slice_index_or}
-use Rattle.std.specs.List.{remove, position_or_len}
-use Rattle.std.proofs.lemmas.Bool.{cases_eq, eq-eqb, ne_eqb, false≢true}
+use Rattle.std.proofs.Common.{◌≡◌, ℕ, zero, suc, ◌+◌, ◌-◌, ◌/◌, ◌%◌, ◌<◌, ◌≤◌, Bool, List, [], ◌∷◌, ◌++◌, length, drop, true, cond, refl, sym, ap, ◌∙◌, subst, arith, inl, inr, append-nil}
+use Rattle.std.specs.Prelude.{None, Some, not, nat_lt, unwrap_or, ◌==◌, slice_set, slice_index_or}
+use Rattle.std.specs.List.{remove, position, position_or_len}
+use Rattle.std.proofs.lemmas.Bool.{cases_eq, cases_Bool, eq-eqb, ne_eqb, ltb-false, false≢true}
 use Rattle.std.proofs.lemmas.List.{length-set, length-append}
-use Rattle.std.proofs.lemmas.List.Sums.{sum_by-remove, passes_at_first}
+use Rattle.std.proofs.lemmas.List.Sums.{sum_by-remove, passes_at_first, prefix_len-le-length}
 use Rattle.std.proofs.lemmas.List.Edits.{length-remove}
 use Rattle.xh_model.specs.declared.event.Holder.{Holder}
 use Rattle.xh_model.specs.declared.event.Holder.TheVariants.{Process, Direction}
@@ -19,6 +19,16 @@ use Rattle.xh_core.specs.BlockCommands.{freed_block}
 use Rattle.xh_core.proofs.Machines.{runs_busy, place_there, list_here, list_else, current_generation, busy_place, generations_set, idle_set, place_here}
 use Rattle.xh_core.proofs.Stores.{count_append, times-cons}
 
+place_or_length : (k n : ℕ) → k ≤ n → unwrap_or (cond (nat_lt k n) (Some k) None) n ≡ k
+place_or_length k n l = elim (cases_Bool (nat_lt k n)) [
+  | inl y ↦ rw y refl
+  | inr f ↦ rw f (let g : n ≤ k = ltb-false k n f in omega (arith, l, g))
+]
+
+-- the first that passes, or the length where none does
+pub first_or_length : (p : ℕ → Bool) (xs : List ℕ) → unwrap_or (position p xs) (length xs) ≡ position_or_len p xs
+first_or_length p xs = place_or_length (position_or_len p xs) (length xs) (prefix_len-le-length (λ x. not (p x)) xs)
+
 -- where the first e stands
 pub found : (e : ℕ) (rs : List ℕ) → 0 < times e rs → position_or_len (λ q. q == e) rs < length rs
 found e [] h = absurd (omega (arith, h))
@@ -29,10 +39,11 @@ found e (r ∷ rs) h = elim (cases_eq r e) [
 ]
 
 pub is_found : (e : ℕ) (rs : List ℕ) → 0 < times e rs → slice_index_or rs (position_or_len (λ q. q == e) rs) 0 ≡ e
-is_found e rs h = let y : (slice_index_or rs (position_or_len (λ q. q == e) rs) 0 == e) ≡ true = passes_at_first (λ q. q == e) rs 0 (found e rs h) in elim (cases_eq (slice_index_or rs (position_or_len (λ q. q == e) rs) 0) e) [
-  | inl s ↦ s
-  | inr n ↦ absurd (false≢true (sym (ne_eqb _ e n) ∙ y))
-]
+is_found e rs h = let y : (slice_index_or rs (position_or_len (λ q. q == e) rs) 0 == e) ≡ true = passes_at_first (λ q. q == e) rs 0 (found e rs h) in
+    elim (cases_eq (slice_index_or rs (position_or_len (λ q. q == e) rs) 0) e) [
+      | inl s ↦ s
+      | inr n ↦ absurd (false≢true (sym (ne_eqb _ e n) ∙ y))
+    ]
 
 times_last : (e q : ℕ) (rs : List ℕ) → 0 < times e rs → times q (last e rs) ≡ times q rs
 times_last e q rs h =

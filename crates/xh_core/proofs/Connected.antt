@@ -14,11 +14,12 @@ use Rattle.xh_core.specs.declared.line.Line.{Line}
 use Rattle.xh_core.specs.Machine.{Machine, line, no_line, blocks, buffer, carried, end_of, listed, on_way, tags_of, times, AreWired, IsEnd, IsWhole}
 use Rattle.xh_core.specs.Refusing.{IsRunning}
 use Rattle.xh_core.specs.ChannelCommands.{new_line, opened, wired}
-use Rattle.xh_core.specs.Pairing.{IsSound, moved}
+use Rattle.xh_core.specs.inner.Pairing.{IsSound, moved}
 use Rattle.xh_core.proofs.Machines.{place_in, list_in, same_machine}
 use Rattle.xh_core.proofs.Claiming.{no_bytes}
 use Rattle.xh_core.proofs.Room.{room}
-use Rattle.xh_core.proofs.Appended.{ArePlaces, IsBusy, whole_places, running_place, appended, own_list, appended_places, appended_busy, appended_list, appended_twice, appended_both, times_longer, no_shorter}
+use Rattle.xh_core.proofs.Appended.{ArePlaces, IsBusy, whole_places, running_place, appended, own_list}
+use Rattle.xh_core.proofs.Appended.{appended_places, appended_busy, appended_list, appended_twice, appended_both, times_longer, no_shorter}
 use Rattle.xh_core.proofs.Pairs.{Shared}
 use Rattle.xh_core.proofs.Stores.{at_set}
 
@@ -40,7 +41,8 @@ opened_wired contracts lines k contract wired known within valid c rows is =
     let new : List Line = slice_set first (2 * k + 1) line in
     elim (cases_eq c k) [
       | inl same ↦ (
-          let contract_there : contract ≡ Some rows = sym (get_or-set_same contracts k contract None known) ∙ (ap (λ (i : ℕ). slice_index_or (slice_set contracts k contract) i None) (sym same) ∙ is) in
+          let contract_there : contract ≡ Some rows = sym (get_or-set_same contracts k contract None known)
+          ∙ (ap (λ (i : ℕ). slice_index_or (slice_set contracts k contract) i None) (sym same) ∙ is) in
           let low : at new (2 * k) ≡ line = get_or-set_other first (2 * k + 1) (2 * k) line no_line (λ e. omega (arith, e)) ∙ get_or-set_same lines (2 * k) line no_line (omega (arith, within)) in
           let high : at new (2 * k + 1) ≡ line = get_or-set_same first (2 * k + 1) line no_line (subst (λ n. 2 * k + 1 < n) (sym (length-set lines (2 * k) line)) within) in
           let step : AreInStep rows 0 line line = (refl, inl refl) in
@@ -49,8 +51,10 @@ opened_wired contracts lines k contract wired known within valid c rows is =
           (valid rows contract_there, subst (λ i. AreInStep rows 0 (at new (2 * i)) (at new (2 * i + 1))) (sym same) both))
       | inr apart ↦ (
           let is_old : slice_index_or contracts c None ≡ Some rows = sym (get_or-set_other contracts k c contract None apart) ∙ is in
-          let low : at new (2 * c) ≡ at lines (2 * c) = get_or-set_other first (2 * k + 1) (2 * c) line no_line (λ e. omega (arith, e)) ∙ get_or-set_other lines (2 * k) (2 * c) line no_line (λ e. apart (omega (arith, e))) in
-          let high : at new (2 * c + 1) ≡ at lines (2 * c + 1) = get_or-set_other first (2 * k + 1) (2 * c + 1) line no_line (λ e. apart (omega (arith, e))) ∙ get_or-set_other lines (2 * k) (2 * c + 1) line no_line (λ e. omega (arith, e)) in
+          let low : at new (2 * c) ≡ at lines (2 * c) = get_or-set_other first (2 * k + 1) (2 * c) line no_line (λ e. omega (arith, e))
+          ∙ get_or-set_other lines (2 * k) (2 * c) line no_line (λ e. apart (omega (arith, e))) in
+          let high : at new (2 * c + 1) ≡ at lines (2 * c + 1) = get_or-set_other first (2 * k + 1) (2 * c + 1) line no_line (λ e. apart (omega (arith, e)))
+          ∙ get_or-set_other lines (2 * k) (2 * c + 1) line no_line (λ e. omega (arith, e)) in
           let was = wired c rows is_old in
           let one : AreInStep rows 0 (at lines (2 * c)) (at new (2 * c + 1)) = subst (λ l. AreInStep rows 0 (at lines (2 * c)) l) (sym high) was.1 in
           (was.0, subst (λ l. AreInStep rows 0 l (at new (2 * c + 1))) (sym low) one))
@@ -73,7 +77,8 @@ connected s p q r t contract m = record m {
   opened = m.opened + 1;
 }
 
-module _ (s : Store) (p q r t : ℕ) (contract : Option (List Row)) (m : Machine) (w : IsWhole m) (runs_p : IsRunning m p) (runs_q : IsRunning m q) (more : m.opened < 64) (sound : IsSound contract) (g : Shared p q r t m.store s) where
+module _ (s : Store) (p q r t : ℕ) (contract : Option (List Row)) (m : Machine) (w : IsWhole m) (runs_p : IsRunning m p) (runs_q : IsRunning m q) (more : m.opened < 64) (sound : IsSound contract)
+    (g : Shared p q r t m.store s) where
   abbrev n : Machine
   n = connected s p q r t contract m
 
@@ -162,7 +167,8 @@ module _ (s : Store) (p q r t : ℕ) (contract : Option (List Row)) (m : Machine
 
   line_is : (d : ℕ) → line n d ≡ cond (d == (2 * m.opened + 1)) (new_line contract) (cond (d == (2 * m.opened)) (new_line contract) (line m d))
   line_is d =
-      let l : 2 * m.opened + 1 < length (slice_set m.lines (2 * m.opened) (new_line contract)) = subst (λ (x : ℕ). 2 * m.opened + 1 < x) (sym (length-set m.lines (2 * m.opened) (new_line contract))) long_lines in
+      let l : 2 * m.opened + 1 < length (slice_set m.lines (2 * m.opened) (new_line contract)) =
+      subst (λ (x : ℕ). 2 * m.opened + 1 < x) (sym (length-set m.lines (2 * m.opened) (new_line contract))) long_lines in
       at_set (slice_set m.lines (2 * m.opened) (new_line contract)) (2 * m.opened + 1) d (new_line contract) no_line l
       ∙ ap (λ (x : Line). cond (d == (2 * m.opened + 1)) (new_line contract) x) (at_set m.lines (2 * m.opened) d (new_line contract) no_line (let e = long_lines in omega (arith, e)))
 
@@ -322,7 +328,8 @@ module _ (s : Store) (p q r t : ℕ) (contract : Option (List Row)) (m : Machine
       let is : list_in (appended p r m.places) p ≡ list_in m.places p ++ r ∷ [] = between p ∙ rw (eq-eqb p p refl) refl in
       let one : length (list_in (appended p r m.places) p) ≡ length (list_in m.places p) + 1 = ap length is ∙ length-append (list_in m.places p) (r ∷ []) in
       let own : length (list_in m.places p) ≡ length (place_in m.places p).blocks.items = ap length (own_list m.places p (running_place m p runs_p)) in
-      let more_p : length (list_in (appended p r m.places) p) ≤ length (blocks n p) = subst (λ (xs : List ℕ). length (list_in (appended p r m.places) p) ≤ length xs) (sym (lists p)) (no_shorter (q == p) t (list_in (appended p r m.places) p)) in
+      let more_p : length (list_in (appended p r m.places) p) ≤ length (blocks n p) =
+      subst (λ (xs : List ℕ). length (list_in (appended p r m.places) p) ≤ length xs) (sym (lists p)) (no_shorter (q == p) t (list_in (appended p r m.places) p)) in
       omega (arith, all, one, own, more_p)
 
 -- ---- the command says the same

@@ -1,5 +1,6 @@
 -- A process gains free records, and the machine stays whole.
-use Rattle.std.proofs.Common.{◌≡◌, ◌≢◌, ℕ, ◌+◌, ◌-◌, ◌*◌, ◌/◌, ◌%◌, ◌<◌, ◌≤◌, List, [], ◌∷◌, ◌++◌, length, take, drop, length-drop, Bool, true, false, cond, refl, sym, ap, ◌∙◌, subst, arith, ◌⊎◌, inl, inr, get_or-set_same, get_or-set_other}
+use Rattle.std.proofs.Common.{◌≡◌, ◌≢◌, ℕ, ◌+◌, ◌-◌, ◌*◌, ◌/◌, ◌%◌, ◌<◌, ◌≤◌, List, [], ◌∷◌, ◌++◌, length, take}
+use Rattle.std.proofs.Common.{drop, length-drop, Bool, true, false, cond, refl, sym, ap, ◌∙◌, subst, arith, ◌⊎◌, inl, inr, get_or-set_same, get_or-set_other}
 use Rattle.std.specs.Prelude.{Option, Some, None, is_some, ◌==◌, ◌||◌, nat_lt, replicate, slice_set, slice_index_or}
 use Rattle.std.proofs.lemmas.Bool.{cases_eq, cases_Bool, false≢true, eq-eqb, ne_eqb, ltb-true, ltb-false}
 use Rattle.std.proofs.lemmas.List.{length-set, length-append, length-take-le, nil_from_length, set-set, set-get_or}
@@ -9,7 +10,7 @@ use Rattle.xh_model.specs.declared.event.Holder.TheVariants.{Process, Direction}
 use Rattle.xh_model.specs.Store.{Store, owner, len, holds, same_holder, is_held_by, is_known, after, IsQuiet}
 use Rattle.xh_core.specs.declared.place.Place.{Place}
 use Rattle.xh_core.specs.Machine.{Machine, place, is_current, is_vacant, is_ended, blocks, buffer, with_list, end_of, listed, on_way, way_in, times, no_line, AreWired, IsEnd, IsWhole}
-use Rattle.xh_core.specs.Gaining.{Gained}
+use Rattle.xh_core.specs.inner.Gaining.{Gained}
 use Rattle.xh_core.specs.Refusing.{IsRunning}
 use Rattle.xh_model.specs.declared.event.Event.TheVariants.{Claim, Carve, Cut, GiveBack, Vacate}
 use Rattle.std.specs.List.{position_or_len, remove}
@@ -225,7 +226,8 @@ listed_place m p r w run h =
     subst (λ (xs : List ℕ). position_or_len (λ q. q == r) xs < length xs) (current_blocks m p run.0) there
 
 -- the machine whose fields these are is what a free makes of m
-pub freed_is : (m : Machine) (p r : ℕ) (s : Store) (bs : List (List ℕ)) (ps : List Place) → is_current m p ≡ true → s ≡ after (Vacate p r) (after (GiveBack p r) m.store) → bs ≡ slice_set m.buffers r [] →
+pub freed_is : (m : Machine) (p r : ℕ) (s : Store) (bs : List (List ℕ)) (ps : List Place) → is_current m p ≡ true → s ≡ after (Vacate p r) (after (GiveBack p r) m.store) →
+    bs ≡ slice_set m.buffers r [] →
     ps ≡ slice_set m.places (p % 32) (record (place m p) { blocks = record { items = remove (place m p).blocks.items (position_or_len (λ q. q == r) (place m p).blocks.items) } }) →
     record m { store = s; buffers = bs; places = ps } ≡ freed_block p r m
 unfolding freed_block
@@ -252,7 +254,8 @@ split_bytes m u r t k w d f ne there t_there few head tail others q =
     let r_in : r < length bs = subst (λ (j : ℕ). r < j) (sym (length-set m.buffers t (drop k (buffer m r)) ∙ w.buffers)) there in
     elim (cases_eq q r) [
       | inl e ↦ (
-          let now : slice_index_or (slice_set bs r (take k (buffer m r))) q [] ≡ take k (buffer m r) = ap (λ (x : ℕ). slice_index_or (slice_set bs r (take k (buffer m r))) x []) e ∙ get_or-set_same bs r (take k (buffer m r)) [] r_in in
+          let now : slice_index_or (slice_set bs r (take k (buffer m r))) q [] ≡ take k (buffer m r) = ap (λ (x : ℕ). slice_index_or (slice_set bs r (take k (buffer m r))) x []) e
+          ∙ get_or-set_same bs r (take k (buffer m r)) [] r_in in
           let none : end_of m q ≡ None = subst (λ (x : ℕ). end_of m x ≡ None) (sym e) d in
           let own : len u q ≡ k = subst (λ (x : ℕ). len u x ≡ k) (sym e) head in
           let fits : k ≤ length (buffer m r) = subst (λ (j : ℕ). k ≤ j) (sym long) few in
@@ -326,7 +329,8 @@ buffer_length m r w d = w.bytes r ∙ rw d refl
 
 -- the machine whose fields these are is what a split makes of m
 pub parted_is : (m : Machine) (p r t k : ℕ) (s : Store) (bs : List (List ℕ)) (ps : List Place) → is_current m p ≡ true → s ≡ after (Cut p r t k) (after (Claim p t) m.store) →
-    bs ≡ slice_set (slice_set m.buffers t (drop k (buffer m r))) r (take k (buffer m r)) → ps ≡ slice_set m.places (p % 32) (record (place m p) { blocks = record { items = (place m p).blocks.items ++ t ∷ [] } }) →
+    bs ≡ slice_set (slice_set m.buffers t (drop k (buffer m r))) r (take k (buffer m r)) →
+    ps ≡ slice_set m.places (p % 32) (record (place m p) { blocks = record { items = (place m p).blocks.items ++ t ∷ [] } }) →
     record m { store = s; buffers = bs; places = ps } ≡ parted p r t k m
 unfolding parted
 parted_is m p r t k s bs ps current store buffers listed =

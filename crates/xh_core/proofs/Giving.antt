@@ -1,7 +1,8 @@
 -- A give leaves a whole machine.
-use Rattle.std.proofs.Common.{◌≡◌, ◌≢◌, ℕ, ◌+◌, ◌*◌, ◌/◌, ◌%◌, ◌<◌, ◌≤◌, List, [], ◌∷◌, ◌++◌, length, Bool, true, false, cond, refl, sym, ap, ◌∙◌, subst, arith, inl, inr, get_or-set_same, get_or-set_other, append-nil}
-use Rattle.std.specs.Prelude.{Option, Some, None, is_none, ◌==◌, ◌&&◌, ◌||◌, nat_lt, unwrap_or, slice_set, slice_index_or}
-use Rattle.std.specs.List.{list_all, list_any}
+use Rattle.std.proofs.Common.{◌≡◌, ◌≢◌, ℕ, ◌+◌, ◌*◌, ◌/◌, ◌%◌, ◌<◌, ◌≤◌, List, [], ◌∷◌, ◌++◌, length}
+use Rattle.std.proofs.Common.{Bool, true, false, cond, refl, sym, ap, ◌∙◌, subst, arith, inl, inr, get_or-set_same, get_or-set_other, append-nil}
+use Rattle.std.specs.Prelude.{Option, Some, None, is_none, ◌==◌, ◌&&◌, ◌||◌, not, nat_lt, unwrap_or, slice_set, slice_index_or}
+use Rattle.std.specs.List.{filter, list_all, list_any}
 use Rattle.std.proofs.lemmas.Bool.{cases_eq, cases_Bool, false≢true, eq-eqb, ne_eqb, lt-ltb, ltb-true, ltb-false}
 use Rattle.std.proofs.lemmas.List.{length-set}
 use Rattle.std.proofs.lemmas.List.Concat.{flat_map-append}
@@ -11,17 +12,19 @@ use Rattle.xh_model.specs.declared.event.Event.TheVariants.{Pass}
 use Rattle.xh_core.specs.declared.message.Message.{Message}
 use Rattle.xh_core.specs.declared.place.Place.{Place}
 use Rattle.xh_core.specs.declared.line.Line.{Line}
-use Rattle.xh_model.specs.Store.{Store, owner, len, holds, after, change}
+use Rattle.xh_model.specs.Store.{Store, owner, len, holds, is_held_by, after, change}
 use Rattle.xh_model.specs.declared.row.Row.{Row}
 use Rattle.xh_model.specs.Rows.{allowed, IsValid, InStep}
 use Rattle.xh_model.proofs.InStep.{put_step}
 use Rattle.xh_core.specs.Machine.{Machine, times, blocks, place, line, no_line, waiting, peer, tags_of, contract_of, next_state, carried, on_way, listed, IsWhole}
 use Rattle.xh_core.specs.Refusing.{toward}
-use Rattle.xh_core.specs.MessageCommands.{MayGive, given, told_line, put_line, pass_all, without, has_twice, is_banned}
+use Rattle.xh_core.specs.MessageCommands.{given, told_line, put_line, pass_all, without, has_twice, is_banned}
+use Rattle.xh_core.specs.inner.Checks.{MayGive}
 use Rattle.xh_core.proofs.Stores.{count_append, done, all_owners, is_there, at_set, times-cons, same_len}
 use Rattle.xh_core.proofs.Machines.{runs_busy, place_there, list_here, list_else, current_generation, busy_place, generations_set, idle_set, way_here, way_else, peer_ne, peer_half, peer_below}
 use Rattle.xh_core.proofs.Wired.{state_in, IsPair, same_lines, wired_pair, half_apart}
 use Rattle.xh_core.proofs.Moved.{Moved, moved_whole}
+use Rattle.xh_core.proofs.Swept.{some_times}
 
 pub any_times : (q : ℕ) (bs : List ℕ) → list_any (λ b. b == q) bs ≡ nat_lt 0 (times q bs)
 any_times q [] = refl
@@ -76,6 +79,15 @@ distinct_pass test (b ∷ bs) a t q =
           let same : times q (b ∷ bs) ≡ times q bs = k ∙ rw (ne_eqb b q n) (omega arith) in omega (arith, more, same))
     ]
 
+-- two tests that agree on what a list holds keep the same of it
+same_kept : (f g : ℕ → Bool) (rs : List ℕ) → ((r : ℕ) → 0 < times r rs → f r ≡ g r) → filter f rs ≡ filter g rs
+same_kept f g [] h = refl
+same_kept f g (r ∷ rs) h =
+    let one : times r (r ∷ rs) ≡ 1 + times r rs = times-cons r r rs ∙ rw (eq-eqb r r refl) refl in
+    let here : f r ≡ g r = h r (omega (arith, one)) in
+    let rest : filter f rs ≡ filter g rs = same_kept f g rs (λ q l. h q (let t = times-cons q r rs in omega (arith, t, l))) in
+    λ i. cond (here i) (r ∷ rest i) (rest i)
+
 -- p passed these to d
 pub record Passed (d : ℕ) (rs : List ℕ) (s t : Store) : Type 0 where
   pub owners : (q : ℕ) → owner t q ≡ cond (nat_lt 0 (times q rs)) (Some (Direction d)) (owner s q)
@@ -92,12 +104,14 @@ first_one r rs b h = let e : times r (r ∷ rs) ≡ 1 + times r rs = times-cons 
       | inr n ↦ (let k : times r (r ∷ rs) ≤ 0 = rw n at h in absurd (omega arith))
     ]
 
-pub passed_all : (p d : ℕ) (rs : List ℕ) (s : Store) → d < 128 → ((q : ℕ) → times q rs ≤ cond (holds s (Process p) q) 1 0) → ((q : ℕ) → holds s (Process p) q ≡ true → 0 < len s q) → Passed d rs s (pass_all p d rs s)
+pub passed_all : (p d : ℕ) (rs : List ℕ) (s : Store) → d < 128 → ((q : ℕ) → times q rs ≤ cond (holds s (Process p) q) 1 0) → ((q : ℕ) → holds s (Process p) q ≡ true → 0 < len s q) →
+    Passed d rs s (pass_all p d rs s)
 passed_all p d [] s l h f = record { owners = λ q. refl; many = refl; arenas = refl }
 passed_all p d (r ∷ rs) s l h f =
     let first = first_one r rs (holds s (Process p) r) (h r) in
     let is : after (Pass p r d) s ≡ change (Pass p r d) s = pass_here p d r s l first.0 (f r first.0) in
-    let own : (q : ℕ) → owner (after (Pass p r d) s) q ≡ cond (q == r) (Some (Direction d)) (owner s q) = (λ q. rw is (at_set s.owners r q (Some (Direction d)) None (is_there s (Process p) r first.0))) in
+    let own : (q : ℕ) → owner (after (Pass p r d) s) q ≡ cond (q == r) (Some (Direction d)) (owner s q) =
+    (λ q. rw is (at_set s.owners r q (Some (Direction d)) None (is_there s (Process p) r first.0))) in
     let rest : (q : ℕ) → times q rs ≤ cond (holds (after (Pass p r d) s) (Process p) q) 1 0 = (λ q. elim (cases_eq q r) [
       | inl e ↦ (let z : times q rs ≡ 0 = rw e first.1 in omega (arith, z))
       | inr n ↦ (let o : owner (after (Pass p r d) s) q ≡ owner s q = own q ∙ rw (ne_eqb q r n) refl in
@@ -135,7 +149,8 @@ give_pair rows lines new d tag bs valid free lo hi pair =
     let theirs : Line = slice_index_or lines (peer d) no_line in
     let row = some_of (allowed rows mine.state tag (d % 2)) free in
     let next : next_state (Some rows) (d % 2) mine.state tag ≡ row.0 = ap (λ (o : Option ℕ). unwrap_or o mine.state) row.1 in
-    let step : InStep rows (d % 2) row.0 (tags_of mine.waiting.items) theirs.state (tags_of theirs.waiting.items ++ tag ∷ []) = put_step rows (d % 2) mine.state tag row.0 theirs.state (tags_of mine.waiting.items) (tags_of theirs.waiting.items) valid pair row.1 in
+    let step : InStep rows (d % 2) row.0 (tags_of mine.waiting.items) theirs.state (tags_of theirs.waiting.items ++ tag ∷ []) =
+    put_step rows (d % 2) mine.state tag row.0 theirs.state (tags_of mine.waiting.items) (tags_of theirs.waiting.items) valid pair row.1 in
     let more : tags_of (put_line tag bs theirs).waiting.items ≡ tags_of theirs.waiting.items ++ tag ∷ [] = tags_append theirs.waiting.items _ in
     same_lines rows (d % 2) (told_line (Some rows) (d % 2) tag mine) (slice_index_or new d no_line) (put_line tag bs theirs) (slice_index_or new (peer d) no_line) (sym lo) (sym hi)
     (subst (λ (z : ℕ). InStep rows (d % 2) z (tags_of mine.waiting.items) theirs.state (tags_of (put_line tag bs theirs).waiting.items)) (sym next)
@@ -184,6 +199,19 @@ module _ (m : Machine) (p e tag : ℕ) (bs : List ℕ) (w : IsWhole m) (g : MayG
   passed : Passed d bs m.store (pass_all p d bs m.store)
   passed = passed_all p d bs m.store range held (w.full (Process p))
 
+  -- of its list the process still holds what it did not give
+  still : (r : ℕ) → holds m.store (Process p) r ≡ true → holds (pass_all p d bs m.store) (Process p) r ≡ not (list_any (λ b. b == r) bs)
+  still r h = rw (any_times r bs) (elim (cases_Bool (nat_lt 0 (times r bs))) [
+    | inl y ↦ (let o : owner (pass_all p d bs m.store) r ≡ Some (Direction d) = passed.owners r ∙ rw y refl in
+        rw y (ap (λ (k : Option Holder). is_held_by k (Process p)) o))
+    | inr f ↦ (let o : owner (pass_all p d bs m.store) r ≡ owner m.store r = passed.owners r ∙ rw f refl in
+        rw f (ap (λ (k : Option Holder). is_held_by k (Process p)) o ∙ h))
+  ])
+
+  pub kept : filter (λ r. holds (pass_all p d bs m.store) (Process p) r) (blocks m p) ≡ without bs (blocks m p)
+  kept = same_kept (λ r. holds (pass_all p d bs m.store) (Process p) r) (λ r. not (list_any (λ b. b == r) bs)) (blocks m p)
+      (λ r l. still r (some_times _ _ (w.once (Process p) r) l))
+
   left : (q : ℕ) → times q (without bs (blocks m p)) + times q bs ≡ times q (blocks m p)
   left q =
       let a : times q (without bs (blocks m p)) ≡ cond (nat_lt 0 (times q bs)) 0 (times q (blocks m p)) = times_without q bs (blocks m p) in
@@ -191,7 +219,8 @@ module _ (m : Machine) (p e tag : ℕ) (bs : List ℕ) (w : IsWhole m) (g : MayG
       let h = held q in
       elim (cases_Bool (nat_lt 0 (times q bs))) [
         | inl t ↦ (let k : times q (without bs (blocks m p)) ≡ 0 = rw t at a in let l = ltb-true 0 (times q bs) t in
-            let one : cond {A = ℕ} (holds m.store (Process p) q) 1 0 ≤ 1 = (elim (cases_Bool (holds m.store (Process p) q)) [ inl u ↦ rw u (omega arith) | inr u ↦ rw u (omega arith) ]) in omega (arith, k, l, o, h, one))
+            let one : cond {A = ℕ} (holds m.store (Process p) q) 1 0 ≤ 1 = (elim (cases_Bool (holds m.store (Process p) q)) [ inl u ↦ rw u (omega arith) | inr u ↦ rw u (omega arith) ]) in
+            omega (arith, k, l, o, h, one))
         | inr f ↦ (let k : times q (without bs (blocks m p)) ≡ times q (blocks m p) = rw f at a in let l : times q bs ≤ 0 = ltb-false 0 (times q bs) f in omega (arith, k, l))
       ]
 

@@ -1,5 +1,6 @@
 -- Sweeping one entry leaves a whole machine.
-use Rattle.std.proofs.Common.{◌≡◌, ◌≢◌, ℕ, zero, suc, ◌+◌, ◌-◌, ◌*◌, ◌/◌, ◌%◌, ◌<◌, ◌≤◌, List, [], length, true, false, cond, refl, sym, ap, ◌∙◌, arith, ◌⊎◌, inl, inr, get_or-set_same, get_or-set_other}
+use Rattle.std.proofs.Common.{◌≡◌, ◌≢◌, ℕ, zero, suc, ◌+◌, ◌-◌, ◌*◌, ◌/◌, ◌%◌, ◌<◌, ◌≤◌, List, []}
+use Rattle.std.proofs.Common.{length, true, false, cond, refl, sym, ap, ◌∙◌, arith, ◌⊎◌, inl, inr, get_or-set_same, get_or-set_other}
 use Rattle.std.specs.Prelude.{Option, Some, None, is_some, ◌==◌, nat_lt, slice_set, slice_index_or}
 use Rattle.std.proofs.lemmas.Bool.{cases_eq, cases_Bool, false≢true, eq-eqb, ne_eqb, lt-ltb, le-ltb}
 use Rattle.std.proofs.lemmas.List.{length-set}
@@ -91,7 +92,8 @@ lines_long : (contracts : List (Option (List Row))) (lines : List Line) (o : Opt
 lines_long contracts lines None = refl
 lines_long contracts lines (Some d) = length-set lines d _
 
-fresh_shut : (contracts : List (Option (List Row))) (lines : List Line) (o : Option ℕ) (k : ℕ) → ((d : ℕ) → o ≡ Some d → k ≢ d) → slice_index_or (shut_in contracts lines o) k no_line ≡ slice_index_or lines k no_line
+fresh_shut : (contracts : List (Option (List Row))) (lines : List Line) (o : Option ℕ) (k : ℕ) → ((d : ℕ) → o ≡ Some d → k ≢ d) →
+    slice_index_or (shut_in contracts lines o) k no_line ≡ slice_index_or lines k no_line
 fresh_shut contracts lines None k n = refl
 fresh_shut contracts lines (Some d) k n = get_or-set_other lines d k _ no_line (n d refl)
 
@@ -100,7 +102,8 @@ unfolding sweep_one
 fresh_now m p from k w h =
     fresh_shut m.contracts m.lines (end_of m (entry m p from)) k (λ d e s. let o = (w.ends (entry m p from) d e).opened in omega (arith, o, h, s)) ∙ w.fresh k h
 
-bytes_now : (m : Machine) (p from q : ℕ) → IsWhole m → from < length (blocks m p) → length (buffer (sweep_one p from m) q) ≡ cond (is_some (end_of (sweep_one p from m) q)) 0 (len (sweep_one p from m).store q)
+bytes_now : (m : Machine) (p from q : ℕ) → IsWhole m → from < length (blocks m p) →
+    length (buffer (sweep_one p from m) q) ≡ cond (is_some (end_of (sweep_one p from m) q)) 0 (len (sweep_one p from m).store q)
 unfolding sweep_one
 bytes_now m p from q w l =
     let r : ℕ = entry m p from in

@@ -6,7 +6,7 @@ use Rattle.std.proofs.lemmas.List.{length-set, set-get_or, get_or_read}
 use Rattle.xh_model.specs.Cover.{SameRun, length_of}
 use Rattle.xh_model.specs.Arena.{ArenaState}
 use Rattle.xh_model.specs.Store.{Store, no_arena, arena_at, arena_of, len, with_arena}
-use Rattle.xh_core.specs.Measuring.{AreLengths}
+use Rattle.xh_core.specs.inner.Measuring.{AreLengths}
 
 same_number : (q r : ℕ) → q / 256 ≡ r / 256 → q % 256 ≡ r % 256 → q ≡ r
 same_number q r a b = omega arith

@@ -66,7 +66,8 @@ module _ (m : Machine) (p from budget : ℕ) (w : IsWhole m) (l : from < length 
   later : (q : ℕ) → 0 < times q (take s.taken (drop from (blocks one p) ++ s.accepted)) → q ≢ first
   later q h e =
       let le = sum_by-take-le (λ x. cond {A = ℕ} (x == q) 1 0) (drop from (blocks one p) ++ s.accepted) s.taken in
-      let t : times q (drop from (blocks one p) ++ s.accepted) ≡ times q (drop from (blocks one p)) + times q s.accepted = sum_by-append (λ x. cond {A = ℕ} (x == q) 1 0) (drop from (blocks one p)) s.accepted in
+      let t : times q (drop from (blocks one p) ++ s.accepted) ≡ times q (drop from (blocks one p)) + times q s.accepted =
+      sum_by-append (λ x. cond {A = ℕ} (x == q) 1 0) (drop from (blocks one p)) s.accepted in
       let z : times q (drop from (blocks one p)) ≡ 0 = rw e not_listed in
       not_accepted q (omega arith) e
 
@@ -99,7 +100,8 @@ module _ (m : Machine) (p from budget : ℕ) (w : IsWhole m) (l : from < length 
       elim (cases_eq first r) [
         | inl f ↦ (
             let u : times r (first ∷ (others ++ (came ++ s.accepted))) ≡ 1 + times r (others ++ (came ++ s.accepted)) = t ∙ rw (eq-eqb first r f) refl in
-            let a : times r (drop from (blocks one p) ++ s.accepted) ≡ times r (drop from (blocks one p)) + times r s.accepted = sum_by-append (λ x. cond {A = ℕ} (x == r) 1 0) (drop from (blocks one p)) s.accepted in
+            let a : times r (drop from (blocks one p) ++ s.accepted) ≡ times r (drop from (blocks one p)) + times r s.accepted =
+            sum_by-append (λ x. cond {A = ℕ} (x == r) 1 0) (drop from (blocks one p)) s.accepted in
             let z : times r (drop from (blocks one p)) ≡ 0 = rw (sym f) not_listed in
             let y : times r s.accepted ≤ 0 = (elim (cases_lt 0 (times r s.accepted)) [ inl l ↦ absurd (not_accepted r l (sym f)) | inr g ↦ g ]) in
             omega (arith, u, e, a, z, y))
@@ -131,7 +133,8 @@ sweeps_nothing p from budget m w h = record {
   within = omega arith;
   there = omega arith;
   was_on_way = refl;
-  once = λ r. rw (append-nil (drop from (blocks m p))) (let a = times-drop-le r from (blocks m p) in let o = w.once (Process p) r in let b = at_most (holds m.store (Process p) r) in omega (arith, a, o, b));
+  once = λ r. rw (append-nil (drop from (blocks m p))) (let a = times-drop-le r from (blocks m p) in let o = w.once (Process p) r in let b = at_most (holds m.store (Process p) r) in
+      omega (arith, a, o, b));
   in_flight = λ r l. absurd (omega (arith, l));
   before = refl;
   rest = sym (append-nil (drop from (blocks m p)));
@@ -162,7 +165,8 @@ finishes p from budget m n w h s =
     let many : length m.store.owners ≤ 2048 = few_records m w in
     let work : List ℕ = drop from (blocks m p) ++ s.accepted in
     let f : length (drop from (blocks m p) ++ s.accepted) ≤ length m.store.owners = few (length m.store.owners) (drop from (blocks m p) ++ s.accepted) s.once (λ q l.
-    let a : times q (drop from (blocks m p) ++ s.accepted) ≡ times q (drop from (blocks m p)) + times q s.accepted = sum_by-append (λ x. cond {A = ℕ} (x == q) 1 0) (drop from (blocks m p)) s.accepted in
+    let a : times q (drop from (blocks m p) ++ s.accepted) ≡ times q (drop from (blocks m p)) + times q s.accepted =
+    sum_by-append (λ x. cond {A = ℕ} (x == q) 1 0) (drop from (blocks m p)) s.accepted in
     let b = times-drop-le q from (blocks m p) in
     elim (cases_lt 0 (times q s.accepted)) [
       | inl y ↦ (let t = s.in_flight q y in is_there m.store (Direction t.0) q (rw (t.1) (eq-eqb t.0 t.0 refl)))

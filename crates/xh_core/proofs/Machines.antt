@@ -11,7 +11,8 @@ use Rattle.xh_core.specs.Machine.{Machine, place, is_current, blocks, no_place, 
 use Rattle.xh_core.specs.Refusing.{IsRunning}
 
 -- machines with the same parts are one
-pub same_machine : (a b : Machine) → a.store ≡ b.store → a.ends ≡ b.ends → a.buffers ≡ b.buffers → a.places ≡ b.places → a.lines ≡ b.lines → a.contracts ≡ b.contracts → a.opened ≡ b.opened → a.depth ≡ b.depth → a ≡ b
+pub same_machine : (a b : Machine) → a.store ≡ b.store → a.ends ≡ b.ends → a.buffers ≡ b.buffers → a.places ≡ b.places → a.lines ≡ b.lines → a.contracts ≡ b.contracts → a.opened ≡ b.opened →
+    a.depth ≡ b.depth → a ≡ b
 same_machine a b s e f p l c o d = λ i. record { store = s i; ends = e i; buffers = f i; places = p i; lines = l i; contracts = c i; opened = o i; depth = d i }
 
 -- an entry that is there is the one that is read with any default
@@ -74,6 +75,10 @@ current_blocks m p h = rw h refl
 pub place_there : (m : Machine) (p : ℕ) → IsWhole m → p % 32 < length m.places
 place_there m p w = let e = w.places in omega (arith, e)
 
+-- the place of a process, as it is read
+pub place_read : (m : Machine) (p i : ℕ) (x : Place) → IsWhole m → i ≡ p % 32 → x ≡ slice_index_or m.places i x → x ≡ place m p
+place_read m p i x w e h = read_at m.places i (p % 32) x no_place (place_there m p w) e h
+
 pub current_range : (m : Machine) (p : ℕ) → IsWhole m → is_current m p ≡ true → p < 4096
 current_range m p w h = let e : (place m p).generation ≡ p / 32 = current_generation m p h in let g : (place m p).generation ≤ 127 = w.generations p in omega (arith, e, g)
 
@@ -85,11 +90,14 @@ pub record IsPlace (x : Place) : Type 0 where
 -- the places but for one
 pub generations_set : (m : Machine) (p : ℕ) (x : Place) → IsWhole m → IsPlace x → (k : ℕ) → (place_in (slice_set m.places (p % 32) x) k).generation ≤ 127
 generations_set m p x w is k = elim (cases_eq (k % 32) (p % 32)) [
-  | inl e ↦ (let now : place_in (slice_set m.places (p % 32) x) k ≡ x = ap (λ (i : ℕ). slice_index_or (slice_set m.places (p % 32) x) i no_place) e ∙ place_here m.places p x (place_there m p w) in rw now is.generation)
+  | inl e ↦ (let now : place_in (slice_set m.places (p % 32) x) k ≡ x = ap (λ (i : ℕ). slice_index_or (slice_set m.places (p % 32) x) i no_place) e
+      ∙ place_here m.places p x (place_there m p w) in rw now is.generation)
   | inr d ↦ rw (place_else m.places p k x d) (w.generations k)
 ]
 
-pub idle_set : (m : Machine) (p : ℕ) (x : Place) → IsWhole m → IsPlace x → (k : ℕ) → (is_vacant (place_in (slice_set m.places (p % 32) x) k).status || is_ended (place_in (slice_set m.places (p % 32) x) k).status) ≡ true → (place_in (slice_set m.places (p % 32) x) k).blocks.items ≡ []
+pub idle_set : (m : Machine) (p : ℕ) (x : Place) → IsWhole m → IsPlace x → (k : ℕ) →
+    (is_vacant (place_in (slice_set m.places (p % 32) x) k).status || is_ended (place_in (slice_set m.places (p % 32) x) k).status) ≡ true →
+    (place_in (slice_set m.places (p % 32) x) k).blocks.items ≡ []
 idle_set m p x w is k h = elim (cases_eq (k % 32) (p % 32)) [
   | inl e ↦ (
       let now : place_in (slice_set m.places (p % 32) x) k ≡ x = ap (λ (i : ℕ). slice_index_or (slice_set m.places (p % 32) x) i no_place) e ∙ place_here m.places p x (place_there m p w) in
@@ -100,7 +108,8 @@ idle_set m p x w is k h = elim (cases_eq (k % 32) (p % 32)) [
 ]
 
 -- a place that is not idle may have any list
-pub busy_place : (m : Machine) (p : ℕ) (rs : List ℕ) → IsWhole m → (is_vacant (place m p).status || is_ended (place m p).status) ≡ false → IsPlace (record (place m p) { blocks = record { items = rs } })
+pub busy_place : (m : Machine) (p : ℕ) (rs : List ℕ) → IsWhole m → (is_vacant (place m p).status || is_ended (place m p).status) ≡ false →
+    IsPlace (record (place m p) { blocks = record { items = rs } })
 busy_place m p rs w b = record { generation = w.generations p; idle = λ h. absurd (false≢true (sym b ∙ h)) }
 
 -- a place that lists something is not idle

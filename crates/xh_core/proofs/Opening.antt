@@ -8,9 +8,9 @@ use Rattle.xh_core.specs.declared.block.Block.{Block}
 use Rattle.xh_core.specs.declared.refused.Refused.{Refused}
 use Rattle.xh_core.specs.declared.refused.Refused.TheVariants.{NoProcess, Ended}
 use Rattle.xh_core.specs.Machine.{Machine, status_of, is_vacant, is_running, IsWhole}
-use Rattle.xh_core.specs.Refusing.{Answer, answered, first_refusal, start, IsRunning}
-use Rattle.xh_core.specs.ChannelCommands.{low_end, high_end, claimed_once, ends_at, channel_tests, open_channel, wired, wire_channel}
-use Rattle.xh_core.specs.Pairing.{Paired, moved, pair_tests, wire_heads}
+use Rattle.xh_core.specs.Refusing.{Answer, answered, first_refusal, IsRunning}
+use Rattle.xh_core.specs.ChannelCommands.{low_end, high_end, claimed_once, ends_at, channel_heads, pair_tests, open_tests, wire_heads, open_channel, wired, wire_channel}
+use Rattle.xh_core.specs.inner.Pairing.{Paired, moved}
 use Rattle.xh_core.proofs.Machines.{current_range}
 use Rattle.xh_core.proofs.Firsts.{first_append, first_later}
 use Rattle.xh_core.proofs.Pairs.{Shared, lowest_is, paired_two, shared}
@@ -51,9 +51,9 @@ same_one p one two = rw (eq-eqb p p refl) refl
 pub same_process : (p a : ℕ) (contract : Option (List Row)) (m : Machine) → wire_channel p p a contract m ≡ open_channel p a contract m
 unfolding wire_channel open_channel
 same_process p a contract m =
-    let tests = tests_twice (is_vacant (status_of m p)) (not (is_running (status_of m p))) (Some NoProcess) (Some Ended) (first_refusal (channel_tests m p a)) in
+    let tests = tests_twice (is_vacant (status_of m p)) (not (is_running (status_of m p))) (Some NoProcess) (Some Ended) (first_refusal (channel_heads m a ++ pair_tests p m.store a)) in
     ap (λ (o : Option Refused). answered o m (wire_answer p p (low_end m.store a) (high_end p m.store a) contract m)) tests
-    ∙ ap (λ (n : Machine). answered (first_refusal (start m p ++ channel_tests m p a)) m (Ok (ends_at (low_end m.store a) (high_end p m.store a)), n)) (same_one p _ _)
+    ∙ ap (λ (n : Machine). answered (first_refusal (open_tests m p a)) m (Ok (ends_at (low_end m.store a) (high_end p m.store a)), n)) (same_one p _ _)
 
 -- ---- what the two records are
 
@@ -62,7 +62,8 @@ pair_there m p a r t u w runs g =
     let two = paired_two p a r t m.store u w.store (current_range m p w runs.0) g in
     (subst (λ (x : ℕ). r < x) (sym w.kinds) two.there_r, subst (λ (x : ℕ). t < x) (sym w.kinds) two.there_t)
 
-pub all_shared : (m : Machine) (p q a r t : ℕ) (u s : Store) → IsWhole m → IsRunning m p → IsRunning m q → m.opened < 64 → Paired p a r t m.store u → s ≡ moved p q t (2 * m.opened + 1) u → IsLawful s →
+pub all_shared : (m : Machine) (p q a r t : ℕ) (u s : Store) → IsWhole m → IsRunning m p → IsRunning m q → m.opened < 64 → Paired p a r t m.store u → s ≡ moved p q t (2 * m.opened + 1) u →
+    IsLawful s →
     Shared p q r t m.store s
 all_shared m p q a r t u s w runs_p runs_q more g e lawful =
     subst (λ (x : Store). Shared p q r t m.store x) (sym e)

@@ -12,8 +12,8 @@ use Rattle.xh_core.specs.declared.refused.Refused.{Refused}
 use Rattle.xh_core.specs.declared.refused.Refused.TheVariants.{NoRecord}
 use Rattle.xh_core.specs.BlockCommands.{free_record, lowest, space_tests}
 use Rattle.xh_core.specs.Refusing.{first_refusal}
-use Rattle.xh_core.specs.ChannelCommands.{claimed_once, handed}
-use Rattle.xh_core.specs.Pairing.{ClaimedTwo, Paired, moved, pair_tests}
+use Rattle.xh_core.specs.ChannelCommands.{claimed_once, handed, pair_tests}
+use Rattle.xh_core.specs.inner.Pairing.{ClaimedTwo, Paired, moved}
 use Rattle.xh_core.proofs.Stores.{done, own_holder, at_set, same_len}
 use Rattle.xh_core.proofs.Claiming.{IsFree, free_is, Claimed, claimed, unclaimed, carve-owners, cut-owners, same_space}
 
@@ -91,7 +91,8 @@ claimed_two p a r t s n w l c =
     subst (λ (x : Store). TwoClaimed p r t s x) (sym c.is) (two_claimed s p a r t w l c.low high)
 
 -- the tests of the two records pass, and what is left is whether there is room
-pub pair_room : (p a r t : ℕ) (s n : Store) (o : Option Refused) → IsLawful s → p < 4096 → ClaimedTwo p a r t s n → first_refusal (space_tests n (r / 256) 64) ≡ o → first_refusal (pair_tests p s a) ≡ o
+pub pair_room : (p a r t : ℕ) (s n : Store) (o : Option Refused) → IsLawful s → p < 4096 → ClaimedTwo p a r t s n → first_refusal (space_tests n (r / 256) 64) ≡ o →
+    first_refusal (pair_tests p s a) ≡ o
 pair_room p a r t s n o w l c f =
     let two : TwoClaimed p r t s n = claimed_two p a r t s n w l c in
     let none : (is_none (free_record s a) || is_none (free_record (claimed_once p s a) a)) ≡ false = (λ i. is_none (c.low i) || is_none (c.high i)) in
@@ -195,7 +196,8 @@ pub shared : (p q a r t d : ℕ) (s n : Store) → IsLawful s → p < 4096 → q
 shared p q a r t d s n w pl ql dl g lawful =
     let c : TwoClaimed p r t s (after (Claim p t) (after (Claim p r) s)) = paired_two p a r t s n w pl g in
     let same : n.owners ≡ (after (Claim p t) (after (Claim p r) s)).owners = paired_owners p a r t s n g in
-    let owners : (k : ℕ) → owner n k ≡ cond (k == t) (Some (Process p)) (cond (k == r) (Some (Process p)) (owner s k)) = (λ k. ap (λ (os : List (Option Holder)). slice_index_or os k None) same ∙ c.owners k) in
+    let owners : (k : ℕ) → owner n k ≡ cond (k == t) (Some (Process p)) (cond (k == r) (Some (Process p)) (owner s k)) =
+    (λ k. ap (λ (os : List (Option Holder)). slice_index_or os k None) same ∙ c.owners k) in
     let own : owner n t ≡ Some (Process p) = owners t ∙ rw (eq-eqb t t refl) refl in
     let h : holds n (Process p) t ≡ true = own_holder n p t own in
     let many : length n.owners ≡ length s.owners = ap length same ∙ c.many in

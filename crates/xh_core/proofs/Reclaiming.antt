@@ -104,7 +104,8 @@ module _ (m : Machine) (p from : ℕ) (w : IsWhole m) (l : from < length (blocks
   one_kept r f = elim (cases_eq r first) [
     | inl e ↦ absurd (false≢true (sym f ∙ rw e first_freed))
     | inr d ↦ elim (other_owner m p from r w l d) [
-      | inl c ↦ absurd (false≢true (sym f ∙ included (freed m.store n.store) r (arriving m first) (includes_right (freed m.store n.store) (drop (suc from) (blocks m p)) (arriving m first) one_includes) (ltb-true 0 _ c.3)))
+      | inl c ↦ absurd (false≢true (sym f ∙ included (freed m.store n.store) r (arriving m first)
+          (includes_right (freed m.store n.store) (drop (suc from) (blocks m p)) (arriving m first) one_includes) (ltb-true 0 _ c.3)))
       | inr s ↦ rest.kept r (same_freed r d ∙ f) ∙ s.0
     ]
   ]
@@ -142,7 +143,8 @@ sweep_frees (suc budget) p from m w done = elim (cases_lt from (length (blocks m
       let is : sweep p from (suc budget) m ≡ sweep p from budget (sweep_one p from m) = rw (lt-ltb from (length (blocks m p)) l) refl in
       let done2 : length (blocks (sweep p from budget (sweep_one p from m)) p) ≤ from = subst (λ (x : Machine). length (blocks x p) ≤ from) is done in
       let more = sweep_frees budget p from (sweep_one p from m) (whole_one m p from w l) done2 in
-      let more2 : Frees (arriving (sweep_one p from m)) (sweep_one p from m).store (sweep p from budget (sweep_one p from m)).store (drop (suc from) (blocks m p) ++ arriving m (entry m p from)) = subst (λ (rs : List ℕ). Frees (arriving (sweep_one p from m)) (sweep_one p from m).store (sweep p from budget (sweep_one p from m)).store rs) (work_after m p from w l) more in
+      let more2 : Frees (arriving (sweep_one p from m)) (sweep_one p from m).store (sweep p from budget (sweep_one p from m)).store (drop (suc from) (blocks m p) ++ arriving m (entry m p from)) =
+      subst (λ (rs : List ℕ). Frees (arriving (sweep_one p from m)) (sweep_one p from m).store (sweep p from budget (sweep_one p from m)).store rs) (work_after m p from w l) more in
       rw (is, work_before m p from l) (frees_one m p from w l (sweep p from budget (sweep_one p from m)) more2))
   | inr g ↦ (
       let is : sweep p from (suc budget) m ≡ m = rw (le-ltb from (length (blocks m p)) g) refl in

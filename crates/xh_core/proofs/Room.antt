@@ -1,10 +1,10 @@
 -- Distinct records are no more than there are records.
-use Rattle.std.proofs.Common.{◌≡◌, ℕ, zero, suc, ◌+◌, ◌<◌, ◌≤◌, List, [], ◌∷◌, ◌++◌, length, drop, drop-cons, Bool, true, false, cond, refl, sym, ap, ◌∙◌, arith, inl, inr}
+use Rattle.std.proofs.Common.{◌≡◌, ℕ, suc, ◌+◌, ◌<◌, ◌≤◌, List, [], ◌∷◌, ◌++◌, length, drop, drop-cons, Bool, true, false, cond, refl, sym, ap, ◌∙◌, arith, inl, inr}
 use Rattle.std.specs.Prelude.{Option, Some, None, ◌==◌, slice_index_or}
 use Rattle.std.specs.List.{sum_by, range_with_len}
-use Rattle.std.proofs.lemmas.Bool.{cases_eq, cases_lt, cases_Bool, eq-eqb, ne_eqb}
+use Rattle.std.proofs.lemmas.Bool.{cases_lt, cases_Bool, eq-eqb}
 use Rattle.std.proofs.lemmas.List.{length-append}
-use Rattle.std.proofs.lemmas.List.Sums.{sum_by-cons, sum_by-append, sum_by-le}
+use Rattle.std.proofs.lemmas.List.Sums.{sum_by-append, sum_by-le}
 use Rattle.std.proofs.lemmas.List.FromFn.{length-range_with_len}
 use Rattle.xh_model.specs.declared.event.Holder.{Holder}
 use Rattle.xh_model.specs.declared.event.Holder.TheVariants.{Process, Direction}
@@ -54,7 +54,8 @@ few_records m w = let a = w.store.few in let b = w.store.long in omega (arith, a
 pub room : (m : Machine) (p : ℕ) (o : Option ℕ) → IsWhole m → length (blocks m p) + length (way_in m.lines o) ≤ 2048
 room m p None w =
     let many : length m.store.owners ≤ 2048 = few_records m w in
-    let f = few (length m.store.owners) (blocks m p) (λ q. let e = w.once (Process p) q in let a = at_most_one (holds m.store (Process p) q) in omega arith) (λ q l. held_there m (Process p) q w l) in omega arith
+    let f = few (length m.store.owners) (blocks m p) (λ q. let e = w.once (Process p) q in let a = at_most_one (holds m.store (Process p) q) in omega arith)
+    (λ q l. held_there m (Process p) q w l) in omega arith
 room m p (Some d) w =
     let many : length m.store.owners ≤ 2048 = few_records m w in
     let both : (q : ℕ) → times q (blocks m p ++ on_way m d) ≡ times q (blocks m p) + times q (on_way m d) = λ q. sum_by-append (λ x. cond {A = ℕ} (x == q) 1 0) (blocks m p) (on_way m d) in

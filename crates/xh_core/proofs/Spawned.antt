@@ -99,7 +99,8 @@ ready m k w e =
     record {
       there = l;
       can = at.1;
-      generation = started_generation (is_vacant (slice_index_or m.places k no_place).status) (is_ended (slice_index_or m.places k no_place).status) (slice_index_or m.places k no_place).generation at.1 g;
+      generation = started_generation (is_vacant (slice_index_or m.places k no_place).status) (is_ended (slice_index_or m.places k no_place).status)
+          (slice_index_or m.places k no_place).generation at.1 g;
       whole = spawned_whole m k w l at.1;
     }
 

@@ -44,7 +44,8 @@ listed_in x q = cond (x.generation == (q / 32)) x.blocks.items []
 pub status_blocks : (m : Machine) (p q : ℕ) (s : Status) → IsWhole m → blocks (with_status p s m) q ≡ blocks m q
 status_blocks m p q s w = elim (cases_eq (q % 32) (p % 32)) [
   | inl e ↦ (
-      let now : place (with_status p s m) q ≡ record (place m p) { status = s } = ap (λ (i : ℕ). slice_index_or (with_status p s m).places i no_place) e ∙ place_here m.places p (record (place m p) { status = s }) (place_there m p w) in
+      let now : place (with_status p s m) q ≡ record (place m p) { status = s } = ap (λ (i : ℕ). slice_index_or (with_status p s m).places i no_place) e
+      ∙ place_here m.places p (record (place m p) { status = s }) (place_there m p w) in
       let was : place m q ≡ place m p = ap (λ (i : ℕ). slice_index_or m.places i no_place) e in
       ap (λ (x : Place). listed_in x q) now ∙ ap (λ (x : Place). listed_in x q) (sym was))
   | inr d ↦ ap (λ (x : Place). listed_in x q) (place_else m.places p q (record (place m p) { status = s }) d)

@@ -1,12 +1,12 @@
 -- The bytes handed out are those of the lists of all places and those in flight.
-use Rattle.std.proofs.Common.{◌≡◌, ◌≢◌, ℕ, ◌+◌, ◌*◌, ◌/◌, ◌%◌, ◌<◌, ◌≤◌, List, [], ◌∷◌, length, Bool, true, false, cond, refl, sym, ap, ◌∙◌, arith, inl, inr}
+use Rattle.std.proofs.Common.{◌≡◌, ℕ, ◌+◌, ◌*◌, ◌/◌, ◌%◌, ◌<◌, ◌≤◌, List, [], ◌∷◌, length, Bool, true, false, cond, refl, sym, ap, ◌∙◌, arith, inl, inr}
 use Rattle.std.specs.Prelude.{◌==◌, map, slice_index_or}
 use Rattle.std.specs.List.{sum_by, range_with_len}
-use Rattle.std.proofs.lemmas.Bool.{cases_eq, cases_Bool, eq-eqb, ne_eqb}
+use Rattle.std.proofs.lemmas.Bool.{cases_eq, eq-eqb, ne_eqb}
 use Rattle.std.proofs.lemmas.List.Sums.{sum_by-cons, sum_by-append}
 use Rattle.xh_model.specs.declared.event.Holder.{Holder}
 use Rattle.xh_model.specs.declared.event.Holder.TheVariants.{Process, Direction}
-use Rattle.xh_model.specs.Store.{Store, len, holds, numbers, bytes_of, holders, all_holders, all_out}
+use Rattle.xh_model.specs.Store.{len, holds, numbers, bytes_of, holders, all_holders, all_out}
 use Rattle.xh_model.proofs.Totals.{sum_zero, sum_add, sum_same, total_bytes}
 use Rattle.xh_core.specs.declared.place.Place.{Place}
 use Rattle.xh_core.specs.declared.line.Line.{Line}
@@ -42,7 +42,8 @@ once_or_never false n k e = rw e (omega arith)
 -- the bytes of a holder are those of its list
 listed_bytes : (m : Machine) (h : Holder) → IsWhole m → bytes_of m.store h ≡ total m.store (listed m h)
 listed_bytes m h w =
-    sum_same (λ r. cond (holds m.store h r) (len m.store r) 0) (λ r. times r (listed m h) * len m.store r) (numbers m.store) (λ r. once_or_never (holds m.store h r) (len m.store r) (times r (listed m h)) (w.once h r))
+    sum_same (λ r. cond (holds m.store h r) (len m.store r) 0) (λ r. times r (listed m h) * len m.store r) (numbers m.store)
+    (λ r. once_or_never (holds m.store h r) (len m.store r) (times r (listed m h)) (w.once h r))
     ∙ by_number (λ r. len m.store r) (256 * length m.store.arenas) (listed m h) (λ q l. let t = held_there m h q w l in let e = w.store.long in omega (arith, t, e))
 
 -- ---- all processes

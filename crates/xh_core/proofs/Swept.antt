@@ -1,5 +1,5 @@
 -- What sweeping one entry leaves.
-use Rattle.std.proofs.Common.{◌≡◌, ◌≢◌, ℕ, ◌+◌, ◌/◌, ◌<◌, ◌≤◌, List, [], ◌++◌, length, Bool, true, false, cond, refl, sym, ap, ◌∙◌, arith, inl, inr, get_or-set_same, get_or-set_other}
+use Rattle.std.proofs.Common.{◌≡◌, ◌≢◌, ℕ, ◌+◌, ◌/◌, ◌%◌, ◌<◌, ◌≤◌, List, [], ◌++◌, length, Bool, true, false, cond, refl, sym, ap, ◌∙◌, arith, inl, inr, get_or-set_same, get_or-set_other}
 use Rattle.std.specs.Prelude.{Option, Some, None, ◌==◌, nat_lt, slice_index_or}
 use Rattle.std.specs.List.{remove}
 use Rattle.std.proofs.lemmas.Bool.{cases_eq, cases_Bool, false≢true, eq-eqb, ne_eqb, lt-ltb, ltb-true, ltb-false}
@@ -10,9 +10,10 @@ use Rattle.xh_model.specs.declared.event.Holder.TheVariants.{Process, Direction}
 use Rattle.xh_model.specs.declared.event.Event.TheVariants.{GiveBack, Vacate}
 use Rattle.xh_model.specs.Store.{Store, owner, len, holds, is_held_by, change, after}
 use Rattle.xh_model.specs.Arena.{ArenaState}
+use Rattle.xh_core.specs.declared.place.Place.{Place}
 use Rattle.xh_core.specs.Machine.{Machine, times, end_of, place, blocks, way_in, on_way, arriving, IsWhole}
 use Rattle.xh_core.specs.Sweeping.{accept_from, sweep_one, shut_in}
-use Rattle.xh_core.proofs.Machines.{place_there, list_here, list_else, lists_current, current_generation, current_range, way_here, way_else}
+use Rattle.xh_core.proofs.Machines.{place_there, place_read, current_blocks, list_here, list_else, lists_current, current_generation, current_range, way_here, way_else}
 use Rattle.xh_core.proofs.Stores.{done, same_process, same_direction, is_there, at_set, Accepted, accepted_all, same_len, len_back, arena_there}
 
 -- the records on their way to an endpoint, if there is one
@@ -41,11 +42,30 @@ times_at rs k l =
     let le : cond {A = ℕ} (slice_index_or rs k 0 == slice_index_or rs k 0) 1 0 ≤ times (slice_index_or rs k 0) rs = get_or-le-sum_by (λ x. cond (x == slice_index_or rs k 0) 1 0) rs k 0 l in
     let e : cond {A = ℕ} (slice_index_or rs k 0 == slice_index_or rs k 0) 1 0 ≡ 1 = one_self (slice_index_or rs k 0) in omega arith
 
-some_times : (b : Bool) (n : ℕ) → n ≡ cond b 1 0 → 0 < n → b ≡ true
+pub some_times : (b : Bool) (n : ℕ) → n ≡ cond b 1 0 → 0 < n → b ≡ true
 some_times b n e l = elim (cases_Bool b) [ inl y ↦ y | inr f ↦ (let z : n ≡ 0 = e ∙ rw f refl in absurd (omega arith)) ]
 
 pub entry_held : (m : Machine) (p from : ℕ) → IsWhole m → from < length (blocks m p) → holds m.store (Process p) (entry m p from) ≡ true
 entry_held m p from w l = some_times _ _ (w.once (Process p) (entry m p from)) (times_at (blocks m p) from l)
+
+-- what a sweep of the entry at `from` finds: the place x, the list, and as `xs` the list once more
+pub record Entry (m : Machine) (p from : ℕ) (x : Place) (xs : List ℕ) : Type 0 where
+  pub here : x ≡ place m p
+  pub list : x.blocks.items ≡ blocks m p
+  pub read : slice_index_or xs from 0 ≡ entry m p from
+  pub there : entry m p from < length m.store.owners
+
+pub entry_found : (m : Machine) (p from i : ℕ) (x : Place) (xs : List ℕ) → IsWhole m → from < length (blocks m p) → i ≡ p % 32 → x ≡ slice_index_or m.places i x → xs ≡ x.blocks.items →
+    Entry m p from x xs
+entry_found m p from i x xs w l at_place read items =
+    let is : x ≡ place m p = place_read m p i x w at_place read in
+    let list : x.blocks.items ≡ blocks m p = ap (λ (y : Place). y.blocks.items) is ∙ sym (current_blocks m p (lists_current m p from l)) in
+    record {
+      here = is;
+      list = list;
+      read = ap (λ (ys : List ℕ). slice_index_or ys from 0) (items ∙ list);
+      there = is_there m.store (Process p) (entry m p from) (entry_held m p from w l);
+    }
 
 abbrev accepted_store : ℕ → ℕ → Machine → Store
 accepted_store p r m = accept_from p (end_of m r) (arriving m r) m.store

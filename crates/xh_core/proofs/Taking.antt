@@ -1,8 +1,8 @@
 -- A take leaves a whole machine.
-use Rattle.std.proofs.Common.{◌≡◌, ◌≢◌, ℕ, false, ◌+◌, ◌-◌, ◌/◌, ◌%◌, ◌<◌, List, [], ◌∷◌, ◌++◌, length, cond, refl, sym, ap, ◌∙◌, subst, arith, get_or-set_same, get_or-set_other}
+use Rattle.std.proofs.Common.{◌≡◌, ◌≢◌, ℕ, false, ◌+◌, ◌-◌, ◌/◌, ◌%◌, ◌<◌, ◌≤◌, List, [], ◌∷◌, ◌++◌, length, cond, refl, sym, ap, ◌∙◌, subst, arith, get_or-set_same, get_or-set_other}
 use Rattle.std.specs.Prelude.{Option, Some, None, is_none, unwrap_or, slice_set, slice_index_or}
 use Rattle.std.specs.List.{remove}
-use Rattle.std.proofs.lemmas.List.{length-set}
+use Rattle.std.proofs.lemmas.List.{length-append, length-set}
 use Rattle.xh_model.specs.declared.event.Holder.{Holder}
 use Rattle.xh_model.specs.declared.event.Holder.TheVariants.{Process, Direction}
 use Rattle.xh_model.specs.declared.row.Row.{Row}
@@ -15,9 +15,12 @@ use Rattle.xh_core.specs.declared.line.Line.{Line}
 use Rattle.xh_core.specs.Machine.{Machine, times, blocks, place, line, no_line, waiting, peer, tags_of, contract_of, next_state, carried, on_way, listed, IsWhole}
 use Rattle.xh_core.specs.Refusing.{toward}
 use Rattle.xh_core.specs.Sweeping.{accept_all}
-use Rattle.xh_core.specs.MessageCommands.{MayTake, taken, taken_line, front, no_message, is_banned}
+use Rattle.xh_core.specs.MessageCommands.{taken, taken_line, front, no_message, is_banned}
+use Rattle.xh_core.specs.inner.Checks.{MayTake}
 use Rattle.xh_core.proofs.Stores.{count_append, Accepted, accepted_all}
-use Rattle.xh_core.proofs.Machines.{runs_busy, place_there, list_here, list_else, current_generation, current_range, busy_place, generations_set, idle_set, way_here, way_else, peer_ne}
+use Rattle.xh_core.proofs.Machines.{runs_busy, place_there, list_here, list_else, current_generation, current_range, current_blocks}
+use Rattle.xh_core.proofs.Machines.{place_read, busy_place, generations_set, idle_set, way_here, way_else, peer_ne}
+use Rattle.xh_core.proofs.Room.{room}
 use Rattle.xh_core.proofs.Wired.{state_in, tags_in, IsPair, same_lines, wired_pair, pair_of, half_apart}
 use Rattle.xh_core.proofs.Moved.{Moved, moved_whole}
 
@@ -32,6 +35,41 @@ front_tags (m ∷ ms) h = refl
 abbrev front_tag : Line → ℕ
 front_tag l = (slice_index_or l.waiting.items 0 no_message).tag
 
+-- what a take finds: its process's place and list, and the front message with its records
+pub record Found (m : Machine) (p e d : ℕ) (x : Place) (message : Message) (rs : List ℕ) : Type 0 where
+  pub may : MayTake m p e (toward m e)
+  pub at : toward m e ≡ d
+  pub here : x ≡ place m p
+  pub list : x.blocks.items ≡ blocks m p
+  pub first : message ≡ front m e
+  pub came : rs ≡ (front m e).blocks.items
+
+pub found : (m : Machine) (p e d i : ℕ) (x : Place) (message : Message) (rs : List ℕ) → IsWhole m → MayTake m p e d → i ≡ p % 32 → x ≡ slice_index_or m.places i x →
+    message ≡ slice_index_or (waiting m d) 0 no_message → rs ≡ message.blocks.items → Found m p e d x message rs
+found m p e d i x message rs w may at_place read at_front records =
+    let at : toward m e ≡ d = ap (λ o. unwrap_or o 128) may.toward in
+    let is : x ≡ place m p = place_read m p i x w at_place read in
+    let came : message ≡ front m e = at_front ∙ ap (λ k. slice_index_or (waiting m k) 0 no_message) (sym at) in
+    record {
+      may = subst (MayTake m p e) (sym at) may;
+      at = at;
+      here = is;
+      list = ap (λ (y : Place). y.blocks.items) is ∙ sym (current_blocks m p may.runs.0);
+      first = came;
+      came = records ∙ ap (λ (y : Message). y.blocks.items) came;
+    }
+
+-- the list of the taker has room for them
+pub found_room : (m : Machine) (p e d : ℕ) (x : Place) (message : Message) (rs : List ℕ) → IsWhole m → Found m p e d x message rs → length x.blocks.items + length rs ≤ 2048
+found_room m p e d x message rs w f =
+    let rest : List ℕ = carried (remove (waiting m (toward m e)) 0) in
+    let all : length (blocks m p) + length (on_way m (toward m e)) ≤ 2048 = room m p (Some (toward m e)) w in
+    let way : length (on_way m (toward m e)) ≡ length (front m e).blocks.items + length rest =
+    ap length (front_split (waiting m (toward m e)) f.may.some) ∙ length-append (front m e).blocks.items rest in
+    let a : length x.blocks.items ≡ length (blocks m p) = ap length f.list in
+    let b : length rs ≡ length (front m e).blocks.items = ap length f.came in
+    omega (arith, all, way, a, b)
+
 -- the end that takes the front message is in step again
 take_pair : (rows : List Row) (lines new : List Line) (d : ℕ) → 0 < length (slice_index_or lines d no_line).waiting.items →
     slice_index_or new d no_line ≡ taken_line (Some rows) (1 - d % 2) (front_tag (slice_index_or lines d no_line)) (slice_index_or lines d no_line) →
@@ -41,7 +79,8 @@ take_pair rows lines new d some lo hi pair =
     let tag : ℕ = front_tag l in
     let rest : List ℕ = tags_of (remove l.waiting.items 0) in
     let split : tags_of l.waiting.items ≡ tag ∷ rest = front_tags l.waiting.items some in
-    let s = take_step rows (d % 2) l.state tag (state_in lines (peer d)) rest (tags_in lines (peer d)) (subst (λ (xs : List ℕ). InStep rows (d % 2) l.state xs (state_in lines (peer d)) (tags_in lines (peer d))) split pair) in
+    let s = take_step rows (d % 2) l.state tag (state_in lines (peer d)) rest (tags_in lines (peer d))
+    (subst (λ (xs : List ℕ). InStep rows (d % 2) l.state xs (state_in lines (peer d)) (tags_in lines (peer d))) split pair) in
     let next : next_state (Some rows) (1 - d % 2) l.state tag ≡ s.0 = ap (λ (o : Option ℕ). unwrap_or o l.state) s.1 in
     same_lines rows (d % 2) (taken_line (Some rows) (1 - d % 2) tag l) (slice_index_or new d no_line) (slice_index_or lines (peer d) no_line) (slice_index_or new (peer d) no_line) (sym lo) (sym hi)
     (subst (λ (z : ℕ). InStep rows (d % 2) z rest (state_in lines (peer d)) (tags_in lines (peer d))) (sym next) s.2)
@@ -70,7 +109,8 @@ module _ (m : Machine) (p e : ℕ) (w : IsWhole m) (t : MayTake m p e (toward m 
       let k = count_append q came (carried (remove (waiting m d) 0)) in omega (arith, s, k)
 
   accepted : Accepted p came m.store (accept_all p d came m.store)
-  accepted = accepted_all p d came m.store (current_range m p w t.runs.0) (λ q. let s = split q in let o : times q (on_way m d) ≡ cond {A = ℕ} (holds m.store (Direction d) q) 1 0 = w.once (Direction d) q in omega (arith, s, o))
+  accepted = accepted_all p d came m.store (current_range m p w t.runs.0)
+      (λ q. let s = split q in let o : times q (on_way m d) ≡ cond {A = ℕ} (holds m.store (Direction d) q) 1 0 = w.once (Direction d) q in omega (arith, s, o))
 
   there : d < length m.lines
   there = let a = w.lines in let b = w.opened in let c = t.within in omega (arith, a, b, c)
@@ -119,7 +159,8 @@ module _ (m : Machine) (p e : ℕ) (w : IsWhole m) (t : MayTake m p e (toward m 
       let pair : IsPair rows m.lines d = pair_of rows m.lines d (w.wired (d / 2) rows is).1 in
       let rest : List ℕ = tags_of (remove (waiting m d) 0) in
       let split : tags_of (waiting m d) ≡ (front m e).tag ∷ rest = front_tags (waiting m d) t.some in
-      let s = take_step rows (d % 2) (line m d).state (front m e).tag (state_in m.lines (peer d)) rest (tags_in m.lines (peer d)) (subst (λ (xs : List ℕ). InStep rows (d % 2) (line m d).state xs (state_in m.lines (peer d)) (tags_in m.lines (peer d))) split pair) in
+      let s = take_step rows (d % 2) (line m d).state (front m e).tag (state_in m.lines (peer d)) rest (tags_in m.lines (peer d))
+      (subst (λ (xs : List ℕ). InStep rows (d % 2) (line m d).state xs (state_in m.lines (peer d)) (tags_in m.lines (peer d))) split pair) in
       ap (λ (o : Option ℕ). is_none o) s.1
 
   pub front_allowed : is_banned (contract_of m.contracts d) (1 - d % 2) (line m d).state (front m e).tag ≡ false

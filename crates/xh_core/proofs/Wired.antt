@@ -56,7 +56,8 @@ same_lines rows side x x' y y' e f step = subst (λ (z : Line). ArePaired rows s
 
 same_pair : (rows : List Row) (lines new : List Line) (a b : ℕ) → slice_index_or new a no_line ≡ slice_index_or lines a no_line → slice_index_or new b no_line ≡ slice_index_or lines b no_line →
     InStep rows 0 (state_in lines a) (tags_in lines a) (state_in lines b) (tags_in lines b) → InStep rows 0 (state_in new a) (tags_in new a) (state_in new b) (tags_in new b)
-same_pair rows lines new a b x y step = same_lines rows 0 (slice_index_or lines a no_line) (slice_index_or new a no_line) (slice_index_or lines b no_line) (slice_index_or new b no_line) (sym x) (sym y) step
+same_pair rows lines new a b x y step = same_lines rows 0 (slice_index_or lines a no_line) (slice_index_or new a no_line) (slice_index_or lines b no_line) (slice_index_or new b no_line) (sym x)
+    (sym y) step
 
 -- a turn of one channel leaves the others in step
 pub wired_pair : (contracts : List (Option (List Row))) (lines new : List Line) (d : ℕ) → AreWired contracts lines →
@@ -86,18 +87,21 @@ drained_walk rows side state (tag ∷ tags) end h = elim (cases_Option (allowed 
   | inr some ↦ rw some.1 (drained_walk rows side some.0 tags end (rw some.1 at h))
 ]
 
-shut_pair : (rows : List Row) (lines new : List Line) (d : ℕ) → slice_index_or new d no_line ≡ shut_line (Some rows) (1 - d % 2) (slice_index_or lines d no_line) → slice_index_or new (peer d) no_line ≡ slice_index_or lines (peer d) no_line →
+shut_pair : (rows : List Row) (lines new : List Line) (d : ℕ) → slice_index_or new d no_line ≡ shut_line (Some rows) (1 - d % 2) (slice_index_or lines d no_line) →
+    slice_index_or new (peer d) no_line ≡ slice_index_or lines (peer d) no_line →
     IsPair rows lines d → IsPair rows new d
 shut_pair rows lines new d lo hi pair =
     let s = drain_step rows (d % 2) (state_in lines d) (state_in lines (peer d)) (tags_in lines d) (tags_in lines (peer d)) pair in
     let end : drained_state (Some rows) (1 - d % 2) (state_in lines d) (tags_in lines d) ≡ s.0 = drained_walk rows (1 - d % 2) (state_in lines d) (tags_in lines d) s.0 s.1 in
-    same_lines rows (d % 2) (shut_line (Some rows) (1 - d % 2) (slice_index_or lines d no_line)) (slice_index_or new d no_line) (slice_index_or lines (peer d) no_line) (slice_index_or new (peer d) no_line) (sym lo) (sym hi)
+    same_lines rows (d % 2) (shut_line (Some rows) (1 - d % 2) (slice_index_or lines d no_line)) (slice_index_or new d no_line) (slice_index_or lines (peer d) no_line)
+    (slice_index_or new (peer d) no_line) (sym lo) (sym hi)
     (subst (λ (z : ℕ). InStep rows (d % 2) z [] (state_in lines (peer d)) (tags_in lines (peer d))) (sym end) s.2)
 
 pub half_apart : (d k : ℕ) → k / 2 ≢ d / 2 → k ≢ d
 half_apart d k n e = n (ap (λ (x : ℕ). x / 2) e)
 
-pub shut_wired : (contracts : List (Option (List Row))) (lines : List Line) (o : Option ℕ) → ((d : ℕ) → o ≡ Some d → d < length lines) → AreWired contracts lines → AreWired contracts (shut_in contracts lines o)
+pub shut_wired : (contracts : List (Option (List Row))) (lines : List Line) (o : Option ℕ) → ((d : ℕ) → o ≡ Some d → d < length lines) → AreWired contracts lines →
+    AreWired contracts (shut_in contracts lines o)
 shut_wired contracts lines None l w = w
 shut_wired contracts lines (Some d) l w =
     let new : List Line = shut_in contracts lines (Some d) in
@@ -115,6 +119,7 @@ wired_orderly m wired c rows is =
     let low : Line = line m (2 * c) in
     let high : Line = line m (2 * c + 1) in (
       front_step rows 0 low.state high.state (tags_of low.waiting.items) (tags_of high.waiting.items) step,
-      front_step rows 1 high.state low.state (tags_of high.waiting.items) (tags_of low.waiting.items) (swap_step rows low.state high.state (tags_of low.waiting.items) (tags_of high.waiting.items) step),
+      front_step rows 1 high.state low.state (tags_of high.waiting.items) (tags_of low.waiting.items)
+          (swap_step rows low.state high.state (tags_of low.waiting.items) (tags_of high.waiting.items) step),
       step.1,
     )

@@ -1,5 +1,6 @@
 -- The commands alloc, split, read, write and free.
-use Rattle.std.specs.Prelude.{ℕ, ◌+◌, ◌-◌, ◌*◌, ◌/◌, ◌%◌, ◌==◌, ◌||◌, Bool, not, List, [], ◌∷◌, ◌++◌, Option, is_none, length, take, drop, replicate, nat_le, nat_lt, option_map, unwrap_or, slice_set, Ok}
+use Rattle.std.specs.Prelude.{ℕ, ◌+◌, ◌-◌, ◌*◌, ◌/◌, ◌%◌, ◌==◌, ◌||◌, Bool, not, List, [], ◌∷◌}
+use Rattle.std.specs.Prelude.{◌++◌, Option, is_none, length, take, drop, replicate, nat_le, nat_lt, option_map, unwrap_or, slice_set, Ok}
 use Rattle.std.specs.List.{remove, position, position_or_len, range_with_len}
 use Rattle.xh_model.specs.declared.event.Event.TheVariants.{Claim, Carve, Cut, GiveBack, Vacate}
 use Rattle.xh_model.specs.Cover.{first_fit}
@@ -26,14 +27,16 @@ space_tests s a n = (is_none (first_fit n (arena_at s a).cover), NoSpace) ∷ (n
 
 -- ---- alloc
 
--- The first argument says whether a growth of memory is refused at that place.
-abbrev pub alloc_tests : Bool → Machine → ℕ → ℕ → ℕ → Tests
-alloc_tests is_refused m p n a = start m p
+-- what is tested before memory is taken
+abbrev pub alloc_heads : Machine → ℕ → ℕ → ℕ → Tests
+alloc_heads m p n a = start m p
     ++ (nat_le (length m.store.arenas) a, NoArena)
     ∷ ((n == 0) || nat_lt (length (arena_at m.store a).cover) n, BadSize)
-    ∷ (is_none (free_record m.store a), NoRecord)
-    ∷ (is_refused, OutOfMemory)
-    ∷ space_tests m.store a (rounded n)
+    ∷ (is_none (free_record m.store a), NoRecord) ∷ []
+
+-- The first argument says whether a growth of memory is refused at that place.
+abbrev pub alloc_tests : Bool → Machine → ℕ → ℕ → ℕ → Tests
+alloc_tests is_refused m p n a = alloc_heads m p n a ++ (is_refused, OutOfMemory) ∷ space_tests m.store a (rounded n)
 
 -- a free record is claimed and carved; its bytes are zeros, and it goes to the end of the list
 unfoldable pub allocated : ℕ → ℕ → ℕ → Machine → Machine
@@ -51,11 +54,13 @@ alloc is_refused p n a m = answered (first_refusal (alloc_tests is_refused m p n
 abbrev pub is_bad_cut : ℕ → ℕ → Bool
 is_bad_cut k n = (k == 0) || (not ((k % 16) == 0) || nat_le n k)
 
-abbrev pub split_tests : Bool → Machine → ℕ → ℕ → ℕ → Tests
-split_tests is_refused m p r k = start m p ++ data_tests m p r
+abbrev pub split_heads : Machine → ℕ → ℕ → ℕ → Tests
+split_heads m p r k = start m p ++ data_tests m p r
     ++ (is_bad_cut k (len m.store r), BadCut)
-    ∷ (is_none (free_record m.store (r / 256)), NoRecord)
-    ∷ (is_refused, OutOfMemory) ∷ []
+    ∷ (is_none (free_record m.store (r / 256)), NoRecord) ∷ []
+
+abbrev pub split_tests : Bool → Machine → ℕ → ℕ → ℕ → Tests
+split_tests is_refused m p r k = split_heads m p r k ++ (is_refused, OutOfMemory) ∷ []
 
 -- a free record t is claimed and gets what is past the first k bytes of r; the buffer is cut in two
 unfoldable pub parted : ℕ → ℕ → ℕ → ℕ → Machine → Machine

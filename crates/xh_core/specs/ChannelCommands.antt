@@ -21,13 +21,22 @@ claimed_once p s a = after (Claim p (low_end s a)) s
 abbrev pub high_end : ℕ → Store → ℕ → ℕ
 high_end p s a = lowest (claimed_once p s a) a
 
--- no arena, no channel, no two records, or no room for 64 bytes
-abbrev pub channel_tests : Machine → ℕ → ℕ → Tests
-channel_tests m p a =
-    (nat_le (length m.store.arenas) a, NoArena)
-    ∷ (nat_le 64 m.opened, NoChannel)
-    ∷ (is_none (free_record m.store a) || is_none (free_record (claimed_once p m.store a) a), NoRecord)
-    ∷ space_tests m.store a 64
+-- no arena, or no channel
+abbrev pub channel_heads : Machine → ℕ → Tests
+channel_heads m a = (nat_le (length m.store.arenas) a, NoArena) ∷ (nat_le 64 m.opened, NoChannel) ∷ []
+
+-- no two free records, or no room for 64 bytes
+abbrev pub pair_tests : ℕ → Store → ℕ → Tests
+pair_tests p s a = (is_none (free_record s a) || is_none (free_record (claimed_once p s a) a), NoRecord) ∷ space_tests s a 64
+
+abbrev pub open_tests : Machine → ℕ → ℕ → Tests
+open_tests m p a = start m p ++ channel_heads m a ++ pair_tests p m.store a
+
+abbrev pub wire_heads : Machine → ℕ → ℕ → ℕ → Tests
+wire_heads m p q a = start m p ++ start m q ++ channel_heads m a
+
+abbrev pub wire_tests : Machine → ℕ → ℕ → ℕ → Tests
+wire_tests m p q a = wire_heads m p q a ++ pair_tests p m.store a
 
 -- the state in which both ends begin
 abbrev pub first_state : Option (List Row) → ℕ
@@ -57,7 +66,7 @@ unfoldable pub open_channel : ℕ → ℕ → Option (List Row) → Machine → 
 open_channel p a contract m =
     let r : ℕ = low_end m.store a in
     let t : ℕ = high_end p m.store a in
-    answered (first_refusal (start m p ++ channel_tests m p a)) m
+    answered (first_refusal (open_tests m p a)) m
     (Ok (ends_at r t), with_list p (blocks m p ++ r ∷ t ∷ []) (opened p r t contract m))
 
 -- the end t is passed on its own direction d, and accepted by q
@@ -75,4 +84,4 @@ unfoldable pub wire_channel : ℕ → ℕ → ℕ → Option (List Row) → Mach
 wire_channel p q a contract m =
     let r : ℕ = low_end m.store a in
     let t : ℕ = high_end p m.store a in
-    answered (first_refusal (start m p ++ start m q ++ channel_tests m p a)) m (Ok (ends_at r t), wired p q r t contract m)
+    answered (first_refusal (wire_tests m p q a)) m (Ok (ends_at r t), wired p q r t contract m)

@@ -2,6 +2,7 @@ pub mod Refusals
 pub mod Tables
 pub mod Talks
 pub mod Machine
+pub mod View
 pub mod Refusing
 pub mod Sweeping
 pub mod EndingCommands
@@ -9,8 +10,5 @@ pub mod MessageCommands
 pub mod BlockCommands
 pub mod ChannelCommands
 pub mod PlaceCommands
-pub mod Gaining
-pub mod Checks
-pub mod Pairing
-pub mod Measuring
 pub mod Wearing
+pub mod inner

@@ -1,5 +1,6 @@
 -- The serial machine as a value, and what always holds of it.
-use Rattle.std.specs.Prelude.{◌≡◌, ℕ, ◌+◌, ◌*◌, ◌/◌, ◌%◌, ◌-◌, ◌<◌, ◌≤◌, ◌==◌, ◌||◌, Bool, true, false, cond, List, [], ◌∷◌, Option, Some, None, is_some, length, map, nat_le, nat_lt, slice_set, slice_index_or, unwrap_or}
+use Rattle.std.specs.Prelude.{◌≡◌, ℕ, ◌+◌, ◌*◌, ◌/◌, ◌%◌, ◌-◌, ◌<◌, ◌≤◌, ◌==◌, ◌||◌, Bool, true, false}
+use Rattle.std.specs.Prelude.{cond, List, [], ◌∷◌, Option, Some, None, is_some, length, map, nat_le, nat_lt, slice_set, slice_index_or, unwrap_or}
 use Rattle.std.specs.List.{flat_map, count_by}
 use Rattle.xh_model.specs.declared.event.Holder.{Holder}
 use Rattle.xh_model.specs.declared.event.Holder.TheVariants.{Process, Direction}
@@ -145,7 +146,8 @@ drained_state contract side state (tag ∷ tags) = drained_state contract side (
 -- the two ends of each channel with a contract go by it together
 abbrev pub AreWired : List (Option (List Row)) → List Line → Type 0
 AreWired contracts lines = (c : ℕ) (rows : List Row) → slice_index_or contracts c None ≡ Some rows →
-    IsValid rows × InStep rows 0 (slice_index_or lines (2 * c) no_line).state (tags_of (slice_index_or lines (2 * c) no_line).waiting.items) (slice_index_or lines (2 * c + 1) no_line).state (tags_of (slice_index_or lines (2 * c + 1) no_line).waiting.items)
+    IsValid rows × InStep rows 0 (slice_index_or lines (2 * c) no_line).state (tags_of (slice_index_or lines (2 * c) no_line).waiting.items)
+    (slice_index_or lines (2 * c + 1) no_line).state (tags_of (slice_index_or lines (2 * c + 1) no_line).waiting.items)
 
 -- ---- what always holds
 

@@ -1,5 +1,6 @@
 -- The commands give and take.
-use Rattle.std.specs.Prelude.{◌≡◌, ℕ, ◌+◌, ◌-◌, ◌*◌, ◌%◌, ◌<◌, ◌≤◌, ◌==◌, ◌&&◌, ◌||◌, ◌⊎◌, Bool, true, false, not, List, [], ◌∷◌, ◌++◌, Option, Some, None, is_none, length, map, nat_le, nat_lt, slice_set, slice_index_or, Ok}
+use Rattle.std.specs.Prelude.{◌≡◌, ℕ, ◌+◌, ◌-◌, ◌*◌, ◌%◌, ◌==◌, ◌&&◌, ◌||◌, ◌⊎◌, Bool, false, not, List}
+use Rattle.std.specs.Prelude.{[], ◌∷◌, ◌++◌, Option, Some, None, is_none, length, map, nat_le, nat_lt, slice_set, slice_index_or, Ok}
 use Rattle.std.specs.List.{remove, list_any, list_all, filter}
 use Rattle.xh_model.specs.declared.event.Holder.TheVariants.{Process}
 use Rattle.xh_model.specs.declared.event.Event.TheVariants.{Pass}
@@ -11,8 +12,8 @@ use Rattle.xh_core.specs.declared.message.Message.{Message}
 use Rattle.xh_core.specs.declared.message.Taken.{Taken}
 use Rattle.xh_core.specs.declared.line.Line.{Line}
 use Rattle.xh_core.specs.declared.refused.Refused.TheVariants.{TooMany, NotOwned, Twice, Protocol, PeerClosed, Full, Empty}
-use Rattle.xh_core.specs.Machine.{Machine, end_of, blocks, with_list, line, waiting, peer, tags_of, contract_of, next_state}
-use Rattle.xh_core.specs.Refusing.{Answer, Tests, IsRunning, answered, first_refusal, start, end_tests, toward}
+use Rattle.xh_core.specs.Machine.{Machine, blocks, with_list, line, waiting, peer, tags_of, contract_of, next_state}
+use Rattle.xh_core.specs.Refusing.{Answer, Tests, answered, first_refusal, start, end_tests, toward}
 use Rattle.xh_core.specs.Sweeping.{accept_all}
 
 -- ---- give
@@ -34,27 +35,18 @@ LAST = 4611686018427387903
 abbrev pub is_full : ℕ → Line → Bool
 is_full depth l = nat_le depth (length l.waiting.items) || nat_le LAST l.put
 
--- The endpoint, then the blocks, then the contract, the peer, and room in the direction.
-abbrev pub give_tests : Machine → ℕ → ℕ → ℕ → List ℕ → Tests
-give_tests m p e tag bs = start m p ++ end_tests m p e
-    ++ (nat_lt 8 (length bs), TooMany)
+-- the blocks, then the contract, the peer, and room in the direction
+abbrev pub message_tests : Machine → ℕ → ℕ → ℕ → List ℕ → Tests
+message_tests m p e tag bs =
+    (nat_lt 8 (length bs), TooMany)
     ∷ (not (list_all (λ r. holds m.store (Process p) r) bs), NotOwned)
     ∷ (has_twice (e ∷ bs), Twice)
     ∷ (is_banned (contract_of m.contracts (toward m e)) (toward m e % 2) (line m (toward m e)).state tag, Protocol (record { items = bs }))
     ∷ ((line m (peer (toward m e))).shut, PeerClosed (record { items = bs }))
     ∷ (is_full m.depth (line m (peer (toward m e))), Full (record { items = bs })) ∷ []
 
--- no test of a give is true: d leads to e
-pub record MayGive (m : Machine) (p e tag : ℕ) (bs : List ℕ) (d : ℕ) : Type 0 where
-  pub runs : IsRunning m p
-  pub toward : end_of m e ≡ Some d
-  pub within : d < 2 * m.opened
-  pub few : length bs ≤ 8
-  pub held : list_all (λ r. holds m.store (Process p) r) bs ≡ true
-  pub once : has_twice bs ≡ false
-  pub allowed : is_banned (contract_of m.contracts d) (d % 2) (line m d).state tag ≡ false
-  pub room : length (waiting m (peer d)) < m.depth
-  pub more : (line m (peer d)).put < LAST
+abbrev pub give_tests : Machine → ℕ → ℕ → ℕ → List ℕ → Tests
+give_tests m p e tag bs = start m p ++ end_tests m p e ++ message_tests m p e tag bs
 
 -- p passes each of the records to a direction
 abbrev pub pass_all : ℕ → ℕ → List ℕ → Store → Store
@@ -64,10 +56,6 @@ pass_all p d (r ∷ rs) s = pass_all p d rs (after (Pass p r d) s)
 -- the list without these records
 abbrev pub without : List ℕ → List ℕ → List ℕ
 without bs rs = filter (λ r. not (list_any (λ b. b == r) bs)) rs
-
--- by low byte, whether one of the records has it
-abbrev pub AreMarked : List Bool → List ℕ → Type 0
-AreMarked marks bs = (k : ℕ) → k < 256 → slice_index_or marks k false ≡ list_any (λ b. (b % 256) == k) bs
 
 -- the end that puts a message is in its contract's next state
 abbrev pub told_line : Option (List Row) → ℕ → ℕ → Line → Line
@@ -95,7 +83,8 @@ give p e tag bs m = answered (first_refusal (give_tests m p e tag bs)) m (Ok ((l
 
 -- Under a contract the message at the front toward each end is one that its state allows, and messages wait for one of the two ends at most.
 abbrev pub IsOrderly : List Row → Line → Line → Type 0
-IsOrderly rows low high = IsFrontAllowed rows 0 low.state (tags_of low.waiting.items) × IsFrontAllowed rows 1 high.state (tags_of high.waiting.items) × ((tags_of low.waiting.items ≡ []) ⊎ (tags_of high.waiting.items ≡ []))
+IsOrderly rows low high = IsFrontAllowed rows 0 low.state (tags_of low.waiting.items) × IsFrontAllowed rows 1 high.state (tags_of high.waiting.items) ×
+    ((tags_of low.waiting.items ≡ []) ⊎ (tags_of high.waiting.items ≡ []))
 
 -- so it is on each channel with a contract
 abbrev pub AreOrderly : Machine → Type 0
@@ -107,13 +96,6 @@ abbrev pub take_tests : Machine → ℕ → ℕ → Tests
 take_tests m p e = start m p ++ end_tests m p e
     ++ ((length (waiting m (toward m e)) == 0) && (line m (peer (toward m e))).shut, PeerClosed (record { items = [] }))
     ∷ (length (waiting m (toward m e)) == 0, Empty) ∷ []
-
--- no test of a take is true: d leads to e
-pub record MayTake (m : Machine) (p e d : ℕ) : Type 0 where
-  pub runs : IsRunning m p
-  pub toward : end_of m e ≡ Some d
-  pub within : d < 2 * m.opened
-  pub some : 0 < length (waiting m d)
 
 abbrev pub no_message : Message
 no_message = record { no = 0; tag = 0; blocks = record { items = [] } }

@@ -1,7 +1,8 @@
 //! The pure machines: the ownership and the arenas, event by event, and the serial heap.
 //!
 //! A line such as `let _start = &self.plain;` only reads a field: it opens the struct for the proof,
-//! which knows the type's invariant from there on. It stands where a method calls nothing but methods.
+//! which knows the type's invariant from there on. It stands where a method calls nothing but methods,
+//! or may end before it reads a field.
 #![tactic(auto)]
 
 mod block;

@@ -5,77 +5,56 @@ ghost use Rattle.xh_core.specs.declared.refused.Refused.TheVariants.{OutOfMemory
 
 use arrayvec::ArrayVec;
 use std::alloc::{AllocError, AllocFailed};
-use thiserror::Error;
+use std::error::Error;
+use std::fmt;
 use xh_model::limits::MAX_BLOCKS;
 
 /// Why a command is refused.
-#[derive(Debug, Drop, Error)]
+#[derive(Debug, Drop)]
 pub enum Refused {
     /// A growth of memory was refused.
-    #[error("a growth of memory was refused")]
     OutOfMemory,
     /// A size is outside its limits.
-    #[error("a size is outside its limits")]
     BadSize,
     /// There is no such arena.
-    #[error("there is no such arena")]
     NoArena,
     /// No hole of the arena holds that many bytes.
-    #[error("no hole of the arena holds that many bytes")]
     NoSpace,
     /// Each record of the arena is taken.
-    #[error("each record of the arena is taken")]
     NoRecord,
     /// The process does not own such a block.
-    #[error("the process does not own such a block")]
     NotOwned,
     /// The block is an endpoint.
-    #[error("the block is an endpoint")]
     NotData,
     /// The block is no endpoint.
-    #[error("the block is no endpoint")]
     NotEndpoint,
     /// The cut is not a multiple of 16 inside the block.
-    #[error("the cut is not a multiple of 16 inside the block")]
     BadCut,
     /// The bytes reach past the end of the block.
-    #[error("the bytes reach past the end of the block")]
     BadRange,
     /// There is no such process.
-    #[error("there is no such process")]
     NoProcess,
     /// The process is ending or has ended.
-    #[error("the process is ending or has ended")]
     Ended,
     /// Each channel is taken.
-    #[error("each channel is taken")]
     NoChannel,
     /// The direction holds as many messages as it may; the blocks are handed back.
-    #[error("the direction holds as many messages as it may")]
     Full { back: ArrayVec<u16, MAX_BLOCKS> },
     /// The peer is closed; the blocks of a give are handed back.
-    #[error("the peer is closed")]
     PeerClosed { back: ArrayVec<u16, MAX_BLOCKS> },
     /// No message waits.
-    #[error("no message waits")]
     Empty,
     /// A message carries at most 8 blocks.
-    #[error("a message carries at most 8 blocks")]
     TooMany,
     /// A block, or a name, stands twice.
-    #[error("a block or a name stands twice")]
     Twice,
     /// The arena has handed out as many bytes as it ever may.
-    #[error("the arena has handed out as many bytes as it ever may")]
     Worn,
     /// The budget was used up; so many blocks are left.
-    #[error("the budget was used up, and {left} blocks are left")]
     Unfinished { left: u32 },
     /// Each place is taken.
-    #[error("each place is taken")]
     NoPlace,
     /// The channel's contract does not allow the message; the blocks are handed back.
-    #[error("the channel's contract does not allow the message")]
     Protocol { back: ArrayVec<u16, MAX_BLOCKS> },
 }
 
@@ -139,7 +118,49 @@ impl Refused {
             Refused::Protocol { .. } => "Protocol",
         }
     }
+
+    /// What it says to a person.
+    fn reason(&self) -> &'static str {
+        match self {
+            Refused::OutOfMemory => "a growth of memory was refused",
+            Refused::BadSize => "a size is outside its limits",
+            Refused::NoArena => "there is no such arena",
+            Refused::NoSpace => "no hole of the arena holds that many bytes",
+            Refused::NoRecord => "each record of the arena is taken",
+            Refused::NotOwned => "the process does not own such a block",
+            Refused::NotData => "the block is an endpoint",
+            Refused::NotEndpoint => "the block is no endpoint",
+            Refused::BadCut => "the cut is not a multiple of 16 inside the block",
+            Refused::BadRange => "the bytes reach past the end of the block",
+            Refused::NoProcess => "there is no such process",
+            Refused::Ended => "the process is ending or has ended",
+            Refused::NoChannel => "each channel is taken",
+            Refused::Full { .. } => "the direction holds as many messages as it may",
+            Refused::PeerClosed { .. } => "the peer is closed",
+            Refused::Empty => "no message waits",
+            Refused::TooMany => "a message carries at most 8 blocks",
+            Refused::Twice => "a block or a name stands twice",
+            Refused::Worn => "the arena has handed out as many bytes as it ever may",
+            Refused::Unfinished { .. } => "the budget was used up, and blocks are left",
+            Refused::NoPlace => "each place is taken",
+            Refused::Protocol { .. } => "the channel's contract does not allow the message",
+        }
+    }
 }
+
+impl fmt::Display for Refused {
+    fn fmt<W: fmt::Write>(&self, f: &mut fmt::Formatter<W>) -> fmt::Result {
+        match self {
+            Refused::Unfinished { left } => write!(
+                f,
+                "the budget was used up, and {left} blocks are left"
+            ),
+            _ => f.write_str(self.reason()),
+        }
+    }
+}
+
+impl Error for Refused {}
 
 impl From<AllocError> for Refused {
     ghost from_gives = { λ _ e. e ≡ OutOfMemory };

@@ -51,9 +51,11 @@ impl Model for Serial {
 
     ghost Value = { Machine };
 
-    ghost view = { λ s. record { store = s.plain; ends = s.ends.items; buffers = s.memory; places = s.places.items; lines = s.lines.items; contracts = s.contracts.items; opened = s.opened; depth = s.depth } };
+    ghost use Rattle.xh_core.specs.View.{machine_of};
 
-    ghost invariant = { λ s. IsWhole (record { store = s.plain; ends = s.ends.items; buffers = s.memory; places = s.places.items; lines = s.lines.items; contracts = s.contracts.items; opened = s.opened; depth = s.depth }) };
+    ghost view = { machine_of };
+
+    ghost invariant = { λ s. IsWhole (machine_of s) };
 }
 
 /// No endpoint.

@@ -1,4 +1,5 @@
 use super::*;
+use std::process::Abort;
 use std::test::*;
 
 fn row(state: u8, tag: u16, side: u8, next: u8) -> Row {
@@ -18,41 +19,45 @@ fn question_and_answer() -> [Row; 2] {
 #[test]
 fn bad_contracts(rt: HostRuntime) {
     let two_senders = [row(0, 1, 0, 1), row(0, 2, 1, 1)];
-    assert!(rt; matches!(Contract::new(&two_senders), Err(Refused::Protocol { .. })));
     let one_tag_twice = [row(0, 1, 0, 1), row(0, 1, 0, 2)];
-    assert!(rt; matches!(Contract::new(&one_tag_twice), Err(Refused::Protocol { .. })));
     let one_row_twice = [row(0, 1, 0, 1), row(0, 1, 0, 1)];
-    assert!(rt; matches!(Contract::new(&one_row_twice), Err(Refused::Protocol { .. })));
+    for rows in [two_senders, one_tag_twice, one_row_twice] {
+        assert!(rt; matches!(Contract::new(&rows), Err(Refused::Protocol { .. })));
+    }
 }
 
+/// Too many rows, or none, or a row that is out of range, also where the table has two senders.
 #[test]
 fn contracts_out_of_range(rt: HostRuntime) {
-    assert!(rt; matches!(Contract::new(&[]), Err(Refused::BadSize)));
-    assert!(rt; matches!(Contract::new(&[row(16, 1, 0, 1)]), Err(Refused::BadSize)));
-    assert!(rt; matches!(Contract::new(&[row(0, 1, 0, 16)]), Err(Refused::BadSize)));
-    assert!(rt; matches!(Contract::new(&[row(0, 1, 2, 1)]), Err(Refused::BadSize)));
-    assert!(rt; matches!(Contract::new(&[row(0, 1, 0, 1); 17]), Err(Refused::BadSize)));
-    let two_senders_and_a_bad_side = [row(0, 1, 0, 1), row(0, 2, 1, 1), row(1, 1, 2, 1)];
-    assert!(rt;
-        matches!(
-            Contract::new(&two_senders_and_a_bad_side),
-            Err(Refused::BadSize)
-        )
-    );
+    let fine = row(0, 1, 0, 1);
+    for bad in [row(16, 1, 0, 1), row(0, 1, 0, 16), row(0, 1, 2, 1)] {
+        let tables: [&[Row]; 2] = [&[bad], &[fine, row(0, 2, 1, 1), bad]];
+        for rows in tables {
+            assert!(rt; matches!(Contract::new(rows), Err(Refused::BadSize)));
+        }
+    }
+    for rows in [[].as_slice(), &[fine; 17]] {
+        assert!(rt; matches!(Contract::new(rows), Err(Refused::BadSize)));
+    }
+}
+
+/// Its first state, and what it allows of a state, a tag and a side.
+fn assert_question_and_answer(rt: &impl Abort, contract: &Contract) {
+    assert_eq!(rt; contract.first(), 0);
+    for (state, tag, side, next) in [
+        (0, 1, 0, Some(1)),
+        (1, 2, 1, Some(0)),
+        (0, 2, 0, None),
+        (0, 1, 1, None),
+        (1, 1, 0, None),
+    ] {
+        assert_eq!(rt; contract.allows(state, tag, side), next);
+    }
 }
 
 #[test]
 fn a_contract_allows_its_rows(rt: HostRuntime) {
-    let made = Contract::new(&question_and_answer());
-    assert!(rt; made.is_ok());
-    if let Ok(contract) = made {
-        for contract in [contract.copy(), contract] {
-            assert_eq!(rt; contract.first(), 0);
-            assert_eq!(rt; contract.allows(0, 1, 0), Some(1));
-            assert_eq!(rt; contract.allows(1, 2, 1), Some(0));
-            assert_eq!(rt; contract.allows(0, 2, 0), None);
-            assert_eq!(rt; contract.allows(0, 1, 1), None);
-            assert_eq!(rt; contract.allows(1, 1, 0), None);
-        }
-    }
+    let contract = Contract::new(&question_and_answer()).expect(&rt, "a valid table");
+    assert_question_and_answer(&rt, &contract.copy());
+    assert_question_and_answer(&rt, &contract);
 }

@@ -2,8 +2,8 @@
 ghost use Rattle.std.specs.Prelude.{◌≡◌, ◌||◌, ◌<◌, Some, None, IfOk, OnErr, MatchOption, MatchResult, is_none, length, true};
 ghost use Rattle.xh_model.specs.Store.{IsLawful};
 ghost use Rattle.xh_core.specs.BlockCommands.{free_record};
-ghost use Rattle.xh_core.specs.ChannelCommands.{claimed_once};
-ghost use Rattle.xh_core.specs.Pairing.{ClaimedTwo, Paired, moved, pair_tests};
+ghost use Rattle.xh_core.specs.ChannelCommands.{claimed_once, pair_tests};
+ghost use Rattle.xh_core.specs.inner.Pairing.{ClaimedTwo, Paired, moved};
 ghost use Rattle.xh_core.specs.Refusing.{first_refusal};
 
 use super::Plain;
@@ -15,7 +15,8 @@ impl Plain {
         requires lawful { IsLawful self.old }
         requires process { p < 4096 }
         requires arena { arena < length self.old.arenas }
-        ensures done { MatchOption result ((is_none (free_record self.old arena) || is_none (free_record (claimed_once p self.old arena) arena)) ≡ true) (λ ends. ClaimedTwo p arena ends.0 ends.1 self.old self.new) }
+        ensures done { MatchOption result ((is_none (free_record self.old arena) || is_none (free_record (claimed_once p self.old arena) arena)) ≡ true)
+            (λ ends. ClaimedTwo p arena ends.0 ends.1 self.old self.new) }
         ensures unchanged { result ≡ None → self.new ≡ self.old }
     {
         let r = self.free_record(arena)?;

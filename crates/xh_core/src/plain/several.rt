@@ -7,7 +7,7 @@ ghost use Rattle.xh_model.specs.declared.event.Event.TheVariants.{Claim, Carve, 
 ghost use Rattle.xh_model.specs.declared.event.Holder.TheVariants.{Process};
 ghost use Rattle.xh_model.specs.Store.{IsLawful, after, arena_at, holds, is_known, len, owner};
 ghost use Rattle.xh_core.specs.BlockCommands.{free_record, space_tests};
-ghost use Rattle.xh_core.specs.Gaining.{Gained};
+ghost use Rattle.xh_core.specs.inner.Gaining.{Gained};
 ghost use Rattle.xh_core.specs.Refusing.{first_refusal};
 
 use super::Plain;

@@ -4,10 +4,10 @@ ghost use Rattle.std.specs.List.{position_or_len, remove};
 ghost use Rattle.xh_core.specs.Machine.{end_of, no_place};
 ghost use Rattle.xh_model.specs.declared.event.Holder.TheVariants.{Process};
 ghost use Rattle.xh_model.specs.Store.{holds, len};
-ghost use Rattle.xh_core.specs.BlockCommands.{free_record, range_tests, rounded};
+ghost use Rattle.xh_core.specs.BlockCommands.{alloc_heads, free_record, range_tests, rounded, split_heads};
 ghost use Rattle.xh_core.specs.BlockCommands.{alloc as alloc_command, free as free_command, read as read_command, split as split_command, write as write_command};
 ghost use Rattle.xh_core.specs.Refusing.{IsRunning, Tested};
-ghost use Rattle.xh_core.specs.Checks.{alloc_heads, split_heads, MaySplit};
+ghost use Rattle.xh_core.specs.inner.Checks.{MaySplit};
 
 use crate::block::Block;
 use crate::place::Place;
@@ -21,7 +21,8 @@ use xh_model::limits::UNIT;
 pub(super) fn list_record(places: &mut Vec<Place>, p: u16, r: u16)
     requires there { p % 32 < length places.old.items }
     requires room { length (slice_index_or places.old.items (p % 32) no_place).blocks.items < 2048 }
-    ensures { let place = slice_index_or places.old.items (p % 32) no_place in places.new.items ≡ slice_set places.old.items (p % 32) (record place { blocks = record { items = place.blocks.items ++ r ∷ [] } }) }
+    ensures { let place = slice_index_or places.old.items (p % 32) no_place in
+        places.new.items ≡ slice_set places.old.items (p % 32) (record place { blocks = record { items = place.blocks.items ++ r ∷ [] } }) }
 {
     places[usize::from(p % 32)].blocks.push(r);
 }
@@ -30,7 +31,8 @@ pub(super) fn list_record(places: &mut Vec<Place>, p: u16, r: u16)
 fn unlist_record(places: &mut Vec<Place>, p: u16, r: u16)
     requires there { p % 32 < length places.old.items }
     requires listed { let list = (slice_index_or places.old.items (p % 32) no_place).blocks.items in position_or_len (λ q. q == r) list < length list }
-    ensures { let place = slice_index_or places.old.items (p % 32) no_place in places.new.items ≡ slice_set places.old.items (p % 32) (record place { blocks = record { items = remove place.blocks.items (position_or_len (λ q. q == r) place.blocks.items) } }) }
+    ensures { let place = slice_index_or places.old.items (p % 32) no_place in
+        places.new.items ≡ slice_set places.old.items (p % 32) (record place { blocks = record { items = remove place.blocks.items (position_or_len (λ q. q == r) place.blocks.items) } }) }
 {
     let blocks = &mut places[usize::from(p % 32)].blocks;
     let at = place_of(blocks.as_slice(), r);

@@ -1,13 +1,10 @@
 //! What the ledger tells: the arenas, the places, and the sums of their bytes.
 ghost use Rattle.std.specs.Prelude.{◌≡◌, ◌+◌, ◌<◌, ◌≤◌, ◌*◌, All, length};
 ghost use Rattle.std.specs.List.{sum_by};
-ghost use Rattle.xh_model.specs.declared.limits.TheConstants.{MAX_DEPTH};
 ghost use Rattle.xh_core.specs.Machine.{is_vacant};
 ghost use Rattle.xh_core.specs.PlaceCommands.{ledger_of, line_state, place_line, place_lines, total};
 
 use crate::ledger::{Ledger, PLACE_LINES, PlaceLine, State};
-use crate::line::Line;
-use crate::message::Message;
 use crate::place::Place;
 use crate::plain::{Plain, length_at};
 use crate::serial::Serial;
@@ -15,9 +12,7 @@ use crate::serial::places::number;
 use crate::status::Status;
 use arrayvec::ArrayVec;
 
-/// The bytes of these records. It is kept apart from its callers so that its loop has the registers
-/// for itself.
-#[inline(never)]
+/// The bytes of these records.
 pub(super) fn total(plain: &Plain, records: &[u16]) -> u64
     requires { length records.now ≤ 2048 }
     ensures sum { result ≡ total plain.now records.now }
@@ -39,31 +34,6 @@ fn owned(plain: &Plain, places: &[Place]) -> u64
     let mut sum = 0u64;
     for place in places {
         sum += total(plain, place.blocks.as_slice());
-    }
-    sum
-}
-
-/// The bytes of the blocks in these messages.
-fn carried(plain: &Plain, messages: &[Message]) -> u64
-    requires { length messages.now ≤ MAX_DEPTH }
-    ensures sum { result ≡ sum_by (λ message. total plain.now message.blocks.items) messages.now }
-    ensures most { result ≤ 549755813760 }
-{
-    let mut sum = 0u64;
-    for message in messages {
-        sum += total(plain, message.blocks.as_slice());
-    }
-    sum
-}
-
-/// The bytes in flight.
-fn flight(plain: &Plain, lines: &[Line]) -> u64
-    requires { length lines.now ≤ 128 }
-    ensures { result ≡ sum_by (λ line. sum_by (λ message. total plain.now message.blocks.items) line.waiting.items) lines.now }
-{
-    let mut sum = 0u64;
-    for line in lines {
-        sum += carried(plain, line.waiting.as_slice());
     }
     sum
 }
@@ -123,12 +93,15 @@ impl Serial {
         ensures arenas { All (λ line. line.out + line.back ≡ line.taken) result.arenas.items }
         ensures places { All (λ line. line.place < 32) result.places.items }
     {
+        let out = self.plain.handed_out();
+        let held = owned(&self.plain, self.places.as_slice());
+        let flight = out - held;
         Ledger {
             arenas: self.plain.arena_lines(),
             places: place_lines(&self.plain, self.places.as_slice()),
-            owned: owned(&self.plain, self.places.as_slice()),
-            flight: flight(&self.plain, self.lines.as_slice()),
-            out: self.plain.handed_out(),
+            owned: held,
+            flight,
+            out,
         }
     }
 }

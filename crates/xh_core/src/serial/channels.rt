@@ -1,8 +1,8 @@
 //! Channels are opened, for one process or between two.
 ghost use Rattle.std.specs.Prelude.{◌≡◌, ◌+◌, ◌*◌, ◌<◌, [], Some, None, false, length, slice_set};
-ghost use Rattle.xh_core.specs.ChannelCommands.{first_state, new_line, open_channel, wire_channel};
+ghost use Rattle.xh_core.specs.ChannelCommands.{first_state, new_line, open_channel, wire_channel, wire_heads};
 ghost use Rattle.xh_core.specs.MessageCommands.{AreOrderly};
-ghost use Rattle.xh_core.specs.Pairing.{IsSound, wire_heads};
+ghost use Rattle.xh_core.specs.inner.Pairing.{IsSound};
 ghost use Rattle.xh_core.specs.Refusing.{IsRunning, Tested};
 
 use super::Serial;

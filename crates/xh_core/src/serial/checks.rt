@@ -1,12 +1,13 @@
 //! Why a command is refused: each check makes its tests in their order.
-ghost use Rattle.std.specs.Prelude.{◌≡◌, ◌*◌, ◌<◌, ◌%◌, Some, None, true, is_some};
+ghost use Rattle.std.specs.Prelude.{◌≡◌, ◌*◌, ◌<◌, ◌%◌, Some, None, true};
 ghost use Rattle.std.specs.List.{list_all};
 ghost use Rattle.xh_model.specs.declared.event.Holder.TheVariants.{Process};
-ghost use Rattle.xh_model.specs.Store.{holds, owner};
-ghost use Rattle.xh_core.specs.Machine.{end_of, is_current, is_ended, is_vacant, place, status_of};
+ghost use Rattle.xh_model.specs.Store.{holds};
+ghost use Rattle.xh_core.specs.Machine.{end_of, is_current, place, status_of};
 ghost use Rattle.xh_core.specs.Refusing.{data_tests, end_tests, start, stop_tests, IsRunning, Tested};
 ghost use Rattle.xh_core.specs.EndingCommands.{close_tests, kill_tests};
-ghost use Rattle.xh_core.specs.MessageCommands.{give_tests, has_twice, is_banned, is_full, take_tests, MayGive, MayTake};
+ghost use Rattle.xh_core.specs.MessageCommands.{give_tests, has_twice, is_banned, is_full, take_tests};
+ghost use Rattle.xh_core.specs.inner.Checks.{MayGive, MayTake};
 
 use crate::contract::Contract;
 use crate::line::Line;

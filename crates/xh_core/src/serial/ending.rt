@@ -1,34 +1,57 @@
 //! The ends of processes and of endpoints: exit, kill and close.
-ghost use Rattle.std.specs.Prelude.{◌≡◌, ◌==◌, ◌-◌, ◌+◌, ◌≤◌, [], ◌∷◌, IsOk, None, true, length};
-ghost use Rattle.std.specs.List.{position_or_len};
+ghost use Rattle.std.specs.Prelude.{◌≡◌, ◌==◌, ◌-◌, ◌+◌, ◌%◌, ◌<◌, [], ◌∷◌, IsOk, None, true, length, slice_index_or, slice_set};
+ghost use Rattle.std.specs.List.{position, position_or_len};
 ghost use Rattle.xh_model.specs.Reclaimed.{Frees};
 ghost use Rattle.xh_model.specs.Store.{holds};
 ghost use Rattle.xh_model.specs.declared.event.Holder.TheVariants.{Process};
 ghost use Rattle.xh_core.specs.declared.status.Status.TheVariants as status;
-ghost use Rattle.xh_core.specs.Machine.{arriving, blocks, is_current, with_status};
+ghost use Rattle.xh_core.specs.Machine.{arriving, blocks, is_current, no_place, with_status};
 ghost use Rattle.xh_core.specs.Refusing.{first_refusal, stop_tests, IsRunning};
 ghost use Rattle.xh_core.specs.Sweeping.{Sweeps};
-ghost use Rattle.xh_core.specs.EndingCommands.{close, exit, kill, kill_tests, moved_last, reclaimed, stopped};
+ghost use Rattle.xh_core.specs.EndingCommands.{close, exit, kill, kill_tests, last, moved_last, reclaimed, stopped};
 
+use crate::place::Place;
 use crate::refused::Refused;
 use crate::serial::Serial;
 use crate::status::Status;
 
-/// Where a record stands first in a list, or the list's length.
-pub(super) fn place_of(list: &[u16], e: u16) -> usize
-    ensures value { result ≡ position_or_len (λ q. q == e) list.now }
-    ensures within { result ≤ length list.now }
+/// Where a record stands first in a list.
+fn place_in(list: &[u16], e: u16) -> Option<usize>
+    ensures { result ≡ position (λ q. q == e) list.now }
 {
-    match list {
-        [] => 0,
-        [first, rest @ ..] => {
-            if *first == e {
-                0
-            } else {
-                1 + place_of(rest, e)
-            }
-        }
-    }
+    list.iter().position(|q| *q == e)
+}
+
+/// The same, or the list's length.
+pub(super) fn place_of(list: &[u16], e: u16) -> usize
+    ensures { result ≡ position_or_len (λ q. q == e) list.now }
+{
+    place_in(list, e).unwrap_or(list.len())
+}
+
+/// How far the process of a place has come.
+fn set_status(places: &mut Vec<Place>, p: u16, status: Status)
+    requires { p % 32 < length places.old.items }
+    ensures { let place = slice_index_or places.old.items (p % 32) no_place in
+        places.new.items ≡ slice_set places.old.items (p % 32) (record place { status = status }) }
+{
+    places[usize::from(p % 32)].status = status;
+}
+
+/// A record goes to the end of the list of a process. Where it stands then.
+fn move_to_end(places: &mut Vec<Place>, p: u16, e: u16) -> usize
+    requires there { p % 32 < length places.old.items }
+    requires listed { let list = (slice_index_or places.old.items (p % 32) no_place).blocks.items in position_or_len (λ q. q == e) list < length list }
+    ensures list { let place = slice_index_or places.old.items (p % 32) no_place in
+        places.new.items ≡ slice_set places.old.items (p % 32) (record place { blocks = record { items = last e place.blocks.items } }) }
+    ensures at { result + 1 ≡ length (slice_index_or places.old.items (p % 32) no_place).blocks.items }
+{
+    let blocks = &mut places[usize::from(p % 32)].blocks;
+    let at = place_of(blocks.as_slice(), e);
+    blocks.remove(at);
+    let end = blocks.len();
+    blocks.push(e);
+    end
 }
 
 impl Serial {
@@ -36,7 +59,7 @@ impl Serial {
         requires { is_current self.old p ≡ true }
         ensures { self.new ≡ with_status p status.Ending self.old }
     {
-        self.places[usize::from(p % 32)].status = Status::Ending;
+        set_status(&mut self.places, p, Status::Ending);
     }
 
     fn finish_ending(&mut self, p: u16)
@@ -44,7 +67,7 @@ impl Serial {
         requires empty { length (blocks self.old p) ≡ 0 }
         ensures { self.new ≡ with_status p status.Ended self.old }
     {
-        self.places[usize::from(p % 32)].status = Status::Ended;
+        set_status(&mut self.places, p, Status::Ended);
     }
 
     /// A process is ended: its whole list is swept, as far as the budget goes.
@@ -100,12 +123,7 @@ impl Serial {
         ensures is { self.new ≡ moved_last p e self.old }
         ensures at { result ≡ length (blocks self.old p) - 1 }
     {
-        let place = &mut self.places[usize::from(p % 32)];
-        let at = place_of(place.blocks.as_slice(), e);
-        place.blocks.remove(at);
-        let last = place.blocks.len();
-        place.blocks.push(e);
-        last
+        move_to_end(&mut self.places, p, e)
     }
 
     /// One end of a channel is closed: it and what is on its way to it are reclaimed. The bytes

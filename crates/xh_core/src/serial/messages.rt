@@ -1,11 +1,12 @@
 //! Messages: give and take.
-ghost use Rattle.std.specs.Prelude.{◌≡◌, ◌==◌, ◌+◌, ◌-◌, ◌*◌, ◌/◌, ◌%◌, ◌<◌, ◌≤◌, IfOk, false, length, slice_index_or, slice_set};
-ghost use Rattle.std.specs.List.{list_any, remove};
+ghost use Rattle.std.specs.Prelude.{◌≡◌, ◌==◌, ◌+◌, ◌-◌, ◌/◌, ◌%◌, ◌<◌, ◌≤◌, IfOk, false, length, slice_index_or, slice_set};
+ghost use Rattle.std.specs.List.{filter, remove};
 ghost use Rattle.xh_model.specs.declared.limits.TheConstants.{MAX_BLOCKS, MAX_DEPTH};
-ghost use Rattle.xh_model.specs.Store.{len};
+ghost use Rattle.xh_model.specs.declared.event.Holder.TheVariants.{Process};
+ghost use Rattle.xh_model.specs.Store.{holds, len};
 ghost use Rattle.xh_core.specs.Machine.{contract_of, line, no_line, peer};
 ghost use Rattle.xh_core.specs.Refusing.{toward};
-ghost use Rattle.xh_core.specs.MessageCommands.{AreMarked, AreOrderly, described, give, is_banned, no_message, pass_all, put_line, take, taken_line, told_line, without, LAST};
+ghost use Rattle.xh_core.specs.MessageCommands.{AreOrderly, described, give, is_banned, no_message, pass_all, put_line, take, taken_line, told_line, LAST};
 
 use crate::block::Block;
 use crate::contract::Contract;
@@ -16,8 +17,8 @@ use crate::refused::Refused;
 use crate::serial::Serial;
 use crate::serial::sweep::{accept_blocks, state_after};
 use arrayvec::ArrayVec;
-use xh_model::Event;
 use xh_model::limits::MAX_BLOCKS;
+use xh_model::{Event, Holder};
 
 /// The other direction of a channel.
 pub(super) fn peer(d: u8) -> u8
@@ -49,44 +50,11 @@ fn pass_blocks(plain: &mut Plain, p: u16, d: u8, blocks: &[u16])
     }
 }
 
-/// For each low byte whether one of these records has it.
-fn low_bytes(blocks: &[u16]) -> [bool; 256]
-    ensures { AreMarked result blocks.now }
+/// The records that the process still holds stay in its list.
+fn keep_held(plain: &Plain, list: &mut ArrayVec<u16, 2048>, p: u16)
+    ensures { list.new.items ≡ filter (λ r. holds plain.now (Process p) r) list.old.items }
 {
-    let mut marks = [false; 256];
-    for b in blocks {
-        marks[usize::from(*b % 256)] = true;
-    }
-    marks
-}
-
-/// Whether a record is one of these, whose low bytes are marked.
-fn is_among(marks: &[bool; 256], blocks: &[u16], r: u16) -> bool
-    requires { AreMarked marks.now blocks.now }
-    ensures { result ≡ list_any (λ b. b == r) blocks.now }
-{
-    marks[usize::from(r % 256)] && blocks.contains(&r)
-}
-
-/// The list without these records.
-///
-/// Most entries are passed by their low byte alone. It is kept apart from its callers so that its
-/// loop has the registers for itself.
-#[inline(never)]
-fn unlist(list: &mut ArrayVec<u16, 2048>, blocks: &[u16])
-    ensures { list.new.items ≡ without blocks.now list.old.items }
-{
-    if blocks.is_empty() {
-        return;
-    }
-    let marks = low_bytes(blocks);
-    let mut kept = ArrayVec::new();
-    for r in list.as_slice() {
-        if !is_among(&marks, blocks, *r) {
-            kept.push(*r);
-        }
-    }
-    *list = kept;
+    list.retain(|r| plain.holds(Holder::Process(p), *r));
 }
 
 /// The end that puts a message is in its contract's next state.
@@ -167,7 +135,7 @@ impl Serial {
         let to = peer(own);
         pass_blocks(&mut self.plain, p, to, blocks);
         let place = &mut self.places[usize::from(p % 32)];
-        unlist(&mut place.blocks, blocks);
+        keep_held(&self.plain, &mut place.blocks, p);
         tell(&mut self.lines, &self.contracts, own, tag);
         Ok(put(&mut self.lines, to, tag, blocks))
     }
@@ -178,7 +146,8 @@ impl Serial {
     #[tactic(auto, unfolding(crate::specs::MessageCommands::take))]
     pub fn take(&mut self, p: u16, e: u16) -> Result<Taken, Refused>
         ensures is { take p e self.old ≡ (result, self.new) }
-        ensures allowed { IfOk result (λ taken. is_banned (contract_of self.old.contracts (toward self.old e)) (1 - toward self.old e % 2) (line self.old (toward self.old e)).state taken.tag ≡ false) }
+        ensures allowed { IfOk result (λ taken.
+            is_banned (contract_of self.old.contracts (toward self.old e)) (1 - toward self.old e % 2) (line self.old (toward self.old e)).state taken.tag ≡ false) }
         ensures orderly { AreOrderly self.new }
     {
         let _start = &self.plain;
@@ -203,7 +172,8 @@ impl Serial {
     /// The same: on this heap nothing waits, so Empty is answered where `take` answers it.
     pub fn take_wait(&mut self, p: u16, e: u16) -> Result<Taken, Refused>
         ensures is { take p e self.old ≡ (result, self.new) }
-        ensures allowed { IfOk result (λ taken. is_banned (contract_of self.old.contracts (toward self.old e)) (1 - toward self.old e % 2) (line self.old (toward self.old e)).state taken.tag ≡ false) }
+        ensures allowed { IfOk result (λ taken.
+            is_banned (contract_of self.old.contracts (toward self.old e)) (1 - toward self.old e % 2) (line self.old (toward self.old e)).state taken.tag ≡ false) }
         ensures orderly { AreOrderly self.new }
     {
         self.take(p, e)

@@ -1,5 +1,5 @@
 //! Reclaiming: entry by entry, as far as a budget goes.
-ghost use Rattle.std.specs.Prelude.{◌≡◌, ℕ, ◌+◌, ◌++◌, ◌/◌, ◌≤◌, ◌<◌, Some, true, length, drop, slice_index_or};
+ghost use Rattle.std.specs.Prelude.{◌≡◌, ℕ, ◌+◌, ◌++◌, ◌/◌, ◌≤◌, ◌<◌, Some, true, length, drop};
 ghost use Rattle.xh_model.specs.Reclaimed.{Frees};
 ghost use Rattle.xh_model.specs.Store.{all_out};
 ghost use Rattle.xh_core.specs.Machine.{arriving, blocks, carried, drained_state, is_current, next_state, tags_of, way_in};

@@ -1,19 +1,21 @@
 //! A heap is made, and what a refused growth leaves.
+pub(super) mod answers;
+
 use super::Serial;
-use crate::message::Taken;
 use crate::refused::Refused;
+use answers::Answer::Number;
+use answers::Call::Spawn;
+use answers::{assert_answers, heap_of};
 use xh_model::Config;
 
-/// The number of a message, or the bytes of an ending, or the number of the refusal.
-pub(super) fn told(answer: Result<u64, Refused>) -> Result<u64, u8> {
-    answer.map_err(|refused| refused.number())
-}
-
-/// The number, the tag and how many blocks came, or the number of the refusal.
-pub(super) fn taken(answer: Result<Taken, Refused>) -> Result<(u64, u16, usize), u8> {
-    match answer {
-        Ok(taken) => Ok((taken.no, taken.tag, taken.blocks.len())),
-        Err(refused) => Err(refused.number()),
+/// One arena of 256 bytes.
+pub(super) fn small() -> Config {
+    Config {
+        arenas: 1,
+        bytes: 256,
+        records: 256,
+        depth: 4,
+        wear: 9_223_372_036_854_775_807,
     }
 }
 
@@ -35,15 +37,17 @@ fn a_refused_growth_of_new_leaves_nothing(rt: HostRuntime) {
     assert!(rt; matches!(&first, Ok(_) | Err(Refused::OutOfMemory)));
     let mut heap = match first {
         Ok(heap) => heap,
-        Err(_) => Serial::new(rt.alloc(), two_arenas()).expect(&rt, "room"),
+        Err(_) => heap_of(&rt, rt.alloc(), two_arenas()),
     };
     let ledger = heap.ledger();
     assert_eq!(rt; (ledger.arenas.len(), ledger.places.len()), (2, 0));
     for arena in ledger.arenas.as_slice() {
-        assert_eq!(rt; (arena.size, arena.out, arena.holes), (64, 0, 1));
-        assert_eq!(rt; (arena.taken, arena.back), (0, 0));
+        assert_eq!(rt;
+            (arena.size, arena.out, arena.holes, arena.taken, arena.back),
+            (64, 0, 1, 0, 0)
+        );
     }
-    assert_eq!(rt; heap.spawn().ok(), Some(0));
+    assert_answers(&rt, &mut heap, rt.alloc(), &[(Spawn, Number(0))]);
 }
 
 /// A Config outside the limits is refused ahead of any growth.

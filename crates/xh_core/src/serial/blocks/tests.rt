@@ -1,40 +1,38 @@
 //! Blocks of one arena and of several: sizes, the places they get, and what a refused growth leaves.
-use crate::block::Block;
 use crate::refused::Refused;
 use crate::serial::Serial;
+use crate::serial::tests::answers::Answer::{Block, Bytes, Done, No, Number, Two};
+use crate::serial::tests::answers::Call::{Alloc, Free, Read, Spawn, Split, Write};
+use crate::serial::tests::answers::{answer_of, assert_answers, assert_grows, grown_heap, heap_of};
+use crate::serial::tests::small;
+use std::alloc::Global;
+use std::process::Abort;
 use xh_model::Config;
 
-/// One arena of 256 bytes.
-fn small() -> Config {
-    Config {
-        arenas: 1,
-        bytes: 256,
-        records: 256,
-        depth: 4,
-        wear: 9_223_372_036_854_775_807,
-    }
-}
-
-/// The length of the block, or the number of the refusal.
-fn told(answer: Result<Block, Refused>) -> Result<u32, u8> {
-    match answer {
-        Ok(block) => Ok(block.len),
-        Err(refused) => Err(refused.number()),
-    }
+/// A heap in which the process 0 runs.
+fn alone(rt: &impl Abort, alloc: Global, config: Config) -> Serial {
+    let mut heap = heap_of(rt, alloc, config);
+    assert_answers(rt, &mut heap, alloc, &[(Spawn, Number(0))]);
+    heap
 }
 
 #[test]
 fn sizes_and_full_arena(rt: HostRuntime) {
-    let mut heap = Serial::new(rt.alloc(), small()).expect(&rt, "room");
-    let a = heap.spawn().expect(&rt, "a place");
-    assert_eq!(rt; told(heap.alloc(rt.alloc(), a, 0, 0)), Err(2));
-    assert_eq!(rt; told(heap.alloc(rt.alloc(), a, 257, 0)), Err(2));
-    let x = heap.alloc(rt.alloc(), a, 256, 0).expect(&rt, "room");
-    assert_eq!(rt; x.len, 256);
-    assert_eq!(rt; told(heap.alloc(rt.alloc(), a, 1, 0)), Err(4));
-    assert_eq!(rt; told(heap.alloc(rt.alloc(), a, 16, 1)), Err(3));
-    assert_eq!(rt; heap.free(a, x.rec).ok(), Some(256));
-    assert!(rt; matches!(heap.free(a, x.rec), Err(Refused::NotOwned)));
+    let mut heap = alone(&rt, rt.alloc(), small());
+    assert_answers(
+        &rt,
+        &mut heap,
+        rt.alloc(),
+        &[
+            (Alloc(0, 0, 0), No("BadSize")),
+            (Alloc(0, 257, 0), No("BadSize")),
+            (Alloc(0, 256, 0), Block(0, 256)),
+            (Alloc(0, 1, 0), No("NoSpace")),
+            (Alloc(0, 16, 1), No("NoArena")),
+            (Free(0, 0), Number(256)),
+            (Free(0, 0), No("NotOwned")),
+        ],
+    );
 }
 
 /// Blocks go to the lowest hole that has room, and neighbouring holes are one.
@@ -45,18 +43,23 @@ fn lowest_address_first(rt: HostRuntime) {
         records: 4,
         ..small()
     };
-    let mut heap = Serial::new(rt.alloc(), config).expect(&rt, "room");
-    let a = heap.spawn().expect(&rt, "a place");
-    let x = heap.alloc(rt.alloc(), a, 16, 0).expect(&rt, "room");
-    assert_eq!(rt; told(heap.alloc(rt.alloc(), a, 16, 0)), Ok(16));
-    let z = heap.alloc(rt.alloc(), a, 16, 0).expect(&rt, "room");
-    assert_eq!(rt; told(heap.alloc(rt.alloc(), a, 16, 0)), Ok(16));
-    assert_eq!(rt; (x.rec, z.rec), (0, 2));
-    assert_eq!(rt; heap.free(a, x.rec).ok(), Some(16));
-    assert_eq!(rt; heap.free(a, z.rec).ok(), Some(16));
-    assert_eq!(rt; told(heap.alloc(rt.alloc(), a, 32, 0)), Err(4));
-    assert_eq!(rt; heap.alloc(rt.alloc(), a, 16, 0).expect(&rt, "room").rec, 0);
-    assert_eq!(rt; heap.alloc(rt.alloc(), a, 16, 0).expect(&rt, "room").rec, 2);
+    let mut heap = alone(&rt, rt.alloc(), config);
+    assert_answers(
+        &rt,
+        &mut heap,
+        rt.alloc(),
+        &[
+            (Alloc(0, 16, 0), Block(0, 16)),
+            (Alloc(0, 16, 0), Block(1, 16)),
+            (Alloc(0, 16, 0), Block(2, 16)),
+            (Alloc(0, 16, 0), Block(3, 16)),
+            (Free(0, 0), Number(16)),
+            (Free(0, 2), Number(16)),
+            (Alloc(0, 32, 0), No("NoSpace")),
+            (Alloc(0, 16, 0), Block(0, 16)),
+            (Alloc(0, 16, 0), Block(2, 16)),
+        ],
+    );
 }
 
 #[test]
@@ -67,14 +70,17 @@ fn records_and_arenas_run_out(rt: HostRuntime) {
         records: 2,
         ..small()
     };
-    let mut heap = Serial::new(rt.alloc(), config).expect(&rt, "room");
-    let a = heap.spawn().expect(&rt, "a place");
-    assert_eq!(rt; told(heap.alloc(rt.alloc(), a, 16, 0)), Ok(16));
-    assert_eq!(rt; told(heap.alloc(rt.alloc(), a, 16, 0)), Ok(16));
-    assert_eq!(rt; told(heap.alloc(rt.alloc(), a, 16, 0)), Err(5));
-    assert_eq!(rt;
-        heap.alloc(rt.alloc(), a, 16, 1).expect(&rt, "room").rec,
-        256
+    let mut heap = alone(&rt, rt.alloc(), config);
+    assert_answers(
+        &rt,
+        &mut heap,
+        rt.alloc(),
+        &[
+            (Alloc(0, 16, 0), Block(0, 16)),
+            (Alloc(0, 16, 0), Block(1, 16)),
+            (Alloc(0, 16, 0), No("NoRecord")),
+            (Alloc(0, 16, 1), Block(256, 16)),
+        ],
     );
 }
 
@@ -84,154 +90,176 @@ fn worn_arena(rt: HostRuntime) {
         wear: 96,
         ..small()
     };
-    let mut heap = Serial::new(rt.alloc(), config).expect(&rt, "room");
-    let a = heap.spawn().expect(&rt, "a place");
-    for _ in 0..2u8 {
-        let x = heap.alloc(rt.alloc(), a, 48, 0).expect(&rt, "room");
-        assert_eq!(rt; heap.free(a, x.rec).ok(), Some(48));
-    }
-    assert_eq!(rt; told(heap.alloc(rt.alloc(), a, 1, 0)), Err(19));
+    let mut heap = alone(&rt, rt.alloc(), config);
+    assert_answers(
+        &rt,
+        &mut heap,
+        rt.alloc(),
+        &[
+            (Alloc(0, 48, 0), Block(0, 48)),
+            (Free(0, 0), Number(48)),
+            (Alloc(0, 48, 0), Block(0, 48)),
+            (Free(0, 0), Number(48)),
+            (Alloc(0, 1, 0), No("Worn")),
+        ],
+    );
 }
 
 #[test]
 fn processes_that_are_none(rt: HostRuntime) {
-    let mut heap = Serial::new(rt.alloc(), small()).expect(&rt, "room");
-    assert_eq!(rt; told(heap.alloc(rt.alloc(), 0, 16, 0)), Err(11));
-    assert_eq!(rt; heap.spawn().ok(), Some(0));
-    assert_eq!(rt; told(heap.alloc(rt.alloc(), 0, 16, 0)), Ok(16));
-    for p in [1, 32, 255, 4_096, 65_535] {
-        assert_eq!(rt; told(heap.alloc(rt.alloc(), p, 16, 0)), Err(11));
-    }
+    let mut heap = heap_of(&rt, rt.alloc(), small());
+    assert_answers(
+        &rt,
+        &mut heap,
+        rt.alloc(),
+        &[
+            (Alloc(0, 16, 0), No("NoProcess")),
+            (Spawn, Number(0)),
+            (Alloc(0, 16, 0), Block(0, 16)),
+            (Alloc(1, 16, 0), No("NoProcess")),
+            (Alloc(32, 16, 0), No("NoProcess")),
+            (Alloc(255, 16, 0), No("NoProcess")),
+            (Alloc(4_096, 16, 0), No("NoProcess")),
+            (Alloc(65_535, 16, 0), No("NoProcess")),
+        ],
+    );
 }
 
 /// A growth that is refused, whichever it is, is answered in its place of the order, and the same
 /// call after it answers as if there had been none: `rt try --test --fail-alloc N` refuses the N-th.
 #[test]
 fn a_refused_growth_of_alloc_leaves_nothing(rt: HostRuntime) {
-    let Ok(mut heap) = Serial::new(rt.alloc(), small()) else {
-        assert!(rt; Serial::new(rt.alloc(), small()).is_ok());
-        return;
-    };
-    let a = heap.spawn().expect(&rt, "a place");
-    let first = heap.alloc(rt.alloc(), a, 40, 0);
-    if let Err(refused) = &first {
-        assert_eq!(rt; refused.number(), 1);
-        assert_eq!(rt; told(heap.alloc(rt.alloc(), a, 40, 0)), Ok(48));
-    }
-    let rest = match heap.alloc(rt.alloc(), a, 208, 0) {
-        Ok(rest) => rest,
-        Err(_) => heap.alloc(rt.alloc(), a, 208, 0).expect(&rt, "the rest"),
-    };
-    assert_eq!(rt; rest.rec, 1);
+    let mut heap = grown_heap(&rt, rt.alloc(), small());
+    assert_answers(&rt, &mut heap, rt.alloc(), &[(Spawn, Number(0))]);
+    assert_grows(&rt, &mut heap, rt.alloc(), Alloc(0, 40, 0), Block(0, 48));
+    assert_grows(&rt, &mut heap, rt.alloc(), Alloc(0, 208, 0), Block(1, 208));
 }
 
 /// What is tested ahead of memory is answered whether or not the growth of that call is refused, and
-/// want of memory ahead of want of room: `rt try --test --fail-alloc N` refuses the N-th growth. A
-/// call has three at most, one right after the other.
+/// want of memory ahead of want of room: `rt try --test --fail-alloc N` refuses the N-th growth.
 #[test]
-fn refusals_ahead_of_memory(rt: HostRuntime) {
+fn refusals_ahead_of_a_growth(rt: HostRuntime) {
     let config = Config {
         arenas: 2,
         records: 2,
         ..small()
     };
-    let Ok(mut heap) = Serial::new(rt.alloc(), config) else {
-        return;
-    };
-    assert_eq!(rt; heap.spawn().ok(), Some(0));
-    assert_eq!(rt; told(heap.alloc(rt.alloc(), 1, 16, 0)), Err(11));
-    assert_eq!(rt; told(heap.alloc(rt.alloc(), 0, 16, 2)), Err(3));
-    assert_eq!(rt; told(heap.alloc(rt.alloc(), 0, 257, 0)), Err(2));
-    let first = told(heap.alloc(rt.alloc(), 0, 256, 0));
-    assert!(rt; matches!(first, Ok(256) | Err(1)));
-    if first.is_ok() {
-        let full = told(heap.alloc(rt.alloc(), 0, 16, 0));
-        assert!(rt; matches!(full, Err(4 | 1)));
-        assert!(rt; full == Err(4) || told(heap.alloc(rt.alloc(), 0, 16, 0)) == Err(4));
-    }
+    let mut heap = grown_heap(&rt, rt.alloc(), config);
+    assert_answers(
+        &rt,
+        &mut heap,
+        rt.alloc(),
+        &[
+            (Spawn, Number(0)),
+            (Alloc(1, 16, 0), No("NoProcess")),
+            (Alloc(0, 16, 2), No("NoArena")),
+            (Alloc(0, 257, 0), No("BadSize")),
+        ],
+    );
+    assert_grows(&rt, &mut heap, rt.alloc(), Alloc(0, 256, 0), Block(0, 256));
+    assert_grows(&rt, &mut heap, rt.alloc(), Alloc(0, 16, 0), No("NoSpace"));
 }
 
 /// So it is of a split, whose last test ahead of memory is that of a record.
 #[test]
-fn refusals_of_split_ahead_of_memory(rt: HostRuntime) {
+fn refusals_of_split_ahead_of_a_growth(rt: HostRuntime) {
     let config = Config {
         records: 1,
         ..small()
     };
-    let Ok(mut heap) = Serial::new(rt.alloc(), config) else {
-        return;
-    };
-    assert_eq!(rt; heap.spawn().ok(), Some(0));
-    if heap.alloc(rt.alloc(), 0, 48, 0).is_ok() {
-        assert!(rt; matches!(heap.split(rt.alloc(), 0, 0, 20), Err(Refused::BadCut)));
-        assert!(rt; matches!(heap.split(rt.alloc(), 0, 0, 16), Err(Refused::NoRecord)));
-        assert!(rt; matches!(heap.alloc(rt.alloc(), 0, 16, 0), Err(Refused::NoRecord)));
-    }
+    let mut heap = grown_heap(&rt, rt.alloc(), config);
+    assert_answers(&rt, &mut heap, rt.alloc(), &[(Spawn, Number(0))]);
+    assert_grows(&rt, &mut heap, rt.alloc(), Alloc(0, 48, 0), Block(0, 48));
+    assert_answers(
+        &rt,
+        &mut heap,
+        rt.alloc(),
+        &[
+            (Split(0, 0, 20), No("BadCut")),
+            (Split(0, 0, 16), No("NoRecord")),
+            (Alloc(0, 16, 0), No("NoRecord")),
+        ],
+    );
 }
 
 /// A block is cut after its first bytes, and each part keeps its own.
 #[test]
 fn a_block_is_split(rt: HostRuntime) {
-    let mut heap = Serial::new(rt.alloc(), small()).expect(&rt, "room");
-    let a = heap.spawn().expect(&rt, "a place");
-    let x = heap.alloc(rt.alloc(), a, 48, 0).expect(&rt, "room");
-    for k in [0, 48, 20] {
-        assert!(rt; matches!(heap.split(rt.alloc(), a, x.rec, k), Err(Refused::BadCut)));
-    }
-    assert!(rt; heap.write(a, x.rec, 16, &[1, 2]).is_ok());
-    let (head, tail) = heap.split(rt.alloc(), a, x.rec, 16).expect(&rt, "a record");
-    assert_eq!(rt; (head.rec, head.len, tail.len), (x.rec, 16, 32));
-    let mut bytes = [9; 2];
-    assert!(rt; heap.read(a, tail.rec, 0, &mut bytes).is_ok());
-    assert_eq!(rt; bytes, [1, 2]);
-    assert_eq!(rt; heap.free(a, head.rec).ok(), Some(16));
-    assert!(rt; heap.read(a, tail.rec, 0, &mut bytes).is_ok());
-    assert_eq!(rt; bytes, [1, 2]);
+    let mut heap = alone(&rt, rt.alloc(), small());
+    assert_answers(
+        &rt,
+        &mut heap,
+        rt.alloc(),
+        &[
+            (Alloc(0, 48, 0), Block(0, 48)),
+            (Split(0, 0, 0), No("BadCut")),
+            (Split(0, 0, 48), No("BadCut")),
+            (Split(0, 0, 20), No("BadCut")),
+            (Write(0, 0, 16, &[1, 2]), Done),
+            (Split(0, 0, 16), Two(0, 16, 1, 32)),
+            (Read(0, 1, 0), Bytes([1, 2, 0, 0, 0, 0])),
+            (Free(0, 0), Number(16)),
+            (Read(0, 1, 0), Bytes([1, 2, 0, 0, 0, 0])),
+        ],
+    );
 }
 
 #[test]
 fn bytes_are_written_and_read(rt: HostRuntime) {
-    let mut heap = Serial::new(rt.alloc(), small()).expect(&rt, "room");
-    let a = heap.spawn().expect(&rt, "a place");
-    let x = heap.alloc(rt.alloc(), a, 16, 0).expect(&rt, "room");
-    assert!(rt; heap.write(a, x.rec, 0, &[0xbe, 0xef]).is_ok());
-    let mut bytes = [9; 4];
-    assert!(rt; heap.read(a, x.rec, 0, &mut bytes).is_ok());
-    assert_eq!(rt; bytes, [0xbe, 0xef, 0, 0]);
+    let mut heap = alone(&rt, rt.alloc(), small());
+    assert_answers(
+        &rt,
+        &mut heap,
+        rt.alloc(),
+        &[
+            (Alloc(0, 16, 0), Block(0, 16)),
+            (Write(0, 0, 0, &[0xbe, 0xef]), Done),
+            (Read(0, 0, 0), Bytes([0xbe, 0xef, 0, 0, 0, 0])),
+            (Read(0, 0, 11), No("BadRange")),
+            (Write(0, 0, 15, &[1, 2]), No("BadRange")),
+            (Write(0, 1, 0, &[1]), No("NotOwned")),
+        ],
+    );
     let mut two = [7; 2];
-    assert!(rt; matches!(heap.read(a, x.rec, 15, &mut two), Err(Refused::BadRange)));
+    assert!(rt; matches!(heap.read(0, 0, 15, &mut two), Err(Refused::BadRange)));
     assert_eq!(rt; two, [7, 7]);
-    assert!(rt; matches!(heap.write(a, x.rec, 15, &[1, 2]), Err(Refused::BadRange)));
-    assert!(rt; matches!(heap.write(a, 1, 0, &[1]), Err(Refused::NotOwned)));
-    assert!(rt; heap.read(a, x.rec, 16, &mut []).is_ok());
+    assert!(rt; heap.read(0, 0, 16, &mut []).is_ok());
 }
 
 /// With a growth of a split refused the block and its bytes are as before, and the same split
 /// succeeds after it: `rt try --test --fail-alloc N` refuses the N-th.
 #[test]
 fn a_refused_growth_of_split_leaves_nothing(rt: HostRuntime) {
-    let Ok(mut heap) = Serial::new(rt.alloc(), small()) else {
-        assert!(rt; Serial::new(rt.alloc(), small()).is_ok());
-        return;
-    };
-    let a = heap.spawn().expect(&rt, "a place");
-    let Ok(x) = heap.alloc(rt.alloc(), a, 48, 0) else {
-        return;
-    };
-    assert!(rt; heap.write(a, x.rec, 16, &[1, 2]).is_ok());
-    if let Err(refused) = heap.split(rt.alloc(), a, x.rec, 16) {
-        assert_eq!(rt; refused.number(), 1);
-        let mut bytes = [0; 48];
-        assert!(rt; heap.read(a, x.rec, 0, &mut bytes).is_ok());
-        assert_eq!(rt; (bytes[16], bytes[17]), (1, 2));
-        let again = heap.split(rt.alloc(), a, x.rec, 16).expect(&rt, "a record");
-        assert_eq!(rt; (again.0.len, again.1.len, again.1.rec), (16, 32, 1));
+    let mut heap = grown_heap(&rt, rt.alloc(), small());
+    assert_answers(&rt, &mut heap, rt.alloc(), &[(Spawn, Number(0))]);
+    assert_grows(&rt, &mut heap, rt.alloc(), Alloc(0, 48, 0), Block(0, 48));
+    assert_answers(
+        &rt,
+        &mut heap,
+        rt.alloc(),
+        &[(Write(0, 0, 14, &[1, 2, 3, 4]), Done)],
+    );
+    if answer_of(&mut heap, rt.alloc(), Split(0, 0, 16)) == No("OutOfMemory") {
+        assert_answers(
+            &rt,
+            &mut heap,
+            rt.alloc(),
+            &[
+                (Read(0, 0, 13), Bytes([0, 1, 2, 3, 4, 0])),
+                (Split(0, 0, 16), Two(0, 16, 1, 32)),
+            ],
+        );
     }
-    let rest = match heap.alloc(rt.alloc(), a, 208, 0) {
-        Ok(rest) => rest,
-        Err(_) => heap.alloc(rt.alloc(), a, 208, 0).expect(&rt, "the rest"),
-    };
-    assert_eq!(rt; rest.rec, 2);
+    assert_answers(
+        &rt,
+        &mut heap,
+        rt.alloc(),
+        &[
+            (Read(0, 0, 10), Bytes([0, 0, 0, 0, 1, 2])),
+            (Read(0, 1, 0), Bytes([3, 4, 0, 0, 0, 0])),
+        ],
+    );
+    assert_grows(&rt, &mut heap, rt.alloc(), Alloc(0, 208, 0), Block(2, 208));
 }
 
 /// Of a large block only a few bytes are written. Each part of a cut keeps its own, whether the head
@@ -242,31 +270,26 @@ fn a_few_bytes_of_a_large_block(rt: HostRuntime) {
         bytes: 1_048_576,
         ..small()
     };
-    let mut heap = Serial::new(rt.alloc(), config).expect(&rt, "room");
-    let a = heap.spawn().expect(&rt, "a place");
-    let x = heap.alloc(rt.alloc(), a, 1_048_576, 0).expect(&rt, "room");
-    for at in [1_022, 524_286, 1_048_572] {
-        assert!(rt; heap.write(a, x.rec, at, &[1, 2, 3, 4]).is_ok());
-    }
-    let mut bytes = [9; 6];
-    assert!(rt; heap.read(a, x.rec, 1_021, &mut bytes).is_ok());
-    assert_eq!(rt; bytes, [0, 1, 2, 3, 4, 0]);
-    let (head, rest) = heap
-        .split(rt.alloc(), a, x.rec, 1_024)
-        .expect(&rt, "a record");
-    let (_, tail) = heap
-        .split(rt.alloc(), a, rest.rec, 1_046_528)
-        .expect(&rt, "a record");
-    assert!(rt; heap.read(a, head.rec, 1_018, &mut bytes).is_ok());
-    assert_eq!(rt; bytes, [0, 0, 0, 0, 1, 2]);
-    assert!(rt; heap.read(a, rest.rec, 0, &mut bytes).is_ok());
-    assert_eq!(rt; bytes, [3, 4, 0, 0, 0, 0]);
-    assert!(rt; heap.read(a, rest.rec, 523_261, &mut bytes).is_ok());
-    assert_eq!(rt; bytes, [0, 1, 2, 3, 4, 0]);
-    assert!(rt; heap.read(a, tail.rec, 1_018, &mut bytes).is_ok());
-    assert_eq!(rt; bytes, [0, 0, 1, 2, 3, 4]);
-    assert_eq!(rt; heap.free(a, rest.rec).ok(), Some(1_046_528));
-    let y = heap.alloc(rt.alloc(), a, 1_046_528, 0).expect(&rt, "room");
-    assert!(rt; heap.read(a, y.rec, 0, &mut bytes).is_ok());
-    assert_eq!(rt; bytes, [0; 6]);
+    let mut heap = alone(&rt, rt.alloc(), config);
+    assert_answers(
+        &rt,
+        &mut heap,
+        rt.alloc(),
+        &[
+            (Alloc(0, 1_048_576, 0), Block(0, 1_048_576)),
+            (Write(0, 0, 1_022, &[1, 2, 3, 4]), Done),
+            (Write(0, 0, 524_286, &[1, 2, 3, 4]), Done),
+            (Write(0, 0, 1_048_572, &[1, 2, 3, 4]), Done),
+            (Read(0, 0, 1_021), Bytes([0, 1, 2, 3, 4, 0])),
+            (Split(0, 0, 1_024), Two(0, 1_024, 1, 1_047_552)),
+            (Split(0, 1, 1_046_528), Two(1, 1_046_528, 2, 1_024)),
+            (Read(0, 0, 1_018), Bytes([0, 0, 0, 0, 1, 2])),
+            (Read(0, 1, 0), Bytes([3, 4, 0, 0, 0, 0])),
+            (Read(0, 1, 523_261), Bytes([0, 1, 2, 3, 4, 0])),
+            (Read(0, 2, 1_018), Bytes([0, 0, 1, 2, 3, 4])),
+            (Free(0, 1), Number(1_046_528)),
+            (Alloc(0, 1_046_528, 0), Block(1, 1_046_528)),
+            (Read(0, 1, 0), Bytes([0; 6])),
+        ],
+    );
 }

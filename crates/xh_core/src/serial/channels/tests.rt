@@ -1,9 +1,10 @@
 //! Channels by calls: who holds which end, what a contract refuses, and the order of the refusals.
-use crate::block::Block;
 use crate::contract::Contract;
-use crate::refused::Refused;
 use crate::serial::Serial;
-use crate::serial::tests::{taken, told};
+use crate::serial::tests::answers::Answer::{Message, No, Number, Place, Two};
+use crate::serial::tests::answers::Call::{Exit, Give, Glance, Open, Spawn, Take, Wire};
+use crate::serial::tests::answers::{assert_answers, heap_of, of_two};
+use crate::status::Status::Running;
 use std::alloc::Global;
 use std::process::Abort;
 use xh_model::{Config, Row};
@@ -21,9 +22,13 @@ fn small() -> Config {
 
 /// A heap in which the processes 0 and 1 run.
 fn two_processes(rt: &impl Abort, alloc: Global, config: Config) -> Serial {
-    let mut heap = Serial::new(alloc, config).expect(rt, "room");
-    assert_eq!(rt; heap.spawn().ok(), Some(0));
-    assert_eq!(rt; heap.spawn().ok(), Some(1));
+    let mut heap = heap_of(rt, alloc, config);
+    assert_answers(
+        rt,
+        &mut heap,
+        alloc,
+        &[(Spawn, Number(0)), (Spawn, Number(1))],
+    );
     heap
 }
 
@@ -44,82 +49,89 @@ fn question_and_answer(rt: &impl Abort) -> Contract {
     Contract::new(&[ask, answer]).expect(rt, "a valid table")
 }
 
-/// The records and lengths of both ends, or the number of the refusal.
-fn ends(answer: Result<(Block, Block), Refused>) -> Result<(u16, u32, u16, u32), u8> {
-    match answer {
-        Ok((low, high)) => Ok((low.rec, low.len, high.rec, high.len)),
-        Err(refused) => Err(refused.number()),
-    }
-}
-
 #[test]
 fn a_process_holds_both_ends(rt: HostRuntime) {
     let mut heap = two_processes(&rt, rt.alloc(), small());
-    assert_eq!(rt; ends(heap.open(0, 1)), Ok((256, 32, 257, 32)));
-    assert_eq!(rt; ends(heap.open(1, 0)), Ok((0, 32, 1, 32)));
-    assert_eq!(rt; ends(heap.wire(0, 0, 1)), Ok((258, 32, 259, 32)));
-    assert_eq!(rt; told(heap.give(0, 256, 7, &[])), Ok(1));
-    assert_eq!(rt; told(heap.give(0, 257, 8, &[])), Ok(1));
-    let taken = heap.take(0, 256).expect(&rt, "a message");
-    assert_eq!(rt; (taken.no, taken.tag), (1, 8));
-    let look = heap.glance(0).expect(&rt, "a place");
-    assert_eq!(rt; (look.blocks, look.bytes), (4, 128));
+    assert_answers(
+        &rt,
+        &mut heap,
+        rt.alloc(),
+        &[
+            (Open(0, 1), Two(256, 32, 257, 32)),
+            (Open(1, 0), Two(0, 32, 1, 32)),
+            (Wire(0, 0, 1), Two(258, 32, 259, 32)),
+            (Give(0, 256, 7, &[]), Number(1)),
+            (Give(0, 257, 8, &[]), Number(1)),
+            (Take(0, 256), Message(1, 8, 0)),
+            (Glance(0), Place(0, Running, 4, 128)),
+        ],
+    );
 }
 
 #[test]
 fn each_process_holds_one_end(rt: HostRuntime) {
     let mut heap = two_processes(&rt, rt.alloc(), small());
-    assert_eq!(rt; ends(heap.wire(0, 1, 0)), Ok((0, 32, 1, 32)));
-    assert_eq!(rt; told(heap.give(0, 1, 7, &[])), Err(6));
-    assert_eq!(rt; told(heap.give(0, 0, 7, &[])), Ok(1));
-    let taken = heap.take(1, 1).expect(&rt, "a message");
-    assert_eq!(rt; (taken.no, taken.tag), (1, 7));
-    for place in [0, 1] {
-        let look = heap.glance(place).expect(&rt, "a place");
-        assert_eq!(rt; (look.blocks, look.bytes), (1, 32));
-    }
+    assert_answers(
+        &rt,
+        &mut heap,
+        rt.alloc(),
+        &[
+            (Wire(0, 1, 0), Two(0, 32, 1, 32)),
+            (Give(0, 1, 7, &[]), No("NotOwned")),
+            (Give(0, 0, 7, &[]), Number(1)),
+            (Take(1, 1), Message(1, 7, 0)),
+            (Glance(0), Place(0, Running, 1, 32)),
+            (Glance(1), Place(1, Running, 1, 32)),
+        ],
+    );
 }
 
 #[test]
 fn ends_under_a_contract(rt: HostRuntime) {
     let mut heap = two_processes(&rt, rt.alloc(), small());
-    assert_eq!(rt;
-        ends(heap.open_with(0, 0, question_and_answer(&rt))),
-        Ok((0, 32, 1, 32))
+    let opened = heap.open_with(0, 0, question_and_answer(&rt));
+    assert_eq!(rt; of_two(opened), Two(0, 32, 1, 32));
+    let wired = heap.wire_with(0, 1, 1, question_and_answer(&rt));
+    assert_eq!(rt; of_two(wired), Two(256, 32, 257, 32));
+    assert_answers(
+        &rt,
+        &mut heap,
+        rt.alloc(),
+        &[
+            (Give(0, 0, 2, &[]), No("Protocol")),
+            (Give(0, 1, 2, &[]), No("Protocol")),
+            (Give(0, 0, 1, &[]), Number(1)),
+            (Give(1, 257, 2, &[]), No("Protocol")),
+            (Give(0, 256, 1, &[]), Number(1)),
+            (Take(1, 257), Message(1, 1, 0)),
+            (Give(1, 257, 2, &[]), Number(1)),
+        ],
     );
-    assert_eq!(rt; told(heap.give(0, 0, 2, &[])), Err(22));
-    assert_eq!(rt; told(heap.give(0, 1, 2, &[])), Err(22));
-    assert_eq!(rt; told(heap.give(0, 0, 1, &[])), Ok(1));
-    assert_eq!(rt;
-        ends(heap.wire_with(0, 1, 1, question_and_answer(&rt))),
-        Ok((256, 32, 257, 32))
-    );
-    assert_eq!(rt; told(heap.give(1, 257, 2, &[])), Err(22));
-    assert_eq!(rt; told(heap.give(0, 256, 1, &[])), Ok(1));
-    assert_eq!(rt; heap.take(1, 257).ok().map(|taken| taken.tag), Some(1));
-    assert_eq!(rt; told(heap.give(1, 257, 2, &[])), Ok(1));
 }
 
 #[test]
 fn the_start_is_tested_first(rt: HostRuntime) {
     let mut heap = two_processes(&rt, rt.alloc(), small());
-    assert_eq!(rt; ends(heap.open(2, 2)), Err(11));
-    assert_eq!(rt; ends(heap.open(0, 2)), Err(3));
-    assert_eq!(rt; told(heap.exit(1, 10)), Ok(0));
-    assert_eq!(rt; ends(heap.open(1, 2)), Err(12));
-    assert_eq!(rt; ends(heap.wire(2, 1, 2)), Err(11));
-    assert_eq!(rt; ends(heap.wire(1, 2, 2)), Err(12));
-    assert_eq!(rt; ends(heap.wire(0, 2, 2)), Err(11));
-    assert_eq!(rt; ends(heap.wire(0, 1, 2)), Err(12));
-    assert_eq!(rt; ends(heap.wire(0, 0, 2)), Err(3));
-    assert_eq!(rt;
-        ends(heap.wire_with(0, 1, 2, question_and_answer(&rt))),
-        Err(12)
+    assert_answers(
+        &rt,
+        &mut heap,
+        rt.alloc(),
+        &[
+            (Open(2, 2), No("NoProcess")),
+            (Open(0, 2), No("NoArena")),
+            (Exit(1, 10), Number(0)),
+            (Open(1, 2), No("Ended")),
+            (Wire(2, 1, 2), No("NoProcess")),
+            (Wire(1, 2, 2), No("Ended")),
+            (Wire(0, 2, 2), No("NoProcess")),
+            (Wire(0, 1, 2), No("Ended")),
+            (Wire(0, 0, 2), No("NoArena")),
+        ],
     );
-    assert_eq!(rt;
-        ends(heap.open_with(0, 2, question_and_answer(&rt))),
-        Err(3)
-    );
+    let wired = heap.wire_with(0, 1, 2, question_and_answer(&rt));
+    assert_eq!(rt; of_two(wired), No("Ended"));
+    let opened = heap.open_with(0, 2, question_and_answer(&rt));
+    assert_eq!(rt; of_two(opened), No("NoArena"));
 }
 
 /// Sixty-four channels, and then none, though there is no record, no room and no wear left either.
@@ -136,15 +148,26 @@ fn channels_run_out_before_records(rt: HostRuntime) {
     for _ in 0..64u8 {
         assert!(rt; heap.open(0, 0).is_ok());
     }
-    assert_eq!(rt; ends(heap.open(0, 0)), Err(13));
-    assert_eq!(rt; ends(heap.wire(0, 1, 0)), Err(13));
-    assert_eq!(rt; ends(heap.open(0, 1)), Err(3));
+    assert_answers(
+        &rt,
+        &mut heap,
+        rt.alloc(),
+        &[
+            (Open(0, 0), No("NoChannel")),
+            (Wire(0, 1, 0), No("NoChannel")),
+            (Open(0, 1), No("NoArena")),
+        ],
+    );
 }
 
 /// A refused call leaves no end behind.
 #[test]
 fn records_room_and_wear(rt: HostRuntime) {
-    for (records, bytes, refusal) in [(3, 64, 5), (4, 64, 4), (4, 128, 19)] {
+    for (records, bytes, refusal) in [
+        (3, 64, No("NoRecord")),
+        (4, 64, No("NoSpace")),
+        (4, 128, No("Worn")),
+    ] {
         let config = Config {
             records,
             bytes,
@@ -152,12 +175,18 @@ fn records_room_and_wear(rt: HostRuntime) {
             ..small()
         };
         let mut heap = two_processes(&rt, rt.alloc(), config);
-        assert_eq!(rt; ends(heap.open(0, 0)), Ok((0, 32, 1, 32)));
-        assert_eq!(rt; ends(heap.open(0, 0)), Err(refusal));
-        assert_eq!(rt; ends(heap.wire(1, 0, 0)), Err(refusal));
-        let look = heap.glance(0).expect(&rt, "a place");
-        assert_eq!(rt; (look.blocks, look.bytes), (2, 64));
-        assert_eq!(rt; ends(heap.wire(1, 0, 1)), Ok((256, 32, 257, 32)));
+        assert_answers(
+            &rt,
+            &mut heap,
+            rt.alloc(),
+            &[
+                (Open(0, 0), Two(0, 32, 1, 32)),
+                (Open(0, 0), refusal),
+                (Wire(1, 0, 0), refusal),
+                (Glance(0), Place(0, Running, 2, 64)),
+                (Wire(1, 0, 1), Two(256, 32, 257, 32)),
+            ],
+        );
     }
 }
 
@@ -165,19 +194,24 @@ fn records_room_and_wear(rt: HostRuntime) {
 #[test]
 fn contract_refusals(rt: HostRuntime) {
     let mut heap = two_processes(&rt, rt.alloc(), small());
-    assert_eq!(rt;
-        ends(heap.wire_with(0, 1, 0, question_and_answer(&rt))),
-        Ok((0, 32, 1, 32))
+    let wired = heap.wire_with(0, 1, 0, question_and_answer(&rt));
+    assert_eq!(rt; of_two(wired), Two(0, 32, 1, 32));
+    assert_answers(
+        &rt,
+        &mut heap,
+        rt.alloc(),
+        &[
+            (Give(0, 0, 2, &[]), No("Protocol")),
+            (Give(1, 1, 2, &[]), No("Protocol")),
+            (Give(0, 0, 1, &[]), Number(1)),
+            (Give(0, 0, 1, &[]), No("Protocol")),
+            (Give(1, 1, 1, &[]), No("Protocol")),
+            (Take(1, 1), Message(1, 1, 0)),
+            (Give(1, 1, 2, &[]), Number(1)),
+            (Take(0, 0), Message(1, 2, 0)),
+            (Give(0, 0, 1, &[]), Number(2)),
+        ],
     );
-    assert_eq!(rt; told(heap.give(0, 0, 2, &[])), Err(22));
-    assert_eq!(rt; told(heap.give(1, 1, 2, &[])), Err(22));
-    assert_eq!(rt; told(heap.give(0, 0, 1, &[])), Ok(1));
-    assert_eq!(rt; told(heap.give(0, 0, 1, &[])), Err(22));
-    assert_eq!(rt; told(heap.give(1, 1, 1, &[])), Err(22));
-    assert_eq!(rt; taken(heap.take(1, 1)), Ok((1, 1, 0)));
-    assert_eq!(rt; told(heap.give(1, 1, 2, &[])), Ok(1));
-    assert_eq!(rt; taken(heap.take(0, 0)), Ok((1, 2, 0)));
-    assert_eq!(rt; told(heap.give(0, 0, 1, &[])), Ok(2));
 }
 
 /// The contract is asked after the blocks, and ahead of the peer and of the room.
@@ -196,11 +230,18 @@ fn a_contract_is_asked_before_the_room(rt: HostRuntime) {
     };
     let contract = Contract::new(&[more]).expect(&rt, "a valid table");
     assert!(rt; heap.wire_with(0, 1, 0, contract).is_ok());
-    assert_eq!(rt; told(heap.give(0, 0, 1, &[])), Ok(1));
-    assert_eq!(rt; told(heap.give(0, 0, 2, &[0])), Err(18));
-    assert_eq!(rt; told(heap.give(0, 0, 2, &[])), Err(22));
-    assert_eq!(rt; told(heap.give(0, 0, 1, &[])), Err(14));
-    assert_eq!(rt; told(heap.exit(1, 1)), Ok(32));
-    assert_eq!(rt; told(heap.give(0, 0, 2, &[])), Err(22));
-    assert_eq!(rt; told(heap.give(0, 0, 1, &[])), Err(15));
+    assert_answers(
+        &rt,
+        &mut heap,
+        rt.alloc(),
+        &[
+            (Give(0, 0, 1, &[]), Number(1)),
+            (Give(0, 0, 2, &[0]), No("Twice")),
+            (Give(0, 0, 2, &[]), No("Protocol")),
+            (Give(0, 0, 1, &[]), No("Full")),
+            (Exit(1, 1), Number(32)),
+            (Give(0, 0, 2, &[]), No("Protocol")),
+            (Give(0, 0, 1, &[]), No("PeerClosed")),
+        ],
+    );
 }

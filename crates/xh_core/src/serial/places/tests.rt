@@ -1,24 +1,15 @@
 //! Processes start, and places and the ledger are looked at.
 use crate::ledger::State;
 use crate::refused::Refused;
-use crate::serial::Serial;
-use crate::status::Status;
-use xh_model::Config;
-
-/// One arena of 256 bytes.
-fn small() -> Config {
-    Config {
-        arenas: 1,
-        bytes: 256,
-        records: 256,
-        depth: 4,
-        wear: 9_223_372_036_854_775_807,
-    }
-}
+use crate::serial::tests::answers::Answer::{Block, No, Number, Place};
+use crate::serial::tests::answers::Call::{Alloc, Exit, Free, Glance, Kill, Spawn};
+use crate::serial::tests::answers::{assert_answers, assert_ledger, first_place, heap_of};
+use crate::serial::tests::small;
+use crate::status::Status::{Running, Vacant};
 
 #[test]
 fn places_run_out(rt: HostRuntime) {
-    let mut heap = Serial::new(rt.alloc(), small()).expect(&rt, "room");
+    let mut heap = heap_of(&rt, rt.alloc(), small());
     for place in 0..32 {
         assert_eq!(rt; heap.spawn().ok(), Some(place));
     }
@@ -28,82 +19,72 @@ fn places_run_out(rt: HostRuntime) {
 /// A place is used again where its process has ended: the next process is of its next generation.
 #[test]
 fn a_place_is_used_again(rt: HostRuntime) {
-    let mut heap = Serial::new(rt.alloc(), small()).expect(&rt, "room");
-    assert_eq!(rt; heap.spawn().ok(), Some(0));
-    assert_eq!(rt; heap.spawn().ok(), Some(1));
-    assert_eq!(rt; heap.exit(0, 4_096).ok(), Some(0));
-    assert_eq!(rt; heap.spawn().ok(), Some(32));
-    assert!(rt; matches!(heap.alloc(rt.alloc(), 0, 16, 0), Err(Refused::Ended)));
-    assert!(rt; matches!(heap.alloc(rt.alloc(), 64, 16, 0), Err(Refused::NoProcess)));
-    assert!(rt; heap.alloc(rt.alloc(), 32, 16, 0).is_ok());
-    assert_eq!(rt; heap.spawn().ok(), Some(2));
+    let mut heap = heap_of(&rt, rt.alloc(), small());
+    assert_answers(
+        &rt,
+        &mut heap,
+        rt.alloc(),
+        &[
+            (Spawn, Number(0)),
+            (Spawn, Number(1)),
+            (Exit(0, 4_096), Number(0)),
+            (Spawn, Number(32)),
+            (Alloc(0, 16, 0), No("Ended")),
+            (Alloc(64, 16, 0), No("NoProcess")),
+            (Alloc(32, 16, 0), Block(0, 16)),
+            (Spawn, Number(2)),
+        ],
+    );
 }
 
 #[test]
 fn glances(rt: HostRuntime) {
-    let mut heap = Serial::new(rt.alloc(), small()).expect(&rt, "room");
-    let vacant = heap.glance(0).expect(&rt, "a place");
-    assert_eq!(rt;
-        (vacant.state, vacant.blocks, vacant.bytes),
-        (Status::Vacant, 0, 0)
-    );
-    assert!(rt; matches!(heap.glance(32), Err(Refused::NoProcess)));
-    let a = heap.spawn().expect(&rt, "a place");
-    let x = heap.alloc(rt.alloc(), a, 40, 0).expect(&rt, "room");
-    let one = heap.glance(0).expect(&rt, "a place");
-    assert_eq!(rt;
-        (one.process, one.state, one.blocks, one.bytes),
-        (0, Status::Running, 1, 48)
-    );
-    assert_eq!(rt; heap.free(a, x.rec).ok(), Some(48));
-    let none = heap.glance(0).expect(&rt, "a place");
-    assert_eq!(rt;
-        (none.state, none.blocks, none.bytes),
-        (Status::Running, 0, 0)
+    let mut heap = heap_of(&rt, rt.alloc(), small());
+    assert_answers(
+        &rt,
+        &mut heap,
+        rt.alloc(),
+        &[
+            (Glance(0), Place(0, Vacant, 0, 0)),
+            (Glance(32), No("NoProcess")),
+            (Spawn, Number(0)),
+            (Alloc(0, 40, 0), Block(0, 48)),
+            (Glance(0), Place(0, Running, 1, 48)),
+            (Free(0, 0), Number(48)),
+            (Glance(0), Place(0, Running, 0, 0)),
+        ],
     );
 }
 
 /// One process with a block of 40 bytes, rounded up to 48.
 #[test]
 fn first_alloc(rt: HostRuntime) {
-    let mut heap = Serial::new(rt.alloc(), small()).expect(&rt, "room");
-    let a = heap.spawn().expect(&rt, "a place");
-    let x = heap.alloc(rt.alloc(), a, 40, 0).expect(&rt, "room");
-    assert_eq!(rt; (x.rec, x.len), (0, 48));
+    let mut heap = heap_of(&rt, rt.alloc(), small());
+    assert_answers(
+        &rt,
+        &mut heap,
+        rt.alloc(),
+        &[(Spawn, Number(0)), (Alloc(0, 40, 0), Block(0, 48))],
+    );
     let ledger = heap.ledger();
-    assert_eq!(rt; ledger.arenas.len(), 1);
-    for arena in ledger.arenas.as_slice() {
-        assert_eq!(rt; (arena.size, arena.out, arena.holes), (256, 48, 1));
-        assert_eq!(rt; (arena.taken, arena.back), (48, 0));
-    }
-    assert_eq!(rt; ledger.places.len(), 1);
-    for place in ledger.places.as_slice() {
-        assert_eq!(rt;
-            (place.place, place.process, place.state),
-            (0, 0, State::Running)
-        );
-        assert_eq!(rt; (place.blocks, place.bytes), (1, 48));
-    }
-    assert_eq!(rt; (ledger.owned, ledger.flight, ledger.out), (48, 0, 48));
+    assert_ledger(&rt, &ledger, (256, 48, 1, 48, 0), (48, 0, 48));
+    let running = Some((0, 0, State::Running, 1, 48));
+    assert_eq!(rt; (ledger.places.len(), first_place(&ledger)), (1, running));
 }
 
 #[test]
 fn an_empty_ledger(rt: HostRuntime) {
-    let heap = Serial::new(rt.alloc(), small()).expect(&rt, "room");
+    let heap = heap_of(&rt, rt.alloc(), small());
     let ledger = heap.ledger();
-    for arena in ledger.arenas.as_slice() {
-        assert_eq!(rt; (arena.size, arena.out, arena.holes), (256, 0, 1));
-        assert_eq!(rt; (arena.taken, arena.back), (0, 0));
-    }
-    assert_eq!(rt; (ledger.arenas.len(), ledger.places.len()), (1, 0));
-    assert_eq!(rt; (ledger.owned, ledger.flight, ledger.out), (0, 0, 0));
+    assert_ledger(&rt, &ledger, (256, 0, 1, 0, 0), (0, 0, 0));
+    assert_eq!(rt; first_place(&ledger), None);
 }
 
 /// Processes that start and end in turn: each place's generations one after the other, and then
 /// the next place's, until none is left.
 #[test]
 fn every_process_number(rt: HostRuntime) {
-    let mut heap = Serial::new(rt.alloc(), small()).expect(&rt, "room");
+    let mut heap = heap_of(&rt, rt.alloc(), small());
     for place in 0..32u16 {
         for generation in 0..128u16 {
             let process = place + 32 * generation;
@@ -118,18 +99,22 @@ fn every_process_number(rt: HostRuntime) {
 /// though another runs at its place.
 #[test]
 fn places_by_generation(rt: HostRuntime) {
-    let mut heap = Serial::new(rt.alloc(), small()).expect(&rt, "room");
-    assert_eq!(rt; heap.spawn().ok(), Some(0));
-    assert_eq!(rt; heap.spawn().ok(), Some(1));
-    assert_eq!(rt; heap.exit(0, 4_096).ok(), Some(0));
-    assert_eq!(rt; heap.exit(1, 4_096).ok(), Some(0));
-    assert_eq!(rt; heap.spawn().ok(), Some(32));
-    assert!(rt; matches!(heap.alloc(rt.alloc(), 0, 1, 0), Err(Refused::Ended)));
-    assert_eq!(rt; heap.spawn().ok(), Some(33));
-    assert!(rt; matches!(heap.kill(33, 0, 4_096), Err(Refused::Ended)));
-    for (place, process) in [(0, 32), (1, 33)] {
-        let look = heap.glance(place).expect(&rt, "a place");
-        assert_eq!(rt; (look.process, look.state), (process, Status::Running));
-        assert_eq!(rt; (look.blocks, look.bytes), (0, 0));
-    }
+    let mut heap = heap_of(&rt, rt.alloc(), small());
+    assert_answers(
+        &rt,
+        &mut heap,
+        rt.alloc(),
+        &[
+            (Spawn, Number(0)),
+            (Spawn, Number(1)),
+            (Exit(0, 4_096), Number(0)),
+            (Exit(1, 4_096), Number(0)),
+            (Spawn, Number(32)),
+            (Alloc(0, 1, 0), No("Ended")),
+            (Spawn, Number(33)),
+            (Kill(33, 0, 4_096), No("Ended")),
+            (Glance(0), Place(32, Running, 0, 0)),
+            (Glance(1), Place(33, Running, 0, 0)),
+        ],
+    );
 }

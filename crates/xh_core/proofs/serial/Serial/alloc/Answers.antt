@@ -5,13 +5,13 @@ use Rattle.std.proofs.lemmas.Result.{err_from_is_err_and}
 use Rattle.xh_model.specs.Store.{Store, len}
 use Rattle.xh_core.specs.Machine.{Machine, IsWhole, place, blocks}
 use Rattle.xh_core.specs.Refusing.{first_refusal}
-use Rattle.xh_core.specs.Gaining.{Gained}
-use Rattle.xh_core.specs.BlockCommands.{allocated, free_record, rounded, space_tests}
-use Rattle.xh_core.specs.Checks.{alloc_heads}
+use Rattle.xh_core.specs.inner.Gaining.{Gained}
+use Rattle.xh_core.specs.BlockCommands.{alloc_heads, allocated, free_record, rounded, space_tests}
 use Rattle.xh_core.proofs.Machines.{current_blocks, same_machine}
 use Rattle.xh_core.proofs.Claiming.{IsFree, free_is, in_range}
 use Rattle.xh_core.proofs.Gains.{room_for, free_there, free_buffer, emptied_again, allocated_whole}
 use Rattle.xh_core.proofs.Answering.{alloc_stopped, alloc_memory, alloc_no_room, alloc_gives}
+use Rattle.xh_core.specs.View.{machine_of}
 use Rattle.xh_core.proofs.serial.Serial.alloc.Goals as goal
 
 pub returns-in_err-r-clause-done : goal.returns-in_err-r-clause-done
@@ -19,65 +19,72 @@ returns-in_err-r-clause-done c = λ _.
     let e = err_from_is_err_and c.from_residual.result c.from_residual.ensures.1 in
     rw (e.1, e.2) (alloc_stopped false c.args.p c.args.n c.args.arena c.args.self.now c.in_err-r.field-0.0 c.in_err-r.ensures)
 
+-- the record that is taken
+found : (m : Machine) (a r : ℕ) → IsWhole m → free_record m.store a ≡ Some r → IsFree m.store a r
+found m a r w e = free_is m.store a r w.store e
+
 pub zeroed-requires : goal.zeroed-requires
 zeroed-requires c =
-    let m : Machine = record { store = c.self.inside.plain; ends = c.self.inside.ends.items; buffers = c.self.inside.memory; places = c.self.inside.places.items; lines = c.self.inside.lines.items; contracts = c.self.inside.contracts.items; opened = c.self.inside.opened; depth = c.self.inside.depth } in
-    let f : IsFree m.store c.args.arena c.in_ok-r.r = free_is m.store c.args.arena c.in_ok-r.r c.self.invariant.store (rw (← c.self.view_is) at c.in_ok-r.ensures.1.1) in
-    free_there m c.in_ok-r.r c.self.invariant f.known
+    let m : Machine = machine_of c.self.inside in
+    free_there m c.in_ok-r.r c.self.invariant (found m c.args.arena _ c.self.invariant (rw (← c.self.view_is) at c.in_ok-r.ensures.1.1)).known
 
 pub returns-in_err-zeroed-clause-refused : goal.returns-in_err-zeroed-clause-refused
 returns-in_err-zeroed-clause-refused c = λ h.
-    let m : Machine = record { store = c.self.inside.plain; ends = c.self.inside.ends.items; buffers = c.self.inside.memory; places = c.self.inside.places.items; lines = c.self.inside.lines.items; contracts = c.self.inside.contracts.items; opened = c.self.inside.opened; depth = c.self.inside.depth } in
+    let m : Machine = machine_of c.self.inside in
     let tested : first_refusal (alloc_heads m c.args.p c.args.n c.args.arena) ≡ None = rw (← c.self.view_is) at c.in_ok-r.ensures.0 in
     rw (h, c.in_err-zeroed.ensures.kept, ← c.self.view_is) (alloc_memory c.args.p c.args.n c.args.arena m tested)
 
-pub clear-requires : goal.clear-requires
-clear-requires c =
-    let m : Machine = record { store = c.self.inside.plain; ends = c.self.inside.ends.items; buffers = c.self.inside.memory; places = c.self.inside.places.items; lines = c.self.inside.lines.items; contracts = c.self.inside.contracts.items; opened = c.self.inside.opened; depth = c.self.inside.depth } in
-    let f : IsFree m.store c.args.arena c.in_ok-r.r = free_is m.store c.args.arena c.in_ok-r.r c.self.invariant.store (rw (← c.self.view_is) at c.in_ok-r.ensures.1.1) in
-    let long : length c.zeroed.new.self ≡ length m.buffers = ap length c.in_ok-zeroed.ensures.done ∙ length-set m.buffers c.in_ok-r.r (replicate c.round-len.result 0) in
-    subst (λ (k : ℕ). c.in_ok-r.r < k) (sym long) (free_there m c.in_ok-r.r c.self.invariant f.known)
-
-pub invariant_of-self-in-Err : goal.invariant_of-self-in-Err
-invariant_of-self-in-Err c =
-    let m : Machine = record { store = c.self.inside.plain; ends = c.self.inside.ends.items; buffers = c.self.inside.memory; places = c.self.inside.places.items; lines = c.self.inside.lines.items; contracts = c.self.inside.contracts.items; opened = c.self.inside.opened; depth = c.self.inside.depth } in
-    let f : IsFree m.store c.args.arena c.in_ok-r.r = free_is m.store c.args.arena c.in_ok-r.r c.self.invariant.store (rw (← c.self.view_is) at c.in_ok-r.ensures.1.1) in
-    let restored : c.clear.new.self ≡ m.buffers = c.clear.ensures ∙ (ap (λ (bs : List (List ℕ)). slice_set bs c.in_ok-r.r []) c.in_ok-zeroed.ensures.done
-    ∙ emptied_again m.buffers c.in_ok-r.r (replicate c.round-len.result 0) (free_buffer m c.in_ok-r.r c.self.invariant f.free)) in
-    subst IsWhole (sym (same_machine (record m { store = c.take.new.self; buffers = c.clear.new.self }) m c.in-Err.ensures.unchanged refl restored refl refl refl refl refl)) c.self.invariant
-
-pub returns-in-Err-clause-done : goal.returns-in-Err-clause-done
-returns-in-Err-clause-done c = λ _.
-    let m : Machine = record { store = c.self.inside.plain; ends = c.self.inside.ends.items; buffers = c.self.inside.memory; places = c.self.inside.places.items; lines = c.self.inside.lines.items; contracts = c.self.inside.contracts.items; opened = c.self.inside.opened; depth = c.self.inside.depth } in
-    let f : IsFree m.store c.args.arena c.in_ok-r.r = free_is m.store c.args.arena c.in_ok-r.r c.self.invariant.store (rw (← c.self.view_is) at c.in_ok-r.ensures.1.1) in
-    let restored : c.clear.new.self ≡ m.buffers = c.clear.ensures ∙ (ap (λ (bs : List (List ℕ)). slice_set bs c.in_ok-r.r []) c.in_ok-zeroed.ensures.done
-    ∙ emptied_again m.buffers c.in_ok-r.r (replicate c.round-len.result 0) (free_buffer m c.in_ok-r.r c.self.invariant f.free)) in
-    let tested : first_refusal (alloc_heads m c.args.p c.args.n c.args.arena) ≡ None = rw (← c.self.view_is) at c.in_ok-r.ensures.0 in
-    let room : first_refusal (space_tests m.store c.args.arena (rounded c.args.n)) ≡ Some c.in-Err.refused = rw (f.arena, c.round-len.ensures) at c.in-Err.ensures.room in
-    rw (c.in-Err.ensures.unchanged, restored, ← c.self.view_is) (alloc_no_room c.args.p c.args.n c.args.arena m c.in-Err.refused tested room)
-
 pub take-requires-clause-known : goal.take-requires-clause-known
-take-requires-clause-known c =
-    let f : IsFree c.self.inside.plain c.args.arena c.in_ok-r.r = free_is c.self.inside.plain c.args.arena c.in_ok-r.r c.self.invariant.store (rw (← c.self.view_is) at c.in_ok-r.ensures.1.1) in f.known
+take-requires-clause-known c = (found (machine_of c.self.inside) c.args.arena _ c.self.invariant (rw (← c.self.view_is) at c.in_ok-r.ensures.1.1)).known
 
 pub take-requires-clause-free : goal.take-requires-clause-free
-take-requires-clause-free c =
-    let f : IsFree c.self.inside.plain c.args.arena c.in_ok-r.r = free_is c.self.inside.plain c.args.arena c.in_ok-r.r c.self.invariant.store (rw (← c.self.view_is) at c.in_ok-r.ensures.1.1) in f.free
+take-requires-clause-free c = (found (machine_of c.self.inside) c.args.arena _ c.self.invariant (rw (← c.self.view_is) at c.in_ok-r.ensures.1.1)).free
 
 pub list_record-requires-clause-room : goal.list_record-requires-clause-room
 list_record-requires-clause-room c =
-    let m : Machine = record { store = c.self.inside.plain; ends = c.self.inside.ends.items; buffers = c.self.inside.memory; places = c.self.inside.places.items; lines = c.self.inside.lines.items; contracts = c.self.inside.contracts.items; opened = c.self.inside.opened; depth = c.self.inside.depth } in
-    let f : IsFree m.store c.args.arena c.in_ok-r.r = free_is m.store c.args.arena c.in_ok-r.r c.self.invariant.store (rw (← c.self.view_is) at c.in_ok-r.ensures.1.1) in
+    let m : Machine = machine_of c.self.inside in
+    let f : IsFree m.store c.args.arena c.in_ok-r.r = found m _ _ c.self.invariant (rw (← c.self.view_is) at c.in_ok-r.ensures.1.1) in
     room_for m c.args.p c.in_ok-r.r c.self.invariant (rw (← c.self.view_is) at c.in_ok-r.ensures.1.0) f.free (in_range m.store c.in_ok-r.r c.self.invariant.store f.known)
 
+-- ---- where there is no room, the record's bytes are cleared again
+
+pub clear-requires : goal.clear-requires
+clear-requires c =
+    let m : Machine = machine_of c.self.inside in
+    let f : IsFree m.store c.args.arena c.in_ok-r.r = found m _ _ c.self.invariant (rw (← c.self.view_is) at c.in_ok-r.ensures.1.1) in
+    let long : length c.zeroed.new.self ≡ length m.buffers = ap length c.in_ok-zeroed.ensures.done ∙ length-set m.buffers c.in_ok-r.r (replicate c.round-len.result 0) in
+    subst (λ (k : ℕ). c.in_ok-r.r < k) (sym long) (free_there m c.in_ok-r.r c.self.invariant f.known)
+
+restored : (c : goal.After-clear) → c.clear.new.self ≡ (machine_of c.self.inside).buffers
+restored c =
+    let m : Machine = machine_of c.self.inside in
+    let f : IsFree m.store c.args.arena c.in_ok-r.r = found m _ _ c.self.invariant (rw (← c.self.view_is) at c.in_ok-r.ensures.1.1) in
+    c.clear.ensures ∙ (ap (λ (bs : List (List ℕ)). slice_set bs c.in_ok-r.r []) c.in_ok-zeroed.ensures.done
+    ∙ emptied_again m.buffers c.in_ok-r.r (replicate c.round-len.result 0) (free_buffer m c.in_ok-r.r c.self.invariant f.free))
+
+pub invariant_of-self-in-Err : goal.invariant_of-self-in-Err
+invariant_of-self-in-Err c =
+    let m : Machine = machine_of c.self.inside in
+    subst IsWhole (sym (same_machine (record m { store = c.take.new.self; buffers = c.clear.new.self }) m c.in-Err.ensures.unchanged refl (restored c) refl refl refl refl refl)) c.self.invariant
+
+pub returns-in-Err-clause-done : goal.returns-in-Err-clause-done
+returns-in-Err-clause-done c = λ _.
+    let m : Machine = machine_of c.self.inside in
+    let f : IsFree m.store c.args.arena c.in_ok-r.r = found m _ _ c.self.invariant (rw (← c.self.view_is) at c.in_ok-r.ensures.1.1) in
+    let tested : first_refusal (alloc_heads m c.args.p c.args.n c.args.arena) ≡ None = rw (← c.self.view_is) at c.in_ok-r.ensures.0 in
+    let room : first_refusal (space_tests m.store c.args.arena (rounded c.args.n)) ≡ Some c.in-Err.refused = rw (f.arena, c.round-len.ensures) at c.in-Err.ensures.room in
+    rw (c.in-Err.ensures.unchanged, restored c, ← c.self.view_is) (alloc_no_room c.args.p c.args.n c.args.arena m c.in-Err.refused tested room)
+
+-- ---- the machine after, which is that of the command
+
 abbrev was : goal.After-list_record → Machine
-was c = record { store = c.self.inside.plain; ends = c.self.inside.ends.items; buffers = c.self.inside.memory; places = c.self.inside.places.items; lines = c.self.inside.lines.items; contracts = c.self.inside.contracts.items; opened = c.self.inside.opened; depth = c.self.inside.depth }
+was c = machine_of c.self.inside
 
 abbrev is : goal.After-list_record → Machine
-is c = record { store = c.take.new.self; ends = c.self.inside.ends.items; buffers = c.zeroed.new.self; places = c.list_record.new.places.items; lines = c.self.inside.lines.items; contracts = c.self.inside.contracts.items; opened = c.self.inside.opened; depth = c.self.inside.depth }
+is c = record (machine_of c.self.inside) { store = c.take.new.self; buffers = c.zeroed.new.self; places = c.list_record.new.places.items }
 
-free : (c : goal.After-list_record) → IsFree c.self.inside.plain c.args.arena c.in_ok-r.r
-free c = free_is c.self.inside.plain c.args.arena c.in_ok-r.r c.self.invariant.store (rw (← c.self.view_is) at c.in_ok-r.ensures.1.1)
+free : (c : goal.After-list_record) → IsFree (was c).store c.args.arena c.in_ok-r.r
+free c = found (was c) _ _ c.self.invariant (rw (← c.self.view_is) at c.in_ok-r.ensures.1.1)
 
 -- the machine is what an alloc makes of it
 made : (c : goal.After-list_record) → is c ≡ allocated c.args.p c.in_ok-r.r c.round-len.result (was c)

@@ -5,14 +5,15 @@ use Rattle.xh_model.specs.Store.{Store}
 use Rattle.xh_core.specs.declared.place.Place.{Place}
 use Rattle.xh_core.specs.Machine.{Machine, IsWhole, no_place}
 use Rattle.xh_core.specs.Refusing.{first_refusal, IsRunning}
-use Rattle.xh_core.specs.ChannelCommands.{ends_at, wired, wire_channel}
-use Rattle.xh_core.specs.Pairing.{Paired, moved, pair_tests, wire_heads}
+use Rattle.xh_core.specs.ChannelCommands.{ends_at, pair_tests, wired, wire_channel, wire_heads}
+use Rattle.xh_core.specs.inner.Pairing.{Paired, moved}
 use Rattle.xh_core.proofs.Machines.{same_machine}
 use Rattle.xh_core.proofs.Appended.{appended}
 use Rattle.xh_core.proofs.Connected.{connected, connected_whole, connected_is, room_p, room_q}
 use Rattle.xh_core.proofs.Opening.{wire_stopped, wire_no_room, wire_done, pair_there, all_shared}
 use Rattle.xh_core.proofs.Pairs.{Shared}
 use Rattle.xh_core.proofs.Wired.{wired_orderly}
+use Rattle.xh_core.specs.View.{machine_of}
 use Rattle.xh_core.proofs.serial.Serial.connect.Goals as goal
 
 pub returns-in_err-check_wire-clause-is : goal.returns-in_err-check_wire-clause-is
@@ -33,39 +34,41 @@ returns-in_err-r-clause-is c =
 
 pub returns-in_err-r-clause-orderly : goal.returns-in_err-r-clause-orderly
 returns-in_err-r-clause-orderly c =
-    let m : Machine = record { store = c.take_ends.new.self; ends = c.self.inside.ends.items; buffers = c.self.inside.memory; places = c.self.inside.places.items; lines = c.self.inside.lines.items; contracts = c.self.inside.contracts.items; opened = c.self.inside.opened; depth = c.self.inside.depth } in
+    let m : Machine = record (machine_of c.self.inside) { store = c.take_ends.new.self } in
     wired_orderly m c.self.invariant.wired
 
 pub mark_ends-requires-clause-low : goal.mark_ends-requires-clause-low
 mark_ends-requires-clause-low c =
-    let m : Machine = record { store = c.self.inside.plain; ends = c.self.inside.ends.items; buffers = c.self.inside.memory; places = c.self.inside.places.items; lines = c.self.inside.lines.items; contracts = c.self.inside.contracts.items; opened = c.self.inside.opened; depth = c.self.inside.depth } in
+    let m : Machine = machine_of c.self.inside in
     let runs : IsRunning m c.args.p = subst (λ (x : Machine). IsRunning x c.args.p) (sym c.self.view_is) c.in_ok-check_wire.ensures.1.0 in
     (pair_there m c.args.p c.args.arena c.in_ok-r.r c.in_ok-r.t c.take_ends.new.self c.self.invariant runs c.in_ok-r.ensures.done).0
 
 pub mark_ends-requires-clause-high : goal.mark_ends-requires-clause-high
 mark_ends-requires-clause-high c =
-    let m : Machine = record { store = c.self.inside.plain; ends = c.self.inside.ends.items; buffers = c.self.inside.memory; places = c.self.inside.places.items; lines = c.self.inside.lines.items; contracts = c.self.inside.contracts.items; opened = c.self.inside.opened; depth = c.self.inside.depth } in
+    let m : Machine = machine_of c.self.inside in
     let runs : IsRunning m c.args.p = subst (λ (x : Machine). IsRunning x c.args.p) (sym c.self.view_is) c.in_ok-check_wire.ensures.1.0 in
     (pair_there m c.args.p c.args.arena c.in_ok-r.r c.in_ok-r.t c.take_ends.new.self c.self.invariant runs c.in_ok-r.ensures.done).1
 
 pub list_record-requires-clause-room : goal.list_record-requires-clause-room
 list_record-requires-clause-room c =
-    let m : Machine = record { store = c.self.inside.plain; ends = c.self.inside.ends.items; buffers = c.self.inside.memory; places = c.self.inside.places.items; lines = c.self.inside.lines.items; contracts = c.self.inside.contracts.items; opened = c.self.inside.opened; depth = c.self.inside.depth } in
+    let m : Machine = machine_of c.self.inside in
     let runs_p : IsRunning m c.args.p = subst (λ (x : Machine). IsRunning x c.args.p) (sym c.self.view_is) c.in_ok-check_wire.ensures.1.0 in
     let runs_q : IsRunning m c.args.q = subst (λ (x : Machine). IsRunning x c.args.q) (sym c.self.view_is) c.in_ok-check_wire.ensures.1.1 in
     let more : m.opened < 64 = subst (λ (x : Machine). x.opened < 64) (sym c.self.view_is) c.in_ok-check_wire.ensures.1.3 in
     let g : Shared c.args.p c.args.q c.in_ok-r.r c.in_ok-r.t m.store c.hand_over.new.self =
-    all_shared m c.args.p c.args.q c.args.arena c.in_ok-r.r c.in_ok-r.t c.take_ends.new.self c.hand_over.new.self c.self.invariant runs_p runs_q more c.in_ok-r.ensures.done c.hand_over.ensures.store c.hand_over.ensures.lawful in
+    all_shared m c.args.p c.args.q c.args.arena c.in_ok-r.r c.in_ok-r.t c.take_ends.new.self c.hand_over.new.self c.self.invariant runs_p runs_q more c.in_ok-r.ensures.done
+    c.hand_over.ensures.store c.hand_over.ensures.lawful in
     room_p c.hand_over.new.self c.args.p c.args.q c.in_ok-r.r c.in_ok-r.t c.args.contract m c.self.invariant runs_p runs_q more c.begin_lines.ensures.sound g
 
 pub list_record-requires-2-clause-room : goal.list_record-requires-2-clause-room
 list_record-requires-2-clause-room c =
-    let m : Machine = record { store = c.self.inside.plain; ends = c.self.inside.ends.items; buffers = c.self.inside.memory; places = c.self.inside.places.items; lines = c.self.inside.lines.items; contracts = c.self.inside.contracts.items; opened = c.self.inside.opened; depth = c.self.inside.depth } in
+    let m : Machine = machine_of c.self.inside in
     let runs_p : IsRunning m c.args.p = subst (λ (x : Machine). IsRunning x c.args.p) (sym c.self.view_is) c.in_ok-check_wire.ensures.1.0 in
     let runs_q : IsRunning m c.args.q = subst (λ (x : Machine). IsRunning x c.args.q) (sym c.self.view_is) c.in_ok-check_wire.ensures.1.1 in
     let more : m.opened < 64 = subst (λ (x : Machine). x.opened < 64) (sym c.self.view_is) c.in_ok-check_wire.ensures.1.3 in
     let g : Shared c.args.p c.args.q c.in_ok-r.r c.in_ok-r.t m.store c.hand_over.new.self =
-    all_shared m c.args.p c.args.q c.args.arena c.in_ok-r.r c.in_ok-r.t c.take_ends.new.self c.hand_over.new.self c.self.invariant runs_p runs_q more c.in_ok-r.ensures.done c.hand_over.ensures.store c.hand_over.ensures.lawful in
+    all_shared m c.args.p c.args.q c.args.arena c.in_ok-r.r c.in_ok-r.t c.take_ends.new.self c.hand_over.new.self c.self.invariant runs_p runs_q more c.in_ok-r.ensures.done
+    c.hand_over.ensures.store c.hand_over.ensures.lawful in
     let listed : c.list_record.new.places.items ≡ appended c.args.p c.in_ok-r.r m.places = c.list_record.ensures in
     subst (λ (ps : List Place). length (slice_index_or ps (c.args.q % 32) no_place).blocks.items < 2048) (sym listed)
     (room_q c.hand_over.new.self c.args.p c.args.q c.in_ok-r.r c.in_ok-r.t c.args.contract m c.self.invariant runs_p runs_q more c.begin_lines.ensures.sound g)
@@ -73,10 +76,17 @@ list_record-requires-2-clause-room c =
 -- ---- the machine at the end
 
 abbrev was : goal.After-list_record-2 → Machine
-was c = record { store = c.self.inside.plain; ends = c.self.inside.ends.items; buffers = c.self.inside.memory; places = c.self.inside.places.items; lines = c.self.inside.lines.items; contracts = c.self.inside.contracts.items; opened = c.self.inside.opened; depth = c.self.inside.depth }
+was c = machine_of c.self.inside
 
 abbrev is : goal.After-list_record-2 → Machine
-is c = record { store = c.hand_over.new.self; ends = c.mark_ends.new.ends.items; buffers = c.self.inside.memory; places = c.list_record-2.new.places.items; lines = c.begin_lines.new.lines.items; contracts = slice_set c.self.inside.contracts.items c.from.result c.args.contract; opened = c.self.inside.opened + 1; depth = c.self.inside.depth }
+is c = record (machine_of c.self.inside) {
+  store = c.hand_over.new.self;
+  ends = c.mark_ends.new.ends.items;
+  places = c.list_record-2.new.places.items;
+  lines = c.begin_lines.new.lines.items;
+  contracts = slice_set c.self.inside.contracts.items c.from.result c.args.contract;
+  opened = c.self.inside.opened + 1;
+}
 
 runs_first : (c : goal.After-list_record-2) → IsRunning (was c) c.args.p
 runs_first c = subst (λ (x : Machine). IsRunning x c.args.p) (sym c.self.view_is) c.in_ok-check_wire.ensures.1.0
@@ -97,8 +107,10 @@ whole : (c : goal.After-list_record-2) → IsWhole (is c)
 whole c =
     let more : (was c).opened < 64 = subst (λ (x : Machine). x.opened < 64) (sym c.self.view_is) c.in_ok-check_wire.ensures.1.3 in
     let g : Shared c.args.p c.args.q c.in_ok-r.r c.in_ok-r.t (was c).store c.hand_over.new.self =
-    all_shared (was c) c.args.p c.args.q c.args.arena c.in_ok-r.r c.in_ok-r.t c.take_ends.new.self c.hand_over.new.self c.self.invariant (runs_first c) (runs_second c) more c.in_ok-r.ensures.done c.hand_over.ensures.store c.hand_over.ensures.lawful in
-    subst IsWhole (sym (made c)) (connected_whole c.hand_over.new.self c.args.p c.args.q c.in_ok-r.r c.in_ok-r.t c.args.contract (was c) c.self.invariant (runs_first c) (runs_second c) more c.begin_lines.ensures.sound g)
+    all_shared (was c) c.args.p c.args.q c.args.arena c.in_ok-r.r c.in_ok-r.t c.take_ends.new.self c.hand_over.new.self c.self.invariant (runs_first c)
+    (runs_second c) more c.in_ok-r.ensures.done c.hand_over.ensures.store c.hand_over.ensures.lawful in
+    subst IsWhole (sym (made c)) (connected_whole c.hand_over.new.self c.args.p c.args.q c.in_ok-r.r c.in_ok-r.t c.args.contract (was c) c.self.invariant (runs_first c)
+    (runs_second c) more c.begin_lines.ensures.sound g)
 
 pub invariant_of-self-2 : goal.invariant_of-self-2
 invariant_of-self-2 c = whole c

@@ -6,6 +6,7 @@ use Rattle.xh_core.specs.Machine.{Machine, IsWhole, end_of}
 use Rattle.xh_core.specs.Refusing.{IsRunning, first_refusal, start, data_tests}
 use Rattle.xh_core.proofs.Answering.{free_stopped, free_refused, free_gives}
 use Rattle.xh_core.proofs.Gains.{listed_place, freed_is, freed_whole}
+use Rattle.xh_core.specs.View.{machine_of}
 use Rattle.xh_core.proofs.serial.Serial.free.Goals as goal
 
 pub returns-in_err-check_start : goal.returns-in_err-check_start
@@ -20,25 +21,30 @@ returns-in_err-check_data c =
 
 pub unlist_record-requires-clause-listed : goal.unlist_record-requires-clause-listed
 unlist_record-requires-clause-listed c =
-    let m : Machine = record { store = c.self.inside.plain; ends = c.self.inside.ends.items; buffers = c.self.inside.memory; places = c.self.inside.places.items; lines = c.self.inside.lines.items; contracts = c.self.inside.contracts.items; opened = c.self.inside.opened; depth = c.self.inside.depth } in
+    let m : Machine = machine_of c.self.inside in
     let run : IsRunning m c.args.p = rw (← c.self.view_is) at c.in_ok-check_start.ensures.1 in
     let held : holds m.store (Process c.args.p) c.args.r ≡ true = rw (← c.self.view_is) at c.in_ok-check_data.ensures.1.0 in
     listed_place m c.args.p c.args.r c.self.invariant run held
 
 pub invariant_of-self : goal.invariant_of-self
 invariant_of-self c =
-    let m : Machine = record { store = c.self.inside.plain; ends = c.self.inside.ends.items; buffers = c.self.inside.memory; places = c.self.inside.places.items; lines = c.self.inside.lines.items; contracts = c.self.inside.contracts.items; opened = c.self.inside.opened; depth = c.self.inside.depth } in
+    let m : Machine = machine_of c.self.inside in
     let run : IsRunning m c.args.p = rw (← c.self.view_is) at c.in_ok-check_start.ensures.1 in
     let held : holds m.store (Process c.args.p) c.args.r ≡ true = rw (← c.self.view_is) at c.in_ok-check_data.ensures.1.0 in
     let bare : end_of m c.args.r ≡ None = rw (← c.self.view_is) at c.in_ok-check_data.ensures.1.1 in
-    subst IsWhole (sym (freed_is m c.args.p c.args.r c.discard-len.new.self c.clear.new.self c.unlist_record.new.places.items run.0 c.discard-len.ensures.store c.clear.ensures c.unlist_record.ensures))
+    subst IsWhole (sym (freed_is m c.args.p c.args.r c.discard-len.new.self c.clear.new.self c.unlist_record.new.places.items run.0 c.discard-len.ensures.store c.clear.ensures
+    c.unlist_record.ensures))
     (freed_whole m c.args.p c.args.r c.self.invariant held bare)
 
 pub returns : goal.returns
 returns c =
-    let m : Machine = record { store = c.self.inside.plain; ends = c.self.inside.ends.items; buffers = c.self.inside.memory; places = c.self.inside.places.items; lines = c.self.inside.lines.items; contracts = c.self.inside.contracts.items; opened = c.self.inside.opened; depth = c.self.inside.depth } in
+    let m : Machine = machine_of c.self.inside in
     let run : IsRunning m c.args.p = rw (← c.self.view_is) at c.in_ok-check_start.ensures.1 in
     let starts : first_refusal (start m c.args.p) ≡ None = rw (← c.self.view_is) at c.in_ok-check_start.ensures.0 in
     let tested : first_refusal (data_tests m c.args.p c.args.r) ≡ None = rw (← c.self.view_is) at c.in_ok-check_data.ensures.0 in
-    rw (freed_is m c.args.p c.args.r c.discard-len.new.self c.clear.new.self c.unlist_record.new.places.items run.0 c.discard-len.ensures.store c.clear.ensures c.unlist_record.ensures, c.discard-len.ensures.length, ← c.self.view_is)
+    rw (
+      freed_is m c.args.p c.args.r c.discard-len.new.self c.clear.new.self c.unlist_record.new.places.items run.0 c.discard-len.ensures.store c.clear.ensures c.unlist_record.ensures,
+      c.discard-len.ensures.length,
+      ← c.self.view_is,
+    )
     (free_gives c.args.p c.args.r m starts tested)

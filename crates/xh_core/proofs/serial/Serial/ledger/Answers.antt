@@ -1,34 +1,45 @@
-use Rattle.std.proofs.Common.{◌≡◌, ◌∙◌, ◌+◌, List, ap}
+use Rattle.std.proofs.Common.{◌≡◌, ◌∙◌, ◌+◌, ◌-◌, ℕ, List, ap, sym, arith}
 use Rattle.std.specs.List.{sum_by}
-use Rattle.xh_core.specs.declared.line.Line.{Line}
 use Rattle.xh_core.specs.declared.place.Place.{Place}
 use Rattle.xh_core.specs.Machine.{Machine, carried}
+use Rattle.xh_core.specs.View.{machine_of}
 use Rattle.xh_core.specs.PlaceCommands.{ledger_of, place_lines, total}
-use Rattle.xh_core.proofs.Ledgers.{flight_total}
 use Rattle.xh_core.proofs.Summed.{out_is}
 use Rattle.xh_core.proofs.serial.Serial.ledger.Goals as goal
-use Rattle.xh_core.proofs.serial.Serial.ledger.Goals.{After-handed_out}
+use Rattle.xh_core.proofs.serial.Serial.ledger.Goals.{After-owned-held}
 
-abbrev at_end : After-handed_out → Machine
-at_end c = record { store = c.self.inside.plain; ends = c.self.inside.ends.items; buffers = c.self.inside.memory; places = c.self.inside.places.items; lines = c.self.inside.lines.items; contracts = c.self.inside.contracts.items; opened = c.self.inside.opened; depth = c.self.inside.depth }
+abbrev owns : Machine → ℕ
+owns m = sum_by (λ place. total m.store place.blocks.items) m.places
 
-lines : (c : After-handed_out) → c.place_lines.result.items ≡ place_lines (at_end c).store 0 (at_end c).places
-lines c = c.place_lines.ensures.lines ∙ ap (λ (ps : List Place). place_lines (at_end c).store 0 ps) c.as_slice.ensures.value
+abbrev sends : Machine → ℕ
+sends m = sum_by (λ line. total m.store (carried line.waiting.items)) m.lines
 
-owned : (c : After-handed_out) → c.owned.result ≡ sum_by (λ place. total (at_end c).store place.blocks.items) (at_end c).places
-owned c = c.owned.ensures ∙ ap (λ (ps : List Place). sum_by (λ place. total (at_end c).store place.blocks.items) ps) c.as_slice-2.ensures.value
+held_is : (c : After-owned-held) → c.owned-held.result ≡ owns (machine_of c.self.inside)
+held_is c = c.owned-held.ensures ∙ ap (λ (ps : List Place). sum_by (λ place. total (machine_of c.self.inside).store place.blocks.items) ps) c.as_slice.ensures.value
 
-flight : (c : After-handed_out) → c.flight.result ≡ sum_by (λ line. total (at_end c).store (carried line.waiting.items)) (at_end c).lines
-flight c =
-    c.flight.ensures ∙ (ap (λ (ls : List Line). sum_by (λ line. sum_by (λ message. total (at_end c).store message.blocks.items) line.waiting.items) ls) c.as_slice-3.ensures.value ∙ flight_total (at_end c).store (at_end c).lines)
+-- what is handed out and not owned is in flight
+books : (c : After-owned-held) → c.handed_out-out.result ≡ c.owned-held.result + sends (machine_of c.self.inside)
+books c =
+    let m : Machine = machine_of c.self.inside in
+    c.handed_out-out.ensures ∙ (out_is m c.self.invariant ∙ ap (λ (n : ℕ). n + sends m) (sym (held_is c)))
+
+pub overflow_sub-flight : goal.overflow_sub-flight
+overflow_sub-flight c = let b = books (goal.at.overflow_sub-flight c).After-owned-held in omega (arith, b)
 
 pub returns-clause-fields : goal.returns-clause-fields
 unfolding ledger_of
 returns-clause-fields c =
-    let d = (goal.at.returns-clause-fields c).After-handed_out in
-    rw (← c.self.view_is) (λ i. record { arenas = record { items = c.arena_lines.ensures.lines i }; places = record { items = lines d i }; owned = owned d i; flight = flight d i; out = c.handed_out.ensures i })
+    let d = (goal.at.returns-clause-fields c).After-owned-held in
+    let m : Machine = machine_of c.self.inside in
+    let lines : c.place_lines.result.items ≡ place_lines m.store 0 m.places = c.place_lines.ensures.lines ∙ ap (λ (ps : List Place). place_lines m.store 0 ps) c.as_slice-2.ensures.value in
+    let flight : c.handed_out-out.result - c.owned-held.result ≡ sends m = (let b = books d in omega (arith, b)) in
+    rw (← c.self.view_is) (λ i. record {
+      arenas = record { items = c.arena_lines.ensures.lines i };
+      places = record { items = lines i };
+      owned = held_is d i;
+      flight = flight i;
+      out = c.handed_out-out.ensures i;
+    })
 
 pub returns-clause-sums : goal.returns-clause-sums
-returns-clause-sums c =
-    let d = (goal.at.returns-clause-sums c).After-handed_out in
-    rw (c.handed_out.ensures, owned d, flight d) (out_is (at_end d) c.self.invariant)
+returns-clause-sums c = let b = books (goal.at.returns-clause-sums c).After-owned-held in omega (arith, b)

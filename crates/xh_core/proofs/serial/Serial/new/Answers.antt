@@ -10,8 +10,18 @@ use Rattle.xh_core.proofs.serial.Serial.new.Goals as goal
 pub invariant_of-result : goal.invariant_of-result
 unfolding new_machine
 invariant_of-result c =
-    let m : Machine = record { store = c.in_ok-plain.plain; ends = c.in_ok-no_ends.field-0.items; buffers = c.in_ok-none.field-0; places = c.in_ok-new_places.field-0.items; lines = c.in_ok-new_lines.field-0.items; contracts = c.in_ok-no_contracts.field-0.items; opened = 0; depth = c.args.config.depth } in
+    let m : Machine = record {
+      store = c.in_ok-plain.plain;
+      ends = c.in_ok-no_ends.field-0.items;
+      buffers = c.in_ok-none.field-0;
+      places = c.in_ok-new_places.field-0.items;
+      lines = c.in_ok-new_lines.field-0.items;
+      contracts = c.in_ok-no_contracts.field-0.items;
+      opened = 0;
+      depth = c.args.config.depth;
+    } in
     let is : c.in_ok-plain.plain ≡ new_store c.args.config = c.in_ok-plain.ensures.fresh in
     let count : 256 * c.from-count.result ≡ 256 * c.args.config.arenas = ap (λ (k : ℕ). 256 * k) c.from-count.ensures in
-    let same : m ≡ new_machine c.args.config = same_machine m (new_machine c.args.config) is (c.in_ok-no_ends.ensures ∙ ap (λ (k : ℕ). replicate k None) (c.from.ensures ∙ count)) (c.in_ok-none.ensures ∙ ap (λ (k : ℕ). replicate k []) count) c.in_ok-new_places.ensures c.in_ok-new_lines.ensures c.in_ok-no_contracts.ensures refl refl in
+    let same : m ≡ new_machine c.args.config = same_machine m (new_machine c.args.config) is (c.in_ok-no_ends.ensures ∙ ap (λ (k : ℕ). replicate k None) (c.from.ensures ∙ count))
+    (c.in_ok-none.ensures ∙ ap (λ (k : ℕ). replicate k []) count) c.in_ok-new_places.ensures c.in_ok-new_lines.ensures c.in_ok-no_contracts.ensures refl refl in
     subst IsWhole (sym same) (new_whole c.args.config c.in_ok-plain.ensures.limits (subst IsLawful is c.in_ok-plain.ensures.lawful))

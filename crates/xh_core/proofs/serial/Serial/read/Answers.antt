@@ -6,6 +6,7 @@ use Rattle.xh_core.specs.Machine.{Machine}
 use Rattle.xh_core.specs.Refusing.{first_refusal}
 use Rattle.xh_core.specs.BlockCommands.{range_tests}
 use Rattle.xh_core.proofs.Answering.{read_refused, read_gives}
+use Rattle.xh_core.specs.View.{machine_of}
 use Rattle.xh_core.proofs.serial.Serial.read.Goals as goal
 
 pub returns-in_err-check_range-clause-refused : goal.returns-in_err-check_range-clause-refused
@@ -15,7 +16,7 @@ returns-in_err-check_range-clause-refused c =
 
 pub returns-clause-done : goal.returns-clause-done
 returns-clause-done c =
-    let m : Machine = record { store = c.self.inside.plain; ends = c.self.inside.ends.items; buffers = c.self.inside.memory; places = c.self.inside.places.items; lines = c.self.inside.lines.items; contracts = c.self.inside.contracts.items; opened = c.self.inside.opened; depth = c.self.inside.depth } in
+    let m : Machine = machine_of c.self.inside in
     let held : holds m.store (Process c.args.p) c.args.r ≡ true = rw (← c.self.view_is) at c.in_ok-check_range.ensures.1.0 in
     let tested : first_refusal (range_tests m c.args.p c.args.r c.args.at (length c.args.out.now)) ≡ None = rw (← c.self.view_is) at c.in_ok-check_range.ensures.0 in
     rw (c.copy.ensures, ← c.self.view_is)

@@ -1,22 +1,11 @@
 -- What it is that a process gets two records for the ends of a channel.
-use Rattle.std.specs.Prelude.{◌≡◌, ◌≢◌, ℕ, ◌==◌, ◌||◌, cond, ◌∷◌, ◌++◌, [], Option, Some, List, is_none, length, nat_le}
+use Rattle.std.specs.Prelude.{◌≡◌, ◌≢◌, ℕ, ◌==◌, cond, Option, Some, List}
 use Rattle.xh_model.specs.declared.event.Event.TheVariants.{Claim, Carve, Cut}
 use Rattle.xh_model.specs.declared.row.Row.{Row}
 use Rattle.xh_model.specs.Rows.{IsValid}
 use Rattle.xh_model.specs.Store.{Store, len, after, IsLawful}
-use Rattle.xh_core.specs.declared.refused.Refused.TheVariants.{NoArena, NoChannel, NoRecord}
-use Rattle.xh_core.specs.Machine.{Machine}
-use Rattle.xh_core.specs.Refusing.{Tests, start}
-use Rattle.xh_core.specs.BlockCommands.{free_record, space_tests}
+use Rattle.xh_core.specs.BlockCommands.{free_record}
 use Rattle.xh_core.specs.ChannelCommands.{claimed_once, handed}
-
--- no two free records, or no room for 64 bytes
-abbrev pub pair_tests : ℕ → Store → ℕ → Tests
-pair_tests p s a = (is_none (free_record s a) || is_none (free_record (claimed_once p s a) a), NoRecord) ∷ space_tests s a 64
-
--- a process is none or does not run, or there is no arena or no channel
-abbrev pub wire_heads : Machine → ℕ → ℕ → ℕ → Tests
-wire_heads m p q a = start m p ++ start m q ++ (nat_le (length m.store.arenas) a, NoArena) ∷ (nat_le 64 m.opened, NoChannel) ∷ []
 
 -- p claimed the lowest free record of the arena, and then the next one
 pub record ClaimedTwo (p a r t : ℕ) (s n : Store) : Type 0 where

@@ -1,0 +1,20 @@
+-- What the machines of the code are to a clause.
+use Rattle.xh_model.specs.Store.{Store}
+use Rattle.xh_core.specs.declared.plain.Plain.TheInside.{Inside as PlainInside}
+use Rattle.xh_core.specs.declared.serial.Serial.TheInside.{Inside as SerialInside}
+use Rattle.xh_core.specs.Machine.{Machine}
+
+abbrev pub store_of : PlainInside → Store
+store_of s = record { owners = s.owners.items; arenas = s.arenas.items }
+
+abbrev pub machine_of : SerialInside → Machine
+machine_of s = record {
+  store = s.plain;
+  ends = s.ends.items;
+  buffers = s.memory;
+  places = s.places.items;
+  lines = s.lines.items;
+  contracts = s.contracts.items;
+  opened = s.opened;
+  depth = s.depth;
+}
