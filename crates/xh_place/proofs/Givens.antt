@@ -1,16 +1,19 @@
 -- The loops of a give over its blocks.
-use Rattle.std.proofs.Common.{◌≡◌, ◌≢◌, ℕ, zero, suc, ◌+◌, ◌<◌, ⊎_elim, inl, inr, List, [], ◌∷◌, length, drop, get_or, refl, sym, ap, ◌∙◌, subst, arith}
+use Rattle.std.proofs.Common.{◌≡◌, ◌≢◌, ℕ, zero, suc, ◌+◌, ◌<◌, ⊎_elim, inl, inr, List, [], ◌∷◌, ◌++◌, length, drop, get_or, refl, sym, ap, ◌∙◌, subst, arith}
 use Rattle.std.specs.Prelude.{Some, None}
 use mathlib.Core.Logic.{dite}
 use native.Mathlib.Decide.{ℕ_discrete}
 use Rattle.xh_arena.specs.Views.{LotOf}
-use Rattle.xh_model.specs.Keyed.{Among, Distinct, value_at, without}
+use Rattle.xh_model.specs.declared.event.Event.{Event}
+use Rattle.xh_model.specs.Keyed.{Among, Distinct, keys, value_at, without}
 use Rattle.xh_model.proofs.Keyed.{next, without_at, without_other}
 use Rattle.xh_records.specs.Seats.{Held, with_lots}
-use Rattle.xh_place.specs.Lots.{HasNow, bare}
+use Rattle.xh_place.specs.Coming.{accepted_on}
+use Rattle.xh_place.specs.Lots.{HasNow, bare, with_done}
 use Rattle.xh_place.specs.declared.body.Body.{Body}
 use Rattle.xh_place.specs.declared.body.Header.{Header}
 use Rattle.xh_place.specs.Places.{IsBlock, header_in}
+use Rattle.xh_place.proofs.Coming.{came_twice, on_both}
 
 pub next_one : {X : Type 0} (k : ℕ) (xs : List X) (d : X) → k < length xs → drop k xs ≡ get_or xs k d ∷ drop (k + 1) xs
 next_one k xs d h = let z : suc k ≡ k + 1 = omega arith in next k xs d h ∙ ap (λ (j : ℕ). get_or xs k d ∷ drop j xs) z
@@ -41,20 +44,25 @@ passing given more r old seat last among is new =
     )
 
 -- of the given records those in `more` are still away; of the others those that came back are in the seat, and in the list with their lengths and kinds
-abbrev pub IsAccepting : List ℕ → List ℕ → Held Body → Held Body → List (ℕ × Header) → Type 0
-IsAccepting given more old seat back = HasNow old seat.lots seat
+abbrev pub IsAccepting : ℕ → List ℕ → List ℕ → Held Body → Held Body → List (ℕ × Header) → Type 0
+IsAccepting d given more old seat back = HasNow (with_done (accepted_on old.process d (keys back)) old) seat.lots seat
     × ((r : ℕ) → Among given r → value_at r back ≡ header_in (value_at r seat.lots))
     × ((r : ℕ) (m : LotOf Body) → Among given r → value_at r seat.lots ≡ Some m → IsBlock old.shape r m)
     × ((r : ℕ) → Among more r → value_at r seat.lots ≡ None)
     × ((r : ℕ) → (Among given r → ⊥) → value_at r seat.lots ≡ value_at r old.lots)
     × Distinct more
 
-pub accepting : (given more : List ℕ) (r : ℕ) (old seat last : Held Body) (back new : List (ℕ × Header)) → Among given r → IsAccepting given (r ∷ more) old seat back
-    → HasNow seat last.lots last → (value_at r seat.lots ≡ None → value_at r back ≡ None → value_at r new ≡ header_in (value_at r last.lots)) → ((m : LotOf Body) → value_at r seat.lots ≡ None → value_at r last.lots ≡ Some m → IsBlock seat.shape r m)
-    → ((q : ℕ) → r ≢ q → (value_at q last.lots ≡ value_at q seat.lots) × (value_at q new ≡ value_at q back)) → IsAccepting given more old last new
-accepting given more r old seat last back new among is same here good others =
-    let none : value_at r seat.lots ≡ None = is.3 r (inl refl) in (
-      same ∙ (λ i. with_lots (is.0 i) last.lots),
+pub accepting : (d : ℕ) (given more : List ℕ) (r : ℕ) (old seat last : Held Body) (back new : List (ℕ × Header)) → Among given r → IsAccepting d given (r ∷ more) old seat back
+    → (rs : List ℕ) × (keys new ≡ keys back ++ rs) × HasNow (with_done (accepted_on seat.process d rs) seat) last.lots last
+    → (value_at r seat.lots ≡ None → value_at r back ≡ None → value_at r new ≡ header_in (value_at r last.lots)) → ((m : LotOf Body) → value_at r seat.lots ≡ None → value_at r last.lots ≡ Some m → IsBlock seat.shape r m)
+    → ((q : ℕ) → r ≢ q → (value_at q last.lots ≡ value_at q seat.lots) × (value_at q new ≡ value_at q back)) → IsAccepting d given more old last new
+accepting d given more r old seat last back new among is same here good others =
+    let none : value_at r seat.lots ≡ None = is.3 r (inl refl) in
+    let p : ℕ = old.process in
+    let whose : seat.process ≡ p = ap (λ (h : Held Body). h.process) is.0 in
+    let log : accepted_on p d (keys back) ++ accepted_on seat.process d same.0 ≡ accepted_on p d (keys new) =
+    (λ i. accepted_on p d (keys back) ++ accepted_on (whose i) d same.0) ∙ sym (on_both p d (keys back) same.0) ∙ ap (accepted_on p d) (sym same.1) in (
+      subst (λ (es : List Event). HasNow (with_done es old) last.lots last) log (came_twice old seat last (accepted_on p d (keys back)) (accepted_on seat.process d same.0) is.0 same.2),
       (λ q a. dite (ℕ_discrete r q)
           (λ e. subst (λ (z : ℕ). value_at z new ≡ header_in (value_at z last.lots)) e (here none (is.1 r among ∙ ap header_in none)))
           (λ n. (others q n).1 ∙ is.1 q a ∙ sym (ap header_in (others q n).0))),

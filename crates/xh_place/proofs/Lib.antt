@@ -1,4 +1,5 @@
 pub mod Steps
+pub mod Coming
 pub mod Gained
 pub mod Counted
 pub mod Settled

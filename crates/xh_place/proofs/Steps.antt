@@ -14,6 +14,7 @@ use Rattle.xh_model.specs.Keyed.{Among, Distinct, keys, value_at, put, without}
 use Rattle.xh_model.proofs.Keyed.{absent, at_key, distinct_push, distinct_without, get_key, here_first, keys_push, length-keys, last_at, last_other, next, no_key, none_at, not_here, put_at, put_other, put_same, put_twice, without_at, without_other}
 use Rattle.xh_records.specs.Seats.{Held, IsRecord, with_lots}
 use Rattle.xh_records.specs.inner.Tokens.{AllBelow}
+use Rattle.xh_place.specs.Coming.{accepts}
 use Rattle.xh_place.specs.Lots.{HasNow, bare}
 use Rattle.xh_records.proofs.Lists.{few}
 use Rattle.xh_place.specs.declared.body.Body.{Body}
@@ -24,7 +25,7 @@ use Rattle.xh_place.specs.Refusals.{is_over, is_running, entry_of}
 use Rattle.xh_place.specs.Places.{Item, PlaceOf, with_blocks, item_of, item_in, header_of, header_in, shown, sum_of, total_of, IsBlock, IsQuiet, IsPlace}
 
 abbrev pub view_of : Held Body → List (ℕ × Header) → Status → PlaceOf
-view_of seat xs state = record { table = seat.table; shape = seat.shape; process = seat.process; blocks = shown seat.lots xs; state = state }
+view_of seat xs state = record { table = seat.table; shape = seat.shape; process = seat.process; blocks = shown seat.lots xs; state = state; came = accepts seat.done }
 
 -- the blocks shown
 pub shown_same : (lots lots' : List (ℕ × LotOf Body)) (xs : List (ℕ × Header)) → ((q : ℕ) → Among (keys xs) q → value_at q lots' ≡ value_at q lots) → shown lots' xs ≡ shown lots xs
@@ -173,7 +174,7 @@ kept seat last xs room total state e is = record {
 pub shows : (p : PlaceOf) (seat last : Held Body) (xs ys : List (ℕ × Header)) (state : Status) (lots : List (ℕ × LotOf Body)) (f : List (ℕ × Item) → List (ℕ × Item)) → view_of seat xs state ≡ p
     → HasNow seat lots last → shown last.lots ys ≡ f (shown seat.lots xs) → view_of last ys state ≡ with_blocks p (f p.blocks)
 shows p seat last xs ys state lots f is new blocks =
-    (λ i. record { table = (new i).table; shape = (new i).shape; process = (new i).process; blocks = blocks i; state = state }) ∙ ap (λ (q : PlaceOf). with_blocks q (f q.blocks)) is
+    (λ i. record { table = (new i).table; shape = (new i).shape; process = (new i).process; blocks = blocks i; state = state; came = (new i).done }) ∙ ap (λ (q : PlaceOf). with_blocks q (f q.blocks)) is
 
 module _ (seat : Held Body) (xs : List (ℕ × Header)) (room total : ℕ) (state : Status) (is : IsPlace seat xs room total state) where
   -- a record of the list has its lot in the seat, and a lot its record

@@ -1,10 +1,18 @@
 -- Sweeps one after another, and what a worker gave back.
-use Rattle.std.proofs.Common.{◌≡◌, ℕ, zero, suc, ◌+◌, ◌<◌, ◌≤◌, ◌⊎◌, ⊎_elim, inl, inr, List, [], ◌∷◌, ◌++◌, length, take, drop, length-append, append_assoc, append-nil, refl, sym, ap, ◌∙◌, subst, arith}
+use Rattle.std.proofs.Common.{◌≡◌, ℕ, zero, suc, ◌+◌, ◌<◌, ◌≤◌, ◌⊎◌, ⊎_elim, inl, inr, List, [], ◌∷◌, ◌++◌, length, take, drop, length-append, append_assoc, append-nil, refl, sym, ap, ◌∙◌, subst, arith, false, not}
+use Rattle.std.specs.Prelude.{Option, Some, None}
 use Rattle.std.proofs.lemmas.List.{drop-append-le, take-append-le}
 use Rattle.std.proofs.Math.Seq.{drop-append_seam, take-append_seam}
 use Rattle.xh_arena.specs.Views.{TallyOf}
-use Rattle.xh_place.specs.Ending.{HasGivenBack, IsSweptBy, back_of}
-use Rattle.xh_place.specs.Places.{Item, PlaceOf, total_of, with_blocks}
+use Rattle.xh_model.specs.declared.event.Event.{Event}
+use Rattle.xh_model.specs.Keyed.{Among, keys}
+use Rattle.xh_place.specs.declared.body.Kind.TheVariants as kind
+use Rattle.xh_place.specs.declared.body.Kind.{Kind}
+use Rattle.xh_place.specs.Bodies.{is_data, kind_of, toward}
+use Rattle.xh_place.specs.Coming.{accepted_on}
+use Rattle.xh_place.specs.Ending.{AreFor, HasGivenBack, IsSweptBy, back_of}
+use Rattle.xh_place.specs.Ends.{has_end, toward_in}
+use Rattle.xh_place.specs.Places.{Item, PlaceOf, total_of, with_blocks, with_list, with_more}
 use Rattle.xh_place.specs.Tallies.{gave}
 
 module _ {X : Type 0} where
@@ -34,40 +42,107 @@ total_both : (xs ys : List (ℕ × Item)) → total_of (xs ++ ys) ≡ total_of x
 total_both [] ys = omega arith
 total_both (x ∷ xs) ys = let e : total_of (xs ++ ys) ≡ total_of xs + total_of ys = total_both xs ys in omega arith
 
+-- ---- what was accepted on the way to the ends that went
+
+for_both : (p : ℕ) (ends : List (ℕ × Item)) (ys zs : List (ℕ × Item)) (es fs : List Event) → AreFor p ends ys es → AreFor p ends zs fs → AreFor p ends (ys ++ zs) (es ++ fs)
+for_both p ends [] zs [] fs one two = two
+for_both p ends [] zs (e ∷ es) fs one two = absurd one
+for_both p ends (y ∷ ys) zs [] fs one two = absurd one
+for_both p ends (y ∷ ys) zs (e ∷ es) fs one two = (one.0, for_both p ends ys zs es fs one.1 two)
+
+for_more : (p : ℕ) (ends all : List (ℕ × Item)) (ys : List (ℕ × Item)) (es : List Event) → ((z : ℕ × Item) → Among ends z → Among all z) → AreFor p ends ys es → AreFor p all ys es
+for_more p ends all [] [] within one = tt
+for_more p ends all [] (e ∷ es) within one = absurd one
+for_more p ends all (y ∷ ys) [] within one = absurd one
+for_more p ends all (y ∷ ys) (e ∷ es) within one = let h = one.0 in ((h.0, h.1, within (h.0, h.1) h.2, h.3, h.4), for_more p ends all ys es within one.1)
+
+for_end : (p q : ℕ) (x : Item) (ends ys : List (ℕ × Item)) → Among ends (q, x) → kind_of x.content ≡ kind.End → AreFor p ends ys (accepted_on p (toward x.content) (keys ys))
+for_end p q x ends [] among end = tt
+for_end p q x ends (y ∷ ys) among end = ((q, x, among, end, refl), for_end p q x ends ys among end)
+
+-- what came to a block of the list, where it is an endpoint, and to no other
+pub for_drained : (p q : ℕ) (x : Item) (o : Option Item) (ends ys : List (ℕ × Item)) → o ≡ Some x → Among ends (q, x) → (has_end o ≡ false → ys ≡ [])
+    → AreFor p ends ys (accepted_on p (toward_in o) (keys ys))
+for_drained p q x None ends ys at among none = absurd (cc)
+for_drained p q x (Some z) ends ys at among none = go (kind_of z.content) refl where
+  go : (k : Kind) → kind_of z.content ≡ k → AreFor p ends ys (accepted_on p (toward z.content) (keys ys))
+  go kind.Data e = subst (λ (l : List (ℕ × Item)). AreFor p ends l (accepted_on p (toward z.content) (keys l))) (sym (none (ap (λ (k : Kind). not (is_data k)) e))) tt
+  go kind.End e = for_end p q z ends ys (subst (λ (y : Item). Among ends (q, y)) (sym one_) among) e where
+    one_ : z ≡ x
+    one_ = let both : Some z ≡ Some x = at in cc
+
+pub among_head : (n : ℕ) (z : ℕ × Item) (w : List (ℕ × Item)) → 0 < n → Among (take n (z ∷ w)) z
+among_head zero z w h = absurd (omega arith)
+among_head (suc n) z w h = inl refl
+
+among_first : (u k : ℕ) (w ys : List (ℕ × Item)) (z : ℕ × Item) → Among (take u w) z → Among (take (u + k) (w ++ ys)) z
+among_first zero k w ys z h = absurd h
+among_first (suc u) k [] ys z h = absurd h
+among_first (suc u) k (x ∷ w) ys z h =
+    let e : suc (u + k) ≡ suc u + k = omega arith in
+    subst (λ (n : ℕ). Among (take n (x ∷ (w ++ ys))) z) e (⊎_elim (λ a. inl a) (λ a. inr (among_first u k w ys z a)) h)
+
+among_then : (u k : ℕ) (w ys : List (ℕ × Item)) (z : ℕ × Item) → u ≤ length w → Among (take k (drop u w ++ ys)) z → Among (take (u + k) (w ++ ys)) z
+among_then zero k w ys z h a = let e : k ≡ 0 + k = omega arith in subst (λ (n : ℕ). Among (take n (w ++ ys)) z) e a
+among_then (suc u) k [] ys z h a = absurd (omega arith)
+among_then (suc u) k (x ∷ w) ys z h a =
+    let e : suc (u + k) ≡ suc u + k = omega arith in
+    subst (λ (n : ℕ). Among (take n (x ∷ (w ++ ys))) z) e (inr (among_then u k w ys z (omega arith) a))
+
 -- one sweep after another from the same place
-pub swept_more : (from u k a b : ℕ) (old mid new : List (ℕ × Item)) → from ≤ length old → IsSweptBy from u old mid a → IsSweptBy from k mid new b → IsSweptBy from (u + k) old new (a + b)
-swept_more from u k a b old mid new inside one two =
-    let w : List (ℕ × Item) = drop from old ++ one.accepted in
-    let ahead : take from mid ≡ take from old = ap (take from) one.list ∙ front from old (drop u w) inside in
-    let rest : drop from mid ≡ drop u w = ap (drop from) one.list ∙ behind from old (drop u w) inside in
-    let same : drop k (drop from mid ++ two.accepted) ≡ drop (u + k) (drop from old ++ (one.accepted ++ two.accepted)) =
-    ap (λ (l : List (ℕ × Item)). drop k (l ++ two.accepted)) rest ∙ drops u k w two.accepted one.there ∙ ap (drop (u + k)) (append_assoc (drop from old) one.accepted two.accepted) in
-    let long : length (drop from old ++ (one.accepted ++ two.accepted)) ≡ length w + length two.accepted = ap length (sym (append_assoc (drop from old) one.accepted two.accepted)) ∙ length-append w two.accepted in
+pub swept_more : (from u k a b : ℕ) (old mid new : PlaceOf) → from ≤ length old.blocks → mid.process ≡ old.process → IsSweptBy from u old mid a → IsSweptBy from k mid new b → IsSweptBy from (u + k) old new (a + b)
+swept_more from u k a b old mid new inside whose one two =
+    let w : List (ℕ × Item) = drop from old.blocks ++ one.accepted in
+    let both : List (ℕ × Item) = one.accepted ++ two.accepted in
+    let ahead : take from mid.blocks ≡ take from old.blocks = ap (take from) one.list ∙ front from old.blocks (drop u w) inside in
+    let rest : drop from mid.blocks ≡ drop u w = ap (drop from) one.list ∙ behind from old.blocks (drop u w) inside in
+    let all : w ++ two.accepted ≡ drop from old.blocks ++ both = append_assoc (drop from old.blocks) one.accepted two.accepted in
+    let same : drop k (drop from mid.blocks ++ two.accepted) ≡ drop (u + k) (drop from old.blocks ++ both) =
+    ap (λ (l : List (ℕ × Item)). drop k (l ++ two.accepted)) rest ∙ drops u k w two.accepted one.there ∙ ap (drop (u + k)) all in
+    let long : length (drop from old.blocks ++ both) ≡ length w + length two.accepted = ap length (sym all) ∙ length-append w two.accepted in
     let left : u + length (drop u w) ≡ length w = drop_long u w one.there in
-    let fits : k ≤ length (drop u w) + length two.accepted = subst (λ (n : ℕ). k ≤ n) (ap (λ (l : List (ℕ × Item)). length (l ++ two.accepted)) rest ∙ length-append (drop u w) two.accepted) two.there in
-    let sums : total_of (one.accepted ++ two.accepted) ≡ total_of one.accepted + total_of two.accepted = total_both one.accepted two.accepted in
-    let first : a + total_of mid ≡ total_of old + total_of one.accepted = one.sum in let second : b + total_of new ≡ total_of mid + total_of two.accepted = two.sum in
+    let fits : k ≤ length (drop u w) + length two.accepted =
+    subst (λ (n : ℕ). k ≤ n) (ap (λ (l : List (ℕ × Item)). length (l ++ two.accepted)) rest ∙ length-append (drop u w) two.accepted) two.there in
+    let sums : total_of both ≡ total_of one.accepted + total_of two.accepted = total_both one.accepted two.accepted in
+    let first : a + total_of mid.blocks ≡ total_of old.blocks + total_of one.accepted = one.sum in
+    let second : b + total_of new.blocks ≡ total_of mid.blocks + total_of two.accepted = two.sum in
+    let ends : List (ℕ × Item) = take (u + k) (w ++ two.accepted) in
+    let mine : AreFor old.process ends one.accepted one.log = for_more old.process (take u w) ends one.accepted one.log (λ z h. among_first u k w two.accepted z h) one.theirs in
+    let later : AreFor old.process (take k (drop u w ++ two.accepted)) two.accepted two.log =
+    subst (λ (z : ℕ × List (ℕ × Item)). AreFor z.0 (take k (z.1 ++ two.accepted)) two.accepted two.log) (λ i. (whose i, rest i)) two.theirs in
+    let more : AreFor old.process ends two.accepted two.log =
+    for_more old.process (take k (drop u w ++ two.accepted)) ends two.accepted two.log (λ z h. among_then u k w two.accepted z one.there h) later in
     record {
-      accepted = one.accepted ++ two.accepted;
+      accepted = both;
+      log = one.log ++ two.log;
       there = omega (arith, long, left, fits);
       list = two.list ∙ (λ i. ahead i ++ same i);
+      came = two.came ∙ ap (λ (l : List Event). l ++ two.log) one.came ∙ append_assoc old.came one.log two.log;
+      theirs = subst (λ (l : List (ℕ × Item)). AreFor old.process (take (u + k) l) both (one.log ++ two.log)) all
+          (for_both old.process ends one.accepted two.accepted one.log two.log mine more);
       sum = omega (arith, sums, first, second);
     }
 
--- some were accepted, and then n blocks went
-pub swept_run : (from n bytes : ℕ) (old mid new ys : List (ℕ × Item)) → from ≤ length old → mid ≡ old ++ ys → from + n ≤ length mid → new ≡ take from mid ++ drop (from + n) mid → bytes + total_of new ≡ total_of mid → IsSweptBy from n old new bytes
-swept_run from n bytes old mid new ys inside came fits is sum =
-    let ahead : take from mid ≡ take from old = ap (take from) came ∙ take-append-le from old ys inside in
-    let rest : drop from mid ≡ drop from old ++ ys = ap (drop from) came ∙ drop-append-le from old ys inside in
-    let within : from ≤ length mid = omega (arith, fits) in
-    let more : drop (from + n) mid ≡ drop n (drop from old ++ ys) = sym (plain from n mid within) ∙ ap (drop n) rest in
-    let left : from + length (drop from mid) ≡ length mid = drop_long from mid within in
-    let long : length (drop from mid) ≡ length (drop from old ++ ys) = ap length rest in
-    let all : total_of mid ≡ total_of old + total_of ys = ap total_of came ∙ total_both old ys in
+-- some came to an end at `from`, and then n blocks went
+pub swept_run : (from n bytes d : ℕ) (old mid new : PlaceOf) (ys : List (ℕ × Item)) → from ≤ length old.blocks → mid ≡ with_more d ys old
+    → AreFor old.process (take n (drop from old.blocks ++ ys)) ys (accepted_on old.process d (keys ys)) → from + n ≤ length mid.blocks
+    → new ≡ with_blocks mid (take from mid.blocks ++ drop (from + n) mid.blocks) → bytes + total_of new.blocks ≡ total_of mid.blocks → IsSweptBy from n old new bytes
+swept_run from n bytes d old mid new ys inside came theirs fits is sum =
+    let list : mid.blocks ≡ old.blocks ++ ys = ap (λ (p : PlaceOf). p.blocks) came in
+    let ahead : take from mid.blocks ≡ take from old.blocks = ap (take from) list ∙ take-append-le from old.blocks ys inside in
+    let rest : drop from mid.blocks ≡ drop from old.blocks ++ ys = ap (drop from) list ∙ drop-append-le from old.blocks ys inside in
+    let within : from ≤ length mid.blocks = omega (arith, fits) in
+    let more : drop (from + n) mid.blocks ≡ drop n (drop from old.blocks ++ ys) = sym (plain from n mid.blocks within) ∙ ap (drop n) rest in
+    let left : from + length (drop from mid.blocks) ≡ length mid.blocks = drop_long from mid.blocks within in
+    let long : length (drop from mid.blocks) ≡ length (drop from old.blocks ++ ys) = ap length rest in
+    let all : total_of mid.blocks ≡ total_of old.blocks + total_of ys = ap total_of list ∙ total_both old.blocks ys in
     record {
       accepted = ys;
+      log = accepted_on old.process d (keys ys);
       there = omega (arith, left, long, fits);
-      list = is ∙ (λ i. ahead i ++ more i);
+      list = ap (λ (p : PlaceOf). p.blocks) is ∙ (λ i. ahead i ++ more i);
+      came = ap (λ (p : PlaceOf). p.came) is ∙ ap (λ (p : PlaceOf). p.came) came;
+      theirs = theirs;
       sum = sum ∙ all;
     } where
       plain : (u k : ℕ) (w : List (ℕ × Item)) → u ≤ length w → drop k (drop u w) ≡ drop (u + k) w
@@ -76,11 +151,14 @@ swept_run from n bytes old mid new ys inside came fits is sum =
       plain (suc u) k (x ∷ w) h = let e : suc (u + k) ≡ suc u + k = omega arith in plain u k w (omega arith) ∙ ap (λ (n : ℕ). drop n (x ∷ w)) e
 
 -- nothing yet
-pub swept_none : (from : ℕ) (old : List (ℕ × Item)) → IsSweptBy from 0 old old 0
+pub swept_none : (from : ℕ) (old : PlaceOf) → IsSweptBy from 0 old old 0
 swept_none from old = record {
   accepted = [];
+  log = [];
   there = omega arith;
-  list = sym (whole from old);
+  list = sym (whole from old.blocks);
+  came = sym (append-nil old.came);
+  theirs = tt;
   sum = omega arith;
 } where
   whole : (k : ℕ) (w : List (ℕ × Item)) → take k w ++ (drop k w ++ []) ≡ w
@@ -102,12 +180,14 @@ gave_some zero n (t ∷ ts) h = (omega arith, refl)
 gave_some (suc i) n (t ∷ ts) h = let more = gave_some i n ts (omega arith) in let e : back_of (gave i n ts) ≡ back_of ts + n = more.0 in (omega arith, ap (λ (l : List TallyOf). record t { back = 0 } ∷ l) more.1)
 
 -- a place whose list changed twice
-pub twice : (old mid new : PlaceOf) (xs ys : List (ℕ × Item)) → mid ≡ with_blocks old xs → new ≡ with_blocks mid ys → new ≡ with_blocks old new.blocks
-twice old mid new xs ys one two = let all : new ≡ with_blocks old ys = two ∙ ap (λ (p : PlaceOf). with_blocks p ys) one in all ∙ ap (λ (p : PlaceOf). with_blocks old p.blocks) (sym all)
+pub twice : (d : ℕ) (old mid new : PlaceOf) (ys xs : List (ℕ × Item)) → mid ≡ with_more d ys old → new ≡ with_blocks mid xs → new ≡ with_list old new
+twice d old mid new ys xs one two =
+    let all : new ≡ with_blocks (with_more d ys old) xs = two ∙ ap (λ (p : PlaceOf). with_blocks p xs) one in
+    all ∙ ap (λ (p : PlaceOf). with_list old p) (sym all)
 
 -- the same, where each is told by its own list
-pub twice_own : (old mid new : PlaceOf) → mid ≡ with_blocks old mid.blocks → new ≡ with_blocks mid new.blocks → new ≡ with_blocks old new.blocks
-twice_own old mid new one two = two ∙ ap (λ (p : PlaceOf). with_blocks p new.blocks) one
+pub twice_own : (old mid new : PlaceOf) → mid ≡ with_list old mid → new ≡ with_list mid new → new ≡ with_list old new
+twice_own old mid new one two = two ∙ ap (λ (p : PlaceOf). with_list p new) one
 
 less_or : (a b : ℕ) → (a < b) ⊎ (b ≤ a)
 less_or a zero = inr (omega arith)

@@ -1,5 +1,5 @@
 -- What contracts see of what a block carries.
-use Rattle.std.specs.Prelude.{ℕ, Bool, true, false, ◌==◌, ◌&&◌, nat_le, nat_lt, ◌+◌, List, [], ◌++◌, take, drop, length}
+use Rattle.std.specs.Prelude.{ℕ, Bool, true, false, ◌==◌, ◌&&◌, nat_le, nat_lt, ◌+◌, ◌-◌, ◌*◌, List, [], ◌++◌, take, drop, length}
 use Rattle.xh_model.specs.declared.limits.TheConstants.{MAX_BYTES, END_BYTES}
 use Rattle.xh_place.specs.declared.body.Body.{Body}
 use Rattle.xh_place.specs.declared.body.Body.TheVariants.{Nothing, Data, End}
@@ -29,6 +29,15 @@ fits_in (End e) n = n == END_BYTES
 abbrev pub is_data : Kind → Bool
 is_data kind.Data = true
 is_data kind.End = false
+
+-- the direction toward an endpoint, and that toward its peer
+abbrev pub toward : Content → ℕ
+toward (bytes xs) = 128
+toward (spot channel side) = 2 * channel + side
+
+abbrev pub away : Content → ℕ
+away (bytes xs) = 128
+away (spot channel side) = 2 * channel + 1 - side
 
 -- its n bytes from `at` on, and what it is with these bytes there
 abbrev pub part : ℕ → ℕ → Content → List ℕ

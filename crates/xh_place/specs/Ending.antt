@@ -5,26 +5,40 @@ use Rattle.xh_core.specs.declared.refused.Refused.{Refused}
 use Rattle.xh_core.specs.declared.refused.Refused.TheVariants as refused
 use Rattle.xh_core.specs.declared.status.Status.{Status}
 use Rattle.xh_core.specs.declared.status.Status.TheVariants.{Ending, Ended}
-use Rattle.xh_model.specs.Keyed.{value_at, without}
+use Rattle.xh_model.specs.declared.event.Event.{Event}
+use Rattle.xh_model.specs.declared.event.Event.TheVariants.{Accept}
+use Rattle.xh_model.specs.Keyed.{Among, value_at, without}
 use Rattle.xh_core.specs.Refusing.{Tests}
 use Rattle.xh_model.specs.declared.limits.TheConstants.{MAX_BUDGET}
 use Rattle.xh_place.specs.Refusals.{is_over}
-use Rattle.xh_place.specs.Places.{Item, PlaceOf, with_blocks, total_of}
+use Rattle.xh_place.specs.Bodies.{kind_of, toward}
+use Rattle.xh_place.specs.declared.body.Kind.TheVariants as kind
+use Rattle.xh_place.specs.Places.{Item, PlaceOf, with_blocks, with_list, total_of}
+
+-- the process accepted each of the blocks, by the events, on the direction toward an endpoint that is among `ends`
+abbrev pub AreFor : ℕ → List (ℕ × Item) → List (ℕ × Item) → List Event → Type 0
+AreFor p ends [] [] = Unit {0}
+AreFor p ends (y ∷ ys) (e ∷ es) = ((q : ℕ) × (x : Item) × Among ends (q, x) × (kind_of x.content ≡ kind.End) × (e ≡ Accept p y.0 (toward x.content))) × AreFor p ends ys es
+AreFor p ends [] (e ∷ es) = ⊥
+AreFor p ends (y ∷ ys) [] = ⊥
 
 -- So many blocks were reclaimed: the list from `from` on is the old one from there, followed by what was accepted, without its first blocks.
--- The bytes are those that the list had and gained, less those that it has.
-pub record IsSweptBy (from count : ℕ) (old new : List (ℕ × Item)) (bytes : ℕ) : Type 0 where
+-- What was accepted was on its way to the endpoints among those first blocks. The bytes are those that the list had and gained, less those that it has.
+pub record IsSweptBy (from count : ℕ) (old new : PlaceOf) (bytes : ℕ) : Type 0 where
   pub accepted : List (ℕ × Item)
-  pub there : count ≤ length (drop from old ++ accepted)
-  pub list : new ≡ take from old ++ drop count (drop from old ++ accepted)
-  pub sum : bytes + total_of new ≡ total_of old + total_of accepted
+  pub log : List Event
+  pub there : count ≤ length (drop from old.blocks ++ accepted)
+  pub list : new.blocks ≡ take from old.blocks ++ drop count (drop from old.blocks ++ accepted)
+  pub came : new.came ≡ old.came ++ log
+  pub theirs : AreFor old.process (take count (drop from old.blocks ++ accepted)) accepted log
+  pub sum : bytes + total_of new.blocks ≡ total_of old.blocks + total_of accepted
 
 -- A sweep: no more blocks were reclaimed than the budget, and blocks are left from `from` on only where it is used up.
-pub record IsSwept (from budget : ℕ) (old new : List (ℕ × Item)) (bytes left : ℕ) : Type 0 where
+pub record IsSwept (from budget : ℕ) (old new : PlaceOf) (bytes left : ℕ) : Type 0 where
   pub count : ℕ
   pub by : IsSweptBy from count old new bytes
   pub within : count ≤ budget
-  pub rest : left ≡ length new - from
+  pub rest : left ≡ length new.blocks - from
   pub more : 0 < left → count ≡ budget
 
 -- the bytes that a worker has given back, of all arenas, and its tallies but for these bytes
@@ -56,8 +70,8 @@ stop_tests state = (is_over state, refused.Ended) ∷ []
 
 -- the whole list is swept
 abbrev pub IsStopped : ℕ → PlaceOf → PlaceOf → ℕ → Result ℕ Refused → Type 0
-IsStopped budget old new bytes result = IsSwept 0 budget old.blocks new.blocks bytes (length new.blocks)
-    × (new ≡ record old { blocks = new.blocks; state = ending (length new.blocks) }) × (result ≡ reclaimed bytes (length new.blocks))
+IsStopped budget old new bytes result = IsSwept 0 budget old new bytes (length new.blocks)
+    × (new ≡ record (with_list old new) { state = ending (length new.blocks) }) × (result ≡ reclaimed bytes (length new.blocks))
 
 -- ---- close
 
@@ -72,5 +86,5 @@ last r xs = without r xs ++ alone r (value_at r xs)
 
 -- the endpoint goes to the end of the list, and the list is swept from there
 abbrev pub IsClosed : ℕ → PlaceOf → PlaceOf → ℕ → Result ℕ Refused → Type 0
-IsClosed e old new bytes result = (left : ℕ) × IsSwept (length (without e old.blocks)) MAX_BUDGET (last e old.blocks) new.blocks bytes left
-    × (new ≡ with_blocks old new.blocks) × (result ≡ reclaimed bytes left)
+IsClosed e old new bytes result = (left : ℕ) × IsSwept (length (without e old.blocks)) MAX_BUDGET (with_blocks old (last e old.blocks)) new bytes left
+    × (new ≡ with_list old new) × (result ≡ reclaimed bytes left)

@@ -1,5 +1,5 @@
 -- Endpoints of a place: what a call on one is refused for, and what opening and handing over do.
-use Rattle.std.specs.Prelude.{◌≡◌, ℕ, ◌+◌, ◌*◌, ◌/◌, ◌==◌, ◌&&◌, Bool, false, cond, not, nat_lt, List, [], ◌∷◌, ◌++◌, length, Option, Some, None, is_none, Result, Err, MatchOption, MatchResult, IfErr, OnOk}
+use Rattle.std.specs.Prelude.{◌≡◌, ℕ, ◌*◌, ◌/◌, ◌==◌, ◌&&◌, Bool, false, cond, not, nat_lt, List, [], ◌∷◌, ◌++◌, length, Option, Some, None, is_none, Result, Err, MatchOption, MatchResult, IfErr, OnOk}
 use Rattle.xh_channel.specs.Queues.{Posted}
 use Rattle.xh_core.specs.declared.block.Block.{Block}
 use Rattle.xh_core.specs.declared.refused.Refused.{Refused}
@@ -10,11 +10,11 @@ use Rattle.xh_model.specs.declared.limits.TheConstants.{END_BYTES, MAX_BUDGET}
 use Rattle.xh_core.specs.Refusing.{Tests, first_refusal}
 use Rattle.xh_model.specs.Keyed.{value_at}
 use Rattle.xh_records.specs.Seats.{IsRecord}
-use Rattle.xh_place.specs.Bodies.{Content, bytes, spot, kind_of, is_data}
+use Rattle.xh_place.specs.Bodies.{spot, kind_of, is_data, toward, away}
 use Rattle.xh_arena.specs.Views.{TallyOf}
 use Rattle.xh_place.specs.declared.opening.Unopened.{Unopened}
 use Rattle.xh_place.specs.Tallies.{took}
-use Rattle.xh_place.specs.Places.{Item, PlaceOf, with_blocks}
+use Rattle.xh_place.specs.Places.{Item, PlaceOf, with_blocks, with_list, with_more}
 use Rattle.xh_place.specs.Refusals.{is_running}
 use Rattle.xh_place.specs.Ending.{IsSwept}
 
@@ -27,14 +27,14 @@ abbrev pub has_end : Option Item → Bool
 has_end None = false
 has_end (Some x) = not (is_data (kind_of x.content))
 
--- the direction toward an endpoint
-abbrev pub toward : Content → ℕ
-toward (bytes xs) = 128
-toward (spot channel side) = 2 * channel + side
-
+-- the direction toward an endpoint, and that toward its peer
 abbrev pub toward_in : Option Item → ℕ
 toward_in None = 128
 toward_in (Some x) = toward x.content
+
+abbrev pub away_in : Option Item → ℕ
+away_in None = 128
+away_in (Some x) = away x.content
 
 -- the process does not run, no such block is listed, or it is no endpoint
 abbrev pub end_tests : Status → Option Item → Tests
@@ -89,11 +89,11 @@ awake status.Vacant = status.Vacant
 awake status.Running = status.Running
 awake status.Ending = status.Ending
 
--- the endpoint came to the end of the list, and was swept from there
-abbrev pub IsSweptLate : ℕ → PlaceOf → PlaceOf → ℕ → Type 0
-IsSweptLate r old new sum = (x : Item) × (left : ℕ) × IsSwept (length old.blocks) MAX_BUDGET (old.blocks ++ (r, x) ∷ []) new.blocks sum left × (new ≡ with_blocks old new.blocks)
+-- the endpoint came on the direction to the end of the list, and was swept from there
+abbrev pub IsSweptLate : ℕ → ℕ → PlaceOf → PlaceOf → ℕ → Type 0
+IsSweptLate d r old new sum = (x : Item) × (left : ℕ) × IsSwept (length old.blocks) MAX_BUDGET (with_more d ((r, x) ∷ []) old) new sum left × (new ≡ with_list old new)
 
 -- an endpoint came that nobody is here for: so it was swept
-abbrev pub IsTooLate : ℕ → PlaceOf → PlaceOf → ℕ → Type 0
-IsTooLate r old new sum = (x : Item) × (left : ℕ) × IsSwept (length old.blocks) MAX_BUDGET (old.blocks ++ (r, x) ∷ []) new.blocks sum left
-    × (new ≡ record old { blocks = new.blocks; state = ending_again old.state (length new.blocks) })
+abbrev pub IsTooLate : ℕ → ℕ → PlaceOf → PlaceOf → ℕ → Type 0
+IsTooLate d r old new sum = (x : Item) × (left : ℕ) × IsSwept (length old.blocks) MAX_BUDGET (with_more d ((r, x) ∷ []) old) new sum left
+    × (new ≡ record (with_list old new) { state = ending_again old.state (length new.blocks) })

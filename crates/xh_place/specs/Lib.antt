@@ -1,6 +1,7 @@
 pub mod Lots
 pub mod Vaults
 pub mod Bodies
+pub mod Coming
 pub mod Places
 pub mod Refusals
 pub mod Tallies

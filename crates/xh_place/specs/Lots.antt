@@ -1,18 +1,24 @@
--- What the private steps of a place do to its seat. The events that the seat did are the record table's to tell.
+-- What the private steps of a place do to its seat. Of the events that the seat did they tell the accepts; the others are the record table's to tell.
 use Rattle.std.specs.Prelude.{◌≡◌, ℕ, ◌+◌, ◌/◌, ◌<◌, List, [], ◌∷◌, ◌++◌, true}
 use Rattle.xh_arena.specs.Views.{LotOf}
+use Rattle.xh_model.specs.declared.event.Event.{Event}
 use Rattle.xh_model.specs.Keyed.{Among, keys, put}
 use Rattle.xh_records.specs.Seats.{Held, with_lots}
 use Rattle.xh_place.specs.declared.body.Body.{Body}
 use Rattle.xh_place.specs.declared.body.Kind.TheVariants as kind
 use Rattle.xh_place.specs.Bodies.{content_of, fits_in, front, kind_of, rest}
+use Rattle.xh_place.specs.Coming.{accepts}
 use Rattle.xh_place.specs.Places.{IsBlock}
 
--- a seat but for its events
+-- a seat, of whose events only the accepts count
 abbrev pub bare : Held Body → Held Body
-bare seat = record seat { done = [] }
+bare seat = record seat { done = accepts seat.done }
 
--- the seat has these lots now, and all else but its events is as it was
+-- the seat that did these too
+abbrev pub with_done : List Event → Held Body → Held Body
+with_done es seat = record seat { done = seat.done ++ es }
+
+-- the seat has these lots now, and accepted nothing, and all else but its other events is as it was
 abbrev pub HasNow : Held Body → List (ℕ × LotOf Body) → Held Body → Type 0
 HasNow old lots new = bare new ≡ with_lots (bare old) lots
 

@@ -1,5 +1,5 @@
 -- What contracts see of a place, and what its type keeps.
-use Rattle.std.specs.Prelude.{◌≡◌, ℕ, ◌+◌, ◌*◌, ◌%◌, ◌<◌, ◌≤◌, List, [], ◌∷◌, length, Option, Some, None}
+use Rattle.std.specs.Prelude.{◌≡◌, ℕ, ◌+◌, ◌*◌, ◌%◌, ◌<◌, ◌≤◌, List, [], ◌∷◌, ◌++◌, length, Option, Some, None}
 use Rattle.atomic_table.specs.Seated.{TableId}
 use Rattle.xh_arena.specs.Views.{LotOf}
 use Rattle.xh_core.specs.declared.ledger.PlaceLine.{PlaceLine}
@@ -7,6 +7,7 @@ use Rattle.xh_core.specs.declared.ledger.State.{State}
 use Rattle.xh_core.specs.declared.ledger.State.TheVariants as stage
 use Rattle.xh_core.specs.declared.status.Status.{Status}
 use Rattle.xh_core.specs.declared.status.Status.TheVariants.{Vacant, Running, Ending, Ended}
+use Rattle.xh_model.specs.declared.event.Event.{Event}
 use Rattle.xh_model.specs.declared.limits.TheConstants.{END_BYTES, MAX_ARENAS, MAX_BYTES, MAX_RECORDS, PLACES}
 use Rattle.xh_records.specs.declared.shape.Shape.{Shape}
 use Rattle.xh_records.specs.Showing.{IsLotOf, IsFull}
@@ -15,22 +16,36 @@ use Rattle.xh_records.specs.Seats.{RecordsOf, Held, IsRecord}
 use Rattle.xh_place.specs.declared.body.Body.{Body}
 use Rattle.xh_place.specs.declared.body.Header.{Header}
 use Rattle.xh_place.specs.Bodies.{Content, bytes, spot, content_of, kind_of, fits_in}
+use Rattle.xh_place.specs.Coming.{accepted_on}
 
 -- a block: its length, and what it carries
 pub record Item : Type 0 where
   pub len : ℕ
   pub content : Content
 
--- a place: the table and its shape, the number of its process, the blocks by their records in the order gained, and how far the process has come
+-- A place: the table and its shape, the number of its process, the blocks by their records in the order gained, and how far the process has come;
+-- and the accepts that its processes did, in their order, each of which tells the direction that a record came on.
 pub record PlaceOf : Type 0 where
   pub table : TableId
   pub shape : Shape
   pub process : ℕ
   pub blocks : List (ℕ × Item)
   pub state : Status
+  pub came : List Event
 
 abbrev pub with_blocks : PlaceOf → List (ℕ × Item) → PlaceOf
 with_blocks p xs = record p { blocks = xs }
+
+abbrev pub with_came : PlaceOf → List Event → PlaceOf
+with_came p es = record p { came = p.came ++ es }
+
+-- with the blocks of another, and what came there
+abbrev pub with_list : PlaceOf → PlaceOf → PlaceOf
+with_list p q = record p { blocks = q.blocks; came = q.came }
+
+-- these blocks came on the direction, to the end of the list
+abbrev pub with_more : ℕ → List (ℕ × Item) → PlaceOf → PlaceOf
+with_more d ys p = with_came (with_blocks p (p.blocks ++ ys)) (accepted_on p.process d (keys ys))
 
 -- the same place, and the same process
 abbrev pub IsSamePlace : PlaceOf → PlaceOf → Type 0

@@ -1,16 +1,17 @@
 // What a give does to the seat: its blocks leave it, and some come back.
-ghost use Rattle.std.specs.Prelude.{◌≡◌, ◌≢◌, ◌⊎◌, ℕ, ◌+◌, ◌*◌, ◌/◌, ◌%◌, ◌<◌, ◌≤◌, List, [], length, Some, None, true, OnOk, MatchResult};
+ghost use Rattle.std.specs.Prelude.{◌≡◌, ◌≢◌, ◌⊎◌, ℕ, ◌+◌, ◌*◌, ◌/◌, ◌%◌, ◌<◌, ◌≤◌, List, [], ◌++◌, length, Some, None, true, OnOk, MatchResult};
 ghost use Rattle.arrayvec.specs.ArrayVec.{ArrayVec};
 ghost use Rattle.xh_arena.specs.Views.{LotOf};
 ghost use Rattle.xh_model.specs.Keyed.{Among, Distinct, keys, value_at};
 ghost use Rattle.xh_records.specs.Showing.{IsFull};
 ghost use Rattle.xh_place.specs.Messages.{IsUnsent};
 ghost use Rattle.xh_records.specs.Seats.{IsSeatOf, IsRecord};
-ghost use Rattle.xh_place.specs.Lots.{HasNow};
+ghost use Rattle.xh_place.specs.Coming.{accepted_on};
+ghost use Rattle.xh_place.specs.Lots.{HasNow, with_done};
 ghost use Rattle.xh_place.specs.declared.body.Body.{Body};
 ghost use Rattle.xh_place.specs.declared.body.Kind.TheVariants as kind;
-ghost use Rattle.xh_place.specs.Bodies.{content_of, kind_of, fits_in};
-ghost use Rattle.xh_place.specs.Places.{IsBlock, item_of, header_in};
+ghost use Rattle.xh_place.specs.Bodies.{away, content_of, kind_of, fits_in};
+ghost use Rattle.xh_place.specs.Places.{IsBlock, item_in, item_of, header_in};
 
 use crate::body::{Body, Header};
 use crate::gate::{Gate, Point};
@@ -47,7 +48,7 @@ fn accept_into(
     requires room { length back.old.items < 8 }
     ensures long { length back.new.items ≤ length back.old.items + 1 }
     ensures only { (q : ℕ) → Among (keys back.new.items) q → Among (keys back.old.items) q ⊎ (q ≡ r) }
-    ensures same { HasNow seat.old seat.new.lots seat.new }
+    ensures came { (rs : List ℕ) × (keys back.new.items ≡ keys back.old.items ++ rs) × HasNow (with_done (accepted_on seat.old.process direction rs) seat.old) seat.new.lots seat.new }
     ensures here { value_at r seat.old.lots ≡ None → value_at r back.old.items ≡ None → value_at r back.new.items ≡ header_in (value_at r seat.new.lots) }
     ensures good { (l : LotOf Body) → value_at r seat.old.lots ≡ None → value_at r seat.new.lots ≡ Some l → IsBlock seat.old.shape r l }
     ensures others { (q : ℕ) → r ≢ q → (value_at q seat.new.lots ≡ value_at q seat.old.lots) × (value_at q back.new.items ≡ value_at q back.old.items) }
@@ -70,7 +71,7 @@ pub(crate) fn accept_back(
     requires distinct { Distinct given.now }
     requires gone { (r : ℕ) → Among given.now r → value_at r seat.old.lots ≡ None }
     requires records { (r : ℕ) → Among given.now r → IsRecord records.now.shape r }
-    ensures same { HasNow seat.old seat.new.lots seat.new }
+    ensures came { HasNow (with_done (accepted_on seat.old.process direction (keys result.items)) seat.old) seat.new.lots seat.new }
     ensures back { (r : ℕ) → Among given.now r → value_at r result.items ≡ header_in (value_at r seat.new.lots) }
     ensures only { (r : ℕ) → Among (keys result.items) r → Among given.now r }
     ensures good { (r : ℕ) (l : LotOf Body) → Among given.now r → value_at r seat.new.lots ≡ Some l → IsBlock seat.old.shape r l }
@@ -113,7 +114,7 @@ fn post<R: Wait, G: Gate>(
     requires end { (l : LotOf Body) × (value_at e seat.old.lots ≡ Some l) × IsBlock seat.old.shape e l × (kind_of (content_of l.body) ≡ kind.End) }
     requires distinct { Distinct given.now.items × (Among given.now.items e → ⊥) }
     requires held { (r : ℕ) → Among given.now.items r → (l : LotOf Body) × (value_at r seat.old.lots ≡ Some l) × IsBlock seat.old.shape r l }
-    ensures direction { result.1 < 128 }
+    ensures direction { (result.1 ≡ away (item_in (value_at e seat.old.lots)).content) × (result.1 < 128) }
     ensures same { HasNow seat.old seat.new.lots seat.new }
     ensures end { (l : LotOf Body) → value_at e seat.old.lots ≡ Some l → (m : LotOf Body) × (value_at e seat.new.lots ≡ Some m) × (item_of m ≡ item_of l) × IsBlock seat.old.shape e m }
     ensures gone { (r : ℕ) → Among given.now.items r → value_at r seat.new.lots ≡ None }
@@ -149,7 +150,7 @@ pub(crate) fn give_all<R: Wait, G: Gate>(
     requires end { (l : LotOf Body) × (value_at e seat.old.lots ≡ Some l) × IsBlock seat.old.shape e l × (kind_of (content_of l.body) ≡ kind.End) }
     requires distinct { Distinct given.now.items × (Among given.now.items e → ⊥) }
     requires held { (r : ℕ) → Among given.now.items r → (l : LotOf Body) × (value_at r seat.old.lots ≡ Some l) × IsBlock seat.old.shape r l }
-    ensures same { HasNow seat.old seat.new.lots seat.new }
+    ensures came { HasNow (with_done (accepted_on seat.old.process (away (item_in (value_at e seat.old.lots)).content) (keys result.back.items)) seat.old) seat.new.lots seat.new }
     ensures end { (l : LotOf Body) → value_at e seat.old.lots ≡ Some l → (m : LotOf Body) × (value_at e seat.new.lots ≡ Some m) × (item_of m ≡ item_of l) × IsBlock seat.old.shape e m }
     ensures others { (r : ℕ) → (Among given.now.items r → ⊥) → e ≢ r → value_at r seat.new.lots ≡ value_at r seat.old.lots }
     ensures back { (r : ℕ) → Among given.now.items r → value_at r result.back.items ≡ header_in (value_at r seat.new.lots) }

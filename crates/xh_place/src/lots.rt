@@ -1,10 +1,11 @@
 // What a place does to the lots of its seat: each call lends one of them, or two, to one function.
 ghost use Rattle.std.specs.Prelude.{◌≡◌, ◌≢◌, ◌⊎◌, ℕ, ◌+◌, ◌-◌, ◌*◌, ◌%◌, ◌/◌, ◌<◌, ◌≤◌, ◌++◌, ◌∷◌, [], Some, IfOk, IfErr, IfSome, OnOk, OnErr, slice_get, length, replicate, true};
 ghost use Rattle.xh_arena.specs.Views.{LotOf};
+ghost use Rattle.xh_model.specs.declared.event.Event.TheVariants.{Accept};
 ghost use Rattle.xh_model.specs.Arena.{IsGoodCut};
 ghost use Rattle.xh_model.specs.Keyed.{Among, keys, value_at, put, without};
 ghost use Rattle.xh_records.specs.Showing.{IsLotOf, IsFull};
-ghost use Rattle.xh_records.specs.Seats.{Held, IsSeatOf, IsRecord, with_lots};
+ghost use Rattle.xh_records.specs.Seats.{Held, IsSeatOf, IsRecord, did, with_lots};
 ghost use Rattle.xh_model.specs.declared.limits.TheConstants.{MAX_BYTES, UNIT};
 ghost use Rattle.xh_place.specs.Lots.{HasNow, IsCut, IsData};
 ghost use Rattle.xh_place.specs.Vaults.{IsNoBlock, IsRefusedAt, reason_of};
@@ -242,7 +243,7 @@ pub(crate) fn accept_block(
     direction: u8,
 ) -> Result<Header, u64>
     requires own { IsSeatOf records.now seat.old × IsRecord records.now.shape r × (direction < 128) }
-    ensures here { IfOk result (λ s. (l : LotOf Body) × (Among (keys seat.old.lots) r → ⊥) × HasNow seat.old (seat.old.lots ++ (r, l) ∷ []) seat.new × IsBlock seat.old.shape r l
+    ensures here { IfOk result (λ s. (l : LotOf Body) × (Among (keys seat.old.lots) r → ⊥) × HasNow (did (Accept seat.old.process r direction) seat.old) (seat.old.lots ++ (r, l) ∷ []) seat.new × IsBlock seat.old.shape r l
         × (s ≡ header_of (item_of l))) }
     ensures missing { IfErr result (λ word. (word ≢ 2 + 4 * direction) × (seat.new ≡ seat.old)) }
 {

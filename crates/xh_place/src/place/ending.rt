@@ -6,7 +6,7 @@ ghost use Rattle.xh_records.specs.Seats.{IsRecord};
 ghost use Rattle.xh_place.specs.Bodies.{kind_of};
 ghost use Rattle.xh_place.specs.Ending.{HasGivenBack, IsStopped, IsSwept, IsSweptBy, ending, reclaimed, stop_tests};
 ghost use Rattle.xh_place.specs.Ends.{RefusedOr, IsTooLate, IsSweptLate, awake, ending_again};
-ghost use Rattle.xh_place.specs.Places.{Item, IsPlaceOf, IsSamePlace, total_of, with_blocks};
+ghost use Rattle.xh_place.specs.Places.{Item, IsPlaceOf, IsSamePlace, total_of, with_blocks, with_list};
 ghost use Rattle.xh_place.specs.Refusals.{is_over};
 ghost use Rattle.xh_place.specs.Tallies.{ids_of};
 
@@ -129,8 +129,8 @@ impl Place {
         requires some { (from < length self.old.blocks) × (0 < most) }
         ensures same { (V.names vaults.new ≡ V.names vaults.old) × (V.extent vaults.new ≡ V.extent vaults.old) × (ids_of tallies.new ≡ ids_of tallies.old) }
         ensures count { (0 < result.1) × (result.1 ≤ most) × (result.0 ≤ result.1 * 4294967295) }
-        ensures list { self.new ≡ with_blocks self.old self.new.blocks }
-        ensures swept { IsSweptBy from result.1 self.old.blocks self.new.blocks result.0 }
+        ensures list { self.new ≡ with_list self.old self.new }
+        ensures swept { IsSweptBy from result.1 self.old self.new result.0 }
         ensures back { HasGivenBack result.0 tallies.old tallies.new }
     {
         let (r, kind) = self.at(from);
@@ -155,8 +155,8 @@ impl Place {
         requires own { IsPlaceOf records.now self.old }
         requires names { (V.names vaults.old ≡ self.old.shape.names) × (ids_of tallies.old ≡ self.old.shape.names) }
         ensures same { (V.names vaults.new ≡ V.names vaults.old) × (V.extent vaults.new ≡ V.extent vaults.old) × (ids_of tallies.new ≡ ids_of tallies.old) }
-        ensures list { self.new ≡ with_blocks self.old self.new.blocks }
-        ensures swept { IsSwept from budget self.old.blocks self.new.blocks result.0 result.1 }
+        ensures list { self.new ≡ with_list self.old self.new }
+        ensures swept { IsSwept from budget self.old self.new result.0 result.1 }
         ensures back { HasGivenBack result.0 tallies.old tallies.new }
     {
         let mut bytes = 0;
@@ -218,7 +218,7 @@ impl Place {
         requires taken { self.old.state ≢ status.Vacant }
         ensures same { (V.names vaults.new ≡ V.names vaults.old) × (V.extent vaults.new ≡ V.extent vaults.old) × (ids_of tallies.new ≡ ids_of tallies.old) }
         ensures place { IsSamePlace self.old self.new }
-        ensures swept { ((self.new ≡ self.old) × (tallies.new ≡ tallies.old)) ⊎ ((bytes : ℕ) × IsTooLate r self.old self.new bytes × HasGivenBack bytes tallies.old tallies.new) }
+        ensures swept { ((self.new ≡ self.old) × (tallies.new ≡ tallies.old)) ⊎ ((bytes : ℕ) × IsTooLate direction r self.old self.new bytes × HasGivenBack bytes tallies.old tallies.new) }
     {
         let state = self.state();
         self.wake();
@@ -254,7 +254,7 @@ impl Place {
         requires alive { is_over self.old.state ≢ true }
         ensures same { (V.names vaults.new ≡ V.names vaults.old) × (V.extent vaults.new ≡ V.extent vaults.old) × (ids_of tallies.new ≡ ids_of tallies.old) }
         ensures place { IsSamePlace self.old self.new }
-        ensures swept { ((self.new ≡ self.old) × (tallies.new ≡ tallies.old)) ⊎ ((bytes : ℕ) × IsSweptLate r self.old self.new bytes × HasGivenBack bytes tallies.old tallies.new) }
+        ensures swept { ((self.new ≡ self.old) × (tallies.new ≡ tallies.old)) ⊎ ((bytes : ℕ) × IsSweptLate direction r self.old self.new bytes × HasGivenBack bytes tallies.old tallies.new) }
     {
         let from = self.count();
         let Ok(_block) = self.accept(records, r, direction) else {

@@ -8,8 +8,8 @@ ghost use Rattle.xh_records.specs.Seats.{IsRecord};
 ghost use Rattle.xh_place.specs.declared.body.Kind.TheVariants as kind;
 ghost use Rattle.xh_place.specs.Bodies.{kind_of, spot};
 ghost use Rattle.xh_place.specs.Ending.{HasGivenBack, IsClosed, last};
-ghost use Rattle.xh_place.specs.Ends.{RefusedOr, end_tests, has_end, open_tests, AreListed, Opens, IsUnopened, is_here, IsTooLate};
-ghost use Rattle.xh_place.specs.Places.{Item, IsPlaceOf, IsSamePlace, with_blocks};
+ghost use Rattle.xh_place.specs.Ends.{RefusedOr, end_tests, has_end, open_tests, toward_in, AreListed, Opens, IsUnopened, is_here, IsTooLate};
+ghost use Rattle.xh_place.specs.Places.{Item, IsPlaceOf, IsSamePlace, with_blocks, with_more};
 ghost use Rattle.xh_place.specs.Refusals.{is_over};
 ghost use Rattle.xh_model.specs.declared.limits.TheConstants.{END_BYTES};
 ghost use Rattle.xh_place.specs.Tallies.{ids_of};
@@ -83,7 +83,7 @@ impl Place {
         spot
     }
 
-    /// Both ends of a channel that was just opened, without a contract, come to the end of the list: side 0, then side 1, each of 32 bytes, the halves of one first fit of 64.
+    /// Both ends of a channel that was just opened, with a contract or without, come to the end of the list: side 0, then side 1, each of 32 bytes, the halves of one first fit of 64.
     /// Ended, NoArena, NoRecord, NoSpace, Worn; a refusal hands the ends back, and each record that was claimed is free again.
     pub fn open<V: Vaults, G: Gate>(
         &mut self,
@@ -97,54 +97,7 @@ impl Place {
     ) -> Result<(Block, Block), Unopened>
         requires own { IsPlaceOf records.now self.old }
         requires names { (V.names vaults.old ≡ self.old.shape.names) × (ids_of tallies.old ≡ self.old.shape.names) }
-        requires fresh { IsPair low high × (low.has_contract ≡ false) }
-        ensures same { (V.names vaults.new ≡ V.names vaults.old) × (V.extent vaults.new ≡ V.extent vaults.old) × (ids_of tallies.new ≡ ids_of tallies.old) }
-        ensures opened { Opens arena low high self.old self.new tallies.old tallies.new result }
-        ensures place { IsSamePlace self.old self.new }
-        ensures ends { IfOk result (AreListed low high self.new) }
-        ensures why { IsUnopened (open_tests self.old.state arena (length self.old.shape.names)) (vaults.new ≡ vaults.old)
-            (IsNoPair V.changes vaults.old vaults.new arena (2 * END_BYTES) (V.extent vaults.old)) result }
-    {
-        self.open_pair(records, low, high, arena, vaults, tallies, gate)
-    }
-
-    /// As `open`, of a channel that was opened with a contract.
-    pub fn open_with<V: Vaults, G: Gate>(
-        &mut self,
-        records: &Records<Body>,
-        low: Endpoint,
-        high: Endpoint,
-        arena: u32,
-        vaults: &mut V,
-        tallies: &mut [Tally],
-        gate: &G,
-    ) -> Result<(Block, Block), Unopened>
-        requires own { IsPlaceOf records.now self.old }
-        requires names { (V.names vaults.old ≡ self.old.shape.names) × (ids_of tallies.old ≡ self.old.shape.names) }
-        requires fresh { IsPair low high × (low.has_contract ≡ true) }
-        ensures same { (V.names vaults.new ≡ V.names vaults.old) × (V.extent vaults.new ≡ V.extent vaults.old) × (ids_of tallies.new ≡ ids_of tallies.old) }
-        ensures opened { Opens arena low high self.old self.new tallies.old tallies.new result }
-        ensures place { IsSamePlace self.old self.new }
-        ensures ends { IfOk result (AreListed low high self.new) }
-        ensures why { IsUnopened (open_tests self.old.state arena (length self.old.shape.names)) (vaults.new ≡ vaults.old)
-            (IsNoPair V.changes vaults.old vaults.new arena (2 * END_BYTES) (V.extent vaults.old)) result }
-    {
-        self.open_pair(records, low, high, arena, vaults, tallies, gate)
-    }
-
-    // Two blocks of 32 bytes get an end each.
-    fn open_pair<V: Vaults, G: Gate>(
-        &mut self,
-        records: &Records<Body>,
-        low: Endpoint,
-        high: Endpoint,
-        arena: u32,
-        vaults: &mut V,
-        tallies: &mut [Tally],
-        gate: &G,
-    ) -> Result<(Block, Block), Unopened>
-        requires own { IsPlaceOf records.now self.old }
-        requires names { (V.names vaults.old ≡ self.old.shape.names) × (ids_of tallies.old ≡ self.old.shape.names) }
+        requires fresh { IsPair low high }
         ensures same { (V.names vaults.new ≡ V.names vaults.old) × (V.extent vaults.new ≡ V.extent vaults.old) × (ids_of tallies.new ≡ ids_of tallies.old) }
         ensures opened { Opens arena low high self.old self.new tallies.old tallies.new result }
         ensures place { IsSamePlace self.old self.new }
@@ -181,6 +134,30 @@ impl Place {
         self.total += u64::from(2 * END_BYTES);
         let len = END_BYTES;
         Ok((Block { rec: made.0, len }, Block { rec: made.1, len }))
+    }
+
+    /// As `open`, of a channel that was opened with a contract: the ends say which.
+    pub fn open_with<V: Vaults, G: Gate>(
+        &mut self,
+        records: &Records<Body>,
+        low: Endpoint,
+        high: Endpoint,
+        arena: u32,
+        vaults: &mut V,
+        tallies: &mut [Tally],
+        gate: &G,
+    ) -> Result<(Block, Block), Unopened>
+        requires own { IsPlaceOf records.now self.old }
+        requires names { (V.names vaults.old ≡ self.old.shape.names) × (ids_of tallies.old ≡ self.old.shape.names) }
+        requires fresh { IsPair low high × (low.has_contract ≡ true) }
+        ensures same { (V.names vaults.new ≡ V.names vaults.old) × (V.extent vaults.new ≡ V.extent vaults.old) × (ids_of tallies.new ≡ ids_of tallies.old) }
+        ensures opened { Opens arena low high self.old self.new tallies.old tallies.new result }
+        ensures place { IsSamePlace self.old self.new }
+        ensures ends { IfOk result (AreListed low high self.new) }
+        ensures why { IsUnopened (open_tests self.old.state arena (length self.old.shape.names)) (vaults.new ≡ vaults.old)
+            (IsNoPair V.changes vaults.old vaults.new arena (2 * END_BYTES) (V.extent vaults.old)) result }
+    {
+        self.open(records, low, high, arena, vaults, tallies, gate)
     }
 
     /// An endpoint of the list is in flight on the direction from now on.
@@ -226,10 +203,10 @@ impl Place {
         ensures same { (V.names vaults.new ≡ V.names vaults.old) × (V.extent vaults.new ≡ V.extent vaults.old) × (ids_of tallies.new ≡ ids_of tallies.old) }
         ensures place { IsSamePlace self.old self.new }
         ensures here { IfOk result (λ b. (is_here self.old process ≡ true) × (b.rec ≡ r)
-            × ((x : Item) × (x.len ≡ b.len) × (self.new ≡ with_blocks self.old (self.old.blocks ++ (r, x) ∷ []))) × (tallies.new ≡ tallies.old)) }
+            × ((x : Item) × (x.len ≡ b.len) × (self.new ≡ with_more direction ((r, x) ∷ []) self.old)) × (tallies.new ≡ tallies.old)) }
         ensures away { IfErr result (λ e. (e ≡ Refused.Ended) × (((self.new ≡ self.old) × (tallies.new ≡ tallies.old))
             ⊎ ((is_here self.old process ≡ false) × (self.old.state ≢ status.Vacant)
-            × ((bytes : ℕ) × IsTooLate r self.old self.new bytes × HasGivenBack bytes tallies.old tallies.new)))) }
+            × ((bytes : ℕ) × IsTooLate direction r self.old self.new bytes × HasGivenBack bytes tallies.old tallies.new)))) }
     {
         if self.state() == Status::Vacant {
             return Err(Refused::Ended);
@@ -311,7 +288,7 @@ impl Place {
         requires own { IsPlaceOf records.now self.old }
         requires alive { is_over self.old.state ≢ true }
         requires end { (x : Item) × (value_at e self.old.blocks ≡ Some x) × (kind_of x.content ≡ kind.End) }
-        ensures { (ys : List (ℕ × Item)) × (self.new ≡ with_blocks self.old (self.old.blocks ++ ys)) }
+        ensures { (ys : List (ℕ × Item)) × (self.new ≡ with_more (toward_in (value_at e self.old.blocks)) ys self.old) }
     {
         for _ in 0..u64::MAX {
             let Ok(_taken) = self.take_message(rt, records, channels, e, gate) else {
@@ -333,7 +310,7 @@ impl Place {
         requires own { IsPlaceOf records.now self.old }
         requires alive { is_over self.old.state ≢ true }
         requires block { (x : Item) × (value_at r self.old.blocks ≡ Some x) × (kind ≡ kind_of x.content) }
-        ensures { (ys : List (ℕ × Item)) × (self.new ≡ with_blocks self.old (self.old.blocks ++ ys)) }
+        ensures { (ys : List (ℕ × Item)) × (self.new ≡ with_more (toward_in (value_at r self.old.blocks)) ys self.old) × (has_end (value_at r self.old.blocks) ≡ false → ys ≡ []) }
     {
         if kind == Kind::Data {
             return;

@@ -9,9 +9,9 @@ ghost use Rattle.xh_model.specs.Keyed.{Among, Distinct, keys, value_at};
 ghost use Rattle.xh_records.specs.Seats.{IsRecord};
 ghost use Rattle.xh_place.specs.declared.body.Kind.TheVariants as kind;
 ghost use Rattle.xh_place.specs.Bodies.{kind_of};
-ghost use Rattle.xh_place.specs.Ends.{RefusedOr, end_tests, toward_in};
+ghost use Rattle.xh_place.specs.Ends.{RefusedOr, away_in, end_tests, toward_in};
 ghost use Rattle.xh_place.specs.Messages.{give_tests, given_tests, is_listed, IsSent, IsTaken, IsUntaken};
-ghost use Rattle.xh_place.specs.Places.{Item, IsPlaceOf, IsSamePlace, with_blocks};
+ghost use Rattle.xh_place.specs.Places.{Item, IsPlaceOf, IsSamePlace, with_more};
 ghost use Rattle.xh_place.specs.Refusals.{is_over};
 ghost use Rattle.xh_place.specs.Taking.{AreGot, IsGot};
 
@@ -53,7 +53,7 @@ impl Place {
     ) -> Result<u64, Refused>
         requires own { IsPlaceOf records.now self.old }
         ensures place { IsSamePlace self.old self.new }
-        ensures given { RefusedOr (give_tests self.old e blocks.now) result (self.new ≡ self.old) (IsSent blocks.now self.old self.new result) }
+        ensures given { RefusedOr (give_tests self.old e blocks.now) result (self.new ≡ self.old) (IsSent (away_in (value_at e self.old.blocks)) blocks.now self.old self.new result) }
     {
         self.test_end(e)?;
         let given = self.test_given(e, blocks)?;
@@ -106,7 +106,7 @@ impl Place {
         requires given { Distinct given.now.items × (Among given.now.items e → ⊥) }
         requires listed { (r : ℕ) → Among given.now.items r → (x : Item) × (value_at r self.old.blocks ≡ Some x) }
         ensures place { IsSamePlace self.old self.new }
-        ensures sent { IsSent given.now.items self.old self.new result }
+        ensures sent { IsSent (away_in (value_at e self.old.blocks)) given.now.items self.old self.new result }
     {
         let Given { put, back } = give_all(
             rt,
@@ -201,7 +201,7 @@ impl Place {
         requires own { IsPlaceOf records.now self.old × IsRecord records.now.shape r × (direction < 128) }
         requires alive { is_over self.old.state ≢ true }
         ensures place { IsSamePlace self.old self.new }
-        ensures here { IfOk result (λ b. (b.rec ≡ r) × ((x : Item) × (x.len ≡ b.len) × (self.new ≡ with_blocks self.old (self.old.blocks ++ (r, x) ∷ [])))) }
+        ensures here { IfOk result (λ b. (b.rec ≡ r) × ((x : Item) × (x.len ≡ b.len) × (self.new ≡ with_more direction ((r, x) ∷ []) self.old))) }
         ensures missing { IfErr result (λ word. (word ≢ 2 + 4 * direction) × (self.new ≡ self.old)) }
     {
         let header = accept_block(records, &mut self.seat, r, direction)?;
@@ -215,7 +215,7 @@ impl Place {
     fn take_one(&mut self, records: &Records<Body>, r: u16, direction: u8) -> Got
         requires own { IsPlaceOf records.now self.old × (direction < 128) }
         requires alive { is_over self.old.state ≢ true }
-        ensures { (ys : List (ℕ × Item)) × (self.new ≡ with_blocks self.old (self.old.blocks ++ ys)) × IsGot direction ys result }
+        ensures { (ys : List (ℕ × Item)) × (self.new ≡ with_more direction ys self.old) × IsGot direction ys result }
     {
         if !records.has(r) {
             return Got::Missing { rec: r, word: 0 };
@@ -236,7 +236,7 @@ impl Place {
         requires own { IsPlaceOf records.now self.old × (direction < 128) }
         requires alive { is_over self.old.state ≢ true }
         ensures place { IsSamePlace self.old self.new }
-        ensures got { (ys : List (ℕ × Item)) × (self.new ≡ with_blocks self.old (self.old.blocks ++ ys)) × AreGot direction ys result.items }
+        ensures got { (ys : List (ℕ × Item)) × (self.new ≡ with_more direction ys self.old) × AreGot direction ys result.items }
     {
         let mut got = ArrayVec::new();
         for k in 0..message.blocks.len() {

@@ -1,9 +1,24 @@
-use Rattle.std.proofs.Common.{ℕ, List, sym, ap, subst}
-use Rattle.xh_model.specs.Keyed.{Among}
+use Rattle.std.proofs.Common.{◌≡◌, ℕ, List, sym, ap, subst}
+use Rattle.xh_model.specs.declared.event.Event.{Event}
+use Rattle.xh_model.specs.Keyed.{Among, keys, value_at}
 use Rattle.xh_records.specs.Seats.{Held}
 use Rattle.xh_place.specs.declared.body.Body.{Body}
-use Rattle.xh_place.specs.Places.{IsBlock}
+use Rattle.xh_place.specs.Bodies.{away}
+use Rattle.xh_place.specs.Coming.{accepted_on}
+use Rattle.xh_place.specs.Lots.{HasNow, with_done}
+use Rattle.xh_place.specs.Places.{IsBlock, item_in}
+use Rattle.xh_place.proofs.Coming.{then_came}
 use Rattle.xh_place.proofs.giving.give_all.Goals as goal
 
 pub returns-clause-good : goal.returns-clause-good
 returns-clause-good g c = λ r l a at. subst (λ s. IsBlock s r l) (ap (λ (h : Held Body). h.shape) c.post-put.ensures.same) (c.accept_back-back.ensures.good r l (subst (λ (z : List ℕ). Among z r) (sym c.as_slice.ensures.value) a) at)
+
+pub returns-clause-came : goal.returns-clause-came
+returns-clause-came g c =
+    let seat = c.args.seat.now in let mid = c.post-put.new.seat in let last = c.accept_back-back.new.seat in
+    let rs : List ℕ = keys c.accept_back-back.result.items in
+    let whose : mid.process ≡ seat.process = ap (λ (h : Held Body). h.process) c.post-put.ensures.same in
+    let log : accepted_on mid.process c.post-put.result.1 rs ≡ accepted_on seat.process (away (item_in (value_at c.args.e seat.lots)).content) rs =
+    λ i. accepted_on (whose i) (c.post-put.ensures.direction.0 i) rs in
+    subst (λ (es : List Event). HasNow (with_done es seat) last.lots last) log
+    (then_came seat mid last (accepted_on mid.process c.post-put.result.1 rs) c.post-put.ensures.same c.accept_back-back.ensures.came)

@@ -1,5 +1,5 @@
-use Rattle.std.proofs.Common.{arith, ◌≡◌, ◌≢◌, ℕ, List, sym, ap, ◌∙◌, subst}
-use Rattle.std.specs.Prelude.{Some}
+use Rattle.std.proofs.Common.{arith, ◌≡◌, ◌≢◌, ℕ, ◌+◌, ◌*◌, ◌-◌, List, sym, ap, ◌∙◌, subst}
+use Rattle.std.specs.Prelude.{Option, Some}
 use Rattle.xh_arena.specs.Views.{LotOf}
 use Rattle.xh_model.specs.Keyed.{Among, value_at, put}
 use Rattle.xh_model.proofs.Keyed.{put_at, put_other}
@@ -8,8 +8,8 @@ use Rattle.xh_records.specs.Seats.{Held, IsRecord, with_lots}
 use Rattle.xh_place.specs.Lots.{HasNow, bare}
 use Rattle.xh_place.specs.declared.body.Body.{Body}
 use Rattle.xh_place.specs.declared.body.Body.TheVariants.{Nothing, End}
-use Rattle.xh_place.specs.Bodies.{spot, content_of, fits_in}
-use Rattle.xh_place.specs.Places.{item_of}
+use Rattle.xh_place.specs.Bodies.{away, spot, content_of, fits_in}
+use Rattle.xh_place.specs.Places.{item_in, item_of}
 use Rattle.xh_place.proofs.Gained.{is_end}
 use Rattle.xh_place.proofs.giving.post.Goals as goal
 
@@ -45,6 +45,14 @@ swap_body-requires-2-clause-held g c =
     let out = c.swap_body.ensures q.0 q.1 in let mid = record q.0 { body = Nothing } in
     let at3 : value_at c.args.e c.pass_all.new.seat.lots ≡ Some mid = c.pass_all.ensures.others c.args.e (λ a. c.requires.distinct.1 (subst (λ (l : List ℕ). Among l c.args.e) c.as_slice.ensures.value a)) ∙ ap (λ (h : Held Body). value_at c.args.e h.lots) out.1 ∙ put_at c.args.e mid q.0 lots q.1 in
     (mid, at3, subst (λ s. IsLotOf s c.args.e mid) (sym (ap (λ (h : Held Body). h.shape) c.pass_all.ensures.same ∙ ap (λ (h : Held Body). h.shape) out.1)) q.2.lot, omega arith)
+
+pub returns-clause-direction : goal.returns-clause-direction
+returns-clause-direction g c =
+    let q = c.requires.end in let out = c.swap_body.ensures q.0 q.1 in
+    let was : q.0.body ≡ End c.in-End.end = sym out.0 ∙ c.in-End.is in
+    let content : (item_in (value_at c.args.e c.args.seat.now.lots)).content ≡ spot c.in-End.end.channel c.in-End.end.side =
+    ap (λ (o : Option (LotOf Body)). (item_in o).content) q.1 ∙ ap content_of was in
+    ((λ i. 2 * c.spot-spot.ensures.0 i + 1 - c.spot-spot.ensures.1 i) ∙ sym (ap away content), omega (arith, c.spot-spot.ensures.2, c.spot-spot.ensures.3))
 
 pub returns-clause-same : goal.returns-clause-same
 returns-clause-same g c =

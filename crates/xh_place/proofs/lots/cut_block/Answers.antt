@@ -3,10 +3,11 @@ use Rattle.std.specs.Prelude.{Some, slice_get}
 use Rattle.atomic_table.specs.Seated.{TableId}
 use Rattle.xh_arena.specs.Views.{LotOf}
 use Rattle.xh_records.specs.Seats.{IsRecord}
-use Rattle.xh_place.specs.Lots.{IsCut, bare}
+use Rattle.xh_place.specs.Lots.{IsCut}
 use Rattle.xh_place.specs.declared.body.Body.{Body}
 use Rattle.xh_place.specs.declared.body.Body.TheVariants.{Data}
 use Rattle.xh_place.proofs.Gained.{undone}
+use Rattle.xh_place.proofs.Coming.{claims, vacates}
 use Rattle.xh_place.proofs.Parted.{cutting, lent, is_cut}
 use Rattle.xh_place.proofs.lots.cut_block.Goals as goal
 
@@ -15,7 +16,7 @@ rest_of-requires-clause-held g c =
     let h = c.requires.held in let t = c.in-Ok.ensures.claimed in let r : ℕ = c.args.r in let n : ℕ = c.in-Ok.t in let all = c.args.records.now in let seat = c.args.seat.now in
     let there : IsRecord all.shape r = subst (λ s. IsRecord s r) c.requires.own.1 h.2.exists in
     let exists : IsRecord all.shape n = (subst (λ (z : ℕ). z < length all.shape.names) (sym c.in-Ok.ensures.record.0) there.0, c.in-Ok.ensures.record.1) in
-    let k = cutting all seat c.claim.new.seat r n h.0 t.0 c.requires.own h.1 h.2 exists t.2 c.in-Ok.ensures.fresh (ap bare t.1) in
+    let k = cutting all seat c.claim.new.seat r n h.0 t.0 c.requires.own h.1 h.2 exists t.2 c.in-Ok.ensures.fresh (claims seat c.claim.new.seat _ _ _ t.1) in
     let below : c.args.k < h.0.len = h.4.2 in (h.0, k.head, k.head_lot, h.3, omega arith)
 
 pub vacate-requires-clause-own : goal.vacate-requires-clause-own
@@ -23,7 +24,7 @@ vacate-requires-clause-own g c =
     let h = c.requires.held in let t = c.in-Ok.ensures.claimed in let r : ℕ = c.args.r in let n : ℕ = c.in-Ok.t in let all = c.args.records.now in let seat = c.args.seat.now in
     let there : IsRecord all.shape r = subst (λ s. IsRecord s r) c.requires.own.1 h.2.exists in
     let exists : IsRecord all.shape n = (subst (λ (z : ℕ). z < length all.shape.names) (sym c.in-Ok.ensures.record.0) there.0, c.in-Ok.ensures.record.1) in
-    let k = cutting all seat c.claim.new.seat r n h.0 t.0 c.requires.own h.1 h.2 exists t.2 c.in-Ok.ensures.fresh (ap bare t.1) in
+    let k = cutting all seat c.claim.new.seat r n h.0 t.0 c.requires.own h.1 h.2 exists t.2 c.in-Ok.ensures.fresh (claims seat c.claim.new.seat _ _ _ t.1) in
     let j = lent all seat c.claim.new.seat c.rest_of.new.seat r n h.0 t.0 k (c.rest_of.ensures h.0 k.head).1 in
     j.own
 
@@ -32,7 +33,7 @@ vacate-requires-clause-held g c =
     let h = c.requires.held in let t = c.in-Ok.ensures.claimed in let r : ℕ = c.args.r in let n : ℕ = c.in-Ok.t in let all = c.args.records.now in let seat = c.args.seat.now in
     let there : IsRecord all.shape r = subst (λ s. IsRecord s r) c.requires.own.1 h.2.exists in
     let exists : IsRecord all.shape n = (subst (λ (z : ℕ). z < length all.shape.names) (sym c.in-Ok.ensures.record.0) there.0, c.in-Ok.ensures.record.1) in
-    let k = cutting all seat c.claim.new.seat r n h.0 t.0 c.requires.own h.1 h.2 exists t.2 c.in-Ok.ensures.fresh (ap bare t.1) in
+    let k = cutting all seat c.claim.new.seat r n h.0 t.0 c.requires.own h.1 h.2 exists t.2 c.in-Ok.ensures.fresh (claims seat c.claim.new.seat _ _ _ t.1) in
     let j = lent all seat c.claim.new.seat c.rest_of.new.seat r n h.0 t.0 k (c.rest_of.ensures h.0 k.head).1 in
     (t.0, j.tail, t.3)
 
@@ -41,16 +42,16 @@ returns-in_default-rest_of-clause-refused g c =
     let h = c.requires.held in let t = c.in-Ok.ensures.claimed in let r : ℕ = c.args.r in let n : ℕ = c.in-Ok.t in let all = c.args.records.now in let seat = c.args.seat.now in
     let there : IsRecord all.shape r = subst (λ s. IsRecord s r) c.requires.own.1 h.2.exists in
     let exists : IsRecord all.shape n = (subst (λ (z : ℕ). z < length all.shape.names) (sym c.in-Ok.ensures.record.0) there.0, c.in-Ok.ensures.record.1) in
-    let k = cutting all seat c.claim.new.seat r n h.0 t.0 c.requires.own h.1 h.2 exists t.2 c.in-Ok.ensures.fresh (ap bare t.1) in
+    let k = cutting all seat c.claim.new.seat r n h.0 t.0 c.requires.own h.1 h.2 exists t.2 c.in-Ok.ensures.fresh (claims seat c.claim.new.seat _ _ _ t.1) in
     let j = lent all seat c.claim.new.seat c.rest_of.new.seat r n h.0 t.0 k (c.rest_of.ensures h.0 k.head).1 in
-    (undone seat c.rest_of.new.seat n t.0 j.is c.in-Ok.ensures.fresh c.vacate.new.seat (ap bare c.vacate.ensures.vacated), refl)
+    (undone seat c.rest_of.new.seat n t.0 j.is c.in-Ok.ensures.fresh c.vacate.new.seat (vacates c.rest_of.new.seat c.vacate.new.seat _ _ _ c.vacate.ensures.vacated), refl)
 
 pub part_lots-requires-clause-own : goal.part_lots-requires-clause-own
 part_lots-requires-clause-own g c =
     let h = c.requires.held in let t = c.in-Ok.ensures.claimed in let r : ℕ = c.args.r in let n : ℕ = c.in-Ok.t in let all = c.args.records.now in let seat = c.args.seat.now in
     let there : IsRecord all.shape r = subst (λ s. IsRecord s r) c.requires.own.1 h.2.exists in
     let exists : IsRecord all.shape n = (subst (λ (z : ℕ). z < length all.shape.names) (sym c.in-Ok.ensures.record.0) there.0, c.in-Ok.ensures.record.1) in
-    let k = cutting all seat c.claim.new.seat r n h.0 t.0 c.requires.own h.1 h.2 exists t.2 c.in-Ok.ensures.fresh (ap bare t.1) in
+    let k = cutting all seat c.claim.new.seat r n h.0 t.0 c.requires.own h.1 h.2 exists t.2 c.in-Ok.ensures.fresh (claims seat c.claim.new.seat _ _ _ t.1) in
     let j = lent all seat c.claim.new.seat c.rest_of.new.seat r n h.0 t.0 k (c.rest_of.ensures h.0 k.head).1 in
     (j.own, j.exist.0, j.exist.1, j.apart)
 
@@ -59,7 +60,7 @@ part_lots-requires-clause-held g c =
     let h = c.requires.held in let t = c.in-Ok.ensures.claimed in let r : ℕ = c.args.r in let n : ℕ = c.in-Ok.t in let all = c.args.records.now in let seat = c.args.seat.now in
     let there : IsRecord all.shape r = subst (λ s. IsRecord s r) c.requires.own.1 h.2.exists in
     let exists : IsRecord all.shape n = (subst (λ (z : ℕ). z < length all.shape.names) (sym c.in-Ok.ensures.record.0) there.0, c.in-Ok.ensures.record.1) in
-    let k = cutting all seat c.claim.new.seat r n h.0 t.0 c.requires.own h.1 h.2 exists t.2 c.in-Ok.ensures.fresh (ap bare t.1) in
+    let k = cutting all seat c.claim.new.seat r n h.0 t.0 c.requires.own h.1 h.2 exists t.2 c.in-Ok.ensures.fresh (claims seat c.claim.new.seat _ _ _ t.1) in
     let j = lent all seat c.claim.new.seat c.rest_of.new.seat r n h.0 t.0 k (c.rest_of.ensures h.0 k.head).1 in
     let e : Some t.0.id ≡ Some h.0.id = sym t.2.1 ∙ ap (slice_get seat.shape.names) c.in-Ok.ensures.record.0 ∙ h.2.lot.1 in let ids : t.0.id ≡ h.0.id = cc in
     (h.0, t.0, j.head, j.tail, j.head_lot, j.tail_lot, ap (λ (z : List TableId). slice_get z (r / 256)) c.requires.names ∙ h.2.lot.1, ids, t.3.0, h.4, h.3.1, h.3.0)
@@ -69,7 +70,7 @@ returns-clause-cut g c = λ l at.
     let h = c.requires.held in let t = c.in-Ok.ensures.claimed in let r : ℕ = c.args.r in let n : ℕ = c.in-Ok.t in let all = c.args.records.now in let seat = c.args.seat.now in
     let there : IsRecord all.shape r = subst (λ s. IsRecord s r) c.requires.own.1 h.2.exists in
     let exists : IsRecord all.shape n = (subst (λ (z : ℕ). z < length all.shape.names) (sym c.in-Ok.ensures.record.0) there.0, c.in-Ok.ensures.record.1) in
-    let k = cutting all seat c.claim.new.seat r n h.0 t.0 c.requires.own h.1 h.2 exists t.2 c.in-Ok.ensures.fresh (ap bare t.1) in
+    let k = cutting all seat c.claim.new.seat r n h.0 t.0 c.requires.own h.1 h.2 exists t.2 c.in-Ok.ensures.fresh (claims seat c.claim.new.seat _ _ _ t.1) in
     let j = lent all seat c.claim.new.seat c.rest_of.new.seat r n h.0 t.0 k (c.rest_of.ensures h.0 k.head).1 in
     let p = c.part_lots.ensures.parted h.0 t.0 j.head j.tail in let b : Body = Data c.in-Some.buffer in
     let cut = is_cut all seat c.rest_of.new.seat c.part_lots.new.seat r n c.args.k h.0 t.0 p.0 (record t.0 { len = h.0.len - c.args.k; body = b }) b j c.in-Ok.ensures.fresh h.2 t.2

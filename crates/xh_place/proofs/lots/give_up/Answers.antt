@@ -5,6 +5,7 @@ use Rattle.xh_records.specs.Seats.{Held, with_lots}
 use Rattle.xh_place.specs.Lots.{bare}
 use Rattle.xh_place.specs.declared.body.Body.{Body}
 use Rattle.xh_place.specs.declared.body.Body.TheVariants.{Nothing}
+use Rattle.xh_place.proofs.Coming.{vacates}
 use Rattle.xh_place.proofs.lots.give_up.Goals as goal
 
 pub vacate-requires-clause-held : goal.vacate-requires-clause-held
@@ -20,7 +21,7 @@ vacate-requires-clause-own g c =
 pub returns-clause-seat : goal.returns-clause-seat
 returns-clause-seat g c =
     let h = c.requires.held in let t = (c.empty_lot.ensures.lot h.0 h.1).0 in
-    ap bare c.vacate.ensures.vacated ∙ ap (λ (z : Held Body). with_lots (bare z) (without c.args.r z.lots)) t
+    vacates c.empty_lot.new.seat c.vacate.new.seat _ _ _ c.vacate.ensures.vacated ∙ ap (λ (z : Held Body). with_lots (bare z) (without c.args.r z.lots)) t
     ∙ ap (with_lots (bare c.args.seat.now)) (put_without c.args.r (record h.0 { len = 0; body = Nothing }) c.args.seat.now.lots)
 
 pub returns-clause-tally : goal.returns-clause-tally

@@ -5,18 +5,19 @@ use Rattle.xh_records.specs.Showing.{IsLotOf}
 use Rattle.xh_records.specs.Seats.{Held, with_lots}
 use Rattle.xh_place.specs.declared.body.Body.{Body}
 use Rattle.xh_place.specs.Lots.{bare}
+use Rattle.xh_place.proofs.Coming.{claims, vacates}
 use Rattle.xh_place.proofs.Gained.{has, undone}
 use Rattle.xh_place.proofs.opening.claim_two.Goals as goal
 
 pub vacate-requires-clause-held : goal.vacate-requires-clause-held
 vacate-requires-clause-held g c =
     let t = c.in-Ok.ensures.claimed in let same = c.in_default-claim.ensures.missed in
-    (t.0, ap (λ (h : Held Body). value_at c.in-Ok.r h.lots) same ∙ has c.args.seat.now c.claim.new.seat c.in-Ok.r t.0 (ap bare t.1) c.in-Ok.ensures.fresh, t.3)
+    (t.0, ap (λ (h : Held Body). value_at c.in-Ok.r h.lots) same ∙ has c.args.seat.now c.claim.new.seat c.in-Ok.r t.0 (claims c.args.seat.now c.claim.new.seat _ _ _ t.1) c.in-Ok.ensures.fresh, t.3)
 
 pub returns-in_default-claim : goal.returns-in_default-claim
 returns-in_default-claim g c =
     let t = c.in-Ok.ensures.claimed in let same = c.in_default-claim.ensures.missed in
-    undone c.args.seat.now c.claim.new.seat c.in-Ok.r t.0 (ap bare t.1) c.in-Ok.ensures.fresh c.vacate.new.seat (ap bare c.vacate.ensures.vacated ∙ ap (λ (h : Held Body). with_lots (bare h) (without c.in-Ok.r h.lots)) same)
+    undone c.args.seat.now c.claim.new.seat c.in-Ok.r t.0 (claims c.args.seat.now c.claim.new.seat _ _ _ t.1) c.in-Ok.ensures.fresh c.vacate.new.seat (vacates c.claim-2.new.seat c.vacate.new.seat _ _ _ c.vacate.ensures.vacated ∙ ap (λ (h : Held Body). with_lots (bare h) (without c.in-Ok.r h.lots)) same)
 
 pub returns : goal.returns
 returns g c =
@@ -28,7 +29,7 @@ returns g c =
       u.0,
       record {
         two = record {
-          lots = ap bare u.1 ∙ ap (λ (h : Held Body). with_lots h (h.lots ++ (q, u.0) ∷ [])) (ap bare t.1) ∙ ap (with_lots (bare c.args.seat.now)) (append_assoc lots ((r, t.0) ∷ []) ((q, u.0) ∷ []));
+          lots = claims c.claim.new.seat _ _ _ _ u.1 ∙ ap (λ (h : Held Body). with_lots h (h.lots ++ (q, u.0) ∷ [])) (claims c.args.seat.now c.claim.new.seat _ _ _ t.1) ∙ ap (with_lots (bare c.args.seat.now)) (append_assoc lots ((r, t.0) ∷ []) ((q, u.0) ∷ []));
           first_fresh = c.in-Ok.ensures.fresh;
           second_fresh = λ h. fresh (among_front (keys lots) (r ∷ []) q h);
           apart = λ e. fresh (among_back (keys lots) (r ∷ []) q (inl (sym e)));

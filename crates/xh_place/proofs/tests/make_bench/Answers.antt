@@ -8,6 +8,7 @@ use Rattle.xh_records.proofs.OneVault.{of_one_vault}
 use Rattle.xh_core.specs.declared.status.Status.TheVariants.{Vacant}
 use Rattle.xh_place.specs.declared.body.Body.{Body}
 use Rattle.xh_place.specs.Bodies.{fits_in}
+use Rattle.xh_place.specs.Coming.{accepts}
 use Rattle.xh_place.specs.Places.{PlaceOf}
 use Rattle.xh_place.proofs.Plain.{ids_one, second_of}
 use Rattle.xh_place.proofs.tests.make_bench.Goals as goal
@@ -75,7 +76,7 @@ start-requires-clause-own c =
     let first = seats.1 0 c.remove.result (slice_get_read items (length items) 0 c.remove.result refl (omega (arith, seats.0)) c.remove.ensures.value) in
     let one : c.push_back.new.self ≡ c.in-Ok.vault.id ∷ [] = search rules in
     let shape : c.remove.result.shape ≡ record { records = c.args.count; places = 2; names = c.push_back.new.self } = first.0.1 ∙ c.in-Ok-new.ensures.shape in
-    let place : c.in_ok-first.first ≡ record { table = c.remove.result.table; shape = c.remove.result.shape; process = c.remove.result.process; blocks = []; state = Vacant } = search rules in
+    let place : c.in_ok-first.first ≡ record { table = c.remove.result.table; shape = c.remove.result.shape; process = c.remove.result.process; blocks = []; state = Vacant; came = accepts c.remove.result.done } = search rules in
     (ap (λ (p : PlaceOf). p.table) place ∙ first.0.0, ap (λ (p : PlaceOf). p.shape) place ∙ first.0.1)
 
 pub invariant_of-result : goal.invariant_of-result
@@ -88,8 +89,8 @@ invariant_of-result c =
     let next = slice_get_read c.remove.new.self.items (length c.remove.new.self.items) 0 c.remove-2.result refl (omega (arith, ap length left, length-drop 1 items, seats.0)) c.remove-2.ensures.value in
     let second = seats.1 1 c.remove-2.result (second_of items c.remove-2.result (subst (λ (xs : List (Held Body)). slice_get xs 0 ≡ Some c.remove-2.result) left next)) in
     let shape2 : c.remove-2.result.shape ≡ record { records = c.args.count; places = 2; names = c.push_back.new.self } = second.0.1 ∙ c.in-Ok-new.ensures.shape in
-    let place : c.in_ok-first.first ≡ record { table = c.remove.result.table; shape = c.remove.result.shape; process = c.remove.result.process; blocks = []; state = Vacant } = search rules in
-    let place2 : c.in_ok-second.second ≡ record { table = c.remove-2.result.table; shape = c.remove-2.result.shape; process = c.remove-2.result.process; blocks = []; state = Vacant } = search rules in
+    let place : c.in_ok-first.first ≡ record { table = c.remove.result.table; shape = c.remove.result.shape; process = c.remove.result.process; blocks = []; state = Vacant; came = accepts c.remove.result.done } = search rules in
+    let place2 : c.in_ok-second.second ≡ record { table = c.remove-2.result.table; shape = c.remove-2.result.shape; process = c.remove-2.result.process; blocks = []; state = Vacant; came = accepts c.remove-2.result.done } = search rules in
     let names : c.in-Ok-new.records.shape.names ≡ c.in-Ok.vault.id ∷ [] = ap (λ (s : Shape). s.names) c.in-Ok-new.ensures.shape ∙ one in
     record {
       own = (

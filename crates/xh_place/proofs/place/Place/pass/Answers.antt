@@ -3,8 +3,8 @@ use Rattle.std.specs.Prelude.{Some, None}
 use Rattle.std.specs.Vec.{vec_capacity}
 use Rattle.xh_model.specs.Keyed.{value_at}
 use Rattle.xh_records.specs.Seats.{IsRecord}
-use Rattle.xh_place.specs.Lots.{bare}
 use Rattle.xh_place.specs.Places.{header_of}
+use Rattle.xh_place.proofs.Coming.{passes}
 use Rattle.xh_place.proofs.Steps.{listed, lot_of, enough, lost}
 use Rattle.xh_place.proofs.place.Place.pass.Goals as goal
 
@@ -50,7 +50,7 @@ invariant_of-self c =
     let t = lot_of seat xs room total state is c.args.r c.in-Some.field-0 here in
     let same = ap (λ p. p.shape) c.self.view_is ∙ c.requires.own.0.1 in
     let len : c.from.result ≡ c.in-Some.field-0.len = c.from.ensures in
-    let both = lost seat xs room total state is c.pass.new.seat c.args.r c.in-Some.field-0 c.remove.new.list.items (vec_capacity c.remove.new.list) c.from.result here (ap bare c.pass.ensures.passed) c.remove.ensures.items c.remove.ensures.room len in
+    let both = lost seat xs room total state is c.pass.new.seat c.args.r c.in-Some.field-0 c.remove.new.list.items (vec_capacity c.remove.new.list) c.from.result here (passes seat c.pass.new.seat _ _ _ _ c.pass.ensures.passed) c.remove.ensures.items c.remove.ensures.room len in
     both.0
 
 pub returns : goal.returns
@@ -61,5 +61,5 @@ returns c =
     let t = lot_of seat xs room total state is c.args.r c.in-Some.field-0 here in
     let same = ap (λ p. p.shape) c.self.view_is ∙ c.requires.own.0.1 in
     let len : c.from.result ≡ c.in-Some.field-0.len = c.from.ensures in
-    let both = lost seat xs room total state is c.pass.new.seat c.args.r c.in-Some.field-0 c.remove.new.list.items (vec_capacity c.remove.new.list) c.from.result here (ap bare c.pass.ensures.passed) c.remove.ensures.items c.remove.ensures.room len in
+    let both = lost seat xs room total state is c.pass.new.seat c.args.r c.in-Some.field-0 c.remove.new.list.items (vec_capacity c.remove.new.list) c.from.result here (passes seat c.pass.new.seat _ _ _ _ c.pass.ensures.passed) c.remove.ensures.items c.remove.ensures.room len in
     both.1 c.args.self.now c.self.view_is

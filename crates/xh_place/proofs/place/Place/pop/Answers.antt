@@ -5,7 +5,8 @@ use Rattle.xh_records.specs.Showing.{IsLotOf}
 use Rattle.xh_records.specs.Seats.{Held, IsRecord}
 use Rattle.xh_channel.specs.Queues.{Posted}
 use Rattle.xh_place.proofs.Out.{end_of_block, hollow, hollow_at, put_back, same_end}
-use Rattle.xh_place.specs.Ends.{toward, toward_in}
+use Rattle.xh_place.specs.Bodies.{toward}
+use Rattle.xh_place.specs.Ends.{toward_in}
 use Rattle.xh_place.proofs.Untaken.{never}
 use Rattle.xh_place.proofs.place.Place.pop.Goals as goal
 

@@ -1,15 +1,19 @@
-use Rattle.std.proofs.Common.{arith, ℕ, ◌+◌, ◌<◌, length, ◌∙◌}
+use Rattle.std.proofs.Common.{arith, ℕ, ◌+◌, ◌<◌, length, refl, ap, ◌∙◌}
 use Rattle.xh_place.specs.Ending.{IsSweptBy}
-use Rattle.xh_place.proofs.Swept.{gave_more, started, swept_more, twice_own}
+use Rattle.xh_place.specs.Places.{PlaceOf}
+use Rattle.xh_place.proofs.Swept.{gave_more, gave_nothing, started, swept_more, swept_none, twice_own}
 use Rattle.xh_place.proofs.place.Place.sweep.Goals as goal
+
+pub loop-used-init : goal.loop-used-init
+loop-used-init g c = (omega arith, omega arith, refl, swept_none c.args.from c.args.self.now, (λ h. refl), refl, refl, refl, gave_nothing c.args.tallies.now)
 
 pub loop-used-preserved : goal.loop-used-preserved
 loop-used-preserved g c =
     let i = c.loop-used.invariant in let old = c.args.self.now in let mid = c.loop-used.self in let new = c.reclaim-more.new.self in let used : ℕ = c.loop-used.used in let from : ℕ = c.args.from in
     let some : from < length mid.blocks = omega arith in
     let inside : from < length old.blocks = started from old.blocks mid.blocks some i.4 in
-    let by : IsSweptBy from (used + c.reclaim-more.result.1) old.blocks new.blocks (c.loop-used.bytes + c.reclaim-more.result.0) =
-    swept_more from used c.reclaim-more.result.1 c.loop-used.bytes c.reclaim-more.result.0 old.blocks mid.blocks new.blocks (omega (arith, inside)) i.3 c.reclaim-more.ensures.swept in (
+    let by : IsSweptBy from (used + c.reclaim-more.result.1) old new (c.loop-used.bytes + c.reclaim-more.result.0) =
+    swept_more from used c.reclaim-more.result.1 c.loop-used.bytes c.reclaim-more.result.0 old mid new (omega (arith, inside)) (ap (λ (p : PlaceOf). p.process) i.2) i.3 c.reclaim-more.ensures.swept in (
       omega arith,
       omega (arith, i.1, c.reclaim-more.ensures.count.2),
       twice_own old mid new i.2 c.reclaim-more.ensures.list,

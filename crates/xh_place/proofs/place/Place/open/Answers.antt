@@ -10,7 +10,7 @@ use Rattle.xh_place.specs.Tallies.{ids_of, took}
 use Rattle.xh_place.proofs.Counted.{ids_at, ids_long, ids_took, took_set}
 use Rattle.xh_place.proofs.Opened.{both_listed, opened, room_first, room_second}
 use Rattle.xh_place.proofs.Steps.{kept, over_running, total_bound}
-use Rattle.xh_place.proofs.place.Place.open_pair.Goals as goal
+use Rattle.xh_place.proofs.place.Place.open.Goals as goal
 
 pub bounds-tallies-from : goal.bounds-tallies-from
 bounds-tallies-from g c =
