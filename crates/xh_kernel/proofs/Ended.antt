@@ -9,7 +9,7 @@ use Rattle.xh_core.specs.declared.status.Status.TheVariants.{Vacant}
 use Rattle.xh_core.specs.Refusing.{Tests, first_refusal}
 use Rattle.xh_place.specs.Ending.{HasGivenBack, IsClosed, IsStopped}
 use Rattle.xh_place.specs.Ends.{RefusedOr, is_here, IsTooLate}
-use Rattle.xh_place.specs.Places.{Item, PlaceOf, with_blocks}
+use Rattle.xh_place.specs.Places.{Item, PlaceOf, with_more}
 use Rattle.xh_kernel.specs.Accounts.{AccountOf}
 use Rattle.xh_kernel.specs.Reclaims.{HasBack, HasReclaimed}
 use Rattle.xh_kernel.proofs.Reclaims.{none_back, reclaims, refused_reclaims}
@@ -38,21 +38,29 @@ module _ (number : ℕ) (kept from to : List TallyOf) (before : AccountOf) (is :
     unmoved : (refused : Refused) → result ≡ Err refused → to ≡ from → HasReclaimed before after result
     unmoved refused e same = subst (HasReclaimed before after) (sym e) (refused_reclaims before after refused (stays same))
 
-    pub closed : (e : ℕ) (tests : Tests) → RefusedOr tests result ((new ≡ old) × (to ≡ from)) ((bytes : ℕ) × IsClosed e old new bytes result × HasGivenBack bytes from to) → HasReclaimed before after result
+    pub closed : (e : ℕ) (tests : Tests)
+        → RefusedOr tests result ((new ≡ old) × (to ≡ from)) ((bytes : ℕ) × IsClosed e old new bytes result × HasGivenBack bytes from to)
+        → HasReclaimed before after result
     closed e tests h = go (first_refusal tests) h where
-      go : (o : Option Refused) → MatchOption o ((bytes : ℕ) × IsClosed e old new bytes result × HasGivenBack bytes from to) (λ refused. (result ≡ Err refused) × ((new ≡ old) × (to ≡ from))) → HasReclaimed before after result
+      go : (o : Option Refused)
+          → MatchOption o ((bytes : ℕ) × IsClosed e old new bytes result × HasGivenBack bytes from to) (λ refused. (result ≡ Err refused) × ((new ≡ old) × (to ≡ from)))
+          → HasReclaimed before after result
       go None d = reclaims before after d.0 d.1.0 result d.1.3 (back d.0 d.2)
       go (Some refused) d = unmoved refused d.0 d.1.1
 
-    pub stopped : (budget : ℕ) (tests : Tests) → RefusedOr tests result ((new ≡ old) × (to ≡ from)) ((bytes : ℕ) × IsStopped budget old new bytes result × HasGivenBack bytes from to) → HasReclaimed before after result
+    pub stopped : (budget : ℕ) (tests : Tests)
+        → RefusedOr tests result ((new ≡ old) × (to ≡ from)) ((bytes : ℕ) × IsStopped budget old new bytes result × HasGivenBack bytes from to)
+        → HasReclaimed before after result
     stopped budget tests h = go (first_refusal tests) h where
-      go : (o : Option Refused) → MatchOption o ((bytes : ℕ) × IsStopped budget old new bytes result × HasGivenBack bytes from to) (λ refused. (result ≡ Err refused) × ((new ≡ old) × (to ≡ from))) → HasReclaimed before after result
+      go : (o : Option Refused)
+          → MatchOption o ((bytes : ℕ) × IsStopped budget old new bytes result × HasGivenBack bytes from to) (λ refused. (result ≡ Err refused) × ((new ≡ old) × (to ≡ from)))
+          → HasReclaimed before after result
       go None d = reclaims before after d.0 (length new.blocks) result d.1.2 (back d.0 d.2)
       go (Some refused) d = unmoved refused d.0 d.1.1
 
-  pub received : (old new : PlaceOf) (q r : ℕ) (result : Result Block Refused)
-      → IfOk result (λ b. (is_here old q ≡ true) × (b.rec ≡ r) × ((x : Item) × (x.len ≡ b.len) × (new ≡ with_blocks old (old.blocks ++ (r, x) ∷ []))) × (to ≡ from))
-      → IfErr result (λ e. (e ≡ Ended) × (((new ≡ old) × (to ≡ from)) ⊎ ((is_here old q ≡ false) × (old.state ≢ Vacant) × ((bytes : ℕ) × IsTooLate r old new bytes × HasGivenBack bytes from to))))
+  pub received : (old new : PlaceOf) (q d r : ℕ) (result : Result Block Refused)
+      → IfOk result (λ b. (is_here old q ≡ true) × (b.rec ≡ r) × ((x : Item) × (x.len ≡ b.len) × (new ≡ with_more d ((r, x) ∷ []) old)) × (to ≡ from))
+      → IfErr result (λ e. (e ≡ Ended) × (((new ≡ old) × (to ≡ from)) ⊎ ((is_here old q ≡ false) × (old.state ≢ Vacant) × ((bytes : ℕ) × IsTooLate d r old new bytes × HasGivenBack bytes from to))))
       → MatchResult result (λ _. after ≡ before) (λ _. (bytes : ℕ) × HasBack bytes before after)
-  received old new q r (Ok b) h a = stays h.3
-  received old new q r (Err e) h a = ⊎_elim (λ s. (0, none_back before after (stays s.1))) (λ m. (m.2.0, back m.2.0 m.2.2)) a.1
+  received old new q d r (Ok b) h a = stays h.3
+  received old new q d r (Err e) h a = ⊎_elim (λ s. (0, none_back before after (stays s.1))) (λ m. (m.2.0, back m.2.0 m.2.2)) a.1

@@ -10,7 +10,11 @@ use Rattle.xh_kernel.specs.Reclaims.{HasBack, HasReclaimed}
 pub none_back : (old new : AccountOf) → new ≡ old → HasBack 0 old new
 none_back old new e = (
   e ∙ sym (ap (λ (a : AccountOf). record old { tallies = a.tallies }) e),
-  (let same : back_of new.tallies ≡ back_of old.tallies = ap (λ (a : AccountOf). back_of a.tallies) e in let sum : back_of new.tallies ≡ back_of old.tallies + 0 = omega (arith, same) in sum, ap (λ (a : AccountOf). but_back a.tallies) e),
+  (
+    let same : back_of new.tallies ≡ back_of old.tallies = ap (λ (a : AccountOf). back_of a.tallies) e in
+        let sum : back_of new.tallies ≡ back_of old.tallies + 0 = omega (arith, same) in sum,
+    ap (λ (a : AccountOf). but_back a.tallies) e,
+  ),
 )
 
 pub both_back : (m n : ℕ) (first second third : AccountOf) → HasBack m first second → HasBack n second third → HasBack (m + n) first third

@@ -1,5 +1,5 @@
 -- What a wire says of its two looks, and of what followed.
-use Rattle.std.proofs.Common.{◌≡◌, ℕ, ◌++◌, ◌∷◌, [], Bool, true, inl, inr, sym, ◌∙◌, subst}
+use Rattle.std.proofs.Common.{◌≡◌, ℕ, ◌∷◌, [], ◌++◌, Bool, true, inl, inr, sym, ◌∙◌, subst}
 use Rattle.std.specs.Prelude.{Option, Some, None, Result, Ok, Err, IfOk, MatchOption, MatchResult}
 use Rattle.xh_core.proofs.Firsts.{first_later}
 use Rattle.xh_core.specs.declared.block.Block.{Block}
@@ -7,7 +7,7 @@ use Rattle.xh_core.specs.declared.refused.Refused.{Refused}
 use Rattle.xh_core.specs.declared.refused.Refused.TheVariants.{Ended}
 use Rattle.xh_core.specs.Refusing.{Tests, first_refusal}
 use Rattle.xh_place.specs.Ends.{is_here}
-use Rattle.xh_place.specs.Places.{IsPlaceOf, Item, PlaceOf, with_blocks}
+use Rattle.xh_place.specs.Places.{IsPlaceOf, Item, PlaceOf, with_more}
 use Rattle.xh_kernel.specs.Accounts.{AccountOf}
 use Rattle.xh_kernel.specs.Channels.{Opens, Receives, Wires}
 use Rattle.xh_kernel.specs.Parts.{PartsOf}
@@ -34,8 +34,8 @@ wired parts p q arena ruled low high before after (Ok ends) o a h = (
 wired parts p q arena ruled low high before after (Err e) o a h = inl a.0
 
 -- a place that accepted a block received it
-pub receives : (parts : PartsOf) (q r : ℕ) (old new : PlaceOf) (result : Result Block Refused) → IsPlaceOf parts.records old
-    → IfOk result (λ _. (is_here old q ≡ true) × ((x : Item) × (new ≡ with_blocks old (old.blocks ++ (r, x) ∷ []))))
+pub receives : (parts : PartsOf) (q d r : ℕ) (old new : PlaceOf) (result : Result Block Refused) → IsPlaceOf parts.records old
+    → IfOk result (λ _. (is_here old q ≡ true) × ((x : Item) × (new ≡ with_more d ((r, x) ∷ []) old)))
     → IfOk result (λ _. Receives parts q r)
-receives parts q r old new (Ok block) own here = (old, new, own, here.0, here.1)
-receives parts q r old new (Err refused) own here = tt
+receives parts q d r old new (Ok block) own here = (old, new, own, here.0, (d, here.1.0, here.1.1))
+receives parts q d r old new (Err refused) own here = tt

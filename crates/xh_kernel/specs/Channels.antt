@@ -9,7 +9,7 @@ use Rattle.xh_core.specs.Refusing.{first_refusal}
 use Rattle.xh_model.specs.Arena.{HasNoSpace, IsWorn}
 use Rattle.xh_model.specs.declared.limits.TheConstants.{END_BYTES}
 use Rattle.xh_place.specs.Ends.{end_block, is_here, IsEndIn, open_tests}
-use Rattle.xh_place.specs.Places.{IsPlaceOf, Item, PlaceOf, with_blocks}
+use Rattle.xh_place.specs.Places.{IsPlaceOf, Item, PlaceOf, with_blocks, with_more}
 use Rattle.xh_kernel.specs.Calls.{IsOfSome}
 use Rattle.xh_kernel.specs.Parts.{PartsOf}
 use Rattle.xh_kernel.specs.Places.{start}
@@ -26,17 +26,18 @@ IsNoChannel parts a _ = ⊥
 
 -- both ends of a new channel, ruled by a contract or not, side 0 first, each of 32 bytes of the arena, are the last blocks of the list
 pub record Opens (parts : PartsOf) (p arena : ℕ) (ruled : Bool) (old new : PlaceOf) (result : Result (Block × Block) Refused) : Type 0 where
-  pub opened : IfOk result (λ ends. (low : Posted) × (high : Posted) × IsPair low high × (low.has_contract ≡ ruled) × (new ≡ with_blocks old (old.blocks ++ (ends.0.rec, end_block low) ∷ (ends.1.rec, end_block high) ∷ [])))
+  pub opened : IfOk result (λ ends. (low : Posted) × (high : Posted) × IsPair low high × (low.has_contract ≡ ruled)
+      × (new ≡ with_blocks old (old.blocks ++ (ends.0.rec, end_block low) ∷ (ends.1.rec, end_block high) ∷ [])))
   pub blocks : IfOk result (λ ends. IsEndIn arena ends.0 × IsEndIn arena ends.1)
   pub refused : OnErr result (new ≡ old)
   pub why : MatchOption (first_refusal (start p old ++ open_tests old.state arena (length parts.records.shape.names))) (IfErr result (IsNoChannel parts arena)) (λ refused. result ≡ Err refused)
 
 -- ---- wire
 
--- a block came to the end of the list of the process
+-- a block came, on some direction, to the end of the list of the process
 abbrev pub Receives : PartsOf → ℕ → ℕ → Type 0
 Receives parts q r = (old : PlaceOf) × (new : PlaceOf) × IsPlaceOf parts.records old × (is_here old q ≡ true)
-    × ((x : Item) × (new ≡ with_blocks old (old.blocks ++ (r, x) ∷ [])))
+    × ((d : ℕ) × (x : Item) × (new ≡ with_more d ((r, x) ∷ []) old))
 
 -- p opened a channel, of which side 1 went to q; or p could not, or q had ended
 abbrev pub Wires : PartsOf → ℕ → ℕ → ℕ → Bool → Result (Block × Block) Refused → Type 0

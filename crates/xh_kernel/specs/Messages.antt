@@ -3,14 +3,14 @@ use Rattle.std.specs.Prelude.{◌≡◌, ℕ, List, ◌++◌, Result, MatchResul
 use Rattle.xh_core.specs.declared.refused.Refused.{Refused}
 use Rattle.xh_model.specs.Keyed.{value_at}
 use Rattle.xh_place.specs.declared.got.Taken.{Taken}
-use Rattle.xh_place.specs.Ends.{RefusedOr, end_tests, toward_in}
+use Rattle.xh_place.specs.Ends.{RefusedOr, away_in, end_tests, toward_in}
 use Rattle.xh_place.specs.Messages.{give_tests, IsSent, IsTaken, IsUntaken}
 use Rattle.xh_place.specs.Places.{PlaceOf}
 use Rattle.xh_kernel.specs.Places.{start}
 
--- the blocks left the list, or those that came back are in their old places
+-- the blocks left the list, or those that came back, from the direction that they were given on, are in their old places
 abbrev pub Gives : ℕ → ℕ → List ℕ → PlaceOf → PlaceOf → Result ℕ Refused → Type 0
-Gives p e given old new result = RefusedOr (start p old ++ give_tests old e given) result (new ≡ old) (IsSent given old new result)
+Gives p e given old new result = RefusedOr (start p old ++ give_tests old e given) result (new ≡ old) (IsSent (away_in (value_at e old.blocks)) given old new result)
 
 -- the blocks of the message are the last of the list, or none was taken
 abbrev pub Takes : ℕ → ℕ → PlaceOf → PlaceOf → Result Taken Refused → Type 0

@@ -1,6 +1,7 @@
 //! Worked examples by calls of a kernel, by one worker.
 ghost use Rattle.std.specs.Prelude.{◌≡◌};
 
+mod answers;
 mod bench;
 mod blocks;
 mod contracts;
@@ -12,41 +13,23 @@ mod waiting;
 mod wiring;
 
 use crate::{Kernel, Names, Parts};
-use bench::{Bench, benched};
+use answers::{Answer, Call, assert_answers};
+use bench::benched;
 use std::alloc::Global;
 use std::marker::Brand;
 use std::process::Abort;
 use std::sync::Wait;
 use std::test::Fail;
-use xh_core::{Config, Refused};
+use xh_core::{Block, Config, Refused};
+use xh_place::Got;
 
-/// A test over a kernel.
+/// A test over a kernel: calls and what they answer, or one that takes the kernel apart or makes each process.
 #[derive(Clone, Copy)]
-enum Case {
-    SizesAndFullArena,
-    LowestAddressFirst,
-    RecordsAndArenasRunOut,
-    PlaceCalls,
-    Glances,
-    FirstGlance,
+enum Case<'a> {
+    Answers(&'a [(Call<'a>, Answer)]),
     Settling,
-    GiveTakeAndWrite,
-    InFlight,
-    RefusalsOfGive,
-    FullDirection,
-    SplitAndGiveTheTail,
-    ContractRefusals,
-    TwoContracts,
-    KillReclaimsNestedEndpoints,
-    ExitLeavesSentMessages,
-    ExitsAndKills,
-    UnfinishedKill,
-    EndpointInFlightToItself,
-    CloseReclaimsMessages,
-    DirectionUntilShut,
-    PlaceUsedAgain,
-    PlacesByGeneration,
     SettlingWithoutProcesses,
+    PlacesByGeneration,
 }
 
 /// A configuration of arenas of so many bytes and records.
@@ -85,35 +68,17 @@ fn over<N: Names, R: Wait + Abort>(
         panic!(rt; "no worker");
     };
     match case {
-        Case::SizesAndFullArena => blocks::sizes_and_full_arena(rt, alloc, &mut bench),
-        Case::LowestAddressFirst => blocks::lowest_address_first(rt, alloc, &mut bench),
-        Case::RecordsAndArenasRunOut => blocks::records_and_arenas_run_out(rt, alloc, &mut bench),
-        Case::PlaceCalls => blocks::place_calls(rt, alloc, &mut bench),
-        Case::Glances => places::glances(rt, alloc, &mut bench),
-        Case::FirstGlance => places::first_glance(rt, alloc, &mut bench),
-        Case::Settling => places::settling(rt, alloc, bench),
-        Case::GiveTakeAndWrite => messages::give_take_and_write(rt, alloc, &mut bench),
-        Case::InFlight => messages::in_flight(rt, alloc, &mut bench),
-        Case::RefusalsOfGive => messages::refusals_of_give(rt, alloc, &mut bench),
-        Case::FullDirection => messages::full_direction(rt, alloc, &mut bench),
-        Case::SplitAndGiveTheTail => messages::split_and_give_the_tail(rt, alloc, &mut bench),
-        Case::ContractRefusals => contracts::contract_refusals(rt, &mut bench),
-        Case::TwoContracts => contracts::two_contracts(rt, &mut bench),
-        Case::KillReclaimsNestedEndpoints => endings::kill_reclaims_nested_endpoints(
-            rt, alloc, &mut bench,
-        ),
-        Case::ExitLeavesSentMessages => endings::exit_leaves_sent_messages(rt, alloc, &mut bench),
-        Case::ExitsAndKills => endings::exits_and_kills(rt, alloc, &mut bench),
-        Case::UnfinishedKill => endings::unfinished_kill(rt, alloc, &mut bench),
-        Case::EndpointInFlightToItself => endings::endpoint_in_flight_to_itself(
-            rt, alloc, &mut bench,
-        ),
-        Case::CloseReclaimsMessages => endings::close_reclaims_messages(rt, alloc, &mut bench),
-        Case::DirectionUntilShut => messages::direction_until_shut(rt, &mut bench),
-        Case::PlaceUsedAgain => places::place_used_again(rt, alloc, &mut bench),
-        Case::PlacesByGeneration => places::places_by_generation(rt, &mut bench),
-        Case::SettlingWithoutProcesses => places::settling_without_processes(rt, alloc, bench),
+        Case::Answers(calls) => assert_answers(rt, alloc, &mut bench, calls),
+        Case::Settling => places::settling(rt, alloc, bench)?,
+        Case::SettlingWithoutProcesses => places::settling_without_processes(rt, alloc, bench)?,
+        Case::PlacesByGeneration => places::places_by_generation(rt, &mut bench)?,
     }
+    Ok(())
+}
+
+/// A block that a message brought.
+fn here(rec: u16, len: u32) -> Option<Got> {
+    Some(Got::Here(Block { rec, len }))
 }
 
 /// The case, over a new kernel of one worker.
@@ -127,40 +92,14 @@ fn with_kernel<R: Wait + Abort>(
     over::<Brand, R>(rt, alloc, parts, case)
 }
 
-#[test]
-fn sizes_and_full_arena(rt: HostRuntime) -> Result<(), Fail> {
-    let config = arenas_of(1, 64, 8);
-    with_kernel(&rt, rt.alloc(), config, Case::SizesAndFullArena)
-}
-
-#[test]
-fn lowest_address_first(rt: HostRuntime) -> Result<(), Fail> {
-    let config = arenas_of(1, 128, 8);
-    with_kernel(&rt, rt.alloc(), config, Case::LowestAddressFirst)
-}
-
-#[test]
-fn records_and_arenas_run_out(rt: HostRuntime) -> Result<(), Fail> {
-    let config = arenas_of(2, 64, 2);
-    with_kernel(&rt, rt.alloc(), config, Case::RecordsAndArenasRunOut)
-}
-
-#[test]
-fn place_calls(rt: HostRuntime) -> Result<(), Fail> {
-    let config = arenas_of(1, 256, 8);
-    with_kernel(&rt, rt.alloc(), config, Case::PlaceCalls)
-}
-
-#[test]
-fn glances(rt: HostRuntime) -> Result<(), Fail> {
-    let config = arenas_of(1, 256, 8);
-    with_kernel(&rt, rt.alloc(), config, Case::Glances)
-}
-
-#[test]
-fn first_glance(rt: HostRuntime) -> Result<(), Fail> {
-    let config = arenas_of(1, 256, 8);
-    with_kernel(&rt, rt.alloc(), config, Case::FirstGlance)
+/// Each call on a new kernel, and what it answers.
+fn assert_on<R: Wait + Abort>(
+    rt: &R,
+    alloc: Global,
+    config: Config,
+    calls: &[(Call, Answer)],
+) -> Result<(), Fail> {
+    with_kernel(rt, alloc, config, Case::Answers(calls))
 }
 
 #[test]
@@ -171,106 +110,19 @@ fn settling(rt: HostRuntime) -> Result<(), Fail> {
 
 /// Limits on both sides of each.
 #[test]
-fn limits_of_parts(rt: HostRuntime) -> Result<(), Fail> {
-    let alloc = rt.alloc();
-    let good = arenas_of(1, 16, 1);
-    assert!(rt; Parts::new(alloc, good, 1).is_ok());
-    assert!(rt; Parts::new(alloc, good, 33).is_ok());
-    assert!(rt; matches!(Parts::new(alloc, good, 0), Err(Refused::BadSize)));
-    assert!(rt; matches!(Parts::new(alloc, good, 34), Err(Refused::BadSize)));
-    let none = arenas_of(0, 16, 1);
-    assert!(rt; matches!(Parts::new(alloc, none, 1), Err(Refused::BadSize)));
-    Ok(())
-}
-
-#[test]
-fn give_take_and_write(rt: HostRuntime) -> Result<(), Fail> {
-    let config = waiting_of(256, 4);
-    with_kernel(&rt, rt.alloc(), config, Case::GiveTakeAndWrite)
-}
-
-#[test]
-fn in_flight(rt: HostRuntime) -> Result<(), Fail> {
-    let config = waiting_of(256, 4);
-    with_kernel(&rt, rt.alloc(), config, Case::InFlight)
-}
-
-#[test]
-fn refusals_of_give(rt: HostRuntime) -> Result<(), Fail> {
-    let config = waiting_of(256, 4);
-    with_kernel(&rt, rt.alloc(), config, Case::RefusalsOfGive)
-}
-
-#[test]
-fn full_direction(rt: HostRuntime) -> Result<(), Fail> {
-    let config = waiting_of(256, 1);
-    with_kernel(&rt, rt.alloc(), config, Case::FullDirection)
-}
-
-#[test]
-fn split_and_give_the_tail(rt: HostRuntime) -> Result<(), Fail> {
-    let config = waiting_of(256, 4);
-    with_kernel(&rt, rt.alloc(), config, Case::SplitAndGiveTheTail)
-}
-
-#[test]
-fn contract_refusals(rt: HostRuntime) -> Result<(), Fail> {
-    let config = waiting_of(256, 4);
-    with_kernel(&rt, rt.alloc(), config, Case::ContractRefusals)
-}
-
-#[test]
-fn two_contracts(rt: HostRuntime) -> Result<(), Fail> {
-    let config = waiting_of(256, 4);
-    with_kernel(&rt, rt.alloc(), config, Case::TwoContracts)
-}
-
-#[test]
-fn kill_reclaims_nested_endpoints(rt: HostRuntime) -> Result<(), Fail> {
-    let config = waiting_of(256, 4);
-    with_kernel(&rt, rt.alloc(), config, Case::KillReclaimsNestedEndpoints)
-}
-
-#[test]
-fn exit_leaves_sent_messages(rt: HostRuntime) -> Result<(), Fail> {
-    let config = waiting_of(256, 4);
-    with_kernel(&rt, rt.alloc(), config, Case::ExitLeavesSentMessages)
-}
-
-#[test]
-fn exits_and_kills(rt: HostRuntime) -> Result<(), Fail> {
-    let config = waiting_of(256, 4);
-    with_kernel(&rt, rt.alloc(), config, Case::ExitsAndKills)
-}
-
-#[test]
-fn unfinished_kill(rt: HostRuntime) -> Result<(), Fail> {
-    let config = waiting_of(256, 4);
-    with_kernel(&rt, rt.alloc(), config, Case::UnfinishedKill)
-}
-
-#[test]
-fn endpoint_in_flight_to_itself(rt: HostRuntime) -> Result<(), Fail> {
-    let config = waiting_of(256, 4);
-    with_kernel(&rt, rt.alloc(), config, Case::EndpointInFlightToItself)
-}
-
-#[test]
-fn close_reclaims_messages(rt: HostRuntime) -> Result<(), Fail> {
-    let config = waiting_of(256, 4);
-    with_kernel(&rt, rt.alloc(), config, Case::CloseReclaimsMessages)
-}
-
-#[test]
-fn direction_until_shut(rt: HostRuntime) -> Result<(), Fail> {
-    let config = waiting_of(64, 2);
-    with_kernel(&rt, rt.alloc(), config, Case::DirectionUntilShut)
-}
-
-#[test]
-fn place_used_again(rt: HostRuntime) -> Result<(), Fail> {
-    let config = arenas_of(1, 256, 8);
-    with_kernel(&rt, rt.alloc(), config, Case::PlaceUsedAgain)
+fn limits_of_parts(rt: HostRuntime) {
+    let (good, bad) = (arenas_of(1, 16, 1), arenas_of(0, 16, 1));
+    for workers in [1, 33] {
+        assert!(rt; Parts::new(rt.alloc(), good, workers).is_ok());
+    }
+    for (config, workers) in [(good, 0), (good, 34), (bad, 1)] {
+        assert!(rt;
+            matches!(
+                Parts::new(rt.alloc(), config, workers),
+                Err(Refused::BadSize)
+            )
+        );
+    }
 }
 
 #[test]

@@ -82,9 +82,7 @@ impl<N: Names> Held<N> {
         ensures { Writes p r at bytes.now self.old.place self.new.place result }
     {
         self.start(p)?;
-        let answer = self.place.write(&shared.records, r, at, bytes);
-        self.teller.tell(&shared.glances, &self.place);
-        answer
+        self.place.write(&shared.records, r, at, bytes)
     }
 
     pub(crate) fn free<R: Wait, G: Gate>(

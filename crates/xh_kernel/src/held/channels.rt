@@ -1,15 +1,13 @@
 //! Channels of a process, with the lock of its place in hand.
-ghost use Rattle.std.specs.Prelude.{◌≡◌, ℕ, ◌*◌, [], ◌∷◌, ◌++◌, length, IfErr, IfOk, Ok, Err, MatchResult, is_some, true, false};
+ghost use Rattle.std.specs.Prelude.{◌≡◌, ℕ, ◌+◌, ◌*◌, [], ◌∷◌, ◌++◌, length, IfErr, IfOk, Ok, Err, MatchResult, is_some, true, false};
 ghost use Rattle.xh_channel.specs.Pairs.{IsPair};
 ghost use Rattle.xh_channel.specs.Queues.{Posted};
 ghost use Rattle.xh_core.specs.declared.status.Status.TheVariants as status;
 ghost use Rattle.xh_core.specs.Refusing.{Tested};
 ghost use Rattle.xh_model.specs.declared.limits.TheConstants.{END_BYTES};
 ghost use Rattle.xh_model.specs.Keyed.{without};
-ghost use Rattle.xh_place.specs.Ends.{is_here, open_tests, AreListed, IsUnopened, Opens as HasOpened};
-ghost use Rattle.xh_place.specs.Places.{IsPlaceOf, IsSamePlace, Item, PlaceOf, with_blocks};
-ghost use Rattle.xh_place.specs.Tallies.{ids_of};
-ghost use Rattle.xh_place.specs.Vaults.{IsNoPair};
+ghost use Rattle.xh_place.specs.Ends.{is_here, open_tests, AreListed};
+ghost use Rattle.xh_place.specs.Places.{Item, PlaceOf, with_blocks, with_more};
 ghost use Rattle.xh_records.specs.Seats.{IsRecord};
 ghost use Rattle.xh_kernel.specs.Accounts.{has_taken};
 ghost use Rattle.xh_kernel.specs.Channels.{Opens};
@@ -21,11 +19,9 @@ use crate::held::Held;
 use crate::names::Names;
 use crate::shared::Shared;
 use std::sync::Wait;
-use xh_arena::Tally;
 use xh_channel::{Endpoint, Spot};
 use xh_core::{Block, Contract, Refused};
-use xh_place::{Body, Gate, Place, Unopened, Vaults};
-use xh_records::Records;
+use xh_place::{Gate, Unopened};
 
 /// A channel whose side 1 is on its way: both ends' blocks, and the spot of side 0.
 #[derive(Drop)]
@@ -49,33 +45,6 @@ fn open_channel<N: Names, R: Wait>(
         None => shared.channels.open(rt)?,
     };
     Ok(ends)
-}
-
-// As the place's own `open` or `open_with`, whichever the ends are for.
-fn list_ends<V: Vaults, G: Gate>(
-    place: &mut Place,
-    records: &Records<Body>,
-    low: Endpoint,
-    high: Endpoint,
-    arena: u32,
-    vaults: &mut V,
-    tallies: &mut [Tally],
-    gate: &G,
-) -> Result<(Block, Block), Unopened>
-    requires own { IsPlaceOf records.now place.old }
-    requires names { (V.names vaults.old ≡ place.old.shape.names) × (ids_of tallies.old ≡ place.old.shape.names) }
-    requires fresh { IsPair low high }
-    ensures same { (V.names vaults.new ≡ V.names vaults.old) × (V.extent vaults.new ≡ V.extent vaults.old) × (ids_of tallies.new ≡ ids_of tallies.old) }
-    ensures opened { HasOpened arena low high place.old place.new tallies.old tallies.new result }
-    ensures place { IsSamePlace place.old place.new }
-    ensures ends { IfOk result (AreListed low high place.new) }
-    ensures why { IsUnopened (open_tests place.old.state arena (length place.old.shape.names)) (vaults.new ≡ vaults.old)
-        (IsNoPair V.changes vaults.old vaults.new arena (2 * END_BYTES) (V.extent vaults.old)) result }
-{
-    if low.has_contract() {
-        return place.open_with(records, low, high, arena, vaults, tallies, gate);
-    }
-    place.open(records, low, high, arena, vaults, tallies, gate)
 }
 
 // Where the ends could not be listed their channel is free again.
@@ -128,8 +97,9 @@ impl<N: Names> Held<N> {
         let records = &shared.records;
         let mut vaults = shared.vaults(rt);
         let tallies = account.tallies.as_mut_slice();
-        let place = &mut self.place;
-        let opened = list_ends(place, records, low, high, arena, &mut vaults, tallies, gate);
+        let opened = self
+            .place
+            .open(records, low, high, arena, &mut vaults, tallies, gate);
         self.teller.tell(&shared.glances, &self.place);
         finish(rt, shared, opened)
     }
@@ -173,7 +143,7 @@ impl<N: Names> Held<N> {
         gate: &G,
     ) -> Result<Block, Refused>
         requires { IsRecord N.parts.records.shape r }
-        ensures here { IfOk result (λ _. (is_here self.old.place q ≡ true) × ((x : Item) × (self.new.place ≡ with_blocks self.old.place (self.old.place.blocks ++ (r, x) ∷ [])))) }
+        ensures here { IfOk result (λ _. (is_here self.old.place q ≡ true) × ((x : Item) × (self.new.place ≡ with_more (2 * spot.channel + 1) ((r, x) ∷ []) self.old.place))) }
         ensures away { IfErr result (λ e. e ≡ Refused.Ended) }
         ensures account { MatchResult result (λ _. account.new ≡ account.old) (λ _. (bytes : ℕ) × HasBack bytes account.old account.new) }
     {

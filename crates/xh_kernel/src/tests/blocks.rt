@@ -1,127 +1,107 @@
-// Data blocks of one process, by calls.
-use super::Bench;
-use crate::Names;
-use std::alloc::Global;
-use std::process::Abort;
-use std::sync::Wait;
+// Data blocks, by calls.
+use super::answers::Answer::{Block, Bytes, Done, Moved, No, Number, Two};
+use super::answers::Call::{Alloc, Free, Moved as Count, Read, Spawn, Split, Write};
+use super::{arenas_of, assert_on};
 use std::test::Fail;
-use xh_core::{Block, Refused};
 
 /// An arena of 64 bytes: sizes are rounded up to multiples of 16, and refused where they are none.
-pub fn sizes_and_full_arena<N: Names, R: Wait + Abort>(
-    rt: &R,
-    alloc: Global,
-    bench: &mut Bench<N>,
-) -> Result<(), Fail> {
-    let p = bench.spawn(rt)?;
-    assert_eq!(rt; p, 0);
-    assert!(rt; matches!(bench.alloc(rt, alloc, p, 0, 0), Err(Refused::BadSize)));
-    assert!(rt; matches!(bench.alloc(rt, alloc, p, 65, 0), Err(Refused::BadSize)));
-    assert!(rt; matches!(bench.alloc(rt, alloc, p, 16, 1), Err(Refused::NoArena)));
-    assert_eq!(rt; bench.alloc(rt, alloc, p, 1, 0)?, Block { rec: 0, len: 16 });
-    assert_eq!(rt;
-        bench.alloc(rt, alloc, p, 33, 0)?,
-        Block { rec: 1, len: 48 }
-    );
-    assert!(rt; matches!(bench.alloc(rt, alloc, p, 16, 0), Err(Refused::NoSpace)));
-    assert_eq!(rt; bench.account.moved(0), Some((64, 0)));
-    assert_eq!(rt; bench.free(rt, p, 1)?, 48);
-    assert_eq!(rt;
-        bench.alloc(rt, alloc, p, 48, 0)?,
-        Block { rec: 1, len: 48 }
-    );
-    assert_eq!(rt; bench.account.moved(0), Some((112, 48)));
-    assert_eq!(rt; bench.account.moved(1), None);
-    Ok(())
+#[test]
+fn sizes_and_full_arena(rt: HostRuntime) -> Result<(), Fail> {
+    assert_on(
+        &rt,
+        rt.alloc(),
+        arenas_of(1, 64, 8),
+        &[
+            (Spawn, Number(0)),
+            (Alloc(0, 0, 0), No("BadSize")),
+            (Alloc(0, 65, 0), No("BadSize")),
+            (Alloc(0, 16, 1), No("NoArena")),
+            (Alloc(0, 1, 0), Block(0, 16)),
+            (Alloc(0, 33, 0), Block(1, 48)),
+            (Alloc(0, 16, 0), No("NoSpace")),
+            (Count(0), Moved(64, 0)),
+            (Free(0, 1), Number(48)),
+            (Alloc(0, 48, 0), Block(1, 48)),
+            (Count(0), Moved(112, 48)),
+            (Count(1), No("NoArena")),
+        ],
+    )
 }
 
 /// Of two holes that are wide enough the lower one is taken, so the two others are joined where it was not.
-pub fn lowest_address_first<N: Names, R: Wait + Abort>(
-    rt: &R,
-    alloc: Global,
-    bench: &mut Bench<N>,
-) -> Result<(), Fail> {
-    let p = bench.spawn(rt)?;
-    for k in 0..4u16 {
-        assert_eq!(rt;
-            bench.alloc(rt, alloc, p, 32, 0)?,
-            Block { rec: k, len: 32 }
-        );
-    }
-    assert_eq!(rt; bench.free(rt, p, 2)?, 32);
-    assert_eq!(rt; bench.free(rt, p, 0)?, 32);
-    assert!(rt; matches!(bench.alloc(rt, alloc, p, 64, 0), Err(Refused::NoSpace)));
-    assert_eq!(rt;
-        bench.alloc(rt, alloc, p, 32, 0)?,
-        Block { rec: 0, len: 32 }
-    );
-    assert_eq!(rt; bench.free(rt, p, 1)?, 32);
-    assert_eq!(rt;
-        bench.alloc(rt, alloc, p, 64, 0)?,
-        Block { rec: 1, len: 64 }
-    );
-    Ok(())
+#[test]
+fn lowest_address_first(rt: HostRuntime) -> Result<(), Fail> {
+    assert_on(
+        &rt,
+        rt.alloc(),
+        arenas_of(1, 128, 8),
+        &[
+            (Spawn, Number(0)),
+            (Alloc(0, 32, 0), Block(0, 32)),
+            (Alloc(0, 32, 0), Block(1, 32)),
+            (Alloc(0, 32, 0), Block(2, 32)),
+            (Alloc(0, 32, 0), Block(3, 32)),
+            (Free(0, 2), Number(32)),
+            (Free(0, 0), Number(32)),
+            (Alloc(0, 64, 0), No("NoSpace")),
+            (Alloc(0, 32, 0), Block(0, 32)),
+            (Free(0, 1), Number(32)),
+            (Alloc(0, 64, 0), Block(1, 64)),
+        ],
+    )
 }
 
 /// Two records in each of two arenas: the third block of an arena has no record, and the other arena has.
-pub fn records_and_arenas_run_out<N: Names, R: Wait + Abort>(
-    rt: &R,
-    alloc: Global,
-    bench: &mut Bench<N>,
-) -> Result<(), Fail> {
-    let p = bench.spawn(rt)?;
-    assert_eq!(rt; bench.alloc(rt, alloc, p, 16, 0)?.rec, 0);
-    assert_eq!(rt; bench.alloc(rt, alloc, p, 16, 0)?.rec, 1);
-    assert!(rt; matches!(bench.alloc(rt, alloc, p, 16, 0), Err(Refused::NoRecord)));
-    assert!(rt; matches!(bench.split(rt, alloc, p, 0, 16), Err(Refused::BadCut)));
-    assert_eq!(rt; bench.alloc(rt, alloc, p, 64, 1)?.rec, 256);
-    assert!(rt; matches!(bench.alloc(rt, alloc, p, 16, 1), Err(Refused::NoSpace)));
-    let (head, tail) = bench.split(rt, alloc, p, 256, 48)?;
-    assert_eq!(rt;
-        (head.rec, head.len, tail.rec, tail.len),
-        (256, 48, 257, 16)
-    );
-    assert!(rt; matches!(bench.split(rt, alloc, p, 256, 16), Err(Refused::NoRecord)));
-    assert_eq!(rt; bench.account.moved(0), Some((32, 0)));
-    assert_eq!(rt; bench.account.moved(1), Some((64, 0)));
-    Ok(())
+#[test]
+fn records_and_arenas_run_out(rt: HostRuntime) -> Result<(), Fail> {
+    assert_on(
+        &rt,
+        rt.alloc(),
+        arenas_of(2, 64, 2),
+        &[
+            (Spawn, Number(0)),
+            (Alloc(0, 16, 0), Block(0, 16)),
+            (Alloc(0, 16, 0), Block(1, 16)),
+            (Alloc(0, 16, 0), No("NoRecord")),
+            (Split(0, 0, 16), No("BadCut")),
+            (Alloc(0, 64, 1), Block(256, 64)),
+            (Alloc(0, 16, 1), No("NoSpace")),
+            (Split(0, 256, 48), Two(256, 48, 257, 16)),
+            (Split(0, 256, 16), No("NoRecord")),
+            (Count(0), Moved(32, 0)),
+            (Count(1), Moved(64, 0)),
+        ],
+    )
 }
 
 /// A block is cut, written, read and given back, and the refusals of another process come first.
-pub fn place_calls<N: Names, R: Wait + Abort>(
-    rt: &R,
-    alloc: Global,
-    bench: &mut Bench<N>,
-) -> Result<(), Fail> {
-    let p = bench.spawn(rt)?;
-    let q = bench.spawn(rt)?;
-    assert_eq!(rt; (p, q), (0, 1));
-    assert_eq!(rt;
-        bench.alloc(rt, alloc, p, 40, 0)?,
-        Block { rec: 0, len: 48 }
-    );
-    let (head, tail) = bench.split(rt, alloc, p, 0, 16)?;
-    assert_eq!(rt; head, Block { rec: 0, len: 16 });
-    assert_eq!(rt; tail, Block { rec: 1, len: 32 });
-    bench.write(rt, p, 1, 0, &[1, 2])?;
-    let mut four = [9; 4];
-    bench.read(rt, p, 1, 0, &mut four)?;
-    assert_eq!(rt; four, [1, 2, 0, 0]);
-    assert!(rt; matches!(bench.read(rt, p, 0, 13, &mut four), Err(Refused::BadRange)));
-    assert_eq!(rt; four, [1, 2, 0, 0]);
-    assert!(rt; matches!(bench.write(rt, q, 1, 0, &[1]), Err(Refused::NotOwned)));
-    assert!(rt; matches!(bench.free(rt, q, 1), Err(Refused::NotOwned)));
-    for nobody in [2u16, 32, 4096, 65535] {
-        assert!(rt; matches!(bench.free(rt, nobody, 1), Err(Refused::NoProcess)));
-        assert!(rt;
-            matches!(
-                bench.alloc(rt, alloc, nobody, 0, 9),
-                Err(Refused::NoProcess)
-            )
-        );
-    }
-    assert_eq!(rt; bench.free(rt, p, 1)?, 32);
-    assert!(rt; matches!(bench.free(rt, p, 1), Err(Refused::NotOwned)));
-    assert_eq!(rt; bench.account.moved(0), Some((48, 32)));
-    Ok(())
+#[test]
+fn place_calls(rt: HostRuntime) -> Result<(), Fail> {
+    assert_on(
+        &rt,
+        rt.alloc(),
+        arenas_of(1, 256, 8),
+        &[
+            (Spawn, Number(0)),
+            (Spawn, Number(1)),
+            (Alloc(0, 40, 0), Block(0, 48)),
+            (Split(0, 0, 16), Two(0, 16, 1, 32)),
+            (Write(0, 1, 0, &[1, 2]), Done),
+            (Read(0, 1, 0), Bytes([1, 2, 0, 0])),
+            (Read(0, 0, 13), No("BadRange")),
+            (Write(1, 1, 0, &[1]), No("NotOwned")),
+            (Free(1, 1), No("NotOwned")),
+            (Free(2, 1), No("NoProcess")),
+            (Alloc(2, 0, 9), No("NoProcess")),
+            (Free(32, 1), No("NoProcess")),
+            (Alloc(32, 0, 9), No("NoProcess")),
+            (Free(4_096, 1), No("NoProcess")),
+            (Alloc(4_096, 0, 9), No("NoProcess")),
+            (Free(65_535, 1), No("NoProcess")),
+            (Alloc(65_535, 0, 9), No("NoProcess")),
+            (Free(0, 1), Number(32)),
+            (Free(0, 1), No("NotOwned")),
+            (Count(0), Moved(48, 32)),
+        ],
+    )
 }

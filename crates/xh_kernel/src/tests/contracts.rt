@@ -1,8 +1,8 @@
 // Channels that go by contracts, by calls.
-use super::Bench;
-use crate::Names;
-use std::process::Abort;
-use std::sync::Wait;
+use super::answers::Answer::{self, Back, Done, Ends, Message, Moved, Number};
+use super::answers::Call::{Bans, Give, Moved as Count, OpenWith, Spawn, Take, WireWith};
+use super::{assert_on, waiting_of};
+use Rules::{RequestAndReply, ThreeStates};
 use std::test::Fail;
 use xh_core::{Contract, Refused};
 use xh_model::Row;
@@ -16,85 +16,92 @@ fn row(state: u8, tag: u16, side: u8, next: u8) -> Row {
     }
 }
 
-/// A request with the tag 1 by side 0, then a reply with the tag 2 by side 1, and so on.
-fn request_and_reply() -> Result<Contract, Refused> {
-    Contract::new(&[row(0, 1, 0, 1), row(1, 2, 1, 0)])
+/// The rules of a channel.
+#[derive(Clone, Copy)]
+pub enum Rules {
+    /// A request with the tag 1 by side 0, then a reply with the tag 2 by side 1, and so on.
+    RequestAndReply,
+    /// Three states, 2, 7 and 9: side 1 sends twice, with the tags 3 and 1, and then side 0 with the tag 0.
+    ThreeStates,
 }
 
-/// Three states, 2, 7 and 9: side 1 sends twice, with the tags 3 and 1, and then side 0 with the tag 0.
-fn three_states() -> Result<Contract, Refused> {
-    Contract::new(&[row(2, 3, 1, 7), row(7, 1, 1, 9), row(9, 0, 0, 2)])
+/// The contract of these rules.
+pub fn contract_of(rules: Rules) -> Result<Contract, Refused> {
+    match rules {
+        Rules::RequestAndReply => Contract::new(&[row(0, 1, 0, 1), row(1, 2, 1, 0)]),
+        Rules::ThreeStates => Contract::new(&[row(2, 3, 1, 7), row(7, 1, 1, 9), row(9, 0, 0, 2)]),
+    }
 }
+
+/// What a contract does not allow.
+const BANNED: Answer = Back("Protocol", None);
 
 /// A message that the contract doesn't allow is refused, and the next that it allows goes.
-pub fn contract_refusals<N: Names, R: Wait + Abort>(
-    rt: &R,
-    bench: &mut Bench<N>,
-) -> Result<(), Fail> {
-    let a = bench.spawn(rt)?;
-    let b = bench.spawn(rt)?;
-    let (e, f) = bench.wire_with(rt, a, b, request_and_reply()?)?;
-    assert!(rt; matches!(bench.give(rt, a, e, 2, &[]), Err(Refused::Protocol { .. })));
-    assert!(rt; matches!(bench.give(rt, b, f, 2, &[]), Err(Refused::Protocol { .. })));
-    assert_eq!(rt; bench.give(rt, a, e, 1, &[])?, 1);
-    assert!(rt; matches!(bench.give(rt, a, e, 1, &[]), Err(Refused::Protocol { .. })));
-    assert!(rt; matches!(bench.give(rt, b, f, 1, &[]), Err(Refused::Protocol { .. })));
-    let taken = bench.take(rt, b, f)?;
-    assert_eq!(rt; (taken.no, taken.tag), (1, 1));
-    assert_eq!(rt; bench.give(rt, b, f, 2, &[])?, 1);
-    let taken = bench.take(rt, a, e)?;
-    assert_eq!(rt; (taken.no, taken.tag), (1, 2));
-    assert_eq!(rt; bench.give(rt, a, e, 1, &[])?, 2);
-    Ok(())
-}
-
-/// An endpoint and its process.
-#[derive(Clone, Copy)]
-struct End {
-    p: u16,
-    e: u16,
-}
-
-/// Whether the message is refused by the contract.
-fn is_banned<N: Names, R: Wait>(rt: &R, bench: &Bench<N>, end: End, tag: u16) -> bool {
-    matches!(
-        bench.give(rt, end.p, end.e, tag, &[]),
-        Err(Refused::Protocol { .. })
+#[test]
+fn contract_refusals(rt: HostRuntime) -> Result<(), Fail> {
+    assert_on(
+        &rt,
+        rt.alloc(),
+        waiting_of(256, 4),
+        &[
+            (Spawn, Number(0)),
+            (Spawn, Number(1)),
+            (WireWith(0, 1, RequestAndReply), Ends(0, 1)),
+            (Give(0, 0, 2, &[]), BANNED),
+            (Give(1, 1, 2, &[]), BANNED),
+            (Give(0, 0, 1, &[]), Number(1)),
+            (Give(0, 0, 1, &[]), BANNED),
+            (Give(1, 1, 1, &[]), BANNED),
+            (Take(1, 1), Message(1, 1, [None, None])),
+            (Give(1, 1, 2, &[]), Number(1)),
+            (Take(0, 0), Message(1, 2, [None, None])),
+            (Give(0, 0, 1, &[]), Number(2)),
+        ],
     )
 }
 
-/// Of the tags 0 to 4 this end may send this one alone, and the other end none. It goes and is taken.
-fn sends_only<N: Names, R: Wait + Abort>(
-    rt: &R,
-    bench: &Bench<N>,
-    from: End,
-    to: End,
-    tag: u16,
-) -> Result<(), Fail> {
-    for other in 0..5u16 {
-        assert!(rt; other == tag || is_banned(rt, bench, from, other));
-        assert!(rt; is_banned(rt, bench, to, other));
-    }
-    bench.give(rt, from.p, from.e, tag, &[])?;
-    assert_eq!(rt; bench.take(rt, to.p, to.e)?.tag, tag);
-    Ok(())
-}
-
-/// Two channels go by two contracts, each by its own, from the first state through each and back to it.
-pub fn two_contracts<N: Names, R: Wait + Abort>(rt: &R, bench: &mut Bench<N>) -> Result<(), Fail> {
-    let p = bench.spawn(rt)?;
-    let q = bench.spawn(rt)?;
-    let (e, f) = bench.open_with(rt, p, request_and_reply()?)?;
-    let (asks, answers) = (End { p, e }, End { p, e: f });
-    let (g, h) = bench.wire_with(rt, p, q, three_states()?)?;
-    let (low, high) = (End { p, e: g }, End { p: q, e: h });
-    sends_only(rt, bench, asks, answers, 1)?;
-    sends_only(rt, bench, high, low, 3)?;
-    sends_only(rt, bench, answers, asks, 2)?;
-    sends_only(rt, bench, high, low, 1)?;
-    sends_only(rt, bench, asks, answers, 1)?;
-    sends_only(rt, bench, low, high, 0)?;
-    sends_only(rt, bench, high, low, 3)?;
-    assert_eq!(rt; bench.account.moved(0), Some((128, 0)));
-    Ok(())
+/// Two channels go by two contracts, each by its own, from the first state through each and back to it: the one end
+/// may send one tag alone, the other none.
+#[test]
+fn two_contracts(rt: HostRuntime) -> Result<(), Fail> {
+    assert_on(
+        &rt,
+        rt.alloc(),
+        waiting_of(256, 4),
+        &[
+            (Spawn, Number(0)),
+            (Spawn, Number(1)),
+            (OpenWith(0, RequestAndReply), Ends(0, 1)),
+            (WireWith(0, 1, ThreeStates), Ends(2, 3)),
+            (Bans(0, 0, Some(1)), Done),
+            (Bans(0, 1, None), Done),
+            (Give(0, 0, 1, &[]), Number(1)),
+            (Take(0, 1), Message(1, 1, [None, None])),
+            (Bans(1, 3, Some(3)), Done),
+            (Bans(0, 2, None), Done),
+            (Give(1, 3, 3, &[]), Number(1)),
+            (Take(0, 2), Message(1, 3, [None, None])),
+            (Bans(0, 1, Some(2)), Done),
+            (Bans(0, 0, None), Done),
+            (Give(0, 1, 2, &[]), Number(1)),
+            (Take(0, 0), Message(1, 2, [None, None])),
+            (Bans(1, 3, Some(1)), Done),
+            (Bans(0, 2, None), Done),
+            (Give(1, 3, 1, &[]), Number(2)),
+            (Take(0, 2), Message(2, 1, [None, None])),
+            (Bans(0, 0, Some(1)), Done),
+            (Bans(0, 1, None), Done),
+            (Give(0, 0, 1, &[]), Number(2)),
+            (Take(0, 1), Message(2, 1, [None, None])),
+            (Bans(0, 2, Some(0)), Done),
+            (Bans(1, 3, None), Done),
+            (Give(0, 2, 0, &[]), Number(1)),
+            (Take(1, 3), Message(1, 0, [None, None])),
+            (Bans(1, 3, Some(3)), Done),
+            (Bans(0, 2, None), Done),
+            (Give(1, 3, 3, &[]), Number(3)),
+            (Take(0, 2), Message(3, 3, [None, None])),
+            (Count(0), Moved(128, 0)),
+        ],
+    )
 }

@@ -1,140 +1,139 @@
 // The ends of endpoints and of processes, by calls.
-use super::Bench;
-use crate::Names;
-use std::alloc::Global;
-use std::process::Abort;
-use std::sync::Wait;
+use super::answers::Answer::{Back, Block, Ends, Left, Message, Moved, No, Number};
+use super::answers::Call::{
+    Alloc, Close, Exit, Free, Give, Kill, Moved as Count, Open, Spawn, Take, Wire,
+};
+use super::{assert_on, here, waiting_of};
 use std::test::Fail;
-use xh_core::{Block, Refused};
-use xh_place::Got;
 
 /// An end in a message on its way to a process that is killed goes, and what was on its way to that end.
-pub fn kill_reclaims_nested_endpoints<N: Names, R: Wait + Abort>(
-    rt: &R,
-    alloc: Global,
-    bench: &mut Bench<N>,
-) -> Result<(), Fail> {
-    let a = bench.spawn(rt)?;
-    let v = bench.spawn(rt)?;
-    let (e, _f) = bench.wire(rt, a, v)?;
-    let (g, h) = bench.open(rt, a, 0)?;
-    let x = bench.alloc(rt, alloc, a, 16, 0)?.rec;
-    assert_eq!(rt; bench.give(rt, a, g, 1, &[x])?, 1);
-    assert_eq!(rt; bench.give(rt, a, e, 2, &[h])?, 1);
-    bench.alloc(rt, alloc, v, 32, 0)?;
-    assert_eq!(rt; bench.kill(rt, a, v, 4096)?, 112);
-    let Err(Refused::PeerClosed { back }) = bench.give(rt, a, g, 3, &[]) else {
-        panic!(rt; "not closed");
-    };
-    assert_eq!(rt; back.len(), 0);
-    assert!(rt; matches!(bench.take(rt, a, e), Err(Refused::PeerClosed { .. })));
-    assert!(rt; matches!(bench.alloc(rt, alloc, v, 16, 0), Err(Refused::Ended)));
-    assert_eq!(rt; bench.account.moved(0), Some((176, 112)));
-    Ok(())
+#[test]
+fn kill_reclaims_nested_endpoints(rt: HostRuntime) -> Result<(), Fail> {
+    assert_on(
+        &rt,
+        rt.alloc(),
+        waiting_of(256, 4),
+        &[
+            (Spawn, Number(0)),
+            (Spawn, Number(1)),
+            (Wire(0, 1), Ends(0, 1)),
+            (Open(0, 0), Ends(2, 3)),
+            (Alloc(0, 16, 0), Block(4, 16)),
+            (Give(0, 2, 1, &[4]), Number(1)),
+            (Give(0, 0, 2, &[3]), Number(1)),
+            (Alloc(1, 32, 0), Block(5, 32)),
+            (Kill(0, 1, 4096), Number(112)),
+            (Give(0, 2, 3, &[]), Back("PeerClosed", None)),
+            (Take(0, 0), Back("PeerClosed", None)),
+            (Alloc(1, 16, 0), No("Ended")),
+            (Count(0), Moved(176, 112)),
+        ],
+    )
 }
 
 /// What a process had sent stays for its peer after it has ended.
-pub fn exit_leaves_sent_messages<N: Names, R: Wait + Abort>(
-    rt: &R,
-    alloc: Global,
-    bench: &mut Bench<N>,
-) -> Result<(), Fail> {
-    let a = bench.spawn(rt)?;
-    let b = bench.spawn(rt)?;
-    let (e, f) = bench.wire(rt, a, b)?;
-    let x = bench.alloc(rt, alloc, a, 16, 0)?.rec;
-    assert_eq!(rt; bench.give(rt, a, e, 5, &[x])?, 1);
-    assert_eq!(rt; bench.exit(rt, a, 4096)?, 32);
-    let taken = bench.take(rt, b, f)?;
-    assert_eq!(rt; (taken.no, taken.tag), (1, 5));
-    let came = [Got::Here(Block { rec: x, len: 16 })];
-    assert_eq!(rt; taken.blocks.as_slice(), came.as_slice());
-    assert!(rt; matches!(bench.take(rt, b, f), Err(Refused::PeerClosed { .. })));
-    let Err(Refused::PeerClosed { back }) = bench.give(rt, b, f, 0, &[x]) else {
-        panic!(rt; "not closed");
-    };
-    assert_eq!(rt; back.as_slice(), [x].as_slice());
-    assert_eq!(rt; bench.close(rt, b, f)?, 32);
-    assert_eq!(rt; bench.account.moved(0), Some((80, 64)));
-    Ok(())
+#[test]
+fn exit_leaves_sent_messages(rt: HostRuntime) -> Result<(), Fail> {
+    assert_on(
+        &rt,
+        rt.alloc(),
+        waiting_of(256, 4),
+        &[
+            (Spawn, Number(0)),
+            (Spawn, Number(1)),
+            (Wire(0, 1), Ends(0, 1)),
+            (Alloc(0, 16, 0), Block(2, 16)),
+            (Give(0, 0, 5, &[2]), Number(1)),
+            (Exit(0, 4096), Number(32)),
+            (Take(1, 1), Message(1, 5, [here(2, 16), None])),
+            (Take(1, 1), Back("PeerClosed", None)),
+            (Give(1, 1, 0, &[2]), Back("PeerClosed", Some(2))),
+            (Close(1, 1), Number(32)),
+            (Count(0), Moved(80, 64)),
+        ],
+    )
 }
 
 /// Ends of processes are refused in their order.
-pub fn exits_and_kills<N: Names, R: Wait + Abort>(
-    rt: &R,
-    alloc: Global,
-    bench: &mut Bench<N>,
-) -> Result<(), Fail> {
-    let a = bench.spawn(rt)?;
-    let b = bench.spawn(rt)?;
-    assert!(rt; matches!(bench.kill(rt, a, 2, 4096), Err(Refused::NoProcess)));
-    assert_eq!(rt; bench.kill(rt, a, b, 4096)?, 0);
-    assert!(rt; matches!(bench.kill(rt, a, b, 4096), Err(Refused::Ended)));
-    assert!(rt; matches!(bench.exit(rt, b, 4096), Err(Refused::Ended)));
-    assert!(rt; matches!(bench.kill(rt, b, a, 4096), Err(Refused::Ended)));
-    assert!(rt; matches!(bench.alloc(rt, alloc, 2, 1, 0), Err(Refused::NoProcess)));
-    assert_eq!(rt; bench.kill(rt, a, a, 4096)?, 0);
-    assert!(rt; matches!(bench.exit(rt, a, 4096), Err(Refused::Ended)));
-    assert_eq!(rt; bench.account.moved(0), Some((0, 0)));
-    Ok(())
+#[test]
+fn exits_and_kills(rt: HostRuntime) -> Result<(), Fail> {
+    assert_on(
+        &rt,
+        rt.alloc(),
+        waiting_of(256, 4),
+        &[
+            (Spawn, Number(0)),
+            (Spawn, Number(1)),
+            (Kill(0, 2, 4096), No("NoProcess")),
+            (Kill(0, 1, 4096), Number(0)),
+            (Kill(0, 1, 4096), No("Ended")),
+            (Exit(1, 4096), No("Ended")),
+            (Kill(1, 0, 4096), No("Ended")),
+            (Alloc(2, 1, 0), No("NoProcess")),
+            (Kill(0, 0, 4096), Number(0)),
+            (Exit(0, 4096), No("Ended")),
+            (Count(0), Moved(0, 0)),
+        ],
+    )
 }
 
 /// A kill whose budget is used up goes on with the next.
-pub fn unfinished_kill<N: Names, R: Wait + Abort>(
-    rt: &R,
-    alloc: Global,
-    bench: &mut Bench<N>,
-) -> Result<(), Fail> {
-    let a = bench.spawn(rt)?;
-    let b = bench.spawn(rt)?;
-    bench.alloc(rt, alloc, b, 16, 0)?;
-    let y = bench.alloc(rt, alloc, b, 32, 0)?.rec;
-    assert!(rt;
-        matches!(
-            bench.kill(rt, a, b, 1),
-            Err(Refused::Unfinished { left: 1 })
-        )
-    );
-    assert!(rt; matches!(bench.free(rt, b, y), Err(Refused::Ended)));
-    assert_eq!(rt; bench.account.moved(0), Some((48, 16)));
-    assert_eq!(rt; bench.kill(rt, a, b, 1)?, 32);
-    assert!(rt; matches!(bench.kill(rt, a, b, 1), Err(Refused::Ended)));
-    assert_eq!(rt; bench.account.moved(0), Some((48, 48)));
-    Ok(())
+#[test]
+fn unfinished_kill(rt: HostRuntime) -> Result<(), Fail> {
+    assert_on(
+        &rt,
+        rt.alloc(),
+        waiting_of(256, 4),
+        &[
+            (Spawn, Number(0)),
+            (Spawn, Number(1)),
+            (Alloc(1, 16, 0), Block(0, 16)),
+            (Alloc(1, 32, 0), Block(1, 32)),
+            (Kill(0, 1, 1), Left(1)),
+            (Free(1, 1), No("Ended")),
+            (Count(0), Moved(48, 16)),
+            (Kill(0, 1, 1), Number(32)),
+            (Kill(0, 1, 1), No("Ended")),
+            (Count(0), Moved(48, 48)),
+        ],
+    )
 }
 
 /// An end in flight to itself stays in flight.
-pub fn endpoint_in_flight_to_itself<N: Names, R: Wait + Abort>(
-    rt: &R,
-    alloc: Global,
-    bench: &mut Bench<N>,
-) -> Result<(), Fail> {
-    let a = bench.spawn(rt)?;
-    let (low, high) = bench.open(rt, a, 0)?;
-    assert_eq!(rt; bench.give(rt, a, low, 0, &[high])?, 1);
-    assert_eq!(rt; bench.exit(rt, a, 4096)?, 32);
-    assert_eq!(rt; bench.account.moved(0), Some((64, 32)));
-    Ok(())
+#[test]
+fn endpoint_in_flight_to_itself(rt: HostRuntime) -> Result<(), Fail> {
+    assert_on(
+        &rt,
+        rt.alloc(),
+        waiting_of(256, 4),
+        &[
+            (Spawn, Number(0)),
+            (Open(0, 0), Ends(0, 1)),
+            (Give(0, 0, 0, &[1]), Number(1)),
+            (Exit(0, 4096), Number(32)),
+            (Count(0), Moved(64, 32)),
+        ],
+    )
 }
 
 /// What is on its way to an end that is closed goes with it, and its peer learns it.
-pub fn close_reclaims_messages<N: Names, R: Wait + Abort>(
-    rt: &R,
-    alloc: Global,
-    bench: &mut Bench<N>,
-) -> Result<(), Fail> {
-    let a = bench.spawn(rt)?;
-    let b = bench.spawn(rt)?;
-    let (e, f) = bench.wire(rt, a, b)?;
-    let x = bench.alloc(rt, alloc, a, 16, 0)?.rec;
-    assert_eq!(rt; bench.give(rt, a, e, 0, &[x])?, 1);
-    assert_eq!(rt; bench.close(rt, b, f)?, 48);
-    let y = bench.alloc(rt, alloc, a, 16, 0)?.rec;
-    let Err(Refused::PeerClosed { back }) = bench.give(rt, a, e, 0, &[y]) else {
-        panic!(rt; "not closed");
-    };
-    assert_eq!(rt; back.as_slice(), [y].as_slice());
-    assert_eq!(rt; bench.free(rt, a, y)?, 16);
-    assert_eq!(rt; bench.account.moved(0), Some((96, 64)));
-    Ok(())
+#[test]
+fn close_reclaims_messages(rt: HostRuntime) -> Result<(), Fail> {
+    assert_on(
+        &rt,
+        rt.alloc(),
+        waiting_of(256, 4),
+        &[
+            (Spawn, Number(0)),
+            (Spawn, Number(1)),
+            (Wire(0, 1), Ends(0, 1)),
+            (Alloc(0, 16, 0), Block(2, 16)),
+            (Give(0, 0, 0, &[2]), Number(1)),
+            (Close(1, 1), Number(48)),
+            (Alloc(0, 16, 0), Block(1, 16)),
+            (Give(0, 0, 0, &[1]), Back("PeerClosed", Some(1))),
+            (Free(0, 1), Number(16)),
+            (Count(0), Moved(96, 64)),
+        ],
+    )
 }

@@ -1,160 +1,151 @@
 // Messages between two processes, by calls.
-use super::Bench;
-use crate::Names;
-use std::alloc::Global;
-use std::process::Abort;
-use std::sync::Wait;
+use super::answers::Answer::{Back, Block, Bytes, Done, Ends, Message, Moved, No, Number, Two};
+use super::answers::Call::{
+    Alloc, Close, Exit, Free, Give, Moved as Count, Open, Read, Spawn, Split, Take, Wire, Write,
+};
+use super::{assert_on, here, waiting_of};
 use std::test::Fail;
-use xh_core::{Block, Refused};
-use xh_place::Got;
 
 /// Blocks go to the other process, which has them alone.
-pub fn give_take_and_write<N: Names, R: Wait + Abort>(
-    rt: &R,
-    alloc: Global,
-    bench: &mut Bench<N>,
-) -> Result<(), Fail> {
-    let a = bench.spawn(rt)?;
-    let b = bench.spawn(rt)?;
-    let (e, f) = bench.wire(rt, a, b)?;
-    let x = bench.alloc(rt, alloc, a, 40, 0)?.rec;
-    let y = bench.alloc(rt, alloc, a, 16, 0)?.rec;
-    assert_eq!(rt; bench.give(rt, a, e, 7, &[x, y])?, 1);
-    assert!(rt; matches!(bench.give(rt, a, e, 7, &[x]), Err(Refused::NotOwned)));
-    let taken = bench.take(rt, b, f)?;
-    assert_eq!(rt; (taken.no, taken.tag), (1, 7));
-    let came = [
-        Got::Here(Block { rec: x, len: 48 }),
-        Got::Here(Block { rec: y, len: 16 }),
-    ];
-    assert_eq!(rt; taken.blocks.as_slice(), came.as_slice());
-    bench.write(rt, b, x, 0, &[0xbe, 0xef])?;
-    let mut four = [9; 4];
-    bench.read(rt, b, x, 0, &mut four)?;
-    assert_eq!(rt; four, [0xbe, 0xef, 0, 0]);
-    assert_eq!(rt; bench.account.moved(0), Some((128, 0)));
-    Ok(())
+#[test]
+fn give_take_and_write(rt: HostRuntime) -> Result<(), Fail> {
+    assert_on(
+        &rt,
+        rt.alloc(),
+        waiting_of(256, 4),
+        &[
+            (Spawn, Number(0)),
+            (Spawn, Number(1)),
+            (Wire(0, 1), Ends(0, 1)),
+            (Alloc(0, 40, 0), Block(2, 48)),
+            (Alloc(0, 16, 0), Block(3, 16)),
+            (Give(0, 0, 7, &[2, 3]), Number(1)),
+            (Give(0, 0, 7, &[2]), No("NotOwned")),
+            (Take(1, 1), Message(1, 7, [here(2, 48), here(3, 16)])),
+            (Write(1, 2, 0, &[0xbe, 0xef]), Done),
+            (Read(1, 2, 0), Bytes([0xbe, 0xef, 0, 0])),
+            (Count(0), Moved(128, 0)),
+        ],
+    )
 }
 
 /// What is in flight is neither's, until the end that it is on its way to is reclaimed.
-pub fn in_flight<N: Names, R: Wait + Abort>(
-    rt: &R,
-    alloc: Global,
-    bench: &mut Bench<N>,
-) -> Result<(), Fail> {
-    let a = bench.spawn(rt)?;
-    let b = bench.spawn(rt)?;
-    let (e, _f) = bench.wire(rt, a, b)?;
-    let x = bench.alloc(rt, alloc, a, 40, 0)?.rec;
-    let y = bench.alloc(rt, alloc, a, 16, 0)?.rec;
-    assert_eq!(rt; bench.give(rt, a, e, 7, &[x, y])?, 1);
-    assert!(rt; matches!(bench.free(rt, a, x), Err(Refused::NotOwned)));
-    assert!(rt; matches!(bench.free(rt, b, x), Err(Refused::NotOwned)));
-    assert_eq!(rt; bench.exit(rt, a, 4096)?, 32);
-    assert_eq!(rt; bench.exit(rt, b, 4096)?, 96);
-    assert_eq!(rt; bench.account.moved(0), Some((128, 128)));
-    Ok(())
+#[test]
+fn in_flight(rt: HostRuntime) -> Result<(), Fail> {
+    assert_on(
+        &rt,
+        rt.alloc(),
+        waiting_of(256, 4),
+        &[
+            (Spawn, Number(0)),
+            (Spawn, Number(1)),
+            (Wire(0, 1), Ends(0, 1)),
+            (Alloc(0, 40, 0), Block(2, 48)),
+            (Alloc(0, 16, 0), Block(3, 16)),
+            (Give(0, 0, 7, &[2, 3]), Number(1)),
+            (Free(0, 2), No("NotOwned")),
+            (Free(1, 2), No("NotOwned")),
+            (Exit(0, 4096), Number(32)),
+            (Exit(1, 4096), Number(96)),
+            (Count(0), Moved(128, 128)),
+        ],
+    )
 }
 
 /// Names of another kind are refused in their order.
-pub fn refusals_of_give<N: Names, R: Wait + Abort>(
-    rt: &R,
-    alloc: Global,
-    bench: &mut Bench<N>,
-) -> Result<(), Fail> {
-    let a = bench.spawn(rt)?;
-    let b = bench.spawn(rt)?;
-    let (e, f) = bench.wire(rt, a, b)?;
-    let x = bench.alloc(rt, alloc, a, 16, 0)?.rec;
-    assert!(rt; matches!(bench.give(rt, a, e, 1, &[x, x]), Err(Refused::Twice)));
-    assert!(rt; matches!(bench.give(rt, a, e, 1, &[e]), Err(Refused::Twice)));
-    assert!(rt; matches!(bench.give(rt, a, e, 1, &[x; 9]), Err(Refused::TooMany)));
-    assert!(rt; matches!(bench.give(rt, a, x, 1, &[]), Err(Refused::NotEndpoint)));
-    assert!(rt; matches!(bench.give(rt, b, e, 1, &[]), Err(Refused::NotOwned)));
-    assert!(rt; matches!(bench.give(rt, 2, e, 1, &[]), Err(Refused::NoProcess)));
-    assert!(rt; matches!(bench.free(rt, a, e), Err(Refused::NotData)));
-    assert_eq!(rt; bench.give(rt, a, e, 1, &[])?, 1);
-    let taken = bench.take(rt, b, f)?;
-    assert_eq!(rt; (taken.no, taken.tag, taken.blocks.len()), (1, 1, 0));
-    assert!(rt; matches!(bench.take(rt, b, f), Err(Refused::Empty)));
-    assert!(rt; matches!(bench.open(rt, a, 9), Err(Refused::NoArena)));
-    assert_eq!(rt; bench.account.moved(0), Some((80, 0)));
-    Ok(())
+#[test]
+fn refusals_of_give(rt: HostRuntime) -> Result<(), Fail> {
+    assert_on(
+        &rt,
+        rt.alloc(),
+        waiting_of(256, 4),
+        &[
+            (Spawn, Number(0)),
+            (Spawn, Number(1)),
+            (Wire(0, 1), Ends(0, 1)),
+            (Alloc(0, 16, 0), Block(2, 16)),
+            (Give(0, 0, 1, &[2, 2]), No("Twice")),
+            (Give(0, 0, 1, &[0]), No("Twice")),
+            (Give(0, 0, 1, &[2; 9]), No("TooMany")),
+            (Give(0, 2, 1, &[]), No("NotEndpoint")),
+            (Give(1, 0, 1, &[]), No("NotOwned")),
+            (Give(2, 0, 1, &[]), No("NoProcess")),
+            (Free(0, 0), No("NotData")),
+            (Give(0, 0, 1, &[]), Number(1)),
+            (Take(1, 1), Message(1, 1, [None, None])),
+            (Take(1, 1), No("Empty")),
+            (Open(0, 9), No("NoArena")),
+            (Count(0), Moved(80, 0)),
+        ],
+    )
 }
 
 /// What a full direction refuses comes back, and goes once there is room.
-pub fn full_direction<N: Names, R: Wait + Abort>(
-    rt: &R,
-    alloc: Global,
-    bench: &mut Bench<N>,
-) -> Result<(), Fail> {
-    let a = bench.spawn(rt)?;
-    let b = bench.spawn(rt)?;
-    let (e, f) = bench.wire(rt, a, b)?;
-    let x = bench.alloc(rt, alloc, a, 16, 0)?.rec;
-    let y = bench.alloc(rt, alloc, a, 16, 0)?.rec;
-    assert_eq!(rt; bench.give(rt, a, e, 0, &[x])?, 1);
-    let Err(Refused::Full { back }) = bench.give(rt, a, e, 0, &[y]) else {
-        panic!(rt; "not full");
-    };
-    assert_eq!(rt; back.as_slice(), [y].as_slice());
-    let taken = bench.take(rt, b, f)?;
-    let came = [Got::Here(Block { rec: x, len: 16 })];
-    assert_eq!(rt; taken.blocks.as_slice(), came.as_slice());
-    assert_eq!(rt; bench.give(rt, a, e, 0, &[y])?, 2);
-    Ok(())
+#[test]
+fn full_direction(rt: HostRuntime) -> Result<(), Fail> {
+    assert_on(
+        &rt,
+        rt.alloc(),
+        waiting_of(256, 1),
+        &[
+            (Spawn, Number(0)),
+            (Spawn, Number(1)),
+            (Wire(0, 1), Ends(0, 1)),
+            (Alloc(0, 16, 0), Block(2, 16)),
+            (Alloc(0, 16, 0), Block(3, 16)),
+            (Give(0, 0, 0, &[2]), Number(1)),
+            (Give(0, 0, 0, &[3]), Back("Full", Some(3))),
+            (Take(1, 1), Message(1, 0, [here(2, 16), None])),
+            (Give(0, 0, 0, &[3]), Number(2)),
+        ],
+    )
 }
 
 /// The tail of a block goes to the other process with its bytes.
-pub fn split_and_give_the_tail<N: Names, R: Wait + Abort>(
-    rt: &R,
-    alloc: Global,
-    bench: &mut Bench<N>,
-) -> Result<(), Fail> {
-    let a = bench.spawn(rt)?;
-    let b = bench.spawn(rt)?;
-    let (e, f) = bench.wire(rt, a, b)?;
-    let x = bench.alloc(rt, alloc, a, 48, 0)?.rec;
-    for k in [0, 48, 20] {
-        let cut = bench.split(rt, alloc, a, x, k);
-        assert!(rt; matches!(cut, Err(Refused::BadCut)));
-    }
-    bench.write(rt, a, x, 16, &[1, 2])?;
-    let (head, tail) = bench.split(rt, alloc, a, x, 16)?;
-    assert_eq!(rt; (head.len, tail.len), (16, 32));
-    assert_eq!(rt; bench.give(rt, a, e, 0, &[tail.rec])?, 1);
-    let taken = bench.take(rt, b, f)?;
-    assert_eq!(rt; taken.blocks.as_slice(), [Got::Here(tail)].as_slice());
-    let mut two = [9; 2];
-    bench.read(rt, b, tail.rec, 0, &mut two)?;
-    assert_eq!(rt; two, [1, 2]);
-    assert_eq!(rt; bench.free(rt, a, x)?, 16);
-    assert_eq!(rt; bench.account.moved(0), Some((112, 16)));
-    Ok(())
+#[test]
+fn split_and_give_the_tail(rt: HostRuntime) -> Result<(), Fail> {
+    assert_on(
+        &rt,
+        rt.alloc(),
+        waiting_of(256, 4),
+        &[
+            (Spawn, Number(0)),
+            (Spawn, Number(1)),
+            (Wire(0, 1), Ends(0, 1)),
+            (Alloc(0, 48, 0), Block(2, 48)),
+            (Split(0, 2, 0), No("BadCut")),
+            (Split(0, 2, 48), No("BadCut")),
+            (Split(0, 2, 20), No("BadCut")),
+            (Write(0, 2, 16, &[1, 2]), Done),
+            (Split(0, 2, 16), Two(2, 16, 3, 32)),
+            (Give(0, 0, 0, &[3]), Number(1)),
+            (Take(1, 1), Message(1, 0, [here(3, 32), None])),
+            (Read(1, 3, 0), Bytes([1, 2, 0, 0])),
+            (Free(0, 2), Number(16)),
+            (Count(0), Moved(112, 16)),
+        ],
+    )
 }
 
 /// Messages of a direction come in their order, and then that its other end is closed.
-pub fn direction_until_shut<N: Names, R: Wait + Abort>(
-    rt: &R,
-    bench: &mut Bench<N>,
-) -> Result<(), Fail> {
-    let a = bench.spawn(rt)?;
-    let b = bench.spawn(rt)?;
-    let (e, f) = bench.wire(rt, a, b)?;
-    assert_eq!(rt; bench.give(rt, a, e, 5, &[])?, 1);
-    assert_eq!(rt; bench.give(rt, a, e, 5, &[])?, 2);
-    assert!(rt; matches!(bench.give(rt, a, e, 5, &[]), Err(Refused::Full { .. })));
-    assert_eq!(rt; bench.close(rt, a, e)?, 32);
-    for no in 1..3u64 {
-        let taken = bench.take(rt, b, f)?;
-        assert_eq!(rt; (taken.no, taken.tag, taken.blocks.len()), (no, 5, 0));
-    }
-    assert!(rt; matches!(bench.take(rt, b, f), Err(Refused::PeerClosed { .. })));
-    assert!(rt;
-        matches!(
-            bench.give(rt, b, f, 5, &[]),
-            Err(Refused::PeerClosed { .. })
-        )
-    );
-    Ok(())
+#[test]
+fn direction_until_shut(rt: HostRuntime) -> Result<(), Fail> {
+    assert_on(
+        &rt,
+        rt.alloc(),
+        waiting_of(64, 2),
+        &[
+            (Spawn, Number(0)),
+            (Spawn, Number(1)),
+            (Wire(0, 1), Ends(0, 1)),
+            (Give(0, 0, 5, &[]), Number(1)),
+            (Give(0, 0, 5, &[]), Number(2)),
+            (Give(0, 0, 5, &[]), Back("Full", None)),
+            (Close(0, 0), Number(32)),
+            (Take(1, 1), Message(1, 5, [None, None])),
+            (Take(1, 1), Message(2, 5, [None, None])),
+            (Take(1, 1), Back("PeerClosed", None)),
+            (Give(1, 1, 5, &[]), Back("PeerClosed", None)),
+        ],
+    )
 }

@@ -13,5 +13,6 @@ returns-clause-makings c =
     let e = c.in-Ok.ensures.vault in
     let is = new_vault w n size v (ap (λ (z : VaultOf). z.workers) e) (ap (λ (z : VaultOf). z.collected) e) c.in-Ok.ensures.limits.some_workers
     (ap (λ (z : VaultOf). z.arena.records) e) (ap (λ (z : VaultOf). length z.arena.cover) e ∙ length-replicate size _) in
-    let made = makings_more _ w n size c.args.makings.vaults.items c.args.makings.lots.items c.in-Ok.more.items c.args.makings.names v (λ b new. ap (λ (z : Body). fits_in z 0) new) c.requires.makings is c.in-Ok.ensures.lots in
+    let made = makings_more _ w n size c.args.makings.vaults.items c.args.makings.lots.items c.in-Ok.more.items c.args.makings.names v
+    (λ b new. ap (λ (z : Body). fits_in z 0) new) c.requires.makings is c.in-Ok.ensures.lots in
     rw (c.in_ok-push.ensures.items, c.in_ok-push_back.ensures.items, c.in_ok-lots.ensures, c.name.ensures.same, c.name.ensures.name) made

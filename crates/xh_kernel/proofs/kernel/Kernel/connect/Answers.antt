@@ -10,7 +10,8 @@ returns-in_err-look_at-2-clause-first g c =
     let a = c.in_ok-look_at.ensures in let b = c.in_err-look_at-2.ensures in
     let result = c.from_residual-in_err-look_at-2.result in
     let e : result ≡ Err c.in_err-look_at-2.field-0.0 = search rules in
-    (a.0, b.0, a.1, b.1, second (start c.args.p a.0) (start c.args.q b.0) (Wires g.N.Names.parts c.args.p c.args.q c.args.arena (is_some c.args.contract) result) result c.in_err-look_at-2.field-0.0 a.2.0 b.2 e)
+    let wires = Wires g.N.Names.parts c.args.p c.args.q c.args.arena (is_some c.args.contract) in
+    (a.0, b.0, a.1, b.1, second (start c.args.p a.0) (start c.args.q b.0) (wires result) result c.in_err-look_at-2.field-0.0 a.2.0 b.2 e)
 
 pub returns-in_err-wired-clause-first : goal.returns-in_err-wired-clause-first
 returns-in_err-wired-clause-first g c =
@@ -29,5 +30,6 @@ returns-clause-first g c =
       a.1,
       b.1,
       neither (start c.args.p a.0) (start c.args.q b.0) (Wires parts c.args.p c.args.q c.args.arena ruled c.hand_over.result) c.hand_over.result a.2.0 b.2.0
-          (wired parts c.args.p c.args.q c.args.arena ruled w.low w.high c.open_toward.new.account c.hand_over.new.account c.hand_over.result c.in_ok-wired.ensures.place c.hand_over.ensures.account c.hand_over.ensures.ends),
+          (wired parts c.args.p c.args.q c.args.arena ruled w.low w.high c.open_toward.new.account c.hand_over.new.account c.hand_over.result
+          c.in_ok-wired.ensures.place c.hand_over.ensures.account c.hand_over.ensures.ends),
     )

@@ -1,0 +1,17 @@
+use Rattle.std.proofs.Common.{rules}
+use Rattle.xh_place.specs.Bodies.{patched}
+use Rattle.xh_place.specs.Refusals.{range_tests}
+use Rattle.xh_model.specs.Keyed.{value_at}
+use Rattle.std.specs.Prelude.{length}
+use Rattle.xh_kernel.proofs.Last.{still_told}
+use Rattle.xh_kernel.proofs.held.Held.write.Goals as goal
+
+pub invariant_of-self : goal.invariant_of-self
+invariant_of-self g c =
+    let old = c.args.self.now.place in
+    record {
+      named = search rules;
+      told = still_told old c.write.new.self c.args.self.now.teller.pen c.args.r (patched c.args.at c.args.bytes.now)
+          (range_tests old.state (value_at c.args.r old.blocks) c.args.at (length c.args.bytes.now))
+          c.write.result c.write.ensures.written c.write.ensures.refused c.args.self.now.told;
+    }
