@@ -5,9 +5,11 @@ use crate::closing::{close_books, ledger};
 use arrayvec::ArrayVec;
 use std::alloc::Global;
 use std::marker::Brand;
+use std::sync::Wait;
 use std::test::Fail;
 use xh_core::{ArenaLine, Config, Ledger, PlaceLine, Refused, State};
 use xh_kernel::{Kernel, Names, Parts};
+use xh_place::OpenGate;
 
 /// Of 64 bytes handed out one place owns 48, and 16 are in flight.
 #[test]
@@ -43,16 +45,20 @@ fn close_at_once<N: Names>(alloc: Global, parts: Parts) -> Result<(usize, Ledger
     Ok((count, books))
 }
 
-// As `close_at_once`, over one arena of so many bytes, for two workers.
-fn close_new(alloc: Global, bytes: u32) -> Result<(usize, Ledger), Refused> {
-    let config = Config {
+// One arena of so many bytes.
+fn one_arena(bytes: u32) -> Config {
+    Config {
         arenas: 1,
         bytes,
         records: 2,
         depth: 1,
         wear: 1000,
-    };
-    let parts = Parts::new(alloc, config, 2)?;
+    }
+}
+
+// As `close_at_once`, over one arena of so many bytes, for two workers.
+fn close_new(alloc: Global, bytes: u32) -> Result<(usize, Ledger), Refused> {
+    let parts = Parts::new(alloc, one_arena(bytes), 2)?;
     close_at_once::<Brand>(alloc, parts)
 }
 
@@ -66,5 +72,55 @@ fn empty_kernel(rt: HostRuntime) -> Result<(), Fail> {
     assert_eq!(rt; (books.owned, books.flight, books.out), (0, 0, 0));
     let refused = close_new(rt.alloc(), 40);
     assert!(rt; matches!(&refused, Err(Refused::BadSize)));
+    Ok(())
+}
+
+// The ledger of a kernel in which a process has a block of 48 bytes and gave another of 16 back.
+fn close_used<N: Names, R: Wait>(rt: &R, alloc: Global, parts: Parts) -> Result<Ledger, Refused>
+    requires { parts ≡ N.parts }
+{
+    let (kernel, mut accounts, _looks) = Kernel::<N>::new(alloc, parts)?;
+    let count = accounts.len();
+    let Some(mut account) = accounts.pop() else {
+        return Err(Refused::NoPlace);
+    };
+    let p = kernel.spawn(rt, &OpenGate)?;
+    kernel.alloc(rt, alloc, p, 48, 0, &mut account, &OpenGate)?;
+    let other = kernel.alloc(rt, alloc, p, 16, 0, &mut account, &OpenGate)?;
+    kernel.free(rt, p, other.rec, &mut account, &OpenGate)?;
+    accounts.push(account)?;
+    if accounts.len() != count {
+        return Err(Refused::NoPlace);
+    }
+    let (vaults, places, records) = kernel.settle(alloc)?;
+    close_books(alloc, vaults, places, records, accounts)
+}
+
+// As `close_used`, over a new kernel.
+fn close_one<R: Wait>(rt: &R, alloc: Global) -> Result<Ledger, Refused> {
+    let parts = Parts::new(alloc, one_arena(256), 2)?;
+    close_used::<Brand, R>(rt, alloc, parts)
+}
+
+/// With a growth refused, whichever it is, there is no ledger, and that of the next kernel is exact.
+#[test]
+fn growths_of_a_ledger(rt: HostRuntime) -> Result<(), Fail> {
+    let books = match close_one(&rt, rt.alloc()) {
+        Ok(books) => books,
+        Err(refused) => {
+            assert!(rt; matches!(refused, Refused::OutOfMemory));
+            close_one(&rt, rt.alloc())?
+        }
+    };
+    assert_eq!(rt; (books.arenas.len(), books.places.len()), (1, 1));
+    for arena in books.arenas.as_slice() {
+        assert_eq!(rt; (arena.size, arena.out, arena.holes), (256, 48, 1));
+        assert_eq!(rt; (arena.taken, arena.back), (64, 16));
+    }
+    for place in books.places.as_slice() {
+        assert_eq!(rt; (place.process, place.blocks, place.bytes), (0, 1, 48));
+        assert!(rt; place.state == State::Running);
+    }
+    assert_eq!(rt; (books.owned, books.flight, books.out), (48, 0, 48));
     Ok(())
 }
