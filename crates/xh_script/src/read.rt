@@ -64,7 +64,7 @@ fn read_lines(alloc: Global, text: &[u8]) -> Result<Reading, Fault>
     ensures { Gives (λ r. r) result (after_lines nothing_read 1 (slice_split (λ b. b == 10) text.now)) }
 {
     let lines = pieces(alloc, text, b'\n')?;
-    let mut reading = Reading::new(alloc)?;
+    let mut reading = Reading::new(alloc, lines.len().min(MAX_COMMANDS))?;
     for (i, line) in lines.iter().enumerate() {
         read_line(alloc, &mut reading, i as u32 + 1, line)?;
     }

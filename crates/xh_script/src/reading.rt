@@ -38,8 +38,8 @@ impl Model for Reading {
 }
 
 impl Reading {
-    /// Nothing.
-    pub(crate) fn new(alloc: Global) -> Result<Reading, AllocError>
+    /// Nothing, with room for so many commands.
+    pub(crate) fn new(alloc: Global, room: usize) -> Result<Reading, AllocError>
         ensures { IfOk result (λ r. r ≡ nothing_read) }
     {
         let mut blocks = Vec::new(alloc);
@@ -47,7 +47,7 @@ impl Reading {
             blocks.push(Names::new(alloc))?;
         }
         Ok(Reading {
-            lines: Vec::new(alloc),
+            lines: Vec::with_capacity(alloc, room)?,
             processes: Names::new(alloc),
             blocks,
             declared: Names::new(alloc),
