@@ -10,7 +10,7 @@ use std::alloc::{AllocError, Global};
 use std::sync::{Mutex, Wait};
 use xh_kernel::{Account, Names};
 use xh_place::Gate;
-use xh_script::{Line, Reply};
+use xh_script::{Form, Line, Reply};
 
 /// What all workers of a run share: the lines of the script, what the names of processes stand for by
 /// now, and whether all workers could be started.
@@ -47,12 +47,14 @@ pub(super) fn is_of(line: &Line, process: u8) -> bool
 }
 
 impl<'a, N: Names, R: Wait, G: Gate> Job<'a, N, R, G> {
-    // Does a command; names of processes stand for what they stand for at its start.
+    // Does a command. Where it names another process, the name stands for what it stands for at the start.
     fn step(&mut self, rt: &R, alloc: Global, shared: &Shared<'a>, line: &Line) -> Reply
         ensures process { self.new.process ≡ self.old.process }
         ensures replies { self.new.replies ≡ self.old.replies }
     {
-        self.session.follow(&shared.names.lock(rt));
+        if matches!(line.command.form, Form::Kill | Form::Glance) {
+            self.session.follow(&shared.names.lock(rt));
+        }
         let reply = self.session.step(alloc, &line.command);
         if let Reply::Started(number) = reply {
             shared.names.lock(rt).start(self.process, number);
