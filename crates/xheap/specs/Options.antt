@@ -1,5 +1,5 @@
 -- What the words of the command line say.
-use Rattle.std.specs.Prelude.{◌≡◌, ◌≢◌, ◌⊎◌, ◌%◌, ◌^◌, ◌&&◌, ℕ, Bool, true, false, List, [], ◌∷◌, map, nat_lt, if◌then◌else◌, Option, Some, None, option_and_then, unwrap_or, codes, String}
+use Rattle.std.specs.Prelude.{◌≡◌, ◌≢◌, ◌⊎◌, ◌^◌, ◌&&◌, ℕ, Bool, true, false, List, [], ◌∷◌, map, nat_lt, if◌then◌else◌, Option, Some, None, option_and_then, unwrap_or, codes, String}
 use Rattle.std.specs.Prelude.{string_bytes}
 use Rattle.std.specs.Str.Parse.{digits_value, without_leading_plus}
 use Rattle.clap.specs.ValueTests.{is_numeral}
@@ -10,6 +10,7 @@ use Rattle.clap.specs.declared.builder.arg.Arg.{Arg}
 use Rattle.clap.specs.declared.builder.value_parser.ValueParser.TheVariants.{Unsigned}
 use Rattle.clap.specs.declared.error.kind.ErrorKind.{ErrorKind}
 use Rattle.clap.specs.declared.error.kind.ErrorKind.TheVariants.{DisplayHelp, DisplayVersion}
+use Rattle.xh_model.specs.Config.{IsConfig}
 use Rattle.xh_model.specs.declared.config.Config.{Config}
 use Rattle.xh_model.specs.declared.limits.TheConstants.{UNIT, MAX_ARENAS, MAX_BYTES, MAX_RECORDS, MAX_DEPTH, MAX_WEAR}
 
@@ -101,15 +102,15 @@ AreTaken words = fault_of command_line words ≡ []
 abbrev pub IsMistake : ErrorKind → Type 0
 IsMistake kind = (kind ≢ DisplayHelp) × (kind ≢ DisplayVersion)
 
--- the words ask for a run
+-- the words ask for a run, with limits that a machine can be made with: so no run ends with BadConfig
 abbrev pub AreOptions : List Text → Type 0
-AreOptions words = AreTaken words × ((options_of words).bytes % UNIT ≡ 0)
+AreOptions words = AreTaken words × IsConfig (options_of words)
 
 -- the words ask for help or for the version
 abbrev pub AreQuestion : List Text → Type 0
 AreQuestion words = (kind : ErrorKind) × IsAmong kind (fault_of command_line words) × ¬ IsMistake kind
 
--- the command line finds a mistake in the words, or the bytes are no multiple of the unit
+-- the command line finds a mistake in the words, or no machine can be made with their limits
 abbrev pub AreWrong : List Text → Type 0
 AreWrong words = ((kind : ErrorKind) × IsAmong kind (fault_of command_line words) × IsMistake kind)
-    ⊎ (AreTaken words × ((options_of words).bytes % UNIT ≢ 0))
+    ⊎ (AreTaken words × ¬ IsConfig (options_of words))

@@ -15,7 +15,6 @@ use std::io::{Read, Write};
 use std::sync::Wait;
 use std::thread::Threads;
 use xh_core::Config;
-use xh_model::limits::UNIT;
 use xh_runner::{run_parallel, run_serial};
 use xh_script::{Fault, Watched};
 
@@ -110,6 +109,8 @@ fn run<T: Threads + Wait + Sync, R: Read, W: Write, E: Write>(
 /// The program: its words (the first is its own name), its input and its outputs; the answer is its
 /// status. A fault of `err` is passed over, and so is one of `out` while help or the version is
 /// printed.
+///
+/// Of the limits only bytes that are no multiple of 16 are refused here: the command line keeps the others.
 pub(crate) fn run_main<T: Threads + Wait + Sync, R: Read, W: Write, E: Write>(
     rt: &T,
     alloc: Global,
@@ -122,7 +123,7 @@ pub(crate) fn run_main<T: Threads + Wait + Sync, R: Read, W: Write, E: Write>(
 {
     match options_of(alloc, words) {
         Err(error) => explained(alloc, &error, out, err),
-        Ok(options) if options.config.bytes % UNIT != 0 => {
+        Ok(options) if !options.config.is_in_limits() => {
             let _ = err.write_all(b"xheap: --bytes must be a multiple of 16\n");
             WORDS
         }
