@@ -6,11 +6,13 @@ mod bench;
 mod blocks;
 mod contracts;
 mod endings;
+mod growths;
 mod messages;
 mod passing;
 mod places;
 mod waiting;
 mod wiring;
+mod without_memory;
 
 use crate::{Kernel, Names, Parts};
 use answers::{Answer, Call, assert_answers};
