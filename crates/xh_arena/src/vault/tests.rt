@@ -1,12 +1,14 @@
 //! A vault's calls with figures.
-ghost use Rattle.std.specs.Prelude.{◌≡◌};
+mod answers;
 
 use crate::{Fits, Lot, Refused, Tally, Vault};
-use std::alloc::Global;
+use answers::Answer::{At, Bytes, Done, Has, No};
+use answers::Call::{Audit, Books, Carve, Cut, GiveBack, Moved};
+use answers::{Hand, assert_answers, dealt};
 use std::process::Abort;
 
 #[derive(Default, Drop)]
-struct Any {
+pub struct Any {
     seen: u32,
 }
 
@@ -20,55 +22,27 @@ impl Fits for Any {
     }
 }
 
-/// A vault with its first two lots and its two tallies.
-#[derive(Drop)]
-struct Hand {
-    vault: Vault,
-    first: Lot<Any>,
-    second: Lot<Any>,
-    one: Tally,
-    two: Tally,
-    ghost lots: { (first.id ≡ vault.id) × (second.id ≡ vault.id) × (first.len ≡ 0) × (second.len ≡ 0) },
-    ghost tallies: { (one.id ≡ vault.id) × (two.id ≡ vault.id) },
-}
-
-fn dealt(rt: &impl Abort, alloc: Global) -> Hand {
-    let Ok((vault, mut lots, mut tallies)) = Vault::new::<Any>(alloc, 64, 4, 80, 2) else {
-        panic!(rt; "no vault");
-    };
-    let first = lots.remove(0);
-    let second = lots.remove(0);
-    let one = tallies.remove(0);
-    let two = tallies.remove(0);
-    Hand {
-        vault,
-        first,
-        second,
-        one,
-        two,
-    }
-}
-
 #[test]
 fn worn_vault(rt: HostRuntime) {
+    let mut hand = dealt(&rt, rt.alloc());
+    let calls = [
+        (0, Audit, Has(0, None, 0)),
+        (1, Audit, Has(1, None, 0)),
+        (0, Carve(64), At(0)),
+        (0, GiveBack, Done),
+        (1, Carve(32), No(Refused::Worn)),
+        (0, Moved, Bytes(64, 64)),
+        (1, Moved, Bytes(0, 0)),
+        (0, Books, Bytes(64, 0)),
+    ];
+    assert_answers(&rt, &mut hand, &calls);
     let Hand {
         mut vault,
-        mut first,
-        mut second,
-        mut one,
-        mut two,
-    } = dealt(&rt, rt.alloc());
-    assert_eq!(rt; (first.record(), second.record()), (0, 1));
+        one,
+        two,
+        ..
+    } = hand;
     assert_eq!(rt; vault.size(), 64);
-    let Ok(start) = vault.carve(&mut first, &mut one, 64) else {
-        panic!(rt; "no room");
-    };
-    assert_eq!(rt; start, 0);
-    vault.give_back(&mut first, &mut one);
-    assert!(rt; matches!(vault.carve(&mut second, &mut two, 32), Err(Refused::Worn)));
-    assert_eq!(rt; (one.taken(), one.back()), (64, 64));
-    assert_eq!(rt; (two.taken(), two.back()), (0, 0));
-    assert_eq!(rt; (vault.wear(), vault.handed_out()), (64, 0));
     assert_eq!(rt; vault.holes(), [(0, 64)].as_slice());
     let _name = vault.name();
     vault.collect(one);
@@ -79,56 +53,34 @@ fn worn_vault(rt: HostRuntime) {
 /// is none, and a refusal changes neither the lot nor the tally.
 #[test]
 fn carved_to_its_limit(rt: HostRuntime) {
-    let Hand {
-        mut vault,
-        mut first,
-        mut second,
-        mut one,
-        mut two,
-    } = dealt(&rt, rt.alloc());
-    let Ok(start) = vault.carve(&mut first, &mut one, 64) else {
-        panic!(rt; "no room");
-    };
-    assert_eq!(rt; start, 0);
-    let Err(full) = vault.carve(&mut second, &mut two, 16) else {
-        panic!(rt; "more room than the size");
-    };
-    assert_eq!(rt; full, Refused::NoSpace);
-    assert_eq!(rt; (second.len(), two.taken()), (0, 0));
-    vault.give_back(&mut first, &mut one);
-    let Ok(again) = vault.carve(&mut second, &mut two, 16) else {
-        panic!(rt; "no room");
-    };
-    assert_eq!(rt; again, 0);
-    let Err(worn) = vault.carve(&mut first, &mut one, 16) else {
-        panic!(rt; "more than the limit");
-    };
-    assert_eq!(rt; worn, Refused::Worn);
-    assert_eq!(rt; (first.len(), one.taken()), (0, 64));
-    assert_eq!(rt;
-        (vault.wear(), vault.handed_out(), vault.records()),
-        (80, 16, 4)
-    );
+    let mut hand = dealt(&rt, rt.alloc());
+    let calls = [
+        (0, Carve(64), At(0)),
+        (1, Carve(16), No(Refused::NoSpace)),
+        (1, Audit, Has(1, None, 0)),
+        (1, Moved, Bytes(0, 0)),
+        (0, GiveBack, Done),
+        (1, Carve(16), At(0)),
+        (0, Carve(16), No(Refused::Worn)),
+        (0, Audit, Has(0, None, 0)),
+        (0, Moved, Bytes(64, 64)),
+        (0, Books, Bytes(80, 16)),
+    ];
+    assert_answers(&rt, &mut hand, &calls);
+    assert_eq!(rt; hand.vault.records(), 4);
 }
 
 #[test]
 fn a_lot_is_cut(rt: HostRuntime) {
-    let Hand {
-        mut vault,
-        mut first,
-        mut second,
-        mut one,
-        two: _,
-    } = dealt(&rt, rt.alloc());
-    let Ok(_start) = vault.carve(&mut first, &mut one, 48) else {
-        panic!(rt; "no room");
-    };
-    vault.cut(&mut first, &mut second, 16);
-    vault.audit(&mut first);
-    vault.audit(&mut second);
-    assert_eq!(rt; vault.extent(first.record()), Some((0, 16)));
-    assert_eq!(rt; vault.extent(second.record()), Some((16, 32)));
-    assert_eq!(rt; (first.len(), second.len()), (16, 32));
+    let mut hand = dealt(&rt, rt.alloc());
+    let calls = [
+        (0, Carve(48), At(0)),
+        (0, Cut(16), Done),
+        (0, Audit, Has(0, Some((0, 16)), 16)),
+        (1, Audit, Has(1, Some((16, 32)), 32)),
+    ];
+    assert_answers(&rt, &mut hand, &calls);
+    let Hand { mut first, .. } = hand;
     first.body_mut().seen = 3;
     assert_eq!(rt; first.body().seen, 3);
     assert!(rt; first.body().fits(16));
@@ -150,20 +102,35 @@ fn workers_are_1_to_33(rt: HostRuntime) {
     );
 }
 
-/// A vault of 64 bytes for 4 records and 2 workers as it is made: all lots are empty, and no tally moved a byte.
-fn assert_new(rt: &impl Abort, vault: &Vault, lots: &[Lot<Any>], tallies: &[Tally]) {
+/// Each lot is empty, and of the record of its place.
+fn assert_empty(rt: &impl Abort, lots: &[Lot<Any>]) {
+    for (index, lot) in lots.iter().enumerate() {
+        assert_eq!(rt; (usize::from(lot.record()), lot.len()), (index, 0));
+    }
+}
+
+/// No tally moved a byte.
+fn assert_unmoved(rt: &impl Abort, tallies: &[Tally]) {
+    for tally in tallies {
+        assert_eq!(rt; (tally.taken(), tally.back()), (0, 0));
+    }
+}
+
+/// A vault of 64 bytes as it is made.
+fn assert_whole(rt: &impl Abort, vault: &Vault) {
     assert_eq!(rt;
         (vault.size(), vault.handed_out(), vault.wear()),
         (64, 0, 0)
     );
     assert_eq!(rt; vault.holes(), [(0, 64)].as_slice());
+}
+
+/// A vault of 64 bytes for 4 records and 2 workers as it is made: all lots are empty, and no tally moved a byte.
+fn assert_new(rt: &impl Abort, vault: &Vault, lots: &[Lot<Any>], tallies: &[Tally]) {
     assert_eq!(rt; (lots.len(), tallies.len()), (4, 2));
-    for (index, lot) in lots.iter().enumerate() {
-        assert_eq!(rt; (usize::from(lot.record()), lot.len()), (index, 0));
-    }
-    for tally in tallies {
-        assert_eq!(rt; (tally.taken(), tally.back()), (0, 0));
-    }
+    assert_whole(rt, vault);
+    assert_empty(rt, lots);
+    assert_unmoved(rt, tallies);
 }
 
 /// Where one growth is refused, whichever it is, one of two calls is out of memory, and the other makes a whole vault.
