@@ -1,5 +1,5 @@
 //! Worked examples: a record goes its round, two threads claim, and what is refused.
-ghost use Rattle.std.specs.Prelude.{◌≡◌, ◌<◌, ◌≤◌, [], ◌∷◌, length, IfSome, IfOk};
+ghost use Rattle.std.specs.Prelude.{◌≡◌, ◌<◌, ◌≤◌, [], ◌∷◌, length, slice_get, Some, IfSome, IfOk};
 ghost use Rattle.xh_model.specs.declared.limits.TheConstants.{MAX_RECORDS};
 ghost use Rattle.xh_records.specs.Seats.{IsSeatOf};
 
@@ -10,6 +10,7 @@ mod threads;
 use crate::{OwnerWord, Records, Refused, Seat};
 use std::alloc::Global;
 use std::collections::LinkedList;
+use std::process::Abort;
 use xh_arena::{Fits, Lot, Tally, Vault};
 
 /// It fits each length.
@@ -42,22 +43,39 @@ struct Bench {
     ghost tally_of: { tally.id ≡ vault.id },
 }
 
+/// The first of the items.
+fn first_of<T: Drop>(mut items: Vec<T>) -> T
+    requires { 1 ≤ length items.items }
+    ensures { slice_get items.items 0 ≡ Some result }
+{
+    items.remove(0)
+}
+
+/// The first two of the items.
+fn first_two<T: Drop>(mut items: Vec<T>) -> (T, T)
+    requires { 2 ≤ length items.items }
+    ensures { (slice_get items.items 0 ≡ Some result.0) × (slice_get items.items 1 ≡ Some result.1) }
+{
+    let first = items.remove(0);
+    let second = items.remove(0);
+    (first, second)
+}
+
 /// The bench of a new vault, unless a growth was refused.
 fn make_bench(alloc: Global, size: u32, count: u16, wear: u64) -> Option<Bench>
     requires { (0 < count) × (count ≤ MAX_RECORDS) }
     ensures { IfSome result (λ b. b.records.shape.records ≡ count) }
 {
-    let Ok((mut vault, lots, mut tallies)) = Vault::new::<Any>(alloc, size, count, wear, 1) else {
+    let Ok((mut vault, lots, tallies)) = Vault::new::<Any>(alloc, size, count, wear, 1) else {
         return None;
     };
     let mut names = LinkedList::new(alloc);
     names.push_back(vault.name()).ok()?;
-    let Ok((records, mut seats)) = Records::new(alloc, lots, names, count, 2) else {
+    let Ok((records, seats)) = Records::new(alloc, lots, names, count, 2) else {
         return None;
     };
-    let first = seats.remove(0);
-    let second = seats.remove(0);
-    let tally = tallies.remove(0);
+    let (first, second) = first_two(seats);
+    let tally = first_of(tallies);
     Some(Bench {
         vault,
         tally,
@@ -81,6 +99,22 @@ fn close_both(
         return Err(Refused::OutOfMemory);
     };
     records.close(alloc, seats)
+}
+
+/// These are the words of a table that was taken apart, and the lengths of its lots.
+fn assert_left(rt: &impl Abort, words: &[u64], lots: &[Lot<Any>], expected: &[(u64, u32)]) {
+    assert_eq!(rt; (words.len(), lots.len()), (expected.len(), expected.len()));
+    for (at, (word, len)) in expected.iter().enumerate() {
+        let found = match lots.get(at) {
+            Some(lot) => Some(lot.len()),
+            None => None,
+        };
+        assert_eq!(rt;
+            (words.get(at).copied(), found),
+            (Some(*word), Some(*len)),
+            "record {at}"
+        );
+    }
 }
 
 #[test]

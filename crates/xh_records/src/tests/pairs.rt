@@ -6,7 +6,7 @@ ghost use Rattle.xh_records.specs.Showing.{IsLotOf};
 ghost use Rattle.xh_records.specs.Seats.{IsRecord, IsSeatOf};
 
 use super::rounds::carve_at;
-use super::{Any, Bench, close_both, make_bench};
+use super::{Any, Bench, assert_left, close_both, make_bench};
 use crate::{Records, Seat};
 use std::process::Abort;
 use std::test::Fail;
@@ -78,7 +78,6 @@ fn two_lots_are_lent(rt: HostRuntime) -> Result<(), Fail> {
     let lens = cut_in_two(&rt, &records, &mut first, &mut vault, &mut tally);
     assert_eq!(rt; lens, (16, 16));
     let (words, lots) = close_both(rt.alloc(), records, first, second)?;
-    assert_eq!(rt; words.as_slice(), [1, 1].as_slice());
-    assert_eq!(rt; (lots[0].len(), lots[1].len(), lots.len()), (16, 16, 2));
+    assert_left(&rt, &words, &lots, &[(1, 16), (1, 16)]);
     Ok(())
 }

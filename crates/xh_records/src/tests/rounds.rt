@@ -6,7 +6,7 @@ ghost use Rattle.xh_model.specs.Keyed.{put, value_at};
 ghost use Rattle.xh_records.specs.Showing.{IsLotOf};
 ghost use Rattle.xh_records.specs.Seats.{IsRecord, IsSeatOf, with_lots};
 
-use super::{Any, Bench, close_both, make_bench};
+use super::{Any, Bench, assert_left, close_both, make_bench};
 use crate::{Records, Refused, Seat};
 use std::process::Abort;
 use std::test::Fail;
@@ -54,6 +54,21 @@ fn give_back_at(
     );
 }
 
+/// The seat finds this word at the record.
+fn assert_word(
+    rt: &impl Abort,
+    records: &Records<Any>,
+    seat: &mut Seat<Any>,
+    number: u16,
+    word: u64,
+)
+    requires own { IsSeatOf records.now seat.old }
+    requires exists { IsRecord records.now.shape number }
+    ensures same { seat.new ≡ seat.old }
+{
+    assert_eq!(rt; records.owner_word(seat, number), word);
+}
+
 /// The first seat claims record 0, carves it and passes it on the direction.
 pub(super) fn give_away(
     rt: &impl Abort,
@@ -74,12 +89,24 @@ pub(super) fn give_away(
         panic!(rt; "no record");
     };
     assert_eq!(rt; number, 0);
-    assert_eq!(rt; records.owner_word(seat, number), 1);
+    assert_word(rt, records, seat, number, 1);
     let Some(start) = carve_at(records, seat, number, vault, tally) else {
         panic!(rt; "no room");
     };
     assert_eq!(rt; start, 0);
     records.pass(seat, number, direction);
+}
+
+/// Record 0 is in flight on direction 5, and not on direction 4.
+fn miss(rt: &impl Abort, records: &Records<Any>, seat: &mut Seat<Any>)
+    requires own { IsSeatOf records.now seat.old }
+    requires exists { IsRecord records.now.shape 0 }
+    ensures same { seat.new ≡ seat.old }
+{
+    let Err(word) = records.accept(seat, 0, 4) else {
+        panic!(rt; "on another direction");
+    };
+    assert_eq!(rt; word, 22);
 }
 
 /// The second seat accepts record 0, but not on direction 4, gives its bytes back and vacates it.
@@ -96,17 +123,14 @@ fn take_over(
     requires ids { tally.old.id ≡ vault.old.id }
     ensures seat { (seat.new.table ≡ seat.old.table) × (seat.new.shape ≡ seat.old.shape) × (seat.new.process ≡ seat.old.process) × (seat.new.lots ≡ []) }
 {
-    let Err(word) = records.accept(seat, 0, 4) else {
-        panic!(rt; "on another direction");
-    };
-    assert_eq!(rt; word, 22);
+    miss(rt, records, seat);
     let Ok(()) = records.accept(seat, 0, 5) else {
         panic!(rt; "not in flight");
     };
-    assert_eq!(rt; records.owner_word(seat, 0), 5);
+    assert_word(rt, records, seat, 0, 5);
     give_back_at(records, seat, 0, vault, tally);
     records.vacate(seat, 0);
-    assert_eq!(rt; records.owner_word(seat, 0), 0);
+    assert_word(rt, records, seat, 0, 0);
 }
 
 #[test]
@@ -123,14 +147,13 @@ fn record_words(rt: HostRuntime) -> Result<(), Fail> {
     } = bench;
     assert!(rt; records.has(1) && !records.has(2) && !records.has(256));
     give_away(&rt, &records, &mut first, &mut vault, &mut tally, 5);
-    assert_eq!(rt; records.owner_word(&mut first, 0), 22);
+    assert_word(&rt, &records, &mut first, 0, 22);
     take_over(&rt, &records, &mut second, &mut vault, &mut tally);
     assert_eq!(rt; (tally.taken(), tally.back()), (32, 32));
     assert_eq!(rt; records.renew(&mut first), 32);
     assert_eq!(rt; (first.process(), second.process()), (32, 1));
     let (words, lots) = close_both(rt.alloc(), records, first, second)?;
-    assert_eq!(rt; words.as_slice(), [0, 0].as_slice());
-    assert_eq!(rt; (lots[0].len(), lots[1].len(), lots.len()), (0, 0, 2));
+    assert_left(&rt, &words, &lots, &[(0, 0), (0, 0)]);
     Ok(())
 }
 

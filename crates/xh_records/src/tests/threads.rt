@@ -56,7 +56,9 @@ fn claim_each<R: Abort + Threads + Sync>(rt: &R, alloc: Global) -> Result<(), Fa
     assert_eq!(rt; one.1.len() + other.1.len(), 8);
     let (words, _lots) = close_both(alloc, records, one.0, other.0)?;
     assert_eq!(rt; words.len(), 8);
-    assert!(rt; words.iter().all(|word| *word == 1 || *word == 5));
+    for word in &words {
+        assert!(rt; *word == 1 || *word == 5);
+    }
     Ok(())
 }
 

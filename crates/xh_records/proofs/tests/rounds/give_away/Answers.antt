@@ -19,7 +19,7 @@ module _ (g : Over) (c : In-Some g) where
   carved : c.carve_at.new.seat ≡ with_lots claimed ((c.in-Ok.number, lot) ∷ [])
   carved =
       let l = c.in-Ok.ensures.claimed.0 in
-      let one = gains_one claimed _ claimed c.in-Ok.number l l c.requires.bare (c.owner_word.ensures.same ∙ c.in-Ok.ensures.claimed.1) in
+      let one = gains_one claimed _ claimed c.in-Ok.number l l c.requires.bare (c.assert_word.ensures.same ∙ c.in-Ok.ensures.claimed.1) in
       changes_one claimed _ _ c.in-Ok.number l lot one (c.in-Some.ensures.lot l (has_one claimed _ claimed c.in-Ok.number l l one))
 
 pub pass-requires-clause-own : goal.pass-requires-clause-own
