@@ -1,6 +1,8 @@
 //! The channels: their directions, their endpoints, and shutting.
 #![tactic(auto)]
 
+#[cfg(test)]
+mod answers;
 mod channel_end;
 mod channel_state;
 mod channels;

@@ -1,4 +1,3 @@
-mod answers;
 mod lines;
 mod refusals;
 mod side_by_side;
@@ -6,13 +5,13 @@ mod threads;
 mod waits;
 
 use super::Channels;
+use crate::answers::Answer::{Refused as No, Sent, Shut as Closed, Taken, Turn};
+use crate::answers::Call::{Put, Shut, Take, Turn as Look};
+use crate::answers::{assert_answers, opened};
 use crate::endpoint::{Endpoint, compare};
 use crate::refused::Refused;
 use crate::spot::Spot;
 use crate::unsent::Unsent;
-use answers::Answer::{Refused as No, Sent, Shut as Closed, Taken, Turn};
-use answers::Call::{Put, Shut, Take, Turn as Look};
-use answers::{assert_answers, opened};
 use arrayvec::ArrayVec;
 use std::sync::Wait;
 use std::test::Fail;

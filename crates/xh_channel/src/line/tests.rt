@@ -1,8 +1,12 @@
-ghost use Rattle.std.specs.Prelude.{◌<◌};
+ghost use Rattle.std.specs.Prelude.{◌≡◌, []};
+ghost use Rattle.xh_channel.specs.Lines.{waiting};
 
 use super::*;
+use crate::answers::Answer::{Refused as No, Sent, Shut as Closed, Taken};
+use crate::answers::Call::{Put, Shut, Take};
+use crate::answers::assert_line;
 use crate::counts::Counts;
-use std::test::*;
+use std::process::Abort;
 use xh_core::Row;
 
 /// The side 0 asks by 1, the side 1 answers by 2; the side 0 may send any number of 3 after a 9.
@@ -21,103 +25,76 @@ fn rows() -> [Row; 4] {
     ]
 }
 
-/// A message with no blocks.
-fn put(line: &mut Line, side: u8, tag: u16) -> Result<u64, Unsent>
-    requires { side < 2 }
-{
-    line.put(side, tag, ArrayVec::new())
+fn contract_of(rt: &impl Abort, rows: &[Row]) -> Contract {
+    let Ok(contract) = Contract::new(rows) else {
+        panic!(rt; "the table is valid");
+    };
+    contract
 }
 
 #[test]
 fn contract_refusals(rt: HostRuntime) {
-    let made = Contract::new(&rows()[..2]);
-    assert!(rt; made.is_ok());
-    if let Ok(contract) = made {
-        let mut line = Line::new(contract, 16);
-        assert!(rt; matches!(put(&mut line, 0, 2), Err(Unsent::Protocol { .. })));
-        assert!(rt; matches!(put(&mut line, 1, 2), Err(Unsent::Protocol { .. })));
-        assert!(rt; matches!(put(&mut line, 0, 1), Ok(1)));
-        assert!(rt; matches!(put(&mut line, 0, 1), Err(Unsent::Protocol { .. })));
-        assert!(rt; matches!(put(&mut line, 1, 1), Err(Unsent::Protocol { .. })));
-        assert!(rt; matches!(line.take(1), Ok(Message { no: 1, tag: 1, .. })));
-        assert!(rt; matches!(put(&mut line, 1, 2), Ok(1)));
-        assert!(rt; matches!(line.take(0), Ok(Message { no: 1, tag: 2, .. })));
-        assert!(rt; matches!(put(&mut line, 0, 1), Ok(2)));
-    }
+    let mut line = Line::new(contract_of(&rt, &rows()[..2]), 16);
+    let calls = [
+        (0, Put(2, None), No(22, None)),
+        (1, Put(2, None), No(22, None)),
+        (0, Put(1, None), Sent(1)),
+        (0, Put(1, None), No(22, None)),
+        (1, Put(1, None), No(22, None)),
+        (1, Take, Taken(1, 1, None)),
+        (1, Put(2, None), Sent(1)),
+        (0, Take, Taken(1, 2, None)),
+        (0, Put(1, None), Sent(2)),
+    ];
+    assert_line(&rt, &mut line, &calls);
 }
 
 #[test]
 fn a_line_full_then_shut(rt: HostRuntime) {
-    let made = Contract::new(&rows());
-    assert!(rt; made.is_ok());
-    if let Ok(contract) = made {
-        let mut line = Line::new(contract, 2);
-        assert!(rt; matches!(line.take(1), Err(Refused::Empty)));
-        assert!(rt; matches!(put(&mut line, 0, 9), Ok(1)));
-        assert!(rt; matches!(line.put(0, 3, blocks_of(7)), Ok(2)));
-        let full = line.put(0, 3, blocks_of(8));
-        assert!(rt;
-            matches!(&full, Err(Unsent::Full { back }) if back.as_slice() == [8].as_slice())
-        );
-        let banned = line.put(0, 1, blocks_of(8));
-        assert!(rt;
-            matches!(&banned, Err(Unsent::Protocol { back }) if back.as_slice() == [8].as_slice())
-        );
-        line.shut(1);
-        let closed = line.put(0, 3, blocks_of(8));
-        assert!(rt;
-            matches!(&closed, Err(Unsent::PeerClosed { back }) if back.as_slice() == [8].as_slice())
-        );
-        assert!(rt; matches!(line.take(0), Err(Refused::PeerClosed { back }) if back.is_empty()));
-        assert!(rt; matches!(line.take(1), Ok(Message { no: 1, tag: 9, .. })));
-        let second = line.take(1);
-        assert!(rt;
-            matches!(&second, Ok(Message { no: 2, tag: 3, blocks }) if blocks.as_slice() == [7].as_slice())
-        );
-        assert!(rt; matches!(line.take(1), Err(Refused::Empty)));
+    let mut line = Line::new(contract_of(&rt, &rows()), 2);
+    let calls = [
+        (1, Take, No(16, None)),
+        (0, Put(9, None), Sent(1)),
+        (0, Put(3, Some(7)), Sent(2)),
+        (0, Put(3, Some(8)), No(14, Some(8))),
+        (0, Put(1, Some(8)), No(22, Some(8))),
+        (1, Shut, Closed),
+        (0, Put(3, Some(8)), No(15, Some(8))),
+        (0, Take, No(15, None)),
+        (1, Take, Taken(1, 9, None)),
+        (1, Take, Taken(2, 3, Some(7))),
+        (1, Take, No(16, None)),
+    ];
+    assert_line(&rt, &mut line, &calls);
+}
+
+/// An end that carried all messages of a direction but the last.
+fn end_of(put: u64, taken: u64) -> LineEnd
+    ensures { (result.state ≡ 0) × (waiting result ≡ []) × (result.counts.put ≡ put) × (result.counts.taken ≡ taken) }
+{
+    LineEnd {
+        counts: Counts {
+            put,
+            taken,
+            ..Counts::none()
+        },
+        ..LineEnd::new(0)
     }
 }
 
 #[test]
 fn a_direction_that_has_carried_its_last_message_is_full(rt: HostRuntime) {
-    let made = Contract::new(&rows()[2..]);
-    assert!(rt; made.is_ok());
-    if let Ok(contract) = made {
-        let mut line = Line {
-            contract,
-            depth: 2,
-            left: LineEnd {
-                counts: Counts {
-                    put: MAX_MESSAGES - 1,
-                    ..Counts::none()
-                },
-                ..LineEnd::new(0)
-            },
-            right: LineEnd {
-                counts: Counts {
-                    taken: MAX_MESSAGES - 1,
-                    ..Counts::none()
-                },
-                ..LineEnd::new(0)
-            },
-        };
-        assert!(rt; matches!(put(&mut line, 0, 9), Ok(MAX_MESSAGES)));
-        assert!(rt;
-            matches!(
-                line.take(1),
-                Ok(Message {
-                    no: MAX_MESSAGES,
-                    ..
-                })
-            )
-        );
-        assert!(rt; matches!(put(&mut line, 0, 3), Err(Unsent::Full { .. })));
-        assert!(rt; matches!(line.take(1), Err(Refused::Empty)));
-    }
-}
-
-fn blocks_of(record: u16) -> ArrayVec<u16, MAX_BLOCKS> {
-    let mut blocks = ArrayVec::new();
-    blocks.push(record);
-    blocks
+    let mut line = Line {
+        contract: contract_of(&rt, &rows()[2..]),
+        depth: 2,
+        left: end_of(MAX_MESSAGES - 1, 0),
+        right: end_of(0, MAX_MESSAGES - 1),
+    };
+    let calls = [
+        (0, Put(9, None), Sent(MAX_MESSAGES)),
+        (1, Take, Taken(MAX_MESSAGES, 9, None)),
+        (0, Put(3, None), No(14, None)),
+        (1, Take, No(16, None)),
+    ];
+    assert_line(&rt, &mut line, &calls);
 }

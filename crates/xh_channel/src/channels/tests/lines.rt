@@ -2,9 +2,9 @@ ghost use Rattle.std.specs.Prelude.{IfOk};
 ghost use Rattle.xh_channel.specs.Pairs.{IsPair};
 
 use super::Channels;
-use super::answers::Answer::{Refused as No, Sent, Shut as Closed, Taken, Turn};
-use super::answers::Call::{Put, Shut, Take, Turn as Look};
-use super::answers::assert_answers;
+use crate::answers::Answer::{Refused as No, Sent, Shut as Closed, Taken, Turn};
+use crate::answers::Call::{Put, Shut, Take, Turn as Look};
+use crate::answers::assert_answers;
 use crate::endpoint::Endpoint;
 use crate::refused::Refused;
 use std::alloc::Global;

@@ -1,9 +1,7 @@
 // A channel on queues and a line answer the same calls alike.
-ghost use Rattle.std.specs.Prelude.{◌<◌};
-
 use super::Channels;
-use super::answers::Call::{Put, Shut, Take};
-use super::answers::{Answer, Call, answer_of, blocks_of, of_put, of_take};
+use crate::answers::Call::{Put, Shut, Take};
+use crate::answers::{Answer, Call, answer_of, by_line};
 use crate::line::Line;
 use std::test::Fail;
 use xh_core::{Contract, Row};
@@ -17,21 +15,6 @@ fn always_from(side: u8) -> Option<Contract> {
         next: 0,
     };
     Contract::new(&[row]).ok()
-}
-
-fn by_line(line: &mut Line, side: u8, call: Call) -> Answer
-    requires { side < 2 }
-{
-    match call {
-        Put(tag, block) => of_put(line.put(side, tag, blocks_of(block))),
-        Take => of_take(line.take(side)),
-        Shut => {
-            line.shut(side);
-            Answer::Shut
-        }
-        // a line has no turn
-        Call::Turn => Answer::Turn(0),
-    }
 }
 
 // The next of a row of numbers that look random.

@@ -1,10 +1,11 @@
-//! Calls on a channel and what they answer, to be compared.
-ghost use Rattle.std.specs.Prelude.{IfOk};
+//! Calls on a channel or a line and what they answer, to be compared.
+ghost use Rattle.std.specs.Prelude.{◌<◌, IfOk};
 ghost use Rattle.xh_channel.specs.Pairs.{IsPair};
 ghost use Rattle.xh_channel.specs.Queues.{IsSameEnd};
 
 use crate::channels::Channels;
 use crate::endpoint::Endpoint;
+use crate::line::Line;
 use crate::message::Message;
 use crate::refused::Refused;
 use crate::unsent::Unsent;
@@ -119,6 +120,30 @@ pub fn assert_answers<R: Wait + Abort>(
 {
     for (at, (side, call, expected)) in calls.iter().enumerate() {
         let answered = answer_of(rt, channels, low, high, *side, *call);
+        assert_eq!(rt; answered, *expected, "call {at}: {call:?} by side {side}");
+    }
+}
+
+/// What the call answers by a side of a line, which has no turn.
+pub fn by_line(line: &mut Line, side: u8, call: Call) -> Answer
+    requires { side < 2 }
+{
+    match call {
+        Call::Put(tag, block) => of_put(line.put(side, tag, blocks_of(block))),
+        Call::Take => of_take(line.take(side)),
+        Call::Shut => {
+            line.shut(side);
+            Answer::Shut
+        }
+        Call::Turn => Answer::Turn(0),
+    }
+}
+
+/// Makes each call by its side of a line, 0 or 1, and compares what it answers.
+pub fn assert_line(rt: &impl Abort, line: &mut Line, calls: &[(u8, Call, Answer)]) {
+    for (at, (side, call, expected)) in calls.iter().enumerate() {
+        let side = if *side == 0 { 0 } else { 1 };
+        let answered = by_line(line, side, *call);
         assert_eq!(rt; answered, *expected, "call {at}: {call:?} by side {side}");
     }
 }
