@@ -9,7 +9,7 @@ use Rattle.xh_records.specs.Seats.{Held, did, with_lots}
 use Rattle.xh_place.specs.declared.body.Body.{Body}
 use Rattle.xh_place.specs.declared.body.Header.{Header}
 use Rattle.xh_place.specs.Coming.{accepts, accepted_on}
-use Rattle.xh_place.specs.Lots.{HasNow, bare, with_done}
+use Rattle.xh_place.specs.inner.Lots.{HasNow, bare, with_done}
 use Rattle.xh_place.specs.Places.{IsPlace, Item, PlaceOf, with_came, with_more}
 use Rattle.xh_place.proofs.Steps.{view_of}
 

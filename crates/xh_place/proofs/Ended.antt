@@ -10,7 +10,8 @@ use Rattle.xh_core.specs.declared.status.Status.TheVariants.{Vacant, Running, En
 use Rattle.xh_model.specs.declared.limits.TheConstants.{MAX_BUDGET}
 use Rattle.xh_model.proofs.Keyed.{not_here}
 use Rattle.xh_place.specs.Ending.{HasGivenBack, IsStopped, IsSwept, ending, reclaimed, stop_tests}
-use Rattle.xh_place.specs.Ends.{RefusedOr, IsSweptLate, IsTooLate, awake, ending_again}
+use Rattle.xh_place.specs.Ends.{RefusedOr, IsTooLate, ending_again}
+use Rattle.xh_place.specs.inner.Reclaiming.{IsSweptLate, awake}
 use Rattle.xh_place.specs.Places.{Item, PlaceOf, with_list, with_more}
 use Rattle.xh_place.specs.Refusals.{is_over}
 

@@ -7,7 +7,7 @@ use Rattle.xh_model.specs.Keyed.{Among, keys, value_at, put, without}
 use Rattle.xh_model.proofs.Keyed.{last_at, last_put, last_without}
 use Rattle.xh_records.specs.Showing.{IsLotOf}
 use Rattle.xh_records.specs.Seats.{Held, with_lots}
-use Rattle.xh_place.specs.Lots.{HasNow, bare}
+use Rattle.xh_place.specs.inner.Lots.{HasNow, bare}
 use Rattle.xh_place.specs.declared.body.Body.{Body}
 use Rattle.xh_place.specs.declared.body.Body.TheVariants.{Nothing, Data, End}
 use Rattle.xh_channel.specs.Queues.{Posted}

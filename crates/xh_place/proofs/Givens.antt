@@ -9,7 +9,7 @@ use Rattle.xh_model.specs.Keyed.{Among, Distinct, keys, value_at, without}
 use Rattle.xh_model.proofs.Keyed.{next, without_at, without_other}
 use Rattle.xh_records.specs.Seats.{Held, with_lots}
 use Rattle.xh_place.specs.Coming.{accepted_on}
-use Rattle.xh_place.specs.Lots.{HasNow, bare, with_done}
+use Rattle.xh_place.specs.inner.Lots.{HasNow, bare, with_done}
 use Rattle.xh_place.specs.declared.body.Body.{Body}
 use Rattle.xh_place.specs.declared.body.Header.{Header}
 use Rattle.xh_place.specs.Places.{IsBlock, header_in}

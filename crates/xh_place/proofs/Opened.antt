@@ -8,8 +8,8 @@ use Rattle.xh_model.proofs.Keyed.{among_either, keys_push, last_at, last_other, 
 use Rattle.xh_records.specs.Seats.{Held, IsRecord, with_lots}
 use Rattle.xh_place.specs.declared.body.Body.{Body}
 use Rattle.xh_place.specs.declared.body.Header.{Header}
-use Rattle.xh_place.specs.Lots.{HasNow, bare}
-use Rattle.xh_place.specs.Opening.{AreMade, HasTwoMore}
+use Rattle.xh_place.specs.inner.Lots.{HasNow, bare}
+use Rattle.xh_place.specs.inner.Opening.{AreMade, HasTwoMore}
 use Rattle.xh_place.specs.Places.{Item, PlaceOf, with_blocks, header_in, header_of, item_in, item_of, shown, IsPlace}
 use Rattle.xh_place.specs.Refusals.{is_over}
 use Rattle.xh_place.proofs.Gained.{has}

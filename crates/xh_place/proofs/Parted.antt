@@ -12,7 +12,7 @@ use Rattle.xh_model.proofs.Keyed.{at_key, front_at, here_first, not_here, last_p
 use Rattle.xh_model.specs.Arena.{IsGoodCut}
 use Rattle.xh_records.specs.Showing.{IsLotOf}
 use Rattle.xh_records.specs.Seats.{Held, IsRecord, IsSeatOf, RecordsOf, with_lots}
-use Rattle.xh_place.specs.Lots.{HasNow, IsCut, IsData, bare}
+use Rattle.xh_place.specs.inner.Lots.{HasNow, IsCut, IsData, bare}
 use Rattle.xh_place.specs.declared.body.Body.{Body}
 use Rattle.xh_place.specs.declared.body.Body.TheVariants.{Nothing, Data, End}
 use Rattle.xh_place.specs.declared.body.Header.{Header}

@@ -12,7 +12,7 @@ use Rattle.xh_model.proofs.Keyed.{at_key, dec_among, front_at, none_at, value_th
 use Rattle.xh_records.specs.Seats.{Held, with_lots}
 use Rattle.xh_place.specs.declared.body.Body.{Body}
 use Rattle.xh_place.specs.declared.body.Header.{Header}
-use Rattle.xh_place.specs.Lots.{HasNow}
+use Rattle.xh_place.specs.inner.Lots.{HasNow}
 use Rattle.xh_place.specs.Places.{Item, PlaceOf, with_blocks, header_in, item_in, shown, sum_of, total_of, IsBlock, IsPlace}
 use Rattle.xh_place.specs.Refusals.{is_over}
 use Rattle.xh_place.proofs.Swept.{drop_long, take_long}

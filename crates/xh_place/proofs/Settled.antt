@@ -9,7 +9,7 @@ use Rattle.xh_core.specs.declared.status.Status.TheVariants.{Running}
 use Rattle.xh_model.specs.Keyed.{Among, Distinct, keys, value_at, put, without}
 use Rattle.xh_model.proofs.Keyed.{distinct_without, here_first, not_here, put_at, put_keys, put_other, put_same, without_at, without_other}
 use Rattle.xh_records.specs.Seats.{Held, with_lots}
-use Rattle.xh_place.specs.Lots.{HasNow}
+use Rattle.xh_place.specs.inner.Lots.{HasNow}
 use Rattle.xh_place.specs.declared.body.Body.{Body}
 use Rattle.xh_place.specs.declared.body.Header.{Header}
 use Rattle.xh_place.specs.Places.{PlaceOf, with_blocks, Item, item_of, item_in, header_of, header_in, shown, sum_of, IsBlock, IsPlace}

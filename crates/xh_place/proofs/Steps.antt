@@ -15,13 +15,14 @@ use Rattle.xh_model.proofs.Keyed.{absent, at_key, distinct_push, distinct_withou
 use Rattle.xh_records.specs.Seats.{Held, IsRecord, with_lots}
 use Rattle.xh_records.specs.inner.Tokens.{AllBelow}
 use Rattle.xh_place.specs.Coming.{accepts}
-use Rattle.xh_place.specs.Lots.{HasNow, bare}
+use Rattle.xh_place.specs.inner.Lots.{HasNow, bare}
 use Rattle.xh_records.proofs.Lists.{few}
 use Rattle.xh_place.specs.declared.body.Body.{Body}
 use Rattle.xh_place.specs.declared.body.Body.TheVariants.{Nothing, Data, End}
 use Rattle.xh_place.specs.declared.body.Header.{Header}
 use Rattle.xh_place.specs.Bodies.{content_of, kind_of, fits_in}
-use Rattle.xh_place.specs.Refusals.{is_over, is_running, entry_of}
+use Rattle.xh_place.specs.Refusals.{is_over, is_running}
+use Rattle.xh_place.specs.inner.Answers.{entry_of}
 use Rattle.xh_place.specs.Places.{Item, PlaceOf, with_blocks, item_of, item_in, header_of, header_in, shown, sum_of, total_of, IsBlock, IsQuiet, IsPlace}
 
 abbrev pub view_of : Held Body → List (ℕ × Header) → Status → PlaceOf

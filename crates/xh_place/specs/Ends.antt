@@ -1,5 +1,6 @@
 -- Endpoints of a place: what a call on one is refused for, and what opening and handing over do.
-use Rattle.std.specs.Prelude.{◌≡◌, ℕ, ◌*◌, ◌/◌, ◌==◌, ◌&&◌, Bool, false, cond, not, nat_lt, List, [], ◌∷◌, ◌++◌, length, Option, Some, None, is_none, Result, Err, MatchOption, MatchResult, IfErr, OnOk}
+use Rattle.std.specs.Prelude.{◌≡◌, ℕ, ◌*◌, ◌/◌, ◌==◌, ◌&&◌, Bool, false, cond, not, nat_lt, List, [], ◌∷◌, ◌++◌, length, Option}
+use Rattle.std.specs.Prelude.{Some, None, is_none, Result, Err, MatchOption, MatchResult, IfErr, OnOk}
 use Rattle.xh_channel.specs.Queues.{Posted}
 use Rattle.xh_core.specs.declared.block.Block.{Block}
 use Rattle.xh_core.specs.declared.refused.Refused.{Refused}
@@ -81,17 +82,6 @@ ending_again status.Ended left = cond (left == 0) status.Ended status.Ending
 ending_again status.Vacant left = status.Vacant
 ending_again status.Running left = status.Running
 ending_again status.Ending left = status.Ending
-
--- one that had ended is ending while blocks come
-abbrev pub awake : Status → Status
-awake status.Ended = status.Ending
-awake status.Vacant = status.Vacant
-awake status.Running = status.Running
-awake status.Ending = status.Ending
-
--- the endpoint came on the direction to the end of the list, and was swept from there
-abbrev pub IsSweptLate : ℕ → ℕ → PlaceOf → PlaceOf → ℕ → Type 0
-IsSweptLate d r old new sum = (x : Item) × (left : ℕ) × IsSwept (length old.blocks) MAX_BUDGET (with_more d ((r, x) ∷ []) old) new sum left × (new ≡ with_list old new)
 
 -- an endpoint came that nobody is here for: so it was swept
 abbrev pub IsTooLate : ℕ → ℕ → PlaceOf → PlaceOf → ℕ → Type 0

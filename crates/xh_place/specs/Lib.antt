@@ -1,4 +1,3 @@
-pub mod Lots
 pub mod Vaults
 pub mod Bodies
 pub mod Coming
@@ -11,4 +10,4 @@ pub mod Taking
 pub mod Ending
 pub mod Ends
 pub mod Messages
-pub mod Opening
+pub mod inner

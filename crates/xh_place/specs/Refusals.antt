@@ -1,15 +1,13 @@
 -- The refusals of each call that the place alone decides, in the order of their tests.
-use Rattle.std.specs.Prelude.{ℕ, ◌+◌, ◌++◌, Bool, true, false, not, nat_le, nat_lt, ◌==◌, ◌||◌, List, [], ◌∷◌, Option, Some, None, is_none}
+use Rattle.std.specs.Prelude.{ℕ, ◌+◌, ◌++◌, Bool, true, false, not, nat_le, nat_lt, ◌==◌, ◌||◌, [], ◌∷◌, Option, Some, None, is_none}
 pub use Rattle.xh_core.specs.BlockCommands.{is_bad_cut, rounded}
 pub use Rattle.xh_core.specs.Machine.{is_running}
-use Rattle.xh_core.specs.declared.refused.Refused.{Refused}
-use Rattle.xh_core.specs.declared.refused.Refused.TheVariants.{Ended, NoArena, BadSize, NotOwned, NotData, BadCut, BadRange, Full, PeerClosed, Protocol}
+use Rattle.xh_core.specs.declared.refused.Refused.TheVariants.{Ended, NoArena, BadSize, NotOwned, NotData, BadCut, BadRange}
 use Rattle.xh_core.specs.declared.status.Status.{Status}
 use Rattle.xh_core.specs.declared.status.Status.TheVariants as status
 use Rattle.xh_core.specs.Refusing.{Tests}
 use Rattle.xh_place.specs.Bodies.{kind_of, is_data}
-use Rattle.xh_place.specs.declared.body.Header.{Header}
-use Rattle.xh_place.specs.Places.{Item, header_of}
+use Rattle.xh_place.specs.Places.{Item}
 
 -- not there yet, or over
 abbrev pub is_over : Status → Bool
@@ -40,15 +38,3 @@ split_tests state found k = data_tests state found ++ (is_bad_cut k (len_in foun
 
 abbrev pub range_tests : Status → Option Item → ℕ → ℕ → Tests
 range_tests state found at count = data_tests state found ++ (not (nat_le (at + count) (len_in found)), BadRange) ∷ []
-
--- the length and kind of a block, where there is one
-abbrev pub entry_of : Option Item → Option Header
-entry_of None = None
-entry_of (Some x) = Some (header_of x)
-
--- the blocks that a refusal hands back
-abbrev pub back_in : Refused → List ℕ
-back_in (Full back) = back.items
-back_in (PeerClosed back) = back.items
-back_in (Protocol back) = back.items
-back_in _ = []

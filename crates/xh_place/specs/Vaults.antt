@@ -8,14 +8,6 @@ use Rattle.xh_core.specs.declared.refused.Refused.{Refused as Reason}
 use Rattle.xh_core.specs.declared.refused.Refused.TheVariants as reason
 use Rattle.xh_model.specs.Arena.{IsLawfulArena}
 
--- the arena's refusal, among those of the heap
-abbrev pub reason_of : Refused → Reason
-reason_of arena.OutOfMemory = reason.OutOfMemory
-reason_of arena.BadSize = reason.BadSize
-reason_of arena.NoSpace = reason.NoSpace
-reason_of arena.BadCut = reason.BadCut
-reason_of arena.Worn = reason.Worn
-
 -- `changes old new a v w` says: from old to new the vault of the arena a became w, where it was v, and nothing else changed
 module _ {V : Type 0} (changes : V → V → ℕ → VaultOf → VaultOf → Type 0) (old new : V) (a n : ℕ) where
   -- the call found a lawful vault that refuses to carve n bytes, and left it as it was

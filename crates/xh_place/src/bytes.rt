@@ -6,7 +6,7 @@ ghost use Rattle.xh_records.specs.Showing.{IsLotOf};
 ghost use Rattle.xh_records.specs.Seats.{IsSeatOf, IsRecord, with_lots};
 ghost use Rattle.xh_place.specs.declared.body.Body.{Body};
 ghost use Rattle.xh_place.specs.Bodies.{bytes, content_of, part, patched, rest};
-ghost use Rattle.xh_place.specs.Lots.{IsData};
+ghost use Rattle.xh_place.specs.inner.Lots.{IsData};
 
 use crate::body::Body;
 use std::alloc::Global;

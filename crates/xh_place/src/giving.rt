@@ -7,7 +7,7 @@ ghost use Rattle.xh_records.specs.Showing.{IsFull};
 ghost use Rattle.xh_place.specs.Messages.{IsUnsent};
 ghost use Rattle.xh_records.specs.Seats.{IsSeatOf, IsRecord};
 ghost use Rattle.xh_place.specs.Coming.{accepted_on};
-ghost use Rattle.xh_place.specs.Lots.{HasNow, with_done};
+ghost use Rattle.xh_place.specs.inner.Lots.{HasNow, with_done};
 ghost use Rattle.xh_place.specs.declared.body.Body.{Body};
 ghost use Rattle.xh_place.specs.declared.body.Kind.TheVariants as kind;
 ghost use Rattle.xh_place.specs.Bodies.{away, content_of, kind_of, fits_in};

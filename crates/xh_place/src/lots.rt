@@ -7,8 +7,9 @@ ghost use Rattle.xh_model.specs.Keyed.{Among, keys, value_at, put, without};
 ghost use Rattle.xh_records.specs.Showing.{IsLotOf, IsFull};
 ghost use Rattle.xh_records.specs.Seats.{Held, IsSeatOf, IsRecord, did, with_lots};
 ghost use Rattle.xh_model.specs.declared.limits.TheConstants.{MAX_BYTES, UNIT};
-ghost use Rattle.xh_place.specs.Lots.{HasNow, IsCut, IsData};
-ghost use Rattle.xh_place.specs.Vaults.{IsNoBlock, IsRefusedAt, reason_of};
+ghost use Rattle.xh_place.specs.inner.Lots.{HasNow, IsCut, IsData};
+ghost use Rattle.xh_place.specs.Vaults.{IsNoBlock, IsRefusedAt};
+ghost use Rattle.xh_place.specs.inner.Answers.{reason_of};
 ghost use Rattle.xh_place.specs.declared.body.Body.{Body};
 ghost use Rattle.xh_place.specs.declared.body.Body.TheVariants.{Nothing};
 ghost use Rattle.xh_place.specs.declared.body.Kind.TheVariants as kind;
@@ -243,8 +244,8 @@ pub(crate) fn accept_block(
     direction: u8,
 ) -> Result<Header, u64>
     requires own { IsSeatOf records.now seat.old × IsRecord records.now.shape r × (direction < 128) }
-    ensures here { IfOk result (λ s. (l : LotOf Body) × (Among (keys seat.old.lots) r → ⊥) × HasNow (did (Accept seat.old.process r direction) seat.old) (seat.old.lots ++ (r, l) ∷ []) seat.new × IsBlock seat.old.shape r l
-        × (s ≡ header_of (item_of l))) }
+    ensures here { IfOk result (λ s. (l : LotOf Body) × (Among (keys seat.old.lots) r → ⊥)
+        × HasNow (did (Accept seat.old.process r direction) seat.old) (seat.old.lots ++ (r, l) ∷ []) seat.new × IsBlock seat.old.shape r l × (s ≡ header_of (item_of l))) }
     ensures missing { IfErr result (λ word. (word ≢ 2 + 4 * direction) × (seat.new ≡ seat.old)) }
 {
     records.accept(seat, r, direction)?;

@@ -10,8 +10,8 @@ ghost use Rattle.xh_place.specs.declared.body.Body.{Body};
 ghost use Rattle.xh_place.specs.declared.body.Body.TheVariants.{End};
 ghost use Rattle.xh_place.specs.Bodies.{fits_in};
 ghost use Rattle.xh_place.specs.Ends.{end_block};
-ghost use Rattle.xh_place.specs.Lots.{HasNow};
-ghost use Rattle.xh_place.specs.Opening.{AreClaimed, AreMade};
+ghost use Rattle.xh_place.specs.inner.Lots.{HasNow};
+ghost use Rattle.xh_place.specs.inner.Opening.{AreClaimed, AreMade};
 ghost use Rattle.xh_place.specs.Places.{IsBlock, item_of};
 ghost use Rattle.xh_place.specs.Vaults.{IsNoPair, IsRefusedAt};
 

@@ -6,7 +6,8 @@ ghost use Rattle.xh_model.specs.Keyed.{value_at};
 ghost use Rattle.xh_model.specs.Words.{generation_of};
 ghost use Rattle.xh_place.specs.Coming.{accepts};
 ghost use Rattle.xh_place.specs.Places.{AreBlocks, IsPlaceOf, Lists, headers, line, line_in, started, state_of, total_of};
-ghost use Rattle.xh_place.specs.Refusals.{is_running, is_over, entry_of};
+ghost use Rattle.xh_place.specs.Refusals.{is_running, is_over};
+ghost use Rattle.xh_place.specs.inner.Answers.{entry_of};
 
 mod blocks;
 mod ending;

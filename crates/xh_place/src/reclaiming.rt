@@ -6,7 +6,7 @@ ghost use Rattle.xh_records.specs.Seats.{IsSeatOf};
 ghost use Rattle.xh_place.specs.declared.body.Body.{Body};
 ghost use Rattle.xh_place.specs.declared.body.Header.{Header};
 ghost use Rattle.xh_place.specs.Ending.{HasGivenBack};
-ghost use Rattle.xh_place.specs.Lots.{HasNow};
+ghost use Rattle.xh_place.specs.inner.Lots.{HasNow};
 ghost use Rattle.xh_place.specs.Places.{IsBlock, header_of, item_of, sum_of};
 ghost use Rattle.xh_place.specs.Tallies.{gave, ids_of};
 

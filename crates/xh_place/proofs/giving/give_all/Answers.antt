@@ -5,7 +5,7 @@ use Rattle.xh_records.specs.Seats.{Held}
 use Rattle.xh_place.specs.declared.body.Body.{Body}
 use Rattle.xh_place.specs.Bodies.{away}
 use Rattle.xh_place.specs.Coming.{accepted_on}
-use Rattle.xh_place.specs.Lots.{HasNow, with_done}
+use Rattle.xh_place.specs.inner.Lots.{HasNow, with_done}
 use Rattle.xh_place.specs.Places.{IsBlock, item_in}
 use Rattle.xh_place.proofs.Coming.{then_came}
 use Rattle.xh_place.proofs.giving.give_all.Goals as goal

@@ -1,7 +1,7 @@
 use Rattle.std.proofs.Common.{◌≡◌, ℕ, drop}
 use Rattle.std.specs.Prelude.{None}
 use Rattle.xh_model.specs.Keyed.{Among, Distinct, value_at}
-use Rattle.xh_place.specs.Lots.{HasNow}
+use Rattle.xh_place.specs.inner.Lots.{HasNow}
 use Rattle.xh_place.proofs.giving.pass_all.Given as goal
 
 abbrev pub invariant-loop-k : goal.invariant-loop-k

@@ -5,7 +5,7 @@ use Rattle.xh_model.specs.Keyed.{Among, value_at, put}
 use Rattle.xh_model.proofs.Keyed.{put_at, put_other}
 use Rattle.xh_records.specs.Showing.{IsLotOf}
 use Rattle.xh_records.specs.Seats.{Held, IsRecord, with_lots}
-use Rattle.xh_place.specs.Lots.{HasNow, bare}
+use Rattle.xh_place.specs.inner.Lots.{HasNow, bare}
 use Rattle.xh_place.specs.declared.body.Body.{Body}
 use Rattle.xh_place.specs.declared.body.Body.TheVariants.{Nothing, End}
 use Rattle.xh_place.specs.Bodies.{away, spot, content_of, fits_in}

@@ -2,7 +2,7 @@ use Rattle.std.proofs.Common.{◌<◌, ◌/◌, ◌%◌, length, sym, ap, subst}
 use Rattle.xh_model.specs.declared.event.Event.TheVariants.{Accept}
 use Rattle.xh_records.specs.Seats.{Held, did}
 use Rattle.xh_place.specs.declared.body.Body.{Body}
-use Rattle.xh_place.specs.Lots.{bare}
+use Rattle.xh_place.specs.inner.Lots.{bare}
 use Rattle.xh_place.proofs.Gained.{has, changed, lot_is}
 use Rattle.xh_place.proofs.lots.accept_block.Goals as goal
 

@@ -2,7 +2,7 @@ use Rattle.std.proofs.Common.{refl, ap, ◌∙◌}
 use Rattle.xh_model.specs.Keyed.{value_at, without}
 use Rattle.xh_model.proofs.Keyed.{put_at, put_without}
 use Rattle.xh_records.specs.Seats.{Held, with_lots}
-use Rattle.xh_place.specs.Lots.{bare}
+use Rattle.xh_place.specs.inner.Lots.{bare}
 use Rattle.xh_place.specs.declared.body.Body.{Body}
 use Rattle.xh_place.specs.declared.body.Body.TheVariants.{Nothing}
 use Rattle.xh_place.proofs.Coming.{vacates}

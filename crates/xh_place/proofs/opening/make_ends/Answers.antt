@@ -6,7 +6,7 @@ use Rattle.xh_records.specs.Showing.{IsLotOf}
 use Rattle.xh_records.specs.Seats.{Held, IsRecord, with_lots}
 use Rattle.xh_place.specs.declared.body.Body.{Body}
 use Rattle.xh_place.specs.declared.body.Body.TheVariants.{End}
-use Rattle.xh_place.specs.Lots.{bare}
+use Rattle.xh_place.specs.inner.Lots.{bare}
 use Rattle.xh_place.proofs.Opened.{both_gone, both_put, has_first, has_other}
 use Rattle.xh_place.proofs.opening.make_ends.Goals as goal
 

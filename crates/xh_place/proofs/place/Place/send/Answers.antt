@@ -10,7 +10,7 @@ use Rattle.xh_place.specs.declared.body.Header.{Header}
 use Rattle.xh_place.specs.Bodies.{away}
 use Rattle.xh_place.specs.Coming.{accepted_on}
 use Rattle.xh_place.specs.Ends.{away_in}
-use Rattle.xh_place.specs.Lots.{with_done}
+use Rattle.xh_place.specs.inner.Lots.{with_done}
 use Rattle.xh_place.specs.Places.{Item, IsBlock, IsPlace, PlaceOf, header_of, item_in, item_of, shown, sum_of, with_blocks, with_came}
 use Rattle.xh_place.specs.Messages.{IsUnsent}
 use Rattle.xh_place.specs.Settling.{settled}

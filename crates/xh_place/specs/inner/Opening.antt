@@ -6,7 +6,7 @@ use Rattle.xh_records.specs.Showing.{IsEmpty, IsLotOf}
 use Rattle.xh_records.specs.Seats.{Held, IsRecord}
 use Rattle.xh_place.specs.declared.body.Body.{Body}
 use Rattle.xh_place.specs.Bodies.{fits_in}
-use Rattle.xh_place.specs.Lots.{HasNow}
+use Rattle.xh_place.specs.inner.Lots.{HasNow}
 use Rattle.xh_place.specs.Places.{IsBlock}
 
 -- two more records of the arena, neither of which it had
