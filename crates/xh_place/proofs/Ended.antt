@@ -42,7 +42,8 @@ again_same Ending xs none = refl
 again_same Ended xs none = ap (λ (l : List (ℕ × Item)). ending_again Ended (length l)) (none refl)
 
 -- a sweep says nothing of how far the process has come
-any_state : (from budget bytes left : ℕ) (old new : PlaceOf) (s t : Status) → IsSwept from budget old new bytes left → IsSwept from budget (record old { state = s }) (record new { state = t }) bytes left
+any_state : (from budget bytes left : ℕ) (old new : PlaceOf) (s t : Status) → IsSwept from budget old new bytes left
+    → IsSwept from budget (record old { state = s }) (record new { state = t }) bytes left
 any_state from budget bytes left old new s t is = let by = is.by in record {
   count = is.count;
   by = record { accepted = by.accepted; log = by.log; there = by.there; list = by.list; came = by.came; theirs = by.theirs; sum = by.sum };

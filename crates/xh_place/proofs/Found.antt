@@ -19,7 +19,8 @@ pub record Found (seat : Held Body) (xs : List (ℕ × Header)) (r : ℕ) (x : I
   pub same : item_of lot ≡ x
   pub block : IsBlock seat.shape r lot
 
-pub found : (seat : Held Body) (xs : List (ℕ × Header)) (room total : ℕ) (state : Status) → IsPlace seat xs room total state → (p : PlaceOf) → view_of seat xs state ≡ p → (r : ℕ) (x : Item) → value_at r p.blocks ≡ Some x → Found seat xs r x
+pub found : (seat : Held Body) (xs : List (ℕ × Header)) (room total : ℕ) (state : Status) → IsPlace seat xs room total state → (p : PlaceOf) → view_of seat xs state ≡ p → (r : ℕ) (x : Item)
+    → value_at r p.blocks ≡ Some x → Found seat xs r x
 found seat xs room total state is p shows r x at =
     let here : value_at r xs ≡ Some (header_of x) = listed seat xs room total state is p shows r x at in
     let t = lot_of seat xs room total state is r (header_of x) here in

@@ -30,7 +30,8 @@ module _ (seat new : Held Body) (r : ℕ) (l : LotOf Body) (is : HasNow seat (se
   lot_is = subst (λ z. IsLotOf z r l) (sym (ap (λ (h : Held Body). h.shape) is))
 
   -- its vault is that of the tally
-  pub named : (names : List TableId) (arena : ℕ) (id : TableId) → IsLotOf seat.shape r l → r / 256 ≡ arena → names ≡ seat.shape.names → slice_get names arena ≡ Some id → (slice_get names (r / 256) ≡ Some l.id) × (id ≡ l.id)
+  pub named : (names : List TableId) (arena : ℕ) (id : TableId) → IsLotOf seat.shape r l → r / 256 ≡ arena → names ≡ seat.shape.names → slice_get names arena ≡ Some id
+      → (slice_get names (r / 256) ≡ Some l.id) × (id ≡ l.id)
   named names arena id lot at same mine =
       let named : slice_get names (r / 256) ≡ Some l.id = ap (λ (z : List TableId). slice_get z (r / 256)) same ∙ lot.1 in
       let both : Some id ≡ Some l.id = sym mine ∙ ap (slice_get names) (sym at) ∙ named in
@@ -38,7 +39,8 @@ module _ (seat new : Held Body) (r : ℕ) (l : LotOf Body) (is : HasNow seat (se
 
 pub fits_bytes : (b : Body) (xs : List ℕ) (n : ℕ) → content_of b ≡ bytes xs → length xs ≡ n → 0 < n → n ≤ 1048576 → fits_in b n ≡ true
 fits_bytes Nothing xs n e long some most = let same : [] ≡ xs = cc in let none : 0 ≡ n = ap length same ∙ long in absurd (omega arith)
-fits_bytes (Data v) xs n e long some most = let same : v.items ≡ xs = cc in let a : eqb (length v.items) n ≡ true = eq-eqb (length v.items) n (ap length same ∙ long) in let b : nat_le n 1048576 ≡ true = search rules in let d : nat_lt 0 n ≡ true = search rules in (λ i. a i && (d i && b i))
+fits_bytes (Data v) xs n e long some most = let same : v.items ≡ xs = cc in let a : eqb (length v.items) n ≡ true = eq-eqb (length v.items) n (ap length same ∙ long) in
+    let b : nat_le n 1048576 ≡ true = search rules in let d : nat_lt 0 n ≡ true = search rules in (λ i. a i && (d i && b i))
 fits_bytes (End p) xs n e long some most = absurd (cc)
 
 pub is_end : (b : Body) → kind_of (content_of b) ≡ kind.End → (p : Posted) × (b ≡ End p)

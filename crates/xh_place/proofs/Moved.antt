@@ -22,7 +22,8 @@ without_long r y (x ∷ xs) d = dite (ℕ_discrete x.0 r)
     (λ same e. ap (λ (n : ℕ). suc n) (sym (ap length (without_here r x xs same ∙ absent r xs (λ h. d.0 (subst (λ (z : ℕ). Among (keys xs) z) (sym same) h))))))
     (λ other e. ap (λ (n : ℕ). suc n) (without_long r y xs d.1 (sym (value_there r x xs other) ∙ e) ∙ sym (ap length (without_there r x xs other))))
 
-module _ (seat : Held Body) (xs : List (ℕ × Header)) (room total : ℕ) (state : Status) (is : IsPlace seat xs room total state) (alive : is_over state ≡ true → ⊥) (r : ℕ) (h : Header) (at : value_at r xs ≡ Some h) where
+module _ (seat : Held Body) (xs : List (ℕ × Header)) (room total : ℕ) (state : Status) (is : IsPlace seat xs room total state) (alive : is_over state ≡ true → ⊥) (r : ℕ) (h : Header)
+    (at : value_at r xs ≡ Some h) where
   not_left : Among (keys (without r xs)) r → ⊥
   not_left = no_key r (without r xs) (without_at r xs)
 
@@ -54,7 +55,8 @@ quiet_if Running xs h = tt
 quiet_if Ending xs h = tt
 
 -- a place that lists a block is not over
-pub alive_if : (seat : Held Body) (xs : List (ℕ × Header)) (room total : ℕ) (state : Status) → IsPlace seat xs room total state → (r : ℕ) (h : Header) → value_at r xs ≡ Some h → is_over state ≡ true → ⊥
+pub alive_if : (seat : Held Body) (xs : List (ℕ × Header)) (room total : ℕ) (state : Status) → IsPlace seat xs room total state → (r : ℕ) (h : Header) → value_at r xs ≡ Some h
+    → is_over state ≡ true → ⊥
 alive_if seat xs room total state is r h at = go state is.quiet where
   none : xs ≡ [] → ⊥
   none e = let f : None ≡ Some h = sym (ap (value_at r) e) ∙ at in absurd (cc)

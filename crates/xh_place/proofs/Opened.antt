@@ -43,7 +43,8 @@ module _ (seat last : Held Body) (xs : List (ℕ × Header)) (room total : ℕ) 
   abbrev xs_one : List (ℕ × Header)
   xs_one = xs ++ (r, header_of (item_of l)) ∷ []
 
-  first_more : IsPlace (with_one seat r l) xs_one room (total + l.len) state × ((p : PlaceOf) → view_of seat xs state ≡ p → view_of (with_one seat r l) xs_one state ≡ with_blocks p (p.blocks ++ (r, item_of l) ∷ []))
+  first_more : IsPlace (with_one seat r l) xs_one room (total + l.len) state
+      × ((p : PlaceOf) → view_of seat xs state ≡ p → view_of (with_one seat r l) xs_one state ≡ with_blocks p (p.blocks ++ (r, item_of l) ∷ []))
   first_more = won seat xs room total state is (with_one seat r l) r l xs_one room l.len made.two.first_fresh refl made.first alive refl refl refl
 
   pub room_first : (length xs < room) × (length xs < 2048)
@@ -55,7 +56,8 @@ module _ (seat last : Held Body) (xs : List (ℕ × Header)) (room total : ℕ) 
   pub opened : (ys : List (ℕ × Header)) (room' n : ℕ) → ys ≡ xs_one ++ (t, header_of (item_of m)) ∷ [] → room' ≡ room → n ≡ total + l.len + m.len
       → IsPlace last ys room' n state × ((p : PlaceOf) → view_of seat xs state ≡ p → view_of last ys state ≡ with_blocks p (p.blocks ++ (r, item_of l) ∷ (t, item_of m) ∷ []))
   opened ys room' n items same sum =
-      let second = won (with_one seat r l) xs_one room (total + l.len) state first_more.0 last t m ys room' m.len (other_fresh arena seat last r t l m made.two) (then_other arena seat last r t l m made.two) made.second alive items same refl in (
+      let second = won (with_one seat r l) xs_one room (total + l.len) state first_more.0 last t m ys room' m.len (other_fresh arena seat last r t l m made.two)
+          (then_other arena seat last r t l m made.two) made.second alive items same refl in (
         subst (λ (z : ℕ). IsPlace last ys room' z state) (sym sum) second.0,
         λ p e. second.1 (with_blocks p (p.blocks ++ (r, item_of l) ∷ [])) (first_more.1 p e) ∙ ap (with_blocks p) (append_assoc p.blocks ((r, item_of l) ∷ []) ((t, item_of m) ∷ [])),
       )

@@ -29,14 +29,17 @@ use Rattle.xh_place.proofs.Steps.{view_of, won, over_running}
 put_front : {X : Type 0} (r t : ℕ) (y z : X) (xs : List (ℕ × X)) → r ≢ t → put r y (xs ++ (t, z) ∷ []) ≡ put r y xs ++ (t, z) ∷ []
 put_front r t y z [] n = not_here t r ((r, y) ∷ []) ((t, z) ∷ []) (λ e. n (sym e))
 put_front r t y z (x ∷ xs) n = dite (ℕ_discrete x.0 r)
-    (λ same. here_first x.0 r ((r, y) ∷ (xs ++ (t, z) ∷ [])) (x ∷ put r y (xs ++ (t, z) ∷ [])) same ∙ sym (ap (λ (l : List (ℕ × _)). l ++ (t, z) ∷ []) (here_first x.0 r ((r, y) ∷ xs) (x ∷ put r y xs) same)))
-    (λ other. not_here x.0 r ((r, y) ∷ (xs ++ (t, z) ∷ [])) (x ∷ put r y (xs ++ (t, z) ∷ [])) other ∙ ap (λ (l : List (ℕ × _)). x ∷ l) (put_front r t y z xs n) ∙ sym (ap (λ (l : List (ℕ × _)). l ++ (t, z) ∷ []) (not_here x.0 r ((r, y) ∷ xs) (x ∷ put r y xs) other)))
+    (λ same. here_first x.0 r ((r, y) ∷ (xs ++ (t, z) ∷ [])) (x ∷ put r y (xs ++ (t, z) ∷ [])) same
+        ∙ sym (ap (λ (l : List (ℕ × _)). l ++ (t, z) ∷ []) (here_first x.0 r ((r, y) ∷ xs) (x ∷ put r y xs) same)))
+    (λ other. not_here x.0 r ((r, y) ∷ (xs ++ (t, z) ∷ [])) (x ∷ put r y (xs ++ (t, z) ∷ [])) other ∙ ap (λ (l : List (ℕ × _)). x ∷ l) (put_front r t y z xs n)
+        ∙ sym (ap (λ (l : List (ℕ × _)). l ++ (t, z) ∷ []) (not_here x.0 r ((r, y) ∷ xs) (x ∷ put r y xs) other)))
 
 still_fresh : {X : Type 0} (r t : ℕ) (y : X) (xs : List (ℕ × X)) → (Among (keys xs) t → ⊥) → Among (keys (put r y xs)) t → ⊥
 still_fresh r t y xs fresh a = fresh (subst (λ (ks : List ℕ). Among ks t) (put_keys r y xs) a)
 
 -- the seat that claimed t, whose two lots then changed
-pub cut_up : (seat mid last : Held Body) (r t : ℕ) (l0 h m : LotOf Body) → HasNow seat (seat.lots ++ (t, l0) ∷ []) mid → (Among (keys seat.lots) t → ⊥) → r ≢ t → last ≡ with_lots mid (put t m (put r h mid.lots)) → HasNow seat (put r h seat.lots ++ (t, m) ∷ []) last
+pub cut_up : (seat mid last : Held Body) (r t : ℕ) (l0 h m : LotOf Body) → HasNow seat (seat.lots ++ (t, l0) ∷ []) mid → (Among (keys seat.lots) t → ⊥) → r ≢ t
+    → last ≡ with_lots mid (put t m (put r h mid.lots)) → HasNow seat (put r h seat.lots ++ (t, m) ∷ []) last
 cut_up seat mid last r t l0 h m is fresh apart new =
     ap bare new ∙ ap (λ (s : Held Body). with_lots s (put t m (put r h s.lots))) is
     ∙ ap (λ (ls : List (ℕ × LotOf Body)). with_lots (bare seat) (put t m ls)) (put_front r t h l0 seat.lots apart)
@@ -60,7 +63,8 @@ pub parted : (seat last : Held Body) (xs ys : List (ℕ × Header)) (room cap to
     → h.len + m.len ≡ l.len → ys ≡ put r (header_of (item_of h)) xs ++ (t, header_of (item_of m)) ∷ [] → cap ≡ room
     → IsPlace last ys cap total state × ((p : PlaceOf) → view_of seat xs state ≡ p → view_of last ys state ≡ with_blocks p (put r (item_of h) p.blocks ++ (t, item_of m) ∷ []))
 parted seat last xs ys room cap total state r t l h m run is at head tail fresh new lens items caps =
-    subst (λ s. IsPlace seat xs room total s → IsPlace last ys cap total s × ((p : PlaceOf) → view_of seat xs s ≡ p → view_of last ys s ≡ with_blocks p (put r (item_of h) p.blocks ++ (t, item_of m) ∷ []))) (sym (running_is state run))
+    subst (λ s. IsPlace seat xs room total s → IsPlace last ys cap total s
+        × ((p : PlaceOf) → view_of seat xs s ≡ p → view_of last ys s ≡ with_blocks p (put r (item_of h) p.blocks ++ (t, item_of m) ∷ []))) (sym (running_is state run))
     (λ is.
     let xs1 : List (ℕ × Header) = put r (header_of (item_of h)) xs in
     let seat1 : Held Body = with_lots seat (put r h seat.lots) in
@@ -87,7 +91,8 @@ pub record Cutting (all : RecordsOf) (seat mid : Held Body) (r t : ℕ) (l l0 : 
   pub exist : IsRecord all.shape r × IsRecord all.shape t
   pub is : HasNow seat (seat.lots ++ (t, l0) ∷ []) mid
 
-pub cutting : (all : RecordsOf) (seat mid : Held Body) (r t : ℕ) (l l0 : LotOf Body) → IsSeatOf all seat → value_at r seat.lots ≡ Some l → IsBlock seat.shape r l → IsRecord all.shape t → IsLotOf seat.shape t l0
+pub cutting : (all : RecordsOf) (seat mid : Held Body) (r t : ℕ) (l l0 : LotOf Body) → IsSeatOf all seat → value_at r seat.lots ≡ Some l → IsBlock seat.shape r l → IsRecord all.shape t
+    → IsLotOf seat.shape t l0
     → (Among (keys seat.lots) t → ⊥) → HasNow seat (seat.lots ++ (t, l0) ∷ []) mid → Cutting all seat mid r t l l0
 cutting all seat mid r t l l0 own at block exists lot fresh is = record {
   own = (ap (λ (h : Held Body). h.table) is ∙ own.0, ap (λ (h : Held Body). h.shape) is ∙ own.1);
@@ -104,7 +109,8 @@ cutting all seat mid r t l l0 own at block exists lot fresh is = record {
 pub lent : (all : RecordsOf) (seat mid last : Held Body) (r t : ℕ) (l l0 : LotOf Body) → Cutting all seat mid r t l l0 → last ≡ with_lots mid (put r l mid.lots) → Cutting all seat last r t l l0
 lent all seat mid last r t l l0 c new = subst (λ (h : Held Body). Cutting all seat h r t l l0) (sym (unmoved mid last r l c.head new)) c
 
-pub is_cut : (all : RecordsOf) (seat mid last : Held Body) (r t k : ℕ) (l l0 h m : LotOf Body) (b : Body) → Cutting all seat mid r t l l0 → (Among (keys seat.lots) t → ⊥) → IsBlock seat.shape r l → IsLotOf seat.shape t l0 → IsRecord seat.shape t → IsData l → IsGoodCut k l.len → t / 256 ≡ r / 256
+pub is_cut : (all : RecordsOf) (seat mid last : Held Body) (r t k : ℕ) (l l0 h m : LotOf Body) (b : Body) → Cutting all seat mid r t l l0 → (Among (keys seat.lots) t → ⊥) → IsBlock seat.shape r l
+    → IsLotOf seat.shape t l0 → IsRecord seat.shape t → IsData l → IsGoodCut k l.len → t / 256 ≡ r / 256
     → h ≡ record l { len = k; body = h.body } → content_of h.body ≡ front k (content_of l.body) → m ≡ record l0 { len = l.len - k; body = b } → content_of b ≡ rest k (content_of l.body)
     → last ≡ with_lots mid (put t m (put r h mid.lots)) → IsCut seat last r k l t
 is_cut all seat mid last r t k l l0 h m b c fresh block lot exists held good arena head head_bytes tail tail_bytes new =
@@ -120,8 +126,10 @@ is_cut all seat mid last r t k l l0 h m b c fresh block lot exists held good are
       m,
       fresh,
       cut_up seat mid last r t l0 h m c.is fresh c.apart new,
-      record { exists = block.exists; lot = (ap (λ (z : LotOf Body). z.index) head ∙ block.lot.0, block.lot.1 ∙ ap (λ (z : LotOf Body). Some z.id) (sym head)); full = (omega arith, fits_bytes h.body (take k xs) h.len h_bytes h_long (omega arith) (omega arith)) },
-      record { exists = exists; lot = (ap (λ (z : LotOf Body). z.index) tail ∙ lot.0, lot.1 ∙ ap (λ (z : LotOf Body). Some z.id) (sym tail)); full = (omega arith, fits_bytes m.body (drop k xs) m.len m_bytes m_long (omega arith) (omega arith)) },
+      record { exists = block.exists; lot = (ap (λ (z : LotOf Body). z.index) head ∙ block.lot.0, block.lot.1 ∙ ap (λ (z : LotOf Body). Some z.id) (sym head)); full =
+          (omega arith, fits_bytes h.body (take k xs) h.len h_bytes h_long (omega arith) (omega arith)) },
+      record { exists = exists; lot = (ap (λ (z : LotOf Body). z.index) tail ∙ lot.0, lot.1 ∙ ap (λ (z : LotOf Body). Some z.id) (sym tail)); full =
+          (omega arith, fits_bytes m.body (drop k xs) m.len m_bytes m_long (omega arith) (omega arith)) },
       h_len,
       omega arith,
       head_bytes,

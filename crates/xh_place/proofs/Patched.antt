@@ -15,9 +15,11 @@ patch_long at ys xs fits =
     let a : length (take at xs) ≡ at = length-take-le at xs (omega arith) in
     let b : length (drop (at + length ys) xs) ≡ length xs - (at + length ys) = length-drop (at + length ys) xs in
     let c : length (ys ++ drop (at + length ys) xs) ≡ length ys + length (drop (at + length ys) xs) = length-append ys (drop (at + length ys) xs) in
-    let d : length (take at xs ++ (ys ++ drop (at + length ys) xs)) ≡ length (take at xs) + length (ys ++ drop (at + length ys) xs) = length-append (take at xs) (ys ++ drop (at + length ys) xs) in omega arith
+    let d : length (take at xs ++ (ys ++ drop (at + length ys) xs)) ≡ length (take at xs) + length (ys ++ drop (at + length ys) xs) = length-append (take at xs) (ys ++ drop (at + length ys) xs) in
+        omega arith
 
-pub is_patched : (s : Shape) (r at : ℕ) (ys : List ℕ) (l m : LotOf Body) (x : Item) → IsBlock s r l → item_of l ≡ x → kind_of x.content ≡ kind.Data → at + length ys ≤ x.len → m ≡ record l { body = m.body } → content_of m.body ≡ patched at ys (content_of l.body)
+pub is_patched : (s : Shape) (r at : ℕ) (ys : List ℕ) (l m : LotOf Body) (x : Item) → IsBlock s r l → item_of l ≡ x → kind_of x.content ≡ kind.Data → at + length ys ≤ x.len
+    → m ≡ record l { body = m.body } → content_of m.body ≡ patched at ys (content_of l.body)
     → IsBlock s r m × (header_of (item_of m) ≡ header_of (item_of l)) × (item_of m ≡ record x { content = patched at ys x.content })
 is_patched s r at ys l m x block same data_kind fits lot content =
     let d = data_of l.body l.len (ap (λ (z : Item). kind_of z.content) same ∙ data_kind) block.full.1 in let xs : List ℕ = d.0 in
@@ -26,7 +28,8 @@ is_patched s r at ys l m x block same data_kind fits lot content =
     let room : at + length ys ≤ length xs = omega arith in let some : 0 < l.len = block.full.0 in
     let new : content_of m.body ≡ bytes (take at xs ++ (ys ++ drop (at + length ys) xs)) = content ∙ ap (patched at ys) d.1 in
     let new_long : length (take at xs ++ (ys ++ drop (at + length ys) xs)) ≡ m.len = patch_long at ys xs room ∙ long ∙ sym len in (
-      record { exists = block.exists; lot = (ap (λ (z : LotOf Body). z.index) lot ∙ block.lot.0, block.lot.1 ∙ ap (λ (z : LotOf Body). Some z.id) (sym lot)); full = (omega arith, fits_bytes m.body (take at xs ++ (ys ++ drop (at + length ys) xs)) m.len new new_long (omega arith) (omega arith)) },
+      record { exists = block.exists; lot = (ap (λ (z : LotOf Body). z.index) lot ∙ block.lot.0, block.lot.1 ∙ ap (λ (z : LotOf Body). Some z.id) (sym lot)); full =
+          (omega arith, fits_bytes m.body (take at xs ++ (ys ++ drop (at + length ys) xs)) m.len new new_long (omega arith) (omega arith)) },
       (λ i. record { len = len i; kind = (ap kind_of new ∙ sym (ap kind_of d.1)) i }),
       (λ i. record { len = (len ∙ x_len) i; content = (content ∙ ap (λ (z : Item). patched at ys z.content) same) i }),
     )

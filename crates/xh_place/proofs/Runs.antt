@@ -54,7 +54,8 @@ module _ {X : Type 0} where
   -- what the run has at a key the list has
   pub run_value : (t run rest : List (ℕ × X)) (r : ℕ) (y : X) → Distinct (keys (t ++ (run ++ rest))) → value_at r run ≡ Some y → value_at r (t ++ (run ++ rest)) ≡ Some y
   run_value [] run rest r y d e = front_at r y run rest e
-  run_value (x ∷ t) run rest r y d e = value_there r x (t ++ (run ++ rest)) (λ q. d.0 (subst (λ (z : ℕ). Among (keys (t ++ (run ++ rest))) z) (sym q) (among_mid t run rest r (at_key r y run e)))) ∙ run_value t run rest r y d.1 e
+  run_value (x ∷ t) run rest r y d e = value_there r x (t ++ (run ++ rest)) (λ q. d.0 (subst (λ (z : ℕ). Among (keys (t ++ (run ++ rest))) z) (sym q) (among_mid t run rest r (at_key r y run e))))
+      ∙ run_value t run rest r y d.1 e
 
 sum_parts : (t run rest : List (ℕ × Header)) → sum_of (t ++ (run ++ rest)) ≡ sum_of run + sum_of (t ++ rest)
 sum_parts [] [] rest = omega arith
@@ -161,17 +162,21 @@ module _ (seat : Held Body) (xs : List (ℕ × Header)) (room total : ℕ) (stat
   slice_few = let c : length xs ≤ 2048 = count_bound seat xs room total state is in let b : length t + length run ≡ end = both_long in omega (arith, c, b, inside)
 
   module _ (last : Held Body) (alive : is_over state ≡ true → ⊥) (new : HasNow seat last.lots last)
-      (gone : (r : ℕ) → Among (keys (slice_range xs from end)) r → value_at r last.lots ≡ None) (others : (r : ℕ) → (Among (keys (slice_range xs from end)) r → ⊥) → value_at r last.lots ≡ value_at r seat.lots) where
+      (gone : (r : ℕ) → Among (keys (slice_range xs from end)) r → value_at r last.lots ≡ None)
+          (others : (r : ℕ) → (Among (keys (slice_range xs from end)) r → ⊥) → value_at r last.lots ≡ value_at r seat.lots) where
     pub slice_gone : (ys : List (ℕ × Header)) (room' n : ℕ) → ys ≡ take from xs ++ drop end xs → room' ≡ room → n ≡ sum_of (slice_range xs from end) → IsPlace last ys room' (total - n) state
     slice_gone ys room' n items same sum =
-        subst (λ (z : List (ℕ × Header) × ℕ × ℕ). IsPlace last z.0 z.1 (total - z.2) state) (λ i. (sym items i, sym same i, sym sum i)) (run_gone seat last t run rest room total state in_parts alive new gone others)
+        subst (λ (z : List (ℕ × Header) × ℕ × ℕ). IsPlace last z.0 z.1 (total - z.2) state) (λ i. (sym items i, sym same i, sym sum i))
+            (run_gone seat last t run rest room total state in_parts alive new gone others)
 
-    pub slice_shows : (ys : List (ℕ × Header)) → ys ≡ take from xs ++ drop end xs → (p : PlaceOf) → view_of seat xs state ≡ p → view_of last ys state ≡ with_blocks p (take from p.blocks ++ drop end p.blocks)
+    pub slice_shows : (ys : List (ℕ × Header)) → ys ≡ take from xs ++ drop end xs → (p : PlaceOf) → view_of seat xs state ≡ p
+        → view_of last ys state ≡ with_blocks p (take from p.blocks ++ drop end p.blocks)
     slice_shows ys items p e =
         ap (λ (l : List (ℕ × Header)). view_of last l state) items
         ∙ run_shows seat last t run rest room total state in_parts alive new gone others p (ap (λ (l : List (ℕ × Header)). view_of seat l state) (sym whole) ∙ e)
         ∙ (λ i. with_blocks p (take (front_long i) p.blocks ++ drop (both_long i) p.blocks))
 
-    pub slice_total : (ys : List (ℕ × Header)) → ys ≡ take from xs ++ drop end xs → (p q : PlaceOf) → view_of seat xs state ≡ p → view_of last ys state ≡ q → sum_of (slice_range xs from end) + total_of q.blocks ≡ total_of p.blocks
+    pub slice_total : (ys : List (ℕ × Header)) → ys ≡ take from xs ++ drop end xs → (p q : PlaceOf) → view_of seat xs state ≡ p → view_of last ys state ≡ q
+        → sum_of (slice_range xs from end) + total_of q.blocks ≡ total_of p.blocks
     slice_total ys items p q e f = run_total seat last t run rest room total state in_parts alive new gone others p q
         (ap (λ (l : List (ℕ × Header)). view_of seat l state) (sym whole) ∙ e) (ap (λ (l : List (ℕ × Header)). view_of last l state) (sym items) ∙ f)

@@ -37,7 +37,8 @@ module _ {X : Type 0} where
   pub settled_at : (q : ℕ) (given : List ℕ) (back : ℕ → Option X) (z : X) (xs : List (ℕ × X)) → Distinct given → Among given q → value_at q xs ≡ Some z → value_at q (settled given back xs) ≡ back q
   settled_at q [] back z xs d h e = absurd h
   settled_at q (r ∷ rs) back z xs d h e = dite (ℕ_discrete r q)
-      (λ same. settled_other q rs back (settle r (back r) xs) (λ a. d.0 (subst (λ (n : ℕ). Among rs n) (sym same) a)) ∙ subst (λ (n : ℕ). value_at n (settle r (back r) xs) ≡ back n) same (settle_at r (back r) z xs (ap (λ (n : ℕ). value_at n xs) same ∙ e)))
+      (λ same. settled_other q rs back (settle r (back r) xs) (λ a. d.0 (subst (λ (n : ℕ). Among rs n) (sym same) a))
+          ∙ subst (λ (n : ℕ). value_at n (settle r (back r) xs) ≡ back n) same (settle_at r (back r) z xs (ap (λ (n : ℕ). value_at n xs) same ∙ e)))
       (λ other. settled_at q rs back z (settle r (back r) xs) d.1 (⊎_elim (λ e'. absurd (other (sym e'))) (λ a. a) h) (settle_other q r (back r) xs other ∙ e))
 
   -- only what comes back at the given records counts
@@ -64,13 +65,16 @@ module _ (room : ℕ) where
   IsSum seat xs = IsPlace seat xs room (sum_of xs) Running
 
   -- one block becomes another in its place
-  pub becomes : (seat : Held Body) (xs : List (ℕ × Header)) (r : ℕ) (l m : LotOf Body) → IsSum seat xs → value_at r seat.lots ≡ Some l → IsBlock seat.shape r m → IsSum (with_lots seat (put r m seat.lots)) (put r (header_of (item_of m)) xs)
+  pub becomes : (seat : Held Body) (xs : List (ℕ × Header)) (r : ℕ) (l m : LotOf Body) → IsSum seat xs → value_at r seat.lots ≡ Some l → IsBlock seat.shape r m
+      → IsSum (with_lots seat (put r m seat.lots)) (put r (header_of (item_of m)) xs)
   becomes seat xs r l m is at good = let here : value_at r xs ≡ Some (header_of (item_of l)) = is.same r ∙ ap header_in at in record {
     same = λ q. dite (ℕ_discrete r q)
-        (λ e. subst (λ (z : ℕ). value_at z (put r (header_of (item_of m)) xs) ≡ header_in (value_at z (put r m seat.lots))) e (put_at r (header_of (item_of m)) (header_of (item_of l)) xs here ∙ sym (ap header_in (put_at r m l seat.lots at))))
+        (λ e. subst (λ (z : ℕ). value_at z (put r (header_of (item_of m)) xs) ≡ header_in (value_at z (put r m seat.lots))) e
+            (put_at r (header_of (item_of m)) (header_of (item_of l)) xs here ∙ sym (ap header_in (put_at r m l seat.lots at))))
         (λ n. put_other q r (header_of (item_of m)) xs n ∙ is.same q ∙ sym (ap header_in (put_other q r m seat.lots n)));
     blocks = λ q k. dite (ℕ_discrete r q)
-        (λ e a. let same : Some m ≡ Some k = sym (put_at r m l seat.lots at) ∙ ap (λ (z : ℕ). value_at z (put r m seat.lots)) e ∙ a in let one : m ≡ k = cc in subst (λ (z : ℕ × LotOf Body). IsBlock seat.shape z.0 z.1) (λ i. (e i, one i)) good)
+        (λ e a. let same : Some m ≡ Some k = sym (put_at r m l seat.lots at) ∙ ap (λ (z : ℕ). value_at z (put r m seat.lots)) e ∙ a in let one : m ≡ k = cc in
+            subst (λ (z : ℕ × LotOf Body). IsBlock seat.shape z.0 z.1) (λ i. (e i, one i)) good)
         (λ n a. is.blocks q k (sym (put_other q r m seat.lots n) ∙ a));
     distinct = subst Distinct (sym (put_keys r (header_of (item_of m)) xs)) is.distinct;
     sum = refl;
@@ -78,7 +82,8 @@ module _ (room : ℕ) where
     quiet = tt;
   }
 
-  pub becomes_shown : (lots : List (ℕ × LotOf Body)) (xs : List (ℕ × Header)) (r : ℕ) (l m : LotOf Body) → value_at r lots ≡ Some l → Distinct (keys xs) → shown (put r m lots) (put r (header_of (item_of m)) xs) ≡ put r (item_of m) (shown lots xs)
+  pub becomes_shown : (lots : List (ℕ × LotOf Body)) (xs : List (ℕ × Header)) (r : ℕ) (l m : LotOf Body) → value_at r lots ≡ Some l → Distinct (keys xs)
+      → shown (put r m lots) (put r (header_of (item_of m)) xs) ≡ put r (item_of m) (shown lots xs)
   becomes_shown lots xs r l m at d = by_keys (put r m lots) (put r (header_of (item_of m)) xs) xs (put_keys r (header_of (item_of m)) xs) ∙ shown_put lots xs r l m at d where
     by_keys : (ls : List (ℕ × LotOf Body)) (ys zs : List (ℕ × Header)) → keys ys ≡ keys zs → shown ls ys ≡ shown ls zs
     by_keys ls [] [] e = refl
@@ -87,7 +92,8 @@ module _ (room : ℕ) where
     by_keys ls (y ∷ ys) (z ∷ zs) e = let a : y.0 ≡ z.0 = cc in let b : keys ys ≡ keys zs = cc in λ i. (a i, item_in (value_at (a i) ls)) ∷ by_keys ls ys zs b i
 
   -- one given block
-  step : (seat : Held Body) (xs : List (ℕ × Header)) (r : ℕ) (l : LotOf Body) (o : Option (LotOf Body)) → IsSum seat xs → value_at r seat.lots ≡ Some l → ((m : LotOf Body) → o ≡ Some m → IsBlock seat.shape r m)
+  step : (seat : Held Body) (xs : List (ℕ × Header)) (r : ℕ) (l : LotOf Body) (o : Option (LotOf Body)) → IsSum seat xs → value_at r seat.lots ≡ Some l
+      → ((m : LotOf Body) → o ≡ Some m → IsBlock seat.shape r m)
       → IsSum (with_lots seat (settle r o seat.lots)) (settle r (header_in o) xs) × (shown (settle r o seat.lots) (settle r (header_in o) xs) ≡ settle r (items_in o) (shown seat.lots xs))
   step seat xs r l None is at good =
       let here : value_at r xs ≡ Some (header_of (item_of l)) = is.same r ∙ ap header_in at in
@@ -112,7 +118,8 @@ module _ (room : ℕ) where
       (rest.0, rest.1 ∙ ap (settled rs (λ q. items_in (back q))) one.1)
 
   -- a place is what it finds at each record, in whatever order its seat has the lots
-  pub same_lots : (seat last : Held Body) (xs : List (ℕ × Header)) (total : ℕ) (state : Status) → IsPlace seat xs room total state → last.shape ≡ seat.shape → ((r : ℕ) → value_at r last.lots ≡ value_at r seat.lots)
+  pub same_lots : (seat last : Held Body) (xs : List (ℕ × Header)) (total : ℕ) (state : Status) → IsPlace seat xs room total state → last.shape ≡ seat.shape
+      → ((r : ℕ) → value_at r last.lots ≡ value_at r seat.lots)
       → IsPlace last xs room total state × (shown last.lots xs ≡ shown seat.lots xs)
   same_lots seat last xs total state is shape same = (
     record {
@@ -134,7 +141,8 @@ among_or q (x ∷ xs) = dite (ℕ_discrete q x) (λ e. inl (inl e)) (λ n. ⊎_e
 pub sent : (seat last : Held Body) (xs : List (ℕ × Header)) (room total : ℕ) (given : List ℕ) (e : ℕ) (l m : LotOf Body) → IsPlace seat xs room total Running
     → value_at e seat.lots ≡ Some l → IsBlock seat.shape e m → item_of m ≡ item_of l
     → Distinct given → (Among given e → ⊥) → ((r : ℕ) → Among given r → (k : LotOf Body) × (value_at r seat.lots ≡ Some k))
-    → HasNow seat last.lots last → ((q : ℕ) → (Among given q → ⊥) → value_at q last.lots ≡ value_at q (put e m seat.lots)) → ((r : ℕ) (k : LotOf Body) → Among given r → value_at r last.lots ≡ Some k → IsBlock seat.shape r k)
+    → HasNow seat last.lots last → ((q : ℕ) → (Among given q → ⊥) → value_at q last.lots ≡ value_at q (put e m seat.lots))
+        → ((r : ℕ) (k : LotOf Body) → Among given r → value_at r last.lots ≡ Some k → IsBlock seat.shape r k)
     → (let ys : List (ℕ × Header) = settled given (λ r. header_in (value_at r last.lots)) xs in
     IsPlace last ys room (sum_of ys) Running
     × ((p : PlaceOf) → view_of seat xs Running ≡ p → view_of last ys Running ≡ with_blocks p (settled given (λ r. items_in (value_at r last.lots)) p.blocks)))
@@ -146,7 +154,8 @@ sent seat last xs room total given e l m is at good item d apart held same other
     ∙ put_same e (item_of m) (shown seat.lots xs) (shown_at seat.lots xs e (header_of (item_of l)) (is.same e ∙ ap header_in at) ∙ ap (λ (z : Option (LotOf Body)). Some (item_in z)) at
     ∙ ap (λ (z : Item). Some z) (sym item)) in
     let b : ℕ → Option (LotOf Body) = λ r. value_at r last.lots in
-    let held1 : (r : ℕ) → Among given r → (k : LotOf Body) × (value_at r seat1.lots ≡ Some k) = λ r a. ((held r a).0, put_other r e m seat.lots (λ q. apart (subst (λ (z : ℕ). Among given z) (sym q) a)) ∙ (held r a).1) in
+    let held1 : (r : ℕ) → Among given r → (k : LotOf Body) × (value_at r seat1.lots ≡ Some k) =
+        λ r a. ((held r a).0, put_other r e m seat.lots (λ q. apart (subst (λ (z : ℕ). Among given z) (sym q) a)) ∙ (held r a).1) in
     let all = settles room given b seat1 xs sum1 d held1 (λ r k a f. back r k a f) in
     let seat2 : Held Body = with_lots seat1 (settled given b seat1.lots) in
     let looks : (r : ℕ) → value_at r last.lots ≡ value_at r seat2.lots = λ r. ⊎_elim
@@ -159,14 +168,17 @@ sent seat last xs room total given e l m is at good item d apart held same other
     (fin.0, λ p v. shows p seat last xs ys Running last.lots (settled given (λ r. items_in (value_at r last.lots))) v same blocks)
 
 -- The same, as the fields have it: `gained` is what came back, with its lengths and kinds.
-pub settled_place : (seat last : Held Body) (xs ys gained : List (ℕ × Header)) (room cap total : ℕ) (state : Status) (given : List ℕ) (e : ℕ) (l m : LotOf Body) → state ≡ Running → IsPlace seat xs room total state
+pub settled_place : (seat last : Held Body) (xs ys gained : List (ℕ × Header)) (room cap total : ℕ) (state : Status) (given : List ℕ) (e : ℕ) (l m : LotOf Body) → state ≡ Running
+    → IsPlace seat xs room total state
     → value_at e seat.lots ≡ Some l → IsBlock seat.shape e m → item_of m ≡ item_of l → value_at e last.lots ≡ Some m
     → Distinct given → (Among given e → ⊥) → ((r : ℕ) → Among given r → (k : LotOf Body) × (value_at r seat.lots ≡ Some k))
-    → HasNow seat last.lots last → ((q : ℕ) → (Among given q → ⊥) → e ≢ q → value_at q last.lots ≡ value_at q seat.lots) → ((r : ℕ) (k : LotOf Body) → Among given r → value_at r last.lots ≡ Some k → IsBlock seat.shape r k)
+    → HasNow seat last.lots last → ((q : ℕ) → (Among given q → ⊥) → e ≢ q → value_at q last.lots ≡ value_at q seat.lots)
+        → ((r : ℕ) (k : LotOf Body) → Among given r → value_at r last.lots ≡ Some k → IsBlock seat.shape r k)
     → ((r : ℕ) → Among given r → value_at r gained ≡ header_in (value_at r last.lots)) → ys ≡ settled given (λ r. value_at r gained) xs → cap ≡ room
     → IsPlace last ys cap (sum_of ys) state × ((p : PlaceOf) → view_of seat xs state ≡ p → view_of last ys state ≡ with_blocks p (settled given (λ r. value_at r (shown last.lots gained)) p.blocks))
 settled_place seat last xs ys gained room cap total state given e l m run is at good item now d apart held same others back gains items caps =
-    subst (λ s. IsPlace seat xs room total s → IsPlace last ys cap (sum_of ys) s × ((p : PlaceOf) → view_of seat xs s ≡ p → view_of last ys s ≡ with_blocks p (settled given (λ r. value_at r (shown last.lots gained)) p.blocks))) (sym run)
+    subst (λ s. IsPlace seat xs room total s → IsPlace last ys cap (sum_of ys) s
+        × ((p : PlaceOf) → view_of seat xs s ≡ p → view_of last ys s ≡ with_blocks p (settled given (λ r. value_at r (shown last.lots gained)) p.blocks))) (sym run)
     (λ is.
     let all = sent seat last xs room total given e l m is at good item d apart held same
     (λ q n. dite (ℕ_discrete e q)
@@ -176,8 +188,10 @@ settled_place seat last xs ys gained room cap total state given e l m run is at 
     let list : ys ≡ settled given (λ r. header_in (value_at r last.lots)) xs = items ∙ settled_same given (λ r. value_at r gained) (λ r. header_in (value_at r last.lots)) xs gains in
     let look : (r : ℕ) → Among given r → items_in (value_at r last.lots) ≡ value_at r (shown last.lots gained) = λ r a. comes r (value_at r last.lots) refl (gains r a) in (
       subst (λ (z : List (ℕ × Header) × ℕ). IsPlace last z.0 z.1 (sum_of z.0) Running) (λ i. (sym list i, sym caps i)) all.0,
-      λ p v. ap (λ (z : List (ℕ × Header)). view_of last z Running) list ∙ all.1 p v ∙ ap (with_blocks p) (settled_same given (λ r. items_in (value_at r last.lots)) (λ r. value_at r (shown last.lots gained)) p.blocks look),
+      λ p v. ap (λ (z : List (ℕ × Header)). view_of last z Running) list ∙ all.1 p v
+          ∙ ap (with_blocks p) (settled_same given (λ r. items_in (value_at r last.lots)) (λ r. value_at r (shown last.lots gained)) p.blocks look),
     )) is where
-      comes : (r : ℕ) (o : Option (LotOf Body)) → value_at r last.lots ≡ o → value_at r gained ≡ header_in (value_at r last.lots) → items_in (value_at r last.lots) ≡ value_at r (shown last.lots gained)
+      comes : (r : ℕ) (o : Option (LotOf Body)) → value_at r last.lots ≡ o → value_at r gained ≡ header_in (value_at r last.lots)
+          → items_in (value_at r last.lots) ≡ value_at r (shown last.lots gained)
       comes r None f g = ap items_in f ∙ sym (shown_none last.lots gained r (g ∙ ap header_in f))
       comes r (Some k) f g = ap items_in f ∙ sym (shown_at last.lots gained r (header_of (item_of k)) (g ∙ ap header_in f) ∙ ap (λ (z : Option (LotOf Body)). Some (item_in z)) f)

@@ -1,5 +1,6 @@
 -- A place's list against what its seat holds, at each change.
-use Rattle.std.proofs.Common.{◌≡◌, ℕ, zero, suc, ◌+◌, ◌-◌, ◌*◌, ◌/◌, ◌%◌, ◌<◌, ◌≤◌, ⊎_elim, inl, inr, List, [], ◌∷◌, ◌++◌, length, map, drop, get_or, refl, sym, ap, ◌∙◌, subst, true, arith, rules, mul-le-mul_right, suc-mul}
+use Rattle.std.proofs.Common.{◌≡◌, ℕ, zero, suc, ◌+◌, ◌-◌, ◌*◌, ◌/◌, ◌%◌, ◌<◌, ◌≤◌, ⊎_elim, inl, inr, List, [], ◌∷◌, ◌++◌, length, map, drop}
+use Rattle.std.proofs.Common.{get_or, refl, sym, ap, ◌∙◌, subst, true, arith, rules, mul-le-mul_right, suc-mul}
 use Rattle.std.specs.Prelude.{Some, None, Option}
 use mathlib.Core.Logic.{dite}
 use native.Mathlib.Decide.{ℕ_discrete}
@@ -11,7 +12,8 @@ use Rattle.xh_model.specs.Words.{number_of}
 use Rattle.xh_model.proofs.Words.{number_back}
 use Rattle.xh_records.specs.declared.shape.Shape.{Shape}
 use Rattle.xh_model.specs.Keyed.{Among, Distinct, keys, value_at, put, without}
-use Rattle.xh_model.proofs.Keyed.{absent, at_key, distinct_push, distinct_without, get_key, here_first, keys_push, length-keys, last_at, last_other, next, no_key, none_at, not_here, put_at, put_other, put_same, put_twice, without_at, without_other}
+use Rattle.xh_model.proofs.Keyed.{absent, at_key, distinct_push, distinct_without, get_key, here_first, keys_push, length-keys, last_at, last_other, next, no_key, none_at}
+use Rattle.xh_model.proofs.Keyed.{not_here, put_at, put_other, put_same, put_twice, without_at, without_other}
 use Rattle.xh_records.specs.Seats.{Held, IsRecord, with_lots}
 use Rattle.xh_records.specs.inner.Tokens.{AllBelow}
 use Rattle.xh_place.specs.Coming.{accepts}
@@ -40,7 +42,8 @@ shown_last lots (x ∷ xs) r s = ap (λ (l : List (ℕ × Item)). (x.0, item_in 
 pub shown_without : (lots : List (ℕ × LotOf Body)) (r : ℕ) (xs : List (ℕ × Header)) → shown lots (without r xs) ≡ without r (shown lots xs)
 shown_without lots r [] = refl
 shown_without lots r (x ∷ xs) = dite (ℕ_discrete x.0 r)
-    (λ same. ap (shown lots) (here_first x.0 r (without r xs) (x ∷ without r xs) same) ∙ shown_without lots r xs ∙ sym (here_first x.0 r (without r (shown lots xs)) ((x.0, item_in (value_at x.0 lots)) ∷ without r (shown lots xs)) same))
+    (λ same. ap (shown lots) (here_first x.0 r (without r xs) (x ∷ without r xs) same) ∙ shown_without lots r xs
+        ∙ sym (here_first x.0 r (without r (shown lots xs)) ((x.0, item_in (value_at x.0 lots)) ∷ without r (shown lots xs)) same))
     (λ other. ap (shown lots) (not_here x.0 r (without r xs) (x ∷ without r xs) other) ∙ ap (λ (l : List (ℕ × Item)). (x.0, item_in (value_at x.0 lots)) ∷ l) (shown_without lots r xs)
     ∙ sym (not_here x.0 r (without r (shown lots xs)) ((x.0, item_in (value_at x.0 lots)) ∷ without r (shown lots xs)) other))
 
@@ -59,7 +62,8 @@ pub shown_none : (lots : List (ℕ × LotOf Body)) (xs : List (ℕ × Header)) (
 shown_none lots xs r e = none_at r (shown lots xs) (λ h. no_key r xs e (subst (λ (l : List ℕ). Among l r) (shown_keys lots xs) h))
 
 -- a lot that is another in its place
-pub shown_put : (lots : List (ℕ × LotOf Body)) (xs : List (ℕ × Header)) (r : ℕ) (l m : LotOf Body) → value_at r lots ≡ Some l → Distinct (keys xs) → shown (put r m lots) xs ≡ put r (item_of m) (shown lots xs)
+pub shown_put : (lots : List (ℕ × LotOf Body)) (xs : List (ℕ × Header)) (r : ℕ) (l m : LotOf Body) → value_at r lots ≡ Some l → Distinct (keys xs)
+    → shown (put r m lots) xs ≡ put r (item_of m) (shown lots xs)
 shown_put lots [] r l m at d = refl
 shown_put lots (x ∷ xs) r l m at d = dite (ℕ_discrete x.0 r)
     (λ same.
@@ -83,7 +87,8 @@ get_at : (k : ℕ) (xs : List (ℕ × Header)) (d : ℕ × Header) → Distinct 
 get_at k [] d distinct h = absurd (omega arith)
 get_at zero (x ∷ xs) d distinct h = here_first x.0 x.0 (Some x.1) (value_at x.0 xs) refl
 get_at (suc k) (x ∷ xs) d distinct h =
-    not_here x.0 (get_or xs k d).0 (Some x.1) (value_at (get_or xs k d).0 xs) (λ e. distinct.0 (subst (λ (z : ℕ). Among (keys xs) z) (sym e) (get_key k xs d (omega arith)))) ∙ get_at k xs d distinct.1 (omega arith)
+    not_here x.0 (get_or xs k d).0 (Some x.1) (value_at (get_or xs k d).0 xs) (λ e. distinct.0 (subst (λ (z : ℕ). Among (keys xs) z) (sym e) (get_key k xs d (omega arith))))
+        ∙ get_at k xs d distinct.1 (omega arith)
 
 -- sums
 pub sum_last : (xs : List (ℕ × Header)) (r : ℕ) (s : Header) → sum_of (xs ++ (r, s) ∷ []) ≡ sum_of xs + s.len
@@ -111,7 +116,8 @@ sum_shown lots xs same d = go xs (λ r s e. is r s (value_at r lots) refl (sym e
   go [] h d = refl
   go (y ∷ ys) h d =
       let head : (item_in (value_at y.0 lots)).len ≡ y.1.len = h y.0 y.1 (here_first y.0 y.0 (Some y.1) (value_at y.0 ys) refl) in
-      let rest : total_of (shown lots ys) ≡ sum_of ys = go ys (λ r s e. h r s (not_here y.0 r (Some y.1) (value_at r ys) (λ q. d.0 (subst (λ (z : ℕ). Among (keys ys) z) (sym q) (at_key r s ys e))) ∙ e)) d.1 in omega arith
+      let rest : total_of (shown lots ys) ≡ sum_of ys =
+          go ys (λ r s e. h r s (not_here y.0 r (Some y.1) (value_at r ys) (λ q. d.0 (subst (λ (z : ℕ). Among (keys ys) z) (sym q) (at_key r s ys e))) ∙ e)) d.1 in omega arith
 
 -- there is room for one more, and no sum is too large
 slot_below : (a n r : ℕ) → r / 256 < a → r % 256 < n → index_of n r < a * n
@@ -175,13 +181,16 @@ kept seat last xs room total state e is = record {
 pub shows : (p : PlaceOf) (seat last : Held Body) (xs ys : List (ℕ × Header)) (state : Status) (lots : List (ℕ × LotOf Body)) (f : List (ℕ × Item) → List (ℕ × Item)) → view_of seat xs state ≡ p
     → HasNow seat lots last → shown last.lots ys ≡ f (shown seat.lots xs) → view_of last ys state ≡ with_blocks p (f p.blocks)
 shows p seat last xs ys state lots f is new blocks =
-    (λ i. record { table = (new i).table; shape = (new i).shape; process = (new i).process; blocks = blocks i; state = state; came = (new i).done }) ∙ ap (λ (q : PlaceOf). with_blocks q (f q.blocks)) is
+    (λ i. record { table = (new i).table; shape = (new i).shape; process = (new i).process; blocks = blocks i; state = state; came = (new i).done })
+        ∙ ap (λ (q : PlaceOf). with_blocks q (f q.blocks)) is
 
 module _ (seat : Held Body) (xs : List (ℕ × Header)) (room total : ℕ) (state : Status) (is : IsPlace seat xs room total state) where
   -- a record of the list has its lot in the seat, and a lot its record
-  pub lot_of : (r : ℕ) (s : Header) → value_at r xs ≡ Some s → (l : LotOf Body) × (value_at r seat.lots ≡ Some l) × (s ≡ header_of (item_of l)) × IsBlock seat.shape r l × (value_at r (shown seat.lots xs) ≡ Some (item_of l))
+  pub lot_of : (r : ℕ) (s : Header) → value_at r xs ≡ Some s → (l : LotOf Body) × (value_at r seat.lots ≡ Some l) × (s ≡ header_of (item_of l)) × IsBlock seat.shape r l
+      × (value_at r (shown seat.lots xs) ≡ Some (item_of l))
   lot_of r s e = go (value_at r seat.lots) refl where
-    go : (o : Option (LotOf Body)) → value_at r seat.lots ≡ o → (l : LotOf Body) × (value_at r seat.lots ≡ Some l) × (s ≡ header_of (item_of l)) × IsBlock seat.shape r l × (value_at r (shown seat.lots xs) ≡ Some (item_of l))
+    go : (o : Option (LotOf Body)) → value_at r seat.lots ≡ o → (l : LotOf Body) × (value_at r seat.lots ≡ Some l) × (s ≡ header_of (item_of l)) × IsBlock seat.shape r l
+        × (value_at r (shown seat.lots xs) ≡ Some (item_of l))
     go None f = let g : Some s ≡ None = sym e ∙ is.same r ∙ ap header_in f in absurd (cc)
     go (Some l) f = let g : Some s ≡ Some (header_of (item_of l)) = sym e ∙ is.same r ∙ ap header_in f in let h : s ≡ header_of (item_of l) = cc in
         (l, f, h, is.blocks r l f, shown_at seat.lots xs r s e ∙ ap (λ (z : Option (LotOf Body)). Some (item_in z)) f)
@@ -194,7 +203,8 @@ module _ (seat : Held Body) (xs : List (ℕ × Header)) (room total : ℕ) (stat
     go (Some s) e = let t = lot_of r s e in e ∙ ap (λ (z : Header). Some z) t.2 ∙ sym (ap entry_of t.4)
 
   -- the block at a place of the list
-  pub at_place : (k : ℕ) (d : ℕ × Header) → k < length xs → (x : Item) × (more : List (ℕ × Item)) × (drop k (shown seat.lots xs) ≡ ((get_or xs k d).0, x) ∷ more) × ((get_or xs k d).1.kind ≡ kind_of x.content)
+  pub at_place : (k : ℕ) (d : ℕ × Header) → k < length xs → (x : Item) × (more : List (ℕ × Item)) × (drop k (shown seat.lots xs) ≡ ((get_or xs k d).0, x) ∷ more)
+      × ((get_or xs k d).1.kind ≡ kind_of x.content)
   at_place k d h =
       let t = lot_of (get_or xs k d).0 (get_or xs k d).1 (get_at k xs d is.distinct h) in (
         item_of t.0,
@@ -220,7 +230,8 @@ module _ (seat : Held Body) (xs : List (ℕ × Header)) (room total : ℕ) (stat
   has_room r exists fresh =
       let all : AllRecords seat.shape (r ∷ keys xs) = (exists, all_records xs listed_record) in
       let most : length (map (index_of seat.shape.records) (r ∷ keys xs)) ≤ length seat.shape.names * seat.shape.records =
-      few (length seat.shape.names * seat.shape.records) (map (index_of seat.shape.records) (r ∷ keys xs)) (below_index seat.shape (r ∷ keys xs) all) (distinct_index seat.shape (r ∷ keys xs) all (not_listed r fresh, is.distinct)) in
+      few (length seat.shape.names * seat.shape.records) (map (index_of seat.shape.records) (r ∷ keys xs)) (below_index seat.shape (r ∷ keys xs) all)
+          (distinct_index seat.shape (r ∷ keys xs) all (not_listed r fresh, is.distinct)) in
       let long : length (map (index_of seat.shape.records) (keys xs)) ≡ length xs = keys_long (index_of seat.shape.records) xs in
       let m : ℕ = length seat.shape.names * seat.shape.records in let a : m ≤ room = is.room.0 in
       let c : suc (length xs) ≤ m = subst (λ (z : ℕ). suc z ≤ m) long most in
@@ -231,10 +242,12 @@ module _ (seat : Held Body) (xs : List (ℕ × Header)) (room total : ℕ) (stat
   sums [] h d = omega arith
   sums (y ∷ ys) h d =
       let head : y.1.len ≤ 1048576 = h y.0 y.1 (here_first y.0 y.0 (Some y.1) (value_at y.0 ys) refl) in
-      let rest : sum_of ys ≤ length ys * 1048576 = sums ys (λ r s e. h r s (not_here y.0 r (Some y.1) (value_at r ys) (λ q. d.0 (subst (λ (z : ℕ). Among (keys ys) z) (sym q) (at_key r s ys e))) ∙ e)) d.1 in omega arith
+      let rest : sum_of ys ≤ length ys * 1048576 =
+          sums ys (λ r s e. h r s (not_here y.0 r (Some y.1) (value_at r ys) (λ q. d.0 (subst (λ (z : ℕ). Among (keys ys) z) (sym q) (at_key r s ys e))) ∙ e)) d.1 in omega arith
 
   pub small : total ≤ length xs * 1048576
-  small = subst (λ (z : ℕ). z ≤ length xs * 1048576) (sym is.sum) (sums xs (λ r s e. let t = lot_of r s e in subst (λ (z : ℕ). z ≤ 1048576) (sym (ap (λ (z : Header). z.len) t.2)) (block_small t.3)) is.distinct)
+  small = subst (λ (z : ℕ). z ≤ length xs * 1048576) (sym is.sum)
+      (sums xs (λ r s e. let t = lot_of r s e in subst (λ (z : ℕ). z ≤ 1048576) (sym (ap (λ (z : Header). z.len) t.2)) (block_small t.3)) is.distinct)
 
   -- how many blocks there are, and their sum
   pub count_bound : length xs ≤ 2048
@@ -260,10 +273,12 @@ module _ (seat : Held Body) (xs : List (ℕ × Header)) (room total : ℕ) (stat
     pub gains : IsQuiet state (xs ++ (r, header_of (item_of l)) ∷ []) → IsPlace last (xs ++ (r, header_of (item_of l)) ∷ []) room (total + l.len) state
     gains quiet = kept (with_lots seat (seat.lots ++ (r, l) ∷ [])) last (xs ++ (r, header_of (item_of l)) ∷ []) room (total + l.len) state new record {
       same = λ q. dite (ℕ_discrete r q)
-          (λ e. subst (λ (z : ℕ). value_at z (xs ++ (r, header_of (item_of l)) ∷ []) ≡ header_in (value_at z (seat.lots ++ (r, l) ∷ []))) e (last_at r (header_of (item_of l)) xs (not_listed r fresh) ∙ sym (ap header_in (last_at r l seat.lots fresh))))
+          (λ e. subst (λ (z : ℕ). value_at z (xs ++ (r, header_of (item_of l)) ∷ []) ≡ header_in (value_at z (seat.lots ++ (r, l) ∷ []))) e
+              (last_at r (header_of (item_of l)) xs (not_listed r fresh) ∙ sym (ap header_in (last_at r l seat.lots fresh))))
           (λ n. last_other q r (header_of (item_of l)) xs n ∙ is.same q ∙ sym (ap header_in (last_other q r l seat.lots n)));
       blocks = λ q m. dite (ℕ_discrete r q)
-          (λ e at. let same : Some l ≡ Some m = sym (last_at r l seat.lots fresh) ∙ ap (λ (z : ℕ). value_at z (seat.lots ++ (r, l) ∷ [])) e ∙ at in let one : l ≡ m = cc in subst (λ (z : ℕ × LotOf Body). IsBlock seat.shape z.0 z.1) (λ i. (e i, one i)) good)
+          (λ e at. let same : Some l ≡ Some m = sym (last_at r l seat.lots fresh) ∙ ap (λ (z : ℕ). value_at z (seat.lots ++ (r, l) ∷ [])) e ∙ at in let one : l ≡ m = cc in
+              subst (λ (z : ℕ × LotOf Body). IsBlock seat.shape z.0 z.1) (λ i. (e i, one i)) good)
           (λ n at. is.blocks q m (sym (last_other q r l seat.lots n) ∙ at));
       distinct = subst Distinct (sym (keys_push xs (r, header_of (item_of l)))) (distinct_push (keys xs) r is.distinct (not_listed r fresh));
       sum = ap (λ (z : ℕ). z + l.len) is.sum ∙ sym (sum_last xs r (header_of (item_of l)));
@@ -273,7 +288,8 @@ module _ (seat : Held Body) (xs : List (ℕ × Header)) (room total : ℕ) (stat
 
     pub gains_shown : shown last.lots (xs ++ (r, header_of (item_of l)) ∷ []) ≡ shown seat.lots xs ++ (r, item_of l) ∷ []
     gains_shown = ap (λ (h : Held Body). shown h.lots (xs ++ (r, header_of (item_of l)) ∷ [])) new ∙ shown_last (seat.lots ++ (r, l) ∷ []) xs r (header_of (item_of l))
-        ∙ (λ i. shown_same seat.lots (seat.lots ++ (r, l) ∷ []) xs (λ q h. last_other q r l seat.lots (λ e. not_listed r fresh (subst (λ (z : ℕ). Among (keys xs) z) (sym e) h))) i ++ (r, item_in (last_at r l seat.lots fresh i)) ∷ [])
+        ∙ (λ i. shown_same seat.lots (seat.lots ++ (r, l) ∷ []) xs (λ q h. last_other q r l seat.lots (λ e. not_listed r fresh (subst (λ (z : ℕ). Among (keys xs) z) (sym e) h))) i ++
+            (r, item_in (last_at r l seat.lots fresh i)) ∷ [])
 
   pub enough : (r : ℕ) (s : Header) → value_at r xs ≡ Some s → s.len ≤ total
   enough r s at = let u : sum_of xs ≡ sum_of (without r xs) + s.len = sum_without xs r s is.distinct at in let t : total ≡ sum_of xs = is.sum in omega arith
@@ -297,7 +313,8 @@ module _ (seat : Held Body) (xs : List (ℕ × Header)) (room total : ℕ) (stat
 
     pub loses : IsPlace last (without r xs) room (total - s.len) state
     loses = kept (with_lots seat (without r seat.lots)) last (without r xs) room (total - s.len) state new
-        (let u : sum_of xs ≡ sum_of (without r xs) + s.len = sum_without xs r s is.distinct at in let t : total ≡ sum_of xs = is.sum in let now : total - s.len ≡ sum_of (without r xs) = omega arith in record {
+        (let u : sum_of xs ≡ sum_of (without r xs) + s.len = sum_without xs r s is.distinct at in let t : total ≡ sum_of xs = is.sum in let now : total - s.len ≡ sum_of (without r xs) =
+            omega arith in record {
           same = gone;
           blocks = λ q m. dite (ℕ_discrete r q)
               (λ e a. let none : None ≡ Some m = sym (without_at r seat.lots) ∙ ap (λ (z : ℕ). value_at z (without r seat.lots)) e ∙ a in absurd (cc))
@@ -310,33 +327,40 @@ module _ (seat : Held Body) (xs : List (ℕ × Header)) (room total : ℕ) (stat
 
     pub loses_shown : shown last.lots (without r xs) ≡ without r (shown seat.lots xs)
     loses_shown = ap (λ (h : Held Body). shown h.lots (without r xs)) new
-        ∙ shown_same seat.lots (without r seat.lots) (without r xs) (λ q h. without_other q r seat.lots (λ e. no_key r (without r xs) (without_at r xs) (subst (λ (z : ℕ). Among (keys (without r xs)) z) (sym e) h)))
+        ∙ shown_same seat.lots (without r seat.lots) (without r xs)
+            (λ q h. without_other q r seat.lots (λ e. no_key r (without r xs) (without_at r xs) (subst (λ (z : ℕ). Among (keys (without r xs)) z) (sym e) h)))
         ∙ shown_without seat.lots r xs
 
   -- the same, as the fields have it
-  pub lost : (last : Held Body) (r : ℕ) (s : Header) (ys : List (ℕ × Header)) (room' n : ℕ) → value_at r xs ≡ Some s → HasNow seat (without r seat.lots) last → ys ≡ without r xs → room' ≡ room → n ≡ s.len
+  pub lost : (last : Held Body) (r : ℕ) (s : Header) (ys : List (ℕ × Header)) (room' n : ℕ) → value_at r xs ≡ Some s → HasNow seat (without r seat.lots) last → ys ≡ without r xs → room' ≡ room
+      → n ≡ s.len
       → IsPlace last ys room' (total - n) state × ((p : PlaceOf) → view_of seat xs state ≡ p → view_of last ys state ≡ with_blocks p (without r p.blocks))
   lost last r s ys room' n at new items same len = (
     subst (λ (z : List (ℕ × Header) × ℕ × ℕ). IsPlace last z.0 z.1 (total - z.2) state) (λ i. (sym items i, sym same i, sym len i)) (loses last r s at new),
     λ p is. shows p seat last xs ys state (without r seat.lots) (without r) is new (ap (shown last.lots) items ∙ loses_shown last r s at new),
   )
 
-  pub won : (last : Held Body) (r : ℕ) (l : LotOf Body) (ys : List (ℕ × Header)) (room' n : ℕ) → (Among (keys seat.lots) r → ⊥) → HasNow seat (seat.lots ++ (r, l) ∷ []) last → IsBlock seat.shape r l → (is_over state ≡ true → ⊥) → ys ≡ xs ++ (r, header_of (item_of l)) ∷ [] → room' ≡ room → n ≡ l.len
+  pub won : (last : Held Body) (r : ℕ) (l : LotOf Body) (ys : List (ℕ × Header)) (room' n : ℕ) → (Among (keys seat.lots) r → ⊥) → HasNow seat (seat.lots ++ (r, l) ∷ []) last
+      → IsBlock seat.shape r l → (is_over state ≡ true → ⊥) → ys ≡ xs ++ (r, header_of (item_of l)) ∷ [] → room' ≡ room → n ≡ l.len
       → IsPlace last ys room' (total + n) state × ((p : PlaceOf) → view_of seat xs state ≡ p → view_of last ys state ≡ with_blocks p (p.blocks ++ (r, item_of l) ∷ []))
   won last r l ys room' n fresh new good alive items same len = (
-    subst (λ (z : List (ℕ × Header) × ℕ × ℕ). IsPlace last z.0 z.1 (total + z.2) state) (λ i. (sym items i, sym same i, sym len i)) (gains last r l fresh new good (quiet_alive state (xs ++ (r, header_of (item_of l)) ∷ []) alive)),
+    subst (λ (z : List (ℕ × Header) × ℕ × ℕ). IsPlace last z.0 z.1 (total + z.2) state) (λ i. (sym items i, sym same i, sym len i))
+        (gains last r l fresh new good (quiet_alive state (xs ++ (r, header_of (item_of l)) ∷ []) alive)),
     λ p is. shows p seat last xs ys state (seat.lots ++ (r, l) ∷ []) (λ (es : List (ℕ × Item)). es ++ (r, item_of l) ∷ []) is new (ap (shown last.lots) items ∙ gains_shown last r l fresh new good),
   )
 
   -- another lot in the place of one, of the same length and kind
-  module _ (last : Held Body) (r : ℕ) (l m : LotOf Body) (at : value_at r seat.lots ≡ Some l) (new : HasNow seat (put r m seat.lots) last) (good : IsBlock seat.shape r m) (alike : header_of (item_of m) ≡ header_of (item_of l)) where
+  module _ (last : Held Body) (r : ℕ) (l m : LotOf Body) (at : value_at r seat.lots ≡ Some l) (new : HasNow seat (put r m seat.lots) last) (good : IsBlock seat.shape r m)
+      (alike : header_of (item_of m) ≡ header_of (item_of l)) where
     pub changes : IsPlace last xs room total state
     changes = kept (with_lots seat (put r m seat.lots)) last xs room total state new record {
       same = λ q. is.same q ∙ dite (ℕ_discrete r q)
-          (λ e. subst (λ (z : ℕ). header_in (value_at z seat.lots) ≡ header_in (value_at z (put r m seat.lots))) e (ap header_in at ∙ ap (λ (z : Header). Some z) (sym alike) ∙ sym (ap header_in (put_at r m l seat.lots at))))
+          (λ e. subst (λ (z : ℕ). header_in (value_at z seat.lots) ≡ header_in (value_at z (put r m seat.lots))) e
+              (ap header_in at ∙ ap (λ (z : Header). Some z) (sym alike) ∙ sym (ap header_in (put_at r m l seat.lots at))))
           (λ n. sym (ap header_in (put_other q r m seat.lots n)));
       blocks = λ q k. dite (ℕ_discrete r q)
-          (λ e a. let same : Some m ≡ Some k = sym (put_at r m l seat.lots at) ∙ ap (λ (z : ℕ). value_at z (put r m seat.lots)) e ∙ a in let one : m ≡ k = cc in subst (λ (z : ℕ × LotOf Body). IsBlock seat.shape z.0 z.1) (λ i. (e i, one i)) good)
+          (λ e a. let same : Some m ≡ Some k = sym (put_at r m l seat.lots at) ∙ ap (λ (z : ℕ). value_at z (put r m seat.lots)) e ∙ a in let one : m ≡ k = cc in
+              subst (λ (z : ℕ × LotOf Body). IsBlock seat.shape z.0 z.1) (λ i. (e i, one i)) good)
           (λ n a. is.blocks q k (sym (put_other q r m seat.lots n) ∙ a));
       distinct = is.distinct;
       sum = is.sum;
@@ -353,11 +377,13 @@ module _ (seat : Held Body) (xs : List (ℕ × Header)) (room total : ℕ) (stat
       → IsPlace last xs room total state × ((p : PlaceOf) → view_of seat xs state ≡ p → view_of last xs state ≡ p)
   swapped mid last r l b b' at out back same fits =
       let m : LotOf Body = record l { body = b' } in
-      let new : HasNow seat (put r m seat.lots) last = ap bare (back ∙ ap (λ (h : Held Body). with_lots h (put r m h.lots)) out ∙ ap (with_lots seat) (put_twice r m (record l { body = b }) seat.lots)) in
+      let new : HasNow seat (put r m seat.lots) last =
+          ap bare (back ∙ ap (λ (h : Held Body). with_lots h (put r m h.lots)) out ∙ ap (with_lots seat) (put_twice r m (record l { body = b }) seat.lots)) in
       let was = is.blocks r l at in
       let good : IsBlock seat.shape r m = record { exists = was.exists; lot = was.lot; full = (was.full.0, fits) } in
       let item : item_of m ≡ item_of l = λ i. record { len = l.len; content = same i } in
-      let kept : shown last.lots xs ≡ shown seat.lots xs = changes_shown last r l m at new good (ap header_of item) ∙ put_same r (item_of m) (shown seat.lots xs) (shown_held r l at ∙ ap (λ (z : Item). Some z) (sym item)) in
+      let kept : shown last.lots xs ≡ shown seat.lots xs = changes_shown last r l m at new good (ap header_of item)
+          ∙ put_same r (item_of m) (shown seat.lots xs) (shown_held r l at ∙ ap (λ (z : Item). Some z) (sym item)) in
       (changes last r l m at new good (ap header_of item), λ p e. shows p seat last xs xs state (put r m seat.lots) (λ (es : List (ℕ × Item)). es) e new kept) where
         shown_held : (r : ℕ) (l : LotOf Body) → value_at r seat.lots ≡ Some l → value_at r (shown seat.lots xs) ≡ Some (item_of l)
         shown_held r l at = shown_at seat.lots xs r (header_of (item_of l)) (is.same r ∙ ap header_in at) ∙ ap (λ (z : Option (LotOf Body)). Some (item_in z)) at

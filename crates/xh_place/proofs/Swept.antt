@@ -1,5 +1,6 @@
 -- Sweeps one after another, and what a worker gave back.
-use Rattle.std.proofs.Common.{◌≡◌, ℕ, zero, suc, ◌+◌, ◌<◌, ◌≤◌, ◌⊎◌, ⊎_elim, inl, inr, List, [], ◌∷◌, ◌++◌, length, take, drop, length-append, append_assoc, append-nil, refl, sym, ap, ◌∙◌, subst, arith, false, not}
+use Rattle.std.proofs.Common.{◌≡◌, ℕ, zero, suc, ◌+◌, ◌<◌, ◌≤◌, ◌⊎◌, ⊎_elim, inl, inr, List, [], ◌∷◌, ◌++◌, length, take, drop, length-append}
+use Rattle.std.proofs.Common.{append_assoc, append-nil, refl, sym, ap, ◌∙◌, subst, arith, false, not}
 use Rattle.std.specs.Prelude.{Option, Some, None}
 use Rattle.std.proofs.lemmas.List.{drop-append-le, take-append-le}
 use Rattle.std.proofs.Math.Seq.{drop-append_seam, take-append_seam}
@@ -90,7 +91,8 @@ among_then (suc u) k (x ∷ w) ys z h a =
     subst (λ (n : ℕ). Among (take n (x ∷ (w ++ ys))) z) e (inr (among_then u k w ys z (omega arith) a))
 
 -- one sweep after another from the same place
-pub swept_more : (from u k a b : ℕ) (old mid new : PlaceOf) → from ≤ length old.blocks → mid.process ≡ old.process → IsSweptBy from u old mid a → IsSweptBy from k mid new b → IsSweptBy from (u + k) old new (a + b)
+pub swept_more : (from u k a b : ℕ) (old mid new : PlaceOf) → from ≤ length old.blocks → mid.process ≡ old.process → IsSweptBy from u old mid a → IsSweptBy from k mid new b
+    → IsSweptBy from (u + k) old new (a + b)
 swept_more from u k a b old mid new inside whose one two =
     let w : List (ℕ × Item) = drop from old.blocks ++ one.accepted in
     let both : List (ℕ × Item) = one.accepted ++ two.accepted in
@@ -177,7 +179,8 @@ gave_nothing old = (omega arith, refl)
 pub gave_some : (i n : ℕ) (ts : List TallyOf) → i < length ts → HasGivenBack n ts (gave i n ts)
 gave_some i n [] h = absurd (omega arith)
 gave_some zero n (t ∷ ts) h = (omega arith, refl)
-gave_some (suc i) n (t ∷ ts) h = let more = gave_some i n ts (omega arith) in let e : back_of (gave i n ts) ≡ back_of ts + n = more.0 in (omega arith, ap (λ (l : List TallyOf). record t { back = 0 } ∷ l) more.1)
+gave_some (suc i) n (t ∷ ts) h = let more = gave_some i n ts (omega arith) in let e : back_of (gave i n ts) ≡ back_of ts + n = more.0 in
+    (omega arith, ap (λ (l : List TallyOf). record t { back = 0 } ∷ l) more.1)
 
 -- a place whose list changed twice
 pub twice : (d : ℕ) (old mid new : PlaceOf) (ys xs : List (ℕ × Item)) → mid ≡ with_more d ys old → new ≡ with_blocks mid xs → new ≡ with_list old new

@@ -11,7 +11,8 @@ use Rattle.xh_place.proofs.Coming.{then_came}
 use Rattle.xh_place.proofs.giving.give_all.Goals as goal
 
 pub returns-clause-good : goal.returns-clause-good
-returns-clause-good g c = λ r l a at. subst (λ s. IsBlock s r l) (ap (λ (h : Held Body). h.shape) c.post-put.ensures.same) (c.accept_back-back.ensures.good r l (subst (λ (z : List ℕ). Among z r) (sym c.as_slice.ensures.value) a) at)
+returns-clause-good g c = λ r l a at. subst (λ s. IsBlock s r l) (ap (λ (h : Held Body). h.shape) c.post-put.ensures.same)
+    (c.accept_back-back.ensures.good r l (subst (λ (z : List ℕ). Among z r) (sym c.as_slice.ensures.value) a) at)
 
 pub returns-clause-came : goal.returns-clause-came
 returns-clause-came g c =

@@ -5,4 +5,5 @@ use Rattle.xh_place.specs.Settling.{settled}
 use Rattle.xh_place.proofs.list.settle.Given as goal
 
 abbrev pub invariant-loop-k : goal.invariant-loop-k
-invariant-loop-k l = (settled (drop l.k l.given) (λ r. value_at r l.back) l.list.items ≡ settled l.given (λ r. value_at r l.back) l.initial.list.items) × Distinct (keys l.list.items) × (vec_capacity l.list ≡ vec_capacity l.initial.list)
+invariant-loop-k l = (settled (drop l.k l.given) (λ r. value_at r l.back) l.list.items ≡ settled l.given (λ r. value_at r l.back) l.initial.list.items) × Distinct (keys l.list.items)
+    × (vec_capacity l.list ≡ vec_capacity l.initial.list)
