@@ -4,6 +4,7 @@ ghost use Rattle.xh_core.specs.declared.status.Status.TheVariants.{Vacant};
 ghost use Rattle.xh_place.specs.Places.{IsPlaceOf};
 ghost use Rattle.xh_place.specs.Tallies.{ids_of};
 
+mod answers;
 mod calls;
 mod desk;
 mod ends;
@@ -57,13 +58,6 @@ impl Bench {
 
     fn write(&mut self, r: u16, at: u32, bytes: &[u8]) -> Result<(), Refused> {
         self.first.write(&self.records, r, at, bytes)
-    }
-
-    fn free(&mut self, r: u16) -> Result<u32, Refused> {
-        let tallies = self.tallies.as_mut_slice();
-        let vaults = &mut self.vaults;
-        self.first
-            .free(&self.records, r, vaults, tallies, &OpenGate)
     }
 
     /// How many bytes were carved with the account, and given back.

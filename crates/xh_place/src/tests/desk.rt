@@ -13,7 +13,17 @@ use std::sync::Wait;
 use xh_arena::Tally;
 use xh_channel::{Channels, Spot};
 use xh_core::{Block, Contract, Refused, Status};
+use xh_model::Row;
 use xh_records::Records;
+
+fn row(state: u8, tag: u16, side: u8, next: u8) -> Row {
+    Row {
+        state,
+        tag,
+        side,
+        next,
+    }
+}
 
 /// One arena, one account, all channels and two places. Calls are of the place whose turn it is, and where they stop is noted.
 #[derive(Drop)]
@@ -59,11 +69,10 @@ impl Desk {
         mem::swap(&mut self.place, &mut self.other);
     }
 
-    pub(super) fn alloc(&mut self, alloc: Global, n: u32) -> Result<Block, Refused> {
+    pub(super) fn alloc(&mut self, alloc: Global, n: u32, arena: u32) -> Result<Block, Refused> {
         let tallies = self.tallies.as_mut_slice();
         let vaults = &mut self.vaults;
-        self.place
-            .alloc(alloc, &self.records, n, 0, vaults, tallies, &self.notes)
+        self.place.alloc(alloc, &self.records, n, arena, vaults, tallies, &self.notes)
     }
 
     pub(super) fn split(
@@ -104,8 +113,9 @@ impl Desk {
         Some((a.rec, b.rec))
     }
 
-    /// The same under a contract.
-    pub(super) fn open_with<R: Wait>(&mut self, rt: &R, contract: Contract) -> Option<(u16, u16)> {
+    /// The same under a contract: a request with the tag 1 by side 0, then a reply with the tag 2 by side 1, and so on.
+    pub(super) fn open_with<R: Wait>(&mut self, rt: &R) -> Option<(u16, u16)> {
+        let contract = Contract::new(&[row(0, 1, 0, 1), row(1, 2, 1, 0)]).ok()?;
         let (low, high) = self.channels.open_with(rt, contract).ok()?;
         let tallies = self.tallies.as_mut_slice();
         let vaults = &mut self.vaults;
@@ -117,31 +127,33 @@ impl Desk {
     }
 
     /// An endpoint goes over to the other place.
-    pub(super) fn hand_over<R: Wait>(&mut self, rt: &R, e: u16) -> Option<()> {
+    pub(super) fn hand_over<R: Wait>(&mut self, rt: &R, e: u16) -> Result<Block, Refused> {
         let Status::Running = self.place.state() else {
-            return None;
+            return Err(Refused::Ended);
         };
-        if !self.records.has(e) {
-            return None;
-        }
-        let spot = self.place.spot(&self.records, e)?;
+        let Some(spot) = self.place.spot(&self.records, e) else {
+            return Err(Refused::NotEndpoint);
+        };
         let direction = 2 * spot.channel + spot.side;
         self.place.pass_end(&self.records, e, direction);
         self.accept(rt, e, direction)
     }
 
     /// The other place takes an endpoint that is in flight on the direction.
-    pub(super) fn accept<R: Wait>(&mut self, rt: &R, e: u16, direction: u8) -> Option<()>
-        requires { direction < 128 }
-    {
-        if !self.records.has(e) {
-            return None;
+    pub(super) fn accept<R: Wait>(
+        &mut self,
+        rt: &R,
+        e: u16,
+        direction: u8,
+    ) -> Result<Block, Refused> {
+        if !self.records.has(e) || direction >= 128 {
+            return Err(Refused::NotOwned);
         }
         let process = self.other.process();
         let tallies = self.tallies.as_mut_slice();
         let vaults = &mut self.vaults;
         let channels = &self.channels;
-        let came = self.other.accept_end(
+        self.other.accept_end(
             rt,
             &self.records,
             channels,
@@ -151,15 +163,13 @@ impl Desk {
             vaults,
             tallies,
             &self.notes,
-        );
-        came.ok()?;
-        Some(())
+        )
     }
 
     /// The records of a new channel's end here and of its end at the other place.
     pub(super) fn wire<R: Wait>(&mut self, rt: &R) -> Option<(u16, u16)> {
         let (e, f) = self.open(rt)?;
-        self.hand_over(rt, f)?;
+        self.hand_over(rt, f).ok()?;
         Some((e, f))
     }
 

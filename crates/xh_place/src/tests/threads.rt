@@ -107,7 +107,7 @@ fn there_and_back_over<R: Abort + Threads + Wait + Sync>(
     let (Some((e, f)), Some((_, h))) = (desk.wire(rt), desk.open(rt)) else {
         panic!(rt; "no channels");
     };
-    let x = desk.alloc(alloc, 16)?.rec;
+    let x = desk.alloc(alloc, 16, 0)?.rec;
     let Some((low, high)) = desk.spots(e, f) else {
         panic!(rt; "no endpoints");
     };
