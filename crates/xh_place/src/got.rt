@@ -11,6 +11,11 @@ pub enum Got {
 }
 
 impl Default for Got {
+    ghost use Rattle.std.specs.Prelude.{◌≡◌};
+    ghost use Rattle.xh_place.specs.declared.got.Got.TheVariants.{Missing};
+
+    ghost is_default = { λ got. got ≡ Missing 0 0 };
+
     fn default() -> Got {
         Got::Missing { rec: 0, word: 0 }
     }
