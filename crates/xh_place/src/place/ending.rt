@@ -1,7 +1,7 @@
 //! How a place is reclaimed.
 ghost use Rattle.std.specs.Prelude.{◌≡◌, ◌≢◌, ℕ, ◌+◌, ◌-◌, ◌*◌, ◌<◌, ◌≤◌, ◌⊎◌, List, [], ◌∷◌, ◌++◌, length, take, drop, Some, true};
 ghost use Rattle.xh_core.specs.declared.status.Status.TheVariants as status;
-ghost use Rattle.xh_model.specs.Keyed.{Distinct, keys};
+ghost use Rattle.xh_model.specs.Keyed.{value_at};
 ghost use Rattle.xh_records.specs.Seats.{IsRecord};
 ghost use Rattle.xh_place.specs.Bodies.{kind_of};
 ghost use Rattle.xh_place.specs.Ending.{HasGivenBack, IsStopped, IsSwept, IsSweptBy, ending, reclaimed, stop_tests};
@@ -58,8 +58,7 @@ impl Place {
     // The block at a place of the list: its record and its kind.
     fn at(&self, k: usize) -> (u16, Kind)
         requires { k < length self.now.blocks }
-        ensures block { (x : Item) × (more : List (ℕ × Item)) × (drop k self.now.blocks ≡ (result.0, x) ∷ more) × (result.1 ≡ kind_of x.content) }
-        ensures distinct { Distinct (keys self.now.blocks) }
+        ensures { (x : Item) × (more : List (ℕ × Item)) × (drop k self.now.blocks ≡ (result.0, x) ∷ more) × (value_at result.0 self.now.blocks ≡ Some x) × (result.1 ≡ kind_of x.content) }
     {
         let (r, header) = self.list[k];
         (r, header.kind)

@@ -1,15 +1,12 @@
 use Rattle.std.proofs.Common.{arith, ◌≡◌, ℕ, ◌+◌, List, ◌++◌, length, take, drop, length-append, sym, ap, ◌∙◌, subst}
-use Rattle.std.specs.Prelude.{Some}
 use Rattle.xh_model.specs.Keyed.{Among, value_at}
-use Rattle.xh_model.proofs.Keyed.{value_drop}
 use Rattle.xh_place.specs.Ends.{toward_in}
 use Rattle.xh_place.specs.Places.{Item}
 use Rattle.xh_place.proofs.Swept.{among_head, for_drained, swept_run, twice}
 use Rattle.xh_place.proofs.place.Place.reclaim.Goals as goal
 
 pub drain_end-requires-clause-block : goal.drain_end-requires-clause-block
-drain_end-requires-clause-block g c =
-    let b = c.at-r.ensures.block in (b.0, value_drop c.at-r.result.0 b.0 b.1 c.args.from c.args.self.now.blocks b.2 c.at-r.ensures.distinct, b.3)
+drain_end-requires-clause-block g c = let b = c.at-r.ensures in (b.0, b.3, b.4)
 
 pub give_up_run-requires-clause-some : goal.give_up_run-requires-clause-some
 give_up_run-requires-clause-some g c =
@@ -25,11 +22,10 @@ returns-clause-list g c =
 
 pub returns-clause-swept : goal.returns-clause-swept
 returns-clause-swept g c =
-    let old = c.args.self.now in let b = c.at-r.ensures.block in let ys = c.drain_end.ensures in let n : ℕ = c.give_up_run.result.1 in
-    let at : value_at c.at-r.result.0 old.blocks ≡ Some b.0 = value_drop c.at-r.result.0 b.0 b.1 c.args.from old.blocks b.2 c.at-r.ensures.distinct in
+    let old = c.args.self.now in let b = c.at-r.ensures in let ys = c.drain_end.ensures in let n : ℕ = c.give_up_run.result.1 in
     let first : Among (take n (drop c.args.from old.blocks ++ ys.0)) (c.at-r.result.0, b.0) =
     subst (λ (l : List (ℕ × Item)). Among (take n (l ++ ys.0)) (c.at-r.result.0, b.0)) (sym b.2) (among_head n (c.at-r.result.0, b.0) (b.1 ++ ys.0) c.give_up_run.ensures.count.0) in
     swept_run c.args.from n c.give_up_run.result.0 (toward_in (value_at c.at-r.result.0 old.blocks)) old c.drain_end.new.self c.give_up_run.new.self ys.0
     (omega (arith, c.requires.some.0)) ys.1
-    (for_drained old.process c.at-r.result.0 b.0 (value_at c.at-r.result.0 old.blocks) (take n (drop c.args.from old.blocks ++ ys.0)) ys.0 at first ys.2)
+    (for_drained old.process c.at-r.result.0 b.0 (value_at c.at-r.result.0 old.blocks) (take n (drop c.args.from old.blocks ++ ys.0)) ys.0 b.3 first ys.2)
     c.give_up_run.ensures.count.2 c.give_up_run.ensures.list c.give_up_run.ensures.bytes.0
