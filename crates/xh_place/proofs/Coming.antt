@@ -57,9 +57,6 @@ passes seat last p r d lots is = quietly seat last (Pass p r d) lots refl is
 pub own_lots : (old new : Held Body) (lots : List (ℕ × LotOf Body)) → HasNow old lots new → HasNow old new.lots new
 own_lots old new lots is = is ∙ ap (with_lots (bare old)) (sym (ap (λ (h : Held Body). h.lots) is))
 
-pub none_came : (old new : Held Body) (lots : List (ℕ × LotOf Body)) → HasNow old lots new → HasNow (with_done [] old) lots new
-none_came old new lots is = is ∙ ap (λ (l : List Event). record (with_lots old lots) { done = accepts l }) (sym (append-nil old.done))
-
 pub then_came : (old mid last : Held Body) (es : List Event) → HasNow old mid.lots mid → HasNow (with_done es mid) last.lots last → HasNow (with_done es old) last.lots last
 then_came old mid last es one two =
     two ∙ ap (λ (l : List Event). record (with_lots mid last.lots) { done = l }) (accepts_both mid.done es)
@@ -83,9 +80,6 @@ heard_shows es seat xs state p same is =
     (λ i. record (view_of seat xs state) { came = both i }) ∙ ap (λ (q : PlaceOf). with_came q es) is
 
 -- ---- blocks that come
-
-pub more_none : (d : ℕ) (p : PlaceOf) → p ≡ with_more d [] p
-more_none d p = λ i. record p { blocks = sym (append-nil p.blocks) i; came = sym (append-nil p.came) i }
 
 pub more_twice : (d : ℕ) (ys zs : List (ℕ × Item)) (p : PlaceOf) → with_more d zs (with_more d ys p) ≡ with_more d (ys ++ zs) p
 more_twice d ys zs p =

@@ -1,5 +1,5 @@
 -- How far a process has come, before a sweep and after it.
-use Rattle.std.proofs.Common.{◌≡◌, ◌≢◌, ℕ, ◌-◌, ◌⊎◌, ⊎_elim, inl, inr, List, [], ◌∷◌, length, refl, sym, ap, ◌∙◌, subst, arith, Bool, true, false}
+use Rattle.std.proofs.Common.{◌≡◌, ℕ, ◌-◌, ◌⊎◌, ⊎_elim, inl, inr, List, [], ◌∷◌, length, refl, sym, ap, ◌∙◌, subst, arith, Bool, false}
 use Rattle.std.specs.Prelude.{Result, Err, MatchOption}
 use Rattle.xh_arena.specs.Views.{TallyOf}
 use Rattle.xh_core.specs.declared.refused.Refused.{Refused}
@@ -8,32 +8,11 @@ use Rattle.xh_core.specs.Refusing.{first_refusal}
 use Rattle.xh_core.specs.declared.status.Status.{Status}
 use Rattle.xh_core.specs.declared.status.Status.TheVariants.{Vacant, Running, Ending, Ended}
 use Rattle.xh_model.specs.declared.limits.TheConstants.{MAX_BUDGET}
-use Rattle.xh_model.proofs.Keyed.{not_here}
 use Rattle.xh_place.specs.Ending.{HasGivenBack, IsStopped, IsSwept, ending, reclaimed, stop_tests}
 use Rattle.xh_place.specs.Ends.{RefusedOr, IsTooLate, ending_again}
 use Rattle.xh_place.specs.inner.Reclaiming.{IsSweptLate, awake}
 use Rattle.xh_place.specs.Places.{Item, PlaceOf, with_list, with_more}
 use Rattle.xh_place.specs.Refusals.{is_over}
-
--- a process that is over has no block
-pub quiet_ending : (n : ℕ) (xs : List (ℕ × Item)) → n ≡ length xs - 0 → is_over (ending n) ≡ true → xs ≡ []
-quiet_ending n [] e h = refl
-quiet_ending n (x ∷ xs) e h =
-    let some : n ≢ 0 = λ z. absurd (omega (arith, e, z)) in
-    let last : ending n ≡ Ending = not_here n 0 Ended Ending some in
-    let over : is_over Ending ≡ true = sym (ap is_over last) ∙ h in absurd (cc)
-
-pub quiet_again : (state : Status) (n : ℕ) (xs : List (ℕ × Item)) → state ≢ Vacant → n ≡ length xs - 0 → is_over (ending_again state n) ≡ true → xs ≡ []
-quiet_again Vacant n xs some e h = absurd (some refl)
-quiet_again Running n xs some e h = absurd (cc)
-quiet_again Ending n xs some e h = absurd (cc)
-quiet_again Ended n xs some e h = quiet_ending n xs e h
-
-pub alive_awake : (state : Status) → state ≢ Vacant → is_over (awake state) ≢ true
-alive_awake Vacant some h = some refl
-alive_awake Running some h = absurd (cc)
-alive_awake Ending some h = absurd (cc)
-alive_awake Ended some h = absurd (cc)
 
 again_same : (state : Status) (xs : List (ℕ × Item)) → (state ≡ Ended → xs ≡ []) → ending_again state (length xs) ≡ state
 again_same Vacant xs none = refl

@@ -55,7 +55,7 @@ IsAccepting d given more old seat back = HasNow (with_done (accepted_on old.proc
 pub accepting : (d : ℕ) (given more : List ℕ) (r : ℕ) (old seat last : Held Body) (back new : List (ℕ × Header)) → Among given r → IsAccepting d given (r ∷ more) old seat back
     → (rs : List ℕ) × (keys new ≡ keys back ++ rs) × HasNow (with_done (accepted_on seat.process d rs) seat) last.lots last
     → (value_at r seat.lots ≡ None → value_at r back ≡ None → value_at r new ≡ header_in (value_at r last.lots))
-        → ((m : LotOf Body) → value_at r seat.lots ≡ None → value_at r last.lots ≡ Some m → IsBlock seat.shape r m)
+    → ((m : LotOf Body) → value_at r seat.lots ≡ None → value_at r last.lots ≡ Some m → IsBlock seat.shape r m)
     → ((q : ℕ) → r ≢ q → (value_at q last.lots ≡ value_at q seat.lots) × (value_at q new ≡ value_at q back)) → IsAccepting d given more old last new
 accepting d given more r old seat last back new among is same here good others =
     let none : value_at r seat.lots ≡ None = is.3 r (inl refl) in

@@ -34,10 +34,6 @@ module _ (arena : ℕ) (old new : Held Body) (r t : ℕ) (l m : LotOf Body) (two
   pub has_first : value_at r new.lots ≡ Some l
   has_first = ap (λ (h : Held Body). value_at r h.lots) then_other ∙ last_other r t m (with_one old r l).lots (λ e. two.apart (sym e)) ∙ last_at r l old.lots two.first_fresh
 
-  -- without the other, and without both
-  pub back_to_one : (last : Held Body) → HasNow new (without t new.lots) last → HasNow (with_one old r l) (with_one old r l).lots last
-  back_to_one last then = then ∙ ap (λ (h : Held Body). with_lots h (without t h.lots)) then_other ∙ ap (with_lots (bare old)) (last_without t m (with_one old r l).lots other_fresh)
-
 module _ (seat last : Held Body) (xs : List (ℕ × Header)) (room total : ℕ) (state : Status) (is : IsPlace seat xs room total state) (alive : is_over state ≡ true → ⊥)
     (arena r t : ℕ) (l m : LotOf Body) (made : AreMade arena seat last r t l m) where
   abbrev xs_one : List (ℕ × Header)
@@ -57,7 +53,7 @@ module _ (seat last : Held Body) (xs : List (ℕ × Header)) (room total : ℕ) 
       → IsPlace last ys room' n state × ((p : PlaceOf) → view_of seat xs state ≡ p → view_of last ys state ≡ with_blocks p (p.blocks ++ (r, item_of l) ∷ (t, item_of m) ∷ []))
   opened ys room' n items same sum =
       let second = won (with_one seat r l) xs_one room (total + l.len) state first_more.0 last t m ys room' m.len (other_fresh arena seat last r t l m made.two)
-          (then_other arena seat last r t l m made.two) made.second alive items same refl in (
+      (then_other arena seat last r t l m made.two) made.second alive items same refl in (
         subst (λ (z : ℕ). IsPlace last ys room' z state) (sym sum) second.0,
         λ p e. second.1 (with_blocks p (p.blocks ++ (r, item_of l) ∷ [])) (first_more.1 p e) ∙ ap (with_blocks p) (append_assoc p.blocks ((r, item_of l) ∷ []) ((t, item_of m) ∷ [])),
       )

@@ -46,7 +46,7 @@ module _ (seat : Held Body) (xs : List (ℕ × Header)) (room total : ℕ) (stat
         → IsPlace last xs room total state × ((p : PlaceOf) → view_of seat xs state ≡ p → view_of last xs state ≡ p)
     put_back last end back channel side =
         swapped seat xs room total state is mid last e t.lot Nothing (End end) t.at out back ((λ i. spot (channel i) (side i)) ∙ sym (ap content_of t.body))
-            (ap (λ (b : Body). fits_in b t.lot.len) (sym t.body) ∙ t.block.full.1)
+        (ap (λ (b : Body). fits_in b t.lot.len) (sym t.body) ∙ t.block.full.1)
 
 pub same_end : (b : Body) (p q : Posted) → b ≡ End p → b ≡ End q → p ≡ q
 same_end b p q e f = let both : End p ≡ End q = sym e ∙ f in cc

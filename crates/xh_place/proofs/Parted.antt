@@ -30,9 +30,9 @@ put_front : {X : Type 0} (r t : ℕ) (y z : X) (xs : List (ℕ × X)) → r ≢ 
 put_front r t y z [] n = not_here t r ((r, y) ∷ []) ((t, z) ∷ []) (λ e. n (sym e))
 put_front r t y z (x ∷ xs) n = dite (ℕ_discrete x.0 r)
     (λ same. here_first x.0 r ((r, y) ∷ (xs ++ (t, z) ∷ [])) (x ∷ put r y (xs ++ (t, z) ∷ [])) same
-        ∙ sym (ap (λ (l : List (ℕ × _)). l ++ (t, z) ∷ []) (here_first x.0 r ((r, y) ∷ xs) (x ∷ put r y xs) same)))
+    ∙ sym (ap (λ (l : List (ℕ × _)). l ++ (t, z) ∷ []) (here_first x.0 r ((r, y) ∷ xs) (x ∷ put r y xs) same)))
     (λ other. not_here x.0 r ((r, y) ∷ (xs ++ (t, z) ∷ [])) (x ∷ put r y (xs ++ (t, z) ∷ [])) other ∙ ap (λ (l : List (ℕ × _)). x ∷ l) (put_front r t y z xs n)
-        ∙ sym (ap (λ (l : List (ℕ × _)). l ++ (t, z) ∷ []) (not_here x.0 r ((r, y) ∷ xs) (x ∷ put r y xs) other)))
+    ∙ sym (ap (λ (l : List (ℕ × _)). l ++ (t, z) ∷ []) (not_here x.0 r ((r, y) ∷ xs) (x ∷ put r y xs) other)))
 
 still_fresh : {X : Type 0} (r t : ℕ) (y : X) (xs : List (ℕ × X)) → (Among (keys xs) t → ⊥) → Among (keys (put r y xs)) t → ⊥
 still_fresh r t y xs fresh a = fresh (subst (λ (ks : List ℕ). Among ks t) (put_keys r y xs) a)
@@ -64,7 +64,7 @@ pub parted : (seat last : Held Body) (xs ys : List (ℕ × Header)) (room cap to
     → IsPlace last ys cap total state × ((p : PlaceOf) → view_of seat xs state ≡ p → view_of last ys state ≡ with_blocks p (put r (item_of h) p.blocks ++ (t, item_of m) ∷ []))
 parted seat last xs ys room cap total state r t l h m run is at head tail fresh new lens items caps =
     subst (λ s. IsPlace seat xs room total s → IsPlace last ys cap total s
-        × ((p : PlaceOf) → view_of seat xs s ≡ p → view_of last ys s ≡ with_blocks p (put r (item_of h) p.blocks ++ (t, item_of m) ∷ []))) (sym (running_is state run))
+    × ((p : PlaceOf) → view_of seat xs s ≡ p → view_of last ys s ≡ with_blocks p (put r (item_of h) p.blocks ++ (t, item_of m) ∷ []))) (sym (running_is state run))
     (λ is.
     let xs1 : List (ℕ × Header) = put r (header_of (item_of h)) xs in
     let seat1 : Held Body = with_lots seat (put r h seat.lots) in
@@ -126,10 +126,18 @@ is_cut all seat mid last r t k l l0 h m b c fresh block lot exists held good are
       m,
       fresh,
       cut_up seat mid last r t l0 h m c.is fresh c.apart new,
-      record { exists = block.exists; lot = (ap (λ (z : LotOf Body). z.index) head ∙ block.lot.0, block.lot.1 ∙ ap (λ (z : LotOf Body). Some z.id) (sym head)); full =
-          (omega arith, fits_bytes h.body (take k xs) h.len h_bytes h_long (omega arith) (omega arith)) },
-      record { exists = exists; lot = (ap (λ (z : LotOf Body). z.index) tail ∙ lot.0, lot.1 ∙ ap (λ (z : LotOf Body). Some z.id) (sym tail)); full =
-          (omega arith, fits_bytes m.body (drop k xs) m.len m_bytes m_long (omega arith) (omega arith)) },
+      record {
+        exists = block.exists;
+        lot = (ap (λ (z : LotOf Body). z.index) head ∙ block.lot.0, block.lot.1 ∙ ap (λ (z : LotOf Body). Some z.id) (sym head));
+        full =
+            (omega arith, fits_bytes h.body (take k xs) h.len h_bytes h_long (omega arith) (omega arith));
+      },
+      record {
+        exists = exists;
+        lot = (ap (λ (z : LotOf Body). z.index) tail ∙ lot.0, lot.1 ∙ ap (λ (z : LotOf Body). Some z.id) (sym tail));
+        full =
+            (omega arith, fits_bytes m.body (drop k xs) m.len m_bytes m_long (omega arith) (omega arith));
+      },
       h_len,
       omega arith,
       head_bytes,

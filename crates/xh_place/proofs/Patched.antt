@@ -16,7 +16,7 @@ patch_long at ys xs fits =
     let b : length (drop (at + length ys) xs) ≡ length xs - (at + length ys) = length-drop (at + length ys) xs in
     let c : length (ys ++ drop (at + length ys) xs) ≡ length ys + length (drop (at + length ys) xs) = length-append ys (drop (at + length ys) xs) in
     let d : length (take at xs ++ (ys ++ drop (at + length ys) xs)) ≡ length (take at xs) + length (ys ++ drop (at + length ys) xs) = length-append (take at xs) (ys ++ drop (at + length ys) xs) in
-        omega arith
+    omega arith
 
 pub is_patched : (s : Shape) (r at : ℕ) (ys : List ℕ) (l m : LotOf Body) (x : Item) → IsBlock s r l → item_of l ≡ x → kind_of x.content ≡ kind.Data → at + length ys ≤ x.len
     → m ≡ record l { body = m.body } → content_of m.body ≡ patched at ys (content_of l.body)
@@ -28,8 +28,12 @@ is_patched s r at ys l m x block same data_kind fits lot content =
     let room : at + length ys ≤ length xs = omega arith in let some : 0 < l.len = block.full.0 in
     let new : content_of m.body ≡ bytes (take at xs ++ (ys ++ drop (at + length ys) xs)) = content ∙ ap (patched at ys) d.1 in
     let new_long : length (take at xs ++ (ys ++ drop (at + length ys) xs)) ≡ m.len = patch_long at ys xs room ∙ long ∙ sym len in (
-      record { exists = block.exists; lot = (ap (λ (z : LotOf Body). z.index) lot ∙ block.lot.0, block.lot.1 ∙ ap (λ (z : LotOf Body). Some z.id) (sym lot)); full =
-          (omega arith, fits_bytes m.body (take at xs ++ (ys ++ drop (at + length ys) xs)) m.len new new_long (omega arith) (omega arith)) },
+      record {
+        exists = block.exists;
+        lot = (ap (λ (z : LotOf Body). z.index) lot ∙ block.lot.0, block.lot.1 ∙ ap (λ (z : LotOf Body). Some z.id) (sym lot));
+        full =
+            (omega arith, fits_bytes m.body (take at xs ++ (ys ++ drop (at + length ys) xs)) m.len new new_long (omega arith) (omega arith));
+      },
       (λ i. record { len = len i; kind = (ap kind_of new ∙ sym (ap kind_of d.1)) i }),
       (λ i. record { len = (len ∙ x_len) i; content = (content ∙ ap (λ (z : Item). patched at ys z.content) same) i }),
     )

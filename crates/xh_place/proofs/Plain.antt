@@ -11,10 +11,6 @@ use Rattle.xh_place.specs.Tallies.{ids_of}
 abbrev pub names : List VaultOf → List TableId
 names vs = map (λ v. v.id) vs
 
-pub names_long : (vs : List VaultOf) → length (names vs) ≡ length vs
-names_long [] = refl
-names_long (v ∷ vs) = ap (λ (n : ℕ). suc n) (names_long vs)
-
 pub named_at : (vs : List VaultOf) (i : ℕ) (id : TableId) (d : VaultOf) → slice_get (names vs) i ≡ Some id → (i < length vs) × ((get_or vs i d).id ≡ id)
 named_at [] i id d e = absurd (cc)
 named_at (v ∷ vs) zero id d e = let same : v.id ≡ id = cc in (omega arith, same)

@@ -110,9 +110,6 @@ module _ (seat last : Held Body) (t run rest : List (ℕ × Header)) (room total
   pub run_shows : (p : PlaceOf) → view_of seat (t ++ (run ++ rest)) state ≡ p → view_of last (t ++ rest) state ≡ with_blocks p (take (length t) p.blocks ++ drop (length t + length run) p.blocks)
   run_shows p e = shows p seat last (t ++ (run ++ rest)) (t ++ rest) state last.lots (λ (es : List (ℕ × Item)). take (length t) es ++ drop (length t + length run) es) e new rest_shown
 
-  pub run_sum : sum_of run ≤ total
-  run_sum = let all : sum_of (t ++ (run ++ rest)) ≡ sum_of run + sum_of (t ++ rest) = sum_parts t run rest in let was : total ≡ sum_of (t ++ (run ++ rest)) = is.sum in omega arith
-
   pub run_total : (p q : PlaceOf) → view_of seat (t ++ (run ++ rest)) state ≡ p → view_of last (t ++ rest) state ≡ q → sum_of run + total_of q.blocks ≡ total_of p.blocks
   run_total p q e f =
       let before : total_of p.blocks ≡ sum_of (t ++ (run ++ rest)) = ap (λ (z : PlaceOf). total_of z.blocks) (sym e) ∙ sum_shown seat.lots (t ++ (run ++ rest)) is.same is.distinct in
@@ -163,11 +160,11 @@ module _ (seat : Held Body) (xs : List (ℕ × Header)) (room total : ℕ) (stat
 
   module _ (last : Held Body) (alive : is_over state ≡ true → ⊥) (new : HasNow seat last.lots last)
       (gone : (r : ℕ) → Among (keys (slice_range xs from end)) r → value_at r last.lots ≡ None)
-          (others : (r : ℕ) → (Among (keys (slice_range xs from end)) r → ⊥) → value_at r last.lots ≡ value_at r seat.lots) where
+      (others : (r : ℕ) → (Among (keys (slice_range xs from end)) r → ⊥) → value_at r last.lots ≡ value_at r seat.lots) where
     pub slice_gone : (ys : List (ℕ × Header)) (room' n : ℕ) → ys ≡ take from xs ++ drop end xs → room' ≡ room → n ≡ sum_of (slice_range xs from end) → IsPlace last ys room' (total - n) state
     slice_gone ys room' n items same sum =
         subst (λ (z : List (ℕ × Header) × ℕ × ℕ). IsPlace last z.0 z.1 (total - z.2) state) (λ i. (sym items i, sym same i, sym sum i))
-            (run_gone seat last t run rest room total state in_parts alive new gone others)
+        (run_gone seat last t run rest room total state in_parts alive new gone others)
 
     pub slice_shows : (ys : List (ℕ × Header)) → ys ≡ take from xs ++ drop end xs → (p : PlaceOf) → view_of seat xs state ≡ p
         → view_of last ys state ≡ with_blocks p (take from p.blocks ++ drop end p.blocks)

@@ -38,7 +38,7 @@ module _ {X : Type 0} where
   settled_at q [] back z xs d h e = absurd h
   settled_at q (r ∷ rs) back z xs d h e = dite (ℕ_discrete r q)
       (λ same. settled_other q rs back (settle r (back r) xs) (λ a. d.0 (subst (λ (n : ℕ). Among rs n) (sym same) a))
-          ∙ subst (λ (n : ℕ). value_at n (settle r (back r) xs) ≡ back n) same (settle_at r (back r) z xs (ap (λ (n : ℕ). value_at n xs) same ∙ e)))
+      ∙ subst (λ (n : ℕ). value_at n (settle r (back r) xs) ≡ back n) same (settle_at r (back r) z xs (ap (λ (n : ℕ). value_at n xs) same ∙ e)))
       (λ other. settled_at q rs back z (settle r (back r) xs) d.1 (⊎_elim (λ e'. absurd (other (sym e'))) (λ a. a) h) (settle_other q r (back r) xs other ∙ e))
 
   -- only what comes back at the given records counts
@@ -70,11 +70,11 @@ module _ (room : ℕ) where
   becomes seat xs r l m is at good = let here : value_at r xs ≡ Some (header_of (item_of l)) = is.same r ∙ ap header_in at in record {
     same = λ q. dite (ℕ_discrete r q)
         (λ e. subst (λ (z : ℕ). value_at z (put r (header_of (item_of m)) xs) ≡ header_in (value_at z (put r m seat.lots))) e
-            (put_at r (header_of (item_of m)) (header_of (item_of l)) xs here ∙ sym (ap header_in (put_at r m l seat.lots at))))
+        (put_at r (header_of (item_of m)) (header_of (item_of l)) xs here ∙ sym (ap header_in (put_at r m l seat.lots at))))
         (λ n. put_other q r (header_of (item_of m)) xs n ∙ is.same q ∙ sym (ap header_in (put_other q r m seat.lots n)));
     blocks = λ q k. dite (ℕ_discrete r q)
         (λ e a. let same : Some m ≡ Some k = sym (put_at r m l seat.lots at) ∙ ap (λ (z : ℕ). value_at z (put r m seat.lots)) e ∙ a in let one : m ≡ k = cc in
-            subst (λ (z : ℕ × LotOf Body). IsBlock seat.shape z.0 z.1) (λ i. (e i, one i)) good)
+        subst (λ (z : ℕ × LotOf Body). IsBlock seat.shape z.0 z.1) (λ i. (e i, one i)) good)
         (λ n a. is.blocks q k (sym (put_other q r m seat.lots n) ∙ a));
     distinct = subst Distinct (sym (put_keys r (header_of (item_of m)) xs)) is.distinct;
     sum = refl;
@@ -142,7 +142,7 @@ pub sent : (seat last : Held Body) (xs : List (ℕ × Header)) (room total : ℕ
     → value_at e seat.lots ≡ Some l → IsBlock seat.shape e m → item_of m ≡ item_of l
     → Distinct given → (Among given e → ⊥) → ((r : ℕ) → Among given r → (k : LotOf Body) × (value_at r seat.lots ≡ Some k))
     → HasNow seat last.lots last → ((q : ℕ) → (Among given q → ⊥) → value_at q last.lots ≡ value_at q (put e m seat.lots))
-        → ((r : ℕ) (k : LotOf Body) → Among given r → value_at r last.lots ≡ Some k → IsBlock seat.shape r k)
+    → ((r : ℕ) (k : LotOf Body) → Among given r → value_at r last.lots ≡ Some k → IsBlock seat.shape r k)
     → (let ys : List (ℕ × Header) = settled given (λ r. header_in (value_at r last.lots)) xs in
     IsPlace last ys room (sum_of ys) Running
     × ((p : PlaceOf) → view_of seat xs Running ≡ p → view_of last ys Running ≡ with_blocks p (settled given (λ r. items_in (value_at r last.lots)) p.blocks)))
@@ -155,7 +155,7 @@ sent seat last xs room total given e l m is at good item d apart held same other
     ∙ ap (λ (z : Item). Some z) (sym item)) in
     let b : ℕ → Option (LotOf Body) = λ r. value_at r last.lots in
     let held1 : (r : ℕ) → Among given r → (k : LotOf Body) × (value_at r seat1.lots ≡ Some k) =
-        λ r a. ((held r a).0, put_other r e m seat.lots (λ q. apart (subst (λ (z : ℕ). Among given z) (sym q) a)) ∙ (held r a).1) in
+    λ r a. ((held r a).0, put_other r e m seat.lots (λ q. apart (subst (λ (z : ℕ). Among given z) (sym q) a)) ∙ (held r a).1) in
     let all = settles room given b seat1 xs sum1 d held1 (λ r k a f. back r k a f) in
     let seat2 : Held Body = with_lots seat1 (settled given b seat1.lots) in
     let looks : (r : ℕ) → value_at r last.lots ≡ value_at r seat2.lots = λ r. ⊎_elim
@@ -173,12 +173,12 @@ pub settled_place : (seat last : Held Body) (xs ys gained : List (ℕ × Header)
     → value_at e seat.lots ≡ Some l → IsBlock seat.shape e m → item_of m ≡ item_of l → value_at e last.lots ≡ Some m
     → Distinct given → (Among given e → ⊥) → ((r : ℕ) → Among given r → (k : LotOf Body) × (value_at r seat.lots ≡ Some k))
     → HasNow seat last.lots last → ((q : ℕ) → (Among given q → ⊥) → e ≢ q → value_at q last.lots ≡ value_at q seat.lots)
-        → ((r : ℕ) (k : LotOf Body) → Among given r → value_at r last.lots ≡ Some k → IsBlock seat.shape r k)
+    → ((r : ℕ) (k : LotOf Body) → Among given r → value_at r last.lots ≡ Some k → IsBlock seat.shape r k)
     → ((r : ℕ) → Among given r → value_at r gained ≡ header_in (value_at r last.lots)) → ys ≡ settled given (λ r. value_at r gained) xs → cap ≡ room
     → IsPlace last ys cap (sum_of ys) state × ((p : PlaceOf) → view_of seat xs state ≡ p → view_of last ys state ≡ with_blocks p (settled given (λ r. value_at r (shown last.lots gained)) p.blocks))
 settled_place seat last xs ys gained room cap total state given e l m run is at good item now d apart held same others back gains items caps =
     subst (λ s. IsPlace seat xs room total s → IsPlace last ys cap (sum_of ys) s
-        × ((p : PlaceOf) → view_of seat xs s ≡ p → view_of last ys s ≡ with_blocks p (settled given (λ r. value_at r (shown last.lots gained)) p.blocks))) (sym run)
+    × ((p : PlaceOf) → view_of seat xs s ≡ p → view_of last ys s ≡ with_blocks p (settled given (λ r. value_at r (shown last.lots gained)) p.blocks))) (sym run)
     (λ is.
     let all = sent seat last xs room total given e l m is at good item d apart held same
     (λ q n. dite (ℕ_discrete e q)

@@ -55,7 +55,7 @@ module _ (seat : Held Body) (xs : List (ℕ × Header)) (room total : ℕ) (stat
     go (y ∷ ys) h d =
         let head : header_of (item_in (value_at y.0 seat.lots)) ≡ y.1 = h y.0 y.1 (here_first y.0 y.0 (Some y.1) (value_at y.0 ys) refl) in
         let rest : headers (shown seat.lots ys) ≡ ys =
-            go ys (λ r s e. h r s (not_here y.0 r (Some y.1) (value_at r ys) (λ q. d.0 (subst (λ (z : ℕ). Among (keys ys) z) (sym q) (at_key r s ys e))) ∙ e)) d.1 in
+        go ys (λ r s e. h r s (not_here y.0 r (Some y.1) (value_at r ys) (λ q. d.0 (subst (λ (z : ℕ). Among (keys ys) z) (sym q) (at_key r s ys e))) ∙ e)) d.1 in
         λ i. (y.0, head i) ∷ rest i
 
   pub over_empty : is_over state ≡ true → shown seat.lots xs ≡ []

@@ -43,7 +43,7 @@ pub shown_without : (lots : List (ℕ × LotOf Body)) (r : ℕ) (xs : List (ℕ 
 shown_without lots r [] = refl
 shown_without lots r (x ∷ xs) = dite (ℕ_discrete x.0 r)
     (λ same. ap (shown lots) (here_first x.0 r (without r xs) (x ∷ without r xs) same) ∙ shown_without lots r xs
-        ∙ sym (here_first x.0 r (without r (shown lots xs)) ((x.0, item_in (value_at x.0 lots)) ∷ without r (shown lots xs)) same))
+    ∙ sym (here_first x.0 r (without r (shown lots xs)) ((x.0, item_in (value_at x.0 lots)) ∷ without r (shown lots xs)) same))
     (λ other. ap (shown lots) (not_here x.0 r (without r xs) (x ∷ without r xs) other) ∙ ap (λ (l : List (ℕ × Item)). (x.0, item_in (value_at x.0 lots)) ∷ l) (shown_without lots r xs)
     ∙ sym (not_here x.0 r (without r (shown lots xs)) ((x.0, item_in (value_at x.0 lots)) ∷ without r (shown lots xs)) other))
 
@@ -88,7 +88,7 @@ get_at k [] d distinct h = absurd (omega arith)
 get_at zero (x ∷ xs) d distinct h = here_first x.0 x.0 (Some x.1) (value_at x.0 xs) refl
 get_at (suc k) (x ∷ xs) d distinct h =
     not_here x.0 (get_or xs k d).0 (Some x.1) (value_at (get_or xs k d).0 xs) (λ e. distinct.0 (subst (λ (z : ℕ). Among (keys xs) z) (sym e) (get_key k xs d (omega arith))))
-        ∙ get_at k xs d distinct.1 (omega arith)
+    ∙ get_at k xs d distinct.1 (omega arith)
 
 -- sums
 pub sum_last : (xs : List (ℕ × Header)) (r : ℕ) (s : Header) → sum_of (xs ++ (r, s) ∷ []) ≡ sum_of xs + s.len
@@ -117,7 +117,7 @@ sum_shown lots xs same d = go xs (λ r s e. is r s (value_at r lots) refl (sym e
   go (y ∷ ys) h d =
       let head : (item_in (value_at y.0 lots)).len ≡ y.1.len = h y.0 y.1 (here_first y.0 y.0 (Some y.1) (value_at y.0 ys) refl) in
       let rest : total_of (shown lots ys) ≡ sum_of ys =
-          go ys (λ r s e. h r s (not_here y.0 r (Some y.1) (value_at r ys) (λ q. d.0 (subst (λ (z : ℕ). Among (keys ys) z) (sym q) (at_key r s ys e))) ∙ e)) d.1 in omega arith
+      go ys (λ r s e. h r s (not_here y.0 r (Some y.1) (value_at r ys) (λ q. d.0 (subst (λ (z : ℕ). Among (keys ys) z) (sym q) (at_key r s ys e))) ∙ e)) d.1 in omega arith
 
 -- there is room for one more, and no sum is too large
 slot_below : (a n r : ℕ) → r / 256 < a → r % 256 < n → index_of n r < a * n
@@ -182,7 +182,7 @@ pub shows : (p : PlaceOf) (seat last : Held Body) (xs ys : List (ℕ × Header))
     → HasNow seat lots last → shown last.lots ys ≡ f (shown seat.lots xs) → view_of last ys state ≡ with_blocks p (f p.blocks)
 shows p seat last xs ys state lots f is new blocks =
     (λ i. record { table = (new i).table; shape = (new i).shape; process = (new i).process; blocks = blocks i; state = state; came = (new i).done })
-        ∙ ap (λ (q : PlaceOf). with_blocks q (f q.blocks)) is
+    ∙ ap (λ (q : PlaceOf). with_blocks q (f q.blocks)) is
 
 module _ (seat : Held Body) (xs : List (ℕ × Header)) (room total : ℕ) (state : Status) (is : IsPlace seat xs room total state) where
   -- a record of the list has its lot in the seat, and a lot its record
@@ -231,7 +231,7 @@ module _ (seat : Held Body) (xs : List (ℕ × Header)) (room total : ℕ) (stat
       let all : AllRecords seat.shape (r ∷ keys xs) = (exists, all_records xs listed_record) in
       let most : length (map (index_of seat.shape.records) (r ∷ keys xs)) ≤ length seat.shape.names * seat.shape.records =
       few (length seat.shape.names * seat.shape.records) (map (index_of seat.shape.records) (r ∷ keys xs)) (below_index seat.shape (r ∷ keys xs) all)
-          (distinct_index seat.shape (r ∷ keys xs) all (not_listed r fresh, is.distinct)) in
+      (distinct_index seat.shape (r ∷ keys xs) all (not_listed r fresh, is.distinct)) in
       let long : length (map (index_of seat.shape.records) (keys xs)) ≡ length xs = keys_long (index_of seat.shape.records) xs in
       let m : ℕ = length seat.shape.names * seat.shape.records in let a : m ≤ room = is.room.0 in
       let c : suc (length xs) ≤ m = subst (λ (z : ℕ). suc z ≤ m) long most in
@@ -243,7 +243,7 @@ module _ (seat : Held Body) (xs : List (ℕ × Header)) (room total : ℕ) (stat
   sums (y ∷ ys) h d =
       let head : y.1.len ≤ 1048576 = h y.0 y.1 (here_first y.0 y.0 (Some y.1) (value_at y.0 ys) refl) in
       let rest : sum_of ys ≤ length ys * 1048576 =
-          sums ys (λ r s e. h r s (not_here y.0 r (Some y.1) (value_at r ys) (λ q. d.0 (subst (λ (z : ℕ). Among (keys ys) z) (sym q) (at_key r s ys e))) ∙ e)) d.1 in omega arith
+      sums ys (λ r s e. h r s (not_here y.0 r (Some y.1) (value_at r ys) (λ q. d.0 (subst (λ (z : ℕ). Among (keys ys) z) (sym q) (at_key r s ys e))) ∙ e)) d.1 in omega arith
 
   pub small : total ≤ length xs * 1048576
   small = subst (λ (z : ℕ). z ≤ length xs * 1048576) (sym is.sum)
@@ -274,11 +274,11 @@ module _ (seat : Held Body) (xs : List (ℕ × Header)) (room total : ℕ) (stat
     gains quiet = kept (with_lots seat (seat.lots ++ (r, l) ∷ [])) last (xs ++ (r, header_of (item_of l)) ∷ []) room (total + l.len) state new record {
       same = λ q. dite (ℕ_discrete r q)
           (λ e. subst (λ (z : ℕ). value_at z (xs ++ (r, header_of (item_of l)) ∷ []) ≡ header_in (value_at z (seat.lots ++ (r, l) ∷ []))) e
-              (last_at r (header_of (item_of l)) xs (not_listed r fresh) ∙ sym (ap header_in (last_at r l seat.lots fresh))))
+          (last_at r (header_of (item_of l)) xs (not_listed r fresh) ∙ sym (ap header_in (last_at r l seat.lots fresh))))
           (λ n. last_other q r (header_of (item_of l)) xs n ∙ is.same q ∙ sym (ap header_in (last_other q r l seat.lots n)));
       blocks = λ q m. dite (ℕ_discrete r q)
           (λ e at. let same : Some l ≡ Some m = sym (last_at r l seat.lots fresh) ∙ ap (λ (z : ℕ). value_at z (seat.lots ++ (r, l) ∷ [])) e ∙ at in let one : l ≡ m = cc in
-              subst (λ (z : ℕ × LotOf Body). IsBlock seat.shape z.0 z.1) (λ i. (e i, one i)) good)
+          subst (λ (z : ℕ × LotOf Body). IsBlock seat.shape z.0 z.1) (λ i. (e i, one i)) good)
           (λ n at. is.blocks q m (sym (last_other q r l seat.lots n) ∙ at));
       distinct = subst Distinct (sym (keys_push xs (r, header_of (item_of l)))) (distinct_push (keys xs) r is.distinct (not_listed r fresh));
       sum = ap (λ (z : ℕ). z + l.len) is.sum ∙ sym (sum_last xs r (header_of (item_of l)));
@@ -289,7 +289,7 @@ module _ (seat : Held Body) (xs : List (ℕ × Header)) (room total : ℕ) (stat
     pub gains_shown : shown last.lots (xs ++ (r, header_of (item_of l)) ∷ []) ≡ shown seat.lots xs ++ (r, item_of l) ∷ []
     gains_shown = ap (λ (h : Held Body). shown h.lots (xs ++ (r, header_of (item_of l)) ∷ [])) new ∙ shown_last (seat.lots ++ (r, l) ∷ []) xs r (header_of (item_of l))
         ∙ (λ i. shown_same seat.lots (seat.lots ++ (r, l) ∷ []) xs (λ q h. last_other q r l seat.lots (λ e. not_listed r fresh (subst (λ (z : ℕ). Among (keys xs) z) (sym e) h))) i ++
-            (r, item_in (last_at r l seat.lots fresh i)) ∷ [])
+        (r, item_in (last_at r l seat.lots fresh i)) ∷ [])
 
   pub enough : (r : ℕ) (s : Header) → value_at r xs ≡ Some s → s.len ≤ total
   enough r s at = let u : sum_of xs ≡ sum_of (without r xs) + s.len = sum_without xs r s is.distinct at in let t : total ≡ sum_of xs = is.sum in omega arith
@@ -314,7 +314,7 @@ module _ (seat : Held Body) (xs : List (ℕ × Header)) (room total : ℕ) (stat
     pub loses : IsPlace last (without r xs) room (total - s.len) state
     loses = kept (with_lots seat (without r seat.lots)) last (without r xs) room (total - s.len) state new
         (let u : sum_of xs ≡ sum_of (without r xs) + s.len = sum_without xs r s is.distinct at in let t : total ≡ sum_of xs = is.sum in let now : total - s.len ≡ sum_of (without r xs) =
-            omega arith in record {
+        omega arith in record {
           same = gone;
           blocks = λ q m. dite (ℕ_discrete r q)
               (λ e a. let none : None ≡ Some m = sym (without_at r seat.lots) ∙ ap (λ (z : ℕ). value_at z (without r seat.lots)) e ∙ a in absurd (cc))
@@ -328,7 +328,7 @@ module _ (seat : Held Body) (xs : List (ℕ × Header)) (room total : ℕ) (stat
     pub loses_shown : shown last.lots (without r xs) ≡ without r (shown seat.lots xs)
     loses_shown = ap (λ (h : Held Body). shown h.lots (without r xs)) new
         ∙ shown_same seat.lots (without r seat.lots) (without r xs)
-            (λ q h. without_other q r seat.lots (λ e. no_key r (without r xs) (without_at r xs) (subst (λ (z : ℕ). Among (keys (without r xs)) z) (sym e) h)))
+        (λ q h. without_other q r seat.lots (λ e. no_key r (without r xs) (without_at r xs) (subst (λ (z : ℕ). Among (keys (without r xs)) z) (sym e) h)))
         ∙ shown_without seat.lots r xs
 
   -- the same, as the fields have it
@@ -356,11 +356,11 @@ module _ (seat : Held Body) (xs : List (ℕ × Header)) (room total : ℕ) (stat
     changes = kept (with_lots seat (put r m seat.lots)) last xs room total state new record {
       same = λ q. is.same q ∙ dite (ℕ_discrete r q)
           (λ e. subst (λ (z : ℕ). header_in (value_at z seat.lots) ≡ header_in (value_at z (put r m seat.lots))) e
-              (ap header_in at ∙ ap (λ (z : Header). Some z) (sym alike) ∙ sym (ap header_in (put_at r m l seat.lots at))))
+          (ap header_in at ∙ ap (λ (z : Header). Some z) (sym alike) ∙ sym (ap header_in (put_at r m l seat.lots at))))
           (λ n. sym (ap header_in (put_other q r m seat.lots n)));
       blocks = λ q k. dite (ℕ_discrete r q)
           (λ e a. let same : Some m ≡ Some k = sym (put_at r m l seat.lots at) ∙ ap (λ (z : ℕ). value_at z (put r m seat.lots)) e ∙ a in let one : m ≡ k = cc in
-              subst (λ (z : ℕ × LotOf Body). IsBlock seat.shape z.0 z.1) (λ i. (e i, one i)) good)
+          subst (λ (z : ℕ × LotOf Body). IsBlock seat.shape z.0 z.1) (λ i. (e i, one i)) good)
           (λ n a. is.blocks q k (sym (put_other q r m seat.lots n) ∙ a));
       distinct = is.distinct;
       sum = is.sum;
@@ -378,12 +378,12 @@ module _ (seat : Held Body) (xs : List (ℕ × Header)) (room total : ℕ) (stat
   swapped mid last r l b b' at out back same fits =
       let m : LotOf Body = record l { body = b' } in
       let new : HasNow seat (put r m seat.lots) last =
-          ap bare (back ∙ ap (λ (h : Held Body). with_lots h (put r m h.lots)) out ∙ ap (with_lots seat) (put_twice r m (record l { body = b }) seat.lots)) in
+      ap bare (back ∙ ap (λ (h : Held Body). with_lots h (put r m h.lots)) out ∙ ap (with_lots seat) (put_twice r m (record l { body = b }) seat.lots)) in
       let was = is.blocks r l at in
       let good : IsBlock seat.shape r m = record { exists = was.exists; lot = was.lot; full = (was.full.0, fits) } in
       let item : item_of m ≡ item_of l = λ i. record { len = l.len; content = same i } in
       let kept : shown last.lots xs ≡ shown seat.lots xs = changes_shown last r l m at new good (ap header_of item)
-          ∙ put_same r (item_of m) (shown seat.lots xs) (shown_held r l at ∙ ap (λ (z : Item). Some z) (sym item)) in
+      ∙ put_same r (item_of m) (shown seat.lots xs) (shown_held r l at ∙ ap (λ (z : Item). Some z) (sym item)) in
       (changes last r l m at new good (ap header_of item), λ p e. shows p seat last xs xs state (put r m seat.lots) (λ (es : List (ℕ × Item)). es) e new kept) where
         shown_held : (r : ℕ) (l : LotOf Body) → value_at r seat.lots ≡ Some l → value_at r (shown seat.lots xs) ≡ Some (item_of l)
         shown_held r l at = shown_at seat.lots xs r (header_of (item_of l)) (is.same r ∙ ap header_in at) ∙ ap (λ (z : Option (LotOf Body)). Some (item_in z)) at
@@ -408,24 +408,8 @@ module _ (seat : Held Body) (xs : List (ℕ × Header)) (room total : ℕ) (stat
     none [] h = refl
     none (x ∷ ls) h = let e : Some x.1 ≡ None = sym (here_first x.0 x.0 (Some x.1) (value_at x.0 ls) refl) ∙ h x.0 in absurd (cc)
 
-pub new_place : (seat : Held Body) (room : ℕ) → seat.lots ≡ [] → length seat.shape.names * seat.shape.records ≤ room → length seat.shape.names ≤ 8 → IsPlace seat [] room 0 Vacant
-new_place seat room none fits small = record {
-  same = λ r. sym (ap (λ (ls : List (ℕ × LotOf Body)). header_in (value_at r ls)) none);
-  blocks = λ r l at. let e : None ≡ Some l = sym (ap (value_at r) none) ∙ at in absurd (cc);
-  distinct = tt;
-  sum = refl;
-  room = (fits, small);
-  quiet = refl;
-}
-
 pub over_running : (s : Status) → is_running s ≡ true → is_over s ≡ true → ⊥
 over_running Running e f = absurd (cc)
 over_running Ending e f = absurd (cc)
 over_running Vacant e f = absurd (cc)
 over_running Ended e f = absurd (cc)
-
-pub quiet_running : (s : Status) (xs : List (ℕ × Header)) → is_running s ≡ true → IsQuiet s xs
-quiet_running Running xs e = tt
-quiet_running Ending xs e = tt
-quiet_running Vacant xs e = absurd (cc)
-quiet_running Ended xs e = absurd (cc)

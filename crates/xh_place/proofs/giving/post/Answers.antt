@@ -37,16 +37,22 @@ pub swap_body-requires-2-clause-own : goal.swap_body-requires-2-clause-own
 swap_body-requires-2-clause-own g c =
     let q = c.requires.end in let lots = c.args.seat.now.lots in let own = c.requires.own in
     let out = c.swap_body.ensures q.0 q.1 in let mid = record q.0 { body = Nothing } in
-    let same = c.pass_all.ensures.same in ((ap (λ (h : Held Body). h.table) same ∙ ap (λ (h : Held Body). h.table) out.1 ∙ own.0, ap (λ (h : Held Body). h.shape) same
-        ∙ ap (λ (h : Held Body). h.shape) out.1 ∙ own.1), subst (λ s. IsRecord s c.args.e) own.1 q.2.exists)
+    let same = c.pass_all.ensures.same in (
+      (
+        ap (λ (h : Held Body). h.table) same ∙ ap (λ (h : Held Body). h.table) out.1 ∙ own.0,
+        ap (λ (h : Held Body). h.shape) same
+            ∙ ap (λ (h : Held Body). h.shape) out.1 ∙ own.1,
+      ),
+      subst (λ s. IsRecord s c.args.e) own.1 q.2.exists,
+    )
 
 pub swap_body-requires-2-clause-held : goal.swap_body-requires-2-clause-held
 swap_body-requires-2-clause-held g c =
     let q = c.requires.end in let lots = c.args.seat.now.lots in let own = c.requires.own in
     let out = c.swap_body.ensures q.0 q.1 in let mid = record q.0 { body = Nothing } in
     let at3 : value_at c.args.e c.pass_all.new.seat.lots ≡ Some mid =
-        c.pass_all.ensures.others c.args.e (λ a. c.requires.distinct.1 (subst (λ (l : List ℕ). Among l c.args.e) c.as_slice.ensures.value a))
-        ∙ ap (λ (h : Held Body). value_at c.args.e h.lots) out.1 ∙ put_at c.args.e mid q.0 lots q.1 in
+    c.pass_all.ensures.others c.args.e (λ a. c.requires.distinct.1 (subst (λ (l : List ℕ). Among l c.args.e) c.as_slice.ensures.value a))
+    ∙ ap (λ (h : Held Body). value_at c.args.e h.lots) out.1 ∙ put_at c.args.e mid q.0 lots q.1 in
     (mid, at3, subst (λ s. IsLotOf s c.args.e mid) (sym (ap (λ (h : Held Body). h.shape) c.pass_all.ensures.same ∙ ap (λ (h : Held Body). h.shape) out.1)) q.2.lot, omega arith)
 
 pub returns-clause-direction : goal.returns-clause-direction
@@ -62,8 +68,8 @@ returns-clause-same g c =
     let q = c.requires.end in let lots = c.args.seat.now.lots in let own = c.requires.own in
     let out = c.swap_body.ensures q.0 q.1 in let mid = record q.0 { body = Nothing } in
     let at3 : value_at c.args.e c.pass_all.new.seat.lots ≡ Some mid =
-        c.pass_all.ensures.others c.args.e (λ a. c.requires.distinct.1 (subst (λ (l : List ℕ). Among l c.args.e) c.as_slice.ensures.value a))
-        ∙ ap (λ (h : Held Body). value_at c.args.e h.lots) out.1 ∙ put_at c.args.e mid q.0 lots q.1 in
+    c.pass_all.ensures.others c.args.e (λ a. c.requires.distinct.1 (subst (λ (l : List ℕ). Among l c.args.e) c.as_slice.ensures.value a))
+    ∙ ap (λ (h : Held Body). value_at c.args.e h.lots) out.1 ∙ put_at c.args.e mid q.0 lots q.1 in
     let back = c.swap_body-2.ensures mid at3 in let m : LotOf Body = record q.0 { body = End c.put-put.new.end } in
     let chain : HasNow c.args.seat.now c.pass_all.new.seat.lots c.pass_all.new.seat = c.pass_all.ensures.same ∙ ap (λ (h : Held Body). with_lots (bare h) c.pass_all.new.seat.lots) out.1 in
     ap bare back.1 ∙ ap (λ (h : Held Body). with_lots h (put c.args.e m c.pass_all.new.seat.lots)) chain ∙ sym (ap (λ (h : Held Body). with_lots (bare c.args.seat.now) h.lots) back.1)
@@ -73,8 +79,8 @@ returns-clause-end g c =
     let q = c.requires.end in let lots = c.args.seat.now.lots in let own = c.requires.own in
     let out = c.swap_body.ensures q.0 q.1 in let mid = record q.0 { body = Nothing } in
     let at3 : value_at c.args.e c.pass_all.new.seat.lots ≡ Some mid =
-        c.pass_all.ensures.others c.args.e (λ a. c.requires.distinct.1 (subst (λ (l : List ℕ). Among l c.args.e) c.as_slice.ensures.value a))
-        ∙ ap (λ (h : Held Body). value_at c.args.e h.lots) out.1 ∙ put_at c.args.e mid q.0 lots q.1 in
+    c.pass_all.ensures.others c.args.e (λ a. c.requires.distinct.1 (subst (λ (l : List ℕ). Among l c.args.e) c.as_slice.ensures.value a))
+    ∙ ap (λ (h : Held Body). value_at c.args.e h.lots) out.1 ∙ put_at c.args.e mid q.0 lots q.1 in
     let back = c.swap_body-2.ensures mid at3 in let m : LotOf Body = record q.0 { body = End c.put-put.new.end } in
     let was : q.0.body ≡ End c.in-End.end = sym out.0 ∙ c.in-End.is in
     let same_spot : content_of (End c.put-put.new.end) ≡ content_of q.0.body = (λ i. spot (c.put-put.ensures.same.channel i) (c.put-put.ensures.same.side i)) ∙ sym (ap content_of was) in
@@ -91,19 +97,19 @@ returns-clause-gone g c =
     let out = c.swap_body.ensures q.0 q.1 in let mid = record q.0 { body = Nothing } in
     let apart : (r : ℕ) → Among c.args.given.now.items r → c.args.e ≢ r = λ r a s. c.requires.distinct.1 (subst (λ (z : ℕ). Among c.args.given.now.items z) (sym s) a) in
     let at3 : value_at c.args.e c.pass_all.new.seat.lots ≡ Some mid =
-        c.pass_all.ensures.others c.args.e (λ a. c.requires.distinct.1 (subst (λ (l : List ℕ). Among l c.args.e) c.as_slice.ensures.value a))
-        ∙ ap (λ (h : Held Body). value_at c.args.e h.lots) out.1 ∙ put_at c.args.e mid q.0 lots q.1 in
+    c.pass_all.ensures.others c.args.e (λ a. c.requires.distinct.1 (subst (λ (l : List ℕ). Among l c.args.e) c.as_slice.ensures.value a))
+    ∙ ap (λ (h : Held Body). value_at c.args.e h.lots) out.1 ∙ put_at c.args.e mid q.0 lots q.1 in
     let back = c.swap_body-2.ensures mid at3 in let m : LotOf Body = record q.0 { body = End c.put-put.new.end } in
     λ r a. ap (λ (h : Held Body). value_at r h.lots) back.1 ∙ put_other r c.args.e m c.pass_all.new.seat.lots (apart r a)
-        ∙ c.pass_all.ensures.gone r (subst (λ (l : List ℕ). Among l r) (sym c.as_slice.ensures.value) a)
+    ∙ c.pass_all.ensures.gone r (subst (λ (l : List ℕ). Among l r) (sym c.as_slice.ensures.value) a)
 
 pub returns-clause-others : goal.returns-clause-others
 returns-clause-others g c =
     let q = c.requires.end in let lots = c.args.seat.now.lots in let own = c.requires.own in
     let out = c.swap_body.ensures q.0 q.1 in let mid = record q.0 { body = Nothing } in
     let at3 : value_at c.args.e c.pass_all.new.seat.lots ≡ Some mid =
-        c.pass_all.ensures.others c.args.e (λ a. c.requires.distinct.1 (subst (λ (l : List ℕ). Among l c.args.e) c.as_slice.ensures.value a))
-        ∙ ap (λ (h : Held Body). value_at c.args.e h.lots) out.1 ∙ put_at c.args.e mid q.0 lots q.1 in
+    c.pass_all.ensures.others c.args.e (λ a. c.requires.distinct.1 (subst (λ (l : List ℕ). Among l c.args.e) c.as_slice.ensures.value a))
+    ∙ ap (λ (h : Held Body). value_at c.args.e h.lots) out.1 ∙ put_at c.args.e mid q.0 lots q.1 in
     let back = c.swap_body-2.ensures mid at3 in let m : LotOf Body = record q.0 { body = End c.put-put.new.end } in
     λ r n o. ap (λ (h : Held Body). value_at r h.lots) back.1 ∙ put_other r c.args.e m c.pass_all.new.seat.lots o
-        ∙ c.pass_all.ensures.others r (λ a. n (subst (λ (l : List ℕ). Among l r) c.as_slice.ensures.value a)) ∙ ap (λ (h : Held Body). value_at r h.lots) out.1 ∙ put_other r c.args.e mid lots o
+    ∙ c.pass_all.ensures.others r (λ a. n (subst (λ (l : List ℕ). Among l r) c.as_slice.ensures.value a)) ∙ ap (λ (h : Held Body). value_at r h.lots) out.1 ∙ put_other r c.args.e mid lots o

@@ -12,47 +12,65 @@ vacate-requires-clause-held g c = let t = c.in-Ok.ensures.claimed in
     (t.0, has c.args.seat.now c.claim.new.seat c.in-Ok.r t.0 (claims c.args.seat.now c.claim.new.seat _ _ _ t.1) c.in-Ok.ensures.fresh, t.3)
 
 pub returns-in_default-zeros-clause-refused : goal.returns-in_default-zeros-clause-refused
-returns-in_default-zeros-clause-refused g c = let t = c.in-Ok.ensures.claimed in
-    (undone c.args.seat.now c.claim.new.seat c.in-Ok.r t.0 (claims c.args.seat.now c.claim.new.seat _ _ _ t.1) c.in-Ok.ensures.fresh c.vacate.new.seat
-    (vacates c.claim.new.seat c.vacate.new.seat _ _ _ c.vacate.ensures.vacated), refl)
+returns-in_default-zeros-clause-refused g c = let t = c.in-Ok.ensures.claimed in (
+  undone c.args.seat.now c.claim.new.seat c.in-Ok.r t.0 (claims c.args.seat.now c.claim.new.seat _ _ _ t.1) c.in-Ok.ensures.fresh c.vacate.new.seat
+      (vacates c.claim.new.seat c.vacate.new.seat _ _ _ c.vacate.ensures.vacated),
+  refl,
+)
 
 pub fill_lot-filled-requires-clause-held : goal.fill_lot-filled-requires-clause-held
 fill_lot-filled-requires-clause-held g c =
     let t = c.in-Ok.ensures.claimed in let r : ℕ = c.in-Ok.r in
     let n = named c.args.seat.now c.claim.new.seat r t.0
-        (claims c.args.seat.now c.claim.new.seat _ _ _ t.1) c.in-Ok.ensures.fresh _ c.args.arena _ t.2 c.in-Ok.ensures.record.0 c.requires.names c.requires.tally.1 in
-    (t.0, has c.args.seat.now c.claim.new.seat r t.0 (claims c.args.seat.now c.claim.new.seat _ _ _ t.1) c.in-Ok.ensures.fresh, t.3.0,
-        lot_is c.args.seat.now c.claim.new.seat r t.0 (claims c.args.seat.now c.claim.new.seat _ _ _ t.1) c.in-Ok.ensures.fresh t.2, n.0, n.1)
+    (claims c.args.seat.now c.claim.new.seat _ _ _ t.1) c.in-Ok.ensures.fresh _ c.args.arena _ t.2 c.in-Ok.ensures.record.0 c.requires.names c.requires.tally.1 in (
+      t.0,
+      has c.args.seat.now c.claim.new.seat r t.0 (claims c.args.seat.now c.claim.new.seat _ _ _ t.1) c.in-Ok.ensures.fresh,
+      t.3.0,
+      lot_is c.args.seat.now c.claim.new.seat r t.0 (claims c.args.seat.now c.claim.new.seat _ _ _ t.1) c.in-Ok.ensures.fresh t.2,
+      n.0,
+      n.1,
+    )
 
 pub vacate-requires-2-clause-own : goal.vacate-requires-2-clause-own
 vacate-requires-2-clause-own g c =
     let t = c.in-Ok.ensures.claimed in let r : ℕ = c.in-Ok.r in let at = has c.args.seat.now c.claim.new.seat r t.0 (claims c.args.seat.now c.claim.new.seat _ _ _ t.1) c.in-Ok.ensures.fresh in
     let same = changed c.args.seat.now c.claim.new.seat r t.0 (claims c.args.seat.now c.claim.new.seat _ _ _ t.1) c.in-Ok.ensures.fresh c.fill_lot-filled.new.seat t.0
-        (c.in-Err.ensures.refused t.0 at).0 in
+    (c.in-Err.ensures.refused t.0 at).0 in
     (ap (λ (h : Held Body). h.table) same ∙ c.requires.own.0, ap (λ (h : Held Body). h.shape) same ∙ c.requires.own.1)
 
 pub vacate-requires-2-clause-held : goal.vacate-requires-2-clause-held
 vacate-requires-2-clause-held g c =
     let t = c.in-Ok.ensures.claimed in let r : ℕ = c.in-Ok.r in let at = has c.args.seat.now c.claim.new.seat r t.0 (claims c.args.seat.now c.claim.new.seat _ _ _ t.1) c.in-Ok.ensures.fresh in
     let same = changed c.args.seat.now c.claim.new.seat r t.0 (claims c.args.seat.now c.claim.new.seat _ _ _ t.1) c.in-Ok.ensures.fresh c.fill_lot-filled.new.seat t.0
-        (c.in-Err.ensures.refused t.0 at).0 in
+    (c.in-Err.ensures.refused t.0 at).0 in
     (t.0, has c.args.seat.now c.fill_lot-filled.new.seat r t.0 same c.in-Ok.ensures.fresh, t.3)
 
 pub returns-clause-refused : goal.returns-clause-refused
 returns-clause-refused g c =
     let t = c.in-Ok.ensures.claimed in let r : ℕ = c.in-Ok.r in let at = has c.args.seat.now c.claim.new.seat r t.0 (claims c.args.seat.now c.claim.new.seat _ _ _ t.1) c.in-Ok.ensures.fresh in
     let f = c.in-Err.ensures.refused t.0 at in
-    let same = changed c.args.seat.now c.claim.new.seat r t.0 (claims c.args.seat.now c.claim.new.seat _ _ _ t.1) c.in-Ok.ensures.fresh c.fill_lot-filled.new.seat t.0 f.0 in
-    (undone c.args.seat.now c.fill_lot-filled.new.seat r t.0 same c.in-Ok.ensures.fresh c.vacate-2.new.seat
-        (vacates c.fill_lot-filled.new.seat c.vacate-2.new.seat _ _ _ c.vacate-2.ensures.vacated), f.1)
+    let same = changed c.args.seat.now c.claim.new.seat r t.0 (claims c.args.seat.now c.claim.new.seat _ _ _ t.1) c.in-Ok.ensures.fresh c.fill_lot-filled.new.seat t.0 f.0 in (
+      undone c.args.seat.now c.fill_lot-filled.new.seat r t.0 same c.in-Ok.ensures.fresh c.vacate-2.new.seat
+          (vacates c.fill_lot-filled.new.seat c.vacate-2.new.seat _ _ _ c.vacate-2.ensures.vacated),
+      f.1,
+    )
 
 pub returns-in_default-filled-clause-block : goal.returns-in_default-filled-clause-block
 returns-in_default-filled-clause-block g c =
     let t = c.in-Ok.ensures.claimed in let r : ℕ = c.in-Ok.r in let n : ℕ = c.args.n in let at =
-        has c.args.seat.now c.claim.new.seat r t.0 (claims c.args.seat.now c.claim.new.seat _ _ _ t.1) c.in-Ok.ensures.fresh in
+    has c.args.seat.now c.claim.new.seat r t.0 (claims c.args.seat.now c.claim.new.seat _ _ _ t.1) c.in-Ok.ensures.fresh in
     let m = record t.0 { len = n; body = _ } in
     let new = changed c.args.seat.now c.claim.new.seat r t.0 (claims c.args.seat.now c.claim.new.seat _ _ _ t.1) c.in-Ok.ensures.fresh c.fill_lot-filled.new.seat m
-        (c.in_default-filled.ensures.seat t.0 at) in
-    (m, c.in-Ok.ensures.fresh, new, record { exists = search rules; lot =
-        t.2; full = (c.requires.size.0, fits_bytes m.body (replicate n 0) n (ap bytes c.in-Some.ensures) (length-replicate n 0) c.requires.size.0 c.requires.size.3) }, refl,
-        ap bytes c.in-Some.ensures)
+    (c.in_default-filled.ensures.seat t.0 at) in (
+      m,
+      c.in-Ok.ensures.fresh,
+      new,
+      record {
+        exists = search rules;
+        lot =
+            t.2;
+        full = (c.requires.size.0, fits_bytes m.body (replicate n 0) n (ap bytes c.in-Some.ensures) (length-replicate n 0) c.requires.size.0 c.requires.size.3);
+      },
+      refl,
+      ap bytes c.in-Some.ensures,
+    )

@@ -18,7 +18,7 @@ pub returns-in_default-claim : goal.returns-in_default-claim
 returns-in_default-claim g c =
     let t = c.in-Ok.ensures.claimed in let same = c.in_default-claim.ensures.missed in
     undone c.args.seat.now c.claim.new.seat c.in-Ok.r t.0 (claims c.args.seat.now c.claim.new.seat _ _ _ t.1) c.in-Ok.ensures.fresh c.vacate.new.seat
-        (vacates c.claim-2.new.seat c.vacate.new.seat _ _ _ c.vacate.ensures.vacated ∙ ap (λ (h : Held Body). with_lots (bare h) (without c.in-Ok.r h.lots)) same)
+    (vacates c.claim-2.new.seat c.vacate.new.seat _ _ _ c.vacate.ensures.vacated ∙ ap (λ (h : Held Body). with_lots (bare h) (without c.in-Ok.r h.lots)) same)
 
 pub returns : goal.returns
 returns g c =
@@ -38,11 +38,16 @@ returns g c =
           first_arena = c.in-Ok.ensures.record.0;
           second_arena = c.in-Ok-claim.ensures.record.0;
         };
-        first = ((subst (λ (n : ℕ). n < length c.args.seat.now.shape.names) (sym c.in-Ok.ensures.record.0) c.requires.arena, subst (λ z. r % 256 < z.records) (sym own.1) c.in-Ok.ensures.record.1),
-            t.2, t.3);
+        first = (
+          (subst (λ (n : ℕ). n < length c.args.seat.now.shape.names) (sym c.in-Ok.ensures.record.0) c.requires.arena, subst (λ z. r % 256 < z.records) (sym own.1) c.in-Ok.ensures.record.1),
+          t.2,
+          t.3,
+        );
         second = (
-          (subst (λ (n : ℕ). n < length c.args.seat.now.shape.names) (sym c.in-Ok-claim.ensures.record.0) c.requires.arena,
-              subst (λ z. q % 256 < z.records) (sym own.1) c.in-Ok-claim.ensures.record.1),
+          (
+            subst (λ (n : ℕ). n < length c.args.seat.now.shape.names) (sym c.in-Ok-claim.ensures.record.0) c.requires.arena,
+            subst (λ z. q % 256 < z.records) (sym own.1) c.in-Ok-claim.ensures.record.1,
+          ),
           subst (λ z. IsLotOf z q u.0) (ap (λ (h : Held Body). h.shape) t.1) u.2,
           u.3,
         );

@@ -27,7 +27,7 @@ fit_ends-fitted-requires-clause-held g c =
     let mine : slice_get c.args.seat.now.shape.names (r / 256) ≡ Some l.id = k.2.first.1.1 in
     let near : slice_get c.args.seat.now.shape.names (r / 256) ≡ Some m.id = ap (slice_get c.args.seat.now.shape.names) (two.first_arena ∙ sym two.second_arena) ∙ k.2.second.1.1 in
     let paid : slice_get c.args.seat.now.shape.names (r / 256) ≡ Some c.args.tally.now.id = ap (slice_get c.args.seat.now.shape.names) two.first_arena
-        ∙ ap (λ (z : List TableId). slice_get z c.args.arena) (sym c.requires.names) ∙ c.requires.tally.1 in
+    ∙ ap (λ (z : List TableId). slice_get z c.args.arena) (sym c.requires.names) ∙ c.requires.tally.1 in
     let ids : Some m.id ≡ Some l.id = sym near ∙ mine in let ids2 : Some c.args.tally.now.id ≡ Some l.id = sym paid ∙ mine in
     let one : m.id ≡ l.id = cc in let other : c.args.tally.now.id ≡ l.id = cc in (
       l,
@@ -52,7 +52,7 @@ returns-in_default-fitted-clause-made g c =
     let fitted = c.in_default-fitted.ensures.fitted l m at at2 in
     let l' = record l { len = 32; body = End c.args.low } in let m' = record m { len = 32; body = End c.args.high } in
     let now = ap bare fitted ∙ ap (λ (h : Held Body). with_lots h (put q m' (put r l' h.lots))) two.lots
-        ∙ ap (with_lots (bare c.args.seat.now)) (both_put lots r q two.first_fresh two.second_fresh two.apart l m l' m') in (
+    ∙ ap (with_lots (bare c.args.seat.now)) (both_put lots r q two.first_fresh two.second_fresh two.apart l m l' m') in (
       l',
       m',
       record {
@@ -70,9 +70,12 @@ vacate_two-requires-clause-own g c =
     let shape = ap (λ (h : Held Body). h.shape) two.lots in let own = c.requires.own in
     let at : value_at r c.claim_two.new.seat.lots ≡ Some l = has_first c.args.arena c.args.seat.now c.claim_two.new.seat r q l m two in
     let at2 : value_at q c.claim_two.new.seat.lots ≡ Some m = has_other c.args.arena c.args.seat.now c.claim_two.new.seat r q l m two in
-    let same = c.in-Err.ensures.refused.0 in
-    ((ap (λ (h : Held Body). h.table) same ∙ ap (λ (h : Held Body). h.table) two.lots ∙ own.0, ap (λ (h : Held Body). h.shape) same ∙ shape ∙ own.1), subst (λ z. IsRecord z r) own.1 k.2.first.0,
-        subst (λ z. IsRecord z q) own.1 k.2.second.0, (λ e. two.apart (sym e)))
+    let same = c.in-Err.ensures.refused.0 in (
+      (ap (λ (h : Held Body). h.table) same ∙ ap (λ (h : Held Body). h.table) two.lots ∙ own.0, ap (λ (h : Held Body). h.shape) same ∙ shape ∙ own.1),
+      subst (λ z. IsRecord z r) own.1 k.2.first.0,
+      subst (λ z. IsRecord z q) own.1 k.2.second.0,
+      (λ e. two.apart (sym e)),
+    )
 
 pub vacate_two-requires-clause-held : goal.vacate_two-requires-clause-held
 vacate_two-requires-clause-held g c =

@@ -21,7 +21,7 @@ give_up-requires-clause-held g c =
     let long : length c.args.tallies.now ≡ length c.args.seat.now.shape.names = sym (ids_long c.args.tallies.now) ∙ ap length c.requires.names.1 in
     let inside : c.from.result < length c.args.tallies.now = omega (arith, c.from.ensures) in
     let both : Some (get_or c.args.tallies.now c.from.result c.index-tallies-from.result).id ≡ Some t.0.id = sym (ids_at c.args.tallies.now c.from.result c.index-tallies-from.result inside)
-        ∙ (λ i. slice_get (c.requires.names.1 i) (c.from.ensures i)) ∙ t.2.lot.1 in
+    ∙ (λ i. slice_get (c.requires.names.1 i) (c.from.ensures i)) ∙ t.2.lot.1 in
     let one : (get_or c.args.tallies.now c.from.result c.index-tallies-from.result).id ≡ t.0.id = cc in
     (t.0, t.1, t.2.full.0, t.2.lot, ap (λ z. slice_get z (c.args.r / 256)) c.requires.names.0 ∙ t.2.lot.1, one)
 
@@ -41,4 +41,4 @@ returns-clause-back g c = λ l at.
     let long : length c.args.tallies.now ≡ length c.args.seat.now.shape.names = sym (ids_long c.args.tallies.now) ∙ ap length c.requires.names.1 in
     let inside : c.from.result < length c.args.tallies.now = omega (arith, c.from.ensures) in
     gave_set c.args.tallies.now c.from.result l.len c.index-tallies-from.result c.give_up.new.tally inside (c.give_up.ensures.tally l at)
-        ∙ ap (λ (a : ℕ). gave a l.len c.args.tallies.now) c.from.ensures
+    ∙ ap (λ (a : ℕ). gave a l.len c.args.tallies.now) c.from.ensures

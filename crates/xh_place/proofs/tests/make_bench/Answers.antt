@@ -45,7 +45,7 @@ new-requires-3-clause-empty c =
     let seats = c.in-Ok-new.ensures.seats in let items = c.in-Ok-new.seats.items in
     let left : c.remove.new.self.items ≡ drop 1 items = c.remove.ensures.items in
     let next = slice_get_read c.remove.new.self.items (length c.remove.new.self.items) 0 c.remove-2.result refl
-        (omega (arith, ap length left, length-drop 1 items, seats.0)) c.remove-2.ensures.value in
+    (omega (arith, ap length left, length-drop 1 items, seats.0)) c.remove-2.ensures.value in
     let second = seats.1 1 c.remove-2.result (second_of items c.remove-2.result (subst (λ (xs : List (Held Body)). slice_get xs 0 ≡ Some c.remove-2.result) left next)) in
     let one : c.push_back.new.self ≡ c.in-Ok.vault.id ∷ [] = search rules in
     let shape : c.remove-2.result.shape ≡ record { records = c.args.count; places = 2; names = c.push_back.new.self } = second.0.1 ∙ c.in-Ok-new.ensures.shape in
@@ -56,7 +56,7 @@ new-requires-3-clause-room c =
     let seats = c.in-Ok-new.ensures.seats in let items = c.in-Ok-new.seats.items in
     let left : c.remove.new.self.items ≡ drop 1 items = c.remove.ensures.items in
     let next = slice_get_read c.remove.new.self.items (length c.remove.new.self.items) 0 c.remove-2.result refl
-        (omega (arith, ap length left, length-drop 1 items, seats.0)) c.remove-2.ensures.value in
+    (omega (arith, ap length left, length-drop 1 items, seats.0)) c.remove-2.ensures.value in
     let second = seats.1 1 c.remove-2.result (second_of items c.remove-2.result (subst (λ (xs : List (Held Body)). slice_get xs 0 ≡ Some c.remove-2.result) left next)) in
     let one : c.push_back.new.self ≡ c.in-Ok.vault.id ∷ [] = search rules in
     let shape : c.remove-2.result.shape ≡ record { records = c.args.count; places = 2; names = c.push_back.new.self } = second.0.1 ∙ c.in-Ok-new.ensures.shape in
@@ -67,7 +67,7 @@ new-requires-3-clause-arenas c =
     let seats = c.in-Ok-new.ensures.seats in let items = c.in-Ok-new.seats.items in
     let left : c.remove.new.self.items ≡ drop 1 items = c.remove.ensures.items in
     let next = slice_get_read c.remove.new.self.items (length c.remove.new.self.items) 0 c.remove-2.result refl
-        (omega (arith, ap length left, length-drop 1 items, seats.0)) c.remove-2.ensures.value in
+    (omega (arith, ap length left, length-drop 1 items, seats.0)) c.remove-2.ensures.value in
     let second = seats.1 1 c.remove-2.result (second_of items c.remove-2.result (subst (λ (xs : List (Held Body)). slice_get xs 0 ≡ Some c.remove-2.result) left next)) in
     let one : c.push_back.new.self ≡ c.in-Ok.vault.id ∷ [] = search rules in
     let shape : c.remove-2.result.shape ≡ record { records = c.args.count; places = 2; names = c.push_back.new.self } = second.0.1 ∙ c.in-Ok-new.ensures.shape in
@@ -79,8 +79,15 @@ start-requires-clause-own c =
     let first = seats.1 0 c.remove.result (slice_get_read items (length items) 0 c.remove.result refl (omega (arith, seats.0)) c.remove.ensures.value) in
     let one : c.push_back.new.self ≡ c.in-Ok.vault.id ∷ [] = search rules in
     let shape : c.remove.result.shape ≡ record { records = c.args.count; places = 2; names = c.push_back.new.self } = first.0.1 ∙ c.in-Ok-new.ensures.shape in
-    let place : c.in_ok-first.first ≡ record { table = c.remove.result.table; shape = c.remove.result.shape; process = c.remove.result.process; blocks = []; state = Vacant; came =
-        accepts c.remove.result.done } = search rules in
+    let place : c.in_ok-first.first ≡ record {
+      table = c.remove.result.table;
+      shape = c.remove.result.shape;
+      process = c.remove.result.process;
+      blocks = [];
+      state = Vacant;
+      came =
+          accepts c.remove.result.done;
+    } = search rules in
     (ap (λ (p : PlaceOf). p.table) place ∙ first.0.0, ap (λ (p : PlaceOf). p.shape) place ∙ first.0.1)
 
 pub invariant_of-result : goal.invariant_of-result
@@ -91,18 +98,35 @@ invariant_of-result c =
     let shape : c.remove.result.shape ≡ record { records = c.args.count; places = 2; names = c.push_back.new.self } = first.0.1 ∙ c.in-Ok-new.ensures.shape in
     let left : c.remove.new.self.items ≡ drop 1 items = c.remove.ensures.items in
     let next = slice_get_read c.remove.new.self.items (length c.remove.new.self.items) 0 c.remove-2.result refl
-        (omega (arith, ap length left, length-drop 1 items, seats.0)) c.remove-2.ensures.value in
+    (omega (arith, ap length left, length-drop 1 items, seats.0)) c.remove-2.ensures.value in
     let second = seats.1 1 c.remove-2.result (second_of items c.remove-2.result (subst (λ (xs : List (Held Body)). slice_get xs 0 ≡ Some c.remove-2.result) left next)) in
     let shape2 : c.remove-2.result.shape ≡ record { records = c.args.count; places = 2; names = c.push_back.new.self } = second.0.1 ∙ c.in-Ok-new.ensures.shape in
-    let place : c.in_ok-first.first ≡ record { table = c.remove.result.table; shape = c.remove.result.shape; process = c.remove.result.process; blocks = []; state = Vacant; came =
-        accepts c.remove.result.done } = search rules in
-    let place2 : c.in_ok-second.second ≡ record { table = c.remove-2.result.table; shape = c.remove-2.result.shape; process = c.remove-2.result.process; blocks = []; state = Vacant; came =
-        accepts c.remove-2.result.done } = search rules in
+    let place : c.in_ok-first.first ≡ record {
+      table = c.remove.result.table;
+      shape = c.remove.result.shape;
+      process = c.remove.result.process;
+      blocks = [];
+      state = Vacant;
+      came =
+          accepts c.remove.result.done;
+    } = search rules in
+    let place2 : c.in_ok-second.second ≡ record {
+      table = c.remove-2.result.table;
+      shape = c.remove-2.result.shape;
+      process = c.remove-2.result.process;
+      blocks = [];
+      state = Vacant;
+      came =
+          accepts c.remove-2.result.done;
+    } = search rules in
     let names : c.in-Ok-new.records.shape.names ≡ c.in-Ok.vault.id ∷ [] = ap (λ (s : Shape). s.names) c.in-Ok-new.ensures.shape ∙ one in
     record {
       own = (
-        (ap (λ (p : PlaceOf). p.table) (c.start.ensures) ∙ ap (λ (p : PlaceOf). p.table) place ∙ first.0.0, ap (λ (p : PlaceOf). p.shape) (c.start.ensures) ∙ ap (λ (p : PlaceOf). p.shape) place
-            ∙ first.0.1),
+        (
+          ap (λ (p : PlaceOf). p.table) (c.start.ensures) ∙ ap (λ (p : PlaceOf). p.table) place ∙ first.0.0,
+          ap (λ (p : PlaceOf). p.shape) (c.start.ensures) ∙ ap (λ (p : PlaceOf). p.shape) place
+              ∙ first.0.1,
+        ),
         (ap (λ (p : PlaceOf). p.table) place2 ∙ second.0.0, ap (λ (p : PlaceOf). p.shape) place2 ∙ second.0.1),
       );
       names = search rules;

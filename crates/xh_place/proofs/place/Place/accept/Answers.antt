@@ -13,7 +13,7 @@ use Rattle.xh_place.proofs.place.Place.accept.Goals as goal
 pub push_reserved-requires : goal.push_reserved-requires
 push_reserved-requires c =
     let seat = c.self.inside.seat in let xs = c.self.inside.list.items in let room : ℕ = vec_capacity c.self.inside.list in let total : ℕ = c.self.inside.total in let state =
-        c.self.inside.state in let is = c.self.invariant in
+    c.self.inside.state in let is = c.self.invariant in
     let t = c.in_ok-header.ensures.here in let l = t.0 in
     let came : Event = Accept seat.process c.args.r c.args.direction in
     let fits = has_room seat xs room total state is c.args.r t.3.exists t.1 in
@@ -23,7 +23,7 @@ push_reserved-requires c =
 pub overflow_add-self : goal.overflow_add-self
 overflow_add-self c =
     let seat = c.self.inside.seat in let xs = c.self.inside.list.items in let room : ℕ = vec_capacity c.self.inside.list in let total : ℕ = c.self.inside.total in let state =
-        c.self.inside.state in let is = c.self.invariant in
+    c.self.inside.state in let is = c.self.invariant in
     let t = c.in_ok-header.ensures.here in let l = t.0 in
     let came : Event = Accept seat.process c.args.r c.args.direction in
     let fits = has_room seat xs room total state is c.args.r t.3.exists t.1 in
@@ -34,28 +34,28 @@ overflow_add-self c =
 pub invariant_of-self-2 : goal.invariant_of-self-2
 invariant_of-self-2 c =
     let seat = c.self.inside.seat in let xs = c.self.inside.list.items in let room : ℕ = vec_capacity c.self.inside.list in let total : ℕ = c.self.inside.total in let state =
-        c.self.inside.state in let is = c.self.invariant in
+    c.self.inside.state in let is = c.self.invariant in
     let t = c.in_ok-header.ensures.here in let l = t.0 in
     let came : Event = Accept seat.process c.args.r c.args.direction in
     let fits = has_room seat xs room total state is c.args.r t.3.exists t.1 in
     let alive : is_over state ≡ true → ⊥ = λ e. c.requires.alive (ap (λ p. is_over p.state) (sym c.self.view_is) ∙ e) in
     let len : c.from.result ≡ l.len = c.from.ensures ∙ ap (λ (z : Header). z.len) t.4 in
     let both = won (did came seat) xs room total state (heard (came ∷ []) seat xs room total state is) c.accept_block.new.seat c.args.r l c.push_reserved.new.self.items
-        (vec_capacity c.push_reserved.new.self) c.from.result t.1 t.2 t.3 alive
+    (vec_capacity c.push_reserved.new.self) c.from.result t.1 t.2 t.3 alive
     (c.push_reserved.ensures.items ∙ ap (λ (z : Header). xs ++ (c.args.r, z) ∷ []) t.4) c.push_reserved.ensures.capacity len in
     both.0
 
 pub returns-clause-here : goal.returns-clause-here
 returns-clause-here c =
     let seat = c.self.inside.seat in let xs = c.self.inside.list.items in let room : ℕ = vec_capacity c.self.inside.list in let total : ℕ = c.self.inside.total in let state =
-        c.self.inside.state in let is = c.self.invariant in
+    c.self.inside.state in let is = c.self.invariant in
     let t = c.in_ok-header.ensures.here in let l = t.0 in
     let came : Event = Accept seat.process c.args.r c.args.direction in
     let fits = has_room seat xs room total state is c.args.r t.3.exists t.1 in
     let alive : is_over state ≡ true → ⊥ = λ e. c.requires.alive (ap (λ p. is_over p.state) (sym c.self.view_is) ∙ e) in
     let len : c.from.result ≡ l.len = c.from.ensures ∙ ap (λ (z : Header). z.len) t.4 in
     let both = won (did came seat) xs room total state (heard (came ∷ []) seat xs room total state is) c.accept_block.new.seat c.args.r l c.push_reserved.new.self.items
-        (vec_capacity c.push_reserved.new.self) c.from.result t.1 t.2 t.3 alive
+    (vec_capacity c.push_reserved.new.self) c.from.result t.1 t.2 t.3 alive
     (c.push_reserved.ensures.items ∙ ap (λ (z : Header). xs ++ (c.args.r, z) ∷ []) t.4) c.push_reserved.ensures.capacity len in (
       refl,
       (
@@ -63,6 +63,6 @@ returns-clause-here c =
         sym (ap (λ (z : Header). z.len) t.4),
         both.1 (with_came c.args.self.now (came ∷ [])) (heard_shows (came ∷ []) seat xs state c.args.self.now refl c.self.view_is)
             ∙ ap (λ (p : ℕ). with_came (with_blocks c.args.self.now (c.args.self.now.blocks ++ (c.args.r, item_of l) ∷ [])) (Accept p c.args.r c.args.direction ∷ []))
-                (ap (λ (p : PlaceOf). p.process) c.self.view_is),
+            (ap (λ (p : PlaceOf). p.process) c.self.view_is),
       ),
     )

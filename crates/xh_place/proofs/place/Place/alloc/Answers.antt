@@ -18,14 +18,16 @@ bounds-tallies-from g c =
 pub make_block-requires-clause-tally : goal.make_block-requires-clause-tally
 make_block-requires-clause-tally g c =
     let long : length c.args.tallies.now ≡ length (g.V.Vaults.names c.args.vaults.now) = sym (ids_long c.args.tallies.now) ∙ ap length (c.requires.names.1 ∙ sym c.requires.names.0) in
-    let inside : c.from-2.result < length c.args.tallies.now = omega (arith, c.arenas.ensures, c.from.ensures, c.if-arena-from.false) in
-    ((omega (arith, c.arenas.ensures, c.from.ensures, c.if-arena-from.false)), (λ i. slice_get ((c.requires.names.0 ∙ sym c.requires.names.1) i) (sym c.from-2.ensures i))
-        ∙ ids_at c.args.tallies.now c.from-2.result c.index-tallies-from.result inside)
+    let inside : c.from-2.result < length c.args.tallies.now = omega (arith, c.arenas.ensures, c.from.ensures, c.if-arena-from.false) in (
+      (omega (arith, c.arenas.ensures, c.from.ensures, c.if-arena-from.false)),
+      (λ i. slice_get ((c.requires.names.0 ∙ sym c.requires.names.1) i) (sym c.from-2.ensures i))
+          ∙ ids_at c.args.tallies.now c.from-2.result c.index-tallies-from.result inside,
+    )
 
 pub push_reserved-requires : goal.push_reserved-requires
 push_reserved-requires g c =
     let seat = c.self.inside.seat in let xs = c.self.inside.list.items in let room : ℕ = vec_capacity c.self.inside.list in let total : ℕ = c.self.inside.total in let state =
-        c.self.inside.state in let is = c.self.invariant in
+    c.self.inside.state in let is = c.self.invariant in
     let t = c.in_ok-rec.ensures.block in let l = t.0 in let r : ℕ = c.in_ok-rec.rec in let n : ℕ = c.round_up-len.result in
     let fits = has_room seat xs room total state is r t.3.exists t.1 in
     let run : is_running state ≡ true = search rules in
@@ -35,7 +37,7 @@ push_reserved-requires g c =
 pub overflow_add-self : goal.overflow_add-self
 overflow_add-self g c =
     let seat = c.self.inside.seat in let xs = c.self.inside.list.items in let room : ℕ = vec_capacity c.self.inside.list in let total : ℕ = c.self.inside.total in let state =
-        c.self.inside.state in let is = c.self.invariant in
+    c.self.inside.state in let is = c.self.invariant in
     let t = c.in_ok-rec.ensures.block in let l = t.0 in let r : ℕ = c.in_ok-rec.rec in let n : ℕ = c.round_up-len.result in
     let fits = has_room seat xs room total state is r t.3.exists t.1 in
     let run : is_running state ≡ true = search rules in
@@ -46,7 +48,7 @@ overflow_add-self g c =
 pub invariant_of-self-2 : goal.invariant_of-self-2
 invariant_of-self-2 g c =
     let seat = c.self.inside.seat in let xs = c.self.inside.list.items in let room : ℕ = vec_capacity c.self.inside.list in let total : ℕ = c.self.inside.total in let state =
-        c.self.inside.state in let is = c.self.invariant in
+    c.self.inside.state in let is = c.self.invariant in
     let t = c.in_ok-rec.ensures.block in let l = t.0 in let r : ℕ = c.in_ok-rec.rec in let n : ℕ = c.round_up-len.result in
     let fits = has_room seat xs room total state is r t.3.exists t.1 in
     let run : is_running state ≡ true = search rules in
@@ -55,7 +57,7 @@ invariant_of-self-2 g c =
     let header : Header = record { len = n; kind = kind_of (bytes []) } in
     let header_is : header ≡ header_of (item_of l) = λ i. record { len = sym t.4 i; kind = kind_of (sym t.5 i) } in
     let both = won seat xs room total state is c.make_block.new.seat r l c.push_reserved.new.self.items (vec_capacity c.push_reserved.new.self) c.from-3.result t.1 t.2 t.3 alive
-        (c.push_reserved.ensures.items ∙ ap (λ (z : Header). xs ++ (r, z) ∷ []) header_is) c.push_reserved.ensures.capacity len in
+    (c.push_reserved.ensures.items ∙ ap (λ (z : Header). xs ++ (r, z) ∷ []) header_is) c.push_reserved.ensures.capacity len in
     both.0
 
 pub returns-clause-same : goal.returns-clause-same
@@ -68,7 +70,7 @@ returns-clause-same g c =
 pub returns-clause-made : goal.returns-clause-made
 returns-clause-made g c =
     let seat = c.self.inside.seat in let xs = c.self.inside.list.items in let room : ℕ = vec_capacity c.self.inside.list in let total : ℕ = c.self.inside.total in let state =
-        c.self.inside.state in let is = c.self.invariant in
+    c.self.inside.state in let is = c.self.invariant in
     let t = c.in_ok-rec.ensures.block in let l = t.0 in let r : ℕ = c.in_ok-rec.rec in let n : ℕ = c.round_up-len.result in
     let fits = has_room seat xs room total state is r t.3.exists t.1 in
     let run : is_running state ≡ true = search rules in
@@ -77,7 +79,7 @@ returns-clause-made g c =
     let header : Header = record { len = n; kind = kind_of (bytes []) } in
     let header_is : header ≡ header_of (item_of l) = λ i. record { len = sym t.4 i; kind = kind_of (sym t.5 i) } in
     let both = won seat xs room total state is c.make_block.new.seat r l c.push_reserved.new.self.items (vec_capacity c.push_reserved.new.self) c.from-3.result t.1 t.2 t.3 alive
-        (c.push_reserved.ensures.items ∙ ap (λ (z : Header). xs ++ (r, z) ∷ []) header_is) c.push_reserved.ensures.capacity len in
+    (c.push_reserved.ensures.items ∙ ap (λ (z : Header). xs ++ (r, z) ∷ []) header_is) c.push_reserved.ensures.capacity len in
     both.1 c.args.self.now c.self.view_is ∙ ap (λ (z : Item). record c.args.self.now { blocks = c.args.self.now.blocks ++ (r, z) ∷ [] }) (λ i. record { len = t.4 i; content = t.5 i })
 
 pub returns-clause-taken : goal.returns-clause-taken
@@ -93,5 +95,5 @@ returns-clause-place g c = let e = returns-clause-made g c in (ap (λ p. p.table
 pub invariant_of-self : goal.invariant_of-self
 invariant_of-self g c =
     let seat = c.self.inside.seat in let xs = c.self.inside.list.items in let room : ℕ = vec_capacity c.self.inside.list in let total : ℕ = c.self.inside.total in let state =
-        c.self.inside.state in let is = c.self.invariant in
+    c.self.inside.state in let is = c.self.invariant in
     kept seat c.make_block.new.seat xs room total state (c.in_err-rec.ensures.refused.0) is

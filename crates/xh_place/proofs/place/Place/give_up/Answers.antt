@@ -13,7 +13,7 @@ use Rattle.xh_place.proofs.place.Place.give_up.Goals as goal
 pub bounds-tallies-from : goal.bounds-tallies-from
 bounds-tallies-from g c =
     let seat = c.self.inside.seat in let xs = c.self.inside.list.items in let room : ℕ = vec_capacity c.self.inside.list in let total : ℕ = c.self.inside.total in let state =
-        c.self.inside.state in let is = c.self.invariant in
+    c.self.inside.state in let is = c.self.invariant in
     let here : value_at c.args.r xs ≡ Some c.args.header = header_at seat xs room total state is c.args.r ∙ ap (λ p. entry_of (value_at c.args.r p.blocks)) c.self.view_is ∙ c.requires.listed in
     let t = lot_of seat xs room total state is c.args.r c.args.header here in
     let same = ap (λ p. p.shape) c.self.view_is ∙ c.requires.own.1 in
@@ -26,7 +26,7 @@ bounds-tallies-from g c =
 pub give_up-requires-clause-own : goal.give_up-requires-clause-own
 give_up-requires-clause-own g c =
     let seat = c.self.inside.seat in let xs = c.self.inside.list.items in let room : ℕ = vec_capacity c.self.inside.list in let total : ℕ = c.self.inside.total in let state =
-        c.self.inside.state in let is = c.self.invariant in
+    c.self.inside.state in let is = c.self.invariant in
     let here : value_at c.args.r xs ≡ Some c.args.header = header_at seat xs room total state is c.args.r ∙ ap (λ p. entry_of (value_at c.args.r p.blocks)) c.self.view_is ∙ c.requires.listed in
     let t = lot_of seat xs room total state is c.args.r c.args.header here in
     let same = ap (λ p. p.shape) c.self.view_is ∙ c.requires.own.1 in
@@ -35,7 +35,7 @@ give_up-requires-clause-own g c =
 pub give_up-requires-clause-held : goal.give_up-requires-clause-held
 give_up-requires-clause-held g c =
     let seat = c.self.inside.seat in let xs = c.self.inside.list.items in let room : ℕ = vec_capacity c.self.inside.list in let total : ℕ = c.self.inside.total in let state =
-        c.self.inside.state in let is = c.self.invariant in
+    c.self.inside.state in let is = c.self.invariant in
     let here : value_at c.args.r xs ≡ Some c.args.header = header_at seat xs room total state is c.args.r ∙ ap (λ p. entry_of (value_at c.args.r p.blocks)) c.self.view_is ∙ c.requires.listed in
     let t = lot_of seat xs room total state is c.args.r c.args.header here in
     let same = ap (λ p. p.shape) c.self.view_is ∙ c.requires.own.1 in
@@ -50,13 +50,13 @@ give_up-requires-clause-held g c =
       ap (λ z. slice_get z (c.args.r / 256)) (c.requires.names.0 ∙ sym names) ∙ t.3.lot.1,
       (let id : Some (get_or c.args.tallies.now c.from.result c.index-tallies-from.result).id ≡ Some t.0.id = sym (ids_at c.args.tallies.now c.from.result c.index-tallies-from.result inside)
           ∙ (λ i. slice_get ((c.requires.names.1 ∙ sym names) i) (c.from.ensures i)) ∙ t.3.lot.1 in let e : (get_or c.args.tallies.now c.from.result c.index-tallies-from.result).id ≡ t.0.id =
-              cc in e),
+          cc in e),
     )
 
 pub overflow_sub-self : goal.overflow_sub-self
 overflow_sub-self g c =
     let seat = c.self.inside.seat in let xs = c.self.inside.list.items in let room : ℕ = vec_capacity c.self.inside.list in let total : ℕ = c.self.inside.total in let state =
-        c.self.inside.state in let is = c.self.invariant in
+    c.self.inside.state in let is = c.self.invariant in
     let here : value_at c.args.r xs ≡ Some c.args.header = header_at seat xs room total state is c.args.r ∙ ap (λ p. entry_of (value_at c.args.r p.blocks)) c.self.view_is ∙ c.requires.listed in
     let t = lot_of seat xs room total state is c.args.r c.args.header here in
     let same = ap (λ p. p.shape) c.self.view_is ∙ c.requires.own.1 in
@@ -66,19 +66,19 @@ overflow_sub-self g c =
 pub invariant_of-self : goal.invariant_of-self
 invariant_of-self g c =
     let seat = c.self.inside.seat in let xs = c.self.inside.list.items in let room : ℕ = vec_capacity c.self.inside.list in let total : ℕ = c.self.inside.total in let state =
-        c.self.inside.state in let is = c.self.invariant in
+    c.self.inside.state in let is = c.self.invariant in
     let here : value_at c.args.r xs ≡ Some c.args.header = header_at seat xs room total state is c.args.r ∙ ap (λ p. entry_of (value_at c.args.r p.blocks)) c.self.view_is ∙ c.requires.listed in
     let t = lot_of seat xs room total state is c.args.r c.args.header here in
     let same = ap (λ p. p.shape) c.self.view_is ∙ c.requires.own.1 in
     let len : c.from-2.result ≡ c.args.header.len = c.from-2.ensures in
     let both = lost seat xs room total state is c.give_up.new.seat c.args.r c.args.header c.remove.new.list.items
-        (vec_capacity c.remove.new.list) c.from-2.result here c.give_up.ensures.seat c.remove.ensures.items c.remove.ensures.room len in
+    (vec_capacity c.remove.new.list) c.from-2.result here c.give_up.ensures.seat c.remove.ensures.items c.remove.ensures.room len in
     both.0
 
 pub returns-clause-same : goal.returns-clause-same
 returns-clause-same g c =
     let seat = c.self.inside.seat in let xs = c.self.inside.list.items in let room : ℕ = vec_capacity c.self.inside.list in let total : ℕ = c.self.inside.total in let state =
-        c.self.inside.state in let is = c.self.invariant in
+    c.self.inside.state in let is = c.self.invariant in
     let here : value_at c.args.r xs ≡ Some c.args.header = header_at seat xs room total state is c.args.r ∙ ap (λ p. entry_of (value_at c.args.r p.blocks)) c.self.view_is ∙ c.requires.listed in
     let t = lot_of seat xs room total state is c.args.r c.args.header here in
     let same = ap (λ p. p.shape) c.self.view_is ∙ c.requires.own.1 in
@@ -94,19 +94,19 @@ returns-clause-same g c =
 pub returns-clause-list : goal.returns-clause-list
 returns-clause-list g c =
     let seat = c.self.inside.seat in let xs = c.self.inside.list.items in let room : ℕ = vec_capacity c.self.inside.list in let total : ℕ = c.self.inside.total in let state =
-        c.self.inside.state in let is = c.self.invariant in
+    c.self.inside.state in let is = c.self.invariant in
     let here : value_at c.args.r xs ≡ Some c.args.header = header_at seat xs room total state is c.args.r ∙ ap (λ p. entry_of (value_at c.args.r p.blocks)) c.self.view_is ∙ c.requires.listed in
     let t = lot_of seat xs room total state is c.args.r c.args.header here in
     let same = ap (λ p. p.shape) c.self.view_is ∙ c.requires.own.1 in
     let len : c.from-2.result ≡ c.args.header.len = c.from-2.ensures in
     let both = lost seat xs room total state is c.give_up.new.seat c.args.r c.args.header c.remove.new.list.items
-        (vec_capacity c.remove.new.list) c.from-2.result here c.give_up.ensures.seat c.remove.ensures.items c.remove.ensures.room len in
+    (vec_capacity c.remove.new.list) c.from-2.result here c.give_up.ensures.seat c.remove.ensures.items c.remove.ensures.room len in
     both.1 c.args.self.now c.self.view_is
 
 pub returns-clause-back : goal.returns-clause-back
 returns-clause-back g c =
     let seat = c.self.inside.seat in let xs = c.self.inside.list.items in let room : ℕ = vec_capacity c.self.inside.list in let total : ℕ = c.self.inside.total in let state =
-        c.self.inside.state in let is = c.self.invariant in
+    c.self.inside.state in let is = c.self.invariant in
     let here : value_at c.args.r xs ≡ Some c.args.header = header_at seat xs room total state is c.args.r ∙ ap (λ p. entry_of (value_at c.args.r p.blocks)) c.self.view_is ∙ c.requires.listed in
     let t = lot_of seat xs room total state is c.args.r c.args.header here in
     let same = ap (λ p. p.shape) c.self.view_is ∙ c.requires.own.1 in

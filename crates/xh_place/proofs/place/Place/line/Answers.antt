@@ -7,12 +7,18 @@ use Rattle.xh_place.proofs.place.Place.line.Goals as goal
 pub overflow_cast-result-2 : goal.overflow_cast-result-2
 overflow_cast-result-2 c =
     let few : length c.self.inside.list.items ≤ 2048 =
-        count_bound c.self.inside.seat c.self.inside.list.items (vec_capacity c.self.inside.list) c.self.inside.total c.self.inside.state c.self.invariant in search rules
+    count_bound c.self.inside.seat c.self.inside.list.items (vec_capacity c.self.inside.list) c.self.inside.total c.self.inside.state c.self.invariant in search rules
 
 pub returns : goal.returns
 returns c =
     let seat = c.self.inside.seat in let xs = c.self.inside.list.items in
     let count : c.len.result ≡ length xs = search rules in
     let sum = c.self.invariant.sum ∙ sym (sum_shown seat.lots xs c.self.invariant.same c.self.invariant.distinct) in
-    (λ i. record { place = c.process-process.ensures i % 32; process = c.process-process.ensures i; state = c.state_of.ensures i; blocks = (count ∙ sym (shown_long seat.lots xs)) i; bytes =
-        sum i }) ∙ ap line c.self.view_is
+    (λ i. record {
+      place = c.process-process.ensures i % 32;
+      process = c.process-process.ensures i;
+      state = c.state_of.ensures i;
+      blocks = (count ∙ sym (shown_long seat.lots xs)) i;
+      bytes =
+          sum i;
+    }) ∙ ap line c.self.view_is

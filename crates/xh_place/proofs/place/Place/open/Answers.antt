@@ -21,14 +21,16 @@ bounds-tallies-from g c =
 pub make_ends-requires-clause-tally : goal.make_ends-requires-clause-tally
 make_ends-requires-clause-tally g c =
     let long : length c.args.tallies.now ≡ length (g.V.Vaults.names c.args.vaults.now) = sym (ids_long c.args.tallies.now) ∙ ap length (c.requires.names.1 ∙ sym c.requires.names.0) in
-    let inside : c.from-2.result < length c.args.tallies.now = omega (arith, c.arenas.ensures, c.from.ensures, c.if-arena-from.false) in
-    (omega (arith, c.arenas.ensures, c.from.ensures, c.if-arena-from.false), (λ i. slice_get ((c.requires.names.0 ∙ sym c.requires.names.1) i) (sym c.from-2.ensures i))
-        ∙ ids_at c.args.tallies.now c.from-2.result c.index-tallies-from.result inside)
+    let inside : c.from-2.result < length c.args.tallies.now = omega (arith, c.arenas.ensures, c.from.ensures, c.if-arena-from.false) in (
+      omega (arith, c.arenas.ensures, c.from.ensures, c.if-arena-from.false),
+      (λ i. slice_get ((c.requires.names.0 ∙ sym c.requires.names.1) i) (sym c.from-2.ensures i))
+          ∙ ids_at c.args.tallies.now c.from-2.result c.index-tallies-from.result inside,
+    )
 
 pub push_reserved-requires : goal.push_reserved-requires
 push_reserved-requires g c =
     let seat = c.self.inside.seat in let xs = c.self.inside.list.items in let room : ℕ = vec_capacity c.self.inside.list in let total : ℕ = c.self.inside.total in let state =
-        c.self.inside.state in let is = c.self.invariant in
+    c.self.inside.state in let is = c.self.invariant in
     let k = c.in_ok-made.ensures.made in let l = k.0 in let m = k.1 in let r : ℕ = c.in_ok-made.made.0 in let q : ℕ = c.in_ok-made.made.1 in let arena : ℕ = c.args.arena in
     let run : is_running state ≡ true = search rules in let alive = over_running state run in
     let fits = room_first seat c.make_ends.new.seat xs room total state is alive arena r q l m k.2 in let room_is : length xs < room = fits.0 in search rules
@@ -36,7 +38,7 @@ push_reserved-requires g c =
 pub push_reserved-requires-2 : goal.push_reserved-requires-2
 push_reserved-requires-2 g c =
     let seat = c.self.inside.seat in let xs = c.self.inside.list.items in let room : ℕ = vec_capacity c.self.inside.list in let total : ℕ = c.self.inside.total in let state =
-        c.self.inside.state in let is = c.self.invariant in
+    c.self.inside.state in let is = c.self.invariant in
     let k = c.in_ok-made.ensures.made in let l = k.0 in let m = k.1 in let r : ℕ = c.in_ok-made.made.0 in let q : ℕ = c.in_ok-made.made.1 in let arena : ℕ = c.args.arena in
     let run : is_running state ≡ true = search rules in let alive = over_running state run in
     let header : Header = record { len = 32; kind = kind.End } in
@@ -44,12 +46,12 @@ push_reserved-requires-2 g c =
     let first : c.push_reserved.new.self.items ≡ xs ++ (r, header_of (item_of l)) ∷ [] = c.push_reserved.ensures.items ∙ ap (λ (z : Header). xs ++ (r, z) ∷ []) one in
     let fits = room_second seat c.make_ends.new.seat xs room total state is alive arena r q l m k.2 in
     let room_is : length c.push_reserved.new.self.items < vec_capacity c.push_reserved.new.self =
-        subst (λ (z : List (ℕ × Header) × ℕ). length z.0 < z.1) (λ i. (sym first i, sym c.push_reserved.ensures.capacity i)) fits.0 in search rules
+    subst (λ (z : List (ℕ × Header) × ℕ). length z.0 < z.1) (λ i. (sym first i, sym c.push_reserved.ensures.capacity i)) fits.0 in search rules
 
 pub overflow_add-self : goal.overflow_add-self
 overflow_add-self g c =
     let seat = c.self.inside.seat in let xs = c.self.inside.list.items in let room : ℕ = vec_capacity c.self.inside.list in let total : ℕ = c.self.inside.total in let state =
-        c.self.inside.state in let is = c.self.invariant in
+    c.self.inside.state in let is = c.self.invariant in
     let k = c.in_ok-made.ensures.made in let l = k.0 in let m = k.1 in let r : ℕ = c.in_ok-made.made.0 in let q : ℕ = c.in_ok-made.made.1 in let arena : ℕ = c.args.arena in
     let run : is_running state ≡ true = search rules in let alive = over_running state run in
     let most : total ≤ 2147483648 = total_bound seat xs room total state is in let some : c.from-3.result ≡ 64 = c.from-3.ensures in
@@ -58,7 +60,7 @@ overflow_add-self g c =
 pub invariant_of-self-2 : goal.invariant_of-self-2
 invariant_of-self-2 g c =
     let seat = c.self.inside.seat in let xs = c.self.inside.list.items in let room : ℕ = vec_capacity c.self.inside.list in let total : ℕ = c.self.inside.total in let state =
-        c.self.inside.state in let is = c.self.invariant in
+    c.self.inside.state in let is = c.self.invariant in
     let k = c.in_ok-made.ensures.made in let l = k.0 in let m = k.1 in let r : ℕ = c.in_ok-made.made.0 in let q : ℕ = c.in_ok-made.made.1 in let arena : ℕ = c.args.arena in
     let run : is_running state ≡ true = search rules in let alive = over_running state run in
     let header : Header = record { len = 32; kind = kind.End } in
@@ -68,7 +70,7 @@ invariant_of-self-2 g c =
     let len : l.len ≡ 32 = ap (λ (x : Item). x.len) k.3 in let len2 : m.len ≡ 32 = ap (λ (x : Item). x.len) k.4 in
     let sum : total + c.from-3.result ≡ total + l.len + m.len = omega (arith, c.from-3.ensures, len, len2) in
     let both = opened seat c.make_ends.new.seat xs room total state is alive c.args.arena r q l m k.2 c.push_reserved-2.new.self.items (vec_capacity c.push_reserved-2.new.self)
-        (total + c.from-3.result) items (c.push_reserved-2.ensures.capacity ∙ c.push_reserved.ensures.capacity) sum in
+    (total + c.from-3.result) items (c.push_reserved-2.ensures.capacity ∙ c.push_reserved.ensures.capacity) sum in
     both.0
 
 pub returns-clause-same : goal.returns-clause-same
@@ -83,7 +85,7 @@ returns-clause-opened g c =
     let long : length c.args.tallies.now ≡ length (g.V.Vaults.names c.args.vaults.now) = sym (ids_long c.args.tallies.now) ∙ ap length (c.requires.names.1 ∙ sym c.requires.names.0) in
     let inside : c.from-2.result < length c.args.tallies.now = omega (arith, c.arenas.ensures, c.from.ensures, c.if-arena-from.false) in
     let seat = c.self.inside.seat in let xs = c.self.inside.list.items in let room : ℕ = vec_capacity c.self.inside.list in let total : ℕ = c.self.inside.total in let state =
-        c.self.inside.state in let is = c.self.invariant in
+    c.self.inside.state in let is = c.self.invariant in
     let k = c.in_ok-made.ensures.made in let l = k.0 in let m = k.1 in let r : ℕ = c.in_ok-made.made.0 in let q : ℕ = c.in_ok-made.made.1 in
     let run : is_running state ≡ true = search rules in let alive = over_running state run in
     let header : Header = record { len = 32; kind = kind.End } in
@@ -93,7 +95,7 @@ returns-clause-opened g c =
     let len : l.len ≡ 32 = ap (λ (x : Item). x.len) k.3 in let len2 : m.len ≡ 32 = ap (λ (x : Item). x.len) k.4 in
     let sum : total + c.from-3.result ≡ total + l.len + m.len = omega (arith, c.from-3.ensures, len, len2) in
     let both = opened seat c.make_ends.new.seat xs room total state is alive c.args.arena r q l m k.2 c.push_reserved-2.new.self.items (vec_capacity c.push_reserved-2.new.self)
-        (total + c.from-3.result) items (c.push_reserved-2.ensures.capacity ∙ c.push_reserved.ensures.capacity) sum in
+    (total + c.from-3.result) items (c.push_reserved-2.ensures.capacity ∙ c.push_reserved.ensures.capacity) sum in
     let paid = took_set c.args.tallies.now c.from-2.result 64 c.index-tallies-from.result _ inside c.in_ok-made.ensures.tally in (
       both.1 c.args.self.now c.self.view_is ∙ ap (λ (z : Item × Item). with_blocks c.args.self.now (c.args.self.now.blocks ++ (r, z.0) ∷ (q, z.1) ∷ [])) (λ i. (k.3 i, k.4 i)),
       (refl, k.2.two.first_arena),
@@ -104,7 +106,7 @@ returns-clause-opened g c =
 pub returns-clause-ends : goal.returns-clause-ends
 returns-clause-ends g c =
     let seat = c.self.inside.seat in let xs = c.self.inside.list.items in let room : ℕ = vec_capacity c.self.inside.list in let total : ℕ = c.self.inside.total in let state =
-        c.self.inside.state in let is = c.self.invariant in
+    c.self.inside.state in let is = c.self.invariant in
     let k = c.in_ok-made.ensures.made in let l = k.0 in let m = k.1 in let r : ℕ = c.in_ok-made.made.0 in let q : ℕ = c.in_ok-made.made.1 in
     let run : is_running state ≡ true = search rules in let alive = over_running state run in
     let header : Header = record { len = 32; kind = kind.End } in
@@ -114,12 +116,12 @@ returns-clause-ends g c =
     let len : l.len ≡ 32 = ap (λ (x : Item). x.len) k.3 in let len2 : m.len ≡ 32 = ap (λ (x : Item). x.len) k.4 in
     let sum : total + c.from-3.result ≡ total + l.len + m.len = omega (arith, c.from-3.ensures, len, len2) in
     let both = opened seat c.make_ends.new.seat xs room total state is alive c.args.arena r q l m k.2 c.push_reserved-2.new.self.items (vec_capacity c.push_reserved-2.new.self)
-        (total + c.from-3.result) items (c.push_reserved-2.ensures.capacity ∙ c.push_reserved.ensures.capacity) sum in
+    (total + c.from-3.result) items (c.push_reserved-2.ensures.capacity ∙ c.push_reserved.ensures.capacity) sum in
     both_listed seat c.make_ends.new.seat xs room total state is alive c.args.arena r q l m k.2 c.push_reserved-2.new.self.items (vec_capacity c.push_reserved-2.new.self)
-        (total + c.from-3.result) both.0 (end_block c.args.low) (end_block c.args.high) k.3 k.4
+    (total + c.from-3.result) both.0 (end_block c.args.low) (end_block c.args.high) k.3 k.4
 
 pub invariant_of-self : goal.invariant_of-self
 invariant_of-self g c =
     let seat = c.self.inside.seat in let xs = c.self.inside.list.items in let room : ℕ = vec_capacity c.self.inside.list in let total : ℕ = c.self.inside.total in let state =
-        c.self.inside.state in let is = c.self.invariant in
+    c.self.inside.state in let is = c.self.invariant in
     kept seat c.make_ends.new.seat xs room total state c.in_err-made.ensures.refused.0 is

@@ -11,14 +11,14 @@ use Rattle.xh_place.proofs.place.Place.pass.Goals as goal
 pub unreachable-requires : goal.unreachable-requires
 unreachable-requires c =
     let seat = c.self.inside.seat in let xs = c.self.inside.list.items in let room : ℕ = vec_capacity c.self.inside.list in let total : ℕ = c.self.inside.total in let state =
-        c.self.inside.state in let is = c.self.invariant in
+    c.self.inside.state in let is = c.self.invariant in
     let at : value_at c.args.r xs ≡ Some (header_of c.requires.listed.0) = listed seat xs room total state is c.args.self.now c.self.view_is c.args.r c.requires.listed.0 c.requires.listed.1 in
     let e : None ≡ Some (header_of c.requires.listed.0) = sym c.in_default.is ∙ c.entry.ensures ∙ ap (value_at c.args.r) c.as_slice.ensures.value ∙ at in absurd (cc)
 
 pub pass-requires-clause-exists : goal.pass-requires-clause-exists
 pass-requires-clause-exists c =
     let seat = c.self.inside.seat in let xs = c.self.inside.list.items in let room : ℕ = vec_capacity c.self.inside.list in let total : ℕ = c.self.inside.total in let state =
-        c.self.inside.state in let is = c.self.invariant in
+    c.self.inside.state in let is = c.self.invariant in
     let at : value_at c.args.r xs ≡ Some (header_of c.requires.listed.0) = listed seat xs room total state is c.args.self.now c.self.view_is c.args.r c.requires.listed.0 c.requires.listed.1 in
     let here : value_at c.args.r xs ≡ Some c.in-Some.field-0 = sym (c.entry.ensures ∙ ap (value_at c.args.r) c.as_slice.ensures.value) ∙ c.in-Some.is in
     let t = lot_of seat xs room total state is c.args.r c.in-Some.field-0 here in
@@ -28,7 +28,7 @@ pass-requires-clause-exists c =
 pub pass-requires-clause-held : goal.pass-requires-clause-held
 pass-requires-clause-held c =
     let seat = c.self.inside.seat in let xs = c.self.inside.list.items in let room : ℕ = vec_capacity c.self.inside.list in let total : ℕ = c.self.inside.total in let state =
-        c.self.inside.state in let is = c.self.invariant in
+    c.self.inside.state in let is = c.self.invariant in
     let at : value_at c.args.r xs ≡ Some (header_of c.requires.listed.0) = listed seat xs room total state is c.args.self.now c.self.view_is c.args.r c.requires.listed.0 c.requires.listed.1 in
     let here : value_at c.args.r xs ≡ Some c.in-Some.field-0 = sym (c.entry.ensures ∙ ap (value_at c.args.r) c.as_slice.ensures.value) ∙ c.in-Some.is in
     let t = lot_of seat xs room total state is c.args.r c.in-Some.field-0 here in
@@ -38,7 +38,7 @@ pass-requires-clause-held c =
 pub overflow_sub-self : goal.overflow_sub-self
 overflow_sub-self c =
     let seat = c.self.inside.seat in let xs = c.self.inside.list.items in let room : ℕ = vec_capacity c.self.inside.list in let total : ℕ = c.self.inside.total in let state =
-        c.self.inside.state in let is = c.self.invariant in
+    c.self.inside.state in let is = c.self.invariant in
     let at : value_at c.args.r xs ≡ Some (header_of c.requires.listed.0) = listed seat xs room total state is c.args.self.now c.self.view_is c.args.r c.requires.listed.0 c.requires.listed.1 in
     let here : value_at c.args.r xs ≡ Some c.in-Some.field-0 = sym (c.entry.ensures ∙ ap (value_at c.args.r) c.as_slice.ensures.value) ∙ c.in-Some.is in
     let t = lot_of seat xs room total state is c.args.r c.in-Some.field-0 here in
@@ -49,25 +49,25 @@ overflow_sub-self c =
 pub invariant_of-self : goal.invariant_of-self
 invariant_of-self c =
     let seat = c.self.inside.seat in let xs = c.self.inside.list.items in let room : ℕ = vec_capacity c.self.inside.list in let total : ℕ = c.self.inside.total in let state =
-        c.self.inside.state in let is = c.self.invariant in
+    c.self.inside.state in let is = c.self.invariant in
     let at : value_at c.args.r xs ≡ Some (header_of c.requires.listed.0) = listed seat xs room total state is c.args.self.now c.self.view_is c.args.r c.requires.listed.0 c.requires.listed.1 in
     let here : value_at c.args.r xs ≡ Some c.in-Some.field-0 = sym (c.entry.ensures ∙ ap (value_at c.args.r) c.as_slice.ensures.value) ∙ c.in-Some.is in
     let t = lot_of seat xs room total state is c.args.r c.in-Some.field-0 here in
     let same = ap (λ p. p.shape) c.self.view_is ∙ c.requires.own.0.1 in
     let len : c.from.result ≡ c.in-Some.field-0.len = c.from.ensures in
     let both = lost seat xs room total state is c.pass.new.seat c.args.r c.in-Some.field-0 c.remove.new.list.items (vec_capacity c.remove.new.list) c.from.result here
-        (passes seat c.pass.new.seat _ _ _ _ c.pass.ensures.passed) c.remove.ensures.items c.remove.ensures.room len in
+    (passes seat c.pass.new.seat _ _ _ _ c.pass.ensures.passed) c.remove.ensures.items c.remove.ensures.room len in
     both.0
 
 pub returns : goal.returns
 returns c =
     let seat = c.self.inside.seat in let xs = c.self.inside.list.items in let room : ℕ = vec_capacity c.self.inside.list in let total : ℕ = c.self.inside.total in let state =
-        c.self.inside.state in let is = c.self.invariant in
+    c.self.inside.state in let is = c.self.invariant in
     let at : value_at c.args.r xs ≡ Some (header_of c.requires.listed.0) = listed seat xs room total state is c.args.self.now c.self.view_is c.args.r c.requires.listed.0 c.requires.listed.1 in
     let here : value_at c.args.r xs ≡ Some c.in-Some.field-0 = sym (c.entry.ensures ∙ ap (value_at c.args.r) c.as_slice.ensures.value) ∙ c.in-Some.is in
     let t = lot_of seat xs room total state is c.args.r c.in-Some.field-0 here in
     let same = ap (λ p. p.shape) c.self.view_is ∙ c.requires.own.0.1 in
     let len : c.from.result ≡ c.in-Some.field-0.len = c.from.ensures in
     let both = lost seat xs room total state is c.pass.new.seat c.args.r c.in-Some.field-0 c.remove.new.list.items (vec_capacity c.remove.new.list) c.from.result here
-        (passes seat c.pass.new.seat _ _ _ _ c.pass.ensures.passed) c.remove.ensures.items c.remove.ensures.room len in
+    (passes seat c.pass.new.seat _ _ _ _ c.pass.ensures.passed) c.remove.ensures.items c.remove.ensures.room len in
     both.1 c.args.self.now c.self.view_is

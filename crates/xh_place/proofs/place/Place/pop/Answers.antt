@@ -14,21 +14,21 @@ pub swap_body-requires-clause-own : goal.swap_body-requires-clause-own
 swap_body-requires-clause-own g c =
     let q = c.requires.end in let same = ap (λ p. p.shape) c.self.view_is ∙ c.requires.own.1 in
     let t = end_of_block c.self.inside.seat c.self.inside.list.items
-        (vec_capacity c.self.inside.list) c.self.inside.total c.self.inside.state c.self.invariant c.args.self.now c.self.view_is c.args.e q.0 q.1 q.2 in
+    (vec_capacity c.self.inside.list) c.self.inside.total c.self.inside.state c.self.invariant c.args.self.now c.self.view_is c.args.e q.0 q.1 q.2 in
     ((ap (λ p. p.table) c.self.view_is ∙ c.requires.own.0, same), subst (λ z. IsRecord z c.args.e) same t.block.exists)
 
 pub swap_body-requires-clause-held : goal.swap_body-requires-clause-held
 swap_body-requires-clause-held g c =
     let q = c.requires.end in let same = ap (λ p. p.shape) c.self.view_is ∙ c.requires.own.1 in
     let t = end_of_block c.self.inside.seat c.self.inside.list.items
-        (vec_capacity c.self.inside.list) c.self.inside.total c.self.inside.state c.self.invariant c.args.self.now c.self.view_is c.args.e q.0 q.1 q.2 in
+    (vec_capacity c.self.inside.list) c.self.inside.total c.self.inside.state c.self.invariant c.args.self.now c.self.view_is c.args.e q.0 q.1 q.2 in
     (t.lot, t.at, t.block.lot, omega arith)
 
 pub unreachable-requires : goal.unreachable-requires
 unreachable-requires g c =
     let q = c.requires.end in let same = ap (λ p. p.shape) c.self.view_is ∙ c.requires.own.1 in
     let t = end_of_block c.self.inside.seat c.self.inside.list.items
-        (vec_capacity c.self.inside.list) c.self.inside.total c.self.inside.state c.self.invariant c.args.self.now c.self.view_is c.args.e q.0 q.1 q.2 in
+    (vec_capacity c.self.inside.list) c.self.inside.total c.self.inside.state c.self.invariant c.args.self.now c.self.view_is c.args.e q.0 q.1 q.2 in
     let out = c.swap_body.ensures t.lot t.at in
     c.in_default.not-End t.end (out.0 ∙ t.body)
 
@@ -36,7 +36,7 @@ pub swap_body-requires-2-clause-own : goal.swap_body-requires-2-clause-own
 swap_body-requires-2-clause-own g c =
     let q = c.requires.end in let same = ap (λ p. p.shape) c.self.view_is ∙ c.requires.own.1 in
     let t = end_of_block c.self.inside.seat c.self.inside.list.items
-        (vec_capacity c.self.inside.list) c.self.inside.total c.self.inside.state c.self.invariant c.args.self.now c.self.view_is c.args.e q.0 q.1 q.2 in
+    (vec_capacity c.self.inside.list) c.self.inside.total c.self.inside.state c.self.invariant c.args.self.now c.self.view_is c.args.e q.0 q.1 q.2 in
     let out = c.swap_body.ensures t.lot t.at in
     ((ap (λ (h : Held _). h.table) out.1 ∙ ap (λ p. p.table) c.self.view_is ∙ c.requires.own.0, ap (λ (h : Held _). h.shape) out.1 ∙ same), subst (λ z. IsRecord z c.args.e) same t.block.exists)
 
@@ -44,20 +44,20 @@ pub swap_body-requires-2-clause-held : goal.swap_body-requires-2-clause-held
 swap_body-requires-2-clause-held g c =
     let q = c.requires.end in let same = ap (λ p. p.shape) c.self.view_is ∙ c.requires.own.1 in
     let t = end_of_block c.self.inside.seat c.self.inside.list.items
-        (vec_capacity c.self.inside.list) c.self.inside.total c.self.inside.state c.self.invariant c.args.self.now c.self.view_is c.args.e q.0 q.1 q.2 in
+    (vec_capacity c.self.inside.list) c.self.inside.total c.self.inside.state c.self.invariant c.args.self.now c.self.view_is c.args.e q.0 q.1 q.2 in
     let out = c.swap_body.ensures t.lot t.at in
     let at = hollow_at c.self.inside.seat c.self.inside.list.items
-        (vec_capacity c.self.inside.list) c.self.inside.total c.self.inside.state c.self.invariant c.args.e q.0 t c.swap_body.new.seat out.1 in
+    (vec_capacity c.self.inside.list) c.self.inside.total c.self.inside.state c.self.invariant c.args.e q.0 t c.swap_body.new.seat out.1 in
     (hollow t.lot, at, subst (λ s. IsLotOf s c.args.e (hollow t.lot)) (sym (ap (λ (h : Held _). h.shape) out.1)) t.block.lot, omega arith)
 
 pub invariant_of-self : goal.invariant_of-self
 invariant_of-self g c =
     let q = c.requires.end in let same = ap (λ p. p.shape) c.self.view_is ∙ c.requires.own.1 in
     let t = end_of_block c.self.inside.seat c.self.inside.list.items
-        (vec_capacity c.self.inside.list) c.self.inside.total c.self.inside.state c.self.invariant c.args.self.now c.self.view_is c.args.e q.0 q.1 q.2 in
+    (vec_capacity c.self.inside.list) c.self.inside.total c.self.inside.state c.self.invariant c.args.self.now c.self.view_is c.args.e q.0 q.1 q.2 in
     let out = c.swap_body.ensures t.lot t.at in
     let at = hollow_at c.self.inside.seat c.self.inside.list.items
-        (vec_capacity c.self.inside.list) c.self.inside.total c.self.inside.state c.self.invariant c.args.e q.0 t c.swap_body.new.seat out.1 in
+    (vec_capacity c.self.inside.list) c.self.inside.total c.self.inside.state c.self.invariant c.args.e q.0 t c.swap_body.new.seat out.1 in
     let was : c.in-End.end ≡ t.end = same_end c.swap_body.new.body c.in-End.end t.end c.in-End.is (out.0 ∙ t.body) in
     let back = c.swap_body-2.ensures (hollow t.lot) at in
     let both = put_back c.self.inside.seat c.self.inside.list.items
@@ -69,10 +69,10 @@ pub returns-clause-same : goal.returns-clause-same
 returns-clause-same g c =
     let q = c.requires.end in let same = ap (λ p. p.shape) c.self.view_is ∙ c.requires.own.1 in
     let t = end_of_block c.self.inside.seat c.self.inside.list.items
-        (vec_capacity c.self.inside.list) c.self.inside.total c.self.inside.state c.self.invariant c.args.self.now c.self.view_is c.args.e q.0 q.1 q.2 in
+    (vec_capacity c.self.inside.list) c.self.inside.total c.self.inside.state c.self.invariant c.args.self.now c.self.view_is c.args.e q.0 q.1 q.2 in
     let out = c.swap_body.ensures t.lot t.at in
     let at = hollow_at c.self.inside.seat c.self.inside.list.items
-        (vec_capacity c.self.inside.list) c.self.inside.total c.self.inside.state c.self.invariant c.args.e q.0 t c.swap_body.new.seat out.1 in
+    (vec_capacity c.self.inside.list) c.self.inside.total c.self.inside.state c.self.invariant c.args.e q.0 t c.swap_body.new.seat out.1 in
     let was : c.in-End.end ≡ t.end = same_end c.swap_body.new.body c.in-End.end t.end c.in-End.is (out.0 ∙ t.body) in
     let back = c.swap_body-2.ensures (hollow t.lot) at in
     let both = put_back c.self.inside.seat c.self.inside.list.items
@@ -84,10 +84,10 @@ pub returns-clause-direction : goal.returns-clause-direction
 returns-clause-direction g c =
     let q = c.requires.end in let same = ap (λ p. p.shape) c.self.view_is ∙ c.requires.own.1 in
     let t = end_of_block c.self.inside.seat c.self.inside.list.items
-        (vec_capacity c.self.inside.list) c.self.inside.total c.self.inside.state c.self.invariant c.args.self.now c.self.view_is c.args.e q.0 q.1 q.2 in
+    (vec_capacity c.self.inside.list) c.self.inside.total c.self.inside.state c.self.invariant c.args.self.now c.self.view_is c.args.e q.0 q.1 q.2 in
     let out = c.swap_body.ensures t.lot t.at in
     let at = hollow_at c.self.inside.seat c.self.inside.list.items
-        (vec_capacity c.self.inside.list) c.self.inside.total c.self.inside.state c.self.invariant c.args.e q.0 t c.swap_body.new.seat out.1 in
+    (vec_capacity c.self.inside.list) c.self.inside.total c.self.inside.state c.self.invariant c.args.e q.0 t c.swap_body.new.seat out.1 in
     let was : c.in-End.end ≡ t.end = same_end c.swap_body.new.body c.in-End.end t.end c.in-End.is (out.0 ∙ t.body) in
     let back = c.swap_body-2.ensures (hollow t.lot) at in
     let both = put_back c.self.inside.seat c.self.inside.list.items
@@ -101,5 +101,5 @@ pub returns-clause-none : goal.returns-clause-none
 returns-clause-none g c =
     let q = c.requires.end in let same = ap (λ p. p.shape) c.self.view_is ∙ c.requires.own.1 in
     let t = end_of_block c.self.inside.seat c.self.inside.list.items
-        (vec_capacity c.self.inside.list) c.self.inside.total c.self.inside.state c.self.invariant c.args.self.now c.self.view_is c.args.e q.0 q.1 q.2 in
+    (vec_capacity c.self.inside.list) c.self.inside.total c.self.inside.state c.self.invariant c.args.self.now c.self.view_is c.args.e q.0 q.1 q.2 in
     never c.in-End.end c.take-taken.new.end c.take-taken.result c.take-taken.ensures.taken

@@ -14,7 +14,7 @@ use Rattle.xh_place.proofs.place.Place.split.Goals as goal
 pub cut_block-requires-clause-held : goal.cut_block-requires-clause-held
 cut_block-requires-clause-held g c =
     let seat = c.self.inside.seat in let xs = c.self.inside.list.items in let room : ℕ = vec_capacity c.self.inside.list in let total : ℕ = c.self.inside.total in let state =
-        c.self.inside.state in let is = c.self.invariant in
+    c.self.inside.state in let is = c.self.invariant in
     let q = c.in_ok-len.ensures.1 in let r : ℕ = c.args.r in
     let f = found seat xs room total state is c.args.self.now c.self.view_is r q.0 q.1 in
     let run : is_running state ≡ true = ap (λ p. is_running p.state) c.self.view_is ∙ may_cut c.args.self.now.state (value_at r c.args.self.now.blocks) c.args.k c.in_ok-len.ensures.0 in
@@ -28,7 +28,7 @@ invariant_of-self g c =
 pub push_reserved-requires : goal.push_reserved-requires
 push_reserved-requires g c =
     let seat = c.self.inside.seat in let xs = c.self.inside.list.items in let room : ℕ = vec_capacity c.self.inside.list in let total : ℕ = c.self.inside.total in let state =
-        c.self.inside.state in let is = c.self.invariant in
+    c.self.inside.state in let is = c.self.invariant in
     let q = c.in_ok-len.ensures.1 in let r : ℕ = c.args.r in
     let f = found seat xs room total state is c.args.self.now c.self.view_is r q.0 q.1 in
     let run : is_running state ≡ true = ap (λ p. is_running p.state) c.self.view_is ∙ may_cut c.args.self.now.state (value_at r c.args.self.now.blocks) c.args.k c.in_ok-len.ensures.0 in
@@ -40,7 +40,7 @@ push_reserved-requires g c =
 pub invariant_of-self-2 : goal.invariant_of-self-2
 invariant_of-self-2 g c =
     let seat = c.self.inside.seat in let xs = c.self.inside.list.items in let room : ℕ = vec_capacity c.self.inside.list in let total : ℕ = c.self.inside.total in let state =
-        c.self.inside.state in let is = c.self.invariant in
+    c.self.inside.state in let is = c.self.invariant in
     let q = c.in_ok-len.ensures.1 in let r : ℕ = c.args.r in
     let f = found seat xs room total state is c.args.self.now c.self.view_is r q.0 q.1 in
     let run : is_running state ≡ true = ap (λ p. is_running p.state) c.self.view_is ∙ may_cut c.args.self.now.state (value_at r c.args.self.now.blocks) c.args.k c.in_ok-len.ensures.0 in
@@ -49,19 +49,19 @@ invariant_of-self-2 g c =
     let tail : cut.1.len ≡ c.in_ok-len.len - c.args.k = (let a : cut.0.len ≡ c.args.k = cut.6 in let b : cut.0.len + cut.1.len ≡ f.lot.len = cut.7 in omega arith) in
     let kind_is : kind_of (content_of f.lot.body) ≡ kind.Data = ap (λ (x : Item). kind_of x.content) f.same ∙ q.2 in
     let head_is : header_of (item_of cut.0) ≡ record { len = c.args.k; kind = kind.Data } =
-        λ i. record { len = cut.6 i; kind = (ap kind_of cut.8 ∙ front_kind c.args.k (content_of f.lot.body) ∙ kind_is) i } in
+    λ i. record { len = cut.6 i; kind = (ap kind_of cut.8 ∙ front_kind c.args.k (content_of f.lot.body) ∙ kind_is) i } in
     let tail_is : header_of (item_of cut.1) ≡ record { len = c.in_ok-len.len - c.args.k; kind = kind.Data } =
-        λ i. record { len = tail i; kind = (ap kind_of cut.9 ∙ rest_kind c.args.k (content_of f.lot.body) ∙ kind_is) i } in
+    λ i. record { len = tail i; kind = (ap kind_of cut.9 ∙ rest_kind c.args.k (content_of f.lot.body) ∙ kind_is) i } in
     let items : c.push_reserved.new.self.items ≡ put r (header_of (item_of cut.0)) xs ++ (n, header_of (item_of cut.1)) ∷ [] =
     c.push_reserved.ensures.items ∙ (λ i. c.replace.ensures.items i ++ (n, sym tail_is i) ∷ []) ∙ ap (λ (z : Header). put r z xs ++ (n, header_of (item_of cut.1)) ∷ []) (sym head_is) in
     let both = parted seat c.cut_block.new.seat xs c.push_reserved.new.self.items room
-        (vec_capacity c.push_reserved.new.self) total state r n f.lot cut.0 cut.1 run is f.held cut.4 cut.5 cut.2 cut.3 cut.7 items (c.push_reserved.ensures.capacity ∙ c.replace.ensures.room) in
+    (vec_capacity c.push_reserved.new.self) total state r n f.lot cut.0 cut.1 run is f.held cut.4 cut.5 cut.2 cut.3 cut.7 items (c.push_reserved.ensures.capacity ∙ c.replace.ensures.room) in
     both.0
 
 pub returns-clause-cut : goal.returns-clause-cut
 returns-clause-cut g c =
     let seat = c.self.inside.seat in let xs = c.self.inside.list.items in let room : ℕ = vec_capacity c.self.inside.list in let total : ℕ = c.self.inside.total in let state =
-        c.self.inside.state in let is = c.self.invariant in
+    c.self.inside.state in let is = c.self.invariant in
     let q = c.in_ok-len.ensures.1 in let r : ℕ = c.args.r in
     let f = found seat xs room total state is c.args.self.now c.self.view_is r q.0 q.1 in
     let run : is_running state ≡ true = ap (λ p. is_running p.state) c.self.view_is ∙ may_cut c.args.self.now.state (value_at r c.args.self.now.blocks) c.args.k c.in_ok-len.ensures.0 in
@@ -70,13 +70,13 @@ returns-clause-cut g c =
     let tail : cut.1.len ≡ c.in_ok-len.len - c.args.k = (let a : cut.0.len ≡ c.args.k = cut.6 in let b : cut.0.len + cut.1.len ≡ f.lot.len = cut.7 in omega arith) in
     let kind_is : kind_of (content_of f.lot.body) ≡ kind.Data = ap (λ (x : Item). kind_of x.content) f.same ∙ q.2 in
     let head_is : header_of (item_of cut.0) ≡ record { len = c.args.k; kind = kind.Data } =
-        λ i. record { len = cut.6 i; kind = (ap kind_of cut.8 ∙ front_kind c.args.k (content_of f.lot.body) ∙ kind_is) i } in
+    λ i. record { len = cut.6 i; kind = (ap kind_of cut.8 ∙ front_kind c.args.k (content_of f.lot.body) ∙ kind_is) i } in
     let tail_is : header_of (item_of cut.1) ≡ record { len = c.in_ok-len.len - c.args.k; kind = kind.Data } =
-        λ i. record { len = tail i; kind = (ap kind_of cut.9 ∙ rest_kind c.args.k (content_of f.lot.body) ∙ kind_is) i } in
+    λ i. record { len = tail i; kind = (ap kind_of cut.9 ∙ rest_kind c.args.k (content_of f.lot.body) ∙ kind_is) i } in
     let items : c.push_reserved.new.self.items ≡ put r (header_of (item_of cut.0)) xs ++ (n, header_of (item_of cut.1)) ∷ [] =
     c.push_reserved.ensures.items ∙ (λ i. c.replace.ensures.items i ++ (n, sym tail_is i) ∷ []) ∙ ap (λ (z : Header). put r z xs ++ (n, header_of (item_of cut.1)) ∷ []) (sym head_is) in
     let both = parted seat c.cut_block.new.seat xs c.push_reserved.new.self.items room
-        (vec_capacity c.push_reserved.new.self) total state r n f.lot cut.0 cut.1 run is f.held cut.4 cut.5 cut.2 cut.3 cut.7 items (c.push_reserved.ensures.capacity ∙ c.replace.ensures.room) in (
+    (vec_capacity c.push_reserved.new.self) total state r n f.lot cut.0 cut.1 run is f.held cut.4 cut.5 cut.2 cut.3 cut.7 items (c.push_reserved.ensures.capacity ∙ c.replace.ensures.room) in (
       q.0,
       q.1,
       both.1 c.args.self.now c.self.view_is ∙ (λ i. with_blocks c.args.self.now

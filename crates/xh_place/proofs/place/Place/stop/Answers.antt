@@ -12,6 +12,6 @@ returns-clause-stopped g c =
       bytes,
       stopped c.args.budget bytes c.sweep-bytes.result.1 c.left-left.result old c.set_state.new.self swept c.set_state-2.new.self c.reclaimed.result c.set_state.ensures
           c.sweep-bytes.ensures.swept c.sweep-bytes.ensures.list c.left-left.ensures.left
-              (c.set_state-2.ensures ∙ ap (λ (s : Status). record swept { state = s }) c.ending.ensures) c.reclaimed.ensures,
+          (c.set_state-2.ensures ∙ ap (λ (s : Status). record swept { state = s }) c.ending.ensures) c.reclaimed.ensures,
       c.sweep-bytes.ensures.back,
     )

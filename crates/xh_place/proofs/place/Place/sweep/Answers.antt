@@ -14,7 +14,7 @@ loop-used-preserved g c =
     let inside : from < length old.blocks = started from old.blocks mid.blocks some i.4 in
     let by : IsSweptBy from (used + c.reclaim-more.result.1) old new (c.loop-used.bytes + c.reclaim-more.result.0) =
     swept_more from used c.reclaim-more.result.1 c.loop-used.bytes c.reclaim-more.result.0 old mid new (omega (arith, inside))
-        (ap (λ (p : PlaceOf). p.process) i.2) i.3 c.reclaim-more.ensures.swept in (
+    (ap (λ (p : PlaceOf). p.process) i.2) i.3 c.reclaim-more.ensures.swept in (
       omega arith,
       omega (arith, i.1, c.reclaim-more.ensures.count.2),
       twice_own old mid new i.2 c.reclaim-more.ensures.list,
