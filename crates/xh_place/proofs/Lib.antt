@@ -1,3 +1,4 @@
+pub mod Listing
 pub mod Steps
 pub mod Coming
 pub mod Gained

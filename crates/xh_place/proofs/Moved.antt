@@ -14,7 +14,8 @@ use Rattle.xh_place.specs.declared.body.Header.{Header}
 use Rattle.xh_place.specs.Ending.{alone, last}
 use Rattle.xh_place.specs.Places.{PlaceOf, with_blocks, header_in, shown, IsPlace, IsQuiet}
 use Rattle.xh_place.specs.Refusals.{is_over}
-use Rattle.xh_place.proofs.Steps.{quiet_alive, shown_at, shown_last, shown_without, shows, sum_last, sum_without, view_of}
+use Rattle.xh_place.proofs.Steps.{quiet_alive, shows, view_of}
+use Rattle.xh_place.proofs.Listing.{shown_at, shown_last, shown_without, sum_last, sum_without}
 
 pub without_long : {X : Type 0} (r : ℕ) (y : X) (xs : List (ℕ × X)) → Distinct (keys xs) → value_at r xs ≡ Some y → length xs ≡ suc (length (without r xs))
 without_long r y [] d = λ e. absurd (cc)

@@ -13,7 +13,8 @@ use Rattle.xh_place.specs.inner.Opening.{AreMade, HasTwoMore}
 use Rattle.xh_place.specs.Places.{Item, PlaceOf, with_blocks, header_in, header_of, item_in, item_of, shown, IsPlace}
 use Rattle.xh_place.specs.Refusals.{is_over}
 use Rattle.xh_place.proofs.Gained.{has}
-use Rattle.xh_place.proofs.Steps.{has_room, shown_at, view_of, won}
+use Rattle.xh_place.proofs.Steps.{has_room, view_of, won}
+use Rattle.xh_place.proofs.Listing.{shown_at}
 
 -- with one record, and with the other too
 abbrev pub with_one : Held Body → ℕ → LotOf Body → Held Body

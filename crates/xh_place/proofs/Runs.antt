@@ -16,7 +16,8 @@ use Rattle.xh_place.specs.inner.Lots.{HasNow}
 use Rattle.xh_place.specs.Places.{Item, PlaceOf, with_blocks, header_in, item_in, shown, sum_of, total_of, IsBlock, IsPlace}
 use Rattle.xh_place.specs.Refusals.{is_over}
 use Rattle.xh_place.proofs.Swept.{drop_long, take_long}
-use Rattle.xh_place.proofs.Steps.{count_bound, kept, lot_of, quiet_alive, shown_long, shown_same, shows, sum_shown, view_of}
+use Rattle.xh_place.proofs.Steps.{count_bound, kept, lot_of, quiet_alive, shows, view_of}
+use Rattle.xh_place.proofs.Listing.{shown_long, shown_same, sum_shown}
 
 module _ {X : Type 0} where
   among_mid : (t run rest : List (ℕ × X)) (r : ℕ) → Among (keys run) r → Among (keys (t ++ (run ++ rest))) r

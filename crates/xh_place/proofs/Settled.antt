@@ -14,7 +14,8 @@ use Rattle.xh_place.specs.declared.body.Body.{Body}
 use Rattle.xh_place.specs.declared.body.Header.{Header}
 use Rattle.xh_place.specs.Places.{PlaceOf, with_blocks, Item, item_of, item_in, header_of, header_in, shown, sum_of, IsBlock, IsPlace}
 use Rattle.xh_place.specs.Settling.{settle, settled}
-use Rattle.xh_place.proofs.Steps.{shown_same, shown_put, shown_at, shown_none, loses, loses_shown, changes, view_of, shows}
+use Rattle.xh_place.proofs.Steps.{loses, loses_shown, changes, view_of, shows}
+use Rattle.xh_place.proofs.Listing.{shown_same, shown_put, shown_at, shown_none}
 
 abbrev pub items_in : Option (LotOf Body) → Option Item
 items_in None = None

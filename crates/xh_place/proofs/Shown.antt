@@ -14,7 +14,8 @@ use Rattle.xh_place.specs.Bodies.{content_of, fits_in}
 use Rattle.xh_place.specs.Places.{AreBlocks, Fits, Item, IsPlace, IsQuiet, IsWhole, Lists, header_in, header_of, headers, item_in, item_of, shown}
 use Rattle.xh_place.specs.Refusals.{is_over}
 use Rattle.xh_place.proofs.Found.{Found, found}
-use Rattle.xh_place.proofs.Steps.{count_bound, shown_at, shown_keys, shown_long, sum_shown, total_bound, view_of}
+use Rattle.xh_place.proofs.Steps.{count_bound, total_bound, view_of}
+use Rattle.xh_place.proofs.Listing.{shown_at, shown_keys, shown_long, sum_shown}
 
 fits_whole : (b : Body) (n : ℕ) → fits_in b n ≡ true → Fits (content_of b) n
 fits_whole Nothing n e = (search rules, search rules)

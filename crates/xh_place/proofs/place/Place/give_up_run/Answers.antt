@@ -7,7 +7,8 @@ use Rattle.xh_place.specs.declared.body.Header.{Header}
 use Rattle.xh_place.specs.Places.{sum_of, total_of, with_blocks}
 use Rattle.xh_place.specs.Refusals.{is_over}
 use Rattle.xh_place.proofs.Runs.{slice_both, slice_distinct, slice_few, slice_gone, slice_held, slice_shows, slice_sum, slice_total}
-use Rattle.xh_place.proofs.Steps.{shown_long, view_of}
+use Rattle.xh_place.proofs.Steps.{view_of}
+use Rattle.xh_place.proofs.Listing.{shown_long}
 use Rattle.xh_place.proofs.place.Place.give_up_run.Goals as goal
 
 pub run-count-requires : goal.run-count-requires

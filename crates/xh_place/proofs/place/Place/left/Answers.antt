@@ -1,6 +1,7 @@
 use Rattle.std.proofs.Common.{rules, ◌≡◌, ◌≤◌, length, sym, ap, ◌∙◌}
 use Rattle.std.specs.Vec.{vec_capacity}
-use Rattle.xh_place.proofs.Steps.{count_bound, shown_long}
+use Rattle.xh_place.proofs.Steps.{count_bound}
+use Rattle.xh_place.proofs.Listing.{shown_long}
 use Rattle.xh_place.proofs.place.Place.left.Goals as goal
 
 pub overflow_cast-result : goal.overflow_cast-result

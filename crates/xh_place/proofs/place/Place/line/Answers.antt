@@ -1,7 +1,8 @@
 use Rattle.std.proofs.Common.{rules, ◌≡◌, ◌≤◌, ◌%◌, length, sym, ap, ◌∙◌}
 use Rattle.std.specs.Vec.{vec_capacity}
 use Rattle.xh_place.specs.Places.{line}
-use Rattle.xh_place.proofs.Steps.{count_bound, shown_long, sum_shown}
+use Rattle.xh_place.proofs.Steps.{count_bound}
+use Rattle.xh_place.proofs.Listing.{shown_long, sum_shown}
 use Rattle.xh_place.proofs.place.Place.line.Goals as goal
 
 pub overflow_cast-result-2 : goal.overflow_cast-result-2

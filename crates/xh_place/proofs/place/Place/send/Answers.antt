@@ -15,7 +15,8 @@ use Rattle.xh_place.specs.Places.{Item, IsBlock, IsPlace, PlaceOf, header_of, it
 use Rattle.xh_place.specs.Messages.{IsUnsent}
 use Rattle.xh_place.specs.Settling.{settled}
 use Rattle.xh_place.proofs.Coming.{accepts_on, heard, heard_shows}
-use Rattle.xh_place.proofs.Steps.{listed, lot_of, bounded, shown_keys}
+use Rattle.xh_place.proofs.Steps.{listed, lot_of, bounded}
+use Rattle.xh_place.proofs.Listing.{shown_keys}
 use Rattle.xh_place.proofs.Settled.{settled_place}
 use Rattle.xh_place.proofs.place.Place.send.Goals as goal
 

@@ -2,7 +2,7 @@ use Rattle.std.proofs.Common.{sym, ◌∙◌, ap, subst}
 use Rattle.std.specs.Vec.{vec_capacity}
 use Rattle.xh_place.specs.Places.{AreBlocks, total_of}
 use Rattle.xh_place.proofs.Shown.{are_blocks}
-use Rattle.xh_place.proofs.Steps.{sum_shown}
+use Rattle.xh_place.proofs.Listing.{sum_shown}
 use Rattle.xh_place.proofs.place.Place.total.Goals as goal
 
 pub returns-clause-total : goal.returns-clause-total
