@@ -184,6 +184,14 @@ impl Place {
         self.total -= u64::from(len);
     }
 
+    // Whether the process runs here.
+    fn is_here(&self, process: u16) -> bool
+        ensures here { result ≡ is_here self.now process }
+        ensures running { result ≡ true → self.now.state ≡ status.Running }
+    {
+        is_running(self.state()) && self.seat.process() == process
+    }
+
     /// Takes the endpoint `r`, which is in flight on the direction, at the end of the list, for a process that runs here.
     /// Ended where the process doesn't, and then the endpoint is closed as by `close_end`; Ended also where the place is Vacant or the record's word is another, and then nothing changes.
     pub fn accept_end<R: Wait, V: Vaults, G: Gate>(
@@ -211,7 +219,7 @@ impl Place {
         if self.state() == Status::Vacant {
             return Err(Refused::Ended);
         }
-        if is_running(self.state()) && self.seat.process() == process {
+        if self.is_here(process) {
             return match self.accept(records, r, direction) {
                 Ok(block) => Ok(block),
                 Err(_seen) => Err(Refused::Ended),
