@@ -81,6 +81,9 @@ heard_shows es seat xs state p same is =
 
 -- ---- blocks that come
 
+pub more_none : (d : ℕ) (p : PlaceOf) → p ≡ with_more d [] p
+more_none d p = λ i. record p { blocks = sym (append-nil p.blocks) i; came = sym (append-nil p.came) i }
+
 pub more_twice : (d : ℕ) (ys zs : List (ℕ × Item)) (p : PlaceOf) → with_more d zs (with_more d ys p) ≡ with_more d (ys ++ zs) p
 more_twice d ys zs p =
     let one : List Event = accepted_on p.process d (keys ys) in
