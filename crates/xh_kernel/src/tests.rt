@@ -14,9 +14,9 @@ mod waiting;
 mod wiring;
 mod without_memory;
 
-use crate::{Kernel, Names, Parts};
+use crate::{Names, Parts};
 use answers::{Answer, Call, assert_answers};
-use bench::benched;
+use bench::bench_of;
 use std::alloc::Global;
 use std::marker::Brand;
 use std::process::Abort;
@@ -25,13 +25,16 @@ use std::test::Fail;
 use xh_core::{Block, Config, Refused};
 use xh_place::Got;
 
-/// A test over a kernel: calls and what they answer, or one that takes the kernel apart or makes each process.
+/// A test over a kernel: calls and what they answer, or one that takes the kernel apart, makes each process, or stands
+/// whichever growths of memory are refused.
 #[derive(Clone, Copy)]
 enum Case<'a> {
     Answers(&'a [(Call<'a>, Answer)]),
     Settling,
     SettlingWithoutProcesses,
     PlacesByGeneration,
+    Growths,
+    WithoutMemory,
 }
 
 /// A configuration of arenas of so many bytes and records.
@@ -62,18 +65,17 @@ fn over<N: Names, R: Wait + Abort>(
     alloc: Global,
     parts: Parts,
     case: Case,
-) -> Result<(), Fail>
+) -> Result<(), Refused>
     requires { parts ≡ N.parts }
 {
-    let (kernel, accounts, looks) = Kernel::<N>::new(alloc, parts)?;
-    let Some(mut bench) = benched(kernel, accounts, looks) else {
-        panic!(rt; "no worker");
-    };
+    let mut bench = bench_of::<N>(alloc, parts)?;
     match case {
         Case::Answers(calls) => assert_answers(rt, alloc, &mut bench, calls),
         Case::Settling => places::settling(rt, alloc, bench)?,
         Case::SettlingWithoutProcesses => places::settling_without_processes(rt, alloc, bench)?,
         Case::PlacesByGeneration => places::places_by_generation(rt, &mut bench)?,
+        Case::Growths => growths::growths(rt, alloc, bench)?,
+        Case::WithoutMemory => without_memory::without_memory(rt, alloc, bench)?,
     }
     Ok(())
 }
@@ -89,7 +91,7 @@ fn with_kernel<R: Wait + Abort>(
     alloc: Global,
     config: Config,
     case: Case,
-) -> Result<(), Fail> {
+) -> Result<(), Refused> {
     let parts = Parts::new(alloc, config, 1)?;
     over::<Brand, R>(rt, alloc, parts, case)
 }
@@ -101,13 +103,15 @@ fn assert_on<R: Wait + Abort>(
     config: Config,
     calls: &[(Call, Answer)],
 ) -> Result<(), Fail> {
-    with_kernel(rt, alloc, config, Case::Answers(calls))
+    with_kernel(rt, alloc, config, Case::Answers(calls))?;
+    Ok(())
 }
 
 #[test]
 fn settling(rt: HostRuntime) -> Result<(), Fail> {
     let config = arenas_of(8, 256, 8);
-    with_kernel(&rt, rt.alloc(), config, Case::Settling)
+    with_kernel(&rt, rt.alloc(), config, Case::Settling)?;
+    Ok(())
 }
 
 /// Limits on both sides of each.
@@ -130,11 +134,13 @@ fn limits_of_parts(rt: HostRuntime) {
 #[test]
 fn places_by_generation(rt: HostRuntime) -> Result<(), Fail> {
     let config = arenas_of(1, 16, 1);
-    with_kernel(&rt, rt.alloc(), config, Case::PlacesByGeneration)
+    with_kernel(&rt, rt.alloc(), config, Case::PlacesByGeneration)?;
+    Ok(())
 }
 
 #[test]
 fn settling_without_processes(rt: HostRuntime) -> Result<(), Fail> {
     let config = arenas_of(1, 16, 1);
-    with_kernel(&rt, rt.alloc(), config, Case::SettlingWithoutProcesses)
+    with_kernel(&rt, rt.alloc(), config, Case::SettlingWithoutProcesses)?;
+    Ok(())
 }

@@ -217,3 +217,31 @@ pub fn assert_answers<N: Names, R: Wait + Abort>(
         assert_eq!(rt; answered, *expected, "call {at}");
     }
 }
+
+/// What is seen of place 0 and of the worker's account.
+fn seen_of<N: Names, R: Wait>(rt: &R, alloc: Global, bench: &mut Bench<N>) -> [Answer; 4] {
+    [
+        answer_of(rt, alloc, bench, Call::Glance(0)),
+        answer_of(rt, alloc, bench, Call::Read(0, 0, 44)),
+        answer_of(rt, alloc, bench, Call::Moved(0)),
+        answer_of(rt, alloc, bench, Call::Moved(1)),
+    ]
+}
+
+/// What a call answers where a growth was refused.
+pub const LACKING: Answer = Answer::No("OutOfMemory");
+
+/// What the call answers. Where it is refused, all that is seen is as it was.
+pub fn answer_or_same<N: Names, R: Wait + Abort>(
+    rt: &R,
+    alloc: Global,
+    bench: &mut Bench<N>,
+    call: Call,
+) -> Answer {
+    let before = seen_of(rt, alloc, bench);
+    let answered = answer_of(rt, alloc, bench, call);
+    if matches!(&answered, Answer::No(_)) {
+        assert!(rt; seen_of(rt, alloc, bench) == before);
+    }
+    answered
+}

@@ -2,7 +2,7 @@
 ghost use Rattle.std.specs.Prelude.{◌≡◌, All, IfSome};
 ghost use Rattle.xh_glance.specs.Look.{fresh_look};
 
-use crate::{Account, Kernel, Names};
+use crate::{Account, Kernel, Names, Parts};
 use std::alloc::Global;
 use std::sync::Wait;
 use xh_core::{Block, Contract, Refused, Status};
@@ -166,17 +166,15 @@ fn last_look<N: Names>(mut looks: Vec<Look>) -> Option<Look>
     looks.pop()
 }
 
-/// The kernel with its worker's account and look.
-pub fn benched<N: Names>(
-    kernel: Kernel<N>,
-    mut accounts: Vec<Account<N>>,
-    looks: Vec<Look>,
-) -> Option<Bench<N>>
-    requires { All (λ l. l ≡ fresh_look N.parts.glances) looks.items }
+/// A new kernel of the parts, with its last worker's account and look.
+pub fn bench_of<N: Names>(alloc: Global, parts: Parts) -> Result<Bench<N>, Refused>
+    requires { parts ≡ N.parts }
 {
-    let account = accounts.pop()?;
-    let look = last_look::<N>(looks)?;
-    Some(Bench {
+    let (kernel, mut accounts, looks) = Kernel::<N>::new(alloc, parts)?;
+    let (Some(account), Some(look)) = (accounts.pop(), last_look::<N>(looks)) else {
+        return Err(Refused::NoPlace);
+    };
+    Ok(Bench {
         kernel,
         account,
         look,

@@ -1,6 +1,7 @@
 // Messages from one process to another, on two threads.
 ghost use Rattle.std.specs.Prelude.{◌≡◌};
 
+use super::bench::{Bench, bench_of};
 use crate::{Account, Kernel, Names, Parts};
 use std::alloc::Global;
 use std::marker::Brand;
@@ -80,17 +81,19 @@ fn pass_ten<N: Names + Send + Sync, R: Threads + Wait + Sync>(
 ) -> Result<(bool, u64), Refused>
     requires { parts ≡ N.parts }
 {
-    let (kernel, mut accounts, _looks) = Kernel::<N>::new(alloc, parts)?;
-    let Some(mut account) = accounts.pop() else {
-        return Ok((false, 0));
-    };
-    let p = kernel.spawn(rt, &OpenGate)?;
-    let q = kernel.spawn(rt, &OpenGate)?;
-    let (low, high) = kernel.wire(rt, p, q, 0, &mut account, &OpenGate)?;
+    let mut bench = bench_of::<N>(alloc, parts)?;
+    let p = bench.spawn(rt)?;
+    let q = bench.spawn(rt)?;
+    let (e, f) = bench.wire(rt, p, q)?;
+    let Bench {
+        kernel,
+        mut account,
+        look: _,
+    } = bench;
     let (given, came) = thread::join(
         rt,
-        || give_ten(rt, alloc, &kernel, &mut account, p, low.rec).is_ok(),
-        || take_ten(rt, &kernel, q, high.rec),
+        || give_ten(rt, alloc, &kernel, &mut account, p, e).is_ok(),
+        || take_ten(rt, &kernel, q, f),
     );
     Ok((given, came?))
 }

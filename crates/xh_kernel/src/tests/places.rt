@@ -71,7 +71,7 @@ pub fn settling<N: Names, R: Wait + Abort>(
     rt: &R,
     alloc: Global,
     bench: Bench<N>,
-) -> Result<(), Fail> {
+) -> Result<(), Refused> {
     let Bench {
         kernel,
         mut account,
@@ -91,7 +91,7 @@ pub fn settling_without_processes<N: Names, R: Wait + Abort>(
     rt: &R,
     alloc: Global,
     bench: Bench<N>,
-) -> Result<(), Fail> {
+) -> Result<(), Refused> {
     let Bench {
         kernel,
         account,
@@ -131,7 +131,7 @@ fn place_used_again(rt: HostRuntime) -> Result<(), Fail> {
 pub fn places_by_generation<N: Names, R: Wait + Abort>(
     rt: &R,
     bench: &mut Bench<N>,
-) -> Result<(), Fail> {
+) -> Result<(), Refused> {
     for k in 0..4096u16 {
         let p = bench.spawn(rt)?;
         assert_eq!(rt; p, 32 * (k % 128) + k / 128);

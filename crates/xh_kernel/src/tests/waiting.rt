@@ -1,6 +1,7 @@
 // A process that waits for a message, on threads.
 ghost use Rattle.std.specs.Prelude.{◌≡◌};
 
+use super::bench::{Bench, bench_of};
 use crate::{Account, Kernel, Names, Parts};
 use std::alloc::Global;
 use std::hint::spin_loop;
@@ -61,21 +62,14 @@ fn coded(answer: Result<Taken, Refused>) -> u64 {
 fn make_pair<N: Names, R: Wait>(
     rt: &R,
     alloc: Global,
-    kernel: &Kernel<N>,
-    account: &mut Account<N>,
+    bench: &mut Bench<N>,
 ) -> Result<Pair, Refused> {
-    let p = kernel.spawn(rt, &OpenGate)?;
-    let q = kernel.spawn(rt, &OpenGate)?;
-    kernel.alloc(rt, alloc, p, 16, 0, account, &OpenGate)?;
-    let given = kernel.alloc(rt, alloc, q, 16, 0, account, &OpenGate)?;
-    let (low, high) = kernel.wire(rt, p, q, 0, account, &OpenGate)?;
-    Ok(Pair {
-        p,
-        q,
-        e: low.rec,
-        f: high.rec,
-        x: given.rec,
-    })
+    let p = bench.spawn(rt)?;
+    let q = bench.spawn(rt)?;
+    bench.alloc(rt, alloc, p, 16, 0)?;
+    let x = bench.alloc(rt, alloc, q, 16, 0)?.rec;
+    let (e, f) = bench.wire(rt, p, q)?;
+    Ok(Pair { p, q, e, f, x })
 }
 
 fn end_wait<N: Names, R: Wait>(
@@ -118,20 +112,21 @@ fn end_late<N: Names, R: Wait>(
 fn round<N: Names + Send + Sync, R: Threads + Wait + Sync>(
     rt: &R,
     alloc: Global,
-    kernel: &Kernel<N>,
-    account: &mut Account<N>,
+    bench: &mut Bench<N>,
     ender: Ender,
     seed: u64,
 ) -> Result<u64, Refused> {
-    let pair = make_pair(rt, alloc, kernel, account)?;
+    let pair = make_pair(rt, alloc, bench)?;
     let turns = (seed % 211, (seed / 211) % 4001);
+    let kernel = &bench.kernel;
+    let account = &mut bench.account;
     let (answered, ()) = thread::join(
         rt,
         || wait_late(rt, kernel, pair, turns.0),
         || end_late(rt, kernel, account, pair, ender, turns.1),
     );
-    let _ended = kernel.exit(rt, pair.p, 4096, account, &OpenGate);
-    let _ended = kernel.exit(rt, pair.q, 4096, account, &OpenGate);
+    let _ended = bench.exit(rt, pair.p, 4096);
+    let _ended = bench.exit(rt, pair.q, 4096);
     Ok(answered)
 }
 
@@ -145,20 +140,21 @@ fn rounds_over<N: Names + Send + Sync, R: Threads + Wait + Sync>(
 ) -> Result<u64, Refused>
     requires { parts ≡ N.parts }
 {
-    let (kernel, mut accounts, _looks) = Kernel::<N>::new(alloc, parts)?;
-    let Some(mut account) = accounts.pop() else {
-        return Ok(0);
-    };
+    let mut bench = bench_of::<N>(alloc, parts)?;
     let mut seed = 1u64;
     let mut count = 0u64;
     for _ in 0..64 {
         seed = drawn(seed);
-        let answer = round(rt, alloc, &kernel, &mut account, ender, seed >> 20)?;
+        let answer = round(rt, alloc, &mut bench, ender, seed >> 20)?;
         if answer == want {
             count = count.wrapping_add(1);
         }
     }
-    if account.moved(0).is_none_or(|(taken, back)| taken != back) {
+    if bench
+        .account
+        .moved(0)
+        .is_none_or(|(taken, back)| taken != back)
+    {
         return Ok(0);
     }
     Ok(count)

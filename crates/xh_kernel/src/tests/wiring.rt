@@ -80,6 +80,10 @@ fn wire_late<N: Names + Send + Sync, R: Threads + Wait + Sync>(
     wired
 }
 
+fn spawn_two<N: Names, R: Wait>(rt: &R, kernel: &Kernel<N>) -> Result<(u16, u16), Refused> {
+    Ok((kernel.spawn(rt, &OpenGate)?, kernel.spawn(rt, &OpenGate)?))
+}
+
 // Whether such a wire is refused, and what it took and gave back.
 fn wire_over<N: Names + Send + Sync, R: Threads + Wait + Sync>(
     rt: &R,
@@ -92,8 +96,7 @@ fn wire_over<N: Names + Send + Sync, R: Threads + Wait + Sync>(
     let (Some(mut other), Some(mut mine)) = (accounts.pop(), accounts.pop()) else {
         return Ok((false, None));
     };
-    let p = kernel.spawn(rt, &OpenGate)?;
-    let q = kernel.spawn(rt, &OpenGate)?;
+    let (p, q) = spawn_two(rt, &kernel)?;
     let wired = wire_late(rt, &kernel, p, q, &mut mine, &mut other);
     Ok((matches!(wired, Err(Refused::Ended)), mine.moved(0)))
 }
