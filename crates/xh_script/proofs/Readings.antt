@@ -5,7 +5,8 @@ use Rattle.std.proofs.Math.ListN.{length-map}
 use Rattle.std.proofs.lemmas.List.Splits.{length-slice_split}
 use Rattle.std.proofs.lemmas.List.Sums.{count_by-le-length}
 use Rattle.xh_script.specs.declared.limits.TheConstants.{MAX_SCRIPT}
-use Rattle.xh_script.specs.Steps.{◌>>=◌, Stops}
+use Rattle.xh_script.specs.Steps.{◌>>=◌}
+use Rattle.xh_script.specs.inner.Stops.{Stops}
 use Rattle.xh_script.specs.SoFar.{SoFar}
 use Rattle.xh_script.specs.Scripts.{Fails, at_line, after_line, after_lines}
 use Rattle.xh_script.specs.declared.fault.Kind.{Kind}

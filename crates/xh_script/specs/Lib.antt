@@ -13,3 +13,4 @@ pub mod Watching
 pub mod Texts
 pub mod Spelling
 pub mod Sayable
+pub mod inner

@@ -1,7 +1,7 @@
 //! What a line says.
 ghost use Rattle.std.specs.Prelude.{◌≡◌, ◌∷◌, map};
 ghost use Rattle.std.specs.List.{list_all};
-ghost use Rattle.xh_script.specs.Steps.{Answers};
+ghost use Rattle.xh_script.specs.inner.Stops.{Answers};
 ghost use Rattle.xh_script.specs.Grammar.{said, head_line, verb_line, is_filled, line_by, said_by, is_printable, is_skipped, said_at};
 
 use crate::limits::MAX_LINE;

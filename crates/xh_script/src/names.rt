@@ -1,6 +1,6 @@
 //! Names in the order in which they first come.
 ghost use Rattle.std.specs.Prelude.{◌≡◌, ◌≤◌, ◌<◌, ◌++◌, ◌∷◌, [], None, IfOk, IfErr, OnOk, IfSome, length};
-ghost use Rattle.xh_script.specs.Steps.{Answers};
+ghost use Rattle.xh_script.specs.inner.Stops.{Answers};
 ghost use Rattle.xh_script.specs.Names.{number_in, entered};
 ghost use Rattle.xh_script.specs.declared.limits.TheConstants.{MAX_BLOCK_NAMES};
 

@@ -1,7 +1,7 @@
 //! Numbers in place of names.
 ghost use Rattle.std.specs.Prelude.{◌≡◌, ◌<◌, ◌≤◌, IfOk, length};
 ghost use Rattle.std.specs.List.{list_all};
-ghost use Rattle.xh_script.specs.Steps.{Answers};
+ghost use Rattle.xh_script.specs.inner.Stops.{Answers};
 ghost use Rattle.xh_script.specs.Numbering.{word_in, words_in, is_known, numbered, rows_in, declared_by, declared, placed};
 ghost use Rattle.xh_script.specs.declared.limits.TheConstants.{MAX_HEX, MAX_PROCESSES, MAX_WORDS};
 

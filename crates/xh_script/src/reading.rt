@@ -1,6 +1,6 @@
 //! What has been read of a script.
 ghost use Rattle.std.specs.Prelude.{◌≡◌, ◌<◌, IfOk};
-ghost use Rattle.xh_script.specs.Steps.{Answers};
+ghost use Rattle.xh_script.specs.inner.Stops.{Answers};
 ghost use Rattle.xh_script.specs.Numbering.{process_in, block_in};
 ghost use Rattle.xh_script.specs.Scripts.{nothing_read, listing_of, listing_so_far};
 ghost use Rattle.xh_script.specs.declared.limits.TheConstants.{MAX_PROCESSES};

@@ -1,7 +1,7 @@
 //! Rows of contracts.
 ghost use Rattle.std.specs.Prelude.{◌≡◌, map};
 ghost use Rattle.xh_script.specs.Sorts.{row_said, row_of, row_at};
-ghost use Rattle.xh_script.specs.Steps.{Answers};
+ghost use Rattle.xh_script.specs.inner.Stops.{Answers};
 
 use crate::number::{side_at, state_at, tag_at};
 use crate::pieces::pieces;

@@ -2,7 +2,7 @@
 ghost use Rattle.std.specs.Prelude.{◌≡◌, ◌<◌, ◌∷◌, map, length};
 ghost use Rattle.xh_script.specs.Grammar.{words_from};
 ghost use Rattle.xh_script.specs.Sorts.{name_at, bytes_at, word_at};
-ghost use Rattle.xh_script.specs.Steps.{Answers};
+ghost use Rattle.xh_script.specs.inner.Stops.{Answers};
 ghost use Rattle.xh_script.specs.declared.limits.TheConstants.{MAX_WORDS};
 
 use crate::form::{Shape, Sort};
