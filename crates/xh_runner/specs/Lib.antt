@@ -1,10 +1,9 @@
 pub mod Reading
 pub mod Bindings
-pub mod Machines
-pub mod Jobs
+pub mod Receiving
 pub mod Meaning
-pub mod Worlds
 pub mod Output
 pub mod Runs
 pub mod Reports
 pub mod Reported
+pub mod inner

@@ -26,7 +26,7 @@ use Rattle.xh_script.specs.declared.reply.Reply.TheVariants.{Done, Started, Leng
 use Rattle.xh_script.specs.declared.reply.Reply.TheVariants as reply
 use Rattle.xh_script.specs.declared.reply.Answered.{Answered}
 use Rattle.xh_runner.specs.declared.received.Received.{Received}
-use Rattle.xh_runner.specs.Machines.{receives}
+use Rattle.xh_runner.specs.Receiving.{receives}
 use Rattle.xh_runner.specs.Bindings.{Bindings, no_bindings, number_of, has_place, record_of, records_of, started, bound, bound_each, unbound, unbound_each, unbound_but, unbound_all}
 
 -- the machine, what the names of the script stand for, and the script's contracts by number

@@ -6,7 +6,8 @@ ghost use Rattle.xh_core.specs.BlockCommands.{alloc as alloc_command, free as fr
 ghost use Rattle.xh_core.specs.ChannelCommands.{open_channel, wire_channel};
 ghost use Rattle.xh_core.specs.MessageCommands.{give, take};
 ghost use Rattle.xh_core.specs.EndingCommands.{close, exit, kill};
-ghost use Rattle.xh_runner.specs.Machines.{Does, DoesOrLacks, receives};
+ghost use Rattle.xh_runner.specs.Receiving.{receives};
+ghost use Rattle.xh_runner.specs.inner.Machines.{Does, DoesOrLacks};
 
 mod serial;
 pub(crate) mod worker;

@@ -7,7 +7,7 @@ ghost use Rattle.std.specs.Prelude.{slice_index_or, slice_set};
 ghost use Rattle.xh_model.specs.declared.limits.TheConstants.{PLACES};
 ghost use Rattle.xh_script.specs.declared.limits.TheConstants.{MAX_WORDS, MAX_BLOCK_NAMES};
 ghost use Rattle.xh_script.specs.Operands.{name_in};
-ghost use Rattle.xh_runner.specs.Reports.{process_at};
+ghost use Rattle.xh_runner.specs.inner.Jobs.{process_at};
 ghost use Rattle.xh_runner.specs.declared.names.TheConstants.{NOTHING};
 
 use arrayvec::ArrayVec;

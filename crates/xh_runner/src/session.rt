@@ -5,7 +5,7 @@ ghost use Rattle.xh_core.specs.PlaceCommands.{ledger_of};
 ghost use Rattle.xh_model.specs.declared.limits.TheConstants.{PLACES};
 ghost use Rattle.xh_runner.specs.Bindings.{no_bindings, names_by_place};
 ghost use Rattle.xh_runner.specs.Meaning.{step, answers, after};
-ghost use Rattle.xh_runner.specs.Worlds.{world_of, StepsOrLacks};
+ghost use Rattle.xh_runner.specs.inner.Worlds.{world_of, StepsOrLacks};
 
 mod blocks;
 mod channels;

@@ -1,6 +1,6 @@
 //! The serial machine behind a run.
 ghost use Rattle.std.specs.Prelude.{◌≡◌, ◌≤◌, length, map, Some};
-ghost use Rattle.xh_runner.specs.Machines.{received};
+ghost use Rattle.xh_runner.specs.Receiving.{received};
 
 use crate::machine::Machine;
 use crate::received::Received;

@@ -1,7 +1,7 @@
 //! The kernel behind a worker of a run on threads.
 ghost use Rattle.std.specs.Prelude.{◌≡◌, ◌≤◌, length, map};
 ghost use Rattle.xh_model.specs.declared.limits.TheConstants.{MAX_BLOCKS};
-ghost use Rattle.xh_runner.specs.Machines.{gotten, gotten_message};
+ghost use Rattle.xh_runner.specs.inner.Machines.{gotten, gotten_message};
 
 use crate::machine::Machine;
 use crate::received::Received;
@@ -74,7 +74,7 @@ fn received(message: Taken) -> Received
 
 impl<'a, N: Names, R: Wait, G: Gate> Machine for Worker<'a, N, R, G> {
     ghost use Rattle.std.specs.Prelude.{false};
-    ghost use Rattle.xh_runner.specs.Machines.{no_machine};
+    ghost use Rattle.xh_runner.specs.inner.Machines.{no_machine};
 
     ghost alone = { false };
 

@@ -1,6 +1,6 @@
 //! What one worker does.
 ghost use Rattle.std.specs.Prelude.{◌≡◌};
-ghost use Rattle.xh_runner.specs.Jobs.{Answers, is_of};
+ghost use Rattle.xh_runner.specs.inner.Jobs.{Answers, is_of};
 
 use crate::machine::worker::Worker;
 use crate::names::Names as Bindings;

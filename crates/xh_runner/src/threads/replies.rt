@@ -1,6 +1,7 @@
 //! The replies to the lines of a script, by the places of the lines.
 ghost use Rattle.std.specs.Prelude.{◌≡◌, ◌⊎◌, IfErr, IfOk, None, Some, length, map, replicate, slice_set, take};
-ghost use Rattle.xh_runner.specs.Reports.{AreAnswersTo, with_replies};
+ghost use Rattle.xh_runner.specs.Reports.{AreAnswersTo};
+ghost use Rattle.xh_runner.specs.inner.Jobs.{with_replies};
 
 use std::alloc::{AllocError, Global};
 use xh_script::{Answered, Fault, Line, Reply};

@@ -1,6 +1,6 @@
 use Rattle.std.proofs.Common.{◌≡◌}
 use Rattle.std.specs.Vec.Iter.{into_iter_items}
-use Rattle.xh_runner.specs.Reports.{with_replies}
+use Rattle.xh_runner.specs.inner.Jobs.{with_replies}
 use Rattle.xh_runner.proofs.threads.replies.put_each.Given as goal
 
 abbrev pub invariant-loop-one : goal.invariant-loop-one

@@ -1,5 +1,5 @@
 use Rattle.std.proofs.Common.{◌≡◌, ◌++◌, drop}
-use Rattle.xh_runner.specs.Jobs.{lines_of, own_from}
+use Rattle.xh_runner.specs.inner.Jobs.{lines_of, own_from}
 use Rattle.xh_runner.proofs.threads.job.Job.run.Given as goal
 
 abbrev pub invariant-loop-index : goal.invariant-loop-index

@@ -1,5 +1,5 @@
 use Rattle.std.proofs.Common.{refl}
-use Rattle.xh_runner.specs.Jobs.{own_from}
+use Rattle.xh_runner.specs.inner.Jobs.{own_from}
 use Rattle.xh_runner.proofs.threads.job.Job.work.Goals as goal
 use Rattle.xh_runner.proofs.threads.job.Job.work.Goals.{then-started, else-started}
 

@@ -1,7 +1,6 @@
--- What the calls of the machine behind a run promise, and what a run's steps do.
-use Rattle.std.specs.Prelude.{◌≡◌, ◌≢◌, Bool, true, map, Option, Some, None, Result, Ok, Err}
+-- What the calls of the machine behind a run promise, and what a worker of a run on threads gets.
+use Rattle.std.specs.Prelude.{◌≡◌, ◌≢◌, Bool, true, map, Option, Some, None, Result, Err}
 use Rattle.xh_core.specs.declared.block.Block.{Block}
-use Rattle.xh_core.specs.declared.message.Taken.{Taken as Message}
 use Rattle.xh_core.specs.declared.refused.Refused.{Refused}
 use Rattle.xh_core.specs.declared.refused.Refused.TheVariants.{OutOfMemory}
 use Rattle.xh_core.specs.Machine.{Machine}
@@ -20,23 +19,15 @@ Does alone command answer new = alone ≡ true → command ≡ (answer, new)
 abbrev pub DoesOrLacks : {A : Type 0} → Bool → Answer A → Result A Refused → Machine → Type 0
 DoesOrLacks alone command answer new = answer ≢ Err OutOfMemory → Does alone command answer new
 
--- a message whose blocks are all there
-abbrev pub received : Message → Received
-received message = record { number = message.no; tag = message.tag; blocks = record { items = map (λ b. Some b) message.blocks.items } }
-
 -- a block that was got, where it is there
 abbrev pub gotten : Got → Option Block
 gotten (Here block) = Some block
 gotten (Missing rec word) = None
 
--- the same of a message
+-- a message whose blocks were got
 abbrev pub gotten_message : Taken → Received
 gotten_message message = record { number = message.no; tag = message.tag; blocks = record { items = map gotten message.blocks.items } }
 
 -- what a machine that others change holds is told by no clause
 abbrev pub no_machine : Machine
 no_machine = new_machine (record { arenas = 0; bytes = 0; records = 0; depth = 0; wear = 0 })
-
-abbrev pub receives : Answer Message → Answer Received
-receives (Ok message, m) = (Ok (received message), m)
-receives (Err refused, m) = (Err refused, m)

@@ -1,9 +1,15 @@
--- What a worker of a run on threads does.
-use Rattle.std.specs.Prelude.{◌≡◌, ◌==◌, ◌&&◌, ◌++◌, suc, if◌then◌else◌, not, Bool, ℕ, List, [], ◌∷◌, map}
+-- What the workers of a run on threads do, and where their replies go.
+use Rattle.std.specs.Prelude.{◌≡◌, ◌==◌, ◌&&◌, ◌++◌, suc, if◌then◌else◌, not, Bool, ℕ, List, [], ◌∷◌, map, slice_set, slice_get, option_and_then, Option, Some, None}
 use Rattle.xh_script.specs.Forms.{is_head}
 use Rattle.xh_script.specs.Operands.{name}
 use Rattle.xh_script.specs.declared.command.Line.{Line}
+use Rattle.xh_script.specs.declared.reply.Reply.{Reply}
+use Rattle.xh_runner.specs.Bindings.{Bindings, number_of}
 use Rattle.xh_runner.specs.declared.threads.replies.Placed.{Placed}
+
+-- the process that has a place of the first 32 numbers, by its name
+abbrev pub process_at : Bindings → ℕ → Option ℕ
+process_at b place = option_and_then (λ p. if number_of b p == place then Some p else None) (slice_get b.latest place)
 
 -- whether a line is a command of a process
 abbrev pub is_of : Line → ℕ → Bool
@@ -21,3 +27,8 @@ lines_of = map (λ r. r.index)
 -- The process's commands were answered in the order of the lines, without a gap, as far as the run went.
 abbrev pub Answers : ℕ → List Line → List Placed → List Placed → Type 0
 Answers p lines old new = (left : List ℕ) × (lines_of new ++ left ≡ lines_of old ++ own_from p 0 lines)
+
+-- the replies, each put where its line stands
+abbrev pub with_replies : List (Option Reply) → List Placed → List (Option Reply)
+with_replies replies [] = replies
+with_replies replies (p ∷ ps) = with_replies (slice_set replies p.index (Some p.reply)) ps

@@ -1,0 +1,4 @@
+-- What the private steps go by. No exported call's promise needs it to be read.
+pub mod Machines
+pub mod Worlds
+pub mod Jobs
