@@ -5,7 +5,8 @@ use Rattle.clap.specs.declared.error.Error.{Error}
 use Rattle.clap.specs.declared.error.kind.ErrorKind.TheVariants.{OutOfMemory}
 use Rattle.xh_script.specs.declared.watch.Watched.{Watched}
 use Rattle.xheap.specs.Options.{IsMistake, command_line}
-use Rattle.xheap.specs.Status.{Ended, Explained}
+use Rattle.xheap.specs.Status.{Ended}
+use Rattle.xheap.specs.inner.Parts.{Explained}
 
 -- want of memory is neither help nor the version
 memory_is_mistake : IsMistake OutOfMemory

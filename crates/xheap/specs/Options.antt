@@ -4,9 +4,8 @@ use Rattle.std.specs.Prelude.{string_bytes}
 use Rattle.std.specs.Str.Parse.{digits_value, without_leading_plus}
 use Rattle.clap.specs.ValueTests.{is_numeral}
 use Rattle.clap.specs.Simple.{on_top}
-use Rattle.clap.specs.Words.{App, Row, Rule, Text, new_app, new_rule, rule_of, matches_of, one_of, fault_of, IsAmong}
+use Rattle.clap.specs.Words.{App, Row, Rule, Text, new_app, new_rule, matches_of, one_of, fault_of, IsAmong}
 use Rattle.clap.specs.declared.builder.action.ArgAction.TheVariants.{Set, SetTrue}
-use Rattle.clap.specs.declared.builder.arg.Arg.{Arg}
 use Rattle.clap.specs.declared.builder.value_parser.ValueParser.TheVariants.{Unsigned}
 use Rattle.clap.specs.declared.error.kind.ErrorKind.{ErrorKind}
 use Rattle.clap.specs.declared.error.kind.ErrorKind.TheVariants.{DisplayHelp, DisplayVersion}
@@ -51,10 +50,6 @@ wear = valued (codes "wear") 0 MAX_WEAR (codes "9223372036854775807")
 -- the command line of `xheap`
 unfoldable pub command_line : App
 command_line = on_top (λ s. record s { has_version = true; rules = serial ∷ arenas ∷ bytes ∷ records ∷ depth ∷ wear ∷ [] }) (new_app (codes "xheap"))
-
--- an argument of the command line follows a rule
-abbrev pub HasRule : Rule → Arg → Type 0
-HasRule rule arg = (rule_of arg ≡ rule) × (arg.global ≡ false)
 
 -- ---- what words give
 

@@ -1,15 +1,13 @@
 -- How a run of the program ends, and with which status.
-use Rattle.std.specs.Prelude.{◌≡◌, ◌≢◌, ◌⊎◌, ℕ, Bool, true, false, List, Option}
+use Rattle.std.specs.Prelude.{◌≡◌, ◌⊎◌, ℕ, Bool, true, false, List, Option}
 use Rattle.clap.specs.Words.{Text}
-use Rattle.clap.specs.declared.error.kind.ErrorKind.{ErrorKind}
-use Rattle.clap.specs.declared.error.kind.ErrorKind.TheVariants.{OutOfMemory}
 use Rattle.xh_model.specs.declared.config.Config.{Config}
 use Rattle.xh_script.specs.declared.fault.Fault.{Fault}
 use Rattle.xh_script.specs.declared.fault.Fault.TheVariants.{Script, Memory, Read, Write, Gate, BadConfig}
 use Rattle.xh_script.specs.declared.watch.Watched.{Watched}
 use Rattle.xh_runner.specs.Runs.{Meant, Failed}
 use Rattle.xh_runner.specs.Reported.{Reported, Stopped}
-use Rattle.xheap.specs.Options.{IsMistake, AreOptions, AreQuestion, AreWrong, options_of, serially}
+use Rattle.xheap.specs.Options.{AreOptions, AreQuestion, AreWrong, options_of, serially}
 
 -- the status of a fault
 abbrev pub status_of : Fault → ℕ
@@ -19,12 +17,6 @@ status_of Read = 4
 status_of Write = 4
 status_of Gate = 5
 status_of BadConfig = 5
-
--- the command line's answer of a kind was given: help or the version was printed, or nothing, where it is a mistake or memory was refused
-abbrev pub Explained : {W : Type 0} → ErrorKind → Watched W → Watched W → ℕ → Type 0
-Explained kind out out' status = ((status ≡ 0) × ¬ IsMistake kind)
-    ⊎ (((status ≡ 2) × (kind ≢ OutOfMemory) × IsMistake kind × (out' ≡ out))
-    ⊎ ((status ≡ 3) × (out' ≡ out)))
 
 module _ {R W : Type 0} (remaining : R → Option (List ℕ)) (contents : W → Option (List ℕ)) where
   -- a script was run with these limits: 0 where what it means was written, else the status of the fault

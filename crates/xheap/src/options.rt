@@ -2,7 +2,8 @@
 ghost use Rattle.std.specs.Prelude.{◌≡◌, IfOk};
 ghost use Rattle.clap.specs.Words.{FailsBy, app_of, fault_of, found_of, matches_of, rows_of};
 ghost use Rattle.xheap.specs.Options as spec;
-ghost use Rattle.xheap.specs.Options.{HasRule, Serially, command_line, config_in, options_of, serially, texts_of, valued};
+ghost use Rattle.xheap.specs.Options.{Serially, command_line, config_in, options_of, serially, texts_of, valued};
+ghost use Rattle.xheap.specs.inner.Parts.{HasRule};
 
 use clap::builder::ValueParser;
 use clap::{Arg, ArgAction, ArgMatches, Command, Error};

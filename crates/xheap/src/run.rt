@@ -4,7 +4,8 @@ ghost use Rattle.clap.specs.Values.{kind_of};
 ghost use Rattle.xh_runner.specs.Runs.{Meant, Failed};
 ghost use Rattle.xheap.specs.Options.{texts_of};
 ghost use Rattle.xh_runner.specs.Reported.{Reported, Stopped};
-ghost use Rattle.xheap.specs.Status.{Ended, Explained, RanBy};
+ghost use Rattle.xheap.specs.Status.{Ended, RanBy};
+ghost use Rattle.xheap.specs.inner.Parts.{Explained};
 
 use crate::fault::{DONE, WORDS, out_of_memory, report};
 use crate::options::{Options, options_of};
