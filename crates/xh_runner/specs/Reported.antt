@@ -55,4 +55,4 @@ module _ {R W : Type 0} (remaining : R → Option (List ℕ)) (contents : W → 
   Stopped config reader reader' writer writer' Read = (failures reader' ≢ failures reader) × (writer' ≡ writer)
   Stopped config reader reader' writer writer' (Script n kind) = (writer' ≡ writer) × ((text : List ℕ) × ReadsScript remaining reader reader' text × (script_of text ≡ Err (Script n kind)))
   Stopped config reader reader' writer writer' Write = ReportCutOff config reader reader' writer writer'
-  Stopped config reader reader' writer writer' Gate = writer' ≡ writer
+  Stopped config reader reader' writer writer' Gate = ⊥

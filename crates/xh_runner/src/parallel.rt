@@ -6,7 +6,7 @@ ghost use Rattle.xh_runner.specs.Reported.{Reported, Stopped};
 
 use crate::input::read_text;
 use crate::serial::write_output;
-use crate::threads::run_threads;
+use crate::threads::run_gated;
 use std::alloc::Global;
 use std::io::{Read, Write};
 use std::sync::Wait;
@@ -32,6 +32,6 @@ pub fn run_parallel<T: Threads + Wait + Sync, R: Read, W: Write>(
 {
     let text = read_text(alloc, reader)?;
     let script = read_script(alloc, &text)?;
-    let report = run_threads(rt, alloc, &script, config, &OpenGate)?;
+    let report = run_gated(rt, alloc, &script, config, &OpenGate, false)?;
     write_output(writer, &report.answers, &report.ledger, &report.names)
 }

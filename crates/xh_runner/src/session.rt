@@ -61,13 +61,6 @@ impl<'a, M: Machine> Session<'a, M> {
         }
     }
 
-    /// What the names stand for.
-    pub(crate) fn names(&self) -> &Names
-        ensures { result.now ≡ (world_of M.state self.now).names }
-    {
-        &self.names
-    }
-
     /// The names of processes stand for the numbers that they stand for elsewhere.
     pub(crate) fn follow(&mut self, others: &Names)
         ensures { length self.old.names.numbers ≡ length others.now.numbers → self.new ≡ record self.old { names = record self.old.names { numbers = others.now.numbers } } }

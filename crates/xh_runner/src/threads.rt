@@ -1,5 +1,5 @@
 //! A run of a script on threads, over a kernel that is made, used and settled here.
-ghost use Rattle.std.specs.Prelude.{◌≡◌, ◌<◌, ◌⊎◌, All, IfErr, IfOk, Err, length};
+ghost use Rattle.std.specs.Prelude.{◌≡◌, ◌<◌, ◌⊎◌, All, IfErr, IfOk, Err, length, true};
 ghost use Rattle.xh_books.specs.Ledgers.{IsBalanced};
 ghost use Rattle.xh_model.specs.Config.{IsConfig};
 ghost use Rattle.xh_model.specs.declared.limits.TheConstants.{MAX_WORKERS, PLACES};
@@ -52,6 +52,7 @@ fn run_named<N: Names + Send + Sync, R: Threads + Wait + Sync, G: Gate + Sync>(
     parts: Parts,
     script: &Script,
     gate: &G,
+    stops: bool,
 ) -> Result<Report, Fault>
     requires names { parts ≡ N.parts }
     requires workers { parts.workers ≡ MAX_WORKERS }
@@ -60,7 +61,7 @@ fn run_named<N: Names + Send + Sync, R: Threads + Wait + Sync, G: Gate + Sync>(
     ensures sizes { IfOk result (λ r. All (λ a. a.size ≡ parts.size) r.ledger.arenas.items) }
     ensures balanced { IfOk result (λ r. IsBalanced r.ledger) }
     ensures names { IfOk result (λ r. (length r.names.items ≡ PLACES) × All (λ line. line.place < PLACES) r.ledger.places.items) }
-    ensures refused { IfErr result (λ e. (e ≡ Fault.Memory) ⊎ (e ≡ Fault.Gate)) }
+    ensures refused { IfErr result (λ e. (e ≡ Fault.Memory) ⊎ ((e ≡ Fault.Gate) × (stops ≡ true))) }
 {
     let Ok((kernel, accounts, looks)) = Kernel::<N>::new(alloc, parts) else {
         return Err(Fault::Memory);
@@ -69,7 +70,7 @@ fn run_named<N: Names + Send + Sync, R: Threads + Wait + Sync, G: Gate + Sync>(
         answers,
         names,
         accounts,
-    } = run_script(rt, alloc, &kernel, accounts, looks, script, gate)?;
+    } = run_script(rt, alloc, &kernel, accounts, looks, script, gate, stops)?;
     let Ok((vaults, places, records)) = kernel.settle(alloc) else {
         return Err(Fault::Memory);
     };
@@ -83,8 +84,29 @@ fn run_named<N: Names + Send + Sync, R: Threads + Wait + Sync, G: Gate + Sync>(
     })
 }
 
+/// As `run_threads`; `stops` says whether the gate may stop a worker.
+pub(crate) fn run_gated<R: Threads + Wait + Sync, G: Gate + Sync>(
+    rt: &R,
+    alloc: Global,
+    script: &Script,
+    config: Config,
+    gate: &G,
+    stops: bool,
+) -> Result<Report, Fault>
+    ensures answers { IfOk result (λ r. AreAnswersTo script.now.lines.items r.answers.items) }
+    ensures arenas { IfOk result (λ r. HasArenas config r.ledger) }
+    ensures balanced { IfOk result (λ r. IsBalanced r.ledger) }
+    ensures names { IfOk result (λ r. (length r.names.items ≡ PLACES) × All (λ line. line.place < PLACES) r.ledger.places.items) }
+    ensures config { ¬ IsConfig config → result ≡ Err Fault.BadConfig }
+    ensures refused { IfErr result (λ e. ((e ≡ Fault.BadConfig) × ¬ IsConfig config) ⊎ ((e ≡ Fault.Memory) ⊎ ((e ≡ Fault.Gate) × (stops ≡ true)))) }
+{
+    let parts = new_parts(alloc, config)?;
+    run_named::<Brand, R, G>(rt, alloc, parts, script, gate, stops)
+}
+
 /// Runs a script on threads: the head lines in order, and then the commands of each process that has a
-/// place in a thread of its own; once all are joined the kernel is settled, and its books are closed.
+/// place in a thread of its own; once all are joined, the commands of processes without a place are answered,
+/// the kernel is settled, and its books are closed.
 ///
 /// BadConfig where the config is outside its limits; Memory where a growth outside the commands was
 /// refused, or a thread; Gate where the gate stopped a worker. A command that a growth was refused to has
@@ -104,6 +126,5 @@ pub fn run_threads<R: Threads + Wait + Sync, G: Gate + Sync>(
     ensures config { ¬ IsConfig config → result ≡ Err Fault.BadConfig }
     ensures refused { IfErr result (λ e. ((e ≡ Fault.BadConfig) × ¬ IsConfig config) ⊎ ((e ≡ Fault.Memory) ⊎ (e ≡ Fault.Gate))) }
 {
-    let parts = new_parts(alloc, config)?;
-    run_named::<Brand, R, G>(rt, alloc, parts, script, gate)
+    run_gated(rt, alloc, script, config, gate, true)
 }

@@ -31,12 +31,13 @@ pub(super) struct Job<'a, N: Names, R, G> {
     pub(super) replies: Vec<Placed>,
 }
 
-/// What a worker leaves: its account, the replies, and whether they had room.
+/// What a worker leaves: its account, the replies, and whether the gate let it do all of its commands,
+/// where the replies had room.
 #[derive(Drop)]
 pub(super) struct Done<N: Names> {
     pub(super) account: Account<N>,
     pub(super) replies: Vec<Placed>,
-    pub(super) kept: Result<(), AllocError>,
+    pub(super) ended: Result<bool, AllocError>,
 }
 
 /// Whether the line is a command of the process.
@@ -62,8 +63,8 @@ impl<'a, N: Names, R: Wait, G: Gate> Job<'a, N, R, G> {
         reply
     }
 
-    // Does the commands in order, as far as the gate lets them.
-    fn run(&mut self, rt: &R, alloc: Global, shared: &Shared<'a>) -> Result<(), AllocError>
+    // Does the commands in order, as far as the gate lets them; whether it let all.
+    fn run(&mut self, rt: &R, alloc: Global, shared: &Shared<'a>) -> Result<bool, AllocError>
         ensures { Answers self.old.process shared.now.lines.now self.old.replies.items self.new.replies.items }
     {
         let mut command = 0u32;
@@ -71,7 +72,7 @@ impl<'a, N: Names, R: Wait, G: Gate> Job<'a, N, R, G> {
             let line = &shared.lines[index];
             if is_of(line, self.process) {
                 if !self.gate.before(self.place, command) {
-                    return Ok(());
+                    return Ok(false);
                 }
                 let reply = self.step(rt, alloc, shared, line);
                 self.replies.push(Placed { index, reply })?;
@@ -79,7 +80,7 @@ impl<'a, N: Names, R: Wait, G: Gate> Job<'a, N, R, G> {
                 command = command.saturating_add(1);
             }
         }
-        Ok(())
+        Ok(true)
     }
 
     /// Does the commands once all workers were started; none where one could not be.
@@ -87,10 +88,10 @@ impl<'a, N: Names, R: Wait, G: Gate> Job<'a, N, R, G> {
         ensures { Answers self.entry.process shared.now.lines.now self.entry.replies.items result.replies.items }
     {
         let started = *shared.started.lock(rt);
-        let kept = if started {
+        let ended = if started {
             self.run(rt, alloc, shared)
         } else {
-            Ok(())
+            Ok(false)
         };
         let Job {
             session,
@@ -103,7 +104,7 @@ impl<'a, N: Names, R: Wait, G: Gate> Job<'a, N, R, G> {
         Done {
             account: worker.into_account(),
             replies,
-            kept,
+            ended,
         }
     }
 }

@@ -1,10 +1,12 @@
 //! The replies to the lines of a script, by the places of the lines.
-ghost use Rattle.std.specs.Prelude.{◌≡◌, ◌⊎◌, IfErr, IfOk, None, Some, length, map, replicate, slice_set, take};
+ghost use Rattle.std.specs.Prelude.{◌≡◌, IfOk, IfSome, None, Some, replicate, slice_set};
 ghost use Rattle.xh_runner.specs.Reports.{AreAnswersTo};
 ghost use Rattle.xh_runner.specs.inner.Jobs.{with_replies};
 
+use crate::machine::Machine;
+use crate::session::Session;
 use std::alloc::{AllocError, Global};
-use xh_script::{Answered, Fault, Line, Reply};
+use xh_script::{Answered, Line, Reply};
 
 /// The reply to the line at a place of the script.
 #[derive(Drop)]
@@ -43,22 +45,34 @@ pub(super) fn put_each(replies: &mut [Option<Reply>], placed: Vec<Placed>)
     }
 }
 
-/// The replies with the numbers of their lines. A line has none where the gate stopped its worker.
-pub(super) fn answered(
+// The reply that there is, or else that of the session.
+fn reply_of<'a, M: Machine>(
     alloc: Global,
+    session: &mut Session<'a, M>,
+    line: &Line,
+    reply: Option<Option<Reply>>,
+) -> Reply
+    ensures { IfSome reply (λ r. IfSome r (λ kept. result ≡ kept)) }
+{
+    match reply {
+        Some(Some(kept)) => kept,
+        _ => session.step(alloc, &line.command),
+    }
+}
+
+/// The replies with the numbers of their lines. The session does the commands that have none yet.
+pub(super) fn answered<'a, M: Machine>(
+    alloc: Global,
+    session: &mut Session<'a, M>,
     lines: &[Line],
     replies: Vec<Option<Reply>>,
-) -> Result<Vec<Answered>, Fault>
-    ensures lines { IfOk result (λ answers. AreAnswersTo lines.now answers.items) }
-    ensures replies { IfOk result (λ answers. map (λ a. Some a.reply) answers.items ≡ take (length lines.now) replies.items) }
-    ensures refused { IfErr result (λ e. (e ≡ Fault.Memory) ⊎ (e ≡ Fault.Gate)) }
+) -> Result<Vec<Answered>, AllocError>
+    ensures { IfOk result (λ answers. AreAnswersTo lines.now answers.items) }
 {
     let mut answers = Vec::with_capacity(alloc, lines.len())?;
     let mut replies = replies.into_iter();
     for line in lines {
-        let Some(Some(reply)) = replies.next() else {
-            return Err(Fault::Gate);
-        };
+        let reply = reply_of(alloc, session, line, replies.next());
         answers.push(Answered {
             line: line.number,
             reply,

@@ -1,5 +1,5 @@
 //! The run itself: the head, the workers, and what they leave.
-ghost use Rattle.std.specs.Prelude.{◌≡◌, ◌+◌, ◌<◌, ◌⊎◌, All, IfErr, OnOk, IfOk, length, vec_len};
+ghost use Rattle.std.specs.Prelude.{◌≡◌, ◌+◌, ◌<◌, ◌⊎◌, All, IfErr, OnOk, IfOk, length, true, vec_len};
 ghost use Rattle.xh_model.specs.declared.limits.TheConstants.{PLACES};
 ghost use Rattle.xh_runner.specs.Reports.{AreAnswersTo};
 
@@ -39,43 +39,31 @@ fn run_head<'a, N: Names, R: Wait, G: Gate>(
     }
 }
 
-// Answers the commands whose process has no place.
-fn run_unplaced<'a, N: Names, R: Wait, G: Gate>(
-    alloc: Global,
-    head: &mut Session<'a, Worker<'a, N, R, G>>,
-    lines: &[Line],
-    replies: &mut [Option<Reply>],
-) {
-    for index in 0..lines.len() {
-        let command = &lines[index].command;
-        if !command.form.is_head() && !head.names().has_place(command.name(0)) {
-            put(replies, index, head.step(alloc, command));
-        }
-    }
-}
-
-// Takes in what the workers leave.
+// Takes in what the workers leave; whether each did all of its commands.
 fn collect<N: Names>(
     done: Vec<Done<N>>,
     accounts: &mut Vec<Account<N>>,
     replies: &mut [Option<Reply>],
-) -> Result<(), AllocError>
+) -> Result<bool, AllocError>
     ensures { OnOk result (vec_len accounts.new ≡ vec_len accounts.old + vec_len done) }
 {
+    let mut all = true;
     for one in done {
         let Done {
             account,
             replies: placed,
-            kept,
+            ended,
         } = one;
-        kept?;
+        all = ended? && all;
         put_each(replies, placed);
         accounts.push(account)?;
     }
-    Ok(())
+    Ok(all)
 }
 
-/// Runs a script with a worker for each process that has a place.
+/// Runs a script with a worker for each process that has a place. The commands that no worker had, those
+/// of the other processes, are done here once all were joined. `stops` says whether the gate may stop a
+/// worker, and so the run.
 pub(super) fn run_script<'a, N: Names + Send + Sync, R: Threads + Wait + Sync, G: Gate + Sync>(
     rt: &'a R,
     alloc: Global,
@@ -84,35 +72,39 @@ pub(super) fn run_script<'a, N: Names + Send + Sync, R: Threads + Wait + Sync, G
     looks: Vec<Look>,
     script: &'a Script,
     gate: &'a G,
+    stops: bool,
 ) -> Result<Outcome<N>, Fault>
     requires some { 0 < vec_len accounts }
     requires looks { (vec_len looks ≡ vec_len accounts) × All (λ l. l.glances ≡ N.parts.glances) looks.items }
     ensures answers { IfOk result (λ o. AreAnswersTo script.now.lines.items o.answers.items) }
     ensures names { IfOk result (λ o. length o.names.items ≡ PLACES) }
     ensures accounts { IfOk result (λ o. vec_len o.accounts ≡ vec_len accounts) }
-    ensures refused { IfErr result (λ e. (e ≡ Fault.Memory) ⊎ (e ≡ Fault.Gate)) }
+    ensures refused { IfErr result (λ e. (e ≡ Fault.Memory) ⊎ ((e ≡ Fault.Gate) × (stops ≡ true))) }
 {
     let mut workers = hire(rt, alloc, kernel, gate, accounts, looks)?;
     let mut replies = no_replies(alloc, script.lines.len())?;
     let mut head = Session::new(alloc, workers.remove(0), &script.contracts)?;
     run_head(alloc, &mut head, &script.lines, &mut replies);
-    run_unplaced(alloc, &mut head, &script.lines, &mut replies);
     let (first, names) = head.into_parts();
     let (jobs, mut accounts) = deal(alloc, workers, &names, &script.contracts, &script.lines)?;
-    accounts.push(first.into_account())?;
     let shared = Shared {
         lines: &script.lines,
         names: Mutex::new(names),
         started: Mutex::new(false),
     };
     let done = run_jobs(rt, alloc, jobs, &shared)?;
-    collect(done, &mut accounts, &mut replies)?;
+    let all = collect(done, &mut accounts, &mut replies)?;
+    if stops && !all {
+        return Err(Fault::Gate);
+    }
+    let mut rest = Session::with_names(first, shared.names.into_inner(), &script.contracts);
+    let answers = answered(alloc, &mut rest, &script.lines, replies)?;
+    let names = rest.names_by_place(alloc, &script.processes)?;
+    let (first, _) = rest.into_parts();
+    accounts.push(first.into_account())?;
     Ok(Outcome {
-        answers: answered(alloc, &script.lines, replies)?,
-        names: shared
-            .names
-            .into_inner()
-            .by_place(alloc, &script.processes)?,
+        answers,
+        names,
         accounts,
     })
 }

@@ -5,6 +5,6 @@ use Rattle.xh_runner.proofs.threads.job.Job.work.Goals.{then-started, else-start
 
 pub returns : goal.returns
 returns g c = elim c.if-started.branch [
-  | then-started w ↦ rw w.self-is w.run-kept.ensures
+  | then-started w ↦ rw w.self-is w.run-ended.ensures
   | else-started w ↦ (own_from c.args.self.process 0 c.args.shared.now.lines.now, rw w.self-is refl)
 ]

@@ -4,7 +4,7 @@ use Rattle.xh_model.specs.declared.config.Config.{Config}
 use Rattle.xh_script.specs.declared.fault.Fault.{Fault}
 use Rattle.xh_runner.specs.Reports.{HasArenas}
 use Rattle.xh_runner.specs.declared.threads.Report.{Report}
-use Rattle.xh_runner.proofs.threads.run_threads.Goals as goal
+use Rattle.xh_runner.proofs.threads.run_gated.Goals as goal
 
 has_arenas : (result : Result Report Fault) (config : Config) (parts : PartsOf)
     → IfOk result (λ r. length r.ledger.arenas.items ≡ length parts.records.shape.names) → IfOk result (λ r. All (λ a. a.size ≡ parts.size) r.ledger.arenas.items)
