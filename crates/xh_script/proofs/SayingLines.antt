@@ -1,11 +1,11 @@
 -- What can be said is read from the words that spell it.
 use Rattle.std.proofs.Common.{◌≡◌, ◌+◌, ◌||◌, not, ℕ, suc, Bool, true, false, List, [], ◌∷◌, length, map, Ok, codes, refl, ap, ◌∙◌, subst, arith}
 use Rattle.std.specs.Str.{bytes_eq}
-use Rattle.std.proofs.lemmas.Bool.{and_parts, and_from}
+use Rattle.std.proofs.lemmas.Bool.{and_parts}
 use Rattle.std.proofs.lemmas.List.{length-map}
 use Rattle.xh_script.specs.Forms.{shape, sort_at, has_count, is_head, form_text, verb_at}
 use Rattle.xh_script.specs.Grammar.{said, head_line, verb_line, is_filled, line_by, said_by}
-use Rattle.xh_script.specs.Spelling.{word_text, behind_first, spelled}
+use Rattle.xh_script.specs.Spelling.{word_text, spelled}
 use Rattle.xh_script.specs.Sayable.{IsName, IsOf, AreOf, IsSayable}
 use Rattle.xh_script.proofs.SayingWords.{name_back, name_filled, words_back, words_filled}
 use Rattle.xh_script.specs.declared.command.Command.{Command}

@@ -1,5 +1,5 @@
 -- What a line is read as is spelled by its words.
-use Rattle.std.proofs.Common.{◌≡◌, ◌⊎◌, ◌+◌, inl, inr, ℕ, Bool, true, false, List, [], ◌∷◌, length, map, Result, Ok, Err, not, refl, sym, ap, ◌∙◌, subst, if◌then◌else◌}
+use Rattle.std.proofs.Common.{◌≡◌, ◌⊎◌, ◌+◌, inl, inr, ℕ, Bool, true, false, List, [], ◌∷◌, length, map, Ok, not, refl, sym, ap, ◌∙◌, subst, if◌then◌else◌}
 use Rattle.std.specs.Str.{bytes_eq}
 use Rattle.std.specs.List.{list_all}
 use Rattle.std.proofs.lemmas.Slice.Eq.{bytes_eq-Decides}
@@ -9,7 +9,6 @@ use Rattle.xh_script.specs.Forms.{shape, has_count, is_head, form_text, has_text
 use Rattle.xh_script.specs.Grammar.{words_from, said, head_line, verb_line, is_filled, line_by, said_by}
 use Rattle.xh_script.specs.Spelling.{word_text, behind_first, spelled}
 use Rattle.xh_script.proofs.SpellingWords.{bind_ok, same_ok, guarded, name_ok, words_ok}
-use Rattle.xh_script.specs.declared.fault.Kind.{Kind}
 use Rattle.xh_script.specs.declared.fault.Kind.TheVariants.{BadWord, BadCount}
 use Rattle.xh_script.specs.declared.command.Command.{Command}
 use Rattle.xh_script.specs.declared.form.Form.{Form}

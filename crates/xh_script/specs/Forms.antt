@@ -1,5 +1,5 @@
 -- The table of the language: a row for each form of line.
-use Rattle.std.specs.Prelude.{◌≡◌, ℕ, ◌+◌, ◌&&◌, Bool, true, false, List, [], ◌∷◌, length, nat_le, slice_index_or, if◌then◌else◌, Result, Ok, Err, codes}
+use Rattle.std.specs.Prelude.{ℕ, ◌+◌, ◌&&◌, Bool, true, false, List, [], ◌∷◌, length, nat_le, slice_index_or, if◌then◌else◌, Result, Ok, Err, codes}
 use Rattle.std.specs.Str.{bytes_eq}
 use Rattle.xh_model.specs.declared.limits.TheConstants.{MAX_BLOCKS, MAX_BUDGET, MAX_ROWS}
 use Rattle.xh_script.specs.declared.limits.TheConstants.{MAX_GIVEN, MAX_LEN, MAX_TAG}

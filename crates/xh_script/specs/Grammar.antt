@@ -1,10 +1,9 @@
 -- What a line says.
 use Rattle.std.specs.Prelude.{ℕ, ◌+◌, ◌&&◌, ◌==◌, Bool, true, List, [], ◌∷◌, length, nat_le, nat_lt, if◌then◌else◌, Option, Some, None, Result, Ok, Err}
 use Rattle.std.specs.List.{list_all, slice_split}
-use Rattle.std.specs.Str.{bytes_eq}
 use Rattle.xh_script.specs.declared.limits.TheConstants.{MAX_LINE}
 use Rattle.xh_script.specs.Steps.{◌>>=◌}
-use Rattle.xh_script.specs.Forms.{Row, shape, sort_at, has_count, form_text, has_text, verb_at}
+use Rattle.xh_script.specs.Forms.{Row, shape, sort_at, has_count, has_text, verb_at}
 use Rattle.xh_script.specs.Sorts.{name_at, word_at}
 use Rattle.xh_script.specs.declared.fault.Kind.{Kind}
 use Rattle.xh_script.specs.declared.fault.Kind.TheVariants.{LongLine, BadByte, BadWord, BadCount}
