@@ -11,6 +11,7 @@ mod checks;
 mod ending;
 mod messages;
 mod places;
+mod readers;
 mod sweep;
 
 use crate::contract::Contract;
