@@ -1,0 +1,161 @@
+//! What the commands of a script did to the heap.
+ghost use Rattle.std.specs.Prelude.{◌≡◌, ◌++◌, ◌∷◌, [], IfOk, OnOk};
+
+use std::alloc::{AllocError, Global};
+use std::marker::Model;
+use xh_core::{Holder, Serial};
+use xh_model::limits::{MAX_RECORDS, PLACES};
+use xh_script::{Answered, Form, Line, Reply};
+
+/// Who holds a block: a process, by the number of its name and its own number, or a direction.
+#[derive(Clone, Copy, Debug, PartialEq, Eq)]
+pub(crate) enum Keeper {
+    Process { name: u8, number: u16 },
+    Direction(u8),
+}
+
+/// A block while it neither moved nor changed hands: its record, where its bytes begin and how many
+/// they are, its holder, whether it is an endpoint, and the first and the last of its rows.
+#[derive(Clone, Copy, Debug, PartialEq, Eq)]
+pub(crate) struct Bar {
+    pub(crate) record: u16,
+    pub(crate) start: u32,
+    pub(crate) length: u32,
+    pub(crate) keeper: Keeper,
+    pub(crate) is_end: bool,
+    pub(crate) first: usize,
+    pub(crate) last: usize,
+}
+
+/// The replies to the commands so far, a row for each, and the bars.
+#[derive(Drop)]
+pub struct History {
+    arenas: u8,
+    pub(crate) answers: Vec<Answered>,
+    /// By record, its bar in the last row.
+    current: Vec<Option<Bar>>,
+    /// The bars that ended before the last row.
+    past: Vec<Bar>,
+    /// By channel, the row of the command that opened it.
+    pub(crate) channels: Vec<usize>,
+}
+
+impl Model for History {
+    ghost use Rattle.std.specs.Prelude.{List};
+    ghost use Rattle.xh_script.specs.declared.reply.Answered.{Answered};
+
+    ghost Value = { List Answered };
+
+    ghost view = { λ h. h.answers.items };
+}
+
+fn keeper_of(holder: Holder, latest: &[u8]) -> Keeper {
+    match holder {
+        Holder::Process(number) => {
+            let place = usize::from(number % u16::from(PLACES));
+            let name = latest.get(place).copied().unwrap_or(0);
+            Keeper::Process { name, number }
+        }
+        Holder::Direction(direction) => Keeper::Direction(direction),
+    }
+}
+
+/// The bar of a record that begins in a row, if the record has bytes.
+fn bar_of(machine: &Serial, latest: &[u8], record: u16, row: usize) -> Option<Bar> {
+    let holder = machine.holder(record)?;
+    let (start, length) = machine.extent(record)?;
+    Some(Bar {
+        record,
+        start,
+        length,
+        keeper: keeper_of(holder, latest),
+        is_end: machine.end(record).is_some(),
+        first: row,
+        last: row,
+    })
+}
+
+/// Whether a bar goes on in a later one.
+fn goes_on(old: &Bar, new: &Bar) -> bool {
+    let later = Bar {
+        first: new.first,
+        last: new.last,
+        ..*old
+    };
+    later == *new
+}
+
+/// Whether a command opened a channel.
+fn opens(form: Form, reply: &Reply) -> bool {
+    matches!(form, Form::Wire | Form::Open) && matches!(reply, Reply::Done)
+}
+
+impl History {
+    /// No command was done yet on so many arenas.
+    pub fn new(alloc: Global, arenas: u8) -> Result<History, AllocError>
+        ensures { IfOk result (λ history. history ≡ []) }
+    {
+        let records = usize::from(arenas) * usize::from(MAX_RECORDS);
+        Ok(History {
+            arenas,
+            answers: Vec::new(alloc),
+            current: vec![in alloc; None; records]?,
+            past: Vec::new(alloc),
+            channels: Vec::new(alloc),
+        })
+    }
+
+    /// Adds the row of a command: the machine as it left it, by place the number of the name of the
+    /// latest process, and the reply.
+    pub fn note(
+        &mut self,
+        machine: &Serial,
+        latest: &[u8],
+        line: &Line,
+        answered: Answered,
+    ) -> Result<(), AllocError>
+        ensures { OnOk result (self.new ≡ self.old ++ answered ∷ []) }
+    {
+        let row = self.answers.len();
+        if opens(line.command.form, &answered.reply) {
+            self.channels.push(row)?;
+        }
+        self.answers.push(answered)?;
+        for record in 0..u16::from(self.arenas) * MAX_RECORDS {
+            self.follow(usize::from(record), bar_of(machine, latest, record, row))?;
+        }
+        Ok(())
+    }
+
+    /// A record has this bar in the last row.
+    fn follow(&mut self, index: usize, new: Option<Bar>) -> Result<(), AllocError>
+        ensures { self.new ≡ self.old }
+    {
+        if index >= self.current.len() {
+            return Ok(());
+        }
+        self.current[index] = match (self.current[index], new) {
+            (Some(old), Some(new)) if goes_on(&old, &new) => Some(Bar {
+                first: old.first,
+                ..new
+            }),
+            (Some(old), _) => {
+                self.past.push(old)?;
+                new
+            }
+            (None, _) => new,
+        };
+        Ok(())
+    }
+
+    /// All bars.
+    pub(crate) fn bars(&self, alloc: Global) -> Result<Vec<Bar>, AllocError> {
+        let mut bars = Vec::from_slice(alloc, &self.past)?;
+        for bar in &self.current {
+            if let Some(bar) = bar {
+                bars.push(*bar)?;
+            }
+        }
+        Ok(bars)
+    }
+}
