@@ -2,6 +2,7 @@ pub mod Reading
 pub mod Bindings
 pub mod Receiving
 pub mod Meaning
+pub mod Worlds
 pub mod Output
 pub mod Runs
 pub mod Reports

@@ -1,4 +1,4 @@
 -- What the private steps go by. No exported call's promise needs it to be read.
 pub mod Machines
-pub mod Worlds
+pub mod Steps
 pub mod Jobs

@@ -33,7 +33,7 @@ fn read_some<R: Read>(
 }
 
 /// Reads to the end, or to one byte past the most that a script may have.
-pub(crate) fn read_text<R: Read>(alloc: Global, reader: &mut Watched<R>) -> Result<Vec<u8>, Fault>
+pub fn read_text<R: Read>(alloc: Global, reader: &mut Watched<R>) -> Result<Vec<u8>, Fault>
     ensures ok { IfOk result (λ text. ReadsScript R.remaining reader.old reader.new text.items × (length text.items ≤ MAX_SCRIPT + 1)) }
     ensures err { IfErr result (λ e. (e ≡ Fault.Memory) ⊎ ((e ≡ Fault.Read) × (failures reader.new ≢ failures reader.old))) }
     ensures limit { ReadsAtMost R.remaining (MAX_SCRIPT + 1) reader.old reader.new }

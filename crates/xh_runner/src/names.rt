@@ -233,6 +233,13 @@ impl Names {
         }
     }
 
+    /// By place, the name of its latest process.
+    pub(crate) fn latest(&self) -> &[u8]
+        ensures { result.now ≡ self.now.latest }
+    {
+        &self.latest
+    }
+
     /// What the names stand for, once more.
     pub(crate) fn copy(&self, alloc: Global) -> Result<Names, AllocError>
         ensures { IfOk result (λ names. names ≡ self.now) }

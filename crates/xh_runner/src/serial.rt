@@ -16,7 +16,7 @@ use std::io::{Read, Write};
 use xh_core::{Config, Ledger, Refused, Serial};
 use xh_script::{Answered, Fault, Name, Watched, read_script, write_answers, write_ledger};
 
-fn new_machine(alloc: Global, config: Config) -> Result<Serial, Fault>
+pub(crate) fn new_machine(alloc: Global, config: Config) -> Result<Serial, Fault>
     ensures fresh { IfOk result (λ machine. machine ≡ new_machine config) }
     ensures config { ¬ IsConfig config → result ≡ Err Fault.BadConfig }
     ensures refused { IfErr result (λ e. ((e ≡ Fault.BadConfig) × ¬ IsConfig config) ⊎ (e ≡ Fault.Memory)) }

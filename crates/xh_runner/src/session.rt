@@ -5,7 +5,8 @@ ghost use Rattle.xh_core.specs.PlaceCommands.{ledger_of};
 ghost use Rattle.xh_model.specs.declared.limits.TheConstants.{PLACES};
 ghost use Rattle.xh_runner.specs.Bindings.{no_bindings, names_by_place};
 ghost use Rattle.xh_runner.specs.Meaning.{step, answers, after};
-ghost use Rattle.xh_runner.specs.inner.Worlds.{world_of, StepsOrLacks};
+ghost use Rattle.xh_runner.specs.inner.Steps.{StepsOrLacks};
+ghost use Rattle.xh_runner.specs.Worlds.{world_of};
 
 mod blocks;
 mod channels;
@@ -28,7 +29,7 @@ pub(crate) struct Session<'a, M> {
 }
 
 /// Whether memory was refused.
-fn lacks_memory(reply: &Reply) -> bool
+pub(crate) fn lacks_memory(reply: &Reply) -> bool
     ensures { result ≡ false → reply.now ≢ Reply.No Refused.OutOfMemory }
 {
     matches!(reply, Reply::No(Refused::OutOfMemory))
@@ -59,6 +60,13 @@ impl<'a, M: Machine> Session<'a, M> {
             names,
             contracts,
         }
+    }
+
+    /// What the names stand for.
+    pub(crate) fn names(&self) -> &Names
+        ensures { result.now ≡ (world_of M.state self.now).names }
+    {
+        &self.names
     }
 
     /// The names of processes stand for the numbers that they stand for elsewhere.
@@ -148,6 +156,12 @@ impl<'a> Session<'a, Serial> {
             })?;
         }
         Ok(replies)
+    }
+
+    pub(crate) fn machine(&self) -> &Serial
+        ensures { result.now ≡ (world_of (λ m. m) self.now).machine }
+    {
+        &self.machine
     }
 
     /// What the machine holds.

@@ -32,6 +32,7 @@ pub use form::{Form, Sort};
 pub use laws::{commands_are_spelled, numbers_tell_names, spelled_commands_are_read};
 pub use ledgers::write_ledger;
 pub use name::Name;
+pub use put::put as write_bytes;
 pub use read::read_script;
 pub use replies::{write_answers, write_reply};
 pub use reply::{Answered, Reply};

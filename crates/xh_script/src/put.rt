@@ -6,8 +6,9 @@ ghost use Rattle.xh_script.specs.Watching.{WritesOrFails};
 use crate::{Fault, Watched};
 use std::io::Write;
 
-/// Writes bytes, by as many calls as it takes.
-pub(crate) fn put<W: Write>(writer: &mut Watched<W>, bytes: &[u8]) -> Result<(), Fault>
+/// Writes bytes, by as many calls as it takes. Where the writer fails, or takes no byte, a front of them
+/// was written, and the fault is `Write`.
+pub fn put<W: Write>(writer: &mut Watched<W>, bytes: &[u8]) -> Result<(), Fault>
     ensures { WritesOrFails W.contents writer.old writer.new result bytes.now }
 {
     let mut rest = bytes;

@@ -2,7 +2,8 @@
 ghost use Rattle.std.specs.Prelude.{◌≡◌, ◌≤◌, length};
 ghost use Rattle.xh_script.specs.declared.limits.TheConstants.{MAX_HEX};
 ghost use Rattle.xh_runner.specs.Meaning.{alloc_step, split_step, read_step, write_step, free_step};
-ghost use Rattle.xh_runner.specs.inner.Worlds.{world_of, Steps, StepsOrLacks};
+ghost use Rattle.xh_runner.specs.inner.Steps.{Steps, StepsOrLacks};
+ghost use Rattle.xh_runner.specs.Worlds.{world_of};
 
 use crate::machine::Machine;
 use crate::session::Session;

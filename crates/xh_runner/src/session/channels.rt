@@ -2,7 +2,8 @@
 ghost use Rattle.std.specs.Prelude.{◌≡◌};
 ghost use Rattle.std.specs.Option.{option_map};
 ghost use Rattle.xh_runner.specs.Meaning.{open_step, wire_step, contract_at};
-ghost use Rattle.xh_runner.specs.inner.Worlds.{world_of, Steps};
+ghost use Rattle.xh_runner.specs.inner.Steps.{Steps};
+ghost use Rattle.xh_runner.specs.Worlds.{world_of};
 
 use crate::machine::Machine;
 use crate::session::Session;

@@ -3,7 +3,8 @@ ghost use Rattle.std.specs.Prelude.{◌≡◌, ◌≤◌, length, map, option_ma
 ghost use Rattle.xh_model.specs.declared.limits.TheConstants.{MAX_BLOCKS};
 ghost use Rattle.xh_script.specs.declared.limits.TheConstants.{MAX_WORDS};
 ghost use Rattle.xh_runner.specs.Meaning.{give_step, take_step, handed_back};
-ghost use Rattle.xh_runner.specs.inner.Worlds.{world_of, Steps};
+ghost use Rattle.xh_runner.specs.inner.Steps.{Steps};
+ghost use Rattle.xh_runner.specs.Worlds.{world_of};
 
 use crate::machine::Machine;
 use crate::names::Names;

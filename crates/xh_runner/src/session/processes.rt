@@ -2,7 +2,8 @@
 ghost use Rattle.std.specs.Prelude.{◌≡◌, true};
 ghost use Rattle.xh_runner.specs.Bindings.{has_place};
 ghost use Rattle.xh_runner.specs.Meaning.{process_step, again_step, glance_step, close_step, exit_step, kill_step, look, is_alive};
-ghost use Rattle.xh_runner.specs.inner.Worlds.{world_of, Steps};
+ghost use Rattle.xh_runner.specs.inner.Steps.{Steps};
+ghost use Rattle.xh_runner.specs.Worlds.{world_of};
 
 use crate::machine::Machine;
 use crate::session::Session;

@@ -1,7 +1,7 @@
 use Rattle.std.proofs.Common.{◌≡◌, Ok, sym, ap, subst, ◌∙◌}
 use Rattle.xh_script.specs.Watching.{Writes, WritesFront}
 use Rattle.xh_script.specs.Scripts.{script_of, listing_of}
-use Rattle.xh_runner.specs.inner.Worlds.{world_of}
+use Rattle.xh_runner.specs.Worlds.{world_of}
 use Rattle.xh_runner.specs.Runs.{Failed}
 use Rattle.xh_runner.proofs.Ends.{written, cut_off, script_short}
 use Rattle.xh_runner.proofs.Worlds.{meant}

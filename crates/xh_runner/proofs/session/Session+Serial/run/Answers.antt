@@ -1,5 +1,5 @@
 use Rattle.std.proofs.Common.{◌++◌, sym, ap, ◌∙◌, append_assoc, refl}
-use Rattle.xh_runner.specs.inner.Worlds.{world_of}
+use Rattle.xh_runner.specs.Worlds.{world_of}
 use Rattle.xh_runner.proofs.Worlds.{answers_at, after_at}
 use Rattle.xh_runner.proofs.session.Session+Serial.run.Goals as goal
 

@@ -1,6 +1,6 @@
 use Rattle.std.proofs.Common.{◌≡◌, ◌++◌, drop}
 use Rattle.xh_runner.specs.Meaning.{answers, after}
-use Rattle.xh_runner.specs.inner.Worlds.{world_of}
+use Rattle.xh_runner.specs.Worlds.{world_of}
 use Rattle.xh_runner.proofs.session.Session+Serial.run.Given as goal
 
 abbrev pub invariant-loop-line : goal.invariant-loop-line

@@ -1,14 +1,9 @@
--- The world of a session, and what a step of it does.
+-- What a step of a session does.
 use Rattle.std.specs.Prelude.{◌≡◌, ◌≢◌, Bool, true}
-use Rattle.xh_core.specs.Machine.{Machine}
 use Rattle.xh_core.specs.declared.refused.Refused.TheVariants.{OutOfMemory}
 use Rattle.xh_script.specs.declared.reply.Reply.{Reply}
 use Rattle.xh_script.specs.declared.reply.Reply.TheVariants.{No}
-use Rattle.xh_runner.specs.declared.session.Session.{Session}
 use Rattle.xh_runner.specs.Meaning.{World}
-
-abbrev pub world_of : {M : Type 0} → (M → Machine) → Session M → World
-world_of state s = record { machine = state s.machine; names = s.names; contracts = s.contracts.now }
 
 -- where nobody else changes the machine, a command has this reply, and leaves this world
 abbrev pub Steps : Bool → Reply × World → Reply → World → Type 0
