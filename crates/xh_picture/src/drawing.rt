@@ -33,7 +33,7 @@ fn look(alloc: Global, document: Document, keeper: Keeper) -> Result<Document, A
             .give(Key::Fill, &colour(alloc, usize::from(name))?)?
             .give(Key::Stroke, b"#333333"),
         Keeper::Direction(direction) => {
-            let colour = colour(alloc, usize::from(direction) + 100)?;
+            let colour = colour(alloc, usize::from(direction) + 3)?;
             document
                 .give(Key::Fill, &colour)?
                 .give(Key::FillOpacity, b"0.35")?
@@ -153,15 +153,16 @@ fn draw_strips(
             &[
                 b"arena ",
                 number.as_bytes(),
-                b": ",
+                b": the first ",
                 shown.as_bytes(),
                 b" of ",
                 size.as_bytes(),
+                b" bytes",
             ],
         )?;
         let area = layout.strip(u16::from(arena));
         document = rect(document, area, b"#ffffff")?;
-        document = words(document, area.x, base, &said, LETTERS)?;
+        document = words(document, area.x, base, &said, (area.width / LETTER) as usize)?;
     }
     Ok(document)
 }

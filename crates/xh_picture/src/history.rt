@@ -8,7 +8,7 @@ use xh_model::limits::{MAX_RECORDS, PLACES};
 use xh_script::{Answered, Form, Line, Reply};
 
 /// Who holds a block: a process, by the number of its name and its own number, or a direction.
-#[derive(Clone, Copy, Debug, PartialEq, Eq)]
+#[derive(Clone, Copy, PartialEq, Eq)]
 pub(crate) enum Keeper {
     Process { name: u8, number: u16 },
     Direction(u8),
@@ -16,7 +16,7 @@ pub(crate) enum Keeper {
 
 /// A block while it neither moved nor changed hands: its record, where its bytes begin and how many
 /// they are, its holder, whether it is an endpoint, and the first and the last of its rows.
-#[derive(Clone, Copy, Debug, PartialEq, Eq)]
+#[derive(Clone, Copy, PartialEq, Eq)]
 pub(crate) struct Bar {
     pub(crate) record: u16,
     pub(crate) start: u32,

@@ -30,7 +30,7 @@ const SPACE: u64 = 10;
 const ENTRIES: usize = 5;
 
 /// Where the rows begin, how many there are, how many arenas, and how many bytes of each are shown.
-#[derive(Clone, Copy, Debug)]
+#[derive(Clone, Copy)]
 pub(crate) struct Layout {
     top: u64,
     rows: u64,

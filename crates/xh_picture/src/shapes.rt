@@ -7,7 +7,7 @@ use std::alloc::AllocError;
 pub(crate) const INK: &[u8] = b"#222222";
 
 /// A rectangle.
-#[derive(Clone, Copy, Debug)]
+#[derive(Clone, Copy)]
 pub(crate) struct Area {
     pub(crate) x: u64,
     pub(crate) y: u64,

@@ -3,7 +3,7 @@ ghost use Rattle.std.specs.Prelude.{◌≡◌};
 ghost use Rattle.xh_picture.specs.Documents.{key_name, tag_name};
 
 /// An element, by its name.
-#[derive(Clone, Copy, Debug, PartialEq, Eq)]
+#[derive(Clone, Copy)]
 pub(crate) enum Tag {
     Svg,
     Title,
@@ -13,7 +13,7 @@ pub(crate) enum Tag {
 }
 
 /// An attribute, by its name.
-#[derive(Clone, Copy, Debug, PartialEq, Eq)]
+#[derive(Clone, Copy)]
 pub(crate) enum Key {
     Xmlns,
     X,
