@@ -1,0 +1,61 @@
+//! A script from its bytes to its picture.
+ghost use Rattle.std.specs.Prelude.{◌≡◌, ◌⊎◌, IfErr, IfOk, OnOk};
+ghost use Rattle.xh_model.specs.Config.{IsConfig};
+ghost use Rattle.xh_picture.specs.Documents.{IsPicture};
+ghost use Rattle.xh_script.specs.Watching.{WritesOrFails};
+ghost use Rattle.xheap_picture.specs.Drawn.{Drawn, Undrawn};
+
+use std::alloc::Global;
+use std::io::{Read, Write};
+use xh_core::Config;
+use xh_picture::{History, draw};
+use xh_runner::{Stage, read_text};
+use xh_script::{Fault, Script, Watched, read_script, write_bytes};
+
+/// Does the commands of a script on the serial machine, and notes what each did.
+fn play(alloc: Global, config: Config, script: &Script) -> Result<History, Fault>
+    ensures { IfErr result (λ e. ((e ≡ Fault.BadConfig) × ¬ IsConfig config) ⊎ (e ≡ Fault.Memory)) }
+{
+    let arenas = config.arenas;
+    let mut stage = Stage::new(alloc, config, &script.contracts)?;
+    let mut history = History::new(alloc, arenas)?;
+    for line in &script.lines {
+        let answered = stage.step(alloc, line)?;
+        history.note(stage.machine(), stage.latest(), line, answered)?;
+    }
+    Ok(history)
+}
+
+/// The picture of a script, of which this is the text.
+fn picture_of(alloc: Global, config: Config, text: &[u8], script: &Script) -> Result<Vec<u8>, Fault>
+    ensures picture { IfOk result (λ picture. IsPicture picture.items) }
+    ensures fault { IfErr result (λ e. ((e ≡ Fault.BadConfig) × ¬ IsConfig config) ⊎ (e ≡ Fault.Memory)) }
+{
+    let history = play(alloc, config, script)?;
+    let picture = draw(alloc, &config, text, &script.processes, &history)?;
+    Ok(picture)
+}
+
+/// Writes all of a picture, and sends it on its way.
+fn put<W: Write>(writer: &mut Watched<W>, picture: &[u8]) -> Result<(), Fault>
+    ensures { WritesOrFails W.contents writer.old writer.new result picture.now }
+{
+    write_bytes(writer, picture)?;
+    writer.flush()
+}
+
+/// Reads the script that a reader gives to its end, and writes its picture.
+pub(crate) fn run_picture<R: Read, W: Write>(
+    alloc: Global,
+    config: Config,
+    reader: &mut Watched<R>,
+    writer: &mut Watched<W>,
+) -> Result<(), Fault>
+    ensures ok { OnOk result (Drawn R.remaining W.contents reader.old reader.new writer.old writer.new) }
+    ensures err { IfErr result (Undrawn R.remaining W.contents config reader.old reader.new writer.old writer.new) }
+{
+    let text = read_text(alloc, reader)?;
+    let script = read_script(alloc, &text)?;
+    let picture = picture_of(alloc, config, &text, &script)?;
+    put(writer, &picture)
+}
