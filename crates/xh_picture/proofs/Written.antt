@@ -1,9 +1,9 @@
 -- What each piece adds to what was written of a document.
-use Rattle.std.proofs.Common.{◌≡◌, ◌≢◌, ◌==◌, ◌++◌, ◌∷◌, [], All, Bool, true, false, ℕ, List, codes, length, refl, sym, subst}
+use Rattle.std.proofs.Common.{◌≡◌, ◌≢◌, ◌==◌, ◌++◌, ◌∷◌, [], All, Bool, true, false, ℕ, List, codes, length, subst}
 use Rattle.std.proofs.Math.Logic.{∥∥₁_map}
 use Rattle.xh_picture.specs.declared.tags.Key.{Key}
 use Rattle.xh_picture.specs.declared.tags.Tag.{Tag}
-use Rattle.xh_picture.specs.Documents.{IsDraft, IsWritten, Begun, Given, Inside, Opened, Said, Closed, all_escaped, key_name, tag_name}
+use Rattle.xh_picture.specs.Documents.{IsDraft, Begun, Given, Inside, Opened, Said, Closed, all_escaped, key_name, tag_name}
 
 some_open : (open_tags : List Tag) → (length open_tags == 0) ≡ false → open_tags ≢ []
 some_open [] e = absurd (cc)

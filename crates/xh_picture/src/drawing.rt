@@ -162,7 +162,13 @@ fn draw_strips(
         )?;
         let area = layout.strip(u16::from(arena));
         document = rect(document, area, b"#ffffff")?;
-        document = words(document, area.x, base, &said, (area.width / LETTER) as usize)?;
+        document = words(
+            document,
+            area.x,
+            base,
+            &said,
+            (area.width / LETTER) as usize,
+        )?;
     }
     Ok(document)
 }
