@@ -1,4 +1,4 @@
-use Rattle.std.proofs.Common.{◌≡◌, ◌∙◌, List, ap, arith, length, refl, sym, subst, rules}
+use Rattle.std.proofs.Common.{◌∙◌, ap, arith, length, refl, sym, subst, rules}
 use Rattle.xh_records.specs.Seats.{Held}
 use Rattle.xh_records.specs.Showing.{IsLotOf}
 use Rattle.xh_bench.specs.declared.blank.Blank.{Blank}

@@ -1,4 +1,4 @@
-use Rattle.std.proofs.Common.{◌≡◌, ◌∙◌, length, true, ap, refl, sym, arith, rules}
+use Rattle.std.proofs.Common.{◌∙◌, length, true, ap, refl, sym, arith, rules}
 use Rattle.std.proofs.lemmas.Option.{slice_get_read}
 use Rattle.xh_records.proofs.OneVault.{of_one_vault}
 use Rattle.xh_bench.proofs.records.fresh.Goals as goal
