@@ -214,6 +214,3 @@ impl Arena {
         self.size
     }
 }
-
-#[cfg(test)]
-mod tests;

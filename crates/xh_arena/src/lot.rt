@@ -89,6 +89,3 @@ pub(crate) fn lots<B: Default + Drop>(
     }
     Ok(all)
 }
-
-#[cfg(test)]
-mod tests;

@@ -238,6 +238,3 @@ impl Vault {
         self.arena.size()
     }
 }
-
-#[cfg(test)]
-mod tests;

@@ -122,6 +122,3 @@ impl Contract {
         Contract { rows }
     }
 }
-
-#[cfg(test)]
-mod tests;

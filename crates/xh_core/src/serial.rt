@@ -132,6 +132,3 @@ impl Serial {
         })
     }
 }
-
-#[cfg(test)]
-mod tests;

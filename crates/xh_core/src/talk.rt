@@ -141,6 +141,3 @@ impl Talk {
         }
     }
 }
-
-#[cfg(test)]
-mod tests;

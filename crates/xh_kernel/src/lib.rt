@@ -17,6 +17,3 @@ pub use account::Account;
 pub use kernel::Kernel;
 pub use names::Names;
 pub use parts::Parts;
-
-#[cfg(test)]
-mod tests;

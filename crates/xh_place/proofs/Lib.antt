@@ -11,7 +11,6 @@ pub mod Found
 pub mod Parted
 pub mod Patched
 pub mod Shown
-pub mod Plain
 pub mod Runs
 pub mod Moved
 pub mod Opened

@@ -11,8 +11,6 @@ mod lots;
 mod opening;
 mod place;
 mod reclaiming;
-#[cfg(test)]
-mod tests;
 mod vaults;
 
 pub use body::{Body, Header, Kind};

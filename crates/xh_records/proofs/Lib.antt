@@ -12,4 +12,3 @@ pub mod Numbered
 pub mod Lent
 pub mod Ended
 pub mod OneVault
-pub mod OneLot

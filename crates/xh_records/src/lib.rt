@@ -10,8 +10,6 @@ mod rule;
 mod seat;
 mod seen;
 mod shape;
-#[cfg(test)]
-mod tests;
 mod token;
 mod view;
 mod word;

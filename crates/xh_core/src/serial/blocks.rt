@@ -166,6 +166,3 @@ impl Serial {
         Ok(())
     }
 }
-
-#[cfg(test)]
-mod tests;

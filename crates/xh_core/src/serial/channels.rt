@@ -145,6 +145,3 @@ impl Serial {
         self.connect(p, q, arena, Some(contract))
     }
 }
-
-#[cfg(test)]
-mod tests;

@@ -142,6 +142,3 @@ impl Serial {
         Ok(self.sweep(p, from, 4_096))
     }
 }
-
-#[cfg(test)]
-mod tests;

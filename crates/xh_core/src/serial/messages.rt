@@ -179,6 +179,3 @@ impl Serial {
         self.take(p, e)
     }
 }
-
-#[cfg(test)]
-mod tests;

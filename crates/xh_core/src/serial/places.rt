@@ -80,6 +80,3 @@ impl Serial {
         })
     }
 }
-
-#[cfg(test)]
-mod tests;

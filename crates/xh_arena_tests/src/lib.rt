@@ -1,0 +1,9 @@
+//! Arenas and vaults by their public calls.
+#![tactic(auto)]
+
+#[cfg(test)]
+mod arenas;
+#[cfg(test)]
+mod lots;
+#[cfg(test)]
+mod vaults;

@@ -1,0 +1,150 @@
+//! A vault's calls with figures.
+mod answers;
+
+use answers::Answer::{At, Bytes, Done, Has, No};
+use answers::Call::{Audit, Books, Carve, Cut, GiveBack, Moved};
+use answers::{Hand, assert_answers, dealt};
+use std::process::Abort;
+use xh_arena::{Fits, Lot, Refused, Tally, Vault};
+
+#[derive(Default, Drop)]
+pub struct Any {
+    seen: u32,
+}
+
+impl Fits for Any {
+    ghost use Rattle.std.specs.Prelude.{nat_le};
+
+    ghost is_fit = { λ any len. nat_le any.seen len };
+
+    fn fits(&self, len: u32) -> bool {
+        self.seen <= len
+    }
+}
+
+#[test]
+fn worn_vault(rt: HostRuntime) {
+    let mut hand = dealt(&rt, rt.alloc());
+    let calls = [
+        (0, Audit, Has(0, None, 0)),
+        (1, Audit, Has(1, None, 0)),
+        (0, Carve(64), At(0)),
+        (0, GiveBack, Done),
+        (1, Carve(32), No(Refused::Worn)),
+        (0, Moved, Bytes(64, 64)),
+        (1, Moved, Bytes(0, 0)),
+        (0, Books, Bytes(64, 0)),
+    ];
+    assert_answers(&rt, &mut hand, &calls);
+    let Hand {
+        mut vault,
+        one,
+        two,
+        ..
+    } = hand;
+    assert_eq!(rt; vault.size(), 64);
+    assert_eq!(rt; vault.holes(), [(0, 64)].as_slice());
+    let _name = vault.name();
+    vault.collect(one);
+    vault.collect(two);
+}
+
+/// To the last byte of its limit a vault carves; then it is worn where there is a hole, and has no space where there
+/// is none, and a refusal changes neither the lot nor the tally.
+#[test]
+fn carved_to_its_limit(rt: HostRuntime) {
+    let mut hand = dealt(&rt, rt.alloc());
+    let calls = [
+        (0, Carve(64), At(0)),
+        (1, Carve(16), No(Refused::NoSpace)),
+        (1, Audit, Has(1, None, 0)),
+        (1, Moved, Bytes(0, 0)),
+        (0, GiveBack, Done),
+        (1, Carve(16), At(0)),
+        (0, Carve(16), No(Refused::Worn)),
+        (0, Audit, Has(0, None, 0)),
+        (0, Moved, Bytes(64, 64)),
+        (0, Books, Bytes(80, 16)),
+    ];
+    assert_answers(&rt, &mut hand, &calls);
+    assert_eq!(rt; hand.vault.records(), 4);
+}
+
+#[test]
+fn a_lot_is_cut(rt: HostRuntime) {
+    let mut hand = dealt(&rt, rt.alloc());
+    let calls = [
+        (0, Carve(48), At(0)),
+        (0, Cut(16), Done),
+        (0, Audit, Has(0, Some((0, 16)), 16)),
+        (1, Audit, Has(1, Some((16, 32)), 32)),
+    ];
+    assert_answers(&rt, &mut hand, &calls);
+    let Hand { mut first, .. } = hand;
+    first.body_mut().seen = 3;
+    assert_eq!(rt; first.body().seen, 3);
+    assert!(rt; first.body().fits(16));
+}
+
+#[test]
+fn workers_are_1_to_33(rt: HostRuntime) {
+    assert!(rt;
+        matches!(
+            Vault::new::<Any>(rt.alloc(), 64, 4, 80, 0),
+            Err(Refused::BadSize)
+        )
+    );
+    assert!(rt;
+        matches!(
+            Vault::new::<Any>(rt.alloc(), 64, 4, 80, 34),
+            Err(Refused::BadSize)
+        )
+    );
+}
+
+/// Each lot is empty, and of the record of its place.
+fn assert_empty(rt: &impl Abort, lots: &[Lot<Any>]) {
+    for (index, lot) in lots.iter().enumerate() {
+        assert_eq!(rt; (usize::from(lot.record()), lot.len()), (index, 0));
+    }
+}
+
+/// No tally moved a byte.
+fn assert_unmoved(rt: &impl Abort, tallies: &[Tally]) {
+    for tally in tallies {
+        assert_eq!(rt; (tally.taken(), tally.back()), (0, 0));
+    }
+}
+
+/// A vault of 64 bytes as it is made.
+fn assert_whole(rt: &impl Abort, vault: &Vault) {
+    assert_eq!(rt;
+        (vault.size(), vault.handed_out(), vault.wear()),
+        (64, 0, 0)
+    );
+    assert_eq!(rt; vault.holes(), [(0, 64)].as_slice());
+}
+
+/// A vault of 64 bytes for 4 records and 2 workers as it is made: all lots are empty, and no tally moved a byte.
+fn assert_new(rt: &impl Abort, vault: &Vault, lots: &[Lot<Any>], tallies: &[Tally]) {
+    assert_eq!(rt; (lots.len(), tallies.len()), (4, 2));
+    assert_whole(rt, vault);
+    assert_empty(rt, lots);
+    assert_unmoved(rt, tallies);
+}
+
+/// Where one growth is refused, whichever it is, one of two calls is out of memory, and the other makes a whole vault.
+#[test]
+fn growths_of_new(rt: HostRuntime) {
+    let mut refused_before = false;
+    for _ in 0..2 {
+        match Vault::new::<Any>(rt.alloc(), 64, 4, 80, 2) {
+            Ok((vault, lots, tallies)) => assert_new(&rt, &vault, &lots, &tallies),
+            Err(refused) => {
+                assert_eq!(rt; refused, Refused::OutOfMemory);
+                assert!(rt; !refused_before);
+                refused_before = true;
+            }
+        }
+    }
+}

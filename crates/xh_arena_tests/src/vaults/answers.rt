@@ -1,0 +1,156 @@
+//! Calls on a vault and what they answer, to be compared.
+ghost use Rattle.std.specs.Prelude.{◌≡◌, ◌≤◌, Some, length, slice_get};
+
+use super::Any;
+use std::alloc::Global;
+use std::process::Abort;
+use xh_arena::{Lot, Refused, Tally, Vault};
+
+/// A vault with its first two lots, one for each of two workers, and their tallies.
+#[derive(Drop)]
+pub struct Hand {
+    pub vault: Vault,
+    pub first: Lot<Any>,
+    pub second: Lot<Any>,
+    pub one: Tally,
+    pub two: Tally,
+    ghost lots: { (first.id ≡ vault.id) × (second.id ≡ vault.id) },
+    ghost tallies: { (one.id ≡ vault.id) × (two.id ≡ vault.id) },
+}
+
+/// A call by a worker with its lot: a cut's tail is the lot of the other. `Books` asks for the bytes that were ever
+/// handed out and those that are.
+#[derive(Clone, Copy)]
+pub enum Call {
+    Carve(u32),
+    Cut(u32),
+    GiveBack,
+    Audit,
+    Moved,
+    Books,
+}
+
+/// Where a lot's bytes begin; a lot's record, extent and length; bytes, taken and given back; a refusal; nothing. `Unfit`
+/// where the call may not be made.
+#[derive(Clone, Copy, Debug, PartialEq)]
+pub enum Answer {
+    At(u32),
+    Has(u16, Option<(u32, u32)>, u32),
+    Bytes(u64, u64),
+    No(Refused),
+    Done,
+    Unfit,
+}
+
+/// The first two of the items.
+fn first_two<T: Drop>(mut items: Vec<T>) -> (T, T)
+    requires { 2 ≤ length items.items }
+    ensures { (slice_get items.items 0 ≡ Some result.0) × (slice_get items.items 1 ≡ Some result.1) }
+{
+    let first = items.remove(0);
+    let second = items.remove(0);
+    (first, second)
+}
+
+/// A vault of 64 bytes that may hand out 80, for 4 records and 2 workers.
+pub fn dealt(rt: &impl Abort, alloc: Global) -> Hand {
+    let Ok((vault, lots, tallies)) = Vault::new::<Any>(alloc, 64, 4, 80, 2) else {
+        panic!(rt; "no vault");
+    };
+    let (first, second) = first_two(lots);
+    let (one, two) = first_two(tallies);
+    Hand {
+        vault,
+        first,
+        second,
+        one,
+        two,
+    }
+}
+
+fn carved(vault: &mut Vault, lot: &mut Lot<Any>, tally: &mut Tally, n: u32) -> Answer
+    requires ids { (lot.old.id ≡ vault.old.id) × (tally.old.id ≡ vault.old.id) }
+    ensures ids { (vault.new.id ≡ vault.old.id) × (lot.new.id ≡ lot.old.id) × (tally.new.id ≡ tally.old.id) }
+{
+    if lot.len() != 0 || n == 0 || n % 16 != 0 {
+        return Answer::Unfit;
+    }
+    match vault.carve(lot, tally, n) {
+        Ok(start) => Answer::At(start),
+        Err(refused) => Answer::No(refused),
+    }
+}
+
+fn cut(vault: &mut Vault, head: &mut Lot<Any>, tail: &mut Lot<Any>, k: u32) -> Answer
+    requires ids { (head.old.id ≡ vault.old.id) × (tail.old.id ≡ vault.old.id) }
+    ensures ids { (vault.new.id ≡ vault.old.id) × (head.new.id ≡ head.old.id) × (tail.new.id ≡ tail.old.id) }
+{
+    if tail.len() != 0 || k == 0 || k % 16 != 0 || k >= head.len() {
+        return Answer::Unfit;
+    }
+    vault.cut(head, tail, k);
+    Answer::Done
+}
+
+fn given_back(vault: &mut Vault, lot: &mut Lot<Any>, tally: &mut Tally) -> Answer
+    requires ids { (lot.old.id ≡ vault.old.id) × (tally.old.id ≡ vault.old.id) }
+    ensures ids { (vault.new.id ≡ vault.old.id) × (lot.new.id ≡ lot.old.id) × (tally.new.id ≡ tally.old.id) }
+{
+    if lot.len() == 0 {
+        return Answer::Unfit;
+    }
+    vault.give_back(lot, tally);
+    Answer::Done
+}
+
+fn audited(vault: &mut Vault, lot: &mut Lot<Any>) -> Answer
+    requires { lot.old.id ≡ vault.old.id }
+    ensures { (vault.new.id ≡ vault.old.id) × (lot.new.id ≡ lot.old.id) }
+{
+    vault.audit(lot);
+    Answer::Has(lot.record(), vault.extent(lot.record()), lot.len())
+}
+
+fn answer_of(
+    vault: &mut Vault,
+    lot: &mut Lot<Any>,
+    other: &mut Lot<Any>,
+    tally: &mut Tally,
+    call: Call,
+) -> Answer
+    requires ids { (lot.old.id ≡ vault.old.id) × (other.old.id ≡ vault.old.id) × (tally.old.id ≡ vault.old.id) }
+    ensures ids { (vault.new.id ≡ vault.old.id) × (lot.new.id ≡ lot.old.id) × (other.new.id ≡ other.old.id) × (tally.new.id ≡ tally.old.id) }
+{
+    match call {
+        Call::Carve(n) => carved(vault, lot, tally, n),
+        Call::Cut(k) => cut(vault, lot, other, k),
+        Call::GiveBack => given_back(vault, lot, tally),
+        Call::Audit => audited(vault, lot),
+        Call::Moved => Answer::Bytes(tally.taken(), tally.back()),
+        Call::Books => Answer::Bytes(vault.wear(), u64::from(vault.handed_out())),
+    }
+}
+
+/// What a call by a worker answers, of the two.
+fn by_worker(hand: &mut Hand, worker: u8, call: Call) -> Answer {
+    let Hand {
+        vault,
+        first,
+        second,
+        one,
+        two,
+    } = hand;
+    if worker == 0 {
+        answer_of(vault, first, second, one, call)
+    } else {
+        answer_of(vault, second, first, two, call)
+    }
+}
+
+/// Makes each call by its worker, 0 or 1, and compares what it answers.
+pub fn assert_answers(rt: &impl Abort, hand: &mut Hand, calls: &[(u8, Call, Answer)]) {
+    for (at, (worker, call, expected)) in calls.iter().enumerate() {
+        let answered = by_worker(hand, *worker, *call);
+        assert_eq!(rt; answered, *expected, "call {at}");
+    }
+}

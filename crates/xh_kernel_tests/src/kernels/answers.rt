@@ -1,0 +1,247 @@
+// Calls on a kernel by one worker, and what they answer, to be compared.
+use super::bench::Bench;
+use super::contracts::{Rules, contract_of};
+use std::alloc::Global;
+use std::process::Abort;
+use std::sync::Wait;
+use xh_core::{Block, Refused, Status};
+use xh_kernel::Names;
+use xh_place::{Got, Taken};
+
+/// A call, by the numbers of processes, records and arenas: a read is of four bytes, a channel of arena 0 but for
+/// that of `Open`. `Spawns` starts so many processes, `Bans` gives a message of each tag from 0 to 4 but one, and
+/// `Moved` asks what the worker took of an arena and gave back.
+#[derive(Clone, Copy)]
+pub enum Call<'a> {
+    Spawn,
+    Spawns(u16),
+    Alloc(u16, u32, u32),
+    Split(u16, u16, u32),
+    Read(u16, u16, u32),
+    Write(u16, u16, u32, &'a [u8]),
+    Free(u16, u16),
+    Open(u16, u32),
+    OpenWith(u16, Rules),
+    Wire(u16, u16),
+    WireWith(u16, u16, Rules),
+    Give(u16, u16, u16, &'a [u16]),
+    Bans(u16, u16, Option<u16>),
+    Take(u16, u16),
+    Close(u16, u16),
+    Exit(u16, u16),
+    Kill(u16, u16, u16),
+    Glance(u8),
+    Moved(u8),
+}
+
+/// A process, a message's number, or how many bytes came back; a block, by record and length; two blocks; the bytes
+/// of a read; the records of both ends; a message, by its number, its tag and its first two blocks; a place, by
+/// process, state, blocks and bytes; bytes taken and given back; the name of a refusal, and the first block that it
+/// hands back; how many blocks an ending left; nothing.
+#[derive(Clone, Copy, Debug, PartialEq)]
+pub enum Answer {
+    Number(u64),
+    Block(u16, u32),
+    Two(u16, u32, u16, u32),
+    Bytes([u8; 4]),
+    Ends(u16, u16),
+    Message(u64, u16, [Option<Got>; 2]),
+    Place(u16, Status, u32, u64),
+    Moved(u64, u64),
+    No(&'static str),
+    Back(&'static str, Option<u16>),
+    Left(u32),
+    Done,
+}
+
+/// Why a call is refused: its name, and what it hands back or leaves.
+fn of_refused(refused: Refused) -> Answer {
+    let name = refused.name();
+    match refused {
+        Refused::Full { back } | Refused::PeerClosed { back } | Refused::Protocol { back } => {
+            Answer::Back(name, back.first().copied())
+        }
+        Refused::Unfinished { left } => Answer::Left(left),
+        _ => Answer::No(name),
+    }
+}
+
+fn of_number(answer: Result<u64, Refused>) -> Answer {
+    match answer {
+        Ok(number) => Answer::Number(number),
+        Err(refused) => of_refused(refused),
+    }
+}
+
+fn of_block(answer: Result<Block, Refused>) -> Answer {
+    match answer {
+        Ok(block) => Answer::Block(block.rec, block.len),
+        Err(refused) => of_refused(refused),
+    }
+}
+
+fn of_two(answer: Result<(Block, Block), Refused>) -> Answer {
+    match answer {
+        Ok((head, tail)) => Answer::Two(head.rec, head.len, tail.rec, tail.len),
+        Err(refused) => of_refused(refused),
+    }
+}
+
+fn of_ends(answer: Result<(u16, u16), Refused>) -> Answer {
+    match answer {
+        Ok((low, high)) => Answer::Ends(low, high),
+        Err(refused) => of_refused(refused),
+    }
+}
+
+fn of_message(answer: Result<Taken, Refused>) -> Answer {
+    match answer {
+        Ok(Taken { no, tag, blocks }) => {
+            Answer::Message(no, tag, [blocks.first().copied(), blocks.get(1).copied()])
+        }
+        Err(refused) => of_refused(refused),
+    }
+}
+
+fn of_nothing(answer: Result<(), Refused>) -> Answer {
+    match answer {
+        Ok(()) => Answer::Done,
+        Err(refused) => of_refused(refused),
+    }
+}
+
+fn bytes_of<N: Names, R: Wait>(rt: &R, bench: &Bench<N>, p: u16, r: u16, at: u32) -> Answer {
+    let mut bytes = [0xee; 4];
+    match bench.read(rt, p, r, at, &mut bytes) {
+        Ok(()) => Answer::Bytes(bytes),
+        Err(refused) => of_refused(refused),
+    }
+}
+
+/// What the last of so many starts answers.
+fn last_of<N: Names, R: Wait>(rt: &R, bench: &Bench<N>, count: u16) -> Answer {
+    let mut last = Answer::Done;
+    for _ in 0..count {
+        last = of_number(bench.spawn(rt).map(u64::from));
+    }
+    last
+}
+
+/// Nothing where the contract refuses each tag but one, or else what the call with the first other tag answers.
+fn banned_of<N: Names, R: Wait>(
+    rt: &R,
+    bench: &Bench<N>,
+    p: u16,
+    e: u16,
+    allowed: Option<u16>,
+) -> Answer {
+    for tag in 0..5u16 {
+        if allowed != Some(tag) {
+            let answer = of_number(bench.give(rt, p, e, tag, &[]));
+            if answer != Answer::Back("Protocol", None) {
+                return answer;
+            }
+        }
+    }
+    Answer::Done
+}
+
+fn glance_of<N: Names>(bench: &mut Bench<N>, place: u8) -> Answer {
+    match bench.glance(place) {
+        Some((process, state, blocks, bytes)) => Answer::Place(process, state, blocks, bytes),
+        None => Answer::No("NoProcess"),
+    }
+}
+
+fn moved_of<N: Names>(bench: &Bench<N>, arena: u8) -> Answer {
+    match bench.account.moved(arena) {
+        Some((taken, back)) => Answer::Moved(taken, back),
+        None => Answer::No("NoArena"),
+    }
+}
+
+/// The records of both ends of a channel by these rules: of the process, or of it and another.
+fn ends_under<N: Names, R: Wait>(
+    rt: &R,
+    bench: &mut Bench<N>,
+    p: u16,
+    other: Option<u16>,
+    rules: Rules,
+) -> Answer {
+    match (contract_of(rules), other) {
+        (Ok(contract), None) => of_ends(bench.open_with(rt, p, contract)),
+        (Ok(contract), Some(q)) => of_ends(bench.wire_with(rt, p, q, contract)),
+        (Err(refused), _) => of_refused(refused),
+    }
+}
+
+/// What the call answers.
+pub fn answer_of<N: Names, R: Wait>(
+    rt: &R,
+    alloc: Global,
+    bench: &mut Bench<N>,
+    call: Call,
+) -> Answer {
+    match call {
+        Call::Spawn => of_number(bench.spawn(rt).map(u64::from)),
+        Call::Spawns(count) => last_of(rt, bench, count),
+        Call::Alloc(p, n, arena) => of_block(bench.alloc(rt, alloc, p, n, arena)),
+        Call::Split(p, r, k) => of_two(bench.split(rt, alloc, p, r, k)),
+        Call::Read(p, r, at) => bytes_of(rt, bench, p, r, at),
+        Call::Write(p, r, at, bytes) => of_nothing(bench.write(rt, p, r, at, bytes)),
+        Call::Free(p, r) => of_number(bench.free(rt, p, r).map(u64::from)),
+        Call::Open(p, arena) => of_ends(bench.open(rt, p, arena)),
+        Call::OpenWith(p, rules) => ends_under(rt, bench, p, None, rules),
+        Call::Wire(p, q) => of_ends(bench.wire(rt, p, q)),
+        Call::WireWith(p, q, rules) => ends_under(rt, bench, p, Some(q), rules),
+        Call::Give(p, e, tag, blocks) => of_number(bench.give(rt, p, e, tag, blocks)),
+        Call::Bans(p, e, allowed) => banned_of(rt, bench, p, e, allowed),
+        Call::Take(p, e) => of_message(bench.take(rt, p, e)),
+        Call::Close(p, e) => of_number(bench.close(rt, p, e)),
+        Call::Exit(p, budget) => of_number(bench.exit(rt, p, budget)),
+        Call::Kill(p, q, budget) => of_number(bench.kill(rt, p, q, budget)),
+        Call::Glance(place) => glance_of(bench, place),
+        Call::Moved(arena) => moved_of(bench, arena),
+    }
+}
+
+/// Makes each call, and compares what it answers.
+pub fn assert_answers<N: Names, R: Wait + Abort>(
+    rt: &R,
+    alloc: Global,
+    bench: &mut Bench<N>,
+    calls: &[(Call, Answer)],
+) {
+    for (at, (call, expected)) in calls.iter().enumerate() {
+        let answered = answer_of(rt, alloc, bench, *call);
+        assert_eq!(rt; answered, *expected, "call {at}");
+    }
+}
+
+/// What is seen of place 0 and of the worker's account.
+fn seen_of<N: Names, R: Wait>(rt: &R, alloc: Global, bench: &mut Bench<N>) -> [Answer; 4] {
+    [
+        answer_of(rt, alloc, bench, Call::Glance(0)),
+        answer_of(rt, alloc, bench, Call::Read(0, 0, 44)),
+        answer_of(rt, alloc, bench, Call::Moved(0)),
+        answer_of(rt, alloc, bench, Call::Moved(1)),
+    ]
+}
+
+/// What a call answers where a growth was refused.
+pub const LACKING: Answer = Answer::No("OutOfMemory");
+
+/// What the call answers. Where it is refused, all that is seen is as it was.
+pub fn answer_or_same<N: Names, R: Wait + Abort>(
+    rt: &R,
+    alloc: Global,
+    bench: &mut Bench<N>,
+    call: Call,
+) -> Answer {
+    let before = seen_of(rt, alloc, bench);
+    let answered = answer_of(rt, alloc, bench, call);
+    if matches!(&answered, Answer::No(_)) {
+        assert!(rt; seen_of(rt, alloc, bench) == before);
+    }
+    answered
+}

@@ -1,0 +1,218 @@
+// A process that waits for a message, on threads.
+ghost use Rattle.std.specs.Prelude.{◌≡◌};
+
+use super::bench::{Bench, bench_of};
+use std::alloc::Global;
+use std::hint::spin_loop;
+use std::marker::Brand;
+use std::sync::Wait;
+use std::test::Fail;
+use std::thread;
+use std::thread::Threads;
+use xh_core::{Config, Refused};
+use xh_kernel::{Account, Kernel, Names, Parts};
+use xh_place::{Got, OpenGate, Taken};
+
+/// What ends the wait.
+#[derive(Clone, Copy)]
+enum Ender {
+    Gives,
+    Closes,
+    Kills,
+    KillsInPart,
+    ClosesItsEnd,
+}
+
+/// A process at its end of a channel, and the other at the other, with a block to give.
+#[derive(Clone, Copy)]
+struct Pair {
+    p: u16,
+    q: u16,
+    e: u16,
+    f: u16,
+    x: u16,
+}
+
+fn pause(turns: u64) {
+    for _ in 0..turns {
+        spin_loop();
+    }
+}
+
+fn drawn(seed: u64) -> u64 {
+    seed.wrapping_mul(6_364_136_223_846_793_005)
+        .wrapping_add(1_442_695_040_888_963_407)
+}
+
+// A message with its block is 1, Ended 2, PeerClosed 3, NotOwned 4.
+fn coded(answer: Result<Taken, Refused>) -> u64 {
+    match answer {
+        Ok(taken) => match taken.blocks.first() {
+            Some(Got::Here(_)) => 1,
+            _ => 0,
+        },
+        Err(Refused::Ended) => 2,
+        Err(Refused::PeerClosed { .. }) => 3,
+        Err(Refused::NotOwned) => 4,
+        Err(_) => 5,
+    }
+}
+
+// Two processes with a channel. The first has a block ahead of its end, so that a budget of 1 doesn't reach it.
+fn make_pair<N: Names, R: Wait>(
+    rt: &R,
+    alloc: Global,
+    bench: &mut Bench<N>,
+) -> Result<Pair, Refused> {
+    let p = bench.spawn(rt)?;
+    let q = bench.spawn(rt)?;
+    bench.alloc(rt, alloc, p, 16, 0)?;
+    let x = bench.alloc(rt, alloc, q, 16, 0)?.rec;
+    let (e, f) = bench.wire(rt, p, q)?;
+    Ok(Pair { p, q, e, f, x })
+}
+
+fn end_wait<N: Names, R: Wait>(
+    rt: &R,
+    kernel: &Kernel<N>,
+    account: &mut Account<N>,
+    pair: Pair,
+    ender: Ender,
+) {
+    let Pair { p, q, e, f, x } = pair;
+    let _done = match ender {
+        Ender::Gives => kernel.give(rt, q, f, 7, &[x], &OpenGate),
+        Ender::Closes => kernel.close(rt, q, f, account, &OpenGate),
+        Ender::Kills => kernel.kill(rt, q, p, 4096, account, &OpenGate),
+        Ender::KillsInPart => kernel.kill(rt, q, p, 1, account, &OpenGate),
+        Ender::ClosesItsEnd => kernel.close(rt, p, e, account, &OpenGate),
+    };
+}
+
+// What the process answers that waits after a pause.
+fn wait_late<N: Names, R: Wait>(rt: &R, kernel: &Kernel<N>, pair: Pair, turns: u64) -> u64 {
+    pause(turns);
+    coded(kernel.take_wait(rt, pair.p, pair.e, &OpenGate))
+}
+
+// Ends the wait after a pause.
+fn end_late<N: Names, R: Wait>(
+    rt: &R,
+    kernel: &Kernel<N>,
+    account: &mut Account<N>,
+    pair: Pair,
+    ender: Ender,
+    turns: u64,
+) {
+    pause(turns);
+    end_wait(rt, kernel, account, pair, ender);
+}
+
+// One round: what the waiting process answered, while another thread ends its wait.
+fn round<N: Names + Send + Sync, R: Threads + Wait + Sync>(
+    rt: &R,
+    alloc: Global,
+    bench: &mut Bench<N>,
+    ender: Ender,
+    seed: u64,
+) -> Result<u64, Refused> {
+    let pair = make_pair(rt, alloc, bench)?;
+    let turns = (seed % 211, (seed / 211) % 4001);
+    let kernel = &bench.kernel;
+    let account = &mut bench.account;
+    let (answered, ()) = thread::join(
+        rt,
+        || wait_late(rt, kernel, pair, turns.0),
+        || end_late(rt, kernel, account, pair, ender, turns.1),
+    );
+    let _ended = bench.exit(rt, pair.p, 4096);
+    let _ended = bench.exit(rt, pair.q, 4096);
+    Ok(answered)
+}
+
+// How often the waiting process answered so, in 64 rounds over one kernel, which has a channel for each; 0 where not all bytes came back.
+fn rounds_over<N: Names + Send + Sync, R: Threads + Wait + Sync>(
+    rt: &R,
+    alloc: Global,
+    parts: Parts,
+    ender: Ender,
+    want: u64,
+) -> Result<u64, Refused>
+    requires { parts ≡ N.parts }
+{
+    let mut bench = bench_of::<N>(alloc, parts)?;
+    let mut seed = 1u64;
+    let mut count = 0u64;
+    for _ in 0..64 {
+        seed = drawn(seed);
+        let answer = round(rt, alloc, &mut bench, ender, seed >> 20)?;
+        if answer == want {
+            count = count.wrapping_add(1);
+        }
+    }
+    if bench
+        .account
+        .moved(0)
+        .is_none_or(|(taken, back)| taken != back)
+    {
+        return Ok(0);
+    }
+    Ok(count)
+}
+
+// How often the waiting process answered so, in 2,048 rounds.
+fn rounds<R: Threads + Wait + Sync>(
+    rt: &R,
+    alloc: Global,
+    ender: Ender,
+    want: u64,
+) -> Result<u64, Refused> {
+    let config = Config {
+        arenas: 1,
+        bytes: 1024,
+        records: 16,
+        depth: 2,
+        wear: 1_000_000,
+    };
+    let mut count = 0u64;
+    for _ in 0..32 {
+        let parts = Parts::new(alloc, config, 1)?;
+        count = count.wrapping_add(rounds_over::<Brand, R>(rt, alloc, parts, ender, want)?);
+    }
+    Ok(count)
+}
+
+/// A process that waits is given a message.
+#[test]
+fn waits_and_is_given(rt: HostRuntime) -> Result<(), Fail> {
+    assert_eq!(rt; rounds(&rt, rt.alloc(), Ender::Gives, 1)?, 2048);
+    Ok(())
+}
+
+/// The peer of a process that waits closes.
+#[test]
+fn waits_and_its_peer_closes(rt: HostRuntime) -> Result<(), Fail> {
+    assert_eq!(rt; rounds(&rt, rt.alloc(), Ender::Closes, 3)?, 2048);
+    Ok(())
+}
+
+/// A process that waits is killed.
+#[test]
+fn waits_and_is_killed(rt: HostRuntime) -> Result<(), Fail> {
+    assert_eq!(rt; rounds(&rt, rt.alloc(), Ender::Kills, 2)?, 2048);
+    Ok(())
+}
+
+/// A process that waits is killed in part: its endpoint is not reached.
+#[test]
+fn waits_and_is_killed_in_part(rt: HostRuntime) -> Result<(), Fail> {
+    assert_eq!(rt; rounds(&rt, rt.alloc(), Ender::KillsInPart, 2)?, 2048);
+    Ok(())
+}
+
+/// The end that a process waits at is closed by another thread.
+#[test]
+fn waits_and_its_end_is_closed(rt: HostRuntime) -> Result<(), Fail> {
+    assert_eq!(rt; rounds(&rt, rt.alloc(), Ender::ClosesItsEnd, 4)?, 2048);
+    Ok(())
+}

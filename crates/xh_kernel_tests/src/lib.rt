@@ -1,0 +1,5 @@
+//! The kernel by its public calls.
+#![tactic(auto)]
+
+#[cfg(test)]
+mod kernels;

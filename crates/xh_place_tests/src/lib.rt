@@ -1,0 +1,5 @@
+//! A place by its public calls.
+#![tactic(auto)]
+
+#[cfg(test)]
+mod places;

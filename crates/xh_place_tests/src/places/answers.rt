@@ -1,0 +1,197 @@
+// Calls of two places by one thread, and what they answer, to be compared.
+use super::desk::{Desk, make_desk};
+use std::alloc::Global;
+use std::process::Abort;
+use std::sync::Wait;
+use xh_core::{Block, Refused, Status};
+use xh_place::{Got, Point, Taken};
+
+/// A call of the place whose turn it is, by records: a read is of four bytes, a channel of arena 0, and its contract, of
+/// `OpenWith`, is a request with the tag 1 by side 0, then a reply with the tag 2 by side 1, and so on. `HandOver` passes
+/// an end to the other place, which accepts it; `Accept` is the other place's, of an end on a direction. `Turn` makes it
+/// the other place's turn. `Lists` asks for the blocks and bytes of this place and of the other, `Moved` what the account
+/// took and gave back, and `Stops` whether these are the points where a place's calls stopped since it was last asked.
+#[derive(Clone, Copy)]
+pub(super) enum Call<'a> {
+    Alloc(u32, u32),
+    Split(u16, u32),
+    Read(u16, u32),
+    Write(u16, u32, &'a [u8]),
+    Free(u16),
+    Open,
+    OpenWith,
+    HandOver(u16),
+    Wire,
+    Accept(u16, u8),
+    Give(u16, u16, &'a [u16]),
+    Take(u16),
+    Close(u16),
+    Stop(u16),
+    Turn,
+    State,
+    Lists,
+    Moved,
+    Stops(u8, &'a [Point]),
+}
+
+/// A message's number, or how many bytes came back; a block, by record and length; two blocks; the bytes of a read; the
+/// records of both ends; a message, by its number, its tag, how many blocks it has and the first two; a state; blocks and
+/// bytes here, and at the other place; bytes taken and given back; the name of a refusal; one, with how many blocks it
+/// hands back and the first; how many blocks an ending left; nothing.
+#[derive(Clone, Copy, Debug, PartialEq)]
+pub(super) enum Answer {
+    Number(u64),
+    Block(u16, u32),
+    Two(u16, u32, u16, u32),
+    Bytes([u8; 4]),
+    Ends(u16, u16),
+    Message(u64, u16, usize, [Option<Got>; 2]),
+    State(Status),
+    Lists(usize, u64, usize, u64),
+    Moved(u64, u64),
+    No(&'static str),
+    Back(&'static str, usize, Option<u16>),
+    Left(u32),
+    Done,
+}
+
+/// What a read leaves that is refused.
+const UNREAD: [u8; 4] = [0xee; 4];
+
+/// Why a call is refused: its name, and what it hands back or leaves.
+fn of_refused(refused: Refused) -> Answer {
+    let name = refused.name();
+    match refused {
+        Refused::Full { back } | Refused::PeerClosed { back } | Refused::Protocol { back } => {
+            Answer::Back(name, back.len(), back.first().copied())
+        }
+        Refused::Unfinished { left } => Answer::Left(left),
+        _ => Answer::No(name),
+    }
+}
+
+fn of_number(answer: Result<u64, Refused>) -> Answer {
+    match answer {
+        Ok(number) => Answer::Number(number),
+        Err(refused) => of_refused(refused),
+    }
+}
+
+fn of_block(answer: Result<Block, Refused>) -> Answer {
+    match answer {
+        Ok(block) => Answer::Block(block.rec, block.len),
+        Err(refused) => of_refused(refused),
+    }
+}
+
+fn of_two(answer: Result<(Block, Block), Refused>) -> Answer {
+    match answer {
+        Ok((head, tail)) => Answer::Two(head.rec, head.len, tail.rec, tail.len),
+        Err(refused) => of_refused(refused),
+    }
+}
+
+fn of_ends(answer: Option<(u16, u16)>) -> Answer {
+    match answer {
+        Some((low, high)) => Answer::Ends(low, high),
+        None => Answer::No("channel"),
+    }
+}
+
+fn of_message(answer: Result<Taken, Refused>) -> Answer {
+    match answer {
+        Ok(Taken { no, tag, blocks }) => Answer::Message(
+            no,
+            tag,
+            blocks.len(),
+            [blocks.first().copied(), blocks.get(1).copied()],
+        ),
+        Err(refused) => of_refused(refused),
+    }
+}
+
+fn of_nothing(answer: Result<(), Refused>) -> Answer {
+    match answer {
+        Ok(()) => Answer::Done,
+        Err(refused) => of_refused(refused),
+    }
+}
+
+/// Four bytes of a block. What a refused read has changed is told as if it had been read.
+fn bytes_of(desk: &mut Desk, r: u16, at: u32) -> Answer {
+    let mut bytes = UNREAD;
+    let Err(refused) = desk.read(r, at, &mut bytes) else {
+        return Answer::Bytes(bytes);
+    };
+    if bytes != UNREAD {
+        return Answer::Bytes(bytes);
+    }
+    of_refused(refused)
+}
+
+fn lists_of(desk: &Desk) -> Answer {
+    let (here, there) = (&desk.place, &desk.other);
+    Answer::Lists(
+        here.blocks().len(),
+        here.total(),
+        there.blocks().len(),
+        there.total(),
+    )
+}
+
+fn stops_of(desk: &Desk, place: u8, points: &[Point]) -> Answer {
+    if desk.notes.are(place, points) {
+        Answer::Done
+    } else {
+        Answer::No("other points")
+    }
+}
+
+fn moved_of(desk: &Desk) -> Answer {
+    let (taken, back) = desk.moved();
+    Answer::Moved(taken, back)
+}
+
+fn turned(desk: &mut Desk) -> Answer {
+    desk.turn();
+    Answer::Done
+}
+
+/// What the call answers.
+fn answer_of<R: Wait>(rt: &R, alloc: Global, desk: &mut Desk, call: Call) -> Answer {
+    match call {
+        Call::Alloc(n, arena) => of_block(desk.alloc(alloc, n, arena)),
+        Call::Split(r, k) => of_two(desk.split(alloc, r, k)),
+        Call::Read(r, at) => bytes_of(desk, r, at),
+        Call::Write(r, at, bytes) => of_nothing(desk.write(r, at, bytes)),
+        Call::Free(r) => of_number(desk.free(r).map(u64::from)),
+        Call::Open => of_ends(desk.open(rt)),
+        Call::OpenWith => of_ends(desk.open_with(rt)),
+        Call::HandOver(e) => of_block(desk.hand_over(rt, e)),
+        Call::Wire => of_ends(desk.wire(rt)),
+        Call::Accept(e, direction) => of_block(desk.accept(rt, e, direction)),
+        Call::Give(e, tag, blocks) => of_number(desk.give(rt, e, tag, blocks)),
+        Call::Take(e) => of_message(desk.take(rt, e)),
+        Call::Close(e) => of_number(desk.close(rt, e)),
+        Call::Stop(budget) => of_number(desk.stop(rt, budget)),
+        Call::Turn => turned(desk),
+        Call::State => Answer::State(desk.place.state()),
+        Call::Lists => lists_of(desk),
+        Call::Moved => moved_of(desk),
+        Call::Stops(place, points) => stops_of(desk, place, points),
+    }
+}
+
+/// Makes each call at a desk of 256 bytes, whose directions have room for so many messages, and compares what it answers.
+pub(super) fn assert_answers<R: Wait + Abort>(
+    rt: &R,
+    alloc: Global,
+    depth: u8,
+    calls: &[(Call, Answer)],
+) {
+    let mut desk = make_desk(alloc, 256, depth).expect(rt, "a desk");
+    for (at, (call, expected)) in calls.iter().enumerate() {
+        let answered = answer_of(rt, alloc, &mut desk, *call);
+        assert_eq!(rt; answered, *expected, "call {at}");
+    }
+}

@@ -1,0 +1,235 @@
+// Two places of two processes and all channels, as calls of one thread reach them.
+ghost use Rattle.std.specs.Prelude.{◌≡◌, ◌<◌, ◌≤◌, map};
+ghost use Rattle.xh_place.specs.Places.{IsPlaceOf};
+ghost use Rattle.xh_place.specs.Tallies.{ids_of};
+
+use super::notes::Notes;
+use super::vaults::Plain;
+use super::{Bench, make_bench};
+use std::alloc::Global;
+use std::mem;
+use std::sync::Wait;
+use xh_arena::Tally;
+use xh_channel::{Channels, Spot};
+use xh_core::{Block, Contract, Refused, Status};
+use xh_model::Row;
+use xh_place::{Body, Place, Taken};
+use xh_records::Records;
+
+fn row(state: u8, tag: u16, side: u8, next: u8) -> Row {
+    Row {
+        state,
+        tag,
+        side,
+        next,
+    }
+}
+
+/// One arena, one account, all channels and two places. Calls are of the place whose turn it is, and where they stop is noted.
+#[derive(Drop)]
+pub(super) struct Desk {
+    pub(super) records: Records<Body>,
+    pub(super) vaults: Plain,
+    pub(super) tallies: Vec<Tally>,
+    pub(super) channels: Channels,
+    pub(super) place: Place,
+    pub(super) other: Place,
+    pub(super) notes: Notes,
+    ghost own: { IsPlaceOf records place × IsPlaceOf records other },
+    ghost names: { map (λ v. v.id) vaults.vaults.items ≡ records.shape.names },
+    ghost ids: { ids_of tallies.items ≡ records.shape.names },
+}
+
+/// A desk of an arena of `size` bytes and 8 records.
+pub(super) fn make_desk(alloc: Global, size: u32, depth: u8) -> Option<Desk> {
+    let Bench {
+        records,
+        vaults,
+        tallies,
+        first,
+        mut second,
+        ..
+    } = make_bench(alloc, size, 8)?;
+    let channels = Channels::new(alloc, depth).ok()?;
+    second.start(&records);
+    Some(Desk {
+        records,
+        vaults,
+        tallies,
+        channels,
+        place: first,
+        other: second,
+        notes: Notes::new(),
+    })
+}
+
+impl Desk {
+    /// It is the other place's turn.
+    pub(super) fn turn(&mut self) {
+        mem::swap(&mut self.place, &mut self.other);
+    }
+
+    pub(super) fn alloc(&mut self, alloc: Global, n: u32, arena: u32) -> Result<Block, Refused> {
+        let tallies = self.tallies.as_mut_slice();
+        let vaults = &mut self.vaults;
+        self.place.alloc(alloc, &self.records, n, arena, vaults, tallies, &self.notes)
+    }
+
+    pub(super) fn split(
+        &mut self,
+        alloc: Global,
+        r: u16,
+        k: u32,
+    ) -> Result<(Block, Block), Refused> {
+        let vaults = &mut self.vaults;
+        self.place
+            .split(alloc, &self.records, r, k, vaults, &self.notes)
+    }
+
+    pub(super) fn read(&mut self, r: u16, at: u32, out: &mut [u8]) -> Result<(), Refused> {
+        self.place.read(&self.records, r, at, out)
+    }
+
+    pub(super) fn write(&mut self, r: u16, at: u32, bytes: &[u8]) -> Result<(), Refused> {
+        self.place.write(&self.records, r, at, bytes)
+    }
+
+    pub(super) fn free(&mut self, r: u16) -> Result<u32, Refused> {
+        let tallies = self.tallies.as_mut_slice();
+        let vaults = &mut self.vaults;
+        self.place
+            .free(&self.records, r, vaults, tallies, &self.notes)
+    }
+
+    /// The records of both ends of a new channel.
+    pub(super) fn open<R: Wait>(&mut self, rt: &R) -> Option<(u16, u16)> {
+        let (low, high) = self.channels.open(rt).ok()?;
+        let tallies = self.tallies.as_mut_slice();
+        let vaults = &mut self.vaults;
+        let made = self
+            .place
+            .open(&self.records, low, high, 0, vaults, tallies, &self.notes);
+        let (a, b) = made.ok()?;
+        Some((a.rec, b.rec))
+    }
+
+    /// The same under a contract: a request with the tag 1 by side 0, then a reply with the tag 2 by side 1, and so on.
+    pub(super) fn open_with<R: Wait>(&mut self, rt: &R) -> Option<(u16, u16)> {
+        let contract = Contract::new(&[row(0, 1, 0, 1), row(1, 2, 1, 0)]).ok()?;
+        let (low, high) = self.channels.open_with(rt, contract).ok()?;
+        let tallies = self.tallies.as_mut_slice();
+        let vaults = &mut self.vaults;
+        let made = self
+            .place
+            .open_with(&self.records, low, high, 0, vaults, tallies, &self.notes);
+        let (a, b) = made.ok()?;
+        Some((a.rec, b.rec))
+    }
+
+    /// An endpoint goes over to the other place.
+    pub(super) fn hand_over<R: Wait>(&mut self, rt: &R, e: u16) -> Result<Block, Refused> {
+        let Status::Running = self.place.state() else {
+            return Err(Refused::Ended);
+        };
+        let Some(spot) = self.place.spot(&self.records, e) else {
+            return Err(Refused::NotEndpoint);
+        };
+        let direction = 2 * spot.channel + spot.side;
+        self.place.pass_end(&self.records, e, direction);
+        self.accept(rt, e, direction)
+    }
+
+    /// The other place takes an endpoint that is in flight on the direction.
+    pub(super) fn accept<R: Wait>(
+        &mut self,
+        rt: &R,
+        e: u16,
+        direction: u8,
+    ) -> Result<Block, Refused> {
+        if !self.records.has(e) || direction >= 128 {
+            return Err(Refused::NotOwned);
+        }
+        let process = self.other.process();
+        let tallies = self.tallies.as_mut_slice();
+        let vaults = &mut self.vaults;
+        let channels = &self.channels;
+        self.other.accept_end(
+            rt,
+            &self.records,
+            channels,
+            process,
+            e,
+            direction,
+            vaults,
+            tallies,
+            &self.notes,
+        )
+    }
+
+    /// The records of a new channel's end here and of its end at the other place.
+    pub(super) fn wire<R: Wait>(&mut self, rt: &R) -> Option<(u16, u16)> {
+        let (e, f) = self.open(rt)?;
+        self.hand_over(rt, f).ok()?;
+        Some((e, f))
+    }
+
+    /// The channel and sides of an endpoint here and of one at the other place.
+    pub(super) fn spots(&mut self, e: u16, f: u16) -> Option<(Spot, Spot)> {
+        let low = self.place.spot(&self.records, e)?;
+        let high = self.other.spot(&self.records, f)?;
+        Some((low, high))
+    }
+
+    pub(super) fn give<R: Wait>(
+        &mut self,
+        rt: &R,
+        e: u16,
+        tag: u16,
+        blocks: &[u16],
+    ) -> Result<u64, Refused> {
+        self.place.give(
+            rt,
+            &self.records,
+            &self.channels,
+            e,
+            tag,
+            blocks,
+            &self.notes,
+        )
+    }
+
+    pub(super) fn take<R: Wait>(&mut self, rt: &R, e: u16) -> Result<Taken, Refused> {
+        self.place
+            .take(rt, &self.records, &self.channels, e, &self.notes)
+    }
+
+    pub(super) fn close<R: Wait>(&mut self, rt: &R, e: u16) -> Result<u64, Refused> {
+        let tallies = self.tallies.as_mut_slice();
+        let vaults = &mut self.vaults;
+        let channels = &self.channels;
+        self.place.close_end(rt, &self.records, channels, e, vaults, tallies, &self.notes)
+    }
+
+    pub(super) fn stop<R: Wait>(&mut self, rt: &R, budget: u16) -> Result<u64, Refused> {
+        let tallies = self.tallies.as_mut_slice();
+        let vaults = &mut self.vaults;
+        let channels = &self.channels;
+        self.place.stop(
+            rt,
+            &self.records,
+            channels,
+            budget,
+            vaults,
+            tallies,
+            &self.notes,
+        )
+    }
+
+    /// The bytes that the account has taken and given back.
+    pub(super) fn moved(&self) -> (u64, u64) {
+        match self.tallies.first() {
+            Some(tally) => (tally.taken(), tally.back()),
+            None => (0, 0),
+        }
+    }
+}

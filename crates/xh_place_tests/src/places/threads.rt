@@ -1,0 +1,149 @@
+// Two places on two threads, and one channel between them.
+ghost use Rattle.xh_place.specs.Places.{IsPlaceOf};
+
+use super::desk::{Desk, make_desk};
+use std::alloc::Global;
+use std::process::Abort;
+use std::sync::Wait;
+use std::test::Fail;
+use std::thread::{self, Threads};
+use xh_channel::{Channels, Spot};
+use xh_core::Refused;
+use xh_place::{Body, Got, OpenGate, Place, Taken};
+use xh_records::Records;
+
+/// How often what is given comes back.
+const ROUNDS: u64 = 2000;
+
+// Whether the block at `k` of the message is the record, and came.
+fn is_here(taken: &Taken, k: usize, r: u16) -> bool {
+    match taken.blocks.get(k) {
+        Some(Got::Here(block)) => block.rec == r,
+        _ => false,
+    }
+}
+
+/// A place with its end of the channel, on a thread of its own.
+#[derive(Drop)]
+struct Party<'a> {
+    records: &'a Records<Body>,
+    channels: &'a Channels,
+    place: Place,
+    e: u16,
+    spot: Spot,
+    ghost own: { IsPlaceOf records.now place },
+}
+
+impl Party<'_> {
+    fn give<R: Wait>(&mut self, rt: &R, blocks: &[u16]) -> bool {
+        let given = self.place.give(
+            rt,
+            self.records,
+            self.channels,
+            self.e,
+            3,
+            blocks,
+            &OpenGate,
+        );
+        given.is_ok()
+    }
+
+    fn take<R: Wait>(&mut self, rt: &R) -> Result<Taken, Refused> {
+        self.place
+            .take(rt, self.records, self.channels, self.e, &OpenGate)
+    }
+
+    // The message that comes next.
+    fn take_next<R: Wait>(&mut self, rt: &R) -> Option<Taken> {
+        for _ in 0..1_000_000_u64 {
+            let seen = self.channels.turn(rt, self.spot);
+            match self.take(rt) {
+                Ok(taken) => return Some(taken),
+                Err(Refused::Empty) => self.channels.wait(rt, self.spot, seen),
+                Err(_) => return None,
+            }
+        }
+        None
+    }
+
+    // Whether the next message has the number and brings both.
+    fn gets<R: Wait>(&mut self, rt: &R, no: u64, x: u16, g: u16) -> bool {
+        let Some(taken) = self.take_next(rt) else {
+            return false;
+        };
+        let came = [is_here(&taken, 0, x), is_here(&taken, 1, g)];
+        taken.no == no && taken.blocks.len() == 2 && came == [true, true]
+    }
+
+    /// Gives both and gets them back, again and again. It answers how often.
+    fn serve<R: Wait>(mut self, rt: &R, x: u16, g: u16) -> (u64, u64) {
+        for round in 0..ROUNDS {
+            if !self.give(rt, &[x, g]) || !self.gets(rt, round + 1, x, g) {
+                return (round, self.place.total());
+            }
+        }
+        (ROUNDS, self.place.total())
+    }
+
+    /// Gets both and gives them back, again and again. It answers how often.
+    fn answer<R: Wait>(mut self, rt: &R, x: u16, g: u16) -> (u64, u64) {
+        for round in 0..ROUNDS {
+            if !self.gets(rt, round + 1, x, g) || !self.give(rt, &[x, g]) {
+                return (round, self.place.total());
+            }
+        }
+        (ROUNDS, self.place.total())
+    }
+}
+
+/// A block and an endpoint go from one thread to the other and back, each time in one message.
+fn there_and_back_over<R: Abort + Threads + Wait + Sync>(
+    rt: &R,
+    alloc: Global,
+) -> Result<(), Fail> {
+    let Some(mut desk) = make_desk(alloc, 256, 1) else {
+        panic!(rt; "no desk");
+    };
+    let (Some((e, f)), Some((_, h))) = (desk.wire(rt), desk.open(rt)) else {
+        panic!(rt; "no channels");
+    };
+    let x = desk.alloc(alloc, 16, 0)?.rec;
+    let Some((low, high)) = desk.spots(e, f) else {
+        panic!(rt; "no endpoints");
+    };
+    let Desk {
+        records,
+        channels,
+        place,
+        other,
+        ..
+    } = desk;
+    let (records, channels) = (&records, &channels);
+    let first = Party {
+        records,
+        channels,
+        place,
+        e,
+        spot: low,
+    };
+    let second = Party {
+        records,
+        channels,
+        place: other,
+        e: f,
+        spot: high,
+    };
+    let (one, two) = thread::join(
+        rt,
+        move || first.serve(rt, x, h),
+        move || second.answer(rt, x, h),
+    );
+    assert_eq!(rt; one, (ROUNDS, 112));
+    assert_eq!(rt; two, (ROUNDS, 32));
+    Ok(())
+}
+
+#[test]
+fn there_and_back(rt: HostRuntime) -> Result<(), Fail> {
+    there_and_back_over(&rt, rt.alloc())
+}

@@ -1,0 +1,215 @@
+// A record that is claimed, carved, passed, accepted, given back and vacated.
+ghost use Rattle.std.specs.Prelude.{◌≡◌, ◌<◌, [], ◌∷◌, IfSome, Some, length};
+ghost use Rattle.xh_arena.specs.Views.{LotOf};
+ghost use Rattle.xh_model.specs.declared.limits.TheConstants.{DIRECTIONS};
+ghost use Rattle.xh_model.specs.Keyed.{put, value_at};
+ghost use Rattle.xh_records.specs.Showing.{IsLotOf};
+ghost use Rattle.xh_records.specs.Seats.{IsRecord, IsSeatOf, with_lots};
+
+use super::{Any, Bench, assert_left, close_both, make_bench};
+use std::process::Abort;
+use std::test::Fail;
+use xh_arena::{Lot, Tally, Vault};
+use xh_records::{Records, Refused, Seat};
+
+/// Carves 32 bytes for the record.
+pub(super) fn carve_at(
+    records: &Records<Any>,
+    seat: &mut Seat<Any>,
+    number: u16,
+    vault: &mut Vault,
+    tally: &mut Tally,
+) -> Option<u32>
+    requires own { IsSeatOf records.now seat.old × IsRecord records.now.shape number }
+    requires ids { tally.old.id ≡ vault.old.id }
+    requires held { (l : LotOf Any) × (value_at number seat.old.lots ≡ Some l) × IsLotOf seat.old.shape number l × (l.id ≡ vault.old.id) × (l.len ≡ 0) }
+    ensures lot { IfSome result (λ _. (l : LotOf Any) → value_at number seat.old.lots ≡ Some l → seat.new ≡ with_lots seat.old (put number (record l { len = 32 }) seat.old.lots)) }
+    ensures ids { (tally.new.id ≡ vault.new.id) × (vault.new.id ≡ vault.old.id) }
+{
+    records.with_lot(
+        seat,
+        number,
+        &mut |lot: &mut Lot<Any>| vault.carve(lot, tally, 32).ok(),
+    )
+}
+
+/// Gives the record's bytes back.
+fn give_back_at(
+    records: &Records<Any>,
+    seat: &mut Seat<Any>,
+    number: u16,
+    vault: &mut Vault,
+    tally: &mut Tally,
+)
+    requires own { IsSeatOf records.now seat.old × IsRecord records.now.shape number }
+    requires ids { tally.old.id ≡ vault.old.id }
+    requires held { (l : LotOf Any) × (value_at number seat.old.lots ≡ Some l) × IsLotOf seat.old.shape number l × (l.id ≡ vault.old.id) × (0 < l.len) }
+    ensures lot { (l : LotOf Any) → value_at number seat.old.lots ≡ Some l → seat.new ≡ with_lots seat.old (put number (record l { len = 0 }) seat.old.lots) }
+    ensures ids { (tally.new.id ≡ vault.new.id) × (vault.new.id ≡ vault.old.id) }
+{
+    records.with_lot(
+        seat,
+        number,
+        &mut |lot: &mut Lot<Any>| vault.give_back(lot, tally),
+    );
+}
+
+/// The seat finds this word at the record.
+fn assert_word(
+    rt: &impl Abort,
+    records: &Records<Any>,
+    seat: &mut Seat<Any>,
+    number: u16,
+    word: u64,
+)
+    requires own { IsSeatOf records.now seat.old }
+    requires exists { IsRecord records.now.shape number }
+    ensures same { seat.new ≡ seat.old }
+{
+    assert_eq!(rt; records.owner_word(seat, number), word);
+}
+
+/// The first seat claims record 0, carves it and passes it on the direction.
+pub(super) fn give_away(
+    rt: &impl Abort,
+    records: &Records<Any>,
+    seat: &mut Seat<Any>,
+    vault: &mut Vault,
+    tally: &mut Tally,
+    direction: u8,
+)
+    requires own { IsSeatOf records.now seat.old }
+    requires bare { seat.old.lots ≡ [] }
+    requires names { (records.now.shape.names ≡ vault.old.id ∷ []) × (direction < DIRECTIONS) }
+    requires ids { tally.old.id ≡ vault.old.id }
+    ensures seat { (seat.new.table ≡ seat.old.table) × (seat.new.shape ≡ seat.old.shape) × (seat.new.process ≡ seat.old.process) × (seat.new.lots ≡ []) }
+    ensures ids { (tally.new.id ≡ vault.new.id) × (vault.new.id ≡ vault.old.id) }
+{
+    let Ok(number) = records.claim(seat, 0) else {
+        panic!(rt; "no record");
+    };
+    assert_eq!(rt; number, 0);
+    assert_word(rt, records, seat, number, 1);
+    let Some(start) = carve_at(records, seat, number, vault, tally) else {
+        panic!(rt; "no room");
+    };
+    assert_eq!(rt; start, 0);
+    records.pass(seat, number, direction);
+}
+
+/// Record 0 is in flight on direction 5, and not on direction 4.
+fn miss(rt: &impl Abort, records: &Records<Any>, seat: &mut Seat<Any>)
+    requires own { IsSeatOf records.now seat.old }
+    requires exists { IsRecord records.now.shape 0 }
+    ensures same { seat.new ≡ seat.old }
+{
+    let Err(word) = records.accept(seat, 0, 4) else {
+        panic!(rt; "on another direction");
+    };
+    assert_eq!(rt; word, 22);
+}
+
+/// The second seat accepts record 0, but not on direction 4, gives its bytes back and vacates it.
+fn take_over(
+    rt: &impl Abort,
+    records: &Records<Any>,
+    seat: &mut Seat<Any>,
+    vault: &mut Vault,
+    tally: &mut Tally,
+)
+    requires own { IsSeatOf records.now seat.old × IsRecord records.now.shape 0 }
+    requires bare { seat.old.lots ≡ [] }
+    requires names { records.now.shape.names ≡ vault.old.id ∷ [] }
+    requires ids { tally.old.id ≡ vault.old.id }
+    ensures seat { (seat.new.table ≡ seat.old.table) × (seat.new.shape ≡ seat.old.shape) × (seat.new.process ≡ seat.old.process) × (seat.new.lots ≡ []) }
+{
+    miss(rt, records, seat);
+    let Ok(()) = records.accept(seat, 0, 5) else {
+        panic!(rt; "not in flight");
+    };
+    assert_word(rt, records, seat, 0, 5);
+    give_back_at(records, seat, 0, vault, tally);
+    records.vacate(seat, 0);
+    assert_word(rt, records, seat, 0, 0);
+}
+
+#[test]
+fn record_words(rt: HostRuntime) -> Result<(), Fail> {
+    let Some(bench) = make_bench(rt.alloc(), 64, 2, 1000) else {
+        panic!(rt; "no bench");
+    };
+    let Bench {
+        mut vault,
+        mut tally,
+        records,
+        mut first,
+        mut second,
+    } = bench;
+    assert!(rt; records.has(1) && !records.has(2) && !records.has(256));
+    give_away(&rt, &records, &mut first, &mut vault, &mut tally, 5);
+    assert_word(&rt, &records, &mut first, 0, 22);
+    take_over(&rt, &records, &mut second, &mut vault, &mut tally);
+    assert_eq!(rt; (tally.taken(), tally.back()), (32, 32));
+    assert_eq!(rt; records.renew(&mut first), 32);
+    assert_eq!(rt; (first.process(), second.process()), (32, 1));
+    let (words, lots) = close_both(rt.alloc(), records, first, second)?;
+    assert_left(&rt, &words, &lots, &[(0, 0), (0, 0)]);
+    Ok(())
+}
+
+/// The seat claims a record of arena 0.
+fn claim_next(rt: &impl Abort, records: &Records<Any>, seat: &mut Seat<Any>) -> u16
+    requires { IsSeatOf records.now seat.old × (0 < length records.now.shape.names) }
+    ensures { IsSeatOf records.now seat.new }
+{
+    let Ok(number) = records.claim(seat, 0) else {
+        panic!(rt; "no record");
+    };
+    number
+}
+
+/// A full arena: a record in flight, one of the first process and one of the second.
+#[test]
+fn full_arena(rt: HostRuntime) -> Result<(), Fail> {
+    let Some(bench) = make_bench(rt.alloc(), 64, 3, 1000) else {
+        panic!(rt; "no bench");
+    };
+    let Bench {
+        mut vault,
+        mut tally,
+        records,
+        mut first,
+        mut second,
+    } = bench;
+    assert_eq!(rt; (records.arenas(), records.per_arena()), (1, 3));
+    give_away(&rt, &records, &mut first, &mut vault, &mut tally, 5);
+    assert_eq!(rt; claim_next(&rt, &records, &mut first), 1);
+    assert_eq!(rt; claim_next(&rt, &records, &mut second), 2);
+    assert_eq!(rt; (first.count(), second.count()), (1, 1));
+    let Err(seen) = records.claim(&mut second, 0) else {
+        panic!(rt; "one was free");
+    };
+    let words: [u64; 3] = [22, 1, 5];
+    assert_eq!(rt; seen.words.as_slice(), words.as_slice());
+    assert_eq!(rt; second.count(), 1);
+    Ok(())
+}
+
+/// With the first, the second or a later growth refused, the table is there or out of memory.
+#[test]
+fn growths(rt: HostRuntime) -> Result<(), Fail> {
+    let Some(bench) = make_bench(rt.alloc(), 64, 2, 1000) else {
+        return Ok(());
+    };
+    let Bench {
+        records,
+        first,
+        second,
+        ..
+    } = bench;
+    match close_both(rt.alloc(), records, first, second) {
+        Ok((words, lots)) => assert_eq!(rt; (words.len(), lots.len()), (2, 2)),
+        Err(Refused::OutOfMemory) => {}
+    }
+    Ok(())
+}
