@@ -43,7 +43,7 @@ const GIVEN_AND_RECLAIMED: &str = "1 ok 0\n\
     out 32\n";
 
 // The script writes this with the hold, which is kept.
-fn writes_with(
+pub(crate) fn writes_with(
     rt: &(impl Abort + Threads + Wait + Sync),
     alloc: Global,
     script: &str,

@@ -26,6 +26,8 @@ mod on_threads;
 #[cfg(test)]
 mod orders;
 #[cfg(test)]
+mod peers_at_points;
+#[cfg(test)]
 mod processes;
 #[cfg(test)]
 mod random;
