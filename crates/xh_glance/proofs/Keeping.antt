@@ -1,5 +1,37 @@
 -- Each step keeps the rule.
-use Rattle.std.proofs.Common.{◌≡◌, ◌≢◌, ℕ, zero, suc, ◌<◌, List, [], ◌∷◌, ◌++◌, length, set, get_or, cond, eqb, refl, sym, ap, ◌∙◌, subst, ⊎_elim, arith, add-zero, append_assoc, append-nil, length-set, get_or-set_same, get_or-set_other, replicate, eq-eqb, ne_eqb}
+use Rattle.std.proofs.Common.{
+  ◌≡◌,
+  ◌≢◌,
+  ℕ,
+  zero,
+  suc,
+  ◌<◌,
+  List,
+  [],
+  ◌∷◌,
+  ◌++◌,
+  length,
+  set,
+  get_or,
+  cond,
+  eqb,
+  refl,
+  sym,
+  ap,
+  ◌∙◌,
+  subst,
+  ⊎_elim,
+  arith,
+  add-zero,
+  append_assoc,
+  append-nil,
+  length-set,
+  get_or-set_same,
+  get_or-set_other,
+  replicate,
+  eq-eqb,
+  ne_eqb,
+}
 use Rattle.std.proofs.lemmas.List.{set-get_or, get_or-replicate}
 use Rattle.std.proofs.lemmas.List.FromFn.{get_or-map-range_with_len}
 use Rattle.xh_core.specs.declared.status.Status.TheVariants.{Vacant}
@@ -13,7 +45,27 @@ use Rattle.xh_core.specs.declared.glance.Glance.{Glance}
 use Rattle.xh_glance.specs.declared.view.View.{View}
 use Rattle.xh_model.specs.declared.limits.TheConstants.{PLACES}
 use Rattle.xh_glance.specs.Words.{glance_of, vacant}
-use Rattle.xh_glance.specs.Histories.{History, StartsWith, EndsIn, at, Stores, Fits, Tells, Told, opening_fronts, first_view, onlooker, without_first, first_alone, grown, informed, spent, Loaded, Stored, Compared}
+use Rattle.xh_glance.specs.Histories.{
+  History,
+  StartsWith,
+  EndsIn,
+  at,
+  Stores,
+  Fits,
+  Tells,
+  Told,
+  opening_fronts,
+  first_view,
+  onlooker,
+  without_first,
+  first_alone,
+  grown,
+  informed,
+  spent,
+  Loaded,
+  Stored,
+  Compared,
+}
 
 -- beginnings
 pub is_start : {h seen : History} → seen ≡ h → StartsWith h seen
@@ -23,12 +75,14 @@ pub start_trans : (a b c : History) → StartsWith b a → StartsWith c b → St
 start_trans a b c x y = (x.0 ++ y.0, y.1 ∙ ap (λ (l : History). l ++ y.0) x.1 ∙ append_assoc a x.0 y.0)
 
 -- a seat that sees a place's history to its end, where no other history changed
-pub grown_fits : (h h' : ℕ → History) (seat_of : ℕ → ℕ) (id : ℕ) (v : View) (p : ℕ) (later : History) → Fits h seat_of id v → p < length v.fronts → at v.fronts p ++ later ≡ h' p → ((q : ℕ) → q ≢ p → h' q ≡ h q) → StartsWith (h' p) (h p)
+pub grown_fits : (h h' : ℕ → History) (seat_of : ℕ → ℕ) (id : ℕ) (v : View) (p : ℕ) (later : History) → Fits h seat_of id v → p < length v.fronts → at v.fronts p ++ later ≡ h' p
+    → ((q : ℕ) → q ≢ p → h' q ≡ h q) → StartsWith (h' p) (h p)
     → Fits h' seat_of id (grown v p later)
 grown_fits h h' seat_of id v p later f inside is else longer = record {
   seen = λ q. dite (ℕ_discrete q p)
       (λ e. is_start (there q e))
-      (λ n. subst (λ (x : History). StartsWith x (at (grown v p later).fronts q)) (sym (else q n)) (subst (λ (x : History). StartsWith (h q) x) (sym (get_or-set_other v.fronts p q _ [] n)) (f.seen q)));
+      (λ n. subst (λ (x : History). StartsWith x (at (grown v p later).fronts q)) (sym (else q n))
+      (subst (λ (x : History). StartsWith (h q) x) (sym (get_or-set_other v.fronts p q _ [] n)) (f.seen q)));
   told = λ q. dite (ℕ_discrete q p)
       (λ e. subst (λ (k : ℕ). StartsWith (h' k) (at v.told k)) (sym e) (start_trans _ _ _ (f.told p) longer))
       (λ n. subst (λ (x : History). StartsWith x (at v.told q)) (sym (else q n)) (f.told q));
@@ -86,7 +140,8 @@ loads slots id p me inside long s told len here fits =
         subst (λ (ws : List ℕ). Tells h seat_of ws (set s.views id (grown me.0 p later))) (sym (set-get_or s.words p 0)) record {
           wide = t.wide;
           last = t.last;
-          fit = set_each (Fits h seat_of) (Fits h seat_of) s.views id (grown me.0 p later) t.fit (grown_fits h h seat_of id me.0 p later f (subst (λ (k : ℕ). p < k) (sym long) inside) (sym (f.seen p).1) (λ q n. refl) (is_start refl)) (λ j u n g. g);
+          fit = set_each (Fits h seat_of) (Fits h seat_of) s.views id (grown me.0 p later) t.fit
+              (grown_fits h h seat_of id me.0 p later f (subst (λ (k : ℕ). p < k) (sym long) inside) (sym (f.seen p).1) (λ q n. refl) (is_start refl)) (λ j u n g. g);
         },
       ),
       (later, refl, subst (λ (x : History). EndsIn x (glance_of p (get_or s.words p 0))) (f.seen p).1 (t.last p inside)),
@@ -102,7 +157,8 @@ one_more_here h p g = ap (λ b. cond b (h p ++ g ∷ []) (h p)) (eq-eqb p p refl
 one_more_else : (h : ℕ → History) (p : ℕ) (g : Glance) (q : ℕ) → q ≢ p → one_more h p g q ≡ h q
 one_more_else h p g q n = ap (λ b. cond b (h q ++ g ∷ []) (h q)) (ne_eqb q p n)
 
-pub stores : {S : Type 0} (slots id p new : ℕ) (me : Me S View) → p < PLACES → length me.0.fronts ≡ PLACES → Stores me.0 p → Allows Told slots id me p (λ _. new) (λ _. Stored (step slots p new 0 none) me new)
+pub stores : {S : Type 0} (slots id p new : ℕ) (me : Me S View) → p < PLACES → length me.0.fronts ≡ PLACES → Stores me.0 p
+    → Allows Told slots id me p (λ _. new) (λ _. Stored (step slots p new 0 none) me new)
 stores slots id p new me inside long st s told len here fits =
     let h = told.0 in
     let seat_of = told.1 in
@@ -124,8 +180,11 @@ stores slots id p new me inside long st s told len here fits =
           last = λ q b. dite (ℕ_discrete q p)
               (λ e. subst (λ (k : ℕ). EndsIn (h' k) (glance_of k (get_or (set s.words p new) k 0))) (sym e)
               (subst (λ (n : ℕ). EndsIn (h' p) (glance_of p n)) (sym (get_or-set_same s.words p new 0 (subst (λ (k : ℕ). p < k) (sym t.wide) inside))) (h p, one_more_here h p g)))
-              (λ n. subst (λ (m : ℕ). EndsIn (h' q) (glance_of q m)) (sym (get_or-set_other s.words p q new 0 n)) (subst (λ (x : History). EndsIn x (glance_of q (get_or s.words q 0))) (sym (one_more_else h p g q n)) (t.last q b)));
-          fit = set_each (Fits h seat_of) (Fits h' seat_of) s.views id w t.fit (grown_fits h h' seat_of id me.0 p (g ∷ []) f (subst (λ (k : ℕ). p < k) (sym long) inside) here' (one_more_else h p g) more) (others_fit h h' seat_of id me.0 p f st (one_more_else h p g) more);
+              (λ n. subst (λ (m : ℕ). EndsIn (h' q) (glance_of q m)) (sym (get_or-set_other s.words p q new 0 n))
+              (subst (λ (x : History). EndsIn x (glance_of q (get_or s.words q 0))) (sym (one_more_else h p g q n)) (t.last q b)));
+          fit = set_each (Fits h seat_of) (Fits h' seat_of) s.views id w t.fit
+              (grown_fits h h' seat_of id me.0 p (g ∷ []) f (subst (λ (k : ℕ). p < k) (sym long) inside) here' (one_more_else h p g) more)
+              (others_fit h h' seat_of id me.0 p f st (one_more_else h p g) more);
         },
       ),
       refl,
@@ -253,7 +312,9 @@ begins S = (
     wide = refl;
     last = λ p b. (
       [],
-      get_or-map-range_with_len (λ q. vacant q ∷ []) 0 PLACES p p [] b (omega arith) ∙ ap (λ (q : ℕ). let g : Glance = record { process = q; state = Vacant; blocks = 0; bytes = 0 } in g ∷ []) (sym (add-zero p)) ∙ ap (λ (n : ℕ). glance_of p n ∷ []) (sym (get_or-replicate PLACES p 0 0 b)),
+      get_or-map-range_with_len (λ q. vacant q ∷ []) 0 PLACES p p [] b (omega arith)
+          ∙ ap (λ (q : ℕ). let g : Glance = record { process = q; state = Vacant; blocks = 0; bytes = 0 } in g ∷ []) (sym (add-zero p))
+          ∙ ap (λ (n : ℕ). glance_of p n ∷ []) (sym (get_or-replicate PLACES p 0 0 b)),
     );
     fit = push_each (Fits (at opening_fronts) (λ p. 0)) [] first_view (λ j u e. absurd (some-ne-none u (sym e))) record {
       seen = λ p. is_start refl;

@@ -38,7 +38,8 @@ cases_Option None = inl refl
 cases_Option (Some n) = inr (n, refl)
 
 -- one more tag at the end
-pub walk_snoc : (rows : List Row) (side state tag : ℕ) (tags : List ℕ) (end next : ℕ) → walk rows side state tags ≡ Some end → allowed rows end tag side ≡ Some next → walk rows side state (tags ++ tag ∷ []) ≡ Some next
+pub walk_snoc : (rows : List Row) (side state tag : ℕ) (tags : List ℕ) (end next : ℕ) → walk rows side state tags ≡ Some end → allowed rows end tag side ≡ Some next
+    → walk rows side state (tags ++ tag ∷ []) ≡ Some next
 walk_snoc rows side state tag [] end next walked is = rw (same_Some _ _ walked, is) refl
 walk_snoc rows side state tag (t ∷ ts) end next walked is =
     elim (cases_Option (allowed rows state t side)) [
@@ -47,7 +48,8 @@ walk_snoc rows side state tag (t ∷ ts) end next walked is =
     ]
 
 -- an end puts a tag that it may put
-pub put_step : (rows : List Row) (side state tag next state' : ℕ) (tags tags' : List ℕ) → IsValid rows → InStep rows side state tags state' tags' → allowed rows state tag side ≡ Some next → InStep rows side next tags state' (tags' ++ tag ∷ [])
+pub put_step : (rows : List Row) (side state tag next state' : ℕ) (tags tags' : List ℕ) → IsValid rows → InStep rows side state tags state' tags' → allowed rows state tag side ≡ Some next
+    → InStep rows side next tags state' (tags' ++ tag ∷ [])
 put_step rows side state tag next state' [] tags' valid step is = (sym (walk_snoc rows side state' tag tags' state next (sym step.0) is), inl refl)
 put_step rows side state tag next state' (t ∷ ts) (u ∷ us) valid step is = absurd (elim step.1 [ inl e ↦ cc | inr e ↦ cc ])
 put_step rows side state tag next state' (t ∷ ts) [] valid step is =
@@ -57,7 +59,8 @@ put_step rows side state tag next state' (t ∷ ts) [] valid step is =
     ]
 
 -- an end takes the tag at its front
-pub take_step : (rows : List Row) (side state tag state' : ℕ) (tags tags' : List ℕ) → InStep rows side state (tag ∷ tags) state' tags' → (next : ℕ) × (allowed rows state tag (1 - side) ≡ Some next) × InStep rows side next tags state' tags'
+pub take_step : (rows : List Row) (side state tag state' : ℕ) (tags tags' : List ℕ) → InStep rows side state (tag ∷ tags) state' tags' → (next : ℕ)
+    × (allowed rows state tag (1 - side) ≡ Some next) × InStep rows side next tags state' tags'
 take_step rows side state tag state' tags (t ∷ ts) step = absurd (elim step.1 [ inl e ↦ cc | inr e ↦ cc ])
 take_step rows side state tag state' tags [] step =
     elim (cases_Option (allowed rows state tag (1 - side))) [
@@ -75,7 +78,8 @@ front_step rows side state state' [] tags' step = tt
 front_step rows side state state' (tag ∷ tags) tags' step = rw ((take_step rows side state tag state' tags tags' step).1) refl
 
 -- an end takes all that waits for it
-pub drain_step : (rows : List Row) (side state state' : ℕ) (tags tags' : List ℕ) → InStep rows side state tags state' tags' → (end : ℕ) × (walk rows (1 - side) state tags ≡ Some end) × InStep rows side end [] state' tags'
+pub drain_step : (rows : List Row) (side state state' : ℕ) (tags tags' : List ℕ) → InStep rows side state tags state' tags' → (end : ℕ) × (walk rows (1 - side) state tags ≡ Some end)
+    × InStep rows side end [] state' tags'
 drain_step rows side state state' [] tags' step = (state, refl, step)
 drain_step rows side state state' (t ∷ ts) (u ∷ us) step = absurd (elim step.1 [ inl e ↦ cc | inr e ↦ cc ])
 drain_step rows side state state' (t ∷ ts) [] step = (state', step.0, (refl, inl refl))

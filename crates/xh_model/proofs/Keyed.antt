@@ -1,5 +1,38 @@
 -- Lists of values beside their keys.
-use Rattle.std.proofs.Common.{eqb, ◌≡◌, ◌≢◌, ℕ, zero, suc, ◌<◌, ◌≤◌, ◌⊎◌, ⊎_elim, inl, inr, Bool, List, [], ◌∷◌, ◌++◌, length, cond, get_or, refl, sym, ap, ◌∙◌, subst, arith, drop, take, append-nil, set, ne_eqb, eq-eqb}
+use Rattle.std.proofs.Common.{
+  eqb,
+  ◌≡◌,
+  ◌≢◌,
+  ℕ,
+  zero,
+  suc,
+  ◌<◌,
+  ◌≤◌,
+  ◌⊎◌,
+  ⊎_elim,
+  inl,
+  inr,
+  Bool,
+  List,
+  [],
+  ◌∷◌,
+  ◌++◌,
+  length,
+  cond,
+  get_or,
+  refl,
+  sym,
+  ap,
+  ◌∙◌,
+  subst,
+  arith,
+  drop,
+  take,
+  append-nil,
+  set,
+  ne_eqb,
+  eq-eqb,
+}
 use Rattle.std.specs.Prelude.{Option, Some, None}
 use Rattle.std.specs.List.{remove}
 use mathlib.Core.Option.{some, some-injective, some-ne-none}

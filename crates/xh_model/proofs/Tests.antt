@@ -1,5 +1,39 @@
 -- What is the same of two covers that pass a test at the same places.
-use Rattle.std.proofs.Common.{◌≡◌, ◌≢◌, ℕ, zero, suc, ◌+◌, ◌-◌, ◌*◌, ◌<◌, ◌≤◌, List, [], ◌∷◌, ◌++◌, Bool, true, false, cond, refl, sym, ap, ◌∙◌, arith, take, drop, replicate, length, map, Option, Some, None, inl, inr}
+use Rattle.std.proofs.Common.{
+  ◌≡◌,
+  ◌≢◌,
+  ℕ,
+  zero,
+  suc,
+  ◌+◌,
+  ◌-◌,
+  ◌*◌,
+  ◌<◌,
+  ◌≤◌,
+  List,
+  [],
+  ◌∷◌,
+  ◌++◌,
+  Bool,
+  true,
+  false,
+  cond,
+  refl,
+  sym,
+  ap,
+  ◌∙◌,
+  arith,
+  take,
+  drop,
+  replicate,
+  length,
+  map,
+  Option,
+  Some,
+  None,
+  inl,
+  inr,
+}
 use Rattle.std.specs.Prelude.{count_by, slice_index_or, ◌==◌}
 use Rattle.std.specs.List.{position_or_len}
 use Rattle.std.proofs.lemmas.Bool.{cases_Bool, cases_eq, eq-eqb, ne_eqb, eqb-true}
@@ -80,8 +114,10 @@ pub carved_count : (p : Option ℕ → Bool) (r at n : ℕ) (cover : List (Optio
     count_by p (carved r at n cover) ≡ count_by p cover + n
 unfolding carved
 carved_count p r at n cover f some none =
-    let after : count_by p (carved r at n cover) ≡ count_by p (take at cover) + (n * 1 + count_by p (drop (at + n) cover)) = rw some at (count_three p (take at cover) (drop (at + n) cover) n (Some r)) in
-    let before : count_by p (take at cover ++ (replicate n None ++ drop (at + n) cover)) ≡ count_by p (take at cover) + (n * 0 + count_by p (drop (at + n) cover)) = rw none at (count_three p (take at cover) (drop (at + n) cover) n None) in
+    let after : count_by p (carved r at n cover) ≡ count_by p (take at cover) + (n * 1 + count_by p (drop (at + n) cover)) =
+    rw some at (count_three p (take at cover) (drop (at + n) cover) n (Some r)) in
+    let before : count_by p (take at cover ++ (replicate n None ++ drop (at + n) cover)) ≡ count_by p (take at cover) + (n * 0 + count_by p (drop (at + n) cover)) =
+    rw none at (count_three p (take at cover) (drop (at + n) cover) n None) in
     let same : count_by p (take at cover ++ (replicate n None ++ drop (at + n) cover)) ≡ count_by p cover = ap (count_by p) (free_split at n cover f) in
     omega (arith, after, before, same)
 

@@ -40,7 +40,8 @@ one_of_size size a lines e h (suc k) d below = h k d (omega arith)
 lines_of_size : (parts : PartsOf) (accounts : List AccountOf) (arena : ℕ) (vaults : List _) → All (IsOpen parts) vaults → AreOfSize parts.size (arena_lines accounts arena vaults)
 lines_of_size parts accounts arena [] h = λ k d below. absurd (omega arith)
 lines_of_size parts accounts arena (v ∷ vs) h =
-    one_of_size parts.size (arena_line accounts arena v) (arena_lines accounts (suc arena) vs) (h 0 v (omega arith)).4 (lines_of_size parts accounts (suc arena) vs (λ k d below. h (suc k) d (omega arith)))
+    one_of_size parts.size (arena_line accounts arena v) (arena_lines accounts (suc arena) vs) (h 0 v (omega arith)).4
+    (lines_of_size parts accounts (suc arena) vs (λ k d below. h (suc k) d (omega arith)))
 
 -- and as many
 as_many_lines : (accounts : List AccountOf) (arena : ℕ) (vaults : List _) → length (arena_lines accounts arena vaults) ≡ length (vault_names vaults)

@@ -11,5 +11,6 @@ split_seat-requires c = (c.requires.0 ∙ sym c.self.view_is, omega (arith, c.se
 pub returns-clause-pen : goal.returns-clause-pen
 returns-clause-pen c =
     let e = c.split_seat.ensures in
-    let known = ap (λ m. at m.0.fronts c.args.number) e.4 ∙ ap (λ v. at v.fronts c.args.number) c.requires.1 ∙ get_or-map-range_with_len (λ q. vacant q ∷ []) 0 32 c.args.number c.args.number [] c.requires.2 (omega arith) in
+    let known = ap (λ m. at m.0.fronts c.args.number) e.4 ∙ ap (λ v. at v.fronts c.args.number) c.requires.1
+    ∙ get_or-map-range_with_len (λ q. vacant q ∷ []) 0 32 c.args.number c.args.number [] c.requires.2 (omega arith) in
     λ i. record { glances = (e.3 ∙ c.requires.0) i; number = c.args.number; history = known i }
