@@ -17,18 +17,13 @@ use std::sync::Wait;
 use std::thread::Threads;
 use xh_core::Config;
 use xh_runner::{run_parallel, run_serial};
-use xh_script::{Fault, Watched};
+use xh_script::{Fault, Watched, write_bytes};
 
 /// Writes a text, as far as the writer takes it.
 fn print<W: Write>(out: &mut Watched<W>, text: &[u8]) {
-    let mut rest = text;
-    while !rest.is_empty() {
-        match out.write(rest) {
-            Some(taken) => rest = &rest[taken..],
-            None => return,
-        }
+    if write_bytes(out, text).is_ok() {
+        let _ = out.flush();
     }
-    let _ = out.flush();
 }
 
 /// Tells what is wrong with the command line, or prints the help or the version that it asks for.
