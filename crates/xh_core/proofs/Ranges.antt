@@ -1,5 +1,5 @@
 -- Sums over ranges of numbers.
-use Rattle.std.proofs.Common.{◌≡◌, ℕ, zero, suc, ◌+◌, ◌-◌, ◌<◌, ◌≤◌, List, [], ◌∷◌, length, cond, refl, sym, ap, ◌∙◌, arith, inl, inr}
+use Rattle.std.proofs.Common.{◌≡◌, ◌≢◌, ℕ, zero, suc, ◌+◌, ◌-◌, ◌<◌, ◌≤◌, List, [], ◌∷◌, length, cond, refl, sym, ap, ◌∙◌, arith, inl, inr}
 use Rattle.std.specs.Prelude.{◌==◌, map, slice_index_or}
 use Rattle.std.specs.List.{sum_by, range_with_len}
 use Rattle.std.proofs.lemmas.Bool.{cases_eq, eq-eqb, ne_eqb}
@@ -30,6 +30,40 @@ picked n p from (suc k) a b =
           let rest : sum_by f (range_with_len (from + 1) k) ≡ n = picked n p (from + 1) k (omega arith) (omega arith) in
           omega arith)
     ]
+
+-- two sums of which one term differs
+pub sum_but_one : (f g : ℕ → ℕ) (n r : ℕ) → r < n → ((q : ℕ) → q ≢ r → f q ≡ g q) → sum_by f (range_with_len 0 n) + g r ≡ sum_by g (range_with_len 0 n) + f r
+sum_but_one f g n r l h =
+    let rs : List ℕ = range_with_len 0 n in
+    let both : sum_by (λ q. f q + cond {A = ℕ} (r == q) (g r) 0) rs ≡ sum_by (λ q. g q + cond {A = ℕ} (r == q) (f r) 0) rs = sum_same _ _ rs (λ q. elim (cases_eq r q) [
+      | inl e ↦ (let a : f q ≡ f r = ap f (sym e) in let b : g q ≡ g r = ap g (sym e) in rw (eq-eqb r q e) (omega (arith, a, b)))
+      | inr d ↦ rw (ne_eqb r q d) (ap (λ k. k + 0) (h q (λ e. d (sym e))))
+    ]) in
+    let a = sum_add f (λ q. cond {A = ℕ} (r == q) (g r) 0) rs in
+    let b = sum_add g (λ q. cond {A = ℕ} (r == q) (f r) 0) rs in
+    let x = picked (g r) r 0 n (omega arith) (omega arith) in
+    let y = picked (f r) r 0 n (omega arith) (omega arith) in
+    omega (arith, both, a, b, x, y)
+
+-- no term is more than the sum
+pub one_of_sum : (f : ℕ → ℕ) (n r : ℕ) → r < n → f r ≤ sum_by f (range_with_len 0 n)
+one_of_sum f n r l =
+    let rest : ℕ → ℕ = λ q. cond (q == r) 0 (f q) in
+    let none : rest r ≡ 0 = rw (eq-eqb r r refl) refl in
+    let e = sum_but_one f rest n r l (λ q d. sym (rw (ne_eqb q r d) refl)) in omega (arith, e, none)
+
+-- two terms differ, and come to the same
+pub sum_but_two : (f g : ℕ → ℕ) (n r t : ℕ) → r < n → t < n → r ≢ t → ((q : ℕ) → q ≢ r → q ≢ t → f q ≡ g q) → f r + f t ≡ g r + g t →
+    sum_by f (range_with_len 0 n) ≡ sum_by g (range_with_len 0 n)
+sum_but_two f g n r t l m other h e =
+    let mid : ℕ → ℕ = λ q. cond (q == r) (f r) (g q) in
+    let here : mid r ≡ f r = rw (eq-eqb r r refl) refl in
+    let there : mid t ≡ g t = rw (ne_eqb t r (λ x. other (sym x))) refl in
+    let a = sum_but_one mid g n r l (λ q d. rw (ne_eqb q r d) refl) in
+    let b = sum_but_one f mid n t m (λ q d. elim (cases_eq q r) [
+      | inl x ↦ rw (eq-eqb q r x) (ap f x)
+      | inr nr ↦ rw (ne_eqb q r nr) (h q nr d)
+    ]) in omega (arith, a, b, here, there, e)
 
 -- the terms of the range are the same
 pub same_range : (f g : ℕ → ℕ) (from k : ℕ) → ((q : ℕ) → from ≤ q → q < from + k → f q ≡ g q) → sum_by f (range_with_len from k) ≡ sum_by g (range_with_len from k)

@@ -66,6 +66,15 @@ at_place m p k l = elim (cases_eq (p % 32) k) [
   | inr n ↦ rw (ne_eqb (p % 32) k n, ne_eqb (k + 32 * (slice_index_or m.places k no_place).generation) p (λ s. n (omega (arith, s, l)))) refl
 ]
 
+-- what the latest process of a place holds is what its place lists
+pub place_total : (m : Machine) (k : ℕ) → IsWhole m → k < 32 →
+    bytes_of m.store (Process (k + 32 * (slice_index_or m.places k no_place).generation)) ≡ total m.store (slice_index_or m.places k no_place).blocks.items
+unfolding latest
+place_total m k w l =
+    let rest : latest m k % 32 ≡ k = omega (arith, l) in
+    let a = at_place m (latest m k) k l in
+    listed_bytes m (Process (latest m k)) w ∙ sym (rw (eq-eqb (latest m k) (latest m k) refl, eq-eqb (latest m k % 32) k rest) at a)
+
 latest_below : (m : Machine) (k : ℕ) → IsWhole m → k < 32 → latest m k < 4096
 unfolding latest
 latest_below m k w l =

@@ -13,8 +13,8 @@ machine_of s = record {
   ends = s.ends.items;
   buffers = s.memory;
   places = s.places.items;
-  lines = s.lines.items;
-  contracts = s.contracts.items;
-  opened = s.opened;
+  lines = s.channels.lines;
+  contracts = s.channels.contracts;
+  opened = s.channels.opened;
   depth = s.depth;
 }

@@ -1,5 +1,6 @@
 -- What the private steps go by. No exported call's promise needs it to be read.
+pub mod Channeling
 pub mod Checks
 pub mod Gaining
-pub mod Measuring
+pub mod Owning
 pub mod Pairing

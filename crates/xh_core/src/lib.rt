@@ -6,6 +6,7 @@
 #![tactic(auto)]
 
 mod block;
+mod channels;
 mod contract;
 mod glance;
 mod ledger;
@@ -20,6 +21,7 @@ mod status;
 mod talk;
 mod talk_end;
 mod turn;
+mod twice;
 
 pub use block::Block;
 pub use contract::Contract;
@@ -32,4 +34,5 @@ pub use serial::Serial;
 pub use status::Status;
 pub use talk::Talk;
 pub use turn::Turn;
+pub use twice::is_twice;
 pub use xh_model::{Config, Event, Holder, Outcome, Row};

@@ -1,7 +1,7 @@
 //! The serial heap: places, channels and the bytes of blocks over the plain machine.
 ghost use Rattle.std.specs.Prelude.{◌≡◌, ◌⊎◌, ◌↔◌, None, Err, IfOk, IfErr, OnOk, replicate};
 ghost use Rattle.xh_model.specs.Config.{IsConfig};
-ghost use Rattle.xh_core.specs.Machine.{no_place, no_line};
+ghost use Rattle.xh_core.specs.Machine.{no_place};
 ghost use Rattle.xh_core.specs.PlaceCommands.{new_machine};
 
 mod blocks;
@@ -14,10 +14,9 @@ mod places;
 mod readers;
 mod sweep;
 
-use crate::contract::Contract;
-use crate::line::Line;
+use crate::channels::Channels;
 use crate::memory::Memory;
-use crate::place::Place;
+use crate::place::{Place, new_places};
 use crate::plain::Plain;
 use crate::refused::Refused;
 use crate::status::Status;
@@ -38,12 +37,7 @@ pub struct Serial {
     /// By record, its bytes, where it is a data block.
     memory: Memory,
     places: Vec<Place>,
-    /// By direction.
-    lines: Vec<Line>,
-    /// By channel.
-    contracts: Vec<Option<Contract>>,
-    /// How many channels were opened.
-    opened: u8,
+    channels: Channels,
     depth: u8,
 }
 
@@ -66,48 +60,6 @@ fn no_ends(alloc: Global, count: usize) -> Result<Vec<Option<u8>>, AllocError>
     vec![in alloc; None; count]
 }
 
-/// The places, all vacant.
-fn new_places(alloc: Global) -> Result<Vec<Place>, AllocError>
-    ensures { IfOk result (λ places. places.items ≡ replicate 32 no_place) }
-{
-    let mut places = Vec::with_capacity(alloc, 32)?;
-    for _ in 0..32u8 {
-        places.push(Place {
-            blocks: ArrayVec::new(),
-            status: Status::Vacant,
-            generation: 0,
-        })?;
-    }
-    Ok(places)
-}
-
-/// The directions of all channels.
-fn new_lines(alloc: Global) -> Result<Vec<Line>, AllocError>
-    ensures { IfOk result (λ lines. lines.items ≡ replicate 128 no_line) }
-{
-    let mut lines = Vec::with_capacity(alloc, 128)?;
-    for _ in 0..128u8 {
-        lines.push(Line {
-            shut: false,
-            state: 0,
-            put: 0,
-            waiting: ArrayVec::new(),
-        })?;
-    }
-    Ok(lines)
-}
-
-/// No contract for any channel.
-fn no_contracts(alloc: Global) -> Result<Vec<Option<Contract>>, AllocError>
-    ensures { IfOk result (λ contracts. contracts.items ≡ replicate 64 None) }
-{
-    let mut contracts = Vec::with_capacity(alloc, 64)?;
-    for _ in 0..64u8 {
-        contracts.push(None)?;
-    }
-    Ok(contracts)
-}
-
 impl Serial {
     /// A heap without processes, channels and blocks. BadSize where the config is outside its
     /// limits, then OutOfMemory. All room but that of the blocks' bytes is made here.
@@ -125,9 +77,7 @@ impl Serial {
             ends: no_ends(alloc, usize::from(count))?,
             memory: Memory::none(alloc, count)?,
             places: new_places(alloc)?,
-            lines: new_lines(alloc)?,
-            contracts: no_contracts(alloc)?,
-            opened: 0,
+            channels: Channels::none(alloc)?,
             depth: config.depth,
         })
     }

@@ -1,11 +1,11 @@
 //! Several events at a time, and what is read of the arenas.
-ghost use Rattle.std.specs.Prelude.{◌≡◌, ◌≢◌, ℕ, ◌+◌, ◌<◌, ◌≤◌, ◌/◌, ◌%◌, ◌∷◌, [], Some, None, OnOk, OnErr, MatchResult, length, slice_index_or, true};
+ghost use Rattle.std.specs.Prelude.{◌≡◌, ◌≢◌, ℕ, ◌+◌, ◌<◌, ◌≤◌, ◌/◌, ◌%◌, ◌∷◌, [], Some, None, OnOk, OnErr, MatchResult, length, true};
 ghost use Rattle.std.specs.List.{position};
 ghost use Rattle.std.specs.Prelude.{is_none};
 ghost use Rattle.xh_model.specs.declared.limits.TheConstants.{UNIT};
 ghost use Rattle.xh_model.specs.declared.event.Event.TheVariants.{Claim, Carve, Cut, GiveBack, Vacate};
 ghost use Rattle.xh_model.specs.declared.event.Holder.TheVariants.{Process};
-ghost use Rattle.xh_model.specs.Store.{IsLawful, after, arena_at, holds, is_known, len, owner};
+ghost use Rattle.xh_model.specs.Store.{IsLawful, after, arena_at, bytes_of, holds, is_known, len, owner};
 ghost use Rattle.xh_core.specs.BlockCommands.{free_record, space_tests};
 ghost use Rattle.xh_core.specs.inner.Gaining.{Gained};
 ghost use Rattle.xh_core.specs.Refusing.{first_refusal};
@@ -19,13 +19,6 @@ fn first_free(owners: &[Option<Holder>]) -> Option<usize>
     ensures { result ≡ position is_none owners.now }
 {
     owners.iter().position(|owner| owner.is_none())
-}
-
-/// The length of a record in a list of lengths; none past its end.
-pub(crate) fn length_at(lengths: &[u32], r: u16) -> u32
-    ensures { result ≡ slice_index_or lengths.now r 0 }
-{
-    lengths.get(usize::from(r)).copied().unwrap_or(0)
 }
 
 impl Plain {
@@ -45,19 +38,22 @@ impl Plain {
         self.arenas[arena as usize].size()
     }
 
-    /// The bytes of each record, by its number.
-    pub(crate) fn lengths(&self) -> &[u32]
-        ensures { (r : ℕ) → slice_index_or result.now r 0 ≡ len self.now r }
-    {
-        let _open = &self.records;
-        self.lengths.as_slice()
-    }
-
     /// The bytes of a record; none where there is no such record.
     pub(crate) fn len(&self, r: u16) -> u32
         ensures { result ≡ len self.now r }
     {
-        length_at(self.lengths(), r)
+        match self.extent(r) {
+            Some((_, bytes)) => bytes,
+            None => 0,
+        }
+    }
+
+    /// The bytes of all records that a process holds.
+    pub(crate) fn owned(&self, p: u16) -> u64
+        ensures is { result ≡ bytes_of self.now (Process p) }
+        ensures most { result ≤ 2147483648 }
+    {
+        self.totals.of(p)
     }
 
     /// The lowest record of an arena that nobody holds.

@@ -10,34 +10,11 @@ ghost use Rattle.xh_core.specs.Refusing.{IsRunning, Tested};
 ghost use Rattle.xh_core.specs.inner.Checks.{MaySplit};
 
 use crate::block::Block;
-use crate::place::Place;
+use crate::place::{list_record, unlist_record};
 use crate::refused::Refused;
 use crate::serial::Serial;
-use crate::serial::ending::place_of;
 use std::alloc::Global;
 use xh_model::limits::UNIT;
-
-/// A record goes to the end of the list of a process.
-pub(super) fn list_record(places: &mut Vec<Place>, p: u16, r: u16)
-    requires there { p % 32 < length places.old.items }
-    requires room { length (slice_index_or places.old.items (p % 32) no_place).blocks.items < 2048 }
-    ensures { let place = slice_index_or places.old.items (p % 32) no_place in
-        places.new.items ≡ slice_set places.old.items (p % 32) (record place { blocks = record { items = place.blocks.items ++ r ∷ [] } }) }
-{
-    places[usize::from(p % 32)].blocks.push(r);
-}
-
-/// A record leaves the list of a process.
-fn unlist_record(places: &mut Vec<Place>, p: u16, r: u16)
-    requires there { p % 32 < length places.old.items }
-    requires listed { let list = (slice_index_or places.old.items (p % 32) no_place).blocks.items in position_or_len (λ q. q == r) list < length list }
-    ensures { let place = slice_index_or places.old.items (p % 32) no_place in
-        places.new.items ≡ slice_set places.old.items (p % 32) (record place { blocks = record { items = remove place.blocks.items (position_or_len (λ q. q == r) place.blocks.items) } }) }
-{
-    let blocks = &mut places[usize::from(p % 32)].blocks;
-    let at = place_of(blocks.as_slice(), r);
-    blocks.remove(at);
-}
 
 /// The next multiple of 16.
 fn round(n: u32) -> u32

@@ -1,42 +1,14 @@
 //! What the ledger tells: the arenas, the places, and the sums of their bytes.
-ghost use Rattle.std.specs.Prelude.{◌≡◌, ◌+◌, ◌<◌, ◌≤◌, ◌*◌, All, length};
+ghost use Rattle.std.specs.Prelude.{◌≡◌, ◌+◌, ◌<◌, ◌≤◌, ◌*◌, All, length, slice_index_or};
 ghost use Rattle.std.specs.List.{sum_by};
-ghost use Rattle.xh_core.specs.Machine.{is_vacant};
-ghost use Rattle.xh_core.specs.PlaceCommands.{ledger_of, line_state, place_line, place_lines, total};
+ghost use Rattle.xh_core.specs.Machine.{is_vacant, no_place};
+ghost use Rattle.xh_core.specs.PlaceCommands.{ledger_of, line_state, place_lines, total};
 
 use crate::ledger::{Ledger, PLACE_LINES, PlaceLine, State};
-use crate::place::Place;
-use crate::plain::{Plain, length_at};
+use crate::place::{Place, number};
 use crate::serial::Serial;
-use crate::serial::places::number;
 use crate::status::Status;
 use arrayvec::ArrayVec;
-
-/// The bytes of these records.
-pub(super) fn total(plain: &Plain, records: &[u16]) -> u64
-    requires { length records.now ≤ 2048 }
-    ensures sum { result ≡ total plain.now records.now }
-    ensures most { result ≤ length records.now * 4294967295 }
-{
-    let lengths = plain.lengths();
-    let mut sum = 0u64;
-    for r in records {
-        sum += u64::from(length_at(lengths, *r));
-    }
-    sum
-}
-
-/// The bytes that processes own.
-fn owned(plain: &Plain, places: &[Place]) -> u64
-    requires { length places.now ≤ 32 }
-    ensures { result ≡ sum_by (λ place. total plain.now place.blocks.items) places.now }
-{
-    let mut sum = 0u64;
-    for place in places {
-        sum += total(plain, place.blocks.as_slice());
-    }
-    sum
-}
 
 fn is_unused(place: &Place) -> bool
     ensures { result ≡ is_vacant place.now.status }
@@ -57,35 +29,56 @@ fn state_of(place: &Place) -> State
     }
 }
 
-fn place_line(plain: &Plain, at: usize, place: &Place) -> PlaceLine
+/// A place's line, where its process owns so many bytes.
+fn place_line(at: usize, place: &Place, bytes: u64) -> PlaceLine
     requires { at < 32 }
-    ensures { result ≡ place_line plain.now at place.now }
+    ensures { result ≡ record { place = at; process = at + 32 * place.now.generation; state = line_state place.now.status; blocks = length place.now.blocks.items; bytes = bytes } }
 {
     PlaceLine {
         place: at as u8,
         process: number(at, place.generation),
         state: state_of(place),
         blocks: place.blocks.len() as u32,
-        bytes: total(plain, place.blocks.as_slice()),
+        bytes,
     }
-}
-
-/// A line for each place that was ever used.
-fn place_lines(plain: &Plain, places: &[Place]) -> ArrayVec<PlaceLine, PLACE_LINES>
-    requires { length places.now ≤ 32 }
-    ensures lines { result.items ≡ place_lines plain.now 0 places.now }
-    ensures places { All (λ line. line.place < 32) result.items }
-{
-    let mut lines = ArrayVec::new();
-    for (at, place) in places.iter().enumerate() {
-        if !is_unused(place) {
-            lines.push(place_line(plain, at, place));
-        }
-    }
-    lines
 }
 
 impl Serial {
+    /// The bytes that the latest process of a place owns.
+    pub(super) fn bytes_at(&self, at: usize) -> u64
+        requires { at < 32 }
+        ensures sum { result ≡ total self.now.store (slice_index_or self.now.places at no_place).blocks.items }
+        ensures most { result ≤ 2147483648 }
+    {
+        self.plain.owned(number(at, self.places[at].generation))
+    }
+
+    /// The bytes that processes own.
+    fn owned(&self) -> u64
+        ensures { result ≡ sum_by (λ place. total self.now.store place.blocks.items) self.now.places }
+    {
+        let mut sum = 0u64;
+        for at in 0..self.places.len() {
+            sum += self.bytes_at(at);
+        }
+        sum
+    }
+
+    /// A line for each place that was ever used.
+    fn place_lines(&self) -> ArrayVec<PlaceLine, PLACE_LINES>
+        ensures lines { result.items ≡ place_lines self.now.store 0 self.now.places }
+        ensures places { All (λ line. line.place < 32) result.items }
+    {
+        let mut lines = ArrayVec::new();
+        for at in 0..self.places.len() {
+            let place = &self.places[at];
+            if !is_unused(place) {
+                lines.push(place_line(at, place, self.bytes_at(at)));
+            }
+        }
+        lines
+    }
+
     /// What the heap holds now, line by line.
     pub fn ledger(&self) -> Ledger
         ensures fields { result ≡ ledger_of self.now }
@@ -94,11 +87,11 @@ impl Serial {
         ensures places { All (λ line. line.place < 32) result.places.items }
     {
         let out = self.plain.handed_out();
-        let held = owned(&self.plain, self.places.as_slice());
+        let held = self.owned();
         let flight = out - held;
         Ledger {
             arenas: self.plain.arena_lines(),
-            places: place_lines(&self.plain, self.places.as_slice()),
+            places: self.place_lines(),
             owned: held,
             flight,
             out,

@@ -1,52 +1,14 @@
 //! Channels are opened, for one process or between two.
 ghost use Rattle.std.specs.Prelude.{◌≡◌, ◌+◌, ◌*◌, ◌<◌, [], Some, None, false, length, slice_set};
-ghost use Rattle.xh_core.specs.ChannelCommands.{first_state, new_line, open_channel, wire_channel, wire_heads};
+ghost use Rattle.xh_core.specs.ChannelCommands.{open_channel, wire_channel, wire_heads};
 ghost use Rattle.xh_core.specs.MessageCommands.{AreOrderly};
-ghost use Rattle.xh_core.specs.inner.Pairing.{IsSound};
 ghost use Rattle.xh_core.specs.Refusing.{IsRunning, Tested};
 
 use super::Serial;
-use super::blocks::list_record;
 use crate::block::Block;
 use crate::contract::Contract;
-use crate::line::Line;
+use crate::place::list_record;
 use crate::refused::Refused;
-use arrayvec::ArrayVec;
-
-/// The state in which both ends of a channel begin.
-fn first_state(contract: &Option<Contract>) -> u8
-    ensures state { result ≡ first_state contract.now }
-    ensures sound { IsSound contract.now }
-{
-    match contract {
-        Some(contract) => contract.first(),
-        None => 0,
-    }
-}
-
-/// A direction on which nothing was put.
-fn new_line(state: u8) -> Line
-    ensures { result ≡ record { shut = false; state = state; put = 0; waiting = record { items = [] } } }
-{
-    Line {
-        shut: false,
-        state,
-        put: 0,
-        waiting: ArrayVec::new(),
-    }
-}
-
-/// Both directions of a channel begin.
-fn begin_lines(lines: &mut Vec<Line>, channel: u8, contract: &Option<Contract>)
-    requires { 2 * channel + 1 < length lines.old.items }
-    ensures lines { lines.new.items ≡ slice_set (slice_set lines.old.items (2 * channel) (new_line contract.now)) (2 * channel + 1) (new_line contract.now) }
-    ensures sound { IsSound contract.now }
-{
-    let low = 2 * usize::from(channel);
-    let state = first_state(contract);
-    lines[low] = new_line(state);
-    lines[low + 1] = new_line(state);
-}
 
 /// Two records are the ends of a channel: `r` is side 0 and `t` side 1.
 fn mark_ends(ends: &mut Vec<Option<u8>>, r: u16, t: u16, channel: u8)
@@ -69,7 +31,7 @@ impl Serial {
         if arena as usize >= self.plain.arenas() {
             return Err(Refused::NoArena);
         }
-        if self.opened >= 64 {
+        if self.channels.opened() >= 64 {
             return Err(Refused::NoChannel);
         }
         Ok(())
@@ -88,11 +50,8 @@ impl Serial {
     {
         self.check_wire(p, q, arena)?;
         let (r, t) = self.plain.take_ends(p, arena)?;
-        let channel = self.opened;
-        begin_lines(&mut self.lines, channel, &contract);
-        self.contracts[usize::from(channel)] = contract;
+        let channel = self.channels.open(contract);
         mark_ends(&mut self.ends, r, t, channel);
-        self.opened = channel + 1;
         self.plain.hand_over(p, q, t, 2 * channel + 1);
         list_record(&mut self.places, p, r);
         list_record(&mut self.places, q, t);

@@ -6,45 +6,17 @@ ghost use Rattle.xh_model.specs.Store.{holds};
 ghost use Rattle.xh_core.specs.Machine.{end_of, is_current, place, status_of};
 ghost use Rattle.xh_core.specs.Refusing.{data_tests, end_tests, start, stop_tests, IsRunning, Tested};
 ghost use Rattle.xh_core.specs.EndingCommands.{close_tests, kill_tests};
-ghost use Rattle.xh_core.specs.MessageCommands.{give_tests, has_twice, is_banned, is_full, take_tests};
+ghost use Rattle.xh_core.specs.MessageCommands.{give_tests, take_tests};
 ghost use Rattle.xh_core.specs.inner.Checks.{MayGive, MayTake};
 
-use crate::contract::Contract;
-use crate::line::Line;
+use crate::channels::{listed, peer};
 use crate::refused::Refused;
 use crate::serial::Serial;
-use crate::serial::messages::{listed, peer};
 use crate::status::Status;
+use crate::twice::is_twice;
 use arrayvec::ArrayVec;
 use xh_model::Holder;
 use xh_model::limits::MAX_BLOCKS;
-
-/// Whether a record stands twice among these.
-fn is_twice(blocks: &[u16]) -> bool
-    ensures { result ≡ has_twice blocks.now }
-{
-    match blocks {
-        [] => false,
-        [first, rest @ ..] => rest.contains(first) || is_twice(rest),
-    }
-}
-
-/// Whether an end's contract, if it has one, allows no such message from this side.
-fn is_against(contract: &Option<Contract>, side: u8, state: u8, tag: u16) -> bool
-    ensures { result ≡ is_banned contract.now side state tag }
-{
-    match contract {
-        Some(contract) => contract.allows(state, tag, side).is_none(),
-        None => false,
-    }
-}
-
-/// Whether a direction takes no further message.
-fn is_at_end(line: &Line, depth: u8) -> bool
-    ensures { result ≡ is_full depth line.now }
-{
-    line.waiting.len() >= usize::from(depth) || line.put >= 4_611_686_018_427_387_903
-}
 
 impl Serial {
     /// How far a process has come; Vacant where there is no such process.
@@ -143,8 +115,8 @@ impl Serial {
     {
         self.check_start(p)?;
         let d = self.check_end(p, e)?;
-        if self.lines[usize::from(d)].waiting.is_empty() {
-            if self.lines[usize::from(peer(d))].shut {
+        if self.channels.waiting(d).is_empty() {
+            if self.channels.is_shut(peer(d)) {
                 return Err(Refused::PeerClosed {
                     back: ArrayVec::new(),
                 });
@@ -170,15 +142,13 @@ impl Serial {
             return Err(Refused::Twice);
         }
         let back = listed(blocks);
-        let state = self.lines[usize::from(d)].state;
-        if is_against(&self.contracts[usize::from(d / 2)], d % 2, state, tag) {
+        if self.channels.is_against(d, tag) {
             return Err(Refused::Protocol { back });
         }
-        let line = &self.lines[usize::from(peer(d))];
-        if line.shut {
+        if self.channels.is_shut(peer(d)) {
             return Err(Refused::PeerClosed { back });
         }
-        if is_at_end(line, self.depth) {
+        if self.channels.is_full(peer(d), self.depth) {
             return Err(Refused::Full { back });
         }
         Ok(d)

@@ -10,49 +10,10 @@ ghost use Rattle.xh_core.specs.Refusing.{first_refusal, stop_tests, IsRunning};
 ghost use Rattle.xh_core.specs.Sweeping.{Sweeps};
 ghost use Rattle.xh_core.specs.EndingCommands.{close, exit, kill, kill_tests, last, moved_last, reclaimed, stopped};
 
-use crate::place::Place;
+use crate::place::{move_to_end, set_status};
 use crate::refused::Refused;
 use crate::serial::Serial;
 use crate::status::Status;
-
-/// Where a record stands first in a list.
-fn place_in(list: &[u16], e: u16) -> Option<usize>
-    ensures { result ≡ position (λ q. q == e) list.now }
-{
-    list.iter().position(|q| *q == e)
-}
-
-/// The same, or the list's length.
-pub(super) fn place_of(list: &[u16], e: u16) -> usize
-    ensures { result ≡ position_or_len (λ q. q == e) list.now }
-{
-    place_in(list, e).unwrap_or(list.len())
-}
-
-/// How far the process of a place has come.
-fn set_status(places: &mut Vec<Place>, p: u16, status: Status)
-    requires { p % 32 < length places.old.items }
-    ensures { let place = slice_index_or places.old.items (p % 32) no_place in
-        places.new.items ≡ slice_set places.old.items (p % 32) (record place { status = status }) }
-{
-    places[usize::from(p % 32)].status = status;
-}
-
-/// A record goes to the end of the list of a process. Where it stands then.
-fn move_to_end(places: &mut Vec<Place>, p: u16, e: u16) -> usize
-    requires there { p % 32 < length places.old.items }
-    requires listed { let list = (slice_index_or places.old.items (p % 32) no_place).blocks.items in position_or_len (λ q. q == e) list < length list }
-    ensures list { let place = slice_index_or places.old.items (p % 32) no_place in
-        places.new.items ≡ slice_set places.old.items (p % 32) (record place { blocks = record { items = last e place.blocks.items } }) }
-    ensures at { result + 1 ≡ length (slice_index_or places.old.items (p % 32) no_place).blocks.items }
-{
-    let blocks = &mut places[usize::from(p % 32)].blocks;
-    let at = place_of(blocks.as_slice(), e);
-    blocks.remove(at);
-    let end = blocks.len();
-    blocks.push(e);
-    end
-}
 
 impl Serial {
     fn begin_ending(&mut self, p: u16)

@@ -9,37 +9,15 @@ ghost use Rattle.xh_core.specs.Refusing.{toward};
 ghost use Rattle.xh_core.specs.MessageCommands.{AreOrderly, described, give, is_banned, no_message, pass_all, put_line, take, taken_line, told_line, LAST};
 
 use crate::block::Block;
-use crate::contract::Contract;
-use crate::line::Line;
-use crate::message::{Message, Taken};
+use crate::channels::peer;
+use crate::message::Taken;
+use crate::place::accept_blocks;
 use crate::plain::Plain;
 use crate::refused::Refused;
 use crate::serial::Serial;
-use crate::serial::sweep::{accept_blocks, state_after};
 use arrayvec::ArrayVec;
 use xh_model::limits::MAX_BLOCKS;
 use xh_model::{Event, Holder};
-
-/// The other direction of a channel.
-pub(super) fn peer(d: u8) -> u8
-    requires { d < 128 }
-    ensures is { result ≡ peer d }
-    ensures within { result < 128 }
-{
-    if d % 2 == 0 { d + 1 } else { d - 1 }
-}
-
-/// These records as a list of their own.
-pub(super) fn listed(blocks: &[u16]) -> ArrayVec<u16, MAX_BLOCKS>
-    requires { length blocks.now ≤ MAX_BLOCKS }
-    ensures { result.items ≡ blocks.now }
-{
-    let mut list = ArrayVec::new();
-    for r in blocks {
-        list.push(*r);
-    }
-    list
-}
 
 /// `p` passes these records to a direction.
 fn pass_blocks(plain: &mut Plain, p: u16, d: u8, blocks: &[u16])
@@ -55,55 +33,6 @@ fn keep_held(plain: &Plain, list: &mut ArrayVec<u16, 2048>, p: u16)
     ensures { list.new.items ≡ filter (λ r. holds plain.now (Process p) r) list.old.items }
 {
     list.retain(|r| plain.holds(Holder::Process(p), *r));
-}
-
-/// The end that puts a message is in its contract's next state.
-fn tell(lines: &mut Vec<Line>, contracts: &[Option<Contract>], own: u8, tag: u16)
-    requires there { own < length lines.old.items }
-    requires channel { own / 2 < length contracts.now }
-    ensures { lines.new.items ≡ slice_set lines.old.items own (told_line (contract_of contracts.now own) (own % 2) tag (slice_index_or lines.old.items own no_line)) }
-{
-    let line = &mut lines[usize::from(own)];
-    line.state = state_after(&contracts[usize::from(own / 2)], own % 2, line.state, tag);
-}
-
-/// A message goes to the back of a direction. Its number.
-fn put(lines: &mut Vec<Line>, to: u8, tag: u16, blocks: &[u16]) -> u64
-    requires there { to < length lines.old.items }
-    requires few { length blocks.now ≤ MAX_BLOCKS }
-    requires room { length (slice_index_or lines.old.items to no_line).waiting.items < MAX_DEPTH }
-    requires more { (slice_index_or lines.old.items to no_line).put < LAST }
-    ensures line { lines.new.items ≡ slice_set lines.old.items to (put_line tag blocks.now (slice_index_or lines.old.items to no_line)) }
-    ensures number { result ≡ (slice_index_or lines.old.items to no_line).put + 1 }
-{
-    let line = &mut lines[usize::from(to)];
-    let no = line.put + 1;
-    line.put = no;
-    line.waiting.push(Message {
-        no,
-        tag,
-        blocks: listed(blocks),
-    });
-    no
-}
-
-/// The front message of a direction, which moves its contract's state.
-fn take_front(lines: &mut Vec<Line>, contracts: &[Option<Contract>], d: u8) -> Message
-    requires there { d < length lines.old.items }
-    requires channel { d / 2 < length contracts.now }
-    requires some { 0 < length (slice_index_or lines.old.items d no_line).waiting.items }
-    ensures front { result ≡ slice_index_or (slice_index_or lines.old.items d no_line).waiting.items 0 no_message }
-    ensures line { lines.new.items ≡ slice_set lines.old.items d (taken_line (contract_of contracts.now d) (1 - d % 2) result.tag (slice_index_or lines.old.items d no_line)) }
-{
-    let line = &mut lines[usize::from(d)];
-    let message = line.waiting.remove(0);
-    line.state = state_after(
-        &contracts[usize::from(d / 2)],
-        1 - d % 2,
-        line.state,
-        message.tag,
-    );
-    message
 }
 
 /// Records as blocks.
@@ -136,8 +65,8 @@ impl Serial {
         pass_blocks(&mut self.plain, p, to, blocks);
         let place = &mut self.places[usize::from(p % 32)];
         keep_held(&self.plain, &mut place.blocks, p);
-        tell(&mut self.lines, &self.contracts, own, tag);
-        Ok(put(&mut self.lines, to, tag, blocks))
+        self.channels.tell(own, tag);
+        Ok(self.channels.put(to, tag, blocks))
     }
 
     /// Takes the message at the front of the direction toward `e`; its blocks are the taker's now.
@@ -152,7 +81,7 @@ impl Serial {
     {
         let _start = &self.plain;
         let d = self.check_take(p, e)?;
-        let message = take_front(&mut self.lines, &self.contracts, d);
+        let message = self.channels.take_front(d);
         let blocks = describe(&self.plain, &message.blocks);
         let place = &mut self.places[usize::from(p % 32)];
         accept_blocks(

@@ -5,54 +5,15 @@ ghost use Rattle.xh_model.specs.Store.{all_out};
 ghost use Rattle.xh_core.specs.Machine.{arriving, blocks, carried, drained_state, is_current, next_state, tags_of, way_in};
 ghost use Rattle.xh_core.specs.Sweeping.{accept_all, accept_from, shut_in, sweep, sweep_one, Sweeps};
 
-use crate::contract::Contract;
-use crate::line::Line;
+use crate::channels::Channels;
 use crate::message::Message;
+use crate::place::accept_blocks;
 use crate::plain::Plain;
 use crate::serial::Serial;
 use arrayvec::ArrayVec;
 use xh_model::Event;
 
-/// The contract's state of an end after a message with this tag, which `side` put.
-pub(super) fn state_after(contract: &Option<Contract>, side: u8, state: u8, tag: u16) -> u8
-    ensures { result ≡ next_state contract.now side state tag }
-{
-    match contract {
-        Some(contract) => contract.allows(state, tag, side).unwrap_or(state),
-        None => state,
-    }
-}
-
-/// The same after all of these messages.
-fn state_at_end(contract: &Option<Contract>, side: u8, state: u8, messages: &[Message]) -> u8
-    ensures { result ≡ drained_state contract.now side state (tags_of messages.now) }
-{
-    let mut end = state;
-    for message in messages {
-        end = state_after(contract, side, end, message.tag);
-    }
-    end
-}
-
-/// `p` accepts these records, which are in flight on `d`, at the end of its list.
-pub(super) fn accept_blocks(
-    plain: &mut Plain,
-    list: &mut ArrayVec<u16, 2048>,
-    p: u16,
-    d: u8,
-    blocks: &[u16],
-)
-    requires { length list.old.items + length blocks.now ≤ 2048 }
-    ensures store { plain.new ≡ accept_all p d blocks.now plain.old }
-    ensures list { list.new.items ≡ list.old.items ++ blocks.now }
-{
-    for r in blocks {
-        plain.step(Event::Accept(p, *r, d));
-        list.push(*r);
-    }
-}
-
-/// The same for the records of messages, front first.
+/// `p` accepts the records of messages, front first, at the end of its list.
 fn accept_messages(
     plain: &mut Plain,
     list: &mut ArrayVec<u16, 2048>,
@@ -73,25 +34,19 @@ fn accept_messages(
 fn shut(
     plain: &mut Plain,
     list: &mut ArrayVec<u16, 2048>,
-    lines: &mut Vec<Line>,
-    contracts: &[Option<Contract>],
+    channels: &mut Channels,
     p: u16,
     end: Option<u8>,
 )
-    requires room { length list.old.items + length (way_in lines.old.items end) ≤ 2048 }
-    requires there { (d : ℕ) → end ≡ Some d → d < length lines.old.items }
-    requires channel { (d : ℕ) → end ≡ Some d → d / 2 < length contracts.now }
-    ensures store { plain.new ≡ accept_from p end (way_in lines.old.items end) plain.old }
-    ensures list { list.new.items ≡ list.old.items ++ way_in lines.old.items end }
-    ensures lines { lines.new.items ≡ shut_in contracts.now lines.old.items end }
+    requires room { length list.old.items + length (way_in channels.old.lines end) ≤ 2048 }
+    requires there { (d : ℕ) → end ≡ Some d → d < 128 }
+    ensures store { plain.new ≡ accept_from p end (way_in channels.old.lines end) plain.old }
+    ensures list { list.new.items ≡ list.old.items ++ way_in channels.old.lines end }
+    ensures channels { channels.new ≡ record channels.old { lines = shut_in channels.old.contracts channels.old.lines end } }
 {
     if let Some(d) = end {
-        let line = &mut lines[usize::from(d)];
-        accept_messages(plain, list, p, d, line.waiting.as_slice());
-        let contract = &contracts[usize::from(d / 2)];
-        line.state = state_at_end(contract, 1 - d % 2, line.state, line.waiting.as_slice());
-        line.shut = true;
-        line.waiting.clear();
+        accept_messages(plain, list, p, d, channels.waiting(d));
+        channels.shut(d);
     }
 }
 
@@ -118,8 +73,7 @@ impl Serial {
         shut(
             &mut self.plain,
             &mut place.blocks,
-            &mut self.lines,
-            &self.contracts,
+            &mut self.channels,
             p,
             end,
         );

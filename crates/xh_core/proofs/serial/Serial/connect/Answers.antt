@@ -15,6 +15,7 @@ use Rattle.xh_core.proofs.Pairs.{Shared}
 use Rattle.xh_core.proofs.Wired.{wired_orderly}
 use Rattle.xh_core.specs.View.{machine_of}
 use Rattle.xh_core.proofs.serial.Serial.connect.Goals as goal
+use Rattle.xh_core.proofs.serial.Serial.connect.Goals.{After-hand_over}
 
 pub returns-in_err-check_wire-clause-is : goal.returns-in_err-check_wire-clause-is
 returns-in_err-check_wire-clause-is c =
@@ -49,29 +50,38 @@ mark_ends-requires-clause-high c =
     let runs : IsRunning m c.args.p = subst (λ (x : Machine). IsRunning x c.args.p) (sym c.self.view_is) c.in_ok-check_wire.ensures.1.0 in
     (pair_there m c.args.p c.args.arena c.in_ok-r.r c.in_ok-r.t c.take_ends.new.self c.self.invariant runs c.in_ok-r.ensures.done).1
 
+-- ---- what the steps before the lists found
+
+first_runs : (c : After-hand_over) → IsRunning (machine_of c.self.inside) c.args.p
+first_runs c = subst (λ (x : Machine). IsRunning x c.args.p) (sym c.self.view_is) c.in_ok-check_wire.ensures.1.0
+
+second_runs : (c : After-hand_over) → IsRunning (machine_of c.self.inside) c.args.q
+second_runs c = subst (λ (x : Machine). IsRunning x c.args.q) (sym c.self.view_is) c.in_ok-check_wire.ensures.1.1
+
+more : (c : After-hand_over) → (machine_of c.self.inside).opened < 64
+more c = subst (λ (x : Machine). x.opened < 64) (sym c.self.view_is) c.in_ok-check_wire.ensures.1.3
+
+handed : (c : After-hand_over) → c.hand_over.new.self ≡ moved c.args.p c.args.q c.in_ok-r.t (2 * (machine_of c.self.inside).opened + 1) c.take_ends.new.self
+handed c = c.hand_over.ensures.store ∙ ap (λ (k : ℕ). moved c.args.p c.args.q c.in_ok-r.t (2 * k + 1) c.take_ends.new.self) c.open-channel.ensures.number
+
+shared : (c : After-hand_over) → Shared c.args.p c.args.q c.in_ok-r.r c.in_ok-r.t (machine_of c.self.inside).store c.hand_over.new.self
+shared c =
+    all_shared (machine_of c.self.inside) c.args.p c.args.q c.args.arena c.in_ok-r.r c.in_ok-r.t c.take_ends.new.self c.hand_over.new.self c.self.invariant (first_runs c) (second_runs c)
+    (more c) c.in_ok-r.ensures.done (handed c) c.hand_over.ensures.lawful
+
 pub list_record-requires-clause-room : goal.list_record-requires-clause-room
 list_record-requires-clause-room c =
-    let m : Machine = machine_of c.self.inside in
-    let runs_p : IsRunning m c.args.p = subst (λ (x : Machine). IsRunning x c.args.p) (sym c.self.view_is) c.in_ok-check_wire.ensures.1.0 in
-    let runs_q : IsRunning m c.args.q = subst (λ (x : Machine). IsRunning x c.args.q) (sym c.self.view_is) c.in_ok-check_wire.ensures.1.1 in
-    let more : m.opened < 64 = subst (λ (x : Machine). x.opened < 64) (sym c.self.view_is) c.in_ok-check_wire.ensures.1.3 in
-    let g : Shared c.args.p c.args.q c.in_ok-r.r c.in_ok-r.t m.store c.hand_over.new.self =
-    all_shared m c.args.p c.args.q c.args.arena c.in_ok-r.r c.in_ok-r.t c.take_ends.new.self c.hand_over.new.self c.self.invariant runs_p runs_q more c.in_ok-r.ensures.done
-    c.hand_over.ensures.store c.hand_over.ensures.lawful in
-    room_p c.hand_over.new.self c.args.p c.args.q c.in_ok-r.r c.in_ok-r.t c.args.contract m c.self.invariant runs_p runs_q more c.begin_lines.ensures.sound g
+    let d = (goal.at.list_record-requires-clause-room c).After-hand_over in
+    room_p c.hand_over.new.self c.args.p c.args.q c.in_ok-r.r c.in_ok-r.t c.args.contract (machine_of c.self.inside) c.self.invariant (first_runs d) (second_runs d) (more d)
+    c.open-channel.ensures.sound (shared d)
 
 pub list_record-requires-2-clause-room : goal.list_record-requires-2-clause-room
 list_record-requires-2-clause-room c =
+    let d = (goal.at.list_record-requires-2-clause-room c).After-hand_over in
     let m : Machine = machine_of c.self.inside in
-    let runs_p : IsRunning m c.args.p = subst (λ (x : Machine). IsRunning x c.args.p) (sym c.self.view_is) c.in_ok-check_wire.ensures.1.0 in
-    let runs_q : IsRunning m c.args.q = subst (λ (x : Machine). IsRunning x c.args.q) (sym c.self.view_is) c.in_ok-check_wire.ensures.1.1 in
-    let more : m.opened < 64 = subst (λ (x : Machine). x.opened < 64) (sym c.self.view_is) c.in_ok-check_wire.ensures.1.3 in
-    let g : Shared c.args.p c.args.q c.in_ok-r.r c.in_ok-r.t m.store c.hand_over.new.self =
-    all_shared m c.args.p c.args.q c.args.arena c.in_ok-r.r c.in_ok-r.t c.take_ends.new.self c.hand_over.new.self c.self.invariant runs_p runs_q more c.in_ok-r.ensures.done
-    c.hand_over.ensures.store c.hand_over.ensures.lawful in
     let listed : c.list_record.new.places.items ≡ appended c.args.p c.in_ok-r.r m.places = c.list_record.ensures in
     subst (λ (ps : List Place). length (slice_index_or ps (c.args.q % 32) no_place).blocks.items < 2048) (sym listed)
-    (room_q c.hand_over.new.self c.args.p c.args.q c.in_ok-r.r c.in_ok-r.t c.args.contract m c.self.invariant runs_p runs_q more c.begin_lines.ensures.sound g)
+    (room_q c.hand_over.new.self c.args.p c.args.q c.in_ok-r.r c.in_ok-r.t c.args.contract m c.self.invariant (first_runs d) (second_runs d) (more d) c.open-channel.ensures.sound (shared d))
 
 -- ---- the machine at the end
 
@@ -83,34 +93,28 @@ is c = record (machine_of c.self.inside) {
   store = c.hand_over.new.self;
   ends = c.mark_ends.new.ends.items;
   places = c.list_record-2.new.places.items;
-  lines = c.begin_lines.new.lines.items;
-  contracts = slice_set c.self.inside.contracts.items c.from.result c.args.contract;
-  opened = c.self.inside.opened + 1;
+  lines = c.open-channel.new.self.lines;
+  contracts = c.open-channel.new.self.contracts;
+  opened = c.open-channel.new.self.opened;
 }
-
-runs_first : (c : goal.After-list_record-2) → IsRunning (was c) c.args.p
-runs_first c = subst (λ (x : Machine). IsRunning x c.args.p) (sym c.self.view_is) c.in_ok-check_wire.ensures.1.0
-
-runs_second : (c : goal.After-list_record-2) → IsRunning (was c) c.args.q
-runs_second c = subst (λ (x : Machine). IsRunning x c.args.q) (sym c.self.view_is) c.in_ok-check_wire.ensures.1.1
 
 -- it is the one with a channel more
 made : (c : goal.After-list_record-2) → is c ≡ connected c.hand_over.new.self c.args.p c.args.q c.in_ok-r.r c.in_ok-r.t c.args.contract (was c)
 made c =
     let first : c.list_record.new.places.items ≡ appended c.args.p c.in_ok-r.r (was c).places = c.list_record.ensures in
     let second : c.list_record-2.new.places.items ≡ appended c.args.q c.in_ok-r.t c.list_record.new.places.items = c.list_record-2.ensures in
-    same_machine (is c) (connected c.hand_over.new.self c.args.p c.args.q c.in_ok-r.r c.in_ok-r.t c.args.contract (was c)) refl c.mark_ends.ensures refl
+    same_machine (is c) (connected c.hand_over.new.self c.args.p c.args.q c.in_ok-r.r c.in_ok-r.t c.args.contract (was c)) refl
+    (c.mark_ends.ensures ∙ ap (λ (k : ℕ). slice_set (slice_set (was c).ends c.in_ok-r.r (Some (2 * k))) c.in_ok-r.t (Some (2 * k + 1))) c.open-channel.ensures.number) refl
     (second ∙ ap (λ (ps : List Place). appended c.args.q c.in_ok-r.t ps) first)
-    c.begin_lines.ensures.lines (ap (λ (k : ℕ). slice_set c.self.inside.contracts.items k c.args.contract) c.from.ensures) refl refl
+    c.open-channel.ensures.lines c.open-channel.ensures.contracts c.open-channel.ensures.opened refl
+
+abbrev steps : goal.After-list_record-2 → After-hand_over
+steps c = (goal.at.returns-clause-is c).After-hand_over
 
 whole : (c : goal.After-list_record-2) → IsWhole (is c)
 whole c =
-    let more : (was c).opened < 64 = subst (λ (x : Machine). x.opened < 64) (sym c.self.view_is) c.in_ok-check_wire.ensures.1.3 in
-    let g : Shared c.args.p c.args.q c.in_ok-r.r c.in_ok-r.t (was c).store c.hand_over.new.self =
-    all_shared (was c) c.args.p c.args.q c.args.arena c.in_ok-r.r c.in_ok-r.t c.take_ends.new.self c.hand_over.new.self c.self.invariant (runs_first c)
-    (runs_second c) more c.in_ok-r.ensures.done c.hand_over.ensures.store c.hand_over.ensures.lawful in
-    subst IsWhole (sym (made c)) (connected_whole c.hand_over.new.self c.args.p c.args.q c.in_ok-r.r c.in_ok-r.t c.args.contract (was c) c.self.invariant (runs_first c)
-    (runs_second c) more c.begin_lines.ensures.sound g)
+    subst IsWhole (sym (made c)) (connected_whole c.hand_over.new.self c.args.p c.args.q c.in_ok-r.r c.in_ok-r.t c.args.contract (was c) c.self.invariant (first_runs (steps c))
+    (second_runs (steps c)) (more (steps c)) c.open-channel.ensures.sound (shared (steps c)))
 
 pub invariant_of-self-2 : goal.invariant_of-self-2
 invariant_of-self-2 c = whole c
@@ -123,8 +127,8 @@ returns-clause-is c =
     let heads = subst (λ (x : Machine). first_refusal (wire_heads x c.args.p c.args.q c.args.arena) ≡ None) (sym c.self.view_is) c.in_ok-check_wire.ensures.0 in
     let pair : Paired c.args.p c.args.arena c.in_ok-r.r c.in_ok-r.t (was c).store c.take_ends.new.self = c.in_ok-r.ensures.done in
     let done = wire_done c.args.p c.args.q c.args.arena c.in_ok-r.r c.in_ok-r.t c.args.contract (was c) c.take_ends.new.self heads c.in_ok-r.ensures.tests pair in
-    let store = c.hand_over.ensures.store ∙ ap (λ (s : Store). moved c.args.p c.args.q c.in_ok-r.t (2 * (was c).opened + 1) s) pair.is in
+    let store = handed (steps c) ∙ ap (λ (s : Store). moved c.args.p c.args.q c.in_ok-r.t (2 * (was c).opened + 1) s) pair.is in
     let end : wired c.args.p c.args.q c.in_ok-r.r c.in_ok-r.t c.args.contract (was c) ≡ is c =
     sym (made c ∙ (ap (λ (s : Store). connected s c.args.p c.args.q c.in_ok-r.r c.in_ok-r.t c.args.contract (was c)) store
-    ∙ connected_is c.args.p c.args.q c.in_ok-r.r c.in_ok-r.t c.args.contract (was c) c.self.invariant (runs_first c) (runs_second c))) in
+    ∙ connected_is c.args.p c.args.q c.in_ok-r.r c.in_ok-r.t c.args.contract (was c) c.self.invariant (first_runs (steps c)) (second_runs (steps c)))) in
     ap (λ (x : Machine). wire_channel c.args.p c.args.q c.args.arena c.args.contract x) (sym c.self.view_is) ∙ (done ∙ (λ i. (Ok (ends_at c.in_ok-r.r c.in_ok-r.t), end i)))

@@ -10,6 +10,7 @@ use Rattle.xh_core.specs.declared.line.Line.{Line}
 use Rattle.xh_core.specs.Machine.{line, no_line, peer, contract_of}
 use Rattle.xh_core.specs.Refusing.{toward}
 use Rattle.xh_core.specs.MessageCommands.{give, given, told_line, put_line, pass_all, without}
+use Rattle.xh_core.specs.inner.Channeling.{ChannelsOf}
 use Rattle.xh_core.specs.inner.Checks.{MayGive}
 use Rattle.xh_core.proofs.Machines.{peer_ne}
 use Rattle.xh_core.proofs.Giving.{given_whole, kept}
@@ -30,7 +31,9 @@ is c = record (machine_of c.self.inside) {
     status = c.index_mut-place.result.now.status;
     generation = c.index_mut-place.result.now.generation;
   });
-  lines = c.put.new.lines.items;
+  lines = c.put.new.self.lines;
+  contracts = c.put.new.self.contracts;
+  opened = c.put.new.self.opened;
 }
 
 abbrev own : goal.After-put → ℕ
@@ -51,8 +54,10 @@ to c = c.peer-to.ensures.is ∙ ap peer (sym (at c))
 abbrev told : goal.After-put → Line
 told c = told_line (contract_of (was c).contracts (own c)) (own c % 2) c.args.tag (line (was c) (own c))
 
-tell : (c : goal.After-put) → c.tell.new.lines.items ≡ slice_set (was c).lines (own c) (told c)
-tell c = c.tell.ensures ∙ (λ i. slice_set (was c).lines (sym (at c) i) (told_line (contract_of (c.deref.ensures.value i) (sym (at c) i)) (sym (at c) i % 2) c.args.tag (line (was c) (sym (at c) i))))
+tell : (c : goal.After-put) → c.tell.new.self.lines ≡ slice_set (was c).lines (own c) (told c)
+tell c =
+    ap (λ (x : ChannelsOf). x.lines) c.tell.ensures
+    ∙ (λ i. slice_set (was c).lines (sym (at c) i) (told_line (contract_of (was c).contracts (sym (at c) i)) (sym (at c) i % 2) c.args.tag (line (was c) (sym (at c) i))))
 
 other : (c : goal.After-put) → slice_index_or (slice_set (was c).lines (own c) (told c)) (peer (own c)) no_line ≡ line (was c) (peer (own c))
 other c = get_or-set_other (was c).lines (own c) (peer (own c)) (told c) no_line (peer_ne (own c))
@@ -70,12 +75,14 @@ made c =
     let items : c.keep_held.new.list.items ≡ without c.args.blocks.now (blocks (was c) c.args.p) =
     c.keep_held.ensures ∙ ((λ i. filter (λ r. holds (store i) (Process c.args.p) r) (list i))
     ∙ kept (was c) c.args.p c.args.e c.args.tag c.args.blocks.now c.self.invariant (may c)) in
-    let lines : c.put.new.lines.items ≡ slice_set (slice_set (was c).lines (own c) (told c)) (peer (own c)) (put_line c.args.tag c.args.blocks.now (line (was c) (peer (own c)))) =
-    c.put.ensures.line ∙ ((λ i. slice_set (tell c i) (to c i) (put_line c.args.tag c.args.blocks.now (slice_index_or (tell c i) (to c i) no_line)))
+    let lines : c.put.new.self.lines ≡ slice_set (slice_set (was c).lines (own c) (told c)) (peer (own c)) (put_line c.args.tag c.args.blocks.now (line (was c) (peer (own c)))) =
+    ap (λ (x : ChannelsOf). x.lines) c.put.ensures.line ∙ ((λ i. slice_set (tell c i) (to c i) (put_line c.args.tag c.args.blocks.now (slice_index_or (tell c i) (to c i) no_line)))
     ∙ ap (λ (y : Line). slice_set (slice_set (was c).lines (own c) (told c)) (peer (own c)) (put_line c.args.tag c.args.blocks.now y)) (other c)) in
     same_machine (is c) (given c.args.p c.args.e c.args.tag c.args.blocks.now (was c)) store refl refl
     (λ i. slice_set c.self.inside.places.items (c.from.ensures i) (record { blocks = record { items = items i }; status = (place_is i).status; generation = (place_is i).generation }))
-    lines refl refl refl
+    lines
+    (ap (λ (x : ChannelsOf). x.contracts) c.put.ensures.line ∙ ap (λ (x : ChannelsOf). x.contracts) c.tell.ensures)
+    (ap (λ (x : ChannelsOf). x.opened) c.put.ensures.line ∙ ap (λ (x : ChannelsOf). x.opened) c.tell.ensures) refl
 
 whole : (c : goal.After-put) → IsWhole (is c)
 whole c = subst IsWhole (sym (made c)) (given_whole (was c) c.args.p c.args.e c.args.tag c.args.blocks.now c.self.invariant (may c))

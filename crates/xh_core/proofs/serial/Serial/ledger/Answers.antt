@@ -1,6 +1,5 @@
-use Rattle.std.proofs.Common.{◌≡◌, ◌∙◌, ◌+◌, ◌-◌, ℕ, List, ap, sym, arith}
+use Rattle.std.proofs.Common.{◌≡◌, ◌∙◌, ◌+◌, ◌-◌, ℕ, ap, sym, arith}
 use Rattle.std.specs.List.{sum_by}
-use Rattle.xh_core.specs.declared.place.Place.{Place}
 use Rattle.xh_core.specs.Machine.{Machine, carried}
 use Rattle.xh_core.specs.View.{machine_of}
 use Rattle.xh_core.specs.PlaceCommands.{ledger_of, place_lines, total}
@@ -15,7 +14,7 @@ abbrev sends : Machine → ℕ
 sends m = sum_by (λ line. total m.store (carried line.waiting.items)) m.lines
 
 held_is : (c : After-owned-held) → c.owned-held.result ≡ owns (machine_of c.self.inside)
-held_is c = c.owned-held.ensures ∙ ap (λ (ps : List Place). sum_by (λ place. total (machine_of c.self.inside).store place.blocks.items) ps) c.as_slice.ensures.value
+held_is c = rw (← c.self.view_is) at c.owned-held.ensures
 
 -- what is handed out and not owned is in flight
 books : (c : After-owned-held) → c.handed_out-out.result ≡ c.owned-held.result + sends (machine_of c.self.inside)
@@ -31,7 +30,7 @@ unfolding ledger_of
 returns-clause-fields c =
     let d = (goal.at.returns-clause-fields c).After-owned-held in
     let m : Machine = machine_of c.self.inside in
-    let lines : c.place_lines.result.items ≡ place_lines m.store 0 m.places = c.place_lines.ensures.lines ∙ ap (λ (ps : List Place). place_lines m.store 0 ps) c.as_slice-2.ensures.value in
+    let lines : c.place_lines.result.items ≡ place_lines m.store 0 m.places = rw (← c.self.view_is) at c.place_lines.ensures.lines in
     let flight : c.handed_out-out.result - c.owned-held.result ≡ sends m = (let b = books d in omega (arith, b)) in
     rw (← c.self.view_is) (λ i. record {
       arenas = record { items = c.arena_lines.ensures.lines i };

@@ -1,10 +1,11 @@
-use Rattle.std.proofs.Common.{◌≡◌, ◌++◌, ◌+◌, ◌*◌, ◌<◌, ◌≤◌, ℕ, length, sym, ap, ◌∙◌, refl, subst, arith, rules, [], None, true}
+use Rattle.std.proofs.Common.{◌≡◌, ◌++◌, ◌+◌, ◌<◌, ℕ, length, sym, ap, ◌∙◌, refl, subst, arith, rules, [], None, true}
 use Rattle.std.specs.Prelude.{slice_index_or, slice_set}
 use Rattle.std.specs.List.{remove}
 use Rattle.xh_model.specs.declared.event.Event.TheVariants.{GiveBack, Vacate}
 use Rattle.xh_model.specs.Store.{all_out, after, len}
 use Rattle.xh_core.specs.Machine.{Machine, IsWhole, is_current, blocks, arriving, end_of, way_in}
 use Rattle.xh_core.specs.View.{machine_of}
+use Rattle.xh_core.specs.inner.Channeling.{ChannelsOf}
 use Rattle.xh_core.specs.Sweeping.{accept_from, shut_in, sweep_one}
 use Rattle.xh_core.proofs.Machines.{read_at, same_machine}
 use Rattle.xh_core.proofs.Swept.{entry, end_range, Entry, entry_found}
@@ -50,16 +51,7 @@ pub shut-requires-clause-there : goal.shut-requires-clause-there
 shut-requires-clause-there c = λ d e.
     let m : Machine = machine_of c.self.inside in
     let end = end_is (goal.at.shut-requires-clause-there c).After-index-end (looked (goal.at.shut-requires-clause-there c).After-from-2) in
-    end_range m (entry m c.args.p c.args.from) c.self.invariant d (sym end ∙ e)
-
-pub shut-requires-clause-channel : goal.shut-requires-clause-channel
-shut-requires-clause-channel c = λ d e.
-    let m : Machine = machine_of c.self.inside in
-    let end = end_is (goal.at.shut-requires-clause-channel c).After-index-end (looked (goal.at.shut-requires-clause-channel c).After-from-2) in
-    let long : length c.deref-2.result.now ≡ 64 = ap length c.deref-2.ensures.value ∙ c.self.invariant.contracts in
-    let opened : m.opened ≤ 64 = c.self.invariant.opened in
-    let below : d < 2 * m.opened = (c.self.invariant.ends (entry m c.args.p c.args.from) d (sym end ∙ e)).opened in
-    omega (arith, long, opened, below)
+    rw c.self.invariant.lines at (end_range m (entry m c.args.p c.args.from) c.self.invariant d (sym end ∙ e))
 
 pub index_mut-requires : goal.index_mut-requires
 index_mut-requires c =
@@ -91,7 +83,9 @@ is c = record (machine_of c.self.inside) {
   ends = slice_set c.self.inside.ends.items c.from-3.result None;
   buffers = c.clear.new.self;
   places = slice_set c.self.inside.places.items c.from.result (record c.index_mut-place.result.now { blocks = c.remove.new.self });
-  lines = c.shut.new.lines.items;
+  lines = c.shut.new.channels.lines;
+  contracts = c.shut.new.channels.contracts;
+  opened = c.shut.new.channels.opened;
 }
 
 has_entry : (c : After-remove) → c.args.from < length (blocks (was c) c.args.p)
@@ -117,12 +111,12 @@ made c =
     ∙ ap (λ q. after (Vacate p q) (after (GiveBack p q) (accept_from p (end_of m r) (arriving m r) m.store))) f.read) in
     let items : c.remove.new.self.items ≡ remove (blocks m p ++ arriving m r) c.args.from =
     c.remove.ensures.items ∙ ap (λ xs. remove xs c.args.from) (c.shut.ensures.list ∙ (λ i. f.list i ++ way_in m.lines (end i))) in
-    let lines : c.shut.new.lines.items ≡ shut_in m.contracts m.lines (end_of m r) = c.shut.ensures.lines ∙ (λ i. shut_in (c.deref-2.ensures.value i) m.lines (end i)) in
+    let lines : c.shut.new.channels.lines ≡ shut_in m.contracts m.lines (end_of m r) = ap (λ (x : ChannelsOf). x.lines) c.shut.ensures.channels ∙ ap (shut_in m.contracts m.lines) end in
     same_machine (is c) (sweep_one p c.args.from m) store
     (ap (λ q. slice_set m.ends q None) (c.from-3.ensures ∙ f.read))
     (c.clear.ensures ∙ ap (λ q. slice_set m.buffers q []) f.read)
     (λ i. slice_set m.places (c.from.ensures i) (record (f.here i) { blocks = record { items = items i } }))
-    lines refl refl refl
+    lines (ap (λ (x : ChannelsOf). x.contracts) c.shut.ensures.channels) (ap (λ (x : ChannelsOf). x.opened) c.shut.ensures.channels) refl
 
 pub invariant_of-self : goal.invariant_of-self
 invariant_of-self c =

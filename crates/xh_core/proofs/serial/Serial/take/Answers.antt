@@ -6,6 +6,7 @@ use Rattle.xh_core.specs.View.{machine_of}
 use Rattle.xh_core.specs.Refusing.{toward}
 use Rattle.xh_core.specs.Sweeping.{accept_all}
 use Rattle.xh_core.specs.MessageCommands.{is_banned, take, taken, taken_line, told, front, described}
+use Rattle.xh_core.specs.inner.Channeling.{ChannelsOf}
 use Rattle.xh_core.specs.inner.Checks.{MayTake}
 use Rattle.xh_core.proofs.Machines.{same_machine}
 use Rattle.xh_core.proofs.Taking.{Found, found, found_room, front_allowed, taken_whole}
@@ -33,7 +34,9 @@ abbrev is : After-accept_blocks → Machine
 is c = record (machine_of c.self.inside) {
   store = c.accept_blocks.new.plain;
   places = slice_set c.self.inside.places.items c.from.result (record c.index_mut-place.result.now { blocks = c.accept_blocks.new.list });
-  lines = c.take_front-message.new.lines.items;
+  lines = c.take_front-message.new.self.lines;
+  contracts = c.take_front-message.new.self.contracts;
+  opened = c.take_front-message.new.self.opened;
 }
 
 had : (c : After-accept_blocks) → Found (was c) c.args.p c.args.e c.in_ok-d.d c.index_mut-place.result.now c.take_front-message.result c.as_slice.result.now
@@ -51,12 +54,12 @@ made c =
     let store : c.accept_blocks.new.plain ≡ accept_all c.args.p (own c) (front m c.args.e).blocks.items m.store =
     c.accept_blocks.ensures.store ∙ (λ i. accept_all c.args.p (at i) ((had c).came i) m.store) in
     let items : c.accept_blocks.new.list.items ≡ blocks m c.args.p ++ (front m c.args.e).blocks.items = c.accept_blocks.ensures.list ∙ (λ i. (had c).list i ++ (had c).came i) in
-    let lines : c.take_front-message.new.lines.items ≡ slice_set m.lines (own c) (taken_line (contract_of m.contracts (own c)) (1 - own c % 2) (front m c.args.e).tag (line m (own c))) =
-    c.take_front-message.ensures.line
-    ∙ (λ i. slice_set m.lines (at i) (taken_line (contract_of (c.deref.ensures.value i) (at i)) (1 - at i % 2) ((had c).first i).tag (line m (at i)))) in
+    let lines : c.take_front-message.new.self.lines ≡ slice_set m.lines (own c) (taken_line (contract_of m.contracts (own c)) (1 - own c % 2) (front m c.args.e).tag (line m (own c))) =
+    ap (λ (x : ChannelsOf). x.lines) c.take_front-message.ensures.line
+    ∙ (λ i. slice_set m.lines (at i) (taken_line (contract_of m.contracts (at i)) (1 - at i % 2) ((had c).first i).tag (line m (at i)))) in
     same_machine (is c) (taken c.args.p c.args.e m) store refl refl
     (λ i. slice_set m.places (c.from.ensures i) (record ((had c).here i) { blocks = record { items = items i } }))
-    lines refl refl refl
+    lines (ap (λ (x : ChannelsOf). x.contracts) c.take_front-message.ensures.line) (ap (λ (x : ChannelsOf). x.opened) c.take_front-message.ensures.line) refl
 
 whole : (c : After-accept_blocks) → IsWhole (is c)
 whole c = subst IsWhole (sym (made c)) (taken_whole (was c) c.args.p c.args.e c.self.invariant (had c).may)

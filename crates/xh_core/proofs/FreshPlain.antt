@@ -1,0 +1,83 @@
+-- A new store is lawful, and nobody owns a byte of it.
+use Rattle.std.proofs.Common.{◌≡◌, ℕ, zero, suc, ◌+◌, ◌*◌, ◌/◌, ◌%◌, ◌<◌, ◌≤◌, ◌∷◌, length, cond, refl, sym, ap, ◌∙◌, arith}
+use Rattle.std.specs.Prelude.{Option, Some, None, All, is_some, replicate, slice_index_or}
+use Rattle.std.proofs.lemmas.Bool.{false≢true}
+use Rattle.std.proofs.lemmas.List.Sums.{sum_by-cons}
+use Rattle.xh_model.specs.Cover.{bytes_out, length_of}
+use Rattle.xh_model.specs.Arena.{ArenaState, IsLawfulArena}
+use Rattle.xh_model.specs.declared.config.Config.{Config}
+use Rattle.xh_model.specs.declared.event.Holder.{Holder}
+use Rattle.xh_model.specs.declared.event.Holder.TheVariants.{Process}
+use Rattle.xh_model.specs.Config.{IsConfig}
+use Rattle.xh_model.specs.Store.{Store, no_arena, owner, arena_at, len, holds, is_held_by, numbers, new_store, IsLawful}
+use Rattle.xh_model.proofs.Lengths.{none_of}
+use Rattle.xh_model.proofs.Totals.{sum_same, sum_zero}
+use Rattle.xh_core.specs.Wearing.{IsCarved, AreCarved}
+use Rattle.xh_core.specs.inner.Owning.{AreTotals}
+use Rattle.xh_core.proofs.Fresh.{at_replicate, long_replicate}
+
+-- what is so of each of some alike is so of the one at a place, and of what stands for one that is not there
+alike : {A : Type 0} (P : A → Type 0) (n k : ℕ) (a d : A) → P a → P d → P (slice_index_or (replicate n a) k d)
+alike P zero k a d x y = y
+alike P (suc n) zero a d x y = x
+alike P (suc n) (suc k) a d x y = alike P n k a d x y
+
+all_alike : {A : Type 0} (P : A → Type 0) (n : ℕ) (a : A) → P a → All P (replicate n a)
+all_alike P zero a x k d l = absurd (omega arith)
+all_alike P (suc n) a x zero d l = x
+all_alike P (suc n) a x (suc k) d l = all_alike P n a x k d (omega arith)
+
+none_out : (n : ℕ) → bytes_out (replicate n None) ≡ 0
+none_out zero = refl
+none_out (suc n) =
+    let rest = none_out n in
+    let first : bytes_out (None ∷ replicate n None) ≡ 0 + bytes_out (replicate n None) = sum_by-cons (λ (x : Option ℕ). cond (is_some x) 1 0) None (replicate n None) in
+    omega (arith, rest, first)
+
+-- nothing but nothing is lawful
+blank : (n i w l : ℕ) → IsLawfulArena (record { cover = replicate n None; records = i; wear = w; limit = l })
+blank n i w l = record {
+  named = λ k r e. absurd (let f : None ≡ Some r = sym (at_replicate {A = Option ℕ} n k None) ∙ e in cc);
+  runs = λ r some. absurd (let z = none_of r n in omega (arith, z, some));
+}
+
+module _ (c : Config) (is : IsConfig c) where
+  each : ArenaState
+  each = record { cover = replicate c.bytes None; records = c.records; wear = 0; limit = c.wear }
+
+  free : (r : ℕ) → owner (new_store c) r ≡ None
+  unfolding new_store
+  free r = at_replicate {A = Option Holder} (256 * c.arenas) r None
+
+  pub new_lawful : IsLawful (new_store c)
+  unfolding new_store
+  new_lawful = record {
+    few = rw (long_replicate {A = ArenaState} c.arenas (record { cover = replicate c.bytes None; records = c.records; wear = 0; limit = c.wear })) is.most_arenas;
+    long = long_replicate {A = Option Holder} (256 * c.arenas) None ∙ sym (ap (λ n. 256 * n) (long_replicate {A = ArenaState} c.arenas _));
+    covers = λ k. alike IsLawfulArena c.arenas k _ no_arena (blank c.bytes c.records 0 c.wear) (blank 0 0 0 0);
+    records = λ k. alike (λ (a : ArenaState). a.records ≤ 256) c.arenas k _ no_arena is.arena.most_records (omega arith);
+    owned = λ r. rw (free r) (alike (λ (a : ArenaState). length_of (r % 256) a.cover ≡ 0) c.arenas (r / 256) _ no_arena (none_of (r % 256) c.bytes) refl);
+    known = λ r h. absurd (false≢true (rw (free r) at h));
+  }
+
+  pub new_records : (k : ℕ) → k < length (new_store c).arenas → (arena_at (new_store c) k).records ≡ c.records
+  unfolding new_store
+  new_records k l = all_alike (λ (a : ArenaState). a.records ≡ c.records) c.arenas _ refl k no_arena l
+
+  pub new_carved : AreCarved (new_store c)
+  unfolding new_store
+  new_carved = all_alike IsCarved c.arenas _ (let z = none_out c.bytes in omega (arith, z))
+
+  pub new_totals : AreTotals (new_store c) (replicate 4096 0)
+  unfolding new_store
+  new_totals =
+      let s : Store = new_store c in
+      let most : length (replicate {A = Option ℕ} c.bytes None) ≤ 1048576 = (let e = long_replicate {A = Option ℕ} c.bytes None in let m = is.arena.most_bytes in omega (arith, e, m)) in
+      record {
+        long = long_replicate {A = ℕ} 4096 0;
+        each = λ p.
+            at_replicate {A = ℕ} 4096 p 0
+            ∙ sym (sum_same (λ r. cond (holds s (Process p) r) (len s r) 0) (λ r. 0) (numbers s)
+            (λ r. ap (λ (o : Option Holder). cond (is_held_by o (Process p)) (len s r) 0) (free r)) ∙ sum_zero (numbers s));
+        sizes = λ k. alike (λ (a : ArenaState). length a.cover ≤ 1048576) c.arenas k _ no_arena most (omega arith);
+      }
