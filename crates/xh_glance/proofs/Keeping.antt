@@ -5,6 +5,7 @@ use Rattle.std.proofs.Common.{
   ℕ,
   zero,
   suc,
+  ◌*◌,
   ◌<◌,
   List,
   [],
@@ -44,7 +45,7 @@ use Rattle.atomic_table.proofs.Lists.{at_set, set_else}
 use Rattle.xh_core.specs.declared.glance.Glance.{Glance}
 use Rattle.xh_glance.specs.declared.view.View.{View}
 use Rattle.xh_model.specs.declared.limits.TheConstants.{PLACES}
-use Rattle.xh_glance.specs.Words.{glance_of, vacant}
+use Rattle.xh_glance.specs.Words.{all_words, glance_of, place_of, stride, vacant}
 use Rattle.xh_glance.specs.Histories.{
   History,
   StartsWith,
@@ -124,8 +125,10 @@ push_each P [] w all last (suc j) u e = absurd (some-ne-none u (sym e))
 push_each P (x ∷ xs) w all last zero u e = all zero u e
 push_each P (x ∷ xs) w all last (suc j) u e = push_each (λ k y. P (suc k) y) xs w (λ k y t. all (suc k) y t) last j u e
 
-pub loads : {S : Type 0} (slots id p : ℕ) (me : Me S View) → p < PLACES → length me.0.fronts ≡ PLACES → Allows Told slots id me p (λ n. n) (Loaded (step slots p 0 0 none) me)
-loads slots id p me inside long s told len here fits =
+pub loads : {S : Type 0} (slots id word : ℕ) (me : Me S View) → word ≡ stride * place_of word → place_of word < PLACES → length me.0.fronts ≡ PLACES
+    → Allows Told slots id me word (λ n. n) (Loaded (step slots word 0 0 none) me)
+loads slots id word me aligned inside long s told len here fits =
+    let p : ℕ = place_of word in
     let h = told.0 in
     let seat_of = told.1 in
     let t = told.2 in
@@ -137,14 +140,19 @@ loads slots id p me inside long s told len here fits =
       (
         h,
         seat_of,
-        subst (λ (ws : List ℕ). Tells h seat_of ws (set s.views id (grown me.0 p later))) (sym (set-get_or s.words p 0)) record {
+        subst (λ (ws : List ℕ). Tells h seat_of ws (set s.views id (grown me.0 p later))) (sym (set-get_or s.words word 0)) record {
           wide = t.wide;
           last = t.last;
           fit = set_each (Fits h seat_of) (Fits h seat_of) s.views id (grown me.0 p later) t.fit
               (grown_fits h h seat_of id me.0 p later f (subst (λ (k : ℕ). p < k) (sym long) inside) (sym (f.seen p).1) (λ q n. refl) (is_start refl)) (λ j u n g. g);
         },
       ),
-      (later, refl, subst (λ (x : History). EndsIn x (glance_of p (get_or s.words p 0))) (f.seen p).1 (t.last p inside)),
+      (
+        later,
+        refl,
+        subst (λ (x : History). EndsIn x (glance_of p (get_or s.words word 0))) (f.seen p).1
+            (subst (λ (k : ℕ). EndsIn (h p) (glance_of p (get_or s.words k 0))) (sym aligned) (t.last p inside)),
+      ),
     )
 
 -- the history of the place p has one more entry
@@ -157,9 +165,10 @@ one_more_here h p g = ap (λ b. cond b (h p ++ g ∷ []) (h p)) (eq-eqb p p refl
 one_more_else : (h : ℕ → History) (p : ℕ) (g : Glance) (q : ℕ) → q ≢ p → one_more h p g q ≡ h q
 one_more_else h p g q n = ap (λ b. cond b (h q ++ g ∷ []) (h q)) (ne_eqb q p n)
 
-pub stores : {S : Type 0} (slots id p new : ℕ) (me : Me S View) → p < PLACES → length me.0.fronts ≡ PLACES → Stores me.0 p
-    → Allows Told slots id me p (λ _. new) (λ _. Stored (step slots p new 0 none) me new)
-stores slots id p new me inside long st s told len here fits =
+pub stores : {S : Type 0} (slots id word new : ℕ) (me : Me S View) → word ≡ stride * place_of word → place_of word < PLACES → length me.0.fronts ≡ PLACES → Stores me.0 (place_of word)
+    → Allows Told slots id me word (λ _. new) (λ _. Stored (step slots word new 0 none) me new)
+stores slots id word new me aligned inside long st s told len here fits =
+    let p : ℕ = place_of word in
     let h = told.0 in
     let seat_of = told.1 in
     let t = told.2 in
@@ -168,6 +177,7 @@ stores slots id p new me inside long st s told len here fits =
     let h' = one_more h p g in
     let more : StartsWith (h' p) (h p) = (g ∷ [], one_more_here h p g) in
     let here' : at me.0.fronts p ++ g ∷ [] ≡ h' p = ap (λ (l : History). l ++ g ∷ []) (f.knows_all p st) ∙ sym (one_more_here h p g) in
+    let there : word < length s.words = omega (arith, t.wide, aligned, inside) in
     let w = grown me.0 p (g ∷ []) in (
       w,
       keeps,
@@ -176,12 +186,13 @@ stores slots id p new me inside long st s told len here fits =
         h',
         seat_of,
         record {
-          wide = length-set s.words p new ∙ t.wide;
+          wide = length-set s.words word new ∙ t.wide;
           last = λ q b. dite (ℕ_discrete q p)
-              (λ e. subst (λ (k : ℕ). EndsIn (h' k) (glance_of k (get_or (set s.words p new) k 0))) (sym e)
-              (subst (λ (n : ℕ). EndsIn (h' p) (glance_of p n)) (sym (get_or-set_same s.words p new 0 (subst (λ (k : ℕ). p < k) (sym t.wide) inside))) (h p, one_more_here h p g)))
-              (λ n. subst (λ (m : ℕ). EndsIn (h' q) (glance_of q m)) (sym (get_or-set_other s.words p q new 0 n))
-              (subst (λ (x : History). EndsIn x (glance_of q (get_or s.words q 0))) (sym (one_more_else h p g q n)) (t.last q b)));
+              (λ e. subst (λ (k : ℕ). EndsIn (h' k) (glance_of k (get_or (set s.words word new) (stride * k) 0))) (sym e)
+              (subst (λ (k : ℕ). EndsIn (h' p) (glance_of p (get_or (set s.words word new) k 0))) aligned
+              (subst (λ (n : ℕ). EndsIn (h' p) (glance_of p n)) (sym (get_or-set_same s.words word new 0 there)) (h p, one_more_here h p g))))
+              (λ n. subst (λ (m : ℕ). EndsIn (h' q) (glance_of q m)) (sym (get_or-set_other s.words word (stride * q) new 0 (λ e. n (omega (arith, e)))))
+              (subst (λ (x : History). EndsIn x (glance_of q (get_or s.words (stride * q) 0))) (sym (one_more_else h p g q n)) (t.last q b)));
           fit = set_each (Fits h seat_of) (Fits h' seat_of) s.views id w t.fit
               (grown_fits h h' seat_of id me.0 p (g ∷ []) f (subst (λ (k : ℕ). p < k) (sym long) inside) here' (one_more_else h p g) more)
               (others_fit h h' seat_of id me.0 p f st (one_more_else h p g) more);
@@ -190,8 +201,9 @@ stores slots id p new me inside long st s told len here fits =
       refl,
     )
 
-pub compares : {S : Type 0} (slots id p : ℕ) (me : Me S View) → Stores me.0 p → Allows Told slots id me p (λ n. n) (Compared (step slots p 0 0 none) me)
-compares slots id p me st s told len here fits =
+pub compares : {S : Type 0} (slots id word : ℕ) (me : Me S View) → Stores me.0 (place_of word) → Allows Told slots id me word (λ n. n) (Compared (step slots word 0 0 none) me)
+compares slots id word me st s told len here fits =
+    let p : ℕ = place_of word in
     let h = told.0 in
     let seat_of = told.1 in
     let t = told.2 in
@@ -202,7 +214,7 @@ compares slots id p me st s told len here fits =
       (
         h,
         seat_of,
-        subst (λ (ws : List ℕ). Tells h seat_of ws (set s.views id me.0)) (sym (set-get_or s.words p 0)) record {
+        subst (λ (ws : List ℕ). Tells h seat_of ws (set s.views id me.0)) (sym (set-get_or s.words word 0)) record {
           wide = t.wide;
           last = t.last;
           fit = set_each (Fits h seat_of) (Fits h seat_of) s.views id me.0 t.fit f (λ j u n g. g);
@@ -304,7 +316,7 @@ joins id v other w s told here apart there =
       },
     )
 
-pub begins : (S : Type 0) → Told {S = S} (opening (replicate PLACES 0) [] first_view)
+pub begins : (S : Type 0) → Told {S = S} (opening (replicate all_words 0) [] first_view)
 begins S = (
   at opening_fronts,
   (λ p. 0),
@@ -314,7 +326,7 @@ begins S = (
       [],
       get_or-map-range_with_len (λ q. vacant q ∷ []) 0 PLACES p p [] b (omega arith)
           ∙ ap (λ (q : ℕ). let g : Glance = record { process = q; state = Vacant; blocks = 0; bytes = 0 } in g ∷ []) (sym (add-zero p))
-          ∙ ap (λ (n : ℕ). glance_of p n ∷ []) (sym (get_or-replicate PLACES p 0 0 b)),
+          ∙ ap (λ (n : ℕ). glance_of p n ∷ []) (sym (get_or-replicate all_words (stride * p) 0 0 (omega (arith, b)))),
     );
     fit = push_each (Fits (at opening_fronts) (λ p. 0)) [] first_view (λ j u e. absurd (some-ne-none u (sym e))) record {
       seen = λ p. is_start refl;

@@ -1,5 +1,5 @@
 -- Each place has one history of glances. Its word is the last entry, and what a seat has seen of it is a beginning.
-use Rattle.std.specs.Prelude.{◌≡◌, ℕ, suc, ◌<◌, ◌≤◌, List, [], ◌∷◌, ◌++◌, length, map, slice_index_or, slice_index, slice_set}
+use Rattle.std.specs.Prelude.{◌≡◌, ℕ, suc, ◌*◌, ◌<◌, ◌≤◌, List, [], ◌∷◌, ◌++◌, length, map, slice_index_or, slice_index, slice_set}
 use Rattle.std.specs.List.{range_with_len}
 use mathlib.Core.Option.{some}
 use lib.ListN.{get_elem?}
@@ -7,7 +7,7 @@ use Rattle.atomic_table.specs.Table.{State, Step, Me}
 use Rattle.xh_core.specs.declared.glance.Glance.{Glance}
 use Rattle.xh_glance.specs.declared.view.View.{View}
 use Rattle.xh_model.specs.declared.limits.TheConstants.{PLACES}
-use Rattle.xh_glance.specs.Words.{glance_of, vacant}
+use Rattle.xh_glance.specs.Words.{all_words, glance_of, place_of, stride, vacant}
 
 abbrev pub History : Type 0
 History = List Glance
@@ -34,8 +34,8 @@ pub record Fits (h : ℕ → History) (seat_of : ℕ → ℕ) (id : ℕ) (v : Vi
   pub alone : (p : ℕ) → Stores v p → id ≡ seat_of p
 
 pub record Tells (h : ℕ → History) (seat_of : ℕ → ℕ) (words : List ℕ) (views : List View) : Type 0 where
-  pub wide : length words ≡ PLACES
-  pub last : (p : ℕ) → p < PLACES → EndsIn (h p) (glance_of p (slice_index words p))
+  pub wide : length words ≡ all_words
+  pub last : (p : ℕ) → p < PLACES → EndsIn (h p) (glance_of p (slice_index words (stride * p)))
   pub fit : (id : ℕ) (v : View) → get_elem? views id ≡ some v → Fits h seat_of id v
 
 abbrev pub Told : {S : Type 0} → State S View → Type 0
@@ -75,12 +75,12 @@ spent = record { from = 0; to = 0; fronts = []; told = [] }
 
 -- a load: the history was seen to its end, which is what the word tells
 abbrev pub Loaded : {S : Type 0} → Step S → Me S View → ℕ → Me S View → Type 0
-Loaded s v n w = (later : History) × (w ≡ (grown v.0 s.word later, v.1)) × EndsIn (at v.0.fronts s.word ++ later) (glance_of s.word n)
+Loaded s v n w = (later : History) × (w ≡ (grown v.0 (place_of s.word) later, v.1)) × EndsIn (at v.0.fronts (place_of s.word) ++ later) (glance_of (place_of s.word) n)
 
 -- a store: one more entry
 abbrev pub Stored : {S : Type 0} → Step S → Me S View → ℕ → Me S View → Type 0
-Stored s v n w = w ≡ (grown v.0 s.word (glance_of s.word s.first ∷ []), v.1)
+Stored s v n w = w ≡ (grown v.0 (place_of s.word) (glance_of (place_of s.word) s.first ∷ []), v.1)
 
 -- what the seat was told is a beginning of what it has seen
 abbrev pub Compared : {S : Type 0} → Step S → Me S View → ℕ → Me S View → Type 0
-Compared s v n w = (w ≡ v) × StartsWith (at v.0.fronts s.word) (at v.0.told s.word)
+Compared s v n w = (w ≡ v) × StartsWith (at v.0.fronts (place_of s.word)) (at v.0.told (place_of s.word))

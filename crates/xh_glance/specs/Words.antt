@@ -28,6 +28,18 @@ word_of g = code_of g.state + 4 * g.blocks + 16384 * g.bytes + 281474976710656 *
 abbrev pub glance_of : ℕ → ℕ → Glance
 glance_of p n = record { process = p + 32 * ((n / 281474976710656) % 2048); state = state_of (n % 4); blocks = (n / 4) % 4096; bytes = (n / 16384) % 17179869184 }
 
+-- how many words lie from one place's word to the next's
+abbrev pub stride : ℕ
+stride = 8
+
+-- how many words there are, of which those between the places' stay 0
+abbrev pub all_words : ℕ
+all_words = 256
+
+-- the place that a word belongs to
+abbrev pub place_of : ℕ → ℕ
+place_of w = w / stride
+
 -- the first entry of a place's history
 abbrev pub vacant : ℕ → Glance
 vacant p = record { process = p; state = Vacant; blocks = 0; bytes = 0 }

@@ -1,9 +1,9 @@
 //! The table of glances.
-ghost use Rattle.std.specs.Prelude.{◌≡◌, ◌<◌, ◌^◌, ◌∷◌, [], ◌++◌, ◌+◌, ◌%◌, All, ℕ, IfOk, vec_len, slice_index_or};
+ghost use Rattle.std.specs.Prelude.{◌≡◌, ◌<◌, ◌^◌, ◌∷◌, [], ◌++◌, ◌+◌, ◌*◌, ◌%◌, All, ℕ, IfOk, vec_len, slice_index_or};
 ghost use Rattle.xh_glance.specs.Histories.{StartsWith, at, first_view, first_view_from};
 ghost use Rattle.xh_glance.specs.Look.{Sees, fresh_look};
 ghost use Rattle.xh_glance.specs.Pen.{PenOf, fresh_pen};
-ghost use Rattle.xh_glance.specs.Words.{IsPackable};
+ghost use Rattle.xh_glance.specs.Words.{IsPackable, all_words, place_of, stride};
 ghost use Rattle.xh_model.specs.declared.limits.TheConstants.{PLACES};
 
 use crate::look::Look;
@@ -17,6 +17,19 @@ use std::marker::Model;
 use xh_core::Glance;
 use xh_model::limits::PLACES;
 
+/// How many words lie from one place's word to the next's: those of a cache line, so that threads
+/// that store the words of their places don't wait for each other.
+const STRIDE: usize = 8;
+
+// The word of a place.
+fn word_at(place: u8) -> usize
+    requires { place < PLACES }
+    ensures word { result ≡ stride * place }
+    ensures place { place_of result ≡ place }
+{
+    usize::from(place) * STRIDE
+}
+
 /// One word for each place.
 #[derive(Drop)]
 pub struct Glances {
@@ -25,14 +38,14 @@ pub struct Glances {
 
 impl Model for Glances {
     ghost use Rattle.std.specs.Prelude.{◌≡◌};
-    ghost use Rattle.xh_model.specs.declared.limits.TheConstants.{PLACES};
+    ghost use Rattle.xh_glance.specs.Words.{all_words};
     ghost use Rattle.atomic_table.specs.Seated.{TableId};
 
     ghost Value = { TableId };
 
     ghost view = { λ g. g.table.shared.table_id };
 
-    ghost invariant = { λ g. g.table.shared.table_id.words ≡ PLACES };
+    ghost invariant = { λ g. g.table.shared.table_id.words ≡ all_words };
 }
 
 impl Glances {
@@ -41,7 +54,7 @@ impl Glances {
         ensures pens { IfOk result (λ r. (vec_len r.1 ≡ PLACES) × ((k : ℕ) (d : PenOf) → k < PLACES → slice_index_or r.1.items k d ≡ fresh_pen r.0 k)) }
         ensures looks { IfOk result (λ r. (vec_len r.2 ≡ looks) × All (λ l. l ≡ fresh_look r.0) r.2.items) }
     {
-        let (table, mut first) = Table::of_words(alloc, &[0; PLACES as usize], &())?;
+        let (table, mut first) = Table::of_words(alloc, &[0; PLACES as usize * STRIDE], &())?;
         let glances = Glances { table };
         let looks = glances.looks(alloc, &mut first, looks)?;
         let pens = glances.pens(alloc, first)?;
@@ -108,7 +121,7 @@ impl Glances {
         self.table.shared.join_seat::<Informs>(&mut pen.seat, note);
         self.table
             .shared
-            .load::<Compares>(&mut pen.seat, usize::from(pen.number));
+            .load::<Compares>(&mut pen.seat, word_at(pen.number));
     }
 
     /// One more entry of the pen's place.
@@ -118,7 +131,7 @@ impl Glances {
         requires place { glance.process % PLACES ≡ pen.old.number }
         ensures { pen.new ≡ record pen.old { history = pen.old.history ++ glance ∷ [] } }
     {
-        let word = usize::from(pen.number);
+        let word = word_at(pen.number);
         self.table
             .shared
             .store::<Writes>(&mut pen.seat, word, pack(glance));
@@ -133,7 +146,7 @@ impl Glances {
         let word = self
             .table
             .shared
-            .load::<Loads>(&mut look.seat, usize::from(place));
+            .load::<Loads>(&mut look.seat, word_at(place));
         unpack(place, word)
     }
 }

@@ -26,6 +26,6 @@ load-requires c =
     let from = ap (λ m. m.0.from) j.2 in
     let to = ap (λ m. m.0.to) j.2 in (
       j.0 ∙ ap (λ p. p.glances) c.pen.view_is ∙ c.requires.0 ∙ sym c.self.view_is,
-      omega (arith, c.from.ensures, i.place, c.self.invariant),
-      compares _ _ _ _ (omega (arith, from, i.from, c.from.ensures), omega (arith, to, i.to, c.from.ensures)),
+      omega (arith, c.word_at.ensures.word, i.place, c.self.invariant),
+      compares _ _ _ _ (omega (arith, from, i.from, c.word_at.ensures.place), omega (arith, to, i.to, c.word_at.ensures.place)),
     )
