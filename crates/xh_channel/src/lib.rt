@@ -1,8 +1,6 @@
 //! The channels: their directions, their endpoints, and shutting.
 #![tactic(auto)]
 
-#[cfg(test)]
-mod answers;
 mod channel_end;
 mod channel_state;
 mod channels;
@@ -16,6 +14,7 @@ mod free_pair;
 mod line;
 mod line_end;
 mod message;
+mod numbers;
 mod queue_end;
 mod refused;
 mod room;

@@ -185,6 +185,3 @@ impl Line {
         }
     }
 }
-
-#[cfg(test)]
-mod tests;

@@ -3,21 +3,16 @@ ghost use Rattle.std.specs.Prelude.{◌<◌, IfOk};
 ghost use Rattle.xh_channel.specs.Pairs.{IsPair};
 ghost use Rattle.xh_channel.specs.Queues.{IsSameEnd};
 
-use crate::channels::Channels;
-use crate::endpoint::Endpoint;
-use crate::line::Line;
-use crate::message::Message;
-use crate::refused::Refused;
-use crate::unsent::Unsent;
 use arrayvec::ArrayVec;
 use std::alloc::Global;
 use std::process::Abort;
 use std::sync::Wait;
+use xh_channel::{Channels, Endpoint, Line, Message, Refused, Unsent};
 use xh_model::limits::MAX_BLOCKS;
 
 /// A call by one end: a put with a tag and at most one block, a take, a shut, a look at the turn.
 #[derive(Clone, Copy, Debug)]
-pub enum Call {
+pub(super) enum Call {
     Put(u16, Option<u16>),
     Take,
     Shut,
@@ -26,7 +21,7 @@ pub enum Call {
 
 /// The number of a message that was put; its number, tag and block; the number of a refusal and the block handed back; nothing, of a shut; the turn.
 #[derive(Clone, Copy, Debug, PartialEq)]
-pub enum Answer {
+pub(super) enum Answer {
     Sent(u64),
     Taken(u64, u16, Option<u16>),
     Refused(u8, Option<u16>),
@@ -34,7 +29,7 @@ pub enum Answer {
     Turn(u64),
 }
 
-pub fn blocks_of(block: Option<u16>) -> ArrayVec<u16, MAX_BLOCKS> {
+pub(super) fn blocks_of(block: Option<u16>) -> ArrayVec<u16, MAX_BLOCKS> {
     let mut blocks = ArrayVec::new();
     if let Some(block) = block {
         blocks.push(block);
@@ -46,7 +41,7 @@ fn first(blocks: &ArrayVec<u16, MAX_BLOCKS>) -> Option<u16> {
     blocks.first().copied()
 }
 
-pub fn of_put(answered: Result<u64, Unsent>) -> Answer {
+pub(super) fn of_put(answered: Result<u64, Unsent>) -> Answer {
     match answered {
         Ok(no) => Answer::Sent(no),
         Err(Unsent::Full { back }) => Answer::Refused(14, first(&back)),
@@ -55,7 +50,7 @@ pub fn of_put(answered: Result<u64, Unsent>) -> Answer {
     }
 }
 
-pub fn of_take(answered: Result<Message, Refused>) -> Answer {
+pub(super) fn of_take(answered: Result<Message, Refused>) -> Answer {
     match answered {
         Ok(message) => Answer::Taken(message.no, message.tag, first(&message.blocks)),
         Err(Refused::PeerClosed { back }) => Answer::Refused(15, first(&back)),
@@ -64,7 +59,7 @@ pub fn of_take(answered: Result<Message, Refused>) -> Answer {
 }
 
 /// Channels of a depth, and both ends of the first.
-pub fn opened<R: Wait>(
+pub(super) fn opened<R: Wait>(
     rt: &R,
     alloc: Global,
     depth: u8,
@@ -91,7 +86,7 @@ fn by_end<R: Wait>(rt: &R, channels: &Channels, end: &mut Endpoint, call: Call) 
 }
 
 /// What the call answers, by the end of side 0 or else by that of side 1.
-pub fn answer_of<R: Wait>(
+pub(super) fn answer_of<R: Wait>(
     rt: &R,
     channels: &Channels,
     low: &mut Endpoint,
@@ -109,7 +104,7 @@ pub fn answer_of<R: Wait>(
 }
 
 /// Makes each call by the end of its side, and compares what it answers.
-pub fn assert_answers<R: Wait + Abort>(
+pub(super) fn assert_answers<R: Wait + Abort>(
     rt: &R,
     channels: &Channels,
     low: &mut Endpoint,
@@ -125,7 +120,7 @@ pub fn assert_answers<R: Wait + Abort>(
 }
 
 /// What the call answers by a side of a line, which has no turn.
-pub fn by_line(line: &mut Line, side: u8, call: Call) -> Answer
+pub(super) fn by_line(line: &mut Line, side: u8, call: Call) -> Answer
     requires { side < 2 }
 {
     match call {
@@ -140,7 +135,7 @@ pub fn by_line(line: &mut Line, side: u8, call: Call) -> Answer
 }
 
 /// Makes each call by its side of a line, 0 or 1, and compares what it answers.
-pub fn assert_line(rt: &impl Abort, line: &mut Line, calls: &[(u8, Call, Answer)]) {
+pub(super) fn assert_line(rt: &impl Abort, line: &mut Line, calls: &[(u8, Call, Answer)]) {
     for (at, (side, call, expected)) in calls.iter().enumerate() {
         let side = if *side == 0 { 0 } else { 1 };
         let answered = by_line(line, side, *call);

@@ -1,20 +1,19 @@
+//! Channels by calls.
+mod answers;
+mod bare_lines;
 mod lines;
 mod refusals;
 mod side_by_side;
 mod threads;
 mod waits;
 
-use super::Channels;
-use crate::answers::Answer::{Refused as No, Sent, Shut as Closed, Taken, Turn};
-use crate::answers::Call::{Put, Shut, Take, Turn as Look};
-use crate::answers::{assert_answers, opened};
-use crate::endpoint::{Endpoint, compare};
-use crate::refused::Refused;
-use crate::spot::Spot;
-use crate::unsent::Unsent;
+use answers::Answer::{Refused as No, Sent, Shut as Closed, Taken, Turn};
+use answers::Call::{Put, Shut, Take, Turn as Look};
+use answers::{assert_answers, opened};
 use arrayvec::ArrayVec;
 use std::sync::Wait;
 use std::test::Fail;
+use xh_channel::{Channels, Endpoint, Refused, Spot, Unsent, compare};
 
 fn is_at(spot: Spot, channel: u8, side: u8) -> bool {
     spot.channel == channel && spot.side == side

@@ -1,9 +1,8 @@
 // A channel on queues and a line answer the same calls alike.
-use super::Channels;
-use crate::answers::Call::{Put, Shut, Take};
-use crate::answers::{Answer, Call, answer_of, by_line};
-use crate::line::Line;
+use super::answers::Call::{Put, Shut, Take};
+use super::answers::{Answer, Call, answer_of, by_line};
 use std::test::Fail;
+use xh_channel::{Channels, Line};
 use xh_core::{Contract, Row};
 
 // The contract under which one side alone sends, always with tag 1.

@@ -1,12 +1,10 @@
 // Threads that sleep at a channel's turn are woken. The channel isn't the first one.
-use super::Channels;
-use crate::endpoint::Endpoint;
-use crate::refused::Refused;
 use arrayvec::ArrayVec;
 use std::sync::Wait;
 use std::test::Fail;
 use std::thread;
 use std::time::Duration;
+use xh_channel::{Channels, Endpoint, Refused};
 
 // So long that the other threads sleep by then.
 fn pause() -> Duration {

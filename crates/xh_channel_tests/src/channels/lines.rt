@@ -1,16 +1,14 @@
 ghost use Rattle.std.specs.Prelude.{IfOk};
 ghost use Rattle.xh_channel.specs.Pairs.{IsPair};
 
-use super::Channels;
-use crate::answers::Answer::{Refused as No, Sent, Shut as Closed, Taken, Turn};
-use crate::answers::Call::{Put, Shut, Take, Turn as Look};
-use crate::answers::assert_answers;
-use crate::endpoint::Endpoint;
-use crate::refused::Refused;
+use super::answers::Answer::{Refused as No, Sent, Shut as Closed, Taken, Turn};
+use super::answers::Call::{Put, Shut, Take, Turn as Look};
+use super::answers::assert_answers;
 use std::alloc::Global;
 use std::process::Abort;
 use std::sync::Wait;
 use std::test::Fail;
+use xh_channel::{Channels, Endpoint, Refused};
 use xh_core::{Contract, Row};
 
 // A request (tag 1) by side 0, a reply (tag 2) by side 1, and again.

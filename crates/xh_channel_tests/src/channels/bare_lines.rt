@@ -1,13 +1,10 @@
-ghost use Rattle.std.specs.Prelude.{◌≡◌, []};
-ghost use Rattle.xh_channel.specs.Lines.{waiting};
-
-use super::*;
-use crate::answers::Answer::{Refused as No, Sent, Shut as Closed, Taken};
-use crate::answers::Call::{Put, Shut, Take};
-use crate::answers::assert_line;
-use crate::counts::Counts;
+// A line by its calls, without the channel round it.
+use super::answers::Answer::{Refused as No, Sent, Shut as Closed, Taken};
+use super::answers::Call::{Put, Shut, Take};
+use super::answers::assert_line;
 use std::process::Abort;
-use xh_core::Row;
+use xh_channel::Line;
+use xh_core::{Contract, Row};
 
 /// The side 0 asks by 1, the side 1 answers by 2; the side 0 may send any number of 3 after a 9.
 fn rows() -> [Row; 4] {
@@ -63,37 +60,6 @@ fn a_line_full_then_shut(rt: HostRuntime) {
         (0, Take, No(15, None)),
         (1, Take, Taken(1, 9, None)),
         (1, Take, Taken(2, 3, Some(7))),
-        (1, Take, No(16, None)),
-    ];
-    assert_line(&rt, &mut line, &calls);
-}
-
-/// An end that carried all messages of a direction but the last.
-fn end_of(put: u64, taken: u64) -> LineEnd
-    ensures { (result.state ≡ 0) × (waiting result ≡ []) × (result.counts.put ≡ put) × (result.counts.taken ≡ taken) }
-{
-    LineEnd {
-        counts: Counts {
-            put,
-            taken,
-            ..Counts::none()
-        },
-        ..LineEnd::new(0)
-    }
-}
-
-#[test]
-fn a_direction_that_has_carried_its_last_message_is_full(rt: HostRuntime) {
-    let mut line = Line {
-        contract: contract_of(&rt, &rows()[2..]),
-        depth: 2,
-        left: end_of(MAX_MESSAGES - 1, 0),
-        right: end_of(0, MAX_MESSAGES - 1),
-    };
-    let calls = [
-        (0, Put(9, None), Sent(MAX_MESSAGES)),
-        (1, Take, Taken(MAX_MESSAGES, 9, None)),
-        (0, Put(3, None), No(14, None)),
         (1, Take, No(16, None)),
     ];
     assert_line(&rt, &mut line, &calls);

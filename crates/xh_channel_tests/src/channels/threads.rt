@@ -1,11 +1,8 @@
-use super::Channels;
-use crate::endpoint::Endpoint;
-use crate::refused::Refused;
-use crate::unsent::Unsent;
 use arrayvec::ArrayVec;
 use std::sync::Wait;
 use std::test::Fail;
 use std::{hint, thread};
+use xh_channel::{Channels, Endpoint, Refused, Unsent};
 use xh_model::limits::MAX_BLOCKS;
 
 const MESSAGES: u64 = 100_000;

@@ -2,13 +2,10 @@
 ghost use Rattle.std.specs.Prelude.{◌≡◌, true, false};
 ghost use Rattle.xh_channel.specs.Queues.{IsSameEnd};
 
-use super::Channels;
-use crate::endpoint::Endpoint;
-use crate::refused::Refused;
-use crate::unsent::Unsent;
 use arrayvec::ArrayVec;
 use std::sync::Wait;
 use std::test::Fail;
+use xh_channel::{Channels, Endpoint, Refused, Unsent};
 
 // Whether a put found the direction full: then as much was pushed as before.
 fn finds_full<R: Wait>(rt: &R, channels: &Channels, end: &mut Endpoint) -> bool

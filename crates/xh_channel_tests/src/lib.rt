@@ -1,0 +1,5 @@
+//! Channels and lines by their public calls.
+#![tactic(auto)]
+
+#[cfg(test)]
+mod channels;
