@@ -1,6 +1,6 @@
 pub mod Listing
 pub mod Steps
-pub mod Coming
+pub mod Moves
 pub mod Gained
 pub mod Counted
 pub mod Settled
@@ -12,7 +12,7 @@ pub mod Parted
 pub mod Patched
 pub mod Shown
 pub mod Runs
-pub mod Moved
+pub mod Last
 pub mod Opened
 pub mod Out
 pub mod Untaken

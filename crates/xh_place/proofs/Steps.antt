@@ -16,7 +16,7 @@ use Rattle.xh_model.proofs.Keyed.{at_key, distinct_push, distinct_without, here_
 use Rattle.xh_model.proofs.Keyed.{not_here, put_at, put_other, put_same, put_twice, without_at, without_other}
 use Rattle.xh_records.specs.Seats.{Held, IsRecord, with_lots}
 use Rattle.xh_records.specs.inner.Tokens.{AllBelow}
-use Rattle.xh_place.specs.Coming.{accepts}
+use Rattle.xh_place.specs.Moves.{moves}
 use Rattle.xh_place.specs.inner.Lots.{HasNow, bare}
 use Rattle.xh_records.proofs.Lists.{few}
 use Rattle.xh_place.specs.declared.body.Body.{Body}
@@ -29,7 +29,7 @@ use Rattle.xh_place.specs.Places.{Item, PlaceOf, with_blocks, item_of, item_in, 
 use Rattle.xh_place.proofs.Listing.{shown_same, shown_last, shown_without, shown_at, shown_none, shown_put, shown_drop, get_at, sum_last, sum_without}
 
 abbrev pub view_of : Held Body → List (ℕ × Header) → Status → PlaceOf
-view_of seat xs state = record { table = seat.table; shape = seat.shape; process = seat.process; blocks = shown seat.lots xs; state = state; came = accepts seat.done }
+view_of seat xs state = record { table = seat.table; shape = seat.shape; process = seat.process; blocks = shown seat.lots xs; state = state; moved = moves seat.done }
 
 -- there is room for one more, and no sum is too large
 slot_below : (a n r : ℕ) → r / 256 < a → r % 256 < n → index_of n r < a * n
@@ -93,7 +93,7 @@ kept seat last xs room total state e is = record {
 pub shows : (p : PlaceOf) (seat last : Held Body) (xs ys : List (ℕ × Header)) (state : Status) (lots : List (ℕ × LotOf Body)) (f : List (ℕ × Item) → List (ℕ × Item)) → view_of seat xs state ≡ p
     → HasNow seat lots last → shown last.lots ys ≡ f (shown seat.lots xs) → view_of last ys state ≡ with_blocks p (f p.blocks)
 shows p seat last xs ys state lots f is new blocks =
-    (λ i. record { table = (new i).table; shape = (new i).shape; process = (new i).process; blocks = blocks i; state = state; came = (new i).done })
+    (λ i. record { table = (new i).table; shape = (new i).shape; process = (new i).process; blocks = blocks i; state = state; moved = (new i).done })
     ∙ ap (λ (q : PlaceOf). with_blocks q (f q.blocks)) is
 
 module _ (seat : Held Body) (xs : List (ℕ × Header)) (room total : ℕ) (state : Status) (is : IsPlace seat xs room total state) where

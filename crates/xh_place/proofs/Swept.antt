@@ -10,7 +10,7 @@ use Rattle.xh_model.specs.Keyed.{Among, keys}
 use Rattle.xh_place.specs.declared.body.Kind.TheVariants as kind
 use Rattle.xh_place.specs.declared.body.Kind.{Kind}
 use Rattle.xh_place.specs.Bodies.{is_data, kind_of, toward}
-use Rattle.xh_place.specs.Coming.{accepted_on}
+use Rattle.xh_place.specs.Moves.{accepted_on}
 use Rattle.xh_place.specs.Ending.{AreFor, HasGivenBack, IsSweptBy, back_of}
 use Rattle.xh_place.specs.Ends.{has_end, toward_in}
 use Rattle.xh_place.specs.Places.{Item, PlaceOf, total_of, with_blocks, with_list, with_more}
@@ -119,7 +119,7 @@ swept_more from u k a b old mid new inside whose one two =
       log = one.log ++ two.log;
       there = omega (arith, long, left, fits);
       list = two.list ∙ (λ i. ahead i ++ same i);
-      came = two.came ∙ ap (λ (l : List Event). l ++ two.log) one.came ∙ append_assoc old.came one.log two.log;
+      moved = two.moved ∙ ap (λ (l : List Event). l ++ two.log) one.moved ∙ append_assoc old.moved one.log two.log;
       theirs = subst (λ (l : List (ℕ × Item)). AreFor old.process (take (u + k) l) both (one.log ++ two.log)) all
           (for_both old.process ends one.accepted two.accepted one.log two.log mine more);
       sum = omega (arith, sums, first, second);
@@ -143,7 +143,7 @@ swept_run from n bytes d old mid new ys inside came theirs fits is sum =
       log = accepted_on old.process d (keys ys);
       there = omega (arith, left, long, fits);
       list = ap (λ (p : PlaceOf). p.blocks) is ∙ (λ i. ahead i ++ more i);
-      came = ap (λ (p : PlaceOf). p.came) is ∙ ap (λ (p : PlaceOf). p.came) came;
+      moved = ap (λ (p : PlaceOf). p.moved) is ∙ ap (λ (p : PlaceOf). p.moved) came;
       theirs = theirs;
       sum = sum ∙ all;
     } where
@@ -159,7 +159,7 @@ swept_none from old = record {
   log = [];
   there = omega arith;
   list = sym (whole from old.blocks);
-  came = sym (append-nil old.came);
+  moved = sym (append-nil old.moved);
   theirs = tt;
   sum = omega arith;
 } where

@@ -29,7 +29,7 @@ pub record IsSweptBy (from count : ℕ) (old new : PlaceOf) (bytes : ℕ) : Type
   pub log : List Event
   pub there : count ≤ length (drop from old.blocks ++ accepted)
   pub list : new.blocks ≡ take from old.blocks ++ drop count (drop from old.blocks ++ accepted)
-  pub came : new.came ≡ old.came ++ log
+  pub moved : new.moved ≡ old.moved ++ log
   pub theirs : AreFor old.process (take count (drop from old.blocks ++ accepted)) accepted log
   pub sum : bytes + total_of new.blocks ≡ total_of old.blocks + total_of accepted
 

@@ -1,6 +1,6 @@
 pub mod Vaults
 pub mod Bodies
-pub mod Coming
+pub mod Moves
 pub mod Places
 pub mod Refusals
 pub mod Tallies

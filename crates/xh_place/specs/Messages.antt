@@ -6,9 +6,9 @@ use Rattle.xh_core.specs.declared.refused.Refused.TheVariants.{TooMany, NotOwned
 use Rattle.xh_core.specs.MessageCommands.{has_twice}
 use Rattle.xh_core.specs.Refusing.{Tests}
 use Rattle.xh_model.specs.Keyed.{Among, keys, value_at}
-use Rattle.xh_place.specs.Coming.{accepted_on}
+use Rattle.xh_place.specs.Moves.{there_and_back}
 use Rattle.xh_place.specs.declared.got.Taken.{Taken}
-use Rattle.xh_place.specs.Places.{Item, PlaceOf, with_blocks, with_came, with_more}
+use Rattle.xh_place.specs.Places.{Item, PlaceOf, with_blocks, with_moved, with_more}
 use Rattle.xh_place.specs.Ends.{end_tests}
 use Rattle.xh_place.specs.Settling.{settled}
 use Rattle.xh_place.specs.Taking.{AreGot}
@@ -32,12 +32,12 @@ IsUnsent back (PeerClosed named) = named.items ≡ back
 IsUnsent back (Full named) = named.items ≡ back
 IsUnsent back _ = ⊥
 
--- Each given block has left the list, or came back, from the direction that it was given on, and is in its old place, with the length and content that it has now.
--- None came back where the message went.
+-- Each given block was passed on the direction, in the order given. Then those that came back were accepted from that direction.
+-- Each given block has left the list, or came back, and then is in its old place, with the length and content that it has now. None came back where the message went.
 abbrev pub IsSent : ℕ → List ℕ → PlaceOf → PlaceOf → Result ℕ Refused → Type 0
 IsSent d given old new result = (back : List (ℕ × Item))
-    × (new ≡ with_came (with_blocks old (settled given (λ r. value_at r back) old.blocks)) (accepted_on old.process d (keys back))) × ((r : ℕ) → Among (keys back) r → Among given r)
-    × MatchResult result (λ no. keys back ≡ []) (IsUnsent (keys back))
+    × (new ≡ with_moved (with_blocks old (settled given (λ r. value_at r back) old.blocks)) (there_and_back old.process d given (keys back)))
+    × ((r : ℕ) → Among (keys back) r → Among given r) × MatchResult result (λ no. keys back ≡ []) (IsUnsent (keys back))
 
 -- ---- take
 

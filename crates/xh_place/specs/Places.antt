@@ -11,12 +11,12 @@ use Rattle.xh_model.specs.declared.event.Event.{Event}
 use Rattle.xh_model.specs.declared.limits.TheConstants.{END_BYTES, MAX_ARENAS, MAX_BYTES, MAX_RECORDS, PLACES}
 use Rattle.xh_records.specs.declared.shape.Shape.{Shape}
 use Rattle.xh_records.specs.Showing.{IsLotOf, IsFull}
-use Rattle.xh_model.specs.Keyed.{Distinct, keys, value_at}
+use Rattle.xh_model.specs.Keyed.{Distinct, keys, value_at, without}
 use Rattle.xh_records.specs.Seats.{RecordsOf, Held, IsRecord}
 use Rattle.xh_place.specs.declared.body.Body.{Body}
 use Rattle.xh_place.specs.declared.body.Header.{Header}
 use Rattle.xh_place.specs.Bodies.{Content, bytes, spot, content_of, kind_of, fits_in}
-use Rattle.xh_place.specs.Coming.{accepted_on}
+use Rattle.xh_place.specs.Moves.{accepted_on, passed_on}
 
 -- a block: its length, and what it carries
 pub record Item : Type 0 where
@@ -24,28 +24,32 @@ pub record Item : Type 0 where
   pub content : Content
 
 -- A place: the table and its shape, the number of its process, the blocks by their records in the order gained, and how far the process has come;
--- and the accepts that its processes did, in their order, each of which tells the direction that a record came on.
+-- and the passes and accepts that its processes did, in their order, each of which tells the direction that a record left or came on.
 pub record PlaceOf : Type 0 where
   pub table : TableId
   pub shape : Shape
   pub process : ℕ
   pub blocks : List (ℕ × Item)
   pub state : Status
-  pub came : List Event
+  pub moved : List Event
 
 abbrev pub with_blocks : PlaceOf → List (ℕ × Item) → PlaceOf
 with_blocks p xs = record p { blocks = xs }
 
-abbrev pub with_came : PlaceOf → List Event → PlaceOf
-with_came p es = record p { came = p.came ++ es }
+abbrev pub with_moved : PlaceOf → List Event → PlaceOf
+with_moved p es = record p { moved = p.moved ++ es }
 
--- with the blocks of another, and what came there
+-- with the blocks of another, and what left and came there
 abbrev pub with_list : PlaceOf → PlaceOf → PlaceOf
-with_list p q = record p { blocks = q.blocks; came = q.came }
+with_list p q = record p { blocks = q.blocks; moved = q.moved }
 
 -- these blocks came on the direction, to the end of the list
 abbrev pub with_more : ℕ → List (ℕ × Item) → PlaceOf → PlaceOf
-with_more d ys p = with_came (with_blocks p (p.blocks ++ ys)) (accepted_on p.process d (keys ys))
+with_more d ys p = with_moved (with_blocks p (p.blocks ++ ys)) (accepted_on p.process d (keys ys))
+
+-- the block of a record left on the direction
+abbrev pub with_less : ℕ → ℕ → PlaceOf → PlaceOf
+with_less d r p = with_moved (with_blocks p (without r p.blocks)) (passed_on p.process d (r ∷ []))
 
 -- the same place, and the same process
 abbrev pub IsSamePlace : PlaceOf → PlaceOf → Type 0

@@ -6,7 +6,7 @@ ghost use Rattle.xh_model.specs.Keyed.{Among, Distinct, keys, value_at};
 ghost use Rattle.xh_records.specs.Showing.{IsFull};
 ghost use Rattle.xh_place.specs.Messages.{IsUnsent};
 ghost use Rattle.xh_records.specs.Seats.{IsSeatOf, IsRecord};
-ghost use Rattle.xh_place.specs.Coming.{accepted_on};
+ghost use Rattle.xh_place.specs.Moves.{accepted_on, passed_on, there_and_back};
 ghost use Rattle.xh_place.specs.inner.Lots.{HasNow, with_done};
 ghost use Rattle.xh_place.specs.declared.body.Body.{Body};
 ghost use Rattle.xh_place.specs.declared.body.Kind.TheVariants as kind;
@@ -22,12 +22,12 @@ use xh_channel::{Channels, Unsent};
 use xh_core::Refused;
 use xh_records::{Records, Seat};
 
-// The records go in flight on the direction.
+// The records go in flight on the direction, one after another.
 pub(crate) fn pass_all(records: &Records<Body>, seat: &mut Seat<Body>, given: &[u16], direction: u8)
     requires own { IsSeatOf records.now seat.old × (direction < 128) }
     requires distinct { Distinct given.now }
     requires held { (r : ℕ) → Among given.now r → IsRecord records.now.shape r × ((l : LotOf Body) × (value_at r seat.old.lots ≡ Some l) × IsFull fits_in l) }
-    ensures same { HasNow seat.old seat.new.lots seat.new }
+    ensures passed { HasNow (with_done (passed_on seat.old.process direction given.now) seat.old) seat.new.lots seat.new }
     ensures gone { (r : ℕ) → Among given.now r → value_at r seat.new.lots ≡ None }
     ensures others { (r : ℕ) → (Among given.now r → ⊥) → value_at r seat.new.lots ≡ value_at r seat.old.lots }
 {
@@ -115,7 +115,7 @@ fn post<R: Wait, G: Gate>(
     requires distinct { Distinct given.now.items × (Among given.now.items e → ⊥) }
     requires held { (r : ℕ) → Among given.now.items r → (l : LotOf Body) × (value_at r seat.old.lots ≡ Some l) × IsBlock seat.old.shape r l }
     ensures direction { (result.1 ≡ away (item_in (value_at e seat.old.lots)).content) × (result.1 < 128) }
-    ensures same { HasNow seat.old seat.new.lots seat.new }
+    ensures passed { HasNow (with_done (passed_on seat.old.process result.1 given.now.items) seat.old) seat.new.lots seat.new }
     ensures end { (l : LotOf Body) → value_at e seat.old.lots ≡ Some l → (m : LotOf Body) × (value_at e seat.new.lots ≡ Some m) × (item_of m ≡ item_of l) × IsBlock seat.old.shape e m }
     ensures gone { (r : ℕ) → Among given.now.items r → value_at r seat.new.lots ≡ None }
     ensures others { (r : ℕ) → (Among given.now.items r → ⊥) → e ≢ r → value_at r seat.new.lots ≡ value_at r seat.old.lots }
@@ -150,7 +150,7 @@ pub(crate) fn give_all<R: Wait, G: Gate>(
     requires end { (l : LotOf Body) × (value_at e seat.old.lots ≡ Some l) × IsBlock seat.old.shape e l × (kind_of (content_of l.body) ≡ kind.End) }
     requires distinct { Distinct given.now.items × (Among given.now.items e → ⊥) }
     requires held { (r : ℕ) → Among given.now.items r → (l : LotOf Body) × (value_at r seat.old.lots ≡ Some l) × IsBlock seat.old.shape r l }
-    ensures came { HasNow (with_done (accepted_on seat.old.process (away (item_in (value_at e seat.old.lots)).content) (keys result.back.items)) seat.old) seat.new.lots seat.new }
+    ensures moved { HasNow (with_done (there_and_back seat.old.process (away (item_in (value_at e seat.old.lots)).content) given.now.items (keys result.back.items)) seat.old) seat.new.lots seat.new }
     ensures end { (l : LotOf Body) → value_at e seat.old.lots ≡ Some l → (m : LotOf Body) × (value_at e seat.new.lots ≡ Some m) × (item_of m ≡ item_of l) × IsBlock seat.old.shape e m }
     ensures others { (r : ℕ) → (Among given.now.items r → ⊥) → e ≢ r → value_at r seat.new.lots ≡ value_at r seat.old.lots }
     ensures back { (r : ℕ) → Among given.now.items r → value_at r result.back.items ≡ header_in (value_at r seat.new.lots) }

@@ -4,7 +4,7 @@ ghost use Rattle.xh_core.specs.declared.status.Status.TheVariants as status;
 ghost use Rattle.xh_model.specs.declared.limits.TheConstants.{MAX_ARENAS};
 ghost use Rattle.xh_model.specs.Keyed.{value_at};
 ghost use Rattle.xh_model.specs.Words.{generation_of};
-ghost use Rattle.xh_place.specs.Coming.{accepts};
+ghost use Rattle.xh_place.specs.Moves.{moves};
 ghost use Rattle.xh_place.specs.Places.{AreBlocks, IsPlaceOf, Lists, headers, line, line_in, started, state_of, total_of};
 ghost use Rattle.xh_place.specs.Refusals.{is_running, is_over};
 ghost use Rattle.xh_place.specs.inner.Answers.{entry_of};
@@ -33,12 +33,12 @@ pub struct Place {
 
 impl Model for Place {
     ghost use Rattle.std.specs.Prelude.{vec_capacity};
-    ghost use Rattle.xh_place.specs.Coming.{accepts};
+    ghost use Rattle.xh_place.specs.Moves.{moves};
     ghost use Rattle.xh_place.specs.Places.{PlaceOf, IsPlace, shown};
 
     ghost Value = { PlaceOf };
 
-    ghost view = { λ p. record { table = p.seat.table; shape = p.seat.shape; process = p.seat.process; blocks = shown p.seat.lots p.list.items; state = p.state; came = accepts p.seat.done } };
+    ghost view = { λ p. record { table = p.seat.table; shape = p.seat.shape; process = p.seat.process; blocks = shown p.seat.lots p.list.items; state = p.state; moved = moves p.seat.done } };
 
     ghost invariant = { λ p. IsPlace p.seat p.list.items (vec_capacity p.list) p.total p.state };
 }
@@ -73,7 +73,7 @@ impl Place {
         requires empty { seat.lots ≡ [] }
         requires room { room ≡ length seat.shape.names * seat.shape.records }
         requires arenas { length seat.shape.names ≤ MAX_ARENAS }
-        ensures place { IfOk result (λ p. p ≡ record { table = seat.table; shape = seat.shape; process = seat.process; blocks = []; state = status.Vacant; came = accepts seat.done }) }
+        ensures place { IfOk result (λ p. p ≡ record { table = seat.table; shape = seat.shape; process = seat.process; blocks = []; state = status.Vacant; moved = moves seat.done }) }
         ensures refused { IfErr result (λ e. e ≡ Refused.OutOfMemory) }
     {
         let list = Vec::with_capacity(alloc, usize::from(room))?;
@@ -146,7 +146,7 @@ impl Place {
     pub fn end(self) -> (Seat<Body>, Option<PlaceLine>)
         ensures same { (result.0.table ≡ self.table) × (result.0.shape ≡ self.shape) × (result.0.process ≡ self.process) }
         ensures lists { Lists result.0 self.blocks }
-        ensures came { accepts result.0.done ≡ self.came }
+        ensures moved { moves result.0.done ≡ self.moved }
         ensures nothing { is_over self.state ≡ true → result.0.lots ≡ [] }
         ensures line { result.1 ≡ line_in self.state (line self) }
     {

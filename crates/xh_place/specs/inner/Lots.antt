@@ -1,4 +1,4 @@
--- What the private steps of a place do to its seat. Of the events that the seat did they tell the accepts; the others are the record table's to tell.
+-- What the private steps of a place do to its seat. Of the events that the seat did they tell the passes and accepts; the others are the record table's to tell.
 use Rattle.std.specs.Prelude.{◌≡◌, ℕ, ◌+◌, ◌/◌, ◌<◌, List, [], ◌∷◌, ◌++◌, true}
 use Rattle.xh_arena.specs.Views.{LotOf}
 use Rattle.xh_model.specs.declared.event.Event.{Event}
@@ -7,18 +7,18 @@ use Rattle.xh_records.specs.Seats.{Held, with_lots}
 use Rattle.xh_place.specs.declared.body.Body.{Body}
 use Rattle.xh_place.specs.declared.body.Kind.TheVariants as kind
 use Rattle.xh_place.specs.Bodies.{content_of, fits_in, front, kind_of, rest}
-use Rattle.xh_place.specs.Coming.{accepts}
+use Rattle.xh_place.specs.Moves.{moves}
 use Rattle.xh_place.specs.Places.{IsBlock}
 
--- a seat, of whose events only the accepts count
+-- a seat, of whose events only the passes and accepts count
 abbrev pub bare : Held Body → Held Body
-bare seat = record seat { done = accepts seat.done }
+bare seat = record seat { done = moves seat.done }
 
 -- the seat that did these too
 abbrev pub with_done : List Event → Held Body → Held Body
 with_done es seat = record seat { done = seat.done ++ es }
 
--- the seat has these lots now, and accepted nothing, and all else but its other events is as it was
+-- the seat has these lots now, and passed and accepted nothing, and all else but its other events is as it was
 abbrev pub HasNow : Held Body → List (ℕ × LotOf Body) → Held Body → Type 0
 HasNow old lots new = bare new ≡ with_lots (bare old) lots
 

@@ -3,13 +3,13 @@ ghost use Rattle.std.specs.Prelude.{◌≡◌, ◌≢◌, ◌⊎◌, ℕ, ◌+�
 ghost use Rattle.xh_channel.specs.Pairs.{IsPair};
 ghost use Rattle.xh_core.specs.declared.status.Status.TheVariants as status;
 ghost use Rattle.xh_core.specs.Refusing.{Tested};
-ghost use Rattle.xh_model.specs.Keyed.{value_at, without};
+ghost use Rattle.xh_model.specs.Keyed.{value_at};
 ghost use Rattle.xh_records.specs.Seats.{IsRecord};
 ghost use Rattle.xh_place.specs.declared.body.Kind.TheVariants as kind;
 ghost use Rattle.xh_place.specs.Bodies.{kind_of, spot};
 ghost use Rattle.xh_place.specs.Ending.{HasGivenBack, IsClosed, last};
 ghost use Rattle.xh_place.specs.Ends.{RefusedOr, end_tests, has_end, open_tests, toward_in, AreListed, Opens, IsUnopened, is_here, IsTooLate};
-ghost use Rattle.xh_place.specs.Places.{Item, IsPlaceOf, IsSamePlace, with_blocks, with_more};
+ghost use Rattle.xh_place.specs.Places.{Item, IsPlaceOf, IsSamePlace, with_blocks, with_less, with_more};
 ghost use Rattle.xh_place.specs.Refusals.{is_over};
 ghost use Rattle.xh_model.specs.declared.limits.TheConstants.{END_BYTES};
 ghost use Rattle.xh_place.specs.Tallies.{ids_of};
@@ -165,7 +165,7 @@ impl Place {
         requires own { IsPlaceOf records.now self.old × (direction < 128) }
         requires running { self.old.state ≡ status.Running }
         requires end { has_end (value_at r self.old.blocks) ≡ true }
-        ensures { self.new ≡ with_blocks self.old (without r self.old.blocks) }
+        ensures { self.new ≡ with_less direction r self.old }
     {
         self.pass(records, r, direction);
     }
@@ -174,7 +174,7 @@ impl Place {
     fn pass(&mut self, records: &Records<Body>, r: u16, direction: u8)
         requires own { IsPlaceOf records.now self.old × (direction < 128) }
         requires listed { (x : Item) × (value_at r self.old.blocks ≡ Some x) }
-        ensures { self.new ≡ with_blocks self.old (without r self.old.blocks) }
+        ensures { self.new ≡ with_less direction r self.old }
     {
         let Some(Header { len, .. }) = entry(self.list.as_slice(), r) else {
             unreachable!()

@@ -1,9 +1,8 @@
 //! Messages that a place gives and takes.
-ghost use Rattle.std.specs.Prelude.{◌≡◌, ◌≢◌, ℕ, ◌+◌, ◌*◌, ◌<◌, List, [], ◌∷◌, ◌++◌, Some, IfOk, IfErr, MatchResult, true};
+ghost use Rattle.std.specs.Prelude.{◌≡◌, ◌≢◌, ℕ, ◌+◌, ◌*◌, ◌<◌, List, [], ◌∷◌, ◌++◌, Some, IfOk, IfErr, MatchResult, map, true};
 ghost use Rattle.std.specs.List.{list_all};
 ghost use Rattle.xh_core.specs.declared.status.Status.TheVariants as status;
 ghost use Rattle.xh_channel.specs.Refusals.{same_refusal};
-ghost use Rattle.xh_core.specs.MessageCommands.{has_twice};
 ghost use Rattle.xh_core.specs.Refusing.{Tested};
 ghost use Rattle.xh_model.specs.Keyed.{Among, Distinct, keys, value_at};
 ghost use Rattle.xh_records.specs.Seats.{IsRecord};
@@ -14,6 +13,7 @@ ghost use Rattle.xh_place.specs.Messages.{give_tests, given_tests, is_listed, Is
 ghost use Rattle.xh_place.specs.Places.{Item, IsPlaceOf, IsSamePlace, with_more};
 ghost use Rattle.xh_place.specs.Refusals.{is_over};
 ghost use Rattle.xh_place.specs.Taking.{AreGot, IsGot};
+ghost use Rattle.xh_place.specs.inner.Answers.{record_of};
 
 use crate::body::{Body, Header};
 use crate::gate::{Gate, Point};
@@ -25,18 +25,8 @@ use crate::place::Place;
 use arrayvec::ArrayVec;
 use std::sync::Wait;
 use xh_channel::{Channels, Message, Refused as Untaken};
-use xh_core::{Block, Refused};
+use xh_core::{Block, Refused, is_twice};
 use xh_records::Records;
-
-// Whether a record stands twice among these.
-fn is_twice(blocks: &[u16]) -> bool
-    ensures { result ≡ has_twice blocks.now }
-{
-    match blocks {
-        [] => false,
-        [first, rest @ ..] => rest.contains(first) || is_twice(rest),
-    }
-}
 
 impl Place {
     /// Gives blocks of the list, by the endpoint `e`, in a message with a tag. It answers the message's number.
@@ -215,7 +205,8 @@ impl Place {
     fn take_one(&mut self, records: &Records<Body>, r: u16, direction: u8) -> Got
         requires own { IsPlaceOf records.now self.old × (direction < 128) }
         requires alive { is_over self.old.state ≢ true }
-        ensures { (ys : List (ℕ × Item)) × (self.new ≡ with_more direction ys self.old) × IsGot direction ys result }
+        ensures got { (ys : List (ℕ × Item)) × (self.new ≡ with_more direction ys self.old) × IsGot direction ys result }
+        ensures record { record_of result ≡ r }
     {
         if !records.has(r) {
             return Got::Missing { rec: r, word: 0 };
@@ -237,6 +228,7 @@ impl Place {
         requires alive { is_over self.old.state ≢ true }
         ensures place { IsSamePlace self.old self.new }
         ensures got { (ys : List (ℕ × Item)) × (self.new ≡ with_more direction ys self.old) × AreGot direction ys result.items }
+        ensures records { map record_of result.items ≡ message.now.blocks.items }
     {
         let mut got = ArrayVec::new();
         for k in 0..message.blocks.len() {

@@ -8,7 +8,7 @@ use Rattle.xh_records.specs.Seats.{Held, did}
 use Rattle.xh_place.specs.declared.body.Body.{Body}
 use Rattle.xh_place.specs.declared.body.Header.{Header}
 use Rattle.xh_place.specs.Places.{IsBlock, header_in}
-use Rattle.xh_place.proofs.Coming.{own_lots}
+use Rattle.xh_place.proofs.Moves.{own_lots}
 use Rattle.xh_place.proofs.Gained.{has}
 use Rattle.xh_place.proofs.giving.accept_into.Goals as goal
 

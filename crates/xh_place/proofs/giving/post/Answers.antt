@@ -5,7 +5,8 @@ use Rattle.xh_model.specs.Keyed.{Among, value_at, put}
 use Rattle.xh_model.proofs.Keyed.{put_at, put_other}
 use Rattle.xh_records.specs.Showing.{IsLotOf}
 use Rattle.xh_records.specs.Seats.{Held, IsRecord, with_lots}
-use Rattle.xh_place.specs.inner.Lots.{HasNow, bare}
+use Rattle.xh_place.specs.Moves.{passed_on}
+use Rattle.xh_place.specs.inner.Lots.{bare, with_done}
 use Rattle.xh_place.specs.declared.body.Body.{Body}
 use Rattle.xh_place.specs.declared.body.Body.TheVariants.{Nothing, End}
 use Rattle.xh_place.specs.Bodies.{away, spot, content_of, fits_in}
@@ -37,7 +38,7 @@ pub swap_body-requires-2-clause-own : goal.swap_body-requires-2-clause-own
 swap_body-requires-2-clause-own g c =
     let q = c.requires.end in let lots = c.args.seat.now.lots in let own = c.requires.own in
     let out = c.swap_body.ensures q.0 q.1 in let mid = record q.0 { body = Nothing } in
-    let same = c.pass_all.ensures.same in (
+    let same = c.pass_all.ensures.passed in (
       (
         ap (λ (h : Held Body). h.table) same ∙ ap (λ (h : Held Body). h.table) out.1 ∙ own.0,
         ap (λ (h : Held Body). h.shape) same
@@ -53,7 +54,7 @@ swap_body-requires-2-clause-held g c =
     let at3 : value_at c.args.e c.pass_all.new.seat.lots ≡ Some mid =
     c.pass_all.ensures.others c.args.e (λ a. c.requires.distinct.1 (subst (λ (l : List ℕ). Among l c.args.e) c.as_slice.ensures.value a))
     ∙ ap (λ (h : Held Body). value_at c.args.e h.lots) out.1 ∙ put_at c.args.e mid q.0 lots q.1 in
-    (mid, at3, subst (λ s. IsLotOf s c.args.e mid) (sym (ap (λ (h : Held Body). h.shape) c.pass_all.ensures.same ∙ ap (λ (h : Held Body). h.shape) out.1)) q.2.lot, omega arith)
+    (mid, at3, subst (λ s. IsLotOf s c.args.e mid) (sym (ap (λ (h : Held Body). h.shape) c.pass_all.ensures.passed ∙ ap (λ (h : Held Body). h.shape) out.1)) q.2.lot, omega arith)
 
 pub returns-clause-direction : goal.returns-clause-direction
 returns-clause-direction g c =
@@ -63,16 +64,21 @@ returns-clause-direction g c =
     ap (λ (o : Option (LotOf Body)). (item_in o).content) q.1 ∙ ap content_of was in
     ((λ i. 2 * c.spot-spot.ensures.0 i + 1 - c.spot-spot.ensures.1 i) ∙ sym (ap away content), omega (arith, c.spot-spot.ensures.2, c.spot-spot.ensures.3))
 
-pub returns-clause-same : goal.returns-clause-same
-returns-clause-same g c =
+pub returns-clause-passed : goal.returns-clause-passed
+returns-clause-passed g c =
     let q = c.requires.end in let lots = c.args.seat.now.lots in let own = c.requires.own in
     let out = c.swap_body.ensures q.0 q.1 in let mid = record q.0 { body = Nothing } in
     let at3 : value_at c.args.e c.pass_all.new.seat.lots ≡ Some mid =
     c.pass_all.ensures.others c.args.e (λ a. c.requires.distinct.1 (subst (λ (l : List ℕ). Among l c.args.e) c.as_slice.ensures.value a))
     ∙ ap (λ (h : Held Body). value_at c.args.e h.lots) out.1 ∙ put_at c.args.e mid q.0 lots q.1 in
     let back = c.swap_body-2.ensures mid at3 in let m : LotOf Body = record q.0 { body = End c.put-put.new.end } in
-    let chain : HasNow c.args.seat.now c.pass_all.new.seat.lots c.pass_all.new.seat = c.pass_all.ensures.same ∙ ap (λ (h : Held Body). with_lots (bare h) c.pass_all.new.seat.lots) out.1 in
-    ap bare back.1 ∙ ap (λ (h : Held Body). with_lots h (put c.args.e m c.pass_all.new.seat.lots)) chain ∙ sym (ap (λ (h : Held Body). with_lots (bare c.args.seat.now) h.lots) back.1)
+    let d : ℕ = 2 * c.spot-spot.result.channel + 1 - c.spot-spot.result.side in
+    let after : Held Body → List ℕ → Held Body = λ h rs. bare (with_done (passed_on h.process d rs) h) in
+    let now : Held Body = after c.args.seat.now c.args.given.now.items in
+    let chain : bare c.pass_all.new.seat ≡ with_lots now c.pass_all.new.seat.lots =
+    c.pass_all.ensures.passed ∙ ap (λ (h : Held Body). with_lots (after h c.as_slice.result.now) c.pass_all.new.seat.lots) out.1
+    ∙ ap (λ (rs : List ℕ). with_lots (after c.args.seat.now rs) c.pass_all.new.seat.lots) c.as_slice.ensures.value in
+    ap bare back.1 ∙ ap (λ (h : Held Body). with_lots h (put c.args.e m c.pass_all.new.seat.lots)) chain ∙ sym (ap (λ (h : Held Body). with_lots now h.lots) back.1)
 
 pub returns-clause-end : goal.returns-clause-end
 returns-clause-end g c =

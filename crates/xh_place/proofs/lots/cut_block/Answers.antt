@@ -7,7 +7,7 @@ use Rattle.xh_place.specs.inner.Lots.{IsCut}
 use Rattle.xh_place.specs.declared.body.Body.{Body}
 use Rattle.xh_place.specs.declared.body.Body.TheVariants.{Data}
 use Rattle.xh_place.proofs.Gained.{undone}
-use Rattle.xh_place.proofs.Coming.{claims, vacates}
+use Rattle.xh_place.proofs.Moves.{claims, vacates}
 use Rattle.xh_place.proofs.Parted.{cutting, lent, is_cut}
 use Rattle.xh_place.proofs.lots.cut_block.Goals as goal
 

@@ -5,7 +5,7 @@ use Rattle.xh_records.specs.Seats.{Held, with_lots}
 use Rattle.xh_place.specs.inner.Lots.{bare}
 use Rattle.xh_place.specs.declared.body.Body.{Body}
 use Rattle.xh_place.specs.declared.body.Body.TheVariants.{Nothing}
-use Rattle.xh_place.proofs.Coming.{vacates}
+use Rattle.xh_place.proofs.Moves.{vacates}
 use Rattle.xh_place.proofs.lots.give_up.Goals as goal
 
 pub vacate-requires-clause-held : goal.vacate-requires-clause-held

@@ -1,7 +1,7 @@
 use Rattle.std.proofs.Common.{rules, ℕ, refl, ap, ◌∙◌, replicate}
 use Rattle.std.proofs.lemmas.List.{length-replicate}
 use Rattle.xh_records.specs.Seats.{Held}
-use Rattle.xh_place.proofs.Coming.{claims, vacates}
+use Rattle.xh_place.proofs.Moves.{claims, vacates}
 use Rattle.xh_place.specs.declared.body.Body.{Body}
 use Rattle.xh_place.specs.Bodies.{bytes}
 use Rattle.xh_place.proofs.Gained.{has, undone, changed, lot_is, named, fits_bytes}

@@ -5,7 +5,7 @@ use Rattle.xh_records.specs.Showing.{IsLotOf}
 use Rattle.xh_records.specs.Seats.{Held, with_lots}
 use Rattle.xh_place.specs.declared.body.Body.{Body}
 use Rattle.xh_place.specs.inner.Lots.{bare}
-use Rattle.xh_place.proofs.Coming.{claims, vacates}
+use Rattle.xh_place.proofs.Moves.{claims, vacates}
 use Rattle.xh_place.proofs.Gained.{has, undone}
 use Rattle.xh_place.proofs.opening.claim_two.Goals as goal
 

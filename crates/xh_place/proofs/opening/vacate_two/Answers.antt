@@ -3,7 +3,7 @@ use Rattle.xh_model.specs.Keyed.{value_at, without}
 use Rattle.xh_model.proofs.Keyed.{without_other}
 use Rattle.xh_records.specs.Seats.{Held, with_lots}
 use Rattle.xh_place.specs.declared.body.Body.{Body}
-use Rattle.xh_place.proofs.Coming.{vacates}
+use Rattle.xh_place.proofs.Moves.{vacates}
 use Rattle.xh_place.proofs.opening.vacate_two.Goals as goal
 
 pub vacate-requires-clause-held : goal.vacate-requires-clause-held

@@ -8,7 +8,7 @@ use Rattle.xh_place.specs.Ending.{HasGivenBack}
 use Rattle.xh_place.specs.Places.{sum_of, IsBlock}
 use Rattle.xh_place.specs.declared.body.Kind.TheVariants as kind
 use Rattle.xh_place.proofs.Counted.{ids_long}
-use Rattle.xh_place.proofs.Givens.{next_one, IsPassing, passing}
+use Rattle.xh_place.proofs.Givens.{next_one, IsGoing, giving_up}
 use Rattle.xh_place.proofs.Steps.{block_small}
 use Rattle.xh_place.proofs.Swept.{gave_more, gave_some}
 use Rattle.xh_place.proofs.reclaiming.give_up_all.Goals as goal
@@ -26,8 +26,8 @@ give_up_at-requires-clause-held g c =
     let inside : k < length blocks = omega (arith, c.loop-k-test.true) in
     let x : ℕ × Header = get_or blocks k (0, record { len = 0; kind = kind.Data }) in
     let cut : drop k blocks ≡ x ∷ drop (k + 1) blocks = next_one k blocks (0, record { len = 0; kind = kind.Data }) inside in
-    let step : IsPassing (keys blocks) (x.0 ∷ keys (drop (k + 1) blocks)) c.args.seat.now c.loop-k.seat =
-    subst (λ (l : List (ℕ × Header)). IsPassing (keys blocks) (keys l) c.args.seat.now c.loop-k.seat) cut i.0 in
+    let step : IsGoing (keys blocks) (x.0 ∷ keys (drop (k + 1) blocks)) c.args.seat.now c.args.seat.now c.loop-k.seat =
+    subst (λ (l : List (ℕ × Header)). IsGoing (keys blocks) (keys l) c.args.seat.now c.args.seat.now c.loop-k.seat) cut i.0 in
     let h = c.requires.held x.0 x.1 (value_drop x.0 x.1 (drop (k + 1) blocks) k blocks cut c.requires.distinct) in
     let at : value_at x.0 c.loop-k.seat.lots ≡ Some h.0 = step.2 x.0 (inl refl) ∙ h.1 in
     (h.0, at, subst (λ s. IsBlock s x.0 h.0) (sym (ap (λ (z : Held _). z.shape) i.0.0)) h.2)
@@ -38,8 +38,8 @@ overflow_add-bytes g c =
     let inside : k < length blocks = omega (arith, c.loop-k-test.true) in
     let x : ℕ × Header = get_or blocks k (0, record { len = 0; kind = kind.Data }) in
     let cut : drop k blocks ≡ x ∷ drop (k + 1) blocks = next_one k blocks (0, record { len = 0; kind = kind.Data }) inside in
-    let step : IsPassing (keys blocks) (x.0 ∷ keys (drop (k + 1) blocks)) c.args.seat.now c.loop-k.seat =
-    subst (λ (l : List (ℕ × Header)). IsPassing (keys blocks) (keys l) c.args.seat.now c.loop-k.seat) cut i.0 in
+    let step : IsGoing (keys blocks) (x.0 ∷ keys (drop (k + 1) blocks)) c.args.seat.now c.args.seat.now c.loop-k.seat =
+    subst (λ (l : List (ℕ × Header)). IsGoing (keys blocks) (keys l) c.args.seat.now c.args.seat.now c.loop-k.seat) cut i.0 in
     let h = c.requires.held x.0 x.1 (value_drop x.0 x.1 (drop (k + 1) blocks) k blocks cut c.requires.distinct) in
     let at : value_at x.0 c.loop-k.seat.lots ≡ Some h.0 = step.2 x.0 (inl refl) ∙ h.1 in
     let one : c.from-bytes.result ≤ 1048576 = subst (λ (n : ℕ). n ≤ 1048576) (sym (c.from-bytes.ensures ∙ h.3)) (block_small h.2) in
@@ -52,8 +52,8 @@ loop-k-preserved g c =
     let inside : k < length blocks = omega (arith, c.loop-k-test.true) in
     let x : ℕ × Header = get_or blocks k (0, record { len = 0; kind = kind.Data }) in
     let cut : drop k blocks ≡ x ∷ drop (k + 1) blocks = next_one k blocks (0, record { len = 0; kind = kind.Data }) inside in
-    let step : IsPassing (keys blocks) (x.0 ∷ keys (drop (k + 1) blocks)) c.args.seat.now c.loop-k.seat =
-    subst (λ (l : List (ℕ × Header)). IsPassing (keys blocks) (keys l) c.args.seat.now c.loop-k.seat) cut i.0 in
+    let step : IsGoing (keys blocks) (x.0 ∷ keys (drop (k + 1) blocks)) c.args.seat.now c.args.seat.now c.loop-k.seat =
+    subst (λ (l : List (ℕ × Header)). IsGoing (keys blocks) (keys l) c.args.seat.now c.args.seat.now c.loop-k.seat) cut i.0 in
     let h = c.requires.held x.0 x.1 (value_drop x.0 x.1 (drop (k + 1) blocks) k blocks cut c.requires.distinct) in
     let at : value_at x.0 c.loop-k.seat.lots ≡ Some h.0 = step.2 x.0 (inl refl) ∙ h.1 in
     let one : c.from-bytes.result ≡ h.0.len = c.from-bytes.ensures ∙ h.3 in let small : h.0.len ≤ 1048576 = block_small h.2 in
@@ -62,7 +62,7 @@ loop-k-preserved g c =
     let long : length c.loop-k.tallies ≡ length c.args.seat.now.shape.names = sym (ids_long c.loop-k.tallies) ∙ ap length (i.5 ∙ c.requires.names.1) in
     let paid : HasGivenBack h.0.len c.loop-k.tallies c.give_up_at.new.tallies =
     subst (λ ts. HasGivenBack h.0.len c.loop-k.tallies ts) (sym (c.give_up_at.ensures.back h.0 at)) (gave_some (x.0 / 256) h.0.len c.loop-k.tallies (omega (arith, arena, long))) in (
-      passing (keys blocks) (keys (drop (k + 1) blocks)) x.0 c.args.seat.now c.loop-k.seat c.give_up_at.new.seat
+      giving_up (keys blocks) (keys (drop (k + 1) blocks)) x.0 c.args.seat.now c.loop-k.seat c.give_up_at.new.seat
           (get_key k blocks (0, record { len = 0; kind = kind.Data }) inside) step c.give_up_at.ensures.seat,
       (let was : c.loop-k.bytes + sum_of (drop k blocks) ≡ sum_of blocks = i.1 in let same : c.from-bytes.result ≡ x.1.len = c.from-bytes.ensures in omega (arith, was, sums, same)),
       (let most : c.loop-k.bytes ≤ k * 4294967295 = i.2 in omega (arith, most, one, small)),

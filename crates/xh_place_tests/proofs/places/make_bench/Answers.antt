@@ -8,7 +8,7 @@ use Rattle.xh_records.proofs.OneVault.{of_one_vault}
 use Rattle.xh_core.specs.declared.status.Status.TheVariants.{Vacant}
 use Rattle.xh_place.specs.declared.body.Body.{Body}
 use Rattle.xh_place.specs.Bodies.{fits_in}
-use Rattle.xh_place.specs.Coming.{accepts}
+use Rattle.xh_place.specs.Moves.{moves}
 use Rattle.xh_place.specs.Places.{PlaceOf}
 use Rattle.xh_place_tests.proofs.Plain.{ids_one, second_of}
 use Rattle.xh_place_tests.proofs.places.make_bench.Goals as goal
@@ -85,8 +85,8 @@ start-requires-clause-own c =
       process = c.remove.result.process;
       blocks = [];
       state = Vacant;
-      came =
-          accepts c.remove.result.done;
+      moved =
+          moves c.remove.result.done;
     } = search rules in
     (ap (λ (p : PlaceOf). p.table) place ∙ first.0.0, ap (λ (p : PlaceOf). p.shape) place ∙ first.0.1)
 
@@ -107,8 +107,8 @@ invariant_of-result c =
       process = c.remove.result.process;
       blocks = [];
       state = Vacant;
-      came =
-          accepts c.remove.result.done;
+      moved =
+          moves c.remove.result.done;
     } = search rules in
     let place2 : c.in_ok-second.second ≡ record {
       table = c.remove-2.result.table;
@@ -116,8 +116,8 @@ invariant_of-result c =
       process = c.remove-2.result.process;
       blocks = [];
       state = Vacant;
-      came =
-          accepts c.remove-2.result.done;
+      moved =
+          moves c.remove-2.result.done;
     } = search rules in
     let names : c.in-Ok-new.records.shape.names ≡ c.in-Ok.vault.id ∷ [] = ap (λ (s : Shape). s.names) c.in-Ok-new.ensures.shape ∙ one in
     record {

@@ -5,8 +5,8 @@ use Rattle.xh_model.specs.declared.event.Event.TheVariants.{Accept}
 use Rattle.xh_records.specs.Seats.{did}
 use Rattle.xh_place.specs.declared.body.Header.{Header}
 use Rattle.xh_place.specs.Refusals.{is_over}
-use Rattle.xh_place.specs.Places.{PlaceOf, item_of, with_blocks, with_came}
-use Rattle.xh_place.proofs.Coming.{heard, heard_shows}
+use Rattle.xh_place.specs.Places.{PlaceOf, item_of, with_blocks, with_moved}
+use Rattle.xh_place.proofs.Moves.{heard, heard_shows}
 use Rattle.xh_place.proofs.Steps.{won, has_room, small, block_small}
 use Rattle.xh_place.proofs.place.Place.accept.Goals as goal
 
@@ -61,8 +61,8 @@ returns-clause-here c =
       (
         item_of l,
         sym (ap (λ (z : Header). z.len) t.4),
-        both.1 (with_came c.args.self.now (came ∷ [])) (heard_shows (came ∷ []) seat xs state c.args.self.now refl c.self.view_is)
-            ∙ ap (λ (p : ℕ). with_came (with_blocks c.args.self.now (c.args.self.now.blocks ++ (c.args.r, item_of l) ∷ [])) (Accept p c.args.r c.args.direction ∷ []))
+        both.1 (with_moved c.args.self.now (came ∷ [])) (heard_shows (came ∷ []) seat xs state c.args.self.now refl c.self.view_is)
+            ∙ ap (λ (p : ℕ). with_moved (with_blocks c.args.self.now (c.args.self.now.blocks ++ (c.args.r, item_of l) ∷ [])) (Accept p c.args.r c.args.direction ∷ []))
             (ap (λ (p : PlaceOf). p.process) c.self.view_is),
       ),
     )

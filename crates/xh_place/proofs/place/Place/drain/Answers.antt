@@ -3,7 +3,7 @@ use Rattle.xh_model.specs.Keyed.{value_at}
 use Rattle.xh_model.proofs.Keyed.{front_at}
 use Rattle.xh_place.specs.Ends.{toward_in}
 use Rattle.xh_place.specs.Places.{PlaceOf, with_more}
-use Rattle.xh_place.proofs.Coming.{more_twice}
+use Rattle.xh_place.proofs.Moves.{more_twice}
 use Rattle.xh_place.proofs.place.Place.drain.Goals as goal
 
 pub take_message-requires-clause-end : goal.take_message-requires-clause-end

@@ -4,7 +4,7 @@ use Rattle.std.specs.Vec.{vec_capacity}
 use Rattle.xh_model.specs.Keyed.{value_at, without}
 use Rattle.xh_place.specs.declared.body.Header.{Header}
 use Rattle.xh_place.specs.Places.{header_of, IsPlace}
-use Rattle.xh_place.proofs.Moved.{alive_if, moved, moved_shows, without_long}
+use Rattle.xh_place.proofs.Last.{alive_if, moved, moved_shows, without_long}
 use Rattle.xh_place.proofs.Steps.{count_room, listed, view_of}
 use Rattle.xh_place.proofs.place.Place.move_last.Goals as goal
 

@@ -1,10 +1,13 @@
-use Rattle.std.proofs.Common.{arith, ◌≡◌, ℕ, ◌≤◌, sym, ap, ◌∙◌, subst}
+use Rattle.std.proofs.Common.{arith, ◌≡◌, ℕ, ◌≤◌, [], ◌∷◌, refl, sym, ap, ◌∙◌, subst}
 use Rattle.std.specs.Prelude.{Some, None}
 use Rattle.std.specs.Vec.{vec_capacity}
-use Rattle.xh_model.specs.Keyed.{value_at}
-use Rattle.xh_records.specs.Seats.{IsRecord}
-use Rattle.xh_place.specs.Places.{header_of}
-use Rattle.xh_place.proofs.Coming.{passes}
+use Rattle.xh_model.specs.declared.event.Event.{Event}
+use Rattle.xh_model.specs.declared.event.Event.TheVariants.{Pass}
+use Rattle.xh_model.specs.Keyed.{value_at, without}
+use Rattle.xh_records.specs.Seats.{IsRecord, did}
+use Rattle.xh_place.specs.inner.Lots.{bare}
+use Rattle.xh_place.specs.Places.{PlaceOf, header_of, with_blocks, with_moved}
+use Rattle.xh_place.proofs.Moves.{heard, heard_shows}
 use Rattle.xh_place.proofs.Steps.{listed, lot_of, enough, lost}
 use Rattle.xh_place.proofs.place.Place.pass.Goals as goal
 
@@ -55,8 +58,9 @@ invariant_of-self c =
     let t = lot_of seat xs room total state is c.args.r c.in-Some.field-0 here in
     let same = ap (λ p. p.shape) c.self.view_is ∙ c.requires.own.0.1 in
     let len : c.from.result ≡ c.in-Some.field-0.len = c.from.ensures in
-    let both = lost seat xs room total state is c.pass.new.seat c.args.r c.in-Some.field-0 c.remove.new.list.items (vec_capacity c.remove.new.list) c.from.result here
-    (passes seat c.pass.new.seat _ _ _ _ c.pass.ensures.passed) c.remove.ensures.items c.remove.ensures.room len in
+    let gone : Event = Pass seat.process c.args.r c.args.direction in
+    let both = lost (did gone seat) xs room total state (heard (gone ∷ []) seat xs room total state is) c.pass.new.seat c.args.r c.in-Some.field-0 c.remove.new.list.items
+    (vec_capacity c.remove.new.list) c.from.result here (ap bare c.pass.ensures.passed) c.remove.ensures.items c.remove.ensures.room len in
     both.0
 
 pub returns : goal.returns
@@ -68,6 +72,9 @@ returns c =
     let t = lot_of seat xs room total state is c.args.r c.in-Some.field-0 here in
     let same = ap (λ p. p.shape) c.self.view_is ∙ c.requires.own.0.1 in
     let len : c.from.result ≡ c.in-Some.field-0.len = c.from.ensures in
-    let both = lost seat xs room total state is c.pass.new.seat c.args.r c.in-Some.field-0 c.remove.new.list.items (vec_capacity c.remove.new.list) c.from.result here
-    (passes seat c.pass.new.seat _ _ _ _ c.pass.ensures.passed) c.remove.ensures.items c.remove.ensures.room len in
-    both.1 c.args.self.now c.self.view_is
+    let gone : Event = Pass seat.process c.args.r c.args.direction in
+    let both = lost (did gone seat) xs room total state (heard (gone ∷ []) seat xs room total state is) c.pass.new.seat c.args.r c.in-Some.field-0 c.remove.new.list.items
+    (vec_capacity c.remove.new.list) c.from.result here (ap bare c.pass.ensures.passed) c.remove.ensures.items c.remove.ensures.room len in
+    both.1 (with_moved c.args.self.now (gone ∷ [])) (heard_shows (gone ∷ []) seat xs state c.args.self.now refl c.self.view_is)
+    ∙ ap (λ (p : ℕ). with_moved (with_blocks c.args.self.now (without c.args.r c.args.self.now.blocks)) (Pass p c.args.r c.args.direction ∷ []))
+    (ap (λ (p : PlaceOf). p.process) c.self.view_is)

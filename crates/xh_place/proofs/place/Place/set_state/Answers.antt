@@ -1,6 +1,6 @@
 use Rattle.std.proofs.Common.{◌∙◌, ap}
 use Rattle.std.specs.Vec.{vec_capacity}
-use Rattle.xh_place.proofs.Moved.{none_shown, quiet_if}
+use Rattle.xh_place.proofs.Last.{none_shown, quiet_if}
 use Rattle.xh_place.proofs.Steps.{with_state}
 use Rattle.xh_place.proofs.place.Place.set_state.Goals as goal
 

@@ -1,0 +1,101 @@
+-- What a seat passed and accepted, and what its place shows of it.
+use Rattle.std.proofs.Common.{◌≡◌, ℕ, List, [], ◌∷◌, ◌++◌, append_assoc, append-nil, refl, sym, ap, ◌∙◌}
+use Rattle.xh_arena.specs.Views.{LotOf}
+use Rattle.xh_core.specs.declared.status.Status.{Status}
+use Rattle.xh_model.specs.declared.event.Event.{Event}
+use Rattle.xh_model.specs.declared.event.Event.TheVariants.{Claim, Carve, Cut, GiveBack, Vacate, Pass, Accept}
+use Rattle.xh_model.specs.Keyed.{keys}
+use Rattle.xh_records.specs.Seats.{Held, did, with_lots}
+use Rattle.xh_place.specs.declared.body.Body.{Body}
+use Rattle.xh_place.specs.declared.body.Header.{Header}
+use Rattle.xh_place.specs.Moves.{moves, accepted_on, passed_on, there_and_back}
+use Rattle.xh_place.specs.inner.Lots.{HasNow, bare, with_done}
+use Rattle.xh_place.specs.Places.{IsPlace, Item, PlaceOf, with_moved, with_more}
+use Rattle.xh_place.proofs.Steps.{view_of}
+
+pub moves_both : (xs ys : List Event) → moves (xs ++ ys) ≡ moves xs ++ moves ys
+moves_both [] ys = refl
+moves_both (Claim p r ∷ xs) ys = moves_both xs ys
+moves_both (Carve p r n ∷ xs) ys = moves_both xs ys
+moves_both (Cut p r t k ∷ xs) ys = moves_both xs ys
+moves_both (GiveBack p r ∷ xs) ys = moves_both xs ys
+moves_both (Vacate p r ∷ xs) ys = moves_both xs ys
+moves_both (Pass p r d ∷ xs) ys = ap (λ (l : List Event). Pass p r d ∷ l) (moves_both xs ys)
+moves_both (Accept p r d ∷ xs) ys = ap (λ (l : List Event). Accept p r d ∷ l) (moves_both xs ys)
+
+accepts_move : (p d : ℕ) (rs : List ℕ) → moves (accepted_on p d rs) ≡ accepted_on p d rs
+accepts_move p d [] = refl
+accepts_move p d (r ∷ rs) = ap (λ (l : List Event). Accept p r d ∷ l) (accepts_move p d rs)
+
+passes_move : (p d : ℕ) (rs : List ℕ) → moves (passed_on p d rs) ≡ passed_on p d rs
+passes_move p d [] = refl
+passes_move p d (r ∷ rs) = ap (λ (l : List Event). Pass p r d ∷ l) (passes_move p d rs)
+
+pub all_move : (p d : ℕ) (rs ts : List ℕ) → moves (there_and_back p d rs ts) ≡ there_and_back p d rs ts
+all_move p d rs ts = moves_both (passed_on p d rs) (accepted_on p d ts) ∙ (λ i. passes_move p d rs i ++ accepts_move p d ts i)
+
+pub passed_both : (p d : ℕ) (rs ts : List ℕ) → passed_on p d (rs ++ ts) ≡ passed_on p d rs ++ passed_on p d ts
+passed_both p d [] ts = refl
+passed_both p d (r ∷ rs) ts = ap (λ (l : List Event). Pass p r d ∷ l) (passed_both p d rs ts)
+
+pub on_both : (p d : ℕ) (rs ts : List ℕ) → accepted_on p d (rs ++ ts) ≡ accepted_on p d rs ++ accepted_on p d ts
+on_both p d [] ts = refl
+on_both p d (r ∷ rs) ts = ap (λ (l : List Event). Accept p r d ∷ l) (on_both p d rs ts)
+
+pub keys_both : {X : Type 0} (xs ys : List (ℕ × X)) → keys (xs ++ ys) ≡ keys xs ++ keys ys
+keys_both [] ys = refl
+keys_both (x ∷ xs) ys = ap (λ (l : List ℕ). x.0 ∷ l) (keys_both xs ys)
+
+-- ---- an event that moves nothing
+
+quietly : (seat last : Held Body) (e : Event) (lots : List (ℕ × LotOf Body)) → moves (e ∷ []) ≡ [] → last ≡ did e (with_lots seat lots) → HasNow seat lots last
+quietly seat last e lots none is =
+    let silent : moves (seat.done ++ e ∷ []) ≡ moves seat.done =
+    moves_both seat.done (e ∷ []) ∙ ap (λ (l : List Event). moves seat.done ++ l) none ∙ append-nil (moves seat.done) in
+    ap bare is ∙ ap (λ (es : List Event). record (with_lots seat lots) { done = es }) silent
+
+pub claims : (seat last : Held Body) (p r : ℕ) (lots : List (ℕ × LotOf Body)) → last ≡ did (Claim p r) (with_lots seat lots) → HasNow seat lots last
+claims seat last p r lots is = quietly seat last (Claim p r) lots refl is
+
+pub vacates : (seat last : Held Body) (p r : ℕ) (lots : List (ℕ × LotOf Body)) → last ≡ did (Vacate p r) (with_lots seat lots) → HasNow seat lots last
+vacates seat last p r lots is = quietly seat last (Vacate p r) lots refl is
+
+-- ---- a seat that has passed and accepted some
+
+pub own_lots : (old new : Held Body) (lots : List (ℕ × LotOf Body)) → HasNow old lots new → HasNow old new.lots new
+own_lots old new lots is = is ∙ ap (with_lots (bare old)) (sym (ap (λ (h : Held Body). h.lots) is))
+
+then_moved : (old mid last : Held Body) (es : List Event) → HasNow old mid.lots mid → HasNow (with_done es mid) last.lots last → HasNow (with_done es old) last.lots last
+then_moved old mid last es one two =
+    two ∙ ap (λ (l : List Event). record (with_lots mid last.lots) { done = l }) (moves_both mid.done es)
+    ∙ ap (λ (h : Held Body). record (with_lots h last.lots) { done = h.done ++ moves es }) one
+    ∙ ap (λ (l : List Event). record (with_lots old last.lots) { done = l }) (sym (moves_both old.done es))
+
+pub moved_twice : (old mid last : Held Body) (es fs : List Event) → HasNow (with_done es old) mid.lots mid → HasNow (with_done fs mid) last.lots last
+    → HasNow (with_done (es ++ fs) old) last.lots last
+moved_twice old mid last es fs one two =
+    then_moved (with_done es old) mid last fs one two ∙ ap (λ (l : List Event). record (with_lots old last.lots) { done = moves l }) (append_assoc old.done es fs)
+
+-- ---- a place whose seat did more
+
+pub heard : (es : List Event) (seat : Held Body) (xs : List (ℕ × Header)) (room total : ℕ) (state : Status) → IsPlace seat xs room total state → IsPlace (with_done es seat) xs room total state
+heard es seat xs room total state is = record { same = is.same; blocks = is.blocks; distinct = is.distinct; sum = is.sum; room = is.room; quiet = is.quiet }
+
+pub heard_shows : (es : List Event) (seat : Held Body) (xs : List (ℕ × Header)) (state : Status) (p : PlaceOf) → moves es ≡ es → view_of seat xs state ≡ p
+    → view_of (with_done es seat) xs state ≡ with_moved p es
+heard_shows es seat xs state p same is =
+    let both : moves (seat.done ++ es) ≡ moves seat.done ++ es = moves_both seat.done es ∙ ap (λ (l : List Event). moves seat.done ++ l) same in
+    (λ i. record (view_of seat xs state) { moved = both i }) ∙ ap (λ (q : PlaceOf). with_moved q es) is
+
+-- ---- blocks that come
+
+pub more_none : (d : ℕ) (p : PlaceOf) → p ≡ with_more d [] p
+more_none d p = λ i. record p { blocks = sym (append-nil p.blocks) i; moved = sym (append-nil p.moved) i }
+
+pub more_twice : (d : ℕ) (ys zs : List (ℕ × Item)) (p : PlaceOf) → with_more d zs (with_more d ys p) ≡ with_more d (ys ++ zs) p
+more_twice d ys zs p =
+    let one : List Event = accepted_on p.process d (keys ys) in
+    let two : List Event = accepted_on p.process d (keys zs) in
+    let both : accepted_on p.process d (keys (ys ++ zs)) ≡ one ++ two = ap (accepted_on p.process d) (keys_both ys zs) ∙ on_both p.process d (keys ys) (keys zs) in
+    let moved : (p.moved ++ one) ++ two ≡ p.moved ++ accepted_on p.process d (keys (ys ++ zs)) = append_assoc p.moved one two ∙ ap (λ (l : List Event). p.moved ++ l) (sym both) in
+    λ i. record p { blocks = append_assoc p.blocks ys zs i; moved = moved i }

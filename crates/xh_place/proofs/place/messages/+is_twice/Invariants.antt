@@ -1,5 +1,0 @@
-use Rattle.std.proofs.Common.{length}
-use Rattle.xh_place.proofs.place.messages.+is_twice.Given as goal
-
-abbrev pub decreases-is_twice : goal.decreases-is_twice
-decreases-is_twice l = length l.blocks.now
