@@ -1,5 +1,5 @@
 -- What a place's calls that give bytes back say of the account, and of the place alone.
-use Rattle.std.proofs.Common.{◌≡◌, ◌≢◌, ℕ, List, [], ◌∷◌, ◌++◌, ⊎_elim, sym, ap, ◌∙◌, subst, true, false}
+use Rattle.std.proofs.Common.{◌≡◌, ◌≢◌, ℕ, List, [], ◌∷◌, ⊎_elim, sym, ap, ◌∙◌, subst, true, false}
 use Rattle.std.specs.Prelude.{◌⊎◌, Option, Some, None, Result, Ok, Err, IfErr, IfOk, MatchOption, MatchResult, length}
 use Rattle.xh_arena.specs.Views.{TallyOf}
 use Rattle.xh_core.specs.declared.block.Block.{Block}

@@ -12,15 +12,15 @@ use Rattle.xh_kernel.specs.Parts.{IsNew}
 use Rattle.xh_kernel.specs.inner.Making.{AreMakings}
 use Rattle.xh_kernel.proofs.Lists.{front_at, below_get, last_at, split_at}
 
-pub none_made : (w n size : ℕ) → AreMakings w n size [] [] []
-none_made w n size = (refl, (λ k d h. absurd (omega arith)), ((let e : 0 * n ≡ 0 = omega arith in sym e), (λ k l at. absurd (cc))))
+pub none_made : (w n size wear : ℕ) → AreMakings w n size wear [] [] []
+none_made w n size wear = (refl, (λ k d h. absurd (omega arith)), ((let e : 0 * n ≡ 0 = omega arith in sym e), (λ k l at. absurd (cc))))
 
-pub makings_more : (new : Body → Type 0) (w n size : ℕ) (vs : List VaultOf) (ls more : List (LotOf Body)) (names : List TableId) (v : VaultOf)
-    → ((b : Body) → new b → fits_in b 0 ≡ true) → AreMakings w n size vs ls names → IsNew w n size v → AreLots new v.id n more
-    → AreMakings w n size (vs ++ v ∷ []) (ls ++ more) (names ++ v.id ∷ [])
-makings_more new w n size vs ls more names v blank made is lots = (
+pub makings_more : (new : Body → Type 0) (w n size wear : ℕ) (vs : List VaultOf) (ls more : List (LotOf Body)) (names : List TableId) (v : VaultOf)
+    → ((b : Body) → new b → fits_in b 0 ≡ true) → AreMakings w n size wear vs ls names → IsNew w n size wear v → AreLots new v.id n more
+    → AreMakings w n size wear (vs ++ v ∷ []) (ls ++ more) (names ++ v.id ∷ [])
+makings_more new w n size wear vs ls more names v blank made is lots = (
   map_push (λ (z : VaultOf). z.id) vs v ∙ ap (λ z. z ++ v.id ∷ []) made.0,
-  All-push (IsNew w n size) vs v made.1 is,
+  All-push (IsNew w n size wear) vs v made.1 is,
   (
     (let a = length-append ls more in let b = length-append names (v.id ∷ []) in let c : length ls ≡ length names * n = made.2.0 in let d : length more ≡ n = lots.0 in
         let e : length (names ++ v.id ∷ []) ≡ suc (length names) = omega arith in
@@ -39,5 +39,5 @@ makings_more new w n size vs ls more names v blank made is lots = (
   ),
 )
 
-pub new_vault : (w n size : ℕ) (v : VaultOf) → v.workers ≡ w → v.collected ≡ [] → 0 < w → v.arena.records ≡ n → length v.arena.cover ≡ size → IsNew w n size v
-new_vault w n size v a b c d e = (a, b, c, d, e)
+pub new_vault : (w n size wear : ℕ) (v : VaultOf) → v.workers ≡ w → v.collected ≡ [] → 0 < w → v.arena.records ≡ n → length v.arena.cover ≡ size → v.arena.limit ≡ wear → IsNew w n size wear v
+new_vault w n size wear v a b c d e f = (a, b, c, d, e, f)

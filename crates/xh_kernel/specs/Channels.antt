@@ -24,9 +24,10 @@ IsNoChannel parts a NoSpace = (parts.size < 2 * END_BYTES) ⊎ IsOfSome parts a 
 IsNoChannel parts a Worn = IsOfSome parts a (IsWorn (2 * END_BYTES))
 IsNoChannel parts a _ = ⊥
 
--- both ends of a new channel, ruled by a contract or not, side 0 first, each of 32 bytes of the arena, are the last blocks of the list
+-- both ends of a new channel, ruled by a contract or not, side 0 first, each of 32 bytes of the arena, are the last blocks of the list;
+-- as many messages may wait in a direction of it as the parts were made for
 pub record Opens (parts : PartsOf) (p arena : ℕ) (ruled : Bool) (old new : PlaceOf) (result : Result (Block × Block) Refused) : Type 0 where
-  pub opened : IfOk result (λ ends. (low : Posted) × (high : Posted) × IsPair low high × (low.has_contract ≡ ruled)
+  pub opened : IfOk result (λ ends. (low : Posted) × (high : Posted) × IsPair low high × (low.depth ≡ parts.depth) × (low.has_contract ≡ ruled)
       × (new ≡ with_blocks old (old.blocks ++ (ends.0.rec, end_block low) ∷ (ends.1.rec, end_block high) ∷ [])))
   pub blocks : IfOk result (λ ends. IsEndIn arena ends.0 × IsEndIn arena ends.1)
   pub refused : OnErr result (new ≡ old)

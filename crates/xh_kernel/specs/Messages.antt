@@ -8,7 +8,7 @@ use Rattle.xh_place.specs.Messages.{give_tests, IsSent, IsTaken, IsUntaken}
 use Rattle.xh_place.specs.Places.{PlaceOf}
 use Rattle.xh_kernel.specs.Places.{start}
 
--- the blocks left the list, or those that came back, from the direction that they were given on, are in their old places
+-- the blocks were passed on the direction away from the endpoint, and left the list, or came back from it, and are in their old places
 abbrev pub Gives : ℕ → ℕ → List ℕ → PlaceOf → PlaceOf → Result ℕ Refused → Type 0
 Gives p e given old new result = RefusedOr (start p old ++ give_tests old e given) result (new ≡ old) (IsSent (away_in (value_at e old.blocks)) given old new result)
 

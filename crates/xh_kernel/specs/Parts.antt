@@ -9,11 +9,14 @@ use Rattle.xh_records.specs.declared.shape.Shape.{Shape}
 use Rattle.xh_records.specs.Seats.{RecordsOf}
 
 -- the table of the records, whose shape has the names of the vaults in the order of their arenas; how many workers
--- share each vault, the bytes of each, and the table of the glances
+-- share each vault, the bytes of each, and how many it may ever hand out; how many messages may wait in a direction;
+-- and the table of the glances
 pub record PartsOf : Type 0 where
   pub records : RecordsOf
   pub workers : ℕ
   pub size : ℕ
+  pub wear : ℕ
+  pub depth : ℕ
   pub glances : TableId
 
 -- the name of no table
@@ -24,7 +27,7 @@ abbrev pub no_shape : Shape
 no_shape = record { records = 0; places = 0; names = [] }
 
 abbrev pub no_parts : PartsOf
-no_parts = record { records = record { table = no_table; shape = no_shape }; workers = 0; size = 0; glances = no_table }
+no_parts = record { records = record { table = no_table; shape = no_shape }; workers = 0; size = 0; wear = 0; depth = 0; glances = no_table }
 
 -- the limits that a kernel's parts are made with
 pub record ArePartsLimits (config : Config) (workers : ℕ) : Type 0 where
@@ -35,13 +38,14 @@ pub record ArePartsLimits (config : Config) (workers : ℕ) : Type 0 where
 abbrev pub vault_names : List VaultOf → List TableId
 vault_names = map (λ v. v.id)
 
--- a vault for so many workers, none of whose tallies it took in yet, of so many records and bytes
-abbrev pub IsNew : ℕ → ℕ → ℕ → VaultOf → Type 0
-IsNew workers records size v = (v.workers ≡ workers) × (v.collected ≡ []) × (0 < workers) × (v.arena.records ≡ records) × (length v.arena.cover ≡ size)
+-- a vault for so many workers, none of whose tallies it took in yet, of so many records and bytes, that may ever hand
+-- out so many
+abbrev pub IsNew : ℕ → ℕ → ℕ → ℕ → VaultOf → Type 0
+IsNew workers records size wear v = (v.workers ≡ workers) × (v.collected ≡ []) × (0 < workers) × (v.arena.records ≡ records) × (length v.arena.cover ≡ size) × (v.arena.limit ≡ wear)
 
 -- such a vault of these parts
 abbrev pub IsOpen : PartsOf → VaultOf → Type 0
-IsOpen p = IsNew p.workers p.records.shape.records p.size
+IsOpen p = IsNew p.workers p.records.shape.records p.size p.wear
 
 -- that of an arena of these parts
 abbrev pub IsVaultOf : PartsOf → ℕ → VaultOf → Type 0

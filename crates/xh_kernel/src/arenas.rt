@@ -5,25 +5,32 @@ ghost use Rattle.xh_kernel.specs.Parts.{IsOpen, vault_names};
 
 use crate::kept::Kept;
 use crate::names::Names;
+use crossbeam_utils::CachePadded;
 use std::alloc::{AllocError, Global};
 use std::sync::Mutex;
 use xh_arena::Vault;
 
-/// One lock for each arena, and how many arenas there are, and how many bytes each has.
+/// One lock for each arena, on cache lines of its own, and how many arenas there are, and how many bytes
+/// each has.
 #[derive(Drop)]
 pub(crate) struct Arenas<N: Names> {
     pub(crate) count: u8,
     pub(crate) size: u32,
-    pub(crate) arena0: Mutex<Kept<N, 0>>,
-    pub(crate) arena1: Mutex<Kept<N, 1>>,
-    pub(crate) arena2: Mutex<Kept<N, 2>>,
-    pub(crate) arena3: Mutex<Kept<N, 3>>,
-    pub(crate) arena4: Mutex<Kept<N, 4>>,
-    pub(crate) arena5: Mutex<Kept<N, 5>>,
-    pub(crate) arena6: Mutex<Kept<N, 6>>,
-    pub(crate) arena7: Mutex<Kept<N, 7>>,
+    pub(crate) arena0: CachePadded<Mutex<Kept<N, 0>>>,
+    pub(crate) arena1: CachePadded<Mutex<Kept<N, 1>>>,
+    pub(crate) arena2: CachePadded<Mutex<Kept<N, 2>>>,
+    pub(crate) arena3: CachePadded<Mutex<Kept<N, 3>>>,
+    pub(crate) arena4: CachePadded<Mutex<Kept<N, 4>>>,
+    pub(crate) arena5: CachePadded<Mutex<Kept<N, 5>>>,
+    pub(crate) arena6: CachePadded<Mutex<Kept<N, 6>>>,
+    pub(crate) arena7: CachePadded<Mutex<Kept<N, 7>>>,
     ghost counted: { (count ≡ length N.parts.records.shape.names) × (count ≤ MAX_ARENAS) },
     ghost sized: { (size ≡ N.parts.size) × (size % UNIT ≡ 0) × (size ≤ MAX_BYTES) },
+}
+
+// The lock of an arena.
+fn locked<N: Names, const A: u8>(kept: Kept<N, A>) -> CachePadded<Mutex<Kept<N, A>>> {
+    CachePadded::new(Mutex::new(kept))
 }
 
 impl<N: Names> Arenas<N> {
@@ -39,14 +46,14 @@ impl<N: Names> Arenas<N> {
         Arenas {
             count,
             size,
-            arena0: Mutex::new(Kept::next(&mut rest)),
-            arena1: Mutex::new(Kept::next(&mut rest)),
-            arena2: Mutex::new(Kept::next(&mut rest)),
-            arena3: Mutex::new(Kept::next(&mut rest)),
-            arena4: Mutex::new(Kept::next(&mut rest)),
-            arena5: Mutex::new(Kept::next(&mut rest)),
-            arena6: Mutex::new(Kept::next(&mut rest)),
-            arena7: Mutex::new(Kept::next(&mut rest)),
+            arena0: locked(Kept::next(&mut rest)),
+            arena1: locked(Kept::next(&mut rest)),
+            arena2: locked(Kept::next(&mut rest)),
+            arena3: locked(Kept::next(&mut rest)),
+            arena4: locked(Kept::next(&mut rest)),
+            arena5: locked(Kept::next(&mut rest)),
+            arena6: locked(Kept::next(&mut rest)),
+            arena7: locked(Kept::next(&mut rest)),
         }
     }
 
@@ -69,14 +76,14 @@ impl<N: Names> Arenas<N> {
             arena7,
         } = self;
         let mut vaults = Vec::with_capacity(alloc, usize::from(count))?;
-        arena0.into_inner().put_back(&mut vaults)?;
-        arena1.into_inner().put_back(&mut vaults)?;
-        arena2.into_inner().put_back(&mut vaults)?;
-        arena3.into_inner().put_back(&mut vaults)?;
-        arena4.into_inner().put_back(&mut vaults)?;
-        arena5.into_inner().put_back(&mut vaults)?;
-        arena6.into_inner().put_back(&mut vaults)?;
-        arena7.into_inner().put_back(&mut vaults)?;
+        arena0.into_inner().into_inner().put_back(&mut vaults)?;
+        arena1.into_inner().into_inner().put_back(&mut vaults)?;
+        arena2.into_inner().into_inner().put_back(&mut vaults)?;
+        arena3.into_inner().into_inner().put_back(&mut vaults)?;
+        arena4.into_inner().into_inner().put_back(&mut vaults)?;
+        arena5.into_inner().into_inner().put_back(&mut vaults)?;
+        arena6.into_inner().into_inner().put_back(&mut vaults)?;
+        arena7.into_inner().into_inner().put_back(&mut vaults)?;
         Ok(vaults)
     }
 }

@@ -22,6 +22,7 @@ use crate::held::Held;
 use crate::names::Names;
 use crate::parts::Parts;
 use crate::shared::Shared;
+use crossbeam_utils::CachePadded;
 use std::alloc::Global;
 use std::sync::{Mutex, Wait};
 use xh_core::Refused;
@@ -31,11 +32,12 @@ use xh_place::{Body, Gate, Place};
 use xh_records::{Records, Seat};
 
 /// An exchange heap for many threads: a lock for each place, each arena and each channel. Each call takes
-/// the lock of its place, then that of a channel or of an arena, and never those of two places.
+/// the lock of its place, then that of a channel or of an arena, and never those of two places. No two
+/// locks share a cache line.
 #[derive(Drop)]
 pub struct Kernel<N: Names> {
     shared: Shared<N>,
-    places: Vec<Mutex<Held<N>>>,
+    places: Vec<CachePadded<Mutex<Held<N>>>>,
     ghost all: { vec_len places ≡ PLACES },
 }
 
@@ -45,7 +47,7 @@ fn lock_place<N: Names>(
     records: &Records<Body>,
     seat: Seat<Body>,
     pen: Pen,
-) -> Result<Mutex<Held<N>>, Refused>
+) -> Result<CachePadded<Mutex<Held<N>>>, Refused>
     requires records { records.now ≡ N.parts.records }
     requires seat { IsSeatOf N.parts.records seat × (seat.lots ≡ []) × (seat.process < PLACES) }
     requires pen { pen ≡ fresh_pen N.parts.glances seat.process }
@@ -53,7 +55,7 @@ fn lock_place<N: Names>(
 {
     let room = u16::from(records.arenas()) * records.per_arena();
     let place = Place::new(alloc, seat, room)?;
-    Ok(Mutex::new(Held::new(place, pen)))
+    Ok(CachePadded::new(Mutex::new(Held::new(place, pen))))
 }
 
 // A lock for each place.
@@ -62,7 +64,7 @@ fn lock_places<N: Names>(
     records: &Records<Body>,
     seats: Vec<Seat<Body>>,
     pens: Vec<Pen>,
-) -> Result<Vec<Mutex<Held<N>>>, Refused>
+) -> Result<Vec<CachePadded<Mutex<Held<N>>>>, Refused>
     requires records { records.now ≡ N.parts.records }
     requires seats { AreSeats N.parts.records seats.items }
     requires pens { ArePens N.parts.glances pens.items }
@@ -115,7 +117,7 @@ impl<N: Names> Kernel<N> {
             pens,
             bundles,
             looks,
-            size,
+            config,
         } = parts;
         let places = lock_places(alloc, &records, seats, pens)?;
         let accounts = name_accounts(alloc, bundles)?;
@@ -123,7 +125,7 @@ impl<N: Names> Kernel<N> {
             records,
             channels,
             glances,
-            arenas: Arenas::new(vaults, size),
+            arenas: Arenas::new(vaults, config.bytes),
         };
         Ok((Kernel { shared, places }, accounts, looks))
     }

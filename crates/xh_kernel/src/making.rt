@@ -19,6 +19,10 @@ pub(crate) struct Makings {
     pub(crate) bundles: Vec<Bundle>,
 }
 
+// Room behind a worker's tallies, which nobody writes, of more than a cache line: so no two workers write
+// one line.
+const SPARE_TALLIES: usize = 3;
+
 // A bundle without tallies for each worker.
 fn empty_bundles(alloc: Global, workers: u8, arenas: u8) -> Result<Vec<Bundle>, AllocError>
     ensures count { IfOk result (λ b. vec_len b ≡ workers) }
@@ -26,7 +30,7 @@ fn empty_bundles(alloc: Global, workers: u8, arenas: u8) -> Result<Vec<Bundle>, 
 {
     let mut bundles = Vec::with_capacity(alloc, usize::from(workers))?;
     for number in 0..workers {
-        let tallies = Vec::with_capacity(alloc, usize::from(arenas))?;
+        let tallies = Vec::with_capacity(alloc, usize::from(arenas) + SPARE_TALLIES)?;
         bundles.push(Bundle { number, tallies })?;
     }
     Ok(bundles)
@@ -86,10 +90,10 @@ fn add_vault(
     workers: u8,
     makings: Makings,
 ) -> Result<Makings, Refused>
-    requires makings { AreMakings workers config.records config.bytes makings.vaults.items makings.lots.items makings.names }
+    requires makings { AreMakings workers config.records config.bytes config.wear makings.vaults.items makings.lots.items makings.names }
     requires bundles { (vec_len makings.bundles ≡ workers) × AreBundles makings.names makings.bundles.items }
     ensures count { IfOk result (λ m. (vec_len m.vaults ≡ vec_len makings.vaults + 1) × (vec_len m.bundles ≡ workers)) }
-    ensures makings { IfOk result (λ m. AreMakings workers config.records config.bytes m.vaults.items m.lots.items m.names) }
+    ensures makings { IfOk result (λ m. AreMakings workers config.records config.bytes config.wear m.vaults.items m.lots.items m.names) }
     ensures bundles { IfOk result (λ m. AreBundles m.names m.bundles.items) }
     ensures refused { IfErr result (λ e. e ≡ Refused.OutOfMemory) }
 {
@@ -119,7 +123,7 @@ fn add_vault(
 /// of both.
 pub(crate) fn make_vaults(alloc: Global, config: Config, workers: u8) -> Result<Makings, Refused>
     ensures count { IfOk result (λ m. (vec_len m.vaults ≡ config.arenas) × (vec_len m.bundles ≡ workers)) }
-    ensures makings { IfOk result (λ m. AreMakings workers config.records config.bytes m.vaults.items m.lots.items m.names) }
+    ensures makings { IfOk result (λ m. AreMakings workers config.records config.bytes config.wear m.vaults.items m.lots.items m.names) }
     ensures bundles { IfOk result (λ m. AreBundles m.names m.bundles.items) }
     ensures refused { IfErr result (λ e. e ≡ Refused.OutOfMemory) }
 {

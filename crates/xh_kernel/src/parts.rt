@@ -25,20 +25,31 @@ pub struct Parts {
     pub(crate) pens: Vec<Pen>,
     pub(crate) bundles: Vec<Bundle>,
     pub(crate) looks: Vec<Look>,
-    pub(crate) size: u32,
+    pub(crate) config: Config,
 }
 
 impl Model for Parts {
     ghost use Rattle.std.specs.Prelude.{vec_len};
     ghost use Rattle.xh_kernel.specs.Parts.{PartsOf};
-    ghost use Rattle.xh_kernel.specs.inner.Making.{AreParts};
+    ghost use Rattle.xh_kernel.specs.inner.Making.{AreParts, parts_of};
 
     ghost Value = { PartsOf };
 
-    ghost view = { λ p. record { records = p.records; workers = vec_len p.bundles; size = p.size; glances = p.glances } };
+    ghost view = { λ p. parts_of p.records (vec_len p.bundles) p.config p.channels.depth p.glances };
 
-    ghost invariant = { λ p. AreParts (record { records = p.records; workers = vec_len p.bundles; size = p.size; glances = p.glances })
+    ghost invariant = { λ p. AreParts (parts_of p.records (vec_len p.bundles) p.config p.channels.depth p.glances)
         p.vaults.items p.seats.items p.pens.items p.bundles.items p.looks.items };
+}
+
+// The channels, in which so many messages may wait in a direction.
+fn new_channels(alloc: Global, depth: u8) -> Result<Channels, Refused>
+    ensures depth { IfOk result (λ c. c.depth ≡ depth) }
+    ensures refused { IfErr result (λ e. e ≡ Refused.OutOfMemory) }
+{
+    let Ok(channels) = Channels::new(alloc, depth) else {
+        return Err(Refused::OutOfMemory);
+    };
+    Ok(channels)
 }
 
 impl Parts {
@@ -51,7 +62,8 @@ impl Parts {
         ensures limits { OnOk result (ArePartsLimits config workers) }
         ensures bad_size { (result ≡ Err Refused.BadSize) ↔ (ArePartsLimits config workers → ⊥) }
         ensures refused { IfErr result (λ e. (e ≡ Refused.BadSize) ⊎ (e ≡ Refused.OutOfMemory)) }
-        ensures parts { IfOk result (λ p. (p.workers ≡ workers) × (p.size ≡ config.bytes) × (p.records.shape.records ≡ config.records) × (length p.records.shape.names ≡ config.arenas)) }
+        ensures parts { IfOk result (λ p. (p.workers ≡ workers) × (p.size ≡ config.bytes) × (p.wear ≡ config.wear) × (p.depth ≡ config.depth)
+            × (p.records.shape.records ≡ config.records) × (length p.records.shape.names ≡ config.arenas)) }
     {
         if !config.is_in_limits() || workers == 0 || workers > MAX_WORKERS {
             return Err(Refused::BadSize);
@@ -66,9 +78,7 @@ impl Parts {
         let Ok((records, seats)) = made else {
             return Err(Refused::OutOfMemory);
         };
-        let Ok(channels) = Channels::new(alloc, config.depth) else {
-            return Err(Refused::OutOfMemory);
-        };
+        let channels = new_channels(alloc, config.depth)?;
         let (glances, pens, looks) = Glances::new(alloc, workers)?;
         Ok(Parts {
             vaults,
@@ -79,7 +89,7 @@ impl Parts {
             pens,
             bundles,
             looks,
-            size: config.bytes,
+            config,
         })
     }
 }

@@ -19,7 +19,7 @@ pub(crate) struct Shared<N: Names> {
     pub(crate) channels: Channels,
     pub(crate) glances: Glances,
     pub(crate) arenas: Arenas<N>,
-    ghost named: { (records ≡ N.parts.records) × (glances ≡ N.parts.glances) },
+    ghost named: { (records ≡ N.parts.records) × (glances ≡ N.parts.glances) × (channels.depth ≡ N.parts.depth) },
     ghost places: { records.shape.places ≡ PLACES },
 }
 

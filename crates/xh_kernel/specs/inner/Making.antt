@@ -4,6 +4,7 @@ use Rattle.atomic_table.specs.Seated.{TableId}
 use Rattle.xh_arena.specs.Views.{LotOf, TallyOf, VaultOf}
 use Rattle.xh_glance.specs.Look.{LookOf, fresh_look}
 use Rattle.xh_glance.specs.Pen.{PenOf, fresh_pen}
+use Rattle.xh_model.specs.declared.config.Config.{Config}
 use Rattle.xh_model.specs.declared.limits.TheConstants.{MAX_ARENAS, MAX_BYTES, PLACES, UNIT}
 use Rattle.xh_place.specs.Bodies.{fits_in}
 use Rattle.xh_place.specs.declared.body.Body.{Body}
@@ -29,8 +30,8 @@ abbrev pub AreAllLots : ℕ → List TableId → List (LotOf Body) → Type 0
 AreAllLots n names ls = (length ls ≡ length names * n) × ((k : ℕ) (l : LotOf Body) → slice_get ls k ≡ Some l → (l.index ≡ k % n) × (slice_get names (k / n) ≡ Some l.id) × IsEmpty fits_in l)
 
 -- new vaults with their lots and names
-abbrev pub AreMakings : ℕ → ℕ → ℕ → List VaultOf → List (LotOf Body) → List TableId → Type 0
-AreMakings workers records size vs ls names = (vault_names vs ≡ names) × All (IsNew workers records size) vs × AreAllLots records names ls
+abbrev pub AreMakings : ℕ → ℕ → ℕ → ℕ → List VaultOf → List (LotOf Body) → List TableId → Type 0
+AreMakings workers records size wear vs ls names = (vault_names vs ≡ names) × All (IsNew workers records size wear) vs × AreAllLots records names ls
 
 -- the seat of each place, at its first generation, which holds nothing
 abbrev pub AreSeats : RecordsOf → List (Held Body) → Type 0
@@ -39,6 +40,10 @@ AreSeats all xs = (length xs ≡ PLACES) × ((k : ℕ) (x : Held Body) → slice
 -- the pen of each place, with which nothing was told yet
 abbrev pub ArePens : TableId → List PenOf → Type 0
 ArePens id pens = (length pens ≡ PLACES) × ((k : ℕ) (d : PenOf) → k < PLACES → slice_index_or pens k d ≡ fresh_pen id k)
+
+-- a kernel's parts of these records and glances, made by the configuration
+abbrev pub parts_of : RecordsOf → ℕ → Config → ℕ → TableId → PartsOf
+parts_of records workers config depth glances = record { records = records; workers = workers; size = config.bytes; wear = config.wear; depth = depth; glances = glances }
 
 -- what the type of a kernel's parts keeps
 pub record AreParts (p : PartsOf) (vs : List VaultOf) (xs : List (Held Body)) (pens : List PenOf) (bs : List Bundle) (looks : List LookOf) : Type 0 where

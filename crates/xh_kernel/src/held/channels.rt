@@ -5,9 +5,8 @@ ghost use Rattle.xh_channel.specs.Queues.{Posted};
 ghost use Rattle.xh_core.specs.declared.status.Status.TheVariants as status;
 ghost use Rattle.xh_core.specs.Refusing.{Tested};
 ghost use Rattle.xh_model.specs.declared.limits.TheConstants.{END_BYTES};
-ghost use Rattle.xh_model.specs.Keyed.{without};
 ghost use Rattle.xh_place.specs.Ends.{is_here, open_tests, AreListed};
-ghost use Rattle.xh_place.specs.Places.{Item, PlaceOf, with_blocks, with_more};
+ghost use Rattle.xh_place.specs.Places.{Item, PlaceOf, with_less, with_more};
 ghost use Rattle.xh_records.specs.Seats.{IsRecord};
 ghost use Rattle.xh_kernel.specs.Accounts.{has_taken};
 ghost use Rattle.xh_kernel.specs.Channels.{Opens};
@@ -37,7 +36,7 @@ fn open_channel<N: Names, R: Wait>(
     shared: &Shared<N>,
     contract: Option<Contract>,
 ) -> Result<(Endpoint, Endpoint), Refused>
-    ensures ok { IfOk result (λ ends. IsPair ends.0 ends.1 × (ends.0.has_contract ≡ is_some contract)) }
+    ensures ok { IfOk result (λ ends. IsPair ends.0 ends.1 × (ends.0.depth ≡ N.parts.depth) × (ends.0.has_contract ≡ is_some contract)) }
     ensures err { IfErr result (λ e. e ≡ Refused.NoChannel) }
 {
     let ends = match contract {
@@ -117,7 +116,7 @@ impl<N: Names> Held<N> {
     ) -> Result<Wired, Refused>
         ensures place { (middle : PlaceOf) × MatchResult result (λ w. Opens N.parts p arena (is_some contract) self.old.place middle (Ok (w.low, w.high)))
             (λ e. Opens N.parts p arena (is_some contract) self.old.place middle (Err e))
-            × MatchResult result (λ w. self.new.place ≡ with_blocks middle (without w.high.rec middle.blocks)) (λ _. self.new.place ≡ middle) }
+            × MatchResult result (λ w. self.new.place ≡ with_less (2 * w.spot.channel + 1) w.high.rec middle) (λ _. self.new.place ≡ middle) }
         ensures exists { IfOk result (λ w. IsRecord N.parts.records.shape w.high.rec) }
         ensures account { MatchResult result (λ _. account.new ≡ has_taken arena (2 * END_BYTES) account.old) (λ _. account.new ≡ account.old) }
     {

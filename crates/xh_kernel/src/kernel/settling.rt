@@ -8,6 +8,7 @@ use crate::held::Held;
 use crate::kernel::Kernel;
 use crate::names::Names;
 use crate::shared::Shared;
+use crossbeam_utils::CachePadded;
 use std::alloc::{AllocError, Global};
 use std::sync::Mutex;
 use xh_arena::Vault;
@@ -18,14 +19,14 @@ use xh_records::Records;
 // The places out of their locks.
 fn unlock_places<N: Names>(
     alloc: Global,
-    locks: Vec<Mutex<Held<N>>>,
+    locks: Vec<CachePadded<Mutex<Held<N>>>>,
 ) -> Result<Vec<Place>, AllocError>
     ensures count { IfOk result (λ p. vec_len p ≡ vec_len locks) }
     ensures named { IfOk result (λ p. All (IsPlaceOf N.parts.records) p.items) }
 {
     let mut places = Vec::with_capacity(alloc, locks.len())?;
     for lock in locks {
-        places.push(lock.into_inner().into_place())?;
+        places.push(lock.into_inner().into_inner().into_place())?;
     }
     Ok(places)
 }

@@ -1,10 +1,11 @@
 // The ends of endpoints and of processes, by calls.
-use super::answers::Answer::{Back, Block, Ends, Left, Message, Moved, No, Number};
+use super::answers::Answer::{Back, Block, Ends, Left, Message, Moved, No, Number, Place};
 use super::answers::Call::{
-    Alloc, Close, Exit, Free, Give, Kill, Moved as Count, Open, Spawn, Take, Wire,
+    Alloc, Close, Exit, Free, Give, Glance, Kill, Moved as Count, Open, Spawn, Take, Wire,
 };
 use super::{assert_on, here, waiting_of};
 use std::test::Fail;
+use xh_core::Status::Running;
 
 /// An end in a message on its way to a process that is killed goes, and what was on its way to that end.
 #[test]
@@ -73,6 +74,32 @@ fn exits_and_kills(rt: HostRuntime) -> Result<(), Fail> {
             (Kill(0, 0, 4096), Number(0)),
             (Exit(0, 4096), No("Ended")),
             (Count(0), Moved(0, 0)),
+        ],
+    )
+}
+
+/// A kill leaves what waits for the killer: of the victim's giving, and of another's.
+#[test]
+fn kill_leaves_what_waits_for_the_killer(rt: HostRuntime) -> Result<(), Fail> {
+    assert_on(
+        &rt,
+        rt.alloc(),
+        waiting_of(256, 4),
+        &[
+            (Spawn, Number(0)),
+            (Spawn, Number(1)),
+            (Spawn, Number(2)),
+            (Wire(1, 0), Ends(0, 1)),
+            (Wire(2, 0), Ends(2, 3)),
+            (Alloc(1, 16, 0), Block(4, 16)),
+            (Give(1, 0, 5, &[4]), Number(1)),
+            (Give(2, 2, 6, &[]), Number(1)),
+            (Kill(0, 1, 4096), Number(32)),
+            (Glance(0), Place(0, Running, 2, 64)),
+            (Take(0, 3), Message(1, 6, [None, None])),
+            (Take(0, 1), Message(1, 5, [here(4, 16), None])),
+            (Take(0, 1), Back("PeerClosed", None)),
+            (Count(0), Moved(144, 32)),
         ],
     )
 }

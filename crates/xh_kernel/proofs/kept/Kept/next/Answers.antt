@@ -6,7 +6,7 @@ use Rattle.xh_kernel.proofs.kept.Kept.next.Goals as goal
 pub invariant_of-t-5 : goal.invariant_of-t-5
 invariant_of-t-5 g c =
     let items = c.in-Some.ensures.items in let h = c.requires.open_vaults 0 c.in-Some.vault in
-    ((drop_cons g.N.Names.parts.records.shape.names g.row.A _ _ (sym (ap vault_names items) ∙ c.requires.names)).0, (grind rules, grind rules, grind rules, grind rules, grind rules))
+    ((drop_cons g.N.Names.parts.records.shape.names g.row.A _ _ (sym (ap vault_names items) ∙ c.requires.names)).0, (grind rules, grind rules, grind rules, grind rules, grind rules, grind rules))
 
 pub returns-in-Some-clause-names : goal.returns-in-Some-clause-names
 returns-in-Some-clause-names g c = (drop_cons g.N.Names.parts.records.shape.names g.row.A _ _ (sym (ap vault_names c.in-Some.ensures.items) ∙ c.requires.names)).1
