@@ -1,3 +1,1 @@
-pub mod Options
 pub mod Status
-pub mod inner

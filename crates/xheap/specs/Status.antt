@@ -1,22 +1,17 @@
 -- How a run of the program ends, and with which status.
-use Rattle.std.specs.Prelude.{◌≡◌, ◌⊎◌, ℕ, Bool, true, false, List, Option}
+use Rattle.std.specs.Prelude.{◌≡◌, ◌⊎◌, ℕ, Bool, true, false, List, Option, codes}
 use Rattle.clap.specs.Words.{Text}
+use Rattle.xh_command_line.specs.Options.{AreOptions, IsUnasked, options_of, serially}
+use Rattle.xh_command_line.specs.Status.{status_of}
 use Rattle.xh_model.specs.declared.config.Config.{Config}
 use Rattle.xh_script.specs.declared.fault.Fault.{Fault}
-use Rattle.xh_script.specs.declared.fault.Fault.TheVariants.{Script, Memory, Read, Write, Gate, BadConfig}
 use Rattle.xh_script.specs.declared.watch.Watched.{Watched}
 use Rattle.xh_runner.specs.Runs.{Meant, Failed}
 use Rattle.xh_runner.specs.Reported.{Reported, Stopped}
-use Rattle.xheap.specs.Options.{AreOptions, AreQuestion, AreWrong, options_of, serially}
 
--- the status of a fault
-abbrev pub status_of : Fault → ℕ
-status_of (Script line kind) = 1
-status_of Memory = 3
-status_of Read = 4
-status_of Write = 4
-status_of Gate = 5
-status_of BadConfig = 5
+-- the program's name
+abbrev pub name : Text
+name = codes "xheap"
 
 module _ {R W : Type 0} (remaining : R → Option (List ℕ)) (contents : W → Option (List ℕ)) where
   -- a script was run with these limits: 0 where what it means was written, else the status of the fault
@@ -34,10 +29,7 @@ module _ {R W : Type 0} (remaining : R → Option (List ℕ)) (contents : W → 
   RanBy true = Ran
   RanBy false = RanOnThreads
 
-  -- the words decide: with options a script is run with their limits; else nothing is read, and but for help and the version nothing is written. 3 also stands for
-  -- memory that was refused before a script was read
+  -- the words decide: with options a script is run with their limits; else nothing is read
   abbrev pub Ended : List Text → Watched R → Watched R → Watched W → Watched W → ℕ → Type 0
-  Ended words reader reader' out out' status = (AreOptions words × ((serial : Bool) × serially words serial × RanBy serial (options_of words) reader reader' out out' status))
-      ⊎ (((status ≡ 0) × AreQuestion words × (reader' ≡ reader))
-      ⊎ (((status ≡ 2) × AreWrong words × (reader' ≡ reader) × (out' ≡ out))
-      ⊎ ((status ≡ 3) × (reader' ≡ reader) × (out' ≡ out))))
+  Ended words reader reader' out out' status = (AreOptions name words × ((serial : Bool) × serially name words serial × RanBy serial (options_of name words) reader reader' out out' status))
+      ⊎ ((reader' ≡ reader) × IsUnasked name words out out' status)

@@ -1,53 +1,43 @@
 //! The whole program, over any reader and writers.
-ghost use Rattle.std.specs.Prelude.{IfErr, OnOk};
-ghost use Rattle.clap.specs.Values.{kind_of};
-ghost use Rattle.xh_runner.specs.Runs.{Meant, Failed};
-ghost use Rattle.xheap.specs.Options.{texts_of};
+ghost use Rattle.std.specs.Prelude.{◌≡◌, IfErr, OnOk, codes};
+ghost use Rattle.xh_command_line.specs.Options.{texts_of};
 ghost use Rattle.xh_runner.specs.Reported.{Reported, Stopped};
+ghost use Rattle.xh_runner.specs.Runs.{Failed, Meant};
 ghost use Rattle.xheap.specs.Status.{Ended, RanBy};
-ghost use Rattle.xheap.specs.inner.Parts.{Explained};
 
-use crate::fault::{DONE, WORDS, out_of_memory, report};
-use crate::options::{Options, options_of};
-use clap::Error;
-use clap::error::ErrorKind;
 use std::alloc::Global;
 use std::io::{Read, Write};
 use std::sync::Wait;
 use std::thread::Threads;
+use xh_command_line::{DONE, Options, Program, read_options, report};
 use xh_core::Config;
 use xh_runner::{run_parallel, run_serial};
-use xh_script::{Fault, Watched, write_bytes};
+use xh_script::{Fault, Watched};
 
-/// Writes a text, as far as the writer takes it.
-fn print<W: Write>(out: &mut Watched<W>, text: &[u8]) {
-    if write_bytes(out, text).is_ok() {
-        let _ = out.flush();
-    }
-}
+/// The program's name.
+pub(crate) const NAME: &str = "xheap";
 
-/// Tells what is wrong with the command line, or prints the help or the version that it asks for.
-fn explained<W: Write, E: Write>(
-    alloc: Global,
-    error: &Error,
-    out: &mut Watched<W>,
-    err: &mut E,
-) -> u8
-    ensures { Explained (kind_of error.now) out.old out.new result }
+const ABOUT: &str = "Runs a script of processes that pass blocks of memory to each other.";
+
+const DETAIL: &str =
+    "Reads a script from standard input, does its commands on an exchange heap, and writes one reply \
+a command and then the ledger: what each arena holds, what each process owns, and what is in flight.";
+
+const SERIAL: &str = "Does the commands one by one in the order of the script, without threads";
+
+const CLOSING: &str =
+    "Example: printf 'process a\\na alloc x 40 0\\n' | xheap --serial --bytes 256\n\
+Status: 0 done, 1 a fault of the script, 2 a fault of the command line, 3 out of memory, 4 reading or writing failed.";
+
+fn program<'a>() -> Program<'a>
+    ensures { result.name.now ≡ codes "xheap" }
 {
-    if error.kind() == ErrorKind::OutOfMemory {
-        return out_of_memory(err);
-    }
-    if error.use_stderr() {
-        let _ = write!(err, "{error}");
-        return WORDS;
-    }
-    match format!(in alloc; "{error}") {
-        Ok(text) => {
-            print(out, text.as_bytes());
-            DONE
-        }
-        Err(_) => out_of_memory(err),
+    Program {
+        name: NAME,
+        about: ABOUT,
+        detail: DETAIL,
+        serial: SERIAL,
+        closing: CLOSING,
     }
 }
 
@@ -98,15 +88,12 @@ fn run<T: Threads + Wait + Sync, R: Read, W: Write, E: Write>(
     };
     match ended {
         Ok(()) => DONE,
-        Err(fault) => report(fault, err),
+        Err(fault) => report(NAME, fault, err),
     }
 }
 
 /// The program: its words (the first is its own name), its input and its outputs; the answer is its
-/// status. A fault of `err` is passed over, and so is one of `out` while help or the version is
-/// printed.
-///
-/// Of the limits only bytes that are no multiple of 16 are refused here: the command line keeps the others.
+/// status. A fault of `err` is passed over, and so is one of `out` while help or the version is printed.
 pub(crate) fn run_main<T: Threads + Wait + Sync, R: Read, W: Write, E: Write>(
     rt: &T,
     alloc: Global,
@@ -117,12 +104,8 @@ pub(crate) fn run_main<T: Threads + Wait + Sync, R: Read, W: Write, E: Write>(
 ) -> u8
     ensures { Ended R.remaining W.contents (texts_of words.now) reader.old reader.new out.old out.new result }
 {
-    match options_of(alloc, words) {
-        Err(error) => explained(alloc, &error, out, err),
-        Ok(options) if !options.config.is_in_limits() => {
-            let _ = err.write_all(b"xheap: --bytes must be a multiple of 16\n");
-            WORDS
-        }
+    match read_options(alloc, program(), words, out, err) {
         Ok(options) => run(rt, alloc, options, reader, out, err),
+        Err(status) => status,
     }
 }

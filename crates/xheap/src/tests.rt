@@ -1,6 +1,5 @@
 //! The program by its words: what it prints on both outputs, and its status.
-use crate::fault::unread_words;
-use crate::run::run_main;
+use crate::run::{NAME, run_main};
 use std::alloc::Global;
 use std::io;
 use std::io::{Read, Write};
@@ -8,6 +7,7 @@ use std::process::Abort;
 use std::sync::Wait;
 use std::test::Fail;
 use std::thread::Threads;
+use xh_command_line::unread_words;
 use xh_script::Watched;
 
 /// A reader that fails, and a writer that fails.
@@ -330,12 +330,12 @@ fn full_devices(rt: HostRuntime) -> Result<(), Fail> {
 fn words_that_cannot_be_read(rt: HostRuntime) -> Result<(), Fail> {
     let alloc = rt.alloc();
     let mut err = Vec::new(alloc);
-    let status = unread_words(io::ErrorKind::InvalidData, &mut err);
+    let status = unread_words(NAME, io::ErrorKind::InvalidData, &mut err);
     assert!(&rt; status == 2);
     let text = err.as_slice();
     assert!(&rt; text == b"xheap: a word of the command line is not UTF-8\n".as_slice());
     let mut err = Vec::new(alloc);
-    let status = unread_words(io::ErrorKind::OutOfMemory, &mut err);
+    let status = unread_words(NAME, io::ErrorKind::OutOfMemory, &mut err);
     assert!(&rt; status == 3);
     let text = err.as_slice();
     assert!(&rt; text == b"xheap: out of memory\n".as_slice());

@@ -1,6 +1,9 @@
 -- How a run of the program over a reader and a writer may end.
-use Rattle.std.specs.Prelude.{◌≡◌, ◌≢◌, ◌⊎◌, ℕ, List, Option, Ok, Err}
+use Rattle.std.specs.Prelude.{◌≡◌, ◌≢◌, ◌⊎◌, ℕ, List, Option, Ok, Err, codes}
 use Rattle.std.specs.Io.KnownBytes.{IsAtEnd}
+use Rattle.clap.specs.Words.{Text}
+use Rattle.xh_command_line.specs.Options.{AreOptions, IsUnasked, options_of}
+use Rattle.xh_command_line.specs.Status.{status_of}
 use Rattle.xh_model.specs.declared.config.Config.{Config}
 use Rattle.xh_model.specs.Config.{IsConfig}
 use Rattle.xh_picture.specs.Documents.{IsPicture}
@@ -10,6 +13,10 @@ use Rattle.xh_script.specs.declared.fault.Fault.TheVariants.{Script, Memory, Rea
 use Rattle.xh_script.specs.declared.watch.Watched.{Watched}
 use Rattle.xh_script.specs.Scripts.{Listing, script_of}
 use Rattle.xh_script.specs.Watching.{failures, inner_of, Writes, WritesFront}
+
+-- the program's name
+abbrev pub name : Text
+name = codes "xheap_picture"
 
 module _ {R W : Type 0} (remaining : R → Option (List ℕ)) (contents : W → Option (List ℕ)) where
   -- the text that was read to the end is a script; a picture was written, and nothing else
@@ -43,7 +50,12 @@ module _ {R W : Type 0} (remaining : R → Option (List ℕ)) (contents : W → 
   Undrawn config reader reader' writer writer' Write = CutOff reader reader' writer writer'
   Undrawn config reader reader' writer writer' Gate = ⊥
 
-  -- 0: a picture was written, or, with nothing read, help or the version. Another status: a fault, or nothing was read and nothing written
-  abbrev pub Ended : Watched R → Watched R → Watched W → Watched W → ℕ → Type 0
-  Ended reader reader' out out' status = ((status ≡ 0) × (Drawn reader reader' out out' ⊎ (reader' ≡ reader)))
-      ⊎ ((status ≢ 0) × (((config : Config) × (fault : Fault) × Undrawn config reader reader' out out' fault) ⊎ ((reader' ≡ reader) × (out' ≡ out))))
+  -- a script was drawn with these limits: 0 where its picture was written, else the status of the fault
+  abbrev pub DrewBy : Config → Watched R → Watched R → Watched W → Watched W → ℕ → Type 0
+  DrewBy config reader reader' out out' status = ((status ≡ 0) × Drawn reader reader' out out')
+      ⊎ ((fault : Fault) × (status ≡ status_of fault) × Undrawn config reader reader' out out' fault)
+
+  -- the words decide: with options a script is drawn with their limits; else nothing is read
+  abbrev pub Ended : List Text → Watched R → Watched R → Watched W → Watched W → ℕ → Type 0
+  Ended words reader reader' out out' status = (AreOptions name words × DrewBy (options_of name words) reader reader' out out' status)
+      ⊎ ((reader' ≡ reader) × IsUnasked name words out out' status)

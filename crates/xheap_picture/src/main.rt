@@ -2,16 +2,16 @@
 //! output.
 #![tactic(auto)]
 
-mod options;
 mod play;
 mod run;
 #[cfg(test)]
 mod tests;
 
-use crate::run::{WORDS, out_of_memory, run_main, told};
+use crate::run::{NAME, run_main};
 use std::env;
-use std::io::{BufWriter, ErrorKind};
+use std::io::BufWriter;
 use std::process::ExitCode;
+use xh_command_line::{out_of_memory, unread_words};
 use xh_script::Watched;
 
 fn main(rt: HostRuntime) -> ExitCode {
@@ -20,19 +20,13 @@ fn main(rt: HostRuntime) -> ExitCode {
     let mut err = rt.stderr();
     let arguments = match env::args(&rt) {
         Ok(arguments) => arguments,
-        Err(error) if error.kind() == ErrorKind::OutOfMemory => {
-            return ExitCode::from(out_of_memory(&mut err));
-        }
-        Err(_) => {
-            let text = "a word of the command line is not UTF-8";
-            return ExitCode::from(told(text, WORDS, &mut err));
-        }
+        Err(error) => return ExitCode::from(unread_words(NAME, error.kind(), &mut err)),
     };
     let Ok(words) = arguments.collect::<Vec<String>>(alloc) else {
-        return ExitCode::from(out_of_memory(&mut err));
+        return ExitCode::from(out_of_memory(NAME, &mut err));
     };
     let Ok(buffer) = BufWriter::new(alloc, rt.stdout()) else {
-        return ExitCode::from(out_of_memory(&mut err));
+        return ExitCode::from(out_of_memory(NAME, &mut err));
     };
     let mut out = Watched::new(buffer);
     ExitCode::from(run_main(alloc, &words, &mut input, &mut out, &mut err))

@@ -1,97 +1,45 @@
 //! The whole program, over any reader and writers.
-ghost use Rattle.std.specs.Prelude.{◌≡◌, ◌≢◌, ◌⊎◌};
+ghost use Rattle.std.specs.Prelude.{◌≡◌, codes};
+ghost use Rattle.xh_command_line.specs.Options.{texts_of};
 ghost use Rattle.xheap_picture.specs.Drawn.{Ended};
 
-use crate::options::limits_of;
 use crate::play::run_picture;
-use clap::Error;
-use clap::error::ErrorKind;
 use std::alloc::Global;
 use std::io::{Read, Write};
-use xh_script::{Fault, Watched, write_bytes};
+use xh_command_line::{DONE, Program, read_options, report};
+use xh_script::Watched;
 
-/// The status of a run to the end.
-const DONE: u8 = 0;
+/// The program's name.
+pub(crate) const NAME: &str = "xheap_picture";
 
-/// A fault of the script.
-const SCRIPT: u8 = 1;
+const ABOUT: &str =
+    "Draws what a script of processes that pass blocks of memory to each other does to the heap.";
 
-/// A fault of the command line.
-pub(crate) const WORDS: u8 = 2;
+const DETAIL: &str =
+    "Reads a script from standard input, does its commands one by one on an exchange heap, and writes \
+a picture (SVG): a row for each command with its reply, in it each arena as a strip of its bytes, holes white, each \
+block in the colour of its holder, and a circle on each endpoint.";
 
-/// Memory was refused.
-const MEMORY: u8 = 3;
+const SERIAL: &str = "Says nothing: the commands are always done one by one";
 
-/// Reading or writing failed.
-const STREAM: u8 = 4;
+const CLOSING: &str =
+    "Example: xheap_picture --serial --bytes 256 < examples/give_and_take.script > picture.svg\n\
+Status: 0 done, 1 a fault of the script, 2 a fault of the command line, 3 out of memory, 4 reading or writing failed.";
 
-/// A fault that no run of the program meets.
-const INTERNAL: u8 = 5;
-
-/// Reports with a line of text, and gives a status.
-pub(crate) fn told<E: Write>(text: &str, status: u8, err: &mut E) -> u8
-    ensures { result ≡ status }
+fn program<'a>() -> Program<'a>
+    ensures { result.name.now ≡ codes "xheap_picture" }
 {
-    let _ = writeln!(err, "xheap_picture: {text}");
-    status
-}
-
-/// Reports want of memory.
-pub(crate) fn out_of_memory<E: Write>(err: &mut E) -> u8
-    ensures { result ≡ MEMORY }
-{
-    told("out of memory", MEMORY, err)
-}
-
-/// Reports a fault. A fault of `err` itself is passed over.
-fn report<E: Write>(fault: Fault, err: &mut E) -> u8
-    ensures { result ≢ DONE }
-{
-    match fault {
-        Fault::Script { line, kind } => {
-            let name = kind.name();
-            let _ = writeln!(err, "xheap_picture: line {line}: {name}");
-            SCRIPT
-        }
-        Fault::Memory => out_of_memory(err),
-        Fault::Read => told("read failed", STREAM, err),
-        Fault::Write => told("write failed", STREAM, err),
-        Fault::Gate | Fault::BadConfig => told("internal fault", INTERNAL, err),
-    }
-}
-
-/// Tells what is wrong with the command line, or prints the help or the version that it asks for, as
-/// far as the writer takes it.
-fn explained<W: Write, E: Write>(
-    alloc: Global,
-    error: &Error,
-    out: &mut Watched<W>,
-    err: &mut E,
-) -> u8
-    ensures { (result ≡ DONE) ⊎ ((result ≢ DONE) × (out.new ≡ out.old)) }
-{
-    if error.kind() == ErrorKind::OutOfMemory {
-        return out_of_memory(err);
-    }
-    if error.use_stderr() {
-        let _ = write!(err, "{error}");
-        return WORDS;
-    }
-    match format!(in alloc; "{error}") {
-        Ok(text) => {
-            let _ = write_bytes(out, text.as_bytes());
-            let _ = out.flush();
-            DONE
-        }
-        Err(_) => out_of_memory(err),
+    Program {
+        name: NAME,
+        about: ABOUT,
+        detail: DETAIL,
+        serial: SERIAL,
+        closing: CLOSING,
     }
 }
 
 /// The program: its words (the first is its own name), its input and its outputs; the answer is its
-/// status. A fault of `err` is passed over, and so is one of `out` while help or the version is
-/// printed.
-///
-/// Of the limits only bytes that are no multiple of 16 are refused here: the command line keeps the others.
+/// status. A fault of `err` is passed over, and so is one of `out` while help or the version is printed.
 pub(crate) fn run_main<R: Read, W: Write, E: Write>(
     alloc: Global,
     words: &[String],
@@ -99,16 +47,14 @@ pub(crate) fn run_main<R: Read, W: Write, E: Write>(
     out: &mut Watched<W>,
     err: &mut E,
 ) -> u8
-    ensures { Ended R.remaining W.contents reader.old reader.new out.old out.new result }
+    ensures { Ended R.remaining W.contents (texts_of words.now) reader.old reader.new out.old out.new result }
 {
-    match limits_of(alloc, words) {
-        Err(error) => explained(alloc, &error, out, err),
-        Ok(config) if !config.is_in_limits() => {
-            told("--bytes must be a multiple of 16", WORDS, err)
-        }
-        Ok(config) => match run_picture(alloc, config, reader, out) {
-            Ok(()) => DONE,
-            Err(fault) => report(fault, err),
-        },
+    let options = match read_options(alloc, program(), words, out, err) {
+        Ok(options) => options,
+        Err(status) => return status,
+    };
+    match run_picture(alloc, options.config, reader, out) {
+        Ok(()) => DONE,
+        Err(fault) => report(NAME, fault, err),
     }
 }

@@ -9,9 +9,11 @@ use Rattle.clap.specs.declared.builder.action.ArgAction.TheVariants.{Set, SetTru
 use Rattle.clap.specs.declared.builder.value_parser.ValueParser.TheVariants.{Unsigned}
 use Rattle.clap.specs.declared.error.kind.ErrorKind.{ErrorKind}
 use Rattle.clap.specs.declared.error.kind.ErrorKind.TheVariants.{DisplayHelp, DisplayVersion}
+use Rattle.xh_command_line.specs.declared.options.Options.{Options}
 use Rattle.xh_model.specs.Config.{IsConfig}
 use Rattle.xh_model.specs.declared.config.Config.{Config}
 use Rattle.xh_model.specs.declared.limits.TheConstants.{UNIT, MAX_ARENAS, MAX_BYTES, MAX_RECORDS, MAX_DEPTH, MAX_WEAR}
+use Rattle.xh_script.specs.declared.watch.Watched.{Watched}
 
 -- the texts of words
 abbrev pub texts_of : {Z : Type 0} → List (String Z) → List Text
@@ -47,9 +49,9 @@ depth = valued (codes "depth") 1 MAX_DEPTH (codes "4")
 abbrev pub wear : Rule
 wear = valued (codes "wear") 0 MAX_WEAR (codes "9223372036854775807")
 
--- the command line of `xheap`
-unfoldable pub command_line : App
-command_line = on_top (λ s. record s { has_version = true; rules = serial ∷ arenas ∷ bytes ∷ records ∷ depth ∷ wear ∷ [] }) (new_app (codes "xheap"))
+-- the command line of a program of this name
+unfoldable pub command_line : Text → App
+command_line name = on_top (λ s. record s { has_version = true; rules = serial ∷ arenas ∷ bytes ∷ records ∷ depth ∷ wear ∷ [] }) (new_app name)
 
 -- ---- what words give
 
@@ -75,8 +77,8 @@ config_in rows = record {
 }
 
 -- the limits that the words give, of which the first is the program's own name
-abbrev pub options_of : List Text → Config
-options_of words = config_in (matches_of command_line words)
+abbrev pub options_of : Text → List Text → Config
+options_of name words = config_in (matches_of (command_line name) words)
 
 -- `--serial` is among what was found exactly where the flag is up
 abbrev pub Serially : List Row → Bool → Type 0
@@ -84,28 +86,38 @@ Serially rows flag = (one_of (codes "serial") rows ≡ Some (codes "true") → f
     × (one_of (codes "serial") rows ≡ Some (codes "false") → flag ≡ false)
     × (one_of (codes "serial") rows ≡ None → flag ≡ false)
 
-abbrev pub serially : List Text → Bool → Type 0
-serially words = Serially (matches_of command_line words)
+abbrev pub serially : Text → List Text → Bool → Type 0
+serially name words = Serially (matches_of (command_line name) words)
 
 -- ---- which words say what
 
 -- the command line takes the words
-abbrev pub AreTaken : List Text → Type 0
-AreTaken words = fault_of command_line words ≡ []
+abbrev pub AreTaken : Text → List Text → Type 0
+AreTaken name words = fault_of (command_line name) words ≡ []
 
 -- a kind of answer of the command line that is neither help nor the version
 abbrev pub IsMistake : ErrorKind → Type 0
 IsMistake kind = (kind ≢ DisplayHelp) × (kind ≢ DisplayVersion)
 
 -- the words ask for a run, with limits that a machine can be made with: so no run ends with BadConfig
-abbrev pub AreOptions : List Text → Type 0
-AreOptions words = AreTaken words × IsConfig (options_of words)
+abbrev pub AreOptions : Text → List Text → Type 0
+AreOptions name words = AreTaken name words × IsConfig (options_of name words)
 
 -- the words ask for help or for the version
-abbrev pub AreQuestion : List Text → Type 0
-AreQuestion words = (kind : ErrorKind) × IsAmong kind (fault_of command_line words) × ¬ IsMistake kind
+abbrev pub AreQuestion : Text → List Text → Type 0
+AreQuestion name words = (kind : ErrorKind) × IsAmong kind (fault_of (command_line name) words) × ¬ IsMistake kind
 
 -- the command line finds a mistake in the words, or no machine can be made with their limits
-abbrev pub AreWrong : List Text → Type 0
-AreWrong words = ((kind : ErrorKind) × IsAmong kind (fault_of command_line words) × IsMistake kind)
-    ⊎ (AreTaken words × ¬ IsConfig (options_of words))
+abbrev pub AreWrong : Text → List Text → Type 0
+AreWrong name words = ((kind : ErrorKind) × IsAmong kind (fault_of (command_line name) words) × IsMistake kind)
+    ⊎ (AreTaken name words × ¬ IsConfig (options_of name words))
+
+-- the words ask for a run, with these options
+abbrev pub Asks : Text → List Text → Options → Type 0
+Asks name words options = AreOptions name words × (options.config ≡ options_of name words) × serially name words options.serial
+
+-- the words ask for no run: help or the version was printed, with status 0; or they are wrong, or memory was refused, and nothing was printed
+abbrev pub IsUnasked : {W : Type 0} → Text → List Text → Watched W → Watched W → ℕ → Type 0
+IsUnasked name words out out' status = ((status ≡ 0) × AreQuestion name words)
+    ⊎ (((status ≡ 2) × AreWrong name words × (out' ≡ out))
+    ⊎ ((status ≡ 3) × (out' ≡ out)))

@@ -11,16 +11,16 @@ use Rattle.clap.specs.declared.parser.matches.Found.{Found}
 use Rattle.clap.proofs.WalkLemmas.{one_text-rows}
 use Rattle.clap.specs.Faults.{is_simple_and_free}
 use Rattle.clap.proofs.OnLiterals.{clap_on_literals}
-use Rattle.xheap.specs.Options.{command_line, is_number, number_in}
+use Rattle.xh_command_line.specs.Options.{command_line, is_number, number_in}
 
 -- clap's clauses tell everything of this command line
-pub is_told : is_simple command_line ≡ true
+pub is_told : (name : Text) → is_simple (command_line name) ≡ true
 unfolding clap_on_literals command_line
-is_told = refl
+is_told name = refl
 
-pub is_told_freely : is_simple_and_free command_line ≡ true
+pub is_told_freely : (name : Text) → is_simple_and_free (command_line name) ≡ true
 unfolding clap_on_literals command_line
-is_told_freely = refl
+is_told_freely name = refl
 
 -- what a parse gives of a command line, told of one that is the same
 pub rows_told : (a b : App) (words : List Text) (m : ArgMatches) → a ≡ b → is_simple b ≡ true → HasMatchesOf a words m → rows_of (found_of m) ≡ matches_of b words

@@ -5,7 +5,7 @@ use Rattle.clap.specs.declared.builder.arg.Arg.{Arg}
 use Rattle.clap.specs.declared.error.kind.ErrorKind.{ErrorKind}
 use Rattle.clap.specs.declared.error.kind.ErrorKind.TheVariants.{OutOfMemory}
 use Rattle.xh_script.specs.declared.watch.Watched.{Watched}
-use Rattle.xheap.specs.Options.{IsMistake}
+use Rattle.xh_command_line.specs.Options.{IsMistake}
 
 -- an argument of the command line follows a rule
 abbrev pub HasRule : Rule → Arg → Type 0

@@ -1,8 +1,8 @@
 use Rattle.std.proofs.Common.{refl, codes}
 use Rattle.std.specs.Str.Parse.{ExplainsUnsignedError}
 use Rattle.clap.specs.Words.{found_of}
-use Rattle.xheap.proofs.Words.{getter_read}
-use Rattle.xheap.proofs.options.limits.Goals as goal
+use Rattle.xh_command_line.proofs.Words.{getter_read}
+use Rattle.xh_command_line.proofs.options.limits.Goals as goal
 
 pub returns : goal.returns
 returns c =

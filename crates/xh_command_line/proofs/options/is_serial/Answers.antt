@@ -1,7 +1,7 @@
 use Rattle.std.proofs.Common.{codes, ◌∙◌}
 use Rattle.clap.specs.Words.{found_of}
 use Rattle.clap.proofs.WalkLemmas.{one_text-rows}
-use Rattle.xheap.proofs.options.is_serial.Goals as goal
+use Rattle.xh_command_line.proofs.options.is_serial.Goals as goal
 
 pub returns : goal.returns
 returns c =

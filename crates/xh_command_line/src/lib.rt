@@ -1,0 +1,10 @@
+//! The command line of the programs: the options that their words name, and the statuses that they end with.
+#![tactic(auto)]
+
+mod options;
+mod status;
+
+pub use options::{Options, Program, read_options};
+pub use status::{
+    DONE, INTERNAL, MEMORY, SCRIPT, STREAM, WORDS, out_of_memory, report, unread_words,
+};

@@ -1,0 +1,230 @@
+//! The options, and what words say of them.
+ghost use Rattle.std.specs.Prelude.{◌≡◌, IfErr, IfOk};
+ghost use Rattle.clap.specs.Words.{FailsBy, app_of, fault_of, found_of, kind_of, matches_of, rows_of};
+ghost use Rattle.xh_command_line.specs.Options as spec;
+ghost use Rattle.xh_command_line.specs.Options.{Asks, IsUnasked, Serially, command_line, config_in, options_of, serially, texts_of, valued};
+ghost use Rattle.xh_command_line.specs.inner.Parts.{Explained, HasRule};
+
+use crate::status::{DONE, WORDS, out_of_memory, told};
+use clap::builder::ValueParser;
+use clap::error::ErrorKind;
+use clap::{Arg, ArgAction, ArgMatches, Command, Error};
+use std::alloc::{AllocError, Global};
+use std::io::Write;
+use xh_core::Config;
+use xh_model::limits::{MAX_ARENAS, MAX_BYTES, MAX_DEPTH, MAX_RECORDS, MAX_WEAR, UNIT};
+use xh_script::{Watched, write_bytes};
+
+const VERSION: &str = "1.0";
+
+/// A program: its name, and what its help says of it, in a line and at length, of `--serial`, and at the end.
+#[derive(Clone, Copy)]
+pub struct Program<'a> {
+    pub name: &'a str,
+    pub about: &'a str,
+    pub detail: &'a str,
+    pub serial: &'a str,
+    pub closing: &'a str,
+}
+
+/// An option with a number from the least to the most, and the text of its default.
+fn option<'a>(
+    alloc: Global,
+    name: &'a str,
+    unit: &'a str,
+    least: u64,
+    most: u64,
+    default: &'a str,
+) -> Arg<'a>
+    ensures { HasRule (valued name.entry.now least most default.entry.now) result }
+{
+    Arg::new(alloc, name)
+        .long(name)
+        .value_name(unit)
+        .action(ArgAction::Set)
+        .value_parser(ValueParser::unsigned(least, most))
+        .default_value(default)
+}
+
+fn serial<'a>(alloc: Global, help: &'a str) -> Arg<'a>
+    ensures { HasRule spec.serial result }
+{
+    Arg::new(alloc, "serial")
+        .long("serial")
+        .action(ArgAction::SetTrue)
+        .help(help)
+}
+
+fn arenas<'a>(alloc: Global) -> Arg<'a>
+    ensures { HasRule spec.arenas result }
+{
+    option(alloc, "arenas", "COUNT", 1, u64::from(MAX_ARENAS), "1").help("Number of arenas, 1 to 8")
+}
+
+fn bytes<'a>(alloc: Global) -> Arg<'a>
+    ensures { HasRule spec.bytes result }
+{
+    option(
+        alloc,
+        "bytes",
+        "BYTES",
+        u64::from(UNIT),
+        u64::from(MAX_BYTES),
+        "65536",
+    )
+    .help("Size of each arena in bytes, a multiple of 16 from 16 to 1048576")
+}
+
+fn records<'a>(alloc: Global) -> Arg<'a>
+    ensures { HasRule spec.records result }
+{
+    option(alloc, "records", "COUNT", 1, u64::from(MAX_RECORDS), "256").help(
+        "Most blocks that an arena holds at once, 1 to 256",
+    )
+}
+
+fn depth<'a>(alloc: Global) -> Arg<'a>
+    ensures { HasRule spec.depth result }
+{
+    option(alloc, "depth", "COUNT", 1, u64::from(MAX_DEPTH), "4").help(
+        "Most messages that wait in one direction of a channel, 1 to 16",
+    )
+}
+
+fn wear<'a>(alloc: Global) -> Arg<'a>
+    ensures { HasRule spec.wear result }
+{
+    option(alloc, "wear", "BYTES", 0, MAX_WEAR, "9223372036854775807").help(
+        "Most bytes that an arena ever hands out, 0 to 9223372036854775807",
+    )
+}
+
+/// The command line of a program.
+fn command<'a>(alloc: Global, program: Program<'a>) -> Result<Command<'a>, AllocError>
+    ensures { IfOk result (λ command. app_of command ≡ command_line program.entry.name.now) }
+{
+    Command::new(alloc, program.name)
+        .version(VERSION)
+        .about(program.about)
+        .long_about(program.detail)
+        .after_help(program.closing)
+        .arg(serial(alloc, program.serial))?
+        .arg(arenas(alloc))?
+        .arg(bytes(alloc))?
+        .arg(records(alloc))?
+        .arg(depth(alloc))?
+        .arg(wear(alloc))
+}
+
+/// What the words say. An error is clap's text, or want of memory.
+fn matched<'a>(
+    alloc: Global,
+    program: Program<'a>,
+    words: &'a [String],
+) -> Result<ArgMatches<'a>, Error>
+    ensures rows { IfOk result (λ matches. rows_of (found_of matches) ≡ matches_of (command_line program.entry.name.now) (texts_of words.entry.now)) }
+    ensures fault { FailsBy (fault_of (command_line program.entry.name.now) (texts_of words.entry.now)) result }
+{
+    command(alloc, program)?.try_get_matches_from(words)
+}
+
+/// The limits among what was found. `--serial` says nothing of them.
+fn limits(matches: &ArgMatches) -> Config
+    ensures { result ≡ config_in (rows_of (found_of matches.now)) }
+{
+    Config {
+        arenas: matches.get_one("arenas").unwrap_or(0),
+        bytes: matches.get_one("bytes").unwrap_or(0),
+        records: matches.get_one("records").unwrap_or(0),
+        depth: matches.get_one("depth").unwrap_or(0),
+        wear: matches.get_one("wear").unwrap_or(0),
+    }
+}
+
+/// What the words ask for: the limits, and whether the commands are to be done one by one.
+#[derive(Drop)]
+pub struct Options {
+    pub config: Config,
+    pub serial: bool,
+}
+
+/// Whether `--serial` was found.
+fn is_serial(matches: &ArgMatches) -> bool
+    ensures { Serially (rows_of (found_of matches.now)) result }
+{
+    matches.get_flag("serial")
+}
+
+/// What the words ask for. An error is clap's text, or want of memory.
+fn options_of<'a>(
+    alloc: Global,
+    program: Program<'a>,
+    words: &'a [String],
+) -> Result<Options, Error>
+    ensures config { IfOk result (λ options. options.config ≡ options_of program.entry.name.now (texts_of words.entry.now)) }
+    ensures serial { IfOk result (λ options. serially program.entry.name.now (texts_of words.entry.now) options.serial) }
+    ensures fault { FailsBy (fault_of (command_line program.entry.name.now) (texts_of words.entry.now)) result }
+{
+    let matches = matched(alloc, program, words)?;
+    Ok(Options {
+        config: limits(&matches),
+        serial: is_serial(&matches),
+    })
+}
+
+/// Writes a text, as far as the writer takes it.
+fn print<W: Write>(out: &mut Watched<W>, text: &[u8]) {
+    if write_bytes(out, text).is_ok() {
+        let _ = out.flush();
+    }
+}
+
+/// Tells what is wrong with the words, or prints the help or the version that they ask for.
+fn explain<W: Write, E: Write>(
+    alloc: Global,
+    program: Program<'_>,
+    error: &Error,
+    out: &mut Watched<W>,
+    err: &mut E,
+) -> u8
+    ensures { Explained (kind_of error.now) out.old out.new result }
+{
+    if error.kind() == ErrorKind::OutOfMemory {
+        return out_of_memory(program.name, err);
+    }
+    if error.use_stderr() {
+        let _ = write!(err, "{error}");
+        return WORDS;
+    }
+    match format!(in alloc; "{error}") {
+        Ok(text) => {
+            print(out, text.as_bytes());
+            DONE
+        }
+        Err(_) => out_of_memory(program.name, err),
+    }
+}
+
+/// What the words ask for; the first word is the program's own name. Where they ask for no run, `out` or
+/// `err` is told what there is to say, and the error is the program's status. A fault of `err` is passed
+/// over, and so is one of `out` while help or the version is printed.
+///
+/// Of the limits only bytes that are no multiple of 16 are refused here: the command line keeps the others.
+pub fn read_options<W: Write, E: Write>(
+    alloc: Global,
+    program: Program<'_>,
+    words: &[String],
+    out: &mut Watched<W>,
+    err: &mut E,
+) -> Result<Options, u8>
+    ensures asked { IfOk result (λ options. Asks program.entry.name.now (texts_of words.now) options × (out.new ≡ out.old)) }
+    ensures unasked { IfErr result (λ status. IsUnasked program.entry.name.now (texts_of words.now) out.old out.new status) }
+{
+    match options_of(alloc, program, words) {
+        Err(error) => Err(explain(alloc, program, &error, out, err)),
+        Ok(options) if !options.config.is_in_limits() => {
+            Err(told(program.name, "--bytes must be a multiple of 16", WORDS, err))
+        }
+        Ok(options) => Ok(options),
+    }
+}
