@@ -16,7 +16,7 @@ use xh_core::Contract;
 use xh_model::limits::MAX_BLOCKS;
 
 /// How often a waiter looks at the turn before it sleeps.
-const LOOKS: u8 = 100;
+const LOOKS: u16 = 400;
 
 /// A channel's own lock, and what its waiters sleep on.
 #[derive(Drop)]
