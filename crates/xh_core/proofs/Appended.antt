@@ -8,7 +8,8 @@ use Rattle.xh_core.specs.declared.place.Place.{Place}
 use Rattle.xh_core.specs.declared.status.Status.{Status}
 use Rattle.xh_core.specs.Machine.{Machine, no_place, is_vacant, is_ended, times, IsWhole}
 use Rattle.xh_core.specs.Refusing.{IsRunning}
-use Rattle.xh_core.proofs.Machines.{runs_busy, place_in, list_in, place_here, place_else, list_here, list_else, current_generation}
+use Rattle.xh_core.specs.inner.Placing.{place_in}
+use Rattle.xh_core.proofs.Machines.{runs_busy, list_in, place_here, place_else, list_here, list_else, current_generation}
 use Rattle.xh_core.proofs.Claiming.{one_time}
 
 -- what always holds of the places

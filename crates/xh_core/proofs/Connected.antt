@@ -15,7 +15,8 @@ use Rattle.xh_core.specs.Machine.{Machine, line, no_line, blocks, buffer, carrie
 use Rattle.xh_core.specs.Refusing.{IsRunning}
 use Rattle.xh_core.specs.ChannelCommands.{new_line, opened, wired}
 use Rattle.xh_core.specs.inner.Pairing.{IsSound, moved}
-use Rattle.xh_core.proofs.Machines.{place_in, list_in, same_machine}
+use Rattle.xh_core.specs.inner.Placing.{place_in}
+use Rattle.xh_core.proofs.Machines.{list_in, same_machine}
 use Rattle.xh_core.proofs.Claiming.{no_bytes}
 use Rattle.xh_core.proofs.Room.{room}
 use Rattle.xh_core.proofs.Appended.{ArePlaces, IsBusy, whole_places, running_place, appended, own_list}

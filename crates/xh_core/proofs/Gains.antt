@@ -11,6 +11,7 @@ use Rattle.xh_model.specs.Store.{Store, owner, len, holds, same_holder, is_held_
 use Rattle.xh_core.specs.declared.place.Place.{Place}
 use Rattle.xh_core.specs.Machine.{Machine, place, is_current, is_vacant, is_ended, blocks, buffer, with_list, end_of, listed, on_way, way_in, times, no_line, AreWired, IsEnd, IsWhole}
 use Rattle.xh_core.specs.inner.Gaining.{Gained}
+use Rattle.xh_core.specs.inner.Placing.{place_in}
 use Rattle.xh_core.specs.Refusing.{IsRunning}
 use Rattle.xh_model.specs.declared.event.Event.TheVariants.{Claim, Carve, Cut, GiveBack, Vacate}
 use Rattle.std.specs.List.{position_or_len, remove}
@@ -21,7 +22,7 @@ use Rattle.xh_core.proofs.Kept.{whole_one}
 use Rattle.xh_core.proofs.Fresh.{long_replicate}
 use Rattle.xh_core.proofs.Stores.{times-cons, is_there}
 use Rattle.xh_core.proofs.Room.{few, few_records, held_there}
-use Rattle.xh_core.proofs.Machines.{runs_busy, same_machine, current_blocks, place_in, list_in, list_here, list_else, current_generation, place_there, IsPlace, generations_set, idle_set, busy_place}
+use Rattle.xh_core.proofs.Machines.{runs_busy, same_machine, current_blocks, list_in, list_here, list_else, current_generation, place_there, IsPlace, generations_set, idle_set, busy_place}
 
 cases_holder : (a b : Holder) → (a ≡ b) ⊎ (a ≢ b)
 cases_holder (Process p) (Process q) = elim (cases_eq p q) [ inl e ↦ inl (ap (λ (x : ℕ). Process x) e) | inr n ↦ inr (λ e. n cc) ]

@@ -1,8 +1,8 @@
 -- A give leaves a whole machine.
 use Rattle.std.proofs.Common.{◌≡◌, ◌≢◌, ℕ, ◌+◌, ◌*◌, ◌/◌, ◌%◌, ◌<◌, ◌≤◌, List, [], ◌∷◌, ◌++◌, length}
 use Rattle.std.proofs.Common.{Bool, true, false, cond, refl, sym, ap, ◌∙◌, subst, arith, inl, inr, get_or-set_same, get_or-set_other, append-nil}
-use Rattle.std.specs.Prelude.{Option, Some, None, is_none, ◌==◌, ◌&&◌, ◌||◌, not, nat_lt, unwrap_or, slice_set, slice_index_or}
-use Rattle.std.specs.List.{filter, list_all, list_any}
+use Rattle.std.specs.Prelude.{Option, Some, None, is_none, ◌==◌, ◌&&◌, ◌||◌, nat_lt, unwrap_or, slice_set, slice_index_or}
+use Rattle.std.specs.List.{list_all, list_any}
 use Rattle.std.proofs.lemmas.Bool.{cases_eq, cases_Bool, false≢true, eq-eqb, ne_eqb, lt-ltb, ltb-true, ltb-false}
 use Rattle.std.proofs.lemmas.List.{length-set}
 use Rattle.std.proofs.lemmas.List.Concat.{flat_map-append}
@@ -12,7 +12,7 @@ use Rattle.xh_model.specs.declared.event.Event.TheVariants.{Pass}
 use Rattle.xh_core.specs.declared.message.Message.{Message}
 use Rattle.xh_core.specs.declared.place.Place.{Place}
 use Rattle.xh_core.specs.declared.line.Line.{Line}
-use Rattle.xh_model.specs.Store.{Store, owner, len, holds, is_held_by, after, change}
+use Rattle.xh_model.specs.Store.{Store, owner, len, holds, after, change}
 use Rattle.xh_model.specs.declared.row.Row.{Row}
 use Rattle.xh_model.specs.Rows.{allowed, IsValid, InStep}
 use Rattle.xh_model.proofs.InStep.{put_step}
@@ -24,7 +24,6 @@ use Rattle.xh_core.proofs.Stores.{count_append, done, all_owners, is_there, at_s
 use Rattle.xh_core.proofs.Machines.{runs_busy, place_there, list_here, list_else, current_generation, busy_place, generations_set, idle_set, way_here, way_else, peer_ne, peer_half, peer_below}
 use Rattle.xh_core.proofs.Wired.{state_in, IsPair, same_lines, wired_pair, half_apart}
 use Rattle.xh_core.proofs.Moved.{Moved, moved_whole}
-use Rattle.xh_core.proofs.Swept.{some_times}
 
 pub any_times : (q : ℕ) (bs : List ℕ) → list_any (λ b. b == q) bs ≡ nat_lt 0 (times q bs)
 any_times q [] = refl
@@ -78,15 +77,6 @@ distinct_pass test (b ∷ bs) a t q =
           let more = distinct_pass test bs parts.1 apart.1 q in
           let same : times q (b ∷ bs) ≡ times q bs = k ∙ rw (ne_eqb b q n) (omega arith) in omega (arith, more, same))
     ]
-
--- two tests that agree on what a list holds keep the same of it
-same_kept : (f g : ℕ → Bool) (rs : List ℕ) → ((r : ℕ) → 0 < times r rs → f r ≡ g r) → filter f rs ≡ filter g rs
-same_kept f g [] h = refl
-same_kept f g (r ∷ rs) h =
-    let one : times r (r ∷ rs) ≡ 1 + times r rs = times-cons r r rs ∙ rw (eq-eqb r r refl) refl in
-    let here : f r ≡ g r = h r (omega (arith, one)) in
-    let rest : filter f rs ≡ filter g rs = same_kept f g rs (λ q l. h q (let t = times-cons q r rs in omega (arith, t, l))) in
-    λ i. cond (here i) (r ∷ rest i) (rest i)
 
 -- p passed these to d
 pub record Passed (d : ℕ) (rs : List ℕ) (s t : Store) : Type 0 where
@@ -198,19 +188,6 @@ module _ (m : Machine) (p e tag : ℕ) (bs : List ℕ) (w : IsWhole m) (g : MayG
 
   passed : Passed d bs m.store (pass_all p d bs m.store)
   passed = passed_all p d bs m.store range held (w.full (Process p))
-
-  -- of its list the process still holds what it did not give
-  still : (r : ℕ) → holds m.store (Process p) r ≡ true → holds (pass_all p d bs m.store) (Process p) r ≡ not (list_any (λ b. b == r) bs)
-  still r h = rw (any_times r bs) (elim (cases_Bool (nat_lt 0 (times r bs))) [
-    | inl y ↦ (let o : owner (pass_all p d bs m.store) r ≡ Some (Direction d) = passed.owners r ∙ rw y refl in
-        rw y (ap (λ (k : Option Holder). is_held_by k (Process p)) o))
-    | inr f ↦ (let o : owner (pass_all p d bs m.store) r ≡ owner m.store r = passed.owners r ∙ rw f refl in
-        rw f (ap (λ (k : Option Holder). is_held_by k (Process p)) o ∙ h))
-  ])
-
-  pub kept : filter (λ r. holds (pass_all p d bs m.store) (Process p) r) (blocks m p) ≡ without bs (blocks m p)
-  kept = same_kept (λ r. holds (pass_all p d bs m.store) (Process p) r) (λ r. not (list_any (λ b. b == r) bs)) (blocks m p)
-      (λ r l. still r (some_times _ _ (w.once (Process p) r) l))
 
   left : (q : ℕ) → times q (without bs (blocks m p)) + times q bs ≡ times q (blocks m p)
   left q =

@@ -2,13 +2,14 @@
 use Rattle.std.proofs.Common.{◌≡◌, ◌≢◌, ℕ, ◌*◌, ◌/◌, ◌%◌, ◌<◌, ◌≤◌, List, [], length, true, false, cond, refl, sym, ap, ◌∙◌, arith, inl, inr, get_or-set_same, get_or-set_other}
 use Rattle.std.specs.Prelude.{◌==◌, ◌||◌, slice_set, slice_index_or}
 use Rattle.std.proofs.lemmas.Bool.{cases_eq, cases_Bool, false≢true, eq-eqb, ne_eqb, eqb-true}
-use Rattle.std.proofs.lemmas.List.{get_or_default}
+use Rattle.std.proofs.lemmas.List.{get_or_default, set-set}
 use Rattle.xh_core.specs.declared.place.Place.{Place}
 use Rattle.xh_core.specs.declared.line.Line.{Line}
 use Rattle.xh_core.specs.declared.status.Status.{Status}
 use Rattle.xh_core.specs.declared.status.Status.TheVariants.{Vacant, Running, Ending, Ended}
 use Rattle.xh_core.specs.Machine.{Machine, place, is_current, blocks, no_place, no_line, is_vacant, is_running, is_ended, peer, carried, IsWhole}
 use Rattle.xh_core.specs.Refusing.{IsRunning}
+use Rattle.xh_core.specs.inner.Placing.{place_in, blocks_in, relisted}
 
 -- machines with the same parts are one
 pub same_machine : (a b : Machine) → a.store ≡ b.store → a.ends ≡ b.ends → a.buffers ≡ b.buffers → a.places ≡ b.places → a.lines ≡ b.lines → a.contracts ≡ b.contracts → a.opened ≡ b.opened →
@@ -21,10 +22,7 @@ read_at xs i k x d l e h = h ∙ (ap (λ j. slice_index_or xs j x) e ∙ get_or_
 
 -- ---- places
 
--- the place of a process, and its list, among places
-abbrev pub place_in : List Place → ℕ → Place
-place_in ps p = slice_index_or ps (p % 32) no_place
-
+-- the list of a process among places
 abbrev pub list_in : List Place → ℕ → List ℕ
 list_in ps p = cond ((place_in ps p).generation == (p / 32)) (place_in ps p).blocks.items []
 
@@ -33,6 +31,15 @@ place_here ps p x l = get_or-set_same ps (p % 32) x no_place l
 
 pub place_else : (ps : List Place) (p k : ℕ) (x : Place) → k % 32 ≢ p % 32 → place_in (slice_set ps (p % 32) x) k ≡ place_in ps k
 place_else ps p k x n = get_or-set_other ps (p % 32) (k % 32) x no_place n
+
+-- a list that is changed again
+pub relisted_list : (ps : List Place) (p : ℕ) (rs : List ℕ) → p % 32 < length ps → blocks_in (relisted p rs ps) p ≡ rs
+relisted_list ps p rs l = ap (λ (x : Place). x.blocks.items) (place_here ps p (record (place_in ps p) { blocks = record { items = rs } }) l)
+
+pub relisted_again : (ps : List Place) (p : ℕ) (rs ss : List ℕ) → p % 32 < length ps → relisted p ss (relisted p rs ps) ≡ relisted p ss ps
+relisted_again ps p rs ss l =
+    ap (λ (x : Place). slice_set (relisted p rs ps) (p % 32) (record x { blocks = record { items = ss } })) (place_here ps p (record (place_in ps p) { blocks = record { items = rs } }) l)
+    ∙ set-set ps (p % 32) (record (place_in ps p) { blocks = record { items = rs } }) (record (place_in ps p) { blocks = record { items = ss } })
 
 -- the list of the latest process of a place
 list_at : (ps : List Place) (p : ℕ) (x : Place) → place_in ps p ≡ x → (x.generation == (p / 32)) ≡ true → list_in ps p ≡ x.blocks.items
@@ -74,10 +81,6 @@ current_blocks m p h = rw h refl
 
 pub place_there : (m : Machine) (p : ℕ) → IsWhole m → p % 32 < length m.places
 place_there m p w = let e = w.places in omega (arith, e)
-
--- the place of a process, as it is read
-pub place_read : (m : Machine) (p i : ℕ) (x : Place) → IsWhole m → i ≡ p % 32 → x ≡ slice_index_or m.places i x → x ≡ place m p
-place_read m p i x w e h = read_at m.places i (p % 32) x no_place (place_there m p w) e h
 
 pub current_range : (m : Machine) (p : ℕ) → IsWhole m → is_current m p ≡ true → p < 4096
 current_range m p w h = let e : (place m p).generation ≡ p / 32 = current_generation m p h in let g : (place m p).generation ≤ 127 = w.generations p in omega (arith, e, g)

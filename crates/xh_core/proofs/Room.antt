@@ -8,11 +8,9 @@ use Rattle.std.proofs.lemmas.List.Sums.{sum_by-append, sum_by-le}
 use Rattle.std.proofs.lemmas.List.FromFn.{length-range_with_len}
 use Rattle.xh_model.specs.declared.event.Holder.{Holder}
 use Rattle.xh_model.specs.declared.event.Holder.TheVariants.{Process, Direction}
-use Rattle.xh_model.specs.Store.{Store, owner, holds, is_held_by, after}
-use Rattle.xh_model.specs.declared.event.Event.TheVariants.{Accept}
+use Rattle.xh_model.specs.Store.{owner, holds, is_held_by}
 use Rattle.xh_core.specs.declared.message.Message.{Message}
 use Rattle.xh_core.specs.Machine.{Machine, carried, times, blocks, way_in, on_way, listed, IsWhole}
-use Rattle.xh_core.specs.Sweeping.{accept_all}
 use Rattle.xh_core.proofs.Stores.{times-cons, is_there}
 use Rattle.xh_model.proofs.Totals.{sum_zero, sum_add, sum_same}
 use Rattle.xh_core.proofs.Ranges.{picked}
@@ -64,11 +62,7 @@ room m p (Some d) w =
     (λ q l. let e = both q in elim (cases_lt 0 (times q (blocks m p))) [ inl y ↦ held_there m (Process p) q w y | inr n ↦ held_there m (Direction d) q w (omega arith) ]) in
     let e = length-append (blocks m p) (on_way m d) in omega arith
 
--- ---- what is left to accept
+-- ---- what messages carry
 
 pub carried_more : (ms : List Message) (i : ℕ) (m : Message) → i < length ms → m ≡ slice_index_or ms i m → carried (drop i ms) ≡ m.blocks.items ++ carried (drop (i + 1) ms)
 carried_more ms i m l e = let next : i + 1 ≡ suc i = omega arith in ap carried (drop-cons ms i m l) ∙ rw (sym e, next) refl
-
-pub accept_append : (p d : ℕ) (xs ys : List ℕ) (s : Store) → accept_all p d (xs ++ ys) s ≡ accept_all p d ys (accept_all p d xs s)
-accept_append p d [] ys s = refl
-accept_append p d (x ∷ xs) ys s = accept_append p d xs ys (after (Accept p x d) s)

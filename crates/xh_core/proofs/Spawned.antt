@@ -1,17 +1,19 @@
 -- A process starts at a place that is free for it.
 use Rattle.std.proofs.Common.{◌≡◌, ℕ, ◌+◌, ◌/◌, ◌%◌, ◌<◌, ◌≤◌, List, [], length, Bool, true, false, cond, refl, sym, ap, ◌∙◌, subst, arith, inl, inr}
-use Rattle.std.specs.Prelude.{Some, ◌==◌, ◌||◌, ◌&&◌, nat_lt, slice_set, slice_index_or}
+use Rattle.std.specs.Prelude.{ok_or, Option, Some, None, ◌==◌, ◌||◌, ◌&&◌, nat_lt, slice_set, slice_index_or}
 use Rattle.std.proofs.lemmas.Bool.{cases_eq, cases_Bool, false≢true, ltb-true}
 use Rattle.std.specs.List.{position}
-use Rattle.std.proofs.lemmas.List.{length-set, get_or_default}
+use Rattle.std.proofs.lemmas.List.{length-set}
 use Rattle.std.proofs.lemmas.List.Quantifiers.{position-Some}
 use Rattle.xh_model.specs.declared.event.Holder.{Holder}
 use Rattle.xh_model.specs.declared.event.Holder.TheVariants.{Process, Direction}
 use Rattle.xh_model.specs.Store.{holds}
 use Rattle.xh_core.specs.declared.place.Place.{Place}
 use Rattle.xh_core.specs.Machine.{Machine, place, no_place, is_vacant, is_ended, blocks, listed, times, IsEnd, IsWhole}
-use Rattle.xh_core.specs.PlaceCommands.{can_start, started}
-use Rattle.xh_core.proofs.Machines.{place_in, place_here, place_else, place_there, IsPlace, generations_set, idle_set}
+use Rattle.xh_core.specs.PlaceCommands.{can_start, started, spawn_at}
+use Rattle.xh_core.specs.declared.refused.Refused.TheVariants.{NoPlace}
+use Rattle.xh_core.specs.inner.Placing.{place_in, started_at}
+use Rattle.xh_core.proofs.Machines.{place_here, place_else, place_there, IsPlace, generations_set, idle_set}
 
 idle_from : (v d b : Bool) → (v || (d && b)) ≡ true → (v || d) ≡ true
 idle_from true d b h = refl
@@ -73,9 +75,6 @@ module _ (m : Machine) (p : ℕ) (w : IsWhole m) (c : can_start (place m p) ≡ 
     deep = w.deep;
   }
 
-pub place_generation : (m : Machine) (k : ℕ) → IsWhole m → k < 32 → (slice_index_or m.places k no_place).generation ≤ 127
-place_generation m k w l = let e : k % 32 ≡ k = omega (arith, l) in subst (λ (i : ℕ). (slice_index_or m.places i no_place).generation ≤ 127) e (w.generations k)
-
 -- the same by the number of a place
 pub spawned_whole : (m : Machine) (k : ℕ) → IsWhole m → k < 32 → can_start (slice_index_or m.places k no_place) ≡ true →
     IsWhole (record m { places = slice_set m.places k (started (slice_index_or m.places k no_place)) })
@@ -84,25 +83,18 @@ spawned_whole m k w l c =
     let d : can_start (place m k) ≡ true = ap (λ (i : ℕ). can_start (slice_index_or m.places i no_place)) e ∙ c in
     subst (λ (i : ℕ). IsWhole (record m { places = slice_set m.places i (started (slice_index_or m.places i no_place)) })) e (started_whole m k w d)
 
--- a place where a process can start
-pub record Ready (m : Machine) (k : ℕ) : Type 0 where
-  pub there : k < 32
-  pub can : can_start (slice_index_or m.places k no_place) ≡ true
-  pub generation : (started (slice_index_or m.places k no_place)).generation ≤ 127
-  pub whole : IsWhole (record m { places = slice_set m.places k (started (slice_index_or m.places k no_place)) })
-
-pub ready : (m : Machine) (k : ℕ) → IsWhole m → position can_start m.places ≡ Some k → Ready m k
-ready m k w e =
+-- the same at the first place where one can
+first_whole : (m : Machine) (k : ℕ) → IsWhole m → position can_start m.places ≡ Some k →
+    IsWhole (record m { places = slice_set m.places k (started (slice_index_or m.places k no_place)) })
+first_whole m k w e =
     let at = position-Some can_start m.places k no_place e in
-    let l : k < 32 = subst (λ (n : ℕ). k < n) w.places at.0 in
-    let g : (slice_index_or m.places k no_place).generation ≤ 127 = place_generation m k w l in
-    record {
-      there = l;
-      can = at.1;
-      generation = started_generation (is_vacant (slice_index_or m.places k no_place).status) (is_ended (slice_index_or m.places k no_place).status)
-          (slice_index_or m.places k no_place).generation at.1 g;
-      whole = spawned_whole m k w l at.1;
-    }
+    spawned_whole m k w (subst (λ (n : ℕ). k < n) w.places at.0) at.1
 
-pub entry_at : (ps : List Place) (k : ℕ) (x : Place) → length ps ≡ 32 → k < 32 → x ≡ slice_index_or ps k x → x ≡ slice_index_or ps k no_place
-entry_at ps k x e l h = h ∙ get_or_default ps k x no_place (subst (λ (n : ℕ). k < n) (sym e) l)
+pub spawn_whole : (m : Machine) (o : Option ℕ) → IsWhole m → position can_start m.places ≡ o → IsWhole (record m { places = (started_at o m.places).1 })
+spawn_whole m None w e = w
+spawn_whole m (Some k) w e = first_whole m k w e
+
+-- what a spawn answers and leaves, by what the places do
+pub spawn_gives : (m : Machine) (o : Option ℕ) → spawn_at o m ≡ (ok_or (started_at o m.places).0 NoPlace, record m { places = (started_at o m.places).1 })
+spawn_gives m None = refl
+spawn_gives m (Some k) = refl

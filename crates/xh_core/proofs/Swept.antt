@@ -1,5 +1,5 @@
 -- What sweeping one entry leaves.
-use Rattle.std.proofs.Common.{◌≡◌, ◌≢◌, ℕ, ◌+◌, ◌/◌, ◌%◌, ◌<◌, ◌≤◌, List, [], ◌++◌, length, Bool, true, false, cond, refl, sym, ap, ◌∙◌, arith, inl, inr, get_or-set_same, get_or-set_other}
+use Rattle.std.proofs.Common.{◌≡◌, ◌≢◌, ℕ, ◌+◌, ◌/◌, ◌<◌, ◌≤◌, List, [], ◌++◌, length, Bool, true, false, cond, refl, sym, ap, ◌∙◌, subst, arith, inl, inr, get_or-set_same, get_or-set_other}
 use Rattle.std.specs.Prelude.{Option, Some, None, ◌==◌, nat_lt, slice_index_or}
 use Rattle.std.specs.List.{remove}
 use Rattle.std.proofs.lemmas.Bool.{cases_eq, cases_Bool, false≢true, eq-eqb, ne_eqb, lt-ltb, ltb-true, ltb-false}
@@ -13,7 +13,9 @@ use Rattle.xh_model.specs.Arena.{ArenaState}
 use Rattle.xh_core.specs.declared.place.Place.{Place}
 use Rattle.xh_core.specs.Machine.{Machine, times, end_of, place, blocks, way_in, on_way, arriving, IsWhole}
 use Rattle.xh_core.specs.Sweeping.{accept_from, sweep_one, shut_in}
-use Rattle.xh_core.proofs.Machines.{place_there, place_read, current_blocks, list_here, list_else, lists_current, current_generation, current_range, way_here, way_else}
+use Rattle.xh_core.specs.inner.Placing.{blocks_in, relisted}
+use Rattle.xh_core.proofs.Room.{room}
+use Rattle.xh_core.proofs.Machines.{place_there, current_blocks, relisted_list, relisted_again, list_here, list_else, lists_current, current_generation, current_range, way_here, way_else}
 use Rattle.xh_core.proofs.Stores.{done, same_process, same_direction, is_there, at_set, Accepted, accepted_all, same_len, len_back, arena_there}
 
 -- the records on their way to an endpoint, if there is one
@@ -48,24 +50,29 @@ some_times b n e l = elim (cases_Bool b) [ inl y ↦ y | inr f ↦ (let z : n �
 pub entry_held : (m : Machine) (p from : ℕ) → IsWhole m → from < length (blocks m p) → holds m.store (Process p) (entry m p from) ≡ true
 entry_held m p from w l = some_times _ _ (w.once (Process p) (entry m p from)) (times_at (blocks m p) from l)
 
--- what a sweep of the entry at `from` finds: the place x, the list, and as `xs` the list once more
-pub record Entry (m : Machine) (p from : ℕ) (x : Place) (xs : List ℕ) : Type 0 where
-  pub here : x ≡ place m p
-  pub list : x.blocks.items ≡ blocks m p
-  pub read : slice_index_or xs from 0 ≡ entry m p from
-  pub there : entry m p from < length m.store.owners
+-- the entry as it is read
+pub entry_read : (m : Machine) (p from : ℕ) (xs : List ℕ) → from < length (blocks m p) → xs ≡ blocks_in m.places p → slice_index_or xs from 0 ≡ entry m p from
+entry_read m p from xs l e = ap (λ (ys : List ℕ). slice_index_or ys from 0) (e ∙ sym (current_blocks m p (lists_current m p from l)))
 
-pub entry_found : (m : Machine) (p from i : ℕ) (x : Place) (xs : List ℕ) → IsWhole m → from < length (blocks m p) → i ≡ p % 32 → x ≡ slice_index_or m.places i x → xs ≡ x.blocks.items →
-    Entry m p from x xs
-entry_found m p from i x xs w l at_place read items =
-    let is : x ≡ place m p = place_read m p i x w at_place read in
-    let list : x.blocks.items ≡ blocks m p = ap (λ (y : Place). y.blocks.items) is ∙ sym (current_blocks m p (lists_current m p from l)) in
-    record {
-      here = is;
-      list = list;
-      read = ap (λ (ys : List ℕ). slice_index_or ys from 0) (items ∙ list);
-      there = is_there m.store (Process p) (entry m p from) (entry_held m p from w l);
-    }
+pub entry_there : (m : Machine) (p from : ℕ) → IsWhole m → from < length (blocks m p) → entry m p from < length m.store.owners
+entry_there m p from w l = is_there m.store (Process p) (entry m p from) (entry_held m p from w l)
+
+-- the list with what came to the entry, and without the entry
+pub entry_left : (m : Machine) (p from : ℕ) (came : List ℕ) (ps qs : List Place) → IsWhole m → from < length (blocks m p) → came ≡ arriving m (entry m p from) →
+    ps ≡ relisted p (blocks_in m.places p ++ came) m.places → qs ≡ relisted p (remove (blocks_in ps p) from) ps →
+    qs ≡ relisted p (remove (blocks m p ++ arriving m (entry m p from)) from) m.places
+entry_left m p from came ps qs w l e add cut =
+    let there = place_there m p w in
+    let rs : List ℕ = blocks_in m.places p ++ came in
+    let is : rs ≡ blocks m p ++ arriving m (entry m p from) = (λ i. sym (current_blocks m p (lists_current m p from l)) i ++ e i) in
+    cut ∙ (ap (λ (xs : List Place). relisted p (remove (blocks_in xs p) from) xs) add
+    ∙ (relisted_again m.places p rs (remove (blocks_in (relisted p rs m.places) p) from) there
+    ∙ ap (λ (xs : List ℕ). relisted p (remove xs from) m.places) (relisted_list m.places p rs there ∙ is)))
+
+-- the list has room for what came
+pub entry_room : (m : Machine) (p from : ℕ) (o : Option ℕ) → IsWhole m → from < length (blocks m p) → length (blocks_in m.places p) + length (way_in m.lines o) ≤ 2048
+entry_room m p from o w l =
+    subst (λ (xs : List ℕ). length xs + length (way_in m.lines o) ≤ 2048) (current_blocks m p (lists_current m p from l)) (room m p o w)
 
 abbrev accepted_store : ℕ → ℕ → Machine → Store
 accepted_store p r m = accept_from p (end_of m r) (arriving m r) m.store

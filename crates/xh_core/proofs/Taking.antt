@@ -17,9 +17,10 @@ use Rattle.xh_core.specs.Refusing.{toward}
 use Rattle.xh_core.specs.Sweeping.{accept_all}
 use Rattle.xh_core.specs.MessageCommands.{taken, taken_line, front, no_message, is_banned}
 use Rattle.xh_core.specs.inner.Checks.{MayTake}
+use Rattle.xh_core.specs.inner.Placing.{blocks_in}
 use Rattle.xh_core.proofs.Stores.{count_append, Accepted, accepted_all}
 use Rattle.xh_core.proofs.Machines.{runs_busy, place_there, list_here, list_else, current_generation, current_range, current_blocks}
-use Rattle.xh_core.proofs.Machines.{place_read, busy_place, generations_set, idle_set, way_here, way_else, peer_ne}
+use Rattle.xh_core.proofs.Machines.{busy_place, generations_set, idle_set, way_here, way_else, peer_ne}
 use Rattle.xh_core.proofs.Room.{room}
 use Rattle.xh_core.proofs.Wired.{state_in, tags_in, IsPair, same_lines, wired_pair, pair_of, half_apart}
 use Rattle.xh_core.proofs.Moved.{Moved, moved_whole}
@@ -35,39 +36,30 @@ front_tags (m ∷ ms) h = refl
 abbrev front_tag : Line → ℕ
 front_tag l = (slice_index_or l.waiting.items 0 no_message).tag
 
--- what a take finds: its process's place and list, and the front message with its records
-pub record Found (m : Machine) (p e d : ℕ) (x : Place) (message : Message) (rs : List ℕ) : Type 0 where
+-- what a take finds: the front message
+pub record Found (m : Machine) (p e d : ℕ) (message : Message) : Type 0 where
   pub may : MayTake m p e (toward m e)
   pub at : toward m e ≡ d
-  pub here : x ≡ place m p
-  pub list : x.blocks.items ≡ blocks m p
   pub first : message ≡ front m e
-  pub came : rs ≡ (front m e).blocks.items
 
-pub found : (m : Machine) (p e d i : ℕ) (x : Place) (message : Message) (rs : List ℕ) → IsWhole m → MayTake m p e d → i ≡ p % 32 → x ≡ slice_index_or m.places i x →
-    message ≡ slice_index_or (waiting m d) 0 no_message → rs ≡ message.blocks.items → Found m p e d x message rs
-found m p e d i x message rs w may at_place read at_front records =
+pub found : (m : Machine) (p e d : ℕ) (message : Message) → MayTake m p e d → message ≡ slice_index_or (waiting m d) 0 no_message → Found m p e d message
+found m p e d message may at_front =
     let at : toward m e ≡ d = ap (λ o. unwrap_or o 128) may.toward in
-    let is : x ≡ place m p = place_read m p i x w at_place read in
-    let came : message ≡ front m e = at_front ∙ ap (λ k. slice_index_or (waiting m k) 0 no_message) (sym at) in
     record {
       may = subst (MayTake m p e) (sym at) may;
       at = at;
-      here = is;
-      list = ap (λ (y : Place). y.blocks.items) is ∙ sym (current_blocks m p may.runs.0);
-      first = came;
-      came = records ∙ ap (λ (y : Message). y.blocks.items) came;
+      first = at_front ∙ ap (λ k. slice_index_or (waiting m k) 0 no_message) (sym at);
     }
 
--- the list of the taker has room for them
-pub found_room : (m : Machine) (p e d : ℕ) (x : Place) (message : Message) (rs : List ℕ) → IsWhole m → Found m p e d x message rs → length x.blocks.items + length rs ≤ 2048
-found_room m p e d x message rs w f =
+-- the list of the taker has room for its records
+pub found_room : (m : Machine) (p e d : ℕ) (message : Message) → IsWhole m → Found m p e d message → length (blocks_in m.places p) + length message.blocks.items ≤ 2048
+found_room m p e d message w f =
     let rest : List ℕ = carried (remove (waiting m (toward m e)) 0) in
     let all : length (blocks m p) + length (on_way m (toward m e)) ≤ 2048 = room m p (Some (toward m e)) w in
     let way : length (on_way m (toward m e)) ≡ length (front m e).blocks.items + length rest =
     ap length (front_split (waiting m (toward m e)) f.may.some) ∙ length-append (front m e).blocks.items rest in
-    let a : length x.blocks.items ≡ length (blocks m p) = ap length f.list in
-    let b : length rs ≡ length (front m e).blocks.items = ap length f.came in
+    let a : length (blocks_in m.places p) ≡ length (blocks m p) = ap length (sym (current_blocks m p f.may.runs.0)) in
+    let b : length message.blocks.items ≡ length (front m e).blocks.items = ap (λ (y : Message). length y.blocks.items) f.first in
     omega (arith, all, way, a, b)
 
 -- the end that takes the front message is in step again

@@ -4,3 +4,4 @@ pub mod Checks
 pub mod Gaining
 pub mod Owning
 pub mod Pairing
+pub mod Placing

@@ -1,22 +1,26 @@
 //! The channels: the two directions of each, and its contract.
-ghost use Rattle.std.specs.Prelude.{◌≡◌, ◌+◌, ◌-◌, ◌*◌, ◌/◌, ◌%◌, ◌<◌, ◌≤◌, ◌==◌, [], IfOk, None, false, length, replicate, slice_set};
+ghost use Rattle.std.specs.Prelude.{◌≡◌, ℕ, ◌+◌, ◌-◌, ◌*◌, ◌/◌, ◌%◌, ◌<◌, ◌≤◌, ◌==◌, [], IfOk, None, Some, false, length, replicate, slice_set};
 ghost use Rattle.xh_model.specs.declared.limits.TheConstants.{MAX_BLOCKS, MAX_DEPTH};
 ghost use Rattle.xh_core.specs.ChannelCommands.{first_state, new_line};
-ghost use Rattle.xh_core.specs.Machine.{contract_of, drained_state, next_state, no_line, peer, tags_of};
+ghost use Rattle.xh_core.specs.Machine.{carried, contract_of, drained_state, next_state, no_line, peer, tags_of, way_in};
 ghost use Rattle.xh_core.specs.MessageCommands.{is_banned, is_full, no_message, put_line, taken_line, told_line, LAST};
-ghost use Rattle.xh_core.specs.Sweeping.{shut_line};
+ghost use Rattle.xh_core.specs.Sweeping.{shut_in};
 ghost use Rattle.xh_core.specs.inner.Channeling.{line_at, with_line};
 ghost use Rattle.xh_core.specs.inner.Pairing.{IsSound};
 ghost use Rattle.std.specs.Prelude.{slice_index_or};
 ghost use Rattle.std.specs.List.{remove};
 
 use crate::contract::Contract;
-use crate::line::Line;
+use crate::line::{Line, ROOM};
+use crate::list::{extend, listed};
 use crate::message::Message;
 use arrayvec::ArrayVec;
 use std::alloc::{AllocError, Global};
 use std::marker::Model;
 use xh_model::limits::MAX_BLOCKS;
+
+/// As many records as may wait in a direction.
+const WAITING: usize = ROOM * MAX_BLOCKS;
 
 /// All channels, opened or not.
 #[derive(Drop)]
@@ -93,14 +97,13 @@ fn state_at_end(contract: &Option<Contract>, side: u8, state: u8, messages: &[Me
     end
 }
 
-/// These records as a list of their own.
-pub(crate) fn listed(blocks: &[u16]) -> ArrayVec<u16, MAX_BLOCKS>
-    requires { length blocks.now ≤ MAX_BLOCKS }
-    ensures { result.items ≡ blocks.now }
+/// The records in messages, front first.
+fn carried(messages: &ArrayVec<Message, ROOM>) -> ArrayVec<u16, WAITING>
+    ensures { result.items ≡ carried messages.now.items }
 {
     let mut list = ArrayVec::new();
-    for r in blocks {
-        list.push(*r);
+    for message in messages.as_slice() {
+        extend(&mut list, message.blocks.as_slice());
     }
     list
 }
@@ -275,15 +278,21 @@ impl Channels {
         message
     }
 
-    /// The end that a direction leads to is closed, as if it had taken what waited.
-    pub(crate) fn shut(&mut self, d: u8)
-        requires { d < 128 }
-        ensures { self.new ≡ with_line d (shut_line (contract_of self.old.contracts d) (1 - d % 2) (line_at self.old d)) self.old }
+    /// The end that a direction leads to is closed, as if it had taken what waited: the records in it.
+    pub(crate) fn shut(&mut self, end: Option<u8>) -> ArrayVec<u16, WAITING>
+        requires { (d : ℕ) → end ≡ Some d → d < 128 }
+        ensures records { result.items ≡ way_in self.old.lines end }
+        ensures lines { self.new ≡ record self.old { lines = shut_in self.old.contracts self.old.lines end } }
     {
+        let Some(d) = end else {
+            return ArrayVec::new();
+        };
         let line = &mut self.lines[usize::from(d)];
         let contract = &self.contracts[usize::from(d / 2)];
+        let records = carried(&line.waiting);
         line.state = state_at_end(contract, 1 - d % 2, line.state, line.waiting.as_slice());
         line.shut = true;
         line.waiting.clear();
+        records
     }
 }

@@ -3,7 +3,8 @@ use crate::message::Message;
 use arrayvec::ArrayVec;
 use xh_model::limits::MAX_DEPTH;
 
-const ROOM: usize = MAX_DEPTH as usize;
+/// As many messages as may wait in a direction.
+pub(crate) const ROOM: usize = MAX_DEPTH as usize;
 
 /// A direction: whether the end that it leads to is closed, the contract's state of that end, how
 /// many messages were ever put, and those that wait, front first.

@@ -1,7 +1,6 @@
 //! The serial heap: places, channels and the bytes of blocks over the plain machine.
 ghost use Rattle.std.specs.Prelude.{◌≡◌, ◌⊎◌, ◌↔◌, None, Err, IfOk, IfErr, OnOk, replicate};
 ghost use Rattle.xh_model.specs.Config.{IsConfig};
-ghost use Rattle.xh_core.specs.Machine.{no_place};
 ghost use Rattle.xh_core.specs.PlaceCommands.{new_machine};
 
 mod blocks;
@@ -16,7 +15,7 @@ mod sweep;
 
 use crate::channels::Channels;
 use crate::memory::Memory;
-use crate::place::{Place, new_places};
+use crate::places::Places;
 use crate::plain::Plain;
 use crate::refused::Refused;
 use crate::status::Status;
@@ -36,7 +35,7 @@ pub struct Serial {
     ends: Vec<Option<u8>>,
     /// By record, its bytes, where it is a data block.
     memory: Memory,
-    places: Vec<Place>,
+    places: Places,
     channels: Channels,
     depth: u8,
 }
@@ -76,7 +75,7 @@ impl Serial {
             plain,
             ends: no_ends(alloc, usize::from(count))?,
             memory: Memory::none(alloc, count)?,
-            places: new_places(alloc)?,
+            places: Places::vacant(alloc)?,
             channels: Channels::none(alloc)?,
             depth: config.depth,
         })

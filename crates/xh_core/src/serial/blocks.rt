@@ -1,7 +1,7 @@
 //! Data blocks: they are made, cut, read, written and given back.
-ghost use Rattle.std.specs.Prelude.{◌≡◌, ◌≢◌, ◌+◌, ◌*◌, ◌/◌, ◌%◌, ◌<◌, ◌≤◌, ◌==◌, ◌++◌, ◌∷◌, [], Some, None, Ok, Err, IfErr, OnErr, OnOk, false, true, length, slice_set, slice_index_or};
-ghost use Rattle.std.specs.List.{position_or_len, remove};
-ghost use Rattle.xh_core.specs.Machine.{end_of, no_place};
+ghost use Rattle.std.specs.Prelude.{◌≡◌, ◌≢◌, ◌+◌, ◌*◌, ◌/◌, ◌%◌, ◌<◌, ◌≤◌, ◌==◌, Some, None, Ok, Err, IfErr, OnErr, OnOk, false, true, length};
+ghost use Rattle.std.specs.List.{remove};
+ghost use Rattle.xh_core.specs.Machine.{end_of};
 ghost use Rattle.xh_model.specs.declared.event.Holder.TheVariants.{Process};
 ghost use Rattle.xh_model.specs.Store.{holds, len};
 ghost use Rattle.xh_core.specs.BlockCommands.{alloc_heads, free_record, range_tests, rounded, split_heads};
@@ -10,7 +10,6 @@ ghost use Rattle.xh_core.specs.Refusing.{IsRunning, Tested};
 ghost use Rattle.xh_core.specs.inner.Checks.{MaySplit};
 
 use crate::block::Block;
-use crate::place::{list_record, unlist_record};
 use crate::refused::Refused;
 use crate::serial::Serial;
 use std::alloc::Global;
@@ -56,7 +55,7 @@ impl Serial {
             self.memory.clear(r);
             return Err(refused);
         }
-        list_record(&mut self.places, p, r);
+        self.places.add(p, r);
         Ok(Block { rec: r, len })
     }
 
@@ -68,7 +67,7 @@ impl Serial {
         self.check_data(p, r)?;
         let len = self.plain.discard(p, r);
         self.memory.clear(r);
-        unlist_record(&mut self.places, p, r);
+        self.places.remove(p, r);
         Ok(len)
     }
 
@@ -104,7 +103,7 @@ impl Serial {
         self.memory.split(alloc, r, t, k as usize)?;
         let rest = self.plain.len(r) - k;
         self.plain.part(p, r, t, k);
-        list_record(&mut self.places, p, t);
+        self.places.add(p, t);
         Ok((Block { rec: r, len: k }, Block { rec: t, len: rest }))
     }
 

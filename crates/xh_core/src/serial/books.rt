@@ -50,7 +50,7 @@ impl Serial {
         ensures sum { result ≡ total self.now.store (slice_index_or self.now.places at no_place).blocks.items }
         ensures most { result ≤ 2147483648 }
     {
-        self.plain.owned(number(at, self.places[at].generation))
+        self.plain.owned(number(at, self.places.at(at).generation))
     }
 
     /// The bytes that processes own.
@@ -71,7 +71,7 @@ impl Serial {
     {
         let mut lines = ArrayVec::new();
         for at in 0..self.places.len() {
-            let place = &self.places[at];
+            let place = self.places.at(at);
             if !is_unused(place) {
                 lines.push(place_line(at, place, self.bytes_at(at)));
             }

@@ -1,5 +1,5 @@
 //! Channels are opened, for one process or between two.
-ghost use Rattle.std.specs.Prelude.{◌≡◌, ◌+◌, ◌*◌, ◌<◌, [], Some, None, false, length, slice_set};
+ghost use Rattle.std.specs.Prelude.{◌≡◌, ◌+◌, ◌*◌, ◌<◌, Some, None, length, slice_set};
 ghost use Rattle.xh_core.specs.ChannelCommands.{open_channel, wire_channel, wire_heads};
 ghost use Rattle.xh_core.specs.MessageCommands.{AreOrderly};
 ghost use Rattle.xh_core.specs.Refusing.{IsRunning, Tested};
@@ -7,7 +7,6 @@ ghost use Rattle.xh_core.specs.Refusing.{IsRunning, Tested};
 use super::Serial;
 use crate::block::Block;
 use crate::contract::Contract;
-use crate::place::list_record;
 use crate::refused::Refused;
 
 /// Two records are the ends of a channel: `r` is side 0 and `t` side 1.
@@ -53,8 +52,8 @@ impl Serial {
         let channel = self.channels.open(contract);
         mark_ends(&mut self.ends, r, t, channel);
         self.plain.hand_over(p, q, t, 2 * channel + 1);
-        list_record(&mut self.places, p, r);
-        list_record(&mut self.places, q, t);
+        self.places.add(p, r);
+        self.places.add(q, t);
         Ok((Block { rec: r, len: 32 }, Block { rec: t, len: 32 }))
     }
 

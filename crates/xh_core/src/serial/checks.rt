@@ -1,15 +1,16 @@
 //! Why a command is refused: each check makes its tests in their order.
-ghost use Rattle.std.specs.Prelude.{◌≡◌, ◌*◌, ◌<◌, ◌%◌, Some, None, true};
+ghost use Rattle.std.specs.Prelude.{◌≡◌, ◌*◌, ◌<◌, Some, None, true};
 ghost use Rattle.std.specs.List.{list_all};
 ghost use Rattle.xh_model.specs.declared.event.Holder.TheVariants.{Process};
 ghost use Rattle.xh_model.specs.Store.{holds};
-ghost use Rattle.xh_core.specs.Machine.{end_of, is_current, place, status_of};
+ghost use Rattle.xh_core.specs.Machine.{end_of, is_current};
 ghost use Rattle.xh_core.specs.Refusing.{data_tests, end_tests, start, stop_tests, IsRunning, Tested};
 ghost use Rattle.xh_core.specs.EndingCommands.{close_tests, kill_tests};
 ghost use Rattle.xh_core.specs.MessageCommands.{give_tests, take_tests};
 ghost use Rattle.xh_core.specs.inner.Checks.{MayGive, MayTake};
 
-use crate::channels::{listed, peer};
+use crate::channels::peer;
+use crate::list::listed;
 use crate::refused::Refused;
 use crate::serial::Serial;
 use crate::status::Status;
@@ -19,26 +20,11 @@ use xh_model::Holder;
 use xh_model::limits::MAX_BLOCKS;
 
 impl Serial {
-    /// How far a process has come; Vacant where there is no such process.
-    fn status(&self, p: u16) -> Status
-        ensures { result ≡ status_of self.now p }
-    {
-        let place = &self.places[usize::from(p % 32)];
-        let generation = u16::from(place.generation);
-        if p >= 4_096 || generation < p / 32 {
-            return Status::Vacant;
-        }
-        if generation == p / 32 {
-            return place.status;
-        }
-        Status::Ended
-    }
-
     /// NoProcess and Ended: the process is none, or does not run.
     pub(super) fn check_start(&self, p: u16) -> Result<(), Refused>
         ensures { Tested (start self.now p) result (λ _. IsRunning self.now p) }
     {
-        match self.status(p) {
+        match self.places.status(p) {
             Status::Vacant => Err(Refused::NoProcess),
             Status::Running => Ok(()),
             _ => Err(Refused::Ended),
@@ -49,7 +35,7 @@ impl Serial {
     pub(super) fn check_stop(&self, p: u16) -> Result<(), Refused>
         ensures { Tested (stop_tests self.now p) result (λ _. is_current self.now p ≡ true) }
     {
-        match self.status(p) {
+        match self.places.status(p) {
             Status::Vacant => Err(Refused::NoProcess),
             Status::Ended => Err(Refused::Ended),
             _ => Ok(()),

@@ -1,16 +1,14 @@
 //! The ends of processes and of endpoints: exit, kill and close.
-ghost use Rattle.std.specs.Prelude.{◌≡◌, ◌==◌, ◌-◌, ◌+◌, ◌%◌, ◌<◌, [], ◌∷◌, IsOk, None, true, length, slice_index_or, slice_set};
-ghost use Rattle.std.specs.List.{position, position_or_len};
+ghost use Rattle.std.specs.Prelude.{◌≡◌, ◌-◌, ◌<◌, [], ◌∷◌, IsOk, None, true, length};
 ghost use Rattle.xh_model.specs.Reclaimed.{Frees};
 ghost use Rattle.xh_model.specs.Store.{holds};
 ghost use Rattle.xh_model.specs.declared.event.Holder.TheVariants.{Process};
 ghost use Rattle.xh_core.specs.declared.status.Status.TheVariants as status;
-ghost use Rattle.xh_core.specs.Machine.{arriving, blocks, is_current, no_place, with_status};
+ghost use Rattle.xh_core.specs.Machine.{arriving, blocks, is_current, with_status};
 ghost use Rattle.xh_core.specs.Refusing.{first_refusal, stop_tests, IsRunning};
 ghost use Rattle.xh_core.specs.Sweeping.{Sweeps};
-ghost use Rattle.xh_core.specs.EndingCommands.{close, exit, kill, kill_tests, last, moved_last, reclaimed, stopped};
+ghost use Rattle.xh_core.specs.EndingCommands.{close, exit, kill, kill_tests, moved_last, reclaimed, stopped};
 
-use crate::place::{move_to_end, set_status};
 use crate::refused::Refused;
 use crate::serial::Serial;
 use crate::status::Status;
@@ -20,7 +18,7 @@ impl Serial {
         requires { is_current self.old p ≡ true }
         ensures { self.new ≡ with_status p status.Ending self.old }
     {
-        set_status(&mut self.places, p, Status::Ending);
+        self.places.set_status(p, Status::Ending);
     }
 
     fn finish_ending(&mut self, p: u16)
@@ -28,7 +26,7 @@ impl Serial {
         requires empty { length (blocks self.old p) ≡ 0 }
         ensures { self.new ≡ with_status p status.Ended self.old }
     {
-        set_status(&mut self.places, p, Status::Ended);
+        self.places.set_status(p, Status::Ended);
     }
 
     /// A process is ended: its whole list is swept, as far as the budget goes.
@@ -84,7 +82,7 @@ impl Serial {
         ensures is { self.new ≡ moved_last p e self.old }
         ensures at { result ≡ length (blocks self.old p) - 1 }
     {
-        move_to_end(&mut self.places, p, e)
+        self.places.move_last(p, e)
     }
 
     /// One end of a channel is closed: it and what is on its way to it are reclaimed. The bytes

@@ -1,53 +1,13 @@
 //! Messages: give and take.
-ghost use Rattle.std.specs.Prelude.{◌≡◌, ◌==◌, ◌+◌, ◌-◌, ◌/◌, ◌%◌, ◌<◌, ◌≤◌, IfOk, false, length, slice_index_or, slice_set};
-ghost use Rattle.std.specs.List.{filter, remove};
-ghost use Rattle.xh_model.specs.declared.limits.TheConstants.{MAX_BLOCKS, MAX_DEPTH};
-ghost use Rattle.xh_model.specs.declared.event.Holder.TheVariants.{Process};
-ghost use Rattle.xh_model.specs.Store.{holds, len};
-ghost use Rattle.xh_core.specs.Machine.{contract_of, line, no_line, peer};
+ghost use Rattle.std.specs.Prelude.{◌≡◌, ◌-◌, ◌/◌, ◌%◌, ◌<◌, IfOk, false};
+ghost use Rattle.xh_core.specs.Machine.{contract_of, line, peer};
 ghost use Rattle.xh_core.specs.Refusing.{toward};
-ghost use Rattle.xh_core.specs.MessageCommands.{AreOrderly, described, give, is_banned, no_message, pass_all, put_line, take, taken_line, told_line, LAST};
+ghost use Rattle.xh_core.specs.MessageCommands.{AreOrderly, give, is_banned, pass_all, take};
 
-use crate::block::Block;
 use crate::channels::peer;
 use crate::message::Taken;
-use crate::place::accept_blocks;
-use crate::plain::Plain;
 use crate::refused::Refused;
 use crate::serial::Serial;
-use arrayvec::ArrayVec;
-use xh_model::limits::MAX_BLOCKS;
-use xh_model::{Event, Holder};
-
-/// `p` passes these records to a direction.
-fn pass_blocks(plain: &mut Plain, p: u16, d: u8, blocks: &[u16])
-    ensures { plain.new ≡ pass_all p d blocks.now plain.old }
-{
-    for r in blocks {
-        plain.step(Event::Pass(p, *r, d));
-    }
-}
-
-/// The records that the process still holds stay in its list.
-fn keep_held(plain: &Plain, list: &mut ArrayVec<u16, 2048>, p: u16)
-    ensures { list.new.items ≡ filter (λ r. holds plain.now (Process p) r) list.old.items }
-{
-    list.retain(|r| plain.holds(Holder::Process(p), *r));
-}
-
-/// Records as blocks.
-fn describe(plain: &Plain, blocks: &ArrayVec<u16, MAX_BLOCKS>) -> ArrayVec<Block, MAX_BLOCKS>
-    ensures { result.items ≡ described plain.now blocks.now.items }
-{
-    let mut list = ArrayVec::new();
-    for r in blocks.as_slice() {
-        list.push(Block {
-            rec: *r,
-            len: plain.len(*r),
-        });
-    }
-    list
-}
 
 impl Serial {
     /// Puts a message at the back of the direction toward the other end. Its number there.
@@ -62,9 +22,8 @@ impl Serial {
         let _start = &self.plain;
         let own = self.check_give(p, e, tag, blocks)?;
         let to = peer(own);
-        pass_blocks(&mut self.plain, p, to, blocks);
-        let place = &mut self.places[usize::from(p % 32)];
-        keep_held(&self.plain, &mut place.blocks, p);
+        self.plain.pass_all(p, to, blocks);
+        self.places.remove_all(p, blocks);
         self.channels.tell(own, tag);
         Ok(self.channels.put(to, tag, blocks))
     }
@@ -82,15 +41,9 @@ impl Serial {
         let _start = &self.plain;
         let d = self.check_take(p, e)?;
         let message = self.channels.take_front(d);
-        let blocks = describe(&self.plain, &message.blocks);
-        let place = &mut self.places[usize::from(p % 32)];
-        accept_blocks(
-            &mut self.plain,
-            &mut place.blocks,
-            p,
-            d,
-            message.blocks.as_slice(),
-        );
+        let blocks = self.plain.describe(&message.blocks);
+        self.plain.accept_all(p, d, message.blocks.as_slice());
+        self.places.add_all(p, message.blocks.as_slice());
         Ok(Taken {
             no: message.no,
             tag: message.tag,

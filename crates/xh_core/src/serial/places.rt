@@ -1,10 +1,9 @@
 //! Processes start, and are looked at.
-ghost use Rattle.std.specs.Prelude.{◌≡◌, ◌+◌, ◌*◌, ◌<◌, true};
-ghost use Rattle.std.specs.List.{position};
-ghost use Rattle.xh_core.specs.PlaceCommands.{can_start, started, spawn, glance};
+ghost use Rattle.std.specs.Prelude.{◌≡◌, ◌+◌, ◌<◌};
+ghost use Rattle.xh_core.specs.PlaceCommands.{spawn, glance};
 
 use crate::glance::Glance;
-use crate::place::{first_ready, number, start};
+use crate::place::number;
 use crate::refused::Refused;
 use crate::serial::Serial;
 use crate::status::Status;
@@ -16,11 +15,7 @@ impl Serial {
     pub fn spawn(&mut self) -> Result<u16, Refused>
         ensures { spawn self.old ≡ (result, self.new) }
     {
-        let Some(place) = first_ready(self.places.as_slice()) else {
-            return Err(Refused::NoPlace);
-        };
-        let generation = start(&mut self.places[place]);
-        Ok(number(place, generation))
+        self.places.start().ok_or(Refused::NoPlace)
     }
 
     /// A look at the place of number `place`. NoProcess where it is 32 or more.
@@ -31,7 +26,7 @@ impl Serial {
         if place >= 32 {
             return Err(Refused::NoProcess);
         }
-        let at = &self.places[usize::from(place)];
+        let at = self.places.at(usize::from(place));
         Ok(Glance {
             process: number(usize::from(place), at.generation),
             state: at.status,

@@ -1,54 +1,11 @@
 //! Reclaiming: entry by entry, as far as a budget goes.
-ghost use Rattle.std.specs.Prelude.{◌≡◌, ℕ, ◌+◌, ◌++◌, ◌/◌, ◌≤◌, ◌<◌, Some, true, length, drop};
+ghost use Rattle.std.specs.Prelude.{◌≡◌, ◌+◌, ◌≤◌, ◌<◌, true, length, drop};
 ghost use Rattle.xh_model.specs.Reclaimed.{Frees};
 ghost use Rattle.xh_model.specs.Store.{all_out};
-ghost use Rattle.xh_core.specs.Machine.{arriving, blocks, carried, drained_state, is_current, next_state, tags_of, way_in};
-ghost use Rattle.xh_core.specs.Sweeping.{accept_all, accept_from, shut_in, sweep, sweep_one, Sweeps};
+ghost use Rattle.xh_core.specs.Machine.{arriving, blocks, is_current};
+ghost use Rattle.xh_core.specs.Sweeping.{sweep, sweep_one, Sweeps};
 
-use crate::channels::Channels;
-use crate::message::Message;
-use crate::place::accept_blocks;
-use crate::plain::Plain;
 use crate::serial::Serial;
-use arrayvec::ArrayVec;
-use xh_model::Event;
-
-/// `p` accepts the records of messages, front first, at the end of its list.
-fn accept_messages(
-    plain: &mut Plain,
-    list: &mut ArrayVec<u16, 2048>,
-    p: u16,
-    d: u8,
-    messages: &[Message],
-)
-    requires { length list.old.items + length (carried messages.now) ≤ 2048 }
-    ensures store { plain.new ≡ accept_all p d (carried messages.now) plain.old }
-    ensures list { list.new.items ≡ list.old.items ++ carried messages.now }
-{
-    for message in messages {
-        accept_blocks(plain, list, p, d, message.blocks.as_slice());
-    }
-}
-
-/// An end is closed, and `p` takes what is on its way to it.
-fn shut(
-    plain: &mut Plain,
-    list: &mut ArrayVec<u16, 2048>,
-    channels: &mut Channels,
-    p: u16,
-    end: Option<u8>,
-)
-    requires room { length list.old.items + length (way_in channels.old.lines end) ≤ 2048 }
-    requires there { (d : ℕ) → end ≡ Some d → d < 128 }
-    ensures store { plain.new ≡ accept_from p end (way_in channels.old.lines end) plain.old }
-    ensures list { list.new.items ≡ list.old.items ++ way_in channels.old.lines end }
-    ensures channels { channels.new ≡ record channels.old { lines = shut_in channels.old.contracts channels.old.lines end } }
-{
-    if let Some(d) = end {
-        accept_messages(plain, list, p, d, channels.waiting(d));
-        channels.shut(d);
-    }
-}
 
 impl Serial {
     /// How many records `p` holds.
@@ -57,7 +14,7 @@ impl Serial {
         ensures value { result ≡ length (blocks self.now p) }
         ensures fits { result ≤ 2048 }
     {
-        self.places[usize::from(p % 32)].blocks.len()
+        self.places.blocks(p).len()
     }
 
     /// The entry at `from` of the list of `p` is swept.
@@ -67,21 +24,15 @@ impl Serial {
         ensures bytes { all_out self.new.store ≤ all_out self.old.store }
         ensures current { is_current self.new p ≡ true }
     {
-        let place = &mut self.places[usize::from(p % 32)];
-        let r = place.blocks[from];
+        let r = self.places.blocks(p)[from];
         let end = self.ends[usize::from(r)];
-        shut(
-            &mut self.plain,
-            &mut place.blocks,
-            &mut self.channels,
-            p,
-            end,
-        );
-        self.plain.step(Event::GiveBack(p, r));
-        self.plain.step(Event::Vacate(p, r));
+        let came = self.channels.shut(end);
+        self.plain.accept_from(p, end, came.as_slice());
+        self.places.add_all(p, came.as_slice());
+        self.plain.discard(p, r);
         self.ends[usize::from(r)] = None;
         self.memory.clear(r);
-        place.blocks.remove(from);
+        self.places.remove_at(p, from);
     }
 
     /// The list of `p` is swept from `from` on, as far as the budget goes.

@@ -40,8 +40,8 @@ take-requires-clause-known c = (found (machine_of c.self.inside) c.args.arena _ 
 pub take-requires-clause-free : goal.take-requires-clause-free
 take-requires-clause-free c = (found (machine_of c.self.inside) c.args.arena _ c.self.invariant (rw (← c.self.view_is) at c.in_ok-r.ensures.1.1)).free
 
-pub list_record-requires-clause-room : goal.list_record-requires-clause-room
-list_record-requires-clause-room c =
+pub add-requires : goal.add-requires
+add-requires c =
     let m : Machine = machine_of c.self.inside in
     let f : IsFree m.store c.args.arena c.in_ok-r.r = found m _ _ c.self.invariant (rw (← c.self.view_is) at c.in_ok-r.ensures.1.1) in
     room_for m c.args.p c.in_ok-r.r c.self.invariant (rw (← c.self.view_is) at c.in_ok-r.ensures.1.0) f.free (in_range m.store c.in_ok-r.r c.self.invariant.store f.known)
@@ -77,23 +77,23 @@ returns-in-Err-clause-done c = λ _.
 
 -- ---- the machine after, which is that of the command
 
-abbrev was : goal.After-list_record → Machine
+abbrev was : goal.After-add → Machine
 was c = machine_of c.self.inside
 
-abbrev is : goal.After-list_record → Machine
-is c = record (machine_of c.self.inside) { store = c.take.new.self; buffers = c.zeroed.new.self; places = c.list_record.new.places.items }
+abbrev is : goal.After-add → Machine
+is c = record (machine_of c.self.inside) { store = c.take.new.self; buffers = c.zeroed.new.self; places = c.add.new.self }
 
-free : (c : goal.After-list_record) → IsFree (was c).store c.args.arena c.in_ok-r.r
+free : (c : goal.After-add) → IsFree (was c).store c.args.arena c.in_ok-r.r
 free c = found (was c) _ _ c.self.invariant (rw (← c.self.view_is) at c.in_ok-r.ensures.1.1)
 
 -- the machine is what an alloc makes of it
-made : (c : goal.After-list_record) → is c ≡ allocated c.args.p c.in_ok-r.r c.round-len.result (was c)
+made : (c : goal.After-add) → is c ≡ allocated c.args.p c.in_ok-r.r c.round-len.result (was c)
 unfolding allocated
 made c =
     let listed : blocks (was c) c.args.p ≡ (place (was c) c.args.p).blocks.items = current_blocks (was c) c.args.p (rw (← c.self.view_is) at c.in_ok-r.ensures.1.0).0 in
     same_machine (is c) (allocated c.args.p c.in_ok-r.r c.round-len.result (was c)) c.in_default.ensures.store refl
     c.in_ok-zeroed.ensures.done
-    (c.list_record.ensures ∙ ap (λ (xs : List ℕ). slice_set (was c).places (c.args.p % 32) (record (place (was c) c.args.p) { blocks = record { items = xs ++ c.in_ok-r.r ∷ [] } })) (sym listed))
+    (c.add.ensures ∙ ap (λ (xs : List ℕ). slice_set (was c).places (c.args.p % 32) (record (place (was c) c.args.p) { blocks = record { items = xs ++ c.in_ok-r.r ∷ [] } })) (sym listed))
     refl refl refl refl
 
 pub invariant_of-self-2 : goal.invariant_of-self-2

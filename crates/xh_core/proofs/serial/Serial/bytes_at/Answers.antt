@@ -1,10 +1,8 @@
-use Rattle.std.proofs.Common.{◌≡◌, ◌∙◌, ◌+◌, ◌*◌, ◌<◌, ap, length}
-use Rattle.std.specs.Prelude.{slice_index_or}
-use Rattle.std.proofs.lemmas.List.{get_or_default}
+use Rattle.std.proofs.Common.{◌∙◌, ◌+◌, ◌*◌, ap}
 use Rattle.xh_model.specs.declared.event.Holder.TheVariants.{Process}
 use Rattle.xh_model.specs.Store.{bytes_of}
 use Rattle.xh_core.specs.declared.place.Place.{Place}
-use Rattle.xh_core.specs.Machine.{Machine, no_place}
+use Rattle.xh_core.specs.Machine.{Machine}
 use Rattle.xh_core.specs.View.{machine_of}
 use Rattle.xh_core.proofs.Summed.{place_total}
 use Rattle.xh_core.proofs.serial.Serial.bytes_at.Goals as goal
@@ -12,10 +10,8 @@ use Rattle.xh_core.proofs.serial.Serial.bytes_at.Goals as goal
 pub returns-clause-sum : goal.returns-clause-sum
 returns-clause-sum c =
     let m : Machine = machine_of c.self.inside in
-    let there : c.args.at < length m.places = rw c.self.invariant.places c.requires in
-    let place : c.index.result.now ≡ slice_index_or m.places c.args.at no_place = c.index.ensures ∙ get_or_default _ _ _ no_place there in
     rw (← c.self.view_is) (
     c.owned.ensures.is
-    ∙ (ap (λ p. bytes_of m.store (Process p)) (c.number.ensures ∙ ap (λ (x : Place). c.args.at + 32 * x.generation) place)
+    ∙ (ap (λ p. bytes_of m.store (Process p)) (c.number.ensures ∙ ap (λ (x : Place). c.args.at + 32 * x.generation) c.at.ensures)
     ∙ place_total m c.args.at c.self.invariant c.requires)
     )

@@ -69,49 +69,49 @@ shared c =
     all_shared (machine_of c.self.inside) c.args.p c.args.q c.args.arena c.in_ok-r.r c.in_ok-r.t c.take_ends.new.self c.hand_over.new.self c.self.invariant (first_runs c) (second_runs c)
     (more c) c.in_ok-r.ensures.done (handed c) c.hand_over.ensures.lawful
 
-pub list_record-requires-clause-room : goal.list_record-requires-clause-room
-list_record-requires-clause-room c =
-    let d = (goal.at.list_record-requires-clause-room c).After-hand_over in
+pub add-requires : goal.add-requires
+add-requires c =
+    let d = (goal.at.add-requires c).After-hand_over in
     room_p c.hand_over.new.self c.args.p c.args.q c.in_ok-r.r c.in_ok-r.t c.args.contract (machine_of c.self.inside) c.self.invariant (first_runs d) (second_runs d) (more d)
     c.open-channel.ensures.sound (shared d)
 
-pub list_record-requires-2-clause-room : goal.list_record-requires-2-clause-room
-list_record-requires-2-clause-room c =
-    let d = (goal.at.list_record-requires-2-clause-room c).After-hand_over in
+pub add-requires-2 : goal.add-requires-2
+add-requires-2 c =
+    let d = (goal.at.add-requires-2 c).After-hand_over in
     let m : Machine = machine_of c.self.inside in
-    let listed : c.list_record.new.places.items ≡ appended c.args.p c.in_ok-r.r m.places = c.list_record.ensures in
+    let listed : c.add.new.self ≡ appended c.args.p c.in_ok-r.r m.places = c.add.ensures in
     subst (λ (ps : List Place). length (slice_index_or ps (c.args.q % 32) no_place).blocks.items < 2048) (sym listed)
     (room_q c.hand_over.new.self c.args.p c.args.q c.in_ok-r.r c.in_ok-r.t c.args.contract m c.self.invariant (first_runs d) (second_runs d) (more d) c.open-channel.ensures.sound (shared d))
 
 -- ---- the machine at the end
 
-abbrev was : goal.After-list_record-2 → Machine
+abbrev was : goal.After-add-2 → Machine
 was c = machine_of c.self.inside
 
-abbrev is : goal.After-list_record-2 → Machine
+abbrev is : goal.After-add-2 → Machine
 is c = record (machine_of c.self.inside) {
   store = c.hand_over.new.self;
   ends = c.mark_ends.new.ends.items;
-  places = c.list_record-2.new.places.items;
+  places = c.add-2.new.self;
   lines = c.open-channel.new.self.lines;
   contracts = c.open-channel.new.self.contracts;
   opened = c.open-channel.new.self.opened;
 }
 
 -- it is the one with a channel more
-made : (c : goal.After-list_record-2) → is c ≡ connected c.hand_over.new.self c.args.p c.args.q c.in_ok-r.r c.in_ok-r.t c.args.contract (was c)
+made : (c : goal.After-add-2) → is c ≡ connected c.hand_over.new.self c.args.p c.args.q c.in_ok-r.r c.in_ok-r.t c.args.contract (was c)
 made c =
-    let first : c.list_record.new.places.items ≡ appended c.args.p c.in_ok-r.r (was c).places = c.list_record.ensures in
-    let second : c.list_record-2.new.places.items ≡ appended c.args.q c.in_ok-r.t c.list_record.new.places.items = c.list_record-2.ensures in
+    let first : c.add.new.self ≡ appended c.args.p c.in_ok-r.r (was c).places = c.add.ensures in
+    let second : c.add-2.new.self ≡ appended c.args.q c.in_ok-r.t c.add.new.self = c.add-2.ensures in
     same_machine (is c) (connected c.hand_over.new.self c.args.p c.args.q c.in_ok-r.r c.in_ok-r.t c.args.contract (was c)) refl
     (c.mark_ends.ensures ∙ ap (λ (k : ℕ). slice_set (slice_set (was c).ends c.in_ok-r.r (Some (2 * k))) c.in_ok-r.t (Some (2 * k + 1))) c.open-channel.ensures.number) refl
     (second ∙ ap (λ (ps : List Place). appended c.args.q c.in_ok-r.t ps) first)
     c.open-channel.ensures.lines c.open-channel.ensures.contracts c.open-channel.ensures.opened refl
 
-abbrev steps : goal.After-list_record-2 → After-hand_over
+abbrev steps : goal.After-add-2 → After-hand_over
 steps c = (goal.at.returns-clause-is c).After-hand_over
 
-whole : (c : goal.After-list_record-2) → IsWhole (is c)
+whole : (c : goal.After-add-2) → IsWhole (is c)
 whole c =
     subst IsWhole (sym (made c)) (connected_whole c.hand_over.new.self c.args.p c.args.q c.in_ok-r.r c.in_ok-r.t c.args.contract (was c) c.self.invariant (first_runs (steps c))
     (second_runs (steps c)) (more (steps c)) c.open-channel.ensures.sound (shared (steps c)))

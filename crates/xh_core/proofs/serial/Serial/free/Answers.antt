@@ -19,8 +19,8 @@ returns-in_err-check_data c =
     let e = err_from_is_err_and c.from_residual-in_err-check_data.result c.from_residual-in_err-check_data.ensures.1 in
     rw (e.1, e.2) (free_refused c.args.p c.args.r c.args.self.now c.in_err-check_data.field-0.0 c.in_ok-check_start.ensures.0 c.in_err-check_data.ensures)
 
-pub unlist_record-requires-clause-listed : goal.unlist_record-requires-clause-listed
-unlist_record-requires-clause-listed c =
+pub remove-requires : goal.remove-requires
+remove-requires c =
     let m : Machine = machine_of c.self.inside in
     let run : IsRunning m c.args.p = rw (← c.self.view_is) at c.in_ok-check_start.ensures.1 in
     let held : holds m.store (Process c.args.p) c.args.r ≡ true = rw (← c.self.view_is) at c.in_ok-check_data.ensures.1.0 in
@@ -32,8 +32,8 @@ invariant_of-self c =
     let run : IsRunning m c.args.p = rw (← c.self.view_is) at c.in_ok-check_start.ensures.1 in
     let held : holds m.store (Process c.args.p) c.args.r ≡ true = rw (← c.self.view_is) at c.in_ok-check_data.ensures.1.0 in
     let bare : end_of m c.args.r ≡ None = rw (← c.self.view_is) at c.in_ok-check_data.ensures.1.1 in
-    subst IsWhole (sym (freed_is m c.args.p c.args.r c.discard-len.new.self c.clear.new.self c.unlist_record.new.places.items run.0 c.discard-len.ensures.store c.clear.ensures
-    c.unlist_record.ensures))
+    subst IsWhole (sym (freed_is m c.args.p c.args.r c.discard-len.new.self c.clear.new.self c.remove.new.self run.0 c.discard-len.ensures.store c.clear.ensures
+    c.remove.ensures))
     (freed_whole m c.args.p c.args.r c.self.invariant held bare)
 
 pub returns : goal.returns
@@ -43,7 +43,7 @@ returns c =
     let starts : first_refusal (start m c.args.p) ≡ None = rw (← c.self.view_is) at c.in_ok-check_start.ensures.0 in
     let tested : first_refusal (data_tests m c.args.p c.args.r) ≡ None = rw (← c.self.view_is) at c.in_ok-check_data.ensures.0 in
     rw (
-      freed_is m c.args.p c.args.r c.discard-len.new.self c.clear.new.self c.unlist_record.new.places.items run.0 c.discard-len.ensures.store c.clear.ensures c.unlist_record.ensures,
+      freed_is m c.args.p c.args.r c.discard-len.new.self c.clear.new.self c.remove.new.self run.0 c.discard-len.ensures.store c.clear.ensures c.remove.ensures,
       c.discard-len.ensures.length,
       ← c.self.view_is,
     )

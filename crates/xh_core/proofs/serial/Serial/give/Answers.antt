@@ -1,19 +1,15 @@
-use Rattle.std.proofs.Common.{◌≡◌, ◌+◌, ◌%◌, ◌<◌, ℕ, length, sym, ap, ◌∙◌, refl, subst, Ok, get_or-set_other}
+use Rattle.std.proofs.Common.{◌≡◌, ◌+◌, ◌%◌, ℕ, List, sym, ap, ◌∙◌, refl, subst, Ok, get_or-set_other}
 use Rattle.std.specs.Prelude.{slice_index_or, slice_set, unwrap_or}
-use Rattle.std.specs.List.{filter}
-use Rattle.xh_model.specs.declared.event.Holder.TheVariants.{Process}
-use Rattle.xh_model.specs.Store.{holds}
-use Rattle.xh_core.specs.declared.place.Place.{Place}
-use Rattle.xh_core.specs.Machine.{Machine, IsWhole, place, no_place, blocks}
-use Rattle.xh_core.proofs.Machines.{read_at, same_machine, place_there, current_blocks}
+use Rattle.xh_core.specs.Machine.{Machine, IsWhole}
+use Rattle.xh_core.proofs.Machines.{same_machine, current_blocks, peer_ne}
 use Rattle.xh_core.specs.declared.line.Line.{Line}
 use Rattle.xh_core.specs.Machine.{line, no_line, peer, contract_of}
 use Rattle.xh_core.specs.Refusing.{toward}
 use Rattle.xh_core.specs.MessageCommands.{give, given, told_line, put_line, pass_all, without}
 use Rattle.xh_core.specs.inner.Channeling.{ChannelsOf}
 use Rattle.xh_core.specs.inner.Checks.{MayGive}
-use Rattle.xh_core.proofs.Machines.{peer_ne}
-use Rattle.xh_core.proofs.Giving.{given_whole, kept}
+use Rattle.xh_core.specs.inner.Placing.{relisted}
+use Rattle.xh_core.proofs.Giving.{given_whole}
 use Rattle.xh_core.proofs.Wired.{wired_orderly}
 use Rattle.xh_core.specs.View.{machine_of}
 use Rattle.xh_core.proofs.serial.Serial.give.Goals as goal
@@ -25,12 +21,8 @@ was c = machine_of c.self.inside
 
 abbrev is : goal.After-put → Machine
 is c = record (machine_of c.self.inside) {
-  store = c.pass_blocks.new.plain;
-  places = slice_set c.self.inside.places.items c.from.result (record {
-    blocks = c.keep_held.new.list;
-    status = c.index_mut-place.result.now.status;
-    generation = c.index_mut-place.result.now.generation;
-  });
+  store = c.pass_all.new.self;
+  places = c.remove_all.new.self;
   lines = c.put.new.self.lines;
   contracts = c.put.new.self.contracts;
   opened = c.put.new.self.opened;
@@ -66,20 +58,12 @@ other c = get_or-set_other (was c).lines (own c) (peer (own c)) (told c) no_line
 made : (c : goal.After-put) → is c ≡ given c.args.p c.args.e c.args.tag c.args.blocks.now (was c)
 unfolding given
 made c =
-    let within : c.args.p % 32 < length c.self.inside.places.items = place_there (was c) c.args.p c.self.invariant in
-    let place_is : c.index_mut-place.result.now ≡ place (was c) c.args.p =
-    read_at c.self.inside.places.items c.from.result (c.args.p % 32) c.index_mut-place.result.now no_place within c.from.ensures c.index_mut-place.ensures.value in
-    let list : c.index_mut-place.result.now.blocks.items ≡ blocks (was c) c.args.p = ap (λ (x : Place). x.blocks.items) place_is ∙ sym (current_blocks (was c) c.args.p (may c).runs.0) in
-    let store : c.pass_blocks.new.plain ≡ pass_all c.args.p (peer (own c)) c.args.blocks.now (was c).store = c.pass_blocks.ensures
-    ∙ ap (λ d. pass_all c.args.p d c.args.blocks.now c.self.inside.plain) (to c) in
-    let items : c.keep_held.new.list.items ≡ without c.args.blocks.now (blocks (was c) c.args.p) =
-    c.keep_held.ensures ∙ ((λ i. filter (λ r. holds (store i) (Process c.args.p) r) (list i))
-    ∙ kept (was c) c.args.p c.args.e c.args.tag c.args.blocks.now c.self.invariant (may c)) in
     let lines : c.put.new.self.lines ≡ slice_set (slice_set (was c).lines (own c) (told c)) (peer (own c)) (put_line c.args.tag c.args.blocks.now (line (was c) (peer (own c)))) =
     ap (λ (x : ChannelsOf). x.lines) c.put.ensures.line ∙ ((λ i. slice_set (tell c i) (to c i) (put_line c.args.tag c.args.blocks.now (slice_index_or (tell c i) (to c i) no_line)))
     ∙ ap (λ (y : Line). slice_set (slice_set (was c).lines (own c) (told c)) (peer (own c)) (put_line c.args.tag c.args.blocks.now y)) (other c)) in
-    same_machine (is c) (given c.args.p c.args.e c.args.tag c.args.blocks.now (was c)) store refl refl
-    (λ i. slice_set c.self.inside.places.items (c.from.ensures i) (record { blocks = record { items = items i }; status = (place_is i).status; generation = (place_is i).generation }))
+    same_machine (is c) (given c.args.p c.args.e c.args.tag c.args.blocks.now (was c))
+    (c.pass_all.ensures ∙ ap (λ d. pass_all c.args.p d c.args.blocks.now (was c).store) (to c)) refl refl
+    (c.remove_all.ensures ∙ ap (λ (rs : List ℕ). relisted c.args.p (without c.args.blocks.now rs) (was c).places) (sym (current_blocks (was c) c.args.p (may c).runs.0)))
     lines
     (ap (λ (x : ChannelsOf). x.contracts) c.put.ensures.line ∙ ap (λ (x : ChannelsOf). x.contracts) c.tell.ensures)
     (ap (λ (x : ChannelsOf). x.opened) c.put.ensures.line ∙ ap (λ (x : ChannelsOf). x.opened) c.tell.ensures) refl

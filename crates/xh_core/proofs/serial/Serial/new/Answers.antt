@@ -15,7 +15,7 @@ invariant_of-result c =
       store = c.in_ok-plain.plain;
       ends = c.in_ok-no_ends.field-0.items;
       buffers = c.in_ok-none.field-0;
-      places = c.in_ok-new_places.field-0.items;
+      places = c.in_ok-vacant.field-0;
       lines = c.in_ok-none-2.field-0.lines;
       contracts = c.in_ok-none-2.field-0.contracts;
       opened = c.in_ok-none-2.field-0.opened;
@@ -24,6 +24,6 @@ invariant_of-result c =
     let is : c.in_ok-plain.plain ≡ new_store c.args.config = c.in_ok-plain.ensures.fresh in
     let count : 256 * c.from-count.result ≡ 256 * c.args.config.arenas = ap (λ (k : ℕ). 256 * k) c.from-count.ensures in
     let same : m ≡ new_machine c.args.config = same_machine m (new_machine c.args.config) is (c.in_ok-no_ends.ensures ∙ ap (λ (k : ℕ). replicate k None) (c.from.ensures ∙ count))
-    (c.in_ok-none.ensures ∙ ap (λ (k : ℕ). replicate k []) count) c.in_ok-new_places.ensures
+    (c.in_ok-none.ensures ∙ ap (λ (k : ℕ). replicate k []) count) c.in_ok-vacant.ensures
     (ap (λ (x : ChannelsOf). x.lines) c.in_ok-none-2.ensures) (ap (λ (x : ChannelsOf). x.contracts) c.in_ok-none-2.ensures) (ap (λ (x : ChannelsOf). x.opened) c.in_ok-none-2.ensures) refl in
     subst IsWhole (sym same) (new_whole c.args.config c.in_ok-plain.ensures.limits (subst IsLawful is c.in_ok-plain.ensures.lawful))

@@ -59,8 +59,8 @@ part-requires-clause-arena c =
     let may : MaySplit m c.args.p c.args.r c.args.k c.in_ok-t.t = subst (λ (x : Machine). MaySplit x c.args.p c.args.r c.args.k c.in_ok-t.t) (sym c.self.view_is) c.in_ok-t.ensures.1 in
     sym (found m _ _ _ _ c.self.invariant may).arena
 
-pub list_record-requires-clause-room : goal.list_record-requires-clause-room
-list_record-requires-clause-room c =
+pub add-requires : goal.add-requires
+add-requires c =
     let m : Machine = machine_of c.self.inside in
     let may : MaySplit m c.args.p c.args.r c.args.k c.in_ok-t.t = subst (λ (x : Machine). MaySplit x c.args.p c.args.r c.args.k c.in_ok-t.t) (sym c.self.view_is) c.in_ok-t.ensures.1 in
     let f = found m _ _ _ _ c.self.invariant may in
@@ -68,20 +68,20 @@ list_record-requires-clause-room c =
 
 -- ---- the machine after, which is that of the command
 
-abbrev was : goal.After-list_record → Machine
+abbrev was : goal.After-add → Machine
 was c = machine_of c.self.inside
 
-may_split : (c : goal.After-list_record) → MaySplit (was c) c.args.p c.args.r c.args.k c.in_ok-t.t
+may_split : (c : goal.After-add) → MaySplit (was c) c.args.p c.args.r c.args.k c.in_ok-t.t
 may_split c = subst (λ (x : Machine). MaySplit x c.args.p c.args.r c.args.k c.in_ok-t.t) (sym c.self.view_is) c.in_ok-t.ensures.1
 
-made : (c : goal.After-list_record) → record (was c) {
+made : (c : goal.After-add) → record (was c) {
   store = c.part.new.self;
   buffers = c.split.new.self;
-  places = c.list_record.new.places.items;
+  places = c.add.new.self;
 } ≡ parted c.args.p c.args.r c.in_ok-t.t c.args.k (was c)
 made c =
-    parted_is (was c) c.args.p c.args.r c.in_ok-t.t c.args.k c.part.new.self c.split.new.self c.list_record.new.places.items (may_split c).runs.0
-    c.part.ensures.store c.in_ok-split.ensures.done c.list_record.ensures
+    parted_is (was c) c.args.p c.args.r c.in_ok-t.t c.args.k c.part.new.self c.split.new.self c.add.new.self (may_split c).runs.0
+    c.part.ensures.store c.in_ok-split.ensures.done c.add.ensures
 
 pub invariant_of-self-2 : goal.invariant_of-self-2
 invariant_of-self-2 c =

@@ -1,141 +1,114 @@
-use Rattle.std.proofs.Common.{◌≡◌, ◌++◌, ◌+◌, ◌<◌, ℕ, length, sym, ap, ◌∙◌, refl, subst, arith, rules, [], None, true}
-use Rattle.std.specs.Prelude.{slice_index_or, slice_set}
-use Rattle.std.specs.List.{remove}
+use Rattle.std.proofs.Common.{◌≡◌, ◌+◌, ◌<◌, ◌≤◌, ℕ, List, length, sym, ap, ◌∙◌, refl, subst, arith, rules, [], None}
+use Rattle.std.specs.Prelude.{Option, slice_index_or, slice_set}
 use Rattle.xh_model.specs.declared.event.Event.TheVariants.{GiveBack, Vacate}
 use Rattle.xh_model.specs.Store.{all_out, after, len}
-use Rattle.xh_core.specs.Machine.{Machine, IsWhole, is_current, blocks, arriving, end_of, way_in}
+use Rattle.xh_core.specs.Machine.{Machine, IsWhole, blocks, arriving, end_of, way_in}
 use Rattle.xh_core.specs.View.{machine_of}
 use Rattle.xh_core.specs.inner.Channeling.{ChannelsOf}
+use Rattle.xh_core.specs.inner.Placing.{blocks_in}
 use Rattle.xh_core.specs.Sweeping.{accept_from, shut_in, sweep_one}
 use Rattle.xh_core.proofs.Machines.{read_at, same_machine}
-use Rattle.xh_core.proofs.Swept.{entry, end_range, Entry, entry_found}
-use Rattle.xh_core.proofs.Kept.{whole_one, bytes_one, current_one}
-use Rattle.xh_core.proofs.Room.{room}
+use Rattle.xh_core.proofs.Swept.{entry, end_range, entry_read, entry_there, entry_room, entry_left}
+use Rattle.xh_core.proofs.Kept.{whole_one, bytes_one}
 use Rattle.xh_core.proofs.serial.Serial.sweep_one.Goals as goal
-use Rattle.xh_core.proofs.serial.Serial.sweep_one.Goals.{After-from-2, After-index-end, After-remove}
+use Rattle.xh_core.proofs.serial.Serial.sweep_one.Goals.{After-from}
 
 -- ---- the entry, as each step finds it
 
-looked : (c : After-from-2) → Entry (machine_of c.self.inside) c.args.p c.args.from c.index_mut-place.result.now c.deref.result.now
-looked c =
-    let m : Machine = machine_of c.self.inside in
-    let l : c.args.from < length (blocks m c.args.p) = subst (λ (x : Machine). c.args.from < length (blocks x c.args.p)) (sym c.self.view_is) c.requires in
-    entry_found m c.args.p c.args.from c.from.result c.index_mut-place.result.now c.deref.result.now c.self.invariant l c.from.ensures c.index_mut-place.ensures.value c.deref.ensures.0
+abbrev was : After-from → Machine
+was c = machine_of c.self.inside
 
-end_is : (c : After-index-end) → Entry (machine_of c.self.inside) c.args.p c.args.from c.index_mut-place.result.now c.deref.result.now →
-    c.index-end.result.now ≡ end_of (machine_of c.self.inside) (entry (machine_of c.self.inside) c.args.p c.args.from)
-end_is c f =
-    let m : Machine = machine_of c.self.inside in
-    let kinds : length m.ends ≡ length m.store.owners = c.self.invariant.kinds in
-    let there : entry m c.args.p c.args.from < length m.store.owners = f.there in
-    read_at m.ends c.from-2.result (entry m c.args.p c.args.from) c.index-end.result.now None (omega (arith, kinds, there)) (c.from-2.ensures ∙ f.read) c.index-end.ensures
+has : (c : After-from) → c.args.from < length (blocks (was c) c.args.p)
+has c = subst (λ (x : Machine). c.args.from < length (blocks x c.args.p)) (sym c.self.view_is) c.requires
+
+abbrev record_of : After-from → ℕ
+record_of c = entry (was c) c.args.p c.args.from
+
+read : (c : After-from) → slice_index_or c.blocks-2.result.now c.args.from 0 ≡ record_of c
+read c = entry_read (was c) c.args.p c.args.from c.blocks-2.result.now (has c) c.blocks-2.ensures.list
+
+kind_there : (c : After-from) → record_of c < length c.self.inside.ends.items
+kind_there c = subst (λ (n : ℕ). record_of c < n) (sym c.self.invariant.kinds) (entry_there (was c) c.args.p c.args.from c.self.invariant (has c))
+
+buffer_there : (c : After-from) → record_of c < length c.self.inside.memory
+buffer_there c = subst (λ (n : ℕ). record_of c < n) (sym c.self.invariant.buffers) (entry_there (was c) c.args.p c.args.from c.self.invariant (has c))
 
 pub index-end-requires : goal.index-end-requires
 index-end-requires c =
-    let m : Machine = machine_of c.self.inside in
-    let f = looked (goal.at.index-end-requires c).After-from-2 in
-    let kinds : length c.self.inside.ends.items ≡ length c.self.inside.plain.owners = c.self.invariant.kinds in
-    let at : c.from-2.result ≡ entry m c.args.p c.args.from = c.from-2.ensures ∙ f.read in
-    let there : entry m c.args.p c.args.from < length c.self.inside.plain.owners = f.there in
-    let n : c.from-2.result < length c.self.inside.ends.items = omega (arith, at, kinds, there) in
+    let d = (goal.at.index-end-requires c).After-from in
+    let n : c.from.result < length c.self.inside.ends.items = rw (c.from.ensures, read d) (kind_there d) in
     search (rules, n)
 
-pub shut-requires-clause-room : goal.shut-requires-clause-room
-shut-requires-clause-room c =
-    let m : Machine = machine_of c.self.inside in
-    let f = looked (goal.at.shut-requires-clause-room c).After-from-2 in
-    let end = end_is (goal.at.shut-requires-clause-room c).After-index-end f in
-    rw (f.list, end) (room m c.args.p (end_of m (entry m c.args.p c.args.from)) c.self.invariant)
+-- the direction that is read, toward the entry where it is an endpoint
+end_is : (c : After-from) (end : Option ℕ) → end ≡ slice_index_or c.self.inside.ends.items c.from.result end → end ≡ end_of (was c) (record_of c)
+end_is c end e = read_at c.self.inside.ends.items c.from.result (record_of c) end None (kind_there c) (c.from.ensures ∙ read c) e
 
-pub shut-requires-clause-there : goal.shut-requires-clause-there
-shut-requires-clause-there c = λ d e.
-    let m : Machine = machine_of c.self.inside in
-    let end = end_is (goal.at.shut-requires-clause-there c).After-index-end (looked (goal.at.shut-requires-clause-there c).After-from-2) in
-    rw c.self.invariant.lines at (end_range m (entry m c.args.p c.args.from) c.self.invariant d (sym end ∙ e))
+pub shut-came-requires : goal.shut-came-requires
+shut-came-requires c = λ k e.
+    let d = (goal.at.shut-came-requires c).After-from in
+    let end = end_is d c.index-end.result.now c.index-end.ensures in
+    rw c.self.invariant.lines at (end_range (was d) (record_of d) c.self.invariant k (sym end ∙ e))
+
+pub add_all-requires : goal.add_all-requires
+add_all-requires c =
+    let d = (goal.at.add_all-requires c).After-from in
+    subst (λ (xs : List ℕ). length (blocks_in c.self.inside.places c.args.p) + length xs ≤ 2048) (sym (c.as_slice-2.ensures.value ∙ c.shut-came.ensures.records))
+    (entry_room (was d) c.args.p c.args.from c.index-end.result.now c.self.invariant (has d))
 
 pub index_mut-requires : goal.index_mut-requires
 index_mut-requires c =
-    let m : Machine = machine_of c.self.inside in
-    let f = looked (goal.at.index_mut-requires c).After-from-2 in
-    let kinds : length c.self.inside.ends.items ≡ length c.self.inside.plain.owners = c.self.invariant.kinds in
-    let at : c.from-3.result ≡ entry m c.args.p c.args.from = c.from-3.ensures ∙ f.read in
-    let there : entry m c.args.p c.args.from < length c.self.inside.plain.owners = f.there in
-    let n : c.from-3.result < length c.self.inside.ends.items = omega (arith, at, kinds, there) in
+    let d = (goal.at.index_mut-requires c).After-from in
+    let n : c.from-2.result < length c.self.inside.ends.items = rw (c.from-2.ensures, read d) (kind_there d) in
     search (rules, n)
 
 pub clear-requires : goal.clear-requires
-clear-requires c =
-    let m : Machine = machine_of c.self.inside in
-    let f = looked (goal.at.clear-requires c).After-from-2 in
-    let long : length c.self.inside.memory ≡ length c.self.inside.plain.owners = c.self.invariant.buffers in
-    let read : slice_index_or c.deref.result.now c.args.from 0 ≡ entry m c.args.p c.args.from = f.read in
-    let there : entry m c.args.p c.args.from < length c.self.inside.plain.owners = f.there in
-    omega (arith, read, long, there)
+clear-requires c = let d = (goal.at.clear-requires c).After-from in rw (read d) (buffer_there d)
 
--- ---- the machine before and after
+-- ---- the machine after
 
-abbrev was : After-remove → Machine
-was c = machine_of c.self.inside
-
-abbrev is : After-remove → Machine
+abbrev is : goal.After-remove_at → Machine
 is c = record (machine_of c.self.inside) {
-  store = c.step-2.new.self;
-  ends = slice_set c.self.inside.ends.items c.from-3.result None;
+  store = c.discard.new.self;
+  ends = slice_set c.self.inside.ends.items c.from-2.result None;
   buffers = c.clear.new.self;
-  places = slice_set c.self.inside.places.items c.from.result (record c.index_mut-place.result.now { blocks = c.remove.new.self });
-  lines = c.shut.new.channels.lines;
-  contracts = c.shut.new.channels.contracts;
-  opened = c.shut.new.channels.opened;
+  places = c.remove_at.new.self;
+  lines = c.shut-came.new.self.lines;
+  contracts = c.shut-came.new.self.contracts;
+  opened = c.shut-came.new.self.opened;
 }
 
-has_entry : (c : After-remove) → c.args.from < length (blocks (was c) c.args.p)
-has_entry c = subst (λ (x : Machine). c.args.from < length (blocks x c.args.p)) (sym c.self.view_is) c.requires
+abbrev begun : goal.After-remove_at → After-from
+begun c = (goal.at.returns-clause-is c).After-from
 
 -- it is the one after the sweep of the entry
-made : (c : After-remove) → is c ≡ sweep_one c.args.p c.args.from (was c)
+made : (c : goal.After-remove_at) → is c ≡ sweep_one c.args.p c.args.from (was (begun c))
 unfolding sweep_one
 made c =
-    let m : Machine = was c in
-    let p : ℕ = c.args.p in
-    let r : ℕ = entry m p c.args.from in
-    let f : Entry m p c.args.from c.index_mut-place.result.now c.deref.result.now =
-    entry_found m p c.args.from c.from.result c.index_mut-place.result.now c.deref.result.now c.self.invariant (has_entry c) c.from.ensures c.index_mut-place.ensures.value c.deref.ensures.0 in
-    let kinds : length m.ends ≡ length m.store.owners = c.self.invariant.kinds in
-    let there : r < length m.store.owners = f.there in
-    let end : c.index-end.result.now ≡ end_of m r =
-    read_at m.ends c.from-2.result r c.index-end.result.now None (omega (arith, kinds, there)) (c.from-2.ensures ∙ f.read) c.index-end.ensures in
-    let shut_store : c.shut.new.plain ≡ accept_from p (end_of m r) (arriving m r) m.store = c.shut.ensures.store ∙ ap (λ o. accept_from p o (way_in m.lines o) m.store) end in
-    let store : c.step-2.new.self ≡ (sweep_one p c.args.from m).store =
-    c.step-2.ensures.after
-    ∙ (ap (after (Vacate p (slice_index_or c.deref.result.now c.args.from 0))) (c.step.ensures.after ∙ ap (after (GiveBack p (slice_index_or c.deref.result.now c.args.from 0))) shut_store)
-    ∙ ap (λ q. after (Vacate p q) (after (GiveBack p q) (accept_from p (end_of m r) (arriving m r) m.store))) f.read) in
-    let items : c.remove.new.self.items ≡ remove (blocks m p ++ arriving m r) c.args.from =
-    c.remove.ensures.items ∙ ap (λ xs. remove xs c.args.from) (c.shut.ensures.list ∙ (λ i. f.list i ++ way_in m.lines (end i))) in
-    let lines : c.shut.new.channels.lines ≡ shut_in m.contracts m.lines (end_of m r) = ap (λ (x : ChannelsOf). x.lines) c.shut.ensures.channels ∙ ap (shut_in m.contracts m.lines) end in
-    same_machine (is c) (sweep_one p c.args.from m) store
-    (ap (λ q. slice_set m.ends q None) (c.from-3.ensures ∙ f.read))
-    (c.clear.ensures ∙ ap (λ q. slice_set m.buffers q []) f.read)
-    (λ i. slice_set m.places (c.from.ensures i) (record (f.here i) { blocks = record { items = items i } }))
-    lines (ap (λ (x : ChannelsOf). x.contracts) c.shut.ensures.channels) (ap (λ (x : ChannelsOf). x.opened) c.shut.ensures.channels) refl
+    let m : Machine = was (begun c) in
+    let r : ℕ = record_of (begun c) in
+    let end : c.index-end.result.now ≡ end_of m r = end_is (begun c) c.index-end.result.now c.index-end.ensures in
+    let came : c.shut-came.result.items ≡ arriving m r = c.shut-came.ensures.records ∙ ap (way_in m.lines) end in
+    let accepted : c.accept_from.new.self ≡ accept_from c.args.p (end_of m r) (arriving m r) m.store =
+    c.accept_from.ensures ∙ (λ i. accept_from c.args.p (end i) ((c.as_slice.ensures.value ∙ came) i) m.store) in
+    same_machine (is c) (sweep_one c.args.p c.args.from m)
+    (c.discard.ensures.store ∙ (λ i. after (Vacate c.args.p (read (begun c) i)) (after (GiveBack c.args.p (read (begun c) i)) (accepted i))))
+    (ap (λ q. slice_set m.ends q None) (c.from-2.ensures ∙ read (begun c)))
+    (c.clear.ensures ∙ ap (λ q. slice_set m.buffers q []) (read (begun c)))
+    (entry_left m c.args.p c.args.from c.as_slice-2.result.now c.add_all.new.self c.remove_at.new.self c.self.invariant (has (begun c)) (c.as_slice-2.ensures.value ∙ came) c.add_all.ensures
+    c.remove_at.ensures)
+    (ap (λ (x : ChannelsOf). x.lines) c.shut-came.ensures.lines ∙ ap (shut_in m.contracts m.lines) end)
+    (ap (λ (x : ChannelsOf). x.contracts) c.shut-came.ensures.lines) (ap (λ (x : ChannelsOf). x.opened) c.shut-came.ensures.lines) refl
 
 pub invariant_of-self : goal.invariant_of-self
-invariant_of-self c =
-    let d = (goal.at.invariant_of-self c).After-remove in
-    subst IsWhole (sym (made d)) (whole_one (was d) c.args.p c.args.from c.self.invariant (has_entry d))
+invariant_of-self c = subst IsWhole (sym (made c)) (whole_one (was (begun c)) c.args.p c.args.from c.self.invariant (has (begun c)))
 
 pub returns-clause-is : goal.returns-clause-is
-returns-clause-is c = let d = (goal.at.returns-clause-is c).After-remove in made d ∙ ap (sweep_one c.args.p c.args.from) c.self.view_is
+returns-clause-is c = made c ∙ ap (sweep_one c.args.p c.args.from) c.self.view_is
 
 pub returns-clause-bytes : goal.returns-clause-bytes
 returns-clause-bytes c =
-    let d = (goal.at.returns-clause-bytes c).After-remove in
-    let m : Machine = was d in
-    let b : len m.store (entry m c.args.p c.args.from) + all_out (sweep_one c.args.p c.args.from m).store ≡ all_out m.store = bytes_one m c.args.p c.args.from c.self.invariant (has_entry d) in
-    let out : all_out c.step-2.new.self ≡ all_out (sweep_one c.args.p c.args.from m).store = ap (λ (x : Machine). all_out x.store) (made d) in
+    let m : Machine = was (begun c) in
+    let b : len m.store (record_of (begun c)) + all_out (sweep_one c.args.p c.args.from m).store ≡ all_out m.store = bytes_one m c.args.p c.args.from c.self.invariant (has (begun c)) in
+    let out : all_out c.discard.new.self ≡ all_out (sweep_one c.args.p c.args.from m).store = ap (λ (x : Machine). all_out x.store) (made c) in
     let same : all_out m.store ≡ all_out c.args.self.now.store = ap (λ (x : Machine). all_out x.store) c.self.view_is in
     omega (arith, b, out, same)
-
-pub returns-clause-current : goal.returns-clause-current
-returns-clause-current c =
-    let d = (goal.at.returns-clause-current c).After-remove in
-    subst (λ (x : Machine). is_current x c.args.p ≡ true) (sym (made d)) (current_one (was d) c.args.p c.args.from c.self.invariant (has_entry d))

@@ -1,4 +1,4 @@
-use Rattle.std.proofs.Common.{◌≡◌, ◌++◌, ◌-◌, ◌%◌, ℕ, sym, ap, ◌∙◌, refl, subst, Ok}
+use Rattle.std.proofs.Common.{◌≡◌, ◌++◌, ◌+◌, ◌-◌, ◌%◌, ◌≤◌, ℕ, List, length, sym, ap, ◌∙◌, refl, subst, Ok}
 use Rattle.std.specs.Prelude.{slice_set}
 use Rattle.xh_core.specs.declared.message.Message.{Message}
 use Rattle.xh_core.specs.Machine.{Machine, IsWhole, blocks, line, contract_of}
@@ -8,79 +8,82 @@ use Rattle.xh_core.specs.Sweeping.{accept_all}
 use Rattle.xh_core.specs.MessageCommands.{is_banned, take, taken, taken_line, told, front, described}
 use Rattle.xh_core.specs.inner.Channeling.{ChannelsOf}
 use Rattle.xh_core.specs.inner.Checks.{MayTake}
-use Rattle.xh_core.proofs.Machines.{same_machine}
+use Rattle.xh_core.specs.inner.Placing.{blocks_in, relisted}
+use Rattle.xh_core.proofs.Machines.{current_blocks, same_machine}
 use Rattle.xh_core.proofs.Taking.{Found, found, found_room, front_allowed, taken_whole}
 use Rattle.xh_core.proofs.Wired.{wired_orderly}
 use Rattle.xh_core.proofs.serial.Serial.take.Goals as goal
-use Rattle.xh_core.proofs.serial.Serial.take.Goals.{After-accept_blocks}
+use Rattle.xh_core.proofs.serial.Serial.take.Goals.{After-take_front-message}
 
-pub accept_blocks-requires : goal.accept_blocks-requires
-accept_blocks-requires c =
-    let m : Machine = machine_of c.self.inside in
-    let may : MayTake m c.args.p c.args.e c.in_ok-d.d = subst (λ (x : Machine). MayTake x c.args.p c.args.e c.in_ok-d.d) (sym c.self.view_is) c.in_ok-d.ensures.1 in
-    found_room m c.args.p c.args.e c.in_ok-d.d c.index_mut-place.result.now c.take_front-message.result c.as_slice.result.now c.self.invariant
-    (found m c.args.p c.args.e c.in_ok-d.d c.from.result c.index_mut-place.result.now c.take_front-message.result c.as_slice.result.now c.self.invariant may c.from.ensures
-    c.index_mut-place.ensures.value c.take_front-message.ensures.front c.as_slice.ensures.value)
+-- ---- the message that is taken
 
--- ---- the machine before and after
-
-abbrev was : After-accept_blocks → Machine
+abbrev was : After-take_front-message → Machine
 was c = machine_of c.self.inside
 
-abbrev own : After-accept_blocks → ℕ
-own c = toward (was c) c.args.e
+had : (c : After-take_front-message) → Found (was c) c.args.p c.args.e c.in_ok-d.d c.take_front-message.result
+had c =
+    found (was c) c.args.p c.args.e c.in_ok-d.d c.take_front-message.result (subst (λ (x : Machine). MayTake x c.args.p c.args.e c.in_ok-d.d) (sym c.self.view_is) c.in_ok-d.ensures.1)
+    c.take_front-message.ensures.front
 
-abbrev is : After-accept_blocks → Machine
+pub add_all-requires : goal.add_all-requires
+add_all-requires c =
+    let d = (goal.at.add_all-requires c).After-take_front-message in
+    subst (λ (xs : List ℕ). length (blocks_in c.self.inside.places c.args.p) + length xs ≤ 2048) (sym c.as_slice-2.ensures.value)
+    (found_room (was d) c.args.p c.args.e c.in_ok-d.d c.take_front-message.result c.self.invariant (had d))
+
+-- ---- the machine after
+
+abbrev begun : goal.After-add_all → After-take_front-message
+begun c = (goal.at.returns-clause-is c).After-take_front-message
+
+abbrev own : goal.After-add_all → ℕ
+own c = toward (was (begun c)) c.args.e
+
+abbrev is : goal.After-add_all → Machine
 is c = record (machine_of c.self.inside) {
-  store = c.accept_blocks.new.plain;
-  places = slice_set c.self.inside.places.items c.from.result (record c.index_mut-place.result.now { blocks = c.accept_blocks.new.list });
+  store = c.accept_all.new.self;
+  places = c.add_all.new.self;
   lines = c.take_front-message.new.self.lines;
   contracts = c.take_front-message.new.self.contracts;
   opened = c.take_front-message.new.self.opened;
 }
 
-had : (c : After-accept_blocks) → Found (was c) c.args.p c.args.e c.in_ok-d.d c.index_mut-place.result.now c.take_front-message.result c.as_slice.result.now
-had c =
-    let may : MayTake (was c) c.args.p c.args.e c.in_ok-d.d = subst (λ (x : Machine). MayTake x c.args.p c.args.e c.in_ok-d.d) (sym c.self.view_is) c.in_ok-d.ensures.1 in
-    found (was c) c.args.p c.args.e c.in_ok-d.d c.from.result c.index_mut-place.result.now c.take_front-message.result c.as_slice.result.now c.self.invariant may c.from.ensures
-    c.index_mut-place.ensures.value c.take_front-message.ensures.front c.as_slice.ensures.value
-
 -- it is the one after the command
-made : (c : After-accept_blocks) → is c ≡ taken c.args.p c.args.e (was c)
+made : (c : goal.After-add_all) → is c ≡ taken c.args.p c.args.e (was (begun c))
 unfolding taken
 made c =
-    let m : Machine = was c in
-    let at : c.in_ok-d.d ≡ own c = sym (had c).at in
-    let store : c.accept_blocks.new.plain ≡ accept_all c.args.p (own c) (front m c.args.e).blocks.items m.store =
-    c.accept_blocks.ensures.store ∙ (λ i. accept_all c.args.p (at i) ((had c).came i) m.store) in
-    let items : c.accept_blocks.new.list.items ≡ blocks m c.args.p ++ (front m c.args.e).blocks.items = c.accept_blocks.ensures.list ∙ (λ i. (had c).list i ++ (had c).came i) in
-    let lines : c.take_front-message.new.self.lines ≡ slice_set m.lines (own c) (taken_line (contract_of m.contracts (own c)) (1 - own c % 2) (front m c.args.e).tag (line m (own c))) =
-    ap (λ (x : ChannelsOf). x.lines) c.take_front-message.ensures.line
-    ∙ (λ i. slice_set m.lines (at i) (taken_line (contract_of m.contracts (at i)) (1 - at i % 2) ((had c).first i).tag (line m (at i)))) in
-    same_machine (is c) (taken c.args.p c.args.e m) store refl refl
-    (λ i. slice_set m.places (c.from.ensures i) (record ((had c).here i) { blocks = record { items = items i } }))
-    lines (ap (λ (x : ChannelsOf). x.contracts) c.take_front-message.ensures.line) (ap (λ (x : ChannelsOf). x.opened) c.take_front-message.ensures.line) refl
+    let m : Machine = was (begun c) in
+    let h : Found m c.args.p c.args.e c.in_ok-d.d c.take_front-message.result = had (begun c) in
+    let at : c.in_ok-d.d ≡ own c = sym h.at in
+    let came : c.take_front-message.result.blocks.items ≡ (front m c.args.e).blocks.items = ap (λ (x : Message). x.blocks.items) h.first in
+    let listed : blocks_in m.places c.args.p ≡ blocks m c.args.p = sym (current_blocks m c.args.p h.may.runs.0) in
+    same_machine (is c) (taken c.args.p c.args.e m)
+    (c.accept_all.ensures ∙ (λ i. accept_all c.args.p (at i) ((c.as_slice.ensures.value ∙ came) i) m.store)) refl refl
+    (c.add_all.ensures ∙ (λ i. relisted c.args.p (listed i ++ (c.as_slice-2.ensures.value ∙ came) i) m.places))
+    (ap (λ (x : ChannelsOf). x.lines) c.take_front-message.ensures.line
+    ∙ (λ i. slice_set m.lines (at i) (taken_line (contract_of m.contracts (at i)) (1 - at i % 2) (h.first i).tag (line m (at i)))))
+    (ap (λ (x : ChannelsOf). x.contracts) c.take_front-message.ensures.line) (ap (λ (x : ChannelsOf). x.opened) c.take_front-message.ensures.line) refl
 
-whole : (c : After-accept_blocks) → IsWhole (is c)
-whole c = subst IsWhole (sym (made c)) (taken_whole (was c) c.args.p c.args.e c.self.invariant (had c).may)
+whole : (c : goal.After-add_all) → IsWhole (is c)
+whole c = subst IsWhole (sym (made c)) (taken_whole (was (begun c)) c.args.p c.args.e c.self.invariant (had (begun c)).may)
 
 pub invariant_of-self : goal.invariant_of-self
-invariant_of-self c = whole (goal.at.invariant_of-self c).After-accept_blocks
+invariant_of-self c = whole c
 
 pub returns-clause-is : goal.returns-clause-is
 unfolding take
 returns-clause-is c =
-    let d = (goal.at.returns-clause-is c).After-accept_blocks in
-    let m : Machine = was d in
+    let m : Machine = was (begun c) in
     let blocks_are : c.describe-blocks.result.items ≡ described m.store (front m c.args.e).blocks.items =
-    c.describe-blocks.ensures ∙ ap (λ (x : Message). described m.store x.blocks.items) (had d).first in
+    c.describe-blocks.ensures ∙ ap (λ (x : Message). described m.store x.blocks.items) (had (begun c)).first in
     let answer : told c.args.self.now (front c.args.self.now c.args.e) ≡ record { no = c.take_front-message.result.no; tag = c.take_front-message.result.tag; blocks = c.describe-blocks.result } =
-    sym ((λ i. record { no = ((had d).first i).no; tag = ((had d).first i).tag; blocks = record { items = blocks_are i } }) ∙ ap (λ (x : Machine). told x (front x c.args.e)) c.self.view_is) in
-    let left : taken c.args.p c.args.e c.args.self.now ≡ is d = sym (made d ∙ ap (taken c.args.p c.args.e) c.self.view_is) in
+    sym ((λ i. record { no = ((had (begun c)).first i).no; tag = ((had (begun c)).first i).tag; blocks = record { items = blocks_are i } })
+    ∙ ap (λ (x : Machine). told x (front x c.args.e)) c.self.view_is) in
+    let left : taken c.args.p c.args.e c.args.self.now ≡ is c = sym (made c ∙ ap (taken c.args.p c.args.e) c.self.view_is) in
     rw (c.in_ok-d.ensures.0) (λ i. (Ok (answer i), left i))
 
 pub returns-clause-orderly : goal.returns-clause-orderly
-returns-clause-orderly c = let d = (goal.at.returns-clause-orderly c).After-accept_blocks in wired_orderly (is d) (whole d).wired
+returns-clause-orderly c = wired_orderly (is c) (whole c).wired
 
 pub returns-in_err-d-clause-orderly : goal.returns-in_err-d-clause-orderly
 returns-in_err-d-clause-orderly c =
@@ -89,7 +92,7 @@ returns-in_err-d-clause-orderly c =
 
 pub returns-clause-allowed : goal.returns-clause-allowed
 returns-clause-allowed c =
-    let d = (goal.at.returns-clause-allowed c).After-accept_blocks in
-    let m : Machine = was d in
+    let m : Machine = was (begun c) in
     ap (λ (x : Machine). is_banned (contract_of x.contracts (toward x c.args.e)) (1 - toward x c.args.e % 2) (line x (toward x c.args.e)).state c.take_front-message.result.tag) (sym c.self.view_is)
-    ∙ (ap (λ (x : Message). is_banned (contract_of m.contracts (own d)) (1 - own d % 2) (line m (own d)).state x.tag) (had d).first ∙ front_allowed m c.args.p c.args.e c.self.invariant (had d).may)
+    ∙ (ap (λ (x : Message). is_banned (contract_of m.contracts (own c)) (1 - own c % 2) (line m (own c)).state x.tag) (had (begun c)).first
+    ∙ front_allowed m c.args.p c.args.e c.self.invariant (had (begun c)).may)

@@ -1,6 +1,6 @@
 use Rattle.std.proofs.Common.{◌≡◌, take}
 use Rattle.xh_core.specs.MessageCommands.{described}
-use Rattle.xh_core.proofs.serial.messages.describe.Given as goal
+use Rattle.xh_core.proofs.plain.Plain.describe.Given as goal
 
 abbrev pub invariant-loop-r : goal.invariant-loop-r
-invariant-loop-r l = l.list.items ≡ described l.plain (take l.r-index l.blocks.items)
+invariant-loop-r l = l.list.items ≡ described l.self (take l.r-index l.blocks.items)

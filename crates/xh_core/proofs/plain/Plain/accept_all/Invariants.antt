@@ -1,0 +1,6 @@
+use Rattle.std.proofs.Common.{◌≡◌, drop}
+use Rattle.xh_core.specs.Sweeping.{accept_all}
+use Rattle.xh_core.proofs.plain.Plain.accept_all.Given as goal
+
+abbrev pub invariant-loop-r : goal.invariant-loop-r
+invariant-loop-r l = accept_all l.p l.d (drop l.r-index l.blocks) l.self ≡ accept_all l.p l.d l.blocks l.fn.self

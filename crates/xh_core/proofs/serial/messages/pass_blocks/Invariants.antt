@@ -1,6 +1,0 @@
-use Rattle.std.proofs.Common.{◌≡◌, drop}
-use Rattle.xh_core.specs.MessageCommands.{pass_all}
-use Rattle.xh_core.proofs.serial.messages.pass_blocks.Given as goal
-
-abbrev pub invariant-loop-r : goal.invariant-loop-r
-invariant-loop-r l = pass_all l.p l.d (drop l.r-index l.blocks) l.plain ≡ pass_all l.p l.d l.blocks l.fn.plain
