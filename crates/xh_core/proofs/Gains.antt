@@ -11,6 +11,7 @@ use Rattle.xh_model.specs.Store.{Store, owner, len, holds, same_holder, is_held_
 use Rattle.xh_core.specs.declared.place.Place.{Place}
 use Rattle.xh_core.specs.Machine.{Machine, place, is_current, is_vacant, is_ended, blocks, buffer, with_list, end_of, listed, on_way, way_in, times, no_line, AreWired, IsEnd, IsWhole}
 use Rattle.xh_core.specs.inner.Gaining.{Gained}
+use Rattle.xh_core.specs.inner.Holding.{BlocksOf, with_bytes}
 use Rattle.xh_core.specs.inner.Placing.{place_in}
 use Rattle.xh_core.specs.Refusing.{IsRunning}
 use Rattle.xh_model.specs.declared.event.Event.TheVariants.{Claim, Carve, Cut, GiveBack, Vacate}
@@ -22,7 +23,7 @@ use Rattle.xh_core.proofs.Kept.{whole_one}
 use Rattle.xh_core.proofs.Fresh.{long_replicate}
 use Rattle.xh_core.proofs.Stores.{times-cons, is_there}
 use Rattle.xh_core.proofs.Room.{few, few_records, held_there}
-use Rattle.xh_core.proofs.Machines.{runs_busy, same_machine, current_blocks, list_in, list_here, list_else, current_generation, place_there, IsPlace, generations_set, idle_set, busy_place}
+use Rattle.xh_core.proofs.Machines.{blocks_of, runs_busy, same_machine, current_blocks, list_in, list_here, list_else, current_generation, place_there, IsPlace, generations_set, idle_set, busy_place}
 
 cases_holder : (a b : Holder) → (a ≡ b) ⊎ (a ≢ b)
 cases_holder (Process p) (Process q) = elim (cases_eq p q) [ inl e ↦ inl (ap (λ (x : ℕ). Process x) e) | inr n ↦ inr (λ e. n cc) ]
@@ -227,13 +228,14 @@ listed_place m p r w run h =
     subst (λ (xs : List ℕ). position_or_len (λ q. q == r) xs < length xs) (current_blocks m p run.0) there
 
 -- the machine whose fields these are is what a free makes of m
-pub freed_is : (m : Machine) (p r : ℕ) (s : Store) (bs : List (List ℕ)) (ps : List Place) → is_current m p ≡ true → s ≡ after (Vacate p r) (after (GiveBack p r) m.store) →
-    bs ≡ slice_set m.buffers r [] →
+pub freed_is : (m : Machine) (p r : ℕ) (s : Store) (b : BlocksOf) (ps : List Place) → is_current m p ≡ true → s ≡ after (Vacate p r) (after (GiveBack p r) m.store) →
+    b ≡ with_bytes r [] (blocks_of m) →
     ps ≡ slice_set m.places (p % 32) (record (place m p) { blocks = record { items = remove (place m p).blocks.items (position_or_len (λ q. q == r) (place m p).blocks.items) } }) →
-    record m { store = s; buffers = bs; places = ps } ≡ freed_block p r m
+    record m { store = s; ends = b.ends; buffers = b.buffers; places = ps } ≡ freed_block p r m
 unfolding freed_block
-freed_is m p r s bs ps c store buffers listed =
-    same_machine (record m { store = s; buffers = bs; places = ps }) (freed_block p r m) store refl buffers
+freed_is m p r s b ps c store held listed =
+    same_machine (record m { store = s; ends = b.ends; buffers = b.buffers; places = ps }) (freed_block p r m) store
+    (ap (λ (x : BlocksOf). x.ends) held) (ap (λ (x : BlocksOf). x.buffers) held)
     (listed ∙ ap (λ (xs : List ℕ). slice_set m.places (p % 32) (record (place m p) { blocks = record { items = remove xs (position_or_len (λ q. q == r) xs) } })) (sym (current_blocks m p c)))
     refl refl refl refl
 
@@ -329,12 +331,13 @@ pub buffer_length : (m : Machine) (r : ℕ) → IsWhole m → end_of m r ≡ Non
 buffer_length m r w d = w.bytes r ∙ rw d refl
 
 -- the machine whose fields these are is what a split makes of m
-pub parted_is : (m : Machine) (p r t k : ℕ) (s : Store) (bs : List (List ℕ)) (ps : List Place) → is_current m p ≡ true → s ≡ after (Cut p r t k) (after (Claim p t) m.store) →
-    bs ≡ slice_set (slice_set m.buffers t (drop k (buffer m r))) r (take k (buffer m r)) →
+pub parted_is : (m : Machine) (p r t k : ℕ) (s : Store) (b : BlocksOf) (ps : List Place) → is_current m p ≡ true → s ≡ after (Cut p r t k) (after (Claim p t) m.store) →
+    b ≡ with_bytes r (take k (buffer m r)) (with_bytes t (drop k (buffer m r)) (blocks_of m)) →
     ps ≡ slice_set m.places (p % 32) (record (place m p) { blocks = record { items = (place m p).blocks.items ++ t ∷ [] } }) →
-    record m { store = s; buffers = bs; places = ps } ≡ parted p r t k m
+    record m { store = s; ends = b.ends; buffers = b.buffers; places = ps } ≡ parted p r t k m
 unfolding parted
-parted_is m p r t k s bs ps current store buffers listed =
-    same_machine (record m { store = s; buffers = bs; places = ps }) (parted p r t k m) store refl buffers
+parted_is m p r t k s b ps current store held listed =
+    same_machine (record m { store = s; ends = b.ends; buffers = b.buffers; places = ps }) (parted p r t k m) store
+    (ap (λ (x : BlocksOf). x.ends) held) (ap (λ (x : BlocksOf). x.buffers) held)
     (listed ∙ ap (λ (xs : List ℕ). slice_set m.places (p % 32) (record (place m p) { blocks = record { items = xs ++ t ∷ [] } })) (sym (current_blocks m p current)))
     refl refl refl refl

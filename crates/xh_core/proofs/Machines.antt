@@ -9,12 +9,17 @@ use Rattle.xh_core.specs.declared.status.Status.{Status}
 use Rattle.xh_core.specs.declared.status.Status.TheVariants.{Vacant, Running, Ending, Ended}
 use Rattle.xh_core.specs.Machine.{Machine, place, is_current, blocks, no_place, no_line, is_vacant, is_running, is_ended, peer, carried, IsWhole}
 use Rattle.xh_core.specs.Refusing.{IsRunning}
+use Rattle.xh_core.specs.inner.Holding.{BlocksOf}
 use Rattle.xh_core.specs.inner.Placing.{place_in, blocks_in, relisted}
 
 -- machines with the same parts are one
 pub same_machine : (a b : Machine) → a.store ≡ b.store → a.ends ≡ b.ends → a.buffers ≡ b.buffers → a.places ≡ b.places → a.lines ≡ b.lines → a.contracts ≡ b.contracts → a.opened ≡ b.opened →
     a.depth ≡ b.depth → a ≡ b
 same_machine a b s e f p l c o d = λ i. record { store = s i; ends = e i; buffers = f i; places = p i; lines = l i; contracts = c i; opened = o i; depth = d i }
+
+-- what the blocks of a machine hold
+abbrev pub blocks_of : Machine → BlocksOf
+blocks_of m = record { ends = m.ends; buffers = m.buffers }
 
 -- an entry that is there is the one that is read with any default
 pub read_at : {A : Type 0} (xs : List A) (i k : ℕ) (x d : A) → k < length xs → i ≡ k → x ≡ slice_index_or xs i x → x ≡ slice_index_or xs k d

@@ -57,10 +57,10 @@ same_process p a contract m =
 
 -- ---- what the two records are
 
-pub pair_there : (m : Machine) (p a r t : ℕ) (u : Store) → IsWhole m → IsRunning m p → Paired p a r t m.store u → (r < length m.ends) × (t < length m.ends)
+pub pair_there : (m : Machine) (p a r t : ℕ) (u : Store) → IsWhole m → IsRunning m p → Paired p a r t m.store u → (r < length m.buffers) × (t < length m.buffers)
 pair_there m p a r t u w runs g =
     let two = paired_two p a r t m.store u w.store (current_range m p w runs.0) g in
-    (subst (λ (x : ℕ). r < x) (sym w.kinds) two.there_r, subst (λ (x : ℕ). t < x) (sym w.kinds) two.there_t)
+    (subst (λ (x : ℕ). r < x) (sym w.buffers) two.there_r, subst (λ (x : ℕ). t < x) (sym w.buffers) two.there_t)
 
 pub all_shared : (m : Machine) (p q a r t : ℕ) (u s : Store) → IsWhole m → IsRunning m p → IsRunning m q → m.opened < 64 → Paired p a r t m.store u → s ≡ moved p q t (2 * m.opened + 1) u →
     IsLawful s →

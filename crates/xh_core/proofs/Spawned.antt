@@ -1,5 +1,5 @@
 -- A process starts at a place that is free for it.
-use Rattle.std.proofs.Common.{◌≡◌, ℕ, ◌+◌, ◌/◌, ◌%◌, ◌<◌, ◌≤◌, List, [], length, Bool, true, false, cond, refl, sym, ap, ◌∙◌, subst, arith, inl, inr}
+use Rattle.std.proofs.Common.{◌≡◌, ℕ, ◌+◌, ◌/◌, ◌%◌, ◌<◌, ◌≤◌, [], Bool, true, false, cond, refl, sym, ap, ◌∙◌, subst, arith, inl, inr}
 use Rattle.std.specs.Prelude.{ok_or, Option, Some, None, ◌==◌, ◌||◌, ◌&&◌, nat_lt, slice_set, slice_index_or}
 use Rattle.std.proofs.lemmas.Bool.{cases_eq, cases_Bool, false≢true, ltb-true}
 use Rattle.std.specs.List.{position}

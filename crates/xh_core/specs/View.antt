@@ -10,8 +10,8 @@ store_of s = record { owners = s.owners.items; arenas = s.arenas.items }
 abbrev pub machine_of : SerialInside → Machine
 machine_of s = record {
   store = s.plain;
-  ends = s.ends.items;
-  buffers = s.memory;
+  ends = s.blocks.ends;
+  buffers = s.blocks.buffers;
   places = s.places;
   lines = s.channels.lines;
   contracts = s.channels.contracts;

@@ -2,6 +2,7 @@
 pub mod Channeling
 pub mod Checks
 pub mod Gaining
+pub mod Holding
 pub mod Owning
 pub mod Pairing
 pub mod Placing

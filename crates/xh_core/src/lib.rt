@@ -6,13 +6,13 @@
 #![tactic(auto)]
 
 mod block;
+mod blocks;
 mod channels;
 mod contract;
 mod glance;
 mod ledger;
 mod line;
 mod list;
-mod memory;
 mod message;
 mod place;
 mod places;

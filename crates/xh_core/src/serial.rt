@@ -1,5 +1,5 @@
 //! The serial heap: places, channels and the bytes of blocks over the plain machine.
-ghost use Rattle.std.specs.Prelude.{◌≡◌, ◌⊎◌, ◌↔◌, None, Err, IfOk, IfErr, OnOk, replicate};
+ghost use Rattle.std.specs.Prelude.{◌≡◌, ◌⊎◌, ◌↔◌, Err, IfOk, IfErr, OnOk};
 ghost use Rattle.xh_model.specs.Config.{IsConfig};
 ghost use Rattle.xh_core.specs.PlaceCommands.{new_machine};
 
@@ -13,8 +13,8 @@ mod places;
 mod readers;
 mod sweep;
 
+use crate::blocks::Blocks;
 use crate::channels::Channels;
-use crate::memory::Memory;
 use crate::places::Places;
 use crate::plain::Plain;
 use crate::refused::Refused;
@@ -31,10 +31,7 @@ use xh_model::Config;
 #[derive(Drop)]
 pub struct Serial {
     plain: Plain,
-    /// By record, the direction toward it, where it is an endpoint.
-    ends: Vec<Option<u8>>,
-    /// By record, its bytes, where it is a data block.
-    memory: Memory,
+    blocks: Blocks,
     places: Places,
     channels: Channels,
     depth: u8,
@@ -52,13 +49,6 @@ impl Model for Serial {
     ghost invariant = { λ s. IsWhole (machine_of s) };
 }
 
-/// No endpoint.
-fn no_ends(alloc: Global, count: usize) -> Result<Vec<Option<u8>>, AllocError>
-    ensures { IfOk result (λ ends. ends.items ≡ replicate count None) }
-{
-    vec![in alloc; None; count]
-}
-
 impl Serial {
     /// A heap without processes, channels and blocks. BadSize where the config is outside its
     /// limits, then OutOfMemory. All room but that of the blocks' bytes is made here.
@@ -70,11 +60,9 @@ impl Serial {
         ensures refused { IfErr result (λ e. (e ≡ Refused.BadSize) ⊎ (e ≡ Refused.OutOfMemory)) }
     {
         let plain = Plain::new(alloc, config)?;
-        let count = 256 * u16::from(config.arenas);
         Ok(Serial {
             plain,
-            ends: no_ends(alloc, usize::from(count))?,
-            memory: Memory::none(alloc, count)?,
+            blocks: Blocks::none(alloc, 256 * u16::from(config.arenas))?,
             places: Places::vacant(alloc)?,
             channels: Channels::none(alloc)?,
             depth: config.depth,

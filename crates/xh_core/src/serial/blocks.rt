@@ -50,9 +50,9 @@ impl Serial {
     {
         let r = self.check_alloc(p, n, arena)?;
         let len = round(n);
-        self.memory.zeroed(alloc, r, len)?;
+        self.blocks.zeroed(alloc, r, len)?;
         if let Err(refused) = self.plain.take(p, r, len) {
-            self.memory.clear(r);
+            self.blocks.clear(r);
             return Err(refused);
         }
         self.places.add(p, r);
@@ -66,7 +66,7 @@ impl Serial {
         self.check_start(p)?;
         self.check_data(p, r)?;
         let len = self.plain.discard(p, r);
-        self.memory.clear(r);
+        self.blocks.clear(r);
         self.places.remove(p, r);
         Ok(len)
     }
@@ -100,7 +100,7 @@ impl Serial {
         ensures refused { result ≡ Err Refused.OutOfMemory → split_command true p r k self.old ≡ (result, self.new) }
     {
         let t = self.check_split(p, r, k)?;
-        self.memory.split(alloc, r, t, k as usize)?;
+        self.blocks.split(alloc, r, t, k as usize)?;
         let rest = self.plain.len(r) - k;
         self.plain.part(p, r, t, k);
         self.places.add(p, t);
@@ -128,7 +128,7 @@ impl Serial {
         ensures kept { OnErr result (out.new ≡ out.old) }
     {
         self.check_range(p, r, at, out.len())?;
-        self.memory.copy(r, at as usize, out);
+        self.blocks.copy(r, at as usize, out);
         Ok(())
     }
 
@@ -138,7 +138,7 @@ impl Serial {
         ensures { write_command p r at bytes.now self.old ≡ (result, self.new) }
     {
         self.check_range(p, r, at, bytes.len())?;
-        self.memory.overwrite(r, at as usize, bytes);
+        self.blocks.overwrite(r, at as usize, bytes);
         Ok(())
     }
 }

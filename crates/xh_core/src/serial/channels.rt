@@ -1,5 +1,5 @@
 //! Channels are opened, for one process or between two.
-ghost use Rattle.std.specs.Prelude.{◌≡◌, ◌+◌, ◌*◌, ◌<◌, Some, None, length, slice_set};
+ghost use Rattle.std.specs.Prelude.{◌≡◌, ◌+◌, ◌*◌, ◌<◌, Some, None, length};
 ghost use Rattle.xh_core.specs.ChannelCommands.{open_channel, wire_channel, wire_heads};
 ghost use Rattle.xh_core.specs.MessageCommands.{AreOrderly};
 ghost use Rattle.xh_core.specs.Refusing.{IsRunning, Tested};
@@ -8,17 +8,6 @@ use super::Serial;
 use crate::block::Block;
 use crate::contract::Contract;
 use crate::refused::Refused;
-
-/// Two records are the ends of a channel: `r` is side 0 and `t` side 1.
-fn mark_ends(ends: &mut Vec<Option<u8>>, r: u16, t: u16, channel: u8)
-    requires low { r < length ends.old.items }
-    requires high { t < length ends.old.items }
-    requires channel { channel < 64 }
-    ensures { ends.new.items ≡ slice_set (slice_set ends.old.items r (Some (2 * channel))) t (Some (2 * channel + 1)) }
-{
-    ends[usize::from(r)] = Some(2 * channel);
-    ends[usize::from(t)] = Some(2 * channel + 1);
-}
 
 impl Serial {
     /// NoProcess and Ended of both processes, NoArena and NoChannel.
@@ -50,7 +39,8 @@ impl Serial {
         self.check_wire(p, q, arena)?;
         let (r, t) = self.plain.take_ends(p, arena)?;
         let channel = self.channels.open(contract);
-        mark_ends(&mut self.ends, r, t, channel);
+        self.blocks.bind(r, 2 * channel);
+        self.blocks.bind(t, 2 * channel + 1);
         self.plain.hand_over(p, q, t, 2 * channel + 1);
         self.places.add(p, r);
         self.places.add(q, t);

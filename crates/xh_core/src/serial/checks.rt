@@ -57,7 +57,7 @@ impl Serial {
         if !self.plain.holds(Holder::Process(p), e) {
             return Err(Refused::NotOwned);
         }
-        match self.ends[usize::from(e)] {
+        match self.blocks.end(e) {
             Some(d) => Ok(d),
             None => Err(Refused::NotEndpoint),
         }

@@ -29,6 +29,6 @@ impl Serial {
     pub fn end(&self, r: u16) -> Option<u8>
         ensures { result ≡ end_of self.now r }
     {
-        self.ends.get(usize::from(r)).copied().flatten()
+        self.blocks.end(r)
     }
 }

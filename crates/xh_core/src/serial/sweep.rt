@@ -25,13 +25,13 @@ impl Serial {
         ensures current { is_current self.new p ≡ true }
     {
         let r = self.places.blocks(p)[from];
-        let end = self.ends[usize::from(r)];
+        let end = self.blocks.end(r);
         let came = self.channels.shut(end);
         self.plain.accept_from(p, end, came.as_slice());
         self.places.add_all(p, came.as_slice());
         self.plain.discard(p, r);
-        self.ends[usize::from(r)] = None;
-        self.memory.clear(r);
+        self.blocks.unbind(r);
+        self.blocks.clear(r);
         self.places.remove_at(p, from);
     }
 

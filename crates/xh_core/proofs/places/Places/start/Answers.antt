@@ -5,7 +5,6 @@ use Rattle.std.proofs.lemmas.List.Quantifiers.{position-Some}
 use Rattle.xh_core.specs.declared.place.Place.{Place}
 use Rattle.xh_core.specs.Machine.{no_place}
 use Rattle.xh_core.specs.PlaceCommands.{can_start, started}
-use Rattle.xh_core.specs.inner.Placing.{started_at}
 use Rattle.xh_core.proofs.Machines.{read_at}
 use Rattle.xh_core.proofs.places.Places.start.Goals as goal
 use Rattle.xh_core.proofs.places.Places.start.Goals.{After-index_mut}

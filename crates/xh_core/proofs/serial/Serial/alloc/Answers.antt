@@ -1,14 +1,15 @@
 use Rattle.std.proofs.Common.{◌≡◌, ◌∙◌, ◌<◌, ◌++◌, ◌∷◌, [], ℕ, List, length, sym, ap, subst, refl, false, Some, None}
-use Rattle.std.specs.Prelude.{replicate, slice_set}
+use Rattle.std.specs.Prelude.{replicate}
 use Rattle.std.proofs.lemmas.List.{length-set}
 use Rattle.std.proofs.lemmas.Result.{err_from_is_err_and}
 use Rattle.xh_model.specs.Store.{Store, len}
 use Rattle.xh_core.specs.Machine.{Machine, IsWhole}
 use Rattle.xh_core.specs.Refusing.{IsRunning, first_refusal}
 use Rattle.xh_core.specs.inner.Gaining.{Gained}
+use Rattle.xh_core.specs.inner.Holding.{BlocksOf, with_bytes}
 use Rattle.xh_core.specs.inner.Placing.{relisted}
 use Rattle.xh_core.specs.BlockCommands.{alloc_heads, allocated, free_record, rounded, space_tests}
-use Rattle.xh_core.proofs.Machines.{current_blocks, same_machine}
+use Rattle.xh_core.proofs.Machines.{blocks_of, current_blocks, same_machine}
 use Rattle.xh_core.proofs.Claiming.{IsFree, free_is, in_range}
 use Rattle.xh_core.proofs.Gains.{room_for, free_there, free_buffer, emptied_again, allocated_whole}
 use Rattle.xh_core.proofs.Answering.{alloc_stopped, alloc_memory, alloc_no_room, alloc_gives}
@@ -66,21 +67,23 @@ add-requires c =
 pub clear-requires : goal.clear-requires
 clear-requires c =
     let d = (goal.at.clear-requires c).After-round-len in
-    let long : length c.zeroed.new.self ≡ length (was d).buffers = ap length c.in_ok-zeroed.ensures.done ∙ length-set (was d).buffers c.in_ok-r.r (replicate c.round-len.result 0) in
+    let long : length c.zeroed.new.self.buffers ≡ length (was d).buffers = ap (λ (b : BlocksOf). length b.buffers) c.in_ok-zeroed.ensures.done ∙ length-set (was d).buffers c.in_ok-r.r (replicate c.round-len.result 0) in
     subst (λ (k : ℕ). c.in_ok-r.r < k) (sym long) (free_there (was d) c.in_ok-r.r c.self.invariant (free d).known)
 
 abbrev begun : goal.After-clear → After-round-len
 begun c = (goal.at.returns-in-Err-clause-done c).After-round-len
 
-restored : (c : goal.After-clear) → c.clear.new.self ≡ (was (begun c)).buffers
+restored : (c : goal.After-clear) → c.clear.new.self ≡ blocks_of (was (begun c))
 restored c =
-    c.clear.ensures ∙ (ap (λ (bs : List (List ℕ)). slice_set bs c.in_ok-r.r []) c.in_ok-zeroed.ensures.done
-    ∙ emptied_again (was (begun c)).buffers c.in_ok-r.r (replicate c.round-len.result 0) (free_buffer (was (begun c)) c.in_ok-r.r c.self.invariant (free (begun c)).free))
+    let m : Machine = was (begun c) in
+    c.clear.ensures ∙ (ap (with_bytes c.in_ok-r.r []) c.in_ok-zeroed.ensures.done
+    ∙ (λ i. record { ends = m.ends; buffers = emptied_again m.buffers c.in_ok-r.r (replicate c.round-len.result 0) (free_buffer m c.in_ok-r.r c.self.invariant (free (begun c)).free) i }))
 
 pub invariant_of-self-in-Err : goal.invariant_of-self-in-Err
 invariant_of-self-in-Err c =
     let m : Machine = was (begun c) in
-    subst IsWhole (sym (same_machine (record m { store = c.take.new.self; buffers = c.clear.new.self }) m c.in-Err.ensures.unchanged refl (restored c) refl refl refl refl refl)) c.self.invariant
+    subst IsWhole (sym (same_machine (record m { store = c.take.new.self; ends = c.clear.new.self.ends; buffers = c.clear.new.self.buffers }) m c.in-Err.ensures.unchanged
+    (ap (λ (b : BlocksOf). b.ends) (restored c)) (ap (λ (b : BlocksOf). b.buffers) (restored c)) refl refl refl refl refl)) c.self.invariant
 
 pub returns-in-Err-clause-done : goal.returns-in-Err-clause-done
 returns-in-Err-clause-done c = λ _.
@@ -94,14 +97,14 @@ abbrev steps : goal.After-add → After-round-len
 steps c = (goal.at.returns-clause-done c).After-round-len
 
 abbrev is : goal.After-add → Machine
-is c = record (machine_of c.self.inside) { store = c.take.new.self; buffers = c.zeroed.new.self; places = c.add.new.self }
+is c = record (machine_of c.self.inside) { store = c.take.new.self; ends = c.zeroed.new.self.ends; buffers = c.zeroed.new.self.buffers; places = c.add.new.self }
 
 made : (c : goal.After-add) → is c ≡ allocated c.args.p c.in_ok-r.r c.round-len.result (was (steps c))
 unfolding allocated
 made c =
     let m : Machine = was (steps c) in
-    same_machine (is c) (allocated c.args.p c.in_ok-r.r c.round-len.result m) c.in_default.ensures.store refl
-    c.in_ok-zeroed.ensures.done
+    same_machine (is c) (allocated c.args.p c.in_ok-r.r c.round-len.result m) c.in_default.ensures.store
+    (ap (λ (b : BlocksOf). b.ends) c.in_ok-zeroed.ensures.done) (ap (λ (b : BlocksOf). b.buffers) c.in_ok-zeroed.ensures.done)
     (c.add.ensures ∙ ap (λ (xs : List ℕ). relisted c.args.p (xs ++ c.in_ok-r.r ∷ []) m.places) (sym (current_blocks m c.args.p (runs (steps c)).0)))
     refl refl refl refl
 

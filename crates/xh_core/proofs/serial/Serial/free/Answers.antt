@@ -42,7 +42,8 @@ remove-requires c =
 abbrev begun : goal.After-remove → In_ok-check_data
 begun c = (goal.at.returns c).In_ok-check_data
 
-made : (c : goal.After-remove) → record (was (begun c)) { store = c.discard-len.new.self; buffers = c.clear.new.self; places = c.remove.new.self } ≡ freed_block c.args.p c.args.r (was (begun c))
+made : (c : goal.After-remove) → record (was (begun c)) { store = c.discard-len.new.self; ends = c.clear.new.self.ends; buffers = c.clear.new.self.buffers; places = c.remove.new.self } ≡
+    freed_block c.args.p c.args.r (was (begun c))
 made c =
     freed_is (was (begun c)) c.args.p c.args.r c.discard-len.new.self c.clear.new.self c.remove.new.self (runs (begun c)).0 c.discard-len.ensures.store c.clear.ensures c.remove.ensures
 

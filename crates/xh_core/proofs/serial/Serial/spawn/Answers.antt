@@ -1,4 +1,4 @@
-use Rattle.std.proofs.Common.{◌∙◌, List, sym, ap, subst, refl}
+use Rattle.std.proofs.Common.{◌∙◌, List, ap, subst, refl}
 use Rattle.std.specs.Prelude.{ok_or}
 use Rattle.std.specs.List.{position}
 use Rattle.xh_core.specs.declared.place.Place.{Place}

@@ -73,7 +73,8 @@ add-requires c =
 abbrev begun : goal.After-add → In_ok-t
 begun c = (goal.at.returns-clause-done c).In_ok-t
 
-made : (c : goal.After-add) → record (was (begun c)) { store = c.part.new.self; buffers = c.split.new.self; places = c.add.new.self } ≡ parted c.args.p c.args.r c.in_ok-t.t c.args.k (was (begun c))
+made : (c : goal.After-add) → record (was (begun c)) { store = c.part.new.self; ends = c.split.new.self.ends; buffers = c.split.new.self.buffers; places = c.add.new.self } ≡
+    parted c.args.p c.args.r c.in_ok-t.t c.args.k (was (begun c))
 made c =
     parted_is (was (begun c)) c.args.p c.args.r c.in_ok-t.t c.args.k c.part.new.self c.split.new.self c.add.new.self (may (begun c)).runs.0
     c.part.ensures.store c.in_ok-split.ensures.done c.add.ensures

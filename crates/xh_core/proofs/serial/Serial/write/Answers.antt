@@ -1,4 +1,4 @@
-use Rattle.std.proofs.Common.{◌≡◌, ◌+◌, ◌<◌, ◌≤◌, ℕ, List, length, sym, subst, true, None}
+use Rattle.std.proofs.Common.{◌≡◌, ◌+◌, ◌<◌, ◌≤◌, ℕ, length, sym, subst, true, None}
 use Rattle.std.proofs.lemmas.Result.{err_from_is_err_and}
 use Rattle.xh_model.specs.declared.event.Holder.TheVariants.{Process}
 use Rattle.xh_model.specs.Store.{holds, len}
@@ -7,6 +7,7 @@ use Rattle.xh_core.specs.Refusing.{first_refusal}
 use Rattle.xh_core.specs.BlockCommands.{overwritten, range_tests}
 use Rattle.xh_core.proofs.Answering.{write_refused, write_gives}
 use Rattle.xh_core.proofs.Gains.{held_buffer, buffer_length, overwritten_length, written_whole}
+use Rattle.xh_core.specs.inner.Holding.{BlocksOf}
 use Rattle.xh_core.specs.View.{machine_of}
 use Rattle.xh_core.proofs.serial.Serial.write.Goals as goal
 
@@ -24,7 +25,7 @@ invariant_of-self c =
     let room : c.args.at + length c.args.bytes.now ≤ len m.store c.args.r = rw (← c.self.view_is) at c.in_ok-check_range.ensures.1.2 in
     let within : c.args.at + length c.args.bytes.now ≤ length (buffer m c.args.r) =
     subst (λ (n : ℕ). c.args.at + length c.args.bytes.now ≤ n) (sym (buffer_length m c.args.r c.self.invariant bare)) room in
-    subst (λ (bs : List (List ℕ)). IsWhole (record m { buffers = bs })) (sym c.overwrite.ensures)
+    subst (λ (b : BlocksOf). IsWhole (record m { ends = b.ends; buffers = b.buffers })) (sym c.overwrite.ensures)
     (written_whole m c.args.r (overwritten c.args.at c.args.bytes.now (buffer m c.args.r)) c.self.invariant there (overwritten_length c.args.at c.args.bytes.now (buffer m c.args.r) within))
 
 pub returns : goal.returns
