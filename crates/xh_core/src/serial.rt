@@ -18,9 +18,7 @@ use crate::channels::Channels;
 use crate::places::Places;
 use crate::plain::Plain;
 use crate::refused::Refused;
-use crate::status::Status;
-use arrayvec::ArrayVec;
-use std::alloc::{AllocError, Global};
+use std::alloc::Global;
 use std::marker::Model;
 use xh_model::Config;
 

@@ -1,6 +1,5 @@
 //! Data blocks: they are made, cut, read, written and given back.
 ghost use Rattle.std.specs.Prelude.{◌≡◌, ◌≢◌, ◌+◌, ◌*◌, ◌/◌, ◌%◌, ◌<◌, ◌≤◌, ◌==◌, Some, None, Ok, Err, IfErr, OnErr, OnOk, false, true, length};
-ghost use Rattle.std.specs.List.{remove};
 ghost use Rattle.xh_core.specs.Machine.{end_of};
 ghost use Rattle.xh_model.specs.declared.event.Holder.TheVariants.{Process};
 ghost use Rattle.xh_model.specs.Store.{holds, len};

@@ -1,8 +1,8 @@
 //! Messages: give and take.
 ghost use Rattle.std.specs.Prelude.{◌≡◌, ◌-◌, ◌/◌, ◌%◌, ◌<◌, IfOk, false};
-ghost use Rattle.xh_core.specs.Machine.{contract_of, line, peer};
+ghost use Rattle.xh_core.specs.Machine.{contract_of, line};
 ghost use Rattle.xh_core.specs.Refusing.{toward};
-ghost use Rattle.xh_core.specs.MessageCommands.{AreOrderly, give, is_banned, pass_all, take};
+ghost use Rattle.xh_core.specs.MessageCommands.{AreOrderly, give, is_banned, take};
 
 use crate::channels::peer;
 use crate::message::Taken;

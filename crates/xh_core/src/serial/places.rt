@@ -6,7 +6,6 @@ use crate::glance::Glance;
 use crate::place::number;
 use crate::refused::Refused;
 use crate::serial::Serial;
-use crate::status::Status;
 
 impl Serial {
     /// A process starts at the lowest place that is vacant, or whose process has ended and is not
