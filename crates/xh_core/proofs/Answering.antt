@@ -1,26 +1,14 @@
 -- What alloc, free, split, read and write answer.
-use Rattle.std.proofs.Common.{◌≡◌, ◌≢◌, ℕ, ◌+◌, ◌-◌, ◌/◌, List, length, take, drop, [], ◌∷◌, Bool, true, false, ap, ◌∙◌, inl, inr}
-use Rattle.std.specs.Prelude.{Option, Some, None, Ok, Err, nat_lt, is_none, unwrap_or, slice_set}
-use Rattle.std.proofs.lemmas.Bool.{cases_Bool}
-use Rattle.xh_model.specs.Cover.{first_fit}
-use Rattle.xh_model.specs.Store.{Store, len, arena_at}
+use Rattle.std.proofs.Common.{◌≡◌, ℕ, ◌-◌, ◌/◌, List, length, take, drop, [], ◌∷◌, Bool, true, false, ap, ◌∙◌}
+use Rattle.std.specs.Prelude.{Option, Some, None, Ok, Err, unwrap_or, slice_set}
+use Rattle.xh_model.specs.Store.{len}
 use Rattle.xh_core.specs.declared.block.Block.{Block}
 use Rattle.xh_core.specs.declared.refused.Refused.{Refused}
-use Rattle.xh_core.specs.declared.refused.Refused.TheVariants.{OutOfMemory, NoSpace, Worn}
+use Rattle.xh_core.specs.declared.refused.Refused.TheVariants.{OutOfMemory}
 use Rattle.xh_core.specs.Machine.{Machine, buffer}
 use Rattle.xh_core.specs.Refusing.{Answer, Tests, answered, first_refusal, start, data_tests}
 use Rattle.xh_core.specs.BlockCommands.{alloc_heads, split_heads, free_record, lowest, rounded, space_tests, alloc, allocated, free, freed_block, split, parted, range_tests, read, write, overwritten}
 use Rattle.xh_core.proofs.Firsts.{first_append, first_later}
-
--- where there is no room, it is never for want of memory
-pub no_memory_test : (s : Store) (a n : ℕ) (e : Refused) → first_refusal (space_tests s a n) ≡ Some e → e ≢ OutOfMemory
-no_memory_test s a n e h f = elim (cases_Bool (is_none (first_fit n (arena_at s a).cover))) [
-  | inl y ↦ (let g : Some NoSpace ≡ Some e = rw y at h in absurd (cc))
-  | inr x ↦ elim (cases_Bool (nat_lt (arena_at s a).limit ((arena_at s a).wear + n))) [
-    | inl y ↦ (let g : Some Worn ≡ Some e = rw (x, y) at h in absurd (cc))
-    | inr z ↦ (let g : None ≡ Some e = rw (x, z) at h in absurd (cc))
-  ]
-]
 
 -- ---- alloc
 

@@ -150,9 +150,6 @@ same_space s t a n e = rw e refl
 pub one_time : (q r : ℕ) → times q (r ∷ []) ≡ cond (r == q) 1 0
 one_time q r = times-cons q r [] ∙ elim (cases_Bool (r == q)) [ inl y ↦ rw y refl | inr f ↦ rw f refl ]
 
-swap-eqb : (q r : ℕ) → (r == q) ≡ (q == r)
-swap-eqb q r = elim (cases_eq q r) [ inl e ↦ rw (eq-eqb q r e, eq-eqb r q (sym e)) refl | inr n ↦ rw (ne_eqb q r n, ne_eqb r q (λ e. n (sym e))) refl ]
-
 pub is_one : (q r : ℕ) → nat_lt 0 (times q (r ∷ [])) ≡ (q == r)
 is_one q r = ap (λ (n : ℕ). nat_lt 0 n) (one_time q r) ∙ elim (cases_eq q r) [
   | inl e ↦ rw (eq-eqb q r e, eq-eqb r q (sym e)) refl

@@ -1,22 +1,21 @@
 -- An endpoint that is moved to the end of its list.
-use Rattle.std.proofs.Common.{◌≡◌, ℕ, zero, suc, ◌+◌, ◌-◌, ◌/◌, ◌%◌, ◌<◌, ◌≤◌, Bool, List, [], ◌∷◌, ◌++◌, length, drop, true, cond, refl, sym, ap, ◌∙◌, subst, arith, inl, inr, append-nil}
+use Rattle.std.proofs.Common.{◌≡◌, ℕ, zero, suc, ◌+◌, ◌-◌, ◌/◌, ◌%◌, ◌<◌, ◌≤◌, Bool, List, [], ◌∷◌, ◌++◌, length, drop, true, cond, refl, sym, ap, ◌∙◌, arith, inl, inr, append-nil}
 use Rattle.std.specs.Prelude.{None, Some, not, nat_lt, unwrap_or, ◌==◌, slice_set, slice_index_or}
 use Rattle.std.specs.List.{remove, position, position_or_len}
 use Rattle.std.proofs.lemmas.Bool.{cases_eq, cases_Bool, eq-eqb, ne_eqb, ltb-false, false≢true}
-use Rattle.std.proofs.lemmas.List.{length-set, length-append}
+use Rattle.std.proofs.lemmas.List.{length-set}
 use Rattle.std.proofs.lemmas.List.Sums.{sum_by-remove, passes_at_first, prefix_len-le-length}
 use Rattle.std.proofs.lemmas.List.Edits.{length-remove}
 use Rattle.xh_model.specs.declared.event.Holder.{Holder}
 use Rattle.xh_model.specs.declared.event.Holder.TheVariants.{Process, Direction}
 use Rattle.xh_core.specs.declared.place.Place.{Place}
-use Rattle.xh_model.specs.Store.{holds, len, all_out}
-use Rattle.xh_core.proofs.Kept.{bytes_one}
-use Rattle.xh_core.specs.Machine.{Machine, times, blocks, listed, place, is_current, end_of, IsWhole}
+use Rattle.xh_model.specs.Store.{holds}
+use Rattle.xh_core.specs.Machine.{Machine, times, blocks, listed, place, end_of, IsWhole}
 use Rattle.xh_core.specs.Refusing.{IsRunning}
 use Rattle.xh_core.specs.Sweeping.{sweep_one}
 use Rattle.xh_core.specs.EndingCommands.{last, moved_last}
 use Rattle.xh_core.specs.BlockCommands.{freed_block}
-use Rattle.xh_core.proofs.Machines.{runs_busy, place_there, list_here, list_else, current_generation, busy_place, generations_set, idle_set, place_here}
+use Rattle.xh_core.proofs.Machines.{runs_busy, place_there, list_here, list_else, current_generation, busy_place, generations_set, idle_set}
 use Rattle.xh_core.proofs.Stores.{count_append, times-cons}
 
 place_or_length : (k n : ℕ) → k ≤ n → unwrap_or (cond (nat_lt k n) (Some k) None) n ≡ k
@@ -56,12 +55,6 @@ times_last e q rs h =
     let z : times q [] ≡ 0 = refl in
     omega (arith, a, b, c, d, z)
 
-pub length_last : (e : ℕ) (rs : List ℕ) → 0 < times e rs → length (last e rs) ≡ length rs
-length_last e rs h =
-    let k : ℕ = position_or_len (λ x. x == e) rs in
-    let a : length (last e rs) ≡ length (remove rs k) + 1 = length-append (remove rs k) (e ∷ []) in
-    let b : length (remove rs k) + 1 ≡ length rs = length-remove rs k (found e rs h) in omega (arith, a, b)
-
 drop_to : (xs : List ℕ) (e n : ℕ) → length xs ≡ n → drop n (xs ++ e ∷ []) ≡ e ∷ []
 drop_to [] e n h = let z : n ≡ 0 = sym h in rw z refl
 drop_to (x ∷ xs) e zero h = absurd (omega arith)
@@ -83,9 +76,6 @@ module _ (m : Machine) (p e : ℕ) (w : IsWhole m) (r : IsRunning m p) (h : hold
 
   pub last_blocks : blocks (moved_last p e m) p ≡ last e (blocks m p)
   last_blocks = list_here m.places p x (place_there m p w) r.0
-
-  pub last_current : is_current (moved_last p e m) p ≡ true
-  last_current = ap (λ (y : Place). y.generation == (p / 32)) (place_here m.places p x (place_there m p w)) ∙ r.0
 
   once_last : (k : Holder) (q : ℕ) → times q (listed (moved_last p e m) k) ≡ cond (holds m.store k q) 1 0
   once_last (Process k) q = elim (cases_eq k p) [
@@ -127,8 +117,3 @@ frees_block m p r h none =
     let is : slice_index_or (blocks m p) at 0 ≡ r = is_found r (blocks m p) h in
     let same_end : slice_set m.ends r None ≡ m.ends = ap (slice_set m.ends r) (sym none) ∙ set_again m.ends r None in
     rw (is, none, append-nil (blocks m p), same_end) refl
-
-pub found_bytes : (m : Machine) (p r : ℕ) → IsWhole m → 0 < times r (blocks m p) → len m.store r + all_out (sweep_one p (position_or_len (λ q. q == r) (blocks m p)) m).store ≡ all_out m.store
-found_bytes m p r w h =
-    let b = bytes_one m p (position_or_len (λ q. q == r) (blocks m p)) w (found r (blocks m p) h) in
-    subst (λ (x : ℕ). len m.store x + all_out (sweep_one p (position_or_len (λ q. q == r) (blocks m p)) m).store ≡ all_out m.store) (is_found r (blocks m p) h) b

@@ -106,9 +106,6 @@ module _ (s : Store) (p q r t : ℕ) (contract : Option (List Row)) (m : Machine
   middle : ArePlaces (appended p r m.places)
   middle = appended_places m.places p r places (running_place m p runs_p)
 
-  busy_p : IsBusy (appended p r m.places) p
-  busy_p = appended_busy m.places p r places (running_place m p runs_p) p (running_place m p runs_p)
-
   busy_q : IsBusy (appended p r m.places) q
   busy_q = appended_busy m.places p r places (running_place m p runs_p) q (running_place m q runs_q)
 

@@ -12,11 +12,10 @@ use Rattle.xh_model.specs.declared.row.Row.{Row}
 use Rattle.xh_model.specs.Arena.{ArenaState}
 use Rattle.xh_model.proofs.Lawful.{back_lawful, back_bytes}
 use Rattle.xh_core.specs.declared.line.Line.{Line}
-use Rattle.xh_core.specs.declared.place.Place.{Place}
-use Rattle.xh_core.specs.Machine.{Machine, times, end_of, buffer, line, no_line, is_current, blocks, arriving, listed, IsWhole, IsEnd}
+use Rattle.xh_core.specs.Machine.{Machine, times, end_of, buffer, line, no_line, blocks, arriving, listed, IsWhole, IsEnd}
 use Rattle.xh_core.specs.Sweeping.{sweep_one, sweep, shut_in}
 use Rattle.xh_core.proofs.Stores.{is_there, same_len, same_known, len_back, len_back_else, arena_there}
-use Rattle.xh_core.proofs.Machines.{lists_current, current_range, place_here, place_there, generations_set, idle_set, busy_place, lists_busy}
+use Rattle.xh_core.proofs.Machines.{lists_current, current_range, generations_set, idle_set, busy_place, lists_busy}
 use Rattle.xh_core.proofs.Wired.{shut_wired}
 use Rattle.xh_core.proofs.Swept.{entry, new_owner, SweptOne, swept_one, entry_held, came_held, once_process, once_direction, ends_now, end_range}
 
@@ -191,8 +190,3 @@ sweep_step (suc n) p from m h l = let e : suc n - 1 ≡ n = omega arith in rw (e
 pub sweep_stop : (n p from : ℕ) (m : Machine) → length (blocks m p) ≤ from → sweep p from n m ≡ m
 sweep_stop zero p from m g = refl
 sweep_stop (suc n) p from m g = rw (le-ltb from (length (blocks m p)) g) refl
-
--- the process is still the latest of its place
-pub current_one : (m : Machine) (p from : ℕ) → IsWhole m → from < length (blocks m p) → is_current (sweep_one p from m) p ≡ true
-unfolding sweep_one
-current_one m p from w l = ap (λ (x : Place). x.generation == (p / 32)) (place_here m.places p _ (place_there m p w)) ∙ lists_current m p from l

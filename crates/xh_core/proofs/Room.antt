@@ -1,6 +1,6 @@
 -- Distinct records are no more than there are records.
-use Rattle.std.proofs.Common.{◌≡◌, ℕ, suc, ◌+◌, ◌<◌, ◌≤◌, List, [], ◌∷◌, ◌++◌, length, drop, drop-cons, Bool, true, false, cond, refl, sym, ap, ◌∙◌, arith, inl, inr}
-use Rattle.std.specs.Prelude.{Option, Some, None, ◌==◌, slice_index_or}
+use Rattle.std.proofs.Common.{◌≡◌, ℕ, ◌+◌, ◌<◌, ◌≤◌, List, [], ◌∷◌, ◌++◌, length, Bool, true, false, cond, refl, ◌∙◌, arith, inl, inr}
+use Rattle.std.specs.Prelude.{Option, Some, None, ◌==◌}
 use Rattle.std.specs.List.{sum_by, range_with_len}
 use Rattle.std.proofs.lemmas.Bool.{cases_lt, cases_Bool, eq-eqb}
 use Rattle.std.proofs.lemmas.List.{length-append}
@@ -9,8 +9,7 @@ use Rattle.std.proofs.lemmas.List.FromFn.{length-range_with_len}
 use Rattle.xh_model.specs.declared.event.Holder.{Holder}
 use Rattle.xh_model.specs.declared.event.Holder.TheVariants.{Process, Direction}
 use Rattle.xh_model.specs.Store.{owner, holds, is_held_by}
-use Rattle.xh_core.specs.declared.message.Message.{Message}
-use Rattle.xh_core.specs.Machine.{Machine, carried, times, blocks, way_in, on_way, listed, IsWhole}
+use Rattle.xh_core.specs.Machine.{Machine, times, blocks, way_in, on_way, listed, IsWhole}
 use Rattle.xh_core.proofs.Stores.{times-cons, is_there}
 use Rattle.xh_model.proofs.Totals.{sum_zero, sum_add, sum_same}
 use Rattle.xh_core.proofs.Ranges.{picked}
@@ -61,8 +60,3 @@ room m p (Some d) w =
     (λ q. let a = w.once (Process p) q in let b = w.once (Direction d) q in let e = both q in let t = not_two (owner m.store q) p d in omega arith)
     (λ q l. let e = both q in elim (cases_lt 0 (times q (blocks m p))) [ inl y ↦ held_there m (Process p) q w y | inr n ↦ held_there m (Direction d) q w (omega arith) ]) in
     let e = length-append (blocks m p) (on_way m d) in omega arith
-
--- ---- what messages carry
-
-pub carried_more : (ms : List Message) (i : ℕ) (m : Message) → i < length ms → m ≡ slice_index_or ms i m → carried (drop i ms) ≡ m.blocks.items ++ carried (drop (i + 1) ms)
-carried_more ms i m l e = let next : i + 1 ≡ suc i = omega arith in ap carried (drop-cons ms i m l) ∙ rw (sym e, next) refl

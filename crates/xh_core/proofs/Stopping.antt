@@ -10,7 +10,7 @@ use Rattle.xh_model.specs.Store.{holds}
 use Rattle.xh_core.specs.declared.place.Place.{Place}
 use Rattle.xh_core.specs.declared.status.Status.{Status}
 use Rattle.xh_core.specs.declared.status.Status.TheVariants.{Vacant, Ending, Ended}
-use Rattle.xh_core.specs.Machine.{Machine, times, blocks, arriving, listed, place, is_current, no_place, status_of, is_vacant, is_running, is_ended, with_status, IsWhole}
+use Rattle.xh_core.specs.Machine.{Machine, times, blocks, arriving, listed, place, is_current, no_place, status_of, is_running, with_status, IsWhole}
 use Rattle.xh_core.specs.Refusing.{IsRunning}
 use Rattle.xh_core.specs.Sweeping.{Sweeps}
 use Rattle.xh_core.proofs.Machines.{place_here, place_else, place_there, current_blocks, IsPlace, generations_set, idle_set}
@@ -28,14 +28,6 @@ running_by false true s h = (refl, h)
 pub runs : (m : Machine) (p : ℕ) → is_running (status_of m p) ≡ true → IsRunning m p
 runs m p h = running_by (nat_le 4096 p || nat_lt (place m p).generation (p / 32)) (is_current m p) (place m p).status h
 
-stoppable_by : (none latest : Bool) (s : Status) → is_vacant (status_by none latest s) ≡ false → is_ended (status_by none latest s) ≡ false → latest ≡ true
-stoppable_by true latest s v e = absurd (false≢true (sym v))
-stoppable_by false false s v e = absurd (false≢true (sym e))
-stoppable_by false true s v e = refl
-
-pub stoppable : (m : Machine) (p : ℕ) → is_vacant (status_of m p) ≡ false → is_ended (status_of m p) ≡ false → is_current m p ≡ true
-stoppable m p v e = stoppable_by (nat_le 4096 p || nat_lt (place m p).generation (p / 32)) (is_current m p) (place m p).status v e
-
 -- ---- another status
 
 abbrev listed_in : Place → ℕ → List ℕ
@@ -50,9 +42,6 @@ status_blocks m p q s w = elim (cases_eq (q % 32) (p % 32)) [
       ap (λ (x : Place). listed_in x q) now ∙ ap (λ (x : Place). listed_in x q) (sym was))
   | inr d ↦ ap (λ (x : Place). listed_in x q) (place_else m.places p q (record (place m p) { status = s }) d)
 ]
-
-pub status_current : (m : Machine) (p : ℕ) (s : Status) → IsWhole m → is_current m p ≡ true → is_current (with_status p s m) p ≡ true
-status_current m p s w h = ap (λ (x : Place). x.generation == (p / 32)) (place_here m.places p (record (place m p) { status = s }) (place_there m p w)) ∙ h
 
 once_status : (m : Machine) (p : ℕ) (s : Status) → IsWhole m → (h : Holder) (r : ℕ) → times r (listed (with_status p s m) h) ≡ cond (holds m.store h r) 1 0
 once_status m p s w (Process q) r = ap (times r) (status_blocks m p q s w) ∙ w.once (Process q) r

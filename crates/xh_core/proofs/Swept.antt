@@ -206,9 +206,6 @@ pub came_held : (m : Machine) (q : ℕ) (o : Option ℕ) → IsWhole m → (b : 
 came_held m q None w b h = absurd (false≢true h)
 came_held m q (Some d) w b h = (d, refl, same_direction _ _ (some_times _ _ (w.once (Direction d) q) (ltb-true 0 (times q (on_way m d)) h)))
 
-count_none : (b : Bool) (n : ℕ) → n ≡ cond b 1 0 → b ≡ false → n ≡ 0
-count_none b n e f = e ∙ rw f refl
-
 came_once : (m : Machine) (q : ℕ) (o : Option ℕ) → IsWhole m → nat_lt 0 (times q (on_way_to m o)) ≡ true → times q (on_way_to m o) ≡ 1
 came_once m q None w h = absurd (false≢true h)
 came_once m q (Some d) w h = let e = w.once (Direction d) q in let l = ltb-true 0 (times q (on_way m d)) h in e ∙ rw (some_times _ _ e l) refl

@@ -67,7 +67,8 @@ add-requires c =
 pub clear-requires : goal.clear-requires
 clear-requires c =
     let d = (goal.at.clear-requires c).After-round-len in
-    let long : length c.zeroed.new.self.buffers ≡ length (was d).buffers = ap (λ (b : BlocksOf). length b.buffers) c.in_ok-zeroed.ensures.done ∙ length-set (was d).buffers c.in_ok-r.r (replicate c.round-len.result 0) in
+    let long : length c.zeroed.new.self.buffers ≡ length (was d).buffers = ap (λ (b : BlocksOf). length b.buffers) c.in_ok-zeroed.ensures.done
+    ∙ length-set (was d).buffers c.in_ok-r.r (replicate c.round-len.result 0) in
     subst (λ (k : ℕ). c.in_ok-r.r < k) (sym long) (free_there (was d) c.in_ok-r.r c.self.invariant (free d).known)
 
 abbrev begun : goal.After-clear → After-round-len

@@ -41,7 +41,8 @@ returns-else-from-count-clause-list c =
 
 pub returns-else-from-count-clause-frees : goal.returns-else-from-count-clause-frees
 returns-else-from-count-clause-frees c =
-    frees_at c.args.p c.args.from c.args.budget c.args.self.now c.loop-left.self (subst IsWhole c.self.view_is c.self.invariant) (ended (goal.at.returns-else-from-count-clause-frees c).Else-from-count)
+    frees_at c.args.p c.args.from c.args.budget c.args.self.now c.loop-left.self (subst IsWhole c.self.view_is c.self.invariant)
+    (ended (goal.at.returns-else-from-count-clause-frees c).Else-from-count)
 
 pub returns-else-from-count-clause-finishes : goal.returns-else-from-count-clause-finishes
 returns-else-from-count-clause-finishes c = λ _. short (goal.at.returns-else-from-count-clause-finishes c).Else-from-count
@@ -62,8 +63,10 @@ returns-after-loop-left-clause-list c = swept (goal.at.returns-after-loop-left-c
 
 pub returns-after-loop-left-clause-frees : goal.returns-after-loop-left-clause-frees
 returns-after-loop-left-clause-frees c =
-    frees_at c.args.p c.args.from c.args.budget c.args.self.now c.loop-left.self (subst IsWhole c.self.view_is c.self.invariant) (spent (goal.at.returns-after-loop-left-clause-frees c).After-loop-left)
+    frees_at c.args.p c.args.from c.args.budget c.args.self.now c.loop-left.self (subst IsWhole c.self.view_is c.self.invariant)
+    (spent (goal.at.returns-after-loop-left-clause-frees c).After-loop-left)
 
 pub returns-after-loop-left-clause-finishes : goal.returns-after-loop-left-clause-finishes
 returns-after-loop-left-clause-finishes c = λ h.
-    finishes c.args.p c.args.from c.args.budget c.args.self.now c.loop-left.self (subst IsWhole c.self.view_is c.self.invariant) h (swept (goal.at.returns-after-loop-left-clause-finishes c).After-loop-left)
+    finishes c.args.p c.args.from c.args.budget c.args.self.now c.loop-left.self (subst IsWhole c.self.view_is c.self.invariant) h
+    (swept (goal.at.returns-after-loop-left-clause-finishes c).After-loop-left)

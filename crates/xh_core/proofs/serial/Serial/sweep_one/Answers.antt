@@ -76,7 +76,8 @@ made c =
     let r : ℕ = record_of (begun c) in
     let end : c.end-end.result ≡ end_of m r = end_is (begun c) in
     let came : c.shut-came.result.items ≡ arriving m r = c.shut-came.ensures.records ∙ ap (way_in m.lines) end in
-    let held : c.clear.new.self ≡ with_bytes r [] (with_end r None (blocks_of m)) = c.clear.ensures ∙ (λ i. with_bytes (read (begun c) i) [] ((c.unbind.ensures ∙ (λ j. with_end (read (begun c) j) None (blocks_of m))) i)) in
+    let held : c.clear.new.self ≡ with_bytes r [] (with_end r None (blocks_of m)) = c.clear.ensures
+    ∙ (λ i. with_bytes (read (begun c) i) [] ((c.unbind.ensures ∙ (λ j. with_end (read (begun c) j) None (blocks_of m))) i)) in
     let accepted : c.accept_from.new.self ≡ accept_from c.args.p (end_of m r) (arriving m r) m.store =
     c.accept_from.ensures ∙ (λ i. accept_from c.args.p (end i) ((c.as_slice.ensures.value ∙ came) i) m.store) in
     same_machine (is c) (sweep_one c.args.p c.args.from m)
