@@ -43,7 +43,7 @@ fn halve<V: Vaults>(
     tally: &mut Tally,
     first: &mut Body,
     second: &mut Body,
-) -> Result<u32, Refused>
+) -> Result<(), Refused>
     requires ids { (slice_get (V.names vaults.old) arena ≡ Some low.old.id) × (high.old.id ≡ low.old.id) × (tally.old.id ≡ low.old.id) }
     requires empty { (low.old.len ≡ 0) × (high.old.len ≡ 0) }
     requires size { 2 * END_BYTES ≤ V.extent vaults.old }
@@ -54,11 +54,11 @@ fn halve<V: Vaults>(
     ensures refused { OnErr result ((low.new ≡ low.old) × (high.new ≡ high.old) × (tally.new ≡ tally.old) × (first.new ≡ first.old) × (second.new ≡ second.old)) }
     ensures why { IfErr result (IsRefusedAt V.changes vaults.old vaults.new arena (2 * END_BYTES)) }
 {
-    let start = vaults.carve(arena, low, tally, 2 * END_BYTES)?;
+    vaults.carve(arena, low, tally, 2 * END_BYTES)?;
     vaults.cut(arena, low, high, END_BYTES);
     mem::swap(low.body_mut(), first);
     mem::swap(high.body_mut(), second);
-    Ok(start)
+    Ok(())
 }
 
 // The same of two records.
@@ -71,7 +71,7 @@ fn halve_lots<V: Vaults>(
     tally: &mut Tally,
     first: &mut Body,
     second: &mut Body,
-) -> Result<u32, Refused>
+) -> Result<(), Refused>
     requires own { IsSeatOf records.now seat.old × IsRecord records.now.shape r × IsRecord records.now.shape t × (r ≢ t) }
     requires held { (l m : LotOf Body) × (value_at r seat.old.lots ≡ Some l) × (value_at t seat.old.lots ≡ Some m) × IsLotOf seat.old.shape r l × IsLotOf seat.old.shape t m
         × (slice_get (V.names vaults.old) (r / 256) ≡ Some l.id) × (m.id ≡ l.id) × (tally.old.id ≡ l.id) × (l.len ≡ 0) × (m.len ≡ 0) }
