@@ -34,7 +34,7 @@ fn fill<V: Vaults>(
     tally: &mut Tally,
     n: u32,
     body: &mut Body,
-) -> Result<u32, Refused>
+) -> Result<(), Refused>
     requires ids { (slice_get (V.names vaults.old) arena ≡ Some lot.old.id) × (tally.old.id ≡ lot.old.id) }
     requires empty { lot.old.len ≡ 0 }
     requires size { (0 < n) × (n % UNIT ≡ 0) × (n ≤ V.extent vaults.old) }
@@ -44,9 +44,9 @@ fn fill<V: Vaults>(
     ensures refused { OnErr result ((lot.new ≡ lot.old) × (tally.new ≡ tally.old)) }
     ensures why { IfErr result (IsRefusedAt V.changes vaults.old vaults.new arena n) }
 {
-    let start = vaults.carve(arena, lot, tally, n)?;
+    vaults.carve(arena, lot, tally, n)?;
     mem::swap(lot.body_mut(), body);
-    Ok(start)
+    Ok(())
 }
 
 // The lot of the record gets bytes and a body.
@@ -58,7 +58,7 @@ pub(crate) fn fill_lot<V: Vaults>(
     tally: &mut Tally,
     n: u32,
     body: &mut Body,
-) -> Result<u32, Refused>
+) -> Result<(), Refused>
     requires own { IsSeatOf records.now seat.old × IsRecord records.now.shape r }
     requires held { (l : LotOf Body) × (value_at r seat.old.lots ≡ Some l) × (l.len ≡ 0) × IsLotOf seat.old.shape r l × (slice_get (V.names vaults.old) (r / 256) ≡ Some l.id) × (tally.old.id ≡ l.id) }
     requires size { (0 < n) × (n % UNIT ≡ 0) × (n ≤ V.extent vaults.old) }
