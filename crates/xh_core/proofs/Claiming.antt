@@ -11,10 +11,10 @@ use Rattle.xh_model.specs.declared.event.Holder.TheVariants.{Process}
 use Rattle.xh_model.specs.declared.event.Event.TheVariants.{Claim, Carve, Cut, Vacate}
 use Rattle.xh_model.specs.Store.{Store, owner, len, holds, is_held_by, is_known, arena_at, can, after, with_owner, IsOwner, IsLawful}
 use Rattle.xh_model.proofs.Changed.{known_there}
-use Rattle.xh_core.specs.Machine.{times}
-use Rattle.xh_core.specs.BlockCommands.{free_record, space_tests}
+use Rattle.xh_core.specs.Several.{times}
+use Rattle.xh_core.specs.Space.{free_record, space_tests}
 use Rattle.xh_core.specs.Refusing.{first_refusal}
-use Rattle.xh_core.specs.inner.Gaining.{Gained}
+use Rattle.xh_core.specs.Gaining.{Gained}
 use Rattle.xh_core.proofs.Stores.{done, own_holder, times-cons, at_set, same_len}
 
 -- ---- the lowest free record

@@ -14,7 +14,15 @@ use Rattle.xh_model.proofs.Lengths.{none_of}
 use Rattle.xh_model.proofs.Totals.{sum_same, sum_zero}
 use Rattle.xh_core.specs.Wearing.{IsCarved, AreCarved}
 use Rattle.xh_core.specs.inner.Owning.{AreTotals}
-use Rattle.xh_core.proofs.Fresh.{at_replicate, long_replicate}
+
+pub at_replicate : {A : Type 0} (n i : ℕ) (x : A) → slice_index_or (replicate n x) i x ≡ x
+at_replicate zero i x = refl
+at_replicate (suc n) zero x = refl
+at_replicate (suc n) (suc i) x = at_replicate n i x
+
+pub long_replicate : {A : Type 0} (n : ℕ) (x : A) → length (replicate n x) ≡ n
+long_replicate zero x = refl
+long_replicate (suc n) x = ap suc (long_replicate n x)
 
 -- what is so of each of some alike is so of the one at a place, and of what stands for one that is not there
 alike : {A : Type 0} (P : A → Type 0) (n k : ℕ) (a d : A) → P a → P d → P (slice_index_or (replicate n a) k d)

@@ -10,10 +10,11 @@ use Rattle.xh_model.specs.Store.{Store, owner, len, holds, is_held_by, is_known,
 use Rattle.xh_model.proofs.Lawful.{owner_lawful}
 use Rattle.xh_core.specs.declared.refused.Refused.{Refused}
 use Rattle.xh_core.specs.declared.refused.Refused.TheVariants.{NoRecord}
-use Rattle.xh_core.specs.BlockCommands.{free_record, lowest, space_tests}
+use Rattle.xh_core.specs.Space.{free_record, lowest, space_tests, claimed_once, pair_tests}
 use Rattle.xh_core.specs.Refusing.{first_refusal}
-use Rattle.xh_core.specs.ChannelCommands.{claimed_once, handed, pair_tests}
-use Rattle.xh_core.specs.inner.Pairing.{ClaimedTwo, Paired, moved}
+use Rattle.xh_core.specs.Several.{handed}
+use Rattle.xh_core.specs.inner.Pairing.{ClaimedTwo}
+use Rattle.xh_core.specs.Pairing.{Paired, moved}
 use Rattle.xh_core.proofs.Stores.{done, own_holder, at_set, same_len}
 use Rattle.xh_core.proofs.Claiming.{IsFree, free_is, Claimed, claimed, unclaimed, carve-owners, cut-owners, same_space}
 

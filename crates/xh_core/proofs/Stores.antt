@@ -15,8 +15,7 @@ use Rattle.xh_model.specs.Store.{Store, no_arena, owner, arena_of, arena_at, len
 use Rattle.xh_model.proofs.Changed.{known_there}
 use Rattle.xh_model.proofs.Lawful.{held_known}
 use Rattle.xh_model.proofs.Returned.{given-own, given-other}
-use Rattle.xh_core.specs.Machine.{times}
-use Rattle.xh_core.specs.Sweeping.{accept_all}
+use Rattle.xh_core.specs.Several.{times, accept_all}
 
 pub done : (e : Event) (s : Store) → can e s ≡ true → after e s ≡ change e s
 unfolding after

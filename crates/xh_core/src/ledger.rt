@@ -2,9 +2,11 @@
 use arrayvec::ArrayVec;
 use xh_model::limits::{MAX_ARENAS, PLACES};
 
-pub(crate) const ARENA_LINES: usize = MAX_ARENAS as usize;
+/// A ledger has at most as many lines of arenas.
+pub const ARENA_LINES: usize = MAX_ARENAS as usize;
 
-pub(crate) const PLACE_LINES: usize = PLACES as usize;
+/// A ledger has at most as many lines of places.
+pub const PLACE_LINES: usize = PLACES as usize;
 
 /// What a process may do: it runs, its blocks are being reclaimed, or all of them are.
 #[derive(Clone, Copy, Debug, PartialEq, Eq, Default)]

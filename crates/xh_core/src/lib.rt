@@ -1,4 +1,5 @@
-//! The pure machines: the ownership and the arenas, event by event, and the serial heap.
+//! The plain machine: the ownership and the arenas, event by event; contracts of channels, and two ends
+//! that talk under one; and the words in which every layer answers.
 //!
 //! A line such as `let _start = &self.plain;` only reads a field: it opens the struct for the proof,
 //! which knows the type's invariant from there on. It stands where a method calls nothing but methods,
@@ -6,19 +7,11 @@
 #![tactic(auto)]
 
 mod block;
-mod blocks;
-mod channels;
 mod contract;
 mod glance;
 mod ledger;
-mod line;
-mod list;
-mod message;
-mod place;
-mod places;
 mod plain;
 mod refused;
-mod serial;
 mod status;
 mod talk;
 mod talk_end;
@@ -28,11 +21,9 @@ mod twice;
 pub use block::Block;
 pub use contract::Contract;
 pub use glance::Glance;
-pub use ledger::{ArenaLine, Ledger, PlaceLine, State};
-pub use message::Taken;
+pub use ledger::{ARENA_LINES, ArenaLine, Ledger, PLACE_LINES, PlaceLine, State};
 pub use plain::Plain;
 pub use refused::Refused;
-pub use serial::Serial;
 pub use status::Status;
 pub use talk::Talk;
 pub use turn::Turn;

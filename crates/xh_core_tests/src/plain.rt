@@ -86,6 +86,20 @@ fn a_list_of_events(rt: HostRuntime) {
     assert!(rt; matches!(plain.holder(2), Some(Holder::Direction(5))));
 }
 
+/// Several events at a time: a block is passed, accepted, handed to a third process, and discarded by it.
+#[test]
+fn several_events(rt: HostRuntime) {
+    let mut plain = Plain::new(rt.alloc(), two_arenas()).expect(&rt, "room");
+    plain.run(&[Event::Claim(7, 2), Event::Carve(7, 2, 32)]);
+    plain.pass_all(7, 5, &[2]);
+    plain.accept_all(8, 5, &[2]);
+    assert_eq!(rt; (plain.len(2), plain.owned(7), plain.owned(8)), (32, 0, 32));
+    plain.hand_over(8, 9, 2, 3);
+    assert!(rt; plain.holds(Holder::Process(9), 2));
+    assert_eq!(rt; (plain.discard(9, 2), plain.handed_out()), (32, 0));
+    assert!(rt; plain.holder(2).is_none());
+}
+
 #[test]
 fn sizes_outside_the_limits(rt: HostRuntime) {
     for config in [

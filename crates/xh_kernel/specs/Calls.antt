@@ -4,7 +4,7 @@ use Rattle.xh_arena.specs.Views.{VaultOf}
 use Rattle.xh_core.specs.declared.block.Block.{Block}
 use Rattle.xh_core.specs.declared.refused.Refused.{Refused}
 use Rattle.xh_core.specs.declared.refused.Refused.TheVariants.{NoRecord, NoSpace, OutOfMemory, Worn}
-use Rattle.xh_core.specs.Machine.{is_vacant, is_ended}
+use Rattle.xh_core.specs.Statuses.{is_vacant, is_ended}
 use Rattle.xh_core.specs.Refusing.{Tested, first_refusal}
 use Rattle.xh_model.specs.Arena.{ArenaState, HasNoSpace, IsLawfulArena, IsWorn}
 use Rattle.xh_model.specs.Keyed.{put, value_at, without}

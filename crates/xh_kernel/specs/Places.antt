@@ -4,7 +4,7 @@ use Rattle.xh_core.specs.declared.glance.Glance.{Glance}
 use Rattle.xh_core.specs.declared.refused.Refused.TheVariants.{NoProcess, Ended as IsOver}
 use Rattle.xh_core.specs.declared.status.Status.{Status}
 use Rattle.xh_core.specs.declared.status.Status.TheVariants.{Vacant, Ended}
-use Rattle.xh_core.specs.Machine.{is_vacant, is_running, is_ended}
+use Rattle.xh_core.specs.Statuses.{is_vacant, is_running, is_ended}
 use Rattle.xh_core.specs.Refusing.{Tests}
 use Rattle.xh_glance.specs.Pen.{PenOf}
 use Rattle.xh_model.specs.declared.limits.TheConstants.{PROCESSES}

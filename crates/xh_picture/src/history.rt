@@ -3,9 +3,10 @@ ghost use Rattle.std.specs.Prelude.{◌≡◌, ◌++◌, ◌∷◌, [], IfOk, On
 
 use std::alloc::{AllocError, Global};
 use std::marker::Model;
-use xh_core::{Holder, Serial};
+use xh_core::Holder;
 use xh_model::limits::{MAX_RECORDS, PLACES};
 use xh_script::{Answered, Form, Line, Reply};
+use xh_serial::Serial;
 
 /// Who holds a block: a process, by the number of its name and its own number, or a direction.
 #[derive(Clone, Copy, PartialEq, Eq)]

@@ -4,7 +4,7 @@ use Rattle.std.specs.Prelude.{◌==◌, ◌||◌, ◌&&◌, not, cond, Option, S
 use Rattle.std.specs.List.{list_all, list_any}
 use Rattle.xh_core.specs.declared.refused.Refused.{Refused}
 use Rattle.xh_core.specs.declared.refused.Refused.TheVariants.{TooMany, NotOwned, Twice}
-use Rattle.xh_core.specs.MessageCommands.{has_twice}
+use Rattle.xh_core.specs.Several.{has_twice}
 use Rattle.xh_core.specs.Refusing.{first_refusal}
 use Rattle.xh_model.specs.Keyed.{Among, Distinct, value_at}
 use Rattle.xh_place.specs.Messages.{given_tests, is_listed}

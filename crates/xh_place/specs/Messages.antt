@@ -3,7 +3,7 @@ use Rattle.std.specs.Prelude.{◌≡◌, ℕ, not, nat_lt, Bool, List, [], ◌�
 use Rattle.std.specs.List.{list_all}
 use Rattle.xh_core.specs.declared.refused.Refused.{Refused}
 use Rattle.xh_core.specs.declared.refused.Refused.TheVariants.{TooMany, NotOwned, Twice, Protocol, PeerClosed, Full, Empty}
-use Rattle.xh_core.specs.MessageCommands.{has_twice}
+use Rattle.xh_core.specs.Several.{has_twice}
 use Rattle.xh_core.specs.Refusing.{Tests}
 use Rattle.xh_model.specs.Keyed.{Among, keys, value_at}
 use Rattle.xh_place.specs.Moves.{there_and_back}

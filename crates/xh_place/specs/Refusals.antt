@@ -1,7 +1,7 @@
 -- The refusals of each call that the place alone decides, in the order of their tests.
 use Rattle.std.specs.Prelude.{ℕ, ◌+◌, ◌++◌, Bool, true, false, not, nat_le, nat_lt, ◌==◌, ◌||◌, [], ◌∷◌, Option, Some, None, is_none}
-pub use Rattle.xh_core.specs.BlockCommands.{is_bad_cut, rounded}
-pub use Rattle.xh_core.specs.Machine.{is_running}
+pub use Rattle.xh_core.specs.Space.{is_bad_cut, rounded}
+pub use Rattle.xh_core.specs.Statuses.{is_running}
 use Rattle.xh_core.specs.declared.refused.Refused.TheVariants.{Ended, NoArena, BadSize, NotOwned, NotData, BadCut, BadRange}
 use Rattle.xh_core.specs.declared.status.Status.{Status}
 use Rattle.xh_core.specs.declared.status.Status.TheVariants as status

@@ -2,8 +2,8 @@
 use Rattle.std.proofs.Common.{◌≡◌, ◌<◌, ◌+◌, ◌++◌, suc, ℕ, List, ◌∷◌, length, drop, get_or, refl, ap, add-one, drop-cons}
 use Rattle.xh_model.specs.declared.config.Config.{Config}
 use Rattle.xh_model.specs.declared.row.Row.{Row}
-use Rattle.xh_core.specs.Machine.{Machine}
-use Rattle.xh_core.specs.PlaceCommands.{new_machine, ledger_of}
+use Rattle.xh_serial.specs.Machine.{Machine}
+use Rattle.xh_serial.specs.PlaceCommands.{new_machine, ledger_of}
 use Rattle.xh_core.specs.declared.ledger.Ledger.{Ledger}
 use Rattle.xh_script.specs.Scripts.{Listing}
 use Rattle.xh_script.specs.Texts.{answer_texts, ledger_text}

@@ -8,13 +8,14 @@ use Rattle.xh_core.specs.declared.block.Block.{Block}
 use Rattle.xh_core.specs.declared.glance.Glance.{Glance as Look}
 use Rattle.xh_core.specs.declared.refused.Refused.{Refused}
 use Rattle.xh_core.specs.declared.refused.Refused.TheVariants.{NoProcess, Ended, Twice, Full, PeerClosed, Protocol}
-use Rattle.xh_core.specs.Machine.{Machine, is_ended}
-use Rattle.xh_core.specs.Refusing.{Answer}
-use Rattle.xh_core.specs.PlaceCommands.{new_machine, spawn, glance}
-use Rattle.xh_core.specs.BlockCommands.{alloc, split, read, write, free}
-use Rattle.xh_core.specs.ChannelCommands.{open_channel, wire_channel}
-use Rattle.xh_core.specs.MessageCommands.{give, take}
-use Rattle.xh_core.specs.EndingCommands.{close, exit, kill}
+use Rattle.xh_serial.specs.Machine.{Machine}
+use Rattle.xh_core.specs.Statuses.{is_ended}
+use Rattle.xh_serial.specs.Commands.{Answer}
+use Rattle.xh_serial.specs.PlaceCommands.{new_machine, spawn, glance}
+use Rattle.xh_serial.specs.BlockCommands.{alloc, split, read, write, free}
+use Rattle.xh_serial.specs.ChannelCommands.{open_channel, wire_channel}
+use Rattle.xh_serial.specs.MessageCommands.{give, take}
+use Rattle.xh_serial.specs.EndingCommands.{close, exit, kill}
 use Rattle.xh_script.specs.declared.command.Command.{Command}
 use Rattle.xh_script.specs.declared.command.Word.{Word}
 use Rattle.xh_script.specs.declared.form.Form.{Form}

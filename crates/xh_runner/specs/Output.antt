@@ -1,7 +1,7 @@
 -- What is written for a script.
 use Rattle.std.specs.Prelude.{ℕ, List, ◌++◌}
 use Rattle.xh_model.specs.declared.config.Config.{Config}
-use Rattle.xh_core.specs.PlaceCommands.{ledger_of}
+use Rattle.xh_serial.specs.PlaceCommands.{ledger_of}
 use Rattle.xh_script.specs.Scripts.{Listing}
 use Rattle.xh_script.specs.Texts.{answer_texts, ledger_text}
 use Rattle.xh_runner.specs.Bindings.{names_by_place}

@@ -1,7 +1,7 @@
 -- What a process takes.
 use Rattle.std.specs.Prelude.{map, Some, Ok, Err}
-use Rattle.xh_core.specs.declared.message.Taken.{Taken as Message}
-use Rattle.xh_core.specs.Refusing.{Answer}
+use Rattle.xh_serial.specs.declared.message.Taken.{Taken as Message}
+use Rattle.xh_serial.specs.Commands.{Answer}
 use Rattle.xh_runner.specs.declared.received.Received.{Received}
 
 -- a message whose blocks are all there

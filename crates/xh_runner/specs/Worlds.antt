@@ -1,5 +1,5 @@
 -- The world of a session: its machine's state, its names and its contracts.
-use Rattle.xh_core.specs.Machine.{Machine}
+use Rattle.xh_serial.specs.Machine.{Machine}
 use Rattle.xh_runner.specs.declared.session.Session.{Session}
 use Rattle.xh_runner.specs.Meaning.{World}
 

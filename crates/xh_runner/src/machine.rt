@@ -1,11 +1,11 @@
 //! The machine behind a run.
 ghost use Rattle.std.specs.Prelude.{◌≡◌, OnOk, IfErr, Ok, Err, length, false};
 ghost use Rattle.std.specs.Option.{option_map};
-ghost use Rattle.xh_core.specs.PlaceCommands.{spawn, glance as glance_command};
-ghost use Rattle.xh_core.specs.BlockCommands.{alloc as alloc_command, free as free_command, read as read_command, split as split_command, write as write_command};
-ghost use Rattle.xh_core.specs.ChannelCommands.{open_channel, wire_channel};
-ghost use Rattle.xh_core.specs.MessageCommands.{give, take};
-ghost use Rattle.xh_core.specs.EndingCommands.{close, exit, kill};
+ghost use Rattle.xh_serial.specs.PlaceCommands.{spawn, glance as glance_command};
+ghost use Rattle.xh_serial.specs.BlockCommands.{alloc as alloc_command, free as free_command, read as read_command, split as split_command, write as write_command};
+ghost use Rattle.xh_serial.specs.ChannelCommands.{open_channel, wire_channel};
+ghost use Rattle.xh_serial.specs.MessageCommands.{give, take};
+ghost use Rattle.xh_serial.specs.EndingCommands.{close, exit, kill};
 ghost use Rattle.xh_runner.specs.Receiving.{receives};
 ghost use Rattle.xh_runner.specs.inner.Machines.{Does, DoesOrLacks};
 
@@ -26,7 +26,7 @@ use xh_core::{Block, Contract, Glance, Refused};
 /// was refused.
 pub(crate) trait Machine: Drop {
     ghost use Rattle.std.specs.Prelude.{Bool};
-    ghost use Rattle.xh_core.specs.Machine.{Machine as Held};
+    ghost use Rattle.xh_serial.specs.Machine.{Machine as Held};
 
     /// Whether nobody else changes the machine.
     ghost alone: { Bool };

@@ -1,7 +1,7 @@
 //! A script from its bytes to its replies and its ledger, on the serial machine.
 ghost use Rattle.std.specs.Prelude.{◌≡◌, ◌+◌, ◌++◌, ◌<◌, ◌⊎◌, length, IfOk, IfErr, OnOk, Err};
 ghost use Rattle.xh_model.specs.Config.{IsConfig};
-ghost use Rattle.xh_core.specs.PlaceCommands.{new_machine};
+ghost use Rattle.xh_serial.specs.PlaceCommands.{new_machine};
 ghost use Rattle.std.specs.List.{All};
 ghost use Rattle.xh_script.specs.Texts.{answer_texts, ledger_text};
 ghost use Rattle.xh_script.specs.declared.limits.TheConstants.{MAX_SCRIPT};
@@ -13,8 +13,9 @@ use crate::input::read_text;
 use crate::session::Session;
 use std::alloc::Global;
 use std::io::{Read, Write};
-use xh_core::{Config, Ledger, Refused, Serial};
+use xh_core::{Config, Ledger, Refused};
 use xh_script::{Answered, Fault, Name, Watched, read_script, write_answers, write_ledger};
+use xh_serial::Serial;
 
 pub(crate) fn new_machine(alloc: Global, config: Config) -> Result<Serial, Fault>
     ensures fresh { IfOk result (λ machine. machine ≡ new_machine config) }

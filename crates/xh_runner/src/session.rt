@@ -1,7 +1,7 @@
 //! A script on a machine, command by command.
 ghost use Rattle.std.specs.Prelude.{◌≡◌, ◌≢◌, ◌<◌, length, IfOk, OnOk, false};
 ghost use Rattle.std.specs.List.{All};
-ghost use Rattle.xh_core.specs.PlaceCommands.{ledger_of};
+ghost use Rattle.xh_serial.specs.PlaceCommands.{ledger_of};
 ghost use Rattle.xh_model.specs.declared.limits.TheConstants.{PLACES};
 ghost use Rattle.xh_runner.specs.Bindings.{no_bindings, names_by_place};
 ghost use Rattle.xh_runner.specs.Meaning.{step, answers, after};
@@ -16,9 +16,10 @@ mod processes;
 use crate::machine::Machine;
 use crate::names::Names;
 use std::alloc::{AllocError, Global};
-use xh_core::{Contract, Ledger, Refused, Serial};
+use xh_core::{Contract, Ledger, Refused};
 use xh_model::limits::MAX_BUDGET;
 use xh_script::{Answered, Command, Form, Line, Name, Reply};
+use xh_serial::Serial;
 
 /// A machine, what the names of a script stand for, and the script's contracts by number.
 #[derive(Drop)]

@@ -8,8 +8,9 @@ use crate::serial::new_machine;
 use crate::session::{Session, lacks_memory};
 use std::alloc::{AllocError, Global};
 use std::marker::Model;
-use xh_core::{Config, Contract, Serial};
+use xh_core::{Config, Contract};
 use xh_script::{Answered, Fault, Line};
+use xh_serial::Serial;
 
 /// A serial machine, what the names of a script stand for, and the script's contracts: what the
 /// commands were done on so far.

@@ -1,32 +1,11 @@
--- What it is that a process gets two records for the ends of a channel.
-use Rattle.std.specs.Prelude.{◌≡◌, ◌≢◌, ℕ, ◌==◌, cond, Option, Some, List}
-use Rattle.xh_model.specs.declared.event.Event.TheVariants.{Claim, Carve, Cut}
-use Rattle.xh_model.specs.declared.row.Row.{Row}
-use Rattle.xh_model.specs.Rows.{IsValid}
-use Rattle.xh_model.specs.Store.{Store, len, after, IsLawful}
-use Rattle.xh_core.specs.BlockCommands.{free_record}
-use Rattle.xh_core.specs.ChannelCommands.{claimed_once, handed}
+-- What it is that a process claims two records.
+use Rattle.std.specs.Prelude.{◌≡◌, ℕ, Some}
+use Rattle.xh_model.specs.declared.event.Event.TheVariants.{Claim}
+use Rattle.xh_model.specs.Store.{Store, after}
+use Rattle.xh_core.specs.Space.{free_record, claimed_once}
 
 -- p claimed the lowest free record of the arena, and then the next one
 pub record ClaimedTwo (p a r t : ℕ) (s n : Store) : Type 0 where
   pub low : free_record s a ≡ Some r
   pub high : free_record (claimed_once p s a) a ≡ Some t
   pub is : n ≡ after (Claim p t) (after (Claim p r) s)
-
--- and each of the two has 32 bytes now, the halves of 64; no other record has more or fewer
-pub record Paired (p a r t : ℕ) (s n : Store) : Type 0 where
-  pub low : free_record s a ≡ Some r
-  pub high : free_record (claimed_once p s a) a ≡ Some t
-  pub is : n ≡ after (Cut p r t 32) (after (Carve p r 64) (after (Claim p t) (after (Claim p r) s)))
-  pub lawful : IsLawful n
-  pub head : len n r ≡ 32
-  pub tail : len n t ≡ 32
-  pub kept : (q : ℕ) → q ≢ r → q ≢ t → len n q ≡ len s q
-
--- the end t goes on its own direction d from p to q; where they are one process it stays
-abbrev pub moved : ℕ → ℕ → ℕ → ℕ → Store → Store
-moved p q t d s = cond (p == q) s (handed p q t d s)
-
--- a contract, where there is one, is valid
-abbrev pub IsSound : Option (List Row) → Type 0
-IsSound contract = (rows : List Row) → contract ≡ Some rows → IsValid rows

@@ -1,9 +1,9 @@
 //! The records of a channel's two ends.
 ghost use Rattle.std.specs.Prelude.{◌≡◌, ◌||◌, ◌<◌, Some, None, IfOk, OnErr, MatchOption, MatchResult, is_none, length, true};
 ghost use Rattle.xh_model.specs.Store.{IsLawful};
-ghost use Rattle.xh_core.specs.BlockCommands.{free_record};
-ghost use Rattle.xh_core.specs.ChannelCommands.{claimed_once, pair_tests};
-ghost use Rattle.xh_core.specs.inner.Pairing.{ClaimedTwo, Paired, moved};
+ghost use Rattle.xh_core.specs.Space.{free_record, claimed_once, pair_tests};
+ghost use Rattle.xh_core.specs.inner.Pairing.{ClaimedTwo};
+ghost use Rattle.xh_core.specs.Pairing.{Paired, moved};
 ghost use Rattle.xh_core.specs.Refusing.{first_refusal};
 
 use super::Plain;
@@ -29,15 +29,16 @@ impl Plain {
         Some((r, t))
     }
 
-    /// The two lowest free records of an arena get 32 bytes each, or all stays as it was.
-    pub(crate) fn take_ends(&mut self, p: u16, arena: u32) -> Result<(u16, u16), Refused>
-        requires lawful { IsLawful self.old }
+    /// The two lowest free records of an arena are claimed by the process `p` and get 32 bytes each, the halves of
+    /// one run of 64. NoRecord, NoSpace and Worn; each leaves all as it was.
+    pub fn allocate_ends(&mut self, p: u16, arena: u32) -> Result<(u16, u16), Refused>
         requires process { p < 4096 }
         requires arena { arena < length self.old.arenas }
         ensures done { IfOk result (λ ends. Paired p arena ends.0 ends.1 self.old self.new) }
         ensures tests { MatchResult result (λ _. first_refusal (pair_tests p self.old arena) ≡ None) (λ refused. first_refusal (pair_tests p self.old arena) ≡ Some refused) }
         ensures unchanged { OnErr result (self.new ≡ self.old) }
     {
+        let _start = &self.records;
         let Some((r, t)) = self.claim_two(p, arena) else {
             return Err(Refused::NoRecord);
         };
@@ -51,8 +52,9 @@ impl Plain {
         Ok((r, t))
     }
 
-    /// One process passes an end on its own direction, and another one accepts it.
-    pub(crate) fn hand_over(&mut self, p: u16, q: u16, t: u16, d: u8)
+    /// The process `p` passes the record `t` on the direction `d`, and the process `q` accepts it; where they are one
+    /// process nothing is done.
+    pub fn hand_over(&mut self, p: u16, q: u16, t: u16, d: u8)
         ensures store { self.new ≡ moved p q t d self.old }
         ensures lawful { IsLawful self.new }
     {

@@ -1,7 +1,7 @@
 //! The ledger's lines of the arenas.
 ghost use Rattle.std.specs.Prelude.{◌≡◌, ◌+◌, ◌≤◌, All, length, map};
 ghost use Rattle.xh_model.specs.declared.limits.TheConstants.{MAX_ARENAS};
-ghost use Rattle.xh_core.specs.PlaceCommands.{arena_line};
+ghost use Rattle.xh_core.specs.ArenaLines.{arena_line};
 ghost use Rattle.xh_core.specs.Wearing.{IsCarved};
 
 use crate::ledger::{ARENA_LINES, ArenaLine};
@@ -40,7 +40,7 @@ fn lines_of(arenas: &[Arena]) -> ArrayVec<ArenaLine, ARENA_LINES>
 
 impl Plain {
     /// A line for each arena.
-    pub(crate) fn arena_lines(&self) -> ArrayVec<ArenaLine, ARENA_LINES>
+    pub fn arena_lines(&self) -> ArrayVec<ArenaLine, ARENA_LINES>
         ensures lines { result.items ≡ map arena_line self.now.arenas }
         ensures sums { All (λ line. line.out + line.back ≡ line.taken) result.items }
     {

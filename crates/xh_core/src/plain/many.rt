@@ -1,7 +1,6 @@
 //! Many records at a time: they are passed, accepted, or described.
 ghost use Rattle.std.specs.Prelude.{◌≡◌};
-ghost use Rattle.xh_core.specs.MessageCommands.{described, pass_all};
-ghost use Rattle.xh_core.specs.Sweeping.{accept_all, accept_from};
+ghost use Rattle.xh_core.specs.Several.{described, pass_all, accept_all, accept_from};
 
 use super::Plain;
 use crate::block::Block;
@@ -10,7 +9,7 @@ use xh_model::limits::MAX_BLOCKS;
 
 impl Plain {
     /// `p` passes these records to a direction.
-    pub(crate) fn pass_all(&mut self, p: u16, d: u8, blocks: &[u16])
+    pub fn pass_all(&mut self, p: u16, d: u8, blocks: &[u16])
         ensures { self.new ≡ pass_all p d blocks.now self.old }
     {
         for r in blocks {
@@ -19,7 +18,7 @@ impl Plain {
     }
 
     /// `p` accepts these records, which are in flight on `d`.
-    pub(crate) fn accept_all(&mut self, p: u16, d: u8, blocks: &[u16])
+    pub fn accept_all(&mut self, p: u16, d: u8, blocks: &[u16])
         ensures { self.new ≡ accept_all p d blocks.now self.old }
     {
         for r in blocks {
@@ -28,7 +27,7 @@ impl Plain {
     }
 
     /// The same, where there is such a direction.
-    pub(crate) fn accept_from(&mut self, p: u16, end: Option<u8>, blocks: &[u16])
+    pub fn accept_from(&mut self, p: u16, end: Option<u8>, blocks: &[u16])
         ensures { self.new ≡ accept_from p end blocks.now self.old }
     {
         if let Some(d) = end {
@@ -37,7 +36,7 @@ impl Plain {
     }
 
     /// These records as blocks, each with its length.
-    pub(crate) fn describe(&self, blocks: &ArrayVec<u16, MAX_BLOCKS>) -> ArrayVec<Block, MAX_BLOCKS>
+    pub fn describe(&self, blocks: &ArrayVec<u16, MAX_BLOCKS>) -> ArrayVec<Block, MAX_BLOCKS>
         ensures { result.items ≡ described self.now blocks.now.items }
     {
         let mut list = ArrayVec::new();

@@ -5,9 +5,9 @@ ghost use Rattle.std.specs.Prelude.{is_none};
 ghost use Rattle.xh_model.specs.declared.limits.TheConstants.{UNIT};
 ghost use Rattle.xh_model.specs.declared.event.Event.TheVariants.{Claim, Carve, Cut, GiveBack, Vacate};
 ghost use Rattle.xh_model.specs.declared.event.Holder.TheVariants.{Process};
-ghost use Rattle.xh_model.specs.Store.{IsLawful, after, arena_at, bytes_of, holds, is_known, len, owner};
-ghost use Rattle.xh_core.specs.BlockCommands.{free_record, space_tests};
-ghost use Rattle.xh_core.specs.inner.Gaining.{Gained};
+ghost use Rattle.xh_model.specs.Store.{after, arena_at, bytes_of, holds, is_known, len, owner};
+ghost use Rattle.xh_core.specs.Space.{free_record, space_tests};
+ghost use Rattle.xh_core.specs.Gaining.{Gained};
 ghost use Rattle.xh_core.specs.Refusing.{first_refusal};
 
 use super::Plain;
@@ -23,14 +23,14 @@ fn first_free(owners: &[Option<Holder>]) -> Option<usize>
 
 impl Plain {
     /// How many arenas there are.
-    pub(crate) fn arenas(&self) -> usize
+    pub fn arenas(&self) -> usize
         ensures { result ≡ length self.now.arenas }
     {
         self.arenas.len()
     }
 
     /// The bytes of an arena, handed out or not.
-    pub(crate) fn size(&self, arena: u32) -> u32
+    pub fn size(&self, arena: u32) -> u32
         requires { arena < length self.now.arenas }
         ensures size { result ≡ length (arena_at self.now arena).cover }
         ensures limit { result ≤ 1048576 }
@@ -39,7 +39,7 @@ impl Plain {
     }
 
     /// The bytes of a record; none where there is no such record.
-    pub(crate) fn len(&self, r: u16) -> u32
+    pub fn len(&self, r: u16) -> u32
         ensures { result ≡ len self.now r }
     {
         match self.extent(r) {
@@ -49,7 +49,7 @@ impl Plain {
     }
 
     /// The bytes of all records that a process holds.
-    pub(crate) fn owned(&self, p: u16) -> u64
+    pub fn owned(&self, p: u16) -> u64
         ensures is { result ≡ bytes_of self.now (Process p) }
         ensures most { result ≤ 2147483648 }
     {
@@ -57,7 +57,7 @@ impl Plain {
     }
 
     /// The lowest record of an arena that nobody holds.
-    pub(crate) fn free_record(&self, arena: u32) -> Option<u16>
+    pub fn free_record(&self, arena: u32) -> Option<u16>
         requires { arena < length self.now.arenas }
         ensures { result ≡ free_record self.now arena }
     {
@@ -68,9 +68,9 @@ impl Plain {
         }
     }
 
-    /// A free record is claimed and gets bytes, or all stays as it was.
-    pub(crate) fn take(&mut self, p: u16, r: u16, n: u32) -> Result<(), Refused>
-        requires lawful { IsLawful self.old }
+    /// A free record is claimed by the process `p` and gets `n` bytes, at the lowest place of its arena that has
+    /// room for them. NoSpace, and Worn; each leaves all as it was.
+    pub fn allocate(&mut self, p: u16, r: u16, n: u32) -> Result<(), Refused>
         requires process { p < 4096 }
         requires known { is_known self.old r ≡ true }
         requires free { owner self.old r ≡ None }
@@ -83,6 +83,7 @@ impl Plain {
         ensures room { MatchResult result (λ _. first_refusal (space_tests self.old (r / 256) n) ≡ None) (λ refused. first_refusal (space_tests self.old (r / 256) n) ≡ Some refused) }
         ensures unchanged { OnErr result (self.new ≡ self.old) }
     {
+        let _start = &self.records;
         self.claim(p, r);
         if let Err(refused) = self.carve(p, r, n) {
             self.vacate(p, r);
@@ -92,8 +93,8 @@ impl Plain {
         Ok(())
     }
 
-    /// The bytes of a record are given back, and the record is free. How many they were.
-    pub(crate) fn discard(&mut self, p: u16, r: u16) -> u32
+    /// The bytes of a record that the process `p` holds are given back, and the record is free. How many they were.
+    pub fn discard(&mut self, p: u16, r: u16) -> u32
         ensures store { self.new ≡ after (Vacate p r) (after (GiveBack p r) self.old) }
         ensures length { result ≡ len self.old r }
     {
@@ -103,9 +104,8 @@ impl Plain {
         len
     }
 
-    /// A free record is claimed, and gets the bytes of another past its first `k`.
-    pub(crate) fn part(&mut self, p: u16, r: u16, t: u16, k: u32)
-        requires lawful { IsLawful self.old }
+    /// A free record `t` is claimed, and gets the bytes of the record `r`, of the same arena, past its first `k`.
+    pub fn part(&mut self, p: u16, r: u16, t: u16, k: u32)
         requires process { p < 4096 }
         requires held { holds self.old (Process p) r ≡ true }
         requires known { is_known self.old t ≡ true }
@@ -120,6 +120,7 @@ impl Plain {
         ensures tail { len self.new t + k ≡ len self.old r }
         ensures others { (q : ℕ) → q ≢ r → q ≢ t → len self.new q ≡ len self.old q }
     {
+        let _start = &self.records;
         self.claim(p, t);
         self.cut(p, r, t, k);
         let _open = &self.records;

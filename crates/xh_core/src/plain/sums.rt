@@ -22,7 +22,7 @@ fn sum_of(arenas: &[Arena]) -> u64
 
 impl Plain {
     /// The bytes handed out now, over all arenas.
-    pub(crate) fn handed_out(&self) -> u64
+    pub fn handed_out(&self) -> u64
         ensures { result ≡ all_out self.now }
     {
         sum_of(&self.arenas)

@@ -3,9 +3,9 @@ use Rattle.std.specs.Prelude.{◌≡◌, ◌≢◌, Bool, true, map, Option, Som
 use Rattle.xh_core.specs.declared.block.Block.{Block}
 use Rattle.xh_core.specs.declared.refused.Refused.{Refused}
 use Rattle.xh_core.specs.declared.refused.Refused.TheVariants.{OutOfMemory}
-use Rattle.xh_core.specs.Machine.{Machine}
-use Rattle.xh_core.specs.PlaceCommands.{new_machine}
-use Rattle.xh_core.specs.Refusing.{Answer}
+use Rattle.xh_serial.specs.Machine.{Machine}
+use Rattle.xh_serial.specs.PlaceCommands.{new_machine}
+use Rattle.xh_serial.specs.Commands.{Answer}
 use Rattle.xh_place.specs.declared.got.Got.{Got}
 use Rattle.xh_place.specs.declared.got.Got.TheVariants.{Here, Missing}
 use Rattle.xh_place.specs.declared.got.Taken.{Taken}

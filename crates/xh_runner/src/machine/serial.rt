@@ -6,8 +6,9 @@ use crate::machine::Machine;
 use crate::received::Received;
 use arrayvec::ArrayVec;
 use std::alloc::Global;
-use xh_core::{Block, Contract, Glance, Refused, Serial, Taken};
+use xh_core::{Block, Contract, Glance, Refused};
 use xh_model::limits::MAX_BLOCKS;
+use xh_serial::{Serial, Taken};
 
 /// Blocks that are all there.
 fn here(blocks: &[Block]) -> ArrayVec<Option<Block>, MAX_BLOCKS>

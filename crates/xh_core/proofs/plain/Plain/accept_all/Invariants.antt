@@ -1,5 +1,5 @@
 use Rattle.std.proofs.Common.{◌≡◌, drop}
-use Rattle.xh_core.specs.Sweeping.{accept_all}
+use Rattle.xh_core.specs.Several.{accept_all}
 use Rattle.xh_core.proofs.plain.Plain.accept_all.Given as goal
 
 abbrev pub invariant-loop-r : goal.invariant-loop-r

@@ -2,7 +2,7 @@ use Rattle.std.proofs.Common.{◌≡◌, ◌∙◌, ◌<◌, List, ap, sym, subs
 use Rattle.xh_model.specs.declared.event.Event.TheVariants.{Claim, Vacate}
 use Rattle.xh_model.specs.Arena.{ArenaState}
 use Rattle.xh_model.specs.Store.{Store, after}
-use Rattle.xh_core.specs.BlockCommands.{free_record}
+use Rattle.xh_core.specs.Space.{free_record}
 use Rattle.xh_core.proofs.Claiming.{IsFree, free_is, unclaimed}
 use Rattle.xh_core.proofs.Pairs.{claim_arenas, once_is}
 use Rattle.xh_core.proofs.plain.Plain.claim_two.Goals as goal

@@ -1,5 +1,5 @@
 use Rattle.std.proofs.Common.{◌≡◌, take}
-use Rattle.xh_core.specs.MessageCommands.{described}
+use Rattle.xh_core.specs.Several.{described}
 use Rattle.xh_core.proofs.plain.Plain.describe.Given as goal
 
 abbrev pub invariant-loop-r : goal.invariant-loop-r

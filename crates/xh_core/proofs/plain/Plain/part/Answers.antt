@@ -8,7 +8,7 @@ use Rattle.xh_core.proofs.plain.Plain.part.Goals as goal
 
 pub returns-clause-head : goal.returns-clause-head
 returns-clause-head c =
-    let cl = claimed c.args.self.now c.args.p c.args.t c.requires.lawful c.requires.process c.requires.known c.requires.free in
+    let cl = claimed c.args.self.now c.args.p c.args.t (subst IsLawful c.self.view_is c.self.invariant.0) c.requires.process c.requires.known c.requires.free in
     let done : c.cut.result ≡ true = c.cut.ensures.done ∙ (ap (λ (u : Store). can (Cut c.args.p c.args.r c.args.t c.args.k) u) c.claim.ensures.after
     ∙ can_cut c.args.self.now (after (Claim c.args.p c.args.t) c.args.self.now) c.args.p c.args.r c.args.t c.args.k cl c.requires.held
     (apart c.args.self.now c.args.p c.args.r c.args.t c.requires.held c.requires.free) c.requires.arena c.requires.some c.requires.multiple c.requires.inside) in
@@ -16,7 +16,7 @@ returns-clause-head c =
 
 pub returns-clause-tail : goal.returns-clause-tail
 returns-clause-tail c =
-    let cl = claimed c.args.self.now c.args.p c.args.t c.requires.lawful c.requires.process c.requires.known c.requires.free in
+    let cl = claimed c.args.self.now c.args.p c.args.t (subst IsLawful c.self.view_is c.self.invariant.0) c.requires.process c.requires.known c.requires.free in
     let arenas : c.claim.new.self.arenas ≡ c.args.self.now.arenas = ap (λ (t : Store). t.arenas) c.claim.ensures.after ∙ cl.arenas in
     let done : c.cut.result ≡ true = c.cut.ensures.done ∙ (ap (λ (u : Store). can (Cut c.args.p c.args.r c.args.t c.args.k) u) c.claim.ensures.after
     ∙ can_cut c.args.self.now (after (Claim c.args.p c.args.t) c.args.self.now) c.args.p c.args.r c.args.t c.args.k cl c.requires.held
@@ -25,13 +25,13 @@ returns-clause-tail c =
 
 pub returns-clause-others : goal.returns-clause-others
 returns-clause-others c = λ q nr nt.
-    let cl = claimed c.args.self.now c.args.p c.args.t c.requires.lawful c.requires.process c.requires.known c.requires.free in
+    let cl = claimed c.args.self.now c.args.p c.args.t (subst IsLawful c.self.view_is c.self.invariant.0) c.requires.process c.requires.known c.requires.free in
     let arenas : c.claim.new.self.arenas ≡ c.args.self.now.arenas = ap (λ (t : Store). t.arenas) c.claim.ensures.after ∙ cl.arenas in
     c.cut.ensures.others q nr nt ∙ same_len c.args.self.now c.claim.new.self q arenas
 
 pub returns-clause-gained : goal.returns-clause-gained
 returns-clause-gained c =
-    let cl = claimed c.args.self.now c.args.p c.args.t c.requires.lawful c.requires.process c.requires.known c.requires.free in
+    let cl = claimed c.args.self.now c.args.p c.args.t (subst IsLawful c.self.view_is c.self.invariant.0) c.requires.process c.requires.known c.requires.free in
     let arenas : c.claim.new.self.arenas ≡ c.args.self.now.arenas = ap (λ (t : Store). t.arenas) c.claim.ensures.after ∙ cl.arenas in
     let done : c.cut.result ≡ true = c.cut.ensures.done ∙ (ap (λ (u : Store). can (Cut c.args.p c.args.r c.args.t c.args.k) u) c.claim.ensures.after
     ∙ can_cut c.args.self.now (after (Claim c.args.p c.args.t) c.args.self.now) c.args.p c.args.r c.args.t c.args.k cl c.requires.held
@@ -40,7 +40,7 @@ returns-clause-gained c =
     let tail : len c.cut.new.self c.args.t + c.args.k ≡ len c.args.self.now c.args.r = c.cut.ensures.tail done ∙ same_len c.args.self.now c.claim.new.self c.args.r arenas in
     let inside : c.args.k < len c.args.self.now c.args.r = c.requires.inside in
     let some : 0 < c.args.k = c.requires.some in
-    gained_one c.args.self.now c.cut.new.self c.args.p c.args.t (subst IsLawful c.self.view_is c.self.invariant.0) cl c.requires.free
+    gained_one c.args.self.now c.cut.new.self c.args.p c.args.t (subst IsLawful c.self-2.view_is c.self-2.invariant.0) cl c.requires.free
     (ap (λ (t : Store). t.owners) c.cut.ensures.after ∙ (cut-owners c.claim.new.self c.args.p c.args.r c.args.t c.args.k ∙ ap (λ (t : Store). t.owners) c.claim.ensures.after))
     (omega (arith, tail, inside))
     (λ q nt l. elim (cases_eq q c.args.r) [

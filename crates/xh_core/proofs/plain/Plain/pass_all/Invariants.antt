@@ -1,5 +1,5 @@
 use Rattle.std.proofs.Common.{◌≡◌, drop}
-use Rattle.xh_core.specs.MessageCommands.{pass_all}
+use Rattle.xh_core.specs.Several.{pass_all}
 use Rattle.xh_core.proofs.plain.Plain.pass_all.Given as goal
 
 abbrev pub invariant-loop-r : goal.invariant-loop-r

@@ -1,6 +1,6 @@
 use Rattle.std.proofs.Common.{◌≡◌, ◌+◌, take, map}
 use Rattle.std.specs.List.{All}
-use Rattle.xh_core.specs.PlaceCommands.{arena_line}
+use Rattle.xh_core.specs.ArenaLines.{arena_line}
 use Rattle.xh_core.proofs.plain.lines.lines_of.Given as goal
 
 abbrev pub invariant-loop-arena : goal.invariant-loop-arena

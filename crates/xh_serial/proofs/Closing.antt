@@ -1,0 +1,120 @@
+-- An endpoint that is moved to the end of its list.
+use Rattle.std.proofs.Common.{◌≡◌, ℕ, zero, suc, ◌+◌, ◌-◌, ◌/◌, ◌%◌, ◌<◌, ◌≤◌, Bool, List, [], ◌∷◌, ◌++◌, length, drop, true, cond, refl, sym, ap, ◌∙◌, arith, inl, inr, append-nil}
+use Rattle.std.specs.Prelude.{None, Some, not, nat_lt, unwrap_or, ◌==◌, slice_set, slice_index_or}
+use Rattle.std.specs.List.{remove, position, position_or_len}
+use Rattle.std.proofs.lemmas.Bool.{cases_eq, cases_Bool, eq-eqb, ne_eqb, ltb-false, false≢true}
+use Rattle.std.proofs.lemmas.List.{length-set}
+use Rattle.std.proofs.lemmas.List.Sums.{sum_by-remove, passes_at_first, prefix_len-le-length}
+use Rattle.std.proofs.lemmas.List.Edits.{length-remove}
+use Rattle.xh_model.specs.declared.event.Holder.{Holder}
+use Rattle.xh_model.specs.declared.event.Holder.TheVariants.{Process, Direction}
+use Rattle.xh_serial.specs.declared.place.Place.{Place}
+use Rattle.xh_model.specs.Store.{holds}
+use Rattle.xh_serial.specs.Machine.{Machine, blocks, listed, place, end_of, IsWhole}
+use Rattle.xh_core.specs.Several.{times}
+use Rattle.xh_serial.specs.Commands.{IsRunning}
+use Rattle.xh_serial.specs.Sweeping.{sweep_one}
+use Rattle.xh_serial.specs.EndingCommands.{last, moved_last}
+use Rattle.xh_serial.specs.BlockCommands.{freed_block}
+use Rattle.xh_serial.proofs.Machines.{runs_busy, place_there, list_here, list_else, current_generation, busy_place, generations_set, idle_set}
+use Rattle.xh_core.proofs.Stores.{count_append, times-cons}
+
+place_or_length : (k n : ℕ) → k ≤ n → unwrap_or (cond (nat_lt k n) (Some k) None) n ≡ k
+place_or_length k n l = elim (cases_Bool (nat_lt k n)) [
+  | inl y ↦ rw y refl
+  | inr f ↦ rw f (let g : n ≤ k = ltb-false k n f in omega (arith, l, g))
+]
+
+-- the first that passes, or the length where none does
+pub first_or_length : (p : ℕ → Bool) (xs : List ℕ) → unwrap_or (position p xs) (length xs) ≡ position_or_len p xs
+first_or_length p xs = place_or_length (position_or_len p xs) (length xs) (prefix_len-le-length (λ x. not (p x)) xs)
+
+-- where the first e stands
+pub found : (e : ℕ) (rs : List ℕ) → 0 < times e rs → position_or_len (λ q. q == e) rs < length rs
+found e [] h = absurd (omega (arith, h))
+found e (r ∷ rs) h = elim (cases_eq r e) [
+  | inl s ↦ rw (eq-eqb r e s) (omega arith)
+  | inr n ↦ (let t : times e (r ∷ rs) ≡ times e rs = times-cons e r rs ∙ rw (ne_eqb r e n) (omega arith) in
+      let more : position_or_len (λ q. q == e) rs < length rs = found e rs (omega arith) in rw (ne_eqb r e n) (omega arith))
+]
+
+pub is_found : (e : ℕ) (rs : List ℕ) → 0 < times e rs → slice_index_or rs (position_or_len (λ q. q == e) rs) 0 ≡ e
+is_found e rs h = let y : (slice_index_or rs (position_or_len (λ q. q == e) rs) 0 == e) ≡ true = passes_at_first (λ q. q == e) rs 0 (found e rs h) in
+    elim (cases_eq (slice_index_or rs (position_or_len (λ q. q == e) rs) 0) e) [
+      | inl s ↦ s
+      | inr n ↦ absurd (false≢true (sym (ne_eqb _ e n) ∙ y))
+    ]
+
+times_last : (e q : ℕ) (rs : List ℕ) → 0 < times e rs → times q (last e rs) ≡ times q rs
+times_last e q rs h =
+    let k : ℕ = position_or_len (λ x. x == e) rs in
+    let f : ℕ → ℕ = λ x. cond {A = ℕ} (x == q) 1 0 in
+    let a : times q (last e rs) ≡ times q (remove rs k) + times q (e ∷ []) = count_append q (remove rs k) (e ∷ []) in
+    let b : times q (e ∷ []) ≡ f e + times q [] = times-cons q e [] in
+    let c : times q (remove rs k) + f (slice_index_or rs k 0) ≡ times q rs = sum_by-remove f rs k 0 (found e rs h) in
+    let d : f (slice_index_or rs k 0) ≡ f e = ap f (is_found e rs h) in
+    let z : times q [] ≡ 0 = refl in
+    omega (arith, a, b, c, d, z)
+
+drop_to : (xs : List ℕ) (e n : ℕ) → length xs ≡ n → drop n (xs ++ e ∷ []) ≡ e ∷ []
+drop_to [] e n h = let z : n ≡ 0 = sym h in rw z refl
+drop_to (x ∷ xs) e zero h = absurd (omega arith)
+drop_to (x ∷ xs) e (suc n) h = drop_to xs e n (omega arith)
+
+pub drop_last : (e : ℕ) (rs : List ℕ) → 0 < times e rs → drop (length rs - 1) (last e rs) ≡ e ∷ []
+drop_last e rs h = let b : length (remove rs (position_or_len (λ x. x == e) rs)) + 1 ≡ length rs = length-remove rs (position_or_len (λ x. x == e) rs) (found e rs h) in
+    drop_to (remove rs (position_or_len (λ x. x == e) rs)) e (length rs - 1) (omega arith)
+
+pub one_listed : (m : Machine) (p e : ℕ) → IsWhole m → holds m.store (Process p) e ≡ true → 0 < times e (blocks m p)
+one_listed m p e w h = let o : times e (blocks m p) ≡ 1 = w.once (Process p) e ∙ rw h refl in omega arith
+
+module _ (m : Machine) (p e : ℕ) (w : IsWhole m) (r : IsRunning m p) (h : holds m.store (Process p) e ≡ true) where
+  abbrev x : Place
+  x = record (place m p) { blocks = record { items = last e (blocks m p) } }
+
+  generation : (place m p).generation ≡ p / 32
+  generation = current_generation m p r.0
+
+  pub last_blocks : blocks (moved_last p e m) p ≡ last e (blocks m p)
+  last_blocks = list_here m.places p x (place_there m p w) r.0
+
+  once_last : (k : Holder) (q : ℕ) → times q (listed (moved_last p e m) k) ≡ cond (holds m.store k q) 1 0
+  once_last (Process k) q = elim (cases_eq k p) [
+    | inl s ↦ rw s (ap (times q) last_blocks ∙ (times_last e q (blocks m p) (one_listed m p e w h) ∙ w.once (Process p) q))
+    | inr n ↦ ap (times q) (list_else m.places p k x (place_there m p w) generation generation n) ∙ w.once (Process k) q
+  ]
+  once_last (Direction d) q = w.once (Direction d) q
+
+  pub last_whole : IsWhole (moved_last p e m)
+  last_whole = record {
+    store = w.store;
+    once = once_last;
+    full = w.full;
+    kinds = w.kinds;
+    ends = λ r d f. let was = w.ends r d f in record { held = was.held; opened = was.opened; alone = was.alone };
+    buffers = w.buffers;
+    bytes = w.bytes;
+    places = length-set m.places (p % 32) x ∙ w.places;
+    generations = generations_set m p x w (busy_place m p (last e (blocks m p)) w (runs_busy m p r));
+    idle = idle_set m p x w (busy_place m p (last e (blocks m p)) w (runs_busy m p r));
+    lines = w.lines;
+    fresh = w.fresh;
+    contracts = w.contracts;
+    wired = w.wired;
+    opened = w.opened;
+    deep = w.deep;
+  }
+
+set_again : {A : Type 0} (xs : List A) (i : ℕ) (d : A) → slice_set xs i (slice_index_or xs i d) ≡ xs
+set_again [] i d = refl
+set_again (x ∷ xs) zero d = refl
+set_again (x ∷ xs) (suc i) d = ap (λ ys. x ∷ ys) (set_again xs i d)
+
+-- to free a data block is to sweep its entry
+pub frees_block : (m : Machine) (p r : ℕ) → 0 < times r (blocks m p) → end_of m r ≡ None → sweep_one p (position_or_len (λ q. q == r) (blocks m p)) m ≡ freed_block p r m
+unfolding sweep_one freed_block
+frees_block m p r h none =
+    let at : ℕ = position_or_len (λ q. q == r) (blocks m p) in
+    let is : slice_index_or (blocks m p) at 0 ≡ r = is_found r (blocks m p) h in
+    let same_end : slice_set m.ends r None ≡ m.ends = ap (slice_set m.ends r) (sym none) ∙ set_again m.ends r None in
+    rw (is, none, append-nil (blocks m p), same_end) refl

@@ -1,0 +1,346 @@
+-- A channel is opened, and the machine stays whole.
+use Rattle.std.proofs.Common.{◌≡◌, ◌≢◌, ℕ, ◌+◌, ◌*◌, ◌<◌, ◌≤◌, List, [], ◌∷◌, ◌++◌, length, Bool, true, false, cond, refl, sym, ap, ◌∙◌, subst, arith, ◌⊎◌, inl, inr, get_or-set_same, get_or-set_other}
+use Rattle.std.specs.Prelude.{Option, Some, None, is_some, ◌==◌, slice_set, slice_index_or}
+use Rattle.std.proofs.lemmas.Bool.{cases_eq, eq-eqb, ne_eqb}
+use Rattle.std.proofs.lemmas.List.{length-append, length-set}
+use Rattle.std.proofs.lemmas.Option.{same_Some}
+use Rattle.xh_model.specs.declared.event.Holder.{Holder}
+use Rattle.xh_model.specs.declared.event.Holder.TheVariants.{Process, Direction}
+use Rattle.xh_model.specs.declared.event.Event.TheVariants.{Claim, Carve, Cut}
+use Rattle.xh_model.specs.declared.row.Row.{Row}
+use Rattle.xh_model.specs.Rows.{InStep}
+use Rattle.xh_model.specs.Store.{Store, owner, len, holds, is_held_by, after, IsQuiet}
+use Rattle.xh_serial.specs.declared.line.Line.{Line}
+use Rattle.xh_serial.specs.Machine.{Machine, line, no_line, blocks, buffer, carried, end_of, listed, on_way, tags_of, AreWired, IsEnd, IsWhole}
+use Rattle.xh_core.specs.Several.{times}
+use Rattle.xh_serial.specs.Commands.{IsRunning}
+use Rattle.xh_serial.specs.ChannelCommands.{new_line, opened, wired}
+use Rattle.xh_serial.specs.inner.Channeling.{IsSound}
+use Rattle.xh_core.specs.Pairing.{moved}
+use Rattle.xh_serial.specs.inner.Placing.{place_in}
+use Rattle.xh_serial.proofs.Machines.{list_in, same_machine}
+use Rattle.xh_core.proofs.Claiming.{no_bytes}
+use Rattle.xh_serial.proofs.Room.{room}
+use Rattle.xh_serial.proofs.Appended.{ArePlaces, IsBusy, whole_places, running_place, appended, own_list, appended_places, appended_busy, appended_list, appended_twice, appended_both, times_longer, no_shorter}
+use Rattle.xh_core.proofs.Pairs.{Shared}
+use Rattle.xh_core.proofs.Stores.{at_set}
+
+-- ---- both ends are in step
+
+abbrev at : List Line → ℕ → Line
+at lines d = slice_index_or lines d no_line
+
+abbrev AreInStep : List Row → ℕ → Line → Line → Type 0
+AreInStep rows side x y = InStep rows side x.state (tags_of x.waiting.items) y.state (tags_of y.waiting.items)
+
+-- a channel is opened, with a valid contract or none
+opened_wired : (contracts : List (Option (List Row))) (lines : List Line) (k : ℕ) (contract : Option (List Row)) → AreWired contracts lines → k < length contracts → 2 * k + 1 < length lines
+    → IsSound contract
+    → AreWired (slice_set contracts k contract) (slice_set (slice_set lines (2 * k) (new_line contract)) (2 * k + 1) (new_line contract))
+opened_wired contracts lines k contract wired known within valid c rows is =
+    let line : Line = new_line contract in
+    let first : List Line = slice_set lines (2 * k) line in
+    let new : List Line = slice_set first (2 * k + 1) line in
+    elim (cases_eq c k) [
+      | inl same ↦ (
+          let contract_there : contract ≡ Some rows = sym (get_or-set_same contracts k contract None known)
+          ∙ (ap (λ (i : ℕ). slice_index_or (slice_set contracts k contract) i None) (sym same) ∙ is) in
+          let low : at new (2 * k) ≡ line = get_or-set_other first (2 * k + 1) (2 * k) line no_line (λ e. omega (arith, e)) ∙ get_or-set_same lines (2 * k) line no_line (omega (arith, within)) in
+          let high : at new (2 * k + 1) ≡ line = get_or-set_same first (2 * k + 1) line no_line (subst (λ n. 2 * k + 1 < n) (sym (length-set lines (2 * k) line)) within) in
+          let step : AreInStep rows 0 line line = (refl, inl refl) in
+          let one : AreInStep rows 0 line (at new (2 * k + 1)) = subst (λ l. AreInStep rows 0 line l) (sym high) step in
+          let both : AreInStep rows 0 (at new (2 * k)) (at new (2 * k + 1)) = subst (λ l. AreInStep rows 0 l (at new (2 * k + 1))) (sym low) one in
+          (valid rows contract_there, subst (λ i. AreInStep rows 0 (at new (2 * i)) (at new (2 * i + 1))) (sym same) both))
+      | inr apart ↦ (
+          let is_old : slice_index_or contracts c None ≡ Some rows = sym (get_or-set_other contracts k c contract None apart) ∙ is in
+          let low : at new (2 * c) ≡ at lines (2 * c) = get_or-set_other first (2 * k + 1) (2 * c) line no_line (λ e. omega (arith, e))
+          ∙ get_or-set_other lines (2 * k) (2 * c) line no_line (λ e. apart (omega (arith, e))) in
+          let high : at new (2 * c + 1) ≡ at lines (2 * c + 1) = get_or-set_other first (2 * k + 1) (2 * c + 1) line no_line (λ e. apart (omega (arith, e)))
+          ∙ get_or-set_other lines (2 * k) (2 * c + 1) line no_line (λ e. omega (arith, e)) in
+          let was = wired c rows is_old in
+          let one : AreInStep rows 0 (at lines (2 * c)) (at new (2 * c + 1)) = subst (λ l. AreInStep rows 0 (at lines (2 * c)) l) (sym high) was.1 in
+          (was.0, subst (λ l. AreInStep rows 0 l (at new (2 * c + 1))) (sym low) one))
+    ]
+
+-- ---- the machine after it
+
+zero_cond : (b : Bool) → cond {A = ℕ} b 0 0 ≡ 0
+zero_cond true = refl
+zero_cond false = refl
+
+-- r is the end of p and t the end of q of the next channel, in a store that says so
+abbrev pub connected : Store → ℕ → ℕ → ℕ → ℕ → Option (List Row) → Machine → Machine
+connected s p q r t contract m = record m {
+  store = s;
+  ends = slice_set (slice_set m.ends r (Some (2 * m.opened))) t (Some (2 * m.opened + 1));
+  places = appended q t (appended p r m.places);
+  lines = slice_set (slice_set m.lines (2 * m.opened) (new_line contract)) (2 * m.opened + 1) (new_line contract);
+  contracts = slice_set m.contracts m.opened contract;
+  opened = m.opened + 1;
+}
+
+module _ (s : Store) (p q r t : ℕ) (contract : Option (List Row)) (m : Machine) (w : IsWhole m) (runs_p : IsRunning m p) (runs_q : IsRunning m q) (more : m.opened < 64) (sound : IsSound contract)
+    (g : Shared p q r t m.store s) where
+  abbrev n : Machine
+  n = connected s p q r t contract m
+
+  -- ---- who holds what
+
+  owner_r : owner s r ≡ Some (Process p)
+  owner_r = g.owners r ∙ rw (ne_eqb r t g.apart, eq-eqb r r refl) refl
+
+  owner_t : owner s t ≡ Some (Process q)
+  owner_t = g.owners t ∙ rw (eq-eqb t t refl) refl
+
+  owner_else : (k : ℕ) → k ≢ r → k ≢ t → owner s k ≡ owner m.store k
+  owner_else k a b = g.owners k ∙ rw (ne_eqb k t b, ne_eqb k r a) refl
+
+  by_record : (P : ℕ → Type 0) → P r → P t → ((k : ℕ) → k ≢ r → k ≢ t → P k) → (k : ℕ) → P k
+  by_record P a b f k = elim (cases_eq k r) [
+    | inl e ↦ subst P (sym e) a
+    | inr x ↦ elim (cases_eq k t) [ inl e ↦ subst P (sym e) b | inr y ↦ f k x y ]
+  ]
+
+  places : ArePlaces m.places
+  places = whole_places m w
+
+  middle : ArePlaces (appended p r m.places)
+  middle = appended_places m.places p r places (running_place m p runs_p)
+
+  busy_q : IsBusy (appended p r m.places) q
+  busy_q = appended_busy m.places p r places (running_place m p runs_p) q (running_place m q runs_q)
+
+  between : (h : ℕ) → list_in (appended p r m.places) h ≡ cond (p == h) (blocks m h ++ r ∷ []) (blocks m h)
+  between h = appended_list m.places p r places (running_place m p runs_p) h
+
+  lists : (h : ℕ) → blocks n h ≡ cond (q == h) (list_in (appended p r m.places) h ++ t ∷ []) (list_in (appended p r m.places) h)
+  lists h = appended_list (appended p r m.places) q t middle busy_q h
+
+  count : (h j : ℕ) → times j (blocks n h) ≡ times j (blocks m h) + cond {A = ℕ} (p == h) (cond {A = ℕ} (r == j) 1 0) 0 + cond {A = ℕ} (q == h) (cond {A = ℕ} (t == j) 1 0) 0
+  count h j = ap (times j) (lists h) ∙ (times_longer (q == h) t (list_in (appended p r m.places) h) j
+      ∙ ap (λ (x : ℕ). x + cond {A = ℕ} (q == h) (cond {A = ℕ} (t == j) 1 0) 0) (ap (times j) (between h) ∙ times_longer (p == h) r (blocks m h) j))
+
+  none_before : (h : Holder) (j : ℕ) → owner m.store j ≡ None → times j (listed m h) ≡ 0
+  none_before h j f = w.once h j ∙ ap (λ o. cond {A = ℕ} (is_held_by o h) 1 0) f
+
+  once_r : (h : ℕ) → times r (blocks n h) ≡ cond (holds s (Process h) r) 1 0
+  once_r h =
+      let before : times r (blocks m h) ≡ 0 = none_before (Process h) r g.free_r in
+      let own : cond {A = ℕ} (p == h) (cond {A = ℕ} (r == r) 1 0) 0 ≡ cond {A = ℕ} (p == h) 1 0 = rw (eq-eqb r r refl) refl in
+      let other : cond {A = ℕ} (q == h) (cond {A = ℕ} (t == r) 1 0) 0 ≡ 0 = rw (ne_eqb t r (λ e. g.apart (sym e))) (zero_cond (q == h)) in
+      let all = count h r in
+      let is : times r (blocks n h) ≡ cond {A = ℕ} (p == h) 1 0 = omega (arith, before, own, other, all) in
+      is ∙ ap (λ o. cond {A = ℕ} (is_held_by o (Process h)) 1 0) (sym owner_r)
+
+  once_t : (h : ℕ) → times t (blocks n h) ≡ cond (holds s (Process h) t) 1 0
+  once_t h =
+      let before : times t (blocks m h) ≡ 0 = none_before (Process h) t g.free_t in
+      let own : cond {A = ℕ} (q == h) (cond {A = ℕ} (t == t) 1 0) 0 ≡ cond {A = ℕ} (q == h) 1 0 = rw (eq-eqb t t refl) refl in
+      let other : cond {A = ℕ} (p == h) (cond {A = ℕ} (r == t) 1 0) 0 ≡ 0 = rw (ne_eqb r t g.apart) (zero_cond (p == h)) in
+      let all = count h t in
+      let is : times t (blocks n h) ≡ cond {A = ℕ} (q == h) 1 0 = omega (arith, before, own, other, all) in
+      is ∙ ap (λ o. cond {A = ℕ} (is_held_by o (Process h)) 1 0) (sym owner_t)
+
+  once_else : (h j : ℕ) → j ≢ r → j ≢ t → times j (blocks n h) ≡ cond (holds s (Process h) j) 1 0
+  once_else h j a b =
+      let first : cond {A = ℕ} (p == h) (cond {A = ℕ} (r == j) 1 0) 0 ≡ 0 = rw (ne_eqb r j (λ e. a (sym e))) (zero_cond (p == h)) in
+      let second : cond {A = ℕ} (q == h) (cond {A = ℕ} (t == j) 1 0) 0 ≡ 0 = rw (ne_eqb t j (λ e. b (sym e))) (zero_cond (q == h)) in
+      let all = count h j in
+      let is : times j (blocks n h) ≡ times j (blocks m h) = omega (arith, first, second, all) in
+      is ∙ (w.once (Process h) j ∙ ap (λ o. cond {A = ℕ} (is_held_by o (Process h)) 1 0) (sym (owner_else j a b)))
+
+  same_direction : (d j : ℕ) → holds s (Direction d) j ≡ holds m.store (Direction d) j
+  same_direction d = by_record (λ j. holds s (Direction d) j ≡ holds m.store (Direction d) j)
+      (ap (λ o. is_held_by o (Direction d)) owner_r ∙ sym (ap (λ o. is_held_by o (Direction d)) g.free_r))
+      (ap (λ o. is_held_by o (Direction d)) owner_t ∙ sym (ap (λ o. is_held_by o (Direction d)) g.free_t))
+      (λ j a b. ap (λ o. is_held_by o (Direction d)) (owner_else j a b))
+
+  full : IsQuiet s
+  full h = by_record (λ k. holds s h k ≡ true → 0 < len s k) (λ _. g.full_r) (λ _. g.full_t)
+      (λ k a b y. subst (λ (x : ℕ). 0 < x) (sym (g.kept k a b)) (w.full h k (ap (λ o. is_held_by o h) (sym (owner_else k a b)) ∙ y)))
+
+  -- ---- the directions
+
+  long_lines : 2 * m.opened + 1 < length m.lines
+  long_lines = let e = w.lines in omega (arith, e, more)
+
+  line_is : (d : ℕ) → line n d ≡ cond (d == (2 * m.opened + 1)) (new_line contract) (cond (d == (2 * m.opened)) (new_line contract) (line m d))
+  line_is d =
+      let l : 2 * m.opened + 1 < length (slice_set m.lines (2 * m.opened) (new_line contract)) =
+      subst (λ (x : ℕ). 2 * m.opened + 1 < x) (sym (length-set m.lines (2 * m.opened) (new_line contract))) long_lines in
+      at_set (slice_set m.lines (2 * m.opened) (new_line contract)) (2 * m.opened + 1) d (new_line contract) no_line l
+      ∙ ap (λ (x : Line). cond (d == (2 * m.opened + 1)) (new_line contract) x) (at_set m.lines (2 * m.opened) d (new_line contract) no_line (let e = long_lines in omega (arith, e)))
+
+  line_else : (d : ℕ) → d ≢ 2 * m.opened → d ≢ 2 * m.opened + 1 → line n d ≡ line m d
+  line_else d a b = line_is d ∙ rw (ne_eqb d (2 * m.opened + 1) b, ne_eqb d (2 * m.opened) a) refl
+
+  line_high : (d : ℕ) → d ≡ 2 * m.opened + 1 → line n d ≡ new_line contract
+  line_high d e = line_is d ∙ rw (eq-eqb d (2 * m.opened + 1) e) refl
+
+  line_low : (d : ℕ) → d ≡ 2 * m.opened → line n d ≡ new_line contract
+  line_low d e = line_is d ∙ rw (ne_eqb d (2 * m.opened + 1) (λ f. omega (arith, e, f)), eq-eqb d (2 * m.opened) e) refl
+
+  no_way : (d : ℕ) → 2 * m.opened ≤ d → line n d ≡ new_line contract → on_way n d ≡ on_way m d
+  no_way d l e = ap (λ (x : Line). carried x.waiting.items) e ∙ sym (ap (λ (x : Line). carried x.waiting.items) (w.fresh d l))
+
+  ways : (d : ℕ) → on_way n d ≡ on_way m d
+  ways d = elim (cases_eq d (2 * m.opened)) [
+    | inl e ↦ no_way d (omega (arith, e)) (line_low d e)
+    | inr a ↦ elim (cases_eq d (2 * m.opened + 1)) [
+      | inl e ↦ no_way d (omega (arith, e)) (line_high d e)
+      | inr b ↦ ap (λ (x : Line). carried x.waiting.items) (line_else d a b)
+    ]
+  ]
+
+  once : (h : Holder) (j : ℕ) → times j (listed n h) ≡ cond (holds s h j) 1 0
+  once (Process h) j = by_record (λ k. times k (blocks n h) ≡ cond (holds s (Process h) k) 1 0) (once_r h) (once_t h) (once_else h) j
+  once (Direction d) j = ap (times j) (ways d) ∙ (w.once (Direction d) j ∙ ap (λ (x : Bool). cond {A = ℕ} x 1 0) (sym (same_direction d j)))
+
+  -- ---- the endpoints
+
+  end_is : (k : ℕ) → end_of n k ≡ cond (k == t) (Some (2 * m.opened + 1)) (cond (k == r) (Some (2 * m.opened)) (end_of m k))
+  end_is k =
+      let lr : r < length m.ends = subst (λ (x : ℕ). r < x) (sym w.kinds) g.there_r in
+      let lt : t < length (slice_set m.ends r (Some (2 * m.opened))) = subst (λ (x : ℕ). t < x) (sym (length-set m.ends r (Some (2 * m.opened)) ∙ w.kinds)) g.there_t in
+      at_set (slice_set m.ends r (Some (2 * m.opened))) t k (Some (2 * m.opened + 1)) None lt
+      ∙ ap (λ (x : Option ℕ). cond (k == t) (Some (2 * m.opened + 1)) x) (at_set m.ends r k (Some (2 * m.opened)) None lr)
+
+  end_r : end_of n r ≡ Some (2 * m.opened)
+  end_r = end_is r ∙ rw (ne_eqb r t g.apart, eq-eqb r r refl) refl
+
+  end_t : end_of n t ≡ Some (2 * m.opened + 1)
+  end_t = end_is t ∙ rw (eq-eqb t t refl) refl
+
+  end_else : (k : ℕ) → k ≢ r → k ≢ t → end_of n k ≡ end_of m k
+  end_else k a b = end_is k ∙ rw (ne_eqb k t b, ne_eqb k r a) refl
+
+  -- which endpoint it is
+  which : (k d : ℕ) → end_of n k ≡ Some d → ((k ≡ r) × (d ≡ 2 * m.opened)) ⊎ (((k ≡ t) × (d ≡ 2 * m.opened + 1)) ⊎ ((end_of m k ≡ Some d) × (d < 2 * m.opened)))
+  which k d e = elim (cases_eq k r) [
+    | inl f ↦ inl (f, same_Some _ _ (sym e ∙ (ap (end_of n) f ∙ end_r)))
+    | inr a ↦ elim (cases_eq k t) [
+      | inl f ↦ inr (inl (f, same_Some _ _ (sym e ∙ (ap (end_of n) f ∙ end_t))))
+      | inr b ↦ (let was : end_of m k ≡ Some d = sym (end_else k a b) ∙ e in inr (inr (was, (w.ends k d was).opened)))
+    ]
+  ]
+
+  kept_held : (k : ℕ) → is_some (owner m.store k) ≡ true → is_some (owner s k) ≡ true
+  kept_held = by_record (λ k. is_some (owner m.store k) ≡ true → is_some (owner s k) ≡ true) (λ _. ap is_some owner_r) (λ _. ap is_some owner_t) (λ k a b h. ap is_some (owner_else k a b) ∙ h)
+
+  is_end_r : IsEnd n r (2 * m.opened)
+  is_end_r = record {
+    held = ap is_some owner_r;
+    opened = omega arith;
+    alone = λ j f. elim (which j (2 * m.opened) f) [
+      | inl b ↦ b.0
+      | inr x ↦ elim x [
+        | inl b ↦ (let e : 2 * m.opened ≡ 2 * m.opened + 1 = b.1 in absurd (omega (arith, e)))
+        | inr b ↦ (let l : 2 * m.opened < 2 * m.opened = b.1 in absurd (omega (arith, l)))
+      ]
+    ];
+  }
+
+  is_end_t : IsEnd n t (2 * m.opened + 1)
+  is_end_t = record {
+    held = ap is_some owner_t;
+    opened = omega arith;
+    alone = λ j f. elim (which j (2 * m.opened + 1) f) [
+      | inl b ↦ (let e : 2 * m.opened + 1 ≡ 2 * m.opened = b.1 in absurd (omega (arith, e)))
+      | inr x ↦ elim x [
+        | inl b ↦ b.0
+        | inr b ↦ (let l : 2 * m.opened + 1 < 2 * m.opened = b.1 in absurd (omega (arith, l)))
+      ]
+    ];
+  }
+
+  is_end_else : (k d : ℕ) → end_of m k ≡ Some d → d < 2 * m.opened → IsEnd n k d
+  is_end_else k d e l = let was : IsEnd m k d = w.ends k d e in record {
+    held = kept_held k was.held;
+    opened = omega (arith, l);
+    alone = λ j f. elim (which j d f) [
+      | inl b ↦ (let x : d ≡ 2 * m.opened = b.1 in absurd (omega (arith, x, l)))
+      | inr y ↦ elim y [
+        | inl b ↦ (let x : d ≡ 2 * m.opened + 1 = b.1 in absurd (omega (arith, x, l)))
+        | inr b ↦ was.alone j b.0
+      ]
+    ];
+  }
+
+  is_end : (k d : ℕ) → end_of n k ≡ Some d → IsEnd n k d
+  is_end k d e = elim (which k d e) [
+    | inl b ↦ subst (λ (x : ℕ). IsEnd n x d) (sym b.0) (subst (λ (x : ℕ). IsEnd n r x) (sym b.1) is_end_r)
+    | inr y ↦ elim y [
+      | inl b ↦ subst (λ (x : ℕ). IsEnd n x d) (sym b.0) (subst (λ (x : ℕ). IsEnd n t x) (sym b.1) is_end_t)
+      | inr b ↦ is_end_else k d b.0 b.1
+    ]
+  ]
+
+  -- ---- bytes
+
+  no_buffer : (k : ℕ) → owner m.store k ≡ None → length (buffer m k) ≡ 0
+  no_buffer k f = w.bytes k ∙ (ap (λ (x : ℕ). cond {A = ℕ} (is_some (end_of m k)) 0 x) (no_bytes (owner m.store k) (len m.store k) f (w.store.owned k)) ∙ zero_cond (is_some (end_of m k)))
+
+  bytes : (k : ℕ) → length (buffer m k) ≡ cond (is_some (end_of n k)) 0 (len s k)
+  bytes = by_record (λ k. length (buffer m k) ≡ cond (is_some (end_of n k)) 0 (len s k))
+      (no_buffer r g.free_r ∙ ap (λ (o : Option ℕ). cond {A = ℕ} (is_some o) 0 (len s r)) (sym end_r))
+      (no_buffer t g.free_t ∙ ap (λ (o : Option ℕ). cond {A = ℕ} (is_some o) 0 (len s t)) (sym end_t))
+      (λ k a b. w.bytes k ∙ (ap (λ (x : ℕ). cond {A = ℕ} (is_some (end_of m k)) 0 x) (sym (g.kept k a b)) ∙ ap (λ (o : Option ℕ). cond {A = ℕ} (is_some o) 0 (len s k)) (sym (end_else k a b))))
+
+  -- ---- all of it
+
+  after_places : ArePlaces (appended q t (appended p r m.places))
+  after_places = appended_places (appended p r m.places) q t middle busy_q
+
+  pub connected_whole : IsWhole n
+  connected_whole = record {
+    store = g.lawful;
+    once = once;
+    full = full;
+    kinds = length-set (slice_set m.ends r (Some (2 * m.opened))) t (Some (2 * m.opened + 1)) ∙ (length-set m.ends r (Some (2 * m.opened)) ∙ (w.kinds ∙ sym g.many));
+    ends = is_end;
+    buffers = w.buffers ∙ sym g.many;
+    bytes = bytes;
+    places = after_places.long;
+    generations = after_places.generations;
+    idle = after_places.idle;
+    lines = length-set (slice_set m.lines (2 * m.opened) (new_line contract)) (2 * m.opened + 1) (new_line contract) ∙ (length-set m.lines (2 * m.opened) (new_line contract) ∙ w.lines);
+    fresh = λ d h. line_else d (λ e. absurd (omega (arith, h, e))) (λ e. absurd (omega (arith, h, e))) ∙ w.fresh d (omega (arith, h));
+    contracts = length-set m.contracts m.opened contract ∙ w.contracts;
+    wired = opened_wired m.contracts m.lines m.opened contract w.wired (subst (λ (x : ℕ). m.opened < x) (sym w.contracts) more) long_lines sound;
+    opened = omega (arith, more);
+    deep = w.deep;
+  }
+
+  -- ---- the lists have room
+
+  pub room_q : length (place_in (appended p r m.places) q).blocks.items < 2048
+  room_q =
+      let all : length (blocks n q) + 0 ≤ 2048 = room n q None connected_whole in
+      let is : blocks n q ≡ list_in (appended p r m.places) q ++ t ∷ [] = lists q ∙ rw (eq-eqb q q refl) refl in
+      let one : length (blocks n q) ≡ length (list_in (appended p r m.places) q) + 1 = ap length is ∙ length-append (list_in (appended p r m.places) q) (t ∷ []) in
+      let own : length (list_in (appended p r m.places) q) ≡ length (place_in (appended p r m.places) q).blocks.items = ap length (own_list (appended p r m.places) q busy_q) in
+      omega (arith, all, one, own)
+
+  pub room_p : length (place_in m.places p).blocks.items < 2048
+  room_p =
+      let all : length (blocks n p) + 0 ≤ 2048 = room n p None connected_whole in
+      let is : list_in (appended p r m.places) p ≡ list_in m.places p ++ r ∷ [] = between p ∙ rw (eq-eqb p p refl) refl in
+      let one : length (list_in (appended p r m.places) p) ≡ length (list_in m.places p) + 1 = ap length is ∙ length-append (list_in m.places p) (r ∷ []) in
+      let own : length (list_in m.places p) ≡ length (place_in m.places p).blocks.items = ap length (own_list m.places p (running_place m p runs_p)) in
+      let more_p : length (list_in (appended p r m.places) p) ≤ length (blocks n p) =
+      subst (λ (xs : List ℕ). length (list_in (appended p r m.places) p) ≤ length xs) (sym (lists p)) (no_shorter (q == p) t (list_in (appended p r m.places) p)) in
+      omega (arith, all, one, own, more_p)
+
+-- ---- the command says the same
+
+abbrev pub cut_in_two : ℕ → ℕ → ℕ → Store → Store
+cut_in_two p r t s = after (Cut p r t 32) (after (Carve p r 64) (after (Claim p t) (after (Claim p r) s)))
+
+pub connected_is : (p q r t : ℕ) (contract : Option (List Row)) (m : Machine) → IsWhole m → IsRunning m p → IsRunning m q →
+    connected (moved p q t (2 * m.opened + 1) (cut_in_two p r t m.store)) p q r t contract m ≡ wired p q r t contract m
+unfolding opened
+connected_is p q r t contract m w runs_p runs_q = elim (cases_eq p q) [
+  | inl e ↦ (let twice : appended q t (appended p r m.places) ≡ appended p t (appended p r m.places) = ap (λ (x : ℕ). appended x t (appended p r m.places)) (sym e) in
+      rw (eq-eqb p q e) (same_machine _ _ refl refl refl (twice ∙ appended_twice m.places p r (whole_places m w) (running_place m p runs_p) t) refl refl refl refl))
+  | inr n ↦ rw (ne_eqb p q n) (same_machine _ _ refl refl refl (appended_both m.places p r (whole_places m w) (running_place m p runs_p) q t (running_place m q runs_q) n) refl refl refl refl)
+]

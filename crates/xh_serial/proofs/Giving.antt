@@ -1,0 +1,257 @@
+-- A give leaves a whole machine.
+use Rattle.std.proofs.Common.{◌≡◌, ◌≢◌, ℕ, ◌+◌, ◌*◌, ◌/◌, ◌%◌, ◌<◌, ◌≤◌, List, [], ◌∷◌, ◌++◌, length}
+use Rattle.std.proofs.Common.{Bool, true, false, cond, refl, sym, ap, ◌∙◌, subst, arith, inl, inr, get_or-set_same, get_or-set_other, append-nil}
+use Rattle.std.specs.Prelude.{Option, Some, None, is_none, ◌==◌, ◌&&◌, ◌||◌, nat_lt, unwrap_or, slice_set, slice_index_or}
+use Rattle.std.specs.List.{list_all, list_any}
+use Rattle.std.proofs.lemmas.Bool.{cases_eq, cases_Bool, false≢true, eq-eqb, ne_eqb, lt-ltb, ltb-true, ltb-false}
+use Rattle.std.proofs.lemmas.List.{length-set}
+use Rattle.std.proofs.lemmas.List.Concat.{flat_map-append}
+use Rattle.xh_model.specs.declared.event.Holder.{Holder}
+use Rattle.xh_model.specs.declared.event.Holder.TheVariants.{Process, Direction}
+use Rattle.xh_model.specs.declared.event.Event.TheVariants.{Pass}
+use Rattle.xh_serial.specs.declared.message.Message.{Message}
+use Rattle.xh_serial.specs.declared.place.Place.{Place}
+use Rattle.xh_serial.specs.declared.line.Line.{Line}
+use Rattle.xh_model.specs.Store.{Store, owner, len, holds, after, change}
+use Rattle.xh_model.specs.declared.row.Row.{Row}
+use Rattle.xh_model.specs.Rows.{allowed, IsValid, InStep}
+use Rattle.xh_model.proofs.InStep.{put_step}
+use Rattle.xh_serial.specs.Machine.{Machine, blocks, place, line, no_line, waiting, peer, tags_of, contract_of, next_state, carried, on_way, listed, IsWhole}
+use Rattle.xh_core.specs.Several.{times, pass_all, has_twice}
+use Rattle.xh_serial.specs.Commands.{toward}
+use Rattle.xh_serial.specs.MessageCommands.{given, told_line, put_line, without, is_banned}
+use Rattle.xh_serial.specs.inner.Checks.{MayGive}
+use Rattle.xh_core.proofs.Stores.{count_append, done, all_owners, is_there, at_set, times-cons, same_len}
+use Rattle.xh_serial.proofs.Machines.{runs_busy, place_there, list_here, list_else, current_generation, busy_place, generations_set, idle_set, way_here, way_else, peer_ne, peer_half, peer_below}
+use Rattle.xh_serial.proofs.Wired.{state_in, IsPair, same_lines, wired_pair, half_apart}
+use Rattle.xh_serial.proofs.Moved.{Moved, moved_whole}
+
+pub any_times : (q : ℕ) (bs : List ℕ) → list_any (λ b. b == q) bs ≡ nat_lt 0 (times q bs)
+any_times q [] = refl
+any_times q (b ∷ bs) = let t : times q (b ∷ bs) ≡ cond (b == q) 1 0 + times q bs = times-cons q b bs in
+    elim (cases_eq b q) [
+      | inl e ↦ (let u : times q (b ∷ bs) ≡ 1 + times q bs = t ∙ rw (eq-eqb b q e) refl in rw (lt-ltb 0 (times q (b ∷ bs)) (omega arith), eq-eqb b q e) refl)
+      | inr n ↦ (let u : times q (b ∷ bs) ≡ times q bs = t ∙ rw (ne_eqb b q n) (omega arith) in rw (u, ne_eqb b q n) (any_times q bs))
+    ]
+
+-- the list without them has none of them, and the others as often as before
+pub times_without : (q : ℕ) (bs rs : List ℕ) → times q (without bs rs) ≡ cond (nat_lt 0 (times q bs)) 0 (times q rs)
+times_without q bs [] = elim (cases_Bool (nat_lt 0 (times q bs))) [ inl y ↦ rw y refl | inr f ↦ rw f refl ]
+times_without q bs (r ∷ rs) =
+    let t : times q (r ∷ rs) ≡ cond (r == q) 1 0 + times q rs = times-cons q r rs in
+    let more : times q (without bs rs) ≡ cond (nat_lt 0 (times q bs)) 0 (times q rs) = times_without q bs rs in
+    let k : times q (r ∷ without bs rs) ≡ cond (r == q) 1 0 + times q (without bs rs) = times-cons q r (without bs rs) in
+    elim (cases_Bool (nat_lt 0 (times r bs))) [
+      | inl y ↦ rw (any_times r bs, y) (elim (cases_eq r q) [
+        | inl e ↦ (let z : nat_lt 0 (times q bs) ≡ true = rw (sym e) y in rw z (rw z at more))
+        | inr n ↦ (let u : times q (r ∷ rs) ≡ times q rs = t ∙ rw (ne_eqb r q n) (omega arith) in rw u more)
+      ])
+      | inr f ↦ rw (any_times r bs, f) (elim (cases_eq r q) [
+        | inl e ↦ (let z : nat_lt 0 (times q bs) ≡ false = rw (sym e) f in
+            let m2 : times q (without bs rs) ≡ times q rs = rw z at more in rw z (k ∙ (rw m2 (sym t))))
+        | inr n ↦ (let u : times q (r ∷ rs) ≡ times q rs = t ∙ rw (ne_eqb r q n) (omega arith) in
+            let v : times q (r ∷ without bs rs) ≡ times q (without bs rs) = k ∙ rw (ne_eqb r q n) (omega arith) in rw u (v ∙ more))
+      ])
+    ]
+
+or_false : (a b : Bool) → (a || b) ≡ false → (a ≡ false) × (b ≡ false)
+or_false true b h = absurd (false≢true (sym h))
+or_false false b h = (refl, h)
+
+and_true : (a b : Bool) → (a && b) ≡ true → (a ≡ true) × (b ≡ true)
+and_true true b h = (refl, h)
+and_true false b h = absurd (false≢true h)
+
+-- distinct records that all pass a test
+pub distinct_pass : (test : ℕ → Bool) (bs : List ℕ) → list_all test bs ≡ true → has_twice bs ≡ false → (q : ℕ) → times q bs ≤ cond (test q) 1 0
+distinct_pass test [] a t q = omega arith
+distinct_pass test (b ∷ bs) a t q =
+    let parts = and_true (test b) (list_all test bs) a in
+    let apart = or_false (list_any (λ x. x == b) bs) (has_twice bs) t in
+    let k : times q (b ∷ bs) ≡ cond (b == q) 1 0 + times q bs = times-cons q b bs in
+    elim (cases_eq b q) [
+      | inl e ↦ (
+          let none : times q bs ≤ 0 = ltb-false 0 (times q bs) (sym (any_times q bs) ∙ rw (sym e) apart.0) in
+          let one : times q (b ∷ bs) ≡ 1 + times q bs = k ∙ rw (eq-eqb b q e) refl in
+          let yes : test q ≡ true = rw (sym e) parts.0 in rw yes (omega arith))
+      | inr n ↦ (
+          let more = distinct_pass test bs parts.1 apart.1 q in
+          let same : times q (b ∷ bs) ≡ times q bs = k ∙ rw (ne_eqb b q n) (omega arith) in omega (arith, more, same))
+    ]
+
+-- p passed these to d
+pub record Passed (d : ℕ) (rs : List ℕ) (s t : Store) : Type 0 where
+  pub owners : (q : ℕ) → owner t q ≡ cond (nat_lt 0 (times q rs)) (Some (Direction d)) (owner s q)
+  pub many : length t.owners ≡ length s.owners
+  pub arenas : t.arenas ≡ s.arenas
+
+pass_here : (p d r : ℕ) (s : Store) → d < 128 → holds s (Process p) r ≡ true → 0 < len s r → after (Pass p r d) s ≡ change (Pass p r d) s
+pass_here p d r s l h n = done (Pass p r d) s (rw (lt-ltb d 128 l, h, lt-ltb 0 (len s r) n) refl)
+
+first_one : (r : ℕ) (rs : List ℕ) (b : Bool) → times r (r ∷ rs) ≤ cond b 1 0 → (b ≡ true) × (times r rs ≡ 0)
+first_one r rs b h = let e : times r (r ∷ rs) ≡ 1 + times r rs = times-cons r r rs ∙ rw (eq-eqb r r refl) refl in
+    elim (cases_Bool b) [
+      | inl y ↦ (let k : times r (r ∷ rs) ≤ 1 = rw y at h in (y, omega arith))
+      | inr n ↦ (let k : times r (r ∷ rs) ≤ 0 = rw n at h in absurd (omega arith))
+    ]
+
+pub passed_all : (p d : ℕ) (rs : List ℕ) (s : Store) → d < 128 → ((q : ℕ) → times q rs ≤ cond (holds s (Process p) q) 1 0) → ((q : ℕ) → holds s (Process p) q ≡ true → 0 < len s q) →
+    Passed d rs s (pass_all p d rs s)
+passed_all p d [] s l h f = record { owners = λ q. refl; many = refl; arenas = refl }
+passed_all p d (r ∷ rs) s l h f =
+    let first = first_one r rs (holds s (Process p) r) (h r) in
+    let is : after (Pass p r d) s ≡ change (Pass p r d) s = pass_here p d r s l first.0 (f r first.0) in
+    let own : (q : ℕ) → owner (after (Pass p r d) s) q ≡ cond (q == r) (Some (Direction d)) (owner s q) =
+    (λ q. rw is (at_set s.owners r q (Some (Direction d)) None (is_there s (Process p) r first.0))) in
+    let rest : (q : ℕ) → times q rs ≤ cond (holds (after (Pass p r d) s) (Process p) q) 1 0 = (λ q. elim (cases_eq q r) [
+      | inl e ↦ (let z : times q rs ≡ 0 = rw e first.1 in omega (arith, z))
+      | inr n ↦ (let o : owner (after (Pass p r d) s) q ≡ owner s q = own q ∙ rw (ne_eqb q r n) refl in
+          let t : times q (r ∷ rs) ≡ times q rs = times-cons q r rs ∙ rw (ne_eqb r q (λ e. n (sym e))) (omega arith) in
+          rw o (subst (λ (x : ℕ). x ≤ cond (holds s (Process p) q) 1 0) t (h q)))
+    ]) in
+    let long : (q : ℕ) → len (after (Pass p r d) s) q ≡ len s q = (λ q. same_len s (after (Pass p r d) s) q (ap (λ (t : Store). t.arenas) is)) in
+    let full : (q : ℕ) → holds (after (Pass p r d) s) (Process p) q ≡ true → 0 < len (after (Pass p r d) s) q = (λ q y. elim (cases_eq q r) [
+      | inl e ↦ rw (long q, e) (f r first.0)
+      | inr n ↦ (let o : owner (after (Pass p r d) s) q ≡ owner s q = own q ∙ rw (ne_eqb q r n) refl in rw (long q) (f q (rw o at y)))
+    ]) in
+    let more : Passed d rs (after (Pass p r d) s) (pass_all p d rs (after (Pass p r d) s)) = passed_all p d rs (after (Pass p r d) s) l rest full in
+    record {
+      owners = λ q. more.owners q ∙ rw (own q) (all_owners (Direction d) q r rs (owner s q));
+      many = more.many ∙ (ap (λ (t : Store). length t.owners) is ∙ length-set s.owners r (Some (Direction d)));
+      arenas = more.arenas ∙ ap (λ (t : Store). t.arenas) is;
+    }
+
+-- ---- the contract
+
+tags_append : (ms : List Message) (m : Message) → tags_of (ms ++ m ∷ []) ≡ tags_of ms ++ m.tag ∷ []
+tags_append [] m = refl
+tags_append (k ∷ ms) m = ap (λ (xs : List ℕ). k.tag ∷ xs) (tags_append ms m)
+
+some_of : (o : Option ℕ) → is_none o ≡ false → (k : ℕ) × (o ≡ Some k)
+some_of None h = absurd (false≢true (sym h))
+some_of (Some k) h = (k, refl)
+
+-- the end that puts a message is in step again
+give_pair : (rows : List Row) (lines new : List Line) (d tag : ℕ) (bs : List ℕ) → IsValid rows → is_banned (Some rows) (d % 2) (state_in lines d) tag ≡ false →
+    slice_index_or new d no_line ≡ told_line (Some rows) (d % 2) tag (slice_index_or lines d no_line) →
+    slice_index_or new (peer d) no_line ≡ put_line tag bs (slice_index_or lines (peer d) no_line) → IsPair rows lines d → IsPair rows new d
+give_pair rows lines new d tag bs valid free lo hi pair =
+    let mine : Line = slice_index_or lines d no_line in
+    let theirs : Line = slice_index_or lines (peer d) no_line in
+    let row = some_of (allowed rows mine.state tag (d % 2)) free in
+    let next : next_state (Some rows) (d % 2) mine.state tag ≡ row.0 = ap (λ (o : Option ℕ). unwrap_or o mine.state) row.1 in
+    let step : InStep rows (d % 2) row.0 (tags_of mine.waiting.items) theirs.state (tags_of theirs.waiting.items ++ tag ∷ []) =
+    put_step rows (d % 2) mine.state tag row.0 theirs.state (tags_of mine.waiting.items) (tags_of theirs.waiting.items) valid pair row.1 in
+    let more : tags_of (put_line tag bs theirs).waiting.items ≡ tags_of theirs.waiting.items ++ tag ∷ [] = tags_append theirs.waiting.items _ in
+    same_lines rows (d % 2) (told_line (Some rows) (d % 2) tag mine) (slice_index_or new d no_line) (put_line tag bs theirs) (slice_index_or new (peer d) no_line) (sym lo) (sym hi)
+    (subst (λ (z : ℕ). InStep rows (d % 2) z (tags_of mine.waiting.items) theirs.state (tags_of (put_line tag bs theirs).waiting.items)) (sym next)
+    (subst (λ (xs : List ℕ). InStep rows (d % 2) row.0 (tags_of mine.waiting.items) theirs.state xs) (sym more) step))
+
+module _ (m : Machine) (p e tag : ℕ) (bs : List ℕ) (w : IsWhole m) (g : MayGive m p e tag bs (toward m e)) where
+  abbrev own : ℕ
+  own = toward m e
+
+  abbrev d : ℕ
+  d = peer (toward m e)
+
+  abbrev x : Place
+  x = record (place m p) { blocks = record { items = without bs (blocks m p) } }
+
+  abbrev z : Line
+  z = told_line (contract_of m.contracts own) (own % 2) tag (line m own)
+
+  abbrev y : Line
+  y = put_line tag bs (line m d)
+
+  abbrev told : List Line
+  told = slice_set m.lines own z
+
+  abbrev n : Machine
+  n = given p e tag bs m
+
+  generation : (place m p).generation ≡ p / 32
+  generation = current_generation m p g.runs.0
+
+  held : (q : ℕ) → times q bs ≤ cond (holds m.store (Process p) q) 1 0
+  held = distinct_pass (λ q. holds m.store (Process p) q) bs g.held g.once
+
+  below : d < 2 * m.opened
+  below = peer_below own m.opened g.within
+
+  range : d < 128
+  range = let a = below in let b = w.opened in omega (arith, a, b)
+
+  own_there : own < length m.lines
+  own_there = let a = w.lines in let b = w.opened in let c = g.within in omega (arith, a, b, c)
+
+  there : d < length told
+  there = let a = w.lines in let b = range in let c : length told ≡ length m.lines = length-set m.lines own z in omega (arith, a, b, c)
+
+  passed : Passed d bs m.store (pass_all p d bs m.store)
+  passed = passed_all p d bs m.store range held (w.full (Process p))
+
+  left : (q : ℕ) → times q (without bs (blocks m p)) + times q bs ≡ times q (blocks m p)
+  left q =
+      let a : times q (without bs (blocks m p)) ≡ cond (nat_lt 0 (times q bs)) 0 (times q (blocks m p)) = times_without q bs (blocks m p) in
+      let o : times q (blocks m p) ≡ cond {A = ℕ} (holds m.store (Process p) q) 1 0 = w.once (Process p) q in
+      let h = held q in
+      elim (cases_Bool (nat_lt 0 (times q bs))) [
+        | inl t ↦ (let k : times q (without bs (blocks m p)) ≡ 0 = rw t at a in let l = ltb-true 0 (times q bs) t in
+            let one : cond {A = ℕ} (holds m.store (Process p) q) 1 0 ≤ 1 = (elim (cases_Bool (holds m.store (Process p) q)) [ inl u ↦ rw u (omega arith) | inr u ↦ rw u (omega arith) ]) in
+            omega (arith, k, l, o, h, one))
+        | inr f ↦ (let k : times q (without bs (blocks m p)) ≡ times q (blocks m p) = rw f at a in let l : times q bs ≤ 0 = ltb-false 0 (times q bs) f in omega (arith, k, l))
+      ]
+
+  way : carried y.waiting.items ≡ on_way m d ++ bs
+  way = flat_map-append (λ (k : Message). k.blocks.items) (waiting m d) _ ∙ ap (λ xs. on_way m d ++ xs) (append-nil bs)
+
+  -- the direction toward the giver carries what it carried
+  told_way : (k : ℕ) → carried (slice_index_or told k no_line).waiting.items ≡ on_way m k
+  told_way k = elim (cases_eq k own) [
+    | inl s ↦ rw s (way_here m.lines own z own_there)
+    | inr a ↦ way_else m.lines own k z a
+  ]
+
+  others : (k : Holder) → k ≢ Process p → k ≢ Direction d → (q : ℕ) → times q (listed n k) ≡ times q (listed m k)
+  unfolding given
+  others (Process k) a b q = ap (times q) (list_else m.places p k x (place_there m p w) generation generation (λ s. a (ap (λ (i : ℕ). Process i) s)))
+  others (Direction k) a b q = ap (times q) (way_else told d k y (λ s. b (ap (λ (i : ℕ). Direction i) s)) ∙ told_way k)
+
+  own_now : slice_index_or (slice_set told d y) own no_line ≡ z
+  own_now = get_or-set_other told d own y no_line (λ s. peer_ne own (sym s)) ∙ get_or-set_same m.lines own z no_line own_there
+
+  wired : (rows : List Row) → contract_of m.contracts own ≡ Some rows → IsValid rows → IsPair rows m.lines own → IsPair rows (slice_set told d y) own
+  wired rows is valid pair = give_pair rows m.lines (slice_set told d y) own tag bs valid
+      (subst (λ (o : Option (List Row)). is_banned o (own % 2) (line m own).state tag ≡ false) is g.allowed)
+      (own_now ∙ ap (λ (o : Option (List Row)). told_line o (own % 2) tag (line m own)) is)
+      (get_or-set_same told d y no_line there) pair
+
+  other_lines : (k : ℕ) → k ≢ own → k ≢ d → slice_index_or (slice_set told d y) k no_line ≡ line m k
+  other_lines k a b = get_or-set_other told d k y no_line b ∙ get_or-set_other m.lines own k z no_line a
+
+  moves : Moved (Process p) (Direction d) bs m n
+  unfolding given
+  moves = record {
+    apart = λ s. cc;
+    range = range;
+    owners = passed.owners;
+    left = λ q. ap (λ (c : ℕ). c + times q bs) (ap (times q) (list_here m.places p x (place_there m p w) g.runs.0)) ∙ left q;
+    right = λ q. ap (times q) (way_here told d y there ∙ way) ∙ count_append q (on_way m d) bs;
+    others = others;
+    arenas = passed.arenas;
+    many = passed.many;
+    ends = refl;
+    buffers = refl;
+    places = length-set m.places (p % 32) x;
+    generations = generations_set m p x w (busy_place m p (without bs (blocks m p)) w (runs_busy m p g.runs));
+    idle = idle_set m p x w (busy_place m p (without bs (blocks m p)) w (runs_busy m p g.runs));
+    lines = length-set told d y ∙ length-set m.lines own z;
+    fresh = λ k l. other_lines k (λ s. let c = g.within in omega (arith, c, l, s)) (λ s. let c = below in omega (arith, c, l, s)) ∙ w.fresh k l;
+    contracts = refl;
+    wired = wired_pair m.contracts m.lines (slice_set told d y) own w.wired wired (λ k h. other_lines k (half_apart own k h) (λ s. h (ap (λ (i : ℕ). i / 2) s ∙ peer_half own)));
+    opened = refl;
+    depth = refl;
+  }
+
+  pub given_whole : IsWhole n
+  given_whole = moved_whole (Process p) (Direction d) bs m n w moves

@@ -1,0 +1,164 @@
+-- What is read of a machine's places and directions, after a change of one of them.
+use Rattle.std.proofs.Common.{◌≡◌, ◌≢◌, ℕ, ◌*◌, ◌/◌, ◌%◌, ◌<◌, ◌≤◌, List, [], length, true, false, cond, refl, sym, ap, ◌∙◌, arith, inl, inr, get_or-set_same, get_or-set_other}
+use Rattle.std.specs.Prelude.{◌==◌, ◌||◌, slice_set, slice_index_or}
+use Rattle.std.proofs.lemmas.Bool.{cases_eq, cases_Bool, false≢true, eq-eqb, ne_eqb, eqb-true}
+use Rattle.std.proofs.lemmas.List.{get_or_default, set-set}
+use Rattle.xh_serial.specs.declared.place.Place.{Place}
+use Rattle.xh_serial.specs.declared.line.Line.{Line}
+use Rattle.xh_core.specs.declared.status.Status.{Status}
+use Rattle.xh_core.specs.declared.status.Status.TheVariants.{Vacant, Running, Ending, Ended}
+use Rattle.xh_serial.specs.Machine.{Machine, place, is_current, blocks, no_place, no_line, peer, carried, IsWhole}
+use Rattle.xh_core.specs.Statuses.{is_vacant, is_running, is_ended}
+use Rattle.xh_serial.specs.Commands.{IsRunning}
+use Rattle.xh_serial.specs.inner.Holding.{BlocksOf}
+use Rattle.xh_serial.specs.inner.Placing.{place_in, blocks_in, relisted}
+
+-- machines with the same parts are one
+pub same_machine : (a b : Machine) → a.store ≡ b.store → a.ends ≡ b.ends → a.buffers ≡ b.buffers → a.places ≡ b.places → a.lines ≡ b.lines → a.contracts ≡ b.contracts → a.opened ≡ b.opened →
+    a.depth ≡ b.depth → a ≡ b
+same_machine a b s e f p l c o d = λ i. record { store = s i; ends = e i; buffers = f i; places = p i; lines = l i; contracts = c i; opened = o i; depth = d i }
+
+-- what the blocks of a machine hold
+abbrev pub blocks_of : Machine → BlocksOf
+blocks_of m = record { ends = m.ends; buffers = m.buffers }
+
+-- an entry that is there is the one that is read with any default
+pub read_at : {A : Type 0} (xs : List A) (i k : ℕ) (x d : A) → k < length xs → i ≡ k → x ≡ slice_index_or xs i x → x ≡ slice_index_or xs k d
+read_at xs i k x d l e h = h ∙ (ap (λ j. slice_index_or xs j x) e ∙ get_or_default xs k x d l)
+
+-- ---- places
+
+-- the list of a process among places
+abbrev pub list_in : List Place → ℕ → List ℕ
+list_in ps p = cond ((place_in ps p).generation == (p / 32)) (place_in ps p).blocks.items []
+
+pub place_here : (ps : List Place) (p : ℕ) (x : Place) → p % 32 < length ps → place_in (slice_set ps (p % 32) x) p ≡ x
+place_here ps p x l = get_or-set_same ps (p % 32) x no_place l
+
+pub place_else : (ps : List Place) (p k : ℕ) (x : Place) → k % 32 ≢ p % 32 → place_in (slice_set ps (p % 32) x) k ≡ place_in ps k
+place_else ps p k x n = get_or-set_other ps (p % 32) (k % 32) x no_place n
+
+-- a list that is changed again
+pub relisted_list : (ps : List Place) (p : ℕ) (rs : List ℕ) → p % 32 < length ps → blocks_in (relisted p rs ps) p ≡ rs
+relisted_list ps p rs l = ap (λ (x : Place). x.blocks.items) (place_here ps p (record (place_in ps p) { blocks = record { items = rs } }) l)
+
+pub relisted_again : (ps : List Place) (p : ℕ) (rs ss : List ℕ) → p % 32 < length ps → relisted p ss (relisted p rs ps) ≡ relisted p ss ps
+relisted_again ps p rs ss l =
+    ap (λ (x : Place). slice_set (relisted p rs ps) (p % 32) (record x { blocks = record { items = ss } })) (place_here ps p (record (place_in ps p) { blocks = record { items = rs } }) l)
+    ∙ set-set ps (p % 32) (record (place_in ps p) { blocks = record { items = rs } }) (record (place_in ps p) { blocks = record { items = ss } })
+
+-- the list of the latest process of a place
+list_at : (ps : List Place) (p : ℕ) (x : Place) → place_in ps p ≡ x → (x.generation == (p / 32)) ≡ true → list_in ps p ≡ x.blocks.items
+list_at ps p x e g = rw (e, g) refl
+
+no_list_at : (ps : List Place) (p : ℕ) (x : Place) → place_in ps p ≡ x → (x.generation == (p / 32)) ≡ false → list_in ps p ≡ []
+no_list_at ps p x e g = rw (e, g) refl
+
+pub list_here : (ps : List Place) (p : ℕ) (x : Place) → p % 32 < length ps → (x.generation == (p / 32)) ≡ true → list_in (slice_set ps (p % 32) x) p ≡ x.blocks.items
+list_here ps p x l g = list_at (slice_set ps (p % 32) x) p x (place_here ps p x l) g
+
+same_process_number : (p k : ℕ) → k % 32 ≡ p % 32 → k / 32 ≡ p / 32 → k ≡ p
+same_process_number p k a b = omega arith
+
+-- another process's list stays
+pub list_else : (ps : List Place) (p k : ℕ) (x : Place) → p % 32 < length ps → (place_in ps p).generation ≡ p / 32 → x.generation ≡ p / 32 → k ≢ p → list_in (slice_set ps (p % 32) x) k ≡ list_in ps k
+list_else ps p k x l g h n = elim (cases_eq (k % 32) (p % 32)) [
+  | inl e ↦ (
+      let apart : p / 32 ≢ k / 32 = (λ s. n (same_process_number p k e (sym s))) in
+      let now : place_in (slice_set ps (p % 32) x) k ≡ x = ap (λ (i : ℕ). slice_index_or (slice_set ps (p % 32) x) i no_place) e ∙ place_here ps p x l in
+      let was : place_in ps k ≡ place_in ps p = ap (λ (i : ℕ). slice_index_or ps i no_place) e in
+      no_list_at (slice_set ps (p % 32) x) k x now (rw h (ne_eqb (p / 32) (k / 32) apart))
+      ∙ sym (no_list_at ps k (place_in ps p) was (rw g (ne_eqb (p / 32) (k / 32) apart))))
+  | inr d ↦ ap (λ (y : Place). cond (y.generation == (k / 32)) y.blocks.items []) (place_else ps p k x d)
+]
+
+pub current_generation : (m : Machine) (p : ℕ) → is_current m p ≡ true → (place m p).generation ≡ p / 32
+current_generation m p h = eqb-true _ _ h
+
+-- a process with a list is the latest of its place
+pub lists_current : (m : Machine) (p from : ℕ) → from < length (blocks m p) → is_current m p ≡ true
+lists_current m p from l = elim (cases_Bool (is_current m p)) [
+  | inl y ↦ y
+  | inr f ↦ (let z : blocks m p ≡ [] = rw f refl in let e : length (blocks m p) ≡ 0 = ap length z in absurd (omega (arith, e, l)))
+]
+
+pub current_blocks : (m : Machine) (p : ℕ) → is_current m p ≡ true → blocks m p ≡ (place m p).blocks.items
+current_blocks m p h = rw h refl
+
+pub place_there : (m : Machine) (p : ℕ) → IsWhole m → p % 32 < length m.places
+place_there m p w = let e = w.places in omega (arith, e)
+
+pub current_range : (m : Machine) (p : ℕ) → IsWhole m → is_current m p ≡ true → p < 4096
+current_range m p w h = let e : (place m p).generation ≡ p / 32 = current_generation m p h in let g : (place m p).generation ≤ 127 = w.generations p in omega (arith, e, g)
+
+-- a place whose list may be what it is
+pub record IsPlace (x : Place) : Type 0 where
+  pub generation : x.generation ≤ 127
+  pub idle : (is_vacant x.status || is_ended x.status) ≡ true → x.blocks.items ≡ []
+
+-- the places but for one
+pub generations_set : (m : Machine) (p : ℕ) (x : Place) → IsWhole m → IsPlace x → (k : ℕ) → (place_in (slice_set m.places (p % 32) x) k).generation ≤ 127
+generations_set m p x w is k = elim (cases_eq (k % 32) (p % 32)) [
+  | inl e ↦ (let now : place_in (slice_set m.places (p % 32) x) k ≡ x = ap (λ (i : ℕ). slice_index_or (slice_set m.places (p % 32) x) i no_place) e
+      ∙ place_here m.places p x (place_there m p w) in rw now is.generation)
+  | inr d ↦ rw (place_else m.places p k x d) (w.generations k)
+]
+
+pub idle_set : (m : Machine) (p : ℕ) (x : Place) → IsWhole m → IsPlace x → (k : ℕ) →
+    (is_vacant (place_in (slice_set m.places (p % 32) x) k).status || is_ended (place_in (slice_set m.places (p % 32) x) k).status) ≡ true →
+    (place_in (slice_set m.places (p % 32) x) k).blocks.items ≡ []
+idle_set m p x w is k h = elim (cases_eq (k % 32) (p % 32)) [
+  | inl e ↦ (
+      let now : place_in (slice_set m.places (p % 32) x) k ≡ x = ap (λ (i : ℕ). slice_index_or (slice_set m.places (p % 32) x) i no_place) e ∙ place_here m.places p x (place_there m p w) in
+      ap (λ (y : Place). y.blocks.items) now ∙ is.idle (ap (λ (y : Place). is_vacant y.status || is_ended y.status) (sym now) ∙ h))
+  | inr d ↦ (
+      let now = place_else m.places p k x d in
+      ap (λ (y : Place). y.blocks.items) now ∙ w.idle k (ap (λ (y : Place). is_vacant y.status || is_ended y.status) (sym now) ∙ h))
+]
+
+-- a place that is not idle may have any list
+pub busy_place : (m : Machine) (p : ℕ) (rs : List ℕ) → IsWhole m → (is_vacant (place m p).status || is_ended (place m p).status) ≡ false →
+    IsPlace (record (place m p) { blocks = record { items = rs } })
+busy_place m p rs w b = record { generation = w.generations p; idle = λ h. absurd (false≢true (sym b ∙ h)) }
+
+-- a place that lists something is not idle
+pub lists_busy : (m : Machine) (p from : ℕ) → IsWhole m → from < length (blocks m p) → (is_vacant (place m p).status || is_ended (place m p).status) ≡ false
+lists_busy m p from w l = elim (cases_Bool (is_vacant (place m p).status || is_ended (place m p).status)) [
+  | inl y ↦ (let none : (place m p).blocks.items ≡ [] = w.idle p y in
+      let e : length (blocks m p) ≡ 0 = ap length (current_blocks m p (lists_current m p from l) ∙ none) in absurd (omega (arith, e, l)))
+  | inr f ↦ f
+]
+
+-- ---- directions
+
+pub way_here : (lines : List Line) (d : ℕ) (x : Line) → d < length lines → carried (slice_index_or (slice_set lines d x) d no_line).waiting.items ≡ carried x.waiting.items
+way_here lines d x l = ap (λ (y : Line). carried y.waiting.items) (get_or-set_same lines d x no_line l)
+
+pub way_else : (lines : List Line) (d k : ℕ) (x : Line) → k ≢ d → carried (slice_index_or (slice_set lines d x) k no_line).waiting.items ≡ carried (slice_index_or lines k no_line).waiting.items
+way_else lines d k x n = ap (λ (y : Line). carried y.waiting.items) (get_or-set_other lines d k x no_line n)
+
+pub peer_half : (d : ℕ) → peer d / 2 ≡ d / 2
+peer_half d = elim (cases_eq (d % 2) 0) [
+  | inl e ↦ rw (eq-eqb (d % 2) 0 e) (omega (arith, e))
+  | inr n ↦ rw (ne_eqb (d % 2) 0 n) (omega (arith, n))
+]
+
+pub peer_ne : (d : ℕ) → peer d ≢ d
+peer_ne d = elim (cases_eq (d % 2) 0) [
+  | inl e ↦ rw (eq-eqb (d % 2) 0 e) (λ s. omega (arith, e, s))
+  | inr n ↦ rw (ne_eqb (d % 2) 0 n) (λ s. omega (arith, n, s))
+]
+
+pub peer_below : (d n : ℕ) → d < 2 * n → peer d < 2 * n
+peer_below d n l = let h = peer_half d in omega (arith, h, l)
+
+-- ---- a process that runs
+
+running_busy : (s : Status) → is_running s ≡ true → (is_vacant s || is_ended s) ≡ false
+running_busy Vacant h = absurd (false≢true h)
+running_busy Running h = refl
+running_busy Ending h = absurd (false≢true h)
+running_busy Ended h = absurd (false≢true h)
+
+pub runs_busy : (m : Machine) (p : ℕ) → IsRunning m p → (is_vacant (place m p).status || is_ended (place m p).status) ≡ false
+runs_busy m p r = running_busy (place m p).status r.1

@@ -1,0 +1,6 @@
+use Rattle.std.proofs.Common.{◌≡◌, []}
+use Rattle.std.specs.Prelude.{replicate}
+use Rattle.xh_serial.proofs.blocks.no_buffers.Given as goal
+
+abbrev pub invariant-loop : goal.invariant-loop
+invariant-loop l = l.buffers.items ≡ replicate l.counter []

@@ -1,0 +1,7 @@
+use Rattle.std.proofs.Common.{◌≡◌}
+use Rattle.std.specs.Prelude.{replicate}
+use Rattle.std.specs.Prelude.{None}
+use Rattle.xh_serial.proofs.channels.no_contracts.Given as goal
+
+abbrev pub invariant-loop : goal.invariant-loop
+invariant-loop l = l.contracts.items ≡ replicate l.counter (None)

@@ -1,0 +1,127 @@
+use Rattle.std.proofs.Common.{◌≡◌, ◌∙◌, ◌<◌, ◌++◌, ◌∷◌, [], ℕ, List, length, sym, ap, subst, refl, false, Some, None}
+use Rattle.std.specs.Prelude.{replicate}
+use Rattle.std.proofs.lemmas.List.{length-set}
+use Rattle.std.proofs.lemmas.Result.{err_from_is_err_and}
+use Rattle.xh_model.specs.Store.{Store, len}
+use Rattle.xh_serial.specs.Machine.{Machine, IsWhole}
+use Rattle.xh_serial.specs.Commands.{IsRunning}
+use Rattle.xh_core.specs.Refusing.{first_refusal}
+use Rattle.xh_core.specs.Gaining.{Gained}
+use Rattle.xh_serial.specs.inner.Holding.{BlocksOf, with_bytes}
+use Rattle.xh_serial.specs.inner.Placing.{relisted}
+use Rattle.xh_serial.specs.BlockCommands.{alloc_heads, allocated}
+use Rattle.xh_core.specs.Space.{free_record, rounded, space_tests}
+use Rattle.xh_serial.proofs.Machines.{blocks_of, current_blocks, same_machine}
+use Rattle.xh_core.proofs.Claiming.{IsFree, free_is, in_range}
+use Rattle.xh_serial.proofs.Gains.{room_for, free_there, free_buffer, emptied_again, allocated_whole}
+use Rattle.xh_serial.proofs.Answering.{alloc_stopped, alloc_memory, alloc_no_room, alloc_gives}
+use Rattle.xh_serial.specs.View.{machine_of}
+use Rattle.xh_serial.proofs.serial.Serial.alloc.Goals as goal
+use Rattle.xh_serial.proofs.serial.Serial.alloc.Goals.{After-round-len}
+
+pub returns-in_err-r-clause-done : goal.returns-in_err-r-clause-done
+returns-in_err-r-clause-done c = λ _.
+    let e = err_from_is_err_and c.from_residual.result c.from_residual.ensures.1 in
+    rw (e.1, e.2) (alloc_stopped false c.args.p c.args.n c.args.arena c.args.self.now c.in_err-r.field-0.0 c.in_err-r.ensures)
+
+-- ---- what the tests found
+
+abbrev was : After-round-len → Machine
+was c = machine_of c.self.inside
+
+runs : (c : After-round-len) → IsRunning (was c) c.args.p
+runs c = rw (← c.self.view_is) at c.in_ok-r.ensures.1.0
+
+tested : (c : After-round-len) → first_refusal (alloc_heads (was c) c.args.p c.args.n c.args.arena) ≡ None
+tested c = rw (← c.self.view_is) at c.in_ok-r.ensures.0
+
+lowest : (c : After-round-len) → free_record (was c).store c.args.arena ≡ Some c.in_ok-r.r
+lowest c = rw (← c.self.view_is) at c.in_ok-r.ensures.1.1
+
+-- the record that is taken is free
+free : (c : After-round-len) → IsFree (was c).store c.args.arena c.in_ok-r.r
+free c = free_is (was c).store c.args.arena c.in_ok-r.r c.self.invariant.store (lowest c)
+
+there : (c : After-round-len) → c.in_ok-r.r < length (was c).store.owners
+there c = in_range (was c).store c.in_ok-r.r c.self.invariant.store (free c).known
+
+pub zeroed-requires : goal.zeroed-requires
+zeroed-requires c = let d = (goal.at.zeroed-requires c).After-round-len in free_there (was d) c.in_ok-r.r c.self.invariant (free d).known
+
+pub returns-in_err-zeroed-clause-refused : goal.returns-in_err-zeroed-clause-refused
+returns-in_err-zeroed-clause-refused c = λ h.
+    let d = (goal.at.returns-in_err-zeroed-clause-refused c).After-round-len in
+    rw (h, c.in_err-zeroed.ensures.kept, ← c.self.view_is) (alloc_memory c.args.p c.args.n c.args.arena (was d) (tested d))
+
+pub allocate-requires-clause-known : goal.allocate-requires-clause-known
+allocate-requires-clause-known c = (free (goal.at.allocate-requires-clause-known c).After-round-len).known
+
+pub allocate-requires-clause-free : goal.allocate-requires-clause-free
+allocate-requires-clause-free c = (free (goal.at.allocate-requires-clause-free c).After-round-len).free
+
+pub add-requires : goal.add-requires
+add-requires c =
+    let d = (goal.at.add-requires c).After-round-len in
+    room_for (was d) c.args.p c.in_ok-r.r c.self.invariant (runs d) (free d).free (there d)
+
+-- ---- where there is no room, the record's bytes are cleared again
+
+pub clear-requires : goal.clear-requires
+clear-requires c =
+    let d = (goal.at.clear-requires c).After-round-len in
+    let long : length c.zeroed.new.self.buffers ≡ length (was d).buffers = ap (λ (b : BlocksOf). length b.buffers) c.in_ok-zeroed.ensures.done
+    ∙ length-set (was d).buffers c.in_ok-r.r (replicate c.round-len.result 0) in
+    subst (λ (k : ℕ). c.in_ok-r.r < k) (sym long) (free_there (was d) c.in_ok-r.r c.self.invariant (free d).known)
+
+abbrev begun : goal.After-clear → After-round-len
+begun c = (goal.at.returns-in-Err-clause-done c).After-round-len
+
+restored : (c : goal.After-clear) → c.clear.new.self ≡ blocks_of (was (begun c))
+restored c =
+    let m : Machine = was (begun c) in
+    c.clear.ensures ∙ (ap (with_bytes c.in_ok-r.r []) c.in_ok-zeroed.ensures.done
+    ∙ (λ i. record { ends = m.ends; buffers = emptied_again m.buffers c.in_ok-r.r (replicate c.round-len.result 0) (free_buffer m c.in_ok-r.r c.self.invariant (free (begun c)).free) i }))
+
+pub invariant_of-self-in-Err : goal.invariant_of-self-in-Err
+invariant_of-self-in-Err c =
+    let m : Machine = was (begun c) in
+    subst IsWhole (sym (same_machine (record m { store = c.allocate.new.self; ends = c.clear.new.self.ends; buffers = c.clear.new.self.buffers }) m c.in-Err.ensures.unchanged
+    (ap (λ (b : BlocksOf). b.ends) (restored c)) (ap (λ (b : BlocksOf). b.buffers) (restored c)) refl refl refl refl refl)) c.self.invariant
+
+pub returns-in-Err-clause-done : goal.returns-in-Err-clause-done
+returns-in-Err-clause-done c = λ _.
+    let m : Machine = was (begun c) in
+    let room : first_refusal (space_tests m.store c.args.arena (rounded c.args.n)) ≡ Some c.in-Err.refused = rw ((free (begun c)).arena, c.round-len.ensures) at c.in-Err.ensures.room in
+    rw (c.in-Err.ensures.unchanged, restored c, ← c.self.view_is) (alloc_no_room c.args.p c.args.n c.args.arena m c.in-Err.refused (tested (begun c)) room)
+
+-- ---- the machine after, which is that of the command
+
+abbrev steps : goal.After-add → After-round-len
+steps c = (goal.at.returns-clause-done c).After-round-len
+
+abbrev is : goal.After-add → Machine
+is c = record (machine_of c.self.inside) { store = c.allocate.new.self; ends = c.zeroed.new.self.ends; buffers = c.zeroed.new.self.buffers; places = c.add.new.self }
+
+made : (c : goal.After-add) → is c ≡ allocated c.args.p c.in_ok-r.r c.round-len.result (was (steps c))
+unfolding allocated
+made c =
+    let m : Machine = was (steps c) in
+    same_machine (is c) (allocated c.args.p c.in_ok-r.r c.round-len.result m) c.in_default.ensures.store
+    (ap (λ (b : BlocksOf). b.ends) c.in_ok-zeroed.ensures.done) (ap (λ (b : BlocksOf). b.buffers) c.in_ok-zeroed.ensures.done)
+    (c.add.ensures ∙ ap (λ (xs : List ℕ). relisted c.args.p (xs ++ c.in_ok-r.r ∷ []) m.places) (sym (current_blocks m c.args.p (runs (steps c)).0)))
+    refl refl refl refl
+
+pub invariant_of-self-2 : goal.invariant_of-self-2
+invariant_of-self-2 c =
+    let d = steps c in
+    let store = c.in_default.ensures.store in
+    subst IsWhole (sym (made c)) (allocated_whole (was d) c.args.p c.in_ok-r.r c.round-len.result c.self.invariant (runs d)
+    (subst (λ (t : Store). Gained c.args.p (c.in_ok-r.r ∷ []) (was d).store t) store c.in_default.ensures.gained) (free d).free (there d)
+    (subst (λ (t : Store). len t c.in_ok-r.r ≡ c.round-len.result) store c.in_default.ensures.length)
+    (λ q ne. subst (λ (t : Store). len t q ≡ len (was d).store q) store (c.in_default.ensures.others q ne)))
+
+pub returns-clause-done : goal.returns-clause-done
+returns-clause-done c = λ _.
+    let d = steps c in
+    let room : first_refusal (space_tests (was d).store c.args.arena (rounded c.args.n)) ≡ None = rw ((free d).arena, c.round-len.ensures) at c.in_default.ensures.room in
+    rw (made c, c.round-len.ensures, ← c.self.view_is) (alloc_gives c.args.p c.args.n c.args.arena c.in_ok-r.r (was d) (tested d) (lowest d) room)

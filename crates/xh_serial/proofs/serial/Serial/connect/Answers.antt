@@ -1,0 +1,141 @@
+use Rattle.std.proofs.Common.{◌≡◌, ◌∙◌, ◌*◌, ◌+◌, ◌%◌, ◌<◌, ℕ, List, length, sym, ap, refl, subst, Some, None, Ok}
+use Rattle.std.specs.Prelude.{slice_index_or}
+use Rattle.std.proofs.lemmas.Result.{err_from_is_err_and}
+use Rattle.xh_model.specs.Store.{Store}
+use Rattle.xh_serial.specs.declared.place.Place.{Place}
+use Rattle.xh_serial.specs.Machine.{Machine, IsWhole, no_place}
+use Rattle.xh_core.specs.Refusing.{first_refusal}
+use Rattle.xh_serial.specs.Commands.{IsRunning}
+use Rattle.xh_serial.specs.ChannelCommands.{ends_at, wired, wire_channel, wire_heads}
+use Rattle.xh_core.specs.Space.{pair_tests}
+use Rattle.xh_serial.specs.inner.Holding.{BlocksOf, with_end}
+use Rattle.xh_core.specs.Pairing.{Paired, moved}
+use Rattle.xh_serial.proofs.Machines.{blocks_of, same_machine}
+use Rattle.xh_serial.proofs.Appended.{appended}
+use Rattle.xh_serial.proofs.Connected.{connected, connected_whole, connected_is, room_p, room_q}
+use Rattle.xh_serial.proofs.Opening.{wire_stopped, wire_no_room, wire_done, pair_there, all_shared}
+use Rattle.xh_core.proofs.Pairs.{Shared}
+use Rattle.xh_serial.proofs.Wired.{wired_orderly}
+use Rattle.xh_serial.specs.View.{machine_of}
+use Rattle.xh_serial.proofs.serial.Serial.connect.Goals as goal
+use Rattle.xh_serial.proofs.serial.Serial.connect.Goals.{In_ok-r, After-hand_over}
+
+pub returns-in_err-check_wire-clause-is : goal.returns-in_err-check_wire-clause-is
+returns-in_err-check_wire-clause-is c =
+    let e = err_from_is_err_and c.from_residual.result c.from_residual.ensures.1 in
+    rw (e.1, e.2) (wire_stopped c.args.p c.args.q c.args.arena c.args.contract c.args.self.now c.in_err-check_wire.field-0.0 c.in_err-check_wire.ensures)
+
+pub returns-in_err-check_wire-clause-orderly : goal.returns-in_err-check_wire-clause-orderly
+returns-in_err-check_wire-clause-orderly c =
+    let w : IsWhole c.args.self.now = subst IsWhole c.self.view_is c.self.invariant in
+    wired_orderly c.args.self.now w.wired
+
+pub returns-in_err-r-clause-is : goal.returns-in_err-r-clause-is
+returns-in_err-r-clause-is c =
+    let e = err_from_is_err_and c.from_residual-in_err-r.result c.from_residual-in_err-r.ensures.1 in
+    let room = subst (λ (x : Machine). first_refusal (pair_tests c.args.p x.store c.args.arena) ≡ Some c.in_err-r.field-0.0) c.self.view_is c.in_err-r.ensures.tests in
+    rw (e.1, e.2, c.in_err-r.ensures.unchanged, c.self.view_is) (wire_no_room c.args.p c.args.q c.args.arena c.args.contract c.args.self.now c.in_err-r.field-0.0 c.in_ok-check_wire.ensures.0 room)
+
+pub returns-in_err-r-clause-orderly : goal.returns-in_err-r-clause-orderly
+returns-in_err-r-clause-orderly c =
+    let m : Machine = record (machine_of c.self.inside) { store = c.allocate_ends.new.self } in
+    wired_orderly m c.self.invariant.wired
+
+-- ---- the two records have blocks
+
+there : (c : In_ok-r) → (c.in_ok-r.r < length c.self.inside.blocks.buffers) × (c.in_ok-r.t < length c.self.inside.blocks.buffers)
+there c =
+    pair_there (machine_of c.self.inside) c.args.p c.args.arena c.in_ok-r.r c.in_ok-r.t c.allocate_ends.new.self c.self.invariant
+    (subst (λ (x : Machine). IsRunning x c.args.p) (sym c.self.view_is) c.in_ok-check_wire.ensures.1.0) c.in_ok-r.ensures.done
+
+pub bind-requires : goal.bind-requires
+bind-requires c = (there (goal.at.bind-requires c).In_ok-r).0
+
+pub bind-requires-2 : goal.bind-requires-2
+bind-requires-2 c = rw c.bind.ensures (there (goal.at.bind-requires-2 c).In_ok-r).1
+
+-- ---- what the steps before the lists found
+
+abbrev was : After-hand_over → Machine
+was c = machine_of c.self.inside
+
+first_runs : (c : After-hand_over) → IsRunning (was c) c.args.p
+first_runs c = subst (λ (x : Machine). IsRunning x c.args.p) (sym c.self.view_is) c.in_ok-check_wire.ensures.1.0
+
+second_runs : (c : After-hand_over) → IsRunning (was c) c.args.q
+second_runs c = subst (λ (x : Machine). IsRunning x c.args.q) (sym c.self.view_is) c.in_ok-check_wire.ensures.1.1
+
+more : (c : After-hand_over) → (was c).opened < 64
+more c = subst (λ (x : Machine). x.opened < 64) (sym c.self.view_is) c.in_ok-check_wire.ensures.1.3
+
+handed : (c : After-hand_over) → c.hand_over.new.self ≡ moved c.args.p c.args.q c.in_ok-r.t (2 * (was c).opened + 1) c.allocate_ends.new.self
+handed c = c.hand_over.ensures.store ∙ ap (λ (k : ℕ). moved c.args.p c.args.q c.in_ok-r.t (2 * k + 1) c.allocate_ends.new.self) c.open-channel.ensures.number
+
+shared : (c : After-hand_over) → Shared c.args.p c.args.q c.in_ok-r.r c.in_ok-r.t (was c).store c.hand_over.new.self
+shared c =
+    all_shared (was c) c.args.p c.args.q c.args.arena c.in_ok-r.r c.in_ok-r.t c.allocate_ends.new.self c.hand_over.new.self c.self.invariant (first_runs c) (second_runs c)
+    (more c) c.in_ok-r.ensures.done (handed c) c.hand_over.ensures.lawful
+
+pub add-requires : goal.add-requires
+add-requires c =
+    let d = (goal.at.add-requires c).After-hand_over in
+    room_p c.hand_over.new.self c.args.p c.args.q c.in_ok-r.r c.in_ok-r.t c.args.contract (was d) c.self.invariant (first_runs d) (second_runs d) (more d)
+    c.open-channel.ensures.sound (shared d)
+
+pub add-requires-2 : goal.add-requires-2
+add-requires-2 c =
+    let d = (goal.at.add-requires-2 c).After-hand_over in
+    let listed : c.add.new.self ≡ appended c.args.p c.in_ok-r.r (was d).places = c.add.ensures in
+    subst (λ (ps : List Place). length (slice_index_or ps (c.args.q % 32) no_place).blocks.items < 2048) (sym listed)
+    (room_q c.hand_over.new.self c.args.p c.args.q c.in_ok-r.r c.in_ok-r.t c.args.contract (was d) c.self.invariant (first_runs d) (second_runs d) (more d) c.open-channel.ensures.sound (shared d))
+
+-- ---- the machine at the end
+
+abbrev steps : goal.After-add-2 → After-hand_over
+steps c = (goal.at.returns-clause-is c).After-hand_over
+
+abbrev is : goal.After-add-2 → Machine
+is c = record (machine_of c.self.inside) {
+  store = c.hand_over.new.self;
+  ends = c.bind-2.new.self.ends;
+  buffers = c.bind-2.new.self.buffers;
+  places = c.add-2.new.self;
+  lines = c.open-channel.new.self.lines;
+  contracts = c.open-channel.new.self.contracts;
+  opened = c.open-channel.new.self.opened;
+}
+
+-- it is the one with a channel more
+made : (c : goal.After-add-2) → is c ≡ connected c.hand_over.new.self c.args.p c.args.q c.in_ok-r.r c.in_ok-r.t c.args.contract (was (steps c))
+made c =
+    let first : c.add.new.self ≡ appended c.args.p c.in_ok-r.r (was (steps c)).places = c.add.ensures in
+    let second : c.add-2.new.self ≡ appended c.args.q c.in_ok-r.t c.add.new.self = c.add-2.ensures in
+    let held : c.bind-2.new.self ≡ with_end c.in_ok-r.t (Some (2 * (was (steps c)).opened + 1)) (with_end c.in_ok-r.r (Some (2 * (was (steps c)).opened)) (blocks_of (was (steps c)))) =
+    c.bind-2.ensures ∙ (λ i. with_end c.in_ok-r.t (Some (2 * c.open-channel.ensures.number i + 1))
+    ((c.bind.ensures ∙ (λ j. with_end c.in_ok-r.r (Some (2 * c.open-channel.ensures.number j)) (blocks_of (was (steps c))))) i)) in
+    same_machine (is c) (connected c.hand_over.new.self c.args.p c.args.q c.in_ok-r.r c.in_ok-r.t c.args.contract (was (steps c))) refl
+    (ap (λ (b : BlocksOf). b.ends) held) (ap (λ (b : BlocksOf). b.buffers) held)
+    (second ∙ ap (λ (ps : List Place). appended c.args.q c.in_ok-r.t ps) first)
+    c.open-channel.ensures.lines c.open-channel.ensures.contracts c.open-channel.ensures.opened refl
+
+whole : (c : goal.After-add-2) → IsWhole (is c)
+whole c =
+    subst IsWhole (sym (made c)) (connected_whole c.hand_over.new.self c.args.p c.args.q c.in_ok-r.r c.in_ok-r.t c.args.contract (was (steps c)) c.self.invariant (first_runs (steps c))
+    (second_runs (steps c)) (more (steps c)) c.open-channel.ensures.sound (shared (steps c)))
+
+pub invariant_of-self-2 : goal.invariant_of-self-2
+invariant_of-self-2 c = whole c
+
+pub returns-clause-orderly : goal.returns-clause-orderly
+returns-clause-orderly c = wired_orderly (is c) (whole c).wired
+
+pub returns-clause-is : goal.returns-clause-is
+returns-clause-is c =
+    let heads = subst (λ (x : Machine). first_refusal (wire_heads x c.args.p c.args.q c.args.arena) ≡ None) (sym c.self.view_is) c.in_ok-check_wire.ensures.0 in
+    let pair : Paired c.args.p c.args.arena c.in_ok-r.r c.in_ok-r.t (was (steps c)).store c.allocate_ends.new.self = c.in_ok-r.ensures.done in
+    let done = wire_done c.args.p c.args.q c.args.arena c.in_ok-r.r c.in_ok-r.t c.args.contract (was (steps c)) c.allocate_ends.new.self heads c.in_ok-r.ensures.tests pair in
+    let store = handed (steps c) ∙ ap (λ (s : Store). moved c.args.p c.args.q c.in_ok-r.t (2 * (was (steps c)).opened + 1) s) pair.is in
+    let end : wired c.args.p c.args.q c.in_ok-r.r c.in_ok-r.t c.args.contract (was (steps c)) ≡ is c =
+    sym (made c ∙ (ap (λ (s : Store). connected s c.args.p c.args.q c.in_ok-r.r c.in_ok-r.t c.args.contract (was (steps c))) store
+    ∙ connected_is c.args.p c.args.q c.in_ok-r.r c.in_ok-r.t c.args.contract (was (steps c)) c.self.invariant (first_runs (steps c)) (second_runs (steps c)))) in
+    ap (λ (x : Machine). wire_channel c.args.p c.args.q c.args.arena c.args.contract x) (sym c.self.view_is) ∙ (done ∙ (λ i. (Ok (ends_at c.in_ok-r.r c.in_ok-r.t), end i)))

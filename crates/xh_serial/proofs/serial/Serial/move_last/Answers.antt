@@ -1,0 +1,54 @@
+use Rattle.std.proofs.Common.{◌≡◌, ◌∙◌, ℕ, List, length, sym, ap, subst, arith, true}
+use Rattle.xh_model.specs.declared.event.Holder.TheVariants.{Process}
+use Rattle.xh_model.specs.Store.{holds}
+use Rattle.xh_serial.specs.declared.place.Place.{Place}
+use Rattle.xh_serial.specs.Machine.{Machine, IsWhole, blocks}
+use Rattle.xh_serial.specs.View.{machine_of}
+use Rattle.xh_serial.specs.Commands.{IsRunning}
+use Rattle.xh_serial.specs.inner.Placing.{blocks_in, relisted}
+use Rattle.xh_serial.specs.EndingCommands.{last, moved_last}
+use Rattle.xh_serial.proofs.Machines.{current_blocks}
+use Rattle.xh_serial.proofs.Closing.{last_whole}
+use Rattle.xh_serial.proofs.Gains.{listed_place}
+use Rattle.xh_serial.proofs.serial.Serial.move_last.Goals as goal
+use Rattle.xh_serial.proofs.serial.Serial.move_last.Goals.{After-self}
+
+abbrev was : After-self → Machine
+was c = machine_of c.self.inside
+
+runs : (c : After-self) → IsRunning (was c) c.args.p
+runs c = subst (λ (x : Machine). IsRunning x c.args.p) (sym c.self.view_is) c.requires.runs
+
+held : (c : After-self) → holds (was c).store (Process c.args.p) c.args.e ≡ true
+held c = ap (λ (x : Machine). holds x.store (Process c.args.p) c.args.e) c.self.view_is ∙ c.requires.held
+
+pub move_last-requires : goal.move_last-requires
+move_last-requires c =
+    let d = (goal.at.move_last-requires c).After-self in
+    listed_place (was d) c.args.p c.args.e c.self.invariant (runs d) (held d)
+
+-- ---- the machine after
+
+abbrev begun : goal.After-move_last → After-self
+begun c = (goal.at.returns-clause-is c).After-self
+
+list_is : (c : goal.After-move_last) → blocks (was (begun c)) c.args.p ≡ blocks_in (was (begun c)).places c.args.p
+list_is c = current_blocks (was (begun c)) c.args.p (runs (begun c)).0
+
+made : (c : goal.After-move_last) → record (was (begun c)) { places = c.move_last.new.self } ≡ moved_last c.args.p c.args.e (was (begun c))
+made c =
+    let m : Machine = was (begun c) in
+    ap (λ (ps : List Place). record m { places = ps }) (c.move_last.ensures.list ∙ ap (λ (rs : List ℕ). relisted c.args.p (last c.args.e rs) m.places) (sym (list_is c)))
+
+pub invariant_of-self : goal.invariant_of-self
+invariant_of-self c = subst IsWhole (sym (made c)) (last_whole (was (begun c)) c.args.p c.args.e c.self.invariant (runs (begun c)) (held (begun c)))
+
+pub returns-clause-is : goal.returns-clause-is
+returns-clause-is c = made c ∙ ap (moved_last c.args.p c.args.e) c.self.view_is
+
+pub returns-clause-at : goal.returns-clause-at
+returns-clause-at c =
+    let here = c.move_last.ensures.at in
+    let long : length (blocks (was (begun c)) c.args.p) ≡ length (blocks_in (was (begun c)).places c.args.p) = ap length (list_is c) in
+    let same = ap (λ (x : Machine). length (blocks x c.args.p)) c.self.view_is in
+    omega (arith, here, long, same)

@@ -1,0 +1,11 @@
+use Rattle.std.proofs.Common.{◌≡◌, ◌≤◌, ◌<◌, ◌++◌, drop, length}
+use Rattle.std.specs.Prelude.{All}
+use Rattle.xh_serial.specs.PlaceCommands.{place_lines}
+use Rattle.xh_serial.proofs.serial.Serial.place_lines.Given as goal
+
+abbrev pub invariant-loop-at : goal.invariant-loop-at
+invariant-loop-at l = record {
+  lines : l.lines.items ++ place_lines l.self.store l.at (drop l.at l.self.places) ≡ place_lines l.self.store 0 l.self.places;
+  few : length l.lines.items ≤ l.at;
+  below : All (λ line. line.place < 32) l.lines.items;
+}

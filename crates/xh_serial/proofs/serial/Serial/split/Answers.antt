@@ -1,0 +1,98 @@
+use Rattle.std.proofs.Common.{◌≡◌, ◌+◌, ◌/◌, ◌<◌, ◌≢◌, length, ◌∷◌, [], arith, sym, subst, false, None}
+use Rattle.std.proofs.lemmas.Result.{err_from_is_err_and}
+use Rattle.xh_model.specs.declared.event.Holder.TheVariants.{Process}
+use Rattle.xh_model.specs.Store.{Store, len}
+use Rattle.xh_serial.specs.Machine.{Machine, IsWhole}
+use Rattle.xh_core.specs.Refusing.{first_refusal}
+use Rattle.xh_core.specs.Gaining.{Gained}
+use Rattle.xh_serial.specs.BlockCommands.{parted, split_heads}
+use Rattle.xh_serial.specs.inner.Checks.{MaySplit}
+use Rattle.xh_core.proofs.Stores.{is_there}
+use Rattle.xh_core.proofs.Claiming.{IsFree, free_is, in_range, apart}
+use Rattle.xh_serial.proofs.Gains.{room_for, free_there, parted_is, parted_whole}
+use Rattle.xh_serial.proofs.Answering.{split_stopped, split_memory, split_gives}
+use Rattle.xh_serial.specs.View.{machine_of}
+use Rattle.xh_serial.proofs.serial.Serial.split.Goals as goal
+use Rattle.xh_serial.proofs.serial.Serial.split.Goals.{In_ok-t}
+
+pub returns-in_err-t-clause-done : goal.returns-in_err-t-clause-done
+returns-in_err-t-clause-done c = λ _.
+    let e = err_from_is_err_and c.from_residual.result c.from_residual.ensures.1 in
+    rw (e.1, e.2) (split_stopped false c.args.p c.args.r c.args.k c.args.self.now c.in_err-t.field-0.0 c.in_err-t.ensures)
+
+-- ---- what the tests found
+
+abbrev was : In_ok-t → Machine
+was c = machine_of c.self.inside
+
+tested : (c : In_ok-t) → first_refusal (split_heads (was c) c.args.p c.args.r c.args.k) ≡ None
+tested c = rw (← c.self.view_is) at c.in_ok-t.ensures.0
+
+may : (c : In_ok-t) → MaySplit (was c) c.args.p c.args.r c.args.k c.in_ok-t.t
+may c = subst (λ (x : Machine). MaySplit x c.args.p c.args.r c.args.k c.in_ok-t.t) (sym c.self.view_is) c.in_ok-t.ensures.1
+
+-- the record for the tail is free, and another one
+free : (c : In_ok-t) → IsFree (was c).store (c.args.r / 256) c.in_ok-t.t
+free c = free_is (was c).store (c.args.r / 256) c.in_ok-t.t c.self.invariant.store (may c).found
+
+there : (c : In_ok-t) → c.in_ok-t.t < length (was c).store.owners
+there c = in_range (was c).store c.in_ok-t.t c.self.invariant.store (free c).known
+
+other : (c : In_ok-t) → c.args.r ≢ c.in_ok-t.t
+other c = apart (was c).store c.args.p c.args.r c.in_ok-t.t (may c).held (free c).free
+
+pub split-requires-clause-other : goal.split-requires-clause-other
+split-requires-clause-other c =
+    let d = (goal.at.split-requires-clause-other c).In_ok-t in
+    free_there (was d) c.in_ok-t.t c.self.invariant (free d).known
+
+pub split-requires-clause-apart : goal.split-requires-clause-apart
+split-requires-clause-apart c = other (goal.at.split-requires-clause-apart c).In_ok-t
+
+pub returns-in_err-split-clause-refused : goal.returns-in_err-split-clause-refused
+returns-in_err-split-clause-refused c = λ h.
+    let d = (goal.at.returns-in_err-split-clause-refused c).In_ok-t in
+    rw (h, c.in_err-split.ensures.kept, ← c.self.view_is) (split_memory c.args.p c.args.r c.args.k (was d) (tested d))
+
+pub part-requires-clause-known : goal.part-requires-clause-known
+part-requires-clause-known c = (free (goal.at.part-requires-clause-known c).In_ok-t).known
+
+pub part-requires-clause-free : goal.part-requires-clause-free
+part-requires-clause-free c = (free (goal.at.part-requires-clause-free c).In_ok-t).free
+
+pub part-requires-clause-arena : goal.part-requires-clause-arena
+part-requires-clause-arena c = sym (free (goal.at.part-requires-clause-arena c).In_ok-t).arena
+
+pub add-requires : goal.add-requires
+add-requires c =
+    let d = (goal.at.add-requires c).In_ok-t in
+    room_for (was d) c.args.p c.in_ok-t.t c.self.invariant (may d).runs (free d).free (there d)
+
+-- ---- the machine after, which is that of the command
+
+abbrev begun : goal.After-add → In_ok-t
+begun c = (goal.at.returns-clause-done c).In_ok-t
+
+made : (c : goal.After-add) → record (was (begun c)) { store = c.part.new.self; ends = c.split.new.self.ends; buffers = c.split.new.self.buffers; places = c.add.new.self } ≡
+    parted c.args.p c.args.r c.in_ok-t.t c.args.k (was (begun c))
+made c =
+    parted_is (was (begun c)) c.args.p c.args.r c.in_ok-t.t c.args.k c.part.new.self c.split.new.self c.add.new.self (may (begun c)).runs.0
+    c.part.ensures.store c.in_ok-split.ensures.done c.add.ensures
+
+pub invariant_of-self-2 : goal.invariant_of-self-2
+invariant_of-self-2 c =
+    let d = begun c in
+    let m : Machine = was d in
+    let inside = (may d).inside in
+    let store = c.part.ensures.store in
+    subst IsWhole (sym (made c)) (parted_whole m c.args.p c.args.r c.in_ok-t.t c.args.k c.self.invariant (may d).runs
+    (subst (λ (u : Store). Gained c.args.p (c.in_ok-t.t ∷ []) m.store u) store c.part.ensures.gained) (may d).no_end (free d).free (other d)
+    (is_there m.store (Process c.args.p) c.args.r (may d).held) (there d) (omega (arith, inside))
+    (subst (λ (u : Store). len u c.args.r ≡ c.args.k) store c.part.ensures.head)
+    (subst (λ (u : Store). len u c.in_ok-t.t + c.args.k ≡ len m.store c.args.r) store c.part.ensures.tail)
+    (λ q nr nt. subst (λ (u : Store). len u q ≡ len m.store q) store (c.part.ensures.others q nr nt)))
+
+pub returns-clause-done : goal.returns-clause-done
+returns-clause-done c = λ _.
+    let d = begun c in
+    rw (made c, c.len.ensures, ← c.self.view_is) (split_gives c.args.p c.args.r c.args.k c.in_ok-t.t (was d) (tested d) (may d).found)

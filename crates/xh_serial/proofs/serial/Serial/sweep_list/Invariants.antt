@@ -1,0 +1,16 @@
+use Rattle.std.proofs.Common.{◌≡◌, ◌≤◌, true}
+use Rattle.xh_model.specs.Store.{all_out}
+use Rattle.xh_serial.specs.Machine.{is_current}
+use Rattle.xh_serial.specs.Sweeping.{sweep}
+use Rattle.xh_serial.proofs.serial.Serial.sweep_list.Given as goal
+
+-- what is left of the budget makes of the machine now what the whole makes of the first
+abbrev pub invariant-loop-left : goal.invariant-loop-left
+invariant-loop-left l = record {
+  is : sweep l.p l.from l.left l.self ≡ sweep l.p l.from l.budget l.fn.self;
+  bytes : all_out l.self.store ≤ all_out l.fn.self.store;
+  current : is_current l.self l.p ≡ true;
+}
+
+abbrev pub decreases-loop-left : goal.decreases-loop-left
+decreases-loop-left l = l.left

@@ -1,0 +1,71 @@
+-- The commands open and wire, with a contract or without.
+use Rattle.std.specs.Prelude.{ℕ, ◌+◌, ◌*◌, ◌==◌, ◌||◌, false, cond, List, [], ◌∷◌, ◌++◌, Option, Some, None, is_none, length, nat_le, slice_set, Ok}
+use Rattle.xh_model.specs.declared.event.Event.TheVariants.{Claim, Carve, Cut, Pass, Accept}
+use Rattle.xh_model.specs.declared.row.Row.{Row}
+use Rattle.xh_model.specs.Rows.{row_at}
+use Rattle.xh_model.specs.Store.{Store, after}
+use Rattle.xh_core.specs.declared.block.Block.{Block}
+use Rattle.xh_serial.specs.declared.line.Line.{Line}
+use Rattle.xh_core.specs.declared.refused.Refused.TheVariants.{NoArena, NoChannel}
+use Rattle.xh_serial.specs.Machine.{Machine, blocks, with_list}
+use Rattle.xh_serial.specs.Commands.{Answer, answered, start}
+use Rattle.xh_core.specs.Refusing.{Tests, first_refusal}
+use Rattle.xh_core.specs.Several.{handed}
+use Rattle.xh_core.specs.Space.{low_end, high_end, pair_tests}
+
+-- no arena, or no channel
+abbrev pub channel_heads : Machine → ℕ → Tests
+channel_heads m a = (nat_le (length m.store.arenas) a, NoArena) ∷ (nat_le 64 m.opened, NoChannel) ∷ []
+
+abbrev pub open_tests : Machine → ℕ → ℕ → Tests
+open_tests m p a = start m p ++ channel_heads m a ++ pair_tests p m.store a
+
+abbrev pub wire_heads : Machine → ℕ → ℕ → ℕ → Tests
+wire_heads m p q a = start m p ++ start m q ++ channel_heads m a
+
+abbrev pub wire_tests : Machine → ℕ → ℕ → ℕ → Tests
+wire_tests m p q a = wire_heads m p q a ++ pair_tests p m.store a
+
+-- the state in which both ends begin
+abbrev pub first_state : Option (List Row) → ℕ
+first_state None = 0
+first_state (Some rows) = (row_at rows 0).state
+
+-- a new direction
+abbrev pub new_line : Option (List Row) → Line
+new_line contract = record { shut = false; state = first_state contract; put = 0; waiting = record { items = [] } }
+
+-- the two ends as blocks
+abbrev pub ends_at : ℕ → ℕ → Block × Block
+ends_at r t = (record { rec = r; len = 32 }, record { rec = t; len = 32 })
+
+-- Two free records r and t are claimed, 64 bytes are carved for r and cut in halves: r is side 0 and t side 1 of the next channel.
+unfoldable pub opened : ℕ → ℕ → ℕ → Option (List Row) → Machine → Machine
+opened p r t contract m = record m {
+  store = after (Cut p r t 32) (after (Carve p r 64) (after (Claim p t) (after (Claim p r) m.store)));
+  ends = slice_set (slice_set m.ends r (Some (2 * m.opened))) t (Some (2 * m.opened + 1));
+  lines = slice_set (slice_set m.lines (2 * m.opened) (new_line contract)) (2 * m.opened + 1) (new_line contract);
+  contracts = slice_set m.contracts m.opened contract;
+  opened = m.opened + 1;
+}
+
+-- both ends go to the end of the list
+unfoldable pub open_channel : ℕ → ℕ → Option (List Row) → Machine → Answer (Block × Block)
+open_channel p a contract m =
+    let r : ℕ = low_end m.store a in
+    let t : ℕ = high_end p m.store a in
+    answered (first_refusal (open_tests m p a)) m
+    (Ok (ends_at r t), with_list p (blocks m p ++ r ∷ t ∷ []) (opened p r t contract m))
+
+-- a channel is opened, and its side 1 is handed to q; where p and q are one process it stays
+abbrev pub wired : ℕ → ℕ → ℕ → ℕ → Option (List Row) → Machine → Machine
+wired p q r t contract m =
+    let n : Machine = opened p r t contract m in
+    cond (p == q) (with_list p (blocks m p ++ r ∷ t ∷ []) n)
+    (with_list q (blocks m q ++ t ∷ []) (with_list p (blocks m p ++ r ∷ []) (record n { store = handed p q t (2 * m.opened + 1) n.store })))
+
+unfoldable pub wire_channel : ℕ → ℕ → ℕ → Option (List Row) → Machine → Answer (Block × Block)
+wire_channel p q a contract m =
+    let r : ℕ = low_end m.store a in
+    let t : ℕ = high_end p m.store a in
+    answered (first_refusal (wire_tests m p q a)) m (Ok (ends_at r t), wired p q r t contract m)

@@ -1,0 +1,10 @@
+pub mod Machine
+pub mod View
+pub mod Commands
+pub mod Sweeping
+pub mod EndingCommands
+pub mod MessageCommands
+pub mod BlockCommands
+pub mod ChannelCommands
+pub mod PlaceCommands
+pub mod inner

@@ -1,0 +1,158 @@
+-- The serial machine as a value, and what always holds of it.
+use Rattle.std.specs.Prelude.{◌≡◌, ℕ, ◌+◌, ◌*◌, ◌/◌, ◌%◌, ◌-◌, ◌<◌, ◌≤◌, ◌==◌, ◌||◌, Bool, true, false}
+use Rattle.std.specs.Prelude.{cond, List, [], ◌∷◌, Option, Some, None, is_some, length, map, nat_le, nat_lt, slice_set, slice_index_or, unwrap_or}
+use Rattle.std.specs.List.{flat_map, count_by}
+use Rattle.xh_model.specs.declared.event.Holder.{Holder}
+use Rattle.xh_model.specs.declared.event.Holder.TheVariants.{Process, Direction}
+use Rattle.xh_model.specs.declared.row.Row.{Row}
+use Rattle.xh_model.specs.Rows.{allowed, IsValid, InStep}
+use Rattle.xh_model.specs.Store.{Store, owner, len, holds, IsLawful, IsQuiet}
+use Rattle.xh_serial.specs.declared.message.Message.{Message}
+use Rattle.xh_serial.specs.declared.place.Place.{Place}
+use Rattle.xh_serial.specs.declared.line.Line.{Line}
+use Rattle.xh_core.specs.declared.status.Status.{Status}
+use Rattle.xh_core.specs.declared.status.Status.TheVariants.{Vacant, Running, Ending, Ended}
+use Rattle.xh_core.specs.Several.{times}
+use Rattle.xh_core.specs.Statuses.{is_vacant, is_ended}
+
+-- Who holds each record, and the arenas; by record the direction toward it, where it is an endpoint, and its bytes, where it is a data block;
+-- the places; the directions; by channel its contract, where it has one; how many channels were opened; how many messages may wait in a direction.
+pub record Machine : Type 0 where
+  pub store : Store
+  pub ends : List (Option ℕ)
+  pub buffers : List (List ℕ)
+  pub places : List Place
+  pub lines : List Line
+  pub contracts : List (Option (List Row))
+  pub opened : ℕ
+  pub depth : ℕ
+
+-- ---- records
+
+-- the direction toward the endpoint r
+abbrev pub end_of : Machine → ℕ → Option ℕ
+end_of m r = slice_index_or m.ends r None
+
+-- the bytes of the data block r
+abbrev pub buffer : Machine → ℕ → List ℕ
+buffer m r = slice_index_or m.buffers r []
+
+-- ---- places
+
+abbrev pub no_place : Place
+no_place = record { blocks = record { items = [] }; status = Vacant; generation = 0 }
+
+-- the place of a process, by the process's number
+abbrev pub place : Machine → ℕ → Place
+place m p = slice_index_or m.places (p % 32) no_place
+
+-- whether the process is the latest of its place
+abbrev pub is_current : Machine → ℕ → Bool
+is_current m p = (place m p).generation == (p / 32)
+
+-- the records that a process holds, in the order gained
+abbrev pub blocks : Machine → ℕ → List ℕ
+blocks m p = cond (is_current m p) (place m p).blocks.items []
+
+-- how far a process has come; Vacant where there is no such process
+abbrev pub status_of : Machine → ℕ → Status
+status_of m p =
+    cond (nat_le 4096 p || nat_lt (place m p).generation (p / 32)) Vacant
+    (cond (is_current m p) (place m p).status Ended)
+
+-- the latest process of p's place has another list, or another status
+abbrev pub with_list : ℕ → List ℕ → Machine → Machine
+with_list p rs m = record m { places = slice_set m.places (p % 32) (record (place m p) { blocks = record { items = rs } }) }
+
+abbrev pub with_status : ℕ → Status → Machine → Machine
+with_status p s m = record m { places = slice_set m.places (p % 32) (record (place m p) { status = s }) }
+
+-- ---- directions
+
+abbrev pub no_line : Line
+no_line = record { shut = false; state = 0; put = 0; waiting = record { items = [] } }
+
+abbrev pub line : Machine → ℕ → Line
+line m d = slice_index_or m.lines d no_line
+
+-- the messages that wait in a direction, front first
+abbrev pub waiting : Machine → ℕ → List Message
+waiting m d = (line m d).waiting.items
+
+-- the other direction of a channel
+abbrev pub peer : ℕ → ℕ
+peer d = cond ((d % 2) == 0) (d + 1) (d - 1)
+
+-- the records in messages, front first
+abbrev pub carried : List Message → List ℕ
+carried messages = flat_map (λ message. message.blocks.items) messages
+
+abbrev pub tags_of : List Message → List ℕ
+tags_of messages = map (λ message. message.tag) messages
+
+-- the records that wait in a direction, if there is one
+abbrev pub way_in : List Line → Option ℕ → List ℕ
+way_in lines None = []
+way_in lines (Some d) = carried (slice_index_or lines d no_line).waiting.items
+
+abbrev pub on_way : Machine → ℕ → List ℕ
+on_way m d = way_in m.lines (Some d)
+
+-- the records in the messages on their way to the endpoint r; none where r is no endpoint
+abbrev pub arriving : Machine → ℕ → List ℕ
+arriving m r = way_in m.lines (end_of m r)
+
+-- the records listed for a holder
+abbrev pub listed : Machine → Holder → List ℕ
+listed m (Process p) = blocks m p
+listed m (Direction d) = on_way m d
+
+-- ---- contracts
+
+-- the contract of a direction's channel
+abbrev pub contract_of : List (Option (List Row)) → ℕ → Option (List Row)
+contract_of contracts d = slice_index_or contracts (d / 2) None
+
+-- the state of an end after a message with this tag from this side; without a contract, and where no row allows it, the same
+abbrev pub next_state : Option (List Row) → ℕ → ℕ → ℕ → ℕ
+next_state None side state tag = state
+next_state (Some rows) side state tag = unwrap_or (allowed rows state tag side) state
+
+-- the same after messages with these tags
+abbrev pub drained_state : Option (List Row) → ℕ → ℕ → List ℕ → ℕ
+drained_state contract side state [] = state
+drained_state contract side state (tag ∷ tags) = drained_state contract side (next_state contract side state tag) tags
+
+-- the two ends of each channel with a contract go by it together
+abbrev pub AreWired : List (Option (List Row)) → List Line → Type 0
+AreWired contracts lines = (c : ℕ) (rows : List Row) → slice_index_or contracts c None ≡ Some rows →
+    IsValid rows × InStep rows 0 (slice_index_or lines (2 * c) no_line).state (tags_of (slice_index_or lines (2 * c) no_line).waiting.items)
+    (slice_index_or lines (2 * c + 1) no_line).state (tags_of (slice_index_or lines (2 * c + 1) no_line).waiting.items)
+
+-- ---- what always holds
+
+-- an endpoint has a holder, its channel was opened, and no other endpoint is at its direction
+pub record IsEnd (m : Machine) (r d : ℕ) : Type 0 where
+  pub held : is_some (owner m.store r) ≡ true
+  pub opened : d < 2 * m.opened
+  pub alone : (q : ℕ) → end_of m q ≡ Some d → q ≡ r
+
+-- Each record stands once in its holder's list and in no other; each held record has bytes; a data block's buffer has its length;
+-- a place that is vacant or has ended lists nothing; a channel that was not opened is as new; under a contract both ends are in step.
+pub record IsWhole (m : Machine) : Type 0 where
+  pub store : IsLawful m.store
+  pub once : (h : Holder) (r : ℕ) → times r (listed m h) ≡ cond (holds m.store h r) 1 0
+  pub full : IsQuiet m.store
+  pub kinds : length m.ends ≡ length m.store.owners
+  pub ends : (r d : ℕ) → end_of m r ≡ Some d → IsEnd m r d
+  pub buffers : length m.buffers ≡ length m.store.owners
+  pub bytes : (r : ℕ) → length (buffer m r) ≡ cond (is_some (end_of m r)) 0 (len m.store r)
+  pub places : length m.places ≡ 32
+  pub generations : (p : ℕ) → (place m p).generation ≤ 127
+  pub idle : (p : ℕ) → (is_vacant (place m p).status || is_ended (place m p).status) ≡ true → (place m p).blocks.items ≡ []
+  pub lines : length m.lines ≡ 128
+  pub fresh : (d : ℕ) → 2 * m.opened ≤ d → line m d ≡ no_line
+  pub contracts : length m.contracts ≡ 64
+  pub wired : AreWired m.contracts m.lines
+  pub opened : m.opened ≤ 64
+  pub deep : m.depth ≤ 16

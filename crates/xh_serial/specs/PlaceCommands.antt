@@ -1,0 +1,103 @@
+-- A new machine, and the commands spawn, glance and ledger.
+use Rattle.std.specs.Prelude.{ℕ, ◌+◌, ◌-◌, ◌*◌, ◌&&◌, ◌||◌, Bool, cond, List, [], ◌∷◌, Option, Some, None, length, map, replicate, nat_le, nat_lt, slice_set, slice_index_or, Result, Ok, Err}
+use Rattle.std.specs.List.{position, sum_by}
+use Rattle.xh_model.specs.declared.config.Config.{Config}
+use Rattle.xh_model.specs.Cover.{bytes_out, holes_of}
+use Rattle.xh_model.specs.Arena.{ArenaState}
+use Rattle.xh_model.specs.Store.{Store, len, all_out, new_store}
+use Rattle.xh_core.specs.declared.glance.Glance.{Glance}
+use Rattle.xh_core.specs.declared.ledger.ArenaLine.{ArenaLine}
+use Rattle.xh_core.specs.declared.ledger.PlaceLine.{PlaceLine}
+use Rattle.xh_core.specs.declared.ledger.Ledger.{Ledger}
+use Rattle.xh_core.specs.declared.ledger.State.TheVariants as state
+use Rattle.xh_core.specs.declared.ledger.State.{State as PlaceState}
+use Rattle.xh_serial.specs.declared.place.Place.{Place}
+use Rattle.xh_core.specs.declared.refused.Refused.{Refused}
+use Rattle.xh_core.specs.declared.refused.Refused.TheVariants.{NoProcess, NoPlace}
+use Rattle.xh_core.specs.declared.status.Status.{Status}
+use Rattle.xh_core.specs.declared.status.Status.TheVariants.{Vacant, Running, Ending, Ended}
+use Rattle.xh_serial.specs.Machine.{Machine, no_place, no_line, carried}
+use Rattle.xh_core.specs.Statuses.{is_vacant, is_ended}
+use Rattle.xh_serial.specs.Commands.{Answer}
+use Rattle.xh_core.specs.ArenaLines.{arena_line}
+
+-- no process, no channel, and no record held
+unfoldable pub new_machine : Config → Machine
+new_machine c = record {
+  store = new_store c;
+  ends = replicate (256 * c.arenas) None;
+  buffers = replicate (256 * c.arenas) [];
+  places = replicate 32 no_place;
+  lines = replicate 128 no_line;
+  contracts = replicate 64 None;
+  opened = 0;
+  depth = c.depth;
+}
+
+-- ---- spawn
+
+-- whether a process can start there: the place is vacant, or its process has ended and was not the last
+abbrev pub can_start : Place → Bool
+can_start place = is_vacant place.status || (is_ended place.status && nat_lt place.generation 127)
+
+-- the place with its next process
+abbrev pub started : Place → Place
+started place = record place { status = Running; generation = cond (is_vacant place.status) place.generation (place.generation + 1) }
+
+abbrev pub spawn_at : Option ℕ → Machine → Answer ℕ
+spawn_at None m = (Err NoPlace, m)
+spawn_at (Some k) m =
+    let place : Place = started (slice_index_or m.places k no_place) in
+    (Ok (k + 32 * place.generation), record m { places = slice_set m.places k place })
+
+-- a process starts at the lowest place where one can: its number
+unfoldable pub spawn : Machine → Answer ℕ
+spawn m = spawn_at (position can_start m.places) m
+
+-- ---- glance
+
+-- the bytes of a list
+abbrev pub total : Store → List ℕ → ℕ
+total s rs = sum_by (λ r. len s r) rs
+
+abbrev pub glance_of : ℕ → Place → Store → Glance
+glance_of k place s = record {
+  process = k + 32 * place.generation;
+  state = place.status;
+  blocks = length place.blocks.items;
+  bytes = total s place.blocks.items;
+}
+
+unfoldable pub glance : ℕ → Machine → Result Glance Refused
+glance k m = cond (nat_le 32 k) (Err NoProcess) (Ok (glance_of k (slice_index_or m.places k no_place) m.store))
+
+-- ---- ledger
+
+abbrev pub line_state : Status → PlaceState
+line_state Vacant = state.Running
+line_state Running = state.Running
+line_state Ending = state.Ending
+line_state Ended = state.Ended
+
+abbrev pub place_line : Store → ℕ → Place → PlaceLine
+place_line s k place = record {
+  place = k;
+  process = k + 32 * place.generation;
+  state = line_state place.status;
+  blocks = length place.blocks.items;
+  bytes = total s place.blocks.items;
+}
+
+-- the places from number k on, each that is not vacant
+abbrev pub place_lines : Store → ℕ → List Place → List PlaceLine
+place_lines s k [] = []
+place_lines s k (place ∷ places) = cond (is_vacant place.status) (place_lines s (k + 1) places) (place_line s k place ∷ place_lines s (k + 1) places)
+
+unfoldable pub ledger_of : Machine → Ledger
+ledger_of m = record {
+  arenas = record { items = map arena_line m.store.arenas };
+  places = record { items = place_lines m.store 0 m.places };
+  owned = sum_by (λ place. total m.store place.blocks.items) m.places;
+  flight = sum_by (λ line. total m.store (carried line.waiting.items)) m.lines;
+  out = all_out m.store;
+}

@@ -1,0 +1,5 @@
+-- What the private steps go by. No exported call's promise needs it to be read.
+pub mod Channeling
+pub mod Checks
+pub mod Holding
+pub mod Placing

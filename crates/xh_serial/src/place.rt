@@ -1,0 +1,47 @@
+//! A place for processes.
+ghost use Rattle.std.specs.Prelude.{◌≡◌, ◌+◌, ◌*◌, ◌<◌, true};
+ghost use Rattle.xh_serial.specs.PlaceCommands.{can_start, started};
+
+use arrayvec::ArrayVec;
+use xh_core::Status;
+
+/// A place: the records that its process holds, in the order gained; how far the process has come;
+/// and how often the place was used before.
+#[derive(Drop)]
+pub(crate) struct Place {
+    pub(crate) blocks: ArrayVec<u16, 2048>,
+    pub(crate) status: Status,
+    pub(crate) generation: u8,
+}
+
+/// Whether a process can start there.
+pub(crate) fn is_ready(place: &Place) -> bool
+    ensures { result ≡ can_start place.now }
+{
+    match place.status {
+        Status::Vacant => true,
+        Status::Ended => place.generation < 127,
+        _ => false,
+    }
+}
+
+/// The next process starts. Its generation.
+pub(crate) fn start(place: &mut Place) -> u8
+    requires { can_start place.old ≡ true }
+    ensures place { place.new ≡ started place.old }
+    ensures generation { result ≡ place.new.generation }
+{
+    if place.status != Status::Vacant {
+        place.generation += 1;
+    }
+    place.status = Status::Running;
+    place.generation
+}
+
+/// The number of a process.
+pub(crate) fn number(place: usize, generation: u8) -> u16
+    requires { place < 32 }
+    ensures { result ≡ place + 32 * generation }
+{
+    place as u16 + 32 * u16::from(generation)
+}

@@ -1,0 +1,173 @@
+//! All places of a machine. A process is at the place of its number's remainder by 32.
+ghost use Rattle.std.specs.Prelude.{◌≡◌, ◌+◌, ◌%◌, ◌<◌, ◌≤◌, ◌==◌, ◌++◌, ◌∷◌, [], IfOk, length, replicate, slice_index_or};
+ghost use Rattle.std.specs.List.{position, position_or_len, remove};
+ghost use Rattle.xh_serial.specs.EndingCommands.{last};
+ghost use Rattle.xh_serial.specs.Machine.{no_place};
+ghost use Rattle.xh_serial.specs.MessageCommands.{without};
+ghost use Rattle.xh_serial.specs.PlaceCommands.{can_start};
+ghost use Rattle.xh_serial.specs.inner.Placing.{blocks_in, place_in, relisted, restated, started_at, status_in};
+
+use crate::list::{drop_all, extend, index_of};
+use crate::place::{Place, is_ready, number, start};
+use arrayvec::ArrayVec;
+use std::alloc::{AllocError, Global};
+use std::marker::Model;
+use xh_core::Status;
+
+/// The places, of which there are always 32.
+#[derive(Drop)]
+pub(crate) struct Places {
+    places: Vec<Place>,
+}
+
+impl Model for Places {
+    ghost use Rattle.std.specs.Prelude.{◌≡◌, List, length};
+    ghost use Rattle.xh_serial.specs.declared.place.Place.{Place};
+
+    ghost Value = { List Place };
+
+    ghost view = { λ p. p.places.items };
+
+    ghost invariant = { λ p. length p.places.items ≡ 32 };
+}
+
+/// The first place where a process can start.
+fn first_ready(places: &[Place]) -> Option<usize>
+    ensures { result ≡ position can_start places.now }
+{
+    places.iter().position(is_ready)
+}
+
+impl Places {
+    /// All places, vacant.
+    pub(crate) fn vacant(alloc: Global) -> Result<Places, AllocError>
+        ensures { IfOk result (λ places. places ≡ replicate 32 no_place) }
+    {
+        let mut places = Vec::with_capacity(alloc, 32)?;
+        for _ in 0..32u8 {
+            places.push(Place {
+                blocks: ArrayVec::new(),
+                status: Status::Vacant,
+                generation: 0,
+            })?;
+        }
+        Ok(Places { places })
+    }
+
+    /// How many places there are.
+    pub(crate) fn len(&self) -> usize
+        ensures count { result ≡ length self.now }
+        ensures is { result ≡ 32 }
+    {
+        self.places.len()
+    }
+
+    /// The place of this number.
+    pub(crate) fn at(&self, place: usize) -> &Place
+        requires { place < 32 }
+        ensures { result.now ≡ slice_index_or self.now place no_place }
+    {
+        &self.places[place]
+    }
+
+    /// The place of a process.
+    fn of(&self, p: u16) -> &Place
+        ensures { result.now ≡ place_in self.now p }
+    {
+        self.at(usize::from(p % 32))
+    }
+
+    /// The records that the place of a process lists, in the order gained.
+    pub(crate) fn blocks(&self, p: u16) -> &[u16]
+        ensures list { result.now ≡ blocks_in self.now p }
+        ensures fits { length result.now ≤ 2048 }
+    {
+        self.of(p).blocks.as_slice()
+    }
+
+    /// How far a process has come; Vacant where there is no such process.
+    pub(crate) fn status(&self, p: u16) -> Status
+        ensures { result ≡ status_in self.now p }
+    {
+        let place = self.of(p);
+        let generation = u16::from(place.generation);
+        if p >= 4_096 || generation < p / 32 {
+            return Status::Vacant;
+        }
+        if generation == p / 32 {
+            return place.status;
+        }
+        Status::Ended
+    }
+
+    /// A process starts at the first place where one can: its number.
+    pub(crate) fn start(&mut self) -> Option<u16>
+        ensures { started_at (position can_start self.old) self.old ≡ (result, self.new) }
+    {
+        let Some(at) = first_ready(self.places.as_slice()) else {
+            return None;
+        };
+        let generation = start(&mut self.places[at]);
+        Some(number(at, generation))
+    }
+
+    /// How far the process of a place has come.
+    pub(crate) fn set_status(&mut self, p: u16, status: Status)
+        ensures { self.new ≡ restated p status self.old }
+    {
+        self.places[usize::from(p % 32)].status = status;
+    }
+
+    /// A record goes to the end of a list.
+    pub(crate) fn add(&mut self, p: u16, r: u16)
+        requires { length (blocks_in self.old p) < 2048 }
+        ensures { self.new ≡ relisted p (blocks_in self.old p ++ r ∷ []) self.old }
+    {
+        self.places[usize::from(p % 32)].blocks.push(r);
+    }
+
+    /// So do these, in their order.
+    pub(crate) fn add_all(&mut self, p: u16, blocks: &[u16])
+        requires { length (blocks_in self.old p) + length blocks.now ≤ 2048 }
+        ensures { self.new ≡ relisted p (blocks_in self.old p ++ blocks.now) self.old }
+    {
+        extend(&mut self.places[usize::from(p % 32)].blocks, blocks);
+    }
+
+    /// The entry at `at` leaves a list.
+    pub(crate) fn remove_at(&mut self, p: u16, at: usize)
+        requires { at < length (blocks_in self.old p) }
+        ensures { self.new ≡ relisted p (remove (blocks_in self.old p) at) self.old }
+    {
+        self.places[usize::from(p % 32)].blocks.remove(at);
+    }
+
+    /// A record leaves the list that it stands in.
+    pub(crate) fn remove(&mut self, p: u16, r: u16)
+        requires { position_or_len (λ q. q == r) (blocks_in self.old p) < length (blocks_in self.old p) }
+        ensures { self.new ≡ relisted p (remove (blocks_in self.old p) (position_or_len (λ q. q == r) (blocks_in self.old p))) self.old }
+    {
+        let at = index_of(self.blocks(p), r);
+        self.remove_at(p, at);
+    }
+
+    /// These leave the list, wherever they stand in it.
+    pub(crate) fn remove_all(&mut self, p: u16, blocks: &[u16])
+        ensures { self.new ≡ relisted p (without blocks.now (blocks_in self.old p)) self.old }
+    {
+        drop_all(&mut self.places[usize::from(p % 32)].blocks, blocks);
+    }
+
+    /// A record goes to the end of the list that it stands in. Where it stands then.
+    pub(crate) fn move_last(&mut self, p: u16, r: u16) -> usize
+        requires { position_or_len (λ q. q == r) (blocks_in self.old p) < length (blocks_in self.old p) }
+        ensures list { self.new ≡ relisted p (last r (blocks_in self.old p)) self.old }
+        ensures at { result + 1 ≡ length (blocks_in self.old p) }
+    {
+        let at = index_of(self.blocks(p), r);
+        let blocks = &mut self.places[usize::from(p % 32)].blocks;
+        blocks.remove(at);
+        blocks.push(r);
+        blocks.len() - 1
+    }
+}

@@ -1,0 +1,100 @@
+//! What the ledger tells: the arenas, the places, and the sums of their bytes.
+ghost use Rattle.std.specs.Prelude.{◌≡◌, ◌+◌, ◌<◌, ◌≤◌, ◌*◌, All, length, slice_index_or};
+ghost use Rattle.std.specs.List.{sum_by};
+ghost use Rattle.xh_core.specs.Statuses.{is_vacant};
+ghost use Rattle.xh_serial.specs.Machine.{no_place};
+ghost use Rattle.xh_serial.specs.PlaceCommands.{ledger_of, line_state, place_lines, total};
+
+use crate::place::{Place, number};
+use crate::serial::Serial;
+use arrayvec::ArrayVec;
+use xh_core::{Ledger, PLACE_LINES, PlaceLine, State, Status};
+
+fn is_unused(place: &Place) -> bool
+    ensures { result ≡ is_vacant place.now.status }
+{
+    match place.status {
+        Status::Vacant => true,
+        _ => false,
+    }
+}
+
+fn state_of(place: &Place) -> State
+    ensures { result ≡ line_state place.now.status }
+{
+    match place.status {
+        Status::Vacant | Status::Running => State::Running,
+        Status::Ending => State::Ending,
+        Status::Ended => State::Ended,
+    }
+}
+
+/// A place's line, where its process owns so many bytes.
+fn place_line(at: usize, place: &Place, bytes: u64) -> PlaceLine
+    requires { at < 32 }
+    ensures { result ≡ record { place = at; process = at + 32 * place.now.generation; state = line_state place.now.status; blocks = length place.now.blocks.items; bytes = bytes } }
+{
+    PlaceLine {
+        place: at as u8,
+        process: number(at, place.generation),
+        state: state_of(place),
+        blocks: place.blocks.len() as u32,
+        bytes,
+    }
+}
+
+impl Serial {
+    /// The bytes that the latest process of a place owns.
+    pub(super) fn bytes_at(&self, at: usize) -> u64
+        requires { at < 32 }
+        ensures sum { result ≡ total self.now.store (slice_index_or self.now.places at no_place).blocks.items }
+        ensures most { result ≤ 2147483648 }
+    {
+        self.plain.owned(number(at, self.places.at(at).generation))
+    }
+
+    /// The bytes that processes own.
+    fn owned(&self) -> u64
+        ensures { result ≡ sum_by (λ place. total self.now.store place.blocks.items) self.now.places }
+    {
+        let mut sum = 0u64;
+        for at in 0..self.places.len() {
+            sum += self.bytes_at(at);
+        }
+        sum
+    }
+
+    /// A line for each place that was ever used.
+    fn place_lines(&self) -> ArrayVec<PlaceLine, PLACE_LINES>
+        ensures lines { result.items ≡ place_lines self.now.store 0 self.now.places }
+        ensures places { All (λ line. line.place < 32) result.items }
+    {
+        let mut lines = ArrayVec::new();
+        for at in 0..self.places.len() {
+            let place = self.places.at(at);
+            if !is_unused(place) {
+                lines.push(place_line(at, place, self.bytes_at(at)));
+            }
+        }
+        lines
+    }
+
+    /// What the heap holds now, line by line.
+    pub fn ledger(&self) -> Ledger
+        ensures fields { result ≡ ledger_of self.now }
+        ensures sums { result.out ≡ result.owned + result.flight }
+        ensures arenas { All (λ line. line.out + line.back ≡ line.taken) result.arenas.items }
+        ensures places { All (λ line. line.place < 32) result.places.items }
+    {
+        let out = self.plain.handed_out();
+        let held = self.owned();
+        let flight = out - held;
+        Ledger {
+            arenas: self.plain.arena_lines(),
+            places: self.place_lines(),
+            owned: held,
+            flight,
+            out,
+        }
+    }
+}

@@ -1,0 +1,63 @@
+//! Messages: give and take.
+ghost use Rattle.std.specs.Prelude.{◌≡◌, ◌-◌, ◌/◌, ◌%◌, ◌<◌, IfOk, false};
+ghost use Rattle.xh_serial.specs.Machine.{contract_of, line};
+ghost use Rattle.xh_serial.specs.Commands.{toward};
+ghost use Rattle.xh_serial.specs.MessageCommands.{AreOrderly, give, is_banned, take};
+
+use crate::channels::peer;
+use crate::message::Taken;
+use crate::serial::Serial;
+use xh_core::Refused;
+
+impl Serial {
+    /// Puts a message at the back of the direction toward the other end. Its number there.
+    ///
+    /// NoProcess, Ended, NotOwned and NotEndpoint of `e`, TooMany (8 blocks at most), NotOwned of a
+    /// block, Twice, Protocol, PeerClosed, Full. The last three hand all the blocks back.
+    #[tactic(auto, unfolding(crate::specs::MessageCommands::give))]
+    pub fn give(&mut self, p: u16, e: u16, tag: u16, blocks: &[u16]) -> Result<u64, Refused>
+        ensures is { give p e tag blocks.now self.old ≡ (result, self.new) }
+        ensures orderly { AreOrderly self.new }
+    {
+        let _start = &self.plain;
+        let own = self.check_give(p, e, tag, blocks)?;
+        let to = peer(own);
+        self.plain.pass_all(p, to, blocks);
+        self.places.remove_all(p, blocks);
+        self.channels.tell(own, tag);
+        Ok(self.channels.put(to, tag, blocks))
+    }
+
+    /// Takes the message at the front of the direction toward `e`; its blocks are the taker's now.
+    ///
+    /// NoProcess, Ended, NotOwned, NotEndpoint, and where nothing waits PeerClosed or Empty.
+    #[tactic(auto, unfolding(crate::specs::MessageCommands::take))]
+    pub fn take(&mut self, p: u16, e: u16) -> Result<Taken, Refused>
+        ensures is { take p e self.old ≡ (result, self.new) }
+        ensures allowed { IfOk result (λ taken.
+            is_banned (contract_of self.old.contracts (toward self.old e)) (1 - toward self.old e % 2) (line self.old (toward self.old e)).state taken.tag ≡ false) }
+        ensures orderly { AreOrderly self.new }
+    {
+        let _start = &self.plain;
+        let d = self.check_take(p, e)?;
+        let message = self.channels.take_front(d);
+        let blocks = self.plain.describe(&message.blocks);
+        self.plain.accept_all(p, d, message.blocks.as_slice());
+        self.places.add_all(p, message.blocks.as_slice());
+        Ok(Taken {
+            no: message.no,
+            tag: message.tag,
+            blocks,
+        })
+    }
+
+    /// The same: on this heap nothing waits, so Empty is answered where `take` answers it.
+    pub fn take_wait(&mut self, p: u16, e: u16) -> Result<Taken, Refused>
+        ensures is { take p e self.old ≡ (result, self.new) }
+        ensures allowed { IfOk result (λ taken.
+            is_banned (contract_of self.old.contracts (toward self.old e)) (1 - toward self.old e % 2) (line self.old (toward self.old e)).state taken.tag ≡ false) }
+        ensures orderly { AreOrderly self.new }
+    {
+        self.take(p, e)
+    }
+}

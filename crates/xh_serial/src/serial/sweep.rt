@@ -1,0 +1,70 @@
+//! Reclaiming: entry by entry, as far as a budget goes.
+ghost use Rattle.std.specs.Prelude.{◌≡◌, ◌+◌, ◌≤◌, ◌<◌, true, length, drop};
+ghost use Rattle.xh_model.specs.Reclaimed.{Frees};
+ghost use Rattle.xh_model.specs.Store.{all_out};
+ghost use Rattle.xh_serial.specs.Machine.{arriving, blocks, is_current};
+ghost use Rattle.xh_serial.specs.Sweeping.{sweep, sweep_one, Sweeps};
+
+use crate::serial::Serial;
+
+impl Serial {
+    /// How many records `p` holds.
+    pub(super) fn count(&self, p: u16) -> usize
+        requires { is_current self.now p ≡ true }
+        ensures value { result ≡ length (blocks self.now p) }
+        ensures fits { result ≤ 2048 }
+    {
+        self.places.blocks(p).len()
+    }
+
+    /// The entry at `from` of the list of `p` is swept.
+    pub(super) fn sweep_one(&mut self, p: u16, from: usize)
+        requires { from < length (blocks self.old p) }
+        ensures is { self.new ≡ sweep_one p from self.old }
+        ensures bytes { all_out self.new.store ≤ all_out self.old.store }
+        ensures current { is_current self.new p ≡ true }
+    {
+        let r = self.places.blocks(p)[from];
+        let end = self.blocks.end(r);
+        let came = self.channels.shut(end);
+        self.plain.accept_from(p, end, came.as_slice());
+        self.places.add_all(p, came.as_slice());
+        self.plain.discard(p, r);
+        self.blocks.unbind(r);
+        self.blocks.clear(r);
+        self.places.remove_at(p, from);
+    }
+
+    /// The list of `p` is swept from `from` on, as far as the budget goes.
+    fn sweep_list(&mut self, p: u16, from: usize, budget: u32)
+        requires { is_current self.old p ≡ true }
+        ensures is { self.new ≡ sweep p from budget self.old }
+        ensures bytes { all_out self.new.store ≤ all_out self.old.store }
+        ensures current { is_current self.new p ≡ true }
+        ensures list { Sweeps p from budget self.old self.new }
+        ensures frees { length (blocks self.new p) ≤ from → Frees (arriving self.old) self.old.store self.new.store (drop from (blocks self.old p)) }
+        ensures finishes { 2048 < budget → length (blocks self.new p) ≤ from }
+    {
+        let _start = &self.plain;
+        let mut left = budget;
+        while left > 0 && from < self.count(p) {
+            self.sweep_one(p, from);
+            left -= 1;
+        }
+    }
+
+    /// The same. The bytes given back.
+    pub(super) fn sweep(&mut self, p: u16, from: usize, budget: u32) -> u64
+        requires { is_current self.old p ≡ true }
+        ensures is { self.new ≡ sweep p from budget self.old }
+        ensures bytes { result + all_out self.new.store ≡ all_out self.old.store }
+        ensures current { is_current self.new p ≡ true }
+        ensures list { Sweeps p from budget self.old self.new }
+        ensures frees { length (blocks self.new p) ≤ from → Frees (arriving self.old) self.old.store self.new.store (drop from (blocks self.old p)) }
+        ensures finishes { 2048 < budget → length (blocks self.new p) ≤ from }
+    {
+        let before = self.plain.handed_out();
+        self.sweep_list(p, from, budget);
+        before - self.plain.handed_out()
+    }
+}

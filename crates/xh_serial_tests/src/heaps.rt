@@ -1,0 +1,58 @@
+//! A heap is made, and what a refused growth leaves.
+use crate::answers::Answer::Number;
+use crate::answers::Call::Spawn;
+use crate::answers::{assert_answers, heap_of};
+use xh_core::{Config, Refused};
+use xh_serial::Serial;
+
+/// One arena of 256 bytes.
+pub fn small() -> Config {
+    Config {
+        arenas: 1,
+        bytes: 256,
+        records: 256,
+        depth: 4,
+        wear: 9_223_372_036_854_775_807,
+    }
+}
+
+fn two_arenas() -> Config {
+    Config {
+        arenas: 2,
+        bytes: 64,
+        records: 4,
+        depth: 1,
+        wear: 1_000,
+    }
+}
+
+/// With a growth refused, whichever it is, the call says so, and the same call after it gives a heap
+/// like any new one: `rt try --test --fail-alloc N` refuses the N-th.
+#[test]
+fn a_refused_growth_of_new_leaves_nothing(rt: HostRuntime) {
+    let first = Serial::new(rt.alloc(), two_arenas());
+    assert!(rt; matches!(&first, Ok(_) | Err(Refused::OutOfMemory)));
+    let mut heap = match first {
+        Ok(heap) => heap,
+        Err(_) => heap_of(&rt, rt.alloc(), two_arenas()),
+    };
+    let ledger = heap.ledger();
+    assert_eq!(rt; (ledger.arenas.len(), ledger.places.len()), (2, 0));
+    for arena in ledger.arenas.as_slice() {
+        assert_eq!(rt;
+            (arena.size, arena.out, arena.holes, arena.taken, arena.back),
+            (64, 0, 1, 0, 0)
+        );
+    }
+    assert_answers(&rt, &mut heap, rt.alloc(), &[(Spawn, Number(0))]);
+}
+
+/// A Config outside the limits is refused ahead of any growth.
+#[test]
+fn a_bad_config_takes_no_memory(rt: HostRuntime) {
+    let config = Config {
+        bytes: 40,
+        ..two_arenas()
+    };
+    assert!(rt; matches!(Serial::new(rt.alloc(), config), Err(Refused::BadSize)));
+}

@@ -1,0 +1,119 @@
+//! Processes start, and places and the ledger are looked at.
+use crate::answers::Answer::{Block, No, Number, Place};
+use crate::answers::Call::{Alloc, Exit, Free, Glance, Kill, Spawn};
+use crate::answers::{assert_answers, assert_ledger, first_place, heap_of};
+use crate::heaps::small;
+use xh_core::Status::{Running, Vacant};
+use xh_core::{Refused, State};
+
+#[test]
+fn places_run_out(rt: HostRuntime) {
+    let mut heap = heap_of(&rt, rt.alloc(), small());
+    for place in 0..32 {
+        assert_eq!(rt; heap.spawn().ok(), Some(place));
+    }
+    assert!(rt; matches!(heap.spawn(), Err(Refused::NoPlace)));
+}
+
+/// A place is used again where its process has ended: the next process is of its next generation.
+#[test]
+fn a_place_is_used_again(rt: HostRuntime) {
+    let mut heap = heap_of(&rt, rt.alloc(), small());
+    assert_answers(
+        &rt,
+        &mut heap,
+        rt.alloc(),
+        &[
+            (Spawn, Number(0)),
+            (Spawn, Number(1)),
+            (Exit(0, 4_096), Number(0)),
+            (Spawn, Number(32)),
+            (Alloc(0, 16, 0), No("Ended")),
+            (Alloc(64, 16, 0), No("NoProcess")),
+            (Alloc(32, 16, 0), Block(0, 16)),
+            (Spawn, Number(2)),
+        ],
+    );
+}
+
+#[test]
+fn glances(rt: HostRuntime) {
+    let mut heap = heap_of(&rt, rt.alloc(), small());
+    assert_answers(
+        &rt,
+        &mut heap,
+        rt.alloc(),
+        &[
+            (Glance(0), Place(0, Vacant, 0, 0)),
+            (Glance(32), No("NoProcess")),
+            (Spawn, Number(0)),
+            (Alloc(0, 40, 0), Block(0, 48)),
+            (Glance(0), Place(0, Running, 1, 48)),
+            (Free(0, 0), Number(48)),
+            (Glance(0), Place(0, Running, 0, 0)),
+        ],
+    );
+}
+
+/// One process with a block of 40 bytes, rounded up to 48.
+#[test]
+fn first_alloc(rt: HostRuntime) {
+    let mut heap = heap_of(&rt, rt.alloc(), small());
+    assert_answers(
+        &rt,
+        &mut heap,
+        rt.alloc(),
+        &[(Spawn, Number(0)), (Alloc(0, 40, 0), Block(0, 48))],
+    );
+    let ledger = heap.ledger();
+    assert_ledger(&rt, &ledger, (256, 48, 1, 48, 0), (48, 0, 48));
+    let running = Some((0, 0, State::Running, 1, 48));
+    assert_eq!(rt; (ledger.places.len(), first_place(&ledger)), (1, running));
+}
+
+#[test]
+fn an_empty_ledger(rt: HostRuntime) {
+    let heap = heap_of(&rt, rt.alloc(), small());
+    let ledger = heap.ledger();
+    assert_ledger(&rt, &ledger, (256, 0, 1, 0, 0), (0, 0, 0));
+    assert_eq!(rt; first_place(&ledger), None);
+}
+
+/// Processes that start and end in turn: each place's generations one after the other, and then
+/// the next place's, until none is left.
+#[test]
+fn every_process_number(rt: HostRuntime) {
+    let mut heap = heap_of(&rt, rt.alloc(), small());
+    for place in 0..32u16 {
+        for generation in 0..128u16 {
+            let process = place + 32 * generation;
+            assert_eq!(rt; heap.spawn().ok(), Some(process));
+            assert_eq!(rt; heap.exit(process, 1).ok(), Some(0));
+        }
+    }
+    assert!(rt; matches!(heap.spawn(), Err(Refused::NoPlace)));
+}
+
+/// The lowest place is used again first, and the number of a process that has ended stays ended,
+/// though another runs at its place.
+#[test]
+fn places_by_generation(rt: HostRuntime) {
+    let mut heap = heap_of(&rt, rt.alloc(), small());
+    assert_answers(
+        &rt,
+        &mut heap,
+        rt.alloc(),
+        &[
+            (Spawn, Number(0)),
+            (Spawn, Number(1)),
+            (Exit(0, 4_096), Number(0)),
+            (Exit(1, 4_096), Number(0)),
+            (Spawn, Number(32)),
+            (Alloc(0, 1, 0), No("Ended")),
+            (Spawn, Number(33)),
+            (Kill(33, 0, 4_096), No("Ended")),
+            (Glance(0), Place(32, Running, 0, 0)),
+            (Glance(1), Place(33, Running, 0, 0)),
+        ],
+    );
+}
