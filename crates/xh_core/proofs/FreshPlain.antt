@@ -2,6 +2,7 @@
 use Rattle.std.proofs.Common.{◌≡◌, ℕ, zero, suc, ◌+◌, ◌*◌, ◌/◌, ◌%◌, ◌<◌, ◌≤◌, ◌∷◌, length, cond, refl, sym, ap, ◌∙◌, arith}
 use Rattle.std.specs.Prelude.{Option, Some, None, All, is_some, replicate, slice_index_or}
 use Rattle.std.proofs.lemmas.Bool.{false≢true}
+use Rattle.std.proofs.lemmas.List.{length-replicate}
 use Rattle.std.proofs.lemmas.List.Sums.{sum_by-cons}
 use Rattle.xh_model.specs.Cover.{bytes_out, length_of}
 use Rattle.xh_model.specs.Arena.{ArenaState, IsLawfulArena}
@@ -19,10 +20,6 @@ pub at_replicate : {A : Type 0} (n i : ℕ) (x : A) → slice_index_or (replicat
 at_replicate zero i x = refl
 at_replicate (suc n) zero x = refl
 at_replicate (suc n) (suc i) x = at_replicate n i x
-
-pub long_replicate : {A : Type 0} (n : ℕ) (x : A) → length (replicate n x) ≡ n
-long_replicate zero x = refl
-long_replicate (suc n) x = ap suc (long_replicate n x)
 
 -- what is so of each of some alike is so of the one at a place, and of what stands for one that is not there
 alike : {A : Type 0} (P : A → Type 0) (n k : ℕ) (a d : A) → P a → P d → P (slice_index_or (replicate n a) k d)
@@ -60,8 +57,8 @@ module _ (c : Config) (is : IsConfig c) where
   pub new_lawful : IsLawful (new_store c)
   unfolding new_store
   new_lawful = record {
-    few = rw (long_replicate {A = ArenaState} c.arenas (record { cover = replicate c.bytes None; records = c.records; wear = 0; limit = c.wear })) is.most_arenas;
-    long = long_replicate {A = Option Holder} (256 * c.arenas) None ∙ sym (ap (λ n. 256 * n) (long_replicate {A = ArenaState} c.arenas _));
+    few = rw (length-replicate {A = ArenaState} c.arenas (record { cover = replicate c.bytes None; records = c.records; wear = 0; limit = c.wear })) is.most_arenas;
+    long = length-replicate {A = Option Holder} (256 * c.arenas) None ∙ sym (ap (λ n. 256 * n) (length-replicate {A = ArenaState} c.arenas _));
     covers = λ k. alike IsLawfulArena c.arenas k _ no_arena (blank c.bytes c.records 0 c.wear) (blank 0 0 0 0);
     records = λ k. alike (λ (a : ArenaState). a.records ≤ 256) c.arenas k _ no_arena is.arena.most_records (omega arith);
     owned = λ r. rw (free r) (alike (λ (a : ArenaState). length_of (r % 256) a.cover ≡ 0) c.arenas (r / 256) _ no_arena (none_of (r % 256) c.bytes) refl);
@@ -80,9 +77,9 @@ module _ (c : Config) (is : IsConfig c) where
   unfolding new_store
   new_totals =
       let s : Store = new_store c in
-      let most : length (replicate {A = Option ℕ} c.bytes None) ≤ 1048576 = (let e = long_replicate {A = Option ℕ} c.bytes None in let m = is.arena.most_bytes in omega (arith, e, m)) in
+      let most : length (replicate {A = Option ℕ} c.bytes None) ≤ 1048576 = (let e = length-replicate {A = Option ℕ} c.bytes None in let m = is.arena.most_bytes in omega (arith, e, m)) in
       record {
-        long = long_replicate {A = ℕ} 4096 0;
+        long = length-replicate {A = ℕ} 4096 0;
         each = λ p.
             at_replicate {A = ℕ} 4096 p 0
             ∙ sym (sum_same (λ r. cond (holds s (Process p) r) (len s r) 0) (λ r. 0) (numbers s)

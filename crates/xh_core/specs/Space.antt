@@ -1,5 +1,5 @@
 -- Free records and room for bytes: what an arena has, and why it has none.
-use Rattle.std.specs.Prelude.{ℕ, ◌+◌, ◌*◌, ◌/◌, ◌%◌, ◌==◌, ◌||◌, Bool, not, List, [], ◌∷◌}
+use Rattle.std.specs.Prelude.{ℕ, ◌+◌, ◌*◌, ◌/◌, ◌%◌, ◌==◌, ◌||◌, Bool, not, [], ◌∷◌}
 use Rattle.std.specs.Prelude.{Option, is_none, nat_le, nat_lt, option_map, unwrap_or}
 use Rattle.std.specs.List.{position, range_with_len}
 use Rattle.xh_model.specs.declared.event.Event.TheVariants.{Claim}

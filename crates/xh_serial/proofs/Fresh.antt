@@ -2,13 +2,14 @@
 use Rattle.std.proofs.Common.{◌≡◌, ℕ, zero, suc, ◌+◌, ◌*◌, ◌%◌, ◌<◌, List, [], ◌∷◌, ◌++◌, length, Bool, true, false, cond, refl, sym, ap, ◌∙◌, subst, arith}
 use Rattle.std.specs.Prelude.{Option, Some, None, is_some, replicate, slice_index_or}
 use Rattle.std.proofs.lemmas.Bool.{false≢true}
+use Rattle.std.proofs.lemmas.List.{length-replicate}
 use Rattle.xh_model.specs.declared.config.Config.{Config}
 use Rattle.xh_model.specs.declared.event.Holder.{Holder}
 use Rattle.xh_model.specs.declared.event.Holder.TheVariants.{Process, Direction}
 use Rattle.xh_model.specs.declared.row.Row.{Row}
 use Rattle.xh_model.specs.Store.{owner, len, holds, is_held_by, IsLawful, IsOwner, new_store}
 use Rattle.xh_model.specs.Config.{IsConfig}
-use Rattle.xh_core.proofs.FreshPlain.{at_replicate, long_replicate}
+use Rattle.xh_core.proofs.FreshPlain.{at_replicate}
 use Rattle.xh_serial.specs.declared.place.Place.{Place}
 use Rattle.xh_serial.specs.Machine.{Machine, carried, blocks, buffer, place, line, is_current, on_way, listed, no_place, no_line, end_of, IsWhole}
 use Rattle.xh_core.specs.Several.{times}
@@ -74,7 +75,7 @@ module _ (c : Config) (is : IsConfig c) (lawful : IsLawful (new_store c)) where
 
   long_store : length m.store.owners ≡ 256 * c.arenas
   unfolding new_machine new_store
-  long_store = long_replicate (256 * c.arenas) None
+  long_store = length-replicate (256 * c.arenas) None
 
   no_bytes : (r : ℕ) → length (buffer m r) ≡ 0
   unfolding new_machine
@@ -89,16 +90,16 @@ module _ (c : Config) (is : IsConfig c) (lawful : IsLawful (new_store c)) where
     store = store_is;
     once = once;
     full = λ h r y. none_held h r _ y;
-    kinds = long_replicate {A = Option ℕ} (256 * c.arenas) None ∙ sym long_store;
+    kinds = length-replicate {A = Option ℕ} (256 * c.arenas) None ∙ sym long_store;
     ends = λ r d e. absurd (is_no_end r d e);
-    buffers = long_replicate {A = List ℕ} (256 * c.arenas) [] ∙ sym long_store;
+    buffers = length-replicate {A = List ℕ} (256 * c.arenas) [] ∙ sym long_store;
     bytes = bytes;
-    places = long_replicate 32 no_place;
+    places = length-replicate 32 no_place;
     generations = λ p. rw (vacant p) (omega arith);
     idle = λ p s. ap (λ (x : Place). x.blocks.items) (vacant p);
-    lines = long_replicate 128 no_line;
+    lines = length-replicate 128 no_line;
     fresh = λ d h. at_line d;
-    contracts = long_replicate {A = Option (List Row)} 64 None;
+    contracts = length-replicate {A = Option (List Row)} 64 None;
     wired = λ k rows e. absurd (no_contract k rows e);
     opened = omega arith;
     deep = is.most_depth;

@@ -3,7 +3,7 @@ use Rattle.std.proofs.Common.{◌≡◌, ◌≢◌, ℕ, ◌+◌, ◌-◌, ◌*�
 use Rattle.std.proofs.Common.{drop, length-drop, Bool, true, false, cond, refl, sym, ap, ◌∙◌, subst, arith, ◌⊎◌, inl, inr, get_or-set_same, get_or-set_other}
 use Rattle.std.specs.Prelude.{Option, Some, None, is_some, ◌==◌, ◌||◌, nat_lt, replicate, slice_set, slice_index_or}
 use Rattle.std.proofs.lemmas.Bool.{cases_eq, cases_Bool, false≢true, eq-eqb, ne_eqb, ltb-true, ltb-false}
-use Rattle.std.proofs.lemmas.List.{length-set, length-append, length-take-le, nil_from_length, set-set, set-get_or}
+use Rattle.std.proofs.lemmas.List.{length-set, length-append, length-take-le, nil_from_length, set-set, set-get_or, length-replicate}
 use Rattle.std.proofs.lemmas.List.Sums.{sum_by-append}
 use Rattle.xh_model.specs.declared.event.Holder.{Holder}
 use Rattle.xh_model.specs.declared.event.Holder.TheVariants.{Process, Direction}
@@ -22,7 +22,6 @@ use Rattle.xh_serial.specs.BlockCommands.{allocated, freed_block, overwritten, p
 use Rattle.xh_core.proofs.Claiming.{in_range, no_bytes}
 use Rattle.xh_serial.proofs.Closing.{found, one_listed, frees_block}
 use Rattle.xh_serial.proofs.Kept.{whole_one}
-use Rattle.xh_core.proofs.FreshPlain.{long_replicate}
 use Rattle.xh_core.proofs.Stores.{times-cons, is_there}
 use Rattle.xh_serial.proofs.Room.{few, few_records, held_there}
 use Rattle.xh_serial.proofs.Machines.{blocks_of, runs_busy, same_machine, current_blocks, list_in, list_here, list_else, current_generation, place_there, IsPlace, generations_set, idle_set, busy_place}
@@ -208,7 +207,7 @@ alloc_bytes m t r n w f there long others q = elim (cases_eq q r) [
       let l : r < length m.buffers = subst (λ (k : ℕ). r < k) (sym w.buffers) there in
       let own : len t q ≡ n = subst (λ (x : ℕ). len t x ≡ n) (sym e) long in
       ap (λ (x : ℕ). length (slice_index_or (slice_set m.buffers r (replicate n 0)) x [])) e ∙ (ap length (get_or-set_same m.buffers r (replicate n 0) [] l)
-      ∙ (long_replicate {A = ℕ} n 0 ∙ rw (none, own) refl)))
+      ∙ (length-replicate {A = ℕ} n 0 ∙ rw (none, own) refl)))
   | inr ne ↦ ap length (get_or-set_other m.buffers r q (replicate n 0) [] ne) ∙ (w.bytes q ∙ ap (λ (k : ℕ). cond (is_some (end_of m q)) 0 k) (sym (others q ne)))
 ]
 

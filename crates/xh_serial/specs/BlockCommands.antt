@@ -1,12 +1,11 @@
 -- The commands alloc, split, read, write and free.
-use Rattle.std.specs.Prelude.{ℕ, ◌+◌, ◌-◌, ◌*◌, ◌/◌, ◌%◌, ◌==◌, ◌||◌, Bool, not, List, [], ◌∷◌}
-use Rattle.std.specs.Prelude.{◌++◌, Option, is_none, length, take, drop, replicate, nat_le, nat_lt, option_map, unwrap_or, slice_set, Ok}
-use Rattle.std.specs.List.{remove, position, position_or_len, range_with_len}
+use Rattle.std.specs.Prelude.{ℕ, ◌+◌, ◌-◌, ◌/◌, ◌==◌, ◌||◌, Bool, List, [], ◌∷◌}
+use Rattle.std.specs.Prelude.{◌++◌, is_none, length, take, drop, replicate, nat_le, nat_lt, slice_set, Ok}
+use Rattle.std.specs.List.{remove, position_or_len}
 use Rattle.xh_model.specs.declared.event.Event.TheVariants.{Claim, Carve, Cut, GiveBack, Vacate}
-use Rattle.xh_model.specs.Cover.{first_fit}
-use Rattle.xh_model.specs.Store.{Store, arena_at, owner, len, after}
+use Rattle.xh_model.specs.Store.{arena_at, len, after}
 use Rattle.xh_core.specs.declared.block.Block.{Block}
-use Rattle.xh_core.specs.declared.refused.Refused.TheVariants.{OutOfMemory, BadSize, NoArena, NoSpace, NoRecord, BadCut, BadRange, Worn}
+use Rattle.xh_core.specs.declared.refused.Refused.TheVariants.{OutOfMemory, BadSize, NoArena, NoRecord, BadCut, BadRange}
 use Rattle.xh_serial.specs.Machine.{Machine, buffer, blocks, with_list}
 use Rattle.xh_serial.specs.Commands.{Answer, answered, start, data_tests}
 use Rattle.xh_core.specs.Refusing.{Tests, first_refusal}

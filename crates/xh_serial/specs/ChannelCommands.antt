@@ -1,9 +1,9 @@
 -- The commands open and wire, with a contract or without.
-use Rattle.std.specs.Prelude.{ℕ, ◌+◌, ◌*◌, ◌==◌, ◌||◌, false, cond, List, [], ◌∷◌, ◌++◌, Option, Some, None, is_none, length, nat_le, slice_set, Ok}
-use Rattle.xh_model.specs.declared.event.Event.TheVariants.{Claim, Carve, Cut, Pass, Accept}
+use Rattle.std.specs.Prelude.{ℕ, ◌+◌, ◌*◌, ◌==◌, false, cond, List, [], ◌∷◌, ◌++◌, Option, Some, None, length, nat_le, slice_set, Ok}
+use Rattle.xh_model.specs.declared.event.Event.TheVariants.{Claim, Carve, Cut}
 use Rattle.xh_model.specs.declared.row.Row.{Row}
 use Rattle.xh_model.specs.Rows.{row_at}
-use Rattle.xh_model.specs.Store.{Store, after}
+use Rattle.xh_model.specs.Store.{after}
 use Rattle.xh_core.specs.declared.block.Block.{Block}
 use Rattle.xh_serial.specs.declared.line.Line.{Line}
 use Rattle.xh_core.specs.declared.refused.Refused.TheVariants.{NoArena, NoChannel}

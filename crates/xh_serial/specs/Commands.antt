@@ -1,5 +1,5 @@
 -- What the commands share: what each answers, and the tests of processes and blocks.
-use Rattle.std.specs.Prelude.{◌≡◌, ℕ, Bool, true, not, List, [], ◌∷◌, Option, Some, None, is_some, is_none, Result, Err, unwrap_or}
+use Rattle.std.specs.Prelude.{◌≡◌, ℕ, true, not, [], ◌∷◌, Option, Some, None, is_some, is_none, Result, Err, unwrap_or}
 use Rattle.xh_model.specs.declared.event.Holder.TheVariants.{Process}
 use Rattle.xh_model.specs.Store.{holds}
 use Rattle.xh_core.specs.declared.refused.Refused.{Refused}

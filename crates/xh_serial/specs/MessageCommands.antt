@@ -1,13 +1,11 @@
 -- The commands give and take.
 use Rattle.std.specs.Prelude.{◌≡◌, ℕ, ◌+◌, ◌-◌, ◌*◌, ◌%◌, ◌==◌, ◌&&◌, ◌||◌, ◌⊎◌, Bool, false, not, List}
-use Rattle.std.specs.Prelude.{[], ◌∷◌, ◌++◌, Option, Some, None, is_none, length, map, nat_le, nat_lt, slice_set, slice_index_or, Ok}
+use Rattle.std.specs.Prelude.{[], ◌∷◌, ◌++◌, Option, Some, None, is_none, length, nat_le, nat_lt, slice_set, slice_index_or, Ok}
 use Rattle.std.specs.List.{remove, list_any, list_all, filter}
 use Rattle.xh_model.specs.declared.event.Holder.TheVariants.{Process}
-use Rattle.xh_model.specs.declared.event.Event.TheVariants.{Pass}
 use Rattle.xh_model.specs.declared.row.Row.{Row}
 use Rattle.xh_model.specs.Rows.{allowed, IsFrontAllowed}
-use Rattle.xh_model.specs.Store.{Store, len, holds, after}
-use Rattle.xh_core.specs.declared.block.Block.{Block}
+use Rattle.xh_model.specs.Store.{holds}
 use Rattle.xh_serial.specs.declared.message.Message.{Message}
 use Rattle.xh_serial.specs.declared.message.Taken.{Taken}
 use Rattle.xh_serial.specs.declared.line.Line.{Line}

@@ -1,10 +1,10 @@
 -- The sweep: what reclaiming one entry of a list does, and as many as a budget allows.
-use Rattle.std.specs.Prelude.{◌≡◌, ℕ, zero, suc, ◌-◌, ◌<◌, ◌≤◌, ◌%◌, true, cond, List, [], ◌∷◌, ◌++◌, Option, Some, None, length, take, drop, nat_lt, slice_set, slice_index_or}
+use Rattle.std.specs.Prelude.{◌≡◌, ℕ, zero, suc, ◌-◌, ◌<◌, ◌≤◌, ◌%◌, true, cond, List, [], ◌++◌, Option, Some, None, length, take, drop, nat_lt, slice_set, slice_index_or}
 use Rattle.std.specs.List.{flat_map, remove}
 use Rattle.xh_model.specs.declared.event.Holder.TheVariants.{Direction}
-use Rattle.xh_model.specs.declared.event.Event.TheVariants.{GiveBack, Vacate, Accept}
+use Rattle.xh_model.specs.declared.event.Event.TheVariants.{GiveBack, Vacate}
 use Rattle.xh_model.specs.declared.row.Row.{Row}
-use Rattle.xh_model.specs.Store.{Store, owner, after}
+use Rattle.xh_model.specs.Store.{owner, after}
 use Rattle.xh_serial.specs.declared.line.Line.{Line}
 use Rattle.xh_serial.specs.Machine.{Machine, end_of, blocks, with_list, no_line, tags_of, arriving, contract_of, drained_state}
 use Rattle.xh_core.specs.Several.{times, accept_from}
