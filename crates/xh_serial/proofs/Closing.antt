@@ -99,6 +99,7 @@ module _ (m : Machine) (p e : ℕ) (w : IsWhole m) (r : IsRunning m p) (h : hold
     idle = idle_set m p x w (busy_place m p (last e (blocks m p)) w (runs_busy m p r));
     lines = w.lines;
     fresh = w.fresh;
+    numbered = w.numbered;
     contracts = w.contracts;
     wired = w.wired;
     opened = w.opened;

@@ -24,6 +24,7 @@ use Rattle.xh_serial.proofs.Room.{room}
 use Rattle.xh_serial.proofs.Appended.{ArePlaces, IsBusy, whole_places, running_place, appended, own_list, appended_places, appended_busy, appended_list, appended_twice, appended_both, times_longer, no_shorter}
 use Rattle.xh_core.proofs.Pairs.{Shared}
 use Rattle.xh_core.proofs.Stores.{at_set}
+use Rattle.xh_serial.proofs.Numbered.{set_numbered}
 
 -- ---- both ends are in step
 
@@ -305,6 +306,9 @@ module _ (s : Store) (p q r t : ℕ) (contract : Option (List Row)) (m : Machine
     idle = after_places.idle;
     lines = length-set (slice_set m.lines (2 * m.opened) (new_line contract)) (2 * m.opened + 1) (new_line contract) ∙ (length-set m.lines (2 * m.opened) (new_line contract) ∙ w.lines);
     fresh = λ d h. line_else d (λ e. absurd (omega (arith, h, e))) (λ e. absurd (omega (arith, h, e))) ∙ w.fresh d (omega (arith, h));
+    numbered = set_numbered (slice_set m.lines (2 * m.opened) (new_line contract)) (2 * m.opened + 1) (new_line contract)
+    (subst (λ (x : ℕ). 2 * m.opened + 1 < x) (sym (length-set m.lines (2 * m.opened) (new_line contract))) long_lines)
+    (set_numbered m.lines (2 * m.opened) (new_line contract) (let e = long_lines in omega (arith, e)) w.numbered (1, refl)) (1, refl);
     contracts = length-set m.contracts m.opened contract ∙ w.contracts;
     wired = opened_wired m.contracts m.lines m.opened contract w.wired (subst (λ (x : ℕ). m.opened < x) (sym w.contracts) more) long_lines sound;
     opened = omega (arith, more);

@@ -11,7 +11,7 @@ use Rattle.xh_model.specs.Store.{owner, len, holds, is_held_by, IsLawful, IsOwne
 use Rattle.xh_model.specs.Config.{IsConfig}
 use Rattle.xh_core.proofs.FreshPlain.{at_replicate}
 use Rattle.xh_serial.specs.declared.place.Place.{Place}
-use Rattle.xh_serial.specs.Machine.{Machine, carried, blocks, buffer, place, line, is_current, on_way, listed, no_place, no_line, end_of, IsWhole}
+use Rattle.xh_serial.specs.Machine.{IsNumbered, Machine, carried, blocks, buffer, place, line, is_current, on_way, listed, no_place, no_line, end_of, IsWhole}
 use Rattle.xh_core.specs.Several.{times}
 use Rattle.xh_serial.specs.PlaceCommands.{new_machine}
 
@@ -99,6 +99,7 @@ module _ (c : Config) (is : IsConfig c) (lawful : IsLawful (new_store c)) where
     idle = λ p s. ap (λ (x : Place). x.blocks.items) (vacant p);
     lines = length-replicate 128 no_line;
     fresh = λ d h. at_line d;
+    numbered = λ d. subst IsNumbered (sym (at_line d)) (1, refl);
     contracts = length-replicate {A = Option (List Row)} 64 None;
     wired = λ k rows e. absurd (no_contract k rows e);
     opened = omega arith;

@@ -9,7 +9,7 @@ use Rattle.xh_model.specs.declared.event.Holder.{Holder}
 use Rattle.xh_model.specs.declared.event.Holder.TheVariants.{Process, Direction}
 use Rattle.xh_model.specs.Store.{Store, owner, len, holds, same_holder, is_held_by, is_known, after, IsQuiet}
 use Rattle.xh_serial.specs.declared.place.Place.{Place}
-use Rattle.xh_serial.specs.Machine.{Machine, place, is_current, blocks, buffer, with_list, end_of, listed, on_way, way_in, no_line, AreWired, IsEnd, IsWhole}
+use Rattle.xh_serial.specs.Machine.{IsNumbered, Machine, place, is_current, blocks, buffer, with_list, end_of, listed, on_way, way_in, no_line, AreWired, IsEnd, IsWhole}
 use Rattle.xh_core.specs.Statuses.{is_vacant, is_ended}
 use Rattle.xh_core.specs.Several.{times}
 use Rattle.xh_core.specs.Gaining.{Gained}
@@ -153,6 +153,7 @@ gained_whole p rs m n w r g places ends lines contracts opened depth buffers byt
       idle = l.idle;
       lines = ap length lines ∙ w.lines;
       fresh = λ d h. ap (λ ls. slice_index_or ls d no_line) lines ∙ w.fresh d (subst (λ (k : ℕ). 2 * k ≤ d) opened h);
+      numbered = λ d. subst (λ ls. IsNumbered (slice_index_or ls d no_line)) (sym lines) (w.numbered d);
       contracts = ap length contracts ∙ w.contracts;
       wired = subst (λ cs. AreWired cs n.lines) (sym contracts) (subst (λ ls. AreWired m.contracts ls) (sym lines) w.wired);
       opened = subst (λ (k : ℕ). k ≤ 64) (sym opened) w.opened;
@@ -310,6 +311,7 @@ written_whole m r new w l e = record {
   idle = w.idle;
   lines = w.lines;
   fresh = w.fresh;
+  numbered = w.numbered;
   contracts = w.contracts;
   wired = w.wired;
   opened = w.opened;

@@ -25,6 +25,7 @@ use Rattle.xh_core.proofs.Stores.{count_append, done, all_owners, is_there, at_s
 use Rattle.xh_serial.proofs.Machines.{runs_busy, place_there, list_here, list_else, current_generation, busy_place, generations_set, idle_set, way_here, way_else, peer_ne, peer_half, peer_below}
 use Rattle.xh_serial.proofs.Wired.{state_in, IsPair, same_lines, wired_pair, half_apart}
 use Rattle.xh_serial.proofs.Moved.{Moved, moved_whole}
+use Rattle.xh_serial.proofs.Numbered.{put_numbered, set_numbered}
 
 pub any_times : (q : ℕ) (bs : List ℕ) → list_any (λ b. b == q) bs ≡ nat_lt 0 (times q bs)
 any_times q [] = refl
@@ -248,6 +249,7 @@ module _ (m : Machine) (p e tag : ℕ) (bs : List ℕ) (w : IsWhole m) (g : MayG
     lines = length-set told d y ∙ length-set m.lines own z;
     fresh = λ k l. other_lines k (λ s. let c = g.within in omega (arith, c, l, s)) (λ s. let c = below in omega (arith, c, l, s)) ∙ w.fresh k l;
     contracts = refl;
+    numbered = set_numbered told d y there (set_numbered m.lines own z own_there w.numbered (w.numbered own)) (put_numbered tag bs (line m d) (w.numbered d));
     wired = wired_pair m.contracts m.lines (slice_set told d y) own w.wired wired (λ k h. other_lines k (half_apart own k h) (λ s. h (ap (λ (i : ℕ). i / 2) s ∙ peer_half own)));
     opened = refl;
     depth = refl;

@@ -19,6 +19,7 @@ use Rattle.xh_core.proofs.Stores.{is_there, same_len, same_known, len_back, len_
 use Rattle.xh_serial.proofs.Machines.{lists_current, current_range, generations_set, idle_set, busy_place, lists_busy}
 use Rattle.xh_serial.proofs.Wired.{shut_wired}
 use Rattle.xh_serial.proofs.Swept.{entry, new_owner, SweptOne, swept_one, entry_held, came_held, once_process, once_direction, ends_now, end_range}
+use Rattle.xh_serial.proofs.Numbered.{shut_numbered}
 
 -- what becomes of another record: p has it now and a direction had it, or its holder is the same
 pub other_owner : (m : Machine) (p from q : ℕ) → IsWhole m → from < length (blocks m p) → q ≢ entry m p from →
@@ -170,6 +171,7 @@ whole_one m p from w l =
       lines = lines_long m.contracts m.lines (end_of m (entry m p from)) ∙ w.lines;
       fresh = λ k h. fresh_now m p from k w h;
       contracts = w.contracts;
+      numbered = shut_numbered m.contracts m.lines (end_of m (entry m p from)) (end_range m (entry m p from) w) w.numbered;
       wired = shut_wired m.contracts m.lines (end_of m (entry m p from)) (end_range m (entry m p from) w) w.wired;
       opened = w.opened;
       deep = w.deep;

@@ -2,6 +2,7 @@ pub mod Machines
 pub mod Fresh
 pub mod Swept
 pub mod Wired
+pub mod Numbered
 pub mod Kept
 pub mod Reclaiming
 pub mod Room

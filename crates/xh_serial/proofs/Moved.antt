@@ -5,7 +5,7 @@ use Rattle.std.proofs.lemmas.Bool.{cases_eq, cases_Bool, false≢true, eq-eqb, n
 use Rattle.xh_model.specs.declared.event.Holder.{Holder}
 use Rattle.xh_model.specs.declared.event.Holder.TheVariants.{Process, Direction}
 use Rattle.xh_model.specs.Store.{owner, len, holds, same_holder, is_held_by, IsOwner, IsLawful}
-use Rattle.xh_serial.specs.Machine.{Machine, end_of, buffer, place, line, no_line, listed, AreWired, IsWhole, IsEnd}
+use Rattle.xh_serial.specs.Machine.{IsNumbered, Machine, end_of, buffer, place, line, no_line, listed, AreWired, IsWhole, IsEnd}
 use Rattle.xh_core.specs.Several.{times}
 use Rattle.xh_core.specs.Statuses.{is_vacant, is_ended}
 use Rattle.xh_core.proofs.Stores.{same_len, same_known}
@@ -54,6 +54,7 @@ pub record Moved (g h : Holder) (rs : List ℕ) (m n : Machine) : Type 0 where
   pub lines : length n.lines ≡ length m.lines
   pub fresh : (d : ℕ) → 2 * m.opened ≤ d → line n d ≡ no_line
   pub contracts : n.contracts ≡ m.contracts
+  pub numbered : (d : ℕ) → IsNumbered (line n d)
   pub wired : AreWired m.contracts n.lines
   pub opened : n.opened ≡ m.opened
   pub depth : n.depth ≡ m.depth
@@ -166,6 +167,7 @@ module _ (g h : Holder) (rs : List ℕ) (m n : Machine) (w : IsWhole m) (v : Mov
     lines = v.lines ∙ w.lines;
     fresh = λ d l. v.fresh d (rw v.opened at l);
     contracts = ap length v.contracts ∙ w.contracts;
+    numbered = v.numbered;
     wired = rw v.contracts v.wired;
     opened = rw v.opened w.opened;
     deep = rw v.depth w.deep;

@@ -71,6 +71,7 @@ module _ (m : Machine) (p : ℕ) (w : IsWhole m) (c : can_start (place m p) ≡ 
     idle = idle_set m p (started (place m p)) w is_place;
     lines = w.lines;
     fresh = w.fresh;
+    numbered = w.numbered;
     contracts = w.contracts;
     wired = w.wired;
     opened = w.opened;

@@ -63,6 +63,7 @@ status_whole m p s w is = record {
   idle = idle_set m p (record (place m p) { status = s }) w is;
   lines = w.lines;
   fresh = w.fresh;
+  numbered = w.numbered;
   contracts = w.contracts;
   wired = w.wired;
   opened = w.opened;

@@ -23,6 +23,7 @@ use Rattle.xh_serial.proofs.Machines.{runs_busy, place_there, list_here, list_el
 use Rattle.xh_serial.proofs.Room.{room}
 use Rattle.xh_serial.proofs.Wired.{state_in, tags_in, IsPair, same_lines, wired_pair, pair_of, half_apart}
 use Rattle.xh_serial.proofs.Moved.{Moved, moved_whole}
+use Rattle.xh_serial.proofs.Numbered.{set_numbered, taken_numbered}
 
 pub front_split : (ms : List Message) → 0 < length ms → carried ms ≡ (slice_index_or ms 0 no_message).blocks.items ++ carried (remove ms 0)
 front_split [] h = absurd (omega arith)
@@ -135,6 +136,7 @@ module _ (m : Machine) (p e : ℕ) (w : IsWhole m) (t : MayTake m p e (toward m 
     lines = length-set m.lines d y;
     fresh = λ k l. get_or-set_other m.lines d k y no_line (λ s. let c = t.within in omega (arith, c, l, s)) ∙ w.fresh k l;
     contracts = refl;
+    numbered = set_numbered m.lines d y there w.numbered (taken_numbered (contract_of m.contracts d) (1 - d % 2) (front m e).tag (line m d) t.some (w.numbered d));
     wired = wired_pair m.contracts m.lines (slice_set m.lines d y) d w.wired (λ rows is valid pair. wired rows is pair) (λ k h. get_or-set_other m.lines d k y no_line (half_apart d k h));
     opened = refl;
     depth = refl;

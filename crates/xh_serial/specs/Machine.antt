@@ -107,6 +107,15 @@ abbrev pub listed : Machine → Holder → List ℕ
 listed m (Process p) = blocks m p
 listed m (Direction d) = on_way m d
 
+-- messages have numbers one after another: the front one has `first`, and the back one `last`
+abbrev pub AreNumbered : ℕ → List Message → ℕ → Type 0
+AreNumbered first [] last = first ≡ last + 1
+AreNumbered first (message ∷ messages) last = (message.no ≡ first) × AreNumbered (first + 1) messages last
+
+-- the messages that wait in a direction have consecutive numbers, up to as many as were ever put
+abbrev pub IsNumbered : Line → Type 0
+IsNumbered l = (first : ℕ) × AreNumbered first l.waiting.items l.put
+
 -- ---- contracts
 
 -- the contract of a direction's channel
@@ -138,7 +147,7 @@ pub record IsEnd (m : Machine) (r d : ℕ) : Type 0 where
   pub alone : (q : ℕ) → end_of m q ≡ Some d → q ≡ r
 
 -- Each record stands once in its holder's list and in no other; each held record has bytes; a data block's buffer has its length;
--- a place that is vacant or has ended lists nothing; a channel that was not opened is as new; under a contract both ends are in step.
+-- a place that is vacant or has ended lists nothing; a channel that was not opened is as new; waiting messages have consecutive numbers; under a contract both ends are in step.
 pub record IsWhole (m : Machine) : Type 0 where
   pub store : IsLawful m.store
   pub once : (h : Holder) (r : ℕ) → times r (listed m h) ≡ cond (holds m.store h r) 1 0
@@ -152,6 +161,7 @@ pub record IsWhole (m : Machine) : Type 0 where
   pub idle : (p : ℕ) → (is_vacant (place m p).status || is_ended (place m p).status) ≡ true → (place m p).blocks.items ≡ []
   pub lines : length m.lines ≡ 128
   pub fresh : (d : ℕ) → 2 * m.opened ≤ d → line m d ≡ no_line
+  pub numbered : (d : ℕ) → IsNumbered (line m d)
   pub contracts : length m.contracts ≡ 64
   pub wired : AreWired m.contracts m.lines
   pub opened : m.opened ≤ 64

@@ -1,6 +1,6 @@
 //! Messages: give and take.
-ghost use Rattle.std.specs.Prelude.{◌≡◌, ◌-◌, ◌/◌, ◌%◌, ◌<◌, IfOk, false};
-ghost use Rattle.xh_serial.specs.Machine.{contract_of, line};
+ghost use Rattle.std.specs.Prelude.{◌≡◌, ℕ, ◌-◌, ◌/◌, ◌%◌, ◌<◌, IfOk, false};
+ghost use Rattle.xh_serial.specs.Machine.{contract_of, line, IsNumbered};
 ghost use Rattle.xh_serial.specs.Commands.{toward};
 ghost use Rattle.xh_serial.specs.MessageCommands.{AreOrderly, give, is_banned, take};
 
@@ -18,6 +18,7 @@ impl Serial {
     pub fn give(&mut self, p: u16, e: u16, tag: u16, blocks: &[u16]) -> Result<u64, Refused>
         ensures is { give p e tag blocks.now self.old ≡ (result, self.new) }
         ensures orderly { AreOrderly self.new }
+        ensures numbered { (d : ℕ) → IsNumbered (line self.new d) }
     {
         let _start = &self.plain;
         let own = self.check_give(p, e, tag, blocks)?;
@@ -37,6 +38,7 @@ impl Serial {
         ensures allowed { IfOk result (λ taken.
             is_banned (contract_of self.old.contracts (toward self.old e)) (1 - toward self.old e % 2) (line self.old (toward self.old e)).state taken.tag ≡ false) }
         ensures orderly { AreOrderly self.new }
+        ensures numbered { (d : ℕ) → IsNumbered (line self.new d) }
     {
         let _start = &self.plain;
         let d = self.check_take(p, e)?;
@@ -57,6 +59,7 @@ impl Serial {
         ensures allowed { IfOk result (λ taken.
             is_banned (contract_of self.old.contracts (toward self.old e)) (1 - toward self.old e % 2) (line self.old (toward self.old e)).state taken.tag ≡ false) }
         ensures orderly { AreOrderly self.new }
+        ensures numbered { (d : ℕ) → IsNumbered (line self.new d) }
     {
         self.take(p, e)
     }

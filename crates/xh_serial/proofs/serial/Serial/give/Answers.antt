@@ -89,3 +89,9 @@ pub returns-in_err-own-clause-orderly : goal.returns-in_err-own-clause-orderly
 returns-in_err-own-clause-orderly c =
     let w : IsWhole c.args.self.now = subst IsWhole c.self.view_is c.self.invariant in
     wired_orderly c.args.self.now w.wired
+
+pub returns-clause-numbered : goal.returns-clause-numbered
+returns-clause-numbered c = (whole c).numbered
+
+pub returns-in_err-own-clause-numbered : goal.returns-in_err-own-clause-numbered
+returns-in_err-own-clause-numbered c = let w : IsWhole c.args.self.now = subst IsWhole c.self.view_is c.self.invariant in w.numbered

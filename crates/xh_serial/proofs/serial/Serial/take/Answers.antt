@@ -96,3 +96,9 @@ returns-clause-allowed c =
     ap (λ (x : Machine). is_banned (contract_of x.contracts (toward x c.args.e)) (1 - toward x c.args.e % 2) (line x (toward x c.args.e)).state c.take_front-message.result.tag) (sym c.self.view_is)
     ∙ (ap (λ (x : Message). is_banned (contract_of m.contracts (own c)) (1 - own c % 2) (line m (own c)).state x.tag) (had (begun c)).first
     ∙ front_allowed m c.args.p c.args.e c.self.invariant (had (begun c)).may)
+
+pub returns-clause-numbered : goal.returns-clause-numbered
+returns-clause-numbered c = (whole c).numbered
+
+pub returns-in_err-d-clause-numbered : goal.returns-in_err-d-clause-numbered
+returns-in_err-d-clause-numbered c = let w : IsWhole c.args.self.now = subst IsWhole c.self.view_is c.self.invariant in w.numbered
