@@ -1,6 +1,6 @@
 -- What the names of a script stand for.
-use Rattle.std.specs.Prelude.{ℕ, zero, suc, ◌+◌, ◌*◌, ◌%◌, List, [], ◌∷◌, map, replicate, slice_index_or, slice_set, if◌then◌else◌, not, ◌==◌, Bool, codes, Option, Some, None}
-use Rattle.std.specs.List.{list_any}
+use Rattle.std.specs.Prelude.{ℕ, zero, suc, ◌+◌, ◌*◌, ◌%◌, List, [], ◌∷◌, ◌++◌, map, take, drop, replicate, slice_index_or, slice_set, if◌then◌else◌, not, ◌==◌, Bool, codes, Option, Some, None}
+use Rattle.std.specs.List.{list_any, filter}
 use Rattle.xh_model.specs.declared.limits.TheConstants.{PLACES}
 use Rattle.xh_core.specs.declared.block.Block.{Block}
 use Rattle.xh_script.specs.declared.limits.TheConstants.{MAX_PROCESSES, MAX_BLOCK_NAMES}
@@ -48,13 +48,28 @@ entry records p x = slice_index_or records (MAX_BLOCK_NAMES * p + x) NOTHING
 abbrev pub with_entry : List ℕ → ℕ → ℕ → ℕ → List ℕ
 with_entry records p x r = slice_set records (MAX_BLOCK_NAMES * p + x) r
 
--- a name, or several, are bound to nothing from now on
+-- a name is bound to nothing from now on
 abbrev pub without : List ℕ → ℕ → ℕ → List ℕ
 without records p x = with_entry records p x NOTHING
 
-abbrev pub without_each : List ℕ → ℕ → List (Word ℕ) → List ℕ
-without_each records p [] = records
-without_each records p (x ∷ xs) = without_each (without records p (name_in x)) p xs
+-- the entries, of which those that are a record become nothing
+abbrev pub cleared : ℕ → List ℕ → List ℕ
+cleared r entries = map (λ q. if q == r then NOTHING else q) entries
+
+-- each name of a process that stands for a record is bound to nothing from now on; its other names stay, and those of all others
+unfoldable pub without_record : List ℕ → ℕ → ℕ → List ℕ
+without_record records p r =
+    take (MAX_BLOCK_NAMES * p) records
+    ++ (cleared r (take MAX_BLOCK_NAMES (drop (MAX_BLOCK_NAMES * p) records)) ++ drop (MAX_BLOCK_NAMES * p + MAX_BLOCK_NAMES) records)
+
+-- that for each of several records
+abbrev pub without_records : List ℕ → ℕ → List ℕ → List ℕ
+without_records records p [] = records
+without_records records p (r ∷ rs) = without_records (without_record records p r) p rs
+
+-- those of several records that are not among others
+abbrev pub not_among : List ℕ → List ℕ → List ℕ
+not_among others rs = filter (λ r. not (list_any (λ o. o == r) others)) rs
 
 -- a name stands for a block, and stays where the block is missing
 abbrev pub with_block : List ℕ → ℕ → ℕ → Option Block → List ℕ
@@ -66,11 +81,6 @@ abbrev pub with_each : List ℕ → ℕ → List (Word ℕ) → List (Option Blo
 with_each records p [] blocks = records
 with_each records p (x ∷ xs) [] = records
 with_each records p (x ∷ xs) (b ∷ blocks) = with_each (with_block records p (name_in x) b) p xs blocks
-
--- those of several names are bound to nothing whose records are not among these
-abbrev pub without_but : List ℕ → ℕ → List (Word ℕ) → List ℕ → List ℕ
-without_but records p [] back = records
-without_but records p (x ∷ xs) back = without_but (if list_any (λ r. r == entry records p (name_in x)) back then records else without records p (name_in x)) p xs back
 
 -- the names below n are bound to nothing
 unfoldable pub without_below : List ℕ → ℕ → ℕ → List ℕ
@@ -92,13 +102,10 @@ abbrev pub bound_each : Bindings → ℕ → List (Word ℕ) → List (Option Bl
 bound_each b p xs blocks = record b { records = with_each b.records p xs blocks }
 
 abbrev pub unbound : Bindings → ℕ → ℕ → Bindings
-unbound b p x = record b { records = without b.records p x }
+unbound b p r = record b { records = without_record b.records p r }
 
-abbrev pub unbound_each : Bindings → ℕ → List (Word ℕ) → Bindings
-unbound_each b p xs = record b { records = without_each b.records p xs }
-
-abbrev pub unbound_but : Bindings → ℕ → List (Word ℕ) → List ℕ → Bindings
-unbound_but b p xs back = record b { records = without_but b.records p xs back }
+abbrev pub unbound_each : Bindings → ℕ → List ℕ → Bindings
+unbound_each b p rs = record b { records = without_records b.records p rs }
 
 abbrev pub unbound_all : Bindings → ℕ → Bindings
 unbound_all b p = record b { records = without_below b.records p MAX_BLOCK_NAMES }

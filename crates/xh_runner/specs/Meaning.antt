@@ -28,7 +28,7 @@ use Rattle.xh_script.specs.declared.reply.Reply.TheVariants as reply
 use Rattle.xh_script.specs.declared.reply.Answered.{Answered}
 use Rattle.xh_runner.specs.declared.received.Received.{Received}
 use Rattle.xh_runner.specs.Receiving.{receives}
-use Rattle.xh_runner.specs.Bindings.{Bindings, no_bindings, number_of, has_place, record_of, records_of, started, bound, bound_each, unbound, unbound_each, unbound_but, unbound_all}
+use Rattle.xh_runner.specs.Bindings.{Bindings, no_bindings, number_of, has_place, record_of, records_of, started, bound, bound_each, unbound, unbound_each, unbound_all, not_among}
 
 -- the machine, what the names of the script stand for, and the script's contracts by number
 pub record World : Type 0 where
@@ -64,17 +64,17 @@ same a names = names
 abbrev pub with_ends : ℕ → ℕ → ℕ → ℕ → Block × Block → Bindings → Bindings
 with_ends p e q f ends names = bound (bound names p e ends.0.rec) q f ends.1.rec
 
--- the names of blocks that a refused give hands back stay
-abbrev pub handed_back : ℕ → List (Word ℕ) → Refused → Bindings → Bindings
-handed_back p xs (Full back) names = unbound_but names p xs back.items
-handed_back p xs (PeerClosed back) names = unbound_but names p xs back.items
-handed_back p xs (Protocol back) names = unbound_but names p xs back.items
-handed_back p xs _ names = names
+-- of the blocks that a refused give does not hand back, the names are unbound
+abbrev pub handed_back : ℕ → List ℕ → Refused → Bindings → Bindings
+handed_back p rs (Full back) names = unbound_each names p (not_among back.items rs)
+handed_back p rs (PeerClosed back) names = unbound_each names p (not_among back.items rs)
+handed_back p rs (Protocol back) names = unbound_each names p (not_among back.items rs)
+handed_back p rs _ names = names
 
 -- the names of blocks that went are unbound
-abbrev pub given : ℕ → List (Word ℕ) → World → Answer ℕ → Reply × World
-given p xs w (Ok number, m) = (Given number, record w { machine = m; names = unbound_each w.names p xs })
-given p xs w (Err refused, m) = (NotGiven refused, record w { machine = m; names = handed_back p xs refused w.names })
+abbrev pub given : ℕ → List ℕ → World → Answer ℕ → Reply × World
+given p rs w (Ok number, m) = (Given number, record w { machine = m; names = unbound_each w.names p rs })
+given p rs w (Err refused, m) = (NotGiven refused, record w { machine = m; names = handed_back p rs refused w.names })
 
 -- a taken message
 abbrev pub taken : Received → Reply
@@ -127,16 +127,16 @@ write_step w p x at bytes = replied (λ _. Done) same w (write (process w p) (bl
 
 -- a tag is at most so great
 abbrev pub give_step : World → ℕ → ℕ → ℕ → List (Word ℕ) → Reply × World
-give_step w p e tag xs = given p xs w (give (process w p) (block w p e) (min tag MAX_TAG) (records_of w.names p xs) w.machine)
+give_step w p e tag xs = given p (records_of w.names p xs) w (give (process w p) (block w p e) (min tag MAX_TAG) (records_of w.names p xs) w.machine)
 
 abbrev pub take_step : World → ℕ → ℕ → List (Word ℕ) → Reply × World
 take_step w p e xs = replied taken (λ message names. bound_each names p xs message.blocks.items) w (receives (take (process w p) (block w p e) w.machine))
 
 abbrev pub free_step : World → ℕ → ℕ → Reply × World
-free_step w p x = replied Length (λ _ names. unbound names p x) w (free (process w p) (block w p x) w.machine)
+free_step w p x = replied Length (λ _ names. unbound names p (block w p x)) w (free (process w p) (block w p x) w.machine)
 
 abbrev pub close_step : World → ℕ → ℕ → Reply × World
-close_step w p e = replied Reclaimed (λ _ names. unbound names p e) w (close (process w p) (block w p e) w.machine)
+close_step w p e = replied Reclaimed (λ _ names. unbound names p (block w p e)) w (close (process w p) (block w p e) w.machine)
 
 abbrev pub exit_step : World → ℕ → ℕ → Reply × World
 exit_step w p budget = replied Reclaimed same w (exit (process w p) budget w.machine)

@@ -1,8 +1,8 @@
 //! What the names of a script stand for.
 ghost use Rattle.std.specs.Prelude.{◌≡◌, ◌+◌, ◌*◌, ◌%◌, ◌≤◌, ◌==◌, if◌then◌else◌, length, map, replicate, codes, IfOk};
 ghost use Rattle.std.specs.List.{list_any};
-ghost use Rattle.xh_runner.specs.Bindings.{Bindings, no_bindings, nothings, number_of, has_place, entry, with_entry, with_block, with_each, without, without_each, without_but};
-ghost use Rattle.xh_runner.specs.Bindings.{without_below, record_of, records_of, started, bound, bound_each, unbound, unbound_each, unbound_but, unbound_all, names_by_place};
+ghost use Rattle.xh_runner.specs.Bindings.{Bindings, no_bindings, nothings, number_of, has_place, entry, with_entry, with_block, with_each, cleared, without_record, without_records, not_among};
+ghost use Rattle.xh_runner.specs.Bindings.{without_below, record_of, records_of, started, bound, bound_each, unbound, unbound_each, unbound_all, names_by_place};
 ghost use Rattle.std.specs.Prelude.{slice_index_or, slice_set};
 ghost use Rattle.xh_model.specs.declared.limits.TheConstants.{PLACES};
 ghost use Rattle.xh_script.specs.declared.limits.TheConstants.{MAX_WORDS, MAX_BLOCK_NAMES};
@@ -120,35 +120,56 @@ fn set_each(records: &mut [u16], process: u8, words: &[Word<u8>], message: &[Opt
     }
 }
 
-fn clear_each(records: &mut [u16], process: u8, words: &[Word<u8>])
-    ensures { records.new ≡ without_each records.old process words.now }
+/// The entry, or nothing where it is this record.
+fn unless(entry: u16, rec: u16) -> u16
+    ensures { result ≡ (if entry == rec then NOTHING else entry) }
 {
-    for word in words {
-        set_entry(records, process, word.name(), NOTHING);
+    if entry == rec { NOTHING } else { entry }
+}
+
+/// Every entry is written, so that the compiler can do many at once.
+fn clear(entries: &mut [u16], rec: u16)
+    ensures { entries.new ≡ cleared rec entries.old }
+{
+    for entry in entries.iter_mut() {
+        *entry = unless(*entry, rec);
     }
 }
 
-fn is_among(back: &[u16], rec: u16) -> bool
-    ensures { result ≡ list_any (λ r. r == rec) back.now }
+fn clear_record(records: &mut [u16], process: u8, rec: u16)
+    ensures { records.new ≡ without_record records.old process rec }
 {
-    back.iter().any(|kept| *kept == rec)
+    let start = (MAX_BLOCK_NAMES * usize::from(process)).min(records.len());
+    let end = (start + MAX_BLOCK_NAMES).min(records.len());
+    clear(&mut records[start..end], rec);
 }
 
-fn clear_unless(records: &mut [u16], process: u8, block: u8, back: &[u16])
-    ensures { records.new ≡ (if list_any (λ r. r == entry records.old process block) back.now
-        then records.old else without records.old process block) }
+fn clear_records(records: &mut [u16], process: u8, gone: &[u16])
+    ensures { records.new ≡ without_records records.old process gone.now }
 {
-    if !is_among(back, entry(records, process, block)) {
-        set_entry(records, process, block, NOTHING);
+    for rec in gone {
+        clear_record(records, process, *rec);
     }
 }
 
-fn clear_but(records: &mut [u16], process: u8, words: &[Word<u8>], back: &[u16])
-    ensures { records.new ≡ without_but records.old process words.now back.now }
+fn is_among(others: &[u16], rec: u16) -> bool
+    ensures { result ≡ list_any (λ o. o == rec) others.now }
 {
-    for word in words {
-        clear_unless(records, process, word.name(), back);
+    others.iter().any(|other| *other == rec)
+}
+
+/// Those of the records that are not among others.
+pub(crate) fn not_among(others: &[u16], records: &[u16]) -> ArrayVec<u16, MAX_WORDS>
+    requires { length records.now ≤ MAX_WORDS }
+    ensures { result.items ≡ not_among others.now records.now }
+{
+    let mut found = ArrayVec::new();
+    for rec in records {
+        if !is_among(others, *rec) {
+            found.push(*rec);
+        }
     }
+    found
 }
 
 fn clear_all(records: &mut [u16], process: u8)
@@ -299,25 +320,18 @@ impl Names {
         set_each(&mut self.records, process, words, message);
     }
 
-    /// The name is bound to nothing.
-    pub(crate) fn unbind(&mut self, process: u8, block: u8)
-        ensures { self.new ≡ unbound self.old process block }
+    /// Each name of the process that stands for this record is bound to nothing.
+    pub(crate) fn unbind(&mut self, process: u8, rec: u16)
+        ensures { self.new ≡ unbound self.old process rec }
     {
-        set_entry(&mut self.records, process, block, NOTHING);
+        clear_record(&mut self.records, process, rec);
     }
 
-    /// The names that words say are bound to nothing.
-    pub(crate) fn unbind_each(&mut self, process: u8, words: &[Word<u8>])
-        ensures { self.new ≡ unbound_each self.old process words.now }
+    /// Each name of the process that stands for one of these records is bound to nothing.
+    pub(crate) fn unbind_each(&mut self, process: u8, gone: &[u16])
+        ensures { self.new ≡ unbound_each self.old process gone.now }
     {
-        clear_each(&mut self.records, process, words);
-    }
-
-    /// The names that words say are bound to nothing whose records are not among these.
-    pub(crate) fn unbind_but(&mut self, process: u8, words: &[Word<u8>], back: &[u16])
-        ensures { self.new ≡ unbound_but self.old process words.now back.now }
-    {
-        clear_but(&mut self.records, process, words, back);
+        clear_records(&mut self.records, process, gone);
     }
 
     /// All names of the process for blocks are bound to nothing.

@@ -99,7 +99,7 @@ impl<'a, M: Machine> Session<'a, M> {
         let rec = self.names.record_of(process, block);
         match self.machine.free(number, rec) {
             Ok(len) => {
-                self.names.unbind(process, block);
+                self.names.unbind(process, rec);
                 Reply::Length(len)
             }
             Err(refused) => Reply::No(refused),

@@ -7,7 +7,7 @@ ghost use Rattle.xh_runner.specs.inner.Steps.{Steps};
 ghost use Rattle.xh_runner.specs.Worlds.{world_of};
 
 use crate::machine::Machine;
-use crate::names::Names;
+use crate::names::{Names, not_among};
 use crate::session::Session;
 use arrayvec::ArrayVec;
 use xh_core::{Block, Refused};
@@ -36,15 +36,17 @@ fn lengths_of(blocks: &[Option<Block>]) -> ArrayVec<Option<u32>, MAX_BLOCKS>
 }
 
 /// A refused give unbinds the names of the blocks that were not handed back.
-fn keep_back(names: &mut Names, process: u8, words: &[Word<u8>], refused: &Refused)
-    ensures { names.new ≡ handed_back process words.now refused.now names.old }
+fn keep_back(names: &mut Names, process: u8, records: &[u16], refused: &Refused)
+    requires { length records.now ≤ MAX_WORDS }
+    ensures { names.new ≡ handed_back process records.now refused.now names.old }
 {
-    match refused {
-        Refused::Full { back } => names.unbind_but(process, words, back.as_slice()),
-        Refused::PeerClosed { back } => names.unbind_but(process, words, back.as_slice()),
-        Refused::Protocol { back } => names.unbind_but(process, words, back.as_slice()),
-        _ => {}
-    }
+    let back = match refused {
+        Refused::Full { back } => back,
+        Refused::PeerClosed { back } => back,
+        Refused::Protocol { back } => back,
+        _ => return,
+    };
+    names.unbind_each(process, not_among(back.as_slice(), records).as_slice());
 }
 
 impl<'a, M: Machine> Session<'a, M> {
@@ -58,11 +60,11 @@ impl<'a, M: Machine> Session<'a, M> {
         let tag = tag.min(MAX_TAG) as u16;
         match self.machine.give(number, rec, tag, records.as_slice()) {
             Ok(message) => {
-                self.names.unbind_each(process, words);
+                self.names.unbind_each(process, records.as_slice());
                 Reply::Given(message)
             }
             Err(refused) => {
-                keep_back(&mut self.names, process, words, &refused);
+                keep_back(&mut self.names, process, records.as_slice(), &refused);
                 Reply::NotGiven(refused)
             }
         }

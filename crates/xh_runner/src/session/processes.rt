@@ -94,7 +94,7 @@ impl<'a, M: Machine> Session<'a, M> {
         let rec = self.names.record_of(process, endpoint);
         match self.machine.close(number, rec) {
             Ok(bytes) => {
-                self.names.unbind(process, endpoint);
+                self.names.unbind(process, rec);
                 Reply::Reclaimed(bytes)
             }
             Err(refused) => Reply::No(refused),
