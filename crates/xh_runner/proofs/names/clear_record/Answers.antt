@@ -1,4 +1,4 @@
-use Rattle.std.proofs.Common.{◌≡◌, ◌∙◌, ◌-◌, ap}
+use Rattle.std.proofs.Common.{◌∙◌, ◌-◌, ap}
 use borrow.Rule.Slice.PartMut.{put_mid}
 use Rattle.xh_runner.proofs.Bindings.{between_others}
 use Rattle.xh_runner.proofs.names.clear_record.Goals as goal
