@@ -307,8 +307,8 @@ module _ (s : Store) (p q r t : ℕ) (contract : Option (List Row)) (m : Machine
     lines = length-set (slice_set m.lines (2 * m.opened) (new_line contract)) (2 * m.opened + 1) (new_line contract) ∙ (length-set m.lines (2 * m.opened) (new_line contract) ∙ w.lines);
     fresh = λ d h. line_else d (λ e. absurd (omega (arith, h, e))) (λ e. absurd (omega (arith, h, e))) ∙ w.fresh d (omega (arith, h));
     numbered = set_numbered (slice_set m.lines (2 * m.opened) (new_line contract)) (2 * m.opened + 1) (new_line contract)
-    (subst (λ (x : ℕ). 2 * m.opened + 1 < x) (sym (length-set m.lines (2 * m.opened) (new_line contract))) long_lines)
-    (set_numbered m.lines (2 * m.opened) (new_line contract) (let e = long_lines in omega (arith, e)) w.numbered (1, refl)) (1, refl);
+        (subst (λ (x : ℕ). 2 * m.opened + 1 < x) (sym (length-set m.lines (2 * m.opened) (new_line contract))) long_lines)
+        (set_numbered m.lines (2 * m.opened) (new_line contract) (let e = long_lines in omega (arith, e)) w.numbered (1, refl)) (1, refl);
     contracts = length-set m.contracts m.opened contract ∙ w.contracts;
     wired = opened_wired m.contracts m.lines m.opened contract w.wired (subst (λ (x : ℕ). m.opened < x) (sym w.contracts) more) long_lines sound;
     opened = omega (arith, more);
