@@ -5,7 +5,5 @@ mod auditing;
 mod closing;
 mod collecting;
 mod lines;
-#[cfg(test)]
-mod tests;
 
 pub use closing::close_books;

@@ -13,6 +13,3 @@ pub use glances::Glances;
 pub use look::Look;
 pub use pen::Pen;
 pub use view::View;
-
-#[cfg(test)]
-mod tests;

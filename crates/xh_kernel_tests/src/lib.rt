@@ -1,5 +1,7 @@
-//! The kernel by its public calls.
+//! The kernel, and the glances that it tells, by their public calls.
 #![tactic(auto)]
 
+#[cfg(test)]
+mod glances;
 #[cfg(test)]
 mod kernels;

@@ -226,6 +226,3 @@ impl Document {
         Ok(document.text)
     }
 }
-
-#[cfg(test)]
-mod tests;

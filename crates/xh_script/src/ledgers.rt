@@ -161,6 +161,3 @@ pub fn write_ledger<W: Write>(
     put_places(writer, names, &ledger.places)?;
     put_sums(writer, ledger)
 }
-
-#[cfg(test)]
-mod tests;

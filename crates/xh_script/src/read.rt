@@ -86,6 +86,3 @@ pub fn read_script(alloc: Global, text: &[u8]) -> Result<Script, Fault>
     let reading = read_lines(alloc, text)?;
     Ok(reading.into_script())
 }
-
-#[cfg(test)]
-mod tests;

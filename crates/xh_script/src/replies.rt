@@ -290,6 +290,3 @@ pub fn write_answers<W: Write>(writer: &mut Watched<W>, answers: &[Answered]) ->
     }
     Ok(())
 }
-
-#[cfg(test)]
-mod tests;

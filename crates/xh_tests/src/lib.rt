@@ -6,6 +6,8 @@ mod at_points;
 #[cfg(test)]
 mod blocks;
 #[cfg(test)]
+mod books;
+#[cfg(test)]
 mod endings;
 #[cfg(test)]
 mod faults;

@@ -1,7 +1,9 @@
 //! The text of replies, and writers that fail.
-use super::*;
-use std::io;
+use arrayvec::ArrayVec;
+use std::io::{self, Write};
 use std::test::Fail;
+use xh_core::Refused;
+use xh_script::{Answered, Fault, Reply, Watched, write_answers, write_reply};
 
 /// Takes one byte at a time, and fails, or takes none, once it has taken so many.
 #[derive(Drop)]

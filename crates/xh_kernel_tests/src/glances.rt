@@ -3,10 +3,10 @@ ghost use Rattle.std.specs.Prelude.{◌≡◌, ◌%◌};
 ghost use Rattle.xh_model.specs.declared.limits.TheConstants.{PLACES};
 ghost use Rattle.xh_glance.specs.Words.{IsPackable};
 
-use crate::Glances;
 use std::process::Abort;
 use std::test::Fail;
 use xh_core::{Glance, Status};
+use xh_glance::Glances;
 
 /// A full place of the last generation: 2,048 blocks of 1,048,576 bytes.
 fn full() -> Glance

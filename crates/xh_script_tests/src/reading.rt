@@ -1,7 +1,7 @@
 //! Scripts with a fault, one line of each form, and reading without memory.
-use super::*;
-use std::alloc::AllocError;
+use std::alloc::{AllocError, Global};
 use std::test::Fail;
+use xh_script::{Fault, Kind, read_script};
 
 /// Scripts with the line and the kind of their fault; the common ones are tested with the program.
 const FAULTY: [(&str, u32, Kind); 13] = [

@@ -1,8 +1,8 @@
 //! The text of a ledger.
-use super::*;
-use crate::read_script;
 use arrayvec::ArrayVec;
 use std::test::Fail;
+use xh_core::{ArenaLine, Ledger, PlaceLine, State};
+use xh_script::{Watched, read_script, write_ledger};
 
 const TEXT: &str =
     "arena 0 256 128 1 128 0\nprocess a running 1 32\nprocess b ended 3 96\nowned 128\nflight 0\nout 128\n";

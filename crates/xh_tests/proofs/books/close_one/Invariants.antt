@@ -1,4 +1,4 @@
-use Rattle.xh_books.proofs.tests.close_one.Given as goal
+use Rattle.xh_tests.proofs.books.close_one.Given as goal
 
 abbrev pub ghosts-close_used : goal.ghosts-close_used
 ghosts-close_used g a = record { parts = a.parts }

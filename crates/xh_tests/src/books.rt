@@ -1,38 +1,14 @@
 //! Ledgers by figures.
 ghost use Rattle.std.specs.Prelude.{◌≡◌};
 
-use crate::closing::{close_books, ledger};
-use arrayvec::ArrayVec;
 use std::alloc::Global;
 use std::marker::Brand;
 use std::sync::Wait;
 use std::test::Fail;
-use xh_core::{ArenaLine, Config, Ledger, PlaceLine, Refused, State};
+use xh_books::close_books;
+use xh_core::{Config, Ledger, Refused, State};
 use xh_kernel::{Kernel, Names, Parts};
 use xh_place::OpenGate;
-
-/// Of 64 bytes handed out one place owns 48, and 16 are in flight.
-#[test]
-fn what_nobody_lists_is_in_flight(rt: HostRuntime) {
-    let mut arenas = ArrayVec::new();
-    arenas.push(ArenaLine {
-        size: 256,
-        out: 64,
-        holes: 2,
-        taken: 96,
-        back: 32,
-    });
-    let mut places = ArrayVec::new();
-    places.push(PlaceLine {
-        place: 0,
-        process: 32,
-        state: State::Running,
-        blocks: 1,
-        bytes: 48,
-    });
-    let books = ledger(arenas, places);
-    assert_eq!(rt; (books.owned, books.flight, books.out), (48, 16, 64));
-}
 
 // How many accounts a new kernel gives, and its ledger where it is settled at once.
 fn close_at_once<N: Names>(alloc: Global, parts: Parts) -> Result<(usize, Ledger), Refused>
