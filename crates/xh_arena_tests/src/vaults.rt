@@ -3,7 +3,7 @@ mod answers;
 
 use answers::Answer::{At, Bytes, Done, Has, No};
 use answers::Call::{Audit, Books, Carve, Cut, GiveBack, Moved};
-use answers::{Hand, assert_answers, dealt};
+use answers::{Answer, Call, Hand, assert_answers, dealt};
 use std::process::Abort;
 use xh_arena::{Fits, Lot, Refused, Tally, Vault};
 
@@ -24,8 +24,7 @@ impl Fits for Any {
 
 #[test]
 fn worn_vault(rt: HostRuntime) {
-    let mut hand = dealt(&rt, rt.alloc());
-    let calls = [
+    const CALLS: &[(u8, Call, Answer)] = &[
         (0, Audit, Has(0, None, 0)),
         (1, Audit, Has(1, None, 0)),
         (0, Carve(64), At(0)),
@@ -35,7 +34,8 @@ fn worn_vault(rt: HostRuntime) {
         (1, Moved, Bytes(0, 0)),
         (0, Books, Bytes(64, 0)),
     ];
-    assert_answers(&rt, &mut hand, &calls);
+    let mut hand = dealt(&rt, rt.alloc());
+    assert_answers(&rt, &mut hand, CALLS);
     let Hand {
         mut vault,
         one,
@@ -53,8 +53,7 @@ fn worn_vault(rt: HostRuntime) {
 /// is none, and a refusal changes neither the lot nor the tally.
 #[test]
 fn carved_to_its_limit(rt: HostRuntime) {
-    let mut hand = dealt(&rt, rt.alloc());
-    let calls = [
+    const CALLS: &[(u8, Call, Answer)] = &[
         (0, Carve(64), At(0)),
         (1, Carve(16), No(Refused::NoSpace)),
         (1, Audit, Has(1, None, 0)),
@@ -66,20 +65,21 @@ fn carved_to_its_limit(rt: HostRuntime) {
         (0, Moved, Bytes(64, 64)),
         (0, Books, Bytes(80, 16)),
     ];
-    assert_answers(&rt, &mut hand, &calls);
+    let mut hand = dealt(&rt, rt.alloc());
+    assert_answers(&rt, &mut hand, CALLS);
     assert_eq!(rt; hand.vault.records(), 4);
 }
 
 #[test]
 fn a_lot_is_cut(rt: HostRuntime) {
-    let mut hand = dealt(&rt, rt.alloc());
-    let calls = [
+    const CALLS: &[(u8, Call, Answer)] = &[
         (0, Carve(48), At(0)),
         (0, Cut(16), Done),
         (0, Audit, Has(0, Some((0, 16)), 16)),
         (1, Audit, Has(1, Some((16, 32)), 32)),
     ];
-    assert_answers(&rt, &mut hand, &calls);
+    let mut hand = dealt(&rt, rt.alloc());
+    assert_answers(&rt, &mut hand, CALLS);
     let Hand { mut first, .. } = hand;
     first.body_mut().seen = 3;
     assert_eq!(rt; first.body().seen, 3);

@@ -7,10 +7,11 @@ mod side_by_side;
 mod threads;
 mod waits;
 
-use answers::Answer::{Refused as No, Sent, Shut as Closed, Taken, Turn};
-use answers::Call::{Put, Shut, Take, Turn as Look};
-use answers::{assert_answers, opened};
+use answers::Answer::{self, Refused as No, Sent, Shut as Closed, Taken, Turn};
+use answers::Call::{self, Put, Shut, Take, Turn as Look};
+use answers::{assert_answers, assert_on, opened};
 use arrayvec::ArrayVec;
+use std::process::Abort;
 use std::sync::Wait;
 use std::test::Fail;
 use xh_channel::{Channels, Endpoint, Refused, Spot, Unsent, compare};
@@ -60,71 +61,58 @@ fn a_depth_is_one_to_sixteen(rt: HostRuntime) {
 
 #[test]
 fn direction_until_shut(rt: HostRuntime) -> Result<(), Fail> {
-    let (channels, mut low, mut high) = opened(&rt, rt.alloc(), 2)?;
-    assert_answers(
-        &rt,
-        &channels,
-        &mut low,
-        &mut high,
-        &[
-            (0, Put(5, None), Sent(1)),
-            (0, Put(5, Some(7)), Sent(2)),
-            (0, Put(5, Some(8)), No(14, Some(8))),
-            (0, Shut, Closed),
-            (1, Take, Taken(1, 5, None)),
-            (1, Take, Taken(2, 5, Some(7))),
-            (1, Take, No(15, None)),
-            (1, Put(5, Some(9)), No(15, Some(9))),
-        ],
-    );
+    const CALLS: &[(u8, Call, Answer)] = &[
+        (0, Put(5, None), Sent(1)),
+        (0, Put(5, Some(7)), Sent(2)),
+        (0, Put(5, Some(8)), No(14, Some(8))),
+        (0, Shut, Closed),
+        (1, Take, Taken(1, 5, None)),
+        (1, Take, Taken(2, 5, Some(7))),
+        (1, Take, No(15, None)),
+        (1, Put(5, Some(9)), No(15, Some(9))),
+    ];
+    assert_on(&rt, rt.alloc(), 2, CALLS)?;
     Ok(())
+}
+
+/// As many open as there are, each with the lowest number that is free, and then none.
+fn assert_all_open<R: Wait + Abort>(rt: &R, channels: &Channels) {
+    for channel in 0..64 {
+        assert!(rt; opens_at(rt, channels, channel), "channel {channel}");
+    }
+    assert!(rt; matches!(channels.open(rt), Err(Refused::NoChannel)));
 }
 
 #[test]
 fn channels_run_out(rt: HostRuntime) -> Result<(), Fail> {
     let channels = Channels::new(rt.alloc(), 1)?;
-    for channel in 0..64 {
-        assert!(rt; opens_at(&rt, &channels, channel), "channel {channel}");
-    }
-    assert!(rt; matches!(channels.open(&rt), Err(Refused::NoChannel)));
+    assert_all_open(&rt, &channels);
     Ok(())
 }
 
 #[test]
 fn what_an_end_sends_it_does_not_take(rt: HostRuntime) -> Result<(), Fail> {
-    let (channels, mut low, mut high) = opened(&rt, rt.alloc(), 2)?;
-    assert_answers(
-        &rt,
-        &channels,
-        &mut low,
-        &mut high,
-        &[
-            (0, Put(5, Some(7)), Sent(1)),
-            (0, Take, No(16, None)),
-            (1, Put(6, Some(8)), Sent(1)),
-            (0, Take, Taken(1, 6, Some(8))),
-            (1, Take, Taken(1, 5, Some(7))),
-        ],
-    );
+    const CALLS: &[(u8, Call, Answer)] = &[
+        (0, Put(5, Some(7)), Sent(1)),
+        (0, Take, No(16, None)),
+        (1, Put(6, Some(8)), Sent(1)),
+        (0, Take, Taken(1, 6, Some(8))),
+        (1, Take, Taken(1, 5, Some(7))),
+    ];
+    assert_on(&rt, rt.alloc(), 2, CALLS)?;
     Ok(())
 }
 
 #[test]
 fn an_end_that_was_shut_takes_what_is_left(rt: HostRuntime) -> Result<(), Fail> {
-    let (channels, mut low, mut high) = opened(&rt, rt.alloc(), 2)?;
-    assert_answers(
-        &rt,
-        &channels,
-        &mut low,
-        &mut high,
-        &[
-            (0, Put(5, Some(7)), Sent(1)),
-            (1, Shut, Closed),
-            (0, Put(5, Some(8)), No(15, Some(8))),
-            (1, Take, Taken(1, 5, Some(7))),
-            (1, Take, No(16, None)),
-        ],
-    );
+    const CALLS: &[(u8, Call, Answer)] = &[
+        (0, Put(5, Some(7)), Sent(1)),
+        (1, Shut, Closed),
+        (0, Put(5, Some(8)), No(15, Some(8))),
+        (1, Take, Taken(1, 5, Some(7))),
+        (1, Take, No(16, None)),
+    ];
+    assert_on(&rt, rt.alloc(), 2, CALLS)?;
     Ok(())
 }
 
@@ -148,38 +136,37 @@ fn a_message_has_all_its_blocks(rt: HostRuntime) -> Result<(), Fail> {
 
 #[test]
 fn the_turn_rises_with_each_put_and_shut(rt: HostRuntime) -> Result<(), Fail> {
-    let (channels, mut low, mut high) = opened(&rt, rt.alloc(), 1)?;
-    assert_answers(
-        &rt,
-        &channels,
-        &mut low,
-        &mut high,
-        &[
-            (0, Look, Turn(0)),
-            (0, Put(5, Some(7)), Sent(1)),
-            (1, Look, Turn(1)),
-            (0, Put(5, Some(7)), No(14, Some(7))),
-            (1, Take, Taken(1, 5, Some(7))),
-            (1, Take, No(16, None)),
-            (1, Look, Turn(1)),
-            (0, Shut, Closed),
-            (1, Look, Turn(2)),
-            (0, Look, Turn(2)),
-        ],
-    );
+    const CALLS: &[(u8, Call, Answer)] = &[
+        (0, Look, Turn(0)),
+        (0, Put(5, Some(7)), Sent(1)),
+        (1, Look, Turn(1)),
+        (0, Put(5, Some(7)), No(14, Some(7))),
+        (1, Take, Taken(1, 5, Some(7))),
+        (1, Take, No(16, None)),
+        (1, Look, Turn(1)),
+        (0, Shut, Closed),
+        (1, Look, Turn(2)),
+        (0, Look, Turn(2)),
+    ];
+    assert_on(&rt, rt.alloc(), 1, CALLS)?;
     Ok(())
+}
+
+/// The first channel's turn is 1 and the second's is 0, and no other is waited for.
+fn assert_unwaited<R: Wait + Abort>(rt: &R, channels: &Channels) {
+    for (channel, turn) in [(0, 1), (1, 0)] {
+        let spot = Spot { channel, side: 0 };
+        assert_eq!(rt; channels.turn(rt, spot), turn, "channel {channel}");
+        channels.wait(rt, spot, 1 - turn);
+        channels.wait(rt, spot, u64::MAX);
+    }
 }
 
 #[test]
 fn a_turn_that_was_not_seen_is_not_waited_for(rt: HostRuntime) -> Result<(), Fail> {
     let (channels, mut low, _high) = opened(&rt, rt.alloc(), 1)?;
     channels.shut(&rt, &mut low);
-    for (channel, turn) in [(0, 1), (1, 0)] {
-        let spot = Spot { channel, side: 0 };
-        assert_eq!(rt; channels.turn(&rt, spot), turn, "channel {channel}");
-        channels.wait(&rt, spot, 1 - turn);
-        channels.wait(&rt, spot, u64::MAX);
-    }
+    assert_unwaited(&rt, &channels);
     Ok(())
 }
 

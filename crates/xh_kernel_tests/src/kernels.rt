@@ -21,9 +21,8 @@ use std::marker::Brand;
 use std::process::Abort;
 use std::sync::Wait;
 use std::test::Fail;
-use xh_core::{Block, Config, Refused};
+use xh_core::{Config, Refused};
 use xh_kernel::{Names, Parts};
-use xh_place::Got;
 
 /// A test over a kernel: calls and what they answer, or one that takes the kernel apart, makes each process, or stands
 /// whichever growths of memory are refused.
@@ -78,11 +77,6 @@ fn over<N: Names, R: Wait + Abort>(
         Case::WithoutMemory => without_memory::without_memory(rt, alloc, bench)?,
     }
     Ok(())
-}
-
-/// A block that a message brought.
-fn here(rec: u16, len: u32) -> Option<Got> {
-    Some(Got::Here(Block { rec, len }))
 }
 
 /// The case, over a new kernel of one worker.

@@ -131,6 +131,12 @@ pub fn heap_of(rt: &impl Abort, alloc: Global, config: Config) -> Serial {
     Serial::new(alloc, config).expect(rt, "room")
 }
 
+/// Makes each call on a new heap of a Config, and compares what it answers.
+pub fn assert_on(rt: &impl Abort, alloc: Global, config: Config, calls: &[(Call, Answer)]) {
+    let mut heap = heap_of(rt, alloc, config);
+    assert_answers(rt, &mut heap, alloc, calls);
+}
+
 /// A heap of a Config, and where a growth was refused, made once more.
 pub fn grown_heap(rt: &impl Abort, alloc: Global, config: Config) -> Serial {
     match Serial::new(alloc, config) {

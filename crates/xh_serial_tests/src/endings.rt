@@ -1,7 +1,7 @@
 //! Ends by calls: what is reclaimed, and what stays.
 use crate::answers::Answer::{Block, Message, No, Number, Two};
 use crate::answers::Call::{Alloc, Close, Exit, Free, Give, Kill, Open, Spawn, Take, Wire};
-use crate::answers::{assert_answers, assert_ledger, first_place, heap_of};
+use crate::answers::{Answer, Call, assert_answers, assert_ledger, first_place, heap_of};
 use crate::heaps::small;
 use std::alloc::Global;
 use std::process::Abort;
@@ -17,68 +17,56 @@ fn alone(rt: &impl Abort, alloc: Global) -> Serial {
 
 /// The processes 0 and 1 hold the ends 0 and 1 of a channel, and 0 holds the block 2, of 16 bytes.
 fn wired(rt: &impl Abort, alloc: Global) -> Serial {
+    const CALLS: &[(Call, Answer)] = &[
+        (Spawn, Number(1)),
+        (Wire(0, 1, 0), Two(0, 32, 1, 32)),
+        (Alloc(0, 16, 0), Block(2, 16)),
+    ];
     let mut heap = alone(rt, alloc);
-    assert_answers(
-        rt,
-        &mut heap,
-        alloc,
-        &[
-            (Spawn, Number(1)),
-            (Wire(0, 1, 0), Two(0, 32, 1, 32)),
-            (Alloc(0, 16, 0), Block(2, 16)),
-        ],
-    );
+    assert_answers(rt, &mut heap, alloc, CALLS);
     heap
+}
+
+/// Makes each call on such a heap, and compares what it answers.
+fn assert_wired(rt: &impl Abort, alloc: Global, calls: &[(Call, Answer)]) {
+    let mut heap = wired(rt, alloc);
+    assert_answers(rt, &mut heap, alloc, calls);
 }
 
 /// What a process sent before it ended stays: the peer takes it, and then learns of the end.
 #[test]
 fn exit_leaves_what_was_sent(rt: HostRuntime) {
-    let mut heap = wired(&rt, rt.alloc());
-    assert_answers(
-        &rt,
-        &mut heap,
-        rt.alloc(),
-        &[
-            (Give(0, 0, 5, &[2]), Number(1)),
-            (Exit(0, 4_096), Number(32)),
-            (Take(1, 1), Message(1, 5, 1)),
-            (Take(1, 1), No("PeerClosed")),
-            (Free(1, 2), Number(16)),
-        ],
-    );
+    const CALLS: &[(Call, Answer)] = &[
+        (Give(0, 0, 5, &[2]), Number(1)),
+        (Exit(0, 4_096), Number(32)),
+        (Take(1, 1), Message(1, 5, 1)),
+        (Take(1, 1), No("PeerClosed")),
+        (Free(1, 2), Number(16)),
+    ];
+    assert_wired(&rt, rt.alloc(), CALLS);
 }
 
 /// An end that is closed takes along what is on its way to it.
 #[test]
 fn close_reclaims_what_arrives(rt: HostRuntime) {
-    let mut heap = wired(&rt, rt.alloc());
-    assert_answers(
-        &rt,
-        &mut heap,
-        rt.alloc(),
-        &[
-            (Give(0, 0, 5, &[2]), Number(1)),
-            (Close(1, 1), Number(48)),
-            (Give(0, 0, 5, &[]), No("PeerClosed")),
-            (Close(0, 0), Number(32)),
-        ],
-    );
+    const CALLS: &[(Call, Answer)] = &[
+        (Give(0, 0, 5, &[2]), Number(1)),
+        (Close(1, 1), Number(48)),
+        (Give(0, 0, 5, &[]), No("PeerClosed")),
+        (Close(0, 0), Number(32)),
+    ];
+    assert_wired(&rt, rt.alloc(), CALLS);
 }
 
 /// A kill whose budget is one block leaves two; the next goes on from there.
 #[test]
 fn a_kill_goes_on_where_it_stopped(rt: HostRuntime) {
+    const CALLS: &[(Call, Answer)] = &[
+        (Alloc(1, 16, 0), Block(3, 16)),
+        (Alloc(1, 32, 0), Block(4, 32)),
+    ];
     let mut heap = wired(&rt, rt.alloc());
-    assert_answers(
-        &rt,
-        &mut heap,
-        rt.alloc(),
-        &[
-            (Alloc(1, 16, 0), Block(3, 16)),
-            (Alloc(1, 32, 0), Block(4, 32)),
-        ],
-    );
+    assert_answers(&rt, &mut heap, rt.alloc(), CALLS);
     assert!(rt; matches!(heap.kill(0, 1, 1), Err(Refused::Unfinished { left: 2 })));
     assert_answers(
         &rt,
@@ -92,36 +80,27 @@ fn a_kill_goes_on_where_it_stopped(rt: HostRuntime) {
 /// way to that one: all of it is reclaimed.
 #[test]
 fn a_kill_reclaims_ends_in_flight(rt: HostRuntime) {
-    let mut heap = wired(&rt, rt.alloc());
-    assert_answers(
-        &rt,
-        &mut heap,
-        rt.alloc(),
-        &[
-            (Open(0, 0), Two(3, 32, 4, 32)),
-            (Give(0, 3, 1, &[2]), Number(1)),
-            (Give(0, 0, 2, &[4]), Number(1)),
-            (Kill(0, 1, 4_096), Number(80)),
-            (Give(0, 3, 3, &[]), No("PeerClosed")),
-            (Give(0, 0, 3, &[]), No("PeerClosed")),
-        ],
-    );
+    const CALLS: &[(Call, Answer)] = &[
+        (Open(0, 0), Two(3, 32, 4, 32)),
+        (Give(0, 3, 1, &[2]), Number(1)),
+        (Give(0, 0, 2, &[4]), Number(1)),
+        (Kill(0, 1, 4_096), Number(80)),
+        (Give(0, 3, 3, &[]), No("PeerClosed")),
+        (Give(0, 0, 3, &[]), No("PeerClosed")),
+    ];
+    assert_wired(&rt, rt.alloc(), CALLS);
 }
 
 /// An end that was sent to itself stays in flight where its process ends: nobody can take it.
 #[test]
 fn endpoint_in_flight_to_itself(rt: HostRuntime) {
+    const CALLS: &[(Call, Answer)] = &[
+        (Open(0, 0), Two(0, 32, 1, 32)),
+        (Give(0, 0, 0, &[1]), Number(1)),
+        (Exit(0, 4_096), Number(32)),
+    ];
     let mut heap = alone(&rt, rt.alloc());
-    assert_answers(
-        &rt,
-        &mut heap,
-        rt.alloc(),
-        &[
-            (Open(0, 0), Two(0, 32, 1, 32)),
-            (Give(0, 0, 0, &[1]), Number(1)),
-            (Exit(0, 4_096), Number(32)),
-        ],
-    );
+    assert_answers(&rt, &mut heap, rt.alloc(), CALLS);
     let ledger = heap.ledger();
     assert_ledger(&rt, &ledger, (256, 32, 2, 64, 32), (0, 32, 32));
     let ended = Some((0, 0, State::Ended, 0, 0));

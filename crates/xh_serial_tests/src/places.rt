@@ -1,7 +1,9 @@
 //! Processes start, and places and the ledger are looked at.
 use crate::answers::Answer::{Block, No, Number, Place};
 use crate::answers::Call::{Alloc, Exit, Free, Glance, Kill, Spawn};
-use crate::answers::{assert_answers, assert_ledger, first_place, heap_of};
+use crate::answers::{
+    Answer, Call, assert_answers, assert_ledger, assert_on, first_place, heap_of,
+};
 use crate::heaps::small;
 use xh_core::Status::{Running, Vacant};
 use xh_core::{Refused, State};
@@ -18,41 +20,31 @@ fn places_run_out(rt: HostRuntime) {
 /// A place is used again where its process has ended: the next process is of its next generation.
 #[test]
 fn a_place_is_used_again(rt: HostRuntime) {
-    let mut heap = heap_of(&rt, rt.alloc(), small());
-    assert_answers(
-        &rt,
-        &mut heap,
-        rt.alloc(),
-        &[
-            (Spawn, Number(0)),
-            (Spawn, Number(1)),
-            (Exit(0, 4_096), Number(0)),
-            (Spawn, Number(32)),
-            (Alloc(0, 16, 0), No("Ended")),
-            (Alloc(64, 16, 0), No("NoProcess")),
-            (Alloc(32, 16, 0), Block(0, 16)),
-            (Spawn, Number(2)),
-        ],
-    );
+    const CALLS: &[(Call, Answer)] = &[
+        (Spawn, Number(0)),
+        (Spawn, Number(1)),
+        (Exit(0, 4_096), Number(0)),
+        (Spawn, Number(32)),
+        (Alloc(0, 16, 0), No("Ended")),
+        (Alloc(64, 16, 0), No("NoProcess")),
+        (Alloc(32, 16, 0), Block(0, 16)),
+        (Spawn, Number(2)),
+    ];
+    assert_on(&rt, rt.alloc(), small(), CALLS);
 }
 
 #[test]
 fn glances(rt: HostRuntime) {
-    let mut heap = heap_of(&rt, rt.alloc(), small());
-    assert_answers(
-        &rt,
-        &mut heap,
-        rt.alloc(),
-        &[
-            (Glance(0), Place(0, Vacant, 0, 0)),
-            (Glance(32), No("NoProcess")),
-            (Spawn, Number(0)),
-            (Alloc(0, 40, 0), Block(0, 48)),
-            (Glance(0), Place(0, Running, 1, 48)),
-            (Free(0, 0), Number(48)),
-            (Glance(0), Place(0, Running, 0, 0)),
-        ],
-    );
+    const CALLS: &[(Call, Answer)] = &[
+        (Glance(0), Place(0, Vacant, 0, 0)),
+        (Glance(32), No("NoProcess")),
+        (Spawn, Number(0)),
+        (Alloc(0, 40, 0), Block(0, 48)),
+        (Glance(0), Place(0, Running, 1, 48)),
+        (Free(0, 0), Number(48)),
+        (Glance(0), Place(0, Running, 0, 0)),
+    ];
+    assert_on(&rt, rt.alloc(), small(), CALLS);
 }
 
 /// One process with a block of 40 bytes, rounded up to 48.
@@ -98,22 +90,17 @@ fn every_process_number(rt: HostRuntime) {
 /// though another runs at its place.
 #[test]
 fn places_by_generation(rt: HostRuntime) {
-    let mut heap = heap_of(&rt, rt.alloc(), small());
-    assert_answers(
-        &rt,
-        &mut heap,
-        rt.alloc(),
-        &[
-            (Spawn, Number(0)),
-            (Spawn, Number(1)),
-            (Exit(0, 4_096), Number(0)),
-            (Exit(1, 4_096), Number(0)),
-            (Spawn, Number(32)),
-            (Alloc(0, 1, 0), No("Ended")),
-            (Spawn, Number(33)),
-            (Kill(33, 0, 4_096), No("Ended")),
-            (Glance(0), Place(32, Running, 0, 0)),
-            (Glance(1), Place(33, Running, 0, 0)),
-        ],
-    );
+    const CALLS: &[(Call, Answer)] = &[
+        (Spawn, Number(0)),
+        (Spawn, Number(1)),
+        (Exit(0, 4_096), Number(0)),
+        (Exit(1, 4_096), Number(0)),
+        (Spawn, Number(32)),
+        (Alloc(0, 1, 0), No("Ended")),
+        (Spawn, Number(33)),
+        (Kill(33, 0, 4_096), No("Ended")),
+        (Glance(0), Place(32, Running, 0, 0)),
+        (Glance(1), Place(33, Running, 0, 0)),
+    ];
+    assert_on(&rt, rt.alloc(), small(), CALLS);
 }

@@ -119,6 +119,18 @@ pub(super) fn assert_answers<R: Wait + Abort>(
     }
 }
 
+/// Makes each call on the first of new channels of a depth, and compares what it answers.
+pub(super) fn assert_on<R: Wait + Abort>(
+    rt: &R,
+    alloc: Global,
+    depth: u8,
+    calls: &[(u8, Call, Answer)],
+) -> Result<(), Refused> {
+    let (channels, mut low, mut high) = opened(rt, alloc, depth)?;
+    assert_answers(rt, &channels, &mut low, &mut high, calls);
+    Ok(())
+}
+
 /// What the call answers by a side of a line, which has no turn.
 pub(super) fn by_line(line: &mut Line, side: u8, call: Call) -> Answer
     requires { side < 2 }

@@ -35,7 +35,8 @@ pub enum Call<'a> {
 }
 
 /// A process, a message's number, or how many bytes came back; a block, by record and length; two blocks; the bytes
-/// of a read; the records of both ends; a message, by its number, its tag and its first two blocks; a place, by
+/// of a read; the records of both ends; a message, by its number, its tag and its first two blocks, each by record and length (0 if it did not
+/// come); a place, by
 /// process, state, blocks and bytes; bytes taken and given back; the name of a refusal, and the first block that it
 /// hands back; how many blocks an ending left; nothing.
 #[derive(Clone, Copy, Debug, PartialEq)]
@@ -45,7 +46,7 @@ pub enum Answer {
     Two(u16, u32, u16, u32),
     Bytes([u8; 4]),
     Ends(u16, u16),
-    Message(u64, u16, [Option<Got>; 2]),
+    Message(u64, u16, [Option<(u16, u32)>; 2]),
     Place(u16, Status, u32, u64),
     Moved(u64, u64),
     No(&'static str),
@@ -94,10 +95,19 @@ fn of_ends(answer: Result<(u16, u16), Refused>) -> Answer {
     }
 }
 
+/// A block of a message.
+fn of_got(got: &Got) -> (u16, u32) {
+    match got {
+        Got::Here(block) => (block.rec, block.len),
+        Got::Missing { rec, .. } => (*rec, 0),
+    }
+}
+
 fn of_message(answer: Result<Taken, Refused>) -> Answer {
     match answer {
         Ok(Taken { no, tag, blocks }) => {
-            Answer::Message(no, tag, [blocks.first().copied(), blocks.get(1).copied()])
+            let (first, second) = (blocks.first().map(of_got), blocks.get(1).map(of_got));
+            Answer::Message(no, tag, [first, second])
         }
         Err(refused) => of_refused(refused),
     }

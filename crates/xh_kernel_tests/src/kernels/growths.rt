@@ -33,23 +33,19 @@ pub fn growths<N: Names, R: Wait + Abort>(
     alloc: Global,
     mut bench: Bench<N>,
 ) -> Result<(), Refused> {
-    assert_again(
-        rt,
-        alloc,
-        &mut bench,
-        &[
-            (Spawn, Number(0)),
-            (Alloc(0, 40, 0), Block(0, 48)),
-            (Write(0, 0, 47, &[8]), Done),
-            (Alloc(0, 208, 0), Block(1, 208)),
-            (Alloc(0, 16, 0), No("NoSpace")),
-            (Split(0, 0, 16), Two(0, 16, 2, 32)),
-            (Read(0, 2, 28), Bytes([0, 0, 0, 8])),
-            (Free(0, 1), Number(208)),
-            (Glance(0), Place(0, Status::Running, 2, 48)),
-            (Count(0), Moved(256, 208)),
-        ],
-    );
+    const CALLS: &[(Call, Answer)] = &[
+        (Spawn, Number(0)),
+        (Alloc(0, 40, 0), Block(0, 48)),
+        (Write(0, 0, 47, &[8]), Done),
+        (Alloc(0, 208, 0), Block(1, 208)),
+        (Alloc(0, 16, 0), No("NoSpace")),
+        (Split(0, 0, 16), Two(0, 16, 2, 32)),
+        (Read(0, 2, 28), Bytes([0, 0, 0, 8])),
+        (Free(0, 1), Number(208)),
+        (Glance(0), Place(0, Status::Running, 2, 48)),
+        (Count(0), Moved(256, 208)),
+    ];
+    assert_again(rt, alloc, &mut bench, CALLS);
     let (vaults, places, _records) = bench.kernel.settle(alloc)?;
     assert_eq!(rt; (vaults.len(), places.len()), (1, 32));
     assert_eq!(rt; (vaults[0].wear(), vaults[0].handed_out()), (256, 48));

@@ -1,6 +1,6 @@
 // Places, glances and settling, by calls.
-use super::answers::Answer::{Block, No, Number, Place as Look, Two};
-use super::answers::Call::{Alloc, Exit, Free, Glance, Kill, Spawn, Spawns, Split};
+use super::answers::Answer::{self, Block, No, Number, Place as Look, Two};
+use super::answers::Call::{self, Alloc, Exit, Free, Glance, Kill, Spawn, Spawns, Split};
 use super::bench::Bench;
 use super::{arenas_of, assert_on};
 use std::alloc::Global;
@@ -15,43 +15,35 @@ use xh_place::{OpenGate, Place};
 /// A look sees each change of a place once the call that made it has answered.
 #[test]
 fn glances(rt: HostRuntime) -> Result<(), Fail> {
-    assert_on(
-        &rt,
-        rt.alloc(),
-        arenas_of(1, 256, 8),
-        &[
-            (Glance(0), Look(0, Status::Vacant, 0, 0)),
-            (Spawn, Number(0)),
-            (Glance(0), Look(0, Status::Running, 0, 0)),
-            (Alloc(0, 40, 0), Block(0, 48)),
-            (Glance(0), Look(0, Status::Running, 1, 48)),
-            (Split(0, 0, 16), Two(0, 16, 1, 32)),
-            (Glance(0), Look(0, Status::Running, 2, 48)),
-            (Free(0, 1), Number(32)),
-            (Glance(0), Look(0, Status::Running, 1, 16)),
-            (Glance(31), Look(31, Status::Vacant, 0, 0)),
-            (Glance(32), No("NoProcess")),
-            (Spawns(30), Number(30)),
-            (Spawn, Number(31)),
-            (Spawn, No("NoPlace")),
-            (Glance(31), Look(31, Status::Running, 0, 0)),
-        ],
-    )
+    const CALLS: &[(Call, Answer)] = &[
+        (Glance(0), Look(0, Status::Vacant, 0, 0)),
+        (Spawn, Number(0)),
+        (Glance(0), Look(0, Status::Running, 0, 0)),
+        (Alloc(0, 40, 0), Block(0, 48)),
+        (Glance(0), Look(0, Status::Running, 1, 48)),
+        (Split(0, 0, 16), Two(0, 16, 1, 32)),
+        (Glance(0), Look(0, Status::Running, 2, 48)),
+        (Free(0, 1), Number(32)),
+        (Glance(0), Look(0, Status::Running, 1, 16)),
+        (Glance(31), Look(31, Status::Vacant, 0, 0)),
+        (Glance(32), No("NoProcess")),
+        (Spawns(30), Number(30)),
+        (Spawn, Number(31)),
+        (Spawn, No("NoPlace")),
+        (Glance(31), Look(31, Status::Running, 0, 0)),
+    ];
+    assert_on(&rt, rt.alloc(), arenas_of(1, 256, 8), CALLS)
 }
 
 /// The first look that is made sees what the calls before it did, and not the place that nobody had.
 #[test]
 fn first_glance(rt: HostRuntime) -> Result<(), Fail> {
-    assert_on(
-        &rt,
-        rt.alloc(),
-        arenas_of(1, 256, 8),
-        &[
-            (Spawn, Number(0)),
-            (Alloc(0, 40, 0), Block(0, 48)),
-            (Glance(0), Look(0, Status::Running, 1, 48)),
-        ],
-    )
+    const CALLS: &[(Call, Answer)] = &[
+        (Spawn, Number(0)),
+        (Alloc(0, 40, 0), Block(0, 48)),
+        (Glance(0), Look(0, Status::Running, 1, 48)),
+    ];
+    assert_on(&rt, rt.alloc(), arenas_of(1, 256, 8), CALLS)
 }
 
 /// So many vaults, of which the last has handed out these bytes, and the others none; and 32 places, of which the
@@ -107,24 +99,20 @@ pub fn settling_without_processes<N: Names, R: Wait + Abort>(
 /// A place used again has another number, and the process of the earlier number has ended.
 #[test]
 fn place_used_again(rt: HostRuntime) -> Result<(), Fail> {
-    assert_on(
-        &rt,
-        rt.alloc(),
-        arenas_of(1, 256, 8),
-        &[
-            (Spawn, Number(0)),
-            (Spawn, Number(1)),
-            (Exit(0, 4096), Number(0)),
-            (Exit(1, 4096), Number(0)),
-            (Spawn, Number(32)),
-            (Alloc(0, 1, 0), No("Ended")),
-            (Spawn, Number(33)),
-            (Kill(33, 0, 4096), No("Ended")),
-            (Exit(0, 4096), No("Ended")),
-            (Exit(64, 4096), No("NoProcess")),
-            (Glance(0), Look(32, Status::Running, 0, 0)),
-        ],
-    )
+    const CALLS: &[(Call, Answer)] = &[
+        (Spawn, Number(0)),
+        (Spawn, Number(1)),
+        (Exit(0, 4096), Number(0)),
+        (Exit(1, 4096), Number(0)),
+        (Spawn, Number(32)),
+        (Alloc(0, 1, 0), No("Ended")),
+        (Spawn, Number(33)),
+        (Kill(33, 0, 4096), No("Ended")),
+        (Exit(0, 4096), No("Ended")),
+        (Exit(64, 4096), No("NoProcess")),
+        (Glance(0), Look(32, Status::Running, 0, 0)),
+    ];
+    assert_on(&rt, rt.alloc(), arenas_of(1, 256, 8), CALLS)
 }
 
 /// Spawned and ended in turn, the processes have each number once.

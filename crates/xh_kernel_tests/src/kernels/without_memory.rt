@@ -6,7 +6,7 @@ use super::answers::Call::{
 };
 use super::answers::{LACKING, answer_or_same};
 use super::bench::Bench;
-use super::{Case, here, with_kernel};
+use super::{Case, with_kernel};
 use std::alloc::Global;
 use std::process::Abort;
 use std::sync::Wait;
@@ -45,28 +45,24 @@ fn is_answered<N: Names, R: Wait + Abort>(
 /// Process 0 fills arena 0 with one block, had 256 bytes of arena 1, and has all records of arena 2 and 3; process 2
 /// has ended. Whether no growth was refused.
 fn is_prepared<N: Names, R: Wait + Abort>(rt: &R, alloc: Global, bench: &mut Bench<N>) -> bool {
-    is_answered(
-        rt,
-        alloc,
-        bench,
-        &[
-            (Spawns(3), Number(2)),
-            (Exit(2, 4096), Number(0)),
-            (Alloc(0, 256, 0), Block(0, 256)),
-            (Alloc(0, 256, 1), Block(256, 256)),
-            (Free(0, 256), Number(256)),
-            (Alloc(0, 32, 2), Block(512, 32)),
-            (Alloc(0, 16, 2), Block(513, 16)),
-            (Open(0, 3), Ends(768, 769)),
-            (Write(0, 0, 255, &[8]), Done),
-        ],
-    )
+    const CALLS: &[(Call, Answer)] = &[
+        (Spawns(3), Number(2)),
+        (Exit(2, 4096), Number(0)),
+        (Alloc(0, 256, 0), Block(0, 256)),
+        (Alloc(0, 256, 1), Block(256, 256)),
+        (Free(0, 256), Number(256)),
+        (Alloc(0, 32, 2), Block(512, 32)),
+        (Alloc(0, 16, 2), Block(513, 16)),
+        (Open(0, 3), Ends(768, 769)),
+        (Write(0, 0, 255, &[8]), Done),
+    ];
+    is_answered(rt, alloc, bench, CALLS)
 }
 
 /// The calls that ask for memory, and what is seen of them: what each answers with memory, and what once a growth was
 /// refused, ahead of NoSpace and Worn. Whether one was.
 fn is_refused<N: Names, R: Wait + Abort>(rt: &R, alloc: Global, bench: &mut Bench<N>) -> bool {
-    let calls: [(Call, Answer, Answer); 7] = [
+    const CALLS: &[(Call, Answer, Answer)] = &[
         (Alloc(0, 32, 1), Block(256, 32), LACKING),
         (Free(0, 256), Number(32), No("NotOwned")),
         (Alloc(0, 16, 0), No("NoSpace"), LACKING),
@@ -76,7 +72,7 @@ fn is_refused<N: Names, R: Wait + Abort>(rt: &R, alloc: Global, bench: &mut Benc
         (Read(0, 1, 236), Bytes([0, 0, 0, 8]), No("NotOwned")),
     ];
     let mut lacks = false;
-    for (at, (call, with, without)) in calls.iter().enumerate() {
+    for (at, (call, with, without)) in CALLS.iter().enumerate() {
         let answered = answer_or_same(rt, alloc, bench, *call);
         lacks = lacks || answered == LACKING;
         assert_eq!(rt; answered, if lacks { *without } else { *with }, "call {at}");
@@ -86,35 +82,31 @@ fn is_refused<N: Names, R: Wait + Abort>(rt: &R, alloc: Global, bench: &mut Benc
 
 /// The refusals ahead of OutOfMemory, and the calls that ask for no memory: the same with memory and without.
 fn are_others_same<N: Names, R: Wait + Abort>(rt: &R, alloc: Global, bench: &mut Bench<N>) -> bool {
-    is_answered(
-        rt,
-        alloc,
-        bench,
-        &[
-            (Alloc(3, 0, 9), No("NoProcess")),
-            (Alloc(2, 0, 9), No("Ended")),
-            (Alloc(0, 0, 9), No("NoArena")),
-            (Alloc(0, 0, 2), No("BadSize")),
-            (Alloc(0, 257, 2), No("BadSize")),
-            (Alloc(0, 16, 2), No("NoRecord")),
-            (Split(3, 9, 0), No("NoProcess")),
-            (Split(2, 9, 0), No("Ended")),
-            (Split(0, 9, 0), No("NotOwned")),
-            (Split(0, 768, 0), No("NotData")),
-            (Split(0, 512, 8), No("BadCut")),
-            (Split(0, 512, 16), No("NoRecord")),
-            (Give(0, 768, 7, &[513]), Number(1)),
-            (Take(0, 769), Message(1, 7, [here(513, 16), None])),
-            (Free(0, 513), Number(16)),
-            (Free(0, 512), Number(32)),
-            (Open(0, 2), Ends(512, 513)),
-            (Close(0, 512), Number(32)),
-            (Spawn, Number(34)),
-            (Kill(0, 1, 4096), Number(0)),
-            (Exit(0, 4096), Number(352)),
-            (Glance(0), Place(0, Status::Ended, 0, 0)),
-        ],
-    )
+    const CALLS: &[(Call, Answer)] = &[
+        (Alloc(3, 0, 9), No("NoProcess")),
+        (Alloc(2, 0, 9), No("Ended")),
+        (Alloc(0, 0, 9), No("NoArena")),
+        (Alloc(0, 0, 2), No("BadSize")),
+        (Alloc(0, 257, 2), No("BadSize")),
+        (Alloc(0, 16, 2), No("NoRecord")),
+        (Split(3, 9, 0), No("NoProcess")),
+        (Split(2, 9, 0), No("Ended")),
+        (Split(0, 9, 0), No("NotOwned")),
+        (Split(0, 768, 0), No("NotData")),
+        (Split(0, 512, 8), No("BadCut")),
+        (Split(0, 512, 16), No("NoRecord")),
+        (Give(0, 768, 7, &[513]), Number(1)),
+        (Take(0, 769), Message(1, 7, [Some((513, 16)), None])),
+        (Free(0, 513), Number(16)),
+        (Free(0, 512), Number(32)),
+        (Open(0, 2), Ends(512, 513)),
+        (Close(0, 512), Number(32)),
+        (Spawn, Number(34)),
+        (Kill(0, 1, 4096), Number(0)),
+        (Exit(0, 4096), Number(352)),
+        (Glance(0), Place(0, Status::Ended, 0, 0)),
+    ];
+    is_answered(rt, alloc, bench, CALLS)
 }
 
 /// All the calls; then the kernel is taken apart, which asks for memory too.

@@ -35,7 +35,8 @@ pub(super) enum Call<'a> {
 }
 
 /// A message's number, or how many bytes came back; a block, by record and length; two blocks; the bytes of a read; the
-/// records of both ends; a message, by its number, its tag, how many blocks it has and the first two; a state; blocks and
+/// records of both ends; a message, by its number, its tag, how many blocks it has and the first two, each by record
+/// and length (0 if it did not come); a state; blocks and
 /// bytes here, and at the other place; bytes taken and given back; the name of a refusal; one, with how many blocks it
 /// hands back and the first; how many blocks an ending left; nothing.
 #[derive(Clone, Copy, Debug, PartialEq)]
@@ -45,7 +46,7 @@ pub(super) enum Answer {
     Two(u16, u32, u16, u32),
     Bytes([u8; 4]),
     Ends(u16, u16),
-    Message(u64, u16, usize, [Option<Got>; 2]),
+    Message(u64, u16, usize, [Option<(u16, u32)>; 2]),
     State(Status),
     Lists(usize, u64, usize, u64),
     Moved(u64, u64),
@@ -98,13 +99,21 @@ fn of_ends(answer: Option<(u16, u16)>) -> Answer {
     }
 }
 
+/// A block of a message.
+fn of_got(got: &Got) -> (u16, u32) {
+    match got {
+        Got::Here(block) => (block.rec, block.len),
+        Got::Missing { rec, .. } => (*rec, 0),
+    }
+}
+
 fn of_message(answer: Result<Taken, Refused>) -> Answer {
     match answer {
         Ok(Taken { no, tag, blocks }) => Answer::Message(
             no,
             tag,
             blocks.len(),
-            [blocks.first().copied(), blocks.get(1).copied()],
+            [blocks.first().map(of_got), blocks.get(1).map(of_got)],
         ),
         Err(refused) => of_refused(refused),
     }

@@ -1,157 +1,126 @@
 // Messages between two places, by calls of one thread.
 use super::answers::Answer::{
-    Back, Block, Bytes, Done, Ends, Lists, Message, Moved, No, Number, Two,
+    self, Back, Block, Bytes, Done, Ends, Lists, Message, Moved, No, Number, Two,
 };
 use super::answers::Call::{
-    Accept, Alloc, Close, Free, Give, HandOver, Lists as Both, Moved as Count, Open, OpenWith,
-    Read, Split, Stop, Take, Turn, Wire, Write,
+    self, Accept, Alloc, Close, Free, Give, HandOver, Lists as Both, Moved as Count, Open,
+    OpenWith, Read, Split, Stop, Take, Turn, Wire, Write,
 };
 use super::answers::assert_answers;
-use xh_core::Block as Came;
-use xh_place::Got::{self, Here};
-
-/// A block of a message that came.
-fn came(rec: u16, len: u32) -> Option<Got> {
-    Some(Here(Came { rec, len }))
-}
 
 /// Blocks go to the other place, which has them alone.
 #[test]
 fn give_take_and_write(rt: HostRuntime) {
-    assert_answers(
-        &rt,
-        rt.alloc(),
-        4,
-        &[
-            (Wire, Ends(0, 1)),
-            (Alloc(40, 0), Block(2, 48)),
-            (Alloc(16, 0), Block(3, 16)),
-            (Give(0, 7, &[2, 3]), Number(1)),
-            (Give(0, 7, &[2]), No("NotOwned")),
-            (Free(2), No("NotOwned")),
-            (Turn, Done),
-            (Free(2), No("NotOwned")),
-            (Take(1), Message(1, 7, 2, [came(2, 48), came(3, 16)])),
-            (Write(2, 0, &[0xbe, 0xef]), Done),
-            (Read(2, 0), Bytes([0xbe, 0xef, 0, 0])),
-            (Both, Lists(3, 96, 1, 32)),
-            (Count, Moved(128, 0)),
-        ],
-    )
+    const CALLS: &[(Call, Answer)] = &[
+        (Wire, Ends(0, 1)),
+        (Alloc(40, 0), Block(2, 48)),
+        (Alloc(16, 0), Block(3, 16)),
+        (Give(0, 7, &[2, 3]), Number(1)),
+        (Give(0, 7, &[2]), No("NotOwned")),
+        (Free(2), No("NotOwned")),
+        (Turn, Done),
+        (Free(2), No("NotOwned")),
+        (Take(1), Message(1, 7, 2, [Some((2, 48)), Some((3, 16))])),
+        (Write(2, 0, &[0xbe, 0xef]), Done),
+        (Read(2, 0), Bytes([0xbe, 0xef, 0, 0])),
+        (Both, Lists(3, 96, 1, 32)),
+        (Count, Moved(128, 0)),
+    ];
+    assert_answers(&rt, rt.alloc(), 4, CALLS)
 }
 
 /// An end that isn't in flight on the direction stays where it is.
 #[test]
 fn end_that_is_not_in_flight(rt: HostRuntime) {
-    assert_answers(
-        &rt,
-        rt.alloc(),
-        4,
-        &[
-            (Open, Ends(0, 1)),
-            (Accept(1, 1), No("Ended")),
-            (Both, Lists(2, 64, 0, 0)),
-            (HandOver(1), Block(1, 32)),
-            (Both, Lists(1, 32, 1, 32)),
-        ],
-    )
+    const CALLS: &[(Call, Answer)] = &[
+        (Open, Ends(0, 1)),
+        (Accept(1, 1), No("Ended")),
+        (Both, Lists(2, 64, 0, 0)),
+        (HandOver(1), Block(1, 32)),
+        (Both, Lists(1, 32, 1, 32)),
+    ];
+    assert_answers(&rt, rt.alloc(), 4, CALLS)
 }
 
 /// The tail of a block goes to the other place with its bytes.
 #[test]
 fn split_and_give_the_tail(rt: HostRuntime) {
-    assert_answers(
-        &rt,
-        rt.alloc(),
-        4,
-        &[
-            (Wire, Ends(0, 1)),
-            (Alloc(48, 0), Block(2, 48)),
-            (Split(2, 0), No("BadCut")),
-            (Split(2, 48), No("BadCut")),
-            (Split(2, 20), No("BadCut")),
-            (Write(2, 16, &[1, 2]), Done),
-            (Split(2, 16), Two(2, 16, 3, 32)),
-            (Give(0, 0, &[3]), Number(1)),
-            (Free(2), Number(16)),
-            (Turn, Done),
-            (Take(1), Message(1, 0, 1, [came(3, 32), None])),
-            (Read(3, 0), Bytes([1, 2, 0, 0])),
-            (Both, Lists(2, 64, 1, 32)),
-            (Count, Moved(112, 16)),
-        ],
-    )
+    const CALLS: &[(Call, Answer)] = &[
+        (Wire, Ends(0, 1)),
+        (Alloc(48, 0), Block(2, 48)),
+        (Split(2, 0), No("BadCut")),
+        (Split(2, 48), No("BadCut")),
+        (Split(2, 20), No("BadCut")),
+        (Write(2, 16, &[1, 2]), Done),
+        (Split(2, 16), Two(2, 16, 3, 32)),
+        (Give(0, 0, &[3]), Number(1)),
+        (Free(2), Number(16)),
+        (Turn, Done),
+        (Take(1), Message(1, 0, 1, [Some((3, 32)), None])),
+        (Read(3, 0), Bytes([1, 2, 0, 0])),
+        (Both, Lists(2, 64, 1, 32)),
+        (Count, Moved(112, 16)),
+    ];
+    assert_answers(&rt, rt.alloc(), 4, CALLS)
 }
 
 /// What a process had sent stays for its peer after it has ended.
 #[test]
 fn exit_leaves_sent_messages(rt: HostRuntime) {
-    assert_answers(
-        &rt,
-        rt.alloc(),
-        4,
-        &[
-            (Wire, Ends(0, 1)),
-            (Alloc(16, 0), Block(2, 16)),
-            (Give(0, 5, &[2]), Number(1)),
-            (Stop(4096), Number(32)),
-            (Turn, Done),
-            (Take(1), Message(1, 5, 1, [came(2, 16), None])),
-            (Take(1), Back("PeerClosed", 0, None)),
-            (Give(1, 0, &[2]), Back("PeerClosed", 1, Some(2))),
-            (Close(1), Number(32)),
-            (Count, Moved(80, 64)),
-        ],
-    )
+    const CALLS: &[(Call, Answer)] = &[
+        (Wire, Ends(0, 1)),
+        (Alloc(16, 0), Block(2, 16)),
+        (Give(0, 5, &[2]), Number(1)),
+        (Stop(4096), Number(32)),
+        (Turn, Done),
+        (Take(1), Message(1, 5, 1, [Some((2, 16)), None])),
+        (Take(1), Back("PeerClosed", 0, None)),
+        (Give(1, 0, &[2]), Back("PeerClosed", 1, Some(2))),
+        (Close(1), Number(32)),
+        (Count, Moved(80, 64)),
+    ];
+    assert_answers(&rt, rt.alloc(), 4, CALLS)
 }
 
 /// An end in a message on its way to a process that is stopped goes, and what was on its way to that end.
 #[test]
 fn kill_reclaims_nested_endpoints(rt: HostRuntime) {
-    assert_answers(
-        &rt,
-        rt.alloc(),
-        4,
-        &[
-            (Wire, Ends(0, 1)),
-            (Open, Ends(2, 3)),
-            (Alloc(16, 0), Block(4, 16)),
-            (Give(2, 1, &[4]), Number(1)),
-            (Give(0, 2, &[3]), Number(1)),
-            (Turn, Done),
-            (Alloc(32, 0), Block(5, 32)),
-            (Stop(4096), Number(112)),
-            (Alloc(16, 0), No("Ended")),
-            (Turn, Done),
-            (Give(2, 3, &[]), Back("PeerClosed", 0, None)),
-            (Take(0), Back("PeerClosed", 0, None)),
-            (Count, Moved(176, 112)),
-        ],
-    )
+    const CALLS: &[(Call, Answer)] = &[
+        (Wire, Ends(0, 1)),
+        (Open, Ends(2, 3)),
+        (Alloc(16, 0), Block(4, 16)),
+        (Give(2, 1, &[4]), Number(1)),
+        (Give(0, 2, &[3]), Number(1)),
+        (Turn, Done),
+        (Alloc(32, 0), Block(5, 32)),
+        (Stop(4096), Number(112)),
+        (Alloc(16, 0), No("Ended")),
+        (Turn, Done),
+        (Give(2, 3, &[]), Back("PeerClosed", 0, None)),
+        (Take(0), Back("PeerClosed", 0, None)),
+        (Count, Moved(176, 112)),
+    ];
+    assert_answers(&rt, rt.alloc(), 4, CALLS)
 }
 
 /// A message that the contract doesn't allow is refused, with what came back, and the next that it allows goes.
 #[test]
 fn contract_refusals(rt: HostRuntime) {
-    assert_answers(
-        &rt,
-        rt.alloc(),
-        4,
-        &[
-            (OpenWith, Ends(0, 1)),
-            (HandOver(1), Block(1, 32)),
-            (Alloc(16, 0), Block(2, 16)),
-            (Give(0, 2, &[2]), Back("Protocol", 1, Some(2))),
-            (Give(0, 1, &[2]), Number(1)),
-            (Give(0, 1, &[]), Back("Protocol", 0, None)),
-            (Turn, Done),
-            (Give(1, 1, &[]), Back("Protocol", 0, None)),
-            (Take(1), Message(1, 1, 1, [came(2, 16), None])),
-            (Give(1, 2, &[2]), Number(1)),
-            (Turn, Done),
-            (Take(0), Message(1, 2, 1, [came(2, 16), None])),
-            (Give(0, 1, &[]), Number(2)),
-            (Both, Lists(2, 48, 1, 32)),
-        ],
-    )
+    const CALLS: &[(Call, Answer)] = &[
+        (OpenWith, Ends(0, 1)),
+        (HandOver(1), Block(1, 32)),
+        (Alloc(16, 0), Block(2, 16)),
+        (Give(0, 2, &[2]), Back("Protocol", 1, Some(2))),
+        (Give(0, 1, &[2]), Number(1)),
+        (Give(0, 1, &[]), Back("Protocol", 0, None)),
+        (Turn, Done),
+        (Give(1, 1, &[]), Back("Protocol", 0, None)),
+        (Take(1), Message(1, 1, 1, [Some((2, 16)), None])),
+        (Give(1, 2, &[2]), Number(1)),
+        (Turn, Done),
+        (Take(0), Message(1, 2, 1, [Some((2, 16)), None])),
+        (Give(0, 1, &[]), Number(2)),
+        (Both, Lists(2, 48, 1, 32)),
+    ];
+    assert_answers(&rt, rt.alloc(), 4, CALLS)
 }
