@@ -76,6 +76,13 @@ impl<'a, N: Names, R: Wait> Crew<'a, N, R> {
         Player::new(self.rt, self.alloc, self.kernel, account)
     }
 
+    // Two new processes.
+    fn two_players(&mut self) -> Result<(Player<'a, N, R>, Player<'a, N, R>), Failure> {
+        let first = self.player()?;
+        let second = self.player()?;
+        Ok((first, second))
+    }
+
     // So many threads that make and free blocks of so many bytes.
     fn allocs(
         &mut self,
@@ -103,19 +110,75 @@ fn time_allocs<N: Names + Send + Sync, R: Threads + Wait + Clock + Sync>(
     best(crew.rt, crew.alloc, works, u64::from(threads))
 }
 
+// Times a process that gives itself messages of so many blocks.
+fn time_gives<N: Names + Send + Sync, R: Threads + Wait + Clock + Sync>(
+    crew: &mut Crew<N, R>,
+    blocks: u8,
+) -> Result<Pace, Failure> {
+    let work = GiveTake::new(crew.player()?, blocks)?;
+    best_alone(crew.rt, crew.alloc, work, 1)
+}
+
+// Times two processes that pass a block of so many bytes to and fro.
+fn time_ping_pong<N: Names + Send + Sync, R: Threads + Wait + Clock + Sync>(
+    crew: &mut Crew<N, R>,
+    bytes: u32,
+) -> Result<Pace, Failure> {
+    let (first, second) = crew.two_players()?;
+    let works = PingPong::pair(crew.alloc, first, second, bytes)?;
+    best(crew.rt, crew.alloc, works, 1)
+}
+
+// Times a process that makes blocks and one that frees them.
+fn time_stream<N: Names + Send + Sync, R: Threads + Wait + Clock + Sync>(
+    crew: &mut Crew<N, R>,
+) -> Result<Pace, Failure> {
+    let (first, second) = crew.two_players()?;
+    let works = Stream::pair(crew.alloc, first, second)?;
+    best(crew.rt, crew.alloc, works, 1)
+}
+
+// The processor time of a process that waits and one that lets it wait.
+fn time_idle<N: Names + Send + Sync, R: Threads + Wait + Clock + CpuClock + Sync>(
+    crew: &mut Crew<N, R>,
+) -> Result<Pace, Failure> {
+    let (first, second) = crew.two_players()?;
+    let works = Idle::pair(crew.alloc, first, second)?;
+    spent(crew.rt, crew.alloc, works, PAUSES)
+}
+
 // Times looks at a place.
 fn time_looks<N: Names + Send + Sync, R: Threads + Clock + Sync>(
-    rt: &R,
-    alloc: Global,
-    kernel: &Kernel<N>,
-    mut looks: Vec<Look>,
+    crew: &mut Crew<N, R>,
+    looks: &mut Vec<Look>,
 ) -> Result<Pace, Failure>
-    requires { All (λ l. l ≡ fresh_look N.parts.glances) looks.items }
+    requires { All (λ l. l ≡ fresh_look N.parts.glances) looks.old.items }
 {
     let Some(look) = looks.pop() else {
         return Err(Failure::Astray);
     };
-    best_alone(rt, alloc, Looking::<N>::new(kernel, look), 1)
+    let work = Looking::<N>::new(crew.kernel, look);
+    best_alone(crew.rt, crew.alloc, work, 1)
+}
+
+// Times the call.
+fn time_call<N: Names + Send + Sync, R: Threads + Wait + Clock + CpuClock + Sync>(
+    crew: &mut Crew<N, R>,
+    looks: &mut Vec<Look>,
+    call: Call,
+) -> Result<Pace, Failure>
+    requires { All (λ l. l ≡ fresh_look N.parts.glances) looks.old.items }
+{
+    match call {
+        Call::AllocFree(bytes) => time_allocs(crew, 1, 0, bytes),
+        Call::AllocsApart(threads) => time_allocs(crew, threads, 1, SMALL),
+        Call::AllocsTogether(threads) => time_allocs(crew, threads, 0, SMALL),
+        Call::GiveTake(blocks) => time_gives(crew, blocks),
+        Call::Glance => time_looks(crew, looks),
+        Call::PingPong(bytes) => time_ping_pong(crew, bytes),
+        Call::Stream => time_stream(crew),
+        Call::Idle => time_idle(crew),
+    }
 }
 
 // Times the call on the kernel of these parts.
@@ -127,34 +190,14 @@ fn time_named<N: Names + Send + Sync, R: Threads + Wait + Clock + CpuClock + Syn
 ) -> Result<Pace, Failure>
     requires names { parts ≡ N.parts }
 {
-    let (kernel, accounts, looks) = Kernel::<N>::new(alloc, parts)?;
+    let (kernel, accounts, mut looks) = Kernel::<N>::new(alloc, parts)?;
     let mut crew = Crew {
         rt,
         alloc,
         kernel: &kernel,
         accounts,
     };
-    match call {
-        Call::AllocFree(bytes) => time_allocs(&mut crew, 1, 0, bytes),
-        Call::AllocsApart(threads) => time_allocs(&mut crew, threads, 1, SMALL),
-        Call::AllocsTogether(threads) => time_allocs(&mut crew, threads, 0, SMALL),
-        Call::GiveTake(blocks) => {
-            best_alone(rt, alloc, GiveTake::new(crew.player()?, blocks)?, 1)
-        }
-        Call::Glance => time_looks(rt, alloc, &kernel, looks),
-        Call::PingPong(bytes) => {
-            let works = PingPong::pair(alloc, crew.player()?, crew.player()?, bytes)?;
-            best(rt, alloc, works, 1)
-        }
-        Call::Stream => {
-            let works = Stream::pair(alloc, crew.player()?, crew.player()?)?;
-            best(rt, alloc, works, 1)
-        }
-        Call::Idle => {
-            let works = Idle::pair(alloc, crew.player()?, crew.player()?)?;
-            spent(rt, alloc, works, PAUSES)
-        }
-    }
+    time_call(&mut crew, &mut looks, call)
 }
 
 /// Times the call on a new kernel.

@@ -38,7 +38,20 @@ fn kill_one<N: Names, R: Wait + Clock>(
     Ok(taken)
 }
 
-// As many kills as the kernel of these parts has.
+// As many kills as a kernel has channels: how long they took.
+fn kill_all<N: Names, R: Wait + Clock>(
+    rt: &R,
+    peer: &mut Player<N, R>,
+    blocks: u16,
+) -> Result<Duration, Failure> {
+    let mut taken = Duration::ZERO;
+    for _ in 0..KILLS {
+        taken = taken.saturating_add(kill_one(rt, peer, blocks)?);
+    }
+    Ok(taken)
+}
+
+// The same by a kernel of these parts.
 fn kill_named<N: Names, R: Wait + Clock>(
     rt: &R,
     alloc: Global,
@@ -52,14 +65,10 @@ fn kill_named<N: Names, R: Wait + Clock>(
         return Err(Failure::Astray);
     };
     let mut peer = Player::new(rt, alloc, &kernel, account)?;
-    let mut taken = Duration::ZERO;
-    for _ in 0..KILLS {
-        taken = taken.saturating_add(kill_one(rt, &mut peer, blocks)?);
-    }
-    Ok(taken)
+    kill_all(rt, &mut peer, blocks)
 }
 
-// As many kills as a new kernel has.
+// The same by a new kernel.
 fn kill_batch<R: Wait + Clock>(rt: &R, alloc: Global, blocks: u16) -> Result<Duration, Failure> {
     let parts = Parts::new(alloc, config(), 1)?;
     kill_named::<Brand, R>(rt, alloc, parts, blocks)

@@ -184,6 +184,54 @@ impl Yardstick {
     }
 }
 
+// A message is put and taken, under a contract or under none.
+fn time_put_take<R: Threads + Wait + Clock + Sync>(
+    rt: &R,
+    alloc: Global,
+    by_contract: bool,
+) -> Result<Pace, Failure> {
+    let all = channels(alloc)?;
+    let work = if by_contract {
+        PutTake::with_contract(rt, &all)?
+    } else {
+        PutTake::new(rt, &all)?
+    };
+    best_alone(rt, alloc, work, 1)
+}
+
+// The same by so many threads, each on a channel of its own.
+fn time_apart<R: Threads + Wait + Clock + Sync>(
+    rt: &R,
+    alloc: Global,
+    threads: u8,
+) -> Result<Pace, Failure> {
+    let all = channels(alloc)?;
+    let works = apart(rt, alloc, &all, threads)?;
+    best(rt, alloc, works, u64::from(threads))
+}
+
+// The same by so many pairs of threads.
+fn time_pairs<R: Threads + Wait + Clock + Sync>(
+    rt: &R,
+    alloc: Global,
+    count: u8,
+) -> Result<Pace, Failure> {
+    let all = channels(alloc)?;
+    let works = pairs(rt, alloc, &all, count)?;
+    best(rt, alloc, works, u64::from(count))
+}
+
+// A script of so many commands.
+fn time_script<R: Threads + Clock + Sync>(
+    rt: &R,
+    alloc: Global,
+    kind: Kind,
+    commands: u16,
+) -> Result<Pace, Failure> {
+    let script = Script::new(alloc, kind, commands)?;
+    best_alone(rt, alloc, script, u64::from(commands))
+}
+
 impl Measure {
     /// The time of one operation.
     pub(crate) fn time<R: Threads + Wait + Clock + CpuClock + Sync>(
@@ -196,33 +244,13 @@ impl Measure {
             Measure::Vault => best_alone(rt, alloc, VaultCarving::new(alloc)?, 1),
             Measure::Claim(taken) => best_alone(rt, alloc, Claiming::new(alloc, taken)?, 1),
             Measure::Pass(taken) => best_alone(rt, alloc, Passing::new(alloc, taken)?, 1),
-            Measure::PutTake => {
-                let all = channels(alloc)?;
-                best_alone(rt, alloc, PutTake::new(rt, &all)?, 1)
-            }
-            Measure::PutTakeByContract => {
-                let all = channels(alloc)?;
-                best_alone(rt, alloc, PutTake::with_contract(rt, &all)?, 1)
-            }
-            Measure::PutTakeApart(threads) => {
-                let all = channels(alloc)?;
-                best(
-                    rt,
-                    alloc,
-                    apart(rt, alloc, &all, threads)?,
-                    u64::from(threads),
-                )
-            }
-            Measure::PutTakePairs(count) => {
-                let all = channels(alloc)?;
-                best(rt, alloc, pairs(rt, alloc, &all, count)?, u64::from(count))
-            }
+            Measure::PutTake => time_put_take(rt, alloc, false),
+            Measure::PutTakeByContract => time_put_take(rt, alloc, true),
+            Measure::PutTakeApart(threads) => time_apart(rt, alloc, threads),
+            Measure::PutTakePairs(count) => time_pairs(rt, alloc, count),
             Measure::Kernel(call) => kernels::time(rt, alloc, call),
             Measure::Kill(blocks) => kills::time(rt, alloc, blocks),
-            Measure::Script(kind, commands) => {
-                let script = Script::new(alloc, kind, commands)?;
-                best_alone(rt, alloc, script, u64::from(commands))
-            }
+            Measure::Script(kind, commands) => time_script(rt, alloc, kind, commands),
             Measure::Yardstick(yardstick) => yardstick.time(rt, alloc),
         }
     }
