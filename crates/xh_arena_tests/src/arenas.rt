@@ -20,31 +20,29 @@ fn holes_merge(rt: HostRuntime) {
     assert_eq!(rt; arena.wear(), 48);
 }
 
-/// At each limit an arena is made, and past it it is not.
+/// At each limit an arena is made, and past it, or with a size that is no multiple of 16, it is not.
 #[test]
 fn limits_of_new(rt: HostRuntime) {
-    let most = Arena::new(rt.alloc(), 1_048_576, 256, 9_223_372_036_854_775_807);
-    assert!(rt; most.is_ok());
-    let least = Arena::new(rt.alloc(), 16, 1, 0);
-    assert!(rt; least.is_ok());
-    let no_bytes = Arena::new(rt.alloc(), 0, 1, 0);
-    assert_eq!(rt; no_bytes.err(), Some(Refused::BadSize));
-    let many_bytes = Arena::new(rt.alloc(), 1_048_592, 1, 0);
-    assert_eq!(rt; many_bytes.err(), Some(Refused::BadSize));
-    let no_records = Arena::new(rt.alloc(), 16, 0, 0);
-    assert_eq!(rt; no_records.err(), Some(Refused::BadSize));
-    let many_records = Arena::new(rt.alloc(), 16, 257, 0);
-    assert_eq!(rt; many_records.err(), Some(Refused::BadSize));
-    let much_wear = Arena::new(rt.alloc(), 16, 1, 9_223_372_036_854_775_808);
-    assert_eq!(rt; much_wear.err(), Some(Refused::BadSize));
-}
-
-#[test]
-fn sizes_are_multiples_of_16(rt: HostRuntime) {
-    assert_eq!(rt;
-        Arena::new(rt.alloc(), 40, 8, 1000).err(),
-        Some(Refused::BadSize)
-    );
+    const MADE: &[(u32, u16, u64)] = &[(1_048_576, 256, 9_223_372_036_854_775_807), (16, 1, 0)];
+    const REFUSED: &[(u32, u16, u64)] = &[
+        (0, 1, 0),
+        (1_048_592, 1, 0),
+        (16, 0, 0),
+        (16, 257, 0),
+        (16, 1, 9_223_372_036_854_775_808),
+        (40, 8, 1000),
+    ];
+    for (size, records, wear) in MADE {
+        assert!(rt; Arena::new(rt.alloc(), *size, *records, *wear).is_ok());
+    }
+    for (size, records, wear) in REFUSED {
+        let refused = Arena::new(rt.alloc(), *size, *records, *wear).err();
+        assert_eq!(rt;
+            refused,
+            Some(Refused::BadSize),
+            "{size}, {records}, {wear}"
+        );
+    }
 }
 
 #[test]

@@ -62,16 +62,16 @@ fn assert_settled(rt: &impl Abort, vaults: &[Vault], places: &[Place], count: us
 pub fn settling<N: Names, R: Wait + Abort>(
     rt: &R,
     alloc: Global,
-    bench: Bench<N>,
+    mut bench: Bench<N>,
 ) -> Result<(), Refused> {
+    let p = bench.spawn(rt)?;
+    bench.alloc(rt, alloc, p, 17, 7)?;
+    assert_eq!(rt; bench.account.number(), 0);
     let Bench {
         kernel,
-        mut account,
+        account,
         look: _,
     } = bench;
-    let p = kernel.spawn(rt, &OpenGate)?;
-    kernel.alloc(rt, alloc, p, 17, 7, &mut account, &OpenGate)?;
-    assert_eq!(rt; account.number(), 0);
     let (vaults, places, _records) = kernel.settle(alloc)?;
     assert_settled(rt, &vaults, &places, 8, 32);
     assert_eq!(rt; account.into_tallies().len(), 8);

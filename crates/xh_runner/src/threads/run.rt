@@ -61,6 +61,30 @@ fn collect<N: Names>(
     Ok(all)
 }
 
+// Once all workers were joined, the lines that none of them had are done by the head's session. Its account joins
+// theirs.
+fn finish<'a, N: Names, R: Wait, G: Gate>(
+    alloc: Global,
+    mut rest: Session<'a, Worker<'a, N, R, G>>,
+    script: &Script,
+    replies: Vec<Option<Reply>>,
+    mut accounts: Vec<Account<N>>,
+) -> Result<Outcome<N>, AllocError>
+    ensures answers { IfOk result (λ o. AreAnswersTo script.now.lines.items o.answers.items) }
+    ensures names { IfOk result (λ o. length o.names.items ≡ PLACES) }
+    ensures accounts { IfOk result (λ o. vec_len o.accounts ≡ vec_len accounts + 1) }
+{
+    let answers = answered(alloc, &mut rest, &script.lines, replies)?;
+    let names = rest.names_by_place(alloc, &script.processes)?;
+    let (first, _) = rest.into_parts();
+    accounts.push(first.into_account())?;
+    Ok(Outcome {
+        answers,
+        names,
+        accounts,
+    })
+}
+
 /// Runs a script with a worker for each process that has a place. The commands that no worker had, those
 /// of the other processes, are done here once all were joined. `stops` says whether the gate may stop a
 /// worker, and so the run.
@@ -97,14 +121,6 @@ pub(super) fn run_script<'a, N: Names + Send + Sync, R: Threads + Wait + Sync, G
     if stops && !all {
         return Err(Fault::Gate);
     }
-    let mut rest = Session::with_names(first, shared.names.into_inner(), &script.contracts);
-    let answers = answered(alloc, &mut rest, &script.lines, replies)?;
-    let names = rest.names_by_place(alloc, &script.processes)?;
-    let (first, _) = rest.into_parts();
-    accounts.push(first.into_account())?;
-    Ok(Outcome {
-        answers,
-        names,
-        accounts,
-    })
+    let rest = Session::with_names(first, shared.names.into_inner(), &script.contracts);
+    Ok(finish(alloc, rest, script, replies, accounts)?)
 }
