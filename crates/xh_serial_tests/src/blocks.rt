@@ -172,6 +172,14 @@ fn a_block_is_split(rt: HostRuntime) {
     assert_on(&rt, rt.alloc(), small(), CALLS);
 }
 
+/// Of the last byte of 16 on, two are not read, and nothing is written where they were to go; of its end on, none are.
+fn assert_read_at_the_end(rt: &impl Abort, heap: &Serial) {
+    let mut two = [7; 2];
+    assert!(rt; matches!(heap.read(0, 0, 15, &mut two), Err(Refused::BadRange)));
+    assert_eq!(rt; two, [7, 7]);
+    assert!(rt; heap.read(0, 0, 16, &mut []).is_ok());
+}
+
 #[test]
 fn bytes_are_written_and_read(rt: HostRuntime) {
     const CALLS: &[(Call, Answer)] = &[
@@ -184,10 +192,7 @@ fn bytes_are_written_and_read(rt: HostRuntime) {
     ];
     let mut heap = alone(&rt, rt.alloc(), small());
     assert_answers(&rt, &mut heap, rt.alloc(), CALLS);
-    let mut two = [7; 2];
-    assert!(rt; matches!(heap.read(0, 0, 15, &mut two), Err(Refused::BadRange)));
-    assert_eq!(rt; two, [7, 7]);
-    assert!(rt; heap.read(0, 0, 16, &mut []).is_ok());
+    assert_read_at_the_end(&rt, &heap);
 }
 
 /// With a growth of a split refused the block and its bytes are as before, and the same split

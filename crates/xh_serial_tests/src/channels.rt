@@ -1,11 +1,12 @@
 //! Channels by calls: who holds which end, what a contract refuses, and the order of the refusals.
 use crate::answers::Answer::{Message, No, Number, Place, Two};
-use crate::answers::Call::{Exit, Give, Glance, Open, Spawn, Take, Wire};
-use crate::answers::{Answer, Call, assert_answers, assert_on, heap_of, of_two};
+use crate::answers::Call::{Exit, Give, Glance, Open, OpenWith, Spawn, Take, Wire, WireWith};
+use crate::answers::Rules::{OneWay, RequestAndReply};
+use crate::answers::{Answer, Call, assert_answers, assert_on, heap_of};
 use std::alloc::Global;
 use std::process::Abort;
+use xh_core::Config;
 use xh_core::Status::Running;
-use xh_core::{Config, Contract, Row};
 use xh_serial::Serial;
 
 /// Two arenas of 256 bytes and four records.
@@ -17,35 +18,6 @@ fn small() -> Config {
         depth: 2,
         wear: 1_000,
     }
-}
-
-/// A heap in which the processes 0 and 1 run.
-fn two_processes(rt: &impl Abort, alloc: Global, config: Config) -> Serial {
-    let mut heap = heap_of(rt, alloc, config);
-    assert_answers(
-        rt,
-        &mut heap,
-        alloc,
-        &[(Spawn, Number(0)), (Spawn, Number(1))],
-    );
-    heap
-}
-
-/// The side 0 asks by 1, the side 1 answers by 2.
-fn question_and_answer(rt: &impl Abort) -> Contract {
-    let ask = Row {
-        state: 0,
-        tag: 1,
-        side: 0,
-        next: 1,
-    };
-    let answer = Row {
-        state: 1,
-        tag: 2,
-        side: 1,
-        next: 0,
-    };
-    Contract::new(&[ask, answer]).expect(rt, "a valid table")
 }
 
 #[test]
@@ -82,6 +54,10 @@ fn each_process_holds_one_end(rt: HostRuntime) {
 #[test]
 fn ends_under_a_contract(rt: HostRuntime) {
     const CALLS: &[(Call, Answer)] = &[
+        (Spawn, Number(0)),
+        (Spawn, Number(1)),
+        (OpenWith(0, 0, RequestAndReply), Two(0, 32, 1, 32)),
+        (WireWith(0, 1, 1, RequestAndReply), Two(256, 32, 257, 32)),
         (Give(0, 0, 2, &[]), No("Protocol")),
         (Give(0, 1, 2, &[]), No("Protocol")),
         (Give(0, 0, 1, &[]), Number(1)),
@@ -90,17 +66,14 @@ fn ends_under_a_contract(rt: HostRuntime) {
         (Take(1, 257), Message(1, 1, 0)),
         (Give(1, 257, 2, &[]), Number(1)),
     ];
-    let mut heap = two_processes(&rt, rt.alloc(), small());
-    let opened = heap.open_with(0, 0, question_and_answer(&rt));
-    assert_eq!(rt; of_two(opened), Two(0, 32, 1, 32));
-    let wired = heap.wire_with(0, 1, 1, question_and_answer(&rt));
-    assert_eq!(rt; of_two(wired), Two(256, 32, 257, 32));
-    assert_answers(&rt, &mut heap, rt.alloc(), CALLS);
+    assert_on(&rt, rt.alloc(), small(), CALLS);
 }
 
 #[test]
 fn the_start_is_tested_first(rt: HostRuntime) {
     const CALLS: &[(Call, Answer)] = &[
+        (Spawn, Number(0)),
+        (Spawn, Number(1)),
         (Open(2, 2), No("NoProcess")),
         (Open(0, 2), No("NoArena")),
         (Exit(1, 10), Number(0)),
@@ -110,13 +83,18 @@ fn the_start_is_tested_first(rt: HostRuntime) {
         (Wire(0, 2, 2), No("NoProcess")),
         (Wire(0, 1, 2), No("Ended")),
         (Wire(0, 0, 2), No("NoArena")),
+        (WireWith(0, 1, 2, RequestAndReply), No("Ended")),
+        (OpenWith(0, 2, RequestAndReply), No("NoArena")),
     ];
-    let mut heap = two_processes(&rt, rt.alloc(), small());
-    assert_answers(&rt, &mut heap, rt.alloc(), CALLS);
-    let wired = heap.wire_with(0, 1, 2, question_and_answer(&rt));
-    assert_eq!(rt; of_two(wired), No("Ended"));
-    let opened = heap.open_with(0, 2, question_and_answer(&rt));
-    assert_eq!(rt; of_two(opened), No("NoArena"));
+    assert_on(&rt, rt.alloc(), small(), CALLS);
+}
+
+/// Two processes run, and the first opens as many channels as there are.
+fn open_all(rt: &impl Abort, alloc: Global, heap: &mut Serial) {
+    assert_answers(rt, heap, alloc, &[(Spawn, Number(0)), (Spawn, Number(1))]);
+    for _ in 0..64u8 {
+        assert!(rt; heap.open(0, 0).is_ok());
+    }
 }
 
 /// Sixty-four channels, and then none, though there is no record, no room and no wear left either.
@@ -134,10 +112,8 @@ fn channels_run_out_before_records(rt: HostRuntime) {
         wear: 4_096,
         ..small()
     };
-    let mut heap = two_processes(&rt, rt.alloc(), config);
-    for _ in 0..64u8 {
-        assert!(rt; heap.open(0, 0).is_ok());
-    }
+    let mut heap = heap_of(&rt, rt.alloc(), config);
+    open_all(&rt, rt.alloc(), &mut heap);
     assert_answers(&rt, &mut heap, rt.alloc(), CALLS);
 }
 
@@ -155,12 +131,13 @@ fn records_room_and_wear(rt: HostRuntime) {
             wear: 64,
             ..small()
         };
-        let mut heap = two_processes(&rt, rt.alloc(), config);
-        assert_answers(
+        assert_on(
             &rt,
-            &mut heap,
             rt.alloc(),
+            config,
             &[
+                (Spawn, Number(0)),
+                (Spawn, Number(1)),
                 (Open(0, 0), Two(0, 32, 1, 32)),
                 (Open(0, 0), refusal),
                 (Wire(1, 0, 0), refusal),
@@ -175,6 +152,9 @@ fn records_room_and_wear(rt: HostRuntime) {
 #[test]
 fn contract_refusals(rt: HostRuntime) {
     const CALLS: &[(Call, Answer)] = &[
+        (Spawn, Number(0)),
+        (Spawn, Number(1)),
+        (WireWith(0, 1, 0, RequestAndReply), Two(0, 32, 1, 32)),
         (Give(0, 0, 2, &[]), No("Protocol")),
         (Give(1, 1, 2, &[]), No("Protocol")),
         (Give(0, 0, 1, &[]), Number(1)),
@@ -185,16 +165,16 @@ fn contract_refusals(rt: HostRuntime) {
         (Take(0, 0), Message(1, 2, 0)),
         (Give(0, 0, 1, &[]), Number(2)),
     ];
-    let mut heap = two_processes(&rt, rt.alloc(), small());
-    let wired = heap.wire_with(0, 1, 0, question_and_answer(&rt));
-    assert_eq!(rt; of_two(wired), Two(0, 32, 1, 32));
-    assert_answers(&rt, &mut heap, rt.alloc(), CALLS);
+    assert_on(&rt, rt.alloc(), small(), CALLS);
 }
 
 /// The contract is asked after the blocks, and ahead of the peer and of the room.
 #[test]
 fn a_contract_is_asked_before_the_room(rt: HostRuntime) {
     const CALLS: &[(Call, Answer)] = &[
+        (Spawn, Number(0)),
+        (Spawn, Number(1)),
+        (WireWith(0, 1, 0, OneWay), Two(0, 32, 1, 32)),
         (Give(0, 0, 1, &[]), Number(1)),
         (Give(0, 0, 2, &[0]), No("Twice")),
         (Give(0, 0, 2, &[]), No("Protocol")),
@@ -207,14 +187,5 @@ fn a_contract_is_asked_before_the_room(rt: HostRuntime) {
         depth: 1,
         ..small()
     };
-    let mut heap = two_processes(&rt, rt.alloc(), config);
-    let more = Row {
-        state: 0,
-        tag: 1,
-        side: 0,
-        next: 0,
-    };
-    let contract = Contract::new(&[more]).expect(&rt, "a valid table");
-    assert!(rt; heap.wire_with(0, 1, 0, contract).is_ok());
-    assert_answers(&rt, &mut heap, rt.alloc(), CALLS);
+    assert_on(&rt, rt.alloc(), config, CALLS);
 }

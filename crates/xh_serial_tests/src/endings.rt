@@ -1,28 +1,26 @@
 //! Ends by calls: what is reclaimed, and what stays.
-use crate::answers::Answer::{Block, Message, No, Number, Two};
-use crate::answers::Call::{Alloc, Close, Exit, Free, Give, Kill, Open, Spawn, Take, Wire};
-use crate::answers::{Answer, Call, assert_answers, assert_ledger, first_place, heap_of};
+use crate::answers::Answer::{
+    Arena as ArenaLine, Block, Line as PlaceLine, Message, No, Number, Sums as SumsOf, Two,
+};
+use crate::answers::Call::{
+    Alloc, Arena, Close, Exit, Free, Give, Kill, Line, Open, Spawn, Sums, Take, Wire,
+};
+use crate::answers::{Answer, Call, assert_answers, assert_on, heap_of};
 use crate::heaps::small;
 use std::alloc::Global;
 use std::process::Abort;
 use xh_core::{Refused, State};
 use xh_serial::Serial;
 
-/// The process 0 runs alone.
-fn alone(rt: &impl Abort, alloc: Global) -> Serial {
-    let mut heap = heap_of(rt, alloc, small());
-    assert_answers(rt, &mut heap, alloc, &[(Spawn, Number(0))]);
-    heap
-}
-
 /// The processes 0 and 1 hold the ends 0 and 1 of a channel, and 0 holds the block 2, of 16 bytes.
 fn wired(rt: &impl Abort, alloc: Global) -> Serial {
     const CALLS: &[(Call, Answer)] = &[
+        (Spawn, Number(0)),
         (Spawn, Number(1)),
         (Wire(0, 1, 0), Two(0, 32, 1, 32)),
         (Alloc(0, 16, 0), Block(2, 16)),
     ];
-    let mut heap = alone(rt, alloc);
+    let mut heap = heap_of(rt, alloc, small());
     assert_answers(rt, &mut heap, alloc, CALLS);
     heap
 }
@@ -95,14 +93,15 @@ fn a_kill_reclaims_ends_in_flight(rt: HostRuntime) {
 #[test]
 fn endpoint_in_flight_to_itself(rt: HostRuntime) {
     const CALLS: &[(Call, Answer)] = &[
+        (Spawn, Number(0)),
         (Open(0, 0), Two(0, 32, 1, 32)),
         (Give(0, 0, 0, &[1]), Number(1)),
         (Exit(0, 4_096), Number(32)),
+        (Arena(0), ArenaLine(256, 32, 2, 64, 32)),
+        (Arena(1), Answer::None),
+        (Line(0), PlaceLine(0, 0, State::Ended, 0, 0)),
+        (Line(1), Answer::None),
+        (Sums, SumsOf(0, 32, 32)),
     ];
-    let mut heap = alone(&rt, rt.alloc());
-    assert_answers(&rt, &mut heap, rt.alloc(), CALLS);
-    let ledger = heap.ledger();
-    assert_ledger(&rt, &ledger, (256, 32, 2, 64, 32), (0, 32, 32));
-    let ended = Some((0, 0, State::Ended, 0, 0));
-    assert_eq!(rt; (ledger.places.len(), first_place(&ledger)), (1, ended));
+    assert_on(&rt, rt.alloc(), small(), CALLS);
 }

@@ -1,7 +1,7 @@
 //! A heap is made, and what a refused growth leaves.
-use crate::answers::Answer::Number;
-use crate::answers::Call::Spawn;
-use crate::answers::{assert_answers, heap_of};
+use crate::answers::Answer::{Arena as ArenaLine, Number};
+use crate::answers::Call::{Arena, Line, Spawn};
+use crate::answers::{Answer, Call, assert_answers, heap_of};
 use xh_core::{Config, Refused};
 use xh_serial::Serial;
 
@@ -30,21 +30,20 @@ fn two_arenas() -> Config {
 /// like any new one: `rt try --test --fail-alloc N` refuses the N-th.
 #[test]
 fn a_refused_growth_of_new_leaves_nothing(rt: HostRuntime) {
+    const CALLS: &[(Call, Answer)] = &[
+        (Arena(0), ArenaLine(64, 0, 1, 0, 0)),
+        (Arena(1), ArenaLine(64, 0, 1, 0, 0)),
+        (Arena(2), Answer::None),
+        (Line(0), Answer::None),
+        (Spawn, Number(0)),
+    ];
     let first = Serial::new(rt.alloc(), two_arenas());
     assert!(rt; matches!(&first, Ok(_) | Err(Refused::OutOfMemory)));
     let mut heap = match first {
         Ok(heap) => heap,
         Err(_) => heap_of(&rt, rt.alloc(), two_arenas()),
     };
-    let ledger = heap.ledger();
-    assert_eq!(rt; (ledger.arenas.len(), ledger.places.len()), (2, 0));
-    for arena in ledger.arenas.as_slice() {
-        assert_eq!(rt;
-            (arena.size, arena.out, arena.holes, arena.taken, arena.back),
-            (64, 0, 1, 0, 0)
-        );
-    }
-    assert_answers(&rt, &mut heap, rt.alloc(), &[(Spawn, Number(0))]);
+    assert_answers(&rt, &mut heap, rt.alloc(), CALLS);
 }
 
 /// A Config outside the limits is refused ahead of any growth.

@@ -1,6 +1,8 @@
 //! Messages by calls: what goes along, and what a refusal hands back.
-use crate::answers::Answer::{Block, Message, No, Number, Two};
-use crate::answers::Call::{Alloc, Exit, Free, Give, Open, Read, Spawn, Take, TakeWait, Wire};
+use crate::answers::Answer::{Block, Message, No, Number, Sums as SumsOf, Two};
+use crate::answers::Call::{
+    Alloc, Exit, Free, Give, Open, Read, Spawn, Sums, Take, TakeWait, Wire,
+};
 use crate::answers::{Answer, Call, assert_answers, heap_of};
 use crate::heaps::small;
 use std::alloc::Global;
@@ -37,15 +39,10 @@ fn a_block_goes_along(rt: HostRuntime) {
     const CALLS: &[(Call, Answer)] = &[
         (Give(0, 0, 7, &[2]), Number(1)),
         (Free(0, 2), No("NotOwned")),
+        (Take(1, 1), Message(1, 7, 1)),
+        (Free(1, 2), Number(16)),
     ];
-    let mut heap = wired(&rt, rt.alloc());
-    assert_answers(&rt, &mut heap, rt.alloc(), CALLS);
-    let taken = heap.take(1, 1).expect(&rt, "a message");
-    assert_eq!(rt; (taken.no, taken.tag, taken.blocks.len()), (1, 7, 1));
-    for block in taken.blocks.as_slice() {
-        assert_eq!(rt; (block.rec, block.len), (2, 16));
-    }
-    assert_answers(&rt, &mut heap, rt.alloc(), &[(Free(1, 2), Number(16))]);
+    assert_wired(&rt, rt.alloc(), CALLS);
 }
 
 #[test]
@@ -88,11 +85,9 @@ fn refusals_of_give(rt: HostRuntime) {
         (Take(1, 1), Message(1, 1, 0)),
         (Take(1, 1), No("Empty")),
         (Open(0, 9), No("NoArena")),
+        (Sums, SumsOf(80, 0, 80)),
     ];
-    let mut heap = wired(&rt, rt.alloc());
-    assert_answers(&rt, &mut heap, rt.alloc(), CALLS);
-    let ledger = heap.ledger();
-    assert_eq!(rt; (ledger.owned, ledger.flight, ledger.out), (80, 0, 80));
+    assert_wired(&rt, rt.alloc(), CALLS);
 }
 
 /// Where more than one refusal applies, the first in the order is answered.

@@ -1,9 +1,9 @@
 //! Processes start, and places and the ledger are looked at.
-use crate::answers::Answer::{Block, No, Number, Place};
-use crate::answers::Call::{Alloc, Exit, Free, Glance, Kill, Spawn};
-use crate::answers::{
-    Answer, Call, assert_answers, assert_ledger, assert_on, first_place, heap_of,
+use crate::answers::Answer::{
+    Arena as ArenaLine, Block, Line as PlaceLine, No, Number, Place, Sums as SumsOf,
 };
+use crate::answers::Call::{Alloc, Arena, Exit, Free, Glance, Kill, Line, Spawn, Sums};
+use crate::answers::{Answer, Call, assert_on, heap_of};
 use crate::heaps::small;
 use xh_core::Status::{Running, Vacant};
 use xh_core::{Refused, State};
@@ -50,25 +50,27 @@ fn glances(rt: HostRuntime) {
 /// One process with a block of 40 bytes, rounded up to 48.
 #[test]
 fn first_alloc(rt: HostRuntime) {
-    let mut heap = heap_of(&rt, rt.alloc(), small());
-    assert_answers(
-        &rt,
-        &mut heap,
-        rt.alloc(),
-        &[(Spawn, Number(0)), (Alloc(0, 40, 0), Block(0, 48))],
-    );
-    let ledger = heap.ledger();
-    assert_ledger(&rt, &ledger, (256, 48, 1, 48, 0), (48, 0, 48));
-    let running = Some((0, 0, State::Running, 1, 48));
-    assert_eq!(rt; (ledger.places.len(), first_place(&ledger)), (1, running));
+    const CALLS: &[(Call, Answer)] = &[
+        (Spawn, Number(0)),
+        (Alloc(0, 40, 0), Block(0, 48)),
+        (Arena(0), ArenaLine(256, 48, 1, 48, 0)),
+        (Arena(1), Answer::None),
+        (Line(0), PlaceLine(0, 0, State::Running, 1, 48)),
+        (Line(1), Answer::None),
+        (Sums, SumsOf(48, 0, 48)),
+    ];
+    assert_on(&rt, rt.alloc(), small(), CALLS);
 }
 
 #[test]
 fn an_empty_ledger(rt: HostRuntime) {
-    let heap = heap_of(&rt, rt.alloc(), small());
-    let ledger = heap.ledger();
-    assert_ledger(&rt, &ledger, (256, 0, 1, 0, 0), (0, 0, 0));
-    assert_eq!(rt; first_place(&ledger), None);
+    const CALLS: &[(Call, Answer)] = &[
+        (Arena(0), ArenaLine(256, 0, 1, 0, 0)),
+        (Arena(1), Answer::None),
+        (Line(0), Answer::None),
+        (Sums, SumsOf(0, 0, 0)),
+    ];
+    assert_on(&rt, rt.alloc(), small(), CALLS);
 }
 
 /// Processes that start and end in turn: each place's generations one after the other, and then

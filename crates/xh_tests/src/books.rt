@@ -3,11 +3,12 @@ ghost use Rattle.std.specs.Prelude.{◌≡◌};
 
 use std::alloc::Global;
 use std::marker::Brand;
+use std::process::Abort;
 use std::sync::Wait;
 use std::test::Fail;
 use xh_books::close_books;
 use xh_core::{Config, Ledger, Refused, State};
-use xh_kernel::{Kernel, Names, Parts};
+use xh_kernel::{Account, Kernel, Names, Parts};
 use xh_place::OpenGate;
 
 // How many accounts a new kernel gives, and its ledger where it is settled at once.
@@ -51,20 +52,30 @@ fn empty_kernel(rt: HostRuntime) -> Result<(), Fail> {
     Ok(())
 }
 
-// The ledger of a kernel in which a process has a block of 48 bytes and gave another of 16 back.
+// A process gets a block of 48 bytes, and another of 16, which it gives back.
+fn use_some<N: Names, R: Wait>(
+    rt: &R,
+    alloc: Global,
+    kernel: &Kernel<N>,
+    accounts: &mut [Account<N>],
+) -> Result<(), Refused> {
+    let Some(account) = accounts.first_mut() else {
+        return Err(Refused::NoPlace);
+    };
+    let p = kernel.spawn(rt, &OpenGate)?;
+    kernel.alloc(rt, alloc, p, 48, 0, account, &OpenGate)?;
+    let other = kernel.alloc(rt, alloc, p, 16, 0, account, &OpenGate)?;
+    kernel.free(rt, p, other.rec, account, &OpenGate)?;
+    Ok(())
+}
+
+// The ledger of a kernel that was used so.
 fn close_used<N: Names, R: Wait>(rt: &R, alloc: Global, parts: Parts) -> Result<Ledger, Refused>
     requires { parts ≡ N.parts }
 {
     let (kernel, mut accounts, _looks) = Kernel::<N>::new(alloc, parts)?;
     let count = accounts.len();
-    let Some(mut account) = accounts.pop() else {
-        return Err(Refused::NoPlace);
-    };
-    let p = kernel.spawn(rt, &OpenGate)?;
-    kernel.alloc(rt, alloc, p, 48, 0, &mut account, &OpenGate)?;
-    let other = kernel.alloc(rt, alloc, p, 16, 0, &mut account, &OpenGate)?;
-    kernel.free(rt, p, other.rec, &mut account, &OpenGate)?;
-    accounts.push(account)?;
+    use_some(rt, alloc, &kernel, accounts.as_mut_slice())?;
     if accounts.len() != count {
         return Err(Refused::NoPlace);
     }
@@ -78,16 +89,8 @@ fn close_one<R: Wait>(rt: &R, alloc: Global) -> Result<Ledger, Refused> {
     close_used::<Brand, R>(rt, alloc, parts)
 }
 
-/// With a growth refused, whichever it is, there is no ledger, and that of the next kernel is exact.
-#[test]
-fn growths_of_a_ledger(rt: HostRuntime) -> Result<(), Fail> {
-    let books = match close_one(&rt, rt.alloc()) {
-        Ok(books) => books,
-        Err(refused) => {
-            assert!(rt; matches!(refused, Refused::OutOfMemory));
-            close_one(&rt, rt.alloc())?
-        }
-    };
+// The books of a kernel that was used so.
+fn assert_books(rt: &impl Abort, books: &Ledger) {
     assert_eq!(rt; (books.arenas.len(), books.places.len()), (1, 1));
     for arena in books.arenas.as_slice() {
         assert_eq!(rt; (arena.size, arena.out, arena.holes), (256, 48, 1));
@@ -98,5 +101,18 @@ fn growths_of_a_ledger(rt: HostRuntime) -> Result<(), Fail> {
         assert!(rt; place.state == State::Running);
     }
     assert_eq!(rt; (books.owned, books.flight, books.out), (48, 0, 48));
+}
+
+/// With a growth refused, whichever it is, there is no ledger, and that of the next kernel is exact.
+#[test]
+fn growths_of_a_ledger(rt: HostRuntime) -> Result<(), Fail> {
+    let books = match close_one(&rt, rt.alloc()) {
+        Ok(books) => books,
+        Err(refused) => {
+            assert!(rt; matches!(refused, Refused::OutOfMemory));
+            close_one(&rt, rt.alloc())?
+        }
+    };
+    assert_books(&rt, &books);
     Ok(())
 }

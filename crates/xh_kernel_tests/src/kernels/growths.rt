@@ -7,8 +7,10 @@ use super::{Case, waiting_of, with_kernel};
 use std::alloc::Global;
 use std::process::Abort;
 use std::sync::Wait;
+use xh_arena::Vault;
 use xh_core::{Refused, Status};
 use xh_kernel::Names;
+use xh_place::Place as PlaceOf;
 
 /// Makes each call, and compares what it answers. Where a growth is refused nothing has changed, and the same call
 /// then answers as if it had been the first.
@@ -25,6 +27,14 @@ fn assert_again<N: Names, R: Wait + Abort>(
         }
         assert_eq!(rt; answered, *expected, "call {at}");
     }
+}
+
+/// What is left of them.
+fn assert_left(rt: &impl Abort, vaults: &[Vault], places: &[PlaceOf]) {
+    assert_eq!(rt; (vaults.len(), places.len()), (1, 32));
+    assert_eq!(rt; (vaults[0].wear(), vaults[0].handed_out()), (256, 48));
+    assert_eq!(rt; vaults[0].holes().len(), 1);
+    assert_eq!(rt; places[0].total(), 48);
 }
 
 /// Two blocks fill the arena, and the first is cut. Then the kernel is taken apart.
@@ -47,10 +57,7 @@ pub fn growths<N: Names, R: Wait + Abort>(
     ];
     assert_again(rt, alloc, &mut bench, CALLS);
     let (vaults, places, _records) = bench.kernel.settle(alloc)?;
-    assert_eq!(rt; (vaults.len(), places.len()), (1, 32));
-    assert_eq!(rt; (vaults[0].wear(), vaults[0].handed_out()), (256, 48));
-    assert_eq!(rt; vaults[0].holes().len(), 1);
-    assert_eq!(rt; places[0].total(), 48);
+    assert_left(rt, &vaults, &places);
     Ok(())
 }
 

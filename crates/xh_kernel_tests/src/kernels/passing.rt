@@ -74,6 +74,25 @@ fn take_ten<N: Names, R: Wait>(rt: &R, kernel: &Kernel<N>, q: u16, f: u16) -> Re
 }
 
 // Whether all were given, and how many came as they should.
+fn pass_on<N: Names + Send + Sync, R: Threads + Wait + Sync>(
+    rt: &R,
+    alloc: Global,
+    bench: &mut Bench<N>,
+) -> Result<(bool, u64), Refused> {
+    let p = bench.spawn(rt)?;
+    let q = bench.spawn(rt)?;
+    let (e, f) = bench.wire(rt, p, q)?;
+    let kernel = &bench.kernel;
+    let account = &mut bench.account;
+    let (given, came) = thread::join(
+        rt,
+        || give_ten(rt, alloc, kernel, account, p, e).is_ok(),
+        || take_ten(rt, kernel, q, f),
+    );
+    Ok((given, came?))
+}
+
+// The same over a kernel of these parts.
 fn pass_ten<N: Names + Send + Sync, R: Threads + Wait + Sync>(
     rt: &R,
     alloc: Global,
@@ -82,20 +101,7 @@ fn pass_ten<N: Names + Send + Sync, R: Threads + Wait + Sync>(
     requires { parts ≡ N.parts }
 {
     let mut bench = bench_of::<N>(alloc, parts)?;
-    let p = bench.spawn(rt)?;
-    let q = bench.spawn(rt)?;
-    let (e, f) = bench.wire(rt, p, q)?;
-    let Bench {
-        kernel,
-        mut account,
-        look: _,
-    } = bench;
-    let (given, came) = thread::join(
-        rt,
-        || give_ten(rt, alloc, &kernel, &mut account, p, e).is_ok(),
-        || take_ten(rt, &kernel, q, f),
-    );
-    Ok((given, came?))
+    pass_on(rt, alloc, &mut bench)
 }
 
 // As `pass_ten`, over a new kernel.

@@ -9,8 +9,8 @@ use std::sync::Wait;
 use std::test::Fail;
 use xh_arena::Vault;
 use xh_core::{Refused, Status};
-use xh_kernel::Names;
-use xh_place::{OpenGate, Place};
+use xh_kernel::{Kernel, Names};
+use xh_place::Place;
 
 /// A look sees each change of a place once the call that made it has answered.
 #[test]
@@ -58,6 +58,19 @@ fn assert_settled(rt: &impl Abort, vaults: &[Vault], places: &[Place], count: us
     }
 }
 
+/// The places of a kernel that is taken apart, once its vaults were compared.
+fn settle_to<N: Names>(
+    rt: &impl Abort,
+    alloc: Global,
+    kernel: Kernel<N>,
+    arenas: usize,
+    bytes: u32,
+) -> Result<Vec<Place>, Refused> {
+    let (vaults, places, _records) = kernel.settle(alloc)?;
+    assert_settled(rt, &vaults, &places, arenas, bytes);
+    Ok(places)
+}
+
 /// What a kernel gives, taken apart.
 pub fn settling<N: Names, R: Wait + Abort>(
     rt: &R,
@@ -72,8 +85,7 @@ pub fn settling<N: Names, R: Wait + Abort>(
         account,
         look: _,
     } = bench;
-    let (vaults, places, _records) = kernel.settle(alloc)?;
-    assert_settled(rt, &vaults, &places, 8, 32);
+    let _places = settle_to(rt, alloc, kernel, 8, 32)?;
     assert_eq!(rt; account.into_tallies().len(), 8);
     Ok(())
 }
@@ -89,8 +101,7 @@ pub fn settling_without_processes<N: Names, R: Wait + Abort>(
         account,
         look: _,
     } = bench;
-    let (vaults, places, _records) = kernel.settle(alloc)?;
-    assert_settled(rt, &vaults, &places, 1, 0);
+    let places = settle_to(rt, alloc, kernel, 1, 0)?;
     assert!(rt; places.iter().all(|place| place.state() == Status::Vacant));
     assert_eq!(rt; account.into_tallies().len(), 1);
     Ok(())

@@ -131,21 +131,18 @@ fn round<N: Names + Send + Sync, R: Threads + Wait + Sync>(
 }
 
 // How often the waiting process answered so, in 64 rounds over one kernel, which has a channel for each; 0 where not all bytes came back.
-fn rounds_over<N: Names + Send + Sync, R: Threads + Wait + Sync>(
+fn rounds_on<N: Names + Send + Sync, R: Threads + Wait + Sync>(
     rt: &R,
     alloc: Global,
-    parts: Parts,
+    bench: &mut Bench<N>,
     ender: Ender,
     want: u64,
-) -> Result<u64, Refused>
-    requires { parts ≡ N.parts }
-{
-    let mut bench = bench_of::<N>(alloc, parts)?;
+) -> Result<u64, Refused> {
     let mut seed = 1u64;
     let mut count = 0u64;
     for _ in 0..64 {
         seed = drawn(seed);
-        let answer = round(rt, alloc, &mut bench, ender, seed >> 20)?;
+        let answer = round(rt, alloc, bench, ender, seed >> 20)?;
         if answer == want {
             count = count.wrapping_add(1);
         }
@@ -158,6 +155,20 @@ fn rounds_over<N: Names + Send + Sync, R: Threads + Wait + Sync>(
         return Ok(0);
     }
     Ok(count)
+}
+
+// The same over a kernel of these parts.
+fn rounds_over<N: Names + Send + Sync, R: Threads + Wait + Sync>(
+    rt: &R,
+    alloc: Global,
+    parts: Parts,
+    ender: Ender,
+    want: u64,
+) -> Result<u64, Refused>
+    requires { parts ≡ N.parts }
+{
+    let mut bench = bench_of::<N>(alloc, parts)?;
+    rounds_on(rt, alloc, &mut bench, ender, want)
 }
 
 // How often the waiting process answered so, in 2,048 rounds.

@@ -85,6 +85,18 @@ fn spawn_two<N: Names, R: Wait>(rt: &R, kernel: &Kernel<N>) -> Result<(u16, u16)
 }
 
 // Whether such a wire is refused, and what it took and gave back.
+fn wire_on<N: Names + Send + Sync, R: Threads + Wait + Sync>(
+    rt: &R,
+    kernel: &Kernel<N>,
+    mine: &mut Account<N>,
+    other: &mut Account<N>,
+) -> Result<(bool, Option<(u64, u64)>), Refused> {
+    let (p, q) = spawn_two(rt, kernel)?;
+    let wired = wire_late(rt, kernel, p, q, mine, other);
+    Ok((matches!(wired, Err(Refused::Ended)), mine.moved(0)))
+}
+
+// The same over a kernel of these parts.
 fn wire_over<N: Names + Send + Sync, R: Threads + Wait + Sync>(
     rt: &R,
     alloc: Global,
@@ -96,12 +108,10 @@ fn wire_over<N: Names + Send + Sync, R: Threads + Wait + Sync>(
     let (Some(mut other), Some(mut mine)) = (accounts.pop(), accounts.pop()) else {
         return Ok((false, None));
     };
-    let (p, q) = spawn_two(rt, &kernel)?;
-    let wired = wire_late(rt, &kernel, p, q, &mut mine, &mut other);
-    Ok((matches!(wired, Err(Refused::Ended)), mine.moved(0)))
+    wire_on(rt, &kernel, &mut mine, &mut other)
 }
 
-// Whether such a wire over a new kernel is refused, and what it took and gave back.
+// The same over a new kernel.
 fn wire_to_one_that_ends<R: Threads + Wait + Sync>(
     rt: &R,
     alloc: Global,
