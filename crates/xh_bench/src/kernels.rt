@@ -60,16 +60,16 @@ pub(crate) fn config() -> Config {
 
 /// A kernel, and the accounts of the threads that have no process yet.
 #[derive(Drop)]
-struct Crew<'a, N: Names, R> {
-    rt: &'a R,
-    alloc: Global,
-    kernel: &'a Kernel<N>,
-    accounts: Vec<Account<N>>,
+pub(crate) struct Crew<'a, N: Names, R> {
+    pub(crate) rt: &'a R,
+    pub(crate) alloc: Global,
+    pub(crate) kernel: &'a Kernel<N>,
+    pub(crate) accounts: Vec<Account<N>>,
 }
 
 impl<'a, N: Names, R: Wait> Crew<'a, N, R> {
-    // A new process.
-    fn player(&mut self) -> Result<Player<'a, N, R>, Failure> {
+    /// A new process.
+    pub(crate) fn player(&mut self) -> Result<Player<'a, N, R>, Failure> {
         let Some(account) = self.accounts.pop() else {
             return Err(Failure::Astray);
         };

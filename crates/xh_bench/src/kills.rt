@@ -2,7 +2,7 @@
 ghost use Rattle.std.specs.Prelude.{◌≡◌};
 
 use crate::failure::Failure;
-use crate::kernels::config;
+use crate::kernels::{Crew, config};
 use crate::player::Player;
 use crate::timer::{Pace, RUN_MILLIS, RUNS};
 use std::alloc::Global;
@@ -38,15 +38,15 @@ fn kill_one<N: Names, R: Wait + Clock>(
     Ok(taken)
 }
 
-// As many kills as a kernel has channels: how long they took.
+// As many kills as a kernel has channels, by one process: how long they took.
 fn kill_all<N: Names, R: Wait + Clock>(
-    rt: &R,
-    peer: &mut Player<N, R>,
+    crew: &mut Crew<N, R>,
     blocks: u16,
 ) -> Result<Duration, Failure> {
+    let mut peer = crew.player()?;
     let mut taken = Duration::ZERO;
     for _ in 0..KILLS {
-        taken = taken.saturating_add(kill_one(rt, peer, blocks)?);
+        taken = taken.saturating_add(kill_one(crew.rt, &mut peer, blocks)?);
     }
     Ok(taken)
 }
@@ -60,12 +60,14 @@ fn kill_named<N: Names, R: Wait + Clock>(
 ) -> Result<Duration, Failure>
     requires names { parts ≡ N.parts }
 {
-    let (kernel, mut accounts, _looks) = Kernel::<N>::new(alloc, parts)?;
-    let Some(account) = accounts.pop() else {
-        return Err(Failure::Astray);
+    let (kernel, accounts, _looks) = Kernel::<N>::new(alloc, parts)?;
+    let mut crew = Crew {
+        rt,
+        alloc,
+        kernel: &kernel,
+        accounts,
     };
-    let mut peer = Player::new(rt, alloc, &kernel, account)?;
-    kill_all(rt, &mut peer, blocks)
+    kill_all(&mut crew, blocks)
 }
 
 // The same by a new kernel.

@@ -51,8 +51,8 @@ fn tell<R: Threads + Wait + Clock + CpuClock + Print + Sync>(
 ) -> Result<u32, Failure> {
     let mut told = 0u32;
     for (name, measure) in MEASURES {
-        if word == "all" || word == name {
-            tell_one(rt, alloc, name, measure)?;
+        if word == "all" || word == *name {
+            tell_one(rt, alloc, name, *measure)?;
             told = told.saturating_add(1);
         }
     }

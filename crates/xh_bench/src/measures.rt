@@ -51,7 +51,7 @@ pub(crate) enum Yardstick {
 }
 
 /// Each measure by its name.
-pub(crate) const MEASURES: [(&str, Measure); 54] = [
+pub(crate) const MEASURES: &[(&str, Measure)] = &[
     ("arena_carve_give_back", Measure::Arena),
     ("vault_carve_give_back", Measure::Vault),
     ("claim_vacate_0", Measure::Claim(0)),

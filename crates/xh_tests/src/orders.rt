@@ -58,13 +58,13 @@ fn told(play: &Play, written: &Written) -> Result<String, AllocError> {
     Ok(text)
 }
 
-// Runs a script on threads and looks for the order; whether the search came to an end.
-fn has_order<R: Abort + Threads + Wait + Sync>(
+// Runs a script on threads: what was written.
+fn written_of<R: Threads + Wait + Sync>(
     rt: &R,
     alloc: Global,
     play: &Play,
     seed: u64,
-) -> Result<bool, Fail> {
+) -> Result<Written, Fail> {
     let text = text_of(play)?;
     let script = read_script(alloc, text.as_bytes())?;
     let workers = if play.heads == 3 { 2 } else { 3 };
@@ -74,7 +74,17 @@ fn has_order<R: Abort + Threads + Wait + Sync>(
     let mut ledger = Vec::new(alloc);
     let mut writer = Watched::new(&mut ledger);
     write_ledger(&mut writer, &report.ledger, &report.names)?;
-    let written = Written { replies, ledger };
+    Ok(Written { replies, ledger })
+}
+
+// Runs a script on threads and looks for the order; whether the search came to an end.
+fn has_order<R: Abort + Threads + Wait + Sync>(
+    rt: &R,
+    alloc: Global,
+    play: &Play,
+    seed: u64,
+) -> Result<bool, Fail> {
+    let written = written_of(rt, alloc, play, seed)?;
     let found = find_order(alloc, play, &written)?;
     let text = told(play, &written)?;
     assert!(rt; found != Found::No, "no order for\n{text}");
