@@ -1,10 +1,11 @@
 //! Scripts with a fault, one line of each form, and reading without memory.
 use std::alloc::{AllocError, Global};
+use std::process::Abort;
 use std::test::Fail;
-use xh_script::{Fault, Kind, read_script};
+use xh_script::{Fault, Kind, Line, Script, read_script};
 
 /// Scripts with the line and the kind of their fault; the common ones are tested with the program.
-const FAULTY: [(&str, u32, Kind); 13] = [
+const FAULTY: &[(&str, u32, Kind)] = &[
     ("process a ", 1, Kind::BadWord),
     ("contract contract 0:1:0:1", 1, Kind::BadWord),
     ("a alloc", 1, Kind::BadCount),
@@ -32,6 +33,7 @@ const FAULTY: [(&str, u32, Kind); 13] = [
 fn faulty_scripts(rt: HostRuntime) {
     for (script, line, kind) in FAULTY {
         let fault = read_script(rt.alloc(), script.as_bytes()).err();
+        let (line, kind) = (*line, *kind);
         assert!(rt; fault == Some(Fault::Script { line, kind }), "at {script}");
     }
 }
@@ -81,7 +83,7 @@ const FORMS: &str = "# forms\n\ncontract k 0:1:0:1 1:2:1:0\nprocess a\nprocess b
      a close e\na exit\na exit 1\nb kill a\nb kill c 4096\nc glance a\nb again";
 
 /// What these lines are, with numbers for their names.
-const COMMANDS: [(u32, &str); 22] = [
+const COMMANDS: &[(u32, &str)] = &[
     (3, "Contract [Contract(0)]"),
     (4, "Process [Process(0)]"),
     (5, "Process [Process(1)]"),
@@ -121,25 +123,36 @@ const COMMANDS: [(u32, &str); 22] = [
     (24, "Again [Process(1)]"),
 ];
 
-#[test]
-fn one_line_of_each_form(rt: HostRuntime) -> Result<(), Fail> {
-    let alloc = rt.alloc();
-    let script = match read_script(alloc, FORMS.as_bytes()) {
-        Ok(script) => script,
-        Err(fault) => {
-            // Where a growth was refused, nothing else is told.
-            assert!(rt; fault == Fault::Memory);
-            return Ok(());
-        }
-    };
+/// The line has this number, and its command is this.
+fn assert_line(
+    rt: &impl Abort,
+    alloc: Global,
+    line: &Line,
+    number: u32,
+    command: &str,
+) -> Result<(), AllocError> {
+    assert_eq!(rt; line.number, number);
+    let text = format!(in alloc; "{:?} {:?}", line.command.form, line.command.words)?;
+    assert!(rt; text.as_str() == command, "{text}");
+    Ok(())
+}
+
+/// The script is that of all forms.
+fn assert_forms(rt: &impl Abort, alloc: Global, script: &Script) -> Result<(), AllocError> {
     assert_eq!(rt; script.lines.len(), COMMANDS.len());
     for (line, (number, command)) in script.lines.iter().zip(COMMANDS) {
-        assert_eq!(rt; line.number, number);
-        let said = &line.command;
-        let text = format!(in alloc; "{:?} {:?}", said.form, said.words)?;
-        assert!(rt; text.as_str() == command, "{text}");
+        assert_line(rt, alloc, line, *number, command)?;
     }
-    assert_eq!(rt; script.processes.len(), 3);
-    assert_eq!(rt; script.contracts.len(), 1);
+    assert_eq!(rt; (script.processes.len(), script.contracts.len()), (3, 1));
+    Ok(())
+}
+
+#[test]
+fn one_line_of_each_form(rt: HostRuntime) -> Result<(), Fail> {
+    match read_script(rt.alloc(), FORMS.as_bytes()) {
+        Ok(script) => assert_forms(&rt, rt.alloc(), &script)?,
+        // Where a growth was refused, nothing else is told.
+        Err(fault) => assert!(rt; fault == Fault::Memory),
+    }
     Ok(())
 }

@@ -5,12 +5,26 @@ ghost use Rattle.xh_picture.specs.Documents.{IsPicture};
 ghost use Rattle.xh_script.specs.Watching.{WritesOrFails};
 ghost use Rattle.xheap_picture.specs.Drawn.{Drawn, Undrawn};
 
-use std::alloc::Global;
+use std::alloc::{AllocError, Global};
 use std::io::{Read, Write};
 use xh_core::Config;
 use xh_picture::{History, draw};
 use xh_runner::{Stage, read_text};
-use xh_script::{Fault, Script, Watched, read_script, write_bytes};
+use xh_script::{Fault, Line, Script, Watched, read_script, write_bytes};
+
+/// Does these commands, and notes what each did.
+fn note_all(
+    alloc: Global,
+    stage: &mut Stage,
+    history: &mut History,
+    lines: &[Line],
+) -> Result<(), AllocError> {
+    for line in lines {
+        let answered = stage.step(alloc, line)?;
+        history.note(stage.machine(), stage.latest(), line, answered)?;
+    }
+    Ok(())
+}
 
 /// Does the commands of a script on the serial machine, and notes what each did.
 fn play(alloc: Global, config: Config, script: &Script) -> Result<History, Fault>
@@ -19,10 +33,7 @@ fn play(alloc: Global, config: Config, script: &Script) -> Result<History, Fault
     let arenas = config.arenas;
     let mut stage = Stage::new(alloc, config, &script.contracts)?;
     let mut history = History::new(alloc, arenas)?;
-    for line in &script.lines {
-        let answered = stage.step(alloc, line)?;
-        history.note(stage.machine(), stage.latest(), line, answered)?;
-    }
+    note_all(alloc, &mut stage, &mut history, &script.lines)?;
     Ok(history)
 }
 
