@@ -13,28 +13,28 @@ use xh_runner::{Stage, read_text};
 use xh_script::{Fault, Line, Script, Watched, read_script, write_bytes};
 
 /// Does these commands, and notes what each did.
-fn note_all(
+fn history_of(
     alloc: Global,
     stage: &mut Stage,
-    history: &mut History,
+    arenas: u8,
     lines: &[Line],
-) -> Result<(), AllocError> {
+) -> Result<History, AllocError> {
+    let mut history = History::new(alloc, arenas)?;
     for line in lines {
         let answered = stage.step(alloc, line)?;
         history.note(stage.machine(), stage.latest(), line, answered)?;
     }
-    Ok(())
+    Ok(history)
 }
 
 /// Does the commands of a script on the serial machine, and notes what each did.
 fn play(alloc: Global, config: Config, script: &Script) -> Result<History, Fault>
     ensures { IfErr result (λ e. ((e ≡ Fault.BadConfig) × ¬ IsConfig config) ⊎ (e ≡ Fault.Memory)) }
 {
-    let arenas = config.arenas;
     let mut stage = Stage::new(alloc, config, &script.contracts)?;
-    let mut history = History::new(alloc, arenas)?;
-    note_all(alloc, &mut stage, &mut history, &script.lines)?;
-    Ok(history)
+    let history = history_of(alloc, &mut stage, config.arenas, &script.lines);
+    drop(stage);
+    Ok(history?)
 }
 
 /// The picture of a script, of which this is the text.
