@@ -34,15 +34,25 @@ fn assert_wired(rt: &impl Abort, alloc: Global, calls: &[(Call, Answer)]) {
     assert_answers(rt, &mut heap, alloc, calls);
 }
 
+/// The first message to the process 1 has the tag 7 and the block 2, with its length.
+fn assert_brings_the_block(rt: &impl Abort, heap: &mut Serial) {
+    let taken = heap.take(1, 1).expect(rt, "a message");
+    assert_eq!(rt; (taken.no, taken.tag, taken.blocks.len()), (1, 7, 1));
+    for block in taken.blocks.as_slice() {
+        assert_eq!(rt; (block.rec, block.len), (2, 16));
+    }
+}
+
 #[test]
 fn a_block_goes_along(rt: HostRuntime) {
     const CALLS: &[(Call, Answer)] = &[
         (Give(0, 0, 7, &[2]), Number(1)),
         (Free(0, 2), No("NotOwned")),
-        (Take(1, 1), Message(1, 7, 1)),
-        (Free(1, 2), Number(16)),
     ];
-    assert_wired(&rt, rt.alloc(), CALLS);
+    let mut heap = wired(&rt, rt.alloc());
+    assert_answers(&rt, &mut heap, rt.alloc(), CALLS);
+    assert_brings_the_block(&rt, &mut heap);
+    assert_answers(&rt, &mut heap, rt.alloc(), &[(Free(1, 2), Number(16))]);
 }
 
 #[test]
