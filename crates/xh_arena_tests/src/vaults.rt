@@ -1,9 +1,11 @@
 //! A vault's calls with figures.
-mod answers;
+mod hand;
 
-use answers::Answer::{At, Bytes, Done, Has, No};
-use answers::Call::{Audit, Books, Carve, Cut, GiveBack, Moved};
-use answers::{Answer, Call, Hand, assert_answers, dealt};
+use crate::answers::Answer;
+use crate::answers::Answer::{At, Bytes, Has, No, Nothing, Number, Run};
+use hand::Call::{Audit, Books, Carve, Cut, GiveBack, Hole, Mark, Moved, Records, Sees, Size};
+use hand::{Call, assert_answers, assert_on, collect, dealt};
+use std::alloc::Global;
 use std::process::Abort;
 use xh_arena::{Fits, Lot, Refused, Tally, Vault};
 
@@ -28,25 +30,18 @@ fn worn_vault(rt: HostRuntime) {
         (0, Audit, Has(0, None, 0)),
         (1, Audit, Has(1, None, 0)),
         (0, Carve(64), At(0)),
-        (0, GiveBack, Done),
+        (0, GiveBack, Nothing),
         (1, Carve(32), No(Refused::Worn)),
         (0, Moved, Bytes(64, 64)),
         (1, Moved, Bytes(0, 0)),
         (0, Books, Bytes(64, 0)),
+        (0, Size, Number(64)),
+        (0, Hole(0), Run(0, 64)),
+        (0, Hole(1), Nothing),
     ];
     let mut hand = dealt(&rt, rt.alloc());
     assert_answers(&rt, &mut hand, CALLS);
-    let Hand {
-        mut vault,
-        one,
-        two,
-        ..
-    } = hand;
-    assert_eq!(rt; vault.size(), 64);
-    assert_eq!(rt; vault.holes(), [(0, 64)].as_slice());
-    let _name = vault.name();
-    vault.collect(one);
-    vault.collect(two);
+    collect(hand);
 }
 
 /// To the last byte of its limit a vault carves; then it is worn where there is a hole, and has no space where there
@@ -58,48 +53,40 @@ fn carved_to_its_limit(rt: HostRuntime) {
         (1, Carve(16), No(Refused::NoSpace)),
         (1, Audit, Has(1, None, 0)),
         (1, Moved, Bytes(0, 0)),
-        (0, GiveBack, Done),
+        (0, GiveBack, Nothing),
         (1, Carve(16), At(0)),
         (0, Carve(16), No(Refused::Worn)),
         (0, Audit, Has(0, None, 0)),
         (0, Moved, Bytes(64, 64)),
         (0, Books, Bytes(80, 16)),
+        (0, Records, Number(4)),
     ];
-    let mut hand = dealt(&rt, rt.alloc());
-    assert_answers(&rt, &mut hand, CALLS);
-    assert_eq!(rt; hand.vault.records(), 4);
+    assert_on(&rt, rt.alloc(), CALLS);
 }
 
 #[test]
 fn a_lot_is_cut(rt: HostRuntime) {
     const CALLS: &[(u8, Call, Answer)] = &[
         (0, Carve(48), At(0)),
-        (0, Cut(16), Done),
+        (0, Cut(16), Nothing),
         (0, Audit, Has(0, Some((0, 16)), 16)),
         (1, Audit, Has(1, Some((16, 32)), 32)),
+        (0, Mark(3), Nothing),
+        (0, Sees(16), Number(3)),
     ];
-    let mut hand = dealt(&rt, rt.alloc());
-    assert_answers(&rt, &mut hand, CALLS);
-    let Hand { mut first, .. } = hand;
-    first.body_mut().seen = 3;
-    assert_eq!(rt; first.body().seen, 3);
-    assert!(rt; first.body().fits(16));
+    assert_on(&rt, rt.alloc(), CALLS);
+}
+
+/// Why no vault for so many workers is made.
+fn refusal(alloc: Global, workers: u8) -> Option<Refused> {
+    Vault::new::<Any>(alloc, 64, 4, 80, workers).err()
 }
 
 #[test]
 fn workers_are_1_to_33(rt: HostRuntime) {
-    assert!(rt;
-        matches!(
-            Vault::new::<Any>(rt.alloc(), 64, 4, 80, 0),
-            Err(Refused::BadSize)
-        )
-    );
-    assert!(rt;
-        matches!(
-            Vault::new::<Any>(rt.alloc(), 64, 4, 80, 34),
-            Err(Refused::BadSize)
-        )
-    );
+    for workers in [0, 34] {
+        assert_eq!(rt; refusal(rt.alloc(), workers), Some(Refused::BadSize));
+    }
 }
 
 /// Each lot is empty, and of the record of its place.
@@ -133,18 +120,24 @@ fn assert_new(rt: &impl Abort, vault: &Vault, lots: &[Lot<Any>], tallies: &[Tall
     assert_unmoved(rt, tallies);
 }
 
+/// Makes a vault and looks at it, unless a growth was refused.
+fn is_made(rt: &impl Abort, alloc: Global) -> bool {
+    match Vault::new::<Any>(alloc, 64, 4, 80, 2) {
+        Ok((vault, lots, tallies)) => {
+            assert_new(rt, &vault, &lots, &tallies);
+            true
+        }
+        Err(refused) => {
+            assert_eq!(rt; refused, Refused::OutOfMemory);
+            false
+        }
+    }
+}
+
 /// Where one growth is refused, whichever it is, one of two calls is out of memory, and the other makes a whole vault.
 #[test]
 fn growths_of_new(rt: HostRuntime) {
-    let mut refused_before = false;
-    for _ in 0..2 {
-        match Vault::new::<Any>(rt.alloc(), 64, 4, 80, 2) {
-            Ok((vault, lots, tallies)) => assert_new(&rt, &vault, &lots, &tallies),
-            Err(refused) => {
-                assert_eq!(rt; refused, Refused::OutOfMemory);
-                assert!(rt; !refused_before);
-                refused_before = true;
-            }
-        }
-    }
+    let first = is_made(&rt, rt.alloc());
+    let second = is_made(&rt, rt.alloc());
+    assert!(rt; first || second);
 }

@@ -1,10 +1,11 @@
-//! Calls on a vault and what they answer, to be compared.
+//! Calls on a vault with its first lots and tallies, and what they answer.
 ghost use Rattle.std.specs.Prelude.{◌≡◌, ◌≤◌, Some, length, slice_get};
 
 use super::Any;
+use crate::answers::{Answer, assert_answer, of_run, of_start};
 use std::alloc::Global;
 use std::process::Abort;
-use xh_arena::{Lot, Refused, Tally, Vault};
+use xh_arena::{Fits, Lot, Tally, Vault};
 
 /// A vault with its first two lots, one for each of two workers, and their tallies.
 #[derive(Drop)]
@@ -18,8 +19,9 @@ pub struct Hand {
     ghost tallies: { (one.id ≡ vault.id) × (two.id ≡ vault.id) },
 }
 
-/// A call by a worker with its lot: a cut's tail is the lot of the other. `Books` asks for the bytes that were ever
-/// handed out and those that are.
+/// A call by a worker with its lot: a cut's tail is the lot of the other. `Hole` asks for the hole that stands so far
+/// along, `Books` for the bytes that were ever handed out and those that are. `Mark` has the lot's body see so many
+/// bytes, and `Sees` asks how many it saw, if they fit so many.
 #[derive(Clone, Copy)]
 pub enum Call {
     Carve(u32),
@@ -27,19 +29,12 @@ pub enum Call {
     GiveBack,
     Audit,
     Moved,
+    Hole(usize),
+    Size,
+    Records,
     Books,
-}
-
-/// Where a lot's bytes begin; a lot's record, extent and length; bytes, taken and given back; a refusal; nothing. `Unfit`
-/// where the call may not be made.
-#[derive(Clone, Copy, Debug, PartialEq)]
-pub enum Answer {
-    At(u32),
-    Has(u16, Option<(u32, u32)>, u32),
-    Bytes(u64, u64),
-    No(Refused),
-    Done,
-    Unfit,
+    Mark(u32),
+    Sees(u32),
 }
 
 /// The first two of the items.
@@ -75,10 +70,7 @@ fn carved(vault: &mut Vault, lot: &mut Lot<Any>, tally: &mut Tally, n: u32) -> A
     if lot.len() != 0 || n == 0 || n % 16 != 0 {
         return Answer::Unfit;
     }
-    match vault.carve(lot, tally, n) {
-        Ok(start) => Answer::At(start),
-        Err(refused) => Answer::No(refused),
-    }
+    of_start(vault.carve(lot, tally, n))
 }
 
 fn cut(vault: &mut Vault, head: &mut Lot<Any>, tail: &mut Lot<Any>, k: u32) -> Answer
@@ -89,7 +81,7 @@ fn cut(vault: &mut Vault, head: &mut Lot<Any>, tail: &mut Lot<Any>, k: u32) -> A
         return Answer::Unfit;
     }
     vault.cut(head, tail, k);
-    Answer::Done
+    Answer::Nothing
 }
 
 fn given_back(vault: &mut Vault, lot: &mut Lot<Any>, tally: &mut Tally) -> Answer
@@ -100,7 +92,7 @@ fn given_back(vault: &mut Vault, lot: &mut Lot<Any>, tally: &mut Tally) -> Answe
         return Answer::Unfit;
     }
     vault.give_back(lot, tally);
-    Answer::Done
+    Answer::Nothing
 }
 
 fn audited(vault: &mut Vault, lot: &mut Lot<Any>) -> Answer
@@ -109,6 +101,21 @@ fn audited(vault: &mut Vault, lot: &mut Lot<Any>) -> Answer
 {
     vault.audit(lot);
     Answer::Has(lot.record(), vault.extent(lot.record()), lot.len())
+}
+
+fn marked(lot: &mut Lot<Any>, seen: u32) -> Answer
+    ensures { lot.new.id ≡ lot.old.id }
+{
+    lot.body_mut().seen = seen;
+    Answer::Nothing
+}
+
+fn seen(lot: &Lot<Any>, len: u32) -> Answer {
+    if lot.body().fits(len) {
+        Answer::Number(u64::from(lot.body().seen))
+    } else {
+        Answer::Unfit
+    }
 }
 
 fn answer_of(
@@ -127,6 +134,11 @@ fn answer_of(
         Call::GiveBack => given_back(vault, lot, tally),
         Call::Audit => audited(vault, lot),
         Call::Moved => Answer::Bytes(tally.taken(), tally.back()),
+        Call::Hole(at) => of_run(vault.holes().get(at).copied()),
+        Call::Size => Answer::Number(u64::from(vault.size())),
+        Call::Records => Answer::Number(u64::from(vault.records())),
+        Call::Mark(seen) => marked(lot, seen),
+        Call::Sees(len) => seen(lot, len),
         Call::Books => Answer::Bytes(vault.wear(), u64::from(vault.handed_out())),
     }
 }
@@ -151,6 +163,25 @@ fn by_worker(hand: &mut Hand, worker: u8, call: Call) -> Answer {
 pub fn assert_answers(rt: &impl Abort, hand: &mut Hand, calls: &[(u8, Call, Answer)]) {
     for (at, (worker, call, expected)) in calls.iter().enumerate() {
         let answered = by_worker(hand, *worker, *call);
-        assert_eq!(rt; answered, *expected, "call {at}");
+        assert_answer(rt, at, answered, *expected);
     }
+}
+
+/// Makes each call on a new vault, and compares what it answers.
+pub fn assert_on(rt: &impl Abort, alloc: Global, calls: &[(u8, Call, Answer)]) {
+    let mut hand = dealt(rt, alloc);
+    assert_answers(rt, &mut hand, calls);
+}
+
+/// Takes both tallies in.
+pub fn collect(hand: Hand) {
+    let Hand {
+        mut vault,
+        one,
+        two,
+        ..
+    } = hand;
+    let _name = vault.name();
+    vault.collect(one);
+    vault.collect(two);
 }

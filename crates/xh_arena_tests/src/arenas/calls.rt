@@ -1,0 +1,92 @@
+//! Calls on an arena, and what they answer.
+use crate::answers::{Answer, assert_answer, of_run, of_start};
+use std::alloc::Global;
+use std::process::Abort;
+use xh_arena::Arena;
+
+/// A call by the numbers of records. `Hole` asks for the hole that stands so far along, `Books` for the bytes that were
+/// ever handed out and those that are.
+#[derive(Clone, Copy)]
+pub enum Call {
+    Carve(u16, u32),
+    Cut(u16, u16, u32),
+    GiveBack(u16),
+    Extent(u16),
+    Hole(usize),
+    Size,
+    Records,
+    Books,
+}
+
+/// Where the bytes of the record are.
+fn extent(arena: &Arena, r: u16) -> Answer {
+    if r < arena.records() {
+        of_run(arena.extent(r))
+    } else {
+        Answer::Unfit
+    }
+}
+
+fn carved(arena: &mut Arena, r: u16, n: u32) -> Answer {
+    if r >= arena.records() || arena.extent(r).is_some() || n == 0 || n % 16 != 0 {
+        return Answer::Unfit;
+    }
+    of_start(arena.carve(r, n))
+}
+
+fn cut(arena: &mut Arena, r: u16, t: u16, k: u32) -> Answer {
+    if r >= arena.records() || t >= arena.records() || t == r || arena.extent(t).is_some() {
+        return Answer::Unfit;
+    }
+    match arena.cut(r, t, k) {
+        Ok(()) => Answer::Nothing,
+        Err(refused) => Answer::No(refused),
+    }
+}
+
+fn given_back(arena: &mut Arena, r: u16) -> Answer {
+    if r >= arena.records() {
+        return Answer::Unfit;
+    }
+    match arena.extent(r) {
+        Some((_, length)) if length != 0 => {
+            arena.give_back(r);
+            Answer::Nothing
+        }
+        _ => Answer::Unfit,
+    }
+}
+
+fn answer_of(arena: &mut Arena, call: Call) -> Answer {
+    match call {
+        Call::Carve(r, n) => carved(arena, r, n),
+        Call::Cut(r, t, k) => cut(arena, r, t, k),
+        Call::GiveBack(r) => given_back(arena, r),
+        Call::Extent(r) => extent(arena, r),
+        Call::Hole(at) => of_run(arena.holes().get(at).copied()),
+        Call::Size => Answer::Number(u64::from(arena.size())),
+        Call::Records => Answer::Number(u64::from(arena.records())),
+        Call::Books => Answer::Bytes(arena.wear(), u64::from(arena.handed_out())),
+    }
+}
+
+/// Makes each call, and compares what it answers.
+pub fn assert_answers(rt: &impl Abort, arena: &mut Arena, calls: &[(Call, Answer)]) {
+    for (at, (call, expected)) in calls.iter().enumerate() {
+        let answered = answer_of(arena, *call);
+        assert_answer(rt, at, answered, *expected);
+    }
+}
+
+/// Makes each call on a new arena of so many bytes and records, and compares what it answers.
+pub fn assert_on(
+    rt: &impl Abort,
+    alloc: Global,
+    size: u32,
+    records: u16,
+    wear: u64,
+    calls: &[(Call, Answer)],
+) {
+    let mut arena = Arena::new(alloc, size, records, wear).expect(rt, "room");
+    assert_answers(rt, &mut arena, calls);
+}
