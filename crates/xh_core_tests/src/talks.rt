@@ -1,4 +1,5 @@
 //! Two ends under a contract.
+use std::process::Abort;
 use xh_core::{Contract, Outcome, Row, Talk, Turn};
 
 /// The side 0 asks by 1, the side 1 answers by 2; the side 0 may send any number of 3 after a 9.
@@ -17,43 +18,84 @@ fn rows() -> [Row; 4] {
     ]
 }
 
+/// A turn that is done, or one that is refused; the messages at the front of both sides; the states of both.
+#[derive(Clone, Copy)]
+enum Step {
+    Done(Turn),
+    Refused(Turn),
+    Fronts(Option<u16>, Option<u16>),
+    States(u8, u8),
+}
+
+/// Whether the turn is done, of a side that there is.
+fn is_done(talk: &mut Talk, turn: Turn) -> Option<bool> {
+    let side = match turn {
+        Turn::Put(side, _) | Turn::Take(side) => side,
+    };
+    if side < 2 {
+        Some(matches!(talk.turn(turn), Outcome::Done))
+    } else {
+        None
+    }
+}
+
+fn is_so(talk: &mut Talk, step: Step) -> bool {
+    match step {
+        Step::Done(turn) => is_done(talk, turn) == Some(true),
+        Step::Refused(turn) => is_done(talk, turn) == Some(false),
+        Step::Fronts(low, high) => talk.front(0) == low && talk.front(1) == high,
+        Step::States(low, high) => talk.state(0) == low && talk.state(1) == high,
+    }
+}
+
+fn assert_steps(rt: &impl Abort, talk: &mut Talk, steps: &[Step]) {
+    for (at, step) in steps.iter().enumerate() {
+        assert!(rt; is_so(talk, *step), "step {at}");
+    }
+}
+
+fn new_talk(rt: &impl Abort) -> Talk {
+    Talk::new(Contract::new(&rows()).expect(rt, "a valid table"))
+}
+
 #[test]
 fn a_talk_goes_by_its_contract(rt: HostRuntime) {
-    let made = Contract::new(&rows());
-    assert!(rt; made.is_ok());
-    if let Ok(contract) = made {
-        let mut talk = Talk::new(contract);
-        assert_eq!(rt; (talk.front(0), talk.front(1)), (None, None));
-        assert!(rt; matches!(talk.turn(Turn::Put(0, 2)), Outcome::Refused));
-        assert!(rt; matches!(talk.turn(Turn::Put(1, 2)), Outcome::Refused));
-        assert!(rt; matches!(talk.turn(Turn::Take(1)), Outcome::Refused));
-        assert!(rt; matches!(talk.turn(Turn::Put(0, 1)), Outcome::Done));
-        assert_eq!(rt; (talk.front(0), talk.front(1)), (None, Some(1)));
-        assert_eq!(rt; (talk.state(0), talk.state(1)), (1, 0));
-        assert!(rt; matches!(talk.turn(Turn::Put(0, 1)), Outcome::Refused));
-        assert!(rt; matches!(talk.turn(Turn::Put(1, 1)), Outcome::Refused));
-        talk.run(&[Turn::Take(1), Turn::Put(1, 2)]);
-        assert_eq!(rt; (talk.front(0), talk.front(1)), (Some(2), None));
-        assert_eq!(rt; (talk.state(0), talk.state(1)), (1, 0));
-        talk.run(&[Turn::Take(0)]);
-        assert_eq!(rt; (talk.state(0), talk.state(1)), (0, 0));
-    }
+    const ASKED: &[Step] = &[
+        Step::Fronts(None, None),
+        Step::Refused(Turn::Put(0, 2)),
+        Step::Refused(Turn::Put(1, 2)),
+        Step::Refused(Turn::Take(1)),
+        Step::Done(Turn::Put(0, 1)),
+        Step::Fronts(None, Some(1)),
+        Step::States(1, 0),
+        Step::Refused(Turn::Put(0, 1)),
+        Step::Refused(Turn::Put(1, 1)),
+    ];
+    let mut talk = new_talk(&rt);
+    assert_steps(&rt, &mut talk, ASKED);
+    talk.run(&[Turn::Take(1), Turn::Put(1, 2)]);
+    assert_steps(
+        &rt,
+        &mut talk,
+        &[Step::Fronts(Some(2), None), Step::States(1, 0)],
+    );
+    talk.run(&[Turn::Take(0)]);
+    assert_steps(&rt, &mut talk, &[Step::States(0, 0)]);
 }
 
 #[test]
 fn sixteen_messages_wait_at_most(rt: HostRuntime) {
-    let made = Contract::new(&rows());
-    assert!(rt; made.is_ok());
-    if let Ok(contract) = made {
-        let mut talk = Talk::new(contract);
-        talk.run(&[Turn::Put(0, 9)]);
-        for _ in 0..15 {
-            assert!(rt; matches!(talk.turn(Turn::Put(0, 3)), Outcome::Done));
-        }
-        assert!(rt; matches!(talk.turn(Turn::Put(0, 3)), Outcome::Refused));
-        assert_eq!(rt; talk.front(1), Some(9));
-        assert!(rt; matches!(talk.turn(Turn::Take(1)), Outcome::Done));
-        assert_eq!(rt; talk.front(1), Some(3));
-        assert!(rt; matches!(talk.turn(Turn::Put(0, 3)), Outcome::Done));
+    const STEPS: &[Step] = &[
+        Step::Refused(Turn::Put(0, 3)),
+        Step::Fronts(None, Some(9)),
+        Step::Done(Turn::Take(1)),
+        Step::Fronts(None, Some(3)),
+        Step::Done(Turn::Put(0, 3)),
+    ];
+    let mut talk = new_talk(&rt);
+    talk.run(&[Turn::Put(0, 9)]);
+    for _ in 0..15 {
+        assert_steps(&rt, &mut talk, &[Step::Done(Turn::Put(0, 3))]);
     }
+    assert_steps(&rt, &mut talk, STEPS);
 }
