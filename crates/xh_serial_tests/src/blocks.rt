@@ -1,21 +1,9 @@
 //! Blocks of one arena and of several: sizes, the places they get, and what a refused growth leaves.
 use crate::answers::Answer::{Block, Bytes, Done, No, Number, Two};
-use crate::answers::Call::{Alloc, Free, Read, Spawn, Split, Write};
-use crate::answers::{
-    Answer, Call, answer_of, assert_answers, assert_grows, assert_on, grown_heap, heap_of,
-};
+use crate::answers::Call::{Alloc, Free, Glance, Read, ReadPart, Spawn, Split, Write};
+use crate::answers::{Answer, Call, assert_grown_on, assert_on};
 use crate::heaps::small;
-use std::alloc::Global;
-use std::process::Abort;
-use xh_core::{Config, Refused};
-use xh_serial::Serial;
-
-/// A heap in which the process 0 runs.
-fn alone(rt: &impl Abort, alloc: Global, config: Config) -> Serial {
-    let mut heap = heap_of(rt, alloc, config);
-    assert_answers(rt, &mut heap, alloc, &[(Spawn, Number(0))]);
-    heap
-}
+use xh_core::Config;
 
 #[test]
 fn sizes_and_full_arena(rt: HostRuntime) {
@@ -109,49 +97,49 @@ fn processes_that_are_none(rt: HostRuntime) {
 /// call after it answers as if there had been none: `rt try --test --fail-alloc N` refuses the N-th.
 #[test]
 fn a_refused_growth_of_alloc_leaves_nothing(rt: HostRuntime) {
-    let mut heap = grown_heap(&rt, rt.alloc(), small());
-    assert_answers(&rt, &mut heap, rt.alloc(), &[(Spawn, Number(0))]);
-    assert_grows(&rt, &mut heap, rt.alloc(), Alloc(0, 40, 0), Block(0, 48));
-    assert_grows(&rt, &mut heap, rt.alloc(), Alloc(0, 208, 0), Block(1, 208));
+    const CALLS: &[(Call, Answer, Option<Call>)] = &[
+        (Spawn, Number(0), None),
+        (Alloc(0, 40, 0), Block(0, 48), Some(Glance(0))),
+        (Alloc(0, 208, 0), Block(1, 208), Some(Glance(0))),
+    ];
+    assert_grown_on(&rt, rt.alloc(), small(), CALLS);
 }
 
 /// What is tested ahead of memory is answered whether or not the growth of that call is refused, and
 /// want of memory ahead of want of room: `rt try --test --fail-alloc N` refuses the N-th growth.
 #[test]
 fn refusals_ahead_of_a_growth(rt: HostRuntime) {
-    const CALLS: &[(Call, Answer)] = &[
-        (Spawn, Number(0)),
-        (Alloc(1, 16, 0), No("NoProcess")),
-        (Alloc(0, 16, 2), No("NoArena")),
-        (Alloc(0, 257, 0), No("BadSize")),
+    const CALLS: &[(Call, Answer, Option<Call>)] = &[
+        (Spawn, Number(0), None),
+        (Alloc(1, 16, 0), No("NoProcess"), None),
+        (Alloc(0, 16, 2), No("NoArena"), None),
+        (Alloc(0, 257, 0), No("BadSize"), None),
+        (Alloc(0, 256, 0), Block(0, 256), Some(Glance(0))),
+        (Alloc(0, 16, 0), No("NoSpace"), Some(Glance(0))),
     ];
     let config = Config {
         arenas: 2,
         records: 2,
         ..small()
     };
-    let mut heap = grown_heap(&rt, rt.alloc(), config);
-    assert_answers(&rt, &mut heap, rt.alloc(), CALLS);
-    assert_grows(&rt, &mut heap, rt.alloc(), Alloc(0, 256, 0), Block(0, 256));
-    assert_grows(&rt, &mut heap, rt.alloc(), Alloc(0, 16, 0), No("NoSpace"));
+    assert_grown_on(&rt, rt.alloc(), config, CALLS);
 }
 
 /// So it is of a split, whose last test ahead of memory is that of a record.
 #[test]
 fn refusals_of_split_ahead_of_a_growth(rt: HostRuntime) {
-    const CALLS: &[(Call, Answer)] = &[
-        (Split(0, 0, 20), No("BadCut")),
-        (Split(0, 0, 16), No("NoRecord")),
-        (Alloc(0, 16, 0), No("NoRecord")),
+    const CALLS: &[(Call, Answer, Option<Call>)] = &[
+        (Spawn, Number(0), None),
+        (Alloc(0, 48, 0), Block(0, 48), Some(Glance(0))),
+        (Split(0, 0, 20), No("BadCut"), None),
+        (Split(0, 0, 16), No("NoRecord"), None),
+        (Alloc(0, 16, 0), No("NoRecord"), None),
     ];
     let config = Config {
         records: 1,
         ..small()
     };
-    let mut heap = grown_heap(&rt, rt.alloc(), config);
-    assert_answers(&rt, &mut heap, rt.alloc(), &[(Spawn, Number(0))]);
-    assert_grows(&rt, &mut heap, rt.alloc(), Alloc(0, 48, 0), Block(0, 48));
-    assert_answers(&rt, &mut heap, rt.alloc(), CALLS);
+    assert_grown_on(&rt, rt.alloc(), config, CALLS);
 }
 
 /// A block is cut after its first bytes, and each part keeps its own.
@@ -173,50 +161,37 @@ fn a_block_is_split(rt: HostRuntime) {
 }
 
 /// Of the last byte of 16 on, two are not read, and nothing is written where they were to go; of its end on, none are.
-fn assert_read_at_the_end(rt: &impl Abort, heap: &Serial) {
-    let mut two = [7; 2];
-    assert!(rt; matches!(heap.read(0, 0, 15, &mut two), Err(Refused::BadRange)));
-    assert_eq!(rt; two, [7, 7]);
-    assert!(rt; heap.read(0, 0, 16, &mut []).is_ok());
-}
-
 #[test]
 fn bytes_are_written_and_read(rt: HostRuntime) {
     const CALLS: &[(Call, Answer)] = &[
+        (Spawn, Number(0)),
         (Alloc(0, 16, 0), Block(0, 16)),
         (Write(0, 0, 0, &[0xbe, 0xef]), Done),
         (Read(0, 0, 0), Bytes([0xbe, 0xef, 0, 0, 0, 0])),
         (Read(0, 0, 11), No("BadRange")),
         (Write(0, 0, 15, &[1, 2]), No("BadRange")),
         (Write(0, 1, 0, &[1]), No("NotOwned")),
+        (ReadPart(0, 0, 15, 2), No("BadRange")),
+        (ReadPart(0, 0, 16, 0), Bytes([0xee; 6])),
     ];
-    let mut heap = alone(&rt, rt.alloc(), small());
-    assert_answers(&rt, &mut heap, rt.alloc(), CALLS);
-    assert_read_at_the_end(&rt, &heap);
+    assert_on(&rt, rt.alloc(), small(), CALLS);
 }
 
 /// With a growth of a split refused the block and its bytes are as before, and the same split
 /// succeeds after it: `rt try --test --fail-alloc N` refuses the N-th.
 #[test]
 fn a_refused_growth_of_split_leaves_nothing(rt: HostRuntime) {
-    const FIRST: &[(Call, Answer)] = &[(Write(0, 0, 14, &[1, 2, 3, 4]), Done)];
-    const THEN: &[(Call, Answer)] = &[
-        (Read(0, 0, 13), Bytes([0, 1, 2, 3, 4, 0])),
-        (Split(0, 0, 16), Two(0, 16, 1, 32)),
+    const CALLS: &[(Call, Answer, Option<Call>)] = &[
+        (Spawn, Number(0), None),
+        (Alloc(0, 48, 0), Block(0, 48), Some(Glance(0))),
+        (Write(0, 0, 14, &[1, 2, 3, 4]), Done, None),
+        (Read(0, 0, 13), Bytes([0, 1, 2, 3, 4, 0]), None),
+        (Split(0, 0, 16), Two(0, 16, 1, 32), Some(Read(0, 0, 13))),
+        (Read(0, 0, 10), Bytes([0, 0, 0, 0, 1, 2]), None),
+        (Read(0, 1, 0), Bytes([3, 4, 0, 0, 0, 0]), None),
+        (Alloc(0, 208, 0), Block(2, 208), Some(Glance(0))),
     ];
-    const LAST: &[(Call, Answer)] = &[
-        (Read(0, 0, 10), Bytes([0, 0, 0, 0, 1, 2])),
-        (Read(0, 1, 0), Bytes([3, 4, 0, 0, 0, 0])),
-    ];
-    let mut heap = grown_heap(&rt, rt.alloc(), small());
-    assert_answers(&rt, &mut heap, rt.alloc(), &[(Spawn, Number(0))]);
-    assert_grows(&rt, &mut heap, rt.alloc(), Alloc(0, 48, 0), Block(0, 48));
-    assert_answers(&rt, &mut heap, rt.alloc(), FIRST);
-    if answer_of(&mut heap, rt.alloc(), Split(0, 0, 16)) == No("OutOfMemory") {
-        assert_answers(&rt, &mut heap, rt.alloc(), THEN);
-    }
-    assert_answers(&rt, &mut heap, rt.alloc(), LAST);
-    assert_grows(&rt, &mut heap, rt.alloc(), Alloc(0, 208, 0), Block(2, 208));
+    assert_grown_on(&rt, rt.alloc(), small(), CALLS);
 }
 
 /// Of a large block only a few bytes are written. Each part of a cut keeps its own, whether the head

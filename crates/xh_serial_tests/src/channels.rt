@@ -1,13 +1,12 @@
 //! Channels by calls: who holds which end, what a contract refuses, and the order of the refusals.
-use crate::answers::Answer::{Message, No, Number, Place, Two};
-use crate::answers::Call::{Exit, Give, Glance, Open, OpenWith, Spawn, Take, Wire, WireWith};
+use crate::answers::Answer::{Done, Full, Message, No, Number, Place, Two};
+use crate::answers::Call::{
+    Exit, Give, Glance, Open, OpenWith, Opens, Spawn, Take, Wire, WireWith,
+};
 use crate::answers::Rules::{OneWay, RequestAndReply};
-use crate::answers::{Answer, Call, assert_answers, assert_on, heap_of};
-use std::alloc::Global;
-use std::process::Abort;
+use crate::answers::{Answer, Call, assert_after, assert_on};
 use xh_core::Config;
 use xh_core::Status::Running;
-use xh_serial::Serial;
 
 /// Two arenas of 256 bytes and four records.
 fn small() -> Config {
@@ -89,18 +88,13 @@ fn the_start_is_tested_first(rt: HostRuntime) {
     assert_on(&rt, rt.alloc(), small(), CALLS);
 }
 
-/// Two processes run, and the first opens as many channels as there are.
-fn open_all(rt: &impl Abort, alloc: Global, heap: &mut Serial) {
-    assert_answers(rt, heap, alloc, &[(Spawn, Number(0)), (Spawn, Number(1))]);
-    for _ in 0..64u8 {
-        assert!(rt; heap.open(0, 0).is_ok());
-    }
-}
-
 /// Sixty-four channels, and then none, though there is no record, no room and no wear left either.
 #[test]
 fn channels_run_out_before_records(rt: HostRuntime) {
     const CALLS: &[(Call, Answer)] = &[
+        (Spawn, Number(0)),
+        (Spawn, Number(1)),
+        (Opens(64), Done),
         (Open(0, 0), No("NoChannel")),
         (Wire(0, 1, 0), No("NoChannel")),
         (Open(0, 1), No("NoArena")),
@@ -112,14 +106,17 @@ fn channels_run_out_before_records(rt: HostRuntime) {
         wear: 4_096,
         ..small()
     };
-    let mut heap = heap_of(&rt, rt.alloc(), config);
-    open_all(&rt, rt.alloc(), &mut heap);
-    assert_answers(&rt, &mut heap, rt.alloc(), CALLS);
+    assert_on(&rt, rt.alloc(), config, CALLS);
 }
 
 /// A refused call leaves no end behind.
 #[test]
 fn records_room_and_wear(rt: HostRuntime) {
+    const FIRST: &[(Call, Answer)] = &[
+        (Spawn, Number(0)),
+        (Spawn, Number(1)),
+        (Open(0, 0), Two(0, 32, 1, 32)),
+    ];
     for (records, bytes, refusal) in [
         (3, 64, No("NoRecord")),
         (4, 64, No("NoSpace")),
@@ -131,14 +128,12 @@ fn records_room_and_wear(rt: HostRuntime) {
             wear: 64,
             ..small()
         };
-        assert_on(
+        assert_after(
             &rt,
             rt.alloc(),
             config,
+            FIRST,
             &[
-                (Spawn, Number(0)),
-                (Spawn, Number(1)),
-                (Open(0, 0), Two(0, 32, 1, 32)),
                 (Open(0, 0), refusal),
                 (Wire(1, 0, 0), refusal),
                 (Glance(0), Place(0, Running, 2, 64)),
@@ -178,7 +173,7 @@ fn a_contract_is_asked_before_the_room(rt: HostRuntime) {
         (Give(0, 0, 1, &[]), Number(1)),
         (Give(0, 0, 2, &[0]), No("Twice")),
         (Give(0, 0, 2, &[]), No("Protocol")),
-        (Give(0, 0, 1, &[]), No("Full")),
+        (Give(0, 0, 1, &[]), Full(0, None)),
         (Exit(1, 1), Number(32)),
         (Give(0, 0, 2, &[]), No("Protocol")),
         (Give(0, 0, 1, &[]), No("PeerClosed")),

@@ -1,35 +1,13 @@
 //! Ends by calls: what is reclaimed, and what stays.
 use crate::answers::Answer::{
-    Arena as ArenaLine, Block, Line as PlaceLine, Message, No, Number, Sums as SumsOf, Two,
+    Arena as ArenaLine, Block, Brings, Left, Line as PlaceLine, No, Number, Sums as SumsOf, Two,
 };
 use crate::answers::Call::{
-    Alloc, Arena, Close, Exit, Free, Give, Kill, Line, Open, Spawn, Sums, Take, Wire,
+    Alloc, Arena, Close, Exit, Free, Give, Kill, Line, Open, Spawn, Sums, Take,
 };
-use crate::answers::{Answer, Call, assert_answers, assert_on, heap_of};
+use crate::answers::{Answer, Call, assert_on, assert_wired};
 use crate::heaps::small;
-use std::alloc::Global;
-use std::process::Abort;
-use xh_core::{Refused, State};
-use xh_serial::Serial;
-
-/// The processes 0 and 1 hold the ends 0 and 1 of a channel, and 0 holds the block 2, of 16 bytes.
-fn wired(rt: &impl Abort, alloc: Global) -> Serial {
-    const CALLS: &[(Call, Answer)] = &[
-        (Spawn, Number(0)),
-        (Spawn, Number(1)),
-        (Wire(0, 1, 0), Two(0, 32, 1, 32)),
-        (Alloc(0, 16, 0), Block(2, 16)),
-    ];
-    let mut heap = heap_of(rt, alloc, small());
-    assert_answers(rt, &mut heap, alloc, CALLS);
-    heap
-}
-
-/// Makes each call on such a heap, and compares what it answers.
-fn assert_wired(rt: &impl Abort, alloc: Global, calls: &[(Call, Answer)]) {
-    let mut heap = wired(rt, alloc);
-    assert_answers(rt, &mut heap, alloc, calls);
-}
+use xh_core::State;
 
 /// What a process sent before it ended stays: the peer takes it, and then learns of the end.
 #[test]
@@ -37,11 +15,11 @@ fn exit_leaves_what_was_sent(rt: HostRuntime) {
     const CALLS: &[(Call, Answer)] = &[
         (Give(0, 0, 5, &[2]), Number(1)),
         (Exit(0, 4_096), Number(32)),
-        (Take(1, 1), Message(1, 5, 1)),
+        (Take(1, 1), Brings(1, 5, 2, 16)),
         (Take(1, 1), No("PeerClosed")),
         (Free(1, 2), Number(16)),
     ];
-    assert_wired(&rt, rt.alloc(), CALLS);
+    assert_wired(&rt, rt.alloc(), small(), CALLS);
 }
 
 /// An end that is closed takes along what is on its way to it.
@@ -53,7 +31,7 @@ fn close_reclaims_what_arrives(rt: HostRuntime) {
         (Give(0, 0, 5, &[]), No("PeerClosed")),
         (Close(0, 0), Number(32)),
     ];
-    assert_wired(&rt, rt.alloc(), CALLS);
+    assert_wired(&rt, rt.alloc(), small(), CALLS);
 }
 
 /// A kill whose budget is one block leaves two; the next goes on from there.
@@ -62,16 +40,11 @@ fn a_kill_goes_on_where_it_stopped(rt: HostRuntime) {
     const CALLS: &[(Call, Answer)] = &[
         (Alloc(1, 16, 0), Block(3, 16)),
         (Alloc(1, 32, 0), Block(4, 32)),
+        (Kill(0, 1, 1), Left(2)),
+        (Kill(0, 1, 2), Number(48)),
+        (Kill(0, 1, 1), No("Ended")),
     ];
-    let mut heap = wired(&rt, rt.alloc());
-    assert_answers(&rt, &mut heap, rt.alloc(), CALLS);
-    assert!(rt; matches!(heap.kill(0, 1, 1), Err(Refused::Unfinished { left: 2 })));
-    assert_answers(
-        &rt,
-        &mut heap,
-        rt.alloc(),
-        &[(Kill(0, 1, 2), Number(48)), (Kill(0, 1, 1), No("Ended"))],
-    );
+    assert_wired(&rt, rt.alloc(), small(), CALLS);
 }
 
 /// The victim holds an end to which another end is on its way, and a message with a block is on its
@@ -86,7 +59,7 @@ fn a_kill_reclaims_ends_in_flight(rt: HostRuntime) {
         (Give(0, 3, 3, &[]), No("PeerClosed")),
         (Give(0, 0, 3, &[]), No("PeerClosed")),
     ];
-    assert_wired(&rt, rt.alloc(), CALLS);
+    assert_wired(&rt, rt.alloc(), small(), CALLS);
 }
 
 /// An end that was sent to itself stays in flight where its process ends: nobody can take it.

@@ -1,7 +1,7 @@
 //! A heap is made, and what a refused growth leaves.
 use crate::answers::Answer::{Arena as ArenaLine, Number};
 use crate::answers::Call::{Arena, Line, Spawn};
-use crate::answers::{Answer, Call, assert_answers, heap_of};
+use crate::answers::{Answer, Call, assert_grown_on};
 use xh_core::{Config, Refused};
 use xh_serial::Serial;
 
@@ -30,20 +30,14 @@ fn two_arenas() -> Config {
 /// like any new one: `rt try --test --fail-alloc N` refuses the N-th.
 #[test]
 fn a_refused_growth_of_new_leaves_nothing(rt: HostRuntime) {
-    const CALLS: &[(Call, Answer)] = &[
-        (Arena(0), ArenaLine(64, 0, 1, 0, 0)),
-        (Arena(1), ArenaLine(64, 0, 1, 0, 0)),
-        (Arena(2), Answer::None),
-        (Line(0), Answer::None),
-        (Spawn, Number(0)),
+    const CALLS: &[(Call, Answer, Option<Call>)] = &[
+        (Arena(0), ArenaLine(64, 0, 1, 0, 0), None),
+        (Arena(1), ArenaLine(64, 0, 1, 0, 0), None),
+        (Arena(2), Answer::None, None),
+        (Line(0), Answer::None, None),
+        (Spawn, Number(0), None),
     ];
-    let first = Serial::new(rt.alloc(), two_arenas());
-    assert!(rt; matches!(&first, Ok(_) | Err(Refused::OutOfMemory)));
-    let mut heap = match first {
-        Ok(heap) => heap,
-        Err(_) => heap_of(&rt, rt.alloc(), two_arenas()),
-    };
-    assert_answers(&rt, &mut heap, rt.alloc(), CALLS);
+    assert_grown_on(&rt, rt.alloc(), two_arenas(), CALLS);
 }
 
 /// A Config outside the limits is refused ahead of any growth.
@@ -53,5 +47,6 @@ fn a_bad_config_takes_no_memory(rt: HostRuntime) {
         bytes: 40,
         ..two_arenas()
     };
-    assert!(rt; matches!(Serial::new(rt.alloc(), config), Err(Refused::BadSize)));
+    let refused = Serial::new(rt.alloc(), config).err();
+    assert!(rt; matches!(refused, Some(Refused::BadSize)));
 }

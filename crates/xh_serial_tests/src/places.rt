@@ -1,20 +1,19 @@
 //! Processes start, and places and the ledger are looked at.
 use crate::answers::Answer::{
-    Arena as ArenaLine, Block, Line as PlaceLine, No, Number, Place, Sums as SumsOf,
+    Arena as ArenaLine, Block, Done, Line as PlaceLine, No, Number, Place, Sums as SumsOf,
 };
-use crate::answers::Call::{Alloc, Arena, Exit, Free, Glance, Kill, Line, Spawn, Sums};
-use crate::answers::{Answer, Call, assert_on, heap_of};
+use crate::answers::Call::{
+    Alloc, Arena, Exit, Free, Glance, Kill, Line, Lives, Spawn, Spawns, Sums,
+};
+use crate::answers::{Answer, Call, assert_on};
 use crate::heaps::small;
+use xh_core::State;
 use xh_core::Status::{Running, Vacant};
-use xh_core::{Refused, State};
 
 #[test]
 fn places_run_out(rt: HostRuntime) {
-    let mut heap = heap_of(&rt, rt.alloc(), small());
-    for place in 0..32 {
-        assert_eq!(rt; heap.spawn().ok(), Some(place));
-    }
-    assert!(rt; matches!(heap.spawn(), Err(Refused::NoPlace)));
+    const CALLS: &[(Call, Answer)] = &[(Spawns(32), Done), (Spawn, No("NoPlace"))];
+    assert_on(&rt, rt.alloc(), small(), CALLS);
 }
 
 /// A place is used again where its process has ended: the next process is of its next generation.
@@ -77,15 +76,8 @@ fn an_empty_ledger(rt: HostRuntime) {
 /// the next place's, until none is left.
 #[test]
 fn every_process_number(rt: HostRuntime) {
-    let mut heap = heap_of(&rt, rt.alloc(), small());
-    for place in 0..32u16 {
-        for generation in 0..128u16 {
-            let process = place + 32 * generation;
-            assert_eq!(rt; heap.spawn().ok(), Some(process));
-            assert_eq!(rt; heap.exit(process, 1).ok(), Some(0));
-        }
-    }
-    assert!(rt; matches!(heap.spawn(), Err(Refused::NoPlace)));
+    const CALLS: &[(Call, Answer)] = &[(Lives, Done), (Spawn, No("NoPlace"))];
+    assert_on(&rt, rt.alloc(), small(), CALLS);
 }
 
 /// The lowest place is used again first, and the number of a process that has ended stays ended,
