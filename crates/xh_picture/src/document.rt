@@ -1,22 +1,23 @@
 //! A document that is well-formed by construction.
-ghost use Rattle.std.specs.Prelude.{◌≡◌, ◌≢◌, ◌++◌, ◌-◌, All, IfOk, OnOk, length, take, false};
-ghost use Rattle.xh_picture.specs.Documents.{IsDocument, IsDraft, all_escaped, escaped, key_name};
+ghost use Rattle.std.specs.Prelude.{◌≡◌, ◌≢◌, ◌++◌, ◌∷◌, ◌-◌, [], All, IfOk, OnOk, codes, length, take, false};
+ghost use Rattle.xh_picture.specs.Documents.{IsDocument, IsDraft, all_escaped, escaped, key_name, tag_name};
 
 use crate::tags::{Key, Tag};
 use itoa::Buffer;
 use std::alloc::{AllocError, Global};
 
-/// A document in the making: the text so far, the elements that are open, innermost last, and the
-/// attributes of the last one while its head may get more.
+/// A document in the making: the text so far, the elements that are open, innermost last, the
+/// attributes of the last one while its head may get more, and whether memory was refused.
 ///
-/// Each call gives the document back, so a call that was refused memory leaves none behind.
+/// Once it was, nothing is known of the rest, and the document ends in no text.
 #[derive(Drop)]
 pub(crate) struct Document {
     text: Vec<u8>,
     unclosed: Vec<Tag>,
     given: Vec<Key>,
     in_head: bool,
-    ghost written: { IsDraft text.items unclosed.items in_head given.items },
+    refused: bool,
+    ghost written: { refused ≡ false → IsDraft text.items unclosed.items in_head given.items },
 }
 
 /// Adds a byte of a text or of a value, so that no byte of it is read as a mark.
@@ -60,6 +61,29 @@ fn put(text: &mut Vec<u8>, first: &[u8], second: &[u8], third: &[u8]) -> Result<
     text.extend_from_slice(third)
 }
 
+/// Begins an element.
+fn begin(text: &mut Vec<u8>, unclosed: &mut Vec<Tag>, tag: Tag) -> Result<(), AllocError>
+    ensures text { OnOk result (text.new.items ≡ text.old.items ++ codes "<" ++ tag_name tag) }
+    ensures unclosed { OnOk result (unclosed.new.items ≡ unclosed.old.items ++ tag ∷ []) }
+{
+    text.extend_from_slice(b"<")?;
+    text.extend_from_slice(tag.name().as_bytes())?;
+    unclosed.push(tag)?;
+    Ok(())
+}
+
+/// Adds an attribute.
+fn add(text: &mut Vec<u8>, given: &mut Vec<Key>, key: Key, value: &[u8]) -> Result<(), AllocError>
+    ensures text { OnOk result (text.new.items ≡ text.old.items ++ codes " " ++ key_name key ++ codes "=\"" ++ all_escaped value.now ++ codes "\"") }
+    ensures given { OnOk result (given.new.items ≡ given.old.items ++ key ∷ []) }
+{
+    put(text, b" ", key.name().as_bytes(), b"=\"")?;
+    escape_all(text, value)?;
+    text.extend_from_slice(b"\"")?;
+    given.push(key)?;
+    Ok(())
+}
+
 /// Whether a head has an attribute of a name.
 fn has(given: &[Key], key: Key) -> bool
     ensures { result ≡ false → All (λ k. key_name k ≢ key_name key) given.now }
@@ -77,151 +101,108 @@ impl Document {
     #[tactic(auto, using(crate::proofs::Written::begun))]
     pub(crate) fn new(alloc: Global, root: Tag) -> Result<Document, AllocError> {
         let mut text = Vec::new(alloc);
-        text.extend_from_slice(b"<")?;
-        text.extend_from_slice(root.name().as_bytes())?;
         let mut unclosed = Vec::new(alloc);
-        unclosed.push(root)?;
+        begin(&mut text, &mut unclosed, root)?;
         Ok(Document {
             text,
             unclosed,
             given: Vec::new(alloc),
             in_head: true,
+            refused: false,
         })
     }
 
     /// The head of the element that was opened last has ended.
     #[tactic(auto, using(crate::proofs::Written::inside))]
-    fn inside(self) -> Result<Document, AllocError>
-        ensures head { IfOk result (λ document. document.in_head ≡ false) }
-        ensures unclosed { IfOk result (λ document. document.unclosed.items ≡ self.unclosed.items) }
+    fn inside(&mut self)
+        ensures head { self.new.in_head ≡ false }
+        ensures unclosed { self.new.unclosed.items ≡ self.old.unclosed.items }
     {
         if !self.in_head {
-            return Ok(self);
+            return;
         }
-        let Document {
-            mut text,
-            unclosed,
-            given,
-            in_head: _,
-        } = self;
-        text.extend_from_slice(b">")?;
-        Ok(Document {
-            text,
-            unclosed,
-            given,
-            in_head: false,
-        })
+        self.in_head = false;
+        let Ok(()) = self.text.extend_from_slice(b">") else {
+            self.refused = true;
+            return;
+        };
     }
 
     /// Opens an element in the one that was opened last and isn't closed. Nothing comes behind the
     /// end of the first one.
     #[tactic(auto, using(crate::proofs::Written::opened))]
-    pub(crate) fn open(self, tag: Tag) -> Result<Document, AllocError> {
-        let document = self.inside()?;
-        if document.unclosed.is_empty() {
-            return Ok(document);
+    pub(crate) fn open(&mut self, tag: Tag) {
+        self.inside();
+        if self.unclosed.is_empty() {
+            return;
         }
-        let Document {
-            mut text,
-            mut unclosed,
-            mut given,
-            in_head: _,
-        } = document;
-        text.extend_from_slice(b"<")?;
-        text.extend_from_slice(tag.name().as_bytes())?;
-        unclosed.push(tag)?;
-        given.clear();
-        Ok(Document {
-            text,
-            unclosed,
-            given,
-            in_head: true,
-        })
+        let Ok(()) = begin(&mut self.text, &mut self.unclosed, tag) else {
+            self.refused = true;
+            return;
+        };
+        self.given.clear();
+        self.in_head = true;
     }
 
     /// Gives the element that was just opened an attribute. One that it has, and one behind its head,
     /// is passed over.
     #[tactic(auto, using(crate::proofs::Written::given_more))]
-    pub(crate) fn give(self, key: Key, value: &[u8]) -> Result<Document, AllocError> {
+    pub(crate) fn give(&mut self, key: Key, value: &[u8]) {
         if !self.in_head || has(&self.given, key) {
-            return Ok(self);
+            return;
         }
-        let Document {
-            mut text,
-            unclosed,
-            mut given,
-            in_head: _,
-        } = self;
-        put(&mut text, b" ", key.name().as_bytes(), b"=\"")?;
-        escape_all(&mut text, value)?;
-        text.extend_from_slice(b"\"")?;
-        given.push(key)?;
-        Ok(Document {
-            text,
-            unclosed,
-            given,
-            in_head: true,
-        })
+        let Ok(()) = add(&mut self.text, &mut self.given, key, value) else {
+            self.refused = true;
+            return;
+        };
     }
 
     /// Gives an attribute that is a number.
-    pub(crate) fn measure(self, key: Key, number: u64) -> Result<Document, AllocError> {
+    pub(crate) fn measure(&mut self, key: Key, number: u64) {
         let mut digits = Buffer::new();
-        self.give(key, digits.format(number).as_bytes())
+        self.give(key, digits.format(number).as_bytes());
     }
 
     /// Adds text to the element that was opened last and isn't closed.
     #[tactic(auto, using(crate::proofs::Written::said))]
-    pub(crate) fn say(self, said: &[u8]) -> Result<Document, AllocError> {
-        let document = self.inside()?;
-        if document.unclosed.is_empty() {
-            return Ok(document);
+    pub(crate) fn say(&mut self, said: &[u8]) {
+        self.inside();
+        if self.unclosed.is_empty() {
+            return;
         }
-        let Document {
-            mut text,
-            unclosed,
-            given,
-            in_head: _,
-        } = document;
-        escape_all(&mut text, said)?;
-        Ok(Document {
-            text,
-            unclosed,
-            given,
-            in_head: false,
-        })
+        let Ok(()) = escape_all(&mut self.text, said) else {
+            self.refused = true;
+            return;
+        };
     }
 
     /// Closes the element that was opened last and isn't closed.
     #[tactic(auto, using(crate::proofs::Written::closed))]
-    pub(crate) fn close(self) -> Result<Document, AllocError>
-        ensures head { IfOk result (λ document. document.in_head ≡ false) }
-        ensures unclosed { IfOk result (λ document. document.unclosed.items ≡ take (length self.unclosed.items - 1) self.unclosed.items) }
+    pub(crate) fn close(&mut self)
+        ensures head { self.new.in_head ≡ false }
+        ensures unclosed { self.new.unclosed.items ≡ take (length self.old.unclosed.items - 1) self.old.unclosed.items }
     {
-        let Document {
-            mut text,
-            mut unclosed,
-            given,
-            in_head: _,
-        } = self.inside()?;
-        if let Some(tag) = unclosed.pop() {
-            put(&mut text, b"</", tag.name().as_bytes(), b">")?;
-        }
-        Ok(Document {
-            text,
-            unclosed,
-            given,
-            in_head: false,
-        })
+        self.inside();
+        let Some(tag) = self.unclosed.pop() else {
+            return;
+        };
+        let Ok(()) = put(&mut self.text, b"</", tag.name().as_bytes(), b">") else {
+            self.refused = true;
+            return;
+        };
     }
 
     /// Closes what is open, and gives the text.
     pub(crate) fn finish(self) -> Result<Vec<u8>, AllocError>
         ensures { IfOk result (λ text. IsDocument text.items) }
     {
-        let mut document = self.inside()?;
+        let mut document = self;
+        document.inside();
         while !document.unclosed.is_empty() {
-            document = document.close()?;
+            document.close();
+        }
+        if document.refused {
+            return Err(AllocError);
         }
         Ok(document.text)
     }

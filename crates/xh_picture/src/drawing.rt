@@ -27,20 +27,20 @@ fn colour(alloc: Global, number: usize) -> Result<Vec<u8>, AllocError> {
 
 /// Gives an open rectangle the look of a holder: a process has a full colour, a direction a pale one
 /// and a dashed edge.
-fn look(alloc: Global, document: Document, keeper: Keeper) -> Result<Document, AllocError> {
+fn look(alloc: Global, document: &mut Document, keeper: Keeper) -> Result<(), AllocError> {
     match keeper {
-        Keeper::Process { name, .. } => document
-            .give(Key::Fill, &colour(alloc, usize::from(name))?)?
-            .give(Key::Stroke, b"#333333"),
+        Keeper::Process { name, .. } => {
+            document.give(Key::Fill, &colour(alloc, usize::from(name))?);
+            document.give(Key::Stroke, b"#333333");
+        }
         Keeper::Direction(direction) => {
-            let colour = colour(alloc, usize::from(direction) + 3)?;
-            document
-                .give(Key::Fill, &colour)?
-                .give(Key::FillOpacity, b"0.35")?
-                .give(Key::Stroke, b"#333333")?
-                .give(Key::Dashes, b"3")
+            document.give(Key::Fill, &colour(alloc, usize::from(direction) + 3)?);
+            document.give(Key::FillOpacity, b"0.35");
+            document.give(Key::Stroke, b"#333333");
+            document.give(Key::Dashes, b"3");
         }
     }
+    Ok(())
 }
 
 /// The keepers of the legend: each process, and each direction that held a block.
@@ -62,44 +62,43 @@ fn keepers_of(alloc: Global, processes: usize, bars: &[Bar]) -> Result<Vec<Keepe
     Ok(keepers)
 }
 
-/// Draws the legend.
-fn draw_legend(
+/// Draws an entry of the legend.
+fn draw_entry(
     alloc: Global,
-    document: Document,
+    document: &mut Document,
     labels: &Labels,
-    keepers: &[Keeper],
-) -> Result<Document, AllocError> {
-    let mut document = document;
-    for (index, keeper) in keepers.iter().enumerate() {
-        let (x, y) = entry(index);
-        let square = Area {
-            x,
-            y,
-            width: 12,
-            height: 12,
-        };
-        document = look(alloc, open_rect(document, square)?, *keeper)?.close()?;
-        let said = labels.holder(alloc, *keeper)?;
-        document = words(
-            document,
-            x.saturating_add(18),
-            y.saturating_add(10),
-            &said,
-            LETTERS,
-        )?;
-    }
-    Ok(document)
+    index: usize,
+    keeper: Keeper,
+) -> Result<(), AllocError> {
+    let (x, y) = entry(index);
+    let square = Area {
+        x,
+        y,
+        width: 12,
+        height: 12,
+    };
+    open_rect(document, square);
+    look(alloc, document, keeper)?;
+    document.close();
+    let said = labels.holder(alloc, keeper)?;
+    words(
+        document,
+        x.saturating_add(18),
+        y.saturating_add(10),
+        &said,
+        LETTERS,
+    );
+    Ok(())
 }
 
 /// Draws the texts of a row.
 fn draw_row(
     alloc: Global,
-    document: Document,
+    document: &mut Document,
     y: u64,
     command: &[u8],
     answered: &Answered,
-) -> Result<Document, AllocError> {
-    let mut document = document;
+) -> Result<(), AllocError> {
     if is_refused(&answered.reply) {
         let area = Area {
             x: REPLIES - 4,
@@ -107,144 +106,183 @@ fn draw_row(
             width: STRIPS - REPLIES - LETTER,
             height: ROW,
         };
-        document = rect(document, area, b"#f9c4c9")?;
+        rect(document, area, b"#f9c4c9");
     }
     let base = y.saturating_add(12);
     let reply = reply_text(alloc, answered)?;
-    document = words(document, COMMANDS, base, command, LETTERS)?;
-    words(document, REPLIES, base, &reply, LETTERS)
+    words(document, COMMANDS, base, command, LETTERS);
+    words(document, REPLIES, base, &reply, LETTERS);
+    Ok(())
 }
 
 /// Draws the texts of all rows.
 fn draw_rows(
     alloc: Global,
-    document: Document,
+    document: &mut Document,
     layout: &Layout,
     labels: &Labels,
     answers: &[Answered],
-) -> Result<Document, AllocError> {
-    let mut document = document;
+) -> Result<(), AllocError> {
     for (row, answered) in answers.iter().enumerate() {
         let command = labels.commands.get(row).copied().unwrap_or(&[]);
-        document = draw_row(alloc, document, layout.row(row), command, answered)?;
+        draw_row(alloc, document, layout.row(row), command, answered)?;
     }
-    Ok(document)
+    Ok(())
+}
+
+/// What stands above the strip of an arena.
+fn heading(alloc: Global, arena: u8, shown: u32, size: u32) -> Result<Vec<u8>, AllocError> {
+    let mut number = Buffer::new();
+    let mut some = Buffer::new();
+    let mut all = Buffer::new();
+    phrase(
+        alloc,
+        &[
+            b"arena ",
+            number.format(arena).as_bytes(),
+            b": the first ",
+            some.format(shown).as_bytes(),
+            b" of ",
+            all.format(size).as_bytes(),
+            b" bytes",
+        ],
+    )
 }
 
 /// Draws the heads of the columns, and the strips of the arenas, all holes.
 fn draw_strips(
     alloc: Global,
-    document: Document,
+    document: &mut Document,
     layout: &Layout,
     config: &Config,
-) -> Result<Document, AllocError> {
+) -> Result<(), AllocError> {
     let base = layout.row(0).saturating_sub(6);
-    let mut shown = Buffer::new();
-    let shown = shown.format(layout.shown());
-    let mut size = Buffer::new();
-    let size = size.format(config.bytes);
-    let mut document = words(document, COMMANDS, base, b"command", LETTERS)?;
-    document = words(document, REPLIES, base, b"line and reply", LETTERS)?;
+    words(document, COMMANDS, base, b"command", LETTERS);
+    words(document, REPLIES, base, b"line and reply", LETTERS);
     for arena in 0..config.arenas {
-        let mut number = Buffer::new();
-        let number = number.format(arena);
-        let said = phrase(
-            alloc,
-            &[
-                b"arena ",
-                number.as_bytes(),
-                b": the first ",
-                shown.as_bytes(),
-                b" of ",
-                size.as_bytes(),
-                b" bytes",
-            ],
-        )?;
+        let said = heading(alloc, arena, layout.shown(), config.bytes)?;
         let area = layout.strip(u16::from(arena));
-        document = rect(document, area, b"#ffffff")?;
-        document = words(
-            document,
-            area.x,
-            base,
-            &said,
-            (area.width / LETTER) as usize,
-        )?;
+        rect(document, area, b"#ffffff");
+        let letters = (area.width / LETTER) as usize;
+        words(document, area.x, base, &said, letters);
     }
-    Ok(document)
+    Ok(())
+}
+
+/// Draws the circle of an endpoint.
+fn draw_circle(document: &mut Document, area: Area) {
+    document.open(Tag::Circle);
+    document.measure(Key::CentreX, area.x.saturating_add(8));
+    document.measure(Key::CentreY, area.y.saturating_add(8));
+    document.measure(Key::Radius, 4);
+    document.give(Key::Fill, b"#ffffff");
+    document.give(Key::Stroke, b"#333333");
+    document.close();
 }
 
 /// Draws a bar: an endpoint has a circle, and there stands whose it is where there is room.
 fn draw_bar(
     alloc: Global,
-    document: Document,
-    layout: &Layout,
+    document: &mut Document,
+    area: Area,
     labels: &Labels,
     bar: &Bar,
-) -> Result<Document, AllocError> {
-    let area = layout.bar(bar);
-    let told = labels.bar(alloc, bar)?;
-    let short = labels.short(alloc, bar.keeper)?;
-    let mut document = look(alloc, open_rect(document, area)?, bar.keeper)?;
-    document = tell(document, &told)?.close()?;
+) -> Result<(), AllocError> {
+    open_rect(document, area);
+    look(alloc, document, bar.keeper)?;
+    tell(document, &labels.bar(alloc, bar)?);
+    document.close();
     if bar.is_end {
-        document = document
-            .open(Tag::Circle)?
-            .measure(Key::CentreX, area.x.saturating_add(8))?
-            .measure(Key::CentreY, area.y.saturating_add(8))?
-            .measure(Key::Radius, 4)?
-            .give(Key::Fill, b"#ffffff")?
-            .give(Key::Stroke, b"#333333")?
-            .close()?;
+        draw_circle(document, area);
     }
+    let short = labels.short(alloc, bar.keeper)?;
     let letters = (area.width / LETTER).saturating_sub(3) as usize;
-    if short.len() > letters {
-        return Ok(document);
+    if short.len() <= letters {
+        let x = area.x.saturating_add(16);
+        let y = area.y.saturating_add(12);
+        words(document, x, y, &short, LETTERS);
     }
-    words(
-        document,
-        area.x.saturating_add(16),
-        area.y.saturating_add(12),
-        &short,
-        LETTERS,
-    )
+    Ok(())
 }
 
-/// Draws the bars, and then a line above each row.
-fn draw_bars(
-    alloc: Global,
-    document: Document,
-    layout: &Layout,
-    labels: &Labels,
-    bars: &[Bar],
-) -> Result<Document, AllocError> {
-    let mut document = document;
-    for bar in bars {
-        document = draw_bar(alloc, document, layout, labels, bar)?;
-    }
-    for row in 0..labels.commands.len() {
+/// Draws a line above each row.
+fn draw_lines(document: &mut Document, layout: &Layout, rows: usize) {
+    for row in 0..rows {
         let line = Area {
             x: 0,
             y: layout.row(row),
             width: layout.whole().width,
             height: 1,
         };
-        document = open_rect(document, line)?
-            .give(Key::FillOpacity, b"0.12")?
-            .close()?;
+        open_rect(document, line);
+        document.give(Key::FillOpacity, b"0.12");
+        document.close();
     }
-    Ok(document)
 }
 
 /// Begins the document of a picture of this size.
 fn begin(alloc: Global, whole: Area) -> Result<Document, AllocError> {
-    let document = Document::new(alloc, Tag::Svg)?
-        .give(Key::Xmlns, b"http://www.w3.org/2000/svg")?
-        .measure(Key::Width, whole.width)?
-        .measure(Key::Height, whole.height)?
-        .give(Key::FontFamily, b"monospace")?
-        .measure(Key::FontSize, 11)?;
-    let document = rect(tell(document, HEADING)?, whole, b"#eeeeee")?;
-    words(document, COMMANDS, 28, HEADING, HEADING.len())
+    let mut document = Document::new(alloc, Tag::Svg)?;
+    document.give(Key::Xmlns, b"http://www.w3.org/2000/svg");
+    document.measure(Key::Width, whole.width);
+    document.measure(Key::Height, whole.height);
+    document.give(Key::FontFamily, b"monospace");
+    document.measure(Key::FontSize, 11);
+    tell(&mut document, HEADING);
+    rect(&mut document, whole, b"#eeeeee");
+    words(&mut document, COMMANDS, 28, HEADING, HEADING.len());
+    Ok(document)
+}
+
+/// Draws the legend, the rows, the strips, the bars, and then a line above each row.
+fn draw_parts(
+    alloc: Global,
+    document: &mut Document,
+    config: &Config,
+    layout: &Layout,
+    labels: &Labels,
+    keepers: &[Keeper],
+    bars: &[Bar],
+    answers: &[Answered],
+) -> Result<(), AllocError> {
+    for (index, keeper) in keepers.iter().enumerate() {
+        draw_entry(alloc, document, labels, index, *keeper)?;
+    }
+    draw_rows(alloc, document, layout, labels, answers)?;
+    draw_strips(alloc, document, layout, config)?;
+    for bar in bars {
+        draw_bar(alloc, document, layout.bar(bar), labels, bar)?;
+    }
+    draw_lines(document, layout, answers.len());
+    Ok(())
+}
+
+/// The picture of what was found of a run.
+fn picture_of(
+    alloc: Global,
+    config: &Config,
+    labels: &Labels,
+    keepers: &[Keeper],
+    bars: &[Bar],
+    answers: &[Answered],
+) -> Result<Vec<u8>, AllocError>
+    ensures { IfOk result (λ picture. IsPicture picture.items) }
+{
+    let layout = Layout::new(config, keepers.len(), answers.len(), bars);
+    let mut document = begin(alloc, layout.whole())?;
+    draw_parts(
+        alloc,
+        &mut document,
+        config,
+        &layout,
+        labels,
+        keepers,
+        bars,
+        answers,
+    )?;
+    let mut picture = document.finish()?;
+    picture.extend_from_slice(b"\n")?;
+    Ok(picture)
 }
 
 /// The picture of a run: the script's text, the names of its processes, and what its commands did.
@@ -260,13 +298,5 @@ pub fn draw(
     let bars = history.bars(alloc)?;
     let labels = Labels::new(alloc, text, processes, history)?;
     let keepers = keepers_of(alloc, processes.len(), &bars)?;
-    let layout = Layout::new(config, keepers.len(), history.answers.len(), &bars);
-    let mut document = begin(alloc, layout.whole())?;
-    document = draw_legend(alloc, document, &labels, &keepers)?;
-    document = draw_rows(alloc, document, &layout, &labels, &history.answers)?;
-    document = draw_strips(alloc, document, &layout, config)?;
-    document = draw_bars(alloc, document, &layout, &labels, &bars)?;
-    let mut picture = document.finish()?;
-    picture.extend_from_slice(b"\n")?;
-    Ok(picture)
+    picture_of(alloc, config, &labels, &keepers, &bars, &history.answers)
 }

@@ -30,13 +30,17 @@ fn piece_at(text: &[u8], separator: u8, index: usize) -> &[u8] {
         .unwrap_or(&[])
 }
 
-/// The lines of a text that have a reply.
+/// The lines of a text.
+fn lines_of<'a>(alloc: Global, text: &'a [u8]) -> Result<Vec<&'a [u8]>, AllocError> {
+    text.split(|byte| *byte == b'\n').collect(alloc)
+}
+
+/// Those of the lines that have a reply.
 fn commands_of<'a>(
     alloc: Global,
-    text: &'a [u8],
+    lines: &[&'a [u8]],
     answers: &[Answered],
 ) -> Result<Vec<&'a [u8]>, AllocError> {
-    let lines: Vec<&[u8]> = text.split(|byte| *byte == b'\n').collect(alloc)?;
     let mut commands = Vec::with_capacity(alloc, answers.len())?;
     for answered in answers {
         let index = (answered.line as usize).saturating_sub(1);
@@ -80,9 +84,10 @@ impl<'a> Labels<'a> {
         processes: &'a [Name],
         history: &'a History,
     ) -> Result<Labels<'a>, AllocError> {
+        let lines = lines_of(alloc, text)?;
         Ok(Labels {
             processes,
-            commands: commands_of(alloc, text, &history.answers)?,
+            commands: commands_of(alloc, &lines, &history.answers)?,
             channels: &history.channels,
         })
     }

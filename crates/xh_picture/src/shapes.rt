@@ -1,7 +1,6 @@
 //! Rectangles and texts.
 use crate::document::Document;
 use crate::tags::{Key, Tag};
-use std::alloc::AllocError;
 
 /// What is written in black.
 pub(crate) const INK: &[u8] = b"#222222";
@@ -16,53 +15,45 @@ pub(crate) struct Area {
 }
 
 /// Opens a rectangle.
-pub(crate) fn open_rect(document: Document, area: Area) -> Result<Document, AllocError> {
-    document
-        .open(Tag::Rect)?
-        .measure(Key::X, area.x)?
-        .measure(Key::Y, area.y)?
-        .measure(Key::Width, area.width)?
-        .measure(Key::Height, area.height)
+pub(crate) fn open_rect(document: &mut Document, area: Area) {
+    document.open(Tag::Rect);
+    document.measure(Key::X, area.x);
+    document.measure(Key::Y, area.y);
+    document.measure(Key::Width, area.width);
+    document.measure(Key::Height, area.height);
 }
 
 /// A rectangle of one colour.
-pub(crate) fn rect(document: Document, area: Area, fill: &[u8]) -> Result<Document, AllocError> {
-    open_rect(document, area)?.give(Key::Fill, fill)?.close()
+pub(crate) fn rect(document: &mut Document, area: Area, fill: &[u8]) {
+    open_rect(document, area);
+    document.give(Key::Fill, fill);
+    document.close();
 }
 
 /// Opens a text that begins at a place.
-pub(crate) fn open_words(
-    document: Document,
-    x: u64,
-    y: u64,
-    ink: &[u8],
-) -> Result<Document, AllocError> {
-    document
-        .open(Tag::Text)?
-        .measure(Key::X, x)?
-        .measure(Key::Y, y)?
-        .give(Key::Fill, ink)
+pub(crate) fn open_words(document: &mut Document, x: u64, y: u64, ink: &[u8]) {
+    document.open(Tag::Text);
+    document.measure(Key::X, x);
+    document.measure(Key::Y, y);
+    document.give(Key::Fill, ink);
 }
 
 /// What is told of the open element when one points to it.
-pub(crate) fn tell(document: Document, said: &[u8]) -> Result<Document, AllocError> {
-    document.open(Tag::Title)?.say(said)?.close()
+pub(crate) fn tell(document: &mut Document, said: &[u8]) {
+    document.open(Tag::Title);
+    document.say(said);
+    document.close();
 }
 
 /// A text of so many letters at most; of a longer one a front, and the whole when one points to it.
-pub(crate) fn words(
-    document: Document,
-    x: u64,
-    y: u64,
-    said: &[u8],
-    most: usize,
-) -> Result<Document, AllocError> {
-    let document = open_words(document, x, y, INK)?;
+pub(crate) fn words(document: &mut Document, x: u64, y: u64, said: &[u8], most: usize) {
+    open_words(document, x, y, INK);
     if said.len() <= most {
-        return document.say(said)?.close();
+        document.say(said);
+    } else {
+        tell(document, said);
+        document.say(&said[..most]);
+        document.say(b"..");
     }
-    tell(document, said)?
-        .say(&said[..most])?
-        .say(b"..")?
-        .close()
+    document.close();
 }
