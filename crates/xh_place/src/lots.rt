@@ -187,6 +187,7 @@ pub(crate) fn make_block<V: Vaults, G: Gate>(
     };
     let mut body = Body::Data(buffer);
     let filled = fill_lot(records, seat, r, vaults, tally, n, &mut body);
+    drop(body);
     let Err(refused) = filled else {
         return Ok(r);
     };

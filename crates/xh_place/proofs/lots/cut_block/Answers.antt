@@ -1,4 +1,5 @@
-use Rattle.std.proofs.Common.{arith, ◌≡◌, ℕ, ◌-◌, ◌/◌, ◌<◌, List, length, refl, sym, ap, ◌∙◌, subst}
+use Rattle.std.proofs.Common.{◌≡◌, ℕ, ◌-◌, ◌/◌, ◌<◌, List, length, refl, sym, ap, ◌∙◌, subst}
+use Rattle.std.proofs.Math.Nat.{le_of_lt}
 use Rattle.std.specs.Prelude.{Some, slice_get}
 use Rattle.atomic_table.specs.Seated.{TableId}
 use Rattle.xh_arena.specs.Views.{LotOf}
@@ -11,13 +12,16 @@ use Rattle.xh_place.proofs.Moves.{claims, vacates}
 use Rattle.xh_place.proofs.Parted.{cutting, lent, is_cut}
 use Rattle.xh_place.proofs.lots.cut_block.Goals as goal
 
+same : {X : Type 0} (x y : X) → Some x ≡ Some y → x ≡ y
+same x y e = cc
+
 pub rest_of-requires-clause-held : goal.rest_of-requires-clause-held
 rest_of-requires-clause-held g c =
     let h = c.requires.held in let t = c.in-Ok.ensures.claimed in let r : ℕ = c.args.r in let n : ℕ = c.in-Ok.t in let all = c.args.records.now in let seat = c.args.seat.now in
     let there : IsRecord all.shape r = subst (λ s. IsRecord s r) c.requires.own.1 h.2.exists in
     let exists : IsRecord all.shape n = (subst (λ (z : ℕ). z < length all.shape.names) (sym c.in-Ok.ensures.record.0) there.0, c.in-Ok.ensures.record.1) in
     let k = cutting all seat c.claim.new.seat r n h.0 t.0 c.requires.own h.1 h.2 exists t.2 c.in-Ok.ensures.fresh (claims seat c.claim.new.seat _ _ _ t.1) in
-    let below : c.args.k < h.0.len = h.4.2 in (h.0, k.head, k.head_lot, h.3, omega arith)
+    (h.0, k.head, k.head_lot, h.3, le_of_lt h.4.2)
 
 pub vacate-requires-clause-own : goal.vacate-requires-clause-own
 vacate-requires-clause-own g c =
@@ -62,7 +66,7 @@ part_lots-requires-clause-held g c =
     let exists : IsRecord all.shape n = (subst (λ (z : ℕ). z < length all.shape.names) (sym c.in-Ok.ensures.record.0) there.0, c.in-Ok.ensures.record.1) in
     let k = cutting all seat c.claim.new.seat r n h.0 t.0 c.requires.own h.1 h.2 exists t.2 c.in-Ok.ensures.fresh (claims seat c.claim.new.seat _ _ _ t.1) in
     let j = lent all seat c.claim.new.seat c.rest_of.new.seat r n h.0 t.0 k (c.rest_of.ensures h.0 k.head).1 in
-    let e : Some t.0.id ≡ Some h.0.id = sym t.2.1 ∙ ap (slice_get seat.shape.names) c.in-Ok.ensures.record.0 ∙ h.2.lot.1 in let ids : t.0.id ≡ h.0.id = cc in
+    let e : Some t.0.id ≡ Some h.0.id = sym t.2.1 ∙ ap (slice_get seat.shape.names) c.in-Ok.ensures.record.0 ∙ h.2.lot.1 in let ids = same t.0.id h.0.id e in
     (h.0, t.0, j.head, j.tail, j.head_lot, j.tail_lot, ap (λ (z : List TableId). slice_get z (r / 256)) c.requires.names ∙ h.2.lot.1, ids, t.3.0, h.4, h.3.1, h.3.0)
 
 pub returns-clause-cut : goal.returns-clause-cut
@@ -75,5 +79,4 @@ returns-clause-cut g c = λ l at.
     let p = c.part_lots.ensures.parted h.0 t.0 j.head j.tail in let b : Body = Data c.in-Some.buffer in
     let cut = is_cut all seat c.rest_of.new.seat c.part_lots.new.seat r n c.args.k h.0 t.0 p.0 (record t.0 { len = h.0.len - c.args.k; body = b }) b j c.in-Ok.ensures.fresh h.2 t.2
     (subst (λ s. IsRecord s n) (sym c.requires.own.1) exists) h.3 h.4 c.in-Ok.ensures.record.0 p.1 p.2 refl (c.in-Some.ensures h.0 k.head).0 p.3 in
-    let two : Some h.0 ≡ Some l = sym h.1 ∙ at in let one : h.0 ≡ l = cc in
-    subst (λ (z : LotOf Body). IsCut seat c.part_lots.new.seat r c.args.k z n) one cut
+    subst (λ (z : LotOf Body). IsCut seat c.part_lots.new.seat r c.args.k z n) (same h.0 l (sym h.1 ∙ at)) cut
