@@ -8,7 +8,7 @@ ghost use Rattle.xh_channel.specs.Ends.{given_back};
 ghost use Rattle.xh_channel.specs.inner.FreeNumbers.{StandAtTheirNumbers, at_place, has_depth};
 ghost use Rattle.xh_channel.specs.Numbers.{message};
 ghost use Rattle.xh_channel.specs.Pairs.{IsPair};
-ghost use Rattle.xh_channel.specs.QueueEnds.{incoming_role, outgoing_role};
+ghost use Rattle.xh_channel.specs.QueueEnds.{IsNewDirection, incoming_role, outgoing_role};
 ghost use Rattle.xh_channel.specs.Queues.{IsSameEnd, KeepsItsMessages, PutsAs, PutsWhere, ShutsAs, TakesAs, TakesWhere, Unpushed};
 ghost use Rattle.xh_channel.specs.declared.refused.Refused.TheVariants.{OutOfMemory, BadSize, NoChannel};
 
@@ -19,7 +19,7 @@ use crate::endpoint::Endpoint;
 use crate::free_numbers::{FreeNumbers, Home};
 use crate::free_pair::FreePair;
 use crate::message::Message;
-use crate::queue_end::direction;
+use crate::queue_end::{ReceivingEnd, SendingEnd, direction};
 use crate::refused::Refused;
 use crate::room::Room;
 use crate::spot::Spot;
@@ -43,6 +43,19 @@ pub struct Channels {
     ghost each: { length rooms.items ≡ CHANNELS },
 }
 
+// Both ends of a direction.
+type Direction = (SendingEnd, ReceivingEnd);
+
+// Both directions of a channel.
+fn directions(alloc: Global, depth: usize) -> Result<(Direction, Direction), AllocError>
+    requires { 0 < depth }
+    ensures { IfOk result (λ d. IsNewDirection depth d.0.0 d.0.1 × IsNewDirection depth d.1.0 d.1.1) }
+{
+    let there = direction(alloc, depth)?;
+    let back = direction(alloc, depth)?;
+    Ok((there, back))
+}
+
 // Both ends of the channel that is made next.
 fn pair(
     alloc: Global,
@@ -53,12 +66,13 @@ fn pair(
     requires { (0 < depth) × (channel < CHANNELS) × (words.old ≡ 2 * channel) }
     ensures { IfOk result (λ p. (p.low.channel ≡ channel) × (p.low.depth ≡ depth) × (words.new ≡ 2 * channel + 2)) }
 {
-    let (low_sender, high_receiver) = direction(alloc, depth)?;
-    let (high_sender, low_receiver) = direction(alloc, depth)?;
+    let low_word = words.next()?;
+    let high_word = words.next()?;
+    let (there, back) = directions(alloc, depth)?;
     let low_spot = Spot { channel, side: 0 };
-    let low = ChannelEnd::new(low_spot, low_sender, low_receiver, words.next()?);
+    let low = ChannelEnd::new(low_spot, there.0, back.1, low_word);
     let high_spot = Spot { channel, side: 1 };
-    let high = ChannelEnd::new(high_spot, high_sender, high_receiver, words.next()?);
+    let high = ChannelEnd::new(high_spot, back.0, there.1, high_word);
     Ok(FreePair { low, high })
 }
 

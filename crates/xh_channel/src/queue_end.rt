@@ -1,7 +1,7 @@
 // The ends of a direction's queue. An endpoint has the sending end of one, and the receiving end of the other.
 ghost use Rattle.std.specs.Prelude.{◌≡◌, ◌<◌, ℕ, suc, List, [], ◌∷◌, ◌++◌, length, MatchOption, MatchResult, IfOk};
 ghost use Rattle.crossbeam_queue.specs.Fifo.{Learns, Held};
-ghost use Rattle.xh_channel.specs.QueueEnds.{Outgoing, Incoming, sending, getting, outgoing_role, incoming_role};
+ghost use Rattle.xh_channel.specs.QueueEnds.{IsNewDirection, Outgoing, Incoming, sending, getting, outgoing_role, incoming_role};
 ghost use Rattle.xh_channel.specs.Directions.{Ordered, WaitsAfter};
 ghost use Rattle.xh_channel.specs.Numbers.{Numbered};
 
@@ -61,7 +61,7 @@ impl Model for ReceivingEnd {
 /// Both ends of a new direction.
 pub fn direction(alloc: Global, depth: usize) -> Result<(SendingEnd, ReceivingEnd), AllocError>
     requires { 0 < depth }
-    ensures { IfOk result (λ ends. (ends.0.depth ≡ depth) × (ends.1.queue ≡ ends.0.queue) × (ends.0.sent ≡ []) × (ends.1.got ≡ [])) }
+    ensures { IfOk result (λ ends. IsNewDirection depth ends.0 ends.1) }
 {
     let (queue, mut sending) = Queue::ruled(alloc, depth)?;
     let receiving = queue.another::<Halves>(&mut sending);
