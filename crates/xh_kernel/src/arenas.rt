@@ -76,14 +76,14 @@ impl<N: Names> Arenas<N> {
             arena7,
         } = self;
         let mut vaults = Vec::with_capacity(alloc, usize::from(count))?;
-        arena0.into_inner().into_inner().put_back(&mut vaults)?;
-        arena1.into_inner().into_inner().put_back(&mut vaults)?;
-        arena2.into_inner().into_inner().put_back(&mut vaults)?;
-        arena3.into_inner().into_inner().put_back(&mut vaults)?;
-        arena4.into_inner().into_inner().put_back(&mut vaults)?;
-        arena5.into_inner().into_inner().put_back(&mut vaults)?;
-        arena6.into_inner().into_inner().put_back(&mut vaults)?;
-        arena7.into_inner().into_inner().put_back(&mut vaults)?;
+        arena0.into_inner().into_inner().put_back(&mut vaults);
+        arena1.into_inner().into_inner().put_back(&mut vaults);
+        arena2.into_inner().into_inner().put_back(&mut vaults);
+        arena3.into_inner().into_inner().put_back(&mut vaults);
+        arena4.into_inner().into_inner().put_back(&mut vaults);
+        arena5.into_inner().into_inner().put_back(&mut vaults);
+        arena6.into_inner().into_inner().put_back(&mut vaults);
+        arena7.into_inner().into_inner().put_back(&mut vaults);
         Ok(vaults)
     }
 }

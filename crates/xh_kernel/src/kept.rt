@@ -1,5 +1,6 @@
 //! What lies behind an arena's lock.
-ghost use Rattle.std.specs.Prelude.{◌≡◌, ◌+◌, ◌-◌, ◌%◌, ◌<◌, slice_get, Some, take, drop, All, IfErr, IfOk, OnErr, OnOk};
+ghost use Rattle.std.specs.Prelude.{◌≡◌, ◌+◌, ◌-◌, ◌%◌, ◌<◌, ◌≤◌, length, slice_get, Some, take, drop, All, IfErr, IfOk, OnErr, OnOk};
+ghost use Rattle.std.specs.Vec.{vec_capacity};
 ghost use Rattle.std.specs.Vec.Iter.{into_iter_items};
 ghost use Rattle.xh_arena.specs.Refusals.{RefusesCarve};
 ghost use Rattle.xh_arena.specs.Views.{VaultOf};
@@ -8,7 +9,6 @@ ghost use Rattle.xh_model.specs.declared.limits.TheConstants.{UNIT};
 ghost use Rattle.xh_kernel.specs.Parts.{IsOpen, IsVaultOf, vault_names};
 
 use crate::names::Names;
-use std::alloc::AllocError;
 use std::marker::{Model, PhantomData};
 use std::vec::IntoIter;
 use xh_arena::{Lot, Refused, Tally, Vault};
@@ -53,18 +53,19 @@ impl<N: Names, const A: u8> Kept<N, A> {
         }
     }
 
-    // Puts the vault behind those of the arenas below A.
-    pub(crate) fn put_back(self, vaults: &mut Vec<Vault>) -> Result<(), AllocError>
+    // Puts the vault behind those of the arenas below A, where there is room for all.
+    pub(crate) fn put_back(self, vaults: &mut Vec<Vault>)
         requires names { vault_names vaults.old.items ≡ take A N.parts.records.shape.names }
         requires open_vaults { All (IsOpen N.parts) vaults.old.items }
-        ensures names { OnOk result (vault_names vaults.new.items ≡ take (A + 1) N.parts.records.shape.names) }
-        ensures open_vaults { OnOk result (All (IsOpen N.parts) vaults.new.items) }
+        requires room { length N.parts.records.shape.names ≤ vec_capacity vaults.old }
+        ensures names { vault_names vaults.new.items ≡ take (A + 1) N.parts.records.shape.names }
+        ensures open_vaults { All (IsOpen N.parts) vaults.new.items }
+        ensures room { vec_capacity vaults.new ≡ vec_capacity vaults.old }
     {
         let Kept { vault, of: _ } = self;
         if let Some(vault) = vault {
-            vaults.push(vault)?;
+            vaults.push_reserved(vault);
         }
-        Ok(())
     }
 
     // As `Vault::carve`, of this arena.

@@ -52,6 +52,38 @@ fn new_channels(alloc: Global, depth: u8) -> Result<Channels, Refused>
     Ok(channels)
 }
 
+// The parts of a kernel within its limits.
+fn make_parts(alloc: Global, config: Config, workers: u8) -> Result<Parts, Refused>
+    requires { ArePartsLimits config workers }
+    ensures refused { IfErr result (λ e. e ≡ Refused.OutOfMemory) }
+    ensures parts { IfOk result (λ p. (p.workers ≡ workers) × (p.size ≡ config.bytes) × (p.wear ≡ config.wear) × (p.depth ≡ config.depth)
+        × (p.records.shape.records ≡ config.records) × (length p.records.shape.names ≡ config.arenas)) }
+{
+    let Makings {
+        vaults,
+        lots,
+        names,
+        bundles,
+    } = make_vaults(alloc, config, workers)?;
+    let made = Records::new(alloc, lots, names, config.records, PLACES);
+    let Ok((records, seats)) = made else {
+        return Err(Refused::OutOfMemory);
+    };
+    let channels = new_channels(alloc, config.depth)?;
+    let (glances, pens, looks) = Glances::new(alloc, workers)?;
+    Ok(Parts {
+        vaults,
+        records,
+        seats,
+        channels,
+        glances,
+        pens,
+        bundles,
+        looks,
+        config,
+    })
+}
+
 impl Parts {
     /// The parts of an empty kernel of 32 places and 64 channels, for so many workers, 1 to 33, each of
     /// which gets an account and a look.
@@ -68,28 +100,6 @@ impl Parts {
         if !config.is_in_limits() || workers == 0 || workers > MAX_WORKERS {
             return Err(Refused::BadSize);
         }
-        let Makings {
-            vaults,
-            lots,
-            names,
-            bundles,
-        } = make_vaults(alloc, config, workers)?;
-        let made = Records::new(alloc, lots, names, config.records, PLACES);
-        let Ok((records, seats)) = made else {
-            return Err(Refused::OutOfMemory);
-        };
-        let channels = new_channels(alloc, config.depth)?;
-        let (glances, pens, looks) = Glances::new(alloc, workers)?;
-        Ok(Parts {
-            vaults,
-            records,
-            seats,
-            channels,
-            glances,
-            pens,
-            bundles,
-            looks,
-            config,
-        })
+        make_parts(alloc, config, workers)
     }
 }
