@@ -1,5 +1,5 @@
 //! Runs of a script on the serial machine, compared with what they are to write.
-use std::alloc::Global;
+use std::alloc::{AllocError, Global};
 use std::process::Abort;
 use std::sync::Wait;
 use std::test::Fail;
@@ -16,6 +16,17 @@ pub(crate) const SMALL: Config = Config {
     depth: 4,
     wear: 9_223_372_036_854_775_807,
 };
+
+/// The text goes on with a number between two texts.
+pub(crate) fn push_number(
+    alloc: Global,
+    text: &mut String,
+    before: &str,
+    number: u32,
+    after: &str,
+) -> Result<(), AllocError> {
+    text.push_str(format!(in alloc; "{before}{number}{after}")?.as_str())
+}
 
 /// The script is run to its end, and writes this.
 pub(crate) fn writes(

@@ -1,4 +1,5 @@
 //! Small random scripts.
+use crate::orders::scripts::Piece::{E, Either, End, Is, Me, One, X};
 use rand_core::Rng;
 use rand_pcg::Pcg32;
 use std::alloc::{AllocError, Global};
@@ -27,56 +28,47 @@ pub(super) struct Line {
 #[derive(Clone, Copy)]
 struct Role {
     name: &'static str,
-    first: &'static str,
-    second: &'static str,
+    ends: [&'static str; 2],
 }
 
 const PAIR: [Role; 2] = [
     Role {
         name: "a",
-        first: "e",
-        second: "e",
+        ends: ["e", "e"],
     },
     Role {
         name: "b",
-        first: "f",
-        second: "f",
+        ends: ["f", "f"],
     },
 ];
 
 const RING: [Role; 3] = [
     Role {
         name: "a",
-        first: "e",
-        second: "j",
+        ends: ["e", "j"],
     },
     Role {
         name: "b",
-        first: "f",
-        second: "g",
+        ends: ["f", "g"],
     },
     Role {
         name: "c",
-        first: "h",
-        second: "i",
+        ends: ["h", "i"],
     },
 ];
 
 const STAR: [Role; 3] = [
     Role {
         name: "a",
-        first: "e",
-        second: "g",
+        ends: ["e", "g"],
     },
     Role {
         name: "b",
-        first: "f",
-        second: "f",
+        ends: ["f", "f"],
     },
     Role {
         name: "c",
-        first: "h",
-        second: "h",
+        ends: ["h", "h"],
     },
 ];
 
@@ -87,95 +79,138 @@ const RING_HEAD: &str =
 
 const STAR_HEAD: &str = "process a\nprocess b\nprocess c\nwire a e b f 0\nwire a g c h 0\n";
 
-fn below(random: &mut Pcg32, count: u32) -> u32 {
-    let word = random.next_u32();
+/// A piece of a command.
+#[derive(Clone, Copy)]
+enum Piece {
+    /// This text.
+    Is(&'static str),
+    /// This text for the process `a`, and that for all others.
+    Either(&'static str, &'static str),
+    /// The process.
+    Me,
+    /// The command's block.
+    X,
+    /// The command's endpoint.
+    E,
+    /// One of its endpoints.
+    End,
+    /// One of these texts.
+    One(&'static [&'static str]),
+}
+
+const BLOCKS: &[&str] = &["x", "y", "z"];
+
+const SIZES: &[&str] = &["16", "32", "48"];
+
+const TAGS: &[&str] = &["0", "1", "2", "3", "4", "5", "6", "7", "8"];
+
+const DIGITS: &[&str] = &["0", "1", "2", "3", "4", "5", "6", "7", "8", "9"];
+
+const ALLOC: &[Piece] = &[Is(" alloc "), X, Is(" "), One(SIZES), Is(" 0\n")];
+
+const GIVE: &[Piece] = &[Is(" give "), E, Is(" "), One(TAGS), Is(" "), X, Is("\n")];
+
+const TAKE: &[Piece] = &[Is(" take "), E, Is(" "), X, Is("\n")];
+
+const FREE: &[Piece] = &[Is(" free "), X, Is("\n")];
+
+const CLOSE: &[Piece] = &[Is(" close "), E, Is("\n")];
+
+const GLANCE: &[Piece] = &[Is(" glance "), Me, Is("\n")];
+
+/// Commands that end nothing; a give may carry an endpoint.
+const WORKING: [&[Piece]; 16] = [
+    ALLOC,
+    ALLOC,
+    ALLOC,
+    &[Is(" split "), X, Is(" 16 "), One(BLOCKS), Is("\n")],
+    &[Is(" read "), X, Is(" 0 4\n")],
+    &[Is(" write "), X, Is(" 1 0"), One(DIGITS), Is("\n")],
+    GIVE,
+    GIVE,
+    &[
+        Is(" give "),
+        E,
+        Is(" 9 "),
+        X,
+        Is(" "),
+        One(BLOCKS),
+        Is("\n"),
+    ],
+    &[Is(" give "), E, Is(" 10 "), End, Is("\n")],
+    TAKE,
+    TAKE,
+    &[Is(" take "), E, Is(" "), X, Is(" "), One(BLOCKS), Is("\n")],
+    FREE,
+    FREE,
+    GLANCE,
+];
+
+/// Commands of a script in which processes and channels end. A give carries at most one data block, and only the
+/// first process kills, which doesn't end.
+const ENDING: [&[Piece]; 16] = [
+    ALLOC,
+    ALLOC,
+    ALLOC,
+    GIVE,
+    GIVE,
+    GIVE,
+    &[Is(" give "), E, Is(" 10\n")],
+    TAKE,
+    TAKE,
+    FREE,
+    GLANCE,
+    CLOSE,
+    CLOSE,
+    &[Either(" kill b\n", " exit\n")],
+    &[Either(" kill b 1\n", " exit 1\n")],
+    &[Either(" kill c\n", " again\n")],
+];
+
+fn below(random: &mut Pcg32, count: usize) -> usize {
+    let word = random.next_u32() as usize;
     if count == 0 { 0 } else { word % count }
 }
 
-fn block(random: &mut Pcg32) -> &'static str {
-    match below(random, 3) {
-        0 => "x",
-        1 => "y",
-        _ => "z",
+fn one_of(random: &mut Pcg32, texts: &[&'static str]) -> &'static str {
+    let at = below(random, texts.len());
+    texts.get(at).copied().unwrap_or("")
+}
+
+// What stands for a piece in a command with this block and this endpoint.
+fn piece_text(
+    random: &mut Pcg32,
+    role: Role,
+    x: &'static str,
+    e: &'static str,
+    piece: Piece,
+) -> &'static str {
+    match piece {
+        Is(text) => text,
+        Either(first, other) => { if role.name == "a" { first } else { other } }
+        Me => role.name,
+        X => x,
+        E => e,
+        End => one_of(random, &role.ends),
+        One(texts) => one_of(random, texts),
     }
 }
 
-fn end(random: &mut Pcg32, role: Role) -> &'static str {
-    match below(random, 2) {
-        0 => role.first,
-        _ => role.second,
+// One of the commands.
+fn command(
+    alloc: Global,
+    random: &mut Pcg32,
+    role: Role,
+    commands: &[&[Piece]],
+) -> Result<String, AllocError> {
+    let x = one_of(random, BLOCKS);
+    let e = one_of(random, &role.ends);
+    let at = below(random, commands.len());
+    let mut text = String::from_str(alloc, role.name)?;
+    for piece in commands.get(at).copied().unwrap_or(&[]) {
+        text.push_str(piece_text(random, role, x, e, *piece))?;
     }
-}
-
-// A command that ends nothing; a give may carry an endpoint.
-fn working(alloc: Global, random: &mut Pcg32, role: Role) -> Result<String, AllocError> {
-    let name = role.name;
-    let x = block(random);
-    let e = end(random, role);
-    match below(random, 16) {
-        0 | 1 | 2 => {
-            let bytes = below(random, 3).saturating_add(1).saturating_mul(16);
-            format!(in alloc; "{name} alloc {x} {bytes} 0\n")
-        }
-        3 => {
-            let t = block(random);
-            format!(in alloc; "{name} split {x} 16 {t}\n")
-        }
-        4 => format!(in alloc; "{name} read {x} 0 4\n"),
-        5 => {
-            let byte = below(random, 10);
-            format!(in alloc; "{name} write {x} 1 0{byte}\n")
-        }
-        6 | 7 => {
-            let tag = below(random, 9);
-            format!(in alloc; "{name} give {e} {tag} {x}\n")
-        }
-        8 => {
-            let y = block(random);
-            format!(in alloc; "{name} give {e} 9 {x} {y}\n")
-        }
-        9 => {
-            let d = end(random, role);
-            format!(in alloc; "{name} give {e} 10 {d}\n")
-        }
-        10 | 11 => format!(in alloc; "{name} take {e} {x}\n"),
-        12 => {
-            let y = block(random);
-            format!(in alloc; "{name} take {e} {x} {y}\n")
-        }
-        13 | 14 => format!(in alloc; "{name} free {x}\n"),
-        _ => format!(in alloc; "{name} glance {name}\n"),
-    }
-}
-
-// A command of a script in which processes and channels end. A give carries at most one data block, and only the
-// first process kills, which doesn't end.
-fn ending(alloc: Global, random: &mut Pcg32, role: Role) -> Result<String, AllocError> {
-    let name = role.name;
-    let x = block(random);
-    let e = end(random, role);
-    let kills = name == "a";
-    match below(random, 16) {
-        0 | 1 | 2 => {
-            let bytes = below(random, 3).saturating_add(1).saturating_mul(16);
-            format!(in alloc; "{name} alloc {x} {bytes} 0\n")
-        }
-        3 | 4 | 5 => {
-            let tag = below(random, 9);
-            format!(in alloc; "{name} give {e} {tag} {x}\n")
-        }
-        6 => format!(in alloc; "{name} give {e} 10\n"),
-        7 | 8 => format!(in alloc; "{name} take {e} {x}\n"),
-        9 => format!(in alloc; "{name} free {x}\n"),
-        10 => format!(in alloc; "{name} glance {name}\n"),
-        11 | 12 => format!(in alloc; "{name} close {e}\n"),
-        13 if kills => format!(in alloc; "{name} kill b\n"),
-        14 if kills => format!(in alloc; "{name} kill b 1\n"),
-        15 if kills => format!(in alloc; "{name} kill c\n"),
-        13 => format!(in alloc; "{name} exit\n"),
-        14 => format!(in alloc; "{name} exit 1\n"),
-        _ => format!(in alloc; "{name} again\n"),
-    }
+    Ok(text)
 }
 
 // So many commands of a process, behind those that are there.
@@ -185,14 +220,11 @@ fn add_lines(
     play: &mut Play,
     process: usize,
     role: Role,
-    count: u32,
+    count: usize,
 ) -> Result<(), AllocError> {
+    let commands = if play.loose { &ENDING } else { &WORKING };
     for _ in 0..count {
-        let text = if play.loose {
-            ending(alloc, random, role)?
-        } else {
-            working(alloc, random, role)?
-        };
+        let text = command(alloc, random, role, commands)?;
         play.lines.push(Line { process, text })?;
     }
     Ok(())
@@ -204,7 +236,7 @@ fn filled(
     random: &mut Pcg32,
     mut play: Play,
     roles: &[Role],
-    most: u32,
+    most: usize,
 ) -> Result<Play, AllocError> {
     let mut process = 0usize;
     for role in roles {
