@@ -122,10 +122,9 @@ impl Document {
             return;
         }
         self.in_head = false;
-        let Ok(()) = self.text.extend_from_slice(b">") else {
+        if self.text.extend_from_slice(b">").is_err() {
             self.refused = true;
-            return;
-        };
+        }
     }
 
     /// Opens an element in the one that was opened last and isn't closed. Nothing comes behind the
@@ -136,10 +135,10 @@ impl Document {
         if self.unclosed.is_empty() {
             return;
         }
-        let Ok(()) = begin(&mut self.text, &mut self.unclosed, tag) else {
+        if begin(&mut self.text, &mut self.unclosed, tag).is_err() {
             self.refused = true;
             return;
-        };
+        }
         self.given.clear();
         self.in_head = true;
     }
@@ -151,10 +150,9 @@ impl Document {
         if !self.in_head || has(&self.given, key) {
             return;
         }
-        let Ok(()) = add(&mut self.text, &mut self.given, key, value) else {
+        if add(&mut self.text, &mut self.given, key, value).is_err() {
             self.refused = true;
-            return;
-        };
+        }
     }
 
     /// Gives an attribute that is a number.
@@ -170,10 +168,9 @@ impl Document {
         if self.unclosed.is_empty() {
             return;
         }
-        let Ok(()) = escape_all(&mut self.text, said) else {
+        if escape_all(&mut self.text, said).is_err() {
             self.refused = true;
-            return;
-        };
+        }
     }
 
     /// Closes the element that was opened last and isn't closed.
@@ -186,10 +183,9 @@ impl Document {
         let Some(tag) = self.unclosed.pop() else {
             return;
         };
-        let Ok(()) = put(&mut self.text, b"</", tag.name().as_bytes(), b">") else {
+        if put(&mut self.text, b"</", tag.name().as_bytes(), b">").is_err() {
             self.refused = true;
-            return;
-        };
+        }
     }
 
     /// Closes what is open, and gives the text.
