@@ -1,5 +1,5 @@
 -- The names of vaults that one thread has.
-use Rattle.std.proofs.Common.{◌≡◌, ℕ, zero, suc, ◌<◌, List, [], ◌∷◌, length, map, drop, get_or, set, refl, ap, arith}
+use Rattle.std.proofs.Common.{◌≡◌, ℕ, zero, suc, ◌<◌, List, [], ◌∷◌, length, map, get_or, set, refl, ap, arith}
 use Rattle.std.specs.Prelude.{Some, slice_get, Result, Ok, Err, IfOk, IfErr}
 use Rattle.atomic_table.specs.Seated.{TableId}
 use Rattle.xh_arena.specs.declared.refused.Refused.{Refused}
@@ -42,8 +42,3 @@ pub ids_one : (id : TableId) (ts : List TallyOf) → AreTallies id 1 ts → ids_
 ids_one id [] are = let none : 0 ≡ 1 = are.0 in absurd (omega arith)
 ids_one id (t ∷ []) are = ap (λ (x : TallyOf). x.id ∷ []) (are.1 0 t refl)
 ids_one id (t ∷ u ∷ ts) are = let two : length (t ∷ u ∷ ts) ≡ 1 = are.0 in absurd (omega arith)
-
-pub second_of : {X : Type 0} (xs : List X) (x : X) → slice_get (drop 1 xs) 0 ≡ Some x → slice_get xs 1 ≡ Some x
-second_of [] x e = absurd (cc)
-second_of (y ∷ []) x e = e
-second_of (y ∷ z ∷ zs) x e = e

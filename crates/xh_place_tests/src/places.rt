@@ -1,8 +1,9 @@
 //! Worked examples by calls over vaults that one thread has.
-ghost use Rattle.std.specs.Prelude.{◌≡◌, ◌<◌, ◌≤◌, map};
+ghost use Rattle.std.specs.Prelude.{◌≡◌, ◌<◌, ◌≤◌, [], ◌∷◌, length, map, slice_get, Some, IfSome};
 ghost use Rattle.xh_core.specs.declared.status.Status.TheVariants.{Vacant};
 ghost use Rattle.xh_place.specs.Places.{IsPlaceOf};
 ghost use Rattle.xh_place.specs.Tallies.{ids_of};
+ghost use Rattle.xh_records.specs.Seats.{IsSeatOf};
 
 mod answers;
 mod calls;
@@ -21,7 +22,7 @@ use vaults::Plain;
 use xh_arena::{Tally, Vault};
 use xh_core::{Block, Refused};
 use xh_place::{Body, OpenGate, Place};
-use xh_records::Records;
+use xh_records::{Records, Seat};
 
 /// One arena and one account, and two places, of which the first runs.
 #[derive(Drop)]
@@ -84,27 +85,90 @@ impl Bench {
     }
 }
 
-/// The bench of a new arena, unless a growth was refused.
-fn make_bench(alloc: Global, size: u32, count: u16) -> Option<Bench>
-    requires { (0 < count) × (count ≤ 256) }
+/// What a bench is made of: one arena and one account, and a seat for each of two places.
+#[derive(Drop)]
+struct Parts {
+    records: Records<Body>,
+    vault: Vault,
+    tallies: Vec<Tally>,
+    first: Seat<Body>,
+    second: Seat<Body>,
+    ghost own: { IsSeatOf records first × IsSeatOf records second },
+    ghost bare: { (first.lots ≡ []) × (second.lots ≡ []) },
+    ghost names: { records.shape.names ≡ vault.id ∷ [] },
+    ghost ids: { ids_of tallies.items ≡ vault.id ∷ [] },
+}
+
+/// The first two of the items.
+fn first_two<T: Drop>(mut items: Vec<T>) -> (T, T)
+    requires { 2 ≤ length items.items }
+    ensures { (slice_get items.items 0 ≡ Some result.0) × (slice_get items.items 1 ≡ Some result.1) }
 {
-    let made = Vault::new::<Body>(alloc, size, count, 1000, 1);
-    let Ok((mut vault, lots, tallies)) = made else {
+    let first = items.remove(0);
+    let second = items.remove(0);
+    (first, second)
+}
+
+/// The parts for a new arena, unless a growth was refused.
+fn make_parts(alloc: Global, size: u32, count: u16) -> Option<Parts>
+    requires { (0 < count) × (count ≤ 256) }
+    ensures { IfSome result (λ p. p.records.shape.records ≡ count) }
+{
+    let Ok((mut vault, lots, tallies)) = Vault::new::<Body>(alloc, size, count, 1000, 1) else {
         return None;
     };
     let mut names = LinkedList::new(alloc);
     names.push_back(vault.name()).ok()?;
-    let Ok((records, mut seats)) = Records::new(alloc, lots, names, count, 2) else {
+    let Ok((records, seats)) = Records::new(alloc, lots, names, count, 2) else {
         return None;
     };
-    let mut first = Place::new(alloc, seats.remove(0), count).ok()?;
-    let second = Place::new(alloc, seats.remove(0), count).ok()?;
-    first.start(&records);
+    let (first, second) = first_two(seats);
+    Some(Parts {
+        records,
+        vault,
+        tallies,
+        first,
+        second,
+    })
+}
+
+/// A place on a seat that holds nothing, of so many records.
+fn place_on(alloc: Global, records: &Records<Body>, seat: Seat<Body>, count: u16) -> Option<Place>
+    requires own { IsSeatOf records.now seat }
+    requires bare { seat.lots ≡ [] }
+    requires one { (length records.now.shape.names ≡ 1) × (records.now.shape.records ≡ count) }
+    ensures own { IfSome result (IsPlaceOf records.now) }
+    ensures vacant { IfSome result (λ p. p.state ≡ Vacant) }
+{
+    Place::new(alloc, seat, count).ok()
+}
+
+/// The vault alone.
+fn alone(alloc: Global, vault: Vault) -> Option<Plain>
+    ensures { IfSome result (λ p. map (λ v. v.id) p.vaults.items ≡ vault.id ∷ []) }
+{
     let size = vault.size();
-    let vaults = Plain {
-        vaults: vec![in alloc; vault].ok()?,
-        size,
+    let vaults = vec![in alloc; vault].ok()?;
+    Some(Plain { vaults, size })
+}
+
+/// The bench of a new arena, unless a growth was refused.
+fn make_bench(alloc: Global, size: u32, count: u16) -> Option<Bench>
+    requires { (0 < count) × (count ≤ 256) }
+{
+    let Parts {
+        records,
+        vault,
+        tallies,
+        first,
+        second,
+    } = make_parts(alloc, size, count)?;
+    let first = place_on(alloc, &records, first, count);
+    let second = place_on(alloc, &records, second, count);
+    let (Some(mut first), Some(second), Some(vaults)) = (first, second, alone(alloc, vault)) else {
+        return None;
     };
+    first.start(&records);
     Some(Bench {
         records,
         vaults,

@@ -39,7 +39,7 @@ pub(super) enum Call<'a> {
 /// and length (0 if it did not come); a state; blocks and
 /// bytes here, and at the other place; bytes taken and given back; the name of a refusal; one, with how many blocks it
 /// hands back and the first; how many blocks an ending left; nothing.
-#[derive(Clone, Copy, Debug, PartialEq)]
+#[derive(Clone, Copy, PartialEq)]
 pub(super) enum Answer {
     Number(u64),
     Block(u16, u32),
@@ -78,14 +78,14 @@ fn of_number(answer: Result<u64, Refused>) -> Answer {
     }
 }
 
-fn of_block(answer: Result<Block, Refused>) -> Answer {
+pub(super) fn of_block(answer: Result<Block, Refused>) -> Answer {
     match answer {
         Ok(block) => Answer::Block(block.rec, block.len),
         Err(refused) => of_refused(refused),
     }
 }
 
-fn of_two(answer: Result<(Block, Block), Refused>) -> Answer {
+pub(super) fn of_two(answer: Result<(Block, Block), Refused>) -> Answer {
     match answer {
         Ok((head, tail)) => Answer::Two(head.rec, head.len, tail.rec, tail.len),
         Err(refused) => of_refused(refused),
@@ -119,7 +119,7 @@ fn of_message(answer: Result<Taken, Refused>) -> Answer {
     }
 }
 
-fn of_nothing(answer: Result<(), Refused>) -> Answer {
+pub(super) fn of_nothing(answer: Result<(), Refused>) -> Answer {
     match answer {
         Ok(()) => Answer::Done,
         Err(refused) => of_refused(refused),
@@ -191,6 +191,14 @@ fn answer_of<R: Wait>(rt: &R, alloc: Global, desk: &mut Desk, call: Call) -> Ans
     }
 }
 
+// Makes each call at the desk and compares what it answers.
+fn assert_each<R: Wait + Abort>(rt: &R, alloc: Global, desk: &mut Desk, calls: &[(Call, Answer)]) {
+    for (at, (call, expected)) in calls.iter().enumerate() {
+        let answered = answer_of(rt, alloc, desk, *call);
+        assert!(rt; answered == *expected, "call {at}");
+    }
+}
+
 /// Makes each call at a desk of 256 bytes, whose directions have room for so many messages, and compares what it answers.
 pub(super) fn assert_answers<R: Wait + Abort>(
     rt: &R,
@@ -199,8 +207,5 @@ pub(super) fn assert_answers<R: Wait + Abort>(
     calls: &[(Call, Answer)],
 ) {
     let mut desk = make_desk(alloc, 256, depth).expect(rt, "a desk");
-    for (at, (call, expected)) in calls.iter().enumerate() {
-        let answered = answer_of(rt, alloc, &mut desk, *call);
-        assert_eq!(rt; answered, *expected, "call {at}");
-    }
+    assert_each(rt, alloc, &mut desk, calls);
 }

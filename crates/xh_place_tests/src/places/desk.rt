@@ -42,6 +42,8 @@ pub(super) struct Desk {
 
 /// A desk of an arena of `size` bytes and 8 records.
 pub(super) fn make_desk(alloc: Global, size: u32, depth: u8) -> Option<Desk> {
+    let bench = make_bench(alloc, size, 8)?;
+    let channels = Channels::new(alloc, depth).ok()?;
     let Bench {
         records,
         vaults,
@@ -49,8 +51,7 @@ pub(super) fn make_desk(alloc: Global, size: u32, depth: u8) -> Option<Desk> {
         first,
         mut second,
         ..
-    } = make_bench(alloc, size, 8)?;
-    let channels = Channels::new(alloc, depth).ok()?;
+    } = bench;
     second.start(&records);
     Some(Desk {
         records,

@@ -5,7 +5,6 @@ use super::desk::{Desk, make_desk};
 use std::alloc::Global;
 use std::process::Abort;
 use std::sync::Wait;
-use std::test::Fail;
 use std::thread::{self, Threads};
 use xh_channel::{Channels, Spot};
 use xh_core::Refused;
@@ -75,42 +74,60 @@ impl Party<'_> {
         taken.no == no && taken.blocks.len() == 2 && came == [true, true]
     }
 
-    /// Gives both and gets them back, again and again. It answers how often.
-    fn serve<R: Wait>(mut self, rt: &R, x: u16, g: u16) -> (u64, u64) {
-        for round in 0..ROUNDS {
-            if !self.give(rt, &[x, g]) || !self.gets(rt, round + 1, x, g) {
-                return (round, self.place.total());
-            }
+    // Gives both and gets them back, or gets them first.
+    fn round<R: Wait>(&mut self, rt: &R, no: u64, x: u16, g: u16, begins: bool) -> bool {
+        if begins {
+            self.give(rt, &[x, g]) && self.gets(rt, no, x, g)
+        } else {
+            self.gets(rt, no, x, g) && self.give(rt, &[x, g])
         }
-        (ROUNDS, self.place.total())
     }
 
-    /// Gets both and gives them back, again and again. It answers how often.
-    fn answer<R: Wait>(mut self, rt: &R, x: u16, g: u16) -> (u64, u64) {
+    // Round after round. It answers how many went well.
+    fn rounds<R: Wait>(&mut self, rt: &R, x: u16, g: u16, begins: bool) -> u64 {
         for round in 0..ROUNDS {
-            if !self.gets(rt, round + 1, x, g) || !self.give(rt, &[x, g]) {
-                return (round, self.place.total());
+            if !self.round(rt, round + 1, x, g, begins) {
+                return round;
             }
         }
-        (ROUNDS, self.place.total())
+        ROUNDS
+    }
+
+    /// How many rounds went well, and the bytes that the place has then.
+    fn talk<R: Wait>(mut self, rt: &R, x: u16, g: u16, begins: bool) -> (u64, u64) {
+        let rounds = self.rounds(rt, x, g, begins);
+        (rounds, self.place.total())
     }
 }
 
-/// A block and an endpoint go from one thread to the other and back, each time in one message.
-fn there_and_back_over<R: Abort + Threads + Wait + Sync>(
-    rt: &R,
-    alloc: Global,
-) -> Result<(), Fail> {
-    let Some(mut desk) = make_desk(alloc, 256, 1) else {
-        panic!(rt; "no desk");
-    };
-    let (Some((e, f)), Some((_, h))) = (desk.wire(rt), desk.open(rt)) else {
-        panic!(rt; "no channels");
-    };
-    let x = desk.alloc(alloc, 16, 0)?.rec;
-    let Some((low, high)) = desk.spots(e, f) else {
-        panic!(rt; "no endpoints");
-    };
+/// The ends of a channel, here and at the other place, with their spots; a block, and an end of another channel.
+#[derive(Clone, Copy)]
+struct Ends {
+    e: u16,
+    f: u16,
+    low: Spot,
+    high: Spot,
+    x: u16,
+    h: u16,
+}
+
+fn begin<R: Wait>(rt: &R, alloc: Global, desk: &mut Desk) -> Option<Ends> {
+    let (e, f) = desk.wire(rt)?;
+    let (_, h) = desk.open(rt)?;
+    let x = desk.alloc(alloc, 16, 0).ok()?.rec;
+    let (low, high) = desk.spots(e, f)?;
+    Some(Ends {
+        e,
+        f,
+        low,
+        high,
+        x,
+        h,
+    })
+}
+
+// Each place on a thread of its own: how many rounds went well, and the bytes that it has then.
+fn talk<R: Threads + Wait + Sync>(rt: &R, desk: Desk, ends: Ends) -> ((u64, u64), (u64, u64)) {
     let Desk {
         records,
         channels,
@@ -123,27 +140,34 @@ fn there_and_back_over<R: Abort + Threads + Wait + Sync>(
         records,
         channels,
         place,
-        e,
-        spot: low,
+        e: ends.e,
+        spot: ends.low,
     };
     let second = Party {
         records,
         channels,
         place: other,
-        e: f,
-        spot: high,
+        e: ends.f,
+        spot: ends.high,
     };
-    let (one, two) = thread::join(
+    let (x, h) = (ends.x, ends.h);
+    thread::join(
         rt,
-        move || first.serve(rt, x, h),
-        move || second.answer(rt, x, h),
-    );
+        move || first.talk(rt, x, h, true),
+        move || second.talk(rt, x, h, false),
+    )
+}
+
+/// A block and an endpoint go from one thread to the other and back, each time in one message.
+fn there_and_back_over<R: Abort + Threads + Wait + Sync>(rt: &R, alloc: Global) {
+    let mut desk = make_desk(alloc, 256, 1).expect(rt, "a desk");
+    let ends = begin(rt, alloc, &mut desk).expect(rt, "two channels and a block");
+    let (one, two) = talk(rt, desk, ends);
     assert_eq!(rt; one, (ROUNDS, 112));
     assert_eq!(rt; two, (ROUNDS, 32));
-    Ok(())
 }
 
 #[test]
-fn there_and_back(rt: HostRuntime) -> Result<(), Fail> {
+fn there_and_back(rt: HostRuntime) {
     there_and_back_over(&rt, rt.alloc())
 }
