@@ -39,7 +39,7 @@ pub(super) enum Call<'a> {
 /// and length (0 if it did not come); a state; blocks and
 /// bytes here, and at the other place; bytes taken and given back; the name of a refusal; one, with how many blocks it
 /// hands back and the first; how many blocks an ending left; nothing.
-#[derive(Clone, Copy, PartialEq)]
+#[derive(Clone, Copy, Debug, PartialEq)]
 pub(super) enum Answer {
     Number(u64),
     Block(u16, u32),
@@ -195,7 +195,7 @@ fn answer_of<R: Wait>(rt: &R, alloc: Global, desk: &mut Desk, call: Call) -> Ans
 fn assert_each<R: Wait + Abort>(rt: &R, alloc: Global, desk: &mut Desk, calls: &[(Call, Answer)]) {
     for (at, (call, expected)) in calls.iter().enumerate() {
         let answered = answer_of(rt, alloc, desk, *call);
-        assert!(rt; answered == *expected, "call {at}");
+        assert_eq!(rt; answered, *expected, "call {at}");
     }
 }
 

@@ -94,7 +94,7 @@ fn whole_bench<R: Abort>(rt: &R, alloc: Global) -> Bench {
 fn assert_each<R: Abort>(rt: &R, alloc: Global, bench: &mut Bench, calls: &[(Call, Answer)]) {
     for (at, (call, expected)) in calls.iter().enumerate() {
         let answered = answer_again(alloc, bench, *call);
-        assert!(rt; answered == *expected, "call {at}");
+        assert_eq!(rt; answered, *expected, "call {at}");
     }
 }
 
