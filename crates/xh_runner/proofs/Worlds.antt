@@ -1,17 +1,15 @@
 -- Lemmas on worlds.
 use Rattle.std.proofs.Common.{◌≡◌, ◌<◌, ◌+◌, ◌++◌, suc, ℕ, List, ◌∷◌, length, drop, get_or, refl, ap, add-one, drop-cons}
 use Rattle.xh_model.specs.declared.config.Config.{Config}
-use Rattle.xh_model.specs.declared.row.Row.{Row}
-use Rattle.xh_serial.specs.Machine.{Machine}
-use Rattle.xh_serial.specs.PlaceCommands.{new_machine, ledger_of}
+use Rattle.xh_serial.specs.PlaceCommands.{ledger_of}
 use Rattle.xh_core.specs.declared.ledger.Ledger.{Ledger}
 use Rattle.xh_script.specs.Scripts.{Listing}
 use Rattle.xh_script.specs.Texts.{answer_texts, ledger_text}
 use Rattle.xh_script.specs.declared.command.Line.{Line}
 use Rattle.xh_script.specs.declared.reply.Reply.{Reply}
 use Rattle.xh_script.specs.declared.reply.Answered.{Answered}
-use Rattle.xh_runner.specs.Bindings.{no_bindings, names_by_place}
-use Rattle.xh_runner.specs.Meaning.{World, step, answers, after}
+use Rattle.xh_runner.specs.Bindings.{names_by_place}
+use Rattle.xh_runner.specs.Meaning.{World, new_world, step, answers, after}
 use Rattle.xh_runner.specs.Output.{meaning}
 
 -- the next line's reply, and those to the rest
@@ -24,13 +22,9 @@ pub after_at : (w now : World) (reply : Reply) (lines : List Line) (i : ℕ) (li
 after_at w now reply lines i line below e h = rw (drop-cons lines i line, e, add-one i) (ap (λ (s : Reply × World). after s.1 (drop (suc i) lines)) h)
 
 -- what is written for a script, from what its run tells
-pub meant : (config : Config) (script : Listing) (m : Machine) (contracts : List (List Row)) (start end : World) (lines : List Line) (processes : List (List ℕ))
-    (replies written : List Answered) (names named : List (List ℕ)) (ledger : Ledger)
-    → m ≡ new_machine config → contracts ≡ script.contracts → start ≡ record { machine = m; names = no_bindings; contracts = contracts }
-    → lines ≡ script.lines → replies ≡ answers start lines → end ≡ after start lines
-    → processes ≡ script.processes → names ≡ names_by_place processes end.names
-    → written ≡ replies → named ≡ names → ledger ≡ ledger_of end.machine
-    → answer_texts written ++ ledger_text ledger named ≡ meaning config script
+pub meant : (config : Config) (script : Listing) (replies written : List Answered) (names named : List (List ℕ)) (ledger : Ledger)
+    → replies ≡ answers (new_world config script.contracts) script.lines → names ≡ names_by_place script.processes (after (new_world config script.contracts) script.lines).names
+    → ledger ≡ ledger_of (after (new_world config script.contracts) script.lines).machine
+    → written ≡ replies → named ≡ names → answer_texts written ++ ledger_text ledger named ≡ meaning config script
 unfolding meaning
-meant config script m contracts start end lines processes replies written names named ledger fresh tables begin said answered ended people places same shown held =
-    rw (same, shown, held, places, answered, ended, people, said, begin, fresh, tables) refl
+meant config script replies written names named ledger answered places held same shown = rw (same, shown, answered, places, held) refl

@@ -1,20 +1,25 @@
 //! A script from its bytes to its replies and its ledger, on the serial machine.
 ghost use Rattle.std.specs.Prelude.{◌≡◌, ◌+◌, ◌++◌, ◌<◌, ◌⊎◌, length, IfOk, IfErr, OnOk, Err};
 ghost use Rattle.xh_model.specs.Config.{IsConfig};
-ghost use Rattle.xh_serial.specs.PlaceCommands.{new_machine};
+ghost use Rattle.xh_serial.specs.PlaceCommands.{ledger_of, new_machine};
 ghost use Rattle.std.specs.List.{All};
 ghost use Rattle.xh_script.specs.Texts.{answer_texts, ledger_text};
 ghost use Rattle.xh_script.specs.declared.limits.TheConstants.{MAX_SCRIPT};
 ghost use Rattle.xh_script.specs.Watching.{WritesOrFails};
 ghost use Rattle.xh_runner.specs.Reading.{ReadsAtMost};
 ghost use Rattle.xh_runner.specs.Runs.{Meant, Failed};
+ghost use Rattle.xh_model.specs.declared.limits.TheConstants.{PLACES};
+ghost use Rattle.xh_runner.specs.Bindings.{names_by_place};
+ghost use Rattle.xh_runner.specs.Meaning.{after, answers, new_world};
+ghost use Rattle.xh_runner.specs.Worlds.{world_of};
 
 use crate::input::read_text;
 use crate::session::Session;
+use crate::threads::Report;
 use std::alloc::Global;
 use std::io::{Read, Write};
 use xh_core::{Config, Ledger, Refused};
-use xh_script::{Answered, Fault, Name, Watched, read_script, write_answers, write_ledger};
+use xh_script::{Answered, Fault, Name, Script, Watched, read_script, write_answers, write_ledger};
 use xh_serial::Serial;
 
 pub(crate) fn new_machine(alloc: Global, config: Config) -> Result<Serial, Fault>
@@ -43,6 +48,41 @@ pub(crate) fn write_output<W: Write>(
     write_ledger(writer, ledger, names)
 }
 
+/// Does a script's commands, and tells what they leave.
+fn run<'a>(
+    alloc: Global,
+    session: &mut Session<'a, Serial>,
+    script: &Script,
+) -> Result<Report, Fault>
+    ensures answers { IfOk result (λ r. r.answers.items ≡ answers (world_of (λ m. m) session.old) script.now.lines.items) }
+    ensures ledger { IfOk result (λ r. r.ledger ≡ ledger_of (after (world_of (λ m. m) session.old) script.now.lines.items).machine) }
+    ensures names { IfOk result (λ r. r.names.items ≡ names_by_place script.now.processes.items (after (world_of (λ m. m) session.old) script.now.lines.items).names) }
+    ensures places { IfOk result (λ r. (length r.names.items ≡ PLACES) × All (λ line. line.place < PLACES) r.ledger.places.items) }
+    ensures memory { IfErr result (λ e. e ≡ Fault.Memory) }
+{
+    let answers = session.run(alloc, &script.lines)?;
+    let names = session.names_by_place(alloc, &script.processes)?;
+    Ok(Report {
+        answers,
+        ledger: session.ledger(),
+        names,
+    })
+}
+
+/// Runs a script on a new machine.
+fn report_of(alloc: Global, config: Config, script: &Script) -> Result<Report, Fault>
+    requires { IsConfig config }
+    ensures answers { IfOk result (λ r. r.answers.items ≡ answers (new_world config script.now.contracts.items) script.now.lines.items) }
+    ensures ledger { IfOk result (λ r. r.ledger ≡ ledger_of (after (new_world config script.now.contracts.items) script.now.lines.items).machine) }
+    ensures names { IfOk result (λ r. r.names.items ≡ names_by_place script.now.processes.items (after (new_world config script.now.contracts.items) script.now.lines.items).names) }
+    ensures places { IfOk result (λ r. (length r.names.items ≡ PLACES) × All (λ line. line.place < PLACES) r.ledger.places.items) }
+    ensures memory { IfErr result (λ e. e ≡ Fault.Memory) }
+{
+    let machine = new_machine(alloc, config)?;
+    let mut session = Session::new(alloc, machine, &script.contracts)?;
+    run(alloc, &mut session, script)
+}
+
 /// Runs the script that a reader gives to its end, and writes its replies and its ledger.
 ///
 /// A config outside its limits is BadConfig, and nothing is read. The reader is asked for at most
@@ -59,11 +99,11 @@ pub fn run_serial<R: Read, W: Write>(
     ensures config { ¬ IsConfig config → result ≡ Err Fault.BadConfig }
     ensures limit { ReadsAtMost R.remaining (MAX_SCRIPT + 1) reader.old reader.new }
 {
-    let machine = new_machine(alloc, config)?;
+    if !config.is_in_limits() {
+        return Err(Fault::BadConfig);
+    }
     let text = read_text(alloc, reader)?;
     let script = read_script(alloc, &text)?;
-    let mut session = Session::new(alloc, machine, &script.contracts)?;
-    let answers = session.run(alloc, &script.lines)?;
-    let names = session.names_by_place(alloc, &script.processes)?;
-    write_output(writer, &answers, &session.ledger(), &names)
+    let report = report_of(alloc, config, &script)?;
+    write_output(writer, &report.answers, &report.ledger, &report.names)
 }

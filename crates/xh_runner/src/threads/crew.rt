@@ -1,10 +1,11 @@
 //! The workers of a run, and one thread for each.
-ghost use Rattle.std.specs.Prelude.{◌≡◌, ◌+◌, All, IfOk, vec_len};
+ghost use Rattle.std.specs.Prelude.{◌≡◌, ◌+◌, All, IfOk, OnOk, vec_len};
 
 use crate::machine::worker::Worker;
 use crate::names::Names as Bindings;
 use crate::session::Session;
 use crate::threads::job::{Done, Job, Shared, is_of};
+use crate::threads::replies::Placed;
 use std::alloc::{AllocError, Global};
 use std::sync::Wait;
 use std::thread;
@@ -49,6 +50,18 @@ fn count_of(lines: &[Line], process: u8) -> usize {
     lines.iter().filter(|line| is_of(line, process)).count()
 }
 
+// The names once more, and room for the replies to a process.
+fn room(
+    alloc: Global,
+    names: &Bindings,
+    lines: &[Line],
+    process: u8,
+) -> Result<(Bindings, Vec<Placed>), AllocError> {
+    let names = names.copy(alloc)?;
+    let replies = Vec::with_capacity(alloc, count_of(lines, process))?;
+    Ok((names, replies))
+}
+
 // The job of a process at a place.
 fn job<'a, N: Names, R: Wait, G: Gate>(
     alloc: Global,
@@ -59,15 +72,37 @@ fn job<'a, N: Names, R: Wait, G: Gate>(
     process: u8,
     place: u8,
 ) -> Result<Job<'a, N, R, G>, AllocError> {
+    let (names, replies) = room(alloc, names, lines, process)?;
     let gate = worker.gate;
-    let names = names.copy(alloc)?;
     Ok(Job {
         session: Session::with_names(worker, names, contracts),
         gate,
         process,
         place,
-        replies: Vec::with_capacity(alloc, count_of(lines, process))?,
+        replies,
     })
+}
+
+// One more worker has the job of the process at a place, or nothing to do.
+fn deal_one<'a, N: Names, R: Wait, G: Gate>(
+    alloc: Global,
+    worker: Worker<'a, N, R, G>,
+    names: &Bindings,
+    contracts: &'a [Contract],
+    lines: &[Line],
+    place: u8,
+    jobs: &mut Vec<Job<'a, N, R, G>>,
+    idle: &mut Vec<Account<N>>,
+) -> Result<(), AllocError>
+    ensures { OnOk result (vec_len jobs.new + vec_len idle.new ≡ vec_len jobs.old + vec_len idle.old + 1) }
+{
+    match names.process_at(place) {
+        Some(process) => {
+            jobs.push(job(alloc, worker, names, contracts, lines, process, place)?)?;
+        }
+        None => idle.push(worker.into_account())?,
+    }
+    Ok(())
 }
 
 /// The jobs of the processes that have a place, the lowest place first, and the accounts of the workers that
@@ -81,16 +116,13 @@ pub(super) fn deal<'a, N: Names, R: Wait, G: Gate>(
 ) -> Result<(Vec<Job<'a, N, R, G>>, Vec<Account<N>>), AllocError>
     ensures { IfOk result (λ r. vec_len r.0 + vec_len r.1 ≡ vec_len workers.entry) }
 {
-    let mut jobs = Vec::with_capacity(alloc, workers.len())?;
-    let mut idle = Vec::with_capacity(alloc, workers.len())?;
+    let mut jobs = Vec::new(alloc);
+    let mut idle = Vec::new(alloc);
     let mut place = 0u8;
     for worker in workers {
-        match names.process_at(place) {
-            Some(process) => {
-                jobs.push(job(alloc, worker, names, contracts, lines, process, place)?)?;
-            }
-            None => idle.push(worker.into_account())?,
-        }
+        deal_one(
+            alloc, worker, names, contracts, lines, place, &mut jobs, &mut idle,
+        )?;
         place = place.saturating_add(1);
     }
     Ok((jobs, idle))

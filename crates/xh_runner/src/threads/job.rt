@@ -2,6 +2,7 @@
 ghost use Rattle.std.specs.Prelude.{◌≡◌};
 ghost use Rattle.xh_runner.specs.inner.Jobs.{Answers, is_of};
 
+use crate::machine::Machine;
 use crate::machine::worker::Worker;
 use crate::names::Names as Bindings;
 use crate::session::Session;
@@ -47,6 +48,16 @@ pub(super) fn is_of(line: &Line, process: u8) -> bool
     !line.command.form.is_head() && line.command.name(0) == process
 }
 
+// The names of processes stand for what they stand for by now.
+fn follow<'a, M: Machine, R: Wait>(rt: &R, shared: &Shared<'a>, session: &mut Session<'a, M>) {
+    session.follow(&shared.names.lock(rt));
+}
+
+// A process has started once more, and has this number.
+fn start<'a, R: Wait>(rt: &R, shared: &Shared<'a>, process: u8, number: u16) {
+    shared.names.lock(rt).start(process, number);
+}
+
 impl<'a, N: Names, R: Wait, G: Gate> Job<'a, N, R, G> {
     // Does a command. Where it names another process, the name stands for what it stands for at the start.
     fn step(&mut self, rt: &R, alloc: Global, shared: &Shared<'a>, line: &Line) -> Reply
@@ -54,11 +65,11 @@ impl<'a, N: Names, R: Wait, G: Gate> Job<'a, N, R, G> {
         ensures replies { self.new.replies ≡ self.old.replies }
     {
         if matches!(line.command.form, Form::Kill | Form::Glance) {
-            self.session.follow(&shared.names.lock(rt));
+            follow(rt, shared, &mut self.session);
         }
         let reply = self.session.step(alloc, &line.command);
         if let Reply::Started(number) = reply {
-            shared.names.lock(rt).start(self.process, number);
+            start(rt, shared, self.process, number);
         }
         reply
     }

@@ -4,6 +4,7 @@ ghost use Rattle.xh_model.specs.declared.limits.TheConstants.{PLACES};
 ghost use Rattle.xh_runner.specs.Reports.{AreAnswersTo};
 
 use crate::machine::worker::Worker;
+use crate::names::Names as Bindings;
 use crate::session::Session;
 use crate::threads::crew::{deal, hire, run_jobs};
 use crate::threads::job::{Done, Shared};
@@ -61,6 +62,42 @@ fn collect<N: Names>(
     Ok(all)
 }
 
+// Does the head lines by a worker, and gives it back with what the names stand for then.
+fn begin<'a, N: Names, R: Wait, G: Gate>(
+    alloc: Global,
+    first: Worker<'a, N, R, G>,
+    script: &'a Script,
+    replies: &mut [Option<Reply>],
+) -> Result<(Worker<'a, N, R, G>, Bindings), AllocError> {
+    let mut head = Session::new(alloc, first, &script.contracts)?;
+    run_head(alloc, &mut head, &script.lines, replies);
+    Ok(head.into_parts())
+}
+
+// Does the commands of the processes that have a place, each by a worker; what the names stand for then, all
+// accounts, and whether each worker did all of its commands.
+fn work<'a, N: Names + Send + Sync, R: Threads + Wait + Sync, G: Gate + Sync>(
+    rt: &'a R,
+    alloc: Global,
+    workers: Vec<Worker<'a, N, R, G>>,
+    names: Bindings,
+    script: &'a Script,
+    replies: &mut [Option<Reply>],
+) -> Result<(Bindings, Vec<Account<N>>, bool), AllocError>
+    ensures { IfOk result (λ r. vec_len r.1 ≡ vec_len workers.entry) }
+{
+    let (jobs, mut accounts) = deal(alloc, workers, &names, &script.contracts, &script.lines)?;
+    let shared = Shared {
+        lines: &script.lines,
+        names: Mutex::new(names),
+        started: Mutex::new(false),
+    };
+    let done = run_jobs(rt, alloc, jobs, &shared);
+    let names = shared.names.into_inner();
+    let all = collect(done?, &mut accounts, replies)?;
+    Ok((names, accounts, all))
+}
+
 // Once all workers were joined, the lines that none of them had are done by the head's session. Its account joins
 // theirs.
 fn finish<'a, N: Names, R: Wait, G: Gate>(
@@ -74,13 +111,13 @@ fn finish<'a, N: Names, R: Wait, G: Gate>(
     ensures names { IfOk result (λ o. length o.names.items ≡ PLACES) }
     ensures accounts { IfOk result (λ o. vec_len o.accounts ≡ vec_len accounts + 1) }
 {
-    let answers = answered(alloc, &mut rest, &script.lines, replies)?;
-    let names = rest.names_by_place(alloc, &script.processes)?;
+    let answers = answered(alloc, &mut rest, &script.lines, replies);
+    let names = rest.names_by_place(alloc, &script.processes);
     let (first, _) = rest.into_parts();
     accounts.push(first.into_account())?;
     Ok(Outcome {
-        answers,
-        names,
+        answers: answers?,
+        names: names?,
         accounts,
     })
 }
@@ -105,22 +142,13 @@ pub(super) fn run_script<'a, N: Names + Send + Sync, R: Threads + Wait + Sync, G
     ensures accounts { IfOk result (λ o. vec_len o.accounts ≡ vec_len accounts) }
     ensures refused { IfErr result (λ e. (e ≡ Fault.Memory) ⊎ ((e ≡ Fault.Gate) × (stops ≡ true))) }
 {
-    let mut workers = hire(rt, alloc, kernel, gate, accounts, looks)?;
     let mut replies = no_replies(alloc, script.lines.len())?;
-    let mut head = Session::new(alloc, workers.remove(0), &script.contracts)?;
-    run_head(alloc, &mut head, &script.lines, &mut replies);
-    let (first, names) = head.into_parts();
-    let (jobs, mut accounts) = deal(alloc, workers, &names, &script.contracts, &script.lines)?;
-    let shared = Shared {
-        lines: &script.lines,
-        names: Mutex::new(names),
-        started: Mutex::new(false),
-    };
-    let done = run_jobs(rt, alloc, jobs, &shared)?;
-    let all = collect(done, &mut accounts, &mut replies)?;
+    let mut workers = hire(rt, alloc, kernel, gate, accounts, looks)?;
+    let (first, names) = begin(alloc, workers.remove(0), script, &mut replies)?;
+    let (names, accounts, all) = work(rt, alloc, workers, names, script, &mut replies)?;
     if stops && !all {
         return Err(Fault::Gate);
     }
-    let rest = Session::with_names(first, shared.names.into_inner(), &script.contracts);
+    let rest = Session::with_names(first, names, &script.contracts);
     Ok(finish(alloc, rest, script, replies, accounts)?)
 }

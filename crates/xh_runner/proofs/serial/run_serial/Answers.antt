@@ -1,7 +1,6 @@
 use Rattle.std.proofs.Common.{◌≡◌, Ok, sym, ap, subst, ◌∙◌}
 use Rattle.xh_script.specs.Watching.{Writes, WritesFront}
 use Rattle.xh_script.specs.Scripts.{script_of, listing_of}
-use Rattle.xh_runner.specs.Worlds.{world_of}
 use Rattle.xh_runner.specs.Runs.{Failed}
 use Rattle.xh_runner.proofs.Ends.{written, cut_off, script_short}
 use Rattle.xh_runner.proofs.Worlds.{meant}
@@ -11,11 +10,10 @@ pub returns-clause-ok : goal.returns-clause-ok
 returns-clause-ok g c =
     let text = c.in_ok-text.text.items in
     let script = listing_of c.in_ok-script.script in
+    let report = c.in_ok-report.ensures in
     let says : script_of text ≡ Ok script = ap script_of (sym c.deref.ensures.value) ∙ c.in_ok-script.ensures in
-    let whole = meant c.args.config script _ _ (world_of (λ m. m) c.in_ok-session.session) (world_of (λ m. m) c.run.new.self) c.deref-3.result.now c.deref-4.result.now
-    c.in_ok-answers.answers.items c.deref-5.result.now c.in_ok-names.names.items c.deref-6.result.now c.ledger.result
-    c.in_ok-machine.ensures.fresh c.deref-2.ensures.value c.in_ok-session.ensures c.deref-3.ensures.value c.in_ok-answers.ensures.answers c.in_ok-answers.ensures.after
-    c.deref-4.ensures.value c.in_ok-names.ensures.names c.deref-5.ensures.value c.deref-6.ensures.value c.ledger.ensures.value in
+    let whole = meant c.args.config script c.in_ok-report.report.answers.items c.deref-2.result.now c.in_ok-report.report.names.items c.deref-3.result.now c.in_ok-report.report.ledger
+    report.answers report.names report.ledger c.deref-2.ensures.value c.deref-3.ensures.value in
     written g.W.Write.contents _ _ c.write_output.result _ _ c.write_output.ensures (λ w. record {
       text = text;
       script = script;
@@ -29,11 +27,10 @@ pub returns-clause-err : goal.returns-clause-err
 returns-clause-err g c =
     let text = c.in_ok-text.text.items in
     let script = listing_of c.in_ok-script.script in
+    let report = c.in_ok-report.ensures in
     let says : script_of text ≡ Ok script = ap script_of (sym c.deref.ensures.value) ∙ c.in_ok-script.ensures in
-    let whole = meant c.args.config script _ _ (world_of (λ m. m) c.in_ok-session.session) (world_of (λ m. m) c.run.new.self) c.deref-3.result.now c.deref-4.result.now
-    c.in_ok-answers.answers.items c.deref-5.result.now c.in_ok-names.names.items c.deref-6.result.now c.ledger.result
-    c.in_ok-machine.ensures.fresh c.deref-2.ensures.value c.in_ok-session.ensures c.deref-3.ensures.value c.in_ok-answers.ensures.answers c.in_ok-answers.ensures.after
-    c.deref-4.ensures.value c.in_ok-names.ensures.names c.deref-5.ensures.value c.deref-6.ensures.value c.ledger.ensures.value in
+    let whole = meant c.args.config script c.in_ok-report.report.answers.items c.deref-2.result.now c.in_ok-report.report.names.items c.deref-3.result.now c.in_ok-report.report.ledger
+    report.answers report.names report.ledger c.deref-2.ensures.value c.deref-3.ensures.value in
     cut_off g.W.Write.contents _ _ c.write_output.result _
     (Failed g.R.Read.remaining g.W.Write.contents c.args.config c.args.reader.now c.read_text.new.reader c.args.writer.now c.write_output.new.writer) c.write_output.ensures (λ w. record {
       text = text;
