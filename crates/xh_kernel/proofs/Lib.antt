@@ -1,5 +1,6 @@
 pub mod Lists
 pub mod Taking
+pub mod Taken
 pub mod Fresh
 pub mod Makings
 pub mod Last

@@ -1,0 +1,36 @@
+-- What a place's calls that take bytes, or give a block's back, say of the account.
+use Rattle.std.proofs.Common.{◌≡◌, ℕ, ◌*◌, List, sym, ap, ◌∙◌, subst}
+use Rattle.std.specs.Prelude.{Result, Ok, Err, IfOk, MatchResult, OnErr}
+use Rattle.xh_arena.specs.Views.{TallyOf}
+use Rattle.xh_channel.specs.Queues.{Posted}
+use Rattle.xh_core.specs.declared.block.Block.{Block}
+use Rattle.xh_core.specs.declared.refused.Refused.{Refused}
+use Rattle.xh_model.specs.declared.limits.TheConstants.{END_BYTES}
+use Rattle.xh_place.specs.declared.opening.Unopened.{Unopened}
+use Rattle.xh_place.specs.Ends.{Opens}
+use Rattle.xh_place.specs.Places.{PlaceOf}
+use Rattle.xh_place.specs.Tallies.{took}
+use Rattle.xh_kernel.specs.Accounts.{AccountOf, has_taken}
+use Rattle.xh_kernel.proofs.Ended.{account_of}
+
+-- an account before a call, whose tallies a place's call changed from these to those
+module _ (number : ℕ) (kept from to : List TallyOf) (before : AccountOf) (is : account_of number kept ≡ before) (lent : from ≡ kept) where
+  moved : (f : List TallyOf → List TallyOf) → to ≡ f from → account_of number to ≡ record before { tallies = f before.tallies }
+  moved f e = ap (λ (a : AccountOf). record a { tallies = to }) is
+      ∙ ap (λ (ts : List TallyOf). record before { tallies = ts }) (e ∙ ap f (lent ∙ ap (λ (a : AccountOf). a.tallies) is))
+
+  pub opened : (low high : Posted) (old new : PlaceOf) (arena : ℕ) (made : Result (Block × Block) Unopened) (result : Result (Block × Block) Refused)
+      → Opens arena low high old new from to made → MatchResult made (λ ends. result ≡ Ok ends) (λ u. result ≡ Err u.why)
+      → MatchResult result (λ _. account_of number to ≡ has_taken arena (2 * END_BYTES) before) (λ _. account_of number to ≡ before)
+  opened low high old new arena (Ok ends) result o e =
+      subst (λ (r : Result (Block × Block) Refused). MatchResult r (λ _. account_of number to ≡ has_taken arena (2 * END_BYTES) before) (λ _. account_of number to ≡ before)) (sym e)
+      (moved (took arena (2 * END_BYTES)) o.3)
+  opened low high old new arena (Err u) result o e =
+      subst (λ (r : Result (Block × Block) Refused). MatchResult r (λ _. account_of number to ≡ has_taken arena (2 * END_BYTES) before) (λ _. account_of number to ≡ before)) (sym e)
+      (moved (λ (ts : List TallyOf). ts) o.3)
+
+  pub allocated : (old new : PlaceOf) (arena : ℕ) (result : Result Block Refused)
+      → IfOk result (λ b. to ≡ took arena b.len from) → OnErr result ((new ≡ old) × (to ≡ from))
+      → MatchResult result (λ b. account_of number to ≡ has_taken arena b.len before) (λ _. account_of number to ≡ before)
+  allocated old new arena (Ok b) taken same = moved (took arena b.len) taken
+  allocated old new arena (Err e) taken same = moved (λ (ts : List TallyOf). ts) same.1
