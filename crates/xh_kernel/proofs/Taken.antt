@@ -1,4 +1,4 @@
--- What a place's calls that take bytes, or give a block's back, say of the account.
+-- What a place's calls that take bytes, or give those of a block back, say of the account.
 use Rattle.std.proofs.Common.{◌≡◌, ℕ, ◌*◌, List, sym, ap, ◌∙◌, subst}
 use Rattle.std.specs.Prelude.{Result, Ok, Err, IfOk, MatchResult, OnErr}
 use Rattle.xh_arena.specs.Views.{TallyOf}
@@ -9,8 +9,8 @@ use Rattle.xh_model.specs.declared.limits.TheConstants.{END_BYTES}
 use Rattle.xh_place.specs.declared.opening.Unopened.{Unopened}
 use Rattle.xh_place.specs.Ends.{Opens}
 use Rattle.xh_place.specs.Places.{PlaceOf}
-use Rattle.xh_place.specs.Tallies.{took}
-use Rattle.xh_kernel.specs.Accounts.{AccountOf, has_taken}
+use Rattle.xh_place.specs.Tallies.{gave, took}
+use Rattle.xh_kernel.specs.Accounts.{AccountOf, has_given, has_taken}
 use Rattle.xh_kernel.proofs.Ended.{account_of}
 
 -- an account before a call, whose tallies a place's call changed from these to those
@@ -34,3 +34,9 @@ module _ (number : ℕ) (kept from to : List TallyOf) (before : AccountOf) (is :
       → MatchResult result (λ b. account_of number to ≡ has_taken arena b.len before) (λ _. account_of number to ≡ before)
   allocated old new arena (Ok b) taken same = moved (took arena b.len) taken
   allocated old new arena (Err e) taken same = moved (λ (ts : List TallyOf). ts) same.1
+
+  pub freed : (old new : PlaceOf) (arena : ℕ) (result : Result ℕ Refused) (unmoved : Type 0)
+      → IfOk result (λ n. to ≡ gave arena n from) → OnErr result ((new ≡ old) × unmoved × (to ≡ from))
+      → MatchResult result (λ n. account_of number to ≡ has_given arena n before) (λ _. account_of number to ≡ before)
+  freed old new arena (Ok n) unmoved given same = moved (gave arena n) given
+  freed old new arena (Err e) unmoved given same = moved (λ (ts : List TallyOf). ts) same.2

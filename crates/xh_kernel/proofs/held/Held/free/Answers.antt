@@ -1,0 +1,17 @@
+use Rattle.std.proofs.Common.{rules, ◌≡◌, List, sym, subst}
+use Rattle.std.specs.Prelude.{◌/◌, MatchResult}
+use Rattle.std.proofs.lemmas.List.{with_items_is, places}
+use Rattle.xh_arena.specs.Views.{TallyOf}
+use Rattle.xh_kernel.specs.Accounts.{has_given}
+use Rattle.xh_kernel.proofs.Ended.{account_of}
+use Rattle.xh_kernel.proofs.Taken.{freed}
+use Rattle.xh_kernel.proofs.held.Held.free.Goals as goal
+
+pub returns-clause-account : goal.returns-clause-account
+returns-clause-account g c =
+    subst (λ (ts : List TallyOf). MatchResult c.free-answer.result (λ n. account_of c.account.inside.number ts ≡ has_given (c.args.r / 256) n c.args.account.now)
+    (λ _. account_of c.account.inside.number ts ≡ c.args.account.now))
+    (sym (with_items_is c.account.inside.tallies c.free-answer.new.tallies (search (rules, places))))
+    (freed c.account.inside.number c.account.inside.tallies.items c.as_mut_slice-tallies.result.now c.free-answer.new.tallies
+    c.args.account.now c.account.view_is c.as_mut_slice-tallies.ensures.value
+    c.args.self.now.place c.free-answer.new.self (c.args.r / 256) c.free-answer.result _ c.free-answer.ensures.back c.free-answer.ensures.refused)
