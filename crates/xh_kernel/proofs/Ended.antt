@@ -31,8 +31,11 @@ module _ (number : ℕ) (kept from to : List TallyOf) (before : AccountOf) (is :
   back : (bytes : ℕ) → HasGivenBack bytes from to → HasBack bytes before after
   back bytes h = (own, subst (λ (ts : List TallyOf). HasGivenBack bytes ts to) here h)
 
-  stays : to ≡ from → after ≡ before
-  stays e = own ∙ ap (λ (ts : List TallyOf). record before { tallies = ts }) (e ∙ here)
+  pub moved : (f : List TallyOf → List TallyOf) → to ≡ f from → after ≡ record before { tallies = f before.tallies }
+  moved f e = own ∙ ap (λ (ts : List TallyOf). record before { tallies = ts }) (e ∙ ap f here)
+
+  pub stays : to ≡ from → after ≡ before
+  stays = moved (λ ts. ts)
 
   module _ (old new : PlaceOf) (result : Result ℕ Refused) where
     unmoved : (refused : Refused) → result ≡ Err refused → to ≡ from → HasReclaimed before after result

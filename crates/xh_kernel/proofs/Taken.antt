@@ -1,5 +1,5 @@
 -- What a place's calls that take bytes, or give those of a block back, say of the account.
-use Rattle.std.proofs.Common.{◌≡◌, ℕ, ◌*◌, List, sym, ap, ◌∙◌, subst}
+use Rattle.std.proofs.Common.{◌≡◌, ℕ, ◌*◌, List, sym, subst}
 use Rattle.std.specs.Prelude.{Result, Ok, Err, IfOk, MatchResult, OnErr}
 use Rattle.xh_arena.specs.Views.{TallyOf}
 use Rattle.xh_channel.specs.Queues.{Posted}
@@ -11,32 +11,34 @@ use Rattle.xh_place.specs.Ends.{Opens}
 use Rattle.xh_place.specs.Places.{PlaceOf}
 use Rattle.xh_place.specs.Tallies.{gave, took}
 use Rattle.xh_kernel.specs.Accounts.{AccountOf, has_given, has_taken}
-use Rattle.xh_kernel.proofs.Ended.{account_of}
+use Rattle.xh_kernel.proofs.Ended.{account_of, moved, stays}
 
 -- an account before a call, whose tallies a place's call changed from these to those
 module _ (number : ℕ) (kept from to : List TallyOf) (before : AccountOf) (is : account_of number kept ≡ before) (lent : from ≡ kept) where
-  moved : (f : List TallyOf → List TallyOf) → to ≡ f from → account_of number to ≡ record before { tallies = f before.tallies }
-  moved f e = ap (λ (a : AccountOf). record a { tallies = to }) is
-      ∙ ap (λ (ts : List TallyOf). record before { tallies = ts }) (e ∙ ap f (lent ∙ ap (λ (a : AccountOf). a.tallies) is))
+  change : (f : List TallyOf → List TallyOf) → to ≡ f from → account_of number to ≡ record before { tallies = f before.tallies }
+  change = moved number kept from to before is lent
+
+  same : to ≡ from → account_of number to ≡ before
+  same = stays number kept from to before is lent
 
   pub opened : (low high : Posted) (old new : PlaceOf) (arena : ℕ) (made : Result (Block × Block) Unopened) (result : Result (Block × Block) Refused)
       → Opens arena low high old new from to made → MatchResult made (λ ends. result ≡ Ok ends) (λ u. result ≡ Err u.why)
       → MatchResult result (λ _. account_of number to ≡ has_taken arena (2 * END_BYTES) before) (λ _. account_of number to ≡ before)
   opened low high old new arena (Ok ends) result o e =
       subst (λ (r : Result (Block × Block) Refused). MatchResult r (λ _. account_of number to ≡ has_taken arena (2 * END_BYTES) before) (λ _. account_of number to ≡ before)) (sym e)
-      (moved (took arena (2 * END_BYTES)) o.3)
+      (change (took arena (2 * END_BYTES)) o.3)
   opened low high old new arena (Err u) result o e =
       subst (λ (r : Result (Block × Block) Refused). MatchResult r (λ _. account_of number to ≡ has_taken arena (2 * END_BYTES) before) (λ _. account_of number to ≡ before)) (sym e)
-      (moved (λ (ts : List TallyOf). ts) o.3)
+      (same o.3)
 
   pub allocated : (old new : PlaceOf) (arena : ℕ) (result : Result Block Refused)
       → IfOk result (λ b. to ≡ took arena b.len from) → OnErr result ((new ≡ old) × (to ≡ from))
       → MatchResult result (λ b. account_of number to ≡ has_taken arena b.len before) (λ _. account_of number to ≡ before)
-  allocated old new arena (Ok b) taken same = moved (took arena b.len) taken
-  allocated old new arena (Err e) taken same = moved (λ (ts : List TallyOf). ts) same.1
+  allocated old new arena (Ok b) taken unchanged = change (took arena b.len) taken
+  allocated old new arena (Err e) taken unchanged = same unchanged.1
 
   pub freed : (old new : PlaceOf) (arena : ℕ) (result : Result ℕ Refused) (unmoved : Type 0)
       → IfOk result (λ n. to ≡ gave arena n from) → OnErr result ((new ≡ old) × unmoved × (to ≡ from))
       → MatchResult result (λ n. account_of number to ≡ has_given arena n before) (λ _. account_of number to ≡ before)
-  freed old new arena (Ok n) unmoved given same = moved (gave arena n) given
-  freed old new arena (Err e) unmoved given same = moved (λ (ts : List TallyOf). ts) same.2
+  freed old new arena (Ok n) unmoved given unchanged = change (gave arena n) given
+  freed old new arena (Err e) unmoved given unchanged = same unchanged.2
