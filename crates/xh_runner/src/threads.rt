@@ -10,7 +10,7 @@ mod job;
 mod replies;
 mod run;
 
-use crate::threads::run::{Outcome, run_script};
+use crate::threads::run::run_script;
 use std::alloc::Global;
 use std::marker::Brand;
 use std::sync::Wait;
@@ -66,11 +66,7 @@ fn run_named<N: Names + Send + Sync, R: Threads + Wait + Sync, G: Gate + Sync>(
     let Ok((kernel, accounts, looks)) = Kernel::<N>::new(alloc, parts) else {
         return Err(Fault::Memory);
     };
-    let Outcome {
-        answers,
-        names,
-        accounts,
-    } = run_script(rt, alloc, &kernel, accounts, looks, script, gate, stops)?;
+    let (outcome, accounts) = run_script(rt, alloc, &kernel, accounts, looks, script, gate, stops)?;
     let Ok((vaults, places, records)) = kernel.settle(alloc) else {
         return Err(Fault::Memory);
     };
@@ -78,9 +74,9 @@ fn run_named<N: Names + Send + Sync, R: Threads + Wait + Sync, G: Gate + Sync>(
         return Err(Fault::Memory);
     };
     Ok(Report {
-        answers,
+        answers: outcome.answers,
         ledger,
-        names,
+        names: outcome.names,
     })
 }
 

@@ -1,6 +1,7 @@
 //! The workers of a run, and one thread for each.
 ghost use Rattle.std.specs.Prelude.{◌≡◌, ◌+◌, All, IfOk, OnOk, vec_len};
 
+use crate::machine::Machine;
 use crate::machine::worker::Worker;
 use crate::names::Names as Bindings;
 use crate::session::Session;
@@ -46,6 +47,20 @@ pub(super) fn hire<'a, N: Names, R, G>(
     Ok(workers)
 }
 
+/// The accounts of workers that are done.
+pub(super) fn accounts_of<'a, N: Names, R, G>(
+    alloc: Global,
+    workers: Vec<Worker<'a, N, R, G>>,
+) -> Result<Vec<Account<N>>, AllocError>
+    ensures { IfOk result (λ accounts. vec_len accounts ≡ vec_len workers.entry) }
+{
+    let mut accounts = Vec::with_capacity(alloc, workers.len())?;
+    for worker in workers {
+        accounts.push(worker.into_account())?;
+    }
+    Ok(accounts)
+}
+
 fn count_of(lines: &[Line], process: u8) -> usize {
     lines.iter().filter(|line| is_of(line, process)).count()
 }
@@ -63,65 +78,63 @@ fn room(
 }
 
 // The job of a process at a place.
-fn job<'a, N: Names, R: Wait, G: Gate>(
+fn job<'a, M: Machine>(
     alloc: Global,
-    worker: Worker<'a, N, R, G>,
+    machine: M,
     names: &Bindings,
     contracts: &'a [Contract],
     lines: &[Line],
     process: u8,
     place: u8,
-) -> Result<Job<'a, N, R, G>, AllocError> {
+) -> Result<Job<'a, M>, AllocError> {
     let (names, replies) = room(alloc, names, lines, process)?;
-    let gate = worker.gate;
     Ok(Job {
-        session: Session::with_names(worker, names, contracts),
-        gate,
+        session: Session::with_names(machine, names, contracts),
         process,
         place,
         replies,
     })
 }
 
-// One more worker has the job of the process at a place, or nothing to do.
-fn deal_one<'a, N: Names, R: Wait, G: Gate>(
+// One more machine has the job of the process at a place, or nothing to do.
+fn deal_one<'a, M: Machine>(
     alloc: Global,
-    worker: Worker<'a, N, R, G>,
+    machine: M,
     names: &Bindings,
     contracts: &'a [Contract],
     lines: &[Line],
     place: u8,
-    jobs: &mut Vec<Job<'a, N, R, G>>,
-    idle: &mut Vec<Account<N>>,
+    jobs: &mut Vec<Job<'a, M>>,
+    idle: &mut Vec<M>,
 ) -> Result<(), AllocError>
     ensures { OnOk result (vec_len jobs.new + vec_len idle.new ≡ vec_len jobs.old + vec_len idle.old + 1) }
 {
     match names.process_at(place) {
         Some(process) => {
-            jobs.push(job(alloc, worker, names, contracts, lines, process, place)?)?;
+            jobs.push(job(alloc, machine, names, contracts, lines, process, place)?)?;
         }
-        None => idle.push(worker.into_account())?,
+        None => idle.push(machine)?,
     }
     Ok(())
 }
 
-/// The jobs of the processes that have a place, the lowest place first, and the accounts of the workers that
-/// have nothing to do.
-pub(super) fn deal<'a, N: Names, R: Wait, G: Gate>(
+/// The jobs of the processes that have a place, the lowest place first, and the machines that have nothing to
+/// do.
+pub(super) fn deal<'a, M: Machine>(
     alloc: Global,
-    workers: Vec<Worker<'a, N, R, G>>,
+    machines: Vec<M>,
     names: &Bindings,
     contracts: &'a [Contract],
     lines: &[Line],
-) -> Result<(Vec<Job<'a, N, R, G>>, Vec<Account<N>>), AllocError>
-    ensures { IfOk result (λ r. vec_len r.0 + vec_len r.1 ≡ vec_len workers.entry) }
+) -> Result<(Vec<Job<'a, M>>, Vec<M>), AllocError>
+    ensures { IfOk result (λ r. vec_len r.0 + vec_len r.1 ≡ vec_len machines) }
 {
     let mut jobs = Vec::new(alloc);
     let mut idle = Vec::new(alloc);
     let mut place = 0u8;
-    for worker in workers {
+    for machine in machines {
         deal_one(
-            alloc, worker, names, contracts, lines, place, &mut jobs, &mut idle,
+            alloc, machine, names, contracts, lines, place, &mut jobs, &mut idle,
         )?;
         place = place.saturating_add(1);
     }
@@ -133,16 +146,16 @@ fn start_all<
     's,
     'a: 's,
     E,
-    N: Names + Send + Sync + 's,
+    M: Machine + Send + 's,
     R: Threads + Wait + Sync + 's,
     G: Gate + Sync + 's,
 >(
     scope: &Scope<'s, E>,
     rt: &'s R,
     alloc: Global,
-    jobs: Vec<Job<'a, N, R, G>>,
-    shared: &'s Shared<'a>,
-) -> Result<Vec<JoinHandle<Done<N>>>, AllocError>
+    jobs: Vec<Job<'a, M>>,
+    shared: &'s Shared<'a, G>,
+) -> Result<Vec<JoinHandle<Done<M>>>, AllocError>
     ensures { IfOk result (λ handles. vec_len handles ≡ vec_len jobs.entry) }
 {
     let mut handles = Vec::with_capacity(alloc, jobs.len())?;
@@ -157,16 +170,16 @@ fn start_at_once<
     's,
     'a: 's,
     E,
-    N: Names + Send + Sync + 's,
+    M: Machine + Send + 's,
     R: Threads + Wait + Sync + 's,
     G: Gate + Sync + 's,
 >(
     scope: &Scope<'s, E>,
     rt: &'s R,
     alloc: Global,
-    jobs: Vec<Job<'a, N, R, G>>,
-    shared: &'s Shared<'a>,
-) -> Result<Vec<JoinHandle<Done<N>>>, AllocError>
+    jobs: Vec<Job<'a, M>>,
+    shared: &'s Shared<'a, G>,
+) -> Result<Vec<JoinHandle<Done<M>>>, AllocError>
     ensures { IfOk result (λ handles. vec_len handles ≡ vec_len jobs.entry) }
 {
     let mut started = shared.started.lock(rt);
@@ -175,11 +188,11 @@ fn start_at_once<
     Ok(handles)
 }
 
-fn join_all<N: Names + Send, R: Threads>(
+fn join_all<M: Drop + Send, R: Threads>(
     rt: &R,
     alloc: Global,
-    handles: Vec<JoinHandle<Done<N>>>,
-) -> Result<Vec<Done<N>>, AllocError>
+    handles: Vec<JoinHandle<Done<M>>>,
+) -> Result<Vec<Done<M>>, AllocError>
     ensures { IfOk result (λ done. vec_len done ≡ vec_len handles) }
 {
     let mut all = Vec::with_capacity(alloc, handles.len())?;
@@ -190,24 +203,18 @@ fn join_all<N: Names + Send, R: Threads>(
 }
 
 /// Does each job in a thread of its own, and joins all.
-pub(super) fn run_jobs<
-    's,
-    'a: 's,
-    N: Names + Send + Sync,
-    R: Threads + Wait + Sync,
-    G: Gate + Sync,
->(
+pub(super) fn run_jobs<'s, 'a: 's, M: Machine + Send, R: Threads + Wait + Sync, G: Gate + Sync>(
     rt: &'s R,
     alloc: Global,
-    jobs: Vec<Job<'a, N, R, G>>,
-    shared: &'s Shared<'a>,
-) -> Result<Vec<Done<N>>, AllocError>
+    jobs: Vec<Job<'a, M>>,
+    shared: &'s Shared<'a, G>,
+) -> Result<Vec<Done<M>>, AllocError>
     ensures { IfOk result (λ done. vec_len done ≡ vec_len jobs.entry) }
 {
     thread::scope(
         thread::scope_env(),
         rt,
-        |scope| -> Result<Vec<Done<N>>, AllocError>
+        |scope| -> Result<Vec<Done<M>>, AllocError>
             ensures { IfOk result (λ done. vec_len done ≡ vec_len jobs.entry) }
         {
             let handles = start_at_once(scope, rt, alloc, jobs, shared)?;

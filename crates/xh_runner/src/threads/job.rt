@@ -3,40 +3,38 @@ ghost use Rattle.std.specs.Prelude.{◌≡◌};
 ghost use Rattle.xh_runner.specs.inner.Jobs.{Answers, is_of};
 
 use crate::machine::Machine;
-use crate::machine::worker::Worker;
 use crate::names::Names as Bindings;
 use crate::session::Session;
 use crate::threads::replies::Placed;
 use std::alloc::{AllocError, Global};
 use std::sync::{Mutex, Wait};
-use xh_kernel::{Account, Names};
 use xh_place::Gate;
 use xh_script::{Form, Line, Reply};
 
-/// What all workers of a run share: the lines of the script, what the names of processes stand for by
-/// now, and whether all workers could be started.
+/// What all workers of a run share: the lines of the script, the gate, what the names of processes stand
+/// for by now, and whether all workers could be started.
 #[derive(Drop)]
-pub(super) struct Shared<'a> {
+pub(super) struct Shared<'a, G> {
     pub(super) lines: &'a [Line],
+    pub(super) gate: &'a G,
     pub(super) names: Mutex<Bindings>,
     pub(super) started: Mutex<bool>,
 }
 
 /// The commands of a process, which has the place from the head on; room for their replies.
 #[derive(Drop)]
-pub(super) struct Job<'a, N: Names, R, G> {
-    pub(super) session: Session<'a, Worker<'a, N, R, G>>,
-    pub(super) gate: &'a G,
+pub(super) struct Job<'a, M> {
+    pub(super) session: Session<'a, M>,
     pub(super) process: u8,
     pub(super) place: u8,
     pub(super) replies: Vec<Placed>,
 }
 
-/// What a worker leaves: its account, the replies, and whether the gate let it do all of its commands,
+/// What a worker leaves: its machine, the replies, and whether the gate let it do all of its commands,
 /// where the replies had room.
 #[derive(Drop)]
-pub(super) struct Done<N: Names> {
-    pub(super) account: Account<N>,
+pub(super) struct Done<M> {
+    pub(super) machine: M,
     pub(super) replies: Vec<Placed>,
     pub(super) ended: Result<bool, AllocError>,
 }
@@ -49,18 +47,28 @@ pub(super) fn is_of(line: &Line, process: u8) -> bool
 }
 
 // The names of processes stand for what they stand for by now.
-fn follow<'a, M: Machine, R: Wait>(rt: &R, shared: &Shared<'a>, session: &mut Session<'a, M>) {
+fn follow<'a, M: Machine, R: Wait, G>(
+    rt: &R,
+    shared: &Shared<'a, G>,
+    session: &mut Session<'a, M>,
+) {
     session.follow(&shared.names.lock(rt));
 }
 
 // A process has started once more, and has this number.
-fn start<'a, R: Wait>(rt: &R, shared: &Shared<'a>, process: u8, number: u16) {
+fn start<'a, R: Wait, G>(rt: &R, shared: &Shared<'a, G>, process: u8, number: u16) {
     shared.names.lock(rt).start(process, number);
 }
 
-impl<'a, N: Names, R: Wait, G: Gate> Job<'a, N, R, G> {
+impl<'a, M: Machine> Job<'a, M> {
     // Does a command. Where it names another process, the name stands for what it stands for at the start.
-    fn step(&mut self, rt: &R, alloc: Global, shared: &Shared<'a>, line: &Line) -> Reply
+    fn step<R: Wait, G>(
+        &mut self,
+        rt: &R,
+        alloc: Global,
+        shared: &Shared<'a, G>,
+        line: &Line,
+    ) -> Reply
         ensures process { self.new.process ≡ self.old.process }
         ensures replies { self.new.replies ≡ self.old.replies }
     {
@@ -75,19 +83,24 @@ impl<'a, N: Names, R: Wait, G: Gate> Job<'a, N, R, G> {
     }
 
     // Does the commands in order, as far as the gate lets them; whether it let all.
-    fn run(&mut self, rt: &R, alloc: Global, shared: &Shared<'a>) -> Result<bool, AllocError>
+    fn run<R: Wait, G: Gate>(
+        &mut self,
+        rt: &R,
+        alloc: Global,
+        shared: &Shared<'a, G>,
+    ) -> Result<bool, AllocError>
         ensures { Answers self.old.process shared.now.lines.now self.old.replies.items self.new.replies.items }
     {
         let mut command = 0u32;
         for index in 0..shared.lines.len() {
             let line = &shared.lines[index];
             if is_of(line, self.process) {
-                if !self.gate.before(self.place, command) {
+                if !shared.gate.before(self.place, command) {
                     return Ok(false);
                 }
                 let reply = self.step(rt, alloc, shared, line);
                 self.replies.push(Placed { index, reply })?;
-                self.gate.after(self.place, command);
+                shared.gate.after(self.place, command);
                 command = command.saturating_add(1);
             }
         }
@@ -95,7 +108,12 @@ impl<'a, N: Names, R: Wait, G: Gate> Job<'a, N, R, G> {
     }
 
     /// Does the commands once all workers were started; none where one could not be.
-    pub(super) fn work(mut self, rt: &R, alloc: Global, shared: &Shared<'a>) -> Done<N>
+    pub(super) fn work<R: Wait, G: Gate>(
+        mut self,
+        rt: &R,
+        alloc: Global,
+        shared: &Shared<'a, G>,
+    ) -> Done<M>
         ensures { Answers self.entry.process shared.now.lines.now self.entry.replies.items result.replies.items }
     {
         let started = *shared.started.lock(rt);
@@ -106,14 +124,13 @@ impl<'a, N: Names, R: Wait, G: Gate> Job<'a, N, R, G> {
         };
         let Job {
             session,
-            gate: _,
             process: _,
             place: _,
             replies,
         } = self;
-        let (worker, _) = session.into_parts();
+        let (machine, _) = session.into_parts();
         Done {
-            account: worker.into_account(),
+            machine,
             replies,
             ended,
         }

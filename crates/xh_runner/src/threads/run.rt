@@ -3,10 +3,10 @@ ghost use Rattle.std.specs.Prelude.{◌≡◌, ◌+◌, ◌<◌, ◌⊎◌, All,
 ghost use Rattle.xh_model.specs.declared.limits.TheConstants.{PLACES};
 ghost use Rattle.xh_runner.specs.Reports.{AreAnswersTo};
 
-use crate::machine::worker::Worker;
+use crate::machine::Machine;
 use crate::names::Names as Bindings;
 use crate::session::Session;
-use crate::threads::crew::{deal, hire, run_jobs};
+use crate::threads::crew::{accounts_of, deal, hire, run_jobs};
 use crate::threads::job::{Done, Shared};
 use crate::threads::replies::{answered, no_replies, put, put_each};
 use std::alloc::{AllocError, Global};
@@ -17,18 +17,17 @@ use xh_kernel::{Account, Kernel, Names};
 use xh_place::Gate;
 use xh_script::{Answered, Fault, Line, Name, Reply, Script};
 
-/// What a run leaves: the replies, the name of the latest process of each place, and all accounts.
+/// What a run says: the replies, and the name of the latest process of each place.
 #[derive(Drop)]
-pub(super) struct Outcome<N: Names> {
+pub(super) struct Outcome {
     pub(super) answers: Vec<Answered>,
     pub(super) names: Vec<Name>,
-    pub(super) accounts: Vec<Account<N>>,
 }
 
 // Does the head lines in order.
-fn run_head<'a, N: Names, R: Wait, G: Gate>(
+fn run_head<'a, M: Machine>(
     alloc: Global,
-    head: &mut Session<'a, Worker<'a, N, R, G>>,
+    head: &mut Session<'a, M>,
     lines: &[Line],
     replies: &mut [Option<Reply>],
 ) {
@@ -41,90 +40,111 @@ fn run_head<'a, N: Names, R: Wait, G: Gate>(
 }
 
 // Takes in what the workers leave; whether each did all of its commands.
-fn collect<N: Names>(
-    done: Vec<Done<N>>,
-    accounts: &mut Vec<Account<N>>,
+fn collect<M: Drop>(
+    done: Vec<Done<M>>,
+    machines: &mut Vec<M>,
     replies: &mut [Option<Reply>],
 ) -> Result<bool, AllocError>
-    ensures { OnOk result (vec_len accounts.new ≡ vec_len accounts.old + vec_len done) }
+    ensures { OnOk result (vec_len machines.new ≡ vec_len machines.old + vec_len done) }
 {
     let mut all = true;
     for one in done {
         let Done {
-            account,
+            machine,
             replies: placed,
             ended,
         } = one;
         all = ended? && all;
         put_each(replies, placed);
-        accounts.push(account)?;
+        machines.push(machine)?;
     }
     Ok(all)
 }
 
-// Does the head lines by a worker, and gives it back with what the names stand for then.
-fn begin<'a, N: Names, R: Wait, G: Gate>(
+// Does the head lines by a machine, and gives it back with what the names stand for then.
+fn begin<'a, M: Machine>(
     alloc: Global,
-    first: Worker<'a, N, R, G>,
+    first: M,
     script: &'a Script,
     replies: &mut [Option<Reply>],
-) -> Result<(Worker<'a, N, R, G>, Bindings), AllocError> {
+) -> Result<(M, Bindings), AllocError> {
     let mut head = Session::new(alloc, first, &script.contracts)?;
     run_head(alloc, &mut head, &script.lines, replies);
     Ok(head.into_parts())
 }
 
-// Does the commands of the processes that have a place, each by a worker; what the names stand for then, all
-// accounts, and whether each worker did all of its commands.
-fn work<'a, N: Names + Send + Sync, R: Threads + Wait + Sync, G: Gate + Sync>(
+// Does the commands of the processes that have a place, each by a machine; what the names stand for then, all
+// machines, and whether each process did all of its commands.
+fn work<'a, M: Machine + Send, R: Threads + Wait + Sync, G: Gate + Sync>(
     rt: &'a R,
     alloc: Global,
-    workers: Vec<Worker<'a, N, R, G>>,
+    machines: Vec<M>,
     names: Bindings,
     script: &'a Script,
+    gate: &'a G,
     replies: &mut [Option<Reply>],
-) -> Result<(Bindings, Vec<Account<N>>, bool), AllocError>
-    ensures { IfOk result (λ r. vec_len r.1 ≡ vec_len workers.entry) }
+) -> Result<(Bindings, Vec<M>, bool), AllocError>
+    ensures { IfOk result (λ r. vec_len r.1 ≡ vec_len machines) }
 {
-    let (jobs, mut accounts) = deal(alloc, workers, &names, &script.contracts, &script.lines)?;
+    let (jobs, mut idle) = deal(alloc, machines, &names, &script.contracts, &script.lines)?;
     let shared = Shared {
         lines: &script.lines,
+        gate,
         names: Mutex::new(names),
         started: Mutex::new(false),
     };
     let done = run_jobs(rt, alloc, jobs, &shared);
     let names = shared.names.into_inner();
-    let all = collect(done?, &mut accounts, replies)?;
-    Ok((names, accounts, all))
+    let all = collect(done?, &mut idle, replies)?;
+    Ok((names, idle, all))
 }
 
-// Once all workers were joined, the lines that none of them had are done by the head's session. Its account joins
-// theirs.
-fn finish<'a, N: Names, R: Wait, G: Gate>(
+// Once all were joined, the lines that none of them had are done by the head's session.
+fn finish<'a, M: Machine>(
     alloc: Global,
-    mut rest: Session<'a, Worker<'a, N, R, G>>,
+    rest: &mut Session<'a, M>,
     script: &Script,
     replies: Vec<Option<Reply>>,
-    mut accounts: Vec<Account<N>>,
-) -> Result<Outcome<N>, AllocError>
+) -> Result<Outcome, AllocError>
     ensures answers { IfOk result (λ o. AreAnswersTo script.now.lines.items o.answers.items) }
     ensures names { IfOk result (λ o. length o.names.items ≡ PLACES) }
-    ensures accounts { IfOk result (λ o. vec_len o.accounts ≡ vec_len accounts + 1) }
 {
-    let answers = answered(alloc, &mut rest, &script.lines, replies);
-    let names = rest.names_by_place(alloc, &script.processes);
-    let (first, _) = rest.into_parts();
-    accounts.push(first.into_account())?;
-    Ok(Outcome {
-        answers: answers?,
-        names: names?,
-        accounts,
-    })
+    let answers = answered(alloc, rest, &script.lines, replies)?;
+    let names = rest.names_by_place(alloc, &script.processes)?;
+    Ok(Outcome { answers, names })
 }
 
-/// Runs a script with a worker for each process that has a place. The commands that no worker had, those
-/// of the other processes, are done here once all were joined. `stops` says whether the gate may stop a
-/// worker, and so the run.
+// Runs a script with a machine for each process that has a place. The commands that no machine had, those of
+// the other processes, are done by the first once all were joined.
+fn run_on<'a, M: Machine + Send, R: Threads + Wait + Sync, G: Gate + Sync>(
+    rt: &'a R,
+    alloc: Global,
+    mut machines: Vec<M>,
+    script: &'a Script,
+    gate: &'a G,
+    stops: bool,
+) -> Result<(Outcome, Vec<M>), Fault>
+    requires some { 0 < vec_len machines }
+    ensures answers { IfOk result (λ r. AreAnswersTo script.now.lines.items r.0.answers.items) }
+    ensures names { IfOk result (λ r. length r.0.names.items ≡ PLACES) }
+    ensures machines { IfOk result (λ r. vec_len r.1 ≡ vec_len machines) }
+    ensures refused { IfErr result (λ e. (e ≡ Fault.Memory) ⊎ ((e ≡ Fault.Gate) × (stops ≡ true))) }
+{
+    let mut replies = no_replies(alloc, script.lines.len())?;
+    let (first, names) = begin(alloc, machines.remove(0), script, &mut replies)?;
+    let (names, mut machines, all) = work(rt, alloc, machines, names, script, gate, &mut replies)?;
+    if stops && !all {
+        return Err(Fault::Gate);
+    }
+    let mut rest = Session::with_names(first, names, &script.contracts);
+    let outcome = finish(alloc, &mut rest, script, replies)?;
+    let (first, _) = rest.into_parts();
+    machines.push(first)?;
+    Ok((outcome, machines))
+}
+
+/// Runs a script with a worker for each account; what the run says, and all accounts. `stops` says whether the
+/// gate may stop a worker, and so the run.
 pub(super) fn run_script<'a, N: Names + Send + Sync, R: Threads + Wait + Sync, G: Gate + Sync>(
     rt: &'a R,
     alloc: Global,
@@ -134,21 +154,15 @@ pub(super) fn run_script<'a, N: Names + Send + Sync, R: Threads + Wait + Sync, G
     script: &'a Script,
     gate: &'a G,
     stops: bool,
-) -> Result<Outcome<N>, Fault>
+) -> Result<(Outcome, Vec<Account<N>>), Fault>
     requires some { 0 < vec_len accounts }
     requires looks { (vec_len looks ≡ vec_len accounts) × All (λ l. l.glances ≡ N.parts.glances) looks.items }
-    ensures answers { IfOk result (λ o. AreAnswersTo script.now.lines.items o.answers.items) }
-    ensures names { IfOk result (λ o. length o.names.items ≡ PLACES) }
-    ensures accounts { IfOk result (λ o. vec_len o.accounts ≡ vec_len accounts) }
+    ensures answers { IfOk result (λ r. AreAnswersTo script.now.lines.items r.0.answers.items) }
+    ensures names { IfOk result (λ r. length r.0.names.items ≡ PLACES) }
+    ensures accounts { IfOk result (λ r. vec_len r.1 ≡ vec_len accounts) }
     ensures refused { IfErr result (λ e. (e ≡ Fault.Memory) ⊎ ((e ≡ Fault.Gate) × (stops ≡ true))) }
 {
-    let mut replies = no_replies(alloc, script.lines.len())?;
-    let mut workers = hire(rt, alloc, kernel, gate, accounts, looks)?;
-    let (first, names) = begin(alloc, workers.remove(0), script, &mut replies)?;
-    let (names, accounts, all) = work(rt, alloc, workers, names, script, &mut replies)?;
-    if stops && !all {
-        return Err(Fault::Gate);
-    }
-    let rest = Session::with_names(first, names, &script.contracts);
-    Ok(finish(alloc, rest, script, replies, accounts)?)
+    let workers = hire(rt, alloc, kernel, gate, accounts, looks)?;
+    let (outcome, workers) = run_on(rt, alloc, workers, script, gate, stops)?;
+    Ok((outcome, accounts_of(alloc, workers)?))
 }

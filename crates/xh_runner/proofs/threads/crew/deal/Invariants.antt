@@ -2,5 +2,5 @@ use Rattle.std.proofs.Common.{◌≡◌, ◌+◌, vec_len}
 use Rattle.std.specs.Vec.Iter.{into_iter_len}
 use Rattle.xh_runner.proofs.threads.crew.deal.Given as goal
 
-abbrev pub invariant-loop-worker : goal.invariant-loop-worker
-invariant-loop-worker g l = vec_len l.jobs + vec_len l.idle + into_iter_len l.worker-iterator ≡ vec_len l.fn.workers
+abbrev pub invariant-loop-machine : goal.invariant-loop-machine
+invariant-loop-machine g l = vec_len l.jobs + vec_len l.idle + into_iter_len l.machine-iterator ≡ vec_len l.fn.machines

@@ -3,4 +3,4 @@ use Rattle.std.specs.Vec.Iter.{into_iter_len}
 use Rattle.xh_runner.proofs.threads.run.collect.Given as goal
 
 abbrev pub invariant-loop-one : goal.invariant-loop-one
-invariant-loop-one g l = vec_len l.accounts + into_iter_len l.one-iterator ≡ vec_len l.fn.accounts + vec_len l.fn.done
+invariant-loop-one g l = vec_len l.machines + into_iter_len l.one-iterator ≡ vec_len l.fn.machines + vec_len l.fn.done
