@@ -36,13 +36,13 @@ pub(super) fn hire<'a, N: Names, R, G>(
         let Some(look) = looks.next() else {
             unreachable!()
         };
-        workers.push(Worker {
+        workers.push_reserved(Worker {
             rt,
             kernel,
             gate,
             account,
             look,
-        })?;
+        });
     }
     Ok(workers)
 }
@@ -56,7 +56,7 @@ pub(super) fn accounts_of<'a, N: Names, R, G>(
 {
     let mut accounts = Vec::with_capacity(alloc, workers.len())?;
     for worker in workers {
-        accounts.push(worker.into_account())?;
+        accounts.push_reserved(worker.into_account());
     }
     Ok(accounts)
 }
@@ -160,7 +160,7 @@ fn start_all<
 {
     let mut handles = Vec::with_capacity(alloc, jobs.len())?;
     for job in jobs {
-        handles.push(scope.spawn(move || job.work(rt, alloc, shared))?)?;
+        handles.push_reserved(scope.spawn(move || job.work(rt, alloc, shared))?);
     }
     Ok(handles)
 }
@@ -197,7 +197,7 @@ fn join_all<M: Drop + Send, R: Threads>(
 {
     let mut all = Vec::with_capacity(alloc, handles.len())?;
     for handle in handles {
-        all.push(handle.join(rt))?;
+        all.push_reserved(handle.join(rt));
     }
     Ok(all)
 }

@@ -1,6 +1,35 @@
-use Rattle.std.proofs.Common.{◌++◌, refl, rules, length}
-use Rattle.xh_runner.proofs.Ends.{Consumes-then, length_both}
+use Rattle.std.proofs.Common.{◌≤◌, ◌+◌, ◌++◌, ℕ, List, refl, rules, sym, subst, take, length}
+use Rattle.xh_script.specs.declared.limits.TheConstants.{MAX_SCRIPT}
+use Rattle.xh_runner.proofs.Ends.{Consumes-then, Reads-then, fewer, length_both}
+use Rattle.xh_runner.proofs.input.read_text.Given.{Over}
+use Rattle.xh_runner.proofs.input.read_text.Goals.{In_ok-n}
 use Rattle.xh_runner.proofs.input.read_text.Goals as goal
+
+-- what was read by now is no longer than what may be read
+short : (g : Over) (c : In_ok-n g) → length c.read_some.new.text.items ≤ MAX_SCRIPT + 1
+short g c =
+    let some = c.in_ok-n.ensures.ok in
+    let text : List ℕ = c.loop-room.text.items in
+    let room : ℕ = length (take c.min-most.result c.loop-room.room) in
+    subst (λ (t : List ℕ). length t ≤ MAX_SCRIPT + 1) (sym some.1.3) (length_both text some.1.0 (length text) room refl (rw some.1.1 some.0) (search rules))
+
+pub loop-room-preserved : goal.loop-room-preserved
+loop-room-preserved g c =
+    let some = c.in_ok-n.ensures.ok in record {
+      reads = Reads-then g.R.Read.remaining _ _ _ c.loop-room.text.items some.1.0 _ c.loop-room.invariant.reads some.1.2 some.1.3;
+      short = short g (goal.at.loop-room-preserved g c).In_ok-n;
+    }
+
+pub loop-room-smaller : goal.loop-room-smaller
+loop-room-smaller g c =
+    let some = c.in_ok-n.ensures.ok in fewer c.loop-room.text.items some.1.0 c.read_some.new.text.items c.in_ok-n.n some.1.3 some.1.1 c.if-n-eq0.false (search rules)
+
+pub returns-then-n-eq0-clause-ok : goal.returns-then-n-eq0-clause-ok
+returns-then-n-eq0-clause-ok g c =
+    let some = c.in_ok-n.ensures.ok in (
+      (Reads-then g.R.Read.remaining _ _ _ c.loop-room.text.items some.1.0 _ c.loop-room.invariant.reads some.1.2 some.1.3, λ _. c.in_ok-n.ensures.end c.if-n-eq0.true),
+      short g (goal.at.returns-then-n-eq0-clause-ok g c).In_ok-n,
+    )
 
 pub returns-in_err-n-clause-limit : goal.returns-in_err-n-clause-limit
 returns-in_err-n-clause-limit g c =
