@@ -1,5 +1,5 @@
 //! Worked examples by calls of a kernel, by one worker.
-ghost use Rattle.std.specs.Prelude.{◌≡◌};
+ghost use Rattle.std.specs.Prelude.{◌≡◌, ◌≤◌};
 
 mod answers;
 mod bench;
@@ -15,23 +15,27 @@ mod wiring;
 mod without_memory;
 
 use answers::{Answer, Call, assert_answers};
-use bench::{Bench, bench_of};
+use bench::{Bench, Left, bench_of};
 use std::alloc::Global;
 use std::marker::Brand;
 use std::process::Abort;
 use std::sync::Wait;
 use std::test::Fail;
+use std::thread::Threads;
+use waiting::Ender;
 use xh_core::{Config, Refused};
 use xh_kernel::{Names, Parts};
 
-/// A test over a kernel: calls and what they answer, or one that takes the kernel apart, makes each process, or stands
-/// whichever growths of memory are refused.
+/// A test over a kernel: calls and what they answer, and then how many arenas there are, of which the last has handed
+/// out so many bytes; or one that makes each process, goes on threads, or stands whichever growths of memory are refused.
 #[derive(Clone, Copy)]
 enum Case<'a> {
     Answers(&'a [(Call<'a>, Answer)]),
-    Settling,
-    SettlingWithoutProcesses,
+    Settling(&'a [(Call<'a>, Answer)], usize, u32),
     PlacesByGeneration,
+    TenMessages,
+    Waits(Ender, u64),
+    WireToOneThatEnds,
     Growths,
     WithoutMemory,
 }
@@ -58,52 +62,69 @@ fn waiting_of(bytes: u32, depth: u8) -> Config {
     }
 }
 
-/// The bench is lent to what the case asks of it.
-fn lend<N: Names, R: Wait + Abort>(
+/// The case's calls. Whether no growth was refused to the last of them.
+fn lend<N: Names + Send + Sync, R: Threads + Wait + Abort + Sync>(
     rt: &R,
     alloc: Global,
     bench: &mut Bench<N>,
     case: Case,
-) -> Result<(), Refused> {
-    if let Case::Answers(calls) = case {
-        assert_answers(rt, alloc, bench, calls);
-        return Ok(());
+) -> bool {
+    match case {
+        Case::Answers(calls) | Case::Settling(calls, ..) => assert_answers(rt, alloc, bench, calls),
+        Case::PlacesByGeneration => places::assert_generations(rt, alloc, bench),
+        Case::TenMessages => passing::assert_ten(rt, alloc, bench),
+        Case::Waits(ender, want) => waiting::assert_rounds(rt, alloc, bench, ender, want),
+        Case::WireToOneThatEnds => wiring::assert_refused(rt, alloc, bench),
+        Case::Growths => growths::assert_again(rt, alloc, bench),
+        Case::WithoutMemory => return without_memory::is_whole(rt, alloc, bench),
     }
-    places::places_by_generation(rt, bench)
+    true
 }
 
-/// The case, over a kernel made of the parts.
-fn over<N: Names, R: Wait + Abort>(
+/// What the case finds of its kernel.
+fn assert_left(rt: &impl Abort, case: Case, left: &Left) {
+    match case {
+        Case::Settling(_, arenas, bytes) => places::assert_settled(rt, left, arenas, bytes),
+        Case::Growths => growths::assert_left(rt, left),
+        _ => {}
+    }
+}
+
+/// The case, over a kernel made of the parts, which is then taken apart.
+fn over<N: Names + Send + Sync, R: Threads + Wait + Abort + Sync>(
     rt: &R,
     alloc: Global,
     parts: Parts,
     case: Case,
 ) -> Result<(), Refused>
-    requires { parts ≡ N.parts }
+    requires { (parts ≡ N.parts) × (1 ≤ parts.workers) }
 {
     let mut bench = bench_of::<N>(alloc, parts)?;
-    match case {
-        Case::Answers(_) | Case::PlacesByGeneration => lend(rt, alloc, &mut bench, case),
-        Case::Settling => places::settling(rt, alloc, bench),
-        Case::SettlingWithoutProcesses => places::settling_without_processes(rt, alloc, bench),
-        Case::Growths => growths::growths(rt, alloc, bench),
-        Case::WithoutMemory => without_memory::without_memory(rt, alloc, bench),
-    }
+    let whole = lend(rt, alloc, &mut bench, case);
+    let left = bench.settle(alloc)?;
+    assert!(rt; whole);
+    assert_left(rt, case, &left);
+    Ok(())
 }
 
-/// The case, over a new kernel of one worker.
-fn with_kernel<R: Wait + Abort>(
+/// The case, over a new kernel of one worker, or of two where it asks for another.
+fn with_kernel<R: Threads + Wait + Abort + Sync>(
     rt: &R,
     alloc: Global,
     config: Config,
     case: Case,
 ) -> Result<(), Refused> {
-    let parts = Parts::new(alloc, config, 1)?;
+    let workers = if matches!(case, Case::WireToOneThatEnds) {
+        2
+    } else {
+        1
+    };
+    let parts = Parts::new(alloc, config, workers)?;
     over::<Brand, R>(rt, alloc, parts, case)
 }
 
 /// Each call on a new kernel, and what it answers.
-fn assert_on<R: Wait + Abort>(
+fn assert_on<R: Threads + Wait + Abort + Sync>(
     rt: &R,
     alloc: Global,
     config: Config,
@@ -113,40 +134,26 @@ fn assert_on<R: Wait + Abort>(
     Ok(())
 }
 
-#[test]
-fn settling(rt: HostRuntime) -> Result<(), Fail> {
-    let config = arenas_of(8, 256, 8);
-    with_kernel(&rt, rt.alloc(), config, Case::Settling)?;
-    Ok(())
+/// What the making of the parts answers: the name of a refusal, or nothing.
+fn made(alloc: Global, config: Config, workers: u8) -> &'static str {
+    match Parts::new(alloc, config, workers) {
+        Ok(_parts) => "",
+        Err(refused) => refused.name(),
+    }
 }
 
-/// Limits on both sides of each.
+/// Limits on both sides of each, of arenas and workers.
 #[test]
 fn limits_of_parts(rt: HostRuntime) {
-    let (good, bad) = (arenas_of(1, 16, 1), arenas_of(0, 16, 1));
-    for workers in [1, 33] {
-        assert!(rt; Parts::new(rt.alloc(), good, workers).is_ok());
+    const LIMITS: &[(u8, u8, &str)] = &[
+        (1, 1, ""),
+        (1, 33, ""),
+        (1, 0, "BadSize"),
+        (1, 34, "BadSize"),
+        (0, 1, "BadSize"),
+    ];
+    for (arenas, workers, expected) in LIMITS {
+        let config = arenas_of(*arenas, 16, 1);
+        assert_eq!(rt; made(rt.alloc(), config, *workers), *expected);
     }
-    for (config, workers) in [(good, 0), (good, 34), (bad, 1)] {
-        assert!(rt;
-            matches!(
-                Parts::new(rt.alloc(), config, workers),
-                Err(Refused::BadSize)
-            )
-        );
-    }
-}
-
-#[test]
-fn places_by_generation(rt: HostRuntime) -> Result<(), Fail> {
-    let config = arenas_of(1, 16, 1);
-    with_kernel(&rt, rt.alloc(), config, Case::PlacesByGeneration)?;
-    Ok(())
-}
-
-#[test]
-fn settling_without_processes(rt: HostRuntime) -> Result<(), Fail> {
-    let config = arenas_of(1, 16, 1);
-    with_kernel(&rt, rt.alloc(), config, Case::SettlingWithoutProcesses)?;
-    Ok(())
 }

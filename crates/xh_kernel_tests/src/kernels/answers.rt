@@ -4,13 +4,13 @@ use super::contracts::{Rules, contract_of};
 use std::alloc::Global;
 use std::process::Abort;
 use std::sync::Wait;
-use xh_core::{Block, Refused, Status};
-use xh_kernel::Names;
-use xh_place::{Got, Taken};
+use xh_core::{Block, Glance, Refused, Status};
+use xh_kernel::{Kernel, Names};
+use xh_place::{Got, OpenGate, Taken};
 
 /// A call, by the numbers of processes, records and arenas: a read is of four bytes, a channel of arena 0 but for
 /// that of `Open`. `Spawns` starts so many processes, `Bans` gives a message of each tag from 0 to 4 but one, and
-/// `Moved` asks what the worker took of an arena and gave back.
+/// `Moved` asks what the worker took of an arena and gave back, and `Worker` for the worker's number.
 #[derive(Clone, Copy)]
 pub enum Call<'a> {
     Spawn,
@@ -32,9 +32,10 @@ pub enum Call<'a> {
     Kill(u16, u16, u16),
     Glance(u8),
     Moved(u8),
+    Worker,
 }
 
-/// A process, a message's number, or how many bytes came back; a block, by record and length; two blocks; the bytes
+/// A process, a worker, a message's number, or how many bytes came back; a block, by record and length; two blocks; the bytes
 /// of a read; the records of both ends; a message, by its number, its tag and its first two blocks, each by record and length (0 if it did not
 /// come); a place, by
 /// process, state, blocks and bytes; bytes taken and given back; the name of a refusal, and the first block that it
@@ -88,9 +89,10 @@ fn of_two(answer: Result<(Block, Block), Refused>) -> Answer {
     }
 }
 
-fn of_ends(answer: Result<(u16, u16), Refused>) -> Answer {
+/// The records of both ends of a channel.
+fn of_ends(answer: Result<(Block, Block), Refused>) -> Answer {
     match answer {
-        Ok((low, high)) => Answer::Ends(low, high),
+        Ok((low, high)) => Answer::Ends(low.rec, high.rec),
         Err(refused) => of_refused(refused),
     }
 }
@@ -120,19 +122,33 @@ fn of_nothing(answer: Result<(), Refused>) -> Answer {
     }
 }
 
-fn bytes_of<N: Names, R: Wait>(rt: &R, bench: &Bench<N>, p: u16, r: u16, at: u32) -> Answer {
+fn of_glance(answer: Result<Glance, Refused>) -> Answer {
+    match answer {
+        Ok(seen) => Answer::Place(seen.process, seen.state, seen.blocks, seen.bytes),
+        Err(refused) => of_refused(refused),
+    }
+}
+
+fn of_moved(moved: Option<(u64, u64)>) -> Answer {
+    match moved {
+        Some((taken, back)) => Answer::Moved(taken, back),
+        None => Answer::No("NoArena"),
+    }
+}
+
+fn bytes_of<N: Names, R: Wait>(rt: &R, kernel: &Kernel<N>, p: u16, r: u16, at: u32) -> Answer {
     let mut bytes = [0xee; 4];
-    match bench.read(rt, p, r, at, &mut bytes) {
+    match kernel.read(rt, p, r, at, &mut bytes, &OpenGate) {
         Ok(()) => Answer::Bytes(bytes),
         Err(refused) => of_refused(refused),
     }
 }
 
 /// What the last of so many starts answers.
-fn last_of<N: Names, R: Wait>(rt: &R, bench: &Bench<N>, count: u16) -> Answer {
+fn last_of<N: Names, R: Wait>(rt: &R, kernel: &Kernel<N>, count: u16) -> Answer {
     let mut last = Answer::Done;
     for _ in 0..count {
-        last = of_number(bench.spawn(rt).map(u64::from));
+        last = of_number(kernel.spawn(rt, &OpenGate).map(u64::from));
     }
     last
 }
@@ -140,34 +156,20 @@ fn last_of<N: Names, R: Wait>(rt: &R, bench: &Bench<N>, count: u16) -> Answer {
 /// Nothing where the contract refuses each tag but one, or else what the call with the first other tag answers.
 fn banned_of<N: Names, R: Wait>(
     rt: &R,
-    bench: &Bench<N>,
+    kernel: &Kernel<N>,
     p: u16,
     e: u16,
     allowed: Option<u16>,
 ) -> Answer {
     for tag in 0..5u16 {
         if allowed != Some(tag) {
-            let answer = of_number(bench.give(rt, p, e, tag, &[]));
+            let answer = of_number(kernel.give(rt, p, e, tag, &[], &OpenGate));
             if answer != Answer::Back("Protocol", None) {
                 return answer;
             }
         }
     }
     Answer::Done
-}
-
-fn glance_of<N: Names>(bench: &mut Bench<N>, place: u8) -> Answer {
-    match bench.glance(place) {
-        Some((process, state, blocks, bytes)) => Answer::Place(process, state, blocks, bytes),
-        None => Answer::No("NoProcess"),
-    }
-}
-
-fn moved_of<N: Names>(bench: &Bench<N>, arena: u8) -> Answer {
-    match bench.account.moved(arena) {
-        Some((taken, back)) => Answer::Moved(taken, back),
-        None => Answer::No("NoArena"),
-    }
 }
 
 /// The records of both ends of a channel by these rules: of the process, or of it and another.
@@ -178,10 +180,32 @@ fn ends_under<N: Names, R: Wait>(
     other: Option<u16>,
     rules: Rules,
 ) -> Answer {
-    match (contract_of(rules), other) {
-        (Ok(contract), None) => of_ends(bench.open_with(rt, p, contract)),
-        (Ok(contract), Some(q)) => of_ends(bench.wire_with(rt, p, q, contract)),
-        (Err(refused), _) => of_refused(refused),
+    let contract = match contract_of(rules) {
+        Ok(contract) => contract,
+        Err(refused) => return of_refused(refused),
+    };
+    let (kernel, account) = (&bench.kernel, &mut bench.account);
+    of_ends(match other {
+        None => kernel.open_with(rt, p, 0, contract, account, &OpenGate),
+        Some(q) => kernel.wire_with(rt, p, q, 0, contract, account, &OpenGate),
+    })
+}
+
+/// What a call of a channel, or one that looks at the worker, answers.
+fn other_of<N: Names, R: Wait>(rt: &R, bench: &mut Bench<N>, call: Call) -> Answer {
+    let (kernel, account) = (&bench.kernel, &mut bench.account);
+    match call {
+        Call::Open(p, arena) => of_ends(kernel.open(rt, p, arena, account, &OpenGate)),
+        Call::OpenWith(p, rules) => ends_under(rt, bench, p, None, rules),
+        Call::Wire(p, q) => of_ends(kernel.wire(rt, p, q, 0, account, &OpenGate)),
+        Call::WireWith(p, q, rules) => ends_under(rt, bench, p, Some(q), rules),
+        Call::Give(p, e, tag, blocks) => of_number(kernel.give(rt, p, e, tag, blocks, &OpenGate)),
+        Call::Bans(p, e, allowed) => banned_of(rt, kernel, p, e, allowed),
+        Call::Take(p, e) => of_message(kernel.take(rt, p, e, &OpenGate)),
+        Call::Close(p, e) => of_number(kernel.close(rt, p, e, account, &OpenGate)),
+        Call::Moved(arena) => of_moved(account.moved(arena)),
+        Call::Worker => Answer::Number(u64::from(account.number())),
+        _ => Answer::No("no such call"),
     }
 }
 
@@ -192,27 +216,27 @@ pub fn answer_of<N: Names, R: Wait>(
     bench: &mut Bench<N>,
     call: Call,
 ) -> Answer {
+    let (kernel, account) = (&bench.kernel, &mut bench.account);
     match call {
-        Call::Spawn => of_number(bench.spawn(rt).map(u64::from)),
-        Call::Spawns(count) => last_of(rt, bench, count),
-        Call::Alloc(p, n, arena) => of_block(bench.alloc(rt, alloc, p, n, arena)),
-        Call::Split(p, r, k) => of_two(bench.split(rt, alloc, p, r, k)),
-        Call::Read(p, r, at) => bytes_of(rt, bench, p, r, at),
-        Call::Write(p, r, at, bytes) => of_nothing(bench.write(rt, p, r, at, bytes)),
-        Call::Free(p, r) => of_number(bench.free(rt, p, r).map(u64::from)),
-        Call::Open(p, arena) => of_ends(bench.open(rt, p, arena)),
-        Call::OpenWith(p, rules) => ends_under(rt, bench, p, None, rules),
-        Call::Wire(p, q) => of_ends(bench.wire(rt, p, q)),
-        Call::WireWith(p, q, rules) => ends_under(rt, bench, p, Some(q), rules),
-        Call::Give(p, e, tag, blocks) => of_number(bench.give(rt, p, e, tag, blocks)),
-        Call::Bans(p, e, allowed) => banned_of(rt, bench, p, e, allowed),
-        Call::Take(p, e) => of_message(bench.take(rt, p, e)),
-        Call::Close(p, e) => of_number(bench.close(rt, p, e)),
-        Call::Exit(p, budget) => of_number(bench.exit(rt, p, budget)),
-        Call::Kill(p, q, budget) => of_number(bench.kill(rt, p, q, budget)),
-        Call::Glance(place) => glance_of(bench, place),
-        Call::Moved(arena) => moved_of(bench, arena),
+        Call::Spawn => last_of(rt, kernel, 1),
+        Call::Spawns(count) => last_of(rt, kernel, count),
+        Call::Alloc(p, n, arena) => of_block(kernel.alloc(
+            rt, alloc, p, n, arena, account, &OpenGate,
+        )),
+        Call::Split(p, r, k) => of_two(kernel.split(rt, alloc, p, r, k, &OpenGate)),
+        Call::Read(p, r, at) => bytes_of(rt, kernel, p, r, at),
+        Call::Write(p, r, at, bytes) => of_nothing(kernel.write(rt, p, r, at, bytes, &OpenGate)),
+        Call::Free(p, r) => of_number(kernel.free(rt, p, r, account, &OpenGate).map(u64::from)),
+        Call::Exit(p, budget) => of_number(kernel.exit(rt, p, budget, account, &OpenGate)),
+        Call::Kill(p, q, budget) => of_number(kernel.kill(rt, p, q, budget, account, &OpenGate)),
+        Call::Glance(place) => of_glance(bench.glance(place)),
+        _ => other_of(rt, bench, call),
     }
+}
+
+/// What the call of a row answered is what is expected.
+pub fn assert_row(rt: &impl Abort, at: usize, answered: Answer, expected: Answer) {
+    assert_eq!(rt; answered, expected, "call {at}");
 }
 
 /// Makes each call, and compares what it answers.
@@ -224,7 +248,7 @@ pub fn assert_answers<N: Names, R: Wait + Abort>(
 ) {
     for (at, (call, expected)) in calls.iter().enumerate() {
         let answered = answer_of(rt, alloc, bench, *call);
-        assert_eq!(rt; answered, *expected, "call {at}");
+        assert_row(rt, at, answered, *expected);
     }
 }
 

@@ -1,48 +1,34 @@
 // Refused growths: the test passes whichever growth of memory is refused, and when none is.
 use super::answers::Answer::{self, Block, Bytes, Done, Moved, No, Number, Place, Two};
 use super::answers::Call::{self, Alloc, Free, Glance, Moved as Count, Read, Spawn, Split, Write};
-use super::answers::{LACKING, answer_of, answer_or_same};
-use super::bench::Bench;
+use super::answers::{LACKING, answer_of, answer_or_same, assert_row};
+use super::bench::{Bench, Left};
+use super::places::assert_settled;
 use super::{Case, waiting_of, with_kernel};
 use std::alloc::Global;
 use std::process::Abort;
 use std::sync::Wait;
-use xh_arena::Vault;
+use std::thread::Threads;
 use xh_core::{Refused, Status};
 use xh_kernel::Names;
-use xh_place::Place as PlaceOf;
 
-/// Makes each call, and compares what it answers. Where a growth is refused nothing has changed, and the same call
-/// then answers as if it had been the first.
-fn assert_again<N: Names, R: Wait + Abort>(
+/// What the call answers. Where a growth is refused nothing has changed, and the same call then answers as if it had
+/// been the first.
+fn answer_again<N: Names, R: Wait + Abort>(
     rt: &R,
     alloc: Global,
     bench: &mut Bench<N>,
-    calls: &[(Call, Answer)],
-) {
-    for (at, (call, expected)) in calls.iter().enumerate() {
-        let mut answered = answer_or_same(rt, alloc, bench, *call);
-        if answered == LACKING {
-            answered = answer_of(rt, alloc, bench, *call);
-        }
-        assert_eq!(rt; answered, *expected, "call {at}");
+    call: Call,
+) -> Answer {
+    let answered = answer_or_same(rt, alloc, bench, call);
+    if answered == LACKING {
+        return answer_of(rt, alloc, bench, call);
     }
+    answered
 }
 
-/// What is left of them.
-fn assert_left(rt: &impl Abort, vaults: &[Vault], places: &[PlaceOf]) {
-    assert_eq!(rt; (vaults.len(), places.len()), (1, 32));
-    assert_eq!(rt; (vaults[0].wear(), vaults[0].handed_out()), (256, 48));
-    assert_eq!(rt; vaults[0].holes().len(), 1);
-    assert_eq!(rt; places[0].total(), 48);
-}
-
-/// Two blocks fill the arena, and the first is cut. Then the kernel is taken apart.
-pub fn growths<N: Names, R: Wait + Abort>(
-    rt: &R,
-    alloc: Global,
-    mut bench: Bench<N>,
-) -> Result<(), Refused> {
+/// Two blocks fill the arena, and the first is cut.
+pub fn assert_again<N: Names, R: Wait + Abort>(rt: &R, alloc: Global, bench: &mut Bench<N>) {
     const CALLS: &[(Call, Answer)] = &[
         (Spawn, Number(0)),
         (Alloc(0, 40, 0), Block(0, 48)),
@@ -55,14 +41,23 @@ pub fn growths<N: Names, R: Wait + Abort>(
         (Glance(0), Place(0, Status::Running, 2, 48)),
         (Count(0), Moved(256, 208)),
     ];
-    assert_again(rt, alloc, &mut bench, CALLS);
-    let (vaults, places, _records) = bench.kernel.settle(alloc)?;
-    assert_left(rt, &vaults, &places);
-    Ok(())
+    for (at, (call, expected)) in CALLS.iter().enumerate() {
+        let answered = answer_again(rt, alloc, bench, *call);
+        assert_row(rt, at, answered, *expected);
+    }
+}
+
+/// Then the arena has worn so far, and has one hole.
+pub fn assert_left(rt: &impl Abort, left: &Left) {
+    assert_settled(rt, left, 1, 48);
+    let Some(vault) = left.vaults.first() else {
+        panic!(rt; "no vault");
+    };
+    assert_eq!(rt; (vault.wear(), vault.holes().len()), (256, 1));
 }
 
 /// Whether the parts and the kernel were made, and the kernel was taken apart: else a growth of that was refused.
-fn is_whole<R: Wait + Abort>(rt: &R, alloc: Global) -> bool {
+fn is_whole<R: Threads + Wait + Abort + Sync>(rt: &R, alloc: Global) -> bool {
     match with_kernel(rt, alloc, waiting_of(256, 1), Case::Growths) {
         Ok(()) => true,
         Err(refused) => {

@@ -1,15 +1,16 @@
 // Places, glances and settling, by calls.
 use super::answers::Answer::{self, Block, No, Number, Place as Look, Two};
-use super::answers::Call::{self, Alloc, Exit, Free, Glance, Kill, Spawn, Spawns, Split};
-use super::bench::Bench;
-use super::{arenas_of, assert_on};
+use super::answers::Call::{self, Alloc, Exit, Free, Glance, Kill, Spawn, Spawns, Split, Worker};
+use super::answers::assert_answers;
+use super::bench::{Bench, Left};
+use super::{Case, arenas_of, assert_on, with_kernel};
 use std::alloc::Global;
 use std::process::Abort;
 use std::sync::Wait;
 use std::test::Fail;
 use xh_arena::Vault;
-use xh_core::{Refused, Status};
-use xh_kernel::{Kernel, Names};
+use xh_core::Status;
+use xh_kernel::Names;
 use xh_place::Place;
 
 /// A look sees each change of a place once the call that made it has answered.
@@ -46,64 +47,54 @@ fn first_glance(rt: HostRuntime) -> Result<(), Fail> {
     assert_on(&rt, rt.alloc(), arenas_of(1, 256, 8), CALLS)
 }
 
-/// So many vaults, of which the last has handed out these bytes, and the others none; and 32 places, of which the
-/// first owns them.
-fn assert_settled(rt: &impl Abort, vaults: &[Vault], places: &[Place], count: usize, bytes: u32) {
-    assert_eq!(rt; (vaults.len(), places.len()), (count, 32));
-    for (at, vault) in vaults.iter().rev().enumerate() {
-        assert_eq!(rt; vault.handed_out(), if at == 0 { bytes } else { 0 });
-    }
-    for (at, place) in places.iter().enumerate() {
-        assert_eq!(rt; place.total(), if at == 0 { u64::from(bytes) } else { 0 });
+/// The last vault has handed out so many bytes, and the others none.
+fn assert_vaults(rt: &impl Abort, vaults: &[Vault], bytes: u32) {
+    let mut expected = bytes;
+    for vault in vaults.iter().rev() {
+        assert_eq!(rt; vault.handed_out(), expected);
+        expected = 0;
     }
 }
 
-/// The places of a kernel that is taken apart, once its vaults were compared.
-fn settle_to<N: Names>(
-    rt: &impl Abort,
-    alloc: Global,
-    kernel: Kernel<N>,
-    arenas: usize,
-    bytes: u32,
-) -> Result<Vec<Place>, Refused> {
-    let (vaults, places, _records) = kernel.settle(alloc)?;
-    assert_settled(rt, &vaults, &places, arenas, bytes);
-    Ok(places)
+/// The first place owns so many bytes and runs, if there are any, and no other was ever used.
+fn assert_places(rt: &impl Abort, places: &[Place], bytes: u32) {
+    let mut expected = (u64::from(bytes), Status::Running);
+    if bytes == 0 {
+        expected = (0, Status::Vacant);
+    }
+    for place in places {
+        assert_eq!(rt; (place.total(), place.state()), expected);
+        expected = (0, Status::Vacant);
+    }
+}
+
+/// What is left: so many vaults, of which the last has handed out these bytes; 32 places, of which the first owns them;
+/// and a tally of each arena.
+pub fn assert_settled(rt: &impl Abort, left: &Left, arenas: usize, bytes: u32) {
+    let counts = (left.vaults.len(), left.places.len(), left.tallies);
+    assert_eq!(rt; counts, (arenas, 32, arenas));
+    assert_vaults(rt, &left.vaults, bytes);
+    assert_places(rt, &left.places, bytes);
 }
 
 /// What a kernel gives, taken apart.
-pub fn settling<N: Names, R: Wait + Abort>(
-    rt: &R,
-    alloc: Global,
-    mut bench: Bench<N>,
-) -> Result<(), Refused> {
-    let p = bench.spawn(rt)?;
-    bench.alloc(rt, alloc, p, 17, 7)?;
-    assert_eq!(rt; bench.account.number(), 0);
-    let Bench {
-        kernel,
-        account,
-        look: _,
-    } = bench;
-    let _places = settle_to(rt, alloc, kernel, 8, 32)?;
-    assert_eq!(rt; account.into_tallies().len(), 8);
+#[test]
+fn settling(rt: HostRuntime) -> Result<(), Fail> {
+    const CALLS: &[(Call, Answer)] = &[
+        (Spawn, Number(0)),
+        (Alloc(0, 17, 7), Block(1792, 32)),
+        (Worker, Number(0)),
+    ];
+    let config = arenas_of(8, 256, 8);
+    with_kernel(&rt, rt.alloc(), config, Case::Settling(CALLS, 8, 32))?;
     Ok(())
 }
 
 /// A kernel without a process, taken apart.
-pub fn settling_without_processes<N: Names, R: Wait + Abort>(
-    rt: &R,
-    alloc: Global,
-    bench: Bench<N>,
-) -> Result<(), Refused> {
-    let Bench {
-        kernel,
-        account,
-        look: _,
-    } = bench;
-    let places = settle_to(rt, alloc, kernel, 1, 0)?;
-    assert!(rt; places.iter().all(|place| place.state() == Status::Vacant));
-    assert_eq!(rt; account.into_tallies().len(), 1);
+#[test]
+fn settling_without_processes(rt: HostRuntime) -> Result<(), Fail> {
+    let config = arenas_of(1, 16, 1);
+    with_kernel(&rt, rt.alloc(), config, Case::Settling(&[], 1, 0))?;
     Ok(())
 }
 
@@ -127,16 +118,22 @@ fn place_used_again(rt: HostRuntime) -> Result<(), Fail> {
 }
 
 /// Spawned and ended in turn, the processes have each number once.
-pub fn places_by_generation<N: Names, R: Wait + Abort>(
-    rt: &R,
-    bench: &mut Bench<N>,
-) -> Result<(), Refused> {
+pub fn assert_generations<N: Names, R: Wait + Abort>(rt: &R, alloc: Global, bench: &mut Bench<N>) {
+    const LAST: &[(Call, Answer)] = &[
+        (Spawn, No("NoPlace")),
+        (Glance(31), Look(4095, Status::Ended, 0, 0)),
+    ];
     for k in 0..4096u16 {
-        let p = bench.spawn(rt)?;
-        assert_eq!(rt; p, 32 * (k % 128) + k / 128);
-        assert_eq!(rt; bench.exit(rt, p, 4096)?, 0);
+        let p = 32 * (k % 128) + k / 128;
+        let calls = [(Spawn, Number(u64::from(p))), (Exit(p, 4096), Number(0))];
+        assert_answers(rt, alloc, bench, &calls);
     }
-    assert!(rt; matches!(bench.spawn(rt), Err(Refused::NoPlace)));
-    assert_eq!(rt; bench.glance(31), Some((4095, Status::Ended, 0, 0)));
+    assert_answers(rt, alloc, bench, LAST);
+}
+
+#[test]
+fn places_by_generation(rt: HostRuntime) -> Result<(), Fail> {
+    let config = arenas_of(1, 16, 1);
+    with_kernel(&rt, rt.alloc(), config, Case::PlacesByGeneration)?;
     Ok(())
 }

@@ -1,21 +1,20 @@
 // A process that waits for a message, on threads.
-ghost use Rattle.std.specs.Prelude.{◌≡◌};
-
-use super::bench::{Bench, bench_of};
+use super::bench::Bench;
+use super::{Case, with_kernel};
 use std::alloc::Global;
 use std::hint::spin_loop;
-use std::marker::Brand;
+use std::process::Abort;
 use std::sync::Wait;
 use std::test::Fail;
 use std::thread;
 use std::thread::Threads;
 use xh_core::{Config, Refused};
-use xh_kernel::{Account, Kernel, Names, Parts};
+use xh_kernel::{Account, Kernel, Names};
 use xh_place::{Got, OpenGate, Taken};
 
 /// What ends the wait.
 #[derive(Clone, Copy)]
-enum Ender {
+pub enum Ender {
     Gives,
     Closes,
     Kills,
@@ -62,24 +61,29 @@ fn coded(answer: Result<Taken, Refused>) -> u64 {
 fn make_pair<N: Names, R: Wait>(
     rt: &R,
     alloc: Global,
-    bench: &mut Bench<N>,
+    kernel: &Kernel<N>,
+    account: &mut Account<N>,
 ) -> Result<Pair, Refused> {
-    let p = bench.spawn(rt)?;
-    let q = bench.spawn(rt)?;
-    bench.alloc(rt, alloc, p, 16, 0)?;
-    let x = bench.alloc(rt, alloc, q, 16, 0)?.rec;
-    let (e, f) = bench.wire(rt, p, q)?;
+    let p = kernel.spawn(rt, &OpenGate)?;
+    let q = kernel.spawn(rt, &OpenGate)?;
+    kernel.alloc(rt, alloc, p, 16, 0, account, &OpenGate)?;
+    let x = kernel.alloc(rt, alloc, q, 16, 0, account, &OpenGate)?.rec;
+    let (low, high) = kernel.wire(rt, p, q, 0, account, &OpenGate)?;
+    let (e, f) = (low.rec, high.rec);
     Ok(Pair { p, q, e, f, x })
 }
 
+// Ends the wait after a pause.
 fn end_wait<N: Names, R: Wait>(
     rt: &R,
     kernel: &Kernel<N>,
     account: &mut Account<N>,
     pair: Pair,
     ender: Ender,
+    turns: u64,
 ) {
     let Pair { p, q, e, f, x } = pair;
+    pause(turns);
     let _done = match ender {
         Ender::Gives => kernel.give(rt, q, f, 7, &[x], &OpenGate),
         Ender::Closes => kernel.close(rt, q, f, account, &OpenGate),
@@ -95,19 +99,6 @@ fn wait_late<N: Names, R: Wait>(rt: &R, kernel: &Kernel<N>, pair: Pair, turns: u
     coded(kernel.take_wait(rt, pair.p, pair.e, &OpenGate))
 }
 
-// Ends the wait after a pause.
-fn end_late<N: Names, R: Wait>(
-    rt: &R,
-    kernel: &Kernel<N>,
-    account: &mut Account<N>,
-    pair: Pair,
-    ender: Ender,
-    turns: u64,
-) {
-    pause(turns);
-    end_wait(rt, kernel, account, pair, ender);
-}
-
 // One round: what the waiting process answered, while another thread ends its wait.
 fn round<N: Names + Send + Sync, R: Threads + Wait + Sync>(
     rt: &R,
@@ -116,68 +107,47 @@ fn round<N: Names + Send + Sync, R: Threads + Wait + Sync>(
     ender: Ender,
     seed: u64,
 ) -> Result<u64, Refused> {
-    let pair = make_pair(rt, alloc, bench)?;
-    let turns = (seed % 211, (seed / 211) % 4001);
     let kernel = &bench.kernel;
     let account = &mut bench.account;
+    let pair = make_pair(rt, alloc, kernel, account)?;
+    let turns = (seed % 211, (seed / 211) % 4001);
     let (answered, ()) = thread::join(
         rt,
         || wait_late(rt, kernel, pair, turns.0),
-        || end_late(rt, kernel, account, pair, ender, turns.1),
+        || end_wait(rt, kernel, account, pair, ender, turns.1),
     );
-    let _ended = bench.exit(rt, pair.p, 4096);
-    let _ended = bench.exit(rt, pair.q, 4096);
+    for process in [pair.p, pair.q] {
+        let _ended = kernel.exit(rt, process, 4096, account, &OpenGate);
+    }
     Ok(answered)
 }
 
-// How often the waiting process answered so, in 64 rounds over one kernel, which has a channel for each; 0 where not all bytes came back.
-fn rounds_on<N: Names + Send + Sync, R: Threads + Wait + Sync>(
+/// In 64 rounds over one kernel, which has a channel for each, the waiting process always answers so, and all bytes come
+/// back.
+pub fn assert_rounds<N: Names + Send + Sync, R: Threads + Wait + Abort + Sync>(
     rt: &R,
     alloc: Global,
     bench: &mut Bench<N>,
     ender: Ender,
     want: u64,
-) -> Result<u64, Refused> {
+) {
     let mut seed = 1u64;
-    let mut count = 0u64;
-    for _ in 0..64 {
+    for at in 0..64u8 {
         seed = drawn(seed);
-        let answer = round(rt, alloc, bench, ender, seed >> 20)?;
-        if answer == want {
-            count = count.wrapping_add(1);
-        }
+        let answer = round(rt, alloc, bench, ender, seed >> 20);
+        assert!(rt; matches!(answer, Ok(code) if code == want), "round {at}");
     }
-    if bench
-        .account
-        .moved(0)
-        .is_none_or(|(taken, back)| taken != back)
-    {
-        return Ok(0);
-    }
-    Ok(count)
+    let moved = bench.account.moved(0);
+    assert!(rt; matches!(moved, Some((taken, back)) if taken == back));
 }
 
-// The same over a kernel of these parts.
-fn rounds_over<N: Names + Send + Sync, R: Threads + Wait + Sync>(
-    rt: &R,
-    alloc: Global,
-    parts: Parts,
-    ender: Ender,
-    want: u64,
-) -> Result<u64, Refused>
-    requires { parts ≡ N.parts }
-{
-    let mut bench = bench_of::<N>(alloc, parts)?;
-    rounds_on(rt, alloc, &mut bench, ender, want)
-}
-
-// How often the waiting process answered so, in 2,048 rounds.
-fn rounds<R: Threads + Wait + Sync>(
+/// In 2,048 rounds over 32 kernels the waiting process always answers so.
+fn assert_waits<R: Threads + Wait + Abort + Sync>(
     rt: &R,
     alloc: Global,
     ender: Ender,
     want: u64,
-) -> Result<u64, Refused> {
+) -> Result<(), Fail> {
     let config = Config {
         arenas: 1,
         bytes: 1024,
@@ -185,45 +155,38 @@ fn rounds<R: Threads + Wait + Sync>(
         depth: 2,
         wear: 1_000_000,
     };
-    let mut count = 0u64;
     for _ in 0..32 {
-        let parts = Parts::new(alloc, config, 1)?;
-        count = count.wrapping_add(rounds_over::<Brand, R>(rt, alloc, parts, ender, want)?);
+        with_kernel(rt, alloc, config, Case::Waits(ender, want))?;
     }
-    Ok(count)
+    Ok(())
 }
 
 /// A process that waits is given a message.
 #[test]
 fn waits_and_is_given(rt: HostRuntime) -> Result<(), Fail> {
-    assert_eq!(rt; rounds(&rt, rt.alloc(), Ender::Gives, 1)?, 2048);
-    Ok(())
+    assert_waits(&rt, rt.alloc(), Ender::Gives, 1)
 }
 
 /// The peer of a process that waits closes.
 #[test]
 fn waits_and_its_peer_closes(rt: HostRuntime) -> Result<(), Fail> {
-    assert_eq!(rt; rounds(&rt, rt.alloc(), Ender::Closes, 3)?, 2048);
-    Ok(())
+    assert_waits(&rt, rt.alloc(), Ender::Closes, 3)
 }
 
 /// A process that waits is killed.
 #[test]
 fn waits_and_is_killed(rt: HostRuntime) -> Result<(), Fail> {
-    assert_eq!(rt; rounds(&rt, rt.alloc(), Ender::Kills, 2)?, 2048);
-    Ok(())
+    assert_waits(&rt, rt.alloc(), Ender::Kills, 2)
 }
 
 /// A process that waits is killed in part: its endpoint is not reached.
 #[test]
 fn waits_and_is_killed_in_part(rt: HostRuntime) -> Result<(), Fail> {
-    assert_eq!(rt; rounds(&rt, rt.alloc(), Ender::KillsInPart, 2)?, 2048);
-    Ok(())
+    assert_waits(&rt, rt.alloc(), Ender::KillsInPart, 2)
 }
 
 /// The end that a process waits at is closed by another thread.
 #[test]
 fn waits_and_its_end_is_closed(rt: HostRuntime) -> Result<(), Fail> {
-    assert_eq!(rt; rounds(&rt, rt.alloc(), Ender::ClosesItsEnd, 4)?, 2048);
-    Ok(())
+    assert_waits(&rt, rt.alloc(), Ender::ClosesItsEnd, 4)
 }

@@ -1,16 +1,19 @@
 // A wire whose other process ends in between, on threads.
-ghost use Rattle.std.specs.Prelude.{◌≡◌};
-
+use super::answers::Answer::{self, Moved, Number};
+use super::answers::Call::{self, Moved as Count, Spawn};
+use super::answers::assert_answers;
+use super::bench::Bench;
+use super::{Case, waiting_of, with_kernel};
 use std::alloc::Global;
 use std::hint::spin_loop;
-use std::marker::Brand;
+use std::process::Abort;
 use std::sync::Wait;
 use std::sync::atomic::{AtomicU64, Ordering};
 use std::test::Fail;
 use std::thread;
 use std::thread::Threads;
-use xh_core::{Block, Config, Refused};
-use xh_kernel::{Account, Kernel, Names, Parts};
+use xh_core::Refused;
+use xh_kernel::{Account, Kernel, Names};
 use xh_place::{Gate, OpenGate, Point};
 
 /// It holds whoever has claimed a record until it is told to go on, or a long time has passed.
@@ -58,80 +61,46 @@ fn end_between<N: Names, R: Wait>(
     hold.told.store(1, Ordering::SeqCst);
 }
 
-// What a wire answers whose other process ends once the first has claimed a record.
-fn wire_late<N: Names + Send + Sync, R: Threads + Wait + Sync>(
+// Whether a wire of process 0 is refused whose other process, 1, ends once the first has claimed a record.
+fn is_refused<N: Names + Send + Sync, R: Threads + Wait + Sync>(
     rt: &R,
     kernel: &Kernel<N>,
-    p: u16,
-    q: u16,
     mine: &mut Account<N>,
     other: &mut Account<N>,
-) -> Result<(Block, Block), Refused> {
+) -> bool {
     let hold = Hold {
         claimed: AtomicU64::new(0),
         told: AtomicU64::new(0),
     };
     let gate = &hold;
-    let (wired, ()) = thread::join(
+    let (refused, ()) = thread::join(
         rt,
-        || kernel.wire(rt, p, q, 0, mine, gate),
-        || end_between(rt, kernel, q, other, gate),
+        || matches!(kernel.wire(rt, 0, 1, 0, mine, gate), Err(Refused::Ended)),
+        || end_between(rt, kernel, 1, other, gate),
     );
-    wired
+    refused
 }
 
-fn spawn_two<N: Names, R: Wait>(rt: &R, kernel: &Kernel<N>) -> Result<(u16, u16), Refused> {
-    Ok((kernel.spawn(rt, &OpenGate)?, kernel.spawn(rt, &OpenGate)?))
-}
-
-// Whether such a wire is refused, and what it took and gave back.
-fn wire_on<N: Names + Send + Sync, R: Threads + Wait + Sync>(
-    rt: &R,
-    kernel: &Kernel<N>,
-    mine: &mut Account<N>,
-    other: &mut Account<N>,
-) -> Result<(bool, Option<(u64, u64)>), Refused> {
-    let (p, q) = spawn_two(rt, kernel)?;
-    let wired = wire_late(rt, kernel, p, q, mine, other);
-    Ok((matches!(wired, Err(Refused::Ended)), mine.moved(0)))
-}
-
-// The same over a kernel of these parts.
-fn wire_over<N: Names + Send + Sync, R: Threads + Wait + Sync>(
+/// Such a wire is refused, and what it took is given back.
+pub fn assert_refused<N: Names + Send + Sync, R: Threads + Wait + Abort + Sync>(
     rt: &R,
     alloc: Global,
-    parts: Parts,
-) -> Result<(bool, Option<(u64, u64)>), Refused>
-    requires { parts ≡ N.parts }
-{
-    let (kernel, mut accounts, _looks) = Kernel::<N>::new(alloc, parts)?;
-    let (Some(mut other), Some(mut mine)) = (accounts.pop(), accounts.pop()) else {
-        return Ok((false, None));
+    bench: &mut Bench<N>,
+) {
+    const TWO: &[(Call, Answer)] = &[(Spawn, Number(0)), (Spawn, Number(1))];
+    const AFTER: &[(Call, Answer)] = &[(Count(0), Moved(64, 64))];
+    assert_answers(rt, alloc, bench, TWO);
+    let Some(other) = bench.others.first_mut() else {
+        panic!(rt; "no other worker");
     };
-    wire_on(rt, &kernel, &mut mine, &mut other)
-}
-
-// The same over a new kernel.
-fn wire_to_one_that_ends<R: Threads + Wait + Sync>(
-    rt: &R,
-    alloc: Global,
-) -> Result<(bool, Option<(u64, u64)>), Refused> {
-    let config = Config {
-        arenas: 1,
-        bytes: 256,
-        records: 8,
-        depth: 2,
-        wear: 1000,
-    };
-    let parts = Parts::new(alloc, config, 2)?;
-    wire_over::<Brand, R>(rt, alloc, parts)
+    let refused = is_refused(rt, &bench.kernel, &mut bench.account, other);
+    assert!(rt; refused);
+    assert_answers(rt, alloc, bench, AFTER);
 }
 
 /// Where the other process ends before its end reaches it, both ends are reclaimed.
 #[test]
 fn wires_to_one_that_ends(rt: HostRuntime) -> Result<(), Fail> {
-    let (refused, moved) = wire_to_one_that_ends(&rt, rt.alloc())?;
-    assert!(rt; refused);
-    assert_eq!(rt; moved, Some((64, 64)));
+    with_kernel(&rt, rt.alloc(), waiting_of(256, 2), Case::WireToOneThatEnds)?;
     Ok(())
 }

@@ -4,14 +4,14 @@ use super::answers::Call::{
     self, Alloc, Close, Exit, Free, Give, Glance, Kill, Open, Read, Spawn, Spawns, Split, Take,
     Write,
 };
-use super::answers::{LACKING, answer_or_same};
+use super::answers::{LACKING, answer_or_same, assert_row};
 use super::bench::Bench;
-use super::{Case, with_kernel};
+use super::{Case, made, with_kernel};
 use std::alloc::Global;
 use std::process::Abort;
 use std::sync::Wait;
-use xh_core::{Config, Refused, Status};
-use xh_kernel::{Names, Parts};
+use xh_core::{Config, Status};
+use xh_kernel::Names;
 
 /// Four arenas with two records each, of which each may hand out 288 bytes.
 fn four_arenas() -> Config {
@@ -37,7 +37,7 @@ fn is_answered<N: Names, R: Wait + Abort>(
         if answered == LACKING {
             return false;
         }
-        assert_eq!(rt; answered, *expected, "call {at}");
+        assert_row(rt, at, answered, *expected);
     }
     true
 }
@@ -75,7 +75,7 @@ fn is_refused<N: Names, R: Wait + Abort>(rt: &R, alloc: Global, bench: &mut Benc
     for (at, (call, with, without)) in CALLS.iter().enumerate() {
         let answered = answer_or_same(rt, alloc, bench, *call);
         lacks = lacks || answered == LACKING;
-        assert_eq!(rt; answered, if lacks { *without } else { *with }, "call {at}");
+        assert_row(rt, at, answered, if lacks { *without } else { *with });
     }
     lacks
 }
@@ -109,22 +109,15 @@ fn are_others_same<N: Names, R: Wait + Abort>(rt: &R, alloc: Global, bench: &mut
     is_answered(rt, alloc, bench, CALLS)
 }
 
-/// All the calls; then the kernel is taken apart, which asks for memory too.
-pub fn without_memory<N: Names, R: Wait + Abort>(
-    rt: &R,
-    alloc: Global,
-    mut bench: Bench<N>,
-) -> Result<(), Refused> {
-    if !is_prepared(rt, alloc, &mut bench) {
-        return Err(Refused::OutOfMemory);
+/// All the calls, of which the last stand where one before them was refused a growth. Whether none was.
+pub fn is_whole<N: Names, R: Wait + Abort>(rt: &R, alloc: Global, bench: &mut Bench<N>) -> bool {
+    if !is_prepared(rt, alloc, bench) {
+        return false;
     }
-    let refused = is_refused(rt, alloc, &mut bench);
-    let same = are_others_same(rt, alloc, &mut bench);
+    let refused = is_refused(rt, alloc, bench);
+    let same = are_others_same(rt, alloc, bench);
     assert!(rt; same);
-    let settled = bench.kernel.settle(alloc);
-    assert!(rt; settled.is_err() || !refused);
-    settled?;
-    Ok(())
+    !refused
 }
 
 /// The refusals ahead of OutOfMemory come in their order where no memory is left, and every other call does what it
@@ -137,11 +130,10 @@ fn calls_without_memory(rt: HostRuntime) {
         bytes: 40,
         ..four_arenas()
     };
-    assert!(rt; matches!(Parts::new(alloc, bad, 1), Err(Refused::BadSize)));
-    assert!(rt; matches!(Parts::new(alloc, four_arenas(), 34), Err(Refused::BadSize)));
+    assert_eq!(rt; made(alloc, bad, 1), "BadSize");
+    assert_eq!(rt; made(alloc, four_arenas(), 34), "BadSize");
     if let Err(refused) = ended {
-        assert!(rt; matches!(refused, Refused::OutOfMemory));
-        let again = Parts::new(alloc, four_arenas(), 1);
-        assert!(rt; matches!(again, Err(Refused::OutOfMemory)));
+        assert_eq!(rt; refused.name(), "OutOfMemory");
+        assert_eq!(rt; made(alloc, four_arenas(), 1), "OutOfMemory");
     }
 }
