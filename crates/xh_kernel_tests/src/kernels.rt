@@ -26,8 +26,8 @@ use waiting::Ender;
 use xh_core::{Config, Refused};
 use xh_kernel::{Names, Parts};
 
-/// A test over a kernel: calls and what they answer, and then how many arenas there are, of which the last has handed
-/// out so many bytes; or one that makes each process, goes on threads, or stands whichever growths of memory are refused.
+/// A test over a kernel, which is taken apart at its end: calls and what they answer, or calls and then how many arenas
+/// there are, of which the last has handed out so many bytes; each process in turn; threads; refused growths of memory.
 #[derive(Clone, Copy)]
 enum Case<'a> {
     Answers(&'a [(Call<'a>, Answer)]),
@@ -62,7 +62,7 @@ fn waiting_of(bytes: u32, depth: u8) -> Config {
     }
 }
 
-/// The case's calls. Whether no growth was refused to the last of them.
+/// Makes the case's calls on the bench. Whether none of them went without a growth that was refused.
 fn lend<N: Names + Send + Sync, R: Threads + Wait + Abort + Sync>(
     rt: &R,
     alloc: Global,
@@ -81,7 +81,7 @@ fn lend<N: Names + Send + Sync, R: Threads + Wait + Abort + Sync>(
     true
 }
 
-/// What the case finds of its kernel.
+/// Compares what is left of the case's kernel.
 fn assert_left(rt: &impl Abort, case: Case, left: &Left) {
     match case {
         Case::Settling(_, arenas, bytes) => places::assert_settled(rt, left, arenas, bytes),

@@ -9,8 +9,8 @@ use xh_kernel::{Kernel, Names};
 use xh_place::{Got, OpenGate, Taken};
 
 /// A call, by the numbers of processes, records and arenas: a read is of four bytes, a channel of arena 0 but for
-/// that of `Open`. `Spawns` starts so many processes, `Bans` gives a message of each tag from 0 to 4 but one, and
-/// `Moved` asks what the worker took of an arena and gave back, and `Worker` for the worker's number.
+/// that of `Open`. `Spawns` starts so many processes, `Bans` gives a message of each tag from 0 to 4 but one, `Moved`
+/// asks what the worker took of an arena and gave back, and `Worker` for the worker's number.
 #[derive(Clone, Copy)]
 pub enum Call<'a> {
     Spawn,
@@ -35,11 +35,10 @@ pub enum Call<'a> {
     Worker,
 }
 
-/// A process, a worker, a message's number, or how many bytes came back; a block, by record and length; two blocks; the bytes
-/// of a read; the records of both ends; a message, by its number, its tag and its first two blocks, each by record and length (0 if it did not
-/// come); a place, by
-/// process, state, blocks and bytes; bytes taken and given back; the name of a refusal, and the first block that it
-/// hands back; how many blocks an ending left; nothing.
+/// A process, a worker, a message's number, or how many bytes came back; a block, by record and length; two blocks; the
+/// bytes of a read; the records of both ends; a message, by its number, its tag and its first two blocks, each by
+/// record and length (0 if it did not come); a place, by process, state, blocks and bytes; bytes taken and given back;
+/// the name of a refusal, and the first block that it hands back; how many blocks an ending left; nothing.
 #[derive(Clone, Copy, Debug, PartialEq)]
 pub enum Answer {
     Number(u64),

@@ -122,8 +122,8 @@ fn round<N: Names + Send + Sync, R: Threads + Wait + Sync>(
     Ok(answered)
 }
 
-/// In 64 rounds over one kernel, which has a channel for each, the waiting process always answers so, and all bytes come
-/// back.
+/// In 64 rounds over one kernel, which has a channel for each, the waiting process always answers so, and all bytes
+/// come back.
 pub fn assert_rounds<N: Names + Send + Sync, R: Threads + Wait + Abort + Sync>(
     rt: &R,
     alloc: Global,
