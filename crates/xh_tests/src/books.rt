@@ -11,57 +11,13 @@ use xh_core::{Config, Ledger, Refused, State};
 use xh_kernel::{Account, Kernel, Names, Parts};
 use xh_place::OpenGate;
 
-// How many accounts a new kernel gives, and its ledger where it is settled at once.
-fn close_at_once<N: Names>(alloc: Global, parts: Parts) -> Result<(usize, Ledger), Refused>
-    requires { parts ≡ N.parts }
-{
-    let (kernel, accounts, _looks) = Kernel::<N>::new(alloc, parts)?;
-    let count = accounts.len();
-    let (vaults, places, records) = kernel.settle(alloc)?;
-    let books = close_books(alloc, vaults, places, records, accounts)?;
-    Ok((count, books))
-}
-
-// One arena of so many bytes.
-fn one_arena(bytes: u32) -> Config {
-    Config {
-        arenas: 1,
-        bytes,
-        records: 2,
-        depth: 1,
-        wear: 1000,
-    }
-}
-
-// As `close_at_once`, over one arena of so many bytes, for two workers.
-fn close_new(alloc: Global, bytes: u32) -> Result<(usize, Ledger), Refused> {
-    let parts = Parts::new(alloc, one_arena(bytes), 2)?;
-    close_at_once::<Brand>(alloc, parts)
-}
-
-/// A kernel in which nothing ran has a ledger without places, whose sums are 0; parts of 40 bytes there are
-/// none.
-#[test]
-fn empty_kernel(rt: HostRuntime) -> Result<(), Fail> {
-    let (count, books) = close_new(rt.alloc(), 256)?;
-    assert_eq!(rt; count, 2);
-    assert!(rt; books.places.is_empty());
-    assert_eq!(rt; (books.owned, books.flight, books.out), (0, 0, 0));
-    let refused = close_new(rt.alloc(), 40);
-    assert!(rt; matches!(&refused, Err(Refused::BadSize)));
-    Ok(())
-}
-
 // A process gets a block of 48 bytes, and another of 16, which it gives back.
 fn use_some<N: Names, R: Wait>(
     rt: &R,
     alloc: Global,
     kernel: &Kernel<N>,
-    accounts: &mut [Account<N>],
+    account: &mut Account<N>,
 ) -> Result<(), Refused> {
-    let Some(account) = accounts.first_mut() else {
-        return Err(Refused::NoPlace);
-    };
     let p = kernel.spawn(rt, &OpenGate)?;
     kernel.alloc(rt, alloc, p, 48, 0, account, &OpenGate)?;
     let other = kernel.alloc(rt, alloc, p, 16, 0, account, &OpenGate)?;
@@ -69,50 +25,81 @@ fn use_some<N: Names, R: Wait>(
     Ok(())
 }
 
-// The ledger of a kernel that was used so.
-fn close_used<N: Names, R: Wait>(rt: &R, alloc: Global, parts: Parts) -> Result<Ledger, Refused>
+// How many accounts a new kernel gives, and its ledger, where it is used so or not at all.
+fn close_named<N: Names, R: Wait>(
+    rt: &R,
+    alloc: Global,
+    parts: Parts,
+    is_used: bool,
+) -> Result<(usize, Ledger), Refused>
     requires { parts ≡ N.parts }
 {
     let (kernel, mut accounts, _looks) = Kernel::<N>::new(alloc, parts)?;
     let count = accounts.len();
-    use_some(rt, alloc, &kernel, accounts.as_mut_slice())?;
-    if accounts.len() != count {
-        return Err(Refused::NoPlace);
-    }
+    let used = if is_used && count > 0 {
+        use_some(rt, alloc, &kernel, &mut accounts[0])
+    } else {
+        Ok(())
+    };
     let (vaults, places, records) = kernel.settle(alloc)?;
-    close_books(alloc, vaults, places, records, accounts)
+    let books = close_books(alloc, vaults, places, records, accounts)?;
+    used?;
+    Ok((count, books))
 }
 
-// As `close_used`, over a new kernel.
-fn close_one<R: Wait>(rt: &R, alloc: Global) -> Result<Ledger, Refused> {
-    let parts = Parts::new(alloc, one_arena(256), 2)?;
-    close_used::<Brand, R>(rt, alloc, parts)
+// The same by a new kernel of one arena of so many bytes, for two workers.
+fn close_one<R: Wait>(
+    rt: &R,
+    alloc: Global,
+    bytes: u32,
+    is_used: bool,
+) -> Result<(usize, Ledger), Refused> {
+    let config = Config {
+        arenas: 1,
+        bytes,
+        records: 2,
+        depth: 1,
+        wear: 1000,
+    };
+    let parts = Parts::new(alloc, config, 2)?;
+    close_named::<Brand, R>(rt, alloc, parts, is_used)
 }
 
-// The books of a kernel that was used so.
-fn assert_books(rt: &impl Abort, books: &Ledger) {
-    assert_eq!(rt; (books.arenas.len(), books.places.len()), (1, 1));
-    for arena in books.arenas.as_slice() {
-        assert_eq!(rt; (arena.size, arena.out, arena.holes), (256, 48, 1));
-        assert_eq!(rt; (arena.taken, arena.back), (64, 16));
-    }
-    for place in books.places.as_slice() {
-        assert_eq!(rt; (place.process, place.blocks, place.bytes), (0, 1, 48));
-        assert!(rt; place.state == State::Running);
-    }
-    assert_eq!(rt; (books.owned, books.flight, books.out), (48, 0, 48));
+/// A kernel in which nothing ran has a ledger without places, whose sums are 0; parts of 40 bytes there are
+/// none.
+#[test]
+fn empty_kernel(rt: HostRuntime) -> Result<(), Fail> {
+    let (count, books) = close_one(&rt, rt.alloc(), 256, false)?;
+    let is_empty = books.places.is_empty() && books.owned == 0 && books.flight == 0;
+    assert!(rt; count == 2 && is_empty && books.out == 0);
+    let refused = close_one(&rt, rt.alloc(), 40, false);
+    assert!(rt; matches!(&refused, Err(Refused::BadSize)));
+    Ok(())
+}
+
+// Whether these are the books of a kernel that was used so.
+fn are_of_used(books: &Ledger) -> bool {
+    let ([arena], [place]) = (books.arenas.as_slice(), books.places.as_slice()) else {
+        return false;
+    };
+    let is_arena = arena.size == 256 && arena.out == 48 && arena.holes == 1;
+    let is_moved = arena.taken == 64 && arena.back == 16;
+    let is_place = place.process == 0 && place.state == State::Running;
+    let is_held = place.blocks == 1 && place.bytes == 48;
+    let is_sum = books.owned == 48 && books.flight == 0 && books.out == 48;
+    is_arena && is_moved && is_place && is_held && is_sum
 }
 
 /// With a growth refused, whichever it is, there is no ledger, and that of the next kernel is exact.
 #[test]
 fn growths_of_a_ledger(rt: HostRuntime) -> Result<(), Fail> {
-    let books = match close_one(&rt, rt.alloc()) {
-        Ok(books) => books,
+    let (_count, books) = match close_one(&rt, rt.alloc(), 256, true) {
+        Ok(closed) => closed,
         Err(refused) => {
             assert!(rt; matches!(refused, Refused::OutOfMemory));
-            close_one(&rt, rt.alloc())?
+            close_one(&rt, rt.alloc(), 256, true)?
         }
     };
-    assert_books(&rt, &books);
+    assert!(rt; are_of_used(&books));
     Ok(())
 }

@@ -1,11 +1,14 @@
-//! Runs of a script on the serial machine, compared with what they are to write.
-use std::alloc::{AllocError, Global};
+//! Runs of a script, compared with what they are to write.
+ghost use Rattle.std.specs.Prelude.{◌<◌, All, length};
+
+use std::alloc::Global;
+use std::io::Read;
 use std::process::Abort;
 use std::sync::Wait;
 use std::test::Fail;
 use std::thread::Threads;
 use xh_core::Config;
-use xh_runner::{Gate, OpenGate, run_serial, run_threads};
+use xh_runner::{Gate, OpenGate, Report, run_serial, run_threads};
 use xh_script::{Fault, Kind, Watched, read_script, write_answers, write_ledger};
 
 /// One arena of 256 bytes.
@@ -17,15 +20,26 @@ pub(crate) const SMALL: Config = Config {
     wear: 9_223_372_036_854_775_807,
 };
 
-/// The text goes on with a number between two texts.
-pub(crate) fn push_number(
+/// A config, a script, and what it writes.
+pub(crate) type Case = (Config, &'static str, &'static str);
+
+/// What is asserted of a case holds.
+pub(crate) fn assert_case(rt: &impl Abort, holds: bool, case: &str) -> Result<(), Fail> {
+    assert!(rt; holds, "{case}");
+    Ok(())
+}
+
+/// How a run on the serial machine ended, and what it wrote.
+pub(crate) fn run_alone(
     alloc: Global,
-    text: &mut String,
-    before: &str,
-    number: u32,
-    after: &str,
-) -> Result<(), AllocError> {
-    text.push_str(format!(in alloc; "{before}{number}{after}")?.as_str())
+    config: Config,
+    input: impl Read + Drop,
+) -> (Result<(), Fault>, Vec<u8>) {
+    let mut reader = Watched::new(input);
+    let mut out = Vec::new(alloc);
+    let mut writer = Watched::new(&mut out);
+    let ended = run_serial(alloc, &mut reader, &mut writer, config);
+    (ended, out)
 }
 
 /// The script is run to its end, and writes this.
@@ -33,28 +47,32 @@ pub(crate) fn writes(
     rt: &impl Abort,
     alloc: Global,
     config: Config,
-    script: &str,
-    wanted: &str,
-) -> Result<(), Fail> {
-    writes_bytes(rt, alloc, config, script.as_bytes(), wanted)
-}
-
-/// The same, for a script of bytes.
-pub(crate) fn writes_bytes(
-    rt: &impl Abort,
-    alloc: Global,
-    config: Config,
     script: &[u8],
     wanted: &str,
 ) -> Result<(), Fail> {
-    let mut input = script;
-    let mut reader = Watched::new(&mut input);
-    let mut out = Vec::new(alloc);
-    let mut writer = Watched::new(&mut out);
-    let ended = run_serial(alloc, &mut reader, &mut writer, config);
-    assert!(rt; ended == Ok(()));
-    let text = out.as_slice();
-    assert!(rt; text == wanted.as_bytes());
+    let (ended, text) = run_alone(alloc, config, script);
+    let is_wanted = ended == Ok(()) && text.as_slice() == wanted.as_bytes();
+    assert_case(rt, is_wanted, wanted)
+}
+
+/// Each script is run to its end, and writes its text.
+pub(crate) fn all_write(rt: &impl Abort, alloc: Global, cases: &[Case]) -> Result<(), Fail> {
+    for (config, script, wanted) in cases {
+        writes(rt, alloc, *config, script.as_bytes(), wanted)?;
+    }
+    Ok(())
+}
+
+/// The run ends by this fault, and nothing is written.
+pub(crate) fn fails(
+    rt: &impl Abort,
+    alloc: Global,
+    config: Config,
+    input: impl Read + Drop,
+    fault: Fault,
+) -> Result<(), Fail> {
+    let (ended, text) = run_alone(alloc, config, input);
+    assert!(rt; ended == Err(fault) && text.is_empty(), "{fault:?}");
     Ok(())
 }
 
@@ -62,41 +80,35 @@ pub(crate) fn writes_bytes(
 pub(crate) fn is_faulty(
     rt: &impl Abort,
     alloc: Global,
-    script: &str,
-    line: u32,
-    kind: Kind,
-) -> Result<(), Fail> {
-    is_faulty_in_bytes(rt, alloc, script.as_bytes(), line, kind)
-}
-
-/// The same, for a script of bytes.
-pub(crate) fn is_faulty_in_bytes(
-    rt: &impl Abort,
-    alloc: Global,
     script: &[u8],
     line: u32,
     kind: Kind,
 ) -> Result<(), Fail> {
-    let mut input = script;
-    let mut reader = Watched::new(&mut input);
-    let mut out = Vec::new(alloc);
-    let mut writer = Watched::new(&mut out);
-    let ended = run_serial(alloc, &mut reader, &mut writer, SMALL);
-    assert!(rt; ended == Err(Fault::Script { line, kind }), "line {line}");
-    assert!(rt; out.is_empty());
-    Ok(())
+    fails(rt, alloc, SMALL, script, Fault::Script { line, kind })
 }
 
-/// The script is run on the serial machine and then on threads, and writes this each time.
-pub(crate) fn writes_both_ways(
-    rt: &(impl Abort + Threads + Wait + Sync),
+// The answers and the ledger.
+fn text_of(alloc: Global, report: &Report) -> Result<Vec<u8>, Fault>
+    requires { All (λ line. line.place < length report.now.names.items) report.now.ledger.places.items }
+{
+    let mut out = Vec::new(alloc);
+    let mut writer = Watched::new(&mut out);
+    write_answers(&mut writer, &report.answers)?;
+    write_ledger(&mut writer, &report.ledger, &report.names)?;
+    Ok(out)
+}
+
+/// What a run on threads wrote.
+pub(crate) fn run_on_threads(
+    rt: &(impl Threads + Wait + Sync),
     alloc: Global,
     config: Config,
-    script: &str,
-    wanted: &str,
-) -> Result<(), Fail> {
-    writes(rt, alloc, config, script, wanted)?;
-    writes_on_threads(rt, alloc, config, script, &OpenGate, wanted)
+    script: &[u8],
+    gate: &(impl Gate + Sync),
+) -> Result<Vec<u8>, Fault> {
+    let script = read_script(alloc, script)?;
+    let report = run_threads(rt, alloc, &script, config, gate)?;
+    text_of(alloc, &report)
 }
 
 /// The script is run on threads to its end, and writes this.
@@ -108,13 +120,30 @@ pub(crate) fn writes_on_threads(
     gate: &(impl Gate + Sync),
     wanted: &str,
 ) -> Result<(), Fail> {
-    let script = read_script(alloc, script.as_bytes())?;
-    let report = run_threads(rt, alloc, &script, config, gate)?;
-    let mut out = Vec::new(alloc);
-    let mut writer = Watched::new(&mut out);
-    write_answers(&mut writer, &report.answers)?;
-    write_ledger(&mut writer, &report.ledger, &report.names)?;
-    let text = out.as_slice();
-    assert!(rt; text == wanted.as_bytes());
+    let text = run_on_threads(rt, alloc, config, script.as_bytes(), gate)?;
+    assert_case(rt, text.as_slice() == wanted.as_bytes(), wanted)
+}
+
+/// The script is run on the serial machine and then on threads, and writes this each time.
+pub(crate) fn writes_both_ways(
+    rt: &(impl Abort + Threads + Wait + Sync),
+    alloc: Global,
+    config: Config,
+    script: &str,
+    wanted: &str,
+) -> Result<(), Fail> {
+    writes(rt, alloc, config, script.as_bytes(), wanted)?;
+    writes_on_threads(rt, alloc, config, script, &OpenGate, wanted)
+}
+
+/// Each script is run so.
+pub(crate) fn all_write_both_ways(
+    rt: &(impl Abort + Threads + Wait + Sync),
+    alloc: Global,
+    cases: &[Case],
+) -> Result<(), Fail> {
+    for (config, script, wanted) in cases {
+        writes_both_ways(rt, alloc, *config, script, wanted)?;
+    }
     Ok(())
 }

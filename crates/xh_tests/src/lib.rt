@@ -34,4 +34,6 @@ mod processes;
 #[cfg(test)]
 mod random;
 #[cfg(test)]
+mod repeats;
+#[cfg(test)]
 mod streams;

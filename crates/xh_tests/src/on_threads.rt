@@ -1,12 +1,14 @@
 //! Scripts on threads, with what they print and with gates.
 use crate::gates::{Meeting, Order, Stop};
-use crate::harness::{SMALL, writes_on_threads};
+use crate::harness::{Case, SMALL, assert_case, run_on_threads, writes_on_threads};
 use std::test::Fail;
 use xh_core::Config;
-use xh_runner::{OpenGate, run_threads};
-use xh_script::{Fault, read_script};
+use xh_runner::OpenGate;
+use xh_script::Fault;
 
 const TWO_ALLOCS: &str = "process a\nprocess b\na alloc x 16 0\nb alloc y 16 1\n";
+
+const TWO_ARENAS: Config = Config { arenas: 2, ..SMALL };
 
 /// Two workers are in the middle of a command at one time.
 #[test]
@@ -15,7 +17,7 @@ fn workers_run_at_once(rt: HostRuntime) -> Result<(), Fail> {
     writes_on_threads(
         &rt,
         rt.alloc(),
-        Config { arenas: 2, ..SMALL },
+        TWO_ARENAS,
         TWO_ALLOCS,
         &gate,
         "1 ok 0\n\
@@ -37,41 +39,36 @@ fn workers_run_at_once(rt: HostRuntime) -> Result<(), Fail> {
 /// A gate that stops a worker ends the run with its fault.
 #[test]
 fn gate_stops_a_worker(rt: HostRuntime) -> Result<(), Fail> {
-    let alloc = rt.alloc();
-    let script = read_script(alloc, TWO_ALLOCS.as_bytes())?;
-    let config = Config { arenas: 2, ..SMALL };
     let gate = Stop {
         place: 0,
         command: 0,
     };
-    let ended = run_threads(&rt, alloc, &script, config, &gate);
+    let ended = run_on_threads(&rt, rt.alloc(), TWO_ARENAS, TWO_ALLOCS.as_bytes(), &gate);
     assert!(&rt; matches!(ended, Err(Fault::Gate)));
     Ok(())
 }
 
+/// Configs outside their limits.
+const BAD_CONFIGS: &[Config] = &[
+    Config { arenas: 0, ..SMALL },
+    Config { arenas: 9, ..SMALL },
+    Config { bytes: 40, ..SMALL },
+    Config { depth: 17, ..SMALL },
+];
+
 /// A config outside its limits.
 #[test]
 fn bad_configs_on_threads(rt: HostRuntime) -> Result<(), Fail> {
-    let alloc = rt.alloc();
-    let script = read_script(alloc, b"")?;
-    for config in [
-        Config { arenas: 0, ..SMALL },
-        Config { arenas: 9, ..SMALL },
-        Config { bytes: 40, ..SMALL },
-        Config { depth: 17, ..SMALL },
-    ] {
-        let ended = run_threads(&rt, alloc, &script, config, &OpenGate);
+    for config in BAD_CONFIGS {
+        let ended = run_on_threads(&rt, rt.alloc(), *config, b"", &OpenGate);
         assert!(&rt; matches!(ended, Err(Fault::BadConfig)));
     }
     Ok(())
 }
 
-/// A block is cut, and its tail is given.
-#[test]
-fn split_and_give_the_tail(rt: HostRuntime) -> Result<(), Fail> {
-    writes_on_threads(
-        &rt,
-        rt.alloc(),
+const CASES: &[Case] = &[
+    // A block is cut, and its tail is given.
+    (
         SMALL,
         "process a\n\
          process b\n\
@@ -82,7 +79,6 @@ fn split_and_give_the_tail(rt: HostRuntime) -> Result<(), Fail> {
          a split x 20 t\n\
          a write x 16 0102\n\
          a split x 16 t\n",
-        &OpenGate,
         "1 ok 0\n\
          2 ok 1\n\
          3 ok\n\
@@ -98,15 +94,9 @@ fn split_and_give_the_tail(rt: HostRuntime) -> Result<(), Fail> {
          owned 112\n\
          flight 0\n\
          out 112\n",
-    )
-}
-
-/// A refused give gets its blocks back.
-#[test]
-fn full_direction(rt: HostRuntime) -> Result<(), Fail> {
-    writes_on_threads(
-        &rt,
-        rt.alloc(),
+    ),
+    // A refused give gets its blocks back.
+    (
         Config { depth: 1, ..SMALL },
         "process a\n\
          process b\n\
@@ -115,7 +105,6 @@ fn full_direction(rt: HostRuntime) -> Result<(), Fail> {
          a alloc y 16 0\n\
          a give e 0 x\n\
          a give e 0 y\n",
-        &OpenGate,
         "1 ok 0\n\
          2 ok 1\n\
          3 ok\n\
@@ -129,17 +118,52 @@ fn full_direction(rt: HostRuntime) -> Result<(), Fail> {
          owned 80\n\
          flight 16\n\
          out 96\n",
-    )
+    ),
+    // Both ends of a contract wait for their turns.
+    (
+        SMALL,
+        "contract k 0:1:0:1 1:2:1:0\n\
+         process a\n\
+         process b\n\
+         wire a e b f 0 k\n\
+         a give e 1\n\
+         b await f\n\
+         b give f 2\n\
+         a await e\n\
+         a give e 1\n",
+        "1 ok\n\
+         2 ok 0\n\
+         3 ok 1\n\
+         4 ok\n\
+         5 ok 1\n\
+         6 ok 1 1\n\
+         7 ok 1\n\
+         8 ok 1 2\n\
+         9 ok 2\n\
+         arena 0 256 64 1 64 0\n\
+         process a running 1 32\n\
+         process b running 1 32\n\
+         owned 64\n\
+         flight 0\n\
+         out 64\n",
+    ),
+];
+
+/// Scripts whose processes keep no order but that of their messages.
+#[test]
+fn scripts_on_threads(rt: HostRuntime) -> Result<(), Fail> {
+    for (config, script, wanted) in CASES {
+        writes_on_threads(&rt, rt.alloc(), *config, script, &OpenGate, wanted)?;
+    }
+    Ok(())
 }
 
-/// Commands of a process without a place are answered too.
-#[test]
-fn glances(rt: HostRuntime) -> Result<(), Fail> {
-    let gate = Order::new((0, 5), (0, 6));
-    writes_on_threads(
-        &rt,
-        rt.alloc(),
-        SMALL,
+/// A command, by its place and number, and one that is held until it was answered; the script; and what it writes.
+const IN_ORDER: &[((u8, u32), (u8, u32), &str, &str)] = &[
+    // Commands of a process without a place are answered too.
+    (
+        (0, 5),
+        (0, 6),
         "process a\n\
          process b\n\
          a glance a\n\
@@ -151,7 +175,6 @@ fn glances(rt: HostRuntime) -> Result<(), Fail> {
          a glance b\n\
          c glance a\n\
          a glance c\n",
-        &gate,
         "1 ok 0\n\
          2 ok 1\n\
          3 ok 0 0\n\
@@ -169,54 +192,11 @@ fn glances(rt: HostRuntime) -> Result<(), Fail> {
          owned 0\n\
          flight 0\n\
          out 0\n",
-    )?;
-    assert!(&rt; gate.is_kept());
-    Ok(())
-}
-
-/// Both ends of a contract wait for their turns.
-#[test]
-fn contract_in_turns(rt: HostRuntime) -> Result<(), Fail> {
-    writes_on_threads(
-        &rt,
-        rt.alloc(),
-        SMALL,
-        "contract k 0:1:0:1 1:2:1:0\n\
-         process a\n\
-         process b\n\
-         wire a e b f 0 k\n\
-         a give e 1\n\
-         b await f\n\
-         b give f 2\n\
-         a await e\n\
-         a give e 1\n",
-        &OpenGate,
-        "1 ok\n\
-         2 ok 0\n\
-         3 ok 1\n\
-         4 ok\n\
-         5 ok 1\n\
-         6 ok 1 1\n\
-         7 ok 1\n\
-         8 ok 1 2\n\
-         9 ok 2\n\
-         arena 0 256 64 1 64 0\n\
-         process a running 1 32\n\
-         process b running 1 32\n\
-         owned 64\n\
-         flight 0\n\
-         out 64\n",
-    )
-}
-
-/// A worker goes on with its new number, and the others know it by its name.
-#[test]
-fn again_is_known_to_all(rt: HostRuntime) -> Result<(), Fail> {
-    let gate = Order::new((0, 2), (1, 0));
-    writes_on_threads(
-        &rt,
-        rt.alloc(),
-        SMALL,
+    ),
+    // A worker goes on with its new number, and the others know it by its name.
+    (
+        (0, 2),
+        (1, 0),
         "process a\n\
          process b\n\
          a exit\n\
@@ -224,7 +204,6 @@ fn again_is_known_to_all(rt: HostRuntime) -> Result<(), Fail> {
          a alloc x 16 0\n\
          b kill a\n\
          b glance a\n",
-        &gate,
         "1 ok 0\n\
          2 ok 1\n\
          3 ok 0\n\
@@ -238,7 +217,16 @@ fn again_is_known_to_all(rt: HostRuntime) -> Result<(), Fail> {
          owned 0\n\
          flight 0\n\
          out 0\n",
-    )?;
-    assert!(&rt; gate.is_kept());
+    ),
+];
+
+/// Scripts of which one command comes after another.
+#[test]
+fn scripts_in_order(rt: HostRuntime) -> Result<(), Fail> {
+    for (earlier, later, script, wanted) in IN_ORDER {
+        let gate = Order::new(*earlier, *later);
+        writes_on_threads(&rt, rt.alloc(), SMALL, script, &gate, wanted)?;
+        assert_case(&rt, gate.is_kept(), wanted)?;
+    }
     Ok(())
 }

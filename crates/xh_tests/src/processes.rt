@@ -1,13 +1,10 @@
 //! Processes: glances, and places that are used again.
-use crate::harness::{SMALL, writes};
+use crate::harness::{Case, SMALL, all_write};
 use std::test::Fail;
 
-/// A glance tells how many blocks a process holds, and their bytes.
-#[test]
-fn glances(rt: HostRuntime) -> Result<(), Fail> {
-    writes(
-        &rt,
-        rt.alloc(),
+const ON_ONE_THREAD: &[Case] = &[
+    // A glance tells how many blocks a process holds, and their bytes.
+    (
         SMALL,
         "process a\n\
          process b\n\
@@ -37,15 +34,9 @@ fn glances(rt: HostRuntime) -> Result<(), Fail> {
          owned 0\n\
          flight 0\n\
          out 0\n",
-    )
-}
-
-/// A process that has ended asks for a place once more; its names are forgotten.
-#[test]
-fn again_and_kill(rt: HostRuntime) -> Result<(), Fail> {
-    writes(
-        &rt,
-        rt.alloc(),
+    ),
+    // A process that has ended asks for a place once more; its names are forgotten.
+    (
         SMALL,
         "process a\n\
          process b\n\
@@ -75,15 +66,9 @@ fn again_and_kill(rt: HostRuntime) -> Result<(), Fail> {
          owned 0\n\
          flight 0\n\
          out 0\n",
-    )
-}
-
-/// Another process may get the place of one that has ended.
-#[test]
-fn places_by_generation(rt: HostRuntime) -> Result<(), Fail> {
-    writes(
-        &rt,
-        rt.alloc(),
+    ),
+    // Another process may get the place of one that has ended.
+    (
         SMALL,
         "process a\n\
          process b\n\
@@ -105,5 +90,10 @@ fn places_by_generation(rt: HostRuntime) -> Result<(), Fail> {
          owned 0\n\
          flight 0\n\
          out 0\n",
-    )
+    ),
+];
+
+#[test]
+fn processes_on_one_thread(rt: HostRuntime) -> Result<(), Fail> {
+    all_write(&rt, rt.alloc(), ON_ONE_THREAD)
 }

@@ -6,19 +6,20 @@ mod acts;
 mod board;
 mod counted;
 mod marks;
+mod memory;
 mod talks;
 
-use crate::random::actor::{Actor, Left, Plan, Wrong};
+use crate::random::actor::{Actor, Wrong};
 use crate::random::board::Board;
 use crate::random::counted::count;
-use rand_pcg::Pcg32;
+use crate::random::memory::{Memory, Plan};
 use std::alloc::{AllocError, Global};
 use std::marker::Brand;
 use std::process::Abort;
 use std::sync::Wait;
 use std::test::Fail;
 use std::thread;
-use std::thread::{JoinHandle, Scope, Threads};
+use std::thread::Threads;
 use xh_books::close_books;
 use xh_core::{Config, Ledger};
 use xh_glance::Look;
@@ -32,7 +33,7 @@ fn hire<'a, N: Names, R>(
     kernel: &'a Kernel<N>,
     board: &'a Board,
     plan: Plan,
-    accounts: Vec<Account<N>>,
+    accounts: &'a mut [Account<N>],
     looks: Vec<Look>,
 ) -> Result<Vec<Actor<'a, N, R>>, AllocError>
     requires { All (λ l. l.glances ≡ N.parts.glances) looks.items }
@@ -49,82 +50,47 @@ fn hire<'a, N: Names, R>(
             alloc,
             kernel,
             board,
-            plan,
-            worker,
             account,
             look,
-            random: Pcg32::new(plan.seed, u64::from(worker)),
-            process: None,
-            blocks: Vec::new(alloc),
-            ends: Vec::new(alloc),
-            number: 0,
-            taken: 0,
+            memory: Memory::new(alloc, plan, worker),
         })?;
         worker = worker.saturating_add(1);
     }
     Ok(actors)
 }
 
-fn start_all<'s, E, N: Names + Send + Sync + 's, R: Threads + Wait + Sync + 's>(
-    scope: &Scope<'s, E>,
-    alloc: Global,
-    actors: Vec<Actor<'s, N, R>>,
-) -> Result<Vec<JoinHandle<Left<N>>>, AllocError> {
-    let mut handles = Vec::with_capacity(alloc, actors.len())?;
-    for actor in actors {
-        handles.push(scope.spawn(move || actor.work())?)?;
+// How many blocks the workers took from others, none of whom found anything wrong, and of whom there are so many.
+fn taken_by<N: Names, R>(actors: &[Actor<N, R>], workers: u8) -> Result<u32, Wrong> {
+    if actors.len() != usize::from(workers) {
+        return Err(Wrong("a worker is missing"));
     }
-    Ok(handles)
+    let mut taken = 0u32;
+    for actor in actors {
+        if let Some(what) = actor.memory.wrong {
+            return Err(Wrong(what));
+        }
+        taken = taken.saturating_add(actor.memory.taken);
+    }
+    Ok(taken)
 }
 
-fn join_all<N: Names + Send, R: Threads>(
+// The workers do their commands, each in a thread of its own. It answers how many blocks they took from others.
+fn work<N: Names + Send + Sync, R: Threads + Wait + Sync>(
     rt: &R,
     alloc: Global,
-    handles: Vec<JoinHandle<Left<N>>>,
-) -> Result<Vec<Left<N>>, AllocError> {
-    let mut all = Vec::with_capacity(alloc, handles.len())?;
-    for handle in handles {
-        all.push(handle.join(rt))?;
-    }
-    Ok(all)
-}
-
-// Each worker in a thread of its own.
-fn work_all<'a, N: Names + Send + Sync, R: Threads + Wait + Sync>(
-    rt: &'a R,
-    alloc: Global,
-    actors: Vec<Actor<'a, N, R>>,
-) -> Result<Vec<Left<N>>, AllocError> {
-    thread::scope(
-        thread::scope_env(),
-        rt,
-        |scope| -> Result<Vec<Left<N>>, AllocError> {
-            let handles = start_all(scope, alloc, actors)?;
-            join_all(rt, alloc, handles)
-        },
-    )
-}
-
-// The accounts of the workers, none of whom found anything wrong, and how many blocks they took from others.
-fn accounts_of<N: Names>(
-    alloc: Global,
-    all: Vec<Left<N>>,
-) -> Result<(Vec<Account<N>>, u32), Wrong> {
-    let mut accounts = Vec::with_capacity(alloc, all.len())?;
-    let mut count = 0u32;
-    for left in all {
-        let Left {
-            account,
-            taken,
-            wrong,
-        } = left;
-        count = count.saturating_add(taken);
-        if let Some(wrong) = wrong {
-            return Err(wrong);
-        }
-        accounts.push(account)?;
-    }
-    Ok((accounts, count))
+    kernel: &Kernel<N>,
+    board: &Board,
+    plan: Plan,
+    accounts: &mut [Account<N>],
+    looks: Vec<Look>,
+) -> Result<u32, Wrong>
+    requires { All (λ l. l.glances ≡ N.parts.glances) looks.items }
+{
+    let mut actors = hire(rt, alloc, kernel, board, plan, accounts, looks)?;
+    let threads = actors.len().max(1);
+    let team = actors.as_mut_slice();
+    thread::for_each_mut(rt, team, threads, &|_, actor| actor.work());
+    taken_by(&actors, plan.workers)
 }
 
 // Ends all processes.
@@ -150,29 +116,30 @@ fn run_named<N: Names + Send + Sync, R: Threads + Wait + Sync>(
     rt: &R,
     alloc: Global,
     parts: Parts,
+    board: &Board,
     plan: Plan,
 ) -> Result<Outcome, Wrong>
     requires parts { parts ≡ N.parts }
     requires workers { parts.workers ≡ plan.workers }
 {
-    let workers = plan.workers as usize;
-    let Ok((kernel, accounts, looks)) = Kernel::<N>::new(alloc, parts) else {
+    let Ok((kernel, mut accounts, looks)) = Kernel::<N>::new(alloc, parts) else {
         return Err(Wrong("no memory for a kernel"));
     };
-    let board = Board::new(alloc, plan.workers)?;
-    let actors = hire(rt, alloc, &kernel, &board, plan, accounts, looks)?;
-    let (mut accounts, taken) = accounts_of(alloc, work_all(rt, alloc, actors)?)?;
+    let lent = accounts.as_mut_slice();
+    let worked = work(rt, alloc, &kernel, board, plan, lent, looks);
     if plan.ends {
         end_all(rt, &kernel, accounts.as_mut_slice());
+    }
+    if accounts.len() != usize::from(plan.workers) {
+        return Err(Wrong("an account is missing"));
     }
     let Ok((vaults, places, records)) = kernel.settle(alloc) else {
         return Err(Wrong("no memory to settle"));
     };
-    let counted = count(alloc, &vaults, &places, &accounts)?;
-    if accounts.len() != workers {
-        return Err(Wrong("a worker is missing"));
-    }
-    match close_books(alloc, vaults, places, records, accounts) {
+    let counted = count(alloc, &vaults, &places, &accounts);
+    let ledger = close_books(alloc, vaults, places, records, accounts);
+    let (taken, counted) = (worked?, counted?);
+    match ledger {
         Ok(ledger) => Ok(Outcome {
             ledger,
             counted,
@@ -190,27 +157,32 @@ const CONFIG: Config = Config {
     wear: 9_223_372_036_854_775_807,
 };
 
-// A run by a plan: its ledger is the second count. It answers how many blocks were taken.
-fn run<R: Abort + Threads + Wait + Sync>(rt: &R, alloc: Global, plan: Plan) -> Result<u32, Fail> {
-    let workers = u8::try_from(plan.workers).unwrap_or(1);
-    let parts = Parts::new(alloc, CONFIG, workers)?;
-    let plan = Plan {
-        workers: u32::from(workers),
-        ..plan
-    };
-    let Outcome {
-        ledger,
-        counted,
-        taken,
-    } = run_named::<Brand, R>(rt, alloc, parts, plan)?;
+// A run by a plan.
+fn run<R: Threads + Wait + Sync>(rt: &R, alloc: Global, plan: Plan) -> Result<Outcome, Fail> {
+    let board = Board::new(alloc, u32::from(plan.workers))?;
+    let parts = Parts::new(alloc, CONFIG, plan.workers)?;
+    Ok(run_named::<Brand, R>(rt, alloc, parts, &board, plan)?)
+}
+
+// The ledger is the second count, and in balance.
+fn assert_balanced(
+    rt: &impl Abort,
+    alloc: Global,
+    plan: Plan,
+    outcome: &Outcome,
+) -> Result<(), Fail> {
     let seed = plan.seed;
+    let ledger = &outcome.ledger;
+    let counted = &outcome.counted;
     let text = format!(in alloc; "{ledger:?}")?;
     let wanted = format!(in alloc; "{counted:?}")?;
-    assert!(rt; text == wanted, "seed {seed}");
-    let sum = ledger.owned.saturating_add(ledger.flight);
-    assert!(rt; ledger.out == sum, "seed {seed}");
-    assert!(rt; !plan.ends || ledger.out == 0, "seed {seed}");
-    Ok(taken)
+    let is_balanced = ledger.out == ledger.owned.saturating_add(ledger.flight);
+    let is_ended = !plan.ends || ledger.out == 0;
+    assert!(rt;
+        text == wanted && is_balanced && is_ended,
+        "seed {seed}: {text}, {wanted}"
+    );
+    Ok(())
 }
 
 // Twenty runs from a seed on: together they take blocks from each other.
@@ -225,12 +197,14 @@ fn run_twenty<R: Abort + Threads + Wait + Sync>(
         let seed = from.saturating_add(number);
         let plan = Plan {
             seed: u64::from(seed),
-            workers: seed % 5 + 4,
+            workers: (seed % 5 + 4) as u8,
             arenas: 2,
             commands: 400,
             ends,
         };
-        taken = taken.saturating_add(run(rt, alloc, plan)?);
+        let outcome = run(rt, alloc, plan)?;
+        assert_balanced(rt, alloc, plan, &outcome)?;
+        taken = taken.saturating_add(outcome.taken);
     }
     assert!(rt; taken > 400, "{taken} blocks were taken");
     Ok(())

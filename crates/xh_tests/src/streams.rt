@@ -1,5 +1,6 @@
 //! Readers and writers that fail, and a reader without an end.
-use crate::harness::SMALL;
+use crate::harness::{SMALL, fails};
+use std::alloc::Global;
 use std::io;
 use std::io::{Read, Write};
 use std::test::Fail;
@@ -7,11 +8,11 @@ use xh_core::Config;
 use xh_runner::run_serial;
 use xh_script::{Fault, Kind, Watched};
 
-const SCRIPT: &str =
-    "process a\nprocess b\nwire a e b f 0\na alloc x 40 0\na alloc y 16 0\na give e 7 x y\na give e 7 x\nb take f p q\nb write p 0 beef\nb read p 0 4\n";
+const SCRIPT: &[u8] =
+    b"process a\nprocess b\nwire a e b f 0\na alloc x 40 0\na alloc y 16 0\na give e 7 x y\na give e 7 x\nb take f p q\nb write p 0 beef\nb read p 0 4\n";
 
-const OUTPUT: &str =
-    "1 ok 0\n2 ok 1\n3 ok\n4 ok 48\n5 ok 16\n6 ok 1\n7 no 6 NotOwned\n8 ok 1 7 48 16\n9 ok\n\
+const OUTPUT: &[u8] =
+    b"1 ok 0\n2 ok 1\n3 ok\n4 ok 48\n5 ok 16\n6 ok 1\n7 no 6 NotOwned\n8 ok 1 7 48 16\n9 ok\n\
      10 ok beef0000\narena 0 256 128 1 128 0\nprocess a running 1 32\nprocess b running 3 96\n\
      owned 128\nflight 0\nout 128\n";
 
@@ -81,95 +82,82 @@ impl Write for Choppy {
 
 #[test]
 fn a_reader_fails_at_each_read(rt: HostRuntime) -> Result<(), Fail> {
-    let alloc = rt.alloc();
     for reads in 0..=SCRIPT.len() {
-        let mut reader = Watched::new(OneByOne {
-            left: SCRIPT.as_bytes(),
+        let reader = OneByOne {
+            left: SCRIPT,
             reads,
-        });
-        let mut out = Vec::new(alloc);
-        let mut writer = Watched::new(&mut out);
-        let ended = run_serial(alloc, &mut reader, &mut writer, SMALL);
-        assert!(rt; ended == Err(Fault::Read));
-        assert!(rt; out.is_empty());
+        };
+        fails(&rt, rt.alloc(), SMALL, reader, Fault::Read)?;
     }
     Ok(())
 }
 
+// How a run ended whose writer fails at this write, or takes nothing, and what it took.
+fn run_choppy(alloc: Global, writes: usize, is_failing: bool) -> (Result<(), Fault>, Vec<u8>) {
+    let mut reader = Watched::new(SCRIPT);
+    let mut out = Choppy {
+        taken: Vec::new(alloc),
+        writes,
+        is_failing,
+    };
+    let mut writer = Watched::new(&mut out);
+    let ended = run_serial(alloc, &mut reader, &mut writer, SMALL);
+    (ended, out.taken)
+}
+
 #[test]
 fn a_writer_fails_at_each_write(rt: HostRuntime) -> Result<(), Fail> {
-    let alloc = rt.alloc();
     for turn in 0..2 * OUTPUT.len() {
-        let mut input = SCRIPT.as_bytes();
-        let mut reader = Watched::new(&mut input);
-        let mut out = Choppy {
-            taken: Vec::new(alloc),
-            writes: turn / 2,
-            is_failing: turn % 2 == 0,
-        };
-        let mut writer = Watched::new(&mut out);
-        let ended = run_serial(alloc, &mut reader, &mut writer, SMALL);
-        assert!(rt; ended == Err(Fault::Write));
-        assert!(rt; out.taken.as_slice() == &OUTPUT.as_bytes()[..turn / 2]);
+        let (ended, taken) = run_choppy(rt.alloc(), turn / 2, turn % 2 == 0);
+        assert!(rt; ended == Err(Fault::Write) && taken.as_slice() == &OUTPUT[..turn / 2]);
     }
     Ok(())
 }
 
 #[test]
 fn a_reader_without_an_end(rt: HostRuntime) -> Result<(), Fail> {
-    let alloc = rt.alloc();
-    let mut reader = Watched::new(Endless);
-    let mut out = Vec::new(alloc);
-    let mut writer = Watched::new(&mut out);
-    let ended = run_serial(alloc, &mut reader, &mut writer, SMALL);
-    assert!(rt;
-        ended
-            == Err(Fault::Script {
-                line: 0,
-                kind: Kind::TooLong
-            })
-    );
-    assert!(rt; out.is_empty());
-    Ok(())
+    let fault = Fault::Script {
+        line: 0,
+        kind: Kind::TooLong,
+    };
+    fails(&rt, rt.alloc(), SMALL, Endless, fault)
 }
+
+/// Configs outside their limits.
+const BAD_CONFIGS: &[Config] = &[
+    Config { arenas: 0, ..SMALL },
+    Config { arenas: 9, ..SMALL },
+    Config { bytes: 40, ..SMALL },
+    Config { bytes: 0, ..SMALL },
+    Config {
+        bytes: 1_048_592,
+        ..SMALL
+    },
+    Config {
+        records: 0,
+        ..SMALL
+    },
+    Config {
+        records: 257,
+        ..SMALL
+    },
+    Config { depth: 0, ..SMALL },
+    Config { depth: 17, ..SMALL },
+    Config {
+        wear: 9_223_372_036_854_775_808,
+        ..SMALL
+    },
+];
 
 /// A config outside its limits is refused before the first read, which would fail.
 #[test]
 fn bad_configs(rt: HostRuntime) -> Result<(), Fail> {
-    let alloc = rt.alloc();
-    for config in [
-        Config { arenas: 0, ..SMALL },
-        Config { arenas: 9, ..SMALL },
-        Config { bytes: 40, ..SMALL },
-        Config { bytes: 0, ..SMALL },
-        Config {
-            bytes: 1_048_592,
-            ..SMALL
-        },
-        Config {
-            records: 0,
-            ..SMALL
-        },
-        Config {
-            records: 257,
-            ..SMALL
-        },
-        Config { depth: 0, ..SMALL },
-        Config { depth: 17, ..SMALL },
-        Config {
-            wear: 9_223_372_036_854_775_808,
-            ..SMALL
-        },
-    ] {
-        let mut reader = Watched::new(OneByOne {
-            left: SCRIPT.as_bytes(),
+    for config in BAD_CONFIGS {
+        let reader = OneByOne {
+            left: SCRIPT,
             reads: 0,
-        });
-        let mut out = Vec::new(alloc);
-        let mut writer = Watched::new(&mut out);
-        let ended = run_serial(alloc, &mut reader, &mut writer, config);
-        assert!(rt; ended == Err(Fault::BadConfig));
-        assert!(rt; out.is_empty());
+        };
+        fails(&rt, rt.alloc(), *config, reader, Fault::BadConfig)?;
     }
     Ok(())
 }

@@ -1,9 +1,8 @@
 //! An order of the commands of a script in which the serial machine answers the same.
+use crate::harness::run_alone;
 use crate::orders::scripts::Play;
 use crate::orders::texts::{after_number, line_and_rest, without_holes};
 use std::alloc::{AllocError, Global};
-use xh_runner::run_serial;
-use xh_script::Watched;
 
 const TRIES: u32 = 2_000;
 
@@ -15,28 +14,17 @@ pub(super) enum Found {
     CutOff,
 }
 
-/// What a run on threads wrote: the reply to each command, without its number, and the ledger.
-#[derive(Debug, Drop)]
-pub(super) struct Written {
-    pub(super) replies: Vec<Vec<u8>>,
-    pub(super) ledger: Vec<u8>,
-}
-
 // What the serial machine writes where the commands come in this order.
 fn serial_text(alloc: Global, play: &Play, order: &[usize]) -> Result<Vec<u8>, AllocError> {
-    let mut script = play.head.clone()?;
+    let mut script = String::from_str(alloc, play.setting.head)?;
     for index in order {
         if let Some(line) = play.lines.get(*index) {
             script.push_str(&line.text)?;
         }
     }
-    let mut input = script.as_bytes();
-    let mut reader = Watched::new(&mut input);
-    let mut out = Vec::new(alloc);
-    let mut writer = Watched::new(&mut out);
-    match run_serial(alloc, &mut reader, &mut writer, play.config) {
-        Ok(()) => Ok(out),
-        Err(_) => Err(AllocError),
+    match run_alone(alloc, play.setting.config, script.as_bytes()) {
+        (Ok(()), text) => Ok(text),
+        (Err(_), _) => Err(AllocError),
     }
 }
 
@@ -56,30 +44,22 @@ fn is_ledger(alloc: Global, exact: bool, ledger: &[u8], serial: &[u8]) -> Result
 }
 
 // Whether the serial machine answers the last command of the order so, and after all of them has the ledger.
-fn fits(
-    alloc: Global,
-    play: &Play,
-    written: &Written,
-    order: &[usize],
-) -> Result<bool, AllocError> {
-    let text = serial_text(alloc, play, order)?;
-    let number = u32::try_from(order.len())
-        .unwrap_or(0)
-        .saturating_add(play.heads);
-    let (line, rest) = line_and_rest(&text, number);
+fn fits(alloc: Global, play: &Play, written: &[u8], order: &[usize]) -> Result<bool, AllocError> {
     let Some(last) = order.last() else {
         return Ok(false);
     };
-    let Some(reply) = written.replies.get(*last) else {
-        return Ok(false);
-    };
-    if !is_answer(play.loose, reply, after_number(line)) {
+    let heads = play.setting.heads;
+    let (reply, _) = line_and_rest(written, heads.saturating_add(*last).saturating_add(1));
+    let text = serial_text(alloc, play, order)?;
+    let (line, rest) = line_and_rest(&text, heads.saturating_add(order.len()));
+    if !is_answer(play.setting.loose, after_number(reply), after_number(line)) {
         return Ok(false);
     }
     if order.len() < play.lines.len() {
         return Ok(true);
     }
-    is_ledger(alloc, play.exact, &written.ledger, rest)
+    let (_, ledger) = line_and_rest(written, heads.saturating_add(play.lines.len()));
+    is_ledger(alloc, play.setting.exact, ledger, rest)
 }
 
 // The next command of the first process, from this one on, that has one left.
@@ -100,12 +80,9 @@ fn behind(play: &Play, index: usize) -> usize {
     }
 }
 
-/// Looks for an order that respects each process's own, depth first, with so many tries.
-pub(super) fn find_order(
-    alloc: Global,
-    play: &Play,
-    written: &Written,
-) -> Result<Found, AllocError> {
+/// Looks for an order that respects each process's own, in which the serial machine writes the same, depth first, with
+/// so many tries.
+pub(super) fn find_order(alloc: Global, play: &Play, written: &[u8]) -> Result<Found, AllocError> {
     let mut order = Vec::new(alloc);
     let mut process = 0usize;
     for _ in 0..TRIES {

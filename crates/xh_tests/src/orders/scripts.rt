@@ -5,16 +5,23 @@ use rand_pcg::Pcg32;
 use std::alloc::{AllocError, Global};
 use xh_core::Config;
 
-/// A script: its head, which has so many lines, and its commands, those of the first process first. Where it is
-/// loose, processes and channels end in it; where it is exact, holes are counted too.
-#[derive(Drop)]
-pub(super) struct Play {
+/// What scripts of a kind have in common: the config; the head, which has so many lines; the processes; the commands.
+/// Where a kind is loose, processes and channels end in it; where it is exact, holes are counted too.
+pub(super) struct Setting {
     pub(super) config: Config,
-    pub(super) head: String,
-    pub(super) heads: u32,
-    pub(super) lines: Vec<Line>,
+    pub(super) head: &'static str,
+    pub(super) heads: usize,
+    pub(super) roles: &'static [Role],
+    commands: &'static [&'static [Piece]],
     pub(super) loose: bool,
     pub(super) exact: bool,
+}
+
+/// A script: its setting, and its commands, those of the first process first.
+#[derive(Drop)]
+pub(super) struct Play {
+    pub(super) setting: &'static Setting,
+    pub(super) lines: Vec<Line>,
 }
 
 /// A command, and the number of its process.
@@ -26,7 +33,7 @@ pub(super) struct Line {
 
 /// A process: its name, and those of its endpoints.
 #[derive(Clone, Copy)]
-struct Role {
+pub(super) struct Role {
     name: &'static str,
     ends: [&'static str; 2],
 }
@@ -71,13 +78,6 @@ const STAR: [Role; 3] = [
         ends: ["h", "h"],
     },
 ];
-
-const PAIR_HEAD: &str = "process a\nprocess b\nwire a e b f 0\n";
-
-const RING_HEAD: &str =
-    "process a\nprocess b\nprocess c\nwire a e b f 0\nwire b g c h 0\nwire c i a j 0\n";
-
-const STAR_HEAD: &str = "process a\nprocess b\nprocess c\nwire a e b f 0\nwire a g c h 0\n";
 
 /// A piece of a command.
 #[derive(Clone, Copy)]
@@ -167,6 +167,67 @@ const ENDING: [&[Piece]; 16] = [
     &[Either(" kill c\n", " again\n")],
 ];
 
+/// Two processes, or three in a ring, in an arena that runs full: nothing ends.
+const WORKING_PLAYS: &[Setting; 2] = &[
+    Setting {
+        config: NARROW,
+        head: "process a\nprocess b\nwire a e b f 0\n",
+        heads: 3,
+        roles: &PAIR,
+        commands: &WORKING,
+        loose: false,
+        exact: true,
+    },
+    Setting {
+        config: Config {
+            bytes: 256,
+            ..NARROW
+        },
+        head: "process a\nprocess b\nprocess c\nwire a e b f 0\nwire b g c h 0\nwire c i a j 0\n",
+        heads: 6,
+        roles: &RING,
+        commands: &WORKING,
+        loose: false,
+        exact: false,
+    },
+];
+
+/// Two processes, or three around the first, in an ample arena: processes and channels end.
+const ENDING_PLAYS: &[Setting; 2] = &[
+    Setting {
+        config: AMPLE,
+        head: "process a\nprocess b\nwire a e b f 0\n",
+        heads: 3,
+        roles: &PAIR,
+        commands: &ENDING,
+        loose: true,
+        exact: false,
+    },
+    Setting {
+        config: AMPLE,
+        head: "process a\nprocess b\nprocess c\nwire a e b f 0\nwire a g c h 0\n",
+        heads: 5,
+        roles: &STAR,
+        commands: &ENDING,
+        loose: true,
+        exact: false,
+    },
+];
+
+const NARROW: Config = Config {
+    arenas: 1,
+    bytes: 144,
+    records: 64,
+    depth: 1,
+    wear: 1_000_000,
+};
+
+const AMPLE: Config = Config {
+    bytes: 4096,
+    depth: 2,
+    ..NARROW
+};
+
 fn below(random: &mut Pcg32, count: usize) -> usize {
     let word = random.next_u32() as usize;
     if count == 0 { 0 } else { word % count }
@@ -213,95 +274,46 @@ fn command(
     Ok(text)
 }
 
-// So many commands of a process, behind those that are there.
+// Up to six commands of a process, behind those that are there.
 fn add_lines(
     alloc: Global,
     random: &mut Pcg32,
-    play: &mut Play,
+    setting: &Setting,
     process: usize,
     role: Role,
-    count: usize,
+    lines: &mut Vec<Line>,
 ) -> Result<(), AllocError> {
-    let commands = if play.loose { &ENDING } else { &WORKING };
+    let count = below(random, 6).saturating_add(1);
     for _ in 0..count {
-        let text = command(alloc, random, role, commands)?;
-        play.lines.push(Line { process, text })?;
+        let text = command(alloc, random, role, setting.commands)?;
+        lines.push(Line { process, text })?;
     }
     Ok(())
 }
 
-// A script of these processes.
-fn filled(
+/// A script of this number in one of two settings, by random numbers of a stream.
+fn random_play(
     alloc: Global,
-    random: &mut Pcg32,
-    mut play: Play,
-    roles: &[Role],
-    most: usize,
+    seed: u64,
+    stream: u64,
+    settings: &'static [Setting; 2],
 ) -> Result<Play, AllocError> {
+    let setting = &settings[(seed % 2) as usize];
+    let mut random = Pcg32::new(seed, stream);
+    let mut lines = Vec::new(alloc);
     let mut process = 0usize;
-    for role in roles {
-        let count = below(random, most).saturating_add(1);
-        add_lines(alloc, random, &mut play, process, *role, count)?;
+    for role in setting.roles {
+        add_lines(alloc, &mut random, setting, process, *role, &mut lines)?;
         process = process.saturating_add(1);
     }
-    Ok(play)
+    Ok(Play { setting, lines })
 }
 
-fn empty(
-    alloc: Global,
-    config: Config,
-    head: &str,
-    heads: u32,
-    loose: bool,
-) -> Result<Play, AllocError> {
-    Ok(Play {
-        config,
-        head: String::from_str(alloc, head)?,
-        heads,
-        lines: Vec::new(alloc),
-        loose,
-        exact: heads == 3 && !loose,
-    })
-}
-
-/// A script of this number in which nothing ends: two processes, or three in a ring, in an arena that runs full.
-pub(super) fn working_play(alloc: Global, seed: u64) -> Result<Play, AllocError> {
-    let mut random = Pcg32::new(seed, 1);
-    let config = Config {
-        arenas: 1,
-        bytes: 144,
-        records: 64,
-        depth: 1,
-        wear: 1_000_000,
-    };
-    if seed % 2 == 0 {
-        let start = empty(alloc, config, PAIR_HEAD, 3, false)?;
-        filled(alloc, &mut random, start, &PAIR, 6)
+/// A script of this number in which nothing ends, or one in which processes and channels do.
+pub(super) fn new_play(alloc: Global, seed: u64, ends: bool) -> Result<Play, AllocError> {
+    if ends {
+        random_play(alloc, seed, 2, ENDING_PLAYS)
     } else {
-        let config = Config {
-            bytes: 256,
-            ..config
-        };
-        let start = empty(alloc, config, RING_HEAD, 6, false)?;
-        filled(alloc, &mut random, start, &RING, 6)
-    }
-}
-
-/// A script of this number in which processes and channels end, around the first process, in an ample arena.
-pub(super) fn ending_play(alloc: Global, seed: u64) -> Result<Play, AllocError> {
-    let mut random = Pcg32::new(seed, 2);
-    let config = Config {
-        arenas: 1,
-        bytes: 4096,
-        records: 64,
-        depth: 2,
-        wear: 1_000_000,
-    };
-    if seed % 2 == 0 {
-        let start = empty(alloc, config, PAIR_HEAD, 3, true)?;
-        filled(alloc, &mut random, start, &PAIR, 6)
-    } else {
-        let start = empty(alloc, config, STAR_HEAD, 5, true)?;
-        filled(alloc, &mut random, start, &STAR, 6)
+        random_play(alloc, seed, 1, WORKING_PLAYS)
     }
 }

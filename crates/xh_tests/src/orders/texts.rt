@@ -2,8 +2,8 @@
 use std::alloc::{AllocError, Global};
 
 /// The line of this number, counted from 1, and what follows it.
-pub(super) fn line_and_rest(text: &[u8], number: u32) -> (&[u8], &[u8]) {
-    let mut line = 1u32;
+pub(super) fn line_and_rest(text: &[u8], number: usize) -> (&[u8], &[u8]) {
+    let mut line = 1usize;
     let mut start = 0usize;
     for (at, byte) in text.iter().enumerate() {
         if *byte == b'\n' {

@@ -1,4 +1,5 @@
 //! Marks: a word that stands all over a block, so that it tells whose bytes these are.
+use crate::random::memory::Kept;
 use std::sync::Wait;
 use xh_core::{Block, Refused};
 use xh_kernel::{Kernel, Names};
@@ -19,18 +20,24 @@ pub(super) fn parts_of(mark: u64) -> (usize, usize) {
     )
 }
 
-/// The mark stands all over the block from now on.
+/// The part of a number that a tag has room for.
+pub(super) fn low_half(number: u64) -> u16 {
+    (number % 65_536) as u16
+}
+
+/// The mark of each block stands all over it from now on.
 pub(super) fn fill<N: Names, R: Wait>(
     rt: &R,
     kernel: &Kernel<N>,
     process: u16,
-    block: Block,
-    mark: u64,
+    blocks: &[Kept],
 ) -> Result<(), Refused> {
-    let bytes = mark.to_le_bytes();
-    for word in 0..block.len / 8 {
-        let at = word.saturating_mul(8);
-        kernel.write(rt, process, block.rec, at, &bytes, &OpenGate)?;
+    for kept in blocks {
+        let bytes = kept.mark.to_le_bytes();
+        for word in 0..kept.block.len / 8 {
+            let at = word.saturating_mul(8);
+            kernel.write(rt, process, kept.block.rec, at, &bytes, &OpenGate)?;
+        }
     }
     Ok(())
 }
@@ -43,17 +50,17 @@ pub(super) fn mark_of<N: Names, R: Wait>(
     block: Block,
 ) -> Result<Option<u64>, Refused> {
     let mut bytes = [0u8; 8];
-    kernel.read(rt, process, block.rec, 0, &mut bytes, &OpenGate)?;
-    let mark = u64::from_le_bytes(bytes);
-    for word in 1..block.len / 8 {
+    let mut mark = None;
+    for word in 0..block.len / 8 {
         let at = word.saturating_mul(8);
         kernel.read(rt, process, block.rec, at, &mut bytes, &OpenGate)?;
-        if u64::from_le_bytes(bytes) != mark {
+        let found = u64::from_le_bytes(bytes);
+        if *mark.get_or_insert(found) != found {
             return Ok(None);
         }
     }
     match kernel.read(rt, process, block.rec, block.len, &mut bytes, &OpenGate) {
-        Err(Refused::BadRange) => Ok(Some(mark)),
+        Err(Refused::BadRange) => Ok(mark),
         Err(refused) => Err(refused),
         Ok(()) => Ok(None),
     }

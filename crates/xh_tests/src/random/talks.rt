@@ -1,185 +1,96 @@
 //! What a worker of a random run does with its endpoints.
-use crate::random::actor::{Actor, Kept, Wrong};
-use crate::random::marks::{fill, mark_of};
-use arrayvec::ArrayVec;
+use crate::random::actor::Actor;
+use crate::random::marks::{fill, low_half, mark_of};
+use crate::random::memory::{Load, NO_MEMORY};
 use std::sync::Wait;
-use xh_core::Refused;
+use xh_core::{Block, Refused};
 use xh_kernel::Names;
-use xh_place::{Got, OpenGate, Taken};
-
-/// What a give is to carry: data blocks with marks that follow each other, and perhaps an endpoint.
-#[derive(Drop)]
-struct Load {
-    tag: u16,
-    blocks: Vec<Kept>,
-    end: Option<u16>,
-    records: Vec<u16>,
-}
-
-fn low_half(number: u64) -> u16 {
-    (number % 65_536) as u16
-}
+use xh_place::{Got, OpenGate};
 
 impl<'a, N: Names, R: Wait> Actor<'a, N, R> {
-    /// Gives up to three blocks by one of the endpoints, and at times another endpoint with them; where all is to
-    /// be closed at the end none, since one that is on its way to itself can't be closed.
-    pub(super) fn give(&mut self, p: u16) -> Result<(), Wrong> {
-        let Some(by) = self.any_end() else {
-            return Ok(());
+    /// Gives blocks by one of the endpoints.
+    pub(super) fn give(&mut self, p: u16) {
+        let Some(by) = self.memory.any_end() else {
+            return;
         };
-        let load = self.load(p, by)?;
-        if self.process.is_none() {
-            return Ok(());
+        match self.memory.load(self.alloc, by) {
+            Ok(load) => self.give_load(p, by, &load),
+            Err(_) => self.memory.fail(NO_MEMORY),
         }
-        let Load {
-            tag,
-            blocks,
-            end,
-            records,
-        } = load;
+    }
+
+    fn give_load(&mut self, p: u16, by: u16, load: &Load) {
+        if let Err(refused) = fill(self.rt, self.kernel, p, &load.blocks) {
+            self.lose_or(&refused, "a block can't be marked");
+            return;
+        }
+        let records = load.records.as_slice();
         match self
             .kernel
-            .give(self.rt, p, by, tag, records.as_slice(), &OpenGate)
+            .give(self.rt, p, by, load.tag, records, &OpenGate)
         {
-            Ok(_) => Ok(()),
+            Ok(_) => {}
             Err(Refused::Full { back }) => {
-                if back.as_slice() != records.as_slice() {
-                    return Err(Wrong("a direction that is full kept a block"));
+                if back.as_slice() != records {
+                    self.memory.fail("a direction that is full kept a block");
                 }
-                self.restore(blocks.as_slice(), end, &back)
+                self.memory.restore(load, back.as_slice());
             }
-            Err(Refused::PeerClosed { back }) => self.restore(blocks.as_slice(), end, &back),
-            Err(refused) => self.lose_or(refused, "blocks can't be given"),
+            Err(Refused::PeerClosed { back }) => self.memory.restore(load, back.as_slice()),
+            Err(refused) => self.lose_or(&refused, "blocks can't be given"),
         }
     }
 
-    // Chooses blocks, which the worker doesn't count as the process's any more, and marks them.
-    fn load(&mut self, p: u16, by: u16) -> Result<Load, Wrong> {
-        let mut load = Load {
-            tag: low_half(u64::from(self.number)),
-            blocks: Vec::new(self.alloc),
-            end: None,
-            records: Vec::new(self.alloc),
-        };
-        let count = self.below(4);
-        for _ in 0..count {
-            if let Some(kept) = self.marked(p)? {
-                load.records.push(kept.block.rec)?;
-                load.blocks.push(kept)?;
-            }
-        }
-        if !self.plan.ends && self.below(4) == 0 {
-            load.end = self.any_end().filter(|end| *end != by);
-        }
-        if let Some(end) = load.end {
-            self.drop_end(end);
-            load.records.push(end)?;
-        }
-        Ok(load)
-    }
-
-    // One of the blocks, with a mark of its own.
-    fn marked(&mut self, p: u16) -> Result<Option<Kept>, Wrong> {
-        let Some(kept) = self.any_block() else {
-            return Ok(None);
-        };
-        let Some(mark) = self.new_mark() else {
-            return Ok(None);
-        };
-        let block = kept.block;
-        self.drop_block(block.rec);
-        match fill(self.rt, self.kernel, p, block, mark) {
-            Ok(()) => Ok(Some(Kept { block, mark })),
-            Err(refused) => {
-                self.lose_or(refused, "a block can't be marked")?;
-                Ok(None)
-            }
-        }
-    }
-
-    // What came back from a refused give is the process's still.
-    fn restore(
-        &mut self,
-        blocks: &[Kept],
-        end: Option<u16>,
-        back: &ArrayVec<u16, 8>,
-    ) -> Result<(), Wrong> {
-        for kept in blocks {
-            if back.as_slice().contains(&kept.block.rec) {
-                self.blocks.push(*kept)?;
-            }
-        }
-        if let Some(end) = end
-            && back.as_slice().contains(&end)
-        {
-            self.ends.push(end)?;
-        }
-        Ok(())
-    }
-
-    /// Takes a message by one of the endpoints.
-    pub(super) fn take(&mut self, p: u16) -> Result<(), Wrong> {
-        let Some(by) = self.any_end() else {
-            return Ok(());
+    /// Takes a message by one of the endpoints. Its blocks have the marks that its tag tells.
+    pub(super) fn take(&mut self, p: u16) {
+        let Some(by) = self.memory.any_end() else {
+            return;
         };
         match self.kernel.take(self.rt, p, by, &OpenGate) {
-            Ok(message) => self.receive(p, &message),
-            Err(Refused::Empty) => Ok(()),
-            Err(Refused::PeerClosed { .. }) => self.close(p, by),
-            Err(refused) => self.lose_or(refused, "no message can be taken"),
-        }
-    }
-
-    // The blocks of a message have the marks that its tag tells, and nobody took them before.
-    fn receive(&mut self, p: u16, message: &Taken) -> Result<(), Wrong> {
-        let mut number = u64::from(message.tag);
-        for got in message.blocks.as_slice() {
-            number = number.saturating_add(1);
-            if let Got::Here(block) = got
-                && self.process.is_some()
-            {
-                match mark_of(self.rt, self.kernel, p, *block) {
-                    Ok(Some(mark)) if low_half(mark) == low_half(number) => {
-                        self.keep(Kept {
-                            block: *block,
-                            mark,
-                        })?;
+            Ok(message) => {
+                let mut number = u64::from(message.tag);
+                for got in message.blocks.as_slice() {
+                    number = number.saturating_add(1);
+                    if let Got::Here(block) = got {
+                        self.keep(p, *block, low_half(number));
                     }
-                    Ok(_) => return Err(Wrong("a block has another mark than its message")),
-                    Err(Refused::NotData) => self.ends.push(block.rec)?,
-                    Err(refused) => self.lose_or(refused, "a taken block can't be read")?,
                 }
             }
-        }
-        Ok(())
-    }
-
-    fn keep(&mut self, kept: Kept) -> Result<(), Wrong> {
-        if !self.board.take(kept.mark) {
-            return Err(Wrong("a block was taken twice"));
-        }
-        self.taken = self.taken.saturating_add(1);
-        self.blocks.push(kept)?;
-        Ok(())
-    }
-
-    /// Closes one of the endpoints.
-    pub(super) fn close_any(&mut self, p: u16) -> Result<(), Wrong> {
-        match self.any_end() {
-            Some(end) => self.close(p, end),
-            None => Ok(()),
+            Err(Refused::Empty) => {}
+            Err(Refused::PeerClosed { .. }) => self.close(p, by),
+            Err(refused) => self.lose_or(&refused, "no message can be taken"),
         }
     }
 
-    fn close(&mut self, p: u16, end: u16) -> Result<(), Wrong> {
-        let account = &mut self.account;
-        match self.kernel.close(self.rt, p, end, account, &OpenGate) {
-            Ok(bytes) if bytes >= 32 => {
-                self.drop_end(end);
-                Ok(())
+    // A block that was taken, if the process still runs: it has a mark with this number, and nobody took it before.
+    fn keep(&mut self, p: u16, block: Block, number: u16) {
+        if self.memory.process.is_none() {
+            return;
+        }
+        match mark_of(self.rt, self.kernel, p, block) {
+            Ok(Some(mark)) if low_half(mark) == number => {
+                if !self.board.take(mark) {
+                    self.memory.fail("a block was taken twice");
+                }
+                self.memory.taken = self.memory.taken.saturating_add(1);
+                self.memory.add_block(block, mark);
             }
-            Ok(_) => Err(Wrong("an endpoint gave back less than its own bytes")),
-            Err(refused) => self.lose_or(refused, "an endpoint can't be closed"),
+            Ok(_) => self
+                .memory
+                .fail("a block has another mark than its message"),
+            Err(Refused::NotData) => self.memory.add_end(block.rec),
+            Err(refused) => self.lose_or(&refused, "a taken block can't be read"),
+        }
+    }
+
+    /// Closes an endpoint.
+    pub(super) fn close(&mut self, p: u16, end: u16) {
+        match self.kernel.close(self.rt, p, end, self.account, &OpenGate) {
+            Ok(bytes) if bytes >= 32 => self.memory.drop_end(end),
+            Ok(_) => self
+                .memory
+                .fail("an endpoint gave back less than its own bytes"),
+            Err(refused) => self.lose_or(&refused, "an endpoint can't be closed"),
         }
     }
 }

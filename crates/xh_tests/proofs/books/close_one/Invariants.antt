@@ -1,4 +1,4 @@
 use Rattle.xh_tests.proofs.books.close_one.Given as goal
 
-abbrev pub ghosts-close_used : goal.ghosts-close_used
-ghosts-close_used g a = record { parts = a.parts }
+abbrev pub ghosts-close_named : goal.ghosts-close_named
+ghosts-close_named g a = record { parts = a.parts }

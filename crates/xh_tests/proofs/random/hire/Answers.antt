@@ -10,9 +10,9 @@ rest_of P xs ys x e h = λ k d below. subst (λ l. All P l) e h (suc k) d (omega
 
 pub invariant_of-push : goal.invariant_of-push
 invariant_of-push g c = record {
-  own = first_of (λ (x : LookOf). x.glances ≡ g.N.Names.parts.glances) _ _ c.in-Some-next.look c.in-Some-next.ensures.items c.loop-account.invariant;
+  own = first_of (λ (x : LookOf). x.glances ≡ g.N.Names.parts.glances) _ _ c.in-Some.look c.in-Some.ensures.items c.loop-account.invariant;
 }
 
 pub loop-account-preserved : goal.loop-account-preserved
 loop-account-preserved g c =
-    rest_of (λ (x : LookOf). x.glances ≡ g.N.Names.parts.glances) _ _ c.in-Some-next.look c.in-Some-next.ensures.items c.loop-account.invariant
+    rest_of (λ (x : LookOf). x.glances ≡ g.N.Names.parts.glances) _ _ c.in-Some.look c.in-Some.ensures.items c.loop-account.invariant
