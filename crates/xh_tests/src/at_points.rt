@@ -1,6 +1,6 @@
 //! Kills and closes that come in the middle of another call.
 use crate::gates::Order;
-use crate::harness::{SMALL, assert_case, writes_on_threads};
+use crate::harness::{SMALL, writes_on_threads};
 use crate::holds::{Hold, OrderAndHold, Until};
 use std::alloc::Global;
 use std::process::Abort;
@@ -8,10 +8,6 @@ use std::sync::Wait;
 use std::test::Fail;
 use std::thread::Threads;
 use xh_runner::Point;
-
-/// The place and the point of a call that is held, and the command, by its place and number, that is answered
-/// meanwhile; the script; and what it writes.
-pub(crate) type Case = ((u8, Point, (u8, u32)), &'static str, &'static str);
 
 const GIVE_AND_CLOSE: &str = "process a\n\
     process b\n\
@@ -46,16 +42,47 @@ const GIVEN_AND_RECLAIMED: &str = "1 ok 0\n\
     flight 0\n\
     out 32\n";
 
-const CASES: &[Case] = &[
-    // The peer closes when the words of a give were passed, but nothing was put: the blocks come back.
-    ((0, Point::Passed, (1, 0)), GIVE_AND_CLOSE, GIVEN_BACK),
-    // The peer closes when the message was put: the blocks go with its end.
-    ((0, Point::Put, (1, 0)), GIVE_AND_CLOSE, GIVEN_AND_RECLAIMED),
-    // A give comes when the peer was shut, but none of its messages were taken: the blocks come back.
-    ((1, Point::Shut, (0, 1)), GIVE_AND_CLOSE, GIVEN_BACK),
-    // The giver is killed when its message was popped, but its block not accepted: the taker gets it.
-    (
-        (1, Point::Popped, (2, 0)),
+// The script writes this with the hold, which is kept.
+pub(crate) fn writes_with(
+    rt: &(impl Abort + Threads + Wait + Sync),
+    alloc: Global,
+    script: &str,
+    hold: &Hold,
+    wanted: &str,
+) -> Result<(), Fail> {
+    writes_on_threads(rt, alloc, SMALL, script, hold, wanted)?;
+    assert!(rt; hold.is_kept());
+    Ok(())
+}
+
+/// The peer closes when the words of a give were passed, but nothing was put: the blocks come back.
+#[test]
+fn closed_after_passed(rt: HostRuntime) -> Result<(), Fail> {
+    let hold = Hold::new(0, Point::Passed, (1, 0), Until::Answered);
+    writes_with(&rt, rt.alloc(), GIVE_AND_CLOSE, &hold, GIVEN_BACK)
+}
+
+/// The peer closes when the message was put: the blocks go with its end.
+#[test]
+fn closed_after_put(rt: HostRuntime) -> Result<(), Fail> {
+    let hold = Hold::new(0, Point::Put, (1, 0), Until::Answered);
+    writes_with(&rt, rt.alloc(), GIVE_AND_CLOSE, &hold, GIVEN_AND_RECLAIMED)
+}
+
+/// A give comes when the peer was shut, but none of its messages were taken: the blocks come back.
+#[test]
+fn put_after_shut(rt: HostRuntime) -> Result<(), Fail> {
+    let hold = Hold::new(1, Point::Shut, (0, 1), Until::Answered);
+    writes_with(&rt, rt.alloc(), GIVE_AND_CLOSE, &hold, GIVEN_BACK)
+}
+
+/// The giver is killed when its message was popped, but its block not accepted: the taker gets it.
+#[test]
+fn killed_after_popped(rt: HostRuntime) -> Result<(), Fail> {
+    let hold = Hold::new(1, Point::Popped, (2, 0), Until::Answered);
+    writes_with(
+        &rt,
+        rt.alloc(),
         "process a\n\
          process b\n\
          process c\n\
@@ -64,6 +91,7 @@ const CASES: &[Case] = &[
          a give e 0 x\n\
          b await f y\n\
          c kill a\n",
+        &hold,
         "1 ok 0\n\
          2 ok 1\n\
          3 ok 2\n\
@@ -79,27 +107,7 @@ const CASES: &[Case] = &[
          owned 48\n\
          flight 0\n\
          out 48\n",
-    ),
-];
-
-/// Each script writes its text, and each hold is kept.
-pub(crate) fn all_hold(
-    rt: &(impl Abort + Threads + Wait + Sync),
-    alloc: Global,
-    cases: &[Case],
-) -> Result<(), Fail> {
-    for ((place, point, command), script, wanted) in cases {
-        let hold = Hold::new(*place, *point, *command, Until::Answered);
-        writes_on_threads(rt, alloc, SMALL, script, &hold, wanted)?;
-        assert_case(rt, hold.is_kept(), wanted)?;
-    }
-    Ok(())
-}
-
-/// What comes in the middle of a call is answered as it must be.
-#[test]
-fn points(rt: HostRuntime) -> Result<(), Fail> {
-    all_hold(&rt, rt.alloc(), CASES)
+    )
 }
 
 /// A second killer comes when the first gave back the victim's bytes, but the record is not vacated: they are
@@ -135,6 +143,7 @@ fn two_killers(rt: HostRuntime) -> Result<(), Fail> {
          flight 0\n\
          out 0\n",
     )?;
-    assert!(&rt; gate.order.is_kept() && gate.hold.is_kept());
+    assert!(&rt; gate.order.is_kept());
+    assert!(&rt; gate.hold.is_kept());
     Ok(())
 }

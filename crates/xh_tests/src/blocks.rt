@@ -1,11 +1,14 @@
 //! Blocks: sizes, placement, wear, records.
-use crate::harness::{Case, SMALL, all_write_both_ways};
+use crate::harness::{SMALL, writes_both_ways};
 use std::test::Fail;
 use xh_core::Config;
 
-const BOTH_WAYS: &[Case] = &[
-    // A block of 40 bytes gets 48.
-    (
+/// A block of 40 bytes gets 48.
+#[test]
+fn first_alloc(rt: HostRuntime) -> Result<(), Fail> {
+    writes_both_ways(
+        &rt,
+        rt.alloc(),
         SMALL,
         "process a\n\
          a alloc x 40 0\n",
@@ -16,18 +19,30 @@ const BOTH_WAYS: &[Case] = &[
          owned 48\n\
          flight 0\n\
          out 48\n",
-    ),
-    // A script without commands has a ledger.
-    (
+    )
+}
+
+/// A script without commands has a ledger.
+#[test]
+fn empty_script(rt: HostRuntime) -> Result<(), Fail> {
+    writes_both_ways(
+        &rt,
+        rt.alloc(),
         SMALL,
         "",
         "arena 0 256 0 1 0 0\n\
          owned 0\n\
          flight 0\n\
          out 0\n",
-    ),
-    // Comments and empty lines are no commands.
-    (
+    )
+}
+
+/// Comments and empty lines are no commands.
+#[test]
+fn skipped_lines(rt: HostRuntime) -> Result<(), Fail> {
+    writes_both_ways(
+        &rt,
+        rt.alloc(),
         SMALL,
         "# nothing\n\
          \n",
@@ -35,9 +50,15 @@ const BOTH_WAYS: &[Case] = &[
          owned 0\n\
          flight 0\n\
          out 0\n",
-    ),
-    // Sizes that an arena can't hand out, and an arena that is full.
-    (
+    )
+}
+
+/// Sizes that an arena can't hand out, and an arena that is full.
+#[test]
+fn sizes_and_full_arena(rt: HostRuntime) -> Result<(), Fail> {
+    writes_both_ways(
+        &rt,
+        rt.alloc(),
         SMALL,
         "process a\n\
          a alloc x 0 0\n\
@@ -58,9 +79,15 @@ const BOTH_WAYS: &[Case] = &[
          owned 0\n\
          flight 0\n\
          out 0\n",
-    ),
-    // The lowest hole that is long enough is taken.
-    (
+    )
+}
+
+/// The lowest hole that is long enough is taken.
+#[test]
+fn lowest_address_first(rt: HostRuntime) -> Result<(), Fail> {
+    writes_both_ways(
+        &rt,
+        rt.alloc(),
         Config {
             bytes: 64,
             records: 4,
@@ -91,9 +118,15 @@ const BOTH_WAYS: &[Case] = &[
          owned 64\n\
          flight 0\n\
          out 64\n",
-    ),
-    // Each arena has records of its own.
-    (
+    )
+}
+
+/// Each arena has records of its own.
+#[test]
+fn records_and_arenas_run_out(rt: HostRuntime) -> Result<(), Fail> {
+    writes_both_ways(
+        &rt,
+        rt.alloc(),
         Config {
             arenas: 2,
             bytes: 64,
@@ -116,9 +149,15 @@ const BOTH_WAYS: &[Case] = &[
          owned 48\n\
          flight 0\n\
          out 48\n",
-    ),
-    // An arena hands out no more bytes than its wear allows.
-    (
+    )
+}
+
+/// An arena hands out no more bytes than its wear allows.
+#[test]
+fn worn_arena(rt: HostRuntime) -> Result<(), Fail> {
+    writes_both_ways(
+        &rt,
+        rt.alloc(),
         Config { wear: 96, ..SMALL },
         "process a\n\
          a alloc x 48 0\n\
@@ -139,10 +178,5 @@ const BOTH_WAYS: &[Case] = &[
          owned 0\n\
          flight 0\n\
          out 0\n",
-    ),
-];
-
-#[test]
-fn blocks_both_ways(rt: HostRuntime) -> Result<(), Fail> {
-    all_write_both_ways(&rt, rt.alloc(), BOTH_WAYS)
+    )
 }

@@ -1,10 +1,13 @@
 //! Endings: close, exit, kill, and what they reclaim.
-use crate::harness::{Case, SMALL, all_write, all_write_both_ways};
+use crate::harness::{SMALL, writes, writes_both_ways};
 use std::test::Fail;
 
-const ON_ONE_THREAD: &[Case] = &[
-    // A kill reclaims what waits for an endpoint that waits for the victim's.
-    (
+/// A kill reclaims what waits for an endpoint that waits for the victim's.
+#[test]
+fn kill_reclaims_nested_endpoints(rt: HostRuntime) -> Result<(), Fail> {
+    writes(
+        &rt,
+        rt.alloc(),
         SMALL,
         "process a\n\
          process v\n\
@@ -36,9 +39,15 @@ const ON_ONE_THREAD: &[Case] = &[
          owned 64\n\
          flight 0\n\
          out 64\n",
-    ),
-    // What a process sent before its exit stays receivable.
-    (
+    )
+}
+
+/// What a process sent before its exit stays receivable.
+#[test]
+fn exit_leaves_sent_messages(rt: HostRuntime) -> Result<(), Fail> {
+    writes(
+        &rt,
+        rt.alloc(),
         SMALL,
         "process a\n\
          process b\n\
@@ -66,9 +75,15 @@ const ON_ONE_THREAD: &[Case] = &[
          owned 16\n\
          flight 0\n\
          out 16\n",
-    ),
-    // Who may end whom, and how often.
-    (
+    )
+}
+
+/// Who may end whom, and how often.
+#[test]
+fn exits_and_kills(rt: HostRuntime) -> Result<(), Fail> {
+    writes(
+        &rt,
+        rt.alloc(),
         SMALL,
         "process a\n\
          process b\n\
@@ -94,9 +109,15 @@ const ON_ONE_THREAD: &[Case] = &[
          owned 0\n\
          flight 0\n\
          out 0\n",
-    ),
-    // A kill whose budget is used up leaves the rest in the list.
-    (
+    )
+}
+
+/// A kill whose budget is used up leaves the rest in the list.
+#[test]
+fn unfinished_kill(rt: HostRuntime) -> Result<(), Fail> {
+    writes(
+        &rt,
+        rt.alloc(),
         SMALL,
         "process a\n\
          process b\n\
@@ -116,9 +137,15 @@ const ON_ONE_THREAD: &[Case] = &[
          owned 32\n\
          flight 0\n\
          out 32\n",
-    ),
-    // A later kill goes on where one was left unfinished.
-    (
+    )
+}
+
+/// A later kill goes on where one was left unfinished.
+#[test]
+fn finished_kill(rt: HostRuntime) -> Result<(), Fail> {
+    writes(
+        &rt,
+        rt.alloc(),
         SMALL,
         "process a\n\
          process b\n\
@@ -140,9 +167,38 @@ const ON_ONE_THREAD: &[Case] = &[
          owned 0\n\
          flight 0\n\
          out 0\n",
-    ),
-    // Closing an end reclaims the messages on their way to it.
-    (
+    )
+}
+
+/// An endpoint on its way to itself is never reclaimed.
+#[test]
+fn endpoint_in_flight_to_itself(rt: HostRuntime) -> Result<(), Fail> {
+    writes_both_ways(
+        &rt,
+        rt.alloc(),
+        SMALL,
+        "process a\n\
+         a open e f 0\n\
+         a give e 0 f\n\
+         a exit\n",
+        "1 ok 0\n\
+         2 ok\n\
+         3 ok 1\n\
+         4 ok 32\n\
+         arena 0 256 32 2 64 32\n\
+         process a ended 0 0\n\
+         owned 0\n\
+         flight 32\n\
+         out 32\n",
+    )
+}
+
+/// Closing an end reclaims the messages on their way to it.
+#[test]
+fn close_reclaims_messages(rt: HostRuntime) -> Result<(), Fail> {
+    writes(
+        &rt,
+        rt.alloc(),
         SMALL,
         "process a\n\
          process b\n\
@@ -168,35 +224,5 @@ const ON_ONE_THREAD: &[Case] = &[
          owned 32\n\
          flight 0\n\
          out 32\n",
-    ),
-];
-
-const BOTH_WAYS: &[Case] = &[
-    // An endpoint on its way to itself is never reclaimed.
-    (
-        SMALL,
-        "process a\n\
-         a open e f 0\n\
-         a give e 0 f\n\
-         a exit\n",
-        "1 ok 0\n\
-         2 ok\n\
-         3 ok 1\n\
-         4 ok 32\n\
-         arena 0 256 32 2 64 32\n\
-         process a ended 0 0\n\
-         owned 0\n\
-         flight 32\n\
-         out 32\n",
-    ),
-];
-
-#[test]
-fn endings_on_one_thread(rt: HostRuntime) -> Result<(), Fail> {
-    all_write(&rt, rt.alloc(), ON_ONE_THREAD)
-}
-
-#[test]
-fn endings_both_ways(rt: HostRuntime) -> Result<(), Fail> {
-    all_write_both_ways(&rt, rt.alloc(), BOTH_WAYS)
+    )
 }

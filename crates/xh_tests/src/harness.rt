@@ -20,15 +20,6 @@ pub(crate) const SMALL: Config = Config {
     wear: 9_223_372_036_854_775_807,
 };
 
-/// A config, a script, and what it writes.
-pub(crate) type Case = (Config, &'static str, &'static str);
-
-/// What is asserted of a case holds.
-pub(crate) fn assert_case(rt: &impl Abort, holds: bool, case: &str) -> Result<(), Fail> {
-    assert!(rt; holds, "{case}");
-    Ok(())
-}
-
 /// How a run on the serial machine ended, and what it wrote.
 pub(crate) fn run_alone(
     alloc: Global,
@@ -47,19 +38,25 @@ pub(crate) fn writes(
     rt: &impl Abort,
     alloc: Global,
     config: Config,
+    script: &str,
+    wanted: &str,
+) -> Result<(), Fail> {
+    writes_bytes(rt, alloc, config, script.as_bytes(), wanted)
+}
+
+/// The same, for a script of bytes.
+pub(crate) fn writes_bytes(
+    rt: &impl Abort,
+    alloc: Global,
+    config: Config,
     script: &[u8],
     wanted: &str,
 ) -> Result<(), Fail> {
     let (ended, text) = run_alone(alloc, config, script);
-    let is_wanted = ended == Ok(()) && text.as_slice() == wanted.as_bytes();
-    assert_case(rt, is_wanted, wanted)
-}
-
-/// Each script is run to its end, and writes its text.
-pub(crate) fn all_write(rt: &impl Abort, alloc: Global, cases: &[Case]) -> Result<(), Fail> {
-    for (config, script, wanted) in cases {
-        writes(rt, alloc, *config, script.as_bytes(), wanted)?;
-    }
+    assert!(rt;
+        ended == Ok(()) && text.as_slice() == wanted.as_bytes(),
+        "{wanted}"
+    );
     Ok(())
 }
 
@@ -121,7 +118,8 @@ pub(crate) fn writes_on_threads(
     wanted: &str,
 ) -> Result<(), Fail> {
     let text = run_on_threads(rt, alloc, config, script.as_bytes(), gate)?;
-    assert_case(rt, text.as_slice() == wanted.as_bytes(), wanted)
+    assert!(rt; text.as_slice() == wanted.as_bytes(), "{wanted}");
+    Ok(())
 }
 
 /// The script is run on the serial machine and then on threads, and writes this each time.
@@ -132,18 +130,6 @@ pub(crate) fn writes_both_ways(
     script: &str,
     wanted: &str,
 ) -> Result<(), Fail> {
-    writes(rt, alloc, config, script.as_bytes(), wanted)?;
+    writes(rt, alloc, config, script, wanted)?;
     writes_on_threads(rt, alloc, config, script, &OpenGate, wanted)
-}
-
-/// Each script is run so.
-pub(crate) fn all_write_both_ways(
-    rt: &(impl Abort + Threads + Wait + Sync),
-    alloc: Global,
-    cases: &[Case],
-) -> Result<(), Fail> {
-    for (config, script, wanted) in cases {
-        writes_both_ways(rt, alloc, *config, script, wanted)?;
-    }
-    Ok(())
 }

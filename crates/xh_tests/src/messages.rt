@@ -1,11 +1,14 @@
 //! Messages: blocks that pass from one process to another.
-use crate::harness::{Case, SMALL, all_write, all_write_both_ways};
+use crate::harness::{SMALL, writes, writes_both_ways};
 use std::test::Fail;
 use xh_core::Config;
 
-const ON_ONE_THREAD: &[Case] = &[
-    // Two blocks go to another process, which writes to one and reads it.
-    (
+/// Two blocks go to another process, which writes to one and reads it.
+#[test]
+fn give_take_and_write(rt: HostRuntime) -> Result<(), Fail> {
+    writes(
+        &rt,
+        rt.alloc(),
         SMALL,
         "process a\n\
          process b\n\
@@ -33,9 +36,43 @@ const ON_ONE_THREAD: &[Case] = &[
          owned 128\n\
          flight 0\n\
          out 128\n",
-    ),
-    // A block is cut; its tail keeps its bytes on the way.
-    (
+    )
+}
+
+/// A message that nobody has taken is held by its direction.
+#[test]
+fn in_flight(rt: HostRuntime) -> Result<(), Fail> {
+    writes_both_ways(
+        &rt,
+        rt.alloc(),
+        SMALL,
+        "process a\n\
+         process b\n\
+         wire a e b f 0\n\
+         a alloc x 40 0\n\
+         a alloc y 16 0\n\
+         a give e 7 x y\n",
+        "1 ok 0\n\
+         2 ok 1\n\
+         3 ok\n\
+         4 ok 48\n\
+         5 ok 16\n\
+         6 ok 1\n\
+         arena 0 256 128 1 128 0\n\
+         process a running 1 32\n\
+         process b running 1 32\n\
+         owned 64\n\
+         flight 64\n\
+         out 128\n",
+    )
+}
+
+/// A block is cut; its tail keeps its bytes on the way.
+#[test]
+fn split_and_give_the_tail(rt: HostRuntime) -> Result<(), Fail> {
+    writes(
+        &rt,
+        rt.alloc(),
         SMALL,
         "process a\n\
          process b\n\
@@ -69,9 +106,15 @@ const ON_ONE_THREAD: &[Case] = &[
          owned 96\n\
          flight 0\n\
          out 96\n",
-    ),
-    // The refusals of give, and of uses of the wrong kind of block.
-    (
+    )
+}
+
+/// The refusals of give, and of uses of the wrong kind of block.
+#[test]
+fn refusals_of_give(rt: HostRuntime) -> Result<(), Fail> {
+    writes(
+        &rt,
+        rt.alloc(),
         SMALL,
         "process a\n\
          process b\n\
@@ -107,9 +150,15 @@ const ON_ONE_THREAD: &[Case] = &[
          owned 80\n\
          flight 0\n\
          out 80\n",
-    ),
-    // A direction of depth one is full after one message.
-    (
+    )
+}
+
+/// A direction of depth one is full after one message.
+#[test]
+fn full_direction(rt: HostRuntime) -> Result<(), Fail> {
+    writes(
+        &rt,
+        rt.alloc(),
         Config { depth: 1, ..SMALL },
         "process a\n\
          process b\n\
@@ -135,9 +184,15 @@ const ON_ONE_THREAD: &[Case] = &[
          owned 80\n\
          flight 16\n\
          out 96\n",
-    ),
-    // A contract lets each end send in its turn alone.
-    (
+    )
+}
+
+/// A contract lets each end send in its turn alone.
+#[test]
+fn contract_refusals(rt: HostRuntime) -> Result<(), Fail> {
+    writes(
+        &rt,
+        rt.alloc(),
         SMALL,
         "contract k 0:1:0:1 1:2:1:0\n\
          process a\n\
@@ -171,40 +226,5 @@ const ON_ONE_THREAD: &[Case] = &[
          owned 64\n\
          flight 0\n\
          out 64\n",
-    ),
-];
-
-const BOTH_WAYS: &[Case] = &[
-    // A message that nobody has taken is held by its direction.
-    (
-        SMALL,
-        "process a\n\
-         process b\n\
-         wire a e b f 0\n\
-         a alloc x 40 0\n\
-         a alloc y 16 0\n\
-         a give e 7 x y\n",
-        "1 ok 0\n\
-         2 ok 1\n\
-         3 ok\n\
-         4 ok 48\n\
-         5 ok 16\n\
-         6 ok 1\n\
-         arena 0 256 128 1 128 0\n\
-         process a running 1 32\n\
-         process b running 1 32\n\
-         owned 64\n\
-         flight 64\n\
-         out 128\n",
-    ),
-];
-
-#[test]
-fn messages_on_one_thread(rt: HostRuntime) -> Result<(), Fail> {
-    all_write(&rt, rt.alloc(), ON_ONE_THREAD)
-}
-
-#[test]
-fn messages_both_ways(rt: HostRuntime) -> Result<(), Fail> {
-    all_write_both_ways(&rt, rt.alloc(), BOTH_WAYS)
+    )
 }

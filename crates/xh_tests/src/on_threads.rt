@@ -1,6 +1,6 @@
 //! Scripts on threads, with what they print and with gates.
 use crate::gates::{Meeting, Order, Stop};
-use crate::harness::{Case, SMALL, assert_case, run_on_threads, writes_on_threads};
+use crate::harness::{SMALL, run_on_threads, writes_on_threads};
 use std::test::Fail;
 use xh_core::Config;
 use xh_runner::OpenGate;
@@ -66,9 +66,12 @@ fn bad_configs_on_threads(rt: HostRuntime) -> Result<(), Fail> {
     Ok(())
 }
 
-const CASES: &[Case] = &[
-    // A block is cut, and its tail is given.
-    (
+/// A block is cut, and its tail is given.
+#[test]
+fn split_and_give_the_tail(rt: HostRuntime) -> Result<(), Fail> {
+    writes_on_threads(
+        &rt,
+        rt.alloc(),
         SMALL,
         "process a\n\
          process b\n\
@@ -79,6 +82,7 @@ const CASES: &[Case] = &[
          a split x 20 t\n\
          a write x 16 0102\n\
          a split x 16 t\n",
+        &OpenGate,
         "1 ok 0\n\
          2 ok 1\n\
          3 ok\n\
@@ -94,9 +98,15 @@ const CASES: &[Case] = &[
          owned 112\n\
          flight 0\n\
          out 112\n",
-    ),
-    // A refused give gets its blocks back.
-    (
+    )
+}
+
+/// A refused give gets its blocks back.
+#[test]
+fn full_direction(rt: HostRuntime) -> Result<(), Fail> {
+    writes_on_threads(
+        &rt,
+        rt.alloc(),
         Config { depth: 1, ..SMALL },
         "process a\n\
          process b\n\
@@ -105,6 +115,7 @@ const CASES: &[Case] = &[
          a alloc y 16 0\n\
          a give e 0 x\n\
          a give e 0 y\n",
+        &OpenGate,
         "1 ok 0\n\
          2 ok 1\n\
          3 ok\n\
@@ -118,52 +129,17 @@ const CASES: &[Case] = &[
          owned 80\n\
          flight 16\n\
          out 96\n",
-    ),
-    // Both ends of a contract wait for their turns.
-    (
-        SMALL,
-        "contract k 0:1:0:1 1:2:1:0\n\
-         process a\n\
-         process b\n\
-         wire a e b f 0 k\n\
-         a give e 1\n\
-         b await f\n\
-         b give f 2\n\
-         a await e\n\
-         a give e 1\n",
-        "1 ok\n\
-         2 ok 0\n\
-         3 ok 1\n\
-         4 ok\n\
-         5 ok 1\n\
-         6 ok 1 1\n\
-         7 ok 1\n\
-         8 ok 1 2\n\
-         9 ok 2\n\
-         arena 0 256 64 1 64 0\n\
-         process a running 1 32\n\
-         process b running 1 32\n\
-         owned 64\n\
-         flight 0\n\
-         out 64\n",
-    ),
-];
-
-/// Scripts whose processes keep no order but that of their messages.
-#[test]
-fn scripts_on_threads(rt: HostRuntime) -> Result<(), Fail> {
-    for (config, script, wanted) in CASES {
-        writes_on_threads(&rt, rt.alloc(), *config, script, &OpenGate, wanted)?;
-    }
-    Ok(())
+    )
 }
 
-/// A command, by its place and number, and one that is held until it was answered; the script; and what it writes.
-const IN_ORDER: &[((u8, u32), (u8, u32), &str, &str)] = &[
-    // Commands of a process without a place are answered too.
-    (
-        (0, 5),
-        (0, 6),
+/// Commands of a process without a place are answered too.
+#[test]
+fn glances(rt: HostRuntime) -> Result<(), Fail> {
+    let gate = Order::new((0, 5), (0, 6));
+    writes_on_threads(
+        &rt,
+        rt.alloc(),
+        SMALL,
         "process a\n\
          process b\n\
          a glance a\n\
@@ -175,6 +151,7 @@ const IN_ORDER: &[((u8, u32), (u8, u32), &str, &str)] = &[
          a glance b\n\
          c glance a\n\
          a glance c\n",
+        &gate,
         "1 ok 0\n\
          2 ok 1\n\
          3 ok 0 0\n\
@@ -192,11 +169,54 @@ const IN_ORDER: &[((u8, u32), (u8, u32), &str, &str)] = &[
          owned 0\n\
          flight 0\n\
          out 0\n",
-    ),
-    // A worker goes on with its new number, and the others know it by its name.
-    (
-        (0, 2),
-        (1, 0),
+    )?;
+    assert!(&rt; gate.is_kept());
+    Ok(())
+}
+
+/// Both ends of a contract wait for their turns.
+#[test]
+fn contract_in_turns(rt: HostRuntime) -> Result<(), Fail> {
+    writes_on_threads(
+        &rt,
+        rt.alloc(),
+        SMALL,
+        "contract k 0:1:0:1 1:2:1:0\n\
+         process a\n\
+         process b\n\
+         wire a e b f 0 k\n\
+         a give e 1\n\
+         b await f\n\
+         b give f 2\n\
+         a await e\n\
+         a give e 1\n",
+        &OpenGate,
+        "1 ok\n\
+         2 ok 0\n\
+         3 ok 1\n\
+         4 ok\n\
+         5 ok 1\n\
+         6 ok 1 1\n\
+         7 ok 1\n\
+         8 ok 1 2\n\
+         9 ok 2\n\
+         arena 0 256 64 1 64 0\n\
+         process a running 1 32\n\
+         process b running 1 32\n\
+         owned 64\n\
+         flight 0\n\
+         out 64\n",
+    )
+}
+
+/// A worker goes on with its new number, and the others know it by its name.
+#[test]
+fn again_is_known_to_all(rt: HostRuntime) -> Result<(), Fail> {
+    let gate = Order::new((0, 2), (1, 0));
+    writes_on_threads(
+        &rt,
+        rt.alloc(),
+        SMALL,
         "process a\n\
          process b\n\
          a exit\n\
@@ -204,6 +224,7 @@ const IN_ORDER: &[((u8, u32), (u8, u32), &str, &str)] = &[
          a alloc x 16 0\n\
          b kill a\n\
          b glance a\n",
+        &gate,
         "1 ok 0\n\
          2 ok 1\n\
          3 ok 0\n\
@@ -217,16 +238,7 @@ const IN_ORDER: &[((u8, u32), (u8, u32), &str, &str)] = &[
          owned 0\n\
          flight 0\n\
          out 0\n",
-    ),
-];
-
-/// Scripts of which one command comes after another.
-#[test]
-fn scripts_in_order(rt: HostRuntime) -> Result<(), Fail> {
-    for (earlier, later, script, wanted) in IN_ORDER {
-        let gate = Order::new(*earlier, *later);
-        writes_on_threads(&rt, rt.alloc(), SMALL, script, &gate, wanted)?;
-        assert_case(&rt, gate.is_kept(), wanted)?;
-    }
+    )?;
+    assert!(&rt; gate.is_kept());
     Ok(())
 }

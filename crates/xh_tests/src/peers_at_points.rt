@@ -1,5 +1,6 @@
 //! The other end of a channel is closed, or its process killed, at a point of a call.
-use crate::at_points::{Case, all_hold};
+use crate::at_points::writes_with;
+use crate::holds::{Hold, Until};
 use std::test::Fail;
 use xh_runner::Point;
 
@@ -58,15 +59,19 @@ const CLOSED_AND_KILLED: &str = "1 ok 0\n\
     flight 0\n\
     out 0\n";
 
-const CASES: &[Case] = &[
-    // A record was claimed, and the peer closes: the bytes come from the lowest hole, which is where its end was.
-    (
-        (1, Point::Claimed, (0, 0)),
+/// A record was claimed, and the peer closes: the bytes come from the lowest hole, which is where its end was.
+#[test]
+fn closed_after_claimed(rt: HostRuntime) -> Result<(), Fail> {
+    let hold = Hold::new(1, Point::Claimed, (0, 0), Until::Answered);
+    writes_with(
+        &rt,
+        rt.alloc(),
         "process a\n\
          process b\n\
          wire a e b f 0\n\
          b alloc x 32 0\n\
          a close e\n",
+        &hold,
         "1 ok 0\n\
          2 ok 1\n\
          3 ok\n\
@@ -78,16 +83,23 @@ const CASES: &[Case] = &[
          owned 64\n\
          flight 0\n\
          out 64\n",
-    ),
-    // The same, where the peer is killed.
-    (
-        (1, Point::Claimed, (2, 0)),
+    )
+}
+
+/// The same, where the peer is killed.
+#[test]
+fn killed_after_claimed(rt: HostRuntime) -> Result<(), Fail> {
+    let hold = Hold::new(1, Point::Claimed, (2, 0), Until::Answered);
+    writes_with(
+        &rt,
+        rt.alloc(),
         "process a\n\
          process b\n\
          process c\n\
          wire a e b f 0\n\
          b alloc x 32 0\n\
          c kill a\n",
+        &hold,
         "1 ok 0\n\
          2 ok 1\n\
          3 ok 2\n\
@@ -101,11 +113,18 @@ const CASES: &[Case] = &[
          owned 64\n\
          flight 0\n\
          out 64\n",
-    ),
-    // The peer is killed when the words of a give were passed, but nothing was put: the blocks come back.
-    (
-        (0, Point::Passed, (2, 0)),
+    )
+}
+
+/// The peer is killed when the words of a give were passed, but nothing was put: the blocks come back.
+#[test]
+fn killed_after_passed(rt: HostRuntime) -> Result<(), Fail> {
+    let hold = Hold::new(0, Point::Passed, (2, 0), Until::Answered);
+    writes_with(
+        &rt,
+        rt.alloc(),
         GIVE_AND_KILL,
+        &hold,
         "1 ok 0\n\
          2 ok 1\n\
          3 ok 2\n\
@@ -120,11 +139,18 @@ const CASES: &[Case] = &[
          owned 48\n\
          flight 0\n\
          out 48\n",
-    ),
-    // The peer is killed when the message was put: the blocks go with it.
-    (
-        (0, Point::Put, (2, 0)),
+    )
+}
+
+/// The peer is killed when the message was put: the blocks go with it.
+#[test]
+fn killed_after_put(rt: HostRuntime) -> Result<(), Fail> {
+    let hold = Hold::new(0, Point::Put, (2, 0), Until::Answered);
+    writes_with(
+        &rt,
+        rt.alloc(),
         GIVE_AND_KILL,
+        &hold,
         "1 ok 0\n\
          2 ok 1\n\
          3 ok 2\n\
@@ -139,10 +165,16 @@ const CASES: &[Case] = &[
          owned 32\n\
          flight 0\n\
          out 32\n",
-    ),
-    // The giver closes when its message was popped, but its block not accepted: the taker gets it.
-    (
-        (1, Point::Popped, (0, 2)),
+    )
+}
+
+/// The giver closes when its message was popped, but its block not accepted: the taker gets it.
+#[test]
+fn closed_after_popped(rt: HostRuntime) -> Result<(), Fail> {
+    let hold = Hold::new(1, Point::Popped, (0, 2), Until::Answered);
+    writes_with(
+        &rt,
+        rt.alloc(),
         "process a\n\
          process b\n\
          wire a e b f 0\n\
@@ -150,6 +182,7 @@ const CASES: &[Case] = &[
          a give e 0 x\n\
          b await f y\n\
          a close e\n",
+        &hold,
         "1 ok 0\n\
          2 ok 1\n\
          3 ok\n\
@@ -163,31 +196,45 @@ const CASES: &[Case] = &[
          owned 48\n\
          flight 0\n\
          out 48\n",
-    ),
-    // Both ends are closed at once: the peer closes when an end was shut. What was on its way goes with the end that it was for.
-    ((1, Point::Shut, (0, 0)), GIVE_AND_CLOSE_BOTH, BOTH_CLOSED),
-    // The peer is killed when an end was shut.
-    (
-        (1, Point::Shut, (2, 0)),
-        GIVE_CLOSE_AND_KILL,
-        CLOSED_AND_KILLED,
-    ),
-    // The peer closes when the bytes of a closed end were given back, but its record is not vacated.
-    (
-        (1, Point::Returned, (0, 0)),
-        GIVE_AND_CLOSE_BOTH,
-        BOTH_CLOSED,
-    ),
-    // The peer is killed when the bytes of a closed end were given back.
-    (
-        (1, Point::Returned, (2, 0)),
-        GIVE_CLOSE_AND_KILL,
-        CLOSED_AND_KILLED,
-    ),
-];
+    )
+}
 
-/// What the peer does in the middle of a call is answered as it must be.
+/// Both ends are closed at once: the peer closes when an end was shut. What was on its way goes with the end that it was for.
 #[test]
-fn peers_at_points(rt: HostRuntime) -> Result<(), Fail> {
-    all_hold(&rt, rt.alloc(), CASES)
+fn closed_after_shut(rt: HostRuntime) -> Result<(), Fail> {
+    let hold = Hold::new(1, Point::Shut, (0, 0), Until::Answered);
+    writes_with(&rt, rt.alloc(), GIVE_AND_CLOSE_BOTH, &hold, BOTH_CLOSED)
+}
+
+/// The peer is killed when an end was shut.
+#[test]
+fn killed_after_shut(rt: HostRuntime) -> Result<(), Fail> {
+    let hold = Hold::new(1, Point::Shut, (2, 0), Until::Answered);
+    writes_with(
+        &rt,
+        rt.alloc(),
+        GIVE_CLOSE_AND_KILL,
+        &hold,
+        CLOSED_AND_KILLED,
+    )
+}
+
+/// The peer closes when the bytes of a closed end were given back, but its record is not vacated.
+#[test]
+fn closed_after_returned(rt: HostRuntime) -> Result<(), Fail> {
+    let hold = Hold::new(1, Point::Returned, (0, 0), Until::Answered);
+    writes_with(&rt, rt.alloc(), GIVE_AND_CLOSE_BOTH, &hold, BOTH_CLOSED)
+}
+
+/// The peer is killed when the bytes of a closed end were given back.
+#[test]
+fn killed_after_returned(rt: HostRuntime) -> Result<(), Fail> {
+    let hold = Hold::new(1, Point::Returned, (2, 0), Until::Answered);
+    writes_with(
+        &rt,
+        rt.alloc(),
+        GIVE_CLOSE_AND_KILL,
+        &hold,
+        CLOSED_AND_KILLED,
+    )
 }

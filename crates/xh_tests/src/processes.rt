@@ -1,10 +1,13 @@
 //! Processes: glances, and places that are used again.
-use crate::harness::{Case, SMALL, all_write};
+use crate::harness::{SMALL, writes};
 use std::test::Fail;
 
-const ON_ONE_THREAD: &[Case] = &[
-    // A glance tells how many blocks a process holds, and their bytes.
-    (
+/// A glance tells how many blocks a process holds, and their bytes.
+#[test]
+fn glances(rt: HostRuntime) -> Result<(), Fail> {
+    writes(
+        &rt,
+        rt.alloc(),
         SMALL,
         "process a\n\
          process b\n\
@@ -34,9 +37,15 @@ const ON_ONE_THREAD: &[Case] = &[
          owned 0\n\
          flight 0\n\
          out 0\n",
-    ),
-    // A process that has ended asks for a place once more; its names are forgotten.
-    (
+    )
+}
+
+/// A process that has ended asks for a place once more; its names are forgotten.
+#[test]
+fn again_and_kill(rt: HostRuntime) -> Result<(), Fail> {
+    writes(
+        &rt,
+        rt.alloc(),
         SMALL,
         "process a\n\
          process b\n\
@@ -66,9 +75,15 @@ const ON_ONE_THREAD: &[Case] = &[
          owned 0\n\
          flight 0\n\
          out 0\n",
-    ),
-    // Another process may get the place of one that has ended.
-    (
+    )
+}
+
+/// Another process may get the place of one that has ended.
+#[test]
+fn places_by_generation(rt: HostRuntime) -> Result<(), Fail> {
+    writes(
+        &rt,
+        rt.alloc(),
         SMALL,
         "process a\n\
          process b\n\
@@ -90,10 +105,5 @@ const ON_ONE_THREAD: &[Case] = &[
          owned 0\n\
          flight 0\n\
          out 0\n",
-    ),
-];
-
-#[test]
-fn processes_on_one_thread(rt: HostRuntime) -> Result<(), Fail> {
-    all_write(&rt, rt.alloc(), ON_ONE_THREAD)
+    )
 }
