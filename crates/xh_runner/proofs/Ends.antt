@@ -1,6 +1,6 @@
 -- Lemmas on how a run ends.
 use Rattle.std.specs.Io.KnownBytes.{Consumes}
-use Rattle.std.proofs.Common.{◌≡◌, ◌≤◌, ◌<◌, ◌++◌, ◌+◌, ◌-◌, append_assoc, length-append, arith, Some, None, ℕ, Bool, true, false, List, length, nat_lt, if◌then◌else◌, Option, Result, Ok, Err, OnOk}
+use Rattle.std.proofs.Common.{◌≡◌, ◌≤◌, ◌++◌, ◌+◌, append_assoc, length-append, arith, Some, None, ℕ, Bool, true, false, List, length, nat_lt, if◌then◌else◌, Option, Result, Ok, Err, OnOk}
 use Rattle.std.proofs.Common.{IfErr, refl, ap, sym, subst, ◌∙◌}
 use Rattle.std.proofs.lemmas.Bool.{ltb-false}
 use Rattle.xh_script.specs.declared.limits.TheConstants.{MAX_SCRIPT}
@@ -23,10 +23,6 @@ Reads-then remaining first now next text bytes more p q e = record {
   taken = subst (λ (t : List ℕ). Consumes (remaining (inner_of first)) (remaining (inner_of next)) t) (sym e) (Consumes-then _ _ _ text bytes p.taken q.taken);
   still = q.still ∙ p.still;
 }
-
--- fewer bytes are wanted once some were read
-pub fewer : (text bytes more : List ℕ) (n : ℕ) → more ≡ text ++ bytes → length bytes ≡ n → (n ≡ 0 → ⊥) → length text ≤ MAX_SCRIPT → MAX_SCRIPT + 1 - length more < MAX_SCRIPT + 1 - length text
-fewer text bytes more n e l some short = let long : length more ≡ length text + length bytes = ap length e ∙ length-append text bytes in omega (arith, long)
 
 pub length_both : (x y : List ℕ) (a b : ℕ) → length x ≡ a → length y ≤ b → a + b ≤ MAX_SCRIPT + 1 → length (x ++ y) ≤ MAX_SCRIPT + 1
 length_both x y a b e h s = simp length-append (omega arith)

@@ -1,6 +1,6 @@
 use Rattle.std.proofs.Common.{◌≤◌, ◌+◌, ◌++◌, ℕ, List, refl, rules, sym, subst, take, length}
 use Rattle.xh_script.specs.declared.limits.TheConstants.{MAX_SCRIPT}
-use Rattle.xh_runner.proofs.Ends.{Consumes-then, Reads-then, fewer, length_both}
+use Rattle.xh_runner.proofs.Ends.{Consumes-then, Reads-then, length_both}
 use Rattle.xh_runner.proofs.input.read_text.Given.{Over}
 use Rattle.xh_runner.proofs.input.read_text.Goals.{In_ok-n}
 use Rattle.xh_runner.proofs.input.read_text.Goals as goal
@@ -19,17 +19,6 @@ loop-room-preserved g c =
       reads = Reads-then g.R.Read.remaining _ _ _ c.loop-room.text.items some.1.0 _ c.loop-room.invariant.reads some.1.2 some.1.3;
       short = short g (goal.at.loop-room-preserved g c).In_ok-n;
     }
-
-pub loop-room-smaller : goal.loop-room-smaller
-loop-room-smaller g c =
-    let some = c.in_ok-n.ensures.ok in fewer c.loop-room.text.items some.1.0 c.read_some.new.text.items c.in_ok-n.n some.1.3 some.1.1 c.if-n-eq0.false (search rules)
-
-pub returns-then-n-eq0-clause-ok : goal.returns-then-n-eq0-clause-ok
-returns-then-n-eq0-clause-ok g c =
-    let some = c.in_ok-n.ensures.ok in (
-      (Reads-then g.R.Read.remaining _ _ _ c.loop-room.text.items some.1.0 _ c.loop-room.invariant.reads some.1.2 some.1.3, λ _. c.in_ok-n.ensures.end c.if-n-eq0.true),
-      short g (goal.at.returns-then-n-eq0-clause-ok g c).In_ok-n,
-    )
 
 pub returns-in_err-n-clause-limit : goal.returns-in_err-n-clause-limit
 returns-in_err-n-clause-limit g c =
