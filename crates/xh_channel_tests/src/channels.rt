@@ -9,53 +9,92 @@ mod waits;
 
 use answers::Answer::{self, Refused as No, Sent, Shut as Closed, Taken, Turn};
 use answers::Call::{self, Put, Shut, Take, Turn as Look};
-use answers::{assert_answers, assert_on, opened};
+use answers::{Ends, Pair, assert_answers, assert_on, next_ends, of_put, opened};
 use arrayvec::ArrayVec;
+use std::alloc::Global;
 use std::process::Abort;
 use std::sync::Wait;
 use std::test::Fail;
 use xh_channel::{Channels, Endpoint, Refused, Spot, Unsent, compare};
 
-fn is_at(spot: Spot, channel: u8, side: u8) -> bool {
-    spot.channel == channel && spot.side == side
+/// The number that a refusal has in the heap.
+fn number_in_heap(refused: Refused) -> u8 {
+    xh_core::Refused::from(refused).number()
+}
+
+/// The number that a refusal of a put has in the heap.
+fn unsent_in_heap(unsent: Unsent) -> u8 {
+    xh_core::Refused::from(unsent).number()
+}
+
+/// Whether these are the sides 0 and 1 of the channel.
+fn are_sides_of(channel: u8, low: Spot, high: Spot) -> bool {
+    let channels = low.channel == channel && high.channel == channel;
+    channels && low.side == 0 && high.side == 1
 }
 
 fn opens_at<R: Wait>(rt: &R, channels: &Channels, channel: u8) -> bool {
-    match channels.open(rt) {
-        Ok((low, high)) => is_at(low.spot(), channel, 0) && is_at(high.spot(), channel, 1),
+    match next_ends(rt, channels) {
+        Ok(ends) => {
+            let (low, high) = (ends.low.spot(), ends.high.spot());
+            drop(ends);
+            are_sides_of(channel, low, high)
+        }
         Err(_) => false,
     }
 }
 
 #[test]
 fn a_cancelled_number_is_free_again(rt: HostRuntime) -> Result<(), Fail> {
-    let (channels, low, high) = opened(&rt, rt.alloc(), 1)?;
-    assert!(rt; is_at(low.spot(), 0, 0) && is_at(high.spot(), 0, 1));
-    channels.cancel(&rt, low, high);
-    assert!(rt; opens_at(&rt, &channels, 0));
+    let Pair { channels, ends } = opened(&rt, rt.alloc(), 1)?;
+    let first = are_sides_of(0, ends.low.spot(), ends.high.spot());
+    channels.cancel(&rt, ends.low, ends.high);
+    let free = opens_at(&rt, &channels, 0);
+    drop(channels);
+    assert!(rt; first && free);
+    Ok(())
+}
+
+/// A pair of others goes back to them, and is no number of these channels, of which the first is open.
+fn assert_goes_back<R: Wait + Abort>(
+    rt: &R,
+    alloc: Global,
+    channels: &Channels,
+) -> Result<(), Refused> {
+    let Pair {
+        channels: others,
+        ends,
+    } = opened(rt, alloc, 2)?;
+    channels.cancel(rt, ends.low, ends.high);
+    let free = (opens_at(rt, channels, 1), opens_at(rt, &others, 0));
+    drop(others);
+    assert_eq!(rt; free, (true, true));
     Ok(())
 }
 
 #[test]
 fn a_pair_of_other_channels_goes_back_there(rt: HostRuntime) -> Result<(), Fail> {
-    let (channels, _low, _high) = opened(&rt, rt.alloc(), 1)?;
-    let (others, low, high) = opened(&rt, rt.alloc(), 2)?;
-    channels.cancel(&rt, low, high);
-    assert!(rt; opens_at(&rt, &channels, 1));
-    assert!(rt; opens_at(&rt, &others, 0));
-    Ok(())
+    let pair = opened(&rt, rt.alloc(), 1)?;
+    let went = assert_goes_back(&rt, rt.alloc(), &pair.channels);
+    drop(pair);
+    Ok(went?)
+}
+
+/// The number of the refusal of channels of a depth, or 0 where they are made.
+fn number_of(alloc: Global, depth: u8) -> u8 {
+    match Channels::new(alloc, depth) {
+        Ok(channels) => {
+            drop(channels);
+            0
+        }
+        Err(refused) => number_in_heap(refused),
+    }
 }
 
 #[test]
 fn a_depth_is_one_to_sixteen(rt: HostRuntime) {
-    for depth in [0, 17, 255] {
-        assert!(rt;
-            matches!(Channels::new(rt.alloc(), depth), Err(Refused::BadSize)),
-            "depth {depth}"
-        );
-    }
-    for depth in [1, 16] {
-        assert!(rt; Channels::new(rt.alloc(), depth).is_ok(), "depth {depth}");
+    for (depth, number) in [(0, 2), (17, 2), (255, 2), (1, 0), (16, 0)] {
+        assert_eq!(rt; number_of(rt.alloc(), depth), number, "depth {depth}");
     }
 }
 
@@ -75,18 +114,30 @@ fn direction_until_shut(rt: HostRuntime) -> Result<(), Fail> {
     Ok(())
 }
 
+/// The number of the refusal of one channel more, or 0 where it opens.
+fn refusal_of_open<R: Wait>(rt: &R, channels: &Channels) -> u8 {
+    match next_ends(rt, channels) {
+        Ok(ends) => {
+            drop(ends);
+            0
+        }
+        Err(refused) => number_in_heap(refused),
+    }
+}
+
 /// As many open as there are, each with the lowest number that is free, and then none.
 fn assert_all_open<R: Wait + Abort>(rt: &R, channels: &Channels) {
     for channel in 0..64 {
         assert!(rt; opens_at(rt, channels, channel), "channel {channel}");
     }
-    assert!(rt; matches!(channels.open(rt), Err(Refused::NoChannel)));
+    assert_eq!(rt; refusal_of_open(rt, channels), 13);
 }
 
 #[test]
 fn channels_run_out(rt: HostRuntime) -> Result<(), Fail> {
     let channels = Channels::new(rt.alloc(), 1)?;
     assert_all_open(&rt, &channels);
+    drop(channels);
     Ok(())
 }
 
@@ -127,10 +178,13 @@ fn takes_all_blocks<R: Wait>(rt: &R, channels: &Channels, end: &mut Endpoint) ->
 
 #[test]
 fn a_message_has_all_its_blocks(rt: HostRuntime) -> Result<(), Fail> {
-    let (channels, mut low, mut high) = opened(&rt, rt.alloc(), 1)?;
-    let sent = channels.put(&rt, &mut low, 5, ArrayVec::from(BLOCKS));
-    assert!(rt; sent.is_ok());
-    assert!(rt; takes_all_blocks(&rt, &channels, &mut high));
+    let mut pair = opened(&rt, rt.alloc(), 1)?;
+    let channels = &pair.channels;
+    let sent = of_put(channels.put(&rt, &mut pair.ends.low, 5, ArrayVec::from(BLOCKS)));
+    let came = takes_all_blocks(&rt, channels, &mut pair.ends.high);
+    drop(pair);
+    assert_eq!(rt; sent, Sent(1));
+    assert!(rt; came);
     Ok(())
 }
 
@@ -164,85 +218,65 @@ fn assert_unwaited<R: Wait + Abort>(rt: &R, channels: &Channels) {
 
 #[test]
 fn a_turn_that_was_not_seen_is_not_waited_for(rt: HostRuntime) -> Result<(), Fail> {
-    let (channels, mut low, _high) = opened(&rt, rt.alloc(), 1)?;
-    channels.shut(&rt, &mut low);
-    assert_unwaited(&rt, &channels);
+    let mut pair = opened(&rt, rt.alloc(), 1)?;
+    pair.channels.shut(&rt, &mut pair.ends.low);
+    assert_unwaited(&rt, &pair.channels);
+    drop(pair);
     Ok(())
 }
 
 #[test]
 fn both_ends_of_a_direction_are_compared(rt: HostRuntime) -> Result<(), Fail> {
-    let (channels, mut low, mut high) = opened(&rt, rt.alloc(), 2)?;
-    let before = [
+    const BEFORE: &[(u8, Call, Answer)] = &[
         (0, Put(5, Some(7)), Sent(1)),
         (0, Put(6, Some(8)), Sent(2)),
         (1, Take, Taken(1, 5, Some(7))),
     ];
-    assert_answers(&rt, &channels, &mut low, &mut high, &before);
-    let (mut low, mut high) = compare(low, high);
-    let after = [
+    const AFTER: &[(u8, Call, Answer)] = &[
         (0, Put(7, Some(9)), Sent(3)),
         (1, Take, Taken(2, 6, Some(8))),
         (1, Take, Taken(3, 7, Some(9))),
     ];
-    assert_answers(&rt, &channels, &mut low, &mut high, &after);
+    let Pair { channels, mut ends } = opened(&rt, rt.alloc(), 2)?;
+    assert_answers(&rt, &channels, &mut ends, BEFORE);
+    let (low, high) = compare(ends.low, ends.high);
+    let mut ends = Ends { low, high };
+    assert_answers(&rt, &channels, &mut ends, AFTER);
+    drop(Pair { channels, ends });
     Ok(())
 }
 
+/// With the first growth refused there are no channels; then there are, and they carry a message.
 #[test]
 fn a_refused_growth_leaves_nothing(rt: HostRuntime) {
-    let first = Channels::new(rt.alloc(), 2);
-    assert!(rt; matches!(&first, Ok(_) | Err(Refused::OutOfMemory)));
-    let was_refused = first.is_err();
-    let second = opened(&rt, rt.alloc(), 2);
-    assert!(rt; second.is_ok() || !was_refused);
-    if let Ok((channels, mut low, mut high)) = second {
-        let calls = [
-            (0, Put(5, Some(7)), Sent(1)),
-            (1, Take, Taken(1, 5, Some(7))),
-        ];
-        assert_answers(&rt, &channels, &mut low, &mut high, &calls);
-    }
+    const CALLS: &[(u8, Call, Answer)] = &[
+        (0, Put(5, Some(7)), Sent(1)),
+        (1, Take, Taken(1, 5, Some(7))),
+    ];
+    let first = number_of(rt.alloc(), 2);
+    assert!(rt; first == 0 || first == 1);
+    let second = assert_on(&rt, rt.alloc(), 2, CALLS);
+    assert!(rt; second.is_ok() || first == 0);
 }
 
 #[test]
 fn the_heap_knows_each_refusal(rt: HostRuntime) {
-    for (refused, number) in [
-        (Refused::OutOfMemory, 1),
-        (Refused::BadSize, 2),
-        (Refused::NoChannel, 13),
-        (
-            Refused::PeerClosed {
-                back: ArrayVec::new(),
-            },
-            15,
-        ),
-        (Refused::Empty, 16),
-    ] {
-        assert_eq!(rt; xh_core::Refused::from(refused).number(), number);
-    }
-    for (unsent, number) in [
-        (
-            Unsent::Full {
-                back: ArrayVec::new(),
-            },
-            14,
-        ),
-        (
-            Unsent::PeerClosed {
-                back: ArrayVec::new(),
-            },
-            15,
-        ),
-        (
-            Unsent::Protocol {
-                back: ArrayVec::new(),
-            },
-            22,
-        ),
-    ] {
-        assert_eq!(rt; xh_core::Refused::from(unsent).number(), number);
-    }
+    let back = ArrayVec::new();
+    let refusals = [
+        number_in_heap(Refused::OutOfMemory),
+        number_in_heap(Refused::BadSize),
+        number_in_heap(Refused::NoChannel),
+        number_in_heap(Refused::PeerClosed { back }),
+        number_in_heap(Refused::Empty),
+    ];
+    assert_eq!(rt; refusals, [1, 2, 13, 15, 16]);
+    let (full, closed, protocol) = (ArrayVec::new(), ArrayVec::new(), ArrayVec::new());
+    let unsent = [
+        unsent_in_heap(Unsent::Full { back: full }),
+        unsent_in_heap(Unsent::PeerClosed { back: closed }),
+        unsent_in_heap(Unsent::Protocol { back: protocol }),
+    ];
+    assert_eq!(rt; unsent, [14, 15, 22]);
 }
 
 #[test]

@@ -1,5 +1,5 @@
 //! Calls on a channel or a line and what they answer, to be compared.
-ghost use Rattle.std.specs.Prelude.{◌<◌, IfOk};
+ghost use Rattle.std.specs.Prelude.{◌≡◌, ◌<◌, IfOk, false};
 ghost use Rattle.xh_channel.specs.Pairs.{IsPair};
 ghost use Rattle.xh_channel.specs.Queues.{IsSameEnd};
 
@@ -58,17 +58,37 @@ pub(super) fn of_take(answered: Result<Message, Refused>) -> Answer {
     }
 }
 
+/// Both ends of a channel.
+#[derive(Drop)]
+pub(super) struct Ends {
+    pub(super) low: Endpoint,
+    pub(super) high: Endpoint,
+}
+
+/// Channels, and both ends of one of them.
+#[derive(Drop)]
+pub(super) struct Pair {
+    pub(super) channels: Channels,
+    pub(super) ends: Ends,
+}
+
+/// Both ends of the next channel.
+pub(super) fn next_ends<R: Wait>(rt: &R, channels: &Channels) -> Result<Ends, Refused>
+    ensures pair { IfOk result (λ e. IsPair e.low e.high) }
+    ensures free { IfOk result (λ e. (e.low.has_contract ≡ false) × (e.high.has_contract ≡ false)) }
+{
+    let (low, high) = channels.open(rt)?;
+    Ok(Ends { low, high })
+}
+
 /// Channels of a depth, and both ends of the first.
-pub(super) fn opened<R: Wait>(
-    rt: &R,
-    alloc: Global,
-    depth: u8,
-) -> Result<(Channels, Endpoint, Endpoint), Refused>
-    ensures { IfOk result (λ all. IsPair all.1 all.2) }
+pub(super) fn opened<R: Wait>(rt: &R, alloc: Global, depth: u8) -> Result<Pair, Refused>
+    ensures pair { IfOk result (λ p. IsPair p.ends.low p.ends.high) }
+    ensures free { IfOk result (λ p. (p.ends.low.has_contract ≡ false) × (p.ends.high.has_contract ≡ false)) }
 {
     let channels = Channels::new(alloc, depth)?;
-    let (low, high) = channels.open(rt)?;
-    Ok((channels, low, high))
+    let ends = next_ends(rt, &channels)?;
+    Ok(Pair { channels, ends })
 }
 
 fn by_end<R: Wait>(rt: &R, channels: &Channels, end: &mut Endpoint, call: Call) -> Answer
@@ -89,33 +109,43 @@ fn by_end<R: Wait>(rt: &R, channels: &Channels, end: &mut Endpoint, call: Call) 
 pub(super) fn answer_of<R: Wait>(
     rt: &R,
     channels: &Channels,
-    low: &mut Endpoint,
-    high: &mut Endpoint,
+    ends: &mut Ends,
     side: u8,
     call: Call,
 ) -> Answer
-    ensures { IsSameEnd low.old low.new × IsSameEnd high.old high.new }
+    ensures { IsSameEnd ends.old.low ends.new.low × IsSameEnd ends.old.high ends.new.high }
 {
     if side == 0 {
-        by_end(rt, channels, low, call)
+        by_end(rt, channels, &mut ends.low, call)
     } else {
-        by_end(rt, channels, high, call)
+        by_end(rt, channels, &mut ends.high, call)
     }
+}
+
+/// The call of a side answered what is expected.
+pub(super) fn assert_same(
+    rt: &impl Abort,
+    at: usize,
+    side: u8,
+    call: Call,
+    answered: Answer,
+    expected: Answer,
+) {
+    assert_eq!(rt; answered, expected, "call {at}: {call:?} by side {side}");
 }
 
 /// Makes each call by the end of its side, and compares what it answers.
 pub(super) fn assert_answers<R: Wait + Abort>(
     rt: &R,
     channels: &Channels,
-    low: &mut Endpoint,
-    high: &mut Endpoint,
+    ends: &mut Ends,
     calls: &[(u8, Call, Answer)],
 )
-    ensures { IsSameEnd low.old low.new × IsSameEnd high.old high.new }
+    ensures { IsSameEnd ends.old.low ends.new.low × IsSameEnd ends.old.high ends.new.high }
 {
     for (at, (side, call, expected)) in calls.iter().enumerate() {
-        let answered = answer_of(rt, channels, low, high, *side, *call);
-        assert_eq!(rt; answered, *expected, "call {at}: {call:?} by side {side}");
+        let answered = answer_of(rt, channels, ends, *side, *call);
+        assert_same(rt, at, *side, *call, answered, *expected);
     }
 }
 
@@ -126,8 +156,9 @@ pub(super) fn assert_on<R: Wait + Abort>(
     depth: u8,
     calls: &[(u8, Call, Answer)],
 ) -> Result<(), Refused> {
-    let (channels, mut low, mut high) = opened(rt, alloc, depth)?;
-    assert_answers(rt, &channels, &mut low, &mut high, calls);
+    let mut pair = opened(rt, alloc, depth)?;
+    assert_answers(rt, &pair.channels, &mut pair.ends, calls);
+    drop(pair);
     Ok(())
 }
 
@@ -151,6 +182,6 @@ pub(super) fn assert_line(rt: &impl Abort, line: &mut Line, calls: &[(u8, Call, 
     for (at, (side, call, expected)) in calls.iter().enumerate() {
         let side = if *side == 0 { 0 } else { 1 };
         let answered = by_line(line, side, *call);
-        assert_eq!(rt; answered, *expected, "call {at}: {call:?} by side {side}");
+        assert_same(rt, at, side, *call, answered, *expected);
     }
 }

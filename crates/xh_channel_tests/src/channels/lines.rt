@@ -3,12 +3,12 @@ ghost use Rattle.xh_channel.specs.Pairs.{IsPair};
 
 use super::answers::Answer::{self, Refused as No, Sent, Shut as Closed, Taken, Turn};
 use super::answers::Call::{self, Put, Shut, Take, Turn as Look};
-use super::answers::assert_answers;
+use super::answers::{Ends, Pair, assert_answers, next_ends};
 use std::alloc::Global;
 use std::process::Abort;
 use std::sync::Wait;
 use std::test::Fail;
-use xh_channel::{Channels, Endpoint, Refused};
+use xh_channel::{Channels, Refused};
 use xh_core::{Contract, Row};
 
 // A request (tag 1) by side 0, a reply (tag 2) by side 1, and again.
@@ -31,17 +31,26 @@ fn request_and_reply(rt: &impl Abort) -> Contract {
     contract
 }
 
+// Both ends of the next channel, which goes by the contract.
+fn next_with<R: Wait>(rt: &R, channels: &Channels, contract: Contract) -> Result<Ends, Refused>
+    ensures { IfOk result (λ e. IsPair e.low e.high) }
+{
+    let (low, high) = channels.open_with(rt, contract)?;
+    Ok(Ends { low, high })
+}
+
 // Channels of a depth, and both ends of the first, which goes by the contract.
-fn opened_with<R: Wait + Abort>(
+fn opened_with<R: Wait>(
     rt: &R,
     alloc: Global,
     depth: u8,
-) -> Result<(Channels, Endpoint, Endpoint), Refused>
-    ensures { IfOk result (λ all. IsPair all.1 all.2) }
+    contract: Contract,
+) -> Result<Pair, Refused>
+    ensures { IfOk result (λ p. IsPair p.ends.low p.ends.high) }
 {
     let channels = Channels::new(alloc, depth)?;
-    let (low, high) = channels.open_with(rt, request_and_reply(rt))?;
-    Ok((channels, low, high))
+    let ends = next_with(rt, &channels, contract)?;
+    Ok(Pair { channels, ends })
 }
 
 #[test]
@@ -64,30 +73,44 @@ fn contract_refusals(rt: HostRuntime) -> Result<(), Fail> {
         (1, Put(2, Some(7)), No(15, Some(7))),
         (1, Put(1, Some(7)), No(22, Some(7))),
     ];
-    let (channels, mut low, mut high) = opened_with(&rt, rt.alloc(), 4)?;
-    assert!(rt; low.has_contract() && high.has_contract());
-    assert_answers(&rt, &channels, &mut low, &mut high, CALLS);
+    let mut pair = opened_with(&rt, rt.alloc(), 4, request_and_reply(&rt))?;
+    let ends = &mut pair.ends;
+    let known = (ends.low.has_contract(), ends.high.has_contract());
+    assert_eq!(rt; known, (true, true));
+    assert_answers(&rt, &pair.channels, ends, CALLS);
+    drop(pair);
+    Ok(())
+}
+
+// The first channel opens, and has no contract.
+fn assert_free<R: Wait + Abort>(rt: &R, channels: &Channels) -> Result<(), Refused> {
+    const CALLS: &[(u8, Call, Answer)] = &[
+        (0, Put(9, Some(7)), Sent(1)),
+        (1, Take, Taken(1, 9, Some(7))),
+    ];
+    let mut ends = next_ends(rt, channels)?;
+    let channel = ends.low.spot().channel;
+    let known = (channel, ends.low.has_contract(), ends.high.has_contract());
+    assert_eq!(rt; known, (0, false, false));
+    assert_answers(rt, channels, &mut ends, CALLS);
+    drop(ends);
     Ok(())
 }
 
 // A cancelled number loses its contract.
 #[test]
 fn a_cancelled_contract_is_gone(rt: HostRuntime) -> Result<(), Fail> {
-    const CALLS: &[(u8, Call, Answer)] = &[
-        (0, Put(9, Some(7)), Sent(1)),
-        (1, Take, Taken(1, 9, Some(7))),
-    ];
-    let (channels, low, high) = opened_with(&rt, rt.alloc(), 1)?;
-    channels.cancel(&rt, low, high);
-    let (mut low, mut high) = channels.open(&rt)?;
-    assert_eq!(rt; low.spot().channel, 0);
-    assert!(rt; !low.has_contract() && !high.has_contract());
-    assert_answers(&rt, &channels, &mut low, &mut high, CALLS);
-    Ok(())
+    let contract = request_and_reply(&rt);
+    let Pair { channels, ends } = opened_with(&rt, rt.alloc(), 1, contract)?;
+    channels.cancel(&rt, ends.low, ends.high);
+    let free = assert_free(&rt, &channels);
+    drop(channels);
+    Ok(free?)
 }
 
 fn opens_one_more<R: Wait + Abort>(rt: &R, channels: &Channels) -> Result<(), Refused> {
-    let (_low, _high) = channels.open_with(rt, request_and_reply(rt))?;
+    let ends = next_with(rt, channels, request_and_reply(rt))?;
+    drop(ends);
     Ok(())
 }
 
@@ -103,6 +126,7 @@ fn assert_all_open<R: Wait + Abort>(rt: &R, channels: &Channels) {
 fn channels_with_contracts_run_out(rt: HostRuntime) -> Result<(), Fail> {
     let channels = Channels::new(rt.alloc(), 1)?;
     assert_all_open(&rt, &channels);
+    drop(channels);
     Ok(())
 }
 
@@ -121,15 +145,9 @@ fn one_way(rt: &impl Abort) -> Contract {
 }
 
 // The direction of side 0 is full at this depth, and has room again once one message was taken.
-fn assert_full_at<R: Wait + Abort>(
-    rt: &R,
-    channels: &Channels,
-    low: &mut Endpoint,
-    high: &mut Endpoint,
-    depth: u8,
-) {
+fn assert_full_at<R: Wait + Abort>(rt: &R, channels: &Channels, ends: &mut Ends, depth: u8) {
     for no in 1..=u64::from(depth) {
-        assert_answers(rt, channels, low, high, &[(0, Put(1, None), Sent(no))]);
+        assert_answers(rt, channels, ends, &[(0, Put(1, None), Sent(no))]);
     }
     let last = u64::from(depth) + 1;
     let calls = [
@@ -138,15 +156,15 @@ fn assert_full_at<R: Wait + Abort>(
         (0, Put(1, Some(7)), Sent(last)),
         (0, Put(1, Some(8)), No(14, Some(8))),
     ];
-    assert_answers(rt, channels, low, high, &calls);
+    assert_answers(rt, channels, ends, &calls);
 }
 
 #[test]
 fn a_channel_with_a_contract_is_full_at_its_depth(rt: HostRuntime) -> Result<(), Fail> {
     for depth in [1u8, 3, 16] {
-        let channels = Channels::new(rt.alloc(), depth)?;
-        let (mut low, mut high) = channels.open_with(&rt, one_way(&rt))?;
-        assert_full_at(&rt, &channels, &mut low, &mut high, depth);
+        let mut pair = opened_with(&rt, rt.alloc(), depth, one_way(&rt))?;
+        assert_full_at(&rt, &pair.channels, &mut pair.ends, depth);
+        drop(pair);
     }
     Ok(())
 }

@@ -2,6 +2,7 @@
 ghost use Rattle.std.specs.Prelude.{◌≡◌, true, false};
 ghost use Rattle.xh_channel.specs.Queues.{IsSameEnd};
 
+use super::answers::opened;
 use arrayvec::ArrayVec;
 use std::sync::Wait;
 use std::test::Fail;
@@ -33,11 +34,14 @@ fn finds_nothing<R: Wait>(rt: &R, channels: &Channels, end: &mut Endpoint) -> bo
 
 #[test]
 fn refusals_keep_what_is_known(rt: HostRuntime) -> Result<(), Fail> {
-    let channels = Channels::new(rt.alloc(), 1)?;
-    let (mut low, mut high) = channels.open(&rt)?;
-    assert!(rt; !finds_full(&rt, &channels, &mut low));
-    assert!(rt; finds_full(&rt, &channels, &mut low));
-    assert!(rt; !finds_nothing(&rt, &channels, &mut high));
-    assert!(rt; finds_nothing(&rt, &channels, &mut high));
+    let mut pair = opened(&rt, rt.alloc(), 1)?;
+    let channels = &pair.channels;
+    let first = finds_full(&rt, channels, &mut pair.ends.low);
+    let second = finds_full(&rt, channels, &mut pair.ends.low);
+    let full = (first, second);
+    let first = finds_nothing(&rt, channels, &mut pair.ends.high);
+    let second = finds_nothing(&rt, channels, &mut pair.ends.high);
+    drop(pair);
+    assert_eq!(rt; (full, (first, second)), ((false, true), (false, true)));
     Ok(())
 }

@@ -1,9 +1,15 @@
 // A channel on queues and a line answer the same calls alike.
+ghost use Rattle.std.specs.Prelude.{◌<◌};
+
 use super::answers::Call::{Put, Shut, Take};
-use super::answers::{Answer, Call, answer_of, by_line};
+use super::answers::{Answer, Call, Ends, answer_of, assert_same, by_line, next_ends};
+use std::process::Abort;
+use std::sync::Wait;
 use std::test::Fail;
-use xh_channel::{Channels, Line};
+use xh_channel::{Channels, Line, Refused};
 use xh_core::{Contract, Row};
+
+const DEPTH: u8 = 3;
 
 // The contract under which one side alone sends, always with tag 1.
 fn always_from(side: u8) -> Option<Contract> {
@@ -33,37 +39,67 @@ fn call_of(draw: u64, block: u16) -> (bool, Call) {
     }
 }
 
-// Each of 64 channels carries 200 calls, each message from one side, on a queue and on a line.
-#[test]
-fn queues_and_lines_answer_alike(rt: HostRuntime) -> Result<(), Fail> {
-    let depth = 3;
-    let channels = Channels::new(rt.alloc(), depth)?;
+// A channel of queues and a line, of the same depth, on which one side alone sends.
+#[derive(Drop)]
+struct Both {
+    ends: Ends,
+    line: Line,
+}
+
+fn make_both<R: Wait + Abort>(rt: &R, channels: &Channels, sender: u8) -> Result<Both, Refused> {
+    let Some(contract) = always_from(sender) else {
+        panic!(rt; "the table is valid");
+    };
+    Ok(Both {
+        ends: next_ends(rt, channels)?,
+        line: Line::new(contract, DEPTH),
+    })
+}
+
+// The two answer 200 calls alike, whose blocks are their numbers. How many messages were taken.
+fn taken_alike<R: Wait + Abort>(
+    rt: &R,
+    channels: &Channels,
+    both: &mut Both,
+    sender: u8,
+    seed: &mut u64,
+) -> u64
+    requires { sender < 2 }
+{
+    let mut taken = 0u64;
+    for block in 0..200u16 {
+        *seed = drawn(*seed);
+        let (by_sender, call) = call_of(*seed >> 33, block);
+        let side = if by_sender { sender } else { 1 - sender };
+        let queued = answer_of(rt, channels, &mut both.ends, side, call);
+        let lined = by_line(&mut both.line, side, call);
+        assert_same(rt, usize::from(block), side, call, queued, lined);
+        if matches!(queued, Answer::Taken(..)) {
+            taken = taken.wrapping_add(1);
+        }
+    }
+    taken
+}
+
+// Each of 64 channels carries 200 calls, each message from one side, on a queue and on a line. How many were taken.
+fn taken_of_all<R: Wait + Abort>(rt: &R, channels: &Channels) -> Result<u64, Refused> {
     let mut seed = 2026;
     let mut taken = 0u64;
     for run in 0..64u8 {
         let sender = run % 2;
-        let (mut low, mut high) = channels.open(&rt)?;
-        let Some(contract) = always_from(sender) else {
-            panic!(rt; "the table is valid");
-        };
-        let mut line = Line::new(contract, depth);
-        for block in 0..200u16 {
-            seed = drawn(seed);
-            let (by_sender, call) = call_of(seed >> 33, block);
-            let side = if by_sender { sender } else { 1 - sender };
-            let queued = answer_of(&rt, &channels, &mut low, &mut high, side, call);
-            let lined = by_line(&mut line, side, call);
-            assert_eq!(rt;
-                queued,
-                lined,
-                "run {run}, call {block}: {call:?} by side {side}"
-            );
-            if matches!(queued, Answer::Taken(..)) {
-                taken = taken.wrapping_add(1);
-            }
-        }
+        let mut both = make_both(rt, channels, sender)?;
+        taken = taken.wrapping_add(taken_alike(rt, channels, &mut both, sender, &mut seed));
+        drop(both);
     }
+    Ok(taken)
+}
+
+#[test]
+fn queues_and_lines_answer_alike(rt: HostRuntime) -> Result<(), Fail> {
+    let channels = Channels::new(rt.alloc(), DEPTH)?;
+    let taken = taken_of_all(&rt, &channels);
+    drop(channels);
     // so many were carried that the comparison says something
-    assert!(rt; taken > 64);
+    assert!(rt; taken? > 64);
     Ok(())
 }

@@ -1,8 +1,12 @@
+use super::answers::{Ends, next_ends, opened};
 use arrayvec::ArrayVec;
+use std::alloc::Global;
+use std::process::Abort;
 use std::sync::Wait;
 use std::test::Fail;
+use std::thread::Threads;
 use std::{hint, thread};
-use xh_channel::{Channels, Endpoint, Refused, Unsent};
+use xh_channel::{Channels, Endpoint, Message, Refused, Unsent};
 use xh_model::limits::MAX_BLOCKS;
 
 const MESSAGES: u64 = 100_000;
@@ -19,14 +23,14 @@ fn blocks_of(no: u64) -> ArrayVec<u16, MAX_BLOCKS> {
 }
 
 // Puts messages until so many are sent or the peer is shut, and answers how many were sent.
-fn put_all<R: Wait>(rt: &R, channels: &Channels, mut end: Endpoint, most: u64) -> u64 {
+fn put_all<R: Wait>(rt: &R, channels: &Channels, end: &mut Endpoint, most: u64) -> u64 {
     let mut sent = 0u64;
     for _ in rt.forever() {
         if sent >= most {
             break;
         }
         let next = sent + 1;
-        match channels.put(rt, &mut end, tag_of(next), blocks_of(next)) {
+        match channels.put(rt, end, tag_of(next), blocks_of(next)) {
             Ok(no) if no == next => sent = next,
             Err(Unsent::Full { back }) if back.as_slice() == blocks_of(next).as_slice() => {
                 thread::yield_now();
@@ -37,43 +41,47 @@ fn put_all<R: Wait>(rt: &R, channels: &Channels, mut end: Endpoint, most: u64) -
     sent
 }
 
+// Whether it is all of the message of this number.
+fn is_whole(message: &Message, no: u64) -> bool {
+    let named = message.no == no && message.tag == tag_of(no);
+    named && message.blocks.as_slice() == blocks_of(no).as_slice()
+}
+
 // Takes messages until so many were taken in order, and answers how many were.
-fn take_all<R: Wait>(rt: &R, channels: &Channels, mut end: Endpoint, most: u64) -> u64 {
+fn take_all<R: Wait>(rt: &R, channels: &Channels, end: &mut Endpoint, most: u64) -> u64 {
     let mut taken = 0u64;
     for _ in rt.forever() {
         if taken >= most {
             break;
         }
         let seen = channels.turn(rt, end.spot());
-        match channels.take(rt, &mut end) {
-            Ok(message) => {
-                let next = taken + 1;
-                if message.no != next
-                    || message.tag != tag_of(next)
-                    || message.blocks.as_slice() != blocks_of(next).as_slice()
-                {
-                    break;
-                }
-                taken = next;
-            }
+        let next = taken + 1;
+        match channels.take(rt, end) {
+            Ok(message) if is_whole(&message, next) => taken = next,
             Err(Refused::Empty) => channels.wait(rt, end.spot(), seen),
-            Err(_) => break,
+            _ => break,
         }
     }
     taken
 }
 
+// All messages come in order, from one thread to another.
+fn assert_in_order<R: Threads + Wait + Abort + Sync>(rt: &R, channels: &Channels, ends: &mut Ends) {
+    let (low, high) = (&mut ends.low, &mut ends.high);
+    let carried = thread::join(
+        rt,
+        || put_all(rt, channels, low, MESSAGES),
+        || take_all(rt, channels, high, MESSAGES),
+    );
+    assert_eq!(rt; carried, (MESSAGES, MESSAGES));
+}
+
 #[test]
 fn a_hundred_thousand_messages_come_in_order(rt: HostRuntime) -> Result<(), Fail> {
     for depth in [1, 16] {
-        let channels = Channels::new(rt.alloc(), depth)?;
-        let (low, high) = channels.open(&rt)?;
-        let (sent, taken) = thread::join(
-            &rt,
-            || put_all(&rt, &channels, low, MESSAGES),
-            || take_all(&rt, &channels, high, MESSAGES),
-        );
-        assert_eq!(rt; (sent, taken), (MESSAGES, MESSAGES), "depth {depth}");
+        let mut pair = opened(&rt, rt.alloc(), depth)?;
+        assert_in_order(&rt, &pair.channels, &mut pair.ends);
+        drop(pair);
     }
     Ok(())
 }
@@ -95,58 +103,55 @@ fn drain<R: Wait>(rt: &R, channels: &Channels, end: &mut Endpoint, before: u64) 
 fn shut_and_drain<R: Wait>(
     rt: &R,
     channels: &Channels,
-    mut end: Endpoint,
+    end: &mut Endpoint,
     pause: u64,
-) -> (Endpoint, Option<u64>) {
+) -> Option<u64> {
     for _ in 0..pause {
         thread::yield_now();
     }
-    channels.shut(rt, &mut end);
-    let taken = drain(rt, channels, &mut end, 0);
-    (end, taken)
+    channels.shut(rt, end);
+    drain(rt, channels, end, 0)
 }
 
 // One end puts while the other shuts: what was sent is taken, each message once, and at most one more that was pushed and not sent.
-#[test]
-fn a_put_races_a_shut(rt: HostRuntime) -> Result<(), Fail> {
-    for round in 0..16 {
-        let channels = Channels::new(rt.alloc(), 16)?;
-        for channel in 0..64u64 {
-            let (low, high) = channels.open(&rt)?;
-            let (sent, (mut high, taken)) = thread::join(
-                &rt,
-                || put_all(&rt, &channels, low, 16),
-                || shut_and_drain(&rt, &channels, high, channel % 4),
-            );
-            let Some(taken) = taken else {
-                panic!(rt; "round {round}, channel {channel}: out of order");
-            };
-            assert!(rt; taken >= sent, "round {round}, channel {channel}");
-            let rest = drain(&rt, &channels, &mut high, taken);
-            assert!(rt;
-                rest.is_some_and(|all| all <= sent.wrapping_add(1)),
-                "round {round}, channel {channel}"
-            );
-        }
-    }
-    Ok(())
+fn assert_put_and_shut<R: Threads + Wait + Abort + Sync>(
+    rt: &R,
+    channels: &Channels,
+    ends: &mut Ends,
+    pause: u64,
+) {
+    let (low, high) = (&mut ends.low, &mut ends.high);
+    let (sent, taken) = thread::join(
+        rt,
+        || put_all(rt, channels, low, 16),
+        || shut_and_drain(rt, channels, high, pause),
+    );
+    let Some(taken) = taken else {
+        panic!(rt; "out of order");
+    };
+    assert!(rt; taken >= sent, "{sent} were sent, {taken} came");
+    let all = drain(rt, channels, &mut ends.high, taken);
+    assert!(rt;
+        all.is_some_and(|all| all <= sent.wrapping_add(1)),
+        "{sent} were sent"
+    );
 }
 
 // Puts one message after a while, and shuts the end.
-fn put_and_shut<R: Wait>(rt: &R, channels: &Channels, mut end: Endpoint, pause: u64) -> bool {
+fn put_and_shut<R: Wait>(rt: &R, channels: &Channels, end: &mut Endpoint, pause: u64) -> bool {
     for _ in 0..pause {
         hint::spin_loop();
     }
-    let sent = channels.put(rt, &mut end, 5, ArrayVec::new()).is_ok();
-    channels.shut(rt, &mut end);
+    let sent = channels.put(rt, end, 5, ArrayVec::new()).is_ok();
+    channels.shut(rt, end);
     sent
 }
 
 // Takes until the peer is closed, and answers how many messages came.
-fn take_to_the_end<R: Wait>(rt: &R, channels: &Channels, mut end: Endpoint) -> u64 {
+fn take_to_the_end<R: Wait>(rt: &R, channels: &Channels, end: &mut Endpoint) -> u64 {
     let mut taken = 0u64;
     for _ in rt.forever() {
-        match channels.take(rt, &mut end) {
+        match channels.take(rt, end) {
             Ok(_) => taken = taken.wrapping_add(1),
             Err(Refused::Empty) => (),
             Err(_) => break,
@@ -156,22 +161,83 @@ fn take_to_the_end<R: Wait>(rt: &R, channels: &Channels, mut end: Endpoint) -> u
 }
 
 // PeerClosed comes after the last message: a take looks at the peer's word before it pops.
+fn assert_last_comes<R: Threads + Wait + Abort + Sync>(
+    rt: &R,
+    channels: &Channels,
+    ends: &mut Ends,
+    pause: u64,
+) {
+    let (low, high) = (&mut ends.low, &mut ends.high);
+    let carried = thread::join(
+        rt,
+        || put_and_shut(rt, channels, low, pause),
+        || take_to_the_end(rt, channels, high),
+    );
+    assert_eq!(rt; carried, (true, 1), "after {pause}");
+}
+
+// What two threads do at the ends of a channel: one puts while the other shuts, or one puts a message and shuts while
+// the other takes.
+#[derive(Clone, Copy)]
+enum Race {
+    PutsAndShut,
+    LastComes,
+}
+
+// One race, on the next channel.
+fn race_on_next<R: Threads + Wait + Abort + Sync>(
+    rt: &R,
+    channels: &Channels,
+    kind: Race,
+    channel: u8,
+) -> Result<(), Refused> {
+    let mut ends = next_ends(rt, channels)?;
+    let at = u64::from(channel);
+    match kind {
+        Race::PutsAndShut => assert_put_and_shut(rt, channels, &mut ends, at % 4),
+        Race::LastComes => assert_last_comes(rt, channels, &mut ends, at * 8),
+    }
+    drop(ends);
+    Ok(())
+}
+
+// The race on each channel.
+fn race_on_each<R: Threads + Wait + Abort + Sync>(
+    rt: &R,
+    channels: &Channels,
+    kind: Race,
+) -> Result<(), Refused> {
+    for channel in 0..64u8 {
+        race_on_next(rt, channels, kind, channel)?;
+    }
+    Ok(())
+}
+
+// The race on each channel of new ones of a depth.
+fn race_over<R: Threads + Wait + Abort + Sync>(
+    rt: &R,
+    alloc: Global,
+    depth: u8,
+    kind: Race,
+) -> Result<(), Refused> {
+    let channels = Channels::new(alloc, depth)?;
+    let answered = race_on_each(rt, &channels, kind);
+    drop(channels);
+    answered
+}
+
+#[test]
+fn a_put_races_a_shut(rt: HostRuntime) -> Result<(), Fail> {
+    for _ in 0..16 {
+        race_over(&rt, rt.alloc(), 16, Race::PutsAndShut)?;
+    }
+    Ok(())
+}
+
 #[test]
 fn a_take_races_a_put_and_a_shut(rt: HostRuntime) -> Result<(), Fail> {
-    for round in 0..50u64 {
-        let channels = Channels::new(rt.alloc(), 1)?;
-        for channel in 0..64u64 {
-            let (low, high) = channels.open(&rt)?;
-            let (sent, taken) = thread::join(
-                &rt,
-                || put_and_shut(&rt, &channels, low, channel * 8),
-                || take_to_the_end(&rt, &channels, high),
-            );
-            assert!(rt;
-                sent && taken == 1,
-                "round {round}, channel {channel}: {taken} came"
-            );
-        }
+    for _ in 0..50 {
+        race_over(&rt, rt.alloc(), 1, Race::LastComes)?;
     }
     Ok(())
 }
