@@ -80,21 +80,29 @@ fn a_pair_of_other_channels_goes_back_there(rt: HostRuntime) -> Result<(), Fail>
     Ok(went?)
 }
 
-/// The number of the refusal of channels of a depth, or 0 where they are made.
-fn number_of(alloc: Global, depth: u8) -> u8 {
+/// The name of the refusal of channels of a depth, or nothing where they are made.
+fn refusal_of_new(alloc: Global, depth: u8) -> &'static str {
     match Channels::new(alloc, depth) {
         Ok(channels) => {
             drop(channels);
-            0
+            ""
         }
-        Err(refused) => number_in_heap(refused),
+        Err(refused) => xh_core::Refused::from(refused).name(),
     }
 }
 
 #[test]
 fn a_depth_is_one_to_sixteen(rt: HostRuntime) {
-    for (depth, number) in [(0, 2), (17, 2), (255, 2), (1, 0), (16, 0)] {
-        assert_eq!(rt; number_of(rt.alloc(), depth), number, "depth {depth}");
+    const DEPTHS: &[(u8, &str)] = &[
+        (0, "BadSize"),
+        (17, "BadSize"),
+        (255, "BadSize"),
+        (1, ""),
+        (16, ""),
+    ];
+    for (depth, expected) in DEPTHS {
+        let answered = refusal_of_new(rt.alloc(), *depth);
+        assert_eq!(rt; answered, *expected, "depth {depth}");
     }
 }
 
@@ -114,14 +122,14 @@ fn direction_until_shut(rt: HostRuntime) -> Result<(), Fail> {
     Ok(())
 }
 
-/// The number of the refusal of one channel more, or 0 where it opens.
-fn refusal_of_open<R: Wait>(rt: &R, channels: &Channels) -> u8 {
+/// The name of the refusal of one channel more, or nothing where it opens.
+fn refusal_of_open<R: Wait>(rt: &R, channels: &Channels) -> &'static str {
     match next_ends(rt, channels) {
         Ok(ends) => {
             drop(ends);
-            0
+            ""
         }
-        Err(refused) => number_in_heap(refused),
+        Err(refused) => xh_core::Refused::from(refused).name(),
     }
 }
 
@@ -130,7 +138,7 @@ fn assert_all_open<R: Wait + Abort>(rt: &R, channels: &Channels) {
     for channel in 0..64 {
         assert!(rt; opens_at(rt, channels, channel), "channel {channel}");
     }
-    assert_eq!(rt; refusal_of_open(rt, channels), 13);
+    assert_eq!(rt; refusal_of_open(rt, channels), "NoChannel");
 }
 
 #[test]
@@ -253,10 +261,10 @@ fn a_refused_growth_leaves_nothing(rt: HostRuntime) {
         (0, Put(5, Some(7)), Sent(1)),
         (1, Take, Taken(1, 5, Some(7))),
     ];
-    let first = number_of(rt.alloc(), 2);
-    assert!(rt; first == 0 || first == 1);
+    let first = refusal_of_new(rt.alloc(), 2);
+    assert!(rt; first == "" || first == "OutOfMemory");
     let second = assert_on(&rt, rt.alloc(), 2, CALLS);
-    assert!(rt; second.is_ok() || first == 0);
+    assert!(rt; second.is_ok() || first == "");
 }
 
 #[test]
