@@ -13,7 +13,7 @@ use crate::lines::{arena_lines, bytes_in, bytes_out, end_places};
 use arrayvec::ArrayVec;
 use std::alloc::Global;
 use xh_arena::{Lot, Vault};
-use xh_core::{ArenaLine, Ledger, PlaceLine, Refused};
+use xh_core::{ARENA_LINES, ArenaLine, Ledger, PLACE_LINES, PlaceLine, Refused};
 use xh_kernel::{Account, Names};
 use xh_place::{Body, Place};
 use xh_records::Records;
@@ -23,7 +23,7 @@ fn close_table(
     alloc: Global,
     records: Records<Body>,
     places: Vec<Place>,
-) -> Result<(Vec<u64>, Vec<Lot<Body>>, ArrayVec<PlaceLine, 32>), Refused>
+) -> Result<(Vec<u64>, Vec<Lot<Body>>, ArrayVec<PlaceLine, PLACE_LINES>), Refused>
     requires places { All (IsPlaceOf records) places.items × (vec_len places ≡ records.shape.places) }
     ensures lots { IfOk result (λ r. (length r.1.items ≡ length records.shape.names * records.shape.records) × AreAt records.shape.records records.shape.names r.1.items) }
     ensures owned { IfOk result (λ r. sum (lens_of r.1.items) ≡ bytes_owned places.items + sum (unlisted_from places.items records.shape.records 0 (lens_of r.1.items))) }
@@ -39,7 +39,10 @@ fn close_table(
 }
 
 // The ledger of these lines.
-pub(crate) fn ledger(arenas: ArrayVec<ArenaLine, 8>, places: ArrayVec<PlaceLine, 32>) -> Ledger
+pub(crate) fn ledger(
+    arenas: ArrayVec<ArenaLine, ARENA_LINES>,
+    places: ArrayVec<PlaceLine, PLACE_LINES>,
+) -> Ledger
     requires { sum_by (λ p. p.bytes) places.items ≤ sum_by (λ a. a.out) arenas.items }
     ensures lines { (result.arenas ≡ arenas) × (result.places ≡ places) }
     ensures owned { result.owned ≡ sum_by (λ p. p.bytes) places.items }

@@ -9,7 +9,7 @@ ghost use Rattle.xh_books.specs.Ledgers.{bytes_owned, place_lines};
 use arrayvec::ArrayVec;
 use std::alloc::{AllocError, Global};
 use xh_arena::Vault;
-use xh_core::{ArenaLine, PlaceLine};
+use xh_core::{ARENA_LINES, ArenaLine, PLACE_LINES, PlaceLine};
 use xh_place::{Body, Place};
 use xh_records::Seat;
 
@@ -31,7 +31,7 @@ fn arena_line(vault: &Vault) -> ArenaLine
 }
 
 // The lines of all arenas.
-pub(crate) fn arena_lines(vaults: &[Vault]) -> ArrayVec<ArenaLine, 8>
+pub(crate) fn arena_lines(vaults: &[Vault]) -> ArrayVec<ArenaLine, ARENA_LINES>
     requires few { length vaults.now ≤ MAX_ARENAS }
     requires full { All IsFull vaults.now }
     ensures lines { result.items ≡ map closed_line vaults.now }
@@ -65,7 +65,7 @@ pub(crate) fn bytes_in(lines: &[PlaceLine]) -> u64
 }
 
 // One line more, where there is one.
-fn push_line(lines: &mut ArrayVec<PlaceLine, 32>, line: Option<PlaceLine>)
+fn push_line(lines: &mut ArrayVec<PlaceLine, PLACE_LINES>, line: Option<PlaceLine>)
     requires { array_vec_len lines.old < PLACES }
     ensures { lines.new.items ≡ lines.old.items ++ cons_option line [] }
 {
@@ -78,7 +78,7 @@ fn push_line(lines: &mut ArrayVec<PlaceLine, 32>, line: Option<PlaceLine>)
 pub(crate) fn end_places(
     alloc: Global,
     places: Vec<Place>,
-) -> Result<(Vec<Seat<Body>>, ArrayVec<PlaceLine, 32>), AllocError>
+) -> Result<(Vec<Seat<Body>>, ArrayVec<PlaceLine, PLACE_LINES>), AllocError>
     requires { vec_len places ≤ PLACES }
     ensures seats { IfOk result (λ r. AreSeats r.0.items places.items) }
     ensures lines { IfOk result (λ r. r.1.items ≡ place_lines places.items) }

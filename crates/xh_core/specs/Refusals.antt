@@ -1,7 +1,30 @@
 -- The refusals, by number and by name.
 use Rattle.std.specs.Prelude.{ℕ, List, codes}
 use Rattle.xh_core.specs.declared.refused.Refused.{Refused}
-use Rattle.xh_core.specs.declared.refused.Refused.TheVariants.{OutOfMemory, BadSize, NoArena, NoSpace, NoRecord, NotOwned, NotData, NotEndpoint, BadCut, BadRange, NoProcess, Ended, NoChannel, Full, PeerClosed, Empty, TooMany, Twice, Worn, Unfinished, NoPlace, Protocol}
+use Rattle.xh_core.specs.declared.refused.Refused.TheVariants.{
+  OutOfMemory,
+  BadSize,
+  NoArena,
+  NoSpace,
+  NoRecord,
+  NotOwned,
+  NotData,
+  NotEndpoint,
+  BadCut,
+  BadRange,
+  NoProcess,
+  Ended,
+  NoChannel,
+  Full,
+  PeerClosed,
+  Empty,
+  TooMany,
+  Twice,
+  Worn,
+  Unfinished,
+  NoPlace,
+  Protocol,
+}
 
 -- the number of a refusal, as replies print it
 abbrev pub number_of : Refused → ℕ

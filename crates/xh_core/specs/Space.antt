@@ -1,7 +1,8 @@
 -- Free records and room for bytes: what an arena has, and why it has none.
-use Rattle.std.specs.Prelude.{ℕ, ◌+◌, ◌*◌, ◌/◌, ◌%◌, ◌==◌, ◌||◌, Bool, not, [], ◌∷◌}
+use Rattle.std.specs.Prelude.{ℕ, ◌+◌, ◌-◌, ◌*◌, ◌/◌, ◌%◌, ◌==◌, ◌||◌, Bool, not, [], ◌∷◌}
 use Rattle.std.specs.Prelude.{Option, is_none, nat_le, nat_lt, option_map, unwrap_or}
 use Rattle.std.specs.List.{position, range_with_len}
+use Rattle.xh_model.specs.declared.limits.TheConstants.{END_BYTES, MAX_RECORDS, UNIT}
 use Rattle.xh_model.specs.declared.event.Event.TheVariants.{Claim}
 use Rattle.xh_model.specs.Cover.{first_fit}
 use Rattle.xh_model.specs.Store.{Store, arena_at, owner, after}
@@ -10,17 +11,17 @@ use Rattle.xh_core.specs.Refusing.{Tests}
 
 -- the number of the lowest free record of an arena, if there is one
 abbrev pub free_record : Store → ℕ → Option ℕ
-free_record s a = option_map (λ i. 256 * a + i) (position (λ i. is_none (owner s (256 * a + i))) (range_with_len 0 (arena_at s a).records))
+free_record s a = option_map (λ i. MAX_RECORDS * a + i) (position (λ i. is_none (owner s (MAX_RECORDS * a + i))) (range_with_len 0 (arena_at s a).records))
 
 abbrev pub lowest : Store → ℕ → ℕ
 lowest s a = unwrap_or (free_record s a) 65535
 
--- n bytes as the arena hands them out: the next multiple of 16
+-- n bytes as the arena hands them out: the next multiple of the unit
 abbrev pub rounded : ℕ → ℕ
-rounded n = ((n + 15) / 16) * 16
+rounded n = ((n + (UNIT - 1)) / UNIT) * UNIT
 
 abbrev pub is_bad_cut : ℕ → ℕ → Bool
-is_bad_cut k n = (k == 0) || (not ((k % 16) == 0) || nat_le n k)
+is_bad_cut k n = (k == 0) || (not ((k % UNIT) == 0) || nat_le n k)
 
 -- no hole of the arena holds n bytes, or they would wear it past its limit
 abbrev pub space_tests : Store → ℕ → ℕ → Tests
@@ -40,4 +41,4 @@ high_end p s a = lowest (claimed_once p s a) a
 
 -- no two free records, or no room for 64 bytes
 abbrev pub pair_tests : ℕ → Store → ℕ → Tests
-pair_tests p s a = (is_none (free_record s a) || is_none (free_record (claimed_once p s a) a), NoRecord) ∷ space_tests s a 64
+pair_tests p s a = (is_none (free_record s a) || is_none (free_record (claimed_once p s a) a), NoRecord) ∷ space_tests s a (2 * END_BYTES)

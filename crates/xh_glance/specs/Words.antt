@@ -3,6 +3,7 @@ use Rattle.std.specs.Prelude.{ℕ, zero, suc, ◌+◌, ◌*◌, ◌/◌, ◌%◌
 use Rattle.xh_core.specs.declared.status.Status.{Status}
 use Rattle.xh_core.specs.declared.status.Status.TheVariants.{Vacant, Running, Ending, Ended}
 use Rattle.xh_core.specs.declared.glance.Glance.{Glance}
+use Rattle.xh_model.specs.declared.limits.TheConstants.{PLACES}
 
 abbrev pub code_of : Status → ℕ
 code_of Vacant = 0
@@ -20,13 +21,13 @@ state_of _ = Ended
 abbrev pub IsPackable : Glance → Type 0
 IsPackable g = (g.blocks < 2 ^ 12) × (g.bytes < 2 ^ 34)
 
--- a process's place is its number's remainder by the count of places, 32, and its generation the quotient
+-- a process's place is its number's remainder by the count of places, and its generation the quotient
 abbrev pub word_of : Glance → ℕ
-word_of g = code_of g.state + 4 * g.blocks + 16384 * g.bytes + 281474976710656 * (g.process / 32)
+word_of g = code_of g.state + 4 * g.blocks + 16384 * g.bytes + 281474976710656 * (g.process / PLACES)
 
 -- what the word of a place tells
 abbrev pub glance_of : ℕ → ℕ → Glance
-glance_of p n = record { process = p + 32 * ((n / 281474976710656) % 2048); state = state_of (n % 4); blocks = (n / 4) % 4096; bytes = (n / 16384) % 17179869184 }
+glance_of p n = record { process = p + PLACES * ((n / 281474976710656) % 2048); state = state_of (n % 4); blocks = (n / 4) % 4096; bytes = (n / 16384) % 17179869184 }
 
 -- how many words lie from one place's word to the next's
 abbrev pub stride : ℕ

@@ -45,7 +45,7 @@ pub(crate) fn unpack(place: u8, word: u64) -> Glance
     };
     let generation = (word / GENERATION % 2048) as u16;
     Glance {
-        process: u16::from(place) + 32 * generation,
+        process: u16::from(place) + PLACES as u16 * generation,
         state,
         blocks: (word / BLOCKS % 4096) as u32,
         bytes: word / BYTES % 17_179_869_184,

@@ -6,6 +6,7 @@ use Rattle.xh_core.specs.declared.refused.Refused.{Refused}
 use Rattle.xh_core.specs.declared.refused.Refused.TheVariants.{NoRecord, NoSpace, OutOfMemory, Worn}
 use Rattle.xh_core.specs.Statuses.{is_vacant, is_ended}
 use Rattle.xh_core.specs.Refusing.{Tested, first_refusal}
+use Rattle.xh_model.specs.declared.limits.TheConstants.{MAX_RECORDS}
 use Rattle.xh_model.specs.Arena.{ArenaState, HasNoSpace, IsLawfulArena, IsWorn}
 use Rattle.xh_model.specs.Keyed.{put, value_at, without}
 use Rattle.xh_model.specs.Words.{generation_of}
@@ -44,7 +45,7 @@ IsLack parts a n _ = ⊥
 -- a new data block of at least n bytes of the arena, all of them zero, is the last of the list
 pub record Allocates (parts : PartsOf) (p n arena : ℕ) (old new : PlaceOf) (result : Result Block Refused) : Type 0 where
   pub made : IfOk result (λ b. new ≡ with_blocks old (old.blocks ++ (b.rec, record { len = b.len; content = bytes (replicate b.len 0) }) ∷ []))
-  pub block : IfOk result (λ b. (b.len ≡ rounded n) × (b.rec / 256 ≡ arena))
+  pub block : IfOk result (λ b. (b.len ≡ rounded n) × (b.rec / MAX_RECORDS ≡ arena))
   pub refused : OnErr result (new ≡ old)
   pub why : MatchOption (first_refusal (start p old ++ alloc_tests old.state arena (length parts.records.shape.names) n parts.size))
       (IfErr result (IsLack parts arena (rounded n))) (λ refused. result ≡ Err refused)

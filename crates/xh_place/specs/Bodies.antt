@@ -1,6 +1,6 @@
 -- What contracts see of what a block carries.
 use Rattle.std.specs.Prelude.{ℕ, Bool, true, false, ◌==◌, ◌&&◌, nat_le, nat_lt, ◌+◌, ◌-◌, ◌*◌, List, [], ◌++◌, take, drop, length}
-use Rattle.xh_model.specs.declared.limits.TheConstants.{MAX_BYTES, END_BYTES}
+use Rattle.xh_model.specs.declared.limits.TheConstants.{DIRECTIONS, END_BYTES, MAX_BYTES}
 use Rattle.xh_place.specs.declared.body.Body.{Body}
 use Rattle.xh_place.specs.declared.body.Body.TheVariants.{Nothing, Data, End}
 use Rattle.xh_place.specs.declared.body.Kind.{Kind}
@@ -32,11 +32,11 @@ is_data kind.End = false
 
 -- the direction toward an endpoint, and that toward its peer
 abbrev pub toward : Content → ℕ
-toward (bytes xs) = 128
+toward (bytes xs) = DIRECTIONS
 toward (spot channel side) = 2 * channel + side
 
 abbrev pub away : Content → ℕ
-away (bytes xs) = 128
+away (bytes xs) = DIRECTIONS
 away (spot channel side) = 2 * channel + 1 - side
 
 -- its n bytes from `at` on, and what it is with these bytes there

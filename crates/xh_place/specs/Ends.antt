@@ -7,7 +7,7 @@ use Rattle.xh_core.specs.declared.refused.Refused.{Refused}
 use Rattle.xh_core.specs.declared.refused.Refused.TheVariants.{Ended, NoArena, NotOwned, NotEndpoint}
 use Rattle.xh_core.specs.declared.status.Status.{Status}
 use Rattle.xh_core.specs.declared.status.Status.TheVariants as status
-use Rattle.xh_model.specs.declared.limits.TheConstants.{END_BYTES, MAX_BUDGET}
+use Rattle.xh_model.specs.declared.limits.TheConstants.{DIRECTIONS, END_BYTES, MAX_BUDGET, MAX_RECORDS}
 use Rattle.xh_core.specs.Refusing.{Tests, first_refusal}
 use Rattle.xh_model.specs.Keyed.{value_at}
 use Rattle.xh_records.specs.Seats.{IsRecord}
@@ -30,11 +30,11 @@ has_end (Some x) = not (is_data (kind_of x.content))
 
 -- the direction toward an endpoint, and that toward its peer
 abbrev pub toward_in : Option Item → ℕ
-toward_in None = 128
+toward_in None = DIRECTIONS
 toward_in (Some x) = toward x.content
 
 abbrev pub away_in : Option Item → ℕ
-away_in None = 128
+away_in None = DIRECTIONS
 away_in (Some x) = away x.content
 
 -- the process does not run, no such block is listed, or it is no endpoint
@@ -52,7 +52,7 @@ end_block p = record { len = END_BYTES; content = spot p.channel p.side }
 
 -- an endpoint's length, and a record of the arena
 abbrev pub IsEndIn : ℕ → Block → Type 0
-IsEndIn arena b = (b.len ≡ END_BYTES) × (b.rec / 256 ≡ arena)
+IsEndIn arena b = (b.len ≡ END_BYTES) × (b.rec / MAX_RECORDS ≡ arena)
 
 -- Both ends are the last blocks of the list, side 0 first, each of 32 bytes of the arena; or nothing has changed, and the ends are handed back.
 abbrev pub Opens : ℕ → Posted → Posted → PlaceOf → PlaceOf → List TallyOf → List TallyOf → Result (Block × Block) Unopened → Type 0

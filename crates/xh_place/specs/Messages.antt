@@ -5,6 +5,7 @@ use Rattle.xh_core.specs.declared.refused.Refused.{Refused}
 use Rattle.xh_core.specs.declared.refused.Refused.TheVariants.{TooMany, NotOwned, Twice, Protocol, PeerClosed, Full, Empty}
 use Rattle.xh_core.specs.Several.{has_twice}
 use Rattle.xh_core.specs.Refusing.{Tests}
+use Rattle.xh_model.specs.declared.limits.TheConstants.{MAX_BLOCKS}
 use Rattle.xh_model.specs.Keyed.{Among, keys, value_at}
 use Rattle.xh_place.specs.Moves.{there_and_back}
 use Rattle.xh_place.specs.declared.got.Taken.{Taken}
@@ -20,7 +21,7 @@ is_listed xs r = is_some (value_at r xs)
 
 -- more than 8 blocks, one that is not listed, or one that stands twice among them and the endpoint
 abbrev pub given_tests : List (ℕ × Item) → ℕ → List ℕ → Tests
-given_tests xs e given = (nat_lt 8 (length given), TooMany) ∷ (not (list_all (is_listed xs) given), NotOwned) ∷ (has_twice (e ∷ given), Twice) ∷ []
+given_tests xs e given = (nat_lt MAX_BLOCKS (length given), TooMany) ∷ (not (list_all (is_listed xs) given), NotOwned) ∷ (has_twice (e ∷ given), Twice) ∷ []
 
 abbrev pub give_tests : PlaceOf → ℕ → List ℕ → Tests
 give_tests p e given = end_tests p.state (value_at e p.blocks) ++ given_tests p.blocks e given

@@ -1,6 +1,7 @@
 -- What a split does to a place.
 use Rattle.std.specs.Prelude.{◌≡◌, ℕ, ◌+◌, ◌/◌, [], ◌∷◌, ◌++◌, Some}
 use Rattle.xh_core.specs.declared.block.Block.{Block}
+use Rattle.xh_model.specs.declared.limits.TheConstants.{MAX_RECORDS}
 use Rattle.xh_model.specs.Keyed.{put, value_at}
 use Rattle.xh_place.specs.Bodies.{front, rest}
 use Rattle.xh_place.specs.Places.{Item, PlaceOf, with_blocks}
@@ -9,4 +10,4 @@ use Rattle.xh_place.specs.Places.{Item, PlaceOf, with_blocks}
 abbrev pub IsSplit : PlaceOf → PlaceOf → ℕ → ℕ → Block → Block → Type 0
 IsSplit old new r k head tail = (x : Item) × (value_at r old.blocks ≡ Some x)
     × (new ≡ with_blocks old (put r (record { len = k; content = front k x.content }) old.blocks ++ (tail.rec, record { len = tail.len; content = rest k x.content }) ∷ []))
-    × (head ≡ record { rec = r; len = k }) × (tail.rec / 256 ≡ r / 256) × (k + tail.len ≡ x.len)
+    × (head ≡ record { rec = r; len = k }) × (tail.rec / MAX_RECORDS ≡ r / MAX_RECORDS) × (k + tail.len ≡ x.len)

@@ -2,6 +2,7 @@
 ghost use Rattle.std.specs.Prelude.{◌≡◌, ◌≢◌, ◌⊎◌, ℕ, ◌+◌, ◌*◌, ◌/◌, ◌%◌, ◌<◌, ◌≤◌, List, [], ◌++◌, length, Some, None, true, OnOk, MatchResult};
 ghost use Rattle.arrayvec.specs.ArrayVec.{ArrayVec};
 ghost use Rattle.xh_arena.specs.Views.{LotOf};
+ghost use Rattle.xh_model.specs.declared.limits.TheConstants.{DIRECTIONS, MAX_BLOCKS};
 ghost use Rattle.xh_model.specs.Keyed.{Among, Distinct, keys, value_at};
 ghost use Rattle.xh_records.specs.Showing.{IsFull};
 ghost use Rattle.xh_place.specs.Messages.{IsUnsent};
@@ -24,7 +25,7 @@ use xh_records::{Records, Seat};
 
 // The records go in flight on the direction, one after another.
 pub(crate) fn pass_all(records: &Records<Body>, seat: &mut Seat<Body>, given: &[u16], direction: u8)
-    requires own { IsSeatOf records.now seat.old × (direction < 128) }
+    requires own { IsSeatOf records.now seat.old × (direction < DIRECTIONS) }
     requires distinct { Distinct given.now }
     requires held { (r : ℕ) → Among given.now r → IsRecord records.now.shape r × ((l : LotOf Body) × (value_at r seat.old.lots ≡ Some l) × IsFull fits_in l) }
     ensures passed { HasNow (with_done (passed_on seat.old.process direction given.now) seat.old) seat.new.lots seat.new }
@@ -44,8 +45,8 @@ fn accept_into(
     r: u16,
     direction: u8,
 )
-    requires own { IsSeatOf records.now seat.old × IsRecord records.now.shape r × (direction < 128) }
-    requires room { length back.old.items < 8 }
+    requires own { IsSeatOf records.now seat.old × IsRecord records.now.shape r × (direction < DIRECTIONS) }
+    requires room { length back.old.items < MAX_BLOCKS }
     ensures long { length back.new.items ≤ length back.old.items + 1 }
     ensures only { (q : ℕ) → Among (keys back.new.items) q → Among (keys back.old.items) q ⊎ (q ≡ r) }
     ensures came { (rs : List ℕ) × (keys back.new.items ≡ keys back.old.items ++ rs) × HasNow (with_done (accepted_on seat.old.process direction rs) seat.old) seat.new.lots seat.new }
@@ -66,8 +67,8 @@ pub(crate) fn accept_back(
     given: &[u16],
     direction: u8,
 ) -> ArrayVec<(u16, Header), 8>
-    requires own { IsSeatOf records.now seat.old × (direction < 128) }
-    requires few { length given.now ≤ 8 }
+    requires own { IsSeatOf records.now seat.old × (direction < DIRECTIONS) }
+    requires few { length given.now ≤ MAX_BLOCKS }
     requires distinct { Distinct given.now }
     requires gone { (r : ℕ) → Among given.now r → value_at r seat.old.lots ≡ None }
     requires records { (r : ℕ) → Among given.now r → IsRecord records.now.shape r }
@@ -114,7 +115,7 @@ fn post<R: Wait, G: Gate>(
     requires end { (l : LotOf Body) × (value_at e seat.old.lots ≡ Some l) × IsBlock seat.old.shape e l × (kind_of (content_of l.body) ≡ kind.End) }
     requires distinct { Distinct given.now.items × (Among given.now.items e → ⊥) }
     requires held { (r : ℕ) → Among given.now.items r → (l : LotOf Body) × (value_at r seat.old.lots ≡ Some l) × IsBlock seat.old.shape r l }
-    ensures direction { (result.1 ≡ away (item_in (value_at e seat.old.lots)).content) × (result.1 < 128) }
+    ensures direction { (result.1 ≡ away (item_in (value_at e seat.old.lots)).content) × (result.1 < DIRECTIONS) }
     ensures passed { HasNow (with_done (passed_on seat.old.process result.1 given.now.items) seat.old) seat.new.lots seat.new }
     ensures end { (l : LotOf Body) → value_at e seat.old.lots ≡ Some l → (m : LotOf Body) × (value_at e seat.new.lots ≡ Some m) × (item_of m ≡ item_of l) × IsBlock seat.old.shape e m }
     ensures gone { (r : ℕ) → Among given.now.items r → value_at r seat.new.lots ≡ None }

@@ -6,7 +6,7 @@ ghost use Rattle.xh_model.specs.Arena.{IsGoodCut};
 ghost use Rattle.xh_model.specs.Keyed.{Among, keys, value_at, put, without};
 ghost use Rattle.xh_records.specs.Showing.{IsLotOf, IsFull};
 ghost use Rattle.xh_records.specs.Seats.{Held, IsSeatOf, IsRecord, did, with_lots};
-ghost use Rattle.xh_model.specs.declared.limits.TheConstants.{MAX_BYTES, UNIT};
+ghost use Rattle.xh_model.specs.declared.limits.TheConstants.{DIRECTIONS, MAX_BYTES, MAX_RECORDS, UNIT};
 ghost use Rattle.xh_place.specs.inner.Lots.{HasNow, IsCut, IsData};
 ghost use Rattle.xh_place.specs.Vaults.{IsNoBlock, IsRefusedAt};
 ghost use Rattle.xh_place.specs.inner.Answers.{reason_of};
@@ -24,6 +24,7 @@ use std::alloc::Global;
 use std::mem;
 use xh_arena::{Lot, Refused, Tally};
 use xh_core::Refused as Reason;
+use xh_model::limits::{MAX_RECORDS, PLACES};
 use xh_records::{Records, Seat};
 
 // The lot gets bytes and a body.
@@ -60,15 +61,16 @@ pub(crate) fn fill_lot<V: Vaults>(
     body: &mut Body,
 ) -> Result<(), Refused>
     requires own { IsSeatOf records.now seat.old × IsRecord records.now.shape r }
-    requires held { (l : LotOf Body) × (value_at r seat.old.lots ≡ Some l) × (l.len ≡ 0) × IsLotOf seat.old.shape r l × (slice_get (V.names vaults.old) (r / 256) ≡ Some l.id) × (tally.old.id ≡ l.id) }
+    requires held { (l : LotOf Body) × (value_at r seat.old.lots ≡ Some l) × (l.len ≡ 0) × IsLotOf seat.old.shape r l
+        × (slice_get (V.names vaults.old) (r / MAX_RECORDS) ≡ Some l.id) × (tally.old.id ≡ l.id) }
     requires size { (0 < n) × (n % UNIT ≡ 0) × (n ≤ V.extent vaults.old) }
     ensures same { (V.names vaults.new ≡ V.names vaults.old) × (V.extent vaults.new ≡ V.extent vaults.old) }
     ensures seat { OnOk result ((l : LotOf Body) → value_at r seat.old.lots ≡ Some l → seat.new ≡ with_lots seat.old (put r (record l { len = n; body = body.old }) seat.old.lots)) }
     ensures tally { OnOk result (tally.new ≡ record tally.old { taken = tally.old.taken + n }) }
     ensures refused { OnErr result ((l : LotOf Body) → value_at r seat.old.lots ≡ Some l → (seat.new ≡ with_lots seat.old (put r l seat.old.lots)) × (tally.new ≡ tally.old)) }
-    ensures why { IfErr result (IsRefusedAt V.changes vaults.old vaults.new (r / 256) n) }
+    ensures why { IfErr result (IsRefusedAt V.changes vaults.old vaults.new (r / MAX_RECORDS) n) }
 {
-    let arena = (r / 256) as u8;
+    let arena = (r / MAX_RECORDS) as u8;
     records.with_lot(
         seat,
         r,
@@ -97,12 +99,13 @@ pub(crate) fn empty_lot<V: Vaults>(
     tally: &mut Tally,
 )
     requires own { IsSeatOf records.now seat.old × IsRecord records.now.shape r }
-    requires held { (l : LotOf Body) × (value_at r seat.old.lots ≡ Some l) × (0 < l.len) × IsLotOf seat.old.shape r l × (slice_get (V.names vaults.old) (r / 256) ≡ Some l.id) × (tally.old.id ≡ l.id) }
+    requires held { (l : LotOf Body) × (value_at r seat.old.lots ≡ Some l) × (0 < l.len) × IsLotOf seat.old.shape r l
+        × (slice_get (V.names vaults.old) (r / MAX_RECORDS) ≡ Some l.id) × (tally.old.id ≡ l.id) }
     ensures same { (V.names vaults.new ≡ V.names vaults.old) × (V.extent vaults.new ≡ V.extent vaults.old) }
     ensures lot { (l : LotOf Body) → value_at r seat.old.lots ≡ Some l → (seat.new ≡ with_lots seat.old (put r (record l { len = 0; body = Nothing }) seat.old.lots))
         × (tally.new ≡ record tally.old { back = tally.old.back + l.len }) }
 {
-    let arena = (r / 256) as u8;
+    let arena = (r / MAX_RECORDS) as u8;
     records.with_lot(
         seat,
         r,
@@ -151,7 +154,7 @@ pub(crate) fn reason(refused: Refused) -> Reason
 
 // The place of a seat.
 pub(crate) fn place_of(seat: &Seat<Body>) -> u8 {
-    (seat.process() % 32) as u8
+    (seat.process() % PLACES as u16) as u8
 }
 
 // Claims a record of the arena, and gives it bytes and a buffer of zeros.
@@ -170,7 +173,7 @@ pub(crate) fn make_block<V: Vaults, G: Gate>(
     requires tally { (arena < length (V.names vaults.old)) × (slice_get (V.names vaults.old) arena ≡ Some tally.old.id) }
     requires size { (0 < n) × (n % UNIT ≡ 0) × (n ≤ V.extent vaults.old) × (n ≤ MAX_BYTES) }
     ensures same { (V.names vaults.new ≡ V.names vaults.old) × (V.extent vaults.new ≡ V.extent vaults.old) }
-    ensures arena { IfOk result (λ r. r / 256 ≡ arena) }
+    ensures arena { IfOk result (λ r. r / MAX_RECORDS ≡ arena) }
     ensures block { IfOk result (λ r. (l : LotOf Body) × (Among (keys seat.old.lots) r → ⊥) × HasNow seat.old (seat.old.lots ++ (r, l) ∷ []) seat.new × IsBlock seat.old.shape r l
         × (l.len ≡ n) × (content_of l.body ≡ bytes (replicate n 0))) }
     ensures tally { OnOk result (tally.new ≡ record tally.old { taken = tally.old.taken + n }) }
@@ -205,7 +208,8 @@ pub(crate) fn give_up<V: Vaults, G: Gate>(
     gate: &G,
 )
     requires own { IsSeatOf records.now seat.old × IsRecord records.now.shape r }
-    requires held { (l : LotOf Body) × (value_at r seat.old.lots ≡ Some l) × (0 < l.len) × IsLotOf seat.old.shape r l × (slice_get (V.names vaults.old) (r / 256) ≡ Some l.id) × (tally.old.id ≡ l.id) }
+    requires held { (l : LotOf Body) × (value_at r seat.old.lots ≡ Some l) × (0 < l.len) × IsLotOf seat.old.shape r l
+        × (slice_get (V.names vaults.old) (r / MAX_RECORDS) ≡ Some l.id) × (tally.old.id ≡ l.id) }
     ensures same { (V.names vaults.new ≡ V.names vaults.old) × (V.extent vaults.new ≡ V.extent vaults.old) }
     ensures seat { HasNow seat.old (without r seat.old.lots) seat.new }
     ensures tally { (l : LotOf Body) → value_at r seat.old.lots ≡ Some l → tally.new ≡ record tally.old { back = tally.old.back + l.len } }
@@ -244,7 +248,7 @@ pub(crate) fn accept_block(
     r: u16,
     direction: u8,
 ) -> Result<Header, u64>
-    requires own { IsSeatOf records.now seat.old × IsRecord records.now.shape r × (direction < 128) }
+    requires own { IsSeatOf records.now seat.old × IsRecord records.now.shape r × (direction < DIRECTIONS) }
     ensures here { IfOk result (λ s. (l : LotOf Body) × (Among (keys seat.old.lots) r → ⊥)
         × HasNow (did (Accept seat.old.process r direction) seat.old) (seat.old.lots ++ (r, l) ∷ []) seat.new × IsBlock seat.old.shape r l × (s ≡ header_of (item_of l))) }
     ensures missing { IfErr result (λ word. (word ≢ 2 + 4 * direction) × (seat.new ≡ seat.old)) }
@@ -295,13 +299,13 @@ pub(crate) fn part_lots<V: Vaults>(
 )
     requires own { IsSeatOf records.now seat.old × IsRecord records.now.shape r × IsRecord records.now.shape t × (r ≢ t) }
     requires held { (l m : LotOf Body) × (value_at r seat.old.lots ≡ Some l) × (value_at t seat.old.lots ≡ Some m) × IsLotOf seat.old.shape r l × IsLotOf seat.old.shape t m
-        × (slice_get (V.names vaults.old) (r / 256) ≡ Some l.id) × (m.id ≡ l.id) × (m.len ≡ 0) × IsGoodCut k l.len × (fits_in l.body l.len ≡ true)
+        × (slice_get (V.names vaults.old) (r / MAX_RECORDS) ≡ Some l.id) × (m.id ≡ l.id) × (m.len ≡ 0) × IsGoodCut k l.len × (fits_in l.body l.len ≡ true)
         × (kind_of (content_of l.body) ≡ kind.Data) }
     ensures same { (V.names vaults.new ≡ V.names vaults.old) × (V.extent vaults.new ≡ V.extent vaults.old) }
     ensures parted { (l m : LotOf Body) → value_at r seat.old.lots ≡ Some l → value_at t seat.old.lots ≡ Some m → (h : LotOf Body) × (h ≡ record l { len = k; body = h.body })
         × (content_of h.body ≡ front k (content_of l.body)) × (seat.new ≡ with_lots seat.old (put t (record m { len = l.len - k; body = body.old }) (put r h seat.old.lots))) }
 {
-    let arena = (r / 256) as u8;
+    let arena = (r / MAX_RECORDS) as u8;
     records.with_two(
         seat,
         r,
@@ -331,7 +335,7 @@ pub(crate) fn cut_block<V: Vaults, G: Gate>(
     ensures refused { OnErr result (HasNow seat.old seat.old.lots seat.new × (vaults.new ≡ vaults.old)) }
     ensures why { IfErr result (λ e. (e ≡ Reason.NoRecord) ⊎ (e ≡ Reason.OutOfMemory)) }
 {
-    let Ok(t) = records.claim(seat, (r / 256) as u8) else {
+    let Ok(t) = records.claim(seat, (r / MAX_RECORDS) as u8) else {
         return Err(Reason::NoRecord);
     };
     gate.between(place_of(seat), Point::Claimed);

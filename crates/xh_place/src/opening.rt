@@ -5,7 +5,7 @@ ghost use Rattle.xh_channel.specs.Queues.{Posted};
 ghost use Rattle.xh_model.specs.Keyed.{Among, keys, put, value_at, without};
 ghost use Rattle.xh_records.specs.Showing.{IsEmpty, IsLotOf};
 ghost use Rattle.xh_records.specs.Seats.{Held, IsRecord, IsSeatOf, with_lots};
-ghost use Rattle.xh_model.specs.declared.limits.TheConstants.{END_BYTES};
+ghost use Rattle.xh_model.specs.declared.limits.TheConstants.{END_BYTES, MAX_RECORDS};
 ghost use Rattle.xh_place.specs.declared.body.Body.{Body};
 ghost use Rattle.xh_place.specs.declared.body.Body.TheVariants.{End};
 ghost use Rattle.xh_place.specs.Bodies.{fits_in};
@@ -23,7 +23,7 @@ use std::mem;
 use xh_arena::{Lot, Refused, Tally};
 use xh_channel::Endpoint;
 use xh_core::Refused as Reason;
-use xh_model::limits::END_BYTES;
+use xh_model::limits::{END_BYTES, MAX_RECORDS};
 use xh_records::{Records, Seat};
 
 /// Why an open was refused. It hands the ends back.
@@ -74,7 +74,7 @@ fn halve_lots<V: Vaults>(
 ) -> Result<(), Refused>
     requires own { IsSeatOf records.now seat.old × IsRecord records.now.shape r × IsRecord records.now.shape t × (r ≢ t) }
     requires held { (l m : LotOf Body) × (value_at r seat.old.lots ≡ Some l) × (value_at t seat.old.lots ≡ Some m) × IsLotOf seat.old.shape r l × IsLotOf seat.old.shape t m
-        × (slice_get (V.names vaults.old) (r / 256) ≡ Some l.id) × (m.id ≡ l.id) × (tally.old.id ≡ l.id) × (l.len ≡ 0) × (m.len ≡ 0) }
+        × (slice_get (V.names vaults.old) (r / MAX_RECORDS) ≡ Some l.id) × (m.id ≡ l.id) × (tally.old.id ≡ l.id) × (l.len ≡ 0) × (m.len ≡ 0) }
     requires size { 2 * END_BYTES ≤ V.extent vaults.old }
     ensures same { (V.names vaults.new ≡ V.names vaults.old) × (V.extent vaults.new ≡ V.extent vaults.old) }
     ensures halved { OnOk result ((l m : LotOf Body) → value_at r seat.old.lots ≡ Some l → value_at t seat.old.lots ≡ Some m
@@ -82,9 +82,9 @@ fn halve_lots<V: Vaults>(
     ensures tally { OnOk result (tally.new ≡ record tally.old { taken = tally.old.taken + 2 * END_BYTES }) }
     ensures refused { OnErr result ((l m : LotOf Body) → value_at r seat.old.lots ≡ Some l → value_at t seat.old.lots ≡ Some m
         → (seat.new ≡ with_lots seat.old (put t m (put r l seat.old.lots))) × (tally.new ≡ tally.old) × (first.new ≡ first.old) × (second.new ≡ second.old)) }
-    ensures why { IfErr result (IsRefusedAt V.changes vaults.old vaults.new (r / 256) (2 * END_BYTES)) }
+    ensures why { IfErr result (IsRefusedAt V.changes vaults.old vaults.new (r / MAX_RECORDS) (2 * END_BYTES)) }
 {
-    let arena = (r / 256) as u8;
+    let arena = (r / MAX_RECORDS) as u8;
     records.with_two(
         seat,
         r,
@@ -153,13 +153,13 @@ fn fit_ends<V: Vaults>(
 ) -> Result<(), Unopened>
     requires own { IsSeatOf records.now seat.old × IsRecord records.now.shape r × IsRecord records.now.shape t × (r ≢ t) }
     requires held { (l m : LotOf Body) × (value_at r seat.old.lots ≡ Some l) × (value_at t seat.old.lots ≡ Some m) × IsLotOf seat.old.shape r l × IsLotOf seat.old.shape t m
-        × (slice_get (V.names vaults.old) (r / 256) ≡ Some l.id) × (m.id ≡ l.id) × (tally.old.id ≡ l.id) × (l.len ≡ 0) × (m.len ≡ 0) }
+        × (slice_get (V.names vaults.old) (r / MAX_RECORDS) ≡ Some l.id) × (m.id ≡ l.id) × (tally.old.id ≡ l.id) × (l.len ≡ 0) × (m.len ≡ 0) }
     ensures same { (V.names vaults.new ≡ V.names vaults.old) × (V.extent vaults.new ≡ V.extent vaults.old) }
     ensures fitted { OnOk result ((l m : LotOf Body) → value_at r seat.old.lots ≡ Some l → value_at t seat.old.lots ≡ Some m
         → seat.new ≡ with_lots seat.old (put t (record m { len = END_BYTES; body = End high }) (put r (record l { len = END_BYTES; body = End low }) seat.old.lots))) }
     ensures tally { OnOk result (tally.new ≡ record tally.old { taken = tally.old.taken + 2 * END_BYTES }) }
     ensures refused { IfErr result (λ u. (seat.new ≡ seat.old) × (tally.new ≡ tally.old) × (u.low ≡ low) × (u.high ≡ high)) }
-    ensures why { IfErr result (λ u. IsNoPair V.changes vaults.old vaults.new (r / 256) (2 * END_BYTES) (V.extent vaults.old) u.why) }
+    ensures why { IfErr result (λ u. IsNoPair V.changes vaults.old vaults.new (r / MAX_RECORDS) (2 * END_BYTES) (V.extent vaults.old) u.why) }
 {
     if vaults.size() < 2 * END_BYTES {
         let why = Reason::NoSpace;

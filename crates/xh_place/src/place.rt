@@ -19,6 +19,7 @@ use crate::list::entry;
 use std::alloc::Global;
 use std::marker::Model;
 use xh_core::{PlaceLine, Refused, State, Status};
+use xh_model::limits::PLACES;
 use xh_records::{Records, Seat};
 
 /// A place: the seat that holds the lots of its blocks, their list in the order gained, their total
@@ -169,7 +170,7 @@ impl Place {
     {
         let process = self.seat.process();
         PlaceLine {
-            place: (process % 32) as u8,
+            place: (process % PLACES as u16) as u8,
             process,
             state: state_of(self.state),
             blocks: self.list.len() as u32,

@@ -1,6 +1,7 @@
 // What reclaiming does to the seat and the list: blocks that stand one after another are given up together.
 ghost use Rattle.std.specs.Prelude.{◌≡◌, ◌≢◌, ℕ, ◌+◌, ◌*◌, ◌/◌, ◌<◌, ◌≤◌, List, ◌++◌, length, take, drop, Some, None, vec_capacity};
 ghost use Rattle.xh_arena.specs.Views.{LotOf};
+ghost use Rattle.xh_model.specs.declared.limits.TheConstants.{MAX_RECORDS};
 ghost use Rattle.xh_model.specs.Keyed.{Among, Distinct, keys, value_at, without};
 ghost use Rattle.xh_records.specs.Seats.{IsSeatOf};
 ghost use Rattle.xh_place.specs.declared.body.Body.{Body};
@@ -15,6 +16,7 @@ use crate::gate::Gate;
 use crate::lots::give_up;
 use crate::vaults::Vaults;
 use xh_arena::Tally;
+use xh_model::limits::MAX_RECORDS;
 use xh_records::{Records, Seat};
 
 // How many blocks are reclaimed together: the one at `from`, and the data blocks after it, at most so many.
@@ -56,9 +58,9 @@ fn give_up_at<V: Vaults, G: Gate>(
     requires held { (l : LotOf Body) × (value_at r seat.old.lots ≡ Some l) × IsBlock seat.old.shape r l }
     ensures same { (V.names vaults.new ≡ V.names vaults.old) × (V.extent vaults.new ≡ V.extent vaults.old) × (ids_of tallies.new ≡ ids_of tallies.old) }
     ensures seat { HasNow seat.old (without r seat.old.lots) seat.new }
-    ensures back { (l : LotOf Body) → value_at r seat.old.lots ≡ Some l → tallies.new ≡ gave (r / 256) l.len tallies.old }
+    ensures back { (l : LotOf Body) → value_at r seat.old.lots ≡ Some l → tallies.new ≡ gave (r / MAX_RECORDS) l.len tallies.old }
 {
-    let tally = &mut tallies[usize::from(r / 256)];
+    let tally = &mut tallies[usize::from(r / MAX_RECORDS)];
     give_up(records, seat, r, vaults, tally, gate);
 }
 

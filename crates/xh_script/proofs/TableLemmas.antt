@@ -6,7 +6,30 @@ use Rattle.xh_model.specs.declared.row.Row.{Row}
 use Rattle.xh_model.specs.Rows.{no_row, row_at, IsRow, IsInRange, IsValid, Agree}
 use Rattle.xh_core.specs.Tables.{IsNoContract}
 use Rattle.xh_core.specs.declared.refused.Refused.{Refused}
-use Rattle.xh_core.specs.declared.refused.Refused.TheVariants.{OutOfMemory, BadSize, NoArena, NoSpace, NoRecord, NotOwned, NotData, NotEndpoint, BadCut, BadRange, NoProcess, Ended, NoChannel, Full, PeerClosed, Empty, TooMany, Twice, Worn, Unfinished, NoPlace, Protocol}
+use Rattle.xh_core.specs.declared.refused.Refused.TheVariants.{
+  OutOfMemory,
+  BadSize,
+  NoArena,
+  NoSpace,
+  NoRecord,
+  NotOwned,
+  NotData,
+  NotEndpoint,
+  BadCut,
+  BadRange,
+  NoProcess,
+  Ended,
+  NoChannel,
+  Full,
+  PeerClosed,
+  Empty,
+  TooMany,
+  Twice,
+  Worn,
+  Unfinished,
+  NoPlace,
+  Protocol,
+}
 use Rattle.xh_script.specs.Tables.{is_row, agree, all_agree, is_table}
 
 both : (a b : Bool) → (a && b) ≡ true → (a ≡ true) × (b ≡ true)

@@ -1,13 +1,13 @@
 //! The text of a ledger.
 use arrayvec::ArrayVec;
 use std::test::Fail;
-use xh_core::{ArenaLine, Ledger, PlaceLine, State};
+use xh_core::{ARENA_LINES, ArenaLine, Ledger, PLACE_LINES, PlaceLine, State};
 use xh_script::{Watched, read_script, write_ledger};
 
 const TEXT: &str =
     "arena 0 256 128 1 128 0\nprocess a running 1 32\nprocess b ended 3 96\nowned 128\nflight 0\nout 128\n";
 
-fn arenas() -> ArrayVec<ArenaLine, 8> {
+fn arenas() -> ArrayVec<ArenaLine, ARENA_LINES> {
     let mut arenas = ArrayVec::new();
     let _ = arenas.try_push(ArenaLine {
         size: 256,
@@ -19,7 +19,7 @@ fn arenas() -> ArrayVec<ArenaLine, 8> {
     arenas
 }
 
-fn places() -> ArrayVec<PlaceLine, 32> {
+fn places() -> ArrayVec<PlaceLine, PLACE_LINES> {
     let mut places = ArrayVec::new();
     let _ = places.try_push(PlaceLine {
         place: 0,

@@ -21,7 +21,21 @@ use Rattle.xh_serial.specs.inner.Placing.{place_in}
 use Rattle.xh_serial.proofs.Machines.{list_in, same_machine}
 use Rattle.xh_core.proofs.Claiming.{no_bytes}
 use Rattle.xh_serial.proofs.Room.{room}
-use Rattle.xh_serial.proofs.Appended.{ArePlaces, IsBusy, whole_places, running_place, appended, own_list, appended_places, appended_busy, appended_list, appended_twice, appended_both, times_longer, no_shorter}
+use Rattle.xh_serial.proofs.Appended.{
+  ArePlaces,
+  IsBusy,
+  whole_places,
+  running_place,
+  appended,
+  own_list,
+  appended_places,
+  appended_busy,
+  appended_list,
+  appended_twice,
+  appended_both,
+  times_longer,
+  no_shorter,
+}
 use Rattle.xh_core.proofs.Pairs.{Shared}
 use Rattle.xh_core.proofs.Stores.{at_set}
 use Rattle.xh_serial.proofs.Numbered.{set_numbered}

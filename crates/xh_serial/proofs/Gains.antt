@@ -24,7 +24,21 @@ use Rattle.xh_serial.proofs.Closing.{found, one_listed, frees_block}
 use Rattle.xh_serial.proofs.Kept.{whole_one}
 use Rattle.xh_core.proofs.Stores.{times-cons, is_there}
 use Rattle.xh_serial.proofs.Room.{few, few_records, held_there}
-use Rattle.xh_serial.proofs.Machines.{blocks_of, runs_busy, same_machine, current_blocks, list_in, list_here, list_else, current_generation, place_there, IsPlace, generations_set, idle_set, busy_place}
+use Rattle.xh_serial.proofs.Machines.{
+  blocks_of,
+  runs_busy,
+  same_machine,
+  current_blocks,
+  list_in,
+  list_here,
+  list_else,
+  current_generation,
+  place_there,
+  IsPlace,
+  generations_set,
+  idle_set,
+  busy_place,
+}
 
 cases_holder : (a b : Holder) → (a ≡ b) ⊎ (a ≢ b)
 cases_holder (Process p) (Process q) = elim (cases_eq p q) [ inl e ↦ inl (ap (λ (x : ℕ). Process x) e) | inr n ↦ inr (λ e. n cc) ]

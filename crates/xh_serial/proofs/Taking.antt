@@ -19,7 +19,21 @@ use Rattle.xh_serial.specs.MessageCommands.{taken, taken_line, front, no_message
 use Rattle.xh_serial.specs.inner.Checks.{MayTake}
 use Rattle.xh_serial.specs.inner.Placing.{blocks_in}
 use Rattle.xh_core.proofs.Stores.{count_append, Accepted, accepted_all}
-use Rattle.xh_serial.proofs.Machines.{runs_busy, place_there, list_here, list_else, current_generation, current_range, current_blocks, busy_place, generations_set, idle_set, way_here, way_else, peer_ne}
+use Rattle.xh_serial.proofs.Machines.{
+  runs_busy,
+  place_there,
+  list_here,
+  list_else,
+  current_generation,
+  current_range,
+  current_blocks,
+  busy_place,
+  generations_set,
+  idle_set,
+  way_here,
+  way_else,
+  peer_ne,
+}
 use Rattle.xh_serial.proofs.Room.{room}
 use Rattle.xh_serial.proofs.Wired.{state_in, tags_in, IsPair, same_lines, wired_pair, pair_of, half_apart}
 use Rattle.xh_serial.proofs.Moved.{Moved, moved_whole}

@@ -2,6 +2,7 @@
 use Rattle.std.specs.Prelude.{ℕ, ◌+◌, ◌-◌, ◌/◌, ◌==◌, ◌||◌, Bool, List, [], ◌∷◌}
 use Rattle.std.specs.Prelude.{◌++◌, is_none, length, take, drop, replicate, nat_le, nat_lt, slice_set, Ok}
 use Rattle.std.specs.List.{remove, position_or_len}
+use Rattle.xh_model.specs.declared.limits.TheConstants.{MAX_RECORDS}
 use Rattle.xh_model.specs.declared.event.Event.TheVariants.{Claim, Carve, Cut, GiveBack, Vacate}
 use Rattle.xh_model.specs.Store.{arena_at, len, after}
 use Rattle.xh_core.specs.declared.block.Block.{Block}
@@ -40,7 +41,7 @@ alloc is_refused p n a m = answered (first_refusal (alloc_tests is_refused m p n
 abbrev pub split_heads : Machine → ℕ → ℕ → ℕ → Tests
 split_heads m p r k = start m p ++ data_tests m p r
     ++ (is_bad_cut k (len m.store r), BadCut)
-    ∷ (is_none (free_record m.store (r / 256)), NoRecord) ∷ []
+    ∷ (is_none (free_record m.store (r / MAX_RECORDS)), NoRecord) ∷ []
 
 abbrev pub split_tests : Bool → Machine → ℕ → ℕ → ℕ → Tests
 split_tests is_refused m p r k = split_heads m p r k ++ (is_refused, OutOfMemory) ∷ []
@@ -54,7 +55,7 @@ parted p r t k m = with_list p (blocks m p ++ t ∷ []) (record m {
 
 unfoldable pub split : Bool → ℕ → ℕ → ℕ → Machine → Answer (Block × Block)
 split is_refused p r k m =
-    let t : ℕ = lowest m.store (r / 256) in
+    let t : ℕ = lowest m.store (r / MAX_RECORDS) in
     answered (first_refusal (split_tests is_refused m p r k)) m
     (Ok (record { rec = r; len = k }, record { rec = t; len = len m.store r - k }), parted p r t k m)
 

@@ -1,5 +1,6 @@
 -- The commands open and wire, with a contract or without.
 use Rattle.std.specs.Prelude.{ℕ, ◌+◌, ◌*◌, ◌==◌, false, cond, List, [], ◌∷◌, ◌++◌, Option, Some, None, length, nat_le, slice_set, Ok}
+use Rattle.xh_model.specs.declared.limits.TheConstants.{CHANNELS, END_BYTES}
 use Rattle.xh_model.specs.declared.event.Event.TheVariants.{Claim, Carve, Cut}
 use Rattle.xh_model.specs.declared.row.Row.{Row}
 use Rattle.xh_model.specs.Rows.{row_at}
@@ -15,7 +16,7 @@ use Rattle.xh_core.specs.Space.{low_end, high_end, pair_tests}
 
 -- no arena, or no channel
 abbrev pub channel_heads : Machine → ℕ → Tests
-channel_heads m a = (nat_le (length m.store.arenas) a, NoArena) ∷ (nat_le 64 m.opened, NoChannel) ∷ []
+channel_heads m a = (nat_le (length m.store.arenas) a, NoArena) ∷ (nat_le CHANNELS m.opened, NoChannel) ∷ []
 
 abbrev pub open_tests : Machine → ℕ → ℕ → Tests
 open_tests m p a = start m p ++ channel_heads m a ++ pair_tests p m.store a
@@ -37,12 +38,12 @@ new_line contract = record { shut = false; state = first_state contract; put = 0
 
 -- the two ends as blocks
 abbrev pub ends_at : ℕ → ℕ → Block × Block
-ends_at r t = (record { rec = r; len = 32 }, record { rec = t; len = 32 })
+ends_at r t = (record { rec = r; len = END_BYTES }, record { rec = t; len = END_BYTES })
 
 -- Two free records r and t are claimed, 64 bytes are carved for r and cut in halves: r is side 0 and t side 1 of the next channel.
 unfoldable pub opened : ℕ → ℕ → ℕ → Option (List Row) → Machine → Machine
 opened p r t contract m = record m {
-  store = after (Cut p r t 32) (after (Carve p r 64) (after (Claim p t) (after (Claim p r) m.store)));
+  store = after (Cut p r t END_BYTES) (after (Carve p r (2 * END_BYTES)) (after (Claim p t) (after (Claim p r) m.store)));
   ends = slice_set (slice_set m.ends r (Some (2 * m.opened))) t (Some (2 * m.opened + 1));
   lines = slice_set (slice_set m.lines (2 * m.opened) (new_line contract)) (2 * m.opened + 1) (new_line contract);
   contracts = slice_set m.contracts m.opened contract;

@@ -1,5 +1,6 @@
 -- What the commands share: what each answers, and the tests of processes and blocks.
 use Rattle.std.specs.Prelude.{◌≡◌, ℕ, true, not, [], ◌∷◌, Option, Some, None, is_some, is_none, Result, Err, unwrap_or}
+use Rattle.xh_model.specs.declared.limits.TheConstants.{DIRECTIONS}
 use Rattle.xh_model.specs.declared.event.Holder.TheVariants.{Process}
 use Rattle.xh_model.specs.Store.{holds}
 use Rattle.xh_core.specs.declared.refused.Refused.{Refused}
@@ -39,4 +40,4 @@ end_tests m p e = (not (holds m.store (Process p) e), NotOwned) ∷ (is_none (en
 
 -- the direction toward the endpoint e
 abbrev pub toward : Machine → ℕ → ℕ
-toward m e = unwrap_or (end_of m e) 128
+toward m e = unwrap_or (end_of m e) DIRECTIONS

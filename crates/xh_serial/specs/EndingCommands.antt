@@ -2,6 +2,7 @@
 use Rattle.std.specs.Prelude.{ℕ, ◌-◌, ◌==◌, cond, List, [], ◌∷◌, ◌++◌, length, Ok, Err}
 use Rattle.std.specs.List.{remove, position_or_len}
 use Rattle.xh_model.specs.Store.{all_out}
+use Rattle.xh_model.specs.declared.limits.TheConstants.{MAX_BUDGET}
 use Rattle.xh_core.specs.declared.refused.Refused.TheVariants.{Unfinished}
 use Rattle.xh_core.specs.declared.status.Status.TheVariants.{Ending, Ended}
 use Rattle.xh_serial.specs.Machine.{Machine, blocks, with_list, with_status}
@@ -39,7 +40,7 @@ moved_last p e m = with_list p (last e (blocks m p)) m
 
 -- the endpoint goes to the end of the list, and the list is swept from there
 unfoldable pub closed : ℕ → ℕ → Machine → Machine
-closed p e m = sweep p (length (blocks m p) - 1) 4096 (moved_last p e m)
+closed p e m = sweep p (length (blocks m p) - 1) MAX_BUDGET (moved_last p e m)
 
 abbrev pub close_tests : Machine → ℕ → ℕ → Tests
 close_tests m p e = start m p ++ end_tests m p e

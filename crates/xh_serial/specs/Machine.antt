@@ -2,6 +2,7 @@
 use Rattle.std.specs.Prelude.{◌≡◌, ℕ, ◌+◌, ◌*◌, ◌/◌, ◌%◌, ◌-◌, ◌<◌, ◌≤◌, ◌==◌, ◌||◌, Bool, true, false}
 use Rattle.std.specs.Prelude.{cond, List, [], ◌∷◌, Option, Some, None, is_some, length, map, nat_le, nat_lt, slice_set, slice_index_or, unwrap_or}
 use Rattle.std.specs.List.{flat_map}
+use Rattle.xh_model.specs.declared.limits.TheConstants.{CHANNELS, DIRECTIONS, MAX_DEPTH, PLACES, PROCESSES}
 use Rattle.xh_model.specs.declared.event.Holder.{Holder}
 use Rattle.xh_model.specs.declared.event.Holder.TheVariants.{Process, Direction}
 use Rattle.xh_model.specs.declared.row.Row.{Row}
@@ -44,11 +45,11 @@ no_place = record { blocks = record { items = [] }; status = Vacant; generation 
 
 -- the place of a process, by the process's number
 abbrev pub place : Machine → ℕ → Place
-place m p = slice_index_or m.places (p % 32) no_place
+place m p = slice_index_or m.places (p % PLACES) no_place
 
 -- whether the process is the latest of its place
 abbrev pub is_current : Machine → ℕ → Bool
-is_current m p = (place m p).generation == (p / 32)
+is_current m p = (place m p).generation == (p / PLACES)
 
 -- the records that a process holds, in the order gained
 abbrev pub blocks : Machine → ℕ → List ℕ
@@ -57,15 +58,15 @@ blocks m p = cond (is_current m p) (place m p).blocks.items []
 -- how far a process has come; Vacant where there is no such process
 abbrev pub status_of : Machine → ℕ → Status
 status_of m p =
-    cond (nat_le 4096 p || nat_lt (place m p).generation (p / 32)) Vacant
+    cond (nat_le PROCESSES p || nat_lt (place m p).generation (p / PLACES)) Vacant
     (cond (is_current m p) (place m p).status Ended)
 
 -- the latest process of p's place has another list, or another status
 abbrev pub with_list : ℕ → List ℕ → Machine → Machine
-with_list p rs m = record m { places = slice_set m.places (p % 32) (record (place m p) { blocks = record { items = rs } }) }
+with_list p rs m = record m { places = slice_set m.places (p % PLACES) (record (place m p) { blocks = record { items = rs } }) }
 
 abbrev pub with_status : ℕ → Status → Machine → Machine
-with_status p s m = record m { places = slice_set m.places (p % 32) (record (place m p) { status = s }) }
+with_status p s m = record m { places = slice_set m.places (p % PLACES) (record (place m p) { status = s }) }
 
 -- ---- directions
 
@@ -156,13 +157,13 @@ pub record IsWhole (m : Machine) : Type 0 where
   pub ends : (r d : ℕ) → end_of m r ≡ Some d → IsEnd m r d
   pub buffers : length m.buffers ≡ length m.store.owners
   pub bytes : (r : ℕ) → length (buffer m r) ≡ cond (is_some (end_of m r)) 0 (len m.store r)
-  pub places : length m.places ≡ 32
+  pub places : length m.places ≡ PLACES
   pub generations : (p : ℕ) → (place m p).generation ≤ 127
   pub idle : (p : ℕ) → (is_vacant (place m p).status || is_ended (place m p).status) ≡ true → (place m p).blocks.items ≡ []
-  pub lines : length m.lines ≡ 128
+  pub lines : length m.lines ≡ DIRECTIONS
   pub fresh : (d : ℕ) → 2 * m.opened ≤ d → line m d ≡ no_line
   pub numbered : (d : ℕ) → IsNumbered (line m d)
-  pub contracts : length m.contracts ≡ 64
+  pub contracts : length m.contracts ≡ CHANNELS
   pub wired : AreWired m.contracts m.lines
-  pub opened : m.opened ≤ 64
-  pub deep : m.depth ≤ 16
+  pub opened : m.opened ≤ CHANNELS
+  pub deep : m.depth ≤ MAX_DEPTH

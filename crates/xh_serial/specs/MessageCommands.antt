@@ -2,6 +2,7 @@
 use Rattle.std.specs.Prelude.{◌≡◌, ℕ, ◌+◌, ◌-◌, ◌*◌, ◌%◌, ◌==◌, ◌&&◌, ◌||◌, ◌⊎◌, Bool, false, not, List}
 use Rattle.std.specs.Prelude.{[], ◌∷◌, ◌++◌, Option, Some, None, is_none, length, nat_le, nat_lt, slice_set, slice_index_or, Ok}
 use Rattle.std.specs.List.{remove, list_any, list_all, filter}
+use Rattle.xh_model.specs.declared.limits.TheConstants.{MAX_BLOCKS}
 use Rattle.xh_model.specs.declared.event.Holder.TheVariants.{Process}
 use Rattle.xh_model.specs.declared.row.Row.{Row}
 use Rattle.xh_model.specs.Rows.{allowed, IsFrontAllowed}
@@ -32,7 +33,7 @@ is_full depth l = nat_le depth (length l.waiting.items) || nat_le LAST l.put
 -- the blocks, then the contract, the peer, and room in the direction
 abbrev pub message_tests : Machine → ℕ → ℕ → ℕ → List ℕ → Tests
 message_tests m p e tag bs =
-    (nat_lt 8 (length bs), TooMany)
+    (nat_lt MAX_BLOCKS (length bs), TooMany)
     ∷ (not (list_all (λ r. holds m.store (Process p) r) bs), NotOwned)
     ∷ (has_twice (e ∷ bs), Twice)
     ∷ (is_banned (contract_of m.contracts (toward m e)) (toward m e % 2) (line m (toward m e)).state tag, Protocol (record { items = bs }))

@@ -1,6 +1,7 @@
 -- A new machine, and the commands spawn, glance and ledger.
 use Rattle.std.specs.Prelude.{ℕ, ◌+◌, ◌*◌, ◌&&◌, ◌||◌, Bool, cond, List, [], ◌∷◌, Option, Some, None, length, map, replicate, nat_le, nat_lt, slice_set, slice_index_or, Result, Ok, Err}
 use Rattle.std.specs.List.{position, sum_by}
+use Rattle.xh_model.specs.declared.limits.TheConstants.{CHANNELS, DIRECTIONS, MAX_RECORDS, PLACES}
 use Rattle.xh_model.specs.declared.config.Config.{Config}
 use Rattle.xh_model.specs.Store.{Store, len, all_out, new_store}
 use Rattle.xh_core.specs.declared.glance.Glance.{Glance}
@@ -22,11 +23,11 @@ use Rattle.xh_core.specs.ArenaLines.{arena_line}
 unfoldable pub new_machine : Config → Machine
 new_machine c = record {
   store = new_store c;
-  ends = replicate (256 * c.arenas) None;
-  buffers = replicate (256 * c.arenas) [];
-  places = replicate 32 no_place;
-  lines = replicate 128 no_line;
-  contracts = replicate 64 None;
+  ends = replicate (MAX_RECORDS * c.arenas) None;
+  buffers = replicate (MAX_RECORDS * c.arenas) [];
+  places = replicate PLACES no_place;
+  lines = replicate DIRECTIONS no_line;
+  contracts = replicate CHANNELS None;
   opened = 0;
   depth = c.depth;
 }
@@ -45,7 +46,7 @@ abbrev pub spawn_at : Option ℕ → Machine → Answer ℕ
 spawn_at None m = (Err NoPlace, m)
 spawn_at (Some k) m =
     let place : Place = started (slice_index_or m.places k no_place) in
-    (Ok (k + 32 * place.generation), record m { places = slice_set m.places k place })
+    (Ok (k + PLACES * place.generation), record m { places = slice_set m.places k place })
 
 -- a process starts at the lowest place where one can: its number
 unfoldable pub spawn : Machine → Answer ℕ
@@ -59,14 +60,14 @@ total s rs = sum_by (λ r. len s r) rs
 
 abbrev pub glance_of : ℕ → Place → Store → Glance
 glance_of k place s = record {
-  process = k + 32 * place.generation;
+  process = k + PLACES * place.generation;
   state = place.status;
   blocks = length place.blocks.items;
   bytes = total s place.blocks.items;
 }
 
 unfoldable pub glance : ℕ → Machine → Result Glance Refused
-glance k m = cond (nat_le 32 k) (Err NoProcess) (Ok (glance_of k (slice_index_or m.places k no_place) m.store))
+glance k m = cond (nat_le PLACES k) (Err NoProcess) (Ok (glance_of k (slice_index_or m.places k no_place) m.store))
 
 -- ---- ledger
 
@@ -79,7 +80,7 @@ line_state Ended = state.Ended
 abbrev pub place_line : Store → ℕ → Place → PlaceLine
 place_line s k place = record {
   place = k;
-  process = k + 32 * place.generation;
+  process = k + PLACES * place.generation;
   state = line_state place.status;
   blocks = length place.blocks.items;
   bytes = total s place.blocks.items;

@@ -1,6 +1,6 @@
 //! The channels: the two directions of each, and its contract.
 ghost use Rattle.std.specs.Prelude.{◌≡◌, ℕ, ◌+◌, ◌-◌, ◌*◌, ◌/◌, ◌%◌, ◌<◌, ◌≤◌, ◌==◌, [], IfOk, None, Some, false, length, replicate, slice_set};
-ghost use Rattle.xh_model.specs.declared.limits.TheConstants.{MAX_BLOCKS, MAX_DEPTH};
+ghost use Rattle.xh_model.specs.declared.limits.TheConstants.{CHANNELS, DIRECTIONS, MAX_BLOCKS, MAX_DEPTH};
 ghost use Rattle.xh_serial.specs.ChannelCommands.{first_state, new_line};
 ghost use Rattle.xh_serial.specs.Machine.{carried, contract_of, drained_state, next_state, no_line, peer, tags_of, way_in};
 ghost use Rattle.xh_serial.specs.MessageCommands.{is_banned, is_full, no_message, put_line, taken_line, told_line, LAST};
@@ -16,7 +16,7 @@ use arrayvec::ArrayVec;
 use std::alloc::{AllocError, Global};
 use std::marker::Model;
 use xh_core::Contract;
-use xh_model::limits::MAX_BLOCKS;
+use xh_model::limits::{CHANNELS, DIRECTIONS, MAX_BLOCKS};
 
 /// As many records as may wait in a direction.
 const WAITING: usize = ROOM * MAX_BLOCKS;
@@ -34,20 +34,21 @@ pub(crate) struct Channels {
 
 impl Model for Channels {
     ghost use Rattle.std.specs.Prelude.{◌≡◌, length};
+    ghost use Rattle.xh_model.specs.declared.limits.TheConstants.{CHANNELS, DIRECTIONS};
     ghost use Rattle.xh_serial.specs.inner.Channeling.{ChannelsOf};
 
     ghost Value = { ChannelsOf };
 
     ghost view = { λ c. record { lines = c.lines.items; contracts = c.contracts.items; opened = c.opened } };
 
-    ghost invariant = { λ c. (length c.lines.items ≡ 128) × (length c.contracts.items ≡ 64) };
+    ghost invariant = { λ c. (length c.lines.items ≡ DIRECTIONS) × (length c.contracts.items ≡ CHANNELS) };
 }
 
 /// The other direction of a channel.
 pub(crate) fn peer(d: u8) -> u8
-    requires { d < 128 }
+    requires { d < DIRECTIONS }
     ensures is { result ≡ peer d }
-    ensures within { result < 128 }
+    ensures within { result < DIRECTIONS }
 {
     if d % 2 == 0 { d + 1 } else { d - 1 }
 }
@@ -128,9 +129,9 @@ fn take_first(line: &mut Line) -> Message
 
 /// The directions of all channels.
 fn new_lines(alloc: Global) -> Result<Vec<Line>, AllocError>
-    ensures { IfOk result (λ lines. lines.items ≡ replicate 128 no_line) }
+    ensures { IfOk result (λ lines. lines.items ≡ replicate DIRECTIONS no_line) }
 {
-    let mut lines = Vec::with_capacity(alloc, 128)?;
+    let mut lines = Vec::with_capacity(alloc, DIRECTIONS as usize)?;
     for _ in 0..128u8 {
         lines.push(Line {
             shut: false,
@@ -144,9 +145,9 @@ fn new_lines(alloc: Global) -> Result<Vec<Line>, AllocError>
 
 /// No contract for any channel.
 fn no_contracts(alloc: Global) -> Result<Vec<Option<Contract>>, AllocError>
-    ensures { IfOk result (λ contracts. contracts.items ≡ replicate 64 None) }
+    ensures { IfOk result (λ contracts. contracts.items ≡ replicate CHANNELS None) }
 {
-    let mut contracts = Vec::with_capacity(alloc, 64)?;
+    let mut contracts = Vec::with_capacity(alloc, CHANNELS as usize)?;
     for _ in 0..64u8 {
         contracts.push(None)?;
     }
@@ -156,7 +157,7 @@ fn no_contracts(alloc: Global) -> Result<Vec<Option<Contract>>, AllocError>
 impl Channels {
     /// No channel is opened yet.
     pub(crate) fn none(alloc: Global) -> Result<Channels, AllocError>
-        ensures { IfOk result (λ channels. channels ≡ record { lines = replicate 128 no_line; contracts = replicate 64 None; opened = 0 }) }
+        ensures { IfOk result (λ channels. channels ≡ record { lines = replicate DIRECTIONS no_line; contracts = replicate CHANNELS None; opened = 0 }) }
     {
         Ok(Channels {
             lines: new_lines(alloc)?,
@@ -174,7 +175,7 @@ impl Channels {
 
     /// The messages that wait in a direction, front first.
     pub(crate) fn waiting(&self, d: u8) -> &[Message]
-        requires { d < 128 }
+        requires { d < DIRECTIONS }
         ensures { result.now ≡ (line_at self.now d).waiting.items }
     {
         self.lines[usize::from(d)].waiting.as_slice()
@@ -182,7 +183,7 @@ impl Channels {
 
     /// Whether the end that a direction leads to is closed.
     pub(crate) fn is_shut(&self, d: u8) -> bool
-        requires { d < 128 }
+        requires { d < DIRECTIONS }
         ensures { result ≡ (line_at self.now d).shut }
     {
         self.lines[usize::from(d)].shut
@@ -190,7 +191,7 @@ impl Channels {
 
     /// Whether the end at `d` goes by a contract that allows it no such message now.
     pub(crate) fn is_against(&self, d: u8, tag: u16) -> bool
-        requires { d < 128 }
+        requires { d < DIRECTIONS }
         ensures { result ≡ is_banned (contract_of self.now.contracts d) (d % 2) (line_at self.now d).state tag }
     {
         let state = self.lines[usize::from(d)].state;
@@ -199,7 +200,7 @@ impl Channels {
 
     /// Whether a direction takes no further message.
     pub(crate) fn is_full(&self, d: u8, depth: u8) -> bool
-        requires { d < 128 }
+        requires { d < DIRECTIONS }
         ensures { result ≡ is_full depth (line_at self.now d) }
     {
         let line = &self.lines[usize::from(d)];
@@ -208,7 +209,7 @@ impl Channels {
 
     /// The next channel begins, under its contract, if it has one. Its number.
     pub(crate) fn open(&mut self, contract: Option<Contract>) -> u8
-        requires { self.old.opened < 64 }
+        requires { self.old.opened < CHANNELS }
         ensures number { result ≡ self.old.opened }
         ensures lines { self.new.lines ≡ slice_set (slice_set self.old.lines (2 * self.old.opened) (new_line contract)) (2 * self.old.opened + 1) (new_line contract) }
         ensures contracts { self.new.contracts ≡ slice_set self.old.contracts self.old.opened contract }
@@ -227,7 +228,7 @@ impl Channels {
 
     /// The end that puts a message is in its contract's next state.
     pub(crate) fn tell(&mut self, own: u8, tag: u16)
-        requires { own < 128 }
+        requires { own < DIRECTIONS }
         ensures { self.new ≡ with_line own (told_line (contract_of self.old.contracts own) (own % 2) tag (line_at self.old own)) self.old }
     {
         let line = &mut self.lines[usize::from(own)];
@@ -241,7 +242,7 @@ impl Channels {
 
     /// A message goes to the back of a direction. Its number.
     pub(crate) fn put(&mut self, to: u8, tag: u16, blocks: &[u16]) -> u64
-        requires there { to < 128 }
+        requires there { to < DIRECTIONS }
         requires few { length blocks.now ≤ MAX_BLOCKS }
         requires room { length (line_at self.old to).waiting.items < MAX_DEPTH }
         requires more { (line_at self.old to).put < LAST }
@@ -261,7 +262,7 @@ impl Channels {
 
     /// The front message of a direction, which moves its contract's state.
     pub(crate) fn take_front(&mut self, d: u8) -> Message
-        requires there { d < 128 }
+        requires there { d < DIRECTIONS }
         requires some { 0 < length (line_at self.old d).waiting.items }
         ensures front { result ≡ slice_index_or (line_at self.old d).waiting.items 0 no_message }
         ensures line { self.new ≡ with_line d (taken_line (contract_of self.old.contracts d) (1 - d % 2) result.tag (line_at self.old d)) self.old }
@@ -279,7 +280,7 @@ impl Channels {
 
     /// The end that a direction leads to is closed, as if it had taken what waited: the records in it.
     pub(crate) fn shut(&mut self, end: Option<u8>) -> ArrayVec<u16, WAITING>
-        requires { (d : ℕ) → end ≡ Some d → d < 128 }
+        requires { (d : ℕ) → end ≡ Some d → d < DIRECTIONS }
         ensures records { result.items ≡ way_in self.old.lines end }
         ensures lines { self.new ≡ record self.old { lines = shut_in self.old.contracts self.old.lines end } }
     {

@@ -1,9 +1,14 @@
 //! A place for processes.
 ghost use Rattle.std.specs.Prelude.{◌≡◌, ◌+◌, ◌*◌, ◌<◌, true};
 ghost use Rattle.xh_serial.specs.PlaceCommands.{can_start, started};
+ghost use Rattle.xh_model.specs.declared.limits.TheConstants.{PLACES};
 
 use arrayvec::ArrayVec;
 use xh_core::Status;
+use xh_model::limits::PLACES;
+
+/// From a process's number to that of the next one at its place.
+pub(crate) const STRIDE: u16 = PLACES as u16;
 
 /// A place: the records that its process holds, in the order gained; how far the process has come;
 /// and how often the place was used before.
@@ -40,8 +45,8 @@ pub(crate) fn start(place: &mut Place) -> u8
 
 /// The number of a process.
 pub(crate) fn number(place: usize, generation: u8) -> u16
-    requires { place < 32 }
-    ensures { result ≡ place + 32 * generation }
+    requires { place < PLACES }
+    ensures { result ≡ place + PLACES * generation }
 {
-    place as u16 + 32 * u16::from(generation)
+    place as u16 + STRIDE * u16::from(generation)
 }

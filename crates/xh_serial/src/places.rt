@@ -6,13 +6,15 @@ ghost use Rattle.xh_serial.specs.Machine.{no_place};
 ghost use Rattle.xh_serial.specs.MessageCommands.{without};
 ghost use Rattle.xh_serial.specs.PlaceCommands.{can_start};
 ghost use Rattle.xh_serial.specs.inner.Placing.{blocks_in, place_in, relisted, restated, started_at, status_in};
+ghost use Rattle.xh_model.specs.declared.limits.TheConstants.{PLACES};
 
 use crate::list::{drop_all, extend, index_of};
-use crate::place::{Place, is_ready, number, start};
+use crate::place::{Place, STRIDE, is_ready, number, start};
 use arrayvec::ArrayVec;
 use std::alloc::{AllocError, Global};
 use std::marker::Model;
 use xh_core::Status;
+use xh_model::limits::{PLACES, PROCESSES};
 
 /// The places, of which there are always 32.
 #[derive(Drop)]
@@ -22,13 +24,14 @@ pub(crate) struct Places {
 
 impl Model for Places {
     ghost use Rattle.std.specs.Prelude.{◌≡◌, List, length};
+    ghost use Rattle.xh_model.specs.declared.limits.TheConstants.{PLACES};
     ghost use Rattle.xh_serial.specs.declared.place.Place.{Place};
 
     ghost Value = { List Place };
 
     ghost view = { λ p. p.places.items };
 
-    ghost invariant = { λ p. length p.places.items ≡ 32 };
+    ghost invariant = { λ p. length p.places.items ≡ PLACES };
 }
 
 /// The first place where a process can start.
@@ -41,9 +44,9 @@ fn first_ready(places: &[Place]) -> Option<usize>
 impl Places {
     /// All places, vacant.
     pub(crate) fn vacant(alloc: Global) -> Result<Places, AllocError>
-        ensures { IfOk result (λ places. places ≡ replicate 32 no_place) }
+        ensures { IfOk result (λ places. places ≡ replicate PLACES no_place) }
     {
-        let mut places = Vec::with_capacity(alloc, 32)?;
+        let mut places = Vec::with_capacity(alloc, PLACES as usize)?;
         for _ in 0..32u8 {
             places.push(Place {
                 blocks: ArrayVec::new(),
@@ -57,14 +60,14 @@ impl Places {
     /// How many places there are.
     pub(crate) fn len(&self) -> usize
         ensures count { result ≡ length self.now }
-        ensures is { result ≡ 32 }
+        ensures is { result ≡ PLACES }
     {
         self.places.len()
     }
 
     /// The place of this number.
     pub(crate) fn at(&self, place: usize) -> &Place
-        requires { place < 32 }
+        requires { place < PLACES }
         ensures { result.now ≡ slice_index_or self.now place no_place }
     {
         &self.places[place]
@@ -74,7 +77,7 @@ impl Places {
     fn of(&self, p: u16) -> &Place
         ensures { result.now ≡ place_in self.now p }
     {
-        self.at(usize::from(p % 32))
+        self.at(usize::from(p % STRIDE))
     }
 
     /// The records that the place of a process lists, in the order gained.
@@ -91,10 +94,10 @@ impl Places {
     {
         let place = self.of(p);
         let generation = u16::from(place.generation);
-        if p >= 4_096 || generation < p / 32 {
+        if p >= PROCESSES || generation < p / STRIDE {
             return Status::Vacant;
         }
-        if generation == p / 32 {
+        if generation == p / STRIDE {
             return place.status;
         }
         Status::Ended
@@ -115,7 +118,7 @@ impl Places {
     pub(crate) fn set_status(&mut self, p: u16, status: Status)
         ensures { self.new ≡ restated p status self.old }
     {
-        self.places[usize::from(p % 32)].status = status;
+        self.places[usize::from(p % STRIDE)].status = status;
     }
 
     /// A record goes to the end of a list.
@@ -123,7 +126,7 @@ impl Places {
         requires { length (blocks_in self.old p) < 2048 }
         ensures { self.new ≡ relisted p (blocks_in self.old p ++ r ∷ []) self.old }
     {
-        self.places[usize::from(p % 32)].blocks.push(r);
+        self.places[usize::from(p % STRIDE)].blocks.push(r);
     }
 
     /// So do these, in their order.
@@ -131,7 +134,7 @@ impl Places {
         requires { length (blocks_in self.old p) + length blocks.now ≤ 2048 }
         ensures { self.new ≡ relisted p (blocks_in self.old p ++ blocks.now) self.old }
     {
-        extend(&mut self.places[usize::from(p % 32)].blocks, blocks);
+        extend(&mut self.places[usize::from(p % STRIDE)].blocks, blocks);
     }
 
     /// The entry at `at` leaves a list.
@@ -139,7 +142,7 @@ impl Places {
         requires { at < length (blocks_in self.old p) }
         ensures { self.new ≡ relisted p (remove (blocks_in self.old p) at) self.old }
     {
-        self.places[usize::from(p % 32)].blocks.remove(at);
+        self.places[usize::from(p % STRIDE)].blocks.remove(at);
     }
 
     /// A record leaves the list that it stands in.
@@ -155,7 +158,7 @@ impl Places {
     pub(crate) fn remove_all(&mut self, p: u16, blocks: &[u16])
         ensures { self.new ≡ relisted p (without blocks.now (blocks_in self.old p)) self.old }
     {
-        drop_all(&mut self.places[usize::from(p % 32)].blocks, blocks);
+        drop_all(&mut self.places[usize::from(p % STRIDE)].blocks, blocks);
     }
 
     /// A record goes to the end of the list that it stands in. Where it stands then.
@@ -165,7 +168,7 @@ impl Places {
         ensures at { result + 1 ≡ length (blocks_in self.old p) }
     {
         let at = index_of(self.blocks(p), r);
-        let blocks = &mut self.places[usize::from(p % 32)].blocks;
+        let blocks = &mut self.places[usize::from(p % STRIDE)].blocks;
         blocks.remove(at);
         blocks.push(r);
         blocks.len() - 1

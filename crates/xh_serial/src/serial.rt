@@ -20,6 +20,7 @@ use std::alloc::Global;
 use std::marker::Model;
 use xh_core::{Plain, Refused};
 use xh_model::Config;
+use xh_model::limits::MAX_RECORDS;
 
 /// A heap whose commands are made one after the other.
 ///
@@ -59,7 +60,7 @@ impl Serial {
         let plain = Plain::new(alloc, config)?;
         Ok(Serial {
             plain,
-            blocks: Blocks::none(alloc, 256 * u16::from(config.arenas))?,
+            blocks: Blocks::none(alloc, MAX_RECORDS * u16::from(config.arenas))?,
             places: Places::vacant(alloc)?,
             channels: Channels::none(alloc)?,
             depth: config.depth,

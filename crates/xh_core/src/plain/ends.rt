@@ -1,5 +1,6 @@
 //! The records of a channel's two ends.
 ghost use Rattle.std.specs.Prelude.{◌≡◌, ◌||◌, ◌<◌, Some, None, IfOk, OnErr, MatchOption, MatchResult, is_none, length, true};
+ghost use Rattle.xh_model.specs.declared.limits.TheConstants.{PROCESSES};
 ghost use Rattle.xh_model.specs.Store.{IsLawful};
 ghost use Rattle.xh_core.specs.Space.{free_record, claimed_once, pair_tests};
 ghost use Rattle.xh_core.specs.inner.Pairing.{ClaimedTwo};
@@ -8,12 +9,13 @@ ghost use Rattle.xh_core.specs.Refusing.{first_refusal};
 
 use super::Plain;
 use crate::refused::Refused;
+use xh_model::limits::END_BYTES;
 
 impl Plain {
     /// The two lowest free records of an arena are claimed, or none.
     fn claim_two(&mut self, p: u16, arena: u32) -> Option<(u16, u16)>
         requires lawful { IsLawful self.old }
-        requires process { p < 4096 }
+        requires process { p < PROCESSES }
         requires arena { arena < length self.old.arenas }
         ensures done { MatchOption result ((is_none (free_record self.old arena) || is_none (free_record (claimed_once p self.old arena) arena)) ≡ true)
             (λ ends. ClaimedTwo p arena ends.0 ends.1 self.old self.new) }
@@ -32,7 +34,7 @@ impl Plain {
     /// The two lowest free records of an arena are claimed by the process `p` and get 32 bytes each, the halves of
     /// one run of 64. NoRecord, NoSpace and Worn; each leaves all as it was.
     pub fn allocate_ends(&mut self, p: u16, arena: u32) -> Result<(u16, u16), Refused>
-        requires process { p < 4096 }
+        requires process { p < PROCESSES }
         requires arena { arena < length self.old.arenas }
         ensures done { IfOk result (λ ends. Paired p arena ends.0 ends.1 self.old self.new) }
         ensures tests { MatchResult result (λ _. first_refusal (pair_tests p self.old arena) ≡ None) (λ refused. first_refusal (pair_tests p self.old arena) ≡ Some refused) }
@@ -42,12 +44,12 @@ impl Plain {
         let Some((r, t)) = self.claim_two(p, arena) else {
             return Err(Refused::NoRecord);
         };
-        if let Err(refused) = self.carve(p, r, 64) {
+        if let Err(refused) = self.carve(p, r, 2 * END_BYTES) {
             self.vacate(p, t);
             self.vacate(p, r);
             return Err(refused);
         }
-        self.cut(p, r, t, 32);
+        self.cut(p, r, t, END_BYTES);
         let _open = &self.records;
         Ok((r, t))
     }

@@ -5,6 +5,7 @@ ghost use Rattle.xh_model.specs.Store.{arena_of, is_known, len};
 ghost use Rattle.xh_model.specs.declared.limits.TheConstants.{MAX_RECORDS};
 
 use super::Plain;
+use xh_model::limits::MAX_RECORDS;
 
 impl Plain {
     /// Where the bytes of the record `r` (256 × arena + index) begin in its arena, and how many they
@@ -17,6 +18,6 @@ impl Plain {
         if !self.knows(r) {
             return None;
         }
-        self.arenas[usize::from(r / 256)].extent(r % 256)
+        self.arenas[usize::from(r / MAX_RECORDS)].extent(r % MAX_RECORDS)
     }
 }

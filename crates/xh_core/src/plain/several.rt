@@ -2,7 +2,7 @@
 ghost use Rattle.std.specs.Prelude.{◌≡◌, ◌≢◌, ℕ, ◌+◌, ◌<◌, ◌≤◌, ◌/◌, ◌%◌, ◌∷◌, [], Some, None, OnOk, OnErr, MatchResult, length, true};
 ghost use Rattle.std.specs.List.{position};
 ghost use Rattle.std.specs.Prelude.{is_none};
-ghost use Rattle.xh_model.specs.declared.limits.TheConstants.{UNIT};
+ghost use Rattle.xh_model.specs.declared.limits.TheConstants.{MAX_BYTES, MAX_RECORDS, PROCESSES, UNIT};
 ghost use Rattle.xh_model.specs.declared.event.Event.TheVariants.{Claim, Carve, Cut, GiveBack, Vacate};
 ghost use Rattle.xh_model.specs.declared.event.Holder.TheVariants.{Process};
 ghost use Rattle.xh_model.specs.Store.{after, arena_at, bytes_of, holds, is_known, len, owner};
@@ -13,6 +13,7 @@ ghost use Rattle.xh_core.specs.Refusing.{first_refusal};
 use super::Plain;
 use crate::refused::Refused;
 use xh_model::Holder;
+use xh_model::limits::MAX_RECORDS;
 
 /// The first of the records that nobody holds.
 fn first_free(owners: &[Option<Holder>]) -> Option<usize>
@@ -33,7 +34,7 @@ impl Plain {
     pub fn size(&self, arena: u32) -> u32
         requires { arena < length self.now.arenas }
         ensures size { result ≡ length (arena_at self.now arena).cover }
-        ensures limit { result ≤ 1048576 }
+        ensures limit { result ≤ MAX_BYTES }
     {
         self.arenas[arena as usize].size()
     }
@@ -61,7 +62,7 @@ impl Plain {
         requires { arena < length self.now.arenas }
         ensures { result ≡ free_record self.now arena }
     {
-        let first = 256 * arena as usize;
+        let first = MAX_RECORDS as usize * arena as usize;
         match first_free(&self.owners[first..first + usize::from(self.records)]) {
             Some(index) => Some((first + index) as u16),
             None => None,
@@ -71,7 +72,7 @@ impl Plain {
     /// A free record is claimed by the process `p` and gets `n` bytes, at the lowest place of its arena that has
     /// room for them. NoSpace, and Worn; each leaves all as it was.
     pub fn allocate(&mut self, p: u16, r: u16, n: u32) -> Result<(), Refused>
-        requires process { p < 4096 }
+        requires process { p < PROCESSES }
         requires known { is_known self.old r ≡ true }
         requires free { owner self.old r ≡ None }
         requires some { 0 < n }
@@ -80,7 +81,7 @@ impl Plain {
         ensures gained { OnOk result (Gained p (r ∷ []) self.old self.new) }
         ensures length { OnOk result (len self.new r ≡ n) }
         ensures others { OnOk result ((q : ℕ) → q ≢ r → len self.new q ≡ len self.old q) }
-        ensures room { MatchResult result (λ _. first_refusal (space_tests self.old (r / 256) n) ≡ None) (λ refused. first_refusal (space_tests self.old (r / 256) n) ≡ Some refused) }
+        ensures room { MatchResult result (λ _. first_refusal (space_tests self.old (r / MAX_RECORDS) n) ≡ None) (λ refused. first_refusal (space_tests self.old (r / MAX_RECORDS) n) ≡ Some refused) }
         ensures unchanged { OnErr result (self.new ≡ self.old) }
     {
         let _start = &self.records;
@@ -106,11 +107,11 @@ impl Plain {
 
     /// A free record `t` is claimed, and gets the bytes of the record `r`, of the same arena, past its first `k`.
     pub fn part(&mut self, p: u16, r: u16, t: u16, k: u32)
-        requires process { p < 4096 }
+        requires process { p < PROCESSES }
         requires held { holds self.old (Process p) r ≡ true }
         requires known { is_known self.old t ≡ true }
         requires free { owner self.old t ≡ None }
-        requires arena { r / 256 ≡ t / 256 }
+        requires arena { r / MAX_RECORDS ≡ t / MAX_RECORDS }
         requires some { 0 < k }
         requires multiple { k % UNIT ≡ 0 }
         requires inside { k < len self.old r }

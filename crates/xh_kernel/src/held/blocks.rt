@@ -2,6 +2,7 @@
 ghost use Rattle.std.specs.Prelude.{◌≡◌, ◌/◌, MatchResult};
 ghost use Rattle.xh_kernel.specs.Accounts.{has_taken, has_given};
 ghost use Rattle.xh_kernel.specs.Calls.{Allocates, Splits, Reads, Writes, Frees};
+ghost use Rattle.xh_model.specs.declared.limits.TheConstants.{MAX_RECORDS};
 
 use crate::account::Account;
 use crate::held::Held;
@@ -95,7 +96,7 @@ impl<N: Names> Held<N> {
         gate: &G,
     ) -> Result<u32, Refused>
         ensures place { Frees p r self.old.place self.new.place result }
-        ensures account { MatchResult result (λ n. account.new ≡ has_given (r / 256) n account.old) (λ _. account.new ≡ account.old) }
+        ensures account { MatchResult result (λ n. account.new ≡ has_given (r / MAX_RECORDS) n account.old) (λ _. account.new ≡ account.old) }
     {
         self.start(p)?;
         let mut vaults = shared.vaults(rt);

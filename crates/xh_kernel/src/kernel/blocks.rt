@@ -3,6 +3,7 @@ ghost use Rattle.std.specs.Prelude.{◌≡◌, ◌/◌, MatchResult};
 ghost use Rattle.xh_place.specs.Places.{IsPlaceOf, PlaceOf};
 ghost use Rattle.xh_kernel.specs.Accounts.{has_taken, has_given};
 ghost use Rattle.xh_kernel.specs.Calls.{Allocates, Splits, Reads, Writes, Frees};
+ghost use Rattle.xh_model.specs.declared.limits.TheConstants.{MAX_RECORDS};
 
 use crate::account::Account;
 use crate::kernel::Kernel;
@@ -102,7 +103,7 @@ impl<N: Names> Kernel<N> {
         account: &mut Account<N>,
         gate: &G,
     ) -> Result<u32, Refused>
-        ensures account { MatchResult result (λ n. account.new ≡ has_given (r / 256) n account.old) (λ _. account.new ≡ account.old) }
+        ensures account { MatchResult result (λ n. account.new ≡ has_given (r / MAX_RECORDS) n account.old) (λ _. account.new ≡ account.old) }
         ensures place { (old : PlaceOf) × (new : PlaceOf) × IsPlaceOf N.parts.records old × Frees p r old new result }
     {
         let mut held = self.lock_of(p).lock(rt);

@@ -1,6 +1,7 @@
 -- What the private steps of a place do to its seat. Of the events that the seat did they tell the passes and accepts; the others are the record table's to tell.
 use Rattle.std.specs.Prelude.{◌≡◌, ℕ, ◌+◌, ◌/◌, ◌<◌, List, [], ◌∷◌, ◌++◌, true}
 use Rattle.xh_arena.specs.Views.{LotOf}
+use Rattle.xh_model.specs.declared.limits.TheConstants.{MAX_RECORDS}
 use Rattle.xh_model.specs.declared.event.Event.{Event}
 use Rattle.xh_model.specs.Keyed.{Among, keys, put}
 use Rattle.xh_records.specs.Seats.{Held, with_lots}
@@ -30,4 +31,4 @@ IsData l = (kind_of (content_of l.body) ≡ kind.Data) × (fits_in l.body l.len 
 abbrev pub IsCut : Held Body → Held Body → ℕ → ℕ → LotOf Body → ℕ → Type 0
 IsCut old new r k l t = (h m : LotOf Body) × (Among (keys old.lots) t → ⊥) × HasNow old (put r h old.lots ++ (t, m) ∷ []) new
     × IsBlock old.shape r h × IsBlock old.shape t m × (h.len ≡ k) × (h.len + m.len ≡ l.len)
-    × (content_of h.body ≡ front k (content_of l.body)) × (content_of m.body ≡ rest k (content_of l.body)) × (t / 256 ≡ r / 256)
+    × (content_of h.body ≡ front k (content_of l.body)) × (content_of m.body ≡ rest k (content_of l.body)) × (t / MAX_RECORDS ≡ r / MAX_RECORDS)

@@ -1,6 +1,7 @@
 -- What the private steps of an open do to a seat.
 use Rattle.std.specs.Prelude.{◌≡◌, ◌≢◌, ℕ, ◌/◌, [], ◌∷◌, ◌++◌}
 use Rattle.xh_arena.specs.Views.{LotOf}
+use Rattle.xh_model.specs.declared.limits.TheConstants.{MAX_RECORDS}
 use Rattle.xh_model.specs.Keyed.{Among, keys}
 use Rattle.xh_records.specs.Showing.{IsEmpty, IsLotOf}
 use Rattle.xh_records.specs.Seats.{Held, IsRecord}
@@ -15,8 +16,8 @@ pub record HasTwoMore (arena : ℕ) (old new : Held Body) (r t : ℕ) (l m : Lot
   pub first_fresh : Among (keys old.lots) r → ⊥
   pub second_fresh : Among (keys old.lots) t → ⊥
   pub apart : r ≢ t
-  pub first_arena : r / 256 ≡ arena
-  pub second_arena : t / 256 ≡ arena
+  pub first_arena : r / MAX_RECORDS ≡ arena
+  pub second_arena : t / MAX_RECORDS ≡ arena
 
 -- they are empty
 pub record AreClaimed (arena : ℕ) (old new : Held Body) (r t : ℕ) (l m : LotOf Body) : Type 0 where

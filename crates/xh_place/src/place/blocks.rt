@@ -1,7 +1,7 @@
 //! Data blocks of a place.
 ghost use Rattle.std.specs.Prelude.{◌≡◌, ◌⊎◌, ℕ, ◌+◌, ◌/◌, ◌%◌, ◌<◌, ◌≤◌, [], ◌∷◌, ◌++◌, length, replicate, Some, Err, IfOk, IfErr, OnOk, OnErr, MatchOption};
 ghost use Rattle.xh_core.specs.Refusing.{Tested, first_refusal};
-ghost use Rattle.xh_model.specs.declared.limits.TheConstants.{MAX_BYTES, UNIT};
+ghost use Rattle.xh_model.specs.declared.limits.TheConstants.{MAX_BYTES, MAX_RECORDS, UNIT};
 ghost use Rattle.xh_model.specs.Arena.{IsGoodCut};
 ghost use Rattle.xh_model.specs.Keyed.{value_at, put, without};
 ghost use Rattle.xh_place.specs.declared.body.Kind.TheVariants as kind;
@@ -23,7 +23,7 @@ use crate::vaults::Vaults;
 use std::alloc::Global;
 use xh_arena::Tally;
 use xh_core::{Block, Refused};
-use xh_model::limits::UNIT;
+use xh_model::limits::{MAX_RECORDS, UNIT};
 use xh_records::Records;
 
 // In multiples of 16.
@@ -55,7 +55,7 @@ impl Place {
         ensures same { (V.names vaults.new ≡ V.names vaults.old) × (V.extent vaults.new ≡ V.extent vaults.old) × (ids_of tallies.new ≡ ids_of tallies.old) }
         ensures place { IsSamePlace self.old self.new }
         ensures made { IfOk result (λ b. self.new ≡ with_blocks self.old (self.old.blocks ++ (b.rec, record { len = b.len; content = bytes (replicate b.len 0) }) ∷ [])) }
-        ensures block { IfOk result (λ b. (b.len ≡ rounded n) × (b.rec / 256 ≡ arena)) }
+        ensures block { IfOk result (λ b. (b.len ≡ rounded n) × (b.rec / MAX_RECORDS ≡ arena)) }
         ensures taken { IfOk result (λ b. tallies.new ≡ took arena b.len tallies.old) }
         ensures refused { OnErr result ((self.new ≡ self.old) × (tallies.new ≡ tallies.old)) }
         ensures why { MatchOption (first_refusal (alloc_tests self.old.state arena (length self.old.shape.names) n (V.extent vaults.old)))
@@ -110,10 +110,10 @@ impl Place {
         ensures same { (V.names vaults.new ≡ V.names vaults.old) × (V.extent vaults.new ≡ V.extent vaults.old) × (ids_of tallies.new ≡ ids_of tallies.old) }
         ensures list { self.new ≡ with_blocks self.old (without r self.old.blocks) }
         ensures bytes { result ≡ header.len }
-        ensures back { tallies.new ≡ gave (r / 256) result tallies.old }
+        ensures back { tallies.new ≡ gave (r / MAX_RECORDS) result tallies.old }
     {
         remove(&mut self.list, r);
-        let tally = &mut tallies[usize::from(r / 256)];
+        let tally = &mut tallies[usize::from(r / MAX_RECORDS)];
         give_up(records, &mut self.seat, r, vaults, tally, gate);
         self.total -= u64::from(header.len);
         header.len
@@ -149,7 +149,7 @@ impl Place {
         ensures same { (V.names vaults.new ≡ V.names vaults.old) × (V.extent vaults.new ≡ V.extent vaults.old) × (ids_of tallies.new ≡ ids_of tallies.old) }
         ensures place { IsSamePlace self.old self.new }
         ensures freed { OnOk result (self.new ≡ with_blocks self.old (without r self.old.blocks)) }
-        ensures back { IfOk result (λ n. tallies.new ≡ gave (r / 256) n tallies.old) }
+        ensures back { IfOk result (λ n. tallies.new ≡ gave (r / MAX_RECORDS) n tallies.old) }
         ensures bytes { Tested (data_tests self.old.state (value_at r self.old.blocks)) result (λ n. n ≡ len_in (value_at r self.old.blocks)) }
         ensures refused { OnErr result ((self.new ≡ self.old) × (vaults.new ≡ vaults.old) × (tallies.new ≡ tallies.old)) }
     {

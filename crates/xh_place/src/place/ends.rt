@@ -11,7 +11,7 @@ ghost use Rattle.xh_place.specs.Ending.{HasGivenBack, IsClosed, last};
 ghost use Rattle.xh_place.specs.Ends.{RefusedOr, end_tests, has_end, open_tests, toward_in, AreListed, Opens, IsUnopened, is_here, IsTooLate};
 ghost use Rattle.xh_place.specs.Places.{Item, IsPlaceOf, IsSamePlace, with_blocks, with_less, with_more};
 ghost use Rattle.xh_place.specs.Refusals.{is_over};
-ghost use Rattle.xh_model.specs.declared.limits.TheConstants.{END_BYTES};
+ghost use Rattle.xh_model.specs.declared.limits.TheConstants.{DIRECTIONS, END_BYTES};
 ghost use Rattle.xh_place.specs.Tallies.{ids_of};
 ghost use Rattle.xh_place.specs.Vaults.{IsNoPair};
 
@@ -162,7 +162,7 @@ impl Place {
 
     /// An endpoint of the list is in flight on the direction from now on.
     pub fn pass_end(&mut self, records: &Records<Body>, r: u16, direction: u8)
-        requires own { IsPlaceOf records.now self.old × (direction < 128) }
+        requires own { IsPlaceOf records.now self.old × (direction < DIRECTIONS) }
         requires running { self.old.state ≡ status.Running }
         requires end { has_end (value_at r self.old.blocks) ≡ true }
         ensures { self.new ≡ with_less direction r self.old }
@@ -172,7 +172,7 @@ impl Place {
 
     // A block of the list is in flight on the direction from now on.
     fn pass(&mut self, records: &Records<Body>, r: u16, direction: u8)
-        requires own { IsPlaceOf records.now self.old × (direction < 128) }
+        requires own { IsPlaceOf records.now self.old × (direction < DIRECTIONS) }
         requires listed { (x : Item) × (value_at r self.old.blocks ≡ Some x) }
         ensures { self.new ≡ with_less direction r self.old }
     {
@@ -206,7 +206,7 @@ impl Place {
         tallies: &mut [Tally],
         gate: &G,
     ) -> Result<Block, Refused>
-        requires own { IsPlaceOf records.now self.old × IsRecord records.now.shape r × (direction < 128) }
+        requires own { IsPlaceOf records.now self.old × IsRecord records.now.shape r × (direction < DIRECTIONS) }
         requires names { (V.names vaults.old ≡ self.old.shape.names) × (ids_of tallies.old ≡ self.old.shape.names) }
         ensures same { (V.names vaults.new ≡ V.names vaults.old) × (V.extent vaults.new ≡ V.extent vaults.old) × (ids_of tallies.new ≡ ids_of tallies.old) }
         ensures place { IsSamePlace self.old self.new }

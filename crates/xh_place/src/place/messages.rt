@@ -4,6 +4,7 @@ ghost use Rattle.std.specs.List.{list_all};
 ghost use Rattle.xh_core.specs.declared.status.Status.TheVariants as status;
 ghost use Rattle.xh_channel.specs.Refusals.{same_refusal};
 ghost use Rattle.xh_core.specs.Refusing.{Tested};
+ghost use Rattle.xh_model.specs.declared.limits.TheConstants.{DIRECTIONS};
 ghost use Rattle.xh_model.specs.Keyed.{Among, Distinct, keys, value_at};
 ghost use Rattle.xh_records.specs.Seats.{IsRecord};
 ghost use Rattle.xh_place.specs.declared.body.Kind.TheVariants as kind;
@@ -166,7 +167,7 @@ impl Place {
         requires own { IsPlaceOf records.now self.old }
         requires end { (x : Item) × (value_at e self.old.blocks ≡ Some x) × (kind_of x.content ≡ kind.End) }
         ensures same { self.new ≡ self.old }
-        ensures direction { (result.1 ≡ toward_in (value_at e self.old.blocks)) × (result.1 < 128) }
+        ensures direction { (result.1 ≡ toward_in (value_at e self.old.blocks)) × (result.1 < DIRECTIONS) }
         ensures none { IfErr result.0 (λ refused. IsUntaken (same_refusal refused)) }
     {
         let mut body = Body::Nothing;
@@ -188,7 +189,7 @@ impl Place {
         r: u16,
         direction: u8,
     ) -> Result<Block, u64>
-        requires own { IsPlaceOf records.now self.old × IsRecord records.now.shape r × (direction < 128) }
+        requires own { IsPlaceOf records.now self.old × IsRecord records.now.shape r × (direction < DIRECTIONS) }
         requires alive { is_over self.old.state ≢ true }
         ensures place { IsSamePlace self.old self.new }
         ensures here { IfOk result (λ b. (b.rec ≡ r) × ((x : Item) × (x.len ≡ b.len) × (self.new ≡ with_more direction ((r, x) ∷ []) self.old))) }
@@ -203,7 +204,7 @@ impl Place {
 
     // Takes a block of a message, at the end of the list. A record that doesn't exist is free.
     fn take_one(&mut self, records: &Records<Body>, r: u16, direction: u8) -> Got
-        requires own { IsPlaceOf records.now self.old × (direction < 128) }
+        requires own { IsPlaceOf records.now self.old × (direction < DIRECTIONS) }
         requires alive { is_over self.old.state ≢ true }
         ensures got { (ys : List (ℕ × Item)) × (self.new ≡ with_more direction ys self.old) × IsGot direction ys result }
         ensures record { record_of result ≡ r }
@@ -224,7 +225,7 @@ impl Place {
         message: &Message,
         direction: u8,
     ) -> ArrayVec<Got, 8>
-        requires own { IsPlaceOf records.now self.old × (direction < 128) }
+        requires own { IsPlaceOf records.now self.old × (direction < DIRECTIONS) }
         requires alive { is_over self.old.state ≢ true }
         ensures place { IsSamePlace self.old self.new }
         ensures got { (ys : List (ℕ × Item)) × (self.new ≡ with_more direction ys self.old) × AreGot direction ys result.items }

@@ -1,6 +1,7 @@
 -- What a check finds out of a command that it lets pass.
 use Rattle.std.specs.Prelude.{◌≡◌, ℕ, ◌*◌, ◌/◌, ◌%◌, ◌<◌, ◌≤◌, List, true, false, Some, None, length}
 use Rattle.std.specs.List.{list_all}
+use Rattle.xh_model.specs.declared.limits.TheConstants.{MAX_BLOCKS, MAX_RECORDS, UNIT}
 use Rattle.xh_model.specs.Store.{holds, len}
 use Rattle.xh_model.specs.declared.event.Holder.TheVariants.{Process}
 use Rattle.xh_serial.specs.Machine.{Machine, contract_of, end_of, line, peer, waiting}
@@ -15,16 +16,16 @@ pub record MaySplit (m : Machine) (p r k t : ℕ) : Type 0 where
   pub held : holds m.store (Process p) r ≡ true
   pub no_end : end_of m r ≡ None
   pub some : 0 < k
-  pub multiple : k % 16 ≡ 0
+  pub multiple : k % UNIT ≡ 0
   pub inside : k < len m.store r
-  pub found : free_record m.store (r / 256) ≡ Some t
+  pub found : free_record m.store (r / MAX_RECORDS) ≡ Some t
 
 -- no test of a give is true: d leads to e
 pub record MayGive (m : Machine) (p e tag : ℕ) (bs : List ℕ) (d : ℕ) : Type 0 where
   pub runs : IsRunning m p
   pub toward : end_of m e ≡ Some d
   pub within : d < 2 * m.opened
-  pub few : length bs ≤ 8
+  pub few : length bs ≤ MAX_BLOCKS
   pub held : list_all (λ r. holds m.store (Process p) r) bs ≡ true
   pub once : has_twice bs ≡ false
   pub allowed : is_banned (contract_of m.contracts d) (d % 2) (line m d).state tag ≡ false

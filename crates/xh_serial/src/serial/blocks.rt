@@ -1,9 +1,12 @@
 //! Data blocks: they are made, cut, read, written and given back.
 ghost use Rattle.std.specs.Prelude.{◌≡◌, ◌≢◌, ◌+◌, ◌*◌, ◌/◌, ◌%◌, ◌<◌, ◌≤◌, ◌==◌, Some, None, Ok, Err, IfErr, OnErr, OnOk, false, true, length};
 ghost use Rattle.xh_serial.specs.Machine.{end_of};
+ghost use Rattle.xh_model.specs.declared.limits.TheConstants.{MAX_BYTES};
 ghost use Rattle.xh_model.specs.declared.event.Holder.TheVariants.{Process};
 ghost use Rattle.xh_model.specs.Store.{holds, len};
-ghost use Rattle.xh_serial.specs.BlockCommands.{alloc_heads, range_tests, split_heads, alloc as alloc_command, free as free_command, read as read_command, split as split_command, write as write_command};
+ghost use Rattle.xh_serial.specs.BlockCommands.{alloc_heads, range_tests, split_heads};
+ghost use Rattle.xh_serial.specs.BlockCommands.{alloc as alloc_command, free as free_command, read as read_command};
+ghost use Rattle.xh_serial.specs.BlockCommands.{split as split_command, write as write_command};
 ghost use Rattle.xh_core.specs.Space.{free_record, rounded};
 ghost use Rattle.xh_serial.specs.Commands.{IsRunning};
 ghost use Rattle.xh_core.specs.Refusing.{Tested};
@@ -12,11 +15,11 @@ ghost use Rattle.xh_serial.specs.inner.Checks.{MaySplit};
 use crate::serial::Serial;
 use std::alloc::Global;
 use xh_core::{Block, Refused};
-use xh_model::limits::UNIT;
+use xh_model::limits::{MAX_RECORDS, UNIT};
 
 /// The next multiple of 16.
 fn round(n: u32) -> u32
-    requires { n ≤ 1048576 }
+    requires { n ≤ MAX_BYTES }
     ensures { result ≡ rounded n }
 {
     (n + (UNIT - 1)) / UNIT * UNIT
@@ -25,7 +28,7 @@ fn round(n: u32) -> u32
 impl Serial {
     /// Why an alloc is refused, or the record that it takes.
     fn check_alloc(&self, p: u16, n: u32, arena: u32) -> Result<u16, Refused>
-        ensures { Tested (alloc_heads self.now p n arena) result (λ r. IsRunning self.now p × (free_record self.now.store arena ≡ Some r) × (0 < n) × (n ≤ 1048576)) }
+        ensures { Tested (alloc_heads self.now p n arena) result (λ r. IsRunning self.now p × (free_record self.now.store arena ≡ Some r) × (0 < n) × (n ≤ MAX_BYTES)) }
     {
         self.check_start(p)?;
         if arena as usize >= self.plain.arenas() {
@@ -79,7 +82,7 @@ impl Serial {
         if k == 0 || k % UNIT != 0 || k >= self.plain.len(r) {
             return Err(Refused::BadCut);
         }
-        match self.plain.free_record(u32::from(r / 256)) {
+        match self.plain.free_record(u32::from(r / MAX_RECORDS)) {
             Some(t) => Ok(t),
             None => Err(Refused::NoRecord),
         }

@@ -4,6 +4,7 @@ ghost use Rattle.std.specs.List.{sum_by};
 ghost use Rattle.xh_core.specs.Statuses.{is_vacant};
 ghost use Rattle.xh_serial.specs.Machine.{no_place};
 ghost use Rattle.xh_serial.specs.PlaceCommands.{ledger_of, line_state, place_lines, total};
+ghost use Rattle.xh_model.specs.declared.limits.TheConstants.{PLACES};
 
 use crate::place::{Place, number};
 use crate::serial::Serial;
@@ -31,8 +32,8 @@ fn state_of(place: &Place) -> State
 
 /// A place's line, where its process owns so many bytes.
 fn place_line(at: usize, place: &Place, bytes: u64) -> PlaceLine
-    requires { at < 32 }
-    ensures { result ≡ record { place = at; process = at + 32 * place.now.generation; state = line_state place.now.status; blocks = length place.now.blocks.items; bytes = bytes } }
+    requires { at < PLACES }
+    ensures { result ≡ record { place = at; process = at + PLACES * place.now.generation; state = line_state place.now.status; blocks = length place.now.blocks.items; bytes = bytes } }
 {
     PlaceLine {
         place: at as u8,
@@ -46,7 +47,7 @@ fn place_line(at: usize, place: &Place, bytes: u64) -> PlaceLine
 impl Serial {
     /// The bytes that the latest process of a place owns.
     pub(super) fn bytes_at(&self, at: usize) -> u64
-        requires { at < 32 }
+        requires { at < PLACES }
         ensures sum { result ≡ total self.now.store (slice_index_or self.now.places at no_place).blocks.items }
         ensures most { result ≤ 2147483648 }
     {
@@ -67,7 +68,7 @@ impl Serial {
     /// A line for each place that was ever used.
     fn place_lines(&self) -> ArrayVec<PlaceLine, PLACE_LINES>
         ensures lines { result.items ≡ place_lines self.now.store 0 self.now.places }
-        ensures places { All (λ line. line.place < 32) result.items }
+        ensures places { All (λ line. line.place < PLACES) result.items }
     {
         let mut lines = ArrayVec::new();
         for at in 0..self.places.len() {
@@ -84,7 +85,7 @@ impl Serial {
         ensures fields { result ≡ ledger_of self.now }
         ensures sums { result.out ≡ result.owned + result.flight }
         ensures arenas { All (λ line. line.out + line.back ≡ line.taken) result.arenas.items }
-        ensures places { All (λ line. line.place < 32) result.places.items }
+        ensures places { All (λ line. line.place < PLACES) result.places.items }
     {
         let out = self.plain.handed_out();
         let held = self.owned();

@@ -4,21 +4,23 @@ ghost use Rattle.xh_serial.specs.ChannelCommands.{open_channel, wire_channel, wi
 ghost use Rattle.xh_serial.specs.MessageCommands.{AreOrderly};
 ghost use Rattle.xh_serial.specs.Commands.{IsRunning};
 ghost use Rattle.xh_core.specs.Refusing.{Tested};
+ghost use Rattle.xh_model.specs.declared.limits.TheConstants.{CHANNELS};
 
 use super::Serial;
 use xh_core::{Block, Contract, Refused};
+use xh_model::limits::{CHANNELS, END_BYTES};
 
 impl Serial {
     /// NoProcess and Ended of both processes, NoArena and NoChannel.
     fn check_wire(&self, p: u16, q: u16, arena: u32) -> Result<(), Refused>
-        ensures { Tested (wire_heads self.now p q arena) result (λ _. IsRunning self.now p × IsRunning self.now q × (arena < length self.now.store.arenas) × (self.now.opened < 64)) }
+        ensures { Tested (wire_heads self.now p q arena) result (λ _. IsRunning self.now p × IsRunning self.now q × (arena < length self.now.store.arenas) × (self.now.opened < CHANNELS)) }
     {
         self.check_start(p)?;
         self.check_start(q)?;
         if arena as usize >= self.plain.arenas() {
             return Err(Refused::NoArena);
         }
-        if self.channels.opened() >= 64 {
+        if self.channels.opened() >= CHANNELS {
             return Err(Refused::NoChannel);
         }
         Ok(())
@@ -43,7 +45,16 @@ impl Serial {
         self.plain.hand_over(p, q, t, 2 * channel + 1);
         self.places.add(p, r);
         self.places.add(q, t);
-        Ok((Block { rec: r, len: 32 }, Block { rec: t, len: 32 }))
+        Ok((
+            Block {
+                rec: r,
+                len: END_BYTES,
+            },
+            Block {
+                rec: t,
+                len: END_BYTES,
+            },
+        ))
     }
 
     /// A new channel, the lowest that was not opened, whose two ends `p` holds: side 0 and side 1,

@@ -3,6 +3,7 @@ ghost use Rattle.std.specs.Prelude.{◌≡◌, ◌-◌, ◌<◌, [], ◌∷◌, 
 ghost use Rattle.xh_model.specs.Reclaimed.{Frees};
 ghost use Rattle.xh_model.specs.Store.{holds};
 ghost use Rattle.xh_model.specs.declared.event.Holder.TheVariants.{Process};
+ghost use Rattle.xh_model.specs.declared.limits.TheConstants.{MAX_BUDGET};
 ghost use Rattle.xh_core.specs.declared.status.Status.TheVariants as status;
 ghost use Rattle.xh_serial.specs.Machine.{arriving, blocks, is_current, with_status};
 ghost use Rattle.xh_core.specs.Refusing.{first_refusal};
@@ -12,6 +13,7 @@ ghost use Rattle.xh_serial.specs.EndingCommands.{close, exit, kill, kill_tests, 
 
 use crate::serial::Serial;
 use xh_core::{Refused, Status};
+use xh_model::limits::MAX_BUDGET;
 
 impl Serial {
     fn begin_ending(&mut self, p: u16)
@@ -93,11 +95,11 @@ impl Serial {
     pub fn close(&mut self, p: u16, e: u16) -> Result<u64, Refused>
         ensures is { close p e self.old ≡ (result, self.new) }
         ensures frees { IsOk result → Frees (arriving self.old) self.old.store self.new.store (e ∷ []) }
-        ensures bound { IsOk result → Sweeps p (length (blocks self.old p) - 1) 4096 (moved_last p e self.old) self.new }
+        ensures bound { IsOk result → Sweeps p (length (blocks self.old p) - 1) MAX_BUDGET (moved_last p e self.old) self.new }
     {
         self.check_close(p, e)?;
         let _start = &self.plain;
         let from = self.move_last(p, e);
-        Ok(self.sweep(p, from, 4_096))
+        Ok(self.sweep(p, from, MAX_BUDGET as u32))
     }
 }

@@ -5,6 +5,7 @@ ghost use Rattle.xh_serial.specs.PlaceCommands.{spawn, glance};
 use crate::place::number;
 use crate::serial::Serial;
 use xh_core::{Glance, Refused};
+use xh_model::limits::PLACES;
 
 impl Serial {
     /// A process starts at the lowest place that is vacant, or whose process has ended and is not
@@ -21,7 +22,7 @@ impl Serial {
     pub fn glance(&self, place: u8) -> Result<Glance, Refused>
         ensures { result ≡ glance place self.now }
     {
-        if place >= 32 {
+        if place >= PLACES {
             return Err(Refused::NoProcess);
         }
         let at = self.places.at(usize::from(place));

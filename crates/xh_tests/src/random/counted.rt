@@ -3,7 +3,7 @@ use crate::random::actor::Wrong;
 use arrayvec::ArrayVec;
 use std::alloc::{AllocError, Global};
 use xh_arena::Vault;
-use xh_core::{ArenaLine, Ledger, PlaceLine, State, Status};
+use xh_core::{ARENA_LINES, ArenaLine, Ledger, PLACE_LINES, PlaceLine, State, Status};
 use xh_kernel::{Account, Names};
 use xh_place::Place;
 
@@ -91,7 +91,7 @@ fn place_line(number: u8, place: &Place) -> Option<PlaceLine> {
     })
 }
 
-fn place_lines(places: &[Place]) -> Result<ArrayVec<PlaceLine, 32>, Wrong> {
+fn place_lines(places: &[Place]) -> Result<ArrayVec<PlaceLine, PLACE_LINES>, Wrong> {
     let mut lines = ArrayVec::new();
     let mut number = 0u8;
     for place in places {
@@ -108,7 +108,7 @@ fn place_lines(places: &[Place]) -> Result<ArrayVec<PlaceLine, 32>, Wrong> {
 fn arena_lines<N: Names>(
     vaults: &[Vault],
     accounts: &[Account<N>],
-) -> Result<ArrayVec<ArenaLine, 8>, Wrong> {
+) -> Result<ArrayVec<ArenaLine, ARENA_LINES>, Wrong> {
     let mut lines = ArrayVec::new();
     let mut arena = 0u8;
     for vault in vaults {

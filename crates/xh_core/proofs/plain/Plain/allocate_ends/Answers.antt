@@ -5,26 +5,34 @@ use Rattle.xh_core.proofs.Pairs.{claimed_two, pair_room, paired}
 use Rattle.xh_core.proofs.plain.Plain.allocate_ends.Goals as goal
 
 pub carve-requires-clause-held : goal.carve-requires-clause-held
-carve-requires-clause-held c = (claimed_two c.args.p c.args.arena c.in-Some.r c.in-Some.t c.args.self.now c.claim_two.new.self (subst IsLawful c.self.view_is c.self.invariant.0) c.requires.process c.in-Some.ensures.done).holds_r
+carve-requires-clause-held c =
+    (claimed_two c.args.p c.args.arena c.in-Some.r c.in-Some.t c.args.self.now c.claim_two.new.self
+    (subst IsLawful c.self.view_is c.self.invariant.0) c.requires.process c.in-Some.ensures.done).holds_r
 
 pub carve-requires-clause-known : goal.carve-requires-clause-known
-carve-requires-clause-known c = (claimed_two c.args.p c.args.arena c.in-Some.r c.in-Some.t c.args.self.now c.claim_two.new.self (subst IsLawful c.self.view_is c.self.invariant.0) c.requires.process c.in-Some.ensures.done).known_r
+carve-requires-clause-known c =
+    (claimed_two c.args.p c.args.arena c.in-Some.r c.in-Some.t c.args.self.now c.claim_two.new.self
+    (subst IsLawful c.self.view_is c.self.invariant.0) c.requires.process c.in-Some.ensures.done).known_r
 
 pub carve-requires-clause-empty : goal.carve-requires-clause-empty
-carve-requires-clause-empty c = (claimed_two c.args.p c.args.arena c.in-Some.r c.in-Some.t c.args.self.now c.claim_two.new.self (subst IsLawful c.self.view_is c.self.invariant.0) c.requires.process c.in-Some.ensures.done).empty_r
+carve-requires-clause-empty c =
+    (claimed_two c.args.p c.args.arena c.in-Some.r c.in-Some.t c.args.self.now c.claim_two.new.self
+    (subst IsLawful c.self.view_is c.self.invariant.0) c.requires.process c.in-Some.ensures.done).empty_r
 
 pub returns-in-Err-clause-tests : goal.returns-in-Err-clause-tests
-returns-in-Err-clause-tests c = pair_room c.args.p c.args.arena c.in-Some.r c.in-Some.t c.args.self.now c.claim_two.new.self (Some c.in-Err.refused) (subst IsLawful c.self.view_is c.self.invariant.0) c.requires.process
-    c.in-Some.ensures.done c.in-Err.ensures.room
+returns-in-Err-clause-tests c =
+    pair_room c.args.p c.args.arena c.in-Some.r c.in-Some.t c.args.self.now c.claim_two.new.self (Some c.in-Err.refused)
+    (subst IsLawful c.self.view_is c.self.invariant.0) c.requires.process c.in-Some.ensures.done c.in-Err.ensures.room
 
 pub returns-in-Err-clause-unchanged : goal.returns-in-Err-clause-unchanged
 returns-in-Err-clause-unchanged c =
-    let two = claimed_two c.args.p c.args.arena c.in-Some.r c.in-Some.t c.args.self.now c.claim_two.new.self (subst IsLawful c.self.view_is c.self.invariant.0) c.requires.process c.in-Some.ensures.done in
+    let two = claimed_two c.args.p c.args.arena c.in-Some.r c.in-Some.t c.args.self.now c.claim_two.new.self
+    (subst IsLawful c.self.view_is c.self.invariant.0) c.requires.process c.in-Some.ensures.done in
     c.vacate-in-Err.ensures.after ∙ (ap (after (Vacate c.args.p c.in-Some.r)) (c.vacate.ensures.after ∙ ap (after (Vacate c.args.p c.in-Some.t)) c.in-Err.ensures.unchanged) ∙ two.back)
 
 pub returns-clause-done : goal.returns-clause-done
-returns-clause-done c = paired c.args.p c.args.arena c.in-Some.r c.in-Some.t c.args.self.now c.claim_two.new.self c.carve.new.self c.cut.new.self c.cut.result (subst IsLawful c.self.view_is c.self.invariant.0) c.requires.process
-    c.in-Some.ensures.done
+returns-clause-done c = paired c.args.p c.args.arena c.in-Some.r c.in-Some.t c.args.self.now c.claim_two.new.self c.carve.new.self c.cut.new.self c.cut.result
+    (subst IsLawful c.self.view_is c.self.invariant.0) c.requires.process c.in-Some.ensures.done
     (record {
       carved = c.carve.ensures.after;
       long = c.in_default-carve.ensures.length;
@@ -38,5 +46,6 @@ returns-clause-done c = paired c.args.p c.args.arena c.in-Some.r c.in-Some.t c.a
     (subst IsLawful c.self-2.view_is c.self-2.invariant.0)
 
 pub returns-clause-tests : goal.returns-clause-tests
-returns-clause-tests c = pair_room c.args.p c.args.arena c.in-Some.r c.in-Some.t c.args.self.now c.claim_two.new.self None (subst IsLawful c.self.view_is c.self.invariant.0) c.requires.process c.in-Some.ensures.done
-    c.in_default-carve.ensures.room
+returns-clause-tests c =
+    pair_room c.args.p c.args.arena c.in-Some.r c.in-Some.t c.args.self.now c.claim_two.new.self None
+    (subst IsLawful c.self.view_is c.self.invariant.0) c.requires.process c.in-Some.ensures.done c.in_default-carve.ensures.room

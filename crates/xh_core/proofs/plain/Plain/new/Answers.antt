@@ -12,7 +12,7 @@ unfolding new_store
 invariant_of-result c =
     let is : IsConfig c.args.config = search rules in
     let s : Store = record { owners = c.in_ok-owners.owners.items; arenas = c.in_ok-arenas.arenas.items } in
-    let owners : s.owners ≡ (new_store c.args.config).owners = c.in_ok-owners.ensures ∙ ap (λ (n : ℕ). replicate (256 * n) None) c.from-count.ensures in
+    let owners : s.owners ≡ (new_store c.args.config).owners = c.in_ok-owners.ensures ∙ ap (λ (n : ℕ). replicate (256 * n) None) c.from.ensures in
     let arenas : s.arenas ≡ (new_store c.args.config).arenas = c.in_ok-arenas.ensures.fresh in
     let same : s ≡ new_store c.args.config = λ i. record { owners = owners i; arenas = arenas i } in (
       subst IsLawful (sym same) (new_lawful c.args.config is),

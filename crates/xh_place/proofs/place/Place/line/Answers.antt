@@ -5,8 +5,8 @@ use Rattle.xh_place.proofs.Steps.{count_bound}
 use Rattle.xh_place.proofs.Listing.{shown_long, sum_shown}
 use Rattle.xh_place.proofs.place.Place.line.Goals as goal
 
-pub overflow_cast-result-2 : goal.overflow_cast-result-2
-overflow_cast-result-2 c =
+pub overflow_cast-result-3 : goal.overflow_cast-result-3
+overflow_cast-result-3 c =
     let few : length c.self.inside.list.items ≤ 2048 =
     count_bound c.self.inside.seat c.self.inside.list.items (vec_capacity c.self.inside.list) c.self.inside.total c.self.inside.state c.self.invariant in search rules
 
