@@ -2,6 +2,7 @@
 ghost use Rattle.std.specs.Prelude.{◌≡◌, ◌≢◌, ◌⊎◌, ℕ, ◌+◌, ◌-◌, ◌<◌, ◌≤◌, ◌%◌, [], ◌∷◌, length, map, sum, replicate, slice_get, slice_set, IfOk, IfErr, OnErr, OnOk, Err, Some, None, MatchOption, ◌↔◌};
 ghost use Rattle.xh_model.specs.Cover.{AreHoles, bytes_out, holes_of, length_of, run_of};
 ghost use Rattle.xh_model.specs.Arena.{IsGoodCut, IsLawfulArena, lengths_of};
+ghost use Rattle.xh_arena.specs.declared.parts.Part.TheVariants.{Books};
 ghost use Rattle.xh_arena.specs.inner.Parts.{lots_from, tallies_from};
 ghost use Rattle.xh_arena.specs.Refusals.{RefusesCarve};
 ghost use Rattle.xh_arena.specs.Sharing.{IsLotOf, IsVaultCarved, IsVaultCut, IsVaultGivenBack};
@@ -14,7 +15,7 @@ use crate::name::Name;
 use crate::refused::Refused;
 use crate::shares::Shares;
 use crate::tally::{Tally, tallies};
-use std::alloc::Global;
+use std::alloc::{AllocError, Global};
 use std::marker::Model;
 use xh_model::limits::{MAX_BYTES, MAX_RECORDS, MAX_WORKERS, UNIT};
 
@@ -35,6 +36,22 @@ impl Model for Vault {
     ghost view = { λ v. record { id = v.shares.id; arena = v.arena; back = back_of v.shares.parts; workers = workers_of v.shares.parts; collected = moves_of v.shares.parts } };
 
     ghost invariant = { λ v. IsVault v.arena v.shares.parts };
+}
+
+// A new vault's lots and tallies, each with its part of the shares, and what is left of these: the books.
+fn deal_shares<B: Default + Drop>(
+    alloc: Global,
+    records: u16,
+    workers: u8,
+) -> Result<(Shares, Vec<Lot<B>>, Vec<Tally>), AllocError>
+    ensures books { IfOk result (λ r. r.0.parts ≡ Books (replicate records 0) 0 0 workers ∷ []) }
+    ensures lots { IfOk result (λ r. AreLots B.is_default r.0.id records r.1.items) }
+    ensures tallies { IfOk result (λ r. AreTallies r.0.id workers r.2.items) }
+{
+    let mut shares = Shares::new(alloc, records, workers)?;
+    let lots = lots(alloc, &mut shares, records)?;
+    let tallies = tallies(alloc, &mut shares, workers)?;
+    Ok((shares, lots, tallies))
 }
 
 impl Vault {
@@ -68,13 +85,7 @@ impl Vault {
             return Err(Refused::BadSize);
         }
         let arena = Arena::new(alloc, size, records, wear)?;
-        let Ok(mut shares) = Shares::new(alloc, records, workers) else {
-            return Err(Refused::OutOfMemory);
-        };
-        let Ok(lots) = lots(alloc, &mut shares, records) else {
-            return Err(Refused::OutOfMemory);
-        };
-        let Ok(tallies) = tallies(alloc, &mut shares, workers) else {
+        let Ok((shares, lots, tallies)) = deal_shares(alloc, records, workers) else {
             return Err(Refused::OutOfMemory);
         };
         Ok((Vault { arena, shares }, lots, tallies))

@@ -11,7 +11,7 @@ use Rattle.xh_model.specs.Keyed.{value_at}
 use Rattle.xh_model.proofs.Keyed.{value_here}
 use Rattle.xh_place.specs.declared.body.Body.{Body}
 use Rattle.xh_place.specs.Places.{Item, Lists, PlaceOf, line, line_in, total_of}
-use Rattle.xh_place.specs.Refusals.{is_over}
+use Rattle.xh_core.specs.Statuses.{is_over}
 use Rattle.xh_records.specs.Seats.{Held}
 use Rattle.xh_books.specs.Ledgers.{bytes_owned, place_lines}
 use Rattle.xh_books.specs.inner.Steps.{AreSeats, IsSeatOfPlace}

@@ -68,11 +68,11 @@ GoesBack old new m = IsSameBut (old.sent ++ m ∷ []) old.got old new × (new.pu
 abbrev pub ComesNext : Posted → Posted → Message → Type 0
 ComesNext old new m = IsSameBut old.sent (old.got ++ m ∷ []) old new × (new.pushed ≡ old.pushed) × Numbered new.got
 
--- at one moment of the call as many of its messages waited as the depth
+-- what it pushed ends in as many messages as the depth. That they waited, no clause says
 abbrev pub SawFull : Posted → Type 0
 SawFull old = Held old.depth (WaitsFrom old.pushed)
 
--- at one moment of the call nothing waited for it
+-- an empty queue may follow what it took. That the queue was empty, no clause says
 abbrev pub SawEmpty : Posted → Type 0
 SawEmpty old = Held 0 (WaitsTo old.got)
 

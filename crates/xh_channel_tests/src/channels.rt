@@ -254,17 +254,37 @@ fn both_ends_of_a_direction_are_compared(rt: HostRuntime) -> Result<(), Fail> {
     Ok(())
 }
 
-/// With the first growth refused there are no channels; then there are, and they carry a message.
+/// The channels that the call makes, or where a growth was refused, the same call made again.
+fn grown<R: Abort>(rt: &R, alloc: Global, depth: u8) -> Channels {
+    match Channels::new(alloc, depth) {
+        Ok(channels) => channels,
+        Err(refused) => {
+            assert!(rt; matches!(refused, Refused::OutOfMemory));
+            Channels::new(alloc, depth).expect(rt, "room")
+        }
+    }
+}
+
+/// With a growth refused, whichever it is, there are no channels; the same call then makes them, with their depth, and all of
+/// them are free.
 #[test]
-fn a_refused_growth_leaves_nothing(rt: HostRuntime) {
+fn a_refused_growth_leaves_nothing(rt: HostRuntime) -> Result<(), Fail> {
     const CALLS: &[(u8, Call, Answer)] = &[
+        (0, Look, Turn(0)),
         (0, Put(5, Some(7)), Sent(1)),
+        (0, Put(6, None), Sent(2)),
+        (0, Put(7, Some(8)), No(14, Some(8))),
+        (1, Put(8, Some(9)), Sent(1)),
         (1, Take, Taken(1, 5, Some(7))),
+        (1, Take, Taken(2, 6, None)),
+        (1, Take, No(16, None)),
+        (0, Take, Taken(1, 8, Some(9))),
     ];
-    let first = refusal_of_new(rt.alloc(), 2);
-    assert!(rt; first == "" || first == "OutOfMemory");
-    let second = assert_on(&rt, rt.alloc(), 2, CALLS);
-    assert!(rt; second.is_ok() || first == "");
+    let channels = grown(&rt, rt.alloc(), 2);
+    let mut ends = next_ends(&rt, &channels)?;
+    assert_answers(&rt, &channels, &mut ends, CALLS);
+    drop(Pair { channels, ends });
+    Ok(())
 }
 
 #[test]

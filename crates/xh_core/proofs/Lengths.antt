@@ -5,7 +5,7 @@ use Rattle.xh_model.specs.Cover.{SameRun, length_of}
 use Rattle.xh_model.specs.Arena.{ArenaState}
 use Rattle.xh_model.specs.Store.{Store, no_arena, arena_at, arena_of, len, with_arena}
 
-same_number : (q r : ℕ) → q / 256 ≡ r / 256 → q % 256 ≡ r % 256 → q ≡ r
+pub same_number : (q r : ℕ) → q / 256 ≡ r / 256 → q % 256 ≡ r % 256 → q ≡ r
 same_number q r a b = omega arith
 
 -- a record of the arena that is put in

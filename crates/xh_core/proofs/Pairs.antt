@@ -41,7 +41,7 @@ not_held s p r h e = false≢true (ap (λ o. is_held_by o (Process p)) (sym e) �
 
 -- the number of the lowest free record, where there is one
 pub lowest_is : (s : Store) (a r : ℕ) → free_record s a ≡ Some r → lowest s a ≡ r
-lowest_is s a r e = ap (λ (o : Option ℕ). unwrap_or o 65535) e
+lowest_is s a r e = ap (λ (o : Option ℕ). unwrap_or o 2048) e
 
 pub once_is : (p : ℕ) (s : Store) (a r : ℕ) → free_record s a ≡ Some r → claimed_once p s a ≡ after (Claim p r) s
 once_is p s a r e = ap (λ (x : ℕ). after (Claim p x) s) (lowest_is s a r e)

@@ -16,6 +16,7 @@ use Rattle.xh_model.proofs.Changed.{known_there}
 use Rattle.xh_model.proofs.Lawful.{held_known}
 use Rattle.xh_model.proofs.Returned.{given-own, given-other}
 use Rattle.xh_core.specs.Several.{times, accept_all}
+use Rattle.xh_core.proofs.Lengths.{same_number}
 
 pub done : (e : Event) (s : Store) → can e s ≡ true → after e s ≡ change e s
 unfolding after
@@ -117,9 +118,6 @@ same_len s t q e = ap (λ (xs : List ArenaState). length_of (q % 256) (slice_ind
 
 pub same_known : (s t : Store) (q : ℕ) → t.arenas ≡ s.arenas → is_known t q ≡ is_known s q
 same_known s t q e = ap (λ (xs : List ArenaState). nat_lt (q % 256) (slice_index_or xs (q / 256) no_arena).records) e
-
-same_number : (q r : ℕ) → q / 256 ≡ r / 256 → q % 256 ≡ r % 256 → q ≡ r
-same_number q r a e = omega arith
 
 -- what is given back has no bytes
 pub len_back : (s : Store) (p r : ℕ) → r / 256 < length s.arenas → len (change (GiveBack p r) s) r ≡ 0

@@ -4,6 +4,9 @@ pub mod Talks
 pub mod View
 pub mod Refusing
 pub mod Statuses
+pub mod Glances
+pub mod Headers
+pub mod Calls
 pub mod Space
 pub mod Several
 pub mod Gaining

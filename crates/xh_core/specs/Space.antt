@@ -2,7 +2,7 @@
 use Rattle.std.specs.Prelude.{ℕ, ◌+◌, ◌-◌, ◌*◌, ◌/◌, ◌%◌, ◌==◌, ◌||◌, Bool, not, [], ◌∷◌}
 use Rattle.std.specs.Prelude.{Option, is_none, nat_le, nat_lt, option_map, unwrap_or}
 use Rattle.std.specs.List.{position, range_with_len}
-use Rattle.xh_model.specs.declared.limits.TheConstants.{END_BYTES, MAX_RECORDS, UNIT}
+use Rattle.xh_model.specs.declared.limits.TheConstants.{END_BYTES, MAX_HELD, MAX_RECORDS, UNIT}
 use Rattle.xh_model.specs.declared.event.Event.TheVariants.{Claim}
 use Rattle.xh_model.specs.Cover.{first_fit}
 use Rattle.xh_model.specs.Store.{Store, arena_at, owner, after}
@@ -13,8 +13,9 @@ use Rattle.xh_core.specs.Refusing.{Tests}
 abbrev pub free_record : Store → ℕ → Option ℕ
 free_record s a = option_map (λ i. MAX_RECORDS * a + i) (position (λ i. is_none (owner s (MAX_RECORDS * a + i))) (range_with_len 0 (arena_at s a).records))
 
+-- the same; where there is none, a number that no record has
 abbrev pub lowest : Store → ℕ → ℕ
-lowest s a = unwrap_or (free_record s a) 65535
+lowest s a = unwrap_or (free_record s a) MAX_HELD
 
 -- n bytes as the arena hands them out: the next multiple of the unit
 abbrev pub rounded : ℕ → ℕ

@@ -9,6 +9,7 @@
 mod block;
 mod contract;
 mod glance;
+mod header;
 mod ledger;
 mod plain;
 mod refused;
@@ -21,6 +22,7 @@ mod twice;
 pub use block::Block;
 pub use contract::Contract;
 pub use glance::Glance;
+pub use header::{Header, Kind};
 pub use ledger::{ARENA_LINES, ArenaLine, Ledger, PLACE_LINES, PlaceLine, State};
 pub use plain::Plain;
 pub use refused::Refused;

@@ -198,12 +198,35 @@ fn sizes_outside_the_limits(rt: HostRuntime) {
     }
 }
 
-/// With one growth refused, whichever it is, the call says so and the same call after it succeeds:
-/// `rt try --test --fail-alloc N` refuses the N-th.
+/// A new machine of a Config, and where a growth was refused, the one of the same call made again.
+fn grown(rt: &impl Abort, alloc: Global, config: Config) -> Plain {
+    match Plain::new(alloc, config) {
+        Ok(plain) => plain,
+        Err(refused) => {
+            assert!(rt; matches!(refused, Refused::OutOfMemory));
+            Plain::new(alloc, config).expect(rt, "room")
+        }
+    }
+}
+
+/// With one growth refused, whichever it is, the call says so, and the same call after it gives a machine with all of its
+/// arenas, records and bytes: `rt try --test --fail-alloc N` refuses the N-th.
 #[test]
 fn a_refused_growth_leaves_nothing(rt: HostRuntime) {
-    let first = refusal(rt.alloc(), TWO_ARENAS);
-    assert!(rt; matches!(first, None | Some(Refused::OutOfMemory)));
-    let second = refusal(rt.alloc(), TWO_ARENAS);
-    assert!(rt; second.is_none() || first.is_none());
+    const ROWS: &[Row] = &[
+        Row::Free(0),
+        Row::Free(259),
+        Row::Done(Event::Claim(0, 0)),
+        Row::Done(Event::Carve(0, 0, 64)),
+        Row::Done(Event::Claim(1, 1)),
+        Row::Refused(Event::Carve(1, 1, 16)),
+        Row::Done(Event::Claim(1, 259)),
+        Row::Done(Event::Carve(1, 259, 64)),
+        Row::Refused(Event::Claim(1, 260)),
+        Row::Done(Event::Pass(1, 259, 127)),
+        Row::Held(0, Holder::Process(0)),
+        Row::Held(259, Holder::Direction(127)),
+    ];
+    let mut plain = grown(&rt, rt.alloc(), TWO_ARENAS);
+    assert_rows(&rt, &mut plain, ROWS);
 }

@@ -1,9 +1,10 @@
--- A glance as one word: the state, 4 times the count of blocks, 2^14 times the bytes, 2^48 times the generation.
-use Rattle.std.specs.Prelude.{ℕ, zero, suc, ◌+◌, ◌*◌, ◌/◌, ◌%◌, ◌<◌, ◌^◌}
+-- A glance as one word: the sum of its state, its count of blocks, its bytes and its generation, each times its weight.
+use Rattle.std.specs.Prelude.{ℕ, zero, suc, ◌+◌, ◌*◌, ◌/◌, ◌%◌, ◌<◌}
 use Rattle.xh_core.specs.declared.status.Status.{Status}
 use Rattle.xh_core.specs.declared.status.Status.TheVariants.{Vacant, Running, Ending, Ended}
 use Rattle.xh_core.specs.declared.glance.Glance.{Glance}
 use Rattle.xh_model.specs.declared.limits.TheConstants.{PLACES}
+use Rattle.xh_glance.specs.declared.words.TheConstants.{BLOCKS, BYTES, GENERATION, BLOCK_COUNTS, BYTE_SUMS, GENERATIONS}
 
 abbrev pub code_of : Status → ℕ
 code_of Vacant = 0
@@ -19,15 +20,20 @@ state_of _ = Ended
 
 -- what a word has room for
 abbrev pub IsPackable : Glance → Type 0
-IsPackable g = (g.blocks < 2 ^ 12) × (g.bytes < 2 ^ 34)
+IsPackable g = (g.blocks < BLOCK_COUNTS) × (g.bytes < BYTE_SUMS)
 
 -- a process's place is its number's remainder by the count of places, and its generation the quotient
 abbrev pub word_of : Glance → ℕ
-word_of g = code_of g.state + 4 * g.blocks + 16384 * g.bytes + 281474976710656 * (g.process / PLACES)
+word_of g = code_of g.state + BLOCKS * g.blocks + BYTES * g.bytes + GENERATION * (g.process / PLACES)
 
 -- what the word of a place tells
 abbrev pub glance_of : ℕ → ℕ → Glance
-glance_of p n = record { process = p + PLACES * ((n / 281474976710656) % 2048); state = state_of (n % 4); blocks = (n / 4) % 4096; bytes = (n / 16384) % 17179869184 }
+glance_of p n = record {
+  process = p + PLACES * ((n / GENERATION) % GENERATIONS);
+  state = state_of (n % BLOCKS);
+  blocks = (n / BLOCKS) % BLOCK_COUNTS;
+  bytes = (n / BYTES) % BYTE_SUMS;
+}
 
 -- how many words lie from one place's word to the next's
 abbrev pub stride : ℕ

@@ -9,11 +9,26 @@ use xh_model::limits::PLACES;
 /// The weight of the count of blocks; below it stands the state.
 const BLOCKS: u64 = 4;
 
-/// The weight of the bytes. So the count of blocks is below 4,096.
+/// The weight of the bytes.
 const BYTES: u64 = 16_384;
 
-/// The weight of the process's generation. So the bytes are below 2^34.
+/// The weight of the process's generation.
 const GENERATION: u64 = 281_474_976_710_656;
+
+/// A count of blocks is below this.
+const BLOCK_COUNTS: u64 = 4096;
+
+/// A sum of bytes is below this.
+const BYTE_SUMS: u64 = 17_179_869_184;
+
+/// The generation of a process, whose number has 16 bits, is below this.
+const GENERATIONS: u64 = 2048;
+
+const _: () = prove!(BLOCKS * BLOCK_COUNTS == BYTES);
+
+const _: () = prove!(BYTES * BYTE_SUMS == GENERATION);
+
+const _: () = prove!(GENERATIONS * PLACES as u64 == 65_536);
 
 pub(crate) fn pack(glance: Glance) -> u64
     requires { IsPackable glance }
@@ -43,11 +58,11 @@ pub(crate) fn unpack(place: u8, word: u64) -> Glance
         2 => Status::Ending,
         _ => Status::Ended,
     };
-    let generation = (word / GENERATION % 2048) as u16;
+    let generation = (word / GENERATION % GENERATIONS) as u16;
     Glance {
         process: u16::from(place) + PLACES as u16 * generation,
         state,
-        blocks: (word / BLOCKS % 4096) as u32,
-        bytes: word / BYTES % 17_179_869_184,
+        blocks: (word / BLOCKS % BLOCK_COUNTS) as u32,
+        bytes: word / BYTES % BYTE_SUMS,
     }
 }

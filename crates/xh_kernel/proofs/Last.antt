@@ -8,13 +8,13 @@ use Rattle.std.proofs.Math.Nat.{mod-eq_of_lt}
 use Rattle.atomic_table.specs.Seated.{TableId}
 use Rattle.xh_core.specs.declared.refused.Refused.{Refused}
 use Rattle.xh_core.specs.declared.status.Status.TheVariants.{Vacant}
+use Rattle.xh_core.specs.Headers.{len_in}
 use Rattle.xh_core.specs.Refusing.{Tests, Tested}
 use Rattle.xh_glance.specs.Pen.{PenOf, fresh_pen}
 use Rattle.xh_model.specs.Keyed.{put, value_at}
 use Rattle.xh_model.proofs.Keyed.{put_here, put_there, value_here, value_there}
 use Rattle.xh_place.specs.Bodies.{Content}
-use Rattle.xh_place.specs.Places.{Item, PlaceOf, headers, total_of, with_blocks}
-use Rattle.xh_place.specs.Refusals.{len_in}
+use Rattle.xh_place.specs.Places.{Item, PlaceOf, entry_of, headers, total_of, with_blocks}
 use Rattle.xh_place.proofs.Parted.{put_long}
 use Rattle.xh_kernel.specs.Places.{IsTold, last_of}
 
@@ -43,7 +43,7 @@ total_put : (r : ℕ) (x y : Item) (xs : List (ℕ × Item)) → y.len ≡ x.len
 total_put r x y [] same at = refl
 total_put r x y (z ∷ zs) same at = dite (ℕ_discrete z.0 r)
     (λ here. ap total_of (put_here r y z zs here)
-    ∙ ap (λ (n : ℕ). n + total_of zs) (same ∙ sym (ap len_in (sym (value_here r z zs here) ∙ at))))
+    ∙ ap (λ (n : ℕ). n + total_of zs) (same ∙ sym (ap (λ o. len_in (entry_of o)) (sym (value_here r z zs here) ∙ at))))
     (λ other. ap total_of (put_there r y z zs other)
     ∙ ap (λ (n : ℕ). z.1.len + n) (total_put r x y zs same (sym (value_there r z zs other) ∙ at)))
 

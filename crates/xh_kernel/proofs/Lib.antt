@@ -9,3 +9,4 @@ pub mod Ended
 pub mod Vaulted
 pub mod Listed
 pub mod Wired
+pub mod Started

@@ -1,5 +1,5 @@
 -- Vaults with their lots and names, one after the other.
-use Rattle.std.proofs.Common.{◌≡◌, ℕ, suc, ◌+◌, ◌*◌, ◌/◌, ◌%◌, ◌<◌, List, [], ◌∷◌, ◌++◌, ⊎_elim, length, sym, refl, ap, ◌∙◌, subst, arith, suc-mul, length-append}
+use Rattle.std.proofs.Common.{◌≡◌, ℕ, suc, ◌+◌, ◌*◌, ◌/◌, ◌%◌, ◌<◌, List, [], ◌∷◌, ◌++◌, ⊎_elim, length, sym, ap, ◌∙◌, subst, arith, suc-mul, length-append}
 use Rattle.std.specs.Prelude.{Some, slice_get, true}
 use Rattle.std.proofs.lemmas.List.{map_push}
 use Rattle.std.proofs.lemmas.List.Elements.{All-push}
@@ -11,9 +11,6 @@ use Rattle.xh_place.specs.declared.body.Body.{Body}
 use Rattle.xh_kernel.specs.Parts.{IsNew}
 use Rattle.xh_kernel.specs.inner.Making.{AreMakings}
 use Rattle.xh_kernel.proofs.Lists.{front_at, below_get, last_at, split_at}
-
-pub none_made : (w n size wear : ℕ) → AreMakings w n size wear [] [] []
-none_made w n size wear = (refl, (λ k d h. absurd (omega arith)), ((let e : 0 * n ≡ 0 = omega arith in sym e), (λ k l at. absurd (cc))))
 
 pub makings_more : (new : Body → Type 0) (w n size wear : ℕ) (vs : List VaultOf) (ls more : List (LotOf Body)) (names : List TableId) (v : VaultOf)
     → ((b : Body) → new b → fits_in b 0 ≡ true) → AreMakings w n size wear vs ls names → IsNew w n size wear v → AreLots new v.id n more

@@ -3,7 +3,8 @@ use Rattle.std.proofs.Common.{◌≡◌, ℕ, ◌+◌, sym, ap, ◌∙◌, subst
 use Rattle.std.specs.Prelude.{Bool, true, false, cond, ◌==◌, Result, Ok, Err}
 use Rattle.xh_core.specs.declared.refused.Refused.{Refused}
 use Rattle.xh_core.specs.declared.refused.Refused.TheVariants.{Unfinished}
-use Rattle.xh_place.specs.Ending.{back_of, but_back, reclaimed}
+use Rattle.xh_core.specs.Calls.{reclaimed}
+use Rattle.xh_place.specs.Ending.{back_of, but_back}
 use Rattle.xh_kernel.specs.Accounts.{AccountOf}
 use Rattle.xh_kernel.specs.Reclaims.{HasBack, HasReclaimed}
 
@@ -22,12 +23,6 @@ both_back m n first second third a b = (
   b.0 ∙ ap (λ (x : AccountOf). record x { tallies = third.tallies }) a.0,
   (let sum : back_of third.tallies ≡ back_of first.tallies + (m + n) = omega (arith, a.1.0, b.1.0) in sum, b.1.1 ∙ a.1.1),
 )
-
--- some bytes went back, whatever was answered
-pub some_back : (old new : AccountOf) (result : Result ℕ Refused) → HasReclaimed old new result → (bytes : ℕ) × HasBack bytes old new
-some_back old new (Ok bytes) h = (bytes, h)
-some_back old new (Err (Unfinished left)) h = h
-some_back old new (Err _) h = (0, none_back old new h)
 
 pub refused_reclaims : (old new : AccountOf) (refused : Refused) → new ≡ old → HasReclaimed old new (Err refused)
 refused_reclaims old new (Unfinished left) e = (0, none_back old new e)

@@ -1,16 +1,20 @@
 -- What a place's calls that take bytes, or give those of a block back, say of the account.
 use Rattle.std.proofs.Common.{◌≡◌, ℕ, ◌*◌, List, sym, subst}
-use Rattle.std.specs.Prelude.{Result, Ok, Err, IfOk, MatchResult, OnErr}
+use Rattle.std.specs.Prelude.{Option, Some, None, Result, Ok, Err, IfErr, IfOk, MatchOption, MatchResult, OnErr}
 use Rattle.xh_arena.specs.Views.{TallyOf}
 use Rattle.xh_channel.specs.Queues.{Posted}
 use Rattle.xh_core.specs.declared.block.Block.{Block}
 use Rattle.xh_core.specs.declared.refused.Refused.{Refused}
+use Rattle.xh_core.specs.declared.refused.Refused.TheVariants.{NoRecord, NoSpace, OutOfMemory, Worn}
 use Rattle.xh_model.specs.declared.limits.TheConstants.{END_BYTES}
 use Rattle.xh_place.specs.declared.opening.Unopened.{Unopened}
 use Rattle.xh_place.specs.Ends.{Opens}
 use Rattle.xh_place.specs.Places.{PlaceOf}
 use Rattle.xh_place.specs.Tallies.{gave, took}
+use Rattle.xh_place.specs.Vaults.{IsNoBlock}
 use Rattle.xh_kernel.specs.Accounts.{AccountOf, has_given, has_taken}
+use Rattle.xh_kernel.specs.Calls.{IsLack}
+use Rattle.xh_kernel.specs.Parts.{PartsOf, IsVaultOf}
 use Rattle.xh_kernel.proofs.Ended.{account_of, moved, stays}
 
 -- an account before a call, whose tallies a place's call changed from these to those
@@ -42,3 +46,19 @@ module _ (number : ℕ) (kept from to : List TallyOf) (before : AccountOf) (is :
       → MatchResult result (λ n. account_of number to ≡ has_given arena n before) (λ _. account_of number to ≡ before)
   freed old new arena (Ok n) unmoved given unchanged = change (gave arena n) given
   freed old new arena (Err e) unmoved given unchanged = same unchanged.2
+
+-- what an alloc of a place says of a lack, by the vaults of these parts
+module _ (parts : PartsOf) {V : Type 0} (from to : V) (a n : ℕ) where
+  lack : (e : Refused) → IsNoBlock (λ _ _ a v w. IsVaultOf parts a v × IsVaultOf parts a w) from to a n e → IsLack parts a n e
+  lack NoRecord h = tt
+  lack OutOfMemory h = tt
+  lack NoSpace h = (h.0, h.1.0, h.2, h.3)
+  lack Worn h = (h.0, h.1.0, h.2, h.3)
+  lack _ h = h
+
+  pub lacks : (o : Option Refused) (result : Result Block Refused)
+      → MatchOption o (IfErr result (IsNoBlock (λ _ _ a v w. IsVaultOf parts a v × IsVaultOf parts a w) from to a n)) (λ refused. (result ≡ Err refused) × (to ≡ from))
+      → MatchOption o (IfErr result (IsLack parts a n)) (λ refused. result ≡ Err refused)
+  lacks None (Ok b) h = tt
+  lacks None (Err e) h = lack e h
+  lacks (Some refused) result h = h.0

@@ -1,27 +1,29 @@
 -- What each call of a process does to its place, and why it is refused.
-use Rattle.std.specs.Prelude.{◌≡◌, ◌⊎◌, ℕ, ◌/◌, ◌&&◌, ◌||◌, Bool, true, false, nat_lt, List, [], ◌∷◌, ◌++◌, length, replicate, Option, Some, Result, Err, IfErr, IfOk, MatchOption, OnErr, OnOk}
+use Rattle.std.specs.Prelude.{◌≡◌, ◌⊎◌, ℕ, ◌/◌, Bool, true, false, List, [], ◌∷◌, ◌++◌, length, replicate, Option, Some, Result, Err, IfErr, IfOk, MatchOption, OnErr, OnOk}
 use Rattle.xh_arena.specs.Views.{VaultOf}
 use Rattle.xh_core.specs.declared.block.Block.{Block}
 use Rattle.xh_core.specs.declared.refused.Refused.{Refused}
 use Rattle.xh_core.specs.declared.refused.Refused.TheVariants.{NoRecord, NoSpace, OutOfMemory, Worn}
-use Rattle.xh_core.specs.Statuses.{is_vacant, is_ended}
+use Rattle.xh_core.specs.Statuses as statuses
 use Rattle.xh_core.specs.Refusing.{Tested, first_refusal}
 use Rattle.xh_model.specs.declared.limits.TheConstants.{MAX_RECORDS}
 use Rattle.xh_model.specs.Arena.{ArenaState, HasNoSpace, IsLawfulArena, IsWorn}
 use Rattle.xh_model.specs.Keyed.{put, value_at, without}
 use Rattle.xh_model.specs.Words.{generation_of}
 use Rattle.xh_place.specs.Bodies.{bytes, part, patched}
-use Rattle.xh_place.specs.Places.{Item, PlaceOf, started, with_blocks}
-use Rattle.xh_place.specs.Refusals.{alloc_tests, data_tests, len_in, range_tests, rounded, split_tests}
+use Rattle.xh_place.specs.Places.{found, Item, PlaceOf, started, with_blocks}
+use Rattle.xh_core.specs.Calls.{alloc_tests, data_tests, range_tests, split_tests}
+use Rattle.xh_core.specs.Headers.{len_in}
+use Rattle.xh_core.specs.Space.{rounded}
 use Rattle.xh_place.specs.Splitting.{IsSplit}
 use Rattle.xh_kernel.specs.Parts.{PartsOf, IsVaultOf}
 use Rattle.xh_kernel.specs.Places.{start}
 
 -- ---- spawn
 
--- whether a process can start there: nobody has had the place, or its process has ended and was not the last
+-- whether a process can start there
 abbrev pub can_start : PlaceOf → Bool
-can_start p = is_vacant p.state || (is_ended p.state && nat_lt (generation_of p.process) 127)
+can_start p = statuses.can_start p.state (generation_of p.process)
 
 -- its next process runs now; or none can start there
 abbrev pub Spawns : PlaceOf → PlaceOf → Option ℕ → Type 0
@@ -30,7 +32,7 @@ Spawns old new result = MatchOption result ((can_start old ≡ false) × (new �
 
 -- ---- alloc
 
--- some lawful vault of the arena was seen of which this is so
+-- this is so of some lawful vault of the arena. That the call saw it, no clause says
 abbrev pub IsOfSome : PartsOf → ℕ → (ArenaState → Type 0) → Type 0
 IsOfSome parts a P = (v : VaultOf) × IsVaultOf parts a v × IsLawfulArena v.arena × P v.arena
 
@@ -47,7 +49,7 @@ pub record Allocates (parts : PartsOf) (p n arena : ℕ) (old new : PlaceOf) (re
   pub made : IfOk result (λ b. new ≡ with_blocks old (old.blocks ++ (b.rec, record { len = b.len; content = bytes (replicate b.len 0) }) ∷ []))
   pub block : IfOk result (λ b. (b.len ≡ rounded n) × (b.rec / MAX_RECORDS ≡ arena))
   pub refused : OnErr result (new ≡ old)
-  pub why : MatchOption (first_refusal (start p old ++ alloc_tests old.state arena (length parts.records.shape.names) n parts.size))
+  pub why : MatchOption (first_refusal (start p old ++ alloc_tests arena (length parts.records.shape.names) n parts.size))
       (IfErr result (IsLack parts arena (rounded n))) (λ refused. result ≡ Err refused)
 
 -- ---- split
@@ -56,20 +58,20 @@ pub record Allocates (parts : PartsOf) (p n arena : ℕ) (old new : PlaceOf) (re
 pub record Splits (p r k : ℕ) (old new : PlaceOf) (result : Result (Block × Block) Refused) : Type 0 where
   pub cut : IfOk result (λ ends. IsSplit old new r k ends.0 ends.1)
   pub refused : OnErr result (new ≡ old)
-  pub why : MatchOption (first_refusal (start p old ++ split_tests old.state (value_at r old.blocks) k))
+  pub why : MatchOption (first_refusal (start p old ++ split_tests (found old r) k))
       (IfErr result (λ e. (e ≡ NoRecord) ⊎ (e ≡ OutOfMemory))) (λ refused. result ≡ Err refused)
 
 -- ---- read, write
 
 -- the bytes of the block from `at` on are there now
 pub record Reads (p r at : ℕ) (place : PlaceOf) (before after : List ℕ) (result : Result (Unit {0}) Refused) : Type 0 where
-  pub read : Tested (start p place ++ range_tests place.state (value_at r place.blocks) at (length before)) result
+  pub read : Tested (start p place ++ range_tests (found place r) at (length before)) result
       (λ _. (x : Item) × (value_at r place.blocks ≡ Some x) × (after ≡ part at (length before) x.content))
   pub refused : OnErr result (after ≡ before)
 
 -- these bytes stand in the block from `at` on
 pub record Writes (p r at : ℕ) (xs : List ℕ) (old new : PlaceOf) (result : Result (Unit {0}) Refused) : Type 0 where
-  pub written : Tested (start p old ++ range_tests old.state (value_at r old.blocks) at (length xs)) result
+  pub written : Tested (start p old ++ range_tests (found old r) at (length xs)) result
       (λ _. (x : Item) × (value_at r old.blocks ≡ Some x) × (new ≡ with_blocks old (put r (record x { content = patched at xs x.content }) old.blocks)))
   pub refused : OnErr result (new ≡ old)
 
@@ -78,5 +80,5 @@ pub record Writes (p r at : ℕ) (xs : List ℕ) (old new : PlaceOf) (result : R
 -- the block is gone, and its length is the answer
 pub record Frees (p r : ℕ) (old new : PlaceOf) (result : Result ℕ Refused) : Type 0 where
   pub freed : OnOk result (new ≡ with_blocks old (without r old.blocks))
-  pub length : Tested (start p old ++ data_tests old.state (value_at r old.blocks)) result (λ n. n ≡ len_in (value_at r old.blocks))
+  pub length : Tested (start p old ++ data_tests (found old r)) result (λ n. n ≡ len_in (found old r))
   pub refused : OnErr result (new ≡ old)

@@ -2,13 +2,14 @@
 use Rattle.std.specs.Prelude.{◌≡◌, ◌⊎◌, ℕ, ◌*◌, ◌<◌, Bool, true, [], ◌∷◌, ◌++◌, length, Result, Ok, Err, IfErr, IfOk, MatchOption, MatchResult, OnErr}
 use Rattle.xh_channel.specs.Pairs.{IsPair}
 use Rattle.xh_channel.specs.Queues.{Posted}
+use Rattle.xh_core.specs.Calls.{arena_tests}
 use Rattle.xh_core.specs.declared.block.Block.{Block}
 use Rattle.xh_core.specs.declared.refused.Refused.{Refused}
 use Rattle.xh_core.specs.declared.refused.Refused.TheVariants.{Ended, NoChannel, NoRecord, NoSpace, Worn}
 use Rattle.xh_core.specs.Refusing.{first_refusal}
 use Rattle.xh_model.specs.Arena.{HasNoSpace, IsWorn}
 use Rattle.xh_model.specs.declared.limits.TheConstants.{END_BYTES}
-use Rattle.xh_place.specs.Ends.{end_block, is_here, IsEndIn, open_tests}
+use Rattle.xh_place.specs.Ends.{end_block, is_here, IsEndIn}
 use Rattle.xh_place.specs.Places.{IsPlaceOf, Item, PlaceOf, with_blocks, with_more}
 use Rattle.xh_kernel.specs.Calls.{IsOfSome}
 use Rattle.xh_kernel.specs.Parts.{PartsOf}
@@ -31,7 +32,7 @@ pub record Opens (parts : PartsOf) (p arena : ℕ) (ruled : Bool) (old new : Pla
       × (new ≡ with_blocks old (old.blocks ++ (ends.0.rec, end_block low) ∷ (ends.1.rec, end_block high) ∷ [])))
   pub blocks : IfOk result (λ ends. IsEndIn arena ends.0 × IsEndIn arena ends.1)
   pub refused : OnErr result (new ≡ old)
-  pub why : MatchOption (first_refusal (start p old ++ open_tests old.state arena (length parts.records.shape.names))) (IfErr result (IsNoChannel parts arena)) (λ refused. result ≡ Err refused)
+  pub why : MatchOption (first_refusal (start p old ++ arena_tests arena (length parts.records.shape.names))) (IfErr result (IsNoChannel parts arena)) (λ refused. result ≡ Err refused)
 
 -- ---- wire
 

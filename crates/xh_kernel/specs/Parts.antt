@@ -35,6 +35,11 @@ pub record ArePartsLimits (config : Config) (workers : ℕ) : Type 0 where
   pub some_workers : 1 ≤ workers
   pub most_workers : workers ≤ MAX_WORKERS
 
+-- parts that were made by a configuration, for so many workers
+abbrev pub AreMadeBy : Config → ℕ → PartsOf → Type 0
+AreMadeBy config workers p = (p.workers ≡ workers) × (p.size ≡ config.bytes) × (p.wear ≡ config.wear) × (p.depth ≡ config.depth)
+    × (p.records.shape.records ≡ config.records) × (length p.records.shape.names ≡ config.arenas)
+
 abbrev pub vault_names : List VaultOf → List TableId
 vault_names = map (λ v. v.id)
 

@@ -1,13 +1,12 @@
 -- What a kernel's lock knows of a place, and the refusals by the number of a process.
-use Rattle.std.specs.Prelude.{◌≡◌, ℕ, ◌==◌, cond, not, nat_le, nat_lt, ◌||◌, List, [], ◌∷◌, Option, Some, None, length}
+use Rattle.std.specs.Prelude.{◌≡◌, ℕ, ◌==◌, cond, List, [], ◌∷◌, Option, Some, None, length}
 use Rattle.xh_core.specs.declared.glance.Glance.{Glance}
-use Rattle.xh_core.specs.declared.refused.Refused.TheVariants.{NoProcess, Ended as IsOver}
 use Rattle.xh_core.specs.declared.status.Status.{Status}
-use Rattle.xh_core.specs.declared.status.Status.TheVariants.{Vacant, Ended}
-use Rattle.xh_core.specs.Statuses.{is_vacant, is_running, is_ended}
+use Rattle.xh_core.specs.declared.status.Status.TheVariants.{Ended}
+use Rattle.xh_core.specs.Statuses as statuses
+use Rattle.xh_core.specs.Calls as calls
 use Rattle.xh_core.specs.Refusing.{Tests}
 use Rattle.xh_glance.specs.Pen.{PenOf}
-use Rattle.xh_model.specs.declared.limits.TheConstants.{PROCESSES}
 use Rattle.xh_model.specs.Words.{generation_of, place_of}
 use Rattle.xh_place.specs.Places.{PlaceOf, IsPlaceOf, total_of}
 use Rattle.xh_kernel.specs.Parts.{PartsOf}
@@ -30,17 +29,15 @@ pub record IsTold (p : PlaceOf) (pen : PenOf) : Type 0 where
 abbrev pub IsHeldOf : PartsOf → PlaceOf → PenOf → Type 0
 IsHeldOf parts p pen = IsPlaceOf parts.records p × (pen.glances ≡ parts.glances)
 
--- how far a process of this place has come: Vacant where there is no such process yet
+-- how far a process has come, of which the place knows its latest alone: Vacant where there is no such process yet
 abbrev pub status_of : ℕ → PlaceOf → Status
-status_of process p =
-    cond (nat_le PROCESSES process || nat_lt (generation_of p.process) (generation_of process)) Vacant
-    (cond (p.process == process) p.state Ended)
+status_of process p = statuses.status_of process (generation_of p.process) (cond (p.process == process) p.state Ended)
 
 -- ---- the first refusals of each call by a process
 
 abbrev pub start : ℕ → PlaceOf → Tests
-start process p = (is_vacant (status_of process p), NoProcess) ∷ (not (is_running (status_of process p)), IsOver) ∷ []
+start process p = calls.start (status_of process p)
 
 -- of its ending
 abbrev pub stop : ℕ → PlaceOf → Tests
-stop process p = (is_vacant (status_of process p), NoProcess) ∷ (is_ended (status_of process p), IsOver) ∷ []
+stop process p = calls.stop (status_of process p)

@@ -4,7 +4,7 @@ ghost use Rattle.xh_core.specs.declared.status.Status.TheVariants as status;
 ghost use Rattle.xh_core.specs.Refusing.{Tested};
 ghost use Rattle.xh_place.specs.Places.{IsPlaceOf};
 ghost use Rattle.xh_kernel.specs.Calls.{Spawns};
-ghost use Rattle.xh_kernel.specs.Places.{IsHeldOf, IsTold, start, status_of, stop};
+ghost use Rattle.xh_kernel.specs.Places.{IsHeldOf, IsTold, start, status_of};
 
 mod blocks;
 mod channels;
@@ -20,7 +20,7 @@ use std::marker::PhantomData;
 use xh_channel::Spot;
 use xh_core::{Refused, Status};
 use xh_glance::Pen;
-use xh_model::limits::{GENERATIONS, PLACES, PROCESSES};
+use xh_model::limits::{GENERATIONS, PLACES};
 use xh_place::Place;
 
 /// A place, who tells its glances, and the endpoint that its process waits at. Whenever the lock is
@@ -63,40 +63,23 @@ impl<N: Names> Held<N> {
     }
 
     // How far the process has come.
-    fn status_of(&self, p: u16) -> Status
+    pub(crate) fn status_of(&self, p: u16) -> Status
         ensures { result ≡ status_of p self.now.place }
     {
         let latest = self.place.process();
-        let places = u16::from(PLACES);
-        if p >= PROCESSES || latest / places < p / places {
-            return Status::Vacant;
-        }
-        if latest == p {
-            return self.place.state();
-        }
-        Status::Ended
+        let known = if latest == p {
+            self.place.state()
+        } else {
+            Status::Ended
+        };
+        known.of(p, latest / u16::from(PLACES))
     }
 
     // The tests of a call by the process: it is the latest of the place, and runs.
     pub(crate) fn start(&self, p: u16) -> Result<(), Refused>
-        ensures { Tested (start p self.now.place) result (λ _. (self.now.place.process ≡ p) × (self.now.place.state ≡ status.Running)) }
+        ensures { Tested (start p self.now.place) result (λ _. self.now.place.state ≡ status.Running) }
     {
-        match self.status_of(p) {
-            Status::Vacant => Err(Refused::NoProcess),
-            Status::Running => Ok(()),
-            Status::Ending | Status::Ended => Err(Refused::Ended),
-        }
-    }
-
-    // The tests of an end of the process: it is the latest of the place, and has not ended.
-    pub(crate) fn stop_test(&self, p: u16) -> Result<(), Refused>
-        ensures { Tested (stop p self.now.place) result (λ _. self.now.place.process ≡ p) }
-    {
-        match self.status_of(p) {
-            Status::Vacant => Err(Refused::NoProcess),
-            Status::Running | Status::Ending => Ok(()),
-            Status::Ended => Err(Refused::Ended),
-        }
+        self.status_of(p).check_start()
     }
 
     // The next process of the place runs now, where there is one: its number.

@@ -1,6 +1,6 @@
 //! What a kernel is made of.
-ghost use Rattle.std.specs.Prelude.{◌≡◌, ◌⊎◌, ◌↔◌, Err, IfErr, IfOk, OnOk, length};
-ghost use Rattle.xh_kernel.specs.Parts.{ArePartsLimits};
+ghost use Rattle.std.specs.Prelude.{◌≡◌, ◌⊎◌, ◌↔◌, Err, IfErr, IfOk, OnOk};
+ghost use Rattle.xh_kernel.specs.Parts.{AreMadeBy, ArePartsLimits};
 
 use crate::account::Bundle;
 use crate::making::{Makings, make_vaults};
@@ -56,8 +56,7 @@ fn new_channels(alloc: Global, depth: u8) -> Result<Channels, Refused>
 fn make_parts(alloc: Global, config: Config, workers: u8) -> Result<Parts, Refused>
     requires { ArePartsLimits config workers }
     ensures refused { IfErr result (λ e. e ≡ Refused.OutOfMemory) }
-    ensures parts { IfOk result (λ p. (p.workers ≡ workers) × (p.size ≡ config.bytes) × (p.wear ≡ config.wear) × (p.depth ≡ config.depth)
-        × (p.records.shape.records ≡ config.records) × (length p.records.shape.names ≡ config.arenas)) }
+    ensures parts { IfOk result (AreMadeBy config workers) }
 {
     let Makings {
         vaults,
@@ -94,8 +93,7 @@ impl Parts {
         ensures limits { OnOk result (ArePartsLimits config workers) }
         ensures bad_size { (result ≡ Err Refused.BadSize) ↔ (ArePartsLimits config workers → ⊥) }
         ensures refused { IfErr result (λ e. (e ≡ Refused.BadSize) ⊎ (e ≡ Refused.OutOfMemory)) }
-        ensures parts { IfOk result (λ p. (p.workers ≡ workers) × (p.size ≡ config.bytes) × (p.wear ≡ config.wear) × (p.depth ≡ config.depth)
-            × (p.records.shape.records ≡ config.records) × (length p.records.shape.names ≡ config.arenas)) }
+        ensures parts { IfOk result (AreMadeBy config workers) }
     {
         if !config.is_in_limits() || workers == 0 || workers > MAX_WORKERS {
             return Err(Refused::BadSize);

@@ -1,6 +1,6 @@
 -- What follows of a carving, a cut and a giving back, whatever arena they are of.
-use Rattle.std.proofs.Common.{◌≡◌, ◌≢◌, ℕ, ◌+◌, ◌-◌, ◌*◌, ◌<◌, ◌≤◌, List, true, cond, refl, sym, ap, ◌∙◌, arith, length, map, Option, Some, None, inl, inr}
-use Rattle.std.specs.Prelude.{slice_set, is_some, ◌==◌}
+use Rattle.std.proofs.Common.{◌≡◌, ◌≢◌, ℕ, ◌+◌, ◌-◌, ◌<◌, List, true, cond, refl, sym, ap, ◌∙◌, arith, length, Option, Some, None, inl, inr}
+use Rattle.std.specs.Prelude.{slice_set, is_some}
 use Rattle.std.proofs.lemmas.Bool.{cases_eq, eq-eqb, ne_eqb}
 use Rattle.std.proofs.lemmas.List.{length-map}
 use Rattle.std.proofs.lemmas.Option.{same_Some}

@@ -33,7 +33,7 @@ one_side rows state tag tag' side side' next next' valid a b =
       ]
     ]
 
-cases_Option : (o : Option ℕ) → (o ≡ None) ⊎ ((n : ℕ) × (o ≡ Some n))
+pub cases_Option : (o : Option ℕ) → (o ≡ None) ⊎ ((n : ℕ) × (o ≡ Some n))
 cases_Option None = inl refl
 cases_Option (Some n) = inr (n, refl)
 

@@ -1,42 +1,8 @@
 -- What is the same of two covers that pass a test at the same places.
-use Rattle.std.proofs.Common.{
-  ◌≡◌,
-  ◌≢◌,
-  ℕ,
-  zero,
-  suc,
-  ◌+◌,
-  ◌-◌,
-  ◌*◌,
-  ◌<◌,
-  ◌≤◌,
-  List,
-  [],
-  ◌∷◌,
-  ◌++◌,
-  Bool,
-  true,
-  false,
-  cond,
-  refl,
-  sym,
-  ap,
-  ◌∙◌,
-  arith,
-  take,
-  drop,
-  replicate,
-  length,
-  map,
-  Option,
-  Some,
-  None,
-  inl,
-  inr,
-}
+use Rattle.std.proofs.Common.{◌≡◌, ℕ, zero, suc, ◌+◌, ◌-◌, ◌*◌, ◌<◌, ◌≤◌, List, [], ◌∷◌, ◌++◌, Bool, true, false, cond, refl, sym, ap, ◌∙◌, arith, take, drop, replicate, length, map, Option, Some, None, inl, inr}
 use Rattle.std.specs.Prelude.{count_by, slice_index_or, ◌==◌}
 use Rattle.std.specs.List.{position_or_len}
-use Rattle.std.proofs.lemmas.Bool.{cases_Bool, cases_eq, eq-eqb, ne_eqb, eqb-true}
+use Rattle.std.proofs.lemmas.Bool.{cases_Bool, eqb-true}
 use Rattle.std.proofs.lemmas.List.{map-append}
 use Rattle.std.proofs.lemmas.List.Sums.{sum_by-cons, sum_by-append}
 use Rattle.std.proofs.lemmas.List.Folds.{sum_by-replicate}

@@ -1,5 +1,5 @@
 -- Within which limits a machine is made.
-use Rattle.std.specs.Prelude.{ℕ, ◌≤◌}
+use Rattle.std.specs.Prelude.{◌≤◌}
 use Rattle.xh_model.specs.Arena.{AreLimits}
 use Rattle.xh_model.specs.declared.config.Config.{Config}
 use Rattle.xh_model.specs.declared.limits.TheConstants.{MAX_ARENAS, MAX_DEPTH}

@@ -13,6 +13,11 @@ pub const MAX_BYTES: u32 = 1_048_576;
 /// index there.
 pub const MAX_RECORDS: u16 = 256;
 
+/// The records of a machine, and so the blocks that a process may hold: at most this many.
+pub const MAX_HELD: usize = 2048;
+
+const _: () = prove!(MAX_HELD == MAX_ARENAS as usize * MAX_RECORDS as usize);
+
 /// The bytes that an arena may ever hand out: 0 to this many.
 pub const MAX_WEAR: u64 = 9_223_372_036_854_775_807;
 

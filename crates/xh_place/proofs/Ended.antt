@@ -1,18 +1,18 @@
 -- How far a process has come, before a sweep and after it.
-use Rattle.std.proofs.Common.{◌≡◌, ℕ, ◌-◌, ◌⊎◌, ⊎_elim, inl, inr, List, [], ◌∷◌, length, refl, sym, ap, ◌∙◌, subst, arith, Bool, false}
-use Rattle.std.specs.Prelude.{Result, Err, MatchOption}
+use Rattle.std.proofs.Common.{◌≡◌, ℕ, ◌-◌, ◌⊎◌, ⊎_elim, inl, inr, List, [], ◌∷◌, length, refl, sym, ap, ◌∙◌, subst, arith}
+use Rattle.std.specs.Prelude.{Option, None, Result, Err, MatchOption}
 use Rattle.xh_arena.specs.Views.{TallyOf}
 use Rattle.xh_core.specs.declared.refused.Refused.{Refused}
-use Rattle.xh_core.specs.declared.refused.Refused.TheVariants as refused
+use Rattle.xh_core.specs.Calls.{reclaimed}
+use Rattle.xh_place.specs.Starts.{stop}
 use Rattle.xh_core.specs.Refusing.{first_refusal}
 use Rattle.xh_core.specs.declared.status.Status.{Status}
 use Rattle.xh_core.specs.declared.status.Status.TheVariants.{Vacant, Running, Ending, Ended}
 use Rattle.xh_model.specs.declared.limits.TheConstants.{MAX_BUDGET}
-use Rattle.xh_place.specs.Ending.{HasGivenBack, IsStopped, IsSwept, ending, reclaimed, stop_tests}
+use Rattle.xh_place.specs.Ending.{HasGivenBack, IsStopped, IsSwept, ending}
 use Rattle.xh_place.specs.Ends.{RefusedOr, IsTooLate, ending_again}
 use Rattle.xh_place.specs.inner.Reclaiming.{IsSweptLate, awake}
 use Rattle.xh_place.specs.Places.{Item, PlaceOf, with_list, with_more}
-use Rattle.xh_place.specs.Refusals.{is_over}
 
 again_same : (state : Status) (xs : List (ℕ × Item)) → (state ≡ Ended → xs ≡ []) → ending_again state (length xs) ≡ state
 again_same Vacant xs none = refl
@@ -50,9 +50,8 @@ stopped budget bytes left count old mid swept new result start is list counted e
       told ∙ ap (reclaimed bytes) all,
     )
 
-pub unrefused : (state : Status) (result : Result ℕ Refused) (same done : Type 0) → is_over state ≡ false → done → RefusedOr (stop_tests state) result same done
-unrefused state result same done alive h =
-    subst (λ (b : Bool). MatchOption (first_refusal ((b, refused.Ended) ∷ [])) done (λ (e : Refused). (result ≡ Err e) × same)) (sym alive) h
+pub unrefused : (state : Status) (result : Result ℕ Refused) (same done : Type 0) → first_refusal (stop state) ≡ None → done → RefusedOr (stop state) result same done
+unrefused state result same done passed h = subst (λ (o : Option Refused). MatchOption o done (λ (e : Refused). (result ≡ Err e) × same)) (sym passed) h
 
 -- an endpoint came, or none did, and the place is as far as it was, or ending again
 pub turned : (d r n : ℕ) (old mid swept new : PlaceOf) (told now : List TallyOf) → (old.state ≡ Ended → old.blocks ≡ []) → mid ≡ record old { state = awake old.state }

@@ -8,7 +8,7 @@ use Rattle.xh_model.proofs.Keyed.{put_same}
 use Rattle.xh_records.specs.Seats.{Held, with_lots}
 use Rattle.xh_place.specs.inner.Lots.{bare}
 use Rattle.xh_place.specs.declared.body.Body.{Body}
-use Rattle.xh_place.specs.declared.body.Header.{Header}
+use Rattle.xh_core.specs.declared.header.Header.{Header}
 use Rattle.xh_place.specs.Places.{Item, PlaceOf, header_of, item_of, IsBlock, IsPlace, with_blocks}
 use Rattle.xh_place.proofs.Steps.{listed, lot_of, view_of, changes, changes_shown, shows}
 

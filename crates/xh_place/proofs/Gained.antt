@@ -11,7 +11,7 @@ use Rattle.xh_place.specs.inner.Lots.{HasNow, bare}
 use Rattle.xh_place.specs.declared.body.Body.{Body}
 use Rattle.xh_place.specs.declared.body.Body.TheVariants.{Nothing, Data, End}
 use Rattle.xh_channel.specs.Queues.{Posted}
-use Rattle.xh_place.specs.declared.body.Kind.TheVariants as kind
+use Rattle.xh_core.specs.declared.header.Kind.TheVariants as kind
 use Rattle.xh_place.specs.Bodies.{bytes, content_of, fits_in, kind_of}
 
 module _ (seat new : Held Body) (r : ℕ) (l : LotOf Body) (is : HasNow seat (seat.lots ++ (r, l) ∷ []) new) (fresh : Among (keys seat.lots) r → ⊥) where

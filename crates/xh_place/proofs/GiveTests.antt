@@ -7,7 +7,9 @@ use Rattle.xh_core.specs.declared.refused.Refused.TheVariants.{TooMany, NotOwned
 use Rattle.xh_core.specs.Several.{has_twice}
 use Rattle.xh_core.specs.Refusing.{first_refusal}
 use Rattle.xh_model.specs.Keyed.{Among, Distinct, value_at}
-use Rattle.xh_place.specs.Messages.{given_tests, is_listed}
+use Rattle.xh_core.specs.Calls.{given_tests}
+use Rattle.xh_model.specs.declared.limits.TheConstants.{MAX_BLOCKS}
+use Rattle.xh_place.specs.Messages.{is_listed}
 use Rattle.xh_place.specs.Places.{Item}
 
 passes : (b : Bool) (refused : Refused) (rest : Option Refused) → cond b (Some refused) rest ≡ None → (b ≡ false) × (rest ≡ None)
@@ -45,10 +47,10 @@ each xs (q ∷ rs) h r a = let t = both (is_listed xs q) (list_all (is_listed xs
     ⊎_elim (λ e. let f = found (value_at q xs) t.0 in (f.0, ap (λ (z : ℕ). value_at z xs) e ∙ f.1)) (λ b. each xs rs t.1 r b) a
 
 -- the given blocks are listed, each once, and the endpoint is none of them
-pub fine : (xs : List (ℕ × Item)) (e : ℕ) (rs : List ℕ) → first_refusal (given_tests xs e rs) ≡ None
+pub fine : (xs : List (ℕ × Item)) (e : ℕ) (rs : List ℕ) → first_refusal (given_tests (is_listed xs) e rs) ≡ None
     → (Distinct rs × (Among rs e → ⊥)) × ((r : ℕ) → Among rs r → (x : Item) × (value_at r xs ≡ Some x))
 fine xs e rs h =
-    let few = passes (nat_lt 8 (length rs)) TooMany _ h in
+    let few = passes (nat_lt MAX_BLOCKS (length rs)) TooMany _ h in
     let listed = passes (not (list_all (is_listed xs) rs)) NotOwned _ few.1 in
     let apart = passes (has_twice (e ∷ rs)) Twice None listed.1 in
     let t = neither (list_any (λ q. q == e) rs) (has_twice rs) apart.0 in

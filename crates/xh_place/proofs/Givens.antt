@@ -12,7 +12,7 @@ use Rattle.xh_records.specs.Seats.{Held, did, with_lots}
 use Rattle.xh_place.specs.Moves.{accepted_on, passed_on}
 use Rattle.xh_place.specs.inner.Lots.{HasNow, bare, with_done}
 use Rattle.xh_place.specs.declared.body.Body.{Body}
-use Rattle.xh_place.specs.declared.body.Header.{Header}
+use Rattle.xh_core.specs.declared.header.Header.{Header}
 use Rattle.xh_place.specs.Places.{IsBlock, header_in}
 use Rattle.xh_place.proofs.Moves.{moved_twice, on_both, own_lots, passed_both}
 

@@ -10,10 +10,10 @@ use Rattle.xh_model.specs.Keyed.{Among, Distinct, keys, value_at, without}
 use Rattle.xh_model.proofs.Keyed.{absent, distinct_push, distinct_without, keys_push, last_at, last_other, no_key, value_there, without_at, without_here, without_other, without_there}
 use Rattle.xh_records.specs.Seats.{Held}
 use Rattle.xh_place.specs.declared.body.Body.{Body}
-use Rattle.xh_place.specs.declared.body.Header.{Header}
+use Rattle.xh_core.specs.declared.header.Header.{Header}
 use Rattle.xh_place.specs.Ending.{alone, last}
 use Rattle.xh_place.specs.Places.{PlaceOf, with_blocks, header_in, shown, IsPlace, IsQuiet}
-use Rattle.xh_place.specs.Refusals.{is_over}
+use Rattle.xh_core.specs.Statuses.{is_over}
 use Rattle.xh_place.proofs.Steps.{quiet_alive, shows, view_of}
 use Rattle.xh_place.proofs.Listing.{shown_at, shown_last, shown_without, sum_last, sum_without}
 

@@ -9,7 +9,7 @@ use Rattle.xh_model.specs.Keyed.{Among, Distinct, keys, value_at, put, without}
 use Rattle.xh_model.proofs.Keyed.{absent, at_key, get_key, here_first, no_key, none_at}
 use Rattle.xh_model.proofs.Keyed.{not_here, put_at, put_other}
 use Rattle.xh_place.specs.declared.body.Body.{Body}
-use Rattle.xh_place.specs.declared.body.Header.{Header}
+use Rattle.xh_core.specs.declared.header.Header.{Header}
 use Rattle.xh_place.specs.Places.{Item, item_of, item_in, header_of, header_in, shown, sum_of, total_of}
 
 -- the blocks shown

@@ -7,7 +7,7 @@ use Rattle.xh_model.specs.declared.event.Event.TheVariants.{Claim, Carve, Cut, G
 use Rattle.xh_model.specs.Keyed.{keys}
 use Rattle.xh_records.specs.Seats.{Held, did, with_lots}
 use Rattle.xh_place.specs.declared.body.Body.{Body}
-use Rattle.xh_place.specs.declared.body.Header.{Header}
+use Rattle.xh_core.specs.declared.header.Header.{Header}
 use Rattle.xh_place.specs.Moves.{moves, accepted_on, passed_on, there_and_back}
 use Rattle.xh_place.specs.inner.Lots.{HasNow, bare, with_done}
 use Rattle.xh_place.specs.Places.{IsPlace, Item, PlaceOf, with_moved, with_more}

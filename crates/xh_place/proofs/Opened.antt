@@ -7,11 +7,11 @@ use Rattle.xh_model.specs.Keyed.{Among, keys, value_at, put, without}
 use Rattle.xh_model.proofs.Keyed.{among_either, keys_push, last_at, last_other, last_put, last_without, put_split}
 use Rattle.xh_records.specs.Seats.{Held, IsRecord, with_lots}
 use Rattle.xh_place.specs.declared.body.Body.{Body}
-use Rattle.xh_place.specs.declared.body.Header.{Header}
+use Rattle.xh_core.specs.declared.header.Header.{Header}
 use Rattle.xh_place.specs.inner.Lots.{HasNow, bare}
 use Rattle.xh_place.specs.inner.Opening.{AreMade, HasTwoMore}
 use Rattle.xh_place.specs.Places.{Item, PlaceOf, with_blocks, header_in, header_of, item_in, item_of, shown, IsPlace}
-use Rattle.xh_place.specs.Refusals.{is_over}
+use Rattle.xh_core.specs.Statuses.{is_over}
 use Rattle.xh_place.proofs.Gained.{has}
 use Rattle.xh_place.proofs.Steps.{has_room, view_of, won}
 use Rattle.xh_place.proofs.Listing.{shown_at}

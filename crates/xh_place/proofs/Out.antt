@@ -9,8 +9,8 @@ use Rattle.xh_model.proofs.Keyed.{put_at}
 use Rattle.xh_records.specs.Seats.{Held, with_lots}
 use Rattle.xh_place.specs.declared.body.Body.{Body}
 use Rattle.xh_place.specs.declared.body.Body.TheVariants.{Nothing, End}
-use Rattle.xh_place.specs.declared.body.Header.{Header}
-use Rattle.xh_place.specs.declared.body.Kind.TheVariants as kind
+use Rattle.xh_core.specs.declared.header.Header.{Header}
+use Rattle.xh_core.specs.declared.header.Kind.TheVariants as kind
 use Rattle.xh_place.specs.Bodies.{content_of, fits_in, kind_of, spot}
 use Rattle.xh_place.specs.Places.{Item, PlaceOf, header_of, item_of, IsBlock, IsPlace}
 use Rattle.xh_place.proofs.Gained.{is_end}

@@ -1,10 +1,12 @@
 -- A block cut in two.
 use Rattle.std.proofs.Common.{◌≡◌, ◌≢◌, ℕ, ◌+◌, ◌-◌, ◌/◌, ◌<◌, ◌≤◌, List, [], ◌∷◌, ◌++◌, length, drop, take, true, refl, sym, ap, ◌∙◌, subst, arith, rules, length-take-le, length-drop}
-use Rattle.std.specs.Prelude.{Some, None, Option}
+use Rattle.std.specs.Prelude.{Some, None}
 use mathlib.Core.Logic.{dite}
 use native.Mathlib.Decide.{ℕ_discrete}
 use Rattle.xh_arena.specs.Views.{LotOf}
-use Rattle.xh_core.specs.Refusing.{first_refusal}
+use Rattle.xh_place.specs.Starts.{start}
+use Rattle.xh_core.specs.Refusing.{Tests, first_refusal}
+use Rattle.xh_core.specs.Statuses.{is_running}
 use Rattle.xh_core.specs.declared.status.Status.{Status}
 use Rattle.xh_core.specs.declared.status.Status.TheVariants.{Vacant, Running, Ending, Ended}
 use Rattle.xh_model.specs.Keyed.{Among, keys, value_at, put}
@@ -15,11 +17,10 @@ use Rattle.xh_records.specs.Seats.{Held, IsRecord, IsSeatOf, RecordsOf, with_lot
 use Rattle.xh_place.specs.inner.Lots.{HasNow, IsCut, IsData, bare}
 use Rattle.xh_place.specs.declared.body.Body.{Body}
 use Rattle.xh_place.specs.declared.body.Body.TheVariants.{Nothing, Data, End}
-use Rattle.xh_place.specs.declared.body.Header.{Header}
-use Rattle.xh_place.specs.declared.body.Kind.TheVariants as kind
+use Rattle.xh_core.specs.declared.header.Header.{Header}
+use Rattle.xh_core.specs.declared.header.Kind.TheVariants as kind
 use Rattle.xh_place.specs.Bodies.{Content, bytes, spot, content_of, fits_in, front, kind_of, rest}
 use Rattle.xh_place.specs.Places.{Item, PlaceOf, header_of, header_in, item_of, IsBlock, IsPlace, sum_of, with_blocks}
-use Rattle.xh_place.specs.Refusals.{is_running, split_tests}
 use Rattle.xh_place.proofs.Found.{unmoved}
 use Rattle.xh_place.proofs.Gained.{fits_bytes, has}
 use Rattle.xh_place.proofs.Settled.{becomes, becomes_shown, sum_put}
@@ -157,8 +158,9 @@ rest_kind k (spot channel side) = refl
 pub put_long : {X : Type 0} (r : ℕ) (y : X) (xs : List (ℕ × X)) → length (put r y xs) ≡ length xs
 put_long r y xs = sym (length-keys (put r y xs)) ∙ ap length (put_keys r y xs) ∙ length-keys xs
 
-pub may_cut : (s : Status) (found : Option Item) (k : ℕ) → first_refusal (split_tests s found k) ≡ None → is_running s ≡ true
-may_cut Running found k e = refl
-may_cut Vacant found k e = absurd (cc)
-may_cut Ending found k e = absurd (cc)
-may_cut Ended found k e = absurd (cc)
+-- a call that is not refused is by a process that runs
+pub runs : (s : Status) (tests : Tests) → first_refusal (start s ++ tests) ≡ None → is_running s ≡ true
+runs Running tests e = refl
+runs Vacant tests e = absurd (cc)
+runs Ending tests e = absurd (cc)
+runs Ended tests e = absurd (cc)

@@ -4,7 +4,7 @@ use Rattle.std.specs.Prelude.{Some}
 use Rattle.xh_arena.specs.Views.{LotOf}
 use Rattle.xh_records.specs.declared.shape.Shape.{Shape}
 use Rattle.xh_place.specs.declared.body.Body.{Body}
-use Rattle.xh_place.specs.declared.body.Kind.TheVariants as kind
+use Rattle.xh_core.specs.declared.header.Kind.TheVariants as kind
 use Rattle.xh_place.specs.Bodies.{bytes, content_of, kind_of, patched}
 use Rattle.xh_place.specs.Places.{Item, IsBlock, header_of, item_of}
 use Rattle.xh_place.proofs.Gained.{fits_bytes}

@@ -11,10 +11,10 @@ use Rattle.xh_model.specs.Keyed.{Among, Distinct, keys, value_at}
 use Rattle.xh_model.proofs.Keyed.{at_key, dec_among, front_at, none_at, value_there}
 use Rattle.xh_records.specs.Seats.{Held, with_lots}
 use Rattle.xh_place.specs.declared.body.Body.{Body}
-use Rattle.xh_place.specs.declared.body.Header.{Header}
+use Rattle.xh_core.specs.declared.header.Header.{Header}
 use Rattle.xh_place.specs.inner.Lots.{HasNow}
 use Rattle.xh_place.specs.Places.{Item, PlaceOf, with_blocks, header_in, item_in, shown, sum_of, total_of, IsBlock, IsPlace}
-use Rattle.xh_place.specs.Refusals.{is_over}
+use Rattle.xh_core.specs.Statuses.{is_over}
 use Rattle.xh_place.proofs.Swept.{drop_long, take_long}
 use Rattle.xh_place.proofs.Steps.{count_bound, kept, lot_of, quiet_alive, shows, view_of}
 use Rattle.xh_place.proofs.Listing.{shown_long, shown_same, sum_shown}

@@ -9,10 +9,10 @@ use Rattle.xh_model.proofs.Keyed.{at_key, here_first, not_here}
 use Rattle.xh_records.specs.Seats.{Held}
 use Rattle.xh_place.specs.declared.body.Body.{Body}
 use Rattle.xh_place.specs.declared.body.Body.TheVariants.{Nothing, Data, End}
-use Rattle.xh_place.specs.declared.body.Header.{Header}
+use Rattle.xh_core.specs.declared.header.Header.{Header}
 use Rattle.xh_place.specs.Bodies.{content_of, fits_in}
 use Rattle.xh_place.specs.Places.{AreBlocks, Fits, Item, IsPlace, IsQuiet, IsWhole, Lists, header_in, header_of, headers, item_in, item_of, shown}
-use Rattle.xh_place.specs.Refusals.{is_over}
+use Rattle.xh_core.specs.Statuses.{is_over}
 use Rattle.xh_place.proofs.Found.{Found, found}
 use Rattle.xh_place.proofs.Steps.{count_bound, total_bound, view_of}
 use Rattle.xh_place.proofs.Listing.{shown_at, shown_keys, shown_long, sum_shown}

@@ -21,10 +21,10 @@ use Rattle.xh_place.specs.inner.Lots.{HasNow, bare}
 use Rattle.xh_records.proofs.Lists.{few}
 use Rattle.xh_place.specs.declared.body.Body.{Body}
 use Rattle.xh_place.specs.declared.body.Body.TheVariants.{Nothing, Data, End}
-use Rattle.xh_place.specs.declared.body.Header.{Header}
+use Rattle.xh_core.specs.declared.header.Header.{Header}
 use Rattle.xh_place.specs.Bodies.{content_of, kind_of, fits_in}
-use Rattle.xh_place.specs.Refusals.{is_over, is_running}
-use Rattle.xh_place.specs.inner.Answers.{entry_of}
+use Rattle.xh_core.specs.Statuses.{is_over, is_running}
+use Rattle.xh_place.specs.Places.{entry_of}
 use Rattle.xh_place.specs.Places.{Item, PlaceOf, with_blocks, item_of, item_in, header_of, header_in, shown, sum_of, IsBlock, IsQuiet, IsPlace}
 use Rattle.xh_place.proofs.Listing.{shown_same, shown_last, shown_without, shown_at, shown_none, shown_put, shown_drop, get_at, sum_last, sum_without}
 

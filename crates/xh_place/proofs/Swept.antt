@@ -7,13 +7,14 @@ use Rattle.std.proofs.Math.Seq.{drop-append_seam, take-append_seam}
 use Rattle.xh_arena.specs.Views.{TallyOf}
 use Rattle.xh_model.specs.declared.event.Event.{Event}
 use Rattle.xh_model.specs.Keyed.{Among, keys}
-use Rattle.xh_place.specs.declared.body.Kind.TheVariants as kind
-use Rattle.xh_place.specs.declared.body.Kind.{Kind}
-use Rattle.xh_place.specs.Bodies.{is_data, kind_of, toward}
+use Rattle.xh_core.specs.declared.header.Kind.TheVariants as kind
+use Rattle.xh_core.specs.declared.header.Kind.{Kind}
+use Rattle.xh_core.specs.Headers.{has_end, is_data}
+use Rattle.xh_place.specs.Bodies.{kind_of, toward}
 use Rattle.xh_place.specs.Moves.{accepted_on}
 use Rattle.xh_place.specs.Ending.{AreFor, HasGivenBack, IsSweptBy, back_of}
-use Rattle.xh_place.specs.Ends.{has_end, toward_in}
-use Rattle.xh_place.specs.Places.{Item, PlaceOf, total_of, with_blocks, with_list, with_more}
+use Rattle.xh_place.specs.Ends.{toward_in}
+use Rattle.xh_place.specs.Places.{Item, PlaceOf, entry_of, total_of, with_blocks, with_list, with_more}
 use Rattle.xh_place.specs.Tallies.{gave}
 
 module _ {X : Type 0} where
@@ -62,7 +63,7 @@ for_end p q x ends [] among end = tt
 for_end p q x ends (y ∷ ys) among end = ((q, x, among, end, refl), for_end p q x ends ys among end)
 
 -- what came to a block of the list, where it is an endpoint, and to no other
-pub for_drained : (p q : ℕ) (x : Item) (o : Option Item) (ends ys : List (ℕ × Item)) → o ≡ Some x → Among ends (q, x) → (has_end o ≡ false → ys ≡ [])
+pub for_drained : (p q : ℕ) (x : Item) (o : Option Item) (ends ys : List (ℕ × Item)) → o ≡ Some x → Among ends (q, x) → (has_end (entry_of o) ≡ false → ys ≡ [])
     → AreFor p ends ys (accepted_on p (toward_in o) (keys ys))
 for_drained p q x None ends ys at among none = absurd (cc)
 for_drained p q x (Some z) ends ys at among none = go (kind_of z.content) refl where

@@ -1,10 +1,10 @@
 -- What contracts see of what a block carries.
-use Rattle.std.specs.Prelude.{ℕ, Bool, true, false, ◌==◌, ◌&&◌, nat_le, nat_lt, ◌+◌, ◌-◌, ◌*◌, List, [], ◌++◌, take, drop, length}
+use Rattle.std.specs.Prelude.{ℕ, Bool, ◌==◌, ◌&&◌, nat_le, nat_lt, ◌+◌, ◌-◌, ◌*◌, List, [], ◌++◌, take, drop, length}
 use Rattle.xh_model.specs.declared.limits.TheConstants.{DIRECTIONS, END_BYTES, MAX_BYTES}
 use Rattle.xh_place.specs.declared.body.Body.{Body}
 use Rattle.xh_place.specs.declared.body.Body.TheVariants.{Nothing, Data, End}
-use Rattle.xh_place.specs.declared.body.Kind.{Kind}
-use Rattle.xh_place.specs.declared.body.Kind.TheVariants as kind
+use Rattle.xh_core.specs.declared.header.Kind.{Kind}
+use Rattle.xh_core.specs.declared.header.Kind.TheVariants as kind
 
 -- bytes, or the end of a channel at a side
 pub data Content : Type 0 where
@@ -25,10 +25,6 @@ abbrev pub fits_in : Body → ℕ → Bool
 fits_in Nothing n = n == 0
 fits_in (Data v) n = (length v.items == n) && (nat_lt 0 n && nat_le n MAX_BYTES)
 fits_in (End e) n = n == END_BYTES
-
-abbrev pub is_data : Kind → Bool
-is_data kind.Data = true
-is_data kind.End = false
 
 -- the direction toward an endpoint, and that toward its peer
 abbrev pub toward : Content → ℕ

@@ -1,18 +1,16 @@
 -- What reclaiming does: the sweep, and the calls that end an endpoint or a process.
-use Rattle.std.specs.Prelude.{◌≡◌, ℕ, ◌+◌, ◌-◌, ◌<◌, ◌≤◌, ◌==◌, cond, List, [], ◌∷◌, ◌++◌, length, take, drop, Option, Some, None, Result, Ok, Err}
+use Rattle.std.specs.Prelude.{◌≡◌, ℕ, ◌+◌, ◌-◌, ◌<◌, ◌≤◌, ◌==◌, cond, List, [], ◌∷◌, ◌++◌, length, take, drop, Option, Some, None, Result}
 use Rattle.xh_arena.specs.Views.{TallyOf}
 use Rattle.xh_core.specs.declared.refused.Refused.{Refused}
-use Rattle.xh_core.specs.declared.refused.Refused.TheVariants as refused
 use Rattle.xh_core.specs.declared.status.Status.{Status}
 use Rattle.xh_core.specs.declared.status.Status.TheVariants.{Ending, Ended}
 use Rattle.xh_model.specs.declared.event.Event.{Event}
 use Rattle.xh_model.specs.declared.event.Event.TheVariants.{Accept}
 use Rattle.xh_model.specs.Keyed.{Among, value_at, without}
-use Rattle.xh_core.specs.Refusing.{Tests}
+use Rattle.xh_core.specs.Calls.{reclaimed}
 use Rattle.xh_model.specs.declared.limits.TheConstants.{MAX_BUDGET}
-use Rattle.xh_place.specs.Refusals.{is_over}
 use Rattle.xh_place.specs.Bodies.{kind_of, toward}
-use Rattle.xh_place.specs.declared.body.Kind.TheVariants as kind
+use Rattle.xh_core.specs.declared.header.Kind.TheVariants as kind
 use Rattle.xh_place.specs.Places.{Item, PlaceOf, with_blocks, with_list, total_of}
 
 -- the process accepted each of the blocks, by the events, on the direction toward an endpoint that is among `ends`
@@ -54,19 +52,11 @@ but_back (t ∷ ts) = record t { back = 0 } ∷ but_back ts
 abbrev pub HasGivenBack : ℕ → List TallyOf → List TallyOf → Type 0
 HasGivenBack bytes old new = (back_of new ≡ back_of old + bytes) × (but_back new ≡ but_back old)
 
--- the bytes, or how many blocks are left
-abbrev pub reclaimed : ℕ → ℕ → Result ℕ Refused
-reclaimed bytes left = cond (left == 0) (Ok bytes) (Err (refused.Unfinished left))
-
 -- a process is ending while it has blocks
 abbrev pub ending : ℕ → Status
 ending left = cond (left == 0) Ended Ending
 
 -- ---- stop
-
--- there is no process, or it has ended
-abbrev pub stop_tests : Status → Tests
-stop_tests state = (is_over state, refused.Ended) ∷ []
 
 -- the whole list is swept
 abbrev pub IsStopped : ℕ → PlaceOf → PlaceOf → ℕ → Result ℕ Refused → Type 0

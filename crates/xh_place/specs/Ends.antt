@@ -1,32 +1,26 @@
--- Endpoints of a place: what a call on one is refused for, and what opening and handing over do.
-use Rattle.std.specs.Prelude.{◌≡◌, ℕ, ◌*◌, ◌/◌, ◌==◌, ◌&&◌, Bool, false, cond, not, nat_lt, List, [], ◌∷◌, ◌++◌, length, Option}
-use Rattle.std.specs.Prelude.{Some, None, is_none, Result, Err, MatchOption, MatchResult, IfErr, OnOk}
+-- Endpoints of a place: what opening and handing over do.
+use Rattle.std.specs.Prelude.{◌≡◌, ℕ, ◌*◌, ◌/◌, ◌==◌, ◌&&◌, Bool, cond, List, [], ◌∷◌, ◌++◌, length, Option}
+use Rattle.std.specs.Prelude.{Some, None, Result, Err, MatchOption, MatchResult, IfErr, OnOk}
 use Rattle.xh_channel.specs.Queues.{Posted}
 use Rattle.xh_core.specs.declared.block.Block.{Block}
 use Rattle.xh_core.specs.declared.refused.Refused.{Refused}
-use Rattle.xh_core.specs.declared.refused.Refused.TheVariants.{Ended, NoArena, NotOwned, NotEndpoint}
 use Rattle.xh_core.specs.declared.status.Status.{Status}
 use Rattle.xh_core.specs.declared.status.Status.TheVariants as status
 use Rattle.xh_model.specs.declared.limits.TheConstants.{DIRECTIONS, END_BYTES, MAX_BUDGET, MAX_RECORDS}
 use Rattle.xh_core.specs.Refusing.{Tests, first_refusal}
+use Rattle.xh_core.specs.Statuses.{is_running}
 use Rattle.xh_model.specs.Keyed.{value_at}
 use Rattle.xh_records.specs.Seats.{IsRecord}
-use Rattle.xh_place.specs.Bodies.{spot, kind_of, is_data, toward, away}
+use Rattle.xh_place.specs.Bodies.{spot, toward, away}
 use Rattle.xh_arena.specs.Views.{TallyOf}
 use Rattle.xh_place.specs.declared.opening.Unopened.{Unopened}
 use Rattle.xh_place.specs.Tallies.{took}
 use Rattle.xh_place.specs.Places.{Item, PlaceOf, with_blocks, with_list, with_more}
-use Rattle.xh_place.specs.Refusals.{is_running}
 use Rattle.xh_place.specs.Ending.{IsSwept}
 
 -- the call answers the first refusal whose test is true, and then these stay as they were; where none is, it does what is said
 abbrev pub RefusedOr : {A : Type 0} → Tests → Result A Refused → Type 0 → Type 0 → Type 0
 RefusedOr tests result same done = MatchOption (first_refusal tests) done (λ refused. (result ≡ Err refused) × same)
-
--- whether it is an endpoint
-abbrev pub has_end : Option Item → Bool
-has_end None = false
-has_end (Some x) = not (is_data (kind_of x.content))
 
 -- the direction toward an endpoint, and that toward its peer
 abbrev pub toward_in : Option Item → ℕ
@@ -37,14 +31,7 @@ abbrev pub away_in : Option Item → ℕ
 away_in None = DIRECTIONS
 away_in (Some x) = away x.content
 
--- the process does not run, no such block is listed, or it is no endpoint
-abbrev pub end_tests : Status → Option Item → Tests
-end_tests state found = (not (is_running state), Ended) ∷ (is_none found, NotOwned) ∷ (not (has_end found), NotEndpoint) ∷ []
-
 -- ---- open
-
-abbrev pub open_tests : Status → ℕ → ℕ → Tests
-open_tests state arena arenas = (not (is_running state), Ended) ∷ (not (nat_lt arena arenas), NoArena) ∷ []
 
 -- an endpoint's block
 abbrev pub end_block : Posted → Item

@@ -2,7 +2,7 @@ pub mod Vaults
 pub mod Bodies
 pub mod Moves
 pub mod Places
-pub mod Refusals
+pub mod Starts
 pub mod Tallies
 pub mod Settling
 pub mod Splitting

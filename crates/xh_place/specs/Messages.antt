@@ -1,16 +1,11 @@
--- Give and take: their refusals, and what they do to the place.
-use Rattle.std.specs.Prelude.{◌≡◌, ℕ, not, nat_lt, Bool, List, [], ◌∷◌, ◌++◌, length, is_some, Result, MatchResult}
-use Rattle.std.specs.List.{list_all}
+-- Give and take: what they do to the place.
+use Rattle.std.specs.Prelude.{◌≡◌, ℕ, Bool, List, [], is_some, Result, MatchResult}
 use Rattle.xh_core.specs.declared.refused.Refused.{Refused}
-use Rattle.xh_core.specs.declared.refused.Refused.TheVariants.{TooMany, NotOwned, Twice, Protocol, PeerClosed, Full, Empty}
-use Rattle.xh_core.specs.Several.{has_twice}
-use Rattle.xh_core.specs.Refusing.{Tests}
-use Rattle.xh_model.specs.declared.limits.TheConstants.{MAX_BLOCKS}
+use Rattle.xh_core.specs.declared.refused.Refused.TheVariants.{Protocol, PeerClosed, Full, Empty}
 use Rattle.xh_model.specs.Keyed.{Among, keys, value_at}
 use Rattle.xh_place.specs.Moves.{there_and_back}
 use Rattle.xh_place.specs.declared.got.Taken.{Taken}
 use Rattle.xh_place.specs.Places.{Item, PlaceOf, with_blocks, with_moved, with_more}
-use Rattle.xh_place.specs.Ends.{end_tests}
 use Rattle.xh_place.specs.Settling.{settled}
 use Rattle.xh_place.specs.Taking.{AreGot}
 
@@ -18,13 +13,6 @@ use Rattle.xh_place.specs.Taking.{AreGot}
 
 abbrev pub is_listed : List (ℕ × Item) → ℕ → Bool
 is_listed xs r = is_some (value_at r xs)
-
--- more than 8 blocks, one that is not listed, or one that stands twice among them and the endpoint
-abbrev pub given_tests : List (ℕ × Item) → ℕ → List ℕ → Tests
-given_tests xs e given = (nat_lt MAX_BLOCKS (length given), TooMany) ∷ (not (list_all (is_listed xs) given), NotOwned) ∷ (has_twice (e ∷ given), Twice) ∷ []
-
-abbrev pub give_tests : PlaceOf → ℕ → List ℕ → Tests
-give_tests p e given = end_tests p.state (value_at e p.blocks) ++ given_tests p.blocks e given
 
 -- why the message did not go, and which blocks came back
 abbrev pub IsUnsent : List ℕ → Refused → Type 0

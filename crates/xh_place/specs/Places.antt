@@ -1,12 +1,12 @@
 -- What contracts see of a place, and what its type keeps.
-use Rattle.std.specs.Prelude.{◌≡◌, ℕ, ◌+◌, ◌*◌, ◌%◌, ◌<◌, ◌≤◌, List, [], ◌∷◌, ◌++◌, length, Option, Some, None}
+use Rattle.std.specs.Prelude.{◌≡◌, ℕ, ◌+◌, ◌*◌, ◌<◌, ◌≤◌, List, [], ◌∷◌, ◌++◌, length, Option, Some, None}
 use Rattle.atomic_table.specs.Seated.{TableId}
 use Rattle.xh_arena.specs.Views.{LotOf}
+use Rattle.xh_core.specs.declared.glance.Glance.{Glance}
 use Rattle.xh_core.specs.declared.ledger.PlaceLine.{PlaceLine}
-use Rattle.xh_core.specs.declared.ledger.State.{State}
-use Rattle.xh_core.specs.declared.ledger.State.TheVariants as stage
 use Rattle.xh_core.specs.declared.status.Status.{Status}
 use Rattle.xh_core.specs.declared.status.Status.TheVariants.{Vacant, Running, Ending, Ended}
+use Rattle.xh_core.specs.Glances.{line_of}
 use Rattle.xh_model.specs.declared.event.Event.{Event}
 use Rattle.xh_model.specs.declared.limits.TheConstants.{END_BYTES, MAX_ARENAS, MAX_BYTES, MAX_RECORDS, PLACES}
 use Rattle.xh_records.specs.declared.shape.Shape.{Shape}
@@ -14,7 +14,7 @@ use Rattle.xh_records.specs.Showing.{IsLotOf, IsFull}
 use Rattle.xh_model.specs.Keyed.{Distinct, keys, value_at, without}
 use Rattle.xh_records.specs.Seats.{RecordsOf, Held, IsRecord}
 use Rattle.xh_place.specs.declared.body.Body.{Body}
-use Rattle.xh_place.specs.declared.body.Header.{Header}
+use Rattle.xh_core.specs.declared.header.Header.{Header}
 use Rattle.xh_place.specs.Bodies.{Content, bytes, spot, content_of, kind_of, fits_in}
 use Rattle.xh_place.specs.Moves.{accepted_on, passed_on}
 
@@ -76,6 +76,14 @@ item_in (Some l) = item_of l
 abbrev pub header_of : Item → Header
 header_of x = record { len = x.len; kind = kind_of x.content }
 
+abbrev pub entry_of : Option Item → Option Header
+entry_of None = None
+entry_of (Some x) = Some (header_of x)
+
+-- what stands at a record: the length and kind of the place's block there, if it has one
+abbrev pub found : PlaceOf → ℕ → Option Header
+found p r = entry_of (value_at r p.blocks)
+
 abbrev pub header_in : Option (LotOf Body) → Option Header
 header_in None = None
 header_in (Some l) = Some (header_of (item_of l))
@@ -111,15 +119,12 @@ pub record Lists (seat : Held Body) (xs : List (ℕ × Item)) : Type 0 where
   pub listed : (r : ℕ) (x : Item) → value_at r xs ≡ Some x → (l : LotOf Body) × (value_at r seat.lots ≡ Some l) × (x ≡ item_of l)
   pub all : (r : ℕ) (l : LotOf Body) → value_at r seat.lots ≡ Some l → (value_at r xs ≡ Some (item_of l)) × IsRecord seat.shape r × IsLotOf seat.shape r l
 
--- what the ledger says of a place
-abbrev pub state_of : Status → State
-state_of Vacant = stage.Running
-state_of Running = stage.Running
-state_of Ending = stage.Ending
-state_of Ended = stage.Ended
+-- what a place is now, and what the ledger says of it
+abbrev pub glance_of : PlaceOf → Glance
+glance_of p = record { process = p.process; state = p.state; blocks = length p.blocks; bytes = total_of p.blocks }
 
 abbrev pub line : PlaceOf → PlaceLine
-line p = record { place = p.process % PLACES; process = p.process; state = state_of p.state; blocks = length p.blocks; bytes = total_of p.blocks }
+line p = line_of (glance_of p)
 
 -- a place that nobody has had has no line
 abbrev pub line_in : Status → PlaceLine → Option PlaceLine

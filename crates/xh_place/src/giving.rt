@@ -10,17 +10,17 @@ ghost use Rattle.xh_records.specs.Seats.{IsSeatOf, IsRecord};
 ghost use Rattle.xh_place.specs.Moves.{accepted_on, passed_on, there_and_back};
 ghost use Rattle.xh_place.specs.inner.Lots.{HasNow, with_done};
 ghost use Rattle.xh_place.specs.declared.body.Body.{Body};
-ghost use Rattle.xh_place.specs.declared.body.Kind.TheVariants as kind;
+ghost use Rattle.xh_core.specs.declared.header.Kind.TheVariants as kind;
 ghost use Rattle.xh_place.specs.Bodies.{away, content_of, kind_of, fits_in};
 ghost use Rattle.xh_place.specs.Places.{IsBlock, item_in, item_of, header_in};
 
-use crate::body::{Body, Header};
+use crate::body::Body;
 use crate::gate::{Gate, Point};
 use crate::lots::{accept_block, place_of, swap_body};
 use arrayvec::ArrayVec;
 use std::sync::Wait;
 use xh_channel::{Channels, Unsent};
-use xh_core::Refused;
+use xh_core::{Header, Refused};
 use xh_records::{Records, Seat};
 
 // The records go in flight on the direction, one after another.

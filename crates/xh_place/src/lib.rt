@@ -13,9 +13,10 @@ mod place;
 mod reclaiming;
 mod vaults;
 
-pub use body::{Body, Header, Kind};
+pub use body::Body;
 pub use gate::{Gate, OpenGate, Point};
 pub use got::{Got, Taken};
 pub use opening::Unopened;
 pub use place::Place;
 pub use vaults::Vaults;
+pub use xh_core::{Header, Kind};

@@ -4,7 +4,7 @@ ghost use Rattle.xh_model.specs.Keyed.{Distinct, keys, value_at, put, without};
 ghost use Rattle.xh_place.specs.Places.{sum_of};
 ghost use Rattle.xh_place.specs.Settling.{settle, settled};
 
-use crate::body::Header;
+use xh_core::Header;
 
 // The entry of a record.
 pub(crate) fn entry(list: &[(u16, Header)], r: u16) -> Option<Header>

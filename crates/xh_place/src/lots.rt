@@ -12,18 +12,18 @@ ghost use Rattle.xh_place.specs.Vaults.{IsNoBlock, IsRefusedAt};
 ghost use Rattle.xh_place.specs.inner.Answers.{reason_of};
 ghost use Rattle.xh_place.specs.declared.body.Body.{Body};
 ghost use Rattle.xh_place.specs.declared.body.Body.TheVariants.{Nothing};
-ghost use Rattle.xh_place.specs.declared.body.Kind.TheVariants as kind;
+ghost use Rattle.xh_core.specs.declared.header.Kind.TheVariants as kind;
 ghost use Rattle.xh_place.specs.Bodies.{bytes, front, content_of, fits_in, kind_of};
 ghost use Rattle.xh_place.specs.Places.{IsBlock, item_of, header_of};
 
-use crate::body::{Body, Header, Kind};
+use crate::body::Body;
 use crate::bytes::rest_of;
 use crate::gate::{Gate, Point};
 use crate::vaults::Vaults;
 use std::alloc::Global;
 use std::mem;
 use xh_arena::{Lot, Refused, Tally};
-use xh_core::Refused as Reason;
+use xh_core::{Header, Kind, Refused as Reason};
 use xh_model::limits::{MAX_RECORDS, PLACES};
 use xh_records::{Records, Seat};
 

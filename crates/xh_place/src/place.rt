@@ -1,25 +1,24 @@
 //! A process's place.
-ghost use Rattle.std.specs.Prelude.{◌≡◌, ◌⊎◌, ◌*◌, ◌<◌, ◌≤◌, [], length, IfOk, IfErr, true};
+ghost use Rattle.std.specs.Prelude.{◌≡◌, ◌⊎◌, ◌+◌, ◌*◌, ◌<◌, ◌≤◌, [], length, IfOk, IfErr, false, true};
 ghost use Rattle.xh_core.specs.declared.status.Status.TheVariants as status;
-ghost use Rattle.xh_model.specs.declared.limits.TheConstants.{MAX_ARENAS};
-ghost use Rattle.xh_model.specs.Keyed.{value_at};
+ghost use Rattle.xh_core.specs.Refusing.{Tested};
+ghost use Rattle.xh_core.specs.Statuses.{is_over};
+ghost use Rattle.xh_model.specs.declared.limits.TheConstants.{GENERATIONS, MAX_ARENAS};
 ghost use Rattle.xh_model.specs.Words.{generation_of};
 ghost use Rattle.xh_place.specs.Moves.{moves};
-ghost use Rattle.xh_place.specs.Places.{AreBlocks, IsPlaceOf, Lists, headers, line, line_in, started, state_of, total_of};
-ghost use Rattle.xh_place.specs.Refusals.{is_running, is_over};
-ghost use Rattle.xh_place.specs.inner.Answers.{entry_of};
+ghost use Rattle.xh_place.specs.Places.{AreBlocks, IsPlaceOf, Lists, found, headers, line, line_in, started, total_of};
+ghost use Rattle.xh_place.specs.Starts.{start, stop};
 
 mod blocks;
 mod ending;
 mod ends;
 mod messages;
 
-use crate::body::{Body, Header};
+use crate::body::Body;
 use crate::list::entry;
 use std::alloc::Global;
 use std::marker::Model;
-use xh_core::{PlaceLine, Refused, State, Status};
-use xh_model::limits::PLACES;
+use xh_core::{Glance, Header, PlaceLine, Refused, Status};
 use xh_records::{Records, Seat};
 
 /// A place: the seat that holds the lots of its blocks, their list in the order gained, their total
@@ -44,26 +43,23 @@ impl Model for Place {
     ghost invariant = { λ p. IsPlace p.seat p.list.items (vec_capacity p.list) p.total p.state };
 }
 
-fn is_running(state: Status) -> bool
-    ensures { result ≡ is_running state }
-{
-    matches!(state, Status::Running)
-}
-
-fn is_over(state: Status) -> bool
-    ensures { result ≡ is_over state }
-{
-    matches!(state, Status::Vacant | Status::Ended)
-}
-
-// The state, as the ledger has it.
-fn state_of(state: Status) -> State
-    ensures { result ≡ state_of state }
+// The first test of each call.
+fn check_start(state: Status) -> Result<(), Refused>
+    ensures { Tested (start state) result (λ _. state ≡ status.Running) }
 {
     match state {
-        Status::Vacant | Status::Running => State::Running,
-        Status::Ending => State::Ending,
-        Status::Ended => State::Ended,
+        Status::Running => Ok(()),
+        Status::Vacant | Status::Ending | Status::Ended => Err(Refused::Ended),
+    }
+}
+
+// The first test of an end.
+fn check_stop(state: Status) -> Result<(), Refused>
+    ensures { Tested (stop state) result (λ _. is_over state ≡ false) }
+{
+    match state {
+        Status::Running | Status::Ending => Ok(()),
+        Status::Vacant | Status::Ended => Err(Refused::Ended),
     }
 }
 
@@ -89,7 +85,7 @@ impl Place {
     /// The place is a process's from now on: its first one, or the next, of which there are at most 128.
     pub fn start(&mut self, records: &Records<Body>)
         requires own { IsPlaceOf records.now self.old }
-        requires free { (self.old.state ≡ status.Vacant) ⊎ ((self.old.state ≡ status.Ended) × (generation_of self.old.process < 127)) }
+        requires free { (self.old.state ≡ status.Vacant) ⊎ ((self.old.state ≡ status.Ended) × (generation_of self.old.process + 1 < GENERATIONS)) }
         ensures { self.new ≡ started self.old }
     {
         if let Status::Ended = self.state {
@@ -131,7 +127,7 @@ impl Place {
 
     // A block's length and kind.
     fn header(&self, r: u16) -> Option<Header>
-        ensures { result ≡ entry_of (value_at r self.now.blocks) }
+        ensures { result ≡ found self.now r }
     {
         entry(self.list.as_slice(), r)
     }
@@ -168,13 +164,12 @@ impl Place {
     fn line(&self) -> PlaceLine
         ensures { result ≡ line self.now }
     {
-        let process = self.seat.process();
-        PlaceLine {
-            place: (process % PLACES as u16) as u8,
-            process,
-            state: state_of(self.state),
+        let glance = Glance {
+            process: self.seat.process(),
+            state: self.state,
             blocks: self.list.len() as u32,
             bytes: self.total,
-        }
+        };
+        glance.line()
     }
 }

@@ -1,21 +1,22 @@
 // What reclaiming does to the seat and the list: blocks that stand one after another are given up together.
 ghost use Rattle.std.specs.Prelude.{◌≡◌, ◌≢◌, ℕ, ◌+◌, ◌*◌, ◌/◌, ◌<◌, ◌≤◌, List, ◌++◌, length, take, drop, Some, None, vec_capacity};
 ghost use Rattle.xh_arena.specs.Views.{LotOf};
-ghost use Rattle.xh_model.specs.declared.limits.TheConstants.{MAX_RECORDS};
+ghost use Rattle.xh_model.specs.declared.limits.TheConstants.{MAX_HELD, MAX_RECORDS};
 ghost use Rattle.xh_model.specs.Keyed.{Among, Distinct, keys, value_at, without};
 ghost use Rattle.xh_records.specs.Seats.{IsSeatOf};
 ghost use Rattle.xh_place.specs.declared.body.Body.{Body};
-ghost use Rattle.xh_place.specs.declared.body.Header.{Header};
+ghost use Rattle.xh_core.specs.declared.header.Header.{Header};
 ghost use Rattle.xh_place.specs.Ending.{HasGivenBack};
 ghost use Rattle.xh_place.specs.inner.Lots.{HasNow};
 ghost use Rattle.xh_place.specs.Places.{IsBlock, header_of, item_of, sum_of};
 ghost use Rattle.xh_place.specs.Tallies.{gave, ids_of};
 
-use crate::body::{Body, Header, Kind};
+use crate::body::Body;
 use crate::gate::Gate;
 use crate::lots::give_up;
 use crate::vaults::Vaults;
 use xh_arena::Tally;
+use xh_core::{Header, Kind};
 use xh_model::limits::MAX_RECORDS;
 use xh_records::{Records, Seat};
 
@@ -77,7 +78,7 @@ pub(crate) fn give_up_all<V: Vaults, G: Gate>(
     requires names { (V.names vaults.old ≡ seat.old.shape.names) × (ids_of tallies.old ≡ seat.old.shape.names) }
     requires distinct { Distinct (keys blocks.now) }
     requires held { (r : ℕ) (h : Header) → value_at r blocks.now ≡ Some h → (l : LotOf Body) × (value_at r seat.old.lots ≡ Some l) × IsBlock seat.old.shape r l × (h.len ≡ l.len) }
-    requires few { length blocks.now ≤ 2048 }
+    requires few { length blocks.now ≤ MAX_HELD }
     ensures same { (V.names vaults.new ≡ V.names vaults.old) × (V.extent vaults.new ≡ V.extent vaults.old) × (ids_of tallies.new ≡ ids_of tallies.old) }
     ensures seat { HasNow seat.old seat.new.lots seat.new }
     ensures gone { (r : ℕ) → Among (keys blocks.now) r → value_at r seat.new.lots ≡ None }

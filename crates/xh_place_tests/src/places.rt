@@ -15,6 +15,7 @@ mod pairs;
 mod points;
 mod threads;
 mod vaults;
+mod without_memory;
 
 use std::alloc::Global;
 use std::collections::LinkedList;
@@ -51,6 +52,13 @@ impl Bench {
         let vaults = &mut self.vaults;
         self.first
             .split(alloc, &self.records, r, k, vaults, &OpenGate)
+    }
+
+    fn free(&mut self, r: u16) -> Result<u32, Refused> {
+        let tallies = self.tallies.as_mut_slice();
+        let vaults = &mut self.vaults;
+        self.first
+            .free(&self.records, r, vaults, tallies, &OpenGate)
     }
 
     fn read(&mut self, r: u16, at: u32, out: &mut [u8]) -> Result<(), Refused> {

@@ -1,6 +1,6 @@
 // Takes the table apart.
-ghost use Rattle.std.specs.Prelude.{◌≡◌, ℕ, ◌+◌, ◌<◌, ◌≤◌, [], length, slice_get, Some, None, IfOk, vec_len, vec_capacity};
-ghost use Rattle.std.specs.Slots.{slots_items, slots_len, IsFull as IsWhole};
+ghost use Rattle.std.specs.Prelude.{◌≡◌, ℕ, ◌+◌, ◌<◌, ◌≤◌, [], length, slice_get, slice_index_or, slice_set, true, false, Some, None, IfOk, vec_len, vec_capacity};
+ghost use Rattle.std.specs.Slots.{slots_items, slots_filled, slots_len, IsFull as IsWhole};
 ghost use mathlib.Core.Option.{some};
 ghost use lib.ListN.{get_elem?};
 ghost use Rattle.xh_arena.specs.Views.{LotOf};
@@ -27,12 +27,45 @@ fn nones<L: Drop>(alloc: Global, count: usize) -> Result<Vec<Option<L>>, AllocEr
     Ok(held)
 }
 
+// Room for the words and the lots of so many slots, and as many slots with no lot.
+fn room_for<L: Drop>(
+    alloc: Global,
+    count: usize,
+) -> Result<(Vec<u64>, Vec<L>, Vec<Option<L>>), AllocError>
+    ensures room { IfOk result (λ r. (r.0.items ≡ []) × (r.1.items ≡ []) × (count ≤ vec_capacity r.0) × (count ≤ vec_capacity r.1)) }
+    ensures slots { IfOk result (λ r. (vec_len r.2 ≡ count) × ((k : ℕ) → slot_at r.2.items k ≡ None)) }
+{
+    let words = Vec::with_capacity(alloc, count)?;
+    let lots = Vec::with_capacity(alloc, count)?;
+    let held = nones(alloc, count)?;
+    Ok((words, lots, held))
+}
+
 // The word in a slot of the closed table.
 fn word_in<L>(closed: &Closed<Option<L>, Global>, slot: usize) -> u64
     requires { IsWhole closed.now.words × (slot < slots_len closed.now.words) }
     ensures { get_elem? (slots_items closed.now.words) slot ≡ some result }
 {
     closed.word(slot)
+}
+
+// Takes the lot of a slot: the one that was held, or else the one at home.
+fn lot_left<L: Drop>(
+    closed: &mut Closed<Option<L>, Global>,
+    held: &mut Vec<Option<L>>,
+    slot: usize,
+) -> L
+    requires home { (slot < slots_len closed.old.slots) × (slice_index_or (slots_filled closed.old.slots) slot false ≡ true) }
+    requires held { slot < vec_len held.old }
+    requires some_lot { (l : L) × (or_else (slot_at held.old.items slot) (slot_at (slots_items closed.old.slots) slot) ≡ Some l) }
+    ensures lot { or_else (slot_at held.old.items slot) (slot_at (slots_items closed.old.slots) slot) ≡ Some result }
+    ensures closed { (slots_items closed.new.slots ≡ slots_items closed.old.slots) × (slots_filled closed.new.slots ≡ slice_set (slots_filled closed.old.slots) slot false)
+        × (slots_len closed.new.slots ≡ slots_len closed.old.slots) × (closed.new.words ≡ closed.old.words) }
+    ensures held { held.new.items ≡ slice_set held.old.items slot None }
+{
+    let home = closed.take(slot);
+    let lot = held[slot].take();
+    lot.or(home).unwrap()
 }
 
 // Reads all words, and takes for each slot the lot that was held, or else the one at home.
@@ -51,9 +84,7 @@ fn unload<L: Drop>(
 {
     for slot in 0..closed.slot_count() {
         words.push_reserved(word_in(&closed, slot));
-        let home = closed.take(slot);
-        let lot = held[slot].take();
-        lots.push_reserved(lot.or(home).unwrap());
+        lots.push_reserved(lot_left(&mut closed, &mut held, slot));
     }
     closed.free();
     (words, lots)
@@ -125,10 +156,7 @@ impl<B: Fits + Drop> Records<B> {
         requires all { vec_len seats ≡ self.shape.places }
         ensures { IfOk result (λ r. Ends B.is_fit self.shape seats.items r.0.items r.1.items) }
     {
-        let count = self.table.slot_count();
-        let words = Vec::with_capacity(alloc, count)?;
-        let lots = Vec::with_capacity(alloc, count)?;
-        let mut held = nones(alloc, count)?;
+        let (words, lots, mut held) = room_for(alloc, self.table.slot_count())?;
         let token = join_all(&self.table.shared, seats, &mut held);
         let Records {
             table,

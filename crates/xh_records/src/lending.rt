@@ -1,9 +1,10 @@
 // Lends the lots of records that a seat holds.
-ghost use Rattle.std.specs.Prelude.{◌≡◌, ◌≢◌, ℕ, Some, Option};
+ghost use Rattle.std.specs.Prelude.{◌≡◌, ◌≢◌, ◌∷◌, ℕ, Some, Option};
 ghost use Rattle.std.specs.Borrow.{MutBor};
 ghost use Rattle.std.specs.Fn.{CalledAtMut, CalledAtPairMut};
 ghost use mathlib.Core.Option.{some};
 ghost use lib.ListN.{get_elem?};
+ghost use Rattle.atomic_table.specs.Table.{rest};
 ghost use Rattle.xh_arena.specs.Views.{LotOf};
 ghost use Rattle.xh_model.specs.Keyed.{put, value_at};
 ghost use Rattle.xh_records.specs.Showing.{IsLotOf};
@@ -29,6 +30,48 @@ fn call_at_two<X, A, F: FnMut(&mut X, &mut X) -> A>(f: &mut F, x: &mut X, y: &mu
     ensures { CalledAtPairMut F.FnMut f.old x.old y.old result f.new x.new y.new }
 {
     f(x, y)
+}
+
+// One call of `f` at the lot that the token took last, where it lies.
+fn call_front<B: Fits, A, F: FnMut(&mut Lot<B>) -> A>(
+    board: &Board<B>,
+    token: &mut Token<B>,
+    slot: u16,
+    f: &mut F,
+) -> A
+    requires own { token.old.table_id ≡ board.now.table_id }
+    requires front { (l : LotOf B) × (token.old.me.1 ≡ (slot, Some l) ∷ rest token.old.me.1) × ((lent : MutBor (LotOf B)) → lent.now ≡ l → F.pre f.old lent) }
+    ensures token { (token.new.table_id ≡ token.old.table_id) × (token.new.id ≡ token.old.id) }
+    ensures called { (l : LotOf B) × (left : LotOf B) × (token.old.me.1 ≡ (slot, Some l) ∷ rest token.old.me.1) × CalledAtMut F.FnMut f.old l result f.new left
+        × (token.new.me ≡ (token.old.me.0, (slot, Some left) ∷ rest token.old.me.1)) }
+{
+    let Some(lot) = token.slot_mut(board, usize::from(slot)) else {
+        unreachable!()
+    };
+    call_at(f, lot)
+}
+
+// One call of `f` at the lot in a slot that the token holds, where it lies. The list keeps its order.
+fn call_in<B: Fits, A, F: FnMut(&mut Lot<B>) -> A>(
+    board: &Board<B>,
+    token: &mut Token<B>,
+    order: &[u16],
+    slot: u16,
+    f: &mut F,
+) -> A
+    requires own { token.old.table_id ≡ board.now.table_id }
+    requires listed { IsListed order.now token.old.me.1 slot }
+    requires lot { (l : LotOf B) × (in_slot slot token.old.me.1 ≡ Some l) × ((lent : MutBor (LotOf B)) → lent.now ≡ l → F.pre f.old lent) }
+    ensures token { (token.new.table_id ≡ token.old.table_id) × (token.new.id ≡ token.old.id) }
+    ensures called { (l : LotOf B) × (left : LotOf B) × (in_slot slot token.old.me.1 ≡ Some l) × CalledAtMut F.FnMut f.old l result f.new left
+        × (token.new.me ≡ (token.old.me.0, put slot (Some left) token.old.me.1)) }
+{
+    let k = position(order, slot);
+    let after = order.len() - k;
+    turn_by(token, k);
+    let answer = call_front(board, token, slot, f);
+    turn_by(token, after);
+    answer
 }
 
 // Puts a lot or nothing into a slot that the token holds, and gives what was there. The list keeps its order.
@@ -70,19 +113,7 @@ impl<B: Fits + Drop> Records<B> {
     {
         let board = &self.table.shared;
         let slot = self.slot_of(number);
-        let Some(mut lot) = swap_slot(board, &mut seat.token, seat.order.as_slice(), slot, None)
-        else {
-            unreachable!()
-        };
-        let answer = call_at(f, &mut lot);
-        drop(swap_slot(
-            board,
-            &mut seat.token,
-            seat.order.as_slice(),
-            slot,
-            Some(lot),
-        ));
-        answer
+        call_in(board, &mut seat.token, seat.order.as_slice(), slot, f)
     }
 
     /// Lends the lots of two different records that the seat holds to one call of `f`, and gives its

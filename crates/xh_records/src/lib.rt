@@ -3,6 +3,7 @@
 
 mod closing;
 mod lending;
+mod making;
 mod plays;
 mod records;
 mod refused;

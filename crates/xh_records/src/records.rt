@@ -1,4 +1,4 @@
-ghost use Rattle.std.specs.Prelude.{◌≡◌, ◌≢◌, ℕ, ◌+◌, ◌*◌, ◌/◌, ◌%◌, ◌<◌, ◌≤◌, [], ◌∷◌, ◌++◌, length, slice_get, slice_index, Some, IfOk, IfErr, OnErr, OnOk, MatchBool, map};
+ghost use Rattle.std.specs.Prelude.{◌≡◌, ◌≢◌, ℕ, ◌+◌, ◌*◌, ◌/◌, ◌%◌, ◌<◌, ◌≤◌, [], ◌∷◌, ◌++◌, length, slice_get, slice_index, Some, IfOk, IfErr, OnErr, OnOk, MatchBool};
 ghost use mathlib.Core.Option.{none};
 ghost use Rattle.xh_arena.specs.Views.{LotOf};
 ghost use Rattle.xh_model.specs.declared.event.Event.TheVariants.{Claim, Vacate, Pass, Accept};
@@ -12,17 +12,15 @@ ghost use Rattle.xh_records.specs.Showing.{IsLotOf, IsEmpty, IsFull};
 ghost use Rattle.xh_records.specs.Seats.{Knows, SawTaken};
 ghost use Rattle.xh_records.specs.inner.Events.{taking, giving, IsAway, IsHomeLot};
 
+use crate::making::{Home, seats_of, table_of};
 use crate::refused::Refused;
-use crate::rule::Showing;
 use crate::seat::Seat;
 use crate::seen::Seen;
 use crate::shape::Shape;
-use crate::token::{deal, give_slot, look_at, renew_token, take_slot};
-use crate::view::View;
+use crate::token::{give_slot, look_at, renew_token, take_slot};
 use crate::word::OwnerWord;
 use arrayvec::ArrayVec;
-use atomic_table::Table;
-use std::alloc::{AllocError, Global};
+use std::alloc::Global;
 use std::collections::LinkedList;
 use std::marker::Model;
 use xh_arena::{Fits, Lot, Name};
@@ -31,7 +29,7 @@ use xh_model::limits::{MAX_RECORDS, PLACES};
 /// The owner words of all records, and the slots of their lots.
 #[derive(Drop)]
 pub struct Records<B: Fits> {
-    pub(crate) table: Table<Option<Lot<B>>, View, Shape, Showing<B>, Global>,
+    pub(crate) table: Home<B>,
     pub(crate) arenas: u8,
     pub(crate) records: u16,
 }
@@ -53,13 +51,6 @@ fn number_at(arena: u8, index: u16) -> u16
     ensures { (result / MAX_RECORDS ≡ arena) × (result % MAX_RECORDS ≡ index) }
 {
     u16::from(arena) * MAX_RECORDS + index
-}
-
-// Each lot in a slot.
-fn in_slots<B: Drop>(alloc: Global, lots: Vec<Lot<B>>) -> Result<Vec<Option<Lot<B>>>, AllocError>
-    ensures { IfOk result (λ slots. slots.items ≡ map Some lots.items) }
-{
-    lots.into_iter().map(|lot| Some(lot)).collect(alloc)
 }
 
 impl<B: Fits + Drop> Records<B> {
@@ -85,28 +76,13 @@ impl<B: Fits + Drop> Records<B> {
     {
         let count = lots.len();
         let arenas = names.len();
-        let words = vec![in alloc; 0u64; count]?;
-        let slots = in_slots(alloc, lots)?;
         let shape = Shape {
             records: u64::from(records),
             places: u64::from(places),
             names,
         };
-        let made = Table::new(alloc, words.as_slice(), slots, &shape);
-        let Ok((table, mut dealer)) = made else {
-            return Err(Refused::OutOfMemory);
-        };
-        let mut seats = Vec::with_capacity(alloc, usize::from(places))?;
-        for place in 0..places {
-            let order = Vec::with_capacity(alloc, count)?;
-            let token = deal(&table.shared, &mut dealer);
-            let process = u16::from(place);
-            seats.push_reserved(Seat {
-                token,
-                order,
-                process,
-            });
-        }
+        let (table, mut dealer) = table_of(alloc, lots, &shape)?;
+        let seats = seats_of(alloc, &table.shared, &mut dealer, count, places)?;
         let all = Records {
             table,
             arenas: arenas as u8,

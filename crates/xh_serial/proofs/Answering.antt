@@ -5,10 +5,11 @@ use Rattle.xh_model.specs.Store.{len}
 use Rattle.xh_core.specs.declared.block.Block.{Block}
 use Rattle.xh_core.specs.declared.refused.Refused.{Refused}
 use Rattle.xh_core.specs.declared.refused.Refused.TheVariants.{OutOfMemory}
-use Rattle.xh_serial.specs.Machine.{Machine, buffer}
-use Rattle.xh_serial.specs.Commands.{Answer, answered, start, data_tests}
+use Rattle.xh_core.specs.Calls.{start, data_tests}
+use Rattle.xh_serial.specs.Machine.{Machine, buffer, status_at}
+use Rattle.xh_serial.specs.Commands.{Answer, answered, found}
 use Rattle.xh_core.specs.Refusing.{Tests, first_refusal}
-use Rattle.xh_serial.specs.BlockCommands.{alloc_heads, split_heads, alloc, allocated, free, freed_block, split, parted, range_tests, read, write, overwritten}
+use Rattle.xh_serial.specs.BlockCommands.{alloc_heads, split_heads, alloc, allocated, free, freed_block, split, parted, range_refusals, read, write, overwritten}
 use Rattle.xh_core.specs.Space.{free_record, lowest, rounded, space_tests}
 use Rattle.xh_core.proofs.Firsts.{first_append, first_later}
 
@@ -46,7 +47,7 @@ gives_at p n r t m e = ap (λ (x : ℕ). given_at p n x m) e
 pub alloc_gives : (p n a r : ℕ) (m : Machine) → first_refusal (alloc_heads m p n a) ≡ None → free_record m.store a ≡ Some r → first_refusal (space_tests m.store a (rounded n)) ≡ None →
     alloc false p n a m ≡ (Ok (record { rec = r; len = rounded n }), allocated p r (rounded n) m)
 alloc_gives p n a r m h e f =
-    let is : lowest m.store a ≡ r = ap (λ (o : Option ℕ). unwrap_or o 65535) e in
+    let is : lowest m.store a ≡ r = ap (λ (o : Option ℕ). unwrap_or o 2048) e in
     alloc_done p n a m h f ∙ gives_at p (rounded n) (lowest m.store a) r m is
 
 -- ---- free
@@ -54,17 +55,17 @@ alloc_gives p n a r m h e f =
 abbrev free_answer : ℕ → ℕ → Machine → Answer ℕ
 free_answer p r m = (Ok (len m.store r), freed_block p r m)
 
-pub free_stopped : (p r : ℕ) (m : Machine) (e : Refused) → first_refusal (start m p) ≡ Some e → free p r m ≡ (Err e, m)
+pub free_stopped : (p r : ℕ) (m : Machine) (e : Refused) → first_refusal (start (status_at m p)) ≡ Some e → free p r m ≡ (Err e, m)
 unfolding free
-free_stopped p r m e h = ap (λ (o : Option Refused). answered o m (free_answer p r m)) (first_append (start m p) (data_tests m p r) e h)
+free_stopped p r m e h = ap (λ (o : Option Refused). answered o m (free_answer p r m)) (first_append (start (status_at m p)) (data_tests (found m p r)) e h)
 
-pub free_refused : (p r : ℕ) (m : Machine) (e : Refused) → first_refusal (start m p) ≡ None → first_refusal (data_tests m p r) ≡ Some e → free p r m ≡ (Err e, m)
+pub free_refused : (p r : ℕ) (m : Machine) (e : Refused) → first_refusal (start (status_at m p)) ≡ None → first_refusal (data_tests (found m p r)) ≡ Some e → free p r m ≡ (Err e, m)
 unfolding free
-free_refused p r m e h f = ap (λ (o : Option Refused). answered o m (free_answer p r m)) (first_later (start m p) (data_tests m p r) h ∙ f)
+free_refused p r m e h f = ap (λ (o : Option Refused). answered o m (free_answer p r m)) (first_later (start (status_at m p)) (data_tests (found m p r)) h ∙ f)
 
-pub free_gives : (p r : ℕ) (m : Machine) → first_refusal (start m p) ≡ None → first_refusal (data_tests m p r) ≡ None → free p r m ≡ (Ok (len m.store r), freed_block p r m)
+pub free_gives : (p r : ℕ) (m : Machine) → first_refusal (start (status_at m p)) ≡ None → first_refusal (data_tests (found m p r)) ≡ None → free p r m ≡ (Ok (len m.store r), freed_block p r m)
 unfolding free
-free_gives p r m h f = ap (λ (o : Option Refused). answered o m (free_answer p r m)) (first_later (start m p) (data_tests m p r) h ∙ f)
+free_gives p r m h f = ap (λ (o : Option Refused). answered o m (free_answer p r m)) (first_later (start (status_at m p)) (data_tests (found m p r)) h ∙ f)
 
 -- ---- split
 
@@ -88,29 +89,29 @@ split_done p r k m h = ap (λ (o : Option Refused). answered o m (split_answer p
 
 pub split_gives : (p r k t : ℕ) (m : Machine) → first_refusal (split_heads m p r k) ≡ None → free_record m.store (r / 256) ≡ Some t →
     split false p r k m ≡ (Ok (record { rec = r; len = k }, record { rec = t; len = len m.store r - k }), parted p r t k m)
-split_gives p r k t m h e = split_done p r k m h ∙ ap (λ (x : ℕ). split_answer p r x k m) (ap (λ (o : Option ℕ). unwrap_or o 65535) e)
+split_gives p r k t m h e = split_done p r k m h ∙ ap (λ (x : ℕ). split_answer p r x k m) (ap (λ (o : Option ℕ). unwrap_or o 2048) e)
 
 -- ---- read and write
 
 abbrev read_answer : ℕ → ℕ → ℕ → Machine → Answer (List ℕ)
 read_answer r at n m = (Ok (take n (drop at (buffer m r))), m)
 
-pub read_refused : (p r at n : ℕ) (m : Machine) (e : Refused) → first_refusal (range_tests m p r at n) ≡ Some e → read p r at n m ≡ (Err e, m)
+pub read_refused : (p r at n : ℕ) (m : Machine) (e : Refused) → first_refusal (range_refusals m p r at n) ≡ Some e → read p r at n m ≡ (Err e, m)
 unfolding read
 read_refused p r at n m e h = ap (λ (o : Option Refused). answered o m (read_answer r at n m)) h
 
-pub read_gives : (p r at n : ℕ) (m : Machine) → first_refusal (range_tests m p r at n) ≡ None → read p r at n m ≡ (Ok (take n (drop at (buffer m r))), m)
+pub read_gives : (p r at n : ℕ) (m : Machine) → first_refusal (range_refusals m p r at n) ≡ None → read p r at n m ≡ (Ok (take n (drop at (buffer m r))), m)
 unfolding read
 read_gives p r at n m h = ap (λ (o : Option Refused). answered o m (read_answer r at n m)) h
 
 abbrev write_answer : ℕ → ℕ → List ℕ → Machine → Answer (Unit {0})
 write_answer r at bytes m = (Ok tt, record m { buffers = slice_set m.buffers r (overwritten at bytes (buffer m r)) })
 
-pub write_refused : (p r at : ℕ) (bytes : List ℕ) (m : Machine) (e : Refused) → first_refusal (range_tests m p r at (length bytes)) ≡ Some e → write p r at bytes m ≡ (Err e, m)
+pub write_refused : (p r at : ℕ) (bytes : List ℕ) (m : Machine) (e : Refused) → first_refusal (range_refusals m p r at (length bytes)) ≡ Some e → write p r at bytes m ≡ (Err e, m)
 unfolding write
 write_refused p r at bytes m e h = ap (λ (o : Option Refused). answered o m (write_answer r at bytes m)) h
 
-pub write_gives : (p r at : ℕ) (bytes : List ℕ) (m : Machine) → first_refusal (range_tests m p r at (length bytes)) ≡ None →
+pub write_gives : (p r at : ℕ) (bytes : List ℕ) (m : Machine) → first_refusal (range_refusals m p r at (length bytes)) ≡ None →
     write p r at bytes m ≡ (Ok tt, record m { buffers = slice_set m.buffers r (overwritten at bytes (buffer m r)) })
 unfolding write
 write_gives p r at bytes m h = ap (λ (o : Option Refused). answered o m (write_answer r at bytes m)) h

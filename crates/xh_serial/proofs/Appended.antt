@@ -1,32 +1,22 @@
 -- Records go to the ends of the lists of processes that run.
 use Rattle.std.proofs.Common.{◌≡◌, ◌≢◌, ℕ, ◌+◌, ◌/◌, ◌%◌, ◌<◌, ◌≤◌, List, [], ◌∷◌, ◌++◌, length, append_assoc, Bool, true, false, cond, refl, sym, ap, ◌∙◌, subst, arith, inl, inr}
-use Rattle.std.specs.Prelude.{◌==◌, ◌||◌, slice_set, slice_index_or}
+use Rattle.std.specs.Prelude.{◌==◌, slice_set, slice_index_or}
 use Rattle.std.proofs.lemmas.Bool.{cases_eq, false≢true, eq-eqb, ne_eqb}
 use Rattle.std.proofs.lemmas.List.{length-append, length-set, set-set}
 use Rattle.std.proofs.lemmas.List.Sums.{sum_by-append}
 use Rattle.xh_serial.specs.declared.place.Place.{Place}
-use Rattle.xh_core.specs.declared.status.Status.{Status}
-use Rattle.xh_serial.specs.Machine.{Machine, no_place, IsWhole}
-use Rattle.xh_core.specs.Statuses.{is_vacant, is_ended}
+use Rattle.xh_serial.specs.Machine.{Machine, no_place, ArePlaces}
+use Rattle.xh_core.specs.Statuses.{is_over}
 use Rattle.xh_core.specs.Several.{times}
 use Rattle.xh_serial.specs.Commands.{IsRunning}
 use Rattle.xh_serial.specs.inner.Placing.{place_in}
 use Rattle.xh_serial.proofs.Machines.{runs_busy, list_in, place_here, place_else, list_here, list_else, current_generation}
 use Rattle.xh_core.proofs.Claiming.{one_time}
 
--- what always holds of the places
-pub record ArePlaces (ps : List Place) : Type 0 where
-  pub long : length ps ≡ 32
-  pub generations : (k : ℕ) → (place_in ps k).generation ≤ 127
-  pub idle : (k : ℕ) → (is_vacant (place_in ps k).status || is_ended (place_in ps k).status) ≡ true → (place_in ps k).blocks.items ≡ []
-
 -- p is the latest process of its place, and may list something
 pub record IsBusy (ps : List Place) (p : ℕ) : Type 0 where
   pub current : (place_in ps p).generation ≡ p / 32
-  pub busy : (is_vacant (place_in ps p).status || is_ended (place_in ps p).status) ≡ false
-
-pub whole_places : (m : Machine) → IsWhole m → ArePlaces m.places
-whole_places m w = record { long = w.places; generations = w.generations; idle = w.idle }
+  pub busy : is_over (place_in ps p).status ≡ false
 
 pub running_place : (m : Machine) (p : ℕ) → IsRunning m p → IsBusy m.places p
 running_place m p r = record { current = current_generation m p r.0; busy = runs_busy m p r }
@@ -69,15 +59,15 @@ module _ (ps : List Place) (p r : ℕ) (a : ArePlaces ps) (b : IsBusy ps p) wher
   pub appended_places : ArePlaces (appended p r ps)
   appended_places = record {
     long = length-set ps (p % 32) (longer r (place_in ps p)) ∙ a.long;
-    generations = λ k. subst (λ (n : ℕ). n ≤ 127) (sym (same_generation k)) (a.generations k);
+    generations = λ k. subst (λ (n : ℕ). n < 128) (sym (same_generation k)) (a.generations k);
     idle = λ k h. elim (cases_eq (k % 32) (p % 32)) [
-      | inl e ↦ absurd (false≢true (sym b.busy ∙ (ap (λ (x : Place). is_vacant x.status || is_ended x.status) (sym (now_row k e)) ∙ h)))
-      | inr n ↦ ap (λ (x : Place). x.blocks.items) (else_row k n) ∙ a.idle k (ap (λ (x : Place). is_vacant x.status || is_ended x.status) (sym (else_row k n)) ∙ h)
+      | inl e ↦ absurd (false≢true (sym b.busy ∙ (ap (λ (x : Place). is_over x.status) (sym (now_row k e)) ∙ h)))
+      | inr n ↦ ap (λ (x : Place). x.blocks.items) (else_row k n) ∙ a.idle k (ap (λ (x : Place). is_over x.status) (sym (else_row k n)) ∙ h)
     ];
   }
 
   pub appended_busy : (k : ℕ) → IsBusy ps k → IsBusy (appended p r ps) k
-  appended_busy k h = record { current = same_generation k ∙ h.current; busy = ap (λ (s : Status). is_vacant s || is_ended s) (same_status k) ∙ h.busy }
+  appended_busy k h = record { current = same_generation k ∙ h.current; busy = ap is_over (same_status k) ∙ h.busy }
 
   appended_own : list_in (appended p r ps) p ≡ list_in ps p ++ r ∷ []
   appended_own = list_here ps p (longer r (place_in ps p)) within (eq-eqb _ _ b.current) ∙ ap (λ (xs : List ℕ). xs ++ r ∷ []) (sym (own_list ps p b))

@@ -1,9 +1,8 @@
 -- An endpoint that is moved to the end of its list.
-use Rattle.std.proofs.Common.{◌≡◌, ℕ, zero, suc, ◌+◌, ◌-◌, ◌/◌, ◌%◌, ◌<◌, ◌≤◌, Bool, List, [], ◌∷◌, ◌++◌, length, drop, true, cond, refl, sym, ap, ◌∙◌, arith, inl, inr, append-nil}
+use Rattle.std.proofs.Common.{◌≡◌, ℕ, zero, suc, ◌+◌, ◌-◌, ◌/◌, ◌<◌, ◌≤◌, Bool, List, [], ◌∷◌, ◌++◌, length, drop, true, cond, refl, sym, ap, ◌∙◌, arith, inl, inr, append-nil}
 use Rattle.std.specs.Prelude.{None, Some, not, nat_lt, unwrap_or, ◌==◌, slice_set, slice_index_or}
 use Rattle.std.specs.List.{remove, position, position_or_len}
 use Rattle.std.proofs.lemmas.Bool.{cases_eq, cases_Bool, eq-eqb, ne_eqb, ltb-false, false≢true}
-use Rattle.std.proofs.lemmas.List.{length-set}
 use Rattle.std.proofs.lemmas.List.Sums.{sum_by-remove, passes_at_first, prefix_len-le-length}
 use Rattle.std.proofs.lemmas.List.Edits.{length-remove}
 use Rattle.xh_model.specs.declared.event.Holder.{Holder}
@@ -16,7 +15,7 @@ use Rattle.xh_serial.specs.Commands.{IsRunning}
 use Rattle.xh_serial.specs.Sweeping.{sweep_one}
 use Rattle.xh_serial.specs.EndingCommands.{last, moved_last}
 use Rattle.xh_serial.specs.BlockCommands.{freed_block}
-use Rattle.xh_serial.proofs.Machines.{runs_busy, place_there, list_here, list_else, current_generation, busy_place, generations_set, idle_set}
+use Rattle.xh_serial.proofs.Machines.{runs_busy, place_there, list_here, list_else, current_generation, busy_place, places_set}
 use Rattle.xh_core.proofs.Stores.{count_append, times-cons}
 
 place_or_length : (k n : ℕ) → k ≤ n → unwrap_or (cond (nat_lt k n) (Some k) None) n ≡ k
@@ -94,15 +93,8 @@ module _ (m : Machine) (p e : ℕ) (w : IsWhole m) (r : IsRunning m p) (h : hold
     ends = λ r d f. let was = w.ends r d f in record { held = was.held; opened = was.opened; alone = was.alone };
     buffers = w.buffers;
     bytes = w.bytes;
-    places = length-set m.places (p % 32) x ∙ w.places;
-    generations = generations_set m p x w (busy_place m p (last e (blocks m p)) w (runs_busy m p r));
-    idle = idle_set m p x w (busy_place m p (last e (blocks m p)) w (runs_busy m p r));
-    lines = w.lines;
-    fresh = w.fresh;
-    numbered = w.numbered;
-    contracts = w.contracts;
-    wired = w.wired;
-    opened = w.opened;
+    places = places_set m.places p x w.places (busy_place m p (last e (blocks m p)) w (runs_busy m p r));
+    channels = w.channels;
     deep = w.deep;
   }
 

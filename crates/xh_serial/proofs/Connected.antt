@@ -8,10 +8,9 @@ use Rattle.xh_model.specs.declared.event.Holder.{Holder}
 use Rattle.xh_model.specs.declared.event.Holder.TheVariants.{Process, Direction}
 use Rattle.xh_model.specs.declared.event.Event.TheVariants.{Claim, Carve, Cut}
 use Rattle.xh_model.specs.declared.row.Row.{Row}
-use Rattle.xh_model.specs.Rows.{InStep}
 use Rattle.xh_model.specs.Store.{Store, owner, len, holds, is_held_by, after, IsQuiet}
 use Rattle.xh_serial.specs.declared.line.Line.{Line}
-use Rattle.xh_serial.specs.Machine.{Machine, line, no_line, blocks, buffer, carried, end_of, listed, on_way, tags_of, AreWired, IsEnd, IsWhole}
+use Rattle.xh_serial.specs.Machine.{Machine, line, no_line, blocks, buffer, carried, end_of, listed, on_way, AreWired, IsEnd, IsWhole, ArePlaces}
 use Rattle.xh_core.specs.Several.{times}
 use Rattle.xh_serial.specs.Commands.{IsRunning}
 use Rattle.xh_serial.specs.ChannelCommands.{new_line, opened, wired}
@@ -22,9 +21,7 @@ use Rattle.xh_serial.proofs.Machines.{list_in, same_machine}
 use Rattle.xh_core.proofs.Claiming.{no_bytes}
 use Rattle.xh_serial.proofs.Room.{room}
 use Rattle.xh_serial.proofs.Appended.{
-  ArePlaces,
   IsBusy,
-  whole_places,
   running_place,
   appended,
   own_list,
@@ -39,14 +36,12 @@ use Rattle.xh_serial.proofs.Appended.{
 use Rattle.xh_core.proofs.Pairs.{Shared}
 use Rattle.xh_core.proofs.Stores.{at_set}
 use Rattle.xh_serial.proofs.Numbered.{set_numbered}
+use Rattle.xh_serial.proofs.Wired.{ArePaired}
 
 -- ---- both ends are in step
 
 abbrev at : List Line → ℕ → Line
 at lines d = slice_index_or lines d no_line
-
-abbrev AreInStep : List Row → ℕ → Line → Line → Type 0
-AreInStep rows side x y = InStep rows side x.state (tags_of x.waiting.items) y.state (tags_of y.waiting.items)
 
 -- a channel is opened, with a valid contract or none
 opened_wired : (contracts : List (Option (List Row))) (lines : List Line) (k : ℕ) (contract : Option (List Row)) → AreWired contracts lines → k < length contracts → 2 * k + 1 < length lines
@@ -62,10 +57,10 @@ opened_wired contracts lines k contract wired known within valid c rows is =
           ∙ (ap (λ (i : ℕ). slice_index_or (slice_set contracts k contract) i None) (sym same) ∙ is) in
           let low : at new (2 * k) ≡ line = get_or-set_other first (2 * k + 1) (2 * k) line no_line (λ e. omega (arith, e)) ∙ get_or-set_same lines (2 * k) line no_line (omega (arith, within)) in
           let high : at new (2 * k + 1) ≡ line = get_or-set_same first (2 * k + 1) line no_line (subst (λ n. 2 * k + 1 < n) (sym (length-set lines (2 * k) line)) within) in
-          let step : AreInStep rows 0 line line = (refl, inl refl) in
-          let one : AreInStep rows 0 line (at new (2 * k + 1)) = subst (λ l. AreInStep rows 0 line l) (sym high) step in
-          let both : AreInStep rows 0 (at new (2 * k)) (at new (2 * k + 1)) = subst (λ l. AreInStep rows 0 l (at new (2 * k + 1))) (sym low) one in
-          (valid rows contract_there, subst (λ i. AreInStep rows 0 (at new (2 * i)) (at new (2 * i + 1))) (sym same) both))
+          let step : ArePaired rows 0 line line = (refl, inl refl) in
+          let one : ArePaired rows 0 line (at new (2 * k + 1)) = subst (λ l. ArePaired rows 0 line l) (sym high) step in
+          let both : ArePaired rows 0 (at new (2 * k)) (at new (2 * k + 1)) = subst (λ l. ArePaired rows 0 l (at new (2 * k + 1))) (sym low) one in
+          (valid rows contract_there, subst (λ i. ArePaired rows 0 (at new (2 * i)) (at new (2 * i + 1))) (sym same) both))
       | inr apart ↦ (
           let is_old : slice_index_or contracts c None ≡ Some rows = sym (get_or-set_other contracts k c contract None apart) ∙ is in
           let low : at new (2 * c) ≡ at lines (2 * c) = get_or-set_other first (2 * k + 1) (2 * c) line no_line (λ e. omega (arith, e))
@@ -73,8 +68,8 @@ opened_wired contracts lines k contract wired known within valid c rows is =
           let high : at new (2 * c + 1) ≡ at lines (2 * c + 1) = get_or-set_other first (2 * k + 1) (2 * c + 1) line no_line (λ e. apart (omega (arith, e)))
           ∙ get_or-set_other lines (2 * k) (2 * c + 1) line no_line (λ e. omega (arith, e)) in
           let was = wired c rows is_old in
-          let one : AreInStep rows 0 (at lines (2 * c)) (at new (2 * c + 1)) = subst (λ l. AreInStep rows 0 (at lines (2 * c)) l) (sym high) was.1 in
-          (was.0, subst (λ l. AreInStep rows 0 l (at new (2 * c + 1))) (sym low) one))
+          let one : ArePaired rows 0 (at lines (2 * c)) (at new (2 * c + 1)) = subst (λ l. ArePaired rows 0 (at lines (2 * c)) l) (sym high) was.1 in
+          (was.0, subst (λ l. ArePaired rows 0 l (at new (2 * c + 1))) (sym low) one))
     ]
 
 -- ---- the machine after it
@@ -116,17 +111,14 @@ module _ (s : Store) (p q r t : ℕ) (contract : Option (List Row)) (m : Machine
     | inr x ↦ elim (cases_eq k t) [ inl e ↦ subst P (sym e) b | inr y ↦ f k x y ]
   ]
 
-  places : ArePlaces m.places
-  places = whole_places m w
-
   middle : ArePlaces (appended p r m.places)
-  middle = appended_places m.places p r places (running_place m p runs_p)
+  middle = appended_places m.places p r w.places (running_place m p runs_p)
 
   busy_q : IsBusy (appended p r m.places) q
-  busy_q = appended_busy m.places p r places (running_place m p runs_p) q (running_place m q runs_q)
+  busy_q = appended_busy m.places p r w.places (running_place m p runs_p) q (running_place m q runs_q)
 
   between : (h : ℕ) → list_in (appended p r m.places) h ≡ cond (p == h) (blocks m h ++ r ∷ []) (blocks m h)
-  between h = appended_list m.places p r places (running_place m p runs_p) h
+  between h = appended_list m.places p r w.places (running_place m p runs_p) h
 
   lists : (h : ℕ) → blocks n h ≡ cond (q == h) (list_in (appended p r m.places) h ++ t ∷ []) (list_in (appended p r m.places) h)
   lists h = appended_list (appended p r m.places) q t middle busy_q h
@@ -177,7 +169,7 @@ module _ (s : Store) (p q r t : ℕ) (contract : Option (List Row)) (m : Machine
   -- ---- the directions
 
   long_lines : 2 * m.opened + 1 < length m.lines
-  long_lines = let e = w.lines in omega (arith, e, more)
+  long_lines = let e = w.channels.long in omega (arith, e, more)
 
   line_is : (d : ℕ) → line n d ≡ cond (d == (2 * m.opened + 1)) (new_line contract) (cond (d == (2 * m.opened)) (new_line contract) (line m d))
   line_is d =
@@ -196,7 +188,7 @@ module _ (s : Store) (p q r t : ℕ) (contract : Option (List Row)) (m : Machine
   line_low d e = line_is d ∙ rw (ne_eqb d (2 * m.opened + 1) (λ f. omega (arith, e, f)), eq-eqb d (2 * m.opened) e) refl
 
   no_way : (d : ℕ) → 2 * m.opened ≤ d → line n d ≡ new_line contract → on_way n d ≡ on_way m d
-  no_way d l e = ap (λ (x : Line). carried x.waiting.items) e ∙ sym (ap (λ (x : Line). carried x.waiting.items) (w.fresh d l))
+  no_way d l e = ap (λ (x : Line). carried x.waiting.items) e ∙ sym (ap (λ (x : Line). carried x.waiting.items) (w.channels.fresh d l))
 
   ways : (d : ℕ) → on_way n d ≡ on_way m d
   ways d = elim (cases_eq d (2 * m.opened)) [
@@ -303,9 +295,6 @@ module _ (s : Store) (p q r t : ℕ) (contract : Option (List Row)) (m : Machine
 
   -- ---- all of it
 
-  after_places : ArePlaces (appended q t (appended p r m.places))
-  after_places = appended_places (appended p r m.places) q t middle busy_q
-
   pub connected_whole : IsWhole n
   connected_whole = record {
     store = g.lawful;
@@ -315,17 +304,17 @@ module _ (s : Store) (p q r t : ℕ) (contract : Option (List Row)) (m : Machine
     ends = is_end;
     buffers = w.buffers ∙ sym g.many;
     bytes = bytes;
-    places = after_places.long;
-    generations = after_places.generations;
-    idle = after_places.idle;
-    lines = length-set (slice_set m.lines (2 * m.opened) (new_line contract)) (2 * m.opened + 1) (new_line contract) ∙ (length-set m.lines (2 * m.opened) (new_line contract) ∙ w.lines);
-    fresh = λ d h. line_else d (λ e. absurd (omega (arith, h, e))) (λ e. absurd (omega (arith, h, e))) ∙ w.fresh d (omega (arith, h));
-    numbered = set_numbered (slice_set m.lines (2 * m.opened) (new_line contract)) (2 * m.opened + 1) (new_line contract)
-        (subst (λ (x : ℕ). 2 * m.opened + 1 < x) (sym (length-set m.lines (2 * m.opened) (new_line contract))) long_lines)
-        (set_numbered m.lines (2 * m.opened) (new_line contract) (let e = long_lines in omega (arith, e)) w.numbered (1, refl)) (1, refl);
-    contracts = length-set m.contracts m.opened contract ∙ w.contracts;
-    wired = opened_wired m.contracts m.lines m.opened contract w.wired (subst (λ (x : ℕ). m.opened < x) (sym w.contracts) more) long_lines sound;
-    opened = omega (arith, more);
+    places = appended_places (appended p r m.places) q t middle busy_q;
+    channels = record {
+      long = length-set (slice_set m.lines (2 * m.opened) (new_line contract)) (2 * m.opened + 1) (new_line contract) ∙ (length-set m.lines (2 * m.opened) (new_line contract) ∙ w.channels.long);
+      fresh = λ d h. line_else d (λ e. absurd (omega (arith, h, e))) (λ e. absurd (omega (arith, h, e))) ∙ w.channels.fresh d (omega (arith, h));
+      numbered = set_numbered (slice_set m.lines (2 * m.opened) (new_line contract)) (2 * m.opened + 1) (new_line contract)
+          (subst (λ (x : ℕ). 2 * m.opened + 1 < x) (sym (length-set m.lines (2 * m.opened) (new_line contract))) long_lines)
+          (set_numbered m.lines (2 * m.opened) (new_line contract) (let e = long_lines in omega (arith, e)) w.channels.numbered (1, refl)) (1, refl);
+      contracts_long = length-set m.contracts m.opened contract ∙ w.channels.contracts_long;
+      wired = opened_wired m.contracts m.lines m.opened contract w.channels.wired (subst (λ (x : ℕ). m.opened < x) (sym w.channels.contracts_long) more) long_lines sound;
+      few = omega (arith, more);
+    };
     deep = w.deep;
   }
 
@@ -359,6 +348,6 @@ pub connected_is : (p q r t : ℕ) (contract : Option (List Row)) (m : Machine) 
 unfolding opened
 connected_is p q r t contract m w runs_p runs_q = elim (cases_eq p q) [
   | inl e ↦ (let twice : appended q t (appended p r m.places) ≡ appended p t (appended p r m.places) = ap (λ (x : ℕ). appended x t (appended p r m.places)) (sym e) in
-      rw (eq-eqb p q e) (same_machine _ _ refl refl refl (twice ∙ appended_twice m.places p r (whole_places m w) (running_place m p runs_p) t) refl refl refl refl))
-  | inr n ↦ rw (ne_eqb p q n) (same_machine _ _ refl refl refl (appended_both m.places p r (whole_places m w) (running_place m p runs_p) q t (running_place m q runs_q) n) refl refl refl refl)
+      rw (eq-eqb p q e) (same_machine _ _ refl refl refl (twice ∙ appended_twice m.places p r w.places (running_place m p runs_p) t) refl refl refl refl))
+  | inr n ↦ rw (ne_eqb p q n) (same_machine _ _ refl refl refl (appended_both m.places p r w.places (running_place m p runs_p) q t (running_place m q runs_q) n) refl refl refl refl)
 ]

@@ -7,13 +7,14 @@ use Rattle.xh_model.specs.declared.config.Config.{Config}
 use Rattle.xh_model.specs.declared.event.Holder.{Holder}
 use Rattle.xh_model.specs.declared.event.Holder.TheVariants.{Process, Direction}
 use Rattle.xh_model.specs.declared.row.Row.{Row}
-use Rattle.xh_model.specs.Store.{owner, len, holds, is_held_by, IsLawful, IsOwner, new_store}
+use Rattle.xh_model.specs.Store.{owner, len, holds, is_held_by, IsLawful, new_store}
 use Rattle.xh_model.specs.Config.{IsConfig}
 use Rattle.xh_core.proofs.FreshPlain.{at_replicate}
 use Rattle.xh_serial.specs.declared.place.Place.{Place}
 use Rattle.xh_serial.specs.Machine.{IsNumbered, Machine, carried, blocks, buffer, place, line, is_current, on_way, listed, no_place, no_line, end_of, IsWhole}
 use Rattle.xh_core.specs.Several.{times}
 use Rattle.xh_serial.specs.PlaceCommands.{new_machine}
+use Rattle.xh_core.proofs.Claiming.{no_bytes}
 
 pub replicate_more : {A : Type 0} (n : ℕ) (x : A) → replicate (n + 1) x ≡ replicate n x ++ x ∷ []
 replicate_more zero x = refl
@@ -25,9 +26,6 @@ nothing_listed false = refl
 
 same_list : (b : Bool) (xs ys : List ℕ) → xs ≡ ys → cond b xs [] ≡ cond b ys []
 same_list b xs ys e = ap (λ zs. cond b zs []) e
-
-empty_len : (o : Option Holder) (n : ℕ) → o ≡ None → IsOwner o n → n ≡ 0
-empty_len o n e i = subst (λ (x : Option Holder). IsOwner x n) e i
 
 module _ (c : Config) (is : IsConfig c) (lawful : IsLawful (new_store c)) where
   abbrev m : Machine
@@ -77,12 +75,12 @@ module _ (c : Config) (is : IsConfig c) (lawful : IsLawful (new_store c)) where
   unfolding new_machine new_store
   long_store = length-replicate (256 * c.arenas) None
 
-  no_bytes : (r : ℕ) → length (buffer m r) ≡ 0
+  no_buffer : (r : ℕ) → length (buffer m r) ≡ 0
   unfolding new_machine
-  no_bytes r = ap length (at_replicate {A = List ℕ} (256 * c.arenas) r [])
+  no_buffer r = ap length (at_replicate {A = List ℕ} (256 * c.arenas) r [])
 
   bytes : (r : ℕ) → length (buffer m r) ≡ cond (is_some (end_of m r)) 0 (len m.store r)
-  bytes r = no_bytes r ∙ rw (no_end r) (sym (empty_len (owner m.store r) (len m.store r) (no_owner r) (store_is.owned r)))
+  bytes r = no_buffer r ∙ rw (no_end r) (sym (no_bytes (owner m.store r) (len m.store r) (no_owner r) (store_is.owned r)))
 
   pub new_whole : IsWhole m
   unfolding new_machine
@@ -94,14 +92,18 @@ module _ (c : Config) (is : IsConfig c) (lawful : IsLawful (new_store c)) where
     ends = λ r d e. absurd (is_no_end r d e);
     buffers = length-replicate {A = List ℕ} (256 * c.arenas) [] ∙ sym long_store;
     bytes = bytes;
-    places = length-replicate 32 no_place;
-    generations = λ p. rw (vacant p) (omega arith);
-    idle = λ p s. ap (λ (x : Place). x.blocks.items) (vacant p);
-    lines = length-replicate 128 no_line;
-    fresh = λ d h. at_line d;
-    numbered = λ d. subst IsNumbered (sym (at_line d)) (1, refl);
-    contracts = length-replicate {A = Option (List Row)} 64 None;
-    wired = λ k rows e. absurd (no_contract k rows e);
-    opened = omega arith;
+    places = record {
+      long = length-replicate 32 no_place;
+      generations = λ p. rw (vacant p) (omega arith);
+      idle = λ p s. ap (λ (x : Place). x.blocks.items) (vacant p);
+    };
+    channels = record {
+      long = length-replicate 128 no_line;
+      fresh = λ d h. at_line d;
+      numbered = λ d. subst IsNumbered (sym (at_line d)) (1, refl);
+      contracts_long = length-replicate {A = Option (List Row)} 64 None;
+      wired = λ k rows e. absurd (no_contract k rows e);
+      few = omega arith;
+    };
     deep = is.most_depth;
   }

@@ -1,20 +1,18 @@
 -- A process gains free records, and the machine stays whole.
 use Rattle.std.proofs.Common.{◌≡◌, ◌≢◌, ℕ, ◌+◌, ◌-◌, ◌*◌, ◌/◌, ◌%◌, ◌<◌, ◌≤◌, List, [], ◌∷◌, ◌++◌, length, take}
-use Rattle.std.proofs.Common.{drop, length-drop, Bool, true, false, cond, refl, sym, ap, ◌∙◌, subst, arith, ◌⊎◌, inl, inr, get_or-set_same, get_or-set_other}
-use Rattle.std.specs.Prelude.{Option, Some, None, is_some, ◌==◌, ◌||◌, nat_lt, replicate, slice_set, slice_index_or}
+use Rattle.std.proofs.Common.{drop, length-drop, true, false, cond, refl, sym, ap, ◌∙◌, subst, arith, inl, inr, get_or-set_same, get_or-set_other}
+use Rattle.std.specs.Prelude.{Option, Some, None, is_some, ◌==◌, nat_lt, replicate, slice_set, slice_index_or}
 use Rattle.std.proofs.lemmas.Bool.{cases_eq, cases_Bool, false≢true, eq-eqb, ne_eqb, ltb-true, ltb-false}
 use Rattle.std.proofs.lemmas.List.{length-set, length-append, length-take-le, nil_from_length, set-set, set-get_or, length-replicate}
 use Rattle.std.proofs.lemmas.List.Sums.{sum_by-append}
 use Rattle.xh_model.specs.declared.event.Holder.{Holder}
 use Rattle.xh_model.specs.declared.event.Holder.TheVariants.{Process, Direction}
-use Rattle.xh_model.specs.Store.{Store, owner, len, holds, same_holder, is_held_by, is_known, after, IsQuiet}
+use Rattle.xh_model.specs.Store.{Store, owner, len, holds, is_held_by, is_known, after, IsQuiet}
 use Rattle.xh_serial.specs.declared.place.Place.{Place}
-use Rattle.xh_serial.specs.Machine.{IsNumbered, Machine, place, is_current, blocks, buffer, with_list, end_of, listed, on_way, way_in, no_line, AreWired, IsEnd, IsWhole}
-use Rattle.xh_core.specs.Statuses.{is_vacant, is_ended}
+use Rattle.xh_serial.specs.Machine.{Machine, place, is_current, blocks, buffer, with_list, end_of, listed, on_way, way_in, IsEnd, IsWhole, ArePlaces}
 use Rattle.xh_core.specs.Several.{times}
 use Rattle.xh_core.specs.Gaining.{Gained}
 use Rattle.xh_serial.specs.inner.Holding.{BlocksOf, with_bytes}
-use Rattle.xh_serial.specs.inner.Placing.{place_in}
 use Rattle.xh_serial.specs.Commands.{IsRunning}
 use Rattle.xh_model.specs.declared.event.Event.TheVariants.{Claim, Carve, Cut, GiveBack, Vacate}
 use Rattle.std.specs.List.{position_or_len, remove}
@@ -22,8 +20,9 @@ use Rattle.xh_serial.specs.BlockCommands.{allocated, freed_block, overwritten, p
 use Rattle.xh_core.proofs.Claiming.{in_range, no_bytes}
 use Rattle.xh_serial.proofs.Closing.{found, one_listed, frees_block}
 use Rattle.xh_serial.proofs.Kept.{whole_one}
+use Rattle.xh_serial.proofs.Moved.{cases_holder, holder_ne}
 use Rattle.xh_core.proofs.Stores.{times-cons, is_there}
-use Rattle.xh_serial.proofs.Room.{few, few_records, held_there}
+use Rattle.xh_serial.proofs.Room.{at_most_one, few, few_records, held_there}
 use Rattle.xh_serial.proofs.Machines.{
   blocks_of,
   runs_busy,
@@ -35,22 +34,9 @@ use Rattle.xh_serial.proofs.Machines.{
   current_generation,
   place_there,
   IsPlace,
-  generations_set,
-  idle_set,
+  places_set,
   busy_place,
 }
-
-cases_holder : (a b : Holder) → (a ≡ b) ⊎ (a ≢ b)
-cases_holder (Process p) (Process q) = elim (cases_eq p q) [ inl e ↦ inl (ap (λ (x : ℕ). Process x) e) | inr n ↦ inr (λ e. n cc) ]
-cases_holder (Process p) (Direction e) = inr (λ e. cc)
-cases_holder (Direction d) (Process q) = inr (λ e. cc)
-cases_holder (Direction p) (Direction q) = elim (cases_eq p q) [ inl e ↦ inl (ap (λ (x : ℕ). Direction x) e) | inr n ↦ inr (λ e. n cc) ]
-
-holder_ne : (a b : Holder) → a ≢ b → same_holder a b ≡ false
-holder_ne (Process p) (Process q) n = ne_eqb p q (λ e. n (ap (λ (x : ℕ). Process x) e))
-holder_ne (Process p) (Direction e) n = refl
-holder_ne (Direction d) (Process q) n = refl
-holder_ne (Direction p) (Direction q) n = ne_eqb p q (λ e. n (ap (λ (x : ℕ). Direction x) e))
 
 -- ---- another list for a process
 
@@ -58,9 +44,7 @@ holder_ne (Direction p) (Direction q) n = ne_eqb p q (λ e. n (ap (λ (x : ℕ).
 pub record Relisted (p : ℕ) (rs : List ℕ) (m n : Machine) : Type 0 where
   pub here : blocks n p ≡ rs
   pub else : (k : ℕ) → k ≢ p → blocks n k ≡ blocks m k
-  pub places : length n.places ≡ 32
-  pub generations : (k : ℕ) → (place n k).generation ≤ 127
-  pub idle : (k : ℕ) → (is_vacant (place n k).status || is_ended (place n k).status) ≡ true → (place n k).blocks.items ≡ []
+  pub places : ArePlaces n.places
 
 abbrev listing : ℕ → List ℕ → Machine → Place
 listing p rs m = record (place m p) { blocks = record { items = rs } }
@@ -73,9 +57,7 @@ relisted p rs m n w r e =
     record {
       here = ap (λ ps. list_in ps p) e ∙ list_here m.places p (listing p rs m) there r.0;
       else = λ k ne. ap (λ ps. list_in ps k) e ∙ list_else m.places p k (listing p rs m) there g g ne;
-      places = ap length e ∙ (length-set m.places (p % 32) (listing p rs m) ∙ w.places);
-      generations = λ k. subst (λ ps. (place_in ps k).generation ≤ 127) (sym e) (generations_set m p (listing p rs m) w is k);
-      idle = λ k. subst (λ ps. (is_vacant (place_in ps k).status || is_ended (place_in ps k).status) ≡ true → (place_in ps k).blocks.items ≡ []) (sym e) (idle_set m p (listing p rs m) w is k);
+      places = subst ArePlaces (sym e) (places_set m.places p (listing p rs m) w.places is);
     }
 
 -- ---- records that are gained
@@ -163,22 +145,11 @@ gained_whole p rs m n w r g places ends lines contracts opened depth buffers byt
       buffers = buffers ∙ (w.buffers ∙ sym g.many);
       bytes = λ q. bytes q ∙ ap (λ (o : Option ℕ). cond (is_some o) 0 (len n.store q)) (sym (end q));
       places = l.places;
-      generations = l.generations;
-      idle = l.idle;
-      lines = ap length lines ∙ w.lines;
-      fresh = λ d h. ap (λ ls. slice_index_or ls d no_line) lines ∙ w.fresh d (subst (λ (k : ℕ). 2 * k ≤ d) opened h);
-      numbered = λ d. subst (λ ls. IsNumbered (slice_index_or ls d no_line)) (sym lines) (w.numbered d);
-      contracts = ap length contracts ∙ w.contracts;
-      wired = subst (λ cs. AreWired cs n.lines) (sym contracts) (subst (λ ls. AreWired m.contracts ls) (sym lines) w.wired);
-      opened = subst (λ (k : ℕ). k ≤ 64) (sym opened) w.opened;
+      channels = rw (lines, contracts, opened) w.channels;
       deep = subst (λ (k : ℕ). k ≤ 16) (sym depth) w.deep;
     }
 
 -- ---- alloc
-
-at_most_one : (b : Bool) → cond {A = ℕ} b 1 0 ≤ 1
-at_most_one true = omega arith
-at_most_one false = omega arith
 
 -- a free record has a buffer, and no bytes in it
 pub free_there : (m : Machine) (r : ℕ) → IsWhole m → is_known m.store r ≡ true → r < length m.buffers
@@ -321,14 +292,7 @@ written_whole m r new w l e = record {
     | inr n ↦ ap length (get_or-set_other m.buffers r q new [] n) ∙ w.bytes q
   ];
   places = w.places;
-  generations = w.generations;
-  idle = w.idle;
-  lines = w.lines;
-  fresh = w.fresh;
-  numbered = w.numbered;
-  contracts = w.contracts;
-  wired = w.wired;
-  opened = w.opened;
+  channels = w.channels;
   deep = w.deep;
 }
 

@@ -22,7 +22,7 @@ use Rattle.xh_serial.specs.Commands.{toward}
 use Rattle.xh_serial.specs.MessageCommands.{given, told_line, put_line, without, is_banned}
 use Rattle.xh_serial.specs.inner.Checks.{MayGive}
 use Rattle.xh_core.proofs.Stores.{count_append, done, all_owners, is_there, at_set, times-cons, same_len}
-use Rattle.xh_serial.proofs.Machines.{runs_busy, place_there, list_here, list_else, current_generation, busy_place, generations_set, idle_set, way_here, way_else, peer_ne, peer_half, peer_below}
+use Rattle.xh_serial.proofs.Machines.{runs_busy, place_there, list_here, list_else, current_generation, busy_place, places_set, way_here, way_else, peer_ne, peer_half, peer_below}
 use Rattle.xh_serial.proofs.Wired.{state_in, IsPair, same_lines, wired_pair, half_apart}
 use Rattle.xh_serial.proofs.Moved.{Moved, moved_whole}
 use Rattle.xh_serial.proofs.Numbered.{put_numbered, set_numbered}
@@ -180,13 +180,13 @@ module _ (m : Machine) (p e tag : ℕ) (bs : List ℕ) (w : IsWhole m) (g : MayG
   below = peer_below own m.opened g.within
 
   range : d < 128
-  range = let a = below in let b = w.opened in omega (arith, a, b)
+  range = let a = below in let b = w.channels.few in omega (arith, a, b)
 
   own_there : own < length m.lines
-  own_there = let a = w.lines in let b = w.opened in let c = g.within in omega (arith, a, b, c)
+  own_there = let a = w.channels.long in let b = w.channels.few in let c = g.within in omega (arith, a, b, c)
 
   there : d < length told
-  there = let a = w.lines in let b = range in let c : length told ≡ length m.lines = length-set m.lines own z in omega (arith, a, b, c)
+  there = let a = w.channels.long in let b = range in let c : length told ≡ length m.lines = length-set m.lines own z in omega (arith, a, b, c)
 
   passed : Passed d bs m.store (pass_all p d bs m.store)
   passed = passed_all p d bs m.store range held (w.full (Process p))
@@ -243,14 +243,16 @@ module _ (m : Machine) (p e tag : ℕ) (bs : List ℕ) (w : IsWhole m) (g : MayG
     many = passed.many;
     ends = refl;
     buffers = refl;
-    places = length-set m.places (p % 32) x;
-    generations = generations_set m p x w (busy_place m p (without bs (blocks m p)) w (runs_busy m p g.runs));
-    idle = idle_set m p x w (busy_place m p (without bs (blocks m p)) w (runs_busy m p g.runs));
-    lines = length-set told d y ∙ length-set m.lines own z;
-    fresh = λ k l. other_lines k (λ s. let c = g.within in omega (arith, c, l, s)) (λ s. let c = below in omega (arith, c, l, s)) ∙ w.fresh k l;
-    contracts = refl;
-    numbered = set_numbered told d y there (set_numbered m.lines own z own_there w.numbered (w.numbered own)) (put_numbered tag bs (line m d) (w.numbered d));
-    wired = wired_pair m.contracts m.lines (slice_set told d y) own w.wired wired (λ k h. other_lines k (half_apart own k h) (λ s. h (ap (λ (i : ℕ). i / 2) s ∙ peer_half own)));
+    places = places_set m.places p x w.places (busy_place m p (without bs (blocks m p)) w (runs_busy m p g.runs));
+    channels = record {
+      long = length-set told d y ∙ (length-set m.lines own z ∙ w.channels.long);
+      fresh = λ k l. other_lines k (λ s. let c = g.within in omega (arith, c, l, s)) (λ s. let c = below in omega (arith, c, l, s)) ∙ w.channels.fresh k l;
+      numbered = set_numbered told d y there (set_numbered m.lines own z own_there w.channels.numbered (w.channels.numbered own)) (put_numbered tag bs (line m d) (w.channels.numbered d));
+      contracts_long = w.channels.contracts_long;
+      wired = wired_pair m.contracts m.lines (slice_set told d y) own w.channels.wired wired
+          (λ k h. other_lines k (half_apart own k h) (λ s. h (ap (λ (i : ℕ). i / 2) s ∙ peer_half own)));
+      few = w.channels.few;
+    };
     opened = refl;
     depth = refl;
   }

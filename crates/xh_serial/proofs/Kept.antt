@@ -1,5 +1,5 @@
 -- Sweeping one entry leaves a whole machine.
-use Rattle.std.proofs.Common.{◌≡◌, ◌≢◌, ℕ, zero, suc, ◌+◌, ◌-◌, ◌*◌, ◌/◌, ◌%◌, ◌<◌, ◌≤◌, List, []}
+use Rattle.std.proofs.Common.{◌≡◌, ◌≢◌, ℕ, zero, suc, ◌+◌, ◌-◌, ◌*◌, ◌/◌, ◌<◌, ◌≤◌, List, []}
 use Rattle.std.proofs.Common.{length, true, false, cond, refl, sym, ap, ◌∙◌, arith, ◌⊎◌, inl, inr, get_or-set_same, get_or-set_other}
 use Rattle.std.specs.Prelude.{Option, Some, None, is_some, ◌==◌, nat_lt, slice_set, slice_index_or}
 use Rattle.std.proofs.lemmas.Bool.{cases_eq, cases_Bool, false≢true, eq-eqb, ne_eqb, lt-ltb, le-ltb}
@@ -16,7 +16,7 @@ use Rattle.xh_serial.specs.Machine.{Machine, end_of, buffer, line, no_line, bloc
 use Rattle.xh_core.specs.Several.{times}
 use Rattle.xh_serial.specs.Sweeping.{sweep_one, sweep, shut_in}
 use Rattle.xh_core.proofs.Stores.{is_there, same_len, same_known, len_back, len_back_else, arena_there}
-use Rattle.xh_serial.proofs.Machines.{lists_current, current_range, generations_set, idle_set, busy_place, lists_busy}
+use Rattle.xh_serial.proofs.Machines.{lists_current, current_range, places_set, busy_place, lists_busy}
 use Rattle.xh_serial.proofs.Wired.{shut_wired}
 use Rattle.xh_serial.proofs.Swept.{entry, new_owner, SweptOne, swept_one, entry_held, came_held, once_process, once_direction, ends_now, end_range}
 use Rattle.xh_serial.proofs.Numbered.{shut_numbered}
@@ -101,7 +101,7 @@ fresh_shut contracts lines (Some d) k n = get_or-set_other lines d k _ no_line (
 fresh_now : (m : Machine) (p from k : ℕ) → IsWhole m → 2 * m.opened ≤ k → line (sweep_one p from m) k ≡ no_line
 unfolding sweep_one
 fresh_now m p from k w h =
-    fresh_shut m.contracts m.lines (end_of m (entry m p from)) k (λ d e s. let o = (w.ends (entry m p from) d e).opened in omega (arith, o, h, s)) ∙ w.fresh k h
+    fresh_shut m.contracts m.lines (end_of m (entry m p from)) k (λ d e s. let o = (w.ends (entry m p from) d e).opened in omega (arith, o, h, s)) ∙ w.channels.fresh k h
 
 bytes_now : (m : Machine) (p from q : ℕ) → IsWhole m → from < length (blocks m p) →
     length (buffer (sweep_one p from m) q) ≡ cond (is_some (end_of (sweep_one p from m) q)) 0 (len (sweep_one p from m).store q)
@@ -165,15 +165,15 @@ whole_one m p from w l =
       ends = λ r d e. end_now m p from r d w l e;
       buffers = length-set m.buffers (entry m p from) [] ∙ (w.buffers ∙ sym s.many);
       bytes = λ q. bytes_now m p from q w l;
-      places = length-set m.places (p % 32) _ ∙ w.places;
-      generations = generations_set m p _ w (busy_place m p _ w (lists_busy m p from w l));
-      idle = idle_set m p _ w (busy_place m p _ w (lists_busy m p from w l));
-      lines = lines_long m.contracts m.lines (end_of m (entry m p from)) ∙ w.lines;
-      fresh = λ k h. fresh_now m p from k w h;
-      contracts = w.contracts;
-      numbered = shut_numbered m.contracts m.lines (end_of m (entry m p from)) (end_range m (entry m p from) w) w.numbered;
-      wired = shut_wired m.contracts m.lines (end_of m (entry m p from)) (end_range m (entry m p from) w) w.wired;
-      opened = w.opened;
+      places = places_set m.places p _ w.places (busy_place m p _ w (lists_busy m p from w l));
+      channels = record {
+        long = lines_long m.contracts m.lines (end_of m (entry m p from)) ∙ w.channels.long;
+        fresh = λ k h. fresh_now m p from k w h;
+        numbered = shut_numbered m.contracts m.lines (end_of m (entry m p from)) (end_range m (entry m p from) w) w.channels.numbered;
+        contracts_long = w.channels.contracts_long;
+        wired = shut_wired m.contracts m.lines (end_of m (entry m p from)) (end_range m (entry m p from) w) w.channels.wired;
+        few = w.channels.few;
+      };
       deep = w.deep;
     }
 

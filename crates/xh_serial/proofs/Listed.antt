@@ -1,5 +1,5 @@
 -- The list after a sweep.
-use Rattle.std.proofs.Common.{◌≡◌, ◌≢◌, ℕ, zero, suc, ◌+◌, ◌<◌, ◌≤◌, List, [], ◌∷◌, ◌++◌, length, take, drop, Bool, true, false, cond, refl, sym, ap, ◌∙◌, arith, inl, inr, append_assoc, append-nil}
+use Rattle.std.proofs.Common.{◌≡◌, ◌≢◌, ℕ, zero, suc, ◌+◌, ◌<◌, ◌≤◌, List, [], ◌∷◌, ◌++◌, length, take, drop, true, cond, refl, sym, ap, ◌∙◌, arith, inl, inr, append_assoc, append-nil}
 use Rattle.std.specs.Prelude.{Some, None, is_some, ◌==◌, nat_lt}
 use Rattle.std.specs.List.{remove, flat_map}
 use Rattle.std.proofs.lemmas.Bool.{cases_eq, cases_Bool, cases_lt, false≢true, eq-eqb, ne_eqb, lt-ltb, le-ltb, ltb-false}
@@ -10,7 +10,7 @@ use Rattle.xh_serial.specs.Machine.{Machine, blocks, arriving, end_of, IsWhole}
 use Rattle.xh_core.specs.Several.{times}
 use Rattle.xh_serial.specs.Sweeping.{sweep_one, sweep, Sweeps}
 use Rattle.xh_core.proofs.Stores.{times-cons, is_there}
-use Rattle.xh_serial.proofs.Room.{few, few_records, held_there}
+use Rattle.xh_serial.proofs.Room.{at_most_one, few, few_records, held_there}
 use Rattle.xh_serial.proofs.Swept.{entry, blocks_here, arriving_else, came_held}
 use Rattle.xh_serial.proofs.Kept.{other_owner, gone_owner, whole_one}
 use Rattle.xh_serial.proofs.Reclaiming.{work_before, work_after}
@@ -123,10 +123,6 @@ module _ (m : Machine) (p from budget : ℕ) (w : IsWhole m) (l : from < length 
     left = λ h. ap suc (s.left h);
   }
 
-at_most : (b : Bool) → cond {A = ℕ} b 1 0 ≤ 1
-at_most true = omega arith
-at_most false = omega arith
-
 sweeps_nothing : (p from budget : ℕ) (m : Machine) → IsWhole m → (from < length (blocks m p) → 0 ≡ budget) → Sweeps p from budget m m
 sweeps_nothing p from budget m w h = record {
   taken = 0;
@@ -134,7 +130,7 @@ sweeps_nothing p from budget m w h = record {
   within = omega arith;
   there = omega arith;
   was_on_way = refl;
-  once = λ r. rw (append-nil (drop from (blocks m p))) (let a = times-drop-le r from (blocks m p) in let o = w.once (Process p) r in let b = at_most (holds m.store (Process p) r) in
+  once = λ r. rw (append-nil (drop from (blocks m p))) (let a = times-drop-le r from (blocks m p) in let o = w.once (Process p) r in let b = at_most_one (holds m.store (Process p) r) in
       omega (arith, a, o, b));
   in_flight = λ r l. absurd (omega (arith, l));
   before = refl;

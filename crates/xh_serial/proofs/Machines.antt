@@ -1,14 +1,14 @@
 -- What is read of a machine's places and directions, after a change of one of them.
-use Rattle.std.proofs.Common.{◌≡◌, ◌≢◌, ℕ, ◌*◌, ◌/◌, ◌%◌, ◌<◌, ◌≤◌, List, [], length, true, false, cond, refl, sym, ap, ◌∙◌, arith, inl, inr, get_or-set_same, get_or-set_other}
-use Rattle.std.specs.Prelude.{◌==◌, ◌||◌, slice_set, slice_index_or}
+use Rattle.std.proofs.Common.{◌≡◌, ◌≢◌, ℕ, ◌*◌, ◌/◌, ◌%◌, ◌<◌, List, [], length, true, false, cond, refl, sym, ap, ◌∙◌, subst, arith, inl, inr, get_or-set_same, get_or-set_other}
+use Rattle.std.specs.Prelude.{◌==◌, slice_set, slice_index_or}
 use Rattle.std.proofs.lemmas.Bool.{cases_eq, cases_Bool, false≢true, eq-eqb, ne_eqb, eqb-true}
-use Rattle.std.proofs.lemmas.List.{get_or_default, set-set}
+use Rattle.std.proofs.lemmas.List.{get_or_default, length-set, set-set}
 use Rattle.xh_serial.specs.declared.place.Place.{Place}
 use Rattle.xh_serial.specs.declared.line.Line.{Line}
 use Rattle.xh_core.specs.declared.status.Status.{Status}
 use Rattle.xh_core.specs.declared.status.Status.TheVariants.{Vacant, Running, Ending, Ended}
-use Rattle.xh_serial.specs.Machine.{Machine, place, is_current, blocks, no_place, no_line, peer, carried, IsWhole}
-use Rattle.xh_core.specs.Statuses.{is_vacant, is_running, is_ended}
+use Rattle.xh_serial.specs.Machine.{Machine, place, is_current, blocks, no_place, no_line, peer, carried, IsWhole, ArePlaces}
+use Rattle.xh_core.specs.Statuses.{is_running, is_over}
 use Rattle.xh_serial.specs.Commands.{IsRunning}
 use Rattle.xh_serial.specs.inner.Holding.{BlocksOf}
 use Rattle.xh_serial.specs.inner.Placing.{place_in, blocks_in, relisted}
@@ -86,45 +86,46 @@ pub current_blocks : (m : Machine) (p : ℕ) → is_current m p ≡ true → blo
 current_blocks m p h = rw h refl
 
 pub place_there : (m : Machine) (p : ℕ) → IsWhole m → p % 32 < length m.places
-place_there m p w = let e = w.places in omega (arith, e)
+place_there m p w = let e = w.places.long in omega (arith, e)
 
 pub current_range : (m : Machine) (p : ℕ) → IsWhole m → is_current m p ≡ true → p < 4096
-current_range m p w h = let e : (place m p).generation ≡ p / 32 = current_generation m p h in let g : (place m p).generation ≤ 127 = w.generations p in omega (arith, e, g)
+current_range m p w h = let e : (place m p).generation ≡ p / 32 = current_generation m p h in let g : (place m p).generation < 128 = w.places.generations p in omega (arith, e, g)
 
 -- a place whose list may be what it is
 pub record IsPlace (x : Place) : Type 0 where
-  pub generation : x.generation ≤ 127
-  pub idle : (is_vacant x.status || is_ended x.status) ≡ true → x.blocks.items ≡ []
+  pub generation : x.generation < 128
+  pub idle : is_over x.status ≡ true → x.blocks.items ≡ []
 
 -- the places but for one
-pub generations_set : (m : Machine) (p : ℕ) (x : Place) → IsWhole m → IsPlace x → (k : ℕ) → (place_in (slice_set m.places (p % 32) x) k).generation ≤ 127
-generations_set m p x w is k = elim (cases_eq (k % 32) (p % 32)) [
-  | inl e ↦ (let now : place_in (slice_set m.places (p % 32) x) k ≡ x = ap (λ (i : ℕ). slice_index_or (slice_set m.places (p % 32) x) i no_place) e
-      ∙ place_here m.places p x (place_there m p w) in rw now is.generation)
-  | inr d ↦ rw (place_else m.places p k x d) (w.generations k)
-]
+module _ (ps : List Place) (p : ℕ) (x : Place) (a : ArePlaces ps) (is : IsPlace x) where
+  there : p % 32 < length ps
+  there = let e = a.long in omega (arith, e)
 
-pub idle_set : (m : Machine) (p : ℕ) (x : Place) → IsWhole m → IsPlace x → (k : ℕ) →
-    (is_vacant (place_in (slice_set m.places (p % 32) x) k).status || is_ended (place_in (slice_set m.places (p % 32) x) k).status) ≡ true →
-    (place_in (slice_set m.places (p % 32) x) k).blocks.items ≡ []
-idle_set m p x w is k h = elim (cases_eq (k % 32) (p % 32)) [
-  | inl e ↦ (
-      let now : place_in (slice_set m.places (p % 32) x) k ≡ x = ap (λ (i : ℕ). slice_index_or (slice_set m.places (p % 32) x) i no_place) e ∙ place_here m.places p x (place_there m p w) in
-      ap (λ (y : Place). y.blocks.items) now ∙ is.idle (ap (λ (y : Place). is_vacant y.status || is_ended y.status) (sym now) ∙ h))
-  | inr d ↦ (
-      let now = place_else m.places p k x d in
-      ap (λ (y : Place). y.blocks.items) now ∙ w.idle k (ap (λ (y : Place). is_vacant y.status || is_ended y.status) (sym now) ∙ h))
-]
+  set_at : (k : ℕ) → k % 32 ≡ p % 32 → place_in (slice_set ps (p % 32) x) k ≡ x
+  set_at k e = ap (λ (i : ℕ). slice_index_or (slice_set ps (p % 32) x) i no_place) e ∙ place_here ps p x there
+
+  by_place : (P : Place → Type 0) → P x → (k : ℕ) → P (place_in ps k) → P (place_in (slice_set ps (p % 32) x) k)
+  by_place P here k else = elim (cases_eq (k % 32) (p % 32)) [
+    | inl e ↦ subst P (sym (set_at k e)) here
+    | inr d ↦ subst P (sym (place_else ps p k x d)) else
+  ]
+
+  pub places_set : ArePlaces (slice_set ps (p % 32) x)
+  places_set = record {
+    long = length-set ps (p % 32) x ∙ a.long;
+    generations = λ k. by_place (λ y. y.generation < 128) is.generation k (a.generations k);
+    idle = λ k. by_place (λ y. is_over y.status ≡ true → y.blocks.items ≡ []) is.idle k (a.idle k);
+  }
 
 -- a place that is not idle may have any list
-pub busy_place : (m : Machine) (p : ℕ) (rs : List ℕ) → IsWhole m → (is_vacant (place m p).status || is_ended (place m p).status) ≡ false →
+pub busy_place : (m : Machine) (p : ℕ) (rs : List ℕ) → IsWhole m → is_over (place m p).status ≡ false →
     IsPlace (record (place m p) { blocks = record { items = rs } })
-busy_place m p rs w b = record { generation = w.generations p; idle = λ h. absurd (false≢true (sym b ∙ h)) }
+busy_place m p rs w b = record { generation = w.places.generations p; idle = λ h. absurd (false≢true (sym b ∙ h)) }
 
 -- a place that lists something is not idle
-pub lists_busy : (m : Machine) (p from : ℕ) → IsWhole m → from < length (blocks m p) → (is_vacant (place m p).status || is_ended (place m p).status) ≡ false
-lists_busy m p from w l = elim (cases_Bool (is_vacant (place m p).status || is_ended (place m p).status)) [
-  | inl y ↦ (let none : (place m p).blocks.items ≡ [] = w.idle p y in
+pub lists_busy : (m : Machine) (p from : ℕ) → IsWhole m → from < length (blocks m p) → is_over (place m p).status ≡ false
+lists_busy m p from w l = elim (cases_Bool (is_over (place m p).status)) [
+  | inl y ↦ (let none : (place m p).blocks.items ≡ [] = w.places.idle p y in
       let e : length (blocks m p) ≡ 0 = ap length (current_blocks m p (lists_current m p from l) ∙ none) in absurd (omega (arith, e, l)))
   | inr f ↦ f
 ]
@@ -154,11 +155,11 @@ peer_below d n l = let h = peer_half d in omega (arith, h, l)
 
 -- ---- a process that runs
 
-running_busy : (s : Status) → is_running s ≡ true → (is_vacant s || is_ended s) ≡ false
+running_busy : (s : Status) → is_running s ≡ true → is_over s ≡ false
 running_busy Vacant h = absurd (false≢true h)
 running_busy Running h = refl
 running_busy Ending h = absurd (false≢true h)
 running_busy Ended h = absurd (false≢true h)
 
-pub runs_busy : (m : Machine) (p : ℕ) → IsRunning m p → (is_vacant (place m p).status || is_ended (place m p).status) ≡ false
+pub runs_busy : (m : Machine) (p : ℕ) → IsRunning m p → is_over (place m p).status ≡ false
 runs_busy m p r = running_busy (place m p).status r.1

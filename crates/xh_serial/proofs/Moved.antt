@@ -1,13 +1,12 @@
 -- Records that go from one holder to another leave a whole machine.
-use Rattle.std.proofs.Common.{◌≡◌, ◌≢◌, ℕ, ◌+◌, ◌*◌, ◌<◌, ◌≤◌, List, [], length, Bool, true, false, cond, refl, sym, ap, ◌∙◌, arith, ◌⊎◌, inl, inr}
-use Rattle.std.specs.Prelude.{Option, Some, None, is_some, ◌||◌, nat_lt, slice_index_or}
+use Rattle.std.proofs.Common.{◌≡◌, ◌≢◌, ℕ, ◌+◌, ◌<◌, ◌≤◌, List, [], length, Bool, true, false, cond, refl, sym, ap, ◌∙◌, arith, ◌⊎◌, inl, inr}
+use Rattle.std.specs.Prelude.{Option, Some, None, is_some, nat_lt, slice_index_or}
 use Rattle.std.proofs.lemmas.Bool.{cases_eq, cases_Bool, false≢true, eq-eqb, ne_eqb, ltb-true, ltb-false}
 use Rattle.xh_model.specs.declared.event.Holder.{Holder}
 use Rattle.xh_model.specs.declared.event.Holder.TheVariants.{Process, Direction}
 use Rattle.xh_model.specs.Store.{owner, len, holds, same_holder, is_held_by, IsOwner, IsLawful}
-use Rattle.xh_serial.specs.Machine.{IsNumbered, Machine, end_of, buffer, place, line, no_line, listed, AreWired, IsWhole, IsEnd}
+use Rattle.xh_serial.specs.Machine.{Machine, end_of, buffer, listed, IsWhole, IsEnd, ArePlaces, AreChannels}
 use Rattle.xh_core.specs.Several.{times}
-use Rattle.xh_core.specs.Statuses.{is_vacant, is_ended}
 use Rattle.xh_core.proofs.Stores.{same_len, same_known}
 
 pub cases_holder : (a b : Holder) → (a ≡ b) ⊎ (a ≢ b)
@@ -48,22 +47,13 @@ pub record Moved (g h : Holder) (rs : List ℕ) (m n : Machine) : Type 0 where
   pub many : length n.store.owners ≡ length m.store.owners
   pub ends : n.ends ≡ m.ends
   pub buffers : n.buffers ≡ m.buffers
-  pub places : length n.places ≡ length m.places
-  pub generations : (p : ℕ) → (place n p).generation ≤ 127
-  pub idle : (p : ℕ) → (is_vacant (place n p).status || is_ended (place n p).status) ≡ true → (place n p).blocks.items ≡ []
-  pub lines : length n.lines ≡ length m.lines
-  pub fresh : (d : ℕ) → 2 * m.opened ≤ d → line n d ≡ no_line
-  pub contracts : n.contracts ≡ m.contracts
-  pub numbered : (d : ℕ) → IsNumbered (line n d)
-  pub wired : AreWired m.contracts n.lines
+  pub places : ArePlaces n.places
+  pub channels : AreChannels n.lines n.contracts n.opened
   pub opened : n.opened ≡ m.opened
   pub depth : n.depth ≡ m.depth
 
 one_of : (b : Bool) → b ≡ true → cond {A = ℕ} b 1 0 ≡ 1
 one_of b e = rw e refl
-
-none_of : (b : Bool) → b ≡ false → cond {A = ℕ} b 1 0 ≡ 0
-none_of b e = rw e refl
 
 only_one : (b : Bool) (n : ℕ) → n ≤ cond {A = ℕ} b 1 0 → 0 < n → (b ≡ true) × (n ≡ 1)
 only_one true n l h = (refl, omega arith)
@@ -161,14 +151,7 @@ module _ (g h : Holder) (rs : List ℕ) (m n : Machine) (w : IsWhole m) (v : Mov
     ends = end_now;
     buffers = ap length v.buffers ∙ (w.buffers ∙ sym v.many);
     bytes = bytes;
-    places = v.places ∙ w.places;
-    generations = v.generations;
-    idle = v.idle;
-    lines = v.lines ∙ w.lines;
-    fresh = λ d l. v.fresh d (rw v.opened at l);
-    contracts = ap length v.contracts ∙ w.contracts;
-    numbered = v.numbered;
-    wired = rw v.contracts v.wired;
-    opened = rw v.opened w.opened;
+    places = v.places;
+    channels = v.channels;
     deep = rw v.depth w.deep;
   }

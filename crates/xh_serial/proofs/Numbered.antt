@@ -7,7 +7,7 @@ use Rattle.xh_serial.specs.declared.line.Line.{Line}
 use Rattle.xh_serial.specs.declared.message.Message.{Message}
 use Rattle.xh_serial.specs.Machine.{no_line, AreNumbered, IsNumbered}
 use Rattle.xh_serial.specs.MessageCommands.{put_line, taken_line}
-use Rattle.xh_serial.specs.Sweeping.{shut_line, shut_in}
+use Rattle.xh_serial.specs.Sweeping.{shut_in}
 
 -- so it is of each of the lines
 abbrev pub AllNumbered : List Line → Type 0

@@ -7,12 +7,12 @@ use Rattle.xh_model.specs.Store.{Store, IsLawful}
 use Rattle.xh_core.specs.declared.block.Block.{Block}
 use Rattle.xh_core.specs.declared.refused.Refused.{Refused}
 use Rattle.xh_core.specs.declared.refused.Refused.TheVariants.{NoProcess, Ended}
-use Rattle.xh_serial.specs.Machine.{Machine, status_of, IsWhole}
+use Rattle.xh_serial.specs.Machine.{Machine, status_at, IsWhole}
 use Rattle.xh_core.specs.Statuses.{is_vacant, is_running}
 use Rattle.xh_serial.specs.Commands.{Answer, answered, IsRunning}
 use Rattle.xh_core.specs.Refusing.{first_refusal}
 use Rattle.xh_core.specs.Space.{low_end, high_end, claimed_once, pair_tests}
-use Rattle.xh_serial.specs.ChannelCommands.{ends_at, channel_heads, open_tests, wire_heads, open_channel, wired, wire_channel}
+use Rattle.xh_serial.specs.ChannelCommands.{ends_at, channel_heads, open_refusals, wire_heads, open_channel, wired, wire_channel}
 use Rattle.xh_core.specs.Pairing.{Paired, moved}
 use Rattle.xh_serial.proofs.Machines.{current_range}
 use Rattle.xh_core.proofs.Firsts.{first_append, first_later}
@@ -54,9 +54,9 @@ same_one p one two = rw (eq-eqb p p refl) refl
 pub same_process : (p a : ℕ) (contract : Option (List Row)) (m : Machine) → wire_channel p p a contract m ≡ open_channel p a contract m
 unfolding wire_channel open_channel
 same_process p a contract m =
-    let tests = tests_twice (is_vacant (status_of m p)) (not (is_running (status_of m p))) (Some NoProcess) (Some Ended) (first_refusal (channel_heads m a ++ pair_tests p m.store a)) in
+    let tests = tests_twice (is_vacant (status_at m p)) (not (is_running (status_at m p))) (Some NoProcess) (Some Ended) (first_refusal (channel_heads m a ++ pair_tests p m.store a)) in
     ap (λ (o : Option Refused). answered o m (wire_answer p p (low_end m.store a) (high_end p m.store a) contract m)) tests
-    ∙ ap (λ (n : Machine). answered (first_refusal (open_tests m p a)) m (Ok (ends_at (low_end m.store a) (high_end p m.store a)), n)) (same_one p _ _)
+    ∙ ap (λ (n : Machine). answered (first_refusal (open_refusals m p a)) m (Ok (ends_at (low_end m.store a) (high_end p m.store a)), n)) (same_one p _ _)
 
 -- ---- what the two records are
 

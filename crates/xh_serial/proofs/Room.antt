@@ -30,7 +30,7 @@ few n rs one in_range =
     let l = sum_by-le (λ q. times q rs) 1 (range_with_len 0 n) (λ k d i. one _) in
     let e = length-range_with_len 0 n in omega arith
 
-at_most_one : (b : Bool) → cond {A = ℕ} b 1 0 ≤ 1
+pub at_most_one : (b : Bool) → cond {A = ℕ} b 1 0 ≤ 1
 at_most_one true = omega arith
 at_most_one false = omega arith
 

@@ -1,34 +1,18 @@
 -- A change of a status alone.
-use Rattle.std.proofs.Common.{◌≡◌, ℕ, ◌/◌, ◌%◌, ◌<◌, ◌≤◌, List, [], ◌∷◌, ◌++◌, length, take, drop, Bool, true, false, cond, refl, sym, ap, ◌∙◌, subst, arith, inl, inr}
-use Rattle.std.specs.Prelude.{◌==◌, ◌||◌, nat_le, nat_lt, slice_index_or}
+use Rattle.std.proofs.Common.{◌≡◌, ℕ, ◌/◌, ◌%◌, ◌<◌, ◌≤◌, List, [], ◌∷◌, ◌++◌, length, take, drop, true, cond, refl, sym, ap, ◌∙◌, subst, arith, inl, inr}
+use Rattle.std.specs.Prelude.{◌==◌, slice_index_or}
 use Rattle.std.specs.List.{flat_map}
 use Rattle.std.proofs.lemmas.Bool.{cases_eq, false≢true}
-use Rattle.std.proofs.lemmas.List.{length-set}
 use Rattle.xh_model.specs.declared.event.Holder.{Holder}
 use Rattle.xh_model.specs.declared.event.Holder.TheVariants.{Process, Direction}
 use Rattle.xh_model.specs.Store.{holds}
 use Rattle.xh_serial.specs.declared.place.Place.{Place}
 use Rattle.xh_core.specs.declared.status.Status.{Status}
-use Rattle.xh_core.specs.declared.status.Status.TheVariants.{Vacant, Ending, Ended}
-use Rattle.xh_serial.specs.Machine.{Machine, blocks, arriving, listed, place, is_current, no_place, status_of, with_status, IsWhole}
+use Rattle.xh_core.specs.declared.status.Status.TheVariants.{Ending, Ended}
+use Rattle.xh_serial.specs.Machine.{Machine, blocks, arriving, listed, place, is_current, no_place, with_status, IsWhole}
 use Rattle.xh_core.specs.Several.{times}
-use Rattle.xh_core.specs.Statuses.{is_running}
-use Rattle.xh_serial.specs.Commands.{IsRunning}
 use Rattle.xh_serial.specs.Sweeping.{Sweeps}
-use Rattle.xh_serial.proofs.Machines.{place_here, place_else, place_there, current_blocks, IsPlace, generations_set, idle_set}
-
--- ---- what a status tells
-
-abbrev status_by : Bool → Bool → Status → Status
-status_by none latest s = cond none Vacant (cond latest s Ended)
-
-running_by : (none latest : Bool) (s : Status) → is_running (status_by none latest s) ≡ true → (latest ≡ true) × (is_running s ≡ true)
-running_by true latest s h = absurd (false≢true h)
-running_by false false s h = absurd (false≢true h)
-running_by false true s h = (refl, h)
-
-pub runs : (m : Machine) (p : ℕ) → is_running (status_of m p) ≡ true → IsRunning m p
-runs m p h = running_by (nat_le 4096 p || nat_lt (place m p).generation (p / 32)) (is_current m p) (place m p).status h
+use Rattle.xh_serial.proofs.Machines.{place_here, place_else, place_there, current_blocks, IsPlace, places_set}
 
 -- ---- another status
 
@@ -58,27 +42,20 @@ status_whole m p s w is = record {
   ends = λ r d e. let was = w.ends r d e in record { held = was.held; opened = was.opened; alone = was.alone };
   buffers = w.buffers;
   bytes = w.bytes;
-  places = length-set m.places (p % 32) (record (place m p) { status = s }) ∙ w.places;
-  generations = generations_set m p (record (place m p) { status = s }) w is;
-  idle = idle_set m p (record (place m p) { status = s }) w is;
-  lines = w.lines;
-  fresh = w.fresh;
-  numbered = w.numbered;
-  contracts = w.contracts;
-  wired = w.wired;
-  opened = w.opened;
+  places = places_set m.places p (record (place m p) { status = s }) w.places is;
+  channels = w.channels;
   deep = w.deep;
 }
 
 pub ending_whole : (m : Machine) (p : ℕ) → IsWhole m → IsWhole (with_status p Ending m)
-ending_whole m p w = status_whole m p Ending w (record { generation = w.generations p; idle = λ h. absurd (false≢true h) })
+ending_whole m p w = status_whole m p Ending w (record { generation = w.places.generations p; idle = λ h. absurd (false≢true h) })
 
 no_items : (xs : List ℕ) → length xs ≡ 0 → xs ≡ []
 no_items [] h = refl
 no_items (x ∷ xs) h = absurd (omega (arith, h))
 
 pub ended_whole : (m : Machine) (p : ℕ) → IsWhole m → is_current m p ≡ true → length (blocks m p) ≡ 0 → IsWhole (with_status p Ended m)
-ended_whole m p w c h = status_whole m p Ended w (record { generation = w.generations p; idle = λ _. no_items (place m p).blocks.items (ap length (sym (current_blocks m p c)) ∙ h) })
+ended_whole m p w c h = status_whole m p Ended w (record { generation = w.places.generations p; idle = λ _. no_items (place m p).blocks.items (ap length (sym (current_blocks m p c)) ∙ h) })
 
 -- ---- the bound of a sweep hangs on no status
 

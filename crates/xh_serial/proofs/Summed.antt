@@ -80,7 +80,7 @@ latest_below : (m : Machine) (k : ℕ) → IsWhole m → k < 32 → latest m k <
 unfolding latest
 latest_below m k w l =
     let small : k % 32 ≡ k = omega (arith, l) in
-    let g : (slice_index_or m.places k no_place).generation ≤ 127 = rw small at (w.generations k) in omega (arith, g, l)
+    let g : (slice_index_or m.places k no_place).generation < 128 = rw small at (w.places.generations k) in omega (arith, g, l)
 
 process_bytes : (m : Machine) (a b : ℕ) → a ≡ 4096 → b ≡ 32 → IsWhole m → sum_by (λ p. total m.store (blocks m p)) (range_with_len 0 a) ≡ sum_by (λ place. total m.store place.blocks.items) m.places
 process_bytes m a b e f w =
@@ -92,7 +92,7 @@ process_bytes m a b e f w =
     sum_same (λ p. total m.store (blocks m p)) (λ p. sum_by (λ k. cond (latest m k == p) (place_bytes m k) 0) (range_with_len 0 b)) (range_with_len 0 a) split
     ∙ (exchanged (λ p k. cond (latest m k == p) (place_bytes m k) 0) (range_with_len 0 a) (range_with_len 0 b)
     ∙ (same_range (λ k. sum_by (λ p. cond (latest m k == p) (place_bytes m k) 0) (range_with_len 0 a)) (place_bytes m) 0 b joined
-    ∙ indexed (λ (place : Place). total m.store place.blocks.items) m.places no_place b (w.places ∙ sym f)))
+    ∙ indexed (λ (place : Place). total m.store place.blocks.items) m.places no_place b (w.places.long ∙ sym f)))
 
 -- ---- all holders
 
@@ -111,7 +111,7 @@ holder_bytes m a b e f w =
     let directions : sum_by (bytes_of m.store) (map_directions b) ≡ sum_by (λ line. total m.store (carried line.waiting.items)) m.lines =
     sum_mapped (bytes_of m.store) (λ d. Direction d) (range_with_len 0 b)
     ∙ (sum_same (λ d. bytes_of m.store (Direction d)) (λ d. total m.store (on_way m d)) (range_with_len 0 b) (λ d. listed_bytes m (Direction d) w)
-    ∙ indexed (λ (line : Line). total m.store (carried line.waiting.items)) m.lines no_line b (w.lines ∙ sym f)) in
+    ∙ indexed (λ (line : Line). total m.store (carried line.waiting.items)) m.lines no_line b (w.channels.long ∙ sym f)) in
     sum_by-append (bytes_of m.store) (map_processes a) (map_directions b) ∙ rw (processes, directions) refl
 
 all_are : (f : Holder → ℕ) → sum_by f all_holders ≡ sum_by f (holders 4096 128)

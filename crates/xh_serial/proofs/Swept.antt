@@ -151,7 +151,7 @@ shut_at m (Some d) e l = elim (cases_eq e d) [
 ]
 
 pub end_range : (m : Machine) (r : ℕ) → IsWhole m → (d : ℕ) → end_of m r ≡ Some d → d < length m.lines
-end_range m r w d e = let h = (w.ends r d e).opened in let o = w.opened in let n = w.lines in omega (arith, h, o, n)
+end_range m r w d e = let h = (w.ends r d e).opened in let o = w.channels.few in let n = w.channels.long in omega (arith, h, o, n)
 
 pub way : (m : Machine) (p from e : ℕ) → IsWhole m → on_way (sweep_one p from m) e ≡ cond (is_at e (end_of m (entry m p from))) [] (on_way m e)
 unfolding sweep_one

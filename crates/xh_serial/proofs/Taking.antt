@@ -28,8 +28,7 @@ use Rattle.xh_serial.proofs.Machines.{
   current_range,
   current_blocks,
   busy_place,
-  generations_set,
-  idle_set,
+  places_set,
   way_here,
   way_else,
   peer_ne,
@@ -119,7 +118,7 @@ module _ (m : Machine) (p e : ℕ) (w : IsWhole m) (t : MayTake m p e (toward m 
       (λ q. let s = split q in let o : times q (on_way m d) ≡ cond {A = ℕ} (holds m.store (Direction d) q) 1 0 = w.once (Direction d) q in omega (arith, s, o))
 
   there : d < length m.lines
-  there = let a = w.lines in let b = w.opened in let c = t.within in omega (arith, a, b, c)
+  there = let a = w.channels.long in let b = w.channels.few in let c = t.within in omega (arith, a, b, c)
 
   others : (k : Holder) → k ≢ Direction d → k ≢ Process p → (q : ℕ) → times q (listed n k) ≡ times q (listed m k)
   unfolding taken
@@ -144,14 +143,17 @@ module _ (m : Machine) (p e : ℕ) (w : IsWhole m) (t : MayTake m p e (toward m 
     many = accepted.many;
     ends = refl;
     buffers = refl;
-    places = length-set m.places (p % 32) x;
-    generations = generations_set m p x w (busy_place m p (blocks m p ++ came) w (runs_busy m p t.runs));
-    idle = idle_set m p x w (busy_place m p (blocks m p ++ came) w (runs_busy m p t.runs));
-    lines = length-set m.lines d y;
-    fresh = λ k l. get_or-set_other m.lines d k y no_line (λ s. let c = t.within in omega (arith, c, l, s)) ∙ w.fresh k l;
-    contracts = refl;
-    numbered = set_numbered m.lines d y there w.numbered (taken_numbered (contract_of m.contracts d) (1 - d % 2) (front m e).tag (line m d) t.some (w.numbered d));
-    wired = wired_pair m.contracts m.lines (slice_set m.lines d y) d w.wired (λ rows is valid pair. wired rows is pair) (λ k h. get_or-set_other m.lines d k y no_line (half_apart d k h));
+    places = places_set m.places p x w.places (busy_place m p (blocks m p ++ came) w (runs_busy m p t.runs));
+    channels = record {
+      long = length-set m.lines d y ∙ w.channels.long;
+      fresh = λ k l. get_or-set_other m.lines d k y no_line (λ s. let c = t.within in omega (arith, c, l, s)) ∙ w.channels.fresh k l;
+      numbered = set_numbered m.lines d y there w.channels.numbered
+          (taken_numbered (contract_of m.contracts d) (1 - d % 2) (front m e).tag (line m d) t.some (w.channels.numbered d));
+      contracts_long = w.channels.contracts_long;
+      wired = wired_pair m.contracts m.lines (slice_set m.lines d y) d w.channels.wired (λ rows is valid pair. wired rows is pair)
+          (λ k h. get_or-set_other m.lines d k y no_line (half_apart d k h));
+      few = w.channels.few;
+    };
     opened = refl;
     depth = refl;
   }
@@ -163,7 +165,7 @@ module _ (m : Machine) (p e : ℕ) (w : IsWhole m) (t : MayTake m p e (toward m 
   front_free : (o : Option (List Row)) → contract_of m.contracts d ≡ o → is_banned o (1 - d % 2) (line m d).state (front m e).tag ≡ false
   front_free None is = refl
   front_free (Some rows) is =
-      let pair : IsPair rows m.lines d = pair_of rows m.lines d (w.wired (d / 2) rows is).1 in
+      let pair : IsPair rows m.lines d = pair_of rows m.lines d (w.channels.wired (d / 2) rows is).1 in
       let rest : List ℕ = tags_of (remove (waiting m d) 0) in
       let split : tags_of (waiting m d) ≡ (front m e).tag ∷ rest = front_tags (waiting m d) t.some in
       let s = take_step rows (d % 2) (line m d).state (front m e).tag (state_in m.lines (peer d)) rest (tags_in m.lines (peer d))

@@ -1,11 +1,11 @@
 -- The two ends of each channel with a contract stay in step, whichever of them puts, takes or is drained.
-use Rattle.std.proofs.Common.{◌≡◌, ◌≢◌, ℕ, ◌+◌, ◌-◌, ◌*◌, ◌/◌, ◌%◌, ◌<◌, List, [], ◌∷◌, length, refl, sym, ap, ◌∙◌, subst, arith, ◌⊎◌, inl, inr, get_or-set_same, get_or-set_other}
+use Rattle.std.proofs.Common.{◌≡◌, ◌≢◌, ℕ, ◌+◌, ◌-◌, ◌*◌, ◌/◌, ◌%◌, ◌<◌, List, [], ◌∷◌, length, refl, sym, ap, ◌∙◌, subst, arith, inl, inr, get_or-set_same, get_or-set_other}
 use Rattle.std.specs.Prelude.{Option, Some, None, slice_index_or}
 use Rattle.std.proofs.lemmas.Bool.{cases_eq, eq-eqb, ne_eqb}
 use Rattle.std.proofs.lemmas.Option.{none-some, same_Some}
 use Rattle.xh_model.specs.declared.row.Row.{Row}
 use Rattle.xh_model.specs.Rows.{allowed, walk, IsValid, InStep}
-use Rattle.xh_model.proofs.InStep.{swap_step, drain_step, front_step}
+use Rattle.xh_model.proofs.InStep.{cases_Option, swap_step, drain_step, front_step}
 use Rattle.xh_serial.specs.declared.line.Line.{Line}
 use Rattle.xh_serial.specs.Machine.{Machine, line, no_line, peer, tags_of, contract_of, drained_state, AreWired}
 use Rattle.xh_serial.specs.MessageCommands.{AreOrderly}
@@ -75,10 +75,6 @@ wired_pair contracts lines new d wired turn others c rows is = let was = wired c
     ]
 
 -- ---- an end is drained
-
-cases_Option : (o : Option ℕ) → (o ≡ None) ⊎ ((n : ℕ) × (o ≡ Some n))
-cases_Option None = inl refl
-cases_Option (Some n) = inr (n, refl)
 
 drained_walk : (rows : List Row) (side state : ℕ) (tags : List ℕ) (end : ℕ) → walk rows side state tags ≡ Some end → drained_state (Some rows) side state tags ≡ end
 drained_walk rows side state [] end h = same_Some _ _ h

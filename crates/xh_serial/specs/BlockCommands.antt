@@ -1,29 +1,26 @@
 -- The commands alloc, split, read, write and free.
-use Rattle.std.specs.Prelude.{ℕ, ◌+◌, ◌-◌, ◌/◌, ◌==◌, ◌||◌, Bool, List, [], ◌∷◌}
-use Rattle.std.specs.Prelude.{◌++◌, is_none, length, take, drop, replicate, nat_le, nat_lt, slice_set, Ok}
+use Rattle.std.specs.Prelude.{ℕ, ◌+◌, ◌-◌, ◌/◌, ◌==◌, Bool, List, [], ◌∷◌, ◌++◌, is_none, length, take, drop, replicate, slice_set, Ok}
 use Rattle.std.specs.List.{remove, position_or_len}
 use Rattle.xh_model.specs.declared.limits.TheConstants.{MAX_RECORDS}
 use Rattle.xh_model.specs.declared.event.Event.TheVariants.{Claim, Carve, Cut, GiveBack, Vacate}
 use Rattle.xh_model.specs.Store.{arena_at, len, after}
 use Rattle.xh_core.specs.declared.block.Block.{Block}
-use Rattle.xh_core.specs.declared.refused.Refused.TheVariants.{OutOfMemory, BadSize, NoArena, NoRecord, BadCut, BadRange}
-use Rattle.xh_serial.specs.Machine.{Machine, buffer, blocks, with_list}
-use Rattle.xh_serial.specs.Commands.{Answer, answered, start, data_tests}
+use Rattle.xh_core.specs.declared.refused.Refused.TheVariants.{OutOfMemory, NoRecord}
+use Rattle.xh_core.specs.Calls.{start, alloc_tests, data_tests, split_tests, range_tests}
 use Rattle.xh_core.specs.Refusing.{Tests, first_refusal}
-use Rattle.xh_core.specs.Space.{free_record, lowest, rounded, is_bad_cut, space_tests}
+use Rattle.xh_core.specs.Space.{free_record, lowest, rounded, space_tests}
+use Rattle.xh_serial.specs.Machine.{Machine, buffer, blocks, status_at, with_list}
+use Rattle.xh_serial.specs.Commands.{Answer, answered, found}
 
 -- ---- alloc
 
 -- what is tested before memory is taken
 abbrev pub alloc_heads : Machine → ℕ → ℕ → ℕ → Tests
-alloc_heads m p n a = start m p
-    ++ (nat_le (length m.store.arenas) a, NoArena)
-    ∷ ((n == 0) || nat_lt (length (arena_at m.store a).cover) n, BadSize)
-    ∷ (is_none (free_record m.store a), NoRecord) ∷ []
+alloc_heads m p n a = start (status_at m p) ++ alloc_tests a (length m.store.arenas) n (length (arena_at m.store a).cover) ++ (is_none (free_record m.store a), NoRecord) ∷ []
 
 -- The first argument says whether a growth of memory is refused at that place.
-abbrev pub alloc_tests : Bool → Machine → ℕ → ℕ → ℕ → Tests
-alloc_tests is_refused m p n a = alloc_heads m p n a ++ (is_refused, OutOfMemory) ∷ space_tests m.store a (rounded n)
+abbrev pub alloc_refusals : Bool → Machine → ℕ → ℕ → ℕ → Tests
+alloc_refusals is_refused m p n a = alloc_heads m p n a ++ (is_refused, OutOfMemory) ∷ space_tests m.store a (rounded n)
 
 -- a free record is claimed and carved; its bytes are zeros, and it goes to the end of the list
 unfoldable pub allocated : ℕ → ℕ → ℕ → Machine → Machine
@@ -33,18 +30,16 @@ allocated p r n m = with_list p (blocks m p ++ r ∷ []) (record m {
 })
 
 unfoldable pub alloc : Bool → ℕ → ℕ → ℕ → Machine → Answer Block
-alloc is_refused p n a m = answered (first_refusal (alloc_tests is_refused m p n a)) m
+alloc is_refused p n a m = answered (first_refusal (alloc_refusals is_refused m p n a)) m
     (Ok (record { rec = lowest m.store a; len = rounded n }), allocated p (lowest m.store a) (rounded n) m)
 
 -- ---- split
 
 abbrev pub split_heads : Machine → ℕ → ℕ → ℕ → Tests
-split_heads m p r k = start m p ++ data_tests m p r
-    ++ (is_bad_cut k (len m.store r), BadCut)
-    ∷ (is_none (free_record m.store (r / MAX_RECORDS)), NoRecord) ∷ []
+split_heads m p r k = start (status_at m p) ++ split_tests (found m p r) k ++ (is_none (free_record m.store (r / MAX_RECORDS)), NoRecord) ∷ []
 
-abbrev pub split_tests : Bool → Machine → ℕ → ℕ → ℕ → Tests
-split_tests is_refused m p r k = split_heads m p r k ++ (is_refused, OutOfMemory) ∷ []
+abbrev pub split_refusals : Bool → Machine → ℕ → ℕ → ℕ → Tests
+split_refusals is_refused m p r k = split_heads m p r k ++ (is_refused, OutOfMemory) ∷ []
 
 -- a free record t is claimed and gets what is past the first k bytes of r; the buffer is cut in two
 unfoldable pub parted : ℕ → ℕ → ℕ → ℕ → Machine → Machine
@@ -56,30 +51,29 @@ parted p r t k m = with_list p (blocks m p ++ t ∷ []) (record m {
 unfoldable pub split : Bool → ℕ → ℕ → ℕ → Machine → Answer (Block × Block)
 split is_refused p r k m =
     let t : ℕ = lowest m.store (r / MAX_RECORDS) in
-    answered (first_refusal (split_tests is_refused m p r k)) m
+    answered (first_refusal (split_refusals is_refused m p r k)) m
     (Ok (record { rec = r; len = k }, record { rec = t; len = len m.store r - k }), parted p r t k m)
 
 -- ---- read and write
 
--- n bytes from `at` on are not all in the block
-abbrev pub range_tests : Machine → ℕ → ℕ → ℕ → ℕ → Tests
-range_tests m p r at n = start m p ++ data_tests m p r ++ (nat_lt (len m.store r) (at + n), BadRange) ∷ []
+abbrev pub range_refusals : Machine → ℕ → ℕ → ℕ → ℕ → Tests
+range_refusals m p r at n = start (status_at m p) ++ range_tests (found m p r) at n
 
 unfoldable pub read : ℕ → ℕ → ℕ → ℕ → Machine → Answer (List ℕ)
-read p r at n m = answered (first_refusal (range_tests m p r at n)) m (Ok (take n (drop at (buffer m r))), m)
+read p r at n m = answered (first_refusal (range_refusals m p r at n)) m (Ok (take n (drop at (buffer m r))), m)
 
 -- these bytes stand in the place of as many from `at` on
 abbrev pub overwritten : ℕ → List ℕ → List ℕ → List ℕ
 overwritten at bytes old = take at old ++ (bytes ++ drop (at + length bytes) old)
 
 unfoldable pub write : ℕ → ℕ → ℕ → List ℕ → Machine → Answer (Unit {0})
-write p r at bytes m = answered (first_refusal (range_tests m p r at (length bytes))) m
+write p r at bytes m = answered (first_refusal (range_refusals m p r at (length bytes))) m
     (Ok tt, record m { buffers = slice_set m.buffers r (overwritten at bytes (buffer m r)) })
 
 -- ---- free
 
-abbrev pub free_tests : Machine → ℕ → ℕ → Tests
-free_tests m p r = start m p ++ data_tests m p r
+abbrev pub free_refusals : Machine → ℕ → ℕ → Tests
+free_refusals m p r = start (status_at m p) ++ data_tests (found m p r)
 
 -- the bytes of a block are given back, its record is vacated, and it leaves the list
 unfoldable pub freed_block : ℕ → ℕ → Machine → Machine
@@ -90,4 +84,4 @@ freed_block p r m = with_list p (remove (blocks m p) (position_or_len (λ q. q =
 
 -- the length of the block
 unfoldable pub free : ℕ → ℕ → Machine → Answer ℕ
-free p r m = answered (first_refusal (free_tests m p r)) m (Ok (len m.store r), freed_block p r m)
+free p r m = answered (first_refusal (free_refusals m p r)) m (Ok (len m.store r), freed_block p r m)

@@ -1,31 +1,30 @@
 -- The commands open and wire, with a contract or without.
-use Rattle.std.specs.Prelude.{ℕ, ◌+◌, ◌*◌, ◌==◌, false, cond, List, [], ◌∷◌, ◌++◌, Option, Some, None, length, nat_le, slice_set, Ok}
-use Rattle.xh_model.specs.declared.limits.TheConstants.{CHANNELS, END_BYTES}
+use Rattle.std.specs.Prelude.{ℕ, ◌+◌, ◌*◌, ◌==◌, false, cond, List, [], ◌∷◌, ◌++◌, Option, Some, None, length, slice_set, Ok}
+use Rattle.xh_model.specs.declared.limits.TheConstants.{END_BYTES}
 use Rattle.xh_model.specs.declared.event.Event.TheVariants.{Claim, Carve, Cut}
 use Rattle.xh_model.specs.declared.row.Row.{Row}
 use Rattle.xh_model.specs.Rows.{row_at}
 use Rattle.xh_model.specs.Store.{after}
 use Rattle.xh_core.specs.declared.block.Block.{Block}
 use Rattle.xh_serial.specs.declared.line.Line.{Line}
-use Rattle.xh_core.specs.declared.refused.Refused.TheVariants.{NoArena, NoChannel}
-use Rattle.xh_serial.specs.Machine.{Machine, blocks, with_list}
-use Rattle.xh_serial.specs.Commands.{Answer, answered, start}
+use Rattle.xh_serial.specs.Machine.{Machine, blocks, status_at, with_list}
+use Rattle.xh_serial.specs.Commands.{Answer, answered}
+use Rattle.xh_core.specs.Calls.{start, channel_tests}
 use Rattle.xh_core.specs.Refusing.{Tests, first_refusal}
 use Rattle.xh_core.specs.Several.{handed}
 use Rattle.xh_core.specs.Space.{low_end, high_end, pair_tests}
 
--- no arena, or no channel
 abbrev pub channel_heads : Machine → ℕ → Tests
-channel_heads m a = (nat_le (length m.store.arenas) a, NoArena) ∷ (nat_le CHANNELS m.opened, NoChannel) ∷ []
+channel_heads m a = channel_tests a (length m.store.arenas) m.opened
 
-abbrev pub open_tests : Machine → ℕ → ℕ → Tests
-open_tests m p a = start m p ++ channel_heads m a ++ pair_tests p m.store a
+abbrev pub open_refusals : Machine → ℕ → ℕ → Tests
+open_refusals m p a = start (status_at m p) ++ channel_heads m a ++ pair_tests p m.store a
 
 abbrev pub wire_heads : Machine → ℕ → ℕ → ℕ → Tests
-wire_heads m p q a = start m p ++ start m q ++ channel_heads m a
+wire_heads m p q a = start (status_at m p) ++ start (status_at m q) ++ channel_heads m a
 
-abbrev pub wire_tests : Machine → ℕ → ℕ → ℕ → Tests
-wire_tests m p q a = wire_heads m p q a ++ pair_tests p m.store a
+abbrev pub wire_refusals : Machine → ℕ → ℕ → ℕ → Tests
+wire_refusals m p q a = wire_heads m p q a ++ pair_tests p m.store a
 
 -- the state in which both ends begin
 abbrev pub first_state : Option (List Row) → ℕ
@@ -55,7 +54,7 @@ unfoldable pub open_channel : ℕ → ℕ → Option (List Row) → Machine → 
 open_channel p a contract m =
     let r : ℕ = low_end m.store a in
     let t : ℕ = high_end p m.store a in
-    answered (first_refusal (open_tests m p a)) m
+    answered (first_refusal (open_refusals m p a)) m
     (Ok (ends_at r t), with_list p (blocks m p ++ r ∷ t ∷ []) (opened p r t contract m))
 
 -- a channel is opened, and its side 1 is handed to q; where p and q are one process it stays
@@ -69,4 +68,4 @@ unfoldable pub wire_channel : ℕ → ℕ → ℕ → Option (List Row) → Mach
 wire_channel p q a contract m =
     let r : ℕ = low_end m.store a in
     let t : ℕ = high_end p m.store a in
-    answered (first_refusal (wire_tests m p q a)) m (Ok (ends_at r t), wired p q r t contract m)
+    answered (first_refusal (wire_refusals m p q a)) m (Ok (ends_at r t), wired p q r t contract m)

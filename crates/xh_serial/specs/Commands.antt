@@ -1,13 +1,14 @@
--- What the commands share: what each answers, and the tests of processes and blocks.
-use Rattle.std.specs.Prelude.{◌≡◌, ℕ, true, not, [], ◌∷◌, Option, Some, None, is_some, is_none, Result, Err, unwrap_or}
+-- What the commands share: what each answers, and what the tables of refusals are over.
+use Rattle.std.specs.Prelude.{◌≡◌, ℕ, true, cond, Option, Some, None, Result, Err, unwrap_or}
 use Rattle.xh_model.specs.declared.limits.TheConstants.{DIRECTIONS}
 use Rattle.xh_model.specs.declared.event.Holder.TheVariants.{Process}
-use Rattle.xh_model.specs.Store.{holds}
+use Rattle.xh_model.specs.Store.{holds, len}
+use Rattle.xh_core.specs.declared.header.Header.{Header}
+use Rattle.xh_core.specs.declared.header.Kind.{Kind}
+use Rattle.xh_core.specs.declared.header.Kind.TheVariants.{Data, End}
 use Rattle.xh_core.specs.declared.refused.Refused.{Refused}
-use Rattle.xh_core.specs.declared.refused.Refused.TheVariants.{NoProcess, Ended, NotOwned, NotData, NotEndpoint}
-use Rattle.xh_core.specs.Statuses.{is_vacant, is_running, is_ended}
-use Rattle.xh_core.specs.Refusing.{Tests}
-use Rattle.xh_serial.specs.Machine.{Machine, end_of, place, is_current, status_of}
+use Rattle.xh_core.specs.Statuses.{is_running}
+use Rattle.xh_serial.specs.Machine.{Machine, end_of, place, is_current}
 
 -- what a command answers, and the machine after it
 abbrev pub Answer : Type 0 → Type 0
@@ -22,21 +23,14 @@ answered (Some refused) m done = (Err refused, m)
 abbrev pub IsRunning : Machine → ℕ → Type 0
 IsRunning m p = (is_current m p ≡ true) × (is_running (place m p).status ≡ true)
 
--- the process is none, or does not run
-abbrev pub start : Machine → ℕ → Tests
-start m p = (is_vacant (status_of m p), NoProcess) ∷ (not (is_running (status_of m p)), Ended) ∷ []
+-- a record with a direction toward it is an endpoint
+abbrev pub kind_of : Option ℕ → Kind
+kind_of None = Data
+kind_of (Some d) = End
 
--- the process is none, or has ended
-abbrev pub stop_tests : Machine → ℕ → Tests
-stop_tests m p = (is_vacant (status_of m p), NoProcess) ∷ (is_ended (status_of m p), Ended) ∷ []
-
--- the process does not hold the record, or it is an endpoint
-abbrev pub data_tests : Machine → ℕ → ℕ → Tests
-data_tests m p r = (not (holds m.store (Process p) r), NotOwned) ∷ (is_some (end_of m r), NotData) ∷ []
-
--- the process does not hold the record, or it is no endpoint
-abbrev pub end_tests : Machine → ℕ → ℕ → Tests
-end_tests m p e = (not (holds m.store (Process p) e), NotOwned) ∷ (is_none (end_of m e), NotEndpoint) ∷ []
+-- what stands at a record: the length and kind of the block that the process holds there
+abbrev pub found : Machine → ℕ → ℕ → Option Header
+found m p r = cond (holds m.store (Process p) r) (Some (record { len = len m.store r; kind = kind_of (end_of m r) })) None
 
 -- the direction toward the endpoint e
 abbrev pub toward : Machine → ℕ → ℕ

@@ -1,18 +1,18 @@
 -- The commands close, exit and kill.
-use Rattle.std.specs.Prelude.{ℕ, ◌-◌, ◌==◌, cond, List, [], ◌∷◌, ◌++◌, length, Ok, Err}
+use Rattle.std.specs.Prelude.{ℕ, ◌-◌, ◌==◌, cond, List, [], ◌∷◌, ◌++◌, length, Ok}
 use Rattle.std.specs.List.{remove, position_or_len}
 use Rattle.xh_model.specs.Store.{all_out}
 use Rattle.xh_model.specs.declared.limits.TheConstants.{MAX_BUDGET}
-use Rattle.xh_core.specs.declared.refused.Refused.TheVariants.{Unfinished}
 use Rattle.xh_core.specs.declared.status.Status.TheVariants.{Ending, Ended}
-use Rattle.xh_serial.specs.Machine.{Machine, blocks, with_list, with_status}
-use Rattle.xh_serial.specs.Commands.{Answer, answered, start, stop_tests, end_tests}
+use Rattle.xh_core.specs.Calls.{start, stop, reclaimed, end_tests}
 use Rattle.xh_core.specs.Refusing.{Tests, first_refusal}
+use Rattle.xh_serial.specs.Machine.{Machine, blocks, status_at, with_list, with_status}
+use Rattle.xh_serial.specs.Commands.{Answer, answered, found}
 use Rattle.xh_serial.specs.Sweeping.{sweep}
 
 -- the bytes that were given back from m to n, where nothing of the list is left, else how much is
-abbrev pub reclaimed : ℕ → Machine → Machine → Answer ℕ
-reclaimed p m n = (cond (length (blocks n p) == 0) (Ok (all_out m.store - all_out n.store)) (Err (Unfinished (length (blocks n p)))), n)
+abbrev pub stop_answer : ℕ → Machine → Machine → Answer ℕ
+stop_answer p m n = (reclaimed (all_out m.store - all_out n.store) (length (blocks n p)), n)
 
 -- the process is Ending and its list is swept; where nothing is left it is Ended
 unfoldable pub stopped : ℕ → ℕ → Machine → Machine
@@ -22,14 +22,14 @@ stopped p budget m =
 
 -- p ends itself: the bytes that this call reclaimed
 unfoldable pub exit : ℕ → ℕ → Machine → Answer ℕ
-exit p budget m = answered (first_refusal (stop_tests m p)) m (reclaimed p m (stopped p budget m))
+exit p budget m = answered (first_refusal (stop (status_at m p))) m (stop_answer p m (stopped p budget m))
 
 -- a running process ends another, or itself
-abbrev pub kill_tests : Machine → ℕ → ℕ → Tests
-kill_tests m by victim = start m by ++ stop_tests m victim
+abbrev pub kill_refusals : Machine → ℕ → ℕ → Tests
+kill_refusals m by victim = start (status_at m by) ++ stop (status_at m victim)
 
 unfoldable pub kill : ℕ → ℕ → ℕ → Machine → Answer ℕ
-kill by victim budget m = answered (first_refusal (kill_tests m by victim)) m (reclaimed victim m (stopped victim budget m))
+kill by victim budget m = answered (first_refusal (kill_refusals m by victim)) m (stop_answer victim m (stopped victim budget m))
 
 -- the list with the record e at its end
 abbrev pub last : ℕ → List ℕ → List ℕ
@@ -42,9 +42,9 @@ moved_last p e m = with_list p (last e (blocks m p)) m
 unfoldable pub closed : ℕ → ℕ → Machine → Machine
 closed p e m = sweep p (length (blocks m p) - 1) MAX_BUDGET (moved_last p e m)
 
-abbrev pub close_tests : Machine → ℕ → ℕ → Tests
-close_tests m p e = start m p ++ end_tests m p e
+abbrev pub close_refusals : Machine → ℕ → ℕ → Tests
+close_refusals m p e = start (status_at m p) ++ end_tests (found m p e)
 
 -- an end of a channel is closed: the bytes reclaimed
 unfoldable pub close : ℕ → ℕ → Machine → Answer ℕ
-close p e m = answered (first_refusal (close_tests m p e)) m (Ok (all_out m.store - all_out (closed p e m).store), closed p e m)
+close p e m = answered (first_refusal (close_refusals m p e)) m (Ok (all_out m.store - all_out (closed p e m).store), closed p e m)

@@ -1,8 +1,8 @@
 -- The serial machine as a value, and what always holds of it.
-use Rattle.std.specs.Prelude.{◌≡◌, ℕ, ◌+◌, ◌*◌, ◌/◌, ◌%◌, ◌-◌, ◌<◌, ◌≤◌, ◌==◌, ◌||◌, Bool, true, false}
-use Rattle.std.specs.Prelude.{cond, List, [], ◌∷◌, Option, Some, None, is_some, length, map, nat_le, nat_lt, slice_set, slice_index_or, unwrap_or}
+use Rattle.std.specs.Prelude.{◌≡◌, ℕ, ◌+◌, ◌*◌, ◌/◌, ◌%◌, ◌-◌, ◌<◌, ◌≤◌, ◌==◌, Bool, true, false}
+use Rattle.std.specs.Prelude.{cond, List, [], ◌∷◌, Option, Some, None, is_some, length, map, slice_set, slice_index_or, unwrap_or}
 use Rattle.std.specs.List.{flat_map}
-use Rattle.xh_model.specs.declared.limits.TheConstants.{CHANNELS, DIRECTIONS, MAX_DEPTH, PLACES, PROCESSES}
+use Rattle.xh_model.specs.declared.limits.TheConstants.{CHANNELS, DIRECTIONS, GENERATIONS, MAX_DEPTH, PLACES}
 use Rattle.xh_model.specs.declared.event.Holder.{Holder}
 use Rattle.xh_model.specs.declared.event.Holder.TheVariants.{Process, Direction}
 use Rattle.xh_model.specs.declared.row.Row.{Row}
@@ -12,9 +12,9 @@ use Rattle.xh_serial.specs.declared.message.Message.{Message}
 use Rattle.xh_serial.specs.declared.place.Place.{Place}
 use Rattle.xh_serial.specs.declared.line.Line.{Line}
 use Rattle.xh_core.specs.declared.status.Status.{Status}
-use Rattle.xh_core.specs.declared.status.Status.TheVariants.{Vacant, Ended}
+use Rattle.xh_core.specs.declared.status.Status.TheVariants.{Vacant}
 use Rattle.xh_core.specs.Several.{times}
-use Rattle.xh_core.specs.Statuses.{is_vacant, is_ended}
+use Rattle.xh_core.specs.Statuses.{is_over, status_of}
 
 -- Who holds each record, and the arenas; by record the direction toward it, where it is an endpoint, and its bytes, where it is a data block;
 -- the places; the directions; by channel its contract, where it has one; how many channels were opened; how many messages may wait in a direction.
@@ -44,8 +44,11 @@ abbrev pub no_place : Place
 no_place = record { blocks = record { items = [] }; status = Vacant; generation = 0 }
 
 -- the place of a process, by the process's number
+abbrev pub place_in : List Place → ℕ → Place
+place_in places p = slice_index_or places (p % PLACES) no_place
+
 abbrev pub place : Machine → ℕ → Place
-place m p = slice_index_or m.places (p % PLACES) no_place
+place m p = place_in m.places p
 
 -- whether the process is the latest of its place
 abbrev pub is_current : Machine → ℕ → Bool
@@ -56,10 +59,8 @@ abbrev pub blocks : Machine → ℕ → List ℕ
 blocks m p = cond (is_current m p) (place m p).blocks.items []
 
 -- how far a process has come; Vacant where there is no such process
-abbrev pub status_of : Machine → ℕ → Status
-status_of m p =
-    cond (nat_le PROCESSES p || nat_lt (place m p).generation (p / PLACES)) Vacant
-    (cond (is_current m p) (place m p).status Ended)
+abbrev pub status_at : Machine → ℕ → Status
+status_at m p = status_of p (place m p).generation (place m p).status
 
 -- the latest process of p's place has another list, or another status
 abbrev pub with_list : ℕ → List ℕ → Machine → Machine
@@ -147,8 +148,22 @@ pub record IsEnd (m : Machine) (r d : ℕ) : Type 0 where
   pub opened : d < 2 * m.opened
   pub alone : (q : ℕ) → end_of m q ≡ Some d → q ≡ r
 
--- Each record stands once in its holder's list and in no other; each held record has bytes; a data block's buffer has its length;
--- a place that is vacant or has ended lists nothing; a channel that was not opened is as new; waiting messages have consecutive numbers; under a contract both ends are in step.
+-- a place is used no more often than it can be, and one that is vacant or whose process has ended lists nothing
+pub record ArePlaces (places : List Place) : Type 0 where
+  pub long : length places ≡ PLACES
+  pub generations : (p : ℕ) → (place_in places p).generation < GENERATIONS
+  pub idle : (p : ℕ) → is_over (place_in places p).status ≡ true → (place_in places p).blocks.items ≡ []
+
+-- a channel that was not opened is as new; waiting messages have consecutive numbers; under a contract both ends are in step
+pub record AreChannels (lines : List Line) (contracts : List (Option (List Row))) (opened : ℕ) : Type 0 where
+  pub long : length lines ≡ DIRECTIONS
+  pub fresh : (d : ℕ) → 2 * opened ≤ d → slice_index_or lines d no_line ≡ no_line
+  pub numbered : (d : ℕ) → IsNumbered (slice_index_or lines d no_line)
+  pub contracts_long : length contracts ≡ CHANNELS
+  pub wired : AreWired contracts lines
+  pub few : opened ≤ CHANNELS
+
+-- each record stands once in its holder's list and in no other; each held record has bytes; a data block's buffer has its length
 pub record IsWhole (m : Machine) : Type 0 where
   pub store : IsLawful m.store
   pub once : (h : Holder) (r : ℕ) → times r (listed m h) ≡ cond (holds m.store h r) 1 0
@@ -157,13 +172,6 @@ pub record IsWhole (m : Machine) : Type 0 where
   pub ends : (r d : ℕ) → end_of m r ≡ Some d → IsEnd m r d
   pub buffers : length m.buffers ≡ length m.store.owners
   pub bytes : (r : ℕ) → length (buffer m r) ≡ cond (is_some (end_of m r)) 0 (len m.store r)
-  pub places : length m.places ≡ PLACES
-  pub generations : (p : ℕ) → (place m p).generation ≤ 127
-  pub idle : (p : ℕ) → (is_vacant (place m p).status || is_ended (place m p).status) ≡ true → (place m p).blocks.items ≡ []
-  pub lines : length m.lines ≡ DIRECTIONS
-  pub fresh : (d : ℕ) → 2 * m.opened ≤ d → line m d ≡ no_line
-  pub numbered : (d : ℕ) → IsNumbered (line m d)
-  pub contracts : length m.contracts ≡ CHANNELS
-  pub wired : AreWired m.contracts m.lines
-  pub opened : m.opened ≤ CHANNELS
+  pub places : ArePlaces m.places
+  pub channels : AreChannels m.lines m.contracts m.opened
   pub deep : m.depth ≤ MAX_DEPTH

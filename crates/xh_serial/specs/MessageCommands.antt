@@ -1,8 +1,8 @@
 -- The commands give and take.
-use Rattle.std.specs.Prelude.{◌≡◌, ℕ, ◌+◌, ◌-◌, ◌*◌, ◌%◌, ◌==◌, ◌&&◌, ◌||◌, ◌⊎◌, Bool, false, not, List}
-use Rattle.std.specs.Prelude.{[], ◌∷◌, ◌++◌, Option, Some, None, is_none, length, nat_le, nat_lt, slice_set, slice_index_or, Ok}
-use Rattle.std.specs.List.{remove, list_any, list_all, filter}
-use Rattle.xh_model.specs.declared.limits.TheConstants.{MAX_BLOCKS}
+use Rattle.std.specs.Prelude.{◌≡◌, ℕ, ◌+◌, ◌-◌, ◌*◌, ◌%◌, ◌==◌, ◌||◌, ◌⊎◌, Bool, false, not, List}
+use Rattle.std.specs.Prelude.{[], ◌∷◌, ◌++◌, Option, Some, None, is_none, length, nat_le, slice_set, slice_index_or, Ok}
+use Rattle.std.specs.List.{remove, list_any, filter}
+use Rattle.xh_model.specs.declared.limits.TheConstants.{MAX_MESSAGES}
 use Rattle.xh_model.specs.declared.event.Holder.TheVariants.{Process}
 use Rattle.xh_model.specs.declared.row.Row.{Row}
 use Rattle.xh_model.specs.Rows.{allowed, IsFrontAllowed}
@@ -10,11 +10,11 @@ use Rattle.xh_model.specs.Store.{holds}
 use Rattle.xh_serial.specs.declared.message.Message.{Message}
 use Rattle.xh_serial.specs.declared.message.Taken.{Taken}
 use Rattle.xh_serial.specs.declared.line.Line.{Line}
-use Rattle.xh_core.specs.declared.refused.Refused.TheVariants.{TooMany, NotOwned, Twice, Protocol, PeerClosed, Full, Empty}
-use Rattle.xh_serial.specs.Machine.{Machine, blocks, with_list, line, waiting, peer, tags_of, contract_of, next_state}
-use Rattle.xh_serial.specs.Commands.{Answer, answered, start, end_tests, toward}
+use Rattle.xh_core.specs.Calls.{start, end_tests, given_tests, put_tests, take_tests}
 use Rattle.xh_core.specs.Refusing.{Tests, first_refusal}
-use Rattle.xh_core.specs.Several.{has_twice, described, pass_all, accept_all}
+use Rattle.xh_core.specs.Several.{described, pass_all, accept_all}
+use Rattle.xh_serial.specs.Machine.{Machine, blocks, status_at, with_list, line, waiting, peer, tags_of, contract_of, next_state}
+use Rattle.xh_serial.specs.Commands.{Answer, answered, found, toward}
 
 -- ---- give
 
@@ -23,25 +23,19 @@ abbrev pub is_banned : Option (List Row) → ℕ → ℕ → ℕ → Bool
 is_banned None side state tag = false
 is_banned (Some rows) side state tag = is_none (allowed rows state tag side)
 
--- as many messages as a direction ever carries
-abbrev pub LAST : ℕ
-LAST = 4611686018427387903
-
 abbrev pub is_full : ℕ → Line → Bool
-is_full depth l = nat_le depth (length l.waiting.items) || nat_le LAST l.put
+is_full depth l = nat_le depth (length l.waiting.items) || nat_le MAX_MESSAGES l.put
 
 -- the blocks, then the contract, the peer, and room in the direction
 abbrev pub message_tests : Machine → ℕ → ℕ → ℕ → List ℕ → Tests
 message_tests m p e tag bs =
-    (nat_lt MAX_BLOCKS (length bs), TooMany)
-    ∷ (not (list_all (λ r. holds m.store (Process p) r) bs), NotOwned)
-    ∷ (has_twice (e ∷ bs), Twice)
-    ∷ (is_banned (contract_of m.contracts (toward m e)) (toward m e % 2) (line m (toward m e)).state tag, Protocol (record { items = bs }))
-    ∷ ((line m (peer (toward m e))).shut, PeerClosed (record { items = bs }))
-    ∷ (is_full m.depth (line m (peer (toward m e))), Full (record { items = bs })) ∷ []
+    let own : ℕ = toward m e in
+    let to : ℕ = peer own in
+    given_tests (holds m.store (Process p)) e bs
+    ++ put_tests (is_banned (contract_of m.contracts own) (own % 2) (line m own).state tag) (line m to).shut (is_full m.depth (line m to)) bs
 
-abbrev pub give_tests : Machine → ℕ → ℕ → ℕ → List ℕ → Tests
-give_tests m p e tag bs = start m p ++ end_tests m p e ++ message_tests m p e tag bs
+abbrev pub give_refusals : Machine → ℕ → ℕ → ℕ → List ℕ → Tests
+give_refusals m p e tag bs = start (status_at m p) ++ end_tests (found m p e) ++ message_tests m p e tag bs
 
 -- the list without these records
 abbrev pub without : List ℕ → List ℕ → List ℕ
@@ -67,7 +61,7 @@ given p e tag bs m =
 
 -- the number of the message in its direction
 unfoldable pub give : ℕ → ℕ → ℕ → List ℕ → Machine → Answer ℕ
-give p e tag bs m = answered (first_refusal (give_tests m p e tag bs)) m (Ok ((line m (peer (toward m e))).put + 1), given p e tag bs m)
+give p e tag bs m = answered (first_refusal (give_refusals m p e tag bs)) m (Ok ((line m (peer (toward m e))).put + 1), given p e tag bs m)
 
 -- ---- what a contract keeps
 
@@ -82,10 +76,8 @@ AreOrderly m = (c : ℕ) (rows : List Row) → slice_index_or m.contracts c None
 
 -- ---- take
 
-abbrev pub take_tests : Machine → ℕ → ℕ → Tests
-take_tests m p e = start m p ++ end_tests m p e
-    ++ ((length (waiting m (toward m e)) == 0) && (line m (peer (toward m e))).shut, PeerClosed (record { items = [] }))
-    ∷ (length (waiting m (toward m e)) == 0, Empty) ∷ []
+abbrev pub take_refusals : Machine → ℕ → ℕ → Tests
+take_refusals m p e = start (status_at m p) ++ end_tests (found m p e) ++ take_tests (length (waiting m (toward m e)) == 0) (line m (peer (toward m e))).shut
 
 abbrev pub no_message : Message
 no_message = record { no = 0; tag = 0; blocks = record { items = [] } }
@@ -113,4 +105,4 @@ abbrev pub told : Machine → Message → Taken
 told m message = record { no = message.no; tag = message.tag; blocks = record { items = described m.store message.blocks.items } }
 
 unfoldable pub take : ℕ → ℕ → Machine → Answer Taken
-take p e m = answered (first_refusal (take_tests m p e)) m (Ok (told m (front m e)), taken p e m)
+take p e m = answered (first_refusal (take_refusals m p e)) m (Ok (told m (front m e)), taken p e m)

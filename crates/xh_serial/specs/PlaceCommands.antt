@@ -1,5 +1,5 @@
 -- A new machine, and the commands spawn, glance and ledger.
-use Rattle.std.specs.Prelude.{ℕ, ◌+◌, ◌*◌, ◌&&◌, ◌||◌, Bool, cond, List, [], ◌∷◌, Option, Some, None, length, map, replicate, nat_le, nat_lt, slice_set, slice_index_or, Result, Ok, Err}
+use Rattle.std.specs.Prelude.{ℕ, ◌+◌, ◌*◌, Bool, cond, List, [], ◌∷◌, Option, Some, None, length, map, replicate, nat_le, slice_set, slice_index_or, Result, Ok, Err}
 use Rattle.std.specs.List.{position, sum_by}
 use Rattle.xh_model.specs.declared.limits.TheConstants.{CHANNELS, DIRECTIONS, MAX_RECORDS, PLACES}
 use Rattle.xh_model.specs.declared.config.Config.{Config}
@@ -7,15 +7,13 @@ use Rattle.xh_model.specs.Store.{Store, len, all_out, new_store}
 use Rattle.xh_core.specs.declared.glance.Glance.{Glance}
 use Rattle.xh_core.specs.declared.ledger.PlaceLine.{PlaceLine}
 use Rattle.xh_core.specs.declared.ledger.Ledger.{Ledger}
-use Rattle.xh_core.specs.declared.ledger.State.TheVariants as state
-use Rattle.xh_core.specs.declared.ledger.State.{State as PlaceState}
 use Rattle.xh_serial.specs.declared.place.Place.{Place}
 use Rattle.xh_core.specs.declared.refused.Refused.{Refused}
 use Rattle.xh_core.specs.declared.refused.Refused.TheVariants.{NoProcess, NoPlace}
-use Rattle.xh_core.specs.declared.status.Status.{Status}
-use Rattle.xh_core.specs.declared.status.Status.TheVariants.{Vacant, Running, Ending, Ended}
+use Rattle.xh_core.specs.declared.status.Status.TheVariants.{Running}
 use Rattle.xh_serial.specs.Machine.{Machine, no_place, no_line, carried}
-use Rattle.xh_core.specs.Statuses.{is_vacant, is_ended}
+use Rattle.xh_core.specs.Glances.{line_of}
+use Rattle.xh_core.specs.Statuses.{can_start, is_vacant}
 use Rattle.xh_serial.specs.Commands.{Answer}
 use Rattle.xh_core.specs.ArenaLines.{arena_line}
 
@@ -34,9 +32,8 @@ new_machine c = record {
 
 -- ---- spawn
 
--- whether a process can start there: the place is vacant, or its process has ended and was not the last
-abbrev pub can_start : Place → Bool
-can_start place = is_vacant place.status || (is_ended place.status && nat_lt place.generation 127)
+abbrev pub is_ready : Place → Bool
+is_ready place = can_start place.status place.generation
 
 -- the place with its next process
 abbrev pub started : Place → Place
@@ -50,7 +47,7 @@ spawn_at (Some k) m =
 
 -- a process starts at the lowest place where one can: its number
 unfoldable pub spawn : Machine → Answer ℕ
-spawn m = spawn_at (position can_start m.places) m
+spawn m = spawn_at (position is_ready m.places) m
 
 -- ---- glance
 
@@ -71,25 +68,10 @@ glance k m = cond (nat_le PLACES k) (Err NoProcess) (Ok (glance_of k (slice_inde
 
 -- ---- ledger
 
-abbrev pub line_state : Status → PlaceState
-line_state Vacant = state.Running
-line_state Running = state.Running
-line_state Ending = state.Ending
-line_state Ended = state.Ended
-
-abbrev pub place_line : Store → ℕ → Place → PlaceLine
-place_line s k place = record {
-  place = k;
-  process = k + PLACES * place.generation;
-  state = line_state place.status;
-  blocks = length place.blocks.items;
-  bytes = total s place.blocks.items;
-}
-
 -- the places from number k on, each that is not vacant
 abbrev pub place_lines : Store → ℕ → List Place → List PlaceLine
 place_lines s k [] = []
-place_lines s k (place ∷ places) = cond (is_vacant place.status) (place_lines s (k + 1) places) (place_line s k place ∷ place_lines s (k + 1) places)
+place_lines s k (place ∷ places) = cond (is_vacant place.status) (place_lines s (k + 1) places) (line_of (glance_of k place s) ∷ place_lines s (k + 1) places)
 
 unfoldable pub ledger_of : Machine → Ledger
 ledger_of m = record {

@@ -1,9 +1,9 @@
 //! The channels: the two directions of each, and its contract.
 ghost use Rattle.std.specs.Prelude.{◌≡◌, ℕ, ◌+◌, ◌-◌, ◌*◌, ◌/◌, ◌%◌, ◌<◌, ◌≤◌, ◌==◌, [], IfOk, None, Some, false, length, replicate, slice_set};
-ghost use Rattle.xh_model.specs.declared.limits.TheConstants.{CHANNELS, DIRECTIONS, MAX_BLOCKS, MAX_DEPTH};
+ghost use Rattle.xh_model.specs.declared.limits.TheConstants.{CHANNELS, DIRECTIONS, MAX_BLOCKS, MAX_DEPTH, MAX_MESSAGES};
 ghost use Rattle.xh_serial.specs.ChannelCommands.{first_state, new_line};
 ghost use Rattle.xh_serial.specs.Machine.{carried, contract_of, drained_state, next_state, no_line, peer, tags_of, way_in};
-ghost use Rattle.xh_serial.specs.MessageCommands.{is_banned, is_full, no_message, put_line, taken_line, told_line, LAST};
+ghost use Rattle.xh_serial.specs.MessageCommands.{is_banned, is_full, no_message, put_line, taken_line, told_line};
 ghost use Rattle.xh_serial.specs.Sweeping.{shut_in};
 ghost use Rattle.xh_serial.specs.inner.Channeling.{line_at, with_line, IsSound};
 ghost use Rattle.std.specs.Prelude.{slice_index_or};
@@ -16,7 +16,7 @@ use arrayvec::ArrayVec;
 use std::alloc::{AllocError, Global};
 use std::marker::Model;
 use xh_core::Contract;
-use xh_model::limits::{CHANNELS, DIRECTIONS, MAX_BLOCKS};
+use xh_model::limits::{CHANNELS, DIRECTIONS, MAX_BLOCKS, MAX_MESSAGES};
 
 /// As many records as may wait in a direction.
 const WAITING: usize = ROOM * MAX_BLOCKS;
@@ -132,7 +132,7 @@ fn new_lines(alloc: Global) -> Result<Vec<Line>, AllocError>
     ensures { IfOk result (λ lines. lines.items ≡ replicate DIRECTIONS no_line) }
 {
     let mut lines = Vec::with_capacity(alloc, DIRECTIONS as usize)?;
-    for _ in 0..128u8 {
+    for _ in 0..DIRECTIONS {
         lines.push(Line {
             shut: false,
             state: 0,
@@ -148,7 +148,7 @@ fn no_contracts(alloc: Global) -> Result<Vec<Option<Contract>>, AllocError>
     ensures { IfOk result (λ contracts. contracts.items ≡ replicate CHANNELS None) }
 {
     let mut contracts = Vec::with_capacity(alloc, CHANNELS as usize)?;
-    for _ in 0..64u8 {
+    for _ in 0..CHANNELS {
         contracts.push(None)?;
     }
     Ok(contracts)
@@ -204,7 +204,7 @@ impl Channels {
         ensures { result ≡ is_full depth (line_at self.now d) }
     {
         let line = &self.lines[usize::from(d)];
-        line.waiting.len() >= usize::from(depth) || line.put >= 4_611_686_018_427_387_903
+        line.waiting.len() >= usize::from(depth) || line.put >= MAX_MESSAGES
     }
 
     /// The next channel begins, under its contract, if it has one. Its number.
@@ -245,7 +245,7 @@ impl Channels {
         requires there { to < DIRECTIONS }
         requires few { length blocks.now ≤ MAX_BLOCKS }
         requires room { length (line_at self.old to).waiting.items < MAX_DEPTH }
-        requires more { (line_at self.old to).put < LAST }
+        requires more { (line_at self.old to).put < MAX_MESSAGES }
         ensures line { self.new ≡ with_line to (put_line tag blocks.now (line_at self.old to)) self.old }
         ensures number { result ≡ (line_at self.old to).put + 1 }
     {

@@ -1,11 +1,11 @@
 //! A place for processes.
 ghost use Rattle.std.specs.Prelude.{◌≡◌, ◌+◌, ◌*◌, ◌<◌, true};
-ghost use Rattle.xh_serial.specs.PlaceCommands.{can_start, started};
+ghost use Rattle.xh_serial.specs.PlaceCommands.{is_ready, started};
 ghost use Rattle.xh_model.specs.declared.limits.TheConstants.{PLACES};
 
 use arrayvec::ArrayVec;
 use xh_core::Status;
-use xh_model::limits::PLACES;
+use xh_model::limits::{GENERATIONS, MAX_HELD, PLACES};
 
 /// From a process's number to that of the next one at its place.
 pub(crate) const STRIDE: u16 = PLACES as u16;
@@ -14,25 +14,25 @@ pub(crate) const STRIDE: u16 = PLACES as u16;
 /// and how often the place was used before.
 #[derive(Drop)]
 pub(crate) struct Place {
-    pub(crate) blocks: ArrayVec<u16, 2048>,
+    pub(crate) blocks: ArrayVec<u16, MAX_HELD>,
     pub(crate) status: Status,
     pub(crate) generation: u8,
 }
 
 /// Whether a process can start there.
 pub(crate) fn is_ready(place: &Place) -> bool
-    ensures { result ≡ can_start place.now }
+    ensures { result ≡ is_ready place.now }
 {
     match place.status {
         Status::Vacant => true,
-        Status::Ended => place.generation < 127,
+        Status::Ended => u16::from(place.generation) + 1 < GENERATIONS,
         _ => false,
     }
 }
 
 /// The next process starts. Its generation.
 pub(crate) fn start(place: &mut Place) -> u8
-    requires { can_start place.old ≡ true }
+    requires { is_ready place.old ≡ true }
     ensures place { place.new ≡ started place.old }
     ensures generation { result ≡ place.new.generation }
 {

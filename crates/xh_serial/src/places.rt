@@ -4,9 +4,9 @@ ghost use Rattle.std.specs.List.{position, position_or_len, remove};
 ghost use Rattle.xh_serial.specs.EndingCommands.{last};
 ghost use Rattle.xh_serial.specs.Machine.{no_place};
 ghost use Rattle.xh_serial.specs.MessageCommands.{without};
-ghost use Rattle.xh_serial.specs.PlaceCommands.{can_start};
+ghost use Rattle.xh_serial.specs.PlaceCommands.{is_ready};
 ghost use Rattle.xh_serial.specs.inner.Placing.{blocks_in, place_in, relisted, restated, started_at, status_in};
-ghost use Rattle.xh_model.specs.declared.limits.TheConstants.{PLACES};
+ghost use Rattle.xh_model.specs.declared.limits.TheConstants.{MAX_HELD, PLACES};
 
 use crate::list::{drop_all, extend, index_of};
 use crate::place::{Place, STRIDE, is_ready, number, start};
@@ -14,7 +14,7 @@ use arrayvec::ArrayVec;
 use std::alloc::{AllocError, Global};
 use std::marker::Model;
 use xh_core::Status;
-use xh_model::limits::{PLACES, PROCESSES};
+use xh_model::limits::PLACES;
 
 /// The places, of which there are always 32.
 #[derive(Drop)]
@@ -36,7 +36,7 @@ impl Model for Places {
 
 /// The first place where a process can start.
 fn first_ready(places: &[Place]) -> Option<usize>
-    ensures { result ≡ position can_start places.now }
+    ensures { result ≡ position is_ready places.now }
 {
     places.iter().position(is_ready)
 }
@@ -47,7 +47,7 @@ impl Places {
         ensures { IfOk result (λ places. places ≡ replicate PLACES no_place) }
     {
         let mut places = Vec::with_capacity(alloc, PLACES as usize)?;
-        for _ in 0..32u8 {
+        for _ in 0..PLACES {
             places.push(Place {
                 blocks: ArrayVec::new(),
                 status: Status::Vacant,
@@ -83,7 +83,7 @@ impl Places {
     /// The records that the place of a process lists, in the order gained.
     pub(crate) fn blocks(&self, p: u16) -> &[u16]
         ensures list { result.now ≡ blocks_in self.now p }
-        ensures fits { length result.now ≤ 2048 }
+        ensures fits { length result.now ≤ MAX_HELD }
     {
         self.of(p).blocks.as_slice()
     }
@@ -93,19 +93,12 @@ impl Places {
         ensures { result ≡ status_in self.now p }
     {
         let place = self.of(p);
-        let generation = u16::from(place.generation);
-        if p >= PROCESSES || generation < p / STRIDE {
-            return Status::Vacant;
-        }
-        if generation == p / STRIDE {
-            return place.status;
-        }
-        Status::Ended
+        place.status.of(p, u16::from(place.generation))
     }
 
     /// A process starts at the first place where one can: its number.
     pub(crate) fn start(&mut self) -> Option<u16>
-        ensures { started_at (position can_start self.old) self.old ≡ (result, self.new) }
+        ensures { started_at (position is_ready self.old) self.old ≡ (result, self.new) }
     {
         let Some(at) = first_ready(self.places.as_slice()) else {
             return None;
@@ -123,7 +116,7 @@ impl Places {
 
     /// A record goes to the end of a list.
     pub(crate) fn add(&mut self, p: u16, r: u16)
-        requires { length (blocks_in self.old p) < 2048 }
+        requires { length (blocks_in self.old p) < MAX_HELD }
         ensures { self.new ≡ relisted p (blocks_in self.old p ++ r ∷ []) self.old }
     {
         self.places[usize::from(p % STRIDE)].blocks.push(r);
@@ -131,7 +124,7 @@ impl Places {
 
     /// So do these, in their order.
     pub(crate) fn add_all(&mut self, p: u16, blocks: &[u16])
-        requires { length (blocks_in self.old p) + length blocks.now ≤ 2048 }
+        requires { length (blocks_in self.old p) + length blocks.now ≤ MAX_HELD }
         ensures { self.new ≡ relisted p (blocks_in self.old p ++ blocks.now) self.old }
     {
         extend(&mut self.places[usize::from(p % STRIDE)].blocks, blocks);

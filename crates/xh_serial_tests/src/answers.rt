@@ -14,13 +14,12 @@ pub enum Rules {
 }
 
 /// A call, by the numbers of processes, records and arenas. A read is of six bytes, `ReadPart` of so many of them.
-/// `Spawns` starts so many processes, whose numbers are 0, 1 and so on; `Lives` starts and ends 4,096 in turn, each place's
-/// generations one after the other and then the next place's; `Opens` opens so many channels of process 0 and arena 0.
-/// `Sums`, `Arena` and `Line` look at the ledger: at its sums, the line of an arena, and the place that stands so far down.
+/// `Lives` starts and ends 4,096 processes in turn, each place's generations one after the other and then the next place's;
+/// `Opens` opens so many channels of process 0 and arena 0. `Arena` and `Line` look at the ledger: at the line of an arena,
+/// and the place that stands so far down.
 #[derive(Clone, Copy)]
 pub enum Call<'a> {
     Spawn,
-    Spawns(u16),
     Lives,
     Alloc(u16, u32, u32),
     Split(u16, u16, u32),
@@ -36,21 +35,19 @@ pub enum Call<'a> {
     Give(u16, u16, u16, &'a [u16]),
     Take(u16, u16),
     TakeWait(u16, u16),
-    Close(u16, u16),
     Exit(u16, u32),
     Kill(u16, u16, u32),
     Glance(u8),
-    Sums,
     Arena(usize),
     Line(usize),
 }
 
 /// A process, a message's number, how many bytes came back, or the first of several that did not start, end or open; one
 /// block or two, each by record and length; a message, by its number, its tag and how many blocks it has, or where it has
-/// one, its record and length; a place, by process, state, blocks and bytes; the bytes of a read; bytes owned, in flight
-/// and out; an arena, by size, bytes out, holes, bytes taken and given back; a place of the ledger, by its number, process,
-/// state, blocks and bytes; None where the ledger has no such line; the name of a refusal; that a direction is full, with
-/// how many blocks come back, and the first; how many blocks an ending left; nothing.
+/// one, its record and length; a place, by process, state, blocks and bytes; the bytes of a read; an arena, by size, bytes
+/// out, holes, bytes taken and given back; a place of the ledger, by its number, process, state, blocks and bytes; None
+/// where the ledger has no such line; the name of a refusal; that a direction is full, with how many blocks come back, and
+/// the first; nothing.
 #[derive(Clone, Copy, Debug, PartialEq)]
 pub enum Answer {
     Number(u64),
@@ -60,22 +57,19 @@ pub enum Answer {
     Brings(u64, u16, u16, u32),
     Place(u16, Status, u32, u64),
     Bytes([u8; 6]),
-    Sums(u64, u64, u64),
     Arena(u32, u32, u32, u64, u64),
     Line(u8, u16, State, u32, u64),
     None,
     No(&'static str),
     Full(usize, Option<u16>),
-    Left(u32),
     Done,
 }
 
-/// Why a call is refused: its name, and what it hands back or leaves.
+/// Why a call is refused: its name, and what it hands back.
 fn of_refused(refused: Refused) -> Answer {
     let name = refused.name();
     match refused {
         Refused::Full { back } => Answer::Full(back.len(), back.first().copied()),
-        Refused::Unfinished { left } => Answer::Left(left),
         _ => Answer::No(name),
     }
 }
@@ -143,15 +137,6 @@ fn bytes_of(heap: &Serial, p: u16, r: u16, at: u32, count: usize) -> Answer {
     }
 }
 
-fn spawns_of(heap: &mut Serial, count: u16) -> Answer {
-    for process in 0..count {
-        if heap.spawn().ok() != Some(process) {
-            return Answer::Number(u64::from(process));
-        }
-    }
-    Answer::Done
-}
-
 fn lives_of(heap: &mut Serial) -> Answer {
     for place in 0..32u16 {
         for generation in 0..128u16 {
@@ -199,11 +184,6 @@ fn ends_under(heap: &mut Serial, p: u16, other: Option<u16>, arena: u32, rules: 
     }
 }
 
-fn sums_of(heap: &Serial) -> Answer {
-    let ledger = heap.ledger();
-    Answer::Sums(ledger.owned, ledger.flight, ledger.out)
-}
-
 fn arena_of(heap: &Serial, at: usize) -> Answer {
     match heap.ledger().arenas.get(at) {
         Some(line) => Answer::Arena(line.size, line.out, line.holes, line.taken, line.back),
@@ -228,7 +208,6 @@ fn line_of(heap: &Serial, at: usize) -> Answer {
 pub fn answer_of(heap: &mut Serial, alloc: Global, call: Call) -> Answer {
     match call {
         Call::Spawn => of_small(heap.spawn()),
-        Call::Spawns(count) => spawns_of(heap, count),
         Call::Lives => lives_of(heap),
         Call::Alloc(p, n, arena) => of_block(heap.alloc(alloc, p, n, arena)),
         Call::Split(p, r, k) => of_two(heap.split(alloc, p, r, k)),
@@ -244,11 +223,9 @@ pub fn answer_of(heap: &mut Serial, alloc: Global, call: Call) -> Answer {
         Call::Give(p, end, tag, blocks) => of_number(heap.give(p, end, tag, blocks)),
         Call::Take(p, end) => of_message(heap.take(p, end)),
         Call::TakeWait(p, end) => of_message(heap.take_wait(p, end)),
-        Call::Close(p, end) => of_number(heap.close(p, end)),
         Call::Exit(p, budget) => of_number(heap.exit(p, budget)),
         Call::Kill(p, q, budget) => of_number(heap.kill(p, q, budget)),
         Call::Glance(place) => glance_of(heap, place),
-        Call::Sums => sums_of(heap),
         Call::Arena(at) => arena_of(heap, at),
         Call::Line(at) => line_of(heap, at),
     }

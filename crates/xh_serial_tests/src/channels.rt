@@ -143,26 +143,6 @@ fn records_room_and_wear(rt: HostRuntime) {
     }
 }
 
-/// Two ends that speak in turn: a message out of turn is refused, and advances nothing.
-#[test]
-fn contract_refusals(rt: HostRuntime) {
-    const CALLS: &[(Call, Answer)] = &[
-        (Spawn, Number(0)),
-        (Spawn, Number(1)),
-        (WireWith(0, 1, 0, RequestAndReply), Two(0, 32, 1, 32)),
-        (Give(0, 0, 2, &[]), No("Protocol")),
-        (Give(1, 1, 2, &[]), No("Protocol")),
-        (Give(0, 0, 1, &[]), Number(1)),
-        (Give(0, 0, 1, &[]), No("Protocol")),
-        (Give(1, 1, 1, &[]), No("Protocol")),
-        (Take(1, 1), Message(1, 1, 0)),
-        (Give(1, 1, 2, &[]), Number(1)),
-        (Take(0, 0), Message(1, 2, 0)),
-        (Give(0, 0, 1, &[]), Number(2)),
-    ];
-    assert_on(&rt, rt.alloc(), small(), CALLS);
-}
-
 /// The contract is asked after the blocks, and ahead of the peer and of the room.
 #[test]
 fn a_contract_is_asked_before_the_room(rt: HostRuntime) {

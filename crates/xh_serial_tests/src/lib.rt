@@ -8,10 +8,10 @@ mod blocks;
 #[cfg(test)]
 mod channels;
 #[cfg(test)]
-mod endings;
-#[cfg(test)]
 mod heaps;
 #[cfg(test)]
 mod messages;
 #[cfg(test)]
 mod places;
+#[cfg(test)]
+mod without_memory;

@@ -1,6 +1,6 @@
 //! Messages by calls: what goes along, and what a refusal hands back.
-use crate::answers::Answer::{Brings, Full, Message, No, Number, Sums as SumsOf};
-use crate::answers::Call::{Exit, Free, Give, Open, Read, Sums, Take, TakeWait};
+use crate::answers::Answer::{Brings, Full, Message, No, Number};
+use crate::answers::Call::{Exit, Free, Give, Take, TakeWait};
 use crate::answers::{Answer, Call, assert_wired};
 use crate::heaps::small;
 use xh_core::Config;
@@ -42,25 +42,6 @@ fn a_full_direction_hands_back(rt: HostRuntime) {
         (Give(0, 0, 0, &[2]), Full(1, Some(2))),
         (Take(1, 1), Message(1, 0, 0)),
         (Give(0, 0, 0, &[2]), Number(2)),
-    ];
-    assert_wired(&rt, rt.alloc(), shallow(), CALLS);
-}
-
-/// Refused calls take nothing along: a message without blocks is the first.
-#[test]
-fn refusals_of_give(rt: HostRuntime) {
-    const CALLS: &[(Call, Answer)] = &[
-        (Give(0, 0, 1, &[2, 2]), No("Twice")),
-        (Give(0, 0, 1, &[0]), No("Twice")),
-        (Give(0, 0, 1, &[2, 2, 2, 2, 2, 2, 2, 2, 2]), No("TooMany")),
-        (Give(0, 2, 1, &[]), No("NotEndpoint")),
-        (Free(0, 0), No("NotData")),
-        (Read(0, 2, 11), No("BadRange")),
-        (Give(0, 0, 1, &[]), Number(1)),
-        (Take(1, 1), Message(1, 1, 0)),
-        (Take(1, 1), No("Empty")),
-        (Open(0, 9), No("NoArena")),
-        (Sums, SumsOf(80, 0, 80)),
     ];
     assert_wired(&rt, rt.alloc(), shallow(), CALLS);
 }

@@ -1,20 +1,9 @@
-//! Processes start, and places and the ledger are looked at.
-use crate::answers::Answer::{
-    Arena as ArenaLine, Block, Done, Line as PlaceLine, No, Number, Place, Sums as SumsOf,
-};
-use crate::answers::Call::{
-    Alloc, Arena, Exit, Free, Glance, Kill, Line, Lives, Spawn, Spawns, Sums,
-};
+//! Processes start, and places are looked at.
+use crate::answers::Answer::{Block, Done, No, Number, Place};
+use crate::answers::Call::{Alloc, Exit, Free, Glance, Kill, Lives, Spawn};
 use crate::answers::{Answer, Call, assert_on};
 use crate::heaps::small;
-use xh_core::State;
 use xh_core::Status::{Running, Vacant};
-
-#[test]
-fn places_run_out(rt: HostRuntime) {
-    const CALLS: &[(Call, Answer)] = &[(Spawns(32), Done), (Spawn, No("NoPlace"))];
-    assert_on(&rt, rt.alloc(), small(), CALLS);
-}
 
 /// A place is used again where its process has ended: the next process is of its next generation.
 #[test]
@@ -42,32 +31,6 @@ fn glances(rt: HostRuntime) {
         (Glance(0), Place(0, Running, 1, 48)),
         (Free(0, 0), Number(48)),
         (Glance(0), Place(0, Running, 0, 0)),
-    ];
-    assert_on(&rt, rt.alloc(), small(), CALLS);
-}
-
-/// One process with a block of 40 bytes, rounded up to 48.
-#[test]
-fn first_alloc(rt: HostRuntime) {
-    const CALLS: &[(Call, Answer)] = &[
-        (Spawn, Number(0)),
-        (Alloc(0, 40, 0), Block(0, 48)),
-        (Arena(0), ArenaLine(256, 48, 1, 48, 0)),
-        (Arena(1), Answer::None),
-        (Line(0), PlaceLine(0, 0, State::Running, 1, 48)),
-        (Line(1), Answer::None),
-        (Sums, SumsOf(48, 0, 48)),
-    ];
-    assert_on(&rt, rt.alloc(), small(), CALLS);
-}
-
-#[test]
-fn an_empty_ledger(rt: HostRuntime) {
-    const CALLS: &[(Call, Answer)] = &[
-        (Arena(0), ArenaLine(256, 0, 1, 0, 0)),
-        (Arena(1), Answer::None),
-        (Line(0), Answer::None),
-        (Sums, SumsOf(0, 0, 0)),
     ];
     assert_on(&rt, rt.alloc(), small(), CALLS);
 }

@@ -1,5 +1,5 @@
 -- What lies under the lock of a channel, its turn and its line.
-use Rattle.std.specs.Prelude.{◌≡◌, ℕ, ◌+◌, Bool, ◌==◌, ◌&&◌, not, min, [], Option, Some, None, Result, MatchResult}
+use Rattle.std.specs.Prelude.{◌≡◌, ℕ, ◌+◌, ◌-◌, ◌^◌, Bool, ◌==◌, ◌&&◌, not, min, [], Option, Some, None, Result, MatchResult}
 use Rattle.arrayvec.specs.ArrayVec.{ArrayVec}
 use Rattle.xh_channel.specs.declared.message.Message.{Message}
 use Rattle.xh_channel.specs.declared.refused.Refused.{Refused}
@@ -8,8 +8,9 @@ use Rattle.xh_channel.specs.declared.unsent.Unsent.{Unsent}
 use Rattle.xh_channel.specs.declared.unsent.Unsent.TheVariants.{PeerClosed}
 use Rattle.xh_channel.specs.Lines.{Lined, PutsOn, TakesOn, Shuts}
 
+-- the turn stays there, which a counter of 64 bits can reach
 abbrev pub last_turn : ℕ
-last_turn = 18446744073709551615
+last_turn = 2 ^ 64 - 1
 
 abbrev pub next_turn : ℕ → ℕ
 next_turn turn = min (turn + 1) last_turn

@@ -99,18 +99,25 @@ fn drain<R: Wait>(rt: &R, channels: &Channels, end: &mut Endpoint, before: u64) 
     Some(taken)
 }
 
-// Shuts the end after a while, and then takes what waits.
+// Takes so many messages as they come, so that few or none wait, shuts the end in the middle of a put, and takes what waits
+// then.
 fn shut_and_drain<R: Wait>(
     rt: &R,
     channels: &Channels,
     end: &mut Endpoint,
-    pause: u64,
+    count: u64,
 ) -> Option<u64> {
-    for _ in 0..pause {
-        thread::yield_now();
+    let mut taken = 0u64;
+    for _ in rt.forever() {
+        if taken >= count {
+            break;
+        }
+        if channels.take(rt, end).is_ok() {
+            taken = taken.wrapping_add(1);
+        }
     }
     channels.shut(rt, end);
-    drain(rt, channels, end, 0)
+    drain(rt, channels, end, taken)
 }
 
 // One end puts while the other shuts: what was sent is taken, each message once, and at most one more that was pushed and not sent.
@@ -118,13 +125,13 @@ fn assert_put_and_shut<R: Threads + Wait + Abort + Sync>(
     rt: &R,
     channels: &Channels,
     ends: &mut Ends,
-    pause: u64,
+    count: u64,
 ) {
     let (low, high) = (&mut ends.low, &mut ends.high);
     let (sent, taken) = thread::join(
         rt,
         || put_all(rt, channels, low, 16),
-        || shut_and_drain(rt, channels, high, pause),
+        || shut_and_drain(rt, channels, high, count),
     );
     let Some(taken) = taken else {
         panic!(rt; "out of order");
@@ -194,7 +201,7 @@ fn race_on_next<R: Threads + Wait + Abort + Sync>(
     let mut ends = next_ends(rt, channels)?;
     let at = u64::from(channel);
     match kind {
-        Race::PutsAndShut => assert_put_and_shut(rt, channels, &mut ends, at % 4),
+        Race::PutsAndShut => assert_put_and_shut(rt, channels, &mut ends, at % 16),
         Race::LastComes => assert_last_comes(rt, channels, &mut ends, at * 8),
     }
     drop(ends);
@@ -228,7 +235,7 @@ fn race_over<R: Threads + Wait + Abort + Sync>(
 
 #[test]
 fn a_put_races_a_shut(rt: HostRuntime) -> Result<(), Fail> {
-    for _ in 0..16 {
+    for _ in 0..64 {
         race_over(&rt, rt.alloc(), 16, Race::PutsAndShut)?;
     }
     Ok(())

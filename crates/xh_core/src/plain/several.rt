@@ -1,8 +1,8 @@
 //! Several events at a time, and what is read of the arenas.
-ghost use Rattle.std.specs.Prelude.{◌≡◌, ◌≢◌, ℕ, ◌+◌, ◌<◌, ◌≤◌, ◌/◌, ◌%◌, ◌∷◌, [], Some, None, OnOk, OnErr, MatchResult, length, true};
+ghost use Rattle.std.specs.Prelude.{◌≡◌, ◌*◌, ◌≢◌, ℕ, ◌+◌, ◌<◌, ◌≤◌, ◌/◌, ◌%◌, ◌∷◌, [], Some, None, OnOk, OnErr, MatchResult, length, true};
 ghost use Rattle.std.specs.List.{position};
 ghost use Rattle.std.specs.Prelude.{is_none};
-ghost use Rattle.xh_model.specs.declared.limits.TheConstants.{MAX_BYTES, MAX_RECORDS, PROCESSES, UNIT};
+ghost use Rattle.xh_model.specs.declared.limits.TheConstants.{MAX_BYTES, MAX_HELD, MAX_RECORDS, PROCESSES, UNIT};
 ghost use Rattle.xh_model.specs.declared.event.Event.TheVariants.{Claim, Carve, Cut, GiveBack, Vacate};
 ghost use Rattle.xh_model.specs.declared.event.Holder.TheVariants.{Process};
 ghost use Rattle.xh_model.specs.Store.{after, arena_at, bytes_of, holds, is_known, len, owner};
@@ -52,7 +52,7 @@ impl Plain {
     /// The bytes of all records that a process holds.
     pub fn owned(&self, p: u16) -> u64
         ensures is { result ≡ bytes_of self.now (Process p) }
-        ensures most { result ≤ 2147483648 }
+        ensures most { result ≤ MAX_HELD * MAX_BYTES }
     {
         self.totals.of(p)
     }

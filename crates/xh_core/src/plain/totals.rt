@@ -1,6 +1,6 @@
 //! What each process holds, as running totals.
-ghost use Rattle.std.specs.Prelude.{◌≡◌, ℕ, ◌≤◌, ◌<◌, IfOk, Some, length, replicate, slice_index_or};
-ghost use Rattle.xh_model.specs.declared.limits.TheConstants.{PROCESSES};
+ghost use Rattle.std.specs.Prelude.{◌≡◌, ℕ, ◌*◌, ◌≤◌, ◌<◌, IfOk, Some, length, replicate, slice_index_or};
+ghost use Rattle.xh_model.specs.declared.limits.TheConstants.{MAX_BYTES, MAX_HELD, PROCESSES};
 ghost use Rattle.xh_model.specs.declared.event.Holder.TheVariants.{Process};
 ghost use Rattle.xh_core.specs.inner.Owning.{with_less, with_more};
 
@@ -44,7 +44,7 @@ impl Totals {
     /// A holder, where it is a process, has so many bytes more.
     pub(crate) fn add(&mut self, holder: Option<Holder>, bytes: u32)
         requires there { (p : ℕ) → holder ≡ Some (Process p) → p < length self.old }
-        requires room { (p : ℕ) → slice_index_or self.old p 0 ≤ 2147483648 }
+        requires room { (p : ℕ) → slice_index_or self.old p 0 ≤ MAX_HELD * MAX_BYTES }
         ensures { self.new ≡ with_more holder bytes self.old }
     {
         if let Some(Holder::Process(p)) = holder {

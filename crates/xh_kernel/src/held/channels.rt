@@ -3,9 +3,10 @@ ghost use Rattle.std.specs.Prelude.{◌≡◌, ℕ, ◌+◌, ◌*◌, [], ◌∷
 ghost use Rattle.xh_channel.specs.Pairs.{IsPair};
 ghost use Rattle.xh_channel.specs.Queues.{Posted};
 ghost use Rattle.xh_core.specs.declared.status.Status.TheVariants as status;
+ghost use Rattle.xh_core.specs.Calls.{arena_tests};
 ghost use Rattle.xh_core.specs.Refusing.{Tested};
 ghost use Rattle.xh_model.specs.declared.limits.TheConstants.{END_BYTES};
-ghost use Rattle.xh_place.specs.Ends.{is_here, open_tests, AreListed};
+ghost use Rattle.xh_place.specs.Ends.{is_here, AreListed};
 ghost use Rattle.xh_place.specs.Places.{Item, PlaceOf, with_less, with_more};
 ghost use Rattle.xh_records.specs.Seats.{IsRecord};
 ghost use Rattle.xh_kernel.specs.Accounts.{has_taken};
@@ -67,7 +68,7 @@ fn finish<N: Names, R: Wait>(
 impl<N: Names> Held<N> {
     // The tests of an open that come before the channel's.
     fn test_open(&self, shared: &Shared<N>, p: u16, arena: u32) -> Result<(), Refused>
-        ensures { Tested (start p self.now.place ++ open_tests self.now.place.state arena (length N.parts.records.shape.names)) result (λ _. self.now.place.state ≡ status.Running) }
+        ensures { Tested (start p self.now.place ++ arena_tests arena (length N.parts.records.shape.names)) result (λ _. self.now.place.state ≡ status.Running) }
     {
         self.start(p)?;
         if arena >= u32::from(shared.arenas.count) {

@@ -52,7 +52,7 @@ impl<N: Names> Held<N> {
         ensures place { Stops p budget self.old.place self.new.place result }
         ensures account { HasReclaimed account.old account.new result }
     {
-        self.stop_test(p)?;
+        self.status_of(p).check_stop()?;
         let mut vaults = shared.vaults(rt);
         let tallies = account.tallies.as_mut_slice();
         let answer = self.place.stop(

@@ -8,8 +8,8 @@ use xh_core::{Block, Glance, Refused, Status};
 use xh_kernel::{Kernel, Names};
 use xh_place::{Got, OpenGate, Taken};
 
-/// A call, by the numbers of processes, records and arenas: a read is of four bytes, a channel of arena 0 but for
-/// that of `Open`. `Spawns` starts so many processes, `Bans` gives a message of each tag from 0 to 4 but one, `Moved`
+/// A call, by the numbers of processes, records and arenas: a read is of four bytes, `ReadPart` of so many of them; a
+/// channel is of arena 0 but for that of `Open`. `Spawns` starts so many processes, `Bans` gives a message of each tag from 0 to 4 but one, `Moved`
 /// asks what the worker took of an arena and gave back, and `Worker` for the worker's number.
 #[derive(Clone, Copy)]
 pub enum Call<'a> {
@@ -18,6 +18,7 @@ pub enum Call<'a> {
     Alloc(u16, u32, u32),
     Split(u16, u16, u32),
     Read(u16, u16, u32),
+    ReadPart(u16, u16, u32, usize),
     Write(u16, u16, u32, &'a [u8]),
     Free(u16, u16),
     Open(u16, u32),
@@ -135,9 +136,17 @@ fn of_moved(moved: Option<(u64, u64)>) -> Answer {
     }
 }
 
-fn bytes_of<N: Names, R: Wait>(rt: &R, kernel: &Kernel<N>, p: u16, r: u16, at: u32) -> Answer {
+/// The bytes of a read of at most four.
+fn bytes_of<N: Names, R: Wait>(
+    rt: &R,
+    kernel: &Kernel<N>,
+    p: u16,
+    r: u16,
+    at: u32,
+    count: usize,
+) -> Answer {
     let mut bytes = [0xee; 4];
-    match kernel.read(rt, p, r, at, &mut bytes, &OpenGate) {
+    match kernel.read(rt, p, r, at, &mut bytes[..count.min(4)], &OpenGate) {
         Ok(()) => Answer::Bytes(bytes),
         Err(refused) => of_refused(refused),
     }
@@ -223,7 +232,8 @@ pub fn answer_of<N: Names, R: Wait>(
             rt, alloc, p, n, arena, account, &OpenGate,
         )),
         Call::Split(p, r, k) => of_two(kernel.split(rt, alloc, p, r, k, &OpenGate)),
-        Call::Read(p, r, at) => bytes_of(rt, kernel, p, r, at),
+        Call::Read(p, r, at) => bytes_of(rt, kernel, p, r, at, 4),
+        Call::ReadPart(p, r, at, count) => bytes_of(rt, kernel, p, r, at, count),
         Call::Write(p, r, at, bytes) => of_nothing(kernel.write(rt, p, r, at, bytes, &OpenGate)),
         Call::Free(p, r) => of_number(kernel.free(rt, p, r, account, &OpenGate).map(u64::from)),
         Call::Exit(p, budget) => of_number(kernel.exit(rt, p, budget, account, &OpenGate)),

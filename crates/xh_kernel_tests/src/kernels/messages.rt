@@ -3,8 +3,8 @@ use super::answers::Answer::{
     self, Back, Block, Bytes, Done, Ends, Message, Moved, No, Number, Two,
 };
 use super::answers::Call::{
-    self, Alloc, Close, Exit, Free, Give, Moved as Count, Open, Read, Spawn, Split, Take, Wire,
-    Write,
+    self, Alloc, Close, Exit, Free, Give, Moved as Count, Open, Read, ReadPart, Spawn, Split, Take,
+    Wire, Write,
 };
 use super::{assert_on, waiting_of};
 use std::test::Fail;
@@ -47,7 +47,7 @@ fn in_flight(rt: HostRuntime) -> Result<(), Fail> {
     assert_on(&rt, rt.alloc(), waiting_of(256, 4), CALLS)
 }
 
-/// Names of another kind are refused in their order.
+/// The refusals of give, and of uses of the wrong kind of block.
 #[test]
 fn refusals_of_give(rt: HostRuntime) -> Result<(), Fail> {
     const CALLS: &[(Call, Answer)] = &[
@@ -59,9 +59,8 @@ fn refusals_of_give(rt: HostRuntime) -> Result<(), Fail> {
         (Give(0, 0, 1, &[0]), No("Twice")),
         (Give(0, 0, 1, &[2; 9]), No("TooMany")),
         (Give(0, 2, 1, &[]), No("NotEndpoint")),
-        (Give(1, 0, 1, &[]), No("NotOwned")),
-        (Give(2, 0, 1, &[]), No("NoProcess")),
         (Free(0, 0), No("NotData")),
+        (ReadPart(0, 2, 15, 2), No("BadRange")),
         (Give(0, 0, 1, &[]), Number(1)),
         (Take(1, 1), Message(1, 1, [None, None])),
         (Take(1, 1), No("Empty")),

@@ -1,18 +1,11 @@
 -- What private steps answer.
-use Rattle.std.specs.Prelude.{ℕ, Option, Some, None}
+use Rattle.std.specs.Prelude.{ℕ}
 use Rattle.xh_arena.specs.declared.refused.Refused.{Refused}
 use Rattle.xh_arena.specs.declared.refused.Refused.TheVariants as arena
 use Rattle.xh_core.specs.declared.refused.Refused.{Refused as Reason}
 use Rattle.xh_core.specs.declared.refused.Refused.TheVariants as reason
-use Rattle.xh_place.specs.declared.body.Header.{Header}
 use Rattle.xh_place.specs.declared.got.Got.{Got}
 use Rattle.xh_place.specs.declared.got.Got.TheVariants.{Here, Missing}
-use Rattle.xh_place.specs.Places.{Item, header_of}
-
--- the length and kind of a block, where there is one
-abbrev pub entry_of : Option Item → Option Header
-entry_of None = None
-entry_of (Some x) = Some (header_of x)
 
 -- the arena's refusal, among those of the heap
 abbrev pub reason_of : Refused → Reason

@@ -6,7 +6,7 @@ use Rattle.xh_model.specs.declared.event.Event.{Event}
 use Rattle.xh_model.specs.Keyed.{Among, keys, put}
 use Rattle.xh_records.specs.Seats.{Held, with_lots}
 use Rattle.xh_place.specs.declared.body.Body.{Body}
-use Rattle.xh_place.specs.declared.body.Kind.TheVariants as kind
+use Rattle.xh_core.specs.declared.header.Kind.TheVariants as kind
 use Rattle.xh_place.specs.Bodies.{content_of, fits_in, front, kind_of, rest}
 use Rattle.xh_place.specs.Moves.{moves}
 use Rattle.xh_place.specs.Places.{IsBlock}

@@ -1,28 +1,30 @@
 //! Data blocks of a place.
 ghost use Rattle.std.specs.Prelude.{◌≡◌, ◌⊎◌, ℕ, ◌+◌, ◌/◌, ◌%◌, ◌<◌, ◌≤◌, [], ◌∷◌, ◌++◌, length, replicate, Some, Err, IfOk, IfErr, OnOk, OnErr, MatchOption};
+ghost use Rattle.xh_core.specs.Calls.{alloc_tests, data_tests, range_tests, split_tests};
+ghost use Rattle.xh_core.specs.Headers.{len_in};
 ghost use Rattle.xh_core.specs.Refusing.{Tested, first_refusal};
+ghost use Rattle.xh_core.specs.Space.{rounded};
 ghost use Rattle.xh_model.specs.declared.limits.TheConstants.{MAX_BYTES, MAX_RECORDS, UNIT};
 ghost use Rattle.xh_model.specs.Arena.{IsGoodCut};
 ghost use Rattle.xh_model.specs.Keyed.{value_at, put, without};
-ghost use Rattle.xh_place.specs.declared.body.Kind.TheVariants as kind;
+ghost use Rattle.xh_core.specs.declared.header.Kind.TheVariants as kind;
 ghost use Rattle.xh_place.specs.Bodies.{bytes, kind_of, part, patched};
-ghost use Rattle.xh_place.specs.Places.{Item, IsPlaceOf, IsSamePlace, with_blocks};
-ghost use Rattle.xh_place.specs.Refusals.{rounded, alloc_tests, data_tests, range_tests, split_tests, len_in};
-ghost use Rattle.xh_place.specs.inner.Answers.{entry_of};
+ghost use Rattle.xh_place.specs.Places.{Item, IsPlaceOf, IsSamePlace, found, with_blocks};
 ghost use Rattle.xh_place.specs.Splitting.{IsSplit};
+ghost use Rattle.xh_place.specs.Starts.{start};
 ghost use Rattle.xh_place.specs.Tallies.{ids_of, took, gave};
 ghost use Rattle.xh_place.specs.Vaults.{IsNoBlock};
 
-use crate::body::{Body, Header, Kind};
+use crate::body::Body;
 use crate::bytes::{read_lot, write_lot};
 use crate::gate::Gate;
 use crate::list::{remove, replace};
 use crate::lots::{cut_block, give_up, make_block};
-use crate::place::{Place, is_running};
+use crate::place::{Place, check_start};
 use crate::vaults::Vaults;
 use std::alloc::Global;
 use xh_arena::Tally;
-use xh_core::{Block, Refused};
+use xh_core::{Block, Header, Kind, Refused};
 use xh_model::limits::{MAX_RECORDS, UNIT};
 use xh_records::Records;
 
@@ -58,12 +60,10 @@ impl Place {
         ensures block { IfOk result (λ b. (b.len ≡ rounded n) × (b.rec / MAX_RECORDS ≡ arena)) }
         ensures taken { IfOk result (λ b. tallies.new ≡ took arena b.len tallies.old) }
         ensures refused { OnErr result ((self.new ≡ self.old) × (tallies.new ≡ tallies.old)) }
-        ensures why { MatchOption (first_refusal (alloc_tests self.old.state arena (length self.old.shape.names) n (V.extent vaults.old)))
+        ensures why { MatchOption (first_refusal (start self.old.state ++ alloc_tests arena (length self.old.shape.names) n (V.extent vaults.old)))
             (IfErr result (IsNoBlock V.changes vaults.old vaults.new arena (rounded n))) (λ refused. (result ≡ Err refused) × (vaults.new ≡ vaults.old)) }
     {
-        if !is_running(self.state) {
-            return Err(Refused::Ended);
-        }
+        check_start(self.state)?;
         if arena >= u32::from(vaults.arenas()) {
             return Err(Refused::NoArena);
         }
@@ -106,7 +106,7 @@ impl Place {
     ) -> u32
         requires own { IsPlaceOf records.now self.old }
         requires names { (V.names vaults.old ≡ self.old.shape.names) × (ids_of tallies.old ≡ self.old.shape.names) }
-        requires listed { entry_of (value_at r self.old.blocks) ≡ Some header }
+        requires listed { found self.old r ≡ Some header }
         ensures same { (V.names vaults.new ≡ V.names vaults.old) × (V.extent vaults.new ≡ V.extent vaults.old) × (ids_of tallies.new ≡ ids_of tallies.old) }
         ensures list { self.new ≡ with_blocks self.old (without r self.old.blocks) }
         ensures bytes { result ≡ header.len }
@@ -121,11 +121,9 @@ impl Place {
 
     // The tests of a call on a data block.
     fn test_data(&self, r: u16) -> Result<Header, Refused>
-        ensures { Tested (data_tests self.now.state (value_at r self.now.blocks)) result (λ s. entry_of (value_at r self.now.blocks) ≡ Some s) }
+        ensures { Tested (start self.now.state ++ data_tests (found self.now r)) result (λ s. found self.now r ≡ Some s) }
     {
-        if !is_running(self.state()) {
-            return Err(Refused::Ended);
-        }
+        check_start(self.state())?;
         let Some(header) = self.header(r) else {
             return Err(Refused::NotOwned);
         };
@@ -150,7 +148,7 @@ impl Place {
         ensures place { IsSamePlace self.old self.new }
         ensures freed { OnOk result (self.new ≡ with_blocks self.old (without r self.old.blocks)) }
         ensures back { IfOk result (λ n. tallies.new ≡ gave (r / MAX_RECORDS) n tallies.old) }
-        ensures bytes { Tested (data_tests self.old.state (value_at r self.old.blocks)) result (λ n. n ≡ len_in (value_at r self.old.blocks)) }
+        ensures bytes { Tested (start self.old.state ++ data_tests (found self.old r)) result (λ n. n ≡ len_in (found self.old r)) }
         ensures refused { OnErr result ((self.new ≡ self.old) × (vaults.new ≡ vaults.old) × (tallies.new ≡ tallies.old)) }
     {
         let header = self.test_data(r)?;
@@ -159,7 +157,7 @@ impl Place {
 
     // The tests of a call on `count` bytes of a data block from `at` on.
     fn test_range(&self, r: u16, at: u32, count: usize) -> Result<(), Refused>
-        ensures { Tested (range_tests self.now.state (value_at r self.now.blocks) at count) result
+        ensures { Tested (start self.now.state ++ range_tests (found self.now r) at count) result
             (λ _. (x : Item) × (value_at r self.now.blocks ≡ Some x) × (kind_of x.content ≡ kind.Data) × (at + count ≤ x.len)) }
     {
         let header = self.test_data(r)?;
@@ -189,7 +187,7 @@ impl Place {
         ensures place { IsSamePlace self.old self.new }
         ensures cut { IfOk result (λ ends. IsSplit self.old self.new r k ends.0 ends.1) }
         ensures refused { OnErr result ((self.new ≡ self.old) × (vaults.new ≡ vaults.old)) }
-        ensures why { MatchOption (first_refusal (split_tests self.old.state (value_at r self.old.blocks) k)) (IfErr result (λ e. (e ≡ Refused.NoRecord) ⊎ (e ≡ Refused.OutOfMemory)))
+        ensures why { MatchOption (first_refusal (start self.old.state ++ split_tests (found self.old r) k)) (IfErr result (λ e. (e ≡ Refused.NoRecord) ⊎ (e ≡ Refused.OutOfMemory)))
             (λ refused. result ≡ Err refused) }
     {
         let len = self.test_cut(r, k)?;
@@ -203,7 +201,7 @@ impl Place {
 
     // The tests of a split: the block's length.
     fn test_cut(&self, r: u16, k: u32) -> Result<u32, Refused>
-        ensures { Tested (split_tests self.now.state (value_at r self.now.blocks) k) result
+        ensures { Tested (start self.now.state ++ split_tests (found self.now r) k) result
             (λ n. (x : Item) × (value_at r self.now.blocks ≡ Some x) × (kind_of x.content ≡ kind.Data) × (x.len ≡ n) × IsGoodCut k n) }
     {
         let header = self.test_data(r)?;
@@ -224,7 +222,7 @@ impl Place {
     ) -> Result<(), Refused>
         requires own { IsPlaceOf records.now self.old }
         ensures same { self.new ≡ self.old }
-        ensures read { Tested (range_tests self.old.state (value_at r self.old.blocks) at (length out.old)) result
+        ensures read { Tested (start self.old.state ++ range_tests (found self.old r) at (length out.old)) result
             (λ _. (x : Item) × (value_at r self.old.blocks ≡ Some x) × (out.new ≡ part at (length out.old) x.content)) }
         ensures refused { OnErr result (out.new ≡ out.old) }
     {
@@ -244,7 +242,7 @@ impl Place {
     ) -> Result<(), Refused>
         requires own { IsPlaceOf records.now self.old }
         ensures place { IsSamePlace self.old self.new }
-        ensures written { Tested (range_tests self.old.state (value_at r self.old.blocks) at (length bytes.now)) result
+        ensures written { Tested (start self.old.state ++ range_tests (found self.old r) at (length bytes.now)) result
             (λ _. (x : Item) × (value_at r self.old.blocks ≡ Some x) × (self.new ≡ with_blocks self.old (put r (record x { content = patched at bytes.now x.content }) self.old.blocks))) }
         ensures refused { OnErr result (self.new ≡ self.old) }
     {

@@ -1,26 +1,28 @@
 //! How a place is reclaimed.
 ghost use Rattle.std.specs.Prelude.{◌≡◌, ◌≢◌, ℕ, ◌+◌, ◌-◌, ◌*◌, ◌<◌, ◌≤◌, ◌⊎◌, List, [], ◌∷◌, ◌++◌, length, take, drop, Some, true};
 ghost use Rattle.xh_core.specs.declared.status.Status.TheVariants as status;
+ghost use Rattle.xh_core.specs.Calls.{reclaimed};
+ghost use Rattle.xh_core.specs.Statuses.{is_over};
 ghost use Rattle.xh_model.specs.declared.limits.TheConstants.{DIRECTIONS};
 ghost use Rattle.xh_model.specs.Keyed.{value_at};
 ghost use Rattle.xh_records.specs.Seats.{IsRecord};
 ghost use Rattle.xh_place.specs.Bodies.{kind_of};
-ghost use Rattle.xh_place.specs.Ending.{HasGivenBack, IsStopped, IsSwept, IsSweptBy, ending, reclaimed, stop_tests};
+ghost use Rattle.xh_place.specs.Ending.{HasGivenBack, IsStopped, IsSwept, IsSweptBy, ending};
 ghost use Rattle.xh_place.specs.Ends.{RefusedOr, IsTooLate, ending_again};
 ghost use Rattle.xh_place.specs.inner.Reclaiming.{IsSweptLate, awake};
 ghost use Rattle.xh_place.specs.Places.{Item, IsPlaceOf, IsSamePlace, total_of, with_blocks, with_list};
-ghost use Rattle.xh_place.specs.Refusals.{is_over};
+ghost use Rattle.xh_place.specs.Starts.{stop};
 ghost use Rattle.xh_place.specs.Tallies.{ids_of};
 
-use crate::body::{Body, Kind};
+use crate::body::Body;
 use crate::gate::Gate;
-use crate::place::{Place, is_over};
+use crate::place::{Place, check_stop};
 use crate::reclaiming::{cut_out, give_up_all, run};
 use crate::vaults::Vaults;
 use std::sync::Wait;
 use xh_arena::Tally;
 use xh_channel::Channels;
-use xh_core::{Refused, Status};
+use xh_core::{Kind, Refused, Status};
 use xh_model::limits::MAX_BUDGET;
 use xh_records::Records;
 
@@ -189,12 +191,10 @@ impl Place {
         requires names { (V.names vaults.old ≡ self.old.shape.names) × (ids_of tallies.old ≡ self.old.shape.names) }
         ensures same { (V.names vaults.new ≡ V.names vaults.old) × (V.extent vaults.new ≡ V.extent vaults.old) × (ids_of tallies.new ≡ ids_of tallies.old) }
         ensures place { IsSamePlace self.old self.new }
-        ensures stopped { RefusedOr (stop_tests self.old.state) result ((self.new ≡ self.old) × (tallies.new ≡ tallies.old))
+        ensures stopped { RefusedOr (stop self.old.state) result ((self.new ≡ self.old) × (tallies.new ≡ tallies.old))
             ((bytes : ℕ) × IsStopped budget self.old self.new bytes result × HasGivenBack bytes tallies.old tallies.new) }
     {
-        if is_over(self.state()) {
-            return Err(Refused::Ended);
-        }
+        check_stop(self.state())?;
         self.set_state(Status::Ending);
         let (bytes, _left) = self.sweep(rt, records, channels, 0, budget, vaults, tallies, gate);
         let left = self.left(0);

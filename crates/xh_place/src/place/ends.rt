@@ -2,43 +2,44 @@
 ghost use Rattle.std.specs.Prelude.{◌≡◌, ◌≢◌, ◌⊎◌, ℕ, ◌+◌, ◌*◌, ◌/◌, ◌<◌, List, [], ◌∷◌, ◌++◌, length, Some, IfOk, IfErr, OnOk, OnErr, MatchOption, true, false};
 ghost use Rattle.xh_channel.specs.Pairs.{IsPair};
 ghost use Rattle.xh_core.specs.declared.status.Status.TheVariants as status;
+ghost use Rattle.xh_core.specs.Calls.{arena_tests, end_tests};
+ghost use Rattle.xh_core.specs.Headers.{has_end};
 ghost use Rattle.xh_core.specs.Refusing.{Tested};
+ghost use Rattle.xh_core.specs.Statuses.{is_over};
 ghost use Rattle.xh_model.specs.Keyed.{value_at};
 ghost use Rattle.xh_records.specs.Seats.{IsRecord};
-ghost use Rattle.xh_place.specs.declared.body.Kind.TheVariants as kind;
+ghost use Rattle.xh_core.specs.declared.header.Kind.TheVariants as kind;
 ghost use Rattle.xh_place.specs.Bodies.{kind_of, spot};
 ghost use Rattle.xh_place.specs.Ending.{HasGivenBack, IsClosed, last};
-ghost use Rattle.xh_place.specs.Ends.{RefusedOr, end_tests, has_end, open_tests, toward_in, AreListed, Opens, IsUnopened, is_here, IsTooLate};
-ghost use Rattle.xh_place.specs.Places.{Item, IsPlaceOf, IsSamePlace, with_blocks, with_less, with_more};
-ghost use Rattle.xh_place.specs.Refusals.{is_over};
+ghost use Rattle.xh_place.specs.Ends.{RefusedOr, toward_in, AreListed, Opens, IsUnopened, is_here, IsTooLate};
+ghost use Rattle.xh_place.specs.Places.{Item, IsPlaceOf, IsSamePlace, found, with_blocks, with_less, with_more};
 ghost use Rattle.xh_model.specs.declared.limits.TheConstants.{DIRECTIONS, END_BYTES};
+ghost use Rattle.xh_place.specs.Starts.{start};
 ghost use Rattle.xh_place.specs.Tallies.{ids_of};
 ghost use Rattle.xh_place.specs.Vaults.{IsNoPair};
 
-use crate::body::{Body, Header, Kind};
+use crate::body::Body;
 use crate::gate::{Gate, Point};
 use crate::list::{entry, remove};
 use crate::lots::{place_of, swap_body};
 use crate::opening::{Unopened, make_ends};
 use crate::place::ending::reclaimed;
-use crate::place::{Place, is_running};
+use crate::place::{Place, check_start};
 use crate::vaults::Vaults;
 use std::sync::Wait;
 use xh_arena::Tally;
 use xh_channel::{Channels, Endpoint, Spot};
-use xh_core::{Block, Refused, Status};
+use xh_core::{Block, Header, Kind, Refused, Status};
 use xh_model::limits::{END_BYTES, MAX_BUDGET};
 use xh_records::Records;
 
 impl Place {
     // The tests of a call on an endpoint.
     pub(super) fn test_end(&self, e: u16) -> Result<(), Refused>
-        ensures { Tested (end_tests self.now.state (value_at e self.now.blocks)) result
+        ensures { Tested (start self.now.state ++ end_tests (found self.now e)) result
             (λ _. (self.now.state ≡ status.Running) × ((x : Item) × (value_at e self.now.blocks ≡ Some x) × (kind_of x.content ≡ kind.End))) }
     {
-        if !is_running(self.state()) {
-            return Err(Refused::Ended);
-        }
+        check_start(self.state())?;
         let Some(header) = self.header(e) else {
             return Err(Refused::NotOwned);
         };
@@ -52,7 +53,7 @@ impl Place {
     pub fn spot(&mut self, records: &Records<Body>, r: u16) -> Option<Spot>
         requires own { IsPlaceOf records.now self.old }
         ensures same { self.new ≡ self.old }
-        ensures spot { MatchOption result (has_end (value_at r self.old.blocks) ≡ false) (λ s. (x : Item) × (value_at r self.old.blocks ≡ Some x) × (x.content ≡ spot s.channel s.side)) }
+        ensures spot { MatchOption result (has_end (found self.old r) ≡ false) (λ s. (x : Item) × (value_at r self.old.blocks ≡ Some x) × (x.content ≡ spot s.channel s.side)) }
     {
         let Some(
             Header {
@@ -102,11 +103,10 @@ impl Place {
         ensures opened { Opens arena low high self.old self.new tallies.old tallies.new result }
         ensures place { IsSamePlace self.old self.new }
         ensures ends { IfOk result (AreListed low high self.new) }
-        ensures why { IsUnopened (open_tests self.old.state arena (length self.old.shape.names)) (vaults.new ≡ vaults.old)
+        ensures why { IsUnopened (start self.old.state ++ arena_tests arena (length self.old.shape.names)) (vaults.new ≡ vaults.old)
             (IsNoPair V.changes vaults.old vaults.new arena (2 * END_BYTES) (V.extent vaults.old)) result }
     {
-        if !is_running(self.state) {
-            let why = Refused::Ended;
+        if let Err(why) = check_start(self.state) {
             return Err(Unopened { why, low, high });
         }
         if arena >= u32::from(vaults.arenas()) {
@@ -154,7 +154,7 @@ impl Place {
         ensures opened { Opens arena low high self.old self.new tallies.old tallies.new result }
         ensures place { IsSamePlace self.old self.new }
         ensures ends { IfOk result (AreListed low high self.new) }
-        ensures why { IsUnopened (open_tests self.old.state arena (length self.old.shape.names)) (vaults.new ≡ vaults.old)
+        ensures why { IsUnopened (start self.old.state ++ arena_tests arena (length self.old.shape.names)) (vaults.new ≡ vaults.old)
             (IsNoPair V.changes vaults.old vaults.new arena (2 * END_BYTES) (V.extent vaults.old)) result }
     {
         self.open(records, low, high, arena, vaults, tallies, gate)
@@ -164,7 +164,7 @@ impl Place {
     pub fn pass_end(&mut self, records: &Records<Body>, r: u16, direction: u8)
         requires own { IsPlaceOf records.now self.old × (direction < DIRECTIONS) }
         requires running { self.old.state ≡ status.Running }
-        requires end { has_end (value_at r self.old.blocks) ≡ true }
+        requires end { has_end (found self.old r) ≡ true }
         ensures { self.new ≡ with_less direction r self.old }
     {
         self.pass(records, r, direction);
@@ -189,7 +189,7 @@ impl Place {
         ensures here { result ≡ is_here self.now process }
         ensures running { result ≡ true → self.now.state ≡ status.Running }
     {
-        is_running(self.state()) && self.seat.process() == process
+        self.state() == Status::Running && self.seat.process() == process
     }
 
     /// Takes the endpoint `r`, which is in flight on the direction, at the end of the list, for a process that runs here.
@@ -245,7 +245,7 @@ impl Place {
         requires names { (V.names vaults.old ≡ self.old.shape.names) × (ids_of tallies.old ≡ self.old.shape.names) }
         ensures same { (V.names vaults.new ≡ V.names vaults.old) × (V.extent vaults.new ≡ V.extent vaults.old) × (ids_of tallies.new ≡ ids_of tallies.old) }
         ensures place { IsSamePlace self.old self.new }
-        ensures closed { RefusedOr (end_tests self.old.state (value_at e self.old.blocks)) result ((self.new ≡ self.old) × (tallies.new ≡ tallies.old))
+        ensures closed { RefusedOr (start self.old.state ++ end_tests (found self.old e)) result ((self.new ≡ self.old) × (tallies.new ≡ tallies.old))
             ((bytes : ℕ) × IsClosed e self.old self.new bytes result × HasGivenBack bytes tallies.old tallies.new) }
     {
         self.test_end(e)?;
@@ -318,7 +318,7 @@ impl Place {
         requires own { IsPlaceOf records.now self.old }
         requires alive { is_over self.old.state ≢ true }
         requires block { (x : Item) × (value_at r self.old.blocks ≡ Some x) × (kind ≡ kind_of x.content) }
-        ensures { (ys : List (ℕ × Item)) × (self.new ≡ with_more (toward_in (value_at r self.old.blocks)) ys self.old) × (has_end (value_at r self.old.blocks) ≡ false → ys ≡ []) }
+        ensures { (ys : List (ℕ × Item)) × (self.new ≡ with_more (toward_in (value_at r self.old.blocks)) ys self.old) × (has_end (found self.old r) ≡ false → ys ≡ []) }
     {
         if kind == Kind::Data {
             return;

@@ -3,20 +3,22 @@ ghost use Rattle.std.specs.Prelude.{◌≡◌, ◌≢◌, ℕ, ◌+◌, ◌*◌,
 ghost use Rattle.std.specs.List.{list_all};
 ghost use Rattle.xh_core.specs.declared.status.Status.TheVariants as status;
 ghost use Rattle.xh_channel.specs.Refusals.{same_refusal};
+ghost use Rattle.xh_core.specs.Calls.{end_tests, given_tests};
 ghost use Rattle.xh_core.specs.Refusing.{Tested};
+ghost use Rattle.xh_core.specs.Statuses.{is_over};
 ghost use Rattle.xh_model.specs.declared.limits.TheConstants.{DIRECTIONS};
 ghost use Rattle.xh_model.specs.Keyed.{Among, Distinct, keys, value_at};
 ghost use Rattle.xh_records.specs.Seats.{IsRecord};
-ghost use Rattle.xh_place.specs.declared.body.Kind.TheVariants as kind;
+ghost use Rattle.xh_core.specs.declared.header.Kind.TheVariants as kind;
 ghost use Rattle.xh_place.specs.Bodies.{kind_of};
-ghost use Rattle.xh_place.specs.Ends.{RefusedOr, away_in, end_tests, toward_in};
-ghost use Rattle.xh_place.specs.Messages.{give_tests, given_tests, is_listed, IsSent, IsTaken, IsUntaken};
-ghost use Rattle.xh_place.specs.Places.{Item, IsPlaceOf, IsSamePlace, with_more};
-ghost use Rattle.xh_place.specs.Refusals.{is_over};
+ghost use Rattle.xh_place.specs.Ends.{RefusedOr, away_in, toward_in};
+ghost use Rattle.xh_place.specs.Messages.{is_listed, IsSent, IsTaken, IsUntaken};
+ghost use Rattle.xh_place.specs.Places.{Item, IsPlaceOf, IsSamePlace, found, with_more};
+ghost use Rattle.xh_place.specs.Starts.{start};
 ghost use Rattle.xh_place.specs.Taking.{AreGot, IsGot};
 ghost use Rattle.xh_place.specs.inner.Answers.{record_of};
 
-use crate::body::{Body, Header};
+use crate::body::Body;
 use crate::gate::{Gate, Point};
 use crate::giving::{Given, answer, give_all};
 use crate::got::{Got, Taken};
@@ -26,12 +28,12 @@ use crate::place::Place;
 use arrayvec::ArrayVec;
 use std::sync::Wait;
 use xh_channel::{Channels, Message, Refused as Untaken};
-use xh_core::{Block, Refused, is_twice};
+use xh_core::{Block, Header, Refused, is_twice};
 use xh_records::Records;
 
 impl Place {
     /// Gives blocks of the list, by the endpoint `e`, in a message with a tag. It answers the message's number.
-    /// Ended, NotOwned and NotEndpoint are of the endpoint; then TooMany of more than 8 blocks, NotOwned of a block, Twice. Protocol, PeerClosed and Full name the blocks that came back.
+    /// Ended is of the process; NotOwned and NotEndpoint of the endpoint; then TooMany of more than 8 blocks, NotOwned of a block, Twice. Protocol, PeerClosed and Full name the blocks that came back.
     pub fn give<R: Wait, G: Gate>(
         &mut self,
         rt: &R,
@@ -44,7 +46,8 @@ impl Place {
     ) -> Result<u64, Refused>
         requires own { IsPlaceOf records.now self.old }
         ensures place { IsSamePlace self.old self.new }
-        ensures given { RefusedOr (give_tests self.old e blocks.now) result (self.new ≡ self.old) (IsSent (away_in (value_at e self.old.blocks)) blocks.now self.old self.new result) }
+        ensures given { RefusedOr (start self.old.state ++ end_tests (found self.old e) ++ given_tests (is_listed self.old.blocks) e blocks.now) result (self.new ≡ self.old)
+            (IsSent (away_in (value_at e self.old.blocks)) blocks.now self.old self.new result) }
     {
         self.test_end(e)?;
         let given = self.test_given(e, blocks)?;
@@ -65,7 +68,7 @@ impl Place {
 
     // The tests of a give on its blocks.
     fn test_given(&self, e: u16, blocks: &[u16]) -> Result<ArrayVec<u16, 8>, Refused>
-        ensures { Tested (given_tests self.now.blocks e blocks.now) result (λ given. given.items ≡ blocks.now) }
+        ensures { Tested (given_tests (is_listed self.now.blocks) e blocks.now) result (λ given. given.items ≡ blocks.now) }
     {
         let mut given = ArrayVec::new();
         let Ok(()) = given.try_extend_from_slice(blocks) else {
@@ -126,7 +129,7 @@ impl Place {
     ) -> Result<Taken, Refused>
         requires own { IsPlaceOf records.now self.old }
         ensures place { IsSamePlace self.old self.new }
-        ensures taken { RefusedOr (end_tests self.old.state (value_at e self.old.blocks)) result (self.new ≡ self.old)
+        ensures taken { RefusedOr (start self.old.state ++ end_tests (found self.old e)) result (self.new ≡ self.old)
             (MatchResult result (IsTaken (toward_in (value_at e self.old.blocks)) self.old self.new) (λ refused. IsUntaken refused × (self.new ≡ self.old))) }
     {
         self.test_end(e)?;

@@ -6,16 +6,18 @@ use std::sync::Wait;
 use xh_core::{Block, Refused, Status};
 use xh_place::{Got, Point, Taken};
 
-/// A call of the place whose turn it is, by records: a read is of four bytes, a channel of arena 0, and its contract, of
-/// `OpenWith`, is a request with the tag 1 by side 0, then a reply with the tag 2 by side 1, and so on. `HandOver` passes
-/// an end to the other place, which accepts it; `Accept` is the other place's, of an end on a direction. `Turn` makes it
-/// the other place's turn. `Lists` asks for the blocks and bytes of this place and of the other, `Moved` what the account
-/// took and gave back, and `Stops` whether these are the points where a place's calls stopped since it was last asked.
+/// A call of the place whose turn it is, by records: a read is of four bytes, `ReadPart` of so many of them, a channel of
+/// arena 0, and its contract, of `OpenWith`, is a request with the tag 1 by side 0, then a reply with the tag 2 by side 1,
+/// and so on. `HandOver` passes an end to the other place, which accepts it; `Accept` is the other place's, of an end on a
+/// direction. `Turn` makes it the other place's turn. `Lists` asks for the blocks and bytes of this place and of the other,
+/// `Moved` what the account took and gave back, and `Stops` whether these are the points where a place's calls stopped
+/// since it was last asked.
 #[derive(Clone, Copy)]
 pub(super) enum Call<'a> {
     Alloc(u32, u32),
     Split(u16, u32),
     Read(u16, u32),
+    ReadPart(u16, u32, usize),
     Write(u16, u32, &'a [u8]),
     Free(u16),
     Open,
@@ -71,7 +73,7 @@ fn of_refused(refused: Refused) -> Answer {
     }
 }
 
-fn of_number(answer: Result<u64, Refused>) -> Answer {
+pub(super) fn of_number(answer: Result<u64, Refused>) -> Answer {
     match answer {
         Ok(number) => Answer::Number(number),
         Err(refused) => of_refused(refused),
@@ -126,10 +128,10 @@ pub(super) fn of_nothing(answer: Result<(), Refused>) -> Answer {
     }
 }
 
-/// Four bytes of a block. What a refused read has changed is told as if it had been read.
-fn bytes_of(desk: &mut Desk, r: u16, at: u32) -> Answer {
+/// At most four bytes of a block. What a refused read has changed is told as if it had been read.
+fn bytes_of(desk: &mut Desk, r: u16, at: u32, count: usize) -> Answer {
     let mut bytes = UNREAD;
-    let Err(refused) = desk.read(r, at, &mut bytes) else {
+    let Err(refused) = desk.read(r, at, &mut bytes[..count.min(4)]) else {
         return Answer::Bytes(bytes);
     };
     if bytes != UNREAD {
@@ -171,7 +173,8 @@ fn answer_of<R: Wait>(rt: &R, alloc: Global, desk: &mut Desk, call: Call) -> Ans
     match call {
         Call::Alloc(n, arena) => of_block(desk.alloc(alloc, n, arena)),
         Call::Split(r, k) => of_two(desk.split(alloc, r, k)),
-        Call::Read(r, at) => bytes_of(desk, r, at),
+        Call::Read(r, at) => bytes_of(desk, r, at, 4),
+        Call::ReadPart(r, at, count) => bytes_of(desk, r, at, count),
         Call::Write(r, at, bytes) => of_nothing(desk.write(r, at, bytes)),
         Call::Free(r) => of_number(desk.free(r).map(u64::from)),
         Call::Open => of_ends(desk.open(rt)),

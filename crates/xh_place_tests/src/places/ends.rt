@@ -3,8 +3,8 @@ use super::answers::Answer::{
     self, Back, Block, Ends, Left, Lists, Message, Moved, No, Number, State,
 };
 use super::answers::Call::{
-    self, Alloc, Close, Free, Give, Lists as Both, Moved as Count, Open, Read, State as How, Stop,
-    Take,
+    self, Alloc, Close, Free, Give, Lists as Both, Moved as Count, Open, ReadPart, State as How,
+    Stop, Take,
 };
 use super::answers::assert_answers;
 use xh_core::Status;
@@ -22,7 +22,7 @@ fn refusals_of_give(rt: HostRuntime) {
         (Give(7, 1, &[]), No("NotOwned")),
         (Give(0, 1, &[7]), No("NotOwned")),
         (Free(0), No("NotData")),
-        (Read(2, 13), No("BadRange")),
+        (ReadPart(2, 15, 2), No("BadRange")),
         (Give(0, 1, &[]), Number(1)),
         (Take(1), Message(1, 1, 0, [None, None])),
         (Take(1), No("Empty")),
@@ -44,6 +44,7 @@ fn full_direction(rt: HostRuntime) {
         (Take(1), Message(1, 0, 1, [Some((2, 16)), None])),
         (Give(0, 0, &[3]), Number(2)),
         (Both, Lists(3, 80, 0, 0)),
+        (Take(1), Message(2, 0, 1, [Some((3, 16)), None])),
     ];
     assert_answers(&rt, rt.alloc(), 1, CALLS)
 }

@@ -1,32 +1,36 @@
 // Refused growths: each test passes whichever growth of memory is refused, and when none is.
-use super::answers::{Answer, of_block, of_nothing, of_two};
+use super::answers::{Answer, of_block, of_nothing, of_number, of_two};
 use super::{Bench, make_bench};
 use std::alloc::Global;
 use std::process::Abort;
 use xh_core::Status;
 
-/// A call of the first place, of arena 0: an alloc; a split of record 0, and a write of one byte to it; a read of four
-/// bytes. `Size` asks for its blocks and bytes, `Moved` for what the account took and gave back.
+/// A call of the first place: an alloc of arena 0 or of another; a split of record 0 or of another, and a write of one byte
+/// to record 0; a read of four bytes; a free. `Size` asks for its blocks and bytes, `Moved` for what the account took and
+/// gave back.
 #[derive(Clone, Copy)]
-enum Call {
+pub(super) enum Call {
     Alloc(u32),
+    AllocOf(u32, u32),
     Split(u32),
+    SplitOf(u16, u32),
     Write(u32, u8),
     Read(u16, u32),
+    Free(u16),
     Size,
     Moved,
 }
 
 /// What a call may change: the size, the account, the vault's gauges and the first 48 bytes of record 0.
 #[derive(Clone, Copy, PartialEq)]
-struct State {
+pub(super) struct State {
     size: (usize, u64),
     account: Option<(u64, u64)>,
     gauges: (Option<(u32, u32)>, u32, u64),
     bytes: [u8; 48],
 }
 
-fn state_of(bench: &mut Bench) -> State {
+pub(super) fn state_of(bench: &mut Bench) -> State {
     let mut bytes = [0xee; 48];
     let _absent = bench.read(0, 0, &mut bytes).is_err();
     State {
@@ -58,10 +62,13 @@ fn moved_of(bench: &Bench) -> Answer {
 }
 
 /// What the call answers.
-fn answer_of(alloc: Global, bench: &mut Bench, call: Call) -> Answer {
+pub(super) fn answer_of(alloc: Global, bench: &mut Bench, call: Call) -> Answer {
     match call {
         Call::Alloc(n) => of_block(bench.alloc(alloc, n, 0)),
+        Call::AllocOf(n, arena) => of_block(bench.alloc(alloc, n, arena)),
         Call::Split(k) => of_two(bench.split(alloc, 0, k)),
+        Call::SplitOf(r, k) => of_two(bench.split(alloc, r, k)),
+        Call::Free(r) => of_number(bench.free(r).map(u64::from)),
         Call::Write(at, byte) => of_nothing(bench.write(0, at, &[byte])),
         Call::Read(r, at) => read_of(bench, r, at),
         Call::Size => size_of(bench),

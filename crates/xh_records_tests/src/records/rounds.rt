@@ -7,6 +7,7 @@ ghost use Rattle.xh_records.specs.Showing.{IsLotOf};
 ghost use Rattle.xh_records.specs.Seats.{IsRecord, IsSeatOf, with_lots};
 
 use super::{Any, Bench, assert_left, close_both, make_bench};
+use std::alloc::Global;
 use std::process::Abort;
 use std::test::Fail;
 use xh_arena::{Lot, Tally, Vault};
@@ -133,11 +134,10 @@ fn take_over(
     assert_word(rt, records, seat, 0, 0);
 }
 
-#[test]
-fn record_words(rt: HostRuntime) -> Result<(), Fail> {
-    let Some(bench) = make_bench(rt.alloc(), 64, 2, 1000) else {
-        panic!(rt; "no bench");
-    };
+/// A record goes its round on a new bench of two records, and the table is taken apart, unless a growth was refused.
+fn go_round(rt: &impl Abort, alloc: Global, bench: Bench) -> Result<(), Refused>
+    requires { bench.records.shape.records ≡ 2 }
+{
     let Bench {
         mut vault,
         mut tally,
@@ -146,14 +146,21 @@ fn record_words(rt: HostRuntime) -> Result<(), Fail> {
         mut second,
     } = bench;
     assert!(rt; records.has(1) && !records.has(2) && !records.has(256));
-    give_away(&rt, &records, &mut first, &mut vault, &mut tally, 5);
-    assert_word(&rt, &records, &mut first, 0, 22);
-    take_over(&rt, &records, &mut second, &mut vault, &mut tally);
+    give_away(rt, &records, &mut first, &mut vault, &mut tally, 5);
+    assert_word(rt, &records, &mut first, 0, 22);
+    take_over(rt, &records, &mut second, &mut vault, &mut tally);
     assert_eq!(rt; (tally.taken(), tally.back()), (32, 32));
     assert_eq!(rt; records.renew(&mut first), 32);
     assert_eq!(rt; (first.process(), second.process()), (32, 1));
-    let (words, lots) = close_both(rt.alloc(), records, first, second)?;
-    assert_left(&rt, &words, &lots, &[(0, 0), (0, 0)]);
+    let (words, lots) = close_both(alloc, records, first, second)?;
+    assert_left(rt, &words, &lots, &[(0, 0), (0, 0)]);
+    Ok(())
+}
+
+#[test]
+fn record_words(rt: HostRuntime) -> Result<(), Fail> {
+    let bench = make_bench(rt.alloc(), 64, 2, 1000).expect(&rt, "a bench");
+    go_round(&rt, rt.alloc(), bench)?;
     Ok(())
 }
 
@@ -195,21 +202,25 @@ fn full_arena(rt: HostRuntime) -> Result<(), Fail> {
     Ok(())
 }
 
-/// With the first, the second or a later growth refused, the table is there or out of memory.
+/// A new bench of two records, and where a growth was refused, one by the same calls made again.
+fn grown_bench(rt: &impl Abort, alloc: Global) -> Bench
+    ensures { result.records.shape.records ≡ 2 }
+{
+    match make_bench(alloc, 64, 2, 1000) {
+        Some(bench) => bench,
+        None => make_bench(alloc, 64, 2, 1000).expect(rt, "a bench"),
+    }
+}
+
+/// With any one growth refused there is no bench, or its table is not taken apart; the next bench is whole: a record goes
+/// its round on it, and leaves the table as it was.
 #[test]
 fn growths(rt: HostRuntime) -> Result<(), Fail> {
-    let Some(bench) = make_bench(rt.alloc(), 64, 2, 1000) else {
+    let bench = grown_bench(&rt, rt.alloc());
+    if go_round(&rt, rt.alloc(), bench).is_ok() {
         return Ok(());
-    };
-    let Bench {
-        records,
-        first,
-        second,
-        ..
-    } = bench;
-    match close_both(rt.alloc(), records, first, second) {
-        Ok((words, lots)) => assert_eq!(rt; (words.len(), lots.len()), (2, 2)),
-        Err(Refused::OutOfMemory) => {}
     }
+    let bench = grown_bench(&rt, rt.alloc());
+    go_round(&rt, rt.alloc(), bench)?;
     Ok(())
 }

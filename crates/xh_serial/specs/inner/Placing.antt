@@ -1,24 +1,20 @@
 -- All places as a value: the list of them, by number.
-use Rattle.std.specs.Prelude.{ℕ, ◌+◌, ◌*◌, ◌/◌, ◌%◌, ◌==◌, ◌||◌, cond, List, Option, Some, None, nat_le, nat_lt, slice_index_or, slice_set}
+use Rattle.std.specs.Prelude.{ℕ, ◌+◌, ◌*◌, ◌%◌, List, Option, Some, None, slice_index_or, slice_set}
 use Rattle.xh_serial.specs.declared.place.Place.{Place}
 use Rattle.xh_core.specs.declared.status.Status.{Status}
-use Rattle.xh_core.specs.declared.status.Status.TheVariants.{Vacant, Ended}
+use Rattle.xh_core.specs.Statuses.{status_of}
+pub use Rattle.xh_serial.specs.Machine.{place_in}
 use Rattle.xh_serial.specs.Machine.{no_place}
 use Rattle.xh_serial.specs.PlaceCommands.{started}
-use Rattle.xh_model.specs.declared.limits.TheConstants.{PLACES, PROCESSES}
+use Rattle.xh_model.specs.declared.limits.TheConstants.{PLACES}
 
--- the place of a process, and what it lists
-abbrev pub place_in : List Place → ℕ → Place
-place_in ps p = slice_index_or ps (p % PLACES) no_place
-
+-- what the place of a process lists
 abbrev pub blocks_in : List Place → ℕ → List ℕ
 blocks_in ps p = (place_in ps p).blocks.items
 
 -- how far a process has come; Vacant where there is no such process
 abbrev pub status_in : List Place → ℕ → Status
-status_in ps p =
-    cond (nat_le PROCESSES p || nat_lt (place_in ps p).generation (p / PLACES)) Vacant
-    (cond ((place_in ps p).generation == (p / PLACES)) (place_in ps p).status Ended)
+status_in ps p = status_of p (place_in ps p).generation (place_in ps p).status
 
 -- the place of a process has another list, or another status
 abbrev pub relisted : ℕ → List ℕ → List Place → List Place

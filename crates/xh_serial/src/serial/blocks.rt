@@ -4,7 +4,7 @@ ghost use Rattle.xh_serial.specs.Machine.{end_of};
 ghost use Rattle.xh_model.specs.declared.limits.TheConstants.{MAX_BYTES};
 ghost use Rattle.xh_model.specs.declared.event.Holder.TheVariants.{Process};
 ghost use Rattle.xh_model.specs.Store.{holds, len};
-ghost use Rattle.xh_serial.specs.BlockCommands.{alloc_heads, range_tests, split_heads};
+ghost use Rattle.xh_serial.specs.BlockCommands.{alloc_heads, range_refusals, split_heads};
 ghost use Rattle.xh_serial.specs.BlockCommands.{alloc as alloc_command, free as free_command, read as read_command};
 ghost use Rattle.xh_serial.specs.BlockCommands.{split as split_command, write as write_command};
 ghost use Rattle.xh_core.specs.Space.{free_record, rounded};
@@ -111,7 +111,7 @@ impl Serial {
 
     /// Why bytes of a block cannot be reached.
     fn check_range(&self, p: u16, r: u16, at: u32, count: usize) -> Result<(), Refused>
-        ensures { Tested (range_tests self.now p r at count) result (λ _. (holds self.now.store (Process p) r ≡ true) × (end_of self.now r ≡ None) × (at + count ≤ len self.now.store r)) }
+        ensures { Tested (range_refusals self.now p r at count) result (λ _. (holds self.now.store (Process p) r ≡ true) × (end_of self.now r ≡ None) × (at + count ≤ len self.now.store r)) }
     {
         self.check_start(p)?;
         self.check_data(p, r)?;

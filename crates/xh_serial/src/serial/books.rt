@@ -3,44 +3,20 @@ ghost use Rattle.std.specs.Prelude.{◌≡◌, ◌+◌, ◌<◌, ◌≤◌, ◌*
 ghost use Rattle.std.specs.List.{sum_by};
 ghost use Rattle.xh_core.specs.Statuses.{is_vacant};
 ghost use Rattle.xh_serial.specs.Machine.{no_place};
-ghost use Rattle.xh_serial.specs.PlaceCommands.{ledger_of, line_state, place_lines, total};
-ghost use Rattle.xh_model.specs.declared.limits.TheConstants.{PLACES};
+ghost use Rattle.xh_serial.specs.PlaceCommands.{glance_of, ledger_of, place_lines, total};
+ghost use Rattle.xh_model.specs.declared.limits.TheConstants.{MAX_BYTES, MAX_HELD, PLACES};
 
-use crate::place::{Place, number};
+use crate::place::number;
 use crate::serial::Serial;
 use arrayvec::ArrayVec;
-use xh_core::{Ledger, PLACE_LINES, PlaceLine, State, Status};
+use xh_core::{Glance, Ledger, PLACE_LINES, PlaceLine, Status};
 
-fn is_unused(place: &Place) -> bool
-    ensures { result ≡ is_vacant place.now.status }
+fn is_unused(glance: &Glance) -> bool
+    ensures { result ≡ is_vacant glance.now.state }
 {
-    match place.status {
+    match glance.state {
         Status::Vacant => true,
         _ => false,
-    }
-}
-
-fn state_of(place: &Place) -> State
-    ensures { result ≡ line_state place.now.status }
-{
-    match place.status {
-        Status::Vacant | Status::Running => State::Running,
-        Status::Ending => State::Ending,
-        Status::Ended => State::Ended,
-    }
-}
-
-/// A place's line, where its process owns so many bytes.
-fn place_line(at: usize, place: &Place, bytes: u64) -> PlaceLine
-    requires { at < PLACES }
-    ensures { result ≡ record { place = at; process = at + PLACES * place.now.generation; state = line_state place.now.status; blocks = length place.now.blocks.items; bytes = bytes } }
-{
-    PlaceLine {
-        place: at as u8,
-        process: number(at, place.generation),
-        state: state_of(place),
-        blocks: place.blocks.len() as u32,
-        bytes,
     }
 }
 
@@ -49,9 +25,23 @@ impl Serial {
     pub(super) fn bytes_at(&self, at: usize) -> u64
         requires { at < PLACES }
         ensures sum { result ≡ total self.now.store (slice_index_or self.now.places at no_place).blocks.items }
-        ensures most { result ≤ 2147483648 }
+        ensures most { result ≤ MAX_HELD * MAX_BYTES }
     {
         self.plain.owned(number(at, self.places.at(at).generation))
+    }
+
+    /// A look at a place.
+    pub(super) fn glance_at(&self, at: usize) -> Glance
+        requires { at < PLACES }
+        ensures { result ≡ glance_of at (slice_index_or self.now.places at no_place) self.now.store }
+    {
+        let place = self.places.at(at);
+        Glance {
+            process: number(at, place.generation),
+            state: place.status,
+            blocks: place.blocks.len() as u32,
+            bytes: self.bytes_at(at),
+        }
     }
 
     /// The bytes that processes own.
@@ -72,9 +62,9 @@ impl Serial {
     {
         let mut lines = ArrayVec::new();
         for at in 0..self.places.len() {
-            let place = self.places.at(at);
-            if !is_unused(place) {
-                lines.push(place_line(at, place, self.bytes_at(at)));
+            let glance = self.glance_at(at);
+            if !is_unused(&glance) {
+                lines.push(glance.line());
             }
         }
         lines

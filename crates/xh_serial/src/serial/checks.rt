@@ -3,47 +3,40 @@ ghost use Rattle.std.specs.Prelude.{◌≡◌, ◌*◌, ◌<◌, Some, None, tru
 ghost use Rattle.std.specs.List.{list_all};
 ghost use Rattle.xh_model.specs.declared.event.Holder.TheVariants.{Process};
 ghost use Rattle.xh_model.specs.Store.{holds};
-ghost use Rattle.xh_serial.specs.Machine.{end_of, is_current};
-ghost use Rattle.xh_serial.specs.Commands.{data_tests, end_tests, start, stop_tests, IsRunning};
+ghost use Rattle.xh_serial.specs.Machine.{end_of, is_current, status_at};
+ghost use Rattle.xh_serial.specs.Commands.{found, IsRunning};
+ghost use Rattle.xh_core.specs.Calls.{data_tests, end_tests, start, stop};
 ghost use Rattle.xh_core.specs.Refusing.{Tested};
-ghost use Rattle.xh_serial.specs.EndingCommands.{close_tests, kill_tests};
-ghost use Rattle.xh_serial.specs.MessageCommands.{give_tests, take_tests};
+ghost use Rattle.xh_serial.specs.EndingCommands.{close_refusals, kill_refusals};
+ghost use Rattle.xh_serial.specs.MessageCommands.{give_refusals, take_refusals};
 ghost use Rattle.xh_serial.specs.inner.Checks.{MayGive, MayTake};
 
 use crate::channels::peer;
 use crate::list::listed;
 use crate::serial::Serial;
 use arrayvec::ArrayVec;
-use xh_core::{Refused, Status, is_twice};
+use xh_core::{Refused, is_twice};
 use xh_model::Holder;
 use xh_model::limits::MAX_BLOCKS;
 
 impl Serial {
     /// NoProcess and Ended: the process is none, or does not run.
     pub(super) fn check_start(&self, p: u16) -> Result<(), Refused>
-        ensures { Tested (start self.now p) result (λ _. IsRunning self.now p) }
+        ensures { Tested (start (status_at self.now p)) result (λ _. IsRunning self.now p) }
     {
-        match self.places.status(p) {
-            Status::Vacant => Err(Refused::NoProcess),
-            Status::Running => Ok(()),
-            _ => Err(Refused::Ended),
-        }
+        self.places.status(p).check_start()
     }
 
     /// NoProcess and Ended: the process is none, or has ended.
     pub(super) fn check_stop(&self, p: u16) -> Result<(), Refused>
-        ensures { Tested (stop_tests self.now p) result (λ _. is_current self.now p ≡ true) }
+        ensures { Tested (stop (status_at self.now p)) result (λ _. is_current self.now p ≡ true) }
     {
-        match self.places.status(p) {
-            Status::Vacant => Err(Refused::NoProcess),
-            Status::Ended => Err(Refused::Ended),
-            _ => Ok(()),
-        }
+        self.places.status(p).check_stop()
     }
 
     /// What a kill tests.
     pub(super) fn check_kill(&self, by: u16, victim: u16) -> Result<(), Refused>
-        ensures { Tested (kill_tests self.now by victim) result (λ _. is_current self.now victim ≡ true) }
+        ensures { Tested (kill_refusals self.now by victim) result (λ _. is_current self.now victim ≡ true) }
     {
         self.check_start(by)?;
         self.check_stop(victim)
@@ -51,7 +44,7 @@ impl Serial {
 
     /// NotOwned and NotEndpoint, or the direction toward the endpoint `e` of `p`.
     pub(super) fn check_end(&self, p: u16, e: u16) -> Result<u8, Refused>
-        ensures { Tested (end_tests self.now p e) result (λ d. (holds self.now.store (Process p) e ≡ true) × (end_of self.now e ≡ Some d) × (d < 2 * self.now.opened)) }
+        ensures { Tested (end_tests (found self.now p e)) result (λ d. (holds self.now.store (Process p) e ≡ true) × (end_of self.now e ≡ Some d) × (d < 2 * self.now.opened)) }
     {
         if !self.plain.holds(Holder::Process(p), e) {
             return Err(Refused::NotOwned);
@@ -64,7 +57,7 @@ impl Serial {
 
     /// NotOwned and NotData of a block.
     pub(super) fn check_data(&self, p: u16, r: u16) -> Result<(), Refused>
-        ensures { Tested (data_tests self.now p r) result (λ _. (holds self.now.store (Process p) r ≡ true) × (end_of self.now r ≡ None)) }
+        ensures { Tested (data_tests (found self.now p r)) result (λ _. (holds self.now.store (Process p) r ≡ true) × (end_of self.now r ≡ None)) }
     {
         match self.check_end(p, r) {
             Ok(_) => Err(Refused::NotData),
@@ -75,7 +68,7 @@ impl Serial {
 
     /// What a close tests.
     pub(super) fn check_close(&self, p: u16, e: u16) -> Result<(), Refused>
-        ensures { Tested (close_tests self.now p e) result (λ _. IsRunning self.now p × (holds self.now.store (Process p) e ≡ true)) }
+        ensures { Tested (close_refusals self.now p e) result (λ _. IsRunning self.now p × (holds self.now.store (Process p) e ≡ true)) }
     {
         self.check_start(p)?;
         self.check_end(p, e)?;
@@ -96,7 +89,7 @@ impl Serial {
 
     /// What a take tests, or the direction that it takes from.
     pub(super) fn check_take(&self, p: u16, e: u16) -> Result<u8, Refused>
-        ensures { Tested (take_tests self.now p e) result (MayTake self.now p e) }
+        ensures { Tested (take_refusals self.now p e) result (MayTake self.now p e) }
     {
         self.check_start(p)?;
         let d = self.check_end(p, e)?;
@@ -113,7 +106,7 @@ impl Serial {
 
     /// What a give tests, or the direction toward `e`.
     pub(super) fn check_give(&self, p: u16, e: u16, tag: u16, blocks: &[u16]) -> Result<u8, Refused>
-        ensures { Tested (give_tests self.now p e tag blocks.now) result (MayGive self.now p e tag blocks.now) }
+        ensures { Tested (give_refusals self.now p e tag blocks.now) result (MayGive self.now p e tag blocks.now) }
     {
         self.check_start(p)?;
         let d = self.check_end(p, e)?;

@@ -5,11 +5,12 @@ ghost use Rattle.xh_model.specs.Store.{holds};
 ghost use Rattle.xh_model.specs.declared.event.Holder.TheVariants.{Process};
 ghost use Rattle.xh_model.specs.declared.limits.TheConstants.{MAX_BUDGET};
 ghost use Rattle.xh_core.specs.declared.status.Status.TheVariants as status;
-ghost use Rattle.xh_serial.specs.Machine.{arriving, blocks, is_current, with_status};
+ghost use Rattle.xh_serial.specs.Machine.{arriving, blocks, is_current, status_at, with_status};
+ghost use Rattle.xh_core.specs.Calls.{stop};
 ghost use Rattle.xh_core.specs.Refusing.{first_refusal};
-ghost use Rattle.xh_serial.specs.Commands.{stop_tests, IsRunning};
+ghost use Rattle.xh_serial.specs.Commands.{IsRunning};
 ghost use Rattle.xh_serial.specs.Sweeping.{Sweeps};
-ghost use Rattle.xh_serial.specs.EndingCommands.{close, exit, kill, kill_tests, moved_last, reclaimed, stopped};
+ghost use Rattle.xh_serial.specs.EndingCommands.{close, exit, kill, kill_refusals, moved_last, stop_answer, stopped};
 
 use crate::serial::Serial;
 use xh_core::{Refused, Status};
@@ -35,7 +36,7 @@ impl Serial {
     #[tactic(auto, unfolding(crate::specs::EndingCommands::stopped))]
     fn stop(&mut self, p: u16, budget: u32) -> Result<u64, Refused>
         requires { is_current self.old p ≡ true }
-        ensures is { reclaimed p self.old (stopped p budget self.old) ≡ (result, self.new) }
+        ensures is { stop_answer p self.old (stopped p budget self.old) ≡ (result, self.new) }
         ensures frees { IsOk result → Frees (arriving self.old) self.old.store self.new.store (blocks self.old p) }
         ensures bound { Sweeps p 0 budget self.old self.new }
     {
@@ -59,7 +60,7 @@ impl Serial {
     pub fn exit(&mut self, p: u16, budget: u32) -> Result<u64, Refused>
         ensures is { exit p budget self.old ≡ (result, self.new) }
         ensures frees { IsOk result → Frees (arriving self.old) self.old.store self.new.store (blocks self.old p) }
-        ensures bound { first_refusal (stop_tests self.old p) ≡ None → Sweeps p 0 budget self.old self.new }
+        ensures bound { first_refusal (stop (status_at self.old p)) ≡ None → Sweeps p 0 budget self.old self.new }
     {
         self.check_stop(p)?;
         self.stop(p, budget)
@@ -71,7 +72,7 @@ impl Serial {
     pub fn kill(&mut self, by: u16, victim: u16, budget: u32) -> Result<u64, Refused>
         ensures is { kill by victim budget self.old ≡ (result, self.new) }
         ensures frees { IsOk result → Frees (arriving self.old) self.old.store self.new.store (blocks self.old victim) }
-        ensures bound { first_refusal (kill_tests self.old by victim) ≡ None → Sweeps victim 0 budget self.old self.new }
+        ensures bound { first_refusal (kill_refusals self.old by victim) ≡ None → Sweeps victim 0 budget self.old self.new }
     {
         self.check_kill(by, victim)?;
         self.stop(victim, budget)

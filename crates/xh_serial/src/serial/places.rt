@@ -2,7 +2,6 @@
 ghost use Rattle.std.specs.Prelude.{◌≡◌, ◌+◌, ◌<◌};
 ghost use Rattle.xh_serial.specs.PlaceCommands.{spawn, glance};
 
-use crate::place::number;
 use crate::serial::Serial;
 use xh_core::{Glance, Refused};
 use xh_model::limits::PLACES;
@@ -25,12 +24,6 @@ impl Serial {
         if place >= PLACES {
             return Err(Refused::NoProcess);
         }
-        let at = self.places.at(usize::from(place));
-        Ok(Glance {
-            process: number(usize::from(place), at.generation),
-            state: at.status,
-            blocks: at.blocks.len() as u32,
-            bytes: self.bytes_at(usize::from(place)),
-        })
+        Ok(self.glance_at(usize::from(place)))
     }
 }

@@ -2,6 +2,7 @@
 ghost use Rattle.std.specs.Prelude.{◌≡◌, ◌+◌, ◌≤◌, ◌<◌, true, length, drop};
 ghost use Rattle.xh_model.specs.Reclaimed.{Frees};
 ghost use Rattle.xh_model.specs.Store.{all_out};
+ghost use Rattle.xh_model.specs.declared.limits.TheConstants.{MAX_HELD};
 ghost use Rattle.xh_serial.specs.Machine.{arriving, blocks, is_current};
 ghost use Rattle.xh_serial.specs.Sweeping.{sweep, sweep_one, Sweeps};
 
@@ -12,7 +13,7 @@ impl Serial {
     pub(super) fn count(&self, p: u16) -> usize
         requires { is_current self.now p ≡ true }
         ensures value { result ≡ length (blocks self.now p) }
-        ensures fits { result ≤ 2048 }
+        ensures fits { result ≤ MAX_HELD }
     {
         self.places.blocks(p).len()
     }
@@ -43,7 +44,7 @@ impl Serial {
         ensures current { is_current self.new p ≡ true }
         ensures list { Sweeps p from budget self.old self.new }
         ensures frees { length (blocks self.new p) ≤ from → Frees (arriving self.old) self.old.store self.new.store (drop from (blocks self.old p)) }
-        ensures finishes { 2048 < budget → length (blocks self.new p) ≤ from }
+        ensures finishes { MAX_HELD < budget → length (blocks self.new p) ≤ from }
     {
         let _start = &self.plain;
         let mut left = budget;
@@ -61,7 +62,7 @@ impl Serial {
         ensures current { is_current self.new p ≡ true }
         ensures list { Sweeps p from budget self.old self.new }
         ensures frees { length (blocks self.new p) ≤ from → Frees (arriving self.old) self.old.store self.new.store (drop from (blocks self.old p)) }
-        ensures finishes { 2048 < budget → length (blocks self.new p) ≤ from }
+        ensures finishes { MAX_HELD < budget → length (blocks self.new p) ≤ from }
     {
         let before = self.plain.handed_out();
         self.sweep_list(p, from, budget);

@@ -6,7 +6,7 @@ use Rattle.xh_model.proofs.Keyed.{among_either, keys_push, last_at, last_other, 
 use Rattle.xh_model.specs.declared.event.Event.TheVariants.{Accept}
 use Rattle.xh_records.specs.Seats.{Held, did}
 use Rattle.xh_place.specs.declared.body.Body.{Body}
-use Rattle.xh_place.specs.declared.body.Header.{Header}
+use Rattle.xh_core.specs.declared.header.Header.{Header}
 use Rattle.xh_place.specs.Places.{IsBlock, header_in}
 use Rattle.xh_place.proofs.Moves.{own_lots}
 use Rattle.xh_place.proofs.Gained.{has}

@@ -3,10 +3,10 @@ use Rattle.std.specs.Prelude.{Some}
 use Rattle.xh_model.specs.Keyed.{keys, value_at}
 use Rattle.xh_model.proofs.Keyed.{get_key, value_drop}
 use Rattle.xh_records.specs.Seats.{Held}
-use Rattle.xh_place.specs.declared.body.Header.{Header}
+use Rattle.xh_core.specs.declared.header.Header.{Header}
 use Rattle.xh_place.specs.Ending.{HasGivenBack}
 use Rattle.xh_place.specs.Places.{sum_of, IsBlock}
-use Rattle.xh_place.specs.declared.body.Kind.TheVariants as kind
+use Rattle.xh_core.specs.declared.header.Kind.TheVariants as kind
 use Rattle.xh_place.proofs.Counted.{ids_long}
 use Rattle.xh_place.proofs.Givens.{next_one, IsGoing, giving_up}
 use Rattle.xh_place.proofs.Steps.{block_small}

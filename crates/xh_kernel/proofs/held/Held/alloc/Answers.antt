@@ -1,10 +1,15 @@
-use Rattle.std.proofs.Common.{rules, ◌≡◌, List, sym, subst}
+use Rattle.std.proofs.Common.{rules, ◌≡◌, List, length, ap, sym, subst}
 use Rattle.std.specs.Prelude.{MatchResult}
 use Rattle.std.proofs.lemmas.List.{with_items_is, places}
 use Rattle.xh_arena.specs.Views.{TallyOf}
 use Rattle.xh_kernel.specs.Accounts.{has_taken}
 use Rattle.xh_kernel.proofs.Ended.{account_of}
-use Rattle.xh_kernel.proofs.Taken.{allocated}
+use Rattle.xh_records.specs.declared.shape.Shape.{Shape}
+use Rattle.xh_kernel.proofs.Taken.{allocated, lacks}
+use Rattle.xh_core.specs.Calls.{alloc_tests}
+use Rattle.xh_core.specs.Space.{rounded}
+use Rattle.xh_kernel.specs.Places.{start}
+use Rattle.xh_kernel.proofs.Started.{passes}
 use Rattle.xh_kernel.proofs.held.Held.alloc.Goals as goal
 
 pub returns-clause-account : goal.returns-clause-account
@@ -15,3 +20,14 @@ returns-clause-account g c =
     (allocated c.account.inside.number c.account.inside.tallies.items c.as_mut_slice-tallies.result.now c.alloc-answer.new.tallies
     c.args.account.now c.account.view_is c.as_mut_slice-tallies.ensures.value
     c.args.self.now.place c.alloc-answer.new.self c.args.arena c.alloc-answer.result c.alloc-answer.ensures.taken c.alloc-answer.ensures.refused)
+
+pub returns-clause-place : goal.returns-clause-place
+returns-clause-place g c =
+    let place = c.args.self.now.place in let done = c.alloc-answer.ensures in let parts = g.N.Names.parts in
+    record {
+      made = done.made;
+      block = done.block;
+      refused = search rules;
+      why = passes (start c.args.p place) (alloc_tests c.args.arena (length parts.records.shape.names) c.args.n parts.size) c.in_ok-start.ensures.0 place.state c.in_ok-start.ensures.1 _ _
+          (rw (sym (ap (λ (s : Shape). length s.names) c.args.self.now.named.0.1)) (lacks parts _ _ c.args.arena (rounded c.args.n) _ c.alloc-answer.result done.why));
+    }

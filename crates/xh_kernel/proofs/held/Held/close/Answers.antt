@@ -1,10 +1,14 @@
+use Rattle.std.specs.Prelude.{◌++◌}
+use Rattle.xh_place.specs.Starts.{start as starts}
 use Rattle.std.proofs.Common.{rules, List, sym, subst}
 use Rattle.std.proofs.lemmas.List.{with_items_is, places}
 use Rattle.xh_arena.specs.Views.{TallyOf}
-use Rattle.xh_model.specs.Keyed.{value_at}
-use Rattle.xh_place.specs.Ends.{end_tests}
+use Rattle.xh_place.specs.Places.{found}
+use Rattle.xh_core.specs.Calls.{end_tests}
 use Rattle.xh_kernel.specs.Reclaims.{HasReclaimed}
 use Rattle.xh_kernel.proofs.Ended.{account_of, closed}
+use Rattle.xh_kernel.specs.Places.{start}
+use Rattle.xh_kernel.proofs.Started.{fewer}
 use Rattle.xh_kernel.proofs.held.Held.close.Goals as goal
 
 pub returns-clause-account : goal.returns-clause-account
@@ -14,4 +18,10 @@ returns-clause-account g c =
     (sym (with_items_is c.account.inside.tallies c.close_end-answer.new.tallies (search (rules, places))))
     (closed c.account.inside.number c.account.inside.tallies.items c.as_mut_slice-tallies.result.now c.close_end-answer.new.tallies
     c.args.account.now c.account.view_is c.as_mut_slice-tallies.ensures.value
-    place c.close_end-answer.new.self c.close_end-answer.result c.args.e (end_tests place.state (value_at c.args.e place.blocks)) c.close_end-answer.ensures.closed)
+    place c.close_end-answer.new.self c.close_end-answer.result c.args.e (starts place.state ++ end_tests (found place c.args.e)) c.close_end-answer.ensures.closed)
+
+pub returns-clause-place : goal.returns-clause-place
+returns-clause-place g c =
+    let place = c.args.self.now.place in
+    fewer (start c.args.p place) (end_tests (found place c.args.e)) c.in_ok-start.ensures.0 place.state c.in_ok-start.ensures.1 c.close_end-answer.result _ _ _ _ (λ d. (d.0, d.1))
+    c.close_end-answer.ensures.closed

@@ -5,6 +5,10 @@ use Rattle.xh_arena.specs.Views.{TallyOf}
 use Rattle.xh_kernel.specs.Accounts.{has_given}
 use Rattle.xh_kernel.proofs.Ended.{account_of}
 use Rattle.xh_kernel.proofs.Taken.{freed}
+use Rattle.xh_place.specs.Places.{found}
+use Rattle.xh_core.specs.Calls.{data_tests}
+use Rattle.xh_kernel.specs.Places.{start}
+use Rattle.xh_kernel.proofs.Started.{tested}
 use Rattle.xh_kernel.proofs.held.Held.free.Goals as goal
 
 pub returns-clause-account : goal.returns-clause-account
@@ -15,3 +19,12 @@ returns-clause-account g c =
     (freed c.account.inside.number c.account.inside.tallies.items c.as_mut_slice-tallies.result.now c.free-answer.new.tallies
     c.args.account.now c.account.view_is c.as_mut_slice-tallies.ensures.value
     c.args.self.now.place c.free-answer.new.self (c.args.r / 256) c.free-answer.result _ c.free-answer.ensures.back c.free-answer.ensures.refused)
+
+pub returns-clause-place : goal.returns-clause-place
+returns-clause-place g c =
+    let place = c.args.self.now.place in let done = c.free-answer.ensures in
+    record {
+      freed = done.freed;
+      length = tested (start c.args.p place) (data_tests (found place c.args.r)) c.in_ok-start.ensures.0 place.state c.in_ok-start.ensures.1 c.free-answer.result _ done.bytes;
+      refused = search rules;
+    }

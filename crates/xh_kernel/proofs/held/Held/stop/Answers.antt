@@ -1,7 +1,7 @@
 use Rattle.std.proofs.Common.{rules, List, sym, subst}
 use Rattle.std.proofs.lemmas.List.{with_items_is, places}
 use Rattle.xh_arena.specs.Views.{TallyOf}
-use Rattle.xh_place.specs.Ending.{stop_tests}
+use Rattle.xh_place.specs.Starts.{stop}
 use Rattle.xh_kernel.specs.Reclaims.{HasReclaimed}
 use Rattle.xh_kernel.proofs.Ended.{account_of, stopped}
 use Rattle.xh_kernel.proofs.held.Held.stop.Goals as goal
@@ -13,4 +13,4 @@ returns-clause-account g c =
     (sym (with_items_is c.account.inside.tallies c.stop-answer.new.tallies (search (rules, places))))
     (stopped c.account.inside.number c.account.inside.tallies.items c.as_mut_slice-tallies.result.now c.stop-answer.new.tallies
     c.args.account.now c.account.view_is c.as_mut_slice-tallies.ensures.value
-    place c.stop-answer.new.self c.stop-answer.result c.args.budget (stop_tests place.state) c.stop-answer.ensures.stopped)
+    place c.stop-answer.new.self c.stop-answer.result c.args.budget (stop place.state) c.stop-answer.ensures.stopped)

@@ -1,7 +1,9 @@
+use Rattle.std.specs.Prelude.{◌++◌}
+use Rattle.xh_place.specs.Starts.{start as starts}
 use Rattle.std.proofs.Common.{rules}
 use Rattle.xh_place.specs.Bodies.{patched}
-use Rattle.xh_place.specs.Refusals.{range_tests}
-use Rattle.xh_model.specs.Keyed.{value_at}
+use Rattle.xh_place.specs.Places.{found}
+use Rattle.xh_core.specs.Calls.{range_tests}
 use Rattle.std.specs.Prelude.{length}
 use Rattle.xh_kernel.proofs.Last.{still_told}
 use Rattle.xh_kernel.proofs.held.Held.write.Goals as goal
@@ -12,6 +14,6 @@ invariant_of-self g c =
     record {
       named = search rules;
       told = still_told old c.write.new.self c.args.self.now.teller.pen c.args.r (patched c.args.at c.args.bytes.now)
-          (range_tests old.state (value_at c.args.r old.blocks) c.args.at (length c.args.bytes.now))
+          (starts old.state ++ range_tests (found old c.args.r) c.args.at (length c.args.bytes.now))
           c.write.result c.write.ensures.written c.write.ensures.refused c.args.self.now.told;
     }

@@ -3,8 +3,8 @@ use Rattle.std.specs.Vec.{vec_capacity}
 use Rattle.xh_model.specs.declared.event.Event.{Event}
 use Rattle.xh_model.specs.declared.event.Event.TheVariants.{Accept}
 use Rattle.xh_records.specs.Seats.{did}
-use Rattle.xh_place.specs.declared.body.Header.{Header}
-use Rattle.xh_place.specs.Refusals.{is_over}
+use Rattle.xh_core.specs.declared.header.Header.{Header}
+use Rattle.xh_core.specs.Statuses.{is_over}
 use Rattle.xh_place.specs.Places.{PlaceOf, item_of, with_blocks, with_moved}
 use Rattle.xh_place.proofs.Moves.{heard, heard_shows}
 use Rattle.xh_place.proofs.Steps.{won, has_room, small, block_small}

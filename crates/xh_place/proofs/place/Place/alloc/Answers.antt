@@ -1,9 +1,9 @@
 use Rattle.std.proofs.Common.{rules, arith, ◌≡◌, ℕ, ◌+◌, ◌*◌, ◌<◌, ◌≤◌, [], ◌∷◌, ◌++◌, length, sym, ap, ◌∙◌, subst, true}
 use Rattle.std.specs.Prelude.{slice_get}
 use Rattle.std.specs.Vec.{vec_capacity}
-use Rattle.xh_place.specs.declared.body.Header.{Header}
+use Rattle.xh_core.specs.declared.header.Header.{Header}
 use Rattle.xh_place.specs.Bodies.{bytes, kind_of}
-use Rattle.xh_place.specs.Refusals.{is_running}
+use Rattle.xh_core.specs.Statuses.{is_running}
 use Rattle.xh_place.specs.Places.{Item, header_of, item_of}
 use Rattle.xh_place.specs.Tallies.{ids_of, took}
 use Rattle.xh_place.proofs.Steps.{kept, won, has_room, small, block_small, over_running}

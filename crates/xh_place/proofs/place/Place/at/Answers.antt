@@ -2,7 +2,7 @@ use Rattle.std.proofs.Common.{rules, ◌≡◌, ℕ, ◌<◌, ◌∷◌, length,
 use Rattle.std.specs.Vec.{vec_capacity}
 use Rattle.xh_model.specs.Keyed.{Distinct, keys}
 use Rattle.xh_model.proofs.Keyed.{value_drop}
-use Rattle.xh_place.specs.declared.body.Header.{Header}
+use Rattle.xh_core.specs.declared.header.Header.{Header}
 use Rattle.xh_place.proofs.Steps.{at_place}
 use Rattle.xh_place.proofs.Listing.{shown_long, shown_keys}
 use Rattle.xh_place.proofs.place.Place.at.Goals as goal

@@ -1,7 +1,7 @@
 use Rattle.std.proofs.Common.{sym, ◌∙◌, ap, subst}
 use Rattle.std.specs.Vec.{vec_capacity}
 use Rattle.xh_place.specs.Places.{AreBlocks, headers}
-use Rattle.xh_place.specs.Refusals.{is_over}
+use Rattle.xh_core.specs.Statuses.{is_over}
 use Rattle.xh_place.proofs.Shown.{are_blocks, headers_shown, over_empty}
 use Rattle.xh_place.proofs.place.Place.blocks.Goals as goal
 

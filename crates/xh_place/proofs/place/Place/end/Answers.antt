@@ -1,7 +1,7 @@
 use Rattle.std.proofs.Common.{◌∙◌, ap, subst}
 use Rattle.std.specs.Vec.{vec_capacity}
 use Rattle.xh_place.specs.Places.{Lists}
-use Rattle.xh_place.specs.Refusals.{is_over}
+use Rattle.xh_core.specs.Statuses.{is_over}
 use Rattle.xh_place.proofs.Steps.{holds_nothing}
 use Rattle.xh_place.proofs.Shown.{lists}
 use Rattle.xh_place.proofs.place.Place.end.Goals as goal

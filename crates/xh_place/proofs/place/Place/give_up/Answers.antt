@@ -3,8 +3,8 @@ use Rattle.std.specs.Prelude.{slice_get, Some}
 use Rattle.std.specs.Vec.{vec_capacity}
 use Rattle.xh_model.specs.Keyed.{value_at}
 use Rattle.xh_records.specs.Seats.{IsRecord}
-use Rattle.xh_place.specs.declared.body.Header.{Header}
-use Rattle.xh_place.specs.inner.Answers.{entry_of}
+use Rattle.xh_core.specs.declared.header.Header.{Header}
+use Rattle.xh_place.specs.Places.{entry_of}
 use Rattle.xh_place.specs.Tallies.{ids_of, gave}
 use Rattle.xh_place.proofs.Steps.{header_at, lot_of, enough, lost}
 use Rattle.xh_place.proofs.Counted.{ids_long, ids_at, gave_set, ids_gave}

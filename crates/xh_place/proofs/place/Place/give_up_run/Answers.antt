@@ -3,9 +3,9 @@ use Rattle.std.specs.Prelude.{None}
 use Rattle.std.specs.List.{slice_range}
 use Rattle.std.specs.Vec.{vec_capacity}
 use Rattle.xh_model.specs.Keyed.{Among, Distinct, keys, value_at}
-use Rattle.xh_place.specs.declared.body.Header.{Header}
+use Rattle.xh_core.specs.declared.header.Header.{Header}
 use Rattle.xh_place.specs.Places.{sum_of, total_of, with_blocks}
-use Rattle.xh_place.specs.Refusals.{is_over}
+use Rattle.xh_core.specs.Statuses.{is_over}
 use Rattle.xh_place.proofs.Runs.{slice_both, slice_distinct, slice_few, slice_gone, slice_held, slice_shows, slice_sum, slice_total}
 use Rattle.xh_place.proofs.Steps.{view_of}
 use Rattle.xh_place.proofs.Listing.{shown_long}

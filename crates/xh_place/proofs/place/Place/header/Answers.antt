@@ -1,7 +1,7 @@
 use Rattle.std.proofs.Common.{◌∙◌, ap}
 use Rattle.std.specs.Vec.{vec_capacity}
 use Rattle.xh_model.specs.Keyed.{value_at}
-use Rattle.xh_place.specs.inner.Answers.{entry_of}
+use Rattle.xh_place.specs.Places.{entry_of}
 use Rattle.xh_place.proofs.Steps.{header_at}
 use Rattle.xh_place.proofs.place.Place.header.Goals as goal
 

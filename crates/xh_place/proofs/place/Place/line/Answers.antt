@@ -1,12 +1,13 @@
-use Rattle.std.proofs.Common.{rules, ◌≡◌, ◌≤◌, ◌%◌, length, sym, ap, ◌∙◌}
+use Rattle.std.proofs.Common.{rules, ◌≡◌, ◌≤◌, length, sym, ap, ◌∙◌}
 use Rattle.std.specs.Vec.{vec_capacity}
+use Rattle.xh_core.specs.Glances.{line_of}
 use Rattle.xh_place.specs.Places.{line}
 use Rattle.xh_place.proofs.Steps.{count_bound}
 use Rattle.xh_place.proofs.Listing.{shown_long, sum_shown}
 use Rattle.xh_place.proofs.place.Place.line.Goals as goal
 
-pub overflow_cast-result-3 : goal.overflow_cast-result-3
-overflow_cast-result-3 c =
+pub overflow_cast-glance : goal.overflow_cast-glance
+overflow_cast-glance c =
     let few : length c.self.inside.list.items ≤ 2048 =
     count_bound c.self.inside.seat c.self.inside.list.items (vec_capacity c.self.inside.list) c.self.inside.total c.self.inside.state c.self.invariant in search rules
 
@@ -15,11 +16,10 @@ returns c =
     let seat = c.self.inside.seat in let xs = c.self.inside.list.items in
     let count : c.len.result ≡ length xs = search rules in
     let sum = c.self.invariant.sum ∙ sym (sum_shown seat.lots xs c.self.invariant.same c.self.invariant.distinct) in
-    (λ i. record {
-      place = c.process-process.ensures i % 32;
-      process = c.process-process.ensures i;
-      state = c.state_of.ensures i;
+    c.line.ensures ∙ (λ i. line_of (record {
+      process = c.process.ensures i;
+      state = c.self.inside.state;
       blocks = (count ∙ sym (shown_long seat.lots xs)) i;
       bytes =
           sum i;
-    }) ∙ ap line c.self.view_is
+    })) ∙ ap line c.self.view_is

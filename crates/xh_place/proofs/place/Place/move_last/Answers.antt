@@ -2,7 +2,7 @@ use Rattle.std.proofs.Common.{rules, arith, ◌≡◌, ℕ, suc, ◌<◌, ◌≤
 use Rattle.std.specs.Prelude.{Some, None}
 use Rattle.std.specs.Vec.{vec_capacity}
 use Rattle.xh_model.specs.Keyed.{value_at, without}
-use Rattle.xh_place.specs.declared.body.Header.{Header}
+use Rattle.xh_core.specs.declared.header.Header.{Header}
 use Rattle.xh_place.specs.Places.{header_of, IsPlace}
 use Rattle.xh_place.proofs.Last.{alive_if, moved, moved_shows, without_long}
 use Rattle.xh_place.proofs.Steps.{count_room, listed, view_of}

@@ -1,10 +1,10 @@
 use Rattle.std.proofs.Common.{rules, arith, ◌≡◌, ℕ, ◌+◌, ◌<◌, ◌≤◌, List, [], ◌∷◌, ◌++◌, length, refl, sym, ap, ◌∙◌, subst, true}
 use Rattle.std.specs.Prelude.{slice_get}
 use Rattle.std.specs.Vec.{vec_capacity}
-use Rattle.xh_place.specs.declared.body.Header.{Header}
-use Rattle.xh_place.specs.declared.body.Kind.TheVariants as kind
+use Rattle.xh_core.specs.declared.header.Header.{Header}
+use Rattle.xh_core.specs.declared.header.Kind.TheVariants as kind
 use Rattle.xh_place.specs.Ends.{end_block}
-use Rattle.xh_place.specs.Refusals.{is_running}
+use Rattle.xh_core.specs.Statuses.{is_running}
 use Rattle.xh_place.specs.Places.{Item, header_of, item_of, with_blocks}
 use Rattle.xh_place.specs.Tallies.{ids_of, took}
 use Rattle.xh_place.proofs.Counted.{ids_at, ids_long, ids_took, took_set}

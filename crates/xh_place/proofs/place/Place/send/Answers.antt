@@ -6,7 +6,7 @@ use Rattle.xh_core.specs.declared.status.Status.TheVariants.{Running}
 use Rattle.xh_model.specs.declared.event.Event.{Event}
 use Rattle.xh_model.specs.Keyed.{Among, keys, value_at}
 use Rattle.xh_place.specs.declared.body.Body.{Body}
-use Rattle.xh_place.specs.declared.body.Header.{Header}
+use Rattle.xh_core.specs.declared.header.Header.{Header}
 use Rattle.xh_place.specs.Bodies.{away}
 use Rattle.xh_place.specs.Moves.{there_and_back}
 use Rattle.xh_place.specs.Ends.{away_in}

@@ -1,13 +1,14 @@
 use Rattle.std.proofs.Common.{rules, arith, ◌≡◌, ℕ, ◌+◌, ◌-◌, ◌<◌, [], ◌∷◌, ◌++◌, length, refl, sym, ap, ◌∙◌, subst, true}
 use Rattle.std.specs.Vec.{vec_capacity}
-use Rattle.xh_model.specs.Keyed.{put, value_at}
-use Rattle.xh_place.specs.declared.body.Header.{Header}
-use Rattle.xh_place.specs.declared.body.Kind.TheVariants as kind
+use Rattle.xh_model.specs.Keyed.{put}
+use Rattle.xh_core.specs.declared.header.Header.{Header}
+use Rattle.xh_core.specs.declared.header.Kind.TheVariants as kind
 use Rattle.xh_place.specs.Bodies.{content_of, front, kind_of, rest}
-use Rattle.xh_place.specs.Places.{Item, header_of, item_of, with_blocks}
-use Rattle.xh_place.specs.Refusals.{is_running}
+use Rattle.xh_place.specs.Places.{Item, found as found_at, header_of, item_of, with_blocks}
+use Rattle.xh_core.specs.Calls.{split_tests}
+use Rattle.xh_core.specs.Statuses.{is_running}
 use Rattle.xh_place.proofs.Found.{found}
-use Rattle.xh_place.proofs.Parted.{front_kind, may_cut, parted, put_long, rest_kind}
+use Rattle.xh_place.proofs.Parted.{front_kind, parted, put_long, rest_kind, runs}
 use Rattle.xh_place.proofs.Steps.{has_room, kept}
 use Rattle.xh_place.proofs.place.Place.split.Goals as goal
 
@@ -17,7 +18,7 @@ cut_block-requires-clause-held g c =
     c.self.inside.state in let is = c.self.invariant in
     let q = c.in_ok-len.ensures.1 in let r : ℕ = c.args.r in
     let f = found seat xs room total state is c.args.self.now c.self.view_is r q.0 q.1 in
-    let run : is_running state ≡ true = ap (λ p. is_running p.state) c.self.view_is ∙ may_cut c.args.self.now.state (value_at r c.args.self.now.blocks) c.args.k c.in_ok-len.ensures.0 in
+    let run : is_running state ≡ true = ap (λ p. is_running p.state) c.self.view_is ∙ runs c.args.self.now.state (split_tests (found_at c.args.self.now r) c.args.k) c.in_ok-len.ensures.0 in
     let full : f.lot.len ≡ c.in_ok-len.len = ap (λ (x : Item). x.len) f.same ∙ q.3 in
     (f.lot, f.held, f.block, (ap (λ (x : Item). kind_of x.content) f.same ∙ q.2, f.block.full.1, f.block.full.0), (q.4.0, q.4.1, subst (λ (z : ℕ). c.args.k < z) (sym full) q.4.2))
 
@@ -31,7 +32,7 @@ push_reserved-requires g c =
     c.self.inside.state in let is = c.self.invariant in
     let q = c.in_ok-len.ensures.1 in let r : ℕ = c.args.r in
     let f = found seat xs room total state is c.args.self.now c.self.view_is r q.0 q.1 in
-    let run : is_running state ≡ true = ap (λ p. is_running p.state) c.self.view_is ∙ may_cut c.args.self.now.state (value_at r c.args.self.now.blocks) c.args.k c.in_ok-len.ensures.0 in
+    let run : is_running state ≡ true = ap (λ p. is_running p.state) c.self.view_is ∙ runs c.args.self.now.state (split_tests (found_at c.args.self.now r) c.args.k) c.in_ok-len.ensures.0 in
     let n : ℕ = c.in_ok-rec.rec in let cut = c.in_ok-rec.ensures.cut f.lot f.held in
     let fits = has_room seat xs room total state is n cut.5.exists cut.2 in
     let long : length c.replace.new.list.items ≡ length xs = ap length c.replace.ensures.items ∙ put_long r _ xs in
@@ -43,7 +44,7 @@ invariant_of-self-2 g c =
     c.self.inside.state in let is = c.self.invariant in
     let q = c.in_ok-len.ensures.1 in let r : ℕ = c.args.r in
     let f = found seat xs room total state is c.args.self.now c.self.view_is r q.0 q.1 in
-    let run : is_running state ≡ true = ap (λ p. is_running p.state) c.self.view_is ∙ may_cut c.args.self.now.state (value_at r c.args.self.now.blocks) c.args.k c.in_ok-len.ensures.0 in
+    let run : is_running state ≡ true = ap (λ p. is_running p.state) c.self.view_is ∙ runs c.args.self.now.state (split_tests (found_at c.args.self.now r) c.args.k) c.in_ok-len.ensures.0 in
     let n : ℕ = c.in_ok-rec.rec in let cut = c.in_ok-rec.ensures.cut f.lot f.held in
     let full : f.lot.len ≡ c.in_ok-len.len = ap (λ (x : Item). x.len) f.same ∙ q.3 in
     let tail : cut.1.len ≡ c.in_ok-len.len - c.args.k = (let a : cut.0.len ≡ c.args.k = cut.6 in let b : cut.0.len + cut.1.len ≡ f.lot.len = cut.7 in omega arith) in
@@ -64,7 +65,7 @@ returns-clause-cut g c =
     c.self.inside.state in let is = c.self.invariant in
     let q = c.in_ok-len.ensures.1 in let r : ℕ = c.args.r in
     let f = found seat xs room total state is c.args.self.now c.self.view_is r q.0 q.1 in
-    let run : is_running state ≡ true = ap (λ p. is_running p.state) c.self.view_is ∙ may_cut c.args.self.now.state (value_at r c.args.self.now.blocks) c.args.k c.in_ok-len.ensures.0 in
+    let run : is_running state ≡ true = ap (λ p. is_running p.state) c.self.view_is ∙ runs c.args.self.now.state (split_tests (found_at c.args.self.now r) c.args.k) c.in_ok-len.ensures.0 in
     let n : ℕ = c.in_ok-rec.rec in let cut = c.in_ok-rec.ensures.cut f.lot f.held in
     let full : f.lot.len ≡ c.in_ok-len.len = ap (λ (x : Item). x.len) f.same ∙ q.3 in
     let tail : cut.1.len ≡ c.in_ok-len.len - c.args.k = (let a : cut.0.len ≡ c.args.k = cut.6 in let b : cut.0.len + cut.1.len ≡ f.lot.len = cut.7 in omega arith) in

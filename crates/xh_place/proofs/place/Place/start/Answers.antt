@@ -1,6 +1,6 @@
 use Rattle.std.proofs.Common.{ap}
 use Rattle.std.specs.Vec.{vec_capacity}
-use Rattle.xh_place.specs.Refusals.{is_over}
+use Rattle.xh_core.specs.Statuses.{is_over}
 use Rattle.xh_place.proofs.Steps.{holds_nothing}
 use Rattle.xh_place.proofs.place.Place.start.Goals as goal
 

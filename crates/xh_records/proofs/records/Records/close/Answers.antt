@@ -17,7 +17,7 @@ join_all-token-requires g c =
       own = λ k x at. (c.requires.own k x (elem_slice c.args.seats.items k x at)).0 ∙ sym (ap (λ r. r.table) c.self.view_is);
       some_seat = (omega arith, c.self.invariant.some);
       long = search rules;
-      none = λ k below. c.in_ok-held.ensures.1 k;
+      none = λ k below. c.in_ok-words.ensures.slots.1 k;
     }
 
 -- the sizes of what is taken apart

@@ -4,21 +4,21 @@ use Rattle.std.specs.List.{position}
 use Rattle.std.proofs.lemmas.List.Quantifiers.{position-Some}
 use Rattle.xh_serial.specs.declared.place.Place.{Place}
 use Rattle.xh_serial.specs.Machine.{no_place}
-use Rattle.xh_serial.specs.PlaceCommands.{can_start, started}
+use Rattle.xh_serial.specs.PlaceCommands.{is_ready, started}
 use Rattle.xh_serial.proofs.Machines.{read_at}
 use Rattle.xh_serial.proofs.places.Places.start.Goals as goal
 use Rattle.xh_serial.proofs.places.Places.start.Goals.{After-index_mut}
 
-found : (c : After-index_mut) → position can_start c.self.inside.places.items ≡ Some c.in-Some.at
-found c = ap (position can_start) (sym c.as_slice.ensures.value) ∙ (sym c.first_ready.ensures ∙ c.in-Some.is)
+found : (c : After-index_mut) → position is_ready c.self.inside.places.items ≡ Some c.in-Some.at
+found c = ap (position is_ready) (sym c.as_slice.ensures.value) ∙ (sym c.first_ready.ensures ∙ c.in-Some.is)
 
 place_is : (c : After-index_mut) → c.index_mut.result.now ≡ slice_index_or c.self.inside.places.items c.in-Some.at no_place
-place_is c = read_at c.self.inside.places.items c.in-Some.at c.in-Some.at _ no_place (position-Some can_start _ _ no_place (found c)).0 refl c.index_mut.ensures.value
+place_is c = read_at c.self.inside.places.items c.in-Some.at c.in-Some.at _ no_place (position-Some is_ready _ _ no_place (found c)).0 refl c.index_mut.ensures.value
 
 pub start-generation-requires : goal.start-generation-requires
 start-generation-requires c =
     let d = (goal.at.start-generation-requires c).After-index_mut in
-    ap can_start (place_is d) ∙ (position-Some can_start _ _ no_place (found d)).1
+    ap is_ready (place_is d) ∙ (position-Some is_ready _ _ no_place (found d)).1
 
 pub returns : goal.returns
 returns c =

@@ -28,7 +28,7 @@ returns-in_err-check_wire-clause-is c =
 pub returns-in_err-check_wire-clause-orderly : goal.returns-in_err-check_wire-clause-orderly
 returns-in_err-check_wire-clause-orderly c =
     let w : IsWhole c.args.self.now = subst IsWhole c.self.view_is c.self.invariant in
-    wired_orderly c.args.self.now w.wired
+    wired_orderly c.args.self.now w.channels.wired
 
 pub returns-in_err-r-clause-is : goal.returns-in_err-r-clause-is
 returns-in_err-r-clause-is c =
@@ -39,7 +39,7 @@ returns-in_err-r-clause-is c =
 pub returns-in_err-r-clause-orderly : goal.returns-in_err-r-clause-orderly
 returns-in_err-r-clause-orderly c =
     let m : Machine = record (machine_of c.self.inside) { store = c.allocate_ends.new.self } in
-    wired_orderly m c.self.invariant.wired
+    wired_orderly m c.self.invariant.channels.wired
 
 -- ---- the two records have blocks
 
@@ -127,7 +127,7 @@ pub invariant_of-self-2 : goal.invariant_of-self-2
 invariant_of-self-2 c = whole c
 
 pub returns-clause-orderly : goal.returns-clause-orderly
-returns-clause-orderly c = wired_orderly (is c) (whole c).wired
+returns-clause-orderly c = wired_orderly (is c) (whole c).channels.wired
 
 pub returns-clause-is : goal.returns-clause-is
 returns-clause-is c =

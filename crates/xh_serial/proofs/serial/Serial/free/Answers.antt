@@ -3,8 +3,9 @@ use Rattle.std.proofs.lemmas.Result.{err_from_is_err_and}
 use Rattle.xh_model.specs.declared.event.Holder.TheVariants.{Process}
 use Rattle.xh_model.specs.Store.{holds}
 use Rattle.xh_serial.specs.BlockCommands.{freed_block}
-use Rattle.xh_serial.specs.Machine.{Machine, IsWhole, end_of}
-use Rattle.xh_serial.specs.Commands.{IsRunning, start, data_tests}
+use Rattle.xh_serial.specs.Machine.{Machine, status_at, IsWhole, end_of}
+use Rattle.xh_serial.specs.Commands.{IsRunning, found}
+use Rattle.xh_core.specs.Calls.{start, data_tests}
 use Rattle.xh_core.specs.Refusing.{first_refusal}
 use Rattle.xh_serial.proofs.Answering.{free_stopped, free_refused, free_gives}
 use Rattle.xh_serial.proofs.Gains.{listed_place, freed_is, freed_whole}
@@ -56,6 +57,6 @@ invariant_of-self c =
 pub returns : goal.returns
 returns c =
     let m : Machine = was (begun c) in
-    let starts : first_refusal (start m c.args.p) ≡ None = rw (← c.self.view_is) at c.in_ok-check_start.ensures.0 in
-    let tested : first_refusal (data_tests m c.args.p c.args.r) ≡ None = rw (← c.self.view_is) at c.in_ok-check_data.ensures.0 in
+    let starts : first_refusal (start (status_at m c.args.p)) ≡ None = rw (← c.self.view_is) at c.in_ok-check_start.ensures.0 in
+    let tested : first_refusal (data_tests (found m c.args.p c.args.r)) ≡ None = rw (← c.self.view_is) at c.in_ok-check_data.ensures.0 in
     rw (made c, c.discard-len.ensures.length, ← c.self.view_is) (free_gives c.args.p c.args.r m starts tested)

@@ -83,15 +83,15 @@ returns-clause-is c =
     rw (c.in_ok-own.ensures.0) (λ i. (Ok (answer i), left i))
 
 pub returns-clause-orderly : goal.returns-clause-orderly
-returns-clause-orderly c = wired_orderly (is c) (whole c).wired
+returns-clause-orderly c = wired_orderly (is c) (whole c).channels.wired
 
 pub returns-in_err-own-clause-orderly : goal.returns-in_err-own-clause-orderly
 returns-in_err-own-clause-orderly c =
     let w : IsWhole c.args.self.now = subst IsWhole c.self.view_is c.self.invariant in
-    wired_orderly c.args.self.now w.wired
+    wired_orderly c.args.self.now w.channels.wired
 
 pub returns-clause-numbered : goal.returns-clause-numbered
-returns-clause-numbered c = (whole c).numbered
+returns-clause-numbered c = (whole c).channels.numbered
 
 pub returns-in_err-own-clause-numbered : goal.returns-in_err-own-clause-numbered
-returns-in_err-own-clause-numbered c = let w : IsWhole c.args.self.now = subst IsWhole c.self.view_is c.self.invariant in w.numbered
+returns-in_err-own-clause-numbered c = let w : IsWhole c.args.self.now = subst IsWhole c.self.view_is c.self.invariant in w.channels.numbered

@@ -4,7 +4,7 @@ use Rattle.xh_model.specs.declared.event.Holder.TheVariants.{Process}
 use Rattle.xh_model.specs.Store.{holds}
 use Rattle.xh_serial.specs.Machine.{Machine}
 use Rattle.xh_core.specs.Refusing.{first_refusal}
-use Rattle.xh_serial.specs.BlockCommands.{range_tests}
+use Rattle.xh_serial.specs.BlockCommands.{range_refusals}
 use Rattle.xh_serial.proofs.Answering.{read_refused, read_gives}
 use Rattle.xh_serial.specs.View.{machine_of}
 use Rattle.xh_serial.proofs.serial.Serial.read.Goals as goal
@@ -18,6 +18,6 @@ pub returns-clause-done : goal.returns-clause-done
 returns-clause-done c =
     let m : Machine = machine_of c.self.inside in
     let held : holds m.store (Process c.args.p) c.args.r ≡ true = rw (← c.self.view_is) at c.in_ok-check_range.ensures.1.0 in
-    let tested : first_refusal (range_tests m c.args.p c.args.r c.args.at (length c.args.out.now)) ≡ None = rw (← c.self.view_is) at c.in_ok-check_range.ensures.0 in
+    let tested : first_refusal (range_refusals m c.args.p c.args.r c.args.at (length c.args.out.now)) ≡ None = rw (← c.self.view_is) at c.in_ok-check_range.ensures.0 in
     rw (c.copy.ensures, ← c.self.view_is)
     (read_gives c.args.p c.args.r c.args.at (length c.args.out.now) m tested)

@@ -4,7 +4,7 @@ use Rattle.std.specs.List.{position}
 use Rattle.xh_serial.specs.declared.place.Place.{Place}
 use Rattle.xh_core.specs.declared.refused.Refused.TheVariants.{NoPlace}
 use Rattle.xh_serial.specs.Machine.{Machine, IsWhole}
-use Rattle.xh_serial.specs.PlaceCommands.{can_start, spawn}
+use Rattle.xh_serial.specs.PlaceCommands.{is_ready, spawn}
 use Rattle.xh_serial.specs.View.{machine_of}
 use Rattle.xh_serial.proofs.Spawned.{spawn_whole, spawn_gives}
 use Rattle.xh_serial.proofs.serial.Serial.spawn.Goals as goal
@@ -12,11 +12,11 @@ use Rattle.xh_serial.proofs.serial.Serial.spawn.Goals as goal
 pub invariant_of-self : goal.invariant_of-self
 invariant_of-self c =
     let m : Machine = machine_of c.self.inside in
-    subst (λ (ps : List Place). IsWhole (record m { places = ps })) (ap (λ x. x.1) c.start.ensures) (spawn_whole m (position can_start m.places) c.self.invariant refl)
+    subst (λ (ps : List Place). IsWhole (record m { places = ps })) (ap (λ x. x.1) c.start.ensures) (spawn_whole m (position is_ready m.places) c.self.invariant refl)
 
 pub returns : goal.returns
 unfolding spawn
 returns c =
     let m : Machine = machine_of c.self.inside in
     rw (← c.self.view_is, c.ok_or.ensures.value)
-    (spawn_gives m (position can_start m.places) ∙ (λ i. (ok_or (c.start.ensures i).0 NoPlace, record m { places = (c.start.ensures i).1 })))
+    (spawn_gives m (position is_ready m.places) ∙ (λ i. (ok_or (c.start.ensures i).0 NoPlace, record m { places = (c.start.ensures i).1 })))

@@ -39,7 +39,7 @@ end_is c = c.end-end.ensures ∙ ap (end_of (was c)) (read c)
 pub shut-came-requires : goal.shut-came-requires
 shut-came-requires c = λ k e.
     let d = (goal.at.shut-came-requires c).After-end-end in
-    rw c.self.invariant.lines at (end_range (was d) (record_of d) c.self.invariant k (sym (end_is d) ∙ e))
+    rw c.self.invariant.channels.long at (end_range (was d) (record_of d) c.self.invariant k (sym (end_is d) ∙ e))
 
 pub add_all-requires : goal.add_all-requires
 add_all-requires c =

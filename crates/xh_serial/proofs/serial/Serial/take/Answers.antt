@@ -83,12 +83,12 @@ returns-clause-is c =
     rw (c.in_ok-d.ensures.0) (λ i. (Ok (answer i), left i))
 
 pub returns-clause-orderly : goal.returns-clause-orderly
-returns-clause-orderly c = wired_orderly (is c) (whole c).wired
+returns-clause-orderly c = wired_orderly (is c) (whole c).channels.wired
 
 pub returns-in_err-d-clause-orderly : goal.returns-in_err-d-clause-orderly
 returns-in_err-d-clause-orderly c =
     let w : IsWhole c.args.self.now = subst IsWhole c.self.view_is c.self.invariant in
-    wired_orderly c.args.self.now w.wired
+    wired_orderly c.args.self.now w.channels.wired
 
 pub returns-clause-allowed : goal.returns-clause-allowed
 returns-clause-allowed c =
@@ -98,7 +98,7 @@ returns-clause-allowed c =
     ∙ front_allowed m c.args.p c.args.e c.self.invariant (had (begun c)).may)
 
 pub returns-clause-numbered : goal.returns-clause-numbered
-returns-clause-numbered c = (whole c).numbered
+returns-clause-numbered c = (whole c).channels.numbered
 
 pub returns-in_err-d-clause-numbered : goal.returns-in_err-d-clause-numbered
-returns-in_err-d-clause-numbered c = let w : IsWhole c.args.self.now = subst IsWhole c.self.view_is c.self.invariant in w.numbered
+returns-in_err-d-clause-numbered c = let w : IsWhole c.args.self.now = subst IsWhole c.self.view_is c.self.invariant in w.channels.numbered

@@ -4,7 +4,7 @@ use Rattle.xh_model.specs.declared.event.Holder.TheVariants.{Process}
 use Rattle.xh_model.specs.Store.{holds, len}
 use Rattle.xh_serial.specs.Machine.{Machine, IsWhole, buffer, end_of}
 use Rattle.xh_core.specs.Refusing.{first_refusal}
-use Rattle.xh_serial.specs.BlockCommands.{overwritten, range_tests}
+use Rattle.xh_serial.specs.BlockCommands.{overwritten, range_refusals}
 use Rattle.xh_serial.proofs.Answering.{write_refused, write_gives}
 use Rattle.xh_serial.proofs.Gains.{held_buffer, buffer_length, overwritten_length, written_whole}
 use Rattle.xh_serial.specs.inner.Holding.{BlocksOf}
@@ -31,5 +31,5 @@ invariant_of-self c =
 pub returns : goal.returns
 returns c =
     let m : Machine = machine_of c.self.inside in
-    let tested : first_refusal (range_tests m c.args.p c.args.r c.args.at (length c.args.bytes.now)) ≡ None = rw (← c.self.view_is) at c.in_ok-check_range.ensures.0 in
+    let tested : first_refusal (range_refusals m c.args.p c.args.r c.args.at (length c.args.bytes.now)) ≡ None = rw (← c.self.view_is) at c.in_ok-check_range.ensures.0 in
     rw (c.overwrite.ensures, ← c.self.view_is) (write_gives c.args.p c.args.r c.args.at c.args.bytes.now m tested)

@@ -4,14 +4,14 @@ use mathlib.Core.Option.{some}
 use lib.ListN.{get_elem?}
 use Rattle.xh_records.specs.Seats.{Held}
 use Rattle.xh_records.specs.inner.Views.{dealer}
-use Rattle.xh_records.proofs.records.Records.new.Given as goal
+use Rattle.xh_records.proofs.making.seats_of.Given as goal
 
 abbrev pub invariant-loop-place : goal.invariant-loop-place
 invariant-loop-place g l = record {
-  here : l.dealer.table_id ≡ l.table.shared.table_id;
-  view : l.dealer.me.0 ≡ dealer l.table.shared.key l.place (l.places - l.place);
+  here : l.all.table_id ≡ l.board.table_id;
+  view : l.all.me.0 ≡ dealer l.board.key l.place (l.places - l.place);
   long : length l.seats.items ≡ l.place;
   room : l.places ≤ vec_capacity l.seats;
-  seats : (k : ℕ) (x : Held g.row.B.Denot) → get_elem? l.seats.items k ≡ some x → (x.table ≡ l.table.shared.table_id) × (x.shape ≡ l.table.shared.key) × (x.process ≡ k) × (x.lots ≡ [])
+  seats : (k : ℕ) (x : Held g.row.B.Denot) → get_elem? l.seats.items k ≡ some x → (x.table ≡ l.board.table_id) × (x.shape ≡ l.board.key) × (x.process ≡ k) × (x.lots ≡ [])
       × (x.done ≡ []);
 }

@@ -1,0 +1,28 @@
+-- What the first tests of a call, which refused nothing, leave to the tests of its place.
+use Rattle.std.proofs.Common.{◌≡◌, ◌∙◌, ◌++◌, ap, sym, subst}
+use Rattle.std.specs.Prelude.{Option, Some, None, Result, Err, MatchOption, MatchResult}
+use Rattle.xh_core.proofs.Firsts.{first_later}
+use Rattle.xh_core.specs.declared.refused.Refused.{Refused}
+use Rattle.xh_core.specs.declared.status.Status.{Status}
+use Rattle.xh_core.specs.declared.status.Status.TheVariants.{Running}
+use Rattle.xh_core.specs.Refusing.{Tests, Tested, first_refusal}
+use Rattle.xh_place.specs.Ends.{RefusedOr}
+use Rattle.xh_place.specs.Starts.{start as starts}
+
+module _ (tests more : Tests) (none : first_refusal tests ≡ None) (state : Status) (run : state ≡ Running) where
+  later : first_refusal (tests ++ more) ≡ first_refusal (starts state ++ more)
+  later = first_later tests more none ∙ sym (first_later (starts state) more (ap (λ (s : Status). first_refusal (starts s)) run))
+
+  pub passes : (done : Type 0) (P : Refused → Type 0) → MatchOption (first_refusal (starts state ++ more)) done P → MatchOption (first_refusal (tests ++ more)) done P
+  passes done P h = subst (λ (o : Option Refused). MatchOption o done P) (sym later) h
+
+  module _ {A : Type 0} (result : Result A Refused) where
+    pub tested : (P : A → Type 0) → Tested (starts state ++ more) result P → Tested (tests ++ more) result P
+    tested P h = subst (λ (o : Option Refused). MatchResult result (λ a. (o ≡ None) × P a) (λ refused. o ≡ Some refused)) (sym later) h
+
+    -- less is said of what stays, and of what is done
+    pub fewer : (same left done all : Type 0) → (all → done) → RefusedOr (starts state ++ more) result (same × left) all → RefusedOr (tests ++ more) result same done
+    fewer same left done all f h = passes done (λ refused. (result ≡ Err refused) × same) (go (first_refusal (starts state ++ more)) h) where
+      go : (o : Option Refused) → MatchOption o all (λ refused. (result ≡ Err refused) × (same × left)) → MatchOption o done (λ refused. (result ≡ Err refused) × same)
+      go None d = f d
+      go (Some refused) d = (d.0, d.1.0)

@@ -1,0 +1,10 @@
+use Rattle.xh_place.specs.Places.{found}
+use Rattle.xh_core.specs.Calls.{end_tests}
+use Rattle.xh_kernel.specs.Places.{start}
+use Rattle.xh_kernel.proofs.Started.{passes}
+use Rattle.xh_kernel.proofs.held.Held.take.Goals as goal
+
+pub returns : goal.returns
+returns g c =
+    let place = c.args.self.now.place in
+    passes (start c.args.p place) (end_tests (found place c.args.e)) c.in_ok-start.ensures.0 place.state c.in_ok-start.ensures.1 _ _ c.take-answer.ensures.taken

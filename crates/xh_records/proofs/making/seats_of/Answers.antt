@@ -1,0 +1,67 @@
+use Rattle.std.proofs.Common.{rules, arith, ◌≡◌, ℕ, suc, ◌+◌, ◌-◌, ◌<◌, ◌≤◌, ⊎_elim, length, refl, sym, ap, ◌∙◌, subst, [], length-append}
+use Rattle.std.specs.Vec.{vec_capacity}
+use lib.ListN.{get_elem?}
+use mathlib.Core.Option.{some}
+use Rattle.xh_records.specs.inner.Views.{dealer, dealt, dealt_from, events_in}
+use Rattle.xh_records.specs.inner.Tokens.{numbered}
+use Rattle.xh_records.proofs.Elements.{snoc_at}
+use Rattle.xh_records.proofs.Seating.{seat_is}
+use Rattle.xh_records.proofs.making.seats_of.Goals as goal
+
+-- of the places that are left one is the next
+one_left : (count k : ℕ) → k < count → count - k ≡ suc (count - (k + 1))
+one_left count k below = omega arith
+
+pub deal-token-requires-clause-own : goal.deal-token-requires-clause-own
+deal-token-requires-clause-own g c = (c.loop-place.invariant.here, c.requires.own.1)
+
+pub deal-token-requires-clause-places : goal.deal-token-requires-clause-places
+deal-token-requires-clause-places g c =
+    let key = c.args.board.now.key in
+    (key, c.loop-place.place, c.args.places - (c.loop-place.place + 1), c.loop-place.invariant.view ∙ ap (dealer key c.loop-place.place) (one_left _ _ c.loop-place-test.true))
+
+pub invariant_of-push_reserved : goal.invariant_of-push_reserved
+invariant_of-push_reserved g c =
+    let i = c.loop-place.invariant in
+    let key = c.args.board.now.key in
+    let v = i.view ∙ ap (dealer key c.loop-place.place) (one_left _ _ c.loop-place-test.true) in
+    let empty : c.in_ok-order.order.items ≡ [] = search rules in
+    let slots : c.deal-token.result.table_id.slots ≡ c.args.board.now.table_id.slots = ap (λ z. z.slots) (c.deal-token.ensures.seat.0 ∙ i.here) in
+    let some_room : c.args.count ≤ vec_capacity c.in_ok-order.order = c.in_ok-order.ensures.capacity in
+    let enough : c.args.board.now.table_id.slots ≤ c.args.count = c.requires.room in
+    let room : c.deal-token.result.table_id.slots ≤ vec_capacity c.in_ok-order.order = subst (λ (z : ℕ). z ≤ vec_capacity c.in_ok-order.order) (sym slots) (omega arith) in
+    seat_is c.loop-place.place _ [] _ _ _ _ _ _ _ c.from-process.ensures empty refl refl (c.deal-token.ensures.seat.1 ∙ ap (λ x. (dealt x, [])) v)
+    record { processes = refl; ordered = refl; records = refl; done = refl; lots = tt; distinct = tt; below = tt; room = room; small = c.requires.small }
+
+pub loop-place-preserved : goal.loop-place-preserved
+loop-place-preserved g c =
+    let i = c.loop-place.invariant in
+    let key = c.args.board.now.key in
+    let next : suc c.loop-place.place ≡ c.loop-place.place + 1 = omega arith in
+    let v = i.view ∙ ap (dealer key c.loop-place.place) (one_left _ _ c.loop-place-test.true) in
+    let me = c.deal-token.ensures.seat.1 in record {
+      here = c.deal-token.ensures.token.0 ∙ i.here;
+      view = ap (λ m. m.0) c.deal-token.ensures.token.2 ∙ ap dealt_from v ∙ ap (λ (n : ℕ). dealer key n (c.args.places - (c.loop-place.place + 1))) next;
+      long = ap length c.push_reserved.ensures.items ∙ length-append _ _ ∙ ap (λ (n : ℕ). n + 1) i.long;
+      room = search rules;
+      seats = λ k x at. ⊎_elim
+          (λ old. i.seats k x old)
+          (λ new. (
+            ap (λ h. h.table) (sym new.0) ∙ c.deal-token.ensures.seat.0 ∙ i.here,
+            ap (λ h. h.shape) (sym new.0) ∙ ap (λ m. m.0.shape) me ∙ ap (λ x. (dealt x).shape) v,
+            ap (λ h. h.process) (sym new.0) ∙ c.from-process.ensures ∙ sym i.long ∙ sym new.1,
+            ap (λ h. h.lots) (sym new.0) ∙ ap (λ m. numbered m.0.shape.records m.1) me,
+            ap (λ h. h.done) (sym new.0) ∙ ap (λ m. events_in m.0) me ∙ ap (λ x. events_in (dealt x)) v,
+          ))
+          (snoc_at c.loop-place.seats.items _ x k (subst (λ l. get_elem? l k ≡ some x) c.push_reserved.ensures.items at));
+    }
+
+pub returns-clause-long : goal.returns-clause-long
+returns-clause-long g c =
+    let past : c.args.places ≤ c.loop-place.place = c.loop-place-test.false in
+    let most : c.loop-place.place ≤ c.args.places = c.loop-place.auto.place-end in
+    let end : c.loop-place.place ≡ c.args.places = omega arith in
+    c.loop-place.invariant.long ∙ end
+
+pub returns-clause-seats : goal.returns-clause-seats
+returns-clause-seats g c = c.loop-place.invariant.seats

@@ -1,0 +1,77 @@
+// Makes the table, and a seat for each place.
+ghost use Rattle.std.specs.Prelude.{◌≡◌, ℕ, ◌<◌, ◌≤◌, [], length, IfOk, Some, map};
+ghost use mathlib.Core.Option.{some};
+ghost use lib.ListN.{get_elem?};
+ghost use Rattle.xh_arena.specs.Views.{LotOf};
+ghost use Rattle.xh_model.specs.declared.limits.TheConstants.{PLACES};
+ghost use Rattle.xh_records.specs.Showing.{IsEmpty, IsLotAt, IsSmall};
+ghost use Rattle.xh_records.specs.Seats.{Held};
+ghost use Rattle.xh_records.specs.inner.Views.{dealer};
+
+use crate::refused::Refused;
+use crate::rule::Showing;
+use crate::seat::Seat;
+use crate::shape::Shape;
+use crate::token::{Board, Token, deal};
+use crate::view::View;
+use atomic_table::Table;
+use std::alloc::{AllocError, Global};
+use xh_arena::{Fits, Lot};
+
+/// The table itself, which its seats share.
+pub(crate) type Home<B> = Table<Option<Lot<B>>, View, Shape, Showing<B>, Global>;
+
+// Each lot in a slot.
+fn in_slots<B: Drop>(alloc: Global, lots: Vec<Lot<B>>) -> Result<Vec<Option<Lot<B>>>, AllocError>
+    ensures { IfOk result (λ slots. slots.items ≡ map Some lots.items) }
+{
+    lots.into_iter().map(|lot| Some(lot)).collect(alloc)
+}
+
+// The table over empty lots, each record free, and one token that stands for all places.
+pub(crate) fn table_of<B: Fits + Drop>(
+    alloc: Global,
+    lots: Vec<Lot<B>>,
+    shape: &Shape,
+) -> Result<(Home<B>, Token<B>), Refused>
+    requires limits { (shape.now.places ≤ PLACES) × IsSmall shape.now }
+    requires empty { (k : ℕ) (l : LotOf B) → get_elem? lots.items k ≡ some l → IsLotAt shape.now k l × IsEmpty B.is_fit l }
+    ensures table { IfOk result (λ t. (t.0.shared.table_id.words ≡ length lots.items) × (t.0.shared.table_id.slots ≡ length lots.items) × (t.0.shared.key ≡ shape.now)) }
+    ensures dealer { IfOk result (λ t. (t.1.table_id ≡ t.0.shared.table_id) × (t.1.me.0 ≡ dealer shape.now 0 shape.now.places)) }
+{
+    let words = vec![in alloc; 0u64; lots.len()]?;
+    let slots = in_slots(alloc, lots)?;
+    let Ok(made) = Table::new(alloc, words.as_slice(), slots, shape) else {
+        return Err(Refused::OutOfMemory);
+    };
+    Ok(made)
+}
+
+// A seat for each of the places that the token stands for, with room for so many slots.
+pub(crate) fn seats_of<B: Fits>(
+    alloc: Global,
+    board: &Board<B>,
+    all: &mut Token<B>,
+    count: usize,
+    places: u8,
+) -> Result<Vec<Seat<B>>, AllocError>
+    requires own { (all.old.table_id ≡ board.now.table_id) × (0 < board.now.table_id.words) }
+    requires room { board.now.table_id.slots ≤ count }
+    requires view { all.old.me.0 ≡ dealer board.now.key 0 places }
+    requires small { IsSmall board.now.key }
+    ensures long { IfOk result (λ seats. length seats.items ≡ places) }
+    ensures seats { IfOk result (λ seats. (k : ℕ) (x : Held B) → get_elem? seats.items k ≡ some x → (x.table ≡ board.now.table_id) × (x.shape ≡ board.now.key) × (x.process ≡ k) × (x.lots ≡ []) × (x.done ≡ [])) }
+{
+    let mut seats = Vec::with_capacity(alloc, usize::from(places))?;
+    for place in 0..places {
+        let order = Vec::with_capacity(alloc, count)?;
+        let token = deal(board, all);
+        let process = u16::from(place);
+        seats.push_reserved(Seat {
+            token,
+            order,
+            process,
+        });
+    }
+    Ok(seats)
+}
