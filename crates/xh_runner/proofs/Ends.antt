@@ -1,15 +1,19 @@
 -- Lemmas on how a run ends.
 use Rattle.std.specs.Io.KnownBytes.{Consumes}
-use Rattle.std.proofs.Common.{◌≡◌, ◌≤◌, ◌++◌, ◌+◌, append_assoc, length-append, arith, Some, None, ℕ, Bool, true, false, List, length, nat_lt, if◌then◌else◌, Option, Result, Ok, Err, OnOk}
-use Rattle.std.proofs.Common.{IfErr, refl, ap, sym, subst, ◌∙◌}
+use Rattle.std.proofs.Common.{◌≡◌, ◌≤◌, ◌++◌, ◌+◌, append_assoc, append-nil, length-append, arith, Some, None, ℕ, Bool, true, false, List, [], length, nat_lt, if◌then◌else◌}
+use Rattle.std.proofs.Common.{◌≢◌, ◌⊎◌, inl, inr, Option, Result, Ok, Err, OnOk, IfErr, refl, ap, sym, subst, ◌∙◌}
 use Rattle.std.proofs.lemmas.Bool.{ltb-false}
+use Rattle.xh_model.specs.declared.config.Config.{Config}
 use Rattle.xh_script.specs.declared.limits.TheConstants.{MAX_SCRIPT}
 use Rattle.xh_script.specs.declared.fault.Fault.{Fault}
-use Rattle.xh_script.specs.declared.fault.Fault.TheVariants.{Script, Write as WriteFault}
+use Rattle.xh_script.specs.declared.fault.Fault.TheVariants.{Script, Memory, Read, Write, Gate, BadConfig}
 use Rattle.xh_script.specs.declared.fault.Kind.TheVariants.{TooLong}
 use Rattle.xh_script.specs.declared.watch.Watched.{Watched}
-use Rattle.xh_script.specs.Scripts.{Listing, script_of}
-use Rattle.xh_script.specs.Watching.{Reads, Writes, WritesFront, WritesOrFails, inner_of}
+use Rattle.xh_script.specs.Scripts.{Fails, Listing, script_of}
+use Rattle.xh_script.specs.Watching.{Reads, Writes, WritesFront, WritesOrFails, failures, inner_of}
+use Rattle.xh_script.proofs.Writings.{WritesOrFails-then}
+use Rattle.xh_runner.specs.Ends.{Done, Stopped}
+use Rattle.xh_runner.specs.Reading.{GivesScript, ReadsScript, Unread}
 
 pub Consumes-then : (a b c : Option (List ℕ)) (x y : List ℕ) → Consumes a b x → Consumes b c y → Consumes a c (x ++ y)
 Consumes-then None b c x y p q = tt
@@ -27,12 +31,6 @@ Reads-then remaining first now next text bytes more p q e = record {
 pub length_both : (x y : List ℕ) (a b : ℕ) → length x ≡ a → length y ≤ b → a + b ≤ MAX_SCRIPT + 1 → length (x ++ y) ≤ MAX_SCRIPT + 1
 length_both x y a b e h s = simp length-append (omega arith)
 
--- what was written in full
-pub written : {W : Type 0} (contents : W → Option (List ℕ)) (old new : Watched W) (r : Result (Unit {0}) Fault) (bytes : List ℕ) (P : Type 0)
-    → WritesOrFails contents old new r bytes → (Writes contents old new bytes → P) → OnOk r P
-written contents old new (Ok u) bytes P h f = f h
-written contents old new (Err e) bytes P h f = tt
-
 short_by : (b : Bool) (text : List ℕ) (rest : Result Listing Fault) (script : Listing) → nat_lt MAX_SCRIPT (length text) ≡ b
     → (if b then Err (Script 0 TooLong) else rest) ≡ Ok script → length text ≤ MAX_SCRIPT
 short_by true text rest script e h = absurd (cc)
@@ -43,8 +41,56 @@ pub script_short : (text : List ℕ) (script : Listing) → script_of text ≡ O
 unfolding script_of
 script_short text script h = short_by (nat_lt MAX_SCRIPT (length text)) text _ script refl h
 
--- what was written in part
-pub cut_off : {W : Type 0} (contents : W → Option (List ℕ)) (old new : Watched W) (r : Result (Unit {0}) Fault) (bytes : List ℕ) (P : Fault → Type 0)
-    → WritesOrFails contents old new r bytes → (WritesFront contents old new bytes → P WriteFault) → IfErr r P
-cut_off contents old new (Ok u) bytes P h f = tt
-cut_off contents old new (Err e) bytes P h f = subst P (sym h.0) (f h.1)
+module _ {R : Type 0} (remaining : R → Option (List ℕ)) where
+  -- why no text was read
+  pub no_text : (config : Config) (reader reader' : Watched R) (e : Fault) → (e ≡ Memory) ⊎ ((e ≡ Read) × (failures reader' ≢ failures reader)) → Unread remaining config reader reader' e
+  no_text config reader reader' e (inl h) = subst (Unread remaining config reader reader') (sym h) tt
+  no_text config reader reader' e (inr h) = subst (Unread remaining config reader reader') (sym h.0) h.1
+
+  -- why a text was read, and no script
+  pub no_script : (config : Config) (reader reader' : Watched R) (text : List ℕ) (e : Fault) → ReadsScript remaining reader reader' text → Fails e (script_of text)
+      → Unread remaining config reader reader' e
+  no_script config reader reader' text (Script n kind) reads h = (text, reads, h)
+  no_script config reader reader' text Memory reads h = tt
+  no_script config reader reader' text Read reads h = absurd h
+  no_script config reader reader' text Write reads h = absurd h
+  no_script config reader reader' text Gate reads h = absurd h
+  no_script config reader reader' text BadConfig reads h = absurd h
+
+-- what is written, and then sent on its way
+pub flushed : {W : Type 0} (contents : W → Option (List ℕ)) (a b c : Watched W) (r : Result (Unit {0}) Fault) (x : List ℕ)
+    → Writes contents a b x → WritesOrFails contents b c r [] → WritesOrFails contents a c r x
+flushed contents a b c r x p q = subst (λ (bytes : List ℕ). WritesOrFails contents a c r bytes) (append-nil x) (WritesOrFails-then contents a b c r x [] p q)
+
+module _ {R W : Type 0} (remaining : R → Option (List ℕ)) (contents : W → Option (List ℕ)) (IsFor : Listing → List ℕ → Type 0) where
+  -- a fault before a script is there leaves nothing written
+  pub unread_stops : (config : Config) (reader reader' : Watched R) (writer : Watched W) (e : Fault)
+      → Unread remaining config reader reader' e → Stopped remaining contents IsFor config reader reader' writer writer e
+  unread_stops config reader reader' writer (Script n kind) h = (h, refl)
+  unread_stops config reader reader' writer Memory h = (h, refl)
+  unread_stops config reader reader' writer Read h = (h, refl)
+  unread_stops config reader reader' writer Write h = absurd h
+  unread_stops config reader reader' writer Gate h = (h, refl)
+  unread_stops config reader reader' writer BadConfig h = (h, refl)
+
+  -- and so does want of memory
+  pub memory_stops : (config : Config) (reader reader' : Watched R) (writer : Watched W) (e : Fault)
+      → e ≡ Memory → Stopped remaining contents IsFor config reader reader' writer writer e
+  memory_stops config reader reader' writer e h = unread_stops config reader reader' writer e (subst (Unread remaining config reader reader') (sym h) tt)
+
+  -- what was written in full
+  pub wrote_all : (reader reader' : Watched R) (writer writer' : Watched W) (r : Result (Unit {0}) Fault) (text : List ℕ) (script : Listing) (bytes : List ℕ)
+      → GivesScript remaining reader reader' text script → IsFor script bytes → WritesOrFails contents writer writer' r bytes
+      → OnOk r (Done remaining contents IsFor reader reader' writer writer')
+  wrote_all reader reader' writer writer' (Ok u) text script bytes reads is_for w =
+      record { text = text; script = script; bytes = bytes; reads = reads; is_for = is_for; writes = w }
+  wrote_all reader reader' writer writer' (Err e) text script bytes reads is_for w = tt
+
+  -- what was written in part
+  pub wrote_part : (config : Config) (reader reader' : Watched R) (writer writer' : Watched W) (r : Result (Unit {0}) Fault) (text : List ℕ) (script : Listing) (bytes : List ℕ)
+      → GivesScript remaining reader reader' text script → IsFor script bytes → WritesOrFails contents writer writer' r bytes
+      → IfErr r (Stopped remaining contents IsFor config reader reader' writer writer')
+  wrote_part config reader reader' writer writer' (Ok u) text script bytes reads is_for w = tt
+  wrote_part config reader reader' writer writer' (Err e) text script bytes reads is_for w =
+      subst (Stopped remaining contents IsFor config reader reader' writer writer') (sym w.0)
+      (record { text = text; script = script; bytes = bytes; reads = reads; is_for = is_for; writes = w.1 })

@@ -4,7 +4,6 @@ pub mod Receiving
 pub mod Meaning
 pub mod Worlds
 pub mod Output
-pub mod Runs
 pub mod Reports
-pub mod Reported
+pub mod Ends
 pub mod inner

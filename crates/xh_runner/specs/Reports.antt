@@ -1,9 +1,17 @@
--- What a run on threads leaves.
-use Rattle.std.specs.Prelude.{◌≡◌, All, List, length, map}
+-- What a run leaves.
+use Rattle.std.specs.Prelude.{◌≡◌, ◌++◌, ℕ, All, List, length, map}
+use Rattle.xh_books.specs.Ledgers.{IsBalanced}
 use Rattle.xh_core.specs.declared.ledger.Ledger.{Ledger}
 use Rattle.xh_model.specs.declared.config.Config.{Config}
+use Rattle.xh_script.specs.Scripts.{Listing}
+use Rattle.xh_script.specs.Texts.{answer_texts, ledger_text}
 use Rattle.xh_script.specs.declared.command.Line.{Line}
 use Rattle.xh_script.specs.declared.reply.Answered.{Answered}
+use Rattle.xh_runner.specs.declared.report.Report.{Report}
+
+-- the text of a report: the replies, and then the ledger
+abbrev pub text_of : Report → List ℕ
+text_of r = answer_texts r.answers.items ++ ledger_text r.ledger r.names.items
 
 -- there is one reply for each line, in the order of the lines, with its number
 abbrev pub AreAnswersTo : List Line → List Answered → Type 0
@@ -13,3 +21,11 @@ AreAnswersTo lines answers = map (λ a. a.line) answers ≡ map (λ l. l.number)
 pub record HasArenas (config : Config) (l : Ledger) : Type 0 where
   pub count : length l.arenas.items ≡ config.arenas
   pub sizes : All (λ a. a.size ≡ config.bytes) l.arenas.items
+
+-- what is written of a run of a script on threads: one reply for each line, in order, and a ledger of the configuration's arenas, whose sums hold
+pub record IsReportOf (config : Config) (script : Listing) (bytes : List ℕ) : Type 0 where
+  pub report : Report
+  pub lines : AreAnswersTo script.lines report.answers.items
+  pub arenas : HasArenas config report.ledger
+  pub balanced : IsBalanced report.ledger
+  pub text : bytes ≡ text_of report

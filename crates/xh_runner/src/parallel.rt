@@ -1,11 +1,16 @@
 //! A script from its bytes to its replies and its ledger, on threads.
-ghost use Rattle.std.specs.Prelude.{◌+◌, IfErr, OnOk};
+ghost use Rattle.std.specs.Prelude.{◌≡◌, ◌+◌, ◌<◌, IfErr, IfOk, OnOk, length};
+ghost use Rattle.std.specs.List.{All};
+ghost use Rattle.xh_model.specs.Config.{IsConfig};
+ghost use Rattle.xh_model.specs.declared.limits.TheConstants.{PLACES};
 ghost use Rattle.xh_script.specs.declared.limits.TheConstants.{MAX_SCRIPT};
+ghost use Rattle.xh_script.specs.Scripts.{listing_of};
+ghost use Rattle.xh_runner.specs.Ends.{Done, Stopped};
 ghost use Rattle.xh_runner.specs.Reading.{ReadsAtMost};
-ghost use Rattle.xh_runner.specs.Reported.{Reported, Stopped};
+ghost use Rattle.xh_runner.specs.Reports.{IsReportOf, text_of};
 
-use crate::input::read_text;
-use crate::serial::write_output;
+use crate::input::read_input;
+use crate::report::{Report, write_report};
 use crate::threads::run_gated;
 use std::alloc::Global;
 use std::io::{Read, Write};
@@ -13,12 +18,27 @@ use std::sync::Wait;
 use std::thread::Threads;
 use xh_core::Config;
 use xh_place::OpenGate;
-use xh_script::{Fault, Watched, read_script};
+use xh_script::{Fault, Script, Watched};
+
+/// Runs a script on threads, through a gate that stops nobody.
+fn report_of<T: Threads + Wait + Sync>(
+    rt: &T,
+    alloc: Global,
+    config: Config,
+    script: &Script,
+) -> Result<Report, Fault>
+    requires { IsConfig config }
+    ensures report { IfOk result (λ r. IsReportOf config (listing_of script.now) (text_of r)) }
+    ensures places { IfOk result (λ r. (length r.names.items ≡ PLACES) × All (λ line. line.place < PLACES) r.ledger.places.items) }
+    ensures memory { IfErr result (λ e. e ≡ Fault.Memory) }
+{
+    let report = run_gated(rt, alloc, script, config, &OpenGate, false)?;
+    Ok(report)
+}
 
 /// As `run_serial`, on threads: each process that has a place does its commands in a thread of its own.
 ///
-/// A config outside its limits is BadConfig. Memory comes where a growth outside the commands was refused,
-/// or a thread. But for Write, a fault leaves nothing written.
+/// Memory comes where a growth outside the commands was refused, or a thread.
 pub fn run_parallel<T: Threads + Wait + Sync, R: Read, W: Write>(
     rt: &T,
     alloc: Global,
@@ -26,12 +46,11 @@ pub fn run_parallel<T: Threads + Wait + Sync, R: Read, W: Write>(
     writer: &mut Watched<W>,
     config: Config,
 ) -> Result<(), Fault>
-    ensures ok { OnOk result (Reported R.remaining W.contents config reader.old reader.new writer.old writer.new) }
-    ensures err { IfErr result (Stopped R.remaining W.contents config reader.old reader.new writer.old writer.new) }
+    ensures ok { OnOk result (Done R.remaining W.contents (IsReportOf config) reader.old reader.new writer.old writer.new) }
+    ensures err { IfErr result (Stopped R.remaining W.contents (IsReportOf config) config reader.old reader.new writer.old writer.new) }
     ensures limit { ReadsAtMost R.remaining (MAX_SCRIPT + 1) reader.old reader.new }
 {
-    let text = read_text(alloc, reader)?;
-    let script = read_script(alloc, &text)?;
-    let report = run_gated(rt, alloc, &script, config, &OpenGate, false)?;
-    write_output(writer, &report.answers, &report.ledger, &report.names)
+    let input = read_input(alloc, config, reader)?;
+    let report = report_of(rt, alloc, config, &input.script)?;
+    write_report(writer, &report)
 }

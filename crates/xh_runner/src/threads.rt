@@ -10,27 +10,18 @@ mod job;
 mod replies;
 mod run;
 
+use crate::report::Report;
 use crate::threads::run::run_script;
 use std::alloc::Global;
 use std::marker::Brand;
 use std::sync::Wait;
 use std::thread::Threads;
 use xh_books::close_books;
-use xh_core::{Config, Ledger, Refused};
+use xh_core::{Config, Refused};
 use xh_kernel::{Kernel, Names, Parts};
 use xh_model::limits::MAX_WORKERS;
 use xh_place::Gate;
-use xh_script::{Answered, Fault, Name, Script};
-
-/// What a run on threads answered: the replies in the order of the script, the ledger of the closed
-/// books, and the name of the latest process of each of the 32 places; one that nobody has had is called
-/// vacant, and the ledger has no line of it.
-#[derive(Drop)]
-pub struct Report {
-    pub answers: Vec<Answered>,
-    pub ledger: Ledger,
-    pub names: Vec<Name>,
-}
+use xh_script::{Fault, Script};
 
 fn new_parts(alloc: Global, config: Config) -> Result<Parts, Fault>
     ensures workers { IfOk result (λ parts. parts.workers ≡ MAX_WORKERS) }

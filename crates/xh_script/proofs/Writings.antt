@@ -1,5 +1,5 @@
 -- Lemmas on what is written in several calls.
-use Rattle.std.proofs.Common.{◌≡◌, ℕ, suc, List, [], ◌∷◌, ◌++◌, ◌/◌, ◌%◌, codes, Option, Some, None, Result, Ok, Err, refl, ap, sym, ◌∙◌, append_assoc, append-nil, map, drop, get_or}
+use Rattle.std.proofs.Common.{◌≡◌, ℕ, suc, List, [], ◌∷◌, ◌++◌, ◌/◌, ◌%◌, codes, Option, Some, None, Result, Ok, Err, refl, ap, sym, ◌∙◌, append_assoc, map, drop, get_or}
 use Rattle.std.proofs.Common.{length, ◌<◌, ◌+◌, add-one, drop-cons, Bor}
 use Rattle.std.specs.List.{concat}
 use Rattle.xh_script.specs.Texts.{arena_text, arena_texts, place_text, place_texts, length_text, lengths_text, reply_text, answer_texts, hex_digit, hex_text}
@@ -11,10 +11,6 @@ use Rattle.xh_script.specs.Watching.{inner_of, Writes, WritesFront, WritesOrFail
 use Rattle.xh_script.specs.declared.watch.Watched.{Watched}
 use Rattle.xh_script.specs.declared.fault.Fault.{Fault}
 
-pub Appends-none : (a : Option (List ℕ)) → Appends a a []
-Appends-none None = tt
-Appends-none (Some x) = sym (append-nil x)
-
 pub Appends-then : (a b c : Option (List ℕ)) (x y : List ℕ) → Appends a b x → Appends b c y → Appends a c (x ++ y)
 Appends-then None b c x y p q = tt
 Appends-then (Some k) None c x y p q = absurd p
@@ -22,9 +18,6 @@ Appends-then (Some k) (Some l) None x y p q = absurd q
 Appends-then (Some k) (Some l) (Some m) x y p q = q ∙ ap (λ t. t ++ y) p ∙ append_assoc k x y
 
 module _ {T : Type 0} (contents : T → Option (List ℕ)) where
-  pub Writes-none : (w : Watched T) → Writes contents w w []
-  Writes-none w = record { held = Appends-none (contents (inner_of w)); still = refl }
-
   pub Writes-then : (a b c : Watched T) (x y : List ℕ) → Writes contents a b x → Writes contents b c y → Writes contents a c (x ++ y)
   Writes-then a b c x y p q = record {
     held = Appends-then (contents (inner_of a)) (contents (inner_of b)) (contents (inner_of c)) x y p.held q.held;

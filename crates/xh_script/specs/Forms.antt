@@ -2,7 +2,7 @@
 use Rattle.std.specs.Prelude.{ℕ, ◌+◌, ◌&&◌, Bool, true, false, List, [], ◌∷◌, length, nat_le, slice_index_or, if◌then◌else◌, Result, Ok, Err, codes}
 use Rattle.std.specs.Str.{bytes_eq}
 use Rattle.xh_model.specs.declared.limits.TheConstants.{MAX_BLOCKS, MAX_BUDGET, MAX_ROWS}
-use Rattle.xh_script.specs.declared.limits.TheConstants.{MAX_GIVEN, MAX_LEN, MAX_TAG}
+use Rattle.xh_script.specs.declared.limits.TheConstants.{MAX_GIVEN, MAX_LEN, MAX_NUMBER, MAX_TAG}
 use Rattle.xh_script.specs.declared.fault.Kind.{Kind}
 use Rattle.xh_script.specs.declared.fault.Kind.TheVariants.{BadWord}
 use Rattle.xh_script.specs.declared.form.Sort.{Sort}
@@ -19,7 +19,7 @@ pub record Row : Type 0 where
   pub most : ℕ
 
 abbrev pub number : Sort
-number = sort.Number 0 4294967295
+number = sort.Number 0 MAX_NUMBER
 
 abbrev pub tag : Sort
 tag = sort.Number 0 MAX_TAG

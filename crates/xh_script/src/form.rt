@@ -1,10 +1,10 @@
 //! The table of the language: a row for each form of line.
 ghost use Rattle.std.specs.Prelude.{◌≡◌, ◌≤◌, ◌+◌, length, true};
-ghost use Rattle.xh_script.specs.Forms.{just, and_more, shape, is_head, declares, verb_at, sort_at, has_count};
+ghost use Rattle.xh_script.specs.Forms.{just, and_more, form_among, form_text, shape, is_head, declares, verb_at, sort_at, has_count};
 ghost use Rattle.xh_script.specs.declared.limits.TheConstants.{MAX_WORDS};
 
 use crate::Kind;
-use crate::limits::{MAX_GIVEN, MAX_LEN, MAX_TAG};
+use crate::limits::{MAX_GIVEN, MAX_LEN, MAX_NUMBER, MAX_TAG};
 use std::marker::Model;
 use xh_model::limits::{MAX_BLOCKS, MAX_BUDGET, MAX_ROWS};
 
@@ -76,7 +76,7 @@ const BYTES: Sort = Sort::Bytes;
 
 const NUMBER: Sort = Sort::Number {
     least: 0,
-    most: 4_294_967_295,
+    most: MAX_NUMBER,
 };
 
 const TAG: Sort = Sort::Number {
@@ -93,6 +93,36 @@ const BUDGET: Sort = Sort::Number {
     least: 1,
     most: MAX_BUDGET as u32,
 };
+
+/// The forms whose lines begin with a process, and their own word, a verb, behind it.
+const VERBS: &[Form] = &[
+    Form::Open,
+    Form::Alloc,
+    Form::Split,
+    Form::Read,
+    Form::Write,
+    Form::Give,
+    Form::Take,
+    Form::Await,
+    Form::Free,
+    Form::Close,
+    Form::Exit,
+    Form::Kill,
+    Form::Glance,
+    Form::Again,
+];
+
+/// The first of these forms whose own word this is.
+fn form_among(forms: &[Form], word: &[u8]) -> Result<Form, Kind>
+    ensures { result ≡ form_among forms.now word.now }
+{
+    for form in forms {
+        if word == form.text() {
+            return Ok(*form);
+        }
+    }
+    Err(Kind::BadWord)
+}
 
 /// These words and no more.
 fn just(words: &'static [Sort]) -> Shape
@@ -153,42 +183,37 @@ impl Form {
         matches!(self, Form::Contract)
     }
 
+    /// The form's own word.
+    fn text(self) -> &'static [u8]
+        ensures { result.now ≡ form_text self }
+    {
+        match self {
+            Form::Contract => b"contract",
+            Form::Process => b"process",
+            Form::Wire => b"wire",
+            Form::Open => b"open",
+            Form::Alloc => b"alloc",
+            Form::Split => b"split",
+            Form::Read => b"read",
+            Form::Write => b"write",
+            Form::Give => b"give",
+            Form::Take => b"take",
+            Form::Await => b"await",
+            Form::Free => b"free",
+            Form::Close => b"close",
+            Form::Exit => b"exit",
+            Form::Kill => b"kill",
+            Form::Glance => b"glance",
+            Form::Again => b"again",
+        }
+    }
+
     /// The form that a verb has.
     #[tactic(auto, unfolding(crate::specs::Forms::verb_at))]
     pub(crate) fn of_verb(word: &[u8]) -> Result<Form, Kind>
         ensures { result ≡ verb_at word.now }
     {
-        if word == b"open".as_slice() {
-            Ok(Form::Open)
-        } else if word == b"alloc".as_slice() {
-            Ok(Form::Alloc)
-        } else if word == b"split".as_slice() {
-            Ok(Form::Split)
-        } else if word == b"read".as_slice() {
-            Ok(Form::Read)
-        } else if word == b"write".as_slice() {
-            Ok(Form::Write)
-        } else if word == b"give".as_slice() {
-            Ok(Form::Give)
-        } else if word == b"take".as_slice() {
-            Ok(Form::Take)
-        } else if word == b"await".as_slice() {
-            Ok(Form::Await)
-        } else if word == b"free".as_slice() {
-            Ok(Form::Free)
-        } else if word == b"close".as_slice() {
-            Ok(Form::Close)
-        } else if word == b"exit".as_slice() {
-            Ok(Form::Exit)
-        } else if word == b"kill".as_slice() {
-            Ok(Form::Kill)
-        } else if word == b"glance".as_slice() {
-            Ok(Form::Glance)
-        } else if word == b"again".as_slice() {
-            Ok(Form::Again)
-        } else {
-            Err(Kind::BadWord)
-        }
+        form_among(VERBS, word)
     }
 }
 

@@ -25,6 +25,9 @@ pub const MAX_NAME: usize = 16;
 /// The digits of a number.
 pub const MAX_DIGITS: usize = 10;
 
+/// A number: 0 to this, unless its place says less.
+pub const MAX_NUMBER: u32 = 4_294_967_295;
+
 /// The bytes that a HEX says, by two digits each: 1 to this many.
 pub const MAX_HEX: usize = 32;
 

@@ -1,5 +1,5 @@
 //! What has been read of a script.
-ghost use Rattle.std.specs.Prelude.{◌≡◌, ◌<◌, IfOk};
+ghost use Rattle.std.specs.Prelude.{◌≡◌, ◌<◌, [], IfOk, replicate};
 ghost use Rattle.xh_script.specs.inner.Stops.{Answers};
 ghost use Rattle.xh_script.specs.Numbering.{process_in, block_in};
 ghost use Rattle.xh_script.specs.Scripts.{nothing_read, listing_of, listing_so_far};
@@ -37,17 +37,26 @@ impl Model for Reading {
     ghost invariant = { λ r. (length r.processes ≤ MAX_PROCESSES) × (length r.blocks.items ≡ MAX_PROCESSES) × (length r.declared ≤ MAX_CONTRACTS) };
 }
 
+/// No block names yet, of each process by number.
+fn no_names(alloc: Global) -> Result<Vec<Names>, AllocError>
+    ensures { IfOk result (λ v. v.items ≡ replicate MAX_PROCESSES []) }
+{
+    let mut blocks = Vec::new(alloc);
+    for made in 0..MAX_PROCESSES {
+        blocks.push(Names::new(alloc))?;
+    }
+    Ok(blocks)
+}
+
 impl Reading {
     /// Nothing, with room for so many commands.
     pub(crate) fn new(alloc: Global, room: usize) -> Result<Reading, AllocError>
         ensures { IfOk result (λ r. r ≡ nothing_read) }
     {
-        let mut blocks = Vec::new(alloc);
-        for made in 0..MAX_PROCESSES {
-            blocks.push(Names::new(alloc))?;
-        }
+        let lines = Vec::with_capacity(alloc, room)?;
+        let blocks = no_names(alloc)?;
         Ok(Reading {
-            lines: Vec::with_capacity(alloc, room)?,
+            lines,
             processes: Names::new(alloc),
             blocks,
             declared: Names::new(alloc),

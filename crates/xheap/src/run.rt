@@ -1,8 +1,6 @@
 //! The whole program, over any reader and writers.
-ghost use Rattle.std.specs.Prelude.{◌≡◌, IfErr, OnOk, codes};
+ghost use Rattle.std.specs.Prelude.{◌≡◌, codes};
 ghost use Rattle.xh_command_line.specs.Options.{texts_of};
-ghost use Rattle.xh_runner.specs.Reported.{Reported, Stopped};
-ghost use Rattle.xh_runner.specs.Runs.{Failed, Meant};
 ghost use Rattle.xheap.specs.Status.{Ended, RanBy};
 
 use std::alloc::Global;
@@ -10,9 +8,8 @@ use std::io::{Read, Write};
 use std::sync::Wait;
 use std::thread::Threads;
 use xh_command_line::{DONE, Options, Program, read_options, report};
-use xh_core::Config;
 use xh_runner::{run_parallel, run_serial};
-use xh_script::{Fault, Watched};
+use xh_script::Watched;
 
 /// The program's name.
 pub(crate) const NAME: &str = "xheap";
@@ -41,35 +38,6 @@ fn program<'a>() -> Program<'a>
     }
 }
 
-/// Runs the script that the reader gives, and sends all of its output on its way.
-fn run_to_end<R: Read, W: Write>(
-    alloc: Global,
-    config: Config,
-    reader: &mut Watched<R>,
-    out: &mut Watched<W>,
-) -> Result<(), Fault>
-    ensures ok { OnOk result (Meant R.remaining W.contents config reader.old reader.new out.old out.new) }
-    ensures err { IfErr result (Failed R.remaining W.contents config reader.old reader.new out.old out.new) }
-{
-    run_serial(alloc, reader, out, config)?;
-    out.flush()
-}
-
-/// The same, each process on a thread of its own.
-fn run_threads_to_end<T: Threads + Wait + Sync, R: Read, W: Write>(
-    rt: &T,
-    alloc: Global,
-    config: Config,
-    reader: &mut Watched<R>,
-    out: &mut Watched<W>,
-) -> Result<(), Fault>
-    ensures ok { OnOk result (Reported R.remaining W.contents config reader.old reader.new out.old out.new) }
-    ensures err { IfErr result (Stopped R.remaining W.contents config reader.old reader.new out.old out.new) }
-{
-    run_parallel(rt, alloc, reader, out, config)?;
-    out.flush()
-}
-
 /// Runs the script that the reader gives, as the options ask.
 fn run<T: Threads + Wait + Sync, R: Read, W: Write, E: Write>(
     rt: &T,
@@ -82,9 +50,9 @@ fn run<T: Threads + Wait + Sync, R: Read, W: Write, E: Write>(
     ensures { RanBy R.remaining W.contents options.serial options.config reader.old reader.new out.old out.new result }
 {
     let ended = if options.serial {
-        run_to_end(alloc, options.config, reader, out)
+        run_serial(alloc, reader, out, options.config)
     } else {
-        run_threads_to_end(rt, alloc, options.config, reader, out)
+        run_parallel(rt, alloc, reader, out, options.config)
     };
     match ended {
         Ok(()) => DONE,

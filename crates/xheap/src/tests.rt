@@ -7,8 +7,8 @@ use std::process::Abort;
 use std::sync::Wait;
 use std::test::Fail;
 use std::thread::Threads;
-use xh_command_line::unread_words;
-use xh_script::Watched;
+use xh_command_line::{report, unread_words};
+use xh_script::{Fault, Kind, Watched};
 
 /// A reader that fails, and a writer that fails.
 #[derive(Drop)]
@@ -53,31 +53,6 @@ fn words_of(alloc: Global, options: &[&str]) -> Result<Vec<String>, Fail> {
     Ok(words)
 }
 
-/// With these options the script ends with this status and prints this.
-fn ends(
-    rt: &(impl Abort + Threads + Wait + Sync),
-    alloc: Global,
-    options: &[&str],
-    script: &str,
-    status: u8,
-    wanted: &str,
-    report: &str,
-) -> Result<(), Fail> {
-    let words = words_of(alloc, options)?;
-    let mut input = script.as_bytes();
-    let mut reader = Watched::new(&mut input);
-    let mut out = Vec::new(alloc);
-    let mut writer = Watched::new(&mut out);
-    let mut err = Vec::new(alloc);
-    let ended = run_main(rt, alloc, &words, &mut reader, &mut writer, &mut err);
-    assert!(rt; ended == status, "status {ended}");
-    let printed = out.as_slice();
-    assert!(rt; printed == wanted.as_bytes());
-    let text = err.as_slice();
-    assert!(rt; text == report.as_bytes());
-    Ok(())
-}
-
 /// With these words no script is read, nothing is printed, and something is reported.
 fn is_refused(
     rt: &(impl Abort + Threads + Wait + Sync),
@@ -97,159 +72,6 @@ fn is_refused(
 }
 
 const FIRST: &str = "process a\na alloc x 40 0\n";
-
-const FIRST_OUTPUT: &str =
-    "1 ok 0\n2 ok 48\narena 0 256 48 1 48 0\nprocess a running 1 48\nowned 48\nflight 0\nout 48\n";
-
-#[test]
-fn first_alloc(rt: HostRuntime) -> Result<(), Fail> {
-    ends(
-        &rt,
-        rt.alloc(),
-        &["--serial", "--bytes", "256"],
-        FIRST,
-        0,
-        FIRST_OUTPUT,
-        "",
-    )
-}
-
-/// Without `--serial` each process has a thread.
-#[test]
-fn first_alloc_on_threads(rt: HostRuntime) -> Result<(), Fail> {
-    ends(
-        &rt,
-        rt.alloc(),
-        &["--bytes", "256"],
-        FIRST,
-        0,
-        FIRST_OUTPUT,
-        "",
-    )
-}
-
-/// Both ends wait for each other's message, which the serial machine answers with Empty.
-#[test]
-fn await_waits_on_threads(rt: HostRuntime) -> Result<(), Fail> {
-    ends(
-        &rt,
-        rt.alloc(),
-        &["--bytes", "256"],
-        "process a\nprocess b\nwire a e b f 0\nb await f\na give e 7\n",
-        0,
-        "1 ok 0\n\
-         2 ok 1\n\
-         3 ok\n\
-         4 ok 1 7\n\
-         5 ok 1\n\
-         arena 0 256 64 1 64 0\n\
-         process a running 1 32\n\
-         process b running 1 32\n\
-         owned 64\n\
-         flight 0\n\
-         out 64\n",
-        "",
-    )
-}
-
-/// Each option reaches the machine.
-#[test]
-fn options_are_limits(rt: HostRuntime) -> Result<(), Fail> {
-    ends(
-        &rt,
-        rt.alloc(),
-        &[
-            "--serial",
-            "--arenas=2",
-            "--bytes=64",
-            "--records=1",
-            "--wear=16",
-        ],
-        "process a\na alloc x 16 0\na alloc y 16 0\na free x\na alloc x 16 0\na alloc z 65 1\n",
-        0,
-        "1 ok 0\n\
-         2 ok 16\n\
-         3 no 5 NoRecord\n\
-         4 ok 16\n\
-         5 no 19 Worn\n\
-         6 no 2 BadSize\n\
-         arena 0 64 0 1 16 16\n\
-         arena 1 64 0 1 0 0\n\
-         process a running 0 0\n\
-         owned 0\n\
-         flight 0\n\
-         out 0\n",
-        "",
-    )
-}
-
-/// One message fills a direction of depth 1.
-#[test]
-fn depth_is_a_limit(rt: HostRuntime) -> Result<(), Fail> {
-    ends(
-        &rt,
-        rt.alloc(),
-        &["--serial", "--depth", "1"],
-        "process a\nprocess b\nwire a e b f 0\na give e 0\na give e 0\n",
-        0,
-        "1 ok 0\n\
-         2 ok 1\n\
-         3 ok\n\
-         4 ok 1\n\
-         5 no 14 Full 0\n\
-         arena 0 65536 64 1 64 0\n\
-         process a running 1 32\n\
-         process b running 1 32\n\
-         owned 64\n\
-         flight 0\n\
-         out 64\n",
-        "",
-    )
-}
-
-#[test]
-fn script_faults(rt: HostRuntime) -> Result<(), Fail> {
-    for (script, report) in [
-        ("process a\na alloc x 040 0\n", "xheap: line 2: BadNumber\n"),
-        (
-            "process a\na alloc x 1 0\nprocess b\n",
-            "xheap: line 3: LateHead\n",
-        ),
-        ("process a\na alloc x 1\n", "xheap: line 2: BadCount\n"),
-        ("process a\t\n", "xheap: line 1: BadByte\n"),
-        ("a fly\n", "xheap: line 1: BadWord\n"),
-        ("a write x 0 abc\n", "xheap: line 1: BadHex\n"),
-        (
-            "contract k 0:1:0:1 0:2:1:0\n",
-            "xheap: line 1: BadContract\n",
-        ),
-    ] {
-        ends(
-            &rt,
-            rt.alloc(),
-            &["--serial", "--bytes", "256"],
-            script,
-            1,
-            "",
-            report,
-        )?;
-        ends(&rt, rt.alloc(), &["--bytes", "256"], script, 1, "", report)?;
-    }
-    Ok(())
-}
-
-#[test]
-fn bytes_of_no_multiple_of_16(rt: HostRuntime) -> Result<(), Fail> {
-    ends(
-        &rt,
-        rt.alloc(),
-        &["--serial", "--bytes", "40"],
-        FIRST,
-        2,
-        "",
-        "xheap: --bytes must be a multiple of 16\n",
-    )
-}
 
 #[test]
 fn refused_words(rt: HostRuntime) -> Result<(), Fail> {
@@ -322,7 +144,34 @@ fn full_devices(rt: HostRuntime) -> Result<(), Fail> {
     on_a_full_device(&rt, alloc, Broken, &["--serial"], 4, failed)?;
     on_a_full_device(&rt, alloc, Broken, &[], 4, failed)?;
     on_a_full_device(&rt, alloc, Unflushed, &["--help"], 0, "")?;
-    on_a_full_device(&rt, alloc, Unflushed, &["--serial"], 4, failed)
+    on_a_full_device(&rt, alloc, Unflushed, &["--serial"], 4, failed)?;
+    on_a_full_device(&rt, alloc, Unflushed, &[], 4, failed)
+}
+
+/// Each fault has its status and its line on standard error.
+#[test]
+fn faults_are_reported(rt: HostRuntime) {
+    const REPORTS: &[(Fault, u8, &str)] = &[
+        (
+            Fault::Script {
+                line: 3,
+                kind: Kind::BadWord,
+            },
+            1,
+            "xheap: line 3: BadWord\n",
+        ),
+        (Fault::Memory, 3, "xheap: out of memory\n"),
+        (Fault::Read, 4, "xheap: read failed\n"),
+        (Fault::Write, 4, "xheap: write failed\n"),
+        (Fault::Gate, 5, "xheap: internal fault\n"),
+        (Fault::BadConfig, 5, "xheap: internal fault\n"),
+    ];
+    for (fault, expected, text) in REPORTS {
+        let mut err = Vec::new(rt.alloc());
+        let status = report(NAME, *fault, &mut err);
+        assert!(&rt; status == *expected, "status {status}");
+        assert!(&rt; err.as_slice() == text.as_bytes());
+    }
 }
 
 /// A word that is no UTF-8 is a fault of the command line, and want of memory is not.

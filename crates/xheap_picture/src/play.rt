@@ -3,14 +3,15 @@ ghost use Rattle.std.specs.Prelude.{◌≡◌, ◌⊎◌, IfErr, IfOk, OnOk};
 ghost use Rattle.xh_model.specs.Config.{IsConfig};
 ghost use Rattle.xh_picture.specs.Documents.{IsPicture};
 ghost use Rattle.xh_script.specs.Watching.{WritesOrFails};
-ghost use Rattle.xheap_picture.specs.Drawn.{Drawn, Undrawn};
+ghost use Rattle.xh_runner.specs.Ends.{Done, Stopped};
+ghost use Rattle.xheap_picture.specs.Drawn.{IsDrawn};
 
 use std::alloc::{AllocError, Global};
 use std::io::{Read, Write};
 use xh_core::Config;
 use xh_picture::{History, draw};
-use xh_runner::{Stage, read_text};
-use xh_script::{Fault, Line, Script, Watched, read_script, write_bytes};
+use xh_runner::{Input, Stage, read_input};
+use xh_script::{Fault, Line, Script, Watched, write_bytes};
 
 /// Does these commands, and notes what each did.
 fn history_of(
@@ -37,13 +38,19 @@ fn play(alloc: Global, config: Config, script: &Script) -> Result<History, Fault
     Ok(history?)
 }
 
-/// The picture of a script, of which this is the text.
-fn picture_of(alloc: Global, config: Config, text: &[u8], script: &Script) -> Result<Vec<u8>, Fault>
+/// The picture of a script.
+fn picture_of(alloc: Global, config: Config, input: &Input) -> Result<Vec<u8>, Fault>
     ensures picture { IfOk result (λ picture. IsPicture picture.items) }
     ensures fault { IfErr result (λ e. ((e ≡ Fault.BadConfig) × ¬ IsConfig config) ⊎ (e ≡ Fault.Memory)) }
 {
-    let history = play(alloc, config, script)?;
-    let picture = draw(alloc, &config, text, &script.processes, &history)?;
+    let history = play(alloc, config, &input.script)?;
+    let picture = draw(
+        alloc,
+        &config,
+        &input.text,
+        &input.script.processes,
+        &history,
+    )?;
     Ok(picture)
 }
 
@@ -62,11 +69,10 @@ pub(crate) fn run_picture<R: Read, W: Write>(
     reader: &mut Watched<R>,
     writer: &mut Watched<W>,
 ) -> Result<(), Fault>
-    ensures ok { OnOk result (Drawn R.remaining W.contents reader.old reader.new writer.old writer.new) }
-    ensures err { IfErr result (Undrawn R.remaining W.contents config reader.old reader.new writer.old writer.new) }
+    ensures ok { OnOk result (Done R.remaining W.contents IsDrawn reader.old reader.new writer.old writer.new) }
+    ensures err { IfErr result (Stopped R.remaining W.contents IsDrawn config reader.old reader.new writer.old writer.new) }
 {
-    let text = read_text(alloc, reader)?;
-    let script = read_script(alloc, &text)?;
-    let picture = picture_of(alloc, config, &text, &script)?;
+    let input = read_input(alloc, config, reader)?;
+    let picture = picture_of(alloc, config, &input)?;
     put(writer, &picture)
 }

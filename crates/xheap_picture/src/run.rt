@@ -1,12 +1,14 @@
 //! The whole program, over any reader and writers.
 ghost use Rattle.std.specs.Prelude.{◌≡◌, codes};
 ghost use Rattle.xh_command_line.specs.Options.{texts_of};
-ghost use Rattle.xheap_picture.specs.Drawn.{Ended};
+ghost use Rattle.xh_command_line.specs.Status.{status_of};
+ghost use Rattle.xh_runner.specs.Ends.{EndsWith};
+ghost use Rattle.xheap_picture.specs.Drawn.{Ended, IsDrawn};
 
 use crate::play::run_picture;
 use std::alloc::Global;
 use std::io::{Read, Write};
-use xh_command_line::{DONE, Program, read_options, report};
+use xh_command_line::{DONE, Options, Program, read_options, report};
 use xh_script::Watched;
 
 /// The program's name.
@@ -38,6 +40,22 @@ fn program<'a>() -> Program<'a>
     }
 }
 
+/// Draws the script that the reader gives, with the limits of the options.
+fn run<R: Read, W: Write, E: Write>(
+    alloc: Global,
+    options: Options,
+    reader: &mut Watched<R>,
+    out: &mut Watched<W>,
+    err: &mut E,
+) -> u8
+    ensures { EndsWith R.remaining W.contents IsDrawn status_of options.config reader.old reader.new out.old out.new result }
+{
+    match run_picture(alloc, options.config, reader, out) {
+        Ok(()) => DONE,
+        Err(fault) => report(NAME, fault, err),
+    }
+}
+
 /// The program: its words (the first is its own name), its input and its outputs; the answer is its
 /// status. A fault of `err` is passed over, and so is one of `out` while help or the version is printed.
 pub(crate) fn run_main<R: Read, W: Write, E: Write>(
@@ -49,12 +67,8 @@ pub(crate) fn run_main<R: Read, W: Write, E: Write>(
 ) -> u8
     ensures { Ended R.remaining W.contents (texts_of words.now) reader.old reader.new out.old out.new result }
 {
-    let options = match read_options(alloc, program(), words, out, err) {
-        Ok(options) => options,
-        Err(status) => return status,
-    };
-    match run_picture(alloc, options.config, reader, out) {
-        Ok(()) => DONE,
-        Err(fault) => report(NAME, fault, err),
+    match read_options(alloc, program(), words, out, err) {
+        Ok(options) => run(alloc, options, reader, out, err),
+        Err(status) => status,
     }
 }

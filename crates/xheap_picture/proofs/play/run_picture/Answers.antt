@@ -1,39 +1,25 @@
-use Rattle.std.proofs.Common.{◌≡◌, Ok, sym, ap, ◌∙◌, subst}
+use Rattle.std.proofs.Common.{sym, subst}
+use Rattle.std.proofs.lemmas.Result.{err_from_is_err_and}
 use Rattle.xh_picture.specs.Documents.{IsPicture}
-use Rattle.xh_script.specs.Scripts.{script_of, listing_of}
-use Rattle.xh_runner.proofs.Ends.{written, cut_off, script_short}
-use Rattle.xheap_picture.specs.Drawn.{Undrawn}
+use Rattle.xh_script.specs.Scripts.{listing_of}
+use Rattle.xh_runner.proofs.Ends.{unread_stops, wrote_all, wrote_part}
+use Rattle.xheap_picture.specs.Drawn.{IsDrawn}
 use Rattle.xheap_picture.proofs.play.run_picture.Goals as goal
+
+pub returns-in_err-input-clause-err : goal.returns-in_err-input-clause-err
+returns-in_err-input-clause-err g c =
+    let p = err_from_is_err_and c.from_residual.result c.from_residual.ensures.1 in
+    rw (p.1, p.2) (unread_stops g.R.Read.remaining g.W.Write.contents IsDrawn c.args.config
+    c.args.reader.now c.read_input.new.reader c.args.writer.now c.in_err-input.field-0.0 c.in_err-input.ensures.err)
 
 pub returns-clause-ok : goal.returns-clause-ok
 returns-clause-ok g c =
-    let text = c.in_ok-text.text.items in
-    let script = listing_of c.in_ok-script.script in
-    let says : script_of text ≡ Ok script = ap script_of (sym c.deref.ensures.value) ∙ c.in_ok-script.ensures in
-    written g.W.Write.contents _ _ c.put.result _ _ c.put.ensures (λ w. record {
-      text = text;
-      script = script;
-      reads = c.in_ok-text.ensures.ok.0;
-      ends = c.in_ok-text.ensures.ok.0.1 (script_short text script says);
-      says = says;
-      bytes = c.deref-3.result.now;
-      picture = subst IsPicture (sym c.deref-3.ensures.value) c.in_ok-picture.ensures.picture;
-      writes = w;
-    })
+    let picture = subst IsPicture (sym c.deref.ensures.value) c.in_ok-picture.ensures.picture in
+    wrote_all g.R.Read.remaining g.W.Write.contents IsDrawn c.args.reader.now c.read_input.new.reader c.args.writer.now c.put.new.writer
+    c.put.result c.in_ok-input.input.text.items (listing_of c.in_ok-input.input.script) _ c.in_ok-input.ensures.ok picture c.put.ensures
 
 pub returns-clause-err : goal.returns-clause-err
 returns-clause-err g c =
-    let text = c.in_ok-text.text.items in
-    let script = listing_of c.in_ok-script.script in
-    let says : script_of text ≡ Ok script = ap script_of (sym c.deref.ensures.value) ∙ c.in_ok-script.ensures in
-    cut_off g.W.Write.contents _ _ c.put.result _
-    (Undrawn g.R.Read.remaining g.W.Write.contents c.args.config c.args.reader.now c.read_text.new.reader c.args.writer.now c.put.new.writer) c.put.ensures (λ w. record {
-      text = text;
-      script = script;
-      reads = c.in_ok-text.ensures.ok.0;
-      ends = c.in_ok-text.ensures.ok.0.1 (script_short text script says);
-      says = says;
-      bytes = c.deref-3.result.now;
-      picture = subst IsPicture (sym c.deref-3.ensures.value) c.in_ok-picture.ensures.picture;
-      writes = w;
-    })
+    let picture = subst IsPicture (sym c.deref.ensures.value) c.in_ok-picture.ensures.picture in
+    wrote_part g.R.Read.remaining g.W.Write.contents IsDrawn c.args.config c.args.reader.now c.read_input.new.reader c.args.writer.now c.put.new.writer
+    c.put.result c.in_ok-input.input.text.items (listing_of c.in_ok-input.input.script) _ c.in_ok-input.ensures.ok picture c.put.ensures

@@ -1,5 +1,5 @@
 use Rattle.std.proofs.Common.{◌≡◌, [], replicate}
-use Rattle.xh_script.proofs.reading.Reading.new.Given as goal
+use Rattle.xh_script.proofs.reading.no_names.Given as goal
 
 abbrev pub invariant-loop-made : goal.invariant-loop-made
 invariant-loop-made l = l.blocks.items ≡ replicate l.made []
