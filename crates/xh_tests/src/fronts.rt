@@ -1,5 +1,5 @@
 //! Each front of a script is a script of its own, or has a fault of its own.
-use crate::harness::{SMALL, is_faulty, writes_bytes};
+use crate::harness::{SMALL, is_faulty, writes};
 use std::alloc::{AllocError, Global};
 use std::test::Fail;
 use xh_script::Kind;
@@ -152,7 +152,7 @@ fn fronts_that_are_scripts(rt: HostRuntime) -> Result<(), Fail> {
         let wanted = replies_and(rt.alloc(), *count, text)?;
         for length in *from..*to {
             assert!(rt; length <= SCRIPT.len());
-            writes_bytes(&rt, rt.alloc(), SMALL, &SCRIPT[..length], wanted.as_str())?;
+            writes(&rt, rt.alloc(), SMALL, &SCRIPT[..length], wanted.as_str())?;
         }
     }
     Ok(())

@@ -8,7 +8,7 @@ use std::sync::Wait;
 use std::test::Fail;
 use std::thread::Threads;
 use xh_core::Config;
-use xh_runner::{Gate, OpenGate, Report, run_serial, run_threads};
+use xh_runner::{Gate, Report, run_serial, run_threads};
 use xh_script::{Fault, Kind, Watched, read_script, write_answers, write_ledger};
 
 /// One arena of 256 bytes.
@@ -35,17 +35,6 @@ pub(crate) fn run_alone(
 
 /// The script is run to its end, and writes this.
 pub(crate) fn writes(
-    rt: &impl Abort,
-    alloc: Global,
-    config: Config,
-    script: &str,
-    wanted: &str,
-) -> Result<(), Fail> {
-    writes_bytes(rt, alloc, config, script.as_bytes(), wanted)
-}
-
-/// The same, for a script of bytes.
-pub(crate) fn writes_bytes(
     rt: &impl Abort,
     alloc: Global,
     config: Config,
@@ -120,16 +109,4 @@ pub(crate) fn writes_on_threads(
     let text = run_on_threads(rt, alloc, config, script.as_bytes(), gate)?;
     assert!(rt; text.as_slice() == wanted.as_bytes(), "{wanted}");
     Ok(())
-}
-
-/// The script is run on the serial machine and then on threads, and writes this each time.
-pub(crate) fn writes_both_ways(
-    rt: &(impl Abort + Threads + Wait + Sync),
-    alloc: Global,
-    config: Config,
-    script: &str,
-    wanted: &str,
-) -> Result<(), Fail> {
-    writes(rt, alloc, config, script, wanted)?;
-    writes_on_threads(rt, alloc, config, script, &OpenGate, wanted)
 }

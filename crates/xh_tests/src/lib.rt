@@ -1,16 +1,11 @@
-//! Tests that cross crates: whole scripts, each with the text that it prints.
+//! Tests that cross crates: readers and writers that fail, gates and orders. Whole scripts stand in
+//! `scripts/`, with what they print.
 #![tactic(auto)]
 
 #[cfg(test)]
 mod at_points;
 #[cfg(test)]
-mod blocks;
-#[cfg(test)]
 mod books;
-#[cfg(test)]
-mod endings;
-#[cfg(test)]
-mod faults;
 #[cfg(test)]
 mod fronts;
 #[cfg(test)]
@@ -20,20 +15,10 @@ mod harness;
 #[cfg(test)]
 mod holds;
 #[cfg(test)]
-mod limits;
-#[cfg(test)]
-mod messages;
-#[cfg(test)]
 mod on_threads;
 #[cfg(test)]
 mod orders;
 #[cfg(test)]
 mod peers_at_points;
-#[cfg(test)]
-mod processes;
-#[cfg(test)]
-mod random;
-#[cfg(test)]
-mod repeats;
 #[cfg(test)]
 mod streams;

@@ -66,72 +66,6 @@ fn bad_configs_on_threads(rt: HostRuntime) -> Result<(), Fail> {
     Ok(())
 }
 
-/// A block is cut, and its tail is given.
-#[test]
-fn split_and_give_the_tail(rt: HostRuntime) -> Result<(), Fail> {
-    writes_on_threads(
-        &rt,
-        rt.alloc(),
-        SMALL,
-        "process a\n\
-         process b\n\
-         wire a e b f 0\n\
-         a alloc x 48 0\n\
-         a split x 0 t\n\
-         a split x 48 t\n\
-         a split x 20 t\n\
-         a write x 16 0102\n\
-         a split x 16 t\n",
-        &OpenGate,
-        "1 ok 0\n\
-         2 ok 1\n\
-         3 ok\n\
-         4 ok 48\n\
-         5 no 9 BadCut\n\
-         6 no 9 BadCut\n\
-         7 no 9 BadCut\n\
-         8 ok\n\
-         9 ok 16 32\n\
-         arena 0 256 112 1 112 0\n\
-         process a running 3 80\n\
-         process b running 1 32\n\
-         owned 112\n\
-         flight 0\n\
-         out 112\n",
-    )
-}
-
-/// A refused give gets its blocks back.
-#[test]
-fn full_direction(rt: HostRuntime) -> Result<(), Fail> {
-    writes_on_threads(
-        &rt,
-        rt.alloc(),
-        Config { depth: 1, ..SMALL },
-        "process a\n\
-         process b\n\
-         wire a e b f 0\n\
-         a alloc x 16 0\n\
-         a alloc y 16 0\n\
-         a give e 0 x\n\
-         a give e 0 y\n",
-        &OpenGate,
-        "1 ok 0\n\
-         2 ok 1\n\
-         3 ok\n\
-         4 ok 16\n\
-         5 ok 16\n\
-         6 ok 1\n\
-         7 no 14 Full 1\n\
-         arena 0 256 96 1 96 0\n\
-         process a running 2 48\n\
-         process b running 1 32\n\
-         owned 80\n\
-         flight 16\n\
-         out 96\n",
-    )
-}
-
 /// Commands of a process without a place are answered too.
 #[test]
 fn glances(rt: HostRuntime) -> Result<(), Fail> {
@@ -172,41 +106,6 @@ fn glances(rt: HostRuntime) -> Result<(), Fail> {
     )?;
     assert!(&rt; gate.is_kept());
     Ok(())
-}
-
-/// Both ends of a contract wait for their turns.
-#[test]
-fn contract_in_turns(rt: HostRuntime) -> Result<(), Fail> {
-    writes_on_threads(
-        &rt,
-        rt.alloc(),
-        SMALL,
-        "contract k 0:1:0:1 1:2:1:0\n\
-         process a\n\
-         process b\n\
-         wire a e b f 0 k\n\
-         a give e 1\n\
-         b await f\n\
-         b give f 2\n\
-         a await e\n\
-         a give e 1\n",
-        &OpenGate,
-        "1 ok\n\
-         2 ok 0\n\
-         3 ok 1\n\
-         4 ok\n\
-         5 ok 1\n\
-         6 ok 1 1\n\
-         7 ok 1\n\
-         8 ok 1 2\n\
-         9 ok 2\n\
-         arena 0 256 64 1 64 0\n\
-         process a running 1 32\n\
-         process b running 1 32\n\
-         owned 64\n\
-         flight 0\n\
-         out 64\n",
-    )
 }
 
 /// A worker goes on with its new number, and the others know it by its name.

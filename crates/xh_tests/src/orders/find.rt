@@ -4,14 +4,15 @@ use crate::orders::scripts::Play;
 use crate::orders::texts::{after_number, line_and_rest, without_holes};
 use std::alloc::{AllocError, Global};
 
-const TRIES: u32 = 2_000;
+// A search has at most so many tries. Each is a short run of the serial machine; no clock bounds it.
+const TRIES: u32 = 250;
 
 /// What a search came to.
 #[derive(Clone, Copy, Debug, PartialEq, Eq)]
 pub(super) enum Found {
     Yes,
     No,
-    CutOff,
+    Undecided,
 }
 
 // What the serial machine writes where the commands come in this order.
@@ -80,12 +81,18 @@ fn behind(play: &Play, index: usize) -> usize {
     }
 }
 
-/// Looks for an order that respects each process's own, in which the serial machine writes the same, depth first, with
-/// so many tries.
-pub(super) fn find_order(alloc: Global, play: &Play, written: &[u8]) -> Result<Found, AllocError> {
+/// Looks for an order that respects each process's own, in which the serial machine writes the same, depth first. The
+/// tries are of those that are left to all searches; it is undecided where they, or its own, are used up.
+pub(super) fn find_order(
+    alloc: Global,
+    play: &Play,
+    written: &[u8],
+    left: &mut u32,
+) -> Result<Found, AllocError> {
     let mut order = Vec::new(alloc);
     let mut process = 0usize;
-    for _ in 0..TRIES {
+    for _ in 0..TRIES.min(*left) {
+        *left = left.saturating_sub(1);
         if order.len() == play.lines.len() {
             return Ok(Found::Yes);
         }
@@ -103,5 +110,5 @@ pub(super) fn find_order(alloc: Global, play: &Play, written: &[u8]) -> Result<F
             return Ok(Found::No);
         }
     }
-    Ok(Found::CutOff)
+    Ok(Found::Undecided)
 }

@@ -1,6 +1,6 @@
 use Rattle.std.proofs.Common.{◌≡◌, All, List, ◌∷◌, suc, subst, arith}
 use Rattle.xh_glance.specs.Look.{LookOf}
-use Rattle.xh_tests.proofs.random.hire.Goals as goal
+use Rattle.xh_soak.proofs.round.hire.Goals as goal
 
 first_of : {A : Type 0} (P : A → Type 0) (xs ys : List A) (x : A) → xs ≡ x ∷ ys → All P xs → P x
 first_of P xs ys x e h = subst (λ l. All P l) e h 0 x (omega arith)

@@ -1,5 +1,5 @@
 //! A second count of what a settled kernel held, from its parts.
-use crate::random::actor::Wrong;
+use crate::wrong::Wrong;
 use arrayvec::ArrayVec;
 use std::alloc::{AllocError, Global};
 use xh_arena::Vault;
@@ -54,7 +54,7 @@ fn arena_line<N: Names>(
         free = free.saturating_add(*len);
     }
     if free.saturating_add(vault.handed_out()) != vault.size() {
-        return Err(Wrong("holes and blocks don't fill an arena"));
+        return Err(Wrong::Answer("holes and blocks don't fill an arena"));
     }
     let (taken, back) = moved(arena, accounts);
     Ok(ArenaLine {
@@ -98,7 +98,7 @@ fn place_lines(places: &[Place]) -> Result<ArrayVec<PlaceLine, PLACE_LINES>, Wro
         if let Some(line) = place_line(number, place)
             && lines.try_push(line).is_err()
         {
-            return Err(Wrong("there are more places than 32"));
+            return Err(Wrong::Answer("there are more places than 32"));
         }
         number = number.saturating_add(1);
     }
@@ -113,7 +113,7 @@ fn arena_lines<N: Names>(
     let mut arena = 0u8;
     for vault in vaults {
         if lines.try_push(arena_line(arena, vault, accounts)?).is_err() {
-            return Err(Wrong("there are more arenas than 8"));
+            return Err(Wrong::Answer("there are more arenas than 8"));
         }
         arena = arena.saturating_add(1);
     }
@@ -121,7 +121,7 @@ fn arena_lines<N: Names>(
 }
 
 /// The ledger by this count.
-pub(super) fn count<N: Names>(
+pub(crate) fn count<N: Names>(
     alloc: Global,
     vaults: &[Vault],
     places: &[Place],

@@ -1,58 +1,53 @@
-//! What a worker of a random run knows: what its process holds, and what was wrong.
-use crate::random::board::{Board, MARKS};
-use crate::random::marks::{low_half, mark};
+//! What a worker of a round knows: what its process holds, and what was wrong.
+use crate::board::{Board, MARKS};
+use crate::marks::{low_half, mark};
+use crate::plan::Plan;
+use crate::wrong::Wrong;
 use rand_core::Rng;
 use rand_pcg::Pcg32;
 use std::alloc::{AllocError, Global};
 use xh_core::{Block, Refused};
+use xh_model::limits::END_BYTES;
 
-pub(super) const NO_MEMORY: &str = "no memory for the test itself";
-
-/// How a run goes.
-#[derive(Clone, Copy, Debug)]
-pub(super) struct Plan {
-    pub(super) seed: u64,
-    pub(super) workers: u8,
-    pub(super) arenas: u32,
-    pub(super) commands: u32,
-    /// Whether all processes end at the end.
-    pub(super) ends: bool,
-}
+/// Tags from here on are those of contracts. They don't tell the marks of a message.
+pub(crate) const CONTRACT_TAGS: u16 = 60_000;
 
 /// A data block of the process, and its mark.
 #[derive(Clone, Copy, Debug)]
-pub(super) struct Kept {
-    pub(super) block: Block,
-    pub(super) mark: u64,
+pub(crate) struct Kept {
+    pub(crate) block: Block,
+    pub(crate) mark: u64,
 }
 
 /// What a give is to carry: data blocks with marks that follow each other, and perhaps an endpoint.
 #[derive(Drop)]
-pub(super) struct Load {
-    pub(super) tag: u16,
-    pub(super) blocks: Vec<Kept>,
-    pub(super) end: Option<u16>,
-    pub(super) records: Vec<u16>,
+pub(crate) struct Load {
+    pub(crate) tag: u16,
+    pub(crate) blocks: Vec<Kept>,
+    pub(crate) end: Option<u16>,
+    pub(crate) records: Vec<u16>,
 }
 
 /// What a worker knows.
 #[derive(Drop)]
-pub(super) struct Memory {
-    pub(super) plan: Plan,
-    pub(super) worker: u32,
+pub(crate) struct Memory {
+    pub(crate) plan: Plan,
+    pub(crate) worker: u32,
     random: Pcg32,
-    pub(super) process: Option<u16>,
+    pub(crate) process: Option<u16>,
     blocks: Vec<Kept>,
     ends: Vec<u16>,
     number: u32,
     /// How many blocks it took from others.
-    pub(super) taken: u32,
+    pub(crate) taken: u32,
+    /// How often it waited for a message.
+    pub(crate) waited: u32,
     /// The first answer that must not be.
-    pub(super) wrong: Option<&'static str>,
+    pub(crate) wrong: Option<Wrong>,
 }
 
 impl Memory {
-    pub(super) fn new(alloc: Global, plan: Plan, worker: u32) -> Memory {
+    pub(crate) fn new(alloc: Global, plan: Plan, worker: u32) -> Memory {
         Memory {
             plan,
             worker,
@@ -62,19 +57,29 @@ impl Memory {
             ends: Vec::new(alloc),
             number: 0,
             taken: 0,
+            waited: 0,
             wrong: None,
         }
     }
 
     /// Something was answered that must not be.
-    pub(super) fn fail(&mut self, what: &'static str) {
+    pub(crate) fn fail(&mut self, what: &'static str) {
+        self.note(Wrong::Answer(what));
+    }
+
+    /// The round has no memory for what it notes itself.
+    pub(crate) fn starve(&mut self) {
+        self.note(Wrong::Memory);
+    }
+
+    fn note(&mut self, wrong: Wrong) {
         if self.wrong.is_none() {
-            self.wrong = Some(what);
+            self.wrong = Some(wrong);
         }
     }
 
     /// A number below a count, or 0.
-    pub(super) fn below(&mut self, count: u32) -> u32 {
+    pub(crate) fn below(&mut self, count: u32) -> u32 {
         let word = self.random.next_u32();
         if count == 0 { 0 } else { word % count }
     }
@@ -86,74 +91,103 @@ impl Memory {
     }
 
     /// One of the arenas.
-    pub(super) fn arena(&mut self) -> u32 {
-        let arenas = self.plan.arenas;
+    pub(crate) fn arena(&mut self) -> u32 {
+        let arenas = u32::from(self.plan.config.arenas);
         self.below(arenas)
     }
 
+    /// A length of a block: mostly small, and seldom more than some arenas have.
+    pub(crate) fn size(&mut self) -> u32 {
+        let most = if self.below(8) == 0 { 1024 } else { 128 };
+        self.below(most).saturating_add(1)
+    }
+
     /// One of the workers.
-    pub(super) fn any_worker(&mut self) -> u32 {
+    pub(crate) fn any_worker(&mut self) -> u32 {
         let workers = u32::from(self.plan.workers);
         self.below(workers)
     }
 
     /// How many records an ending may reclaim: few or all.
-    pub(super) fn budget(&mut self) -> u16 {
+    pub(crate) fn budget(&mut self) -> u16 {
         if self.below(2) == 0 { 2 } else { 4096 }
     }
 
     /// One of the blocks.
-    pub(super) fn any_block(&mut self) -> Option<Kept> {
+    pub(crate) fn any_block(&mut self) -> Option<Kept> {
         let count = self.blocks.len();
         let at = self.spot(count);
         self.blocks.get(at).copied()
     }
 
     /// One of the endpoints.
-    pub(super) fn any_end(&mut self) -> Option<u16> {
+    pub(crate) fn any_end(&mut self) -> Option<u16> {
         let count = self.ends.len();
         let at = self.spot(count);
         self.ends.get(at).copied()
     }
 
+    /// One of the blocks, by its place in the list.
+    pub(crate) fn block_at(&self, at: usize) -> Option<Kept> {
+        self.blocks.get(at).copied()
+    }
+
+    /// Whether the process holds the record, as far as the worker knows.
+    pub(crate) fn has(&self, record: u16) -> bool {
+        let is_block = self.blocks.iter().any(|kept| kept.block.rec == record);
+        is_block || self.ends.contains(&record)
+    }
+
     /// How many blocks and endpoints the process holds.
-    pub(super) fn count(&self) -> usize {
+    pub(crate) fn count(&self) -> usize {
         self.blocks.len().saturating_add(self.ends.len())
     }
 
+    /// How many bytes these are.
+    pub(crate) fn bytes(&self) -> u64 {
+        let mut bytes = 0u64;
+        for kept in &self.blocks {
+            bytes = bytes.saturating_add(u64::from(kept.block.len));
+        }
+        for _end in &self.ends {
+            bytes = bytes.saturating_add(u64::from(END_BYTES));
+        }
+        bytes
+    }
+
     /// The process holds the block from now on.
-    pub(super) fn add_block(&mut self, block: Block, mark: u64) {
+    pub(crate) fn add_block(&mut self, block: Block, mark: u64) {
         if self.blocks.push(Kept { block, mark }).is_err() {
-            self.fail(NO_MEMORY);
+            self.starve();
         }
     }
 
     /// The process holds the endpoint from now on.
-    pub(super) fn add_end(&mut self, end: u16) {
+    pub(crate) fn add_end(&mut self, end: u16) {
         if self.ends.push(end).is_err() {
-            self.fail(NO_MEMORY);
+            self.starve();
         }
     }
 
     /// The process doesn't hold the block any more.
-    pub(super) fn drop_block(&mut self, record: u16) {
+    pub(crate) fn drop_block(&mut self, record: u16) {
         self.blocks.retain(|kept| kept.block.rec != record);
     }
 
     /// The process doesn't hold the endpoint any more.
-    pub(super) fn drop_end(&mut self, record: u16) {
+    pub(crate) fn drop_end(&mut self, record: u16) {
         self.ends.retain(|end| *end != record);
     }
 
     /// The worker has no process.
-    pub(super) fn forget(&mut self) {
+    pub(crate) fn forget(&mut self) {
         self.process = None;
         self.blocks.clear();
         self.ends.clear();
     }
 
     /// The process was killed, if that is what the refusal says. Half of the time it is the worker's to finish.
-    pub(super) fn lose_or(
+    pub(crate) fn lose_or(
         &mut self,
         board: &Board,
         refused: &Refused,
@@ -180,7 +214,7 @@ impl Memory {
     }
 
     /// A mark that the worker has not used yet, or none.
-    pub(super) fn new_mark(&mut self) -> Option<u64> {
+    pub(crate) fn new_mark(&mut self) -> Option<u64> {
         let number = self.number.saturating_add(1);
         if number >= MARKS {
             return None;
@@ -200,11 +234,20 @@ impl Memory {
         })
     }
 
+    // The number of the latest mark, which the marks of the message follow; or a tag of a contract.
+    fn tag(&mut self) -> u16 {
+        if self.plan.contracts && self.below(3) == 0 {
+            CONTRACT_TAGS.saturating_add((self.below(4) % 4) as u16)
+        } else {
+            low_half(u64::from(self.number))
+        }
+    }
+
     /// Up to three blocks for a give by this endpoint, and at times another endpoint; where all is to be closed at the
     /// end none, since one that is on its way to itself can't be closed. The process is not to hold them any more.
-    pub(super) fn load(&mut self, alloc: Global, by: u16) -> Result<Load, AllocError> {
+    pub(crate) fn load(&mut self, alloc: Global, by: u16) -> Result<Load, AllocError> {
         let mut load = Load {
-            tag: low_half(u64::from(self.number)),
+            tag: self.tag(),
             blocks: Vec::new(alloc),
             end: None,
             records: Vec::new(alloc),
@@ -227,7 +270,7 @@ impl Memory {
     }
 
     /// What came back from a refused give is the process's still.
-    pub(super) fn restore(&mut self, load: &Load, back: &[u16]) {
+    pub(crate) fn restore(&mut self, load: &Load, back: &[u16]) {
         for kept in &load.blocks {
             if back.contains(&kept.block.rec) {
                 self.add_block(kept.block, kept.mark);

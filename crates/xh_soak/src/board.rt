@@ -1,43 +1,37 @@
 //! What the workers of a random run share besides the kernel.
-use crate::random::marks::parts_of;
+use crate::marks::parts_of;
+use crate::waits::{Waits, zeros};
 use std::alloc::{AllocError, Global};
 use std::mem;
 use std::sync::atomic::{AtomicU64, Ordering};
 use std::sync::{Mutex, Wait};
 
 /// So many marks a worker may use.
-pub(super) const MARKS: u32 = 4096;
+pub(crate) const MARKS: u32 = 4096;
 
 const PROCESSES: u32 = 4096;
 
 /// An endpoint that came to a process by another's wire.
 #[derive(Clone, Copy, Debug)]
-pub(super) struct Post {
-    pub(super) process: u16,
-    pub(super) end: u16,
+pub(crate) struct Post {
+    pub(crate) process: u16,
+    pub(crate) end: u16,
 }
 
 /// The latest process of each worker, counted from 1; the endpoints that came to it; the processes that
-/// somebody meant to kill; and the marks that were taken, by worker and number.
+/// somebody meant to kill; the marks that were taken, by worker and number; and who waits.
 #[derive(Drop)]
-pub(super) struct Board {
+pub(crate) struct Board {
     processes: Vec<AtomicU64>,
     posts: Vec<Mutex<Vec<Post>>>,
     victims: Vec<AtomicU64>,
     taken: Vec<Vec<AtomicU64>>,
-}
-
-fn zeros(alloc: Global, count: u32) -> Result<Vec<AtomicU64>, AllocError> {
-    let mut words = Vec::with_capacity(alloc, count as usize)?;
-    for _ in 0..count {
-        words.push(AtomicU64::new(0))?;
-    }
-    Ok(words)
+    pub(crate) waits: Waits,
 }
 
 impl Board {
     /// A board on which nothing stands.
-    pub(super) fn new(alloc: Global, workers: u32) -> Result<Board, AllocError> {
+    pub(crate) fn new(alloc: Global, workers: u32) -> Result<Board, AllocError> {
         let mut posts = Vec::new(alloc);
         let mut taken = Vec::new(alloc);
         for _ in 0..workers {
@@ -49,32 +43,33 @@ impl Board {
             posts,
             victims: zeros(alloc, PROCESSES)?,
             taken,
+            waits: Waits::new(alloc, workers)?,
         })
     }
 
     /// The worker's latest process is this.
-    pub(super) fn start(&self, worker: u32, process: u16) {
+    pub(crate) fn start(&self, worker: u32, process: u16) {
         if let Some(word) = self.processes.get(worker as usize) {
             word.store(u64::from(process).saturating_add(1), Ordering::SeqCst);
         }
     }
 
     /// The worker's latest process.
-    pub(super) fn process_of(&self, worker: u32) -> Option<u16> {
+    pub(crate) fn process_of(&self, worker: u32) -> Option<u16> {
         let word = self.processes.get(worker as usize)?;
         let number = word.load(Ordering::SeqCst).checked_sub(1)?;
         u16::try_from(number).ok()
     }
 
     /// Somebody means to kill the process.
-    pub(super) fn aim_at(&self, process: u16) {
+    pub(crate) fn aim_at(&self, process: u16) {
         if let Some(word) = self.victims.get(usize::from(process)) {
             word.store(1, Ordering::SeqCst);
         }
     }
 
     /// Whether somebody meant to.
-    pub(super) fn is_victim(&self, process: u16) -> bool {
+    pub(crate) fn is_victim(&self, process: u16) -> bool {
         match self.victims.get(usize::from(process)) {
             Some(word) => word.load(Ordering::SeqCst) == 1,
             None => false,
@@ -82,7 +77,7 @@ impl Board {
     }
 
     /// An endpoint came to the worker's process.
-    pub(super) fn post<R: Wait>(&self, rt: &R, worker: u32, post: Post) -> Result<(), AllocError> {
+    pub(crate) fn post<R: Wait>(&self, rt: &R, worker: u32, post: Post) -> Result<(), AllocError> {
         if let Some(posts) = self.posts.get(worker as usize) {
             posts.lock(rt).push(post)?;
         }
@@ -90,7 +85,7 @@ impl Board {
     }
 
     /// The endpoints that came to the worker's processes since it last asked.
-    pub(super) fn collect<R: Wait>(&self, rt: &R, alloc: Global, worker: u32) -> Vec<Post> {
+    pub(crate) fn collect<R: Wait>(&self, rt: &R, alloc: Global, worker: u32) -> Vec<Post> {
         let none = Vec::new(alloc);
         match self.posts.get(worker as usize) {
             Some(posts) => mem::replace(&mut *posts.lock(rt), none),
@@ -99,7 +94,7 @@ impl Board {
     }
 
     /// The mark is taken now; whether it is one that no other taking found.
-    pub(super) fn take(&self, mark: u64) -> bool {
+    pub(crate) fn take(&self, mark: u64) -> bool {
         let (worker, number) = parts_of(mark);
         let Some(marks) = self.taken.get(worker) else {
             return false;

@@ -1,4 +1,4 @@
-use Rattle.xh_tests.proofs.random.run.Given as goal
+use Rattle.xh_soak.proofs.round.run_round.Given as goal
 
 abbrev pub ghosts-run_named : goal.ghosts-run_named
 ghosts-run_named g a = record { parts = a.parts }

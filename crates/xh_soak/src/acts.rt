@@ -1,52 +1,89 @@
-//! What a worker of a random run does with its own blocks and processes.
-use crate::random::actor::Actor;
-use crate::random::board::Post;
-use crate::random::marks::fill;
-use crate::random::memory::{Kept, NO_MEMORY};
+//! What a worker of a round does with its own blocks and processes.
+use crate::actor::Actor;
+use crate::marks::fill;
+use crate::memory::Kept;
+use crossbeam_utils::Backoff;
 use std::sync::Wait;
 use xh_core::{Refused, Status};
 use xh_kernel::Names;
 use xh_place::OpenGate;
 
 impl<'a, N: Names, R: Wait> Actor<'a, N, R> {
-    /// Does its commands, as long as nothing is wrong.
-    pub(super) fn work(&mut self) {
+    /// Does its commands, as long as nothing is wrong. The first worker then ends all waiting.
+    pub(crate) fn work(&mut self) {
+        let is_first = self.memory.worker == 0;
+        if is_first {
+            self.board.waits.open();
+        }
         for _ in 0..self.memory.plan.commands {
             if self.memory.wrong.is_some() {
-                return;
+                break;
             }
             match self.memory.process {
                 Some(p) => self.act(p),
                 None => self.start(),
             }
         }
+        if is_first {
+            self.wake_all();
+        }
+    }
+
+    // Nobody begins to wait any more, and the processes of all that wait end.
+    fn wake_all(&mut self) {
+        self.board.waits.close();
+        let backoff = Backoff::new();
+        for _ in self.rt.forever() {
+            if self.board.waits.count() == 0 {
+                return;
+            }
+            for worker in 0..u32::from(self.memory.plan.workers) {
+                if let Some(process) = self.board.waits.process(worker) {
+                    self.end(process);
+                }
+            }
+            backoff.snooze();
+        }
+    }
+
+    // Ends a process, in whichever state it is.
+    fn end(&mut self, process: u16) {
+        self.board.aim_at(process);
+        match self
+            .kernel
+            .exit(self.rt, process, 4096, self.account, &OpenGate)
+        {
+            Ok(_) | Err(Refused::Ended) => {}
+            Err(_) => self.memory.fail("a process that waits can't be ended"),
+        }
     }
 
     // Does a command.
     fn act(&mut self, p: u16) {
         self.collect(p);
-        match self.memory.below(128) {
-            0..=19 => self.get_block(p),
-            20..=29 => self.split(p),
-            30..=37 => self.write(p),
-            38..=47 => {
+        match self.memory.below(256) {
+            0..=35 => self.get_block(p),
+            36..=51 => self.split(p),
+            52..=63 => self.write(p),
+            64..=79 => {
                 if let Some(kept) = self.memory.any_block() {
                     let what = "a block has other bytes than its process wrote";
                     self.check(p, kept.block, kept.mark, what);
                 }
             }
-            48..=75 => self.give(p),
-            76..=105 => self.take(p),
-            106..=113 => self.free(p),
-            114..=115 => {
+            80..=139 => self.give(p),
+            140..=205 => self.take(p),
+            206..=221 => self.free(p),
+            222..=223 => {
                 if let Some(end) = self.memory.any_end() {
                     self.close(p, end);
                 }
             }
-            116 => self.exit(p),
-            117 => self.kill(p),
-            118..=123 => self.glance(p),
-            124..=126 => self.wire(p),
+            224 => self.exit(p),
+            225 => self.kill(p),
+            226..=233 => self.glance(p),
+            234..=237 => self.trespass(p),
+            238..=251 => self.wire(p),
             _ => self.open(p),
         }
     }
@@ -63,7 +100,7 @@ impl<'a, N: Names, R: Wait> Actor<'a, N, R> {
     }
 
     // Takes note of the endpoints that came by other workers' wires.
-    fn collect(&mut self, p: u16) {
+    pub(crate) fn collect(&mut self, p: u16) {
         for post in self.board.collect(self.rt, self.alloc, self.memory.worker) {
             if post.process == p {
                 self.memory.add_end(post.end);
@@ -73,7 +110,7 @@ impl<'a, N: Names, R: Wait> Actor<'a, N, R> {
 
     // A block that is new is all zeros.
     fn get_block(&mut self, p: u16) {
-        let bytes = self.memory.below(128).saturating_add(1);
+        let bytes = self.memory.size();
         let arena = self.memory.arena();
         match self.kernel.alloc(
             self.rt,
@@ -92,6 +129,9 @@ impl<'a, N: Names, R: Wait> Actor<'a, N, R> {
                 .memory
                 .fail("a block has another length than was asked for"),
             Err(Refused::NoRecord | Refused::NoSpace) => {}
+            Err(Refused::Worn) if self.memory.plan.can_wear() => {}
+            Err(Refused::BadSize) if bytes > self.memory.plan.config.bytes => {}
+            Err(Refused::OutOfMemory) if self.memory.plan.scarce => {}
             Err(refused) => self.lose_or(&refused, "no block can be had"),
         }
     }
@@ -122,6 +162,7 @@ impl<'a, N: Names, R: Wait> Actor<'a, N, R> {
             }
             Ok(_) => self.memory.fail("a head isn't what was asked for"),
             Err(Refused::NoRecord) => {}
+            Err(Refused::OutOfMemory) if self.memory.plan.scarce => {}
             Err(refused) => self.lose_or(&refused, "a block can't be cut"),
         }
     }
@@ -208,41 +249,32 @@ impl<'a, N: Names, R: Wait> Actor<'a, N, R> {
         }
     }
 
-    // A channel between the process and another worker's.
-    fn wire(&mut self, p: u16) {
-        let other = self.memory.any_worker();
-        let Some(q) = self.board.process_of(other) else {
+    // A call on a record that the process doesn't hold: it is told so, and nothing happens. Where another's wire has
+    // just brought an endpoint, that is no data.
+    fn trespass(&mut self, p: u16) {
+        let record = (self.memory.below(2064) % 2064) as u16;
+        if self.memory.has(record) {
             return;
-        };
-        let arena = self.memory.arena();
-        match self
-            .kernel
-            .wire(self.rt, p, q, arena, self.account, &OpenGate)
-        {
-            Ok((low, high)) => {
-                self.memory.add_end(low.rec);
-                let post = Post {
-                    process: q,
-                    end: high.rec,
-                };
-                if self.board.post(self.rt, other, post).is_err() {
-                    self.memory.fail(NO_MEMORY);
-                }
-            }
-            Err(Refused::NoChannel | Refused::NoRecord | Refused::NoSpace | Refused::Ended) => {}
-            Err(_) => self.memory.fail("no channel can be had with another"),
         }
-    }
-
-    fn open(&mut self, p: u16) {
-        let arena = self.memory.arena();
-        match self.kernel.open(self.rt, p, arena, self.account, &OpenGate) {
-            Ok((low, high)) => {
-                self.memory.add_end(low.rec);
-                self.memory.add_end(high.rec);
-            }
-            Err(Refused::NoChannel | Refused::NoRecord | Refused::NoSpace) => {}
-            Err(refused) => self.lose_or(&refused, "no channel can be had"),
+        let mut bytes = [7u8; 8];
+        let answer = match self.memory.below(4) {
+            0 => self
+                .kernel
+                .read(self.rt, p, record, 0, &mut bytes, &OpenGate),
+            1 => self.kernel.write(self.rt, p, record, 0, &bytes, &OpenGate),
+            2 => self
+                .kernel
+                .split(self.rt, self.alloc, p, record, 16, &OpenGate)
+                .map(|_| ()),
+            _ => self
+                .kernel
+                .free(self.rt, p, record, self.account, &OpenGate)
+                .map(|_| ()),
+        };
+        match answer {
+            Err(Refused::NotOwned | Refused::NotData) => {}
+            Ok(()) => self.memory.fail("a process got at what it doesn't hold"),
+            Err(refused) => self.lose_or(&refused, "a block of another has another refusal"),
         }
     }
 }

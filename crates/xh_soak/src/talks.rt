@@ -1,7 +1,7 @@
-//! What a worker of a random run does with its endpoints.
-use crate::random::actor::Actor;
-use crate::random::marks::{fill, low_half, mark_of};
-use crate::random::memory::{Load, NO_MEMORY};
+//! What a worker of a round does with its endpoints.
+use crate::actor::Actor;
+use crate::marks::{fill, low_half, mark_of};
+use crate::memory::{CONTRACT_TAGS, Load};
 use std::sync::Wait;
 use xh_core::{Block, Refused};
 use xh_kernel::Names;
@@ -9,13 +9,13 @@ use xh_place::{Got, OpenGate};
 
 impl<'a, N: Names, R: Wait> Actor<'a, N, R> {
     /// Gives blocks by one of the endpoints.
-    pub(super) fn give(&mut self, p: u16) {
+    pub(crate) fn give(&mut self, p: u16) {
         let Some(by) = self.memory.any_end() else {
             return;
         };
         match self.memory.load(self.alloc, by) {
             Ok(load) => self.give_load(p, by, &load),
-            Err(_) => self.memory.fail(NO_MEMORY),
+            Err(_) => self.memory.starve(),
         }
     }
 
@@ -37,38 +37,59 @@ impl<'a, N: Names, R: Wait> Actor<'a, N, R> {
                 self.memory.restore(load, back.as_slice());
             }
             Err(Refused::PeerClosed { back }) => self.memory.restore(load, back.as_slice()),
+            Err(Refused::Protocol { back }) if self.memory.plan.contracts => {
+                self.memory.restore(load, back.as_slice());
+            }
             Err(refused) => self.lose_or(&refused, "blocks can't be given"),
         }
     }
 
-    /// Takes a message by one of the endpoints. Its blocks have the marks that its tag tells.
-    pub(super) fn take(&mut self, p: u16) {
+    /// Takes a message by one of the endpoints, and waits for it at times.
+    pub(crate) fn take(&mut self, p: u16) {
         let Some(by) = self.memory.any_end() else {
             return;
         };
-        match self.kernel.take(self.rt, p, by, &OpenGate) {
-            Ok(message) => {
-                let mut number = u64::from(message.tag);
-                for got in message.blocks.as_slice() {
-                    number = number.saturating_add(1);
-                    if let Got::Here(block) = got {
-                        self.keep(p, *block, low_half(number));
-                    }
-                }
-            }
-            Err(Refused::Empty) => {}
+        let waits = self.memory.below(8) == 0 && self.board.waits.begin(self.memory.worker, p);
+        let answer = if waits {
+            self.kernel.take_wait(self.rt, p, by, &OpenGate)
+        } else {
+            self.kernel.take(self.rt, p, by, &OpenGate)
+        };
+        if waits {
+            self.board.waits.end(self.memory.worker);
+            self.memory.waited = self.memory.waited.saturating_add(1);
+        }
+        match answer {
+            Ok(message) => self.keep_all(p, message.tag, message.blocks.as_slice()),
+            Err(Refused::Empty) if !waits => {}
             Err(Refused::PeerClosed { .. }) => self.close(p, by),
             Err(refused) => self.lose_or(&refused, "no message can be taken"),
         }
     }
 
-    // A block that was taken, if the process still runs: it has a mark with this number, and nobody took it before.
-    fn keep(&mut self, p: u16, block: Block, number: u16) {
+    // The blocks of a message have the marks that its tag tells, unless it is one of a contract.
+    fn keep_all(&mut self, p: u16, tag: u16, blocks: &[Got]) {
+        let mut number = u64::from(tag);
+        for got in blocks {
+            number = number.saturating_add(1);
+            let wanted = if tag < CONTRACT_TAGS {
+                Some(low_half(number))
+            } else {
+                None
+            };
+            if let Got::Here(block) = got {
+                self.keep(p, *block, wanted);
+            }
+        }
+    }
+
+    // A block that was taken, if the process still runs: it has a mark, with this number, and nobody took it before.
+    fn keep(&mut self, p: u16, block: Block, number: Option<u16>) {
         if self.memory.process.is_none() {
             return;
         }
         match mark_of(self.rt, self.kernel, p, block) {
-            Ok(Some(mark)) if low_half(mark) == number => {
+            Ok(Some(mark)) if number.is_none() || number == Some(low_half(mark)) => {
                 if !self.board.take(mark) {
                     self.memory.fail("a block was taken twice");
                 }
@@ -84,7 +105,7 @@ impl<'a, N: Names, R: Wait> Actor<'a, N, R> {
     }
 
     /// Closes an endpoint.
-    pub(super) fn close(&mut self, p: u16, end: u16) {
+    pub(crate) fn close(&mut self, p: u16, end: u16) {
         match self.kernel.close(self.rt, p, end, self.account, &OpenGate) {
             Ok(bytes) if bytes >= 32 => self.memory.drop_end(end),
             Ok(_) => self

@@ -1,19 +1,19 @@
 //! Marks: a word that stands all over a block, so that it tells whose bytes these are.
-use crate::random::memory::Kept;
+use crate::memory::Kept;
 use std::sync::Wait;
 use xh_core::{Block, Refused};
 use xh_kernel::{Kernel, Names};
 use xh_place::OpenGate;
 
 /// The mark of a worker with a number of its own, counted from 1.
-pub(super) fn mark(worker: u32, number: u32) -> u64 {
+pub(crate) fn mark(worker: u32, number: u32) -> u64 {
     u64::from(worker)
         .saturating_mul(4_294_967_296)
         .saturating_add(u64::from(number))
 }
 
 /// Its worker and its number.
-pub(super) fn parts_of(mark: u64) -> (usize, usize) {
+pub(crate) fn parts_of(mark: u64) -> (usize, usize) {
     (
         (mark / 4_294_967_296) as usize,
         (mark % 4_294_967_296) as usize,
@@ -21,12 +21,12 @@ pub(super) fn parts_of(mark: u64) -> (usize, usize) {
 }
 
 /// The part of a number that a tag has room for.
-pub(super) fn low_half(number: u64) -> u16 {
+pub(crate) fn low_half(number: u64) -> u16 {
     (number % 65_536) as u16
 }
 
 /// The mark of each block stands all over it from now on.
-pub(super) fn fill<N: Names, R: Wait>(
+pub(crate) fn fill<N: Names, R: Wait>(
     rt: &R,
     kernel: &Kernel<N>,
     process: u16,
@@ -43,7 +43,7 @@ pub(super) fn fill<N: Names, R: Wait>(
 }
 
 /// The mark that stands all over the block, and not past its end; none where there is no such mark.
-pub(super) fn mark_of<N: Names, R: Wait>(
+pub(crate) fn mark_of<N: Names, R: Wait>(
     rt: &R,
     kernel: &Kernel<N>,
     process: u16,
