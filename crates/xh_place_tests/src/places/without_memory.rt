@@ -42,7 +42,12 @@ fn is_prepared<R: Abort>(rt: &R, alloc: Global, bench: &mut Bench) -> bool {
 }
 
 /// Whether memory lasted: until a growth was refused each call answers the first of its answers, and from then on the second.
-fn is_lasting<R: Abort>(rt: &R, alloc: Global, bench: &mut Bench, calls: &[(Call, Answer, Answer)]) -> bool {
+fn is_lasting<R: Abort>(
+    rt: &R,
+    alloc: Global,
+    bench: &mut Bench,
+    calls: &[(Call, Answer, Answer)],
+) -> bool {
     let mut lacks = false;
     for (at, (call, with, without)) in calls.iter().enumerate() {
         let answered = lacking_answer(rt, alloc, bench, *call);
