@@ -11,10 +11,10 @@ use Rattle.xh_place.specs.Ends.{AreListed, Opens}
 use Rattle.xh_place.specs.Places.{PlaceOf}
 
 pub listed : (opened : Result (Block × Block) Unopened) (result : Result (Block × Block) Refused) (low high : Posted) (old new : PlaceOf) (arena : ℕ) (ts us : List TallyOf) → old.state ≡ Running
-    → Opens arena low high old new ts us opened → IfOk opened (AreListed low high new) → MatchResult opened (λ ends. result ≡ Ok ends) (λ u. result ≡ Err u.why)
+    → Opens arena low high old new ts us opened → MatchResult opened (λ ends. result ≡ Ok ends) (λ u. result ≡ Err u.why)
     → IfOk result (λ ends. (new.state ≡ Running) × ((low : Posted) × (high : Posted) × AreListed low high new ends))
-listed (Ok ends) result low high old new arena ts us runs o h e =
+listed (Ok ends) result low high old new arena ts us runs o e =
     subst (λ (r : Result (Block × Block) Refused). IfOk r (λ ends. (new.state ≡ Running) × ((low : Posted) × (high : Posted) × AreListed low high new ends))) (sym e)
-    (ap (λ (p : PlaceOf). p.state) o.0 ∙ runs, (low, high, h))
-listed (Err u) result low high old new arena ts us runs o h e =
+    (ap (λ (p : PlaceOf). p.state) o.0 ∙ runs, (low, high, o.4))
+listed (Err u) result low high old new arena ts us runs o e =
     subst (λ (r : Result (Block × Block) Refused). IfOk r (λ ends. (new.state ≡ Running) × ((low : Posted) × (high : Posted) × AreListed low high new ends))) (sym e) tt

@@ -41,11 +41,11 @@ module _ (number : ℕ) (kept from to : List TallyOf) (before : AccountOf) (is :
   allocated old new arena (Ok b) taken unchanged = change (took arena b.len) taken
   allocated old new arena (Err e) taken unchanged = same unchanged.1
 
-  pub freed : (old new : PlaceOf) (arena : ℕ) (result : Result ℕ Refused) (unmoved : Type 0)
-      → IfOk result (λ n. to ≡ gave arena n from) → OnErr result ((new ≡ old) × unmoved × (to ≡ from))
+  pub freed : (old new : PlaceOf) (arena : ℕ) (result : Result ℕ Refused)
+      → IfOk result (λ n. to ≡ gave arena n from) → OnErr result ((new ≡ old) × (to ≡ from))
       → MatchResult result (λ n. account_of number to ≡ has_given arena n before) (λ _. account_of number to ≡ before)
-  freed old new arena (Ok n) unmoved given unchanged = change (gave arena n) given
-  freed old new arena (Err e) unmoved given unchanged = same unchanged.2
+  freed old new arena (Ok n) given unchanged = change (gave arena n) given
+  freed old new arena (Err e) given unchanged = same unchanged.1
 
 -- what an alloc of a place says of a lack, by the vaults of these parts
 module _ (parts : PartsOf) {V : Type 0} (from to : V) (a n : ℕ) where

@@ -6,6 +6,20 @@ ghost use Rattle.xh_place.specs.Places.{IsPlaceOf};
 ghost use Rattle.xh_kernel.specs.Calls.{Spawns};
 ghost use Rattle.xh_kernel.specs.Places.{IsHeldOf, IsTold, start, status_of};
 
+// What a call of a place works on.
+macro_rules! desk {
+    ($rt:expr, $shared:expr, $vaults:expr, $tallies:expr, $gate:expr) => {
+        Desk {
+            rt: $rt,
+            records: &$shared.records,
+            channels: &$shared.channels,
+            vaults: $vaults,
+            tallies: $tallies,
+            gate: $gate,
+        }
+    };
+}
+
 mod blocks;
 mod channels;
 mod endings;

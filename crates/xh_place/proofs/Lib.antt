@@ -3,6 +3,7 @@ pub mod Steps
 pub mod Moves
 pub mod Gained
 pub mod Counted
+pub mod Desks
 pub mod Settled
 pub mod Gotten
 pub mod Givens
@@ -14,7 +15,7 @@ pub mod Shown
 pub mod Runs
 pub mod Last
 pub mod Opened
-pub mod Out
+pub mod Ends
 pub mod Untaken
 pub mod Ended
 pub mod GiveTests

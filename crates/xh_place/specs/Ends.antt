@@ -1,9 +1,10 @@
 -- Endpoints of a place: what opening and handing over do.
-use Rattle.std.specs.Prelude.{◌≡◌, ℕ, ◌*◌, ◌/◌, ◌==◌, ◌&&◌, Bool, cond, List, [], ◌∷◌, ◌++◌, length, Option}
-use Rattle.std.specs.Prelude.{Some, None, Result, Err, MatchOption, MatchResult, IfErr, OnOk}
+use Rattle.std.specs.Prelude.{◌≡◌, ◌≢◌, ◌⊎◌, ℕ, ◌*◌, ◌/◌, ◌==◌, ◌&&◌, Bool, true, false, cond, List, [], ◌∷◌, ◌++◌, length, Option}
+use Rattle.std.specs.Prelude.{Some, None, Result, Err, MatchOption, MatchResult, IfErr, IfOk, OnOk}
 use Rattle.xh_channel.specs.Queues.{Posted}
 use Rattle.xh_core.specs.declared.block.Block.{Block}
 use Rattle.xh_core.specs.declared.refused.Refused.{Refused}
+use Rattle.xh_core.specs.declared.refused.Refused.TheVariants.{Ended}
 use Rattle.xh_core.specs.declared.status.Status.{Status}
 use Rattle.xh_core.specs.declared.status.Status.TheVariants as status
 use Rattle.xh_model.specs.declared.limits.TheConstants.{DIRECTIONS, END_BYTES, MAX_BUDGET, MAX_RECORDS}
@@ -16,7 +17,7 @@ use Rattle.xh_arena.specs.Views.{TallyOf}
 use Rattle.xh_place.specs.declared.opening.Unopened.{Unopened}
 use Rattle.xh_place.specs.Tallies.{took}
 use Rattle.xh_place.specs.Places.{Item, PlaceOf, with_blocks, with_list, with_more}
-use Rattle.xh_place.specs.Ending.{IsSwept}
+use Rattle.xh_place.specs.Ending.{HasGivenBack, IsSwept}
 
 -- the call answers the first refusal whose test is true, and then these stay as they were; where none is, it does what is said
 abbrev pub RefusedOr : {A : Type 0} → Tests → Result A Refused → Type 0 → Type 0 → Type 0
@@ -41,17 +42,17 @@ end_block p = record { len = END_BYTES; content = spot p.channel p.side }
 abbrev pub IsEndIn : ℕ → Block → Type 0
 IsEndIn arena b = (b.len ≡ END_BYTES) × (b.rec / MAX_RECORDS ≡ arena)
 
--- Both ends are the last blocks of the list, side 0 first, each of 32 bytes of the arena; or nothing has changed, and the ends are handed back.
-abbrev pub Opens : ℕ → Posted → Posted → PlaceOf → PlaceOf → List TallyOf → List TallyOf → Result (Block × Block) Unopened → Type 0
-Opens arena low high old new tallies left result = MatchResult result
-    (λ ends. (new ≡ with_blocks old (old.blocks ++ (ends.0.rec, end_block low) ∷ (ends.1.rec, end_block high) ∷ [])) × IsEndIn arena ends.0 × IsEndIn arena ends.1
-    × (left ≡ took arena (2 * END_BYTES) tallies))
-    (λ u. (u.low ≡ low) × (u.high ≡ high) × (new ≡ old) × (left ≡ tallies))
-
 -- both are blocks of the list, and their records exist
 abbrev pub AreListed : Posted → Posted → PlaceOf → Block × Block → Type 0
 AreListed low high p ends = (value_at ends.0.rec p.blocks ≡ Some (end_block low)) × IsRecord p.shape ends.0.rec
     × (value_at ends.1.rec p.blocks ≡ Some (end_block high)) × IsRecord p.shape ends.1.rec
+
+-- Both ends are the last blocks of the list, side 0 first, each of 32 bytes of the arena; or nothing has changed, and the ends are handed back.
+abbrev pub Opens : ℕ → Posted → Posted → PlaceOf → PlaceOf → List TallyOf → List TallyOf → Result (Block × Block) Unopened → Type 0
+Opens arena low high old new tallies left result = MatchResult result
+    (λ ends. (new ≡ with_blocks old (old.blocks ++ (ends.0.rec, end_block low) ∷ (ends.1.rec, end_block high) ∷ [])) × IsEndIn arena ends.0 × IsEndIn arena ends.1
+    × (left ≡ took arena (2 * END_BYTES) tallies) × AreListed low high new ends)
+    (λ u. (u.low ≡ low) × (u.high ≡ high) × (new ≡ old) × (left ≡ tallies))
 
 -- the first refusal whose test is true, and then the vaults are as they were; else what there was a lack of
 abbrev pub IsUnopened : Tests → Type 0 → (Refused → Type 0) → Result (Block × Block) Unopened → Type 0
@@ -74,3 +75,9 @@ ending_again status.Ending left = status.Ending
 abbrev pub IsTooLate : ℕ → ℕ → PlaceOf → PlaceOf → ℕ → Type 0
 IsTooLate d r old new sum = (x : Item) × (left : ℕ) × IsSwept (length old.blocks) MAX_BUDGET (with_more d ((r, x) ∷ []) old) new sum left
     × (new ≡ record (with_list old new) { state = ending_again old.state (length new.blocks) })
+
+-- It came on the direction to the end of the list of the process, which runs here; or the process doesn't, and then nothing has changed, or it came too late.
+pub record Accepts (process r direction : ℕ) (old new : PlaceOf) (told tallies : List TallyOf) (result : Result Block Refused) : Type 0 where
+  pub here : IfOk result (λ b. (is_here old process ≡ true) × (b.rec ≡ r) × ((x : Item) × (x.len ≡ b.len) × (new ≡ with_more direction ((r, x) ∷ []) old)) × (tallies ≡ told))
+  pub away : IfErr result (λ e. (e ≡ Ended) × (((new ≡ old) × (tallies ≡ told))
+      ⊎ ((is_here old process ≡ false) × (old.state ≢ status.Vacant) × ((bytes : ℕ) × IsTooLate direction r old new bytes × HasGivenBack bytes told tallies))))

@@ -2,10 +2,12 @@ pub mod Vaults
 pub mod Bodies
 pub mod Moves
 pub mod Places
+pub mod Desk
 pub mod Starts
 pub mod Tallies
 pub mod Settling
 pub mod Splitting
+pub mod Calls
 pub mod Taking
 pub mod Ending
 pub mod Ends

@@ -1,5 +1,5 @@
 // What a give does to the seat: its blocks leave it, and some come back.
-ghost use Rattle.std.specs.Prelude.{◌≡◌, ◌≢◌, ◌⊎◌, ℕ, ◌+◌, ◌*◌, ◌/◌, ◌%◌, ◌<◌, ◌≤◌, List, [], ◌++◌, length, Some, None, true, OnOk, MatchResult};
+ghost use Rattle.std.specs.Prelude.{◌≡◌, ◌≢◌, ◌⊎◌, ℕ, ◌+◌, ◌*◌, ◌/◌, ◌%◌, ◌<◌, ◌≤◌, List, [], ◌++◌, length, Some, None, OnOk, MatchResult};
 ghost use Rattle.arrayvec.specs.ArrayVec.{ArrayVec};
 ghost use Rattle.xh_arena.specs.Views.{LotOf};
 ghost use Rattle.xh_model.specs.declared.limits.TheConstants.{DIRECTIONS, MAX_BLOCKS};
@@ -15,11 +15,13 @@ ghost use Rattle.xh_place.specs.Bodies.{away, content_of, kind_of, fits_in};
 ghost use Rattle.xh_place.specs.Places.{IsBlock, item_in, item_of, header_in};
 
 use crate::body::Body;
+use crate::desk::Desk;
+use crate::endpoints::{put_at, spot_at};
 use crate::gate::{Gate, Point};
-use crate::lots::{accept_block, place_of, swap_body};
+use crate::lots::{accept_block, place_of};
 use arrayvec::ArrayVec;
 use std::sync::Wait;
-use xh_channel::{Channels, Unsent};
+use xh_channel::Unsent;
 use xh_core::{Header, Refused};
 use xh_records::{Records, Seat};
 
@@ -91,27 +93,15 @@ pub(crate) struct Given {
     pub(crate) back: ArrayVec<(u16, Header), 8>,
 }
 
-fn copy_of(blocks: &ArrayVec<u16, 8>) -> ArrayVec<u16, 8>
-    ensures { result ≡ blocks.now }
-{
-    let Ok(copy) = blocks.clone() else {
-        unreachable!()
-    };
-    copy
-}
-
 // Passes the blocks and puts the message: the put's answer, and the direction on which the blocks are.
-fn post<R: Wait, G: Gate>(
-    rt: &R,
-    records: &Records<Body>,
+fn post<R: Wait, V, G: Gate>(
+    desk: &Desk<'_, R, V, G>,
     seat: &mut Seat<Body>,
-    channels: &Channels,
     e: u16,
     tag: u16,
     given: &ArrayVec<u16, 8>,
-    gate: &G,
 ) -> (Result<u64, Unsent>, u8)
-    requires own { IsSeatOf records.now seat.old }
+    requires own { IsSeatOf desk.now.records.now seat.old }
     requires end { (l : LotOf Body) × (value_at e seat.old.lots ≡ Some l) × IsBlock seat.old.shape e l × (kind_of (content_of l.body) ≡ kind.End) }
     requires distinct { Distinct given.now.items × (Among given.now.items e → ⊥) }
     requires held { (r : ℕ) → Among given.now.items r → (l : LotOf Body) × (value_at r seat.old.lots ≡ Some l) × IsBlock seat.old.shape r l }
@@ -121,33 +111,24 @@ fn post<R: Wait, G: Gate>(
     ensures gone { (r : ℕ) → Among given.now.items r → value_at r seat.new.lots ≡ None }
     ensures others { (r : ℕ) → (Among given.now.items r → ⊥) → e ≢ r → value_at r seat.new.lots ≡ value_at r seat.old.lots }
 {
-    let mut body = Body::Nothing;
-    swap_body(records, seat, e, &mut body);
-    let Body::End(end) = &mut body else {
-        unreachable!()
-    };
-    let spot = end.spot();
+    let spot = spot_at(desk.records, seat, e);
     let direction = 2 * spot.channel + 1 - spot.side;
-    pass_all(records, seat, given.as_slice(), direction);
-    gate.between(place_of(seat), Point::Passed);
-    let put = channels.put(rt, end, tag, copy_of(given));
-    gate.between(place_of(seat), Point::Put);
-    swap_body(records, seat, e, &mut body);
+    pass_all(desk.records, seat, given.as_slice(), direction);
+    desk.gate.between(place_of(seat), Point::Passed);
+    let put = put_at(desk, seat, e, tag, given);
+    desk.gate.between(place_of(seat), Point::Put);
     (put, direction)
 }
 
 // Passes the blocks, puts the message, and takes the blocks back where the put is refused.
-pub(crate) fn give_all<R: Wait, G: Gate>(
-    rt: &R,
-    records: &Records<Body>,
+pub(crate) fn give_all<R: Wait, V, G: Gate>(
+    desk: &Desk<'_, R, V, G>,
     seat: &mut Seat<Body>,
-    channels: &Channels,
     e: u16,
     tag: u16,
     given: &ArrayVec<u16, 8>,
-    gate: &G,
 ) -> Given
-    requires own { IsSeatOf records.now seat.old }
+    requires own { IsSeatOf desk.now.records.now seat.old }
     requires end { (l : LotOf Body) × (value_at e seat.old.lots ≡ Some l) × IsBlock seat.old.shape e l × (kind_of (content_of l.body) ≡ kind.End) }
     requires distinct { Distinct given.now.items × (Among given.now.items e → ⊥) }
     requires held { (r : ℕ) → Among given.now.items r → (l : LotOf Body) × (value_at r seat.old.lots ≡ Some l) × IsBlock seat.old.shape r l }
@@ -159,12 +140,12 @@ pub(crate) fn give_all<R: Wait, G: Gate>(
     ensures good { (r : ℕ) (l : LotOf Body) → Among given.now.items r → value_at r seat.new.lots ≡ Some l → IsBlock seat.old.shape r l }
     ensures sent { OnOk result.put (result.back.items ≡ []) }
 {
-    let (put, direction) = post(rt, records, seat, channels, e, tag, given, gate);
+    let (put, direction) = post(desk, seat, e, tag, given);
     let Err(unsent) = put else {
         let back = ArrayVec::new();
         return Given { put, back };
     };
-    let back = accept_back(records, seat, given.as_slice(), direction);
+    let back = accept_back(desk.records, seat, given.as_slice(), direction);
     Given {
         put: Err(unsent),
         back,

@@ -3,6 +3,8 @@
 
 mod body;
 mod bytes;
+mod desk;
+mod endpoints;
 mod gate;
 mod giving;
 mod got;
@@ -14,6 +16,7 @@ mod reclaiming;
 mod vaults;
 
 pub use body::Body;
+pub use desk::Desk;
 pub use gate::{Gate, OpenGate, Point};
 pub use got::{Got, Taken};
 pub use opening::Unopened;

@@ -1,5 +1,5 @@
 // A place's list: records with their lengths and kinds.
-ghost use Rattle.std.specs.Prelude.{◌≡◌, ℕ, ◌<◌, ◌^◌, vec_capacity};
+ghost use Rattle.std.specs.Prelude.{◌≡◌, ◌<◌, ◌^◌, vec_capacity};
 ghost use Rattle.xh_model.specs.Keyed.{Distinct, keys, value_at, put, without};
 ghost use Rattle.xh_place.specs.Places.{sum_of};
 ghost use Rattle.xh_place.specs.Settling.{settle, settled};

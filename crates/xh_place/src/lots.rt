@@ -1,13 +1,15 @@
 // What a place does to the lots of its seat: each call lends one of them, or two, to one function.
-ghost use Rattle.std.specs.Prelude.{◌≡◌, ◌≢◌, ◌⊎◌, ℕ, ◌+◌, ◌-◌, ◌*◌, ◌%◌, ◌/◌, ◌<◌, ◌≤◌, ◌++◌, ◌∷◌, [], Some, IfOk, IfErr, IfSome, OnOk, OnErr, slice_get, length, replicate, true};
+ghost use Rattle.std.specs.Prelude.{◌≡◌, ◌≢◌, ◌⊎◌, ◌+◌, ◌-◌, ◌*◌, ◌%◌, ◌/◌, ◌<◌, ◌≤◌, ◌++◌, ◌∷◌, [], Some, IfOk, IfErr, IfSome, OnOk, OnErr, slice_get, length, replicate, true};
 ghost use Rattle.xh_arena.specs.Views.{LotOf};
 ghost use Rattle.xh_model.specs.declared.event.Event.TheVariants.{Accept};
 ghost use Rattle.xh_model.specs.Arena.{IsGoodCut};
 ghost use Rattle.xh_model.specs.Keyed.{Among, keys, value_at, put, without};
 ghost use Rattle.xh_records.specs.Showing.{IsLotOf, IsFull};
-ghost use Rattle.xh_records.specs.Seats.{Held, IsSeatOf, IsRecord, did, with_lots};
+ghost use Rattle.xh_records.specs.Seats.{IsSeatOf, IsRecord, did, with_lots};
 ghost use Rattle.xh_model.specs.declared.limits.TheConstants.{DIRECTIONS, MAX_BYTES, MAX_RECORDS, UNIT};
 ghost use Rattle.xh_place.specs.inner.Lots.{HasNow, IsCut, IsData};
+ghost use Rattle.xh_place.specs.Desk.{IsSameDesk, IsSeatAt};
+ghost use Rattle.xh_place.specs.Tallies.{gave, took};
 ghost use Rattle.xh_place.specs.Vaults.{IsNoBlock, IsRefusedAt};
 ghost use Rattle.xh_place.specs.inner.Answers.{reason_of};
 ghost use Rattle.xh_place.specs.declared.body.Body.{Body};
@@ -18,6 +20,7 @@ ghost use Rattle.xh_place.specs.Places.{IsBlock, item_of, header_of};
 
 use crate::body::Body;
 use crate::bytes::rest_of;
+use crate::desk::Desk;
 use crate::gate::{Gate, Point};
 use crate::vaults::Vaults;
 use std::alloc::Global;
@@ -113,23 +116,6 @@ pub(crate) fn empty_lot<V: Vaults>(
     )
 }
 
-// The lot gets another body, and gives the one that it had.
-fn swap(lot: &mut Lot<Body>, body: &mut Body)
-    requires { 0 ≤ lot.old.len }
-    ensures { (body.new ≡ lot.old.body) × (lot.new ≡ record lot.old { body = body.old }) }
-{
-    mem::swap(lot.body_mut(), body);
-}
-
-// The record's lot gets another body, and gives the one that it had.
-pub(crate) fn swap_body(records: &Records<Body>, seat: &mut Seat<Body>, r: u16, body: &mut Body)
-    requires own { IsSeatOf records.now seat.old × IsRecord records.now.shape r }
-    requires held { (l : LotOf Body) × (value_at r seat.old.lots ≡ Some l) × IsLotOf seat.old.shape r l × (0 ≤ l.len) }
-    ensures { (l : LotOf Body) → value_at r seat.old.lots ≡ Some l → (body.new ≡ l.body) × (seat.new ≡ with_lots seat.old (put r (record l { body = body.old }) seat.old.lots)) }
-{
-    records.with_lot(seat, r, &mut |lot: &mut Lot<Body>| swap(lot, body))
-}
-
 // A buffer of zeros.
 fn zeros(alloc: Global, count: u32) -> Option<Vec<u8>>
     ensures { IfSome result (λ v. v.items ≡ replicate count 0) }
@@ -158,65 +144,59 @@ pub(crate) fn place_of(seat: &Seat<Body>) -> u8 {
 }
 
 // Claims a record of the arena, and gives it bytes and a buffer of zeros.
-pub(crate) fn make_block<V: Vaults, G: Gate>(
+pub(crate) fn make_block<R, V: Vaults, G: Gate>(
     alloc: Global,
-    records: &Records<Body>,
+    desk: &mut Desk<'_, R, V, G>,
     seat: &mut Seat<Body>,
     n: u32,
     arena: u8,
-    vaults: &mut V,
-    tally: &mut Tally,
-    gate: &G,
 ) -> Result<u16, Reason>
-    requires own { IsSeatOf records.now seat.old }
-    requires names { V.names vaults.old ≡ seat.old.shape.names }
-    requires tally { (arena < length (V.names vaults.old)) × (slice_get (V.names vaults.old) arena ≡ Some tally.old.id) }
-    requires size { (0 < n) × (n % UNIT ≡ 0) × (n ≤ V.extent vaults.old) × (n ≤ MAX_BYTES) }
-    ensures same { (V.names vaults.new ≡ V.names vaults.old) × (V.extent vaults.new ≡ V.extent vaults.old) }
+    requires at { IsSeatAt V.names desk.old seat.old }
+    requires arena { arena < length seat.old.shape.names }
+    requires size { (0 < n) × (n % UNIT ≡ 0) × (n ≤ V.extent desk.old.vaults.now) × (n ≤ MAX_BYTES) }
+    ensures same { IsSameDesk V.names V.extent desk.old desk.new }
     ensures arena { IfOk result (λ r. r / MAX_RECORDS ≡ arena) }
     ensures block { IfOk result (λ r. (l : LotOf Body) × (Among (keys seat.old.lots) r → ⊥) × HasNow seat.old (seat.old.lots ++ (r, l) ∷ []) seat.new × IsBlock seat.old.shape r l
         × (l.len ≡ n) × (content_of l.body ≡ bytes (replicate n 0))) }
-    ensures tally { OnOk result (tally.new ≡ record tally.old { taken = tally.old.taken + n }) }
-    ensures refused { OnErr result (HasNow seat.old seat.old.lots seat.new × (tally.new ≡ tally.old)) }
-    ensures why { IfErr result (IsNoBlock V.changes vaults.old vaults.new arena n) }
+    ensures taken { OnOk result (desk.new.tallies.now ≡ took arena n desk.old.tallies.now) }
+    ensures refused { OnErr result (HasNow seat.old seat.old.lots seat.new × (desk.new.tallies.now ≡ desk.old.tallies.now)) }
+    ensures why { IfErr result (IsNoBlock V.changes desk.old.vaults.now desk.new.vaults.now arena n) }
 {
-    let Ok(r) = records.claim(seat, arena) else {
+    let Ok(r) = desk.records.claim(seat, arena) else {
         return Err(Reason::NoRecord);
     };
-    gate.between(place_of(seat), Point::Claimed);
+    desk.gate.between(place_of(seat), Point::Claimed);
     let Some(buffer) = zeros(alloc, n) else {
-        records.vacate(seat, r);
+        desk.records.vacate(seat, r);
         return Err(Reason::OutOfMemory);
     };
     let mut body = Body::Data(buffer);
-    let filled = fill_lot(records, seat, r, vaults, tally, n, &mut body);
+    let tally = &mut desk.tallies[usize::from(arena)];
+    let filled = fill_lot(desk.records, seat, r, desk.vaults, tally, n, &mut body);
     drop(body);
     let Err(refused) = filled else {
         return Ok(r);
     };
-    records.vacate(seat, r);
+    desk.records.vacate(seat, r);
     Err(reason(refused))
 }
 
 // Gives a block's bytes back, and makes its record free.
-pub(crate) fn give_up<V: Vaults, G: Gate>(
-    records: &Records<Body>,
+pub(crate) fn give_up<R, V: Vaults, G: Gate>(
+    desk: &mut Desk<'_, R, V, G>,
     seat: &mut Seat<Body>,
     r: u16,
-    vaults: &mut V,
-    tally: &mut Tally,
-    gate: &G,
 )
-    requires own { IsSeatOf records.now seat.old × IsRecord records.now.shape r }
-    requires held { (l : LotOf Body) × (value_at r seat.old.lots ≡ Some l) × (0 < l.len) × IsLotOf seat.old.shape r l
-        × (slice_get (V.names vaults.old) (r / MAX_RECORDS) ≡ Some l.id) × (tally.old.id ≡ l.id) }
-    ensures same { (V.names vaults.new ≡ V.names vaults.old) × (V.extent vaults.new ≡ V.extent vaults.old) }
+    requires at { IsSeatAt V.names desk.old seat.old }
+    requires held { (l : LotOf Body) × (value_at r seat.old.lots ≡ Some l) × IsBlock seat.old.shape r l }
+    ensures same { IsSameDesk V.names V.extent desk.old desk.new }
     ensures seat { HasNow seat.old (without r seat.old.lots) seat.new }
-    ensures tally { (l : LotOf Body) → value_at r seat.old.lots ≡ Some l → tally.new ≡ record tally.old { back = tally.old.back + l.len } }
+    ensures back { (l : LotOf Body) → value_at r seat.old.lots ≡ Some l → desk.new.tallies.now ≡ gave (r / MAX_RECORDS) l.len desk.old.tallies.now }
 {
-    empty_lot(records, seat, r, vaults, tally);
-    gate.between(place_of(seat), Point::Returned);
-    records.vacate(seat, r);
+    let tally = &mut desk.tallies[usize::from(r / MAX_RECORDS)];
+    empty_lot(desk.records, seat, r, desk.vaults, tally);
+    desk.gate.between(place_of(seat), Point::Returned);
+    desk.records.vacate(seat, r);
 }
 
 // The lot's length and kind.
@@ -318,32 +298,32 @@ pub(crate) fn part_lots<V: Vaults>(
 
 // Claims a record of the block's arena, and gives it the block's bytes past the first `k`, with a buffer
 // of their own.
-pub(crate) fn cut_block<V: Vaults, G: Gate>(
+pub(crate) fn cut_block<R, V: Vaults, G: Gate>(
     alloc: Global,
-    records: &Records<Body>,
+    desk: &mut Desk<'_, R, V, G>,
     seat: &mut Seat<Body>,
     r: u16,
     k: u32,
-    vaults: &mut V,
-    gate: &G,
 ) -> Result<u16, Reason>
-    requires own { IsSeatOf records.now seat.old }
-    requires names { V.names vaults.old ≡ seat.old.shape.names }
+    requires own { IsSeatOf desk.old.records.now seat.old }
+    requires names { V.names desk.old.vaults.now ≡ seat.old.shape.names }
     requires held { (l : LotOf Body) × (value_at r seat.old.lots ≡ Some l) × IsBlock seat.old.shape r l × IsData l × IsGoodCut k l.len }
-    ensures same { (V.names vaults.new ≡ V.names vaults.old) × (V.extent vaults.new ≡ V.extent vaults.old) }
+    ensures same { IsSameDesk V.names V.extent desk.old desk.new }
+    ensures tallies { desk.new.tallies.now ≡ desk.old.tallies.now }
     ensures cut { IfOk result (λ t. (l : LotOf Body) → value_at r seat.old.lots ≡ Some l → IsCut seat.old seat.new r k l t) }
-    ensures refused { OnErr result (HasNow seat.old seat.old.lots seat.new × (vaults.new ≡ vaults.old)) }
+    ensures refused { OnErr result (HasNow seat.old seat.old.lots seat.new × (desk.new.vaults.now ≡ desk.old.vaults.now)) }
     ensures why { IfErr result (λ e. (e ≡ Reason.NoRecord) ⊎ (e ≡ Reason.OutOfMemory)) }
 {
+    let records = desk.records;
     let Ok(t) = records.claim(seat, (r / MAX_RECORDS) as u8) else {
         return Err(Reason::NoRecord);
     };
-    gate.between(place_of(seat), Point::Claimed);
+    desk.gate.between(place_of(seat), Point::Claimed);
     let Some(buffer) = rest_of(alloc, records, seat, r, k as usize) else {
         records.vacate(seat, t);
         return Err(Reason::OutOfMemory);
     };
     let mut body = Body::Data(buffer);
-    part_lots(records, seat, r, t, vaults, k, &mut body);
+    part_lots(records, seat, r, t, desk.vaults, k, &mut body);
     Ok(t)
 }

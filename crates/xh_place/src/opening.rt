@@ -1,21 +1,24 @@
 // What opening does to the seat: two records get 32 bytes each, and the two ends of a channel.
-ghost use Rattle.std.specs.Prelude.{◌≡◌, ◌≢◌, ◌⊎◌, ℕ, ◌+◌, ◌*◌, ◌/◌, ◌%◌, ◌<◌, ◌≤◌, List, [], ◌∷◌, ◌++◌, length, Some, IfOk, IfErr, IfSome, OnOk, OnErr, MatchOption, slice_get, true};
+ghost use Rattle.std.specs.Prelude.{◌≡◌, ◌≢◌, ◌⊎◌, ◌+◌, ◌*◌, ◌/◌, ◌%◌, ◌<◌, ◌≤◌, ◌∷◌, ◌++◌, length, Some, IfOk, IfErr, OnOk, OnErr, MatchOption, slice_get};
 ghost use Rattle.xh_arena.specs.Views.{LotOf};
 ghost use Rattle.xh_channel.specs.Queues.{Posted};
-ghost use Rattle.xh_model.specs.Keyed.{Among, keys, put, value_at, without};
+ghost use Rattle.xh_model.specs.Keyed.{put, value_at, without};
 ghost use Rattle.xh_records.specs.Showing.{IsEmpty, IsLotOf};
-ghost use Rattle.xh_records.specs.Seats.{Held, IsRecord, IsSeatOf, with_lots};
+ghost use Rattle.xh_records.specs.Seats.{IsRecord, IsSeatOf, with_lots};
 ghost use Rattle.xh_model.specs.declared.limits.TheConstants.{END_BYTES, MAX_RECORDS};
 ghost use Rattle.xh_place.specs.declared.body.Body.{Body};
 ghost use Rattle.xh_place.specs.declared.body.Body.TheVariants.{End};
 ghost use Rattle.xh_place.specs.Bodies.{fits_in};
+ghost use Rattle.xh_place.specs.Desk.{IsSameDesk, IsSeatAt};
 ghost use Rattle.xh_place.specs.Ends.{end_block};
 ghost use Rattle.xh_place.specs.inner.Lots.{HasNow};
 ghost use Rattle.xh_place.specs.inner.Opening.{AreClaimed, AreMade};
-ghost use Rattle.xh_place.specs.Places.{IsBlock, item_of};
+ghost use Rattle.xh_place.specs.Places.{item_of};
+ghost use Rattle.xh_place.specs.Tallies.{took};
 ghost use Rattle.xh_place.specs.Vaults.{IsNoPair, IsRefusedAt};
 
 use crate::body::Body;
+use crate::desk::Desk;
 use crate::gate::{Gate, Point};
 use crate::lots::{place_of, reason};
 use crate::vaults::Vaults;
@@ -178,33 +181,30 @@ fn fit_ends<V: Vaults>(
 }
 
 // Claims two records of the arena, and gives each half of 64 bytes and an end.
-pub(crate) fn make_ends<V: Vaults, G: Gate>(
-    records: &Records<Body>,
+pub(crate) fn make_ends<R, V: Vaults, G: Gate>(
+    desk: &mut Desk<'_, R, V, G>,
     seat: &mut Seat<Body>,
     low: Endpoint,
     high: Endpoint,
     arena: u8,
-    vaults: &mut V,
-    tally: &mut Tally,
-    gate: &G,
 ) -> Result<(u16, u16), Unopened>
-    requires own { IsSeatOf records.now seat.old }
-    requires names { V.names vaults.old ≡ seat.old.shape.names }
-    requires tally { (arena < length (V.names vaults.old)) × (slice_get (V.names vaults.old) arena ≡ Some tally.old.id) }
-    ensures same { (V.names vaults.new ≡ V.names vaults.old) × (V.extent vaults.new ≡ V.extent vaults.old) }
+    requires at { IsSeatAt V.names desk.old seat.old }
+    requires arena { arena < length seat.old.shape.names }
+    ensures same { IsSameDesk V.names V.extent desk.old desk.new }
     ensures made { IfOk result (λ r. (l m : LotOf Body) × AreMade arena seat.old seat.new r.0 r.1 l m × (item_of l ≡ end_block low) × (item_of m ≡ end_block high)) }
-    ensures tally { OnOk result (tally.new ≡ record tally.old { taken = tally.old.taken + 2 * END_BYTES }) }
-    ensures refused { IfErr result (λ u. HasNow seat.old seat.old.lots seat.new × (tally.new ≡ tally.old) × (u.low ≡ low) × (u.high ≡ high)) }
-    ensures why { IfErr result (λ u. IsNoPair V.changes vaults.old vaults.new arena (2 * END_BYTES) (V.extent vaults.old) u.why) }
+    ensures taken { OnOk result (desk.new.tallies.now ≡ took arena (2 * END_BYTES) desk.old.tallies.now) }
+    ensures refused { IfErr result (λ u. HasNow seat.old seat.old.lots seat.new × (desk.new.tallies.now ≡ desk.old.tallies.now) × (u.low ≡ low) × (u.high ≡ high)) }
+    ensures why { IfErr result (λ u. IsNoPair V.changes desk.old.vaults.now desk.new.vaults.now arena (2 * END_BYTES) (V.extent desk.old.vaults.now) u.why) }
 {
-    let Some((r, t)) = claim_two(records, seat, arena, gate) else {
+    let Some((r, t)) = claim_two(desk.records, seat, arena, desk.gate) else {
         let why = Reason::NoRecord;
         return Err(Unopened { why, low, high });
     };
-    let fitted = fit_ends(records, seat, r, t, low, high, vaults, tally);
+    let tally = &mut desk.tallies[usize::from(arena)];
+    let fitted = fit_ends(desk.records, seat, r, t, low, high, desk.vaults, tally);
     let Err(unopened) = fitted else {
         return Ok((r, t));
     };
-    vacate_two(records, seat, r, t);
+    vacate_two(desk.records, seat, r, t);
     Err(unopened)
 }

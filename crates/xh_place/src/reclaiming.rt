@@ -1,24 +1,22 @@
 // What reclaiming does to the seat and the list: blocks that stand one after another are given up together.
-ghost use Rattle.std.specs.Prelude.{◌≡◌, ◌≢◌, ℕ, ◌+◌, ◌*◌, ◌/◌, ◌<◌, ◌≤◌, List, ◌++◌, length, take, drop, Some, None, vec_capacity};
+ghost use Rattle.std.specs.Prelude.{◌≡◌, ◌≢◌, ℕ, ◌+◌, ◌*◌, ◌/◌, ◌<◌, ◌≤◌, ◌++◌, length, take, drop, Some, None, vec_capacity};
 ghost use Rattle.xh_arena.specs.Views.{LotOf};
-ghost use Rattle.xh_model.specs.declared.limits.TheConstants.{MAX_HELD, MAX_RECORDS};
+ghost use Rattle.xh_model.specs.declared.limits.TheConstants.{MAX_HELD};
 ghost use Rattle.xh_model.specs.Keyed.{Among, Distinct, keys, value_at, without};
-ghost use Rattle.xh_records.specs.Seats.{IsSeatOf};
 ghost use Rattle.xh_place.specs.declared.body.Body.{Body};
 ghost use Rattle.xh_core.specs.declared.header.Header.{Header};
+ghost use Rattle.xh_place.specs.Desk.{IsSameDesk, IsSeatAt};
 ghost use Rattle.xh_place.specs.Ending.{HasGivenBack};
 ghost use Rattle.xh_place.specs.inner.Lots.{HasNow};
-ghost use Rattle.xh_place.specs.Places.{IsBlock, header_of, item_of, sum_of};
-ghost use Rattle.xh_place.specs.Tallies.{gave, ids_of};
+ghost use Rattle.xh_place.specs.Places.{IsBlock, sum_of};
 
 use crate::body::Body;
+use crate::desk::Desk;
 use crate::gate::Gate;
 use crate::lots::give_up;
 use crate::vaults::Vaults;
-use xh_arena::Tally;
 use xh_core::{Header, Kind};
-use xh_model::limits::MAX_RECORDS;
-use xh_records::{Records, Seat};
+use xh_records::Seat;
 
 // How many blocks are reclaimed together: the one at `from`, and the data blocks after it, at most so many.
 pub(crate) fn run(list: &[(u16, Header)], from: usize, most: u16) -> u16
@@ -45,51 +43,27 @@ pub(crate) fn cut_out(list: &mut Vec<(u16, Header)>, from: usize, end: usize)
     list.drain(from..end);
 }
 
-// A block's bytes go back, and its record is free.
-fn give_up_at<V: Vaults, G: Gate>(
-    records: &Records<Body>,
-    seat: &mut Seat<Body>,
-    r: u16,
-    vaults: &mut V,
-    tallies: &mut [Tally],
-    gate: &G,
-)
-    requires own { IsSeatOf records.now seat.old }
-    requires names { (V.names vaults.old ≡ seat.old.shape.names) × (ids_of tallies.old ≡ seat.old.shape.names) }
-    requires held { (l : LotOf Body) × (value_at r seat.old.lots ≡ Some l) × IsBlock seat.old.shape r l }
-    ensures same { (V.names vaults.new ≡ V.names vaults.old) × (V.extent vaults.new ≡ V.extent vaults.old) × (ids_of tallies.new ≡ ids_of tallies.old) }
-    ensures seat { HasNow seat.old (without r seat.old.lots) seat.new }
-    ensures back { (l : LotOf Body) → value_at r seat.old.lots ≡ Some l → tallies.new ≡ gave (r / MAX_RECORDS) l.len tallies.old }
-{
-    let tally = &mut tallies[usize::from(r / MAX_RECORDS)];
-    give_up(records, seat, r, vaults, tally, gate);
-}
-
 // The bytes of the blocks go back, and their records are free, one after another. It answers the bytes.
-pub(crate) fn give_up_all<V: Vaults, G: Gate>(
-    records: &Records<Body>,
+pub(crate) fn give_up_all<R, V: Vaults, G: Gate>(
+    desk: &mut Desk<'_, R, V, G>,
     seat: &mut Seat<Body>,
     blocks: &[(u16, Header)],
-    vaults: &mut V,
-    tallies: &mut [Tally],
-    gate: &G,
 ) -> u64
-    requires own { IsSeatOf records.now seat.old }
-    requires names { (V.names vaults.old ≡ seat.old.shape.names) × (ids_of tallies.old ≡ seat.old.shape.names) }
+    requires at { IsSeatAt V.names desk.old seat.old }
     requires distinct { Distinct (keys blocks.now) }
     requires held { (r : ℕ) (h : Header) → value_at r blocks.now ≡ Some h → (l : LotOf Body) × (value_at r seat.old.lots ≡ Some l) × IsBlock seat.old.shape r l × (h.len ≡ l.len) }
     requires few { length blocks.now ≤ MAX_HELD }
-    ensures same { (V.names vaults.new ≡ V.names vaults.old) × (V.extent vaults.new ≡ V.extent vaults.old) × (ids_of tallies.new ≡ ids_of tallies.old) }
+    ensures same { IsSameDesk V.names V.extent desk.old desk.new }
     ensures seat { HasNow seat.old seat.new.lots seat.new }
     ensures gone { (r : ℕ) → Among (keys blocks.now) r → value_at r seat.new.lots ≡ None }
     ensures others { (r : ℕ) → (Among (keys blocks.now) r → ⊥) → value_at r seat.new.lots ≡ value_at r seat.old.lots }
     ensures bytes { (result ≡ sum_of blocks.now) × (result ≤ length blocks.now * 4294967295) }
-    ensures back { HasGivenBack result tallies.old tallies.new }
+    ensures back { HasGivenBack result desk.old.tallies.now desk.new.tallies.now }
 {
     let mut bytes = 0;
     for k in 0..blocks.len() {
         let (r, header) = blocks[k];
-        give_up_at(records, seat, r, vaults, tallies, gate);
+        give_up(desk, seat, r);
         bytes += u64::from(header.len);
     }
     bytes

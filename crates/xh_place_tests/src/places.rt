@@ -5,12 +5,27 @@ ghost use Rattle.xh_place.specs.Places.{IsPlaceOf};
 ghost use Rattle.xh_place.specs.Tallies.{ids_of};
 ghost use Rattle.xh_records.specs.Seats.{IsSeatOf};
 
+// What a call of a place works on that moves no bytes of an account.
+macro_rules! desk {
+    ($own:expr, $rt:expr, $vaults:expr, $gate:expr) => {
+        Desk {
+            rt: $rt,
+            records: &$own.records,
+            channels: &$own.channels,
+            vaults: $vaults,
+            tallies: &mut [],
+            gate: $gate,
+        }
+    };
+}
+
 mod answers;
 mod calls;
-mod desk;
 mod ends;
+mod flat;
 mod growths;
 mod notes;
+mod pair;
 mod pairs;
 mod points;
 mod threads;
@@ -21,16 +36,18 @@ use std::alloc::Global;
 use std::collections::LinkedList;
 use vaults::Plain;
 use xh_arena::{Tally, Vault};
+use xh_channel::Channels;
 use xh_core::{Block, Refused};
-use xh_place::{Body, OpenGate, Place};
+use xh_place::{Body, Desk, OpenGate, Place};
 use xh_records::{Records, Seat};
 
-/// One arena and one account, and two places, of which the first runs.
+/// One arena and one account, all channels, and two places, of which the first runs.
 #[derive(Drop)]
 struct Bench {
     records: Records<Body>,
     vaults: Plain,
     tallies: Vec<Tally>,
+    channels: Channels,
     first: Place,
     second: Place,
     ghost own: { IsPlaceOf records first × IsPlaceOf records second },
@@ -42,23 +59,34 @@ struct Bench {
 /// Calls of the first place.
 impl Bench {
     fn alloc(&mut self, alloc: Global, n: u32, arena: u32) -> Result<Block, Refused> {
-        let tallies = self.tallies.as_mut_slice();
-        let vaults = &mut self.vaults;
-        self.first
-            .alloc(alloc, &self.records, n, arena, vaults, tallies, &OpenGate)
+        flat::alloc(
+            alloc,
+            &mut self.first,
+            &self.records,
+            &self.channels,
+            &mut self.vaults,
+            self.tallies.as_mut_slice(),
+            &OpenGate,
+            n,
+            arena,
+        )
     }
 
     fn split(&mut self, alloc: Global, r: u16, k: u32) -> Result<(Block, Block), Refused> {
-        let vaults = &mut self.vaults;
-        self.first
-            .split(alloc, &self.records, r, k, vaults, &OpenGate)
+        let mut desk = desk!(self, &(), &mut self.vaults, &OpenGate);
+        self.first.split(alloc, &mut desk, r, k)
     }
 
     fn free(&mut self, r: u16) -> Result<u32, Refused> {
-        let tallies = self.tallies.as_mut_slice();
-        let vaults = &mut self.vaults;
-        self.first
-            .free(&self.records, r, vaults, tallies, &OpenGate)
+        flat::free(
+            &mut self.first,
+            &self.records,
+            &self.channels,
+            &mut self.vaults,
+            self.tallies.as_mut_slice(),
+            &OpenGate,
+            r,
+        )
     }
 
     fn read(&mut self, r: u16, at: u32, out: &mut [u8]) -> Result<(), Refused> {
@@ -161,7 +189,7 @@ fn alone(alloc: Global, vault: Vault) -> Option<Plain>
 }
 
 /// The bench of a new arena, unless a growth was refused.
-fn make_bench(alloc: Global, size: u32, count: u16) -> Option<Bench>
+fn make_bench(alloc: Global, size: u32, count: u16, depth: u8) -> Option<Bench>
     requires { (0 < count) × (count ≤ 256) }
 {
     let Parts {
@@ -176,11 +204,13 @@ fn make_bench(alloc: Global, size: u32, count: u16) -> Option<Bench>
     let (Some(mut first), Some(second), Some(vaults)) = (first, second, alone(alloc, vault)) else {
         return None;
     };
+    let channels = Channels::new(alloc, depth).ok()?;
     first.start(&records);
     Some(Bench {
         records,
         vaults,
         tallies,
+        channels,
         first,
         second,
     })

@@ -11,7 +11,7 @@ use crate::shared::Shared;
 use std::alloc::Global;
 use std::sync::Wait;
 use xh_core::{Block, Refused};
-use xh_place::Gate;
+use xh_place::{Desk, Gate};
 
 impl<N: Names> Held<N> {
     pub(crate) fn alloc<R: Wait, G: Gate>(
@@ -31,7 +31,8 @@ impl<N: Names> Held<N> {
         self.start(p)?;
         let mut vaults = shared.vaults(rt);
         let tallies = account.tallies.as_mut_slice();
-        let answer = self.place.alloc(alloc, &shared.records, n, arena, &mut vaults, tallies, gate);
+        let mut desk = desk!(rt, shared, &mut vaults, tallies, gate);
+        let answer = self.place.alloc(alloc, &mut desk, n, arena);
         self.teller.tell(&shared.glances, &self.place);
         answer
     }
@@ -50,9 +51,8 @@ impl<N: Names> Held<N> {
     {
         self.start(p)?;
         let mut vaults = shared.vaults(rt);
-        let answer = self
-            .place
-            .split(alloc, &shared.records, r, k, &mut vaults, gate);
+        let mut desk = desk!(rt, shared, &mut vaults, &mut [], gate);
+        let answer = self.place.split(alloc, &mut desk, r, k);
         self.teller.tell(&shared.glances, &self.place);
         answer
     }
@@ -101,9 +101,8 @@ impl<N: Names> Held<N> {
         self.start(p)?;
         let mut vaults = shared.vaults(rt);
         let tallies = account.tallies.as_mut_slice();
-        let answer = self
-            .place
-            .free(&shared.records, r, &mut vaults, tallies, gate);
+        let mut desk = desk!(rt, shared, &mut vaults, tallies, gate);
+        let answer = self.place.free(&mut desk, r);
         self.teller.tell(&shared.glances, &self.place);
         answer
     }

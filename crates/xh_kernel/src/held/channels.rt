@@ -21,7 +21,7 @@ use crate::shared::Shared;
 use std::sync::Wait;
 use xh_channel::{Endpoint, Spot};
 use xh_core::{Block, Contract, Refused};
-use xh_place::{Gate, Unopened};
+use xh_place::{Desk, Gate, Unopened};
 
 /// A channel whose side 1 is on its way: both ends' blocks, and the spot of side 0.
 #[derive(Drop)]
@@ -94,12 +94,10 @@ impl<N: Names> Held<N> {
     {
         self.test_open(shared, p, arena)?;
         let (low, high) = open_channel(rt, shared, contract)?;
-        let records = &shared.records;
         let mut vaults = shared.vaults(rt);
         let tallies = account.tallies.as_mut_slice();
-        let opened = self
-            .place
-            .open(records, low, high, arena, &mut vaults, tallies, gate);
+        let mut desk = desk!(rt, shared, &mut vaults, tallies, gate);
+        let opened = self.place.open(&mut desk, low, high, arena);
         self.teller.tell(&shared.glances, &self.place);
         finish(rt, shared, opened)
     }
@@ -149,17 +147,8 @@ impl<N: Names> Held<N> {
     {
         let mut vaults = shared.vaults(rt);
         let tallies = account.tallies.as_mut_slice();
-        let answer = self.place.accept_end(
-            rt,
-            &shared.records,
-            &shared.channels,
-            q,
-            r,
-            2 * spot.channel + 1,
-            &mut vaults,
-            tallies,
-            gate,
-        );
+        let mut desk = desk!(rt, shared, &mut vaults, tallies, gate);
+        let answer = self.place.accept_end(&mut desk, q, r, 2 * spot.channel + 1);
         self.teller.tell(&shared.glances, &self.place);
         answer
     }

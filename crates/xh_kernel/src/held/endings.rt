@@ -8,7 +8,7 @@ use crate::names::Names;
 use crate::shared::Shared;
 use std::sync::Wait;
 use xh_core::Refused;
-use xh_place::Gate;
+use xh_place::{Desk, Gate};
 
 impl<N: Names> Held<N> {
     pub(crate) fn close<R: Wait, G: Gate>(
@@ -26,15 +26,8 @@ impl<N: Names> Held<N> {
         self.start(p)?;
         let mut vaults = shared.vaults(rt);
         let tallies = account.tallies.as_mut_slice();
-        let answer = self.place.close_end(
-            rt,
-            &shared.records,
-            &shared.channels,
-            e,
-            &mut vaults,
-            tallies,
-            gate,
-        );
+        let mut desk = desk!(rt, shared, &mut vaults, tallies, gate);
+        let answer = self.place.close_end(&mut desk, e);
         self.teller.tell(&shared.glances, &self.place);
         answer
     }
@@ -55,15 +48,8 @@ impl<N: Names> Held<N> {
         self.status_of(p).check_stop()?;
         let mut vaults = shared.vaults(rt);
         let tallies = account.tallies.as_mut_slice();
-        let answer = self.place.stop(
-            rt,
-            &shared.records,
-            &shared.channels,
-            budget,
-            &mut vaults,
-            tallies,
-            gate,
-        );
+        let mut desk = desk!(rt, shared, &mut vaults, tallies, gate);
+        let answer = self.place.stop(&mut desk, budget);
         self.teller.tell(&shared.glances, &self.place);
         if let Some(spot) = self.waits.take() {
             shared.channels.rouse(rt, spot);

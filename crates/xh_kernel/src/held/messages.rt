@@ -8,7 +8,7 @@ use crate::shared::Shared;
 use std::sync::Wait;
 use xh_channel::Spot;
 use xh_core::Refused;
-use xh_place::{Gate, Taken};
+use xh_place::{Desk, Gate, Taken};
 
 /// What a look for a message found: the answer, or that none waits yet, and where to wait for it, and
 /// the turn that was read there before the look.
@@ -32,7 +32,8 @@ impl<N: Names> Held<N> {
         ensures { Gives p e blocks.now self.old.place self.new.place result }
     {
         self.start(p)?;
-        let answer = self.place.give(rt, &shared.records, &shared.channels, e, tag, blocks, gate);
+        let desk = desk!(rt, shared, &mut (), &mut [], gate);
+        let answer = self.place.give(&desk, e, tag, blocks);
         self.teller.tell(&shared.glances, &self.place);
         answer
     }
@@ -48,9 +49,8 @@ impl<N: Names> Held<N> {
         ensures { Takes p e self.old.place self.new.place result }
     {
         self.start(p)?;
-        let answer = self
-            .place
-            .take(rt, &shared.records, &shared.channels, e, gate);
+        let desk = desk!(rt, shared, &mut (), &mut [], gate);
+        let answer = self.place.take(&desk, e);
         self.teller.tell(&shared.glances, &self.place);
         answer
     }

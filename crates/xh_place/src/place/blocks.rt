@@ -1,31 +1,32 @@
 //! Data blocks of a place.
-ghost use Rattle.std.specs.Prelude.{◌≡◌, ◌⊎◌, ℕ, ◌+◌, ◌/◌, ◌%◌, ◌<◌, ◌≤◌, [], ◌∷◌, ◌++◌, length, replicate, Some, Err, IfOk, IfErr, OnOk, OnErr, MatchOption};
+ghost use Rattle.std.specs.Prelude.{◌≡◌, ◌⊎◌, ℕ, ◌+◌, ◌/◌, ◌%◌, ◌<◌, ◌≤◌, ◌∷◌, ◌++◌, length, Some, Err, IfErr, OnErr, MatchOption};
 ghost use Rattle.xh_core.specs.Calls.{alloc_tests, data_tests, range_tests, split_tests};
 ghost use Rattle.xh_core.specs.Headers.{len_in};
 ghost use Rattle.xh_core.specs.Refusing.{Tested, first_refusal};
 ghost use Rattle.xh_core.specs.Space.{rounded};
 ghost use Rattle.xh_model.specs.declared.limits.TheConstants.{MAX_BYTES, MAX_RECORDS, UNIT};
 ghost use Rattle.xh_model.specs.Arena.{IsGoodCut};
-ghost use Rattle.xh_model.specs.Keyed.{value_at, put, without};
+ghost use Rattle.xh_model.specs.Keyed.{value_at, without};
 ghost use Rattle.xh_core.specs.declared.header.Kind.TheVariants as kind;
-ghost use Rattle.xh_place.specs.Bodies.{bytes, kind_of, part, patched};
-ghost use Rattle.xh_place.specs.Places.{Item, IsPlaceOf, IsSamePlace, found, with_blocks};
-ghost use Rattle.xh_place.specs.Splitting.{IsSplit};
+ghost use Rattle.xh_place.specs.Bodies.{bytes, kind_of};
+ghost use Rattle.xh_place.specs.Calls.{Allocates, Frees, Reads, Splits, Writes};
+ghost use Rattle.xh_place.specs.Desk.{HasVaults, IsAt, IsSameDesk, StaysAt};
+ghost use Rattle.xh_place.specs.Places.{Item, IsPlaceOf, found, with_blocks};
 ghost use Rattle.xh_place.specs.Starts.{start};
-ghost use Rattle.xh_place.specs.Tallies.{ids_of, took, gave};
+ghost use Rattle.xh_place.specs.Tallies.{gave};
 ghost use Rattle.xh_place.specs.Vaults.{IsNoBlock};
 
 use crate::body::Body;
 use crate::bytes::{read_lot, write_lot};
+use crate::desk::Desk;
 use crate::gate::Gate;
 use crate::list::{remove, replace};
 use crate::lots::{cut_block, give_up, make_block};
 use crate::place::{Place, check_start};
 use crate::vaults::Vaults;
 use std::alloc::Global;
-use xh_arena::Tally;
 use xh_core::{Block, Header, Kind, Refused};
-use xh_model::limits::{MAX_RECORDS, UNIT};
+use xh_model::limits::UNIT;
 use xh_records::Records;
 
 // In multiples of 16.
@@ -42,47 +43,29 @@ impl Place {
     /// Gives a new data block of `n` bytes, rounded up to a multiple of 16, all of them zero, at the end of
     /// the list. Ended, NoArena, BadSize where `n` is 0 or more than an arena has, NoRecord, OutOfMemory
     /// where a growth was refused, NoSpace and Worn, in this order.
-    pub fn alloc<V: Vaults, G: Gate>(
+    pub fn alloc<R, V: Vaults, G: Gate>(
         &mut self,
         alloc: Global,
-        records: &Records<Body>,
+        desk: &mut Desk<'_, R, V, G>,
         n: u32,
         arena: u32,
-        vaults: &mut V,
-        tallies: &mut [Tally],
-        gate: &G,
     ) -> Result<Block, Refused>
-        requires own { IsPlaceOf records.now self.old }
-        requires names { (V.names vaults.old ≡ self.old.shape.names) × (ids_of tallies.old ≡ self.old.shape.names) }
-        ensures same { (V.names vaults.new ≡ V.names vaults.old) × (V.extent vaults.new ≡ V.extent vaults.old) × (ids_of tallies.new ≡ ids_of tallies.old) }
-        ensures place { IsSamePlace self.old self.new }
-        ensures made { IfOk result (λ b. self.new ≡ with_blocks self.old (self.old.blocks ++ (b.rec, record { len = b.len; content = bytes (replicate b.len 0) }) ∷ [])) }
-        ensures block { IfOk result (λ b. (b.len ≡ rounded n) × (b.rec / MAX_RECORDS ≡ arena)) }
-        ensures taken { IfOk result (λ b. tallies.new ≡ took arena b.len tallies.old) }
-        ensures refused { OnErr result ((self.new ≡ self.old) × (tallies.new ≡ tallies.old)) }
-        ensures why { MatchOption (first_refusal (start self.old.state ++ alloc_tests arena (length self.old.shape.names) n (V.extent vaults.old)))
-            (IfErr result (IsNoBlock V.changes vaults.old vaults.new arena (rounded n))) (λ refused. (result ≡ Err refused) × (vaults.new ≡ vaults.old)) }
+        requires at { IsAt V.names desk.old self.old }
+        ensures same { StaysAt V.names V.extent desk.old desk.new self.old self.new }
+        ensures made { Allocates n arena self.old self.new desk.old.tallies.now desk.new.tallies.now result }
+        ensures why { MatchOption (first_refusal (start self.old.state ++ alloc_tests arena (length self.old.shape.names) n (V.extent desk.old.vaults.now)))
+            (IfErr result (IsNoBlock V.changes desk.old.vaults.now desk.new.vaults.now arena (rounded n))) (λ refused. (result ≡ Err refused) × (desk.new.vaults.now ≡ desk.old.vaults.now)) }
     {
         check_start(self.state)?;
-        if arena >= u32::from(vaults.arenas()) {
+        if arena >= u32::from(desk.vaults.arenas()) {
             return Err(Refused::NoArena);
         }
-        if n == 0 || n > vaults.size() {
+        if n == 0 || n > desk.vaults.size() {
             return Err(Refused::BadSize);
         }
         let arena = arena as u8;
         let len = round_up(n);
-        let tally = &mut tallies[usize::from(arena)];
-        let rec = make_block(
-            alloc,
-            records,
-            &mut self.seat,
-            len,
-            arena,
-            vaults,
-            tally,
-            gate,
-        )?;
+        let rec = make_block(alloc, desk, &mut self.seat, len, arena)?;
         self.list.push_reserved((
             rec,
             Header {
@@ -95,26 +78,21 @@ impl Place {
     }
 
     // A block's bytes go back, and its record is free. It answers the bytes.
-    fn give_up<V: Vaults, G: Gate>(
+    fn give_up<R, V: Vaults, G: Gate>(
         &mut self,
-        records: &Records<Body>,
+        desk: &mut Desk<'_, R, V, G>,
         r: u16,
         header: Header,
-        vaults: &mut V,
-        tallies: &mut [Tally],
-        gate: &G,
     ) -> u32
-        requires own { IsPlaceOf records.now self.old }
-        requires names { (V.names vaults.old ≡ self.old.shape.names) × (ids_of tallies.old ≡ self.old.shape.names) }
+        requires at { IsAt V.names desk.old self.old }
         requires listed { found self.old r ≡ Some header }
-        ensures same { (V.names vaults.new ≡ V.names vaults.old) × (V.extent vaults.new ≡ V.extent vaults.old) × (ids_of tallies.new ≡ ids_of tallies.old) }
+        ensures same { IsSameDesk V.names V.extent desk.old desk.new }
         ensures list { self.new ≡ with_blocks self.old (without r self.old.blocks) }
         ensures bytes { result ≡ header.len }
-        ensures back { tallies.new ≡ gave (r / MAX_RECORDS) result tallies.old }
+        ensures back { desk.new.tallies.now ≡ gave (r / MAX_RECORDS) result desk.old.tallies.now }
     {
         remove(&mut self.list, r);
-        let tally = &mut tallies[usize::from(r / MAX_RECORDS)];
-        give_up(records, &mut self.seat, r, vaults, tally, gate);
+        give_up(desk, &mut self.seat, r);
         self.total -= u64::from(header.len);
         header.len
     }
@@ -134,25 +112,19 @@ impl Place {
     }
 
     /// A data block's bytes go back, and its record is free. It answers the bytes.
-    pub fn free<V: Vaults, G: Gate>(
+    pub fn free<R, V: Vaults, G: Gate>(
         &mut self,
-        records: &Records<Body>,
+        desk: &mut Desk<'_, R, V, G>,
         r: u16,
-        vaults: &mut V,
-        tallies: &mut [Tally],
-        gate: &G,
     ) -> Result<u32, Refused>
-        requires own { IsPlaceOf records.now self.old }
-        requires names { (V.names vaults.old ≡ self.old.shape.names) × (ids_of tallies.old ≡ self.old.shape.names) }
-        ensures same { (V.names vaults.new ≡ V.names vaults.old) × (V.extent vaults.new ≡ V.extent vaults.old) × (ids_of tallies.new ≡ ids_of tallies.old) }
-        ensures place { IsSamePlace self.old self.new }
-        ensures freed { OnOk result (self.new ≡ with_blocks self.old (without r self.old.blocks)) }
-        ensures back { IfOk result (λ n. tallies.new ≡ gave (r / MAX_RECORDS) n tallies.old) }
+        requires at { IsAt V.names desk.old self.old }
+        ensures same { StaysAt V.names V.extent desk.old desk.new self.old self.new }
+        ensures freed { Frees r self.old self.new desk.old.tallies.now desk.new.tallies.now result }
+        ensures untouched { OnErr result (desk.new.vaults.now ≡ desk.old.vaults.now) }
         ensures bytes { Tested (start self.old.state ++ data_tests (found self.old r)) result (λ n. n ≡ len_in (found self.old r)) }
-        ensures refused { OnErr result ((self.new ≡ self.old) × (vaults.new ≡ vaults.old) × (tallies.new ≡ tallies.old)) }
     {
         let header = self.test_data(r)?;
-        Ok(self.give_up(records, r, header, vaults, tallies, gate))
+        Ok(self.give_up(desk, r, header))
     }
 
     // The tests of a call on `count` bytes of a data block from `at` on.
@@ -172,26 +144,22 @@ impl Place {
     /// its place in the list, and the tail, at its end. Ended, NotOwned, NotData, BadCut where `k` is 0, no
     /// multiple of 16 or not less than the block has, NoRecord, and OutOfMemory where a growth was refused,
     /// in this order.
-    pub fn split<V: Vaults, G: Gate>(
+    pub fn split<R, V: Vaults, G: Gate>(
         &mut self,
         alloc: Global,
-        records: &Records<Body>,
+        desk: &mut Desk<'_, R, V, G>,
         r: u16,
         k: u32,
-        vaults: &mut V,
-        gate: &G,
     ) -> Result<(Block, Block), Refused>
-        requires own { IsPlaceOf records.now self.old }
-        requires names { V.names vaults.old ≡ self.old.shape.names }
-        ensures same { (V.names vaults.new ≡ V.names vaults.old) × (V.extent vaults.new ≡ V.extent vaults.old) }
-        ensures place { IsSamePlace self.old self.new }
-        ensures cut { IfOk result (λ ends. IsSplit self.old self.new r k ends.0 ends.1) }
-        ensures refused { OnErr result ((self.new ≡ self.old) × (vaults.new ≡ vaults.old)) }
+        requires at { HasVaults V.names desk.old self.old }
+        ensures same { StaysAt V.names V.extent desk.old desk.new self.old self.new }
+        ensures cut { Splits r k self.old self.new desk.old.tallies.now desk.new.tallies.now result }
+        ensures untouched { OnErr result (desk.new.vaults.now ≡ desk.old.vaults.now) }
         ensures why { MatchOption (first_refusal (start self.old.state ++ split_tests (found self.old r) k)) (IfErr result (λ e. (e ≡ Refused.NoRecord) ⊎ (e ≡ Refused.OutOfMemory)))
             (λ refused. result ≡ Err refused) }
     {
         let len = self.test_cut(r, k)?;
-        let rec = cut_block(alloc, records, &mut self.seat, r, k, vaults, gate)?;
+        let rec = cut_block(alloc, desk, &mut self.seat, r, k)?;
         let kind = Kind::Data;
         replace(&mut self.list, r, Header { len: k, kind });
         let len = len - k;
@@ -220,11 +188,8 @@ impl Place {
         at: u32,
         out: &mut [u8],
     ) -> Result<(), Refused>
-        requires own { IsPlaceOf records.now self.old }
-        ensures same { self.new ≡ self.old }
-        ensures read { Tested (start self.old.state ++ range_tests (found self.old r) at (length out.old)) result
-            (λ _. (x : Item) × (value_at r self.old.blocks ≡ Some x) × (out.new ≡ part at (length out.old) x.content)) }
-        ensures refused { OnErr result (out.new ≡ out.old) }
+        requires { IsPlaceOf records.now self.old }
+        ensures { Reads r at self.old self.new out.old out.new result }
     {
         self.test_range(r, at, out.len())?;
         read_lot(records, &mut self.seat, r, at as usize, out);
@@ -240,11 +205,8 @@ impl Place {
         at: u32,
         bytes: &[u8],
     ) -> Result<(), Refused>
-        requires own { IsPlaceOf records.now self.old }
-        ensures place { IsSamePlace self.old self.new }
-        ensures written { Tested (start self.old.state ++ range_tests (found self.old r) at (length bytes.now)) result
-            (λ _. (x : Item) × (value_at r self.old.blocks ≡ Some x) × (self.new ≡ with_blocks self.old (put r (record x { content = patched at bytes.now x.content }) self.old.blocks))) }
-        ensures refused { OnErr result (self.new ≡ self.old) }
+        requires { IsPlaceOf records.now self.old }
+        ensures { Writes r at bytes.now self.old self.new result }
     {
         self.test_range(r, at, bytes.len())?;
         write_lot(records, &mut self.seat, r, at as usize, bytes);

@@ -7,24 +7,21 @@ ghost use Rattle.xh_model.specs.declared.limits.TheConstants.{DIRECTIONS};
 ghost use Rattle.xh_model.specs.Keyed.{value_at};
 ghost use Rattle.xh_records.specs.Seats.{IsRecord};
 ghost use Rattle.xh_place.specs.Bodies.{kind_of};
+ghost use Rattle.xh_place.specs.Desk.{IsAt, IsSameDesk, StaysAt};
 ghost use Rattle.xh_place.specs.Ending.{HasGivenBack, IsStopped, IsSwept, IsSweptBy, ending};
 ghost use Rattle.xh_place.specs.Ends.{RefusedOr, IsTooLate, ending_again};
 ghost use Rattle.xh_place.specs.inner.Reclaiming.{IsSweptLate, awake};
-ghost use Rattle.xh_place.specs.Places.{Item, IsPlaceOf, IsSamePlace, total_of, with_blocks, with_list};
+ghost use Rattle.xh_place.specs.Places.{Item, IsSamePlace, total_of, with_blocks, with_list};
 ghost use Rattle.xh_place.specs.Starts.{stop};
-ghost use Rattle.xh_place.specs.Tallies.{ids_of};
 
-use crate::body::Body;
+use crate::desk::Desk;
 use crate::gate::Gate;
 use crate::place::{Place, check_stop};
 use crate::reclaiming::{cut_out, give_up_all, run};
 use crate::vaults::Vaults;
 use std::sync::Wait;
-use xh_arena::Tally;
-use xh_channel::Channels;
 use xh_core::{Kind, Refused, Status};
 use xh_model::limits::MAX_BUDGET;
-use xh_records::Records;
 
 // The bytes, or how many blocks are left.
 pub(super) fn reclaimed(bytes: u64, left: u16) -> Result<u64, Refused>
@@ -84,30 +81,26 @@ impl Place {
     }
 
     // The block at `from` of the list is given up, and the data blocks after it, at most so many. It answers the bytes and how many they were.
-    fn give_up_run<V: Vaults, G: Gate>(
+    fn give_up_run<R, V: Vaults, G: Gate>(
         &mut self,
-        records: &Records<Body>,
+        desk: &mut Desk<'_, R, V, G>,
         from: usize,
         most: u16,
-        vaults: &mut V,
-        tallies: &mut [Tally],
-        gate: &G,
     ) -> (u64, u16)
-        requires own { IsPlaceOf records.now self.old }
-        requires names { (V.names vaults.old ≡ self.old.shape.names) × (ids_of tallies.old ≡ self.old.shape.names) }
+        requires at { IsAt V.names desk.old self.old }
         requires alive { is_over self.old.state ≢ true }
         requires some { (from < length self.old.blocks) × (0 < most) }
-        ensures same { (V.names vaults.new ≡ V.names vaults.old) × (V.extent vaults.new ≡ V.extent vaults.old) × (ids_of tallies.new ≡ ids_of tallies.old) }
+        ensures same { IsSameDesk V.names V.extent desk.old desk.new }
         ensures count { (0 < result.1) × (result.1 ≤ most) × (from + result.1 ≤ length self.old.blocks) }
         ensures list { self.new ≡ with_blocks self.old (take from self.old.blocks ++ drop (from + result.1) self.old.blocks) }
         ensures bytes { (result.0 + total_of self.new.blocks ≡ total_of self.old.blocks) × (result.0 ≤ result.1 * 4294967295) }
-        ensures back { HasGivenBack result.0 tallies.old tallies.new }
+        ensures back { HasGivenBack result.0 desk.old.tallies.now desk.new.tallies.now }
     {
         let list = self.list.as_slice();
         let count = run(list, from, most);
         let end = from + usize::from(count);
         let blocks = &list[from..end];
-        let bytes = give_up_all(records, &mut self.seat, blocks, vaults, tallies, gate);
+        let bytes = give_up_all(desk, &mut self.seat, blocks);
         cut_out(&mut self.list, from, end);
         self.total -= bytes;
         (bytes, count)
@@ -117,28 +110,22 @@ impl Place {
     // it, where it is an endpoint, comes to the end of the list. It answers the bytes and how many blocks went.
     fn reclaim<R: Wait, V: Vaults, G: Gate>(
         &mut self,
-        rt: &R,
-        records: &Records<Body>,
-        channels: &Channels,
+        desk: &mut Desk<'_, R, V, G>,
         from: usize,
         most: u16,
-        vaults: &mut V,
-        tallies: &mut [Tally],
-        gate: &G,
     ) -> (u64, u16)
-        requires own { IsPlaceOf records.now self.old }
-        requires names { (V.names vaults.old ≡ self.old.shape.names) × (ids_of tallies.old ≡ self.old.shape.names) }
+        requires at { IsAt V.names desk.old self.old }
         requires alive { is_over self.old.state ≢ true }
         requires some { (from < length self.old.blocks) × (0 < most) }
-        ensures same { (V.names vaults.new ≡ V.names vaults.old) × (V.extent vaults.new ≡ V.extent vaults.old) × (ids_of tallies.new ≡ ids_of tallies.old) }
+        ensures same { IsSameDesk V.names V.extent desk.old desk.new }
         ensures count { (0 < result.1) × (result.1 ≤ most) × (result.0 ≤ result.1 * 4294967295) }
         ensures list { self.new ≡ with_list self.old self.new }
         ensures swept { IsSweptBy from result.1 self.old self.new result.0 }
-        ensures back { HasGivenBack result.0 tallies.old tallies.new }
+        ensures back { HasGivenBack result.0 desk.old.tallies.now desk.new.tallies.now }
     {
         let (r, kind) = self.at(from);
-        self.drain_end(rt, records, channels, r, kind, gate);
-        self.give_up_run(records, from, most, vaults, tallies, gate)
+        self.drain_end(desk, r, kind);
+        self.give_up_run(desk, from, most)
     }
 
     /// The blocks of the list from `from` on go, as far as the budget goes; what waits for an endpoint
@@ -146,29 +133,21 @@ impl Place {
     /// are left from there.
     pub fn sweep<R: Wait, V: Vaults, G: Gate>(
         &mut self,
-        rt: &R,
-        records: &Records<Body>,
-        channels: &Channels,
+        desk: &mut Desk<'_, R, V, G>,
         from: usize,
         budget: u16,
-        vaults: &mut V,
-        tallies: &mut [Tally],
-        gate: &G,
     ) -> (u64, usize)
-        requires own { IsPlaceOf records.now self.old }
-        requires names { (V.names vaults.old ≡ self.old.shape.names) × (ids_of tallies.old ≡ self.old.shape.names) }
-        ensures same { (V.names vaults.new ≡ V.names vaults.old) × (V.extent vaults.new ≡ V.extent vaults.old) × (ids_of tallies.new ≡ ids_of tallies.old) }
+        requires at { IsAt V.names desk.old self.old }
+        ensures same { IsSameDesk V.names V.extent desk.old desk.new }
         ensures list { self.new ≡ with_list self.old self.new }
         ensures swept { IsSwept from budget self.old self.new result.0 result.1 }
-        ensures back { HasGivenBack result.0 tallies.old tallies.new }
+        ensures back { HasGivenBack result.0 desk.old.tallies.now desk.new.tallies.now }
     {
         let mut bytes = 0;
         let mut used = 0;
         while used < budget && self.left(from) > 0 {
             let most = budget - used;
-            let (more, count) = self.reclaim(
-                rt, records, channels, from, most, vaults, tallies, gate,
-            );
+            let (more, count) = self.reclaim(desk, from, most);
             bytes += more;
             used += count;
         }
@@ -179,24 +158,17 @@ impl Place {
     /// Ended where the place is Vacant or Ended; Unfinished with the blocks left, and then the process is ending.
     pub fn stop<R: Wait, V: Vaults, G: Gate>(
         &mut self,
-        rt: &R,
-        records: &Records<Body>,
-        channels: &Channels,
+        desk: &mut Desk<'_, R, V, G>,
         budget: u16,
-        vaults: &mut V,
-        tallies: &mut [Tally],
-        gate: &G,
     ) -> Result<u64, Refused>
-        requires own { IsPlaceOf records.now self.old }
-        requires names { (V.names vaults.old ≡ self.old.shape.names) × (ids_of tallies.old ≡ self.old.shape.names) }
-        ensures same { (V.names vaults.new ≡ V.names vaults.old) × (V.extent vaults.new ≡ V.extent vaults.old) × (ids_of tallies.new ≡ ids_of tallies.old) }
-        ensures place { IsSamePlace self.old self.new }
-        ensures stopped { RefusedOr (stop self.old.state) result ((self.new ≡ self.old) × (tallies.new ≡ tallies.old))
-            ((bytes : ℕ) × IsStopped budget self.old self.new bytes result × HasGivenBack bytes tallies.old tallies.new) }
+        requires at { IsAt V.names desk.old self.old }
+        ensures same { StaysAt V.names V.extent desk.old desk.new self.old self.new }
+        ensures stopped { RefusedOr (stop self.old.state) result ((self.new ≡ self.old) × (desk.new.tallies.now ≡ desk.old.tallies.now))
+            ((bytes : ℕ) × IsStopped budget self.old self.new bytes result × HasGivenBack bytes desk.old.tallies.now desk.new.tallies.now) }
     {
         check_stop(self.state())?;
         self.set_state(Status::Ending);
-        let (bytes, _left) = self.sweep(rt, records, channels, 0, budget, vaults, tallies, gate);
+        let (bytes, _left) = self.sweep(desk, 0, budget);
         let left = self.left(0);
         self.set_state(ending(left));
         reclaimed(bytes, left)
@@ -205,25 +177,19 @@ impl Place {
     // An endpoint comes that nobody is here for: it is swept at once.
     pub(super) fn turn_away<R: Wait, V: Vaults, G: Gate>(
         &mut self,
-        rt: &R,
-        records: &Records<Body>,
-        channels: &Channels,
+        desk: &mut Desk<'_, R, V, G>,
         r: u16,
         direction: u8,
-        vaults: &mut V,
-        tallies: &mut [Tally],
-        gate: &G,
     )
-        requires own { IsPlaceOf records.now self.old × IsRecord records.now.shape r × (direction < DIRECTIONS) }
-        requires names { (V.names vaults.old ≡ self.old.shape.names) × (ids_of tallies.old ≡ self.old.shape.names) }
+        requires at { IsAt V.names desk.old self.old × IsRecord desk.old.records.now.shape r × (direction < DIRECTIONS) }
         requires taken { self.old.state ≢ status.Vacant }
-        ensures same { (V.names vaults.new ≡ V.names vaults.old) × (V.extent vaults.new ≡ V.extent vaults.old) × (ids_of tallies.new ≡ ids_of tallies.old) }
+        ensures same { IsSameDesk V.names V.extent desk.old desk.new }
         ensures place { IsSamePlace self.old self.new }
-        ensures swept { ((self.new ≡ self.old) × (tallies.new ≡ tallies.old)) ⊎ ((bytes : ℕ) × IsTooLate direction r self.old self.new bytes × HasGivenBack bytes tallies.old tallies.new) }
+        ensures swept { ((self.new ≡ self.old) × (desk.new.tallies.now ≡ desk.old.tallies.now)) ⊎ ((bytes : ℕ) × IsTooLate direction r self.old self.new bytes × HasGivenBack bytes desk.old.tallies.now desk.new.tallies.now) }
     {
         let state = self.state();
         self.wake();
-        self.sweep_late(rt, records, channels, r, direction, vaults, tallies, gate);
+        self.sweep_late(desk, r, direction);
         self.set_state(ending_again(state, self.left(0)));
     }
 
@@ -241,28 +207,20 @@ impl Place {
     // Takes an endpoint, and sweeps it at once.
     fn sweep_late<R: Wait, V: Vaults, G: Gate>(
         &mut self,
-        rt: &R,
-        records: &Records<Body>,
-        channels: &Channels,
+        desk: &mut Desk<'_, R, V, G>,
         r: u16,
         direction: u8,
-        vaults: &mut V,
-        tallies: &mut [Tally],
-        gate: &G,
     )
-        requires own { IsPlaceOf records.now self.old × IsRecord records.now.shape r × (direction < DIRECTIONS) }
-        requires names { (V.names vaults.old ≡ self.old.shape.names) × (ids_of tallies.old ≡ self.old.shape.names) }
+        requires at { IsAt V.names desk.old self.old × IsRecord desk.old.records.now.shape r × (direction < DIRECTIONS) }
         requires alive { is_over self.old.state ≢ true }
-        ensures same { (V.names vaults.new ≡ V.names vaults.old) × (V.extent vaults.new ≡ V.extent vaults.old) × (ids_of tallies.new ≡ ids_of tallies.old) }
+        ensures same { IsSameDesk V.names V.extent desk.old desk.new }
         ensures place { IsSamePlace self.old self.new }
-        ensures swept { ((self.new ≡ self.old) × (tallies.new ≡ tallies.old)) ⊎ ((bytes : ℕ) × IsSweptLate direction r self.old self.new bytes × HasGivenBack bytes tallies.old tallies.new) }
+        ensures swept { ((self.new ≡ self.old) × (desk.new.tallies.now ≡ desk.old.tallies.now)) ⊎ ((bytes : ℕ) × IsSweptLate direction r self.old self.new bytes × HasGivenBack bytes desk.old.tallies.now desk.new.tallies.now) }
     {
         let from = self.count();
-        let Ok(_block) = self.accept(records, r, direction) else {
+        let Ok(_block) = self.accept(desk.records, r, direction) else {
             return;
         };
-        let _swept = self.sweep(
-            rt, records, channels, from, MAX_BUDGET, vaults, tallies, gate,
-        );
+        let _swept = self.sweep(desk, from, MAX_BUDGET);
     }
 }

@@ -1,5 +1,5 @@
 //! Endpoints of a place.
-ghost use Rattle.std.specs.Prelude.{◌≡◌, ◌≢◌, ◌⊎◌, ℕ, ◌+◌, ◌*◌, ◌/◌, ◌<◌, List, [], ◌∷◌, ◌++◌, length, Some, IfOk, IfErr, OnOk, OnErr, MatchOption, true, false};
+ghost use Rattle.std.specs.Prelude.{◌≡◌, ◌≢◌, ◌⊎◌, ℕ, ◌+◌, ◌*◌, ◌/◌, ◌<◌, List, [], ◌∷◌, ◌++◌, length, Some, MatchOption, true, false};
 ghost use Rattle.xh_channel.specs.Pairs.{IsPair};
 ghost use Rattle.xh_core.specs.declared.status.Status.TheVariants as status;
 ghost use Rattle.xh_core.specs.Calls.{arena_tests, end_tests};
@@ -10,25 +10,26 @@ ghost use Rattle.xh_model.specs.Keyed.{value_at};
 ghost use Rattle.xh_records.specs.Seats.{IsRecord};
 ghost use Rattle.xh_core.specs.declared.header.Kind.TheVariants as kind;
 ghost use Rattle.xh_place.specs.Bodies.{kind_of, spot};
+ghost use Rattle.xh_place.specs.Desk.{IsAt, StaysAt};
 ghost use Rattle.xh_place.specs.Ending.{HasGivenBack, IsClosed, last};
-ghost use Rattle.xh_place.specs.Ends.{RefusedOr, toward_in, AreListed, Opens, IsUnopened, is_here, IsTooLate};
-ghost use Rattle.xh_place.specs.Places.{Item, IsPlaceOf, IsSamePlace, found, with_blocks, with_less, with_more};
+ghost use Rattle.xh_place.specs.Ends.{RefusedOr, toward_in, Accepts, Opens, IsUnopened, is_here};
+ghost use Rattle.xh_place.specs.Places.{Item, IsPlaceOf, found, with_blocks, with_less, with_more};
 ghost use Rattle.xh_model.specs.declared.limits.TheConstants.{DIRECTIONS, END_BYTES};
 ghost use Rattle.xh_place.specs.Starts.{start};
-ghost use Rattle.xh_place.specs.Tallies.{ids_of};
 ghost use Rattle.xh_place.specs.Vaults.{IsNoPair};
 
 use crate::body::Body;
+use crate::desk::Desk;
+use crate::endpoints::{shut_at, spot_at};
 use crate::gate::{Gate, Point};
 use crate::list::{entry, remove};
-use crate::lots::{place_of, swap_body};
+use crate::lots::place_of;
 use crate::opening::{Unopened, make_ends};
 use crate::place::ending::reclaimed;
 use crate::place::{Place, check_start};
 use crate::vaults::Vaults;
 use std::sync::Wait;
-use xh_arena::Tally;
-use xh_channel::{Channels, Endpoint, Spot};
+use xh_channel::{Endpoint, Spot};
 use xh_core::{Block, Header, Kind, Refused, Status};
 use xh_model::limits::{END_BYTES, MAX_BUDGET};
 use xh_records::Records;
@@ -74,57 +75,34 @@ impl Place {
         ensures same { self.new ≡ self.old }
         ensures spot { (x : Item) → value_at e self.old.blocks ≡ Some x → x.content ≡ spot result.channel result.side }
     {
-        let mut body = Body::Nothing;
-        swap_body(records, &mut self.seat, e, &mut body);
-        let Body::End(end) = &mut body else {
-            unreachable!()
-        };
-        let spot = end.spot();
-        swap_body(records, &mut self.seat, e, &mut body);
-        spot
+        spot_at(records, &mut self.seat, e)
     }
 
     /// Both ends of a channel that was just opened, with a contract or without, come to the end of the list: side 0, then side 1, each of 32 bytes, the halves of one first fit of 64.
     /// Ended, NoArena, NoRecord, NoSpace, Worn; a refusal hands the ends back, and each record that was claimed is free again.
-    pub fn open<V: Vaults, G: Gate>(
+    pub fn open<R, V: Vaults, G: Gate>(
         &mut self,
-        records: &Records<Body>,
+        desk: &mut Desk<'_, R, V, G>,
         low: Endpoint,
         high: Endpoint,
         arena: u32,
-        vaults: &mut V,
-        tallies: &mut [Tally],
-        gate: &G,
     ) -> Result<(Block, Block), Unopened>
-        requires own { IsPlaceOf records.now self.old }
-        requires names { (V.names vaults.old ≡ self.old.shape.names) × (ids_of tallies.old ≡ self.old.shape.names) }
+        requires at { IsAt V.names desk.old self.old }
         requires fresh { IsPair low high }
-        ensures same { (V.names vaults.new ≡ V.names vaults.old) × (V.extent vaults.new ≡ V.extent vaults.old) × (ids_of tallies.new ≡ ids_of tallies.old) }
-        ensures opened { Opens arena low high self.old self.new tallies.old tallies.new result }
-        ensures place { IsSamePlace self.old self.new }
-        ensures ends { IfOk result (AreListed low high self.new) }
-        ensures why { IsUnopened (start self.old.state ++ arena_tests arena (length self.old.shape.names)) (vaults.new ≡ vaults.old)
-            (IsNoPair V.changes vaults.old vaults.new arena (2 * END_BYTES) (V.extent vaults.old)) result }
+        ensures same { StaysAt V.names V.extent desk.old desk.new self.old self.new }
+        ensures opened { Opens arena low high self.old self.new desk.old.tallies.now desk.new.tallies.now result }
+        ensures why { IsUnopened (start self.old.state ++ arena_tests arena (length self.old.shape.names)) (desk.new.vaults.now ≡ desk.old.vaults.now)
+            (IsNoPair V.changes desk.old.vaults.now desk.new.vaults.now arena (2 * END_BYTES) (V.extent desk.old.vaults.now)) result }
     {
         if let Err(why) = check_start(self.state) {
             return Err(Unopened { why, low, high });
         }
-        if arena >= u32::from(vaults.arenas()) {
+        if arena >= u32::from(desk.vaults.arenas()) {
             let why = Refused::NoArena;
             return Err(Unopened { why, low, high });
         }
         let arena = arena as u8;
-        let tally = &mut tallies[usize::from(arena)];
-        let made = make_ends(
-            records,
-            &mut self.seat,
-            low,
-            high,
-            arena,
-            vaults,
-            tally,
-            gate,
-        )?;
+        let made = make_ends(desk, &mut self.seat, low, high, arena)?;
         let header = Header {
             len: END_BYTES,
             kind: Kind::End,
@@ -137,27 +115,21 @@ impl Place {
     }
 
     /// As `open`, of a channel that was opened with a contract: the ends say which.
-    pub fn open_with<V: Vaults, G: Gate>(
+    pub fn open_with<R, V: Vaults, G: Gate>(
         &mut self,
-        records: &Records<Body>,
+        desk: &mut Desk<'_, R, V, G>,
         low: Endpoint,
         high: Endpoint,
         arena: u32,
-        vaults: &mut V,
-        tallies: &mut [Tally],
-        gate: &G,
     ) -> Result<(Block, Block), Unopened>
-        requires own { IsPlaceOf records.now self.old }
-        requires names { (V.names vaults.old ≡ self.old.shape.names) × (ids_of tallies.old ≡ self.old.shape.names) }
+        requires at { IsAt V.names desk.old self.old }
         requires fresh { IsPair low high × (low.has_contract ≡ true) }
-        ensures same { (V.names vaults.new ≡ V.names vaults.old) × (V.extent vaults.new ≡ V.extent vaults.old) × (ids_of tallies.new ≡ ids_of tallies.old) }
-        ensures opened { Opens arena low high self.old self.new tallies.old tallies.new result }
-        ensures place { IsSamePlace self.old self.new }
-        ensures ends { IfOk result (AreListed low high self.new) }
-        ensures why { IsUnopened (start self.old.state ++ arena_tests arena (length self.old.shape.names)) (vaults.new ≡ vaults.old)
-            (IsNoPair V.changes vaults.old vaults.new arena (2 * END_BYTES) (V.extent vaults.old)) result }
+        ensures same { StaysAt V.names V.extent desk.old desk.new self.old self.new }
+        ensures opened { Opens arena low high self.old self.new desk.old.tallies.now desk.new.tallies.now result }
+        ensures why { IsUnopened (start self.old.state ++ arena_tests arena (length self.old.shape.names)) (desk.new.vaults.now ≡ desk.old.vaults.now)
+            (IsNoPair V.changes desk.old.vaults.now desk.new.vaults.now arena (2 * END_BYTES) (V.extent desk.old.vaults.now)) result }
     {
-        self.open(records, low, high, arena, vaults, tallies, gate)
+        self.open(desk, low, high, arena)
     }
 
     /// An endpoint of the list is in flight on the direction from now on.
@@ -196,36 +168,25 @@ impl Place {
     /// Ended where the process doesn't, and then the endpoint is closed as by `close_end`; Ended also where the place is Vacant or the record's word is another, and then nothing changes.
     pub fn accept_end<R: Wait, V: Vaults, G: Gate>(
         &mut self,
-        rt: &R,
-        records: &Records<Body>,
-        channels: &Channels,
+        desk: &mut Desk<'_, R, V, G>,
         process: u16,
         r: u16,
         direction: u8,
-        vaults: &mut V,
-        tallies: &mut [Tally],
-        gate: &G,
     ) -> Result<Block, Refused>
-        requires own { IsPlaceOf records.now self.old × IsRecord records.now.shape r × (direction < DIRECTIONS) }
-        requires names { (V.names vaults.old ≡ self.old.shape.names) × (ids_of tallies.old ≡ self.old.shape.names) }
-        ensures same { (V.names vaults.new ≡ V.names vaults.old) × (V.extent vaults.new ≡ V.extent vaults.old) × (ids_of tallies.new ≡ ids_of tallies.old) }
-        ensures place { IsSamePlace self.old self.new }
-        ensures here { IfOk result (λ b. (is_here self.old process ≡ true) × (b.rec ≡ r)
-            × ((x : Item) × (x.len ≡ b.len) × (self.new ≡ with_more direction ((r, x) ∷ []) self.old)) × (tallies.new ≡ tallies.old)) }
-        ensures away { IfErr result (λ e. (e ≡ Refused.Ended) × (((self.new ≡ self.old) × (tallies.new ≡ tallies.old))
-            ⊎ ((is_here self.old process ≡ false) × (self.old.state ≢ status.Vacant)
-            × ((bytes : ℕ) × IsTooLate direction r self.old self.new bytes × HasGivenBack bytes tallies.old tallies.new)))) }
+        requires at { IsAt V.names desk.old self.old × IsRecord desk.old.records.now.shape r × (direction < DIRECTIONS) }
+        ensures same { StaysAt V.names V.extent desk.old desk.new self.old self.new }
+        ensures accepted { Accepts process r direction self.old self.new desk.old.tallies.now desk.new.tallies.now result }
     {
         if self.state() == Status::Vacant {
             return Err(Refused::Ended);
         }
         if self.is_here(process) {
-            return match self.accept(records, r, direction) {
+            return match self.accept(desk.records, r, direction) {
                 Ok(block) => Ok(block),
                 Err(_seen) => Err(Refused::Ended),
             };
         }
-        self.turn_away(rt, records, channels, r, direction, vaults, tallies, gate);
+        self.turn_away(desk, r, direction);
         Err(Refused::Ended)
     }
 
@@ -233,27 +194,18 @@ impl Place {
     /// Ended, NotOwned, NotEndpoint; Unfinished with the blocks left of what came with it.
     pub fn close_end<R: Wait, V: Vaults, G: Gate>(
         &mut self,
-        rt: &R,
-        records: &Records<Body>,
-        channels: &Channels,
+        desk: &mut Desk<'_, R, V, G>,
         e: u16,
-        vaults: &mut V,
-        tallies: &mut [Tally],
-        gate: &G,
     ) -> Result<u64, Refused>
-        requires own { IsPlaceOf records.now self.old }
-        requires names { (V.names vaults.old ≡ self.old.shape.names) × (ids_of tallies.old ≡ self.old.shape.names) }
-        ensures same { (V.names vaults.new ≡ V.names vaults.old) × (V.extent vaults.new ≡ V.extent vaults.old) × (ids_of tallies.new ≡ ids_of tallies.old) }
-        ensures place { IsSamePlace self.old self.new }
-        ensures closed { RefusedOr (start self.old.state ++ end_tests (found self.old e)) result ((self.new ≡ self.old) × (tallies.new ≡ tallies.old))
-            ((bytes : ℕ) × IsClosed e self.old self.new bytes result × HasGivenBack bytes tallies.old tallies.new) }
+        requires at { IsAt V.names desk.old self.old }
+        ensures same { StaysAt V.names V.extent desk.old desk.new self.old self.new }
+        ensures closed { RefusedOr (start self.old.state ++ end_tests (found self.old e)) result ((self.new ≡ self.old) × (desk.new.tallies.now ≡ desk.old.tallies.now))
+            ((bytes : ℕ) × IsClosed e self.old self.new bytes result × HasGivenBack bytes desk.old.tallies.now desk.new.tallies.now) }
     {
         self.test_end(e)?;
         self.move_last(e);
         let from = self.count() - 1;
-        let (bytes, _left) = self.sweep(
-            rt, records, channels, from, MAX_BUDGET, vaults, tallies, gate,
-        );
+        let (bytes, _left) = self.sweep(desk, from, MAX_BUDGET);
         reclaimed(bytes, self.left(from))
     }
 
@@ -270,52 +222,36 @@ impl Place {
     }
 
     // Shuts an endpoint of the list.
-    fn shut<R: Wait>(&mut self, rt: &R, records: &Records<Body>, channels: &Channels, e: u16)
-        requires own { IsPlaceOf records.now self.old }
+    fn shut<R: Wait, V, G>(&mut self, desk: &Desk<'_, R, V, G>, e: u16)
+        requires own { IsPlaceOf desk.now.records.now self.old }
         requires end { (x : Item) × (value_at e self.old.blocks ≡ Some x) × (kind_of x.content ≡ kind.End) }
         ensures same { self.new ≡ self.old }
     {
-        let mut body = Body::Nothing;
-        swap_body(records, &mut self.seat, e, &mut body);
-        let Body::End(end) = &mut body else {
-            unreachable!()
-        };
-        channels.shut(rt, end);
-        swap_body(records, &mut self.seat, e, &mut body);
+        shut_at(desk, &mut self.seat, e);
     }
 
     // Takes all that waits for an endpoint of the list, with its blocks, at the end of the list.
-    fn drain<R: Wait, G: Gate>(
-        &mut self,
-        rt: &R,
-        records: &Records<Body>,
-        channels: &Channels,
-        e: u16,
-        gate: &G,
-    )
-        requires own { IsPlaceOf records.now self.old }
+    fn drain<R: Wait, V, G: Gate>(&mut self, desk: &Desk<'_, R, V, G>, e: u16)
+        requires own { IsPlaceOf desk.now.records.now self.old }
         requires alive { is_over self.old.state ≢ true }
         requires end { (x : Item) × (value_at e self.old.blocks ≡ Some x) × (kind_of x.content ≡ kind.End) }
         ensures { (ys : List (ℕ × Item)) × (self.new ≡ with_more (toward_in (value_at e self.old.blocks)) ys self.old) }
     {
         for _ in 0..u64::MAX {
-            let Ok(_taken) = self.take_message(rt, records, channels, e, gate) else {
+            let Ok(_taken) = self.take_message(desk, e) else {
                 return;
             };
         }
     }
 
     // An endpoint is shut, and what waits for it comes to the end of the list. A data block stays.
-    pub(super) fn drain_end<R: Wait, G: Gate>(
+    pub(super) fn drain_end<R: Wait, V, G: Gate>(
         &mut self,
-        rt: &R,
-        records: &Records<Body>,
-        channels: &Channels,
+        desk: &Desk<'_, R, V, G>,
         r: u16,
         kind: Kind,
-        gate: &G,
     )
-        requires own { IsPlaceOf records.now self.old }
+        requires own { IsPlaceOf desk.now.records.now self.old }
         requires alive { is_over self.old.state ≢ true }
         requires block { (x : Item) × (value_at r self.old.blocks ≡ Some x) × (kind ≡ kind_of x.content) }
         ensures { (ys : List (ℕ × Item)) × (self.new ≡ with_more (toward_in (value_at r self.old.blocks)) ys self.old) × (has_end (found self.old r) ≡ false → ys ≡ []) }
@@ -323,8 +259,8 @@ impl Place {
         if kind == Kind::Data {
             return;
         }
-        self.shut(rt, records, channels, r);
-        gate.between(place_of(&self.seat), Point::Shut);
-        self.drain(rt, records, channels, r, gate);
+        self.shut(desk, r);
+        desk.gate.between(place_of(&self.seat), Point::Shut);
+        self.drain(desk, r);
     }
 }

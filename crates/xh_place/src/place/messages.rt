@@ -7,7 +7,7 @@ ghost use Rattle.xh_core.specs.Calls.{end_tests, given_tests};
 ghost use Rattle.xh_core.specs.Refusing.{Tested};
 ghost use Rattle.xh_core.specs.Statuses.{is_over};
 ghost use Rattle.xh_model.specs.declared.limits.TheConstants.{DIRECTIONS};
-ghost use Rattle.xh_model.specs.Keyed.{Among, Distinct, keys, value_at};
+ghost use Rattle.xh_model.specs.Keyed.{Among, Distinct, value_at};
 ghost use Rattle.xh_records.specs.Seats.{IsRecord};
 ghost use Rattle.xh_core.specs.declared.header.Kind.TheVariants as kind;
 ghost use Rattle.xh_place.specs.Bodies.{kind_of};
@@ -19,39 +19,38 @@ ghost use Rattle.xh_place.specs.Taking.{AreGot, IsGot};
 ghost use Rattle.xh_place.specs.inner.Answers.{record_of};
 
 use crate::body::Body;
+use crate::desk::Desk;
+use crate::endpoints::take_at;
 use crate::gate::{Gate, Point};
 use crate::giving::{Given, answer, give_all};
 use crate::got::{Got, Taken};
 use crate::list::{settle, sum};
-use crate::lots::{accept_block, place_of, swap_body};
+use crate::lots::{accept_block, place_of};
 use crate::place::Place;
 use arrayvec::ArrayVec;
 use std::sync::Wait;
-use xh_channel::{Channels, Message, Refused as Untaken};
+use xh_channel::{Message, Refused as Untaken};
 use xh_core::{Block, Header, Refused, is_twice};
 use xh_records::Records;
 
 impl Place {
     /// Gives blocks of the list, by the endpoint `e`, in a message with a tag. It answers the message's number.
     /// Ended is of the process; NotOwned and NotEndpoint of the endpoint; then TooMany of more than 8 blocks, NotOwned of a block, Twice. Protocol, PeerClosed and Full name the blocks that came back.
-    pub fn give<R: Wait, G: Gate>(
+    pub fn give<R: Wait, V, G: Gate>(
         &mut self,
-        rt: &R,
-        records: &Records<Body>,
-        channels: &Channels,
+        desk: &Desk<'_, R, V, G>,
         e: u16,
         tag: u16,
         blocks: &[u16],
-        gate: &G,
     ) -> Result<u64, Refused>
-        requires own { IsPlaceOf records.now self.old }
+        requires own { IsPlaceOf desk.now.records.now self.old }
         ensures place { IsSamePlace self.old self.new }
         ensures given { RefusedOr (start self.old.state ++ end_tests (found self.old e) ++ given_tests (is_listed self.old.blocks) e blocks.now) result (self.new ≡ self.old)
             (IsSent (away_in (value_at e self.old.blocks)) blocks.now self.old self.new result) }
     {
         self.test_end(e)?;
         let given = self.test_given(e, blocks)?;
-        self.send(rt, records, channels, e, tag, &given, gate)
+        self.send(desk, e, tag, &given)
     }
 
     // Whether each of the records is one of the list.
@@ -84,17 +83,14 @@ impl Place {
     }
 
     // Passes the blocks of a give, puts the message, and settles the list with what came back.
-    fn send<R: Wait, G: Gate>(
+    fn send<R: Wait, V, G: Gate>(
         &mut self,
-        rt: &R,
-        records: &Records<Body>,
-        channels: &Channels,
+        desk: &Desk<'_, R, V, G>,
         e: u16,
         tag: u16,
         given: &ArrayVec<u16, 8>,
-        gate: &G,
     ) -> Result<u64, Refused>
-        requires own { IsPlaceOf records.now self.old }
+        requires own { IsPlaceOf desk.now.records.now self.old }
         requires running { self.old.state ≡ status.Running }
         requires end { (x : Item) × (value_at e self.old.blocks ≡ Some x) × (kind_of x.content ≡ kind.End) }
         requires given { Distinct given.now.items × (Among given.now.items e → ⊥) }
@@ -102,16 +98,7 @@ impl Place {
         ensures place { IsSamePlace self.old self.new }
         ensures sent { IsSent (away_in (value_at e self.old.blocks)) given.now.items self.old self.new result }
     {
-        let Given { put, back } = give_all(
-            rt,
-            records,
-            &mut self.seat,
-            channels,
-            e,
-            tag,
-            given,
-            gate,
-        );
+        let Given { put, back } = give_all(desk, &mut self.seat, e, tag, given);
         settle(&mut self.list, given.as_slice(), back.as_slice());
         self.total = sum(self.list.as_slice());
         answer(put, &back)
@@ -119,69 +106,53 @@ impl Place {
 
     /// Takes the message at the front of the direction toward the endpoint `e`. Its blocks come to the end of the list.
     /// Ended, NotOwned, NotEndpoint; then PeerClosed or Empty where no message waits.
-    pub fn take<R: Wait, G: Gate>(
+    pub fn take<R: Wait, V, G: Gate>(
         &mut self,
-        rt: &R,
-        records: &Records<Body>,
-        channels: &Channels,
+        desk: &Desk<'_, R, V, G>,
         e: u16,
-        gate: &G,
     ) -> Result<Taken, Refused>
-        requires own { IsPlaceOf records.now self.old }
+        requires own { IsPlaceOf desk.now.records.now self.old }
         ensures place { IsSamePlace self.old self.new }
         ensures taken { RefusedOr (start self.old.state ++ end_tests (found self.old e)) result (self.new ≡ self.old)
             (MatchResult result (IsTaken (toward_in (value_at e self.old.blocks)) self.old self.new) (λ refused. IsUntaken refused × (self.new ≡ self.old))) }
     {
         self.test_end(e)?;
-        self.take_message(rt, records, channels, e, gate)
+        self.take_message(desk, e)
     }
 
     // Takes the message at the front for an endpoint of the list, and its blocks.
-    pub(super) fn take_message<R: Wait, G: Gate>(
+    pub(super) fn take_message<R: Wait, V, G: Gate>(
         &mut self,
-        rt: &R,
-        records: &Records<Body>,
-        channels: &Channels,
+        desk: &Desk<'_, R, V, G>,
         e: u16,
-        gate: &G,
     ) -> Result<Taken, Refused>
-        requires own { IsPlaceOf records.now self.old }
+        requires own { IsPlaceOf desk.now.records.now self.old }
         requires alive { is_over self.old.state ≢ true }
         requires end { (x : Item) × (value_at e self.old.blocks ≡ Some x) × (kind_of x.content ≡ kind.End) }
         ensures place { IsSamePlace self.old self.new }
         ensures taken { MatchResult result (IsTaken (toward_in (value_at e self.old.blocks)) self.old self.new) (λ refused. IsUntaken refused × (self.new ≡ self.old)) }
     {
-        let (taken, direction) = self.pop(rt, records, channels, e);
+        let (taken, direction) = self.pop(desk, e);
         let message = taken?;
-        gate.between(place_of(&self.seat), Point::Popped);
-        let blocks = self.take_all(records, &message, direction);
+        desk.gate.between(place_of(&self.seat), Point::Popped);
+        let blocks = self.take_all(desk.records, &message, direction);
         let Message { no, tag, .. } = message;
         Ok(Taken { no, tag, blocks })
     }
 
     // Takes the message at the front for an endpoint of the list. With the answer goes the direction.
-    fn pop<R: Wait>(
+    fn pop<R: Wait, V, G>(
         &mut self,
-        rt: &R,
-        records: &Records<Body>,
-        channels: &Channels,
+        desk: &Desk<'_, R, V, G>,
         e: u16,
     ) -> (Result<Message, Untaken>, u8)
-        requires own { IsPlaceOf records.now self.old }
+        requires own { IsPlaceOf desk.now.records.now self.old }
         requires end { (x : Item) × (value_at e self.old.blocks ≡ Some x) × (kind_of x.content ≡ kind.End) }
         ensures same { self.new ≡ self.old }
         ensures direction { (result.1 ≡ toward_in (value_at e self.old.blocks)) × (result.1 < DIRECTIONS) }
         ensures none { IfErr result.0 (λ refused. IsUntaken (same_refusal refused)) }
     {
-        let mut body = Body::Nothing;
-        swap_body(records, &mut self.seat, e, &mut body);
-        let Body::End(end) = &mut body else {
-            unreachable!()
-        };
-        let spot = end.spot();
-        let taken = channels.take(rt, end);
-        swap_body(records, &mut self.seat, e, &mut body);
-        (taken, 2 * spot.channel + spot.side)
+        take_at(desk, &mut self.seat, e)
     }
 
     // Takes a block that is in flight on the direction, at the end of the list. The error is the word

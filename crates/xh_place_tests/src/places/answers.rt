@@ -1,5 +1,5 @@
 // Calls of two places by one thread, and what they answer, to be compared.
-use super::desk::{Desk, make_desk};
+use super::pair::{Pair, make_pair};
 use std::alloc::Global;
 use std::process::Abort;
 use std::sync::Wait;
@@ -129,9 +129,9 @@ pub(super) fn of_nothing(answer: Result<(), Refused>) -> Answer {
 }
 
 /// At most four bytes of a block. What a refused read has changed is told as if it had been read.
-fn bytes_of(desk: &mut Desk, r: u16, at: u32, count: usize) -> Answer {
+fn bytes_of(pair: &mut Pair, r: u16, at: u32, count: usize) -> Answer {
     let mut bytes = UNREAD;
-    let Err(refused) = desk.read(r, at, &mut bytes[..count.min(4)]) else {
+    let Err(refused) = pair.read(r, at, &mut bytes[..count.min(4)]) else {
         return Answer::Bytes(bytes);
     };
     if bytes != UNREAD {
@@ -140,8 +140,8 @@ fn bytes_of(desk: &mut Desk, r: u16, at: u32, count: usize) -> Answer {
     of_refused(refused)
 }
 
-fn lists_of(desk: &Desk) -> Answer {
-    let (here, there) = (&desk.place, &desk.other);
+fn lists_of(pair: &Pair) -> Answer {
+    let (here, there) = (&pair.place, &pair.other);
     Answer::Lists(
         here.blocks().len(),
         here.total(),
@@ -150,65 +150,65 @@ fn lists_of(desk: &Desk) -> Answer {
     )
 }
 
-fn stops_of(desk: &Desk, place: u8, points: &[Point]) -> Answer {
-    if desk.notes.are(place, points) {
+fn stops_of(pair: &Pair, place: u8, points: &[Point]) -> Answer {
+    if pair.notes.are(place, points) {
         Answer::Done
     } else {
         Answer::No("other points")
     }
 }
 
-fn moved_of(desk: &Desk) -> Answer {
-    let (taken, back) = desk.moved();
+fn moved_of(pair: &Pair) -> Answer {
+    let (taken, back) = pair.moved();
     Answer::Moved(taken, back)
 }
 
-fn turned(desk: &mut Desk) -> Answer {
-    desk.turn();
+fn turned(pair: &mut Pair) -> Answer {
+    pair.turn();
     Answer::Done
 }
 
 /// What the call answers.
-fn answer_of<R: Wait>(rt: &R, alloc: Global, desk: &mut Desk, call: Call) -> Answer {
+fn answer_of<R: Wait>(rt: &R, alloc: Global, pair: &mut Pair, call: Call) -> Answer {
     match call {
-        Call::Alloc(n, arena) => of_block(desk.alloc(alloc, n, arena)),
-        Call::Split(r, k) => of_two(desk.split(alloc, r, k)),
-        Call::Read(r, at) => bytes_of(desk, r, at, 4),
-        Call::ReadPart(r, at, count) => bytes_of(desk, r, at, count),
-        Call::Write(r, at, bytes) => of_nothing(desk.write(r, at, bytes)),
-        Call::Free(r) => of_number(desk.free(r).map(u64::from)),
-        Call::Open => of_ends(desk.open(rt)),
-        Call::OpenWith => of_ends(desk.open_with(rt)),
-        Call::HandOver(e) => of_block(desk.hand_over(rt, e)),
-        Call::Wire => of_ends(desk.wire(rt)),
-        Call::Accept(e, direction) => of_block(desk.accept(rt, e, direction)),
-        Call::Give(e, tag, blocks) => of_number(desk.give(rt, e, tag, blocks)),
-        Call::Take(e) => of_message(desk.take(rt, e)),
-        Call::Close(e) => of_number(desk.close(rt, e)),
-        Call::Stop(budget) => of_number(desk.stop(rt, budget)),
-        Call::Turn => turned(desk),
-        Call::State => Answer::State(desk.place.state()),
-        Call::Lists => lists_of(desk),
-        Call::Moved => moved_of(desk),
-        Call::Stops(place, points) => stops_of(desk, place, points),
+        Call::Alloc(n, arena) => of_block(pair.alloc(alloc, n, arena)),
+        Call::Split(r, k) => of_two(pair.split(alloc, r, k)),
+        Call::Read(r, at) => bytes_of(pair, r, at, 4),
+        Call::ReadPart(r, at, count) => bytes_of(pair, r, at, count),
+        Call::Write(r, at, bytes) => of_nothing(pair.write(r, at, bytes)),
+        Call::Free(r) => of_number(pair.free(r).map(u64::from)),
+        Call::Open => of_ends(pair.open(rt)),
+        Call::OpenWith => of_ends(pair.open_with(rt)),
+        Call::HandOver(e) => of_block(pair.hand_over(rt, e)),
+        Call::Wire => of_ends(pair.wire(rt)),
+        Call::Accept(e, direction) => of_block(pair.accept(rt, e, direction)),
+        Call::Give(e, tag, blocks) => of_number(pair.give(rt, e, tag, blocks)),
+        Call::Take(e) => of_message(pair.take(rt, e)),
+        Call::Close(e) => of_number(pair.close(rt, e)),
+        Call::Stop(budget) => of_number(pair.stop(rt, budget)),
+        Call::Turn => turned(pair),
+        Call::State => Answer::State(pair.place.state()),
+        Call::Lists => lists_of(pair),
+        Call::Moved => moved_of(pair),
+        Call::Stops(place, points) => stops_of(pair, place, points),
     }
 }
 
-// Makes each call at the desk and compares what it answers.
-fn assert_each<R: Wait + Abort>(rt: &R, alloc: Global, desk: &mut Desk, calls: &[(Call, Answer)]) {
+// Makes each call of the pair and compares what it answers.
+fn assert_each<R: Wait + Abort>(rt: &R, alloc: Global, pair: &mut Pair, calls: &[(Call, Answer)]) {
     for (at, (call, expected)) in calls.iter().enumerate() {
-        let answered = answer_of(rt, alloc, desk, *call);
+        let answered = answer_of(rt, alloc, pair, *call);
         assert_eq!(rt; answered, *expected, "call {at}");
     }
 }
 
-/// Makes each call at a desk of 256 bytes, whose directions have room for so many messages, and compares what it answers.
+/// Makes each call at a pair of 256 bytes, whose directions have room for so many messages, and compares what it answers.
 pub(super) fn assert_answers<R: Wait + Abort>(
     rt: &R,
     alloc: Global,
     depth: u8,
     calls: &[(Call, Answer)],
 ) {
-    let mut desk = make_desk(alloc, 256, depth).expect(rt, "a desk");
-    assert_each(rt, alloc, &mut desk, calls);
+    let mut pair = make_pair(alloc, 256, depth).expect(rt, "a pair");
+    assert_each(rt, alloc, &mut pair, calls);
 }

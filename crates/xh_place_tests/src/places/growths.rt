@@ -92,8 +92,8 @@ fn answer_again(alloc: Global, bench: &mut Bench, call: Call) -> Answer {
 
 /// A new bench: where the first growth that it asks for is refused, the next bench is whole.
 fn whole_bench<R: Abort>(rt: &R, alloc: Global) -> Bench {
-    make_bench(alloc, 256, 3)
-        .or_else(|| make_bench(alloc, 256, 3))
+    make_bench(alloc, 256, 3, 1)
+        .or_else(|| make_bench(alloc, 256, 3, 1))
         .expect(rt, "a bench")
 }
 

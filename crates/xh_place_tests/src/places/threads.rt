@@ -1,14 +1,14 @@
 // Two places on two threads, and one channel between them.
 ghost use Rattle.xh_place.specs.Places.{IsPlaceOf};
 
-use super::desk::{Desk, make_desk};
+use super::pair::{Pair, make_pair};
 use std::alloc::Global;
 use std::process::Abort;
 use std::sync::Wait;
 use std::thread::{self, Threads};
 use xh_channel::{Channels, Spot};
 use xh_core::Refused;
-use xh_place::{Body, Got, OpenGate, Place, Taken};
+use xh_place::{Body, Desk, Got, OpenGate, Place, Taken};
 use xh_records::Records;
 
 /// How often what is given comes back.
@@ -33,23 +33,29 @@ struct Party<'a> {
     ghost own: { IsPlaceOf records.now place },
 }
 
+// What a give and a take work on.
+macro_rules! messages {
+    ($party:expr, $rt:expr) => {
+        Desk {
+            rt: $rt,
+            records: $party.records,
+            channels: $party.channels,
+            vaults: &mut (),
+            tallies: &mut [],
+            gate: &OpenGate,
+        }
+    };
+}
+
 impl Party<'_> {
     fn give<R: Wait>(&mut self, rt: &R, blocks: &[u16]) -> bool {
-        let given = self.place.give(
-            rt,
-            self.records,
-            self.channels,
-            self.e,
-            3,
-            blocks,
-            &OpenGate,
-        );
-        given.is_ok()
+        self.place
+            .give(&messages!(self, rt), self.e, 3, blocks)
+            .is_ok()
     }
 
     fn take<R: Wait>(&mut self, rt: &R) -> Result<Taken, Refused> {
-        self.place
-            .take(rt, self.records, self.channels, self.e, &OpenGate)
+        self.place.take(&messages!(self, rt), self.e)
     }
 
     // The message that comes next.
@@ -111,11 +117,11 @@ struct Ends {
     h: u16,
 }
 
-fn begin<R: Wait>(rt: &R, alloc: Global, desk: &mut Desk) -> Option<Ends> {
-    let (e, f) = desk.wire(rt)?;
-    let (_, h) = desk.open(rt)?;
-    let x = desk.alloc(alloc, 16, 0).ok()?.rec;
-    let (low, high) = desk.spots(e, f)?;
+fn begin<R: Wait>(rt: &R, alloc: Global, pair: &mut Pair) -> Option<Ends> {
+    let (e, f) = pair.wire(rt)?;
+    let (_, h) = pair.open(rt)?;
+    let x = pair.alloc(alloc, 16, 0).ok()?.rec;
+    let (low, high) = pair.spots(e, f)?;
     Some(Ends {
         e,
         f,
@@ -127,14 +133,14 @@ fn begin<R: Wait>(rt: &R, alloc: Global, desk: &mut Desk) -> Option<Ends> {
 }
 
 // Each place on a thread of its own: how many rounds went well, and the bytes that it has then.
-fn talk<R: Threads + Wait + Sync>(rt: &R, desk: Desk, ends: Ends) -> ((u64, u64), (u64, u64)) {
-    let Desk {
+fn talk<R: Threads + Wait + Sync>(rt: &R, pair: Pair, ends: Ends) -> ((u64, u64), (u64, u64)) {
+    let Pair {
         records,
         channels,
         place,
         other,
         ..
-    } = desk;
+    } = pair;
     let (records, channels) = (&records, &channels);
     let first = Party {
         records,
@@ -160,9 +166,9 @@ fn talk<R: Threads + Wait + Sync>(rt: &R, desk: Desk, ends: Ends) -> ((u64, u64)
 
 /// A block and an endpoint go from one thread to the other and back, each time in one message.
 fn there_and_back_over<R: Abort + Threads + Wait + Sync>(rt: &R, alloc: Global) {
-    let mut desk = make_desk(alloc, 256, 1).expect(rt, "a desk");
-    let ends = begin(rt, alloc, &mut desk).expect(rt, "two channels and a block");
-    let (one, two) = talk(rt, desk, ends);
+    let mut pair = make_pair(alloc, 256, 1).expect(rt, "a pair");
+    let ends = begin(rt, alloc, &mut pair).expect(rt, "two channels and a block");
+    let (one, two) = talk(rt, pair, ends);
     assert_eq!(rt; one, (ROUNDS, 112));
     assert_eq!(rt; two, (ROUNDS, 32));
 }

@@ -114,7 +114,7 @@ fn assert_lacking<R: Abort>(rt: &R, alloc: Global, bench: &mut Bench) {
 #[test]
 fn calls_without_memory(rt: HostRuntime) {
     let alloc = rt.alloc();
-    match make_bench(alloc, 256, 3) {
+    match make_bench(alloc, 256, 3, 1) {
         Some(mut bench) => {
             if is_prepared(&rt, alloc, &mut bench) {
                 if is_split(&rt, alloc, &mut bench) {
@@ -124,6 +124,6 @@ fn calls_without_memory(rt: HostRuntime) {
                 }
             }
         }
-        None => assert!(rt; make_bench(alloc, 256, 3).is_none()),
+        None => assert!(rt; make_bench(alloc, 256, 3, 1).is_none()),
     }
 }

@@ -17,7 +17,7 @@ same x y e = cc
 
 pub rest_of-requires-clause-held : goal.rest_of-requires-clause-held
 rest_of-requires-clause-held g c =
-    let h = c.requires.held in let t = c.in-Ok.ensures.claimed in let r : ℕ = c.args.r in let n : ℕ = c.in-Ok.t in let all = c.args.records.now in let seat = c.args.seat.now in
+    let h = c.requires.held in let t = c.in-Ok.ensures.claimed in let r : ℕ = c.args.r in let n : ℕ = c.in-Ok.t in let all = c.args.desk.now.records.now in let seat = c.args.seat.now in
     let there : IsRecord all.shape r = subst (λ s. IsRecord s r) c.requires.own.1 h.2.exists in
     let exists : IsRecord all.shape n = (subst (λ (z : ℕ). z < length all.shape.names) (sym c.in-Ok.ensures.record.0) there.0, c.in-Ok.ensures.record.1) in
     let k = cutting all seat c.claim.new.seat r n h.0 t.0 c.requires.own h.1 h.2 exists t.2 c.in-Ok.ensures.fresh (claims seat c.claim.new.seat _ _ _ t.1) in
@@ -25,7 +25,7 @@ rest_of-requires-clause-held g c =
 
 pub vacate-requires-clause-own : goal.vacate-requires-clause-own
 vacate-requires-clause-own g c =
-    let h = c.requires.held in let t = c.in-Ok.ensures.claimed in let r : ℕ = c.args.r in let n : ℕ = c.in-Ok.t in let all = c.args.records.now in let seat = c.args.seat.now in
+    let h = c.requires.held in let t = c.in-Ok.ensures.claimed in let r : ℕ = c.args.r in let n : ℕ = c.in-Ok.t in let all = c.args.desk.now.records.now in let seat = c.args.seat.now in
     let there : IsRecord all.shape r = subst (λ s. IsRecord s r) c.requires.own.1 h.2.exists in
     let exists : IsRecord all.shape n = (subst (λ (z : ℕ). z < length all.shape.names) (sym c.in-Ok.ensures.record.0) there.0, c.in-Ok.ensures.record.1) in
     let k = cutting all seat c.claim.new.seat r n h.0 t.0 c.requires.own h.1 h.2 exists t.2 c.in-Ok.ensures.fresh (claims seat c.claim.new.seat _ _ _ t.1) in
@@ -34,7 +34,7 @@ vacate-requires-clause-own g c =
 
 pub vacate-requires-clause-held : goal.vacate-requires-clause-held
 vacate-requires-clause-held g c =
-    let h = c.requires.held in let t = c.in-Ok.ensures.claimed in let r : ℕ = c.args.r in let n : ℕ = c.in-Ok.t in let all = c.args.records.now in let seat = c.args.seat.now in
+    let h = c.requires.held in let t = c.in-Ok.ensures.claimed in let r : ℕ = c.args.r in let n : ℕ = c.in-Ok.t in let all = c.args.desk.now.records.now in let seat = c.args.seat.now in
     let there : IsRecord all.shape r = subst (λ s. IsRecord s r) c.requires.own.1 h.2.exists in
     let exists : IsRecord all.shape n = (subst (λ (z : ℕ). z < length all.shape.names) (sym c.in-Ok.ensures.record.0) there.0, c.in-Ok.ensures.record.1) in
     let k = cutting all seat c.claim.new.seat r n h.0 t.0 c.requires.own h.1 h.2 exists t.2 c.in-Ok.ensures.fresh (claims seat c.claim.new.seat _ _ _ t.1) in
@@ -43,7 +43,7 @@ vacate-requires-clause-held g c =
 
 pub returns-in_default-rest_of-clause-refused : goal.returns-in_default-rest_of-clause-refused
 returns-in_default-rest_of-clause-refused g c =
-    let h = c.requires.held in let t = c.in-Ok.ensures.claimed in let r : ℕ = c.args.r in let n : ℕ = c.in-Ok.t in let all = c.args.records.now in let seat = c.args.seat.now in
+    let h = c.requires.held in let t = c.in-Ok.ensures.claimed in let r : ℕ = c.args.r in let n : ℕ = c.in-Ok.t in let all = c.args.desk.now.records.now in let seat = c.args.seat.now in
     let there : IsRecord all.shape r = subst (λ s. IsRecord s r) c.requires.own.1 h.2.exists in
     let exists : IsRecord all.shape n = (subst (λ (z : ℕ). z < length all.shape.names) (sym c.in-Ok.ensures.record.0) there.0, c.in-Ok.ensures.record.1) in
     let k = cutting all seat c.claim.new.seat r n h.0 t.0 c.requires.own h.1 h.2 exists t.2 c.in-Ok.ensures.fresh (claims seat c.claim.new.seat _ _ _ t.1) in
@@ -52,7 +52,7 @@ returns-in_default-rest_of-clause-refused g c =
 
 pub part_lots-requires-clause-own : goal.part_lots-requires-clause-own
 part_lots-requires-clause-own g c =
-    let h = c.requires.held in let t = c.in-Ok.ensures.claimed in let r : ℕ = c.args.r in let n : ℕ = c.in-Ok.t in let all = c.args.records.now in let seat = c.args.seat.now in
+    let h = c.requires.held in let t = c.in-Ok.ensures.claimed in let r : ℕ = c.args.r in let n : ℕ = c.in-Ok.t in let all = c.args.desk.now.records.now in let seat = c.args.seat.now in
     let there : IsRecord all.shape r = subst (λ s. IsRecord s r) c.requires.own.1 h.2.exists in
     let exists : IsRecord all.shape n = (subst (λ (z : ℕ). z < length all.shape.names) (sym c.in-Ok.ensures.record.0) there.0, c.in-Ok.ensures.record.1) in
     let k = cutting all seat c.claim.new.seat r n h.0 t.0 c.requires.own h.1 h.2 exists t.2 c.in-Ok.ensures.fresh (claims seat c.claim.new.seat _ _ _ t.1) in
@@ -61,7 +61,7 @@ part_lots-requires-clause-own g c =
 
 pub part_lots-requires-clause-held : goal.part_lots-requires-clause-held
 part_lots-requires-clause-held g c =
-    let h = c.requires.held in let t = c.in-Ok.ensures.claimed in let r : ℕ = c.args.r in let n : ℕ = c.in-Ok.t in let all = c.args.records.now in let seat = c.args.seat.now in
+    let h = c.requires.held in let t = c.in-Ok.ensures.claimed in let r : ℕ = c.args.r in let n : ℕ = c.in-Ok.t in let all = c.args.desk.now.records.now in let seat = c.args.seat.now in
     let there : IsRecord all.shape r = subst (λ s. IsRecord s r) c.requires.own.1 h.2.exists in
     let exists : IsRecord all.shape n = (subst (λ (z : ℕ). z < length all.shape.names) (sym c.in-Ok.ensures.record.0) there.0, c.in-Ok.ensures.record.1) in
     let k = cutting all seat c.claim.new.seat r n h.0 t.0 c.requires.own h.1 h.2 exists t.2 c.in-Ok.ensures.fresh (claims seat c.claim.new.seat _ _ _ t.1) in
@@ -71,7 +71,7 @@ part_lots-requires-clause-held g c =
 
 pub returns-clause-cut : goal.returns-clause-cut
 returns-clause-cut g c = λ l at.
-    let h = c.requires.held in let t = c.in-Ok.ensures.claimed in let r : ℕ = c.args.r in let n : ℕ = c.in-Ok.t in let all = c.args.records.now in let seat = c.args.seat.now in
+    let h = c.requires.held in let t = c.in-Ok.ensures.claimed in let r : ℕ = c.args.r in let n : ℕ = c.in-Ok.t in let all = c.args.desk.now.records.now in let seat = c.args.seat.now in
     let there : IsRecord all.shape r = subst (λ s. IsRecord s r) c.requires.own.1 h.2.exists in
     let exists : IsRecord all.shape n = (subst (λ (z : ℕ). z < length all.shape.names) (sym c.in-Ok.ensures.record.0) there.0, c.in-Ok.ensures.record.1) in
     let k = cutting all seat c.claim.new.seat r n h.0 t.0 c.requires.own h.1 h.2 exists t.2 c.in-Ok.ensures.fresh (claims seat c.claim.new.seat _ _ _ t.1) in

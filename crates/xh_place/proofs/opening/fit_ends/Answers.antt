@@ -2,7 +2,7 @@ use Rattle.std.proofs.Common.{ap, ◌∙◌}
 use Rattle.xh_model.specs.Keyed.{put}
 use Rattle.xh_model.proofs.Keyed.{put_same}
 use Rattle.xh_records.specs.Seats.{with_lots}
-use Rattle.xh_place.proofs.Out.{same_end}
+use Rattle.xh_place.proofs.Ends.{same_end}
 use Rattle.xh_place.proofs.opening.fit_ends.Goals as goal
 
 pub end_in-low-requires : goal.end_in-low-requires

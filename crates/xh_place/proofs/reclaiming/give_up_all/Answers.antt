@@ -11,17 +11,15 @@ use Rattle.xh_place.proofs.Counted.{ids_long}
 use Rattle.xh_place.proofs.Givens.{next_one, IsGoing, giving_up}
 use Rattle.xh_place.proofs.Steps.{block_small}
 use Rattle.xh_place.proofs.Swept.{gave_more, gave_some}
+use Rattle.xh_place.proofs.Desks.{same_again, still_at}
 use Rattle.xh_place.proofs.reclaiming.give_up_all.Goals as goal
 
-pub give_up_at-requires-clause-own : goal.give_up_at-requires-clause-own
-give_up_at-requires-clause-own g c = let same = c.loop-k.invariant.0.0 in (ap (λ (h : Held _). h.table) same ∙ c.requires.own.0, ap (λ (h : Held _). h.shape) same ∙ c.requires.own.1)
+pub give_up-requires-clause-at : goal.give_up-requires-clause-at
+give_up-requires-clause-at g c = let i = c.loop-k.invariant in
+    still_at g.V.Vaults.names g.V.Vaults.extent c.args.desk.now c.loop-k.desk c.loop-k.desk c.args.seat.now c.loop-k.seat i.3 (ap (λ (h : Held _). h.table) i.0.0) (ap (λ (h : Held _). h.shape) i.0.0) c.requires.at
 
-pub give_up_at-requires-clause-names : goal.give_up_at-requires-clause-names
-give_up_at-requires-clause-names g c =
-    let same = ap (λ (h : Held _). h.shape.names) c.loop-k.invariant.0.0 in (c.loop-k.invariant.3 ∙ c.requires.names.0 ∙ sym same, c.loop-k.invariant.5 ∙ c.requires.names.1 ∙ sym same)
-
-pub give_up_at-requires-clause-held : goal.give_up_at-requires-clause-held
-give_up_at-requires-clause-held g c =
+pub give_up-requires-clause-held : goal.give_up-requires-clause-held
+give_up-requires-clause-held g c =
     let blocks = c.args.blocks.now in let k : ℕ = c.loop-k.k in let i = c.loop-k.invariant in
     let inside : k < length blocks = omega (arith, c.loop-k-test.true) in
     let x : ℕ × Header = get_or blocks k (0, record { len = 0; kind = kind.Data }) in
@@ -59,16 +57,14 @@ loop-k-preserved g c =
     let one : c.from-bytes.result ≡ h.0.len = c.from-bytes.ensures ∙ h.3 in let small : h.0.len ≤ 1048576 = block_small h.2 in
     let sums : sum_of (drop k blocks) ≡ x.1.len + sum_of (drop (k + 1) blocks) = ap sum_of cut in
     let arena : x.0 / 256 < length c.args.seat.now.shape.names = h.2.exists.0 in
-    let long : length c.loop-k.tallies ≡ length c.args.seat.now.shape.names = sym (ids_long c.loop-k.tallies) ∙ ap length (i.5 ∙ c.requires.names.1) in
-    let paid : HasGivenBack h.0.len c.loop-k.tallies c.give_up_at.new.tallies =
-    subst (λ ts. HasGivenBack h.0.len c.loop-k.tallies ts) (sym (c.give_up_at.ensures.back h.0 at)) (gave_some (x.0 / 256) h.0.len c.loop-k.tallies (omega (arith, arena, long))) in (
-      giving_up (keys blocks) (keys (drop (k + 1) blocks)) x.0 c.args.seat.now c.loop-k.seat c.give_up_at.new.seat
-          (get_key k blocks (0, record { len = 0; kind = kind.Data }) inside) step c.give_up_at.ensures.seat,
+    let long : length c.loop-k.desk.tallies.now ≡ length c.args.seat.now.shape.names = sym (ids_long c.loop-k.desk.tallies.now) ∙ ap length (i.3.2 ∙ c.requires.at.1.1) in
+    let paid : HasGivenBack h.0.len c.loop-k.desk.tallies.now c.give_up.new.desk.tallies.now =
+    subst (λ ts. HasGivenBack h.0.len c.loop-k.desk.tallies.now ts) (sym (c.give_up.ensures.back h.0 at)) (gave_some (x.0 / 256) h.0.len c.loop-k.desk.tallies.now (omega (arith, arena, long))) in (
+      giving_up (keys blocks) (keys (drop (k + 1) blocks)) x.0 c.args.seat.now c.loop-k.seat c.give_up.new.seat
+          (get_key k blocks (0, record { len = 0; kind = kind.Data }) inside) step c.give_up.ensures.seat,
       (let was : c.loop-k.bytes + sum_of (drop k blocks) ≡ sum_of blocks = i.1 in let same : c.from-bytes.result ≡ x.1.len = c.from-bytes.ensures in omega (arith, was, sums, same)),
       (let most : c.loop-k.bytes ≤ k * 4294967295 = i.2 in omega (arith, most, one, small)),
-      c.give_up_at.ensures.same.0 ∙ i.3,
-      c.give_up_at.ensures.same.1 ∙ i.4,
-      c.give_up_at.ensures.same.2 ∙ i.5,
-      gave_more c.loop-k.bytes c.from-bytes.result c.args.tallies.now c.loop-k.tallies c.give_up_at.new.tallies i.6
-          (subst (λ (n : ℕ). HasGivenBack n c.loop-k.tallies c.give_up_at.new.tallies) (sym one) paid),
+      same_again g.V.Vaults.names g.V.Vaults.extent c.args.desk.now c.loop-k.desk c.give_up.new.desk i.3 c.give_up.ensures.same,
+      gave_more c.loop-k.bytes c.from-bytes.result c.args.desk.now.tallies.now c.loop-k.desk.tallies.now c.give_up.new.desk.tallies.now i.4
+          (subst (λ (n : ℕ). HasGivenBack n c.loop-k.desk.tallies.now c.give_up.new.desk.tallies.now) (sym one) paid),
     )

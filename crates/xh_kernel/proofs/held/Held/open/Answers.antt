@@ -1,4 +1,4 @@
-use Rattle.std.proofs.Common.{rules, ◌≡◌, ◌*◌, List, sym, subst}
+use Rattle.std.proofs.Common.{rules, ◌≡◌, ◌*◌, List, sym, subst, ◌∙◌}
 use Rattle.std.specs.Prelude.{MatchResult}
 use Rattle.std.proofs.lemmas.List.{with_items_is, places}
 use Rattle.xh_arena.specs.Views.{TallyOf}
@@ -12,15 +12,15 @@ use Rattle.xh_kernel.proofs.held.Held.open.Goals as goal
 pub returns-clause-ends : goal.returns-clause-ends
 returns-clause-ends g c =
     listed c.open-opened.result c.finish.result c.in_ok-low.low c.in_ok-low.high c.args.self.now.place
-    c.open-opened.new.self c.args.arena c.as_mut_slice-tallies.result.now c.open-opened.new.tallies
-    c.in_ok-test_open.ensures.1 c.open-opened.ensures.opened c.open-opened.ensures.ends c.finish.ensures
+    c.open-opened.new.self c.args.arena c.as_mut_slice-tallies.result.now c.open-opened.new.desk.tallies.now
+    c.in_ok-test_open.ensures.1 c.open-opened.ensures.opened c.finish.ensures
 
 pub returns-clause-account : goal.returns-clause-account
 returns-clause-account g c =
     subst (λ (ts : List TallyOf). MatchResult c.finish.result (λ _. account_of c.account.inside.number ts ≡ has_taken c.args.arena (2 * END_BYTES) c.args.account.now)
     (λ _. account_of c.account.inside.number ts ≡ c.args.account.now))
-    (sym (with_items_is c.account.inside.tallies c.open-opened.new.tallies (search (rules, places))))
-    (opened c.account.inside.number c.account.inside.tallies.items c.as_mut_slice-tallies.result.now c.open-opened.new.tallies
+    (sym (with_items_is c.account.inside.tallies _ (search (rules, places)) ∙ c.tallies-1.given.1.1 (sym c.open-opened.ensures.same.0.5)))
+    (opened c.account.inside.number c.account.inside.tallies.items c.as_mut_slice-tallies.result.now c.open-opened.new.desk.tallies.now
     c.args.account.now c.account.view_is c.as_mut_slice-tallies.ensures.value
     c.in_ok-low.low c.in_ok-low.high c.args.self.now.place c.open-opened.new.self c.args.arena c.open-opened.result c.finish.result
     c.open-opened.ensures.opened c.finish.ensures)

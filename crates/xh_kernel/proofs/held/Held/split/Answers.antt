@@ -9,7 +9,7 @@ pub returns : goal.returns
 returns g c =
     let place = c.args.self.now.place in let done = c.split-answer.ensures in
     record {
-      cut = done.cut;
+      cut = done.cut.cut;
       refused = search rules;
       why = passes (start c.args.p place) (split_tests (found place c.args.r) c.args.k) c.in_ok-start.ensures.0 place.state c.in_ok-start.ensures.1 _ _ done.why;
     }

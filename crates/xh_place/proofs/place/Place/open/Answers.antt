@@ -1,31 +1,14 @@
 use Rattle.std.proofs.Common.{rules, arith, ◌≡◌, ℕ, ◌+◌, ◌<◌, ◌≤◌, List, [], ◌∷◌, ◌++◌, length, refl, sym, ap, ◌∙◌, subst, true}
-use Rattle.std.specs.Prelude.{slice_get}
 use Rattle.std.specs.Vec.{vec_capacity}
 use Rattle.xh_core.specs.declared.header.Header.{Header}
 use Rattle.xh_core.specs.declared.header.Kind.TheVariants as kind
 use Rattle.xh_place.specs.Ends.{end_block}
 use Rattle.xh_core.specs.Statuses.{is_running}
 use Rattle.xh_place.specs.Places.{Item, header_of, item_of, with_blocks}
-use Rattle.xh_place.specs.Tallies.{ids_of, took}
-use Rattle.xh_place.proofs.Counted.{ids_at, ids_long, ids_took, took_set}
 use Rattle.xh_place.proofs.Opened.{both_listed, opened, room_first, room_second}
 use Rattle.xh_place.proofs.Steps.{kept, over_running, total_bound}
+use Rattle.xh_place.proofs.Desks.{same_place, seat_at}
 use Rattle.xh_place.proofs.place.Place.open.Goals as goal
-
-pub bounds-tallies-from : goal.bounds-tallies-from
-bounds-tallies-from g c =
-    let long : length c.args.tallies.now ≡ length (g.V.Vaults.names c.args.vaults.now) = sym (ids_long c.args.tallies.now) ∙ ap length (c.requires.names.1 ∙ sym c.requires.names.0) in
-    let inside : c.from-2.result < length c.args.tallies.now = omega (arith, c.arenas.ensures, c.from.ensures, c.if-arena-from.false) in
-    inside
-
-pub make_ends-requires-clause-tally : goal.make_ends-requires-clause-tally
-make_ends-requires-clause-tally g c =
-    let long : length c.args.tallies.now ≡ length (g.V.Vaults.names c.args.vaults.now) = sym (ids_long c.args.tallies.now) ∙ ap length (c.requires.names.1 ∙ sym c.requires.names.0) in
-    let inside : c.from-2.result < length c.args.tallies.now = omega (arith, c.arenas.ensures, c.from.ensures, c.if-arena-from.false) in (
-      omega (arith, c.arenas.ensures, c.from.ensures, c.if-arena-from.false),
-      (λ i. slice_get ((c.requires.names.0 ∙ sym c.requires.names.1) i) (sym c.from-2.ensures i))
-          ∙ ids_at c.args.tallies.now c.from-2.result c.index-tallies-from.result inside,
-    )
 
 pub push_reserved-requires : goal.push_reserved-requires
 push_reserved-requires g c =
@@ -54,8 +37,8 @@ overflow_add-self g c =
     c.self.inside.state in let is = c.self.invariant in
     let k = c.in_ok-made.ensures.made in let l = k.0 in let m = k.1 in let r : ℕ = c.in_ok-made.made.0 in let q : ℕ = c.in_ok-made.made.1 in let arena : ℕ = c.args.arena in
     let run : is_running state ≡ true = search rules in let alive = over_running state run in
-    let most : total ≤ 2147483648 = total_bound seat xs room total state is in let some : c.from-3.result ≡ 64 = c.from-3.ensures in
-    let sum : total + c.from-3.result < 18446744073709551616 = omega (arith, most, some) in search rules
+    let most : total ≤ 2147483648 = total_bound seat xs room total state is in let some : c.from-2.result ≡ 64 = c.from-2.ensures in
+    let sum : total + c.from-2.result < 18446744073709551616 = omega (arith, most, some) in search rules
 
 pub invariant_of-self-2 : goal.invariant_of-self-2
 invariant_of-self-2 g c =
@@ -68,22 +51,13 @@ invariant_of-self-2 g c =
     let first : c.push_reserved.new.self.items ≡ xs ++ (r, header_of (item_of l)) ∷ [] = c.push_reserved.ensures.items ∙ ap (λ (z : Header). xs ++ (r, z) ∷ []) one in
     let items : c.push_reserved-2.new.self.items ≡ (xs ++ (r, header_of (item_of l)) ∷ []) ++ (q, header_of (item_of m)) ∷ [] = c.push_reserved-2.ensures.items ∙ (λ i. first i ++ (q, other i) ∷ []) in
     let len : l.len ≡ 32 = ap (λ (x : Item). x.len) k.3 in let len2 : m.len ≡ 32 = ap (λ (x : Item). x.len) k.4 in
-    let sum : total + c.from-3.result ≡ total + l.len + m.len = omega (arith, c.from-3.ensures, len, len2) in
+    let sum : total + c.from-2.result ≡ total + l.len + m.len = omega (arith, c.from-2.ensures, len, len2) in
     let both = opened seat c.make_ends.new.seat xs room total state is alive c.args.arena r q l m k.2 c.push_reserved-2.new.self.items (vec_capacity c.push_reserved-2.new.self)
-    (total + c.from-3.result) items (c.push_reserved-2.ensures.capacity ∙ c.push_reserved.ensures.capacity) sum in
+    (total + c.from-2.result) items (c.push_reserved-2.ensures.capacity ∙ c.push_reserved.ensures.capacity) sum in
     both.0
-
-pub returns-clause-same : goal.returns-clause-same
-returns-clause-same g c =
-    let long : length c.args.tallies.now ≡ length (g.V.Vaults.names c.args.vaults.now) = sym (ids_long c.args.tallies.now) ∙ ap length (c.requires.names.1 ∙ sym c.requires.names.0) in
-    let inside : c.from-2.result < length c.args.tallies.now = omega (arith, c.arenas.ensures, c.from.ensures, c.if-arena-from.false) in
-    let paid = took_set c.args.tallies.now c.from-2.result 64 c.index-tallies-from.result _ inside c.in_ok-made.ensures.tally in
-    (c.make_ends.ensures.same.0, c.make_ends.ensures.same.1, ap ids_of paid ∙ ids_took c.args.tallies.now c.from-2.result 64)
 
 pub returns-clause-opened : goal.returns-clause-opened
 returns-clause-opened g c =
-    let long : length c.args.tallies.now ≡ length (g.V.Vaults.names c.args.vaults.now) = sym (ids_long c.args.tallies.now) ∙ ap length (c.requires.names.1 ∙ sym c.requires.names.0) in
-    let inside : c.from-2.result < length c.args.tallies.now = omega (arith, c.arenas.ensures, c.from.ensures, c.if-arena-from.false) in
     let seat = c.self.inside.seat in let xs = c.self.inside.list.items in let room : ℕ = vec_capacity c.self.inside.list in let total : ℕ = c.self.inside.total in let state =
     c.self.inside.state in let is = c.self.invariant in
     let k = c.in_ok-made.ensures.made in let l = k.0 in let m = k.1 in let r : ℕ = c.in_ok-made.made.0 in let q : ℕ = c.in_ok-made.made.1 in
@@ -93,35 +67,31 @@ returns-clause-opened g c =
     let first : c.push_reserved.new.self.items ≡ xs ++ (r, header_of (item_of l)) ∷ [] = c.push_reserved.ensures.items ∙ ap (λ (z : Header). xs ++ (r, z) ∷ []) one in
     let items : c.push_reserved-2.new.self.items ≡ (xs ++ (r, header_of (item_of l)) ∷ []) ++ (q, header_of (item_of m)) ∷ [] = c.push_reserved-2.ensures.items ∙ (λ i. first i ++ (q, other i) ∷ []) in
     let len : l.len ≡ 32 = ap (λ (x : Item). x.len) k.3 in let len2 : m.len ≡ 32 = ap (λ (x : Item). x.len) k.4 in
-    let sum : total + c.from-3.result ≡ total + l.len + m.len = omega (arith, c.from-3.ensures, len, len2) in
+    let sum : total + c.from-2.result ≡ total + l.len + m.len = omega (arith, c.from-2.ensures, len, len2) in
     let both = opened seat c.make_ends.new.seat xs room total state is alive c.args.arena r q l m k.2 c.push_reserved-2.new.self.items (vec_capacity c.push_reserved-2.new.self)
-    (total + c.from-3.result) items (c.push_reserved-2.ensures.capacity ∙ c.push_reserved.ensures.capacity) sum in
-    let paid = took_set c.args.tallies.now c.from-2.result 64 c.index-tallies-from.result _ inside c.in_ok-made.ensures.tally in (
+    (total + c.from-2.result) items (c.push_reserved-2.ensures.capacity ∙ c.push_reserved.ensures.capacity) sum in (
       both.1 c.args.self.now c.self.view_is ∙ ap (λ (z : Item × Item). with_blocks c.args.self.now (c.args.self.now.blocks ++ (r, z.0) ∷ (q, z.1) ∷ [])) (λ i. (k.3 i, k.4 i)),
       (refl, k.2.two.first_arena),
       (refl, k.2.two.second_arena),
-      paid ∙ ap (λ (a : ℕ). took a 64 c.args.tallies.now) c.from-2.ensures,
+      c.in_ok-made.ensures.taken,
+      both_listed seat c.make_ends.new.seat xs room total state is alive c.args.arena r q l m k.2 c.push_reserved-2.new.self.items (vec_capacity c.push_reserved-2.new.self)
+          (total + c.from-2.result) both.0 (end_block c.args.low) (end_block c.args.high) k.3 k.4,
     )
 
-pub returns-clause-ends : goal.returns-clause-ends
-returns-clause-ends g c =
-    let seat = c.self.inside.seat in let xs = c.self.inside.list.items in let room : ℕ = vec_capacity c.self.inside.list in let total : ℕ = c.self.inside.total in let state =
-    c.self.inside.state in let is = c.self.invariant in
-    let k = c.in_ok-made.ensures.made in let l = k.0 in let m = k.1 in let r : ℕ = c.in_ok-made.made.0 in let q : ℕ = c.in_ok-made.made.1 in
-    let run : is_running state ≡ true = search rules in let alive = over_running state run in
-    let header : Header = record { len = 32; kind = kind.End } in
-    let one : header ≡ header_of (item_of l) = ap header_of (sym k.3) in let other : header ≡ header_of (item_of m) = ap header_of (sym k.4) in
-    let first : c.push_reserved.new.self.items ≡ xs ++ (r, header_of (item_of l)) ∷ [] = c.push_reserved.ensures.items ∙ ap (λ (z : Header). xs ++ (r, z) ∷ []) one in
-    let items : c.push_reserved-2.new.self.items ≡ (xs ++ (r, header_of (item_of l)) ∷ []) ++ (q, header_of (item_of m)) ∷ [] = c.push_reserved-2.ensures.items ∙ (λ i. first i ++ (q, other i) ∷ []) in
-    let len : l.len ≡ 32 = ap (λ (x : Item). x.len) k.3 in let len2 : m.len ≡ 32 = ap (λ (x : Item). x.len) k.4 in
-    let sum : total + c.from-3.result ≡ total + l.len + m.len = omega (arith, c.from-3.ensures, len, len2) in
-    let both = opened seat c.make_ends.new.seat xs room total state is alive c.args.arena r q l m k.2 c.push_reserved-2.new.self.items (vec_capacity c.push_reserved-2.new.self)
-    (total + c.from-3.result) items (c.push_reserved-2.ensures.capacity ∙ c.push_reserved.ensures.capacity) sum in
-    both_listed seat c.make_ends.new.seat xs room total state is alive c.args.arena r q l m k.2 c.push_reserved-2.new.self.items (vec_capacity c.push_reserved-2.new.self)
-    (total + c.from-3.result) both.0 (end_block c.args.low) (end_block c.args.high) k.3 k.4
+pub returns-clause-same : goal.returns-clause-same
+returns-clause-same g c = (c.make_ends.ensures.same, same_place c.args.self.now _ _ (returns-clause-opened g c).0)
 
 pub invariant_of-self : goal.invariant_of-self
 invariant_of-self g c =
     let seat = c.self.inside.seat in let xs = c.self.inside.list.items in let room : ℕ = vec_capacity c.self.inside.list in let total : ℕ = c.self.inside.total in let state =
     c.self.inside.state in let is = c.self.invariant in
     kept seat c.make_ends.new.seat xs room total state c.in_err-made.ensures.refused.0 is
+
+pub make_ends-requires-clause-at : goal.make_ends-requires-clause-at
+make_ends-requires-clause-at g c = seat_at g.V.Vaults.names c.args.desk.now c.args.self.now c.self.inside.seat (ap (λ p. p.table) c.self.view_is) (ap (λ p. p.shape) c.self.view_is) c.requires.at
+
+pub make_ends-requires-clause-arena : goal.make_ends-requires-clause-arena
+make_ends-requires-clause-arena g c =
+    let names : length c.self.inside.seat.shape.names ≡ length c.args.self.now.shape.names = ap (λ p. length p.shape.names) c.self.view_is in
+    let all : length (g.V.Vaults.names c.args.desk.now.vaults.now) ≡ length c.args.self.now.shape.names = ap length c.requires.at.1.0 in
+    omega (arith, c.arenas.ensures, c.from.ensures, c.if-arena-from.false, names, all)

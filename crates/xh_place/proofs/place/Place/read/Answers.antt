@@ -1,4 +1,4 @@
-use Rattle.std.proofs.Common.{◌≡◌, ℕ, ◌+◌, ◌≤◌, length, sym, ap, ◌∙◌, subst}
+use Rattle.std.proofs.Common.{rules, ◌≡◌, ℕ, ◌+◌, ◌≤◌, length, sym, ap, ◌∙◌, subst}
 use Rattle.std.specs.Vec.{vec_capacity}
 use Rattle.xh_records.specs.Seats.{IsRecord}
 use Rattle.xh_place.specs.Bodies.{kind_of, part}
@@ -12,8 +12,8 @@ read_lot-requires-clause-own c =
     let q = c.in_ok-test_range.ensures.1 in
     let f = found c.self.inside.seat c.self.inside.list.items
     (vec_capacity c.self.inside.list) c.self.inside.total c.self.inside.state c.self.invariant c.args.self.now c.self.view_is c.args.r q.0 q.1 in
-    let shape = ap (λ p. p.shape) c.self.view_is ∙ c.requires.own.1 in
-    ((ap (λ p. p.table) c.self.view_is ∙ c.requires.own.0, shape), subst (λ z. IsRecord z c.args.r) shape f.block.exists)
+    let shape = ap (λ p. p.shape) c.self.view_is ∙ c.requires.1 in
+    ((ap (λ p. p.table) c.self.view_is ∙ c.requires.0, shape), subst (λ z. IsRecord z c.args.r) shape f.block.exists)
 
 pub read_lot-requires-clause-held : goal.read_lot-requires-clause-held
 read_lot-requires-clause-held c =
@@ -31,17 +31,14 @@ invariant_of-self c =
     let same = unmoved c.self.inside.seat c.read_lot.new.seat c.args.r f.lot f.held (c.read_lot.ensures f.lot f.held).1 in
     subst (λ s. IsPlace s c.self.inside.list.items (vec_capacity c.self.inside.list) c.self.inside.total c.self.inside.state) (sym same) c.self.invariant
 
-pub returns-clause-same : goal.returns-clause-same
-returns-clause-same c =
+pub returns : goal.returns
+returns c =
     let q = c.in_ok-test_range.ensures.1 in
     let f = found c.self.inside.seat c.self.inside.list.items
     (vec_capacity c.self.inside.list) c.self.inside.total c.self.inside.state c.self.invariant c.args.self.now c.self.view_is c.args.r q.0 q.1 in
     let same = unmoved c.self.inside.seat c.read_lot.new.seat c.args.r f.lot f.held (c.read_lot.ensures f.lot f.held).1 in
-    ap (λ s. view_of s c.self.inside.list.items c.self.inside.state) same ∙ c.self.view_is
-
-pub returns-clause-read : goal.returns-clause-read
-returns-clause-read c =
-    let q = c.in_ok-test_range.ensures.1 in
-    let f = found c.self.inside.seat c.self.inside.list.items
-    (vec_capacity c.self.inside.list) c.self.inside.total c.self.inside.state c.self.invariant c.args.self.now c.self.view_is c.args.r q.0 q.1 in
-    (c.in_ok-test_range.ensures.0, (q.0, q.1, (c.read_lot.ensures f.lot f.held).0 ∙ ap (λ (x : Item). part c.args.at (length c.args.out.now) x.content) f.same))
+    record {
+      same = ap (λ s. view_of s c.self.inside.list.items c.self.inside.state) same ∙ c.self.view_is;
+      read = (c.in_ok-test_range.ensures.0, (q.0, q.1, (c.read_lot.ensures f.lot f.held).0 ∙ ap (λ (x : Item). part c.args.at (length c.args.out.now) x.content) f.same));
+      refused = search rules;
+    }

@@ -7,6 +7,7 @@ use Rattle.xh_place.specs.Bodies.{content_of, front, kind_of, rest}
 use Rattle.xh_place.specs.Places.{Item, found as found_at, header_of, item_of, with_blocks}
 use Rattle.xh_core.specs.Calls.{split_tests}
 use Rattle.xh_core.specs.Statuses.{is_running}
+use Rattle.xh_place.proofs.Desks.{same_place}
 use Rattle.xh_place.proofs.Found.{found}
 use Rattle.xh_place.proofs.Parted.{front_kind, parted, put_long, rest_kind, runs}
 use Rattle.xh_place.proofs.Steps.{has_room, kept}
@@ -77,16 +78,21 @@ returns-clause-cut g c =
     let items : c.push_reserved.new.self.items ≡ put r (header_of (item_of cut.0)) xs ++ (n, header_of (item_of cut.1)) ∷ [] =
     c.push_reserved.ensures.items ∙ (λ i. c.replace.ensures.items i ++ (n, sym tail_is i) ∷ []) ∙ ap (λ (z : Header). put r z xs ++ (n, header_of (item_of cut.1)) ∷ []) (sym head_is) in
     let both = parted seat c.cut_block.new.seat xs c.push_reserved.new.self.items room
-    (vec_capacity c.push_reserved.new.self) total state r n f.lot cut.0 cut.1 run is f.held cut.4 cut.5 cut.2 cut.3 cut.7 items (c.push_reserved.ensures.capacity ∙ c.replace.ensures.room) in (
-      q.0,
-      q.1,
-      both.1 c.args.self.now c.self.view_is ∙ (λ i. with_blocks c.args.self.now
-          (put r (record { len = cut.6 i; content = (cut.8 ∙ ap (λ (x : Item). front c.args.k x.content) f.same) i }) c.args.self.now.blocks
-          ++ (n, record { len = tail i; content = (cut.9 ∙ ap (λ (x : Item). rest c.args.k x.content) f.same) i }) ∷ [])),
-      refl,
-      cut.10,
-      (let a : c.args.k < c.in_ok-len.len = q.4.2 in let b : q.0.len ≡ c.in_ok-len.len = q.3 in omega arith),
-    )
+    (vec_capacity c.push_reserved.new.self) total state r n f.lot cut.0 cut.1 run is f.held cut.4 cut.5 cut.2 cut.3 cut.7 items (c.push_reserved.ensures.capacity ∙ c.replace.ensures.room) in
+    record {
+      cut = (
+        q.0,
+        q.1,
+        both.1 c.args.self.now c.self.view_is ∙ (λ i. with_blocks c.args.self.now
+            (put r (record { len = cut.6 i; content = (cut.8 ∙ ap (λ (x : Item). front c.args.k x.content) f.same) i }) c.args.self.now.blocks
+            ++ (n, record { len = tail i; content = (cut.9 ∙ ap (λ (x : Item). rest c.args.k x.content) f.same) i }) ∷ [])),
+        refl,
+        cut.10,
+        (let a : c.args.k < c.in_ok-len.len = q.4.2 in let b : q.0.len ≡ c.in_ok-len.len = q.3 in omega arith),
+      );
+      refused = search rules;
+      unmoved = c.cut_block.ensures.tallies;
+    }
 
-pub returns-clause-place : goal.returns-clause-place
-returns-clause-place g c = let e = (returns-clause-cut g c).2 in (ap (λ p. p.table) e, ap (λ p. p.shape) e, ap (λ p. p.process) e)
+pub returns-clause-same : goal.returns-clause-same
+returns-clause-same g c = (c.cut_block.ensures.same, same_place c.args.self.now _ _ (returns-clause-cut g c).cut.2)

@@ -1,11 +1,12 @@
-use Rattle.std.proofs.Common.{arith, ℕ, ◌+◌, ◌<◌, length, refl, ap, ◌∙◌}
+use Rattle.std.proofs.Common.{arith, ℕ, ◌+◌, ◌<◌, length, refl, ap}
 use Rattle.xh_place.specs.Ending.{IsSweptBy}
 use Rattle.xh_place.specs.Places.{PlaceOf}
 use Rattle.xh_place.proofs.Swept.{gave_more, gave_nothing, started, swept_more, swept_none, twice_own}
+use Rattle.xh_place.proofs.Desks.{same_again}
 use Rattle.xh_place.proofs.place.Place.sweep.Goals as goal
 
 pub loop-used-init : goal.loop-used-init
-loop-used-init g c = (omega arith, omega arith, refl, swept_none c.args.from c.args.self.now, (λ h. refl), refl, refl, refl, gave_nothing c.args.tallies.now)
+loop-used-init g c = (omega arith, omega arith, refl, swept_none c.args.from c.args.self.now, (λ h. refl), (refl, refl, refl, refl, refl, refl), gave_nothing c.args.desk.now.tallies.now)
 
 pub loop-used-preserved : goal.loop-used-preserved
 loop-used-preserved g c =
@@ -20,8 +21,6 @@ loop-used-preserved g c =
       twice_own old mid new i.2 c.reclaim-more.ensures.list,
       by,
       (λ h. absurd (omega (arith, inside, h))),
-      c.reclaim-more.ensures.same.0 ∙ i.5,
-      c.reclaim-more.ensures.same.1 ∙ i.6,
-      c.reclaim-more.ensures.same.2 ∙ i.7,
-      gave_more c.loop-used.bytes c.reclaim-more.result.0 c.args.tallies.now c.loop-used.tallies c.reclaim-more.new.tallies i.8 c.reclaim-more.ensures.back,
+      same_again g.V.Vaults.names g.V.Vaults.extent c.args.desk.now c.loop-used.desk c.reclaim-more.new.desk i.5 c.reclaim-more.ensures.same,
+      gave_more c.loop-used.bytes c.reclaim-more.result.0 c.args.desk.now.tallies.now c.loop-used.desk.tallies.now c.reclaim-more.new.desk.tallies.now i.6 c.reclaim-more.ensures.back,
     )

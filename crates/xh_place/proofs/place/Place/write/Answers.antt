@@ -1,9 +1,10 @@
-use Rattle.std.proofs.Common.{◌≡◌, ℕ, ◌+◌, ◌≤◌, length, sym, ap, ◌∙◌, subst}
+use Rattle.std.proofs.Common.{rules, ◌≡◌, ℕ, ◌+◌, ◌≤◌, length, sym, ap, ◌∙◌, subst}
 use Rattle.std.specs.Vec.{vec_capacity}
 use Rattle.xh_model.specs.Keyed.{put}
 use Rattle.xh_records.specs.Seats.{IsRecord}
 use Rattle.xh_place.specs.Bodies.{kind_of}
 use Rattle.xh_place.specs.Places.{Item, with_blocks}
+use Rattle.xh_place.proofs.Desks.{same_place}
 use Rattle.xh_place.proofs.Found.{found, rewritten}
 use Rattle.xh_place.proofs.Patched.{is_patched}
 use Rattle.xh_place.proofs.place.Place.write.Goals as goal
@@ -13,8 +14,8 @@ write_lot-requires-clause-own c =
     let q = c.in_ok-test_range.ensures.1 in
     let f = found c.self.inside.seat c.self.inside.list.items
     (vec_capacity c.self.inside.list) c.self.inside.total c.self.inside.state c.self.invariant c.args.self.now c.self.view_is c.args.r q.0 q.1 in
-    let shape = ap (λ p. p.shape) c.self.view_is ∙ c.requires.own.1 in
-    ((ap (λ p. p.table) c.self.view_is ∙ c.requires.own.0, shape), subst (λ z. IsRecord z c.args.r) shape f.block.exists)
+    let shape = ap (λ p. p.shape) c.self.view_is ∙ c.requires.1 in
+    ((ap (λ p. p.table) c.self.view_is ∙ c.requires.0, shape), subst (λ z. IsRecord z c.args.r) shape f.block.exists)
 
 pub write_lot-requires-clause-held : goal.write_lot-requires-clause-held
 write_lot-requires-clause-held c =
@@ -34,8 +35,8 @@ invariant_of-self c =
     (rewritten c.self.inside.seat c.write_lot.new.seat c.self.inside.list.items
     (vec_capacity c.self.inside.list) c.self.inside.total c.self.inside.state c.self.invariant c.args.r f.lot w.0 f.held w.3 is.0 is.1).0
 
-pub returns-clause-written : goal.returns-clause-written
-returns-clause-written c =
+pub returns : goal.returns
+returns c =
     let q = c.in_ok-test_range.ensures.1 in
     let f = found c.self.inside.seat c.self.inside.list.items
     (vec_capacity c.self.inside.list) c.self.inside.total c.self.inside.state c.self.invariant c.args.self.now c.self.view_is c.args.r q.0 q.1 in
@@ -43,7 +44,5 @@ returns-clause-written c =
     let is = is_patched c.self.inside.seat.shape c.args.r c.args.at c.args.bytes.now f.lot w.0 q.0 f.block f.same q.2 q.3 w.1 w.2 in
     let both = rewritten c.self.inside.seat c.write_lot.new.seat c.self.inside.list.items
     (vec_capacity c.self.inside.list) c.self.inside.total c.self.inside.state c.self.invariant c.args.r f.lot w.0 f.held w.3 is.0 is.1 in
-    (c.in_ok-test_range.ensures.0, (q.0, q.1, both.1 c.args.self.now c.self.view_is ∙ ap (λ (x : Item). with_blocks c.args.self.now (put c.args.r x c.args.self.now.blocks)) is.2))
-
-pub returns-clause-place : goal.returns-clause-place
-returns-clause-place c = let e = (returns-clause-written c).1.2 in (ap (λ p. p.table) e, ap (λ p. p.shape) e, ap (λ p. p.process) e)
+    let e = both.1 c.args.self.now c.self.view_is ∙ ap (λ (x : Item). with_blocks c.args.self.now (put c.args.r x c.args.self.now.blocks)) is.2 in
+    record { place = same_place c.args.self.now _ _ e; written = (c.in_ok-test_range.ensures.0, (q.0, q.1, e)); refused = search rules }

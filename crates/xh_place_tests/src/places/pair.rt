@@ -5,7 +5,7 @@ ghost use Rattle.xh_place.specs.Tallies.{ids_of};
 
 use super::notes::Notes;
 use super::vaults::Plain;
-use super::{Bench, make_bench};
+use super::{Bench, flat, make_bench};
 use std::alloc::Global;
 use std::mem;
 use std::sync::Wait;
@@ -13,7 +13,7 @@ use xh_arena::Tally;
 use xh_channel::{Channels, Spot};
 use xh_core::{Block, Contract, Refused, Status};
 use xh_model::Row;
-use xh_place::{Body, Place, Taken};
+use xh_place::{Body, Desk, Place, Taken};
 use xh_records::Records;
 
 fn row(state: u8, tag: u16, side: u8, next: u8) -> Row {
@@ -27,7 +27,7 @@ fn row(state: u8, tag: u16, side: u8, next: u8) -> Row {
 
 /// One arena, one account, all channels and two places. Calls are of the place whose turn it is, and where they stop is noted.
 #[derive(Drop)]
-pub(super) struct Desk {
+pub(super) struct Pair {
     pub(super) records: Records<Body>,
     pub(super) vaults: Plain,
     pub(super) tallies: Vec<Tally>,
@@ -40,20 +40,20 @@ pub(super) struct Desk {
     ghost ids: { ids_of tallies.items ≡ records.shape.names },
 }
 
-/// A desk of an arena of `size` bytes and 8 records.
-pub(super) fn make_desk(alloc: Global, size: u32, depth: u8) -> Option<Desk> {
-    let bench = make_bench(alloc, size, 8)?;
-    let channels = Channels::new(alloc, depth).ok()?;
+/// A pair of an arena of `size` bytes and 8 records.
+pub(super) fn make_pair(alloc: Global, size: u32, depth: u8) -> Option<Pair> {
+    let bench = make_bench(alloc, size, 8, depth)?;
     let Bench {
         records,
         vaults,
         tallies,
+        channels,
         first,
         mut second,
         ..
     } = bench;
     second.start(&records);
-    Some(Desk {
+    Some(Pair {
         records,
         vaults,
         tallies,
@@ -64,16 +64,24 @@ pub(super) fn make_desk(alloc: Global, size: u32, depth: u8) -> Option<Desk> {
     })
 }
 
-impl Desk {
+impl Pair {
     /// It is the other place's turn.
     pub(super) fn turn(&mut self) {
         mem::swap(&mut self.place, &mut self.other);
     }
 
     pub(super) fn alloc(&mut self, alloc: Global, n: u32, arena: u32) -> Result<Block, Refused> {
-        let tallies = self.tallies.as_mut_slice();
-        let vaults = &mut self.vaults;
-        self.place.alloc(alloc, &self.records, n, arena, vaults, tallies, &self.notes)
+        flat::alloc(
+            alloc,
+            &mut self.place,
+            &self.records,
+            &self.channels,
+            &mut self.vaults,
+            self.tallies.as_mut_slice(),
+            &self.notes,
+            n,
+            arena,
+        )
     }
 
     pub(super) fn split(
@@ -82,9 +90,8 @@ impl Desk {
         r: u16,
         k: u32,
     ) -> Result<(Block, Block), Refused> {
-        let vaults = &mut self.vaults;
-        self.place
-            .split(alloc, &self.records, r, k, vaults, &self.notes)
+        let mut desk = desk!(self, &(), &mut self.vaults, &self.notes);
+        self.place.split(alloc, &mut desk, r, k)
     }
 
     pub(super) fn read(&mut self, r: u16, at: u32, out: &mut [u8]) -> Result<(), Refused> {
@@ -96,20 +103,30 @@ impl Desk {
     }
 
     pub(super) fn free(&mut self, r: u16) -> Result<u32, Refused> {
-        let tallies = self.tallies.as_mut_slice();
-        let vaults = &mut self.vaults;
-        self.place
-            .free(&self.records, r, vaults, tallies, &self.notes)
+        flat::free(
+            &mut self.place,
+            &self.records,
+            &self.channels,
+            &mut self.vaults,
+            self.tallies.as_mut_slice(),
+            &self.notes,
+            r,
+        )
     }
 
     /// The records of both ends of a new channel.
     pub(super) fn open<R: Wait>(&mut self, rt: &R) -> Option<(u16, u16)> {
         let (low, high) = self.channels.open(rt).ok()?;
-        let tallies = self.tallies.as_mut_slice();
-        let vaults = &mut self.vaults;
-        let made = self
-            .place
-            .open(&self.records, low, high, 0, vaults, tallies, &self.notes);
+        let made = flat::open(
+            &mut self.place,
+            &self.records,
+            &self.channels,
+            &mut self.vaults,
+            self.tallies.as_mut_slice(),
+            &self.notes,
+            low,
+            high,
+        );
         let (a, b) = made.ok()?;
         Some((a.rec, b.rec))
     }
@@ -118,11 +135,16 @@ impl Desk {
     pub(super) fn open_with<R: Wait>(&mut self, rt: &R) -> Option<(u16, u16)> {
         let contract = Contract::new(&[row(0, 1, 0, 1), row(1, 2, 1, 0)]).ok()?;
         let (low, high) = self.channels.open_with(rt, contract).ok()?;
-        let tallies = self.tallies.as_mut_slice();
-        let vaults = &mut self.vaults;
-        let made = self
-            .place
-            .open_with(&self.records, low, high, 0, vaults, tallies, &self.notes);
+        let made = flat::open_with(
+            &mut self.place,
+            &self.records,
+            &self.channels,
+            &mut self.vaults,
+            self.tallies.as_mut_slice(),
+            &self.notes,
+            low,
+            high,
+        );
         let (a, b) = made.ok()?;
         Some((a.rec, b.rec))
     }
@@ -151,19 +173,17 @@ impl Desk {
             return Err(Refused::NotOwned);
         }
         let process = self.other.process();
-        let tallies = self.tallies.as_mut_slice();
-        let vaults = &mut self.vaults;
-        let channels = &self.channels;
-        self.other.accept_end(
+        flat::accept_end(
             rt,
+            &mut self.other,
             &self.records,
-            channels,
+            &self.channels,
+            &mut self.vaults,
+            self.tallies.as_mut_slice(),
+            &self.notes,
             process,
             e,
             direction,
-            vaults,
-            tallies,
-            &self.notes,
         )
     }
 
@@ -188,41 +208,38 @@ impl Desk {
         tag: u16,
         blocks: &[u16],
     ) -> Result<u64, Refused> {
-        self.place.give(
-            rt,
-            &self.records,
-            &self.channels,
-            e,
-            tag,
-            blocks,
-            &self.notes,
-        )
+        let desk = desk!(self, rt, &mut (), &self.notes);
+        self.place.give(&desk, e, tag, blocks)
     }
 
     pub(super) fn take<R: Wait>(&mut self, rt: &R, e: u16) -> Result<Taken, Refused> {
-        self.place
-            .take(rt, &self.records, &self.channels, e, &self.notes)
+        let desk = desk!(self, rt, &mut (), &self.notes);
+        self.place.take(&desk, e)
     }
 
     pub(super) fn close<R: Wait>(&mut self, rt: &R, e: u16) -> Result<u64, Refused> {
-        let tallies = self.tallies.as_mut_slice();
-        let vaults = &mut self.vaults;
-        let channels = &self.channels;
-        self.place.close_end(rt, &self.records, channels, e, vaults, tallies, &self.notes)
+        flat::close_end(
+            rt,
+            &mut self.place,
+            &self.records,
+            &self.channels,
+            &mut self.vaults,
+            self.tallies.as_mut_slice(),
+            &self.notes,
+            e,
+        )
     }
 
     pub(super) fn stop<R: Wait>(&mut self, rt: &R, budget: u16) -> Result<u64, Refused> {
-        let tallies = self.tallies.as_mut_slice();
-        let vaults = &mut self.vaults;
-        let channels = &self.channels;
-        self.place.stop(
+        flat::stop(
             rt,
+            &mut self.place,
             &self.records,
-            channels,
-            budget,
-            vaults,
-            tallies,
+            &self.channels,
+            &mut self.vaults,
+            self.tallies.as_mut_slice(),
             &self.notes,
+            budget,
         )
     }
 

@@ -1,0 +1,48 @@
+-- What the calls on data blocks do to a place and to the tallies of its worker.
+use Rattle.std.specs.Prelude.{◌≡◌, ℕ, ◌/◌, List, [], ◌∷◌, ◌++◌, length, replicate, Some, Result, IfOk, OnErr, OnOk}
+use Rattle.xh_arena.specs.Views.{TallyOf}
+use Rattle.xh_core.specs.declared.block.Block.{Block}
+use Rattle.xh_core.specs.declared.refused.Refused.{Refused}
+use Rattle.xh_core.specs.Calls.{range_tests}
+use Rattle.xh_core.specs.Refusing.{Tested}
+use Rattle.xh_core.specs.Space.{rounded}
+use Rattle.xh_model.specs.declared.limits.TheConstants.{MAX_RECORDS}
+use Rattle.xh_model.specs.Keyed.{put, value_at, without}
+use Rattle.xh_place.specs.Bodies.{bytes, part, patched}
+use Rattle.xh_place.specs.Places.{Item, PlaceOf, IsSamePlace, found, with_blocks}
+use Rattle.xh_place.specs.Splitting.{IsSplit}
+use Rattle.xh_place.specs.Starts.{start}
+use Rattle.xh_place.specs.Tallies.{gave, took}
+
+-- a data block of n bytes of the arena, rounded up and all of them zero, is the last of the list; or place and tallies are as they were
+pub record Allocates (n arena : ℕ) (old new : PlaceOf) (told tallies : List TallyOf) (result : Result Block Refused) : Type 0 where
+  pub made : IfOk result (λ b. new ≡ with_blocks old (old.blocks ++ (b.rec, record { len = b.len; content = bytes (replicate b.len 0) }) ∷ []))
+  pub block : IfOk result (λ b. (b.len ≡ rounded n) × (b.rec / MAX_RECORDS ≡ arena))
+  pub taken : IfOk result (λ b. tallies ≡ took arena b.len told)
+  pub refused : OnErr result ((new ≡ old) × (tallies ≡ told))
+
+-- the block is gone, and as many bytes as the answer were given back; or place and tallies are as they were
+pub record Frees (r : ℕ) (old new : PlaceOf) (told tallies : List TallyOf) (result : Result ℕ Refused) : Type 0 where
+  pub freed : OnOk result (new ≡ with_blocks old (without r old.blocks))
+  pub back : IfOk result (λ n. tallies ≡ gave (r / MAX_RECORDS) n told)
+  pub refused : OnErr result ((new ≡ old) × (tallies ≡ told))
+
+-- the block is cut after its first k bytes; or the place is as it was. The tallies are in any case
+pub record Splits (r k : ℕ) (old new : PlaceOf) (told tallies : List TallyOf) (result : Result (Block × Block) Refused) : Type 0 where
+  pub cut : IfOk result (λ ends. IsSplit old new r k ends.0 ends.1)
+  pub refused : OnErr result (new ≡ old)
+  pub unmoved : tallies ≡ told
+
+-- the bytes of the block from `at` on are there now, and the place is as it was
+pub record Reads (r at : ℕ) (old new : PlaceOf) (before after : List ℕ) (result : Result (Unit {0}) Refused) : Type 0 where
+  pub same : new ≡ old
+  pub read : Tested (start old.state ++ range_tests (found old r) at (length before)) result
+      (λ _. (x : Item) × (value_at r old.blocks ≡ Some x) × (after ≡ part at (length before) x.content))
+  pub refused : OnErr result (after ≡ before)
+
+-- these bytes stand in the block from `at` on
+pub record Writes (r at : ℕ) (xs : List ℕ) (old new : PlaceOf) (result : Result (Unit {0}) Refused) : Type 0 where
+  pub place : IsSamePlace old new
+  pub written : Tested (start old.state ++ range_tests (found old r) at (length xs)) result
+      (λ _. (x : Item) × (value_at r old.blocks ≡ Some x) × (new ≡ with_blocks old (put r (record x { content = patched at xs x.content }) old.blocks)))
+  pub refused : OnErr result (new ≡ old)
