@@ -2,7 +2,7 @@
 use Rattle.std.proofs.Common.{◌≡◌, ◌≢◌, ℕ, ◌+◌, ◌/◌, ◌%◌, ◌<◌, ◌≤◌, List, [], ◌∷◌, ◌++◌, length, append_assoc, Bool, true, false, cond, refl, sym, ap, ◌∙◌, subst, arith, inl, inr}
 use Rattle.std.specs.Prelude.{◌==◌, slice_set, slice_index_or}
 use Rattle.std.proofs.lemmas.Bool.{cases_eq, false≢true, eq-eqb, ne_eqb}
-use Rattle.std.proofs.lemmas.List.{length-append, length-set, set-set}
+use Rattle.std.proofs.lemmas.List.{length-append, set-set}
 use Rattle.std.proofs.lemmas.List.Sums.{sum_by-append}
 use Rattle.xh_serial.specs.declared.place.Place.{Place}
 use Rattle.xh_serial.specs.Machine.{Machine, no_place, ArePlaces}
@@ -10,7 +10,7 @@ use Rattle.xh_core.specs.Statuses.{is_over}
 use Rattle.xh_core.specs.Several.{times}
 use Rattle.xh_serial.specs.Commands.{IsRunning}
 use Rattle.xh_serial.specs.inner.Placing.{place_in}
-use Rattle.xh_serial.proofs.Machines.{runs_busy, list_in, place_here, place_else, list_here, list_else, current_generation}
+use Rattle.xh_serial.proofs.Machines.{runs_busy, list_in, place_here, place_else, list_here, list_else, current_generation, places_set}
 use Rattle.xh_core.proofs.Claiming.{one_time}
 
 -- p is the latest process of its place, and may list something
@@ -35,39 +35,21 @@ module _ (ps : List Place) (p r : ℕ) (a : ArePlaces ps) (b : IsBusy ps p) wher
   within : p % 32 < length ps
   within = let e = a.long in omega (arith, e)
 
-  now_row : (k : ℕ) → k % 32 ≡ p % 32 → place_in (appended p r ps) k ≡ longer r (place_in ps p)
-  now_row k e = ap (λ (i : ℕ). slice_index_or (appended p r ps) i no_place) e ∙ place_here ps p (longer r (place_in ps p)) within
-
-  was_row : (k : ℕ) → k % 32 ≡ p % 32 → place_in ps k ≡ place_in ps p
-  was_row k e = ap (λ (i : ℕ). slice_index_or ps i no_place) e
-
-  else_row : (k : ℕ) → k % 32 ≢ p % 32 → place_in (appended p r ps) k ≡ place_in ps k
-  else_row k n = place_else ps p k (longer r (place_in ps p)) n
-
-  same_generation : (k : ℕ) → (place_in (appended p r ps) k).generation ≡ (place_in ps k).generation
-  same_generation k = elim (cases_eq (k % 32) (p % 32)) [
-    | inl e ↦ ap (λ (x : Place). x.generation) (now_row k e) ∙ sym (ap (λ (x : Place). x.generation) (was_row k e))
-    | inr n ↦ ap (λ (x : Place). x.generation) (else_row k n)
-  ]
-
-  same_status : (k : ℕ) → (place_in (appended p r ps) k).status ≡ (place_in ps k).status
-  same_status k = elim (cases_eq (k % 32) (p % 32)) [
-    | inl e ↦ ap (λ (x : Place). x.status) (now_row k e) ∙ sym (ap (λ (x : Place). x.status) (was_row k e))
-    | inr n ↦ ap (λ (x : Place). x.status) (else_row k n)
+  -- what does not hang on the list stays
+  same : {A : Type 0} (f : Place → A) → f (longer r (place_in ps p)) ≡ f (place_in ps p) → (k : ℕ) → f (place_in (appended p r ps) k) ≡ f (place_in ps k)
+  same f h k = elim (cases_eq (k % 32) (p % 32)) [
+    | inl e ↦ (
+        let now : place_in (appended p r ps) k ≡ longer r (place_in ps p) = ap (λ (i : ℕ). slice_index_or (appended p r ps) i no_place) e ∙ place_here ps p (longer r (place_in ps p)) within in
+        let was : place_in ps k ≡ place_in ps p = ap (λ (i : ℕ). slice_index_or ps i no_place) e in
+        ap f now ∙ (h ∙ ap f (sym was)))
+    | inr n ↦ ap f (place_else ps p k (longer r (place_in ps p)) n)
   ]
 
   pub appended_places : ArePlaces (appended p r ps)
-  appended_places = record {
-    long = length-set ps (p % 32) (longer r (place_in ps p)) ∙ a.long;
-    generations = λ k. subst (λ (n : ℕ). n < 128) (sym (same_generation k)) (a.generations k);
-    idle = λ k h. elim (cases_eq (k % 32) (p % 32)) [
-      | inl e ↦ absurd (false≢true (sym b.busy ∙ (ap (λ (x : Place). is_over x.status) (sym (now_row k e)) ∙ h)))
-      | inr n ↦ ap (λ (x : Place). x.blocks.items) (else_row k n) ∙ a.idle k (ap (λ (x : Place). is_over x.status) (sym (else_row k n)) ∙ h)
-    ];
-  }
+  appended_places = places_set ps p (longer r (place_in ps p)) a (record { generation = a.generations p; idle = λ h. absurd (false≢true (sym b.busy ∙ h)) })
 
   pub appended_busy : (k : ℕ) → IsBusy ps k → IsBusy (appended p r ps) k
-  appended_busy k h = record { current = same_generation k ∙ h.current; busy = ap is_over (same_status k) ∙ h.busy }
+  appended_busy k h = record { current = same (λ x. x.generation) refl k ∙ h.current; busy = same (λ x. is_over x.status) refl k ∙ h.busy }
 
   appended_own : list_in (appended p r ps) p ≡ list_in ps p ++ r ∷ []
   appended_own = list_here ps p (longer r (place_in ps p)) within (eq-eqb _ _ b.current) ∙ ap (λ (xs : List ℕ). xs ++ r ∷ []) (sym (own_list ps p b))

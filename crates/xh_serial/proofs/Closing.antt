@@ -1,22 +1,27 @@
--- An endpoint that is moved to the end of its list.
-use Rattle.std.proofs.Common.{◌≡◌, ℕ, zero, suc, ◌+◌, ◌-◌, ◌/◌, ◌<◌, ◌≤◌, Bool, List, [], ◌∷◌, ◌++◌, length, drop, true, cond, refl, sym, ap, ◌∙◌, arith, inl, inr, append-nil}
+-- An endpoint that is moved to the end of its list, a change of a status, and what a stop and a close leave.
+use Rattle.std.proofs.Common.{◌≡◌, ℕ, zero, suc, ◌+◌, ◌-◌, ◌/◌, ◌<◌, ◌≤◌, Bool, List, [], ◌∷◌, ◌++◌, length, drop, true, cond, refl, sym, ap, ◌∙◌, arith, inl, inr, append-nil, subst}
 use Rattle.std.specs.Prelude.{None, Some, not, nat_lt, unwrap_or, ◌==◌, slice_set, slice_index_or}
 use Rattle.std.specs.List.{remove, position, position_or_len}
 use Rattle.std.proofs.lemmas.Bool.{cases_eq, cases_Bool, eq-eqb, ne_eqb, ltb-false, false≢true}
 use Rattle.std.proofs.lemmas.List.Sums.{sum_by-remove, passes_at_first, prefix_len-le-length}
 use Rattle.std.proofs.lemmas.List.Edits.{length-remove}
-use Rattle.xh_model.specs.declared.event.Holder.{Holder}
-use Rattle.xh_model.specs.declared.event.Holder.TheVariants.{Process, Direction}
+use Rattle.std.proofs.lemmas.List.{set-get_or, nil_from_length}
+use Rattle.xh_model.specs.declared.event.Holder.TheVariants.{Process}
 use Rattle.xh_serial.specs.declared.place.Place.{Place}
 use Rattle.xh_model.specs.Store.{holds}
-use Rattle.xh_serial.specs.Machine.{Machine, blocks, listed, place, end_of, IsWhole}
+use Rattle.xh_serial.specs.Machine.{Machine, blocks, place, end_of, IsWhole, arriving, is_current, with_status}
 use Rattle.xh_core.specs.Several.{times}
 use Rattle.xh_serial.specs.Commands.{IsRunning}
-use Rattle.xh_serial.specs.Sweeping.{sweep_one}
+use Rattle.xh_serial.specs.Sweeping.{sweep_one, sweep, Sweeps}
 use Rattle.xh_serial.specs.EndingCommands.{last, moved_last}
 use Rattle.xh_serial.specs.BlockCommands.{freed_block}
-use Rattle.xh_serial.proofs.Machines.{runs_busy, place_there, list_here, list_else, current_generation, busy_place, places_set}
+use Rattle.xh_serial.proofs.Machines.{runs_busy, place_there, list_here, list_else, current_generation, busy_place, places_set, places_whole, current_blocks, same_lists, IsPlace}
 use Rattle.xh_core.proofs.Stores.{count_append, times-cons}
+use Rattle.xh_model.specs.Reclaimed.{Frees}
+use Rattle.xh_core.specs.declared.status.Status.{Status}
+use Rattle.xh_core.specs.declared.status.Status.TheVariants.{Ending, Ended}
+use Rattle.xh_serial.proofs.Listed.{sweep_sweeps, sweep_whole, finishes}
+use Rattle.xh_serial.proofs.Reclaiming.{sweep_frees}
 
 place_or_length : (k n : ℕ) → k ≤ n → unwrap_or (cond (nat_lt k n) (Some k) None) n ≡ k
 place_or_length k n l = elim (cases_Bool (nat_lt k n)) [
@@ -77,31 +82,11 @@ module _ (m : Machine) (p e : ℕ) (w : IsWhole m) (r : IsRunning m p) (h : hold
   pub last_blocks : blocks (moved_last p e m) p ≡ last e (blocks m p)
   last_blocks = list_here m.places p x (place_there m p w) r.0
 
-  once_last : (k : Holder) (q : ℕ) → times q (listed (moved_last p e m) k) ≡ cond (holds m.store k q) 1 0
-  once_last (Process k) q = elim (cases_eq k p) [
-    | inl s ↦ rw s (ap (times q) last_blocks ∙ (times_last e q (blocks m p) (one_listed m p e w h) ∙ w.once (Process p) q))
-    | inr n ↦ ap (times q) (list_else m.places p k x (place_there m p w) generation generation n) ∙ w.once (Process k) q
-  ]
-  once_last (Direction d) q = w.once (Direction d) q
-
   pub last_whole : IsWhole (moved_last p e m)
-  last_whole = record {
-    store = w.store;
-    once = once_last;
-    full = w.full;
-    kinds = w.kinds;
-    ends = λ r d f. let was = w.ends r d f in record { held = was.held; opened = was.opened; alone = was.alone };
-    buffers = w.buffers;
-    bytes = w.bytes;
-    places = places_set m.places p x w.places (busy_place m p (last e (blocks m p)) w (runs_busy m p r));
-    channels = w.channels;
-    deep = w.deep;
-  }
-
-set_again : {A : Type 0} (xs : List A) (i : ℕ) (d : A) → slice_set xs i (slice_index_or xs i d) ≡ xs
-set_again [] i d = refl
-set_again (x ∷ xs) zero d = refl
-set_again (x ∷ xs) (suc i) d = ap (λ ys. x ∷ ys) (set_again xs i d)
+  last_whole = places_whole m _ w (places_set m.places p x w.places (busy_place m p (last e (blocks m p)) w (runs_busy m p r))) (λ k q. elim (cases_eq k p) [
+    | inl s ↦ rw s (ap (times q) last_blocks ∙ times_last e q (blocks m p) (one_listed m p e w h))
+    | inr n ↦ ap (times q) (list_else m.places p k x (place_there m p w) generation generation n)
+  ])
 
 -- to free a data block is to sweep its entry
 pub frees_block : (m : Machine) (p r : ℕ) → 0 < times r (blocks m p) → end_of m r ≡ None → sweep_one p (position_or_len (λ q. q == r) (blocks m p)) m ≡ freed_block p r m
@@ -109,5 +94,79 @@ unfolding sweep_one freed_block
 frees_block m p r h none =
     let at : ℕ = position_or_len (λ q. q == r) (blocks m p) in
     let is : slice_index_or (blocks m p) at 0 ≡ r = is_found r (blocks m p) h in
-    let same_end : slice_set m.ends r None ≡ m.ends = ap (slice_set m.ends r) (sym none) ∙ set_again m.ends r None in
+    let same_end : slice_set m.ends r None ≡ m.ends = ap (slice_set m.ends r) (sym none) ∙ set-get_or m.ends r None in
     rw (is, none, append-nil (blocks m p), same_end) refl
+
+-- ---- another status
+
+status_blocks : (m : Machine) (p q : ℕ) (s : Status) → IsWhole m → blocks (with_status p s m) q ≡ blocks m q
+status_blocks m p q s w = same_lists m.places p (record (place m p) { status = s }) (place_there m p w) (λ k. refl) q
+
+status_whole : (m : Machine) (p : ℕ) (s : Status) → IsWhole m → IsPlace (record (place m p) { status = s }) → IsWhole (with_status p s m)
+status_whole m p s w is = places_whole m _ w (places_set m.places p (record (place m p) { status = s }) w.places is) (λ k q. ap (times q) (status_blocks m p k s w))
+
+pub ending_whole : (m : Machine) (p : ℕ) → IsWhole m → IsWhole (with_status p Ending m)
+ending_whole m p w = status_whole m p Ending w (record { generation = w.places.generations p; idle = λ h. absurd (false≢true h) })
+
+pub ended_whole : (m : Machine) (p : ℕ) → IsWhole m → is_current m p ≡ true → length (blocks m p) ≡ 0 → IsWhole (with_status p Ended m)
+ended_whole m p w c h = status_whole m p Ended w (record { generation = w.places.generations p; idle = λ _. nil_from_length (place m p).blocks.items (ap length (sym (current_blocks m p c)) ∙ h) })
+
+-- ---- a stop: the sweep of a list hangs on no status
+
+pub stop_sweeps : (m n : Machine) (p budget : ℕ) → IsWhole m → n ≡ sweep p 0 budget (with_status p Ending m) → Sweeps p 0 budget m n
+stop_sweeps m n p budget w is =
+    let h : Sweeps p 0 budget (with_status p Ending m) n = subst (Sweeps p 0 budget (with_status p Ending m)) (sym is) (sweep_sweeps budget p 0 (with_status p Ending m) (ending_whole m p w)) in
+    let e : blocks m p ≡ blocks (with_status p Ending m) p = sym (status_blocks m p p Ending w) in
+    record {
+      taken = h.taken;
+      accepted = h.accepted;
+      within = h.within;
+      there = rw e h.there;
+      was_on_way = rw e h.was_on_way;
+      once = rw e h.once;
+      in_flight = h.in_flight;
+      before = h.before;
+      rest = rw e h.rest;
+      left = h.left;
+    }
+
+pub stop_ends : (m n : Machine) (p budget : ℕ) → IsWhole m → n ≡ sweep p 0 budget (with_status p Ending m) → Sweeps p 0 budget m (with_status p Ended n)
+stop_ends m n p budget w is =
+    let h : Sweeps p 0 budget m n = stop_sweeps m n p budget w is in
+    let e : blocks (with_status p Ended n) p ≡ blocks n p = status_blocks n p p Ended (rw is (sweep_whole budget p 0 (with_status p Ending m) (ending_whole m p w))) in
+    record {
+      taken = h.taken;
+      accepted = h.accepted;
+      within = h.within;
+      there = h.there;
+      was_on_way = h.was_on_way;
+      once = h.once;
+      in_flight = h.in_flight;
+      before = h.before;
+      rest = rw e h.rest;
+      left = rw e h.left;
+    }
+
+pub stop_frees : (m n : Machine) (p budget : ℕ) → IsWhole m → n ≡ sweep p 0 budget (with_status p Ending m) → length (blocks n p) ≡ 0 → Frees (arriving m) m.store n.store (blocks m p)
+stop_frees m n p budget w is none =
+    let done : length (blocks (sweep p 0 budget (with_status p Ending m)) p) ≤ 0 = subst (λ (x : Machine). length (blocks x p) ≤ 0) is (omega (arith, none)) in
+    subst (Frees (arriving m) m.store n.store) (status_blocks m p p Ending w)
+    (subst (λ (x : Machine). Frees (arriving m) m.store x.store (blocks (with_status p Ending m) p)) (sym is) (sweep_frees budget p 0 (with_status p Ending m) (ending_whole m p w) done))
+
+-- ---- a close
+
+pub close_sweeps : (budget : ℕ) (m n : Machine) (p e : ℕ) → IsWhole m → IsRunning m p → holds m.store (Process p) e ≡ true →
+    n ≡ sweep p (length (blocks m p) - 1) budget (moved_last p e m) → Sweeps p (length (blocks m p) - 1) budget (moved_last p e m) n
+close_sweeps budget m n p e w r h is =
+    subst (Sweeps p (length (blocks m p) - 1) budget (moved_last p e m)) (sym is) (sweep_sweeps budget p (length (blocks m p) - 1) (moved_last p e m) (last_whole m p e w r h))
+
+pub close_frees : (budget : ℕ) (m n : Machine) (p e : ℕ) → IsWhole m → IsRunning m p → holds m.store (Process p) e ≡ true → 2048 < budget →
+    n ≡ sweep p (length (blocks m p) - 1) budget (moved_last p e m) → Frees (arriving m) m.store n.store (e ∷ [])
+close_frees budget m n p e w r h b is =
+    let from : ℕ = length (blocks m p) - 1 in
+    let last : IsWhole (moved_last p e m) = last_whole m p e w r h in
+    let done : length (blocks n p) ≤ from = finishes p from budget (moved_last p e m) n last b (close_sweeps budget m n p e w r h is) in
+    let list : drop from (blocks (moved_last p e m) p) ≡ e ∷ [] = ap (drop from) (last_blocks m p e w r h) ∙ drop_last e (blocks m p) (one_listed m p e w h) in
+    subst (Frees (arriving m) m.store n.store) list
+    (subst (λ (x : Machine). Frees (arriving m) m.store x.store (drop from (blocks (moved_last p e m) p))) (sym is)
+    (sweep_frees budget p from (moved_last p e m) last (subst (λ (x : Machine). length (blocks x p) ≤ from) is done)))

@@ -1,7 +1,7 @@
--- A new machine is whole.
-use Rattle.std.proofs.Common.{◌≡◌, ℕ, zero, suc, ◌+◌, ◌*◌, ◌%◌, ◌<◌, List, [], ◌∷◌, ◌++◌, length, Bool, true, false, cond, refl, sym, ap, ◌∙◌, subst, arith}
-use Rattle.std.specs.Prelude.{Option, Some, None, is_some, replicate, slice_index_or}
-use Rattle.std.proofs.lemmas.Bool.{false≢true}
+-- A new machine is whole, and so is one where a process starts.
+use Rattle.std.proofs.Common.{◌≡◌, ℕ, ◌*◌, ◌/◌, ◌%◌, ◌<◌, List, [], length, Bool, true, false, cond, refl, sym, ap, ◌∙◌, subst, arith, ◌+◌, inl, inr}
+use Rattle.std.specs.Prelude.{Option, Some, None, ◌==◌, is_some, slice_index_or, ok_or, ◌||◌, ◌&&◌, nat_lt, slice_set}
+use Rattle.std.proofs.lemmas.Bool.{false≢true, cases_Bool, ltb-true}
 use Rattle.std.proofs.lemmas.List.{length-replicate}
 use Rattle.xh_model.specs.declared.config.Config.{Config}
 use Rattle.xh_model.specs.declared.event.Holder.{Holder}
@@ -11,21 +11,66 @@ use Rattle.xh_model.specs.Store.{owner, len, holds, is_held_by, IsLawful, new_st
 use Rattle.xh_model.specs.Config.{IsConfig}
 use Rattle.xh_core.proofs.FreshPlain.{at_replicate}
 use Rattle.xh_serial.specs.declared.place.Place.{Place}
-use Rattle.xh_serial.specs.Machine.{IsNumbered, Machine, carried, blocks, buffer, place, line, is_current, on_way, listed, no_place, no_line, end_of, IsWhole}
+use Rattle.xh_serial.specs.Machine.{IsNumbered, Machine, carried, blocks, buffer, place, line, on_way, listed, no_place, no_line, end_of, IsWhole}
 use Rattle.xh_core.specs.Several.{times}
-use Rattle.xh_serial.specs.PlaceCommands.{new_machine}
+use Rattle.xh_serial.specs.PlaceCommands.{new_machine, is_ready, started, spawn_at}
 use Rattle.xh_core.proofs.Claiming.{no_bytes}
+use Rattle.std.specs.List.{position}
+use Rattle.std.proofs.lemmas.List.Quantifiers.{position-Some}
+use Rattle.xh_core.specs.Statuses.{is_vacant, is_ended}
+use Rattle.xh_core.specs.declared.refused.Refused.TheVariants.{NoPlace}
+use Rattle.xh_serial.specs.inner.Placing.{started_at}
+use Rattle.xh_serial.proofs.Machines.{listed_at, place_there, same_lists, IsPlace, places_set, places_whole}
 
-pub replicate_more : {A : Type 0} (n : ℕ) (x : A) → replicate (n + 1) x ≡ replicate n x ++ x ∷ []
-replicate_more zero x = refl
-replicate_more (suc n) x = let e : suc n + 1 ≡ suc (n + 1) = omega arith in rw e (ap (λ xs. x ∷ xs) (replicate_more n x))
+idle_from : (v d b : Bool) → (v || (d && b)) ≡ true → (v || d) ≡ true
+idle_from true d b h = refl
+idle_from false true b h = refl
+idle_from false false b h = h
+
+started_generation : (v d : Bool) (g : ℕ) → (v || (d && nat_lt (g + 1) 128)) ≡ true → g < 128 → cond v g (g + 1) < 128
+started_generation true d g h l = l
+started_generation false true g h l = ltb-true (g + 1) 128 h
+started_generation false false g h l = absurd (false≢true h)
+
+nothing_in : (x : Place) (k : ℕ) → x.blocks.items ≡ [] → listed_at x k ≡ []
+nothing_in x k e = rw e (elim (cases_Bool (x.generation == (k / 32))) [ inl y ↦ rw y refl | inr n ↦ rw n refl ])
+
+module _ (m : Machine) (p : ℕ) (w : IsWhole m) (c : is_ready (place m p) ≡ true) where
+  abbrev next : Machine
+  next = record m { places = slice_set m.places (p % 32) (started (place m p)) }
+
+  empty : (place m p).blocks.items ≡ []
+  empty = w.places.idle p (idle_from (is_vacant (place m p).status) (is_ended (place m p).status) (nat_lt ((place m p).generation + 1) 128) c)
+
+  is_place : IsPlace (started (place m p))
+  is_place = record {
+    generation = started_generation (is_vacant (place m p).status) (is_ended (place m p).status) (place m p).generation c (w.places.generations p);
+    idle = λ h. absurd (false≢true h);
+  }
+
+  started_whole : IsWhole next
+  started_whole = places_whole m _ w (places_set m.places p (started (place m p)) w.places is_place)
+      (λ k q. ap (times q) (same_lists m.places p (started (place m p)) (place_there m p w) (λ k. nothing_in (started (place m p)) k empty ∙ sym (nothing_in (place m p) k empty)) k))
+
+-- the same at the first place where one can
+pub spawn_whole : (m : Machine) (o : Option ℕ) → IsWhole m → position is_ready m.places ≡ o → IsWhole (record m { places = (started_at o m.places).1 })
+spawn_whole m None w e = w
+spawn_whole m (Some k) w e =
+    let at = position-Some is_ready m.places k no_place e in
+    let small : k % 32 ≡ k = (let l = at.0 in let n = w.places.long in omega (arith, l, n)) in
+    subst (λ (i : ℕ). IsWhole (record m { places = slice_set m.places i (started (slice_index_or m.places i no_place)) })) small
+    (started_whole m k w (ap (λ (i : ℕ). is_ready (slice_index_or m.places i no_place)) small ∙ at.1))
+
+-- what a spawn answers and leaves, by what the places do
+pub spawn_gives : (m : Machine) (o : Option ℕ) → spawn_at o m ≡ (ok_or (started_at o m.places).0 NoPlace, record m { places = (started_at o m.places).1 })
+spawn_gives m None = refl
+spawn_gives m (Some k) = refl
+
+-- ---- a new machine
 
 nothing_listed : (b : Bool) → cond {A = List ℕ} b [] [] ≡ []
 nothing_listed true = refl
 nothing_listed false = refl
-
-same_list : (b : Bool) (xs ys : List ℕ) → xs ≡ ys → cond b xs [] ≡ cond b ys []
-same_list b xs ys e = ap (λ zs. cond b zs []) e
 
 module _ (c : Config) (is : IsConfig c) (lawful : IsLawful (new_store c)) where
   abbrev m : Machine
@@ -44,7 +89,7 @@ module _ (c : Config) (is : IsConfig c) (lawful : IsLawful (new_store c)) where
   vacant p = at_replicate 32 (p % 32) no_place
 
   no_blocks : (p : ℕ) → blocks m p ≡ []
-  no_blocks p = same_list (is_current m p) (place m p).blocks.items [] (ap (λ (x : Place). x.blocks.items) (vacant p)) ∙ nothing_listed (is_current m p)
+  no_blocks p = rw (vacant p) (nothing_listed (0 == (p / 32)))
 
   at_line : (d : ℕ) → line m d ≡ no_line
   unfolding new_machine
@@ -102,7 +147,7 @@ module _ (c : Config) (is : IsConfig c) (lawful : IsLawful (new_store c)) where
       fresh = λ d h. at_line d;
       numbered = λ d. subst IsNumbered (sym (at_line d)) (1, refl);
       contracts_long = length-replicate {A = Option (List Row)} 64 None;
-      wired = λ k rows e. absurd (no_contract k rows e);
+      wired = λ k rows e. absurd (no_contract (k / 2) rows e);
       few = omega arith;
     };
     deep = is.most_depth;

@@ -1,119 +1,25 @@
 -- A process gains free records, and the machine stays whole.
-use Rattle.std.proofs.Common.{◌≡◌, ◌≢◌, ℕ, ◌+◌, ◌-◌, ◌*◌, ◌/◌, ◌%◌, ◌<◌, ◌≤◌, List, [], ◌∷◌, ◌++◌, length, take}
-use Rattle.std.proofs.Common.{drop, length-drop, true, false, cond, refl, sym, ap, ◌∙◌, subst, arith, inl, inr, get_or-set_same, get_or-set_other}
-use Rattle.std.specs.Prelude.{Option, Some, None, is_some, ◌==◌, nat_lt, replicate, slice_set, slice_index_or}
-use Rattle.std.proofs.lemmas.Bool.{cases_eq, cases_Bool, false≢true, eq-eqb, ne_eqb, ltb-true, ltb-false}
+use Rattle.std.proofs.Common.{◌≡◌, ◌≢◌, ℕ, ◌+◌, ◌-◌, ◌*◌, ◌/◌, ◌<◌, ◌≤◌, List, [], ◌∷◌, ◌++◌, length, take, drop, length-drop, true, cond, refl, sym, ap, ◌∙◌, subst, arith, inl, inr}
+use Rattle.std.specs.Prelude.{Option, Some, None, is_some, ◌==◌, replicate, slice_set, slice_index_or}
+use Rattle.std.proofs.lemmas.Bool.{cases_eq, false≢true, eq-eqb, ne_eqb}
 use Rattle.std.proofs.lemmas.List.{length-set, length-append, length-take-le, nil_from_length, set-set, set-get_or, length-replicate}
-use Rattle.std.proofs.lemmas.List.Sums.{sum_by-append}
 use Rattle.xh_model.specs.declared.event.Holder.{Holder}
 use Rattle.xh_model.specs.declared.event.Holder.TheVariants.{Process, Direction}
-use Rattle.xh_model.specs.Store.{Store, owner, len, holds, is_held_by, is_known, after, IsQuiet}
+use Rattle.xh_model.specs.Store.{Store, owner, len, holds, is_known, after}
 use Rattle.xh_serial.specs.declared.place.Place.{Place}
-use Rattle.xh_serial.specs.Machine.{Machine, place, is_current, blocks, buffer, with_list, end_of, listed, on_way, way_in, IsEnd, IsWhole, ArePlaces}
+use Rattle.xh_serial.specs.Machine.{Machine, place, blocks, buffer, with_list, end_of, listed, IsEnd, IsWhole}
 use Rattle.xh_core.specs.Several.{times}
 use Rattle.xh_core.specs.Gaining.{Gained}
-use Rattle.xh_serial.specs.inner.Holding.{BlocksOf, with_bytes}
 use Rattle.xh_serial.specs.Commands.{IsRunning}
-use Rattle.xh_model.specs.declared.event.Event.TheVariants.{Claim, Carve, Cut, GiveBack, Vacate}
-use Rattle.std.specs.List.{position_or_len, remove}
+use Rattle.xh_model.specs.declared.event.Event.TheVariants.{Claim, Carve, Cut}
+use Rattle.std.specs.List.{position_or_len}
 use Rattle.xh_serial.specs.BlockCommands.{allocated, freed_block, overwritten, parted}
 use Rattle.xh_core.proofs.Claiming.{in_range, no_bytes}
 use Rattle.xh_serial.proofs.Closing.{found, one_listed, frees_block}
 use Rattle.xh_serial.proofs.Kept.{whole_one}
-use Rattle.xh_serial.proofs.Moved.{cases_holder, holder_ne}
-use Rattle.xh_core.proofs.Stores.{times-cons, is_there}
-use Rattle.xh_serial.proofs.Room.{at_most_one, few, few_records, held_there}
-use Rattle.xh_serial.proofs.Machines.{
-  blocks_of,
-  runs_busy,
-  same_machine,
-  current_blocks,
-  list_in,
-  list_here,
-  list_else,
-  current_generation,
-  place_there,
-  IsPlace,
-  places_set,
-  busy_place,
-}
-
--- ---- another list for a process
-
--- the machine n has the places of m, but for the list of p
-pub record Relisted (p : ℕ) (rs : List ℕ) (m n : Machine) : Type 0 where
-  pub here : blocks n p ≡ rs
-  pub else : (k : ℕ) → k ≢ p → blocks n k ≡ blocks m k
-  pub places : ArePlaces n.places
-
-abbrev listing : ℕ → List ℕ → Machine → Place
-listing p rs m = record (place m p) { blocks = record { items = rs } }
-
-pub relisted : (p : ℕ) (rs : List ℕ) (m n : Machine) → IsWhole m → IsRunning m p → n.places ≡ (with_list p rs m).places → Relisted p rs m n
-relisted p rs m n w r e =
-    let there = place_there m p w in
-    let is : IsPlace (listing p rs m) = busy_place m p rs w (runs_busy m p r) in
-    let g : (place m p).generation ≡ p / 32 = current_generation m p r.0 in
-    record {
-      here = ap (λ ps. list_in ps p) e ∙ list_here m.places p (listing p rs m) there r.0;
-      else = λ k ne. ap (λ ps. list_in ps k) e ∙ list_else m.places p k (listing p rs m) there g g ne;
-      places = subst ArePlaces (sym e) (places_set m.places p (listing p rs m) w.places is);
-    }
-
--- ---- records that are gained
-
-module _ (p : ℕ) (rs : List ℕ) (m n : Machine) (w : IsWhole m) (g : Gained p rs m.store n.store) (l : Relisted p (blocks m p ++ rs) m n) (ways : (d : ℕ) → on_way n d ≡ on_way m d) where
-  here : (q : ℕ) → times q (blocks n p) ≡ times q (blocks m p) + times q rs
-  here q = ap (times q) l.here ∙ sum_by-append (λ x. cond (x == q) 1 0) (blocks m p) rs
-
-  other : (k : Holder) → k ≢ Process p → (q : ℕ) → times q (listed n k) ≡ times q (listed m k)
-  other (Process k) ne q = ap (times q) (l.else k (λ e. ne (ap (λ (x : ℕ). Process x) e)))
-  other (Direction d) ne q = ap (times q) (ways d)
-
-  gained_owner : (q : ℕ) → nat_lt 0 (times q rs) ≡ true → owner n.store q ≡ Some (Process p)
-  gained_owner q y = g.owners q ∙ rw y refl
-
-  kept_owner : (q : ℕ) → nat_lt 0 (times q rs) ≡ false → owner n.store q ≡ owner m.store q
-  kept_owner q f = g.owners q ∙ rw f refl
-
-  same_times : (h : Holder) (q : ℕ) → nat_lt 0 (times q rs) ≡ false → times q (listed n h) ≡ times q (listed m h)
-  same_times h q f = elim (cases_holder h (Process p)) [
-    | inl e ↦ rw e (let a = here q in let z : times q rs ≤ 0 = ltb-false 0 (times q rs) f in omega (arith, a, z))
-    | inr ne ↦ other h ne q
-  ]
-
-  pub gained_once : (h : Holder) (q : ℕ) → times q (listed n h) ≡ cond (holds n.store h q) 1 0
-  gained_once h q = elim (cases_Bool (nat_lt 0 (times q rs))) [
-    | inl y ↦ (
-        let was : owner m.store q ≡ None = g.free q y in
-        let is : owner n.store q ≡ Some (Process p) = gained_owner q y in
-        let some : 0 < times q rs = ltb-true 0 (times q rs) y in
-        let most : times q rs ≤ 1 = g.once q in
-        elim (cases_holder h (Process p)) [
-          | inl e ↦ (
-              let before : times q (blocks m p) ≡ 0 = w.once (Process p) q ∙ rw was refl in
-              let after_it = here q in
-              let one : times q (blocks n p) ≡ 1 = omega (arith, before, after_it, some, most) in
-              rw (e, is, eq-eqb p p refl) one)
-          | inr ne ↦ (
-              let before : times q (listed m h) ≡ 0 = w.once h q ∙ rw was refl in
-              rw (is, holder_ne (Process p) h (λ s. ne (sym s))) (other h ne q ∙ before))
-        ])
-    | inr f ↦ rw (kept_owner q f) (same_times h q f ∙ w.once h q)
-  ]
-
-  pub gained_full : IsQuiet n.store
-  gained_full h q y = elim (cases_Bool (nat_lt 0 (times q rs))) [
-    | inl z ↦ g.full q z
-    | inr f ↦ g.kept q (w.full h q (ap (λ o. is_held_by o h) (sym (kept_owner q f)) ∙ y))
-  ]
-
-  -- what had a holder has one
-  pub gained_held : (q : ℕ) → is_some (owner m.store q) ≡ true → is_some (owner n.store q) ≡ true
-  gained_held q h = elim (cases_Bool (nat_lt 0 (times q rs))) [
-    | inl y ↦ rw (gained_owner q y) refl
-    | inr f ↦ rw (kept_owner q f) h
-  ]
+use Rattle.xh_serial.proofs.Room.{has, came_whole, at_most_one, few, few_records, held_there}
+use Rattle.xh_core.proofs.Stores.{times-cons, is_there, count_append, at_set}
+use Rattle.xh_serial.proofs.Machines.{runs_busy, current_blocks, list_set, current_generation, place_there, places_set, busy_place}
 
 -- a free record is no endpoint
 pub free_no_end : (m : Machine) (r : ℕ) → IsWhole m → owner m.store r ≡ None → end_of m r ≡ None
@@ -123,31 +29,37 @@ free_no_end m r w f = no_end (end_of m r) (λ d e. false≢true (ap is_some (sym
   no_end (Some d) h = absurd (h d refl)
 
 -- p gains free records; endpoints, channels and the other lists stay
-pub gained_whole : (p : ℕ) (rs : List ℕ) (m n : Machine) → IsWhole m → IsRunning m p → Gained p rs m.store n.store → n.places ≡ (with_list p (blocks m p ++ rs) m).places →
-    n.ends ≡ m.ends → n.lines ≡ m.lines → n.contracts ≡ m.contracts → n.opened ≡ m.opened → n.depth ≡ m.depth → length n.buffers ≡ length m.buffers →
-    ((q : ℕ) → length (buffer n q) ≡ cond (is_some (end_of m q)) 0 (len n.store q)) → IsWhole n
-gained_whole p rs m n w r g places ends lines contracts opened depth buffers bytes =
-    let l : Relisted p (blocks m p ++ rs) m n = relisted p (blocks m p ++ rs) m n w r places in
-    let ways : (d : ℕ) → on_way n d ≡ on_way m d = (λ d. ap (λ ls. way_in ls (Some d)) lines) in
-    let end : (q : ℕ) → end_of n q ≡ end_of m q = (λ q. ap (λ (xs : List (Option ℕ)). slice_index_or xs q None) ends) in
-    record {
-      store = g.lawful;
-      once = gained_once p rs m n w g l ways;
-      full = gained_full p rs m n w g l ways;
-      kinds = ap length ends ∙ (w.kinds ∙ sym g.many);
-      ends = λ q d e.
-          let was : IsEnd m q d = w.ends q d (sym (end q) ∙ e) in
-          record {
-            held = gained_held p rs m n w g l ways q was.held;
-            opened = subst (λ (k : ℕ). d < 2 * k) (sym opened) was.opened;
-            alone = λ k f. was.alone k (sym (end k) ∙ f);
-          };
-      buffers = buffers ∙ (w.buffers ∙ sym g.many);
-      bytes = λ q. bytes q ∙ ap (λ (o : Option ℕ). cond (is_some o) 0 (len n.store q)) (sym (end q));
-      places = l.places;
-      channels = rw (lines, contracts, opened) w.channels;
-      deep = subst (λ (k : ℕ). k ≤ 16) (sym depth) w.deep;
-    }
+module _ (p : ℕ) (rs : List ℕ) (m n : Machine) (w : IsWhole m) (r : IsRunning m p) (g : Gained p rs m.store n.store) (places : n.places ≡ (with_list p (blocks m p ++ rs) m).places)
+    (ends : n.ends ≡ m.ends) (lines : n.lines ≡ m.lines) (contracts : n.contracts ≡ m.contracts) (opened : n.opened ≡ m.opened) (depth : n.depth ≡ m.depth)
+    (buffers : length n.buffers ≡ length m.buffers) (bytes : (q : ℕ) → length (buffer n q) ≡ cond (is_some (end_of m q)) 0 (len n.store q)) where
+  abbrev x : Place
+  x = record (place m p) { blocks = record { items = blocks m p ++ rs } }
+
+  generation : (place m p).generation ≡ p / 32
+  generation = current_generation m p r.0
+
+  lists : (k : Holder) (q : ℕ) → times q (listed n k) + has None k * times q rs ≡ times q (listed m k) + has (Some (Process p)) k * times q rs
+  lists (Process k) q = rw (places, list_set m.places p x (place_there m p w) generation generation k) (elim (cases_eq k p) [
+    | inl s ↦ rw (eq-eqb k p s, eq-eqb p k (sym s), s) (let l = count_append q (blocks m p) rs in omega (arith, l))
+    | inr a ↦ rw (ne_eqb k p a, ne_eqb p k (λ s. a (sym s))) (omega arith)
+  ])
+  lists (Direction d) q = rw lines (omega arith)
+
+  pub gained_whole : IsWhole n
+  gained_whole = came_whole None (Process p) rs m n w (record {
+    lawful = g.lawful;
+    moved = record { were = g.free; once = g.once; owners = g.owners; lists = lists };
+    full = g.full;
+    kept = g.kept;
+    many = g.many;
+    ends = ends;
+    buffers = buffers;
+    bytes = bytes;
+    places = rw places (places_set m.places p x w.places (busy_place m p (blocks m p ++ rs) w (runs_busy m p r)));
+    channels = rw (lines, contracts, opened) w.channels;
+    opened = opened;
+    depth = depth;
+  })
 
 -- ---- alloc
 
@@ -170,32 +82,23 @@ room_for m p r w run f there =
     let apart : times r (blocks m p) ≡ 0 = w.once (Process p) r ∙ rw f refl in
     let most : length m.store.owners ≤ 2048 = few_records m w in
     let l : length (r ∷ blocks m p) ≤ length m.store.owners = few (length m.store.owners) (r ∷ blocks m p)
-    (λ q. let t : times q (r ∷ blocks m p) ≡ cond (r == q) 1 0 + times q (blocks m p) = times-cons q r (blocks m p) in
-    elim (cases_eq r q) [
-      | inl e ↦ (let u : times q (r ∷ blocks m p) ≡ 1 + times q (blocks m p) = t ∙ rw (eq-eqb r q e) refl in
-          let z : times q (blocks m p) ≡ 0 = subst (λ (x : ℕ). times x (blocks m p) ≡ 0) e apart in omega (arith, u, z))
-      | inr n ↦ (let u : times q (r ∷ blocks m p) ≡ 0 + times q (blocks m p) = t ∙ rw (ne_eqb r q n) refl in
-          let o = w.once (Process p) q in let a = at_most_one (holds m.store (Process p) q) in omega (arith, u, o, a))
+    (λ q. let t = times-cons q r (blocks m p) in let o = w.once (Process p) q in elim (cases_eq r q) [
+      | inl e ↦ (let z : times q (blocks m p) ≡ 0 = rw e at apart in let one : cond {A = ℕ} (r == q) 1 0 ≡ 1 = rw (eq-eqb r q e) refl in omega (arith, t, z, one))
+      | inr n ↦ (let none : cond {A = ℕ} (r == q) 1 0 ≡ 0 = rw (ne_eqb r q n) refl in let a = at_most_one (holds m.store (Process p) q) in omega (arith, t, o, a, none))
     ])
-    (λ q h. let t : times q (r ∷ blocks m p) ≡ cond (r == q) 1 0 + times q (blocks m p) = times-cons q r (blocks m p) in
-    elim (cases_eq r q) [
+    (λ q h. let t = times-cons q r (blocks m p) in elim (cases_eq r q) [
       | inl e ↦ subst (λ (x : ℕ). x < length m.store.owners) e there
-      | inr n ↦ (let u : times q (r ∷ blocks m p) ≡ 0 + times q (blocks m p) = t ∙ rw (ne_eqb r q n) refl in held_there m (Process p) q w (omega (arith, u, h)))
+      | inr n ↦ (let none : cond {A = ℕ} (r == q) 1 0 ≡ 0 = rw (ne_eqb r q n) refl in held_there m (Process p) q w (omega (arith, t, none, h)))
     ]) in
     let e : length (blocks m p) ≡ length (place m p).blocks.items = ap length (current_blocks m p run.0) in
     omega (arith, l, most, e)
 
 alloc_bytes : (m : Machine) (t : Store) (r n : ℕ) → IsWhole m → owner m.store r ≡ None → r < length m.store.owners → len t r ≡ n → ((q : ℕ) → q ≢ r → len t q ≡ len m.store q) →
     (q : ℕ) → length (slice_index_or (slice_set m.buffers r (replicate n 0)) q []) ≡ cond (is_some (end_of m q)) 0 (len t q)
-alloc_bytes m t r n w f there long others q = elim (cases_eq q r) [
-  | inl e ↦ (
-      let none : end_of m q ≡ None = subst (λ (x : ℕ). end_of m x ≡ None) (sym e) (free_no_end m r w f) in
-      let l : r < length m.buffers = subst (λ (k : ℕ). r < k) (sym w.buffers) there in
-      let own : len t q ≡ n = subst (λ (x : ℕ). len t x ≡ n) (sym e) long in
-      ap (λ (x : ℕ). length (slice_index_or (slice_set m.buffers r (replicate n 0)) x [])) e ∙ (ap length (get_or-set_same m.buffers r (replicate n 0) [] l)
-      ∙ (length-replicate {A = ℕ} n 0 ∙ rw (none, own) refl)))
-  | inr ne ↦ ap length (get_or-set_other m.buffers r q (replicate n 0) [] ne) ∙ (w.bytes q ∙ ap (λ (k : ℕ). cond (is_some (end_of m q)) 0 k) (sym (others q ne)))
-]
+alloc_bytes m t r n w f there long others q = rw (at_set m.buffers r q (replicate n 0) [] (rw w.buffers there)) (elim (cases_eq q r) [
+  | inl e ↦ rw (eq-eqb q r e, e, free_no_end m r w f, long) (length-replicate {A = ℕ} n 0)
+  | inr ne ↦ rw (ne_eqb q r ne, others q ne) (w.bytes q)
+])
 
 -- a block is allocated
 pub allocated_whole : (m : Machine) (p r n : ℕ) → IsWhole m → IsRunning m p → Gained p (r ∷ []) m.store (after (Carve p r n) (after (Claim p r) m.store)) →
@@ -214,18 +117,6 @@ listed_place m p r w run h =
     let there : position_or_len (λ q. q == r) (blocks m p) < length (blocks m p) = found r (blocks m p) (one_listed m p r w h) in
     subst (λ (xs : List ℕ). position_or_len (λ q. q == r) xs < length xs) (current_blocks m p run.0) there
 
--- the machine whose fields these are is what a free makes of m
-pub freed_is : (m : Machine) (p r : ℕ) (s : Store) (b : BlocksOf) (ps : List Place) → is_current m p ≡ true → s ≡ after (Vacate p r) (after (GiveBack p r) m.store) →
-    b ≡ with_bytes r [] (blocks_of m) →
-    ps ≡ slice_set m.places (p % 32) (record (place m p) { blocks = record { items = remove (place m p).blocks.items (position_or_len (λ q. q == r) (place m p).blocks.items) } }) →
-    record m { store = s; ends = b.ends; buffers = b.buffers; places = ps } ≡ freed_block p r m
-unfolding freed_block
-freed_is m p r s b ps c store held listed =
-    same_machine (record m { store = s; ends = b.ends; buffers = b.buffers; places = ps }) (freed_block p r m) store
-    (ap (λ (x : BlocksOf). x.ends) held) (ap (λ (x : BlocksOf). x.buffers) held)
-    (listed ∙ ap (λ (xs : List ℕ). slice_set m.places (p % 32) (record (place m p) { blocks = record { items = remove xs (position_or_len (λ q. q == r) xs) } })) (sym (current_blocks m p c)))
-    refl refl refl refl
-
 -- a data block is freed
 pub freed_whole : (m : Machine) (p r : ℕ) → IsWhole m → holds m.store (Process p) r ≡ true → end_of m r ≡ None → IsWhole (freed_block p r m)
 freed_whole m p r w h e =
@@ -240,29 +131,14 @@ split_bytes : (m : Machine) (u : Store) (r t k : ℕ) → IsWhole m → end_of m
 split_bytes m u r t k w d f ne there t_there few head tail others q =
     let long : length (buffer m r) ≡ len m.store r = w.bytes r ∙ rw d refl in
     let bs : List (List ℕ) = slice_set m.buffers t (drop k (buffer m r)) in
-    let t_in : t < length m.buffers = subst (λ (j : ℕ). t < j) (sym w.buffers) t_there in
     let r_in : r < length bs = subst (λ (j : ℕ). r < j) (sym (length-set m.buffers t (drop k (buffer m r)) ∙ w.buffers)) there in
-    elim (cases_eq q r) [
-      | inl e ↦ (
-          let now : slice_index_or (slice_set bs r (take k (buffer m r))) q [] ≡ take k (buffer m r) = ap (λ (x : ℕ). slice_index_or (slice_set bs r (take k (buffer m r))) x []) e
-          ∙ get_or-set_same bs r (take k (buffer m r)) [] r_in in
-          let none : end_of m q ≡ None = subst (λ (x : ℕ). end_of m x ≡ None) (sym e) d in
-          let own : len u q ≡ k = subst (λ (x : ℕ). len u x ≡ k) (sym e) head in
-          let fits : k ≤ length (buffer m r) = subst (λ (j : ℕ). k ≤ j) (sym long) few in
-          ap length now ∙ (length-take-le k (buffer m r) fits ∙ rw (none, own) refl))
-      | inr nr ↦ (
-          let away : slice_index_or (slice_set bs r (take k (buffer m r))) q [] ≡ slice_index_or bs q [] = get_or-set_other bs r q (take k (buffer m r)) [] nr in
-          elim (cases_eq q t) [
-            | inl e ↦ (
-                let now : slice_index_or bs q [] ≡ drop k (buffer m r) = ap (λ (x : ℕ). slice_index_or bs x []) e ∙ get_or-set_same m.buffers t (drop k (buffer m r)) [] t_in in
-                let none : end_of m q ≡ None = subst (λ (x : ℕ). end_of m x ≡ None) (sym e) (free_no_end m t w f) in
-                let rest : length (drop k (buffer m r)) ≡ length (buffer m r) - k = length-drop k (buffer m r) in
-                let own : len u q ≡ len u t = ap (λ (x : ℕ). len u x) e in
-                let same : length (drop k (buffer m r)) ≡ len u q = omega (arith, rest, long, tail, own) in
-                ap length (away ∙ now) ∙ (same ∙ rw none refl))
-            | inr nt ↦ ap length (away ∙ get_or-set_other m.buffers t q (drop k (buffer m r)) [] nt) ∙ (w.bytes q ∙ ap (λ (j : ℕ). cond (is_some (end_of m q)) 0 j) (sym (others q nr nt)))
-          ])
-    ]
+    rw (at_set bs r q (take k (buffer m r)) [] r_in, at_set m.buffers t q (drop k (buffer m r)) [] (rw w.buffers t_there)) (elim (cases_eq q r) [
+      | inl e ↦ rw (eq-eqb q r e, e, d, head) (length-take-le k (buffer m r) (rw long few))
+      | inr nr ↦ rw (ne_eqb q r nr) (elim (cases_eq q t) [
+        | inl e ↦ rw (eq-eqb q t e, e, free_no_end m t w f) (let rest : length (drop k (buffer m r)) ≡ length (buffer m r) - k = length-drop k (buffer m r) in omega (arith, rest, long, tail))
+        | inr nt ↦ rw (ne_eqb q t nt, others q nr nt) (w.bytes q)
+      ])
+    ])
 
 -- a block is split
 pub parted_whole : (m : Machine) (p r t k : ℕ) → IsWhole m → IsRunning m p → Gained p (t ∷ []) m.store (after (Cut p r t k) (after (Claim p t) m.store)) →
@@ -286,11 +162,7 @@ written_whole m r new w l e = record {
   kinds = w.kinds;
   ends = λ q d h. let was : IsEnd m q d = w.ends q d h in record { held = was.held; opened = was.opened; alone = was.alone };
   buffers = length-set m.buffers r new ∙ w.buffers;
-  bytes = λ q. elim (cases_eq q r) [
-    | inl s ↦ (let now : slice_index_or (slice_set m.buffers r new) q [] ≡ new = ap (λ (x : ℕ). slice_index_or (slice_set m.buffers r new) x []) s ∙ get_or-set_same m.buffers r new [] l in
-        ap length now ∙ (e ∙ (ap (λ (x : ℕ). length (buffer m x)) (sym s) ∙ w.bytes q)))
-    | inr n ↦ ap length (get_or-set_other m.buffers r q new [] n) ∙ w.bytes q
-  ];
+  bytes = λ q. rw (at_set m.buffers r q new [] l) (elim (cases_eq q r) [ inl s ↦ rw (eq-eqb q r s, s, e) (w.bytes r) | inr n ↦ rw (ne_eqb q r n) (w.bytes q) ]);
   places = w.places;
   channels = w.channels;
   deep = w.deep;
@@ -310,15 +182,3 @@ held_buffer m p r w h = subst (λ (n : ℕ). r < n) (sym w.buffers) (is_there m.
 
 pub buffer_length : (m : Machine) (r : ℕ) → IsWhole m → end_of m r ≡ None → length (buffer m r) ≡ len m.store r
 buffer_length m r w d = w.bytes r ∙ rw d refl
-
--- the machine whose fields these are is what a split makes of m
-pub parted_is : (m : Machine) (p r t k : ℕ) (s : Store) (b : BlocksOf) (ps : List Place) → is_current m p ≡ true → s ≡ after (Cut p r t k) (after (Claim p t) m.store) →
-    b ≡ with_bytes r (take k (buffer m r)) (with_bytes t (drop k (buffer m r)) (blocks_of m)) →
-    ps ≡ slice_set m.places (p % 32) (record (place m p) { blocks = record { items = (place m p).blocks.items ++ t ∷ [] } }) →
-    record m { store = s; ends = b.ends; buffers = b.buffers; places = ps } ≡ parted p r t k m
-unfolding parted
-parted_is m p r t k s b ps current store held listed =
-    same_machine (record m { store = s; ends = b.ends; buffers = b.buffers; places = ps }) (parted p r t k m) store
-    (ap (λ (x : BlocksOf). x.ends) held) (ap (λ (x : BlocksOf). x.buffers) held)
-    (listed ∙ ap (λ (xs : List ℕ). slice_set m.places (p % 32) (record (place m p) { blocks = record { items = xs ++ t ∷ [] } })) (sym (current_blocks m p current)))
-    refl refl refl refl

@@ -1,6 +1,6 @@
 -- A give leaves a whole machine.
-use Rattle.std.proofs.Common.{◌≡◌, ◌≢◌, ℕ, ◌+◌, ◌*◌, ◌/◌, ◌%◌, ◌<◌, ◌≤◌, List, [], ◌∷◌, ◌++◌, length}
-use Rattle.std.proofs.Common.{Bool, true, false, cond, refl, sym, ap, ◌∙◌, subst, arith, inl, inr, get_or-set_same, get_or-set_other, append-nil}
+use Rattle.std.proofs.Common.{◌≡◌, ◌≢◌, ℕ, ◌+◌, ◌*◌, ◌/◌, ◌%◌, ◌<◌, ◌≤◌, List, [], ◌∷◌, ◌++◌, length, Bool, true, false, cond, refl, sym, ap, ◌∙◌, subst, arith, inl, inr, get_or-set_same}
+use Rattle.std.proofs.Common.{get_or-set_other, append-nil}
 use Rattle.std.specs.Prelude.{Option, Some, None, is_none, ◌==◌, ◌&&◌, ◌||◌, nat_lt, unwrap_or, slice_set, slice_index_or}
 use Rattle.std.specs.List.{list_all, list_any}
 use Rattle.std.proofs.lemmas.Bool.{cases_eq, cases_Bool, false≢true, eq-eqb, ne_eqb, lt-ltb, ltb-true, ltb-false}
@@ -21,11 +21,10 @@ use Rattle.xh_core.specs.Several.{times, pass_all, has_twice}
 use Rattle.xh_serial.specs.Commands.{toward}
 use Rattle.xh_serial.specs.MessageCommands.{given, told_line, put_line, without, is_banned}
 use Rattle.xh_serial.specs.inner.Checks.{MayGive}
-use Rattle.xh_core.proofs.Stores.{count_append, done, all_owners, is_there, at_set, times-cons, same_len}
-use Rattle.xh_serial.proofs.Machines.{runs_busy, place_there, list_here, list_else, current_generation, busy_place, places_set, way_here, way_else, peer_ne, peer_half, peer_below}
-use Rattle.xh_serial.proofs.Wired.{state_in, IsPair, same_lines, wired_pair, half_apart}
-use Rattle.xh_serial.proofs.Moved.{Moved, moved_whole}
-use Rattle.xh_serial.proofs.Numbered.{put_numbered, set_numbered}
+use Rattle.xh_core.proofs.Stores.{count_append, done, all_owners, is_there, at_set, times-cons, same_len, same_process}
+use Rattle.xh_serial.proofs.Machines.{runs_busy, place_there, list_set, current_generation, busy_place, places_set, way_here, way_else, peer_ne, peer_half, peer_below}
+use Rattle.xh_serial.proofs.Wired.{state_in, IsPair, same_lines, wired_pair, half_apart, put_numbered, set_numbered}
+use Rattle.xh_serial.proofs.Room.{has, came_whole, had_bytes, passed_lawful, at_most_one, is_held}
 
 pub any_times : (q : ℕ) (bs : List ℕ) → list_any (λ b. b == q) bs ≡ nat_lt 0 (times q bs)
 any_times q [] = refl
@@ -194,13 +193,10 @@ module _ (m : Machine) (p e tag : ℕ) (bs : List ℕ) (w : IsWhole m) (g : MayG
   left : (q : ℕ) → times q (without bs (blocks m p)) + times q bs ≡ times q (blocks m p)
   left q =
       let a : times q (without bs (blocks m p)) ≡ cond (nat_lt 0 (times q bs)) 0 (times q (blocks m p)) = times_without q bs (blocks m p) in
-      let o : times q (blocks m p) ≡ cond {A = ℕ} (holds m.store (Process p) q) 1 0 = w.once (Process p) q in
-      let h = held q in
+      let o = w.once (Process p) q in let h = held q in let one = at_most_one (holds m.store (Process p) q) in
       elim (cases_Bool (nat_lt 0 (times q bs))) [
-        | inl t ↦ (let k : times q (without bs (blocks m p)) ≡ 0 = rw t at a in let l = ltb-true 0 (times q bs) t in
-            let one : cond {A = ℕ} (holds m.store (Process p) q) 1 0 ≤ 1 = (elim (cases_Bool (holds m.store (Process p) q)) [ inl u ↦ rw u (omega arith) | inr u ↦ rw u (omega arith) ]) in
-            omega (arith, k, l, o, h, one))
-        | inr f ↦ (let k : times q (without bs (blocks m p)) ≡ times q (blocks m p) = rw f at a in let l : times q bs ≤ 0 = ltb-false 0 (times q bs) f in omega (arith, k, l))
+        | inl t ↦ (let k : times q (without bs (blocks m p)) ≡ 0 = rw t at a in let l = ltb-true 0 (times q bs) t in omega (arith, k, l, o, h, one))
+        | inr f ↦ (let k : times q (without bs (blocks m p)) ≡ times q (blocks m p) = rw f at a in let l = ltb-false 0 (times q bs) f in omega (arith, k, l))
       ]
 
   way : carried y.waiting.items ≡ on_way m d ++ bs
@@ -213,10 +209,20 @@ module _ (m : Machine) (p e tag : ℕ) (bs : List ℕ) (w : IsWhole m) (g : MayG
     | inr a ↦ way_else m.lines own k z a
   ]
 
-  others : (k : Holder) → k ≢ Process p → k ≢ Direction d → (q : ℕ) → times q (listed n k) ≡ times q (listed m k)
+  lists : (k : Holder) (q : ℕ) → times q (listed n k) + has (Some (Process p)) k * times q bs ≡ times q (listed m k) + has (Some (Direction d)) k * times q bs
   unfolding given
-  others (Process k) a b q = ap (times q) (list_else m.places p k x (place_there m p w) generation generation (λ s. a (ap (λ (i : ℕ). Process i) s)))
-  others (Direction k) a b q = ap (times q) (way_else told d k y (λ s. b (ap (λ (i : ℕ). Direction i) s)) ∙ told_way k)
+  lists (Process k) q = rw (list_set m.places p x (place_there m p w) generation generation k) (elim (cases_eq k p) [
+    | inl s ↦ rw (eq-eqb k p s, eq-eqb p k (sym s), s) (let l = left q in omega (arith, l))
+    | inr a ↦ rw (ne_eqb k p a, ne_eqb p k (λ s. a (sym s))) (omega arith)
+  ])
+  lists (Direction k) q = rw (at_set told d k y no_line there) (elim (cases_eq k d) [
+    | inl s ↦ rw (eq-eqb k d s, eq-eqb d k (sym s), s)
+        (let l : times q (carried y.waiting.items) ≡ times q (on_way m d) + times q bs = ap (times q) way ∙ count_append q (on_way m d) bs in omega (arith, l))
+    | inr a ↦ rw (ne_eqb k d a, ne_eqb d k (λ s. a (sym s)), told_way k) (omega arith)
+  ])
+
+  were : (q : ℕ) → nat_lt 0 (times q bs) ≡ true → owner m.store q ≡ Some (Process p)
+  were q t = same_process _ _ (is_held (holds m.store (Process p) q) (times q bs) (held q) (ltb-true 0 (times q bs) t))
 
   own_now : slice_index_or (slice_set told d y) own no_line ≡ z
   own_now = get_or-set_other told d own y no_line (λ s. peer_ne own (sym s)) ∙ get_or-set_same m.lines own z no_line own_there
@@ -230,19 +236,22 @@ module _ (m : Machine) (p e tag : ℕ) (bs : List ℕ) (w : IsWhole m) (g : MayG
   other_lines : (k : ℕ) → k ≢ own → k ≢ d → slice_index_or (slice_set told d y) k no_line ≡ line m k
   other_lines k a b = get_or-set_other told d k y no_line b ∙ get_or-set_other m.lines own k z no_line a
 
-  moves : Moved (Process p) (Direction d) bs m n
+  pub given_whole : IsWhole n
   unfolding given
-  moves = record {
-    apart = λ s. cc;
-    range = range;
-    owners = passed.owners;
-    left = λ q. ap (λ (c : ℕ). c + times q bs) (ap (times q) (list_here m.places p x (place_there m p w) g.runs.0)) ∙ left q;
-    right = λ q. ap (times q) (way_here told d y there ∙ way) ∙ count_append q (on_way m d) bs;
-    others = others;
-    arenas = passed.arenas;
+  given_whole = came_whole (Some (Process p)) (Direction d) bs m n w (record {
+    lawful = passed_lawful (Process p) (Direction d) bs m n.store w range passed.many passed.arenas were passed.owners;
+    moved = record {
+      were = were;
+      once = λ q. let h = held q in let o = at_most_one (holds m.store (Process p) q) in omega (arith, h, o);
+      owners = passed.owners;
+      lists = lists;
+    };
+    full = had_bytes (Process p) (Direction d) bs m n.store w range passed.many passed.arenas were passed.owners;
+    kept = λ q l. rw (same_len m.store n.store q passed.arenas) l;
     many = passed.many;
     ends = refl;
     buffers = refl;
+    bytes = λ q. rw (same_len m.store n.store q passed.arenas) (w.bytes q);
     places = places_set m.places p x w.places (busy_place m p (without bs (blocks m p)) w (runs_busy m p g.runs));
     channels = record {
       long = length-set told d y ∙ (length-set m.lines own z ∙ w.channels.long);
@@ -255,7 +264,4 @@ module _ (m : Machine) (p e tag : ℕ) (bs : List ℕ) (w : IsWhole m) (g : MayG
     };
     opened = refl;
     depth = refl;
-  }
-
-  pub given_whole : IsWhole n
-  given_whole = moved_whole (Process p) (Direction d) bs m n w moves
+  })

@@ -1,8 +1,7 @@
 -- Sweeping one entry leaves a whole machine.
-use Rattle.std.proofs.Common.{◌≡◌, ◌≢◌, ℕ, zero, suc, ◌+◌, ◌-◌, ◌*◌, ◌/◌, ◌<◌, ◌≤◌, List, []}
-use Rattle.std.proofs.Common.{length, true, false, cond, refl, sym, ap, ◌∙◌, arith, ◌⊎◌, inl, inr, get_or-set_same, get_or-set_other}
+use Rattle.std.proofs.Common.{◌≡◌, ◌≢◌, ℕ, zero, suc, ◌+◌, ◌-◌, ◌*◌, ◌/◌, ◌<◌, ◌≤◌, List, [], length, true, false, cond, refl, sym, ap, ◌∙◌, arith, ◌⊎◌, inl, inr, get_or-set_same, get_or-set_other}
 use Rattle.std.specs.Prelude.{Option, Some, None, is_some, ◌==◌, nat_lt, slice_set, slice_index_or}
-use Rattle.std.proofs.lemmas.Bool.{cases_eq, cases_Bool, false≢true, eq-eqb, ne_eqb, lt-ltb, le-ltb}
+use Rattle.std.proofs.lemmas.Bool.{cases_eq, cases_Bool, false≢true, eq-eqb, ne_eqb, lt-ltb}
 use Rattle.std.proofs.lemmas.List.{length-set}
 use Rattle.xh_model.specs.declared.event.Holder.{Holder}
 use Rattle.xh_model.specs.declared.event.Holder.TheVariants.{Process, Direction}
@@ -12,14 +11,13 @@ use Rattle.xh_model.specs.declared.row.Row.{Row}
 use Rattle.xh_model.specs.Arena.{ArenaState}
 use Rattle.xh_model.proofs.Lawful.{back_lawful, back_bytes}
 use Rattle.xh_serial.specs.declared.line.Line.{Line}
-use Rattle.xh_serial.specs.Machine.{Machine, end_of, buffer, line, no_line, blocks, arriving, listed, IsWhole, IsEnd}
+use Rattle.xh_serial.specs.Machine.{Machine, end_of, buffer, line, no_line, blocks, arriving, IsWhole, IsEnd}
 use Rattle.xh_core.specs.Several.{times}
 use Rattle.xh_serial.specs.Sweeping.{sweep_one, sweep, shut_in}
 use Rattle.xh_core.proofs.Stores.{is_there, same_len, same_known, len_back, len_back_else, arena_there}
 use Rattle.xh_serial.proofs.Machines.{lists_current, current_range, places_set, busy_place, lists_busy}
-use Rattle.xh_serial.proofs.Wired.{shut_wired}
-use Rattle.xh_serial.proofs.Swept.{entry, new_owner, SweptOne, swept_one, entry_held, came_held, once_process, once_direction, ends_now, end_range}
-use Rattle.xh_serial.proofs.Numbered.{shut_numbered}
+use Rattle.xh_serial.proofs.Wired.{shut_wired, shut_numbered}
+use Rattle.xh_serial.proofs.Swept.{entry, new_owner, SweptOne, swept_one, entry_held, came_held, swept_once, ends_now, end_range}
 
 -- what becomes of another record: p has it now and a direction had it, or its holder is the same
 pub other_owner : (m : Machine) (p from q : ℕ) → IsWhole m → from < length (blocks m p) → q ≢ entry m p from →
@@ -72,10 +70,6 @@ full_now m p from h q w l y =
         | inr s ↦ w.full h q (ap (λ o. is_held_by o h) (sym s.0) ∙ y)
       ])
     ]
-
-once_now : (m : Machine) (p from : ℕ) (h : Holder) (q : ℕ) → IsWhole m → from < length (blocks m p) → times q (listed (sweep_one p from m) h) ≡ cond (holds (sweep_one p from m).store h q) 1 0
-once_now m p from (Process k) q w l = once_process m p from k q w l
-once_now m p from (Direction d) q w l = once_direction m p from d q w l
 
 some_none : (d : ℕ) → (o : Option ℕ) → o ≡ None → o ≡ Some d → ⊥
 some_none d o n e = false≢true (ap is_some (sym n ∙ e))
@@ -159,7 +153,7 @@ whole_one m p from w l =
     let s : SweptOne p from (entry m p from) m (sweep_one p from m) = swept_one m p from w l in
     record {
       store = lawful_now m p from w l;
-      once = λ h q. once_now m p from h q w l;
+      once = swept_once m p from w l;
       full = λ h q. full_now m p from h q w l;
       kinds = length-set m.ends (entry m p from) None ∙ (w.kinds ∙ sym s.many);
       ends = λ r d e. end_now m p from r d w l e;
@@ -189,7 +183,3 @@ bytes_one m p from w l =
 pub sweep_step : (n p from : ℕ) (m : Machine) → 0 < n → from < length (blocks m p) → sweep p from n m ≡ sweep p from (n - 1) (sweep_one p from m)
 sweep_step zero p from m h l = absurd (omega arith)
 sweep_step (suc n) p from m h l = let e : suc n - 1 ≡ n = omega arith in rw (e, lt-ltb from (length (blocks m p)) l) refl
-
-pub sweep_stop : (n p from : ℕ) (m : Machine) → length (blocks m p) ≤ from → sweep p from n m ≡ m
-sweep_stop zero p from m g = refl
-sweep_stop (suc n) p from m g = rw (le-ltb from (length (blocks m p)) g) refl

@@ -141,12 +141,9 @@ sweeps_nothing p from budget m w h = record {
 pub sweep_sweeps : (budget p from : ℕ) (m : Machine) → IsWhole m → Sweeps p from budget m (sweep p from budget m)
 sweep_sweeps zero p from m w = sweeps_nothing p from 0 m w (λ h. refl)
 sweep_sweeps (suc budget) p from m w = elim (cases_lt from (length (blocks m p))) [
-  | inl l ↦ (
-      let is : sweep p from (suc budget) m ≡ sweep p from budget (sweep_one p from m) = rw (lt-ltb from (length (blocks m p)) l) refl in
-      rw is (sweeps_one m p from budget w l (sweep p from budget (sweep_one p from m)) (sweep_sweeps budget p from (sweep_one p from m) (whole_one m p from w l))))
-  | inr g ↦ (
-      let is : sweep p from (suc budget) m ≡ m = rw (le-ltb from (length (blocks m p)) g) refl in
-      rw is (sweeps_nothing p from (suc budget) m w (λ h. absurd (omega arith))))
+  | inl l ↦ rw (lt-ltb from (length (blocks m p)) l)
+      (sweeps_one m p from budget w l (sweep p from budget (sweep_one p from m)) (sweep_sweeps budget p from (sweep_one p from m) (whole_one m p from w l)))
+  | inr g ↦ rw (le-ltb from (length (blocks m p)) g) (sweeps_nothing p from (suc budget) m w (λ h. absurd (omega arith)))
 ]
 
 pub sweep_whole : (budget p from : ℕ) (m : Machine) → IsWhole m → IsWhole (sweep p from budget m)

@@ -3,20 +3,19 @@ use Rattle.std.proofs.Common.{◌≡◌, ◌≢◌, ℕ, ◌*◌, ◌/◌, ◌%�
 use Rattle.std.specs.Prelude.{◌==◌, slice_set, slice_index_or}
 use Rattle.std.proofs.lemmas.Bool.{cases_eq, cases_Bool, false≢true, eq-eqb, ne_eqb, eqb-true}
 use Rattle.std.proofs.lemmas.List.{get_or_default, length-set, set-set}
+use Rattle.xh_model.specs.declared.event.Holder.{Holder}
+use Rattle.xh_model.specs.declared.event.Holder.TheVariants.{Process, Direction}
+use Rattle.xh_model.specs.Store.{holds}
+use Rattle.xh_core.specs.Several.{times}
 use Rattle.xh_serial.specs.declared.place.Place.{Place}
 use Rattle.xh_serial.specs.declared.line.Line.{Line}
 use Rattle.xh_core.specs.declared.status.Status.{Status}
 use Rattle.xh_core.specs.declared.status.Status.TheVariants.{Vacant, Running, Ending, Ended}
-use Rattle.xh_serial.specs.Machine.{Machine, place, is_current, blocks, no_place, no_line, peer, carried, IsWhole, ArePlaces}
+use Rattle.xh_serial.specs.Machine.{Machine, place, is_current, blocks, listed, no_place, no_line, peer, carried, IsWhole, ArePlaces}
 use Rattle.xh_core.specs.Statuses.{is_running, is_over}
 use Rattle.xh_serial.specs.Commands.{IsRunning}
 use Rattle.xh_serial.specs.inner.Holding.{BlocksOf}
 use Rattle.xh_serial.specs.inner.Placing.{place_in, blocks_in, relisted}
-
--- machines with the same parts are one
-pub same_machine : (a b : Machine) → a.store ≡ b.store → a.ends ≡ b.ends → a.buffers ≡ b.buffers → a.places ≡ b.places → a.lines ≡ b.lines → a.contracts ≡ b.contracts → a.opened ≡ b.opened →
-    a.depth ≡ b.depth → a ≡ b
-same_machine a b s e f p l c o d = λ i. record { store = s i; ends = e i; buffers = f i; places = p i; lines = l i; contracts = c i; opened = o i; depth = d i }
 
 -- what the blocks of a machine hold
 abbrev pub blocks_of : Machine → BlocksOf
@@ -28,9 +27,12 @@ read_at xs i k x d l e h = h ∙ (ap (λ j. slice_index_or xs j x) e ∙ get_or_
 
 -- ---- places
 
--- the list of a process among places
+-- the list that a place gives to a process, and that of a process among places
+abbrev pub listed_at : Place → ℕ → List ℕ
+listed_at x p = cond (x.generation == (p / 32)) x.blocks.items []
+
 abbrev pub list_in : List Place → ℕ → List ℕ
-list_in ps p = cond ((place_in ps p).generation == (p / 32)) (place_in ps p).blocks.items []
+list_in ps p = listed_at (place_in ps p) p
 
 pub place_here : (ps : List Place) (p : ℕ) (x : Place) → p % 32 < length ps → place_in (slice_set ps (p % 32) x) p ≡ x
 place_here ps p x l = get_or-set_same ps (p % 32) x no_place l
@@ -70,6 +72,23 @@ list_else ps p k x l g h n = elim (cases_eq (k % 32) (p % 32)) [
       no_list_at (slice_set ps (p % 32) x) k x now (rw h (ne_eqb (p / 32) (k / 32) apart))
       ∙ sym (no_list_at ps k (place_in ps p) was (rw g (ne_eqb (p / 32) (k / 32) apart))))
   | inr d ↦ ap (λ (y : Place). cond (y.generation == (k / 32)) y.blocks.items []) (place_else ps p k x d)
+]
+
+pub list_set : (ps : List Place) (p : ℕ) (x : Place) → p % 32 < length ps → (place_in ps p).generation ≡ p / 32 → x.generation ≡ p / 32 →
+    (k : ℕ) → list_in (slice_set ps (p % 32) x) k ≡ cond (k == p) x.blocks.items (list_in ps k)
+list_set ps p x l g h k = elim (cases_eq k p) [
+  | inl e ↦ rw (eq-eqb k p e, e) (list_here ps p x l (eq-eqb _ _ h))
+  | inr n ↦ rw (ne_eqb k p n) (list_else ps p k x l g h n)
+]
+
+-- a place that lists as before
+pub same_lists : (ps : List Place) (p : ℕ) (x : Place) → p % 32 < length ps → ((k : ℕ) → listed_at x k ≡ listed_at (place_in ps p) k) → (k : ℕ) → list_in (slice_set ps (p % 32) x) k ≡ list_in ps k
+same_lists ps p x l h k = elim (cases_eq (k % 32) (p % 32)) [
+  | inl e ↦ (
+      let now : place_in (slice_set ps (p % 32) x) k ≡ x = ap (λ (i : ℕ). slice_index_or (slice_set ps (p % 32) x) i no_place) e ∙ place_here ps p x l in
+      let was : place_in ps k ≡ place_in ps p = ap (λ (i : ℕ). slice_index_or ps i no_place) e in
+      ap (λ (y : Place). listed_at y k) now ∙ (h k ∙ ap (λ (y : Place). listed_at y k) (sym was)))
+  | inr d ↦ ap (λ (y : Place). listed_at y k) (place_else ps p k x d)
 ]
 
 pub current_generation : (m : Machine) (p : ℕ) → is_current m p ≡ true → (place m p).generation ≡ p / 32
@@ -121,6 +140,26 @@ module _ (ps : List Place) (p : ℕ) (x : Place) (a : ArePlaces ps) (is : IsPlac
 pub busy_place : (m : Machine) (p : ℕ) (rs : List ℕ) → IsWhole m → is_over (place m p).status ≡ false →
     IsPlace (record (place m p) { blocks = record { items = rs } })
 busy_place m p rs w b = record { generation = w.places.generations p; idle = λ h. absurd (false≢true (sym b ∙ h)) }
+
+-- other places that list the same records
+module _ (m : Machine) (ps : List Place) (w : IsWhole m) (a : ArePlaces ps) (same : (k q : ℕ) → times q (list_in ps k) ≡ times q (blocks m k)) where
+  once_placed : (h : Holder) (q : ℕ) → times q (listed (record m { places = ps }) h) ≡ cond (holds m.store h q) 1 0
+  once_placed (Process k) q = same k q ∙ w.once (Process k) q
+  once_placed (Direction d) q = w.once (Direction d) q
+
+  pub places_whole : IsWhole (record m { places = ps })
+  places_whole = record {
+    store = w.store;
+    once = once_placed;
+    full = w.full;
+    kinds = w.kinds;
+    ends = λ r d e. let was = w.ends r d e in record { held = was.held; opened = was.opened; alone = was.alone };
+    buffers = w.buffers;
+    bytes = w.bytes;
+    places = a;
+    channels = w.channels;
+    deep = w.deep;
+  }
 
 -- a place that lists something is not idle
 pub lists_busy : (m : Machine) (p from : ℕ) → IsWhole m → from < length (blocks m p) → is_over (place m p).status ≡ false

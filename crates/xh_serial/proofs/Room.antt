@@ -1,17 +1,17 @@
--- Distinct records are no more than there are records.
-use Rattle.std.proofs.Common.{◌≡◌, ℕ, ◌+◌, ◌<◌, ◌≤◌, List, [], ◌∷◌, ◌++◌, length, Bool, true, false, cond, refl, ◌∙◌, arith, inl, inr}
-use Rattle.std.specs.Prelude.{Option, Some, None, ◌==◌}
+-- Records that go from one holder, or from none, to another, or to none; and distinct records are no more than there are records.
+use Rattle.std.proofs.Common.{◌≡◌, ℕ, ◌+◌, ◌<◌, ◌≤◌, List, [], ◌∷◌, ◌++◌, length, Bool, true, false, cond, refl, ◌∙◌, arith, inl, inr, ◌*◌, sym, ap}
+use Rattle.std.specs.Prelude.{Option, Some, None, ◌==◌, is_some, nat_lt}
 use Rattle.std.specs.List.{sum_by, range_with_len}
-use Rattle.std.proofs.lemmas.Bool.{cases_lt, cases_Bool, eq-eqb}
+use Rattle.std.proofs.lemmas.Bool.{cases_lt, cases_Bool, eq-eqb, ltb-true, ltb-false}
 use Rattle.std.proofs.lemmas.List.{length-append}
 use Rattle.std.proofs.lemmas.List.Sums.{sum_by-append, sum_by-le}
 use Rattle.std.proofs.lemmas.List.FromFn.{length-range_with_len}
 use Rattle.xh_model.specs.declared.event.Holder.{Holder}
 use Rattle.xh_model.specs.declared.event.Holder.TheVariants.{Process, Direction}
-use Rattle.xh_model.specs.Store.{owner, holds, is_held_by}
-use Rattle.xh_serial.specs.Machine.{Machine, blocks, way_in, on_way, listed, IsWhole}
+use Rattle.xh_model.specs.Store.{owner, holds, is_held_by, Store, len, same_holder, IsOwner, IsLawful, IsQuiet}
+use Rattle.xh_serial.specs.Machine.{Machine, blocks, way_in, on_way, listed, IsWhole, end_of, buffer, IsEnd, ArePlaces, AreChannels}
 use Rattle.xh_core.specs.Several.{times}
-use Rattle.xh_core.proofs.Stores.{times-cons, is_there}
+use Rattle.xh_core.proofs.Stores.{times-cons, is_there, same_len, same_known}
 use Rattle.xh_model.proofs.Totals.{sum_zero, sum_add, sum_same}
 use Rattle.xh_core.proofs.Ranges.{picked}
 
@@ -33,6 +33,10 @@ few n rs one in_range =
 pub at_most_one : (b : Bool) → cond {A = ℕ} b 1 0 ≤ 1
 at_most_one true = omega arith
 at_most_one false = omega arith
+
+pub is_held : (b : Bool) (n : ℕ) → n ≤ cond {A = ℕ} b 1 0 → 0 < n → b ≡ true
+is_held true n l h = refl
+is_held false n l h = absurd (omega (arith, l, h))
 
 not_two : (o : Option Holder) (p d : ℕ) → cond {A = ℕ} (is_held_by o (Process p)) 1 0 + cond {A = ℕ} (is_held_by o (Direction d)) 1 0 ≤ 1
 not_two None p d = omega arith
@@ -61,3 +65,114 @@ room m p (Some d) w =
     (λ q. let a = w.once (Process p) q in let b = w.once (Direction d) q in let e = both q in let t = not_two (owner m.store q) p d in omega arith)
     (λ q l. let e = both q in elim (cases_lt 0 (times q (blocks m p))) [ inl y ↦ held_there m (Process p) q w y | inr n ↦ held_there m (Direction d) q w (omega arith) ]) in
     let e = length-append (blocks m p) (on_way m d) in omega arith
+
+-- ---- the lists
+
+abbrev pub has : Option Holder → Holder → ℕ
+has o h = cond (is_held_by o h) 1 0
+
+-- each record stands once in its holder's list and in no other
+abbrev pub AreListed : Store → (Holder → List ℕ) → Type 0
+AreListed s lists = (h : Holder) (q : ℕ) → times q (lists h) ≡ cond (holds s h q) 1 0
+
+-- these records go from one holder to another, and so do they in the lists
+pub record Moved (from to : Option Holder) (rs : List ℕ) (s t : Store) (before now : Holder → List ℕ) : Type 0 where
+  pub were : (q : ℕ) → nat_lt 0 (times q rs) ≡ true → owner s q ≡ from
+  pub once : (q : ℕ) → times q rs ≤ 1
+  pub owners : (q : ℕ) → owner t q ≡ cond (nat_lt 0 (times q rs)) to (owner s q)
+  pub lists : (h : Holder) (q : ℕ) → times q (now h) + has from h * times q rs ≡ times q (before h) + has to h * times q rs
+
+pub listed_again : (from to : Option Holder) (rs : List ℕ) (s t : Store) (before now : Holder → List ℕ) → AreListed s before → Moved from to rs s t before now → AreListed t now
+listed_again from to rs s t before now w v h q =
+    let l = v.lists h q in let was = w h q in
+    elim (cases_Bool (nat_lt 0 (times q rs))) [
+      | inl y ↦ (
+          let more = ltb-true 0 (times q rs) y in let most = v.once q in
+          let one : times q rs ≡ 1 = omega (arith, more, most) in
+          let there : times q (before h) ≡ has from h = was ∙ rw (v.were q y) refl in
+          let is : times q (now h) + has from h * 1 ≡ times q (before h) + has to h * 1 = rw one at l in
+          rw (v.owners q, y) (omega (arith, is, there)))
+      | inr f ↦ (
+          let less = ltb-false 0 (times q rs) f in
+          let none : times q rs ≡ 0 = omega (arith, less) in
+          let is : times q (now h) + has from h * 0 ≡ times q (before h) + has to h * 0 = rw none at l in
+          rw (v.owners q, f) (omega (arith, is, was)))
+    ]
+
+-- ---- the machine
+
+-- records came to h; endpoints stay, and nothing lost its last byte
+pub record Came (from : Option Holder) (h : Holder) (rs : List ℕ) (m n : Machine) : Type 0 where
+  pub lawful : IsLawful n.store
+  pub moved : Moved from (Some h) rs m.store n.store (listed m) (listed n)
+  pub full : (q : ℕ) → nat_lt 0 (times q rs) ≡ true → 0 < len n.store q
+  pub kept : (q : ℕ) → 0 < len m.store q → 0 < len n.store q
+  pub many : length n.store.owners ≡ length m.store.owners
+  pub ends : n.ends ≡ m.ends
+  pub buffers : length n.buffers ≡ length m.buffers
+  pub bytes : (q : ℕ) → length (buffer n q) ≡ cond (is_some (end_of m q)) 0 (len n.store q)
+  pub places : ArePlaces n.places
+  pub channels : AreChannels n.lines n.contracts n.opened
+  pub opened : n.opened ≡ m.opened
+  pub depth : n.depth ≡ m.depth
+
+module _ (from : Option Holder) (h : Holder) (rs : List ℕ) (m n : Machine) (w : IsWhole m) (v : Came from h rs m n) where
+  still_held : (q : ℕ) → is_some (owner m.store q) ≡ true → is_some (owner n.store q) ≡ true
+  still_held q s = elim (cases_Bool (nat_lt 0 (times q rs))) [ inl y ↦ rw (v.moved.owners q, y) refl | inr f ↦ rw (v.moved.owners q, f) s ]
+
+  quiet : IsQuiet n.store
+  quiet k q y = elim (cases_Bool (nat_lt 0 (times q rs))) [ inl z ↦ v.full q z | inr f ↦ v.kept q (w.full k q (rw (v.moved.owners q, f) at y)) ]
+
+  same_end : (q : ℕ) → end_of n q ≡ end_of m q
+  same_end q = rw (v.ends) refl
+
+  end_now : (r d : ℕ) → end_of n r ≡ Some d → IsEnd n r d
+  end_now r d e =
+      let was = w.ends r d (sym (same_end r) ∙ e) in
+      record { held = still_held r was.held; opened = rw v.opened was.opened; alone = λ q f. was.alone q (sym (same_end q) ∙ f) }
+
+  pub came_whole : IsWhole n
+  came_whole = record {
+    store = v.lawful;
+    once = listed_again from (Some h) rs m.store n.store (listed m) (listed n) w.once v.moved;
+    full = quiet;
+    kinds = ap length v.ends ∙ (w.kinds ∙ sym v.many);
+    ends = end_now;
+    buffers = v.buffers ∙ (w.buffers ∙ sym v.many);
+    bytes = λ q. v.bytes q ∙ rw (same_end q) refl;
+    places = v.places;
+    channels = v.channels;
+    deep = rw v.depth w.deep;
+  }
+
+-- ---- a store in which no byte moved
+
+abbrev pub IsHolder : Holder → Type 0
+IsHolder (Process p) = p < 4096
+IsHolder (Direction d) = d < 128
+
+owner_any : (h : Holder) (n : ℕ) → IsHolder h → 0 < n → IsOwner (Some h) n
+owner_any (Process p) n r l = r
+owner_any (Direction d) n r l = (r, l)
+
+holder_refl : (h : Holder) → same_holder h h ≡ true
+holder_refl (Process p) = eq-eqb p p refl
+holder_refl (Direction d) = eq-eqb d d refl
+
+module _ (g h : Holder) (rs : List ℕ) (m : Machine) (t : Store) (w : IsWhole m) (range : IsHolder h) (many : length t.owners ≡ length m.store.owners) (arenas : t.arenas ≡ m.store.arenas)
+    (were : (q : ℕ) → nat_lt 0 (times q rs) ≡ true → owner m.store q ≡ Some g) (owners : (q : ℕ) → owner t q ≡ cond (nat_lt 0 (times q rs)) (Some h) (owner m.store q)) where
+  pub had_bytes : (q : ℕ) → nat_lt 0 (times q rs) ≡ true → 0 < len t q
+  had_bytes q y = rw (same_len m.store t q arenas) (w.full g q (rw (were q y) (holder_refl g)))
+
+  pub passed_lawful : IsLawful t
+  passed_lawful = record {
+    few = rw arenas w.store.few;
+    long = rw (many, arenas) w.store.long;
+    covers = λ k. rw arenas (w.store.covers k);
+    records = λ k. rw arenas (w.store.records k);
+    owned = λ q. elim (cases_Bool (nat_lt 0 (times q rs))) [
+      | inl y ↦ rw (owners q, y) (owner_any h (len t q) range (had_bytes q y))
+      | inr f ↦ rw (owners q, f, same_len m.store t q arenas) (w.store.owned q)
+    ];
+    known = λ q s. same_known m.store t q arenas ∙ w.store.known q (elim (cases_Bool (nat_lt 0 (times q rs))) [ inl y ↦ rw (were q y) refl | inr f ↦ rw (owners q, f) at s ]);
+  }

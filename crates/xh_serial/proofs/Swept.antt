@@ -1,23 +1,25 @@
 -- What sweeping one entry leaves.
-use Rattle.std.proofs.Common.{◌≡◌, ◌≢◌, ℕ, ◌+◌, ◌/◌, ◌<◌, ◌≤◌, List, [], ◌++◌, length, Bool, true, false, cond, refl, sym, ap, ◌∙◌, subst, arith, inl, inr, get_or-set_same, get_or-set_other}
+use Rattle.std.proofs.Common.{◌≡◌, ◌≢◌, ℕ, ◌+◌, ◌*◌, ◌/◌, ◌<◌, ◌≤◌, List, [], ◌∷◌, ◌++◌, length, Bool, true, false, cond, refl, sym, ap, ◌∙◌, subst, arith, inl, inr, get_or-set_same, get_or-set_other}
 use Rattle.std.specs.Prelude.{Option, Some, None, ◌==◌, nat_lt, slice_index_or}
 use Rattle.std.specs.List.{remove}
-use Rattle.std.proofs.lemmas.Bool.{cases_eq, cases_Bool, false≢true, eq-eqb, ne_eqb, lt-ltb, ltb-true, ltb-false}
+use Rattle.std.proofs.lemmas.Bool.{cases_eq, cases_Bool, false≢true, eq-eqb, ne_eqb, lt-ltb, ltb-true, eqb-true}
 use Rattle.std.proofs.lemmas.List.{length-set, length-append, get_or_append_left}
-use Rattle.std.proofs.lemmas.List.Sums.{sum_by-append, sum_by-remove, get_or-le-sum_by}
+use Rattle.std.proofs.lemmas.List.Sums.{sum_by-remove, get_or-le-sum_by}
 use Rattle.xh_model.specs.declared.event.Holder.{Holder}
 use Rattle.xh_model.specs.declared.event.Holder.TheVariants.{Process, Direction}
 use Rattle.xh_model.specs.declared.event.Event.TheVariants.{GiveBack, Vacate}
 use Rattle.xh_model.specs.Store.{Store, owner, len, holds, is_held_by, change, after}
 use Rattle.xh_model.specs.Arena.{ArenaState}
 use Rattle.xh_serial.specs.declared.place.Place.{Place}
-use Rattle.xh_serial.specs.Machine.{Machine, end_of, place, blocks, way_in, on_way, arriving, IsWhole}
+use Rattle.xh_serial.specs.Machine.{Machine, end_of, place, blocks, way_in, on_way, arriving, listed, IsWhole}
 use Rattle.xh_core.specs.Several.{times, accept_from}
 use Rattle.xh_serial.specs.Sweeping.{sweep_one, shut_in}
 use Rattle.xh_serial.specs.inner.Placing.{blocks_in, relisted}
-use Rattle.xh_serial.proofs.Room.{room}
+use Rattle.xh_serial.proofs.Room.{room, at_most_one}
+use Rattle.xh_serial.proofs.Room.{has, Moved, listed_again}
+use Rattle.xh_core.proofs.Claiming.{one_time, is_one}
 use Rattle.xh_serial.proofs.Machines.{place_there, current_blocks, relisted_list, relisted_again, list_here, list_else, lists_current, current_generation, current_range, way_here, way_else}
-use Rattle.xh_core.proofs.Stores.{done, same_process, same_direction, is_there, at_set, Accepted, accepted_all, same_len, len_back, arena_there}
+use Rattle.xh_core.proofs.Stores.{count_append, done, same_process, same_direction, is_there, at_set, Accepted, accepted_all, same_len, len_back, arena_there}
 
 -- the records on their way to an endpoint, if there is one
 abbrev pub on_way_to : Machine → Option ℕ → List ℕ
@@ -107,23 +109,36 @@ swept_store p r m = after (Vacate p r) (after (GiveBack p r) (accepted_store p r
 same_back : (s t : Store) (p r : ℕ) → t.arenas ≡ s.arenas → (change (GiveBack p r) t).arenas ≡ (change (GiveBack p r) s).arenas
 same_back s t p r e = ap (λ (xs : List ArenaState). (change (GiveBack p r) (record { owners = s.owners; arenas = xs })).arenas) e
 
-pub swept_one : (m : Machine) (p from : ℕ) → IsWhole m → from < length (blocks m p) → SweptOne p from (entry m p from) m (sweep_one p from m)
-unfolding sweep_one
-swept_one m p from w l =
-    let r : ℕ = entry m p from in
-    let h : holds m.store (Process p) r ≡ true = entry_held m p from w l in
-    let a : Accepted p (arriving m r) m.store (accepted_store p r m) = came_from m p (end_of m r) w (current_range m p w (lists_current m p from l)) in
-    let t : Store = accepted_store p r m in
-    let o : owner t r ≡ Some (Process p) = a.owners r ∙ rw (none_of_own m p r (end_of m r) w h) (same_process _ _ h) in
-    let n : 0 < len t r = rw (same_len m.store t r a.arenas) (w.full (Process p) r h) in
-    let arena : r / 256 < length t.arenas = rw a.arenas (arena_there m.store (Process p) r w.store h) in
-    let is : swept_store p r m ≡ change (Vacate p r) (change (GiveBack p r) t) = given_up p r t arena o n in
-    let there : r < length t.owners = rw a.many (is_there m.store (Process p) r h) in
-    record {
-      owners = λ q. rw is (at_set t.owners r q None None there ∙ rw (a.owners q) refl);
-      many = ap (λ (s : Store). length s.owners) is ∙ (length-set t.owners r None ∙ a.many);
-      arenas = ap (λ (s : Store). s.arenas) is ∙ same_back m.store t p r a.arenas;
-    }
+module _ (m : Machine) (p from : ℕ) (w : IsWhole m) (l : from < length (blocks m p)) where
+  abbrev r : ℕ
+  r = entry m p from
+
+  abbrev t : Store
+  t = accepted_store p r m
+
+  held : holds m.store (Process p) r ≡ true
+  held = entry_held m p from w l
+
+  accepted : Accepted p (arriving m r) m.store t
+  accepted = came_from m p (end_of m r) w (current_range m p w (lists_current m p from l))
+
+  own : owner t r ≡ Some (Process p)
+  own = accepted.owners r ∙ rw (none_of_own m p r (end_of m r) w held) (same_process _ _ held)
+
+  reclaimed : swept_store p r m ≡ change (Vacate p r) (change (GiveBack p r) t)
+  reclaimed = given_up p r t (rw accepted.arenas (arena_there m.store (Process p) r w.store held)) own (rw (same_len m.store t r accepted.arenas) (w.full (Process p) r held))
+
+  gone : (q : ℕ) → owner (sweep_one p from m).store q ≡ cond (q == r) None (owner t q)
+  unfolding sweep_one
+  gone q = rw reclaimed (at_set t.owners r q None None (rw accepted.many (is_there m.store (Process p) r held)))
+
+  pub swept_one : SweptOne p from r m (sweep_one p from m)
+  unfolding sweep_one
+  swept_one = record {
+    owners = λ q. gone q ∙ rw (accepted.owners q) refl;
+    many = ap (λ (s : Store). length s.owners) reclaimed ∙ (length-set t.owners r None ∙ accepted.many);
+    arenas = ap (λ (s : Store). s.arenas) reclaimed ∙ same_back m.store t p r accepted.arenas;
+  }
 
 -- ---- lists and directions
 
@@ -192,97 +207,85 @@ arriving_here m p from w l = ap (on_way_to (sweep_one p from m)) (ends_gone m p 
 
 -- ---- each record once
 
-times_removed : (q k : ℕ) (rs cs : List ℕ) → k < length rs → times q (remove (rs ++ cs) k) + cond (slice_index_or rs k 0 == q) 1 0 ≡ times q rs + times q cs
+times_removed : (q k : ℕ) (rs cs : List ℕ) → k < length rs → times q (remove (rs ++ cs) k) + cond (slice_index_or rs k 0 == q) 1 0 ≡ times q (rs ++ cs)
 times_removed q k rs cs l =
     let f : ℕ → ℕ = λ x. cond (x == q) 1 0 in
     let e : length (rs ++ cs) ≡ length rs + length cs = length-append rs cs in
-    let long : k < length (rs ++ cs) = omega arith in
-    let one : times q (remove (rs ++ cs) k) + f (slice_index_or (rs ++ cs) k 0) ≡ times q (rs ++ cs) = sum_by-remove f (rs ++ cs) k 0 long in
-    let two : times q (rs ++ cs) ≡ times q rs + times q cs = sum_by-append f rs cs in
-    let three : slice_index_or (rs ++ cs) k 0 ≡ slice_index_or rs k 0 = get_or_append_left rs cs 0 k l in
-    rw three at one ∙ two
+    let one : times q (remove (rs ++ cs) k) + f (slice_index_or (rs ++ cs) k 0) ≡ times q (rs ++ cs) = sum_by-remove f (rs ++ cs) k 0 (omega (arith, e, l)) in
+    rw (get_or_append_left rs cs 0 k l) at one
 
 -- a record that came is held by the direction that it came from
 pub came_held : (m : Machine) (q : ℕ) (o : Option ℕ) → IsWhole m → (b : Bool) → nat_lt 0 (times q (on_way_to m o)) ≡ true → (d : ℕ) × (o ≡ Some d) × (owner m.store q ≡ Some (Direction d))
 came_held m q None w b h = absurd (false≢true h)
 came_held m q (Some d) w b h = (d, refl, same_direction _ _ (some_times _ _ (w.once (Direction d) q) (ltb-true 0 (times q (on_way m d)) h)))
 
-came_once : (m : Machine) (q : ℕ) (o : Option ℕ) → IsWhole m → nat_lt 0 (times q (on_way_to m o)) ≡ true → times q (on_way_to m o) ≡ 1
-came_once m q None w h = absurd (false≢true h)
-came_once m q (Some d) w h = let e = w.once (Direction d) q in let l = ltb-true 0 (times q (on_way m d)) h in e ∙ rw (some_times _ _ e l) refl
+came_most : (m : Machine) (q : ℕ) (o : Option ℕ) → IsWhole m → times q (on_way_to m o) ≤ 1
+came_most m q None w = omega arith
+came_most m q (Some d) w = let e = w.once (Direction d) q in let a = at_most_one (holds m.store (Direction d) q) in omega (arith, e, a)
 
-none_left : (m : Machine) (e q : ℕ) (o : Option ℕ) → IsWhole m → nat_lt 0 (times q (on_way_to m o)) ≡ false →
-    times q (on_way m e) ≡ cond (holds m.store (Direction e) q) 1 0 → times q (cond (is_at e o) [] (on_way m e)) ≡ cond (holds m.store (Direction e) q) 1 0
-none_left m e q None w f was = was
-none_left m e q (Some d) w f was = elim (cases_eq e d) [
-  | inl s ↦ (let z : times q (on_way m d) ≤ 0 = ltb-false 0 (times q (on_way m d)) f in
-      let z2 : times q (on_way m e) ≤ 0 = rw s z in
-      let z3 : times q (on_way m e) ≡ 0 = omega arith in
-      rw (eq-eqb e d s) (sym z3 ∙ was))
-  | inr n ↦ rw (ne_eqb e d n) was
+-- the lists once p has accepted what was on its way
+abbrev between : ℕ → Option ℕ → Machine → Holder → List ℕ
+between p o m (Process k) = cond (k == p) (blocks m p ++ on_way_to m o) (blocks m k)
+between p o m (Direction e) = cond (is_at e o) [] (on_way m e)
+
+abbrev sender : Option ℕ → Option Holder
+sender None = None
+sender (Some d) = Some (Direction d)
+
+with_none : (a x : ℕ) → a + 0 * x ≡ a
+with_none a x = omega arith
+
+longer : (m : Machine) (p k q : ℕ) (rs : List ℕ) → times q (cond (k == p) (blocks m p ++ rs) (blocks m k)) ≡ times q (blocks m k) + has (Some (Process p)) (Process k) * times q rs
+longer m p k q rs = elim (cases_eq k p) [
+  | inl s ↦ rw (eq-eqb k p s, eq-eqb p k (sym s), s) (let l = count_append q (blocks m p) rs in omega (arith, l))
+  | inr a ↦ rw (ne_eqb k p a, ne_eqb p k (λ s. a (sym s))) (omega arith)
 ]
 
-abbrev now : ℕ → ℕ → Machine → Machine
-now p from m = sweep_one p from m
+came_lists : (m : Machine) (p : ℕ) (o : Option ℕ) (h : Holder) (q : ℕ) →
+    times q (between p o m h) + has (sender o) h * times q (on_way_to m o) ≡ times q (listed m h) + has (Some (Process p)) h * times q (on_way_to m o)
+came_lists m p None (Process k) q = with_none (times q (cond (k == p) (blocks m p ++ []) (blocks m k))) (times q []) ∙ longer m p k q []
+came_lists m p (Some d) (Process k) q = with_none (times q (cond (k == p) (blocks m p ++ on_way m d) (blocks m k))) (times q (on_way m d)) ∙ longer m p k q (on_way m d)
+came_lists m p None (Direction e) q = refl
+came_lists m p (Some d) (Direction e) q = elim (cases_eq e d) [
+  | inl s ↦ rw (eq-eqb e d s, eq-eqb d e (sym s), s) (omega arith)
+  | inr a ↦ rw (ne_eqb e d a, ne_eqb d e (λ s. a (sym s))) refl
+]
 
-pub owner_now : (m : Machine) (p from q : ℕ) → IsWhole m → from < length (blocks m p) →
-    owner (now p from m).store q ≡ new_owner p (entry m p from) (came p from m) q (owner m.store q)
-owner_now m p from q w l = (swept_one m p from w l).owners q
+module _ (m : Machine) (p from : ℕ) (w : IsWhole m) (l : from < length (blocks m p)) where
+  abbrev entry_is : ℕ
+  entry_is = entry m p from
 
-pub once_process : (m : Machine) (p from k q : ℕ) → IsWhole m → from < length (blocks m p) → times q (blocks (now p from m) k) ≡ cond (holds (now p from m).store (Process k) q) 1 0
-once_process m p from k q w l =
-    let r : ℕ = entry m p from in
-    let held : holds m.store (Process p) r ≡ true = entry_held m p from w l in
-    let own : owner m.store r ≡ Some (Process p) = same_process _ _ held in
-    let was : times q (blocks m k) ≡ cond (holds m.store (Process k) q) 1 0 = w.once (Process k) q in
-    elim (cases_eq k p) [
-      | inl kp ↦ (
-          let t : times q (remove (blocks m p ++ came p from m) from) + cond (r == q) 1 0 ≡ times q (blocks m p) + times q (came p from m) = times_removed q from (blocks m p) (came p from m) l in
-          let was_p : times q (blocks m p) ≡ cond (holds m.store (Process p) q) 1 0 = w.once (Process p) q in
-          rw (kp, blocks_here m p from w l, owner_now m p from q w l) (elim (cases_eq q r) [
-            | inl e ↦ (
-                let z : times q (came p from m) ≡ 0 = rw e (none_of_own m p r (end_of m r) w held) in
-                let one : cond {A = ℕ} (r == q) 1 0 ≡ 1 = rw (eq-eqb r q (sym e)) refl in
-                let has : times q (blocks m p) ≡ 1 = was_p ∙ rw (e, held) refl in
-                rw (eq-eqb q r e) (omega arith))
-            | inr n ↦ (
-                let none : cond {A = ℕ} (r == q) 1 0 ≡ 0 = rw (ne_eqb r q (λ e. n (sym e))) refl in
-                rw (ne_eqb q r n) (elim (cases_Bool (nat_lt 0 (times q (came p from m)))) [
-                  | inl y ↦ (
-                      let c = came_held m q (end_of m r) w true y in
-                      let other : holds m.store (Process p) q ≡ false = rw c.2 refl in
-                      let zero_p : times q (blocks m p) ≡ 0 = was_p ∙ rw other refl in
-                      let is_one : times q (came p from m) ≡ 1 = came_once m q (end_of m r) w y in
-                      rw (y, eq-eqb p p refl) (omega arith))
-                  | inr f ↦ (
-                      let zero_c : times q (came p from m) ≤ 0 = ltb-false 0 (times q (came p from m)) f in
-                      rw f (omega arith))
-                ]))
-          ]))
-      | inr n ↦ rw (blocks_else m p from k w l n, owner_now m p from q w l) (was ∙ elim (cases_eq q r) [
-        | inl e ↦ rw (e, eq-eqb r r refl, own, ne_eqb p k (λ x. n (sym x))) refl
-        | inr nq ↦ rw (ne_eqb q r nq) (elim (cases_Bool (nat_lt 0 (times q (came p from m)))) [
-          | inl y ↦ (let c = came_held m q (end_of m r) w true y in rw (y, c.2, ne_eqb p k (λ x. n (sym x))) refl)
-          | inr f ↦ rw f refl
-        ])
-      ])
-    ]
+  abbrev accepted_by : Store
+  accepted_by = accepted_store p entry_is m
 
-pub once_direction : (m : Machine) (p from e q : ℕ) → IsWhole m → from < length (blocks m p) → times q (on_way (now p from m) e) ≡ cond (holds (now p from m).store (Direction e) q) 1 0
-once_direction m p from e q w l =
-    let r : ℕ = entry m p from in
-    let held : holds m.store (Process p) r ≡ true = entry_held m p from w l in
-    let own : owner m.store r ≡ Some (Process p) = same_process _ _ held in
-    let was : times q (on_way m e) ≡ cond (holds m.store (Direction e) q) 1 0 = w.once (Direction e) q in
-    rw (way m p from e w, owner_now m p from q w l) (elim (cases_eq q r) [
-      | inl s ↦ (let z : times q (on_way m e) ≡ 0 = was ∙ rw (s, own) refl in rw (eq-eqb q r s) (elim (cases_Bool (is_at e (end_of m r))) [ inl y ↦ rw y refl | inr f ↦ rw f z ]))
-      | inr n ↦ rw (ne_eqb q r n) (elim (cases_Bool (nat_lt 0 (times q (came p from m)))) [
-        | inl y ↦ (
-            let c = came_held m q (end_of m r) w true y in
-            rw y (elim (cases_eq e c.0) [
-              | inl s ↦ rw (c.1, eq-eqb e c.0 s) refl
-              | inr d ↦ rw (c.1, ne_eqb e c.0 d) (was ∙ rw (c.2, ne_eqb c.0 e (λ x. d (sym x))) refl)
-            ]))
-        | inr f ↦ rw f (none_left m e q (end_of m r) w f was)
-      ])
-    ])
+  abbrev n : Machine
+  n = sweep_one p from m
+
+  comes : Moved (sender (end_of m entry_is)) (Some (Process p)) (came p from m) m.store accepted_by (listed m) (between p (end_of m entry_is) m)
+  comes = record {
+    were = λ q y. let c = came_held m q (end_of m entry_is) w true y in c.2 ∙ ap sender (sym c.1);
+    once = λ q. came_most m q (end_of m entry_is) w;
+    owners = (accepted m p from w l).owners;
+    lists = came_lists m p (end_of m entry_is);
+  }
+
+  left_lists : (h : Holder) (q : ℕ) → times q (listed n h) + has (Some (Process p)) h * times q (entry_is ∷ []) ≡ times q (between p (end_of m entry_is) m h) + has None h * times q (entry_is ∷ [])
+  left_lists (Process k) q = elim (cases_eq k p) [
+    | inl s ↦ rw (eq-eqb k p s, eq-eqb p k (sym s), s, blocks_here m p from w l)
+        (let c = times_removed q from (blocks m p) (came p from m) l in let o = one_time q entry_is in omega (arith, c, o))
+    | inr a ↦ rw (ne_eqb k p a, ne_eqb p k (λ s. a (sym s)), blocks_else m p from k w l a) refl
+  ]
+  left_lists (Direction e) q = rw (way m p from e w) refl
+
+  leaves : Moved (Some (Process p)) None (entry_is ∷ []) accepted_by n.store (between p (end_of m entry_is) m) (listed n)
+  leaves = record {
+    were = λ q y. subst (λ (x : ℕ). owner accepted_by x ≡ Some (Process p)) (sym (eqb-true q entry_is (sym (is_one q entry_is) ∙ y))) (own m p from w l);
+    once = λ q. let o = one_time q entry_is in let a = at_most_one (entry_is == q) in omega (arith, o, a);
+    owners = λ q. gone m p from w l q ∙ ap (λ (b : Bool). cond b None (owner accepted_by q)) (sym (is_one q entry_is));
+    lists = left_lists;
+  }
+
+  pub swept_once : (h : Holder) (q : ℕ) → times q (listed n h) ≡ cond (holds n.store h q) 1 0
+  swept_once =
+      listed_again (Some (Process p)) None (entry_is ∷ []) accepted_by n.store (between p (end_of m entry_is) m) (listed n)
+      (listed_again (sender (end_of m entry_is)) (Some (Process p)) (came p from m) m.store accepted_by (listed m) (between p (end_of m entry_is) m) w.once comes) leaves

@@ -1,13 +1,15 @@
 -- A take leaves a whole machine.
-use Rattle.std.proofs.Common.{◌≡◌, ◌≢◌, ℕ, false, ◌+◌, ◌-◌, ◌/◌, ◌%◌, ◌<◌, ◌≤◌, List, [], ◌∷◌, ◌++◌, length, cond, refl, sym, ap, ◌∙◌, subst, arith, get_or-set_same, get_or-set_other}
-use Rattle.std.specs.Prelude.{Option, Some, None, is_none, unwrap_or, slice_set, slice_index_or}
+use Rattle.std.proofs.Common.{◌≡◌, ℕ, true, false, ◌+◌, ◌*◌, ◌-◌, ◌/◌, ◌%◌, ◌<◌, ◌≤◌, List, [], ◌∷◌, ◌++◌, length, cond, refl, sym, ap, ◌∙◌, subst, arith, inl, inr, get_or-set_same}
+use Rattle.std.proofs.Common.{get_or-set_other}
+use Rattle.std.specs.Prelude.{Option, Some, None, nat_lt, is_none, unwrap_or, slice_set, slice_index_or}
 use Rattle.std.specs.List.{remove}
+use Rattle.std.proofs.lemmas.Bool.{cases_eq, eq-eqb, ne_eqb, ltb-true}
 use Rattle.std.proofs.lemmas.List.{length-append, length-set}
 use Rattle.xh_model.specs.declared.event.Holder.{Holder}
 use Rattle.xh_model.specs.declared.event.Holder.TheVariants.{Process, Direction}
 use Rattle.xh_model.specs.declared.row.Row.{Row}
 use Rattle.xh_model.specs.Rows.{InStep}
-use Rattle.xh_model.specs.Store.{holds}
+use Rattle.xh_model.specs.Store.{holds, owner}
 use Rattle.xh_model.proofs.InStep.{take_step}
 use Rattle.xh_serial.specs.declared.message.Message.{Message}
 use Rattle.xh_serial.specs.declared.place.Place.{Place}
@@ -18,25 +20,10 @@ use Rattle.xh_serial.specs.Commands.{toward}
 use Rattle.xh_serial.specs.MessageCommands.{taken, taken_line, front, no_message, is_banned}
 use Rattle.xh_serial.specs.inner.Checks.{MayTake}
 use Rattle.xh_serial.specs.inner.Placing.{blocks_in}
-use Rattle.xh_core.proofs.Stores.{count_append, Accepted, accepted_all}
-use Rattle.xh_serial.proofs.Machines.{
-  runs_busy,
-  place_there,
-  list_here,
-  list_else,
-  current_generation,
-  current_range,
-  current_blocks,
-  busy_place,
-  places_set,
-  way_here,
-  way_else,
-  peer_ne,
-}
-use Rattle.xh_serial.proofs.Room.{room}
-use Rattle.xh_serial.proofs.Wired.{state_in, tags_in, IsPair, same_lines, wired_pair, pair_of, half_apart}
-use Rattle.xh_serial.proofs.Moved.{Moved, moved_whole}
-use Rattle.xh_serial.proofs.Numbered.{set_numbered, taken_numbered}
+use Rattle.xh_core.proofs.Stores.{count_append, Accepted, accepted_all, at_set, same_direction, same_len}
+use Rattle.xh_serial.proofs.Machines.{runs_busy, place_there, list_set, current_generation, current_range, current_blocks, busy_place, places_set, peer_ne}
+use Rattle.xh_serial.proofs.Room.{room, at_most_one, is_held, has, came_whole, had_bytes, passed_lawful}
+use Rattle.xh_serial.proofs.Wired.{state_in, tags_in, IsPair, same_lines, wired_pair, half_apart, set_numbered, taken_numbered}
 
 pub front_split : (ms : List Message) → 0 < length ms → carried ms ≡ (slice_index_or ms 0 no_message).blocks.items ++ carried (remove ms 0)
 front_split [] h = absurd (omega arith)
@@ -49,31 +36,15 @@ front_tags (m ∷ ms) h = refl
 abbrev front_tag : Line → ℕ
 front_tag l = (slice_index_or l.waiting.items 0 no_message).tag
 
--- what a take finds: the front message
-pub record Found (m : Machine) (p e d : ℕ) (message : Message) : Type 0 where
-  pub may : MayTake m p e (toward m e)
-  pub at : toward m e ≡ d
-  pub first : message ≡ front m e
-
-pub found : (m : Machine) (p e d : ℕ) (message : Message) → MayTake m p e d → message ≡ slice_index_or (waiting m d) 0 no_message → Found m p e d message
-found m p e d message may at_front =
-    let at : toward m e ≡ d = ap (λ o. unwrap_or o 128) may.toward in
-    record {
-      may = subst (MayTake m p e) (sym at) may;
-      at = at;
-      first = at_front ∙ ap (λ k. slice_index_or (waiting m k) 0 no_message) (sym at);
-    }
-
--- the list of the taker has room for its records
-pub found_room : (m : Machine) (p e d : ℕ) (message : Message) → IsWhole m → Found m p e d message → length (blocks_in m.places p) + length message.blocks.items ≤ 2048
-found_room m p e d message w f =
+-- the list of the taker has room for the records of the front message
+pub taken_room : (m : Machine) (p e : ℕ) → IsWhole m → MayTake m p e (toward m e) → length (blocks_in m.places p) + length (front m e).blocks.items ≤ 2048
+taken_room m p e w t =
     let rest : List ℕ = carried (remove (waiting m (toward m e)) 0) in
     let all : length (blocks m p) + length (on_way m (toward m e)) ≤ 2048 = room m p (Some (toward m e)) w in
     let way : length (on_way m (toward m e)) ≡ length (front m e).blocks.items + length rest =
-    ap length (front_split (waiting m (toward m e)) f.may.some) ∙ length-append (front m e).blocks.items rest in
-    let a : length (blocks_in m.places p) ≡ length (blocks m p) = ap length (sym (current_blocks m p f.may.runs.0)) in
-    let b : length message.blocks.items ≡ length (front m e).blocks.items = ap (λ (y : Message). length y.blocks.items) f.first in
-    omega (arith, all, way, a, b)
+    ap length (front_split (waiting m (toward m e)) t.some) ∙ length-append (front m e).blocks.items rest in
+    let a : length (blocks_in m.places p) ≡ length (blocks m p) = ap length (sym (current_blocks m p t.runs.0)) in
+    omega (arith, all, way, a)
 
 -- the end that takes the front message is in step again
 take_pair : (rows : List Row) (lines new : List Line) (d : ℕ) → 0 < length (slice_index_or lines d no_line).waiting.items →
@@ -113,36 +84,50 @@ module _ (m : Machine) (p e : ℕ) (w : IsWhole m) (t : MayTake m p e (toward m 
   split q = let s : times q (on_way m d) ≡ times q (came ++ carried (remove (waiting m d) 0)) = ap (times q) (front_split (waiting m d) t.some) in
       let k = count_append q came (carried (remove (waiting m d) 0)) in omega (arith, s, k)
 
-  accepted : Accepted p came m.store (accept_all p d came m.store)
-  accepted = accepted_all p d came m.store (current_range m p w t.runs.0)
-      (λ q. let s = split q in let o : times q (on_way m d) ≡ cond {A = ℕ} (holds m.store (Direction d) q) 1 0 = w.once (Direction d) q in omega (arith, s, o))
-
   there : d < length m.lines
   there = let a = w.channels.long in let b = w.channels.few in let c = t.within in omega (arith, a, b, c)
 
-  others : (k : Holder) → k ≢ Direction d → k ≢ Process p → (q : ℕ) → times q (listed n k) ≡ times q (listed m k)
+  held : (q : ℕ) → times q came ≤ cond (holds m.store (Direction d) q) 1 0
+  held q = let s = split q in let o : times q (on_way m d) ≡ cond {A = ℕ} (holds m.store (Direction d) q) 1 0 = w.once (Direction d) q in omega (arith, s, o)
+
+  accepted : Accepted p came m.store (accept_all p d came m.store)
+  accepted = accepted_all p d came m.store (current_range m p w t.runs.0) held
+
+  were : (q : ℕ) → nat_lt 0 (times q came) ≡ true → owner m.store q ≡ Some (Direction d)
+  were q t = same_direction _ _ (is_held (holds m.store (Direction d) q) (times q came) (held q) (ltb-true 0 (times q came) t))
+
+  lists : (k : Holder) (q : ℕ) → times q (listed n k) + has (Some (Direction d)) k * times q came ≡ times q (listed m k) + has (Some (Process p)) k * times q came
   unfolding taken
-  others (Process k) a b q = ap (times q) (list_else m.places p k x (place_there m p w) generation generation (λ s. b (ap (λ (z : ℕ). Process z) s)))
-  others (Direction k) a b q = ap (times q) (way_else m.lines d k y (λ s. a (ap (λ (z : ℕ). Direction z) s)))
+  lists (Process k) q = rw (list_set m.places p x (place_there m p w) generation generation k) (elim (cases_eq k p) [
+    | inl s ↦ rw (eq-eqb k p s, eq-eqb p k (sym s), s) (let l = count_append q (blocks m p) came in omega (arith, l))
+    | inr a ↦ rw (ne_eqb k p a, ne_eqb p k (λ s. a (sym s))) (omega arith)
+  ])
+  lists (Direction k) q = rw (at_set m.lines d k y no_line there) (elim (cases_eq k d) [
+    | inl s ↦ rw (eq-eqb k d s, eq-eqb d k (sym s), s) (let l = split q in omega (arith, l))
+    | inr a ↦ rw (ne_eqb k d a, ne_eqb d k (λ s. a (sym s))) (omega arith)
+  ])
 
   wired : (rows : List Row) → contract_of m.contracts d ≡ Some rows → IsPair rows m.lines d → IsPair rows (slice_set m.lines d y) d
   wired rows is pair = take_pair rows m.lines (slice_set m.lines d y) d t.some
       (get_or-set_same m.lines d y no_line there ∙ ap (λ (o : Option (List Row)). taken_line o (1 - d % 2) (front m e).tag (line m d)) is)
       (get_or-set_other m.lines d (peer d) y no_line (peer_ne d)) pair
 
-  moves : Moved (Direction d) (Process p) came m n
+  pub taken_whole : IsWhole n
   unfolding taken
-  moves = record {
-    apart = λ s. cc;
-    range = current_range m p w t.runs.0;
-    owners = accepted.owners;
-    left = λ q. ap (λ (c : ℕ). c + times q came) (ap (times q) (way_here m.lines d y there)) ∙ split q;
-    right = λ q. ap (times q) (list_here m.places p x (place_there m p w) t.runs.0) ∙ count_append q (blocks m p) came;
-    others = others;
-    arenas = accepted.arenas;
+  taken_whole = came_whole (Some (Direction d)) (Process p) came m n w (record {
+    lawful = passed_lawful (Direction d) (Process p) came m n.store w (current_range m p w t.runs.0) accepted.many accepted.arenas were accepted.owners;
+    moved = record {
+      were = were;
+      once = λ q. let h = held q in let o = at_most_one (holds m.store (Direction d) q) in omega (arith, h, o);
+      owners = accepted.owners;
+      lists = lists;
+    };
+    full = had_bytes (Direction d) (Process p) came m n.store w (current_range m p w t.runs.0) accepted.many accepted.arenas were accepted.owners;
+    kept = λ q l. rw (same_len m.store n.store q accepted.arenas) l;
     many = accepted.many;
     ends = refl;
     buffers = refl;
+    bytes = λ q. rw (same_len m.store n.store q accepted.arenas) (w.bytes q);
     places = places_set m.places p x w.places (busy_place m p (blocks m p ++ came) w (runs_busy m p t.runs));
     channels = record {
       long = length-set m.lines d y ∙ w.channels.long;
@@ -156,16 +141,13 @@ module _ (m : Machine) (p e : ℕ) (w : IsWhole m) (t : MayTake m p e (toward m 
     };
     opened = refl;
     depth = refl;
-  }
-
-  pub taken_whole : IsWhole n
-  taken_whole = moved_whole (Direction d) (Process p) came m n w moves
+  })
 
   -- the front message is one that the contract allows
   front_free : (o : Option (List Row)) → contract_of m.contracts d ≡ o → is_banned o (1 - d % 2) (line m d).state (front m e).tag ≡ false
   front_free None is = refl
   front_free (Some rows) is =
-      let pair : IsPair rows m.lines d = pair_of rows m.lines d (w.channels.wired (d / 2) rows is).1 in
+      let pair : IsPair rows m.lines d = (w.channels.wired d rows is).1 in
       let rest : List ℕ = tags_of (remove (waiting m d) 0) in
       let split : tags_of (waiting m d) ≡ (front m e).tag ∷ rest = front_tags (waiting m d) t.some in
       let s = take_step rows (d % 2) (line m d).state (front m e).tag (state_in m.lines (peer d)) rest (tags_in m.lines (peer d))

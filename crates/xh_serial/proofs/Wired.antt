@@ -1,16 +1,17 @@
--- The two ends of each channel with a contract stay in step, whichever of them puts, takes or is drained.
-use Rattle.std.proofs.Common.{◌≡◌, ◌≢◌, ℕ, ◌+◌, ◌-◌, ◌*◌, ◌/◌, ◌%◌, ◌<◌, List, [], ◌∷◌, length, refl, sym, ap, ◌∙◌, subst, arith, inl, inr, get_or-set_same, get_or-set_other}
-use Rattle.std.specs.Prelude.{Option, Some, None, slice_index_or}
+-- The two ends of each channel with a contract stay in step, whichever of them puts, takes or is drained, and the messages that wait have consecutive numbers.
+use Rattle.std.proofs.Common.{◌≡◌, ◌≢◌, ℕ, ◌+◌, ◌-◌, ◌*◌, ◌/◌, ◌%◌, ◌<◌, List, [], ◌∷◌, length, refl, sym, ap, ◌∙◌, subst, arith, inl, inr, get_or-set_same, get_or-set_other, ◌++◌}
+use Rattle.std.specs.Prelude.{Option, Some, None, slice_index_or, Bool, slice_set}
 use Rattle.std.proofs.lemmas.Bool.{cases_eq, eq-eqb, ne_eqb}
 use Rattle.std.proofs.lemmas.Option.{none-some, same_Some}
 use Rattle.xh_model.specs.declared.row.Row.{Row}
 use Rattle.xh_model.specs.Rows.{allowed, walk, IsValid, InStep}
-use Rattle.xh_model.proofs.InStep.{cases_Option, swap_step, drain_step, front_step}
+use Rattle.xh_model.proofs.InStep.{cases_Option, drain_step, front_step}
 use Rattle.xh_serial.specs.declared.line.Line.{Line}
-use Rattle.xh_serial.specs.Machine.{Machine, line, no_line, peer, tags_of, contract_of, drained_state, AreWired}
-use Rattle.xh_serial.specs.MessageCommands.{AreOrderly}
+use Rattle.xh_serial.specs.Machine.{Machine, line, no_line, peer, tags_of, contract_of, drained_state, AreWired, AreNumbered, IsNumbered}
+use Rattle.xh_serial.specs.MessageCommands.{AreOrderly, put_line, taken_line}
 use Rattle.xh_serial.specs.Sweeping.{shut_line, shut_in}
-use Rattle.xh_serial.proofs.Machines.{peer_ne}
+use Rattle.xh_serial.proofs.Machines.{peer_ne, peer_half}
+use Rattle.xh_serial.specs.declared.message.Message.{Message}
 
 -- the state of the end that a direction leads to, and the tags on their way to it
 abbrev pub state_in : List Line → ℕ → ℕ
@@ -19,59 +20,60 @@ state_in lines d = (slice_index_or lines d no_line).state
 abbrev pub tags_in : List Line → ℕ → List ℕ
 tags_in lines d = tags_of (slice_index_or lines d no_line).waiting.items
 
--- the end that d leads to, and its peer, are in step
-abbrev pub IsPair : List Row → List Line → ℕ → Type 0
-IsPair rows lines d = InStep rows (d % 2) (state_in lines d) (tags_in lines d) (state_in lines (peer d)) (tags_in lines (peer d))
-
-at_pair : (rows : List Row) (lines : List Line) (s s' d d' e e' : ℕ) → s ≡ s' → d ≡ d' → e ≡ e' →
-    InStep rows s (state_in lines d) (tags_in lines d) (state_in lines e) (tags_in lines e) → InStep rows s' (state_in lines d') (tags_in lines d') (state_in lines e') (tags_in lines e')
-at_pair rows lines s s' d d' e e' a b c step = rw (← a, ← b, ← c) step
-
-swap_back : (rows : List Row) (state state' : ℕ) (tags tags' : List ℕ) → InStep rows 1 state tags state' tags' → InStep rows 0 state' tags' state tags
-swap_back rows state state' tags tags' step = (sym step.0, elim step.1 [ inl none ↦ inr none | inr none ↦ inl none ])
-
-pub pair_of : (rows : List Row) (lines : List Line) (d : ℕ) →
-    InStep rows 0 (state_in lines (2 * (d / 2))) (tags_in lines (2 * (d / 2))) (state_in lines (2 * (d / 2) + 1)) (tags_in lines (2 * (d / 2) + 1)) → IsPair rows lines d
-pair_of rows lines d step = elim (cases_eq (d % 2) 0) [
-  | inl e ↦ at_pair rows lines 0 (d % 2) (2 * (d / 2)) d (2 * (d / 2) + 1) (peer d) (sym e) (omega (arith, e)) (rw (eq-eqb (d % 2) 0 e) (omega (arith, e))) step
-  | inr n ↦ at_pair rows lines 1 (d % 2) (2 * (d / 2) + 1) d (2 * (d / 2)) (peer d) (omega (arith, n)) (omega (arith, n)) (rw (ne_eqb (d % 2) 0 n) (omega (arith, n)))
-      (swap_step rows (state_in lines (2 * (d / 2))) (state_in lines (2 * (d / 2) + 1)) (tags_in lines (2 * (d / 2))) (tags_in lines (2 * (d / 2) + 1)) step)
-]
-
-of_pair : (rows : List Row) (lines : List Line) (d : ℕ) → IsPair rows lines d →
-    InStep rows 0 (state_in lines (2 * (d / 2))) (tags_in lines (2 * (d / 2))) (state_in lines (2 * (d / 2) + 1)) (tags_in lines (2 * (d / 2) + 1))
-of_pair rows lines d step = elim (cases_eq (d % 2) 0) [
-  | inl e ↦ (let p : peer d ≡ 2 * (d / 2) + 1 = rw (eq-eqb (d % 2) 0 e) (omega (arith, e)) in at_pair rows lines (d % 2) 0 d (2 * (d / 2)) (peer d) (2 * (d / 2) + 1) e (omega (arith, e)) p step)
-  | inr n ↦ (let p : peer d ≡ 2 * (d / 2) = rw (ne_eqb (d % 2) 0 n) (omega (arith, n)) in
-      swap_back rows (state_in lines (2 * (d / 2) + 1)) (state_in lines (2 * (d / 2))) (tags_in lines (2 * (d / 2) + 1)) (tags_in lines (2 * (d / 2)))
-      (at_pair rows lines (d % 2) 1 d (2 * (d / 2) + 1) (peer d) (2 * (d / 2)) (omega (arith, n)) (omega (arith, n)) p step))
-]
-
 -- two lines whose ends are in step
 abbrev pub ArePaired : List Row → ℕ → Line → Line → Type 0
 ArePaired rows side x y = InStep rows side x.state (tags_of x.waiting.items) y.state (tags_of y.waiting.items)
 
+-- the end that d leads to, and its peer, are in step
+abbrev pub IsPair : List Row → List Line → ℕ → Type 0
+IsPair rows lines d = ArePaired rows (d % 2) (slice_index_or lines d no_line) (slice_index_or lines (peer d) no_line)
+
 pub same_lines : (rows : List Row) (side : ℕ) (x x' y y' : Line) → x ≡ x' → y ≡ y' → ArePaired rows side x y → ArePaired rows side x' y'
 same_lines rows side x x' y y' e f step = subst (λ (z : Line). ArePaired rows side x' z) f (subst (λ (z : Line). ArePaired rows side z y) e step)
 
-same_pair : (rows : List Row) (lines new : List Line) (a b : ℕ) → slice_index_or new a no_line ≡ slice_index_or lines a no_line → slice_index_or new b no_line ≡ slice_index_or lines b no_line →
-    InStep rows 0 (state_in lines a) (tags_in lines a) (state_in lines b) (tags_in lines b) → InStep rows 0 (state_in new a) (tags_in new a) (state_in new b) (tags_in new b)
-same_pair rows lines new a b x y step = same_lines rows 0 (slice_index_or lines a no_line) (slice_index_or new a no_line) (slice_index_or lines b no_line) (slice_index_or new b no_line) (sym x)
-    (sym y) step
+-- ---- the same from the other end
+
+swapped : (rows : List Row) (s t : ℕ) (x y : Line) → 1 - s ≡ t → 1 - t ≡ s → ArePaired rows s x y → ArePaired rows t y x
+swapped rows s t x y a b step = (rw (b, ← a) (sym step.0), elim step.1 [ inl none ↦ inr none | inr none ↦ inl none ])
+
+sides : (d : ℕ) → (1 - d % 2 ≡ peer d % 2) × (1 - peer d % 2 ≡ d % 2)
+sides d = elim (cases_eq (d % 2) 0) [
+  | inl e ↦ rw (eq-eqb (d % 2) 0 e) (omega (arith, e), omega (arith, e))
+  | inr n ↦ rw (ne_eqb (d % 2) 0 n) (omega (arith, n), omega (arith, n))
+]
+
+peer_again : (d : ℕ) → peer (peer d) ≡ d
+peer_again d = elim (cases_eq (d % 2) 0) [
+  | inl e ↦ rw (eq-eqb (d % 2) 0 e, ne_eqb ((d + 1) % 2) 0 (λ s. omega (arith, e, s))) (omega arith)
+  | inr n ↦ rw (ne_eqb (d % 2) 0 n, eq-eqb ((d - 1) % 2) 0 (omega (arith, n))) (omega (arith, n))
+]
+
+other_end : (d k : ℕ) → k / 2 ≡ d / 2 → k ≢ d → k ≡ peer d
+other_end d k h a = elim (cases_eq (d % 2) 0) [
+  | inl e ↦ rw (eq-eqb (d % 2) 0 e) (omega (arith, h, a, e))
+  | inr n ↦ rw (ne_eqb (d % 2) 0 n) (omega (arith, h, a, n))
+]
+
+swap_pair : (rows : List Row) (lines : List Line) (d : ℕ) → IsPair rows lines d → IsPair rows lines (peer d)
+swap_pair rows lines d step =
+    subst (λ (k : ℕ). ArePaired rows (peer d % 2) (slice_index_or lines (peer d) no_line) (slice_index_or lines k no_line)) (sym (peer_again d))
+    (swapped rows (d % 2) (peer d % 2) (slice_index_or lines d no_line) (slice_index_or lines (peer d) no_line) (sides d).0 (sides d).1 step)
 
 -- a turn of one channel leaves the others in step
 pub wired_pair : (contracts : List (Option (List Row))) (lines new : List Line) (d : ℕ) → AreWired contracts lines →
     ((rows : List Row) → contract_of contracts d ≡ Some rows → IsValid rows → IsPair rows lines d → IsPair rows new d) →
     ((k : ℕ) → k / 2 ≢ d / 2 → slice_index_or new k no_line ≡ slice_index_or lines k no_line) → AreWired contracts new
-wired_pair contracts lines new d wired turn others c rows is = let was = wired c rows is in
-    elim (cases_eq c (d / 2)) [
+wired_pair contracts lines new d wired turn others k rows is = let was = wired k rows is in
+    elim (cases_eq (k / 2) (d / 2)) [
       | inl e ↦ (
-          let low : 2 * c ≡ 2 * (d / 2) = omega (arith, e) in
-          let high : 2 * c + 1 ≡ 2 * (d / 2) + 1 = omega (arith, e) in
-          let here : contract_of contracts d ≡ Some rows = ap (λ (k : ℕ). slice_index_or contracts k None) (sym e) ∙ is in
-          let before : IsPair rows lines d = pair_of rows lines d (at_pair rows lines 0 0 (2 * c) (2 * (d / 2)) (2 * c + 1) (2 * (d / 2) + 1) refl low high was.1) in
-          (was.0, at_pair rows new 0 0 (2 * (d / 2)) (2 * c) (2 * (d / 2) + 1) (2 * c + 1) refl (sym low) (sym high) (of_pair rows new d (turn rows here was.0 before))))
-      | inr n ↦ (was.0, same_pair rows lines new (2 * c) (2 * c + 1) (others (2 * c) (λ e. n (omega (arith, e)))) (others (2 * c + 1) (λ e. n (omega (arith, e)))) was.1)
+          let here : contract_of contracts d ≡ Some rows = ap (λ (i : ℕ). slice_index_or contracts i None) (sym e) ∙ is in
+          let now : IsPair rows new d = turn rows here was.0 (wired d rows here).1 in
+          (was.0, elim (cases_eq k d) [ inl s ↦ subst (IsPair rows new) (sym s) now | inr n ↦ subst (IsPair rows new) (sym (other_end d k e n)) (swap_pair rows new d now) ]))
+      | inr n ↦ (
+        was.0,
+        same_lines rows (k % 2) (slice_index_or lines k no_line) (slice_index_or new k no_line) (slice_index_or lines (peer k) no_line) (slice_index_or new (peer k) no_line)
+            (sym (others k n)) (sym (others (peer k) (λ s. n (sym (peer_half k) ∙ s)))) was.1,
+      )
     ]
 
 -- ---- an end is drained
@@ -111,11 +113,45 @@ shut_wired contracts lines (Some d) l w =
 
 pub wired_orderly : (m : Machine) → AreWired m.contracts m.lines → AreOrderly m
 wired_orderly m wired c rows is =
-    let step : ArePaired rows 0 (line m (2 * c)) (line m (2 * c + 1)) = (wired c rows is).1 in
     let low : Line = line m (2 * c) in
-    let high : Line = line m (2 * c + 1) in (
+    let high : Line = line m (2 * c + 1) in
+    let half : 2 * c / 2 ≡ c = omega arith in
+    let side : 2 * c % 2 ≡ 0 = omega arith in
+    let next : peer (2 * c) ≡ 2 * c + 1 = rw (eq-eqb (2 * c % 2) 0 side) refl in
+    let there : contract_of m.contracts (2 * c) ≡ Some rows = ap (λ (k : ℕ). slice_index_or m.contracts k None) half ∙ is in
+    let here : ArePaired rows 0 low (line m (peer (2 * c))) = subst (λ (s : ℕ). ArePaired rows s low (line m (peer (2 * c)))) side (wired (2 * c) rows there).1 in
+    let step : ArePaired rows 0 low high = subst (λ (k : ℕ). ArePaired rows 0 low (line m k)) next here in (
       front_step rows 0 low.state high.state (tags_of low.waiting.items) (tags_of high.waiting.items) step,
-      front_step rows 1 high.state low.state (tags_of high.waiting.items) (tags_of low.waiting.items)
-          (swap_step rows low.state high.state (tags_of low.waiting.items) (tags_of high.waiting.items) step),
+      front_step rows 1 high.state low.state (tags_of high.waiting.items) (tags_of low.waiting.items) (swapped rows 0 1 low high refl refl step),
       step.1,
     )
+
+-- so it is of each of the lines
+abbrev pub AllNumbered : List Line → Type 0
+AllNumbered lines = (d : ℕ) → IsNumbered (slice_index_or lines d no_line)
+
+put_back : (first last : ℕ) (messages : List Message) (message : Message) → message.no ≡ last + 1 → AreNumbered first messages last → AreNumbered first (messages ++ message ∷ []) (last + 1)
+put_back first last [] message is h = (is ∙ sym h, omega (arith, h))
+put_back first last (m ∷ messages) message is h = (h.0, put_back (first + 1) last messages message is h.1)
+
+pub put_numbered : (tag : ℕ) (bs : List ℕ) (l : Line) → IsNumbered l → IsNumbered (put_line tag bs l)
+put_numbered tag bs l h = (h.0, put_back h.0 l.put l.waiting.items _ refl h.1)
+
+taken_front : (contract : Option (List Row)) (side tag state put first : ℕ) (shut : Bool) (messages : List Message) → 0 < length messages → AreNumbered first messages put →
+    IsNumbered (taken_line contract side tag (record { shut = shut; state = state; put = put; waiting = record { items = messages } }))
+taken_front contract side tag state put first shut [] some h = absurd (omega (arith, some))
+taken_front contract side tag state put first shut (m ∷ messages) some h = (first + 1, h.1)
+
+pub taken_numbered : (contract : Option (List Row)) (side tag : ℕ) (l : Line) → 0 < length l.waiting.items → IsNumbered l → IsNumbered (taken_line contract side tag l)
+taken_numbered contract side tag l some h = taken_front contract side tag l.state l.put h.0 l.shut l.waiting.items some h.1
+
+-- one line is another, whose messages have their numbers too
+pub set_numbered : (lines : List Line) (d : ℕ) (l : Line) → d < length lines → AllNumbered lines → IsNumbered l → AllNumbered (slice_set lines d l)
+set_numbered lines d l there all h k = elim (cases_eq k d) [
+  | inl e ↦ subst (λ (i : ℕ). IsNumbered (slice_index_or (slice_set lines d l) i no_line)) (sym e) (subst IsNumbered (sym (get_or-set_same lines d l no_line there)) h)
+  | inr n ↦ subst IsNumbered (sym (get_or-set_other lines d k l no_line n)) (all k)
+]
+
+pub shut_numbered : (contracts : List (Option (List Row))) (lines : List Line) (o : Option ℕ) → ((d : ℕ) → o ≡ Some d → d < length lines) → AllNumbered lines → AllNumbered (shut_in contracts lines o)
+shut_numbered contracts lines None there all = all
+shut_numbered contracts lines (Some d) there all = set_numbered lines d _ (there d refl) all ((slice_index_or lines d no_line).put + 1, refl)

@@ -134,11 +134,11 @@ abbrev pub drained_state : Option (List Row) → ℕ → ℕ → List ℕ → �
 drained_state contract side state [] = state
 drained_state contract side state (tag ∷ tags) = drained_state contract side (next_state contract side state tag) tags
 
--- the two ends of each channel with a contract go by it together
+-- the end that a direction leads to goes by the contract of its channel, if it has one, together with its peer
 abbrev pub AreWired : List (Option (List Row)) → List Line → Type 0
-AreWired contracts lines = (c : ℕ) (rows : List Row) → slice_index_or contracts c None ≡ Some rows →
-    IsValid rows × InStep rows 0 (slice_index_or lines (2 * c) no_line).state (tags_of (slice_index_or lines (2 * c) no_line).waiting.items)
-    (slice_index_or lines (2 * c + 1) no_line).state (tags_of (slice_index_or lines (2 * c + 1) no_line).waiting.items)
+AreWired contracts lines = (d : ℕ) (rows : List Row) → contract_of contracts d ≡ Some rows →
+    IsValid rows × InStep rows (d % 2) (slice_index_or lines d no_line).state (tags_of (slice_index_or lines d no_line).waiting.items)
+    (slice_index_or lines (peer d) no_line).state (tags_of (slice_index_or lines (peer d) no_line).waiting.items)
 
 -- ---- what always holds
 

@@ -62,11 +62,11 @@ impl Serial {
     }
 
     /// A data block is given back: the bytes that it had. NoProcess, Ended, NotOwned, NotData.
+    #[tactic(auto, unfolding(crate::specs::BlockCommands::free))]
     pub fn free(&mut self, p: u16, r: u16) -> Result<u32, Refused>
         ensures { free_command p r self.old ≡ (result, self.new) }
     {
-        self.check_start(p)?;
-        self.check_data(p, r)?;
+        self.check_free(p, r)?;
         let len = self.plain.discard(p, r);
         self.blocks.clear(r);
         self.places.remove(p, r);
@@ -124,6 +124,7 @@ impl Serial {
 
     /// The bytes of a block from `at` on, as many as `out` has room for. NoProcess, Ended, NotOwned,
     /// NotData, and BadRange where they reach past its end; with these `out` stays as it was.
+    #[tactic(auto, unfolding(crate::specs::BlockCommands::read))]
     pub fn read(&self, p: u16, r: u16, at: u32, out: &mut [u8]) -> Result<(), Refused>
         ensures done { OnOk result (read_command p r at (length out.old) self.now ≡ (Ok out.new, self.now)) }
         ensures refused { IfErr result (λ refused. read_command p r at (length out.old) self.now ≡ (Err refused, self.now)) }
@@ -136,6 +137,7 @@ impl Serial {
 
     /// These bytes come in the place of as many of a block from `at` on. NoProcess, Ended, NotOwned,
     /// NotData, and BadRange where they reach past its end.
+    #[tactic(auto, unfolding(crate::specs::BlockCommands::write))]
     pub fn write(&mut self, p: u16, r: u16, at: u32, bytes: &[u8]) -> Result<(), Refused>
         ensures { write_command p r at bytes.now self.old ≡ (result, self.new) }
     {

@@ -7,6 +7,7 @@ ghost use Rattle.xh_serial.specs.Machine.{end_of, is_current, status_at};
 ghost use Rattle.xh_serial.specs.Commands.{found, IsRunning};
 ghost use Rattle.xh_core.specs.Calls.{data_tests, end_tests, start, stop};
 ghost use Rattle.xh_core.specs.Refusing.{Tested};
+ghost use Rattle.xh_serial.specs.BlockCommands.{free_refusals};
 ghost use Rattle.xh_serial.specs.EndingCommands.{close_refusals, kill_refusals};
 ghost use Rattle.xh_serial.specs.MessageCommands.{give_refusals, take_refusals};
 ghost use Rattle.xh_serial.specs.inner.Checks.{MayGive, MayTake};
@@ -73,6 +74,14 @@ impl Serial {
         self.check_start(p)?;
         self.check_end(p, e)?;
         Ok(())
+    }
+
+    /// What a free tests.
+    pub(super) fn check_free(&self, p: u16, r: u16) -> Result<(), Refused>
+        ensures { Tested (free_refusals self.now p r) result (λ _. IsRunning self.now p × (holds self.now.store (Process p) r ≡ true) × (end_of self.now r ≡ None)) }
+    {
+        self.check_start(p)?;
+        self.check_data(p, r)
     }
 
     /// Whether the process holds each of these.

@@ -1,10 +1,9 @@
 //! Reclaiming: entry by entry, as far as a budget goes.
-ghost use Rattle.std.specs.Prelude.{◌≡◌, ◌+◌, ◌≤◌, ◌<◌, true, length, drop};
-ghost use Rattle.xh_model.specs.Reclaimed.{Frees};
+ghost use Rattle.std.specs.Prelude.{◌≡◌, ◌+◌, ◌≤◌, ◌<◌, true, length};
 ghost use Rattle.xh_model.specs.Store.{all_out};
 ghost use Rattle.xh_model.specs.declared.limits.TheConstants.{MAX_HELD};
-ghost use Rattle.xh_serial.specs.Machine.{arriving, blocks, is_current};
-ghost use Rattle.xh_serial.specs.Sweeping.{sweep, sweep_one, Sweeps};
+ghost use Rattle.xh_serial.specs.Machine.{blocks, is_current};
+ghost use Rattle.xh_serial.specs.Sweeping.{sweep, sweep_one};
 
 use crate::serial::Serial;
 
@@ -42,9 +41,6 @@ impl Serial {
         ensures is { self.new ≡ sweep p from budget self.old }
         ensures bytes { all_out self.new.store ≤ all_out self.old.store }
         ensures current { is_current self.new p ≡ true }
-        ensures list { Sweeps p from budget self.old self.new }
-        ensures frees { length (blocks self.new p) ≤ from → Frees (arriving self.old) self.old.store self.new.store (drop from (blocks self.old p)) }
-        ensures finishes { MAX_HELD < budget → length (blocks self.new p) ≤ from }
     {
         let _start = &self.plain;
         let mut left = budget;
@@ -60,9 +56,6 @@ impl Serial {
         ensures is { self.new ≡ sweep p from budget self.old }
         ensures bytes { result + all_out self.new.store ≡ all_out self.old.store }
         ensures current { is_current self.new p ≡ true }
-        ensures list { Sweeps p from budget self.old self.new }
-        ensures frees { length (blocks self.new p) ≤ from → Frees (arriving self.old) self.old.store self.new.store (drop from (blocks self.old p)) }
-        ensures finishes { MAX_HELD < budget → length (blocks self.new p) ≤ from }
     {
         let before = self.plain.handed_out();
         self.sweep_list(p, from, budget);

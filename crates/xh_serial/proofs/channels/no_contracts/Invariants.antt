@@ -1,6 +1,5 @@
 use Rattle.std.proofs.Common.{◌≡◌}
-use Rattle.std.specs.Prelude.{replicate}
-use Rattle.std.specs.Prelude.{None}
+use Rattle.std.specs.Prelude.{replicate, None}
 use Rattle.xh_serial.proofs.channels.no_contracts.Given as goal
 
 abbrev pub invariant-loop : goal.invariant-loop

@@ -1,28 +1,34 @@
-use Rattle.std.proofs.Common.{◌≡◌, ◌∙◌, ◌<◌, ◌++◌, ◌∷◌, [], ℕ, List, length, sym, ap, subst, refl, false, Some, None}
+use Rattle.std.proofs.Common.{◌≡◌, ◌∙◌, ◌<◌, ◌++◌, ◌∷◌, [], ℕ, Bool, length, sym, ap, subst, refl, true, false, Some, None}
 use Rattle.std.specs.Prelude.{replicate}
 use Rattle.std.proofs.lemmas.List.{length-set}
 use Rattle.std.proofs.lemmas.Result.{err_from_is_err_and}
 use Rattle.xh_model.specs.Store.{Store, len}
 use Rattle.xh_serial.specs.Machine.{Machine, IsWhole}
 use Rattle.xh_serial.specs.Commands.{IsRunning}
-use Rattle.xh_core.specs.Refusing.{first_refusal}
+use Rattle.xh_core.specs.Refusing.{Tests, first_refusal}
+use Rattle.xh_core.specs.declared.refused.Refused.TheVariants.{OutOfMemory}
 use Rattle.xh_core.specs.Gaining.{Gained}
 use Rattle.xh_serial.specs.inner.Holding.{BlocksOf, with_bytes}
-use Rattle.xh_serial.specs.inner.Placing.{relisted}
-use Rattle.xh_serial.specs.BlockCommands.{alloc_heads, allocated}
+use Rattle.xh_serial.specs.BlockCommands.{alloc, alloc_heads, allocated}
 use Rattle.xh_core.specs.Space.{free_record, rounded, space_tests}
-use Rattle.xh_serial.proofs.Machines.{blocks_of, current_blocks, same_machine}
+use Rattle.xh_serial.proofs.Machines.{blocks_of}
 use Rattle.xh_core.proofs.Claiming.{IsFree, free_is, in_range}
 use Rattle.xh_serial.proofs.Gains.{room_for, free_there, free_buffer, emptied_again, allocated_whole}
-use Rattle.xh_serial.proofs.Answering.{alloc_stopped, alloc_memory, alloc_no_room, alloc_gives}
+use Rattle.xh_core.proofs.Firsts.{first_append, first_later}
 use Rattle.xh_serial.specs.View.{machine_of}
 use Rattle.xh_serial.proofs.serial.Serial.alloc.Goals as goal
 use Rattle.xh_serial.proofs.serial.Serial.alloc.Goals.{After-round-len}
 
+-- what is tested after the first tests
+abbrev later : Bool → ℕ → ℕ → Machine → Tests
+later b n a m = (b, OutOfMemory) ∷ space_tests m.store a (rounded n)
+
 pub returns-in_err-r-clause-done : goal.returns-in_err-r-clause-done
+unfolding alloc
 returns-in_err-r-clause-done c = λ _.
     let e = err_from_is_err_and c.from_residual.result c.from_residual.ensures.1 in
-    rw (e.1, e.2) (alloc_stopped false c.args.p c.args.n c.args.arena c.args.self.now c.in_err-r.field-0.0 c.in_err-r.ensures)
+    let m : Machine = c.args.self.now in
+    rw (e.1, e.2, first_append (alloc_heads m c.args.p c.args.n c.args.arena) (later false c.args.n c.args.arena m) c.in_err-r.field-0.0 c.in_err-r.ensures) refl
 
 -- ---- what the tests found
 
@@ -48,10 +54,16 @@ there c = in_range (was c).store c.in_ok-r.r c.self.invariant.store (free c).kno
 pub zeroed-requires : goal.zeroed-requires
 zeroed-requires c = let d = (goal.at.zeroed-requires c).After-round-len in free_there (was d) c.in_ok-r.r c.self.invariant (free d).known
 
+-- the tests that come first are passed
+passed : (b : Bool) (c : After-round-len) → first_refusal (alloc_heads (was c) c.args.p c.args.n c.args.arena ++ later b c.args.n c.args.arena (was c)) ≡
+    first_refusal (later b c.args.n c.args.arena (was c))
+passed b c = first_later (alloc_heads (was c) c.args.p c.args.n c.args.arena) (later b c.args.n c.args.arena (was c)) (tested c)
+
 pub returns-in_err-zeroed-clause-refused : goal.returns-in_err-zeroed-clause-refused
+unfolding alloc
 returns-in_err-zeroed-clause-refused c = λ h.
     let d = (goal.at.returns-in_err-zeroed-clause-refused c).After-round-len in
-    rw (h, c.in_err-zeroed.ensures.kept, ← c.self.view_is) (alloc_memory c.args.p c.args.n c.args.arena (was d) (tested d))
+    rw (h, c.in_err-zeroed.ensures.kept, ← c.self.view_is, passed true d) refl
 
 pub allocate-requires-clause-known : goal.allocate-requires-clause-known
 allocate-requires-clause-known c = (free (goal.at.allocate-requires-clause-known c).After-round-len).known
@@ -83,16 +95,14 @@ restored c =
     ∙ (λ i. record { ends = m.ends; buffers = emptied_again m.buffers c.in_ok-r.r (replicate c.round-len.result 0) (free_buffer m c.in_ok-r.r c.self.invariant (free (begun c)).free) i }))
 
 pub invariant_of-self-in-Err : goal.invariant_of-self-in-Err
-invariant_of-self-in-Err c =
-    let m : Machine = was (begun c) in
-    subst IsWhole (sym (same_machine (record m { store = c.allocate.new.self; ends = c.clear.new.self.ends; buffers = c.clear.new.self.buffers }) m c.in-Err.ensures.unchanged
-    (ap (λ (b : BlocksOf). b.ends) (restored c)) (ap (λ (b : BlocksOf). b.buffers) (restored c)) refl refl refl refl refl)) c.self.invariant
+invariant_of-self-in-Err c = rw (c.in-Err.ensures.unchanged, restored c) c.self.invariant
 
 pub returns-in-Err-clause-done : goal.returns-in-Err-clause-done
+unfolding alloc
 returns-in-Err-clause-done c = λ _.
     let m : Machine = was (begun c) in
     let room : first_refusal (space_tests m.store c.args.arena (rounded c.args.n)) ≡ Some c.in-Err.refused = rw ((free (begun c)).arena, c.round-len.ensures) at c.in-Err.ensures.room in
-    rw (c.in-Err.ensures.unchanged, restored c, ← c.self.view_is) (alloc_no_room c.args.p c.args.n c.args.arena m c.in-Err.refused (tested (begun c)) room)
+    rw (c.in-Err.ensures.unchanged, restored c, ← c.self.view_is, passed false (begun c), room) refl
 
 -- ---- the machine after, which is that of the command
 
@@ -104,12 +114,7 @@ is c = record (machine_of c.self.inside) { store = c.allocate.new.self; ends = c
 
 made : (c : goal.After-add) → is c ≡ allocated c.args.p c.in_ok-r.r c.round-len.result (was (steps c))
 unfolding allocated
-made c =
-    let m : Machine = was (steps c) in
-    same_machine (is c) (allocated c.args.p c.in_ok-r.r c.round-len.result m) c.in_default.ensures.store
-    (ap (λ (b : BlocksOf). b.ends) c.in_ok-zeroed.ensures.done) (ap (λ (b : BlocksOf). b.buffers) c.in_ok-zeroed.ensures.done)
-    (c.add.ensures ∙ ap (λ (xs : List ℕ). relisted c.args.p (xs ++ c.in_ok-r.r ∷ []) m.places) (sym (current_blocks m c.args.p (runs (steps c)).0)))
-    refl refl refl refl
+made c = rw (c.in_default.ensures.store, c.in_ok-zeroed.ensures.done, c.add.ensures, (runs (steps c)).0) refl
 
 pub invariant_of-self-2 : goal.invariant_of-self-2
 invariant_of-self-2 c =
@@ -121,7 +126,8 @@ invariant_of-self-2 c =
     (λ q ne. subst (λ (t : Store). len t q ≡ len (was d).store q) store (c.in_default.ensures.others q ne)))
 
 pub returns-clause-done : goal.returns-clause-done
+unfolding alloc
 returns-clause-done c = λ _.
     let d = steps c in
     let room : first_refusal (space_tests (was d).store c.args.arena (rounded c.args.n)) ≡ None = rw ((free d).arena, c.round-len.ensures) at c.in_default.ensures.room in
-    rw (made c, c.round-len.ensures, ← c.self.view_is) (alloc_gives c.args.p c.args.n c.args.arena c.in_ok-r.r (was d) (tested d) (lowest d) room)
+    rw (made c, c.round-len.ensures, ← c.self.view_is, passed false d, room, lowest d) refl

@@ -8,12 +8,10 @@ use Rattle.xh_core.specs.Refusing.{first_refusal}
 use Rattle.xh_serial.specs.Commands.{IsRunning}
 use Rattle.xh_serial.specs.ChannelCommands.{ends_at, wired, wire_channel, wire_heads}
 use Rattle.xh_core.specs.Space.{pair_tests}
-use Rattle.xh_serial.specs.inner.Holding.{BlocksOf, with_end}
 use Rattle.xh_core.specs.Pairing.{Paired, moved}
-use Rattle.xh_serial.proofs.Machines.{blocks_of, same_machine}
 use Rattle.xh_serial.proofs.Appended.{appended}
-use Rattle.xh_serial.proofs.Connected.{connected, connected_whole, connected_is, room_p, room_q}
-use Rattle.xh_serial.proofs.Opening.{wire_stopped, wire_no_room, wire_done, pair_there, all_shared}
+use Rattle.xh_serial.proofs.Opening.{connected, connected_whole, connected_is, room_p, room_q, pair_there, all_shared}
+use Rattle.xh_core.proofs.Firsts.{first_append, first_later}
 use Rattle.xh_core.proofs.Pairs.{Shared}
 use Rattle.xh_serial.proofs.Wired.{wired_orderly}
 use Rattle.xh_serial.specs.View.{machine_of}
@@ -21,9 +19,11 @@ use Rattle.xh_serial.proofs.serial.Serial.connect.Goals as goal
 use Rattle.xh_serial.proofs.serial.Serial.connect.Goals.{In_ok-r, After-hand_over}
 
 pub returns-in_err-check_wire-clause-is : goal.returns-in_err-check_wire-clause-is
+unfolding wire_channel
 returns-in_err-check_wire-clause-is c =
     let e = err_from_is_err_and c.from_residual.result c.from_residual.ensures.1 in
-    rw (e.1, e.2) (wire_stopped c.args.p c.args.q c.args.arena c.args.contract c.args.self.now c.in_err-check_wire.field-0.0 c.in_err-check_wire.ensures)
+    let m : Machine = c.args.self.now in
+    rw (e.1, e.2, first_append (wire_heads m c.args.p c.args.q c.args.arena) (pair_tests c.args.p m.store c.args.arena) c.in_err-check_wire.field-0.0 c.in_err-check_wire.ensures) refl
 
 pub returns-in_err-check_wire-clause-orderly : goal.returns-in_err-check_wire-clause-orderly
 returns-in_err-check_wire-clause-orderly c =
@@ -31,10 +31,13 @@ returns-in_err-check_wire-clause-orderly c =
     wired_orderly c.args.self.now w.channels.wired
 
 pub returns-in_err-r-clause-is : goal.returns-in_err-r-clause-is
+unfolding wire_channel
 returns-in_err-r-clause-is c =
     let e = err_from_is_err_and c.from_residual-in_err-r.result c.from_residual-in_err-r.ensures.1 in
     let room = subst (λ (x : Machine). first_refusal (pair_tests c.args.p x.store c.args.arena) ≡ Some c.in_err-r.field-0.0) c.self.view_is c.in_err-r.ensures.tests in
-    rw (e.1, e.2, c.in_err-r.ensures.unchanged, c.self.view_is) (wire_no_room c.args.p c.args.q c.args.arena c.args.contract c.args.self.now c.in_err-r.field-0.0 c.in_ok-check_wire.ensures.0 room)
+    let m : Machine = c.args.self.now in
+    let passed = first_later (wire_heads m c.args.p c.args.q c.args.arena) (pair_tests c.args.p m.store c.args.arena) c.in_ok-check_wire.ensures.0 in
+    rw (e.1, e.2, c.in_err-r.ensures.unchanged, c.self.view_is, passed, room) refl
 
 pub returns-in_err-r-clause-orderly : goal.returns-in_err-r-clause-orderly
 returns-in_err-r-clause-orderly c =
@@ -107,16 +110,8 @@ is c = record (machine_of c.self.inside) {
 
 -- it is the one with a channel more
 made : (c : goal.After-add-2) → is c ≡ connected c.hand_over.new.self c.args.p c.args.q c.in_ok-r.r c.in_ok-r.t c.args.contract (was (steps c))
-made c =
-    let first : c.add.new.self ≡ appended c.args.p c.in_ok-r.r (was (steps c)).places = c.add.ensures in
-    let second : c.add-2.new.self ≡ appended c.args.q c.in_ok-r.t c.add.new.self = c.add-2.ensures in
-    let held : c.bind-2.new.self ≡ with_end c.in_ok-r.t (Some (2 * (was (steps c)).opened + 1)) (with_end c.in_ok-r.r (Some (2 * (was (steps c)).opened)) (blocks_of (was (steps c)))) =
-    c.bind-2.ensures ∙ (λ i. with_end c.in_ok-r.t (Some (2 * c.open-channel.ensures.number i + 1))
-    ((c.bind.ensures ∙ (λ j. with_end c.in_ok-r.r (Some (2 * c.open-channel.ensures.number j)) (blocks_of (was (steps c))))) i)) in
-    same_machine (is c) (connected c.hand_over.new.self c.args.p c.args.q c.in_ok-r.r c.in_ok-r.t c.args.contract (was (steps c))) refl
-    (ap (λ (b : BlocksOf). b.ends) held) (ap (λ (b : BlocksOf). b.buffers) held)
-    (second ∙ ap (λ (ps : List Place). appended c.args.q c.in_ok-r.t ps) first)
-    c.open-channel.ensures.lines c.open-channel.ensures.contracts c.open-channel.ensures.opened refl
+made c = rw (c.add-2.ensures, c.add.ensures, c.bind-2.ensures, c.bind.ensures, c.open-channel.ensures.number)
+    (rw (c.open-channel.ensures.lines, c.open-channel.ensures.contracts, c.open-channel.ensures.opened) refl)
 
 whole : (c : goal.After-add-2) → IsWhole (is c)
 whole c =
@@ -130,12 +125,14 @@ pub returns-clause-orderly : goal.returns-clause-orderly
 returns-clause-orderly c = wired_orderly (is c) (whole c).channels.wired
 
 pub returns-clause-is : goal.returns-clause-is
+unfolding wire_channel
 returns-clause-is c =
+    let m : Machine = was (steps c) in
     let heads = subst (λ (x : Machine). first_refusal (wire_heads x c.args.p c.args.q c.args.arena) ≡ None) (sym c.self.view_is) c.in_ok-check_wire.ensures.0 in
-    let pair : Paired c.args.p c.args.arena c.in_ok-r.r c.in_ok-r.t (was (steps c)).store c.allocate_ends.new.self = c.in_ok-r.ensures.done in
-    let done = wire_done c.args.p c.args.q c.args.arena c.in_ok-r.r c.in_ok-r.t c.args.contract (was (steps c)) c.allocate_ends.new.self heads c.in_ok-r.ensures.tests pair in
-    let store = handed (steps c) ∙ ap (λ (s : Store). moved c.args.p c.args.q c.in_ok-r.t (2 * (was (steps c)).opened + 1) s) pair.is in
-    let end : wired c.args.p c.args.q c.in_ok-r.r c.in_ok-r.t c.args.contract (was (steps c)) ≡ is c =
-    sym (made c ∙ (ap (λ (s : Store). connected s c.args.p c.args.q c.in_ok-r.r c.in_ok-r.t c.args.contract (was (steps c))) store
-    ∙ connected_is c.args.p c.args.q c.in_ok-r.r c.in_ok-r.t c.args.contract (was (steps c)) c.self.invariant (first_runs (steps c)) (second_runs (steps c)))) in
-    ap (λ (x : Machine). wire_channel c.args.p c.args.q c.args.arena c.args.contract x) (sym c.self.view_is) ∙ (done ∙ (λ i. (Ok (ends_at c.in_ok-r.r c.in_ok-r.t), end i)))
+    let pair : Paired c.args.p c.args.arena c.in_ok-r.r c.in_ok-r.t m.store c.allocate_ends.new.self = c.in_ok-r.ensures.done in
+    let store = handed (steps c) ∙ ap (λ (s : Store). moved c.args.p c.args.q c.in_ok-r.t (2 * m.opened + 1) s) pair.is in
+    let end : wired c.args.p c.args.q c.in_ok-r.r c.in_ok-r.t c.args.contract m ≡ is c =
+    sym (made c ∙ (ap (λ (s : Store). connected s c.args.p c.args.q c.in_ok-r.r c.in_ok-r.t c.args.contract m) store
+    ∙ connected_is c.args.p c.args.q c.in_ok-r.r c.in_ok-r.t c.args.contract m c.self.invariant (first_runs (steps c)) (second_runs (steps c)))) in
+    rw (← c.self.view_is, first_later (wire_heads m c.args.p c.args.q c.args.arena) (pair_tests c.args.p m.store c.args.arena) heads, c.in_ok-r.ensures.tests, pair.high, pair.low)
+    (λ i. (Ok (ends_at c.in_ok-r.r c.in_ok-r.t), end i))

@@ -1,12 +1,11 @@
-use Rattle.std.proofs.Common.{◌≡◌, ◌∙◌, ℕ, List, length, sym, ap, subst, arith, true}
+use Rattle.std.proofs.Common.{◌≡◌, ◌∙◌, length, sym, ap, refl, subst, arith, true}
 use Rattle.xh_model.specs.declared.event.Holder.TheVariants.{Process}
 use Rattle.xh_model.specs.Store.{holds}
-use Rattle.xh_serial.specs.declared.place.Place.{Place}
 use Rattle.xh_serial.specs.Machine.{Machine, IsWhole, blocks}
 use Rattle.xh_serial.specs.View.{machine_of}
 use Rattle.xh_serial.specs.Commands.{IsRunning}
-use Rattle.xh_serial.specs.inner.Placing.{blocks_in, relisted}
-use Rattle.xh_serial.specs.EndingCommands.{last, moved_last}
+use Rattle.xh_serial.specs.inner.Placing.{blocks_in}
+use Rattle.xh_serial.specs.EndingCommands.{moved_last}
 use Rattle.xh_serial.proofs.Machines.{current_blocks}
 use Rattle.xh_serial.proofs.Closing.{last_whole}
 use Rattle.xh_serial.proofs.Gains.{listed_place}
@@ -36,9 +35,7 @@ list_is : (c : goal.After-move_last) → blocks (was (begun c)) c.args.p ≡ blo
 list_is c = current_blocks (was (begun c)) c.args.p (runs (begun c)).0
 
 made : (c : goal.After-move_last) → record (was (begun c)) { places = c.move_last.new.self } ≡ moved_last c.args.p c.args.e (was (begun c))
-made c =
-    let m : Machine = was (begun c) in
-    ap (λ (ps : List Place). record m { places = ps }) (c.move_last.ensures.list ∙ ap (λ (rs : List ℕ). relisted c.args.p (last c.args.e rs) m.places) (sym (list_is c)))
+made c = rw (c.move_last.ensures.list, (runs (begun c)).0) refl
 
 pub invariant_of-self : goal.invariant_of-self
 invariant_of-self c = subst IsWhole (sym (made c)) (last_whole (was (begun c)) c.args.p c.args.e c.self.invariant (runs (begun c)) (held (begun c)))

@@ -1,24 +1,30 @@
-use Rattle.std.proofs.Common.{◌≡◌, ◌+◌, ◌/◌, ◌<◌, ◌≢◌, length, ◌∷◌, [], arith, sym, subst, false, None}
+use Rattle.std.proofs.Common.{◌≡◌, ◌+◌, ◌/◌, ◌<◌, ◌≢◌, length, ◌∷◌, [], arith, sym, subst, refl, Bool, true, false, None}
 use Rattle.std.proofs.lemmas.Result.{err_from_is_err_and}
 use Rattle.xh_model.specs.declared.event.Holder.TheVariants.{Process}
 use Rattle.xh_model.specs.Store.{Store, len}
 use Rattle.xh_serial.specs.Machine.{Machine, IsWhole}
-use Rattle.xh_core.specs.Refusing.{first_refusal}
+use Rattle.xh_core.specs.Refusing.{Tests, first_refusal}
+use Rattle.xh_core.specs.declared.refused.Refused.TheVariants.{OutOfMemory}
 use Rattle.xh_core.specs.Gaining.{Gained}
-use Rattle.xh_serial.specs.BlockCommands.{parted, split_heads}
+use Rattle.xh_serial.specs.BlockCommands.{parted, split, split_heads}
 use Rattle.xh_serial.specs.inner.Checks.{MaySplit}
 use Rattle.xh_core.proofs.Stores.{is_there}
 use Rattle.xh_core.proofs.Claiming.{IsFree, free_is, in_range, apart}
-use Rattle.xh_serial.proofs.Gains.{room_for, free_there, parted_is, parted_whole}
-use Rattle.xh_serial.proofs.Answering.{split_stopped, split_memory, split_gives}
+use Rattle.xh_serial.proofs.Gains.{room_for, free_there, parted_whole}
+use Rattle.xh_core.proofs.Firsts.{first_append, first_later}
 use Rattle.xh_serial.specs.View.{machine_of}
 use Rattle.xh_serial.proofs.serial.Serial.split.Goals as goal
 use Rattle.xh_serial.proofs.serial.Serial.split.Goals.{In_ok-t}
 
+-- what is tested after the first tests
+abbrev later : Bool → Tests
+later b = (b, OutOfMemory) ∷ []
+
 pub returns-in_err-t-clause-done : goal.returns-in_err-t-clause-done
+unfolding split
 returns-in_err-t-clause-done c = λ _.
     let e = err_from_is_err_and c.from_residual.result c.from_residual.ensures.1 in
-    rw (e.1, e.2) (split_stopped false c.args.p c.args.r c.args.k c.args.self.now c.in_err-t.field-0.0 c.in_err-t.ensures)
+    rw (e.1, e.2, first_append (split_heads c.args.self.now c.args.p c.args.r c.args.k) (later false) c.in_err-t.field-0.0 c.in_err-t.ensures) refl
 
 -- ---- what the tests found
 
@@ -50,9 +56,10 @@ pub split-requires-clause-apart : goal.split-requires-clause-apart
 split-requires-clause-apart c = other (goal.at.split-requires-clause-apart c).In_ok-t
 
 pub returns-in_err-split-clause-refused : goal.returns-in_err-split-clause-refused
+unfolding split
 returns-in_err-split-clause-refused c = λ h.
     let d = (goal.at.returns-in_err-split-clause-refused c).In_ok-t in
-    rw (h, c.in_err-split.ensures.kept, ← c.self.view_is) (split_memory c.args.p c.args.r c.args.k (was d) (tested d))
+    rw (h, c.in_err-split.ensures.kept, ← c.self.view_is, first_later (split_heads (was d) c.args.p c.args.r c.args.k) (later true) (tested d)) refl
 
 pub part-requires-clause-known : goal.part-requires-clause-known
 part-requires-clause-known c = (free (goal.at.part-requires-clause-known c).In_ok-t).known
@@ -75,9 +82,8 @@ begun c = (goal.at.returns-clause-done c).In_ok-t
 
 made : (c : goal.After-add) → record (was (begun c)) { store = c.part.new.self; ends = c.split.new.self.ends; buffers = c.split.new.self.buffers; places = c.add.new.self } ≡
     parted c.args.p c.args.r c.in_ok-t.t c.args.k (was (begun c))
-made c =
-    parted_is (was (begun c)) c.args.p c.args.r c.in_ok-t.t c.args.k c.part.new.self c.split.new.self c.add.new.self (may (begun c)).runs.0
-    c.part.ensures.store c.in_ok-split.ensures.done c.add.ensures
+unfolding parted
+made c = rw (c.part.ensures.store, c.in_ok-split.ensures.done, c.add.ensures, (may (begun c)).runs.0) refl
 
 pub invariant_of-self-2 : goal.invariant_of-self-2
 invariant_of-self-2 c =
@@ -93,6 +99,7 @@ invariant_of-self-2 c =
     (λ q nr nt. subst (λ (u : Store). len u q ≡ len m.store q) store (c.part.ensures.others q nr nt)))
 
 pub returns-clause-done : goal.returns-clause-done
+unfolding split
 returns-clause-done c = λ _.
     let d = begun c in
-    rw (made c, c.len.ensures, ← c.self.view_is) (split_gives c.args.p c.args.r c.args.k c.in_ok-t.t (was d) (tested d) (may d).found)
+    rw (made c, c.len.ensures, ← c.self.view_is, first_later (split_heads (was d) c.args.p c.args.r c.args.k) (later false) (tested d), (may d).found) refl

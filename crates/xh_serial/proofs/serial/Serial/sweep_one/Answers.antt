@@ -1,15 +1,10 @@
-use Rattle.std.proofs.Common.{◌≡◌, ◌+◌, ◌<◌, ◌≤◌, ℕ, List, length, sym, ap, ◌∙◌, refl, subst, arith, [], None}
+use Rattle.std.proofs.Common.{◌≡◌, ◌+◌, ◌<◌, ◌≤◌, ℕ, List, length, sym, ap, ◌∙◌, refl, subst, arith}
 use Rattle.std.specs.Prelude.{slice_index_or}
-use Rattle.xh_model.specs.declared.event.Event.TheVariants.{GiveBack, Vacate}
-use Rattle.xh_model.specs.Store.{all_out, after, len}
-use Rattle.xh_serial.specs.Machine.{Machine, IsWhole, blocks, arriving, end_of, way_in}
+use Rattle.xh_model.specs.Store.{all_out, len}
+use Rattle.xh_serial.specs.Machine.{Machine, IsWhole, blocks, end_of, way_in}
 use Rattle.xh_serial.specs.View.{machine_of}
-use Rattle.xh_serial.specs.inner.Channeling.{ChannelsOf}
-use Rattle.xh_serial.specs.inner.Holding.{BlocksOf, with_bytes, with_end}
 use Rattle.xh_serial.specs.inner.Placing.{blocks_in}
-use Rattle.xh_core.specs.Several.{accept_from}
-use Rattle.xh_serial.specs.Sweeping.{shut_in, sweep_one}
-use Rattle.xh_serial.proofs.Machines.{blocks_of, same_machine}
+use Rattle.xh_serial.specs.Sweeping.{sweep_one}
 use Rattle.xh_serial.proofs.Swept.{entry, end_range, entry_read, entry_there, entry_room, entry_left}
 use Rattle.xh_serial.proofs.Kept.{whole_one, bytes_one}
 use Rattle.xh_serial.proofs.serial.Serial.sweep_one.Goals as goal
@@ -73,21 +68,11 @@ begun c = (goal.at.returns-clause-is c).After-end-end
 made : (c : goal.After-remove_at) → is c ≡ sweep_one c.args.p c.args.from (was (begun c))
 unfolding sweep_one
 made c =
-    let m : Machine = was (begun c) in
-    let r : ℕ = record_of (begun c) in
-    let end : c.end-end.result ≡ end_of m r = end_is (begun c) in
-    let came : c.shut-came.result.items ≡ arriving m r = c.shut-came.ensures.records ∙ ap (way_in m.lines) end in
-    let held : c.clear.new.self ≡ with_bytes r [] (with_end r None (blocks_of m)) = c.clear.ensures
-    ∙ (λ i. with_bytes (read (begun c) i) [] ((c.unbind.ensures ∙ (λ j. with_end (read (begun c) j) None (blocks_of m))) i)) in
-    let accepted : c.accept_from.new.self ≡ accept_from c.args.p (end_of m r) (arriving m r) m.store =
-    c.accept_from.ensures ∙ (λ i. accept_from c.args.p (end i) ((c.as_slice.ensures.value ∙ came) i) m.store) in
-    same_machine (is c) (sweep_one c.args.p c.args.from m)
-    (c.discard.ensures.store ∙ (λ i. after (Vacate c.args.p (read (begun c) i)) (after (GiveBack c.args.p (read (begun c) i)) (accepted i))))
-    (ap (λ (b : BlocksOf). b.ends) held) (ap (λ (b : BlocksOf). b.buffers) held)
-    (entry_left m c.args.p c.args.from c.as_slice-2.result.now c.add_all.new.self c.remove_at.new.self c.self.invariant (has (begun c)) (c.as_slice-2.ensures.value ∙ came) c.add_all.ensures
-    c.remove_at.ensures)
-    (ap (λ (x : ChannelsOf). x.lines) c.shut-came.ensures.lines ∙ ap (shut_in m.contracts m.lines) end)
-    (ap (λ (x : ChannelsOf). x.contracts) c.shut-came.ensures.lines) (ap (λ (x : ChannelsOf). x.opened) c.shut-came.ensures.lines) refl
+    let d = begun c in
+    let came = c.as_slice-2.ensures.value ∙ (c.shut-came.ensures.records ∙ ap (way_in (was d).lines) (end_is d)) in
+    let listed = entry_left (was d) c.args.p c.args.from c.as_slice-2.result.now c.add_all.new.self c.remove_at.new.self c.self.invariant (has d) came c.add_all.ensures c.remove_at.ensures in
+    rw (listed, c.discard.ensures.store, c.accept_from.ensures, c.as_slice.ensures.value, c.clear.ensures, c.unbind.ensures)
+    (rw (c.shut-came.ensures.records, c.shut-came.ensures.lines, end_is d, read d) refl)
 
 pub invariant_of-self : goal.invariant_of-self
 invariant_of-self c = subst IsWhole (sym (made c)) (whole_one (was (begun c)) c.args.p c.args.from c.self.invariant (has (begun c)))
