@@ -10,27 +10,28 @@ use Rattle.xh_core.specs.declared.block.Block.{Block}
 use Rattle.xh_script.specs.declared.command.Word.{Word}
 use Rattle.xh_script.specs.declared.limits.TheConstants.{MAX_BLOCK_NAMES}
 use borrow.Rule.Slice.PartMut.{put_mid}
-use Rattle.xh_runner.specs.Bindings.{cleared, without, without_below, without_record, with_each}
+use Rattle.xh_runner.specs.Bindings.{Bindings, bound, bound_each, cleared, unbound_below, without_record}
 
-pub without_below-none : (records : List ℕ) (p : ℕ) → without_below records p 0 ≡ records
-unfolding without_below
-without_below-none records p = refl
+pub unbound_below-none : (b : Bindings) (p : ℕ) → unbound_below b p 0 ≡ b
+unfolding unbound_below
+unbound_below-none b p = refl
 
-pub without_below-more : (records : List ℕ) (p n : ℕ) → without_below records p (n + 1) ≡ without (without_below records p n) p n
-unfolding without_below
-without_below-more records p n = rw (add-one n) refl
+-- one more name is bound to nothing
+pub unbound_below-more : (b : Bindings) (p n : ℕ) (now next : Bindings) → now ≡ unbound_below b p n → next ≡ bound now p n NOTHING → next ≡ unbound_below b p (n + 1)
+unfolding unbound_below
+unbound_below-more b p n now next h e = rw (e, h, add-one n) refl
 
-with_each-none : (records : List ℕ) (p : ℕ) (xs : List (Word ℕ)) → with_each records p xs [] ≡ records
-with_each-none records p [] = refl
-with_each-none records p (x ∷ xs) = refl
+bound_each-none : (b : Bindings) (p : ℕ) (xs : List (Word ℕ)) → bound_each b p xs [] ≡ b
+bound_each-none b p [] = refl
+bound_each-none b p (x ∷ xs) = refl
 
 -- past the last name, or the last block, nothing is bound
-pub with_each-end : (records : List ℕ) (p : ℕ) (xs : List (Word ℕ)) (ys : List (Option Block)) (i : ℕ) → min (length xs) (length ys) ≤ i
-    → with_each records p (drop i xs) (drop i ys) ≡ records
-with_each-end records p [] ys i h = rw (drop-nil {A = Word ℕ} i) refl
-with_each-end records p (x ∷ xs) [] i h = rw (drop-nil {A = Option Block} i) (with_each-none records p (drop i (x ∷ xs)))
-with_each-end records p (x ∷ xs) (y ∷ ys) zero h = absurd (omega arith)
-with_each-end records p (x ∷ xs) (y ∷ ys) (suc i) h = with_each-end records p xs ys i (omega arith)
+pub bound_each-end : (b : Bindings) (p : ℕ) (xs : List (Word ℕ)) (ys : List (Option Block)) (i : ℕ) → min (length xs) (length ys) ≤ i
+    → bound_each b p (drop i xs) (drop i ys) ≡ b
+bound_each-end b p [] ys i h = rw (drop-nil {A = Word ℕ} i) refl
+bound_each-end b p (x ∷ xs) [] i h = rw (drop-nil {A = Option Block} i) (bound_each-none b p (drop i (x ∷ xs)))
+bound_each-end b p (x ∷ xs) (y ∷ ys) zero h = absurd (omega arith)
+bound_each-end b p (x ∷ xs) (y ∷ ys) (suc i) h = bound_each-end b p xs ys i (omega arith)
 
 -- the next entry becomes nothing where it is the record
 abbrev pub unless : ℕ → ℕ → ℕ

@@ -1,15 +1,24 @@
 -- Lemmas on worlds.
-use Rattle.std.proofs.Common.{◌≡◌, ◌<◌, ◌+◌, suc, ℕ, List, ◌∷◌, length, drop, get_or, refl, ap, add-one, drop-cons}
+use Rattle.std.proofs.Common.{◌≡◌, ◌<◌, ◌+◌, ◌++◌, ◌∙◌, ℕ, List, [], ◌∷◌, length, drop, get_or, refl, ap, sym, add-one, append_assoc, drop-cons}
 use Rattle.xh_script.specs.declared.command.Line.{Line}
-use Rattle.xh_script.specs.declared.reply.Reply.{Reply}
 use Rattle.xh_script.specs.declared.reply.Answered.{Answered}
 use Rattle.xh_runner.specs.Meaning.{World, step, answers, after}
 
--- the next line's reply, and those to the rest
-pub answers_at : (w now : World) (reply : Reply) (lines : List Line) (i : ℕ) (line : Line) → i < length lines → get_or lines i line ≡ line → step w line.command ≡ (reply, now)
-    → answers w (drop i lines) ≡ record { line = line.number; reply = reply } ∷ answers now (drop (i + 1) lines)
-answers_at w now reply lines i line below e h = rw (drop-cons lines i line, e, h, add-one i) refl
+answers_at : (w : World) (lines : List Line) (i : ℕ) (line : Line) → i < length lines → get_or lines i line ≡ line
+    → answers w (drop i lines) ≡ record { line = line.number; reply = (step w line.command).0 } ∷ answers (step w line.command).1 (drop (i + 1) lines)
+answers_at w lines i line below e = rw (drop-cons lines i line, e, add-one i) refl
 
-pub after_at : (w now : World) (reply : Reply) (lines : List Line) (i : ℕ) (line : Line) → i < length lines → get_or lines i line ≡ line → step w line.command ≡ (reply, now)
-    → after w (drop i lines) ≡ after now (drop (i + 1) lines)
-after_at w now reply lines i line below e h = rw (drop-cons lines i line, e, add-one i) (ap (λ (s : Reply × World). after s.1 (drop (suc i) lines)) h)
+after_at : (w : World) (lines : List Line) (i : ℕ) (line : Line) → i < length lines → get_or lines i line ≡ line
+    → after w (drop i lines) ≡ after (step w line.command).1 (drop (i + 1) lines)
+after_at w lines i line below e = rw (drop-cons lines i line, e, add-one i) refl
+
+-- one more line is answered
+pub answers_more : (w now : World) (one : Answered) (so_far : List Answered) (lines : List Line) (i : ℕ) (line : Line) (all : List Answered)
+    → i < length lines → get_or lines i line ≡ line → one ≡ record { line = line.number; reply = (step w line.command).0 } → now ≡ (step w line.command).1
+    → so_far ++ answers w (drop i lines) ≡ all → (so_far ++ one ∷ []) ++ answers now (drop (i + 1) lines) ≡ all
+answers_more w now one so_far lines i line all below e one_is now_is h =
+    append_assoc so_far (one ∷ []) _ ∙ ap (λ (t : List Answered). so_far ++ t) (rw (one_is, now_is) (sym (answers_at w lines i line below e))) ∙ h
+
+pub after_more : (w now : World) (lines : List Line) (i : ℕ) (line : Line) (end : World)
+    → i < length lines → get_or lines i line ≡ line → now ≡ (step w line.command).1 → after w (drop i lines) ≡ end → after now (drop (i + 1) lines) ≡ end
+after_more w now lines i line end below e now_is h = rw now_is (sym (after_at w lines i line below e)) ∙ h

@@ -22,7 +22,7 @@ nothings count = replicate count NOTHING
 
 -- no process has a place, and no name is bound
 unfoldable pub no_bindings : Bindings
-no_bindings = record { numbers = nothings MAX_PROCESSES; latest = replicate PLACES 0; records = nothings (MAX_PROCESSES * MAX_BLOCK_NAMES) }
+no_bindings = record { numbers = replicate MAX_PROCESSES NOTHING; latest = replicate PLACES 0; records = nothings (MAX_PROCESSES * MAX_BLOCK_NAMES) }
 
 -- the number of a process
 abbrev pub number_of : Bindings → ℕ → ℕ
@@ -36,21 +36,35 @@ has_place b p = not (number_of b p == NOTHING)
 abbrev pub started : Bindings → ℕ → ℕ → Bindings
 started b p n = record b { numbers = slice_set b.numbers p n; latest = slice_set b.latest (n % PLACES) p }
 
--- the names of the processes by place; a place that no process had is called vacant, and no line tells it
-abbrev pub names_by_place : List (List ℕ) → Bindings → List (List ℕ)
-names_by_place names b = map (λ p. slice_index_or names p (codes "vacant")) b.latest
+-- the name of a process; one that no line names is called vacant
+unfoldable pub name_at : List (List ℕ) → ℕ → List ℕ
+name_at names p = slice_index_or names p (codes "vacant")
 
--- the entry at a process's name for a block
-abbrev pub entry : List ℕ → ℕ → ℕ → ℕ
-entry records p x = slice_index_or records (MAX_BLOCK_NAMES * p + x) NOTHING
+-- the names of the processes by place; no line tells a place that no process had
+abbrev pub names_by_place : List (List ℕ) → Bindings → List (List ℕ)
+names_by_place names b = map (λ p. name_at names p) b.latest
+
+-- the record that a process's name for a block stands for, and those of several names
+abbrev pub record_of : Bindings → ℕ → ℕ → ℕ
+record_of b p x = slice_index_or b.records (MAX_BLOCK_NAMES * p + x) NOTHING
+
+abbrev pub records_of : Bindings → ℕ → List (Word ℕ) → List ℕ
+records_of b p xs = map (λ x. record_of b p (name_in x)) xs
 
 -- a name stands for a record from now on
-abbrev pub with_entry : List ℕ → ℕ → ℕ → ℕ → List ℕ
-with_entry records p x r = slice_set records (MAX_BLOCK_NAMES * p + x) r
+abbrev pub bound : Bindings → ℕ → ℕ → ℕ → Bindings
+bound b p x r = record b { records = slice_set b.records (MAX_BLOCK_NAMES * p + x) r }
 
--- a name is bound to nothing from now on
-abbrev pub without : List ℕ → ℕ → ℕ → List ℕ
-without records p x = with_entry records p x NOTHING
+-- a name stands for a block, and stays where the block is missing
+abbrev pub bound_block : Bindings → ℕ → ℕ → Option Block → Bindings
+bound_block b p x None = b
+bound_block b p x (Some block) = bound b p x block.rec
+
+-- names stand for the blocks of a message, from left to right; the names past the last block stay
+abbrev pub bound_each : Bindings → ℕ → List (Word ℕ) → List (Option Block) → Bindings
+bound_each b p [] blocks = b
+bound_each b p (x ∷ xs) [] = b
+bound_each b p (x ∷ xs) (k ∷ blocks) = bound_each (bound_block b p (name_in x) k) p xs blocks
 
 -- the entries, of which those that are a record become nothing
 abbrev pub cleared : ℕ → List ℕ → List ℕ
@@ -62,50 +76,22 @@ without_record records p r =
     take (MAX_BLOCK_NAMES * p) records
     ++ (cleared r (take MAX_BLOCK_NAMES (drop (MAX_BLOCK_NAMES * p) records)) ++ drop (MAX_BLOCK_NAMES * p + MAX_BLOCK_NAMES) records)
 
+abbrev pub unbound : Bindings → ℕ → ℕ → Bindings
+unbound b p r = record b { records = without_record b.records p r }
+
 -- that for each of several records
-abbrev pub without_records : List ℕ → ℕ → List ℕ → List ℕ
-without_records records p [] = records
-without_records records p (r ∷ rs) = without_records (without_record records p r) p rs
+abbrev pub unbound_each : Bindings → ℕ → List ℕ → Bindings
+unbound_each b p [] = b
+unbound_each b p (r ∷ rs) = unbound_each (unbound b p r) p rs
 
 -- those of several records that are not among others
 abbrev pub not_among : List ℕ → List ℕ → List ℕ
 not_among others rs = filter (λ r. not (list_any (λ o. o == r) others)) rs
 
--- a name stands for a block, and stays where the block is missing
-abbrev pub with_block : List ℕ → ℕ → ℕ → Option Block → List ℕ
-with_block records p x None = records
-with_block records p x (Some block) = with_entry records p x block.rec
-
--- names stand for the blocks of a message, from left to right; the names past the last block stay
-abbrev pub with_each : List ℕ → ℕ → List (Word ℕ) → List (Option Block) → List ℕ
-with_each records p [] blocks = records
-with_each records p (x ∷ xs) [] = records
-with_each records p (x ∷ xs) (b ∷ blocks) = with_each (with_block records p (name_in x) b) p xs blocks
-
--- the names below n are bound to nothing
-unfoldable pub without_below : List ℕ → ℕ → ℕ → List ℕ
-without_below records p zero = records
-without_below records p (suc n) = without (without_below records p n) p n
-
--- the record that a process's name for a block stands for, and those of several names
-abbrev pub record_of : Bindings → ℕ → ℕ → ℕ
-record_of b p x = entry b.records p x
-
-abbrev pub records_of : Bindings → ℕ → List (Word ℕ) → List ℕ
-records_of b p xs = map (λ x. entry b.records p (name_in x)) xs
-
--- the same for what a script's names stand for
-abbrev pub bound : Bindings → ℕ → ℕ → ℕ → Bindings
-bound b p x r = record b { records = with_entry b.records p x r }
-
-abbrev pub bound_each : Bindings → ℕ → List (Word ℕ) → List (Option Block) → Bindings
-bound_each b p xs blocks = record b { records = with_each b.records p xs blocks }
-
-abbrev pub unbound : Bindings → ℕ → ℕ → Bindings
-unbound b p r = record b { records = without_record b.records p r }
-
-abbrev pub unbound_each : Bindings → ℕ → List ℕ → Bindings
-unbound_each b p rs = record b { records = without_records b.records p rs }
+-- the names below n are bound to nothing, and all names of a process
+unfoldable pub unbound_below : Bindings → ℕ → ℕ → Bindings
+unbound_below b p zero = b
+unbound_below b p (suc n) = bound (unbound_below b p n) p n NOTHING
 
 abbrev pub unbound_all : Bindings → ℕ → Bindings
-unbound_all b p = record b { records = without_below b.records p MAX_BLOCK_NAMES }
+unbound_all b p = unbound_below b p MAX_BLOCK_NAMES

@@ -22,7 +22,7 @@ use xh_core::{Block, Contract, Glance, Refused};
 /// A run is alone with the serial machine, so each call is its command. A worker of a run on threads
 /// has others beside it, so what a call answers depends on them, and no clause tells it; such a
 /// worker's machine holds what its calls take besides, as the runtime, an account and a gate, and its
-/// `take_wait` may wait. A call that takes bytes of the host answers `OutOfMemory` where a growth
+/// `take` may wait. A call that takes bytes of the host answers `OutOfMemory` where a growth
 /// was refused.
 pub(crate) trait Machine: Drop {
     ghost use Rattle.std.specs.Prelude.{Bool};
@@ -90,11 +90,8 @@ pub(crate) trait Machine: Drop {
     ) -> Result<u64, Refused>
         ensures { Does alone (give process endpoint tag blocks.now (state self.old)) result (state self.new) };
 
-    fn take(&mut self, process: u16, endpoint: u16) -> Result<Received, Refused>
-        ensures { Does alone (receives (take process endpoint (state self.old))) result (state self.new) };
-
-    /// As `take`, but it waits for a message where others can send one.
-    fn take_wait(&mut self, process: u16, endpoint: u16) -> Result<Received, Refused>
+    /// Takes a message; `waits` says whether to wait for one where others can send it.
+    fn take(&mut self, process: u16, endpoint: u16, waits: bool) -> Result<Received, Refused>
         ensures { Does alone (receives (take process endpoint (state self.old))) result (state self.new) };
 
     fn free(&mut self, process: u16, block: u16) -> Result<u32, Refused>

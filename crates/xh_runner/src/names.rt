@@ -1,19 +1,17 @@
 //! What the names of a script stand for.
-ghost use Rattle.std.specs.Prelude.{◌≡◌, ◌+◌, ◌*◌, ◌%◌, ◌≤◌, ◌==◌, if◌then◌else◌, length, map, replicate, codes, IfOk};
-ghost use Rattle.std.specs.List.{list_any};
-ghost use Rattle.xh_runner.specs.Bindings.{Bindings, no_bindings, nothings, number_of, has_place, entry, with_entry, with_block, with_each, cleared, without_record, without_records, not_among};
-ghost use Rattle.xh_runner.specs.Bindings.{without_below, record_of, records_of, started, bound, bound_each, unbound, unbound_each, unbound_all, names_by_place};
+ghost use Rattle.std.specs.Prelude.{◌≡◌, ◌+◌, ◌*◌, ◌%◌, ◌≤◌, ◌==◌, if◌then◌else◌, length, map, codes, IfOk};
 ghost use Rattle.std.specs.Prelude.{slice_index_or, slice_set};
+ghost use Rattle.xh_runner.specs.Bindings.{Bindings, no_bindings, nothings, number_of, has_place, started, name_at, names_by_place, record_of, records_of};
+ghost use Rattle.xh_runner.specs.Bindings.{bound, bound_block, bound_each, cleared, without_record, unbound, unbound_each, unbound_all, not_among};
 ghost use Rattle.xh_model.specs.declared.limits.TheConstants.{PLACES};
 ghost use Rattle.xh_script.specs.declared.limits.TheConstants.{MAX_WORDS, MAX_BLOCK_NAMES};
-ghost use Rattle.xh_script.specs.Operands.{name_in};
 ghost use Rattle.xh_runner.specs.inner.Jobs.{process_at};
 ghost use Rattle.xh_runner.specs.declared.names.TheConstants.{NOTHING};
 
 use arrayvec::ArrayVec;
 use std::alloc::{AllocError, Global};
 use std::marker::Model;
-use xh_core::Block;
+use xh_core::{Block, PLACE_LINES};
 use xh_model::limits::PLACES;
 use xh_script::limits::{MAX_BLOCK_NAMES, MAX_PROCESSES, MAX_WORDS};
 use xh_script::{Name, Word};
@@ -26,8 +24,8 @@ pub(crate) const NOTHING: u16 = 65_535;
 /// record of each block's name, those of one process behind those of another.
 #[derive(Drop)]
 pub(crate) struct Names {
-    numbers: Vec<u16>,
-    latest: Vec<u8>,
+    numbers: [u16; MAX_PROCESSES],
+    latest: [u8; PLACE_LINES],
     records: Vec<u16>,
 }
 
@@ -38,11 +36,12 @@ impl Model for Names {
 
     ghost Value = { Bindings };
 
-    ghost view = { λ s. record { numbers = s.numbers.items; latest = s.latest.items; records = s.records.items } };
+    ghost view = { λ s. record { numbers = s.numbers; latest = s.latest; records = s.records.items } };
 
-    ghost invariant = { λ s. length s.latest.items ≡ PLACES };
+    ghost invariant = { λ s. length s.latest ≡ PLACES };
 }
 
+// As many entries that stand for nothing.
 #[tactic(auto, unfolding(crate::specs::Bindings::nothings))]
 fn nothings(alloc: Global, count: usize) -> Result<Vec<u16>, AllocError>
     ensures { IfOk result (λ entries. entries.items ≡ nothings count) }
@@ -50,12 +49,7 @@ fn nothings(alloc: Global, count: usize) -> Result<Vec<u16>, AllocError>
     vec![in alloc; NOTHING; count]
 }
 
-fn zeros(alloc: Global, count: usize) -> Result<Vec<u8>, AllocError>
-    ensures { IfOk result (λ entries. entries.items ≡ replicate count 0) }
-{
-    vec![in alloc; 0; count]
-}
-
+// The entry, or nothing past the last.
 fn at(entries: &[u16], index: usize) -> u16
     ensures { result ≡ slice_index_or entries.now index NOTHING }
 {
@@ -65,6 +59,7 @@ fn at(entries: &[u16], index: usize) -> u16
     }
 }
 
+// Sets the entry, where there is one.
 fn put(entries: &mut [u16], index: usize, entry: u16)
     ensures { entries.new ≡ slice_set entries.old index entry }
 {
@@ -73,61 +68,14 @@ fn put(entries: &mut [u16], index: usize, entry: u16)
     }
 }
 
-fn entry(records: &[u16], process: u8, block: u8) -> u16
-    ensures { result ≡ entry records.now process block }
-{
-    at(
-        records,
-        MAX_BLOCK_NAMES * usize::from(process) + usize::from(block),
-    )
-}
-
-fn set_entry(records: &mut [u16], process: u8, block: u8, rec: u16)
-    ensures { records.new ≡ with_entry records.old process block rec }
-{
-    put(
-        records,
-        MAX_BLOCK_NAMES * usize::from(process) + usize::from(block),
-        rec,
-    );
-}
-
-fn entries(records: &[u16], process: u8, words: &[Word<u8>]) -> ArrayVec<u16, MAX_WORDS>
-    requires { length words.now ≤ MAX_WORDS }
-    ensures { result.items ≡ map (λ x. entry records.now process (name_in x)) words.now }
-{
-    let mut found = ArrayVec::new();
-    for word in words {
-        found.push(entry(records, process, word.name()));
-    }
-    found
-}
-
-fn set_block(records: &mut [u16], process: u8, name: u8, block: &Option<Block>)
-    ensures { records.new ≡ with_block records.old process name block.now }
-{
-    if let Some(block) = block {
-        set_entry(records, process, name, block.rec);
-    }
-}
-
-fn set_each(records: &mut [u16], process: u8, words: &[Word<u8>], message: &[Option<Block>])
-    ensures { records.new ≡ with_each records.old process words.now message.now }
-{
-    let count = words.len().min(message.len());
-    for i in 0..count {
-        set_block(records, process, words[i].name(), &message[i]);
-    }
-}
-
-/// The entry, or nothing where it is this record.
+// The entry, or nothing where it is this record.
 fn unless(entry: u16, rec: u16) -> u16
     ensures { result ≡ (if entry == rec then NOTHING else entry) }
 {
     if entry == rec { NOTHING } else { entry }
 }
 
-/// Every entry is written, so that the compiler can do many at once.
+// Every entry is written, so that the compiler can do many at once.
 fn clear(entries: &mut [u16], rec: u16)
     ensures { entries.new ≡ cleared rec entries.old }
 {
@@ -136,26 +84,13 @@ fn clear(entries: &mut [u16], rec: u16)
     }
 }
 
+// Each entry of the process that is this record becomes nothing.
 fn clear_record(records: &mut [u16], process: u8, rec: u16)
     ensures { records.new ≡ without_record records.old process rec }
 {
     let start = (MAX_BLOCK_NAMES * usize::from(process)).min(records.len());
     let end = (start + MAX_BLOCK_NAMES).min(records.len());
     clear(&mut records[start..end], rec);
-}
-
-fn clear_records(records: &mut [u16], process: u8, gone: &[u16])
-    ensures { records.new ≡ without_records records.old process gone.now }
-{
-    for rec in gone {
-        clear_record(records, process, *rec);
-    }
-}
-
-fn is_among(others: &[u16], rec: u16) -> bool
-    ensures { result ≡ list_any (λ o. o == rec) others.now }
-{
-    others.iter().any(|other| *other == rec)
 }
 
 /// Those of the records that are not among others.
@@ -165,23 +100,11 @@ pub(crate) fn not_among(others: &[u16], records: &[u16]) -> ArrayVec<u16, MAX_WO
 {
     let mut found = ArrayVec::new();
     for rec in records {
-        if !is_among(others, *rec) {
+        if !others.contains(rec) {
             found.push(*rec);
         }
     }
     found
-}
-
-fn clear_all(records: &mut [u16], process: u8)
-    ensures { records.new ≡ without_below records.old process MAX_BLOCK_NAMES }
-{
-    for block in 0..MAX_BLOCK_NAMES {
-        put(
-            records,
-            MAX_BLOCK_NAMES * usize::from(process) + block,
-            NOTHING,
-        );
-    }
 }
 
 fn vacant() -> Name
@@ -193,8 +116,9 @@ fn vacant() -> Name
     }
 }
 
+#[tactic(auto, unfolding(crate::specs::Bindings::name_at))]
 fn name_at(processes: &[Name], process: u8) -> Name
-    ensures { result ≡ slice_index_or processes.now process (codes "vacant") }
+    ensures { result ≡ name_at processes.now process }
 {
     match processes.get(usize::from(process)) {
         Some(name) => name.copy(),
@@ -203,11 +127,11 @@ fn name_at(processes: &[Name], process: u8) -> Name
 }
 
 fn names_at(alloc: Global, processes: &[Name], latest: &[u8]) -> Result<Vec<Name>, AllocError>
-    ensures { IfOk result (λ names. names.items ≡ map (λ p. slice_index_or processes.now p (codes "vacant")) latest.now) }
+    ensures { IfOk result (λ names. names.items ≡ map (λ p. name_at processes.now p) latest.now) }
 {
     let mut names = Vec::with_capacity(alloc, latest.len())?;
     for process in latest {
-        names.push(name_at(processes, *process))?;
+        names.push_reserved(name_at(processes, *process));
     }
     Ok(names)
 }
@@ -218,13 +142,10 @@ impl Names {
     pub(crate) fn new(alloc: Global) -> Result<Names, AllocError>
         ensures { IfOk result (λ names. names ≡ no_bindings) }
     {
-        let numbers = nothings(alloc, MAX_PROCESSES)?;
-        let latest = zeros(alloc, usize::from(PLACES))?;
-        let records = nothings(alloc, MAX_PROCESSES * MAX_BLOCK_NAMES)?;
         Ok(Names {
-            numbers,
-            latest,
-            records,
+            numbers: [NOTHING; MAX_PROCESSES],
+            latest: [0; PLACE_LINES],
+            records: nothings(alloc, MAX_PROCESSES * MAX_BLOCK_NAMES)?,
         })
     }
 
@@ -266,26 +187,28 @@ impl Names {
         ensures { IfOk result (λ names. names ≡ self.now) }
     {
         Ok(Names {
-            numbers: Vec::from_slice(alloc, &self.numbers)?,
-            latest: Vec::from_slice(alloc, &self.latest)?,
+            numbers: self.numbers,
+            latest: self.latest,
             records: Vec::from_slice(alloc, &self.records)?,
         })
     }
 
-    /// The names of processes stand for the numbers that they stand for elsewhere.
+    /// The names of processes stand for what they stand for elsewhere.
     pub(crate) fn follow(&mut self, others: &Names)
-        ensures { length self.old.numbers ≡ length others.now.numbers → self.new ≡ record self.old { numbers = others.now.numbers } }
+        ensures { self.new ≡ record self.old { numbers = others.now.numbers; latest = others.now.latest } }
     {
-        if self.numbers.len() == others.numbers.len() {
-            self.numbers.copy_from_slice(&others.numbers);
-        }
+        self.numbers = others.numbers;
+        self.latest = others.latest;
     }
 
     /// The record of a block's name, or `NOTHING` where it is bound to none.
     pub(crate) fn record_of(&self, process: u8, block: u8) -> u16
         ensures { result ≡ record_of self.now process block }
     {
-        entry(&self.records, process, block)
+        at(
+            &self.records,
+            MAX_BLOCK_NAMES * usize::from(process) + usize::from(block),
+        )
     }
 
     /// The records of the names that words say.
@@ -293,7 +216,11 @@ impl Names {
         requires { length words.now ≤ MAX_WORDS }
         ensures { result.items ≡ records_of self.now process words.now }
     {
-        entries(&self.records, process, words)
+        let mut found = ArrayVec::new();
+        for word in words {
+            found.push(self.record_of(process, word.name()));
+        }
+        found
     }
 
     /// The process has this number, and is the latest of its place.
@@ -301,15 +228,27 @@ impl Names {
         ensures { self.new ≡ started self.old process number }
     {
         put(&mut self.numbers, usize::from(process), number);
-        let place = usize::from(number % u16::from(PLACES));
-        self.latest[place] = process;
+        self.latest[usize::from(number % u16::from(PLACES))] = process;
     }
 
     /// The name stands for this record.
     pub(crate) fn bind(&mut self, process: u8, block: u8, rec: u16)
         ensures { self.new ≡ bound self.old process block rec }
     {
-        set_entry(&mut self.records, process, block, rec);
+        put(
+            &mut self.records,
+            MAX_BLOCK_NAMES * usize::from(process) + usize::from(block),
+            rec,
+        );
+    }
+
+    // The name stands for this block, where it is there.
+    fn bind_block(&mut self, process: u8, name: u8, block: &Option<Block>)
+        ensures { self.new ≡ bound_block self.old process name block.now }
+    {
+        if let Some(block) = block {
+            self.bind(process, name, block.rec);
+        }
     }
 
     /// The names that words say stand for the blocks of a message, from left to right. Names past the
@@ -317,7 +256,10 @@ impl Names {
     pub(crate) fn bind_each(&mut self, process: u8, words: &[Word<u8>], message: &[Option<Block>])
         ensures { self.new ≡ bound_each self.old process words.now message.now }
     {
-        set_each(&mut self.records, process, words, message);
+        let count = words.len().min(message.len());
+        for i in 0..count {
+            self.bind_block(process, words[i].name(), &message[i]);
+        }
     }
 
     /// Each name of the process that stands for this record is bound to nothing.
@@ -331,14 +273,18 @@ impl Names {
     pub(crate) fn unbind_each(&mut self, process: u8, gone: &[u16])
         ensures { self.new ≡ unbound_each self.old process gone.now }
     {
-        clear_records(&mut self.records, process, gone);
+        for rec in gone {
+            self.unbind(process, *rec);
+        }
     }
 
     /// All names of the process for blocks are bound to nothing.
     pub(crate) fn unbind_all(&mut self, process: u8)
         ensures { self.new ≡ unbound_all self.old process }
     {
-        clear_all(&mut self.records, process);
+        for block in 0..MAX_BLOCK_NAMES {
+            self.bind(process, block as u8, NOTHING);
+        }
     }
 
     /// The names of the processes by place, 32 of them, from the names by number.

@@ -1,58 +1,24 @@
 //! A script from its bytes to its replies and its ledger, on the serial machine.
-ghost use Rattle.std.specs.Prelude.{◌≡◌, ◌+◌, ◌<◌, ◌⊎◌, length, IfOk, IfErr, OnOk, Err};
+ghost use Rattle.std.specs.Prelude.{◌≡◌, ◌+◌, ◌<◌, length, IfOk, IfErr, OnOk, Err};
 ghost use Rattle.std.specs.List.{All};
 ghost use Rattle.xh_model.specs.Config.{IsConfig};
 ghost use Rattle.xh_model.specs.declared.limits.TheConstants.{PLACES};
-ghost use Rattle.xh_serial.specs.PlaceCommands.{new_machine};
 ghost use Rattle.xh_script.specs.declared.limits.TheConstants.{MAX_SCRIPT};
 ghost use Rattle.xh_script.specs.Scripts.{listing_of};
 ghost use Rattle.xh_runner.specs.Ends.{Done, Stopped};
-ghost use Rattle.xh_runner.specs.Output.{IsMeaning, run_text};
+ghost use Rattle.xh_runner.specs.Output.{IsMeaning};
 ghost use Rattle.xh_runner.specs.Reading.{ReadsAtMost};
 ghost use Rattle.xh_runner.specs.Reports.{text_of};
-ghost use Rattle.xh_runner.specs.Worlds.{world_of};
 
 use crate::input::read_input;
 use crate::report::{Report, write_report};
-use crate::session::Session;
+use crate::stage::Stage;
 use std::alloc::Global;
 use std::io::{Read, Write};
-use xh_core::{Config, Refused};
+use xh_core::Config;
 use xh_script::{Fault, Script, Watched};
-use xh_serial::Serial;
 
-pub(crate) fn new_machine(alloc: Global, config: Config) -> Result<Serial, Fault>
-    ensures fresh { IfOk result (λ machine. machine ≡ new_machine config) }
-    ensures config { ¬ IsConfig config → result ≡ Err Fault.BadConfig }
-    ensures refused { IfErr result (λ e. ((e ≡ Fault.BadConfig) × ¬ IsConfig config) ⊎ (e ≡ Fault.Memory)) }
-{
-    match Serial::new(alloc, config) {
-        Ok(machine) => Ok(machine),
-        Err(Refused::BadSize) => Err(Fault::BadConfig),
-        Err(_) => Err(Fault::Memory),
-    }
-}
-
-/// Does a script's commands, and tells what they leave.
-fn run<'a>(
-    alloc: Global,
-    session: &mut Session<'a, Serial>,
-    script: &Script,
-) -> Result<Report, Fault>
-    ensures text { IfOk result (λ r. text_of r ≡ run_text (world_of (λ m. m) session.old) (listing_of script.now)) }
-    ensures places { IfOk result (λ r. (length r.names.items ≡ PLACES) × All (λ line. line.place < PLACES) r.ledger.places.items) }
-    ensures memory { IfErr result (λ e. e ≡ Fault.Memory) }
-{
-    let answers = session.run(alloc, &script.lines)?;
-    let names = session.names_by_place(alloc, &script.processes)?;
-    Ok(Report {
-        answers,
-        ledger: session.ledger(),
-        names,
-    })
-}
-
-/// Runs a script on a new machine.
+// Runs a script on a new machine.
 #[tactic(auto, unfolding(crate::specs::Output::meaning))]
 fn report_of(alloc: Global, config: Config, script: &Script) -> Result<Report, Fault>
     requires { IsConfig config }
@@ -60,9 +26,10 @@ fn report_of(alloc: Global, config: Config, script: &Script) -> Result<Report, F
     ensures places { IfOk result (λ r. (length r.names.items ≡ PLACES) × All (λ line. line.place < PLACES) r.ledger.places.items) }
     ensures memory { IfErr result (λ e. e ≡ Fault.Memory) }
 {
-    let machine = new_machine(alloc, config)?;
-    let mut session = Session::new(alloc, machine, &script.contracts)?;
-    run(alloc, &mut session, script)
+    let mut stage = Stage::new(alloc, config, &script.contracts)?;
+    let report = stage.report(alloc, script);
+    drop(stage);
+    Ok(report?)
 }
 
 /// Runs the script that a reader gives to its end, and writes its replies and its ledger.

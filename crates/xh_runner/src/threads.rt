@@ -1,5 +1,5 @@
 //! A run of a script on threads, over a kernel that is made, used and settled here.
-ghost use Rattle.std.specs.Prelude.{◌≡◌, ◌<◌, ◌⊎◌, All, IfErr, IfOk, Err, length, true};
+ghost use Rattle.std.specs.Prelude.{◌≡◌, ◌<◌, ◌⊎◌, All, IfErr, IfOk, Err, length, true, vec_len};
 ghost use Rattle.xh_books.specs.Ledgers.{IsBalanced};
 ghost use Rattle.xh_model.specs.Config.{IsConfig};
 ghost use Rattle.xh_model.specs.declared.limits.TheConstants.{MAX_WORKERS, PLACES};
@@ -17,8 +17,8 @@ use std::marker::Brand;
 use std::sync::Wait;
 use std::thread::Threads;
 use xh_books::close_books;
-use xh_core::{Config, Refused};
-use xh_kernel::{Kernel, Names, Parts};
+use xh_core::{Config, Ledger, Refused};
+use xh_kernel::{Account, Kernel, Names, Parts};
 use xh_model::limits::MAX_WORKERS;
 use xh_place::Gate;
 use xh_script::{Fault, Script};
@@ -31,8 +31,33 @@ fn new_parts(alloc: Global, config: Config) -> Result<Parts, Fault>
 {
     match Parts::new(alloc, config, MAX_WORKERS) {
         Ok(parts) => Ok(parts),
-        Err(Refused::BadSize) => Err(Fault::BadConfig),
-        Err(_) => Err(Fault::Memory),
+        Err(refused) => match refused {
+            Refused::BadSize => Err(Fault::BadConfig),
+            _ => Err(Fault::Memory),
+        },
+    }
+}
+
+// The ledger of a kernel whose workers are done: the kernel is settled, and its books are closed.
+fn ledger_of<N: Names>(
+    alloc: Global,
+    kernel: Kernel<N>,
+    accounts: Vec<Account<N>>,
+) -> Result<Ledger, Fault>
+    requires { vec_len accounts ≡ N.parts.workers }
+    ensures arenas { IfOk result (λ l. (length l.arenas.items ≡ length N.parts.records.shape.names) × All (λ a. a.size ≡ N.parts.size) l.arenas.items) }
+    ensures balanced { IfOk result IsBalanced }
+    ensures places { IfOk result (λ l. All (λ line. line.place < PLACES) l.places.items) }
+    ensures refused { IfErr result (λ e. e ≡ Fault.Memory) }
+{
+    match kernel.settle(alloc) {
+        Ok((vaults, places, records)) => {
+            match close_books(alloc, vaults, places, records, accounts) {
+                Ok(ledger) => Ok(ledger),
+                Err(_refused) => Err(Fault::Memory),
+            }
+        }
+        Err(_refused) => Err(Fault::Memory),
     }
 }
 
@@ -48,22 +73,28 @@ fn run_named<N: Names + Send + Sync, R: Threads + Wait + Sync, G: Gate + Sync>(
     requires names { parts ≡ N.parts }
     requires workers { parts.workers ≡ MAX_WORKERS }
     ensures answers { IfOk result (λ r. AreAnswersTo script.now.lines.items r.answers.items) }
-    ensures count { IfOk result (λ r. length r.ledger.arenas.items ≡ length parts.records.shape.names) }
-    ensures sizes { IfOk result (λ r. All (λ a. a.size ≡ parts.size) r.ledger.arenas.items) }
+    ensures arenas { IfOk result (λ r. (length r.ledger.arenas.items ≡ length N.parts.records.shape.names) × All (λ a. a.size ≡ N.parts.size) r.ledger.arenas.items) }
     ensures balanced { IfOk result (λ r. IsBalanced r.ledger) }
     ensures names { IfOk result (λ r. (length r.names.items ≡ PLACES) × All (λ line. line.place < PLACES) r.ledger.places.items) }
     ensures refused { IfErr result (λ e. (e ≡ Fault.Memory) ⊎ ((e ≡ Fault.Gate) × (stops ≡ true))) }
 {
-    let Ok((kernel, accounts, looks)) = Kernel::<N>::new(alloc, parts) else {
-        return Err(Fault::Memory);
+    let (kernel, mut accounts, looks) = match Kernel::<N>::new(alloc, parts) {
+        Ok(made) => made,
+        Err(_refused) => return Err(Fault::Memory),
     };
-    let (outcome, accounts) = run_script(rt, alloc, &kernel, accounts, looks, script, gate, stops)?;
-    let Ok((vaults, places, records)) = kernel.settle(alloc) else {
-        return Err(Fault::Memory);
-    };
-    let Ok(ledger) = close_books(alloc, vaults, places, records, accounts) else {
-        return Err(Fault::Memory);
-    };
+    let outcome = run_script(
+        rt,
+        alloc,
+        &kernel,
+        &mut accounts,
+        looks,
+        script,
+        gate,
+        stops,
+    );
+    let ledger = ledger_of(alloc, kernel, accounts);
+    let outcome = outcome?;
+    let ledger = ledger?;
     Ok(Report {
         answers: outcome.answers,
         ledger,

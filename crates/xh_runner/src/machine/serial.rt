@@ -106,12 +106,11 @@ impl Machine for Serial {
         Serial::give(self, process, endpoint, tag, blocks)
     }
 
-    fn take(&mut self, process: u16, endpoint: u16) -> Result<Received, Refused> {
-        Ok(received(Serial::take(self, process, endpoint)?))
-    }
-
-    fn take_wait(&mut self, process: u16, endpoint: u16) -> Result<Received, Refused> {
-        Ok(received(Serial::take_wait(self, process, endpoint)?))
+    fn take(&mut self, process: u16, endpoint: u16, _waits: bool) -> Result<Received, Refused> {
+        match Serial::take(self, process, endpoint) {
+            Ok(message) => Ok(received(message)),
+            Err(refused) => Err(refused),
+        }
     }
 
     fn free(&mut self, process: u16, block: u16) -> Result<u32, Refused> {

@@ -14,32 +14,16 @@ use xh_kernel::{Account, Kernel, Names};
 use xh_model::limits::{MAX_BLOCKS, MAX_BUDGET};
 use xh_place::{Gate, Got, Taken};
 
-/// A worker on a kernel that others work on too: what its calls take besides, an account and a look
-/// of its own among it.
+/// A worker on a kernel that others work on too: what its calls take besides, an account that no other
+/// has and a look of its own among it.
 #[derive(Drop)]
 pub(crate) struct Worker<'a, N: Names, R, G> {
     pub(crate) rt: &'a R,
     pub(crate) kernel: &'a Kernel<N>,
     pub(crate) gate: &'a G,
-    pub(crate) account: Account<N>,
+    pub(crate) account: &'a mut Account<N>,
     pub(crate) look: Look,
     ghost own: { look.glances ≡ N.parts.glances },
-}
-
-impl<'a, N: Names, R, G> Worker<'a, N, R, G> {
-    /// The account.
-    pub(crate) fn into_account(self) -> Account<N>
-        ensures { result ≡ self.entry.account }
-    {
-        let Worker {
-            rt: _,
-            kernel: _,
-            gate: _,
-            account,
-            look: _,
-        } = self;
-        account
-    }
 }
 
 fn block_of(got: &Got) -> Option<Block>
@@ -90,16 +74,15 @@ impl<'a, N: Names, R: Wait, G: Gate> Machine for Worker<'a, N, R, G> {
         arena: u32,
         contract: Option<&Contract>,
     ) -> Result<(Block, Block), Refused> {
-        let account = &mut self.account;
         match contract {
             Some(contract) => {
                 let contract = contract.copy();
                 self.kernel
-                    .open_with(self.rt, process, arena, contract, account, self.gate)
+                    .open_with(self.rt, process, arena, contract, self.account, self.gate)
             }
             None => self
                 .kernel
-                .open(self.rt, process, arena, account, self.gate),
+                .open(self.rt, process, arena, self.account, self.gate),
         }
     }
 
@@ -110,15 +93,22 @@ impl<'a, N: Names, R: Wait, G: Gate> Machine for Worker<'a, N, R, G> {
         arena: u32,
         contract: Option<&Contract>,
     ) -> Result<(Block, Block), Refused> {
-        let account = &mut self.account;
         match contract {
             Some(contract) => {
                 let contract = contract.copy();
-                self.kernel.wire_with(self.rt, process, other, arena, contract, account, self.gate)
+                self.kernel.wire_with(
+                    self.rt,
+                    process,
+                    other,
+                    arena,
+                    contract,
+                    self.account,
+                    self.gate,
+                )
             }
             None => self
                 .kernel
-                .wire(self.rt, process, other, arena, account, self.gate),
+                .wire(self.rt, process, other, arena, self.account, self.gate),
         }
     }
 
@@ -129,9 +119,15 @@ impl<'a, N: Names, R: Wait, G: Gate> Machine for Worker<'a, N, R, G> {
         bytes: u32,
         arena: u32,
     ) -> Result<Block, Refused> {
-        let account = &mut self.account;
-        self.kernel
-            .alloc(self.rt, alloc, process, bytes, arena, account, self.gate)
+        self.kernel.alloc(
+            self.rt,
+            alloc,
+            process,
+            bytes,
+            arena,
+            self.account,
+            self.gate,
+        )
     }
 
     fn split(
@@ -166,38 +162,38 @@ impl<'a, N: Names, R: Wait, G: Gate> Machine for Worker<'a, N, R, G> {
             .give(self.rt, process, endpoint, tag, blocks, self.gate)
     }
 
-    fn take(&mut self, process: u16, endpoint: u16) -> Result<Received, Refused> {
-        Ok(received(self.kernel.take(self.rt, process, endpoint, self.gate)?))
-    }
-
-    fn take_wait(&mut self, process: u16, endpoint: u16) -> Result<Received, Refused> {
-        Ok(received(
-            self.kernel
-                .take_wait(self.rt, process, endpoint, self.gate)?,
-        ))
+    fn take(&mut self, process: u16, endpoint: u16, waits: bool) -> Result<Received, Refused> {
+        let taken = if waits {
+            self.kernel.take_wait(self.rt, process, endpoint, self.gate)
+        } else {
+            self.kernel.take(self.rt, process, endpoint, self.gate)
+        };
+        match taken {
+            Ok(message) => Ok(received(message)),
+            Err(refused) => Err(refused),
+        }
     }
 
     fn free(&mut self, process: u16, block: u16) -> Result<u32, Refused> {
         self.kernel
-            .free(self.rt, process, block, &mut self.account, self.gate)
+            .free(self.rt, process, block, self.account, self.gate)
     }
 
     fn close(&mut self, process: u16, endpoint: u16) -> Result<u64, Refused> {
         self.kernel
-            .close(self.rt, process, endpoint, &mut self.account, self.gate)
+            .close(self.rt, process, endpoint, self.account, self.gate)
     }
 
     fn exit(&mut self, process: u16, budget: u32) -> Result<u64, Refused> {
         let budget = budget.min(u32::from(MAX_BUDGET)) as u16;
         self.kernel
-            .exit(self.rt, process, budget, &mut self.account, self.gate)
+            .exit(self.rt, process, budget, self.account, self.gate)
     }
 
     fn kill(&mut self, process: u16, victim: u16, budget: u32) -> Result<u64, Refused> {
         let budget = budget.min(u32::from(MAX_BUDGET)) as u16;
-        let account = &mut self.account;
         self.kernel
-            .kill(self.rt, process, victim, budget, account, self.gate)
+            .kill(self.rt, process, victim, budget, self.account, self.gate)
     }
 
     fn glance(&mut self, place: u8) -> Result<Glance, Refused> {

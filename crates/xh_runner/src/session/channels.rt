@@ -23,18 +23,19 @@ impl<'a, M: Machine> Session<'a, M> {
     pub(crate) fn open(
         &mut self,
         process: u8,
-        names: (u8, u8),
+        first_name: u8,
+        second_name: u8,
         arena: u32,
         contract: Option<u8>,
     ) -> Reply
-        ensures { Steps M.alone (open_step (world_of M.state self.old) process names.0 names.1 arena contract) result (world_of M.state self.new) }
+        ensures { Steps M.alone (open_step (world_of M.state self.old) process first_name second_name arena contract) result (world_of M.state self.new) }
     {
         let number = self.names.number(process);
         let contract = contract_at(self.contracts, contract);
         match self.machine.open(number, arena, contract) {
             Ok((first, second)) => {
-                self.names.bind(process, names.0, first.rec);
-                self.names.bind(process, names.1, second.rec);
+                self.names.bind(process, first_name, first.rec);
+                self.names.bind(process, second_name, second.rec);
                 Reply::Done
             }
             Err(refused) => Reply::No(refused),
@@ -43,20 +44,22 @@ impl<'a, M: Machine> Session<'a, M> {
 
     pub(crate) fn wire(
         &mut self,
-        here: (u8, u8),
-        there: (u8, u8),
+        process: u8,
+        first_name: u8,
+        other: u8,
+        second_name: u8,
         arena: u32,
         contract: Option<u8>,
     ) -> Reply
-        ensures { Steps M.alone (wire_step (world_of M.state self.old) here.0 here.1 there.0 there.1 arena contract) result (world_of M.state self.new) }
+        ensures { Steps M.alone (wire_step (world_of M.state self.old) process first_name other second_name arena contract) result (world_of M.state self.new) }
     {
-        let p = self.names.number(here.0);
-        let q = self.names.number(there.0);
+        let p = self.names.number(process);
+        let q = self.names.number(other);
         let contract = contract_at(self.contracts, contract);
         match self.machine.wire(p, q, arena, contract) {
             Ok((first, second)) => {
-                self.names.bind(here.0, here.1, first.rec);
-                self.names.bind(there.0, there.1, second.rec);
+                self.names.bind(process, first_name, first.rec);
+                self.names.bind(other, second_name, second.rec);
                 Reply::Done
             }
             Err(refused) => Reply::No(refused),

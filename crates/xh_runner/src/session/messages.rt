@@ -82,12 +82,7 @@ impl<'a, M: Machine> Session<'a, M> {
     {
         let number = self.names.number(process);
         let rec = self.names.record_of(process, endpoint);
-        let answer = if waits {
-            self.machine.take_wait(number, rec)
-        } else {
-            self.machine.take(number, rec)
-        };
-        match answer {
+        match self.machine.take(number, rec, waits) {
             Ok(message) => {
                 self.names
                     .bind_each(process, words, message.blocks.as_slice());

@@ -30,11 +30,10 @@ pub(super) struct Job<'a, M> {
     pub(super) replies: Vec<Placed>,
 }
 
-/// What a worker leaves: its machine, the replies, and whether the gate let it do all of its commands,
-/// where the replies had room.
+/// What a worker leaves: the replies, and whether the gate let it do all of its commands, where the
+/// replies had room.
 #[derive(Drop)]
-pub(super) struct Done<M> {
-    pub(super) machine: M,
+pub(super) struct Done {
     pub(super) replies: Vec<Placed>,
     pub(super) ended: Result<bool, AllocError>,
 }
@@ -44,20 +43,6 @@ pub(super) fn is_of(line: &Line, process: u8) -> bool
     ensures { result ≡ is_of line.now process }
 {
     !line.command.form.is_head() && line.command.name(0) == process
-}
-
-// The names of processes stand for what they stand for by now.
-fn follow<'a, M: Machine, R: Wait, G>(
-    rt: &R,
-    shared: &Shared<'a, G>,
-    session: &mut Session<'a, M>,
-) {
-    session.follow(&shared.names.lock(rt));
-}
-
-// A process has started once more, and has this number.
-fn start<'a, R: Wait, G>(rt: &R, shared: &Shared<'a, G>, process: u8, number: u16) {
-    shared.names.lock(rt).start(process, number);
 }
 
 impl<'a, M: Machine> Job<'a, M> {
@@ -73,11 +58,11 @@ impl<'a, M: Machine> Job<'a, M> {
         ensures replies { self.new.replies ≡ self.old.replies }
     {
         if matches!(line.command.form, Form::Kill | Form::Glance) {
-            follow(rt, shared, &mut self.session);
+            self.session.names.follow(&shared.names.lock(rt));
         }
         let reply = self.session.step(alloc, &line.command);
         if let Reply::Started(number) = reply {
-            start(rt, shared, self.process, number);
+            shared.names.lock(rt).start(self.process, number);
         }
         reply
     }
@@ -113,7 +98,7 @@ impl<'a, M: Machine> Job<'a, M> {
         rt: &R,
         alloc: Global,
         shared: &Shared<'a, G>,
-    ) -> Done<M>
+    ) -> Done
         ensures { Answers self.entry.process shared.now.lines.now self.entry.replies.items result.replies.items }
     {
         let started = *shared.started.lock(rt);
@@ -123,16 +108,11 @@ impl<'a, M: Machine> Job<'a, M> {
             Ok(false)
         };
         let Job {
-            session,
+            session: _,
             process: _,
             place: _,
             replies,
         } = self;
-        let (machine, _) = session.into_parts();
-        Done {
-            machine,
-            replies,
-            ended,
-        }
+        Done { replies, ended }
     }
 }

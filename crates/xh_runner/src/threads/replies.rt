@@ -21,7 +21,7 @@ pub(super) fn no_replies(alloc: Global, count: usize) -> Result<Vec<Option<Reply
 {
     let mut replies = Vec::with_capacity(alloc, count)?;
     for _index in 0..count {
-        replies.push(None)?;
+        replies.push_reserved(None);
     }
     Ok(replies)
 }
@@ -73,10 +73,10 @@ pub(super) fn answered<'a, M: Machine>(
     let mut replies = replies.into_iter();
     for line in lines {
         let reply = reply_of(alloc, session, line, replies.next());
-        answers.push(Answered {
+        answers.push_reserved(Answered {
             line: line.number,
             reply,
-        })?;
+        });
     }
     Ok(answers)
 }

@@ -7,11 +7,11 @@ use Rattle.xh_runner.specs.declared.report.Report.{Report}
 use Rattle.xh_runner.proofs.threads.run_gated.Goals as goal
 
 has_arenas : (result : Result Report Fault) (config : Config) (parts : PartsOf)
-    → IfOk result (λ r. length r.ledger.arenas.items ≡ length parts.records.shape.names) → IfOk result (λ r. All (λ a. a.size ≡ parts.size) r.ledger.arenas.items)
+    → IfOk result (λ r. (length r.ledger.arenas.items ≡ length parts.records.shape.names) × All (λ a. a.size ≡ parts.size) r.ledger.arenas.items)
     → (parts.size ≡ config.bytes) × (length parts.records.shape.names ≡ config.arenas) → IfOk result (λ r. HasArenas config r.ledger)
-has_arenas (Ok r) config parts n s e = record { count = n ∙ e.1; sizes = subst (λ (k : ℕ). All (λ a. a.size ≡ k) r.ledger.arenas.items) e.0 s }
-has_arenas (Err e) config parts n s w = tt
+has_arenas (Ok r) config parts h e = record { count = h.0 ∙ e.1; sizes = subst (λ (k : ℕ). All (λ a. a.size ≡ k) r.ledger.arenas.items) e.0 h.1 }
+has_arenas (Err e) config parts h w = tt
 
 pub returns-clause-arenas : goal.returns-clause-arenas
 returns-clause-arenas g c =
-    has_arenas c.run_named.result c.args.config c.in_ok-parts.parts c.run_named.ensures.count c.run_named.ensures.sizes c.in_ok-parts.ensures.arenas
+    has_arenas c.run_named.result c.args.config c.in_ok-parts.parts c.run_named.ensures.arenas c.in_ok-parts.ensures.arenas

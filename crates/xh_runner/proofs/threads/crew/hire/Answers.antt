@@ -10,13 +10,13 @@ rest_of P xs ys x e h = λ k d below. subst (λ l. All P l) e h (suc k) d (omega
 
 pub invariant_of-push_reserved : goal.invariant_of-push_reserved
 invariant_of-push_reserved g c = record {
-  own = first_of (λ (x : LookOf). x.glances ≡ g.N.Names.parts.glances) _ _ c.in-Some-next.look c.in-Some-next.ensures.items c.loop-account.invariant.2;
+  own = first_of (λ (x : LookOf). x.glances ≡ g.N.Names.parts.glances) _ _ c.in-Some.look c.in-Some.ensures.items c.loop-account.invariant.2;
 }
 
 pub loop-account-preserved : goal.loop-account-preserved
 loop-account-preserved g c = (
   search rules,
   search rules,
-  rest_of (λ (x : LookOf). x.glances ≡ g.N.Names.parts.glances) _ _ c.in-Some-next.look c.in-Some-next.ensures.items c.loop-account.invariant.2,
+  rest_of (λ (x : LookOf). x.glances ≡ g.N.Names.parts.glances) _ _ c.in-Some.look c.in-Some.ensures.items c.loop-account.invariant.2,
   search rules,
 )
