@@ -25,10 +25,10 @@ use crate::plan::Plan;
 use crate::round::{Done, run_round};
 use crate::wrong::Wrong;
 use std::alloc::Global;
-use std::env;
 use std::process::ExitCode;
 use std::sync::Wait;
 use std::thread::Threads;
+use std::{env, io};
 
 const USAGE: &str = "usage: xh_soak SEED ROUNDS [scarce]";
 
@@ -107,6 +107,7 @@ fn main(rt: HostRuntime) -> ExitCode {
     let alloc = rt.alloc();
     let words = match env::args(&rt) {
         Ok(words) => words.collect::<Vec<String>>(alloc),
+        Err(refused) if refused.kind() == io::ErrorKind::OutOfMemory => return ExitCode::from(3),
         Err(_) => Ok(Vec::new(alloc)),
     };
     let Ok(words) = words else {
