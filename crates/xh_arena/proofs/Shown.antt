@@ -4,35 +4,29 @@ use Rattle.std.specs.Prelude.{slice_get, slice_set}
 use Rattle.xh_arena.specs.declared.parts.Part.{Part}
 use Rattle.xh_arena.specs.declared.parts.Part.TheVariants.{Books, Length, Moved}
 use Rattle.xh_arena.specs.inner.Parts.{weigh, tallies_from, whole, AreOfOneWhole, part_in, below, under, with_length, with_taken, with_back}
-use Rattle.xh_model.specs.Arena.{ArenaState, lengths_of}
+use Rattle.xh_model.specs.Arena.{ArenaState, IsGoodCut, lengths_of}
 use Rattle.xh_model.proofs.Lengths.{length_is}
 use Rattle.xh_arena.specs.Sharing.{IsLotOf}
-use Rattle.xh_arena.specs.Views.{LotOf, Move, AreSummed}
-use Rattle.xh_arena.specs.inner.Books.{Booked, moved, moves_of, back_of, workers_of, vault_parts, Balanced}
+use Rattle.xh_arena.specs.Views.{LotOf, VaultOf, Move, AreSummed}
+use Rattle.xh_arena.specs.inner.Books.{Booked, moved, moves_of, back_of, workers_of, vault_parts, booked, Balanced}
 use Rattle.xh_arena.proofs.Weights.{weigh-set, weigh-at, weigh-none, weigh_sum}
-use Rattle.xh_arena.proofs.Wholes.{Stands, weigh-whole, lot_stands, tally_stands, books_stand, no_lots}
-
-stands : (p : Part) (ls : List ℕ) (ts : List (ℕ × ℕ)) → ((h : Part → ℕ) → h p ≤ weigh h (whole ls ts)) → Stands p ls ts
-stands p ls ts w = record { within = w }
+use Rattle.xh_arena.proofs.Wholes.{weigh-whole, weigh-listed, listed-none, lot_stands, tally_stands, books_stand}
 
 lot_shown : (i x : ℕ) (ls : List ℕ) (t b k : ℕ) (rest : List Part) → AreOfOneWhole (Length i x ∷ Books ls t b k ∷ rest) → slice_get ls i ≡ Some x
 lot_shown i x ls t b k rest f =
-    let same = books_stand ls t b k f.0 f.1 (stands (Books ls t b k) f.0 f.1 (λ h. omega (arith, f.3 h))) in
-    let at = lot_stands i x f.0 f.1 (stands (Length i x) f.0 f.1 (λ h. omega (arith, f.3 h))) in
-    let listed : f.0 ≡ ls = cc in
-    subst (λ (ms : List ℕ). slice_get ms i ≡ Some x) listed at
+    let v = Length i x ∷ Books ls t b k ∷ rest in
+    let same = books_stand v f.0 f.1 ls t b k (λ h. omega arith) in
+    let listed : f.1.0 ≡ ls = cc in
+    subst (λ (ms : List ℕ). slice_get ms i ≡ Some x) listed (lot_stands v f.0 f.1 i x (λ h. omega arith))
 
 tally_shown : (j x y : ℕ) (ls : List ℕ) (t b k : ℕ) (rest : List Part) → AreOfOneWhole (Moved j x y ∷ Books ls t b k ∷ rest) → (x ≤ t) × (y ≤ b)
 tally_shown j x y ls t b k rest f =
-    let same = books_stand ls t b k f.0 f.1 (stands (Books ls t b k) f.0 f.1 (λ h. omega (arith, f.3 h))) in
-    let at = tally_stands j x y f.0 f.1 (stands (Moved j x y) f.0 f.1 (λ h. omega (arith, f.3 h))) in
-    let T : weigh (λ (u : ℕ × ℕ). u.0) f.1 ≡ t = cc in
-    let B : weigh (λ (u : ℕ × ℕ). u.1) f.1 ≡ b = cc in
-    (omega (arith, weigh-at (λ (u : ℕ × ℕ). u.0) f.1 j (x, y) at), omega (arith, weigh-at (λ (u : ℕ × ℕ). u.1) f.1 j (x, y) at))
-
-tallies_weigh : (h : Part → ℕ) (g : ℕ × ℕ → ℕ) → ((j : ℕ) (u : ℕ × ℕ) → h (Moved j u.0 u.1) ≡ g u) → (i : ℕ) (ts : List (ℕ × ℕ)) → weigh h (tallies_from i ts) ≡ weigh g ts
-tallies_weigh h g e i [] = refl
-tallies_weigh h g e i (t ∷ ts) = omega (arith, e i t, tallies_weigh h g e (suc i) ts)
+    let v = Moved j x y ∷ Books ls t b k ∷ rest in
+    let same = books_stand v f.0 f.1 ls t b k (λ h. omega arith) in
+    let at = tally_stands v f.0 f.1 j x y (λ h. omega arith) in
+    let T : weigh (λ (u : ℕ × ℕ). u.0) f.1.1 ≡ t = cc in
+    let B : weigh (λ (u : ℕ × ℕ). u.1) f.1.1 ≡ b = cc in
+    (omega (arith, weigh-at (λ (u : ℕ × ℕ). u.0) f.1.1 j (x, y) at), omega (arith, weigh-at (λ (u : ℕ × ℕ). u.1) f.1.1 j (x, y) at))
 
 moves_weigh : (h : Part → ℕ) (g : Move → ℕ) → ((m : Move) → h (moved m) ≡ g m) → (ms : List Move) → weigh h (map moved ms) ≡ weigh g ms
 moves_weigh h g e [] = refl
@@ -64,89 +58,88 @@ back_none (Books l t b k) e = refl
 back_none (Length r n) e = refl
 back_none (Moved j x y) e = absurd (omega arith)
 
+-- what a weight of tallies alone says of a whole, and of tallies that were collected
+module _ (h : Part → ℕ) (g : ℕ × ℕ → ℕ) (m : Move → ℕ) (zl : (r n : ℕ) → h (Length r n) ≡ 0) (zb : (ls : List ℕ) (t b k : ℕ) → h (Books ls t b k) ≡ 0)
+    (eg : (j : ℕ) (u : ℕ × ℕ) → h (Moved j u.0 u.1) ≡ g u) (em : (x : Move) → h (moved x) ≡ m x) where
+  whole_weighs : (ls : List ℕ) (ts : List (ℕ × ℕ)) → weigh h (whole ls ts) ≡ weigh g ts
+  whole_weighs ls ts = omega (
+    arith,
+    weigh-whole h ls ts,
+    listed-none (λ i n. Length i n) h 0 ls (λ k j n _ _. zl j n),
+    weigh-listed (λ i t. Moved i t.0 t.1) h g eg 0 ts,
+    zb ls (weigh (λ (u : ℕ × ℕ). u.0) ts) (weigh (λ (u : ℕ × ℕ). u.1) ts) (length ts),
+  )
+
+  vault_weighs : (ls : List ℕ) (t b k : ℕ) (ms : List Move) → weigh h (vault_parts ls t b k ms) ≡ weigh m ms
+  vault_weighs ls t b k ms = omega (arith, zb ls t b k, moves_weigh h m em ms)
+
 -- while a tally is elsewhere, not all were collected
 one_shown : (j x y : ℕ) (ls : List ℕ) (t b k : ℕ) (ms : List Move) → AreOfOneWhole (Moved j x y ∷ vault_parts ls t b k ms) → length ms < k
 one_shown j x y ls t b k ms f =
-    let same = books_stand ls t b k f.0 f.1 (stands (Books ls t b k) f.0 f.1 (λ h. omega (arith, f.3 h))) in
-    let K : length f.1 ≡ k = cc in
+    let same = books_stand (Moved j x y ∷ vault_parts ls t b k ms) f.0 f.1 ls t b k (λ h. omega arith) in
+    let K : length f.1.1 ≡ k = cc in
     omega (
       arith,
-      f.3 one_tally,
-      weigh-whole one_tally f.0 f.1,
-      no_lots one_tally (λ _ _. refl) 0 f.0,
-      tallies_weigh one_tally (λ _. 1) (λ _ _. refl) 0 f.1,
-      weigh-ones f.1,
-      moves_weigh one_tally (λ _. 1) (λ _. refl) ms,
+      f.1.2 one_tally,
+      whole_weighs one_tally (λ _. 1) (λ _. 1) (λ _ _. refl) (λ _ _ _ _. refl) (λ _ _. refl) (λ _. refl) f.1.0 f.1.1,
+      vault_weighs one_tally (λ _. 1) (λ _. 1) (λ _ _. refl) (λ _ _ _ _. refl) (λ _ _. refl) (λ _. refl) ls t b k ms,
+      weigh-ones f.1.1,
       weigh-ones ms,
     )
 
 all_shown : (ls : List ℕ) (t b k : ℕ) (ms : List Move) → AreOfOneWhole (vault_parts ls t b k ms) → length ms ≡ k → (weigh (λ (m : Move). m.taken) ms ≡ t) × (weigh (λ (m : Move). m.back) ms ≡ b)
 all_shown ls t b k ms f all =
-    let same = books_stand ls t b k f.0 f.1 (stands (Books ls t b k) f.0 f.1 (λ h. omega (arith, f.3 h))) in
-    let ts = f.1 in
-    let os = f.2 in
+    let same = books_stand (vault_parts ls t b k ms) f.0 f.1 ls t b k (λ h. omega arith) in
+    let ts = f.1.1 in
     let T : weigh (λ (u : ℕ × ℕ). u.0) ts ≡ t = cc in
     let B : weigh (λ (u : ℕ × ℕ). u.1) ts ≡ b = cc in
     let K : length ts ≡ k = cc in
-    let none : weigh one_tally os ≡ 0 =
+    let none : weigh one_tally f.0 ≡ 0 =
     omega (
       arith,
-      f.3 one_tally,
-      weigh-whole one_tally f.0 ts,
-      no_lots one_tally (λ _ _. refl) 0 f.0,
-      tallies_weigh one_tally (λ _. 1) (λ _ _. refl) 0 ts,
+      f.1.2 one_tally,
+      whole_weighs one_tally (λ _. 1) (λ _. 1) (λ _ _. refl) (λ _ _ _ _. refl) (λ _ _. refl) (λ _. refl) f.1.0 ts,
+      vault_weighs one_tally (λ _. 1) (λ _. 1) (λ _ _. refl) (λ _ _ _ _. refl) (λ _ _. refl) (λ _. refl) ls t b k ms,
       weigh-ones ts,
-      moves_weigh one_tally (λ _. 1) (λ _. refl) ms,
       weigh-ones ms,
-    ) in
-    let x = weigh-none one_tally taken_in taken_none os none in
-    let y = weigh-none one_tally back_in back_none os none in (
+    ) in (
       omega (
         arith,
-        f.3 taken_in,
-        weigh-whole taken_in f.0 ts,
-        no_lots taken_in (λ _ _. refl) 0 f.0,
-        tallies_weigh taken_in (λ u. u.0) (λ _ _. refl) 0 ts,
-        moves_weigh taken_in (λ m. m.taken) (λ _. refl) ms,
+        f.1.2 taken_in,
+        weigh-none one_tally taken_in taken_none f.0 none,
+        whole_weighs taken_in (λ u. u.0) (λ m. m.taken) (λ _ _. refl) (λ _ _ _ _. refl) (λ _ _. refl) (λ _. refl) f.1.0 ts,
+        vault_weighs taken_in (λ u. u.0) (λ m. m.taken) (λ _ _. refl) (λ _ _ _ _. refl) (λ _ _. refl) (λ _. refl) ls t b k ms,
       ),
       omega (
         arith,
-        f.3 back_in,
-        weigh-whole back_in f.0 ts,
-        no_lots back_in (λ _ _. refl) 0 f.0,
-        tallies_weigh back_in (λ u. u.1) (λ _ _. refl) 0 ts,
-        moves_weigh back_in (λ m. m.back) (λ _. refl) ms,
+        f.1.2 back_in,
+        weigh-none one_tally back_in back_none f.0 none,
+        whole_weighs back_in (λ u. u.1) (λ m. m.back) (λ _ _. refl) (λ _ _ _ _. refl) (λ _ _. refl) (λ _. refl) f.1.0 ts,
+        vault_weighs back_in (λ u. u.1) (λ m. m.back) (λ _ _. refl) (λ _ _ _ _. refl) (λ _ _. refl) (λ _. refl) ls t b k ms,
       ),
     )
 
--- the same of the vault's parts
-lot_in : (vs : List (List Part)) (parts : List Part) (i x : ℕ) (ls : List ℕ) (t b k : ℕ) (ms : List Move) → vs ≡ (Length i x ∷ []) ∷ [] → parts ≡ vault_parts ls t b k ms
-    → AreOfOneWhole (part_in vs ∷ parts) → slice_get ls i ≡ Some x
-lot_in vs parts i x ls t b k ms e p f =
-    let all : part_in vs ∷ parts ≡ Length i x ∷ vault_parts ls t b k ms = λ q. part_in (e q) ∷ p q in
-    lot_shown i x ls t b k (map moved ms) (subst AreOfOneWhole all f)
+-- the same of the vault's parts, with one share's part before them
+module _ (vs : List (List Part)) (parts : List Part) (p : Part) (ls : List ℕ) (t b k : ℕ) (ms : List Move) (e : vs ≡ (p ∷ []) ∷ []) (is : parts ≡ vault_parts ls t b k ms) where
+  beside_share : AreOfOneWhole (part_in vs ∷ parts) → AreOfOneWhole (p ∷ vault_parts ls t b k ms)
+  beside_share f = let all : part_in vs ∷ parts ≡ p ∷ vault_parts ls t b k ms = λ q. part_in (e q) ∷ is q in subst AreOfOneWhole all f
+
+  after_change : (f : List Part → List Part) (now : List Part) → now ≡ below (f (part_in vs ∷ parts)) → now ≡ below (f (p ∷ vault_parts ls t b k ms))
+  after_change f now w = w ∙ (λ q. below (f (part_in (e q) ∷ is q)))
 
 pub lot_known : (vs : List (List Part)) (parts : List Part) (i x : ℕ) (a : Booked) → vs ≡ (Length i x ∷ []) ∷ [] → Balanced a parts → AreOfOneWhole (part_in vs ∷ parts)
     → slice_get a.lengths i ≡ Some x
-lot_known vs parts i x a e b f = lot_in vs parts i x a.lengths a.wear (back_of parts) (workers_of parts) (moves_of parts) e b.0 f
+lot_known vs parts i x a e b f =
+    lot_shown i x a.lengths a.wear _ _ _ (beside_share vs parts (Length i x) a.lengths a.wear (back_of parts) (workers_of parts) (moves_of parts) e b.0 f)
 
--- a lot that is known so is a lot of the vault, as contracts see both
-pub lot_of : {B : Type 0} (arena now : ArenaState) (lot seen : LotOf B) → slice_get (lengths_of arena) lot.index ≡ Some lot.len → arena ≡ now → lot ≡ seen → IsLotOf now seen
-lot_of arena now lot seen e a l =
-    let is = length_is arena lot.index lot.len e in
-    rw (← a, ← l) (record { known = is.0; length = is.1 })
+-- a lot that the books have is a lot of the vault, as contracts see both
+pub lot_seen : {B : Type 0} {vault now : VaultOf} {lot seen : LotOf B} → vault ≡ now → lot ≡ seen → slice_get (lengths_of vault.arena) lot.index ≡ Some lot.len → IsLotOf now.arena seen
+lot_seen {vault = vault} {lot = lot} a l e = let is = length_is vault.arena lot.index lot.len e in rw (← a, ← l) (record { known = is.0; length = is.1 })
 
-tally_in : (vs : List (List Part)) (parts : List Part) (j x y : ℕ) (ls : List ℕ) (t b k : ℕ) (ms : List Move) → vs ≡ (Moved j x y ∷ []) ∷ [] → parts ≡ vault_parts ls t b k ms
-    → AreOfOneWhole (part_in vs ∷ parts) → (x ≤ t) × (y ≤ b)
-tally_in vs parts j x y ls t b k ms e p f =
-    let all : part_in vs ∷ parts ≡ Moved j x y ∷ vault_parts ls t b k ms = λ q. part_in (e q) ∷ p q in
-    tally_shown j x y ls t b k (map moved ms) (subst AreOfOneWhole all f)
-
-tally_left : (vs : List (List Part)) (parts : List Part) (j x y : ℕ) (ls : List ℕ) (t b k : ℕ) (ms : List Move) → vs ≡ (Moved j x y ∷ []) ∷ [] → parts ≡ vault_parts ls t b k ms
-    → AreOfOneWhole (part_in vs ∷ parts) → length ms < k
-tally_left vs parts j x y ls t b k ms e p f =
-    let all : part_in vs ∷ parts ≡ Moved j x y ∷ vault_parts ls t b k ms = λ q. part_in (e q) ∷ p q in
-    one_shown j x y ls t b k ms (subst AreOfOneWhole all f)
+-- so is one whose share is of one whole with the vault's parts
+pub lot_of : {B : Type 0} {vault now : VaultOf} {lot seen : LotOf B} {vs : List (List Part)} {parts : List Part} → vault ≡ now → lot ≡ seen → vs ≡ (Length lot.index lot.len ∷ []) ∷ []
+    → Balanced (booked vault.arena) parts → AreOfOneWhole (part_in vs ∷ parts) → IsLotOf now.arena seen
+lot_of {vault = vault} {lot = lot} {vs = vs} {parts = parts} a l v b f = lot_seen a l (lot_known vs parts lot.index lot.len (booked vault.arena) v b f)
 
 -- of parts that are of one whole, the tallies taken in sum up
 all_summed : (ls : List ℕ) (t b k : ℕ) (ms : List Move) → AreOfOneWhole (vault_parts ls t b k ms) → AreSummed t b k ms
@@ -169,36 +162,26 @@ settled a parts b k ms e w s =
     subst (λ (ps : List Part). Balanced a ps) (sym e)
     (ap (λ l. vault_parts a.lengths a.wear b k l) (sym (moves_moved ms)), w, subst (λ (l : List Move). AreSummed a.wear b k l) (sym (moves_moved ms)) s)
 
-pub set_parts : (vs : List (List Part)) (parts now : List Part) (i x n : ℕ) (ls : List ℕ) (t b k : ℕ) (ms : List Move) → vs ≡ (Length i x ∷ []) ∷ [] → parts ≡ vault_parts ls t b k ms
-    → now ≡ below (with_length n (part_in vs ∷ parts)) → now ≡ vault_parts (set ls i n) t b k ms
-set_parts vs parts now i x n ls t b k ms e p w = w ∙ (λ q. below (with_length n (part_in (e q) ∷ p q)))
-
-pub taken_parts : (vs : List (List Part)) (parts now : List Part) (j x y n : ℕ) (ls : List ℕ) (t b k : ℕ) (ms : List Move) → vs ≡ (Moved j x y ∷ []) ∷ [] → parts ≡ vault_parts ls t b k ms
-    → now ≡ below (with_taken n (part_in vs ∷ parts)) → now ≡ vault_parts ls (t + n) b k ms
-taken_parts vs parts now j x y n ls t b k ms e p w = w ∙ (λ q. below (with_taken n (part_in (e q) ∷ p q)))
-
-pub back_parts : (vs : List (List Part)) (parts now : List Part) (j x y n : ℕ) (ls : List ℕ) (t b k : ℕ) (ms : List Move) → vs ≡ (Moved j x y ∷ []) ∷ [] → parts ≡ vault_parts ls t b k ms
-    → now ≡ below (with_back n (part_in vs ∷ parts)) → now ≡ vault_parts ls t (b + n) k ms
-back_parts vs parts now j x y n ls t b k ms e p w = w ∙ (λ q. below (with_back n (part_in (e q) ∷ p q)))
-
 -- what a carving of n bytes for the lot i, by a tally with x taken and y back, shows of the books a, and that the parts after it keep them
 pub record CarveShown (a : Booked) (now : List Part) (i n x y : ℕ) : Type 0 where
   pub tally : x ≤ a.wear
   pub kept : (a' : Booked) → a'.lengths ≡ slice_set a.lengths i n → a'.wear ≡ a.wear + n → Balanced a' now
 
 pub carve_shown : (a : Booked) (p p1 now : List Part) (vs ts : List (List Part)) (i m n j x y : ℕ) → Balanced a p → vs ≡ (Length i m ∷ []) ∷ [] → ts ≡ (Moved j x y ∷ []) ∷ []
-    → slice_get a.lengths i ≡ Some 0
+    → m ≡ 0 → AreOfOneWhole (part_in vs ∷ p)
     → p1 ≡ below (with_length n (part_in vs ∷ p)) → AreOfOneWhole (part_in ts ∷ p1) → now ≡ below (with_taken n (part_in ts ∷ p1)) → CarveShown a now i n x y
-carve_shown a p p1 now vs ts i m n j x y b v t at e1 f e2 =
+carve_shown a p p1 now vs ts i m n j x y b v t z f1 e1 f e2 =
+    let at : slice_get a.lengths i ≡ Some 0 = lot_known vs p i m a v b f1 ∙ ap Some z in
     let bk = back_of p in
     let wk = workers_of p in
     let ms = moves_of p in
-    let q1 = set_parts vs p p1 i m n a.lengths a.wear bk wk ms v b.0 e1 in
-    let q2 = taken_parts ts p1 now j x y n (slice_set a.lengths i n) a.wear bk wk ms t q1 e2 in
-    let left = tally_left ts p1 j x y (slice_set a.lengths i n) a.wear bk wk ms t q1 f in
+    let q1 = after_change vs p (Length i m) a.lengths a.wear bk wk ms v b.0 (with_length n) p1 e1 in
+    let q2 = after_change ts p1 (Moved j x y) (slice_set a.lengths i n) a.wear bk wk ms t q1 (with_taken n) now e2 in
+    let tally = beside_share ts p1 (Moved j x y) (slice_set a.lengths i n) a.wear bk wk ms t q1 f in
+    let left = one_shown j x y (slice_set a.lengths i n) a.wear bk wk ms tally in
     let total = weigh-set (λ (u : ℕ). u) a.lengths i 0 n at in
     record {
-      tally = (tally_in ts p1 j x y (slice_set a.lengths i n) a.wear bk wk ms t q1 f).0;
+      tally = (tally_shown j x y (slice_set a.lengths i n) a.wear bk wk (map moved ms) tally).0;
       kept = λ a' l w.
           let sums : weigh (λ (u : ℕ). u) a'.lengths ≡ weigh (λ (u : ℕ). u) (slice_set a.lengths i n) = ap (λ l. weigh (λ (u : ℕ). u) l) l in
           settled a' now bk wk ms (q2 ∙ (λ k. vault_parts (sym l k) (sym w k) bk wk ms)) (omega (arith, b.1)) (not_all a'.wear bk wk ms left);
@@ -218,13 +201,14 @@ back_shown a p p1 now vs ts i n j x y b v t f1 e1 f2 e2 =
     let wk = workers_of p in
     let ms = moves_of p in
     let at = lot_known vs p i n a v b f1 in
-    let q1 = set_parts vs p p1 i n 0 a.lengths a.wear bk wk ms v b.0 e1 in
-    let q2 = back_parts ts p1 now j x y n (slice_set a.lengths i 0) a.wear bk wk ms t q1 e2 in
-    let left = tally_left ts p1 j x y (slice_set a.lengths i 0) a.wear bk wk ms t q1 f2 in
+    let q1 = after_change vs p (Length i n) a.lengths a.wear bk wk ms v b.0 (with_length 0) p1 e1 in
+    let q2 = after_change ts p1 (Moved j x y) (slice_set a.lengths i 0) a.wear bk wk ms t q1 (with_back n) now e2 in
+    let tally = beside_share ts p1 (Moved j x y) (slice_set a.lengths i 0) a.wear bk wk ms t q1 f2 in
+    let left = one_shown j x y (slice_set a.lengths i 0) a.wear bk wk ms tally in
     let total = weigh-set (λ (u : ℕ). u) a.lengths i n 0 at in
     record {
       lot = at;
-      tally = (tally_in ts p1 j x y (slice_set a.lengths i 0) a.wear bk wk ms t q1 f2).1;
+      tally = (tally_shown j x y (slice_set a.lengths i 0) a.wear bk wk (map moved ms) tally).1;
       kept = λ a' l w.
           let sums : weigh (λ (u : ℕ). u) a'.lengths ≡ weigh (λ (u : ℕ). u) (slice_set a.lengths i 0) = ap (λ l. weigh (λ (u : ℕ). u) l) l in
           settled a' now (bk + n) wk ms (q2 ∙ (λ k. vault_parts (sym l k) (sym w k) (bk + n) wk ms)) (omega (arith, b.1)) (not_all a'.wear (bk + n) wk ms left);
@@ -255,16 +239,19 @@ pub record CutShown (a : Booked) (now : List Part) (i m j k : ℕ) : Type 0 wher
   pub other : j ≡ i → ⊥
   pub kept : (a' : Booked) → a'.lengths ≡ slice_set (slice_set a.lengths i k) j (m - k) → a'.wear ≡ a.wear → Balanced a' now
 
-pub cut_shown : (a : Booked) (p p1 now : List Part) (vs ts : List (List Part)) (i m j n k : ℕ) → Balanced a p → vs ≡ (Length i m ∷ []) ∷ [] → ts ≡ (Length j n ∷ []) ∷ [] → n ≡ 0 → 0 < k → k < m
+pub cut_shown : (a : Booked) (p p1 now : List Part) (vs ts : List (List Part)) (i m j n k : ℕ) {seen : ℕ} → Balanced a p → vs ≡ (Length i m ∷ []) ∷ [] → ts ≡ (Length j n ∷ []) ∷ [] → n ≡ 0 → m ≡ seen → IsGoodCut k seen
     → AreOfOneWhole (part_in vs ∷ p) → p1 ≡ below (with_length k (part_in vs ∷ p)) → AreOfOneWhole (part_in ts ∷ p1) → now ≡ below (with_length (m - k) (part_in ts ∷ p1)) → CutShown a now i m j k
-cut_shown a p p1 now vs ts i m j n k b v t z some below_m f1 e1 f2 e2 =
+cut_shown a p p1 now vs ts i m j n k b v t z len good f1 e1 f2 e2 =
+    let some : 0 < k = good.0 in
+    let below_m : k < m = rw len good.2 in
     let bk = back_of p in
     let wk = workers_of p in
     let ms = moves_of p in
     let at = lot_known vs p i m a v b f1 in
-    let q1 = set_parts vs p p1 i m k a.lengths a.wear bk wk ms v b.0 e1 in
-    let q2 = set_parts ts p1 now j n (m - k) (slice_set a.lengths i k) a.wear bk wk ms t q1 e2 in
-    let there : slice_get (slice_set a.lengths i k) j ≡ Some 0 = lot_in ts p1 j n (slice_set a.lengths i k) a.wear bk wk ms t q1 f2 ∙ ap Some z in
+    let q1 = after_change vs p (Length i m) a.lengths a.wear bk wk ms v b.0 (with_length k) p1 e1 in
+    let q2 = after_change ts p1 (Length j n) (slice_set a.lengths i k) a.wear bk wk ms t q1 (with_length (m - k)) now e2 in
+    let there : slice_get (slice_set a.lengths i k) j ≡ Some 0 =
+    lot_shown j n (slice_set a.lengths i k) a.wear bk wk (map moved ms) (beside_share ts p1 (Length j n) (slice_set a.lengths i k) a.wear bk wk ms t q1 f2) ∙ ap Some z in
     let other : j ≡ i → ⊥ = apart a.lengths i j m k at there some in
     let total = weigh-set (λ (u : ℕ). u) a.lengths i m k at in
     let total' = weigh-set (λ (u : ℕ). u) (slice_set a.lengths i k) j 0 (m - k) there in

@@ -2,7 +2,6 @@
 use Rattle.std.proofs.Common.{◌≡◌, ℕ, zero, suc, ◌+◌, ◌≤◌, List, [], ◌∷◌, ◌++◌, set, Some, refl, sym, ap, ◌∙◌, arith, replicate}
 use Rattle.std.proofs.lemmas.List.Recursion.{is_sum_by}
 use Rattle.std.proofs.lemmas.List.Sums.{sum-map}
-use Rattle.std.proofs.lemmas.List.Folds.{sum_by-replicate}
 use Rattle.std.specs.Prelude.{slice_get, map, sum}
 use mathlib.Core.Option.{some, some-ne-none}
 use lib.ListN.{get_elem?}
@@ -42,8 +41,9 @@ module _ {X : Type 0} where
       weigh-joined h (y ∷ ys) = omega (arith, weigh-append h y (joined ys), weigh-joined h ys)
   others_of (a ∷ more) (suc i) v e = let r = others_of more i v e in (a ++ r.0, λ w h. omega (arith, weigh-append h a r.0, r.1 w h))
 
-pub weigh_zeros : (n : ℕ) → weigh (λ (k : ℕ). k) (replicate n 0) ≡ 0
-weigh_zeros n = omega (arith, is_sum_by (weigh (λ (k : ℕ). k)) (λ (k : ℕ). k) refl (λ _ _. refl) (replicate n 0), sum_by-replicate (λ (k : ℕ). k) n 0)
+pub weigh_none : {X : Type 0} (f : X → ℕ) (x : X) → f x ≡ 0 → (n : ℕ) → weigh f (replicate n x) ≡ 0
+weigh_none f x e zero = refl
+weigh_none f x e (suc n) = omega (arith, e, weigh_none f x e n)
 
 pub weigh_sum : {X : Type 0} (f : X → ℕ) (xs : List X) → weigh f xs ≡ sum (map f xs)
 weigh_sum f xs = is_sum_by (weigh f) f refl (λ _ _. refl) xs ∙ sym (sum-map f xs)

@@ -60,57 +60,32 @@ impl Split<View> for Nothing {
     ghost right = { λ _. [] };
 }
 
-/// Changes nothing, and tells that the view is a part of one whole.
-pub struct Looks;
+/// A change of parts that a step is told, for the proof alone, and that it keeps the whole.
+pub trait Change {
+    ghost use Rattle.std.specs.Prelude.{List};
+    ghost use Rattle.xh_arena.specs.declared.parts.Part.{Part};
+    ghost use Rattle.xh_arena.specs.inner.Parts.{Keeps};
 
-impl Play<(), View> for Looks {
-    ghost use Rattle.xh_arena.specs.inner.Parts.{Looked};
+    ghost change: { List Part → List Part };
 
-    ghost then = { Looked };
+    ghost keeps: { Keeps change };
 }
 
-/// A number that a step is told, for the proof alone.
-pub trait Amount {
-    ghost use Rattle.std.specs.Prelude.{ℕ};
+impl Change for Brand {
+    ghost change = { λ v. v };
 
-    ghost amount: { ℕ };
+    ghost keeps = { λ _ _ kept. kept };
 }
 
-impl Amount for Brand {
-    ghost amount = { 0 };
+/// The parts of a seat are changed, and what they were is of one whole.
+pub struct Changes<C> {
+    change: PhantomData<C>,
 }
 
-/// The lot on top has a new length.
-pub struct Sets<N> {
-    amount: PhantomData<N>,
-}
+impl<C: Change> Play<(), View> for Changes<C> {
+    ghost use Rattle.xh_arena.specs.inner.Parts.{Changed};
 
-impl<N: Amount> Play<(), View> for Sets<N> {
-    ghost use Rattle.xh_arena.specs.inner.Parts.{Changed, with_length};
-
-    ghost then = { Changed (with_length N.amount) };
-}
-
-/// The tally on top has taken more.
-pub struct Takes<N> {
-    amount: PhantomData<N>,
-}
-
-impl<N: Amount> Play<(), View> for Takes<N> {
-    ghost use Rattle.xh_arena.specs.inner.Parts.{Changed, with_taken};
-
-    ghost then = { Changed (with_taken N.amount) };
-}
-
-/// The tally on top has given more back.
-pub struct Gives<N> {
-    amount: PhantomData<N>,
-}
-
-impl<N: Amount> Play<(), View> for Gives<N> {
-    ghost use Rattle.xh_arena.specs.inner.Parts.{Changed, with_back};
-
-    ghost then = { Changed (with_back N.amount) };
+    ghost then = { Changed C.change };
 }
 
 /// The parts of the other seat go under the seat's first.

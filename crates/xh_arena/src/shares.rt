@@ -4,9 +4,7 @@ ghost use Rattle.xh_arena.specs.inner.Holding.{view_in};
 ghost use Rattle.xh_arena.specs.inner.Parts.{first_parts, part_in, IsOne, under, top, below, AreOfOneWhole, with_length, with_taken, with_back};
 
 use crate::name::Name;
-use crate::parts::{
-    Amount, Gives, Law, Looks, Nothing, OffTheTop, OnTop, Sets, Takes, Under, View,
-};
+use crate::parts::{Change, Changes, Law, Nothing, OffTheTop, OnTop, Under, View};
 use atomic_table::{Badge, Seat, Table};
 use std::alloc::{AllocError, Global};
 use std::marker::{Brand, Model};
@@ -62,39 +60,19 @@ impl Shares {
             .into_badge()
     }
 
+    /// The vault's own parts are changed, and what they were is of one whole.
+    fn play<C: Change>(&mut self)
+        ensures { (self.new.id ≡ self.old.id) × (self.new.parts ≡ C.change self.old.parts) × AreOfOneWhole self.old.parts }
+    {
+        let table = &self.table;
+        table.shared.load::<Changes<C>>(&mut self.seat, 0);
+    }
+
     /// Shows that the vault's own parts are of one whole.
     pub fn look(&mut self)
         ensures { (self.new ≡ self.old) × AreOfOneWhole self.old.parts }
     {
-        let table = &self.table;
-        table.shared.load::<Looks>(&mut self.seat, 0);
-    }
-
-    /// The lot on top has a new length. The number is for the proof alone.
-    fn set_length<N: Amount>(&mut self, len: u32)
-        requires { N.amount ≡ len }
-        ensures { (self.new.id ≡ self.old.id) × (self.new.parts ≡ with_length len self.old.parts) × AreOfOneWhole self.old.parts }
-    {
-        let table = &self.table;
-        table.shared.load::<Sets<N>>(&mut self.seat, 0);
-    }
-
-    /// The tally on top has taken more.
-    fn take<N: Amount>(&mut self, bytes: u32)
-        requires { N.amount ≡ bytes }
-        ensures { (self.new.id ≡ self.old.id) × (self.new.parts ≡ with_taken bytes self.old.parts) × AreOfOneWhole self.old.parts }
-    {
-        let table = &self.table;
-        table.shared.load::<Takes<N>>(&mut self.seat, 0);
-    }
-
-    /// The tally on top has given more back.
-    fn give_back<N: Amount>(&mut self, bytes: u32)
-        requires { N.amount ≡ bytes }
-        ensures { (self.new.id ≡ self.old.id) × (self.new.parts ≡ with_back bytes self.old.parts) × AreOfOneWhole self.old.parts }
-    {
-        let table = &self.table;
-        table.shared.load::<Gives<N>>(&mut self.seat, 0);
+        self.play::<Brand>();
     }
 
     /// A share of nothing.
@@ -118,21 +96,17 @@ impl Shares {
             .join_seat::<Under>(&mut self.seat, share.into_seat());
     }
 
-    /// The share's part goes before the vault's own, and all are of one whole.
-    pub fn hold(&mut self, share: &mut Badge<View>)
+    /// The share's part and the vault's own are changed together, and what they were is of one whole. The number is for
+    /// the proof alone.
+    fn change<C: Change>(&mut self, share: &mut Badge<View>, amount: u32)
         requires { (share.old.table_id ≡ self.old.id) × IsOne share.old.views }
-        ensures held { (self.new.id ≡ self.old.id) × (self.new.parts ≡ part_in share.old.views ∷ self.old.parts) }
+        ensures same { (self.new.id ≡ self.old.id) × (share.new.table_id ≡ share.old.table_id) }
         ensures fits { AreOfOneWhole (part_in share.old.views ∷ self.old.parts) }
+        ensures changed { let all = C.change (part_in share.old.views ∷ self.old.parts) in (self.new.parts ≡ below all) × (share.new.views ≡ top all ∷ []) }
     {
         self.join(share);
-        self.look();
-    }
-
-    /// The lot that is held has a new length, and its book too.
-    pub fn set_held(&mut self, len: u32)
-        ensures { (self.new.id ≡ self.old.id) × (self.new.parts ≡ with_length len self.old.parts) }
-    {
-        self.set_length::<Brand>(len);
+        self.play::<C>();
+        *share = self.split();
     }
 
     /// Shows that the share and the vault's own parts are of one whole.
@@ -141,8 +115,7 @@ impl Shares {
         ensures same { (self.new ≡ self.old) × (share.new.table_id ≡ share.old.table_id) × (share.new.views ≡ share.old.views) }
         ensures fits { AreOfOneWhole (part_in share.old.views ∷ self.old.parts) }
     {
-        self.hold(share);
-        *share = self.split();
+        self.change::<Brand>(share, 0);
     }
 
     /// The lot of the share has a new length, and its book too. What it had belongs to one whole.
@@ -152,9 +125,7 @@ impl Shares {
         ensures fits { AreOfOneWhole (part_in share.old.views ∷ self.old.parts) }
         ensures changed { let all = with_length len (part_in share.old.views ∷ self.old.parts) in (self.new.parts ≡ below all) × (share.new.views ≡ top all ∷ []) }
     {
-        self.join(share);
-        self.set_length::<Brand>(len);
-        *share = self.split();
+        self.change::<Brand>(share, len);
     }
 
     /// The tally of the share has taken so many bytes more, and so has the vault's book.
@@ -164,9 +135,7 @@ impl Shares {
         ensures fits { AreOfOneWhole (part_in share.old.views ∷ self.old.parts) }
         ensures changed { let all = with_taken bytes (part_in share.old.views ∷ self.old.parts) in (self.new.parts ≡ below all) × (share.new.views ≡ top all ∷ []) }
     {
-        self.join(share);
-        self.take::<Brand>(bytes);
-        *share = self.split();
+        self.change::<Brand>(share, bytes);
     }
 
     /// The tally of the share has given so many bytes more back, and so has the vault's book.
@@ -176,8 +145,6 @@ impl Shares {
         ensures fits { AreOfOneWhole (part_in share.old.views ∷ self.old.parts) }
         ensures changed { let all = with_back bytes (part_in share.old.views ∷ self.old.parts) in (self.new.parts ≡ below all) × (share.new.views ≡ top all ∷ []) }
     {
-        self.join(share);
-        self.give_back::<Brand>(bytes);
-        *share = self.split();
+        self.change::<Brand>(share, bytes);
     }
 }

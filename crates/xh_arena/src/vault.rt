@@ -107,16 +107,12 @@ impl Vault {
         ensures exact { (e : Refused) → RefusesCarve n self.old.arena e → result ≡ Err e }
         ensures lawful { IsLawfulArena self.new.arena }
     {
-        self.shares.hold(&mut lot.share);
+        self.shares.look_at(&mut lot.share);
         let start = match self.arena.carve(lot.index, n) {
             Ok(at) => at,
-            Err(refused) => {
-                lot.share = self.shares.split();
-                return Err(refused);
-            }
+            Err(refused) => return Err(refused),
         };
-        self.shares.set_held(n);
-        lot.share = self.shares.split();
+        self.shares.set_length_of(&mut lot.share, n);
         self.shares.take_by(&mut tally.share, n);
         lot.len = n;
         tally.taken += u64::from(n);
@@ -166,8 +162,7 @@ impl Vault {
         ensures same { (self.new ≡ self.old) × (lot.new ≡ lot.old) }
         ensures lot { IsLotOf self.old.arena lot.old }
     {
-        let share = &mut lot.share;
-        self.shares.look_at(share);
+        self.shares.look_at(&mut lot.share);
     }
 
     /// Takes a tally in for good. Once each tally of the vault was taken in, what they took is what the arena handed

@@ -3,6 +3,7 @@ use Rattle.std.proofs.Common.{◌≡◌, ◌≢◌, ℕ, suc, ◌+◌, ◌*◌, 
 use Rattle.std.specs.Prelude.{Option, Some, None, is_none, is_some, slice_range, ◌==◌, nat_lt, slice_set, slice_index_or, option_map}
 use Rattle.std.specs.List.{position, position_or_len, range_with_len}
 use Rattle.std.proofs.lemmas.Bool.{cases_eq, cases_Bool, false≢true, eq-eqb, ne_eqb, lt-ltb, eqb-true}
+use Rattle.std.proofs.lemmas.Bool.Decides.{nat_tests}
 use Rattle.std.proofs.lemmas.List.{length-set, length-take-le, set-set, set-get_or, get_or-take, get_or-drop}
 use Rattle.std.proofs.lemmas.List.FromFn.{length-range_with_len, get_or-range_with_len}
 use Rattle.std.proofs.lemmas.List.Quantifiers.{position-Some}
@@ -151,16 +152,10 @@ pub one_time : (q r : ℕ) → times q (r ∷ []) ≡ cond (r == q) 1 0
 one_time q r = times-cons q r [] ∙ elim (cases_Bool (r == q)) [ inl y ↦ rw y refl | inr f ↦ rw f refl ]
 
 pub is_one : (q r : ℕ) → nat_lt 0 (times q (r ∷ [])) ≡ (q == r)
-is_one q r = ap (λ (n : ℕ). nat_lt 0 n) (one_time q r) ∙ elim (cases_eq q r) [
-  | inl e ↦ rw (eq-eqb q r e, eq-eqb r q (sym e)) refl
-  | inr n ↦ rw (ne_eqb q r n, ne_eqb r q (λ e. n (sym e))) refl
-]
+is_one q r = let t = one_time q r in grind (arith, nat_tests, t)
 
 one_at_most : (q r : ℕ) → times q (r ∷ []) ≤ 1
-one_at_most q r = let e : times q (r ∷ []) ≡ cond (r == q) 1 0 = one_time q r in elim (cases_Bool (r == q)) [
-  | inl y ↦ (let f : times q (r ∷ []) ≡ 1 = e ∙ rw y refl in omega (arith, f))
-  | inr n ↦ (let f : times q (r ∷ []) ≡ 0 = e ∙ rw n refl in omega (arith, f))
-]
+one_at_most q r = let t = one_time q r in grind (arith, nat_tests, t)
 
 -- one record is claimed, and has bytes then
 pub gained_one : (s t : Store) (p r : ℕ) → IsLawful t → Claimed p r s (after (Claim p r) s) → owner s r ≡ None → t.owners ≡ (after (Claim p r) s).owners → 0 < len t r →

@@ -1,22 +1,17 @@
 -- The first refusal of a table made of tables.
-use Rattle.std.proofs.Common.{◌≡◌, List, [], ◌∷◌, ◌++◌, Bool, refl, sym, ap, inl, inr}
+use Rattle.std.proofs.Common.{◌≡◌, List, [], ◌∷◌, ◌++◌, Bool, refl, ap, arith}
 use Rattle.std.specs.Prelude.{Some, None, is_some}
-use Rattle.std.proofs.lemmas.Bool.{cases_Bool, false≢true}
+use Rattle.std.proofs.lemmas.Bool.{false≢true}
+use Rattle.std.proofs.lemmas.Bool.Decides.{nat_tests}
 use Rattle.xh_core.specs.declared.refused.Refused.{Refused}
 use Rattle.xh_core.specs.Refusing.{first_refusal}
 
 -- what one table refuses first, it refuses with more behind
 pub first_append : (a b : List (Bool × Refused)) (e : Refused) → first_refusal a ≡ Some e → first_refusal (a ++ b) ≡ Some e
 first_append [] b e h = absurd (false≢true (ap is_some h))
-first_append (test ∷ tests) b e h = elim (cases_Bool test.0) [
-  | inl y ↦ rw y (rw y at h)
-  | inr f ↦ rw f (first_append tests b e (rw f at h))
-]
+first_append (test ∷ tests) b e h = let more = first_append tests b e in grind (arith, nat_tests, more, h)
 
 -- what refuses nothing is passed over
 pub first_later : (a b : List (Bool × Refused)) → first_refusal a ≡ None → first_refusal (a ++ b) ≡ first_refusal b
 first_later [] b h = refl
-first_later (test ∷ tests) b h = elim (cases_Bool test.0) [
-  | inl y ↦ absurd (false≢true (ap is_some (sym (rw y at h))))
-  | inr f ↦ rw f (first_later tests b (rw f at h))
-]
+first_later (test ∷ tests) b h = let more = first_later tests b in grind (arith, nat_tests, more, h)

@@ -3,7 +3,8 @@ use Rattle.std.proofs.Common.{◌≡◌, ℕ, zero, suc, ◌+◌, ◌*◌, ◌/�
 use Rattle.std.specs.Prelude.{Option, Some, None, All, is_some, replicate, slice_index_or}
 use Rattle.std.proofs.lemmas.Bool.{false≢true}
 use Rattle.std.proofs.lemmas.List.{length-replicate}
-use Rattle.std.proofs.lemmas.List.Sums.{sum_by-cons}
+use Rattle.std.proofs.lemmas.List.Folds.{sum_by-replicate}
+use Rattle.std.proofs.lemmas.List.Elements.{All-replicate}
 use Rattle.xh_model.specs.Cover.{bytes_out, length_of}
 use Rattle.xh_model.specs.Arena.{ArenaState, IsLawfulArena}
 use Rattle.xh_model.specs.declared.config.Config.{Config}
@@ -27,17 +28,8 @@ alike P zero k a d x y = y
 alike P (suc n) zero a d x y = x
 alike P (suc n) (suc k) a d x y = alike P n k a d x y
 
-all_alike : {A : Type 0} (P : A → Type 0) (n : ℕ) (a : A) → P a → All P (replicate n a)
-all_alike P zero a x k d l = absurd (omega arith)
-all_alike P (suc n) a x zero d l = x
-all_alike P (suc n) a x (suc k) d l = all_alike P n a x k d (omega arith)
-
 none_out : (n : ℕ) → bytes_out (replicate n None) ≡ 0
-none_out zero = refl
-none_out (suc n) =
-    let rest = none_out n in
-    let first : bytes_out (None ∷ replicate n None) ≡ 0 + bytes_out (replicate n None) = sum_by-cons (λ (x : Option ℕ). cond (is_some x) 1 0) None (replicate n None) in
-    omega (arith, rest, first)
+none_out n = omega (arith, sum_by-replicate (λ (x : Option ℕ). cond {A = ℕ} (is_some x) 1 0) n None)
 
 -- nothing but nothing is lawful
 blank : (n i w l : ℕ) → IsLawfulArena (record { cover = replicate n None; records = i; wear = w; limit = l })
@@ -67,11 +59,11 @@ module _ (c : Config) (is : IsConfig c) where
 
   pub new_records : (k : ℕ) → k < length (new_store c).arenas → (arena_at (new_store c) k).records ≡ c.records
   unfolding new_store
-  new_records k l = all_alike (λ (a : ArenaState). a.records ≡ c.records) c.arenas _ refl k no_arena l
+  new_records k l = All-replicate (λ (a : ArenaState). a.records ≡ c.records) c.arenas _ refl k no_arena l
 
   pub new_carved : AreCarved (new_store c)
   unfolding new_store
-  new_carved = all_alike IsCarved c.arenas _ (let z = none_out c.bytes in omega (arith, z))
+  new_carved = All-replicate IsCarved c.arenas _ (let z = none_out c.bytes in omega (arith, z))
 
   pub new_totals : AreTotals (new_store c) (replicate 4096 0)
   unfolding new_store

@@ -1,12 +1,17 @@
 -- The lengths of the records where one arena is another.
 use Rattle.std.proofs.Common.{◌≡◌, ◌≢◌, ℕ, ◌/◌, ◌%◌, ◌<◌, length, refl, sym, ap, ◌∙◌, arith, inl, inr, get_or-set_same, get_or-set_other}
 use Rattle.std.proofs.lemmas.Bool.{cases_eq}
+use Rattle.std.proofs.lemmas.List.{set-get_or}
 use Rattle.xh_model.specs.Cover.{SameRun, length_of}
 use Rattle.xh_model.specs.Arena.{ArenaState}
 use Rattle.xh_model.specs.Store.{Store, no_arena, arena_at, arena_of, len, with_arena}
 
 pub same_number : (q r : ℕ) → q / 256 ≡ r / 256 → q % 256 ≡ r % 256 → q ≡ r
 same_number q r a b = omega arith
+
+-- an arena that is put in as it was
+pub same_arena : (s : Store) (k : ℕ) (a : ArenaState) → a ≡ arena_at s k → with_arena k a s ≡ s
+same_arena s k a e = rw (e, set-get_or s.arenas k no_arena) refl
 
 -- a record of the arena that is put in
 pub len_here : (s : Store) (k q : ℕ) (a : ArenaState) → k < length s.arenas → q / 256 ≡ k → len (with_arena k a s) q ≡ length_of (q % 256) a.cover
@@ -16,14 +21,6 @@ len_here s k q a l e = rw (e, get_or-set_same s.arenas k a no_arena l) refl
 pub len_else : (s : Store) (k q : ℕ) (a : ArenaState) → q / 256 ≢ k → len (with_arena k a s) q ≡ len s q
 len_else s k q a n = ap (λ (b : ArenaState). length_of (q % 256) b.cover) (get_or-set_other s.arenas k (q / 256) a no_arena n)
 
--- all records but r keep their lengths
-pub len_but_one : (s : Store) (r : ℕ) (a : ArenaState) → r / 256 < length s.arenas → ((j : ℕ) → j ≢ r % 256 → SameRun j (arena_of s r).cover a.cover) →
-    (q : ℕ) → q ≢ r → len (with_arena (r / 256) a s) q ≡ len s q
-len_but_one s r a l others q n = elim (cases_eq (q / 256) (r / 256)) [
-  | inl e ↦ len_here s (r / 256) q a l e ∙ ((others (q % 256) (λ f. n (same_number q r e f))).1 ∙ ap (λ k. length_of (q % 256) (arena_at s k).cover) (sym e))
-  | inr d ↦ len_else s (r / 256) q a d
-]
-
 -- all records but r and t keep their lengths
 pub len_but_two : (s : Store) (r t : ℕ) (a : ArenaState) → r / 256 < length s.arenas → r / 256 ≡ t / 256 → ((j : ℕ) → j ≢ r % 256 → j ≢ t % 256 → SameRun j (arena_of s r).cover a.cover) →
     (q : ℕ) → q ≢ r → q ≢ t → len (with_arena (r / 256) a s) q ≡ len s q
@@ -31,3 +28,8 @@ len_but_two s r t a l both others q n m = elim (cases_eq (q / 256) (r / 256)) [
   | inl e ↦ len_here s (r / 256) q a l e ∙ ((others (q % 256) (λ f. n (same_number q r e f)) (λ f. m (same_number q t (e ∙ both) f))).1 ∙ ap (λ k. length_of (q % 256) (arena_at s k).cover) (sym e))
   | inr d ↦ len_else s (r / 256) q a d
 ]
+
+-- all records but r keep their lengths
+pub len_but_one : (s : Store) (r : ℕ) (a : ArenaState) → r / 256 < length s.arenas → ((j : ℕ) → j ≢ r % 256 → SameRun j (arena_of s r).cover a.cover) →
+    (q : ℕ) → q ≢ r → len (with_arena (r / 256) a s) q ≡ len s q
+len_but_one s r a l others q n = len_but_two s r r a l refl (λ j x _. others j x) q n n

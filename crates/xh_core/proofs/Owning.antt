@@ -3,7 +3,8 @@ use Rattle.std.proofs.Common.{◌≡◌, ◌≢◌, ℕ, ◌+◌, ◌-◌, ◌*�
 use Rattle.std.specs.Prelude.{Option, Some, None, ◌==◌, is_some, slice_index_or}
 use Rattle.std.specs.List.{sum_by, range_with_len}
 use Rattle.std.proofs.lemmas.Bool.{cases_Bool, cases_eq, eq-eqb, false≢true, ne_eqb}
-use Rattle.std.proofs.lemmas.List.{length-set, set-get_or}
+use Rattle.std.proofs.lemmas.Bool.Decides.{nat_tests}
+use Rattle.std.proofs.lemmas.List.{length-set}
 use Rattle.std.proofs.lemmas.List.Sums.{sum_by-le, count_by-le-length}
 use Rattle.std.proofs.lemmas.List.FromFn.{length-range_with_len}
 use Rattle.xh_model.specs.Cover.{SameRun, is_of, length_of}
@@ -23,19 +24,13 @@ pub at_more : (o : Option Holder) (n p : ℕ) (ts : List ℕ) → ((q : ℕ) →
     slice_index_or (with_more o n ts) p 0 ≡ slice_index_or ts p 0 + cond (is_held_by o (Process p)) n 0
 at_more None n p ts l = omega arith
 at_more (Some (Direction d)) n p ts l = omega arith
-at_more (Some (Process q)) n p ts l = elim (cases_eq q p) [
-  | inl e ↦ at_set ts q p (slice_index_or ts q 0 + n) 0 (l q refl) ∙ rw (eq-eqb p q (sym e), eq-eqb q p e, e) refl
-  | inr ne ↦ at_set ts q p (slice_index_or ts q 0 + n) 0 (l q refl) ∙ rw (ne_eqb p q (λ e. ne (sym e)), ne_eqb q p ne) (omega arith)
-]
+at_more (Some (Process q)) n p ts l = let t = at_set ts q p (slice_index_or ts q 0 + n) 0 (l q refl) in grind (arith, nat_tests, t)
 
 pub at_less : (o : Option Holder) (n p : ℕ) (ts : List ℕ) → ((q : ℕ) → o ≡ Some (Process q) → q < length ts) →
     slice_index_or (with_less o n ts) p 0 ≡ slice_index_or ts p 0 - cond (is_held_by o (Process p)) n 0
 at_less None n p ts l = omega arith
 at_less (Some (Direction d)) n p ts l = omega arith
-at_less (Some (Process q)) n p ts l = elim (cases_eq q p) [
-  | inl e ↦ at_set ts q p (slice_index_or ts q 0 - n) 0 (l q refl) ∙ rw (eq-eqb p q (sym e), eq-eqb q p e, e) refl
-  | inr ne ↦ at_set ts q p (slice_index_or ts q 0 - n) 0 (l q refl) ∙ rw (ne_eqb p q (λ e. ne (sym e)), ne_eqb q p ne) (omega arith)
-]
+at_less (Some (Process q)) n p ts l = let t = at_set ts q p (slice_index_or ts q 0 - n) 0 (l q refl) in grind (arith, nat_tests, t)
 
 long_more : (o : Option Holder) (n : ℕ) (ts : List ℕ) → length (with_more o n ts) ≡ length ts
 long_more None n ts = refl
@@ -50,8 +45,7 @@ long_less (Some (Process q)) n ts = length-set ts q (slice_index_or ts q 0 - n)
 -- ---- bounds
 
 at_most : (b : Bool) (n m : ℕ) → n ≤ m → cond b n 0 ≤ m
-at_most true n m l = l
-at_most false n m l = omega arith
+at_most b n m l = grind arith
 
 -- no holder has more bytes than there are
 pub few_bytes : (s : Store) (h : Holder) → length s.arenas ≤ 8 → ((k : ℕ) → length (arena_at s k).cover ≤ 1048576) → bytes_of s h ≤ 2147483648
@@ -89,10 +83,7 @@ no_bytes None n i e = i
 no_bytes (Some h) n i e = absurd (false≢true (sym e))
 
 pub unknown_empty : (s : Store) (r : ℕ) → IsLawful s → is_known s r ≡ false → len s r ≡ 0
-unknown_empty s r w e = elim (cases_Bool (is_some (owner s r))) [
-  | inl h ↦ absurd (false≢true (sym e ∙ w.known r h))
-  | inr n ↦ no_bytes (owner s r) (len s r) (w.owned r) n
-]
+unknown_empty s r w e = let none = no_bytes (owner s r) (len s r) (w.owned r) in let known = w.known r in grind (arith, nat_tests, none, known, e)
 
 -- ---- a record changes hands
 
@@ -126,9 +117,6 @@ totals_handed s ts r o w known owns t =
     }
 
 -- ---- an arena changes
-
-pub totals_same : (s : Store) (ts : List ℕ) (k : ℕ) (a : ArenaState) → AreTotals s ts → a ≡ arena_at s k → AreTotals (with_arena k a s) ts
-totals_same s ts k a w e = rw (e, set-get_or s.arenas k no_arena) w
 
 same_sizes : (s : Store) (k : ℕ) (a : ArenaState) → k < length s.arenas → length a.cover ≡ length (arena_at s k).cover →
     ((j : ℕ) → length (arena_at s j).cover ≤ 1048576) → (j : ℕ) → length (arena_at (with_arena k a s) j).cover ≤ 1048576
@@ -178,8 +166,7 @@ totals_less s ts p r a w t l own e others size = record {
 }
 
 both_or_none : (b : Bool) (x y u v : ℕ) → x + y ≡ u + v → cond b x 0 + cond b y 0 ≡ cond b u 0 + cond b v 0
-both_or_none true x y u v e = e
-both_or_none false x y u v e = refl
+both_or_none b x y u v e = grind arith
 
 -- bytes of a process's record are another one's of the same process
 pub totals_cut : (s : Store) (ts : List ℕ) (p r t : ℕ) (a : ArenaState) → AreTotals s ts → r / 256 < length s.arenas → r / 256 ≡ t / 256 → r ≢ t →

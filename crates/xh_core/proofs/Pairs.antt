@@ -1,8 +1,8 @@
 -- Two free records are claimed and get bytes, and one of them changes hands.
 use Rattle.std.proofs.Common.{◌≡◌, ◌≢◌, ℕ, ◌+◌, ◌/◌, ◌<◌, List, length, Bool, true, false, cond, refl, sym, ap, ◌∙◌, subst, arith, inl, inr, get_or-set_same}
 use Rattle.std.specs.Prelude.{Option, Some, None, is_none, ◌==◌, ◌||◌, slice_set, slice_index_or, unwrap_or}
-use Rattle.std.proofs.lemmas.Bool.{cases_eq, cases_Bool, false≢true, eq-eqb, ne_eqb, lt-ltb}
-use Rattle.std.proofs.lemmas.List.{length-set, set-set}
+use Rattle.std.proofs.lemmas.Bool.{cases_eq, cases_Bool, eq-eqb, ne_eqb, lt-ltb}
+use Rattle.std.proofs.lemmas.List.{length-set, set-set, set-get_or}
 use Rattle.xh_model.specs.declared.event.Holder.{Holder}
 use Rattle.xh_model.specs.declared.event.Holder.TheVariants.{Process, Direction}
 use Rattle.xh_model.specs.declared.event.Event.TheVariants.{Claim, Carve, Cut, Vacate, Pass, Accept}
@@ -16,7 +16,7 @@ use Rattle.xh_core.specs.Several.{handed}
 use Rattle.xh_core.specs.inner.Pairing.{ClaimedTwo}
 use Rattle.xh_core.specs.Pairing.{Paired, moved}
 use Rattle.xh_core.proofs.Stores.{done, own_holder, at_set, same_len}
-use Rattle.xh_core.proofs.Claiming.{IsFree, free_is, Claimed, claimed, unclaimed, carve-owners, cut-owners, same_space}
+use Rattle.xh_core.proofs.Claiming.{IsFree, free_is, Claimed, claimed, unclaimed, apart, carve-owners, cut-owners, same_space}
 
 -- p claimed r, and then t
 pub record TwoClaimed (p r t : ℕ) (s n : Store) : Type 0 where
@@ -35,9 +35,6 @@ pub record TwoClaimed (p r t : ℕ) (s n : Store) : Type 0 where
   pub owners : (q : ℕ) → owner n q ≡ cond (q == t) (Some (Process p)) (cond (q == r) (Some (Process p)) (owner s q))
   pub many : length n.owners ≡ length s.owners
   pub back : after (Vacate p r) (after (Vacate p t) n) ≡ s
-
-not_held : (s : Store) (p r : ℕ) → holds s (Process p) r ≡ true → owner s r ≡ None → ⊥
-not_held s p r h e = false≢true (ap (λ o. is_held_by o (Process p)) (sym e) ∙ h)
 
 -- the number of the lowest free record, where there is one
 pub lowest_is : (s : Store) (a r : ℕ) → free_record s a ≡ Some r → lowest s a ≡ r
@@ -62,14 +59,14 @@ two_claimed s p a r t w l low high =
     let w1 : IsLawful mid = claim_lawful s p r w l fr.known fr.free in
     let ft : IsFree mid a t = free_is mid a t w1 high in
     let two : Claimed p t mid (after (Claim p t) mid) = claimed mid p t w1 l ft.known ft.free in
-    let apart : r ≢ t = (λ e. not_held mid p r one.holds (subst (λ (x : ℕ). owner mid x ≡ None) (sym e) ft.free)) in
-    let other : (t == r) ≡ false = ne_eqb t r (λ e. apart (sym e)) in
-    let else : (r == t) ≡ false = ne_eqb r t apart in
+    let unlike : r ≢ t = apart mid p r t one.holds ft.free in
+    let other : (t == r) ≡ false = ne_eqb t r (λ e. unlike (sym e)) in
+    let else : (r == t) ≡ false = ne_eqb r t unlike in
     let own_r : owner (after (Claim p t) mid) r ≡ owner mid r = two.owners r ∙ rw else refl in
     let kept_t : owner mid t ≡ owner s t = one.owners t ∙ rw other refl in
     let same : (after (Claim p t) mid).arenas ≡ mid.arenas = two.arenas in
     record {
-      apart = apart;
+      apart = unlike;
       both = fr.arena ∙ sym ft.arena;
       free_r = fr.free;
       free_t = sym kept_t ∙ ft.free;
@@ -164,26 +161,11 @@ paired_owners : (p a r t : ℕ) (s n : Store) → Paired p a r t s n → n.owner
 paired_owners p a r t s n g = let two : Store = after (Claim p t) (after (Claim p r) s) in
     ap (λ (x : Store). x.owners) g.is ∙ (cut-owners (after (Carve p r 64) two) p r t 32 ∙ carve-owners two p r 64)
 
-moved_lens : (p q t d : ℕ) (s : Store) → q < 4096 → d < 128 → holds s (Process p) t ≡ true → 0 < len s t → t < length s.owners → (moved p q t d s).arenas ≡ s.arenas
-moved_lens p q t d s ql dl h some there = elim (cases_Bool (p == q)) [
-  | inl y ↦ rw y refl
-  | inr f ↦ rw (f, handed_is p q t d s ql dl h some there) refl
-]
-
-moved_owners : (p q t d : ℕ) (s : Store) → q < 4096 → d < 128 → owner s t ≡ Some (Process p) → 0 < len s t → t < length s.owners → (k : ℕ) →
-    owner (moved p q t d s) k ≡ cond (k == t) (Some (Process q)) (owner s k)
-moved_owners p q t d s ql dl own some there k = elim (cases_eq p q) [
-  | inl e ↦ rw (eq-eqb p q e) (elim (cases_eq k t) [
-    | inl f ↦ rw (eq-eqb k t f) (ap (λ (x : ℕ). owner s x) f ∙ (own ∙ ap (λ (x : ℕ). Some (Process x)) e))
-    | inr n ↦ rw (ne_eqb k t n) refl
-  ])
-  | inr n ↦ rw (ne_eqb p q n, handed_is p q t d s ql dl (own_holder s p t own) some there) (at_set s.owners t k (Some (Process q)) None there)
-]
-
-moved_many : (p q t d : ℕ) (s : Store) → q < 4096 → d < 128 → holds s (Process p) t ≡ true → 0 < len s t → t < length s.owners → length (moved p q t d s).owners ≡ length s.owners
-moved_many p q t d s ql dl h some there = elim (cases_Bool (p == q)) [
-  | inl y ↦ rw y refl
-  | inr f ↦ rw (f, handed_is p q t d s ql dl h some there) (length-set s.owners t (Some (Process q)))
+-- an end that its owner keeps, or hands over, is the new owner's
+moved_is : (p q t d : ℕ) (s : Store) → q < 4096 → d < 128 → owner s t ≡ Some (Process p) → 0 < len s t → t < length s.owners → moved p q t d s ≡ with_owner t (Some (Process q)) s
+moved_is p q t d s ql dl own some there = elim (cases_eq p q) [
+  | inl e ↦ rw (eq-eqb p q e) (let same : slice_set s.owners t (Some (Process q)) ≡ s.owners = rw (← e, ← own) (set-get_or s.owners t None) in ap (λ (os : List (Option Holder)). record s { owners = os }) (sym same))
+  | inr n ↦ rw (ne_eqb p q n) (handed_is p q t d s ql dl (own_holder s p t own) some there)
 ]
 
 later_owner : (a b : Bool) (p q : ℕ) (o : Option Holder) → cond a (Some (Process q)) (cond a (Some (Process p)) (cond b (Some (Process p)) o)) ≡ cond a (Some (Process q)) (cond b (Some (Process p)) o)
@@ -200,14 +182,13 @@ shared p q a r t d s n w pl ql dl g lawful =
     let owners : (k : ℕ) → owner n k ≡ cond (k == t) (Some (Process p)) (cond (k == r) (Some (Process p)) (owner s k)) =
     (λ k. ap (λ (os : List (Option Holder)). slice_index_or os k None) same ∙ c.owners k) in
     let own : owner n t ≡ Some (Process p) = owners t ∙ rw (eq-eqb t t refl) refl in
-    let h : holds n (Process p) t ≡ true = own_holder n p t own in
     let many : length n.owners ≡ length s.owners = ap length same ∙ c.many in
     let there : t < length n.owners = subst (λ (x : ℕ). t < x) (sym many) c.there_t in
     let tail = g.tail in
     let head = g.head in
     let some : 0 < len n t = omega (arith, tail) in
-    let arenas : (moved p q t d n).arenas ≡ n.arenas = moved_lens p q t d n ql dl h some there in
-    let lens : (k : ℕ) → len (moved p q t d n) k ≡ len n k = (λ k. same_len n (moved p q t d n) k arenas) in
+    let is : moved p q t d n ≡ with_owner t (Some (Process q)) n = moved_is p q t d n ql dl own some there in
+    let lens : (k : ℕ) → len (moved p q t d n) k ≡ len n k = (λ k. ap (λ (x : Store). len x k) is) in
     let lr : len (moved p q t d n) r ≡ 32 = lens r ∙ head in
     let lt : len (moved p q t d n) t ≡ 32 = lens t ∙ tail in
     record {
@@ -217,9 +198,10 @@ shared p q a r t d s n w pl ql dl g lawful =
       free_t = c.free_t;
       there_r = c.there_r;
       there_t = c.there_t;
-      owners = λ k. moved_owners p q t d n ql dl own some there k ∙ (ap (λ (o : Option Holder). cond (k == t) (Some (Process q)) o) (owners k) ∙ later_owner (k == t) (k == r) p q (owner s k));
+      owners = λ k. ap (λ (x : Store). owner x k) is ∙ (at_set n.owners t k (Some (Process q)) None there
+          ∙ (ap (λ (o : Option Holder). cond (k == t) (Some (Process q)) o) (owners k) ∙ later_owner (k == t) (k == r) p q (owner s k)));
       full_r = omega (arith, lr);
       full_t = omega (arith, lt);
       kept = λ k a b. lens k ∙ g.kept k a b;
-      many = moved_many p q t d n ql dl h some there ∙ many;
+      many = ap (λ (x : Store). length x.owners) is ∙ (length-set n.owners t (Some (Process q)) ∙ many);
     }

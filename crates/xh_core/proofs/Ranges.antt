@@ -3,16 +3,22 @@ use Rattle.std.proofs.Common.{◌≡◌, ◌≢◌, ℕ, zero, suc, ◌+◌, ◌
 use Rattle.std.specs.Prelude.{◌==◌, map, slice_index_or}
 use Rattle.std.specs.List.{sum_by, range_with_len}
 use Rattle.std.proofs.lemmas.Bool.{cases_eq, eq-eqb, ne_eqb}
+use Rattle.std.proofs.lemmas.Bool.Decides.{nat_tests}
 use Rattle.std.proofs.lemmas.List.Sums.{sum_by-cons}
 use Rattle.xh_model.proofs.Totals.{sum_zero, sum_add, sum_same}
 
+-- the terms of the range are the same
+pub same_range : (f g : ℕ → ℕ) (from k : ℕ) → ((q : ℕ) → from ≤ q → q < from + k → f q ≡ g q) → sum_by f (range_with_len from k) ≡ sum_by g (range_with_len from k)
+same_range f g from zero h = refl
+same_range f g from (suc k) h =
+    let a : sum_by f (range_with_len from (suc k)) ≡ f from + sum_by f (range_with_len (from + 1) k) = sum_by-cons f from (range_with_len (from + 1) k) in
+    let b : sum_by g (range_with_len from (suc k)) ≡ g from + sum_by g (range_with_len (from + 1) k) = sum_by-cons g from (range_with_len (from + 1) k) in
+    let e = h from (omega arith) (omega arith) in
+    let rest = same_range f g (from + 1) k (λ q l u. h q (omega arith) (omega arith)) in omega (arith, a, b, e, rest)
+
 -- no term of the range is more than nothing
 pub zero_after : (f : ℕ → ℕ) (from k : ℕ) → ((q : ℕ) → from ≤ q → f q ≡ 0) → sum_by f (range_with_len from k) ≡ 0
-zero_after f from zero h = refl
-zero_after f from (suc k) h =
-    let c : sum_by f (range_with_len from (suc k)) ≡ f from + sum_by f (range_with_len (from + 1) k) = sum_by-cons f from (range_with_len (from + 1) k) in
-    let z = h from (omega arith) in
-    let rest = zero_after f (from + 1) k (λ q l. h q (omega arith)) in omega arith
+zero_after f from k h = same_range f (λ _. 0) from k (λ q l u. h q l) ∙ sum_zero (range_with_len from k)
 
 -- one term of the range is n, and all others are nothing
 pub picked : (n p from k : ℕ) → from ≤ p → p < from + k → sum_by (λ q. cond {A = ℕ} (p == q) n 0) (range_with_len from k) ≡ n
@@ -35,10 +41,7 @@ picked n p from (suc k) a b =
 pub sum_but_one : (f g : ℕ → ℕ) (n r : ℕ) → r < n → ((q : ℕ) → q ≢ r → f q ≡ g q) → sum_by f (range_with_len 0 n) + g r ≡ sum_by g (range_with_len 0 n) + f r
 sum_but_one f g n r l h =
     let rs : List ℕ = range_with_len 0 n in
-    let both : sum_by (λ q. f q + cond {A = ℕ} (r == q) (g r) 0) rs ≡ sum_by (λ q. g q + cond {A = ℕ} (r == q) (f r) 0) rs = sum_same _ _ rs (λ q. elim (cases_eq r q) [
-      | inl e ↦ (let a : f q ≡ f r = ap f (sym e) in let b : g q ≡ g r = ap g (sym e) in rw (eq-eqb r q e) (omega (arith, a, b)))
-      | inr d ↦ rw (ne_eqb r q d) (ap (λ k. k + 0) (h q (λ e. d (sym e))))
-    ]) in
+    let both : sum_by (λ q. f q + cond {A = ℕ} (r == q) (g r) 0) rs ≡ sum_by (λ q. g q + cond {A = ℕ} (r == q) (f r) 0) rs = sum_same _ _ rs (λ q. let other = h q in grind (arith, nat_tests, other)) in
     let a = sum_add f (λ q. cond {A = ℕ} (r == q) (g r) 0) rs in
     let b = sum_add g (λ q. cond {A = ℕ} (r == q) (f r) 0) rs in
     let x = picked (g r) r 0 n (omega arith) (omega arith) in
@@ -60,19 +63,7 @@ sum_but_two f g n r t l m other h e =
     let here : mid r ≡ f r = rw (eq-eqb r r refl) refl in
     let there : mid t ≡ g t = rw (ne_eqb t r (λ x. other (sym x))) refl in
     let a = sum_but_one mid g n r l (λ q d. rw (ne_eqb q r d) refl) in
-    let b = sum_but_one f mid n t m (λ q d. elim (cases_eq q r) [
-      | inl x ↦ rw (eq-eqb q r x) (ap f x)
-      | inr nr ↦ rw (ne_eqb q r nr) (h q nr d)
-    ]) in omega (arith, a, b, here, there, e)
-
--- the terms of the range are the same
-pub same_range : (f g : ℕ → ℕ) (from k : ℕ) → ((q : ℕ) → from ≤ q → q < from + k → f q ≡ g q) → sum_by f (range_with_len from k) ≡ sum_by g (range_with_len from k)
-same_range f g from zero h = refl
-same_range f g from (suc k) h =
-    let a : sum_by f (range_with_len from (suc k)) ≡ f from + sum_by f (range_with_len (from + 1) k) = sum_by-cons f from (range_with_len (from + 1) k) in
-    let b : sum_by g (range_with_len from (suc k)) ≡ g from + sum_by g (range_with_len (from + 1) k) = sum_by-cons g from (range_with_len (from + 1) k) in
-    let e = h from (omega arith) (omega arith) in
-    let rest = same_range f g (from + 1) k (λ q l u. h q (omega arith) (omega arith)) in omega (arith, a, b, e, rest)
+    let b = sum_but_one f mid n t m (λ q d. let more = h q in grind (arith, nat_tests, more)) in omega (arith, a, b, here, there, e)
 
 -- the two sums may change places
 pub exchanged : (f : ℕ → ℕ → ℕ) (ps ks : List ℕ) → sum_by (λ p. sum_by (f p) ks) ps ≡ sum_by (λ k. sum_by (λ p. f p k) ps) ks

@@ -14,9 +14,9 @@ use Rattle.xh_model.specs.Arena.{ArenaState}
 use Rattle.xh_model.specs.Store.{Store, no_arena, owner, arena_of, arena_at, len, holds, is_held_by, is_known, can, change, after, IsLawful}
 use Rattle.xh_model.proofs.Changed.{known_there}
 use Rattle.xh_model.proofs.Lawful.{held_known}
-use Rattle.xh_model.proofs.Returned.{given-own, given-other}
+use Rattle.xh_model.proofs.Returned.{given-own, given-run}
 use Rattle.xh_core.specs.Several.{times, accept_all}
-use Rattle.xh_core.proofs.Lengths.{same_number}
+use Rattle.xh_core.proofs.Lengths.{len_but_one}
 
 pub done : (e : Event) (s : Store) → can e s ≡ true → after e s ≡ change e s
 unfolding after
@@ -34,17 +34,11 @@ same_direction (Some (Process q)) p h = absurd (false≢true h)
 
 -- a record with a holder is there
 pub is_there : (s : Store) (h : Holder) (r : ℕ) → holds s h r ≡ true → r < length s.owners
-is_there s h r e = elim (cases_lt r (length s.owners)) [
-  | inl l ↦ l
-  | inr g ↦ let n : owner s r ≡ None = get_or_past s.owners r None g in absurd (false≢true (ap (λ o. is_held_by o h) (sym n) ∙ e))
-]
+is_there s h r e = let past = get_or_past s.owners r None in grind (arith, nat_tests, past, e)
 
 -- what a list holds at each place once one place was written
 pub at_set : {A : Type 0} (xs : List A) (i k : ℕ) (x d : A) → i < length xs → slice_index_or (slice_set xs i x) k d ≡ cond (k == i) x (slice_index_or xs k d)
-at_set xs i k x d l = elim (cases_eq k i) [
-  | inl e ↦ ap (λ (j : ℕ). slice_index_or (slice_set xs i x) j d) e ∙ (get_or-set_same xs i x d l ∙ rw (eq-eqb k i e) refl)
-  | inr n ↦ get_or-set_other xs i k x d n ∙ rw (ne_eqb k i n) refl
-]
+at_set xs i k x d l = let here = get_or-set_same xs i x d l in let else = get_or-set_other xs i k x d in grind (arith, nat_tests, here, else)
 
 pub own_holder : (s : Store) (p r : ℕ) → owner s r ≡ Some (Process p) → holds s (Process p) r ≡ true
 own_holder s p r e = rw e (eq-eqb p p refl)
@@ -69,34 +63,21 @@ one_accepted p d r q s l h = rw (accept_here p d r s l h) (at_set s.owners r q (
 
 -- the first of them is held and stands no more behind
 first_held : (d r : ℕ) (rs : List ℕ) (b : Bool) → times r (r ∷ rs) ≤ cond b 1 0 → (b ≡ true) × (times r rs ≡ 0)
-first_held d r rs b h = let e : times r (r ∷ rs) ≡ 1 + times r rs = times-cons r r rs ∙ rw (eq-eqb r r refl) refl in
-    elim (cases_Bool b) [
-      | inl y ↦ (let k : times r (r ∷ rs) ≤ 1 = rw y at h in (y, omega arith))
-      | inr n ↦ (let k : times r (r ∷ rs) ≤ 0 = rw n at h in absurd (omega arith))
-    ]
+first_held d r rs b h = let t = times-cons r r rs in (grind (arith, nat_tests, t, h), grind (arith, nat_tests, t, h))
 
 rest_held : (p d r : ℕ) (rs : List ℕ) (s : Store) → p < 4096 → ((q : ℕ) → times q (r ∷ rs) ≤ cond (holds s (Direction d) q) 1 0) →
     holds s (Direction d) r ≡ true → (q : ℕ) → times q rs ≤ cond (holds (after (Accept p r d) s) (Direction d) q) 1 0
-rest_held p d r rs s l h held q = elim (cases_eq q r) [
-  | inl e ↦ (let z : times r rs ≡ 0 = (first_held d r rs (holds s (Direction d) r) (h r)).1 in
-      let z2 : times q rs ≡ 0 = rw e z in omega arith)
-  | inr n ↦ (let o : owner (after (Accept p r d) s) q ≡ owner s q = one_accepted p d r q s l held ∙ rw (ne_eqb q r n) refl in
-      let t : times q (r ∷ rs) ≡ times q rs = times-cons q r rs ∙ rw (ne_eqb r q (λ e. n (sym e))) (omega arith) in
-      let k : times q (r ∷ rs) ≤ cond (holds s (Direction d) q) 1 0 = h q in
-      let k2 : times q rs ≤ cond (holds s (Direction d) q) 1 0 = subst (λ (x : ℕ). x ≤ cond (holds s (Direction d) q) 1 0) t k in
-      rw o k2)
-]
+rest_held p d r rs s l h held q =
+    let o = one_accepted p d r q s l held in
+    let t = times-cons q r rs in
+    let z = (first_held d r rs (holds s (Direction d) r) (h r)).1 in
+    let k = h q in
+    grind (arith, nat_tests, o, t, z, k)
 
 -- h holds these and one more
 pub all_owners : (h : Holder) (q r : ℕ) (rs : List ℕ) (o : Option Holder) →
     cond (nat_lt 0 (times q rs)) (Some h) (cond (q == r) (Some h) o) ≡ cond (nat_lt 0 (times q (r ∷ rs))) (Some h) o
-all_owners h q r rs o = let t : times q (r ∷ rs) ≡ cond (r == q) 1 0 + times q rs = times-cons q r rs in
-    elim (cases_eq q r) [
-      | inl e ↦ (let u : times q (r ∷ rs) ≡ 1 + times q rs = t ∙ rw (eq-eqb r q (sym e)) refl in
-          rw (eq-eqb q r e, lt-ltb 0 (times q (r ∷ rs)) (omega arith)) (elim (cases_Bool (nat_lt 0 (times q rs))) [ inl y ↦ rw y refl | inr n ↦ rw n refl ]))
-      | inr n ↦ (let u : times q (r ∷ rs) ≡ times q rs = t ∙ rw (ne_eqb r q (λ e. n (sym e))) (omega arith) in
-          rw (ne_eqb q r n, u) refl)
-    ]
+all_owners h q r rs o = let t = times-cons q r rs in grind (arith, nat_tests, t)
 
 pub accepted_all : (p d : ℕ) (rs : List ℕ) (s : Store) → p < 4096 → ((q : ℕ) → times q rs ≤ cond (holds s (Direction d) q) 1 0) → Accepted p rs s (accept_all p d rs s)
 accepted_all p d [] s l h = record { owners = λ q. refl; many = refl; arenas = refl }
@@ -125,15 +106,7 @@ len_back s p r l = ap (λ (a : ArenaState). length_of (r % 256) a.cover) (get_or
 
 -- the others have the bytes that they had
 pub len_back_else : (s : Store) (p r q : ℕ) → r / 256 < length s.arenas → q ≢ r → len (change (GiveBack p r) s) q ≡ len s q
-len_back_else s p r q l n = elim (cases_eq (q / 256) (r / 256)) [
-  | inl e ↦ (
-      let apart : q % 256 ≢ r % 256 = (λ f. n (same_number q r e f)) in
-      let now : arena_of (change (GiveBack p r) s) q ≡ arena_of (change (GiveBack p r) s) r = ap (λ (k : ℕ). arena_at (change (GiveBack p r) s) k) e in
-      let was : arena_of s q ≡ arena_of s r = ap (λ (k : ℕ). arena_at s k) e in
-      ap (λ (a : ArenaState). length_of (q % 256) a.cover) (now ∙ get_or-set_same s.arenas (r / 256) _ no_arena l)
-      ∙ (given-other (r % 256) (q % 256) (arena_of s r).cover apart ∙ ap (λ (a : ArenaState). length_of (q % 256) a.cover) (sym was)))
-  | inr d ↦ ap (λ (a : ArenaState). length_of (q % 256) a.cover) (get_or-set_other s.arenas (r / 256) (q / 256) _ no_arena d)
-]
+len_back_else s p r q l n = len_but_one s r _ l (λ j x. given-run (r % 256) j (arena_of s r).cover x) q n
 
 -- the arena of a record that someone holds is there
 pub arena_there : (s : Store) (h : Holder) (r : ℕ) → IsLawful s → holds s h r ≡ true → r / 256 < length s.arenas

@@ -1,14 +1,10 @@
 -- Arenas hand out what they carved, and no more.
 use Rattle.std.proofs.Common.{◌≡◌, ℕ, ◌+◌, ◌<◌, ◌≤◌, length, arith}
-use Rattle.std.proofs.lemmas.List.{set-get_or}
 use Rattle.std.proofs.lemmas.List.Elements.{All-get_or, All-set}
 use Rattle.xh_model.specs.Cover.{bytes_out}
 use Rattle.xh_model.specs.Arena.{ArenaState}
 use Rattle.xh_model.specs.Store.{Store, no_arena, arena_at, with_arena}
 use Rattle.xh_core.specs.Wearing.{IsCarved, AreCarved}
-
-pub carved_same : (s : Store) (k : ℕ) (a : ArenaState) → AreCarved s → a ≡ arena_at s k → AreCarved (with_arena k a s)
-carved_same s k a all e = rw (e, set-get_or s.arenas k no_arena) all
 
 was_carved : (s : Store) (k : ℕ) → k < length s.arenas → AreCarved s → bytes_out (arena_at s k).cover ≤ (arena_at s k).wear
 was_carved s k l all = All-get_or IsCarved s.arenas k no_arena l all

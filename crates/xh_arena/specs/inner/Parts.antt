@@ -9,15 +9,18 @@ abbrev pub weigh : {X : Type 0} → (X → ℕ) → List X → ℕ
 weigh f [] = 0
 weigh f (x ∷ xs) = f x + weigh f xs
 
+-- a part for each of these, numbered from i on
+abbrev pub listed : {X : Type 0} → (ℕ → X → Part) → ℕ → List X → List Part
+listed part i [] = []
+listed part i (x ∷ xs) = part i x ∷ listed part (suc i) xs
+
 -- the lots of the records from r on, with these lengths
 abbrev pub lots_from : ℕ → List ℕ → List Part
-lots_from r [] = []
-lots_from r (n ∷ ns) = Length r n ∷ lots_from (suc r) ns
+lots_from r ls = listed (λ i n. Length i n) r ls
 
 -- the tallies from number j on, each with what it has taken and given back
 abbrev pub tallies_from : ℕ → List (ℕ × ℕ) → List Part
-tallies_from j [] = []
-tallies_from j (t ∷ ts) = Moved j t.0 t.1 ∷ tallies_from (suc j) ts
+tallies_from j ts = listed (λ i t. Moved i t.0 t.1) j ts
 
 -- the vault's part: the books of taken and back are the sums over the tallies
 abbrev pub books : List ℕ → List (ℕ × ℕ) → Part
@@ -46,13 +49,17 @@ abbrev pub below : List Part → List Part
 below [] = []
 below (p ∷ ps) = ps
 
--- these parts, with others, are one whole
-abbrev pub AreOfOneWhole : List Part → Type 0
-AreOfOneWhole v = (ls : List ℕ) × (ts : List (ℕ × ℕ)) × (others : List Part) × ((h : Part → ℕ) → weigh h v + weigh h others ≡ weigh h (whole ls ts))
+-- these parts and the others are one whole
+abbrev pub AreOneWhole : List Part → List Part → Type 0
+AreOneWhole v os = (ls : List ℕ) × (ts : List (ℕ × ℕ)) × ((h : Part → ℕ) → weigh h v + weigh h os ≡ weigh h (whole ls ts))
 
--- a step that changes nothing, and shows that the view belongs to one whole
-abbrev pub Looked : {S : Type 0} → Step S → Me S (List Part) → ℕ → Me S (List Part) → Type 0
-Looked s v n w = (w ≡ v) × AreOfOneWhole v.0
+-- these parts, with some others, are one whole
+abbrev pub AreOfOneWhole : List Part → Type 0
+AreOfOneWhole v = (others : List Part) × AreOneWhole v others
+
+-- what a change of parts owes: what was one whole with others still is
+abbrev pub Keeps : (List Part → List Part) → Type 0
+Keeps f = (v os : List Part) → AreOneWhole v os → AreOneWhole (f v) os
 
 -- the view is what f makes of it, and it belonged to one whole
 abbrev pub Changed : (List Part → List Part) → {S : Type 0} → Step S → Me S (List Part) → ℕ → Me S (List Part) → Type 0

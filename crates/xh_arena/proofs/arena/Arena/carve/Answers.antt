@@ -6,44 +6,26 @@ use Rattle.xh_model.specs.Cover.{length_of}
 use Rattle.xh_model.proofs.Calls.{carved_length, carved_others}
 use Rattle.xh_arena.specs.inner.Layout.{cover_of}
 use Rattle.xh_arena.proofs.Kept.{kept-lawful}
-use Rattle.xh_arena.proofs.Steps.{Carved, carved_by, no_hole, no_place, found_at, holes_within}
+use Rattle.xh_arena.proofs.Steps.{Carved, carved_by, no_space, holes_within}
 use Rattle.xh_arena.proofs.Refusing.{not_refused, only_no_space, only_worn}
 use Rattle.xh_arena.proofs.arena.Arena.carve.Goals as goal
 
 at_worn : (c : goal.Then-self-from) → Carved c.self.inside.size (boxed_slice_items c.self.inside.extents) c.self.inside.holes.items c.self.inside.handed_out c.args.r c.args.n c.in-Some.at
-at_worn c =
-    let known : c.args.r < length (boxed_slice_items c.self.inside.extents) = rw (← c.self.view_is) at c.requires.known in
-    let empty : length_of c.args.r (cover_of c.self.inside.size (boxed_slice_items c.self.inside.extents)) ≡ 0 = rw (← c.self.view_is) at c.requires.empty in
-    let found : found_at c.args.n c.self.inside.holes.items ≡ Some c.in-Some.at = rw (← c.deref.ensures.0) (sym c.first_hole.ensures ∙ c.in-Some.is) in
-    carved_by _ _ _ _ _ _ _ c.self.invariant.kept known empty c.requires.some c.requires.multiple found
-
-at_take : (c : goal.After-take_front-arg-1) → Carved c.self.inside.size (boxed_slice_items c.self.inside.extents) c.self.inside.holes.items c.self.inside.handed_out c.args.r c.args.n c.in-Some.at
-at_take c =
-    let known : c.args.r < length (boxed_slice_items c.self.inside.extents) = rw (← c.self.view_is) at c.requires.known in
-    let empty : length_of c.args.r (cover_of c.self.inside.size (boxed_slice_items c.self.inside.extents)) ≡ 0 = rw (← c.self.view_is) at c.requires.empty in
-    let found : found_at c.args.n c.self.inside.holes.items ≡ Some c.in-Some.at = rw (← c.deref.ensures.0) (sym c.first_hole.ensures ∙ c.in-Some.is) in
-    carved_by _ _ _ _ _ _ _ c.self.invariant.kept known empty c.requires.some c.requires.multiple found
-
-at_sum : (c : goal.After-self-1) → Carved c.self.inside.size (boxed_slice_items c.self.inside.extents) c.self.inside.holes.items c.self.inside.handed_out c.args.r c.args.n c.in-Some.at
-at_sum c =
-    let known : c.args.r < length (boxed_slice_items c.self.inside.extents) = rw (← c.self.view_is) at c.requires.known in
-    let empty : length_of c.args.r (cover_of c.self.inside.size (boxed_slice_items c.self.inside.extents)) ≡ 0 = rw (← c.self.view_is) at c.requires.empty in
-    let found : found_at c.args.n c.self.inside.holes.items ≡ Some c.in-Some.at = rw (← c.deref.ensures.0) (sym c.first_hole.ensures ∙ c.in-Some.is) in
-    carved_by _ _ _ _ _ _ _ c.self.invariant.kept known empty c.requires.some c.requires.multiple found
+at_worn c = carved_by _ _ _ _ c.self.invariant.kept _ _ _ c.self.view_is c.requires.known c.requires.empty c.requires.some c.requires.multiple
+    (rw (← c.deref.ensures.0) (sym c.first_hole.ensures ∙ c.in-Some.is))
 
 done : (c : goal.After-self-3-1) → Carved c.self.inside.size (boxed_slice_items c.self.inside.extents) c.self.inside.holes.items c.self.inside.handed_out c.args.r c.args.n c.in-Some.at
-done c =
-    let known : c.args.r < length (boxed_slice_items c.self.inside.extents) = rw (← c.self.view_is) at c.requires.known in
-    let empty : length_of c.args.r (cover_of c.self.inside.size (boxed_slice_items c.self.inside.extents)) ≡ 0 = rw (← c.self.view_is) at c.requires.empty in
-    let found : found_at c.args.n c.self.inside.holes.items ≡ Some c.in-Some.at = rw (← c.deref.ensures.0) (sym c.first_hole.ensures ∙ c.in-Some.is) in
-    carved_by _ _ _ _ _ _ _ c.self.invariant.kept known empty c.requires.some c.requires.multiple found
+done c = carved_by _ _ _ _ c.self.invariant.kept _ _ _ c.self.view_is c.requires.known c.requires.empty c.requires.some c.requires.multiple
+    (rw (← c.deref.ensures.0) (sym c.first_hole.ensures ∙ c.in-Some.is))
 
 pub take_front-start-requires-clause-fits : goal.take_front-start-requires-clause-fits
-take_front-start-requires-clause-fits c = (at_take c).fits
+take_front-start-requires-clause-fits c = (carved_by _ _ _ _ c.self.invariant.kept _ _ c.in-Some.at c.self.view_is c.requires.known c.requires.empty c.requires.some c.requires.multiple
+    (rw (← c.deref.ensures.0) (sym c.first_hole.ensures ∙ c.in-Some.is))).fits
 
 pub overflow_add-self : goal.overflow_add-self
 overflow_add-self c =
-    let room : c.self.inside.handed_out + c.args.n ≤ c.self.inside.size = (at_sum c).room in
+    let room = (carved_by _ _ _ _ c.self.invariant.kept _ _ c.in-Some.at c.self.view_is c.requires.known c.requires.empty c.requires.some c.requires.multiple
+    (rw (← c.deref.ensures.0) (sym c.first_hole.ensures ∙ c.in-Some.is))).room in
     search rules
 
 pub take_front-start-requires-clause-within : goal.take_front-start-requires-clause-within
@@ -60,14 +42,13 @@ invariant_of-self c =
 
 pub returns-in_default-clause-refused : goal.returns-in_default-clause-refused
 returns-in_default-clause-refused c =
-    let none : found_at c.args.n c.self.inside.holes.items ≡ None = rw (← c.deref.ensures.0) (sym c.first_hole.ensures ∙ c.in_default.is) in
-    (rw (← c.self.view_is) (record { none = no_hole _ _ _ _ _ c.self.invariant.kept c.requires.some none; nowhere = no_place _ _ _ _ _ c.self.invariant.kept c.requires.some none }), refl)
+    (rw (← c.self.view_is) (no_space _ _ _ _ c.self.invariant.kept c.args.n c.requires.some (rw (← c.deref.ensures.0) (sym c.first_hole.ensures ∙ c.in_default.is))), refl)
 
 pub returns-in_default-clause-exact : goal.returns-in_default-clause-exact
 returns-in_default-clause-exact c = λ e no. ap (λ x. Err x) (only_no_space _ _ (returns-in_default-clause-refused c).0.none e no)
 
 pub returns-in_default-clause-lawful : goal.returns-in_default-clause-lawful
-returns-in_default-clause-lawful c = rw (← c.self.view_is) (kept-lawful _ _ _ _ _ _ c.self.invariant.kept)
+returns-in_default-clause-lawful c = rw (← c.self.view_is) (kept-lawful _ _ _ _ c.self.invariant.kept _ _)
 
 pub returns-then-self-from-clause-refused : goal.returns-then-self-from-clause-refused
 returns-then-self-from-clause-refused c =
@@ -79,7 +60,7 @@ returns-then-self-from-clause-exact c = λ e no. ap (λ x. Err x) (only_worn c.a
     (rw (← c.self.view_is) (at_worn c).place) e no)
 
 pub returns-then-self-from-clause-lawful : goal.returns-then-self-from-clause-lawful
-returns-then-self-from-clause-lawful c = rw (← c.self.view_is) (kept-lawful _ _ _ _ _ _ c.self.invariant.kept)
+returns-then-self-from-clause-lawful c = rw (← c.self.view_is) (kept-lawful _ _ _ _ c.self.invariant.kept _ _)
 
 pub returns-clause-done : goal.returns-clause-done
 returns-clause-done c = record {
@@ -101,7 +82,7 @@ returns-clause-exact c = λ e no.
     absurd (not_refused c.args.n c.take_front-start.result c.args.self.now (returns-clause-done c).first (rw (← c.self.view_is) within) e no)
 
 pub returns-clause-lawful : goal.returns-clause-lawful
-returns-clause-lawful c = kept-lawful _ _ _ _ _ _ (invariant_of-self c).kept
+returns-clause-lawful c = kept-lawful _ _ _ _ (invariant_of-self c).kept _ _
 
 pub returns-clause-length : goal.returns-clause-length
 returns-clause-length c = carved_length _ _ _ _ _ (returns-clause-done c)

@@ -6,15 +6,13 @@ use Rattle.xh_model.specs.Cover.{length_of}
 use Rattle.xh_model.proofs.Calls.{cut_others}
 use Rattle.xh_arena.specs.inner.Layout.{cover_of}
 use Rattle.xh_arena.proofs.Kept.{kept-lawful}
-use Rattle.xh_arena.proofs.Steps.{CutDone, cut_by, read_length}
+use Rattle.xh_arena.proofs.Steps.{CutDone, cut_by, length_read}
 use Rattle.xh_arena.proofs.arena.Arena.cut.Goals as goal
 use Rattle.xh_arena.proofs.arena.Arena.cut.Goals.{then-k-eq0-via-then-k-eq0, then-k-eq0-via-else-k-eq0+then-k-ne0, then-k-eq0-via-else-k-eq0+else-k-ne0+then-k-length}
 
 pub returns-then-k-eq0-clause-exact : goal.returns-then-k-eq0-clause-exact
 returns-then-k-eq0-clause-exact c =
-    let known : c.args.r < length (boxed_slice_items c.self.inside.extents) = rw (← c.self.view_is) at c.requires.known in
-    let size : length_of c.args.r c.args.self.now.cover ≡ c.index.result.now.1 =
-    rw (← c.self.view_is) (read_length _ _ _ _ _ _ c.self.invariant.kept known (rw c.from-head.ensures at c.index.ensures)) in (
+    let size = length_read _ _ _ _ _ _ c.self.invariant.kept c.self.view_is c.requires.known (rw c.from-head.ensures at c.index.ensures) in (
       λ f. absurd (false≢true f),
       λ g. elim c.then-k-eq0.branch [
         | then-k-eq0-via-then-k-eq0 w ↦ let some : 0 < c.args.k = g.0 in absurd (omega (arith, w.if-k-eq0.true))
@@ -23,18 +21,11 @@ returns-then-k-eq0-clause-exact c =
       ],
     )
 
-pub returns-then-k-eq0-clause-refused : goal.returns-then-k-eq0-clause-refused
-returns-then-k-eq0-clause-refused c = (refl, refl)
-
 pub returns-then-k-eq0-clause-lawful : goal.returns-then-k-eq0-clause-lawful
-returns-then-k-eq0-clause-lawful c = rw (← c.self.view_is) (kept-lawful _ _ _ _ _ _ c.self.invariant.kept)
+returns-then-k-eq0-clause-lawful c = rw (← c.self.view_is) (kept-lawful _ _ _ _ c.self.invariant.kept _ _)
 
 done : (c : goal.After-self-2-1) → CutDone c.self.inside.size (boxed_slice_items c.self.inside.extents) c.self.inside.holes.items c.self.inside.handed_out c.args.r c.args.t c.args.k c.index.result.now
-done c =
-    let known : c.args.r < length (boxed_slice_items c.self.inside.extents) = rw (← c.self.view_is) at c.requires.known in
-    let tail_known : c.args.t < length (boxed_slice_items c.self.inside.extents) = rw (← c.self.view_is) at c.requires.tail_known in
-    let empty : length_of c.args.t (cover_of c.self.inside.size (boxed_slice_items c.self.inside.extents)) ≡ 0 = rw (← c.self.view_is) at c.requires.empty in
-    cut_by _ _ _ _ _ _ _ _ c.self.invariant.kept known tail_known c.requires.other empty (rw c.from-head.ensures at c.index.ensures)
+done c = cut_by _ _ _ _ _ _ c.self.invariant.kept c.self.view_is c.requires.known (rw c.from-head.ensures at c.index.ensures) _ _ c.requires.tail_known c.requires.other c.requires.empty
     (omega arith) c.if-k-ne0.false c.if-k-length.false
 
 pub invariant_of-self : goal.invariant_of-self
@@ -46,9 +37,7 @@ invariant_of-self c = rw (c.from-head.ensures, c.from-tail.ensures) (record {
 
 pub returns-clause-exact : goal.returns-clause-exact
 returns-clause-exact c =
-    let known : c.args.r < length (boxed_slice_items c.self.inside.extents) = rw (← c.self.view_is) at c.requires.known in
-    let size : length_of c.args.r c.args.self.now.cover ≡ c.index.result.now.1 =
-    rw (← c.self.view_is) (read_length _ _ _ _ _ _ c.self.invariant.kept known (rw c.from-head.ensures at c.index.ensures)) in
+    let size = length_read _ _ _ _ _ _ c.self.invariant.kept c.self.view_is c.requires.known (rw c.from-head.ensures at c.index.ensures) in
     (λ f. (omega arith, c.if-k-ne0.false, rw size c.if-k-length.false), λ g. refl)
 
 pub returns-clause-done : goal.returns-clause-done
@@ -70,7 +59,7 @@ returns-clause-done c = record {
 }
 
 pub returns-clause-lawful : goal.returns-clause-lawful
-returns-clause-lawful c = kept-lawful _ _ _ _ _ _ (invariant_of-self c).kept
+returns-clause-lawful c = kept-lawful _ _ _ _ (invariant_of-self c).kept _ _
 
 pub returns-clause-others : goal.returns-clause-others
 returns-clause-others c = cut_others _ _ _ _ _ (returns-clause-done c)

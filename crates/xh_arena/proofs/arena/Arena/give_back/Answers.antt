@@ -9,20 +9,11 @@ use Rattle.xh_arena.proofs.Steps.{BackDone, back_by, holes_within, holes_rising}
 use Rattle.xh_arena.proofs.Room.{holes_room}
 use Rattle.xh_arena.proofs.arena.Arena.give_back.Goals as goal
 
-at_sum : (c : goal.After-self-1) → BackDone c.self.inside.size (boxed_slice_items c.self.inside.extents) c.self.inside.holes.items c.self.inside.handed_out c.args.r c.index.result.now
-at_sum c =
-    let known : c.args.r < length (boxed_slice_items c.self.inside.extents) = rw (← c.self.view_is) at c.requires.known in
-    let held : 0 < length_of c.args.r (cover_of c.self.inside.size (boxed_slice_items c.self.inside.extents)) = rw (← c.self.view_is) at c.requires.held in
-    back_by _ _ _ _ _ _ c.self.invariant.kept known held (rw c.from-index.ensures at c.index.ensures)
-
 done : (c : goal.After-add_hole) → BackDone c.self.inside.size (boxed_slice_items c.self.inside.extents) c.self.inside.holes.items c.self.inside.handed_out c.args.r c.index.result.now
-done c =
-    let known : c.args.r < length (boxed_slice_items c.self.inside.extents) = rw (← c.self.view_is) at c.requires.known in
-    let held : 0 < length_of c.args.r (cover_of c.self.inside.size (boxed_slice_items c.self.inside.extents)) = rw (← c.self.view_is) at c.requires.held in
-    back_by _ _ _ _ _ _ c.self.invariant.kept known held (rw c.from-index.ensures at c.index.ensures)
+done c = back_by _ _ _ _ _ _ c.self.invariant.kept c.self.view_is c.requires.known c.requires.held (rw c.from-index.ensures at c.index.ensures)
 
 pub overflow_sub-self : goal.overflow_sub-self
-overflow_sub-self c = (at_sum c).taken
+overflow_sub-self c = (back_by _ _ _ _ _ _ c.self.invariant.kept c.self.view_is c.requires.known c.requires.held (rw c.from-index.ensures at c.index.ensures)).taken
 
 pub add_hole-requires-clause-room : goal.add_hole-requires-clause-room
 add_hole-requires-clause-room c = holes_room _ _ _ _ c.self.invariant.kept c.self.invariant.limits.most_records
@@ -48,7 +39,7 @@ returns-clause-done c = record {
 }
 
 pub returns-clause-lawful : goal.returns-clause-lawful
-returns-clause-lawful c = kept-lawful _ _ _ _ _ _ (invariant_of-self c).kept
+returns-clause-lawful c = kept-lawful _ _ _ _ (invariant_of-self c).kept _ _
 
 pub returns-clause-empty : goal.returns-clause-empty
 returns-clause-empty c = back_length _ _ _ (returns-clause-done c)

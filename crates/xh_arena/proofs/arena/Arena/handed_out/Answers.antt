@@ -6,5 +6,4 @@ use Rattle.xh_arena.proofs.arena.Arena.handed_out.Goals as goal
 
 pub returns-clause-sum : goal.returns-clause-sum
 returns-clause-sum c =
-    rw (← c.self.view_is) (c.self.invariant.kept.counted ∙ sym (lawful-bytes_out _ (kept-lawful c.self.inside.size
-    (boxed_slice_items c.self.inside.extents) c.self.inside.holes.items c.self.inside.handed_out c.self.inside.wear c.self.inside.limit c.self.invariant.kept)))
+    rw (← c.self.view_is) (c.self.invariant.kept.counted ∙ sym (lawful-bytes_out _ (kept-lawful _ _ _ _ c.self.invariant.kept c.self.inside.wear c.self.inside.limit)))

@@ -11,7 +11,7 @@ pub returns-clause-all : goal.returns-clause-all
 returns-clause-all c = rw (← c.self.view_is, c.as_slice.ensures.value) (kept-all_holes _ _ _ _ c.self.invariant.kept)
 
 pub returns-clause-lawful : goal.returns-clause-lawful
-returns-clause-lawful c = rw (← c.self.view_is) (kept-lawful _ _ _ _ _ _ c.self.invariant.kept)
+returns-clause-lawful c = rw (← c.self.view_is) (kept-lawful _ _ _ _ c.self.invariant.kept _ _)
 
 pub returns-clause-few : goal.returns-clause-few
 returns-clause-few c =

@@ -21,7 +21,7 @@ pub returns-clause-fresh : goal.returns-clause-fresh
 returns-clause-fresh c = rw (c.in-Ok.ensures, new-cover, length-replicate, c.from.ensures) refl
 
 pub returns-clause-lawful : goal.returns-clause-lawful
-returns-clause-lawful c = kept-lawful _ _ _ _ _ _ (invariant_of-result c).kept
+returns-clause-lawful c = kept-lawful _ _ _ _ (invariant_of-result c).kept _ _
 
 pub returns-clause-empty : goal.returns-clause-empty
 returns-clause-empty c = λ r. rw (c.in-Ok.ensures, new-cover) (none_of r c.args.size)

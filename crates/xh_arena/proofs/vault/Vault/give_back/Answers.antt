@@ -3,21 +3,14 @@ use Rattle.xh_model.specs.Arena.{lengths_of}
 use Rattle.xh_model.proofs.Calls.{back_wear, back_limit, back_lengths}
 use Rattle.xh_model.proofs.Lengths.{length_is}
 use Rattle.xh_arena.specs.inner.Books.{booked}
-use Rattle.xh_arena.proofs.Shown.{lot_of, back_shown}
+use Rattle.xh_arena.proofs.Shown.{lot_known, lot_of, back_shown}
 use Rattle.xh_arena.proofs.Weights.{weigh-at}
 use Rattle.xh_arena.proofs.vault.Vault.give_back.Goals as goal
 
-pub give_back-requires-clause-known : goal.give_back-requires-clause-known
-give_back-requires-clause-known g c =
-    let shown = back_shown (booked c.self.inside.arena) _ _ _ _ _ _ _ _ _ _ c.self.invariant.balanced c.lot.invariant c.tally.invariant c.set_length_of.ensures.fits
-    c.set_length_of.ensures.changed.0 c.give_back_by.ensures.fits c.give_back_by.ensures.changed.0 in
-    (length_is c.self.inside.arena _ _ shown.lot).0
-
-pub give_back-requires-clause-held : goal.give_back-requires-clause-held
-give_back-requires-clause-held g c =
-    let shown = back_shown (booked c.self.inside.arena) _ _ _ _ _ _ _ _ _ _ c.self.invariant.balanced c.lot.invariant c.tally.invariant c.set_length_of.ensures.fits
-    c.set_length_of.ensures.changed.0 c.give_back_by.ensures.fits c.give_back_by.ensures.changed.0 in
-    subst (λ (n : ℕ). 0 < n) (sym ((length_is c.self.inside.arena _ _ shown.lot).1 ∙ ap (λ l. l.len) c.lot.view_is)) c.requires.some
+pub give_back-requires : goal.give_back-requires
+give_back-requires g c =
+    let is = length_is c.self.inside.arena _ _ (lot_known _ _ _ _ (booked c.self.inside.arena) c.lot.invariant c.self.invariant.balanced c.set_length_of.ensures.fits) in
+    record { known = is.0; held = subst (λ (n : ℕ). 0 < n) (sym (is.1 ∙ ap (λ l. l.len) c.lot.view_is)) c.requires.some }
 
 pub overflow_add-tally : goal.overflow_add-tally
 overflow_add-tally g c =
@@ -44,7 +37,4 @@ invariant_of-self g c =
     }
 
 pub returns-clause-lot : goal.returns-clause-lot
-returns-clause-lot g c =
-    let shown = back_shown (booked c.self.inside.arena) _ _ _ _ _ _ _ _ _ _ c.self.invariant.balanced c.lot.invariant c.tally.invariant c.set_length_of.ensures.fits
-    c.set_length_of.ensures.changed.0 c.give_back_by.ensures.fits c.give_back_by.ensures.changed.0 in
-    lot_of _ _ _ _ shown.lot (ap (λ v. v.arena) c.self.view_is) c.lot.view_is
+returns-clause-lot g c = lot_of c.self.view_is c.lot.view_is c.lot.invariant c.self.invariant.balanced c.set_length_of.ensures.fits

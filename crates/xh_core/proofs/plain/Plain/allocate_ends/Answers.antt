@@ -1,23 +1,18 @@
-use Rattle.std.proofs.Common.{◌∙◌, ap, subst, Some, None}
+use Rattle.std.proofs.Common.{◌∙◌, ap, subst, refl, arith, Some, None}
 use Rattle.xh_model.specs.declared.event.Event.TheVariants.{Vacate}
 use Rattle.xh_model.specs.Store.{IsLawful, after}
-use Rattle.xh_core.proofs.Pairs.{claimed_two, pair_room, paired}
+use Rattle.xh_core.proofs.Pairs.{TwoClaimed, claimed_two, pair_room, paired}
 use Rattle.xh_core.proofs.plain.Plain.allocate_ends.Goals as goal
+use Rattle.xh_core.proofs.plain.Plain.allocate_ends.Goals.{In-Some}
 
-pub carve-requires-clause-held : goal.carve-requires-clause-held
-carve-requires-clause-held c =
-    (claimed_two c.args.p c.args.arena c.in-Some.r c.in-Some.t c.args.self.now c.claim_two.new.self
-    (subst IsLawful c.self.view_is c.self.invariant.0) c.requires.process c.in-Some.ensures.done).holds_r
+two : (c : In-Some) → TwoClaimed c.args.p c.in-Some.r c.in-Some.t c.args.self.now c.claim_two.new.self
+two c = claimed_two c.args.p c.args.arena c.in-Some.r c.in-Some.t c.args.self.now c.claim_two.new.self
+    (subst IsLawful c.self.view_is c.self.invariant.0) c.requires.process c.in-Some.ensures.done
 
-pub carve-requires-clause-known : goal.carve-requires-clause-known
-carve-requires-clause-known c =
-    (claimed_two c.args.p c.args.arena c.in-Some.r c.in-Some.t c.args.self.now c.claim_two.new.self
-    (subst IsLawful c.self.view_is c.self.invariant.0) c.requires.process c.in-Some.ensures.done).known_r
-
-pub carve-requires-clause-empty : goal.carve-requires-clause-empty
-carve-requires-clause-empty c =
-    (claimed_two c.args.p c.args.arena c.in-Some.r c.in-Some.t c.args.self.now c.claim_two.new.self
-    (subst IsLawful c.self.view_is c.self.invariant.0) c.requires.process c.in-Some.ensures.done).empty_r
+pub carve-requires : goal.carve-requires
+carve-requires c =
+    let known = two (goal.at.carve-requires c).In-Some in
+    record { held = known.holds_r; known = known.known_r; empty = known.empty_r; some = omega arith; multiple = refl }
 
 pub returns-in-Err-clause-tests : goal.returns-in-Err-clause-tests
 returns-in-Err-clause-tests c =
@@ -26,9 +21,8 @@ returns-in-Err-clause-tests c =
 
 pub returns-in-Err-clause-unchanged : goal.returns-in-Err-clause-unchanged
 returns-in-Err-clause-unchanged c =
-    let two = claimed_two c.args.p c.args.arena c.in-Some.r c.in-Some.t c.args.self.now c.claim_two.new.self
-    (subst IsLawful c.self.view_is c.self.invariant.0) c.requires.process c.in-Some.ensures.done in
-    c.vacate-in-Err.ensures.after ∙ (ap (after (Vacate c.args.p c.in-Some.r)) (c.vacate.ensures.after ∙ ap (after (Vacate c.args.p c.in-Some.t)) c.in-Err.ensures.unchanged) ∙ two.back)
+    let d = (goal.at.returns-in-Err-clause-unchanged c).In-Some in
+    c.vacate-in-Err.ensures.after ∙ (ap (after (Vacate c.args.p c.in-Some.r)) (c.vacate.ensures.after ∙ ap (after (Vacate c.args.p c.in-Some.t)) c.in-Err.ensures.unchanged) ∙ (two d).back)
 
 pub returns-clause-done : goal.returns-clause-done
 returns-clause-done c = paired c.args.p c.args.arena c.in-Some.r c.in-Some.t c.args.self.now c.claim_two.new.self c.carve.new.self c.cut.new.self c.cut.result
