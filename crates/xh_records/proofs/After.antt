@@ -1,9 +1,7 @@
 -- What is done on the ownership is what the core's events do.
-use Rattle.std.proofs.Common.{◌≡◌, ℕ, zero, suc, List, [], ◌∷◌, eq-eqb, ◌%◌, ◌<◌, Bool, true, cond, length, get_or, set, refl, sym, ap, ◌∙◌, subst}
+use Rattle.std.proofs.Common.{◌≡◌, ℕ, eq-eqb, ◌%◌, ◌<◌, Bool, true, cond, length, set, refl, sym, ap, ◌∙◌, subst}
 use Rattle.std.specs.Prelude.{Option, Some, None, ◌==◌}
 use Rattle.std.proofs.lemmas.Bool.{lt-ltb}
-use lib.ListN.{get_elem?}
-use mathlib.Core.Option.{some, some-injective, some-ne-none}
 use Rattle.xh_model.specs.declared.event.Holder.{Holder}
 use Rattle.xh_model.specs.declared.event.Holder.TheVariants.{Process, Direction}
 use Rattle.xh_model.specs.declared.event.Event.{Event}
@@ -13,13 +11,7 @@ use Rattle.xh_model.specs.Slots.{index_of, AreOwners}
 use Rattle.xh_model.specs.Words.{Ownership, IsHeldBy, IsHolder, IsDone, record_of, from_of, to_of}
 use Rattle.xh_model.proofs.Slots.{assigned}
 use Rattle.xh_records.specs.After.{Wants, IsAfter}
-use Rattle.xh_records.proofs.Elements.{in_range}
-
--- an element that is there is read whatever stands for the others
-read_or : {A : Type 0} (l : List A) (i : ℕ) (a d : A) → get_elem? l i ≡ some a → get_or l i d ≡ a
-read_or [] i a d e = absurd (some-ne-none a (sym e))
-read_or (x ∷ xs) zero a d e = some-injective x a e
-read_or (x ∷ xs) (suc i) a d e = read_or xs i a d e
+use Rattle.xh_records.proofs.Elements.{in_range, nth_is}
 
 -- an event that can be done changes the store
 does : (e : Event) (m : Store) → can e m ≡ true → after e m ≡ change e m
@@ -31,7 +23,7 @@ same_number p = eq-eqb p p refl
 
 -- who has the record in the store
 owner_is : (n r : ℕ) (o : Ownership) (m : Store) (h : Option Holder) → r % 256 < n → AreOwners n o m → IsHeldBy o (index_of n r) h → owner m r ≡ h
-owner_is n r o m h there w held = w.each r ∙ rw (lt-ltb (r % 256) n there) (read_or o (index_of n r) h None held)
+owner_is n r o m h there w held = w.each r ∙ rw (lt-ltb (r % 256) n there) (nth_is o (index_of n r) None h held)
 
 pub can_be_done : (n : ℕ) (o : Ownership) (e : Event) (m : Store) → record_of e % 256 < n → IsHolder (to_of e) → IsHeldBy o (index_of n (record_of e)) (from_of e) → AreOwners n o m
     → (arena_of m (record_of e)).records ≡ n → Wants e (len m (record_of e)) → can e m ≡ true

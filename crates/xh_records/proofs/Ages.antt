@@ -18,8 +18,9 @@ use Rattle.xh_records.specs.History.{by_place}
 use Rattle.xh_records.specs.Showing.{Sits, ViewFits, ViewTells, Shows, Shown}
 use Rattle.xh_records.specs.inner.Views.{renewed}
 use Rattle.xh_records.specs.inner.Steps.{aged}
-use Rattle.xh_records.proofs.Elements.{in_range, nth_is, pick, pick_yes, pick_no}
+use Rattle.xh_records.proofs.Elements.{in_range, nth_is, only_one, pick, pick_yes, pick_no}
 use Rattle.xh_records.proofs.Keeps.{At, at}
+use Rattle.xh_records.proofs.Cuts.{reseats}
 
 module _ {B : Type 0} (fits : B → ℕ → Bool) (s : Shape) where
   -- a place of the next generation, where its process holds no record
@@ -33,68 +34,52 @@ module _ {B : Type 0} (fits : B → ℕ → Bool) (s : Shape) where
       let was = shown.alone id p v here sits in
       let mine_now : w.processes ≡ (p + 32) ∷ [] = ap (map (λ (x : ℕ). x + 32)) mine in
       let sits_now : Sits w (p + 32) = subst (λ (k : List ℕ). Among k (p + 32)) (sym mine_now) (inl refl) in
-      let only_now : (x : ℕ) → Sits w x → x ≡ p + 32 = λ x there. ⊎_elim (λ (e : x ≡ p + 32). e) (λ (z : ⊥). absurd z) (subst (λ (k : List ℕ). Among k x) mine_now there) in
+      let only_now : (x : ℕ) → Sits w x → x ≡ p + 32 = λ x there. only_one (subst (λ (k : List ℕ). Among k x) mine_now there) in
+      let told = shown.history.tells id v here in
       let none_held : (k x : ℕ) → IsHeldBy o k (Some (Process x)) → place_of x ≡ q → ⊥ = λ k x is e.
       let at = shown.placed k x is in
       let same : x ≡ p = at.1 ∙ ap shown.process_at e ∙ sym was.1 in
       subst (λ (l : List (ℕ × ℕ)). Among l (k, x)) bare ((shown.views_fit id v here).owns_all k x is (subst (Sits v) (sym same) sits)) in
       let other : (j x : ℕ) (u : View) → j ≢ id → get_elem? vs j ≡ some u → Sits u x → place_of x ≢ q = λ j x u apart there sat e. apart
-      ((shown.alone j x u there sat).2 ∙ ap shown.seat_of e ∙ sym was.2) in record {
-        words_are = shown.words_are;
-        holders = shown.holders;
-        homes_long = shown.homes_long;
-        homes_are = shown.homes_are;
-        process_at = now;
-        seat_of = shown.seat_of;
-        placed = λ k x is. let at = shown.placed k x is in (at.0, at.1 ∙ sym (pick_no (ℕ_discrete (place_of x) q) (p + 32) (shown.process_at (place_of x)) (none_held k x is)));
-        seated = λ x lt. let at = shown.seated x lt in dite (ℕ_discrete x q)
-            (λ e. let is : now x ≡ p + 32 = pick_yes (ℕ_discrete x q) (p + 32) (shown.process_at x) e in
-            let seat : shown.seat_of x ≡ id = ap shown.seat_of e ∙ sym was.2 in
-            let turn : place_of (p + 32) ≡ place_of p = omega arith in
-            (w, subst (λ (j : ℕ). get_elem? (set vs id w) j ≡ some w) (sym seat) (set_here vs id w (in_range vs id v here)), subst (Sits w) (sym is) sits_now, ap place_of is ∙ turn ∙ sym e))
-            (λ n. let is : now x ≡ shown.process_at x = pick_no (ℕ_discrete x q) (p + 32) (shown.process_at x) n in
-            let apart : shown.seat_of x ≢ id = λ e.
-            let same : at.0 ≡ v = some-injective at.0 v (sym at.1 ∙ subst (λ (j : ℕ). get_elem? vs j ≡ some v) (sym e) here) in
-            let there : Sits v (shown.process_at x) = subst (λ (u : View). Sits u (shown.process_at x)) same at.2 in
-            let one : shown.process_at x ≡ p = ⊎_elim (λ (z : shown.process_at x ≡ p). z) (λ (z : ⊥). absurd z) (subst (λ (k : List ℕ). Among k (shown.process_at x)) mine there) in
-            n (sym at.3 ∙ ap place_of one) in
-            (at.0, set_else vs id (shown.seat_of x) w apart ∙ at.1, subst (Sits at.0) (sym is) at.2, ap place_of is ∙ at.3));
-        alone = λ j x u there sat. ⊎_elim
-            (λ (t : (j ≡ id) × (w ≡ u)). let e = only_now x (subst (λ (z : View). Sits z x) (sym t.1) sat) in let turn : place_of x ≡ q = omega arith in (
-              subst (λ (z : ℕ). z < s.places) (sym turn) was.0,
-              e ∙ sym (pick_yes (ℕ_discrete (place_of x) q) (p + 32) (shown.process_at (place_of x)) turn),
-              t.0 ∙ was.2
-                  ∙ ap shown.seat_of (sym turn),
-              subst (λ (z : ℕ). z < 4096) (sym e) small,
-            ))
-            (λ (t : (j ≢ id) × (get_elem? vs j ≡ some u)). let at = shown.alone j x u t.1 sat in
-            (at.0, at.1 ∙ sym (pick_no (ℕ_discrete (place_of x) q) (p + 32) (shown.process_at (place_of x)) (other j x u t.0 t.1 sat)), at.2, at.3))
-            (at_set vs id j w u there);
-        views_fit = λ j u there. ⊎_elim
-            (λ (t : (j ≡ id) × (w ≡ u)). subst (ViewFits s o) t.1 record {
-              is_owner = λ k x owns. absurd (subst (λ (l : List (ℕ × ℕ)). Among l (k, x)) bare owns);
-              owns_all = λ k x is sat. let e = only_now x sat in let turn : place_of x ≡ q = omega arith in absurd (none_held k x is turn);
-              knows = λ x sat. (shown.views_fit id v here).knows p sits;
-              places = subst (λ (l : List ℕ). Distinct (map place_of l)) (sym mine_now) ((λ z. z), tt);
-            })
-            (λ (t : (j ≢ id) × (get_elem? vs j ≡ some u)). shown.views_fit j u t.1)
-            (at_set vs id j w u there);
-        small = shown.small;
-        log = shown.log;
-        history = record {
-          leads = shown.history.leads;
-          theirs = shown.history.theirs;
-          tells = λ j u there. ⊎_elim
-              (λ (t : (j ≡ id) × (w ≡ u)). subst (ViewTells shown.log) t.1 (let old = shown.history.tells id v here in let turn : place_of p ≡ place_of (p + 32) = omega arith in record {
-                has = λ x sat. let e = only_now x sat in subst (λ (z : ℕ). Among v.done (z, by_place z shown.log)) (turn ∙ ap place_of (sym e)) (old.has p sits);
-                only = λ y es among. let one = old.only y es among in
-                    let e : one.0 ≡ p = ⊎_elim (λ (z : one.0 ≡ p). z) (λ (z : ⊥). absurd z) (subst (λ (k : List ℕ). Among k one.0) mine one.1) in
-                    (p + 32, sits_now, one.2 ∙ ap place_of e ∙ turn, one.3);
-              }))
-              (λ (t : (j ≢ id) × (get_elem? vs j ≡ some u)). shown.history.tells j u t.1)
-              (at_set vs id j w u there);
-        };
-      }
+      ((shown.alone j x u there sat).2 ∙ ap shown.seat_of e ∙ sym was.2) in
+      let turn : place_of p ≡ place_of (p + 32) = omega arith in reseats fits s o ws hs vs (set vs id w) shown now shown.seat_of
+      (λ k x is. let at = shown.placed k x is in (at.0, at.1 ∙ sym (pick_no (ℕ_discrete (place_of x) q) (p + 32) (shown.process_at (place_of x)) (none_held k x is))))
+      (λ x lt. let at = shown.seated x lt in dite (ℕ_discrete x q)
+      (λ e. let is : now x ≡ p + 32 = pick_yes (ℕ_discrete x q) (p + 32) (shown.process_at x) e in
+      let seat : shown.seat_of x ≡ id = ap shown.seat_of e ∙ sym was.2 in
+      (w, subst (λ (j : ℕ). get_elem? (set vs id w) j ≡ some w) (sym seat) (set_here vs id w (in_range vs id v here)), subst (Sits w) (sym is) sits_now, ap place_of is ∙ sym turn ∙ sym e))
+      (λ n. let is : now x ≡ shown.process_at x = pick_no (ℕ_discrete x q) (p + 32) (shown.process_at x) n in
+      let apart : shown.seat_of x ≢ id = λ e.
+      let same : at.0 ≡ v = some-injective at.0 v (sym at.1 ∙ subst (λ (j : ℕ). get_elem? vs j ≡ some v) (sym e) here) in
+      let one : shown.process_at x ≡ p = only_one (subst (λ (k : List ℕ). Among k (shown.process_at x)) mine (subst (λ (u : View). Sits u (shown.process_at x)) same at.2)) in
+      n (sym at.3 ∙ ap place_of one) in
+      (at.0, set_else vs id (shown.seat_of x) w apart ∙ at.1, subst (Sits at.0) (sym is) at.2, ap place_of is ∙ at.3)))
+      (λ j x u there sat. ⊎_elim
+      (λ (t : (j ≡ id) × (w ≡ u)). let e = only_now x (subst (λ (z : View). Sits z x) (sym t.1) sat) in let at : place_of x ≡ q = ap place_of e ∙ sym turn in (
+        subst (λ (z : ℕ). z < s.places) (sym at) was.0,
+        e ∙ sym (pick_yes (ℕ_discrete (place_of x) q) (p + 32) (shown.process_at (place_of x)) at),
+        t.0 ∙ was.2 ∙ ap shown.seat_of (sym at),
+        subst (λ (z : ℕ). z < 4096) (sym e) small,
+      ))
+      (λ (t : (j ≢ id) × (get_elem? vs j ≡ some u)). let at = shown.alone j x u t.1 sat in
+      (at.0, at.1 ∙ sym (pick_no (ℕ_discrete (place_of x) q) (p + 32) (shown.process_at (place_of x)) (other j x u t.0 t.1 sat)), at.2, at.3))
+      (at_set vs id j w u there))
+      (λ j u there. ⊎_elim
+      (λ (t : (j ≡ id) × (w ≡ u)). subst (λ (z : View). ViewFits s o z × ViewTells shown.log z) t.1 (
+        record {
+          is_owner = λ k x owns. absurd (subst (λ (l : List (ℕ × ℕ)). Among l (k, x)) bare owns);
+          owns_all = λ k x is sat. absurd (none_held k x is (ap place_of (only_now x sat) ∙ sym turn));
+          knows = λ x sat. (shown.views_fit id v here).knows p sits;
+          places = subst (λ (l : List ℕ). Distinct (map place_of l)) (sym mine_now) ((λ z. z), tt);
+        },
+        record {
+          has = λ x sat. subst (λ (z : ℕ). Among v.done (z, by_place z shown.log)) (turn ∙ ap place_of (sym (only_now x sat))) (told.has p sits);
+          only = λ y es among. let one = told.only y es among in
+              let e : one.0 ≡ p = only_one (subst (λ (k : List ℕ). Among k one.0) mine one.1) in (p + 32, sits_now, one.2 ∙ ap place_of e ∙ turn, one.3);
+        },
+      ))
+      (λ (t : (j ≢ id) × (get_elem? vs j ≡ some u)). (shown.views_fit j u t.1, shown.history.tells j u t.1))
+      (at_set vs id j w u there))
 
   -- a load, by a seat whose place has its next generation
   pub ages : (slots id : ℕ) (me : Me (Option (LotOf B)) View) (p : ℕ) → 0 < slots → me.0.processes ≡ p ∷ [] → me.0.records ≡ [] → p + 32 < 4096

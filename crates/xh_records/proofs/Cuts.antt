@@ -1,6 +1,8 @@
 -- A view cut in two, and two views in one.
 use Rattle.std.proofs.Common.{◌≡◌, ℕ, suc, ◌<◌, ◌≢◌, Bool, List, [], ◌∷◌, ◌++◌, map, length, set, sym, refl, ap, ◌∙◌, subst, ◌⊎◌, inl, inr, ⊎_elim, arith, length-set}
-use Rattle.std.specs.Prelude.{Option}
+use Rattle.std.specs.Prelude.{Option, Some}
+use mathlib.Core.Option as maybe
+use Rattle.xh_model.specs.declared.event.Holder.TheVariants.{Process}
 use mathlib.Core.Option.{some, some-injective}
 use mathlib.Core.Logic.{dite}
 use native.Mathlib.Decide.{ℕ_discrete}
@@ -12,55 +14,83 @@ use Rattle.xh_model.specs.Keyed.{Among, Distinct}
 use Rattle.xh_model.proofs.Keyed.{among_back, among_either, among_front, dec_among}
 use Rattle.xh_records.specs.declared.shape.Shape.{Shape}
 use Rattle.xh_records.specs.declared.view.View.{View}
-use Rattle.xh_model.specs.Words.{Ownership, place_of}
+use Rattle.xh_model.specs.Words.{Ownership, IsHeldBy, place_of}
 use Rattle.xh_model.specs.declared.event.Event.{Event}
 use Rattle.xh_records.specs.History.{by_place}
 use Rattle.xh_records.specs.Showing.{Sits, Owns, ViewFits, ViewTells, Shows, Shown}
 use Rattle.xh_records.specs.inner.Views.{spent, joined, dealt, dealt_from, dealer, IsDealer, places_from}
-use Rattle.xh_records.proofs.History.{Same, part, two_is, lists_there, lists_back}
-use Rattle.xh_records.proofs.Elements.{in_range, snoc_at, pick, pick_yes, pick_no}
+use Rattle.xh_records.proofs.History.{part, two_is, lists_there, lists_back}
+use Rattle.xh_records.proofs.Elements.{in_range, only_one, snoc_at, pick, pick_yes, pick_no}
 use Rattle.xh_records.proofs.Distinct.{distinct_places, least}
 
--- what a seat keeps and what it gives, of its view
-pub record Cut (v l r : View) : Type 0 where
-  pub keeps : (p : ℕ) → Sits l p → Sits v p
-  pub hands : (p : ℕ) → Sits r p → Sits v p
-  pub either : (p : ℕ) → Sits v p → Sits l p ⊎ Sits r p
-  pub apart : (p : ℕ) → Sits l p → Sits r p → ⊥
-  pub keeps_record : (k p : ℕ) → Owns l k p → Owns v k p × (Sits v p → Sits l p)
-  pub keeps_all : (k p : ℕ) → Owns v k p → Sits l p → Owns l k p
-  pub hands_record : (k p : ℕ) → Owns r k p → Owns v k p × (Sits v p → Sits r p)
-  pub hands_all : (k p : ℕ) → Owns v k p → Sits r p → Owns r k p
-  pub keeps_shape : (p : ℕ) → Sits l p → l.shape ≡ v.shape
-  pub hands_shape : (p : ℕ) → Sits r p → r.shape ≡ v.shape
-  pub keeps_list : (p : ℕ) → Sits l p → (es : List Event) × Among l.done (place_of p, es)
-  pub keeps_only : (q : ℕ) (es : List Event) → Among l.done (q, es) → Among v.done (q, es) × ((p : ℕ) × Sits l p × (q ≡ place_of p))
-  pub hands_list : (p : ℕ) (es : List Event) → Sits r p → Among v.done (place_of p, es) → (now : List Event) × Among r.done (place_of p, now)
-  pub hands_only : (q : ℕ) (es : List Event) → Among r.done (q, es) → Among v.done (q, es)
-  pub hands_place : (p q : ℕ) (es : List Event) → Sits v p → q ≡ place_of p → Among r.done (q, es) → (k : ℕ) × Sits r k × (q ≡ place_of k)
-  pub keeps_places : Distinct (map place_of v.processes) → Distinct (map place_of l.processes)
-  pub hands_places : Distinct (map place_of v.processes) → Distinct (map place_of r.processes)
+-- a part of a view: all that the view has of some of its processes
+pub record Part (v u : View) : Type 0 where
+  pub sits : (p : ℕ) → Sits u p → Sits v p
+  pub record_of : (k p : ℕ) → Owns u k p → Owns v k p × (Sits v p → Sits u p)
+  pub all_records : (k p : ℕ) → Owns v k p → Sits u p → Owns u k p
+  pub same_shape : (p : ℕ) → Sits u p → u.shape ≡ v.shape
+  pub some_list : (p : ℕ) (es : List Event) → Sits u p → Among v.done (place_of p, es) → (now : List Event) × Among u.done (place_of p, now)
+  pub only_lists : (q : ℕ) (es : List Event) → Among u.done (q, es) → Among v.done (q, es) × ((p : ℕ) → Sits v p → q ≡ place_of p → (k : ℕ) × Sits u k × (q ≡ place_of k))
+  pub places : Distinct (map place_of v.processes) → Distinct (map place_of u.processes)
 
--- a list of a view, by the place
-list_at : (log : List Event) (v : View) (p q : ℕ) (es : List Event) → ViewTells log v → q ≡ place_of p → Among v.done (q, es) → Same (q, es) (part log p)
-list_at log v p q es tells at there = ap (λ (z : List Event). (q, z)) (tells.only q es there).3 ∙ ap (λ (z : ℕ). (z, by_place z log)) at
-
--- the parts of a view that is cut
-tells_kept : (log : List Event) (v l r : View) → Cut v l r → ViewTells log v → ViewTells log l
-tells_kept log v l r cut old = record {
-  has = λ p sits. let t = cut.keeps_list p sits in subst (Among l.done) (list_at log v p (place_of p) t.0 old refl (cut.keeps_only (place_of p) t.0 t.1).0) t.1;
-  only = λ q es there. let t = cut.keeps_only q es there in (t.1.0, t.1.1, t.1.2, (old.only q es t.0).3);
+nothing : (v : View) → Part v spent
+nothing v = record {
+  sits = λ p h. absurd h;
+  record_of = λ k p h. absurd h;
+  all_records = λ k p h sits. absurd sits;
+  same_shape = λ p h. absurd h;
+  some_list = λ p es h there. absurd h;
+  only_lists = λ q es h. absurd h;
+  places = λ d. tt;
 }
 
-tells_handed : (log : List Event) (v l r : View) → Cut v l r → ViewTells log v → ViewTells log r
-tells_handed log v l r cut old = record {
-  has = λ p sits. let t = cut.hands_list p (by_place (place_of p) log) sits (old.has p (cut.hands p sits)) in subst (Among r.done)
-      (list_at log v p (place_of p) t.0 old refl (cut.hands_only (place_of p) t.0 t.1)) t.1;
-  only = λ q es there.
-      let in_v = cut.hands_only q es there in
-      let t = old.only q es in_v in
-      let k = cut.hands_place t.0 q es t.1 t.2 there in
-      (k.0, k.1, k.2, t.3);
+everything : (v : View) → Part v v
+everything v = record {
+  sits = λ p h. h;
+  record_of = λ k p h. (h, λ z. z);
+  all_records = λ k p h sits. h;
+  same_shape = λ p h. refl;
+  some_list = λ p es h there. (es, there);
+  only_lists = λ q es h. (h, λ p sits at. (p, sits, at));
+  places = λ d. d;
+}
+
+-- a part fits the ownership, and tells of its events, as the whole does
+part_shows : (s : Shape) (o : Ownership) (log : List Event) (v u : View) → Part v u → ViewFits s o v → ViewTells log v → ViewFits s o u × ViewTells log u
+part_shows s o log v u part fit tells = (
+  record {
+    is_owner = λ k p owns. let w = part.record_of k p owns in let z = fit.is_owner k p w.0 in (z.0, w.1 z.1);
+    owns_all = λ k p is sits. part.all_records k p (fit.owns_all k p is (part.sits p sits)) sits;
+    knows = λ p sits. part.same_shape p sits ∙ fit.knows p (part.sits p sits);
+    places = part.places fit.places;
+  },
+  record {
+    has = λ p sits. let t = part.some_list p (by_place (place_of p) log) sits (tells.has p (part.sits p sits)) in
+        subst (λ (es : List Event). Among u.done (place_of p, es)) (tells.only (place_of p) t.0 (part.only_lists (place_of p) t.0 t.1).0).3 t.1;
+    only = λ q es there. let t = part.only_lists q es there in let was = tells.only q es t.0 in let k = t.1 was.0 was.1 was.2 in (k.0, k.1, k.2, was.3);
+  },
+)
+
+-- a table that shows an ownership still does where its seats have these views now
+pub reseats : {B : Type 0} (fits : B → ℕ → Bool) (s : Shape) (o : Ownership) (ws : List ℕ) (hs : List (maybe.Option (Option (LotOf B)))) (vs now : List View) (shown : Shows fits s o ws hs vs)
+    (process_at seat_of : ℕ → ℕ) → ((k p : ℕ) → IsHeldBy o k (Some (Process p)) → (place_of p < s.places) × (p ≡ process_at (place_of p)))
+    → ((q : ℕ) → q < s.places → (v : View) × (get_elem? now (seat_of q) ≡ some v) × Sits v (process_at q) × (place_of (process_at q) ≡ q))
+    → ((id p : ℕ) (v : View) → get_elem? now id ≡ some v → Sits v p → (place_of p < s.places) × (p ≡ process_at (place_of p)) × (id ≡ seat_of (place_of p)) × (p < 4096))
+    → ((id : ℕ) (v : View) → get_elem? now id ≡ some v → ViewFits s o v × ViewTells shown.log v) → Shows fits s o ws hs now
+reseats fits s o ws hs vs now shown process_at seat_of placed seated alone each = record {
+  words_are = shown.words_are;
+  holders = shown.holders;
+  homes_long = shown.homes_long;
+  homes_are = shown.homes_are;
+  process_at = process_at;
+  seat_of = seat_of;
+  placed = placed;
+  seated = seated;
+  alone = alone;
+  views_fit = λ id v at. (each id v at).0;
+  small = shown.small;
+  log = shown.log;
+  history = record { leads = shown.history.leads; theirs = shown.history.theirs; tells = λ id v at. (each id v at).1 };
 }
 
 module _ {B : Type 0} (fits : B → ℕ → Bool) (s : Shape) where
@@ -76,8 +106,8 @@ module _ {B : Type 0} (fits : B → ℕ → Bool) (s : Shape) where
       → Shows fits s o t.words t.homes (set (set t.views id both) other spent)
 
 module _ {B : Type 0} (fits : B → ℕ → Bool) (s : Shape) where
-  cuts : (id : ℕ) (v l r : View) → Cut v l r → KeepsSplit {B = B} fits s id v l r
-  cuts id v l r cut t o shown here = after
+  cuts : (id : ℕ) (v l r : View) → Part v l → Part v r → ((p : ℕ) → Sits v p → Sits l p ⊎ Sits r p) → ((p : ℕ) → Sits l p → Sits r p → ⊥) → KeepsSplit {B = B} fits s id v l r
+  cuts id v l r keeps hands either apart t o shown here = after
     where
       vs : List View
       vs = t.views
@@ -94,42 +124,23 @@ module _ {B : Type 0} (fits : B → ℕ → Bool) (s : Shape) where
       goes_to : (p : ℕ) → p ≡ shown.process_at (place_of p) → Sits r p → seat_of' (place_of p) ≡ n
       goes_to p e h = pick_yes (dec_among r.processes (shown.process_at (place_of p))) n (shown.seat_of (place_of p)) (subst (Sits r) e h)
 
-      old : ViewFits s o v
-      old = shown.views_fit id v here
-
-      l_fits : ViewFits s o l
-      l_fits = record {
-        is_owner = λ k p owns. let w = cut.keeps_record k p owns in let z = old.is_owner k p w.0 in (z.0, w.1 z.1);
-        owns_all = λ k p is sits. cut.keeps_all k p (old.owns_all k p is (cut.keeps p sits)) sits;
-        knows = λ p sits. cut.keeps_shape p sits ∙ old.knows p (cut.keeps p sits);
-        places = cut.keeps_places old.places;
-      }
-
-      r_fits : ViewFits s o r
-      r_fits = record {
-        is_owner = λ k p owns. let w = cut.hands_record k p owns in let z = old.is_owner k p w.0 in (z.0, w.1 z.1);
-        owns_all = λ k p is sits. cut.hands_all k p (old.owns_all k p is (cut.hands p sits)) sits;
-        knows = λ p sits. cut.hands_shape p sits ∙ old.knows p (cut.hands p sits);
-        places = cut.hands_places old.places;
-      }
-
       there : (j : ℕ) (u : View) → get_elem? (set vs id l ++ r ∷ []) j ≡ some u → (((j ≡ id) × (l ≡ u)) ⊎ ((j ≢ id) × (get_elem? vs j ≡ some u))) ⊎ ((r ≡ u) × (j ≡ n))
       there j u e = ⊎_elim (λ (a : get_elem? (set vs id l) j ≡ some u). inl (at_set vs id j l u a)) (λ (b : (r ≡ u) × (j ≡ length (set vs id l))). inr (b.0, b.1 ∙ length-set vs id l))
           (snoc_at (set vs id l) r u j e)
 
       not_handed : (j p : ℕ) (u : View) → j ≢ id → get_elem? vs j ≡ some u → Sits u p → Sits r p → ⊥
-      not_handed j p u other e sits h = other ((shown.alone j p u e sits).2 ∙ sym (shown.alone id p v here (cut.hands p h)).2)
+      not_handed j p u other e sits h = other ((shown.alone j p u e sits).2 ∙ sym (shown.alone id p v here (hands.sits p h)).2)
 
       alone' : (j p : ℕ) (u : View) → get_elem? (set vs id l ++ r ∷ []) j ≡ some u → Sits u p
           → (place_of p < s.places) × (p ≡ shown.process_at (place_of p)) × (j ≡ seat_of' (place_of p)) × (p < 4096)
       alone' j p u e sits = ⊎_elim
           (λ (a : ((j ≡ id) × (l ≡ u)) ⊎ ((j ≢ id) × (get_elem? vs j ≡ some u))). ⊎_elim
           (λ (x : (j ≡ id) × (l ≡ u)). let in_l : Sits l p = subst (λ (z : View). Sits z p) (sym x.1) sits in
-          let w = shown.alone id p v here (cut.keeps p in_l) in (w.0, w.1, x.0 ∙ w.2 ∙ sym (stays_at p w.1 (λ h. cut.apart p in_l h)), w.3))
+          let w = shown.alone id p v here (keeps.sits p in_l) in (w.0, w.1, x.0 ∙ w.2 ∙ sym (stays_at p w.1 (λ h. apart p in_l h)), w.3))
           (λ (x : (j ≢ id) × (get_elem? vs j ≡ some u)). let w = shown.alone j p u x.1 sits in (w.0, w.1, w.2 ∙ sym (stays_at p w.1 (not_handed j p u x.0 x.1 sits)), w.3))
           a)
           (λ (x : (r ≡ u) × (j ≡ n)). let in_r : Sits r p = subst (λ (z : View). Sits z p) (sym x.0) sits in
-          let w = shown.alone id p v here (cut.hands p in_r) in (w.0, w.1, x.1 ∙ sym (goes_to p w.1 in_r), w.3))
+          let w = shown.alone id p v here (hands.sits p in_r) in (w.0, w.1, x.1 ∙ sym (goes_to p w.1 in_r), w.3))
           (there j u e)
 
       at_new : get_elem? (set vs id l ++ r ∷ []) n ≡ some r
@@ -142,7 +153,7 @@ module _ {B : Type 0} (fits : B → ℕ → Bool) (s : Shape) where
           (λ e. let in_v : Sits v p = subst (λ (u : View). Sits u p) (some-injective was.0 v (sym was.1 ∙ ap (get_elem? vs) e ∙ here)) was.2 in (
             l,
             subst (λ (k : ℕ). get_elem? (set vs id l ++ r ∷ []) k ≡ some l) (sym (k_is ∙ e)) (at_longer (set vs id l) (r ∷ []) id l (set_here vs id l (in_range vs id v here))),
-            ⊎_elim (λ (a : Sits l p). a) (λ (b : Sits r p). absurd (no_h b)) (cut.either p in_v),
+            ⊎_elim (λ (a : Sits l p). a) (λ (b : Sits r p). absurd (no_h b)) (either p in_v),
             was.3,
           ))
           (λ other. (
@@ -153,34 +164,18 @@ module _ {B : Type 0} (fits : B → ℕ → Bool) (s : Shape) where
             was.3,
           )))
 
+      part_is : (z u : View) → Part v z → z ≡ u → ViewFits s o u × ViewTells shown.log u
+      part_is z u whole e = subst (λ (y : View). ViewFits s o y × ViewTells shown.log y) e (part_shows s o shown.log v z whole (shown.views_fit id v here) (shown.history.tells id v here))
+
+      each : (j : ℕ) (u : View) → get_elem? (set vs id l ++ r ∷ []) j ≡ some u → ViewFits s o u × ViewTells shown.log u
+      each j u e = ⊎_elim
+          (λ (a : ((j ≡ id) × (l ≡ u)) ⊎ ((j ≢ id) × (get_elem? vs j ≡ some u))). ⊎_elim (λ (x : (j ≡ id) × (l ≡ u)). part_is l u keeps x.1)
+          (λ (x : (j ≢ id) × (get_elem? vs j ≡ some u)). (shown.views_fit j u x.1, shown.history.tells j u x.1)) a)
+          (λ (x : (r ≡ u) × (j ≡ n)). part_is r u hands x.0)
+          (there j u e)
+
       after : Shows fits s o t.words t.homes (set vs id l ++ r ∷ [])
-      after = record {
-        words_are = shown.words_are;
-        holders = shown.holders;
-        homes_long = shown.homes_long;
-        homes_are = shown.homes_are;
-        placed = shown.placed;
-        process_at = shown.process_at;
-        seat_of = seat_of';
-        seated = seated';
-        alone = alone';
-        views_fit = λ j u e. ⊎_elim
-            (λ (a : ((j ≡ id) × (l ≡ u)) ⊎ ((j ≢ id) × (get_elem? vs j ≡ some u))). ⊎_elim (λ (x : (j ≡ id) × (l ≡ u)). subst (ViewFits s o) x.1 l_fits)
-            (λ (x : (j ≢ id) × (get_elem? vs j ≡ some u)). shown.views_fit j u x.1) a)
-            (λ (x : (r ≡ u) × (j ≡ n)). subst (ViewFits s o) x.0 r_fits)
-            (there j u e);
-        small = shown.small;
-        log = shown.log;
-        history = let told = shown.history.tells id v here in record {
-          leads = shown.history.leads;
-          theirs = shown.history.theirs;
-          tells = λ j u e. ⊎_elim
-              (λ (a : ((j ≡ id) × (l ≡ u)) ⊎ ((j ≢ id) × (get_elem? vs j ≡ some u))). ⊎_elim (λ (x : (j ≡ id) × (l ≡ u)). subst (ViewTells shown.log) x.1 (tells_kept shown.log v l r cut told))
-              (λ (x : (j ≢ id) × (get_elem? vs j ≡ some u)). shown.history.tells j u x.1) a)
-              (λ (x : (r ≡ u) × (j ≡ n)). subst (ViewTells shown.log) x.0 (tells_handed shown.log v l r cut told))
-              (there j u e);
-        };
-      }
+      after = reseats fits s o t.words t.homes vs (set vs id l ++ r ∷ []) shown shown.process_at seat_of' shown.placed seated' alone' each
 
   pub splits : (id : ℕ) (v l r : View) → KeepsSplit {B = B} fits s id v l r → Splits (Shown {B = B} fits s) id v l r
   splits id v l r none t holds here = (holds.0, none t holds.0 holds.1 here)
@@ -234,12 +229,6 @@ module _ {B : Type 0} (fits : B → ℕ → Bool) (s : Shape) where
             (among_either v.done w.done (q, es) told);
       }
 
-      spent_tells : ViewTells shown.log spent
-      spent_tells = record { has = λ p sits. absurd sits; only = λ q es told. absurd told }
-
-      spent_fits : ViewFits s o spent
-      spent_fits = record { is_owner = λ k p owns. absurd owns; owns_all = λ k p is sits. absurd sits; knows = λ p sits. absurd sits; places = tt }
-
       there : (j : ℕ) (u : View) → get_elem? now j ≡ some u → ((j ≡ other) × (spent ≡ u)) ⊎ ((j ≢ other) × (((j ≡ id) × (both ≡ u)) ⊎ ((j ≢ id) × (get_elem? vs j ≡ some u))))
       there j u e = ⊎_elim (λ (a : (j ≡ other) × (spent ≡ u)). inl a) (λ (b : (j ≢ other) × (get_elem? (set vs id both) j ≡ some u)). inr (b.0, at_set vs id j both u b.1))
           (at_set (set vs id both) other j spent u e)
@@ -288,84 +277,49 @@ module _ {B : Type 0} (fits : B → ℕ → Bool) (s : Shape) where
             was.3,
           )))
 
+      each : (j : ℕ) (u : View) → get_elem? now j ≡ some u → ViewFits s o u × ViewTells shown.log u
+      each j u e = ⊎_elim
+          (λ (a : (j ≡ other) × (spent ≡ u)). subst (λ (z : View). ViewFits s o z × ViewTells shown.log z) a.1 (part_shows s o shown.log v spent (nothing v) fit_v told_v))
+          (λ (b : (j ≢ other) × (((j ≡ id) × (both ≡ u)) ⊎ ((j ≢ id) × (get_elem? vs j ≡ some u)))). ⊎_elim
+          (λ (x : (j ≡ id) × (both ≡ u)). subst (λ (z : View). ViewFits s o z × ViewTells shown.log z) x.1 (both_fits, both_tells))
+          (λ (x : (j ≢ id) × (get_elem? vs j ≡ some u)). (shown.views_fit j u x.1, shown.history.tells j u x.1)) b.1)
+          (there j u e)
+
       after : Shows fits s o t.words t.homes now
-      after = record {
-        words_are = shown.words_are;
-        holders = shown.holders;
-        homes_long = shown.homes_long;
-        homes_are = shown.homes_are;
-        placed = shown.placed;
-        process_at = shown.process_at;
-        seat_of = seat_of';
-        seated = seated';
-        alone = alone';
-        views_fit = λ j u e. ⊎_elim
-            (λ (a : (j ≡ other) × (spent ≡ u)). subst (ViewFits s o) a.1 spent_fits)
-            (λ (b : (j ≢ other) × (((j ≡ id) × (both ≡ u)) ⊎ ((j ≢ id) × (get_elem? vs j ≡ some u)))). ⊎_elim (λ (x : (j ≡ id) × (both ≡ u)). subst (ViewFits s o) x.1 both_fits)
-            (λ (x : (j ≢ id) × (get_elem? vs j ≡ some u)). shown.views_fit j u x.1) b.1)
-            (there j u e);
-        small = shown.small;
-        log = shown.log;
-        history = record {
-          leads = shown.history.leads;
-          theirs = shown.history.theirs;
-          tells = λ j u e. ⊎_elim
-              (λ (a : (j ≡ other) × (spent ≡ u)). subst (ViewTells shown.log) a.1 spent_tells)
-              (λ (b : (j ≢ other) × (((j ≡ id) × (both ≡ u)) ⊎ ((j ≢ id) × (get_elem? vs j ≡ some u)))). ⊎_elim (λ (x : (j ≡ id) × (both ≡ u)). subst (ViewTells shown.log) x.1 both_tells)
-              (λ (x : (j ≢ id) × (get_elem? vs j ≡ some u)). shown.history.tells j u x.1) b.1)
-              (there j u e);
-        };
-      }
+      after = reseats fits s o t.words t.homes vs now shown shown.process_at seat_of' shown.placed seated' alone' each
 
   pub joins : (id other : ℕ) (v w both : View) → KeepsJoin {B = B} fits s id v other w both → Joins (Shown {B = B} fits s) id v other w both spent
   joins id other v w both none t holds here apart seen = (holds.0, none t holds.0 holds.1 here apart (sym (set_else t.views id other both apart) ∙ seen))
 
 -- a new seat of one place
-deal_cut : (s : Shape) (p k : ℕ) → Cut (dealer s p (suc k)) (dealer s (suc p) k) (dealt (dealer s p (suc k)))
-deal_cut s p k = record {
-  keeps = λ q h. inr h;
-  hands = λ q h. ⊎_elim (λ (e : q ≡ p). inl e) (λ (z : ⊥). absurd z) h;
-  either = λ q h. ⊎_elim (λ (e : q ≡ p). inr (inl e)) (λ (t : Among (places_from (suc p) k) q). inl t) h;
-  apart = λ q h m. ⊎_elim (λ (e : q ≡ p). let l = (least (suc p) k q h).0 in absurd (omega arith)) (λ (z : ⊥). z) m;
-  keeps_record = λ r q h. absurd h;
-  keeps_all = λ r q h m. h;
-  hands_record = λ r q h. absurd h;
-  hands_all = λ r q h m. h;
-  keeps_shape = λ q h. refl;
-  hands_shape = λ q h. refl;
-  keeps_list = λ q h. ([], lists_there (places_from (suc p) k) q h);
-  keeps_only = λ q es h. let t = lists_back (places_from (suc p) k) q es h in (inr h, (t.0, t.1, t.2));
-  hands_list = λ q es h there. ⊎_elim (λ (e : q ≡ p). ([], inl (ap (λ (z : ℕ). (place_of z, [])) e))) (λ (z : ⊥). absurd z) h;
-  hands_only = λ q es h. ⊎_elim (λ (e : Same (q, es) (place_of p, [])). inl e) (λ (z : ⊥). absurd z) h;
-  hands_place = λ j q es sits at h. ⊎_elim (λ (e : Same (q, es) (place_of p, [])). (p, inl refl, (two_is q (place_of p) es [] e).0)) (λ (z : ⊥). absurd z) h;
-  keeps_places = λ d. d.1;
-  hands_places = λ d. ((λ z. z), tt);
+later_places : (s : Shape) (p k : ℕ) → Part (dealer s p (suc k)) (dealer s (suc p) k)
+later_places s p k = record {
+  sits = λ q h. inr h;
+  record_of = λ r q h. absurd h;
+  all_records = λ r q h sits. h;
+  same_shape = λ q h. refl;
+  some_list = λ q es h there. ([], lists_there (places_from (suc p) k) q h);
+  only_lists = λ q es h. (inr h, λ j sits at. let t = lists_back (places_from (suc p) k) q es h in (t.0, t.1, t.2));
+  places = λ d. d.1;
 }
 
-whole_cut : (v : View) → Cut v spent v
-whole_cut v = record {
-  keeps = λ q h. absurd h;
-  hands = λ q h. h;
-  either = λ q h. inr h;
-  apart = λ q h m. h;
-  keeps_record = λ r q h. absurd h;
-  keeps_all = λ r q h m. absurd m;
-  hands_record = λ r q h. (h, λ z. z);
-  hands_all = λ r q h m. h;
-  keeps_shape = λ q h. absurd h;
-  hands_shape = λ q h. refl;
-  keeps_list = λ q h. absurd h;
-  keeps_only = λ q es h. absurd h;
-  hands_list = λ q es h there. (es, there);
-  hands_only = λ q es h. h;
-  hands_place = λ p q es sits at h. (p, sits, at);
-  keeps_places = λ d. tt;
-  hands_places = λ d. d;
+first_place : (s : Shape) (p k : ℕ) → Part (dealer s p (suc k)) (dealt (dealer s p (suc k)))
+first_place s p k = record {
+  sits = λ q h. inl (only_one h);
+  record_of = λ r q h. absurd h;
+  all_records = λ r q h sits. h;
+  same_shape = λ q h. refl;
+  some_list = λ q es h there. ([], inl (ap (λ (z : ℕ). (place_of z, [])) (only_one h)));
+  only_lists = λ q es h. (inl (only_one h), λ j sits at. (p, inl refl, (two_is q (place_of p) es [] (only_one h)).0));
+  places = λ d. ((λ z. z), tt);
 }
 
 pub deals : {B : Type 0} (fits : B → ℕ → Bool) (s : Shape) (id : ℕ) (v : View) → IsDealer v → KeepsSplit {B = B} fits s id v (dealt_from v) (dealt v)
-deals {B} fits s id v is = let z : Shape = is.0 in let p : ℕ = is.1 in let k : ℕ = is.2 in
-    subst (λ (u : View). KeepsSplit {B = B} fits s id u (dealt_from u) (dealt u)) (sym is.3) (cuts fits s id (dealer z p (suc k)) (dealer z (suc p) k) (dealt (dealer z p (suc k))) (deal_cut z p k))
+deals {B} fits s id v is =
+    let z : Shape = is.0 in let p : ℕ = is.1 in let k : ℕ = is.2 in subst (λ (u : View). KeepsSplit {B = B} fits s id u (dealt_from u) (dealt u)) (sym is.3)
+    (cuts fits s id (dealer z p (suc k)) (dealer z (suc p) k) (dealt (dealer z p (suc k))) (later_places z p k) (first_place z p k)
+    (λ q h. ⊎_elim (λ (e : q ≡ p). inr (inl e)) (λ (t : Among (places_from (suc p) k) q). inl t) h)
+    (λ q h m. let l = (least (suc p) k q h).0 in let e : q ≡ p = only_one m in absurd (omega arith)))
 
 pub hands_over : {B : Type 0} (fits : B → ℕ → Bool) (s : Shape) (id : ℕ) (v : View) → KeepsSplit {B = B} fits s id v spent v
-hands_over fits s id v = cuts fits s id v spent v (whole_cut v)
+hands_over fits s id v = cuts fits s id v spent v (nothing v) (everything v) (λ q h. inr h) (λ q h m. h)

@@ -6,13 +6,10 @@ use Rattle.xh_model.specs.Keyed.{Among, Distinct}
 use Rattle.xh_model.proofs.Keyed.{among_back, among_either, among_front, dec_among}
 use Rattle.xh_records.specs.inner.Views.{places_from}
 use Rattle.xh_records.specs.inner.Tokens.{AllBelow}
+use Rattle.xh_records.proofs.Elements.{among_map}
 use Rattle.xh_records.proofs.Lists.{few}
 
--- the places of processes
-pub place_in : (ps : List ℕ) (p : ℕ) → Among ps p → Among (map place_of ps) (place_of p)
-place_in [] p h = absurd h
-place_in (x ∷ xs) p h = ⊎_elim (λ (e : p ≡ x). inl (ap place_of e)) (λ (t : Among xs p). inr (place_in xs p t)) h
-
+-- the processes at places
 pub process_in : (ps : List ℕ) (q : ℕ) → Among (map place_of ps) q → (p : ℕ) × Among ps p × (place_of p ≡ q)
 process_in [] q h = absurd h
 process_in (x ∷ xs) q h = ⊎_elim (λ (e : q ≡ place_of x). (x, inl refl, sym e)) (λ (t : Among (map place_of xs) q). let r = process_in xs q t in (r.0, inr r.1, r.2)) h
@@ -22,7 +19,7 @@ pub distinct_places : (xs ys : List ℕ) → Distinct (map place_of xs) → Dist
 distinct_places [] ys a b none = b
 distinct_places (x ∷ xs) ys a b none = (
   λ h. let r = process_in (xs ++ ys) (place_of x) h in ⊎_elim
-      (λ (t : Among xs r.0). a.0 (subst (Among (map place_of xs)) r.2 (place_in xs r.0 t)))
+      (λ (t : Among xs r.0). a.0 (subst (Among (map place_of xs)) r.2 (among_map place_of xs r.0 t)))
       (λ (t : Among ys r.0). none x r.0 (inl refl) t (sym r.2))
       (among_either xs ys r.0 r.1),
   distinct_places xs ys a.1 b (λ p q t u e. none p q (inr t) u e),
@@ -31,14 +28,14 @@ distinct_places (x ∷ xs) ys a b none = (
 pub not_twice : (xs : List ℕ) (y p : ℕ) → Distinct (map place_of (xs ++ y ∷ [])) → Among xs p → place_of p ≡ place_of y → ⊥
 not_twice [] y p d h e = h
 not_twice (x ∷ xs) y p d h e = ⊎_elim
-    (λ (s : p ≡ x). d.0 (subst (Among (map place_of (xs ++ y ∷ []))) (sym e ∙ ap place_of s) (place_in (xs ++ y ∷ []) y (among_back xs (y ∷ []) y (inl refl)))))
+    (λ (s : p ≡ x). d.0 (subst (Among (map place_of (xs ++ y ∷ []))) (sym e ∙ ap place_of s) (among_map place_of (xs ++ y ∷ []) y (among_back xs (y ∷ []) y (inl refl)))))
     (λ (t : Among xs p). not_twice xs y p d.1 t e)
     h
 
 pub distinct_front : (xs : List ℕ) (y : ℕ) → Distinct (map place_of (xs ++ y ∷ [])) → Distinct (map place_of xs)
 distinct_front [] y d = tt
 distinct_front (x ∷ xs) y d = (
-  λ h. let r = process_in xs (place_of x) h in d.0 (subst (Among (map place_of (xs ++ y ∷ []))) r.2 (place_in (xs ++ y ∷ []) r.0 (among_front xs (y ∷ []) r.0 r.1))),
+  λ h. let r = process_in xs (place_of x) h in d.0 (subst (Among (map place_of (xs ++ y ∷ []))) r.2 (among_map place_of (xs ++ y ∷ []) r.0 (among_front xs (y ∷ []) r.0 r.1))),
   distinct_front xs y d.1,
 )
 

@@ -1,8 +1,9 @@
 -- Elements of lists, and one of two numbers by a test.
-use Rattle.std.proofs.Common.{◌≡◌, ℕ, zero, suc, ◌<◌, List, [], ◌∷◌, ◌++◌, length, get_or, sym, refl, ap, ◌⊎◌, inl, inr, ⊎_elim, arith}
+use Rattle.std.proofs.Common.{◌≡◌, ℕ, zero, suc, ◌<◌, List, [], ◌∷◌, ◌++◌, map, length, get_or, sym, refl, ap, ◌⊎◌, inl, inr, ⊎_elim, arith}
 use Rattle.std.specs.Prelude.{Some, None, slice_get}
 use mathlib.Core.Option.{some, some-injective, some-ne-none}
 use lib.ListN.{get_elem?}
+use Rattle.xh_model.specs.Keyed.{Among}
 
 -- an element that is there is within the list
 pub in_range : {A : Type 0} (l : List A) (i : ℕ) (a : A) → get_elem? l i ≡ some a → i < length l
@@ -36,6 +37,14 @@ pub slice_elem : {A : Type 0} (l : List A) (k : ℕ) (x : A) → slice_get l k �
 slice_elem [] k x e = let f : None ≡ Some x = e in absurd (cc)
 slice_elem (y ∷ ys) zero x e = let f : Some y ≡ Some x = e in let g : y ≡ x = cc in ap (λ z. some z) g
 slice_elem (y ∷ ys) (suc k) x e = slice_elem ys k x e
+
+pub among_map : (f : ℕ → ℕ) (xs : List ℕ) (x : ℕ) → Among xs x → Among (map f xs) (f x)
+among_map f [] x h = absurd h
+among_map f (y ∷ ys) x h = ⊎_elim (λ (e : x ≡ y). inl (ap f e)) (λ (t : Among ys x). inr (among_map f ys x t)) h
+
+-- an element of a list of one
+pub only_one : {A : Type 0} {x y : A} → Among (y ∷ []) x → x ≡ y
+only_one h = ⊎_elim (λ e. e) (λ (z : ⊥). absurd z) h
 
 -- one of two, by a test
 pub pick : {X : Type 0} → Dec X → ℕ → ℕ → ℕ

@@ -1,35 +1,6 @@
 -- The closed table: its words, the lots at home, and those that the seats had.
-use Rattle.std.proofs.Common.{
-  ◌≡◌,
-  ℕ,
-  zero,
-  suc,
-  ◌*◌,
-  ◌<◌,
-  map,
-  length-append,
-  ◌≤◌,
-  Bool,
-  List,
-  [],
-  ◌∷◌,
-  ◌++◌,
-  length,
-  take,
-  get_or,
-  sym,
-  refl,
-  ap,
-  ◌∙◌,
-  subst,
-  inl,
-  inr,
-  ⊎_elim,
-  arith,
-  cond,
-  ne_eqb,
-  rules,
-}
+use Rattle.std.proofs.Common.{◌≡◌, ℕ, zero, suc, ◌*◌, ◌<◌, map, length-append, ◌≤◌, Bool, List, [], ◌∷◌}
+use Rattle.std.proofs.Common.{◌++◌, length, take, get_or, sym, refl, ap, ◌∙◌, subst, inl, inr, ⊎_elim, arith, rules}
 use Rattle.std.proofs.lemmas.List.{length-map}
 use Rattle.std.specs.Prelude.{Option, Some, None, slice_get}
 use Rattle.std.specs.Option.{option_or, IsSome}
@@ -46,20 +17,20 @@ use Rattle.xh_model.specs.Slots.{index_of}
 use Rattle.xh_model.specs.declared.event.Event.{Event}
 use Rattle.xh_model.specs.Words.{Ownership, IsHeldBy, word_of, place_of, number_of}
 use Rattle.xh_model.proofs.Words.{index_back}
-use Rattle.xh_model.specs.Keyed.{Among, Distinct, keys, value_at}
-use Rattle.xh_model.proofs.Keyed.{among_back, among_either, among_front}
+use Rattle.xh_model.specs.Keyed.{Among, Distinct, keys}
+use Rattle.xh_model.proofs.Keyed.{among_back, among_either, among_front, at_key}
 use Rattle.xh_records.specs.declared.shape.Shape.{Shape}
 use Rattle.xh_records.specs.declared.view.View.{View}
-use Rattle.xh_records.specs.Showing.{Sits, Owns, ViewFits, Shows, Shown, IsSmall}
+use Rattle.xh_records.specs.Showing.{IsLotAt, Sits, Owns, ViewFits, Shows, Shown, IsSmall}
 use Rattle.xh_records.specs.Seats.{Held, owned_by, indices, lot_in, view_of, Ends, EndsAs}
-use Rattle.xh_records.specs.inner.Events.{IsAway}
+use Rattle.xh_records.specs.inner.Events.{IsAway, IsHomeLot}
 use Rattle.xh_records.specs.inner.Views.{spent}
 use Rattle.xh_records.specs.inner.Gathering.{slot_at, or_else, IsGathered}
-use Rattle.xh_records.proofs.Elements.{in_range, is_there, elem_slice, slice_elem, nth_is}
-use Rattle.xh_records.proofs.Keeps.{one_holder, same_place, never}
+use Rattle.xh_records.proofs.Elements.{in_range, is_there, only_one, elem_slice, slice_elem, nth_is}
+use Rattle.xh_records.proofs.Keeps.{home_lot, one_holder, same_place, never}
 use Rattle.xh_records.proofs.Lists.{among_owned, none_or_some}
 use Rattle.xh_records.proofs.Distinct.{process_in, not_twice, distinct_front, covers}
-use Rattle.xh_records.proofs.Numbered.{among_map}
+use Rattle.xh_records.proofs.Elements.{among_map}
 
 -- each place has its seat among these
 abbrev AllSit : {B : Type 0} → ℕ → List (Held B) → Type 0
@@ -72,7 +43,7 @@ pub gathers : {B : Type 0} (m : ℕ) (seats : List (Held B)) (x : Held B) (v v' 
 gathers {B} m seats x v v' held held' at old places records lists long has fill = record {
   each = λ p h. ⊎_elim
       (λ (a : Among v.processes p). old.each p a)
-      (λ (b : Among (x.process ∷ []) p). (m, x, at, ⊎_elim (λ (e : p ≡ x.process). sym e) (λ (z : ⊥). absurd z) b))
+      (λ (b : Among (x.process ∷ []) p). (m, x, at, sym (only_one b)))
       (among_either v.processes (x.process ∷ []) p (subst (λ (l : List ℕ). Among l p) places h));
   count = let c = old.count in let l = ap length places ∙ length-append v.processes (x.process ∷ []) in omega arith;
   one = λ d i j y z at_y at_z le le' e.
@@ -139,14 +110,9 @@ owned_back q [] r p h = absurd h
 owned_back q (x ∷ xs) r p h = ⊎_elim (λ (e : (r, p) ≡ (x, q)). (inl (ap (λ (z : ℕ × ℕ). z.0) e), ap (λ (z : ℕ × ℕ). z.1) e))
     (λ (t : Among (owned_by q xs) (r, p)). let u = owned_back q xs r p t in (inr u.0, u.1)) h
 
-has_key : {L : Type 0} (r : ℕ) (lots : List (ℕ × L)) (l : L) → value_at r lots ≡ Some l → Among (keys lots) r
-has_key r [] l = λ e. absurd (cc)
-has_key {L} r (y ∷ ys) l = dite (ℕ_discrete y.0 r) (λ same e. inl (sym same)) (λ n. subst (λ (b : Bool). cond b (Some y.1) (value_at r ys) ≡ Some l → Among (keys (y ∷ ys)) r)
-    (sym (ne_eqb y.0 r n)) (λ (e : value_at r ys ≡ Some l). inr (has_key r ys l e)))
-
 has_index : {B : Type 0} (x : Held B) (k : ℕ) (l : LotOf B) → IsSmall x.shape → lot_in k x ≡ Some l → Among (indices x) k
 has_index x k l small e = let n : ℕ = x.shape.records in
-    subst (λ (z : ℕ). Among (indices x) z) (index_back n k small.0 small.1) (among_map (index_of n) (keys x.lots) (number_of n k) (has_key (number_of n k) x.lots l e))
+    subst (λ (z : ℕ). Among (indices x) z) (index_back n k small.0 small.1) (among_map (index_of n) (keys x.lots) (number_of n k) (at_key (number_of n k) l x.lots e))
 
 pub take_one_more : {A : Type 0} (l : List A) (i : ℕ) (a : A) → get_elem? l i ≡ some a → take (suc i) l ≡ take i l ++ a ∷ []
 take_one_more [] i a e = absurd (some-ne-none a (sym e))
@@ -218,16 +184,14 @@ module _ {B : Type 0} (fits : B → ℕ → Bool) (s : Shape) (id : ℕ) (v : Vi
   free_away p e = let w : word_of None ≡ word_of (Some (Process p)) = ap word_of e in absurd (omega arith)
 
   -- the lot of each record
+  at_home : (k : ℕ) (h : Option Holder) → IsHeldBy o k h → IsAway h → (l : LotOf B) × (or_else (slot_at held k) (slot_at xs k) ≡ Some l) × (IsLotAt s k l × IsHomeLot fits h l)
+  at_home k h is free = let home = shown.homes_are k h is in let lot = home_lot fits s k h home.0 free home.2 in
+      (lot.0, ap (λ (z : Option (LotOf B)). or_else z (slot_at xs k)) (not_taken k h is free) ∙ nth_is xs k None (Some lot.0) (final.4 k (Some lot.0) (home.1 ∙ ap some lot.1)), (lot.2, lot.3))
+
   pub ended : (k : ℕ) (h : Option Holder) → IsHeldBy o k h → (l : LotOf B) × (or_else (slot_at held k) (slot_at xs k) ≡ Some l) × EndsAs fits s seats k h l
-  ended k None is =
-      let home = shown.homes_are k None is in let lot = home.2 in
-      let at = final.4 k (Some lot.0) (home.1 ∙ ap some lot.1) in
-      (lot.0, ap (λ (z : Option (LotOf B)). or_else z (slot_at xs k)) (not_taken k None is free_away) ∙ nth_is xs k None (Some lot.0) at, (lot.2, lot.3))
+  ended k None is = at_home k None is free_away
   ended k (Some (Process p)) is = let t = by_process k p is in (t.4, ap (λ (z : Option (LotOf B)). or_else z (slot_at xs k)) t.6, (t.0, t.1, elem_slice seats t.0 t.1 t.2, t.3, t.5))
-  ended k (Some (Direction d)) is =
-      let home = shown.homes_are k (Some (Direction d)) is in let lot = home.2 in
-      let at = final.4 k (Some lot.0) (home.1 ∙ ap some lot.1) in
-      (lot.0, ap (λ (z : Option (LotOf B)). or_else z (slot_at xs k)) (not_taken k (Some (Direction d)) is (never d)) ∙ nth_is xs k None (Some lot.0) at, (lot.2, lot.3))
+  ended k (Some (Direction d)) is = at_home k (Some (Direction d)) is (never d)
 
   pub some_lot : (k : ℕ) → k < length xs → (l : LotOf B) × (or_else (slot_at held k) (slot_at xs k) ≡ Some l)
   some_lot k h = let there = is_there o k (let e : length o ≡ length held = count in omega arith) in let t = ended k there.0 there.1 in (t.0, t.1)

@@ -1,5 +1,5 @@
 -- The list of all events, as it grows, and the views' parts of it.
-use Rattle.std.proofs.Common.{◌≡◌, ℕ, ◌<◌, ◌≢◌, Bool, true, false, List, [], ◌∷◌, ◌++◌, length, set, sym, refl, ap, ◌∙◌, subst, ◌⊎◌, inl, inr, ⊎_elim, eq-eqb, ne_eqb, cond}
+use Rattle.std.proofs.Common.{◌≡◌, ℕ, ◌<◌, ◌≢◌, Bool, true, false, List, [], ◌∷◌, ◌++◌, length, set, sym, refl, ap, ◌∙◌, subst, inl, inr, ⊎_elim, eq-eqb, ne_eqb, cond}
 use Rattle.std.specs.Prelude.{◌==◌}
 use mathlib.Core.Option.{some}
 use lib.ListN.{get_elem?}
@@ -7,11 +7,13 @@ use Rattle.atomic_table.proofs.Lists.{at_set}
 use Rattle.xh_model.specs.declared.event.Event.{Event}
 use Rattle.xh_model.specs.Words.{Ownership, IsDone, place_of}
 use Rattle.xh_model.specs.Keyed.{Among}
+use Rattle.xh_model.proofs.Keyed.{among_either}
 use Rattle.xh_records.specs.declared.shape.Shape.{Shape}
 use Rattle.xh_records.specs.declared.view.View.{View}
 use Rattle.xh_records.specs.After.{IsAfter}
 use Rattle.xh_records.specs.History.{LeadsTo, all_free, by_place, process_of}
 use Rattle.xh_records.specs.Showing.{Sits, ViewTells, IsHistory}
+use Rattle.xh_records.proofs.Elements.{only_one}
 use Rattle.xh_records.specs.inner.Views.{IsAlone, adds, events_in, first_list, no_events}
 
 -- one more event
@@ -42,7 +44,7 @@ two_is q k es fs e = (ap (λ (z : ℕ × List Event). z.0) e, ap (λ (z : ℕ ×
 
 -- an entry of a list of one
 pub one_is : (l : List (ℕ × List Event)) (q k : ℕ) (es fs : List Event) → l ≡ (k, fs) ∷ [] → Among l (q, es) → (q ≡ k) × (es ≡ fs)
-one_is l q k es fs is there = ⊎_elim (λ (e : Same (q, es) (k, fs)). two_is q k es fs e) (λ (z : ⊥). absurd z) (subst (λ (z : List (ℕ × List Event)). Among z (q, es)) is there)
+one_is l q k es fs is there = two_is q k es fs (only_one (subst (λ (z : List (ℕ × List Event)). Among z (q, es)) is there))
 
 -- the part of a place, and the list of it
 abbrev pub part : List Event → ℕ → ℕ × List Event
@@ -62,7 +64,7 @@ tells_mine log v w e tells alone same more =
     let grown : before ++ e ∷ [] ≡ by_place (place_of p) (log ++ e ∷ []) = ap (λ (z : List Event). z ++ e ∷ []) (list_is log v p tells alone) ∙ sym (by_place_more (place_of p) log e refl) in
     let mine : w.processes ≡ p ∷ [] = same ∙ alone.0 in record {
       has = λ x sits.
-          let is : x ≡ p = ⊎_elim (λ (z : x ≡ p). z) (λ (z : ⊥). absurd z) (subst (λ (k : List ℕ). Among k x) mine sits) in
+          let is : x ≡ p = only_one (subst (λ (k : List ℕ). Among k x) mine sits) in
           subst (λ (z : List (ℕ × List Event)). Among z (part (log ++ e ∷ []) x)) (sym now) (inl (ap (part (log ++ e ∷ [])) is ∙ ap (λ (z : List Event). (place_of p, z)) (sym grown)));
       only = λ q es there.
           let is = one_is w.done q (place_of p) es (before ++ e ∷ []) now there in
@@ -84,17 +86,12 @@ pub more_history : (s : Shape) (o o' : Ownership) (views : List View) (log : Lis
     → ((j p : ℕ) (u : View) → j ≢ id → get_elem? views j ≡ some u → Sits u p → place_of (process_of e) ≢ place_of p) → IsHistory s o' (set views id w) (log ++ e ∷ [])
 more_history s o o' views log id v w e old done after long inside at alone same more apart = record {
   leads = subst (λ (n : ℕ). LeadsTo s.records (all_free n) (log ++ e ∷ []) o') (sym long) (leads_more s.records (all_free (length o)) o o' log e old.leads done after);
-  theirs = λ x there. ⊎_elim (λ (a : Among log x). old.theirs x a) (λ (b : Among (e ∷ []) x). ⊎_elim (λ (i : x ≡ e). subst (λ (z : Event). place_of (process_of z) < s.places) (sym i) inside)
-      (λ (z : ⊥). absurd z) b) (either log x there);
+  theirs = λ x there. ⊎_elim (λ (a : Among log x). old.theirs x a) (λ (b : Among (e ∷ []) x). subst (λ (z : Event). place_of (process_of z) < s.places) (sym (only_one b)) inside) (among_either log (e ∷ []) x there);
   tells = λ j u there. ⊎_elim
       (λ (t : (j ≡ id) × (w ≡ u)). subst (ViewTells (log ++ e ∷ [])) t.1 (tells_mine log v w e (old.tells id v at) alone same more))
       (λ (t : (j ≢ id) × (get_elem? views j ≡ some u)). tells_others log u e (old.tells j u t.1) (λ p sits. apart j p u t.0 t.1 sits))
       (at_set views id j w u there);
 }
-  where
-    either : (xs : List Event) (x : Event) → Among (xs ++ e ∷ []) x → Among xs x ⊎ Among (e ∷ []) x
-    either [] x h = inr h
-    either (y ∷ xs) x h = ⊎_elim (λ (z : x ≡ y). inl (inl z)) (λ (t : Among (xs ++ e ∷ []) x). ⊎_elim (λ (a : Among xs x). inl (inr a)) (λ (b : Among (e ∷ []) x). inr b) (either xs x t)) h
 
 -- the one list of a view, and one more event in it
 pub adds_one : (e : Event) (q : ℕ) (l : List (ℕ × List Event)) → l ≡ (q, first_list l) ∷ [] → (first_list (adds e l) ≡ first_list l ++ e ∷ []) × (adds e l ≡ (q, first_list (adds e l)) ∷ [])

@@ -1,5 +1,5 @@
 -- A step on one record's word keeps the rule.
-use Rattle.std.proofs.Common.{◌≡◌, ℕ, ◌%◌, ◌<◌, ◌≢◌, Bool, List, [], ◌∷◌, ◌++◌, map, length, set, get_or, eqb, sym, refl, ap, ◌∙◌, subst, inl, inr, ⊎_elim, arith, length-set, ne_eqb, eq-eqb, cond}
+use Rattle.std.proofs.Common.{◌≡◌, ℕ, ◌%◌, ◌<◌, ◌≢◌, Bool, List, [], ◌∷◌, ◌++◌, map, length, set, get_or, eqb, sym, refl, ap, ◌∙◌, subst, inl, inr, ⊎_elim, arith, length-set, ne_eqb, eq-eqb}
 use Rattle.std.specs.Prelude.{Option, Some, None}
 use mathlib.Core.Option.{none, some, some-injective, some-ne-none}
 use mathlib.Core.Option as maybe
@@ -11,7 +11,7 @@ use Rattle.atomic_table.specs.Table.{State, Me, Act, rest, put_back, takes, give
 use Rattle.atomic_table.proofs.Lists.{at_set, set_here, set_else, set_again, at_map}
 use Rattle.xh_arena.specs.Views.{LotOf}
 use Rattle.xh_model.specs.Keyed.{Among, Distinct, without}
-use Rattle.xh_model.proofs.Keyed.{among_back, among_either, among_front}
+use Rattle.xh_model.proofs.Keyed.{among_back, among_either, among_front, without_here, without_there}
 use Rattle.xh_records.specs.declared.shape.Shape.{Shape}
 use Rattle.xh_records.specs.declared.view.View.{View}
 use Rattle.xh_model.specs.declared.event.Holder.{Holder}
@@ -28,7 +28,7 @@ use Rattle.xh_records.specs.inner.Views.{IsAlone, adds, gained, lost}
 use Rattle.xh_records.specs.inner.Steps.{took, gave, looked, process_in}
 use Rattle.xh_records.proofs.History.{more_history}
 use Rattle.xh_records.proofs.After.{done_after}
-use Rattle.xh_records.proofs.Elements.{in_range, is_there, nth_is}
+use Rattle.xh_records.proofs.Elements.{in_range, is_there, nth_is, only_one}
 use prog.Atomic.{either}
 
 -- words
@@ -155,21 +155,32 @@ module _ {B : Type 0} (fits : B → ℕ → Bool) (s : Shape) (o : Ownership) (w
   }
 
 pub among_without : (r : ℕ) (xs : List (ℕ × ℕ)) (x : ℕ × ℕ) → Among (without r xs) x → Among xs x × (x.0 ≢ r)
-among_without r [] x = λ h. absurd h
-among_without r (y ∷ ys) x = dite (ℕ_discrete y.0 r)
-    (λ e. subst (λ (b : Bool). Among (cond b (without r ys) (y ∷ without r ys)) x → Among (y ∷ ys) x × (x.0 ≢ r)) (sym (eq-eqb y.0 r e))
-    (λ (h : Among (without r ys) x). let t = among_without r ys x h in (inr t.0, t.1)))
-    (λ n. subst (λ (b : Bool). Among (cond b (without r ys) (y ∷ without r ys)) x → Among (y ∷ ys) x × (x.0 ≢ r)) (sym (ne_eqb y.0 r n))
-    (λ (h : Among (y ∷ without r ys) x). ⊎_elim (λ (e : x ≡ y). (inl e, λ (q : x.0 ≡ r). n (ap (λ (z : ℕ × ℕ). z.0) (sym e) ∙ q)))
-    (λ (u : Among (without r ys) x). let t = among_without r ys x u in (inr t.0, t.1)) h))
+among_without r [] x h = absurd h
+among_without r (y ∷ ys) x h = dite (ℕ_discrete y.0 r)
+    (λ e. let t = among_without r ys x (subst (λ (l : List (ℕ × ℕ)). Among l x) (without_here r y ys e) h) in (inr t.0, t.1))
+    (λ n. ⊎_elim (λ (e : x ≡ y). (inl e, λ (q : x.0 ≡ r). n (ap (λ (z : ℕ × ℕ). z.0) (sym e) ∙ q)))
+    (λ (u : Among (without r ys) x). let t = among_without r ys x u in (inr t.0, t.1)) (subst (λ (l : List (ℕ × ℕ)). Among l x) (without_there r y ys n) h))
 
 pub among_kept : (r : ℕ) (xs : List (ℕ × ℕ)) (x : ℕ × ℕ) → x.0 ≢ r → Among xs x → Among (without r xs) x
 among_kept r [] x n h = absurd h
 among_kept r (y ∷ ys) x other h = dite (ℕ_discrete y.0 r)
-    (λ e. subst (λ (b : Bool). Among (cond b (without r ys) (y ∷ without r ys)) x) (sym (eq-eqb y.0 r e))
+    (λ e. subst (λ (l : List (ℕ × ℕ)). Among l x) (sym (without_here r y ys e))
     (⊎_elim (λ (q : x ≡ y). absurd (other (ap (λ (z : ℕ × ℕ). z.0) q ∙ e))) (λ (u : Among ys x). among_kept r ys x other u) h))
-    (λ n. subst (λ (b : Bool). Among (cond b (without r ys) (y ∷ without r ys)) x) (sym (ne_eqb y.0 r n))
-    (⊎_elim (λ (q : x ≡ y). inl q) (λ (u : Among ys x). inr (among_kept r ys x other u)) h))
+    (λ n. subst (λ (l : List (ℕ × ℕ)). Among l x) (sym (without_there r y ys n)) (⊎_elim (λ (q : x ≡ y). inl q) (λ (u : Among ys x). inr (among_kept r ys x other u)) h))
+
+-- by the event e the record n goes from h to k, and the process p does it
+abbrev IsMove : Event → ℕ → ℕ → Option Holder → Option Holder → Type 0
+IsMove e n p h k = (record_of e ≡ n) × (from_of e ≡ h) × (to_of e ≡ k) × (process_of e ≡ p)
+
+taking_is : (p n : ℕ) (h : Option Holder) → IsAway h → IsMove (taking p n h) n p h (Some (Process p))
+taking_is p n None away = (refl, refl, refl, refl)
+taking_is p n (Some (Process q)) away = absurd (away q refl)
+taking_is p n (Some (Direction d)) away = (refl, refl, refl, refl)
+
+giving_is : (p n : ℕ) (k : Option Holder) → IsAway k → IsMove (giving p n k) n p (Some (Process p)) k
+giving_is p n None away = (refl, refl, refl, refl)
+giving_is p n (Some (Process q)) away = absurd (away q refl)
+giving_is p n (Some (Direction d)) away = (refl, refl, refl, refl)
 
 pub same_place : (p q : ℕ) → word_of (Some (Process p)) ≡ word_of (Some (Process q)) → p ≡ q
 same_place p q e = omega arith
@@ -212,9 +223,6 @@ module _ {B : Type 0} (fits : B → ℕ → Bool) (s : Shape) where
     ),
   )
 
-  not_process : Option Holder → Type 0
-  not_process h = (p : ℕ) → h ≡ Some (Process p) → ⊥
-
   pub takes_change : (o : Ownership) (v : View) (r p : ℕ) (h : Option Holder) → ViewFits s o v → IsHeldBy o r h → ((q : ℕ) → h ≡ Some (Process q) → ⊥) → v.processes ≡ p ∷ []
       → Change v (gained v r p h) r h (Some (Process p))
   takes_change o v r p h fit held free mine = let sits_p : Sits v p = subst (λ (l : List ℕ). Among l p) (sym mine) (inl refl) in
@@ -223,54 +231,25 @@ module _ {B : Type 0} (fits : B → ℕ → Bool) (s : Shape) where
         shape = refl;
         was_mine = λ q e. absurd (free q e);
         is_mine = λ q e. subst (λ (x : ℕ). Sits v x) (turn q e) sits_p;
-        no_more = λ r' q n owns. ⊎_elim (λ (a : Owns v r' q). a) (λ (b : Among ((r, p) ∷ []) (r', q)). ⊎_elim (λ (e : (r', q) ≡ (r, p)). absurd (n (ap (λ (z : ℕ × ℕ). z.0) e)))
-            (λ (z : ⊥). absurd z) b) (among_either v.records ((r, p) ∷ []) (r', q) owns);
+        no_more = λ r' q n owns. ⊎_elim (λ (a : Owns v r' q). a) (λ (b : Among ((r, p) ∷ []) (r', q)). absurd (n (ap (λ (z : ℕ × ℕ). z.0) (only_one b))))
+            (among_either v.records ((r, p) ∷ []) (r', q) owns);
         no_less = λ r' q n owns. among_front v.records ((r, p) ∷ []) (r', q) owns;
         right = λ q owns. ⊎_elim (λ (a : Owns v r q). absurd (free q (one_holder o r h (Some (Process q)) held (fit.is_owner r q a).0)))
-            (λ (b : Among ((r, p) ∷ []) (r, q)). ⊎_elim (λ (e : (r, q) ≡ (r, p)). ap (λ (z : ℕ × ℕ). Some (Process z.1)) (sym e)) (λ (z : ⊥). absurd z) b)
+            (λ (b : Among ((r, p) ∷ []) (r, q)). ap (λ (z : ℕ × ℕ). Some (Process z.1)) (sym (only_one b)))
             (among_either v.records ((r, p) ∷ []) (r, q) owns);
         left = λ q e. among_back v.records ((r, p) ∷ []) (r, q) (inl (ap (λ (x : ℕ). (r, x)) (sym (turn q e))));
       }
 
   -- the event of a step that takes, or gives
-  pub takes_by : (v : View) (r p : ℕ) (h : Option Holder) → ((q : ℕ) → h ≡ Some (Process q) → ⊥) → IsSmall s → v.shape ≡ s → IsAlone v p
-      → By s v (gained v r p h) r h (Some (Process p)) (taking p (number_of s.records r) h)
-  takes_by v r p None away small same alone = record {
-    inside = number_inside s.records r small.0 small.1;
-    index = index_back s.records r small.0 small.1;
-    from = refl;
-    to = refl;
-    alone = alone;
-    done = ap (λ (z : Shape). adds (taking p (number_of z.records r) None) v.done) same;
-  }
-  takes_by v r p (Some (Process q)) away small same alone = absurd (away q refl)
-  takes_by v r p (Some (Direction d)) away small same alone = record {
-    inside = number_inside s.records r small.0 small.1;
-    index = index_back s.records r small.0 small.1;
-    from = refl;
-    to = refl;
-    alone = alone;
-    done = ap (λ (z : Shape). adds (taking p (number_of z.records r) (Some (Direction d))) v.done) same;
-  }
-
-  pub gives_by : (v : View) (r p : ℕ) (k : Option Holder) → ((q : ℕ) → k ≡ Some (Process q) → ⊥) → IsSmall s → v.shape ≡ s → IsAlone v p
-      → By s v (lost v r p k) r (Some (Process p)) k (giving p (number_of s.records r) k)
-  gives_by v r p None away small same alone = record {
-    inside = number_inside s.records r small.0 small.1;
-    index = index_back s.records r small.0 small.1;
-    from = refl;
-    to = refl;
-    alone = alone;
-    done = ap (λ (z : Shape). adds (giving p (number_of z.records r) None) v.done) same;
-  }
-  gives_by v r p (Some (Process q)) away small same alone = absurd (away q refl)
-  gives_by v r p (Some (Direction d)) away small same alone = record {
-    inside = number_inside s.records r small.0 small.1;
-    index = index_back s.records r small.0 small.1;
-    from = refl;
-    to = refl;
-    alone = alone;
-    done = ap (λ (z : Shape). adds (giving p (number_of z.records r) (Some (Direction d))) v.done) same;
+  step_by : (v w : View) (r p : ℕ) (h k : Option Holder) (e : ℕ → Event) → ((n : ℕ) → IsMove (e n) n p h k) → IsSmall s → v.shape ≡ s → IsAlone v p
+      → w.done ≡ adds (e (number_of v.shape.records r)) v.done → By s v w r h k (e (number_of s.records r))
+  step_by v w r p h k e is small same alone done = let n : ℕ = number_of s.records r in let i = is n in record {
+    inside = subst (λ (z : ℕ). z % 256 < s.records) (sym i.0) (number_inside s.records r small.0 small.1);
+    index = ap (index_of s.records) i.0 ∙ index_back s.records r small.0 small.1;
+    from = i.1;
+    to = i.2;
+    alone = subst (IsAlone v) (sym i.3) alone;
+    done = done ∙ ap (λ (z : Shape). adds (e (number_of z.records r)) v.done) same;
   }
 
   -- what is at home, where no process holds the record
@@ -303,7 +282,7 @@ module _ {B : Type 0} (fits : B → ℕ → Bool) (s : Shape) where
         subst (λ (m : ℕ). Shown fits s (stepped t r m id me.1 w act)) (sym (subst (λ (b : Bool). either b new n ≡ word_of (Some (Process p))) (sym (eq-eqb n old hit)) is_new)) (
           set o r (Some (Process p)),
           moved fits s o t.words t.homes t.views shown id r me.0 w h (Some (Process p)) seen held (takes_change o me.0 r p h fit held free mine)
-              (taking p (number_of s.records r) h) (takes_by me.0 r p h free shown.small (fit.knows p sits) alone) none good refl,
+              (taking p (number_of s.records r) h) (step_by me.0 w r p h (Some (Process p)) (λ n. taking p n h) (λ n. taking_is p n h free) shown.small (fit.knows p sits) alone refl) none good refl,
         ),
         (
           (λ _. (
@@ -353,7 +332,7 @@ module _ {B : Type 0} (fits : B → ℕ → Bool) (s : Shape) where
           subst (λ (z : ℕ × List (maybe.Option S)). Shows fits s (set o r k) (set t.words r z.0) z.1 (set t.views id w))
               (λ i. (sym is_new i, ap (λ (c : List (ℕ × S)). put_back t.homes c) (sym front) i))
               (moved fits s o t.words t.homes t.views shown id r me.0 w (Some (Process p)) k seen was.0 (gives_change o me.0 r p k fit owns free) (giving p (number_of s.records r) k)
-              (gives_by me.0 r p k free shown.small (fit.knows p was.1) alone) y good (home_is r k lot (subst (λ (z : Shape). IsLotAt z r lot) (fit.knows p was.1) is_lot) home)),
+              (step_by me.0 w r p (Some (Process p)) k (λ n. giving p n k) (λ n. giving_is p n k free) shown.small (fit.knows p was.1) alone refl) y good (home_is r k lot (subst (λ (z : Shape). IsLotAt z r lot) (fit.knows p was.1) is_lot) home)),
         ),
         (λ j e. let is : k ≡ j = word_injective k j (sym is_new ∙ e) in (λ i. (lost me.0 r (sym placed i) (is i), rest me.1))),
       )

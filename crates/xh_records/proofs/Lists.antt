@@ -1,42 +1,6 @@
 -- Lists of numbers, and lists with keys.
-use Rattle.std.proofs.Common.{
-  ◌≡◌,
-  ℕ,
-  zero,
-  suc,
-  ◌+◌,
-  ◌<◌,
-  ◌≤◌,
-  ◌≢◌,
-  Bool,
-  true,
-  false,
-  List,
-  [],
-  ◌∷◌,
-  ◌++◌,
-  length,
-  set,
-  get_or,
-  eqb,
-  append_assoc,
-  append-nil,
-  get_or-set_same,
-  get_or-set_other,
-  sym,
-  refl,
-  ap,
-  ◌∙◌,
-  subst,
-  ◌⊎◌,
-  inl,
-  inr,
-  ⊎_elim,
-  arith,
-  ne_eqb,
-  cond,
-  ◌||◌,
-}
+use Rattle.std.proofs.Common.{◌≡◌, ℕ, zero, suc, ◌+◌, ◌-◌, ◌<◌, ◌≤◌, ◌≢◌, Bool, true, false, List, [], ◌∷◌, ◌++◌, length, set}
+use Rattle.std.proofs.Common.{get_or, eqb, append_assoc, append-nil, get_or-set_same, get_or-set_other, sym, refl, ap, ◌∙◌, subst, ◌⊎◌, inl, inr, ⊎_elim, arith, ne_eqb, cond, ◌||◌}
 use Rattle.std.specs.Prelude.{Option, Some, None}
 use Rattle.std.specs.List.{remove, IsDistinct, AllByRecursion, list_any}
 use Rattle.std.proofs.lemmas.Map.Steps.{length-le_from_distinct_below}
@@ -44,13 +8,12 @@ use mathlib.Core.Option.{some}
 use mathlib.Core.Logic.{dite}
 use native.Mathlib.Decide.{ℕ_discrete}
 use lib.ListN.{get_elem?}
-use Rattle.atomic_table.proofs.Lists.{at_index}
+use Rattle.atomic_table.specs.Table.{rest}
 use Rattle.xh_model.specs.Keyed.{Among, Distinct, keys, put, without}
 use Rattle.xh_model.proofs.Keyed.{distinct_split, here_first, keys_append, length-keys, not_here, put_here, put_split, put_there, split_at_key, without_split}
 use Rattle.xh_records.specs.Seats.{owned_by}
-use Rattle.xh_records.specs.inner.Tokens.{AllBelow, turns, in_slot}
+use Rattle.xh_records.specs.inner.Tokens.{AllBelow, IsTurned, turns, in_slot}
 use Rattle.xh_records.specs.inner.Gathering.{slot_at, or_else}
-use Rattle.xh_records.proofs.Elements.{nth_is}
 
 pub apart_all : (xs : List ℕ) (x : ℕ) → (Among xs x → ⊥) → AllByRecursion (λ y. eqb x y ≡ false) xs
 apart_all [] x n = tt
@@ -148,38 +111,25 @@ all_front [] [] h = refl
 all_front [] (y ∷ ys) h = absurd (omega arith)
 all_front {X} (z ∷ zs) back h = ap (λ (l : List (ℕ × X)). z ∷ l) (all_front zs back (omega arith))
 
-pub index_is : (l : List ℕ) (k x : ℕ) → k < length l → x ≡ get_or l k x → x ≡ get_or l k 0
-index_is l k x h e = sym (nth_is l k 0 x (at_index l k x h e))
-
 pub none_or_some : {L : Type 0} (o : Option L) → (o ≡ None) ⊎ ((l : L) × (o ≡ Some l))
 none_or_some None = inl refl
 none_or_some (Some l) = inr (l, refl)
 
 -- a list turned until a key is first, and turned back
-pub record Turned {L : Type 0} (l : List (ℕ × Option L)) (k slot : ℕ) : Type 0 where
-  pub value : Option L
-  pub others : List (ℕ × Option L)
-  pub behind : ℕ
-  pub first : turns k l ≡ (slot, value) ∷ others
-  pub is_value : in_slot slot l ≡ value
-  pub long : length (keys l) ≡ k + suc behind
-  pub again : (y : Option L) → turns (suc behind) ((slot, y) ∷ others) ≡ put slot y l
-  pub gone : turns behind others ≡ without slot l
-
-pub turned_at : {L : Type 0} (l : List (ℕ × Option L)) (k slot : ℕ) → Distinct (keys l) → get_elem? (keys l) k ≡ some slot → Turned l k slot
-turned_at {L} l k slot distinct at =
+pub turned_at : {L : Type 0} (l now : List (ℕ × Option L)) (k slot : ℕ) → Distinct (keys l) → get_elem? (keys l) k ≡ some slot → now ≡ turns k l → IsTurned slot l now (length (keys l) - k)
+turned_at {L} l now k slot distinct at is =
     let t = split_at_key l k slot at in
     let a = t.0 in let x = t.1 in let b = t.2 in
-    let d = distinct_split (keys a) slot (keys b) (subst Distinct (ap keys t.3 ∙ keys_append a ((slot, x) ∷ b)) distinct) in record {
-      value = x;
-      others = b ++ a;
-      behind = length b;
-      first = ap (turns k) t.3 ∙ ap (λ (n : ℕ). turns n (a ++ (slot, x) ∷ b)) (sym t.4) ∙ turns_over a ((slot, x) ∷ b);
-      is_value = ap (in_slot slot) t.3 ∙ slot_split slot x a b d.0;
-      long = ap length (ap keys t.3 ∙ keys_append a ((slot, x) ∷ b)) ∙ (let e = length_at (keys a) slot (keys b) in let f = length-keys a in let g = length-keys b in
-          let n : length a ≡ k = t.4 in omega arith);
-      again = λ y. turns_over ((slot, y) ∷ b) a ∙ sym (ap (put slot y) t.3 ∙ put_split slot x y a b d.0);
-      gone = turns_over b a ∙ sym (ap (without slot) t.3 ∙ without_split slot x a b d.0 d.1);
+    let order : keys l ≡ keys a ++ slot ∷ keys b = ap keys t.3 ∙ keys_append a ((slot, x) ∷ b) in
+    let d = distinct_split (keys a) slot (keys b) (subst Distinct order distinct) in
+    let behind : length (keys l) - k ≡ suc (length b) = (let e = ap length order ∙ length_at (keys a) slot (keys b) in let f = length-keys a in let g = length-keys b in
+    let n : length a ≡ k = t.4 in omega arith) in
+    let less : length (keys l) - k - 1 ≡ length b = omega arith in
+    let first : now ≡ (slot, x) ∷ (b ++ a) = is ∙ ap (turns k) t.3 ∙ ap (λ (n : ℕ). turns n (a ++ (slot, x) ∷ b)) (sym t.4) ∙ turns_over a ((slot, x) ∷ b) in
+    let value : in_slot slot l ≡ x = ap (in_slot slot) t.3 ∙ slot_split slot x a b d.0 in record {
+      first = first ∙ (λ i. (slot, sym value i) ∷ rest (sym first i));
+      again = λ y. (λ i. turns (behind i) ((slot, y) ∷ rest (first i))) ∙ turns_over ((slot, y) ∷ b) a ∙ sym (ap (put slot y) t.3 ∙ put_split slot x y a b d.0);
+      gone = (λ i. turns (less i) (rest (first i))) ∙ turns_over b a ∙ sym (ap (without slot) t.3 ∙ without_split slot x a b d.0 d.1);
     }
 
 pub slot_other : {L : Type 0} (i j : ℕ) (y : Option L) (l : List (ℕ × Option L)) → i ≢ j → in_slot j (put i y l) ≡ in_slot j l

@@ -1,5 +1,5 @@
 -- A seat's lots by the numbers of their records.
-use Rattle.std.proofs.Common.{◌≡◌, ℕ, suc, ◌/◌, length, ◌%◌, ◌<◌, ◌≤◌, List, [], ◌∷◌, ◌++◌, map, sym, refl, ap, ◌∙◌, subst, inl, inr, ⊎_elim}
+use Rattle.std.proofs.Common.{◌≡◌, ℕ, suc, ◌/◌, length, ◌%◌, ◌<◌, ◌≤◌, List, [], ◌∷◌, ◌++◌, map, sym, refl, ap, ◌∙◌, subst}
 use Rattle.std.specs.Prelude.{Option, Some, None}
 use mathlib.Core.Logic.{dite}
 use native.Mathlib.Decide.{ℕ_discrete}
@@ -11,7 +11,7 @@ use Rattle.xh_model.specs.declared.event.Event.{Event}
 use Rattle.xh_model.specs.Words.{number_of}
 use Rattle.xh_model.proofs.Words.{number_inside, index_back, number_back}
 use Rattle.xh_model.specs.Keyed.{Among, keys, put, value_at, without}
-use Rattle.xh_records.proofs.Elements.{in_range, slice_elem}
+use Rattle.xh_records.proofs.Elements.{among_map, in_range, slice_elem}
 use Rattle.xh_model.proofs.Keyed.{here_first, not_here, value_here, value_there}
 use Rattle.xh_records.specs.declared.shape.Shape.{Shape}
 use Rattle.xh_records.specs.declared.view.View.{View}
@@ -33,10 +33,6 @@ with_lot_append r (Some l) ls ms = refl
 pub numbered_push : {L : Type 0} (n : ℕ) (xs : List (ℕ × Option L)) (k : ℕ) (l : L) → numbered n (xs ++ (k, Some l) ∷ []) ≡ numbered n xs ++ (number_of n k, l) ∷ []
 numbered_push n [] k l = refl
 numbered_push n (x ∷ xs) k l = ap (with_lot (number_of n x.0) x.1) (numbered_push n xs k l) ∙ with_lot_append (number_of n x.0) x.1 (numbered n xs) ((number_of n k, l) ∷ [])
-
-pub among_map : (f : ℕ → ℕ) (xs : List ℕ) (x : ℕ) → Among xs x → Among (map f xs) (f x)
-among_map f [] x h = absurd h
-among_map f (y ∷ ys) x h = ⊎_elim (λ (e : x ≡ y). inl (ap f e)) (λ (t : Among ys x). inr (among_map f ys x t)) h
 
 module _ {B : Type 0} (s : Shape) (small : IsSmall s) where
   -- a slot that has a lot comes out with it
@@ -158,44 +154,14 @@ module _ {B : Type 0} (x : Held B) (t : TableId) (id process : ℕ) (me : Me (Op
       ∙ sym seat.ordered in
       new (subst (λ (z : List ℕ × ℕ). Among z.0 z.1) (λ i. (keys_are i, sym at i)) there)
 
-  -- the seat afterwards
-  pub held_is : (t' : TableId) (id' process' : ℕ) (me' : Me (Option (LotOf B)) View) (ls : List (ℕ × LotOf B)) → t' ≡ t → id' ≡ id → me'.0.shape ≡ me.0.shape
-      → numbered me'.0.shape.records me'.1 ≡ ls → events_in me'.0 ≡ events_in me.0
-      → held t' id' process' me' ≡ record x { process = process'; lots = ls }
-  held_is t' id' process' me' ls et en es el ed =
-      λ j. record {
-        table = (et ∙ ap (λ (y : Held B). y.table) is) j;
-        id = (en ∙ ap (λ (y : Held B). y.id) is) j;
-        shape = (es ∙ ap (λ (y : Held B). y.shape) is) j;
-        process = process';
-        lots = el j;
-        done = (ed ∙ ap (λ (y : Held B). y.done) is) j;
-      }
-
-  -- the seat afterwards, of the same process
-  pub held_same : (t' : TableId) (id' : ℕ) (me' : Me (Option (LotOf B)) View) (ls : List (ℕ × LotOf B)) → t' ≡ t → id' ≡ id → me'.0.shape ≡ me.0.shape → numbered me'.0.shape.records me'.1 ≡ ls
-      → events_in me'.0 ≡ events_in me.0
-      → held t' id' process me' ≡ with_lots x ls
-  held_same t' id' me' ls et en es el ed =
-      λ j. record {
-        table = (et ∙ ap (λ (y : Held B). y.table) is) j;
-        id = (en ∙ ap (λ (y : Held B). y.id) is) j;
-        shape = (es ∙ ap (λ (y : Held B). y.shape) is) j;
-        process = (is j).process;
-        lots = el j;
-        done = (ed ∙ ap (λ (y : Held B). y.done) is) j;
-      }
-
-  -- the seat afterwards, with one more event
-  pub held_did : (t' : TableId) (id' : ℕ) (me' : Me (Option (LotOf B)) View) (ls : List (ℕ × LotOf B)) (e : Event) → t' ≡ t → id' ≡ id → me'.0.shape ≡ me.0.shape
-      → numbered me'.0.shape.records me'.1 ≡ ls → events_in me'.0 ≡ events_in me.0 ++ e ∷ []
-      → held t' id' process me' ≡ did e (with_lots x ls)
-  held_did t' id' me' ls e et en es el ed =
-      λ j. record {
-        table = (et ∙ ap (λ (y : Held B). y.table) is) j;
-        id = (en ∙ ap (λ (y : Held B). y.id) is) j;
-        shape = (es ∙ ap (λ (y : Held B). y.shape) is) j;
-        process = (is j).process;
-        lots = el j;
-        done = (ed ∙ ap (λ (y : Held B). y.done ++ e ∷ []) is) j;
-      }
+  -- the seat afterwards, with other lots and more events
+  pub held_as : (t' : TableId) (id' : ℕ) (me' : Me (Option (LotOf B)) View) (ls : List (ℕ × LotOf B)) (more : List Event → List Event) → t' ≡ t → id' ≡ id → me'.0.shape ≡ me.0.shape
+      → numbered me'.0.shape.records me'.1 ≡ ls → events_in me'.0 ≡ more (events_in me.0) → held t' id' process me' ≡ record x { lots = ls; done = more x.done }
+  held_as t' id' me' ls more et en es el ed = λ j. record {
+    table = (et ∙ ap (λ (y : Held B). y.table) is) j;
+    id = (en ∙ ap (λ (y : Held B). y.id) is) j;
+    shape = (es ∙ ap (λ (y : Held B). y.shape) is) j;
+    process = (is j).process;
+    lots = el j;
+    done = (ed ∙ ap (λ (y : Held B). more y.done) is) j;
+  }

@@ -12,7 +12,7 @@ use Rattle.xh_arena.specs.Views.{LotOf}
 use Rattle.xh_model.specs.Keyed.{Among}
 use Rattle.xh_model.specs.declared.event.Holder.{Holder}
 use Rattle.xh_model.specs.declared.event.Holder.TheVariants.{Process}
-use Rattle.xh_model.specs.Words.{IsHeldBy, IsHolder, word_of, place_of}
+use Rattle.xh_model.specs.Words.{IsHeldBy, IsHolder, word_of}
 use Rattle.xh_records.specs.declared.shape.Shape.{Shape}
 use Rattle.xh_records.specs.declared.view.View.{View}
 use Rattle.xh_records.specs.Showing.{Sits, IsLotAt, IsEmpty, IsSmall, HomeFits, ViewFits, ViewTells, Shown}
@@ -54,32 +54,25 @@ opens {B} fits s n words lots slots few zeros wrapped long empty small = (
     seat_of = λ q. 0;
     placed = λ r p is. absurd (nobody r p is);
     seated = λ q lt. (all_places s, refl, sits_from 0 s.places q (omega arith) (omega arith), (let m : s.places ≤ 32 = few in let e : q % 32 ≡ q = omega arith in e));
-    alone = λ id p v there sits. only id p v there sits;
-    views_fit = λ id v there. first id v there;
+    alone = λ id p v there sits.
+        let z = only id v there in let l : p < 0 + s.places = (least 0 s.places p (subst (λ (u : View). Sits u p) (sym z.1) sits)).1 in let m : s.places ≤ 32 = few in
+        let e : p % 32 ≡ p = omega arith in (omega arith, sym e, z.0, omega arith);
+    views_fit = λ id v there. subst (ViewFits s (replicate n None)) (only id v there).1 begins;
     small = small;
     log = [];
-    history = record { leads = ap (λ (k : ℕ). replicate k None) (sym (length-replicate {A = Option Holder} n None)); theirs = λ e h. absurd h; tells = λ id v there. told id v there };
+    history = record { leads = ap (λ (k : ℕ). replicate k None) (sym (length-replicate {A = Option Holder} n None)); theirs = λ e h. absurd h; tells = λ id v there. subst (ViewTells []) (only id v there).1 untold };
   },
 )
   where
     nobody : (r p : ℕ) → IsHeldBy (replicate n None) r (Some (Process p)) → ⊥
     nobody r p is = let e : Some (Process p) ≡ None = none_there n r (Some (Process p)) is in let w : word_of (Some (Process p)) ≡ word_of None = ap word_of e in absurd (omega arith)
 
-    only : (id p : ℕ) (v : View) → get_elem? (all_places s ∷ []) id ≡ some v → Sits v p → (place_of p < s.places) × (p ≡ place_of p) × (id ≡ 0) × (p < 4096)
-    only zero p v there sits = let l : p < 0 + s.places = (least 0 s.places p (subst (λ (u : View). Sits u p) (sym (some-injective (all_places s) v there)) sits)).1 in let m : s.places ≤ 32 = few in
-        let e : p % 32 ≡ p = omega arith in (omega arith, sym e, refl, omega arith)
-    only (suc id) p v there sits = absurd (some-ne-none v (sym there))
+    only : (id : ℕ) (v : View) → get_elem? (all_places s ∷ []) id ≡ some v → (id ≡ 0) × (all_places s ≡ v)
+    only zero v there = (refl, some-injective (all_places s) v there)
+    only (suc id) v there = absurd (some-ne-none v (sym there))
 
     begins : ViewFits s (replicate n None) (all_places s)
     begins = record { is_owner = λ r p h. absurd h; owns_all = λ r p is h. absurd (nobody r p is); knows = λ p h. refl; places = few_places 0 s.places (omega (arith, few)) }
 
     untold : ViewTells [] (all_places s)
     untold = record { has = λ p sits. lists_there (places_from 0 s.places) p sits; only = λ q es there. let t = lists_back (places_from 0 s.places) q es there in (t.0, t.1, t.2, t.3) }
-
-    told : (id : ℕ) (v : View) → get_elem? (all_places s ∷ []) id ≡ some v → ViewTells [] v
-    told zero v there = subst (ViewTells []) (some-injective (all_places s) v there) untold
-    told (suc id) v there = absurd (some-ne-none v (sym there))
-
-    first : (id : ℕ) (v : View) → get_elem? (all_places s ∷ []) id ≡ some v → ViewFits s (replicate n None) v
-    first zero v there = subst (ViewFits s (replicate n None)) (some-injective (all_places s) v there) begins
-    first (suc id) v there = absurd (some-ne-none v (sym there))

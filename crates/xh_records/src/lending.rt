@@ -4,7 +4,6 @@ ghost use Rattle.std.specs.Borrow.{MutBor};
 ghost use Rattle.std.specs.Fn.{CalledAtMut, CalledAtPairMut};
 ghost use mathlib.Core.Option.{some};
 ghost use lib.ListN.{get_elem?};
-ghost use Rattle.atomic_table.specs.Table.{rest};
 ghost use Rattle.xh_arena.specs.Views.{LotOf};
 ghost use Rattle.xh_model.specs.Keyed.{put, value_at};
 ghost use Rattle.xh_records.specs.Showing.{IsLotOf};
@@ -13,7 +12,7 @@ ghost use Rattle.xh_records.specs.inner.Tokens.{IsListed, in_slot};
 
 use crate::records::Records;
 use crate::seat::Seat;
-use crate::token::{Board, Token, position, turn_by};
+use crate::token::{Board, Token, turn_by, turn_to};
 use xh_arena::{Fits, Lot};
 
 // One call of `f` at `x`.
@@ -32,25 +31,6 @@ fn call_at_two<X, A, F: FnMut(&mut X, &mut X) -> A>(f: &mut F, x: &mut X, y: &mu
     f(x, y)
 }
 
-// One call of `f` at the lot that the token took last, where it lies.
-fn call_front<B: Fits, A, F: FnMut(&mut Lot<B>) -> A>(
-    board: &Board<B>,
-    token: &mut Token<B>,
-    slot: u16,
-    f: &mut F,
-) -> A
-    requires own { token.old.table_id ≡ board.now.table_id }
-    requires front { (l : LotOf B) × (token.old.me.1 ≡ (slot, Some l) ∷ rest token.old.me.1) × ((lent : MutBor (LotOf B)) → lent.now ≡ l → F.pre f.old lent) }
-    ensures token { (token.new.table_id ≡ token.old.table_id) × (token.new.id ≡ token.old.id) }
-    ensures called { (l : LotOf B) × (left : LotOf B) × (token.old.me.1 ≡ (slot, Some l) ∷ rest token.old.me.1) × CalledAtMut F.FnMut f.old l result f.new left
-        × (token.new.me ≡ (token.old.me.0, (slot, Some left) ∷ rest token.old.me.1)) }
-{
-    let Some(lot) = token.slot_mut(board, usize::from(slot)) else {
-        unreachable!()
-    };
-    call_at(f, lot)
-}
-
 // One call of `f` at the lot in a slot that the token holds, where it lies. The list keeps its order.
 fn call_in<B: Fits, A, F: FnMut(&mut Lot<B>) -> A>(
     board: &Board<B>,
@@ -66,11 +46,12 @@ fn call_in<B: Fits, A, F: FnMut(&mut Lot<B>) -> A>(
     ensures called { (l : LotOf B) × (left : LotOf B) × (in_slot slot token.old.me.1 ≡ Some l) × CalledAtMut F.FnMut f.old l result f.new left
         × (token.new.me ≡ (token.old.me.0, put slot (Some left) token.old.me.1)) }
 {
-    let k = position(order, slot);
-    let after = order.len() - k;
-    turn_by(token, k);
-    let answer = call_front(board, token, slot, f);
-    turn_by(token, after);
+    let k = turn_to(token, order, slot);
+    let Some(lot) = token.slot_mut(board, usize::from(slot)) else {
+        unreachable!()
+    };
+    let answer = call_at(f, lot);
+    turn_by(token, order.len() - k);
     answer
 }
 
@@ -87,11 +68,9 @@ fn swap_slot<B: Fits>(
     ensures token { (token.new.table_id ≡ token.old.table_id) × (token.new.id ≡ token.old.id) × (token.new.me ≡ (token.old.me.0, put slot new token.old.me.1)) }
     ensures value { result ≡ in_slot slot token.old.me.1 }
 {
-    let k = position(order, slot);
-    let after = order.len() - k;
-    turn_by(token, k);
+    let k = turn_to(token, order, slot);
     let found = board.exchange(token, usize::from(slot), new);
-    turn_by(token, after);
+    turn_by(token, order.len() - k);
     found
 }
 
@@ -135,17 +114,16 @@ impl<B: Fits + Drop> Records<B> {
         let board = &self.table.shared;
         let i = self.slot_of(first);
         let j = self.slot_of(second);
-        let Some(mut left) = swap_slot(board, &mut seat.token, seat.order.as_slice(), i, None)
-        else {
+        let order = seat.order.as_slice();
+        let Some(mut left) = swap_slot(board, &mut seat.token, order, i, None) else {
             unreachable!()
         };
-        let Some(mut also) = swap_slot(board, &mut seat.token, seat.order.as_slice(), j, None)
-        else {
+        let Some(mut also) = swap_slot(board, &mut seat.token, order, j, None) else {
             unreachable!()
         };
         let answer = call_at_two(f, &mut left, &mut also);
-        drop(swap_slot(board, &mut seat.token, seat.order.as_slice(), i, Some(left)));
-        drop(swap_slot(board, &mut seat.token, seat.order.as_slice(), j, Some(also)));
+        drop(swap_slot(board, &mut seat.token, order, i, Some(left)));
+        drop(swap_slot(board, &mut seat.token, order, j, Some(also)));
         answer
     }
 }

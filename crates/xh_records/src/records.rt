@@ -161,6 +161,7 @@ impl<B: Fits + Drop> Records<B> {
     }
 
     // One compare on each record of the arena, up to the first that it finds free. The error has the words that it found.
+    #[inline(always)]
     fn claim_seen(&self, seat: &mut Seat<B>, arena: u8) -> Result<u16, Seen>
         requires own { IsSeatOf self.now seat.old }
         requires arena { arena < length self.now.shape.names }
@@ -185,6 +186,8 @@ impl<B: Fits + Drop> Records<B> {
 
     /// Takes the first record of the arena that it finds free, from index 0 on. Its lot is empty: no
     /// bytes, and a blank body. The error has a word for each record, which it found there at one moment, none of them free.
+    // (inlined, since a caller that doesn't read the words then neither clears nor moves them)
+    #[inline(always)]
     pub fn claim(&self, seat: &mut Seat<B>, arena: u8) -> Result<u16, Seen>
         requires own { IsSeatOf self.now seat.old }
         requires arena { arena < length self.now.shape.names }

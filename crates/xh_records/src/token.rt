@@ -1,5 +1,5 @@
 // Single steps of a token: on the word in one slot and what the slot has, and those that change views alone.
-ghost use Rattle.std.specs.Prelude.{◌≡◌, ◌≢◌, ℕ, ◌+◌, ◌<◌, ◌≤◌, ◌==◌, false, [], ◌∷◌, ◌++◌, length, slice_index, Some, Option, OnOk, IfErr};
+ghost use Rattle.std.specs.Prelude.{◌≡◌, ◌≢◌, ℕ, ◌+◌, ◌-◌, ◌<◌, ◌≤◌, ◌==◌, false, [], ◌∷◌, ◌++◌, length, slice_index, Some, Option, OnOk, IfErr};
 ghost use mathlib.Core.Option.{none, some};
 ghost use prog.Atomic.{either};
 ghost use lib.ListN.{get_elem?};
@@ -15,7 +15,7 @@ ghost use Rattle.xh_records.specs.Seats.{Knows};
 ghost use Rattle.xh_records.specs.inner.Events.{IsAway, IsHomeLot};
 ghost use Rattle.xh_records.specs.inner.Views.{IsAlone, IsDealer, dealt, dealt_from, gained, joined, lost, renewed, spent};
 ghost use Rattle.xh_records.specs.inner.Steps.{process_in};
-ghost use Rattle.xh_records.specs.inner.Tokens.{IsListed, in_slot, turns};
+ghost use Rattle.xh_records.specs.inner.Tokens.{IsListed, IsTurned, in_slot, turns};
 
 use crate::plays::{Both, Deal, Gives, Looks, Renews, Takes, Whole};
 use crate::rule::Showing;
@@ -68,7 +68,7 @@ fn skip_far(order: &[u16], slot: u16) -> usize
 }
 
 // Where the slot stands in the order.
-pub(crate) fn position(order: &[u16], slot: u16) -> usize
+fn position(order: &[u16], slot: u16) -> usize
     requires { (k : ℕ) × (get_elem? order.now k ≡ some slot) }
     ensures { get_elem? order.now result ≡ some slot }
 {
@@ -76,6 +76,18 @@ pub(crate) fn position(order: &[u16], slot: u16) -> usize
     while order[k] != slot {
         k += 1;
     }
+    k
+}
+
+// Turns the token's list until this slot is first, and answers where it stood: as many turns as stood from there on bring the list back.
+pub(crate) fn turn_to<B>(token: &mut Token<B>, order: &[u16], slot: u16) -> usize
+    requires { IsListed order.now token.old.me.1 slot }
+    ensures same { (token.new.table_id ≡ token.old.table_id) × (token.new.id ≡ token.old.id) × (token.new.me.0 ≡ token.old.me.0) }
+    ensures place { (result < length order.now) × (get_elem? order.now result ≡ some slot) }
+    ensures turned { IsTurned slot token.old.me.1 token.new.me.1 (length order.now - result) }
+{
+    let k = position(order, slot);
+    turn_by(token, k);
     k
 }
 
@@ -124,12 +136,10 @@ pub(crate) fn give_slot<B: Fits>(
         (lost token.old.me.0 slot (process_in token.old.me.0) (holder_of to), without slot token.old.me.1)) }
     ensures place { get_elem? order.now result ≡ some slot }
 {
-    let k = position(order, slot);
-    let after = order.len() - k - 1;
-    turn_by(token, k);
+    let k = turn_to(token, order, slot);
     let word = to.encode();
     board.store::<Gives>(token, usize::from(slot), word);
-    turn_by(token, after);
+    turn_by(token, order.len() - k - 1);
     k
 }
 

@@ -1,13 +1,13 @@
 -- A token's list of slots, and what the types of a seat and of the table keep.
-use Rattle.std.specs.Prelude.{◌≡◌, ℕ, zero, suc, ◌*◌, ◌<◌, ◌≤◌, List, [], ◌∷◌, ◌==◌, cond, length, Some, None, Option}
+use Rattle.std.specs.Prelude.{◌≡◌, ℕ, zero, suc, ◌-◌, ◌*◌, ◌<◌, ◌≤◌, List, [], ◌∷◌, ◌==◌, cond, length, Some, None, Option}
 use mathlib.Core.Option.{some}
 use lib.ListN.{get_elem?}
-use Rattle.atomic_table.specs.Table.{Me, turned}
+use Rattle.atomic_table.specs.Table.{Me, rest, turned}
 use Rattle.atomic_table.specs.Seated.{TableId}
 use Rattle.xh_arena.specs.Views.{LotOf}
 use Rattle.xh_model.specs.declared.limits.TheConstants.{MAX_ARENAS, PLACES}
 use Rattle.xh_model.specs.Words.{number_of, place_of}
-use Rattle.xh_model.specs.Keyed.{Distinct, keys}
+use Rattle.xh_model.specs.Keyed.{Distinct, keys, put, without}
 use Rattle.xh_records.specs.declared.shape.Shape.{Shape}
 use Rattle.xh_records.specs.declared.view.View.{View}
 use Rattle.xh_records.specs.Showing.{IsLotAt, IsSmall}
@@ -41,6 +41,12 @@ IsListed order ls slot = (order ≡ keys ls) × Distinct order × ((k : ℕ) × 
 abbrev pub turns : {X : Type 0} → ℕ → List (ℕ × X) → List (ℕ × X)
 turns zero l = l
 turns (suc k) l = turns k (turned l)
+
+-- a list turned until the slot is first, which so many turns bring back
+pub record IsTurned {X : Type 0} (slot : ℕ) (l now : List (ℕ × Option X)) (after : ℕ) : Type 0 where
+  pub first : now ≡ (slot, in_slot slot l) ∷ rest now
+  pub again : (y : Option X) → turns after ((slot, y) ∷ rest now) ≡ put slot y l
+  pub gone : turns (after - 1) (rest now) ≡ without slot l
 
 -- what the type of the table keeps: a word and a slot for each record of each arena
 pub record IsTable (table : TableId) (s : Shape) (count each : ℕ) : Type 0 where

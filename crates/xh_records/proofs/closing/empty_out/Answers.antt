@@ -8,7 +8,8 @@ use Rattle.xh_model.proofs.Keyed.{distinct_split, keys_append}
 use Rattle.xh_records.specs.Seats.{lot_in, indices, Held}
 use Rattle.xh_records.specs.inner.Tokens.{in_slot, AllLots, AllBelow}
 use Rattle.xh_records.specs.inner.Gathering.{slot_at, or_else}
-use Rattle.xh_records.proofs.Lists.{next_slot, all_front, index_is, fills, first_is, below_at}
+use Rattle.xh_records.proofs.Lists.{next_slot, all_front, fills, first_is, below_at}
+use Rattle.xh_records.proofs.Ended.{read_is}
 use Rattle.xh_records.proofs.Seating.{lot_here, all_full}
 use Rattle.xh_records.proofs.Numbered.{indices_are, lot_numbered, views_are}
 use Rattle.xh_records.proofs.closing.empty_out.Given.{Over}
@@ -32,7 +33,7 @@ module _ (g : Over) (c : After-from-slot g) where
       let size : length c.seat.inside.order.items ≡ length (keys (front ++ back)) = ap length order_is in
       let at : slot ≡ get_or c.seat.inside.order.items c.loop-k.k slot = c.from-slot.ensures ∙ c.index-at.ensures
       ∙ ap (λ (z : ℕ). get_or c.seat.inside.order.items c.loop-k.k z) (sym c.from-slot.ensures) in
-      next_slot front back slot (omega arith) (index_is c.seat.inside.order.items c.loop-k.k slot (omega arith) at ∙ (λ j. get_or (order_is j) (sym done j) 0))
+      next_slot front back slot (omega arith) (sym (read_is c.seat.inside.order.items c.loop-k.k slot 0 (omega arith) at) ∙ (λ j. get_or (order_is j) (sym done j) 0))
 
   here : c.loop-k.token.me.1 ≡ (c.from-slot.result, next.0) ∷ (next.1 ++ c.loop-k.invariant.2)
   here = c.loop-k.invariant.3.left ∙ ap (λ z. z ++ c.loop-k.invariant.2) next.2
@@ -76,9 +77,6 @@ loop-k-preserved g c =
         lots = fills front slot one.0 c.exchange-lot.result lot.0 c.loop-k.held.items c.args.held.now.items _ d.0 lot.1 got (let e : slot < length c.loop-k.held.items = search rules in e) f.lots;
       },
     )
-
-pub hand_over-requires : goal.hand_over-requires
-hand_over-requires g c = let f = c.loop-k.invariant.3 in record { own = (f.table ∙ ap (λ h. h.table) c.seat.view_is ∙ c.requires.own.0, c.requires.own.1) }
 
 -- what the seat has at an index
 pub returns-clause-lots : goal.returns-clause-lots

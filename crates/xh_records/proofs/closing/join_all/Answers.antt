@@ -64,9 +64,6 @@ join-requires-clause-own g c = (
   c.requires.some_seat.1,
 )
 
-pub join-requires-clause-place : goal.join-requires-clause-place
-join-requires-clause-place g c = let i = c.loop-seat.invariant in (i.1, i.2.placed)
-
 pub loop-seat-preserved : goal.loop-seat-preserved
 loop-seat-preserved g c =
     let i = c.loop-seat.invariant in let f = i.2 in

@@ -12,9 +12,6 @@ use Rattle.xh_records.proofs.making.seats_of.Goals as goal
 one_left : (count k : ℕ) → k < count → count - k ≡ suc (count - (k + 1))
 one_left count k below = omega arith
 
-pub deal-token-requires-clause-own : goal.deal-token-requires-clause-own
-deal-token-requires-clause-own g c = (c.loop-place.invariant.here, c.requires.own.1)
-
 pub deal-token-requires-clause-places : goal.deal-token-requires-clause-places
 deal-token-requires-clause-places g c =
     let key = c.args.board.now.key in
@@ -55,13 +52,3 @@ loop-place-preserved g c =
           ))
           (snoc_at c.loop-place.seats.items _ x k (subst (λ l. get_elem? l k ≡ some x) c.push_reserved.ensures.items at));
     }
-
-pub returns-clause-long : goal.returns-clause-long
-returns-clause-long g c =
-    let past : c.args.places ≤ c.loop-place.place = c.loop-place-test.false in
-    let most : c.loop-place.place ≤ c.args.places = c.loop-place.auto.place-end in
-    let end : c.loop-place.place ≡ c.args.places = omega arith in
-    c.loop-place.invariant.long ∙ end
-
-pub returns-clause-seats : goal.returns-clause-seats
-returns-clause-seats g c = c.loop-place.invariant.seats

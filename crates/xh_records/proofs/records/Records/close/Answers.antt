@@ -10,15 +10,13 @@ use Rattle.xh_records.proofs.records.Records.close.Given.{Over}
 use Rattle.xh_records.proofs.records.Records.close.Goals.{After-close_with}
 use Rattle.xh_records.proofs.records.Records.close.Goals as goal
 
-pub join_all-token-requires : goal.join_all-token-requires
-join_all-token-requires g c =
+pub join_all-token-requires-clause-own : goal.join_all-token-requires-clause-own
+join_all-token-requires-clause-own g c = λ k x at. (c.requires.own k x (elem_slice c.args.seats.items k x at)).0 ∙ sym (ap (λ r. r.table) c.self.view_is)
+
+pub join_all-token-requires-clause-some_seat : goal.join_all-token-requires-clause-some_seat
+join_all-token-requires-clause-some_seat g c =
     let some_place : 0 < c.args.self.shape.places = subst (λ (z : Shape). 0 < z.places) (ap (λ r. r.shape) c.self.view_is) c.self.invariant.places.0 in
-    let every = c.requires.all in record {
-      own = λ k x at. (c.requires.own k x (elem_slice c.args.seats.items k x at)).0 ∙ sym (ap (λ r. r.table) c.self.view_is);
-      some_seat = (omega arith, c.self.invariant.some);
-      long = search rules;
-      none = λ k below. c.in_ok-words.ensures.slots.1 k;
-    }
+    let every = c.requires.all in (omega arith, c.self.invariant.some)
 
 -- the sizes of what is taken apart
 module _ (g : Over) (c : After-close_with g) where

@@ -1,9 +1,9 @@
-use Rattle.std.proofs.Common.{rules, ◌≡◌, ℕ, ◌<◌, List, [], ◌∷◌, ◌++◌, get_or, length, refl, sym, ap, ◌∙◌, subst}
+use Rattle.std.proofs.Common.{rules, ◌≡◌, ℕ, ◌<◌, List, [], ◌∷◌, ◌++◌, get_or, length, refl, ap, ◌∙◌, subst}
 use Rattle.std.specs.Prelude.{Option}
 use lib.ListN.{get_elem?}
 use mathlib.Core.Option.{some}
 use Rattle.xh_model.specs.Words.{number_of}
-use Rattle.xh_model.specs.Keyed.{Distinct, without}
+use Rattle.xh_model.specs.Keyed.{without}
 use Rattle.xh_records.specs.Encoding.{holder_of}
 use Rattle.xh_records.specs.inner.Events.{giving}
 use Rattle.xh_records.specs.inner.Views.{events_in, lost}
@@ -16,8 +16,8 @@ use Rattle.xh_records.specs.declared.view.View.{View}
 use Rattle.xh_records.proofs.History.{adds_one}
 use Rattle.xh_records.proofs.Elements.{in_range}
 use Rattle.xh_records.proofs.Seating.{loses, is_alone, seat_is}
-use Rattle.xh_records.proofs.Numbered.{without_numbered, lost_by, held_did}
-use Rattle.xh_records.proofs.Lent.{Lent, lends, spot_of}
+use Rattle.xh_records.proofs.Numbered.{without_numbered, lost_by, held_as}
+use Rattle.xh_records.proofs.Lent.{Lent, lends, listed_as, spot_of}
 use Rattle.xh_records.proofs.records.Records.give.Given.{Over}
 use Rattle.xh_records.proofs.records.Records.give.Goals.{After-as_slice, After-give_slot-k}
 use Rattle.xh_records.proofs.records.Records.give.Goals as goal
@@ -37,21 +37,17 @@ lent g c = lends _ _ _ _ _ _ _ _ _ _ _ _ _ (spot_of _ _ _ _ _ c.seat.view_is c.a
 place : (g : Over) (c : After-give_slot-k g) → get_elem? c.seat.inside.order.items c.give_slot-k.result ≡ some c.slot_of-slot.result
 place g c = subst (λ z. get_elem? z c.give_slot-k.result ≡ some c.slot_of-slot.result) c.as_slice.ensures.value c.give_slot-k.ensures.place
 
-pub give_slot-k-requires : goal.give_slot-k-requires
-give_slot-k-requires g c =
-    let slot : ℕ = c.slot_of-slot.result in
-    let x = c.args.seat.now in let me = c.seat.inside.token.me in let h = c.requires.held in
-    let reach = (lent g (goal.at.give_slot-k-requires g c).After-as_slice).reach in
-    let order : c.as_slice.result.now ≡ c.seat.inside.order.items = c.as_slice.ensures.value in record {
-      own = (
-        ap (λ y. y.table) c.seat.view_is ∙ c.requires.own.0 ∙ sym (ap (λ r. r.table) c.self.view_is),
-        subst (λ z. slot < z.words) (sym (ap (λ r. r.table) c.self.view_is)) c.slot_of-slot.ensures.inside.0,
-      );
-      listed = (order ∙ reach.listed.0, subst Distinct (sym order) reach.listed.1, (reach.listed.2.0, subst (λ z. get_elem? z reach.listed.2.0 ≡ some slot) (sym order) reach.listed.2.1));
-      away = c.requires.away;
-      lot = (h.0, reach.has, reach.lot, h.2);
-      owned = (c.seat.inside.process, is_alone _ _ _ _ _ c.seat.invariant, reach.owns);
-    }
+pub give_slot-k-requires-clause-listed : goal.give_slot-k-requires-clause-listed
+give_slot-k-requires-clause-listed g c =
+    listed_as _ _ c.seat.inside.token.me.1 _ c.as_slice.ensures.value (lent g (goal.at.give_slot-k-requires-clause-listed g c).After-as_slice).reach.listed
+
+pub give_slot-k-requires-clause-lot : goal.give_slot-k-requires-clause-lot
+give_slot-k-requires-clause-lot g c =
+    let h = c.requires.held in let reach = (lent g (goal.at.give_slot-k-requires-clause-lot g c).After-as_slice).reach in (h.0, reach.has, reach.lot, h.2)
+
+pub give_slot-k-requires-clause-owned : goal.give_slot-k-requires-clause-owned
+give_slot-k-requires-clause-owned g c =
+    (c.seat.inside.process, is_alone _ _ _ _ _ c.seat.invariant, (lent g (goal.at.give_slot-k-requires-clause-owned g c).After-as_slice).reach.owns)
 
 pub remove-requires : goal.remove-requires
 remove-requires g c =
@@ -71,7 +67,7 @@ returns g c =
     let x = c.args.seat.now in let me = c.seat.inside.token.me in let last = c.give_slot-k.ensures.token in
     let number : number_of me.0.shape.records slot ≡ c.args.number = (lent g (goal.at.returns g c).After-as_slice).number in
     let h = holder_of c.args.to in
-    lost_by x _ x.process c.args.number h (held_did x _ _ _ me c.seat.view_is _ _ c.give_slot-k.new.token.me _ (giving x.process c.args.number h) last.0 last.1 (ap (λ m. m.0.shape) last.2)
+    lost_by x _ x.process c.args.number h (held_as x _ _ _ me c.seat.view_is _ _ c.give_slot-k.new.token.me _ (λ d. d ++ giving x.process c.args.number h ∷ []) last.0 last.1 (ap (λ m. m.0.shape) last.2)
     (ap (λ m. numbered m.0.shape.records m.1) last.2 ∙ without_numbered me.0.shape c.seat.invariant.small me.1 slot c.seat.invariant.lots ∙ (λ i. without (number i) (c.seat.view_is i).lots))
     (ap (λ m. events_in m.0) (last.2 ∙ who me slot h c.seat.invariant.processes) ∙ (adds_one
     (giving c.seat.inside.process (number_of me.0.shape.records slot) h) _ me.0.done c.seat.invariant.done).0 ∙ (λ i. events_in me.0 ++ giving (c.seat.view_is i).process (number i) h ∷ [])))

@@ -8,7 +8,7 @@ use Rattle.xh_records.specs.inner.Views.{events_in}
 use Rattle.xh_records.specs.inner.Tokens.{numbered}
 use Rattle.xh_records.proofs.History.{adds_one}
 use Rattle.xh_records.proofs.Seating.{not_among, has_room, gains, is_alone, seat_is}
-use Rattle.xh_records.proofs.Numbered.{held, views_are, numbered_push, gained_by, lot_back, fresh, held_did}
+use Rattle.xh_records.proofs.Numbered.{held, views_are, numbered_push, gained_by, lot_back, fresh, held_as}
 use Rattle.xh_records.specs.declared.view.View.{View}
 use Rattle.xh_records.proofs.Lent.{Spot, spot_of}
 use Rattle.xh_records.proofs.records.Records.take.Given.{Over}
@@ -22,13 +22,8 @@ module _ (g : Over) (c : After-take_slot g) where
   inside : c.slot_of-slot.result < c.seat.inside.token.table_id.slots
   inside = subst (λ z. c.slot_of-slot.result < z.slots) (sym (ap (λ h. h.table) c.seat.view_is ∙ c.requires.own.0)) c.slot_of-slot.ensures.inside.1
 
-pub take_slot-requires : goal.take_slot-requires
-take_slot-requires g c = record {
-  own = ap (λ h. h.table) c.seat.view_is ∙ c.requires.own.0 ∙ sym (ap (λ r. r.table) c.self.view_is);
-  inside = subst (λ z. (c.slot_of-slot.result < z.words) × (c.slot_of-slot.result < z.slots)) (sym (ap (λ r. r.table) c.self.view_is)) c.slot_of-slot.ensures.inside;
-  process = is_alone _ _ _ _ _ c.seat.invariant;
-  away = c.requires.away;
-}
+pub take_slot-requires-clause-process : goal.take_slot-requires-clause-process
+take_slot-requires-clause-process g c = is_alone _ _ _ _ _ c.seat.invariant
 
 pub push_reserved-requires : goal.push_reserved-requires
 push_reserved-requires g c =
@@ -55,7 +50,7 @@ returns-in-Ok-clause-taken g c =
     let h = holder_of c.args.from in
     let number : number_of me.0.shape.records slot ≡ c.args.number = here.number in
     gained_by x _ x.process c.args.number h _ t.0
-    (held_did x _ _ _ me c.seat.view_is _ _ c.take_slot.new.token.me _ (taking x.process c.args.number h) c.take_slot.ensures.same.0 c.take_slot.ensures.same.1 (ap (λ m. m.0.shape) t.1)
+    (held_as x _ _ _ me c.seat.view_is _ _ c.take_slot.new.token.me _ (λ d. d ++ taking x.process c.args.number h ∷ []) c.take_slot.ensures.same.0 c.take_slot.ensures.same.1 (ap (λ m. m.0.shape) t.1)
     (ap (λ m. numbered m.0.shape.records m.1) t.1 ∙ numbered_push me.0.shape.records me.1 slot t.0 ∙ (λ i. (c.seat.view_is i).lots ++ (number i, t.0) ∷ []))
     (ap (λ m. events_in m.0) t.1 ∙ (adds_one (taking c.seat.inside.process (number_of me.0.shape.records slot) h) _ me.0.done c.seat.invariant.done).0
     ∙ (λ i. events_in me.0 ++ taking (c.seat.view_is i).process (number i) h ∷ [])))
