@@ -1,5 +1,5 @@
 -- Each step on a closed word keeps the rule.
-use Rattle.std.proofs.Common.{◌≡◌, ◌≢◌, ◌⊎◌, inl, inr, ℕ, zero, suc, ◌<◌, Bool, true, false, true≢false, List, [], ◌∷◌, length, set}
+use Rattle.std.proofs.Common.{◌≡◌, ◌≢◌, inl, inr, ℕ, zero, suc, ◌<◌, Bool, true, false, true≢false, List, [], ◌∷◌, length, set}
 use Rattle.std.proofs.Common.{sym, refl, ap, ◌∙◌, subst, ⊎_elim, replicate, eqb, eq-eqb, ne_eqb, cond, arith}
 use Rattle.std.proofs.lemmas.List.{set-get_or}
 use Rattle.std.specs.Prelude.{slice_index}
@@ -70,10 +70,6 @@ splits id v some_word s h at =
           (λ j u other e. let f = h.2 j u e in
           ((λ w a b. let m = f.0 w a b in (kept_else h.0 v.from (length vs) w (λ is. other (sym m.0 ∙ ap h.0 is ∙ first.0)) ∙ m.0, m.1)), f.1))),
     )
-
-bits : (b : Bool) → (bit b ≡ 0) ⊎ (bit b ≡ 1)
-bits false = inl refl
-bits true = inr refl
 
 pub shuts : {S : Type 0} (slots id : ℕ) (me : Me S Sight) → me.0.upto ≡ suc me.0.from
     → Allows Shows slots id me me.0.from (λ _. 1) (λ _. Shut (step slots me.0.from 1 0 none) me 1)

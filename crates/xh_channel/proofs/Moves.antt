@@ -2,14 +2,14 @@
 use Rattle.std.proofs.Common.{◌≡◌, ◌≢◌, ℕ, suc, true, false, true≢false, List, [], ◌∷◌, ◌++◌, length, set, sym, refl, ap, ◌∙◌, subst, ⊎_elim, append_assoc, arith}
 use mathlib.Core.Option.{some}
 use lib.ListN.{get_elem?}
-use Rattle.crossbeam_queue.specs.Fifo.{Pushes, Pops, Forks, Merges, Learns}
+use Rattle.crossbeam_queue.specs.Fifo.{Pushes, Pops, Forks, Merges}
 use Rattle.xh_model.proofs.Direction.{numbers_join, number_at, numbers_before}
 use Rattle.crossbeam_queue.proofs.Lists.{at_set}
 use Rattle.xh_channel.specs.declared.message.Message.{Message}
 use Rattle.xh_channel.specs.declared.direction.Role.{Role}
 use Rattle.xh_channel.specs.Numbers.{number, Numbered}
 use Rattle.xh_channel.proofs.Views.{Every, every_set, every_snoc, one_view}
-use Rattle.xh_channel.specs.Directions.{role, Fits, Ordered, WaitsFrom, WaitsTo, WaitsAfter, Sent, Got}
+use Rattle.xh_channel.specs.Directions.{role, Fits, Ordered, Sent, Got}
 
 pub begins : Ordered [] (role true true [] [] ∷ [])
 begins = (0, 0, [], [], (refl, tt), one_view (Fits 0 0 [] []) (role true true [] []) ((λ _. (refl, refl)), λ _. (refl, refl)))
@@ -70,12 +70,6 @@ forks port v a b items views h at = let l : Role = role true false v.sent [] in 
       every_snoc (Fits h.0 (length vs) h.2 h.3) vs r ((λ p. absurd (true≢false (sym p))), λ _. (refl, (mine.1 b).1)) (λ j u e. ((old j u e).0, λ p. absurd ((old j u e).1 p))),
     )
 
-pub sender_learns : (port : ℕ) (v : Role) → v.pushes ≡ true → Learns Ordered port v (λ items. WaitsFrom v.sent items)
-sender_learns port v a items views h at = (h.3, ((h.5 port v at).0 a).1 ∙ h.4.0)
-
-pub receiver_learns : (port : ℕ) (v : Role) → v.pops ≡ true → Learns Ordered port v (λ items. WaitsTo v.got items)
-receiver_learns port v b items views h at = subst Numbered (h.4.0 ∙ ap (λ l. l ++ items) (sym ((h.5 port v at).1 b).1)) h.4.1
-
 pub merges : (port : ℕ) (v : Role) (other : ℕ) (u : Role) → v.pushes ≡ true → u.pops ≡ true
     → Merges Ordered port v other u (role true true v.sent u.got) (role false false [] [])
 merges port v other u a b items views h at two at' =
@@ -89,8 +83,3 @@ merges port v other u a b items views h at two at' =
     let now : Every Now vs = every_set Now views port both (λ _. ((λ _. mine.0 a), λ _. (refl, theirs.1)))
     (λ j y _ e apart. ((h.5 j y e).0, λ p. absurd (apart (((h.5 j y e).1 p).0 ∙ sym theirs.0)))) in
     (h.0, port, h.2, h.3, h.4, every_set (Fits h.0 port h.2 h.3) vs other none ((λ p. absurd (true≢false (sym p))), λ p. absurd (true≢false (sym p))) (λ j y apart e. now j y e apart))
-
-pub totals : (port : ℕ) (v : Role) → v.pushes ≡ true → v.pops ≡ true → Learns Ordered port v (λ items. WaitsAfter v.sent v.got items)
-totals port v a b items views h at =
-    let mine = h.5 port v at in
-    ((mine.0 a).1 ∙ h.4.0 ∙ ap (λ l. l ++ items) (sym (mine.1 b).1), subst Numbered (sym (mine.0 a).1) h.4.1)

@@ -229,7 +229,7 @@ impl Channels {
             return Ok(no);
         }
         let no = own.put_as::<M, R>(rt, tag, blocks)?;
-        room.rouse(rt);
+        room.turn.raise();
         Ok(no)
     }
 
@@ -278,26 +278,26 @@ impl Channels {
             own.was_shut();
         } else {
             own.shut();
-            room.rouse(rt);
+            room.turn.raise();
         }
     }
 
     /// The channel's turn rises by one, and all that wait there look again. For whoever ends a process
     /// without shutting its endpoint: the process may wait at the endpoint's spot, and no put comes.
-    pub fn rouse<R: Wait>(&self, rt: &R, spot: Spot) {
-        self.rooms[spot.channel as usize].rouse(rt);
+    pub fn rouse<R: Wait>(&self, _rt: &R, spot: Spot) {
+        self.rooms[spot.channel as usize].turn.raise();
     }
 
     /// How many puts that succeeded, shuts and calls of `rouse` there were at this channel. At 2^64 - 1 it stays.
     /// To wait for a message, first read the turn, then take, and where nothing waits call `wait` with
     /// the turn that was read: a put between the take and the `wait` isn't slept through.
     pub fn turn<R: Wait>(&self, _rt: &R, spot: Spot) -> u64 {
-        self.rooms[spot.channel as usize].turn()
+        self.rooms[spot.channel as usize].turn.count()
     }
 
     /// Returns where the channel's turn isn't `seen`, and at once where it is 2^64 - 1. Only a put that
     /// succeeds, a shut and `rouse` end a wait: nothing else that happens to the waiter's process does.
     pub fn wait<R: Wait>(&self, rt: &R, spot: Spot, seen: u64) {
-        self.rooms[spot.channel as usize].wait(rt, seen);
+        self.rooms[spot.channel as usize].turn.wait(rt, seen);
     }
 }

@@ -2,7 +2,6 @@
 #![tactic(auto)]
 
 mod channel_end;
-mod channel_state;
 mod channels;
 mod closed_rule;
 mod closed_word;
@@ -15,10 +14,12 @@ mod line;
 mod line_end;
 mod message;
 mod numbers;
+mod open_line;
 mod queue_end;
 mod refused;
 mod room;
 mod spot;
+mod turn;
 mod unsent;
 
 pub use channels::Channels;

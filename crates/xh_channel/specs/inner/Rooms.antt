@@ -1,5 +1,5 @@
--- What lies under the lock of a channel, its turn and its line.
-use Rattle.std.specs.Prelude.{◌≡◌, ℕ, ◌+◌, ◌-◌, ◌^◌, Bool, ◌==◌, ◌&&◌, not, min, [], Option, Some, None, Result, MatchResult}
+-- What lies under the lock of a channel, its line, and whether a turn is waited for.
+use Rattle.std.specs.Prelude.{◌≡◌, ℕ, ◌-◌, ◌^◌, Bool, ◌==◌, ◌&&◌, not, [], Option, Some, None, Result, MatchResult}
 use Rattle.arrayvec.specs.ArrayVec.{ArrayVec}
 use Rattle.xh_channel.specs.declared.message.Message.{Message}
 use Rattle.xh_channel.specs.declared.refused.Refused.{Refused}
@@ -11,9 +11,6 @@ use Rattle.xh_channel.specs.Lines.{Lined, PutsOn, TakesOn, Shuts}
 -- the turn stays there, which a counter of 64 bits can reach
 abbrev pub last_turn : ℕ
 last_turn = 2 ^ 64 - 1
-
-abbrev pub next_turn : ℕ → ℕ
-next_turn turn = min (turn + 1) last_turn
 
 -- whether a call that saw the turn `seen` goes on waiting
 abbrev pub is_waited_for : ℕ → ℕ → Bool

@@ -4,14 +4,13 @@ ghost use Rattle.xh_channel.specs.Pairs.{IsPair};
 ghost use Rattle.xh_channel.specs.Queues.{IsSameEnd};
 
 use arrayvec::ArrayVec;
-use std::alloc::Global;
 use std::process::Abort;
 use std::sync::Wait;
 use xh_channel::{Channels, Endpoint, Line, Message, Refused, Unsent};
 use xh_model::limits::MAX_BLOCKS;
 
 /// A call by one end: a put with a tag and at most one block, a take, a shut, a look at the turn.
-#[derive(Clone, Copy, Debug)]
+#[derive(Clone, Copy)]
 pub(super) enum Call {
     Put(u16, Option<u16>),
     Take,
@@ -65,13 +64,6 @@ pub(super) struct Ends {
     pub(super) high: Endpoint,
 }
 
-/// Channels, and both ends of one of them.
-#[derive(Drop)]
-pub(super) struct Pair {
-    pub(super) channels: Channels,
-    pub(super) ends: Ends,
-}
-
 /// Both ends of the next channel.
 pub(super) fn next_ends<R: Wait>(rt: &R, channels: &Channels) -> Result<Ends, Refused>
     ensures pair { IfOk result (λ e. IsPair e.low e.high) }
@@ -79,16 +71,6 @@ pub(super) fn next_ends<R: Wait>(rt: &R, channels: &Channels) -> Result<Ends, Re
 {
     let (low, high) = channels.open(rt)?;
     Ok(Ends { low, high })
-}
-
-/// Channels of a depth, and both ends of the first.
-pub(super) fn opened<R: Wait>(rt: &R, alloc: Global, depth: u8) -> Result<Pair, Refused>
-    ensures pair { IfOk result (λ p. IsPair p.ends.low p.ends.high) }
-    ensures free { IfOk result (λ p. (p.ends.low.has_contract ≡ false) × (p.ends.high.has_contract ≡ false)) }
-{
-    let channels = Channels::new(alloc, depth)?;
-    let ends = next_ends(rt, &channels)?;
-    Ok(Pair { channels, ends })
 }
 
 fn by_end<R: Wait>(rt: &R, channels: &Channels, end: &mut Endpoint, call: Call) -> Answer
@@ -122,16 +104,9 @@ pub(super) fn answer_of<R: Wait>(
     }
 }
 
-/// The call of a side answered what is expected.
-pub(super) fn assert_same(
-    rt: &impl Abort,
-    at: usize,
-    side: u8,
-    call: Call,
-    answered: Answer,
-    expected: Answer,
-) {
-    assert_eq!(rt; answered, expected, "call {at}: {call:?} by side {side}");
+/// The call at a place of a list answered what is expected.
+pub(super) fn assert_same(rt: &impl Abort, at: usize, answered: Answer, expected: Answer) {
+    assert_eq!(rt; answered, expected, "call {at}");
 }
 
 /// Makes each call by the end of its side, and compares what it answers.
@@ -145,20 +120,19 @@ pub(super) fn assert_answers<R: Wait + Abort>(
 {
     for (at, (side, call, expected)) in calls.iter().enumerate() {
         let answered = answer_of(rt, channels, ends, *side, *call);
-        assert_same(rt, at, *side, *call, answered, *expected);
+        assert_same(rt, at, answered, *expected);
     }
 }
 
-/// Makes each call on the first of new channels of a depth, and compares what it answers.
-pub(super) fn assert_on<R: Wait + Abort>(
+/// Makes each call on the next channel, and compares what it answers.
+pub(super) fn assert_on_next<R: Wait + Abort>(
     rt: &R,
-    alloc: Global,
-    depth: u8,
+    channels: &Channels,
     calls: &[(u8, Call, Answer)],
 ) -> Result<(), Refused> {
-    let mut pair = opened(rt, alloc, depth)?;
-    assert_answers(rt, &pair.channels, &mut pair.ends, calls);
-    drop(pair);
+    let mut ends = next_ends(rt, channels)?;
+    assert_answers(rt, channels, &mut ends, calls);
+    drop(ends);
     Ok(())
 }
 
@@ -174,14 +148,5 @@ pub(super) fn by_line(line: &mut Line, side: u8, call: Call) -> Answer
             Answer::Shut
         }
         Call::Turn => Answer::Turn(0),
-    }
-}
-
-/// Makes each call by its side of a line, 0 or 1, and compares what it answers.
-pub(super) fn assert_line(rt: &impl Abort, line: &mut Line, calls: &[(u8, Call, Answer)]) {
-    for (at, (side, call, expected)) in calls.iter().enumerate() {
-        let side = if *side == 0 { 0 } else { 1 };
-        let answered = by_line(line, side, *call);
-        assert_same(rt, at, side, *call, answered, *expected);
     }
 }

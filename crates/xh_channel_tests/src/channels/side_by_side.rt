@@ -73,7 +73,7 @@ fn taken_alike<R: Wait + Abort>(
         let side = if by_sender { sender } else { 1 - sender };
         let queued = answer_of(rt, channels, &mut both.ends, side, call);
         let lined = by_line(&mut both.line, side, call);
-        assert_same(rt, usize::from(block), side, call, queued, lined);
+        assert_same(rt, usize::from(block), queued, lined);
         if matches!(queued, Answer::Taken(..)) {
             taken = taken.wrapping_add(1);
         }

@@ -1,6 +1,6 @@
-use super::answers::{Ends, next_ends, opened};
+use super::answers::Ends;
+use super::scenes::{Act, Scene, play};
 use arrayvec::ArrayVec;
-use std::alloc::Global;
 use std::process::Abort;
 use std::sync::Wait;
 use std::test::Fail;
@@ -65,8 +65,12 @@ fn take_all<R: Wait>(rt: &R, channels: &Channels, end: &mut Endpoint, most: u64)
     taken
 }
 
-// All messages come in order, from one thread to another.
-fn assert_in_order<R: Threads + Wait + Abort + Sync>(rt: &R, channels: &Channels, ends: &mut Ends) {
+/// All messages come in order, from one thread to another.
+pub(super) fn assert_in_order<R: Threads + Wait + Abort + Sync>(
+    rt: &R,
+    channels: &Channels,
+    ends: &mut Ends,
+) {
     let (low, high) = (&mut ends.low, &mut ends.high);
     let carried = thread::join(
         rt,
@@ -79,9 +83,7 @@ fn assert_in_order<R: Threads + Wait + Abort + Sync>(rt: &R, channels: &Channels
 #[test]
 fn a_hundred_thousand_messages_come_in_order(rt: HostRuntime) -> Result<(), Fail> {
     for depth in [1, 16] {
-        let mut pair = opened(&rt, rt.alloc(), depth)?;
-        assert_in_order(&rt, &pair.channels, &mut pair.ends);
-        drop(pair);
+        play(&rt, rt.alloc(), depth, Scene::Each(Act::InOrder, 1))?;
     }
     Ok(())
 }
@@ -92,8 +94,8 @@ fn drain<R: Wait>(rt: &R, channels: &Channels, end: &mut Endpoint, before: u64) 
     for _ in 0..64 {
         match channels.take(rt, end) {
             Ok(message) if message.no == taken.wrapping_add(1) => taken = message.no,
-            Ok(_) => return None,
-            Err(_) => break,
+            Ok(_message) => return None,
+            Err(_refused) => break,
         }
     }
     Some(taken)
@@ -120,8 +122,8 @@ fn shut_and_drain<R: Wait>(
     drain(rt, channels, end, taken)
 }
 
-// One end puts while the other shuts: what was sent is taken, each message once, and at most one more that was pushed and not sent.
-fn assert_put_and_shut<R: Threads + Wait + Abort + Sync>(
+/// One end puts while the other shuts: what was sent is taken, each message once, and at most one more that was pushed and not sent.
+pub(super) fn assert_put_and_shut<R: Threads + Wait + Abort + Sync>(
     rt: &R,
     channels: &Channels,
     ends: &mut Ends,
@@ -136,12 +138,9 @@ fn assert_put_and_shut<R: Threads + Wait + Abort + Sync>(
     let Some(taken) = taken else {
         panic!(rt; "out of order");
     };
-    assert!(rt; taken >= sent, "{sent} were sent, {taken} came");
+    assert!(rt; taken >= sent);
     let all = drain(rt, channels, &mut ends.high, taken);
-    assert!(rt;
-        all.is_some_and(|all| all <= sent.wrapping_add(1)),
-        "{sent} were sent"
-    );
+    assert!(rt; all.is_some_and(|all| all <= sent.wrapping_add(1)));
 }
 
 // Puts one message after a while, and shuts the end.
@@ -159,16 +158,16 @@ fn take_to_the_end<R: Wait>(rt: &R, channels: &Channels, end: &mut Endpoint) -> 
     let mut taken = 0u64;
     for _ in rt.forever() {
         match channels.take(rt, end) {
-            Ok(_) => taken = taken.wrapping_add(1),
+            Ok(_message) => taken = taken.wrapping_add(1),
             Err(Refused::Empty) => (),
-            Err(_) => break,
+            Err(_refused) => break,
         }
     }
     taken
 }
 
-// PeerClosed comes after the last message: a take looks at the peer's word before it pops.
-fn assert_last_comes<R: Threads + Wait + Abort + Sync>(
+/// PeerClosed comes after the last message: a take looks at the peer's word before it pops.
+pub(super) fn assert_last_comes<R: Threads + Wait + Abort + Sync>(
     rt: &R,
     channels: &Channels,
     ends: &mut Ends,
@@ -180,63 +179,13 @@ fn assert_last_comes<R: Threads + Wait + Abort + Sync>(
         || put_and_shut(rt, channels, low, pause),
         || take_to_the_end(rt, channels, high),
     );
-    assert_eq!(rt; carried, (true, 1), "after {pause}");
-}
-
-// What two threads do at the ends of a channel: one puts while the other shuts, or one puts a message and shuts while
-// the other takes.
-#[derive(Clone, Copy)]
-enum Race {
-    PutsAndShut,
-    LastComes,
-}
-
-// One race, on the next channel.
-fn race_on_next<R: Threads + Wait + Abort + Sync>(
-    rt: &R,
-    channels: &Channels,
-    kind: Race,
-    channel: u8,
-) -> Result<(), Refused> {
-    let mut ends = next_ends(rt, channels)?;
-    let at = u64::from(channel);
-    match kind {
-        Race::PutsAndShut => assert_put_and_shut(rt, channels, &mut ends, at % 16),
-        Race::LastComes => assert_last_comes(rt, channels, &mut ends, at * 8),
-    }
-    drop(ends);
-    Ok(())
-}
-
-// The race on each channel.
-fn race_on_each<R: Threads + Wait + Abort + Sync>(
-    rt: &R,
-    channels: &Channels,
-    kind: Race,
-) -> Result<(), Refused> {
-    for channel in 0..64u8 {
-        race_on_next(rt, channels, kind, channel)?;
-    }
-    Ok(())
-}
-
-// The race on each channel of new ones of a depth.
-fn race_over<R: Threads + Wait + Abort + Sync>(
-    rt: &R,
-    alloc: Global,
-    depth: u8,
-    kind: Race,
-) -> Result<(), Refused> {
-    let channels = Channels::new(alloc, depth)?;
-    let answered = race_on_each(rt, &channels, kind);
-    drop(channels);
-    answered
+    assert_eq!(rt; carried, (true, 1));
 }
 
 #[test]
 fn a_put_races_a_shut(rt: HostRuntime) -> Result<(), Fail> {
     for _ in 0..64 {
-        race_over(&rt, rt.alloc(), 16, Race::PutsAndShut)?;
+        play(&rt, rt.alloc(), 16, Scene::Each(Act::PutAndShut, 64))?;
     }
     Ok(())
 }
@@ -244,7 +193,7 @@ fn a_put_races_a_shut(rt: HostRuntime) -> Result<(), Fail> {
 #[test]
 fn a_take_races_a_put_and_a_shut(rt: HostRuntime) -> Result<(), Fail> {
     for _ in 0..50 {
-        race_over(&rt, rt.alloc(), 1, Race::LastComes)?;
+        play(&rt, rt.alloc(), 1, Scene::Each(Act::LastComes, 64))?;
     }
     Ok(())
 }

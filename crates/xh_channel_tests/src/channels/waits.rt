@@ -1,7 +1,8 @@
-// Threads that sleep at a channel's turn are woken. The channel isn't the first one.
-use super::answers::{Ends, Pair, next_ends};
+//! Threads that wait at a channel's turn, and what wakes them.
+use super::answers::Ends;
+use super::scenes::{Act, Scene, play};
 use arrayvec::ArrayVec;
-use std::alloc::Global;
+use std::hint;
 use std::process::Abort;
 use std::sync::Wait;
 use std::test::Fail;
@@ -14,20 +15,18 @@ fn pause() -> Duration {
     Duration::from_millis(20)
 }
 
-// Both ends of the next channel but one.
-fn next_but_one<R: Wait>(rt: &R, channels: &Channels) -> Result<Ends, Refused> {
-    drop(next_ends(rt, channels)?);
-    next_ends(rt, channels)
+/// After a shut, the first channel's turn is 1 and the second's is 0, and no other is waited for.
+pub(super) fn assert_unwaited<R: Wait + Abort>(rt: &R, channels: &Channels, ends: &mut Ends) {
+    channels.shut(rt, &mut ends.low);
+    for (channel, turn) in [(0, 1), (1, 0)] {
+        let spot = Spot { channel, side: 0 };
+        assert_eq!(rt; channels.turn(rt, spot), turn, "channel {channel}");
+        channels.wait(rt, spot, 1 - turn);
+        channels.wait(rt, spot, u64::MAX);
+    }
 }
 
-// Channels, and both ends of the second.
-fn second<R: Wait>(rt: &R, alloc: Global) -> Result<Pair, Refused> {
-    let channels = Channels::new(alloc, 1)?;
-    let ends = next_but_one(rt, &channels)?;
-    Ok(Pair { channels, ends })
-}
-
-fn assert_shut_wakes<R: Clock + Threads + Wait + Abort + Sync>(
+pub(super) fn assert_shut_wakes<R: Clock + Threads + Wait + Abort + Sync>(
     rt: &R,
     channels: &Channels,
     ends: &mut Ends,
@@ -54,13 +53,11 @@ fn assert_shut_wakes<R: Clock + Threads + Wait + Abort + Sync>(
 
 #[test]
 fn a_shut_wakes_all_that_wait(rt: HostRuntime) -> Result<(), Fail> {
-    let mut pair = second(&rt, rt.alloc())?;
-    assert_shut_wakes(&rt, &pair.channels, &mut pair.ends);
-    drop(pair);
+    play(&rt, rt.alloc(), 1, Scene::Each(Act::ShutWakes, 2))?;
     Ok(())
 }
 
-fn assert_put_wakes<R: Clock + Threads + Wait + Abort + Sync>(
+pub(super) fn assert_put_wakes<R: Clock + Threads + Wait + Abort + Sync>(
     rt: &R,
     channels: &Channels,
     ends: &mut Ends,
@@ -85,17 +82,16 @@ fn assert_put_wakes<R: Clock + Threads + Wait + Abort + Sync>(
 
 #[test]
 fn a_put_wakes_who_waits(rt: HostRuntime) -> Result<(), Fail> {
-    let mut pair = second(&rt, rt.alloc())?;
-    assert_put_wakes(&rt, &pair.channels, &mut pair.ends);
-    drop(pair);
+    play(&rt, rt.alloc(), 1, Scene::Each(Act::PutWakes, 2))?;
     Ok(())
 }
 
-fn assert_rouse_wakes<R: Clock + Threads + Wait + Abort + Sync>(
+pub(super) fn assert_rouse_wakes<R: Clock + Threads + Wait + Abort + Sync>(
     rt: &R,
     channels: &Channels,
-    spot: Spot,
+    ends: &mut Ends,
 ) {
+    let spot = ends.low.spot();
     let seen = channels.turn(rt, spot);
     thread::join(
         rt,
@@ -110,8 +106,54 @@ fn assert_rouse_wakes<R: Clock + Threads + Wait + Abort + Sync>(
 
 #[test]
 fn a_rouse_wakes_who_waits(rt: HostRuntime) -> Result<(), Fail> {
-    let pair = second(&rt, rt.alloc())?;
-    assert_rouse_wakes(&rt, &pair.channels, pair.ends.low.spot());
-    drop(pair);
+    play(&rt, rt.alloc(), 1, Scene::Each(Act::RouseWakes, 2))?;
+    Ok(())
+}
+
+// Raises the turn where it leaves the remainder `own` by 3, and else waits until it has risen: so many turns of its own.
+// The pauses before are of some that a waiter looks through, and of some that it sleeps through.
+fn take_turns<R: Wait>(rt: &R, channels: &Channels, spot: Spot, own: u64, count: u16) {
+    let mut done = 0u16;
+    for _ in rt.forever() {
+        if done >= count {
+            break;
+        }
+        let seen = channels.turn(rt, spot);
+        if seen % 3 != own {
+            channels.wait(rt, spot, seen);
+            continue;
+        }
+        for _ in 0..(done % 32) * 256 {
+            hint::spin_loop();
+        }
+        channels.rouse(rt, spot);
+        done += 1;
+    }
+}
+
+/// Three threads raise the turn one after another, while the other two wait: none sleeps through its own.
+pub(super) fn assert_turns<R: Threads + Wait + Abort + Sync>(
+    rt: &R,
+    channels: &Channels,
+    ends: &mut Ends,
+) {
+    let spot = ends.low.spot();
+    thread::join(
+        rt,
+        || take_turns(rt, channels, spot, 0, 1000),
+        || {
+            thread::join(
+                rt,
+                || take_turns(rt, channels, spot, 1, 1000),
+                || take_turns(rt, channels, spot, 2, 1000),
+            )
+        },
+    );
+    assert_eq!(rt; channels.turn(rt, spot), 3000);
+}
+
+#[test]
+fn no_turn_is_slept_through(rt: HostRuntime) -> Result<(), Fail> {
+    play(&rt, rt.alloc(), 1, Scene::Each(Act::Turns, 2))?;
     Ok(())
 }

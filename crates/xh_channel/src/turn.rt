@@ -1,0 +1,102 @@
+//! A channel's turn, and what its waiters sleep on. No step takes a lock.
+ghost use Rattle.std.specs.Prelude.{◌≡◌};
+ghost use Rattle.xh_channel.specs.inner.Rooms.{is_waited_for};
+
+use std::hint;
+use std::sync::Wait;
+use std::sync::atomic::AtomicU64;
+use std::sync::atomic::Ordering::SeqCst;
+
+/// How often a waiter looks at the turn before it sleeps.
+const LOOKS: u16 = 400;
+
+/// A turn, which rises, and a bell, which rises too and is odd where a thread sleeps or is about to.
+///
+/// A waiter makes the bell odd, then looks at the turn, and sleeps only while the bell is what it was
+/// before that look. Whoever raises the turn looks at the bell afterwards, and where it is odd moves it
+/// on and wakes all. So where the turn rises after a waiter's look, the bell moves on after it too:
+/// the waiter doesn't fall asleep, or is woken. A sleep compares 32 bits of the bell, as those of the
+/// system do: it would be slept through where, between a waiter's look and its sleep, others fell
+/// asleep at this channel and were woken 2^31 times.
+#[derive(Drop)]
+pub struct Turn {
+    count: AtomicU64,
+    bell: AtomicU64,
+}
+
+// Whether a call that saw the turn `seen` goes on waiting.
+fn is_waited_for(turn: u64, seen: u64) -> bool
+    ensures { result ≡ is_waited_for turn seen }
+{
+    turn == seen && seen != u64::MAX
+}
+
+impl Turn {
+    pub fn new() -> Turn {
+        Turn {
+            count: AtomicU64::new(0),
+            bell: AtomicU64::new(0),
+        }
+    }
+
+    /// How often it was raised. At 2^64 - 1 it stays.
+    pub fn count(&self) -> u64 {
+        self.count.load(SeqCst)
+    }
+
+    /// It rises by one, and all that wait look again. Where nobody sleeps, that is one step and a load.
+    pub fn raise(&self) {
+        if self.count.fetch_add(1, SeqCst) == u64::MAX {
+            self.count.store(u64::MAX, SeqCst);
+        }
+        let heard = self.bell.load(SeqCst);
+        if heard % 2 == 1 && self.moves_on(heard) {
+            self.bell.wake_all();
+        }
+    }
+
+    // The bell goes on from `heard`, unless another thread has moved it on already.
+    fn moves_on(&self, heard: u64) -> bool {
+        let next = heard.wrapping_add(1);
+        let moved: Result<_, _> = self.bell.compare_exchange(heard, next, SeqCst, SeqCst);
+        moved.is_ok()
+    }
+
+    fn is_waited_for(&self, seen: u64) -> bool {
+        is_waited_for(self.count(), seen)
+    }
+
+    // Looks at the turn for a while.
+    fn rises_soon(&self, seen: u64) -> bool {
+        for _ in 0..LOOKS {
+            if !self.is_waited_for(seen) {
+                return true;
+            }
+            hint::spin_loop();
+        }
+        false
+    }
+
+    // Makes the bell odd, or where it is, sleeps until it moves on, unless the turn has risen.
+    fn sleep<R: Wait>(&self, rt: &R, seen: u64) {
+        let heard = self.bell.load(SeqCst);
+        if heard % 2 == 0 {
+            self.moves_on(heard);
+        } else if self.is_waited_for(seen) {
+            self.bell.park(rt, (heard & 0xffff_ffff) as u32);
+        }
+    }
+
+    /// Returns where the turn isn't `seen`, and at once where it is 2^64 - 1.
+    pub fn wait<R: Wait>(&self, rt: &R, seen: u64) {
+        if self.rises_soon(seen) {
+            return;
+        }
+        for _ in rt.forever() {
+            if !self.is_waited_for(seen) {
+                break;
+            }
+            self.sleep(rt, seen);
+        }
+    }
+}
