@@ -16,7 +16,7 @@ abbrev pub Each : ℕ → List ArenaState → Type 0
 Each n as_ = All (λ a. a.records ≡ n) as_
 
 pub back_at : {A : Type 0} (xs ys : List A) (k : ℕ) → slice_get (xs ++ ys) (length xs + k) ≡ slice_get ys k
-back_at [] ys k = ap (slice_get ys) (let e : 0 + k ≡ k = omega arith in e)
+back_at [] ys k = grind arith
 back_at (x ∷ xs) ys k = ap (slice_get ((x ∷ xs) ++ ys)) (let e : suc (length xs) + k ≡ suc (length xs + k) = omega arith in e) ∙ back_at xs ys k
 
 -- the length of the record at an index, of the arena a and the place i there
@@ -27,10 +27,8 @@ at_arena (x ∷ xs) n zero i d each lt inside =
     let e : 0 * n + i ≡ i = omega arith in
     ap (slice_get (all_lengths (x ∷ xs))) e ∙ front_at (lengths_of x) (all_lengths xs) i (length_of i x.cover) (length_at x i (subst (λ z. i < z) (sym here) inside))
 at_arena (x ∷ xs) n (suc a) i d each lt inside =
-    let here : x.records ≡ n = each 0 d (omega arith) in
-    let long : length (lengths_of x) ≡ n = length-lengths x ∙ here in
-    let m : suc a * n ≡ a * n + n = suc-mul a n in
-    let e : suc a * n + i ≡ length (lengths_of x) + (a * n + i) = omega arith in
+    let long : length (lengths_of x) ≡ n = length-lengths x ∙ each 0 d (omega arith) in
+    let e : suc a * n + i ≡ length (lengths_of x) + (a * n + i) = grind (arith, suc-mul a n) in
     ap (slice_get (all_lengths (x ∷ xs))) e ∙ back_at (lengths_of x) (all_lengths xs) (a * n + i) ∙ at_arena xs n a i d (λ k y h. each (suc k) y (omega arith)) (omega arith) inside
 
 pub at_index : (xs : List ArenaState) (n k : ℕ) (d : ArenaState) → 0 < n → Each n xs → k / n < length xs → slice_get (all_lengths xs) k ≡ Some (length_of (k % n) (get_or xs (k / n) d).cover)
@@ -41,12 +39,7 @@ at_index xs n k d some each lt =
 pub long : (xs : List ArenaState) (n : ℕ) → Each n xs → length (all_lengths xs) ≡ length xs * n
 long [] n each = omega arith
 long (x ∷ xs) n each =
-    let here : x.records ≡ n = each 0 x (omega arith) in
-    let ih = long xs n (λ k y h. each (suc k) y (omega arith)) in
-    let l = length-append (lengths_of x) (all_lengths xs) in
-    let m = length-lengths x in
-    let s : suc (length xs) * n ≡ length xs * n + n = suc-mul (length xs) n in
-    omega arith
+    grind (arith, each 0 x (omega arith), long xs n (λ k y h. each (suc k) y (omega arith)), length-append (lengths_of x) (all_lengths xs), length-lengths x, suc-mul (length xs) n)
 
 pub same_lists : (xs ys : List ℕ) → length xs ≡ length ys → ((k x : ℕ) → slice_get xs k ≡ Some x → slice_get ys k ≡ Some x) → xs ≡ ys
 same_lists [] [] e each = refl
@@ -73,12 +66,6 @@ pub each_open : (p : PartsOf) (vs : List VaultOf) → All (IsOpen p) vs → Each
 each_open p [] fresh k d h = absurd (omega arith)
 each_open p (v ∷ vs) fresh zero d h = (fresh 0 v (omega arith)).3
 each_open p (v ∷ vs) fresh (suc k) d h = each_open p vs (λ j c l. fresh (suc j) c (omega arith)) k d (omega arith)
-
--- the arena of a vault
-pub arena_of : (vs : List VaultOf) (k : ℕ) (d : VaultOf) → get_or (arenas_of vs) k d.arena ≡ (get_or vs k d).arena
-arena_of [] k d = refl
-arena_of (v ∷ vs) zero d = refl
-arena_of (v ∷ vs) (suc k) d = arena_of vs k d
 
 pub some_eq : {A : Type 0} (a b : A) → Some a ≡ Some b → a ≡ b
 some_eq a b e = cc

@@ -2,7 +2,7 @@
 use Rattle.std.proofs.Common.{◌≡◌, ℕ, zero, suc, ◌+◌, ◌<◌, List, [], ◌∷◌, ◌++◌, length, map, take, drop, set, get_or, All, refl, sym, ap, ◌∙◌, subst, arith}
 use Rattle.std.specs.Prelude.{slice_index}
 use Rattle.std.specs.List.{sum_by}
-use Rattle.std.proofs.lemmas.List.{length-map}
+use Rattle.std.proofs.lemmas.List.{length-map, length-drop}
 use Rattle.std.proofs.lemmas.List.Elements.{All-cons}
 use Rattle.std.proofs.lemmas.List.Sums.{sum_by-cons}
 use Rattle.atomic_table.specs.Seated.{TableId}
@@ -29,56 +29,39 @@ collect_done [] (suc a) = refl
 collect_done (v ∷ vs) zero = refl
 collect_done (v ∷ vs) (suc a) = ap (λ l. v ∷ l) (collect_done vs a)
 
-heads : (x y : TableId) (xs ys : List TableId) → x ∷ xs ≡ y ∷ ys → x ≡ y
-heads x y xs ys e = ap (λ l. get_or l 0 x) e
-
-tails : (x y : TableId) (xs ys : List TableId) → x ∷ xs ≡ y ∷ ys → xs ≡ ys
-tails x y xs ys e = ap (λ l. drop 1 l) e
-
 pub collect_ids : (vs : List VaultOf) (a : ℕ) (d w : VaultOf) (z : TableId) (zs : List TableId) → z ∷ zs ≡ vault_names (drop a vs)
     → (a < length vs) × (z ≡ (get_or vs a d).id) × (zs ≡ vault_names (drop (suc a) (set vs a w)))
 collect_ids [] zero d w z zs e = absurd (cc)
 collect_ids [] (suc a) d w z zs e = absurd (cc)
-collect_ids (v ∷ vs) zero d w z zs e = (omega arith, heads z v.id zs (vault_names vs) e, tails z v.id zs (vault_names vs) e)
+collect_ids (v ∷ vs) zero d w z zs e = (omega arith, cc, cc)
 collect_ids (v ∷ vs) (suc a) d w z zs e = let r = collect_ids vs a d w z zs e in (omega arith, r.1, r.2)
 
 pub collect_below : (vs : List VaultOf) (a : ℕ) (z : TableId) (zs : List TableId) → z ∷ zs ≡ vault_names (drop a vs) → a < length vs
-collect_below [] zero z zs e = absurd (cc)
-collect_below [] (suc a) z zs e = absurd (cc)
-collect_below (v ∷ vs) zero z zs e = omega arith
-collect_below (v ∷ vs) (suc a) z zs e = let r = collect_below vs a z zs e in omega arith
+collect_below vs a z zs e = let l = ap length e in omega (arith, l, length-map (drop a vs) (λ (v : VaultOf). v.id), length-drop a vs)
 
 -- ---- what stays
 
+-- what of a vault does not hang on its tallies
+module _ {B : Type 0} (f : VaultOf → B) (same : (v : VaultOf) (t : TallyOf) → f (with_tally v t) ≡ f v) where
+  pub kept_with : (vs : List VaultOf) (ts : List TallyOf) → map f (with_tallies vs ts) ≡ map f vs
+  kept_with [] ts = refl
+  kept_with (v ∷ vs) [] = refl
+  kept_with (v ∷ vs) (t ∷ ts) = λ i. same v t i ∷ kept_with vs ts i
+
+  pub kept_with_all : (vs : List VaultOf) (all : List AccountOf) → map f (with_accounts vs all) ≡ map f vs
+  kept_with_all vs [] = refl
+  kept_with_all vs (a ∷ rest) = kept_with_all (with_tallies vs a.tallies) rest ∙ kept_with vs a.tallies
+
 pub names_with : (vs : List VaultOf) (ts : List TallyOf) → vault_names (with_tallies vs ts) ≡ vault_names vs
-names_with [] ts = refl
-names_with (v ∷ vs) [] = refl
-names_with (v ∷ vs) (t ∷ ts) = ap (λ l. v.id ∷ l) (names_with vs ts)
-
-arenas_with : (vs : List VaultOf) (ts : List TallyOf) → arenas_of (with_tallies vs ts) ≡ arenas_of vs
-arenas_with [] ts = refl
-arenas_with (v ∷ vs) [] = refl
-arenas_with (v ∷ vs) (t ∷ ts) = ap (λ l. v.arena ∷ l) (arenas_with vs ts)
-
-pub names_with_all : (vs : List VaultOf) (all : List AccountOf) → vault_names (with_accounts vs all) ≡ vault_names vs
-names_with_all vs [] = refl
-names_with_all vs (a ∷ rest) = names_with_all (with_tallies vs a.tallies) rest ∙ names_with vs a.tallies
-
-pub arenas_with_all : (vs : List VaultOf) (all : List AccountOf) → arenas_of (with_accounts vs all) ≡ arenas_of vs
-arenas_with_all vs [] = refl
-arenas_with_all vs (a ∷ rest) = arenas_with_all (with_tallies vs a.tallies) rest ∙ arenas_with vs a.tallies
+names_with = kept_with (λ v. v.id) (λ v t. refl)
 
 -- ---- each account has a tally for each vault
 
 abbrev pub Named : List TableId → AccountOf → Type 0
 Named zs a = ids_of a.tallies ≡ zs
 
-length-ids : (ts : List TallyOf) → length (ids_of ts) ≡ length ts
-length-ids [] = refl
-length-ids (t ∷ ts) = ap suc (length-ids ts)
-
 pub as_many : (zs : List TableId) (vs : List VaultOf) (ts : List TallyOf) → vault_names vs ≡ zs → ids_of ts ≡ zs → length ts ≡ length vs
-as_many zs vs ts v t = sym (length-ids ts) ∙ ap length (t ∙ sym v) ∙ length-map vs (λ (x : VaultOf). x.id)
+as_many zs vs ts v t = sym (length-map ts (λ (x : TallyOf). x.id)) ∙ ap length (t ∙ sym v) ∙ length-map vs (λ (x : VaultOf). x.id)
 
 -- ---- once all accounts were taken in, each vault took in all its tallies
 
@@ -140,11 +123,7 @@ one_line a rest arena v t ts f =
     let m : Move = record { number = t.number; taken = t.taken; back = t.back } in
     let here : taken_of arena a ≡ t.taken = ap (λ y. taken_of y a) (sym z) ∙ f.taken 0 in
     let here' : back_of arena a ≡ t.back = ap (λ y. back_of y a) (sym z) ∙ f.back 0 in
-    let c = sum_by-cons (taken_of arena) a rest in let c' = sum_by-cons (back_of arena) a rest in
-    let d = sum_by-cons (λ (y : Move). y.taken) m v.collected in let d' = sum_by-cons (λ (y : Move). y.back) m v.collected in
-    let taken : sum_by (taken_of arena) rest + sum_by (λ y. y.taken) (m ∷ v.collected) ≡ sum_by (taken_of arena) (a ∷ rest) + sum_by (λ y. y.taken) v.collected = omega arith in
-    let back : sum_by (back_of arena) rest + sum_by (λ y. y.back) (m ∷ v.collected) ≡ sum_by (back_of arena) (a ∷ rest) + sum_by (λ y. y.back) v.collected = omega arith in
-    λ i. record { size = length v.arena.cover; out = bytes_out v.arena.cover; holes = length (holes_of v.arena.cover); taken = taken i; back = back i }
+    grind (arith, sum_by-cons (taken_of arena) a rest, sum_by-cons (back_of arena) a rest, sum_by-cons (λ (y : Move). y.taken) m v.collected, sum_by-cons (λ (y : Move). y.back) m v.collected)
 
 one_account : (a : AccountOf) (rest : List AccountOf) (arena : ℕ) (vs : List VaultOf) (ts : List TallyOf) → length ts ≡ length vs → From a arena ts
     → lines_after rest arena (with_tallies vs ts) ≡ lines_after (a ∷ rest) arena vs
@@ -162,10 +141,7 @@ closed_lines zs vs (a ∷ rest) e named =
 -- with none left, or none before
 none_left : (arena : ℕ) (vs : List VaultOf) → lines_after [] arena vs ≡ map closed_line vs
 none_left arena [] = refl
-none_left arena (v ∷ vs) =
-    let t : 0 + sum_by (λ (m : Move). m.taken) v.collected ≡ sum_by (λ m. m.taken) v.collected = omega arith in
-    let b : 0 + sum_by (λ (m : Move). m.back) v.collected ≡ sum_by (λ m. m.back) v.collected = omega arith in
-    λ i. record { size = length v.arena.cover; out = bytes_out v.arena.cover; holes = length (holes_of v.arena.cover); taken = t i; back = b i } ∷ none_left (suc arena) vs i
+none_left arena (v ∷ vs) = grind (arith, none_left (suc arena) vs)
 
 none_before : (p : PartsOf) (all : List AccountOf) (arena : ℕ) (vs : List VaultOf) → All (IsOpen p) vs → lines_after all arena vs ≡ arena_lines all arena vs
 none_before p all arena [] fresh = refl
@@ -173,10 +149,7 @@ none_before p all arena (v ∷ vs) fresh =
     let none : v.collected ≡ [] = (fresh 0 v (omega arith)).1 in
     let t0 : sum_by (λ (m : Move). m.taken) v.collected ≡ 0 = ap (λ (l : List Move). sum_by (λ m. m.taken) l) none in
     let b0 : sum_by (λ (m : Move). m.back) v.collected ≡ 0 = ap (λ (l : List Move). sum_by (λ m. m.back) l) none in
-    let t : sum_by (taken_of arena) all + sum_by (λ (m : Move). m.taken) v.collected ≡ sum_by (taken_of arena) all = omega arith in
-    let b : sum_by (back_of arena) all + sum_by (λ (m : Move). m.back) v.collected ≡ sum_by (back_of arena) all = omega arith in
-    λ i. record { size = length v.arena.cover; out = bytes_out v.arena.cover; holes = length (holes_of v.arena.cover); taken = t i; back = b i }
-    ∷ none_before p all (suc arena) vs (λ k d h. fresh (suc k) d (omega arith)) i
+    grind (arith, t0, b0, none_before p all (suc arena) vs (λ k d h. fresh (suc k) d (omega arith)))
 
 pub lines_are : (p : PartsOf) (zs : List TableId) (vs : List VaultOf) (all : List AccountOf) → vault_names vs ≡ zs → All (Named zs) all → All (IsOpen p) vs
     → map closed_line (with_accounts vs all) ≡ arena_lines all 0 vs
@@ -186,8 +159,8 @@ pub gathered : (p : PartsOf) (vs ws : List VaultOf) (all : List AccountOf) → v
     → All (IsOpen p) vs → length all ≡ p.workers → ws ≡ with_accounts vs all
     → AreGathered all vs ws
 gathered p vs ws all e named fresh count is = record {
-  names = ap vault_names is ∙ names_with_all vs all;
-  arenas = ap arenas_of is ∙ arenas_with_all vs all;
+  names = ap vault_names is ∙ kept_with_all (λ v. v.id) (λ v t. refl) vs all;
+  arenas = ap arenas_of is ∙ kept_with_all (λ v. v.arena) (λ v t. refl) vs all;
   full = subst (All IsFull) (sym is) (all_full p p.records.shape.names vs all e named fresh count);
   lines = ap (map closed_line) is ∙ lines_are p p.records.shape.names vs all e named fresh;
 }

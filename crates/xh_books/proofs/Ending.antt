@@ -1,12 +1,12 @@
 -- The places' seats and lines, one place after the other.
-use Rattle.std.proofs.Common.{◌≡◌, ℕ, ◌+◌, ◌≤◌, true, List, [], ◌∷◌, ◌++◌, length, refl, sym, ap, ◌∙◌, subst, append_assoc, append-nil, length-append, arith}
+use Rattle.std.proofs.Common.{◌≡◌, ℕ, ◌+◌, ◌≤◌, true, List, [], ◌∷◌, ◌++◌, length, refl, sym, ap, ◌∙◌, subst, append_assoc, arith}
+use Rattle.std.proofs.lemmas.Grind.{common_steps}
 use Rattle.std.specs.Prelude.{Option, Some, None}
 use Rattle.std.specs.List.{cons_option, sum_by}
 use Rattle.std.proofs.lemmas.List.Elements.{filter_map-append}
 use Rattle.std.proofs.lemmas.List.Sums.{sum_by-append, sum_by-cons}
 use Rattle.xh_core.specs.declared.ledger.PlaceLine.{PlaceLine}
 use Rattle.xh_core.specs.declared.status.Status.{Status}
-use Rattle.xh_core.specs.declared.status.Status.TheVariants.{Vacant, Running, Ending, Ended}
 use Rattle.xh_model.specs.Keyed.{value_at}
 use Rattle.xh_model.proofs.Keyed.{value_here}
 use Rattle.xh_place.specs.declared.body.Body.{Body}
@@ -31,10 +31,7 @@ no_blocks x (b ∷ bs) lists e =
 
 -- the line of a place has its bytes, and a place without a line has none
 line_bytes : (s : Status) (p : PlaceOf) → (is_over s ≡ true → p.blocks ≡ []) → sum_by (λ l. l.bytes) (cons_option (line_in s (line p)) []) ≡ total_of p.blocks
-line_bytes Vacant p none = sym (ap total_of (none refl))
-line_bytes Running p none = let c = sum_by-cons (λ (l : PlaceLine). l.bytes) (line p) [] in omega arith
-line_bytes Ending p none = let c = sum_by-cons (λ (l : PlaceLine). l.bytes) (line p) [] in omega arith
-line_bytes Ended p none = let c = sum_by-cons (λ (l : PlaceLine). l.bytes) (line p) [] in omega arith
+line_bytes s p none = grind (arith, common_steps, none)
 
 -- of all places these are ended, and the rest not yet
 pub record EndedSoFar (all rest : List PlaceOf) (seats : List (Held Body)) (lines : List PlaceLine) : Type 0 where
@@ -43,15 +40,6 @@ pub record EndedSoFar (all rest : List PlaceOf) (seats : List (Held Body)) (line
   pub seats_are : AreSeats seats done
   pub lines_are : lines ≡ place_lines done
   pub owned : sum_by (λ l. l.bytes) lines ≡ bytes_owned done
-
-pub none_ended : (all : List PlaceOf) (seats : List (Held Body)) (lines : List PlaceLine) → seats ≡ [] → lines ≡ [] → EndedSoFar all all seats lines
-none_ended all seats lines s l = record {
-  done = [];
-  split = refl;
-  seats_are = subst (λ (xs : List (Held Body)). AreSeats xs []) (sym s) tt;
-  lines_are = l;
-  owned = ap (λ (ls : List PlaceLine). sum_by (λ x. x.bytes) ls) l;
-}
 
 pub one_ended : (all rest now_ : List PlaceOf) (p : PlaceOf) (seats seats' : List (Held Body)) (lines lines' : List PlaceLine) (x : Held Body) (o : Option PlaceLine)
     → EndedSoFar all now_ seats lines → now_ ≡ p ∷ rest
@@ -73,10 +61,5 @@ one_ended all rest now_ p seats seats' lines lines' x o was next is none line_is
           let f = was.owned in omega arith);
     }
 
--- once none is left
-pub all_ended : (all : List PlaceOf) (seats : List (Held Body)) (lines : List PlaceLine) (was : EndedSoFar all [] seats lines) → was.done ≡ all
-all_ended all seats lines was = sym (was.split ∙ append-nil was.done)
-
 pub one_more : (lines lines' : List PlaceLine) (o : Option PlaceLine) → lines' ≡ lines ++ cons_option o [] → length lines' ≤ length lines + 1
-one_more lines lines' None e = let l = ap length e ∙ length-append lines [] in omega arith
-one_more lines lines' (Some x) e = let l = ap length e ∙ length-append lines (x ∷ []) in omega arith
+one_more lines lines' o e = grind (arith, common_steps, e)

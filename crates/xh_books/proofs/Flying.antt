@@ -1,6 +1,9 @@
 -- The lengths of the records that stand in no place's list, and what the places own.
 use Rattle.std.proofs.Common.{◌≡◌, ◌≢◌, ℕ, zero, suc, ◌+◌, ◌*◌, ◌<◌, ◌≤◌, inl, inr, ⊎_elim, Bool, true, false, cond}
 use Rattle.std.proofs.Common.{List, [], ◌∷◌, ◌++◌, length, set, get_or, sum, refl, sym, ap, ◌∙◌, subst, arith, suc-mul, ◌||◌}
+use Rattle.std.proofs.lemmas.Grind.{common_steps}
+use Rattle.std.proofs.lemmas.Bool.Decides.{nat_tests}
+use Rattle.std.proofs.lemmas.List.{length-set}
 use Rattle.std.specs.Prelude.{Option, Some, None, is_some, slice_get}
 use Rattle.std.specs.List.{sum_by}
 use Rattle.std.proofs.lemmas.List.Sums.{sum_by-append, sum_by-cons, sum_by-set}
@@ -8,7 +11,7 @@ use Rattle.std.proofs.lemmas.Option.{get_or_from_slice_get}
 use mathlib.Core.Logic.{dite}
 use native.Mathlib.Decide.{ℕ_discrete}
 use Rattle.xh_arena.specs.Views.{VaultOf}
-use Rattle.xh_kernel.proofs.Lists.{below_get}
+use Rattle.xh_kernel.proofs.Lists.{below_get, there}
 use Rattle.xh_model.specs.Arena.{lengths_of}
 use Rattle.xh_model.specs.Keyed.{Among, Distinct, keys, value_at}
 use Rattle.xh_model.specs.Slots.{index_of}
@@ -21,7 +24,7 @@ use Rattle.xh_place.specs.Places.{Item, PlaceOf, total_of}
 use Rattle.xh_books.specs.Ledgers.{bytes_in_flight, bytes_owned, is_listed, unlisted}
 use Rattle.xh_books.specs.inner.Steps.{all_lengths, arenas_of, unlisted_from}
 use Rattle.xh_books.proofs.Audited.{Each, same_lists, some_eq}
-use Rattle.xh_books.proofs.Summing.{sum_is, sum-append}
+use Rattle.xh_books.proofs.Summing.{sum-append}
 
 -- ---- lists beside keys
 
@@ -57,11 +60,6 @@ slice_get-here [] i v x e = absurd (cc)
 slice_get-here (y ∷ xs) zero v x e = refl
 slice_get-here (y ∷ xs) (suc i) v x e = slice_get-here xs i v x e
 
-length-set : (xs : List ℕ) (i v : ℕ) → length (set xs i v) ≡ length xs
-length-set [] i v = refl
-length-set (x ∷ xs) zero v = refl
-length-set (x ∷ xs) (suc i) v = ap suc (length-set xs i v)
-
 -- ---- lengths that are picked out of a list, each by its index
 
 -- each block's length stands at its record's index, and no record stands twice
@@ -87,11 +85,11 @@ sum_cleared xs (b ∷ bs) p =
     let ih = sum_cleared (set xs b.0 0) bs p.1 in
     let here : get_or xs b.0 0 ≡ b.1 = get_or_from_slice_get xs b.0 b.1 0 p.0 in
     let s = sum_by-set (λ (x : ℕ). x) xs b.0 0 0 (below_get xs b.0 b.1 p.0) in
-    omega (arith, ih, s, here, sum_is xs, sum_is (set xs b.0 0), sum_by-cons (λ (c : ℕ × ℕ). c.1) b bs)
+    grind (arith, common_steps, ih, s, here)
 
 length-cleared : (xs : List ℕ) (bs : List (ℕ × ℕ)) → length (cleared xs bs) ≡ length xs
 length-cleared xs [] = refl
-length-cleared xs (b ∷ bs) = length-cleared (set xs b.0 0) bs ∙ length-set xs b.0 0
+length-cleared xs (b ∷ bs) = length-cleared (set xs b.0 0) bs ∙ length-set {A = ℕ} xs b.0 0
 
 cleared_other : (xs : List ℕ) (bs : List (ℕ × ℕ)) (k : ℕ) → (Among (keys bs) k → ⊥) → slice_get (cleared xs bs) k ≡ slice_get xs k
 cleared_other xs [] k n = refl
@@ -99,9 +97,7 @@ cleared_other xs (b ∷ bs) k n = cleared_other (set xs b.0 0) bs k (λ h. n (in
 
 cleared_zero : (xs : List ℕ) (bs : List (ℕ × ℕ)) (k : ℕ) → slice_get xs k ≡ Some 0 → slice_get (cleared xs bs) k ≡ Some 0
 cleared_zero xs [] k e = e
-cleared_zero xs (b ∷ bs) k e = cleared_zero (set xs b.0 0) bs k (dite (ℕ_discrete k b.0)
-    (λ same. ap (slice_get (set xs b.0 0)) same ∙ slice_get-here xs b.0 0 0 (ap (slice_get xs) (sym same) ∙ e))
-    (λ other. slice_get-set xs b.0 k 0 other ∙ e))
+cleared_zero xs (b ∷ bs) k e = cleared_zero (set xs b.0 0) bs k (grind (arith, slice_get-set xs b.0 k 0, slice_get-here xs b.0 0 0))
 
 cleared_here : (xs : List ℕ) (bs : List (ℕ × ℕ)) (k x : ℕ) → slice_get xs k ≡ Some x → Among (keys bs) k → slice_get (cleared xs bs) k ≡ Some 0
 cleared_here xs [] k x e h = absurd h
@@ -167,16 +163,12 @@ pub listed_somewhere : (r : ℕ) (ps : List PlaceOf) → is_listed r ps ≡ true
 listed_somewhere r [] h = absurd (cc)
 listed_somewhere r (p ∷ ps) h = listed_or_not r p ps (value_at r p.blocks) refl (listed_somewhere r ps) h
 
-or_true : (b : Bool) → (b || true) ≡ true
-or_true true = refl
-or_true false = refl
-
 pub listed : (r j : ℕ) (ps : List PlaceOf) (p : PlaceOf) (x : Item) → slice_get ps j ≡ Some p → value_at r p.blocks ≡ Some x → is_listed r ps ≡ true
 listed r j [] p x at h = absurd (cc)
 listed r zero (q ∷ ps) p x at h =
     let here : value_at r q.blocks ≡ Some x = ap (λ (z : PlaceOf). value_at r z.blocks) (some_eq q p at) ∙ h in
     ap (λ (z : Option Item). is_some z || is_listed r ps) here
-listed r (suc j) (q ∷ ps) p x at h = ap (λ z. is_some (value_at r q.blocks) || z) (listed r j ps p x at h) ∙ or_true (is_some (value_at r q.blocks))
+listed r (suc j) (q ∷ ps) p x at h = grind (arith, nat_tests, listed r j ps p x at h)
 
 -- ---- the lengths of the other records, by index and by number
 
@@ -189,14 +181,6 @@ length-unlisted : (ps : List PlaceOf) (n m : ℕ) (xs : List ℕ) → length (un
 length-unlisted ps n m [] = refl
 length-unlisted ps n m (x ∷ xs) = ap suc (length-unlisted ps n (suc m) xs)
 
-there_is : (xs : List ℕ) (k : ℕ) → k < length xs → (x : ℕ) × (slice_get xs k ≡ Some x)
-there_is [] k h = absurd (omega arith)
-there_is (x ∷ xs) zero h = (x, refl)
-there_is (x ∷ xs) (suc k) h = there_is xs k (omega arith)
-
-zero_at : (ps : List PlaceOf) (n k x : ℕ) (b : Bool) → is_listed (number_of n (0 + k)) ps ≡ b → b ≡ true → cond (is_listed (number_of n (0 + k)) ps) 0 x ≡ 0
-zero_at ps n k x b e t = ap (λ (c : Bool). cond {A = ℕ} c 0 x) (e ∙ t)
-
 -- where the blocks are those that stand in the lists, what is left after clearing them are the lengths of the others
 pub cleared_is : (ps : List PlaceOf) (n : ℕ) (xs : List ℕ) (bs : List (ℕ × ℕ)) → ((k : ℕ) → k < length xs → is_listed (number_of n k) ps ≡ true → Among (keys bs) k)
     → ((k : ℕ) → Among (keys bs) k → is_listed (number_of n k) ps ≡ true)
@@ -204,15 +188,15 @@ pub cleared_is : (ps : List PlaceOf) (n : ℕ) (xs : List ℕ) (bs : List (ℕ �
 cleared_is ps n xs bs only all = same_lists (cleared xs bs) (unlisted_from ps n 0 xs) (length-cleared xs bs ∙ sym (length-unlisted ps n 0 xs))
     (λ k y at.
     let below : k < length xs = subst (λ (z : ℕ). k < z) (length-cleared xs bs) (below_get (cleared xs bs) k y at) in
-    let t = there_is xs k below in let x : ℕ = t.0 in
+    let x : ℕ = get_or xs k 0 in let at_x : slice_get xs k ≡ Some x = there xs k 0 below in
     let z : 0 + k ≡ k = omega arith in
-    unlisted_at ps n 0 xs k x t.1 ∙ dite (dec_among (keys bs) k)
+    unlisted_at ps n 0 xs k x at_x ∙ dite (dec_among (keys bs) k)
     (λ h.
     let yes_ : is_listed (number_of n (0 + k)) ps ≡ true = ap (λ j. is_listed (number_of n j) ps) z ∙ all k h in
-    let gone : 0 ≡ y = some_eq 0 y (sym (cleared_here xs bs k x t.1 h) ∙ at) in
+    let gone : 0 ≡ y = some_eq 0 y (sym (cleared_here xs bs k x at_x h) ∙ at) in
     ap (λ (c : Bool). Some (cond {A = ℕ} c 0 x)) yes_ ∙ ap Some gone)
     (λ n_.
-    let kept : x ≡ y = some_eq x y (sym (cleared_other xs bs k n_ ∙ t.1) ∙ at) in
+    let kept : x ≡ y = some_eq x y (sym (cleared_other xs bs k n_ ∙ at_x) ∙ at) in
     not_listed (is_listed (number_of n (0 + k)) ps) x (λ yes_. n_ (only k below (ap (λ j. is_listed (number_of n j) ps) (sym z) ∙ yes_))) ∙ ap Some kept))
   where
     not_listed : (b : Bool) (x : ℕ) → (b ≡ true → ⊥) → Some (cond {A = ℕ} b 0 x) ≡ Some x

@@ -2,7 +2,7 @@
 use Rattle.std.proofs.Common.{◌≡◌, ℕ, zero, suc, ◌+◌, ◌%◌, ◌<◌, ◌≤◌, Bool, true, false, List, [], ◌∷◌, ◌++◌, map, length, sum, All, sym, refl, ap, ◌∙◌, subst, inl, inr, ⊎_elim, arith}
 use Rattle.std.specs.Prelude.{Option, Some, None, slice_get}
 use Rattle.std.proofs.Math.Nat.{mod-lt}
-use Rattle.std.proofs.lemmas.Option.{get_or_from_slice_get}
+use Rattle.std.proofs.lemmas.Option.{get_or_from_slice_get, slice_get-map}
 use Rattle.xh_arena.specs.Views.{LotOf}
 use Rattle.xh_kernel.proofs.Lists.{below_get}
 use Rattle.xh_model.specs.declared.event.Holder.{Holder}
@@ -55,19 +55,8 @@ seats_own all xs ps k x are of_ at =
     let q = place_at xs ps k x are at in let own = all_at (IsPlaceOf all) ps k q.0 of_ q.1 in
     (q.2.same.0 ∙ own.0, q.2.same.1 ∙ own.1)
 
-lens_at : (ls : List (LotOf Body)) (k : ℕ) (l : LotOf Body) → slice_get ls k ≡ Some l → slice_get (lens_of ls) k ≡ Some l.len
-lens_at [] k l e = absurd (cc)
-lens_at (x ∷ xs) zero l e = ap (λ (z : LotOf Body). Some z.len) (some_eq x l e)
-lens_at (x ∷ xs) (suc k) l e = lens_at xs k l e
-
-length-lens : (ls : List (LotOf Body)) → length (lens_of ls) ≡ length ls
-length-lens [] = refl
-length-lens (x ∷ xs) = ap suc (length-lens xs)
-
-word_at : (hs : List (Option Holder)) (k : ℕ) (h : Option Holder) → slice_get hs k ≡ Some h → slice_get (map word_of hs) k ≡ Some (word_of h)
-word_at [] k h e = absurd (cc)
-word_at (x ∷ hs) zero h e = ap (λ (z : Option Holder). Some (word_of z)) (some_eq x h e)
-word_at (x ∷ hs) (suc k) h e = word_at hs k h e
+map_at : {A B : Type 0} (f : A → B) (xs : List A) (k : ℕ) (x : A) → slice_get xs k ≡ Some x → slice_get (map f xs) k ≡ Some (f x)
+map_at f xs k x e = rw (slice_get-map f xs k, e) refl
 
 distinct_append : (xs ys : List ℕ) → Distinct xs → Distinct ys → ((k : ℕ) → Among xs k → Among ys k → ⊥) → Distinct (xs ++ ys)
 distinct_append [] ys a b none = b
@@ -124,7 +113,7 @@ module _ (fits : Body → ℕ → Bool) (all : RecordsOf) (seats : List (Held Bo
         seat = x;
         at = s.1;
         held = held;
-        len = lens_at lots k l' at' ∙ ap (λ (z : LotOf Body). Some z.len) same ∙ ap (λ (z : Item). Some z.len) (sym t.2);
+        len = map_at (λ (z : LotOf Body). z.len) lots k l' at' ∙ ap (λ (z : LotOf Body). Some z.len) same ∙ ap (λ (z : Item). Some z.len) (sym t.2);
         inside = inside;
       }
 
@@ -220,5 +209,5 @@ module _ (fits : Body → ℕ → Bool) (all : RecordsOf) (seats : List (Held Bo
       let below : k < length lots = below_get lots k t.0 t.1 in
       let there = is_there ends.owners k (let e : length lots ≡ length ends.owners = ends.lots_long in omega arith) in
       let f = in_flight k m t.0 there.0 pos few t.1 t.2 full none there.1 in
-      let told = word_at ends.owners k (Some (Direction f.0)) (elem_slice ends.owners k (Some (Direction f.0)) f.1) in
+      let told = map_at word_of ends.owners k (Some (Direction f.0)) (elem_slice ends.owners k (Some (Direction f.0)) f.1) in
       (f.0, ends.holders k (Some (Direction f.0)) f.1, ap (λ (ws : List ℕ). slice_get ws k) ends.words_are ∙ told)

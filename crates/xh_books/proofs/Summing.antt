@@ -1,9 +1,10 @@
 -- The sums over the lines of the arenas.
-use Rattle.std.proofs.Common.{◌≡◌, ℕ, suc, ◌+◌, List, [], ◌∷◌, ◌++◌, length, map, sum, All, refl, sym, ap, ◌∙◌, arith}
+use Rattle.std.proofs.Common.{◌≡◌, ℕ, suc, ◌+◌, List, [], ◌∷◌, ◌++◌, length, map, sum, All, refl, ap, ◌∙◌, arith}
+use Rattle.std.proofs.lemmas.Grind.{common_steps}
 use Rattle.std.specs.Prelude.{slice_index}
 use Rattle.std.specs.List.{sum_by}
 use Rattle.std.proofs.lemmas.List.Elements.{All-map}
-use Rattle.std.proofs.lemmas.List.Sums.{sum-map, sum_by-append, sum_by-cons}
+use Rattle.std.proofs.lemmas.List.Sums.{sum_by-cons}
 use Rattle.atomic_table.specs.Seated.{TableId}
 use Rattle.xh_arena.specs.Views.{TallyOf, VaultOf}
 use Rattle.xh_core.specs.declared.ledger.ArenaLine.{ArenaLine}
@@ -14,24 +15,13 @@ use Rattle.xh_books.specs.Ledgers.{all_back, all_taken, arena_line, arena_lines,
 use Rattle.xh_books.specs.inner.Steps.{AreBooks, all_lengths, arenas_of, closed_line}
 use Rattle.xh_books.proofs.Collected.{Named, as_many}
 
-map_same : (xs : List ℕ) → map (λ x. x) xs ≡ xs
-map_same [] = refl
-map_same (x ∷ xs) = ap (λ l. x ∷ l) (map_same xs)
-
-pub sum_is : (xs : List ℕ) → sum xs ≡ sum_by (λ x. x) xs
-sum_is xs = ap sum (sym (map_same xs)) ∙ sum-map (λ x. x) xs
-
 pub sum-append : (xs ys : List ℕ) → sum (xs ++ ys) ≡ sum xs + sum ys
-sum-append xs ys = omega (arith, sum_is (xs ++ ys), sum_is xs, sum_is ys, sum_by-append (λ (x : ℕ). x) xs ys)
+sum-append xs ys = grind (arith, common_steps)
 
 -- what the lines say was handed out is the sum of all lengths
 pub outs_are : (vs : List VaultOf) → All AreBooks vs → sum_by (λ l. l.out) (map closed_line vs) ≡ sum (all_lengths (arenas_of vs))
 outs_are [] books = refl
-outs_are (v ∷ vs) books =
-    let here = (books 0 v (omega arith)).0 in
-    let ih = outs_are vs (λ k d h. books (suc k) d (omega arith)) in
-    let c = sum_by-cons (λ (l : ArenaLine). l.out) (closed_line v) (map closed_line vs) in let s = sum-append (lengths_of v.arena) (all_lengths (arenas_of vs)) in
-    omega (arith, here, ih, c, s)
+outs_are (v ∷ vs) books = grind (arith, common_steps, (books 0 v (omega arith)).0, outs_are vs (λ k d h. books (suc k) d (omega arith)), sum-append (lengths_of v.arena) (all_lengths (arenas_of vs)))
 
 -- each arena handed out what was taken of it less what came back
 abbrev pub IsEven : ArenaLine → Type 0
@@ -42,11 +32,7 @@ lines_even vs books = All-map IsEven closed_line vs (λ k d h. (books k d h).1)
 
 pub sum_even : (ls : List ArenaLine) → All IsEven ls → sum_by (λ l. l.taken) ls ≡ sum_by (λ l. l.back) ls + sum_by (λ l. l.out) ls
 sum_even [] even = refl
-sum_even (l ∷ ls) even =
-    let here : l.taken ≡ l.back + l.out = even 0 l (omega arith) in
-    let ih = sum_even ls (λ k d h. even (suc k) d (omega arith)) in
-    let a = sum_by-cons (λ (x : ArenaLine). x.taken) l ls in let b = sum_by-cons (λ (x : ArenaLine). x.back) l ls in let c = sum_by-cons (λ (x : ArenaLine). x.out) l ls in
-    omega (arith, here, ih, a, b, c)
+sum_even (l ∷ ls) even = grind (arith, common_steps, even 0 l (omega arith), sum_even ls (λ k d h. even (suc k) d (omega arith)))
 
 -- a sum over the lines is one over the accounts
 module _ (f : ArenaLine → ℕ) (part : ℕ → AccountOf → ℕ) (g : TallyOf → ℕ)
@@ -59,10 +45,8 @@ module _ (f : ArenaLine → ℕ) (part : ℕ → AccountOf → ℕ) (g : TallyOf
   one_more a rest k (v ∷ vs) (t ∷ ts) e h =
       let ih = one_more a rest (suc k) vs ts (omega arith) (λ i. let q : suc k + i ≡ k + suc i = omega arith in ap (λ z. part z a) q ∙ h (suc i)) in
       let here : part k a ≡ g t = (let z : k ≡ k + 0 = omega arith in ap (λ y. part y a) z) ∙ h 0 in
-      let a1 = sum_by-cons f (arena_line (a ∷ rest) k v) (arena_lines (a ∷ rest) (suc k) vs) in
-      let a2 = sum_by-cons f (arena_line rest k v) (arena_lines rest (suc k) vs) in
-      let b1 = is (a ∷ rest) k v in let b2 = is rest k v in let c = sum_by-cons (part k) a rest in let d = sum_by-cons g t ts in
-      omega (arith, ih, here, a1, a2, b1, b2, c, d)
+      let a1 = sum_by-cons f (arena_line (a ∷ rest) k v) (arena_lines (a ∷ rest) (suc k) vs) in let a2 = sum_by-cons f (arena_line rest k v) (arena_lines rest (suc k) vs) in
+      grind (arith, ih, here, is (a ∷ rest) k v, is rest k v, sum_by-cons (part k) a rest, sum_by-cons g t ts)
 
   no_more : (k : ℕ) (vs : List VaultOf) → sum_by f (arena_lines [] k vs) ≡ 0
   no_more k [] = refl

@@ -1,39 +1,16 @@
 -- Lemmas on the numbers of names.
-use Rattle.std.proofs.Common.{◌≡◌, ◌<◌, ◌+◌, ◌⊎◌, inl, inr, ℕ, zero, suc, Bool, true, false, cond, List, [], ◌∷◌, ◌++◌, length, refl, ap, sym, ◌∙◌, arith, Option, Some, None, IfSome}
+use Rattle.std.proofs.Common.{◌≡◌, ◌<◌, ◌+◌, ◌⊎◌, inl, inr, ℕ, zero, suc, Bool, true, false, cond, List, [], ◌∷◌, ◌++◌, length, refl, ap, arith, Option, Some, None, IfSome}
 use Rattle.std.proofs.Common.{slice_get, if◌then◌else◌}
 use Rattle.std.specs.Str.{bytes_eq}
+use Rattle.std.proofs.lemmas.Bool.Decides.{nat_tests}
 use Rattle.std.proofs.lemmas.Slice.Eq.{bytes_eq-Decides}
 use Rattle.xh_script.specs.Names.{number_from, number_in}
 
--- one name is not two others that differ
-differs : (n k q : List ℕ) (b : Bool) → bytes_eq k q ≡ b → bytes_eq n k ≡ false → bytes_eq n q ≡ true → b ≡ false
-differs n k q false e apart same = refl
-differs n k q true e apart same =
-    let first : n ≡ q = (bytes_eq-Decides n q).0 same in
-    let second : k ≡ q = (bytes_eq-Decides k q).0 e in
-    let both : bytes_eq n k ≡ true = (bytes_eq-Decides n k).1 (first ∙ sym second) in
-    absurd (cc)
-
-apart : (b : Bool) (i : ℕ) (o : Option ℕ) → (if b then Some i else o) ≡ None → (b ≡ false) × (o ≡ None)
-apart true i o h = absurd (cc)
-apart false i o h = (refl, h)
-
--- what is found with one more name behind, where that was not among them
-found_more : (b c : Bool) (i j : ℕ) (o more : Option ℕ) → (b ≡ true → c ≡ false) → more ≡ cond c (Some j) o
-    → (if b then Some i else more) ≡ cond c (Some j) (if b then Some i else o)
-found_more true c i j o more h e = rw (h refl) refl
-found_more false c i j o more h e = e
-
 number_from_more : (i j : ℕ) (names : List (List ℕ)) (k q : List ℕ) → j ≡ i + length names → number_from i names k ≡ None
     → number_from i (names ++ k ∷ []) q ≡ cond (bytes_eq k q) (Some j) (number_from i names q)
-number_from_more i j [] k q e new =
-    let same : j ≡ i = omega arith in
-    rw same refl
+number_from_more i j [] k q e new = let same : j ≡ i = omega arith in rw same refl
 number_from_more i j (n ∷ names) k q e new =
-    let old = apart (bytes_eq n k) i (number_from (i + 1) names k) new in
-    found_more (bytes_eq n q) (bytes_eq k q) i j (number_from (i + 1) names q) (number_from (i + 1) (names ++ k ∷ []) q)
-    (λ same. differs n k q (bytes_eq k q) refl old.0 same)
-    (number_from_more (i + 1) j names k q (omega arith) old.1)
+    grind (arith, nat_tests, (bytes_eq-Decides n k).1, (bytes_eq-Decides n q).0, (bytes_eq-Decides k q).0, number_from_more (i + 1) j names k q (omega arith))
 
 -- a new name has the number behind all others, which keep theirs
 pub number_more : (names : List (List ℕ)) (k q : List ℕ) → number_in names k ≡ None
@@ -53,11 +30,8 @@ number_from_below i j (n ∷ names) q e =
 pub number_below : (names : List (List ℕ)) (q : List ℕ) → IfSome (number_in names q) (λ n. n < length names)
 number_below names q = number_from_below 0 (length names) names q (omega arith)
 
-some_same : (n m : ℕ) → Some n ≡ Some m → n ≡ m
-some_same n m h = cc
-
 split : (b : Bool) (i n : ℕ) (o : Option ℕ) → (if b then Some i else o) ≡ Some n → ((b ≡ true) × (i ≡ n)) ⊎ (o ≡ Some n)
-split true i n o h = inl (refl, some_same i n h)
+split true i n o h = inl (refl, cc)
 split false i n o h = inr h
 
 found_at : (i n : ℕ) (names : List (List ℕ)) (name : List ℕ) → number_from i names name ≡ Some n → (k : ℕ) × (n ≡ i + k) × (slice_get names k ≡ Some name)

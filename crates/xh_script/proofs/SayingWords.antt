@@ -1,9 +1,9 @@
 -- The text of a name, a number, bytes or a row is read as it.
-use Rattle.std.proofs.Common.{◌≡◌, ◌-◌, ◌<◌, ◌≤◌, ◌+◌, ◌*◌, ◌/◌, ◌%◌, ◌^◌, ◌==◌, inl, inr, ℕ, zero, suc, true, false, List, [], ◌∷◌, ◌++◌, length, get_or, map, Result, Ok, refl, ap}
+use Rattle.std.proofs.Common.{◌≡◌, ◌-◌, ◌<◌, ◌≤◌, ◌+◌, ◌*◌, ◌/◌, ◌%◌, ◌^◌, ◌==◌, ℕ, zero, suc, true, false, List, [], ◌∷◌, ◌++◌, length, get_or, map, Result, Ok, refl, ap}
 use Rattle.std.proofs.Common.{◌∙◌, arith, nat_lt, length-append}
 use Rattle.std.specs.List.{list_all, slice_split, onto_first}
 use Rattle.std.specs.Fmt.{decimal}
-use Rattle.std.proofs.lemmas.Bool.{leb-true, le-leb, lt-ltb, ltb-true, ltb-false, eq-eqb, ne_eqb, and_parts, and_from, or_right, not_from_false, cases_Bool}
+use Rattle.std.proofs.lemmas.Bool.{le-leb, lt-ltb, ltb-true, ne_eqb, and_parts, and_from, or_right, not_from_false}
 use Rattle.std.proofs.lemmas.Bool.Decides.{nat_tests}
 use Rattle.std.proofs.lemmas.Fmt.{decimal_nonempty, first_decimal, length-decimal-le, digits_decimal, digits_value-decimal, decimal_digit}
 use Rattle.std.proofs.lemmas.List.Splits.{slice_split-cons_yes, slice_split-cons_no}
@@ -11,7 +11,7 @@ use Rattle.arrayvec.specs.ArrayVec.{ArrayVec}
 use Rattle.xh_model.specs.declared.row.Row.{Row}
 use Rattle.xh_model.specs.declared.limits.TheConstants.{STATES}
 use Rattle.xh_script.specs.declared.limits.TheConstants.{MAX_TAG}
-use Rattle.xh_script.specs.Words.{is_digit, has_no_zero_in_front, is_numeral, value_of, is_hex_letter, is_hex_digit, is_hex, hex_value, hex_bytes}
+use Rattle.xh_script.specs.Words.{is_digit, has_no_zero_in_front, is_numeral, value_of, is_hex_digit, is_hex, hex_value, hex_bytes}
 use Rattle.xh_script.specs.Steps.{◌>>=◌}
 use Rattle.xh_script.specs.Sorts.{name_at, number_at, number_between, bytes_at, row_said, row_of, row_at, word_at}
 use Rattle.xh_script.specs.Forms.{Row as Shape, sort_at}
@@ -43,8 +43,7 @@ front_back (suc n) h =
 
 numeral_back : (n : ℕ) → n < 2 ^ 32 → is_numeral (decimal n) ≡ true
 numeral_back n h =
-    and_from _ _ (and_from _ _ (and_from _ _ (lt-ltb 0 (length (decimal n)) (decimal_nonempty n (omega arith)))
-    (le-leb (length (decimal n)) 10 (length-decimal-le 10 n (omega arith) (omega arith) (omega arith)))) (front_back n h)) (digits_decimal own n (omega arith))
+    grind (arith, nat_tests, decimal_nonempty n (omega arith), length-decimal-le 10 n (omega arith) (omega arith) (omega arith), front_back n h, digits_decimal own n (omega arith))
 
 pub number_back : (n : ℕ) → n < 2 ^ 32 → number_at (decimal n) ≡ Ok n
 unfolding number_at
@@ -65,17 +64,7 @@ name_filled w h = (and_parts _ _ (and_parts _ _ (and_parts _ _ (and_parts _ _ h)
 -- ---- bytes
 
 digit_value : (d : ℕ) → d ≤ 15 → (is_hex_digit (hex_digit d) ≡ true) × (hex_value (hex_digit d) ≡ d)
-digit_value d h = elim (cases_Bool (nat_lt d 10)) [
-  | inl b ↦
-      let below = ltb-true d 10 b in
-      let yes : is_digit (48 + d) ≡ true = and_from _ _ (le-leb 48 (48 + d) (omega arith)) (le-leb (48 + d) 57 (omega arith)) in
-      (rw (b, yes) refl, rw (b, yes) (omega arith))
-  | inr b ↦
-      let above = ltb-false d 10 b in
-      let no : is_digit (87 + d) ≡ false = grind (arith, nat_tests) in
-      let yes : is_hex_letter (87 + d) ≡ true = and_from _ _ (le-leb 97 (87 + d) (omega arith)) (le-leb (87 + d) 102 (omega arith)) in
-      (rw (b, no, yes) refl, rw (b, no, yes) (omega arith))
-]
+digit_value d h = (grind (arith, nat_tests), grind (arith, nat_tests))
 
 bytes_told : (bytes : List ℕ) → list_all (λ b. nat_lt b 256) bytes ≡ true → hex_bytes (hex_text bytes) ≡ bytes
 bytes_told [] h = refl
@@ -92,19 +81,14 @@ hex_digits [] h = refl
 hex_digits (b ∷ bytes) h =
     let t = and_parts _ _ h in
     let below : b < 256 = ltb-true b 256 t.0 in
-    let high = digit_value (b / 16) (omega arith) in
-    let low = digit_value (b % 16) (omega arith) in
-    and_from _ _ high.0 (and_from _ _ low.0 (hex_digits bytes t.1))
+    and_from _ _ (digit_value (b / 16) (omega arith)).0 (and_from _ _ (digit_value (b % 16) (omega arith)).0 (hex_digits bytes t.1))
 
 length-hex_text : (bytes : List ℕ) → length (hex_text bytes) ≡ 2 * length bytes
 length-hex_text [] = refl
 length-hex_text (b ∷ bytes) = omega (arith, length-hex_text bytes)
 
 hex_back : (bytes : List ℕ) → AreBytes bytes → is_hex (hex_text bytes) ≡ true
-hex_back bytes h =
-    let long = length-hex_text bytes in
-    let n = length (hex_text bytes) in
-    and_from _ _ (and_from _ _ (and_from _ _ (le-leb 2 n (omega (arith, h.1.0))) (le-leb n 64 (omega (arith, h.1.1)))) (eq-eqb (n % 2) 0 (omega arith))) (hex_digits bytes h.0)
+hex_back bytes h = grind (arith, nat_tests, length-hex_text bytes, h.1.0, h.1.1, hex_digits bytes h.0)
 
 pub bytes_back : (bytes : ArrayVec ℕ) → AreBytes bytes.items → bytes_at (hex_text bytes.items) ≡ Ok bytes
 unfolding bytes_at
@@ -116,21 +100,15 @@ bytes_filled bytes h = lt-ltb 0 (length (hex_text bytes)) (omega (arith, length-
 -- ---- rows
 
 not_colon : (d : ℕ) → is_digit d ≡ true → (d == 58) ≡ false
-not_colon d h =
-    let t = and_parts _ _ h in
-    ne_eqb d 58 (omega (arith, leb-true d 57 t.1))
+not_colon d h = grind (arith, nat_tests)
 
 split_digits : (ds rest : List ℕ) → list_all is_digit ds ≡ true → slice_split (λ b. b == 58) (ds ++ 58 ∷ rest) ≡ ds ∷ slice_split (λ b. b == 58) rest
 split_digits [] rest h = slice_split-cons_yes (λ b. b == 58) 58 rest refl
-split_digits (d ∷ ds) rest h =
-    let t = and_parts _ _ h in
-    slice_split-cons_no (λ b. b == 58) d (ds ++ 58 ∷ rest) (not_colon d t.0) ∙ ap (onto_first d) (split_digits ds rest t.1)
+split_digits (d ∷ ds) rest h = let t = and_parts _ _ h in slice_split-cons_no (λ b. b == 58) d (ds ++ 58 ∷ rest) (not_colon d t.0) ∙ ap (onto_first d) (split_digits ds rest t.1)
 
 last_digits : (ds : List ℕ) → list_all is_digit ds ≡ true → slice_split (λ b. b == 58) ds ≡ ds ∷ []
 last_digits [] h = refl
-last_digits (d ∷ ds) h =
-    let t = and_parts _ _ h in
-    slice_split-cons_no (λ b. b == 58) d ds (not_colon d t.0) ∙ ap (onto_first d) (last_digits ds t.1)
+last_digits (d ∷ ds) h = let t = and_parts _ _ h in slice_split-cons_no (λ b. b == 58) d ds (not_colon d t.0) ∙ ap (onto_first d) (last_digits ds t.1)
 
 digits : (n : ℕ) → n ≤ 65535 → list_all is_digit (decimal n) ≡ true
 digits n h = digits_decimal own n (omega arith)

@@ -1,15 +1,16 @@
 -- A word that is read as a name, a number, bytes or a row is spelled so.
-use Rattle.std.proofs.Common.{◌≡◌, ◌≤◌, ◌+◌, ◌-◌, ◌*◌, ◌/◌, ◌%◌, ◌==◌, ◌&&◌, ◌||◌, inl, inr, ℕ, Bool, true, false, List, [], ◌∷◌, length, map, Option, Some, None, Result, Ok, Err, refl}
+use Rattle.std.proofs.Common.{◌≡◌, ◌≤◌, ◌+◌, ◌-◌, ◌*◌, ◌/◌, ◌%◌, ◌==◌, ◌&&◌, ℕ, Bool, true, false, List, [], ◌∷◌, length, map, Option, Some, None, Result, Ok, Err, refl}
 use Rattle.std.proofs.Common.{sym, ap, ◌∙◌, arith, nat_le, if◌then◌else◌}
 use Rattle.std.specs.List.{list_all, slice_split, join_with_byte}
 use Rattle.std.specs.Fmt.{decimal}
-use Rattle.std.proofs.lemmas.Bool.{leb-true, lt-ltb, le-ltb, eqb-true, and_parts, cases_Bool}
+use Rattle.std.proofs.lemmas.Bool.Decides.{nat_tests}
+use Rattle.std.proofs.lemmas.Bool.{and_parts}
 use Rattle.std.proofs.lemmas.List.Splits.{join_with_byte-slice_split}
 use Rattle.arrayvec.specs.ArrayVec.{ArrayVec}
 use Rattle.xh_model.specs.declared.row.Row.{Row}
 use Rattle.xh_model.specs.declared.limits.TheConstants.{STATES}
 use Rattle.xh_script.specs.declared.limits.TheConstants.{MAX_TAG}
-use Rattle.xh_script.specs.Words.{is_name, number_of, is_digit, is_hex_letter, is_hex_digit, is_hex, hex_value, hex_bytes}
+use Rattle.xh_script.specs.Words.{is_name, number_of, is_hex_digit, is_hex, hex_value, hex_bytes}
 use Rattle.xh_script.specs.Steps.{◌>>=◌}
 use Rattle.xh_script.specs.Sorts.{name_at, number_or, number_at, number_between, bytes_at, row_said, row_of, row_at, word_at}
 use Rattle.xh_script.specs.Forms.{Row as Shape, sort_at}
@@ -55,31 +56,10 @@ between_ok low high w n h =
     number_ok w m.0 m.1 ∙ ap decimal (same_ok m.0 n g.1)
 
 value_small : (b : ℕ) → hex_value b ≤ 15
-value_small b = elim (cases_Bool (is_digit b)) [
-  | inl d ↦ let t = and_parts _ _ d in rw d (omega (arith, leb-true b 57 t.1))
-  | inr d ↦ elim (cases_Bool (is_hex_letter b)) [
-    | inl l ↦ let t = and_parts _ _ l in rw (d, l) (omega (arith, leb-true b 102 t.1))
-    | inr l ↦ rw (d, l) (omega arith)
-  ]
-]
-
-other : (a b : Bool) → (a || b) ≡ true → a ≡ false → b ≡ true
-other true b h e = absurd (cc)
-other false b h e = h
+value_small b = grind (arith, nat_tests)
 
 digit_back : (b : ℕ) → is_hex_digit b ≡ true → hex_digit (hex_value b) ≡ b
-digit_back b h = elim (cases_Bool (is_digit b)) [
-  | inl d ↦
-      let t = and_parts _ _ d in
-      let low : 48 ≤ b = leb-true 48 b t.0 in
-      let high : b ≤ 57 = leb-true b 57 t.1 in
-      rw (d, lt-ltb (b - 48) 10 (omega arith)) (omega arith)
-  | inr d ↦
-      let l = other (is_digit b) (is_hex_letter b) h d in
-      let t = and_parts _ _ l in
-      let low : 97 ≤ b = leb-true 97 b t.0 in
-      rw (d, l, le-ltb (b - 87) 10 (omega arith)) (omega arith)
-]
+digit_back b h = grind (arith, nat_tests)
 
 hex_back : (word : List ℕ) (n : ℕ) → list_all is_hex_digit word ≡ true → length word ≡ 2 * n → hex_text (hex_bytes word) ≡ word
 hex_back [] n h e = refl
@@ -97,10 +77,9 @@ pub bytes_ok : (w : List ℕ) (bytes : ArrayVec ℕ) → bytes_at w ≡ Ok bytes
 unfolding bytes_at
 bytes_ok w bytes h =
     let g = guarded (is_hex w) (Ok (record { items = hex_bytes w })) BadHex bytes h in
-    let t = and_parts _ _ g.0 in
-    let u = and_parts _ _ t.0 in
-    let even : length w % 2 ≡ 0 = eqb-true (length w % 2) 0 u.1 in
-    sym (hex_back w (length w / 2) t.1 (omega arith)) ∙ ap (λ v. hex_text v.items) (same_ok (record { items = hex_bytes w }) bytes g.1)
+    let digits : list_all is_hex_digit w ≡ true = grind (arith, nat_tests, g.0) in
+    let even : length w % 2 ≡ 0 = grind (arith, nat_tests, g.0) in
+    sym (hex_back w (length w / 2) digits (omega arith)) ∙ ap (λ v. hex_text v.items) (same_ok (record { items = hex_bytes w }) bytes g.1)
 
 row_said_ok : (s t d n : List ℕ) (r : Row) → row_said s t d n ≡ Ok r → s ∷ t ∷ d ∷ n ∷ [] ≡ decimal r.state ∷ decimal r.tag ∷ decimal r.side ∷ decimal r.next ∷ []
 unfolding row_said

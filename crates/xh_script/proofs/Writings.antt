@@ -48,6 +48,15 @@ module _ {T : Type 0} (contents : T → Option (List ℕ)) where
   WritesOrFails-then a b c (Ok u) x y p q = Writes-then a b c x y p q
   WritesOrFails-then a b c (Err e) x y p q = (q.0, WritesFront-then a b c x y p q.1)
 
+  -- of what is written piece by piece, one piece is the next, or it stops the rest
+  pub goes_on : (a b c : Watched T) (front piece more rest whole : List ℕ) → whole ≡ front ++ rest → rest ≡ piece ++ more → Writes contents a b front → Writes contents b c piece →
+      (written : List ℕ) × Writes contents a c written × (whole ≡ written ++ more)
+  goes_on a b c front piece more rest whole w r p q = (front ++ piece, Writes-then a b c front piece p q, w ∙ ap (λ t. front ++ t) r ∙ sym (append_assoc front piece more))
+
+  pub stops_at : (a b c : Watched T) (front piece more rest whole : List ℕ) → whole ≡ front ++ rest → rest ≡ piece ++ more → Writes contents a b front → WritesFront contents b c piece →
+      WritesFront contents a c whole
+  stops_at a b c front piece more rest whole w r p q = rw (w, r) (WritesFront-then a b c front (piece ++ more) p (WritesFront-stops b c piece more q))
+
 -- the pieces from the i-th on
 pub concat_at : (pieces : List (Bor (List ℕ))) (i : ℕ) → i < length pieces
     → concat (map (λ p. p.now) (drop i pieces)) ≡ (get_or pieces i (record { ref_ptr = (0, 0); now = [] })).now ++ concat (map (λ p. p.now) (drop (i + 1) pieces))

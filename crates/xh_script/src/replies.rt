@@ -185,11 +185,11 @@ fn give_count_of(refused: &Refused) -> Option<u32>
 }
 
 #[tactic(auto, unfolding(crate::specs::Texts::refusal_text))]
-fn put_refusal<'a, W: Write>(
+fn put_refusal<W: Write>(
     writer: &mut Watched<W>,
     line: u32,
     code: u8,
-    name: &'a [u8],
+    name: &[u8],
     count: Option<u32>,
 ) -> Result<(), Fault>
     ensures { WritesOrFails W.contents writer.old writer.new result (refusal_text line code name.now count) }
@@ -198,48 +198,31 @@ fn put_refusal<'a, W: Write>(
     let mut codes = Buffer::new();
     let mut counts = Buffer::new();
     match count {
-        None => put_refused(
+        None => put_all(
             writer,
-            lines.format(line).as_bytes(),
-            codes.format(code).as_bytes(),
-            name,
+            &[
+                lines.format(line).as_bytes(),
+                b" no ",
+                codes.format(code).as_bytes(),
+                b" ",
+                name,
+                b"\n",
+            ],
         ),
-        Some(n) => put_refused_with(
+        Some(n) => put_all(
             writer,
-            lines.format(line).as_bytes(),
-            codes.format(code).as_bytes(),
-            name,
-            counts.format(n).as_bytes(),
+            &[
+                lines.format(line).as_bytes(),
+                b" no ",
+                codes.format(code).as_bytes(),
+                b" ",
+                name,
+                b" ",
+                counts.format(n).as_bytes(),
+                b"\n",
+            ],
         ),
     }
-}
-
-fn put_refused<'a, W: Write>(
-    writer: &mut Watched<W>,
-    line: &'a [u8],
-    code: &'a [u8],
-    name: &'a [u8],
-) -> Result<(), Fault>
-    ensures { WritesOrFails W.contents writer.old writer.new result
-        (concat (line.now ∷ codes " no " ∷ code.now ∷ codes " " ∷ name.now ∷ codes "\n" ∷ [])) }
-{
-    put_all(writer, &[line, b" no ", code, b" ", name, b"\n"])
-}
-
-fn put_refused_with<'a, W: Write>(
-    writer: &mut Watched<W>,
-    line: &'a [u8],
-    code: &'a [u8],
-    name: &'a [u8],
-    count: &'a [u8],
-) -> Result<(), Fault>
-    ensures { WritesOrFails W.contents writer.old writer.new result
-        (concat (line.now ∷ codes " no " ∷ code.now ∷ codes " " ∷ name.now ∷ codes " " ∷ count.now ∷ codes "\n" ∷ [])) }
-{
-    put_all(
-        writer,
-        &[line, b" no ", code, b" ", name, b" ", count, b"\n"],
-    )
 }
 
 /// Writes the reply to the command of a line. Where the writer fails, or takes no byte, a front of

@@ -1,8 +1,11 @@
 -- An endpoint that is moved to the end of its list, a change of a status, and what a stop and a close leave.
-use Rattle.std.proofs.Common.{◌≡◌, ℕ, zero, suc, ◌+◌, ◌-◌, ◌/◌, ◌<◌, ◌≤◌, Bool, List, [], ◌∷◌, ◌++◌, length, drop, true, cond, refl, sym, ap, ◌∙◌, arith, inl, inr, append-nil, subst}
-use Rattle.std.specs.Prelude.{None, Some, not, nat_lt, unwrap_or, ◌==◌, slice_set, slice_index_or}
+use Rattle.std.proofs.Common.{◌≡◌, ℕ, zero, suc, ◌+◌, ◌-◌, ◌/◌, ◌<◌, ◌≤◌, Bool, List, [], ◌∷◌, ◌++◌, length, drop, true, cond, refl, sym, ap, ◌∙◌, arith, append-nil, subst}
+use Rattle.std.specs.Prelude.{None, not, unwrap_or, ◌==◌, slice_set, slice_index_or}
 use Rattle.std.specs.List.{remove, position, position_or_len}
-use Rattle.std.proofs.lemmas.Bool.{cases_eq, cases_Bool, eq-eqb, ne_eqb, ltb-false, false≢true}
+use Rattle.std.proofs.lemmas.Bool.Decides.{nat_tests}
+use Rattle.xh_core.proofs.Claiming.{one_time}
+use Rattle.xh_serial.proofs.Machines.{list_set}
+use Rattle.std.proofs.lemmas.Bool.{false≢true}
 use Rattle.std.proofs.lemmas.List.Sums.{sum_by-remove, passes_at_first, prefix_len-le-length}
 use Rattle.std.proofs.lemmas.List.Edits.{length-remove}
 use Rattle.std.proofs.lemmas.List.{set-get_or, nil_from_length}
@@ -15,7 +18,7 @@ use Rattle.xh_serial.specs.Commands.{IsRunning}
 use Rattle.xh_serial.specs.Sweeping.{sweep_one, sweep, Sweeps}
 use Rattle.xh_serial.specs.EndingCommands.{last, moved_last}
 use Rattle.xh_serial.specs.BlockCommands.{freed_block}
-use Rattle.xh_serial.proofs.Machines.{runs_busy, place_there, list_here, list_else, current_generation, busy_place, places_set, places_whole, current_blocks, same_lists, IsPlace}
+use Rattle.xh_serial.proofs.Machines.{runs_busy, place_there, list_here, current_generation, busy_place, places_set, places_whole, current_blocks, same_lists, IsPlace}
 use Rattle.xh_core.proofs.Stores.{count_append, times-cons}
 use Rattle.xh_model.specs.Reclaimed.{Frees}
 use Rattle.xh_core.specs.declared.status.Status.{Status}
@@ -23,42 +26,25 @@ use Rattle.xh_core.specs.declared.status.Status.TheVariants.{Ending, Ended}
 use Rattle.xh_serial.proofs.Listed.{sweep_sweeps, sweep_whole, finishes}
 use Rattle.xh_serial.proofs.Reclaiming.{sweep_frees}
 
-place_or_length : (k n : ℕ) → k ≤ n → unwrap_or (cond (nat_lt k n) (Some k) None) n ≡ k
-place_or_length k n l = elim (cases_Bool (nat_lt k n)) [
-  | inl y ↦ rw y refl
-  | inr f ↦ rw f (let g : n ≤ k = ltb-false k n f in omega (arith, l, g))
-]
-
 -- the first that passes, or the length where none does
 pub first_or_length : (p : ℕ → Bool) (xs : List ℕ) → unwrap_or (position p xs) (length xs) ≡ position_or_len p xs
-first_or_length p xs = place_or_length (position_or_len p xs) (length xs) (prefix_len-le-length (λ x. not (p x)) xs)
+first_or_length p xs = let l : position_or_len p xs ≤ length xs = prefix_len-le-length (λ x. not (p x)) xs in grind (arith, nat_tests)
 
 -- where the first e stands
 pub found : (e : ℕ) (rs : List ℕ) → 0 < times e rs → position_or_len (λ q. q == e) rs < length rs
 found e [] h = absurd (omega (arith, h))
-found e (r ∷ rs) h = elim (cases_eq r e) [
-  | inl s ↦ rw (eq-eqb r e s) (omega arith)
-  | inr n ↦ (let t : times e (r ∷ rs) ≡ times e rs = times-cons e r rs ∙ rw (ne_eqb r e n) (omega arith) in
-      let more : position_or_len (λ q. q == e) rs < length rs = found e rs (omega arith) in rw (ne_eqb r e n) (omega arith))
-]
+found e (r ∷ rs) h = grind (arith, nat_tests, times-cons e r rs, found e rs)
 
 pub is_found : (e : ℕ) (rs : List ℕ) → 0 < times e rs → slice_index_or rs (position_or_len (λ q. q == e) rs) 0 ≡ e
-is_found e rs h = let y : (slice_index_or rs (position_or_len (λ q. q == e) rs) 0 == e) ≡ true = passes_at_first (λ q. q == e) rs 0 (found e rs h) in
-    elim (cases_eq (slice_index_or rs (position_or_len (λ q. q == e) rs) 0) e) [
-      | inl s ↦ s
-      | inr n ↦ absurd (false≢true (sym (ne_eqb _ e n) ∙ y))
-    ]
+is_found e rs h = let y : (slice_index_or rs (position_or_len (λ q. q == e) rs) 0 == e) ≡ true = passes_at_first (λ q. q == e) rs 0 (found e rs h) in grind (arith, nat_tests)
 
 times_last : (e q : ℕ) (rs : List ℕ) → 0 < times e rs → times q (last e rs) ≡ times q rs
 times_last e q rs h =
     let k : ℕ = position_or_len (λ x. x == e) rs in
     let f : ℕ → ℕ = λ x. cond {A = ℕ} (x == q) 1 0 in
-    let a : times q (last e rs) ≡ times q (remove rs k) + times q (e ∷ []) = count_append q (remove rs k) (e ∷ []) in
-    let b : times q (e ∷ []) ≡ f e + times q [] = times-cons q e [] in
     let c : times q (remove rs k) + f (slice_index_or rs k 0) ≡ times q rs = sum_by-remove f rs k 0 (found e rs h) in
     let d : f (slice_index_or rs k 0) ≡ f e = ap f (is_found e rs h) in
-    let z : times q [] ≡ 0 = refl in
-    omega (arith, a, b, c, d, z)
+    grind (arith, nat_tests, count_append q (remove rs k) (e ∷ []), one_time q e)
 
 drop_to : (xs : List ℕ) (e n : ℕ) → length xs ≡ n → drop n (xs ++ e ∷ []) ≡ e ∷ []
 drop_to [] e n h = let z : n ≡ 0 = sym h in rw z refl
@@ -83,10 +69,8 @@ module _ (m : Machine) (p e : ℕ) (w : IsWhole m) (r : IsRunning m p) (h : hold
   last_blocks = list_here m.places p x (place_there m p w) r.0
 
   pub last_whole : IsWhole (moved_last p e m)
-  last_whole = places_whole m _ w (places_set m.places p x w.places (busy_place m p (last e (blocks m p)) w (runs_busy m p r))) (λ k q. elim (cases_eq k p) [
-    | inl s ↦ rw s (ap (times q) last_blocks ∙ times_last e q (blocks m p) (one_listed m p e w h))
-    | inr n ↦ ap (times q) (list_else m.places p k x (place_there m p w) generation generation n)
-  ])
+  last_whole = places_whole m _ w (places_set m.places p x w.places (busy_place m p (last e (blocks m p)) w (runs_busy m p r)))
+      (λ k q. grind (arith, nat_tests, list_set m.places p x (place_there m p w) generation generation k, times_last e q (blocks m p) (one_listed m p e w h)))
 
 -- to free a data block is to sweep its entry
 pub frees_block : (m : Machine) (p r : ℕ) → 0 < times r (blocks m p) → end_of m r ≡ None → sweep_one p (position_or_len (λ q. q == r) (blocks m p)) m ≡ freed_block p r m
@@ -113,39 +97,30 @@ ended_whole m p w c h = status_whole m p Ended w (record { generation = w.places
 
 -- ---- a stop: the sweep of a list hangs on no status
 
+-- machines that list the same for p
+same_sweeps : (p budget : ℕ) (s : Status) (m n k : Machine) → blocks (with_status p s m) p ≡ blocks m p → blocks k p ≡ blocks n p → Sweeps p 0 budget (with_status p s m) n → Sweeps p 0 budget m k
+same_sweeps p budget s m n k e f h = record {
+  taken = h.taken;
+  accepted = h.accepted;
+  within = h.within;
+  there = rw (← e) h.there;
+  was_on_way = rw (← e) h.was_on_way;
+  once = rw (← e) h.once;
+  in_flight = h.in_flight;
+  before = refl;
+  rest = rw (f, ← e) h.rest;
+  left = rw f h.left;
+}
+
 pub stop_sweeps : (m n : Machine) (p budget : ℕ) → IsWhole m → n ≡ sweep p 0 budget (with_status p Ending m) → Sweeps p 0 budget m n
 stop_sweeps m n p budget w is =
-    let h : Sweeps p 0 budget (with_status p Ending m) n = subst (Sweeps p 0 budget (with_status p Ending m)) (sym is) (sweep_sweeps budget p 0 (with_status p Ending m) (ending_whole m p w)) in
-    let e : blocks m p ≡ blocks (with_status p Ending m) p = sym (status_blocks m p p Ending w) in
-    record {
-      taken = h.taken;
-      accepted = h.accepted;
-      within = h.within;
-      there = rw e h.there;
-      was_on_way = rw e h.was_on_way;
-      once = rw e h.once;
-      in_flight = h.in_flight;
-      before = h.before;
-      rest = rw e h.rest;
-      left = h.left;
-    }
+    same_sweeps p budget Ending m n n (status_blocks m p p Ending w) refl (subst (Sweeps p 0 budget (with_status p Ending m)) (sym is) (sweep_sweeps budget p 0 (with_status p Ending m) (ending_whole m p w)))
 
 pub stop_ends : (m n : Machine) (p budget : ℕ) → IsWhole m → n ≡ sweep p 0 budget (with_status p Ending m) → Sweeps p 0 budget m (with_status p Ended n)
 stop_ends m n p budget w is =
-    let h : Sweeps p 0 budget m n = stop_sweeps m n p budget w is in
     let e : blocks (with_status p Ended n) p ≡ blocks n p = status_blocks n p p Ended (rw is (sweep_whole budget p 0 (with_status p Ending m) (ending_whole m p w))) in
-    record {
-      taken = h.taken;
-      accepted = h.accepted;
-      within = h.within;
-      there = h.there;
-      was_on_way = h.was_on_way;
-      once = h.once;
-      in_flight = h.in_flight;
-      before = h.before;
-      rest = rw e h.rest;
-      left = rw e h.left;
-    }
+    same_sweeps p budget Ending m n (with_status p Ended n) (status_blocks m p p Ending w) e
+    (subst (Sweeps p 0 budget (with_status p Ending m)) (sym is) (sweep_sweeps budget p 0 (with_status p Ending m) (ending_whole m p w)))
 
 pub stop_frees : (m n : Machine) (p budget : ℕ) → IsWhole m → n ≡ sweep p 0 budget (with_status p Ending m) → length (blocks n p) ≡ 0 → Frees (arriving m) m.store n.store (blocks m p)
 stop_frees m n p budget w is none =

@@ -1,7 +1,8 @@
 -- A new machine is whole, and so is one where a process starts.
-use Rattle.std.proofs.Common.{◌≡◌, ℕ, ◌*◌, ◌/◌, ◌%◌, ◌<◌, List, [], length, Bool, true, false, cond, refl, sym, ap, ◌∙◌, subst, arith, ◌+◌, inl, inr}
-use Rattle.std.specs.Prelude.{Option, Some, None, ◌==◌, is_some, slice_index_or, ok_or, ◌||◌, ◌&&◌, nat_lt, slice_set}
-use Rattle.std.proofs.lemmas.Bool.{false≢true, cases_Bool, ltb-true}
+use Rattle.std.proofs.Common.{◌≡◌, ℕ, ◌*◌, ◌/◌, ◌%◌, ◌<◌, List, [], length, true, false, cond, refl, sym, ap, ◌∙◌, subst, arith}
+use Rattle.std.specs.Prelude.{Option, Some, None, is_some, slice_index_or, ok_or, slice_set}
+use Rattle.std.proofs.lemmas.Bool.Decides.{nat_tests}
+use Rattle.std.proofs.lemmas.Bool.{false≢true}
 use Rattle.std.proofs.lemmas.List.{length-replicate}
 use Rattle.xh_model.specs.declared.config.Config.{Config}
 use Rattle.xh_model.specs.declared.event.Holder.{Holder}
@@ -17,40 +18,23 @@ use Rattle.xh_serial.specs.PlaceCommands.{new_machine, is_ready, started, spawn_
 use Rattle.xh_core.proofs.Claiming.{no_bytes}
 use Rattle.std.specs.List.{position}
 use Rattle.std.proofs.lemmas.List.Quantifiers.{position-Some}
-use Rattle.xh_core.specs.Statuses.{is_vacant, is_ended}
 use Rattle.xh_core.specs.declared.refused.Refused.TheVariants.{NoPlace}
 use Rattle.xh_serial.specs.inner.Placing.{started_at}
-use Rattle.xh_serial.proofs.Machines.{listed_at, place_there, same_lists, IsPlace, places_set, places_whole}
-
-idle_from : (v d b : Bool) → (v || (d && b)) ≡ true → (v || d) ≡ true
-idle_from true d b h = refl
-idle_from false true b h = refl
-idle_from false false b h = h
-
-started_generation : (v d : Bool) (g : ℕ) → (v || (d && nat_lt (g + 1) 128)) ≡ true → g < 128 → cond v g (g + 1) < 128
-started_generation true d g h l = l
-started_generation false true g h l = ltb-true (g + 1) 128 h
-started_generation false false g h l = absurd (false≢true h)
-
-nothing_in : (x : Place) (k : ℕ) → x.blocks.items ≡ [] → listed_at x k ≡ []
-nothing_in x k e = rw e (elim (cases_Bool (x.generation == (k / 32))) [ inl y ↦ rw y refl | inr n ↦ rw n refl ])
+use Rattle.xh_serial.proofs.Machines.{place_there, same_lists, IsPlace, places_set, places_whole}
 
 module _ (m : Machine) (p : ℕ) (w : IsWhole m) (c : is_ready (place m p) ≡ true) where
   abbrev next : Machine
   next = record m { places = slice_set m.places (p % 32) (started (place m p)) }
 
   empty : (place m p).blocks.items ≡ []
-  empty = w.places.idle p (idle_from (is_vacant (place m p).status) (is_ended (place m p).status) (nat_lt ((place m p).generation + 1) 128) c)
+  empty = grind (arith, nat_tests, w.places.idle p)
 
   is_place : IsPlace (started (place m p))
-  is_place = record {
-    generation = started_generation (is_vacant (place m p).status) (is_ended (place m p).status) (place m p).generation c (w.places.generations p);
-    idle = λ h. absurd (false≢true h);
-  }
+  is_place = record { generation = grind (arith, nat_tests, w.places.generations p); idle = λ h. absurd (false≢true h) }
 
   started_whole : IsWhole next
   started_whole = places_whole m _ w (places_set m.places p (started (place m p)) w.places is_place)
-      (λ k q. ap (times q) (same_lists m.places p (started (place m p)) (place_there m p w) (λ k. nothing_in (started (place m p)) k empty ∙ sym (nothing_in (place m p) k empty)) k))
+      (λ k q. ap (times q) (same_lists m.places p (started (place m p)) (place_there m p w) (λ k. grind (arith, nat_tests, empty)) k))
 
 -- the same at the first place where one can
 pub spawn_whole : (m : Machine) (o : Option ℕ) → IsWhole m → position is_ready m.places ≡ o → IsWhole (record m { places = (started_at o m.places).1 })
@@ -67,10 +51,6 @@ spawn_gives m None = refl
 spawn_gives m (Some k) = refl
 
 -- ---- a new machine
-
-nothing_listed : (b : Bool) → cond {A = List ℕ} b [] [] ≡ []
-nothing_listed true = refl
-nothing_listed false = refl
 
 module _ (c : Config) (is : IsConfig c) (lawful : IsLawful (new_store c)) where
   abbrev m : Machine
@@ -89,7 +69,7 @@ module _ (c : Config) (is : IsConfig c) (lawful : IsLawful (new_store c)) where
   vacant p = at_replicate 32 (p % 32) no_place
 
   no_blocks : (p : ℕ) → blocks m p ≡ []
-  no_blocks p = rw (vacant p) (nothing_listed (0 == (p / 32)))
+  no_blocks p = grind (arith, nat_tests, vacant p)
 
   at_line : (d : ℕ) → line m d ≡ no_line
   unfolding new_machine

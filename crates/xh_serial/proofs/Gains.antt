@@ -1,8 +1,10 @@
 -- A process gains free records, and the machine stays whole.
 use Rattle.std.proofs.Common.{◌≡◌, ◌≢◌, ℕ, ◌+◌, ◌-◌, ◌*◌, ◌/◌, ◌<◌, ◌≤◌, List, [], ◌∷◌, ◌++◌, length, take, drop, length-drop, true, cond, refl, sym, ap, ◌∙◌, subst, arith, inl, inr}
 use Rattle.std.specs.Prelude.{Option, Some, None, is_some, ◌==◌, replicate, slice_set, slice_index_or}
+use Rattle.std.proofs.lemmas.Bool.Decides.{nat_tests}
+use Rattle.std.proofs.lemmas.Grind.{common_steps}
 use Rattle.std.proofs.lemmas.Bool.{cases_eq, false≢true, eq-eqb, ne_eqb}
-use Rattle.std.proofs.lemmas.List.{length-set, length-append, length-take-le, nil_from_length, set-set, set-get_or, length-replicate}
+use Rattle.std.proofs.lemmas.List.{length-set, length-take-le, length-replicate}
 use Rattle.xh_model.specs.declared.event.Holder.{Holder}
 use Rattle.xh_model.specs.declared.event.Holder.TheVariants.{Process, Direction}
 use Rattle.xh_model.specs.Store.{Store, owner, len, holds, is_known, after}
@@ -14,10 +16,10 @@ use Rattle.xh_serial.specs.Commands.{IsRunning}
 use Rattle.xh_model.specs.declared.event.Event.TheVariants.{Claim, Carve, Cut}
 use Rattle.std.specs.List.{position_or_len}
 use Rattle.xh_serial.specs.BlockCommands.{allocated, freed_block, overwritten, parted}
-use Rattle.xh_core.proofs.Claiming.{in_range, no_bytes}
+use Rattle.xh_core.proofs.Claiming.{in_range}
 use Rattle.xh_serial.proofs.Closing.{found, one_listed, frees_block}
 use Rattle.xh_serial.proofs.Kept.{whole_one}
-use Rattle.xh_serial.proofs.Room.{has, came_whole, at_most_one, few, few_records, held_there}
+use Rattle.xh_serial.proofs.Room.{has, came_whole, few, few_records, held_there}
 use Rattle.xh_core.proofs.Stores.{times-cons, is_there, count_append, at_set}
 use Rattle.xh_serial.proofs.Machines.{runs_busy, current_blocks, list_set, current_generation, place_there, places_set, busy_place}
 
@@ -39,10 +41,7 @@ module _ (p : ℕ) (rs : List ℕ) (m n : Machine) (w : IsWhole m) (r : IsRunnin
   generation = current_generation m p r.0
 
   lists : (k : Holder) (q : ℕ) → times q (listed n k) + has None k * times q rs ≡ times q (listed m k) + has (Some (Process p)) k * times q rs
-  lists (Process k) q = rw (places, list_set m.places p x (place_there m p w) generation generation k) (elim (cases_eq k p) [
-    | inl s ↦ rw (eq-eqb k p s, eq-eqb p k (sym s), s) (let l = count_append q (blocks m p) rs in omega (arith, l))
-    | inr a ↦ rw (ne_eqb k p a, ne_eqb p k (λ s. a (sym s))) (omega arith)
-  ])
+  lists (Process k) q = grind (arith, nat_tests, places, list_set m.places p x (place_there m p w) generation generation k, count_append q (blocks m p) rs)
   lists (Direction d) q = rw lines (omega arith)
 
   pub gained_whole : IsWhole n
@@ -67,38 +66,19 @@ module _ (p : ℕ) (rs : List ℕ) (m n : Machine) (w : IsWhole m) (r : IsRunnin
 pub free_there : (m : Machine) (r : ℕ) → IsWhole m → is_known m.store r ≡ true → r < length m.buffers
 free_there m r w k = subst (λ (n : ℕ). r < n) (sym w.buffers) (in_range m.store r w.store k)
 
-pub free_buffer : (m : Machine) (r : ℕ) → IsWhole m → owner m.store r ≡ None → buffer m r ≡ []
-free_buffer m r w f =
-    let none : end_of m r ≡ None = free_no_end m r w f in
-    nil_from_length (buffer m r) (w.bytes r ∙ rw none (no_bytes (owner m.store r) (len m.store r) f (w.store.owned r)))
-
--- what was written over an empty place goes when the place is emptied
-pub emptied_again : (bs : List (List ℕ)) (r : ℕ) (b : List ℕ) → slice_index_or bs r [] ≡ [] → slice_set (slice_set bs r b) r [] ≡ bs
-emptied_again bs r b e = set-set bs r b [] ∙ (ap (λ (x : List ℕ). slice_set bs r x) (sym e) ∙ set-get_or bs r [])
-
 -- the list of a process has room for a record that nobody holds
 pub room_for : (m : Machine) (p r : ℕ) → IsWhole m → IsRunning m p → owner m.store r ≡ None → r < length m.store.owners → length (place m p).blocks.items < 2048
 room_for m p r w run f there =
-    let apart : times r (blocks m p) ≡ 0 = w.once (Process p) r ∙ rw f refl in
     let most : length m.store.owners ≤ 2048 = few_records m w in
     let l : length (r ∷ blocks m p) ≤ length m.store.owners = few (length m.store.owners) (r ∷ blocks m p)
-    (λ q. let t = times-cons q r (blocks m p) in let o = w.once (Process p) q in elim (cases_eq r q) [
-      | inl e ↦ (let z : times q (blocks m p) ≡ 0 = rw e at apart in let one : cond {A = ℕ} (r == q) 1 0 ≡ 1 = rw (eq-eqb r q e) refl in omega (arith, t, z, one))
-      | inr n ↦ (let none : cond {A = ℕ} (r == q) 1 0 ≡ 0 = rw (ne_eqb r q n) refl in let a = at_most_one (holds m.store (Process p) q) in omega (arith, t, o, a, none))
-    ])
-    (λ q h. let t = times-cons q r (blocks m p) in elim (cases_eq r q) [
-      | inl e ↦ subst (λ (x : ℕ). x < length m.store.owners) e there
-      | inr n ↦ (let none : cond {A = ℕ} (r == q) 1 0 ≡ 0 = rw (ne_eqb r q n) refl in held_there m (Process p) q w (omega (arith, t, none, h)))
-    ]) in
+    (λ q. grind (arith, nat_tests, times-cons q r (blocks m p), w.once (Process p) q)) (λ q l. grind (arith, nat_tests, times-cons q r (blocks m p), held_there m (Process p) q w)) in
     let e : length (blocks m p) ≡ length (place m p).blocks.items = ap length (current_blocks m p run.0) in
     omega (arith, l, most, e)
 
 alloc_bytes : (m : Machine) (t : Store) (r n : ℕ) → IsWhole m → owner m.store r ≡ None → r < length m.store.owners → len t r ≡ n → ((q : ℕ) → q ≢ r → len t q ≡ len m.store q) →
     (q : ℕ) → length (slice_index_or (slice_set m.buffers r (replicate n 0)) q []) ≡ cond (is_some (end_of m q)) 0 (len t q)
-alloc_bytes m t r n w f there long others q = rw (at_set m.buffers r q (replicate n 0) [] (rw w.buffers there)) (elim (cases_eq q r) [
-  | inl e ↦ rw (eq-eqb q r e, e, free_no_end m r w f, long) (length-replicate {A = ℕ} n 0)
-  | inr ne ↦ rw (ne_eqb q r ne, others q ne) (w.bytes q)
-])
+alloc_bytes m t r n w f there long others q =
+    grind (arith, nat_tests, at_set m.buffers r q (replicate n 0) [] (rw w.buffers there), free_no_end m r w f, length-replicate {A = ℕ} n 0, others q, w.bytes q)
 
 -- a block is allocated
 pub allocated_whole : (m : Machine) (p r n : ℕ) → IsWhole m → IsRunning m p → Gained p (r ∷ []) m.store (after (Carve p r n) (after (Claim p r) m.store)) →
@@ -162,19 +142,14 @@ written_whole m r new w l e = record {
   kinds = w.kinds;
   ends = λ q d h. let was : IsEnd m q d = w.ends q d h in record { held = was.held; opened = was.opened; alone = was.alone };
   buffers = length-set m.buffers r new ∙ w.buffers;
-  bytes = λ q. rw (at_set m.buffers r q new [] l) (elim (cases_eq q r) [ inl s ↦ rw (eq-eqb q r s, s, e) (w.bytes r) | inr n ↦ rw (ne_eqb q r n) (w.bytes q) ]);
+  bytes = λ q. grind (arith, nat_tests, at_set m.buffers r q new [] l, w.bytes q);
   places = w.places;
   channels = w.channels;
   deep = w.deep;
 }
 
 pub overwritten_length : (at : ℕ) (bytes old : List ℕ) → at + length bytes ≤ length old → length (overwritten at bytes old) ≡ length old
-overwritten_length at bytes old l =
-    let a : length (overwritten at bytes old) ≡ length (take at old) + length (bytes ++ drop (at + length bytes) old) = length-append (take at old) (bytes ++ drop (at + length bytes) old) in
-    let b : length (bytes ++ drop (at + length bytes) old) ≡ length bytes + length (drop (at + length bytes) old) = length-append bytes (drop (at + length bytes) old) in
-    let c : length (take at old) ≡ at = length-take-le at old (omega (arith, l)) in
-    let d : length (drop (at + length bytes) old) ≡ length old - (at + length bytes) = length-drop (at + length bytes) old in
-    omega (arith, a, b, c, d, l)
+overwritten_length at bytes old l = grind (arith, common_steps)
 
 -- the bytes of a data block that is held are there, and as many as its length
 pub held_buffer : (m : Machine) (p r : ℕ) → IsWhole m → holds m.store (Process p) r ≡ true → r < length m.buffers

@@ -1,9 +1,11 @@
 -- A give leaves a whole machine.
 use Rattle.std.proofs.Common.{◌≡◌, ◌≢◌, ℕ, ◌+◌, ◌*◌, ◌/◌, ◌%◌, ◌<◌, ◌≤◌, List, [], ◌∷◌, ◌++◌, length, Bool, true, false, cond, refl, sym, ap, ◌∙◌, subst, arith, inl, inr, get_or-set_same}
 use Rattle.std.proofs.Common.{get_or-set_other, append-nil}
-use Rattle.std.specs.Prelude.{Option, Some, None, is_none, ◌==◌, ◌&&◌, ◌||◌, nat_lt, unwrap_or, slice_set, slice_index_or}
+use Rattle.std.specs.Prelude.{Option, Some, None, is_none, ◌==◌, nat_lt, unwrap_or, slice_set, slice_index_or}
 use Rattle.std.specs.List.{list_all, list_any}
-use Rattle.std.proofs.lemmas.Bool.{cases_eq, cases_Bool, false≢true, eq-eqb, ne_eqb, lt-ltb, ltb-true, ltb-false}
+use Rattle.std.proofs.lemmas.Bool.Decides.{nat_tests}
+use Rattle.xh_serial.proofs.Room.{handed_whole}
+use Rattle.std.proofs.lemmas.Bool.{cases_eq, false≢true, lt-ltb}
 use Rattle.std.proofs.lemmas.List.{length-set}
 use Rattle.std.proofs.lemmas.List.Concat.{flat_map-append}
 use Rattle.xh_model.specs.declared.event.Holder.{Holder}
@@ -21,63 +23,24 @@ use Rattle.xh_core.specs.Several.{times, pass_all, has_twice}
 use Rattle.xh_serial.specs.Commands.{toward}
 use Rattle.xh_serial.specs.MessageCommands.{given, told_line, put_line, without, is_banned}
 use Rattle.xh_serial.specs.inner.Checks.{MayGive}
-use Rattle.xh_core.proofs.Stores.{count_append, done, all_owners, is_there, at_set, times-cons, same_len, same_process}
+use Rattle.xh_core.proofs.Stores.{count_append, done, all_owners, is_there, at_set, times-cons, same_len}
 use Rattle.xh_serial.proofs.Machines.{runs_busy, place_there, list_set, current_generation, busy_place, places_set, way_here, way_else, peer_ne, peer_half, peer_below}
 use Rattle.xh_serial.proofs.Wired.{state_in, IsPair, same_lines, wired_pair, half_apart, put_numbered, set_numbered}
-use Rattle.xh_serial.proofs.Room.{has, came_whole, had_bytes, passed_lawful, at_most_one, is_held}
+use Rattle.xh_serial.proofs.Room.{has}
 
 pub any_times : (q : ℕ) (bs : List ℕ) → list_any (λ b. b == q) bs ≡ nat_lt 0 (times q bs)
 any_times q [] = refl
-any_times q (b ∷ bs) = let t : times q (b ∷ bs) ≡ cond (b == q) 1 0 + times q bs = times-cons q b bs in
-    elim (cases_eq b q) [
-      | inl e ↦ (let u : times q (b ∷ bs) ≡ 1 + times q bs = t ∙ rw (eq-eqb b q e) refl in rw (lt-ltb 0 (times q (b ∷ bs)) (omega arith), eq-eqb b q e) refl)
-      | inr n ↦ (let u : times q (b ∷ bs) ≡ times q bs = t ∙ rw (ne_eqb b q n) (omega arith) in rw (u, ne_eqb b q n) (any_times q bs))
-    ]
+any_times q (b ∷ bs) = grind (arith, nat_tests, times-cons q b bs, any_times q bs)
 
 -- the list without them has none of them, and the others as often as before
 pub times_without : (q : ℕ) (bs rs : List ℕ) → times q (without bs rs) ≡ cond (nat_lt 0 (times q bs)) 0 (times q rs)
-times_without q bs [] = elim (cases_Bool (nat_lt 0 (times q bs))) [ inl y ↦ rw y refl | inr f ↦ rw f refl ]
-times_without q bs (r ∷ rs) =
-    let t : times q (r ∷ rs) ≡ cond (r == q) 1 0 + times q rs = times-cons q r rs in
-    let more : times q (without bs rs) ≡ cond (nat_lt 0 (times q bs)) 0 (times q rs) = times_without q bs rs in
-    let k : times q (r ∷ without bs rs) ≡ cond (r == q) 1 0 + times q (without bs rs) = times-cons q r (without bs rs) in
-    elim (cases_Bool (nat_lt 0 (times r bs))) [
-      | inl y ↦ rw (any_times r bs, y) (elim (cases_eq r q) [
-        | inl e ↦ (let z : nat_lt 0 (times q bs) ≡ true = rw (sym e) y in rw z (rw z at more))
-        | inr n ↦ (let u : times q (r ∷ rs) ≡ times q rs = t ∙ rw (ne_eqb r q n) (omega arith) in rw u more)
-      ])
-      | inr f ↦ rw (any_times r bs, f) (elim (cases_eq r q) [
-        | inl e ↦ (let z : nat_lt 0 (times q bs) ≡ false = rw (sym e) f in
-            let m2 : times q (without bs rs) ≡ times q rs = rw z at more in rw z (k ∙ (rw m2 (sym t))))
-        | inr n ↦ (let u : times q (r ∷ rs) ≡ times q rs = t ∙ rw (ne_eqb r q n) (omega arith) in
-            let v : times q (r ∷ without bs rs) ≡ times q (without bs rs) = k ∙ rw (ne_eqb r q n) (omega arith) in rw u (v ∙ more))
-      ])
-    ]
-
-or_false : (a b : Bool) → (a || b) ≡ false → (a ≡ false) × (b ≡ false)
-or_false true b h = absurd (false≢true (sym h))
-or_false false b h = (refl, h)
-
-and_true : (a b : Bool) → (a && b) ≡ true → (a ≡ true) × (b ≡ true)
-and_true true b h = (refl, h)
-and_true false b h = absurd (false≢true h)
+times_without q bs [] = grind (arith, nat_tests)
+times_without q bs (r ∷ rs) = grind (arith, nat_tests, times-cons q r rs, times-cons q r (without bs rs), times_without q bs rs, any_times r bs)
 
 -- distinct records that all pass a test
 pub distinct_pass : (test : ℕ → Bool) (bs : List ℕ) → list_all test bs ≡ true → has_twice bs ≡ false → (q : ℕ) → times q bs ≤ cond (test q) 1 0
 distinct_pass test [] a t q = omega arith
-distinct_pass test (b ∷ bs) a t q =
-    let parts = and_true (test b) (list_all test bs) a in
-    let apart = or_false (list_any (λ x. x == b) bs) (has_twice bs) t in
-    let k : times q (b ∷ bs) ≡ cond (b == q) 1 0 + times q bs = times-cons q b bs in
-    elim (cases_eq b q) [
-      | inl e ↦ (
-          let none : times q bs ≤ 0 = ltb-false 0 (times q bs) (sym (any_times q bs) ∙ rw (sym e) apart.0) in
-          let one : times q (b ∷ bs) ≡ 1 + times q bs = k ∙ rw (eq-eqb b q e) refl in
-          let yes : test q ≡ true = rw (sym e) parts.0 in rw yes (omega arith))
-      | inr n ↦ (
-          let more = distinct_pass test bs parts.1 apart.1 q in
-          let same : times q (b ∷ bs) ≡ times q bs = k ∙ rw (ne_eqb b q n) (omega arith) in omega (arith, more, same))
-    ]
+distinct_pass test (b ∷ bs) a t q = grind (arith, nat_tests, times-cons q b bs, distinct_pass test bs, any_times b bs)
 
 -- p passed these to d
 pub record Passed (d : ℕ) (rs : List ℕ) (s t : Store) : Type 0 where
@@ -88,33 +51,17 @@ pub record Passed (d : ℕ) (rs : List ℕ) (s t : Store) : Type 0 where
 pass_here : (p d r : ℕ) (s : Store) → d < 128 → holds s (Process p) r ≡ true → 0 < len s r → after (Pass p r d) s ≡ change (Pass p r d) s
 pass_here p d r s l h n = done (Pass p r d) s (rw (lt-ltb d 128 l, h, lt-ltb 0 (len s r) n) refl)
 
-first_one : (r : ℕ) (rs : List ℕ) (b : Bool) → times r (r ∷ rs) ≤ cond b 1 0 → (b ≡ true) × (times r rs ≡ 0)
-first_one r rs b h = let e : times r (r ∷ rs) ≡ 1 + times r rs = times-cons r r rs ∙ rw (eq-eqb r r refl) refl in
-    elim (cases_Bool b) [
-      | inl y ↦ (let k : times r (r ∷ rs) ≤ 1 = rw y at h in (y, omega arith))
-      | inr n ↦ (let k : times r (r ∷ rs) ≤ 0 = rw n at h in absurd (omega arith))
-    ]
-
 pub passed_all : (p d : ℕ) (rs : List ℕ) (s : Store) → d < 128 → ((q : ℕ) → times q rs ≤ cond (holds s (Process p) q) 1 0) → ((q : ℕ) → holds s (Process p) q ≡ true → 0 < len s q) →
     Passed d rs s (pass_all p d rs s)
 passed_all p d [] s l h f = record { owners = λ q. refl; many = refl; arenas = refl }
 passed_all p d (r ∷ rs) s l h f =
-    let first = first_one r rs (holds s (Process p) r) (h r) in
-    let is : after (Pass p r d) s ≡ change (Pass p r d) s = pass_here p d r s l first.0 (f r first.0) in
+    let first : holds s (Process p) r ≡ true = grind (arith, nat_tests, times-cons r r rs, h r) in
+    let is : after (Pass p r d) s ≡ change (Pass p r d) s = pass_here p d r s l first (f r first) in
     let own : (q : ℕ) → owner (after (Pass p r d) s) q ≡ cond (q == r) (Some (Direction d)) (owner s q) =
-    (λ q. rw is (at_set s.owners r q (Some (Direction d)) None (is_there s (Process p) r first.0))) in
-    let rest : (q : ℕ) → times q rs ≤ cond (holds (after (Pass p r d) s) (Process p) q) 1 0 = (λ q. elim (cases_eq q r) [
-      | inl e ↦ (let z : times q rs ≡ 0 = rw e first.1 in omega (arith, z))
-      | inr n ↦ (let o : owner (after (Pass p r d) s) q ≡ owner s q = own q ∙ rw (ne_eqb q r n) refl in
-          let t : times q (r ∷ rs) ≡ times q rs = times-cons q r rs ∙ rw (ne_eqb r q (λ e. n (sym e))) (omega arith) in
-          rw o (subst (λ (x : ℕ). x ≤ cond (holds s (Process p) q) 1 0) t (h q)))
-    ]) in
+    (λ q. rw is (at_set s.owners r q (Some (Direction d)) None (is_there s (Process p) r first))) in
     let long : (q : ℕ) → len (after (Pass p r d) s) q ≡ len s q = (λ q. same_len s (after (Pass p r d) s) q (ap (λ (t : Store). t.arenas) is)) in
-    let full : (q : ℕ) → holds (after (Pass p r d) s) (Process p) q ≡ true → 0 < len (after (Pass p r d) s) q = (λ q y. elim (cases_eq q r) [
-      | inl e ↦ rw (long q, e) (f r first.0)
-      | inr n ↦ (let o : owner (after (Pass p r d) s) q ≡ owner s q = own q ∙ rw (ne_eqb q r n) refl in rw (long q) (f q (rw o at y)))
-    ]) in
-    let more : Passed d rs (after (Pass p r d) s) (pass_all p d rs (after (Pass p r d) s)) = passed_all p d rs (after (Pass p r d) s) l rest full in
+    let more : Passed d rs (after (Pass p r d) s) (pass_all p d rs (after (Pass p r d) s)) = passed_all p d rs (after (Pass p r d) s) l
+    (λ q. grind (arith, nat_tests, times-cons q r rs, h q, own q)) (λ q y. grind (arith, nat_tests, own q, long q, f q)) in
     record {
       owners = λ q. more.owners q ∙ rw (own q) (all_owners (Direction d) q r rs (owner s q));
       many = more.many ∙ (ap (λ (t : Store). length t.owners) is ∙ length-set s.owners r (Some (Direction d)));
@@ -191,13 +138,7 @@ module _ (m : Machine) (p e tag : ℕ) (bs : List ℕ) (w : IsWhole m) (g : MayG
   passed = passed_all p d bs m.store range held (w.full (Process p))
 
   left : (q : ℕ) → times q (without bs (blocks m p)) + times q bs ≡ times q (blocks m p)
-  left q =
-      let a : times q (without bs (blocks m p)) ≡ cond (nat_lt 0 (times q bs)) 0 (times q (blocks m p)) = times_without q bs (blocks m p) in
-      let o = w.once (Process p) q in let h = held q in let one = at_most_one (holds m.store (Process p) q) in
-      elim (cases_Bool (nat_lt 0 (times q bs))) [
-        | inl t ↦ (let k : times q (without bs (blocks m p)) ≡ 0 = rw t at a in let l = ltb-true 0 (times q bs) t in omega (arith, k, l, o, h, one))
-        | inr f ↦ (let k : times q (without bs (blocks m p)) ≡ times q (blocks m p) = rw f at a in let l = ltb-false 0 (times q bs) f in omega (arith, k, l))
-      ]
+  left q = grind (arith, nat_tests, times_without q bs (blocks m p), w.once (Process p) q, held q)
 
   way : carried y.waiting.items ≡ on_way m d ++ bs
   way = flat_map-append (λ (k : Message). k.blocks.items) (waiting m d) _ ∙ ap (λ xs. on_way m d ++ xs) (append-nil bs)
@@ -211,18 +152,8 @@ module _ (m : Machine) (p e tag : ℕ) (bs : List ℕ) (w : IsWhole m) (g : MayG
 
   lists : (k : Holder) (q : ℕ) → times q (listed n k) + has (Some (Process p)) k * times q bs ≡ times q (listed m k) + has (Some (Direction d)) k * times q bs
   unfolding given
-  lists (Process k) q = rw (list_set m.places p x (place_there m p w) generation generation k) (elim (cases_eq k p) [
-    | inl s ↦ rw (eq-eqb k p s, eq-eqb p k (sym s), s) (let l = left q in omega (arith, l))
-    | inr a ↦ rw (ne_eqb k p a, ne_eqb p k (λ s. a (sym s))) (omega arith)
-  ])
-  lists (Direction k) q = rw (at_set told d k y no_line there) (elim (cases_eq k d) [
-    | inl s ↦ rw (eq-eqb k d s, eq-eqb d k (sym s), s)
-        (let l : times q (carried y.waiting.items) ≡ times q (on_way m d) + times q bs = ap (times q) way ∙ count_append q (on_way m d) bs in omega (arith, l))
-    | inr a ↦ rw (ne_eqb k d a, ne_eqb d k (λ s. a (sym s)), told_way k) (omega arith)
-  ])
-
-  were : (q : ℕ) → nat_lt 0 (times q bs) ≡ true → owner m.store q ≡ Some (Process p)
-  were q t = same_process _ _ (is_held (holds m.store (Process p) q) (times q bs) (held q) (ltb-true 0 (times q bs) t))
+  lists (Process k) q = grind (arith, nat_tests, list_set m.places p x (place_there m p w) generation generation k, left q)
+  lists (Direction k) q = grind (arith, nat_tests, at_set told d k y no_line there, told_way k, ap (times q) way, count_append q (on_way m d) bs)
 
   own_now : slice_index_or (slice_set told d y) own no_line ≡ z
   own_now = get_or-set_other told d own y no_line (λ s. peer_ne own (sym s)) ∙ get_or-set_same m.lines own z no_line own_there
@@ -238,30 +169,13 @@ module _ (m : Machine) (p e tag : ℕ) (bs : List ℕ) (w : IsWhole m) (g : MayG
 
   pub given_whole : IsWhole n
   unfolding given
-  given_whole = came_whole (Some (Process p)) (Direction d) bs m n w (record {
-    lawful = passed_lawful (Process p) (Direction d) bs m n.store w range passed.many passed.arenas were passed.owners;
-    moved = record {
-      were = were;
-      once = λ q. let h = held q in let o = at_most_one (holds m.store (Process p) q) in omega (arith, h, o);
-      owners = passed.owners;
-      lists = lists;
-    };
-    full = had_bytes (Process p) (Direction d) bs m n.store w range passed.many passed.arenas were passed.owners;
-    kept = λ q l. rw (same_len m.store n.store q passed.arenas) l;
-    many = passed.many;
-    ends = refl;
-    buffers = refl;
-    bytes = λ q. rw (same_len m.store n.store q passed.arenas) (w.bytes q);
-    places = places_set m.places p x w.places (busy_place m p (without bs (blocks m p)) w (runs_busy m p g.runs));
-    channels = record {
-      long = length-set told d y ∙ (length-set m.lines own z ∙ w.channels.long);
-      fresh = λ k l. other_lines k (λ s. let c = g.within in omega (arith, c, l, s)) (λ s. let c = below in omega (arith, c, l, s)) ∙ w.channels.fresh k l;
-      numbered = set_numbered told d y there (set_numbered m.lines own z own_there w.channels.numbered (w.channels.numbered own)) (put_numbered tag bs (line m d) (w.channels.numbered d));
-      contracts_long = w.channels.contracts_long;
-      wired = wired_pair m.contracts m.lines (slice_set told d y) own w.channels.wired wired
-          (λ k h. other_lines k (half_apart own k h) (λ s. h (ap (λ (i : ℕ). i / 2) s ∙ peer_half own)));
-      few = w.channels.few;
-    };
-    opened = refl;
-    depth = refl;
-  })
+  given_whole = handed_whole (Process p) (Direction d) bs m n.store n.places (slice_set told d y) w range passed.many passed.arenas held passed.owners lists
+      (places_set m.places p x w.places (busy_place m p (without bs (blocks m p)) w (runs_busy m p g.runs))) (record {
+        long = length-set told d y ∙ (length-set m.lines own z ∙ w.channels.long);
+        fresh = λ k l. other_lines k (λ s. let c = g.within in omega (arith, c, l, s)) (λ s. let c = below in omega (arith, c, l, s)) ∙ w.channels.fresh k l;
+        numbered = set_numbered told d y there (set_numbered m.lines own z own_there w.channels.numbered (w.channels.numbered own)) (put_numbered tag bs (line m d) (w.channels.numbered d));
+        contracts_long = w.channels.contracts_long;
+        wired = wired_pair m.contracts m.lines (slice_set told d y) own w.channels.wired wired
+            (λ k h. other_lines k (half_apart own k h) (λ s. h (ap (λ (i : ℕ). i / 2) s ∙ peer_half own)));
+        few = w.channels.few;
+      })

@@ -1,11 +1,14 @@
 -- Sweeping one entry leaves a whole machine.
-use Rattle.std.proofs.Common.{◌≡◌, ◌≢◌, ℕ, zero, suc, ◌+◌, ◌-◌, ◌*◌, ◌/◌, ◌<◌, ◌≤◌, List, [], length, true, false, cond, refl, sym, ap, ◌∙◌, arith, ◌⊎◌, inl, inr, get_or-set_same, get_or-set_other}
-use Rattle.std.specs.Prelude.{Option, Some, None, is_some, ◌==◌, nat_lt, slice_set, slice_index_or}
-use Rattle.std.proofs.lemmas.Bool.{cases_eq, cases_Bool, false≢true, eq-eqb, ne_eqb, lt-ltb}
+use Rattle.std.proofs.Common.{◌≡◌, ◌≢◌, ℕ, zero, suc, ◌+◌, ◌-◌, ◌*◌, ◌/◌, ◌<◌, ◌≤◌, List, [], length, true, false, cond, refl, sym, ap, ◌∙◌, arith, ◌⊎◌, inl, inr, get_or-set_other}
+use Rattle.std.specs.Prelude.{Option, Some, None, is_some, ◌==◌, nat_lt, slice_index_or}
+use Rattle.std.proofs.lemmas.Bool.Decides.{nat_tests}
+use Rattle.xh_serial.proofs.Swept.{on_way_to}
+use Rattle.xh_core.proofs.Stores.{at_set}
+use Rattle.std.proofs.lemmas.Bool.{cases_eq, cases_Bool, eq-eqb, ne_eqb, lt-ltb}
 use Rattle.std.proofs.lemmas.List.{length-set}
 use Rattle.xh_model.specs.declared.event.Holder.{Holder}
 use Rattle.xh_model.specs.declared.event.Holder.TheVariants.{Process, Direction}
-use Rattle.xh_model.specs.Store.{Store, owner, len, holds, is_held_by, change, all_out, IsOwner, IsLawful}
+use Rattle.xh_model.specs.Store.{Store, owner, len, holds, change, all_out, IsOwner, IsLawful}
 use Rattle.xh_model.specs.declared.event.Event.TheVariants.{GiveBack}
 use Rattle.xh_model.specs.declared.row.Row.{Row}
 use Rattle.xh_model.specs.Arena.{ArenaState}
@@ -27,7 +30,7 @@ other_owner m p from q w l n =
     let r : ℕ = entry m p from in
     let o : owner (sweep_one p from m).store q ≡ new_owner p r (arriving m r) q (owner m.store q) = (swept_one m p from w l).owners q in
     elim (cases_Bool (nat_lt 0 (times q (arriving m r)))) [
-      | inl y ↦ (let c = came_held m q (end_of m r) w true y in inl (c.0, c.2, o ∙ rw (ne_eqb q r n, y) refl, y))
+      | inl y ↦ (let c = came_held m q (end_of m r) w y in inl (c.0, c.2, o ∙ rw (ne_eqb q r n, y) refl, y))
       | inr f ↦ inr (o ∙ rw (ne_eqb q r n, f) refl, f)
     ]
 
@@ -38,50 +41,27 @@ gone_owner m p from q w l e = (swept_one m p from w l).owners q ∙ rw (eq-eqb q
 abbrev back : ℕ → ℕ → Machine → Store
 back p from m = change (GiveBack p (entry m p from)) m.store
 
-arena_here : (m : Machine) (p from : ℕ) → IsWhole m → from < length (blocks m p) → entry m p from / 256 < length m.store.arenas
-arena_here m p from w l = arena_there m.store (Process p) (entry m p from) w.store (entry_held m p from w l)
-
-pub len_here : (m : Machine) (p from q : ℕ) → IsWhole m → from < length (blocks m p) → q ≡ entry m p from → len (sweep_one p from m).store q ≡ 0
-len_here m p from q w l e =
-    rw e (same_len (back p from m) (sweep_one p from m).store (entry m p from) (swept_one m p from w l).arenas ∙ len_back m.store p (entry m p from) (arena_here m p from w l))
-
-pub len_else : (m : Machine) (p from q : ℕ) → IsWhole m → from < length (blocks m p) → q ≢ entry m p from → len (sweep_one p from m).store q ≡ len m.store q
-len_else m p from q w l n = same_len (back p from m) (sweep_one p from m).store q (swept_one m p from w l).arenas ∙ len_back_else m.store p (entry m p from) q (arena_here m p from w l) n
+len_now : (m : Machine) (p from q : ℕ) → IsWhole m → from < length (blocks m p) → len (sweep_one p from m).store q ≡ cond (q == entry m p from) 0 (len m.store q)
+len_now m p from q w l =
+    let there : entry m p from / 256 < length m.store.arenas = arena_there m.store (Process p) (entry m p from) w.store (entry_held m p from w l) in
+    same_len (back p from m) (sweep_one p from m).store q (swept_one m p from w l).arenas ∙ grind (arith, nat_tests, len_back m.store p (entry m p from) there, len_back_else m.store p (entry m p from) q there)
 
 owned_now : (m : Machine) (p from q : ℕ) → IsWhole m → from < length (blocks m p) → IsOwner (owner (sweep_one p from m).store q) (len (sweep_one p from m).store q)
 owned_now m p from q w l =
     elim (cases_eq q (entry m p from)) [
-      | inl e ↦ rw (gone_owner m p from q w l e) (len_here m p from q w l e)
+      | inl e ↦ rw (gone_owner m p from q w l e, len_now m p from q w l, eq-eqb q (entry m p from) e) refl
       | inr n ↦ elim (other_owner m p from q w l n) [
         | inl c ↦ rw (c.2) (current_range m p w (lists_current m p from l))
-        | inr s ↦ rw (s.0, len_else m p from q w l n) (w.store.owned q)
+        | inr s ↦ rw (s.0, len_now m p from q w l, ne_eqb q (entry m p from) n) (w.store.owned q)
       ]
     ]
 
-none_held : (h : Holder) → is_held_by None h ≡ true → (n : ℕ) → 0 < n
-none_held h e n = absurd (false≢true e)
+came_bytes : (m : Machine) (q : ℕ) (o : Option ℕ) → IsWhole m → nat_lt 0 (times q (on_way_to m o)) ≡ true → 0 < len m.store q
+came_bytes m q o w y = let c = came_held m q o w y in w.full (Direction c.0) q (rw (c.2) (eq-eqb c.0 c.0 refl))
 
 full_now : (m : Machine) (p from : ℕ) (h : Holder) (q : ℕ) → IsWhole m → from < length (blocks m p) → holds (sweep_one p from m).store h q ≡ true → 0 < len (sweep_one p from m).store q
 full_now m p from h q w l y =
-    elim (cases_eq q (entry m p from)) [
-      | inl e ↦ none_held h (ap (λ o. is_held_by o h) (sym (gone_owner m p from q w l e)) ∙ y) _
-      | inr n ↦ rw (len_else m p from q w l n) (elim (other_owner m p from q w l n) [
-        | inl c ↦ w.full (Direction c.0) q (rw (c.1) (eq-eqb c.0 c.0 refl))
-        | inr s ↦ w.full h q (ap (λ o. is_held_by o h) (sym s.0) ∙ y)
-      ])
-    ]
-
-some_none : (d : ℕ) → (o : Option ℕ) → o ≡ None → o ≡ Some d → ⊥
-some_none d o n e = false≢true (ap is_some (sym n ∙ e))
-
--- an endpoint that is left is another, and was there
-end_before : (m : Machine) (p from q d : ℕ) → IsWhole m → from < length (blocks m p) → end_of (sweep_one p from m) q ≡ Some d → (q ≢ entry m p from) × (end_of m q ≡ Some d)
-end_before m p from q d w l e =
-    let is : end_of (sweep_one p from m) q ≡ cond (q == entry m p from) None (end_of m q) = ends_now m p from q w l in
-    elim (cases_eq q (entry m p from)) [
-      | inl s ↦ (let n : end_of (sweep_one p from m) q ≡ None = is ∙ rw (eq-eqb q (entry m p from) s) refl in absurd (some_none d _ n e))
-      | inr n ↦ (let k : end_of (sweep_one p from m) q ≡ end_of m q = is ∙ rw (ne_eqb q (entry m p from) n) refl in (n, sym k ∙ e))
-    ]
+    grind (arith, nat_tests, (swept_one m p from w l).owners q, len_now m p from q w l, w.full h q, came_bytes m q (end_of m (entry m p from)) w)
 
 lines_long : (contracts : List (Option (List Row))) (lines : List Line) (o : Option ℕ) → length (shut_in contracts lines o) ≡ length lines
 lines_long contracts lines None = refl
@@ -104,22 +84,12 @@ bytes_now m p from q w l =
     let r : ℕ = entry m p from in
     let k = w.buffers in
     let a : r < length m.store.owners = is_there m.store (Process p) r (entry_held m p from w l) in
-    elim (cases_eq q r) [
-      | inl e ↦ (
-          let gone : end_of (sweep_one p from m) q ≡ None = ends_now m p from q w l ∙ rw (eq-eqb q r e) refl in
-          let none : buffer (sweep_one p from m) q ≡ [] = ap (λ (x : ℕ). slice_index_or (slice_set m.buffers r []) x []) e ∙ get_or-set_same m.buffers r [] [] (omega (arith, k, a)) in
-          ap length none ∙ sym (rw (gone, len_here m p from q w l e) refl))
-      | inr n ↦ (
-          let same_end : end_of (sweep_one p from m) q ≡ end_of m q = ends_now m p from q w l ∙ rw (ne_eqb q r n) refl in
-          let same_buffer : buffer (sweep_one p from m) q ≡ buffer m q = get_or-set_other m.buffers r q [] [] n in
-          rw (same_end, len_else m p from q w l n) (ap length same_buffer ∙ w.bytes q))
-    ]
+    grind (arith, nat_tests, ends_now m p from q w l, at_set m.buffers r q [] [] (omega (arith, k, a)), len_now m p from q w l, w.bytes q)
 
 known_now : (m : Machine) (p from q : ℕ) → IsWhole m → from < length (blocks m p) → is_some (owner (sweep_one p from m).store q) ≡ true → is_some (owner m.store q) ≡ true
-known_now m p from q w l h = elim (cases_eq q (entry m p from)) [
-  | inl e ↦ absurd (false≢true (ap is_some (sym (gone_owner m p from q w l e)) ∙ h))
-  | inr n ↦ elim (other_owner m p from q w l n) [ inl c ↦ rw (c.1) refl | inr s ↦ ap is_some (sym s.0) ∙ h ]
-]
+known_now m p from q w l h =
+    let was : nat_lt 0 (times q (arriving m (entry m p from))) ≡ true → is_some (owner m.store q) ≡ true = λ y. ap is_some (came_held m q (end_of m (entry m p from)) w y).2 in
+    grind (arith, nat_tests, (swept_one m p from w l).owners q)
 
 lawful_now : (m : Machine) (p from : ℕ) → IsWhole m → from < length (blocks m p) → IsLawful (sweep_one p from m).store
 lawful_now m p from w l =
@@ -139,12 +109,11 @@ lawful_now m p from w l =
 end_now : (m : Machine) (p from r d : ℕ) → IsWhole m → from < length (blocks m p) → end_of (sweep_one p from m) r ≡ Some d → IsEnd (sweep_one p from m) r d
 unfolding sweep_one
 end_now m p from r d w l e =
-    let b = end_before m p from r d w l e in
-    let was = w.ends r d b.1 in
-    record {
-      held = elim (other_owner m p from r w l b.0) [ inl c ↦ rw (c.2) refl | inr k ↦ rw (k.0) was.held ];
+    let before : (q : ℕ) → end_of (sweep_one p from m) q ≡ Some d → end_of m q ≡ Some d = λ q f. grind (arith, nat_tests, ends_now m p from q w l) in
+    let was = w.ends r d (before r e) in record {
+      held = grind (arith, nat_tests, (swept_one m p from w l).owners r, ends_now m p from r w l, was.held);
       opened = was.opened;
-      alone = λ q f. was.alone q (end_before m p from q d w l f).1;
+      alone = λ q f. was.alone q (before q f);
     }
 
 pub whole_one : (m : Machine) (p from : ℕ) → IsWhole m → from < length (blocks m p) → IsWhole (sweep_one p from m)

@@ -11,5 +11,4 @@ pub mod Closing
 pub mod Taking
 pub mod Giving
 pub mod Gains
-pub mod Appended
 pub mod Opening

@@ -2,15 +2,17 @@
 use Rattle.std.proofs.Common.{◌≡◌, ◌≢◌, ℕ, zero, suc, ◌+◌, ◌<◌, ◌≤◌, List, [], ◌∷◌, ◌++◌, length, take, drop, true, cond, refl, sym, ap, ◌∙◌, arith, inl, inr, append_assoc, append-nil}
 use Rattle.std.specs.Prelude.{Some, None, is_some, ◌==◌, nat_lt}
 use Rattle.std.specs.List.{remove, flat_map}
-use Rattle.std.proofs.lemmas.Bool.{cases_eq, cases_Bool, cases_lt, false≢true, eq-eqb, ne_eqb, lt-ltb, le-ltb, ltb-false}
-use Rattle.std.proofs.lemmas.List.Sums.{sum_by-append, sum_by-take-le, sum_by-take-drop}
+use Rattle.std.proofs.lemmas.Bool.Decides.{nat_tests}
+use Rattle.xh_core.proofs.Stores.{count_append}
+use Rattle.std.proofs.lemmas.Bool.{cases_Bool, cases_lt, false≢true, eq-eqb, lt-ltb, le-ltb}
+use Rattle.std.proofs.lemmas.List.Sums.{sum_by-take-le, sum_by-take-drop}
 use Rattle.xh_model.specs.declared.event.Holder.TheVariants.{Process, Direction}
-use Rattle.xh_model.specs.Store.{owner, holds}
+use Rattle.xh_model.specs.Store.{owner}
 use Rattle.xh_serial.specs.Machine.{Machine, blocks, arriving, end_of, IsWhole}
 use Rattle.xh_core.specs.Several.{times}
 use Rattle.xh_serial.specs.Sweeping.{sweep_one, sweep, Sweeps}
 use Rattle.xh_core.proofs.Stores.{times-cons, is_there}
-use Rattle.xh_serial.proofs.Room.{at_most_one, few, few_records, held_there}
+use Rattle.xh_serial.proofs.Room.{few, few_records, held_there}
 use Rattle.xh_serial.proofs.Swept.{entry, blocks_here, arriving_else, came_held}
 use Rattle.xh_serial.proofs.Kept.{other_owner, gone_owner, whole_one}
 use Rattle.xh_serial.proofs.Reclaiming.{work_before, work_after}
@@ -18,8 +20,8 @@ use Rattle.xh_serial.proofs.Reclaiming.{work_before, work_after}
 same_pieces : (f g : ℕ → List ℕ) (xs : List ℕ) → ((q : ℕ) → 0 < times q xs → f q ≡ g q) → flat_map f xs ≡ flat_map g xs
 same_pieces f g [] h = refl
 same_pieces f g (x ∷ xs) h =
-    let here : f x ≡ g x = h x (let t : times x (x ∷ xs) ≡ 1 + times x xs = times-cons x x xs ∙ rw (eq-eqb x x refl) refl in omega arith) in
-    let there : flat_map f xs ≡ flat_map g xs = same_pieces f g xs (λ q l. h q (let t : times q (x ∷ xs) ≡ cond (x == q) 1 0 + times q xs = times-cons q x xs in omega arith)) in
+    let here : f x ≡ g x = h x (grind (arith, nat_tests, times-cons x x xs)) in
+    let there : flat_map f xs ≡ flat_map g xs = same_pieces f g xs (λ q l. h q (grind (arith, nat_tests, times-cons q x xs))) in
     rw (here, there) refl
 
 taken_before : (xs ys : List ℕ) (k : ℕ) → k < length xs → take k (remove (xs ++ ys) k) ≡ take k xs
@@ -52,11 +54,7 @@ module _ (m : Machine) (p from budget : ℕ) (w : IsWhole m) (l : from < length 
 
   -- the first is in none of the later work
   not_listed : times first (drop from (blocks one p)) ≡ 0
-  not_listed =
-      let whole : IsWhole one = whole_one m p from w l in
-      let z : times first (blocks one p) ≡ cond (holds one.store (Process p) first) 1 0 = whole.once (Process p) first in
-      let z2 : times first (blocks one p) ≡ 0 = z ∙ rw (gone_owner m p from first w l refl) refl in
-      let le = times-drop-le first from (blocks one p) in omega arith
+  not_listed = grind (arith, nat_tests, (whole_one m p from w l).once (Process p) first, gone_owner m p from first w l refl, times-drop-le first from (blocks one p))
 
   not_accepted : (q : ℕ) → 0 < times q s.accepted → q ≢ first
   not_accepted q h e =
@@ -67,10 +65,7 @@ module _ (m : Machine) (p from budget : ℕ) (w : IsWhole m) (l : from < length 
   later : (q : ℕ) → 0 < times q (take s.taken (drop from (blocks one p) ++ s.accepted)) → q ≢ first
   later q h e =
       let le = sum_by-take-le (λ x. cond {A = ℕ} (x == q) 1 0) (drop from (blocks one p) ++ s.accepted) s.taken in
-      let t : times q (drop from (blocks one p) ++ s.accepted) ≡ times q (drop from (blocks one p)) + times q s.accepted =
-      sum_by-append (λ x. cond {A = ℕ} (x == q) 1 0) (drop from (blocks one p)) s.accepted in
-      let z : times q (drop from (blocks one p)) ≡ 0 = rw e not_listed in
-      not_accepted q (omega arith) e
+      grind (arith, nat_tests, count_append q (drop from (blocks one p)) s.accepted, not_listed, not_accepted q)
 
   way_now : came ++ s.accepted ≡ flat_map (arriving m) (take (suc s.taken) (first ∷ (others ++ (came ++ s.accepted))))
   way_now =
@@ -81,11 +76,9 @@ module _ (m : Machine) (p from budget : ℕ) (w : IsWhole m) (l : from < length 
 
   flight_now : (r : ℕ) → 0 < times r (came ++ s.accepted) → (d : ℕ) × (owner m.store r ≡ Some (Direction d))
   flight_now r h = elim (cases_Bool (nat_lt 0 (times r came))) [
-    | inl y ↦ (let c = came_held m r (end_of m first) w true y in (c.0, c.2))
+    | inl y ↦ (let c = came_held m r (end_of m first) w y in (c.0, c.2))
     | inr f ↦ (
-        let t : times r (came ++ s.accepted) ≡ times r came + times r s.accepted = sum_by-append (λ x. cond {A = ℕ} (x == r) 1 0) came s.accepted in
-        let z : times r came ≤ 0 = ltb-false 0 (times r came) f in
-        let a : 0 < times r s.accepted = omega arith in
+        let a : 0 < times r s.accepted = grind (arith, nat_tests, count_append r came s.accepted) in
         let k = s.in_flight r a in
         elim (other_owner m p from r w l (not_accepted r a)) [
           | inl c ↦ (c.0, c.1)
@@ -94,20 +87,7 @@ module _ (m : Machine) (p from budget : ℕ) (w : IsWhole m) (l : from < length 
   ]
 
   once_now : (r : ℕ) → times r (first ∷ (others ++ (came ++ s.accepted))) ≤ 1
-  once_now r =
-      let t : times r (first ∷ (others ++ (came ++ s.accepted))) ≡ cond (first == r) 1 0 + times r (others ++ (came ++ s.accepted)) = times-cons r first (others ++ (came ++ s.accepted)) in
-      let e : times r (others ++ (came ++ s.accepted)) ≡ times r (drop from (blocks one p) ++ s.accepted) = ap (times r) (sym work) in
-      let o = s.once r in
-      elim (cases_eq first r) [
-        | inl f ↦ (
-            let u : times r (first ∷ (others ++ (came ++ s.accepted))) ≡ 1 + times r (others ++ (came ++ s.accepted)) = t ∙ rw (eq-eqb first r f) refl in
-            let a : times r (drop from (blocks one p) ++ s.accepted) ≡ times r (drop from (blocks one p)) + times r s.accepted =
-            sum_by-append (λ x. cond {A = ℕ} (x == r) 1 0) (drop from (blocks one p)) s.accepted in
-            let z : times r (drop from (blocks one p)) ≡ 0 = rw (sym f) not_listed in
-            let y : times r s.accepted ≤ 0 = (elim (cases_lt 0 (times r s.accepted)) [ inl l ↦ absurd (not_accepted r l (sym f)) | inr g ↦ g ]) in
-            omega (arith, u, e, a, z, y))
-        | inr n ↦ (let u : times r (first ∷ (others ++ (came ++ s.accepted))) ≡ times r (others ++ (came ++ s.accepted)) = t ∙ rw (ne_eqb first r n) (omega arith) in omega (arith, u, e, o))
-      ]
+  once_now r = grind (arith, nat_tests, times-cons r first (others ++ (came ++ s.accepted)), ap (times r) work, count_append r (drop from (blocks one p)) s.accepted, s.once r, not_listed, not_accepted r)
 
   pub sweeps_one : Sweeps p from (suc budget) m n
   sweeps_one = record {
@@ -130,8 +110,7 @@ sweeps_nothing p from budget m w h = record {
   within = omega arith;
   there = omega arith;
   was_on_way = refl;
-  once = λ r. rw (append-nil (drop from (blocks m p))) (let a = times-drop-le r from (blocks m p) in let o = w.once (Process p) r in let b = at_most_one (holds m.store (Process p) r) in
-      omega (arith, a, o, b));
+  once = λ r. rw (append-nil (drop from (blocks m p))) (grind (arith, nat_tests, times-drop-le r from (blocks m p), w.once (Process p) r));
   in_flight = λ r l. absurd (omega (arith, l));
   before = refl;
   rest = sym (append-nil (drop from (blocks m p)));
@@ -157,14 +136,10 @@ sweep_whole (suc budget) p from m w = elim (cases_lt from (length (blocks m p)))
 pub finishes : (p from budget : ℕ) (m n : Machine) → IsWhole m → 2048 < budget → Sweeps p from budget m n → length (blocks n p) ≤ from
 finishes p from budget m n w h s =
     let many : length m.store.owners ≤ 2048 = few_records m w in
-    let work : List ℕ = drop from (blocks m p) ++ s.accepted in
     let f : length (drop from (blocks m p) ++ s.accepted) ≤ length m.store.owners = few (length m.store.owners) (drop from (blocks m p) ++ s.accepted) s.once (λ q l.
-    let a : times q (drop from (blocks m p) ++ s.accepted) ≡ times q (drop from (blocks m p)) + times q s.accepted =
-    sum_by-append (λ x. cond {A = ℕ} (x == q) 1 0) (drop from (blocks m p)) s.accepted in
-    let b = times-drop-le q from (blocks m p) in
     elim (cases_lt 0 (times q s.accepted)) [
       | inl y ↦ (let t = s.in_flight q y in is_there m.store (Direction t.0) q (rw (t.1) (eq-eqb t.0 t.0 refl)))
-      | inr g ↦ held_there m (Process p) q w (omega (arith, a, b, g, l))
+      | inr g ↦ held_there m (Process p) q w (grind (arith, nat_tests, count_append q (drop from (blocks m p)) s.accepted, times-drop-le q from (blocks m p)))
     ]) in
     let t = s.there in
     elim (cases_lt from (length (blocks n p))) [ inl y ↦ (let e = s.left y in absurd (omega (arith, e, t, f, many, h))) | inr g ↦ g ]

@@ -3,7 +3,9 @@ use Rattle.std.proofs.Common.{◌≡◌, ◌≢◌, ℕ, zero, suc, ◌+◌, ◌
 use Rattle.std.specs.Prelude.{Option, Some, None, is_none, is_some, ◌&&◌}
 use Rattle.std.specs.List.{remove}
 use Rattle.std.proofs.Math.Seq.{drop-nil}
-use Rattle.std.proofs.lemmas.Bool.{cases_eq, cases_lt, false≢true, ne_eqb, lt-ltb, le-ltb, ltb-true}
+use Rattle.std.proofs.lemmas.Bool.Decides.{nat_tests}
+use Rattle.xh_core.proofs.Stores.{count_append}
+use Rattle.std.proofs.lemmas.Bool.{cases_eq, cases_lt, false≢true, lt-ltb, le-ltb, ltb-true}
 use Rattle.xh_model.specs.declared.event.Holder.{Holder}
 use Rattle.xh_model.specs.Store.{owner}
 use Rattle.xh_serial.specs.Machine.{Machine, blocks, arriving, IsWhole}
@@ -14,29 +16,26 @@ use Rattle.xh_core.proofs.Stores.{same_process, times-cons}
 use Rattle.xh_serial.proofs.Swept.{entry, entry_held, blocks_here, arriving_else, arriving_here}
 use Rattle.xh_serial.proofs.Kept.{other_owner, gone_owner, whole_one}
 
-includes_append : (set : ℕ → Bool) (rs qs : List ℕ) → Includes set rs → Includes set qs → Includes set (rs ++ qs)
-includes_append set [] qs a b = b
-includes_append set (r ∷ rs) qs a b = (a.0, includes_append set rs qs a.1 b)
-
-includes_left : (set : ℕ → Bool) (rs qs : List ℕ) → Includes set (rs ++ qs) → Includes set rs
-includes_left set [] qs a = tt
-includes_left set (r ∷ rs) qs a = (a.0, includes_left set rs qs a.1)
-
-includes_right : (set : ℕ → Bool) (rs qs : List ℕ) → Includes set (rs ++ qs) → Includes set qs
-includes_right set [] qs a = a
-includes_right set (r ∷ rs) qs a = includes_right set rs qs a.1
-
-includes_more : (set more : ℕ → Bool) (rs : List ℕ) → ((r : ℕ) → set r ≡ true → more r ≡ true) → Includes set rs → Includes more rs
-includes_more set more [] f a = tt
-includes_more set more (r ∷ rs) f a = (f r a.0, includes_more set more rs f a.1)
-
 -- who stands in an included list is in the set
 included : (set : ℕ → Bool) (q : ℕ) (rs : List ℕ) → Includes set rs → 0 < times q rs → set q ≡ true
 included set q [] a h = absurd (omega (arith, h))
-included set q (r ∷ rs) a h = elim (cases_eq r q) [
-  | inl e ↦ rw (sym e) (a.0)
-  | inr n ↦ included set q rs a.1 (let t : times q (r ∷ rs) ≡ 0 + times q rs = times-cons q r rs ∙ rw (ne_eqb r q n) refl in omega arith)
-]
+included set q (r ∷ rs) a h = grind (arith, nat_tests, times-cons q r rs, a.0, included set q rs a.1)
+
+including : (set : ℕ → Bool) (rs : List ℕ) → ((q : ℕ) → 0 < times q rs → set q ≡ true) → Includes set rs
+including set [] f = tt
+including set (r ∷ rs) f = (f r (grind (arith, nat_tests, times-cons r r rs)), including set rs (λ q l. f q (grind (arith, nat_tests, times-cons q r rs))))
+
+includes_append : (set : ℕ → Bool) (rs qs : List ℕ) → Includes set rs → Includes set qs → Includes set (rs ++ qs)
+includes_append set rs qs a b = including set (rs ++ qs) (λ q l. grind (arith, nat_tests, count_append q rs qs, included set q rs a, included set q qs b))
+
+includes_part : (set : ℕ → Bool) (rs qs : List ℕ) → Includes set (rs ++ qs) → Includes set rs × Includes set qs
+includes_part set rs qs a = (
+  including set rs (λ q l. included set q (rs ++ qs) a (grind (arith, nat_tests, count_append q rs qs))),
+  including set qs (λ q l. included set q (rs ++ qs) a (grind (arith, nat_tests, count_append q rs qs))),
+)
+
+includes_more : (set more : ℕ → Bool) (rs : List ℕ) → ((r : ℕ) → set r ≡ true → more r ≡ true) → Includes set rs → Includes more rs
+includes_more set more rs f a = including more rs (λ q l. f q (included set q rs a l))
 
 -- the work list before and after one entry
 pub work_before : (m : Machine) (p from : ℕ) → from < length (blocks m p) → drop from (blocks m p) ≡ entry m p from ∷ drop (suc from) (blocks m p)
@@ -84,7 +83,7 @@ module _ (m : Machine) (p from : ℕ) (w : IsWhole m) (l : from < length (blocks
 
   one_closed : IsClosed (arriving m) (freed m.store n.store)
   one_closed e f = elim (cases_eq e first) [
-    | inl s ↦ rw s (includes_right (freed m.store n.store) (drop (suc from) (blocks m p)) (arriving m first) one_includes)
+    | inl s ↦ rw s (includes_part (freed m.store n.store) (drop (suc from) (blocks m p)) (arriving m first) one_includes).1
     | inr d ↦ (let more : Includes (freed one.store n.store) (arriving one e) = rest.gone.closed e (same_freed e d ∙ f) in
         subst (λ (rs : List ℕ). Includes (freed m.store n.store) rs) (arriving_else m p from e w l d) (includes_more (freed one.store n.store) (freed m.store n.store) _ more_freed more))
   ]
@@ -106,14 +105,14 @@ module _ (m : Machine) (p from : ℕ) (w : IsWhole m) (l : from < length (blocks
     | inl e ↦ absurd (false≢true (sym f ∙ rw e first_freed))
     | inr d ↦ elim (other_owner m p from r w l d) [
       | inl c ↦ absurd (false≢true (sym f ∙ included (freed m.store n.store) r (arriving m first)
-          (includes_right (freed m.store n.store) (drop (suc from) (blocks m p)) (arriving m first) one_includes) (ltb-true 0 _ c.3)))
+          (includes_part (freed m.store n.store) (drop (suc from) (blocks m p)) (arriving m first) one_includes).1 (ltb-true 0 _ c.3)))
       | inr s ↦ rest.kept r (same_freed r d ∙ f) ∙ s.0
     ]
   ]
 
   pub frees_one : Frees (arriving m) m.store n.store (first ∷ drop (suc from) (blocks m p))
   frees_one = record {
-    gone = record { includes = (first_freed, includes_left (freed m.store n.store) _ (arriving m first) one_includes); closed = one_closed; least = one_least };
+    gone = record { includes = (first_freed, (includes_part (freed m.store n.store) _ (arriving m first) one_includes).0); closed = one_closed; least = one_least };
     kept = one_kept;
   }
 

@@ -1,14 +1,19 @@
 -- Records that go from one holder, or from none, to another, or to none; and distinct records are no more than there are records.
-use Rattle.std.proofs.Common.{◌≡◌, ℕ, ◌+◌, ◌<◌, ◌≤◌, List, [], ◌∷◌, ◌++◌, length, Bool, true, false, cond, refl, ◌∙◌, arith, inl, inr, ◌*◌, sym, ap}
+use Rattle.std.proofs.Common.{◌≡◌, ℕ, ◌+◌, ◌<◌, ◌≤◌, List, [], ◌∷◌, ◌++◌, length, true, cond, refl, ◌∙◌, arith, inl, inr, ◌*◌, sym, ap}
 use Rattle.std.specs.Prelude.{Option, Some, None, ◌==◌, is_some, nat_lt}
 use Rattle.std.specs.List.{sum_by, range_with_len}
-use Rattle.std.proofs.lemmas.Bool.{cases_lt, cases_Bool, eq-eqb, ltb-true, ltb-false}
+use Rattle.std.proofs.lemmas.Bool.Decides.{nat_tests}
+use Rattle.xh_core.proofs.Stores.{same_process, same_direction}
+use Rattle.xh_serial.specs.declared.place.Place.{Place}
+use Rattle.xh_serial.specs.declared.line.Line.{Line}
+use Rattle.xh_core.proofs.Stores.{count_append}
+use Rattle.std.proofs.lemmas.Bool.{cases_Bool, eq-eqb}
 use Rattle.std.proofs.lemmas.List.{length-append}
-use Rattle.std.proofs.lemmas.List.Sums.{sum_by-append, sum_by-le}
+use Rattle.std.proofs.lemmas.List.Sums.{sum_by-le}
 use Rattle.std.proofs.lemmas.List.FromFn.{length-range_with_len}
 use Rattle.xh_model.specs.declared.event.Holder.{Holder}
 use Rattle.xh_model.specs.declared.event.Holder.TheVariants.{Process, Direction}
-use Rattle.xh_model.specs.Store.{owner, holds, is_held_by, Store, len, same_holder, IsOwner, IsLawful, IsQuiet}
+use Rattle.xh_model.specs.Store.{owner, holds, is_held_by, Store, len, IsOwner, IsLawful, IsQuiet}
 use Rattle.xh_serial.specs.Machine.{Machine, blocks, way_in, on_way, listed, IsWhole, end_of, buffer, IsEnd, ArePlaces, AreChannels}
 use Rattle.xh_core.specs.Several.{times}
 use Rattle.xh_core.proofs.Stores.{times-cons, is_there, same_len, same_known}
@@ -30,24 +35,11 @@ few n rs one in_range =
     let l = sum_by-le (λ q. times q rs) 1 (range_with_len 0 n) (λ k d i. one _) in
     let e = length-range_with_len 0 n in omega arith
 
-pub at_most_one : (b : Bool) → cond {A = ℕ} b 1 0 ≤ 1
-at_most_one true = omega arith
-at_most_one false = omega arith
-
-pub is_held : (b : Bool) (n : ℕ) → n ≤ cond {A = ℕ} b 1 0 → 0 < n → b ≡ true
-is_held true n l h = refl
-is_held false n l h = absurd (omega (arith, l, h))
-
 not_two : (o : Option Holder) (p d : ℕ) → cond {A = ℕ} (is_held_by o (Process p)) 1 0 + cond {A = ℕ} (is_held_by o (Direction d)) 1 0 ≤ 1
-not_two None p d = omega arith
-not_two (Some (Process q)) p d = let a = at_most_one (q == p) in omega arith
-not_two (Some (Direction e)) p d = let a = at_most_one (e == d) in omega arith
+not_two o p d = grind (arith, nat_tests)
 
 pub held_there : (m : Machine) (h : Holder) (q : ℕ) → IsWhole m → 0 < times q (listed m h) → q < length m.store.owners
-held_there m h q w l = elim (cases_Bool (holds m.store h q)) [
-  | inl y ↦ is_there m.store h q y
-  | inr f ↦ (let z : times q (listed m h) ≡ 0 = w.once h q ∙ rw f refl in absurd (omega arith))
-]
+held_there m h q w l = grind (arith, nat_tests, w.once h q, is_there m.store h q)
 
 pub few_records : (m : Machine) → IsWhole m → length m.store.owners ≤ 2048
 few_records m w = let a = w.store.few in let b = w.store.long in omega (arith, a, b)
@@ -55,15 +47,13 @@ few_records m w = let a = w.store.few in let b = w.store.long in omega (arith, a
 -- a list has room for what is on the way
 pub room : (m : Machine) (p : ℕ) (o : Option ℕ) → IsWhole m → length (blocks m p) + length (way_in m.lines o) ≤ 2048
 room m p None w =
-    let many : length m.store.owners ≤ 2048 = few_records m w in
-    let f = few (length m.store.owners) (blocks m p) (λ q. let e = w.once (Process p) q in let a = at_most_one (holds m.store (Process p) q) in omega arith)
-    (λ q l. held_there m (Process p) q w l) in omega arith
+    let many = few_records m w in
+    let f = few (length m.store.owners) (blocks m p) (λ q. grind (arith, nat_tests, w.once (Process p) q)) (λ q. held_there m (Process p) q w) in omega arith
 room m p (Some d) w =
-    let many : length m.store.owners ≤ 2048 = few_records m w in
-    let both : (q : ℕ) → times q (blocks m p ++ on_way m d) ≡ times q (blocks m p) + times q (on_way m d) = λ q. sum_by-append (λ x. cond {A = ℕ} (x == q) 1 0) (blocks m p) (on_way m d) in
-    let f : length (blocks m p ++ on_way m d) ≤ length m.store.owners = few (length m.store.owners) (blocks m p ++ on_way m d)
-    (λ q. let a = w.once (Process p) q in let b = w.once (Direction d) q in let e = both q in let t = not_two (owner m.store q) p d in omega arith)
-    (λ q l. let e = both q in elim (cases_lt 0 (times q (blocks m p))) [ inl y ↦ held_there m (Process p) q w y | inr n ↦ held_there m (Direction d) q w (omega arith) ]) in
+    let many = few_records m w in
+    let f = few (length m.store.owners) (blocks m p ++ on_way m d)
+    (λ q. grind (arith, nat_tests, count_append q (blocks m p) (on_way m d), w.once (Process p) q, w.once (Direction d) q, not_two (owner m.store q) p d))
+    (λ q l. grind (arith, nat_tests, count_append q (blocks m p) (on_way m d), held_there m (Process p) q w, held_there m (Direction d) q w)) in
     let e = length-append (blocks m p) (on_way m d) in omega arith
 
 -- ---- the lists
@@ -83,21 +73,7 @@ pub record Moved (from to : Option Holder) (rs : List ℕ) (s t : Store) (before
   pub lists : (h : Holder) (q : ℕ) → times q (now h) + has from h * times q rs ≡ times q (before h) + has to h * times q rs
 
 pub listed_again : (from to : Option Holder) (rs : List ℕ) (s t : Store) (before now : Holder → List ℕ) → AreListed s before → Moved from to rs s t before now → AreListed t now
-listed_again from to rs s t before now w v h q =
-    let l = v.lists h q in let was = w h q in
-    elim (cases_Bool (nat_lt 0 (times q rs))) [
-      | inl y ↦ (
-          let more = ltb-true 0 (times q rs) y in let most = v.once q in
-          let one : times q rs ≡ 1 = omega (arith, more, most) in
-          let there : times q (before h) ≡ has from h = was ∙ rw (v.were q y) refl in
-          let is : times q (now h) + has from h * 1 ≡ times q (before h) + has to h * 1 = rw one at l in
-          rw (v.owners q, y) (omega (arith, is, there)))
-      | inr f ↦ (
-          let less = ltb-false 0 (times q rs) f in
-          let none : times q rs ≡ 0 = omega (arith, less) in
-          let is : times q (now h) + has from h * 0 ≡ times q (before h) + has to h * 0 = rw none at l in
-          rw (v.owners q, f) (omega (arith, is, was)))
-    ]
+listed_again from to rs s t before now w v h q = grind (arith, nat_tests, v.were q, v.once q, v.owners q, v.lists h q, w h q)
 
 -- ---- the machine
 
@@ -118,10 +94,10 @@ pub record Came (from : Option Holder) (h : Holder) (rs : List ℕ) (m n : Machi
 
 module _ (from : Option Holder) (h : Holder) (rs : List ℕ) (m n : Machine) (w : IsWhole m) (v : Came from h rs m n) where
   still_held : (q : ℕ) → is_some (owner m.store q) ≡ true → is_some (owner n.store q) ≡ true
-  still_held q s = elim (cases_Bool (nat_lt 0 (times q rs))) [ inl y ↦ rw (v.moved.owners q, y) refl | inr f ↦ rw (v.moved.owners q, f) s ]
+  still_held q s = grind (arith, nat_tests, v.moved.owners q)
 
   quiet : IsQuiet n.store
-  quiet k q y = elim (cases_Bool (nat_lt 0 (times q rs))) [ inl z ↦ v.full q z | inr f ↦ v.kept q (w.full k q (rw (v.moved.owners q, f) at y)) ]
+  quiet k q y = grind (arith, nat_tests, v.moved.owners q, v.full q, v.kept q, w.full k q)
 
   same_end : (q : ℕ) → end_of n q ≡ end_of m q
   same_end q = rw (v.ends) refl
@@ -155,17 +131,21 @@ owner_any : (h : Holder) (n : ℕ) → IsHolder h → 0 < n → IsOwner (Some h)
 owner_any (Process p) n r l = r
 owner_any (Direction d) n r l = (r, l)
 
-holder_refl : (h : Holder) → same_holder h h ≡ true
-holder_refl (Process p) = eq-eqb p p refl
-holder_refl (Direction d) = eq-eqb d d refl
+holder_is : (o : Option Holder) (h : Holder) → is_held_by o h ≡ true → o ≡ Some h
+holder_is o (Process p) = same_process o p
+holder_is o (Direction d) = same_direction o d
 
-module _ (g h : Holder) (rs : List ℕ) (m : Machine) (t : Store) (w : IsWhole m) (range : IsHolder h) (many : length t.owners ≡ length m.store.owners) (arenas : t.arenas ≡ m.store.arenas)
-    (were : (q : ℕ) → nat_lt 0 (times q rs) ≡ true → owner m.store q ≡ Some g) (owners : (q : ℕ) → owner t q ≡ cond (nat_lt 0 (times q rs)) (Some h) (owner m.store q)) where
-  pub had_bytes : (q : ℕ) → nat_lt 0 (times q rs) ≡ true → 0 < len t q
-  had_bytes q y = rw (same_len m.store t q arenas) (w.full g q (rw (were q y) (holder_refl g)))
+module _ (g h : Holder) (rs : List ℕ) (m : Machine) (t : Store) (ps : List Place) (ls : List Line) (w : IsWhole m) (range : IsHolder h) (many : length t.owners ≡ length m.store.owners)
+    (arenas : t.arenas ≡ m.store.arenas) (held : (q : ℕ) → times q rs ≤ cond (holds m.store g q) 1 0)
+    (owners : (q : ℕ) → owner t q ≡ cond (nat_lt 0 (times q rs)) (Some h) (owner m.store q)) where
+  were : (q : ℕ) → nat_lt 0 (times q rs) ≡ true → owner m.store q ≡ Some g
+  were q y = holder_is (owner m.store q) g (grind (arith, nat_tests, held q))
 
-  pub passed_lawful : IsLawful t
-  passed_lawful = record {
+  had_bytes : (q : ℕ) → nat_lt 0 (times q rs) ≡ true → 0 < len t q
+  had_bytes q y = rw (same_len m.store t q arenas) (w.full g q (grind (arith, nat_tests, held q)))
+
+  handed_lawful : IsLawful t
+  handed_lawful = record {
     few = rw arenas w.store.few;
     long = rw (many, arenas) w.store.long;
     covers = λ k. rw arenas (w.store.covers k);
@@ -176,3 +156,23 @@ module _ (g h : Holder) (rs : List ℕ) (m : Machine) (t : Store) (w : IsWhole m
     ];
     known = λ q s. same_known m.store t q arenas ∙ w.store.known q (elim (cases_Bool (nat_lt 0 (times q rs))) [ inl y ↦ rw (were q y) refl | inr f ↦ rw (owners q, f) at s ]);
   }
+
+  abbrev handed : Machine
+  handed = record m { store = t; places = ps; lines = ls }
+
+  pub handed_whole : ((k : Holder) (q : ℕ) → times q (listed handed k) + has (Some g) k * times q rs ≡ times q (listed m k) + has (Some h) k * times q rs) →
+      ArePlaces ps → AreChannels ls m.contracts m.opened → IsWhole handed
+  handed_whole lists places channels = came_whole (Some g) h rs m handed w (record {
+    lawful = handed_lawful;
+    moved = record { were = were; once = λ q. grind (arith, nat_tests, held q); owners = owners; lists = lists };
+    full = had_bytes;
+    kept = λ q l. rw (same_len m.store t q arenas) l;
+    many = many;
+    ends = refl;
+    buffers = refl;
+    bytes = λ q. rw (same_len m.store t q arenas) (w.bytes q);
+    places = places;
+    channels = channels;
+    opened = refl;
+    depth = refl;
+  })

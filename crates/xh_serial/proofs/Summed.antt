@@ -1,8 +1,9 @@
 -- The bytes handed out are those of the lists of all places and those in flight.
-use Rattle.std.proofs.Common.{◌≡◌, ℕ, ◌+◌, ◌*◌, ◌/◌, ◌%◌, ◌<◌, ◌≤◌, List, [], ◌∷◌, length, Bool, true, false, cond, refl, sym, ap, ◌∙◌, arith, inl, inr}
+use Rattle.std.proofs.Common.{◌≡◌, ℕ, ◌+◌, ◌*◌, ◌%◌, ◌<◌, ◌≤◌, List, [], ◌∷◌, length, Bool, cond, refl, sym, ◌∙◌, arith}
 use Rattle.std.specs.Prelude.{◌==◌, map, slice_index_or}
 use Rattle.std.specs.List.{sum_by, range_with_len}
-use Rattle.std.proofs.lemmas.Bool.{cases_eq, eq-eqb, ne_eqb}
+use Rattle.std.proofs.lemmas.Bool.Decides.{nat_tests}
+use Rattle.std.proofs.lemmas.Bool.{eq-eqb}
 use Rattle.std.proofs.lemmas.List.Sums.{sum_by-cons, sum_by-append}
 use Rattle.xh_model.specs.declared.event.Holder.{Holder}
 use Rattle.xh_model.specs.declared.event.Holder.TheVariants.{Process, Direction}
@@ -20,25 +21,20 @@ use Rattle.xh_core.proofs.Ranges.{picked, same_range, exchanged, sum_mapped, ind
 -- ---- the bytes of one holder
 
 one_number : (f : ℕ → ℕ) (q r : ℕ) (rs : List ℕ) → times q (r ∷ rs) * f q ≡ cond (r == q) (f r) 0 + times q rs * f q
-one_number f q r rs = elim (cases_eq r q) [
-  | inl e ↦ (let t : times q (r ∷ rs) ≡ 1 + times q rs = times-cons q r rs ∙ rw (eq-eqb r q e) refl in
-      let same : f r ≡ f q = ap f e in rw (t, eq-eqb r q e, same) (omega arith))
-  | inr n ↦ (let t : times q (r ∷ rs) ≡ times q rs = times-cons q r rs ∙ rw (ne_eqb r q n) (omega arith) in rw (t, ne_eqb r q n) (omega arith))
-]
+one_number f q r rs = grind (arith, nat_tests, times-cons q r rs)
 
 -- a sum over a list, number by number
 by_number : (f : ℕ → ℕ) (n : ℕ) (rs : List ℕ) → ((q : ℕ) → 0 < times q rs → q < n) → sum_by (λ q. times q rs * f q) (range_with_len 0 n) ≡ sum_by f rs
 by_number f n [] h = sum_same (λ q. times q [] * f q) (λ q. 0) (range_with_len 0 n) (λ q. let z : times q [] ≡ 0 = refl in rw z (omega arith)) ∙ sum_zero (range_with_len 0 n)
 by_number f n (r ∷ rs) h =
-    let here : r < n = h r (let t : times r (r ∷ rs) ≡ 1 + times r rs = times-cons r r rs ∙ rw (eq-eqb r r refl) refl in omega arith) in
+    let here : r < n = h r (grind (arith, nat_tests, times-cons r r rs)) in
     let one : sum_by (λ q. cond {A = ℕ} (r == q) (f r) 0) (range_with_len 0 n) ≡ f r = picked (f r) r 0 n (omega arith) (omega arith) in
     let rest : sum_by (λ q. times q rs * f q) (range_with_len 0 n) ≡ sum_by f rs = by_number f n rs (λ q l. h q (let t = times-cons q r rs in omega arith)) in
     sum_same (λ q. times q (r ∷ rs) * f q) (λ q. cond (r == q) (f r) 0 + times q rs * f q) (range_with_len 0 n) (λ q. one_number f q r rs)
     ∙ (sum_add (λ q. cond (r == q) (f r) 0) (λ q. times q rs * f q) (range_with_len 0 n) ∙ (rw (one, rest) (sym (sum_by-cons f r rs))))
 
 once_or_never : (b : Bool) (n k : ℕ) → k ≡ cond b 1 0 → cond b n 0 ≡ k * n
-once_or_never true n k e = rw e (omega arith)
-once_or_never false n k e = rw e (omega arith)
+once_or_never b n k e = grind (arith, nat_tests)
 
 -- the bytes of a holder are those of its list
 listed_bytes : (m : Machine) (h : Holder) → IsWhole m → bytes_of m.store h ≡ total m.store (listed m h)
@@ -59,13 +55,7 @@ place_bytes m k = total m.store (slice_index_or m.places k no_place).blocks.item
 -- a process has the bytes of its place where it is the latest there, and none of another place
 at_place : (m : Machine) (p k : ℕ) → k < 32 → cond (latest m k == p) (place_bytes m k) 0 ≡ cond ((p % 32) == k) (total m.store (blocks m p)) 0
 unfolding latest
-at_place m p k l = elim (cases_eq (p % 32) k) [
-  | inl e ↦ rw (eq-eqb (p % 32) k e, sym e) (elim (cases_eq (place m p).generation (p / 32)) [
-    | inl g ↦ (let is : p % 32 + 32 * (place m p).generation ≡ p = omega (arith, g) in rw (eq-eqb (p % 32 + 32 * (place m p).generation) p is, eq-eqb (place m p).generation (p / 32) g) refl)
-    | inr n ↦ rw (ne_eqb (p % 32 + 32 * (place m p).generation) p (λ s. n (omega (arith, s))), ne_eqb (place m p).generation (p / 32) n) refl
-  ])
-  | inr n ↦ rw (ne_eqb (p % 32) k n, ne_eqb (k + 32 * (slice_index_or m.places k no_place).generation) p (λ s. n (omega (arith, s, l)))) refl
-]
+at_place m p k l = grind (arith, nat_tests)
 
 -- what the latest process of a place holds is what its place lists
 pub place_total : (m : Machine) (k : ℕ) → IsWhole m → k < 32 →

@@ -1,15 +1,16 @@
 -- A take leaves a whole machine.
-use Rattle.std.proofs.Common.{◌≡◌, ℕ, true, false, ◌+◌, ◌*◌, ◌-◌, ◌/◌, ◌%◌, ◌<◌, ◌≤◌, List, [], ◌∷◌, ◌++◌, length, cond, refl, sym, ap, ◌∙◌, subst, arith, inl, inr, get_or-set_same}
+use Rattle.std.proofs.Common.{◌≡◌, ℕ, false, ◌+◌, ◌*◌, ◌-◌, ◌/◌, ◌%◌, ◌<◌, ◌≤◌, List, [], ◌∷◌, ◌++◌, length, cond, refl, sym, ap, ◌∙◌, subst, arith, get_or-set_same}
 use Rattle.std.proofs.Common.{get_or-set_other}
-use Rattle.std.specs.Prelude.{Option, Some, None, nat_lt, is_none, unwrap_or, slice_set, slice_index_or}
+use Rattle.std.specs.Prelude.{Option, Some, None, is_none, unwrap_or, slice_set, slice_index_or}
 use Rattle.std.specs.List.{remove}
-use Rattle.std.proofs.lemmas.Bool.{cases_eq, eq-eqb, ne_eqb, ltb-true}
+use Rattle.std.proofs.lemmas.Bool.Decides.{nat_tests}
+use Rattle.xh_serial.proofs.Room.{handed_whole}
 use Rattle.std.proofs.lemmas.List.{length-append, length-set}
 use Rattle.xh_model.specs.declared.event.Holder.{Holder}
 use Rattle.xh_model.specs.declared.event.Holder.TheVariants.{Process, Direction}
 use Rattle.xh_model.specs.declared.row.Row.{Row}
 use Rattle.xh_model.specs.Rows.{InStep}
-use Rattle.xh_model.specs.Store.{holds, owner}
+use Rattle.xh_model.specs.Store.{holds}
 use Rattle.xh_model.proofs.InStep.{take_step}
 use Rattle.xh_serial.specs.declared.message.Message.{Message}
 use Rattle.xh_serial.specs.declared.place.Place.{Place}
@@ -20,9 +21,9 @@ use Rattle.xh_serial.specs.Commands.{toward}
 use Rattle.xh_serial.specs.MessageCommands.{taken, taken_line, front, no_message, is_banned}
 use Rattle.xh_serial.specs.inner.Checks.{MayTake}
 use Rattle.xh_serial.specs.inner.Placing.{blocks_in}
-use Rattle.xh_core.proofs.Stores.{count_append, Accepted, accepted_all, at_set, same_direction, same_len}
+use Rattle.xh_core.proofs.Stores.{count_append, Accepted, accepted_all, at_set}
 use Rattle.xh_serial.proofs.Machines.{runs_busy, place_there, list_set, current_generation, current_range, current_blocks, busy_place, places_set, peer_ne}
-use Rattle.xh_serial.proofs.Room.{room, at_most_one, is_held, has, came_whole, had_bytes, passed_lawful}
+use Rattle.xh_serial.proofs.Room.{room, has}
 use Rattle.xh_serial.proofs.Wired.{state_in, tags_in, IsPair, same_lines, wired_pair, half_apart, set_numbered, taken_numbered}
 
 pub front_split : (ms : List Message) → 0 < length ms → carried ms ≡ (slice_index_or ms 0 no_message).blocks.items ++ carried (remove ms 0)
@@ -81,31 +82,21 @@ module _ (m : Machine) (p e : ℕ) (w : IsWhole m) (t : MayTake m p e (toward m 
   generation = current_generation m p t.runs.0
 
   split : (q : ℕ) → times q (carried (remove (waiting m d) 0)) + times q came ≡ times q (on_way m d)
-  split q = let s : times q (on_way m d) ≡ times q (came ++ carried (remove (waiting m d) 0)) = ap (times q) (front_split (waiting m d) t.some) in
-      let k = count_append q came (carried (remove (waiting m d) 0)) in omega (arith, s, k)
+  split q = let s = ap (times q) (front_split (waiting m d) t.some) in let k = count_append q came (carried (remove (waiting m d) 0)) in omega (arith, s, k)
 
   there : d < length m.lines
   there = let a = w.channels.long in let b = w.channels.few in let c = t.within in omega (arith, a, b, c)
 
   held : (q : ℕ) → times q came ≤ cond (holds m.store (Direction d) q) 1 0
-  held q = let s = split q in let o : times q (on_way m d) ≡ cond {A = ℕ} (holds m.store (Direction d) q) 1 0 = w.once (Direction d) q in omega (arith, s, o)
+  held q = let s = split q in let o = w.once (Direction d) q in omega (arith, s, o)
 
   accepted : Accepted p came m.store (accept_all p d came m.store)
   accepted = accepted_all p d came m.store (current_range m p w t.runs.0) held
 
-  were : (q : ℕ) → nat_lt 0 (times q came) ≡ true → owner m.store q ≡ Some (Direction d)
-  were q t = same_direction _ _ (is_held (holds m.store (Direction d) q) (times q came) (held q) (ltb-true 0 (times q came) t))
-
   lists : (k : Holder) (q : ℕ) → times q (listed n k) + has (Some (Direction d)) k * times q came ≡ times q (listed m k) + has (Some (Process p)) k * times q came
   unfolding taken
-  lists (Process k) q = rw (list_set m.places p x (place_there m p w) generation generation k) (elim (cases_eq k p) [
-    | inl s ↦ rw (eq-eqb k p s, eq-eqb p k (sym s), s) (let l = count_append q (blocks m p) came in omega (arith, l))
-    | inr a ↦ rw (ne_eqb k p a, ne_eqb p k (λ s. a (sym s))) (omega arith)
-  ])
-  lists (Direction k) q = rw (at_set m.lines d k y no_line there) (elim (cases_eq k d) [
-    | inl s ↦ rw (eq-eqb k d s, eq-eqb d k (sym s), s) (let l = split q in omega (arith, l))
-    | inr a ↦ rw (ne_eqb k d a, ne_eqb d k (λ s. a (sym s))) (omega arith)
-  ])
+  lists (Process k) q = grind (arith, nat_tests, list_set m.places p x (place_there m p w) generation generation k, count_append q (blocks m p) came)
+  lists (Direction k) q = grind (arith, nat_tests, at_set m.lines d k y no_line there, split q)
 
   wired : (rows : List Row) → contract_of m.contracts d ≡ Some rows → IsPair rows m.lines d → IsPair rows (slice_set m.lines d y) d
   wired rows is pair = take_pair rows m.lines (slice_set m.lines d y) d t.some
@@ -114,34 +105,17 @@ module _ (m : Machine) (p e : ℕ) (w : IsWhole m) (t : MayTake m p e (toward m 
 
   pub taken_whole : IsWhole n
   unfolding taken
-  taken_whole = came_whole (Some (Direction d)) (Process p) came m n w (record {
-    lawful = passed_lawful (Direction d) (Process p) came m n.store w (current_range m p w t.runs.0) accepted.many accepted.arenas were accepted.owners;
-    moved = record {
-      were = were;
-      once = λ q. let h = held q in let o = at_most_one (holds m.store (Direction d) q) in omega (arith, h, o);
-      owners = accepted.owners;
-      lists = lists;
-    };
-    full = had_bytes (Direction d) (Process p) came m n.store w (current_range m p w t.runs.0) accepted.many accepted.arenas were accepted.owners;
-    kept = λ q l. rw (same_len m.store n.store q accepted.arenas) l;
-    many = accepted.many;
-    ends = refl;
-    buffers = refl;
-    bytes = λ q. rw (same_len m.store n.store q accepted.arenas) (w.bytes q);
-    places = places_set m.places p x w.places (busy_place m p (blocks m p ++ came) w (runs_busy m p t.runs));
-    channels = record {
-      long = length-set m.lines d y ∙ w.channels.long;
-      fresh = λ k l. get_or-set_other m.lines d k y no_line (λ s. let c = t.within in omega (arith, c, l, s)) ∙ w.channels.fresh k l;
-      numbered = set_numbered m.lines d y there w.channels.numbered
-          (taken_numbered (contract_of m.contracts d) (1 - d % 2) (front m e).tag (line m d) t.some (w.channels.numbered d));
-      contracts_long = w.channels.contracts_long;
-      wired = wired_pair m.contracts m.lines (slice_set m.lines d y) d w.channels.wired (λ rows is valid pair. wired rows is pair)
-          (λ k h. get_or-set_other m.lines d k y no_line (half_apart d k h));
-      few = w.channels.few;
-    };
-    opened = refl;
-    depth = refl;
-  })
+  taken_whole = handed_whole (Direction d) (Process p) came m n.store n.places (slice_set m.lines d y) w (current_range m p w t.runs.0) accepted.many accepted.arenas held accepted.owners lists
+      (places_set m.places p x w.places (busy_place m p (blocks m p ++ came) w (runs_busy m p t.runs))) (record {
+        long = length-set m.lines d y ∙ w.channels.long;
+        fresh = λ k l. get_or-set_other m.lines d k y no_line (λ s. let c = t.within in omega (arith, c, l, s)) ∙ w.channels.fresh k l;
+        numbered = set_numbered m.lines d y there w.channels.numbered
+            (taken_numbered (contract_of m.contracts d) (1 - d % 2) (front m e).tag (line m d) t.some (w.channels.numbered d));
+        contracts_long = w.channels.contracts_long;
+        wired = wired_pair m.contracts m.lines (slice_set m.lines d y) d w.channels.wired (λ rows is valid pair. wired rows is pair)
+            (λ k h. get_or-set_other m.lines d k y no_line (half_apart d k h));
+        few = w.channels.few;
+      })
 
   -- the front message is one that the contract allows
   front_free : (o : Option (List Row)) → contract_of m.contracts d ≡ o → is_banned o (1 - d % 2) (line m d).state (front m e).tag ≡ false

@@ -1,13 +1,17 @@
 -- The two ends of each channel with a contract stay in step, whichever of them puts, takes or is drained, and the messages that wait have consecutive numbers.
 use Rattle.std.proofs.Common.{◌≡◌, ◌≢◌, ℕ, ◌+◌, ◌-◌, ◌*◌, ◌/◌, ◌%◌, ◌<◌, List, [], ◌∷◌, length, refl, sym, ap, ◌∙◌, subst, arith, inl, inr, get_or-set_same, get_or-set_other, ◌++◌}
 use Rattle.std.specs.Prelude.{Option, Some, None, slice_index_or, Bool, slice_set}
-use Rattle.std.proofs.lemmas.Bool.{cases_eq, eq-eqb, ne_eqb}
+use Rattle.std.proofs.lemmas.Bool.Decides.{nat_tests}
+use Rattle.xh_core.proofs.Stores.{at_set}
+use Rattle.std.proofs.lemmas.Bool.{cases_Bool}
+use Rattle.std.specs.Prelude.{◌==◌}
+use Rattle.std.proofs.lemmas.Bool.{cases_eq, eq-eqb}
 use Rattle.std.proofs.lemmas.Option.{none-some, same_Some}
 use Rattle.xh_model.specs.declared.row.Row.{Row}
 use Rattle.xh_model.specs.Rows.{allowed, walk, IsValid, InStep}
 use Rattle.xh_model.proofs.InStep.{cases_Option, drain_step, front_step}
 use Rattle.xh_serial.specs.declared.line.Line.{Line}
-use Rattle.xh_serial.specs.Machine.{Machine, line, no_line, peer, tags_of, contract_of, drained_state, AreWired, AreNumbered, IsNumbered}
+use Rattle.xh_serial.specs.Machine.{Machine, line, no_line, peer, tags_of, contract_of, drained_state, AreWired, AreNumbered, IsNumbered, IsWhole}
 use Rattle.xh_serial.specs.MessageCommands.{AreOrderly, put_line, taken_line}
 use Rattle.xh_serial.specs.Sweeping.{shut_line, shut_in}
 use Rattle.xh_serial.proofs.Machines.{peer_ne, peer_half}
@@ -37,22 +41,13 @@ swapped : (rows : List Row) (s t : ℕ) (x y : Line) → 1 - s ≡ t → 1 - t �
 swapped rows s t x y a b step = (rw (b, ← a) (sym step.0), elim step.1 [ inl none ↦ inr none | inr none ↦ inl none ])
 
 sides : (d : ℕ) → (1 - d % 2 ≡ peer d % 2) × (1 - peer d % 2 ≡ d % 2)
-sides d = elim (cases_eq (d % 2) 0) [
-  | inl e ↦ rw (eq-eqb (d % 2) 0 e) (omega (arith, e), omega (arith, e))
-  | inr n ↦ rw (ne_eqb (d % 2) 0 n) (omega (arith, n), omega (arith, n))
-]
+sides d = (grind (arith, nat_tests), grind (arith, nat_tests))
 
 peer_again : (d : ℕ) → peer (peer d) ≡ d
-peer_again d = elim (cases_eq (d % 2) 0) [
-  | inl e ↦ rw (eq-eqb (d % 2) 0 e, ne_eqb ((d + 1) % 2) 0 (λ s. omega (arith, e, s))) (omega arith)
-  | inr n ↦ rw (ne_eqb (d % 2) 0 n, eq-eqb ((d - 1) % 2) 0 (omega (arith, n))) (omega (arith, n))
-]
+peer_again d = grind (arith, nat_tests)
 
 other_end : (d k : ℕ) → k / 2 ≡ d / 2 → k ≢ d → k ≡ peer d
-other_end d k h a = elim (cases_eq (d % 2) 0) [
-  | inl e ↦ rw (eq-eqb (d % 2) 0 e) (omega (arith, h, a, e))
-  | inr n ↦ rw (ne_eqb (d % 2) 0 n) (omega (arith, h, a, n))
-]
+other_end d k h a = grind (arith, nat_tests)
 
 swap_pair : (rows : List Row) (lines : List Line) (d : ℕ) → IsPair rows lines d → IsPair rows lines (peer d)
 swap_pair rows lines d step =
@@ -126,6 +121,12 @@ wired_orderly m wired c rows is =
       step.1,
     )
 
+pub whole_orderly : (m n : Machine) → IsWhole m → m ≡ n → AreOrderly n
+whole_orderly m n w e = subst AreOrderly e (wired_orderly m w.channels.wired)
+
+pub whole_numbered : (m n : Machine) → IsWhole m → m ≡ n → (d : ℕ) → IsNumbered (line n d)
+whole_numbered m n w e d = rw (← e) (w.channels.numbered d)
+
 -- so it is of each of the lines
 abbrev pub AllNumbered : List Line → Type 0
 AllNumbered lines = (d : ℕ) → IsNumbered (slice_index_or lines d no_line)
@@ -147,10 +148,7 @@ taken_numbered contract side tag l some h = taken_front contract side tag l.stat
 
 -- one line is another, whose messages have their numbers too
 pub set_numbered : (lines : List Line) (d : ℕ) (l : Line) → d < length lines → AllNumbered lines → IsNumbered l → AllNumbered (slice_set lines d l)
-set_numbered lines d l there all h k = elim (cases_eq k d) [
-  | inl e ↦ subst (λ (i : ℕ). IsNumbered (slice_index_or (slice_set lines d l) i no_line)) (sym e) (subst IsNumbered (sym (get_or-set_same lines d l no_line there)) h)
-  | inr n ↦ subst IsNumbered (sym (get_or-set_other lines d k l no_line n)) (all k)
-]
+set_numbered lines d l there all h k = rw (at_set lines d k l no_line there) (elim (cases_Bool (k == d)) [ inl y ↦ rw y h | inr n ↦ rw n (all k) ])
 
 pub shut_numbered : (contracts : List (Option (List Row))) (lines : List Line) (o : Option ℕ) → ((d : ℕ) → o ≡ Some d → d < length lines) → AllNumbered lines → AllNumbered (shut_in contracts lines o)
 shut_numbered contracts lines None there all = all

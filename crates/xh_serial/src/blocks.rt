@@ -8,7 +8,7 @@ use std::marker::Model;
 
 /// The bytes of a data block; none for a record that is no data block.
 #[derive(Drop)]
-struct Buffer {
+pub(crate) struct Buffer {
     bytes: Vec<u8>,
 }
 
@@ -29,7 +29,8 @@ impl Buffer {
         }
     }
 
-    fn zeroed(alloc: Global, count: u32) -> Result<Buffer, AllocError>
+    /// So many zeros.
+    pub(crate) fn zeroed(alloc: Global, count: u32) -> Result<Buffer, AllocError>
         ensures { IfOk result (λ buffer. buffer ≡ replicate count 0) }
     {
         let bytes = vec![in alloc; 0; count as usize]?;
@@ -138,14 +139,12 @@ impl Blocks {
         self.ends[usize::from(r)] = None;
     }
 
-    /// A record has so many zeros from now on. A refused growth leaves all as it was.
-    pub(crate) fn zeroed(&mut self, alloc: Global, r: u16, count: u32) -> Result<(), AllocError>
+    /// A record has these bytes from now on.
+    pub(crate) fn fill(&mut self, r: u16, bytes: Buffer)
         requires { r < length self.old.buffers }
-        ensures done { OnOk result (self.new ≡ with_bytes r (replicate count 0) self.old) }
-        ensures kept { OnErr result (self.new ≡ self.old) }
+        ensures { self.new ≡ with_bytes r bytes self.old }
     {
-        self.buffers[usize::from(r)] = Buffer::zeroed(alloc, count)?;
-        Ok(())
+        self.buffers[usize::from(r)] = bytes;
     }
 
     /// A record has no bytes from now on.

@@ -12,6 +12,7 @@ ghost use Rattle.xh_serial.specs.Commands.{IsRunning};
 ghost use Rattle.xh_core.specs.Refusing.{Tested};
 ghost use Rattle.xh_serial.specs.inner.Checks.{MaySplit};
 
+use crate::blocks::Buffer;
 use crate::serial::Serial;
 use std::alloc::Global;
 use xh_core::{Block, Refused};
@@ -52,11 +53,11 @@ impl Serial {
     {
         let r = self.check_alloc(p, n, arena)?;
         let len = round(n);
-        self.blocks.zeroed(alloc, r, len)?;
+        let zeros = Buffer::zeroed(alloc, len)?;
         if let Err(refused) = self.plain.allocate(p, r, len) {
-            self.blocks.clear(r);
             return Err(refused);
         }
+        self.blocks.fill(r, zeros);
         self.places.add(p, r);
         Ok(Block { rec: r, len })
     }

@@ -1,5 +1,6 @@
 use Rattle.std.proofs.Common.{rules, arith, ◌≡◌, ℕ, ◌*◌, ◌/◌, ◌%◌, ◌<◌, ◌≤◌, List, length, get_or, sym, ap, ◌∙◌, subst}
 use Rattle.std.proofs.lemmas.List.{length-map, set-get_or}
+use Rattle.std.proofs.Math.ListN.{get_or-map}
 use Rattle.std.proofs.Math.Nat.{div-lt_iff_lt-mul}
 use Rattle.std.specs.Prelude.{Some, slice_get, slice_set}
 use mathlib.Core.Logic.{dite}
@@ -10,7 +11,7 @@ use Rattle.xh_model.specs.Arena.{ArenaState}
 use Rattle.xh_model.specs.Cover.{length_of}
 use Rattle.xh_place.specs.declared.body.Body.{Body}
 use Rattle.xh_books.specs.inner.Steps.{all_lengths, arenas_of}
-use Rattle.xh_books.proofs.Audited.{at_index, arena_of, audited, some_eq}
+use Rattle.xh_books.proofs.Audited.{at_index, audited, some_eq}
 use Rattle.xh_books.proofs.auditing.audit_lots.Goals as goal
 
 pub loop-k-preserved : goal.loop-k-preserved
@@ -37,7 +38,7 @@ loop-k-preserved c =
           let known : length_of (get_or l.lots k L).index (get_or l.vaults (k / n) V).arena.cover ≡ (get_or l.lots k L).len = c.audit.ensures.lot.length in
           ap (slice_get (all_lengths (arenas_of vs))) e
           ∙ at_index (arenas_of vs) n k V.arena c.requires.some c.requires.each arena'
-          ∙ ap (λ (z : ArenaState). Some (length_of (k % n) z.cover)) (arena_of vs (k / n) V)
+          ∙ ap (λ (z : ArenaState). Some (length_of (k % n) z.cover)) (get_or-map (λ (v : VaultOf). v.arena) vs (k / n) V)
           ∙ (λ j. Some (length_of (sym (ap (λ (z : LotOf Body). z.index) is ∙ index) j) (sym v_is j).arena.cover))
           ∙ ap Some (known ∙ ap (λ (z : LotOf Body). z.len) is))
           (λ other. inv.2 i x (omega arith) at),

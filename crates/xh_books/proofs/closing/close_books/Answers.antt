@@ -19,19 +19,9 @@ audit-vaults-requires-clause-each g c =
 
 facts : (g : _) (c : After-arena_lines-arenas g) → Sums c.args.accounts.items c.args.vaults.items c.args.places.items c.arena_lines-arenas.result.items
 facts g c = sums g.N.Names.parts c.args.records.shape.records c.args.accounts.items c.args.vaults.items c.gather-vaults.result.items c.audit-vaults.result.items c.args.places.items
-    (lens_of c.in_ok-_words.lots.items) c.arena_lines-arenas.result.items record {
-      count = ap (λ r. r.shape.records) c.requires.records;
-      small = let a = c.per_arena.ensures.0 in let b = c.per_arena.ensures.2 in omega arith;
-      vaults = c.requires.vaults.0;
-      fresh = c.requires.vaults.1;
-      named = c.gather-vaults.ensures.names;
-      gathered = c.gather-vaults.ensures.gathered;
-      same = c.audit-vaults.ensures.same;
-      known = c.audit-vaults.ensures.known;
-      split = c.in_ok-_words.ensures.owned;
-      lines_are = c.arena_lines-arenas.ensures.lines ∙ ap (λ vs. map closed_line vs) c.as_slice.ensures.value;
-      books = subst (All AreBooks) c.as_slice.ensures.value c.arena_lines-arenas.ensures.books;
-    }
+    (lens_of c.in_ok-_words.lots.items) c.arena_lines-arenas.result.items (ap (λ r. r.shape.records) c.requires.records) (let a = c.per_arena.ensures.0 in let b = c.per_arena.ensures.2 in omega arith)
+    c.requires.vaults.0 c.requires.vaults.1 c.gather-vaults.ensures.names c.gather-vaults.ensures.gathered c.audit-vaults.ensures.same c.audit-vaults.ensures.known c.in_ok-_words.ensures.owned
+    (c.arena_lines-arenas.ensures.lines ∙ ap (λ vs. map closed_line vs) c.as_slice.ensures.value) (subst (All AreBooks) c.as_slice.ensures.value c.arena_lines-arenas.ensures.books)
 
 pub ledger-requires : goal.ledger-requires
 ledger-requires g c =

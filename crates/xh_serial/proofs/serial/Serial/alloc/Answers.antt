@@ -1,6 +1,4 @@
-use Rattle.std.proofs.Common.{◌≡◌, ◌∙◌, ◌<◌, ◌++◌, ◌∷◌, [], ℕ, Bool, length, sym, ap, subst, refl, true, false, Some, None}
-use Rattle.std.specs.Prelude.{replicate}
-use Rattle.std.proofs.lemmas.List.{length-set}
+use Rattle.std.proofs.Common.{◌≡◌, ◌<◌, ◌++◌, ◌∷◌, [], ℕ, Bool, length, sym, subst, refl, true, false, Some, None}
 use Rattle.std.proofs.lemmas.Result.{err_from_is_err_and}
 use Rattle.xh_model.specs.Store.{Store, len}
 use Rattle.xh_serial.specs.Machine.{Machine, IsWhole}
@@ -8,12 +6,10 @@ use Rattle.xh_serial.specs.Commands.{IsRunning}
 use Rattle.xh_core.specs.Refusing.{Tests, first_refusal}
 use Rattle.xh_core.specs.declared.refused.Refused.TheVariants.{OutOfMemory}
 use Rattle.xh_core.specs.Gaining.{Gained}
-use Rattle.xh_serial.specs.inner.Holding.{BlocksOf, with_bytes}
 use Rattle.xh_serial.specs.BlockCommands.{alloc, alloc_heads, allocated}
 use Rattle.xh_core.specs.Space.{free_record, rounded, space_tests}
-use Rattle.xh_serial.proofs.Machines.{blocks_of}
 use Rattle.xh_core.proofs.Claiming.{IsFree, free_is, in_range}
-use Rattle.xh_serial.proofs.Gains.{room_for, free_there, free_buffer, emptied_again, allocated_whole}
+use Rattle.xh_serial.proofs.Gains.{room_for, free_there, allocated_whole}
 use Rattle.xh_core.proofs.Firsts.{first_append, first_later}
 use Rattle.xh_serial.specs.View.{machine_of}
 use Rattle.xh_serial.proofs.serial.Serial.alloc.Goals as goal
@@ -51,19 +47,14 @@ free c = free_is (was c).store c.args.arena c.in_ok-r.r c.self.invariant.store (
 there : (c : After-round-len) → c.in_ok-r.r < length (was c).store.owners
 there c = in_range (was c).store c.in_ok-r.r c.self.invariant.store (free c).known
 
-pub zeroed-requires : goal.zeroed-requires
-zeroed-requires c = let d = (goal.at.zeroed-requires c).After-round-len in free_there (was d) c.in_ok-r.r c.self.invariant (free d).known
-
 -- the tests that come first are passed
 passed : (b : Bool) (c : After-round-len) → first_refusal (alloc_heads (was c) c.args.p c.args.n c.args.arena ++ later b c.args.n c.args.arena (was c)) ≡
     first_refusal (later b c.args.n c.args.arena (was c))
 passed b c = first_later (alloc_heads (was c) c.args.p c.args.n c.args.arena) (later b c.args.n c.args.arena (was c)) (tested c)
 
-pub returns-in_err-zeroed-clause-refused : goal.returns-in_err-zeroed-clause-refused
+pub returns-in_err-zeros-clause-refused : goal.returns-in_err-zeros-clause-refused
 unfolding alloc
-returns-in_err-zeroed-clause-refused c = λ h.
-    let d = (goal.at.returns-in_err-zeroed-clause-refused c).After-round-len in
-    rw (h, c.in_err-zeroed.ensures.kept, ← c.self.view_is, passed true d) refl
+returns-in_err-zeros-clause-refused c = λ h. rw (h, ← c.self.view_is, passed true (goal.at.returns-in_err-zeros-clause-refused c).After-round-len) refl
 
 pub allocate-requires-clause-known : goal.allocate-requires-clause-known
 allocate-requires-clause-known c = (free (goal.at.allocate-requires-clause-known c).After-round-len).known
@@ -71,38 +62,20 @@ allocate-requires-clause-known c = (free (goal.at.allocate-requires-clause-known
 pub allocate-requires-clause-free : goal.allocate-requires-clause-free
 allocate-requires-clause-free c = (free (goal.at.allocate-requires-clause-free c).After-round-len).free
 
+pub fill-requires : goal.fill-requires
+fill-requires c = let d = (goal.at.fill-requires c).After-round-len in free_there (was d) c.in_ok-r.r c.self.invariant (free d).known
+
 pub add-requires : goal.add-requires
 add-requires c =
     let d = (goal.at.add-requires c).After-round-len in
     room_for (was d) c.args.p c.in_ok-r.r c.self.invariant (runs d) (free d).free (there d)
 
--- ---- where there is no room, the record's bytes are cleared again
-
-pub clear-requires : goal.clear-requires
-clear-requires c =
-    let d = (goal.at.clear-requires c).After-round-len in
-    let long : length c.zeroed.new.self.buffers ≡ length (was d).buffers = ap (λ (b : BlocksOf). length b.buffers) c.in_ok-zeroed.ensures.done
-    ∙ length-set (was d).buffers c.in_ok-r.r (replicate c.round-len.result 0) in
-    subst (λ (k : ℕ). c.in_ok-r.r < k) (sym long) (free_there (was d) c.in_ok-r.r c.self.invariant (free d).known)
-
-abbrev begun : goal.After-clear → After-round-len
-begun c = (goal.at.returns-in-Err-clause-done c).After-round-len
-
-restored : (c : goal.After-clear) → c.clear.new.self ≡ blocks_of (was (begun c))
-restored c =
-    let m : Machine = was (begun c) in
-    c.clear.ensures ∙ (ap (with_bytes c.in_ok-r.r []) c.in_ok-zeroed.ensures.done
-    ∙ (λ i. record { ends = m.ends; buffers = emptied_again m.buffers c.in_ok-r.r (replicate c.round-len.result 0) (free_buffer m c.in_ok-r.r c.self.invariant (free (begun c)).free) i }))
-
-pub invariant_of-self-in-Err : goal.invariant_of-self-in-Err
-invariant_of-self-in-Err c = rw (c.in-Err.ensures.unchanged, restored c) c.self.invariant
-
 pub returns-in-Err-clause-done : goal.returns-in-Err-clause-done
 unfolding alloc
 returns-in-Err-clause-done c = λ _.
-    let m : Machine = was (begun c) in
-    let room : first_refusal (space_tests m.store c.args.arena (rounded c.args.n)) ≡ Some c.in-Err.refused = rw ((free (begun c)).arena, c.round-len.ensures) at c.in-Err.ensures.room in
-    rw (c.in-Err.ensures.unchanged, restored c, ← c.self.view_is, passed false (begun c), room) refl
+    let d = (goal.at.returns-in-Err-clause-done c).After-round-len in
+    let room : first_refusal (space_tests (was d).store c.args.arena (rounded c.args.n)) ≡ Some c.in-Err.refused = rw ((free d).arena, c.round-len.ensures) at c.in-Err.ensures.room in
+    rw (c.in-Err.ensures.unchanged, ← c.self.view_is, passed false d, room) refl
 
 -- ---- the machine after, which is that of the command
 
@@ -110,11 +83,11 @@ abbrev steps : goal.After-add → After-round-len
 steps c = (goal.at.returns-clause-done c).After-round-len
 
 abbrev is : goal.After-add → Machine
-is c = record (machine_of c.self.inside) { store = c.allocate.new.self; ends = c.zeroed.new.self.ends; buffers = c.zeroed.new.self.buffers; places = c.add.new.self }
+is c = record (machine_of c.self.inside) { store = c.allocate.new.self; ends = c.fill.new.self.ends; buffers = c.fill.new.self.buffers; places = c.add.new.self }
 
 made : (c : goal.After-add) → is c ≡ allocated c.args.p c.in_ok-r.r c.round-len.result (was (steps c))
 unfolding allocated
-made c = rw (c.in_default.ensures.store, c.in_ok-zeroed.ensures.done, c.add.ensures, (runs (steps c)).0) refl
+made c = rw (c.in_default.ensures.store, c.fill.ensures, c.in_ok-zeros.ensures, c.add.ensures, (runs (steps c)).0) refl
 
 pub invariant_of-self-2 : goal.invariant_of-self-2
 invariant_of-self-2 c =

@@ -1,19 +1,14 @@
-use Rattle.std.proofs.Common.{◌≡◌, ◌∙◌, ◌*◌, ◌+◌, ◌%◌, ◌<◌, ℕ, List, length, sym, ap, refl, subst, Some, None, Ok}
-use Rattle.std.specs.Prelude.{slice_index_or}
+use Rattle.std.proofs.Common.{◌≡◌, ◌∙◌, ◌*◌, ◌+◌, ◌<◌, ℕ, length, sym, ap, refl, subst, Some, None, Ok}
 use Rattle.std.proofs.lemmas.Result.{err_from_is_err_and}
 use Rattle.xh_model.specs.Store.{Store}
-use Rattle.xh_serial.specs.declared.place.Place.{Place}
-use Rattle.xh_serial.specs.Machine.{Machine, IsWhole, no_place}
+use Rattle.xh_serial.specs.Machine.{Machine, IsWhole}
 use Rattle.xh_core.specs.Refusing.{first_refusal}
-use Rattle.xh_serial.specs.Commands.{IsRunning}
 use Rattle.xh_serial.specs.ChannelCommands.{ends_at, wired, wire_channel, wire_heads}
 use Rattle.xh_core.specs.Space.{pair_tests}
 use Rattle.xh_core.specs.Pairing.{Paired, moved}
-use Rattle.xh_serial.proofs.Appended.{appended}
-use Rattle.xh_serial.proofs.Opening.{connected, connected_whole, connected_is, room_p, room_q, pair_there, all_shared}
+use Rattle.xh_serial.proofs.Opening.{Connects, connects, connected, connected_whole, connected_is, room_p, room_q, pair_there}
 use Rattle.xh_core.proofs.Firsts.{first_append, first_later}
-use Rattle.xh_core.proofs.Pairs.{Shared}
-use Rattle.xh_serial.proofs.Wired.{wired_orderly}
+use Rattle.xh_serial.proofs.Wired.{whole_orderly, wired_orderly}
 use Rattle.xh_serial.specs.View.{machine_of}
 use Rattle.xh_serial.proofs.serial.Serial.connect.Goals as goal
 use Rattle.xh_serial.proofs.serial.Serial.connect.Goals.{In_ok-r, After-hand_over}
@@ -26,9 +21,7 @@ returns-in_err-check_wire-clause-is c =
     rw (e.1, e.2, first_append (wire_heads m c.args.p c.args.q c.args.arena) (pair_tests c.args.p m.store c.args.arena) c.in_err-check_wire.field-0.0 c.in_err-check_wire.ensures) refl
 
 pub returns-in_err-check_wire-clause-orderly : goal.returns-in_err-check_wire-clause-orderly
-returns-in_err-check_wire-clause-orderly c =
-    let w : IsWhole c.args.self.now = subst IsWhole c.self.view_is c.self.invariant in
-    wired_orderly c.args.self.now w.channels.wired
+returns-in_err-check_wire-clause-orderly c = whole_orderly _ _ c.self.invariant c.self.view_is
 
 pub returns-in_err-r-clause-is : goal.returns-in_err-r-clause-is
 unfolding wire_channel
@@ -40,16 +33,14 @@ returns-in_err-r-clause-is c =
     rw (e.1, e.2, c.in_err-r.ensures.unchanged, c.self.view_is, passed, room) refl
 
 pub returns-in_err-r-clause-orderly : goal.returns-in_err-r-clause-orderly
-returns-in_err-r-clause-orderly c =
-    let m : Machine = record (machine_of c.self.inside) { store = c.allocate_ends.new.self } in
-    wired_orderly m c.self.invariant.channels.wired
+returns-in_err-r-clause-orderly c = let m : Machine = record (machine_of c.self.inside) { store = c.allocate_ends.new.self } in wired_orderly m c.self.invariant.channels.wired
 
 -- ---- the two records have blocks
 
 there : (c : In_ok-r) → (c.in_ok-r.r < length c.self.inside.blocks.buffers) × (c.in_ok-r.t < length c.self.inside.blocks.buffers)
 there c =
     pair_there (machine_of c.self.inside) c.args.p c.args.arena c.in_ok-r.r c.in_ok-r.t c.allocate_ends.new.self c.self.invariant
-    (subst (λ (x : Machine). IsRunning x c.args.p) (sym c.self.view_is) c.in_ok-check_wire.ensures.1.0) c.in_ok-r.ensures.done
+    (rw (← c.self.view_is) at c.in_ok-check_wire.ensures.1.0) c.in_ok-r.ensures.done
 
 pub bind-requires : goal.bind-requires
 bind-requires c = (there (goal.at.bind-requires c).In_ok-r).0
@@ -62,35 +53,20 @@ bind-requires-2 c = rw c.bind.ensures (there (goal.at.bind-requires-2 c).In_ok-r
 abbrev was : After-hand_over → Machine
 was c = machine_of c.self.inside
 
-first_runs : (c : After-hand_over) → IsRunning (was c) c.args.p
-first_runs c = subst (λ (x : Machine). IsRunning x c.args.p) (sym c.self.view_is) c.in_ok-check_wire.ensures.1.0
-
-second_runs : (c : After-hand_over) → IsRunning (was c) c.args.q
-second_runs c = subst (λ (x : Machine). IsRunning x c.args.q) (sym c.self.view_is) c.in_ok-check_wire.ensures.1.1
-
-more : (c : After-hand_over) → (was c).opened < 64
-more c = subst (λ (x : Machine). x.opened < 64) (sym c.self.view_is) c.in_ok-check_wire.ensures.1.3
-
 handed : (c : After-hand_over) → c.hand_over.new.self ≡ moved c.args.p c.args.q c.in_ok-r.t (2 * (was c).opened + 1) c.allocate_ends.new.self
 handed c = c.hand_over.ensures.store ∙ ap (λ (k : ℕ). moved c.args.p c.args.q c.in_ok-r.t (2 * k + 1) c.allocate_ends.new.self) c.open-channel.ensures.number
 
-shared : (c : After-hand_over) → Shared c.args.p c.args.q c.in_ok-r.r c.in_ok-r.t (was c).store c.hand_over.new.self
-shared c =
-    all_shared (was c) c.args.p c.args.q c.args.arena c.in_ok-r.r c.in_ok-r.t c.allocate_ends.new.self c.hand_over.new.self c.self.invariant (first_runs c) (second_runs c)
-    (more c) c.in_ok-r.ensures.done (handed c) c.hand_over.ensures.lawful
+facts : (c : After-hand_over) → Connects c.hand_over.new.self c.args.p c.args.q c.in_ok-r.r c.in_ok-r.t c.args.contract (was c)
+facts c =
+    let checked = rw (← c.self.view_is) at c.in_ok-check_wire.ensures.1 in
+    connects (was c) c.args.p c.args.q c.args.arena c.in_ok-r.r c.in_ok-r.t c.args.contract c.allocate_ends.new.self c.hand_over.new.self c.self.invariant checked.0 checked.1 checked.3
+    c.open-channel.ensures.sound c.in_ok-r.ensures.done (handed c) c.hand_over.ensures.lawful
 
 pub add-requires : goal.add-requires
-add-requires c =
-    let d = (goal.at.add-requires c).After-hand_over in
-    room_p c.hand_over.new.self c.args.p c.args.q c.in_ok-r.r c.in_ok-r.t c.args.contract (was d) c.self.invariant (first_runs d) (second_runs d) (more d)
-    c.open-channel.ensures.sound (shared d)
+add-requires c = room_p _ _ _ _ _ _ _ (facts (goal.at.add-requires c).After-hand_over)
 
 pub add-requires-2 : goal.add-requires-2
-add-requires-2 c =
-    let d = (goal.at.add-requires-2 c).After-hand_over in
-    let listed : c.add.new.self ≡ appended c.args.p c.in_ok-r.r (was d).places = c.add.ensures in
-    subst (λ (ps : List Place). length (slice_index_or ps (c.args.q % 32) no_place).blocks.items < 2048) (sym listed)
-    (room_q c.hand_over.new.self c.args.p c.args.q c.in_ok-r.r c.in_ok-r.t c.args.contract (was d) c.self.invariant (first_runs d) (second_runs d) (more d) c.open-channel.ensures.sound (shared d))
+add-requires-2 c = rw c.add.ensures (room_q _ _ _ _ _ _ _ (facts (goal.at.add-requires-2 c).After-hand_over))
 
 -- ---- the machine at the end
 
@@ -114,15 +90,13 @@ made c = rw (c.add-2.ensures, c.add.ensures, c.bind-2.ensures, c.bind.ensures, c
     (rw (c.open-channel.ensures.lines, c.open-channel.ensures.contracts, c.open-channel.ensures.opened) refl)
 
 whole : (c : goal.After-add-2) → IsWhole (is c)
-whole c =
-    subst IsWhole (sym (made c)) (connected_whole c.hand_over.new.self c.args.p c.args.q c.in_ok-r.r c.in_ok-r.t c.args.contract (was (steps c)) c.self.invariant (first_runs (steps c))
-    (second_runs (steps c)) (more (steps c)) c.open-channel.ensures.sound (shared (steps c)))
+whole c = subst IsWhole (sym (made c)) (connected_whole _ _ _ _ _ _ _ (facts (steps c)))
 
 pub invariant_of-self-2 : goal.invariant_of-self-2
 invariant_of-self-2 c = whole c
 
 pub returns-clause-orderly : goal.returns-clause-orderly
-returns-clause-orderly c = wired_orderly (is c) (whole c).channels.wired
+returns-clause-orderly c = whole_orderly (is c) (is c) (whole c) refl
 
 pub returns-clause-is : goal.returns-clause-is
 unfolding wire_channel
@@ -133,6 +107,6 @@ returns-clause-is c =
     let store = handed (steps c) ∙ ap (λ (s : Store). moved c.args.p c.args.q c.in_ok-r.t (2 * m.opened + 1) s) pair.is in
     let end : wired c.args.p c.args.q c.in_ok-r.r c.in_ok-r.t c.args.contract m ≡ is c =
     sym (made c ∙ (ap (λ (s : Store). connected s c.args.p c.args.q c.in_ok-r.r c.in_ok-r.t c.args.contract m) store
-    ∙ connected_is c.args.p c.args.q c.in_ok-r.r c.in_ok-r.t c.args.contract m c.self.invariant (first_runs (steps c)) (second_runs (steps c)))) in
+    ∙ connected_is c.args.p c.args.q c.in_ok-r.r c.in_ok-r.t c.args.contract m c.self.invariant (facts (steps c)).runs_p (facts (steps c)).runs_q)) in
     rw (← c.self.view_is, first_later (wire_heads m c.args.p c.args.q c.args.arena) (pair_tests c.args.p m.store c.args.arena) heads, c.in_ok-r.ensures.tests, pair.high, pair.low)
     (λ i. (Ok (ends_at c.in_ok-r.r c.in_ok-r.t), end i))

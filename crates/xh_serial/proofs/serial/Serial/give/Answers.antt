@@ -7,7 +7,7 @@ use Rattle.xh_serial.specs.Commands.{toward}
 use Rattle.xh_serial.specs.MessageCommands.{give, given, told_line}
 use Rattle.xh_serial.specs.inner.Checks.{MayGive}
 use Rattle.xh_serial.proofs.Giving.{given_whole}
-use Rattle.xh_serial.proofs.Wired.{wired_orderly}
+use Rattle.xh_serial.proofs.Wired.{whole_orderly, whole_numbered}
 use Rattle.xh_serial.specs.View.{machine_of}
 use Rattle.xh_serial.proofs.serial.Serial.give.Goals as goal
 
@@ -53,15 +53,13 @@ unfolding give
 returns-clause-is c = rw (c.in_ok-own.ensures.0, ← c.self.view_is, made c, c.put.ensures.number, c.tell.ensures, c.peer-to.ensures.is, other c, (may_there c).toward) refl
 
 pub returns-clause-orderly : goal.returns-clause-orderly
-returns-clause-orderly c = wired_orderly (is c) (whole c).channels.wired
+returns-clause-orderly c = whole_orderly (is c) (is c) (whole c) refl
 
 pub returns-in_err-own-clause-orderly : goal.returns-in_err-own-clause-orderly
-returns-in_err-own-clause-orderly c =
-    let w : IsWhole c.args.self.now = subst IsWhole c.self.view_is c.self.invariant in
-    wired_orderly c.args.self.now w.channels.wired
+returns-in_err-own-clause-orderly c = whole_orderly _ _ c.self.invariant c.self.view_is
 
 pub returns-clause-numbered : goal.returns-clause-numbered
 returns-clause-numbered c = (whole c).channels.numbered
 
 pub returns-in_err-own-clause-numbered : goal.returns-in_err-own-clause-numbered
-returns-in_err-own-clause-numbered c = let w : IsWhole c.args.self.now = subst IsWhole c.self.view_is c.self.invariant in w.channels.numbered
+returns-in_err-own-clause-numbered c = whole_numbered _ _ c.self.invariant c.self.view_is

@@ -1,15 +1,14 @@
 use Rattle.std.proofs.Common.{◌≡◌, ◌+◌, ◌≤◌, ℕ, List, length, sym, ap, ◌∙◌, refl, subst, Ok}
-use Rattle.std.specs.Prelude.{slice_index_or, unwrap_or}
-use Rattle.xh_serial.specs.Machine.{Machine, IsWhole, waiting}
+use Rattle.xh_serial.specs.Machine.{Machine, IsWhole}
 use Rattle.xh_serial.specs.View.{machine_of}
 use Rattle.xh_serial.specs.Commands.{toward}
 use Rattle.xh_core.specs.Several.{described}
 use Rattle.xh_serial.specs.declared.message.Message.{Message}
-use Rattle.xh_serial.specs.MessageCommands.{take, taken, front, no_message}
+use Rattle.xh_serial.specs.MessageCommands.{take, taken, front}
 use Rattle.xh_serial.specs.inner.Checks.{MayTake}
 use Rattle.xh_serial.specs.inner.Placing.{blocks_in}
 use Rattle.xh_serial.proofs.Taking.{taken_room, front_allowed, taken_whole}
-use Rattle.xh_serial.proofs.Wired.{wired_orderly}
+use Rattle.xh_serial.proofs.Wired.{whole_orderly, whole_numbered}
 use Rattle.xh_serial.proofs.serial.Serial.take.Goals as goal
 use Rattle.xh_serial.proofs.serial.Serial.take.Goals.{After-take_front-message}
 
@@ -19,16 +18,13 @@ abbrev was : After-take_front-message → Machine
 was c = machine_of c.self.inside
 
 may_there : (c : After-take_front-message) → MayTake (was c) c.args.p c.args.e c.in_ok-d.d
-may_there c = subst (λ (x : Machine). MayTake x c.args.p c.args.e c.in_ok-d.d) (sym c.self.view_is) c.in_ok-d.ensures.1
-
-at : (c : After-take_front-message) → toward (was c) c.args.e ≡ c.in_ok-d.d
-at c = ap (λ o. unwrap_or o 128) (may_there c).toward
+may_there c = rw (← c.self.view_is) at c.in_ok-d.ensures.1
 
 may : (c : After-take_front-message) → MayTake (was c) c.args.p c.args.e (toward (was c) c.args.e)
-may c = subst (MayTake (was c) c.args.p c.args.e) (sym (at c)) (may_there c)
+may c = rw ((may_there c).toward) (may_there c)
 
 first : (c : After-take_front-message) → c.take_front-message.result ≡ front (was c) c.args.e
-first c = c.take_front-message.ensures.front ∙ ap (λ (k : ℕ). slice_index_or (waiting (was c) k) 0 no_message) (sym (at c))
+first c = rw ((may_there c).toward) c.take_front-message.ensures.front
 
 pub add_all-requires : goal.add_all-requires
 add_all-requires c =
@@ -71,12 +67,10 @@ returns-clause-is c =
     rw (c.in_ok-d.ensures.0, ← c.self.view_is, made c) (λ i. (Ok (record { no = (same i).no; tag = (same i).tag; blocks = record { items = blocks i } }), taken c.args.p c.args.e m))
 
 pub returns-clause-orderly : goal.returns-clause-orderly
-returns-clause-orderly c = wired_orderly (is c) (whole c).channels.wired
+returns-clause-orderly c = whole_orderly (is c) (is c) (whole c) refl
 
 pub returns-in_err-d-clause-orderly : goal.returns-in_err-d-clause-orderly
-returns-in_err-d-clause-orderly c =
-    let w : IsWhole c.args.self.now = subst IsWhole c.self.view_is c.self.invariant in
-    wired_orderly c.args.self.now w.channels.wired
+returns-in_err-d-clause-orderly c = whole_orderly _ _ c.self.invariant c.self.view_is
 
 pub returns-clause-allowed : goal.returns-clause-allowed
 returns-clause-allowed c = rw (← c.self.view_is, first (begun c)) (front_allowed (was (begun c)) c.args.p c.args.e c.self.invariant (may (begun c)))
@@ -85,4 +79,4 @@ pub returns-clause-numbered : goal.returns-clause-numbered
 returns-clause-numbered c = (whole c).channels.numbered
 
 pub returns-in_err-d-clause-numbered : goal.returns-in_err-d-clause-numbered
-returns-in_err-d-clause-numbered c = let w : IsWhole c.args.self.now = subst IsWhole c.self.view_is c.self.invariant in w.channels.numbered
+returns-in_err-d-clause-numbered c = whole_numbered _ _ c.self.invariant c.self.view_is
