@@ -1,7 +1,7 @@
 -- A desk that stays the same through several calls.
 use Rattle.std.proofs.Common.{◌≡◌, ℕ, List, sym, ap, ◌∙◌}
 use Rattle.atomic_table.specs.Seated.{TableId}
-use Rattle.xh_records.specs.Seats.{Held, RecordsOf}
+use Rattle.xh_records.specs.Seats.{Held}
 use Rattle.xh_place.specs.declared.body.Body.{Body}
 use Rattle.xh_place.specs.declared.desk.Desk.{Desk}
 use Rattle.xh_place.specs.Desk.{IsAt, IsSameDesk, IsSeatAt}

@@ -15,10 +15,9 @@ use Rattle.xh_channel.specs.Queues.{Posted}
 use Rattle.xh_place.specs.declared.body.Body.{Body}
 use Rattle.xh_place.specs.declared.body.Body.TheVariants.{End}
 use Rattle.xh_place.specs.Bodies.{content_of, fits_in, kind_of}
-use Rattle.xh_place.specs.inner.Endpoints.{IsEnd, KeepsEnd}
-use Rattle.xh_place.specs.inner.Lots.{HasNow, bare}
+use Rattle.xh_place.specs.inner.Lots.{HasNow, IsEnd, KeepsEnd, bare}
 use Rattle.xh_place.specs.Places.{Item, PlaceOf, IsBlock, IsPlace, IsPlaceOf, header_in, header_of, item_in, item_of, shown}
-use Rattle.xh_place.proofs.Found.{Found, found}
+use Rattle.xh_place.proofs.Found.{found}
 use Rattle.xh_place.proofs.Gained.{is_end}
 use Rattle.xh_place.proofs.Listing.{shown_at}
 use Rattle.xh_place.proofs.Steps.{changes, changes_shown, shows, view_of}

@@ -2,7 +2,7 @@
 use Rattle.std.proofs.Common.{ℕ, List, [], ◌∷◌, ◌++◌, append_assoc, append-nil, refl, sym, ap, ◌∙◌}
 use Rattle.xh_place.specs.declared.got.Got.{Got}
 use Rattle.xh_place.specs.Places.{Item}
-use Rattle.xh_place.specs.Taking.{IsGot, AreGot}
+use Rattle.xh_place.specs.Messages.{IsGot, AreGot}
 
 pub one_more : (d : ℕ) (ys zs : List (ℕ × Item)) (gots : List Got) (got : Got) → AreGot d ys gots → IsGot d zs got → AreGot d (ys ++ zs) (gots ++ got ∷ [])
 one_more d ys zs [] got all one = (zs, [], ap (λ (l : List (ℕ × Item)). l ++ zs) all ∙ sym (append-nil zs), one, refl)

@@ -13,7 +13,7 @@ use Rattle.xh_place.specs.inner.Lots.{HasNow}
 use Rattle.xh_place.specs.declared.body.Body.{Body}
 use Rattle.xh_core.specs.declared.header.Header.{Header}
 use Rattle.xh_place.specs.Places.{PlaceOf, with_blocks, Item, item_of, item_in, header_of, header_in, shown, sum_of, IsBlock, IsPlace}
-use Rattle.xh_place.specs.Settling.{settle, settled}
+use Rattle.xh_place.specs.Messages.{settle, settled}
 use Rattle.xh_place.proofs.Steps.{loses, loses_shown, changes, view_of, shows}
 use Rattle.xh_place.proofs.Listing.{shown_same, shown_put, shown_at, shown_none}
 

@@ -13,16 +13,16 @@ use Rattle.xh_model.proofs.Words.{number_back}
 use Rattle.xh_records.specs.declared.shape.Shape.{Shape}
 use Rattle.xh_model.specs.Keyed.{Among, Distinct, keys, value_at, put, without}
 use Rattle.xh_model.proofs.Keyed.{at_key, distinct_push, distinct_without, here_first, keys_push, length-keys, last_at, last_other, next, no_key, none_at}
-use Rattle.xh_model.proofs.Keyed.{not_here, put_at, put_other, put_same, put_twice, without_at, without_other}
+use Rattle.xh_model.proofs.Keyed.{not_here, put_at, put_other, without_at, without_other}
 use Rattle.xh_records.specs.Seats.{Held, IsRecord, with_lots}
 use Rattle.xh_records.specs.inner.Tokens.{AllBelow}
 use Rattle.xh_place.specs.Moves.{moves}
-use Rattle.xh_place.specs.inner.Lots.{HasNow, bare}
+use Rattle.xh_place.specs.inner.Lots.{HasNow}
 use Rattle.xh_records.proofs.Lists.{few}
 use Rattle.xh_place.specs.declared.body.Body.{Body}
 use Rattle.xh_place.specs.declared.body.Body.TheVariants.{Nothing, Data, End}
 use Rattle.xh_core.specs.declared.header.Header.{Header}
-use Rattle.xh_place.specs.Bodies.{content_of, kind_of, fits_in}
+use Rattle.xh_place.specs.Bodies.{kind_of, fits_in}
 use Rattle.xh_core.specs.Statuses.{is_over, is_running}
 use Rattle.xh_place.specs.Places.{entry_of}
 use Rattle.xh_place.specs.Places.{Item, PlaceOf, with_blocks, item_of, item_in, header_of, header_in, shown, sum_of, IsBlock, IsQuiet, IsPlace}
@@ -282,23 +282,6 @@ module _ (seat : Held Body) (xs : List (ℕ × Header)) (room total : ℕ) (stat
 
     pub changes_shown : shown last.lots xs ≡ put r (item_of m) (shown seat.lots xs)
     changes_shown = ap (λ (h : Held Body). shown h.lots xs) new ∙ shown_put seat.lots xs r l m at is.distinct
-
-  -- a body that was out and came back as another of the same content
-  pub swapped : (mid last : Held Body) (r : ℕ) (l : LotOf Body) (b b' : Body) → value_at r seat.lots ≡ Some l → mid ≡ with_lots seat (put r (record l { body = b }) seat.lots)
-      → last ≡ with_lots mid (put r (record l { body = b' }) mid.lots) → content_of b' ≡ content_of l.body → fits_in b' l.len ≡ true
-      → IsPlace last xs room total state × ((p : PlaceOf) → view_of seat xs state ≡ p → view_of last xs state ≡ p)
-  swapped mid last r l b b' at out back same fits =
-      let m : LotOf Body = record l { body = b' } in
-      let new : HasNow seat (put r m seat.lots) last =
-      ap bare (back ∙ ap (λ (h : Held Body). with_lots h (put r m h.lots)) out ∙ ap (with_lots seat) (put_twice r m (record l { body = b }) seat.lots)) in
-      let was = is.blocks r l at in
-      let good : IsBlock seat.shape r m = record { exists = was.exists; lot = was.lot; full = (was.full.0, fits) } in
-      let item : item_of m ≡ item_of l = λ i. record { len = l.len; content = same i } in
-      let kept : shown last.lots xs ≡ shown seat.lots xs = changes_shown last r l m at new good (ap header_of item)
-      ∙ put_same r (item_of m) (shown seat.lots xs) (shown_held r l at ∙ ap (λ (z : Item). Some z) (sym item)) in
-      (changes last r l m at new good (ap header_of item), λ p e. shows p seat last xs xs state (put r m seat.lots) (λ (es : List (ℕ × Item)). es) e new kept) where
-        shown_held : (r : ℕ) (l : LotOf Body) → value_at r seat.lots ≡ Some l → value_at r (shown seat.lots xs) ≡ Some (item_of l)
-        shown_held r l at = shown_at seat.lots xs r (header_of (item_of l)) (is.same r ∙ ap header_in at) ∙ ap (λ (z : Option (LotOf Body)). Some (item_in z)) at
 
   -- the state
   pub with_state : (t : Status) → IsQuiet t xs → IsPlace seat xs room total t

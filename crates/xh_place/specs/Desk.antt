@@ -9,21 +9,17 @@ use Rattle.xh_place.specs.Tallies.{ids_of}
 
 -- `names` says what the vaults' names are, and `extent` the bytes of each
 module _ {R V G : Type 0} (names : V → List TableId) where
-  -- the vaults and the tallies are those of these arenas
-  abbrev pub HasArenas : Desk R V G → List TableId → Type 0
-  HasArenas desk arenas = (names desk.vaults.now ≡ arenas) × (ids_of desk.tallies.now ≡ arenas)
-
-  -- the place is of the desk's records, and so are its arenas
+  -- the place is of the desk's records, and the vaults and the tallies are those of its arenas
   abbrev pub IsAt : Desk R V G → PlaceOf → Type 0
-  IsAt desk p = IsPlaceOf desk.records.now p × HasArenas desk p.shape.names
+  IsAt desk p = IsPlaceOf desk.records.now p × ((names desk.vaults.now ≡ p.shape.names) × (ids_of desk.tallies.now ≡ p.shape.names))
 
-  -- the place is of the desk's records, and the vaults are those of its arenas
+  -- the same without the tallies
   abbrev pub HasVaults : Desk R V G → PlaceOf → Type 0
   HasVaults desk p = IsPlaceOf desk.records.now p × (names desk.vaults.now ≡ p.shape.names)
 
-  -- the seat is of the desk's records, and so are its arenas
+  -- as IsAt, of a seat
   abbrev pub IsSeatAt : Desk R V G → Held Body → Type 0
-  IsSeatAt desk seat = IsSeatOf desk.records.now seat × HasArenas desk seat.shape.names
+  IsSeatAt desk seat = IsSeatOf desk.records.now seat × ((names desk.vaults.now ≡ seat.shape.names) × (ids_of desk.tallies.now ≡ seat.shape.names))
 
   -- the same desk, with the same vaults and tallies on it, whatever these hold now
   abbrev pub IsSameDesk : (V → ℕ) → Desk R V G → Desk R V G → Type 0

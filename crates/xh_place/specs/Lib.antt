@@ -5,10 +5,8 @@ pub mod Places
 pub mod Desk
 pub mod Starts
 pub mod Tallies
-pub mod Settling
 pub mod Splitting
 pub mod Calls
-pub mod Taking
 pub mod Ending
 pub mod Ends
 pub mod Messages

@@ -1,6 +1,5 @@
 -- What the private steps go by. No exported call's promise needs it to be read.
 pub mod Lots
-pub mod Endpoints
 pub mod Opening
 pub mod Reclaiming
 pub mod Answers

@@ -1,4 +1,4 @@
-// What a place does to the bytes of a data block: each call lends its lot to one function.
+// What a place does to the bytes of a data block, in its lot.
 ghost use Rattle.std.specs.Prelude.{◌≡◌, ◌+◌, ◌≤◌, Some, IfSome, length};
 ghost use Rattle.xh_arena.specs.Views.{LotOf};
 ghost use Rattle.xh_model.specs.Keyed.{value_at, put};
@@ -13,19 +13,7 @@ use std::alloc::Global;
 use xh_arena::Lot;
 use xh_records::{Records, Seat};
 
-// The lot's bytes from `at` on, as many as `out` has.
-fn copy_out(lot: &mut Lot<Body>, at: usize, out: &mut [u8])
-    requires { IsData lot.old × (at + length out.old ≤ lot.old.len) }
-    ensures { (lot.new ≡ lot.old) × (out.new ≡ part at (length out.old) (content_of lot.old.body)) }
-{
-    let Body::Data(buffer) = lot.body() else {
-        unreachable!()
-    };
-    let end = at + out.len();
-    out.copy_from_slice(&buffer.as_slice()[at..end]);
-}
-
-// The same of a record.
+// Its bytes from `at` on, as many as `out` has.
 pub(crate) fn read_lot(
     records: &Records<Body>,
     seat: &mut Seat<Body>,
@@ -37,23 +25,23 @@ pub(crate) fn read_lot(
     requires held { (l : LotOf Body) × (value_at r seat.old.lots ≡ Some l) × IsLotOf seat.old.shape r l × IsData l × (at + length out.old ≤ l.len) }
     ensures { (l : LotOf Body) → value_at r seat.old.lots ≡ Some l → (out.new ≡ part at (length out.old) (content_of l.body)) × (seat.new ≡ with_lots seat.old (put r l seat.old.lots)) }
 {
-    records.with_lot(seat, r, &mut |lot: &mut Lot<Body>| copy_out(lot, at, out))
+    records.with_lot(
+        seat,
+        r,
+        &mut |lot: &mut Lot<Body>|
+            requires { IsData lot.old × (at + length out.now ≤ lot.old.len) }
+            ensures { (lot.new ≡ lot.old) × (out.exit.now ≡ part at (length out.entry.now) (content_of lot.old.body)) }
+        {
+            let Body::Data(buffer) = lot.body() else {
+                unreachable!()
+            };
+            let end = at + out.len();
+            out.copy_from_slice(&buffer.as_slice()[at..end]);
+        },
+    )
 }
 
-// These bytes stand in the lot in the place of as many from `at` on.
-fn overwrite(lot: &mut Lot<Body>, at: usize, bytes: &[u8])
-    requires { IsData lot.old × (at + length bytes.now ≤ lot.old.len) }
-    ensures lot { lot.new ≡ record lot.old { body = lot.new.body } }
-    ensures content { content_of lot.new.body ≡ patched at bytes.now (content_of lot.old.body) }
-{
-    let Body::Data(buffer) = lot.body_mut() else {
-        unreachable!()
-    };
-    let end = at + bytes.len();
-    buffer.as_mut_slice()[at..end].copy_from_slice(bytes);
-}
-
-// The same of a record.
+// These bytes stand in it in the place of as many from `at` on.
 pub(crate) fn write_lot(
     records: &Records<Body>,
     seat: &mut Seat<Body>,
@@ -69,25 +57,21 @@ pub(crate) fn write_lot(
     records.with_lot(
         seat,
         r,
-        &mut |lot: &mut Lot<Body>| overwrite(lot, at, bytes),
+        &mut |lot: &mut Lot<Body>|
+            requires { IsData lot.old × (at + length bytes.now ≤ lot.old.len) }
+            ensures lot { lot.new ≡ record lot.old { body = lot.new.body } }
+            ensures content { content_of lot.new.body ≡ patched at bytes.entry.now (content_of lot.old.body) }
+        {
+            let Body::Data(buffer) = lot.body_mut() else {
+                unreachable!()
+            };
+            let end = at + bytes.len();
+            buffer.as_mut_slice()[at..end].copy_from_slice(bytes);
+        },
     )
 }
 
-// The lot's bytes past the first `k`, in a buffer of their own.
-fn copy_rest(alloc: Global, lot: &mut Lot<Body>, k: usize) -> Option<Vec<u8>>
-    requires { IsData lot.old × (k ≤ lot.old.len) }
-    ensures lot { lot.new ≡ lot.old }
-    ensures bytes { IfSome result (λ v. bytes v.items ≡ rest k (content_of lot.old.body)) }
-{
-    let Body::Data(buffer) = lot.body() else {
-        unreachable!()
-    };
-    let mut copy = Vec::new(alloc);
-    copy.extend_from_slice(&buffer.as_slice()[k..]).ok()?;
-    Some(copy)
-}
-
-// The same of a record.
+// Its bytes past the first `k`, in a buffer of their own.
 pub(crate) fn rest_of(
     alloc: Global,
     records: &Records<Body>,
@@ -99,5 +83,20 @@ pub(crate) fn rest_of(
     requires held { (l : LotOf Body) × (value_at r seat.old.lots ≡ Some l) × IsLotOf seat.old.shape r l × IsData l × (k ≤ l.len) }
     ensures { (l : LotOf Body) → value_at r seat.old.lots ≡ Some l → IfSome result (λ v. bytes v.items ≡ rest k (content_of l.body)) × (seat.new ≡ with_lots seat.old (put r l seat.old.lots)) }
 {
-    records.with_lot(seat, r, &mut |lot: &mut Lot<Body>| copy_rest(alloc, lot, k))
+    records.with_lot(
+        seat,
+        r,
+        &mut |lot: &mut Lot<Body>|
+            requires { IsData lot.old × (k ≤ lot.old.len) }
+            ensures lot { lot.new ≡ lot.old }
+            ensures bytes { IfSome result (λ v. bytes v.items ≡ rest k (content_of lot.old.body)) }
+        {
+            let Body::Data(buffer) = lot.body() else {
+                unreachable!()
+            };
+            let mut copy = Vec::new(alloc);
+            copy.extend_from_slice(&buffer.as_slice()[k..]).ok()?;
+            Some(copy)
+        },
+    )
 }

@@ -1,4 +1,4 @@
-// What a place does to an endpoint: each call lends its lot to one function.
+// What a place does to an endpoint, in its lot.
 ghost use Rattle.std.specs.Prelude.{◌≡◌, ◌+◌, ◌*◌, ◌<◌, Some, IfErr};
 ghost use Rattle.xh_arena.specs.Views.{LotOf};
 ghost use Rattle.xh_channel.specs.Refusals.{same_refusal};
@@ -8,7 +8,7 @@ ghost use Rattle.xh_records.specs.Showing.{IsLotOf};
 ghost use Rattle.xh_records.specs.Seats.{IsSeatOf, IsRecord, with_lots};
 ghost use Rattle.xh_place.specs.declared.body.Body.{Body};
 ghost use Rattle.xh_place.specs.Bodies.{content_of, spot, toward};
-ghost use Rattle.xh_place.specs.inner.Endpoints.{IsEnd, KeepsEnd};
+ghost use Rattle.xh_place.specs.inner.Lots.{IsEnd, KeepsEnd};
 ghost use Rattle.xh_place.specs.Messages.{IsUntaken};
 
 use crate::body::Body;
@@ -19,43 +19,27 @@ use xh_arena::Lot;
 use xh_channel::{Channels, Message, Refused as Untaken, Spot, Unsent};
 use xh_records::{Records, Seat};
 
-// The channel and side of the lot's endpoint.
-fn look(lot: &mut Lot<Body>) -> Spot
-    requires { IsEnd lot.old }
-    ensures same { lot.new ≡ lot.old }
-    ensures spot { (content_of lot.old.body ≡ spot result.channel result.side) × (result.channel < CHANNELS) × (result.side < 2) }
-{
-    let Body::End(end) = lot.body() else {
-        unreachable!()
-    };
-    end.spot()
-}
-
-// The same of a record.
+// The channel and side of the endpoint.
 pub(crate) fn spot_at(records: &Records<Body>, seat: &mut Seat<Body>, e: u16) -> Spot
     requires own { IsSeatOf records.now seat.old × IsRecord records.now.shape e }
     requires held { (l : LotOf Body) × (value_at e seat.old.lots ≡ Some l) × IsLotOf seat.old.shape e l × IsEnd l }
     ensures seat { (l : LotOf Body) → value_at e seat.old.lots ≡ Some l → (content_of l.body ≡ spot result.channel result.side) × (seat.new ≡ with_lots seat.old (put e l seat.old.lots)) }
     ensures small { (result.channel < CHANNELS) × (result.side < 2) }
 {
-    records.with_lot(seat, e, &mut |lot: &mut Lot<Body>| look(lot))
-}
-
-// Puts a message by the lot's endpoint.
-fn put<R: Wait>(
-    rt: &R,
-    channels: &Channels,
-    lot: &mut Lot<Body>,
-    tag: u16,
-    given: &ArrayVec<u16, 8>,
-) -> Result<u64, Unsent>
-    requires { IsEnd lot.old }
-    ensures { KeepsEnd lot.old lot.new }
-{
-    let Body::End(end) = lot.body_mut() else {
-        unreachable!()
-    };
-    channels.put(rt, end, tag, copy_of(given))
+    records.with_lot(
+        seat,
+        e,
+        &mut |lot: &mut Lot<Body>|
+            requires { IsEnd lot.old }
+            ensures same { lot.new ≡ lot.old }
+            ensures spot { (content_of lot.old.body ≡ spot result.channel result.side) × (result.channel < CHANNELS) × (result.side < 2) }
+        {
+            let Body::End(end) = lot.body() else {
+                unreachable!()
+            };
+            end.spot()
+        },
+    )
 }
 
 fn copy_of(blocks: &ArrayVec<u16, 8>) -> ArrayVec<u16, 8>
@@ -67,7 +51,7 @@ fn copy_of(blocks: &ArrayVec<u16, 8>) -> ArrayVec<u16, 8>
     copy
 }
 
-// The same of a record.
+// Puts a message by the endpoint.
 pub(crate) fn put_at<R: Wait, V, G>(
     desk: &Desk<'_, R, V, G>,
     seat: &mut Seat<Body>,
@@ -83,25 +67,19 @@ pub(crate) fn put_at<R: Wait, V, G>(
     desk.records.with_lot(
         seat,
         e,
-        &mut |lot: &mut Lot<Body>| put(rt, channels, lot, tag, given),
+        &mut |lot: &mut Lot<Body>|
+            requires { IsEnd lot.old }
+            ensures { KeepsEnd lot.old lot.new }
+        {
+            let Body::End(end) = lot.body_mut() else {
+                unreachable!()
+            };
+            channels.put(rt, end, tag, copy_of(given))
+        },
     )
 }
 
-// Takes the message at the front for the lot's endpoint. With the answer goes the direction.
-fn take<R: Wait>(rt: &R, channels: &Channels, lot: &mut Lot<Body>) -> (Result<Message, Untaken>, u8)
-    requires { IsEnd lot.old }
-    ensures lot { KeepsEnd lot.old lot.new }
-    ensures direction { (result.1 ≡ toward (content_of lot.old.body)) × (result.1 < DIRECTIONS) }
-    ensures none { IfErr result.0 (λ refused. IsUntaken (same_refusal refused)) }
-{
-    let Body::End(end) = lot.body_mut() else {
-        unreachable!()
-    };
-    let spot = end.spot();
-    (channels.take(rt, end), 2 * spot.channel + spot.side)
-}
-
-// The same of a record.
+// Takes the message at the front for the endpoint. With the answer goes the direction.
 pub(crate) fn take_at<R: Wait, V, G>(
     desk: &Desk<'_, R, V, G>,
     seat: &mut Seat<Body>,
@@ -115,26 +93,42 @@ pub(crate) fn take_at<R: Wait, V, G>(
     ensures none { IfErr result.0 (λ refused. IsUntaken (same_refusal refused)) }
 {
     let (rt, channels) = (desk.rt, desk.channels);
-    desk.records.with_lot(seat, e, &mut |lot: &mut Lot<Body>| take(rt, channels, lot))
+    desk.records.with_lot(
+        seat,
+        e,
+        &mut |lot: &mut Lot<Body>|
+            requires { IsEnd lot.old }
+            ensures lot { KeepsEnd lot.old lot.new }
+            ensures direction { (result.1 ≡ toward (content_of lot.old.body)) × (result.1 < DIRECTIONS) }
+            ensures none { IfErr result.0 (λ refused. IsUntaken (same_refusal refused)) }
+        {
+            let Body::End(end) = lot.body_mut() else {
+                unreachable!()
+            };
+            let spot = end.spot();
+            (channels.take(rt, end), 2 * spot.channel + spot.side)
+        },
+    )
 }
 
-// Shuts the lot's endpoint.
-fn shut<R: Wait>(rt: &R, channels: &Channels, lot: &mut Lot<Body>)
-    requires { IsEnd lot.old }
-    ensures { KeepsEnd lot.old lot.new }
-{
-    let Body::End(end) = lot.body_mut() else {
-        unreachable!()
-    };
-    channels.shut(rt, end);
-}
-
-// The same of a record.
+// Shuts the endpoint.
 pub(crate) fn shut_at<R: Wait, V, G>(desk: &Desk<'_, R, V, G>, seat: &mut Seat<Body>, e: u16)
     requires own { IsSeatOf desk.now.records.now seat.old × IsRecord desk.now.records.now.shape e }
     requires held { (l : LotOf Body) × (value_at e seat.old.lots ≡ Some l) × IsLotOf seat.old.shape e l × IsEnd l }
     ensures { (l : LotOf Body) → value_at e seat.old.lots ≡ Some l → (m : LotOf Body) × KeepsEnd l m × (seat.new ≡ with_lots seat.old (put e m seat.old.lots)) }
 {
     let (rt, channels) = (desk.rt, desk.channels);
-    desk.records.with_lot(seat, e, &mut |lot: &mut Lot<Body>| shut(rt, channels, lot))
+    desk.records.with_lot(
+        seat,
+        e,
+        &mut |lot: &mut Lot<Body>|
+            requires { IsEnd lot.old }
+            ensures { KeepsEnd lot.old lot.new }
+        {
+            let Body::End(end) = lot.body_mut() else {
+                unreachable!()
+            };
+            channels.shut(rt, end);
+        },
+    )
 }

@@ -2,7 +2,7 @@
 ghost use Rattle.std.specs.Prelude.{◌≡◌, ◌<◌, ◌^◌, vec_capacity};
 ghost use Rattle.xh_model.specs.Keyed.{Distinct, keys, value_at, put, without};
 ghost use Rattle.xh_place.specs.Places.{sum_of};
-ghost use Rattle.xh_place.specs.Settling.{settle, settled};
+ghost use Rattle.xh_place.specs.Messages.{settle, settled};
 
 use xh_core::Header;
 

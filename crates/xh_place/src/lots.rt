@@ -1,4 +1,4 @@
-// What a place does to the lots of its seat: each call lends one of them, or two, to one function.
+// What a place does to the lots of its seat.
 ghost use Rattle.std.specs.Prelude.{◌≡◌, ◌≢◌, ◌⊎◌, ◌+◌, ◌-◌, ◌*◌, ◌%◌, ◌/◌, ◌<◌, ◌≤◌, ◌++◌, ◌∷◌, [], Some, IfOk, IfErr, IfSome, OnOk, OnErr, slice_get, length, replicate, true};
 ghost use Rattle.xh_arena.specs.Views.{LotOf};
 ghost use Rattle.xh_model.specs.declared.event.Event.TheVariants.{Accept};
@@ -30,29 +30,6 @@ use xh_core::{Header, Kind, Refused as Reason};
 use xh_model::limits::{MAX_RECORDS, PLACES};
 use xh_records::{Records, Seat};
 
-// The lot gets bytes and a body.
-fn fill<V: Vaults>(
-    vaults: &mut V,
-    arena: u8,
-    lot: &mut Lot<Body>,
-    tally: &mut Tally,
-    n: u32,
-    body: &mut Body,
-) -> Result<(), Refused>
-    requires ids { (slice_get (V.names vaults.old) arena ≡ Some lot.old.id) × (tally.old.id ≡ lot.old.id) }
-    requires empty { lot.old.len ≡ 0 }
-    requires size { (0 < n) × (n % UNIT ≡ 0) × (n ≤ V.extent vaults.old) }
-    ensures same { (V.names vaults.new ≡ V.names vaults.old) × (V.extent vaults.new ≡ V.extent vaults.old) }
-    ensures lot { OnOk result (lot.new ≡ record lot.old { len = n; body = body.old }) }
-    ensures tally { OnOk result (tally.new ≡ record tally.old { taken = tally.old.taken + n }) }
-    ensures refused { OnErr result ((lot.new ≡ lot.old) × (tally.new ≡ tally.old)) }
-    ensures why { IfErr result (IsRefusedAt V.changes vaults.old vaults.new arena n) }
-{
-    vaults.carve(arena, lot, tally, n)?;
-    mem::swap(lot.body_mut(), body);
-    Ok(())
-}
-
 // The lot of the record gets bytes and a body.
 pub(crate) fn fill_lot<V: Vaults>(
     records: &Records<Body>,
@@ -77,20 +54,21 @@ pub(crate) fn fill_lot<V: Vaults>(
     records.with_lot(
         seat,
         r,
-        &mut |lot: &mut Lot<Body>| fill(vaults, arena, lot, tally, n, body),
+        &mut |lot: &mut Lot<Body>| -> Result<(), Refused>
+            requires ids { (slice_get (V.names vaults.now) arena ≡ Some lot.old.id) × (tally.now.id ≡ lot.old.id) }
+            requires empty { lot.old.len ≡ 0 }
+            requires size { (0 < n) × (n % UNIT ≡ 0) × (n ≤ V.extent vaults.now) }
+            ensures same { (V.names vaults.exit.now ≡ V.names vaults.entry.now) × (V.extent vaults.exit.now ≡ V.extent vaults.entry.now) }
+            ensures lot { OnOk result (lot.new ≡ record lot.old { len = n; body = body.entry.now }) }
+            ensures tally { OnOk result (tally.exit.now ≡ record tally.entry.now { taken = tally.entry.now.taken + n }) }
+            ensures refused { OnErr result ((lot.new ≡ lot.old) × (tally.exit.now ≡ tally.entry.now)) }
+            ensures why { IfErr result (IsRefusedAt V.changes vaults.entry.now vaults.exit.now arena n) }
+        {
+            vaults.carve(arena, lot, tally, n)?;
+            mem::swap(lot.body_mut(), body);
+            Ok(())
+        },
     )
-}
-
-// The lot's bytes go back, and its body is gone.
-fn empty<V: Vaults>(vaults: &mut V, arena: u8, lot: &mut Lot<Body>, tally: &mut Tally)
-    requires ids { (slice_get (V.names vaults.old) arena ≡ Some lot.old.id) × (tally.old.id ≡ lot.old.id) }
-    requires some { 0 < lot.old.len }
-    ensures same { (V.names vaults.new ≡ V.names vaults.old) × (V.extent vaults.new ≡ V.extent vaults.old) }
-    ensures lot { lot.new ≡ record lot.old { len = 0; body = Nothing } }
-    ensures tally { tally.new ≡ record tally.old { back = tally.old.back + lot.old.len } }
-{
-    vaults.give_back(arena, lot, tally);
-    *lot.body_mut() = Body::Nothing;
 }
 
 // The bytes of the record's lot go back.
@@ -112,7 +90,16 @@ pub(crate) fn empty_lot<V: Vaults>(
     records.with_lot(
         seat,
         r,
-        &mut |lot: &mut Lot<Body>| empty(vaults, arena, lot, tally),
+        &mut |lot: &mut Lot<Body>|
+            requires ids { (slice_get (V.names vaults.now) arena ≡ Some lot.old.id) × (tally.now.id ≡ lot.old.id) }
+            requires some { 0 < lot.old.len }
+            ensures same { (V.names vaults.exit.now ≡ V.names vaults.entry.now) × (V.extent vaults.exit.now ≡ V.extent vaults.entry.now) }
+            ensures lot { lot.new ≡ record lot.old { len = 0; body = Nothing } }
+            ensures tally { tally.exit.now ≡ record tally.entry.now { back = tally.entry.now.back + lot.old.len } }
+        {
+            vaults.give_back(arena, lot, tally);
+            *lot.body_mut() = Body::Nothing;
+        },
     )
 }
 
@@ -199,26 +186,29 @@ pub(crate) fn give_up<R, V: Vaults, G: Gate>(
     desk.records.vacate(seat, r);
 }
 
-// The lot's length and kind.
-fn look(lot: &mut Lot<Body>, header: &mut Header)
-    requires { IsFull fits_in lot.old }
-    ensures lot { lot.new ≡ lot.old }
-    ensures seen { header.new ≡ header_of (item_of lot.old) }
-{
-    header.len = lot.len();
-    header.kind = match lot.body() {
-        Body::Data(_) => Kind::Data,
-        Body::End(_) => Kind::End,
-        Body::Nothing => unreachable!(),
-    };
-}
-
-fn look_at(records: &Records<Body>, seat: &mut Seat<Body>, r: u16, header: &mut Header)
+// The length and kind of the record's block.
+fn look(records: &Records<Body>, seat: &mut Seat<Body>, r: u16) -> Header
     requires own { IsSeatOf records.now seat.old × IsRecord records.now.shape r }
     requires held { (l : LotOf Body) × (value_at r seat.old.lots ≡ Some l) × IsLotOf seat.old.shape r l × IsFull fits_in l }
-    ensures { (l : LotOf Body) → value_at r seat.old.lots ≡ Some l → (header.new ≡ header_of (item_of l)) × (seat.new ≡ with_lots seat.old (put r l seat.old.lots)) }
+    ensures { (l : LotOf Body) → value_at r seat.old.lots ≡ Some l → (result ≡ header_of (item_of l)) × (seat.new ≡ with_lots seat.old (put r l seat.old.lots)) }
 {
-    records.with_lot(seat, r, &mut |lot: &mut Lot<Body>| look(lot, header))
+    records.with_lot(
+        seat,
+        r,
+        &mut |lot: &mut Lot<Body>| -> Header
+            requires { IsFull fits_in lot.old }
+            ensures lot { lot.new ≡ lot.old }
+            ensures seen { result ≡ header_of (item_of lot.old) }
+        {
+            let len = lot.len();
+            let kind = match lot.body() {
+                Body::Data(_) => Kind::Data,
+                Body::End(_) => Kind::End,
+                Body::Nothing => unreachable!(),
+            };
+            Header { len, kind }
+        },
+    )
 }
 
 // Accepts a record, and looks at its lot. The error is the word that was seen.
@@ -234,64 +224,46 @@ pub(crate) fn accept_block(
     ensures missing { IfErr result (λ word. (word ≢ 2 + 4 * direction) × (seat.new ≡ seat.old)) }
 {
     records.accept(seat, r, direction)?;
-    let mut header = Header {
-        len: 0,
-        kind: Kind::Data,
-    };
-    look_at(records, seat, r, &mut header);
-    Ok(header)
+    Ok(look(records, seat, r))
 }
 
-// The tail's lot gets the bytes past the first `k`, and its body the other.
-fn part<V: Vaults>(
-    vaults: &mut V,
-    arena: u8,
-    head: &mut Lot<Body>,
-    tail: &mut Lot<Body>,
-    k: u32,
-    body: &mut Body,
-)
-    requires ids { (slice_get (V.names vaults.old) arena ≡ Some head.old.id) × (tail.old.id ≡ head.old.id) }
-    requires empty { tail.old.len ≡ 0 }
-    requires good { IsGoodCut k head.old.len × (fits_in head.old.body head.old.len ≡ true) × (kind_of (content_of head.old.body) ≡ kind.Data) }
-    ensures same { (V.names vaults.new ≡ V.names vaults.old) × (V.extent vaults.new ≡ V.extent vaults.old) }
-    ensures head { head.new ≡ record head.old { len = k; body = head.new.body } }
-    ensures content { content_of head.new.body ≡ front k (content_of head.old.body) }
-    ensures tail { tail.new ≡ record tail.old { len = head.old.len - k; body = body.old } }
-{
-    vaults.cut(arena, head, tail, k);
-    mem::swap(tail.body_mut(), body);
-    let Body::Data(buffer) = head.body_mut() else {
-        unreachable!()
-    };
-    buffer.truncate(k as usize);
-}
-
-// The same of two records.
-pub(crate) fn part_lots<V: Vaults>(
-    records: &Records<Body>,
+// The second record's lot gets the bytes of the first one's past the first `k`, and its body the other.
+fn part<R, V: Vaults, G>(
+    desk: &mut Desk<'_, R, V, G>,
     seat: &mut Seat<Body>,
-    r: u16,
-    t: u16,
-    vaults: &mut V,
+    pair: (u16, u16),
     k: u32,
     body: &mut Body,
 )
-    requires own { IsSeatOf records.now seat.old × IsRecord records.now.shape r × IsRecord records.now.shape t × (r ≢ t) }
-    requires held { (l m : LotOf Body) × (value_at r seat.old.lots ≡ Some l) × (value_at t seat.old.lots ≡ Some m) × IsLotOf seat.old.shape r l × IsLotOf seat.old.shape t m
-        × (slice_get (V.names vaults.old) (r / MAX_RECORDS) ≡ Some l.id) × (m.id ≡ l.id) × (m.len ≡ 0) × IsGoodCut k l.len × (fits_in l.body l.len ≡ true)
+    requires own { IsSeatOf desk.old.records.now seat.old × IsRecord desk.old.records.now.shape pair.0 × IsRecord desk.old.records.now.shape pair.1 × (pair.0 ≢ pair.1) }
+    requires held { (l m : LotOf Body) × (value_at pair.0 seat.old.lots ≡ Some l) × (value_at pair.1 seat.old.lots ≡ Some m) × IsLotOf seat.old.shape pair.0 l × IsLotOf seat.old.shape pair.1 m
+        × (slice_get (V.names desk.old.vaults.now) (pair.0 / MAX_RECORDS) ≡ Some l.id) × (m.id ≡ l.id) × (m.len ≡ 0) × IsGoodCut k l.len × (fits_in l.body l.len ≡ true)
         × (kind_of (content_of l.body) ≡ kind.Data) }
-    ensures same { (V.names vaults.new ≡ V.names vaults.old) × (V.extent vaults.new ≡ V.extent vaults.old) }
-    ensures parted { (l m : LotOf Body) → value_at r seat.old.lots ≡ Some l → value_at t seat.old.lots ≡ Some m → (h : LotOf Body) × (h ≡ record l { len = k; body = h.body })
-        × (content_of h.body ≡ front k (content_of l.body)) × (seat.new ≡ with_lots seat.old (put t (record m { len = l.len - k; body = body.old }) (put r h seat.old.lots))) }
+    ensures same { IsSameDesk V.names V.extent desk.old desk.new × (desk.new.tallies.now ≡ desk.old.tallies.now) }
+    ensures parted { (l m : LotOf Body) → value_at pair.0 seat.old.lots ≡ Some l → value_at pair.1 seat.old.lots ≡ Some m → (h : LotOf Body) × (h ≡ record l { len = k; body = h.body })
+        × (content_of h.body ≡ front k (content_of l.body)) × (seat.new ≡ with_lots seat.old (put pair.1 (record m { len = l.len - k; body = body.old }) (put pair.0 h seat.old.lots))) }
 {
-    let arena = (r / MAX_RECORDS) as u8;
-    records.with_two(
+    let arena = (pair.0 / MAX_RECORDS) as u8;
+    let vaults = &mut *desk.vaults;
+    desk.records.with_two(
         seat,
-        r,
-        t,
-        &mut |head: &mut Lot<Body>, tail: &mut Lot<Body>| {
-            part(vaults, arena, head, tail, k, body)
+        pair.0,
+        pair.1,
+        &mut |head: &mut Lot<Body>, tail: &mut Lot<Body>|
+            requires ids { (slice_get (V.names vaults.now) arena ≡ Some head.old.id) × (tail.old.id ≡ head.old.id) }
+            requires empty { tail.old.len ≡ 0 }
+            requires good { IsGoodCut k head.old.len × (fits_in head.old.body head.old.len ≡ true) × (kind_of (content_of head.old.body) ≡ kind.Data) }
+            ensures same { (V.names vaults.exit.now ≡ V.names vaults.entry.now) × (V.extent vaults.exit.now ≡ V.extent vaults.entry.now) }
+            ensures head { head.new ≡ record head.old { len = k; body = head.new.body } }
+            ensures content { content_of head.new.body ≡ front k (content_of head.old.body) }
+            ensures tail { tail.new ≡ record tail.old { len = head.old.len - k; body = body.entry.now } }
+        {
+            vaults.cut(arena, head, tail, k);
+            mem::swap(tail.body_mut(), body);
+            let Body::Data(buffer) = head.body_mut() else {
+                unreachable!()
+            };
+            buffer.truncate(k as usize);
         },
     )
 }
@@ -314,16 +286,15 @@ pub(crate) fn cut_block<R, V: Vaults, G: Gate>(
     ensures refused { OnErr result (HasNow seat.old seat.old.lots seat.new × (desk.new.vaults.now ≡ desk.old.vaults.now)) }
     ensures why { IfErr result (λ e. (e ≡ Reason.NoRecord) ⊎ (e ≡ Reason.OutOfMemory)) }
 {
-    let records = desk.records;
-    let Ok(t) = records.claim(seat, (r / MAX_RECORDS) as u8) else {
+    let Ok(t) = desk.records.claim(seat, (r / MAX_RECORDS) as u8) else {
         return Err(Reason::NoRecord);
     };
     desk.gate.between(place_of(seat), Point::Claimed);
-    let Some(buffer) = rest_of(alloc, records, seat, r, k as usize) else {
-        records.vacate(seat, t);
+    let Some(buffer) = rest_of(alloc, desk.records, seat, r, k as usize) else {
+        desk.records.vacate(seat, t);
         return Err(Reason::OutOfMemory);
     };
     let mut body = Body::Data(buffer);
-    part_lots(records, seat, r, t, desk.vaults, k, &mut body);
+    part(desk, seat, (r, t), k, &mut body);
     Ok(t)
 }

@@ -37,34 +37,7 @@ pub struct Unopened {
     pub high: Endpoint,
 }
 
-// The first lot gets 64 bytes, of which the second gets half; each gets a body.
-fn halve<V: Vaults>(
-    vaults: &mut V,
-    arena: u8,
-    low: &mut Lot<Body>,
-    high: &mut Lot<Body>,
-    tally: &mut Tally,
-    first: &mut Body,
-    second: &mut Body,
-) -> Result<(), Refused>
-    requires ids { (slice_get (V.names vaults.old) arena ≡ Some low.old.id) × (high.old.id ≡ low.old.id) × (tally.old.id ≡ low.old.id) }
-    requires empty { (low.old.len ≡ 0) × (high.old.len ≡ 0) }
-    requires size { 2 * END_BYTES ≤ V.extent vaults.old }
-    ensures same { (V.names vaults.new ≡ V.names vaults.old) × (V.extent vaults.new ≡ V.extent vaults.old) }
-    ensures low { OnOk result (low.new ≡ record low.old { len = END_BYTES; body = first.old }) }
-    ensures high { OnOk result (high.new ≡ record high.old { len = END_BYTES; body = second.old }) }
-    ensures tally { OnOk result (tally.new ≡ record tally.old { taken = tally.old.taken + 2 * END_BYTES }) }
-    ensures refused { OnErr result ((low.new ≡ low.old) × (high.new ≡ high.old) × (tally.new ≡ tally.old) × (first.new ≡ first.old) × (second.new ≡ second.old)) }
-    ensures why { IfErr result (IsRefusedAt V.changes vaults.old vaults.new arena (2 * END_BYTES)) }
-{
-    vaults.carve(arena, low, tally, 2 * END_BYTES)?;
-    vaults.cut(arena, low, high, END_BYTES);
-    mem::swap(low.body_mut(), first);
-    mem::swap(high.body_mut(), second);
-    Ok(())
-}
-
-// The same of two records.
+// The first record's lot gets 64 bytes, of which the second's gets half; each gets a body.
 fn halve_lots<V: Vaults>(
     records: &Records<Body>,
     seat: &mut Seat<Body>,
@@ -92,8 +65,23 @@ fn halve_lots<V: Vaults>(
         seat,
         r,
         t,
-        &mut |low: &mut Lot<Body>, high: &mut Lot<Body>| {
-            halve(vaults, arena, low, high, tally, first, second)
+        &mut |low: &mut Lot<Body>, high: &mut Lot<Body>| -> Result<(), Refused>
+            requires ids { (slice_get (V.names vaults.now) arena ≡ Some low.old.id) × (high.old.id ≡ low.old.id) × (tally.now.id ≡ low.old.id) }
+            requires empty { (low.old.len ≡ 0) × (high.old.len ≡ 0) }
+            requires size { 2 * END_BYTES ≤ V.extent vaults.now }
+            ensures same { (V.names vaults.exit.now ≡ V.names vaults.entry.now) × (V.extent vaults.exit.now ≡ V.extent vaults.entry.now) }
+            ensures low { OnOk result (low.new ≡ record low.old { len = END_BYTES; body = first.entry.now }) }
+            ensures high { OnOk result (high.new ≡ record high.old { len = END_BYTES; body = second.entry.now }) }
+            ensures tally { OnOk result (tally.exit.now ≡ record tally.entry.now { taken = tally.entry.now.taken + 2 * END_BYTES }) }
+            ensures refused { OnErr result ((low.new ≡ low.old) × (high.new ≡ high.old) × (tally.exit.now ≡ tally.entry.now)
+                × (first.exit.now ≡ first.entry.now) × (second.exit.now ≡ second.entry.now)) }
+            ensures why { IfErr result (IsRefusedAt V.changes vaults.entry.now vaults.exit.now arena (2 * END_BYTES)) }
+        {
+            vaults.carve(arena, low, tally, 2 * END_BYTES)?;
+            vaults.cut(arena, low, high, END_BYTES);
+            mem::swap(low.body_mut(), first);
+            mem::swap(high.body_mut(), second);
+            Ok(())
         },
     )
 }

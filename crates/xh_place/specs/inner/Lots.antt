@@ -32,3 +32,11 @@ abbrev pub IsCut : Held Body → Held Body → ℕ → ℕ → LotOf Body → �
 IsCut old new r k l t = (h m : LotOf Body) × (Among (keys old.lots) t → ⊥) × HasNow old (put r h old.lots ++ (t, m) ∷ []) new
     × IsBlock old.shape r h × IsBlock old.shape t m × (h.len ≡ k) × (h.len + m.len ≡ l.len)
     × (content_of h.body ≡ front k (content_of l.body)) × (content_of m.body ≡ rest k (content_of l.body)) × (t / MAX_RECORDS ≡ r / MAX_RECORDS)
+
+-- an endpoint's lot
+abbrev pub IsEnd : LotOf Body → Type 0
+IsEnd l = kind_of (content_of l.body) ≡ kind.End
+
+-- the lot has its endpoint still, whatever that has counted since
+abbrev pub KeepsEnd : LotOf Body → LotOf Body → Type 0
+KeepsEnd old new = (new ≡ record old { body = new.body }) × (content_of new.body ≡ content_of old.body)

@@ -12,10 +12,9 @@ ghost use Rattle.xh_records.specs.Seats.{IsRecord};
 ghost use Rattle.xh_core.specs.declared.header.Kind.TheVariants as kind;
 ghost use Rattle.xh_place.specs.Bodies.{kind_of};
 ghost use Rattle.xh_place.specs.Ends.{RefusedOr, away_in, toward_in};
-ghost use Rattle.xh_place.specs.Messages.{is_listed, IsSent, IsTaken, IsUntaken};
+ghost use Rattle.xh_place.specs.Messages.{is_listed, AreGot, IsGot, IsSent, IsTaken, IsUntaken};
 ghost use Rattle.xh_place.specs.Places.{Item, IsPlaceOf, IsSamePlace, found, with_more};
 ghost use Rattle.xh_place.specs.Starts.{start};
-ghost use Rattle.xh_place.specs.Taking.{AreGot, IsGot};
 ghost use Rattle.xh_place.specs.inner.Answers.{record_of};
 
 use crate::body::Body;

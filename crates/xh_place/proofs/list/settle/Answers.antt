@@ -1,6 +1,6 @@
 use Rattle.std.proofs.Common.{arith, ℕ, ◌<◌, ◌+◌, ◌∙◌, sym, ap, subst, length, drop, get_or, List}
 use Rattle.xh_model.specs.Keyed.{Distinct, keys, value_at}
-use Rattle.xh_place.specs.Settling.{settle, settled}
+use Rattle.xh_place.specs.Messages.{settle, settled}
 use Rattle.xh_place.proofs.Settled.{distinct_settle}
 use Rattle.xh_place.proofs.Givens.{next_one}
 use Rattle.xh_place.proofs.list.settle.Goals as goal

@@ -1,7 +1,7 @@
 use Rattle.std.proofs.Common.{◌≡◌, drop}
 use Rattle.std.specs.Vec.{vec_capacity}
 use Rattle.xh_model.specs.Keyed.{Distinct, keys, value_at}
-use Rattle.xh_place.specs.Settling.{settled}
+use Rattle.xh_place.specs.Messages.{settled}
 use Rattle.xh_place.proofs.list.settle.Given as goal
 
 abbrev pub invariant-loop-k : goal.invariant-loop-k

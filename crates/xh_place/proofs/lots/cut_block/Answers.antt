@@ -50,8 +50,8 @@ returns-in_default-rest_of-clause-refused g c =
     let j = lent all seat c.claim.new.seat c.rest_of.new.seat r n h.0 t.0 k (c.rest_of.ensures h.0 k.head).1 in
     (undone seat c.rest_of.new.seat n t.0 j.is c.in-Ok.ensures.fresh c.vacate.new.seat (vacates c.rest_of.new.seat c.vacate.new.seat _ _ _ c.vacate.ensures.vacated), refl)
 
-pub part_lots-requires-clause-own : goal.part_lots-requires-clause-own
-part_lots-requires-clause-own g c =
+pub part-requires-clause-own : goal.part-requires-clause-own
+part-requires-clause-own g c =
     let h = c.requires.held in let t = c.in-Ok.ensures.claimed in let r : ℕ = c.args.r in let n : ℕ = c.in-Ok.t in let all = c.args.desk.now.records.now in let seat = c.args.seat.now in
     let there : IsRecord all.shape r = subst (λ s. IsRecord s r) c.requires.own.1 h.2.exists in
     let exists : IsRecord all.shape n = (subst (λ (z : ℕ). z < length all.shape.names) (sym c.in-Ok.ensures.record.0) there.0, c.in-Ok.ensures.record.1) in
@@ -59,8 +59,8 @@ part_lots-requires-clause-own g c =
     let j = lent all seat c.claim.new.seat c.rest_of.new.seat r n h.0 t.0 k (c.rest_of.ensures h.0 k.head).1 in
     (j.own, j.exist.0, j.exist.1, j.apart)
 
-pub part_lots-requires-clause-held : goal.part_lots-requires-clause-held
-part_lots-requires-clause-held g c =
+pub part-requires-clause-held : goal.part-requires-clause-held
+part-requires-clause-held g c =
     let h = c.requires.held in let t = c.in-Ok.ensures.claimed in let r : ℕ = c.args.r in let n : ℕ = c.in-Ok.t in let all = c.args.desk.now.records.now in let seat = c.args.seat.now in
     let there : IsRecord all.shape r = subst (λ s. IsRecord s r) c.requires.own.1 h.2.exists in
     let exists : IsRecord all.shape n = (subst (λ (z : ℕ). z < length all.shape.names) (sym c.in-Ok.ensures.record.0) there.0, c.in-Ok.ensures.record.1) in
@@ -76,7 +76,7 @@ returns-clause-cut g c = λ l at.
     let exists : IsRecord all.shape n = (subst (λ (z : ℕ). z < length all.shape.names) (sym c.in-Ok.ensures.record.0) there.0, c.in-Ok.ensures.record.1) in
     let k = cutting all seat c.claim.new.seat r n h.0 t.0 c.requires.own h.1 h.2 exists t.2 c.in-Ok.ensures.fresh (claims seat c.claim.new.seat _ _ _ t.1) in
     let j = lent all seat c.claim.new.seat c.rest_of.new.seat r n h.0 t.0 k (c.rest_of.ensures h.0 k.head).1 in
-    let p = c.part_lots.ensures.parted h.0 t.0 j.head j.tail in let b : Body = Data c.in-Some.buffer in
-    let cut = is_cut all seat c.rest_of.new.seat c.part_lots.new.seat r n c.args.k h.0 t.0 p.0 (record t.0 { len = h.0.len - c.args.k; body = b }) b j c.in-Ok.ensures.fresh h.2 t.2
+    let p = c.part.ensures.parted h.0 t.0 j.head j.tail in let b : Body = Data c.in-Some.buffer in
+    let cut = is_cut all seat c.rest_of.new.seat c.part.new.seat r n c.args.k h.0 t.0 p.0 (record t.0 { len = h.0.len - c.args.k; body = b }) b j c.in-Ok.ensures.fresh h.2 t.2
     (subst (λ s. IsRecord s n) (sym c.requires.own.1) exists) h.3 h.4 c.in-Ok.ensures.record.0 p.1 p.2 refl (c.in-Some.ensures h.0 k.head).0 p.3 in
-    subst (λ (z : LotOf Body). IsCut seat c.part_lots.new.seat r c.args.k z n) (same h.0 l (sym h.1 ∙ at)) cut
+    subst (λ (z : LotOf Body). IsCut seat c.part.new.seat r c.args.k z n) (same h.0 l (sym h.1 ∙ at)) cut

@@ -13,7 +13,7 @@ use Rattle.xh_place.specs.Ends.{away_in}
 use Rattle.xh_place.specs.inner.Lots.{with_done}
 use Rattle.xh_place.specs.Places.{Item, IsBlock, IsPlace, PlaceOf, header_of, item_in, item_of, shown, sum_of, with_blocks, with_moved}
 use Rattle.xh_place.specs.Messages.{IsUnsent}
-use Rattle.xh_place.specs.Settling.{settled}
+use Rattle.xh_place.specs.Messages.{settled}
 use Rattle.xh_place.proofs.Moves.{all_move, heard, heard_shows}
 use Rattle.xh_place.proofs.Steps.{listed, lot_of, bounded}
 use Rattle.xh_place.proofs.Listing.{shown_keys}
