@@ -1,12 +1,9 @@
 pub mod Lists
 pub mod Taking
-pub mod Taken
 pub mod Fresh
 pub mod Makings
 pub mod Last
-pub mod Reclaims
-pub mod Ended
+pub mod Moved
 pub mod Vaulted
-pub mod Listed
 pub mod Wired
 pub mod Started

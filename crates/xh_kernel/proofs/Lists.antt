@@ -1,6 +1,7 @@
 -- A fact of each entry of a list, by its place.
 use Rattle.std.proofs.Common.{◌≡◌, ℕ, zero, suc, ◌+◌, ◌<◌, List, [], ◌∷◌, ◌++◌, ◌⊎◌, inl, inr, ⊎_elim, length, get_or, refl, subst, arith}
 use Rattle.std.specs.Prelude.{slice_get, Some}
+pub use Rattle.std.proofs.lemmas.Option.{slice_get-get_or as there, slice_get_within as below_get}
 
 pub each_push : {A : Type 0} (P : ℕ → A → Type 0) (xs : List A) (x : A) → ((k : ℕ) (d : A) → k < length xs → P k (get_or xs k d)) → P (length xs) x
     → (k : ℕ) (d : A) → k < length (xs ++ x ∷ []) → P k (get_or (xs ++ x ∷ []) k d)
@@ -9,21 +10,10 @@ each_push P [] x each last (suc k) d h = absurd (omega arith)
 each_push P (y ∷ ys) x each last zero d h = each zero d (omega arith)
 each_push P (y ∷ ys) x each last (suc k) d h = each_push (λ j z. P (suc j) z) ys x (λ j e l. each (suc j) e (omega arith)) last k d (omega arith)
 
--- the entry at a place within the list
-pub there : {A : Type 0} (xs : List A) (k : ℕ) (d : A) → k < length xs → slice_get xs k ≡ Some (get_or xs k d)
-there [] k d h = absurd (omega arith)
-there (x ∷ xs) zero d h = refl
-there (x ∷ xs) (suc k) d h = there xs k d (omega arith)
-
 pub front_at : {A : Type 0} (xs ys : List A) (k : ℕ) (x : A) → slice_get xs k ≡ Some x → slice_get (xs ++ ys) k ≡ Some x
 front_at [] ys k x e = absurd (cc)
 front_at (y ∷ xs) ys zero x e = e
 front_at (y ∷ xs) ys (suc k) x e = front_at xs ys k x e
-
-pub below_get : {A : Type 0} (xs : List A) (k : ℕ) (x : A) → slice_get xs k ≡ Some x → k < length xs
-below_get [] k x e = absurd (cc)
-below_get (y ∷ xs) zero x e = omega arith
-below_get (y ∷ xs) (suc k) x e = let h = below_get xs k x e in omega arith
 
 pub last_at : {A : Type 0} (xs : List A) (x : A) → slice_get (xs ++ x ∷ []) (length xs) ≡ Some x
 last_at [] x = refl

@@ -1,13 +1,26 @@
 -- What the first tests of a call, which refused nothing, leave to the tests of its place.
 use Rattle.std.proofs.Common.{◌≡◌, ◌∙◌, ◌++◌, ap, sym, subst}
-use Rattle.std.specs.Prelude.{Option, Some, None, Result, Err, MatchOption, MatchResult}
+use Rattle.std.specs.Prelude.{cond, false, Option, Some, None, Result, Err, MatchOption, MatchResult}
 use Rattle.xh_core.proofs.Firsts.{first_later}
 use Rattle.xh_core.specs.declared.refused.Refused.{Refused}
+use Rattle.xh_core.specs.declared.refused.Refused.TheVariants.{Ended}
 use Rattle.xh_core.specs.declared.status.Status.{Status}
 use Rattle.xh_core.specs.declared.status.Status.TheVariants.{Running}
 use Rattle.xh_core.specs.Refusing.{Tests, Tested, first_refusal}
+use Rattle.xh_core.specs.Statuses.{is_over}
 use Rattle.xh_place.specs.Ends.{RefusedOr}
-use Rattle.xh_place.specs.Starts.{start as starts}
+use Rattle.xh_place.specs.Starts.{start as starts, stop}
+
+less : {A : Type 0} (result : Result A Refused) (same left done all : Type 0) → (all → done) → (o : Option Refused)
+    → MatchOption o all (λ refused. (result ≡ Err refused) × (same × left)) → MatchOption o done (λ refused. (result ≡ Err refused) × same)
+less result same left done all f None d = f d
+less result same left done all f (Some refused) d = (d.0, d.1.0)
+
+-- a process that may end: so may the place's
+pub stops : {A : Type 0} (result : Result A Refused) (tests : Tests) (none : first_refusal tests ≡ None) (state : Status) (alive : is_over state ≡ false) (same left done all : Type 0) → (all → done)
+    → RefusedOr (stop state) result (same × left) all → RefusedOr tests result same done
+stops result tests none state alive same left done all f h =
+    subst (λ (o : Option Refused). MatchOption o done (λ refused. (result ≡ Err refused) × same)) (ap (λ b. cond b (Some Ended) None) alive ∙ sym none) (less result same left done all f (first_refusal (stop state)) h)
 
 module _ (tests more : Tests) (none : first_refusal tests ≡ None) (state : Status) (run : state ≡ Running) where
   later : first_refusal (tests ++ more) ≡ first_refusal (starts state ++ more)
@@ -22,7 +35,15 @@ module _ (tests more : Tests) (none : first_refusal tests ≡ None) (state : Sta
 
     -- less is said of what stays, and of what is done
     pub fewer : (same left done all : Type 0) → (all → done) → RefusedOr (starts state ++ more) result (same × left) all → RefusedOr (tests ++ more) result same done
-    fewer same left done all f h = passes done (λ refused. (result ≡ Err refused) × same) (go (first_refusal (starts state ++ more)) h) where
-      go : (o : Option Refused) → MatchOption o all (λ refused. (result ≡ Err refused) × (same × left)) → MatchOption o done (λ refused. (result ≡ Err refused) × same)
-      go None d = f d
-      go (Some refused) d = (d.0, d.1.0)
+    fewer same left done all f h = passes done (λ refused. (result ≡ Err refused) × same) (less result same left done all f (first_refusal (starts state ++ more)) h)
+
+-- the first test that refuses is what a call answers
+module _ {A : Type 0} (o : Option Refused) (result : Result A Refused) (e : Refused) (first : o ≡ Some e) (is : result ≡ Err e) where
+  pub refused_tested : (P : A → Type 0) → MatchResult result (λ a. (o ≡ None) × P a) (λ refused. o ≡ Some refused)
+  refused_tested P = subst (λ (r : Result A Refused). MatchResult r (λ a. (o ≡ None) × P a) (λ refused. o ≡ Some refused)) (sym is) first
+
+  pub refused_why : (done : Type 0) → MatchOption o done (λ refused. result ≡ Err refused)
+  refused_why done = subst (λ (p : Option Refused). MatchOption p done (λ refused. result ≡ Err refused)) (sym first) is
+
+  pub refused_or : (same done : Type 0) → same → MatchOption o done (λ refused. (result ≡ Err refused) × same)
+  refused_or same done s = subst (λ (p : Option Refused). MatchOption p done (λ refused. (result ≡ Err refused) × same)) (sym first) (is, s)

@@ -1,23 +1,20 @@
 -- What a wire says of its two looks, and of what followed.
-use Rattle.std.proofs.Common.{◌≡◌, ℕ, ◌∷◌, [], ◌++◌, Bool, true, inl, inr, sym, ◌∙◌, subst}
+use Rattle.std.proofs.Common.{◌≡◌, ℕ, ◌++◌, Bool, List, inl, inr, sym, ◌∙◌, subst}
 use Rattle.std.specs.Prelude.{Option, Some, None, Result, Ok, Err, IfOk, MatchOption, MatchResult}
+use Rattle.xh_arena.specs.Views.{TallyOf}
 use Rattle.xh_core.proofs.Firsts.{first_later}
 use Rattle.xh_core.specs.declared.block.Block.{Block}
 use Rattle.xh_core.specs.declared.refused.Refused.{Refused}
 use Rattle.xh_core.specs.declared.refused.Refused.TheVariants.{Ended}
 use Rattle.xh_core.specs.Refusing.{Tests, first_refusal}
-use Rattle.xh_place.specs.Ends.{is_here}
-use Rattle.xh_place.specs.Places.{IsPlaceOf, Item, PlaceOf, with_more}
+use Rattle.xh_place.specs.Ends.{Accepts}
+use Rattle.xh_place.specs.Places.{IsPlaceOf, PlaceOf}
 use Rattle.xh_kernel.specs.Accounts.{AccountOf}
 use Rattle.xh_kernel.specs.Channels.{Opens, Receives, Wires}
 use Rattle.xh_kernel.specs.Parts.{PartsOf}
 use Rattle.xh_kernel.specs.Reclaims.{HasBack}
 
--- the first tests refuse nothing, and then the others refuse, or neither does
-pub second : (a b : Tests) (done : Type 0) (result : Result (Block × Block) Refused) (refused : Refused) → first_refusal a ≡ None → first_refusal b ≡ Some refused → result ≡ Err refused
-    → MatchOption (first_refusal (a ++ b)) done (λ why. result ≡ Err why)
-second a b done result refused none some e = subst (λ (o : Option Refused). MatchOption o done (λ why. result ≡ Err why)) (sym (first_later a b none ∙ some)) e
-
+-- neither of the tests refuses
 pub neither : (a b : Tests) (done : Type 0) (result : Result (Block × Block) Refused) → first_refusal a ≡ None → first_refusal b ≡ None → done
     → MatchOption (first_refusal (a ++ b)) done (λ why. result ≡ Err why)
 neither a b done result none nor d = subst (λ (o : Option Refused). MatchOption o done (λ why. result ≡ Err why)) (sym (first_later a b none ∙ nor)) d
@@ -34,8 +31,7 @@ wired parts p q arena ruled low high before after (Ok ends) o a h = (
 wired parts p q arena ruled low high before after (Err e) o a h = inl a.0
 
 -- a place that accepted a block received it
-pub receives : (parts : PartsOf) (q d r : ℕ) (old new : PlaceOf) (result : Result Block Refused) → IsPlaceOf parts.records old
-    → IfOk result (λ _. (is_here old q ≡ true) × ((x : Item) × (new ≡ with_more d ((r, x) ∷ []) old)))
-    → IfOk result (λ _. Receives parts q r)
-receives parts q d r old new (Ok block) own here = (old, new, own, here.0, (d, here.1.0, here.1.1))
-receives parts q d r old new (Err refused) own here = tt
+pub receives : (parts : PartsOf) (q d r : ℕ) (old new : PlaceOf) (told tallies : List TallyOf) (result : Result Block Refused) → IsPlaceOf parts.records old
+    → Accepts q r d old new told tallies result → IfOk result (λ _. Receives parts q r)
+receives parts q d r old new told tallies (Ok block) own h = (old, new, own, h.here.0, (d, h.here.2.0, h.here.2.2))
+receives parts q d r old new told tallies (Err refused) own h = tt

@@ -7,8 +7,9 @@ use crate::kept::Kept;
 use crate::names::Names;
 use crossbeam_utils::CachePadded;
 use std::alloc::{AllocError, Global};
-use std::sync::Mutex;
-use xh_arena::Vault;
+use std::sync::{Mutex, Wait};
+use xh_arena::{Lot, Refused, Tally, Vault};
+use xh_place::{Body, Vaults};
 
 /// One lock for each arena, on cache lines of its own, and how many arenas there are, and how many bytes
 /// each has.
@@ -85,5 +86,65 @@ impl<N: Names> Arenas<N> {
         arena6.into_inner().into_inner().put_back(&mut vaults);
         arena7.into_inner().into_inner().put_back(&mut vaults);
         Ok(vaults)
+    }
+}
+
+// The call on the lock of an arena, by its number.
+macro_rules! at_arena {
+    ($lent:expr, $arena:expr, $call:ident($($with:expr),*)) => {
+        match $arena {
+            0 => Kept::$call($lent.rt, &$lent.arenas.arena0, $arena, $($with),*),
+            1 => Kept::$call($lent.rt, &$lent.arenas.arena1, $arena, $($with),*),
+            2 => Kept::$call($lent.rt, &$lent.arenas.arena2, $arena, $($with),*),
+            3 => Kept::$call($lent.rt, &$lent.arenas.arena3, $arena, $($with),*),
+            4 => Kept::$call($lent.rt, &$lent.arenas.arena4, $arena, $($with),*),
+            5 => Kept::$call($lent.rt, &$lent.arenas.arena5, $arena, $($with),*),
+            6 => Kept::$call($lent.rt, &$lent.arenas.arena6, $arena, $($with),*),
+            7 => Kept::$call($lent.rt, &$lent.arenas.arena7, $arena, $($with),*),
+            _ => unreachable!(),
+        }
+    };
+}
+
+/// It takes an arena's lock for the one call.
+#[derive(Drop)]
+pub(crate) struct Lent<'a, N: Names, R: Wait> {
+    pub(crate) rt: &'a R,
+    pub(crate) arenas: &'a Arenas<N>,
+}
+
+impl<'a, N: Names, R: Wait> Vaults for Lent<'a, N, R> {
+    ghost use Rattle.xh_kernel.specs.Parts.{IsVaultOf};
+
+    ghost names = { λ _. N.parts.records.shape.names };
+
+    ghost extent = { λ _. N.parts.size };
+
+    ghost changes = { λ _ _ a v _. IsVaultOf N.parts a v };
+
+    fn arenas(&self) -> u8 {
+        self.arenas.count
+    }
+
+    fn size(&self) -> u32 {
+        self.arenas.size
+    }
+
+    fn carve(
+        &mut self,
+        arena: u8,
+        lot: &mut Lot<Body>,
+        tally: &mut Tally,
+        n: u32,
+    ) -> Result<u32, Refused> {
+        at_arena!(self, arena, carve(lot, tally, n))
+    }
+
+    fn cut(&mut self, arena: u8, head: &mut Lot<Body>, tail: &mut Lot<Body>, k: u32) {
+        at_arena!(self, arena, cut(head, tail, k))
+    }
+
+    fn give_back(&mut self, arena: u8, lot: &mut Lot<Body>, tally: &mut Tally) {
+        at_arena!(self, arena, give_back(lot, tally))
     }
 }

@@ -1,5 +1,5 @@
 //! What lies behind an arena's lock.
-ghost use Rattle.std.specs.Prelude.{◌≡◌, ◌+◌, ◌-◌, ◌%◌, ◌<◌, ◌≤◌, length, slice_get, Some, take, drop, All, IfErr, IfOk, OnErr, OnOk};
+ghost use Rattle.std.specs.Prelude.{◌≡◌, ◌⊎◌, ◌+◌, ◌-◌, ◌%◌, ◌<◌, ◌≤◌, length, slice_get, Some, take, drop, All, IfErr, OnErr, OnOk};
 ghost use Rattle.std.specs.Vec.{vec_capacity};
 ghost use Rattle.std.specs.Vec.Iter.{into_iter_items};
 ghost use Rattle.xh_arena.specs.Refusals.{RefusesCarve};
@@ -9,7 +9,9 @@ ghost use Rattle.xh_model.specs.declared.limits.TheConstants.{UNIT};
 ghost use Rattle.xh_kernel.specs.Parts.{IsOpen, IsVaultOf, vault_names};
 
 use crate::names::Names;
+use crossbeam_utils::CachePadded;
 use std::marker::{Model, PhantomData};
+use std::sync::{Mutex, Wait};
 use std::vec::IntoIter;
 use xh_arena::{Lot, Refused, Tally, Vault};
 use xh_place::Body;
@@ -68,49 +70,74 @@ impl<N: Names, const A: u8> Kept<N, A> {
         }
     }
 
-    // As `Vault::carve`, of this arena.
-    pub(crate) fn carve(
-        &mut self,
+    // As `Vault::carve`, under the lock of the arena, which is A.
+    pub(crate) fn carve<R: Wait>(
+        rt: &R,
+        lock: &CachePadded<Mutex<Kept<N, A>>>,
+        arena: u8,
         lot: &mut Lot<Body>,
         tally: &mut Tally,
         n: u32,
     ) -> Result<u32, Refused>
-        requires ids { (slice_get N.parts.records.shape.names A ≡ Some lot.old.id) × (tally.old.id ≡ lot.old.id) }
+        requires is { arena ≡ A }
+        requires ids { (slice_get N.parts.records.shape.names arena ≡ Some lot.old.id) × (tally.old.id ≡ lot.old.id) }
         requires empty { lot.old.len ≡ 0 }
-        requires size { (0 < n) × (n % UNIT ≡ 0) }
+        requires size { (0 < n) × (n % UNIT ≡ 0) × (n ≤ N.parts.size) }
         ensures lot { OnOk result (lot.new ≡ record lot.old { len = n }) }
         ensures tally { OnOk result (tally.new ≡ record tally.old { taken = tally.old.taken + n }) }
         ensures refused { OnErr result ((lot.new ≡ lot.old) × (tally.new ≡ tally.old)) }
-        ensures why { IfErr result (λ e. (v : VaultOf) × IsVaultOf N.parts A v × IsLawfulArena v.arena × RefusesCarve n v.arena e) }
+        ensures reason { IfErr result (λ e. (e ≡ Refused.NoSpace) ⊎ (e ≡ Refused.Worn)) }
+        ensures why { IfErr result (λ e. (v : VaultOf) × IsVaultOf N.parts arena v × IsLawfulArena v.arena × RefusesCarve n v.arena e) }
     {
-        let Some(vault) = &mut self.vault else {
+        let mut guard = lock.lock(rt);
+        let kept: &mut Kept<N, A> = &mut guard;
+        let Some(vault) = &mut kept.vault else {
             unreachable!()
         };
         vault.carve(lot, tally, n)
     }
 
-    // As `Vault::cut`, of this arena.
-    pub(crate) fn cut(&mut self, head: &mut Lot<Body>, tail: &mut Lot<Body>, k: u32)
-        requires ids { (slice_get N.parts.records.shape.names A ≡ Some head.old.id) × (tail.old.id ≡ head.old.id) }
+    // As `Vault::cut`, under the lock of the arena, which is A.
+    pub(crate) fn cut<R: Wait>(
+        rt: &R,
+        lock: &CachePadded<Mutex<Kept<N, A>>>,
+        arena: u8,
+        head: &mut Lot<Body>,
+        tail: &mut Lot<Body>,
+        k: u32,
+    )
+        requires is { arena ≡ A }
+        requires ids { (slice_get N.parts.records.shape.names arena ≡ Some head.old.id) × (tail.old.id ≡ head.old.id) }
         requires empty { tail.old.len ≡ 0 }
         requires good { IsGoodCut k head.old.len }
         ensures head { head.new ≡ record head.old { len = k } }
         ensures tail { tail.new ≡ record tail.old { len = head.old.len - k } }
     {
-        let Some(vault) = &mut self.vault else {
+        let mut guard = lock.lock(rt);
+        let kept: &mut Kept<N, A> = &mut guard;
+        let Some(vault) = &mut kept.vault else {
             unreachable!()
         };
         vault.cut(head, tail, k)
     }
 
-    // As `Vault::give_back`, of this arena.
-    pub(crate) fn give_back(&mut self, lot: &mut Lot<Body>, tally: &mut Tally)
-        requires ids { (slice_get N.parts.records.shape.names A ≡ Some lot.old.id) × (tally.old.id ≡ lot.old.id) }
+    // As `Vault::give_back`, under the lock of the arena, which is A.
+    pub(crate) fn give_back<R: Wait>(
+        rt: &R,
+        lock: &CachePadded<Mutex<Kept<N, A>>>,
+        arena: u8,
+        lot: &mut Lot<Body>,
+        tally: &mut Tally,
+    )
+        requires is { arena ≡ A }
+        requires ids { (slice_get N.parts.records.shape.names arena ≡ Some lot.old.id) × (tally.old.id ≡ lot.old.id) }
         requires some { 0 < lot.old.len }
         ensures lot { lot.new ≡ record lot.old { len = 0 } }
         ensures tally { tally.new ≡ record tally.old { back = tally.old.back + lot.old.len } }
     {
-        let Some(vault) = &mut self.vault else {
+        let mut guard = lock.lock(rt);
+        let kept: &mut Kept<N, A> = &mut guard;
+        let Some(vault) = &mut kept.vault else {
             unreachable!()
         };
         vault.give_back(lot, tally)

@@ -1,20 +1,19 @@
 //! The locks of the places, and the calls.
-ghost use Rattle.std.specs.Prelude.{◌≡◌, ◌<◌, [], All, IfErr, IfOk, Some, vec_len};
-ghost use Rattle.xh_glance.specs.Look.{fresh_look};
+ghost use Rattle.std.specs.Prelude.{◌≡◌, ◌<◌, ◌≤◌, [], All, IfErr, IfOk, MatchResult, Some, vec_len};
+ghost use Rattle.xh_glance.specs.Look.{fresh_look, Sees};
 ghost use Rattle.xh_glance.specs.Pen.{fresh_pen};
-ghost use Rattle.xh_model.specs.declared.limits.TheConstants.{PLACES};
+ghost use Rattle.xh_model.specs.declared.limits.TheConstants.{MAX_ARENAS, PLACES};
 ghost use Rattle.xh_place.specs.Places.{IsPlaceOf, PlaceOf};
 ghost use Rattle.xh_records.specs.Seats.{IsSeatOf};
 ghost use Rattle.xh_kernel.specs.Accounts.{AreFresh};
 ghost use Rattle.xh_kernel.specs.Calls.{Spawns};
+ghost use Rattle.xh_kernel.specs.Parts.{IsOpen, vault_names};
 ghost use Rattle.xh_kernel.specs.inner.Making.{AreBundles, ArePens, AreSeats};
 
 mod blocks;
 mod channels;
 mod endings;
-mod glances;
 mod messages;
-mod settling;
 
 use crate::account::{Account, Bundle};
 use crate::arenas::Arenas;
@@ -22,10 +21,13 @@ use crate::held::Held;
 use crate::names::Names;
 use crate::parts::Parts;
 use crate::shared::Shared;
+use crate::teller::Teller;
 use crossbeam_utils::CachePadded;
-use std::alloc::Global;
+use std::alloc::{AllocError, Global};
+use std::marker::PhantomData;
 use std::sync::{Mutex, Wait};
-use xh_core::Refused;
+use xh_arena::Vault;
+use xh_core::{Glance, Refused};
 use xh_glance::{Look, Pen};
 use xh_model::limits::PLACES;
 use xh_place::{Body, Gate, Place};
@@ -55,7 +57,12 @@ fn lock_place<N: Names>(
 {
     let room = u16::from(records.arenas()) * records.per_arena();
     let place = Place::new(alloc, seat, room)?;
-    Ok(CachePadded::new(Mutex::new(Held::new(place, pen))))
+    Ok(CachePadded::new(Mutex::new(Held {
+        teller: Teller::new(pen, &place),
+        place,
+        waits: None,
+        of: PhantomData,
+    })))
 }
 
 // A lock for each place.
@@ -94,6 +101,21 @@ fn name_accounts<N: Names>(alloc: Global, bundles: Vec<Bundle>) -> Result<Vec<Ac
         accounts.push(Account::named(bundle))?;
     }
     Ok(accounts)
+}
+
+// The places out of their locks.
+fn unlock_places<N: Names>(
+    alloc: Global,
+    locks: Vec<CachePadded<Mutex<Held<N>>>>,
+) -> Result<Vec<Place>, AllocError>
+    ensures count { IfOk result (λ p. vec_len p ≡ vec_len locks) }
+    ensures named { IfOk result (λ p. All (IsPlaceOf N.parts.records) p.items) }
+{
+    let mut places = Vec::with_capacity(alloc, locks.len())?;
+    for lock in locks {
+        places.push(lock.into_inner().into_inner().into_place())?;
+    }
+    Ok(places)
 }
 
 impl<N: Names> Kernel<N> {
@@ -148,5 +170,39 @@ impl<N: Names> Kernel<N> {
             }
         }
         Err(Refused::NoPlace)
+    }
+
+    /// What a place was at one moment of the call: its latest process, how far that had come, how many
+    /// blocks it had and of how many bytes. It is not older than what the look had seen of the place. The
+    /// look is one of this kernel's own. NoProcess for a place of 32 or more.
+    pub fn glance(&self, place: u8, look: &mut Look) -> Result<Glance, Refused>
+        requires { look.old.glances ≡ N.parts.glances }
+        ensures same { look.new.glances ≡ look.old.glances }
+        ensures seen { MatchResult result (λ g. (place < PLACES) × Sees look.old.fronts place g look.new.fronts) (λ e. (e ≡ Refused.NoProcess) × (PLACES ≤ place) × (look.new ≡ look.old)) }
+    {
+        if place >= PLACES {
+            return Err(Refused::NoProcess);
+        }
+        Ok(self.shared.glances.look(look, place))
+    }
+
+    /// Takes the kernel apart and changes nothing: the vaults by arena, the places by number, which hold all
+    /// seats of the records, and the records. OutOfMemory where a growth was refused.
+    pub fn settle(self, alloc: Global) -> Result<(Vec<Vault>, Vec<Place>, Records<Body>), Refused>
+        ensures vaults { IfOk result (λ r. (vault_names r.0.items ≡ N.parts.records.shape.names) × All (IsOpen N.parts) r.0.items × (vec_len r.0 ≤ MAX_ARENAS)) }
+        ensures places { IfOk result (λ r. All (IsPlaceOf r.2) r.1.items × (vec_len r.1 ≡ r.2.shape.places)) }
+        ensures records { IfOk result (λ r. r.2 ≡ N.parts.records) }
+        ensures refused { IfErr result (λ e. e ≡ Refused.OutOfMemory) }
+    {
+        let Kernel { shared, places } = self;
+        let Shared {
+            records,
+            channels: _,
+            glances: _,
+            arenas,
+        } = shared;
+        let vaults = arenas.into_vaults(alloc)?;
+        let places = unlock_places(alloc, places)?;
+        Ok((vaults, places, records))
     }
 }

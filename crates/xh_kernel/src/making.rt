@@ -73,16 +73,6 @@ fn deal_tallies(
     Ok(dealt)
 }
 
-// The lots, and those of one more vault behind them.
-fn add_lots(mut all: Vec<Lot<Body>>, lots: Vec<Lot<Body>>) -> Result<Vec<Lot<Body>>, AllocError>
-    ensures { IfOk result (λ v. v.items ≡ all.items ++ lots.items) }
-{
-    for lot in lots {
-        all.push(lot)?;
-    }
-    Ok(all)
-}
-
 // One more vault.
 fn add_vault(
     alloc: Global,
@@ -99,17 +89,17 @@ fn add_vault(
 {
     let Makings {
         mut vaults,
-        lots,
+        mut lots,
         mut names,
         bundles,
     } = makings;
     let made = Vault::new::<Body>(alloc, config.bytes, config.records, config.wear, workers);
-    let Ok((mut vault, more, tallies)) = made else {
+    let Ok((mut vault, mut more, tallies)) = made else {
         return Err(Refused::OutOfMemory);
     };
     let bundles = deal_tallies(alloc, &names, &vault, bundles, tallies)?;
     names.push_back(vault.name())?;
-    let lots = add_lots(lots, more)?;
+    lots.append(&mut more)?;
     vaults.push(vault)?;
     Ok(Makings {
         vaults,

@@ -41,17 +41,6 @@ impl Model for Parts {
         p.vaults.items p.seats.items p.pens.items p.bundles.items p.looks.items };
 }
 
-// The channels, in which so many messages may wait in a direction.
-fn new_channels(alloc: Global, depth: u8) -> Result<Channels, Refused>
-    ensures depth { IfOk result (λ c. c.depth ≡ depth) }
-    ensures refused { IfErr result (λ e. e ≡ Refused.OutOfMemory) }
-{
-    let Ok(channels) = Channels::new(alloc, depth) else {
-        return Err(Refused::OutOfMemory);
-    };
-    Ok(channels)
-}
-
 // The parts of a kernel within its limits.
 fn make_parts(alloc: Global, config: Config, workers: u8) -> Result<Parts, Refused>
     requires { ArePartsLimits config workers }
@@ -68,7 +57,7 @@ fn make_parts(alloc: Global, config: Config, workers: u8) -> Result<Parts, Refus
     let Ok((records, seats)) = made else {
         return Err(Refused::OutOfMemory);
     };
-    let channels = new_channels(alloc, config.depth)?;
+    let channels = Channels::new(alloc, config.depth)?;
     let (glances, pens, looks) = Glances::new(alloc, workers)?;
     Ok(Parts {
         vaults,

@@ -3,9 +3,7 @@ ghost use Rattle.std.specs.Prelude.{◌≡◌};
 ghost use Rattle.xh_model.specs.declared.limits.TheConstants.{PLACES};
 
 use crate::arenas::Arenas;
-use crate::lent::Lent;
 use crate::names::Names;
-use std::sync::Wait;
 use xh_channel::Channels;
 use xh_glance::Glances;
 use xh_place::Body;
@@ -21,14 +19,4 @@ pub(crate) struct Shared<N: Names> {
     pub(crate) arenas: Arenas<N>,
     ghost named: { (records ≡ N.parts.records) × (glances ≡ N.parts.glances) × (channels.depth ≡ N.parts.depth) },
     ghost places: { records.shape.places ≡ PLACES },
-}
-
-impl<N: Names> Shared<N> {
-    // The vaults, each under its arena's lock for one call.
-    pub(crate) fn vaults<'a, R: Wait>(&'a self, rt: &'a R) -> Lent<'a, N, R> {
-        Lent {
-            rt,
-            arenas: &self.arenas,
-        }
-    }
 }

@@ -1,8 +1,8 @@
 -- What one look for a message does to the place.
 use Rattle.std.specs.Prelude.{◌≢◌, ℕ, IfErr}
 use Rattle.xh_core.specs.declared.refused.Refused.TheVariants.{Empty}
-use Rattle.xh_kernel.specs.declared.held.messages.Look.{Look}
-use Rattle.xh_kernel.specs.declared.held.messages.Look.TheVariants.{Done, Later}
+use Rattle.xh_kernel.specs.declared.held.Look.{Look}
+use Rattle.xh_kernel.specs.declared.held.Look.TheVariants.{Done, Later}
 use Rattle.xh_kernel.specs.Messages.{Takes}
 use Rattle.xh_place.specs.Places.{PlaceOf}
 

@@ -6,6 +6,7 @@ ghost use Rattle.xh_kernel.specs.Calls.{Allocates, Splits, Reads, Writes, Frees}
 ghost use Rattle.xh_model.specs.declared.limits.TheConstants.{MAX_RECORDS};
 
 use crate::account::Account;
+use crate::held::Held;
 use crate::kernel::Kernel;
 use crate::names::Names;
 use std::alloc::Global;
@@ -31,8 +32,14 @@ impl<N: Names> Kernel<N> {
         ensures account { MatchResult result (λ b. account.new ≡ has_taken arena b.len account.old) (λ _. account.new ≡ account.old) }
         ensures place { (old : PlaceOf) × (new : PlaceOf) × IsPlaceOf N.parts.records old × Allocates N.parts p n arena old new result }
     {
-        let mut held = self.lock_of(p).lock(rt);
-        held.alloc(rt, alloc, &self.shared, p, n, arena, account, gate)
+        let mut guard = self.lock_of(p).lock(rt);
+        let held: &mut Held<N> = &mut guard;
+        held.start(p)?;
+        let tallies = account.tallies.as_mut_slice();
+        let mut desk = desk!(rt, self.shared, gate, tallies);
+        let answer = held.place.alloc(alloc, &mut desk, n, arena);
+        held.teller.tell(&self.shared.glances, &held.place);
+        answer
     }
 
     /// Cuts a data block after its first `k` bytes, a multiple of 16: the head, which keeps its record, and
@@ -51,8 +58,13 @@ impl<N: Names> Kernel<N> {
     ) -> Result<(Block, Block), Refused>
         ensures { (old : PlaceOf) × (new : PlaceOf) × IsPlaceOf N.parts.records old × Splits p r k old new result }
     {
-        let mut held = self.lock_of(p).lock(rt);
-        held.split(rt, alloc, &self.shared, p, r, k, gate)
+        let mut guard = self.lock_of(p).lock(rt);
+        let held: &mut Held<N> = &mut guard;
+        held.start(p)?;
+        let mut desk = desk!(rt, self.shared, gate, &mut []);
+        let answer = held.place.split(alloc, &mut desk, r, k);
+        held.teller.tell(&self.shared.glances, &held.place);
+        answer
     }
 
     /// The bytes of a data block from `at` on, as many as `out` has.
@@ -70,8 +82,10 @@ impl<N: Names> Kernel<N> {
     ) -> Result<(), Refused>
         ensures { (place : PlaceOf) × IsPlaceOf N.parts.records place × Reads p r at place out.old out.new result }
     {
-        let mut held = self.lock_of(p).lock(rt);
-        held.read(&self.shared, p, r, at, out)
+        let mut guard = self.lock_of(p).lock(rt);
+        let held: &mut Held<N> = &mut guard;
+        held.start(p)?;
+        held.place.read(&self.shared.records, r, at, out)
     }
 
     /// These bytes stand in a data block in the place of as many from `at` on.
@@ -88,8 +102,12 @@ impl<N: Names> Kernel<N> {
     ) -> Result<(), Refused>
         ensures { (old : PlaceOf) × (new : PlaceOf) × IsPlaceOf N.parts.records old × Writes p r at bytes.now old new result }
     {
-        let mut held = self.lock_of(p).lock(rt);
-        held.write(&self.shared, p, r, at, bytes)
+        let mut guard = self.lock_of(p).lock(rt);
+        let held: &mut Held<N> = &mut guard;
+        held.start(p)?;
+        let answer = held.place.write(&self.shared.records, r, at, bytes);
+        held.teller.tell(&self.shared.glances, &held.place);
+        answer
     }
 
     /// A data block's bytes go back, and its record is free. It answers the bytes.
@@ -106,7 +124,13 @@ impl<N: Names> Kernel<N> {
         ensures account { MatchResult result (λ n. account.new ≡ has_given (r / MAX_RECORDS) n account.old) (λ _. account.new ≡ account.old) }
         ensures place { (old : PlaceOf) × (new : PlaceOf) × IsPlaceOf N.parts.records old × Frees p r old new result }
     {
-        let mut held = self.lock_of(p).lock(rt);
-        held.free(rt, &self.shared, p, r, account, gate)
+        let mut guard = self.lock_of(p).lock(rt);
+        let held: &mut Held<N> = &mut guard;
+        held.start(p)?;
+        let tallies = account.tallies.as_mut_slice();
+        let mut desk = desk!(rt, self.shared, gate, tallies);
+        let answer = held.place.free(&mut desk, r);
+        held.teller.tell(&self.shared.glances, &held.place);
+        answer
     }
 }

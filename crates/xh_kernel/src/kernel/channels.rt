@@ -10,13 +10,21 @@ ghost use Rattle.xh_kernel.specs.Places.{start};
 ghost use Rattle.xh_kernel.specs.Reclaims.{HasBack, HasUnwired};
 
 use crate::account::Account;
-use crate::held::Wired;
+use crate::held::Held;
 use crate::kernel::Kernel;
 use crate::names::Names;
 use std::sync::Wait;
 use xh_channel::Spot;
 use xh_core::{Block, Contract, Refused};
 use xh_place::Gate;
+
+/// A channel whose side 1 is on its way: both ends' blocks, and the spot of side 0.
+#[derive(Drop)]
+struct Wired {
+    low: Block,
+    high: Block,
+    spot: Spot,
+}
 
 impl<N: Names> Kernel<N> {
     /// Both ends of a new channel come to the process: side 0 and side 1, each of 32 bytes, the halves of
@@ -133,8 +141,16 @@ impl<N: Names> Kernel<N> {
         ensures exists { IfOk result (λ w. IsRecord N.parts.records.shape w.high.rec) }
         ensures account { MatchResult result (λ _. account.new ≡ has_taken arena (2 * END_BYTES) account.old) (λ _. account.new ≡ account.old) }
     {
-        let mut held = self.lock_of(p).lock(rt);
-        held.open_toward(rt, &self.shared, p, arena, contract, account, gate)
+        let mut guard = self.lock_of(p).lock(rt);
+        let held: &mut Held<N> = &mut guard;
+        let (low, high) = held.open(rt, &self.shared, p, arena, contract, account, gate)?;
+        let records = &self.shared.records;
+        let Some(spot) = held.place.spot(records, low.rec) else {
+            unreachable!()
+        };
+        held.place.pass_end(records, high.rec, 2 * spot.channel + 1);
+        held.teller.tell(&self.shared.glances, &held.place);
+        Ok(Wired { low, high, spot })
     }
 
     // Side 1 goes to `q`. Where that has ended, side 0 is closed.
@@ -174,7 +190,13 @@ impl<N: Names> Kernel<N> {
         ensures account { MatchResult result (λ _. account.new ≡ account.old) (λ _. (bytes : ℕ) × HasBack bytes account.old account.new) }
         ensures here { IfOk result (λ _. Receives N.parts q r) }
     {
-        let mut held = self.lock_of(q).lock(rt);
-        held.accept_end(rt, &self.shared, q, r, spot, account, gate)
+        let mut guard = self.lock_of(q).lock(rt);
+        let held: &mut Held<N> = &mut guard;
+        let tallies = account.tallies.as_mut_slice();
+        let mut desk = desk!(rt, self.shared, gate, tallies);
+        let place = &mut held.place;
+        let answer = place.accept_end(&mut desk, q, r, 2 * spot.channel + 1);
+        held.teller.tell(&self.shared.glances, &held.place);
+        answer
     }
 }

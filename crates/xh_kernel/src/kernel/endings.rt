@@ -7,6 +7,7 @@ ghost use Rattle.xh_kernel.specs.Places.{start};
 ghost use Rattle.xh_kernel.specs.Reclaims.{HasReclaimed};
 
 use crate::account::Account;
+use crate::held::Held;
 use crate::kernel::Kernel;
 use crate::names::Names;
 use std::sync::Wait;
@@ -49,8 +50,17 @@ impl<N: Names> Kernel<N> {
         ensures account { HasReclaimed account.old account.new result }
         ensures place { (old : PlaceOf) × (new : PlaceOf) × IsPlaceOf N.parts.records old × Stops p budget old new result }
     {
-        let mut held = self.lock_of(p).lock(rt);
-        held.stop(rt, &self.shared, p, budget, account, gate)
+        let mut guard = self.lock_of(p).lock(rt);
+        let held: &mut Held<N> = &mut guard;
+        held.check_stop(p)?;
+        let tallies = account.tallies.as_mut_slice();
+        let mut desk = desk!(rt, self.shared, gate, tallies);
+        let answer = held.place.stop(&mut desk, budget);
+        held.teller.tell(&self.shared.glances, &held.place);
+        if let Some(spot) = held.waits.take() {
+            self.shared.channels.rouse(rt, spot);
+        }
+        answer
     }
 
     /// The process `by` ends the process `victim`, as `exit` does.

@@ -4,7 +4,7 @@ ghost use Rattle.xh_core.specs.declared.refused.Refused.TheVariants as refused;
 ghost use Rattle.xh_place.specs.Places.{IsPlaceOf, PlaceOf};
 ghost use Rattle.xh_kernel.specs.Messages.{Gives, Takes};
 
-use crate::held::Look;
+use crate::held::{Held, Look};
 use crate::kernel::Kernel;
 use crate::names::Names;
 use std::sync::Wait;
@@ -29,8 +29,13 @@ impl<N: Names> Kernel<N> {
     ) -> Result<u64, Refused>
         ensures { (old : PlaceOf) × (new : PlaceOf) × IsPlaceOf N.parts.records old × Gives p e blocks.now old new result }
     {
-        let mut held = self.lock_of(p).lock(rt);
-        held.give(rt, &self.shared, p, e, tag, blocks, gate)
+        let mut guard = self.lock_of(p).lock(rt);
+        let held: &mut Held<N> = &mut guard;
+        held.start(p)?;
+        let desk = desk!(rt, self.shared, gate);
+        let answer = held.place.give(&desk, e, tag, blocks);
+        held.teller.tell(&self.shared.glances, &held.place);
+        answer
     }
 
     /// Takes the message at the front of the direction toward the endpoint `e`. Its blocks are the

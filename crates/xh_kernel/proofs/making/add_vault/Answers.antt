@@ -15,4 +15,4 @@ returns-clause-makings c =
     (ap (λ (z : VaultOf). z.arena.records) e) (ap (λ (z : VaultOf). length z.arena.cover) e ∙ length-replicate size _) (ap (λ (z : VaultOf). z.arena.limit) e) in
     let made = makings_more _ w n size wear c.args.makings.vaults.items c.args.makings.lots.items c.in-Ok.more.items c.args.makings.names v
     (λ b new. ap (λ (z : Body). fits_in z 0) new) c.requires.makings is c.in-Ok.ensures.lots in
-    rw (c.in_ok-push.ensures.items, c.in_ok-push_back.ensures.items, c.in_ok-lots.ensures, c.name.ensures.same, c.name.ensures.name) made
+    rw (c.in_ok-push.ensures.items, c.in_ok-push_back.ensures.items, c.in_ok-append.ensures.items, c.name.ensures.same, c.name.ensures.name) made

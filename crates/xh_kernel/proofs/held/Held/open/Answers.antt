@@ -1,12 +1,6 @@
-use Rattle.std.proofs.Common.{rules, ◌≡◌, ◌*◌, List, sym, subst, ◌∙◌}
-use Rattle.std.specs.Prelude.{MatchResult}
+use Rattle.std.proofs.Common.{rules, sym, ◌∙◌}
 use Rattle.std.proofs.lemmas.List.{with_items_is, places}
-use Rattle.xh_arena.specs.Views.{TallyOf}
-use Rattle.xh_model.specs.declared.limits.TheConstants.{END_BYTES}
-use Rattle.xh_kernel.specs.Accounts.{has_taken}
-use Rattle.xh_kernel.proofs.Ended.{account_of}
-use Rattle.xh_kernel.proofs.Listed.{listed}
-use Rattle.xh_kernel.proofs.Taken.{opened}
+use Rattle.xh_kernel.proofs.Moved.{listed, opened}
 use Rattle.xh_kernel.proofs.held.Held.open.Goals as goal
 
 pub returns-clause-ends : goal.returns-clause-ends
@@ -17,10 +11,5 @@ returns-clause-ends g c =
 
 pub returns-clause-account : goal.returns-clause-account
 returns-clause-account g c =
-    subst (λ (ts : List TallyOf). MatchResult c.finish.result (λ _. account_of c.account.inside.number ts ≡ has_taken c.args.arena (2 * END_BYTES) c.args.account.now)
-    (λ _. account_of c.account.inside.number ts ≡ c.args.account.now))
-    (sym (with_items_is c.account.inside.tallies _ (search (rules, places)) ∙ c.tallies-1.given.1.1 (sym c.open-opened.ensures.same.0.5)))
-    (opened c.account.inside.number c.account.inside.tallies.items c.as_mut_slice-tallies.result.now c.open-opened.new.desk.tallies.now
-    c.args.account.now c.account.view_is c.as_mut_slice-tallies.ensures.value
-    c.in_ok-low.low c.in_ok-low.high c.args.self.now.place c.open-opened.new.self c.args.arena c.open-opened.result c.finish.result
-    c.open-opened.ensures.opened c.finish.ensures)
+    opened c.account.view_is c.as_mut_slice-tallies.ensures.value (with_items_is c.account.inside.tallies _ (search (rules, places)) ∙ c.tallies-1.given.1.1 (sym c.open-opened.ensures.same.0.5))
+    c.in_ok-low.low c.in_ok-low.high c.args.self.now.place c.open-opened.new.self c.args.arena c.open-opened.result c.finish.result c.open-opened.ensures.opened c.finish.ensures

@@ -1,17 +1,26 @@
-use Rattle.std.proofs.Common.{rules, ◌≡◌, sym, subst, inr}
+use Rattle.std.proofs.Common.{rules, ◌≡◌, ◌∙◌, sym, subst, inr}
 use Rattle.std.specs.Prelude.{Err, is_some}
+use Rattle.xh_core.proofs.Firsts.{first_append, first_later}
 use Rattle.xh_kernel.specs.Channels.{Wires}
 use Rattle.xh_kernel.specs.Places.{start}
-use Rattle.xh_kernel.proofs.Wired.{neither, second, wired}
+use Rattle.xh_kernel.proofs.Started.{refused_why}
+use Rattle.xh_kernel.proofs.Wired.{neither, wired}
 use Rattle.xh_kernel.proofs.kernel.Kernel.connect.Goals as goal
+
+pub returns-in_err-look_at-clause-first : goal.returns-in_err-look_at-clause-first
+returns-in_err-look_at-clause-first g c =
+    let a = c.in_err-look_at.ensures in
+    (a.0, a.0, a.1, a.1, refused_why _ c.from_residual.result c.in_err-look_at.field-0.0 (first_append (start c.args.p a.0) (start c.args.q a.0) _ a.2) (search rules) _)
 
 pub returns-in_err-look_at-2-clause-first : goal.returns-in_err-look_at-2-clause-first
 returns-in_err-look_at-2-clause-first g c =
-    let a = c.in_ok-look_at.ensures in let b = c.in_err-look_at-2.ensures in
-    let result = c.from_residual-in_err-look_at-2.result in
-    let e : result ≡ Err c.in_err-look_at-2.field-0.0 = search rules in
-    let wires = Wires g.N.Names.parts c.args.p c.args.q c.args.arena (is_some c.args.contract) in
-    (a.0, b.0, a.1, b.1, second (start c.args.p a.0) (start c.args.q b.0) (wires result) result c.in_err-look_at-2.field-0.0 a.2.0 b.2 e)
+    let a = c.in_ok-look_at.ensures in let b = c.in_err-look_at-2.ensures in (
+      a.0,
+      b.0,
+      a.1,
+      b.1,
+      refused_why _ c.from_residual-in_err-look_at-2.result c.in_err-look_at-2.field-0.0 (first_later (start c.args.p a.0) (start c.args.q b.0) a.2.0 ∙ b.2) (search rules) _,
+    )
 
 pub returns-in_err-wired-clause-first : goal.returns-in_err-wired-clause-first
 returns-in_err-wired-clause-first g c =

@@ -1,5 +1,5 @@
 use Rattle.std.proofs.Common.{refl, ◌+◌}
-use Rattle.xh_kernel.proofs.Reclaims.{both_back}
+use Rattle.xh_kernel.proofs.Moved.{both_back}
 use Rattle.xh_kernel.proofs.kernel.Kernel.hand_over.Goals as goal
 
 pub returns-clause-account : goal.returns-clause-account

@@ -1,7 +1,7 @@
 use Rattle.std.proofs.Common.{rules, ℕ}
 use Rattle.xh_kernel.proofs.Lists.{each_push}
 use Rattle.xh_place.specs.Places.{IsPlaceOf, PlaceOf}
-use Rattle.xh_kernel.proofs.kernel.settling.unlock_places.Goals as goal
+use Rattle.xh_kernel.proofs.kernel.unlock_places.Goals as goal
 
 pub loop-lock-preserved : goal.loop-lock-preserved
 loop-lock-preserved g c =

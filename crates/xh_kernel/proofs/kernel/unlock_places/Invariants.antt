@@ -1,7 +1,7 @@
 use Rattle.std.proofs.Common.{◌≡◌, ◌+◌, All, vec_len}
 use Rattle.xh_place.specs.Places.{IsPlaceOf}
 use Rattle.std.specs.Vec.Iter.{into_iter_len}
-use Rattle.xh_kernel.proofs.kernel.settling.unlock_places.Given as goal
+use Rattle.xh_kernel.proofs.kernel.unlock_places.Given as goal
 
 abbrev pub invariant-loop-lock : goal.invariant-loop-lock
 invariant-loop-lock g l =
