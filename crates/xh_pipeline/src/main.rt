@@ -8,6 +8,7 @@
 
 mod pipeline;
 mod player;
+mod process;
 mod producer;
 mod protocol;
 mod sink;
@@ -19,17 +20,21 @@ use crate::pipeline::run_pipeline;
 use std::process::ExitCode;
 
 fn main(rt: HostRuntime) -> ExitCode {
-    let Ok((whole, ledger)) = run_pipeline(&rt, rt.alloc()) else {
-        let _ = eprintln!(rt; "the pipeline could not be run");
-        return ExitCode::FAILURE;
-    };
-    let told = println!(rt;
-        "{whole} rounds came whole through both stages\nowned {}\nflight {}\nout {}",
-        ledger.owned, ledger.flight, ledger.out
-    );
-    if told.is_ok() {
-        ExitCode::SUCCESS
-    } else {
-        ExitCode::FAILURE
+    match run_pipeline(&rt, rt.alloc()) {
+        Ok((whole, ledger)) => {
+            let told = println!(rt;
+                "{whole} rounds came whole through both stages\nowned {}\nflight {}\nout {}",
+                ledger.owned, ledger.flight, ledger.out
+            );
+            if told.is_ok() {
+                ExitCode::SUCCESS
+            } else {
+                ExitCode::FAILURE
+            }
+        }
+        Err(_refused) => {
+            let _ = eprintln!(rt; "the pipeline could not be run");
+            ExitCode::FAILURE
+        }
     }
 }

@@ -1,10 +1,9 @@
 //! The sink: it checks each block and frees it.
 
-use crate::player::Player;
+use crate::process::{Process, take_ends};
 use crate::protocol::{AGAIN, EACH, END, LOST, MARK, WHOLE};
 use std::sync::Wait;
 use xh_core::Refused;
-use xh_kernel::Names;
 
 /// How many rounds came whole, and how many blocks of the next one came by now.
 #[derive(Clone, Copy)]
@@ -20,39 +19,39 @@ fn expected(count: Count) -> u8 {
 }
 
 // Checks a block and frees it; after the last of a round the producer is told.
-fn check<N: Names, R: Wait>(
-    player: &mut Player<N, R>,
+fn check<P: Process>(
+    player: &mut P,
     answers: u16,
     block: u16,
-    count: Count,
-) -> Result<Count, Refused> {
-    let is_next = player.first(block)? == expected(count);
-    player.free(block)?;
-    let blocks = count.blocks.wrapping_add(u8::from(is_next));
-    if blocks < EACH {
-        return Ok(Count { blocks, ..count });
+    count: &mut Count,
+) -> Result<(), Refused> {
+    if player.first(block)? == expected(*count) {
+        count.blocks = count.blocks.wrapping_add(1);
     }
-    player.give(answers, WHOLE, &[])?;
-    Ok(Count {
-        rounds: count.rounds.wrapping_add(1),
-        blocks: 0,
-    })
+    player.free(block)?;
+    if count.blocks >= EACH {
+        player.give(answers, WHOLE, &[])?;
+        count.rounds = count.rounds.wrapping_add(1);
+        count.blocks = 0;
+    }
+    Ok(())
 }
 
 /// Checks all that comes, and ends. It answers how many rounds came whole.
-pub(crate) fn drain<N: Names, R: Wait>(
-    player: &mut Player<N, R>,
+pub(crate) fn drain<P: Process, R: Wait>(
+    rt: &R,
+    player: &mut P,
     control: u16,
 ) -> Result<u8, Refused> {
-    let (input, answers) = player.take_ends(control)?;
+    let (input, answers) = take_ends(player, control)?;
     let mut count = Count {
         rounds: 0,
         blocks: 0,
     };
-    for _ in player.rt.forever() {
+    for _ in rt.forever() {
         let message = player.take(input)?;
         if let Some(block) = message.first {
-            count = check(player, answers, block, count)?;
+            check(player, answers, block, &mut count)?;
         } else if message.tag == LOST {
             player.give(answers, AGAIN, &[])?;
             count.blocks = 0;

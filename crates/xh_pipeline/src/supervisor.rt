@@ -1,42 +1,26 @@
 //! The supervisor: it connects the others, and starts a new process in place of one that hangs.
 
-use crate::player::Player;
+use crate::process::Process;
 use crate::protocol::{ENDS, HUNG, LIMIT};
 use crate::staff::{Role, Staff};
 use crate::stage::stage;
 use std::sync::Wait;
 use xh_core::Refused;
-use xh_kernel::Names;
-use xh_place::OpenGate;
-
-// A channel between two others: both of its ends are the supervisor's.
-fn open<N: Names, R: Wait>(player: &mut Player<N, R>) -> Result<(u16, u16), Refused> {
-    let account = &mut player.account;
-    let (low, high) = player
-        .kernel
-        .open(player.rt, player.process, 0, account, &OpenGate)?;
-    Ok((low.rec, high.rec))
-}
 
 // A new process, with a channel to the supervisor.
-fn employ<N: Names, R: Wait>(player: &mut Player<N, R>, role: Role) -> Result<Staff, Refused> {
-    let process = player.kernel.spawn(player.rt, &OpenGate)?;
-    let account = &mut player.account;
-    let (mine, theirs) = player
-        .kernel
-        .wire(player.rt, player.process, process, 0, account, &OpenGate)?;
+fn employ<P: Process>(player: &mut P, role: Role) -> Result<Staff, Refused> {
+    let process = player.spawn()?;
+    let (mine, theirs) = player.wire(process)?;
     Ok(Staff {
         role,
         process,
-        mine: mine.rec,
-        theirs: theirs.rec,
+        mine,
+        theirs,
     })
 }
 
 /// The producer, the first stage, which will hang, the second one and the sink.
-pub(crate) fn employ_all<N: Names, R: Wait>(
-    player: &mut Player<N, R>,
-) -> Result<[Staff; 4], Refused> {
+pub(crate) fn employ_all<P: Process>(player: &mut P) -> Result<[Staff; 4], Refused> {
     Ok([
         employ(player, Role::Producer)?,
         employ(player, Role::Stage { limit: Some(LIMIT) })?,
@@ -46,11 +30,11 @@ pub(crate) fn employ_all<N: Names, R: Wait>(
 }
 
 // Gives each process the ends of its channels.
-fn connect<N: Names, R: Wait>(player: &mut Player<N, R>, staff: [Staff; 4]) -> Result<(), Refused> {
-    let (to_first, from_producer) = open(player)?;
-    let (to_second, from_first) = open(player)?;
-    let (to_sink, from_second) = open(player)?;
-    let (to_producer, from_sink) = open(player)?;
+fn connect<P: Process>(player: &mut P, staff: [Staff; 4]) -> Result<(), Refused> {
+    let (to_first, from_producer) = player.open()?;
+    let (to_second, from_first) = player.open()?;
+    let (to_sink, from_second) = player.open()?;
+    let (to_producer, from_sink) = player.open()?;
     player.give(staff[0].mine, ENDS, &[to_first, from_sink])?;
     player.give(staff[1].mine, ENDS, &[from_producer, to_second])?;
     player.give(staff[2].mine, ENDS, &[from_first, to_sink])?;
@@ -58,48 +42,43 @@ fn connect<N: Names, R: Wait>(player: &mut Player<N, R>, staff: [Staff; 4]) -> R
 }
 
 // Kills the process that hangs; a new one stands between its neighbours.
-fn replace<N: Names, R: Wait>(
-    player: &mut Player<N, R>,
-    staff: [Staff; 4],
-) -> Result<Staff, Refused> {
-    let account = &mut player.account;
-    let victim = staff[1].process;
-    player.kernel.kill(player.rt, player.process, victim, 4096, account, &OpenGate)?;
+fn replace<P: Process>(player: &mut P, staff: [Staff; 4]) -> Result<Staff, Refused> {
+    player.kill(staff[1].process)?;
     let new = employ(player, Role::Stage { limit: None })?;
-    let (to_new, from_producer) = open(player)?;
-    let (to_second, from_new) = open(player)?;
+    let (to_new, from_producer) = player.open()?;
+    let (to_second, from_new) = player.open()?;
     player.give(new.mine, ENDS, &[from_producer, to_second])?;
     player.give(staff[0].mine, ENDS, &[to_new])?;
     player.give(staff[2].mine, ENDS, &[from_new])?;
     Ok(new)
 }
 
-// Connects all, waits until the first stage hangs, and replaces it.
-fn supervise<N: Names, R: Wait>(
-    player: &mut Player<N, R>,
-    staff: [Staff; 4],
-) -> Result<Staff, Refused> {
-    connect(player, staff)?;
-    if player.take(staff[1].mine)?.tag == HUNG {
-        replace(player, staff)
-    } else {
-        Err(Refused::NotEndpoint)
-    }
-}
-
-/// Runs the pipeline to its end; the thread of the supervisor does the calls of the new stage too. Where
-/// something is refused the supervisor ends, and with it the others, since each waits for it at first.
-pub(crate) fn lead<N: Names, R: Wait>(
-    player: &mut Player<N, R>,
+// Connects all, waits until the first stage hangs, and replaces it; then the thread of the supervisor does the calls
+// of the new stage too.
+fn supervise<P: Process, R: Wait>(
+    rt: &R,
+    player: &mut P,
     staff: [Staff; 4],
 ) -> Result<(), Refused> {
-    let replaced = supervise(player, staff);
-    if let Ok(new) = replaced {
-        let own = player.process;
-        player.process = new.process;
-        let passed = stage(player, new.theirs, None);
-        player.process = own;
-        passed?;
+    connect(player, staff)?;
+    if player.take(staff[1].mine)?.tag != HUNG {
+        return Err(Refused::NotEndpoint);
     }
-    player.exit()
+    let new = replace(player, staff)?;
+    let own = player.act_as(new.process);
+    let passed = stage(rt, player, new.theirs, None);
+    let _new = player.act_as(own);
+    passed
+}
+
+/// Runs the pipeline to its end. Where something is refused the supervisor ends, and with it the others, since each
+/// waits for it at first.
+pub(crate) fn lead<P: Process, R: Wait>(
+    rt: &R,
+    player: &mut P,
+    staff: [Staff; 4],
+) -> Result<(), Refused> {
+    let supervised = supervise(rt, player, staff);
+    player.exit()?;
+    supervised
 }

@@ -1,6 +1,0 @@
-use Rattle.std.proofs.Common.{◌≡◌, ◌+◌, vec_len}
-use Rattle.std.specs.Vec.Iter.{into_iter_len}
-use Rattle.xh_pipeline.proofs.pipeline.join_all.Given as goal
-
-abbrev pub invariant-loop-handle : goal.invariant-loop-handle
-invariant-loop-handle g l = vec_len l.accounts + into_iter_len l.handle-iterator ≡ vec_len l.fn.handles
