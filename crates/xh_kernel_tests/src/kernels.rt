@@ -1,54 +1,29 @@
-//! Worked examples by calls of a kernel, by one worker.
-ghost use Rattle.std.specs.Prelude.{◌≡◌, ◌≤◌};
+//! A kernel on threads, by calls.
+ghost use Rattle.std.specs.Prelude.{◌≡◌, vec_len};
 
-mod answers;
-mod bench;
-mod blocks;
-mod contracts;
-mod endings;
-mod growths;
-mod messages;
 mod passing;
-mod places;
 mod waiting;
 mod wiring;
-mod without_memory;
 
-use answers::{Answer, Call, assert_answers};
-use bench::{Bench, Left, bench_of};
 use std::alloc::Global;
 use std::marker::Brand;
 use std::process::Abort;
 use std::sync::Wait;
-use std::test::Fail;
 use std::thread::Threads;
 use waiting::Ender;
-use xh_core::{Config, Refused};
-use xh_kernel::{Names, Parts};
+use xh_books::close_books;
+use xh_core::{Config, Ledger, Refused};
+use xh_kernel::{Account, Kernel, Names, Parts};
+use xh_place::OpenGate;
 
-/// A test over a kernel, which is taken apart at its end: calls and what they answer, or calls and then how many arenas
-/// there are, of which the last has handed out so many bytes; each process in turn; threads; refused growths of memory.
+/// What is tried on a kernel: no call; ten messages from one thread to another; rounds of a process that waits, which
+/// answers so once its wait is ended; a wire to a process that ends.
 #[derive(Clone, Copy)]
-enum Case<'a> {
-    Answers(&'a [(Call<'a>, Answer)]),
-    Settling(&'a [(Call<'a>, Answer)], usize, u32),
-    PlacesByGeneration,
+enum Case {
+    Nothing,
     TenMessages,
     Waits(Ender, u64),
     WireToOneThatEnds,
-    Growths,
-    WithoutMemory,
-}
-
-/// A configuration of arenas of so many bytes and records.
-fn arenas_of(arenas: u8, bytes: u32, records: u16) -> Config {
-    Config {
-        arenas,
-        bytes,
-        records,
-        depth: 4,
-        wear: 1000,
-    }
 }
 
 /// A configuration of one arena of so many bytes, in which so many messages wait in a direction.
@@ -56,88 +31,106 @@ fn waiting_of(bytes: u32, depth: u8) -> Config {
     Config {
         arenas: 1,
         bytes,
-        records: 8,
+        records: 16,
         depth,
-        wear: 1000,
+        wear: 1_000_000,
     }
 }
 
-/// Makes the case's calls on the bench. Whether none of them went without a growth that was refused.
+/// The processes 0 and 1 start.
+fn assert_two_start<N: Names, R: Wait + Abort>(rt: &R, kernel: &Kernel<N>) {
+    let one = kernel.spawn(rt, &OpenGate);
+    let other = kernel.spawn(rt, &OpenGate);
+    assert!(rt; matches!((one, other), (Ok(0), Ok(1))));
+}
+
+/// Tries the case on a kernel.
 fn lend<N: Names + Send + Sync, R: Threads + Wait + Abort + Sync>(
     rt: &R,
     alloc: Global,
-    bench: &mut Bench<N>,
+    kernel: &Kernel<N>,
+    accounts: &mut [Account<N>],
     case: Case,
-) -> bool {
+) {
+    let Some((mine, others)) = accounts.split_first_mut() else {
+        panic!(rt; "no worker");
+    };
     match case {
-        Case::Answers(calls) | Case::Settling(calls, ..) => assert_answers(rt, alloc, bench, calls),
-        Case::PlacesByGeneration => places::assert_generations(rt, alloc, bench),
-        Case::TenMessages => passing::assert_ten(rt, alloc, bench),
-        Case::Waits(ender, want) => waiting::assert_rounds(rt, alloc, bench, ender, want),
-        Case::WireToOneThatEnds => wiring::assert_refused(rt, alloc, bench),
-        Case::Growths => growths::assert_again(rt, alloc, bench),
-        Case::WithoutMemory => return without_memory::is_whole(rt, alloc, bench),
-    }
-    true
-}
-
-/// Compares what is left of the case's kernel.
-fn assert_left(rt: &impl Abort, case: Case, left: &Left) {
-    match case {
-        Case::Settling(_, arenas, bytes) => places::assert_settled(rt, left, arenas, bytes),
-        Case::Growths => growths::assert_left(rt, left),
-        _ => {}
+        Case::Nothing => {}
+        Case::TenMessages => passing::assert_ten(rt, alloc, kernel, mine),
+        Case::Waits(ender, want) => waiting::assert_rounds(rt, alloc, kernel, mine, ender, want),
+        Case::WireToOneThatEnds => wiring::assert_refused(rt, kernel, mine, others),
     }
 }
 
-/// The case, over a kernel made of the parts, which is then taken apart.
-fn over<N: Names + Send + Sync, R: Threads + Wait + Abort + Sync>(
+/// The ledger of a kernel, which is taken apart.
+fn ledger_of<N: Names>(
+    alloc: Global,
+    kernel: Kernel<N>,
+    accounts: Vec<Account<N>>,
+) -> Result<Ledger, Refused>
+    requires { vec_len accounts ≡ N.parts.workers }
+{
+    match kernel.settle(alloc) {
+        Ok((vaults, places, records)) => close_books(alloc, vaults, places, records, accounts),
+        Err(refused) => Err(refused),
+    }
+}
+
+/// The case on a kernel of the parts; its ledger.
+fn on_parts<N: Names + Send + Sync, R: Threads + Wait + Abort + Sync>(
     rt: &R,
     alloc: Global,
     parts: Parts,
     case: Case,
-) -> Result<(), Refused>
-    requires { (parts ≡ N.parts) × (1 ≤ parts.workers) }
+) -> Result<Ledger, Refused>
+    requires { parts ≡ N.parts }
 {
-    let mut bench = bench_of::<N>(alloc, parts)?;
-    let whole = lend(rt, alloc, &mut bench, case);
-    let left = bench.settle(alloc)?;
-    assert!(rt; whole);
-    assert_left(rt, case, &left);
-    Ok(())
+    let (kernel, mut accounts, looks) = match Kernel::<N>::new(alloc, parts) {
+        Ok(made) => made,
+        Err(refused) => return Err(refused),
+    };
+    drop(looks);
+    lend(rt, alloc, &kernel, &mut accounts, case);
+    ledger_of(alloc, kernel, accounts)
 }
 
-/// The case, over a new kernel of one worker, or of two where it asks for another.
-fn with_kernel<R: Threads + Wait + Abort + Sync>(
+/// The case on a new kernel for so many workers; its ledger.
+fn on_kernel<R: Threads + Wait + Abort + Sync>(
+    rt: &R,
+    alloc: Global,
+    config: Config,
+    workers: u8,
+    case: Case,
+) -> Result<Ledger, Refused> {
+    let parts = Parts::new(alloc, config, workers)?;
+    on_parts::<Brand, R>(rt, alloc, parts, case)
+}
+
+/// The case on a new kernel for two workers.
+fn assert_case<R: Threads + Wait + Abort + Sync>(
     rt: &R,
     alloc: Global,
     config: Config,
     case: Case,
-) -> Result<(), Refused> {
-    let workers = if matches!(case, Case::WireToOneThatEnds) {
-        2
-    } else {
-        1
-    };
-    let parts = Parts::new(alloc, config, workers)?;
-    over::<Brand, R>(rt, alloc, parts, case)
+) {
+    let ledger = on_kernel(rt, alloc, config, 2, case);
+    assert!(rt; ledger.is_ok());
 }
 
-/// Each call on a new kernel, and what it answers.
-fn assert_on<R: Threads + Wait + Abort + Sync>(
+/// What the making of a kernel answers: the name of a refusal, or nothing.
+fn made<R: Threads + Wait + Abort + Sync>(
     rt: &R,
     alloc: Global,
-    config: Config,
-    calls: &[(Call, Answer)],
-) -> Result<(), Fail> {
-    with_kernel(rt, alloc, config, Case::Answers(calls))?;
-    Ok(())
-}
-
-/// What the making of the parts answers: the name of a refusal, or nothing.
-fn made(alloc: Global, config: Config, workers: u8) -> &'static str {
-    match Parts::new(alloc, config, workers) {
-        Ok(_parts) => "",
+    arenas: u8,
+    workers: u8,
+) -> &'static str {
+    let config = Config {
+        arenas,
+        ..waiting_of(16, 4)
+    };
+    match on_kernel(rt, alloc, config, workers, Case::Nothing) {
+        Ok(_ledger) => "",
         Err(refused) => refused.name(),
     }
 }
@@ -153,7 +146,6 @@ fn limits_of_parts(rt: HostRuntime) {
         (0, 1, "BadSize"),
     ];
     for (arenas, workers, expected) in LIMITS {
-        let config = arenas_of(*arenas, 16, 1);
-        assert_eq!(rt; made(rt.alloc(), config, *workers), *expected);
+        assert_eq!(rt; made(&rt, rt.alloc(), *arenas, *workers), *expected);
     }
 }

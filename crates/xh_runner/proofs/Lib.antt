@@ -1,4 +1,1 @@
-pub mod Ends
-pub mod Bindings
-pub mod Worlds
 pub mod Lines

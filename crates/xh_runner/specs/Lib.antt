@@ -1,9 +1,2 @@
-pub mod Reading
-pub mod Bindings
-pub mod Receiving
-pub mod Meaning
-pub mod Worlds
-pub mod Output
 pub mod Reports
-pub mod Ends
 pub mod inner

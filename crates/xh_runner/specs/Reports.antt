@@ -1,17 +1,13 @@
 -- What a run leaves.
-use Rattle.std.specs.Prelude.{◌≡◌, ◌++◌, ℕ, All, List, length, map}
+use Rattle.std.specs.Prelude.{◌≡◌, ℕ, All, List, length, map}
 use Rattle.xh_books.specs.Ledgers.{IsBalanced}
 use Rattle.xh_core.specs.declared.ledger.Ledger.{Ledger}
 use Rattle.xh_model.specs.declared.config.Config.{Config}
 use Rattle.xh_script.specs.Scripts.{Listing}
-use Rattle.xh_script.specs.Texts.{answer_texts, ledger_text}
 use Rattle.xh_script.specs.declared.command.Line.{Line}
 use Rattle.xh_script.specs.declared.reply.Answered.{Answered}
-use Rattle.xh_runner.specs.declared.report.Report.{Report}
-
--- the text of a report: the replies, and then the ledger
-abbrev pub text_of : Report → List ℕ
-text_of r = answer_texts r.answers.items ++ ledger_text r.ledger r.names.items
+use Rattle.xh_session.specs.declared.report.Report.{Report}
+use Rattle.xh_session.specs.Reports.{text_of}
 
 -- there is one reply for each line, in the order of the lines, with its number
 abbrev pub AreAnswersTo : List Line → List Answered → Type 0

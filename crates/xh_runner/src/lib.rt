@@ -1,21 +1,12 @@
 //! Runs of whole scripts: bytes in, bytes out.
 #![tactic(auto)]
 
-mod input;
-mod machine;
-mod names;
 mod parallel;
-mod received;
-mod report;
-mod serial;
-mod session;
-mod stage;
 mod threads;
+mod worker;
 
-pub use input::{Input, read_input};
 pub use parallel::run_parallel;
-pub use report::Report;
-pub use serial::run_serial;
-pub use stage::Stage;
 pub use threads::run_threads;
+pub use worker::{Worker, hire};
 pub use xh_place::{Gate, OpenGate, Point};
+pub use xh_session::{Input, Machine, Received, Report, Stage, read_input, run_serial};

@@ -5,12 +5,11 @@ ghost use Rattle.xh_model.specs.Config.{IsConfig};
 ghost use Rattle.xh_model.specs.declared.limits.TheConstants.{PLACES};
 ghost use Rattle.xh_script.specs.declared.limits.TheConstants.{MAX_SCRIPT};
 ghost use Rattle.xh_script.specs.Scripts.{listing_of};
-ghost use Rattle.xh_runner.specs.Ends.{Done, Stopped};
-ghost use Rattle.xh_runner.specs.Reading.{ReadsAtMost};
-ghost use Rattle.xh_runner.specs.Reports.{IsReportOf, text_of};
+ghost use Rattle.xh_session.specs.Ends.{Done, Stopped};
+ghost use Rattle.xh_session.specs.Reading.{ReadsAtMost};
+ghost use Rattle.xh_runner.specs.Reports.{IsReportOf};
+ghost use Rattle.xh_session.specs.Reports.{text_of};
 
-use crate::input::read_input;
-use crate::report::{Report, write_report};
 use crate::threads::run_gated;
 use std::alloc::Global;
 use std::io::{Read, Write};
@@ -19,6 +18,7 @@ use std::thread::Threads;
 use xh_core::Config;
 use xh_place::OpenGate;
 use xh_script::{Fault, Script, Watched};
+use xh_session::{Report, read_input, write_report};
 
 /// Runs a script on threads, through a gate that stops nobody.
 fn report_of<T: Threads + Wait + Sync>(

@@ -10,7 +10,6 @@ mod job;
 mod replies;
 mod run;
 
-use crate::report::Report;
 use crate::threads::run::run_script;
 use std::alloc::Global;
 use std::marker::Brand;
@@ -22,6 +21,7 @@ use xh_kernel::{Account, Kernel, Names, Parts};
 use xh_model::limits::MAX_WORKERS;
 use xh_place::Gate;
 use xh_script::{Fault, Script};
+use xh_session::Report;
 
 fn new_parts(alloc: Global, config: Config) -> Result<Parts, Fault>
     ensures workers { IfOk result (λ parts. parts.workers ≡ MAX_WORKERS) }

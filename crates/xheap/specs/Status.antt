@@ -5,8 +5,8 @@ use Rattle.xh_command_line.specs.Options.{AreOptions, IsUnasked, options_of, ser
 use Rattle.xh_command_line.specs.Status.{status_of}
 use Rattle.xh_model.specs.declared.config.Config.{Config}
 use Rattle.xh_script.specs.declared.watch.Watched.{Watched}
-use Rattle.xh_runner.specs.Ends.{EndsWith}
-use Rattle.xh_runner.specs.Output.{IsMeaning}
+use Rattle.xh_session.specs.Ends.{EndsWith}
+use Rattle.xh_session.specs.Output.{IsMeaning}
 use Rattle.xh_runner.specs.Reports.{IsReportOf}
 
 -- the program's name

@@ -3,15 +3,15 @@ ghost use Rattle.std.specs.Prelude.{◌≡◌, ◌⊎◌, IfErr, IfOk, OnOk};
 ghost use Rattle.xh_model.specs.Config.{IsConfig};
 ghost use Rattle.xh_picture.specs.Documents.{IsPicture};
 ghost use Rattle.xh_script.specs.Watching.{WritesOrFails};
-ghost use Rattle.xh_runner.specs.Ends.{Done, Stopped};
+ghost use Rattle.xh_session.specs.Ends.{Done, Stopped};
 ghost use Rattle.xheap_picture.specs.Drawn.{IsDrawn};
 
 use std::alloc::{AllocError, Global};
 use std::io::{Read, Write};
 use xh_core::Config;
 use xh_picture::{History, draw};
-use xh_runner::{Input, Stage, read_input};
 use xh_script::{Fault, Line, Script, Watched, write_bytes};
+use xh_session::{Input, Stage, read_input};
 
 /// Does these commands, and notes what each did.
 fn history_of(

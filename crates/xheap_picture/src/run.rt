@@ -2,7 +2,7 @@
 ghost use Rattle.std.specs.Prelude.{◌≡◌, codes};
 ghost use Rattle.xh_command_line.specs.Options.{texts_of};
 ghost use Rattle.xh_command_line.specs.Status.{status_of};
-ghost use Rattle.xh_runner.specs.Ends.{EndsWith};
+ghost use Rattle.xh_session.specs.Ends.{EndsWith};
 ghost use Rattle.xheap_picture.specs.Drawn.{Ended, IsDrawn};
 
 use crate::play::run_picture;

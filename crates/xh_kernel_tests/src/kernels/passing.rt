@@ -1,15 +1,10 @@
 // Messages from one process to another, on two threads.
-use super::answers::Answer::{self, Ends, Number};
-use super::answers::Call::{self, Spawn, Wire};
-use super::answers::assert_answers;
-use super::bench::Bench;
-use super::{Case, with_kernel};
+use super::{Case, assert_case, assert_two_start, waiting_of};
 use std::alloc::Global;
 use std::process::Abort;
 use std::sync::Wait;
-use std::test::Fail;
 use std::thread::{self, Threads};
-use xh_core::{Config, Refused};
+use xh_core::Refused;
 use xh_kernel::{Account, Kernel, Names};
 use xh_place::{Got, OpenGate};
 
@@ -68,16 +63,12 @@ fn take_ten<N: Names, R: Wait>(rt: &R, kernel: &Kernel<N>) -> u64 {
 pub fn assert_ten<N: Names + Send + Sync, R: Threads + Wait + Abort + Sync>(
     rt: &R,
     alloc: Global,
-    bench: &mut Bench<N>,
+    kernel: &Kernel<N>,
+    account: &mut Account<N>,
 ) {
-    const PAIR: &[(Call, Answer)] = &[
-        (Spawn, Number(0)),
-        (Spawn, Number(1)),
-        (Wire(0, 1), Ends(0, 1)),
-    ];
-    assert_answers(rt, alloc, bench, PAIR);
-    let kernel = &bench.kernel;
-    let account = &mut bench.account;
+    assert_two_start(rt, kernel);
+    let wired = kernel.wire(rt, 0, 1, 0, account, &OpenGate);
+    assert!(rt; matches!(wired, Ok((low, high)) if (low.rec, high.rec) == (0, 1)));
     let passed = thread::join(
         rt,
         || give_ten(rt, alloc, kernel, account).is_ok(),
@@ -87,14 +78,6 @@ pub fn assert_ten<N: Names + Send + Sync, R: Threads + Wait + Abort + Sync>(
 }
 
 #[test]
-fn ten_messages_between_threads(rt: HostRuntime) -> Result<(), Fail> {
-    let config = Config {
-        arenas: 1,
-        bytes: 1024,
-        records: 16,
-        depth: 4,
-        wear: 1000,
-    };
-    with_kernel(&rt, rt.alloc(), config, Case::TenMessages)?;
-    Ok(())
+fn ten_messages_between_threads(rt: HostRuntime) {
+    assert_case(&rt, rt.alloc(), waiting_of(1024, 4), Case::TenMessages);
 }

@@ -1,14 +1,12 @@
 // A process that waits for a message, on threads.
-use super::bench::Bench;
-use super::{Case, with_kernel};
+use super::{Case, assert_case, waiting_of};
 use std::alloc::Global;
 use std::hint::spin_loop;
 use std::process::Abort;
 use std::sync::Wait;
-use std::test::Fail;
 use std::thread;
 use std::thread::Threads;
-use xh_core::{Config, Refused};
+use xh_core::Refused;
 use xh_kernel::{Account, Kernel, Names};
 use xh_place::{Got, OpenGate, Taken};
 
@@ -103,12 +101,11 @@ fn wait_late<N: Names, R: Wait>(rt: &R, kernel: &Kernel<N>, pair: Pair, turns: u
 fn round<N: Names + Send + Sync, R: Threads + Wait + Sync>(
     rt: &R,
     alloc: Global,
-    bench: &mut Bench<N>,
+    kernel: &Kernel<N>,
+    account: &mut Account<N>,
     ender: Ender,
     seed: u64,
 ) -> Result<u64, Refused> {
-    let kernel = &bench.kernel;
-    let account = &mut bench.account;
     let pair = make_pair(rt, alloc, kernel, account)?;
     let turns = (seed % 211, (seed / 211) % 4001);
     let (answered, ()) = thread::join(
@@ -127,66 +124,54 @@ fn round<N: Names + Send + Sync, R: Threads + Wait + Sync>(
 pub fn assert_rounds<N: Names + Send + Sync, R: Threads + Wait + Abort + Sync>(
     rt: &R,
     alloc: Global,
-    bench: &mut Bench<N>,
+    kernel: &Kernel<N>,
+    account: &mut Account<N>,
     ender: Ender,
     want: u64,
 ) {
     let mut seed = 1u64;
     for at in 0..64u8 {
         seed = drawn(seed);
-        let answer = round(rt, alloc, bench, ender, seed >> 20);
+        let answer = round(rt, alloc, kernel, account, ender, seed >> 20);
         assert!(rt; matches!(answer, Ok(code) if code == want), "round {at}");
     }
-    let moved = bench.account.moved(0);
+    let moved = account.moved(0);
     assert!(rt; matches!(moved, Some((taken, back)) if taken == back));
 }
 
 /// In 2,048 rounds over 32 kernels the waiting process always answers so.
-fn assert_waits<R: Threads + Wait + Abort + Sync>(
-    rt: &R,
-    alloc: Global,
-    ender: Ender,
-    want: u64,
-) -> Result<(), Fail> {
-    let config = Config {
-        arenas: 1,
-        bytes: 1024,
-        records: 16,
-        depth: 2,
-        wear: 1_000_000,
-    };
+fn assert_waits<R: Threads + Wait + Abort + Sync>(rt: &R, alloc: Global, ender: Ender, want: u64) {
     for _ in 0..32 {
-        with_kernel(rt, alloc, config, Case::Waits(ender, want))?;
+        assert_case(rt, alloc, waiting_of(1024, 2), Case::Waits(ender, want));
     }
-    Ok(())
 }
 
 /// A process that waits is given a message.
 #[test]
-fn waits_and_is_given(rt: HostRuntime) -> Result<(), Fail> {
-    assert_waits(&rt, rt.alloc(), Ender::Gives, 1)
+fn waits_and_is_given(rt: HostRuntime) {
+    assert_waits(&rt, rt.alloc(), Ender::Gives, 1);
 }
 
 /// The peer of a process that waits closes.
 #[test]
-fn waits_and_its_peer_closes(rt: HostRuntime) -> Result<(), Fail> {
-    assert_waits(&rt, rt.alloc(), Ender::Closes, 3)
+fn waits_and_its_peer_closes(rt: HostRuntime) {
+    assert_waits(&rt, rt.alloc(), Ender::Closes, 3);
 }
 
 /// A process that waits is killed.
 #[test]
-fn waits_and_is_killed(rt: HostRuntime) -> Result<(), Fail> {
-    assert_waits(&rt, rt.alloc(), Ender::Kills, 2)
+fn waits_and_is_killed(rt: HostRuntime) {
+    assert_waits(&rt, rt.alloc(), Ender::Kills, 2);
 }
 
 /// A process that waits is killed in part: its endpoint is not reached.
 #[test]
-fn waits_and_is_killed_in_part(rt: HostRuntime) -> Result<(), Fail> {
-    assert_waits(&rt, rt.alloc(), Ender::KillsInPart, 2)
+fn waits_and_is_killed_in_part(rt: HostRuntime) {
+    assert_waits(&rt, rt.alloc(), Ender::KillsInPart, 2);
 }
 
 /// The end that a process waits at is closed by another thread.
 #[test]
-fn waits_and_its_end_is_closed(rt: HostRuntime) -> Result<(), Fail> {
-    assert_waits(&rt, rt.alloc(), Ender::ClosesItsEnd, 4)
+fn waits_and_its_end_is_closed(rt: HostRuntime) {
+    assert_waits(&rt, rt.alloc(), Ender::ClosesItsEnd, 4);
 }

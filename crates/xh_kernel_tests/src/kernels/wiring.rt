@@ -1,15 +1,9 @@
 // A wire whose other process ends in between, on threads.
-use super::answers::Answer::{self, Moved, Number};
-use super::answers::Call::{self, Moved as Count, Spawn};
-use super::answers::assert_answers;
-use super::bench::Bench;
-use super::{Case, waiting_of, with_kernel};
-use std::alloc::Global;
+use super::{Case, assert_case, assert_two_start, waiting_of};
 use std::hint::spin_loop;
 use std::process::Abort;
 use std::sync::Wait;
 use std::sync::atomic::{AtomicU64, Ordering};
-use std::test::Fail;
 use std::thread;
 use std::thread::Threads;
 use xh_core::Refused;
@@ -84,23 +78,21 @@ fn is_refused<N: Names + Send + Sync, R: Threads + Wait + Sync>(
 /// Such a wire is refused, and what it took is given back.
 pub fn assert_refused<N: Names + Send + Sync, R: Threads + Wait + Abort + Sync>(
     rt: &R,
-    alloc: Global,
-    bench: &mut Bench<N>,
+    kernel: &Kernel<N>,
+    mine: &mut Account<N>,
+    others: &mut [Account<N>],
 ) {
-    const TWO: &[(Call, Answer)] = &[(Spawn, Number(0)), (Spawn, Number(1))];
-    const AFTER: &[(Call, Answer)] = &[(Count(0), Moved(64, 64))];
-    assert_answers(rt, alloc, bench, TWO);
-    let Some(other) = bench.others.first_mut() else {
+    assert_two_start(rt, kernel);
+    let Some(other) = others.first_mut() else {
         panic!(rt; "no other worker");
     };
-    let refused = is_refused(rt, &bench.kernel, &mut bench.account, other);
+    let refused = is_refused(rt, kernel, mine, other);
     assert!(rt; refused);
-    assert_answers(rt, alloc, bench, AFTER);
+    assert!(rt; mine.moved(0) == Some((64, 64)));
 }
 
 /// Where the other process ends before its end reaches it, both ends are reclaimed.
 #[test]
-fn wires_to_one_that_ends(rt: HostRuntime) -> Result<(), Fail> {
-    with_kernel(&rt, rt.alloc(), waiting_of(256, 2), Case::WireToOneThatEnds)?;
-    Ok(())
+fn wires_to_one_that_ends(rt: HostRuntime) {
+    assert_case(&rt, rt.alloc(), waiting_of(256, 2), Case::WireToOneThatEnds);
 }

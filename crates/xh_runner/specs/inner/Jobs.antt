@@ -1,15 +1,10 @@
 -- What the workers of a run on threads do, and where their replies go.
-use Rattle.std.specs.Prelude.{◌≡◌, ◌==◌, ◌&&◌, ◌++◌, suc, if◌then◌else◌, not, Bool, ℕ, List, [], ◌∷◌, map, slice_set, slice_get, option_and_then, Option, Some, None}
+use Rattle.std.specs.Prelude.{◌≡◌, ◌==◌, ◌&&◌, ◌++◌, suc, if◌then◌else◌, not, Bool, ℕ, List, [], ◌∷◌, map, slice_set, Option, Some}
 use Rattle.xh_script.specs.Forms.{is_head}
 use Rattle.xh_script.specs.Operands.{name}
 use Rattle.xh_script.specs.declared.command.Line.{Line}
 use Rattle.xh_script.specs.declared.reply.Reply.{Reply}
-use Rattle.xh_runner.specs.Bindings.{Bindings, number_of}
 use Rattle.xh_runner.specs.declared.threads.replies.Placed.{Placed}
-
--- the process that has a place of the first 32 numbers, by its name
-abbrev pub process_at : Bindings → ℕ → Option ℕ
-process_at b place = option_and_then (λ p. if number_of b p == place then Some p else None) (slice_get b.latest place)
 
 -- whether a line is a command of a process
 abbrev pub is_of : Line → ℕ → Bool

@@ -1,49 +1,13 @@
-//! The workers of a run, and one thread for each.
-ghost use Rattle.std.specs.Prelude.{◌≡◌, All, IfOk, length, vec_len};
-
-use crate::machine::Machine;
-use crate::machine::worker::Worker;
-use crate::session::Session;
+//! A job for each process, and one thread for each job.
 use crate::threads::job::{Done, Job, Shared, is_of};
 use crate::threads::replies::put_each;
 use std::alloc::{AllocError, Global};
 use std::sync::Wait;
 use std::thread;
 use std::thread::{JoinHandle, Scope, Threads};
-use xh_glance::Look;
-use xh_kernel::{Account, Kernel, Names};
 use xh_place::Gate;
 use xh_script::{Line, Reply};
-
-/// A worker for each account, which is lent to it, and look, in order.
-pub(super) fn hire<'a, N: Names, R, G>(
-    rt: &'a R,
-    alloc: Global,
-    kernel: &'a Kernel<N>,
-    gate: &'a G,
-    accounts: &'a mut [Account<N>],
-    looks: Vec<Look>,
-) -> Result<Vec<Worker<'a, N, R, G>>, AllocError>
-    requires count { vec_len looks ≡ length accounts.old }
-    requires own { All (λ l. l.glances ≡ N.parts.glances) looks.items }
-    ensures { IfOk result (λ workers. vec_len workers ≡ length accounts.entry.now) }
-{
-    let mut workers = Vec::with_capacity(alloc, accounts.len())?;
-    let mut looks = looks.into_iter();
-    for account in accounts {
-        let Some(look) = looks.next() else {
-            unreachable!()
-        };
-        workers.push_reserved(Worker {
-            rt,
-            kernel,
-            gate,
-            account,
-            look,
-        });
-    }
-    Ok(workers)
-}
+use xh_session::{Machine, Session};
 
 fn count_of(lines: &[Line], process: u8) -> usize {
     lines.iter().filter(|line| is_of(line, process)).count()

@@ -2,14 +2,12 @@
 ghost use Rattle.std.specs.Prelude.{◌≡◌};
 ghost use Rattle.xh_runner.specs.inner.Jobs.{Answers, is_of};
 
-use crate::machine::Machine;
-use crate::names::Names as Bindings;
-use crate::session::Session;
 use crate::threads::replies::Placed;
 use std::alloc::{AllocError, Global};
 use std::sync::{Mutex, Wait};
 use xh_place::Gate;
 use xh_script::{Form, Line, Reply};
+use xh_session::{Machine, Names as Bindings, Session};
 
 /// What all workers of a run share: the lines of the script, the gate, what the names of processes stand
 /// for by now, and whether all workers could be started.

@@ -3,10 +3,9 @@ ghost use Rattle.std.specs.Prelude.{◌≡◌, IfOk, IfSome, None, Some, replica
 ghost use Rattle.xh_runner.specs.Reports.{AreAnswersTo};
 ghost use Rattle.xh_runner.specs.inner.Jobs.{with_replies};
 
-use crate::machine::Machine;
-use crate::session::Session;
 use std::alloc::{AllocError, Global};
 use xh_script::{Answered, Line, Reply};
+use xh_session::{Machine, Session};
 
 /// The reply to the line at a place of the script.
 #[derive(Drop)]

@@ -3,12 +3,10 @@ ghost use Rattle.std.specs.Prelude.{◌≡◌, ◌<◌, ◌⊎◌, All, IfErr, I
 ghost use Rattle.xh_model.specs.declared.limits.TheConstants.{PLACES};
 ghost use Rattle.xh_runner.specs.Reports.{AreAnswersTo};
 
-use crate::machine::Machine;
-use crate::names::Names as Bindings;
-use crate::session::Session;
-use crate::threads::crew::{hire, work_all};
+use crate::threads::crew::work_all;
 use crate::threads::job::Shared;
 use crate::threads::replies::{answered, no_replies, put};
+use crate::worker::hire;
 use std::alloc::{AllocError, Global};
 use std::sync::{Mutex, Wait};
 use std::thread::Threads;
@@ -16,6 +14,7 @@ use xh_glance::Look;
 use xh_kernel::{Account, Kernel, Names};
 use xh_place::Gate;
 use xh_script::{Answered, Fault, Line, Name, Reply, Script};
+use xh_session::{Machine, Names as Bindings, Session};
 
 /// What a run says: the replies, and the name of the latest process of each place.
 #[derive(Drop)]

@@ -1,7 +1,7 @@
 use Rattle.std.proofs.lemmas.Result.{err_from_is_err_and}
 use Rattle.xh_runner.specs.Reports.{IsReportOf}
 use Rattle.xh_script.specs.Scripts.{listing_of}
-use Rattle.xh_runner.proofs.Ends.{memory_stops, unread_stops, wrote_all, wrote_part}
+use Rattle.xh_session.proofs.Ends.{memory_stops, unread_stops, wrote_all, wrote_part}
 use Rattle.xh_runner.proofs.parallel.run_parallel.Goals as goal
 
 pub returns-in_err-input-clause-err : goal.returns-in_err-input-clause-err

@@ -3,7 +3,7 @@ use Rattle.xh_kernel.specs.Parts.{PartsOf}
 use Rattle.xh_model.specs.declared.config.Config.{Config}
 use Rattle.xh_script.specs.declared.fault.Fault.{Fault}
 use Rattle.xh_runner.specs.Reports.{HasArenas}
-use Rattle.xh_runner.specs.declared.report.Report.{Report}
+use Rattle.xh_session.specs.declared.report.Report.{Report}
 use Rattle.xh_runner.proofs.threads.run_gated.Goals as goal
 
 has_arenas : (result : Result Report Fault) (config : Config) (parts : PartsOf)

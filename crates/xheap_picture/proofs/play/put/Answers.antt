@@ -1,4 +1,4 @@
-use Rattle.xh_runner.proofs.Ends.{flushed}
+use Rattle.xh_session.proofs.Ends.{flushed}
 use Rattle.xheap_picture.proofs.play.put.Goals as goal
 
 pub returns : goal.returns

@@ -2,7 +2,7 @@ use Rattle.std.proofs.Common.{sym, subst}
 use Rattle.std.proofs.lemmas.Result.{err_from_is_err_and}
 use Rattle.xh_picture.specs.Documents.{IsPicture}
 use Rattle.xh_script.specs.Scripts.{listing_of}
-use Rattle.xh_runner.proofs.Ends.{unread_stops, wrote_all, wrote_part}
+use Rattle.xh_session.proofs.Ends.{unread_stops, wrote_all, wrote_part}
 use Rattle.xheap_picture.specs.Drawn.{IsDrawn}
 use Rattle.xheap_picture.proofs.play.run_picture.Goals as goal
 

@@ -1,7 +1,7 @@
 use Rattle.std.proofs.Common.{inl, inr, refl, subst}
 use Rattle.xh_command_line.specs.Options.{Asks, IsUnasked, texts_of}
 use Rattle.xh_command_line.specs.Status.{status_of}
-use Rattle.xh_runner.specs.Ends.{EndsWith}
+use Rattle.xh_session.specs.Ends.{EndsWith}
 use Rattle.xheap_picture.specs.Drawn.{IsDrawn}
 use Rattle.xheap_picture.proofs.run.run_main.Goals as goal
 

@@ -1,0 +1,100 @@
+//! Places and glances, by calls.
+use crate::answers::Answer::{self, Block, Done, No, Number, Place, Two};
+use crate::answers::Call::{self, Alloc, Exit, Free, Glance, Kill, Lives, Spawn, Spawns, Split};
+use crate::heaps::{arenas_of, assert_on};
+use xh_core::Status;
+
+/// A look sees each change of a place once the call that made it has answered.
+#[test]
+fn glances(rt: HostRuntime) {
+    const CALLS: &[(Call, Answer)] = &[
+        (Glance(0), Place(0, Status::Vacant, 0, 0)),
+        (Spawn, Number(0)),
+        (Glance(0), Place(0, Status::Running, 0, 0)),
+        (Alloc(0, 40, 0), Block(0, 48)),
+        (Glance(0), Place(0, Status::Running, 1, 48)),
+        (Split(0, 0, 16), Two(0, 16, 1, 32)),
+        (Glance(0), Place(0, Status::Running, 2, 48)),
+        (Free(0, 1), Number(32)),
+        (Glance(0), Place(0, Status::Running, 1, 16)),
+        (Glance(31), Place(31, Status::Vacant, 0, 0)),
+        (Glance(32), No("NoProcess")),
+        (Spawns(30), Number(30)),
+        (Spawn, Number(31)),
+        (Spawn, No("NoPlace")),
+        (Glance(31), Place(31, Status::Running, 0, 0)),
+    ];
+    assert_on(&rt, rt.alloc(), arenas_of(1, 256, 8), CALLS);
+}
+
+/// The first look that is made sees what the calls before it did, and not the place that nobody had.
+#[test]
+fn first_glance(rt: HostRuntime) {
+    const CALLS: &[(Call, Answer)] = &[
+        (Spawn, Number(0)),
+        (Alloc(0, 40, 0), Block(0, 48)),
+        (Glance(0), Place(0, Status::Running, 1, 48)),
+    ];
+    assert_on(&rt, rt.alloc(), arenas_of(1, 256, 8), CALLS);
+}
+
+/// A place used again has another number, and the process of the earlier number has ended.
+#[test]
+fn place_used_again(rt: HostRuntime) {
+    const CALLS: &[(Call, Answer)] = &[
+        (Spawn, Number(0)),
+        (Spawn, Number(1)),
+        (Exit(0, 4_096), Number(0)),
+        (Spawn, Number(32)),
+        (Alloc(0, 16, 0), No("Ended")),
+        (Exit(0, 4_096), No("Ended")),
+        (Alloc(64, 16, 0), No("NoProcess")),
+        (Exit(64, 4_096), No("NoProcess")),
+        (Alloc(32, 16, 0), Block(0, 16)),
+        (Spawn, Number(2)),
+    ];
+    assert_on(&rt, rt.alloc(), arenas_of(1, 256, 8), CALLS);
+}
+
+/// The lowest place is used again first, and the number of a process that has ended stays ended, though another runs at
+/// its place.
+#[test]
+fn places_by_generation(rt: HostRuntime) {
+    const CALLS: &[(Call, Answer)] = &[
+        (Spawn, Number(0)),
+        (Spawn, Number(1)),
+        (Exit(0, 4_096), Number(0)),
+        (Exit(1, 4_096), Number(0)),
+        (Spawn, Number(32)),
+        (Alloc(0, 1, 0), No("Ended")),
+        (Spawn, Number(33)),
+        (Kill(33, 0, 4_096), No("Ended")),
+        (Glance(0), Place(32, Status::Running, 0, 0)),
+        (Glance(1), Place(33, Status::Running, 0, 0)),
+    ];
+    assert_on(&rt, rt.alloc(), arenas_of(1, 256, 8), CALLS);
+}
+
+/// Spawned and ended in turn, the processes have each number once.
+#[test]
+fn every_process_number(rt: HostRuntime) {
+    const CALLS: &[(Call, Answer)] = &[
+        (Lives, Done),
+        (Spawn, No("NoPlace")),
+        (Glance(31), Place(4_095, Status::Ended, 0, 0)),
+    ];
+    assert_on(&rt, rt.alloc(), arenas_of(1, 16, 1), CALLS);
+}
+
+/// What is left of a machine whose last arena alone was used.
+#[test]
+fn settling(rt: HostRuntime) {
+    const CALLS: &[(Call, Answer)] = &[(Spawn, Number(0)), (Alloc(0, 17, 7), Block(1_792, 32))];
+    assert_on(&rt, rt.alloc(), arenas_of(8, 256, 8), CALLS);
+}
+
+/// What is left of a machine without a process.
+#[test]
+fn settling_without_processes(rt: HostRuntime) {
+    assert_on(&rt, rt.alloc(), arenas_of(1, 16, 1), &[]);
+}

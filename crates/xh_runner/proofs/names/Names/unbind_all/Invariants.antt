@@ -1,6 +1,0 @@
-use Rattle.std.proofs.Common.{◌≡◌}
-use Rattle.xh_runner.specs.Bindings.{unbound_below}
-use Rattle.xh_runner.proofs.names.Names.unbind_all.Given as goal
-
-abbrev pub invariant-loop-block : goal.invariant-loop-block
-invariant-loop-block l = l.self ≡ unbound_below l.fn.self l.process l.block

@@ -1,7 +1,0 @@
-use Rattle.std.proofs.Common.{◌≡◌, ◌≤◌, length, map, take}
-use Rattle.std.specs.Vec.{vec_capacity}
-use Rattle.xh_runner.specs.Bindings.{name_at}
-use Rattle.xh_runner.proofs.names.names_at.Given as goal
-
-abbrev pub invariant-loop-process : goal.invariant-loop-process
-invariant-loop-process l = (l.names.items ≡ map (λ p. name_at l.processes p) (take l.process-index l.latest)) × (length l.latest ≤ vec_capacity l.names)

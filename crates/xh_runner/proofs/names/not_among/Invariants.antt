@@ -1,6 +1,0 @@
-use Rattle.std.proofs.Common.{◌≡◌, ◌≤◌, take, length}
-use Rattle.xh_runner.specs.Bindings.{not_among}
-use Rattle.xh_runner.proofs.names.not_among.Given as goal
-
-abbrev pub invariant-loop-rec : goal.invariant-loop-rec
-invariant-loop-rec l = (l.found.items ≡ not_among l.others (take l.rec-index l.records)) × (length l.found.items ≤ l.rec-index)

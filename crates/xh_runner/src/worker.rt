@@ -1,0 +1,231 @@
+//! A worker's calls on a kernel.
+ghost use Rattle.std.specs.Prelude.{◌≡◌, ◌≤◌, All, IfOk, length, map, vec_len};
+ghost use Rattle.xh_model.specs.declared.limits.TheConstants.{MAX_BLOCKS};
+ghost use Rattle.xh_runner.specs.inner.Workers.{gotten, gotten_message};
+
+use arrayvec::ArrayVec;
+use std::alloc::{AllocError, Global};
+use std::sync::Wait;
+use xh_core::{Block, Contract, Glance, Refused};
+use xh_glance::Look;
+use xh_kernel::{Account, Kernel, Names};
+use xh_model::limits::{MAX_BLOCKS, MAX_BUDGET};
+use xh_place::{Gate, Got, Taken};
+use xh_session::{Machine, Received};
+
+/// A worker on a kernel that others work on too: what its calls take besides, an account that no other
+/// has and a look of its own among it.
+#[derive(Drop)]
+pub struct Worker<'a, N: Names, R, G> {
+    pub rt: &'a R,
+    pub kernel: &'a Kernel<N>,
+    pub gate: &'a G,
+    pub account: &'a mut Account<N>,
+    pub look: Look,
+    ghost own: { look.glances ≡ N.parts.glances },
+}
+
+fn block_of(got: &Got) -> Option<Block>
+    ensures { result ≡ gotten got.now }
+{
+    match got {
+        Got::Here(block) => Some(*block),
+        Got::Missing { .. } => None,
+    }
+}
+
+fn blocks_of(blocks: &[Got]) -> ArrayVec<Option<Block>, MAX_BLOCKS>
+    requires { length blocks.now ≤ MAX_BLOCKS }
+    ensures { result.items ≡ map gotten blocks.now }
+{
+    let mut all = ArrayVec::new();
+    for block in blocks {
+        all.push(block_of(block));
+    }
+    all
+}
+
+fn received(message: Taken) -> Received
+    ensures { result ≡ gotten_message message }
+{
+    Received {
+        number: message.no,
+        tag: message.tag,
+        blocks: blocks_of(message.blocks.as_slice()),
+    }
+}
+
+impl<'a, N: Names, R: Wait, G: Gate> Machine for Worker<'a, N, R, G> {
+    ghost use Rattle.std.specs.Prelude.{false};
+    ghost use Rattle.xh_runner.specs.inner.Workers.{no_machine};
+
+    ghost alone = { false };
+
+    ghost state = { λ _. no_machine };
+
+    fn spawn(&mut self) -> Result<u16, Refused> {
+        self.kernel.spawn(self.rt, self.gate)
+    }
+
+    fn open(
+        &mut self,
+        process: u16,
+        arena: u32,
+        contract: Option<&Contract>,
+    ) -> Result<(Block, Block), Refused> {
+        match contract {
+            Some(contract) => {
+                let contract = contract.copy();
+                self.kernel
+                    .open_with(self.rt, process, arena, contract, self.account, self.gate)
+            }
+            None => self
+                .kernel
+                .open(self.rt, process, arena, self.account, self.gate),
+        }
+    }
+
+    fn wire(
+        &mut self,
+        process: u16,
+        other: u16,
+        arena: u32,
+        contract: Option<&Contract>,
+    ) -> Result<(Block, Block), Refused> {
+        match contract {
+            Some(contract) => {
+                let contract = contract.copy();
+                self.kernel.wire_with(
+                    self.rt,
+                    process,
+                    other,
+                    arena,
+                    contract,
+                    self.account,
+                    self.gate,
+                )
+            }
+            None => self
+                .kernel
+                .wire(self.rt, process, other, arena, self.account, self.gate),
+        }
+    }
+
+    fn alloc(
+        &mut self,
+        alloc: Global,
+        process: u16,
+        bytes: u32,
+        arena: u32,
+    ) -> Result<Block, Refused> {
+        self.kernel.alloc(
+            self.rt,
+            alloc,
+            process,
+            bytes,
+            arena,
+            self.account,
+            self.gate,
+        )
+    }
+
+    fn split(
+        &mut self,
+        alloc: Global,
+        process: u16,
+        block: u16,
+        at: u32,
+    ) -> Result<(Block, Block), Refused> {
+        self.kernel
+            .split(self.rt, alloc, process, block, at, self.gate)
+    }
+
+    fn read(&mut self, process: u16, block: u16, at: u32, room: &mut [u8]) -> Result<(), Refused> {
+        self.kernel
+            .read(self.rt, process, block, at, room, self.gate)
+    }
+
+    fn write(&mut self, process: u16, block: u16, at: u32, bytes: &[u8]) -> Result<(), Refused> {
+        self.kernel
+            .write(self.rt, process, block, at, bytes, self.gate)
+    }
+
+    fn give(
+        &mut self,
+        process: u16,
+        endpoint: u16,
+        tag: u16,
+        blocks: &[u16],
+    ) -> Result<u64, Refused> {
+        self.kernel
+            .give(self.rt, process, endpoint, tag, blocks, self.gate)
+    }
+
+    fn take(&mut self, process: u16, endpoint: u16, waits: bool) -> Result<Received, Refused> {
+        let taken = if waits {
+            self.kernel.take_wait(self.rt, process, endpoint, self.gate)
+        } else {
+            self.kernel.take(self.rt, process, endpoint, self.gate)
+        };
+        match taken {
+            Ok(message) => Ok(received(message)),
+            Err(refused) => Err(refused),
+        }
+    }
+
+    fn free(&mut self, process: u16, block: u16) -> Result<u32, Refused> {
+        self.kernel
+            .free(self.rt, process, block, self.account, self.gate)
+    }
+
+    fn close(&mut self, process: u16, endpoint: u16) -> Result<u64, Refused> {
+        self.kernel
+            .close(self.rt, process, endpoint, self.account, self.gate)
+    }
+
+    fn exit(&mut self, process: u16, budget: u32) -> Result<u64, Refused> {
+        let budget = budget.min(u32::from(MAX_BUDGET)) as u16;
+        self.kernel
+            .exit(self.rt, process, budget, self.account, self.gate)
+    }
+
+    fn kill(&mut self, process: u16, victim: u16, budget: u32) -> Result<u64, Refused> {
+        let budget = budget.min(u32::from(MAX_BUDGET)) as u16;
+        self.kernel
+            .kill(self.rt, process, victim, budget, self.account, self.gate)
+    }
+
+    fn glance(&mut self, place: u8) -> Result<Glance, Refused> {
+        self.kernel.glance(place, &mut self.look)
+    }
+}
+
+/// A worker for each account, which is lent to it, and look, in order.
+pub fn hire<'a, N: Names, R, G>(
+    rt: &'a R,
+    alloc: Global,
+    kernel: &'a Kernel<N>,
+    gate: &'a G,
+    accounts: &'a mut [Account<N>],
+    looks: Vec<Look>,
+) -> Result<Vec<Worker<'a, N, R, G>>, AllocError>
+    requires count { vec_len looks ≡ length accounts.old }
+    requires own { All (λ l. l.glances ≡ N.parts.glances) looks.items }
+    ensures { IfOk result (λ workers. vec_len workers ≡ length accounts.entry.now) }
+{
+    let mut workers = Vec::with_capacity(alloc, accounts.len())?;
+    let mut looks = looks.into_iter();
+    for account in accounts {
+        let Some(look) = looks.next() else {
+            unreachable!()
+        };
+        workers.push_reserved(Worker {
+            rt,
+            kernel,
+            gate,
+            account,
+            look,
+        });
+    }
+    Ok(workers)
+}

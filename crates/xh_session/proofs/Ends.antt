@@ -1,0 +1,96 @@
+-- Lemmas on how a run ends.
+use Rattle.std.specs.Io.KnownBytes.{Consumes}
+use Rattle.std.proofs.Common.{◌≡◌, ◌≤◌, ◌++◌, ◌+◌, append_assoc, append-nil, length-append, arith, Some, None, ℕ, Bool, true, false, List, [], length, nat_lt, if◌then◌else◌}
+use Rattle.std.proofs.Common.{◌≢◌, ◌⊎◌, inl, inr, Option, Result, Ok, Err, OnOk, IfErr, refl, ap, sym, subst, ◌∙◌}
+use Rattle.std.proofs.lemmas.Bool.{ltb-false}
+use Rattle.xh_model.specs.declared.config.Config.{Config}
+use Rattle.xh_script.specs.declared.limits.TheConstants.{MAX_SCRIPT}
+use Rattle.xh_script.specs.declared.fault.Fault.{Fault}
+use Rattle.xh_script.specs.declared.fault.Fault.TheVariants.{Script, Memory, Read, Write, Gate, BadConfig}
+use Rattle.xh_script.specs.declared.fault.Kind.TheVariants.{TooLong}
+use Rattle.xh_script.specs.declared.watch.Watched.{Watched}
+use Rattle.xh_script.specs.Scripts.{Fails, Listing, script_of}
+use Rattle.xh_script.specs.Watching.{Reads, Writes, WritesFront, WritesOrFails, failures, inner_of}
+use Rattle.xh_script.proofs.Writings.{WritesOrFails-then}
+use Rattle.xh_session.specs.Ends.{Done, Stopped}
+use Rattle.xh_session.specs.Reading.{GivesScript, ReadsScript, Unread}
+
+pub Consumes-then : (a b c : Option (List ℕ)) (x y : List ℕ) → Consumes a b x → Consumes b c y → Consumes a c (x ++ y)
+Consumes-then None b c x y p q = tt
+Consumes-then (Some k) None c x y p q = absurd p
+Consumes-then (Some k) (Some l) None x y p q = absurd q
+Consumes-then (Some k) (Some l) (Some m) x y p q = p ∙ ap (λ t. x ++ t) q ∙ sym (append_assoc x y m)
+
+pub Reads-then : {R : Type 0} (remaining : R → Option (List ℕ)) (first now next : Watched R) (text bytes more : List ℕ)
+    → Reads remaining first now text → Reads remaining now next bytes → more ≡ text ++ bytes → Reads remaining first next more
+Reads-then remaining first now next text bytes more p q e = record {
+  taken = subst (λ (t : List ℕ). Consumes (remaining (inner_of first)) (remaining (inner_of next)) t) (sym e) (Consumes-then _ _ _ text bytes p.taken q.taken);
+  still = q.still ∙ p.still;
+}
+
+pub length_both : (x y : List ℕ) (a b : ℕ) → length x ≡ a → length y ≤ b → a + b ≤ MAX_SCRIPT + 1 → length (x ++ y) ≤ MAX_SCRIPT + 1
+length_both x y a b e h s = simp length-append (omega arith)
+
+short_by : (b : Bool) (text : List ℕ) (rest : Result Listing Fault) (script : Listing) → nat_lt MAX_SCRIPT (length text) ≡ b
+    → (if b then Err (Script 0 TooLong) else rest) ≡ Ok script → length text ≤ MAX_SCRIPT
+short_by true text rest script e h = absurd (cc)
+short_by false text rest script e h = ltb-false MAX_SCRIPT (length text) e
+
+-- what is read as a script is no longer than one
+pub script_short : (text : List ℕ) (script : Listing) → script_of text ≡ Ok script → length text ≤ MAX_SCRIPT
+unfolding script_of
+script_short text script h = short_by (nat_lt MAX_SCRIPT (length text)) text _ script refl h
+
+module _ {R : Type 0} (remaining : R → Option (List ℕ)) where
+  -- why no text was read
+  pub no_text : (config : Config) (reader reader' : Watched R) (e : Fault) → (e ≡ Memory) ⊎ ((e ≡ Read) × (failures reader' ≢ failures reader)) → Unread remaining config reader reader' e
+  no_text config reader reader' e (inl h) = subst (Unread remaining config reader reader') (sym h) tt
+  no_text config reader reader' e (inr h) = subst (Unread remaining config reader reader') (sym h.0) h.1
+
+  -- why a text was read, and no script
+  pub no_script : (config : Config) (reader reader' : Watched R) (text : List ℕ) (e : Fault) → ReadsScript remaining reader reader' text → Fails e (script_of text)
+      → Unread remaining config reader reader' e
+  no_script config reader reader' text (Script n kind) reads h = (text, reads, h)
+  no_script config reader reader' text Memory reads h = tt
+  no_script config reader reader' text Read reads h = absurd h
+  no_script config reader reader' text Write reads h = absurd h
+  no_script config reader reader' text Gate reads h = absurd h
+  no_script config reader reader' text BadConfig reads h = absurd h
+
+-- what is written, and then sent on its way
+pub flushed : {W : Type 0} (contents : W → Option (List ℕ)) (a b c : Watched W) (r : Result (Unit {0}) Fault) (x : List ℕ)
+    → Writes contents a b x → WritesOrFails contents b c r [] → WritesOrFails contents a c r x
+flushed contents a b c r x p q = subst (λ (bytes : List ℕ). WritesOrFails contents a c r bytes) (append-nil x) (WritesOrFails-then contents a b c r x [] p q)
+
+module _ {R W : Type 0} (remaining : R → Option (List ℕ)) (contents : W → Option (List ℕ)) (IsFor : Listing → List ℕ → Type 0) where
+  -- a fault before a script is there leaves nothing written
+  pub unread_stops : (config : Config) (reader reader' : Watched R) (writer : Watched W) (e : Fault)
+      → Unread remaining config reader reader' e → Stopped remaining contents IsFor config reader reader' writer writer e
+  unread_stops config reader reader' writer (Script n kind) h = (h, refl)
+  unread_stops config reader reader' writer Memory h = (h, refl)
+  unread_stops config reader reader' writer Read h = (h, refl)
+  unread_stops config reader reader' writer Write h = absurd h
+  unread_stops config reader reader' writer Gate h = (h, refl)
+  unread_stops config reader reader' writer BadConfig h = (h, refl)
+
+  -- and so does want of memory
+  pub memory_stops : (config : Config) (reader reader' : Watched R) (writer : Watched W) (e : Fault)
+      → e ≡ Memory → Stopped remaining contents IsFor config reader reader' writer writer e
+  memory_stops config reader reader' writer e h = unread_stops config reader reader' writer e (subst (Unread remaining config reader reader') (sym h) tt)
+
+  -- what was written in full
+  pub wrote_all : (reader reader' : Watched R) (writer writer' : Watched W) (r : Result (Unit {0}) Fault) (text : List ℕ) (script : Listing) (bytes : List ℕ)
+      → GivesScript remaining reader reader' text script → IsFor script bytes → WritesOrFails contents writer writer' r bytes
+      → OnOk r (Done remaining contents IsFor reader reader' writer writer')
+  wrote_all reader reader' writer writer' (Ok u) text script bytes reads is_for w =
+      record { text = text; script = script; bytes = bytes; reads = reads; is_for = is_for; writes = w }
+  wrote_all reader reader' writer writer' (Err e) text script bytes reads is_for w = tt
+
+  -- what was written in part
+  pub wrote_part : (config : Config) (reader reader' : Watched R) (writer writer' : Watched W) (r : Result (Unit {0}) Fault) (text : List ℕ) (script : Listing) (bytes : List ℕ)
+      → GivesScript remaining reader reader' text script → IsFor script bytes → WritesOrFails contents writer writer' r bytes
+      → IfErr r (Stopped remaining contents IsFor config reader reader' writer writer')
+  wrote_part config reader reader' writer writer' (Ok u) text script bytes reads is_for w = tt
+  wrote_part config reader reader' writer writer' (Err e) text script bytes reads is_for w =
+      subst (Stopped remaining contents IsFor config reader reader' writer writer') (sym w.0)
+      (record { text = text; script = script; bytes = bytes; reads = reads; is_for = is_for; writes = w.1 })

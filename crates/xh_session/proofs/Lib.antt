@@ -1,0 +1,3 @@
+pub mod Ends
+pub mod Bindings
+pub mod Worlds

@@ -1,0 +1,13 @@
+use Rattle.std.proofs.Common.{◌≤◌, ◌+◌, ◌-◌, length}
+use Rattle.xh_script.specs.declared.limits.TheConstants.{MAX_SCRIPT}
+use Rattle.xh_script.specs.Watching.{Reads}
+use Rattle.xh_session.proofs.input.read_text.Given as goal
+
+abbrev pub invariant-loop-room : goal.invariant-loop-room
+invariant-loop-room g l = record {
+  reads : Reads g.R.Read.remaining l.fn.reader l.reader l.text.items;
+  short : length l.text.items ≤ MAX_SCRIPT + 1;
+}
+
+abbrev pub decreases-loop-room : goal.decreases-loop-room
+decreases-loop-room g l = MAX_SCRIPT + 1 - length l.text.items

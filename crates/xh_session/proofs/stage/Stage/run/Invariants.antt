@@ -1,0 +1,12 @@
+use Rattle.std.proofs.Common.{◌≡◌, ◌++◌, ◌+◌, ◌≤◌, drop, length, vec_len}
+use Rattle.std.specs.Vec.{vec_capacity}
+use Rattle.xh_session.specs.Meaning.{answers, after}
+use Rattle.xh_session.proofs.stage.Stage.run.Given as goal
+
+abbrev pub invariant-loop-line : goal.invariant-loop-line
+invariant-loop-line l = record {
+  answered : l.replies.items ++ answers l.self (drop l.line-index l.lines) ≡ answers l.fn.self l.lines;
+  rest : after l.self (drop l.line-index l.lines) ≡ after l.fn.self l.lines;
+  count : vec_len l.replies ≡ l.line-index;
+  room : length l.lines ≤ vec_capacity l.replies;
+}

@@ -1,0 +1,10 @@
+pub mod Reading
+pub mod Bindings
+pub mod Receiving
+pub mod Machines
+pub mod Meaning
+pub mod Worlds
+pub mod Steps
+pub mod Output
+pub mod Reports
+pub mod Ends

@@ -1,0 +1,20 @@
+//! The commands of a script on a machine: the calls of a heap as one trait, what names stand for, and a run on the serial machine.
+#![tactic(auto)]
+
+mod input;
+mod machine;
+mod names;
+mod received;
+mod report;
+mod serial;
+mod session;
+mod stage;
+
+pub use input::{Input, read_input};
+pub use machine::Machine;
+pub use names::Names;
+pub use received::Received;
+pub use report::{Report, write_report};
+pub use serial::run_serial;
+pub use session::Session;
+pub use stage::Stage;

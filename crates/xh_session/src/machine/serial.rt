@@ -1,0 +1,135 @@
+//! The serial machine's calls.
+ghost use Rattle.std.specs.Prelude.{◌≡◌, ◌≤◌, length, map, Some};
+ghost use Rattle.xh_session.specs.Receiving.{received};
+
+use crate::machine::Machine;
+use crate::received::Received;
+use arrayvec::ArrayVec;
+use std::alloc::Global;
+use xh_core::{Block, Contract, Glance, Refused};
+use xh_model::limits::MAX_BLOCKS;
+use xh_serial::{Serial, Taken};
+
+/// Blocks that are all there.
+fn here(blocks: &[Block]) -> ArrayVec<Option<Block>, MAX_BLOCKS>
+    requires { length blocks.now ≤ MAX_BLOCKS }
+    ensures { result.items ≡ map (λ b. Some b) blocks.now }
+{
+    let mut all = ArrayVec::new();
+    for block in blocks {
+        all.push(Some(*block));
+    }
+    all
+}
+
+fn received(message: Taken) -> Received
+    ensures { result ≡ received message }
+{
+    Received {
+        number: message.no,
+        tag: message.tag,
+        blocks: here(message.blocks.as_slice()),
+    }
+}
+
+impl Machine for Serial {
+    ghost use Rattle.std.specs.Prelude.{true};
+
+    ghost alone = { true };
+
+    ghost state = { λ m. m };
+
+    fn spawn(&mut self) -> Result<u16, Refused> {
+        Serial::spawn(self)
+    }
+
+    fn open(
+        &mut self,
+        process: u16,
+        arena: u32,
+        contract: Option<&Contract>,
+    ) -> Result<(Block, Block), Refused> {
+        match contract {
+            Some(contract) => self.open_with(process, arena, contract.copy()),
+            None => Serial::open(self, process, arena),
+        }
+    }
+
+    fn wire(
+        &mut self,
+        process: u16,
+        other: u16,
+        arena: u32,
+        contract: Option<&Contract>,
+    ) -> Result<(Block, Block), Refused> {
+        match contract {
+            Some(contract) => self.wire_with(process, other, arena, contract.copy()),
+            None => Serial::wire(self, process, other, arena),
+        }
+    }
+
+    fn alloc(
+        &mut self,
+        alloc: Global,
+        process: u16,
+        bytes: u32,
+        arena: u32,
+    ) -> Result<Block, Refused> {
+        Serial::alloc(self, alloc, process, bytes, arena)
+    }
+
+    fn split(
+        &mut self,
+        alloc: Global,
+        process: u16,
+        block: u16,
+        at: u32,
+    ) -> Result<(Block, Block), Refused> {
+        Serial::split(self, alloc, process, block, at)
+    }
+
+    fn read(&mut self, process: u16, block: u16, at: u32, room: &mut [u8]) -> Result<(), Refused> {
+        Serial::read(self, process, block, at, room)
+    }
+
+    fn write(&mut self, process: u16, block: u16, at: u32, bytes: &[u8]) -> Result<(), Refused> {
+        Serial::write(self, process, block, at, bytes)
+    }
+
+    fn give(
+        &mut self,
+        process: u16,
+        endpoint: u16,
+        tag: u16,
+        blocks: &[u16],
+    ) -> Result<u64, Refused> {
+        Serial::give(self, process, endpoint, tag, blocks)
+    }
+
+    fn take(&mut self, process: u16, endpoint: u16, _waits: bool) -> Result<Received, Refused> {
+        match Serial::take(self, process, endpoint) {
+            Ok(message) => Ok(received(message)),
+            Err(refused) => Err(refused),
+        }
+    }
+
+    fn free(&mut self, process: u16, block: u16) -> Result<u32, Refused> {
+        Serial::free(self, process, block)
+    }
+
+    fn close(&mut self, process: u16, endpoint: u16) -> Result<u64, Refused> {
+        Serial::close(self, process, endpoint)
+    }
+
+    fn exit(&mut self, process: u16, budget: u32) -> Result<u64, Refused> {
+        Serial::exit(self, process, budget)
+    }
+
+    fn kill(&mut self, process: u16, victim: u16, budget: u32) -> Result<u64, Refused> {
+        Serial::kill(self, process, victim, budget)
+    }
+
+    fn glance(&mut self, place: u8) -> Result<Glance, Refused> {
+        Serial::glance(self, place)
+    }
+}

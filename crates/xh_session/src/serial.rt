@@ -1,0 +1,52 @@
+//! A script from its bytes to its replies and its ledger, on the serial machine.
+ghost use Rattle.std.specs.Prelude.{◌≡◌, ◌+◌, ◌<◌, length, IfOk, IfErr, OnOk, Err};
+ghost use Rattle.std.specs.List.{All};
+ghost use Rattle.xh_model.specs.Config.{IsConfig};
+ghost use Rattle.xh_model.specs.declared.limits.TheConstants.{PLACES};
+ghost use Rattle.xh_script.specs.declared.limits.TheConstants.{MAX_SCRIPT};
+ghost use Rattle.xh_script.specs.Scripts.{listing_of};
+ghost use Rattle.xh_session.specs.Ends.{Done, Stopped};
+ghost use Rattle.xh_session.specs.Output.{IsMeaning};
+ghost use Rattle.xh_session.specs.Reading.{ReadsAtMost};
+ghost use Rattle.xh_session.specs.Reports.{text_of};
+
+use crate::input::read_input;
+use crate::report::{Report, write_report};
+use crate::stage::Stage;
+use std::alloc::Global;
+use std::io::{Read, Write};
+use xh_core::Config;
+use xh_script::{Fault, Script, Watched};
+
+// Runs a script on a new machine.
+#[tactic(auto, unfolding(crate::specs::Output::meaning))]
+fn report_of(alloc: Global, config: Config, script: &Script) -> Result<Report, Fault>
+    requires { IsConfig config }
+    ensures meaning { IfOk result (λ r. IsMeaning config (listing_of script.now) (text_of r)) }
+    ensures places { IfOk result (λ r. (length r.names.items ≡ PLACES) × All (λ line. line.place < PLACES) r.ledger.places.items) }
+    ensures memory { IfErr result (λ e. e ≡ Fault.Memory) }
+{
+    let mut stage = Stage::new(alloc, config, &script.contracts)?;
+    let report = stage.report(alloc, script);
+    drop(stage);
+    Ok(report?)
+}
+
+/// Runs the script that a reader gives to its end, and writes its replies and its ledger.
+///
+/// The faults of reading are those of `read_input`. But for Write, a fault leaves nothing written.
+pub fn run_serial<R: Read, W: Write>(
+    alloc: Global,
+    reader: &mut Watched<R>,
+    writer: &mut Watched<W>,
+    config: Config,
+) -> Result<(), Fault>
+    ensures ok { OnOk result (Done R.remaining W.contents (IsMeaning config) reader.old reader.new writer.old writer.new) }
+    ensures err { IfErr result (Stopped R.remaining W.contents (IsMeaning config) config reader.old reader.new writer.old writer.new) }
+    ensures config { ¬ IsConfig config → result ≡ Err Fault.BadConfig }
+    ensures limit { ReadsAtMost R.remaining (MAX_SCRIPT + 1) reader.old reader.new }
+{
+    let input = read_input(alloc, config, reader)?;
+    let report = report_of(alloc, config, &input.script)?;
+    write_report(writer, &report)
+}

@@ -1,0 +1,62 @@
+//! A script on a machine, command by command.
+ghost use Rattle.xh_session.specs.Meaning.{step};
+ghost use Rattle.xh_session.specs.Steps.{StepsOrLacks};
+ghost use Rattle.xh_session.specs.Worlds.{world_of};
+
+mod blocks;
+mod channels;
+mod messages;
+mod processes;
+
+use crate::machine::Machine;
+use crate::names::Names;
+use std::alloc::Global;
+use xh_core::Contract;
+use xh_model::limits::MAX_BUDGET;
+use xh_script::{Command, Form, Reply};
+
+/// A machine, what the names of a script stand for, and the script's contracts by number.
+#[derive(Drop)]
+pub struct Session<'a, M> {
+    pub machine: M,
+    pub names: Names,
+    pub contracts: &'a [Contract],
+}
+
+impl<'a, M: Machine> Session<'a, M> {
+    /// Does a command; its words stand where the form's row of the table has them. Where memory is
+    /// refused, the reply says so.
+    #[tactic(auto, unfolding(crate::specs::Meaning::step_by))]
+    pub fn step(&mut self, alloc: Global, c: &Command<u8>) -> Reply
+        ensures { StepsOrLacks M.alone (step (world_of M.state self.old) c.now) result (world_of M.state self.new) }
+    {
+        let process = c.name(0);
+        let named = c.name(1);
+        match c.form {
+            Form::Contract => Reply::Done,
+            Form::Process => self.process(process),
+            Form::Wire => self.wire(
+                process,
+                named,
+                c.name(2),
+                c.name(3),
+                c.number(4),
+                c.contract(5),
+            ),
+            Form::Open => self.open(process, named, c.name(2), c.number(3), c.contract(4)),
+            Form::Alloc => self.alloc(alloc, process, named, c.number(2), c.number(3)),
+            Form::Split => self.split(alloc, process, named, c.number(2), c.name(3)),
+            Form::Read => self.read(process, named, c.number(2), c.number(3)),
+            Form::Write => self.write(process, named, c.number(2), c.bytes(3)),
+            Form::Give => self.give(process, named, c.number(2), c.from(3)),
+            Form::Take => self.take(false, process, named, c.from(2)),
+            Form::Await => self.take(true, process, named, c.from(2)),
+            Form::Free => self.free(process, named),
+            Form::Close => self.close(process, named),
+            Form::Exit => self.exit(process, c.number_or(1, u32::from(MAX_BUDGET))),
+            Form::Kill => self.kill(process, named, c.number_or(2, u32::from(MAX_BUDGET))),
+            Form::Glance => self.glance(process, named),
+            Form::Again => self.again(process),
+        }
+    }
+}

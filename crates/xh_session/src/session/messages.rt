@@ -1,0 +1,98 @@
+//! The commands give and take.
+ghost use Rattle.std.specs.Prelude.{◌≡◌, ◌≤◌, length, map, option_map};
+ghost use Rattle.xh_model.specs.declared.limits.TheConstants.{MAX_BLOCKS};
+ghost use Rattle.xh_script.specs.declared.limits.TheConstants.{MAX_WORDS};
+ghost use Rattle.xh_session.specs.Meaning.{give_step, take_step, handed_back};
+ghost use Rattle.xh_session.specs.Steps.{Steps};
+ghost use Rattle.xh_session.specs.Worlds.{world_of};
+
+use crate::machine::Machine;
+use crate::names::{Names, not_among};
+use crate::session::Session;
+use arrayvec::ArrayVec;
+use xh_core::{Block, Refused};
+use xh_model::limits::MAX_BLOCKS;
+use xh_script::limits::MAX_TAG;
+use xh_script::{Reply, Word};
+
+fn length_of(block: &Option<Block>) -> Option<u32>
+    ensures { result ≡ option_map (λ b. b.len) block.now }
+{
+    match block {
+        Some(block) => Some(block.len),
+        None => None,
+    }
+}
+
+fn lengths_of(blocks: &[Option<Block>]) -> ArrayVec<Option<u32>, MAX_BLOCKS>
+    requires { length blocks.now ≤ MAX_BLOCKS }
+    ensures { result.items ≡ map (option_map (λ b. b.len)) blocks.now }
+{
+    let mut lengths = ArrayVec::new();
+    for block in blocks {
+        lengths.push(length_of(block));
+    }
+    lengths
+}
+
+/// A refused give unbinds the names of the blocks that were not handed back.
+fn keep_back(names: &mut Names, process: u8, records: &[u16], refused: &Refused)
+    requires { length records.now ≤ MAX_WORDS }
+    ensures { names.new ≡ handed_back process records.now refused.now names.old }
+{
+    let back = match refused {
+        Refused::Full { back } => back,
+        Refused::PeerClosed { back } => back,
+        Refused::Protocol { back } => back,
+        _ => return,
+    };
+    names.unbind_each(process, not_among(back.as_slice(), records).as_slice());
+}
+
+impl<'a, M: Machine> Session<'a, M> {
+    pub(crate) fn give(&mut self, process: u8, endpoint: u8, tag: u32, words: &[Word<u8>]) -> Reply
+        requires { length words.now ≤ MAX_WORDS }
+        ensures { Steps M.alone (give_step (world_of M.state self.old) process endpoint tag words.now) result (world_of M.state self.new) }
+    {
+        let number = self.names.number(process);
+        let rec = self.names.record_of(process, endpoint);
+        let records = self.names.records_of(process, words);
+        let tag = tag.min(MAX_TAG) as u16;
+        match self.machine.give(number, rec, tag, records.as_slice()) {
+            Ok(message) => {
+                self.names.unbind_each(process, records.as_slice());
+                Reply::Given(message)
+            }
+            Err(refused) => {
+                keep_back(&mut self.names, process, records.as_slice(), &refused);
+                Reply::NotGiven(refused)
+            }
+        }
+    }
+
+    /// Takes a message, and waits for one where others can send it.
+    pub(crate) fn take(
+        &mut self,
+        waits: bool,
+        process: u8,
+        endpoint: u8,
+        words: &[Word<u8>],
+    ) -> Reply
+        ensures { Steps M.alone (take_step (world_of M.state self.old) process endpoint words.now) result (world_of M.state self.new) }
+    {
+        let number = self.names.number(process);
+        let rec = self.names.record_of(process, endpoint);
+        match self.machine.take(number, rec, waits) {
+            Ok(message) => {
+                self.names
+                    .bind_each(process, words, message.blocks.as_slice());
+                Reply::Taken {
+                    number: message.number,
+                    tag: message.tag,
+                    blocks: lengths_of(message.blocks.as_slice()),
+                }
+            }
+            Err(refused) => Reply::No(refused),
+        }
+    }
+}

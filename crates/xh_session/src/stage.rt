@@ -1,0 +1,129 @@
+//! A script on the serial machine, step by step.
+ghost use Rattle.std.specs.Prelude.{◌≡◌, ◌≢◌, ◌⊎◌, ◌<◌, length, IfOk, IfErr, OnOk, false};
+ghost use Rattle.std.specs.List.{All};
+ghost use Rattle.xh_model.specs.Config.{IsConfig};
+ghost use Rattle.xh_model.specs.declared.limits.TheConstants.{PLACES};
+ghost use Rattle.xh_serial.specs.PlaceCommands.{new_machine};
+ghost use Rattle.xh_script.specs.Scripts.{listing_of};
+ghost use Rattle.xh_session.specs.Meaning.{new_world, step, answers, after};
+ghost use Rattle.xh_session.specs.Output.{run_text};
+ghost use Rattle.xh_session.specs.Reports.{text_of};
+
+use crate::names::Names;
+use crate::report::Report;
+use crate::session::Session;
+use std::alloc::{AllocError, Global};
+use std::marker::Model;
+use xh_core::{Config, Contract, Refused};
+use xh_script::{Answered, Fault, Line, Reply, Script};
+use xh_serial::Serial;
+
+/// A serial machine, what the names of a script stand for, and the script's contracts: what the
+/// commands were done on so far.
+#[derive(Drop)]
+pub struct Stage<'a> {
+    session: Session<'a, Serial>,
+}
+
+impl<'a> Model for Stage<'a> {
+    ghost use Rattle.xh_session.specs.Meaning.{World};
+    ghost use Rattle.xh_session.specs.Worlds.{world_of};
+
+    ghost Value = { World };
+
+    ghost view = { λ s. world_of (λ m. m) s.session };
+}
+
+// Whether memory was refused.
+fn lacks_memory(reply: &Reply) -> bool
+    ensures { result ≡ false → reply.now ≢ Reply.No Refused.OutOfMemory }
+{
+    matches!(reply, Reply::No(Refused::OutOfMemory))
+}
+
+fn new_machine(alloc: Global, config: Config) -> Result<Serial, Fault>
+    ensures fresh { IfOk result (λ machine. machine ≡ new_machine config) }
+    ensures refused { IfErr result (λ e. ((e ≡ Fault.BadConfig) × ¬ IsConfig config) ⊎ (e ≡ Fault.Memory)) }
+{
+    match Serial::new(alloc, config) {
+        Ok(machine) => Ok(machine),
+        Err(refused) => match refused {
+            Refused::BadSize => Err(Fault::BadConfig),
+            _ => Err(Fault::Memory),
+        },
+    }
+}
+
+impl<'a> Stage<'a> {
+    /// A new machine, on which no command was done yet.
+    pub fn new(alloc: Global, config: Config, contracts: &'a [Contract]) -> Result<Stage<'a>, Fault>
+        ensures fresh { IfOk result (λ stage. stage ≡ new_world config contracts.entry.now) }
+        ensures refused { IfErr result (λ e. ((e ≡ Fault.BadConfig) × ¬ IsConfig config) ⊎ (e ≡ Fault.Memory)) }
+    {
+        let names = Names::new(alloc)?;
+        let machine = new_machine(alloc, config)?;
+        Ok(Stage {
+            session: Session {
+                machine,
+                names,
+                contracts,
+            },
+        })
+    }
+
+    /// Does the command of one more line.
+    pub fn step(&mut self, alloc: Global, line: &Line) -> Result<Answered, AllocError>
+        ensures reply { IfOk result (λ answered. answered ≡ record { line = line.now.number; reply = (step self.old line.now.command).0 }) }
+        ensures after { OnOk result (self.new ≡ (step self.old line.now.command).1) }
+    {
+        let reply = self.session.step(alloc, &line.command);
+        if lacks_memory(&reply) {
+            return Err(AllocError);
+        }
+        Ok(Answered {
+            line: line.number,
+            reply,
+        })
+    }
+
+    // Does the commands of lines in order. Want of memory ends the run.
+    fn run(&mut self, alloc: Global, lines: &[Line]) -> Result<Vec<Answered>, AllocError>
+        ensures answers { IfOk result (λ replies. replies.items ≡ answers self.old lines.now) }
+        ensures after { OnOk result (self.new ≡ after self.old lines.now) }
+    {
+        let mut replies = Vec::with_capacity(alloc, lines.len())?;
+        for line in lines {
+            let answered = self.step(alloc, line)?;
+            replies.push_reserved(answered);
+        }
+        Ok(replies)
+    }
+
+    /// Does a script's commands, and tells what they leave.
+    pub(crate) fn report(&mut self, alloc: Global, script: &Script) -> Result<Report, AllocError>
+        ensures text { IfOk result (λ r. text_of r ≡ run_text self.old (listing_of script.now)) }
+        ensures places { IfOk result (λ r. (length r.names.items ≡ PLACES) × All (λ line. line.place < PLACES) r.ledger.places.items) }
+    {
+        let answers = self.run(alloc, &script.lines)?;
+        let names = self.session.names.by_place(alloc, &script.processes)?;
+        Ok(Report {
+            answers,
+            ledger: self.session.machine.ledger(),
+            names,
+        })
+    }
+
+    /// The machine as the commands left it.
+    pub fn machine(&self) -> &Serial
+        ensures { result.now ≡ self.now.machine }
+    {
+        &self.session.machine
+    }
+
+    /// By place, the number of the name of its latest process.
+    pub fn latest(&self) -> &[u8]
+        ensures { result.now ≡ self.now.names.latest }
+    {
+        self.session.names.latest()
+    }
+}
