@@ -14,7 +14,6 @@ use Rattle.xh_records.specs.declared.shape.Shape.{Shape}
 use Rattle.xh_records.specs.declared.view.View.{View}
 use Rattle.xh_model.specs.declared.event.Holder.TheVariants.{Process}
 use Rattle.xh_model.specs.Words.{Ownership, IsHeldBy, word_of, place_of}
-use Rattle.xh_records.specs.History.{by_place}
 use Rattle.xh_records.specs.Showing.{Sits, ViewFits, ViewTells, Shows, Shown}
 use Rattle.xh_records.specs.inner.Views.{renewed}
 use Rattle.xh_records.specs.inner.Steps.{aged}
@@ -73,8 +72,8 @@ module _ {B : Type 0} (fits : B → ℕ → Bool) (s : Shape) where
           places = subst (λ (l : List ℕ). Distinct (map place_of l)) (sym mine_now) ((λ z. z), tt);
         },
         record {
-          has = λ x sat. subst (λ (z : ℕ). Among v.done (z, by_place z shown.log)) (turn ∙ ap place_of (sym (only_now x sat))) (told.has p sits);
-          only = λ y es among. let one = told.only y es among in
+          begins = told.begins;
+          only = λ y f among few. let one = told.only y f among few in
               let e : one.0 ≡ p = only_one (subst (λ (k : List ℕ). Among k one.0) mine one.1) in (p + 32, sits_now, one.2 ∙ ap place_of e ∙ turn, one.3);
         },
       ))

@@ -16,10 +16,11 @@ use Rattle.xh_records.specs.declared.shape.Shape.{Shape}
 use Rattle.xh_records.specs.declared.view.View.{View}
 use Rattle.xh_model.specs.Words.{Ownership, IsHeldBy, place_of}
 use Rattle.xh_model.specs.declared.event.Event.{Event}
-use Rattle.xh_records.specs.History.{by_place}
+use Rattle.xh_model.specs.declared.limits.TheConstants.{PLACES}
+use Rattle.xh_records.specs.History.{StartsWith}
 use Rattle.xh_records.specs.Showing.{Sits, Owns, ViewFits, ViewTells, Shows, Shown}
-use Rattle.xh_records.specs.inner.Views.{spent, joined, dealt, dealt_from, dealer, IsDealer, places_from}
-use Rattle.xh_records.proofs.History.{part, two_is, lists_there, lists_back}
+use Rattle.xh_records.specs.inner.Views.{IsAlone, front_in, note_of, spent, joined, dealt, dealt_from, dealer, IsDealer, places_from}
+use Rattle.xh_records.proofs.History.{one_is, lists_back}
 use Rattle.xh_records.proofs.Elements.{in_range, only_one, snoc_at, pick, pick_yes, pick_no}
 use Rattle.xh_records.proofs.Distinct.{distinct_places, least}
 
@@ -29,20 +30,30 @@ pub record Part (v u : View) : Type 0 where
   pub record_of : (k p : ℕ) → Owns u k p → Owns v k p × (Sits v p → Sits u p)
   pub all_records : (k p : ℕ) → Owns v k p → Sits u p → Owns u k p
   pub same_shape : (p : ℕ) → Sits u p → u.shape ≡ v.shape
-  pub some_list : (p : ℕ) (es : List Event) → Sits u p → Among v.done (place_of p, es) → (now : List Event) × Among u.done (place_of p, now)
-  pub only_lists : (q : ℕ) (es : List Event) → Among u.done (q, es) → Among v.done (q, es) × ((p : ℕ) → Sits v p → q ≡ place_of p → (k : ℕ) × Sits u k × (q ≡ place_of k))
+  pub tells : (log : List Event) → ViewTells log v → ViewTells log u
   pub places : Distinct (map place_of v.processes) → Distinct (map place_of u.processes)
 
+-- one that stands for no place
+bare : (v u : View) → u.processes ≡ [] → u.records ≡ [] → ((log : List Event) → ViewTells log v → ViewTells log u) → Part v u
+bare v u no_place no_record tells =
+    let none : (p : ℕ) → Sits u p → ⊥ = λ p h. subst (λ (l : List ℕ). Among l p) no_place h in record {
+      sits = λ p h. absurd (none p h);
+      record_of = λ k p h. absurd (subst (λ (l : List (ℕ × ℕ)). Among l (k, p)) no_record h);
+      all_records = λ k p h sits. absurd (none p sits);
+      same_shape = λ p h. absurd (none p h);
+      tells = tells;
+      places = λ d. subst (λ (l : List ℕ). Distinct (map place_of l)) (sym no_place) tt;
+    }
+
 nothing : (v : View) → Part v spent
-nothing v = record {
-  sits = λ p h. absurd h;
-  record_of = λ k p h. absurd h;
-  all_records = λ k p h sits. absurd sits;
-  same_shape = λ p h. absurd h;
-  some_list = λ p es h there. absurd h;
-  only_lists = λ q es h. absurd h;
-  places = λ d. tt;
-}
+nothing v = bare v spent refl refl (λ log told. record { begins = λ q f h. absurd h; only = λ q f h few. absurd h })
+
+a_note : (v : View) (p : ℕ) → IsAlone v p → Part v (note_of v)
+a_note v p alone = bare v (note_of v) refl refl (λ log told. record {
+  begins = λ q f h. subst (StartsWith log) (sym (one_is (note_of v).fronts q PLACES f (front_in v) refl h).1)
+      (told.begins (place_of p) (front_in v) (subst (λ (z : List (ℕ × List Event)). Among z (place_of p, front_in v)) (sym alone.1) (inl refl)));
+  only = λ q f h few. absurd (let e : q ≡ PLACES = (one_is (note_of v).fronts q PLACES f (front_in v) refl h).0 in omega arith);
+})
 
 everything : (v : View) → Part v v
 everything v = record {
@@ -50,8 +61,7 @@ everything v = record {
   record_of = λ k p h. (h, λ z. z);
   all_records = λ k p h sits. h;
   same_shape = λ p h. refl;
-  some_list = λ p es h there. (es, there);
-  only_lists = λ q es h. (h, λ p sits at. (p, sits, at));
+  tells = λ log told. told;
   places = λ d. d;
 }
 
@@ -64,11 +74,7 @@ part_shows s o log v u part fit tells = (
     knows = λ p sits. part.same_shape p sits ∙ fit.knows p (part.sits p sits);
     places = part.places fit.places;
   },
-  record {
-    has = λ p sits. let t = part.some_list p (by_place (place_of p) log) sits (tells.has p (part.sits p sits)) in
-        subst (λ (es : List Event). Among u.done (place_of p, es)) (tells.only (place_of p) t.0 (part.only_lists (place_of p) t.0 t.1).0).3 t.1;
-    only = λ q es there. let t = part.only_lists q es there in let was = tells.only q es t.0 in let k = t.1 was.0 was.1 was.2 in (k.0, k.1, k.2, was.3);
-  },
+  part.tells log tells,
 )
 
 -- a table that shows an ownership still does where its seats have these views now
@@ -92,6 +98,25 @@ reseats fits s o ws hs vs now shown process_at seat_of placed seated alone each 
   log = shown.log;
   history = record { leads = shown.history.leads; theirs = shown.history.theirs; tells = λ id v at. (each id v at).1 };
 }
+
+-- where one seat's view stands for the same processes as before, each place has its seat still, and no other
+module _ {B : Type 0} (fits : B → ℕ → Bool) (s : Shape) (o : Ownership) (ws : List ℕ) (hs : List (maybe.Option (Option (LotOf B)))) (vs : List View) (shown : Shows fits s o ws hs vs)
+    (id : ℕ) (v w : View) (at : get_elem? vs id ≡ some v) (same : w.processes ≡ v.processes) where
+  pub still_seated : (q : ℕ) → q < s.places → (u : View) × (get_elem? (set vs id w) (shown.seat_of q) ≡ some u) × Sits u (shown.process_at q) × (place_of (shown.process_at q) ≡ q)
+  still_seated q lt = let was = shown.seated q lt in let p : ℕ = shown.process_at q in dite (ℕ_discrete (shown.seat_of q) id)
+      (λ e. (
+        w,
+        subst (λ (x : ℕ). get_elem? (set vs id w) x ≡ some w) (sym e) (set_here vs id w (in_range vs id v at)),
+        subst (λ (l : List ℕ). Among l p) (sym same) (subst (λ (u : View). Sits u p) (some-injective was.0 v (sym was.1 ∙ subst (λ (x : ℕ). get_elem? vs x ≡ some v) (sym e) at)) was.2),
+        was.3,
+      ))
+      (λ n. (was.0, set_else vs id (shown.seat_of q) w n ∙ was.1, was.2, was.3))
+
+  pub still_alone : (j p : ℕ) (u : View) → get_elem? (set vs id w) j ≡ some u → Sits u p → (place_of p < s.places) × (p ≡ shown.process_at (place_of p)) × (j ≡ shown.seat_of (place_of p)) × (p < 4096)
+  still_alone j p u there sits = ⊎_elim
+      (λ (x : (j ≡ id) × (w ≡ u)). let was = shown.alone id p v at (subst (λ (l : List ℕ). Among l p) same (subst (λ (z : View). Sits z p) (sym x.1) sits)) in (was.0, was.1, x.0 ∙ was.2, was.3))
+      (λ (x : (j ≢ id) × (get_elem? vs j ≡ some u)). shown.alone j p u x.1 sits)
+      (at_set vs id j w u there)
 
 module _ {B : Type 0} (fits : B → ℕ → Bool) (s : Shape) where
   -- a table that shows an ownership still does after a seat with the view v keeps a part of it, and gives the other to a new seat
@@ -221,12 +246,11 @@ module _ {B : Type 0} (fits : B → ℕ → Bool) (s : Shape) where
 
       both_tells : ViewTells shown.log both
       both_tells = record {
-        has = λ p sits. ⊎_elim (λ (a : Sits v p). among_front v.done w.done (part shown.log p) (told_v.has p a)) (λ (b : Sits w p). among_back v.done w.done (part shown.log p) (told_w.has p b))
-            (among_either v.processes w.processes p sits);
-        only = λ q es told. ⊎_elim
-            (λ (a : Among v.done (q, es)). let t = told_v.only q es a in (t.0, among_front v.processes w.processes t.0 t.1, t.2, t.3))
-            (λ (b : Among w.done (q, es)). let t = told_w.only q es b in (t.0, among_back v.processes w.processes t.0 t.1, t.2, t.3))
-            (among_either v.done w.done (q, es) told);
+        begins = λ q f there. ⊎_elim (told_v.begins q f) (told_w.begins q f) (among_either v.fronts w.fronts (q, f) there);
+        only = λ q f there few. ⊎_elim
+            (λ (a : Among v.fronts (q, f)). let t = told_v.only q f a few in (t.0, among_front v.processes w.processes t.0 t.1, t.2, t.3))
+            (λ (b : Among w.fronts (q, f)). let t = told_w.only q f b few in (t.0, among_back v.processes w.processes t.0 t.1, t.2, t.3))
+            (among_either v.fronts w.fronts (q, f) there);
       }
 
       there : (j : ℕ) (u : View) → get_elem? now j ≡ some u → ((j ≡ other) × (spent ≡ u)) ⊎ ((j ≢ other) × (((j ≡ id) × (both ≡ u)) ⊎ ((j ≢ id) × (get_elem? vs j ≡ some u))))
@@ -298,8 +322,10 @@ later_places s p k = record {
   record_of = λ r q h. absurd h;
   all_records = λ r q h sits. h;
   same_shape = λ q h. refl;
-  some_list = λ q es h there. ([], lists_there (places_from (suc p) k) q h);
-  only_lists = λ q es h. (inr h, λ j sits at. let t = lists_back (places_from (suc p) k) q es h in (t.0, t.1, t.2));
+  tells = λ log told. record {
+    begins = λ q f h. told.begins q f (inr h);
+    only = λ q f h few. let t = lists_back (places_from (suc p) k) q f h in (t.0, t.1, t.2, (told.only q f (inr h) few).3);
+  };
   places = λ d. d.1;
 }
 
@@ -309,8 +335,10 @@ first_place s p k = record {
   record_of = λ r q h. absurd h;
   all_records = λ r q h sits. h;
   same_shape = λ q h. refl;
-  some_list = λ q es h there. ([], inl (ap (λ (z : ℕ). (place_of z, [])) (only_one h)));
-  only_lists = λ q es h. (inl (only_one h), λ j sits at. (p, inl refl, (two_is q (place_of p) es [] (only_one h)).0));
+  tells = λ log told. record {
+    begins = λ q f h. told.begins q f (inl (only_one h));
+    only = λ q f h few. (p, inl refl, (one_is ((place_of p, []) ∷ []) q (place_of p) f [] refl h).0, (told.only q f (inl (only_one h)) few).3);
+  };
   places = λ d. ((λ z. z), tt);
 }
 
@@ -323,3 +351,6 @@ deals {B} fits s id v is =
 
 pub hands_over : {B : Type 0} (fits : B → ℕ → Bool) (s : Shape) (id : ℕ) (v : View) → KeepsSplit {B = B} fits s id v spent v
 hands_over fits s id v = cuts fits s id v spent v (nothing v) (everything v) (λ q h. inr h) (λ q h m. h)
+
+pub notes : {B : Type 0} (fits : B → ℕ → Bool) (s : Shape) (id p : ℕ) (v : View) → IsAlone v p → KeepsSplit {B = B} fits s id v v (note_of v)
+notes fits s id p v alone = cuts fits s id v v (note_of v) (everything v) (a_note v p alone) (λ q h. inl h) (λ q h m. m)

@@ -1,6 +1,6 @@
 -- The closed table: its words, the lots at home, and those that the seats had.
 use Rattle.std.proofs.Common.{◌≡◌, ℕ, zero, suc, ◌*◌, ◌<◌, map, length-append, ◌≤◌, Bool, List, [], ◌∷◌}
-use Rattle.std.proofs.Common.{◌++◌, length, take, get_or, sym, refl, ap, ◌∙◌, subst, inl, inr, ⊎_elim, arith, rules}
+use Rattle.std.proofs.Common.{◌++◌, length, take, get_or, sym, refl, ap, ◌∙◌, subst, inl, inr, ⊎_elim, arith, rules, mod-lt}
 use Rattle.std.proofs.lemmas.List.{length-map}
 use Rattle.std.specs.Prelude.{Option, Some, None, slice_get}
 use Rattle.std.specs.Option.{option_or, IsSome}
@@ -21,6 +21,7 @@ use Rattle.xh_model.specs.Keyed.{Among, Distinct, keys}
 use Rattle.xh_model.proofs.Keyed.{among_back, among_either, among_front, at_key}
 use Rattle.xh_records.specs.declared.shape.Shape.{Shape}
 use Rattle.xh_records.specs.declared.view.View.{View}
+use Rattle.xh_records.specs.History.{by_place}
 use Rattle.xh_records.specs.Showing.{IsLotAt, Sits, Owns, ViewFits, Shows, Shown, IsSmall}
 use Rattle.xh_records.specs.Seats.{Held, owned_by, indices, lot_in, view_of, Ends, EndsAs}
 use Rattle.xh_records.specs.inner.Events.{IsAway, IsHomeLot}
@@ -38,9 +39,9 @@ AllSit {B} places seats = (q : ℕ) → q < places → (j : ℕ) × (x : Held B)
 
 -- one more seat is gathered
 pub gathers : {B : Type 0} (m : ℕ) (seats : List (Held B)) (x : Held B) (v v' : View) (held held' : List (Option (LotOf B))) → get_elem? seats m ≡ some x → IsGathered (suc m) seats v held
-    → v'.processes ≡ v.processes ++ x.process ∷ [] → v'.records ≡ v.records ++ (view_of x).records → v'.done ≡ v.done ++ (view_of x).done → length held' ≡ length held
+    → v'.processes ≡ v.processes ++ x.process ∷ [] → v'.records ≡ v.records ++ (view_of x).records → v'.fronts ≡ v.fronts ++ (view_of x).fronts → x.done ≡ by_place (place_of x.process) x.front → length held' ≡ length held
     → ((r : ℕ) → Among (indices x) r → (l : LotOf B) × (lot_in r x ≡ Some l)) → ((r : ℕ) → r < length held → slot_at held' r ≡ or_else (lot_in r x) (slot_at held r)) → IsGathered m seats v' held'
-gathers {B} m seats x v v' held held' at old places records lists long has fill = record {
+gathers {B} m seats x v v' held held' at old places records lists did long has fill = record {
   each = λ p h. ⊎_elim
       (λ (a : Among v.processes p). old.each p a)
       (λ (b : Among (x.process ∷ []) p). (m, x, at, sym (only_one b)))
@@ -57,11 +58,10 @@ gathers {B} m seats x v v' held held' at old places records lists long has fill 
   sits = λ k y there le. dite (ℕ_discrete k m)
       (λ e. subst (λ (l : List ℕ). Among l y.process) (sym places) (among_back v.processes (x.process ∷ []) y.process (inl (ap (λ (z : Held B). z.process) (same k y e there)))))
       (λ n. subst (λ (l : List ℕ). Among l y.process) (sym places) (among_front v.processes (x.process ∷ []) y.process (old.sits k y there (omega arith))));
-  done = λ k y there le. dite (ℕ_discrete k m)
-      (λ e. subst (λ (l : List (ℕ × List Event)). Among l (place_of y.process, y.done)) (sym lists)
-      (among_back v.done (view_of x).done (place_of y.process, y.done) (inl (ap (λ (z : Held B). (place_of z.process, z.done)) (same k y e there)))))
-      (λ n. subst (λ (l : List (ℕ × List Event)). Among l (place_of y.process, y.done)) (sym lists)
-      (among_front v.done (view_of x).done (place_of y.process, y.done) (old.done k y there (omega arith))));
+  fronts = λ k y there le. subst (λ (l : List (ℕ × List Event)). Among l (place_of y.process, y.front) × (y.done ≡ by_place (place_of y.process) y.front)) (sym lists) (dite (ℕ_discrete k m)
+      (λ e. subst (λ (z : Held B). Among (v.fronts ++ (view_of x).fronts) (place_of z.process, z.front) × (z.done ≡ by_place (place_of z.process) z.front)) (sym (same k y e there))
+      (among_back v.fronts (view_of x).fronts (place_of x.process, x.front) (inl refl), did))
+      (λ n. let t = old.fronts k y there (omega arith) in (among_front v.fronts (view_of x).fronts (place_of y.process, y.front) t.0, t.1)));
   records = λ r p owns. ⊎_elim
       (λ (a : Owns v r p). let t = old.records r p a in (t.0, t.1, t.2, let le : suc m ≤ t.0 = t.3 in omega arith, t.4))
       (λ (b : Among (view_of x).records (r, p)). (m, x, at, omega arith, b))
@@ -97,7 +97,7 @@ gathers_none {B} seats m held past none_there = record {
   count = omega (arith, past);
   one = λ d i j x y at_x at_y le le' e. absurd (let k = in_range seats i x at_x in omega arith);
   sits = λ k y there le. absurd (let i = in_range seats k y there in omega arith);
-  done = λ k y there le. absurd (let i = in_range seats k y there in omega arith);
+  fronts = λ k y there le. absurd (let i = in_range seats k y there in omega arith);
   records = λ r p owns. absurd owns;
   all_records = λ k r p y there le owns. absurd (let i = in_range seats k y there in omega arith);
   lots = λ r l below e. let f : None ≡ Some l = sym (none_there r below) ∙ e in absurd (cc);
@@ -202,7 +202,8 @@ module _ {B : Type 0} (fits : B → ℕ → Bool) (s : Shape) (id : ℕ) (v : Vi
     log = shown.log;
     leads = shown.history.leads;
     theirs = shown.history.theirs;
-    parts = λ j x at. ((shown.history.tells id v final.1.1).only (place_of x.process) x.done (gathered.done j x (slice_elem seats j x at) (omega arith))).3;
+    parts = λ j x at. let t = gathered.fronts j x (slice_elem seats j x at) (omega arith) in t.1 ∙ ((shown.history.tells id v final.1.1).only (place_of x.process) x.front t.0 (mod-lt x.process (omega arith))).3;
+    fronts = λ j x at. (shown.history.tells id v final.1.1).begins (place_of x.process) x.front (gathered.fronts j x (slice_elem seats j x at) (omega arith)).0;
     holders = shown.holders;
     words_are = sym final.2 ∙ shown.words_are;
     lots_long = size ∙ sym long ∙ sym count;

@@ -1,5 +1,5 @@
 -- A step on one record's word keeps the rule.
-use Rattle.std.proofs.Common.{◌≡◌, ℕ, ◌%◌, ◌<◌, ◌≢◌, Bool, List, [], ◌∷◌, ◌++◌, map, length, set, get_or, eqb, sym, refl, ap, ◌∙◌, subst, inl, inr, ⊎_elim, arith, length-set, ne_eqb, eq-eqb}
+use Rattle.std.proofs.Common.{◌≡◌, ℕ, ◌%◌, ◌<◌, ◌≢◌, Bool, List, [], ◌∷◌, ◌++◌, map, length, set, get_or, eqb, sym, refl, ap, ◌∙◌, subst, inl, inr, ⊎_elim, arith, length-set, ne_eqb, eq-eqb, append-nil}
 use Rattle.std.specs.Prelude.{Option, Some, None}
 use mathlib.Core.Option.{none, some, some-injective, some-ne-none}
 use mathlib.Core.Option as maybe
@@ -20,13 +20,14 @@ use Rattle.xh_model.specs.declared.event.Event.{Event}
 use Rattle.xh_model.specs.Slots.{index_of}
 use Rattle.xh_model.specs.Words.{Ownership, IsHeldBy, IsHolder, IsDone, word_of, place_of, number_of, record_of, from_of, to_of}
 use Rattle.xh_model.proofs.Words.{word_injective, index_back, number_inside}
-use Rattle.xh_records.specs.History.{process_of}
-use Rattle.xh_records.specs.Showing.{Sits, Owns, IsLotAt, HomeFits, ViewFits, IsSmall, Shows, Shown}
+use Rattle.xh_records.specs.History.{LeadsTo, all_free, by_place, process_of}
+use Rattle.xh_records.specs.Showing.{Sits, Owns, IsLotAt, HomeFits, ViewFits, ViewTells, IsSmall, Shows, Shown}
 use Rattle.xh_records.specs.Seats.{Knows}
 use Rattle.xh_records.specs.inner.Events.{taking, giving, IsAway, IsHomeLot}
-use Rattle.xh_records.specs.inner.Views.{IsAlone, adds, gained, lost}
-use Rattle.xh_records.specs.inner.Steps.{took, gave, looked, process_in}
-use Rattle.xh_records.proofs.History.{more_history}
+use Rattle.xh_records.specs.inner.Views.{IsAlone, first_front, gained, head_of, knowing, lost}
+use Rattle.xh_records.specs.inner.Steps.{IsOthers, SeesMore, took, gave, looked, compared, process_in}
+use Rattle.xh_records.proofs.History.{Unseen, more_history, one_log, tells_all, unseen}
+use Rattle.xh_records.proofs.Cuts.{reseats, still_alone, still_seated}
 use Rattle.xh_records.proofs.After.{done_after}
 use Rattle.xh_records.proofs.Elements.{in_range, is_there, nth_is, only_one}
 use prog.Atomic.{either}
@@ -49,17 +50,17 @@ pub record Change (v w : View) (r : ℕ) (h k : Option Holder) : Type 0 where
   pub right : (p : ℕ) → Owns w r p → k ≡ Some (Process p)
   pub left : (p : ℕ) → k ≡ Some (Process p) → Owns w r p
 
--- the event by which it does
-pub record By (s : Shape) (v w : View) (r : ℕ) (h k : Option Holder) (e : Event) : Type 0 where
+-- the event by which it does, after the log so far
+pub record By (s : Shape) (log : List Event) (v w : View) (r : ℕ) (h k : Option Holder) (e : Event) : Type 0 where
   pub inside : record_of e % 256 < s.records
   pub index : index_of s.records (record_of e) ≡ r
   pub from : from_of e ≡ h
   pub to : to_of e ≡ k
-  pub alone : IsAlone v (process_of e)
-  pub done : w.done ≡ adds e v.done
+  pub sits : Sits v (process_of e)
+  pub front : w.fronts ≡ (place_of (process_of e), log ++ e ∷ []) ∷ []
 
 module _ {B : Type 0} (fits : B → ℕ → Bool) (s : Shape) (o : Ownership) (ws : List ℕ) (hs : List (maybe.Option (Option (LotOf B)))) (vs : List View) (shown : Shows fits s o ws hs vs)
-    (id r : ℕ) (v w : View) (h k : Option Holder) (at : get_elem? vs id ≡ some v) (held : IsHeldBy o r h) (change : Change v w r h k) (e : Event) (by : By s v w r h k e) where
+    (id r : ℕ) (v w : View) (h k : Option Holder) (at : get_elem? vs id ≡ some v) (held : IsHeldBy o r h) (change : Change v w r h k) (e : Event) (by : By s shown.log v w r h k e) where
   abbrev o' : Ownership
   o' = set o r k
 
@@ -104,11 +105,8 @@ module _ {B : Type 0} (fits : B → ℕ → Bool) (s : Shape) (o : Ownership) (w
   done : IsDone s.records o e o'
   done = subst (λ (z : ℕ × Option Holder × Option Holder). IsHeldBy o z.0 z.1 × (set o r k ≡ set o z.0 z.2)) (λ i. (sym by.index i, sym by.from i, sym by.to i)) (held, refl)
 
-  mine : Sits v (process_of e)
-  mine = subst (λ (l : List ℕ). Among l (process_of e)) (sym by.alone.0) (inl refl)
-
   elsewhere : (j p : ℕ) (u : View) → j ≢ id → get_elem? vs j ≡ some u → Sits u p → place_of (process_of e) ≢ place_of p
-  elsewhere j p u other there sits same = other ((shown.alone j p u there sits).2 ∙ ap shown.seat_of (sym same) ∙ sym (shown.alone id (process_of e) v at mine).2)
+  elsewhere j p u other there sits same = other ((shown.alone j p u there sits).2 ∙ ap shown.seat_of (sym same) ∙ sym (shown.alone id (process_of e) v at by.sits).2)
 
   pub moved : (y : maybe.Option (Option (LotOf B))) → IsHolder k → HomeFits fits s r k y → Shows fits s o' (set ws r (word_of k)) (set hs r y) (set vs id w)
   moved y good home = record {
@@ -132,26 +130,16 @@ module _ {B : Type 0} (fits : B → ℕ → Bool) (s : Shape) (o : Ownership) (w
         (at_set o r r' k (Some (Process p)) is);
     process_at = shown.process_at;
     seat_of = shown.seat_of;
-    seated = λ q lt. let was = shown.seated q lt in let p : ℕ = shown.process_at q in dite (ℕ_discrete (shown.seat_of q) id)
-        (λ e. (
-          w,
-          subst (λ (x : ℕ). get_elem? (set vs id w) x ≡ some w) (sym e) (set_here vs id w (in_range vs id v at)),
-          sits p (subst (λ (u : View). Sits u p) (some-injective was.0 v (sym was.1 ∙ subst (λ (x : ℕ). get_elem? vs x ≡ some v) (sym e) at)) was.2),
-          was.3,
-        ))
-        (λ n. (was.0, set_else vs id (shown.seat_of q) w n ∙ was.1, was.2, was.3));
-    alone = λ j p u there sat_there. ⊎_elim
-        (λ (t : (j ≡ id) × (w ≡ u)). let was = shown.alone id p v at (sat p (subst (λ (x : View). Sits x p) (sym t.1) sat_there)) in (was.0, was.1, t.0 ∙ was.2, was.3))
-        (λ (t : (j ≢ id) × (get_elem? vs j ≡ some u)). shown.alone j p u t.1 sat_there)
-        (at_set vs id j w u there);
+    seated = still_seated fits s o ws hs vs shown id v w at change.processes;
+    alone = still_alone fits s o ws hs vs shown id v w at change.processes;
     views_fit = λ j u there. ⊎_elim
         (λ (t : (j ≡ id) × (w ≡ u)). subst (ViewFits s o') t.1 mine_fits)
         (λ (t : (j ≢ id) × (get_elem? vs j ≡ some u)). others_fit j u t.0 t.1)
         (at_set vs id j w u there);
     small = shown.small;
     log = shown.log ++ e ∷ [];
-    history = more_history s o o' vs shown.log id v w e shown.history done (done_after s.records o o' e by.inside (subst IsHolder (sym by.to) good) done) (length-set o r k)
-        (shown.alone id (process_of e) v at mine).0 at by.alone change.processes by.done elsewhere;
+    history = more_history s o o' vs shown.log id w e shown.history done (done_after s.records o o' e by.inside (subst IsHolder (sym by.to) good) done) (length-set o r k)
+        (shown.alone id (process_of e) v at by.sits).0 (sits (process_of e) by.sits) by.front elsewhere;
   }
 
 pub among_without : (r : ℕ) (xs : List (ℕ × ℕ)) (x : ℕ × ℕ) → Among (without r xs) x → Among xs x × (x.0 ≢ r)
@@ -169,15 +157,15 @@ among_kept r (y ∷ ys) x other h = dite (ℕ_discrete y.0 r)
     (λ n. subst (λ (l : List (ℕ × ℕ)). Among l x) (sym (without_there r y ys n)) (⊎_elim (λ (q : x ≡ y). inl q) (λ (u : Among ys x). inr (among_kept r ys x other u)) h))
 
 -- by the event e the record n goes from h to k, and the process p does it
-abbrev IsMove : Event → ℕ → ℕ → Option Holder → Option Holder → Type 0
+abbrev pub IsMove : Event → ℕ → ℕ → Option Holder → Option Holder → Type 0
 IsMove e n p h k = (record_of e ≡ n) × (from_of e ≡ h) × (to_of e ≡ k) × (process_of e ≡ p)
 
-taking_is : (p n : ℕ) (h : Option Holder) → IsAway h → IsMove (taking p n h) n p h (Some (Process p))
+pub taking_is : (p n : ℕ) (h : Option Holder) → IsAway h → IsMove (taking p n h) n p h (Some (Process p))
 taking_is p n None away = (refl, refl, refl, refl)
 taking_is p n (Some (Process q)) away = absurd (away q refl)
 taking_is p n (Some (Direction d)) away = (refl, refl, refl, refl)
 
-giving_is : (p n : ℕ) (k : Option Holder) → IsAway k → IsMove (giving p n k) n p (Some (Process p)) k
+pub giving_is : (p n : ℕ) (k : Option Holder) → IsAway k → IsMove (giving p n k) n p (Some (Process p)) k
 giving_is p n None away = (refl, refl, refl, refl)
 giving_is p n (Some (Process q)) away = absurd (away q refl)
 giving_is p n (Some (Direction d)) away = (refl, refl, refl, refl)
@@ -205,13 +193,22 @@ module _ {B : Type 0} (fits : B → ℕ → Bool) (s : Shape) where
     word_at = subst (λ (l : List ℕ). get_elem? l r ≡ some (word_of there.0)) (sym shown.words_are) (at_map word_of o r there.0 there.1);
   }
 
-  -- a step that leaves all as it was
-  stays : (t : State S View) (id : ℕ) (me : M) (r : ℕ) (n : ℕ) → Shown fits s t → get_elem? t.views id ≡ some me.0 → get_elem? t.words r ≡ some n → Shown fits s (stepped t r n id me.1 me.0 keeps)
-  stays t id me r n holds here word = (
-    holds.0,
-    subst (λ (z : List ℕ × List View). Shows fits s holds.0 z.0 t.homes z.1)
-        (λ i. (sym (set_again t.words r n word) i, sym (set_again t.views id me.0 here) i)) holds.1,
-  )
+  -- a step that leaves all but what its seat has seen as it was
+  pub stays : (t : State S View) (id : ℕ) (me : M) (r : ℕ) (n : ℕ) (fronts : List (ℕ × List Event)) (holds : Shown fits s t) → get_elem? t.views id ≡ some me.0 → get_elem? t.words r ≡ some n
+      → ViewTells holds.1.log (record me.0 { fronts = fronts }) → Shown fits s (stepped t r n id me.1 (record me.0 { fronts = fronts }) keeps)
+  stays t id me r n fronts holds here word tells =
+      let o = holds.0 in let shown = holds.1 in let v : View = me.0 in let w : View = record v { fronts = fronts } in let fit = shown.views_fit id v here in (
+        o,
+        subst (λ (z : List ℕ). Shows fits s o z t.homes (set t.views id w)) (sym (set_again t.words r n word)) (reseats fits s o t.words t.homes t.views (set t.views id w) shown shown.process_at shown.seat_of
+            shown.placed
+            (still_seated fits s o t.words t.homes t.views shown id v w here refl)
+            (still_alone fits s o t.words t.homes t.views shown id v w here refl)
+            (λ j u there. ⊎_elim
+            (λ (x : (j ≡ id) × (w ≡ u)). subst (λ (z : View). ViewFits s o z × ViewTells shown.log z) x.1
+            (record { is_owner = fit.is_owner; owns_all = fit.owns_all; knows = fit.knows; places = fit.places }, tells))
+            (λ (x : (j ≢ id) × (get_elem? t.views j ≡ some u)). (shown.views_fit j u x.1, shown.history.tells j u x.1))
+            (at_set t.views id j w u there))),
+      )
 
   -- what a seat knows of the word of a record
   knows_word : (o : Ownership) (v : View) (r n : ℕ) (h : Option Holder) → ViewFits s o v → IsHeldBy o r h → IsHolder h → n ≡ word_of h → Knows v r n
@@ -223,9 +220,9 @@ module _ {B : Type 0} (fits : B → ℕ → Bool) (s : Shape) where
     ),
   )
 
-  pub takes_change : (o : Ownership) (v : View) (r p : ℕ) (h : Option Holder) → ViewFits s o v → IsHeldBy o r h → ((q : ℕ) → h ≡ Some (Process q) → ⊥) → v.processes ≡ p ∷ []
-      → Change v (gained v r p h) r h (Some (Process p))
-  takes_change o v r p h fit held free mine = let sits_p : Sits v p = subst (λ (l : List ℕ). Among l p) (sym mine) (inl refl) in
+  takes_change : (o : Ownership) (v : View) (r p : ℕ) (h : Option Holder) (others : List Event) → ViewFits s o v → IsHeldBy o r h → ((q : ℕ) → h ≡ Some (Process q) → ⊥) → v.processes ≡ p ∷ []
+      → Change v (gained v r p h others) r h (Some (Process p))
+  takes_change o v r p h others fit held free mine = let sits_p : Sits v p = subst (λ (l : List ℕ). Among l p) (sym mine) (inl refl) in
       let turn = λ (q : ℕ) (e : Some (Process p) ≡ Some (Process q)). same_place p q (ap word_of e) in record {
         processes = refl;
         shape = refl;
@@ -241,15 +238,15 @@ module _ {B : Type 0} (fits : B → ℕ → Bool) (s : Shape) where
       }
 
   -- the event of a step that takes, or gives
-  step_by : (v w : View) (r p : ℕ) (h k : Option Holder) (e : ℕ → Event) → ((n : ℕ) → IsMove (e n) n p h k) → IsSmall s → v.shape ≡ s → IsAlone v p
-      → w.done ≡ adds (e (number_of v.shape.records r)) v.done → By s v w r h k (e (number_of s.records r))
-  step_by v w r p h k e is small same alone done = let n : ℕ = number_of s.records r in let i = is n in record {
+  step_by : (log : List Event) (v w : View) (r p : ℕ) (h k : Option Holder) (e : ℕ → Event) → ((n : ℕ) → IsMove (e n) n p h k) → IsSmall s → v.shape ≡ s → Sits v p
+      → w.fronts ≡ (place_of p, log ++ e (number_of v.shape.records r) ∷ []) ∷ [] → By s log v w r h k (e (number_of s.records r))
+  step_by log v w r p h k e is small same sits front = let n : ℕ = number_of s.records r in let i = is n in record {
     inside = subst (λ (z : ℕ). z % 256 < s.records) (sym i.0) (number_inside s.records r small.0 small.1);
     index = ap (index_of s.records) i.0 ∙ index_back s.records r small.0 small.1;
     from = i.1;
     to = i.2;
-    alone = subst (IsAlone v) (sym i.3) alone;
-    done = done ∙ ap (λ (z : Shape). adds (e (number_of z.records r)) v.done) same;
+    sits = subst (Sits v) (sym i.3) sits;
+    front = front ∙ (λ j. (place_of (sym i.3 j), log ++ e (number_of (same j).records r) ∷ []) ∷ []);
   }
 
   -- what is at home, where no process holds the record
@@ -263,6 +260,31 @@ module _ {B : Type 0} (fits : B → ℕ → Bool) (s : Shape) where
   home_lot r (Some (Process p)) x away home = absurd (away p refl)
   home_lot r (Some (Direction d)) x away home = home
 
+  -- a look at the word of a record: the view afterwards, which has seen the whole log
+  a_look : (slots id : ℕ) (me : M) (r p : ℕ) → r < slots → IsAlone me.0 p → (t : State S View) → Shown fits s t → length t.homes ≡ slots → get_elem? t.views id ≡ some me.0
+      → (w : View) × Shown fits s (stepped t r (get_or t.words r 0) id me.1 w keeps) × SeesMore r (get_or t.words r 0) me (w, me.1)
+  a_look slots id me r p inside alone t holds long seen =
+      let o = holds.0 in let shown = holds.1 in let a : At t o r = at t o r slots shown long inside in let n : ℕ = get_or t.words r 0 in
+      let found : n ≡ word_of a.holder = nth_is t.words r 0 (word_of a.holder) a.word_at in
+      let fit = shown.views_fit id me.0 seen in
+      let sits : Sits me.0 p = subst (λ (k : List ℕ). Among k p) (sym alone.0) (inl refl) in
+      let new_to_it : Unseen shown.log me.0 p = unseen shown.log me.0 p (shown.history.tells id me.0 seen) alone in
+      let placed : process_in me.0 ≡ p = ap (λ (l : List ℕ). get_or l 0 0) alone.0 in
+      let w : View = knowing me.0 (new_to_it.others ++ []) in
+      let front : w.fronts ≡ (place_of p, shown.log) ∷ [] = new_to_it.now [] ∙ ap (λ (z : List Event). (place_of p, z) ∷ []) (append-nil shown.log) in (
+        w,
+        stays t id me r n w.fronts holds seen (a.word_at ∙ ap some (sym found)) (tells_all shown.log w p sits front),
+        (
+          new_to_it.others,
+          ap (λ (x : ℕ). by_place (place_of x) new_to_it.others) placed ∙ new_to_it.by,
+          refl,
+          (
+            knows_word o me.0 r n a.holder fit a.held (shown.holders r a.holder a.held) found,
+            (o, subst (λ (z : Shape × List Event). LeadsTo z.0.records (all_free (length o)) z.1 o) (λ i. (sym (fit.knows p sits) i, sym (ap first_front front) i)) shown.history.leads, a.holder, a.held, found),
+          ),
+        ),
+      )
+
   -- a compare that takes
   pub takes_lot : (slots id : ℕ) (me : M) (r old new p : ℕ) (h : Option Holder) (said : maybe.Option S) → old ≡ word_of h → new ≡ word_of (Some (Process p)) → IsAway h → r < slots → IsAlone me.0 p
       → Allows (Shown fits s) slots id me r (λ n. either (eqb n old) new n) (took fits (step slots r old new said) me)
@@ -272,23 +294,27 @@ module _ {B : Type 0} (fits : B → ℕ → Bool) (s : Shape) where
       let found : n ≡ word_of a.holder = nth_is t.words r 0 (word_of a.holder) a.word_at in
       let placed : process_in me.0 ≡ p = ap (λ (l : List ℕ). get_or l 0 0) mine in
       let sits : Sits me.0 p = subst (λ (k : List ℕ). Among k p) (sym mine) (inl refl) in
-      let good : p < 4096 = (shown.alone id p me.0 seen sits).3 in dite (ℕ_discrete n old)
+      let good : p < 4096 = (shown.alone id p me.0 seen sits).3 in
+      let new_to_it : Unseen shown.log me.0 p = unseen shown.log me.0 p (shown.history.tells id me.0 seen) alone in
+      let by_it : IsOthers me.0 new_to_it.others = ap (λ (x : ℕ). by_place (place_of x) new_to_it.others) placed ∙ new_to_it.by in dite (ℕ_discrete n old)
       (λ hit. let same : a.holder ≡ h = word_injective a.holder h (sym found ∙ hit ∙ is_old) in let held : IsHeldBy o r h = subst (IsHeldBy o r) same a.held in
-      let fit = shown.views_fit id me.0 seen in let x = shown.homes_are r h held in let l = home_lot r h x.0 free x.2 in let w : View = gained me.0 r p h in
+      let fit = shown.views_fit id me.0 seen in let x = shown.homes_are r h held in let l = home_lot r h x.0 free x.2 in let w : View = gained me.0 r p h new_to_it.others in
       let act : Act S = takes r (Some l.0) in (
         w,
         act,
         x.1 ∙ ap some l.1,
         subst (λ (m : ℕ). Shown fits s (stepped t r m id me.1 w act)) (sym (subst (λ (b : Bool). either b new n ≡ word_of (Some (Process p))) (sym (eq-eqb n old hit)) is_new)) (
           set o r (Some (Process p)),
-          moved fits s o t.words t.homes t.views shown id r me.0 w h (Some (Process p)) seen held (takes_change o me.0 r p h fit held free mine)
-              (taking p (number_of s.records r) h) (step_by me.0 w r p h (Some (Process p)) (λ n. taking p n h) (λ n. taking_is p n h free) shown.small (fit.knows p sits) alone refl) none good refl,
+          moved fits s o t.words t.homes t.views shown id r me.0 w h (Some (Process p)) seen held (takes_change o me.0 r p h new_to_it.others fit held free mine)
+              (taking p (number_of s.records r) h) (step_by shown.log me.0 w r p h (Some (Process p)) (λ n. taking p n h) (λ n. taking_is p n h free) shown.small (fit.knows p sits) sits (new_to_it.now _)) none good refl,
         ),
         (
           (λ _. (
             l.0,
+            new_to_it.others,
+            by_it,
             (λ k e. let is : h ≡ k = word_injective h k (sym is_old ∙ e) in (
-              (λ i. (gained me.0 r (sym placed i) (is i), (r, Some l.0) ∷ me.1)),
+              (λ i. (gained me.0 r (sym placed i) (is i) new_to_it.others, (r, Some l.0) ∷ me.1)),
               subst (λ (z : Option Holder). IsHomeLot fits z l.0) is l.3,
             )),
             subst (λ (z : Shape). IsLotAt z r l.0) (sym (fit.knows p sits)) l.2,
@@ -297,16 +323,17 @@ module _ {B : Type 0} (fits : B → ℕ → Bool) (s : Shape) where
           (λ miss. absurd (miss hit)),
         ),
       ))
-      (λ miss. (
-        me.0,
+      (λ miss. let look = a_look slots id me r p inside alone t holds long seen in (
+        look.0,
         keeps,
         tt,
-        subst (λ (b : Bool). Shown fits s (stepped t r (either b new n) id me.1 me.0 keeps)) (sym (ne_eqb n old miss)) (stays t id me r n holds seen (a.word_at ∙ ap some (sym found))),
-        ((λ hit. absurd (miss hit)), (λ _. (refl, knows_word o me.0 r n a.holder (shown.views_fit id me.0 seen) a.held (shown.holders r a.holder a.held) found))),
+        subst (λ (b : Bool). Shown fits s (stepped t r (either b new n) id me.1 look.0 keeps)) (sym (ne_eqb n old miss)) look.1,
+        ((λ hit. absurd (miss hit)), (λ _. look.2)),
       ))
 
-  pub gives_change : (o : Ownership) (v : View) (r p : ℕ) (k : Option Holder) → ViewFits s o v → Owns v r p → ((q : ℕ) → k ≡ Some (Process q) → ⊥) → Change v (lost v r p k) r (Some (Process p)) k
-  gives_change o v r p k fit owns free = let sits_p : Sits v p = (fit.is_owner r p owns).1 in record {
+  gives_change : (o : Ownership) (v : View) (r p : ℕ) (k : Option Holder) (others : List Event) → ViewFits s o v → Owns v r p → ((q : ℕ) → k ≡ Some (Process q) → ⊥)
+      → Change v (lost v r p k others) r (Some (Process p)) k
+  gives_change o v r p k others fit owns free = let sits_p : Sits v p = (fit.is_owner r p owns).1 in record {
     processes = refl;
     shape = refl;
     was_mine = λ q e. subst (λ (x : ℕ). Sits v x) (same_place p q (ap word_of e)) sits_p;
@@ -322,7 +349,8 @@ module _ {B : Type 0} (fits : B → ℕ → Bool) (s : Shape) where
       → IsAlone me.0 p → Owns me.0 r p → IsLotAt me.0.shape r lot → IsHomeLot fits k lot
       → Allows (Shown fits s) slots id me r (λ _. new) (λ _. gave (step slots r new 0 none) me new)
   gives_lot slots id me r new p k lot rest_of is_new free good front alone owns is_lot home t holds long seen small =
-      let o = holds.0 in let shown = holds.1 in let fit = shown.views_fit id me.0 seen in let was = fit.is_owner r p owns in let w : View = lost me.0 r p k in
+      let o = holds.0 in let shown = holds.1 in let fit = shown.views_fit id me.0 seen in let was = fit.is_owner r p owns in
+      let new_to_it : Unseen shown.log me.0 p = unseen shown.log me.0 p (shown.history.tells id me.0 seen) alone in let w : View = lost me.0 r p k new_to_it.others in
       let placed : process_in me.0 ≡ p = ap (λ (l : List ℕ). get_or l 0 0) alone.0 in let y : maybe.Option S = some (Some lot) in (
         w,
         gives,
@@ -331,20 +359,38 @@ module _ {B : Type 0} (fits : B → ℕ → Bool) (s : Shape) where
           set o r k,
           subst (λ (z : ℕ × List (maybe.Option S)). Shows fits s (set o r k) (set t.words r z.0) z.1 (set t.views id w))
               (λ i. (sym is_new i, ap (λ (c : List (ℕ × S)). put_back t.homes c) (sym front) i))
-              (moved fits s o t.words t.homes t.views shown id r me.0 w (Some (Process p)) k seen was.0 (gives_change o me.0 r p k fit owns free) (giving p (number_of s.records r) k)
-              (step_by me.0 w r p (Some (Process p)) k (λ n. giving p n k) (λ n. giving_is p n k free) shown.small (fit.knows p was.1) alone refl) y good (home_is r k lot (subst (λ (z : Shape). IsLotAt z r lot) (fit.knows p was.1) is_lot) home)),
+              (moved fits s o t.words t.homes t.views shown id r me.0 w (Some (Process p)) k seen was.0 (gives_change o me.0 r p k new_to_it.others fit owns free) (giving p (number_of s.records r) k)
+              (step_by shown.log me.0 w r p (Some (Process p)) k (λ n. giving p n k) (λ n. giving_is p n k free) shown.small (fit.knows p was.1) was.1 (new_to_it.now _)) y good (home_is r k lot (subst (λ (z : Shape). IsLotAt z r lot) (fit.knows p was.1) is_lot) home)),
         ),
-        (λ j e. let is : k ≡ j = word_injective k j (sym is_new ∙ e) in (λ i. (lost me.0 r (sym placed i) (is i), rest me.1))),
+        (
+          new_to_it.others,
+          ap (λ (x : ℕ). by_place (place_of x) new_to_it.others) placed ∙ new_to_it.by,
+          λ j e. let is : k ≡ j = word_injective k j (sym is_new ∙ e) in (λ i. (lost me.0 r (sym placed i) (is i) new_to_it.others, rest me.1)),
+        ),
       )
 
   -- a load
-  pub looks : (slots id : ℕ) (me : M) (r : ℕ) → r < slots → Allows (Shown fits s) slots id me r (λ n. n) (looked (step slots r 0 0 none) me)
-  looks slots id me r inside t holds long seen small =
+  pub looks : (slots id : ℕ) (me : M) (r p : ℕ) → r < slots → IsAlone me.0 p → Allows (Shown fits s) slots id me r (λ n. n) (looked (step slots r 0 0 none) me)
+  looks slots id me r p inside alone t holds long seen small = let look = a_look slots id me r p inside alone t holds long seen in (look.0, keeps, tt, look.1, look.2)
+
+  -- a load by a seat that was told what another had seen
+  pub compares : (slots id : ℕ) (me : M) (r : ℕ) (own note : ℕ × List Event) → r < slots → me.0.fronts ≡ own ∷ note ∷ []
+      → Allows (Shown fits s) slots id me r (λ n. n) (compared (step slots r 0 0 none) me)
+  compares slots id me r own note inside two t holds long seen small =
       let a : At t holds.0 r = at t holds.0 r slots holds.1 long inside in
-      let found : get_or t.words r 0 ≡ word_of a.holder = nth_is t.words r 0 (word_of a.holder) a.word_at in (
-        me.0,
+      let found : get_or t.words r 0 ≡ word_of a.holder = nth_is t.words r 0 (word_of a.holder) a.word_at in
+      let log : List Event = holds.1.log in let told = holds.1.history.tells id me.0 seen in
+      let first : head_of me.0.fronts ≡ own ∷ [] = ap (λ (z : List (ℕ × List Event)). head_of z) two in
+      let kept : (q : ℕ) (f : List Event) → Among (head_of me.0.fronts) (q, f) → Among me.0.fronts (q, f) = λ q f there.
+      subst (λ (z : List (ℕ × List Event)). Among z (q, f)) (sym two) (inl (only_one (subst (λ (z : List (ℕ × List Event)). Among z (q, f)) first there))) in (
+        record me.0 { fronts = head_of me.0.fronts },
         keeps,
         tt,
-        stays t id me r (get_or t.words r 0) holds seen (a.word_at ∙ ap some (sym found)),
-        (refl, knows_word holds.0 me.0 r (get_or t.words r 0) a.holder (holds.1.views_fit id me.0 seen) a.held (holds.1.holders r a.holder a.held) found),
+        stays t id me r (get_or t.words r 0) (head_of me.0.fronts) holds seen (a.word_at ∙ ap some (sym found))
+            record { begins = λ q f there. told.begins q f (kept q f there); only = λ q f there few. told.only q f (kept q f there) few },
+        (
+          refl,
+          λ x y is. one_log log x.1 y.1 (told.begins x.0 x.1 (subst (λ (z : List (ℕ × List Event)). Among z x) (sym is) (inl refl)))
+              (told.begins y.0 y.1 (subst (λ (z : List (ℕ × List Event)). Among z y) (sym is) (inr (inl refl)))),
+        ),
       )

@@ -14,10 +14,9 @@ use Rattle.xh_records.specs.declared.shape.Shape.{Shape}
 use Rattle.xh_records.specs.declared.view.View.{View}
 use Rattle.xh_records.specs.Showing.{IsLotOf, IsLotAt}
 use Rattle.xh_records.specs.Seats.{RecordsOf, Held, IsRecord, IsSeatOf, with_lots}
-use Rattle.xh_records.specs.inner.Views.{events_in}
 use Rattle.xh_records.specs.inner.Tokens.{IsListed, IsSeat, numbered}
 use Rattle.xh_records.proofs.Seating.{Reach, reaches, replaces}
-use Rattle.xh_records.proofs.Numbered.{held, number_is, put_numbered, slot_is, lot_there, held_as}
+use Rattle.xh_records.proofs.Numbered.{held, number_is, put_numbered, slot_is, lot_there, held_same}
 
 -- where the slot of a record of the table is
 pub record Spot {B : Type 0} (x : Held B) (me : Me (Option (LotOf B)) View) (slot r : ℕ) : Type 0 where
@@ -74,9 +73,8 @@ module _ {B : Type 0} (x : Held B) (t : TableId) (id process : ℕ) (me : Me (Op
 
   pub after_one : (t' : TableId) (id' : ℕ) (me' : Me (Option (LotOf B)) View) (slot r : ℕ) (l left : LotOf B) → Lent slot r l → t' ≡ t → id' ≡ id → me' ≡ (me.0, put slot (Some left) me.1)
       → held t' id' process me' ≡ with_lots x (put r left x.lots)
-  after_one t' id' me' slot r l left lent et en e = held_as x t id process me is t' id' me' (put r left x.lots) (λ d. d) et en (ap (λ (m : Me (Option (LotOf B)) View). m.0.shape) e)
+  after_one t' id' me' slot r l left lent et en e = held_same x t id process me is t' id' me' (put r left x.lots) et en (ap (λ (m : Me (Option (LotOf B)) View). m.0) e)
       (ap (λ (m : Me (Option (LotOf B)) View). numbered m.0.shape.records m.1) e ∙ put_numbered me.0.shape seat.small me.1 slot left seat.lots ∙ (λ i. put (lent.number i) left (is i).lots))
-      (ap (λ (m : Me (Option (LotOf B)) View). events_in m.0) e)
 
   -- the seat after two lots were lent
   pub kept_two : (i j r q : ℕ) (l m left also : LotOf B) → Lent i r l → Lent j q m → IsLotOf x.shape r left → IsLotOf x.shape q also
@@ -85,10 +83,8 @@ module _ {B : Type 0} (x : Held B) (t : TableId) (id process : ℕ) (me : Me (Op
 
   pub after_two : (t' : TableId) (id' : ℕ) (me' : Me (Option (LotOf B)) View) (i j r q : ℕ) (l m left also : LotOf B) → Lent i r l → Lent j q m → IsLotOf x.shape r left → t' ≡ t → id' ≡ id
       → me' ≡ (me.0, put j (Some also) (put i (Some left) me.1)) → held t' id' process me' ≡ with_lots x (put q also (put r left x.lots))
-  after_two t' id' me' i j r q l m left also one two lot et en e = held_as x t id process me is t' id' me' (put q also (put r left x.lots)) (λ d. d) et en
-      (ap (λ (z : Me (Option (LotOf B)) View). z.0.shape) e)
+  after_two t' id' me' i j r q l m left also one two lot et en e = held_same x t id process me is t' id' me' (put q also (put r left x.lots)) et en (ap (λ (z : Me (Option (LotOf B)) View). z.0) e)
       (ap (λ (z : Me (Option (LotOf B)) View). numbered z.0.shape.records z.1) e
       ∙ put_numbered me.0.shape seat.small (put i (Some left) me.1) j also (kept i r l left one lot).lots
       ∙ ap (put (number_of me.0.shape.records j) also) (put_numbered me.0.shape seat.small me.1 i left seat.lots)
       ∙ (λ k. put (two.number k) also (put (one.number k) left (is k).lots)))
-      (ap (λ (z : Me (Option (LotOf B)) View). events_in z.0) e)

@@ -10,5 +10,6 @@ pub mod Opening
 pub mod Seating
 pub mod Numbered
 pub mod Lent
+pub mod Looks
 pub mod Ended
 pub mod OneVault

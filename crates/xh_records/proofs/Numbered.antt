@@ -1,5 +1,5 @@
 -- A seat's lots by the numbers of their records.
-use Rattle.std.proofs.Common.{◌≡◌, ℕ, suc, ◌/◌, length, ◌%◌, ◌<◌, ◌≤◌, List, [], ◌∷◌, ◌++◌, map, sym, refl, ap, ◌∙◌, subst}
+use Rattle.std.proofs.Common.{◌≡◌, ℕ, suc, ◌/◌, length, ◌%◌, ◌<◌, ◌≤◌, List, [], ◌∷◌, ◌++◌, map, sym, refl, ap, ◌∙◌, subst, get_or, append-nil}
 use Rattle.std.specs.Prelude.{Option, Some, None}
 use mathlib.Core.Logic.{dite}
 use native.Mathlib.Decide.{ℕ_discrete}
@@ -8,7 +8,7 @@ use Rattle.atomic_table.specs.Seated.{TableId}
 use Rattle.xh_arena.specs.Views.{LotOf}
 use Rattle.xh_model.specs.Slots.{index_of}
 use Rattle.xh_model.specs.declared.event.Event.{Event}
-use Rattle.xh_model.specs.Words.{number_of}
+use Rattle.xh_model.specs.Words.{number_of, place_of}
 use Rattle.xh_model.proofs.Words.{number_inside, index_back, number_back}
 use Rattle.xh_model.specs.Keyed.{Among, keys, put, value_at, without}
 use Rattle.xh_records.proofs.Elements.{among_map, in_range, slice_elem}
@@ -19,8 +19,11 @@ use Rattle.xh_records.specs.Showing.{IsLotOf, IsLotAt, IsSmall}
 use Rattle.xh_model.specs.declared.event.Holder.{Holder}
 use Rattle.xh_model.specs.declared.event.Holder.TheVariants.{Process, Direction}
 use Rattle.xh_records.specs.inner.Events.{taking, giving}
-use Rattle.xh_records.specs.Seats.{HasGained, HasLost, Held, owned_by, view_of, did, with_lots, IsRecord}
-use Rattle.xh_records.specs.inner.Views.{events_in}
+use Rattle.xh_records.specs.Seats.{Advances, HasGained, HasLost, HasSeen, Held, Knows, owned_by, seen, view_of, did, with_lots, IsRecord}
+use Rattle.xh_records.specs.inner.Views.{adds, first_front, front_in}
+use Rattle.xh_records.specs.inner.Steps.{IsOthers, SeesMore}
+use Rattle.xh_records.specs.History.{Grows, TellsWord, by_place}
+use Rattle.xh_records.proofs.History.{adds_one, by_place_append}
 use Rattle.xh_records.specs.inner.Tokens.{in_slot, with_lot, numbered, AllLots, IsSeat}
 
 pub index_injective : (n k j : ℕ) → 0 < n → n ≤ 256 → number_of n k ≡ number_of n j → k ≡ j
@@ -98,20 +101,21 @@ module _ {B : Type 0} (s : Shape) (small : IsSmall s) where
       subst (λ (z : ℕ). IsRecord s z × IsLotOf s z l) t.1 ((arena, number_inside s.records t.0 small.0 small.1), t.2)
 
 -- what a seat gained or lost, by the event of a step
-pub gained_by : {B : Type 0} (x y : Held B) (p r : ℕ) (h : Option Holder) (is : LotOf B → Type 0) (l : LotOf B) → y ≡ did (taking p r h) (with_lots x (x.lots ++ (r, l) ∷ [])) → IsLotOf x.shape r l
-    → is l → HasGained (taking p r h) is x y
-gained_by x y p r None is l e lot good = (l, e, lot, good)
-gained_by x y p r (Some (Process q)) is l e lot good = (l, e, lot, good)
-gained_by x y p r (Some (Direction d)) is l e lot good = (l, e, lot, good)
+pub gained_by : {B : Type 0} (x y : Held B) (p r : ℕ) (h : Option Holder) (is : LotOf B → Type 0) (l : LotOf B) → IsLotOf x.shape r l → is l
+    → (y ≡ seen y.front (did (taking p r h) (with_lots x (x.lots ++ (r, l) ∷ [])))) × Advances (taking p r h ∷ []) x y → HasGained (taking p r h) is x y
+gained_by x y p r None is l lot good e = (l, e.0, lot, good, e.1)
+gained_by x y p r (Some (Process q)) is l lot good e = (l, e.0, lot, good, e.1)
+gained_by x y p r (Some (Direction d)) is l lot good e = (l, e.0, lot, good, e.1)
 
-pub lost_by : {B : Type 0} (x y : Held B) (p r : ℕ) (h : Option Holder) → y ≡ did (giving p r h) (with_lots x (without r x.lots)) → HasLost (giving p r h) x y
+pub lost_by : {B : Type 0} (x y : Held B) (p r : ℕ) (h : Option Holder)
+    → (y ≡ seen y.front (did (giving p r h) (with_lots x (without r x.lots)))) × Advances (giving p r h ∷ []) x y → HasLost (giving p r h) x y
 lost_by x y p r None e = e
 lost_by x y p r (Some (Process q)) e = e
 lost_by x y p r (Some (Direction d)) e = e
 
 -- a seat as contracts see it
 abbrev pub held : {B : Type 0} → TableId → ℕ → ℕ → Me (Option (LotOf B)) View → Held B
-held t id process me = record { table = t; id = id; shape = me.0.shape; process = process; lots = numbered me.0.shape.records me.1; done = events_in me.0 }
+held t id process me = record { table = t; id = id; shape = me.0.shape; process = process; lots = numbered me.0.shape.records me.1; done = by_place (place_of process) (front_in me.0); front = front_in me.0 }
 
 -- the number of the record in a slot
 pub number_is : (n m slot r : ℕ) → n ≡ m → slot ≡ index_of m r → r % 256 < m → number_of n slot ≡ r
@@ -124,7 +128,7 @@ module _ {B : Type 0} (x : Held B) (t : TableId) (id process : ℕ) (me : Me (Op
     shape = me.0.shape;
     processes = sym seat.processes i;
     records = (ap (owned_by process) (indices_are me.0.shape seat.small me.1 seat.lots ∙ sym seat.ordered) ∙ sym seat.records) i;
-    done = sym seat.done i;
+    fronts = sym seat.front i;
   })
 
   -- what a seat has in the slot of a record
@@ -154,14 +158,54 @@ module _ {B : Type 0} (x : Held B) (t : TableId) (id process : ℕ) (me : Me (Op
       ∙ sym seat.ordered in
       new (subst (λ (z : List ℕ × ℕ). Among z.0 z.1) (λ i. (keys_are i, sym at i)) there)
 
-  -- the seat afterwards, with other lots and more events
-  pub held_as : (t' : TableId) (id' : ℕ) (me' : Me (Option (LotOf B)) View) (ls : List (ℕ × LotOf B)) (more : List Event → List Event) → t' ≡ t → id' ≡ id → me'.0.shape ≡ me.0.shape
-      → numbered me'.0.shape.records me'.1 ≡ ls → events_in me'.0 ≡ more (events_in me.0) → held t' id' process me' ≡ record x { lots = ls; done = more x.done }
-  held_as t' id' me' ls more et en es el ed = λ j. record {
+  -- the seat afterwards, with other lots
+  pub held_same : (t' : TableId) (id' : ℕ) (me' : Me (Option (LotOf B)) View) (ls : List (ℕ × LotOf B)) → t' ≡ t → id' ≡ id → me'.0 ≡ me.0 → numbered me'.0.shape.records me'.1 ≡ ls
+      → held t' id' process me' ≡ with_lots x ls
+  held_same t' id' me' ls et en ev el = λ j. record {
     table = (et ∙ ap (λ (y : Held B). y.table) is) j;
     id = (en ∙ ap (λ (y : Held B). y.id) is) j;
-    shape = (es ∙ ap (λ (y : Held B). y.shape) is) j;
+    shape = (ap (λ (v : View). v.shape) ev ∙ ap (λ (y : Held B). y.shape) is) j;
     process = (is j).process;
     lots = el j;
-    done = (ed ∙ ap (λ (y : Held B). more y.done) is) j;
+    done = (ap (λ (v : View). by_place (place_of process) (front_in v)) ev ∙ ap (λ (y : Held B). y.done) is) j;
+    front = (ap (λ (v : View). front_in v) ev ∙ ap (λ (y : Held B). y.front) is) j;
   }
+
+  -- and after a step, with other lots, events of others that it saw, and its own
+  pub held_as : (order : List ℕ) (capacity slots : ℕ) → IsSeat process order capacity slots me → (t' : TableId) (id' : ℕ) (me' : Me (Option (LotOf B)) View) (ls : List (ℕ × LotOf B))
+      (others own done : List Event) → t' ≡ t → id' ≡ id → me'.0.shape ≡ me.0.shape → numbered me'.0.shape.records me'.1 ≡ ls → me'.0.fronts ≡ adds (others ++ own) me.0.fronts → IsOthers me.0 others
+      → by_place (place_of x.process) own ≡ own → x.done ++ own ≡ done
+      → (held t' id' process me' ≡ seen (front_in me'.0) (record x { lots = ls; done = done })) × Grows (place_of x.process) own x.front (front_in me'.0)
+  held_as order capacity slots seat t' id' me' ls others own done et en es el ef of_others mine ed =
+      let q : ℕ = place_of process in let f : List Event = front_in me.0 in
+      let turn : q ≡ place_of x.process = ap (λ (y : Held B). place_of y.process) is in
+      let grown : front_in me'.0 ≡ f ++ (others ++ own) = ap first_front ef ∙ (adds_one (others ++ own) q me.0.fronts seat.front).0 in
+      let by : by_place q others ≡ [] = ap (λ (l : List ℕ). by_place (place_of (get_or l 0 0)) others) (sym seat.processes) ∙ of_others in
+      let all : by_place q (front_in me'.0) ≡ done = ap (by_place q) grown ∙ by_place_append q f (others ++ own)
+      ∙ ap (λ (z : List Event). by_place q f ++ z) (by_place_append q others own ∙ (λ j. by j ++ (ap (λ (k : ℕ). by_place k own) turn ∙ mine) j)) ∙ (λ j. (is j).done ++ own) ∙ ed in (
+        (λ j. record {
+          table = (et ∙ ap (λ (y : Held B). y.table) is) j;
+          id = (en ∙ ap (λ (y : Held B). y.id) is) j;
+          shape = (es ∙ ap (λ (y : Held B). y.shape) is) j;
+          process = (is j).process;
+          lots = el j;
+          done = all j;
+          front = front_in me'.0;
+        }),
+        (others, grown ∙ (λ j. (is j).front ++ (others ++ own)), ap (λ (k : ℕ). by_place k others) (sym turn) ∙ by),
+      )
+
+  -- and after a look, which found a word
+  pub held_seen : (order : List ℕ) (capacity slots : ℕ) (seat : IsSeat process order capacity slots me) (t' : TableId) (id' : ℕ) (me' : Me (Option (LotOf B)) View) (slot r word : ℕ) → t' ≡ t → id' ≡ id
+      → slot ≡ index_of x.shape.records r → SeesMore slot word me me' → HasSeen r word x (held t' id' process me')
+  held_seen order capacity slots seat t' id' me' slot r word et en at sees =
+      let shape : me'.0.shape ≡ x.shape = ap (λ (m : Me (Option (LotOf B)) View). m.0.shape) sees.2 ∙ ap (λ (y : Held B). y.shape) is in
+      let after = held_as order capacity slots seat t' id' me' x.lots sees.0 [] x.done et en (ap (λ (m : Me (Option (LotOf B)) View). m.0.shape) sees.2)
+      (ap (λ (m : Me (Option (LotOf B)) View). numbered m.0.shape.records m.1) sees.2 ∙ ap (λ (y : Held B). y.lots) is)
+      (ap (λ (m : Me (Option (LotOf B)) View). m.0.fronts) sees.2) sees.1 refl (append-nil x.done) in (
+        (
+          subst (λ (z : View × ℕ). Knows z.0 z.1 word) (λ i. (sym (views_are order capacity slots seat) i, at i)) sees.3.0,
+          subst (λ (z : Shape × ℕ). TellsWord z.0.records (front_in me'.0) z.1 word) (λ i. (shape i, at i)) sees.3.1,
+        ),
+        after,
+      )

@@ -1,5 +1,5 @@
 -- The table at the start: no record is held, and one seat stands for all places.
-use Rattle.std.proofs.Common.{◌≡◌, ℕ, zero, suc, ◌+◌, ◌%◌, ◌<◌, ◌≤◌, Bool, List, [], ◌∷◌, map, length, replicate, sym, refl, ap, ◌∙◌, subst, inl, inr, arith}
+use Rattle.std.proofs.Common.{◌≡◌, ℕ, zero, suc, ◌+◌, ◌%◌, ◌<◌, ◌≤◌, Bool, List, [], ◌∷◌, ◌++◌, map, length, replicate, sym, refl, ap, ◌∙◌, subst, inl, inr, arith}
 use Rattle.std.proofs.lemmas.List.{length-map, length-replicate}
 use Rattle.std.specs.Prelude.{Option, Some, None}
 use mathlib.Core.Option.{some, some-injective, some-ne-none}
@@ -15,9 +15,11 @@ use Rattle.xh_model.specs.declared.event.Holder.TheVariants.{Process}
 use Rattle.xh_model.specs.Words.{IsHeldBy, IsHolder, word_of}
 use Rattle.xh_records.specs.declared.shape.Shape.{Shape}
 use Rattle.xh_records.specs.declared.view.View.{View}
+use Rattle.xh_model.specs.declared.event.Event.{Event}
+use Rattle.xh_records.specs.History.{by_place}
 use Rattle.xh_records.specs.Showing.{Sits, IsLotAt, IsEmpty, IsSmall, HomeFits, ViewFits, ViewTells, Shown}
 use Rattle.xh_records.specs.inner.Views.{places_from, all_places}
-use Rattle.xh_records.proofs.History.{lists_there, lists_back}
+use Rattle.xh_records.proofs.History.{lists_back}
 use Rattle.xh_records.proofs.Elements.{in_range, is_there}
 use Rattle.xh_records.proofs.Distinct.{few_places, least}
 
@@ -75,4 +77,7 @@ opens {B} fits s n words lots slots few zeros wrapped long empty small = (
     begins = record { is_owner = λ r p h. absurd h; owns_all = λ r p is h. absurd (nobody r p is); knows = λ p h. refl; places = few_places 0 s.places (omega (arith, few)) }
 
     untold : ViewTells [] (all_places s)
-    untold = record { has = λ p sits. lists_there (places_from 0 s.places) p sits; only = λ q es there. let t = lists_back (places_from 0 s.places) q es there in (t.0, t.1, t.2, t.3) }
+    untold = record {
+      begins = λ q f there. ([], sym (ap (λ (z : List Event). z ++ []) (lists_back (places_from 0 s.places) q f there).3));
+      only = λ q f there few. let t = lists_back (places_from 0 s.places) q f there in (t.0, t.1, t.2, ap (by_place q) t.3);
+    }

@@ -12,12 +12,13 @@ use Rattle.xh_model.specs.Keyed.{Among, Distinct, keys, put, without}
 use Rattle.xh_model.proofs.Keyed.{among_back, distinct_push, distinct_split, here_first, keys_append, keys_push, length-keys, not_here, put_keys, split_at_key, without_split}
 use Rattle.xh_records.specs.declared.shape.Shape.{Shape}
 use Rattle.xh_records.specs.declared.view.View.{View}
+use Rattle.xh_model.specs.declared.event.Event.{Event}
 use Rattle.xh_model.specs.declared.event.Holder.{Holder}
 use Rattle.xh_model.specs.Words.{number_of, place_of}
 use Rattle.xh_records.specs.Showing.{Owns, IsLotAt}
 use Rattle.xh_records.specs.Seats.{owned_by}
 use Rattle.xh_records.specs.inner.Events.{taking, giving}
-use Rattle.xh_records.specs.inner.Views.{IsAlone, events_in, gained, lost, renewed}
+use Rattle.xh_records.specs.inner.Views.{IsAlone, front_in, gained, knowing, lost, renewed}
 use Rattle.xh_records.specs.inner.Tokens.{AllBelow, AllLots, IsSeat, in_slot}
 use Rattle.xh_records.proofs.History.{adds_one}
 use Rattle.xh_records.proofs.Lists.{few, below_push, owned_push, among_owned, slot_split, below_split, owned_without, remove_split, below_at, stands}
@@ -61,7 +62,7 @@ module _ {B : Type 0} (process : ℕ) (order : List ℕ) (capacity slots : ℕ) 
   not_among i seat new h = new process (subst (λ (l : List (ℕ × ℕ)). Among l (i, process)) (sym seat.records) (among_owned process order i h))
 
   pub is_alone : IsSeat process order capacity slots me → IsAlone me.0 process
-  is_alone seat = (seat.processes, seat.done)
+  is_alone seat = (seat.processes, seat.front)
 
   -- one more slot has room
   pub has_room : (i : ℕ) → IsSeat process order capacity slots me → i < slots → ((p : ℕ) → Owns me.0 i p → ⊥) → length order < capacity
@@ -69,13 +70,13 @@ module _ {B : Type 0} (process : ℕ) (order : List ℕ) (capacity slots : ℕ) 
       let most : length (i ∷ order) ≤ slots = few slots (i ∷ order) (inside, seat.below) (not_among i seat new, seat.distinct) in let room : slots ≤ capacity = seat.room in
       let size : length (i ∷ order) ≡ suc (length order) = refl in omega arith
 
-  pub gains : (i : ℕ) (l : LotOf B) (h : Option Holder) → IsSeat process order capacity slots me → i < slots → IsLotAt me.0.shape i l → ((p : ℕ) → Owns me.0 i p → ⊥)
-      → IsSeat process (order ++ i ∷ []) capacity slots (gained me.0 i process h, me.1 ++ (i, Some l) ∷ [])
-  gains i l h seat inside lot new = record {
+  pub gains : (i : ℕ) (l : LotOf B) (h : Option Holder) (others : List Event) → IsSeat process order capacity slots me → i < slots → IsLotAt me.0.shape i l → ((p : ℕ) → Owns me.0 i p → ⊥)
+      → IsSeat process (order ++ i ∷ []) capacity slots (gained me.0 i process h others, me.1 ++ (i, Some l) ∷ [])
+  gains i l h others seat inside lot new = record {
     processes = seat.processes;
     ordered = ap (λ (k : List ℕ). k ++ i ∷ []) seat.ordered ∙ sym (keys_push me.1 (i, Some l));
     records = ap (λ (k : List (ℕ × ℕ)). k ++ (i, process) ∷ []) seat.records ∙ sym (owned_push process order i);
-    done = (adds_one (taking process (number_of me.0.shape.records i) h) (place_of process) me.0.done seat.done).1;
+    front = (adds_one (others ++ taking process (number_of me.0.shape.records i) h ∷ []) (place_of process) me.0.fronts seat.front).1;
     lots = lots_push me.0.shape me.1 i l seat.lots lot;
     distinct = distinct_push order i seat.distinct (not_among i seat new);
     below = below_push slots order i seat.below inside;
@@ -102,9 +103,9 @@ module _ {B : Type 0} (process : ℕ) (order : List ℕ) (capacity slots : ℕ) 
       }
 
   -- the seat without the slot that stands behind k others
-  pub loses : (k i : ℕ) (h : Option Holder) → IsSeat process order capacity slots me → get_elem? order k ≡ some i
-      → IsSeat process (remove order k) capacity slots (lost me.0 i process h, without i me.1)
-  loses k i h seat at =
+  pub loses : (k i : ℕ) (h : Option Holder) (others : List Event) → IsSeat process order capacity slots me → get_elem? order k ≡ some i
+      → IsSeat process (remove order k) capacity slots (lost me.0 i process h others, without i me.1)
+  loses k i h others seat at =
       let t = split_at_key me.1 k i (subst (λ (o : List ℕ). get_elem? o k ≡ some i) seat.ordered at) in
       let a = t.0 in let b = t.2 in
       let same : order ≡ keys a ++ i ∷ keys b = seat.ordered ∙ ap keys t.3 ∙ keys_append a ((i, t.1) ∷ b) in
@@ -115,7 +116,7 @@ module _ {B : Type 0} (process : ℕ) (order : List ℕ) (capacity slots : ℕ) 
       record {
         processes = seat.processes;
         ordered = order_is ∙ sym (keys_append a b) ∙ ap keys (sym rest_is);
-        done = (adds_one (giving process (number_of me.0.shape.records i) h) (place_of process) me.0.done seat.done).1;
+        front = (adds_one (others ++ giving process (number_of me.0.shape.records i) h ∷ []) (place_of process) me.0.fronts seat.front).1;
         records = ap (without i) (seat.records ∙ ap (owned_by process) same) ∙ owned_without process i (keys a) (keys b) d.0 d.1 ∙ ap (owned_by process) (sym order_is);
         lots = subst (AllLots me.0.shape) (sym rest_is) (lots_split me.0.shape a (i, t.1) b (subst (AllLots me.0.shape) t.3 seat.lots)).1;
         distinct = subst Distinct (sym order_is) d.2;
@@ -129,8 +130,22 @@ module _ {B : Type 0} (process : ℕ) (order : List ℕ) (capacity slots : ℕ) 
     processes = seat.processes;
     ordered = seat.ordered ∙ sym (put_keys i (Some y) me.1);
     records = seat.records;
-    done = seat.done;
+    front = seat.front;
     lots = lots_put me.0.shape i y me.1 is seat.lots;
+    distinct = seat.distinct;
+    below = seat.below;
+    room = seat.room;
+    small = seat.small;
+  }
+
+  -- a seat that has seen more
+  pub sees : (es : List Event) → IsSeat process order capacity slots me → IsSeat process order capacity slots (knowing me.0 es, me.1)
+  sees es seat = record {
+    processes = seat.processes;
+    ordered = seat.ordered;
+    records = seat.records;
+    front = (adds_one es (place_of process) me.0.fronts seat.front).1;
+    lots = seat.lots;
     distinct = seat.distinct;
     below = seat.below;
     room = seat.room;
@@ -142,7 +157,7 @@ module _ {B : Type 0} (process : ℕ) (order : List ℕ) (capacity slots : ℕ) 
   grows_old seat bare = let none : order ≡ [] = seat.ordered ∙ ap keys bare in record {
     processes = ap (map (λ (p : ℕ). p + 32)) seat.processes;
     ordered = seat.ordered;
-    done = let turn : place_of process ≡ place_of (process + 32) = omega arith in seat.done ∙ ap (λ (q : ℕ). (q, events_in me.0) ∷ []) turn;
+    front = let turn : place_of process ≡ place_of (process + 32) = omega arith in seat.front ∙ ap (λ (q : ℕ). (q, front_in me.0) ∷ []) turn;
     records = seat.records ∙ ap (owned_by process) none ∙ ap (owned_by (process + 32)) (sym none);
     lots = seat.lots;
     distinct = seat.distinct;

@@ -12,15 +12,15 @@ use Rattle.xh_model.specs.Keyed.{Among, keys, value_at, without}
 use Rattle.xh_records.specs.declared.shape.Shape.{Shape}
 use Rattle.xh_records.specs.declared.view.View.{View}
 use Rattle.xh_records.specs.Showing.{IsLotOf, IsLotAt, IsEmpty, IsFull, Owns, Sits}
-use Rattle.xh_records.specs.History.{LeadsTo, all_free, by_place, process_of}
+use Rattle.xh_records.specs.History.{Grows, LeadsTo, StartsWith, TellsWord, all_free, by_place, process_of}
 
 -- the table of all records
 pub record RecordsOf : Type 0 where
   pub table : TableId
   pub shape : Shape
 
--- a seat: its table, its number there, the process that it stands for, the lots of the records that the process owns, each beside its record's number, in the order gained, and the events that the
--- seat did, in their order
+-- a seat: its table, its number there, the process that it stands for, the lots of the records that the process owns, each beside its record's number, in the order gained, the events that the
+-- seat did, in their order, and its front: the beginning of the one log of all events that it has seen
 pub record Held (B : Type 0) : Type 0 where
   pub table : TableId
   pub id : ℕ
@@ -28,6 +28,7 @@ pub record Held (B : Type 0) : Type 0 where
   pub process : ℕ
   pub lots : List (ℕ × LotOf B)
   pub done : List Event
+  pub front : List Event
 
 -- the table gave this seat
 abbrev pub IsSeatOf : {B : Type 0} → RecordsOf → Held B → Type 0
@@ -45,13 +46,25 @@ with_lots x l = record x { lots = l }
 abbrev pub did : {B : Type 0} → Event → Held B → Held B
 did e x = record x { done = x.done ++ e ∷ [] }
 
+-- the seat that has seen so much
+abbrev pub seen : {B : Type 0} → List Event → Held B → Held B
+seen front x = record x { front = front }
+
+-- the seat did these events, and what else it has seen since is of others
+abbrev pub Advances : {B : Type 0} → List Event → Held B → Held B → Type 0
+Advances own x y = Grows (place_of x.process) own x.front y.front
+
 -- by the event e the seat gained the lot of its record, behind its others, and of that lot this holds
 abbrev pub HasGained : {B : Type 0} → Event → (LotOf B → Type 0) → Held B → Held B → Type 0
-HasGained {B} e is x y = (l : LotOf B) × (y ≡ did e (with_lots x (x.lots ++ (record_of e, l) ∷ []))) × IsLotOf x.shape (record_of e) l × is l
+HasGained {B} e is x y = (l : LotOf B) × (y ≡ seen y.front (did e (with_lots x (x.lots ++ (record_of e, l) ∷ [])))) × IsLotOf x.shape (record_of e) l × is l × Advances (e ∷ []) x y
 
 -- by the event e the seat lost the lot of its record
 abbrev pub HasLost : {B : Type 0} → Event → Held B → Held B → Type 0
-HasLost e x y = y ≡ did e (with_lots x (without (record_of e) x.lots))
+HasLost e x y = (y ≡ seen y.front (did e (with_lots x (without (record_of e) x.lots)))) × Advances (e ∷ []) x y
+
+-- the seat has seen more of the others, and else is as it was
+abbrev pub HasLooked : {B : Type 0} → Held B → Held B → Type 0
+HasLooked x y = (y ≡ seen y.front x) × Advances [] x y
 
 -- the indices of a seat's records, and its lot of the record at an index
 abbrev pub indices : {B : Type 0} → Held B → List ℕ
@@ -66,19 +79,28 @@ owned_by p (k ∷ ks) = (k, p) ∷ owned_by p ks
 
 -- the seat's view
 abbrev pub view_of : {B : Type 0} → Held B → View
-view_of x = record { shape = x.shape; processes = x.process ∷ []; records = owned_by x.process (indices x); done = (place_of x.process, x.done) ∷ [] }
+view_of x = record { shape = x.shape; processes = x.process ∷ []; records = owned_by x.process (indices x); fronts = (place_of x.process, x.front) ∷ [] }
 
 -- what a seat knows of a word that it found at the index k: it is a word, and it names a process that the seat stands for exactly where the seat has that record
 abbrev pub Knows : View → ℕ → ℕ → Type 0
 Knows v k n = IsWord n × ((p : ℕ) → Sits v p → (n ≡ word_of (Some (Process p)) → Owns v k p) × (Owns v k p → n ≡ word_of (Some (Process p))))
 
--- a word for each record of an arena, none of them free, as the seat found them
-abbrev pub SawTaken : View → ℕ → List ℕ → Type 0
-SawTaken v arena words = (length words ≡ v.shape.records) × ((k : ℕ) → k < v.shape.records → (slice_index words k ≢ 0) × Knows v (arena * v.shape.records + k) (slice_index words k))
+-- the seat found this word at the index k, when it had seen so much: the word of the record's holder then
+abbrev pub HasFound : {B : Type 0} → ℕ → ℕ → Held B → List Event → Type 0
+HasFound k word x front = Knows (view_of x) k word × TellsWord x.shape.records front k word
 
--- the seat found this word at the record r, which isn't that of the holder h, and is as it was
-abbrev pub HasMissed : {B : Type 0} → Shape → Option Holder → ℕ → ℕ → Held B → Held B → Type 0
-HasMissed s h r word x y = (word ≢ word_of h) × Knows (view_of x) (index_of s.records r) word × (y ≡ x)
+-- a word for each record of an arena, none of them free, each as the seat found it at some moment of the call
+abbrev pub SawTaken : {B : Type 0} → ℕ → List ℕ → Held B → Held B → Type 0
+SawTaken arena words x y = (length words ≡ x.shape.records) × ((k : ℕ) → k < x.shape.records → (slice_index words k ≢ 0)
+    × (front : List Event) × StartsWith front x.front × StartsWith y.front front × HasFound (arena * x.shape.records + k) (slice_index words k) x front)
+
+-- the seat found this word at the record r
+abbrev pub HasSeen : {B : Type 0} → ℕ → ℕ → Held B → Held B → Type 0
+HasSeen r word x y = HasFound (index_of x.shape.records r) word x y.front × HasLooked x y
+
+-- and it isn't that of the holder h
+abbrev pub HasMissed : {B : Type 0} → Option Holder → ℕ → ℕ → Held B → Held B → Type 0
+HasMissed h r word x y = (word ≢ word_of h) × HasSeen r word x y
 
 -- the lot of the record at an index, by its holder at the end: that of the seat of its process, or the one at home
 module _ {B : Type 0} (fits : B → ℕ → Bool) (s : Shape) (seats : List (Held B)) where
@@ -87,13 +109,14 @@ module _ {B : Type 0} (fits : B → ℕ → Bool) (s : Shape) (seats : List (Hel
   EndsAs k (Some (Process p)) l = (j : ℕ) × (x : Held B) × (slice_get seats j ≡ Some x) × (x.process ≡ p) × (lot_in k x ≡ Some l)
   EndsAs k (Some (Direction d)) l = IsLotAt s k l × IsFull fits l
 
-  -- these words and lots show, with the views of the seats, one ownership, and one list of all events, of which each seat did its place's part, leads to it
+  -- these words and lots show, with the views of the seats, one ownership, and one log of all events, of which each seat did its place's part and has seen a beginning, leads to it
   pub record Ends (words : List ℕ) (lots : List (LotOf B)) : Type 0 where
     pub owners : Ownership
     pub log : List Event
     pub leads : LeadsTo s.records (all_free (length owners)) log owners
     pub theirs : (e : Event) → Among log e → place_of (process_of e) < s.places
     pub parts : (j : ℕ) (x : Held B) → slice_get seats j ≡ Some x → x.done ≡ by_place (place_of x.process) log
+    pub fronts : (j : ℕ) (x : Held B) → slice_get seats j ≡ Some x → StartsWith log x.front
     pub holders : (k : ℕ) (h : Option Holder) → IsHeldBy owners k h → IsHolder h
     pub words_are : words ≡ map word_of owners
     pub lots_long : length lots ≡ length owners

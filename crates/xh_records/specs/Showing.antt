@@ -8,10 +8,10 @@ use Rattle.xh_arena.specs.Views.{LotOf}
 use Rattle.xh_model.specs.declared.event.Holder.{Holder}
 use Rattle.xh_model.specs.declared.event.Holder.TheVariants.{Process, Direction}
 use Rattle.xh_model.specs.declared.event.Event.{Event}
-use Rattle.xh_model.specs.declared.limits.TheConstants.{MAX_RECORDS, PROCESSES}
+use Rattle.xh_model.specs.declared.limits.TheConstants.{MAX_RECORDS, PLACES, PROCESSES}
 use Rattle.xh_model.specs.Words.{Ownership, IsHeldBy, IsHolder, word_of, place_of, number_of}
 use Rattle.xh_model.specs.Keyed.{Among, Distinct}
-use Rattle.xh_records.specs.History.{LeadsTo, all_free, by_place, process_of}
+use Rattle.xh_records.specs.History.{LeadsTo, StartsWith, all_free, by_place, process_of}
 use Rattle.xh_records.specs.declared.shape.Shape.{Shape}
 use Rattle.xh_records.specs.declared.view.View.{View}
 
@@ -54,12 +54,12 @@ pub record ViewFits (s : Shape) (o : Ownership) (v : View) : Type 0 where
   pub knows : (p : ℕ) → Sits v p → v.shape ≡ s
   pub places : Distinct (map place_of v.processes)
 
--- each of the view's lists is that of a place that it stands for, with all events of that place
+-- each of the view's fronts is a beginning of the log; that of a place, for which the view stands then, has all events of the place
 pub record ViewTells (log : List Event) (v : View) : Type 0 where
-  pub has : (p : ℕ) → Sits v p → Among v.done (place_of p, by_place (place_of p) log)
-  pub only : (q : ℕ) (es : List Event) → Among v.done (q, es) → (p : ℕ) × Sits v p × (q ≡ place_of p) × (es ≡ by_place q log)
+  pub begins : (q : ℕ) (front : List Event) → Among v.fronts (q, front) → StartsWith log front
+  pub only : (q : ℕ) (front : List Event) → Among v.fronts (q, front) → q < PLACES → (p : ℕ) × Sits v p × (q ≡ place_of p) × (by_place q front ≡ by_place q log)
 
--- one list of all events, each by a process at one of the places, leads from no record held to the ownership, and each view has its places' part of it
+-- one log of all events, each by a process at one of the places, leads from no record held to the ownership, and each view has beginnings of it
 pub record IsHistory (s : Shape) (o : Ownership) (views : List View) (log : List Event) : Type 0 where
   pub leads : LeadsTo s.records (all_free (length o)) log o
   pub theirs : (e : Event) → Among log e → place_of (process_of e) < s.places

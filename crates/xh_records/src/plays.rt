@@ -61,6 +61,26 @@ impl Split<View> for Whole {
     ghost right = { λ v. v };
 }
 
+/// What one has seen goes to a new seat, which stands for no place.
+pub(crate) struct Notes;
+
+impl Split<View> for Notes {
+    ghost use Rattle.xh_records.specs.inner.Views.{note_of};
+
+    ghost left = { λ v. v };
+
+    ghost right = { note_of };
+}
+
+/// A plain load, by a seat that was told what another had seen.
+pub(crate) struct Compares;
+
+impl<B> Play<Option<Lot<B>>, View> for Compares {
+    ghost use Rattle.xh_records.specs.inner.Steps.{compared};
+
+    ghost then = { compared };
+}
+
 /// Two views become one.
 pub(crate) struct Both;
 

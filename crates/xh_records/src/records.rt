@@ -9,7 +9,8 @@ ghost use Rattle.xh_model.specs.Words.{word_of, IsHolder, IsWord, generation_of}
 ghost use Rattle.xh_model.specs.Keyed.{Among, keys, value_at, without};
 ghost use Rattle.xh_records.specs.Encoding.{holder_of};
 ghost use Rattle.xh_records.specs.Showing.{IsLotOf, IsEmpty, IsFull};
-ghost use Rattle.xh_records.specs.Seats.{Knows, SawTaken};
+ghost use Rattle.xh_records.specs.History.{IsOneLog};
+ghost use Rattle.xh_records.specs.Seats.{SawTaken};
 ghost use Rattle.xh_records.specs.inner.Events.{taking, giving, IsAway, IsHomeLot};
 
 use crate::making::{Home, seats_of, table_of};
@@ -17,7 +18,7 @@ use crate::refused::Refused;
 use crate::seat::Seat;
 use crate::seen::Seen;
 use crate::shape::Shape;
-use crate::token::{give_slot, look_at, renew_token, take_slot};
+use crate::token::{compare_note, give_slot, look_at, note, renew_token, take_slot};
 use crate::word::OwnerWord;
 use arrayvec::ArrayVec;
 use std::alloc::Global;
@@ -54,7 +55,7 @@ fn number_at(arena: u8, index: u16) -> u16
 }
 
 impl<B: Fits + Drop> Records<B> {
-    ghost use Rattle.xh_records.specs.Seats.{Held, IsSeatOf, IsRecord, HasGained, HasLost, HasMissed, view_of};
+    ghost use Rattle.xh_records.specs.Seats.{Held, IsSeatOf, IsRecord, HasGained, HasLooked, HasLost, HasMissed, HasSeen};
 
     /// A table over the empty lots of whole vaults, one after the other, each of `records` lots (1 to
     /// 256), which have these names; and a seat for each of the `places` (1 to 32) at its first
@@ -72,7 +73,8 @@ impl<B: Fits + Drop> Records<B> {
         requires empty { (k : ℕ) (l : LotOf B) → slice_get lots.items k ≡ Some l → (l.index ≡ k % records) × (slice_get names (k / records) ≡ Some l.id) × IsEmpty B.is_fit l }
         ensures shape { IfOk result (λ r. r.0.shape ≡ record { records = records; places = places; names = names }) }
         ensures slots { IfOk result (λ r. r.0.table.slots ≡ length lots.items) }
-        ensures seats { IfOk result (λ r. (length r.1.items ≡ places) × ((k : ℕ) (x : Held B) → slice_get r.1.items k ≡ Some x → IsSeatOf r.0 x × (x.process ≡ k) × (x.lots ≡ []) × (x.done ≡ []))) }
+        ensures seats { IfOk result (λ r. (length r.1.items ≡ places) × ((k : ℕ) (x : Held B) → slice_get r.1.items k ≡ Some x → IsSeatOf r.0 x
+            × (x.process ≡ k) × (x.lots ≡ []) × (x.done ≡ []) × (x.front ≡ []))) }
     {
         let count = lots.len();
         let arenas = names.len();
@@ -128,7 +130,7 @@ impl<B: Fits + Drop> Records<B> {
         requires away { IsAway (holder_of from) }
         ensures taken { OnOk result (HasGained (taking seat.old.process number (holder_of from)) (IsHomeLot B.is_fit (holder_of from)) seat.old seat.new) }
         ensures fresh { OnOk result (Among (keys seat.old.lots) number → ⊥) }
-        ensures missed { IfErr result (λ word. HasMissed self.now.shape (holder_of from) number word seat.old seat.new) }
+        ensures missed { IfErr result (λ word. HasMissed (holder_of from) number word seat.old seat.new) }
     {
         let slot = self.slot_of(number);
         match take_slot(
@@ -168,8 +170,8 @@ impl<B: Fits + Drop> Records<B> {
         ensures record { IfOk result (λ r. (r / MAX_RECORDS ≡ arena) × (r % MAX_RECORDS < self.now.shape.records)) }
         ensures claimed { IfOk result (λ r. HasGained (Claim seat.old.process r) (IsEmpty B.is_fit) seat.old seat.new) }
         ensures fresh { IfOk result (λ r. Among (keys seat.old.lots) r → ⊥) }
-        ensures seen { IfErr result (λ s. SawTaken (view_of seat.old) arena s.words.items) }
-        ensures missed { OnErr result (seat.new ≡ seat.old) }
+        ensures seen { IfErr result (λ s. SawTaken arena s.words.items seat.old seat.new) }
+        ensures missed { OnErr result (HasLooked seat.old seat.new) }
     {
         let mut seen = Seen {
             words: ArrayVec::new(),
@@ -194,8 +196,8 @@ impl<B: Fits + Drop> Records<B> {
         ensures record { IfOk result (λ r. (r / MAX_RECORDS ≡ arena) × (r % MAX_RECORDS < self.now.shape.records)) }
         ensures claimed { IfOk result (λ r. HasGained (Claim seat.old.process r) (IsEmpty B.is_fit) seat.old seat.new) }
         ensures fresh { IfOk result (λ r. Among (keys seat.old.lots) r → ⊥) }
-        ensures seen { IfErr result (λ s. SawTaken (view_of seat.old) arena s.words.items) }
-        ensures missed { OnErr result (seat.new ≡ seat.old) }
+        ensures seen { IfErr result (λ s. SawTaken arena s.words.items seat.old seat.new) }
+        ensures missed { OnErr result (HasLooked seat.old seat.new) }
     {
         // A look at a record that is taken costs much less than a compare.
         for index in 0..self.records {
@@ -217,7 +219,7 @@ impl<B: Fits + Drop> Records<B> {
         requires exists { IsRecord self.now.shape number × (direction < DIRECTIONS) }
         ensures accepted { OnOk result (HasGained (Accept seat.old.process number direction) (IsFull B.is_fit) seat.old seat.new) }
         ensures fresh { OnOk result (Among (keys seat.old.lots) number → ⊥) }
-        ensures missed { IfErr result (λ word. HasMissed self.now.shape (Some (Direction direction)) number word seat.old seat.new) }
+        ensures missed { IfErr result (λ word. HasMissed (Some (Direction direction)) number word seat.old seat.new) }
     {
         self.take(seat, number, OwnerWord::InFlight(direction))
     }
@@ -249,8 +251,7 @@ impl<B: Fits + Drop> Records<B> {
     pub fn owner_word(&self, seat: &mut Seat<B>, number: u16) -> u64
         requires own { IsSeatOf self.now seat.old }
         requires exists { IsRecord self.now.shape number }
-        ensures word { Knows (view_of seat.old) (index_of self.now.shape.records number) result }
-        ensures same { seat.new ≡ seat.old }
+        ensures { HasSeen number result seat.old seat.new }
     {
         let slot = self.slot_of(number);
         look_at(&self.table.shared, &mut seat.token, slot)
@@ -268,5 +269,17 @@ impl<B: Fits + Drop> Records<B> {
         renew_token(&self.table.shared, &mut seat.token, seat.process);
         seat.process += u16::from(PLACES);
         seat.process
+    }
+
+    /// Shows that of what two seats have seen, one is a beginning of the other: all events have one
+    /// order.
+    pub fn compare(&self, first: &mut Seat<B>, second: &mut Seat<B>)
+        requires own { IsSeatOf self.now first.old × IsSeatOf self.now second.old }
+        ensures same { (first.new ≡ first.old) × (second.new ≡ second.old) }
+        ensures one { IsOneLog first.old.front second.old.front }
+    {
+        let board = &self.table.shared;
+        let told = note(board, &mut second.token);
+        compare_note(board, &mut first.token, told);
     }
 }

@@ -21,7 +21,9 @@ pub struct Seat<B> {
 impl<B> Model for Seat<B> {
     ghost use Rattle.std.specs.Vec.{vec_capacity};
     ghost use Rattle.xh_records.specs.Seats.{Held};
-    ghost use Rattle.xh_records.specs.inner.Views.{events_in};
+    ghost use Rattle.xh_records.specs.inner.Views.{front_in};
+    ghost use Rattle.xh_records.specs.History.{by_place};
+    ghost use Rattle.xh_model.specs.Words.{place_of};
     ghost use Rattle.xh_records.specs.inner.Tokens.{IsSeat, numbered};
 
     ghost Value = { Held B };
@@ -32,7 +34,8 @@ impl<B> Model for Seat<B> {
       shape = s.token.me.0.shape;
       process = s.process;
       lots = numbered s.token.me.0.shape.records s.token.me.1;
-      done = events_in s.token.me.0;
+      done = by_place (place_of s.process) (front_in s.token.me.0);
+      front = front_in s.token.me.0;
     } };
 
     ghost invariant = { λ s. IsSeat s.process s.order.items (vec_capacity s.order) s.token.table_id.slots s.token.me };

@@ -1,23 +1,24 @@
 // Single steps of a token: on the word in one slot and what the slot has, and those that change views alone.
-ghost use Rattle.std.specs.Prelude.{◌≡◌, ◌≢◌, ℕ, ◌+◌, ◌-◌, ◌<◌, ◌≤◌, ◌==◌, false, [], ◌∷◌, ◌++◌, length, slice_index, Some, Option, OnOk, IfErr};
+ghost use Rattle.std.specs.Prelude.{◌≡◌, ◌≢◌, ℕ, ◌+◌, ◌-◌, ◌<◌, ◌≤◌, ◌==◌, false, List, [], ◌∷◌, ◌++◌, length, slice_index, Some, Option, OnOk, IfErr};
 ghost use mathlib.Core.Option.{none, some};
 ghost use prog.Atomic.{either};
 ghost use lib.ListN.{get_elem?};
 ghost use Rattle.atomic_table.specs.Table.{step, Allows};
 ghost use Rattle.xh_arena.specs.Views.{LotOf};
+ghost use Rattle.xh_model.specs.declared.event.Event.{Event};
 ghost use Rattle.xh_model.specs.declared.limits.TheConstants.{PLACES, PROCESSES};
 ghost use Rattle.xh_model.specs.Words.{word_of, IsHolder};
 ghost use Rattle.xh_model.specs.Keyed.{without};
 ghost use Rattle.xh_records.specs.declared.token.TheConstants.{NEAR};
 ghost use Rattle.xh_records.specs.Encoding.{holder_of};
 ghost use Rattle.xh_records.specs.Showing.{Shown, IsLotAt, Owns, Sits};
-ghost use Rattle.xh_records.specs.Seats.{Knows};
 ghost use Rattle.xh_records.specs.inner.Events.{IsAway, IsHomeLot};
-ghost use Rattle.xh_records.specs.inner.Views.{IsAlone, IsDealer, dealt, dealt_from, gained, joined, lost, renewed, spent};
-ghost use Rattle.xh_records.specs.inner.Steps.{process_in};
+ghost use Rattle.xh_records.specs.inner.Views.{IsAlone, IsDealer, dealt, dealt_from, front_in, gained, joined, lost, note_of, renewed, spent};
+ghost use Rattle.xh_records.specs.inner.Steps.{IsOthers, SeesMore, process_in};
+ghost use Rattle.xh_records.specs.History.{IsOneLog};
 ghost use Rattle.xh_records.specs.inner.Tokens.{IsListed, IsTurned, in_slot, turns};
 
-use crate::plays::{Both, Deal, Gives, Looks, Renews, Takes, Whole};
+use crate::plays::{Both, Compares, Deal, Gives, Looks, Notes, Renews, Takes, Whole};
 use crate::rule::Showing;
 use crate::shape::Shape;
 use crate::view::View;
@@ -104,9 +105,9 @@ pub(crate) fn take_slot<B: Fits>(
     requires process { IsAlone token.old.me.0 process }
     requires away { IsAway (holder_of from) }
     ensures same { (token.new.table_id ≡ token.old.table_id) × (token.new.id ≡ token.old.id) }
-    ensures taken { OnOk result ((l : LotOf B) × (token.new.me ≡ (gained token.old.me.0 slot process (holder_of from), token.old.me.1 ++ (slot, Some l) ∷ [])) × IsLotAt token.old.me.0.shape slot l
-        × IsHomeLot B.is_fit (holder_of from) l × ((p : ℕ) → Owns token.old.me.0 slot p → ⊥)) }
-    ensures missed { IfErr result (λ word. (word ≢ word_of (holder_of from)) × Knows token.old.me.0 slot word × (token.new.me ≡ token.old.me)) }
+    ensures taken { OnOk result ((l : LotOf B) × (others : List Event) × (token.new.me ≡ (gained token.old.me.0 slot process (holder_of from) others, token.old.me.1 ++ (slot, Some l) ∷ []))
+        × IsOthers token.old.me.0 others × IsLotAt token.old.me.0.shape slot l × IsHomeLot B.is_fit (holder_of from) l × ((p : ℕ) → Owns token.old.me.0 slot p → ⊥)) }
+    ensures missed { IfErr result (λ word. (word ≢ word_of (holder_of from)) × SeesMore slot word token.old.me token.new.me) }
 {
     let wanted = from.encode();
     let owned = OwnerWord::Owned(process).encode();
@@ -132,8 +133,9 @@ pub(crate) fn give_slot<B: Fits>(
     requires away { IsAway (holder_of to) × IsHolder (holder_of to) }
     requires lot { (l : LotOf B) × (in_slot slot token.old.me.1 ≡ Some l) × IsLotAt token.old.me.0.shape slot l × IsHomeLot B.is_fit (holder_of to) l }
     requires owned { (p : ℕ) × IsAlone token.old.me.0 p × Owns token.old.me.0 slot p }
-    ensures token { (token.new.table_id ≡ token.old.table_id) × (token.new.id ≡ token.old.id) × (token.new.me ≡
-        (lost token.old.me.0 slot (process_in token.old.me.0) (holder_of to), without slot token.old.me.1)) }
+    ensures token { (token.new.table_id ≡ token.old.table_id) × (token.new.id ≡ token.old.id) }
+    ensures given { (others : List Event) × IsOthers token.old.me.0 others × (token.new.me ≡
+        (lost token.old.me.0 slot (process_in token.old.me.0) (holder_of to) others, without slot token.old.me.1)) }
     ensures place { get_elem? order.now result ≡ some slot }
 {
     let k = turn_to(token, order, slot);
@@ -147,8 +149,9 @@ pub(crate) fn give_slot<B: Fits>(
 pub(crate) fn look_at<B: Fits>(board: &Board<B>, token: &mut Token<B>, slot: u16) -> u64
     requires own { token.old.table_id ≡ board.now.table_id }
     requires inside { (slot < board.now.table_id.words) × (slot < board.now.table_id.slots) }
-    ensures token { (token.new.table_id ≡ token.old.table_id) × (token.new.id ≡ token.old.id) × (token.new.me ≡ token.old.me) }
-    ensures word { Knows token.old.me.0 slot result }
+    requires process { (p : ℕ) × IsAlone token.old.me.0 p }
+    ensures token { (token.new.table_id ≡ token.old.table_id) × (token.new.id ≡ token.old.id) }
+    ensures seen { SeesMore slot result token.old.me token.new.me }
 {
     board.load::<Looks>(token, usize::from(slot))
 }
@@ -190,4 +193,26 @@ pub(crate) fn join<B: Fits>(board: &Board<B>, token: &mut Token<B>, other: Token
     ensures token { (token.new.table_id ≡ token.old.table_id) × (token.new.id ≡ token.old.id) × (token.new.me ≡ (joined token.old.me.0 other.me.0, token.old.me.1)) }
 {
     board.join_seat::<Both>(token, other);
+}
+
+// What the token has seen, as a new one.
+pub(crate) fn note<B: Fits>(board: &Board<B>, token: &mut Token<B>) -> Token<B>
+    requires own { (token.old.table_id ≡ board.now.table_id) × (0 < board.now.table_id.words) }
+    requires process { (p : ℕ) × IsAlone token.old.me.0 p }
+    ensures token { (token.new.table_id ≡ token.old.table_id) × (token.new.id ≡ token.old.id) × (token.new.me ≡ token.old.me) }
+    ensures seat { (result.table_id ≡ token.old.table_id) × (result.me ≡ (note_of token.old.me.0, [])) }
+{
+    board.split_seat::<Notes>(token)
+}
+
+// Shows that of what the token has seen and what the note tells one is a beginning of the other.
+pub(crate) fn compare_note<B: Fits>(board: &Board<B>, token: &mut Token<B>, other: Token<B>)
+    requires own { (token.old.table_id ≡ board.now.table_id) × (other.table_id ≡ board.now.table_id) × (0 < board.now.table_id.words) × (0 < board.now.table_id.slots) }
+    requires note { (v : View) × (other.me ≡ (note_of v, [])) }
+    requires process { (p : ℕ) × IsAlone token.old.me.0 p }
+    ensures token { (token.new.table_id ≡ token.old.table_id) × (token.new.id ≡ token.old.id) × (token.new.me ≡ token.old.me) }
+    ensures one { IsOneLog (front_in token.old.me.0) (front_in other.me.0) }
+{
+    join(board, token, other);
+    board.load::<Compares>(token, 0);
 }

@@ -3,11 +3,11 @@ use std::collections::LinkedList;
 use xh_model::Event;
 
 /// What a seat at the table knows: the processes that it stands for, each a place with its generation,
-/// the records that it holds, each by its index beside the process that owns it, and for each place the
-/// events that its processes did, in their order. No value of it is ever made.
+/// the records that it holds, each by its index beside the process that owns it, and for each place a
+/// front: the beginning of the one log of all events that the seat has seen. No value of it is made.
 pub struct View {
     pub shape: Shape,
     pub processes: LinkedList<u64>,
     pub records: LinkedList<(u64, u64)>,
-    pub done: LinkedList<(u64, LinkedList<Event>)>,
+    pub fronts: LinkedList<(u64, LinkedList<Event>)>,
 }

@@ -5,7 +5,7 @@ use Rattle.xh_arena.specs.Views.{LotOf}
 use Rattle.xh_model.specs.declared.event.Event.{Event}
 use Rattle.xh_model.specs.Keyed.{Among, keys, put, value_at, without}
 use Rattle.xh_model.proofs.Keyed.{here_first, not_here}
-use Rattle.xh_records.specs.Seats.{Held, RecordsOf, IsSeatOf, did, with_lots}
+use Rattle.xh_records.specs.Seats.{Held, RecordsOf, IsSeatOf, did, seen, with_lots}
 
 module _ {B : Type 0} (x y z : Held B) (r : ℕ) (l l' : LotOf B) where
   pub gains_one : x.lots ≡ [] → y ≡ with_lots x (x.lots ++ (r, l) ∷ []) → y ≡ with_lots x ((r, l) ∷ [])
@@ -17,8 +17,8 @@ module _ {B : Type 0} (x y z : Held B) (r : ℕ) (l l' : LotOf B) where
   pub changes_one : y ≡ with_lots x ((r, l) ∷ []) → z ≡ with_lots y (put r l' y.lots) → z ≡ with_lots x ((r, l') ∷ [])
   changes_one one changed = changed ∙ ap (λ (h : Held B). with_lots h (put r l' h.lots)) one ∙ ap (with_lots x) (here_first r r ((r, l') ∷ []) _ refl)
 
-  pub loses_one : (e : Event) → y ≡ with_lots x ((r, l) ∷ []) → z ≡ did e (with_lots y (without r y.lots)) → z ≡ with_lots (did e x) []
-  loses_one e one lost = lost ∙ ap (λ (h : Held B). did e (with_lots h (without r h.lots))) one ∙ ap (with_lots (did e x)) (here_first r r [] _ refl)
+  pub loses_one : (e : Event) → y ≡ with_lots x ((r, l) ∷ []) → z ≡ seen z.front (did e (with_lots y (without r y.lots))) → z ≡ with_lots (seen z.front (did e x)) []
+  loses_one e one lost = lost ∙ ap (λ (h : Held B). seen z.front (did e (with_lots h (without r h.lots)))) one ∙ ap (with_lots (seen z.front (did e x))) (here_first r r [] _ refl)
 
 -- it is of the same table
 pub still_of : {B : Type 0} (all : RecordsOf) (x y : Held B) (ls : List (ℕ × LotOf B)) → IsSeatOf all x → y ≡ with_lots x ls → IsSeatOf all y
@@ -26,8 +26,8 @@ still_of {B} all x y ls own is = subst (λ (h : Held B). IsSeatOf all h) (sym is
 
 -- a seat with two lots
 module _ {B : Type 0} (x y z : Held B) (r q : ℕ) (l m : LotOf B) where
-  pub gains_two : (e : Event) → y ≡ with_lots x ((r, l) ∷ []) → z ≡ did e (with_lots y (y.lots ++ (q, m) ∷ [])) → z ≡ with_lots (did e x) ((r, l) ∷ (q, m) ∷ [])
-  gains_two e one gained = gained ∙ ap (λ (h : Held B). did e (with_lots h (h.lots ++ (q, m) ∷ []))) one
+  pub gains_two : (e : Event) → y ≡ with_lots x ((r, l) ∷ []) → z ≡ seen z.front (did e (with_lots y (y.lots ++ (q, m) ∷ []))) → z ≡ with_lots (seen z.front (did e x)) ((r, l) ∷ (q, m) ∷ [])
+  gains_two e one gained = gained ∙ ap (λ (h : Held B). seen z.front (did e (with_lots h (h.lots ++ (q, m) ∷ [])))) one
 
   pub apart : y ≡ with_lots x ((r, l) ∷ []) → (Among (keys y.lots) q → ⊥) → r ≢ q
   apart one fresh same = fresh (subst (λ (h : Held B). Among (keys h.lots) q) (sym one) (inl (sym same)))

@@ -12,7 +12,7 @@ use Rattle.xh_records.specs.declared.shape.Shape.{Shape}
 use Rattle.xh_records.specs.declared.view.View.{View}
 use Rattle.xh_records.specs.Showing.{IsLotAt, IsSmall}
 use Rattle.xh_records.specs.Seats.{owned_by}
-use Rattle.xh_records.specs.inner.Views.{events_in}
+use Rattle.xh_records.specs.inner.Views.{front_in}
 
 -- what a token has in the slot k
 abbrev pub in_slot : {L : Type 0} → ℕ → List (ℕ × Option L) → Option L
@@ -70,7 +70,7 @@ module _ {B : Type 0} where
     pub processes : me.0.processes ≡ process ∷ []
     pub ordered : order ≡ keys me.1
     pub records : me.0.records ≡ owned_by process order
-    pub done : me.0.done ≡ (place_of process, events_in me.0) ∷ []
+    pub front : me.0.fronts ≡ (place_of process, front_in me.0) ∷ []
     pub lots : AllLots me.0.shape me.1
     pub distinct : Distinct order
     pub below : AllBelow slots order

@@ -3,8 +3,9 @@ ghost use Rattle.std.specs.Prelude.{◌≡◌, ◌<◌, [], ◌∷◌, IfSome, S
 ghost use Rattle.xh_arena.specs.Views.{LotOf};
 ghost use Rattle.xh_model.specs.declared.limits.TheConstants.{DIRECTIONS};
 ghost use Rattle.xh_model.specs.Keyed.{put, value_at};
+ghost use Rattle.xh_records.specs.History.{IsOneLog};
 ghost use Rattle.xh_records.specs.Showing.{IsLotOf};
-ghost use Rattle.xh_records.specs.Seats.{IsRecord, IsSeatOf, with_lots};
+ghost use Rattle.xh_records.specs.Seats.{HasLooked, IsRecord, IsSeatOf, with_lots};
 
 use super::{Any, Bench, assert_left, close_both, make_bench};
 use std::alloc::Global;
@@ -65,7 +66,7 @@ fn assert_word(
 )
     requires own { IsSeatOf records.now seat.old }
     requires exists { IsRecord records.now.shape number }
-    ensures same { seat.new ≡ seat.old }
+    ensures { HasLooked seat.old seat.new }
 {
     assert_eq!(rt; records.owner_word(seat, number), word);
 }
@@ -102,7 +103,7 @@ pub(super) fn give_away(
 fn miss(rt: &impl Abort, records: &Records<Any>, seat: &mut Seat<Any>)
     requires own { IsSeatOf records.now seat.old }
     requires exists { IsRecord records.now.shape 0 }
-    ensures same { seat.new ≡ seat.old }
+    ensures { HasLooked seat.old seat.new }
 {
     let Err(word) = records.accept(seat, 0, 4) else {
         panic!(rt; "on another direction");
@@ -134,6 +135,15 @@ fn take_over(
     assert_word(rt, records, seat, 0, 0);
 }
 
+/// What one of two seats has seen begins what the other has.
+fn one_order(records: &Records<Any>, first: &mut Seat<Any>, second: &mut Seat<Any>)
+    requires own { IsSeatOf records.now first.old × IsSeatOf records.now second.old }
+    ensures same { (first.new ≡ first.old) × (second.new ≡ second.old) }
+    ensures one { IsOneLog first.old.front second.old.front }
+{
+    records.compare(first, second);
+}
+
 /// A record goes its round on a new bench of two records, and the table is taken apart, unless a growth was refused.
 fn go_round(rt: &impl Abort, alloc: Global, bench: Bench) -> Result<(), Refused>
     requires { bench.records.shape.records ≡ 2 }
@@ -152,6 +162,7 @@ fn go_round(rt: &impl Abort, alloc: Global, bench: Bench) -> Result<(), Refused>
     assert_eq!(rt; (tally.taken(), tally.back()), (32, 32));
     assert_eq!(rt; records.renew(&mut first), 32);
     assert_eq!(rt; (first.process(), second.process()), (32, 1));
+    one_order(&records, &mut first, &mut second);
     let (words, lots) = close_both(alloc, records, first, second)?;
     assert_left(rt, &words, &lots, &[(0, 0), (0, 0)]);
     Ok(())

@@ -5,6 +5,8 @@ use Rattle.atomic_table.specs.Table.{rest, turned}
 use Rattle.xh_arena.specs.Views.{LotOf}
 use Rattle.xh_model.specs.Keyed.{Among, Distinct, keys}
 use Rattle.xh_model.proofs.Keyed.{distinct_split, keys_append}
+use Rattle.xh_model.specs.Words.{place_of}
+use Rattle.xh_records.specs.History.{by_place}
 use Rattle.xh_records.specs.Seats.{lot_in, indices, Held}
 use Rattle.xh_records.specs.inner.Tokens.{in_slot, AllLots, AllBelow}
 use Rattle.xh_records.specs.inner.Gathering.{slot_at, or_else}
@@ -104,3 +106,6 @@ returns-clause-token g c =
       c.hand_over.ensures.seat.0 ∙ f.table ∙ ap (λ h. h.table) c.seat.view_is,
       c.hand_over.ensures.seat.1 ∙ ap (λ z. (z, [])) (f.view ∙ sym (views_are c.args.seat _ _ _ c.seat.inside.token.me c.seat.view_is _ _ _ c.seat.invariant)),
     )
+
+pub returns-clause-did : goal.returns-clause-did
+returns-clause-did g c = sym (ap (λ (h : Held g.row.B.Denot). h.done) c.seat.view_is) ∙ ap (λ (h : Held g.row.B.Denot). by_place (place_of h.process) h.front) c.seat.view_is

@@ -2,7 +2,9 @@ use Rattle.std.proofs.Common.{rules, arith, ◌≡◌, ℕ, suc, ◌+◌, ◌-�
 use Rattle.std.specs.Vec.{vec_capacity}
 use lib.ListN.{get_elem?}
 use mathlib.Core.Option.{some}
-use Rattle.xh_records.specs.inner.Views.{dealer, dealt, dealt_from, events_in}
+use Rattle.xh_records.specs.inner.Views.{dealer, dealt, dealt_from, front_in}
+use Rattle.xh_model.specs.Words.{place_of}
+use Rattle.xh_records.specs.History.{by_place}
 use Rattle.xh_records.specs.inner.Tokens.{numbered}
 use Rattle.xh_records.proofs.Elements.{snoc_at}
 use Rattle.xh_records.proofs.Seating.{seat_is}
@@ -28,7 +30,7 @@ invariant_of-push_reserved g c =
     let enough : c.args.board.now.table_id.slots ≤ c.args.count = c.requires.room in
     let room : c.deal-token.result.table_id.slots ≤ vec_capacity c.in_ok-order.order = subst (λ (z : ℕ). z ≤ vec_capacity c.in_ok-order.order) (sym slots) (omega arith) in
     seat_is c.loop-place.place _ [] _ _ _ _ _ _ _ c.from-process.ensures empty refl refl (c.deal-token.ensures.seat.1 ∙ ap (λ x. (dealt x, [])) v)
-    record { processes = refl; ordered = refl; records = refl; done = refl; lots = tt; distinct = tt; below = tt; room = room; small = c.requires.small }
+    record { processes = refl; ordered = refl; records = refl; front = refl; lots = tt; distinct = tt; below = tt; room = room; small = c.requires.small }
 
 pub loop-place-preserved : goal.loop-place-preserved
 loop-place-preserved g c =
@@ -48,7 +50,8 @@ loop-place-preserved g c =
             ap (λ h. h.shape) (sym new.0) ∙ ap (λ m. m.0.shape) me ∙ ap (λ x. (dealt x).shape) v,
             ap (λ h. h.process) (sym new.0) ∙ c.from-process.ensures ∙ sym i.long ∙ sym new.1,
             ap (λ h. h.lots) (sym new.0) ∙ ap (λ m. numbered m.0.shape.records m.1) me,
-            ap (λ h. h.done) (sym new.0) ∙ ap (λ m. events_in m.0) me ∙ ap (λ x. events_in (dealt x)) v,
+            ap (λ h. h.done) (sym new.0) ∙ ap (λ m. by_place (place_of c.from-process.result) (front_in m.0)) me ∙ ap (λ x. by_place (place_of c.from-process.result) (front_in (dealt x))) v,
+            ap (λ h. h.front) (sym new.0) ∙ ap (λ m. front_in m.0) me ∙ ap (λ x. front_in (dealt x)) v,
           ))
           (snoc_at c.loop-place.seats.items _ x k (subst (λ l. get_elem? l k ≡ some x) c.push_reserved.ensures.items at));
     }

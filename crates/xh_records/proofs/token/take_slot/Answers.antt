@@ -19,12 +19,14 @@ compare_exchange-found-requires g c =
 pub returns-clause-taken : goal.returns-clause-taken
 returns-clause-taken g c =
     let t = c.compare_exchange-found.ensures.2.0 c.if-found-wanted.false in
-    let u = t.1 (holder_of c.args.from) c.encode-wanted.ensures in
+    let u = t.3 (holder_of c.args.from) c.encode-wanted.ensures in
     let me = c.args.token.now.me in
     let one = ap (λ (l : List ℕ). get_or l 0 0) c.requires.process.0 in (
       t.0,
-      c.turn.ensures.2 ∙ ap (λ m. (m.0, turned m.1)) u.0 ∙ (λ i. (gained me.0 (c.from-at.ensures i) (one i) (holder_of c.args.from), me.1 ++ (c.from-at.ensures i, Some t.0) ∷ [])),
-      subst (λ (k : ℕ). IsLotAt me.0.shape k t.0) c.from-at.ensures t.2,
+      t.1,
+      c.turn.ensures.2 ∙ ap (λ m. (m.0, turned m.1)) u.0 ∙ (λ i. (gained me.0 (c.from-at.ensures i) (one i) (holder_of c.args.from) t.1, me.1 ++ (c.from-at.ensures i, Some t.0) ∷ [])),
+      t.2,
+      subst (λ (k : ℕ). IsLotAt me.0.shape k t.0) c.from-at.ensures t.4,
       u.1,
-      subst (λ (k : ℕ). (p : ℕ) → Owns me.0 k p → ⊥) c.from-at.ensures t.3,
+      subst (λ (k : ℕ). (p : ℕ) → Owns me.0 k p → ⊥) c.from-at.ensures t.5,
     )

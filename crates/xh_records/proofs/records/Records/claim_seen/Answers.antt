@@ -1,29 +1,39 @@
-use Rattle.std.proofs.Common.{arith, ◌≡◌, ◌≢◌, ℕ, ◌+◌, ◌*◌, ◌<◌, ◌≤◌, ◌∙◌, length, get_or, subst, sym, ap, length-append}
+use Rattle.std.proofs.Common.{arith, ◌≡◌, ◌≢◌, ℕ, List, ◌+◌, ◌*◌, ◌<◌, ◌≤◌, ◌∙◌, length, get_or, subst, sym, ap, length-append}
+use Rattle.xh_model.specs.declared.event.Event.{Event}
 use Rattle.xh_model.specs.declared.event.Event.TheVariants.{Claim}
+use Rattle.xh_records.specs.History.{StartsWith}
 use Rattle.xh_records.specs.Showing.{IsEmpty}
-use Rattle.xh_records.specs.Seats.{Held, HasGained, view_of, Knows}
+use Rattle.xh_records.specs.Seats.{Held, HasFound}
+use Rattle.xh_records.proofs.History.{starts_itself, starts_twice}
 use Rattle.xh_records.proofs.Lists.{seen_more}
+use Rattle.xh_records.proofs.Looks.{looks_on, gains_on, starts_on, found_on}
 use Rattle.xh_records.proofs.records.Records.claim_seen.Goals as goal
 
+-- what is kept of a word that was seen at the index k
+abbrev Saw : {B : Type 0} → Held B → List Event → ℕ → ℕ → Type 0
+Saw x now k word = (word ≢ 0) × (front : List Event) × StartsWith front x.front × StartsWith now front × HasFound k word x front
+
 pub returns-in-Ok-clause-claimed : goal.returns-in-Ok-clause-claimed
-returns-in-Ok-clause-claimed g c =
-    let r : ℕ = c.number_at-number.result in
-    subst (λ (z : Held g.row.B.Denot). HasGained (Claim z.process r) (IsEmpty g.B.Fits.is_fit) z c.take.new.seat) c.loop-index.invariant.same c.in-Ok.ensures.taken
+returns-in-Ok-clause-claimed g c = gains_on c.args.seat.now c.loop-index.seat c.loop-index.invariant.looked (λ p. Claim p c.number_at-number.result) (IsEmpty g.B.Fits.is_fit) c.take.new.seat c.in-Ok.ensures.taken
 
 pub loop-index-preserved : goal.loop-index-preserved
 loop-index-preserved g c =
     let i = c.loop-index.invariant in
     let miss = c.in-Err.ensures.missed in
+    let x = c.args.seat.now in let y = c.loop-index.seat in let z = c.take.new.seat in
     let n : ℕ = c.args.self.now.shape.records in
-    let long : length c.loop-index.seen.words.items ≡ c.loop-index.index = i.long in
+    let words = c.loop-index.seen.words.items in
+    let long : length words ≡ c.loop-index.index = i.long in
     let at = c.number_at-number.ensures in
-    let knows : Knows (view_of c.args.seat.now) (c.args.arena * n + length c.loop-index.seen.words.items) c.in-Err.word =
-    subst (λ (z : Held g.row.B.Denot × ℕ). Knows (view_of z.0) z.1 c.in-Err.word) (λ j. (i.same j, at.0 j * n + (at.1 ∙ sym long) j)) miss.1 in record {
-      same = miss.2 ∙ i.same;
-      long = ap length c.push.ensures.items ∙ length-append c.loop-index.seen.words.items _ ∙ ap (λ (n : ℕ). n + 1) long;
-      seen = λ k below. subst (λ z. (get_or z k 0 ≢ 0) × Knows (view_of c.args.seat.now) (c.args.arena * n + k) (get_or z k 0)) (sym c.push.ensures.items)
-          (seen_more (λ j w. (w ≢ 0) × Knows (view_of c.args.seat.now) (c.args.arena * n + j) w) c.loop-index.seen.words.items c.in-Err.word (λ j m. i.seen j (omega arith)) (miss.0, knows) k
-          (omega arith));
+    let each = ap (λ h. h.shape.records) i.looked.0 ∙ ap (λ s. s.records) c.requires.own.1 in
+    let later = starts_on y z miss.1.1 z.front (starts_itself z.front) in
+    let found = subst (λ (k : ℕ). HasFound k c.in-Err.word x z.front) (λ j. at.0 j * each j + (at.1 ∙ sym long) j) (found_on x y i.looked _ c.in-Err.word z.front miss.1.0) in record {
+      looked = looks_on x y i.looked z miss.1.1;
+      long = ap length c.push.ensures.items ∙ length-append words _ ∙ ap (λ (n : ℕ). n + 1) long;
+      seen = λ k below. subst (λ l. Saw x z.front (c.args.arena * n + k) (get_or l k 0)) (sym c.push.ensures.items)
+          (seen_more (λ j w. Saw x z.front (c.args.arena * n + j) w) words c.in-Err.word
+          (λ j m. let t = i.seen j (omega arith) in (t.0, t.1, t.2, starts_twice t.1 y.front z.front t.3 later, t.4))
+          (miss.0, z.front, starts_on x y i.looked z.front later, starts_itself z.front, found) k (omega arith));
     }
 
 pub returns-clause-seen : goal.returns-clause-seen
@@ -35,6 +45,6 @@ returns-clause-seen g c =
     ∙ (let e : c.self.inside.records ≡ c.loop-index.index = omega arith in e) in
     let own : c.args.seat.now.shape.records ≡ c.args.self.now.shape.records = ap (λ s. s.records) c.requires.own.1 in (
       i.long ∙ sym all ∙ sym own,
-      λ k below. subst (λ (n : ℕ). (get_or c.loop-index.seen.words.items k 0 ≢ 0) × Knows (view_of c.args.seat.now) (c.args.arena * n + k) (get_or c.loop-index.seen.words.items k 0)) (sym own)
+      λ k below. subst (λ (n : ℕ). Saw c.args.seat.now c.loop-index.seat.front (c.args.arena * n + k) (get_or c.loop-index.seen.words.items k 0)) (sym own)
           (i.seen k (subst (λ (n : ℕ). k < n) (own ∙ all) below)),
     )

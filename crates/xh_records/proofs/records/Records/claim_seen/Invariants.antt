@@ -1,10 +1,13 @@
-use Rattle.std.proofs.Common.{◌≡◌, ◌≢◌, ℕ, ◌+◌, ◌*◌, ◌<◌, length, get_or}
-use Rattle.xh_records.specs.Seats.{view_of, Knows}
+use Rattle.std.proofs.Common.{◌≡◌, ◌≢◌, ℕ, List, ◌+◌, ◌*◌, ◌<◌, length, get_or}
+use Rattle.xh_model.specs.declared.event.Event.{Event}
+use Rattle.xh_records.specs.History.{StartsWith}
+use Rattle.xh_records.specs.Seats.{HasFound, HasLooked}
 use Rattle.xh_records.proofs.records.Records.claim_seen.Given as goal
 
 abbrev pub invariant-loop-index : goal.invariant-loop-index
 invariant-loop-index g l = record {
-  same : l.seat ≡ l.initial.seat;
+  looked : HasLooked l.initial.seat l.seat;
   long : length l.seen.words.items ≡ l.index;
-  seen : (k : ℕ) → k < l.index → (get_or l.seen.words.items k 0 ≢ 0) × Knows (view_of l.initial.seat) (l.fn.arena * l.fn.self.shape.records + k) (get_or l.seen.words.items k 0);
+  seen : (k : ℕ) → k < l.index → (get_or l.seen.words.items k 0 ≢ 0) × (front : List Event) × StartsWith front l.initial.seat.front × StartsWith l.seat.front front
+      × HasFound (l.fn.arena * l.fn.self.shape.records + k) (get_or l.seen.words.items k 0) l.initial.seat front;
 }

@@ -2,18 +2,21 @@ use Rattle.std.proofs.Common.{rules, ◌≡◌, ℕ, ◌<◌, List, [], ◌∷�
 use Rattle.std.specs.Prelude.{Option}
 use lib.ListN.{get_elem?}
 use mathlib.Core.Option.{some}
-use Rattle.xh_model.specs.Words.{number_of}
+use Rattle.xh_model.specs.Words.{number_of, place_of}
 use Rattle.xh_model.specs.Keyed.{without}
+use Rattle.xh_model.specs.declared.event.Event.{Event}
+use Rattle.xh_records.specs.Seats.{Held}
 use Rattle.xh_records.specs.Encoding.{holder_of}
 use Rattle.xh_records.specs.inner.Events.{giving}
-use Rattle.xh_records.specs.inner.Views.{events_in, lost}
+use Rattle.xh_records.specs.inner.Views.{adds, lost}
 use Rattle.xh_records.specs.inner.Steps.{process_in}
 use Rattle.xh_records.specs.inner.Tokens.{numbered}
 use Rattle.xh_model.specs.declared.event.Holder.{Holder}
 use Rattle.atomic_table.specs.Table.{Me}
 use Rattle.xh_arena.specs.Views.{LotOf}
 use Rattle.xh_records.specs.declared.view.View.{View}
-use Rattle.xh_records.proofs.History.{adds_one}
+use Rattle.xh_records.proofs.History.{by_place_more}
+use Rattle.xh_records.proofs.Keeps.{giving_is}
 use Rattle.xh_records.proofs.Elements.{in_range}
 use Rattle.xh_records.proofs.Seating.{loses, is_alone, seat_is}
 use Rattle.xh_records.proofs.Numbered.{without_numbered, lost_by, held_as}
@@ -26,9 +29,9 @@ abbrev Is : {B : Type 0} → Me (Option (LotOf B)) View → Me (Option (LotOf B)
 Is x y = x ≡ y
 
 -- the process of a seat's view is the seat's
-who : {B : Type 0} {p : ℕ} (me : Me (Option (LotOf B)) View) (slot : ℕ) (h : Option Holder) → me.0.processes ≡ p ∷ []
-    → Is (lost me.0 slot (process_in me.0) h, without slot me.1) (lost me.0 slot p h, without slot me.1)
-who me slot h mine = ap (λ (l : List ℕ). (lost me.0 slot (get_or l 0 0) h, without slot me.1)) mine
+who : {B : Type 0} {p : ℕ} (me : Me (Option (LotOf B)) View) (slot : ℕ) (h : Option Holder) (others : List Event) → me.0.processes ≡ p ∷ []
+    → Is (lost me.0 slot (process_in me.0) h others, without slot me.1) (lost me.0 slot p h others, without slot me.1)
+who me slot h others mine = ap (λ (l : List ℕ). (lost me.0 slot (get_or l 0 0) h others, without slot me.1)) mine
 
 -- where the lot is, and where its slot stands
 lent : (g : Over) (c : After-as_slice g) → Lent c.args.seat.now _ _ _ c.seat.inside.token.me c.seat.view_is _ _ _ c.seat.invariant c.slot_of-slot.result c.args.number c.requires.held.0
@@ -58,8 +61,8 @@ remove-requires g c =
 pub invariant_of-seat : goal.invariant_of-seat
 invariant_of-seat g c =
     seat_is _ _ _ _ _ _ _ _ _ _ refl c.remove.ensures.items c.remove.ensures.capacity (ap (λ z. z.slots) c.give_slot-k.ensures.token.0)
-    (c.give_slot-k.ensures.token.2 ∙ who _ _ _ c.seat.invariant.processes)
-    (loses _ _ _ _ c.seat.inside.token.me c.give_slot-k.result c.slot_of-slot.result (holder_of c.args.to) c.seat.invariant (place g (goal.at.invariant_of-seat g c).After-give_slot-k))
+    (c.give_slot-k.ensures.given.2 ∙ who _ _ _ _ c.seat.invariant.processes)
+    (loses _ _ _ _ c.seat.inside.token.me c.give_slot-k.result c.slot_of-slot.result (holder_of c.args.to) c.give_slot-k.ensures.given.0 c.seat.invariant (place g (goal.at.invariant_of-seat g c).After-give_slot-k))
 
 pub returns : goal.returns
 returns g c =
@@ -67,7 +70,10 @@ returns g c =
     let x = c.args.seat.now in let me = c.seat.inside.token.me in let last = c.give_slot-k.ensures.token in
     let number : number_of me.0.shape.records slot ≡ c.args.number = (lent g (goal.at.returns g c).After-as_slice).number in
     let h = holder_of c.args.to in
-    lost_by x _ x.process c.args.number h (held_as x _ _ _ me c.seat.view_is _ _ c.give_slot-k.new.token.me _ (λ d. d ++ giving x.process c.args.number h ∷ []) last.0 last.1 (ap (λ m. m.0.shape) last.2)
-    (ap (λ m. numbered m.0.shape.records m.1) last.2 ∙ without_numbered me.0.shape c.seat.invariant.small me.1 slot c.seat.invariant.lots ∙ (λ i. without (number i) (c.seat.view_is i).lots))
-    (ap (λ m. events_in m.0) (last.2 ∙ who me slot h c.seat.invariant.processes) ∙ (adds_one
-    (giving c.seat.inside.process (number_of me.0.shape.records slot) h) _ me.0.done c.seat.invariant.done).0 ∙ (λ i. events_in me.0 ++ giving (c.seat.view_is i).process (number i) h ∷ [])))
+    let given = c.give_slot-k.ensures.given in let e = giving x.process c.args.number h in
+    let whose = ap (λ (z : Held g.row.B.Denot). z.process) c.seat.view_is in
+    let now = given.2 ∙ who me slot h given.0 c.seat.invariant.processes in
+    lost_by x _ x.process c.args.number h (held_as x _ _ _ me c.seat.view_is _ _ _ c.seat.invariant _ _ c.give_slot-k.new.token.me _ given.0 (e ∷ []) _ last.0 last.1 (ap (λ m. m.0.shape) now)
+    (ap (λ m. numbered m.0.shape.records m.1) now ∙ without_numbered me.0.shape c.seat.invariant.small me.1 slot c.seat.invariant.lots ∙ (λ i. without (number i) (c.seat.view_is i).lots))
+    (ap (λ m. m.0.fronts) now ∙ (λ i. adds (given.0 ++ giving (whose i) (number i) h ∷ []) me.0.fronts)) given.1
+    (by_place_more (place_of x.process) [] e (ap place_of (giving_is x.process c.args.number h c.requires.away.0).3)) refl)

@@ -22,4 +22,4 @@ table_of-requires-clause-empty g c =
 pub returns-clause-seats : goal.returns-clause-seats
 returns-clause-seats g c =
     let made = c.in_ok-seats.ensures in
-    (made.long, λ k x at. let s = made.seats k x (slice_elem _ k x at) in ((s.0, s.1), s.2, s.3, s.4))
+    (made.long, λ k x at. let s = made.seats k x (slice_elem _ k x at) in ((s.0, s.1), s.2, s.3, s.4, s.5))

@@ -1,7 +1,7 @@
 use Rattle.std.proofs.Common.{arith, ◌≡◌, ◌≢◌, ◌<◌, ℕ, ◌∷◌, [], ◌++◌, ◌∙◌, length, refl, ap, sym, subst}
 use Rattle.xh_records.specs.Showing.{IsLotOf}
 use Rattle.xh_arena.specs.Views.{LotOf}
-use Rattle.xh_records.specs.Seats.{Held, did, with_lots}
+use Rattle.xh_records.specs.Seats.{Held, did, seen, with_lots}
 use Rattle.xh_model.specs.Keyed.{Among, keys}
 use Rattle.xh_model.specs.declared.event.Event.{Event}
 use Rattle.xh_model.specs.declared.event.Event.TheVariants.{Claim}
@@ -15,7 +15,7 @@ use Rattle.xh_records_tests.proofs.records.pairs.cut_in_two.Goals as goal
 -- the seat once the first record is claimed and carved
 module _ (g : Over) (c : In-Some g) where
   abbrev claimed : Held Any
-  claimed = did (Claim c.args.seat.now.process c.in-Ok.first) c.args.seat.now
+  claimed = seen c.claim.new.seat.front (did (Claim c.args.seat.now.process c.in-Ok.first) c.args.seat.now)
 
   abbrev lot : LotOf Any
   lot = record c.in-Ok.ensures.claimed.0 { len = 32 }
@@ -27,8 +27,8 @@ module _ (g : Over) (c : In-Some g) where
       changes_one claimed _ _ c.in-Ok.first l lot one (c.in-Some.ensures.lot l (has_one claimed _ claimed c.in-Ok.first l l one))
 
   -- and once the second is claimed
-  both : (y : Held Any) (q : ℕ) (m : LotOf Any) (e : Event) → y ≡ did e (with_lots c.carve_at.new.seat (c.carve_at.new.seat.lots ++ (q, m) ∷ []))
-      → y ≡ with_lots (did e claimed) ((c.in-Ok.first, lot) ∷ (q, m) ∷ [])
+  both : (y : Held Any) (q : ℕ) (m : LotOf Any) (e : Event) → y ≡ seen y.front (did e (with_lots c.carve_at.new.seat (c.carve_at.new.seat.lots ++ (q, m) ∷ [])))
+      → y ≡ with_lots (seen y.front (did e claimed)) ((c.in-Ok.first, lot) ∷ (q, m) ∷ [])
   both y q m e gained = gains_two claimed _ y c.in-Ok.first q lot m e carved gained
 
   other : (q : ℕ) → (Among (keys c.carve_at.new.seat.lots) q → ⊥) → c.in-Ok.first ≢ q
@@ -41,7 +41,7 @@ claim-requires-2-clause-own g c =
 pub cut_at-requires-clause-own : goal.cut_at-requires-clause-own
 cut_at-requires-clause-own g c =
     let s = (goal.at.cut_at-requires-clause-own g c).In-Some in
-    still_of _ (did (Claim _ _) (claimed g s)) _ _ c.requires.own (both g s _ _ _ _ c.in-Ok-claim.ensures.claimed.1)
+    still_of _ (seen c.claim-2.new.seat.front (did (Claim _ _) (claimed g s))) _ _ c.requires.own (both g s _ _ _ _ c.in-Ok-claim.ensures.claimed.1)
 
 pub cut_at-requires-clause-exists : goal.cut_at-requires-clause-exists
 cut_at-requires-clause-exists g c =
@@ -58,7 +58,7 @@ cut_at-requires-clause-held g c =
     let s = (goal.at.cut_at-requires-clause-held g c).In-Some in
     let l = c.in-Ok.ensures.claimed.0 in
     let m = c.in-Ok-claim.ensures.claimed.0 in
-    let e = Claim c.carve_at.new.seat.process c.in-Ok-claim.second in let x = did e (claimed g s) in
+    let e = Claim c.carve_at.new.seat.process c.in-Ok-claim.second in let x = seen c.claim-2.new.seat.front (did e (claimed g s)) in
     let two = both g s _ c.in-Ok-claim.second m e c.in-Ok-claim.ensures.claimed.1 in
     let is_first = c.in-Ok.ensures.claimed.2 in
     let is_second = c.in-Ok-claim.ensures.claimed.2 in

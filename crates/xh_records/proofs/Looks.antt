@@ -1,0 +1,37 @@
+-- A seat that looked before it did something.
+use Rattle.std.proofs.Common.{ℕ, List, [], ◌∷◌, ◌++◌, ap, ◌∙◌, subst}
+use Rattle.xh_arena.specs.Views.{LotOf}
+use Rattle.xh_model.specs.declared.event.Event.{Event}
+use Rattle.xh_model.specs.Words.{place_of, record_of}
+use Rattle.xh_records.specs.History.{Grows, StartsWith}
+use Rattle.xh_records.specs.Showing.{IsLotOf}
+use Rattle.xh_records.specs.Seats.{Held, HasFound, HasGained, HasLooked, SawTaken, did, seen, with_lots}
+use Rattle.xh_records.proofs.History.{grows_twice, starts_twice}
+
+module _ {B : Type 0} (x y : Held B) (look : HasLooked x y) where
+  same_process : (own a b : List Event) → Grows (place_of y.process) own a b → Grows (place_of x.process) own a b
+  same_process own a b = subst (λ (p : ℕ). Grows (place_of p) own a b) (ap (λ h. h.process) look.0)
+
+  pub looks_on : (z : Held B) → HasLooked y z → HasLooked x z
+  looks_on z next = (next.0 ∙ ap (seen z.front) look.0, grows_twice (place_of x.process) [] x.front y.front z.front look.1 (same_process [] y.front z.front next.1))
+
+  pub gains_on : (by : ℕ → Event) (is : LotOf B → Type 0) (z : Held B) → HasGained (by y.process) is y z → HasGained (by x.process) is x z
+  gains_on by is z gained =
+      let e : Event = by x.process in
+      let next = subst (λ (p : ℕ). HasGained (by p) is y z) (ap (λ h. h.process) look.0) gained in (
+        next.0,
+        next.1 ∙ ap (λ h. seen z.front (did e (with_lots h (h.lots ++ (record_of e, next.0) ∷ [])))) look.0,
+        subst (λ s. IsLotOf s (record_of e) next.0) (ap (λ h. h.shape) look.0) next.2,
+        next.3,
+        grows_twice (place_of x.process) (e ∷ []) x.front y.front z.front look.1 (same_process (e ∷ []) y.front z.front next.4),
+      )
+
+  pub starts_on : (front : List Event) → StartsWith front y.front → StartsWith front x.front
+  starts_on front later = starts_twice x.front y.front front (look.1.0 ++ [], look.1.1) later
+
+  pub found_on : (k word : ℕ) (front : List Event) → HasFound k word y front → HasFound k word x front
+  found_on k word front found = subst (λ h. HasFound k word h front) look.0 found
+
+  pub saw_on : (arena : ℕ) (words : List ℕ) (z : Held B) → SawTaken arena words y z → SawTaken arena words x z
+  saw_on arena words z saw = let t = subst (λ h. SawTaken arena words h z) look.0 saw in
+      (t.0, λ k inside. let u = t.1 k inside in (u.0, u.1, starts_on u.1 u.2, u.3, u.4))
