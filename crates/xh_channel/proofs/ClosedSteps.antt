@@ -1,5 +1,5 @@
 -- Each step on a closed word keeps the rule.
-use Rattle.std.proofs.Common.{◌≡◌, ◌≢◌, inl, inr, ℕ, zero, suc, ◌<◌, Bool, true, false, true≢false, List, [], ◌∷◌, length, set}
+use Rattle.std.proofs.Common.{◌≡◌, ◌≢◌, ◌⊎◌, inl, inr, ℕ, zero, suc, ◌<◌, ◌||◌, Bool, true, false, true≢false, List, [], ◌∷◌, length, set}
 use Rattle.std.proofs.Common.{sym, refl, ap, ◌∙◌, subst, ⊎_elim, replicate, eqb, eq-eqb, ne_eqb, cond, arith}
 use Rattle.std.proofs.lemmas.List.{set-get_or}
 use Rattle.std.specs.Prelude.{slice_index}
@@ -7,11 +7,11 @@ use mathlib.Core.Option.{some, none, some-injective, some-ne-none}
 use mathlib.Core.Logic.{dite}
 use native.Mathlib.Decide.{ℕ_discrete}
 use lib.ListN.{get_elem?}
-use Rattle.atomic_table.specs.Table.{State, Me, step, keeps, Allows, Splits, opening}
+use Rattle.atomic_table.specs.Table.{State, Me, step, keeps, Allows, Splits, Joins, opening}
 use Rattle.atomic_table.proofs.Lists.{at_set, set_here, set_else}
 use Rattle.xh_model.specs.declared.limits.TheConstants.{DIRECTIONS}
 use Rattle.xh_channel.specs.declared.closed_rule.Sight.{Sight}
-use Rattle.xh_channel.specs.inner.ClosedWords.{sight, bit, peer, FitsSight, Shows, Shut, Looked, one_word, other_words}
+use Rattle.xh_channel.specs.inner.ClosedWords.{sight, bit, peer, FitsSight, Shows, Shut, Looked, one_word, other_words, shut_told, hearing_shut}
 use Rattle.xh_channel.proofs.Views.{every_set, every_snoc, one_view}
 
 all_zero : (k w : ℕ) → w < k → get_elem? {A = ℕ} (replicate k 0) w ≡ some 0
@@ -125,3 +125,39 @@ looks slots id me i is s h _ at _ =
 pub shuts_at : {S : Type 0} (slots id : ℕ) (me : Me S Sight) (i : ℕ) → me.0.from ≡ i → me.0.upto ≡ suc i
     → Allows Shows slots id me i (λ _. 1) (λ _. Shut (step slots i 1 0 none) me 1)
 shuts_at slots id me i is one = subst (λ (w : ℕ). Allows Shows slots id me w (λ _. 1) (λ _. Shut (step slots w 1 0 none) me 1)) is (shuts slots id me (one ∙ ap suc (sym is)))
+
+-- a sight with no word of its own
+fits_told : (keeper : ℕ → ℕ) (words : List ℕ) (id from : ℕ) (seen : Bool) → (seen ≡ true → get_elem? words (peer from) ≡ some 1) → FitsSight keeper words id (sight from from false seen)
+fits_told keeper words id from seen at = ((λ w a b. absurd (omega arith)), at)
+
+pub tells_shut : {S : Type 0} (id : ℕ) (v : Sight) → v.upto ≡ suc v.from → Splits (Shows {S = S}) id v v (shut_told v)
+tells_shut id v one s h at =
+    let mine = h.2 id v at in
+    let own = (mine.0 v.from (omega arith) (omega arith)).1 in
+    let back : v.from ≡ peer (peer v.from) = omega arith in
+    let vs : List Sight = set s.views id v in (
+      h.0,
+      h.1,
+      every_snoc (FitsSight h.0 s.words) vs (shut_told v)
+          (fits_told h.0 s.words (length vs) (peer v.from) v.shut (λ p. subst (λ (w : ℕ). get_elem? s.words w ≡ some 1) back (own ∙ ap (λ b. some (bit b)) p)))
+          (every_set (FitsSight h.0 s.words) s.views id v mine (λ j u _ e. h.2 j u e)),
+    )
+
+either : (a b : Bool) → a || b ≡ true → (a ≡ true) ⊎ (b ≡ true)
+either true b e = inl refl
+either false b e = inr e
+
+pub hears_shut : {S : Type 0} (id : ℕ) (v : Sight) (other : ℕ) (w : Sight) → w.from ≡ v.from → Joins (Shows {S = S}) id v other w (hearing_shut v w) (sight 0 0 false false)
+hears_shut id v other w same s h at two at' =
+    let both : Sight = hearing_shut v w in
+    let vs : List Sight = set s.views id both in
+    let was : get_elem? s.views other ≡ some w = ⊎_elim (λ x. absurd (two x.0)) (λ x. x.1) (at_set s.views id other both w at') in
+    let mine = h.2 id v at in
+    let theirs = h.2 other w was in
+    let seen : both.peer_shut ≡ true → get_elem? s.words (peer v.from) ≡ some 1 =
+    λ p. ⊎_elim mine.1 (λ q. subst (λ (x : ℕ). get_elem? s.words (peer x) ≡ some 1) same (theirs.1 q)) (either v.peer_shut w.peer_shut p) in (
+      h.0,
+      h.1,
+      every_set (FitsSight h.0 s.words) vs other (sight 0 0 false false) (fits_told h.0 s.words other 0 false (λ p. absurd (true≢false (sym p))))
+          (λ j u _ e. every_set (FitsSight h.0 s.words) s.views id both (mine.0, seen) (λ i y _ f. h.2 i y f) j u e),
+    )

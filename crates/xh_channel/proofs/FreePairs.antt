@@ -1,5 +1,5 @@
 -- A pair more at the end of the places.
-use Rattle.std.proofs.Common.{◌≡◌, ℕ, zero, suc, ◌+◌, ◌<◌, true, List, [], ◌∷◌, ◌++◌, length, Option, Some, None, sym, ap, ◌∙◌, arith}
+use Rattle.std.proofs.Common.{◌≡◌, ℕ, zero, suc, ◌+◌, ◌<◌, true, List, [], ◌∷◌, ◌++◌, length, set, Option, Some, None, sym, ap, ◌∙◌, arith}
 use Rattle.std.proofs.lemmas.Option.{none-some}
 use Rattle.xh_channel.specs.declared.free_pair.FreePair.{FreePair}
 use Rattle.xh_channel.specs.inner.FreeNumbers.{at_place, has_depth, StandAtTheirNumbers}
@@ -25,3 +25,13 @@ free_push d [] n x long old new (suc i) h = absurd (omega arith)
 free_push d (y ∷ ys) zero x long old new i h = absurd (omega arith)
 free_push d (y ∷ ys) (suc n) x long old new zero h = old 0 (omega arith)
 free_push d (y ∷ ys) (suc n) x long old new (suc i) h = free_push d ys n x (omega arith) (λ k b. old (suc k) (omega arith)) new i (omega arith)
+
+none_at : (xs : List (Option FreePair)) (n i : ℕ) (p : FreePair) → at_place (set xs n None) i ≡ Some p → at_place xs i ≡ Some p
+none_at [] n i p e = e
+none_at (x ∷ xs) zero zero p e = absurd (none-some p e)
+none_at (x ∷ xs) zero (suc i) p e = e
+none_at (x ∷ xs) (suc n) zero p e = e
+none_at (x ∷ xs) (suc n) (suc i) p e = none_at xs n i p e
+
+pub placed_none : (xs : List (Option FreePair)) (n : ℕ) → StandAtTheirNumbers xs → StandAtTheirNumbers (set xs n None)
+placed_none xs n old i p e = old i p (none_at xs n i p e)

@@ -1,22 +1,26 @@
 -- Each move keeps the rule of a direction.
-use Rattle.std.proofs.Common.{◌≡◌, ◌≢◌, ℕ, suc, true, false, true≢false, List, [], ◌∷◌, ◌++◌, length, set, sym, refl, ap, ◌∙◌, subst, ⊎_elim, append_assoc, arith}
+use Rattle.std.proofs.Common.{◌≡◌, ◌≢◌, ℕ, suc, ◌+◌, ◌≤◌, max, true, false, true≢false, List, [], ◌∷◌, ◌++◌, length, length-append, set, sym, refl, ap, ◌∙◌, subst, ⊎_elim, append_assoc, arith}
 use mathlib.Core.Option.{some}
 use lib.ListN.{get_elem?}
-use Rattle.crossbeam_queue.specs.Fifo.{Pushes, Pops, Forks, Merges}
+use Rattle.crossbeam_queue.specs.Fifo.{Pushes, Pops, Forks, Merges, Learns}
 use Rattle.xh_model.proofs.Direction.{numbers_join, number_at, numbers_before}
 use Rattle.crossbeam_queue.proofs.Lists.{at_set}
 use Rattle.xh_channel.specs.declared.message.Message.{Message}
 use Rattle.xh_channel.specs.declared.direction.Role.{Role}
 use Rattle.xh_channel.specs.Numbers.{number, Numbered}
 use Rattle.xh_channel.proofs.Views.{Every, every_set, every_snoc, one_view}
-use Rattle.xh_channel.specs.Directions.{role, Fits, Ordered, Sent, Got}
+use Rattle.xh_channel.specs.Directions.{role, hearing, Fits, Ordered, Sent, Got, WaitsAhead, WaitsBehind}
 
-pub begins : Ordered [] (role true true [] [] ∷ [])
-begins = (0, 0, [], [], (refl, tt), one_view (Fits 0 0 [] []) (role true true [] []) ((λ _. (refl, refl)), λ _. (refl, refl)))
+pub begins : Ordered [] (role true true [] [] 0 0 ∷ [])
+begins = (0, 0, [], [], (refl, tt), one_view (Fits 0 0 [] []) (role true true [] [] 0 0) ((λ _. (refl, refl)), (λ _. (refl, refl)), omega arith, omega arith))
+
+-- a list with one more at its end is longer
+grows : (n : ℕ) (l : List Message) (x : Message) → n ≤ length l → n ≤ length (l ++ x ∷ [])
+grows n l x h = omega (arith, length-append l (x ∷ []))
 
 pub sends : (n port : ℕ) (v : Role) (x : Message) → v.pushes ≡ true → x.no ≡ suc (length v.sent) → Pushes Ordered n port v x (Sent v x)
 sends n port v x may next items views _ h at =
-    let w : Role = role v.pushes v.pops (v.sent ++ x ∷ []) v.got in
+    let w : Role = record v { sent = v.sent ++ x ∷ [] } in
     let mine = h.5 port v at in
     let same = (mine.0 may).1 in
     let sent = h.2 ++ x ∷ [] in
@@ -28,15 +32,15 @@ sends n port v x may next items views _ h at =
         sent,
         h.3,
         (ap (λ l. l ++ x ∷ []) h.4.0 ∙ append_assoc h.3 items (x ∷ []), numbered),
-        every_set (Fits h.0 h.1 sent h.3) views port w ((λ _. ((mine.0 may).0, ap (λ l. l ++ x ∷ []) same)), mine.1)
-            (λ j u other e. ((λ p. absurd (other (((h.5 j u e).0 p).0 ∙ sym (mine.0 may).0))), (h.5 j u e).1)),
+        every_set (Fits h.0 h.1 sent h.3) views port w ((λ _. ((mine.0 may).0, ap (λ l. l ++ x ∷ []) same)), mine.1, grows v.told_put h.2 x mine.2, mine.3)
+            (λ j u other e. let f = h.5 j u e in ((λ p. absurd (other ((f.0 p).0 ∙ sym (mine.0 may).0))), f.1, grows u.told_put h.2 x f.2, f.3)),
       ),
       (refl, subst (λ l. Numbered (l ++ x ∷ [])) (sym same) numbered),
     )
 
 pub gets : (port : ℕ) (v : Role) → v.pops ≡ true → Pops Ordered port v (Got v)
 gets port v may x items views h at =
-    let w : Role = role v.pushes v.pops v.sent (v.got ++ x ∷ []) in
+    let w : Role = record v { got = v.got ++ x ∷ [] } in
     let mine = h.5 port v at in
     let same = (mine.1 may).1 in
     let got = h.3 ++ x ∷ [] in
@@ -48,8 +52,8 @@ gets port v may x items views h at =
         h.2,
         got,
         (split, h.4.1),
-        every_set (Fits h.0 h.1 h.2 got) views port w (mine.0, λ _. ((mine.1 may).0, ap (λ l. l ++ x ∷ []) same))
-            (λ j u other e. ((h.5 j u e).0, λ p. absurd (other (((h.5 j u e).1 p).0 ∙ sym (mine.1 may).0)))),
+        every_set (Fits h.0 h.1 h.2 got) views port w (mine.0, (λ _. ((mine.1 may).0, ap (λ l. l ++ x ∷ []) same)), mine.2, grows v.told_taken h.3 x mine.3)
+            (λ j u other e. let f = h.5 j u e in (f.0, (λ p. absurd (other ((f.1 p).0 ∙ sym (mine.1 may).0))), f.2, grows u.told_taken h.3 x f.3)),
       ),
       (
         refl,
@@ -58,28 +62,86 @@ gets port v may x items views h at =
       ),
     )
 
-pub forks : (port : ℕ) (v : Role) → v.pushes ≡ true → v.pops ≡ true → Forks Ordered port v (role true false v.sent []) (role false true [] v.got)
-forks port v a b items views h at = let l : Role = role true false v.sent [] in let r : Role = role false true [] v.got in let mine = h.5 port v at in let vs : List Role = set views port l in
-    let Old : ℕ → Role → Type 0 = λ j u. (u.pushes ≡ true → (j ≡ h.0) × (u.sent ≡ h.2)) × (u.pops ≢ true) in
-    let old : Every Old vs = every_set Old views port l ((λ _. mine.0 a), λ p. true≢false (sym p)) (λ j u other e. ((h.5 j u e).0, λ p. other (((h.5 j u e).1 p).0 ∙ sym (mine.1 b).0))) in (
+-- what waits when a push finds no room, and when a pop finds nothing
+pub sender_learns : (port : ℕ) (v : Role) → v.pushes ≡ true → Learns Ordered port v (WaitsBehind v)
+sender_learns port v may items views h at =
+    let mine = h.5 port v at in let sent = ap length (mine.0 may).1 in let split = ap length h.4.0 in let told = mine.3 in omega (arith, length-append h.3 items)
+
+pub receiver_learns : (port : ℕ) (v : Role) → v.pops ≡ true → Learns Ordered port v (WaitsAhead v)
+receiver_learns port v may items views h at =
+    let mine = h.5 port v at in let got = ap length (mine.1 may).1 in let split = ap length h.4.0 in let told = mine.2 in omega (arith, length-append h.3 items)
+
+pub forks : (port : ℕ) (v : Role) → v.pushes ≡ true → v.pops ≡ true
+    → Forks Ordered port v (role true false v.sent [] 0 (length v.got)) (role false true [] v.got (length v.sent) 0)
+forks port v a b items views h at =
+    let l : Role = role true false v.sent [] 0 (length v.got) in
+    let r : Role = role false true [] v.got (length v.sent) 0 in
+    let mine = h.5 port v at in
+    let sent = ap length (mine.0 a).1 in
+    let got = ap length (mine.1 b).1 in
+    let vs : List Role = set views port l in
+    let Old : ℕ → Role → Type 0 = λ j u. (u.pushes ≡ true → (j ≡ h.0) × (u.sent ≡ h.2)) × (u.pops ≢ true) × (u.told_put ≤ length h.2) × (u.told_taken ≤ length h.3) in
+    let old : Every Old vs = every_set Old views port l ((λ _. mine.0 a), (λ p. true≢false (sym p)), omega arith, omega arith)
+    (λ j u other e. let f = h.5 j u e in (f.0, (λ p. other ((f.1 p).0 ∙ sym (mine.1 b).0)), f.2, f.3)) in (
       h.0,
       length vs,
       h.2,
       h.3,
       h.4,
-      every_snoc (Fits h.0 (length vs) h.2 h.3) vs r ((λ p. absurd (true≢false (sym p))), λ _. (refl, (mine.1 b).1)) (λ j u e. ((old j u e).0, λ p. absurd ((old j u e).1 p))),
+      every_snoc (Fits h.0 (length vs) h.2 h.3) vs r ((λ p. absurd (true≢false (sym p))), (λ _. (refl, (mine.1 b).1)), omega arith, omega arith)
+          (λ j u e. let o = old j u e in (o.0, (λ p. absurd (o.1 p)), o.2, o.3)),
     )
 
+-- a pass of no queue's end
+abbrev idle : ℕ → ℕ → Role
+idle put taken = role false false [] [] put taken
+
+idle_fits : (writer reader : ℕ) (sent got : List Message) (port put taken : ℕ) → put ≤ length sent → taken ≤ length got → Fits writer reader sent got port (idle put taken)
+idle_fits writer reader sent got port put taken a b = ((λ p. absurd (true≢false (sym p))), (λ p. absurd (true≢false (sym p))), a, b)
+
 pub merges : (port : ℕ) (v : Role) (other : ℕ) (u : Role) → v.pushes ≡ true → u.pops ≡ true
-    → Merges Ordered port v other u (role true true v.sent u.got) (role false false [] [])
+    → Merges Ordered port v other u (role true true v.sent u.got u.told_put v.told_taken) (role false false [] [] 0 0)
 merges port v other u a b items views h at two at' =
-    let both : Role = role true true v.sent u.got in
-    let none : Role = role false false [] [] in
+    let both : Role = role true true v.sent u.got u.told_put v.told_taken in
     let mine = h.5 port v at in
     let vs : List Role = set views port both in
     let was : get_elem? views other ≡ some u = ⊎_elim (λ x. absurd (two x.0)) (λ x. x.1) (at_set views port other both u at') in
-    let theirs = (h.5 other u was).1 b in
+    let f = h.5 other u was in
+    let theirs = f.1 b in
     let Now : ℕ → Role → Type 0 = λ j y. j ≢ other → Fits h.0 port h.2 h.3 j y in
-    let now : Every Now vs = every_set Now views port both (λ _. ((λ _. mine.0 a), λ _. (refl, theirs.1)))
-    (λ j y _ e apart. ((h.5 j y e).0, λ p. absurd (apart (((h.5 j y e).1 p).0 ∙ sym theirs.0)))) in
-    (h.0, port, h.2, h.3, h.4, every_set (Fits h.0 port h.2 h.3) vs other none ((λ p. absurd (true≢false (sym p))), λ p. absurd (true≢false (sym p))) (λ j y apart e. now j y e apart))
+    let now : Every Now vs = every_set Now views port both (λ _. ((λ _. mine.0 a), (λ _. (refl, theirs.1)), f.2, mine.3))
+    (λ j y _ e apart. let g = h.5 j y e in (g.0, (λ p. absurd (apart ((g.1 p).0 ∙ sym theirs.0))), g.2, g.3)) in
+    (h.0, port, h.2, h.3, h.4, every_set (Fits h.0 port h.2 h.3) vs other (idle 0 0) (idle_fits h.0 port h.2 h.3 other 0 0 (omega arith) (omega arith)) (λ j y apart e. now j y e apart))
+
+-- a pass stays, and a new one tells of no more than it may
+tells : (port : ℕ) (v : Role) (put taken : ℕ) → ((sent got : List Message) (writer reader : ℕ) → Fits writer reader sent got port v → (put ≤ length sent) × (taken ≤ length got))
+    → Forks Ordered port v v (idle put taken)
+tells port v put taken may items views h at =
+    let vs : List Role = set views port v in
+    let so = may h.2 h.3 h.0 h.1 (h.5 port v at) in (
+      h.0,
+      h.1,
+      h.2,
+      h.3,
+      h.4,
+      every_snoc (Fits h.0 h.1 h.2 h.3) vs (idle put taken) (idle_fits h.0 h.1 h.2 h.3 (length vs) put taken so.0 so.1)
+          (every_set (Fits h.0 h.1 h.2 h.3) views port v (h.5 port v at) (λ j u _ e. h.5 j u e)),
+    )
+
+pub tells_put : (port : ℕ) (v : Role) → v.pushes ≡ true → Forks Ordered port v v (role false false [] [] (length v.sent) 0)
+tells_put port v a = tells port v (length v.sent) 0 (λ sent got writer reader f. let same = ap length (f.0 a).1 in (omega arith, omega arith))
+
+pub tells_taken : (port : ℕ) (v : Role) → v.pops ≡ true → Forks Ordered port v v (role false false [] [] 0 (length v.got))
+tells_taken port v b = tells port v 0 (length v.got) (λ sent got writer reader f. let same = ap length (f.1 b).1 in (omega arith, omega arith))
+
+pub hears : (port : ℕ) (v : Role) (other : ℕ) (u : Role) → Merges Ordered port v other u (hearing v u.told_put u.told_taken) (role false false [] [] 0 0)
+hears port v other u items views h at two at' =
+    let both : Role = hearing v u.told_put u.told_taken in
+    let mine = h.5 port v at in
+    let vs : List Role = set views port both in
+    let was : get_elem? views other ≡ some u = ⊎_elim (λ x. absurd (two x.0)) (λ x. x.1) (at_set views port other both u at') in
+    let theirs = h.5 other u was in
+    let a : max v.told_put u.told_put ≤ length h.2 = let m = mine.2 in let t = theirs.2 in omega arith in
+    let b : max v.told_taken u.told_taken ≤ length h.3 = let m = mine.3 in let t = theirs.3 in omega arith in
+    let now : Every (Fits h.0 h.1 h.2 h.3) vs = every_set (Fits h.0 h.1 h.2 h.3) views port both (mine.0, mine.1, a, b) (λ j y _ e. h.5 j y e) in
+    (h.0, h.1, h.2, h.3, h.4, every_set (Fits h.0 h.1 h.2 h.3) vs other (idle 0 0) (idle_fits h.0 h.1 h.2 h.3 other 0 0 (omega arith) (omega arith)) (λ j y _ e. now j y e))

@@ -1,5 +1,6 @@
 -- The rule of a direction: what was sent is what was taken and then what waits, numbered from 1. One pass at most may push, and it has the list of what was sent. The same for pops.
-use Rattle.std.specs.Prelude.{◌≡◌, ℕ, suc, Bool, true, List, [], ◌∷◌, ◌++◌, length}
+-- No pass was told of more than was sent, or of more than was taken.
+use Rattle.std.specs.Prelude.{◌≡◌, ℕ, suc, ◌+◌, ◌≤◌, max, Bool, true, List, [], ◌∷◌, ◌++◌, length}
 use mathlib.Core.Option.{some}
 use lib.ListN.{get_elem?}
 use Rattle.xh_model.specs.Direction.{IsDirection}
@@ -7,23 +8,28 @@ use Rattle.xh_channel.specs.declared.message.Message.{Message}
 use Rattle.xh_channel.specs.declared.direction.Role.{Role}
 use Rattle.xh_channel.specs.Numbers.{number, Numbered}
 
-abbrev pub role : Bool → Bool → List Message → List Message → Role
-role a b sent got = record { pushes = a; pops = b; sent = sent; got = got }
+abbrev pub role : Bool → Bool → List Message → List Message → ℕ → ℕ → Role
+role a b sent got put taken = record { pushes = a; pops = b; sent = sent; got = got; told_put = put; told_taken = taken }
+
+-- it was told of so many as well
+abbrev pub hearing : Role → ℕ → ℕ → Role
+hearing v put taken = role v.pushes v.pops v.sent v.got (max v.told_put put) (max v.told_taken taken)
 
 abbrev pub Fits : ℕ → ℕ → List Message → List Message → ℕ → Role → Type 0
 Fits writer reader sent got port v = (v.pushes ≡ true → (port ≡ writer) × (v.sent ≡ sent)) × (v.pops ≡ true → (port ≡ reader) × (v.got ≡ got))
+    × (v.told_put ≤ length sent) × (v.told_taken ≤ length got)
 
 abbrev pub Ordered : List Message → List Role → Type 0
 Ordered items views = (writer : ℕ) × (reader : ℕ) × (sent : List Message) × (got : List Message) × IsDirection number sent got items
     × ((port : ℕ) (v : Role) → get_elem? views port ≡ some v → Fits writer reader sent got port v)
 
--- what waits is the end of what was sent
-abbrev pub WaitsFrom : List Message → List Message → Type 0
-WaitsFrom sent items = (got : List Message) × (sent ≡ got ++ items)
+-- what waits was sent after what the other end was said to have taken
+abbrev pub WaitsBehind : Role → List Message → Type 0
+WaitsBehind v items = v.told_taken + length items ≤ length v.sent
 
--- what waits follows what was taken, and all of it is numbered
-abbrev pub WaitsTo : List Message → List Message → Type 0
-WaitsTo got items = Numbered (got ++ items)
+-- what the other end was said to have sent was taken, or waits
+abbrev pub WaitsAhead : Role → List Message → Type 0
+WaitsAhead v items = v.told_put ≤ length v.got + length items
 
 -- what was sent is what was taken and then what waits
 abbrev pub WaitsAfter : List Message → List Message → List Message → Type 0
@@ -31,8 +37,8 @@ WaitsAfter = IsDirection number
 
 -- x was pushed at the back, with the next number
 abbrev pub Sent : Role → Message → Role → Type 0
-Sent v x w = (w ≡ role v.pushes v.pops (v.sent ++ x ∷ []) v.got) × Numbered (v.sent ++ x ∷ [])
+Sent v x w = (w ≡ record v { sent = v.sent ++ x ∷ [] }) × Numbered (v.sent ++ x ∷ [])
 
 -- x was popped at the front, and its number follows those taken before
 abbrev pub Got : Role → Message → Role → Type 0
-Got v x w = (w ≡ role v.pushes v.pops v.sent (v.got ++ x ∷ [])) × (x.no ≡ suc (length v.got)) × Numbered (v.got ++ x ∷ [])
+Got v x w = (w ≡ record v { got = v.got ++ x ∷ [] }) × (x.no ≡ suc (length v.got)) × Numbered (v.got ++ x ∷ [])

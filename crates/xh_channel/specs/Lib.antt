@@ -3,6 +3,7 @@ pub mod ContractEnds
 pub mod Directions
 pub mod Ends
 pub mod Lines
+pub mod Notes
 pub mod Numbers
 pub mod Pairs
 pub mod QueueEnds

@@ -1,8 +1,7 @@
 -- What contracts see of an endpoint, and what its calls do where its channel has no contract.
-use Rattle.std.specs.Prelude.{◌≡◌, ◌⊎◌, ℕ, suc, ◌+◌, ◌*◌, ◌≤◌, Bool, true, false, List, [], ◌∷◌, ◌++◌, length, Option, Some, None, is_some, Result}
+use Rattle.std.specs.Prelude.{◌≡◌, ◌⊎◌, ℕ, suc, ◌+◌, ◌*◌, ◌≤◌, max, Bool, true, false, ◌||◌, List, [], ◌∷◌, ◌++◌, length, Option, Some, None, is_some, Result}
 use Rattle.arrayvec.specs.ArrayVec.{ArrayVec}
 use Rattle.atomic_table.specs.Seated.{TableId}
-use Rattle.crossbeam_queue.specs.Fifo.{Held}
 use Rattle.xh_model.specs.declared.limits.TheConstants.{MAX_MESSAGES}
 use Rattle.xh_channel.specs.declared.counts.Counts.{Counts}
 use Rattle.xh_channel.specs.declared.message.Message.{Message}
@@ -11,12 +10,12 @@ use Rattle.xh_channel.specs.declared.spot.Spot.{Spot}
 use Rattle.xh_channel.specs.declared.unsent.Unsent.{Unsent}
 use Rattle.xh_channel.specs.inner.ClosedWords.{ClosedView}
 use Rattle.xh_channel.specs.Numbers.{Numbered}
-use Rattle.xh_channel.specs.Directions.{WaitsFrom, WaitsTo}
 use Rattle.xh_channel.specs.Ends.{Puts, Takes, now_shut}
 use Rattle.xh_channel.specs.QueueEnds.{Outgoing, Incoming}
 
 -- its spot and counts, whether its channel has a contract, the depth and its two queues.
--- Of its queues: the messages that it put and took, all that it pushed, and whether it saw its peer shut
+-- Of its queues: the messages that it put and took, and all that it pushed.
+-- Of its peer: whether it saw or was told that it is shut, and how many messages it was told that the peer put and took
 pub record Posted : Type 0 where
   pub channel : ℕ
   pub side : ℕ
@@ -25,10 +24,13 @@ pub record Posted : Type 0 where
   pub depth : ℕ
   pub out : TableId
   pub into : TableId
+  pub closed : TableId
   pub sent : List Message
   pub pushed : List Message
   pub got : List Message
   pub peer_shut : Bool
+  pub told_put : ℕ
+  pub told_taken : ℕ
 
 -- where the channel has a contract the end counts as its line does
 abbrev pub counts_of : Option Counts → Counts → Counts
@@ -43,7 +45,7 @@ pub record IsEnd (spot : Spot) (out : Outgoing) (into : Incoming) (word : Closed
   pub numbers : put ≤ MAX_MESSAGES
   pub unused : is_some line ≡ true → (put ≡ 0) × (into.got ≡ []) × (word.shut ≡ false)
 
--- the same end of the same channel
+-- the same end of the same channel, which was told the same
 pub record IsSameEnd (old new : Posted) : Type 0 where
   pub channel : new.channel ≡ old.channel
   pub side : new.side ≡ old.side
@@ -51,6 +53,9 @@ pub record IsSameEnd (old new : Posted) : Type 0 where
   pub depth : new.depth ≡ old.depth
   pub out : new.out ≡ old.out
   pub into : new.into ≡ old.into
+  pub closed : new.closed ≡ old.closed
+  pub told_put : new.told_put ≡ old.told_put
+  pub told_taken : new.told_taken ≡ old.told_taken
 
 -- of what it sent and got and saw, only what it sent may differ, only what it got, neither
 abbrev pub IsSameBut : List Message → List Message → Posted → Posted → Type 0
@@ -68,13 +73,13 @@ GoesBack old new m = IsSameBut (old.sent ++ m ∷ []) old.got old new × (new.pu
 abbrev pub ComesNext : Posted → Posted → Message → Type 0
 ComesNext old new m = IsSameBut old.sent (old.got ++ m ∷ []) old new × (new.pushed ≡ old.pushed) × Numbered new.got
 
--- what it pushed ends in as many messages as the depth. That they waited, no clause says
-abbrev pub SawFull : Posted → Type 0
-SawFull old = Held old.depth (WaitsFrom old.pushed)
+-- it put as many messages as the depth beyond those that it was told were taken
+abbrev pub IsFullAsTold : Posted → Type 0
+IsFullAsTold end = end.told_taken + end.depth ≤ end.counts.put
 
--- an empty queue may follow what it took. That the queue was empty, no clause says
-abbrev pub SawEmpty : Posted → Type 0
-SawEmpty old = Held 0 (WaitsTo old.got)
+-- it took as many messages as it was told were put
+abbrev pub IsEmptyAsTold : Posted → Type 0
+IsEmptyAsTold end = end.told_put ≤ end.counts.taken
 
 abbrev pub SawShut : Posted → Posted → Type 0
 SawShut old new = new.peer_shut ≡ true
@@ -82,12 +87,9 @@ SawShut old new = new.peer_shut ≡ true
 abbrev pub SawOpen : Posted → Posted → Type 0
 SawOpen old new = (old.peer_shut ≡ false) × (new.peer_shut ≡ false)
 
--- a put, which no contract bans; `full` says that as many messages as the depth were seen to wait
-abbrev pub PutsWhere : Type 0 → Posted → Posted → ℕ → ArrayVec ℕ → Result ℕ Unsent → Type 0
-PutsWhere full old new = Puts (GoesBack old new) ⊥ (Unit {0}) full (SawShut old new) (SawOpen old new) old.counts new.counts
-
+-- a put, which no contract bans
 abbrev pub PutsAs : Posted → Posted → ℕ → ArrayVec ℕ → Result ℕ Unsent → Type 0
-PutsAs old new = PutsWhere (SawFull old) old new
+PutsAs old new = Puts (GoesBack old new) ⊥ (Unit {0}) (IsFullAsTold old) (SawShut old new) (SawOpen old new) old.counts new.counts
 
 -- a put that is refused leaves nothing behind, or one message that only the shut peer can find
 abbrev pub Unpushed : Posted → Posted → Message → Type 0
@@ -104,12 +106,8 @@ pub record IsUnsent (old new : Posted) : Type 0 where
   pub shut : new.counts.shut ≡ old.counts.shut
   pub sent : (before : List Message) (m : Message) → old.sent ≡ before ++ m ∷ [] → new.sent ≡ before
 
--- a take; `empty` says that nothing was seen to wait
-abbrev pub TakesWhere : Type 0 → Posted → Posted → Result Message Refused → Type 0
-TakesWhere empty old new = Takes (ComesNext old new) empty (SawShut old new) (SawOpen old new) old.counts new.counts
-
 abbrev pub TakesAs : Posted → Posted → Result Message Refused → Type 0
-TakesAs old new = TakesWhere (SawEmpty old) old new
+TakesAs old new = Takes (ComesNext old new) (IsEmptyAsTold old) (SawShut old new) (SawOpen old new) old.counts new.counts
 
 abbrev pub ShutsAs : Posted → Posted → Type 0
 ShutsAs old new = (new.counts ≡ now_shut old.counts) × KeepsItsMessages old new

@@ -1,31 +1,27 @@
 //! All channels of a heap.
 ghost use Rattle.std.specs.Prelude.{◌≡◌, ℕ, ◌+◌, ◌*◌, ◌<◌, ◌≤◌, ◌⊎◌, suc, true, false, length, IfOk, IfErr, OnErr, MatchBool};
-ghost use Rattle.crossbeam_queue.specs.Fifo.{Learns, Held};
 ghost use Rattle.xh_model.specs.declared.limits.TheConstants.{CHANNELS, MAX_DEPTH, MAX_MESSAGES};
 ghost use Rattle.xh_channel.specs.ContractEnds.{PutsByLine, TakesByLine};
-ghost use Rattle.xh_channel.specs.Directions.{Ordered};
 ghost use Rattle.xh_channel.specs.Ends.{given_back};
 ghost use Rattle.xh_channel.specs.inner.FreeNumbers.{StandAtTheirNumbers, at_place, has_depth};
 ghost use Rattle.xh_channel.specs.Numbers.{message};
 ghost use Rattle.xh_channel.specs.Pairs.{IsPair};
-ghost use Rattle.xh_channel.specs.QueueEnds.{IsNewDirection, incoming_role, outgoing_role};
-ghost use Rattle.xh_channel.specs.Queues.{IsSameEnd, KeepsItsMessages, PutsAs, PutsWhere, ShutsAs, TakesAs, TakesWhere, Unpushed};
+ghost use Rattle.xh_channel.specs.QueueEnds.{IsNewDirection};
+ghost use Rattle.xh_channel.specs.Queues.{IsSameEnd, KeepsItsMessages, PutsAs, ShutsAs, TakesAs, Unpushed};
 ghost use Rattle.xh_channel.specs.declared.refused.Refused.TheVariants.{OutOfMemory, BadSize, NoChannel};
 
 use crate::channel_end::ChannelEnd;
 use crate::closed_word::ClosedWords;
-use crate::direction::{Receiver, Role, Sender};
 use crate::endpoint::Endpoint;
 use crate::free_numbers::{FreeNumbers, Home};
 use crate::free_pair::FreePair;
 use crate::message::Message;
 use crate::queue_end::{ReceivingEnd, SendingEnd, direction};
 use crate::refused::Refused;
-use crate::room::Room;
+use crate::room::{OwnRoom, Room};
 use crate::spot::Spot;
 use crate::unsent::Unsent;
 use arrayvec::ArrayVec;
-use crossbeam_queue::protocol::Lesson;
 use crossbeam_utils::CachePadded;
 use std::alloc::{AllocError, Global};
 use std::sync::{Arc, Mutex, Wait};
@@ -37,8 +33,7 @@ use xh_model::limits::{CHANNELS, MAX_BLOCKS, MAX_DEPTH};
 pub struct Channels {
     depth: u8,
     home: Home,
-    // each room on cache lines of its own, for threads on channels side by side
-    rooms: Vec<CachePadded<Room>>,
+    rooms: Vec<OwnRoom>,
     ghost deep: { (1 ≤ depth) × (depth ≤ MAX_DEPTH) },
     ghost each: { length rooms.items ≡ CHANNELS },
 }
@@ -62,17 +57,18 @@ fn pair(
     depth: usize,
     words: &mut ClosedWords,
     channel: u8,
+    room: &OwnRoom,
 ) -> Result<FreePair, AllocError>
-    requires { (0 < depth) × (channel < CHANNELS) × (words.old ≡ 2 * channel) }
-    ensures { IfOk result (λ p. (p.low.channel ≡ channel) × (p.low.depth ≡ depth) × (words.new ≡ 2 * channel + 2)) }
+    requires { (0 < depth) × (channel < CHANNELS) × (words.old.next ≡ 2 * channel) }
+    ensures { IfOk result (λ p. (p.low.channel ≡ channel) × (p.low.depth ≡ depth) × (words.new.next ≡ 2 * channel + 2)) }
 {
     let low_word = words.next()?;
     let high_word = words.next()?;
     let (there, back) = directions(alloc, depth)?;
     let low_spot = Spot { channel, side: 0 };
-    let low = ChannelEnd::new(low_spot, there.0, back.1, low_word);
+    let low = ChannelEnd::new(low_spot, there.0, back.1, low_word, Arc::try_clone(room)?);
     let high_spot = Spot { channel, side: 1 };
-    let high = ChannelEnd::new(high_spot, back.0, there.1, high_word);
+    let high = ChannelEnd::new(high_spot, back.0, there.1, high_word, Arc::try_clone(room)?);
     Ok(FreePair { low, high })
 }
 
@@ -81,24 +77,26 @@ fn pairs(
     alloc: Global,
     depth: usize,
     words: &mut ClosedWords,
+    rooms: &Vec<OwnRoom>,
 ) -> Result<Vec<Option<FreePair>>, AllocError>
-    requires { (0 < depth) × (words.old ≡ 0) }
+    requires { (0 < depth) × (words.old.next ≡ 0) × (length rooms.now.items ≡ CHANNELS) }
     ensures { IfOk result (λ v. (length v.items ≡ CHANNELS) × StandAtTheirNumbers v.items × ((i : ℕ) → i < CHANNELS → has_depth depth (at_place v.items i) ≡ true)) }
 {
     let mut pairs = Vec::with_capacity(alloc, CHANNELS as usize)?;
     for channel in 0..CHANNELS {
-        pairs.push(Some(pair(alloc, depth, words, channel)?))?;
+        let room = &rooms[channel as usize];
+        pairs.push(Some(pair(alloc, depth, words, channel, room)?))?;
     }
     Ok(pairs)
 }
 
 // The room of each number.
-fn rooms(alloc: Global) -> Result<Vec<CachePadded<Room>>, AllocError>
+fn rooms(alloc: Global) -> Result<Vec<OwnRoom>, AllocError>
     ensures { IfOk result (λ v. length v.items ≡ CHANNELS) }
 {
     let mut rooms = Vec::with_capacity(alloc, CHANNELS as usize)?;
     for _ in 0..CHANNELS {
-        rooms.push(CachePadded::new(Room::new()))?;
+        rooms.push(Arc::new(alloc, CachePadded::new(Room::new()))?)?;
     }
     Ok(rooms)
 }
@@ -121,8 +119,8 @@ impl Channels {
             return Err(Refused::BadSize);
         }
         let mut words = ClosedWords::new(alloc)?;
-        let pairs = pairs(alloc, depth as usize, &mut words)?;
         let rooms = rooms(alloc)?;
+        let pairs = pairs(alloc, depth as usize, &mut words, &rooms)?;
         Ok(Channels {
             depth,
             home: home(alloc, pairs)?,
@@ -166,7 +164,7 @@ impl Channels {
         ensures err { IfErr result (λ r. r ≡ NoChannel) }
     {
         let (low, high) = self.open(rt)?;
-        self.rooms[low.spot().channel as usize].begin(rt, contract, self.depth);
+        low.inner.room.begin(rt, contract, self.depth);
         Ok((low.with_contract(), high.with_contract()))
     }
 
@@ -182,8 +180,8 @@ impl Channels {
     }
 
     /// Puts a message, and answers its number, which is the count of this end's puts.
-    /// PeerClosed where the peer was seen shut, then Full where as many messages as the depth were seen
-    /// to wait or the direction has carried 2^62 - 1 of them. On a channel with a contract Protocol
+    /// PeerClosed where the peer was seen shut, then Full where as many messages as the depth were found
+    /// to wait or the direction has carried 2^62 - 1 of them: this end has put the depth more than it was told were taken. On a channel with a contract Protocol
     /// comes first, where the contract doesn't allow the message. Each hands the blocks back. After
     /// PeerClosed the shut end may still take a message with the numbers of these blocks, where it was
     /// shut between the push and the second look: who has a block is what its owner word says.
@@ -200,86 +198,24 @@ impl Channels {
         ensures kept { OnErr result (Unpushed end.old end.new (message (suc end.old.counts.put) tag blocks)) }
         ensures same { IsSameEnd end.old end.new }
     {
-        self.put_as::<Sender, R>(rt, end, tag, blocks)
-    }
-
-    /// As `put`. `M` is any lesson that the sending end may learn of what waits, and Full comes only
-    /// where it was learned of as many messages as the depth.
-    pub fn put_as<M: Lesson<Message, Role>, R: Wait>(
-        &self,
-        rt: &R,
-        end: &mut Endpoint,
-        tag: u16,
-        blocks: ArrayVec<u16, MAX_BLOCKS>,
-    ) -> Result<u64, Unsent>
-        requires { (id : ℕ) → Learns Ordered id (outgoing_role end.old.pushed) (M.fact (outgoing_role end.old.pushed)) }
-        ensures put { MatchBool end.old.has_contract (PutsByLine end.old end.new result)
-            (PutsWhere (Held end.old.depth (M.fact (outgoing_role end.old.pushed))) end.old end.new tag blocks result) }
-        ensures last { IfOk result (λ no. no ≤ MAX_MESSAGES) }
-        ensures back { IfErr result (λ u. given_back u ≡ blocks) }
-        ensures kept { OnErr result (Unpushed end.old end.new (message (suc end.old.counts.put) tag blocks)) }
-        ensures same { IsSameEnd end.old end.new }
-    {
-        let own = &mut end.inner;
-        let spot = own.spot();
-        let room = &self.rooms[spot.channel as usize];
-        if own.has_contract() {
-            let no = room.put(rt, spot.side, tag, blocks)?;
-            own.was_put(no);
-            return Ok(no);
-        }
-        let no = own.put_as::<M, R>(rt, tag, blocks)?;
-        room.turn.raise();
-        Ok(no)
+        end.inner.put(rt, tag, blocks)
     }
 
     /// Takes the message at the front. With none, PeerClosed where the peer was seen shut, and else
-    /// Empty. An end that was shut still takes what is left.
+    /// Empty: this end has taken all that it was told were put. An end that was shut still takes what is left.
     pub fn take<R: Wait>(&self, rt: &R, end: &mut Endpoint) -> Result<Message, Refused>
         ensures taken { MatchBool end.old.has_contract (TakesByLine end.old end.new result) (TakesAs end.old end.new result) }
         ensures kept { OnErr result (KeepsItsMessages end.old end.new) }
         ensures same { IsSameEnd end.old end.new }
     {
-        self.take_as::<Receiver, R>(rt, end)
-    }
-
-    /// As `take`. `M` is any lesson that the receiving end may learn of what waits, and Empty and
-    /// PeerClosed come only where it was learned of no messages.
-    pub fn take_as<M: Lesson<Message, Role>, R: Wait>(
-        &self,
-        rt: &R,
-        end: &mut Endpoint,
-    ) -> Result<Message, Refused>
-        requires { (id : ℕ) → Learns Ordered id (incoming_role end.old.got) (M.fact (incoming_role end.old.got)) }
-        ensures taken { MatchBool end.old.has_contract (TakesByLine end.old end.new result)
-            (TakesWhere (Held 0 (M.fact (incoming_role end.old.got))) end.old end.new result) }
-        ensures kept { OnErr result (KeepsItsMessages end.old end.new) }
-        ensures same { IsSameEnd end.old end.new }
-    {
-        let own = &mut end.inner;
-        if !own.has_contract() {
-            return own.take_as::<M, R>(rt);
-        }
-        let spot = own.spot();
-        let message = self.rooms[spot.channel as usize].take(rt, spot.side)?;
-        own.was_taken(message.no);
-        Ok(message)
+        end.inner.take(rt)
     }
 
     /// Shuts this end: no later put toward it succeeds.
     pub fn shut<R: Wait>(&self, rt: &R, end: &mut Endpoint)
         ensures { ShutsAs end.old end.new }
     {
-        let own = &mut end.inner;
-        let spot = own.spot();
-        let room = &self.rooms[spot.channel as usize];
-        if own.has_contract() {
-            room.shut(rt, spot.side);
-            own.was_shut();
-        } else {
-            own.shut();
-            room.turn.raise();
-        }
+        end.inner.shut(rt);
     }
 
     /// The channel's turn rises by one, and all that wait there look again. For whoever ends a process

@@ -1,5 +1,5 @@
 // The closed words, one for each end: 0 open, 1 shut. No value of a `Sight` is made.
-use atomic_table::{Play, Split, Table, TableRule};
+use atomic_table::{Join, Play, Split, Table, TableRule};
 use std::alloc::Global;
 
 /// The words from `from` to `upto` are for this seat alone to store, and show whether they were shut.
@@ -31,6 +31,29 @@ impl Split<Sight> for OneWord {
     ghost left = { other_words };
 
     ghost right = { one_word };
+}
+
+/// A new seat tells whether the word was shut.
+pub struct TellsShut;
+
+impl Split<Sight> for TellsShut {
+    ghost use Rattle.xh_channel.specs.inner.ClosedWords.{shut_told};
+
+    ghost left = { λ v. v };
+
+    ghost right = { shut_told };
+}
+
+/// A seat hears what another tells of its peer.
+pub struct HearsShut;
+
+impl Join<Sight> for HearsShut {
+    ghost use Rattle.std.specs.Prelude.{false};
+    ghost use Rattle.xh_channel.specs.inner.ClosedWords.{sight, hearing_shut};
+
+    ghost both = { hearing_shut };
+
+    ghost spent = { sight 0 0 false false };
 }
 
 /// The seat's word is 1 now.

@@ -1,9 +1,9 @@
 // An end's closed word.
-ghost use Rattle.std.specs.Prelude.{◌≡◌, ◌+◌, ◌<◌, true, false, IfOk, IsTrue};
+ghost use Rattle.std.specs.Prelude.{◌≡◌, ◌+◌, ◌<◌, ◌||◌, true, false, IfOk};
 ghost use Rattle.xh_model.specs.declared.limits.TheConstants.{DIRECTIONS};
-ghost use Rattle.xh_channel.specs.inner.ClosedWords.{ClosedView, own_shut, peer_seen_shut};
+ghost use Rattle.xh_channel.specs.inner.ClosedWords.{own_shut, peer, peer_seen_shut};
 
-use crate::closed_rule::{Looks, OneWord, Shuts, Sight, Words};
+use crate::closed_rule::{HearsShut, Looks, OneWord, Shuts, Sight, TellsShut, Words};
 use atomic_table::{Seat, Table};
 use std::alloc::{AllocError, Global};
 use std::marker::Model;
@@ -26,12 +26,12 @@ impl Model for ClosedWord {
 
     ghost Value = { ClosedView };
 
-    ghost view = { λ s. record { word = s.word; shut = s.seat.me.0.shut; peer_shut = s.seat.me.0.peer_shut } };
+    ghost view = { λ s. record { table = s.seat.table_id; word = s.word; shut = s.seat.me.0.shut; peer_shut = s.seat.me.0.peer_shut } };
 
     ghost invariant = { λ s. IsWordSeat (arc_value s.words).shared.table_id s.seat.table_id s.seat.me s.word };
 }
 
-/// The closed words of all ends: contracts see the first that no end has yet.
+/// The closed words of all ends.
 #[derive(Drop)]
 pub struct ClosedWords {
     words: Arc<Words, Global>,
@@ -40,22 +40,39 @@ pub struct ClosedWords {
 }
 
 impl Model for ClosedWords {
-    ghost use Rattle.std.specs.Prelude.{ℕ, ◌≡◌, ◌≤◌, false};
+    ghost use Rattle.std.specs.Prelude.{◌≡◌, ◌≤◌, false};
     ghost use Rattle.std.specs.Arc.{arc_value};
     ghost use Rattle.xh_model.specs.declared.limits.TheConstants.{DIRECTIONS};
-    ghost use Rattle.xh_channel.specs.inner.ClosedWords.{sight};
+    ghost use Rattle.xh_channel.specs.inner.ClosedWords.{ClosedRest, sight};
 
-    ghost Value = { ℕ };
+    ghost Value = { ClosedRest };
 
-    ghost view = { λ s. s.next };
+    ghost view = { λ s. record { table = s.rest.table_id; next = s.next } };
 
     ghost invariant = { λ s. (s.rest.table_id ≡ (arc_value s.words).shared.table_id) × (s.rest.table_id.words ≡ DIRECTIONS)
         × (s.rest.me.0 ≡ sight s.next DIRECTIONS false false) × (s.next ≤ DIRECTIONS) };
 }
 
+/// What an end tells its peer of its own shut.
+#[derive(Drop)]
+pub struct ShutNote {
+    seat: Seat<(), Sight>,
+}
+
+impl Model for ShutNote {
+    ghost use Rattle.std.specs.Prelude.{◌≡◌, []};
+    ghost use Rattle.xh_channel.specs.inner.ClosedWords.{ShutTelling};
+
+    ghost Value = { ShutTelling };
+
+    ghost view = { λ n. record { table = n.seat.table_id; word = n.seat.me.0.from; shut = n.seat.me.0.peer_shut } };
+
+    ghost invariant = { λ n. n.seat.me.1 ≡ [] };
+}
+
 impl ClosedWords {
     pub fn new(alloc: Global) -> Result<ClosedWords, AllocError>
-        ensures { IfOk result (λ s. s ≡ 0) }
+        ensures { IfOk result (λ s. s.next ≡ 0) }
     {
         let (table, rest) = Table::of_words(alloc, &[0; WORDS], &())?;
         let words = Arc::new(alloc, table)?;
@@ -67,8 +84,9 @@ impl ClosedWords {
     }
 
     pub fn next(&mut self) -> Result<ClosedWord, AllocError>
-        requires { self.old < DIRECTIONS }
-        ensures { IfOk result (λ s. (s.word ≡ self.old) × (s.shut ≡ false) × (s.peer_shut ≡ false) × (self.new ≡ self.old + 1)) }
+        requires { self.old.next < DIRECTIONS }
+        ensures word { IfOk result (λ s. (s.table ≡ self.old.table) × (s.word ≡ self.old.next) × (s.shut ≡ false) × (s.peer_shut ≡ false)) }
+        ensures rest { IfOk result (λ _. self.new ≡ record self.old { next = self.old.next + 1 }) }
     {
         let words = Arc::try_clone(&self.words)?;
         let table = &self.words;
@@ -88,6 +106,27 @@ impl ClosedWord {
         table
             .shared
             .store::<Shuts>(&mut self.seat, self.word as usize, 1);
+    }
+
+    /// Tells the peer whether it was shut.
+    pub fn note(&mut self) -> ShutNote
+        ensures note { (result.table ≡ self.old.table) × (result.word ≡ peer self.old.word) × (result.shut ≡ self.old.shut) }
+        ensures same { self.new ≡ self.old }
+    {
+        let table = &self.words;
+        ShutNote {
+            seat: table.shared.split_seat::<TellsShut>(&mut self.seat),
+        }
+    }
+
+    pub fn hear(&mut self, note: ShutNote)
+        requires { (note.table ≡ self.old.table) × (note.word ≡ self.old.word) }
+        ensures { self.new ≡ record self.old { peer_shut = self.old.peer_shut || note.shut } }
+    {
+        let table = &self.words;
+        table
+            .shared
+            .join_seat::<HearsShut>(&mut self.seat, note.seat);
     }
 
     /// Whether the peer's word is 1.

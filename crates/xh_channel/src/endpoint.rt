@@ -1,12 +1,14 @@
 //! One end of a channel.
-ghost use Rattle.std.specs.Prelude.{◌≡◌, ◌<◌, true, false, List};
+ghost use Rattle.std.specs.Prelude.{◌≡◌, ◌<◌, ◌≤◌, true, false, List, length};
 ghost use Rattle.xh_model.specs.declared.limits.TheConstants.{CHANNELS};
 ghost use Rattle.xh_channel.specs.Directions.{WaitsAfter};
 ghost use Rattle.xh_channel.specs.Ends.{no_counts};
+ghost use Rattle.xh_channel.specs.Notes.{IsOfPeer, hearing, told_by};
 
 use crate::channel_end::{self, ChannelEnd};
 use crate::free_numbers::Home;
 use crate::message::Message;
+use crate::note::Note;
 use crate::spot::Spot;
 use std::marker::Model;
 
@@ -27,10 +29,12 @@ impl Model for Endpoint {
 }
 
 /// Shows, of both ends of a direction, that what one took is a prefix of what the other pushed, each message once, with the numbers 1, 2, .. in order.
-/// It takes both ends and gives them back as they were. All that the one pushed it also sent, but for a message that met a shut peer.
+/// It takes both ends and gives them back, each told of all that the other did. All that the one pushed it also sent, but for a
+/// message that met a shut peer.
 pub fn compare(from: Endpoint, to: Endpoint) -> (Endpoint, Endpoint)
     requires { to.into ≡ from.out }
-    ensures same { (result.0 ≡ from) × (result.1 ≡ to) }
+    ensures told { (result.0 ≡ record from { told_taken = length to.got }) × (result.1 ≡ record to { told_put = length from.pushed }) }
+    ensures grows { (from.told_taken ≤ length to.got) × (to.told_put ≤ length from.pushed) }
     ensures prefix { (items : List Message) × WaitsAfter from.pushed to.got items }
     ensures sent { from.peer_shut ≡ false → from.pushed ≡ from.sent }
 {
@@ -59,6 +63,24 @@ impl Endpoint {
         ensures { result ≡ self.now.has_contract }
     {
         self.inner.has_contract()
+    }
+
+    /// How much it put and took until now, and whether it was shut, for its peer to hear.
+    pub fn note(&mut self) -> Note
+        ensures told { result ≡ told_by self.old }
+        ensures same { self.new ≡ self.old }
+    {
+        self.inner.note()
+    }
+
+    /// Hears a note of its peer. From then on a take finds nothing only where as much was taken as the note says was put, a put
+    /// finds no room only where as many messages as the depth were put beyond those that the note says were taken, and no put
+    /// succeeds where the note says that the peer was shut.
+    pub fn hear(&mut self, note: Note)
+        requires { IsOfPeer note self.old }
+        ensures { self.new ≡ hearing self.old note }
+    {
+        self.inner.hear(note);
     }
 
     // The channel gets a contract.

@@ -1,5 +1,5 @@
 //! What lies under the lock of a channel.
-ghost use Rattle.std.specs.Prelude.{◌≡◌, ◌<◌, ◌≤◌, Some, None, IfOk, IfErr};
+ghost use Rattle.std.specs.Prelude.{◌≡◌, ◌<◌, ◌≤◌, Some, IfOk, IfErr};
 ghost use Rattle.xh_model.specs.declared.limits.TheConstants.{MAX_DEPTH};
 ghost use Rattle.xh_channel.specs.ContractEnds.{IsNumber, IsUntaken};
 ghost use Rattle.xh_channel.specs.Ends.{given_back};
@@ -21,12 +21,6 @@ pub struct OpenLine {
 }
 
 impl OpenLine {
-    pub fn none() -> OpenLine
-        ensures { result.line ≡ None }
-    {
-        OpenLine { line: None }
-    }
-
     /// The channel goes by the contract, with a new line.
     pub fn begin(&mut self, contract: Contract, depth: u8)
         requires { (1 ≤ depth) × (depth ≤ MAX_DEPTH) }

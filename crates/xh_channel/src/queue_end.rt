@@ -1,18 +1,18 @@
 // The ends of a direction's queue. An endpoint has the sending end of one, and the receiving end of the other.
-ghost use Rattle.std.specs.Prelude.{◌≡◌, ◌<◌, ℕ, suc, List, [], ◌∷◌, ◌++◌, length, MatchOption, MatchResult, IfOk};
-ghost use Rattle.crossbeam_queue.specs.Fifo.{Learns, Held};
-ghost use Rattle.xh_channel.specs.QueueEnds.{IsNewDirection, Outgoing, Incoming, sending, getting, outgoing_role, incoming_role};
-ghost use Rattle.xh_channel.specs.Directions.{Ordered, WaitsAfter};
+ghost use Rattle.std.specs.Prelude.{◌≡◌, ◌<◌, ◌≤◌, ◌+◌, suc, max, List, length, MatchOption, MatchResult, IfOk};
+ghost use Rattle.xh_channel.specs.QueueEnds.{IsNewDirection, Outgoing, Incoming, sending, getting};
+ghost use Rattle.xh_channel.specs.Directions.{WaitsAfter};
 ghost use Rattle.xh_channel.specs.Numbers.{Numbered};
 
-use crate::direction::{Gets, Halves, Port, Queue, Role, Sends, Together, Total};
+use crate::direction::{
+    Gets, Halves, Hears, Port, Queue, Sends, TellsPut, TellsTaken, Together, Total,
+};
 use crate::message::Message;
-use crossbeam_queue::protocol::Lesson;
 use std::alloc::{AllocError, Global};
 use std::marker::Model;
 use std::sync::{Arc, Wait};
 
-/// What pushes: contracts see the depth and what was pushed.
+/// What pushes: contracts see the depth, what was pushed and what it was told.
 #[derive(Drop)]
 pub struct SendingEnd {
     queue: Arc<Queue, Global>,
@@ -20,22 +20,26 @@ pub struct SendingEnd {
 }
 
 impl Model for SendingEnd {
-    ghost use Rattle.std.specs.Prelude.{◌≡◌};
+    ghost use Rattle.std.specs.Prelude.{◌≡◌, true};
     ghost use Rattle.xh_channel.specs.QueueEnds.{Outgoing};
 
     ghost Value = { Outgoing };
 
     ghost use Rattle.std.specs.Arc.{arc_value};
     ghost use Rattle.crossbeam_queue.specs.Passes.{IsPassOf, ruled_capacity};
-    ghost use Rattle.xh_channel.specs.QueueEnds.{outgoing_role};
     ghost use Rattle.xh_channel.specs.Numbers.{Numbered};
 
-    ghost view = { λ o. record { queue = o.pass.table_id; depth = ruled_capacity (arc_value o.queue); sent = o.pass.me.0.client.sent } };
+    ghost view = { λ o. record {
+      queue = o.pass.table_id;
+      depth = ruled_capacity (arc_value o.queue);
+      sent = o.pass.me.0.client.sent;
+      told = o.pass.me.0.client.told_taken;
+    } };
 
-    ghost invariant = { λ o. IsPassOf (arc_value o.queue) o.pass × (o.pass.me.0.client ≡ outgoing_role o.pass.me.0.client.sent) × Numbered o.pass.me.0.client.sent };
+    ghost invariant = { λ o. IsPassOf (arc_value o.queue) o.pass × (o.pass.me.0.client.pushes ≡ true) × Numbered o.pass.me.0.client.sent };
 }
 
-/// What pops: contracts see what was popped.
+/// What pops: contracts see what was popped and what it was told.
 #[derive(Drop)]
 pub struct ReceivingEnd {
     queue: Arc<Queue, Global>,
@@ -43,19 +47,35 @@ pub struct ReceivingEnd {
 }
 
 impl Model for ReceivingEnd {
-    ghost use Rattle.std.specs.Prelude.{◌≡◌};
+    ghost use Rattle.std.specs.Prelude.{◌≡◌, true};
     ghost use Rattle.xh_channel.specs.QueueEnds.{Incoming};
 
     ghost Value = { Incoming };
 
     ghost use Rattle.std.specs.Arc.{arc_value};
     ghost use Rattle.crossbeam_queue.specs.Passes.{IsPassOf};
-    ghost use Rattle.xh_channel.specs.QueueEnds.{incoming_role};
     ghost use Rattle.xh_channel.specs.Numbers.{Numbered};
 
-    ghost view = { λ i. record { queue = i.pass.table_id; got = i.pass.me.0.client.got } };
+    ghost view = { λ i. record { queue = i.pass.table_id; got = i.pass.me.0.client.got; told = i.pass.me.0.client.told_put } };
 
-    ghost invariant = { λ i. IsPassOf (arc_value i.queue) i.pass × (i.pass.me.0.client ≡ incoming_role i.pass.me.0.client.got) × Numbered i.pass.me.0.client.got };
+    ghost invariant = { λ i. IsPassOf (arc_value i.queue) i.pass × (i.pass.me.0.client.pops ≡ true) × Numbered i.pass.me.0.client.got };
+}
+
+/// What an end of a queue tells of how much it pushed or popped.
+#[derive(Drop)]
+pub struct QueueNote {
+    pass: Port,
+}
+
+impl Model for QueueNote {
+    ghost use Rattle.std.specs.Prelude.{◌≡◌, []};
+    ghost use Rattle.xh_channel.specs.QueueEnds.{Telling};
+
+    ghost Value = { Telling };
+
+    ghost view = { λ n. record { queue = n.pass.table_id; put = n.pass.me.0.client.told_put; taken = n.pass.me.0.client.told_taken } };
+
+    ghost invariant = { λ n. n.pass.me.1 ≡ [] };
 }
 
 /// Both ends of a new direction.
@@ -77,10 +97,11 @@ pub fn direction(alloc: Global, depth: usize) -> Result<(SendingEnd, ReceivingEn
     Ok((sender, receiver))
 }
 
-/// Shows, of both ends of a direction, that what was popped is a prefix of what was pushed.
+/// Shows, of both ends of a direction, that what was popped is a prefix of what was pushed, and tells each all that the other did.
 pub fn compare(sender: SendingEnd, receiver: ReceivingEnd) -> (SendingEnd, ReceivingEnd)
     requires { receiver.queue ≡ sender.queue }
-    ensures same { (result.0 ≡ sender) × (result.1 ≡ receiver) }
+    ensures told { (result.0 ≡ record sender { told = length receiver.got }) × (result.1 ≡ record receiver { told = length sender.sent }) }
+    ensures grows { (sender.told ≤ length receiver.got) × (receiver.told ≤ length sender.sent) }
     ensures prefix { (items : List Message) × WaitsAfter sender.sent receiver.got items }
 {
     let SendingEnd { queue, mut pass } = sender;
@@ -107,28 +128,60 @@ impl SendingEnd {
         self.queue.capacity()
     }
 
-    pub fn push<M: Lesson<Message, Role>, R: Wait>(
-        &mut self,
-        rt: &R,
-        message: Message,
-    ) -> Result<(), Message>
-        requires number { message.no ≡ suc (length self.old.sent) }
-        requires lesson { (id : ℕ) → Learns Ordered id (outgoing_role self.old.sent) (M.fact (outgoing_role self.old.sent)) }
+    pub fn push<R: Wait>(&mut self, rt: &R, message: Message) -> Result<(), Message>
+        requires { message.no ≡ suc (length self.old.sent) }
         ensures { MatchResult result (λ _. (self.new ≡ sending self.old message) × Numbered self.new.sent)
-            (λ back. (back ≡ message) × (self.new ≡ self.old) × Held self.old.depth (M.fact (outgoing_role self.old.sent))) }
+            (λ back. (back ≡ message) × (self.new ≡ self.old) × (self.old.told + self.old.depth ≤ length self.old.sent)) }
     {
         let queue = &self.queue;
-        queue.push_as::<Sends<M>, R>(rt, &mut self.pass, message)
+        queue.push_as::<Sends, R>(rt, &mut self.pass, message)
+    }
+
+    /// How much it has pushed.
+    pub fn note(&mut self) -> QueueNote
+        ensures note { (result.queue ≡ self.old.queue) × (result.put ≡ length self.old.sent) }
+        ensures same { self.new ≡ self.old }
+    {
+        let queue = &self.queue;
+        QueueNote {
+            pass: queue.another::<TellsPut>(&mut self.pass),
+        }
+    }
+
+    pub fn hear(&mut self, note: QueueNote)
+        requires { note.queue ≡ self.old.queue }
+        ensures { self.new ≡ record self.old { told = max self.old.told note.taken } }
+    {
+        let queue = &self.queue;
+        queue.absorb::<Hears>(&mut self.pass, note.pass);
     }
 }
 
 impl ReceivingEnd {
-    pub fn pop<M: Lesson<Message, Role>, R: Wait>(&mut self, rt: &R) -> Option<Message>
-        requires lesson { (id : ℕ) → Learns Ordered id (incoming_role self.old.got) (M.fact (incoming_role self.old.got)) }
-        ensures { MatchOption result ((self.new ≡ self.old) × Held 0 (M.fact (incoming_role self.old.got)))
+    pub fn pop<R: Wait>(&mut self, rt: &R) -> Option<Message>
+        ensures { MatchOption result ((self.new ≡ self.old) × (self.old.told ≤ length self.old.got))
             (λ x. (self.new ≡ getting self.old x) × (x.no ≡ suc (length self.old.got)) × Numbered self.new.got) }
     {
         let queue = &self.queue;
-        queue.pop_as::<Gets<M>, R>(rt, &mut self.pass)
+        queue.pop_as::<Gets, R>(rt, &mut self.pass)
+    }
+
+    /// How much it has popped.
+    pub fn note(&mut self) -> QueueNote
+        ensures note { (result.queue ≡ self.old.queue) × (result.taken ≡ length self.old.got) }
+        ensures same { self.new ≡ self.old }
+    {
+        let queue = &self.queue;
+        QueueNote {
+            pass: queue.another::<TellsTaken>(&mut self.pass),
+        }
+    }
+
+    pub fn hear(&mut self, note: QueueNote)
+        requires { note.queue ≡ self.old.queue }
+        ensures { self.new ≡ record self.old { told = max self.old.told note.put } }
+    {
+        let queue = &self.queue;
+        queue.absorb::<Hears>(&mut self.pass, note.pass);
     }
 }

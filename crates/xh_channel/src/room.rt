@@ -10,22 +10,27 @@ use crate::refused::Refused;
 use crate::turn::Turn;
 use crate::unsent::Unsent;
 use arrayvec::ArrayVec;
-use std::sync::{Mutex, Wait};
+use crossbeam_utils::CachePadded;
+use std::alloc::Global;
+use std::sync::{Arc, Mutex, Wait};
 use xh_core::Contract;
 use xh_model::limits::MAX_BLOCKS;
 
-/// A channel's turn, and the lock of its line. What changes its messages raises the turn afterwards.
+/// A channel's turn, and the lock of its line. Whoever changes what its waiters look for raises the turn afterwards.
 #[derive(Drop)]
 pub struct Room {
     pub turn: Turn,
     line: Mutex<OpenLine>,
 }
 
+/// A room, which the ends of its channel know. It lies on cache lines of its own, for threads on channels side by side.
+pub type OwnRoom = Arc<CachePadded<Room>, Global>;
+
 impl Room {
     pub fn new() -> Room {
         Room {
             turn: Turn::new(),
-            line: Mutex::new(OpenLine::none()),
+            line: Mutex::new(OpenLine { line: None }),
         }
     }
 
@@ -36,7 +41,7 @@ impl Room {
         self.line.lock(rt).begin(contract, depth);
     }
 
-    /// The put of the channel's line, which wakes its waiters.
+    /// The put of the channel's line.
     pub fn put<R: Wait>(
         &self,
         rt: &R,
@@ -48,9 +53,7 @@ impl Room {
         ensures number { IfOk result (λ n. IsNumber n) }
         ensures back { IfErr result (λ u. given_back u ≡ blocks) }
     {
-        let no = self.line.lock(rt).put(side, tag, blocks)?;
-        self.turn.raise();
-        Ok(no)
+        self.line.lock(rt).put(side, tag, blocks)
     }
 
     /// The take of the channel's line.
@@ -62,11 +65,10 @@ impl Room {
         self.line.lock(rt).take(side)
     }
 
-    /// The shut of the channel's line, which wakes its waiters.
+    /// The shut of the channel's line.
     pub fn shut<R: Wait>(&self, rt: &R, side: u8)
         requires { side < 2 }
     {
         self.line.lock(rt).shut(side);
-        self.turn.raise();
     }
 }

@@ -62,41 +62,29 @@ impl Turn {
         moved.is_ok()
     }
 
-    fn is_waited_for(&self, seen: u64) -> bool {
-        is_waited_for(self.count(), seen)
-    }
-
-    // Looks at the turn for a while.
-    fn rises_soon(&self, seen: u64) -> bool {
-        for _ in 0..LOOKS {
-            if !self.is_waited_for(seen) {
-                return true;
-            }
-            hint::spin_loop();
-        }
-        false
-    }
-
     // Makes the bell odd, or where it is, sleeps until it moves on, unless the turn has risen.
     fn sleep<R: Wait>(&self, rt: &R, seen: u64) {
         let heard = self.bell.load(SeqCst);
         if heard % 2 == 0 {
             self.moves_on(heard);
-        } else if self.is_waited_for(seen) {
+        } else if is_waited_for(self.count(), seen) {
             self.bell.park(rt, (heard & 0xffff_ffff) as u32);
         }
     }
 
     /// Returns where the turn isn't `seen`, and at once where it is 2^64 - 1.
     pub fn wait<R: Wait>(&self, rt: &R, seen: u64) {
-        if self.rises_soon(seen) {
-            return;
-        }
+        let mut looks = 0;
         for _ in rt.forever() {
-            if !self.is_waited_for(seen) {
+            if !is_waited_for(self.count(), seen) {
                 break;
             }
-            self.sleep(rt, seen);
+            if looks < LOOKS {
+                looks += 1;
+                hint::spin_loop();
+            } else {
+                self.sleep(rt, seen);
+            }
         }
     }
 }

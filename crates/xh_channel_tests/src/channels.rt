@@ -2,7 +2,9 @@
 mod answers;
 mod ends;
 mod lines;
+mod notes;
 mod opening;
+mod order;
 mod scenes;
 mod side_by_side;
 mod threads;
@@ -27,6 +29,12 @@ fn a_cancelled_number_is_free_again(rt: HostRuntime) -> Result<(), Fail> {
 #[test]
 fn a_pair_of_other_channels_goes_back_there(rt: HostRuntime) -> Result<(), Fail> {
     play(&rt, rt.alloc(), 1, Scene::GoesBack)?;
+    Ok(())
+}
+
+#[test]
+fn ends_use_their_own_rooms(rt: HostRuntime) -> Result<(), Fail> {
+    play(&rt, rt.alloc(), 2, Scene::OwnRooms)?;
     Ok(())
 }
 

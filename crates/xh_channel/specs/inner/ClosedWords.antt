@@ -1,5 +1,5 @@
 -- The closed words: each is 0 or 1, one seat alone stores it, and a seat that saw its peer's word at 1 knows that it stays.
-use Rattle.std.specs.Prelude.{◌≡◌, ◌≢◌, ◌⊎◌, ℕ, suc, ◌-◌, ◌*◌, ◌%◌, ◌<◌, ◌≤◌, Bool, true, false, List, []}
+use Rattle.std.specs.Prelude.{◌≡◌, ◌≢◌, ◌⊎◌, ℕ, suc, ◌-◌, ◌*◌, ◌%◌, ◌<◌, ◌≤◌, Bool, true, false, ◌||◌, List, []}
 use mathlib.Core.Option.{some}
 use lib.ListN.{get_elem?}
 use Rattle.atomic_table.specs.Seated.{TableId}
@@ -42,17 +42,37 @@ one_word v = sight v.from (suc v.from) v.shut false
 abbrev pub other_words : Sight → Sight
 other_words v = sight (suc v.from) v.upto v.shut false
 
+-- what is told to the peer of a word: whether it was shut. It has no word to store
+abbrev pub shut_told : Sight → Sight
+shut_told v = sight (peer v.from) (peer v.from) false v.shut
+
+-- it knows of its peer what the other knows of the same one
+abbrev pub hearing_shut : Sight → Sight → Sight
+hearing_shut v w = sight v.from v.upto v.shut (v.peer_shut || w.peer_shut)
+
+-- what contracts see of the closed words: which table, and the first word that no end has yet
+pub record ClosedRest : Type 0 where
+  pub table : TableId
+  pub next : ℕ
+
 -- what contracts see of an end's closed word: which it is, whether it was shut, and whether it saw its peer's shut
 pub record ClosedView : Type 0 where
+  pub table : TableId
   pub word : ℕ
   pub shut : Bool
   pub peer_shut : Bool
 
+-- what contracts see of what is told to the end of a word: whether its peer was shut
+pub record ShutTelling : Type 0 where
+  pub table : TableId
+  pub word : ℕ
+  pub shut : Bool
+
 abbrev pub own_shut : ClosedView → ClosedView
-own_shut m = record { word = m.word; shut = true; peer_shut = m.peer_shut }
+own_shut m = record m { shut = true }
 
 abbrev pub peer_seen_shut : ClosedView → ClosedView
-peer_seen_shut m = record { word = m.word; shut = m.shut; peer_shut = true }
+peer_seen_shut m = record m { peer_shut = true }
 
 -- the seat is that of one word of the table, and holds no slot
 pub record IsWordSeat (table seat : TableId) (me : Me (Unit {0}) Sight) (word : ℕ) : Type 0 where

@@ -4,11 +4,15 @@ ghost use Rattle.xh_channel.specs.Pairs.{IsPair};
 
 use super::answers::Answer::{self, Refused as No, Sent, Shut as Closed, Taken, Turn};
 use super::answers::Call::{self, Put, Shut, Take, Turn as Look};
-use super::answers::{Ends, assert_answers, next_ends};
+use super::answers::{Ends, answer_of, assert_answers, next_ends};
+use super::order::{assert_put_before_turn, assert_shut_before_turn};
 use super::scenes::{Scene, play};
+use std::alloc::Global;
 use std::process::Abort;
 use std::sync::Wait;
 use std::test::Fail;
+use std::thread::Threads;
+use std::time::Clock;
 use xh_channel::{Channels, Refused};
 use xh_core::{Contract, Row};
 
@@ -170,5 +174,68 @@ fn a_channel_with_a_contract_is_full_at_its_depth(rt: HostRuntime) -> Result<(),
     for depth in [1, 3, 16] {
         play(&rt, rt.alloc(), depth, Scene::FullWith)?;
     }
+    Ok(())
+}
+
+/// On a line too the turn rises after a put.
+pub(super) fn assert_line_puts<R: Clock + Threads + Wait + Abort + Sync>(
+    rt: &R,
+    channels: &Channels,
+) -> Result<(), Refused> {
+    let mut ends = next_with(rt, channels, ONE_WAY)?;
+    assert_put_before_turn(rt, channels, &mut ends);
+    drop(ends);
+    Ok(())
+}
+
+/// On a line too the turn rises after a shut.
+pub(super) fn assert_line_shuts<R: Clock + Threads + Wait + Abort + Sync>(
+    rt: &R,
+    channels: &Channels,
+) -> Result<(), Refused> {
+    for _ in 0..64 {
+        let mut ends = next_with(rt, channels, ONE_WAY)?;
+        assert_shut_before_turn(rt, channels, &mut ends);
+        drop(ends);
+    }
+    Ok(())
+}
+
+// Each call is made on the other channels, and is answered by the end's own, whose turn alone rises.
+fn assert_in_own_room<R: Wait + Abort>(
+    rt: &R,
+    channels: &Channels,
+    others: &Channels,
+    mut ends: Ends,
+) {
+    const CALLS: &[(u8, Call, Answer)] = &[
+        (0, Put(1, Some(7)), Sent(1)),
+        (1, Take, Taken(1, 1, Some(7))),
+        (0, Shut, Closed),
+        (1, Take, No(15, None)),
+        (0, Look, Turn(0)),
+    ];
+    assert_answers(rt, others, &mut ends, CALLS);
+    let turn = answer_of(rt, channels, &mut ends, 0, Look);
+    drop(ends);
+    assert_eq!(rt; turn, Turn(2));
+}
+
+/// An end uses its own room on other channels too, with a contract and without.
+pub(super) fn assert_own_rooms<R: Wait + Abort>(
+    rt: &R,
+    alloc: Global,
+    channels: &Channels,
+) -> Result<(), Refused> {
+    let others = Channels::new(alloc, 2)?;
+    let queued = next_ends(rt, channels);
+    let lined = next_with(rt, channels, ONE_WAY);
+    if let (Ok(queued), Ok(lined)) = (queued, lined) {
+        assert_in_own_room(rt, channels, &others, queued);
+        assert_in_own_room(rt, channels, &others, lined);
+    } else {
+        panic!(rt; "both are open");
+    }
+    drop(others);
     Ok(())
 }

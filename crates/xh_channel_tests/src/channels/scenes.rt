@@ -3,8 +3,13 @@ ghost use Rattle.std.specs.Prelude.{◌≡◌, false};
 
 use super::answers::{Answer, Call, Ends, assert_on_next, next_ends};
 use super::ends::{assert_all_blocks, assert_refusals};
-use super::lines::{assert_all_open_with, assert_contract_gone, assert_exchange, assert_full_at};
+use super::lines::{
+    assert_all_open_with, assert_contract_gone, assert_exchange, assert_full_at, assert_line_puts,
+    assert_line_shuts, assert_own_rooms,
+};
+use super::notes::{assert_put_heard, assert_shut_heard};
 use super::opening::{assert_all_open, assert_compared, assert_free_again, assert_goes_back};
+use super::order::{assert_put_before_turn, assert_shut_before_turn};
 use super::threads::{assert_in_order, assert_last_comes, assert_put_and_shut};
 use super::waits::{
     assert_put_wakes, assert_rouse_wakes, assert_shut_wakes, assert_turns, assert_unwaited,
@@ -29,6 +34,8 @@ pub(super) enum Act {
     ShutWakes,
     RouseWakes,
     Turns,
+    PutThenTurn,
+    ShutThenTurn,
 }
 
 /// What is done on new channels: an act on so many of them, one after the other, or calls, or what opens ends by itself.
@@ -44,6 +51,11 @@ pub(super) enum Scene {
     AllOpenWith,
     ContractGone,
     FullWith,
+    LinePutThenTurn,
+    LineShutThenTurn,
+    OwnRooms,
+    PutHeard,
+    ShutHeard,
 }
 
 fn act_at<R: Clock + Threads + Wait + Abort + Sync>(
@@ -67,6 +79,8 @@ fn act_at<R: Clock + Threads + Wait + Abort + Sync>(
         Act::ShutWakes => assert_shut_wakes(rt, channels, ends),
         Act::RouseWakes => assert_rouse_wakes(rt, channels, ends),
         Act::Turns => assert_turns(rt, channels, ends),
+        Act::PutThenTurn => assert_put_before_turn(rt, channels, ends),
+        Act::ShutThenTurn => assert_shut_before_turn(rt, channels, ends),
     }
 }
 
@@ -118,6 +132,11 @@ fn play_on<R: Clock + Threads + Wait + Abort + Sync>(
         }
         Scene::ContractGone => assert_contract_gone(rt, channels),
         Scene::FullWith => assert_full_at(rt, channels, depth),
+        Scene::LinePutThenTurn => assert_line_puts(rt, channels),
+        Scene::LineShutThenTurn => assert_line_shuts(rt, channels),
+        Scene::OwnRooms => assert_own_rooms(rt, alloc, channels),
+        Scene::PutHeard => assert_put_heard(rt, channels),
+        Scene::ShutHeard => assert_shut_heard(rt, channels),
     }
 }
 

@@ -4,7 +4,7 @@ use Rattle.xh_channel.proofs.Moves.{forks, merges}
 use Rattle.xh_channel.proofs.queue_end.compare.Goals as goal
 
 pub absorb-requires-clause-rule : goal.absorb-requires-clause-rule
-absorb-requires-clause-rule c = merges _ _ _ _ (ap (λ (r : Role). r.pushes) c.sender.invariant.1) (ap (λ (r : Role). r.pops) c.receiver.invariant.1)
+absorb-requires-clause-rule c = merges _ _ _ _ c.sender.invariant.1 c.receiver.invariant.1
 
 pub another-receiving-requires-clause-rule : goal.another-receiving-requires-clause-rule
 another-receiving-requires-clause-rule c =

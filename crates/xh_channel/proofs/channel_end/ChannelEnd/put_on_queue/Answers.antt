@@ -1,6 +1,6 @@
 use Rattle.std.proofs.Common.{◌∙◌, ap, inr, ◌++◌, ◌∷◌, []}
 use Rattle.xh_channel.specs.Numbers.{message}
-use Rattle.xh_channel.proofs.channel_end.ChannelEnd.put_as.Goals as goal
+use Rattle.xh_channel.proofs.channel_end.ChannelEnd.put_on_queue.Goals as goal
 
 pub returns-then-not-stays_sent-clause-refused : goal.returns-then-not-stays_sent-clause-refused
 returns-then-not-stays_sent-clause-refused g c =
@@ -17,6 +17,9 @@ returns-then-not-stays_sent-clause-refused g c =
           depth = ends.depth ∙ same.depth;
           out = ends.out ∙ same.out;
           into = ends.into ∙ same.into;
+          closed = ends.closed ∙ same.closed;
+          told_put = ends.told_put ∙ same.told_put;
+          told_taken = ends.told_taken ∙ same.told_taken;
         },
         un.sent _ _ went.0.1,
         un.got ∙ went.0.2,
