@@ -1,9 +1,8 @@
 -- An endpoint that a call works on in its lot.
 use Rattle.std.proofs.Common.{◌≡◌, ℕ, ◌<◌, List, sym, ap, ◌∙◌, subst, ◌==◌}
-use Rattle.std.specs.Prelude.{Some, Option}
+use Rattle.std.specs.Prelude.{Some}
 use Rattle.xh_arena.specs.Views.{LotOf}
 use Rattle.xh_core.specs.declared.status.Status.{Status}
-use Rattle.xh_core.specs.declared.header.Header.{Header}
 use Rattle.xh_core.specs.declared.header.Kind.TheVariants as kind
 use Rattle.xh_model.specs.declared.limits.TheConstants.{END_BYTES}
 use Rattle.xh_model.specs.Keyed.{put, value_at}
@@ -15,12 +14,11 @@ use Rattle.xh_channel.specs.Queues.{Posted}
 use Rattle.xh_place.specs.declared.body.Body.{Body}
 use Rattle.xh_place.specs.declared.body.Body.TheVariants.{End}
 use Rattle.xh_place.specs.Bodies.{content_of, fits_in, kind_of}
-use Rattle.xh_place.specs.inner.Lots.{HasNow, IsEnd, KeepsEnd, bare}
-use Rattle.xh_place.specs.Places.{Item, PlaceOf, IsBlock, IsPlace, IsPlaceOf, header_in, header_of, item_in, item_of, shown}
+use Rattle.xh_place.specs.inner.Lots.{IsEnd, KeepsEnd, bare}
+use Rattle.xh_place.specs.Places.{Item, PlaceOf, IsBlock, IsPlace, IsPlaceOf, item_at, item_of, shown, with_blocks}
 use Rattle.xh_place.proofs.Found.{found}
 use Rattle.xh_place.proofs.Gained.{is_end}
-use Rattle.xh_place.proofs.Listing.{shown_at}
-use Rattle.xh_place.proofs.Steps.{changes, changes_shown, shows, view_of}
+use Rattle.xh_place.proofs.Steps.{turned, view_of}
 
 -- the lot is a block still
 pub still_block : (s : Shape) (e : ℕ) (l m : LotOf Body) → IsBlock s e l → IsEnd l → KeepsEnd l m → IsBlock s e m
@@ -46,10 +44,10 @@ pub record HasEnd (all : RecordsOf) (seat : Held Body) (e : ℕ) (x : Item) : Ty
   pub content : content_of lot.body ≡ x.content
   pub block : IsBlock seat.shape e lot
 
-module _ (seat : Held Body) (xs : List (ℕ × Header)) (room total : ℕ) (state : Status) (is : IsPlace seat xs room total state) (p : PlaceOf) (view : view_of seat xs state ≡ p) where
+module _ (seat : Held Body) (rs : List ℕ) (room total : ℕ) (state : Status) (is : IsPlace seat (shown seat.lots rs) room total state) (p : PlaceOf) (view : view_of seat (shown seat.lots rs) state ≡ p) where
   pub end_of : (all : RecordsOf) → IsPlaceOf all p → (e : ℕ) (x : Item) → value_at e p.blocks ≡ Some x → kind_of x.content ≡ kind.End → HasEnd all seat e x
   end_of all own e x at end =
-      let f = found seat xs room total state is p view e x at in
+      let f = found seat (shown seat.lots rs) room total state is p view e x at in
       let shape : seat.shape ≡ all.shape = ap (λ (q : PlaceOf). q.shape) view ∙ own.1 in
       let content : content_of f.lot.body ≡ x.content = ap (λ (z : Item). z.content) f.same in
       record {
@@ -62,23 +60,15 @@ module _ (seat : Held Body) (xs : List (ℕ × Header)) (room total : ℕ) (stat
         block = f.block;
       }
 
-  -- so it is with a lot whose body became another of the same content
-  alike : (last : Held Body) (r : ℕ) (l m : LotOf Body) → value_at r seat.lots ≡ Some l → HasNow seat (put r m seat.lots) last → IsBlock seat.shape r m → item_of m ≡ item_of l
-      → IsPlace last xs room total state × (view_of last xs state ≡ p)
-  alike last r l m at new good item =
-      let here : value_at r (shown seat.lots xs) ≡ Some (item_of m) =
-      shown_at seat.lots xs r (header_of (item_of l)) (is.same r ∙ ap header_in at) ∙ ap (λ (z : Option (LotOf Body)). Some (item_in z)) at ∙ ap (λ (z : Item). Some z) (sym item) in
-      let kept : shown last.lots xs ≡ shown seat.lots xs =
-      changes_shown seat xs room total state is last r l m at new good (ap header_of item) ∙ put_same r (item_of m) (shown seat.lots xs) here in (
-        changes seat xs room total state is last r l m at new good (ap header_of item),
-        shows p seat last xs xs state (put r m seat.lots) (λ (es : List (ℕ × Item)). es) view new kept,
-      )
-
   -- the place is as it was once the call is over
   pub keeps : (all : RecordsOf) (e : ℕ) (x : Item) (t : HasEnd all seat e x) (last : Held Body) (m : LotOf Body) → KeepsEnd t.lot m → last ≡ with_lots seat (put e m seat.lots)
-      → IsPlace last xs room total state × (view_of last xs state ≡ p)
+      → IsPlace last (shown last.lots rs) room total state × (view_of last (shown last.lots rs) state ≡ p)
   keeps all e x t last m kept new =
-      alike last e t.lot m t.held (ap bare new) (still_block seat.shape e t.lot m t.block t.end kept) (λ i. record { len = ap (λ (z : LotOf Body). z.len) kept.0 i; content = kept.1 i })
+      let len : m.len ≡ t.lot.len = ap (λ (z : LotOf Body). z.len) kept.0 in
+      let item : item_of m ≡ item_of t.lot = λ i. record { len = len i; content = kept.1 i } in
+      let both = turned seat rs room total state is last e t.lot m t.held (ap bare new) (still_block seat.shape e t.lot m t.block t.end kept) len in
+      let here : value_at e p.blocks ≡ Some (item_of m) = sym (ap (λ (q : PlaceOf). value_at e q.blocks) view) ∙ is.same e ∙ ap item_at t.held ∙ ap (λ (z : Item). Some z) (sym item) in
+      (both.0, both.1 p view ∙ ap (with_blocks p) (put_same e (item_of m) p.blocks here))
 
 pub same_end : (b : Body) (p q : Posted) → b ≡ End p → b ≡ End q → p ≡ q
 same_end b p q e f = let both : End p ≡ End q = sym e ∙ f in cc

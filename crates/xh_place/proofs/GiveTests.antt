@@ -37,14 +37,14 @@ once : (rs : List ℕ) → has_twice rs ≡ false → Distinct rs
 once [] h = tt
 once (r ∷ rs) h = let t = neither (list_any (λ q. q == r) rs) (has_twice rs) h in (none_of r rs t.0, once rs t.1)
 
-found : {X : Type 0} (o : Option X) → is_some o ≡ true → (x : X) × (o ≡ Some x)
-found None e = absurd (cc)
-found (Some x) e = (x, refl)
+pub some_of : {X : Type 0} (o : Option X) → is_some o ≡ true → (x : X) × (o ≡ Some x)
+some_of None e = absurd (cc)
+some_of (Some x) e = (x, refl)
 
 each : (xs : List (ℕ × Item)) (rs : List ℕ) → list_all (is_listed xs) rs ≡ true → (r : ℕ) → Among rs r → (x : Item) × (value_at r xs ≡ Some x)
 each xs [] h r a = absurd a
 each xs (q ∷ rs) h r a = let t = both (is_listed xs q) (list_all (is_listed xs) rs) h in
-    ⊎_elim (λ e. let f = found (value_at q xs) t.0 in (f.0, ap (λ (z : ℕ). value_at z xs) e ∙ f.1)) (λ b. each xs rs t.1 r b) a
+    ⊎_elim (λ e. let f = some_of (value_at q xs) t.0 in (f.0, ap (λ (z : ℕ). value_at z xs) e ∙ f.1)) (λ b. each xs rs t.1 r b) a
 
 -- the given blocks are listed, each once, and the endpoint is none of them
 pub fine : (xs : List (ℕ × Item)) (e : ℕ) (rs : List ℕ) → first_refusal (given_tests (is_listed xs) e rs) ≡ None

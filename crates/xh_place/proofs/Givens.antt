@@ -1,28 +1,25 @@
 -- The loops of a give over its blocks.
-use Rattle.std.proofs.Common.{◌≡◌, ◌≢◌, ℕ, zero, suc, ◌+◌, ◌<◌, ◌≤◌, ⊎_elim, inl, inr, List, [], ◌∷◌, ◌++◌, length, take, drop, get_or, refl, sym, ap, ◌∙◌, subst, arith}
-use Rattle.std.specs.Prelude.{Some, None}
+use Rattle.std.proofs.Common.{append-nil, length-append, ◌≡◌, ◌≢◌, ℕ, zero, suc, ◌+◌, ◌<◌, ◌≤◌, ⊎_elim, inl, inr, List, [], ◌∷◌, ◌++◌, length, take, drop, get_or, refl, sym, ap, ◌∙◌, subst, arith, Bool, true, false, eq-eqb}
+use Rattle.std.specs.Prelude.{Some, None, Option, is_some, ◌==◌, ◌||◌}
+use Rattle.std.specs.List.{list_any}
 use mathlib.Core.Logic.{dite}
 use native.Mathlib.Decide.{ℕ_discrete}
 use Rattle.xh_arena.specs.Views.{LotOf}
 use Rattle.xh_model.specs.declared.event.Event.{Event}
-use Rattle.xh_model.specs.declared.event.Event.TheVariants.{Pass}
-use Rattle.xh_model.specs.Keyed.{Among, Distinct, keys, value_at, without}
-use Rattle.xh_model.proofs.Keyed.{next, without_at, without_other}
-use Rattle.xh_records.specs.Seats.{Held, did, with_lots}
-use Rattle.xh_place.specs.Moves.{accepted_on, passed_on}
-use Rattle.xh_place.specs.inner.Lots.{HasNow, bare, with_done}
+use Rattle.xh_model.specs.declared.event.Event.TheVariants.{Accept, Pass}
+use Rattle.xh_model.specs.Keyed.{Among, Distinct, value_at, without}
+use Rattle.xh_model.proofs.Keyed.{among_either, last_at, last_other, next, without_at, without_other}
+use Rattle.xh_records.specs.Seats.{Held, did}
+use Rattle.xh_place.specs.Moves.{accepted_on, moves, passed_on}
+use Rattle.xh_place.specs.inner.Lots.{HasNow, with_done}
 use Rattle.xh_place.specs.declared.body.Body.{Body}
-use Rattle.xh_core.specs.declared.header.Header.{Header}
-use Rattle.xh_place.specs.Places.{IsBlock, header_in}
+use Rattle.xh_place.specs.inner.Lists.{AreBack, CameBack, lens}
+use Rattle.xh_place.specs.Places.{IsBlock, item_in}
+use Rattle.xh_place.proofs.Listing.{lens_none, lens_one, unequal}
 use Rattle.xh_place.proofs.Moves.{moved_twice, on_both, own_lots, passed_both}
 
 pub next_one : {X : Type 0} (k : ℕ) (xs : List X) (d : X) → k < length xs → drop k xs ≡ get_or xs k d ∷ drop (k + 1) xs
 next_one k xs d h = let z : suc k ≡ k + 1 = omega arith in next k xs d h ∙ ap (λ (j : ℕ). get_or xs k d ∷ drop j xs) z
-
-pub among_get : (k : ℕ) (xs : List ℕ) (d : ℕ) → k < length xs → Among xs (get_or xs k d)
-among_get k [] d h = absurd (omega arith)
-among_get zero (x ∷ xs) d h = inl refl
-among_get (suc k) (x ∷ xs) d h = inr (among_get k xs d (omega arith))
 
 take_next : {X : Type 0} (k : ℕ) (xs : List X) (d : X) → k < length xs → take k xs ++ get_or xs k d ∷ [] ≡ take (suc k) xs
 take_next k [] d h = absurd (omega arith)
@@ -37,6 +34,10 @@ take_whole zero [] h = refl
 take_whole (suc k) [] h = refl
 take_whole zero (x ∷ xs) h = absurd (omega arith)
 take_whole {X = X} (suc k) (x ∷ xs) h = ap (λ (l : List X). x ∷ l) (take_whole k xs (omega arith))
+
+-- a seat that did nothing yet
+pub told_none : (seat : Held Body) → HasNow (with_done [] seat) seat.lots seat
+told_none seat = ap (λ (es : List Event). record seat { done = moves es; front = [] }) (sym (append-nil seat.done))
 
 -- of the given records those in `more` are to go, and the others went; `told` is the old seat with what it has passed by now
 abbrev pub IsGoing : List ℕ → List ℕ → Held Body → Held Body → Held Body → Type 0
@@ -59,12 +60,6 @@ going given more r told tells old seat last among is new now =
       is.4.1,
     )
 
--- one was given up
-pub giving_up : (given more : List ℕ) (r : ℕ) (old seat last : Held Body) → Among given r → IsGoing given (r ∷ more) old old seat → HasNow seat (without r seat.lots) last
-    → IsGoing given more old old last
-giving_up given more r old seat last among is new = going given more r old old old seat last among is (ap (λ (h : Held Body). h.lots) new)
-    (new ∙ (λ i. with_lots (is.0 i) (without r seat.lots)) ∙ sym (ap (λ (h : Held Body). with_lots (bare old) h.lots) new))
-
 -- those that went were passed on the direction
 abbrev pub IsPassing : ℕ → List ℕ → List ℕ → List ℕ → Held Body → Held Body → Type 0
 IsPassing d given gone more old seat = IsGoing given more (with_done (passed_on old.process d gone) old) old seat
@@ -80,34 +75,106 @@ passing d given gone more r old seat last among is new =
     (subst (λ (es : List Event). HasNow (with_done es old) last.lots last) log
     (moved_twice old seat last (passed_on p d gone) (Pass seat.process r d ∷ []) is.0 (own_lots (did (Pass seat.process r d) seat) last _ new)))
 
--- of the given records those in `more` are still away; of the others those that came back are in the seat, and in the list with their lengths and kinds
-abbrev pub IsAccepting : ℕ → List ℕ → List ℕ → Held Body → Held Body → List (ℕ × Header) → Type 0
-IsAccepting d given more old seat back = HasNow (with_done (accepted_on old.process d (keys back)) old) seat.lots seat
-    × ((r : ℕ) → Among given r → value_at r back ≡ header_in (value_at r seat.lots))
-    × ((r : ℕ) (m : LotOf Body) → Among given r → value_at r seat.lots ≡ Some m → IsBlock old.shape r m)
+-- the bytes of those that went, and of those that stay, are those of all
+pub passed_bytes : (given more gone : List ℕ) (d r bytes n : ℕ) (l : LotOf Body) (old seat last : Held Body) → Distinct given → Among given r → IsPassing d given gone (r ∷ more) old seat
+    → value_at r old.lots ≡ Some l → last.lots ≡ without r seat.lots → n ≡ l.len
+    → bytes + lens given (λ q. value_at q seat.lots) ≡ lens given (λ q. value_at q old.lots) → bytes + n + lens given (λ q. value_at q last.lots) ≡ lens given (λ q. value_at q old.lots)
+passed_bytes given more gone d r bytes n l old seat last once among is at new len sum =
+    let more : lens given (λ q. value_at q seat.lots) ≡ lens given (λ q. value_at q last.lots) + (item_in (value_at r seat.lots)).len =
+    lens_one given r (λ q. value_at q last.lots) (λ q. value_at q seat.lots) once among (ap (value_at r) new ∙ without_at r seat.lots) (λ q n. sym (without_other q r seat.lots n) ∙ sym (ap (value_at q) new)) in
+    let here : (item_in (value_at r seat.lots)).len ≡ l.len = ap (λ (o : Option (LotOf Body)). (item_in o).len) (is.2 r (inl refl) ∙ at) in omega arith
+
+-- of the given records those in `more` are still away; of the others those that came back are in the seat
+abbrev pub IsAccepting : ℕ → List ℕ → List ℕ → Held Body → Held Body → List ℕ → ℕ → Type 0
+IsAccepting d given more old seat back bytes = HasNow (with_done (accepted_on old.process d back) old) seat.lots seat
+    × AreBack given back seat
     × ((r : ℕ) → Among more r → value_at r seat.lots ≡ None)
     × ((r : ℕ) → (Among given r → ⊥) → value_at r seat.lots ≡ value_at r old.lots)
-    × Distinct more
+    × Distinct more × (bytes ≡ lens given (λ q. value_at q seat.lots))
 
-pub accepting : (d : ℕ) (given more : List ℕ) (r : ℕ) (old seat last : Held Body) (back new : List (ℕ × Header)) → Among given r → IsAccepting d given (r ∷ more) old seat back
-    → (rs : List ℕ) × (keys new ≡ keys back ++ rs) × HasNow (with_done (accepted_on seat.process d rs) seat) last.lots last
-    → (value_at r seat.lots ≡ None → value_at r back ≡ None → value_at r new ≡ header_in (value_at r last.lots))
-    → ((m : LotOf Body) → value_at r seat.lots ≡ None → value_at r last.lots ≡ Some m → IsBlock seat.shape r m)
-    → ((q : ℕ) → r ≢ q → (value_at q last.lots ≡ value_at q seat.lots) × (value_at q new ≡ value_at q back)) → IsAccepting d given more old last new
-accepting d given more r old seat last back new among is same here good others =
-    let none : value_at r seat.lots ≡ None = is.3 r (inl refl) in
-    let p : ℕ = old.process in
-    let whose : seat.process ≡ p = ap (λ (h : Held Body). h.process) is.0 in
-    let log : accepted_on p d (keys back) ++ accepted_on seat.process d same.0 ≡ accepted_on p d (keys new) =
-    (λ i. accepted_on p d (keys back) ++ accepted_on (whose i) d same.0) ∙ sym (on_both p d (keys back) same.0) ∙ ap (accepted_on p d) (sym same.1) in (
-      subst (λ (es : List Event). HasNow (with_done es old) last.lots last) log (moved_twice old seat last (accepted_on p d (keys back)) (accepted_on seat.process d same.0) is.0 same.2),
-      (λ q a. dite (ℕ_discrete r q)
-          (λ e. subst (λ (z : ℕ). value_at z new ≡ header_in (value_at z last.lots)) e (here none (is.1 r among ∙ ap header_in none)))
-          (λ n. (others q n).1 ∙ is.1 q a ∙ sym (ap header_in (others q n).0))),
-      (λ q m a. dite (ℕ_discrete r q)
-          (λ e f. subst (λ (z : ℕ). IsBlock old.shape z m) e (subst (λ s. IsBlock s r m) (ap (λ (h : Held Body). h.shape) is.0) (good m none (ap (λ (z : ℕ). value_at z last.lots) e ∙ f))))
-          (λ n f. is.2 q m a (sym (others q n).0 ∙ f))),
-      (λ q a. let other : r ≢ q = λ e. is.5.0 (subst (λ (z : ℕ). Among more z) (sym e) a) in (others q other).0 ∙ is.3 q (inr a)),
-      (λ q n. let other : r ≢ q = λ e. n (subst (λ (z : ℕ). Among given z) e among) in (others q other).0 ∙ is.4 q n),
-      is.5.1,
-    )
+or_false : (b : Bool) → (b || false) ≡ b
+or_false true = refl
+or_false false = refl
+
+or_assoc : (a b c : Bool) → ((a || b) || c) ≡ (a || (b || c))
+or_assoc true b c = refl
+or_assoc false b c = refl
+
+-- nothing of what went came back
+pub back_none : (given : List ℕ) (seat : Held Body) (back : List ℕ) → back ≡ [] → ((r : ℕ) → Among given r → value_at r seat.lots ≡ None) → AreBack given back seat
+back_none given seat back new none = subst (λ (l : List ℕ). AreBack given l seat) (sym new) (record {
+  here = λ r a. sym (ap is_some (none r a));
+  only = λ r a. absurd a;
+  good = λ r l a e. let no : None ≡ Some l = sym (none r a) ∙ e in absurd (cc);
+})
+
+pub accepting_none : (d : ℕ) (given : List ℕ) (seat : Held Body) (back : List ℕ) → back ≡ [] → ((r : ℕ) → Among given r → value_at r seat.lots ≡ None) → Distinct given
+    → IsAccepting d given given seat seat back 0
+accepting_none d given seat back new none once = subst (λ (l : List ℕ). IsAccepting d given given seat seat l 0) (sym new) (
+  told_none seat,
+  back_none given seat [] refl none,
+  none,
+  (λ r n. refl),
+  once,
+  sym (lens_none given (λ q. value_at q seat.lots) none),
+)
+
+any_last : (q r : ℕ) (xs : List ℕ) → list_any (λ z. z == q) (xs ++ r ∷ []) ≡ (list_any (λ z. z == q) xs || r == q)
+any_last q r [] = or_false (r == q)
+any_last q r (x ∷ xs) = ap (λ (b : Bool). (x == q) || b) (any_last q r xs) ∙ sym (or_assoc (x == q) (list_any (λ z. z == q) xs) (r == q))
+
+pub accepting : (d : ℕ) (given more : List ℕ) (r bytes n : ℕ) (old seat last : Held Body) (back new : List ℕ) → Distinct given → Among given r → IsAccepting d given (r ∷ more) old seat back bytes
+    → CameBack d r seat last back new n → IsAccepting d given more old last new (bytes + n)
+accepting d given more r bytes n old seat last back new once among is came = ⊎_elim
+    (λ h. let lots : last.lots ≡ seat.lots = ap (λ (k : Held Body). k.lots) h.1 in let shape : seat.shape ≡ last.shape = sym (ap (λ (k : Held Body). k.shape) h.1) in
+    let sum : bytes + n ≡ bytes = (let z : n ≡ 0 = h.2 in omega arith) in
+    subst (λ (z : List ℕ). IsAccepting d given more old last z (bytes + n)) (sym h.0) (
+      own_lots (with_done (accepted_on old.process d back) old) last _ (h.1 ∙ is.0),
+      record {
+        here = λ q a. is.1.here q a ∙ ap (λ (l : List (ℕ × LotOf Body)). is_some (value_at q l)) (sym lots);
+        only = is.1.only;
+        good = λ q m a f. subst (λ s. IsBlock s q m) shape (is.1.good q m a (ap (value_at q) (sym lots) ∙ f));
+      },
+      (λ q a. ap (value_at q) lots ∙ is.2 q (inr a)),
+      (λ q o. ap (value_at q) lots ∙ is.3 q o),
+      is.4.1,
+      sum ∙ is.5 ∙ ap (λ (l : List (ℕ × LotOf Body)). lens given (λ q. value_at q l)) (sym lots),
+    ))
+    (λ h. let l = h.0 in let none : value_at r seat.lots ≡ None = is.2 r (inl refl) in
+    let p : ℕ = old.process in let whose : seat.process ≡ p = ap (λ (k : Held Body). k.process) is.0 in
+    let log : accepted_on p d back ++ accepted_on seat.process d (r ∷ []) ≡ accepted_on p d new =
+    (λ i. accepted_on p d back ++ accepted_on (whose i) d (r ∷ [])) ∙ sym (on_both p d back (r ∷ [])) ∙ ap (accepted_on p d) (sym h.1) in
+    let now = own_lots (did (Accept seat.process r d) seat) last _ h.3 in
+    let lots : last.lots ≡ seat.lots ++ (r, l) ∷ [] = ap (λ (k : Held Body). k.lots) h.3 in
+    let mine : value_at r last.lots ≡ Some l = ap (value_at r) lots ∙ last_at r l seat.lots h.2 in
+    let at : (q : ℕ) → r ≢ q → value_at q last.lots ≡ value_at q seat.lots = λ q o. ap (value_at q) lots ∙ last_other q r l seat.lots o in
+    let any : (q : ℕ) → list_any (λ z. z == q) new ≡ (list_any (λ z. z == q) back || r == q) = λ q. ap (list_any (λ z. z == q)) h.1 ∙ any_last q r back in
+    let shape : seat.shape ≡ last.shape = sym (ap (λ (k : Held Body). k.shape) h.3) in
+    let more_bytes : lens given (λ q. value_at q last.lots) ≡ lens given (λ q. value_at q seat.lots) + (item_in (value_at r last.lots)).len =
+    lens_one given r (λ q. value_at q seat.lots) (λ q. value_at q last.lots) once among none at in
+    let len : (item_in (value_at r last.lots)).len ≡ l.len = ap (λ (o : Option (LotOf Body)). (item_in o).len) mine in let told : n ≡ l.len = h.5 in
+    let before : bytes ≡ lens given (λ q. value_at q seat.lots) = is.5 in (
+      subst (λ (es : List Event). HasNow (with_done es old) last.lots last) log (moved_twice old seat last (accepted_on p d back) (accepted_on seat.process d (r ∷ [])) is.0 now),
+      record {
+        here = λ q a. dite (ℕ_discrete r q)
+            (λ e. subst (λ (z : ℕ). list_any (λ y. y == z) new ≡ is_some (value_at z last.lots)) e
+            (any r ∙ (λ i. (is.1.here r among ∙ ap is_some none) i || eq-eqb r r refl i) ∙ sym (ap is_some mine)))
+            (λ o. any q ∙ ap (λ (b : Bool). list_any (λ z. z == q) back || b) (unequal r q o) ∙ or_false (list_any (λ z. z == q) back) ∙ is.1.here q a ∙ sym (ap is_some (at q o)));
+        only = λ q a. ⊎_elim (λ b. is.1.only q b) (λ b. ⊎_elim (λ e. subst (λ (z : ℕ). Among given z) (sym e) among) (λ z. absurd z) b)
+            (among_either back (r ∷ []) q (subst (λ (ks : List ℕ). Among ks q) h.1 a));
+        good = λ q m a f. dite (ℕ_discrete r q)
+            (λ e. let two : Some l ≡ Some m = sym mine ∙ ap (λ (z : ℕ). value_at z last.lots) e ∙ f in let one : l ≡ m = cc in
+            subst (λ (z : ℕ × LotOf Body). IsBlock last.shape z.0 z.1) (λ i. (e i, one i)) (subst (λ s. IsBlock s r l) shape h.4))
+            (λ o. subst (λ s. IsBlock s q m) shape (is.1.good q m a (sym (at q o) ∙ f)));
+      },
+      (λ q a. at q (λ e. is.4.0 (subst (λ (z : ℕ). Among more z) (sym e) a)) ∙ is.2 q (inr a)),
+      (λ q o. at q (λ e. o (subst (λ (z : ℕ). Among given z) e among)) ∙ is.3 q o),
+      is.4.1,
+      omega arith,
+    ))
+    came
+
+pub one_longer : (d r bytes : ℕ) (old new : Held Body) (had back : List ℕ) → CameBack d r old new had back bytes → (k : ℕ) → length had ≤ k → length back ≤ k + 1
+one_longer d r bytes old new had back came k few = ⊎_elim
+    (λ h. let e : length back ≡ length had = ap length h.0 in omega arith)
+    (λ h. let e : length back ≡ length had + 1 = ap length h.1 ∙ length-append had (r ∷ []) in omega arith) came

@@ -1,6 +1,7 @@
 pub mod Listing
 pub mod Steps
 pub mod Moves
+pub mod Holding
 pub mod Gained
 pub mod Counted
 pub mod Desks
@@ -12,7 +13,6 @@ pub mod Found
 pub mod Parted
 pub mod Patched
 pub mod Shown
-pub mod Runs
 pub mod Last
 pub mod Opened
 pub mod Ends

@@ -1,102 +1,142 @@
 -- The blocks of a list as a place shows them, and the sums of their lengths.
-use Rattle.std.proofs.Common.{◌≡◌, ℕ, zero, suc, ◌+◌, ◌<◌, inl, inr, List, [], ◌∷◌, ◌++◌, length, drop}
-use Rattle.std.proofs.Common.{get_or, refl, sym, ap, ◌∙◌, subst, arith}
-use Rattle.std.specs.Prelude.{Some, None, Option}
+use Rattle.std.proofs.Common.{◌≡◌, ◌≢◌, ℕ, zero, suc, ◌+◌, ◌<◌, Bool, true, false, ⊎_elim, inl, inr, List, [], ◌∷◌, ◌++◌, length}
+use Rattle.std.proofs.Common.{get_or, remove, refl, sym, ap, ◌∙◌, subst, arith}
+use Rattle.std.specs.Prelude.{Some, None, Option, cond, is_some, ◌==◌}
 use mathlib.Core.Logic.{dite}
 use native.Mathlib.Decide.{ℕ_discrete}
 use Rattle.xh_arena.specs.Views.{LotOf}
 use Rattle.xh_model.specs.Keyed.{Among, Distinct, keys, value_at, put, without}
-use Rattle.xh_model.proofs.Keyed.{absent, at_key, get_key, here_first, no_key, none_at}
-use Rattle.xh_model.proofs.Keyed.{not_here, put_at, put_other}
+use Rattle.xh_model.proofs.Keyed.{absent, at_key, get_key, here_first, length-keys, not_here, put_keys}
 use Rattle.xh_place.specs.declared.body.Body.{Body}
-use Rattle.xh_core.specs.declared.header.Header.{Header}
-use Rattle.xh_place.specs.Places.{Item, item_of, item_in, header_of, header_in, shown, sum_of, total_of}
+use Rattle.xh_place.specs.inner.Lists.{less, less_all, lens}
+use Rattle.xh_place.specs.Messages.{settle, settled}
+use Rattle.xh_place.specs.Places.{Item, item_in, shown, total_of}
 
--- the blocks shown
-pub shown_same : (lots lots' : List (ℕ × LotOf Body)) (xs : List (ℕ × Header)) → ((q : ℕ) → Among (keys xs) q → value_at q lots' ≡ value_at q lots) → shown lots' xs ≡ shown lots xs
-shown_same lots lots' [] same = refl
-shown_same lots lots' (x ∷ xs) same = λ i. (x.0, item_in (same x.0 (inl refl) i)) ∷ shown_same lots lots' xs (λ q h. same q (inr h)) i
-
-pub shown_last : (lots : List (ℕ × LotOf Body)) (xs : List (ℕ × Header)) (r : ℕ) (s : Header) → shown lots (xs ++ (r, s) ∷ []) ≡ shown lots xs ++ (r, item_in (value_at r lots)) ∷ []
-shown_last lots [] r s = refl
-shown_last lots (x ∷ xs) r s = ap (λ (l : List (ℕ × Item)). (x.0, item_in (value_at x.0 lots)) ∷ l) (shown_last lots xs r s)
-
-pub shown_without : (lots : List (ℕ × LotOf Body)) (r : ℕ) (xs : List (ℕ × Header)) → shown lots (without r xs) ≡ without r (shown lots xs)
-shown_without lots r [] = refl
-shown_without lots r (x ∷ xs) = dite (ℕ_discrete x.0 r)
-    (λ same. ap (shown lots) (here_first x.0 r (without r xs) (x ∷ without r xs) same) ∙ shown_without lots r xs
-    ∙ sym (here_first x.0 r (without r (shown lots xs)) ((x.0, item_in (value_at x.0 lots)) ∷ without r (shown lots xs)) same))
-    (λ other. ap (shown lots) (not_here x.0 r (without r xs) (x ∷ without r xs) other) ∙ ap (λ (l : List (ℕ × Item)). (x.0, item_in (value_at x.0 lots)) ∷ l) (shown_without lots r xs)
-    ∙ sym (not_here x.0 r (without r (shown lots xs)) ((x.0, item_in (value_at x.0 lots)) ∷ without r (shown lots xs)) other))
-
-pub shown_keys : (lots : List (ℕ × LotOf Body)) (xs : List (ℕ × Header)) → keys (shown lots xs) ≡ keys xs
+-- the numbers of the blocks shown, and how many they are
+pub shown_keys : (lots : List (ℕ × LotOf Body)) (rs : List ℕ) → keys (shown lots rs) ≡ rs
 shown_keys lots [] = refl
-shown_keys lots (x ∷ xs) = ap (λ (l : List ℕ). x.0 ∷ l) (shown_keys lots xs)
+shown_keys lots (r ∷ rs) = ap (λ (l : List ℕ). r ∷ l) (shown_keys lots rs)
 
--- what stands at a record
-pub shown_at : (lots : List (ℕ × LotOf Body)) (xs : List (ℕ × Header)) (r : ℕ) (s : Header) → value_at r xs ≡ Some s → value_at r (shown lots xs) ≡ Some (item_in (value_at r lots))
-shown_at lots [] r s = λ e. absurd (cc)
-shown_at lots (x ∷ xs) r s = dite (ℕ_discrete x.0 r)
-    (λ same e. here_first x.0 r (Some (item_in (value_at x.0 lots))) (value_at r (shown lots xs)) same ∙ ap (λ (q : ℕ). Some (item_in (value_at q lots))) same)
-    (λ other e. not_here x.0 r (Some (item_in (value_at x.0 lots))) (value_at r (shown lots xs)) other ∙ shown_at lots xs r s (sym (not_here x.0 r (Some x.1) (value_at r xs) other) ∙ e))
+pub shown_long : (lots : List (ℕ × LotOf Body)) (rs : List ℕ) → length (shown lots rs) ≡ length rs
+shown_long lots rs = sym (length-keys (shown lots rs)) ∙ ap length (shown_keys lots rs)
 
-pub shown_none : (lots : List (ℕ × LotOf Body)) (xs : List (ℕ × Header)) (r : ℕ) → value_at r xs ≡ None → value_at r (shown lots xs) ≡ None
-shown_none lots xs r e = none_at r (shown lots xs) (λ h. no_key r xs e (subst (λ (l : List ℕ). Among l r) (shown_keys lots xs) h))
+-- blocks that have what the lots have are those that their numbers show
+pub as_shown : (lots : List (ℕ × LotOf Body)) (xs : List (ℕ × Item)) → Distinct (keys xs) → ((r : ℕ) (x : Item) → value_at r xs ≡ Some x → item_in (value_at r lots) ≡ x) → shown lots (keys xs) ≡ xs
+as_shown lots [] d same = refl
+as_shown lots (x ∷ xs) d same =
+    let head : item_in (value_at x.0 lots) ≡ x.1 = same x.0 x.1 (here_first x.0 x.0 (Some x.1) (value_at x.0 xs) refl) in
+    let rest : shown lots (keys xs) ≡ xs = as_shown lots xs d.1
+    (λ r y e. same r y (not_here x.0 r (Some x.1) (value_at r xs) (λ q. d.0 (subst (λ (z : ℕ). Among (keys xs) z) (sym q) (at_key r y xs e))) ∙ e)) in
+    λ i. (x.0, head i) ∷ rest i
 
--- a lot that is another in its place
-pub shown_put : (lots : List (ℕ × LotOf Body)) (xs : List (ℕ × Header)) (r : ℕ) (l m : LotOf Body) → value_at r lots ≡ Some l → Distinct (keys xs)
-    → shown (put r m lots) xs ≡ put r (item_of m) (shown lots xs)
-shown_put lots [] r l m at d = refl
-shown_put lots (x ∷ xs) r l m at d = dite (ℕ_discrete x.0 r)
-    (λ same.
-    let rest : shown (put r m lots) xs ≡ shown lots xs = shown_same lots (put r m lots) xs (λ q h. put_other q r m lots (λ e. d.0 (subst (λ (z : ℕ). Among (keys xs) z) (sym (same ∙ e)) h))) in
-    let head : item_in (value_at x.0 (put r m lots)) ≡ item_of m = ap (λ (z : ℕ). item_in (value_at z (put r m lots))) same ∙ ap item_in (put_at r m l lots at) in
-    (λ i. (same i, head i) ∷ rest i) ∙ sym (here_first x.0 r ((r, item_of m) ∷ shown lots xs) ((x.0, item_in (value_at x.0 lots)) ∷ put r (item_of m) (shown lots xs)) same))
-    (λ other.
-    let head : item_in (value_at x.0 (put r m lots)) ≡ item_in (value_at x.0 lots) = ap item_in (put_other x.0 r m lots (λ e. other (sym e))) in
-    (λ i. (x.0, head i) ∷ shown_put lots xs r l m at d.1 i) ∙ sym (not_here x.0 r ((r, item_of m) ∷ shown lots xs) ((x.0, item_in (value_at x.0 lots)) ∷ put r (item_of m) (shown lots xs)) other))
+pub unequal : (n r : ℕ) → n ≢ r → (n == r) ≡ false
+unequal n r o = sym (as_cond (n == r)) ∙ not_here n r true false o where
+  as_cond : (b : Bool) → cond b true false ≡ b
+  as_cond true = refl
+  as_cond false = refl
 
-pub shown_long : (lots : List (ℕ × LotOf Body)) (xs : List (ℕ × Header)) → length (shown lots xs) ≡ length xs
-shown_long lots [] = refl
-shown_long lots (x ∷ xs) = ap (λ (n : ℕ). suc n) (shown_long lots xs)
+pub among_get : (k : ℕ) (xs : List ℕ) (d : ℕ) → k < length xs → Among xs (get_or xs k d)
+among_get k [] d h = absurd (omega arith)
+among_get zero (x ∷ xs) d h = inl refl
+among_get (suc k) (x ∷ xs) d h = inr (among_get k xs d (omega arith))
 
-pub shown_drop : (lots : List (ℕ × LotOf Body)) (k : ℕ) (xs : List (ℕ × Header)) → drop k (shown lots xs) ≡ shown lots (drop k xs)
-shown_drop lots zero xs = refl
-shown_drop lots (suc k) [] = refl
-shown_drop lots (suc k) (x ∷ xs) = shown_drop lots k xs
+-- the numbers of a list that changed
+pub keys_without : {X : Type 0} (r : ℕ) (xs : List (ℕ × X)) → keys (without r xs) ≡ less r (keys xs)
+keys_without r [] = refl
+keys_without r (x ∷ xs) = dite (ℕ_discrete x.0 r)
+    (λ same. ap keys (here_first x.0 r (without r xs) (x ∷ without r xs) same) ∙ keys_without r xs ∙ sym (here_first x.0 r (less r (keys xs)) (x.0 ∷ less r (keys xs)) same))
+    (λ other. ap keys (not_here x.0 r (without r xs) (x ∷ without r xs) other) ∙ ap (λ (l : List ℕ). x.0 ∷ l) (keys_without r xs)
+    ∙ sym (not_here x.0 r (less r (keys xs)) (x.0 ∷ less r (keys xs)) other))
 
-pub get_at : (k : ℕ) (xs : List (ℕ × Header)) (d : ℕ × Header) → Distinct (keys xs) → k < length xs → value_at (get_or xs k d).0 xs ≡ Some (get_or xs k d).1
+keys_settle : {X : Type 0} (r : ℕ) (o : Option X) (stays : Bool) (xs : List (ℕ × X)) → stays ≡ is_some o → keys (settle r o xs) ≡ cond stays (keys xs) (less r (keys xs))
+keys_settle r None stays xs e = keys_without r xs ∙ ap (λ (b : Bool). cond b (keys xs) (less r (keys xs))) (sym e)
+keys_settle r (Some y) stays xs e = put_keys r y xs ∙ ap (λ (b : Bool). cond b (keys xs) (less r (keys xs))) (sym e)
+
+pub keys_settled : {X : Type 0} (given : List ℕ) (back : ℕ → Option X) (stays : ℕ → Bool) (xs : List (ℕ × X)) → ((r : ℕ) → Among given r → stays r ≡ is_some (back r))
+    → keys (settled given back xs) ≡ less_all given stays (keys xs)
+keys_settled [] back stays xs h = refl
+keys_settled (r ∷ rs) back stays xs h = keys_settled rs back stays (settle r (back r) xs) (λ q a. h q (inr a))
+    ∙ ap (less_all rs stays) (keys_settle r (back r) (stays r) xs (h r (inl refl)))
+
+pub get_at : {X : Type 0} (k : ℕ) (xs : List (ℕ × X)) (d : ℕ × X) → Distinct (keys xs) → k < length xs → value_at (get_or xs k d).0 xs ≡ Some (get_or xs k d).1
 get_at k [] d distinct h = absurd (omega arith)
 get_at zero (x ∷ xs) d distinct h = here_first x.0 x.0 (Some x.1) (value_at x.0 xs) refl
 get_at (suc k) (x ∷ xs) d distinct h =
     not_here x.0 (get_or xs k d).0 (Some x.1) (value_at (get_or xs k d).0 xs) (λ e. distinct.0 (subst (λ (z : ℕ). Among (keys xs) z) (sym e) (get_key k xs d (omega arith))))
     ∙ get_at k xs d distinct.1 (omega arith)
 
+pub key_at : {X : Type 0} (k n : ℕ) (xs : List (ℕ × X)) (d : ℕ × X) → k < length xs → get_or (keys xs) k n ≡ (get_or xs k d).0
+key_at k n [] d h = absurd (omega arith)
+key_at zero n (x ∷ xs) d h = refl
+key_at (suc k) n (x ∷ xs) d h = key_at k n xs d (omega arith)
+
+-- a list of numbers that lost one
+pub less_absent : (r : ℕ) (xs : List ℕ) → (Among xs r → ⊥) → less r xs ≡ xs
+less_absent r [] n = refl
+less_absent r (x ∷ xs) n = not_here x r (less r xs) (x ∷ less r xs) (λ e. n (inl (sym e))) ∙ ap (λ (l : List ℕ). x ∷ l) (less_absent r xs (λ a. n (inr a)))
+
+pub removed_number : (r k : ℕ) (xs : List ℕ) (d : ℕ) → Distinct xs → k < length xs → get_or xs k d ≡ r → remove xs k ≡ less r xs
+removed_number r k [] d once h e = absurd (omega arith)
+removed_number r zero (x ∷ xs) d once h e = sym (here_first x r (less r xs) (x ∷ less r xs) e ∙ less_absent r xs (λ a. once.0 (subst (λ (z : ℕ). Among xs z) (sym e) a)))
+removed_number r (suc k) (x ∷ xs) d once h e =
+    ap (λ (l : List ℕ). x ∷ l) (removed_number r k xs d once.1 (omega arith) e)
+    ∙ sym (not_here x r (less r xs) (x ∷ less r xs) (λ q. once.0 (subst (λ (z : ℕ). Among xs z) (e ∙ sym q) (among_get k xs d (omega arith)))))
+
+among_less : (r q : ℕ) (xs : List ℕ) → Among (less r xs) q → Among xs q
+among_less r q [] = λ a. a
+among_less r q (x ∷ xs) = dite (ℕ_discrete x r)
+    (λ e a. inr (among_less r q xs (subst (λ (l : List ℕ). Among l q) (here_first x r (less r xs) (x ∷ less r xs) e) a)))
+    (λ n a. ⊎_elim (λ s. inl s) (λ b. inr (among_less r q xs b)) (subst (λ (l : List ℕ). Among l q) (not_here x r (less r xs) (x ∷ less r xs) n) a))
+
+distinct_less : (r : ℕ) (xs : List ℕ) → Distinct xs → Distinct (less r xs)
+distinct_less r [] d = tt
+distinct_less r (x ∷ xs) d = dite (ℕ_discrete x r)
+    (λ e. subst Distinct (sym (here_first x r (less r xs) (x ∷ less r xs) e)) (distinct_less r xs d.1))
+    (λ n. subst Distinct (sym (not_here x r (less r xs) (x ∷ less r xs) n)) ((λ a. d.0 (among_less r x xs a)), distinct_less r xs d.1))
+
+pub distinct_unless : (b : Bool) (r : ℕ) (xs : List ℕ) → Distinct xs → Distinct (cond b xs (less r xs))
+distinct_unless true r xs d = d
+distinct_unless false r xs d = distinct_less r xs d
+
 -- sums
-pub sum_last : (xs : List (ℕ × Header)) (r : ℕ) (s : Header) → sum_of (xs ++ (r, s) ∷ []) ≡ sum_of xs + s.len
-sum_last [] r s = omega arith
-sum_last (x ∷ xs) r s = let e : sum_of (xs ++ (r, s) ∷ []) ≡ sum_of xs + s.len = sum_last xs r s in omega arith
+pub total_last : (xs : List (ℕ × Item)) (r : ℕ) (s : Item) → total_of (xs ++ (r, s) ∷ []) ≡ total_of xs + s.len
+total_last [] r s = omega arith
+total_last (x ∷ xs) r s = let e : total_of (xs ++ (r, s) ∷ []) ≡ total_of xs + s.len = total_last xs r s in omega arith
 
-pub sum_without : (xs : List (ℕ × Header)) (r : ℕ) (s : Header) → Distinct (keys xs) → value_at r xs ≡ Some s → sum_of xs ≡ sum_of (without r xs) + s.len
-sum_without [] r s d = λ e. absurd (cc)
-sum_without (x ∷ xs) r s d = dite (ℕ_discrete x.0 r)
+pub total_without : (xs : List (ℕ × Item)) (r : ℕ) (s : Item) → Distinct (keys xs) → value_at r xs ≡ Some s → total_of xs ≡ total_of (without r xs) + s.len
+total_without [] r s d = λ e. absurd (cc)
+total_without (x ∷ xs) r s d = dite (ℕ_discrete x.0 r)
     (λ same e.
-    let is : Some x.1 ≡ Some s = sym (here_first x.0 r (Some x.1) (value_at r xs) same) ∙ e in let one : x.1 ≡ s = cc in let len : x.1.len ≡ s.len = ap (λ (z : Header). z.len) one in
+    let is : Some x.1 ≡ Some s = sym (here_first x.0 r (Some x.1) (value_at r xs) same) ∙ e in let one : x.1 ≡ s = cc in let len : x.1.len ≡ s.len = ap (λ (z : Item). z.len) one in
     let gone : without r (x ∷ xs) ≡ xs = here_first x.0 r (without r xs) (x ∷ without r xs) same ∙ absent r xs (λ h. d.0 (subst (λ (z : ℕ). Among (keys xs) z) (sym same) h)) in
-    let f : sum_of (without r (x ∷ xs)) ≡ sum_of xs = ap sum_of gone in omega arith)
+    let f : total_of (without r (x ∷ xs)) ≡ total_of xs = ap total_of gone in omega arith)
     (λ other e.
-    let u : sum_of xs ≡ sum_of (without r xs) + s.len = sum_without xs r s d.1 (sym (not_here x.0 r (Some x.1) (value_at r xs) other) ∙ e) in
-    let f : sum_of (without r (x ∷ xs)) ≡ x.1.len + sum_of (without r xs) = ap sum_of (not_here x.0 r (without r xs) (x ∷ without r xs) other) in omega arith)
+    let u : total_of xs ≡ total_of (without r xs) + s.len = total_without xs r s d.1 (sym (not_here x.0 r (Some x.1) (value_at r xs) other) ∙ e) in
+    let f : total_of (without r (x ∷ xs)) ≡ x.1.len + total_of (without r xs) = ap total_of (not_here x.0 r (without r xs) (x ∷ without r xs) other) in omega arith)
 
-pub sum_shown : (lots : List (ℕ × LotOf Body)) (xs : List (ℕ × Header)) → ((r : ℕ) → value_at r xs ≡ header_in (value_at r lots)) → Distinct (keys xs) → total_of (shown lots xs) ≡ sum_of xs
-sum_shown lots xs same d = go xs (λ r s e. is r s (value_at r lots) refl (sym e ∙ same r)) d where
-  is : (r : ℕ) (s : Header) (o : Option (LotOf Body)) → value_at r lots ≡ o → Some s ≡ header_in o → (item_in (value_at r lots)).len ≡ s.len
-  is r s None e f = absurd (cc)
-  is r s (Some l) e f = let g : s ≡ header_of (item_of l) = cc in ap (λ (z : Option (LotOf Body)). (item_in z).len) e ∙ sym (ap (λ (z : Header). z.len) g)
+pub total_put : (xs : List (ℕ × Item)) (r : ℕ) (s t : Item) → value_at r xs ≡ Some s → total_of (put r t xs) + s.len ≡ total_of xs + t.len
+total_put [] r s t = λ e. absurd (cc)
+total_put (x ∷ xs) r s t = dite (ℕ_discrete x.0 r)
+    (λ same e. let is : Some x.1 ≡ Some s = sym (here_first x.0 r (Some x.1) (value_at r xs) same) ∙ e in let one : x.1 ≡ s = cc in let len : x.1.len ≡ s.len = ap (λ (z : Item). z.len) one in
+    let f : total_of (put r t (x ∷ xs)) ≡ t.len + total_of xs = ap total_of (here_first x.0 r ((r, t) ∷ xs) (x ∷ put r t xs) same) in omega arith)
+    (λ other e. let u : total_of (put r t xs) + s.len ≡ total_of xs + t.len = total_put xs r s t (sym (not_here x.0 r (Some x.1) (value_at r xs) other) ∙ e) in
+    let f : total_of (put r t (x ∷ xs)) ≡ x.1.len + total_of (put r t xs) = ap total_of (not_here x.0 r ((r, t) ∷ xs) (x ∷ put r t xs) other) in omega arith)
 
-  go : (ys : List (ℕ × Header)) → ((r : ℕ) (s : Header) → value_at r ys ≡ Some s → (item_in (value_at r lots)).len ≡ s.len) → Distinct (keys ys) → total_of (shown lots ys) ≡ sum_of ys
-  go [] h d = refl
-  go (y ∷ ys) h d =
-      let head : (item_in (value_at y.0 lots)).len ≡ y.1.len = h y.0 y.1 (here_first y.0 y.0 (Some y.1) (value_at y.0 ys) refl) in
-      let rest : total_of (shown lots ys) ≡ sum_of ys =
-      go ys (λ r s e. h r s (not_here y.0 r (Some y.1) (value_at r ys) (λ q. d.0 (subst (λ (z : ℕ). Among (keys ys) z) (sym q) (at_key r s ys e))) ∙ e)) d.1 in omega arith
+-- the bytes of records, of which none is held, and of which one is and wasn't
+pub lens_none : (given : List ℕ) (f : ℕ → Option (LotOf Body)) → ((r : ℕ) → Among given r → f r ≡ None) → lens given f ≡ 0
+lens_none [] f h = refl
+lens_none (r ∷ rs) f h = let a : (item_in (f r)).len ≡ 0 = ap (λ (o : Option (LotOf Body)). (item_in o).len) (h r (inl refl)) in let b : lens rs f ≡ 0 = lens_none rs f (λ q q'. h q (inr q')) in omega arith
+
+pub lens_same : (given : List ℕ) (f g : ℕ → Option (LotOf Body)) → ((r : ℕ) → Among given r → f r ≡ g r) → lens given f ≡ lens given g
+lens_same [] f g h = refl
+lens_same (r ∷ rs) f g h = (λ i. (item_in (h r (inl refl) i)).len + lens_same rs f g (λ q a. h q (inr a)) i)
+
+pub lens_one : (given : List ℕ) (r : ℕ) (f g : ℕ → Option (LotOf Body)) → Distinct given → Among given r → f r ≡ None → ((q : ℕ) → r ≢ q → g q ≡ f q)
+    → lens given g ≡ lens given f + (item_in (g r)).len
+lens_one [] r f g d a none same = absurd a
+lens_one (x ∷ xs) r f g d a none same = dite (ℕ_discrete r x)
+    (λ e. let zero_is : (item_in (f x)).len ≡ 0 = ap (λ (q : ℕ). (item_in (f q)).len) (sym e) ∙ ap (λ (o : Option (LotOf Body)). (item_in o).len) none in
+    let one : (item_in (g x)).len ≡ (item_in (g r)).len = ap (λ (q : ℕ). (item_in (g q)).len) (sym e) in
+    let rest : lens xs g ≡ lens xs f = lens_same xs g f (λ q b. same q (λ s. d.0 (subst (λ (z : ℕ). Among xs z) (sym s ∙ e) b))) in omega arith)
+    (λ n. let head : (item_in (g x)).len ≡ (item_in (f x)).len = ap (λ (o : Option (LotOf Body)). (item_in o).len) (same x n) in
+    let rest : lens xs g ≡ lens xs f + (item_in (g r)).len = lens_one xs r f g d.1 (⊎_elim (λ e. absurd (n e)) (λ b. b) a) none same in omega arith)

@@ -5,9 +5,8 @@ use Rattle.xh_core.specs.declared.status.Status.{Status}
 use Rattle.xh_model.specs.declared.event.Event.{Event}
 use Rattle.xh_model.specs.declared.event.Event.TheVariants.{Claim, Carve, Cut, GiveBack, Vacate, Pass, Accept}
 use Rattle.xh_model.specs.Keyed.{keys}
-use Rattle.xh_records.specs.Seats.{Held, did, with_lots}
+use Rattle.xh_records.specs.Seats.{Advances, Held, did, seen, with_lots}
 use Rattle.xh_place.specs.declared.body.Body.{Body}
-use Rattle.xh_core.specs.declared.header.Header.{Header}
 use Rattle.xh_place.specs.Moves.{moves, accepted_on, passed_on, there_and_back}
 use Rattle.xh_place.specs.inner.Lots.{HasNow, bare, with_done}
 use Rattle.xh_place.specs.Places.{IsPlace, Item, PlaceOf, with_moved, with_more}
@@ -48,17 +47,17 @@ keys_both (x ∷ xs) ys = ap (λ (l : List ℕ). x.0 ∷ l) (keys_both xs ys)
 
 -- ---- an event that moves nothing
 
-quietly : (seat last : Held Body) (e : Event) (lots : List (ℕ × LotOf Body)) → moves (e ∷ []) ≡ [] → last ≡ did e (with_lots seat lots) → HasNow seat lots last
+quietly : (seat last : Held Body) (e : Event) (lots : List (ℕ × LotOf Body)) → moves (e ∷ []) ≡ [] → last ≡ seen last.front (did e (with_lots seat lots)) → HasNow seat lots last
 quietly seat last e lots none is =
     let silent : moves (seat.done ++ e ∷ []) ≡ moves seat.done =
     moves_both seat.done (e ∷ []) ∙ ap (λ (l : List Event). moves seat.done ++ l) none ∙ append-nil (moves seat.done) in
-    ap bare is ∙ ap (λ (es : List Event). record (with_lots seat lots) { done = es }) silent
+    ap bare is ∙ ap (λ (es : List Event). record (with_lots seat lots) { done = es; front = [] }) silent
 
-pub claims : (seat last : Held Body) (p r : ℕ) (lots : List (ℕ × LotOf Body)) → last ≡ did (Claim p r) (with_lots seat lots) → HasNow seat lots last
+pub claims : (seat last : Held Body) (p r : ℕ) (lots : List (ℕ × LotOf Body)) → last ≡ seen last.front (did (Claim p r) (with_lots seat lots)) → HasNow seat lots last
 claims seat last p r lots is = quietly seat last (Claim p r) lots refl is
 
-pub vacates : (seat last : Held Body) (p r : ℕ) (lots : List (ℕ × LotOf Body)) → last ≡ did (Vacate p r) (with_lots seat lots) → HasNow seat lots last
-vacates seat last p r lots is = quietly seat last (Vacate p r) lots refl is
+pub vacates : (seat last : Held Body) (p r : ℕ) (lots : List (ℕ × LotOf Body)) → (last ≡ seen last.front (did (Vacate p r) (with_lots seat lots))) × Advances (Vacate p r ∷ []) seat last → HasNow seat lots last
+vacates seat last p r lots is = quietly seat last (Vacate p r) lots refl is.0
 
 -- ---- a seat that has passed and accepted some
 
@@ -67,21 +66,21 @@ own_lots old new lots is = is ∙ ap (with_lots (bare old)) (sym (ap (λ (h : He
 
 then_moved : (old mid last : Held Body) (es : List Event) → HasNow old mid.lots mid → HasNow (with_done es mid) last.lots last → HasNow (with_done es old) last.lots last
 then_moved old mid last es one two =
-    two ∙ ap (λ (l : List Event). record (with_lots mid last.lots) { done = l }) (moves_both mid.done es)
+    two ∙ ap (λ (l : List Event). record (with_lots mid last.lots) { done = l; front = [] }) (moves_both mid.done es)
     ∙ ap (λ (h : Held Body). record (with_lots h last.lots) { done = h.done ++ moves es }) one
-    ∙ ap (λ (l : List Event). record (with_lots old last.lots) { done = l }) (sym (moves_both old.done es))
+    ∙ ap (λ (l : List Event). record (with_lots old last.lots) { done = l; front = [] }) (sym (moves_both old.done es))
 
 pub moved_twice : (old mid last : Held Body) (es fs : List Event) → HasNow (with_done es old) mid.lots mid → HasNow (with_done fs mid) last.lots last
     → HasNow (with_done (es ++ fs) old) last.lots last
 moved_twice old mid last es fs one two =
-    then_moved (with_done es old) mid last fs one two ∙ ap (λ (l : List Event). record (with_lots old last.lots) { done = moves l }) (append_assoc old.done es fs)
+    then_moved (with_done es old) mid last fs one two ∙ ap (λ (l : List Event). record (with_lots old last.lots) { done = moves l; front = [] }) (append_assoc old.done es fs)
 
 -- ---- a place whose seat did more
 
-pub heard : (es : List Event) (seat : Held Body) (xs : List (ℕ × Header)) (room total : ℕ) (state : Status) → IsPlace seat xs room total state → IsPlace (with_done es seat) xs room total state
+pub heard : (es : List Event) (seat : Held Body) (xs : List (ℕ × Item)) (room total : ℕ) (state : Status) → IsPlace seat xs room total state → IsPlace (with_done es seat) xs room total state
 heard es seat xs room total state is = record { same = is.same; blocks = is.blocks; distinct = is.distinct; sum = is.sum; room = is.room; quiet = is.quiet }
 
-pub heard_shows : (es : List Event) (seat : Held Body) (xs : List (ℕ × Header)) (state : Status) (p : PlaceOf) → moves es ≡ es → view_of seat xs state ≡ p
+pub heard_shows : (es : List Event) (seat : Held Body) (xs : List (ℕ × Item)) (state : Status) (p : PlaceOf) → moves es ≡ es → view_of seat xs state ≡ p
     → view_of (with_done es seat) xs state ≡ with_moved p es
 heard_shows es seat xs state p same is =
     let both : moves (seat.done ++ es) ≡ moves seat.done ++ es = moves_both seat.done es ∙ ap (λ (l : List Event). moves seat.done ++ l) same in

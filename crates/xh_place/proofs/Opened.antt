@@ -1,20 +1,18 @@
 -- A seat, and a place, that gained two records at once.
 use Rattle.std.proofs.Common.{◌≡◌, ◌≢◌, ℕ, ◌+◌, ◌<◌, ⊎_elim, List, [], ◌∷◌, ◌++◌, length, append_assoc, refl, sym, ap, ◌∙◌, subst, true}
-use Rattle.std.specs.Prelude.{Some, Option}
+use Rattle.std.specs.Prelude.{Some}
 use Rattle.xh_arena.specs.Views.{LotOf}
 use Rattle.xh_core.specs.declared.status.Status.{Status}
 use Rattle.xh_model.specs.Keyed.{Among, keys, value_at, put, without}
 use Rattle.xh_model.proofs.Keyed.{among_either, keys_push, last_at, last_other, last_put, last_without, put_split}
 use Rattle.xh_records.specs.Seats.{Held, IsRecord, with_lots}
 use Rattle.xh_place.specs.declared.body.Body.{Body}
-use Rattle.xh_core.specs.declared.header.Header.{Header}
 use Rattle.xh_place.specs.inner.Lots.{HasNow, bare}
 use Rattle.xh_place.specs.inner.Opening.{AreMade, HasTwoMore}
-use Rattle.xh_place.specs.Places.{Item, PlaceOf, with_blocks, header_in, header_of, item_in, item_of, shown, IsPlace}
+use Rattle.xh_place.specs.Places.{Item, with_blocks, item_at, item_of, shown, IsPlace}
 use Rattle.xh_core.specs.Statuses.{is_over}
 use Rattle.xh_place.proofs.Gained.{has}
-use Rattle.xh_place.proofs.Steps.{has_room, view_of, won}
-use Rattle.xh_place.proofs.Listing.{shown_at}
+use Rattle.xh_place.proofs.Steps.{IsNow, list_room, won}
 
 -- with one record, and with the other too
 abbrev pub with_one : Held Body → ℕ → LotOf Body → Held Body
@@ -35,40 +33,37 @@ module _ (arena : ℕ) (old new : Held Body) (r t : ℕ) (l m : LotOf Body) (two
   pub has_first : value_at r new.lots ≡ Some l
   has_first = ap (λ (h : Held Body). value_at r h.lots) then_other ∙ last_other r t m (with_one old r l).lots (λ e. two.apart (sym e)) ∙ last_at r l old.lots two.first_fresh
 
-module _ (seat last : Held Body) (xs : List (ℕ × Header)) (room total : ℕ) (state : Status) (is : IsPlace seat xs room total state) (alive : is_over state ≡ true → ⊥)
+module _ (seat last : Held Body) (rs : List ℕ) (room total : ℕ) (state : Status) (is : IsPlace seat (shown seat.lots rs) room total state) (alive : is_over state ≡ true → ⊥)
     (arena r t : ℕ) (l m : LotOf Body) (made : AreMade arena seat last r t l m) where
-  abbrev xs_one : List (ℕ × Header)
-  xs_one = xs ++ (r, header_of (item_of l)) ∷ []
+  abbrev one : List ℕ
+  one = rs ++ r ∷ []
 
-  first_more : IsPlace (with_one seat r l) xs_one room (total + l.len) state
-      × ((p : PlaceOf) → view_of seat xs state ≡ p → view_of (with_one seat r l) xs_one state ≡ with_blocks p (p.blocks ++ (r, item_of l) ∷ []))
-  first_more = won seat xs room total state is (with_one seat r l) r l xs_one room l.len made.two.first_fresh refl made.first alive refl refl refl
+  first_more : IsNow seat rs state (with_one seat r l) one room (total + l.len) (λ (es : List (ℕ × Item)). es ++ (r, item_of l) ∷ [])
+  first_more = won seat rs room total state is (with_one seat r l) r l one room l.len made.two.first_fresh refl made.first alive refl refl refl
 
-  pub room_first : (length xs < room) × (length xs < 2048)
-  room_first = has_room seat xs room total state is r made.first.exists made.two.first_fresh
+  pub room_first : (length rs < room) × (length rs < 2048)
+  room_first = list_room seat rs room total state is r made.first.exists made.two.first_fresh
 
-  pub room_second : (length xs_one < room) × (length xs_one < 2048)
-  room_second = has_room (with_one seat r l) xs_one room (total + l.len) state first_more.0 t made.second.exists (other_fresh arena seat last r t l m made.two)
+  pub room_second : (length one < room) × (length one < 2048)
+  room_second = list_room (with_one seat r l) one room (total + l.len) state first_more.0 t made.second.exists (other_fresh arena seat last r t l m made.two)
 
-  pub opened : (ys : List (ℕ × Header)) (room' n : ℕ) → ys ≡ xs_one ++ (t, header_of (item_of m)) ∷ [] → room' ≡ room → n ≡ total + l.len + m.len
-      → IsPlace last ys room' n state × ((p : PlaceOf) → view_of seat xs state ≡ p → view_of last ys state ≡ with_blocks p (p.blocks ++ (r, item_of l) ∷ (t, item_of m) ∷ []))
+  pub opened : (ys : List ℕ) (room' n : ℕ) → ys ≡ one ++ t ∷ [] → room' ≡ room → n ≡ total + l.len + m.len
+      → IsNow seat rs state last ys room' n (λ (es : List (ℕ × Item)). es ++ (r, item_of l) ∷ (t, item_of m) ∷ [])
   opened ys room' n items same sum =
-      let second = won (with_one seat r l) xs_one room (total + l.len) state first_more.0 last t m ys room' m.len (other_fresh arena seat last r t l m made.two)
+      let second = won (with_one seat r l) one room (total + l.len) state first_more.0 last t m ys room' m.len (other_fresh arena seat last r t l m made.two)
       (then_other arena seat last r t l m made.two) made.second alive items same refl in (
-        subst (λ (z : ℕ). IsPlace last ys room' z state) (sym sum) second.0,
+        subst (λ (z : ℕ). IsPlace last (shown last.lots ys) room' z state) (sym sum) second.0,
         λ p e. second.1 (with_blocks p (p.blocks ++ (r, item_of l) ∷ [])) (first_more.1 p e) ∙ ap (with_blocks p) (append_assoc p.blocks ((r, item_of l) ∷ []) ((t, item_of m) ∷ [])),
       )
 
   -- both stand in the list
-  pub both_listed : (ys : List (ℕ × Header)) (room' n : ℕ) → IsPlace last ys room' n state → (low high : Item) → item_of l ≡ low → item_of m ≡ high
+  pub both_listed : (ys : List ℕ) (room' n : ℕ) → IsPlace last (shown last.lots ys) room' n state → (low high : Item) → item_of l ≡ low → item_of m ≡ high
       → (value_at r (shown last.lots ys) ≡ Some low) × IsRecord last.shape r × (value_at t (shown last.lots ys) ≡ Some high) × IsRecord last.shape t
   both_listed ys room' n is' low high first second =
-      let shape : seat.shape ≡ last.shape = sym (ap (λ (h : Held Body). h.shape) made.two.lots) in
-      let at : (q : ℕ) (k : LotOf Body) (x : Item) → value_at q last.lots ≡ Some k → item_of k ≡ x → value_at q (shown last.lots ys) ≡ Some x =
-      λ q k x held e. shown_at last.lots ys q (header_of (item_of k)) (is'.same q ∙ ap header_in held) ∙ ap (λ (o : Option (LotOf Body)). Some (item_in o)) held ∙ ap (λ (z : Item). Some z) e in (
-        at r l low (has_first arena seat last r t l m made.two) first,
+      let shape : seat.shape ≡ last.shape = sym (ap (λ (h : Held Body). h.shape) made.two.lots) in (
+        is'.same r ∙ ap item_at (has_first arena seat last r t l m made.two) ∙ ap (λ (z : Item). Some z) first,
         subst (λ s. IsRecord s r) shape made.first.exists,
-        at t m high (has_other arena seat last r t l m made.two) second,
+        is'.same t ∙ ap item_at (has_other arena seat last r t l m made.two) ∙ ap (λ (z : Item). Some z) second,
         subst (λ s. IsRecord s t) shape made.second.exists,
       )
 

@@ -10,21 +10,21 @@ use Rattle.xh_core.specs.Statuses.{is_running}
 use Rattle.xh_core.specs.declared.status.Status.{Status}
 use Rattle.xh_core.specs.declared.status.Status.TheVariants.{Vacant, Running, Ending, Ended}
 use Rattle.xh_model.specs.Keyed.{Among, keys, value_at, put}
-use Rattle.xh_model.proofs.Keyed.{at_key, front_at, here_first, not_here, last_put, length-keys, put_keys}
+use Rattle.xh_model.proofs.Keyed.{at_key, front_at, here_first, not_here, keys_push, last_put, put_keys}
 use Rattle.xh_model.specs.Arena.{IsGoodCut}
 use Rattle.xh_records.specs.Showing.{IsLotOf}
 use Rattle.xh_records.specs.Seats.{Held, IsRecord, IsSeatOf, RecordsOf, with_lots}
 use Rattle.xh_place.specs.inner.Lots.{HasNow, IsCut, IsData, bare}
 use Rattle.xh_place.specs.declared.body.Body.{Body}
 use Rattle.xh_place.specs.declared.body.Body.TheVariants.{Nothing, Data, End}
-use Rattle.xh_core.specs.declared.header.Header.{Header}
 use Rattle.xh_core.specs.declared.header.Kind.TheVariants as kind
-use Rattle.xh_place.specs.Bodies.{Content, bytes, spot, content_of, fits_in, front, kind_of, rest}
-use Rattle.xh_place.specs.Places.{Item, PlaceOf, header_of, header_in, item_of, IsBlock, IsPlace, sum_of, with_blocks}
+use Rattle.xh_place.specs.Bodies.{bytes, content_of, fits_in, front, kind_of, rest}
+use Rattle.xh_core.specs.Statuses.{is_over}
+use Rattle.xh_place.specs.Places.{Item, item_at, item_of, shown, total_of, IsBlock, IsPlace}
+use Rattle.xh_place.proofs.Listing.{shown_keys, total_put}
 use Rattle.xh_place.proofs.Found.{unmoved}
 use Rattle.xh_place.proofs.Gained.{fits_bytes, has}
-use Rattle.xh_place.proofs.Settled.{becomes, becomes_shown, sum_put}
-use Rattle.xh_place.proofs.Steps.{view_of, won, over_running}
+use Rattle.xh_place.proofs.Steps.{IsNow, changes, gains, is_now, quiet_alive}
 
 -- a change ahead of the last entry
 put_front : {X : Type 0} (r t : ℕ) (y z : X) (xs : List (ℕ × X)) → r ≢ t → put r y (xs ++ (t, z) ∷ []) ≡ put r y xs ++ (t, z) ∷ []
@@ -52,34 +52,19 @@ data_of Nothing n k e = ([], refl, search rules, search rules)
 data_of (Data v) n k e = (v.items, refl, search rules, search rules)
 data_of (End p) n k e = absurd (cc)
 
-running_is : (s : Status) → is_running s ≡ true → s ≡ Running
-running_is Running e = refl
-running_is Vacant e = absurd (cc)
-running_is Ending e = absurd (cc)
-running_is Ended e = absurd (cc)
-
 -- the list and its place after the cut
-pub parted : (seat last : Held Body) (xs ys : List (ℕ × Header)) (room cap total : ℕ) (state : Status) (r t : ℕ) (l h m : LotOf Body) → is_running state ≡ true → IsPlace seat xs room total state
+pub parted : (seat last : Held Body) (rs ys : List ℕ) (room cap total : ℕ) (state : Status) (r t : ℕ) (l h m : LotOf Body) → (is_over state ≡ true → ⊥) → IsPlace seat (shown seat.lots rs) room total state
     → value_at r seat.lots ≡ Some l → IsBlock seat.shape r h → IsBlock seat.shape t m → (Among (keys seat.lots) t → ⊥) → HasNow seat (put r h seat.lots ++ (t, m) ∷ []) last
-    → h.len + m.len ≡ l.len → ys ≡ put r (header_of (item_of h)) xs ++ (t, header_of (item_of m)) ∷ [] → cap ≡ room
-    → IsPlace last ys cap total state × ((p : PlaceOf) → view_of seat xs state ≡ p → view_of last ys state ≡ with_blocks p (put r (item_of h) p.blocks ++ (t, item_of m) ∷ []))
-parted seat last xs ys room cap total state r t l h m run is at head tail fresh new lens items caps =
-    subst (λ s. IsPlace seat xs room total s → IsPlace last ys cap total s
-    × ((p : PlaceOf) → view_of seat xs s ≡ p → view_of last ys s ≡ with_blocks p (put r (item_of h) p.blocks ++ (t, item_of m) ∷ []))) (sym (running_is state run))
-    (λ is.
-    let xs1 : List (ℕ × Header) = put r (header_of (item_of h)) xs in
+    → h.len + m.len ≡ l.len → ys ≡ rs ++ t ∷ [] → cap ≡ room → IsNow seat rs state last ys cap total (λ (es : List (ℕ × Item)). put r (item_of h) es ++ (t, item_of m) ∷ [])
+parted seat last rs ys room cap total state r t l h m alive is at head tail fresh new lens items caps =
+    let xs : List (ℕ × Item) = shown seat.lots rs in let xs1 : List (ℕ × Item) = put r (item_of h) xs in
     let seat1 : Held Body = with_lots seat (put r h seat.lots) in
-    let is0 : IsPlace seat xs room (sum_of xs) Running = subst (λ (n : ℕ). IsPlace seat xs room n Running) is.sum is in
-    let is1 : IsPlace seat1 xs1 room (sum_of xs1) Running = becomes room seat xs r l h is0 at head in
-    let both = won seat1 xs1 room (sum_of xs1) Running is1 last t m ys cap m.len (still_fresh r t h seat.lots fresh) new tail (over_running Running refl) items caps refl in
-    let moved : sum_of xs1 + l.len ≡ sum_of xs + h.len = sum_put xs r (header_of (item_of l)) (header_of (item_of h)) (is.same r ∙ ap header_in at) in
-    let all : total ≡ sum_of xs = is.sum in
-    let sum : sum_of xs1 + m.len ≡ total = omega arith in (
-      subst (λ (n : ℕ). IsPlace last ys cap n Running) sum both.0,
-      λ p v. both.1 (view_of seat1 xs1 Running) refl
-          ∙ ap (λ (bs : List (ℕ × Item)). with_blocks (view_of seat xs Running) (bs ++ (t, item_of m) ∷ [])) (becomes_shown room seat.lots xs r l h at is.distinct)
-          ∙ ap (λ (q : PlaceOf). with_blocks q (put r (item_of h) q.blocks ++ (t, item_of m) ∷ [])) v,
-    )) is
+    let is1 : IsPlace seat1 xs1 room (total_of xs1) state = changes seat xs room total state is seat1 r l h at refl head in
+    let moved : total_of xs1 + l.len ≡ total_of xs + h.len = total_put xs r (item_of l) (item_of h) (is.same r ∙ ap item_at at) in
+    let all : total ≡ total_of xs = is.sum in let sum : total ≡ total_of xs1 + m.len = omega arith in
+    is_now seat rs state last (put r h seat.lots ++ (t, m) ∷ []) ys room (total_of xs1 + m.len) cap total (λ (es : List (ℕ × Item)). put r (item_of h) es ++ (t, item_of m) ∷ []) new
+    (gains seat1 xs1 room (total_of xs1) state is1 last t m (still_fresh r t h seat.lots fresh) new tail (quiet_alive state (xs1 ++ (t, item_of m) ∷ []) alive))
+    (items ∙ ap (λ (z : List ℕ). z ++ t ∷ []) (sym (shown_keys seat.lots rs) ∙ sym (put_keys r (item_of h) xs)) ∙ sym (keys_push xs1 (t, item_of m))) caps sum
 
 -- A seat that claimed t, to cut r: what it has of both
 pub record Cutting (all : RecordsOf) (seat mid : Held Body) (r t : ℕ) (l l0 : LotOf Body) : Type 0 where
@@ -145,18 +130,6 @@ is_cut all seat mid last r t k l l0 h m b c fresh block lot exists held good are
       ap content_of body ∙ tail_bytes,
       arena,
     )
-
--- a cut keeps the kind
-pub front_kind : (k : ℕ) (x : Content) → kind_of (front k x) ≡ kind_of x
-front_kind k (bytes xs) = refl
-front_kind k (spot channel side) = refl
-
-pub rest_kind : (k : ℕ) (x : Content) → kind_of (rest k x) ≡ kind_of x
-rest_kind k (bytes xs) = refl
-rest_kind k (spot channel side) = refl
-
-pub put_long : {X : Type 0} (r : ℕ) (y : X) (xs : List (ℕ × X)) → length (put r y xs) ≡ length xs
-put_long r y xs = sym (length-keys (put r y xs)) ∙ ap length (put_keys r y xs) ∙ length-keys xs
 
 -- a call that is not refused is by a process that runs
 pub runs : (s : Status) (tests : Tests) → first_refusal (start s ++ tests) ≡ None → is_running s ≡ true

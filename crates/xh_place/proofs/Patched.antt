@@ -6,7 +6,7 @@ use Rattle.xh_records.specs.declared.shape.Shape.{Shape}
 use Rattle.xh_place.specs.declared.body.Body.{Body}
 use Rattle.xh_core.specs.declared.header.Kind.TheVariants as kind
 use Rattle.xh_place.specs.Bodies.{bytes, content_of, kind_of, patched}
-use Rattle.xh_place.specs.Places.{Item, IsBlock, header_of, item_of}
+use Rattle.xh_place.specs.Places.{Item, IsBlock, item_of}
 use Rattle.xh_place.proofs.Gained.{fits_bytes}
 use Rattle.xh_place.proofs.Parted.{data_of}
 
@@ -20,7 +20,7 @@ patch_long at ys xs fits =
 
 pub is_patched : (s : Shape) (r at : ℕ) (ys : List ℕ) (l m : LotOf Body) (x : Item) → IsBlock s r l → item_of l ≡ x → kind_of x.content ≡ kind.Data → at + length ys ≤ x.len
     → m ≡ record l { body = m.body } → content_of m.body ≡ patched at ys (content_of l.body)
-    → IsBlock s r m × (header_of (item_of m) ≡ header_of (item_of l)) × (item_of m ≡ record x { content = patched at ys x.content })
+    → IsBlock s r m × (m.len ≡ l.len) × (item_of m ≡ record x { content = patched at ys x.content })
 is_patched s r at ys l m x block same data_kind fits lot content =
     let d = data_of l.body l.len (ap (λ (z : Item). kind_of z.content) same ∙ data_kind) block.full.1 in let xs : List ℕ = d.0 in
     let long : length xs ≡ l.len = d.2 in let most : l.len ≤ 1048576 = d.3 in
@@ -34,6 +34,6 @@ is_patched s r at ys l m x block same data_kind fits lot content =
         full =
             (omega arith, fits_bytes m.body (take at xs ++ (ys ++ drop (at + length ys) xs)) m.len new new_long (omega arith) (omega arith));
       },
-      (λ i. record { len = len i; kind = (ap kind_of new ∙ sym (ap kind_of d.1)) i }),
+      len,
       (λ i. record { len = (len ∙ x_len) i; content = (content ∙ ap (λ (z : Item). patched at ys z.content) same) i }),
     )

@@ -1,19 +1,19 @@
 -- A place's list against what its seat holds, at each change.
-use Rattle.std.proofs.Common.{◌≡◌, ℕ, suc, ◌+◌, ◌-◌, ◌*◌, ◌/◌, ◌%◌, ◌<◌, ◌≤◌, ⊎_elim, inl, inr, List, [], ◌∷◌, ◌++◌, length, map, drop}
-use Rattle.std.proofs.Common.{get_or, refl, sym, ap, ◌∙◌, subst, true, arith, rules, mul-le-mul_right, suc-mul}
-use Rattle.std.specs.Prelude.{Some, None, Option}
+use Rattle.std.proofs.Common.{◌≡◌, ℕ, suc, ◌+◌, ◌-◌, ◌*◌, ◌/◌, ◌%◌, ◌<◌, ◌≤◌, ⊎_elim, inl, inr, List, [], ◌∷◌, ◌++◌, length, map}
+use Rattle.std.proofs.Common.{refl, sym, ap, ◌∙◌, subst, Bool, true, false, arith, rules, mul-le-mul_right, suc-mul}
+use Rattle.std.specs.Prelude.{Some, None, Option, MatchBool, is_some}
+use Rattle.xh_model.specs.Words.{number_of}
 use mathlib.Core.Logic.{dite}
 use native.Mathlib.Decide.{ℕ_discrete}
 use Rattle.xh_arena.specs.Views.{LotOf}
 use Rattle.xh_core.specs.declared.status.Status.{Status}
 use Rattle.xh_core.specs.declared.status.Status.TheVariants.{Vacant, Running, Ending, Ended}
 use Rattle.xh_model.specs.Slots.{index_of}
-use Rattle.xh_model.specs.Words.{number_of}
 use Rattle.xh_model.proofs.Words.{number_back}
 use Rattle.xh_records.specs.declared.shape.Shape.{Shape}
 use Rattle.xh_model.specs.Keyed.{Among, Distinct, keys, value_at, put, without}
-use Rattle.xh_model.proofs.Keyed.{at_key, distinct_push, distinct_without, here_first, keys_push, length-keys, last_at, last_other, next, no_key, none_at}
-use Rattle.xh_model.proofs.Keyed.{not_here, put_at, put_other, without_at, without_other}
+use Rattle.xh_model.proofs.Keyed.{at_key, distinct_push, distinct_without, here_first, keys_push, length-keys, last_at, last_other, no_key, none_at}
+use Rattle.xh_model.proofs.Keyed.{not_here, put_at, put_keys, put_other, without_at, without_other}
 use Rattle.xh_records.specs.Seats.{Held, IsRecord, with_lots}
 use Rattle.xh_records.specs.inner.Tokens.{AllBelow}
 use Rattle.xh_place.specs.Moves.{moves}
@@ -21,15 +21,14 @@ use Rattle.xh_place.specs.inner.Lots.{HasNow}
 use Rattle.xh_records.proofs.Lists.{few}
 use Rattle.xh_place.specs.declared.body.Body.{Body}
 use Rattle.xh_place.specs.declared.body.Body.TheVariants.{Nothing, Data, End}
-use Rattle.xh_core.specs.declared.header.Header.{Header}
-use Rattle.xh_place.specs.Bodies.{kind_of, fits_in}
+use Rattle.xh_place.specs.Bodies.{fits_in}
 use Rattle.xh_core.specs.Statuses.{is_over, is_running}
-use Rattle.xh_place.specs.Places.{entry_of}
-use Rattle.xh_place.specs.Places.{Item, PlaceOf, with_blocks, item_of, item_in, header_of, header_in, shown, sum_of, IsBlock, IsQuiet, IsPlace}
-use Rattle.xh_place.proofs.Listing.{shown_same, shown_last, shown_without, shown_at, shown_none, shown_put, shown_drop, get_at, sum_last, sum_without}
+use Rattle.xh_place.specs.Places.{Item, PlaceOf, with_blocks, item_of, item_in, item_at, shown, total_of, IsBlock, IsQuiet, IsPlace}
+use Rattle.xh_place.specs.inner.Lists.{less}
+use Rattle.xh_place.proofs.Listing.{as_shown, keys_without, shown_keys, shown_long, total_last, total_put, total_without}
 
-abbrev pub view_of : Held Body → List (ℕ × Header) → Status → PlaceOf
-view_of seat xs state = record { table = seat.table; shape = seat.shape; process = seat.process; blocks = shown seat.lots xs; state = state; moved = moves seat.done }
+abbrev pub view_of : Held Body → List (ℕ × Item) → Status → PlaceOf
+view_of seat xs state = record { table = seat.table; shape = seat.shape; process = seat.process; blocks = xs; state = state; moved = moves seat.done }
 
 -- there is room for one more, and no sum is too large
 slot_below : (a n r : ℕ) → r / 256 < a → r % 256 < n → index_of n r < a * n
@@ -37,11 +36,11 @@ slot_below a n r h k =
     let m : suc (r / 256) * n ≤ a * n = mul-le-mul_right n h in let e : suc (r / 256) * n ≡ (r / 256) * n + n = suc-mul (r / 256) n in
     let x : ℕ = (r / 256) * n in let y : ℕ = a * n in let f : x + n ≤ y = subst (λ (z : ℕ). z ≤ a * n) e m in let g : x + r % 256 < y = omega arith in g
 
-abbrev AllRecords : Shape → List ℕ → Type 0
+abbrev pub AllRecords : Shape → List ℕ → Type 0
 AllRecords s [] = Unit {0}
 AllRecords s (r ∷ rs) = IsRecord s r × AllRecords s rs
 
-among_index : (s : Shape) (rs : List ℕ) (r : ℕ) → AllRecords s rs → r % 256 < s.records → Among (map (index_of s.records) rs) (index_of s.records r) → Among rs r
+pub among_index : (s : Shape) (rs : List ℕ) (r : ℕ) → AllRecords s rs → r % 256 < s.records → Among (map (index_of s.records) rs) (index_of s.records r) → Among rs r
 among_index s [] r all inside h = h
 among_index s (q ∷ rs) r all inside h = ⊎_elim
     (λ e. inl (sym (number_back s.records r inside) ∙ ap (number_of s.records) e ∙ number_back s.records q all.0.1))
@@ -72,16 +71,16 @@ keys_long : {X : Type 0} (f : ℕ → ℕ) (xs : List (ℕ × X)) → length (ma
 keys_long f [] = refl
 keys_long f (x ∷ xs) = ap (λ (n : ℕ). suc n) (keys_long f xs)
 
-pub quiet_alive : (s : Status) (xs : List (ℕ × Header)) → (is_over s ≡ true → ⊥) → IsQuiet s xs
+pub quiet_alive : (s : Status) (xs : List (ℕ × Item)) → (is_over s ≡ true → ⊥) → IsQuiet s xs
 quiet_alive Running xs e = tt
 quiet_alive Ending xs e = tt
 quiet_alive Vacant xs e = absurd (e refl)
 quiet_alive Ended xs e = absurd (e refl)
 
 -- what a place's type keeps says nothing of its seat's events
-pub kept : (seat last : Held Body) (xs : List (ℕ × Header)) (room total : ℕ) (state : Status) → HasNow seat seat.lots last → IsPlace seat xs room total state → IsPlace last xs room total state
+pub kept : (seat last : Held Body) (xs : List (ℕ × Item)) (room total : ℕ) (state : Status) → HasNow seat seat.lots last → IsPlace seat xs room total state → IsPlace last xs room total state
 kept seat last xs room total state e is = record {
-  same = λ r. is.same r ∙ ap (λ (h : Held Body). header_in (value_at r h.lots)) (sym e);
+  same = λ r. is.same r ∙ ap (λ (h : Held Body). item_at (value_at r h.lots)) (sym e);
   blocks = λ r l at. subst (λ (h : Held Body). IsBlock h.shape r l) (sym e) (is.blocks r l (ap (λ (h : Held Body). value_at r h.lots) (sym e) ∙ at));
   distinct = is.distinct;
   sum = is.sum;
@@ -90,51 +89,50 @@ kept seat last xs room total state e is = record {
 }
 
 -- the place's blocks are what f makes of them
-pub shows : (p : PlaceOf) (seat last : Held Body) (xs ys : List (ℕ × Header)) (state : Status) (lots : List (ℕ × LotOf Body)) (f : List (ℕ × Item) → List (ℕ × Item)) → view_of seat xs state ≡ p
-    → HasNow seat lots last → shown last.lots ys ≡ f (shown seat.lots xs) → view_of last ys state ≡ with_blocks p (f p.blocks)
+pub shows : (p : PlaceOf) (seat last : Held Body) (xs ys : List (ℕ × Item)) (state : Status) (lots : List (ℕ × LotOf Body)) (f : List (ℕ × Item) → List (ℕ × Item)) → view_of seat xs state ≡ p
+    → HasNow seat lots last → ys ≡ f xs → view_of last ys state ≡ with_blocks p (f p.blocks)
 shows p seat last xs ys state lots f is new blocks =
     (λ i. record { table = (new i).table; shape = (new i).shape; process = (new i).process; blocks = blocks i; state = state; moved = (new i).done })
     ∙ ap (λ (q : PlaceOf). with_blocks q (f q.blocks)) is
 
-module _ (seat : Held Body) (xs : List (ℕ × Header)) (room total : ℕ) (state : Status) (is : IsPlace seat xs room total state) where
+-- what a lot is as a block
+item_one : (o : Option (LotOf Body)) (x : Item) → Some x ≡ item_at o → (l : LotOf Body) × (o ≡ Some l) × (x ≡ item_of l)
+item_one None x e = absurd (cc)
+item_one (Some l) x e = let f : x ≡ item_of l = cc in (l, refl, f)
+
+module _ (seat : Held Body) (xs : List (ℕ × Item)) (room total : ℕ) (state : Status) (is : IsPlace seat xs room total state) where
   -- a record of the list has its lot in the seat, and a lot its record
-  pub lot_of : (r : ℕ) (s : Header) → value_at r xs ≡ Some s → (l : LotOf Body) × (value_at r seat.lots ≡ Some l) × (s ≡ header_of (item_of l)) × IsBlock seat.shape r l
-      × (value_at r (shown seat.lots xs) ≡ Some (item_of l))
-  lot_of r s e = go (value_at r seat.lots) refl where
-    go : (o : Option (LotOf Body)) → value_at r seat.lots ≡ o → (l : LotOf Body) × (value_at r seat.lots ≡ Some l) × (s ≡ header_of (item_of l)) × IsBlock seat.shape r l
-        × (value_at r (shown seat.lots xs) ≡ Some (item_of l))
-    go None f = let g : Some s ≡ None = sym e ∙ is.same r ∙ ap header_in f in absurd (cc)
-    go (Some l) f = let g : Some s ≡ Some (header_of (item_of l)) = sym e ∙ is.same r ∙ ap header_in f in let h : s ≡ header_of (item_of l) = cc in
-        (l, f, h, is.blocks r l f, shown_at seat.lots xs r s e ∙ ap (λ (z : Option (LotOf Body)). Some (item_in z)) f)
+  pub lot_of : (r : ℕ) (x : Item) → value_at r xs ≡ Some x → (l : LotOf Body) × (value_at r seat.lots ≡ Some l) × (x ≡ item_of l) × IsBlock seat.shape r l
+  lot_of r x e = let t = item_one (value_at r seat.lots) x (sym e ∙ is.same r) in (t.0, t.1, t.2, is.blocks r t.0 t.1)
 
-  -- the list has the length and kind of each block
-  pub header_at : (r : ℕ) → value_at r xs ≡ entry_of (value_at r (shown seat.lots xs))
-  header_at r = go (value_at r xs) refl where
-    go : (o : Option Header) → value_at r xs ≡ o → value_at r xs ≡ entry_of (value_at r (shown seat.lots xs))
-    go None e = e ∙ sym (ap entry_of (shown_none seat.lots xs r e))
-    go (Some s) e = let t = lot_of r s e in e ∙ ap (λ (z : Header). Some z) t.2 ∙ sym (ap entry_of t.4)
+  -- so the list of numbers is what shows it
+  pub listed_as : (rs : List ℕ) → rs ≡ keys xs → shown seat.lots rs ≡ xs
+  listed_as rs e = ap (shown seat.lots) e ∙ as_shown seat.lots xs is.distinct (λ r x at. let t = lot_of r x at in ap item_in t.1 ∙ sym t.2)
 
-  -- the block at a place of the list
-  pub at_place : (k : ℕ) (d : ℕ × Header) → k < length xs → (x : Item) × (more : List (ℕ × Item)) × (drop k (shown seat.lots xs) ≡ ((get_or xs k d).0, x) ∷ more)
-      × ((get_or xs k d).1.kind ≡ kind_of x.content)
-  at_place k d h =
-      let t = lot_of (get_or xs k d).0 (get_or xs k d).1 (get_at k xs d is.distinct h) in (
-        item_of t.0,
-        shown seat.lots (drop (suc k) xs),
-        shown_drop seat.lots k xs ∙ ap (shown seat.lots) (next k xs d h) ∙ ap (λ (o : Option (LotOf Body)). ((get_or xs k d).0, item_in o) ∷ shown seat.lots (drop (suc k) xs)) t.1,
-        ap (λ (z : Header). z.kind) t.2,
-      )
+  pub held_record : (r : ℕ) → Among (keys seat.lots) r → IsRecord seat.shape r
+  held_record r a = go (value_at r seat.lots) refl where
+    go : (o : Option (LotOf Body)) → value_at r seat.lots ≡ o → IsRecord seat.shape r
+    go None e = absurd (no_key r seat.lots e a)
+    go (Some l) e = (is.blocks r l e).exists
+
+  pub held_is : (b : Bool) (r : ℕ) → MatchBool b (Among (keys seat.lots) r) (Among (keys seat.lots) r → ⊥) → b ≡ is_some (value_at r xs)
+  held_is b r m = go b (value_at r seat.lots) refl m where
+    go : (b : Bool) (o : Option (LotOf Body)) → value_at r seat.lots ≡ o → MatchBool b (Among (keys seat.lots) r) (Among (keys seat.lots) r → ⊥) → b ≡ is_some (value_at r xs)
+    go true None e m = absurd (no_key r seat.lots e m)
+    go true (Some l) e m = sym (ap is_some (is.same r ∙ ap item_at e))
+    go false None e m = sym (ap is_some (is.same r ∙ ap item_at e))
+    go false (Some l) e m = absurd (m (at_key r l seat.lots e))
 
   pub not_listed : (r : ℕ) → (Among (keys seat.lots) r → ⊥) → Among (keys xs) r → ⊥
-  not_listed r n = no_key r xs (is.same r ∙ ap header_in (none_at r seat.lots n))
+  not_listed r n = no_key r xs (is.same r ∙ ap item_at (none_at r seat.lots n))
 
-  all_records : (ys : List (ℕ × Header)) → ((r : ℕ) → Among (keys ys) r → IsRecord seat.shape r) → AllRecords seat.shape (keys ys)
+  all_records : (ys : List (ℕ × Item)) → ((r : ℕ) → Among (keys ys) r → IsRecord seat.shape r) → AllRecords seat.shape (keys ys)
   all_records [] h = tt
   all_records (y ∷ ys) h = (h y.0 (inl refl), all_records ys (λ r a. h r (inr a)))
 
   listed_record : (r : ℕ) → Among (keys xs) r → IsRecord seat.shape r
   listed_record r a = go (value_at r xs) refl where
-    go : (o : Option Header) → value_at r xs ≡ o → IsRecord seat.shape r
+    go : (o : Option Item) → value_at r xs ≡ o → IsRecord seat.shape r
     go None e = absurd (no_key r xs e a)
     go (Some s) e = (lot_of r s e).3.exists
 
@@ -150,16 +148,16 @@ module _ (seat : Held Body) (xs : List (ℕ × Header)) (room total : ℕ) (stat
       let d : length (r ∷ keys xs) ≤ 2048 = few 2048 (r ∷ keys xs) (below_all seat.shape (r ∷ keys xs) is.room.1 all) (not_listed r fresh, is.distinct) in
       let e : length (keys xs) ≡ length xs = length-keys xs in (omega arith, omega arith)
 
-  sums : (ys : List (ℕ × Header)) → ((r : ℕ) (s : Header) → value_at r ys ≡ Some s → s.len ≤ 1048576) → Distinct (keys ys) → sum_of ys ≤ length ys * 1048576
+  sums : (ys : List (ℕ × Item)) → ((r : ℕ) (s : Item) → value_at r ys ≡ Some s → s.len ≤ 1048576) → Distinct (keys ys) → total_of ys ≤ length ys * 1048576
   sums [] h d = omega arith
   sums (y ∷ ys) h d =
       let head : y.1.len ≤ 1048576 = h y.0 y.1 (here_first y.0 y.0 (Some y.1) (value_at y.0 ys) refl) in
-      let rest : sum_of ys ≤ length ys * 1048576 =
+      let rest : total_of ys ≤ length ys * 1048576 =
       sums ys (λ r s e. h r s (not_here y.0 r (Some y.1) (value_at r ys) (λ q. d.0 (subst (λ (z : ℕ). Among (keys ys) z) (sym q) (at_key r s ys e))) ∙ e)) d.1 in omega arith
 
   pub small : total ≤ length xs * 1048576
   small = subst (λ (z : ℕ). z ≤ length xs * 1048576) (sym is.sum)
-      (sums xs (λ r s e. let t = lot_of r s e in subst (λ (z : ℕ). z ≤ 1048576) (sym (ap (λ (z : Header). z.len) t.2)) (block_small t.3)) is.distinct)
+      (sums xs (λ r s e. let t = lot_of r s e in subst (λ (z : ℕ). z ≤ 1048576) (sym (ap (λ (z : Item). z.len) t.2)) (block_small t.3)) is.distinct)
 
   -- how many blocks there are, and their sum
   pub count_bound : length xs ≤ 2048
@@ -177,45 +175,37 @@ module _ (seat : Held Body) (xs : List (ℕ × Header)) (room total : ℕ) (stat
   pub total_bound : total ≤ 2147483648
   total_bound = let a : length xs ≤ 2048 = count_bound in let b : total ≤ length xs * 1048576 = small in omega arith
 
-  pub bounded : total < 18446744073709551616
-  bounded = let a : total ≤ 2147483648 = total_bound in omega arith
-
   -- a record more
   module _ (last : Held Body) (r : ℕ) (l : LotOf Body) (fresh : Among (keys seat.lots) r → ⊥) (new : HasNow seat (seat.lots ++ (r, l) ∷ []) last) (good : IsBlock seat.shape r l) where
-    pub gains : IsQuiet state (xs ++ (r, header_of (item_of l)) ∷ []) → IsPlace last (xs ++ (r, header_of (item_of l)) ∷ []) room (total + l.len) state
-    gains quiet = kept (with_lots seat (seat.lots ++ (r, l) ∷ [])) last (xs ++ (r, header_of (item_of l)) ∷ []) room (total + l.len) state new record {
+    pub gains : IsQuiet state (xs ++ (r, item_of l) ∷ []) → IsPlace last (xs ++ (r, item_of l) ∷ []) room (total + l.len) state
+    gains quiet = kept (with_lots seat (seat.lots ++ (r, l) ∷ [])) last (xs ++ (r, item_of l) ∷ []) room (total + l.len) state new record {
       same = λ q. dite (ℕ_discrete r q)
-          (λ e. subst (λ (z : ℕ). value_at z (xs ++ (r, header_of (item_of l)) ∷ []) ≡ header_in (value_at z (seat.lots ++ (r, l) ∷ []))) e
-          (last_at r (header_of (item_of l)) xs (not_listed r fresh) ∙ sym (ap header_in (last_at r l seat.lots fresh))))
-          (λ n. last_other q r (header_of (item_of l)) xs n ∙ is.same q ∙ sym (ap header_in (last_other q r l seat.lots n)));
+          (λ e. subst (λ (z : ℕ). value_at z (xs ++ (r, item_of l) ∷ []) ≡ item_at (value_at z (seat.lots ++ (r, l) ∷ []))) e
+          (last_at r (item_of l) xs (not_listed r fresh) ∙ sym (ap item_at (last_at r l seat.lots fresh))))
+          (λ n. last_other q r (item_of l) xs n ∙ is.same q ∙ sym (ap item_at (last_other q r l seat.lots n)));
       blocks = λ q m. dite (ℕ_discrete r q)
           (λ e at. let same : Some l ≡ Some m = sym (last_at r l seat.lots fresh) ∙ ap (λ (z : ℕ). value_at z (seat.lots ++ (r, l) ∷ [])) e ∙ at in let one : l ≡ m = cc in
           subst (λ (z : ℕ × LotOf Body). IsBlock seat.shape z.0 z.1) (λ i. (e i, one i)) good)
           (λ n at. is.blocks q m (sym (last_other q r l seat.lots n) ∙ at));
-      distinct = subst Distinct (sym (keys_push xs (r, header_of (item_of l)))) (distinct_push (keys xs) r is.distinct (not_listed r fresh));
-      sum = ap (λ (z : ℕ). z + l.len) is.sum ∙ sym (sum_last xs r (header_of (item_of l)));
+      distinct = subst Distinct (sym (keys_push xs (r, item_of l))) (distinct_push (keys xs) r is.distinct (not_listed r fresh));
+      sum = ap (λ (z : ℕ). z + l.len) is.sum ∙ sym (total_last xs r (item_of l));
       room = is.room;
       quiet = quiet;
     }
 
-    pub gains_shown : shown last.lots (xs ++ (r, header_of (item_of l)) ∷ []) ≡ shown seat.lots xs ++ (r, item_of l) ∷ []
-    gains_shown = ap (λ (h : Held Body). shown h.lots (xs ++ (r, header_of (item_of l)) ∷ [])) new ∙ shown_last (seat.lots ++ (r, l) ∷ []) xs r (header_of (item_of l))
-        ∙ (λ i. shown_same seat.lots (seat.lots ++ (r, l) ∷ []) xs (λ q h. last_other q r l seat.lots (λ e. not_listed r fresh (subst (λ (z : ℕ). Among (keys xs) z) (sym e) h))) i ++
-        (r, item_in (last_at r l seat.lots fresh i)) ∷ [])
+  pub enough : (r : ℕ) (s : Item) → value_at r xs ≡ Some s → s.len ≤ total
+  enough r s at = let u : total_of xs ≡ total_of (without r xs) + s.len = total_without xs r s is.distinct at in let t : total ≡ total_of xs = is.sum in omega arith
 
-  pub enough : (r : ℕ) (s : Header) → value_at r xs ≡ Some s → s.len ≤ total
-  enough r s at = let u : sum_of xs ≡ sum_of (without r xs) + s.len = sum_without xs r s is.distinct at in let t : total ≡ sum_of xs = is.sum in omega arith
-
-  -- where a block is shown, the list has its length and kind
-  pub listed : (p : PlaceOf) → view_of seat xs state ≡ p → (r : ℕ) (x : Item) → value_at r p.blocks ≡ Some x → value_at r xs ≡ Some (header_of x)
-  listed p shows r x at = header_at r ∙ ap (λ (q : PlaceOf). entry_of (value_at r q.blocks)) shows ∙ ap entry_of at
+  -- where a block is shown, the list has it
+  pub listed : (p : PlaceOf) → view_of seat xs state ≡ p → (r : ℕ) (x : Item) → value_at r p.blocks ≡ Some x → value_at r xs ≡ Some x
+  listed p shows r x at = ap (λ (q : PlaceOf). value_at r q.blocks) shows ∙ at
 
   -- a record less
-  module _ (last : Held Body) (r : ℕ) (s : Header) (at : value_at r xs ≡ Some s) (new : HasNow seat (without r seat.lots) last) where
-    gone : (q : ℕ) → value_at q (without r xs) ≡ header_in (value_at q (without r seat.lots))
+  module _ (last : Held Body) (r : ℕ) (s : Item) (at : value_at r xs ≡ Some s) (new : HasNow seat (without r seat.lots) last) where
+    gone : (q : ℕ) → value_at q (without r xs) ≡ item_at (value_at q (without r seat.lots))
     gone q = dite (ℕ_discrete r q)
-        (λ e. subst (λ (z : ℕ). value_at z (without r xs) ≡ header_in (value_at z (without r seat.lots))) e (without_at r xs ∙ sym (ap header_in (without_at r seat.lots))))
-        (λ n. without_other q r xs n ∙ is.same q ∙ sym (ap header_in (without_other q r seat.lots n)))
+        (λ e. subst (λ (z : ℕ). value_at z (without r xs) ≡ item_at (value_at z (without r seat.lots))) e (without_at r xs ∙ sym (ap item_at (without_at r seat.lots))))
+        (λ n. without_other q r xs n ∙ is.same q ∙ sym (ap item_at (without_other q r seat.lots n)))
 
     quiet_without : (t : Status) → IsQuiet t xs → IsQuiet t (without r xs)
     quiet_without Running q = tt
@@ -225,7 +215,7 @@ module _ (seat : Held Body) (xs : List (ℕ × Header)) (room total : ℕ) (stat
 
     pub loses : IsPlace last (without r xs) room (total - s.len) state
     loses = kept (with_lots seat (without r seat.lots)) last (without r xs) room (total - s.len) state new
-        (let u : sum_of xs ≡ sum_of (without r xs) + s.len = sum_without xs r s is.distinct at in let t : total ≡ sum_of xs = is.sum in let now : total - s.len ≡ sum_of (without r xs) =
+        (let u : total_of xs ≡ total_of (without r xs) + s.len = total_without xs r s is.distinct at in let t : total ≡ total_of xs = is.sum in let now : total - s.len ≡ total_of (without r xs) =
         omega arith in record {
           same = gone;
           blocks = λ q m. dite (ℕ_discrete r q)
@@ -237,51 +227,36 @@ module _ (seat : Held Body) (xs : List (ℕ × Header)) (room total : ℕ) (stat
           quiet = quiet_without state is.quiet;
         })
 
-    pub loses_shown : shown last.lots (without r xs) ≡ without r (shown seat.lots xs)
-    loses_shown = ap (λ (h : Held Body). shown h.lots (without r xs)) new
-        ∙ shown_same seat.lots (without r seat.lots) (without r xs)
-        (λ q h. without_other q r seat.lots (λ e. no_key r (without r xs) (without_at r xs) (subst (λ (z : ℕ). Among (keys (without r xs)) z) (sym e) h)))
-        ∙ shown_without seat.lots r xs
+  -- another lot in the place of one
+  module _ (last : Held Body) (r : ℕ) (l m : LotOf Body) (at : value_at r seat.lots ≡ Some l) (new : HasNow seat (put r m seat.lots) last) (good : IsBlock seat.shape r m) where
+    was : value_at r xs ≡ Some (item_of l)
+    was = is.same r ∙ ap item_at at
 
-  -- the same, as the fields have it
-  pub lost : (last : Held Body) (r : ℕ) (s : Header) (ys : List (ℕ × Header)) (room' n : ℕ) → value_at r xs ≡ Some s → HasNow seat (without r seat.lots) last → ys ≡ without r xs → room' ≡ room
-      → n ≡ s.len
-      → IsPlace last ys room' (total - n) state × ((p : PlaceOf) → view_of seat xs state ≡ p → view_of last ys state ≡ with_blocks p (without r p.blocks))
-  lost last r s ys room' n at new items same len = (
-    subst (λ (z : List (ℕ × Header) × ℕ × ℕ). IsPlace last z.0 z.1 (total - z.2) state) (λ i. (sym items i, sym same i, sym len i)) (loses last r s at new),
-    λ p is. shows p seat last xs ys state (without r seat.lots) (without r) is new (ap (shown last.lots) items ∙ loses_shown last r s at new),
-  )
+    quiet_put : (t : Status) → IsQuiet t xs → IsQuiet t (put r (item_of m) xs)
+    quiet_put Running q = tt
+    quiet_put Ending q = tt
+    quiet_put Vacant q = ap (put r (item_of m)) q
+    quiet_put Ended q = ap (put r (item_of m)) q
 
-  pub won : (last : Held Body) (r : ℕ) (l : LotOf Body) (ys : List (ℕ × Header)) (room' n : ℕ) → (Among (keys seat.lots) r → ⊥) → HasNow seat (seat.lots ++ (r, l) ∷ []) last
-      → IsBlock seat.shape r l → (is_over state ≡ true → ⊥) → ys ≡ xs ++ (r, header_of (item_of l)) ∷ [] → room' ≡ room → n ≡ l.len
-      → IsPlace last ys room' (total + n) state × ((p : PlaceOf) → view_of seat xs state ≡ p → view_of last ys state ≡ with_blocks p (p.blocks ++ (r, item_of l) ∷ []))
-  won last r l ys room' n fresh new good alive items same len = (
-    subst (λ (z : List (ℕ × Header) × ℕ × ℕ). IsPlace last z.0 z.1 (total + z.2) state) (λ i. (sym items i, sym same i, sym len i))
-        (gains last r l fresh new good (quiet_alive state (xs ++ (r, header_of (item_of l)) ∷ []) alive)),
-    λ p is. shows p seat last xs ys state (seat.lots ++ (r, l) ∷ []) (λ (es : List (ℕ × Item)). es ++ (r, item_of l) ∷ []) is new (ap (shown last.lots) items ∙ gains_shown last r l fresh new good),
-  )
-
-  -- another lot in the place of one, of the same length and kind
-  module _ (last : Held Body) (r : ℕ) (l m : LotOf Body) (at : value_at r seat.lots ≡ Some l) (new : HasNow seat (put r m seat.lots) last) (good : IsBlock seat.shape r m)
-      (alike : header_of (item_of m) ≡ header_of (item_of l)) where
-    pub changes : IsPlace last xs room total state
-    changes = kept (with_lots seat (put r m seat.lots)) last xs room total state new record {
-      same = λ q. is.same q ∙ dite (ℕ_discrete r q)
-          (λ e. subst (λ (z : ℕ). header_in (value_at z seat.lots) ≡ header_in (value_at z (put r m seat.lots))) e
-          (ap header_in at ∙ ap (λ (z : Header). Some z) (sym alike) ∙ sym (ap header_in (put_at r m l seat.lots at))))
-          (λ n. sym (ap header_in (put_other q r m seat.lots n)));
+    pub changes : IsPlace last (put r (item_of m) xs) room (total_of (put r (item_of m) xs)) state
+    changes = kept (with_lots seat (put r m seat.lots)) last (put r (item_of m) xs) room (total_of (put r (item_of m) xs)) state new record {
+      same = λ q. dite (ℕ_discrete r q)
+          (λ e. subst (λ (z : ℕ). value_at z (put r (item_of m) xs) ≡ item_at (value_at z (put r m seat.lots))) e
+          (put_at r (item_of m) (item_of l) xs was ∙ sym (ap item_at (put_at r m l seat.lots at))))
+          (λ n. put_other q r (item_of m) xs n ∙ is.same q ∙ sym (ap item_at (put_other q r m seat.lots n)));
       blocks = λ q k. dite (ℕ_discrete r q)
           (λ e a. let same : Some m ≡ Some k = sym (put_at r m l seat.lots at) ∙ ap (λ (z : ℕ). value_at z (put r m seat.lots)) e ∙ a in let one : m ≡ k = cc in
           subst (λ (z : ℕ × LotOf Body). IsBlock seat.shape z.0 z.1) (λ i. (e i, one i)) good)
           (λ n a. is.blocks q k (sym (put_other q r m seat.lots n) ∙ a));
-      distinct = is.distinct;
-      sum = is.sum;
+      distinct = subst Distinct (sym (put_keys r (item_of m) xs)) is.distinct;
+      sum = refl;
       room = is.room;
-      quiet = is.quiet;
+      quiet = quiet_put state is.quiet;
     }
 
-    pub changes_shown : shown last.lots xs ≡ put r (item_of m) (shown seat.lots xs)
-    changes_shown = ap (λ (h : Held Body). shown h.lots xs) new ∙ shown_put seat.lots xs r l m at is.distinct
+    -- of the same length
+    pub same_total : m.len ≡ l.len → total_of (put r (item_of m) xs) ≡ total
+    same_total e = let a : total_of (put r (item_of m) xs) + l.len ≡ total_of xs + m.len = total_put xs r (item_of l) (item_of m) was in let b : total ≡ total_of xs = is.sum in omega arith
 
   -- the state
   pub with_state : (t : Status) → IsQuiet t xs → IsPlace seat xs room total t
@@ -295,13 +270,70 @@ module _ (seat : Held Body) (xs : List (ℕ × Header)) (room total : ℕ) (stat
     empty Running q e = absurd (cc)
     empty Ending q e = absurd (cc)
 
-    header_none : (o : Option (LotOf Body)) → header_in o ≡ None → o ≡ None
+    header_none : (o : Option (LotOf Body)) → item_at o ≡ None → o ≡ None
     header_none None e = refl
     header_none (Some l) e = absurd (cc)
 
     none : (ls : List (ℕ × LotOf Body)) → ((r : ℕ) → value_at r ls ≡ None) → ls ≡ []
     none [] h = refl
     none (x ∷ ls) h = let e : Some x.1 ≡ None = sym (here_first x.0 x.0 (Some x.1) (value_at x.0 ls) refl) ∙ h x.0 in absurd (cc)
+
+-- ---- the same, as the fields have it: the list has numbers alone
+
+-- the place has the blocks that f makes of those that it had, and so many bytes
+abbrev pub IsNow : Held Body → List ℕ → Status → Held Body → List ℕ → ℕ → ℕ → (List (ℕ × Item) → List (ℕ × Item)) → Type 0
+IsNow seat rs state last ys room total f = IsPlace last (shown last.lots ys) room total state
+    × ((p : PlaceOf) → view_of seat (shown seat.lots rs) state ≡ p → view_of last (shown last.lots ys) state ≡ with_blocks p (f p.blocks))
+
+pub is_now : (seat : Held Body) (rs : List ℕ) (state : Status) (last : Held Body) (lots : List (ℕ × LotOf Body)) (ys : List ℕ) (room total room' total' : ℕ) (f : List (ℕ × Item) → List (ℕ × Item))
+    → HasNow seat lots last → IsPlace last (f (shown seat.lots rs)) room total state → ys ≡ keys (f (shown seat.lots rs)) → room' ≡ room → total' ≡ total
+    → IsNow seat rs state last ys room' total' f
+is_now seat rs state last lots ys room total room' total' f new is items same sum =
+    let one : shown last.lots ys ≡ f (shown seat.lots rs) = listed_as last (f (shown seat.lots rs)) room total state is ys items in (
+      subst (λ (z : List (ℕ × Item) × ℕ × ℕ). IsPlace last z.0 z.1 z.2 state) (λ i. (sym one i, sym same i, sym sum i)) is,
+      λ p e. shows p seat last (shown seat.lots rs) (shown last.lots ys) state lots f e new one,
+    )
+
+module _ (seat : Held Body) (rs : List ℕ) (room total : ℕ) (state : Status) (is : IsPlace seat (shown seat.lots rs) room total state) where
+  abbrev xs : List (ℕ × Item)
+  xs = shown seat.lots rs
+
+  pub list_room : (r : ℕ) → IsRecord seat.shape r → (Among (keys seat.lots) r → ⊥) → (length rs < room) × (length rs < 2048)
+  list_room r exists fresh = subst (λ (n : ℕ). (n < room) × (n < 2048)) (shown_long seat.lots rs) (has_room seat xs room total state is r exists fresh)
+
+  pub list_small : total ≤ length rs * 1048576
+  list_small = subst (λ (n : ℕ). total ≤ n * 1048576) (shown_long seat.lots rs) (small seat xs room total state is)
+
+  pub list_few : length rs ≤ 2048
+  list_few = subst (λ (n : ℕ). n ≤ 2048) (shown_long seat.lots rs) (count_bound seat xs room total state is)
+
+  pub list_distinct : Distinct rs
+  list_distinct = subst Distinct (shown_keys seat.lots rs) is.distinct
+
+  pub lost : (last : Held Body) (r : ℕ) (x : Item) (ys : List ℕ) (room' n : ℕ) → value_at r xs ≡ Some x → HasNow seat (without r seat.lots) last → ys ≡ less r rs → room' ≡ room → n ≡ x.len
+      → IsNow seat rs state last ys room' (total - n) (without r)
+  lost last r x ys room' n at new items same len =
+      is_now seat rs state last (without r seat.lots) ys room (total - x.len) room' (total - n) (without r) new (loses seat xs room total state is last r x at new)
+      (items ∙ ap (less r) (sym (shown_keys seat.lots rs)) ∙ sym (keys_without r xs)) same (ap (λ (z : ℕ). total - z) len)
+
+  pub won : (last : Held Body) (r : ℕ) (l : LotOf Body) (ys : List ℕ) (room' n : ℕ) → (Among (keys seat.lots) r → ⊥) → HasNow seat (seat.lots ++ (r, l) ∷ []) last
+      → IsBlock seat.shape r l → (is_over state ≡ true → ⊥) → ys ≡ rs ++ r ∷ [] → room' ≡ room → n ≡ l.len
+      → IsNow seat rs state last ys room' (total + n) (λ (es : List (ℕ × Item)). es ++ (r, item_of l) ∷ [])
+  won last r l ys room' n fresh new good alive items same len =
+      is_now seat rs state last (seat.lots ++ (r, l) ∷ []) ys room (total + l.len) room' (total + n) (λ (es : List (ℕ × Item)). es ++ (r, item_of l) ∷ []) new
+      (gains seat xs room total state is last r l fresh new good (quiet_alive state (xs ++ (r, item_of l) ∷ []) alive))
+      (items ∙ ap (λ (z : List ℕ). z ++ r ∷ []) (sym (shown_keys seat.lots rs)) ∙ sym (keys_push xs (r, item_of l))) same (ap (λ (z : ℕ). total + z) len)
+
+  -- its list does not move where one of its lots does
+  pub turned : (last : Held Body) (r : ℕ) (l m : LotOf Body) → value_at r seat.lots ≡ Some l → HasNow seat (put r m seat.lots) last → IsBlock seat.shape r m → m.len ≡ l.len
+      → IsNow seat rs state last rs room total (put r (item_of m))
+  turned last r l m at new good len =
+      is_now seat rs state last (put r m seat.lots) rs room (total_of (put r (item_of m) xs)) room total (put r (item_of m)) new (changes seat xs room total state is last r l m at new good)
+      (sym (shown_keys seat.lots rs) ∙ sym (put_keys r (item_of m) xs)) refl (sym (same_total seat xs room total state is last r l m at new good len))
+
+  -- nor where its seat did what moves nothing
+  pub stays : (last : Held Body) → HasNow seat seat.lots last → IsNow seat rs state last rs room total (λ (es : List (ℕ × Item)). es)
+  stays last new = is_now seat rs state last seat.lots rs room total room total (λ (es : List (ℕ × Item)). es) new (kept seat last xs room total state new is) (sym (shown_keys seat.lots rs)) refl refl
 
 pub over_running : (s : Status) → is_running s ≡ true → is_over s ≡ true → ⊥
 over_running Running e f = absurd (cc)

@@ -6,7 +6,8 @@ use Rattle.std.proofs.lemmas.List.{drop-append-le, take-append-le}
 use Rattle.std.proofs.Math.Seq.{drop-append_seam, take-append_seam}
 use Rattle.xh_arena.specs.Views.{TallyOf}
 use Rattle.xh_model.specs.declared.event.Event.{Event}
-use Rattle.xh_model.specs.Keyed.{Among, keys}
+use Rattle.xh_model.specs.Keyed.{Among, Distinct, keys, without}
+use Rattle.xh_model.proofs.Keyed.{absent, here_first, not_here}
 use Rattle.xh_core.specs.declared.header.Kind.TheVariants as kind
 use Rattle.xh_core.specs.declared.header.Kind.{Kind}
 use Rattle.xh_core.specs.Headers.{has_end, is_data}
@@ -73,10 +74,6 @@ for_drained p q x (Some z) ends ys at among none = go (kind_of z.content) refl w
     one_ : z ≡ x
     one_ = let both : Some z ≡ Some x = at in cc
 
-pub among_head : (n : ℕ) (z : ℕ × Item) (w : List (ℕ × Item)) → 0 < n → Among (take n (z ∷ w)) z
-among_head zero z w h = absurd (omega arith)
-among_head (suc n) z w h = inl refl
-
 among_first : (u k : ℕ) (w ys : List (ℕ × Item)) (z : ℕ × Item) → Among (take u w) z → Among (take (u + k) (w ++ ys)) z
 among_first zero k w ys z h = absurd h
 among_first (suc u) k [] ys z h = absurd h
@@ -126,32 +123,38 @@ swept_more from u k a b old mid new inside whose one two =
       sum = omega (arith, sums, first, second);
     }
 
--- some came to an end at `from`, and then n blocks went
-pub swept_run : (from n bytes d : ℕ) (old mid new : PlaceOf) (ys : List (ℕ × Item)) → from ≤ length old.blocks → mid ≡ with_more d ys old
-    → AreFor old.process (take n (drop from old.blocks ++ ys)) ys (accepted_on old.process d (keys ys)) → from + n ≤ length mid.blocks
-    → new ≡ with_blocks mid (take from mid.blocks ++ drop (from + n) mid.blocks) → bytes + total_of new.blocks ≡ total_of mid.blocks → IsSweptBy from n old new bytes
-swept_run from n bytes d old mid new ys inside came theirs fits is sum =
+-- the list without the block at `from`
+cut_out : (from r : ℕ) (x : Item) (more w : List (ℕ × Item)) → Distinct (keys w) → drop from w ≡ (r, x) ∷ more → without r w ≡ take from w ++ more
+cut_out zero r x more w d e = ap (without r) e ∙ here_first r r (without r more) ((r, x) ∷ without r more) refl ∙ absent r more (subst (λ (l : List (ℕ × Item)). Distinct (keys l)) e d).0
+cut_out (suc from) r x more [] d e = absurd (cc)
+cut_out (suc from) r x more (y ∷ w) d e =
+    not_here y.0 r (without r w) (y ∷ without r w) (λ s. d.0 (subst (λ (z : ℕ). Among (keys w) z) (sym s) (among_drop from r w (subst (λ (l : List (ℕ × Item)). Among (keys l) r) (sym e) (inl refl)))))
+    ∙ ap (λ (l : List (ℕ × Item)). y ∷ l) (cut_out from r x more w d.1 e) where
+      among_drop : (k q : ℕ) (w : List (ℕ × Item)) → Among (keys (drop k w)) q → Among (keys w) q
+      among_drop zero q w h = h
+      among_drop (suc k) q [] h = absurd h
+      among_drop (suc k) q (z ∷ w) h = inr (among_drop k q w h)
+
+-- some came to an end at `from`, and then it went
+pub swept_one : (from r bytes d : ℕ) (x : Item) (more : List (ℕ × Item)) (old mid new : PlaceOf) (ys : List (ℕ × Item)) → from ≤ length old.blocks → drop from old.blocks ≡ (r, x) ∷ more
+    → mid ≡ with_more d ys old → Distinct (keys mid.blocks) → AreFor old.process ((r, x) ∷ []) ys (accepted_on old.process d (keys ys)) → new ≡ with_blocks mid (without r mid.blocks)
+    → bytes + total_of new.blocks ≡ total_of mid.blocks → IsSweptBy from 1 old new bytes
+swept_one from r bytes d x more old mid new ys inside first came once theirs is sum =
     let list : mid.blocks ≡ old.blocks ++ ys = ap (λ (p : PlaceOf). p.blocks) came in
     let ahead : take from mid.blocks ≡ take from old.blocks = ap (take from) list ∙ take-append-le from old.blocks ys inside in
-    let rest : drop from mid.blocks ≡ drop from old.blocks ++ ys = ap (drop from) list ∙ drop-append-le from old.blocks ys inside in
-    let within : from ≤ length mid.blocks = omega (arith, fits) in
-    let more : drop (from + n) mid.blocks ≡ drop n (drop from old.blocks ++ ys) = sym (plain from n mid.blocks within) ∙ ap (drop n) rest in
-    let left : from + length (drop from mid.blocks) ≡ length mid.blocks = drop_long from mid.blocks within in
-    let long : length (drop from mid.blocks) ≡ length (drop from old.blocks ++ ys) = ap length rest in
+    let rest : drop from mid.blocks ≡ (r, x) ∷ (more ++ ys) = ap (drop from) list ∙ drop-append-le from old.blocks ys inside ∙ ap (λ (l : List (ℕ × Item)). l ++ ys) first in
     let all : total_of mid.blocks ≡ total_of old.blocks + total_of ys = ap total_of list ∙ total_both old.blocks ys in
+    let whole : drop from old.blocks ++ ys ≡ (r, x) ∷ (more ++ ys) = ap (λ (l : List (ℕ × Item)). l ++ ys) first in
+    let long : length (drop from old.blocks ++ ys) ≡ suc (length (more ++ ys)) = ap length whole in
     record {
       accepted = ys;
       log = accepted_on old.process d (keys ys);
-      there = omega (arith, left, long, fits);
-      list = ap (λ (p : PlaceOf). p.blocks) is ∙ (λ i. ahead i ++ more i);
+      there = omega (arith, long);
+      list = ap (λ (p : PlaceOf). p.blocks) is ∙ cut_out from r x (more ++ ys) mid.blocks once rest ∙ (λ i. ahead i ++ drop 1 (sym whole i));
       moved = ap (λ (p : PlaceOf). p.moved) is ∙ ap (λ (p : PlaceOf). p.moved) came;
-      theirs = theirs;
+      theirs = subst (λ (l : List (ℕ × Item)). AreFor old.process (take 1 l) ys (accepted_on old.process d (keys ys))) (sym whole) theirs;
       sum = sum ∙ all;
-    } where
-      plain : (u k : ℕ) (w : List (ℕ × Item)) → u ≤ length w → drop k (drop u w) ≡ drop (u + k) w
-      plain zero k w h = let e : k ≡ 0 + k = omega arith in ap (λ (n : ℕ). drop n w) e
-      plain (suc u) k [] h = absurd (omega arith)
-      plain (suc u) k (x ∷ w) h = let e : suc (u + k) ≡ suc u + k = omega arith in plain u k w (omega arith) ∙ ap (λ (n : ℕ). drop n (x ∷ w)) e
+    }
 
 -- nothing yet
 pub swept_none : (from : ℕ) (old : PlaceOf) → IsSweptBy from 0 old old 0

@@ -7,7 +7,7 @@ use Rattle.xh_channel.specs.declared.refused.Refused.{Refused}
 use Rattle.xh_channel.specs.declared.refused.Refused.TheVariants as refused
 use Rattle.xh_channel.specs.ContractEnds.{TakesByLine, IsUntaken as IsNothing}
 use Rattle.xh_channel.specs.Ends.{Untaken}
-use Rattle.xh_channel.specs.Queues.{ComesNext, Posted, SawEmpty, SawOpen, SawShut, TakesAs}
+use Rattle.xh_channel.specs.Queues.{ComesNext, Posted, IsEmptyAsTold, SawOpen, SawShut, TakesAs}
 use Rattle.xh_channel.specs.Refusals.{same_refusal}
 use Rattle.xh_place.specs.Messages.{IsUntaken}
 
@@ -33,4 +33,4 @@ never old new result = go old.has_contract result where
   go : (b : Bool) (result : Result Message Refused) → MatchBool b (TakesByLine old new result) (TakesAs old new result) → Never result
   go b (Ok m) h = tt
   go true (Err u) h = nothing u h.1
-  go false (Err u) h = untaken (ComesNext old new) (SawEmpty old) (SawShut old new) (SawOpen old new) old.counts new.counts u h
+  go false (Err u) h = untaken (ComesNext old new) (IsEmptyAsTold old) (SawShut old new) (SawOpen old new) old.counts new.counts u h

@@ -84,19 +84,14 @@ entry_of (Some x) = Some (header_of x)
 abbrev pub found : PlaceOf → ℕ → Option Header
 found p r = entry_of (value_at r p.blocks)
 
-abbrev pub header_in : Option (LotOf Body) → Option Header
-header_in None = None
-header_in (Some l) = Some (header_of (item_of l))
+abbrev pub item_at : Option (LotOf Body) → Option Item
+item_at None = None
+item_at (Some l) = Some (item_of l)
 
 -- the blocks of a place, of its own list and of the lots that its seat holds
-abbrev pub shown : List (ℕ × LotOf Body) → List (ℕ × Header) → List (ℕ × Item)
+abbrev pub shown : List (ℕ × LotOf Body) → List ℕ → List (ℕ × Item)
 shown lots [] = []
-shown lots (x ∷ xs) = (x.0, item_in (value_at x.0 lots)) ∷ shown lots xs
-
--- the list as a place shows it: each record with its block's length and kind
-abbrev pub headers : List (ℕ × Item) → List (ℕ × Header)
-headers [] = []
-headers (x ∷ xs) = (x.0, header_of x.1) ∷ headers xs
+shown lots (r ∷ rs) = (r, item_in (value_at r lots)) ∷ shown lots rs
 
 -- a block has bytes, and what it carries is of its length
 abbrev pub Fits : Content → ℕ → Type 0
@@ -143,10 +138,6 @@ next_process Ending p = p
 abbrev pub started : PlaceOf → PlaceOf
 started p = record p { process = next_process p.state p.process; state = Running }
 
-abbrev pub sum_of : List (ℕ × Header) → ℕ
-sum_of [] = 0
-sum_of (x ∷ xs) = x.1.len + sum_of xs
-
 -- the lot of a record that a process owns, well formed
 pub record IsBlock (s : Shape) (r : ℕ) (l : LotOf Body) : Type 0 where
   pub exists : IsRecord s r
@@ -154,17 +145,17 @@ pub record IsBlock (s : Shape) (r : ℕ) (l : LotOf Body) : Type 0 where
   pub full : IsFull fits_in l
 
 -- a place that nobody has, or whose process has ended, has no block
-abbrev pub IsQuiet : Status → List (ℕ × Header) → Type 0
+abbrev pub IsQuiet : Status → List (ℕ × Item) → Type 0
 IsQuiet Vacant xs = xs ≡ []
 IsQuiet Ended xs = xs ≡ []
 IsQuiet Running xs = Unit {0}
 IsQuiet Ending xs = Unit {0}
 
--- what a place's type keeps: its list is exactly what its seat holds, each record once, all well formed, and its total is the sum
-pub record IsPlace (seat : Held Body) (xs : List (ℕ × Header)) (capacity total : ℕ) (state : Status) : Type 0 where
-  pub same : (r : ℕ) → value_at r xs ≡ header_in (value_at r seat.lots)
+-- what a place's type keeps: its blocks are exactly what its seat holds, each record once, all well formed, and its total is the sum
+pub record IsPlace (seat : Held Body) (xs : List (ℕ × Item)) (capacity total : ℕ) (state : Status) : Type 0 where
+  pub same : (r : ℕ) → value_at r xs ≡ item_at (value_at r seat.lots)
   pub blocks : (r : ℕ) (l : LotOf Body) → value_at r seat.lots ≡ Some l → IsBlock seat.shape r l
   pub distinct : Distinct (keys xs)
-  pub sum : total ≡ sum_of xs
+  pub sum : total ≡ total_of xs
   pub room : (length seat.shape.names * seat.shape.records ≤ capacity) × (length seat.shape.names ≤ MAX_ARENAS)
   pub quiet : IsQuiet state xs

@@ -12,7 +12,6 @@ mod list;
 mod lots;
 mod opening;
 mod place;
-mod reclaiming;
 mod vaults;
 
 pub use body::Body;

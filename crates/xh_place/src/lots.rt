@@ -1,7 +1,7 @@
 // What a place does to the lots of its seat.
-ghost use Rattle.std.specs.Prelude.{◌≡◌, ◌≢◌, ◌⊎◌, ◌+◌, ◌-◌, ◌*◌, ◌%◌, ◌/◌, ◌<◌, ◌≤◌, ◌++◌, ◌∷◌, [], Some, IfOk, IfErr, IfSome, OnOk, OnErr, slice_get, length, replicate, true};
+ghost use Rattle.std.specs.Prelude.{◌≡◌, ◌≢◌, ◌⊎◌, ℕ, MatchBool, ◌+◌, ◌-◌, ◌*◌, ◌%◌, ◌/◌, ◌<◌, ◌≤◌, ◌++◌, ◌∷◌, [], Some, IfOk, IfErr, IfSome, OnOk, OnErr, slice_get, length, replicate, true};
 ghost use Rattle.xh_arena.specs.Views.{LotOf};
-ghost use Rattle.xh_model.specs.declared.event.Event.TheVariants.{Accept};
+ghost use Rattle.xh_model.specs.declared.event.Event.TheVariants.{Accept, Pass};
 ghost use Rattle.xh_model.specs.Arena.{IsGoodCut};
 ghost use Rattle.xh_model.specs.Keyed.{Among, keys, value_at, put, without};
 ghost use Rattle.xh_records.specs.Showing.{IsLotOf, IsFull};
@@ -25,40 +25,39 @@ use crate::gate::{Gate, Point};
 use crate::vaults::Vaults;
 use std::alloc::Global;
 use std::mem;
-use xh_arena::{Lot, Refused, Tally};
+use xh_arena::{Lot, Refused};
 use xh_core::{Header, Kind, Refused as Reason};
 use xh_model::limits::{MAX_RECORDS, PLACES};
-use xh_records::{Records, Seat};
+use xh_records::{OwnerWord, Records, Seat};
 
-// The lot of the record gets bytes and a body.
-pub(crate) fn fill_lot<V: Vaults>(
-    records: &Records<Body>,
+// The record's lot gets bytes and a body.
+fn fill<R, V: Vaults, G>(
+    desk: &mut Desk<'_, R, V, G>,
     seat: &mut Seat<Body>,
     r: u16,
-    vaults: &mut V,
-    tally: &mut Tally,
     n: u32,
     body: &mut Body,
 ) -> Result<(), Refused>
-    requires own { IsSeatOf records.now seat.old × IsRecord records.now.shape r }
-    requires held { (l : LotOf Body) × (value_at r seat.old.lots ≡ Some l) × (l.len ≡ 0) × IsLotOf seat.old.shape r l
-        × (slice_get (V.names vaults.old) (r / MAX_RECORDS) ≡ Some l.id) × (tally.old.id ≡ l.id) }
-    requires size { (0 < n) × (n % UNIT ≡ 0) × (n ≤ V.extent vaults.old) }
-    ensures same { (V.names vaults.new ≡ V.names vaults.old) × (V.extent vaults.new ≡ V.extent vaults.old) }
+    requires at { IsSeatAt V.names desk.old seat.old }
+    requires held { (l : LotOf Body) × (value_at r seat.old.lots ≡ Some l) × (l.len ≡ 0) × IsRecord seat.old.shape r × IsLotOf seat.old.shape r l }
+    requires size { (0 < n) × (n % UNIT ≡ 0) × (n ≤ V.extent desk.old.vaults.now) }
+    ensures same { IsSameDesk V.names V.extent desk.old desk.new }
     ensures seat { OnOk result ((l : LotOf Body) → value_at r seat.old.lots ≡ Some l → seat.new ≡ with_lots seat.old (put r (record l { len = n; body = body.old }) seat.old.lots)) }
-    ensures tally { OnOk result (tally.new ≡ record tally.old { taken = tally.old.taken + n }) }
-    ensures refused { OnErr result ((l : LotOf Body) → value_at r seat.old.lots ≡ Some l → (seat.new ≡ with_lots seat.old (put r l seat.old.lots)) × (tally.new ≡ tally.old)) }
-    ensures why { IfErr result (IsRefusedAt V.changes vaults.old vaults.new (r / MAX_RECORDS) n) }
+    ensures taken { OnOk result (desk.new.tallies.now ≡ took (r / MAX_RECORDS) n desk.old.tallies.now) }
+    ensures refused { OnErr result ((seat.new ≡ seat.old) × (desk.new.tallies.now ≡ desk.old.tallies.now)) }
+    ensures why { IfErr result (IsRefusedAt V.changes desk.old.vaults.now desk.new.vaults.now (r / MAX_RECORDS) n) }
 {
     let arena = (r / MAX_RECORDS) as u8;
-    records.with_lot(
+    let tally = &mut desk.tallies[usize::from(arena)];
+    let vaults = &mut *desk.vaults;
+    desk.records.with_lot(
         seat,
         r,
         &mut |lot: &mut Lot<Body>| -> Result<(), Refused>
             requires ids { (slice_get (V.names vaults.now) arena ≡ Some lot.old.id) × (tally.now.id ≡ lot.old.id) }
             requires empty { lot.old.len ≡ 0 }
             requires size { (0 < n) × (n % UNIT ≡ 0) × (n ≤ V.extent vaults.now) }
-            ensures same { (V.names vaults.exit.now ≡ V.names vaults.entry.now) × (V.extent vaults.exit.now ≡ V.extent vaults.entry.now) }
+            ensures same { (V.names vaults.exit.now ≡ V.names vaults.entry.now) × (V.extent vaults.exit.now ≡ V.extent vaults.entry.now) × (tally.exit.now.id ≡ tally.entry.now.id) }
             ensures lot { OnOk result (lot.new ≡ record lot.old { len = n; body = body.entry.now }) }
             ensures tally { OnOk result (tally.exit.now ≡ record tally.entry.now { taken = tally.entry.now.taken + n }) }
             ensures refused { OnErr result ((lot.new ≡ lot.old) × (tally.exit.now ≡ tally.entry.now)) }
@@ -71,34 +70,32 @@ pub(crate) fn fill_lot<V: Vaults>(
     )
 }
 
-// The bytes of the record's lot go back.
-pub(crate) fn empty_lot<V: Vaults>(
-    records: &Records<Body>,
-    seat: &mut Seat<Body>,
-    r: u16,
-    vaults: &mut V,
-    tally: &mut Tally,
-)
-    requires own { IsSeatOf records.now seat.old × IsRecord records.now.shape r }
-    requires held { (l : LotOf Body) × (value_at r seat.old.lots ≡ Some l) × (0 < l.len) × IsLotOf seat.old.shape r l
-        × (slice_get (V.names vaults.old) (r / MAX_RECORDS) ≡ Some l.id) × (tally.old.id ≡ l.id) }
-    ensures same { (V.names vaults.new ≡ V.names vaults.old) × (V.extent vaults.new ≡ V.extent vaults.old) }
-    ensures lot { (l : LotOf Body) → value_at r seat.old.lots ≡ Some l → (seat.new ≡ with_lots seat.old (put r (record l { len = 0; body = Nothing }) seat.old.lots))
-        × (tally.new ≡ record tally.old { back = tally.old.back + l.len }) }
+// The bytes of the record's lot go back, and its body is gone. It answers the bytes.
+fn empty<R, V: Vaults, G>(desk: &mut Desk<'_, R, V, G>, seat: &mut Seat<Body>, r: u16) -> u32
+    requires at { IsSeatAt V.names desk.old seat.old }
+    requires held { (l : LotOf Body) × (value_at r seat.old.lots ≡ Some l) × IsBlock seat.old.shape r l }
+    ensures same { IsSameDesk V.names V.extent desk.old desk.new }
+    ensures emptied { (l : LotOf Body) → value_at r seat.old.lots ≡ Some l → (seat.new ≡ with_lots seat.old (put r (record l { len = 0; body = Nothing }) seat.old.lots))
+        × (desk.new.tallies.now ≡ gave (r / MAX_RECORDS) l.len desk.old.tallies.now) × (result ≡ l.len) }
 {
     let arena = (r / MAX_RECORDS) as u8;
-    records.with_lot(
+    let tally = &mut desk.tallies[usize::from(arena)];
+    let vaults = &mut *desk.vaults;
+    desk.records.with_lot(
         seat,
         r,
-        &mut |lot: &mut Lot<Body>|
+        &mut |lot: &mut Lot<Body>| -> u32
             requires ids { (slice_get (V.names vaults.now) arena ≡ Some lot.old.id) × (tally.now.id ≡ lot.old.id) }
             requires some { 0 < lot.old.len }
-            ensures same { (V.names vaults.exit.now ≡ V.names vaults.entry.now) × (V.extent vaults.exit.now ≡ V.extent vaults.entry.now) }
+            ensures same { (V.names vaults.exit.now ≡ V.names vaults.entry.now) × (V.extent vaults.exit.now ≡ V.extent vaults.entry.now) × (tally.exit.now.id ≡ tally.entry.now.id) }
             ensures lot { lot.new ≡ record lot.old { len = 0; body = Nothing } }
             ensures tally { tally.exit.now ≡ record tally.entry.now { back = tally.entry.now.back + lot.old.len } }
+            ensures bytes { result ≡ lot.old.len }
         {
+            let len = lot.len();
             vaults.give_back(arena, lot, tally);
             *lot.body_mut() = Body::Nothing;
+            len
         },
     )
 }
@@ -158,8 +155,7 @@ pub(crate) fn make_block<R, V: Vaults, G: Gate>(
         return Err(Reason::OutOfMemory);
     };
     let mut body = Body::Data(buffer);
-    let tally = &mut desk.tallies[usize::from(arena)];
-    let filled = fill_lot(desk.records, seat, r, desk.vaults, tally, n, &mut body);
+    let filled = fill(desk, seat, r, n, &mut body);
     drop(body);
     let Err(refused) = filled else {
         return Ok(r);
@@ -168,26 +164,39 @@ pub(crate) fn make_block<R, V: Vaults, G: Gate>(
     Err(reason(refused))
 }
 
-// Gives a block's bytes back, and makes its record free.
+// Gives a block's bytes back, and makes its record free. It answers the bytes.
 pub(crate) fn give_up<R, V: Vaults, G: Gate>(
     desk: &mut Desk<'_, R, V, G>,
     seat: &mut Seat<Body>,
     r: u16,
-)
+) -> u32
     requires at { IsSeatAt V.names desk.old seat.old }
     requires held { (l : LotOf Body) × (value_at r seat.old.lots ≡ Some l) × IsBlock seat.old.shape r l }
     ensures same { IsSameDesk V.names V.extent desk.old desk.new }
     ensures seat { HasNow seat.old (without r seat.old.lots) seat.new }
-    ensures back { (l : LotOf Body) → value_at r seat.old.lots ≡ Some l → desk.new.tallies.now ≡ gave (r / MAX_RECORDS) l.len desk.old.tallies.now }
+    ensures back { (l : LotOf Body) → value_at r seat.old.lots ≡ Some l → (desk.new.tallies.now ≡ gave (r / MAX_RECORDS) l.len desk.old.tallies.now) × (result ≡ l.len) }
 {
-    let tally = &mut desk.tallies[usize::from(r / MAX_RECORDS)];
-    empty_lot(desk.records, seat, r, desk.vaults, tally);
+    let len = empty(desk, seat, r);
     desk.gate.between(place_of(seat), Point::Returned);
     desk.records.vacate(seat, r);
+    len
+}
+
+// Whether the seat holds the record, as its word says.
+pub(crate) fn holds(records: &Records<Body>, seat: &mut Seat<Body>, r: u16) -> bool
+    requires own { IsSeatOf records.now seat.old }
+    requires exist { (q : ℕ) → Among (keys seat.old.lots) q → IsRecord seat.old.shape q }
+    ensures same { HasNow seat.old seat.old.lots seat.new }
+    ensures holds { MatchBool result (Among (keys seat.old.lots) r) (Among (keys seat.old.lots) r → ⊥) }
+{
+    if !records.has(r) {
+        return false;
+    }
+    records.owner_word(seat, r) == OwnerWord::Owned(seat.process()).encode()
 }
 
 // The length and kind of the record's block.
-fn look(records: &Records<Body>, seat: &mut Seat<Body>, r: u16) -> Header
+pub(crate) fn look(records: &Records<Body>, seat: &mut Seat<Body>, r: u16) -> Header
     requires own { IsSeatOf records.now seat.old × IsRecord records.now.shape r }
     requires held { (l : LotOf Body) × (value_at r seat.old.lots ≡ Some l) × IsLotOf seat.old.shape r l × IsFull fits_in l }
     ensures { (l : LotOf Body) → value_at r seat.old.lots ≡ Some l → (result ≡ header_of (item_of l)) × (seat.new ≡ with_lots seat.old (put r l seat.old.lots)) }
@@ -221,10 +230,27 @@ pub(crate) fn accept_block(
     requires own { IsSeatOf records.now seat.old × IsRecord records.now.shape r × (direction < DIRECTIONS) }
     ensures here { IfOk result (λ s. (l : LotOf Body) × (Among (keys seat.old.lots) r → ⊥)
         × HasNow (did (Accept seat.old.process r direction) seat.old) (seat.old.lots ++ (r, l) ∷ []) seat.new × IsBlock seat.old.shape r l × (s ≡ header_of (item_of l))) }
-    ensures missing { IfErr result (λ word. (word ≢ 2 + 4 * direction) × (seat.new ≡ seat.old)) }
+    ensures missing { IfErr result (λ word. (word ≢ 2 + 4 * direction) × HasNow seat.old seat.old.lots seat.new) }
 {
     records.accept(seat, r, direction)?;
     Ok(look(records, seat, r))
+}
+
+// Passes a record on the direction. It answers the bytes.
+pub(crate) fn pass_block(
+    records: &Records<Body>,
+    seat: &mut Seat<Body>,
+    r: u16,
+    direction: u8,
+) -> u32
+    requires own { IsSeatOf records.now seat.old × IsRecord records.now.shape r × (direction < DIRECTIONS) }
+    requires held { (l : LotOf Body) × (value_at r seat.old.lots ≡ Some l) × IsLotOf seat.old.shape r l × IsFull fits_in l }
+    ensures passed { HasNow (did (Pass seat.old.process r direction) seat.old) (without r seat.old.lots) seat.new }
+    ensures bytes { (l : LotOf Body) → value_at r seat.old.lots ≡ Some l → result ≡ l.len }
+{
+    let header = look(records, seat, r);
+    records.pass(seat, r, direction);
+    header.len
 }
 
 // The second record's lot gets the bytes of the first one's past the first `k`, and its body the other.

@@ -12,7 +12,7 @@ ghost use Rattle.xh_place.specs.Bodies.{fits_in};
 ghost use Rattle.xh_place.specs.Desk.{IsSameDesk, IsSeatAt};
 ghost use Rattle.xh_place.specs.Ends.{end_block};
 ghost use Rattle.xh_place.specs.inner.Lots.{HasNow};
-ghost use Rattle.xh_place.specs.inner.Opening.{AreClaimed, AreMade};
+ghost use Rattle.xh_place.specs.inner.Opening.{AreClaimed, AreEmpty, AreMade};
 ghost use Rattle.xh_place.specs.Places.{item_of};
 ghost use Rattle.xh_place.specs.Tallies.{took};
 ghost use Rattle.xh_place.specs.Vaults.{IsNoPair, IsRefusedAt};
@@ -23,7 +23,7 @@ use crate::gate::{Gate, Point};
 use crate::lots::{place_of, reason};
 use crate::vaults::Vaults;
 use std::mem;
-use xh_arena::{Lot, Refused, Tally};
+use xh_arena::{Lot, Refused};
 use xh_channel::Endpoint;
 use xh_core::Refused as Reason;
 use xh_model::limits::{END_BYTES, MAX_RECORDS};
@@ -38,38 +38,35 @@ pub struct Unopened {
 }
 
 // The first record's lot gets 64 bytes, of which the second's gets half; each gets a body.
-fn halve_lots<V: Vaults>(
-    records: &Records<Body>,
+fn halve<R, V: Vaults, G>(
+    desk: &mut Desk<'_, R, V, G>,
     seat: &mut Seat<Body>,
-    r: u16,
-    t: u16,
-    vaults: &mut V,
-    tally: &mut Tally,
+    pair: (u16, u16),
     first: &mut Body,
     second: &mut Body,
 ) -> Result<(), Refused>
-    requires own { IsSeatOf records.now seat.old × IsRecord records.now.shape r × IsRecord records.now.shape t × (r ≢ t) }
-    requires held { (l m : LotOf Body) × (value_at r seat.old.lots ≡ Some l) × (value_at t seat.old.lots ≡ Some m) × IsLotOf seat.old.shape r l × IsLotOf seat.old.shape t m
-        × (slice_get (V.names vaults.old) (r / MAX_RECORDS) ≡ Some l.id) × (m.id ≡ l.id) × (tally.old.id ≡ l.id) × (l.len ≡ 0) × (m.len ≡ 0) }
-    requires size { 2 * END_BYTES ≤ V.extent vaults.old }
-    ensures same { (V.names vaults.new ≡ V.names vaults.old) × (V.extent vaults.new ≡ V.extent vaults.old) }
-    ensures halved { OnOk result ((l m : LotOf Body) → value_at r seat.old.lots ≡ Some l → value_at t seat.old.lots ≡ Some m
-        → seat.new ≡ with_lots seat.old (put t (record m { len = END_BYTES; body = second.old }) (put r (record l { len = END_BYTES; body = first.old }) seat.old.lots))) }
-    ensures tally { OnOk result (tally.new ≡ record tally.old { taken = tally.old.taken + 2 * END_BYTES }) }
-    ensures refused { OnErr result ((l m : LotOf Body) → value_at r seat.old.lots ≡ Some l → value_at t seat.old.lots ≡ Some m
-        → (seat.new ≡ with_lots seat.old (put t m (put r l seat.old.lots))) × (tally.new ≡ tally.old) × (first.new ≡ first.old) × (second.new ≡ second.old)) }
-    ensures why { IfErr result (IsRefusedAt V.changes vaults.old vaults.new (r / MAX_RECORDS) (2 * END_BYTES)) }
+    requires at { IsSeatAt V.names desk.old seat.old }
+    requires held { (l m : LotOf Body) × AreEmpty seat.old pair.0 pair.1 l m }
+    requires size { 2 * END_BYTES ≤ V.extent desk.old.vaults.now }
+    ensures same { IsSameDesk V.names V.extent desk.old desk.new }
+    ensures halved { OnOk result ((l m : LotOf Body) → value_at pair.0 seat.old.lots ≡ Some l → value_at pair.1 seat.old.lots ≡ Some m
+        → seat.new ≡ with_lots seat.old (put pair.1 (record m { len = END_BYTES; body = second.old }) (put pair.0 (record l { len = END_BYTES; body = first.old }) seat.old.lots))) }
+    ensures taken { OnOk result (desk.new.tallies.now ≡ took (pair.0 / MAX_RECORDS) (2 * END_BYTES) desk.old.tallies.now) }
+    ensures refused { OnErr result ((seat.new ≡ seat.old) × (desk.new.tallies.now ≡ desk.old.tallies.now) × (first.new ≡ first.old) × (second.new ≡ second.old)) }
+    ensures why { IfErr result (IsRefusedAt V.changes desk.old.vaults.now desk.new.vaults.now (pair.0 / MAX_RECORDS) (2 * END_BYTES)) }
 {
-    let arena = (r / MAX_RECORDS) as u8;
-    records.with_two(
+    let arena = (pair.0 / MAX_RECORDS) as u8;
+    let tally = &mut desk.tallies[usize::from(arena)];
+    let vaults = &mut *desk.vaults;
+    desk.records.with_two(
         seat,
-        r,
-        t,
+        pair.0,
+        pair.1,
         &mut |low: &mut Lot<Body>, high: &mut Lot<Body>| -> Result<(), Refused>
             requires ids { (slice_get (V.names vaults.now) arena ≡ Some low.old.id) × (high.old.id ≡ low.old.id) × (tally.now.id ≡ low.old.id) }
             requires empty { (low.old.len ≡ 0) × (high.old.len ≡ 0) }
             requires size { 2 * END_BYTES ≤ V.extent vaults.now }
-            ensures same { (V.names vaults.exit.now ≡ V.names vaults.entry.now) × (V.extent vaults.exit.now ≡ V.extent vaults.entry.now) }
+            ensures same { (V.names vaults.exit.now ≡ V.names vaults.entry.now) × (V.extent vaults.exit.now ≡ V.extent vaults.entry.now) × (tally.exit.now.id ≡ tally.entry.now.id) }
             ensures low { OnOk result (low.new ≡ record low.old { len = END_BYTES; body = first.entry.now }) }
             ensures high { OnOk result (high.new ≡ record high.old { len = END_BYTES; body = second.entry.now }) }
             ensures tally { OnOk result (tally.exit.now ≡ record tally.entry.now { taken = tally.entry.now.taken + 2 * END_BYTES }) }
@@ -132,33 +129,29 @@ fn end_in(body: Body) -> Endpoint
 }
 
 // Two records that were claimed get 32 bytes and an end each.
-fn fit_ends<V: Vaults>(
-    records: &Records<Body>,
+fn fit_ends<R, V: Vaults, G>(
+    desk: &mut Desk<'_, R, V, G>,
     seat: &mut Seat<Body>,
-    r: u16,
-    t: u16,
+    pair: (u16, u16),
     low: Endpoint,
     high: Endpoint,
-    vaults: &mut V,
-    tally: &mut Tally,
 ) -> Result<(), Unopened>
-    requires own { IsSeatOf records.now seat.old × IsRecord records.now.shape r × IsRecord records.now.shape t × (r ≢ t) }
-    requires held { (l m : LotOf Body) × (value_at r seat.old.lots ≡ Some l) × (value_at t seat.old.lots ≡ Some m) × IsLotOf seat.old.shape r l × IsLotOf seat.old.shape t m
-        × (slice_get (V.names vaults.old) (r / MAX_RECORDS) ≡ Some l.id) × (m.id ≡ l.id) × (tally.old.id ≡ l.id) × (l.len ≡ 0) × (m.len ≡ 0) }
-    ensures same { (V.names vaults.new ≡ V.names vaults.old) × (V.extent vaults.new ≡ V.extent vaults.old) }
-    ensures fitted { OnOk result ((l m : LotOf Body) → value_at r seat.old.lots ≡ Some l → value_at t seat.old.lots ≡ Some m
-        → seat.new ≡ with_lots seat.old (put t (record m { len = END_BYTES; body = End high }) (put r (record l { len = END_BYTES; body = End low }) seat.old.lots))) }
-    ensures tally { OnOk result (tally.new ≡ record tally.old { taken = tally.old.taken + 2 * END_BYTES }) }
-    ensures refused { IfErr result (λ u. (seat.new ≡ seat.old) × (tally.new ≡ tally.old) × (u.low ≡ low) × (u.high ≡ high)) }
-    ensures why { IfErr result (λ u. IsNoPair V.changes vaults.old vaults.new (r / MAX_RECORDS) (2 * END_BYTES) (V.extent vaults.old) u.why) }
+    requires at { IsSeatAt V.names desk.old seat.old }
+    requires held { (l m : LotOf Body) × AreEmpty seat.old pair.0 pair.1 l m }
+    ensures same { IsSameDesk V.names V.extent desk.old desk.new }
+    ensures fitted { OnOk result ((l m : LotOf Body) → value_at pair.0 seat.old.lots ≡ Some l → value_at pair.1 seat.old.lots ≡ Some m
+        → seat.new ≡ with_lots seat.old (put pair.1 (record m { len = END_BYTES; body = End high }) (put pair.0 (record l { len = END_BYTES; body = End low }) seat.old.lots))) }
+    ensures taken { OnOk result (desk.new.tallies.now ≡ took (pair.0 / MAX_RECORDS) (2 * END_BYTES) desk.old.tallies.now) }
+    ensures refused { IfErr result (λ u. (seat.new ≡ seat.old) × (desk.new.tallies.now ≡ desk.old.tallies.now) × (u.low ≡ low) × (u.high ≡ high)) }
+    ensures why { IfErr result (λ u. IsNoPair V.changes desk.old.vaults.now desk.new.vaults.now (pair.0 / MAX_RECORDS) (2 * END_BYTES) (V.extent desk.old.vaults.now) u.why) }
 {
-    if vaults.size() < 2 * END_BYTES {
+    if desk.vaults.size() < 2 * END_BYTES {
         let why = Reason::NoSpace;
         return Err(Unopened { why, low, high });
     }
     let mut first = Body::End(low);
     let mut second = Body::End(high);
-    let halved = halve_lots(records, seat, r, t, vaults, tally, &mut first, &mut second);
+    let halved = halve(desk, seat, pair, &mut first, &mut second);
     let Err(refused) = halved else {
         return Ok(());
     };
@@ -188,8 +181,7 @@ pub(crate) fn make_ends<R, V: Vaults, G: Gate>(
         let why = Reason::NoRecord;
         return Err(Unopened { why, low, high });
     };
-    let tally = &mut desk.tallies[usize::from(arena)];
-    let fitted = fit_ends(desk.records, seat, r, t, low, high, desk.vaults, tally);
+    let fitted = fit_ends(desk, seat, (r, t), low, high);
     let Err(unopened) = fitted else {
         return Ok((r, t));
     };

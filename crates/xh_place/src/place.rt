@@ -1,12 +1,14 @@
 //! A process's place.
-ghost use Rattle.std.specs.Prelude.{◌≡◌, ◌⊎◌, ◌+◌, ◌*◌, ◌<◌, ◌≤◌, [], length, IfOk, IfErr, false, true};
+ghost use Rattle.std.specs.Prelude.{◌≡◌, ◌⊎◌, ◌+◌, ◌*◌, ◌<◌, ◌≤◌, [], length, Some, IfOk, IfErr, false, true};
 ghost use Rattle.xh_core.specs.declared.status.Status.TheVariants as status;
 ghost use Rattle.xh_core.specs.Refusing.{Tested};
 ghost use Rattle.xh_core.specs.Statuses.{is_over};
 ghost use Rattle.xh_model.specs.declared.limits.TheConstants.{GENERATIONS, MAX_ARENAS};
 ghost use Rattle.xh_model.specs.Words.{generation_of};
 ghost use Rattle.xh_place.specs.Moves.{moves};
-ghost use Rattle.xh_place.specs.Places.{AreBlocks, IsPlaceOf, Lists, found, headers, line, line_in, started, total_of};
+ghost use Rattle.xh_model.specs.Keyed.{keys, value_at};
+ghost use Rattle.xh_place.specs.Messages.{is_listed};
+ghost use Rattle.xh_place.specs.Places.{AreBlocks, IsPlaceOf, Item, Lists, found, header_of, line, line_in, started, total_of};
 ghost use Rattle.xh_place.specs.Starts.{start, stop};
 
 mod blocks;
@@ -15,18 +17,18 @@ mod ends;
 mod messages;
 
 use crate::body::Body;
-use crate::list::entry;
+use crate::lots::{holds, look};
 use std::alloc::Global;
 use std::marker::Model;
 use xh_core::{Glance, Header, PlaceLine, Refused, Status};
 use xh_records::{Records, Seat};
 
-/// A place: the seat that holds the lots of its blocks, their list in the order gained, their total
-/// and how far its process has come.
+/// A place: the seat that holds the lots of its blocks, the numbers of their records in the order
+/// gained, their total and how far its process has come.
 #[derive(Drop)]
 pub struct Place {
     seat: Seat<Body>,
-    list: Vec<(u16, Header)>,
+    list: Vec<u16>,
     total: u64,
     state: Status,
 }
@@ -40,7 +42,7 @@ impl Model for Place {
 
     ghost view = { λ p. record { table = p.seat.table; shape = p.seat.shape; process = p.seat.process; blocks = shown p.seat.lots p.list.items; state = p.state; moved = moves p.seat.done } };
 
-    ghost invariant = { λ p. IsPlace p.seat p.list.items (vec_capacity p.list) p.total p.state };
+    ghost invariant = { λ p. IsPlace p.seat (shown p.seat.lots p.list.items) (vec_capacity p.list) p.total p.state };
 }
 
 // The first test of each call.
@@ -94,9 +96,9 @@ impl Place {
         self.state = Status::Running;
     }
 
-    /// Its blocks, each by its record, with its length and kind, in the order gained.
-    pub fn blocks(&self) -> &[(u16, Header)]
-        ensures list { result.now ≡ headers self.now.blocks }
+    /// The records of its blocks, in the order gained.
+    pub fn blocks(&self) -> &[u16]
+        ensures list { result.now ≡ keys self.now.blocks }
         ensures blocks { AreBlocks self.now.blocks }
         ensures none { is_over self.now.state ≡ true → self.now.blocks ≡ [] }
     {
@@ -125,11 +127,35 @@ impl Place {
         self.state
     }
 
-    // A block's length and kind.
-    fn header(&self, r: u16) -> Option<Header>
-        ensures { result ≡ found self.now r }
+    // Whether the record is one of the list.
+    fn has(&mut self, records: &Records<Body>, r: u16) -> bool
+        requires own { IsPlaceOf records.now self.old }
+        ensures same { self.new ≡ self.old }
+        ensures has { result ≡ is_listed self.old.blocks r }
     {
-        entry(self.list.as_slice(), r)
+        holds(records, &mut self.seat, r)
+    }
+
+    // The length and kind of a block of the list.
+    fn look(&mut self, records: &Records<Body>, r: u16) -> Header
+        requires own { IsPlaceOf records.now self.old }
+        requires listed { (x : Item) × (value_at r self.old.blocks ≡ Some x) }
+        ensures same { self.new ≡ self.old }
+        ensures header { Some result ≡ found self.old r }
+    {
+        look(records, &mut self.seat, r)
+    }
+
+    /// The length and kind of a block of the list; of any other record None.
+    pub fn header(&mut self, records: &Records<Body>, r: u16) -> Option<Header>
+        requires own { IsPlaceOf records.now self.old }
+        ensures same { self.new ≡ self.old }
+        ensures header { result ≡ found self.old r }
+    {
+        if !self.has(records, r) {
+            return None;
+        }
+        Some(self.look(records, r))
     }
 
     fn count(&self) -> usize

@@ -11,15 +11,15 @@ use Rattle.xh_place.specs.Bodies.{content_of, fits_in, front, kind_of, rest}
 use Rattle.xh_place.specs.Moves.{moves}
 use Rattle.xh_place.specs.Places.{IsBlock}
 
--- a seat, of whose events only the passes and accepts count
+-- a seat, of whose events only the passes and accepts count, and not what it has seen of others
 abbrev pub bare : Held Body → Held Body
-bare seat = record seat { done = moves seat.done }
+bare seat = record seat { done = moves seat.done; front = [] }
 
 -- the seat that did these too
 abbrev pub with_done : List Event → Held Body → Held Body
 with_done es seat = record seat { done = seat.done ++ es }
 
--- the seat has these lots now, and passed and accepted nothing, and all else but its other events is as it was
+-- the seat has these lots now, and passed and accepted nothing, and all else but its other events and what it has seen is as it was
 abbrev pub HasNow : Held Body → List (ℕ × LotOf Body) → Held Body → Type 0
 HasNow old lots new = bare new ≡ with_lots (bare old) lots
 

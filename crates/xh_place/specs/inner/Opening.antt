@@ -1,8 +1,8 @@
 -- What the private steps of an open do to a seat.
-use Rattle.std.specs.Prelude.{◌≡◌, ◌≢◌, ℕ, ◌/◌, [], ◌∷◌, ◌++◌}
+use Rattle.std.specs.Prelude.{◌≡◌, ◌≢◌, ℕ, ◌/◌, [], ◌∷◌, ◌++◌, Some}
 use Rattle.xh_arena.specs.Views.{LotOf}
 use Rattle.xh_model.specs.declared.limits.TheConstants.{MAX_RECORDS}
-use Rattle.xh_model.specs.Keyed.{Among, keys}
+use Rattle.xh_model.specs.Keyed.{Among, keys, value_at}
 use Rattle.xh_records.specs.Showing.{IsEmpty, IsLotOf}
 use Rattle.xh_records.specs.Seats.{Held, IsRecord}
 use Rattle.xh_place.specs.declared.body.Body.{Body}
@@ -18,6 +18,14 @@ pub record HasTwoMore (arena : ℕ) (old new : Held Body) (r t : ℕ) (l m : Lot
   pub apart : r ≢ t
   pub first_arena : r / MAX_RECORDS ≡ arena
   pub second_arena : t / MAX_RECORDS ≡ arena
+
+-- it has both, of one arena, and their lots have no bytes
+pub record AreEmpty (seat : Held Body) (r t : ℕ) (l m : LotOf Body) : Type 0 where
+  pub first : (value_at r seat.lots ≡ Some l) × IsRecord seat.shape r × IsLotOf seat.shape r l
+  pub second : (value_at t seat.lots ≡ Some m) × IsRecord seat.shape t × IsLotOf seat.shape t m
+  pub apart : r ≢ t
+  pub near : m.id ≡ l.id
+  pub empty : (l.len ≡ 0) × (m.len ≡ 0)
 
 -- they are empty
 pub record AreClaimed (arena : ℕ) (old new : Held Body) (r t : ℕ) (l m : LotOf Body) : Type 0 where

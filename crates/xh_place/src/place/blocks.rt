@@ -6,12 +6,13 @@ ghost use Rattle.xh_core.specs.Refusing.{Tested, first_refusal};
 ghost use Rattle.xh_core.specs.Space.{rounded};
 ghost use Rattle.xh_model.specs.declared.limits.TheConstants.{MAX_BYTES, MAX_RECORDS, UNIT};
 ghost use Rattle.xh_model.specs.Arena.{IsGoodCut};
-ghost use Rattle.xh_model.specs.Keyed.{value_at, without};
+ghost use Rattle.xh_model.specs.Keyed.{Distinct, keys, value_at, without};
+ghost use Rattle.xh_place.specs.Ending.{HasGivenBack};
 ghost use Rattle.xh_core.specs.declared.header.Kind.TheVariants as kind;
 ghost use Rattle.xh_place.specs.Bodies.{bytes, kind_of};
 ghost use Rattle.xh_place.specs.Calls.{Allocates, Frees, Reads, Splits, Writes};
 ghost use Rattle.xh_place.specs.Desk.{HasVaults, IsAt, IsSameDesk, StaysAt};
-ghost use Rattle.xh_place.specs.Places.{Item, IsPlaceOf, found, with_blocks};
+ghost use Rattle.xh_place.specs.Places.{Item, IsPlaceOf, found, total_of, with_blocks};
 ghost use Rattle.xh_place.specs.Starts.{start};
 ghost use Rattle.xh_place.specs.Tallies.{gave};
 ghost use Rattle.xh_place.specs.Vaults.{IsNoBlock};
@@ -20,7 +21,7 @@ use crate::body::Body;
 use crate::bytes::{read_lot, write_lot};
 use crate::desk::Desk;
 use crate::gate::Gate;
-use crate::list::{remove, replace};
+use crate::list::remove;
 use crate::lots::{cut_block, give_up, make_block};
 use crate::place::{Place, check_start};
 use crate::vaults::Vaults;
@@ -66,43 +67,39 @@ impl Place {
         let arena = arena as u8;
         let len = round_up(n);
         let rec = make_block(alloc, desk, &mut self.seat, len, arena)?;
-        self.list.push_reserved((
-            rec,
-            Header {
-                len,
-                kind: Kind::Data,
-            },
-        ));
+        self.list.push_reserved(rec);
         self.total += u64::from(len);
         Ok(Block { rec, len })
     }
 
     // A block's bytes go back, and its record is free. It answers the bytes.
-    fn give_up<R, V: Vaults, G: Gate>(
+    pub(super) fn give_up<R, V: Vaults, G: Gate>(
         &mut self,
         desk: &mut Desk<'_, R, V, G>,
         r: u16,
-        header: Header,
     ) -> u32
         requires at { IsAt V.names desk.old self.old }
-        requires listed { found self.old r ≡ Some header }
+        requires listed { (x : Item) × (value_at r self.old.blocks ≡ Some x) }
         ensures same { IsSameDesk V.names V.extent desk.old desk.new }
         ensures list { self.new ≡ with_blocks self.old (without r self.old.blocks) }
-        ensures bytes { result ≡ header.len }
-        ensures back { desk.new.tallies.now ≡ gave (r / MAX_RECORDS) result desk.old.tallies.now }
+        ensures once { Distinct (keys self.old.blocks) }
+        ensures bytes { (result ≡ len_in (found self.old r)) × (result + total_of self.new.blocks ≡ total_of self.old.blocks) }
+        ensures back { (desk.new.tallies.now ≡ gave (r / MAX_RECORDS) result desk.old.tallies.now) × HasGivenBack result desk.old.tallies.now desk.new.tallies.now }
     {
         remove(&mut self.list, r);
-        give_up(desk, &mut self.seat, r);
-        self.total -= u64::from(header.len);
-        header.len
+        let len = give_up(desk, &mut self.seat, r);
+        self.total -= u64::from(len);
+        len
     }
 
     // The tests of a call on a data block.
-    fn test_data(&self, r: u16) -> Result<Header, Refused>
-        ensures { Tested (start self.now.state ++ data_tests (found self.now r)) result (λ s. found self.now r ≡ Some s) }
+    fn test_data(&mut self, records: &Records<Body>, r: u16) -> Result<Header, Refused>
+        requires own { IsPlaceOf records.now self.old }
+        ensures same { self.new ≡ self.old }
+        ensures tested { Tested (start self.old.state ++ data_tests (found self.old r)) result (λ s. found self.old r ≡ Some s) }
     {
         check_start(self.state())?;
-        let Some(header) = self.header(r) else {
+        let Some(header) = self.header(records, r) else {
             return Err(Refused::NotOwned);
         };
         if header.kind == Kind::End {
@@ -123,16 +120,24 @@ impl Place {
         ensures untouched { OnErr result (desk.new.vaults.now ≡ desk.old.vaults.now) }
         ensures bytes { Tested (start self.old.state ++ data_tests (found self.old r)) result (λ n. n ≡ len_in (found self.old r)) }
     {
-        let header = self.test_data(r)?;
-        Ok(self.give_up(desk, r, header))
+        self.test_data(desk.records, r)?;
+        Ok(self.give_up(desk, r))
     }
 
     // The tests of a call on `count` bytes of a data block from `at` on.
-    fn test_range(&self, r: u16, at: u32, count: usize) -> Result<(), Refused>
-        ensures { Tested (start self.now.state ++ range_tests (found self.now r) at count) result
-            (λ _. (x : Item) × (value_at r self.now.blocks ≡ Some x) × (kind_of x.content ≡ kind.Data) × (at + count ≤ x.len)) }
+    fn test_range(
+        &mut self,
+        records: &Records<Body>,
+        r: u16,
+        at: u32,
+        count: usize,
+    ) -> Result<(), Refused>
+        requires own { IsPlaceOf records.now self.old }
+        ensures same { self.new ≡ self.old }
+        ensures tested { Tested (start self.old.state ++ range_tests (found self.old r) at count) result
+            (λ _. (x : Item) × (value_at r self.old.blocks ≡ Some x) × (kind_of x.content ≡ kind.Data) × (at + count ≤ x.len)) }
     {
-        let header = self.test_data(r)?;
+        let header = self.test_data(records, r)?;
         let len = header.len as usize;
         if count > len || at as usize > len - count {
             return Err(Refused::BadRange);
@@ -158,21 +163,21 @@ impl Place {
         ensures why { MatchOption (first_refusal (start self.old.state ++ split_tests (found self.old r) k)) (IfErr result (λ e. (e ≡ Refused.NoRecord) ⊎ (e ≡ Refused.OutOfMemory)))
             (λ refused. result ≡ Err refused) }
     {
-        let len = self.test_cut(r, k)?;
+        let len = self.test_cut(desk.records, r, k)?;
         let rec = cut_block(alloc, desk, &mut self.seat, r, k)?;
-        let kind = Kind::Data;
-        replace(&mut self.list, r, Header { len: k, kind });
+        self.list.push_reserved(rec);
         let len = len - k;
-        self.list.push_reserved((rec, Header { len, kind }));
         Ok((Block { rec: r, len: k }, Block { rec, len }))
     }
 
     // The tests of a split: the block's length.
-    fn test_cut(&self, r: u16, k: u32) -> Result<u32, Refused>
-        ensures { Tested (start self.now.state ++ split_tests (found self.now r) k) result
-            (λ n. (x : Item) × (value_at r self.now.blocks ≡ Some x) × (kind_of x.content ≡ kind.Data) × (x.len ≡ n) × IsGoodCut k n) }
+    fn test_cut(&mut self, records: &Records<Body>, r: u16, k: u32) -> Result<u32, Refused>
+        requires own { IsPlaceOf records.now self.old }
+        ensures same { self.new ≡ self.old }
+        ensures tested { Tested (start self.old.state ++ split_tests (found self.old r) k) result
+            (λ n. (x : Item) × (value_at r self.old.blocks ≡ Some x) × (kind_of x.content ≡ kind.Data) × (x.len ≡ n) × IsGoodCut k n) }
     {
-        let header = self.test_data(r)?;
+        let header = self.test_data(records, r)?;
         if k == 0 || k % UNIT != 0 || k >= header.len {
             return Err(Refused::BadCut);
         }
@@ -191,7 +196,7 @@ impl Place {
         requires { IsPlaceOf records.now self.old }
         ensures { Reads r at self.old self.new out.old out.new result }
     {
-        self.test_range(r, at, out.len())?;
+        self.test_range(records, r, at, out.len())?;
         read_lot(records, &mut self.seat, r, at as usize, out);
         Ok(())
     }
@@ -208,7 +213,7 @@ impl Place {
         requires { IsPlaceOf records.now self.old }
         ensures { Writes r at bytes.now self.old self.new result }
     {
-        self.test_range(r, at, bytes.len())?;
+        self.test_range(records, r, at, bytes.len())?;
         write_lot(records, &mut self.seat, r, at as usize, bytes);
         Ok(())
     }

@@ -17,7 +17,6 @@ ghost use Rattle.xh_place.specs.Starts.{stop};
 use crate::desk::Desk;
 use crate::gate::Gate;
 use crate::place::{Place, check_stop};
-use crate::reclaiming::{cut_out, give_up_all, run};
 use crate::vaults::Vaults;
 use std::sync::Wait;
 use xh_core::{Kind, Refused, Status};
@@ -55,13 +54,12 @@ fn ending_again(state: Status, left: u16) -> Status
 }
 
 impl Place {
-    // The block at a place of the list: its record and its kind.
-    fn at(&self, k: usize) -> (u16, Kind)
+    // The record at a place of the list.
+    fn at(&self, k: usize) -> u16
         requires { k < length self.now.blocks }
-        ensures { (x : Item) × (more : List (ℕ × Item)) × (drop k self.now.blocks ≡ (result.0, x) ∷ more) × (value_at result.0 self.now.blocks ≡ Some x) × (result.1 ≡ kind_of x.content) }
+        ensures { (x : Item) × (more : List (ℕ × Item)) × (drop k self.now.blocks ≡ (result, x) ∷ more) × (value_at result self.now.blocks ≡ Some x) }
     {
-        let (r, header) = self.list[k];
-        (r, header.kind)
+        self.list[k]
     }
 
     // How many blocks the list has from a place on. A place that is over has none.
@@ -80,52 +78,24 @@ impl Place {
         self.state = state;
     }
 
-    // The block at `from` of the list is given up, and the data blocks after it, at most so many. It answers the bytes and how many they were.
-    fn give_up_run<R, V: Vaults, G: Gate>(
-        &mut self,
-        desk: &mut Desk<'_, R, V, G>,
-        from: usize,
-        most: u16,
-    ) -> (u64, u16)
-        requires at { IsAt V.names desk.old self.old }
-        requires alive { is_over self.old.state ≢ true }
-        requires some { (from < length self.old.blocks) × (0 < most) }
-        ensures same { IsSameDesk V.names V.extent desk.old desk.new }
-        ensures count { (0 < result.1) × (result.1 ≤ most) × (from + result.1 ≤ length self.old.blocks) }
-        ensures list { self.new ≡ with_blocks self.old (take from self.old.blocks ++ drop (from + result.1) self.old.blocks) }
-        ensures bytes { (result.0 + total_of self.new.blocks ≡ total_of self.old.blocks) × (result.0 ≤ result.1 * 4294967295) }
-        ensures back { HasGivenBack result.0 desk.old.tallies.now desk.new.tallies.now }
-    {
-        let list = self.list.as_slice();
-        let count = run(list, from, most);
-        let end = from + usize::from(count);
-        let blocks = &list[from..end];
-        let bytes = give_up_all(desk, &mut self.seat, blocks);
-        cut_out(&mut self.list, from, end);
-        self.total -= bytes;
-        (bytes, count)
-    }
-
-    // The block at `from` of the list goes, and the data blocks after it, at most so many. What waits for
-    // it, where it is an endpoint, comes to the end of the list. It answers the bytes and how many blocks went.
+    // The block at `from` of the list goes. What waits for it, where it is an endpoint, comes to the end of
+    // the list. It answers the bytes.
     fn reclaim<R: Wait, V: Vaults, G: Gate>(
         &mut self,
         desk: &mut Desk<'_, R, V, G>,
         from: usize,
-        most: u16,
-    ) -> (u64, u16)
+    ) -> u32
         requires at { IsAt V.names desk.old self.old }
         requires alive { is_over self.old.state ≢ true }
-        requires some { (from < length self.old.blocks) × (0 < most) }
+        requires some { from < length self.old.blocks }
         ensures same { IsSameDesk V.names V.extent desk.old desk.new }
-        ensures count { (0 < result.1) × (result.1 ≤ most) × (result.0 ≤ result.1 * 4294967295) }
         ensures list { self.new ≡ with_list self.old self.new }
-        ensures swept { IsSweptBy from result.1 self.old self.new result.0 }
-        ensures back { HasGivenBack result.0 desk.old.tallies.now desk.new.tallies.now }
+        ensures swept { IsSweptBy from 1 self.old self.new result }
+        ensures back { HasGivenBack result desk.old.tallies.now desk.new.tallies.now }
     {
-        let (r, kind) = self.at(from);
-        self.drain_end(desk, r, kind);
-        self.give_up_run(desk, from, most)
+        let r = self.at(from);
+        self.drain_end(desk, r);
+        self.give_up(desk, r)
     }
 
     /// The blocks of the list from `from` on go, as far as the budget goes; what waits for an endpoint
@@ -146,10 +116,8 @@ impl Place {
         let mut bytes = 0;
         let mut used = 0;
         while used < budget && self.left(from) > 0 {
-            let most = budget - used;
-            let (more, count) = self.reclaim(desk, from, most);
-            bytes += more;
-            used += count;
+            bytes += u64::from(self.reclaim(desk, from));
+            used += 1;
         }
         (bytes, usize::from(self.left(from)))
     }
@@ -185,7 +153,8 @@ impl Place {
         requires taken { self.old.state ≢ status.Vacant }
         ensures same { IsSameDesk V.names V.extent desk.old desk.new }
         ensures place { IsSamePlace self.old self.new }
-        ensures swept { ((self.new ≡ self.old) × (desk.new.tallies.now ≡ desk.old.tallies.now)) ⊎ ((bytes : ℕ) × IsTooLate direction r self.old self.new bytes × HasGivenBack bytes desk.old.tallies.now desk.new.tallies.now) }
+        ensures swept { ((self.new ≡ self.old) × (desk.new.tallies.now ≡ desk.old.tallies.now))
+            ⊎ ((bytes : ℕ) × IsTooLate direction r self.old self.new bytes × HasGivenBack bytes desk.old.tallies.now desk.new.tallies.now) }
     {
         let state = self.state();
         self.wake();
@@ -215,7 +184,8 @@ impl Place {
         requires alive { is_over self.old.state ≢ true }
         ensures same { IsSameDesk V.names V.extent desk.old desk.new }
         ensures place { IsSamePlace self.old self.new }
-        ensures swept { ((self.new ≡ self.old) × (desk.new.tallies.now ≡ desk.old.tallies.now)) ⊎ ((bytes : ℕ) × IsSweptLate direction r self.old self.new bytes × HasGivenBack bytes desk.old.tallies.now desk.new.tallies.now) }
+        ensures swept { ((self.new ≡ self.old) × (desk.new.tallies.now ≡ desk.old.tallies.now))
+            ⊎ ((bytes : ℕ) × IsSweptLate direction r self.old self.new bytes × HasGivenBack bytes desk.old.tallies.now desk.new.tallies.now) }
     {
         let from = self.count();
         let Ok(_block) = self.accept(desk.records, r, direction) else {

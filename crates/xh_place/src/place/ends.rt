@@ -22,8 +22,8 @@ use crate::body::Body;
 use crate::desk::Desk;
 use crate::endpoints::{shut_at, spot_at};
 use crate::gate::{Gate, Point};
-use crate::list::{entry, remove};
-use crate::lots::place_of;
+use crate::list::remove;
+use crate::lots::{pass_block, place_of};
 use crate::opening::{Unopened, make_ends};
 use crate::place::ending::reclaimed;
 use crate::place::{Place, check_start};
@@ -36,12 +36,14 @@ use xh_records::Records;
 
 impl Place {
     // The tests of a call on an endpoint.
-    pub(super) fn test_end(&self, e: u16) -> Result<(), Refused>
-        ensures { Tested (start self.now.state ++ end_tests (found self.now e)) result
-            (λ _. (self.now.state ≡ status.Running) × ((x : Item) × (value_at e self.now.blocks ≡ Some x) × (kind_of x.content ≡ kind.End))) }
+    pub(super) fn test_end(&mut self, records: &Records<Body>, e: u16) -> Result<(), Refused>
+        requires own { IsPlaceOf records.now self.old }
+        ensures same { self.new ≡ self.old }
+        ensures tested { Tested (start self.old.state ++ end_tests (found self.old e)) result
+            (λ _. (self.old.state ≡ status.Running) × ((x : Item) × (value_at e self.old.blocks ≡ Some x) × (kind_of x.content ≡ kind.End))) }
     {
         check_start(self.state())?;
-        let Some(header) = self.header(e) else {
+        let Some(header) = self.header(records, e) else {
             return Err(Refused::NotOwned);
         };
         if header.kind == Kind::Data {
@@ -61,7 +63,7 @@ impl Place {
                 kind: Kind::End,
                 ..
             },
-        ) = self.header(r)
+        ) = self.header(records, r)
         else {
             return None;
         };
@@ -103,12 +105,8 @@ impl Place {
         }
         let arena = arena as u8;
         let made = make_ends(desk, &mut self.seat, low, high, arena)?;
-        let header = Header {
-            len: END_BYTES,
-            kind: Kind::End,
-        };
-        self.list.push_reserved((made.0, header));
-        self.list.push_reserved((made.1, header));
+        self.list.push_reserved(made.0);
+        self.list.push_reserved(made.1);
         self.total += u64::from(2 * END_BYTES);
         let len = END_BYTES;
         Ok((Block { rec: made.0, len }, Block { rec: made.1, len }))
@@ -148,10 +146,7 @@ impl Place {
         requires listed { (x : Item) × (value_at r self.old.blocks ≡ Some x) }
         ensures { self.new ≡ with_less direction r self.old }
     {
-        let Some(Header { len, .. }) = entry(self.list.as_slice(), r) else {
-            unreachable!()
-        };
-        records.pass(&mut self.seat, r, direction);
+        let len = pass_block(records, &mut self.seat, r, direction);
         remove(&mut self.list, r);
         self.total -= u64::from(len);
     }
@@ -202,7 +197,7 @@ impl Place {
         ensures closed { RefusedOr (start self.old.state ++ end_tests (found self.old e)) result ((self.new ≡ self.old) × (desk.new.tallies.now ≡ desk.old.tallies.now))
             ((bytes : ℕ) × IsClosed e self.old self.new bytes result × HasGivenBack bytes desk.old.tallies.now desk.new.tallies.now) }
     {
-        self.test_end(e)?;
+        self.test_end(desk.records, e)?;
         self.move_last(e);
         let from = self.count() - 1;
         let (bytes, _left) = self.sweep(desk, from, MAX_BUDGET);
@@ -214,11 +209,8 @@ impl Place {
         requires { (x : Item) × (value_at r self.old.blocks ≡ Some x) }
         ensures { self.new ≡ with_blocks self.old (last r self.old.blocks) }
     {
-        let Some(header) = entry(self.list.as_slice(), r) else {
-            unreachable!()
-        };
         remove(&mut self.list, r);
-        self.list.push_reserved((r, header));
+        self.list.push_reserved(r);
     }
 
     // Shuts an endpoint of the list.
@@ -245,18 +237,13 @@ impl Place {
     }
 
     // An endpoint is shut, and what waits for it comes to the end of the list. A data block stays.
-    pub(super) fn drain_end<R: Wait, V, G: Gate>(
-        &mut self,
-        desk: &Desk<'_, R, V, G>,
-        r: u16,
-        kind: Kind,
-    )
+    pub(super) fn drain_end<R: Wait, V, G: Gate>(&mut self, desk: &Desk<'_, R, V, G>, r: u16)
         requires own { IsPlaceOf desk.now.records.now self.old }
         requires alive { is_over self.old.state ≢ true }
-        requires block { (x : Item) × (value_at r self.old.blocks ≡ Some x) × (kind ≡ kind_of x.content) }
+        requires listed { (x : Item) × (value_at r self.old.blocks ≡ Some x) }
         ensures { (ys : List (ℕ × Item)) × (self.new ≡ with_more (toward_in (value_at r self.old.blocks)) ys self.old) × (has_end (found self.old r) ≡ false → ys ≡ []) }
     {
-        if kind == Kind::Data {
+        if self.look(desk.records, r).kind == Kind::Data {
             return;
         }
         self.shut(desk, r);

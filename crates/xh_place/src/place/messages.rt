@@ -23,7 +23,7 @@ use crate::endpoints::take_at;
 use crate::gate::{Gate, Point};
 use crate::giving::{Given, answer, give_all};
 use crate::got::{Got, Taken};
-use crate::list::{settle, sum};
+use crate::list::settle;
 use crate::lots::{accept_block, place_of};
 use crate::place::Place;
 use arrayvec::ArrayVec;
@@ -47,17 +47,19 @@ impl Place {
         ensures given { RefusedOr (start self.old.state ++ end_tests (found self.old e) ++ given_tests (is_listed self.old.blocks) e blocks.now) result (self.new ≡ self.old)
             (IsSent (away_in (value_at e self.old.blocks)) blocks.now self.old self.new result) }
     {
-        self.test_end(e)?;
-        let given = self.test_given(e, blocks)?;
+        self.test_end(desk.records, e)?;
+        let given = self.test_given(desk.records, e, blocks)?;
         self.send(desk, e, tag, &given)
     }
 
     // Whether each of the records is one of the list.
-    fn lists_all(&self, blocks: &[u16]) -> bool
-        ensures { result ≡ list_all (is_listed self.now.blocks) blocks.now }
+    fn lists_all(&mut self, records: &Records<Body>, blocks: &[u16]) -> bool
+        requires own { IsPlaceOf records.now self.old }
+        ensures same { self.new ≡ self.old }
+        ensures all { result ≡ list_all (is_listed self.old.blocks) blocks.now }
     {
         for r in blocks {
-            if self.header(*r).is_none() {
+            if !self.has(records, *r) {
                 return false;
             }
         }
@@ -65,14 +67,21 @@ impl Place {
     }
 
     // The tests of a give on its blocks.
-    fn test_given(&self, e: u16, blocks: &[u16]) -> Result<ArrayVec<u16, 8>, Refused>
-        ensures { Tested (given_tests (is_listed self.now.blocks) e blocks.now) result (λ given. given.items ≡ blocks.now) }
+    fn test_given(
+        &mut self,
+        records: &Records<Body>,
+        e: u16,
+        blocks: &[u16],
+    ) -> Result<ArrayVec<u16, 8>, Refused>
+        requires own { IsPlaceOf records.now self.old }
+        ensures same { self.new ≡ self.old }
+        ensures tested { Tested (given_tests (is_listed self.old.blocks) e blocks.now) result (λ given. given.items ≡ blocks.now) }
     {
         let mut given = ArrayVec::new();
         let Ok(()) = given.try_extend_from_slice(blocks) else {
             return Err(Refused::TooMany);
         };
-        if !self.lists_all(blocks) {
+        if !self.lists_all(records, blocks) {
             return Err(Refused::NotOwned);
         }
         if blocks.contains(&e) || is_twice(blocks) {
@@ -97,10 +106,15 @@ impl Place {
         ensures place { IsSamePlace self.old self.new }
         ensures sent { IsSent (away_in (value_at e self.old.blocks)) given.now.items self.old self.new result }
     {
-        let Given { put, back } = give_all(desk, &mut self.seat, e, tag, given);
+        let Given {
+            put,
+            back,
+            lost,
+            gained,
+        } = give_all(desk, &mut self.seat, e, tag, given);
         settle(&mut self.list, given.as_slice(), back.as_slice());
-        self.total = sum(self.list.as_slice());
-        answer(put, &back)
+        self.total = self.total - lost + gained;
+        answer(put, back)
     }
 
     /// Takes the message at the front of the direction toward the endpoint `e`. Its blocks come to the end of the list.
@@ -115,7 +129,7 @@ impl Place {
         ensures taken { RefusedOr (start self.old.state ++ end_tests (found self.old e)) result (self.new ≡ self.old)
             (MatchResult result (IsTaken (toward_in (value_at e self.old.blocks)) self.old self.new) (λ refused. IsUntaken refused × (self.new ≡ self.old))) }
     {
-        self.test_end(e)?;
+        self.test_end(desk.records, e)?;
         self.take_message(desk, e)
     }
 
@@ -170,7 +184,7 @@ impl Place {
     {
         let header = accept_block(records, &mut self.seat, r, direction)?;
         let Header { len, .. } = header;
-        self.list.push_reserved((r, header));
+        self.list.push_reserved(r);
         self.total += u64::from(len);
         Ok(Block { rec: r, len })
     }

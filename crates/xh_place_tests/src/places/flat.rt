@@ -1,9 +1,8 @@
 //! Calls of a place, with what lies on its desk one by one.
-ghost use Rattle.std.specs.Prelude.{◌≡◌, ◌<◌, map, true};
+ghost use Rattle.std.specs.Prelude.{◌≡◌, ◌<◌, true};
 ghost use Rattle.xh_channel.specs.Pairs.{IsPair};
 ghost use Rattle.xh_model.specs.declared.limits.TheConstants.{DIRECTIONS};
-ghost use Rattle.xh_place.specs.Places.{IsPlaceOf, IsSamePlace};
-ghost use Rattle.xh_place.specs.Tallies.{ids_of};
+ghost use Rattle.xh_place_tests.specs.Flat.{IsAt, StaysAt};
 ghost use Rattle.xh_records.specs.Seats.{IsRecord};
 
 use super::vaults::Plain;
@@ -26,11 +25,8 @@ pub(super) fn alloc<G: Gate>(
     n: u32,
     arena: u32,
 ) -> Result<Block, Refused>
-    requires own { IsPlaceOf records.now place.old }
-    requires names { (map (λ v. v.id) vaults.old.vaults.items ≡ place.old.shape.names) × (ids_of tallies.old ≡ place.old.shape.names) }
-    ensures place { IsSamePlace place.old place.new }
-    ensures names { map (λ v. v.id) vaults.new.vaults.items ≡ map (λ v. v.id) vaults.old.vaults.items }
-    ensures ids { ids_of tallies.new ≡ ids_of tallies.old }
+    requires at { IsAt records.now vaults.old.vaults.items tallies.old place.old }
+    ensures { StaysAt vaults.old.vaults.items vaults.new.vaults.items tallies.old tallies.new place.old place.new }
 {
     let mut desk = Desk {
         rt: &(),
@@ -52,11 +48,8 @@ pub(super) fn free<G: Gate>(
     gate: &G,
     r: u16,
 ) -> Result<u32, Refused>
-    requires own { IsPlaceOf records.now place.old }
-    requires names { (map (λ v. v.id) vaults.old.vaults.items ≡ place.old.shape.names) × (ids_of tallies.old ≡ place.old.shape.names) }
-    ensures place { IsSamePlace place.old place.new }
-    ensures names { map (λ v. v.id) vaults.new.vaults.items ≡ map (λ v. v.id) vaults.old.vaults.items }
-    ensures ids { ids_of tallies.new ≡ ids_of tallies.old }
+    requires at { IsAt records.now vaults.old.vaults.items tallies.old place.old }
+    ensures { StaysAt vaults.old.vaults.items vaults.new.vaults.items tallies.old tallies.new place.old place.new }
 {
     let mut desk = Desk {
         rt: &(),
@@ -79,12 +72,9 @@ pub(super) fn open<G: Gate>(
     low: Endpoint,
     high: Endpoint,
 ) -> Result<(Block, Block), Unopened>
-    requires own { IsPlaceOf records.now place.old }
-    requires names { (map (λ v. v.id) vaults.old.vaults.items ≡ place.old.shape.names) × (ids_of tallies.old ≡ place.old.shape.names) }
+    requires at { IsAt records.now vaults.old.vaults.items tallies.old place.old }
     requires fresh { IsPair low high }
-    ensures place { IsSamePlace place.old place.new }
-    ensures names { map (λ v. v.id) vaults.new.vaults.items ≡ map (λ v. v.id) vaults.old.vaults.items }
-    ensures ids { ids_of tallies.new ≡ ids_of tallies.old }
+    ensures { StaysAt vaults.old.vaults.items vaults.new.vaults.items tallies.old tallies.new place.old place.new }
 {
     let mut desk = Desk {
         rt: &(),
@@ -107,12 +97,9 @@ pub(super) fn open_with<G: Gate>(
     low: Endpoint,
     high: Endpoint,
 ) -> Result<(Block, Block), Unopened>
-    requires own { IsPlaceOf records.now place.old }
-    requires names { (map (λ v. v.id) vaults.old.vaults.items ≡ place.old.shape.names) × (ids_of tallies.old ≡ place.old.shape.names) }
+    requires at { IsAt records.now vaults.old.vaults.items tallies.old place.old }
     requires fresh { IsPair low high × (low.has_contract ≡ true) }
-    ensures place { IsSamePlace place.old place.new }
-    ensures names { map (λ v. v.id) vaults.new.vaults.items ≡ map (λ v. v.id) vaults.old.vaults.items }
-    ensures ids { ids_of tallies.new ≡ ids_of tallies.old }
+    ensures { StaysAt vaults.old.vaults.items vaults.new.vaults.items tallies.old tallies.new place.old place.new }
 {
     let mut desk = Desk {
         rt: &(),
@@ -137,11 +124,9 @@ pub(super) fn accept_end<R: Wait, G: Gate>(
     e: u16,
     direction: u8,
 ) -> Result<Block, Refused>
-    requires own { IsPlaceOf records.now place.old × IsRecord records.now.shape e × (direction < DIRECTIONS) }
-    requires names { (map (λ v. v.id) vaults.old.vaults.items ≡ place.old.shape.names) × (ids_of tallies.old ≡ place.old.shape.names) }
-    ensures place { IsSamePlace place.old place.new }
-    ensures names { map (λ v. v.id) vaults.new.vaults.items ≡ map (λ v. v.id) vaults.old.vaults.items }
-    ensures ids { ids_of tallies.new ≡ ids_of tallies.old }
+    requires at { IsAt records.now vaults.old.vaults.items tallies.old place.old }
+    requires end { IsRecord records.now.shape e × (direction < DIRECTIONS) }
+    ensures { StaysAt vaults.old.vaults.items vaults.new.vaults.items tallies.old tallies.new place.old place.new }
 {
     let mut desk = Desk {
         rt,
@@ -164,11 +149,8 @@ pub(super) fn close_end<R: Wait, G: Gate>(
     gate: &G,
     e: u16,
 ) -> Result<u64, Refused>
-    requires own { IsPlaceOf records.now place.old }
-    requires names { (map (λ v. v.id) vaults.old.vaults.items ≡ place.old.shape.names) × (ids_of tallies.old ≡ place.old.shape.names) }
-    ensures place { IsSamePlace place.old place.new }
-    ensures names { map (λ v. v.id) vaults.new.vaults.items ≡ map (λ v. v.id) vaults.old.vaults.items }
-    ensures ids { ids_of tallies.new ≡ ids_of tallies.old }
+    requires at { IsAt records.now vaults.old.vaults.items tallies.old place.old }
+    ensures { StaysAt vaults.old.vaults.items vaults.new.vaults.items tallies.old tallies.new place.old place.new }
 {
     let mut desk = Desk {
         rt,
@@ -191,11 +173,8 @@ pub(super) fn stop<R: Wait, G: Gate>(
     gate: &G,
     budget: u16,
 ) -> Result<u64, Refused>
-    requires own { IsPlaceOf records.now place.old }
-    requires names { (map (λ v. v.id) vaults.old.vaults.items ≡ place.old.shape.names) × (ids_of tallies.old ≡ place.old.shape.names) }
-    ensures place { IsSamePlace place.old place.new }
-    ensures names { map (λ v. v.id) vaults.new.vaults.items ≡ map (λ v. v.id) vaults.old.vaults.items }
-    ensures ids { ids_of tallies.new ≡ ids_of tallies.old }
+    requires at { IsAt records.now vaults.old.vaults.items tallies.old place.old }
+    ensures { StaysAt vaults.old.vaults.items vaults.new.vaults.items tallies.old tallies.new place.old place.new }
 {
     let mut desk = Desk {
         rt,

@@ -1,17 +1,34 @@
-use Rattle.std.proofs.Common.{arith, ⊎_elim, sym, ℕ, ◌<◌, ◌+◌, subst, length, drop, get_or, List, ◌∷◌}
-use Rattle.xh_model.specs.Keyed.{Among}
-use Rattle.xh_place.proofs.Givens.{next_one, among_get, IsAccepting, accepting}
+use Rattle.std.proofs.Common.{arith, rules, ◌≡◌, sym, ap, ◌∙◌, ℕ, ◌<◌, ◌+◌, subst, length, drop, get_or, List, [], ◌∷◌}
+use Rattle.xh_place.proofs.Givens.{next_one, accepting_none, IsAccepting, accepting, one_longer}
+use Rattle.xh_records.specs.Seats.{Held}
+use Rattle.xh_place.specs.declared.body.Body.{Body}
+use Rattle.xh_place.specs.inner.Lists.{CameBack}
+use Rattle.xh_place.proofs.Listing.{among_get}
 use Rattle.xh_place.proofs.giving.accept_back.Goals as goal
+
+pub loop-k-init : goal.loop-k-init
+loop-k-init c =
+    let new : c.new-back.result.items ≡ [] = search rules in
+    (accepting_none c.args.direction c.args.given.now c.args.seat.now c.new-back.result.items new c.requires.gone c.requires.distinct, omega (arith, ap length new), omega arith)
+
+pub accept_into-requires-clause-own : goal.accept_into-requires-clause-own
+accept_into-requires-clause-own c =
+    let is = c.loop-k.invariant.0.0 in let inside : c.loop-k.k < length c.args.given.now = omega (arith, c.loop-k-test.true) in (
+      (ap (λ (h : Held Body). h.table) is ∙ c.requires.own.0.0, ap (λ (h : Held Body). h.shape) is ∙ c.requires.own.0.1),
+      c.requires.records (get_or c.args.given.now c.loop-k.k 0) (among_get c.loop-k.k c.args.given.now 0 inside),
+      c.requires.own.1,
+    )
 
 pub loop-k-preserved : goal.loop-k-preserved
 loop-k-preserved c =
-    let inside : c.loop-k.k < length c.args.given.now = omega (arith, c.loop-k-test.true) in
-    let r : ℕ = get_or c.args.given.now c.loop-k.k 0 in
-    let is : IsAccepting c.args.direction c.args.given.now (r ∷ drop (c.loop-k.k + 1) c.args.given.now) c.args.seat.now c.loop-k.seat c.loop-k.back.items =
-    subst (λ (l : List ℕ). IsAccepting c.args.direction c.args.given.now l c.args.seat.now c.loop-k.seat c.loop-k.back.items) (next_one c.loop-k.k c.args.given.now 0 inside) c.loop-k.invariant.0 in
-    let a = c.accept_into.ensures in (
-      accepting c.args.direction c.args.given.now (drop (c.loop-k.k + 1) c.args.given.now) r c.args.seat.now c.loop-k.seat c.accept_into.new.seat c.loop-k.back.items c.accept_into.new.back.items
-          (among_get c.loop-k.k c.args.given.now 0 inside) is a.came a.here a.good a.others,
-      omega (arith, a.long, c.loop-k.invariant.1),
-      (λ q h. ⊎_elim (λ b. c.loop-k.invariant.2 q b) (λ e. subst (λ (z : ℕ). Among c.args.given.now z) (sym e) (among_get c.loop-k.k c.args.given.now 0 inside)) (a.only q h)),
+    let given = c.args.given.now in let k : ℕ = c.loop-k.k in let d : ℕ = c.args.direction in
+    let inside : k < length given = omega (arith, c.loop-k-test.true) in
+    let r : ℕ = get_or given k 0 in
+    let is : IsAccepting d given (r ∷ drop (k + 1) given) c.args.seat.now c.loop-k.seat c.loop-k.back.items c.loop-k.bytes =
+    subst (λ (l : List ℕ). IsAccepting d given l c.args.seat.now c.loop-k.seat c.loop-k.back.items c.loop-k.bytes) (next_one k given 0 inside) c.loop-k.invariant.0 in
+    let came = subst (λ (n : ℕ). CameBack d r c.loop-k.seat c.accept_into.new.seat c.loop-k.back.items c.accept_into.new.back.items n) (sym c.from-bytes.ensures) c.accept_into.ensures in (
+      accepting d given (drop (k + 1) given) r c.loop-k.bytes c.from-bytes.result c.args.seat.now c.loop-k.seat c.accept_into.new.seat c.loop-k.back.items c.accept_into.new.back.items c.requires.distinct
+          (among_get k given 0 inside) is came,
+      one_longer d r c.from-bytes.result c.loop-k.seat c.accept_into.new.seat c.loop-k.back.items c.accept_into.new.back.items came k c.loop-k.invariant.1,
+      omega (arith, c.loop-k.invariant.2, c.from-bytes.ensures),
     )

@@ -1,23 +1,34 @@
-use Rattle.std.proofs.Common.{◌≡◌, ℕ, List, ◌++◌, sym, ap, subst}
+use Rattle.std.proofs.Common.{◌≡◌, ℕ, List, [], ◌++◌, rules, sym, ap, ◌∙◌, subst}
+use Rattle.xh_place.proofs.Givens.{back_none}
 use Rattle.xh_model.specs.declared.event.Event.{Event}
-use Rattle.xh_model.specs.Keyed.{Among, keys, value_at}
+use Rattle.xh_model.specs.Keyed.{value_at}
 use Rattle.xh_records.specs.Seats.{Held}
 use Rattle.xh_place.specs.declared.body.Body.{Body}
 use Rattle.xh_place.specs.Bodies.{away}
 use Rattle.xh_place.specs.Moves.{accepted_on, passed_on, there_and_back}
 use Rattle.xh_place.specs.inner.Lots.{HasNow, with_done}
-use Rattle.xh_place.specs.Places.{IsBlock, item_in}
+use Rattle.xh_place.specs.Places.{item_in}
+use Rattle.xh_place.specs.inner.Lists.{AreBack, lens}
+use Rattle.xh_place.proofs.Listing.{lens_none}
 use Rattle.xh_place.proofs.Moves.{moved_twice}
 use Rattle.xh_place.proofs.giving.give_all.Goals as goal
 
-pub returns-clause-good : goal.returns-clause-good
-returns-clause-good g c = λ r l a at. subst (λ s. IsBlock s r l) (ap (λ (h : Held Body). h.shape) c.post-put.ensures.passed)
-    (c.accept_back-back.ensures.good r l (subst (λ (z : List ℕ). Among z r) (sym c.as_slice.ensures.value) a) at)
+pub returns-in_default-clause-back : goal.returns-in_default-clause-back
+returns-in_default-clause-back g c = let new : c.new.result.items ≡ [] = search rules in back_none c.args.given.now.items c.post-put.new.seat c.new.result.items new c.post-put.ensures.gone
+
+pub returns-in_default-clause-gained : goal.returns-in_default-clause-gained
+returns-in_default-clause-gained g c = sym (lens_none c.args.given.now.items (λ r. value_at r c.post-put.new.seat.lots) c.post-put.ensures.gone)
+
+pub returns-clause-back : goal.returns-clause-back
+returns-clause-back g c = subst (λ (z : List ℕ). AreBack z c.accept_back-back.result.0.items c.accept_back-back.new.seat) c.as_slice.ensures.value c.accept_back-back.ensures.back
+
+pub returns-clause-gained : goal.returns-clause-gained
+returns-clause-gained g c = c.accept_back-back.ensures.bytes ∙ ap (λ (z : List ℕ). lens z (λ r. value_at r c.accept_back-back.new.seat.lots)) c.as_slice.ensures.value
 
 pub returns-clause-moved : goal.returns-clause-moved
 returns-clause-moved g c =
     let seat = c.args.seat.now in let mid = c.post-put.new.seat in let last = c.accept_back-back.new.seat in
-    let given : List ℕ = c.args.given.now.items in let rs : List ℕ = keys c.accept_back-back.result.items in
+    let given : List ℕ = c.args.given.now.items in let rs : List ℕ = c.accept_back-back.result.0.items in
     let whose : mid.process ≡ seat.process = ap (λ (h : Held Body). h.process) c.post-put.ensures.passed in
     let d : ℕ = c.post-put.result.1 in
     let log : passed_on seat.process d given ++ accepted_on mid.process d rs ≡ there_and_back seat.process (away (item_in (value_at c.args.e seat.lots)).content) given rs =

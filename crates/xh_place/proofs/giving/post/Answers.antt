@@ -9,7 +9,8 @@ use Rattle.xh_place.specs.Moves.{passed_on}
 use Rattle.xh_place.specs.inner.Lots.{bare, with_done}
 use Rattle.xh_place.specs.declared.body.Body.{Body}
 use Rattle.xh_place.specs.Bodies.{away, spot}
-use Rattle.xh_place.specs.Places.{item_in, item_of}
+use Rattle.xh_place.specs.Places.{IsBlock, item_in, item_of}
+use Rattle.xh_place.specs.inner.Lists.{lens}
 use Rattle.xh_place.proofs.Ends.{still_block}
 use Rattle.xh_place.proofs.Found.{unmoved}
 use Rattle.xh_place.proofs.giving.post.Goals as goal
@@ -20,24 +21,24 @@ spot_at-spot-requires-clause-own g c = (c.requires.own, subst (λ s. IsRecord s 
 pub spot_at-spot-requires-clause-held : goal.spot_at-spot-requires-clause-held
 spot_at-spot-requires-clause-held g c = let q = c.requires.end in (q.0, q.1, q.2.lot, q.3)
 
-pub pass_all-requires-clause-own : goal.pass_all-requires-clause-own
-pass_all-requires-clause-own g c =
+pub pass_all-bytes-requires-clause-own : goal.pass_all-bytes-requires-clause-own
+pass_all-bytes-requires-clause-own g c =
     let q = c.requires.end in let lots = c.args.seat.now.lots in let own = c.requires.own in
     let s = c.spot_at-spot.ensures.seat q.0 q.1 in let same = unmoved c.args.seat.now c.spot_at-spot.new.seat c.args.e q.0 q.1 s.1 in
     ((ap (λ (h : Held Body). h.table) same ∙ own.0, ap (λ (h : Held Body). h.shape) same ∙ own.1), omega (arith, c.spot_at-spot.ensures.small.0, c.spot_at-spot.ensures.small.1))
 
-pub pass_all-requires-clause-held : goal.pass_all-requires-clause-held
-pass_all-requires-clause-held g c =
+pub pass_all-bytes-requires-clause-held : goal.pass_all-bytes-requires-clause-held
+pass_all-bytes-requires-clause-held g c =
     let q = c.requires.end in let lots = c.args.seat.now.lots in let own = c.requires.own in
     let s = c.spot_at-spot.ensures.seat q.0 q.1 in let same = unmoved c.args.seat.now c.spot_at-spot.new.seat c.args.e q.0 q.1 s.1 in
     λ r a. let here : Among c.args.given.now.items r = subst (λ (l : List ℕ). Among l r) c.as_slice.ensures.value a in let h = c.requires.held r here in
-    (subst (λ s. IsRecord s r) own.1 h.2.exists, (h.0, ap (λ (z : Held Body). value_at r z.lots) same ∙ h.1, h.2.full))
+    (h.0, ap (λ (z : Held Body). value_at r z.lots) same ∙ h.1, subst (λ s. IsBlock s r h.0) (sym (ap (λ (z : Held Body). z.shape) same)) h.2)
 
 pub put_at-put-requires-clause-own : goal.put_at-put-requires-clause-own
 put_at-put-requires-clause-own g c =
     let q = c.requires.end in let lots = c.args.seat.now.lots in let own = c.requires.own in
     let s = c.spot_at-spot.ensures.seat q.0 q.1 in let same = unmoved c.args.seat.now c.spot_at-spot.new.seat c.args.e q.0 q.1 s.1 in
-    let passed = c.pass_all.ensures.passed in (
+    let passed = c.pass_all-bytes.ensures.passed in (
       (ap (λ (h : Held Body). h.table) passed ∙ ap (λ (h : Held Body). h.table) same ∙ own.0, ap (λ (h : Held Body). h.shape) passed ∙ ap (λ (h : Held Body). h.shape) same ∙ own.1),
       subst (λ s. IsRecord s c.args.e) own.1 q.2.exists,
     )
@@ -46,10 +47,10 @@ pub put_at-put-requires-clause-held : goal.put_at-put-requires-clause-held
 put_at-put-requires-clause-held g c =
     let q = c.requires.end in let lots = c.args.seat.now.lots in let own = c.requires.own in
     let s = c.spot_at-spot.ensures.seat q.0 q.1 in let same = unmoved c.args.seat.now c.spot_at-spot.new.seat c.args.e q.0 q.1 s.1 in
-    let at : value_at c.args.e c.pass_all.new.seat.lots ≡ Some q.0 =
-    c.pass_all.ensures.others c.args.e (λ a. c.requires.distinct.1 (subst (λ (l : List ℕ). Among l c.args.e) c.as_slice.ensures.value a))
+    let at : value_at c.args.e c.pass_all-bytes.new.seat.lots ≡ Some q.0 =
+    c.pass_all-bytes.ensures.others c.args.e (λ a. c.requires.distinct.1 (subst (λ (l : List ℕ). Among l c.args.e) c.as_slice.ensures.value a))
     ∙ ap (λ (h : Held Body). value_at c.args.e h.lots) same ∙ q.1 in
-    (q.0, at, subst (λ s. IsLotOf s c.args.e q.0) (sym (ap (λ (h : Held Body). h.shape) c.pass_all.ensures.passed ∙ ap (λ (h : Held Body). h.shape) same)) q.2.lot, q.3)
+    (q.0, at, subst (λ s. IsLotOf s c.args.e q.0) (sym (ap (λ (h : Held Body). h.shape) c.pass_all-bytes.ensures.passed ∙ ap (λ (h : Held Body). h.shape) same)) q.2.lot, q.3)
 
 pub returns-clause-direction : goal.returns-clause-direction
 returns-clause-direction g c =
@@ -62,29 +63,29 @@ pub returns-clause-passed : goal.returns-clause-passed
 returns-clause-passed g c =
     let q = c.requires.end in let lots = c.args.seat.now.lots in let own = c.requires.own in
     let s = c.spot_at-spot.ensures.seat q.0 q.1 in let same = unmoved c.args.seat.now c.spot_at-spot.new.seat c.args.e q.0 q.1 s.1 in
-    let at : value_at c.args.e c.pass_all.new.seat.lots ≡ Some q.0 =
-    c.pass_all.ensures.others c.args.e (λ a. c.requires.distinct.1 (subst (λ (l : List ℕ). Among l c.args.e) c.as_slice.ensures.value a))
+    let at : value_at c.args.e c.pass_all-bytes.new.seat.lots ≡ Some q.0 =
+    c.pass_all-bytes.ensures.others c.args.e (λ a. c.requires.distinct.1 (subst (λ (l : List ℕ). Among l c.args.e) c.as_slice.ensures.value a))
     ∙ ap (λ (h : Held Body). value_at c.args.e h.lots) same ∙ q.1 in
     let k = c.put_at-put.ensures q.0 at in let m = k.0 in
     let d : ℕ = 2 * c.spot_at-spot.result.channel + 1 - c.spot_at-spot.result.side in
     let after : Held Body → List ℕ → Held Body = λ h rs. bare (with_done (passed_on h.process d rs) h) in
     let now : Held Body = after c.args.seat.now c.args.given.now.items in
-    let chain : bare c.pass_all.new.seat ≡ with_lots now c.pass_all.new.seat.lots =
-    c.pass_all.ensures.passed ∙ ap (λ (h : Held Body). with_lots (after h c.as_slice.result.now) c.pass_all.new.seat.lots) same
-    ∙ ap (λ (rs : List ℕ). with_lots (after c.args.seat.now rs) c.pass_all.new.seat.lots) c.as_slice.ensures.value in
-    ap bare k.2 ∙ ap (λ (h : Held Body). with_lots h (put c.args.e m c.pass_all.new.seat.lots)) chain ∙ sym (ap (λ (h : Held Body). with_lots now h.lots) k.2)
+    let chain : bare c.pass_all-bytes.new.seat ≡ with_lots now c.pass_all-bytes.new.seat.lots =
+    c.pass_all-bytes.ensures.passed ∙ ap (λ (h : Held Body). with_lots (after h c.as_slice.result.now) c.pass_all-bytes.new.seat.lots) same
+    ∙ ap (λ (rs : List ℕ). with_lots (after c.args.seat.now rs) c.pass_all-bytes.new.seat.lots) c.as_slice.ensures.value in
+    ap bare k.2 ∙ ap (λ (h : Held Body). with_lots h (put c.args.e m c.pass_all-bytes.new.seat.lots)) chain ∙ sym (ap (λ (h : Held Body). with_lots now h.lots) k.2)
 
 pub returns-clause-end : goal.returns-clause-end
 returns-clause-end g c =
     let q = c.requires.end in let lots = c.args.seat.now.lots in let own = c.requires.own in
     let s = c.spot_at-spot.ensures.seat q.0 q.1 in let same = unmoved c.args.seat.now c.spot_at-spot.new.seat c.args.e q.0 q.1 s.1 in
-    let at : value_at c.args.e c.pass_all.new.seat.lots ≡ Some q.0 =
-    c.pass_all.ensures.others c.args.e (λ a. c.requires.distinct.1 (subst (λ (l : List ℕ). Among l c.args.e) c.as_slice.ensures.value a))
+    let at : value_at c.args.e c.pass_all-bytes.new.seat.lots ≡ Some q.0 =
+    c.pass_all-bytes.ensures.others c.args.e (λ a. c.requires.distinct.1 (subst (λ (l : List ℕ). Among l c.args.e) c.as_slice.ensures.value a))
     ∙ ap (λ (h : Held Body). value_at c.args.e h.lots) same ∙ q.1 in
     let k = c.put_at-put.ensures q.0 at in let m = k.0 in
     λ l at'. let two : Some q.0 ≡ Some l = sym q.1 ∙ at' in let one : q.0 ≡ l = cc in (
       m,
-      ap (λ (h : Held Body). value_at c.args.e h.lots) k.2 ∙ put_at c.args.e m q.0 c.pass_all.new.seat.lots at,
+      ap (λ (h : Held Body). value_at c.args.e h.lots) k.2 ∙ put_at c.args.e m q.0 c.pass_all-bytes.new.seat.lots at,
       (λ i. record { len = ap (λ (z : LotOf Body). z.len) k.1.0 i; content = k.1.1 i }) ∙ ap item_of one,
       still_block c.args.seat.now.shape c.args.e q.0 m q.2 q.3 k.1,
     )
@@ -93,21 +94,26 @@ pub returns-clause-gone : goal.returns-clause-gone
 returns-clause-gone g c =
     let q = c.requires.end in let lots = c.args.seat.now.lots in let own = c.requires.own in
     let s = c.spot_at-spot.ensures.seat q.0 q.1 in let same = unmoved c.args.seat.now c.spot_at-spot.new.seat c.args.e q.0 q.1 s.1 in
-    let at : value_at c.args.e c.pass_all.new.seat.lots ≡ Some q.0 =
-    c.pass_all.ensures.others c.args.e (λ a. c.requires.distinct.1 (subst (λ (l : List ℕ). Among l c.args.e) c.as_slice.ensures.value a))
+    let at : value_at c.args.e c.pass_all-bytes.new.seat.lots ≡ Some q.0 =
+    c.pass_all-bytes.ensures.others c.args.e (λ a. c.requires.distinct.1 (subst (λ (l : List ℕ). Among l c.args.e) c.as_slice.ensures.value a))
     ∙ ap (λ (h : Held Body). value_at c.args.e h.lots) same ∙ q.1 in
     let k = c.put_at-put.ensures q.0 at in let m = k.0 in
     let apart : (r : ℕ) → Among c.args.given.now.items r → c.args.e ≢ r = λ r a s. c.requires.distinct.1 (subst (λ (z : ℕ). Among c.args.given.now.items z) (sym s) a) in
-    λ r a. ap (λ (h : Held Body). value_at r h.lots) k.2 ∙ put_other r c.args.e m c.pass_all.new.seat.lots (apart r a)
-    ∙ c.pass_all.ensures.gone r (subst (λ (l : List ℕ). Among l r) (sym c.as_slice.ensures.value) a)
+    λ r a. ap (λ (h : Held Body). value_at r h.lots) k.2 ∙ put_other r c.args.e m c.pass_all-bytes.new.seat.lots (apart r a)
+    ∙ c.pass_all-bytes.ensures.gone r (subst (λ (l : List ℕ). Among l r) (sym c.as_slice.ensures.value) a)
 
 pub returns-clause-others : goal.returns-clause-others
 returns-clause-others g c =
     let q = c.requires.end in let lots = c.args.seat.now.lots in let own = c.requires.own in
     let s = c.spot_at-spot.ensures.seat q.0 q.1 in let same = unmoved c.args.seat.now c.spot_at-spot.new.seat c.args.e q.0 q.1 s.1 in
-    let at : value_at c.args.e c.pass_all.new.seat.lots ≡ Some q.0 =
-    c.pass_all.ensures.others c.args.e (λ a. c.requires.distinct.1 (subst (λ (l : List ℕ). Among l c.args.e) c.as_slice.ensures.value a))
+    let at : value_at c.args.e c.pass_all-bytes.new.seat.lots ≡ Some q.0 =
+    c.pass_all-bytes.ensures.others c.args.e (λ a. c.requires.distinct.1 (subst (λ (l : List ℕ). Among l c.args.e) c.as_slice.ensures.value a))
     ∙ ap (λ (h : Held Body). value_at c.args.e h.lots) same ∙ q.1 in
     let k = c.put_at-put.ensures q.0 at in let m = k.0 in
-    λ r n o. ap (λ (h : Held Body). value_at r h.lots) k.2 ∙ put_other r c.args.e m c.pass_all.new.seat.lots o
-    ∙ c.pass_all.ensures.others r (λ a. n (subst (λ (l : List ℕ). Among l r) c.as_slice.ensures.value a)) ∙ ap (λ (h : Held Body). value_at r h.lots) same
+    λ r n o. ap (λ (h : Held Body). value_at r h.lots) k.2 ∙ put_other r c.args.e m c.pass_all-bytes.new.seat.lots o
+    ∙ c.pass_all-bytes.ensures.others r (λ a. n (subst (λ (l : List ℕ). Among l r) c.as_slice.ensures.value a)) ∙ ap (λ (h : Held Body). value_at r h.lots) same
+
+pub returns-clause-bytes : goal.returns-clause-bytes
+returns-clause-bytes g c =
+    let q = c.requires.end in let s = c.spot_at-spot.ensures.seat q.0 q.1 in let same = unmoved c.args.seat.now c.spot_at-spot.new.seat c.args.e q.0 q.1 s.1 in
+    c.pass_all-bytes.ensures.bytes ∙ (λ i. lens (c.as_slice.ensures.value i) (λ r. value_at r (same i).lots))

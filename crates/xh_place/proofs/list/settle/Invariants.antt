@@ -1,9 +1,11 @@
 use Rattle.std.proofs.Common.{◌≡◌, drop}
+use Rattle.std.specs.Prelude.{◌==◌}
+use Rattle.std.specs.List.{list_any}
 use Rattle.std.specs.Vec.{vec_capacity}
-use Rattle.xh_model.specs.Keyed.{Distinct, keys, value_at}
-use Rattle.xh_place.specs.Messages.{settled}
+use Rattle.xh_model.specs.Keyed.{Distinct}
+use Rattle.xh_place.specs.inner.Lists.{less_all}
 use Rattle.xh_place.proofs.list.settle.Given as goal
 
 abbrev pub invariant-loop-k : goal.invariant-loop-k
-invariant-loop-k l = (settled (drop l.k l.given) (λ r. value_at r l.back) l.list.items ≡ settled l.given (λ r. value_at r l.back) l.initial.list.items) × Distinct (keys l.list.items)
+invariant-loop-k l = (less_all (drop l.k l.given) (λ r. list_any (λ q. q == r) l.back) l.list.items ≡ less_all l.given (λ r. list_any (λ q. q == r) l.back) l.initial.list.items) × Distinct l.list.items
     × (vec_capacity l.list ≡ vec_capacity l.initial.list)

@@ -11,12 +11,12 @@ use Rattle.xh_place.proofs.opening.claim_two.Goals as goal
 
 pub vacate-requires-clause-held : goal.vacate-requires-clause-held
 vacate-requires-clause-held g c =
-    let t = c.in-Ok.ensures.claimed in let same = c.in_default-claim.ensures.missed in
+    let t = c.in-Ok.ensures.claimed in let same = c.in_default-claim.ensures.missed.0 in
     (t.0, ap (λ (h : Held Body). value_at c.in-Ok.r h.lots) same ∙ has c.args.seat.now c.claim.new.seat c.in-Ok.r t.0 (claims c.args.seat.now c.claim.new.seat _ _ _ t.1) c.in-Ok.ensures.fresh, t.3)
 
 pub returns-in_default-claim : goal.returns-in_default-claim
 returns-in_default-claim g c =
-    let t = c.in-Ok.ensures.claimed in let same = c.in_default-claim.ensures.missed in
+    let t = c.in-Ok.ensures.claimed in let same = c.in_default-claim.ensures.missed.0 in
     undone c.args.seat.now c.claim.new.seat c.in-Ok.r t.0 (claims c.args.seat.now c.claim.new.seat _ _ _ t.1) c.in-Ok.ensures.fresh c.vacate.new.seat
     (vacates c.claim-2.new.seat c.vacate.new.seat _ _ _ c.vacate.ensures.vacated ∙ ap (λ (h : Held Body). with_lots (bare h) (without c.in-Ok.r h.lots)) same)
 

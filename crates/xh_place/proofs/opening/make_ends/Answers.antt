@@ -1,61 +1,43 @@
-use Rattle.std.proofs.Common.{◌≡◌, ℕ, ◌/◌, ◌<◌, List, length, get_or, set, refl, sym, ap, ◌∙◌, subst, arith}
-use Rattle.std.proofs.lemmas.List.{set-get_or}
+use Rattle.std.proofs.Common.{arith, ◌≡◌, ℕ, refl, sym, ap, ◌∙◌, subst}
 use Rattle.std.specs.Prelude.{Some, slice_get}
-use Rattle.atomic_table.specs.Seated.{TableId}
 use Rattle.xh_model.specs.Keyed.{put, value_at, without}
 use Rattle.xh_records.specs.Showing.{IsLotOf}
 use Rattle.xh_records.specs.Seats.{Held, IsRecord, with_lots}
 use Rattle.xh_place.specs.declared.body.Body.{Body}
 use Rattle.xh_place.specs.declared.body.Body.TheVariants.{End}
 use Rattle.xh_place.specs.inner.Lots.{bare}
-use Rattle.xh_place.specs.Tallies.{ids_of, took}
-use Rattle.xh_place.proofs.Counted.{ids_at, ids_long, ids_took, took_set}
+use Rattle.xh_place.specs.Tallies.{took}
+use Rattle.xh_place.proofs.Desks.{still_at}
 use Rattle.xh_place.proofs.Opened.{both_gone, both_put, has_first, has_other}
 use Rattle.xh_place.proofs.opening.make_ends.Goals as goal
 
-pub fit_ends-fitted-requires-clause-own : goal.fit_ends-fitted-requires-clause-own
-fit_ends-fitted-requires-clause-own g c =
-    let k = c.in-Some.ensures in let r : ℕ = c.in-Some.r in let q : ℕ = c.in-Some.t in let l = k.0 in let m = k.1 in let two = k.2.two in let lots = c.args.seat.now.lots in
-    let shape = ap (λ (h : Held Body). h.shape) two.lots in let own = c.requires.at.0 in
-    let at : value_at r c.claim_two.new.seat.lots ≡ Some l = has_first c.args.arena c.args.seat.now c.claim_two.new.seat r q l m two in
-    let at2 : value_at q c.claim_two.new.seat.lots ≡ Some m = has_other c.args.arena c.args.seat.now c.claim_two.new.seat r q l m two in
-    ((ap (λ (h : Held Body). h.table) two.lots ∙ own.0, shape ∙ own.1), subst (λ z. IsRecord z r) own.1 k.2.first.0, subst (λ z. IsRecord z q) own.1 k.2.second.0, two.apart)
+pub fit_ends-fitted-requires-clause-at : goal.fit_ends-fitted-requires-clause-at
+fit_ends-fitted-requires-clause-at g c =
+    let now = c.in-Some.ensures.2.two.lots in
+    still_at g.V.Vaults.names g.V.Vaults.extent c.args.desk.now c.args.desk.now c.args.desk.now c.args.seat.now c.claim_two.new.seat (refl, refl, refl, refl, refl, refl)
+    (ap (λ (h : Held Body). h.table) now) (ap (λ (h : Held Body). h.shape) now) c.requires.at
 
 pub fit_ends-fitted-requires-clause-held : goal.fit_ends-fitted-requires-clause-held
 fit_ends-fitted-requires-clause-held g c =
-    let k = c.in-Some.ensures in let r : ℕ = c.in-Some.r in let q : ℕ = c.in-Some.t in let l = k.0 in let m = k.1 in let two = k.2.two in let lots = c.args.seat.now.lots in
-    let shape = ap (λ (h : Held Body). h.shape) two.lots in let own = c.requires.at.0 in
-    let at : value_at r c.claim_two.new.seat.lots ≡ Some l = has_first c.args.arena c.args.seat.now c.claim_two.new.seat r q l m two in
-    let at2 : value_at q c.claim_two.new.seat.lots ≡ Some m = has_other c.args.arena c.args.seat.now c.claim_two.new.seat r q l m two in
-    let mine : slice_get c.args.seat.now.shape.names (r / 256) ≡ Some l.id = k.2.first.1.1 in
-    let near : slice_get c.args.seat.now.shape.names (r / 256) ≡ Some m.id = ap (slice_get c.args.seat.now.shape.names) (two.first_arena ∙ sym two.second_arena) ∙ k.2.second.1.1 in
-    let ts = c.args.desk.now.tallies.now in let tally = get_or ts c.from.result c.index-desk-from.result in
-    let long : length ts ≡ length c.args.seat.now.shape.names = sym (ids_long ts) ∙ ap length c.requires.at.1.1 in
-    let inside : c.from.result < length ts = omega (arith, c.requires.arena, c.from.ensures) in
-    let paid : slice_get c.args.seat.now.shape.names (r / 256) ≡ Some tally.id = ap (slice_get c.args.seat.now.shape.names) two.first_arena
-    ∙ (λ i. slice_get (sym c.requires.at.1.1 i) (sym c.from.ensures i)) ∙ ids_at ts c.from.result c.index-desk-from.result inside in
-    let ids : Some m.id ≡ Some l.id = sym near ∙ mine in let ids2 : Some tally.id ≡ Some l.id = sym paid ∙ mine in
-    let one : m.id ≡ l.id = cc in let other : tally.id ≡ l.id = cc in (
+    let k = c.in-Some.ensures in let r : ℕ = c.in-Some.r in let q : ℕ = c.in-Some.t in let l = k.0 in let m = k.1 in let two = k.2.two in
+    let shape = sym (ap (λ (h : Held Body). h.shape) two.lots) in let names = c.args.seat.now.shape.names in
+    let ids : Some m.id ≡ Some l.id = sym k.2.second.1.1 ∙ ap (slice_get names) (two.second_arena ∙ sym two.first_arena) ∙ k.2.first.1.1 in
+    let near : m.id ≡ l.id = cc in (
       l,
       m,
-      at,
-      at2,
-      subst (λ s. IsLotOf s r l) (sym shape) k.2.first.1,
-      subst (λ s. IsLotOf s q m) (sym shape) k.2.second.1,
-      ap (λ (z : List TableId). slice_get z (r / 256)) c.requires.at.1.0 ∙ mine,
-      one,
-      other,
-      k.2.first.2.0,
-      k.2.second.2.0,
+      record {
+        first = (has_first c.args.arena c.args.seat.now c.claim_two.new.seat r q l m two, subst (λ s. IsRecord s r) shape k.2.first.0, subst (λ s. IsLotOf s r l) shape k.2.first.1);
+        second = (has_other c.args.arena c.args.seat.now c.claim_two.new.seat r q l m two, subst (λ s. IsRecord s q) shape k.2.second.0, subst (λ s. IsLotOf s q m) shape k.2.second.1);
+        apart = two.apart;
+        near = near;
+        empty = (k.2.first.2.0, k.2.second.2.0);
+      },
     )
 
 pub returns-in_default-fitted-clause-made : goal.returns-in_default-fitted-clause-made
 returns-in_default-fitted-clause-made g c =
     let k = c.in-Some.ensures in let r : ℕ = c.in-Some.r in let q : ℕ = c.in-Some.t in let l = k.0 in let m = k.1 in let two = k.2.two in let lots = c.args.seat.now.lots in
-    let shape = ap (λ (h : Held Body). h.shape) two.lots in let own = c.requires.at.0 in
-    let at : value_at r c.claim_two.new.seat.lots ≡ Some l = has_first c.args.arena c.args.seat.now c.claim_two.new.seat r q l m two in
-    let at2 : value_at q c.claim_two.new.seat.lots ≡ Some m = has_other c.args.arena c.args.seat.now c.claim_two.new.seat r q l m two in
-    let fitted = c.in_default-fitted.ensures.fitted l m at at2 in
+    let fitted = c.in_default-fitted.ensures.fitted l m (has_first c.args.arena c.args.seat.now c.claim_two.new.seat r q l m two) (has_other c.args.arena c.args.seat.now c.claim_two.new.seat r q l m two) in
     let l' = record l { len = 32; body = End c.args.low } in let m' = record m { len = 32; body = End c.args.high } in
     let now = ap bare fitted ∙ ap (λ (h : Held Body). with_lots h (put q m' (put r l' h.lots))) two.lots
     ∙ ap (with_lots (bare c.args.seat.now)) (both_put lots r q two.first_fresh two.second_fresh two.apart l m l' m') in (
@@ -72,67 +54,36 @@ returns-in_default-fitted-clause-made g c =
 
 pub vacate_two-requires-clause-own : goal.vacate_two-requires-clause-own
 vacate_two-requires-clause-own g c =
-    let k = c.in-Some.ensures in let r : ℕ = c.in-Some.r in let q : ℕ = c.in-Some.t in let l = k.0 in let m = k.1 in let two = k.2.two in let lots = c.args.seat.now.lots in
-    let shape = ap (λ (h : Held Body). h.shape) two.lots in let own = c.requires.at.0 in
-    let at : value_at r c.claim_two.new.seat.lots ≡ Some l = has_first c.args.arena c.args.seat.now c.claim_two.new.seat r q l m two in
-    let at2 : value_at q c.claim_two.new.seat.lots ≡ Some m = has_other c.args.arena c.args.seat.now c.claim_two.new.seat r q l m two in
-    let same = c.in-Err.ensures.refused.0 in (
-      (ap (λ (h : Held Body). h.table) same ∙ ap (λ (h : Held Body). h.table) two.lots ∙ own.0, ap (λ (h : Held Body). h.shape) same ∙ shape ∙ own.1),
-      subst (λ z. IsRecord z r) own.1 k.2.first.0,
-      subst (λ z. IsRecord z q) own.1 k.2.second.0,
+    let k = c.in-Some.ensures in let r : ℕ = c.in-Some.r in let q : ℕ = c.in-Some.t in let two = k.2.two in
+    let same = ap bare c.in-Err.ensures.refused.0 ∙ two.lots in let shape = ap (λ (h : Held Body). h.shape) same in
+    let own = (still_at g.V.Vaults.names g.V.Vaults.extent c.args.desk.now c.fit_ends-fitted.new.desk c.fit_ends-fitted.new.desk c.args.seat.now c.fit_ends-fitted.new.seat
+    c.fit_ends-fitted.ensures.same (ap (λ (h : Held Body). h.table) same) shape c.requires.at).0 in (
+      own,
+      subst (λ z. IsRecord z r) (sym shape ∙ own.1) k.2.first.0,
+      subst (λ z. IsRecord z q) (sym shape ∙ own.1) k.2.second.0,
       (λ e. two.apart (sym e)),
     )
 
 pub vacate_two-requires-clause-held : goal.vacate_two-requires-clause-held
 vacate_two-requires-clause-held g c =
-    let k = c.in-Some.ensures in let r : ℕ = c.in-Some.r in let q : ℕ = c.in-Some.t in let l = k.0 in let m = k.1 in let two = k.2.two in let lots = c.args.seat.now.lots in
-    let shape = ap (λ (h : Held Body). h.shape) two.lots in let own = c.requires.at.0 in
-    let at : value_at r c.claim_two.new.seat.lots ≡ Some l = has_first c.args.arena c.args.seat.now c.claim_two.new.seat r q l m two in
-    let at2 : value_at q c.claim_two.new.seat.lots ≡ Some m = has_other c.args.arena c.args.seat.now c.claim_two.new.seat r q l m two in
-    let same = c.in-Err.ensures.refused.0 in
-    (l, m, ap (λ (h : Held Body). value_at r h.lots) same ∙ at, ap (λ (h : Held Body). value_at q h.lots) same ∙ at2, k.2.first.2, k.2.second.2)
+    let k = c.in-Some.ensures in let r : ℕ = c.in-Some.r in let q : ℕ = c.in-Some.t in let l = k.0 in let m = k.1 in let two = k.2.two in let same = c.in-Err.ensures.refused.0 in (
+      l,
+      m,
+      ap (λ (h : Held Body). value_at r h.lots) same ∙ has_first c.args.arena c.args.seat.now c.claim_two.new.seat r q l m two,
+      ap (λ (h : Held Body). value_at q h.lots) same ∙ has_other c.args.arena c.args.seat.now c.claim_two.new.seat r q l m two,
+      k.2.first.2,
+      k.2.second.2,
+    )
 
 pub returns-clause-refused : goal.returns-clause-refused
 returns-clause-refused g c =
-    let k = c.in-Some.ensures in let r : ℕ = c.in-Some.r in let q : ℕ = c.in-Some.t in let l = k.0 in let m = k.1 in let two = k.2.two in let lots = c.args.seat.now.lots in
-    let shape = ap (λ (h : Held Body). h.shape) two.lots in let own = c.requires.at.0 in
-    let at : value_at r c.claim_two.new.seat.lots ≡ Some l = has_first c.args.arena c.args.seat.now c.claim_two.new.seat r q l m two in
-    let at2 : value_at q c.claim_two.new.seat.lots ≡ Some m = has_other c.args.arena c.args.seat.now c.claim_two.new.seat r q l m two in
-    let f = c.in-Err.ensures.refused in (
+    let k = c.in-Some.ensures in let r : ℕ = c.in-Some.r in let q : ℕ = c.in-Some.t in let two = k.2.two in let f = c.in-Err.ensures.refused in (
       c.vacate_two.ensures ∙ ap (λ (h : Held Body). with_lots (bare h) (without r (without q h.lots))) f.0 ∙ ap (λ (h : Held Body). with_lots h (without r (without q h.lots))) two.lots
-          ∙ ap (with_lots (bare c.args.seat.now)) (both_gone lots r q two.first_fresh two.second_fresh two.apart l m),
-      ap (set c.args.desk.now.tallies.now c.from.result) f.1 ∙ set-get_or c.args.desk.now.tallies.now c.from.result c.index-desk-from.result,
+          ∙ ap (with_lots (bare c.args.seat.now)) (both_gone c.args.seat.now.lots r q two.first_fresh two.second_fresh two.apart k.0 k.1),
+      f.1,
       f.2,
       f.3,
     )
 
-pub bounds-desk-from : goal.bounds-desk-from
-bounds-desk-from g c =
-    let long : length c.args.desk.now.tallies.now ≡ length c.args.seat.now.shape.names = sym (ids_long c.args.desk.now.tallies.now) ∙ ap length c.requires.at.1.1 in
-    omega (arith, c.requires.arena, c.from.ensures)
-
 pub returns-in_default-fitted-clause-taken : goal.returns-in_default-fitted-clause-taken
-returns-in_default-fitted-clause-taken g c =
-    let ts = c.args.desk.now.tallies.now in
-    let long : length ts ≡ length c.args.seat.now.shape.names = sym (ids_long ts) ∙ ap length c.requires.at.1.1 in
-    let inside : c.from.result < length ts = omega (arith, c.requires.arena, c.from.ensures) in
-    took_set ts c.from.result 64 c.index-desk-from.result _ inside c.in_default-fitted.ensures.tally ∙ ap (λ (a : ℕ). took a 64 ts) c.from.ensures
-
-pub returns-in_default-fitted-clause-same : goal.returns-in_default-fitted-clause-same
-returns-in_default-fitted-clause-same g c =
-    let ts = c.args.desk.now.tallies.now in
-    let long : length ts ≡ length c.args.seat.now.shape.names = sym (ids_long ts) ∙ ap length c.requires.at.1.1 in
-    let inside : c.from.result < length ts = omega (arith, c.requires.arena, c.from.ensures) in
-    let paid = took_set ts c.from.result 64 c.index-desk-from.result _ inside c.in_default-fitted.ensures.tally in
-    (c.fit_ends-fitted.ensures.same.0, c.fit_ends-fitted.ensures.same.1, ap ids_of paid ∙ ids_took ts c.from.result 64, refl, refl, refl)
-
-pub returns-clause-same : goal.returns-clause-same
-returns-clause-same g c = (
-  c.fit_ends-fitted.ensures.same.0,
-  c.fit_ends-fitted.ensures.same.1,
-  ap (λ x. ids_of (set c.args.desk.now.tallies.now c.from.result x)) c.in-Err.ensures.refused.1
-      ∙ ap ids_of (set-get_or c.args.desk.now.tallies.now c.from.result c.index-desk-from.result),
-  refl,
-  refl,
-  refl,
-)
+returns-in_default-fitted-clause-taken g c = c.in_default-fitted.ensures.taken ∙ ap (λ (a : ℕ). took a 64 c.args.desk.now.tallies.now) c.in-Some.ensures.2.two.first_arena

@@ -10,11 +10,11 @@ pub vacate-requires-clause-held : goal.vacate-requires-clause-held
 vacate-requires-clause-held c = let h = c.requires.held in (h.1, h.3, h.5)
 
 pub vacate-requires-2-clause-own : goal.vacate-requires-2-clause-own
-vacate-requires-2-clause-own c = let v = c.vacate.ensures.vacated in (ap (λ (h : Held Body). h.table) v ∙ c.requires.own.0.0, ap (λ (h : Held Body). h.shape) v ∙ c.requires.own.0.1)
+vacate-requires-2-clause-own c = let v = c.vacate.ensures.vacated.0 in (ap (λ (h : Held Body). h.table) v ∙ c.requires.own.0.0, ap (λ (h : Held Body). h.shape) v ∙ c.requires.own.0.1)
 
 pub vacate-requires-2-clause-held : goal.vacate-requires-2-clause-held
 vacate-requires-2-clause-held c =
-    let h = c.requires.held in (h.0, ap (λ (z : Held Body). value_at c.args.r z.lots) c.vacate.ensures.vacated ∙ without_other c.args.r c.args.t c.args.seat.now.lots c.requires.own.3 ∙ h.2, h.4)
+    let h = c.requires.held in (h.0, ap (λ (z : Held Body). value_at c.args.r z.lots) c.vacate.ensures.vacated.0 ∙ without_other c.args.r c.args.t c.args.seat.now.lots c.requires.own.3 ∙ h.2, h.4)
 
 pub returns : goal.returns
 returns c =

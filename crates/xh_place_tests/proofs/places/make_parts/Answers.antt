@@ -1,4 +1,4 @@
-use Rattle.std.proofs.Common.{◌∙◌, ap, refl, rules}
+use Rattle.std.proofs.Common.{◌∙◌, ap, rules}
 use Rattle.xh_records.proofs.OneVault.{of_one_vault}
 use Rattle.xh_place.specs.declared.body.Body.{Body}
 use Rattle.xh_place.specs.Bodies.{fits_in}

@@ -1,62 +1,56 @@
 use Rattle.std.proofs.Common.{rules, arith, ◌≡◌, ℕ, ◌+◌, ◌*◌, ◌<◌, ◌≤◌, [], ◌∷◌, ◌++◌, length, sym, ap, ◌∙◌, subst, true}
 use Rattle.std.specs.Vec.{vec_capacity}
-use Rattle.xh_core.specs.declared.header.Header.{Header}
-use Rattle.xh_place.specs.Bodies.{bytes, kind_of}
 use Rattle.xh_core.specs.Statuses.{is_running}
-use Rattle.xh_place.specs.Places.{Item, header_of, item_of}
-use Rattle.xh_place.proofs.Steps.{kept, won, has_room, small, block_small, over_running}
+use Rattle.xh_place.specs.Places.{Item}
+use Rattle.xh_place.proofs.Steps.{block_small, list_room, list_small, over_running, stays, won}
 use Rattle.xh_place.proofs.Desks.{same_place, seat_at}
 use Rattle.xh_place.proofs.place.Place.alloc.Goals as goal
 
 pub push_reserved-requires : goal.push_reserved-requires
 push_reserved-requires g c =
-    let seat = c.self.inside.seat in let xs = c.self.inside.list.items in let room : ℕ = vec_capacity c.self.inside.list in let total : ℕ = c.self.inside.total in let state =
+    let seat = c.self.inside.seat in let rs = c.self.inside.list.items in let room : ℕ = vec_capacity c.self.inside.list in let total : ℕ = c.self.inside.total in let state =
     c.self.inside.state in let is = c.self.invariant in
     let t = c.in_ok-rec.ensures.block in let l = t.0 in let r : ℕ = c.in_ok-rec.rec in let n : ℕ = c.round_up-len.result in
-    let fits = has_room seat xs room total state is r t.3.exists t.1 in
+    let fits = list_room seat rs room total state is r t.3.exists t.1 in
     let run : is_running state ≡ true = search rules in
     let alive = over_running state run in
-    let room_is : length xs < room = fits.0 in search rules
+    let room_is : length rs < room = fits.0 in search rules
 
 pub overflow_add-self : goal.overflow_add-self
 overflow_add-self g c =
-    let seat = c.self.inside.seat in let xs = c.self.inside.list.items in let room : ℕ = vec_capacity c.self.inside.list in let total : ℕ = c.self.inside.total in let state =
+    let seat = c.self.inside.seat in let rs = c.self.inside.list.items in let room : ℕ = vec_capacity c.self.inside.list in let total : ℕ = c.self.inside.total in let state =
     c.self.inside.state in let is = c.self.invariant in
     let t = c.in_ok-rec.ensures.block in let l = t.0 in let r : ℕ = c.in_ok-rec.rec in let n : ℕ = c.round_up-len.result in
-    let fits = has_room seat xs room total state is r t.3.exists t.1 in
+    let fits = list_room seat rs room total state is r t.3.exists t.1 in
     let run : is_running state ≡ true = search rules in
     let alive = over_running state run in
-    let few : length xs < 2048 = fits.1 in let most : total ≤ length xs * 1048576 = small seat xs room total state is in let one : c.from-2.result ≤ 1048576 =
+    let few : length rs < 2048 = fits.1 in let most : total ≤ length rs * 1048576 = list_small seat rs room total state is in let one : c.from-2.result ≤ 1048576 =
     subst (λ (z : ℕ). z ≤ 1048576) (sym (c.from-2.ensures ∙ sym t.4)) (block_small t.3) in let sum : total + c.from-2.result < 18446744073709551616 = omega arith in search rules
 
 pub invariant_of-self-2 : goal.invariant_of-self-2
 invariant_of-self-2 g c =
-    let seat = c.self.inside.seat in let xs = c.self.inside.list.items in let room : ℕ = vec_capacity c.self.inside.list in let total : ℕ = c.self.inside.total in let state =
+    let seat = c.self.inside.seat in let rs = c.self.inside.list.items in let room : ℕ = vec_capacity c.self.inside.list in let total : ℕ = c.self.inside.total in let state =
     c.self.inside.state in let is = c.self.invariant in
     let t = c.in_ok-rec.ensures.block in let l = t.0 in let r : ℕ = c.in_ok-rec.rec in let n : ℕ = c.round_up-len.result in
-    let fits = has_room seat xs room total state is r t.3.exists t.1 in
+    let fits = list_room seat rs room total state is r t.3.exists t.1 in
     let run : is_running state ≡ true = search rules in
     let alive = over_running state run in
     let len : c.from-2.result ≡ l.len = c.from-2.ensures ∙ sym t.4 in
-    let header : Header = record { len = n; kind = kind_of (bytes []) } in
-    let header_is : header ≡ header_of (item_of l) = λ i. record { len = sym t.4 i; kind = kind_of (sym t.5 i) } in
-    let both = won seat xs room total state is c.make_block.new.seat r l c.push_reserved.new.self.items (vec_capacity c.push_reserved.new.self) c.from-2.result t.1 t.2 t.3 alive
-    (c.push_reserved.ensures.items ∙ ap (λ (z : Header). xs ++ (r, z) ∷ []) header_is) c.push_reserved.ensures.capacity len in
+    let both = won seat rs room total state is c.make_block.new.seat r l c.push_reserved.new.self.items (vec_capacity c.push_reserved.new.self) c.from-2.result t.1 t.2 t.3 alive
+    c.push_reserved.ensures.items c.push_reserved.ensures.capacity len in
     both.0
 
 pub returns-clause-made : goal.returns-clause-made
 returns-clause-made g c =
-    let seat = c.self.inside.seat in let xs = c.self.inside.list.items in let room : ℕ = vec_capacity c.self.inside.list in let total : ℕ = c.self.inside.total in let state =
+    let seat = c.self.inside.seat in let rs = c.self.inside.list.items in let room : ℕ = vec_capacity c.self.inside.list in let total : ℕ = c.self.inside.total in let state =
     c.self.inside.state in let is = c.self.invariant in
     let t = c.in_ok-rec.ensures.block in let l = t.0 in let r : ℕ = c.in_ok-rec.rec in let n : ℕ = c.round_up-len.result in
-    let fits = has_room seat xs room total state is r t.3.exists t.1 in
+    let fits = list_room seat rs room total state is r t.3.exists t.1 in
     let run : is_running state ≡ true = search rules in
     let alive = over_running state run in
     let len : c.from-2.result ≡ l.len = c.from-2.ensures ∙ sym t.4 in
-    let header : Header = record { len = n; kind = kind_of (bytes []) } in
-    let header_is : header ≡ header_of (item_of l) = λ i. record { len = sym t.4 i; kind = kind_of (sym t.5 i) } in
-    let both = won seat xs room total state is c.make_block.new.seat r l c.push_reserved.new.self.items (vec_capacity c.push_reserved.new.self) c.from-2.result t.1 t.2 t.3 alive
-    (c.push_reserved.ensures.items ∙ ap (λ (z : Header). xs ++ (r, z) ∷ []) header_is) c.push_reserved.ensures.capacity len in
+    let both = won seat rs room total state is c.make_block.new.seat r l c.push_reserved.new.self.items (vec_capacity c.push_reserved.new.self) c.from-2.result t.1 t.2 t.3 alive
+    c.push_reserved.ensures.items c.push_reserved.ensures.capacity len in
     record {
       made = both.1 c.args.self.now c.self.view_is ∙ ap (λ (z : Item). record c.args.self.now { blocks = c.args.self.now.blocks ++ (r, z) ∷ [] }) (λ i. record { len = t.4 i; content = t.5 i });
       block = search rules;
@@ -69,9 +63,9 @@ returns-clause-same g c = (c.make_block.ensures.same, same_place c.args.self.now
 
 pub invariant_of-self : goal.invariant_of-self
 invariant_of-self g c =
-    let seat = c.self.inside.seat in let xs = c.self.inside.list.items in let room : ℕ = vec_capacity c.self.inside.list in let total : ℕ = c.self.inside.total in let state =
+    let seat = c.self.inside.seat in let rs = c.self.inside.list.items in let room : ℕ = vec_capacity c.self.inside.list in let total : ℕ = c.self.inside.total in let state =
     c.self.inside.state in let is = c.self.invariant in
-    kept seat c.make_block.new.seat xs room total state (c.in_err-rec.ensures.refused.0) is
+    (stays seat rs room total state is c.make_block.new.seat c.in_err-rec.ensures.refused.0).0
 
 pub make_block-requires-clause-at : goal.make_block-requires-clause-at
 make_block-requires-clause-at g c = seat_at g.V.Vaults.names c.args.desk.now c.args.self.now c.self.inside.seat (ap (λ p. p.table) c.self.view_is) (ap (λ p. p.shape) c.self.view_is) c.requires.at

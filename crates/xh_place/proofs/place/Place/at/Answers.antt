@@ -1,10 +1,9 @@
-use Rattle.std.proofs.Common.{rules, ◌≡◌, ℕ, ◌<◌, ◌∷◌, length, drop, sym, ap, ◌∙◌, subst}
-use Rattle.std.specs.Vec.{vec_capacity}
-use Rattle.xh_model.specs.Keyed.{Distinct, keys}
-use Rattle.xh_model.proofs.Keyed.{value_drop}
-use Rattle.xh_core.specs.declared.header.Header.{Header}
-use Rattle.xh_place.proofs.Steps.{at_place}
-use Rattle.xh_place.proofs.Listing.{shown_long, shown_keys}
+use Rattle.std.proofs.Common.{rules, ◌≡◌, ℕ, suc, ◌<◌, List, [], ◌∷◌, drop, get_or, length, sym, ap, ◌∙◌, subst}
+use Rattle.xh_model.specs.Keyed.{value_at}
+use Rattle.xh_model.proofs.Keyed.{next}
+use Rattle.xh_place.specs.Bodies.{bytes}
+use Rattle.xh_place.specs.Places.{Item, shown}
+use Rattle.xh_place.proofs.Listing.{get_at, key_at, shown_keys, shown_long}
 use Rattle.xh_place.proofs.place.Place.at.Goals as goal
 
 pub index-requires : goal.index-requires
@@ -14,11 +13,14 @@ index-requires c =
 
 pub returns : goal.returns
 returns c =
-    let seat = c.self.inside.seat in let xs = c.self.inside.list.items in let d = c.index.result.now in
-    let len : length c.args.self.now.blocks ≡ length xs = sym (ap (λ p. length p.blocks) c.self.view_is) ∙ shown_long seat.lots xs in
-    let inside : c.args.k < length xs = subst (λ (n : ℕ). c.args.k < n) len c.requires in
-    let t = at_place seat xs (vec_capacity c.self.inside.list) c.self.inside.total c.self.inside.state c.self.invariant c.args.k d inside in
-    let first : drop c.args.k c.args.self.now.blocks ≡ (d.0, t.0) ∷ t.1 =
-    sym (ap (λ p. drop c.args.k p.blocks) c.self.view_is) ∙ t.2 ∙ ap (λ (z : ℕ × Header). (z.0, t.0) ∷ t.1) (sym c.index.ensures) in
-    let distinct : Distinct (keys c.args.self.now.blocks) = subst (λ p. Distinct (keys p.blocks)) c.self.view_is (subst Distinct (sym (shown_keys seat.lots xs)) c.self.invariant.distinct) in
-    (t.0, t.1, first, value_drop d.0 t.0 t.1 c.args.k c.args.self.now.blocks first distinct, ap (λ (z : ℕ × Header). z.1.kind) c.index.ensures ∙ t.3)
+    let seat = c.self.inside.seat in let rs = c.self.inside.list.items in let xs : List (ℕ × Item) = shown seat.lots rs in let k : ℕ = c.args.k in
+    let len : length c.args.self.now.blocks ≡ length xs = sym (ap (λ p. length p.blocks) c.self.view_is) in
+    let inside : k < length xs = subst (λ (n : ℕ). k < n) len c.requires in
+    let d : ℕ × Item = (0, record { len = 0; content = bytes [] }) in let x : ℕ × Item = get_or xs k d in
+    let r : ℕ = c.index.result.now in
+    let number : r ≡ x.0 = c.index.ensures ∙ ap (λ (l : List ℕ). get_or l k r) (sym (shown_keys seat.lots rs)) ∙ key_at k r xs d inside in (
+      x.1,
+      drop (suc k) xs,
+      sym (ap (λ p. drop k p.blocks) c.self.view_is) ∙ next k xs d inside ∙ ap (λ (n : ℕ). (n, x.1) ∷ drop (suc k) xs) (sym number),
+      sym (ap (λ p. value_at r p.blocks) c.self.view_is) ∙ ap (λ (n : ℕ). value_at n xs) number ∙ get_at k xs d c.self.invariant.distinct inside,
+    )

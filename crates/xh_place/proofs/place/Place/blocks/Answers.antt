@@ -1,19 +1,19 @@
 use Rattle.std.proofs.Common.{sym, ◌∙◌, ap, subst}
 use Rattle.std.specs.Vec.{vec_capacity}
-use Rattle.xh_place.specs.Places.{AreBlocks, headers}
+use Rattle.xh_place.specs.Places.{AreBlocks, shown}
+use Rattle.xh_model.specs.Keyed.{keys}
+use Rattle.xh_place.proofs.Listing.{shown_keys}
 use Rattle.xh_core.specs.Statuses.{is_over}
-use Rattle.xh_place.proofs.Shown.{are_blocks, headers_shown, over_empty}
+use Rattle.xh_place.proofs.Shown.{are_blocks, over_empty}
 use Rattle.xh_place.proofs.place.Place.blocks.Goals as goal
 
 pub returns-clause-list : goal.returns-clause-list
-returns-clause-list c = c.as_slice.ensures.value
-    ∙ sym (headers_shown c.self.inside.seat c.self.inside.list.items (vec_capacity c.self.inside.list) c.self.inside.total c.self.inside.state c.self.invariant)
-    ∙ ap (λ p. headers p.blocks) c.self.view_is
+returns-clause-list c = c.as_slice.ensures.value ∙ sym (shown_keys c.self.inside.seat.lots c.self.inside.list.items) ∙ ap (λ p. keys p.blocks) c.self.view_is
 
 pub returns-clause-blocks : goal.returns-clause-blocks
 returns-clause-blocks c = subst (λ p. AreBlocks p.blocks) c.self.view_is
-    (are_blocks c.self.inside.seat c.self.inside.list.items (vec_capacity c.self.inside.list) c.self.inside.total c.self.inside.state c.self.invariant)
+    (are_blocks c.self.inside.seat (shown c.self.inside.seat.lots c.self.inside.list.items) (vec_capacity c.self.inside.list) c.self.inside.total c.self.inside.state c.self.invariant)
 
 pub returns-clause-none : goal.returns-clause-none
 returns-clause-none c = λ e. ap (λ p. p.blocks) (sym c.self.view_is)
-    ∙ over_empty c.self.inside.seat c.self.inside.list.items (vec_capacity c.self.inside.list) c.self.inside.total c.self.inside.state c.self.invariant (ap (λ p. is_over p.state) c.self.view_is ∙ e)
+    ∙ over_empty c.self.inside.seat (shown c.self.inside.seat.lots c.self.inside.list.items) (vec_capacity c.self.inside.list) c.self.inside.total c.self.inside.state c.self.invariant (ap (λ p. is_over p.state) c.self.view_is ∙ e)

@@ -1,11 +1,11 @@
-use Rattle.std.proofs.Common.{◌∙◌, ap}
-use Rattle.std.specs.Vec.{vec_capacity}
+use Rattle.std.proofs.Common.{rules, ◌≡◌, true, sym, ap, ◌∙◌}
 use Rattle.xh_model.specs.Keyed.{value_at}
-use Rattle.xh_place.specs.Places.{entry_of}
-use Rattle.xh_place.proofs.Steps.{header_at}
+use Rattle.xh_place.specs.Places.{PlaceOf}
+use Rattle.xh_place.proofs.GiveTests.{some_of}
 use Rattle.xh_place.proofs.place.Place.header.Goals as goal
 
-pub returns : goal.returns
-returns c = c.entry.ensures ∙ ap (value_at c.args.r) c.as_slice.ensures.value
-    ∙ header_at c.self.inside.seat c.self.inside.list.items (vec_capacity c.self.inside.list) c.self.inside.total c.self.inside.state c.self.invariant c.args.r
-    ∙ ap (λ p. entry_of (value_at c.args.r p.blocks)) c.self.view_is
+pub look-requires-clause-listed : goal.look-requires-clause-listed
+look-requires-clause-listed c =
+    let is : c.has.result ≡ true = search rules in
+    let t = some_of (value_at c.args.r c.args.self.now.blocks) (sym c.has.ensures.has ∙ is) in
+    (t.0, ap (λ (p : PlaceOf). value_at c.args.r p.blocks) c.has.ensures.same ∙ t.1)

@@ -4,4 +4,4 @@ use Rattle.xh_place.specs.Messages.{is_listed}
 use Rattle.xh_place.proofs.place.Place.lists_all.Given as goal
 
 abbrev pub invariant-loop-r : goal.invariant-loop-r
-invariant-loop-r l = list_all (is_listed l.self.blocks) (take l.r-index l.blocks) ≡ true
+invariant-loop-r l = (l.self ≡ l.initial.self) × (list_all (is_listed l.self.blocks) (take l.r-index l.blocks) ≡ true)

@@ -1,89 +1,72 @@
 use Rattle.std.proofs.Common.{rules, arith, ◌≡◌, ℕ, ◌+◌, ◌-◌, ◌<◌, [], ◌∷◌, ◌++◌, length, refl, sym, ap, ◌∙◌, subst, true}
 use Rattle.std.specs.Vec.{vec_capacity}
 use Rattle.xh_model.specs.Keyed.{put}
-use Rattle.xh_core.specs.declared.header.Header.{Header}
-use Rattle.xh_core.specs.declared.header.Kind.TheVariants as kind
-use Rattle.xh_place.specs.Bodies.{content_of, front, kind_of, rest}
-use Rattle.xh_place.specs.Places.{Item, found as found_at, header_of, item_of, with_blocks}
+use Rattle.xh_place.specs.Bodies.{front, kind_of, rest}
+use Rattle.xh_place.specs.Places.{Item, found as found_at, shown, with_blocks}
 use Rattle.xh_core.specs.Calls.{split_tests}
 use Rattle.xh_core.specs.Statuses.{is_running}
 use Rattle.xh_place.proofs.Desks.{same_place}
 use Rattle.xh_place.proofs.Found.{found}
-use Rattle.xh_place.proofs.Parted.{front_kind, parted, put_long, rest_kind, runs}
-use Rattle.xh_place.proofs.Steps.{has_room, kept}
+use Rattle.xh_place.proofs.Parted.{parted, runs}
+use Rattle.xh_place.proofs.Steps.{list_room, over_running, stays}
 use Rattle.xh_place.proofs.place.Place.split.Goals as goal
 
 pub cut_block-requires-clause-held : goal.cut_block-requires-clause-held
 cut_block-requires-clause-held g c =
-    let seat = c.self.inside.seat in let xs = c.self.inside.list.items in let room : ℕ = vec_capacity c.self.inside.list in let total : ℕ = c.self.inside.total in let state =
+    let seat = c.self.inside.seat in let rs = c.self.inside.list.items in let room : ℕ = vec_capacity c.self.inside.list in let total : ℕ = c.self.inside.total in let state =
     c.self.inside.state in let is = c.self.invariant in
-    let q = c.in_ok-len.ensures.1 in let r : ℕ = c.args.r in
-    let f = found seat xs room total state is c.args.self.now c.self.view_is r q.0 q.1 in
-    let run : is_running state ≡ true = ap (λ p. is_running p.state) c.self.view_is ∙ runs c.args.self.now.state (split_tests (found_at c.args.self.now r) c.args.k) c.in_ok-len.ensures.0 in
+    let v = c.self.view_is ∙ c.in_ok-len.ensures.same in let q = c.in_ok-len.ensures.tested.1 in let r : ℕ = c.args.r in
+    let f = found seat (shown seat.lots rs) room total state is c.args.self.now v r q.0 q.1 in
+    let run : is_running state ≡ true = ap (λ p. is_running p.state) v ∙ runs c.args.self.now.state (split_tests (found_at c.args.self.now r) c.args.k) c.in_ok-len.ensures.tested.0 in
     let full : f.lot.len ≡ c.in_ok-len.len = ap (λ (x : Item). x.len) f.same ∙ q.3 in
     (f.lot, f.held, f.block, (ap (λ (x : Item). kind_of x.content) f.same ∙ q.2, f.block.full.1, f.block.full.0), (q.4.0, q.4.1, subst (λ (z : ℕ). c.args.k < z) (sym full) q.4.2))
 
 pub invariant_of-self : goal.invariant_of-self
 invariant_of-self g c =
-    kept c.self.inside.seat c.cut_block.new.seat c.self.inside.list.items (vec_capacity c.self.inside.list) c.self.inside.total c.self.inside.state c.in_err-rec.ensures.refused.0 c.self.invariant
+    (stays c.self.inside.seat c.self.inside.list.items (vec_capacity c.self.inside.list) c.self.inside.total c.self.inside.state c.self.invariant c.cut_block.new.seat c.in_err-rec.ensures.refused.0).0
 
 pub push_reserved-requires : goal.push_reserved-requires
 push_reserved-requires g c =
-    let seat = c.self.inside.seat in let xs = c.self.inside.list.items in let room : ℕ = vec_capacity c.self.inside.list in let total : ℕ = c.self.inside.total in let state =
+    let seat = c.self.inside.seat in let rs = c.self.inside.list.items in let room : ℕ = vec_capacity c.self.inside.list in let total : ℕ = c.self.inside.total in let state =
     c.self.inside.state in let is = c.self.invariant in
-    let q = c.in_ok-len.ensures.1 in let r : ℕ = c.args.r in
-    let f = found seat xs room total state is c.args.self.now c.self.view_is r q.0 q.1 in
-    let run : is_running state ≡ true = ap (λ p. is_running p.state) c.self.view_is ∙ runs c.args.self.now.state (split_tests (found_at c.args.self.now r) c.args.k) c.in_ok-len.ensures.0 in
+    let v = c.self.view_is ∙ c.in_ok-len.ensures.same in let q = c.in_ok-len.ensures.tested.1 in let r : ℕ = c.args.r in
+    let f = found seat (shown seat.lots rs) room total state is c.args.self.now v r q.0 q.1 in
+    let run : is_running state ≡ true = ap (λ p. is_running p.state) v ∙ runs c.args.self.now.state (split_tests (found_at c.args.self.now r) c.args.k) c.in_ok-len.ensures.tested.0 in
     let n : ℕ = c.in_ok-rec.rec in let cut = c.in_ok-rec.ensures.cut f.lot f.held in
-    let fits = has_room seat xs room total state is n cut.5.exists cut.2 in
-    let long : length c.replace.new.list.items ≡ length xs = ap length c.replace.ensures.items ∙ put_long r _ xs in
-    let below : length c.replace.new.list.items < vec_capacity c.replace.new.list = subst (λ (z : ℕ × ℕ). z.0 < z.1) (λ i. (sym long i, sym c.replace.ensures.room i)) fits.0 in search rules
+    let fits = list_room seat rs room total state is n cut.5.exists cut.2 in
+    let below : length rs < room = fits.0 in search rules
 
 pub invariant_of-self-2 : goal.invariant_of-self-2
 invariant_of-self-2 g c =
-    let seat = c.self.inside.seat in let xs = c.self.inside.list.items in let room : ℕ = vec_capacity c.self.inside.list in let total : ℕ = c.self.inside.total in let state =
+    let seat = c.self.inside.seat in let rs = c.self.inside.list.items in let room : ℕ = vec_capacity c.self.inside.list in let total : ℕ = c.self.inside.total in let state =
     c.self.inside.state in let is = c.self.invariant in
-    let q = c.in_ok-len.ensures.1 in let r : ℕ = c.args.r in
-    let f = found seat xs room total state is c.args.self.now c.self.view_is r q.0 q.1 in
-    let run : is_running state ≡ true = ap (λ p. is_running p.state) c.self.view_is ∙ runs c.args.self.now.state (split_tests (found_at c.args.self.now r) c.args.k) c.in_ok-len.ensures.0 in
+    let v = c.self.view_is ∙ c.in_ok-len.ensures.same in let q = c.in_ok-len.ensures.tested.1 in let r : ℕ = c.args.r in
+    let f = found seat (shown seat.lots rs) room total state is c.args.self.now v r q.0 q.1 in
+    let run : is_running state ≡ true = ap (λ p. is_running p.state) v ∙ runs c.args.self.now.state (split_tests (found_at c.args.self.now r) c.args.k) c.in_ok-len.ensures.tested.0 in
     let n : ℕ = c.in_ok-rec.rec in let cut = c.in_ok-rec.ensures.cut f.lot f.held in
     let full : f.lot.len ≡ c.in_ok-len.len = ap (λ (x : Item). x.len) f.same ∙ q.3 in
     let tail : cut.1.len ≡ c.in_ok-len.len - c.args.k = (let a : cut.0.len ≡ c.args.k = cut.6 in let b : cut.0.len + cut.1.len ≡ f.lot.len = cut.7 in omega arith) in
-    let kind_is : kind_of (content_of f.lot.body) ≡ kind.Data = ap (λ (x : Item). kind_of x.content) f.same ∙ q.2 in
-    let head_is : header_of (item_of cut.0) ≡ record { len = c.args.k; kind = kind.Data } =
-    λ i. record { len = cut.6 i; kind = (ap kind_of cut.8 ∙ front_kind c.args.k (content_of f.lot.body) ∙ kind_is) i } in
-    let tail_is : header_of (item_of cut.1) ≡ record { len = c.in_ok-len.len - c.args.k; kind = kind.Data } =
-    λ i. record { len = tail i; kind = (ap kind_of cut.9 ∙ rest_kind c.args.k (content_of f.lot.body) ∙ kind_is) i } in
-    let items : c.push_reserved.new.self.items ≡ put r (header_of (item_of cut.0)) xs ++ (n, header_of (item_of cut.1)) ∷ [] =
-    c.push_reserved.ensures.items ∙ (λ i. c.replace.ensures.items i ++ (n, sym tail_is i) ∷ []) ∙ ap (λ (z : Header). put r z xs ++ (n, header_of (item_of cut.1)) ∷ []) (sym head_is) in
-    let both = parted seat c.cut_block.new.seat xs c.push_reserved.new.self.items room
-    (vec_capacity c.push_reserved.new.self) total state r n f.lot cut.0 cut.1 run is f.held cut.4 cut.5 cut.2 cut.3 cut.7 items (c.push_reserved.ensures.capacity ∙ c.replace.ensures.room) in
+    let both = parted seat c.cut_block.new.seat rs c.push_reserved.new.self.items room
+    (vec_capacity c.push_reserved.new.self) total state r n f.lot cut.0 cut.1 (over_running state run) is f.held cut.4 cut.5 cut.2 cut.3 cut.7 c.push_reserved.ensures.items c.push_reserved.ensures.capacity in
     both.0
 
 pub returns-clause-cut : goal.returns-clause-cut
 returns-clause-cut g c =
-    let seat = c.self.inside.seat in let xs = c.self.inside.list.items in let room : ℕ = vec_capacity c.self.inside.list in let total : ℕ = c.self.inside.total in let state =
+    let seat = c.self.inside.seat in let rs = c.self.inside.list.items in let room : ℕ = vec_capacity c.self.inside.list in let total : ℕ = c.self.inside.total in let state =
     c.self.inside.state in let is = c.self.invariant in
-    let q = c.in_ok-len.ensures.1 in let r : ℕ = c.args.r in
-    let f = found seat xs room total state is c.args.self.now c.self.view_is r q.0 q.1 in
-    let run : is_running state ≡ true = ap (λ p. is_running p.state) c.self.view_is ∙ runs c.args.self.now.state (split_tests (found_at c.args.self.now r) c.args.k) c.in_ok-len.ensures.0 in
+    let v = c.self.view_is ∙ c.in_ok-len.ensures.same in let q = c.in_ok-len.ensures.tested.1 in let r : ℕ = c.args.r in
+    let f = found seat (shown seat.lots rs) room total state is c.args.self.now v r q.0 q.1 in
+    let run : is_running state ≡ true = ap (λ p. is_running p.state) v ∙ runs c.args.self.now.state (split_tests (found_at c.args.self.now r) c.args.k) c.in_ok-len.ensures.tested.0 in
     let n : ℕ = c.in_ok-rec.rec in let cut = c.in_ok-rec.ensures.cut f.lot f.held in
     let full : f.lot.len ≡ c.in_ok-len.len = ap (λ (x : Item). x.len) f.same ∙ q.3 in
     let tail : cut.1.len ≡ c.in_ok-len.len - c.args.k = (let a : cut.0.len ≡ c.args.k = cut.6 in let b : cut.0.len + cut.1.len ≡ f.lot.len = cut.7 in omega arith) in
-    let kind_is : kind_of (content_of f.lot.body) ≡ kind.Data = ap (λ (x : Item). kind_of x.content) f.same ∙ q.2 in
-    let head_is : header_of (item_of cut.0) ≡ record { len = c.args.k; kind = kind.Data } =
-    λ i. record { len = cut.6 i; kind = (ap kind_of cut.8 ∙ front_kind c.args.k (content_of f.lot.body) ∙ kind_is) i } in
-    let tail_is : header_of (item_of cut.1) ≡ record { len = c.in_ok-len.len - c.args.k; kind = kind.Data } =
-    λ i. record { len = tail i; kind = (ap kind_of cut.9 ∙ rest_kind c.args.k (content_of f.lot.body) ∙ kind_is) i } in
-    let items : c.push_reserved.new.self.items ≡ put r (header_of (item_of cut.0)) xs ++ (n, header_of (item_of cut.1)) ∷ [] =
-    c.push_reserved.ensures.items ∙ (λ i. c.replace.ensures.items i ++ (n, sym tail_is i) ∷ []) ∙ ap (λ (z : Header). put r z xs ++ (n, header_of (item_of cut.1)) ∷ []) (sym head_is) in
-    let both = parted seat c.cut_block.new.seat xs c.push_reserved.new.self.items room
-    (vec_capacity c.push_reserved.new.self) total state r n f.lot cut.0 cut.1 run is f.held cut.4 cut.5 cut.2 cut.3 cut.7 items (c.push_reserved.ensures.capacity ∙ c.replace.ensures.room) in
+    let both = parted seat c.cut_block.new.seat rs c.push_reserved.new.self.items room
+    (vec_capacity c.push_reserved.new.self) total state r n f.lot cut.0 cut.1 (over_running state run) is f.held cut.4 cut.5 cut.2 cut.3 cut.7 c.push_reserved.ensures.items c.push_reserved.ensures.capacity in
     record {
       cut = (
         q.0,
         q.1,
-        both.1 c.args.self.now c.self.view_is ∙ (λ i. with_blocks c.args.self.now
+        both.1 c.args.self.now v ∙ (λ i. with_blocks c.args.self.now
             (put r (record { len = cut.6 i; content = (cut.8 ∙ ap (λ (x : Item). front c.args.k x.content) f.same) i }) c.args.self.now.blocks
             ++ (n, record { len = tail i; content = (cut.9 ∙ ap (λ (x : Item). rest c.args.k x.content) f.same) i }) ∷ [])),
         refl,

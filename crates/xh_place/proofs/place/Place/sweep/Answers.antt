@@ -1,5 +1,5 @@
-use Rattle.std.proofs.Common.{arith, ℕ, ◌+◌, ◌<◌, length, refl, ap}
-use Rattle.xh_place.specs.Ending.{IsSweptBy}
+use Rattle.std.proofs.Common.{arith, ℕ, ◌+◌, ◌<◌, length, refl, sym, ap, subst}
+use Rattle.xh_place.specs.Ending.{HasGivenBack, IsSweptBy}
 use Rattle.xh_place.specs.Places.{PlaceOf}
 use Rattle.xh_place.proofs.Swept.{gave_more, gave_nothing, started, swept_more, swept_none, twice_own}
 use Rattle.xh_place.proofs.Desks.{same_again}
@@ -10,17 +10,18 @@ loop-used-init g c = (omega arith, omega arith, refl, swept_none c.args.from c.a
 
 pub loop-used-preserved : goal.loop-used-preserved
 loop-used-preserved g c =
-    let i = c.loop-used.invariant in let old = c.args.self.now in let mid = c.loop-used.self in let new = c.reclaim-more.new.self in let used : ℕ = c.loop-used.used in let from : ℕ = c.args.from in
+    let i = c.loop-used.invariant in let old = c.args.self.now in let mid = c.loop-used.self in let new = c.reclaim.new.self in let used : ℕ = c.loop-used.used in let from : ℕ = c.args.from in let bytes : ℕ = c.from-bytes.result in
     let some : from < length mid.blocks = omega arith in
     let inside : from < length old.blocks = started from old.blocks mid.blocks some i.4 in
-    let by : IsSweptBy from (used + c.reclaim-more.result.1) old new (c.loop-used.bytes + c.reclaim-more.result.0) =
-    swept_more from used c.reclaim-more.result.1 c.loop-used.bytes c.reclaim-more.result.0 old mid new (omega (arith, inside))
-    (ap (λ (p : PlaceOf). p.process) i.2) i.3 c.reclaim-more.ensures.swept in (
+    let by : IsSweptBy from (used + 1) old new (c.loop-used.bytes + bytes) =
+    swept_more from used 1 c.loop-used.bytes bytes old mid new (omega (arith, inside))
+    (ap (λ (p : PlaceOf). p.process) i.2) i.3 (subst (λ (n : ℕ). IsSweptBy from 1 mid new n) (sym c.from-bytes.ensures) c.reclaim.ensures.swept) in (
       omega arith,
-      omega (arith, i.1, c.reclaim-more.ensures.count.2),
-      twice_own old mid new i.2 c.reclaim-more.ensures.list,
+      omega (arith, i.1),
+      twice_own old mid new i.2 c.reclaim.ensures.list,
       by,
       (λ h. absurd (omega (arith, inside, h))),
-      same_again g.V.Vaults.names g.V.Vaults.extent c.args.desk.now c.loop-used.desk c.reclaim-more.new.desk i.5 c.reclaim-more.ensures.same,
-      gave_more c.loop-used.bytes c.reclaim-more.result.0 c.args.desk.now.tallies.now c.loop-used.desk.tallies.now c.reclaim-more.new.desk.tallies.now i.6 c.reclaim-more.ensures.back,
+      same_again g.V.Vaults.names g.V.Vaults.extent c.args.desk.now c.loop-used.desk c.reclaim.new.desk i.5 c.reclaim.ensures.same,
+      gave_more c.loop-used.bytes bytes c.args.desk.now.tallies.now c.loop-used.desk.tallies.now c.reclaim.new.desk.tallies.now i.6
+          (subst (λ (n : ℕ). HasGivenBack n c.loop-used.desk.tallies.now c.reclaim.new.desk.tallies.now) (sym c.from-bytes.ensures) c.reclaim.ensures.back),
     )

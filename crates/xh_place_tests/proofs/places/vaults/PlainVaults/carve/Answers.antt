@@ -1,5 +1,5 @@
 use Rattle.std.proofs.Common.{◌≡◌, ℕ, ◌<◌, length, get_or, set, refl, sym, ap, ◌∙◌, subst}
-use Rattle.std.specs.Prelude.{Some, slice_get}
+use Rattle.std.specs.Prelude.{Some}
 use Rattle.xh_arena.specs.Views.{VaultOf}
 use Rattle.xh_arena.specs.Refusals.{RefusesCarve}
 use Rattle.xh_place_tests.proofs.Plain.{carve_id, named_at, names_kept, on_err, vault_at}

@@ -1,5 +1,4 @@
-use Rattle.std.proofs.Common.{◌≡◌, ℕ, ◌<◌, length, get_or, set, refl, sym, ap, ◌∙◌, subst}
-use Rattle.std.specs.Prelude.{Some, slice_get}
+use Rattle.std.proofs.Common.{ℕ, ◌<◌, length, refl, sym, ap, ◌∙◌, subst}
 use Rattle.xh_arena.specs.Views.{VaultOf}
 use Rattle.xh_place_tests.proofs.Plain.{named_at, names_kept}
 use Rattle.xh_place_tests.proofs.places.vaults.PlainVaults.give_back.Goals as goal

@@ -1,0 +1,36 @@
+-- What the private steps do to a place's list, and the bytes of records by their lots.
+use Rattle.std.specs.Prelude.{◌≡◌, ◌⊎◌, ℕ, ◌+◌, ◌==◌, Bool, cond, List, [], ◌∷◌, ◌++◌, Option, Some, is_some}
+use Rattle.std.specs.List.{list_any}
+use Rattle.xh_arena.specs.Views.{LotOf}
+use Rattle.xh_model.specs.declared.event.Event.TheVariants.{Accept}
+use Rattle.xh_model.specs.Keyed.{Among, keys, value_at}
+use Rattle.xh_records.specs.Seats.{Held, did}
+use Rattle.xh_place.specs.declared.body.Body.{Body}
+use Rattle.xh_place.specs.inner.Lots.{HasNow}
+use Rattle.xh_place.specs.Places.{IsBlock, item_in}
+
+-- the list without a number
+abbrev pub less : ℕ → List ℕ → List ℕ
+less r [] = []
+less r (x ∷ xs) = cond (x == r) (less r xs) (x ∷ less r xs)
+
+-- the list without those of the given numbers that do not stay
+abbrev pub less_all : List ℕ → (ℕ → Bool) → List ℕ → List ℕ
+less_all [] stays xs = xs
+less_all (r ∷ rs) stays xs = less_all rs stays (cond (stays r) xs (less r xs))
+
+-- the bytes of these records, by what the seat has of each
+abbrev pub lens : List ℕ → (ℕ → Option (LotOf Body)) → ℕ
+lens [] lot = 0
+lens (r ∷ rs) lot = (item_in (lot r)).len + lens rs lot
+
+-- a record did not come back, and nothing changed but what the seat has seen; or it was accepted on the direction, with so many bytes
+abbrev pub CameBack : ℕ → ℕ → Held Body → Held Body → List ℕ → List ℕ → ℕ → Type 0
+CameBack d r old new had back bytes = ((back ≡ had) × HasNow old old.lots new × (bytes ≡ 0)) ⊎ ((l : LotOf Body) × (back ≡ had ++ r ∷ []) × (Among (keys old.lots) r → ⊥)
+    × HasNow (did (Accept old.process r d) old) (old.lots ++ (r, l) ∷ []) new × IsBlock old.shape r l × (bytes ≡ l.len))
+
+-- of the given records the seat has those that came back, all well formed
+pub record AreBack (given back : List ℕ) (seat : Held Body) : Type 0 where
+  pub here : (r : ℕ) → Among given r → list_any (λ q. q == r) back ≡ is_some (value_at r seat.lots)
+  pub only : (r : ℕ) → Among back r → Among given r
+  pub good : (r : ℕ) (l : LotOf Body) → Among given r → value_at r seat.lots ≡ Some l → IsBlock seat.shape r l
