@@ -4,11 +4,10 @@ ghost use Rattle.xh_picture.specs.Documents.{IsPicture};
 
 use crate::document::Document;
 use crate::history::{Bar, History, Keeper};
-use crate::labels::{Labels, is_refused, phrase, reply_text};
+use crate::labels::{Labels, is_refused, reply_text};
 use crate::layout::{COMMANDS, LETTER, LETTERS, Layout, REPLIES, ROW, STRIPS, entry};
 use crate::shapes::{Area, open_rect, rect, tell, words};
 use crate::tags::{Key, Tag};
-use itoa::Buffer;
 use std::alloc::{AllocError, Global};
 use xh_core::Config;
 use xh_script::{Answered, Name};
@@ -18,11 +17,8 @@ const HEADING: &[u8] = b"The heap over time, command by command";
 /// The colour of a number's hue. Numbers below 360 have hues of their own, those of neighbours far apart.
 fn colour(alloc: Global, number: usize) -> Result<Vec<u8>, AllocError> {
     let hue = (number % 360 * 137 + 210) % 360;
-    let mut digits = Buffer::new();
-    phrase(
-        alloc,
-        &[b"hsl(", digits.format(hue as u64).as_bytes(), b",65%,60%)"],
-    )
+    let text = format!(in alloc; "hsl({hue},65%,60%)")?;
+    Ok(text.into_bytes())
 }
 
 /// Gives an open rectangle the look of a holder: a process has a full colour, a direction a pale one
@@ -132,21 +128,8 @@ fn draw_rows(
 
 /// What stands above the strip of an arena.
 fn heading(alloc: Global, arena: u8, shown: u32, size: u32) -> Result<Vec<u8>, AllocError> {
-    let mut number = Buffer::new();
-    let mut some = Buffer::new();
-    let mut all = Buffer::new();
-    phrase(
-        alloc,
-        &[
-            b"arena ",
-            number.format(arena).as_bytes(),
-            b": the first ",
-            some.format(shown).as_bytes(),
-            b" of ",
-            all.format(size).as_bytes(),
-            b" bytes",
-        ],
-    )
+    let text = format!(in alloc; "arena {arena}: the first {shown} of {size} bytes")?;
+    Ok(text.into_bytes())
 }
 
 /// Draws the heads of the columns, and the strips of the arenas, all holes.

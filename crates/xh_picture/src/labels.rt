@@ -1,12 +1,11 @@
 //! What rows and holders are called by.
 use crate::history::{Bar, History, Keeper};
-use itoa::Buffer;
 use std::alloc::{AllocError, Global};
 use std::io::Write;
 use xh_script::{Answered, Name, Reply, Watched, write_reply};
 
 /// The pieces, one behind the other.
-pub(crate) fn phrase(alloc: Global, pieces: &[&[u8]]) -> Result<Vec<u8>, AllocError> {
+fn phrase(alloc: Global, pieces: &[&[u8]]) -> Result<Vec<u8>, AllocError> {
     let mut text = Vec::new(alloc);
     for piece in pieces {
         text.extend_from_slice(piece)?;
@@ -68,12 +67,8 @@ pub(crate) fn reply_text(alloc: Global, answered: &Answered) -> Result<Vec<u8>, 
 }
 
 /// What is told of a bar behind its record.
-fn kind_of(bar: &Bar) -> &'static [u8] {
-    if bar.is_end {
-        b" (an endpoint): "
-    } else {
-        b": "
-    }
+fn kind_of(bar: &Bar) -> &'static str {
+    if bar.is_end { " (an endpoint): " } else { ": " }
 }
 
 impl<'a> Labels<'a> {
@@ -136,22 +131,10 @@ impl<'a> Labels<'a> {
 
     /// What is told of a bar: its record, its length, where it begins, and its holder.
     pub(crate) fn bar(&self, alloc: Global, bar: &Bar) -> Result<Vec<u8>, AllocError> {
-        let mut record = Buffer::new();
-        let mut length = Buffer::new();
-        let mut start = Buffer::new();
         let holder = self.holder(alloc, bar.keeper)?;
-        phrase(
-            alloc,
-            &[
-                b"record ",
-                record.format(bar.record).as_bytes(),
-                kind_of(bar),
-                length.format(bar.length).as_bytes(),
-                b" bytes from ",
-                start.format(bar.start).as_bytes(),
-                b" on, ",
-                &holder,
-            ],
-        )
+        let kind = kind_of(bar);
+        let (record, length, start) = (bar.record, bar.length, bar.start);
+        let place = format!(in alloc; "record {record}{kind}{length} bytes from {start} on, ")?;
+        phrase(alloc, &[place.as_bytes(), &holder])
     }
 }

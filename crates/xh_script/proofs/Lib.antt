@@ -4,7 +4,5 @@ pub mod WordLemmas
 pub mod Readings
 pub mod TableLemmas
 pub mod Writings
-pub mod SpellingWords
-pub mod SpellingLines
-pub mod SayingWords
-pub mod SayingLines
+pub mod Spelling
+pub mod Saying

@@ -3,6 +3,7 @@ use Rattle.std.proofs.Common.{◌≡◌, ◌≢◌, ◌<◌, ℕ, suc, zero, Boo
 use Rattle.std.specs.List.{list_all}
 use Rattle.std.proofs.lemmas.Bool.Decides.{nat_tests}
 use Rattle.std.proofs.lemmas.Bool.{and_parts, and_from, cases_Bool}
+use Rattle.std.proofs.lemmas.List.Sums.{AllPass-from_list_all}
 use Rattle.xh_model.specs.declared.row.Row.{Row}
 use Rattle.xh_model.specs.Rows.{no_row, row_at, IsRow, IsInRange, IsValid, Agree}
 use Rattle.xh_core.specs.Tables.{IsNoContract}
@@ -20,11 +21,6 @@ all_of : {A : Type 0} (p : A → Bool) (xs : List A) (d : A) → ((i : ℕ) → 
 all_of p [] d h = refl
 all_of p (x ∷ xs) d h = and_from _ _ (h 0 (omega arith)) (all_of p xs d (λ i below. h (suc i) (omega arith)))
 
-of_all : {A : Type 0} (p : A → Bool) (xs : List A) (d : A) → list_all p xs ≡ true → (i : ℕ) → i < length xs → p (get_or xs i d) ≡ true
-of_all p [] d h i below = absurd (omega arith)
-of_all p (x ∷ xs) d h zero below = (and_parts _ _ h).0
-of_all p (x ∷ xs) d h (suc i) below = of_all p xs d (and_parts _ _ h).1 i (omega arith)
-
 agree_all : (rows : List Row) → IsValid rows → all_agree rows ≡ true
 agree_all [] h = refl
 agree_all (row ∷ rows) h = and_from _ _
@@ -35,7 +31,7 @@ all_agree_valid : (rows : List Row) → all_agree rows ≡ true → IsValid rows
 all_agree_valid [] h i j first second = absurd (omega arith)
 all_agree_valid (row ∷ rows) h i zero first second = absurd (omega arith)
 all_agree_valid (row ∷ rows) h zero (suc j) first second =
-    true_agree row (row_at rows j) (of_all (agree row) rows no_row (and_parts _ _ h).0 j (omega arith))
+    true_agree row (row_at rows j) (AllPass-from_list_all (agree row) rows (and_parts _ _ h).0 j no_row (omega arith))
 all_agree_valid (row ∷ rows) h (suc i) (suc j) first second =
     all_agree_valid rows (and_parts _ _ h).1 i j (omega arith) (omega arith)
 
@@ -54,7 +50,7 @@ table_range : (rows : List Row) → is_table rows ≡ true → IsInRange rows
 unfolding is_table
 table_range rows h =
     let all : list_all is_row rows ≡ true = grind (arith, nat_tests, h) in
-    (grind (arith, nat_tests, h), grind (arith, nat_tests, h), λ i below. true_row (row_at rows i) (of_all is_row rows no_row all i below))
+    (grind (arith, nat_tests, h), grind (arith, nat_tests, h), λ i below. true_row (row_at rows i) (AllPass-from_list_all is_row rows all i no_row below))
 
 table_valid : (rows : List Row) → is_table rows ≡ true → IsValid rows
 unfolding is_table

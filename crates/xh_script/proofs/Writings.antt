@@ -1,12 +1,14 @@
 -- Lemmas on what is written in several calls.
 use Rattle.std.proofs.Common.{◌≡◌, ℕ, suc, List, [], ◌∷◌, ◌++◌, ◌/◌, ◌%◌, codes, Option, Some, None, Result, Ok, Err, refl, ap, sym, ◌∙◌, append_assoc, map, drop, get_or}
-use Rattle.std.proofs.Common.{length, ◌<◌, ◌+◌, add-one, drop-cons, Bor}
+use Rattle.std.proofs.Common.{length, ◌<◌, ◌+◌, add-one, drop-cons, IsErrAnd}
 use Rattle.std.specs.List.{concat}
 use Rattle.xh_script.specs.Texts.{arena_text, arena_texts, place_text, place_texts, length_text, lengths_text, reply_text, answer_texts, hex_digit, hex_text}
 use Rattle.xh_script.specs.declared.reply.Answered.{Answered}
 use Rattle.xh_core.specs.declared.ledger.ArenaLine.{ArenaLine}
 use Rattle.xh_core.specs.declared.ledger.PlaceLine.{PlaceLine}
 use Rattle.std.specs.Io.KnownBytes.{Appends}
+use Rattle.xh_script.specs.declared.put.Piece.{Piece}
+use Rattle.xh_script.specs.inner.Pieces.{piece_text}
 use Rattle.xh_script.specs.Watching.{inner_of, Writes, WritesFront, WritesOrFails}
 use Rattle.xh_script.specs.declared.watch.Watched.{Watched}
 use Rattle.xh_script.specs.declared.fault.Fault.{Fault}
@@ -48,19 +50,29 @@ module _ {T : Type 0} (contents : T → Option (List ℕ)) where
   WritesOrFails-then a b c (Ok u) x y p q = Writes-then a b c x y p q
   WritesOrFails-then a b c (Err e) x y p q = (q.0, WritesFront-then a b c x y p q.1)
 
-  -- of what is written piece by piece, one piece is the next, or it stops the rest
-  pub goes_on : (a b c : Watched T) (front piece more rest whole : List ℕ) → whole ≡ front ++ rest → rest ≡ piece ++ more → Writes contents a b front → Writes contents b c piece →
-      (written : List ℕ) × Writes contents a c written × (whole ≡ written ++ more)
-  goes_on a b c front piece more rest whole w r p q = (front ++ piece, Writes-then a b c front piece p q, w ∙ ap (λ t. front ++ t) r ∙ sym (append_assoc front piece more))
+  -- so much of a whole was written that this rest of it is left
+  abbrev pub Wrote : Watched T → Watched T → List ℕ → List ℕ → Type 0
+  Wrote a b whole rest = (written : List ℕ) × Writes contents a b written × (whole ≡ written ++ rest)
 
-  pub stops_at : (a b c : Watched T) (front piece more rest whole : List ℕ) → whole ≡ front ++ rest → rest ≡ piece ++ more → Writes contents a b front → WritesFront contents b c piece →
-      WritesFront contents a c whole
-  stops_at a b c front piece more rest whole w r p q = rw (w, r) (WritesFront-then a b c front (piece ++ more) p (WritesFront-stops b c piece more q))
+  -- of what is written piece by piece, one piece is the next
+  pub goes_on : (a b c : Watched T) (piece more rest whole : List ℕ) → Wrote a b whole rest → rest ≡ piece ++ more → Writes contents b c piece → Wrote a c whole more
+  goes_on a b c piece more rest whole w s q = (w.0 ++ piece, Writes-then a b c w.0 piece w.1 q, w.2 ∙ ap (λ t. w.0 ++ t) s ∙ sym (append_assoc w.0 piece more))
+
+  -- a fault that is passed on, and that is then the fault of all
+  pub passes : (a b : Watched T) (r : Result (Unit {0}) Fault) (e : Fault) (x : List ℕ) → IsErrAnd r (λ f. f ≡ e) → WritesOrFails contents a b (Err e) x → WritesOrFails contents a b r x
+  passes a b (Ok u) e x h q = absurd h
+  passes a b (Err f) e x h q = (h ∙ q.0, q.1)
+
+  pub stops : (a b : Watched T) (r : Result (Unit {0}) Fault) (e : Fault) (x y : List ℕ) → IsErrAnd r (λ f. f ≡ e) → WritesOrFails contents a b (Err e) x → WritesOrFails contents a b r (x ++ y)
+  stops a b r e x y h q = passes a b r e (x ++ y) h (q.0, WritesFront-stops a b x y q.1)
+
+  pub stops_at : (a b c : Watched T) (r : Result (Unit {0}) Fault) (e : Fault) (piece more rest whole : List ℕ) → Wrote a b whole rest → rest ≡ piece ++ more → IsErrAnd r (λ f. f ≡ e) →
+      WritesOrFails contents b c (Err e) piece → WritesOrFails contents a c r whole
+  stops_at a b c r e piece more rest whole w s h q = rw (w.2, s) (WritesOrFails-then a b c r w.0 (piece ++ more) w.1 (stops b c r e piece more h q))
 
 -- the pieces from the i-th on
-pub concat_at : (pieces : List (Bor (List ℕ))) (i : ℕ) → i < length pieces
-    → concat (map (λ p. p.now) (drop i pieces)) ≡ (get_or pieces i (record { ref_ptr = (0, 0); now = [] })).now ++ concat (map (λ p. p.now) (drop (i + 1) pieces))
-concat_at pieces i below = rw (drop-cons pieces i (record { ref_ptr = (0, 0); now = [] }), add-one i) refl
+pub pieces_at : (pieces : List Piece) (i : ℕ) (d : Piece) → i < length pieces → concat (map piece_text (drop i pieces)) ≡ piece_text (get_or pieces i d) ++ concat (map piece_text (drop (i + 1) pieces))
+pieces_at pieces i d below = rw (drop-cons pieces i d, add-one i) refl
 
 pub arenas_at : (arenas : List ArenaLine) (i : ℕ) (d : ArenaLine) → i < length arenas → arena_texts i (drop i arenas) ≡ arena_text i (get_or arenas i d) ++ arena_texts (i + 1) (drop (i + 1) arenas)
 arenas_at arenas i d below = rw (drop-cons arenas i d, add-one i) refl

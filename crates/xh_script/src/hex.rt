@@ -1,7 +1,7 @@
 //! Hexadecimal digits.
 ghost use Rattle.std.specs.Prelude.{◌≡◌, ◌≤◌, ◌*◌, length};
 ghost use Rattle.std.specs.List.{list_all};
-ghost use Rattle.xh_script.specs.Words.{is_digit, is_hex_letter, is_hex_digit, is_hex, hex_value, hex_bytes};
+ghost use Rattle.xh_script.specs.Words.{is_hex_letter, is_hex_digit, is_hex, hex_value, hex_bytes};
 ghost use Rattle.xh_script.specs.declared.limits.TheConstants.{MAX_HEX};
 
 use crate::limits::MAX_HEX;

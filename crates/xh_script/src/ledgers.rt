@@ -1,13 +1,12 @@
 //! How ledgers are written.
-ghost use Rattle.std.specs.Prelude.{◌≡◌, ◌<◌, ◌++◌, length, [], ◌∷◌, codes};
-ghost use Rattle.std.specs.List.{concat, All};
-ghost use Rattle.std.specs.Fmt.{decimal};
+ghost use Rattle.std.specs.Prelude.{◌≡◌, ◌<◌, length};
+ghost use Rattle.std.specs.List.{All};
 ghost use Rattle.xh_script.specs.Watching.{WritesOrFails};
-ghost use Rattle.xh_script.specs.Texts.{state_text, arena_text, arena_texts, process_text, place_text, place_texts, sums_text, ledger_text};
+ghost use Rattle.xh_script.specs.Texts.{state_text, arena_text, arena_texts, place_text, place_texts, sums_text, ledger_text};
 
+use crate::put::Piece::{Number, Text};
 use crate::put::put_all;
 use crate::{Fault, Name, Watched};
-use itoa::Buffer;
 use std::io::Write;
 use xh_core::{ArenaLine, Ledger, PlaceLine, State};
 
@@ -29,28 +28,22 @@ fn put_arena<W: Write>(
 ) -> Result<(), Fault>
     ensures { WritesOrFails W.contents writer.old writer.new result (arena_text number arena.now) }
 {
-    let mut numbers = Buffer::new();
-    let mut sizes = Buffer::new();
-    let mut outs = Buffer::new();
-    let mut holes = Buffer::new();
-    let mut takens = Buffer::new();
-    let mut backs = Buffer::new();
     put_all(
         writer,
         &[
-            b"arena ",
-            numbers.format(number).as_bytes(),
-            b" ",
-            sizes.format(arena.size).as_bytes(),
-            b" ",
-            outs.format(arena.out).as_bytes(),
-            b" ",
-            holes.format(arena.holes).as_bytes(),
-            b" ",
-            takens.format(arena.taken).as_bytes(),
-            b" ",
-            backs.format(arena.back).as_bytes(),
-            b"\n",
+            Text(b"arena "),
+            Number(number as u64),
+            Text(b" "),
+            Number(u64::from(arena.size)),
+            Text(b" "),
+            Number(u64::from(arena.out)),
+            Text(b" "),
+            Number(u64::from(arena.holes)),
+            Text(b" "),
+            Number(arena.taken),
+            Text(b" "),
+            Number(arena.back),
+            Text(b"\n"),
         ],
     )
 }
@@ -64,33 +57,6 @@ fn put_arenas<W: Write>(writer: &mut Watched<W>, arenas: &[ArenaLine]) -> Result
     Ok(())
 }
 
-/// Writes a process's line, from its words.
-fn put_process<'a, W: Write>(
-    writer: &mut Watched<W>,
-    name: &'a [u8],
-    state: &'a [u8],
-    blocks: &'a [u8],
-    bytes: &'a [u8],
-) -> Result<(), Fault>
-    ensures { WritesOrFails W.contents writer.old writer.new result
-        (process_text name.now state.now blocks.now bytes.now) }
-{
-    put_all(
-        writer,
-        &[
-            b"process ",
-            name,
-            b" ",
-            state,
-            b" ",
-            blocks,
-            b" ",
-            bytes,
-            b"\n",
-        ],
-    )
-}
-
 #[tactic(auto, unfolding(crate::specs::Texts::place_text))]
 fn put_place<W: Write>(
     writer: &mut Watched<W>,
@@ -100,15 +66,20 @@ fn put_place<W: Write>(
     requires { line.now.place < length names.now }
     ensures { WritesOrFails W.contents writer.old writer.new result (place_text names.now line.now) }
 {
-    let mut blocks = Buffer::new();
-    let mut bytes = Buffer::new();
     let name = &names[usize::from(line.place)];
-    put_process(
+    put_all(
         writer,
-        name.as_bytes(),
-        state_name(line.state).as_bytes(),
-        blocks.format(line.blocks).as_bytes(),
-        bytes.format(line.bytes).as_bytes(),
+        &[
+            Text(b"process "),
+            Text(name.as_bytes()),
+            Text(b" "),
+            Text(state_name(line.state).as_bytes()),
+            Text(b" "),
+            Number(u64::from(line.blocks)),
+            Text(b" "),
+            Number(line.bytes),
+            Text(b"\n"),
+        ],
     )
 }
 
@@ -130,19 +101,16 @@ fn put_places<W: Write>(
 fn put_sums<W: Write>(writer: &mut Watched<W>, ledger: &Ledger) -> Result<(), Fault>
     ensures { WritesOrFails W.contents writer.old writer.new result (sums_text ledger.now) }
 {
-    let mut owned = Buffer::new();
-    let mut flight = Buffer::new();
-    let mut out = Buffer::new();
     put_all(
         writer,
         &[
-            b"owned ",
-            owned.format(ledger.owned).as_bytes(),
-            b"\nflight ",
-            flight.format(ledger.flight).as_bytes(),
-            b"\nout ",
-            out.format(ledger.out).as_bytes(),
-            b"\n",
+            Text(b"owned "),
+            Number(ledger.owned),
+            Text(b"\nflight "),
+            Number(ledger.flight),
+            Text(b"\nout "),
+            Number(ledger.out),
+            Text(b"\n"),
         ],
     )
 }

@@ -130,6 +130,5 @@ pub(crate) fn said_at(alloc: Global, line: &[u8]) -> Result<Option<Command<Name>
         return Err(Stop::Bad(Kind::BadByte));
     }
     let words = pieces(alloc, line, b' ')?;
-    let said = said_by(alloc, &words)?;
-    Ok(Some(said))
+    Ok(Some(said_by(alloc, &words)?))
 }

@@ -94,9 +94,7 @@ fn letters_of(word: &[u8]) -> ArrayVec<u8, MAX_NAME>
     ensures { result.items ≡ word.now }
 {
     let mut letters = ArrayVec::new();
-    for b in word {
-        letters.push(*b);
-    }
+    let _ = letters.try_extend_from_slice(word);
     letters
 }
 

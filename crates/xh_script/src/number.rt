@@ -1,5 +1,5 @@
 //! Numbers.
-ghost use Rattle.std.specs.Prelude.{◌≡◌, ◌-◌, ◌<◌, ◌≤◌, true, length, IfSome, IfOk};
+ghost use Rattle.std.specs.Prelude.{◌≡◌, ◌-◌, ◌<◌, ◌≤◌, length, IfSome, IfOk};
 ghost use Rattle.std.specs.List.{list_all};
 ghost use Rattle.std.specs.Fmt.{decimal};
 ghost use Rattle.xh_script.specs.Words.{is_digit, has_no_zero_in_front, is_numeral, number_of, value_of};
@@ -65,10 +65,7 @@ fn read_number(word: &[u8]) -> Option<u32>
 fn number_at(word: &[u8]) -> Result<u32, Kind>
     ensures { result ≡ number_at word.now }
 {
-    match read_number(word) {
-        Some(number) => Ok(number),
-        None => Err(Kind::BadNumber),
-    }
+    read_number(word).ok_or(Kind::BadNumber)
 }
 
 /// The number that a word is, if it is in this range.
@@ -89,22 +86,19 @@ pub(crate) fn number_between(low: u32, high: u32, word: &[u8]) -> Result<u32, Ki
 pub(crate) fn state_at(word: &[u8]) -> Result<u8, Kind>
     ensures { result ≡ number_between 0 (STATES - 1) word.now }
 {
-    let number = number_between(0, u32::from(STATES) - 1, word)?;
-    Ok(number as u8)
+    Ok(number_between(0, u32::from(STATES) - 1, word)? as u8)
 }
 
 /// A side of a channel.
 pub(crate) fn side_at(word: &[u8]) -> Result<u8, Kind>
     ensures { result ≡ number_between 0 1 word.now }
 {
-    let number = number_between(0, 1, word)?;
-    Ok(number as u8)
+    Ok(number_between(0, 1, word)? as u8)
 }
 
 /// A tag.
 pub(crate) fn tag_at(word: &[u8]) -> Result<u16, Kind>
     ensures { result ≡ number_between 0 MAX_TAG word.now }
 {
-    let number = number_between(0, MAX_TAG, word)?;
-    Ok(number as u16)
+    Ok(number_between(0, MAX_TAG, word)? as u16)
 }

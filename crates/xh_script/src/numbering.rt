@@ -18,9 +18,7 @@ fn copy_of(bytes: &[u8]) -> ArrayVec<u8, MAX_HEX>
     ensures { result.items ≡ bytes.now }
 {
     let mut copy = ArrayVec::new();
-    for byte in bytes {
-        copy.push(*byte);
-    }
+    let _ = copy.try_extend_from_slice(bytes);
     copy
 }
 
@@ -52,10 +50,7 @@ impl Reading {
                 let number = self.process(name)?;
                 Ok((number, Word::Process(number)))
             }
-            Word::Block(name) => {
-                let number = self.block(process, name)?;
-                Ok((process, Word::Block(number)))
-            }
+            Word::Block(name) => Ok((process, Word::Block(self.block(process, name)?))),
             Word::Contract(name) => match self.declared.number(name) {
                 Some(number) => Ok((process, Word::Contract(number))),
                 None => Err(Stop::Bad(Kind::BadContract)),

@@ -1,5 +1,5 @@
 //! How a script is read.
-ghost use Rattle.std.specs.Prelude.{◌≡◌, ◌≤◌, ◌==◌, length};
+ghost use Rattle.std.specs.Prelude.{◌≤◌, ◌==◌, length};
 ghost use Rattle.xh_script.specs.inner.Stops.{Answers};
 ghost use Rattle.xh_script.specs.Scripts.{with_line, with_command, at_line, after_line, after_lines, nothing_read, script_of, listing_of, Gives};
 ghost use Rattle.std.specs.List.{slice_split};

@@ -53,12 +53,10 @@ impl Reading {
     pub(crate) fn new(alloc: Global, room: usize) -> Result<Reading, AllocError>
         ensures { IfOk result (λ r. r ≡ nothing_read) }
     {
-        let lines = Vec::with_capacity(alloc, room)?;
-        let blocks = no_names(alloc)?;
         Ok(Reading {
-            lines,
+            lines: Vec::with_capacity(alloc, room)?,
             processes: Names::new(alloc),
-            blocks,
+            blocks: no_names(alloc)?,
             declared: Names::new(alloc),
             contracts: Vec::new(alloc),
             begun: false,
@@ -71,8 +69,7 @@ impl Reading {
         ensures gives { Answers (λ n. (n, self.new)) result (process_in self.old name.now) }
         ensures within { IfOk result (λ n. n < MAX_PROCESSES) }
     {
-        let number = self.processes.enter(MAX_PROCESSES, name)?;
-        Ok(number)
+        Ok(self.processes.enter(MAX_PROCESSES, name)?)
     }
 
     /// The number of a block of a process.
@@ -81,8 +78,7 @@ impl Reading {
         requires { process < MAX_PROCESSES }
         ensures { Answers (λ n. (n, self.new)) result (block_in self.old process name.now) }
     {
-        let number = self.blocks[usize::from(process)].enter(MAX_BLOCK_NAMES, name)?;
-        Ok(number)
+        Ok(self.blocks[usize::from(process)].enter(MAX_BLOCK_NAMES, name)?)
     }
 
     /// The script that has been read.

@@ -1,5 +1,5 @@
 //! How replies are written.
-ghost use Rattle.std.specs.Prelude.{◌≡◌, ◌≤◌, ◌<◌, ◌++◌, length, [], ◌∷◌, codes};
+ghost use Rattle.std.specs.Prelude.{◌≡◌, ◌≤◌, ◌<◌, length, [], ◌∷◌, codes};
 ghost use Rattle.std.specs.List.{concat};
 ghost use Rattle.std.specs.Fmt.{decimal};
 ghost use Rattle.xh_script.specs.Watching.{WritesOrFails};
@@ -8,10 +8,10 @@ ghost use Rattle.xh_script.specs.Texts.{hex_digit, hex_text, length_text, length
 ghost use Rattle.xh_script.specs.declared.limits.TheConstants.{MAX_HEX};
 
 use crate::limits::MAX_HEX;
+use crate::put::Piece::{Number, Text};
 use crate::put::{put, put_all};
 use crate::{Answered, Fault, Reply, Watched};
 use arrayvec::ArrayVec;
-use itoa::Buffer;
 use std::io::Write;
 use xh_core::Refused;
 
@@ -19,48 +19,30 @@ use xh_core::Refused;
 const DIGITS: usize = 2 * MAX_HEX;
 
 #[tactic(auto, unfolding(crate::specs::Texts::number_text))]
-fn put_number<W: Write>(writer: &mut Watched<W>, line: u32, n: u64) -> Result<(), Fault>
+fn put_number<W: Write>(writer: &mut Watched<W>, line: u64, n: u64) -> Result<(), Fault>
     ensures { WritesOrFails W.contents writer.old writer.new result (number_text line n) }
 {
-    let mut number = Buffer::new();
-    let mut answer = Buffer::new();
     put_all(
         writer,
-        &[
-            number.format(line).as_bytes(),
-            b" ok ",
-            answer.format(n).as_bytes(),
-            b"\n",
-        ],
+        &[Number(line), Text(b" ok "), Number(n), Text(b"\n")],
     )
 }
 
 #[tactic(auto, unfolding(crate::specs::Texts::numbers_text))]
-fn put_numbers<W: Write>(writer: &mut Watched<W>, line: u32, n: u64, m: u64) -> Result<(), Fault>
+fn put_numbers<W: Write>(writer: &mut Watched<W>, line: u64, n: u64, m: u64) -> Result<(), Fault>
     ensures { WritesOrFails W.contents writer.old writer.new result (numbers_text line n m) }
 {
-    let mut number = Buffer::new();
-    let mut first = Buffer::new();
-    let mut second = Buffer::new();
     put_all(
         writer,
         &[
-            number.format(line).as_bytes(),
-            b" ok ",
-            first.format(n).as_bytes(),
-            b" ",
-            second.format(m).as_bytes(),
-            b"\n",
+            Number(line),
+            Text(b" ok "),
+            Number(n),
+            Text(b" "),
+            Number(m),
+            Text(b"\n"),
         ],
     )
-}
-
-fn put_done<W: Write>(writer: &mut Watched<W>, line: u32) -> Result<(), Fault>
-    ensures { WritesOrFails W.contents writer.old writer.new result
-        (concat (decimal line ∷ codes " ok\n" ∷ [])) }
-{
-    let mut number = Buffer::new();
-    put_all(writer, &[number.format(line).as_bytes(), b" ok\n"])
 }
 
 fn hex_digit(n: u8) -> u8
@@ -85,33 +67,24 @@ fn hex_text(bytes: &[u8]) -> ArrayVec<u8, DIGITS>
 
 fn put_bytes<W: Write>(
     writer: &mut Watched<W>,
-    line: u32,
+    line: u64,
     bytes: &ArrayVec<u8, MAX_HEX>,
 ) -> Result<(), Fault>
     ensures { WritesOrFails W.contents writer.old writer.new result
         (concat (decimal line ∷ codes " ok " ∷ hex_text bytes.now.items ∷ codes "\n" ∷ [])) }
 {
-    let mut number = Buffer::new();
     let digits = hex_text(bytes);
-    put_all(
-        writer,
-        &[
-            number.format(line).as_bytes(),
-            b" ok ",
-            digits.as_slice(),
-            b"\n",
-        ],
-    )
+    let digits = Text(digits.as_slice());
+    put_all(writer, &[Number(line), Text(b" ok "), digits, Text(b"\n")])
 }
 
 fn put_length<W: Write>(writer: &mut Watched<W>, length: Option<u32>) -> Result<(), Fault>
     ensures { WritesOrFails W.contents writer.old writer.new result
         (concat (codes " " ∷ length_text length ∷ [])) }
 {
-    let mut number = Buffer::new();
     match length {
-        Some(n) => put_all(writer, &[b" ", number.format(n).as_bytes()]),
-        None => put_all(writer, &[b" ", b"-"]),
+        Some(n) => put_all(writer, &[Text(b" "), Number(u64::from(n))]),
+        None => put_all(writer, &[Text(b" -")]),
     }
 }
 
@@ -126,24 +99,21 @@ fn put_lengths<W: Write>(writer: &mut Watched<W>, lengths: &[Option<u32>]) -> Re
 
 fn put_message<W: Write>(
     writer: &mut Watched<W>,
-    line: u32,
+    line: u64,
     number: u64,
     tag: u16,
 ) -> Result<(), Fault>
     ensures { WritesOrFails W.contents writer.old writer.new result
         (concat (decimal line ∷ codes " ok " ∷ decimal number ∷ codes " " ∷ decimal tag ∷ [])) }
 {
-    let mut lines = Buffer::new();
-    let mut numbers = Buffer::new();
-    let mut tags = Buffer::new();
     put_all(
         writer,
         &[
-            lines.format(line).as_bytes(),
-            b" ok ",
-            numbers.format(number).as_bytes(),
-            b" ",
-            tags.format(tag).as_bytes(),
+            Number(line),
+            Text(b" ok "),
+            Number(number),
+            Text(b" "),
+            Number(u64::from(tag)),
         ],
     )
 }
@@ -151,7 +121,7 @@ fn put_message<W: Write>(
 #[tactic(auto, unfolding(crate::specs::Texts::taken_text))]
 fn put_taken<W: Write>(
     writer: &mut Watched<W>,
-    line: u32,
+    line: u64,
     number: u64,
     tag: u16,
     lengths: &[Option<u32>],
@@ -187,39 +157,37 @@ fn give_count_of(refused: &Refused) -> Option<u32>
 #[tactic(auto, unfolding(crate::specs::Texts::refusal_text))]
 fn put_refusal<W: Write>(
     writer: &mut Watched<W>,
-    line: u32,
-    code: u8,
-    name: &[u8],
+    line: u64,
+    refused: &Refused,
     count: Option<u32>,
 ) -> Result<(), Fault>
-    ensures { WritesOrFails W.contents writer.old writer.new result (refusal_text line code name.now count) }
+    ensures { WritesOrFails W.contents writer.old writer.new result (refusal_text line (number_of refused.now) (name_of refused.now) count) }
 {
-    let mut lines = Buffer::new();
-    let mut codes = Buffer::new();
-    let mut counts = Buffer::new();
+    let code = Number(u64::from(refused.number()));
+    let name = Text(refused.name().as_bytes());
     match count {
         None => put_all(
             writer,
             &[
-                lines.format(line).as_bytes(),
-                b" no ",
-                codes.format(code).as_bytes(),
-                b" ",
+                Number(line),
+                Text(b" no "),
+                code,
+                Text(b" "),
                 name,
-                b"\n",
+                Text(b"\n"),
             ],
         ),
         Some(n) => put_all(
             writer,
             &[
-                lines.format(line).as_bytes(),
-                b" no ",
-                codes.format(code).as_bytes(),
-                b" ",
+                Number(line),
+                Text(b" no "),
+                code,
+                Text(b" "),
                 name,
-                b" ",
-                counts.format(n).as_bytes(),
-                b"\n",
+                Text(b" "),
+                Number(u64::from(n)),
+                Text(b"\n"),
             ],
         ),
     }
@@ -231,8 +199,9 @@ fn put_refusal<W: Write>(
 pub fn write_reply<W: Write>(writer: &mut Watched<W>, line: u32, reply: &Reply) -> Result<(), Fault>
     ensures { WritesOrFails W.contents writer.old writer.new result (reply_text line reply.now) }
 {
+    let line = u64::from(line);
     match reply {
-        Reply::Done => put_done(writer, line),
+        Reply::Done => put_all(writer, &[Number(line), Text(b" ok\n")]),
         Reply::Started(process) => put_number(writer, line, u64::from(*process)),
         Reply::Length(length) => put_number(writer, line, u64::from(*length)),
         Reply::Parts { head, tail } => {
@@ -247,20 +216,8 @@ pub fn write_reply<W: Write>(writer: &mut Watched<W>, line: u32, reply: &Reply) 
         } => put_taken(writer, line, *number, *tag, blocks),
         Reply::Reclaimed(bytes) => put_number(writer, line, *bytes),
         Reply::Glance { blocks, bytes } => { put_numbers(writer, line, u64::from(*blocks), *bytes) }
-        Reply::NotGiven(refused) => put_refusal(
-            writer,
-            line,
-            refused.number(),
-            refused.name().as_bytes(),
-            give_count_of(refused),
-        ),
-        Reply::No(refused) => put_refusal(
-            writer,
-            line,
-            refused.number(),
-            refused.name().as_bytes(),
-            count_of(refused),
-        ),
+        Reply::NotGiven(refused) => put_refusal(writer, line, refused, give_count_of(refused)),
+        Reply::No(refused) => put_refusal(writer, line, refused, count_of(refused)),
     }
 }
 

@@ -13,15 +13,11 @@ use xh_model::Row;
 fn row_said(state: &[u8], tag: &[u8], side: &[u8], next: &[u8]) -> Result<Row, Kind>
     ensures { result ≡ row_said state.now tag.now side.now next.now }
 {
-    let state = state_at(state)?;
-    let tag = tag_at(tag)?;
-    let side = side_at(side)?;
-    let next = state_at(next)?;
     Ok(Row {
-        state,
-        tag,
-        side,
-        next,
+        state: state_at(state)?,
+        tag: tag_at(tag)?,
+        side: side_at(side)?,
+        next: state_at(next)?,
     })
 }
 
@@ -40,6 +36,5 @@ pub(crate) fn row_at(alloc: Global, word: &[u8]) -> Result<Row, Stop>
     ensures { Answers (λ row. row) result (row_at word.now) }
 {
     let numbers = pieces(alloc, word, b':')?;
-    let row = row_of(&numbers)?;
-    Ok(row)
+    Ok(row_of(&numbers)?)
 }

@@ -1,6 +1,6 @@
 //! Readers and writers that count which of their calls failed.
 ghost use Rattle.std.specs.Prelude.{◌≡◌, ◌≢◌, ◌<◌, ◌≤◌, [], take, length, IfSome, IfNone};
-ghost use Rattle.std.specs.Io.KnownBytes.{Appends, Consumes, IsAtEnd, Keeps};
+ghost use Rattle.std.specs.Io.KnownBytes.{Appends, IsAtEnd, Keeps};
 ghost use Rattle.xh_script.specs.Watching.{failures, inner_of, Reads, Writes, WritesOrFails};
 
 use crate::Fault;

@@ -19,10 +19,7 @@ use std::alloc::Global;
 pub(crate) fn name_at(word: &[u8]) -> Result<Name, Kind>
     ensures { result ≡ name_at word.now }
 {
-    match Name::read(word) {
-        Some(name) => Ok(name),
-        None => Err(Kind::BadWord),
-    }
+    Name::read(word).ok_or(Kind::BadWord)
 }
 
 /// The bytes that hexadecimal digits say.
@@ -43,30 +40,12 @@ fn word_at(alloc: Global, sort: Sort, word: &[u8]) -> Result<Word<Name>, Stop>
     ensures { Answers (λ w. w) result (word_at sort word.now) }
 {
     match sort {
-        Sort::Process => {
-            let name = name_at(word)?;
-            Ok(Word::Process(name))
-        }
-        Sort::Block => {
-            let name = name_at(word)?;
-            Ok(Word::Block(name))
-        }
-        Sort::Contract => {
-            let name = name_at(word)?;
-            Ok(Word::Contract(name))
-        }
-        Sort::Number { least, most } => {
-            let number = number_between(least, most, word)?;
-            Ok(Word::Number(number))
-        }
-        Sort::Bytes => {
-            let bytes = bytes_at(word)?;
-            Ok(Word::Bytes(bytes))
-        }
-        Sort::Row => {
-            let row = row_at(alloc, word)?;
-            Ok(Word::Row(row))
-        }
+        Sort::Process => Ok(Word::Process(name_at(word)?)),
+        Sort::Block => Ok(Word::Block(name_at(word)?)),
+        Sort::Contract => Ok(Word::Contract(name_at(word)?)),
+        Sort::Number { least, most } => Ok(Word::Number(number_between(least, most, word)?)),
+        Sort::Bytes => Ok(Word::Bytes(bytes_at(word)?)),
+        Sort::Row => Ok(Word::Row(row_at(alloc, word)?)),
     }
 }
 

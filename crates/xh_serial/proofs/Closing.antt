@@ -1,30 +1,34 @@
--- An endpoint that is moved to the end of its list, a change of a status, and what a stop and a close leave.
-use Rattle.std.proofs.Common.{◌≡◌, ℕ, zero, suc, ◌+◌, ◌-◌, ◌/◌, ◌<◌, ◌≤◌, Bool, List, [], ◌∷◌, ◌++◌, length, drop, true, cond, refl, sym, ap, ◌∙◌, arith, append-nil, subst}
-use Rattle.std.specs.Prelude.{None, not, unwrap_or, ◌==◌, slice_set, slice_index_or}
+-- What a change of a list, of a status or of free records leaves: a whole machine; and what a stop and a close reclaim.
+use Rattle.std.proofs.Common.{◌≡◌, ℕ, zero, suc, ◌+◌, ◌-◌, ◌<◌, ◌≤◌, Bool, List, [], ◌∷◌, ◌++◌, length, drop, true, cond, refl, sym, ap, ◌∙◌, arith, append-nil, subst, ◌≢◌, ◌*◌, take}
+use Rattle.std.proofs.Common.{length-drop, inl, inr}
+use Rattle.std.specs.Prelude.{None, not, unwrap_or, ◌==◌, slice_set, slice_index_or, Option, Some, is_some, replicate}
 use Rattle.std.specs.List.{remove, position, position_or_len}
 use Rattle.std.proofs.lemmas.Bool.Decides.{nat_tests}
-use Rattle.xh_core.proofs.Claiming.{one_time}
-use Rattle.xh_serial.proofs.Machines.{list_set}
-use Rattle.std.proofs.lemmas.Bool.{false≢true}
+use Rattle.xh_core.proofs.Claiming.{one_time, in_range}
+use Rattle.xh_serial.proofs.Machines.{list_set, runs_busy, place_there, list_here, current_generation, busy_place, places_set, places_whole, same_lists, IsPlace, current_blocks}
+use Rattle.std.proofs.lemmas.Bool.{false≢true, cases_eq, eq-eqb, ne_eqb}
 use Rattle.std.proofs.lemmas.List.Sums.{sum_by-remove, passes_at_first, prefix_len-le-length}
 use Rattle.std.proofs.lemmas.List.Edits.{length-remove}
-use Rattle.std.proofs.lemmas.List.{set-get_or, nil_from_length}
-use Rattle.xh_model.specs.declared.event.Holder.TheVariants.{Process}
-use Rattle.xh_serial.specs.declared.place.Place.{Place}
-use Rattle.xh_model.specs.Store.{holds}
-use Rattle.xh_serial.specs.Machine.{Machine, blocks, place, end_of, IsWhole, arriving, is_current, with_status}
+use Rattle.std.proofs.lemmas.List.{set-get_or, nil_from_length, length-set, length-take-le, length-replicate}
+use Rattle.xh_model.specs.declared.event.Holder.TheVariants.{Process, Direction}
+use Rattle.xh_model.specs.Store.{holds, Store, owner, len, is_known, after}
+use Rattle.xh_serial.specs.Machine.{Machine, blocks, place, end_of, IsWhole, arriving, with_status, buffer, with_list, listed, IsEnd}
 use Rattle.xh_core.specs.Several.{times}
 use Rattle.xh_serial.specs.Commands.{IsRunning}
 use Rattle.xh_serial.specs.Sweeping.{sweep_one, sweep, Sweeps}
 use Rattle.xh_serial.specs.EndingCommands.{last, moved_last}
-use Rattle.xh_serial.specs.BlockCommands.{freed_block}
-use Rattle.xh_serial.proofs.Machines.{runs_busy, place_there, list_here, current_generation, busy_place, places_set, places_whole, current_blocks, same_lists, IsPlace}
-use Rattle.xh_core.proofs.Stores.{count_append, times-cons}
+use Rattle.xh_serial.specs.BlockCommands.{freed_block, allocated, parted}
+use Rattle.xh_core.proofs.Stores.{count_append, times-cons, at_set}
 use Rattle.xh_model.specs.Reclaimed.{Frees}
+use Rattle.xh_core.specs.Statuses.{is_over}
 use Rattle.xh_core.specs.declared.status.Status.{Status}
 use Rattle.xh_core.specs.declared.status.Status.TheVariants.{Ending, Ended}
-use Rattle.xh_serial.proofs.Listed.{sweep_sweeps, sweep_whole, finishes}
-use Rattle.xh_serial.proofs.Reclaiming.{sweep_frees}
+use Rattle.xh_serial.proofs.Sweeps.{sweep_sweeps, sweep_whole, finishes, sweep_frees}
+use Rattle.xh_model.specs.declared.event.Holder.{Holder}
+use Rattle.xh_core.specs.Gaining.{Gained}
+use Rattle.xh_model.specs.declared.event.Event.TheVariants.{Claim, Carve, Cut}
+use Rattle.xh_serial.proofs.Swept.{whole_one}
+use Rattle.xh_serial.proofs.Room.{has, came_whole, few, few_records, held_there}
 
 -- the first that passes, or the length where none does
 pub first_or_length : (p : ℕ → Bool) (xs : List ℕ) → unwrap_or (position p xs) (length xs) ≡ position_or_len p xs
@@ -59,18 +63,9 @@ pub one_listed : (m : Machine) (p e : ℕ) → IsWhole m → holds m.store (Proc
 one_listed m p e w h = let o : times e (blocks m p) ≡ 1 = w.once (Process p) e ∙ rw h refl in omega arith
 
 module _ (m : Machine) (p e : ℕ) (w : IsWhole m) (r : IsRunning m p) (h : holds m.store (Process p) e ≡ true) where
-  abbrev x : Place
-  x = record (place m p) { blocks = record { items = last e (blocks m p) } }
-
-  generation : (place m p).generation ≡ p / 32
-  generation = current_generation m p r.0
-
-  pub last_blocks : blocks (moved_last p e m) p ≡ last e (blocks m p)
-  last_blocks = list_here m.places p x (place_there m p w) r.0
-
   pub last_whole : IsWhole (moved_last p e m)
-  last_whole = places_whole m _ w (places_set m.places p x w.places (busy_place m p (last e (blocks m p)) w (runs_busy m p r)))
-      (λ k q. grind (arith, nat_tests, list_set m.places p x (place_there m p w) generation generation k, times_last e q (blocks m p) (one_listed m p e w h)))
+  last_whole = places_whole m _ w (places_set m.places p _ w.places (busy_place m p (last e (blocks m p)) w (runs_busy m p r)))
+      (λ k q. grind (arith, nat_tests, list_set m.places p (last e (blocks m p)) (place_there m p w) (current_generation m p r.0) k, times_last e q (blocks m p) (one_listed m p e w h)))
 
 -- to free a data block is to sweep its entry
 pub frees_block : (m : Machine) (p r : ℕ) → 0 < times r (blocks m p) → end_of m r ≡ None → sweep_one p (position_or_len (λ q. q == r) (blocks m p)) m ≡ freed_block p r m
@@ -86,41 +81,36 @@ frees_block m p r h none =
 status_blocks : (m : Machine) (p q : ℕ) (s : Status) → IsWhole m → blocks (with_status p s m) q ≡ blocks m q
 status_blocks m p q s w = same_lists m.places p (record (place m p) { status = s }) (place_there m p w) (λ k. refl) q
 
-status_whole : (m : Machine) (p : ℕ) (s : Status) → IsWhole m → IsPlace (record (place m p) { status = s }) → IsWhole (with_status p s m)
-status_whole m p s w is = places_whole m _ w (places_set m.places p (record (place m p) { status = s }) w.places is) (λ k q. ap (times q) (status_blocks m p k s w))
+pub status_whole : (m : Machine) (p : ℕ) (s : Status) → IsWhole m → (is_over s ≡ true → length (place m p).blocks.items ≡ 0) → IsWhole (with_status p s m)
+status_whole m p s w e =
+    let is : IsPlace (record (place m p) { status = s }) = record { generation = w.places.generations p; idle = λ h. nil_from_length (place m p).blocks.items (e h) } in
+    places_whole m _ w (places_set m.places p (record (place m p) { status = s }) w.places is) (λ k q. ap (times q) (status_blocks m p k s w))
 
-pub ending_whole : (m : Machine) (p : ℕ) → IsWhole m → IsWhole (with_status p Ending m)
-ending_whole m p w = status_whole m p Ending w (record { generation = w.places.generations p; idle = λ h. absurd (false≢true h) })
-
-pub ended_whole : (m : Machine) (p : ℕ) → IsWhole m → is_current m p ≡ true → length (blocks m p) ≡ 0 → IsWhole (with_status p Ended m)
-ended_whole m p w c h = status_whole m p Ended w (record { generation = w.places.generations p; idle = λ _. nil_from_length (place m p).blocks.items (ap length (sym (current_blocks m p c)) ∙ h) })
+ending_whole : (m : Machine) (p : ℕ) → IsWhole m → IsWhole (with_status p Ending m)
+ending_whole m p w = status_whole m p Ending w (λ h. absurd (false≢true h))
 
 -- ---- a stop: the sweep of a list hangs on no status
 
--- machines that list the same for p
-same_sweeps : (p budget : ℕ) (s : Status) (m n k : Machine) → blocks (with_status p s m) p ≡ blocks m p → blocks k p ≡ blocks n p → Sweeps p 0 budget (with_status p s m) n → Sweeps p 0 budget m k
-same_sweeps p budget s m n k e f h = record {
-  taken = h.taken;
-  accepted = h.accepted;
-  within = h.within;
-  there = rw (← e) h.there;
-  was_on_way = rw (← e) h.was_on_way;
-  once = rw (← e) h.once;
-  in_flight = h.in_flight;
-  before = refl;
-  rest = rw (f, ← e) h.rest;
-  left = rw f h.left;
-}
+-- what is left is swept, and machines that list the same for p are as one
+pub stop_sweeps : (m n k : Machine) (p budget : ℕ) → IsWhole m → n ≡ sweep p 0 budget (with_status p Ending m) → blocks k p ≡ blocks n p → Sweeps p 0 budget m k
+stop_sweeps m n k p budget w is f =
+    let h : Sweeps p 0 budget (with_status p Ending m) n = rw is (sweep_sweeps budget p 0 (with_status p Ending m) (ending_whole m p w)) in
+    let e : blocks (with_status p Ending m) p ≡ blocks m p = status_blocks m p p Ending w in record {
+      taken = h.taken;
+      accepted = h.accepted;
+      within = h.within;
+      there = rw (← e) h.there;
+      was_on_way = rw (← e) h.was_on_way;
+      once = rw (← e) h.once;
+      in_flight = h.in_flight;
+      before = refl;
+      rest = rw (f, ← e) h.rest;
+      left = rw f h.left;
+    }
 
-pub stop_sweeps : (m n : Machine) (p budget : ℕ) → IsWhole m → n ≡ sweep p 0 budget (with_status p Ending m) → Sweeps p 0 budget m n
-stop_sweeps m n p budget w is =
-    same_sweeps p budget Ending m n n (status_blocks m p p Ending w) refl (subst (Sweeps p 0 budget (with_status p Ending m)) (sym is) (sweep_sweeps budget p 0 (with_status p Ending m) (ending_whole m p w)))
-
-pub stop_ends : (m n : Machine) (p budget : ℕ) → IsWhole m → n ≡ sweep p 0 budget (with_status p Ending m) → Sweeps p 0 budget m (with_status p Ended n)
-stop_ends m n p budget w is =
-    let e : blocks (with_status p Ended n) p ≡ blocks n p = status_blocks n p p Ended (rw is (sweep_whole budget p 0 (with_status p Ending m) (ending_whole m p w))) in
-    same_sweeps p budget Ending m n (with_status p Ended n) (status_blocks m p p Ending w) e
-    (subst (Sweeps p 0 budget (with_status p Ending m)) (sym is) (sweep_sweeps budget p 0 (with_status p Ending m) (ending_whole m p w)))
+-- the end of the process leaves its list as it is
+pub ended_blocks : (m n : Machine) (p budget : ℕ) → IsWhole m → n ≡ sweep p 0 budget (with_status p Ending m) → blocks (with_status p Ended n) p ≡ blocks n p
+ended_blocks m n p budget w is = status_blocks n p p Ended (rw is (sweep_whole budget p 0 (with_status p Ending m) (ending_whole m p w)))
 
 pub stop_frees : (m n : Machine) (p budget : ℕ) → IsWhole m → n ≡ sweep p 0 budget (with_status p Ending m) → length (blocks n p) ≡ 0 → Frees (arriving m) m.store n.store (blocks m p)
 stop_frees m n p budget w is none =
@@ -139,9 +129,126 @@ pub close_frees : (budget : ℕ) (m n : Machine) (p e : ℕ) → IsWhole m → I
     n ≡ sweep p (length (blocks m p) - 1) budget (moved_last p e m) → Frees (arriving m) m.store n.store (e ∷ [])
 close_frees budget m n p e w r h b is =
     let from : ℕ = length (blocks m p) - 1 in
-    let last : IsWhole (moved_last p e m) = last_whole m p e w r h in
-    let done : length (blocks n p) ≤ from = finishes p from budget (moved_last p e m) n last b (close_sweeps budget m n p e w r h is) in
-    let list : drop from (blocks (moved_last p e m) p) ≡ e ∷ [] = ap (drop from) (last_blocks m p e w r h) ∙ drop_last e (blocks m p) (one_listed m p e w h) in
+    let whole : IsWhole (moved_last p e m) = last_whole m p e w r h in
+    let done : length (blocks n p) ≤ from = finishes p from budget (moved_last p e m) n whole b (close_sweeps budget m n p e w r h is) in
+    let here : blocks (moved_last p e m) p ≡ last e (blocks m p) = list_here m.places p (record (place m p) { blocks = record { items = last e (blocks m p) } }) (place_there m p w) r.0 in
+    let list : drop from (blocks (moved_last p e m) p) ≡ e ∷ [] = ap (drop from) here ∙ drop_last e (blocks m p) (one_listed m p e w h) in
     subst (Frees (arriving m) m.store n.store) list
     (subst (λ (x : Machine). Frees (arriving m) m.store x.store (drop from (blocks (moved_last p e m) p))) (sym is)
-    (sweep_frees budget p from (moved_last p e m) last (subst (λ (x : Machine). length (blocks x p) ≤ from) is done)))
+    (sweep_frees budget p from (moved_last p e m) whole (subst (λ (x : Machine). length (blocks x p) ≤ from) is done)))
+
+-- ---- a process gains free records
+
+-- a free record is no endpoint
+pub free_no_end : (m : Machine) (r : ℕ) → IsWhole m → owner m.store r ≡ None → end_of m r ≡ None
+free_no_end m r w f = no_end (end_of m r) (λ d e. false≢true (ap is_some (sym f) ∙ (w.ends r d e).held)) where
+  no_end : (o : Option ℕ) → ((d : ℕ) → o ≡ Some d → ⊥) → o ≡ None
+  no_end None h = refl
+  no_end (Some d) h = absurd (h d refl)
+
+-- p gains free records; endpoints, channels and the other lists stay
+module _ (p : ℕ) (rs : List ℕ) (m n : Machine) (w : IsWhole m) (r : IsRunning m p) (g : Gained p rs m.store n.store) (places : n.places ≡ (with_list p (blocks m p ++ rs) m).places)
+    (ends : n.ends ≡ m.ends) (lines : n.lines ≡ m.lines) (contracts : n.contracts ≡ m.contracts) (opened : n.opened ≡ m.opened) (depth : n.depth ≡ m.depth)
+    (buffers : length n.buffers ≡ length m.buffers) (bytes : (q : ℕ) → length (buffer n q) ≡ cond (is_some (end_of m q)) 0 (len n.store q)) where
+  lists : (k : Holder) (q : ℕ) → times q (listed n k) + has None k * times q rs ≡ times q (listed m k) + has (Some (Process p)) k * times q rs
+  lists (Process k) q = grind (arith, nat_tests, places, list_set m.places p (blocks m p ++ rs) (place_there m p w) (current_generation m p r.0) k, count_append q (blocks m p) rs)
+  lists (Direction d) q = rw lines (omega arith)
+
+  pub gained_whole : IsWhole n
+  gained_whole = came_whole None (Process p) rs m n w (record {
+    lawful = g.lawful;
+    moved = record { were = g.free; once = g.once; owners = g.owners; lists = lists };
+    full = g.full;
+    kept = g.kept;
+    many = g.many;
+    ends = ends;
+    buffers = buffers;
+    bytes = bytes;
+    places = rw places (places_set m.places p _ w.places (busy_place m p (blocks m p ++ rs) w (runs_busy m p r)));
+    channels = rw (lines, contracts, opened) w.channels;
+    opened = opened;
+    depth = depth;
+  })
+
+-- ---- alloc
+
+-- a free record has a buffer, and no bytes in it
+pub free_there : (m : Machine) (r : ℕ) → IsWhole m → is_known m.store r ≡ true → r < length m.buffers
+free_there m r w k = subst (λ (n : ℕ). r < n) (sym w.buffers) (in_range m.store r w.store k)
+
+-- the list of a process has room for a record that nobody holds
+pub room_for : (m : Machine) (p r : ℕ) → IsWhole m → IsRunning m p → owner m.store r ≡ None → r < length m.store.owners → length (place m p).blocks.items < 2048
+room_for m p r w run f there =
+    let most : length m.store.owners ≤ 2048 = few_records m w in
+    let l : length (r ∷ blocks m p) ≤ length m.store.owners = few (length m.store.owners) (r ∷ blocks m p)
+    (λ q. grind (arith, nat_tests, times-cons q r (blocks m p), w.once (Process p) q)) (λ q l. grind (arith, nat_tests, times-cons q r (blocks m p), held_there m (Process p) q w)) in
+    let e : length (blocks m p) ≡ length (place m p).blocks.items = ap length (current_blocks m p run.0) in
+    omega (arith, l, most, e)
+
+-- a block is allocated
+pub allocated_whole : (m : Machine) (p r n : ℕ) → IsWhole m → IsRunning m p → Gained p (r ∷ []) m.store (after (Carve p r n) (after (Claim p r) m.store)) →
+    owner m.store r ≡ None → r < length m.store.owners → len (after (Carve p r n) (after (Claim p r) m.store)) r ≡ n →
+    ((q : ℕ) → q ≢ r → len (after (Carve p r n) (after (Claim p r) m.store)) q ≡ len m.store q) → IsWhole (allocated p r n m)
+unfolding allocated
+allocated_whole m p r n w run g f there long others =
+    gained_whole p (r ∷ []) m (allocated p r n m) w run g refl refl refl refl refl refl (length-set m.buffers r (replicate n 0))
+    (λ q. grind (arith, nat_tests, at_set m.buffers r q (replicate n 0) [] (rw w.buffers there), free_no_end m r w f, length-replicate {A = ℕ} n 0, others q, w.bytes q, long))
+
+-- ---- free
+
+pub listed_place : (m : Machine) (p r : ℕ) → IsWhole m → IsRunning m p → holds m.store (Process p) r ≡ true →
+    position_or_len (λ q. q == r) (place m p).blocks.items < length (place m p).blocks.items
+listed_place m p r w run h =
+    let there : position_or_len (λ q. q == r) (blocks m p) < length (blocks m p) = found r (blocks m p) (one_listed m p r w h) in
+    subst (λ (xs : List ℕ). position_or_len (λ q. q == r) xs < length xs) (current_blocks m p run.0) there
+
+-- a data block is freed
+pub freed_whole : (m : Machine) (p r : ℕ) → IsWhole m → holds m.store (Process p) r ≡ true → end_of m r ≡ None → IsWhole (freed_block p r m)
+freed_whole m p r w h e =
+    let t : 0 < times r (blocks m p) = one_listed m p r w h in
+    subst IsWhole (frees_block m p r t e) (whole_one m p (position_or_len (λ q. q == r) (blocks m p)) w (found r (blocks m p) t))
+
+-- ---- split
+
+split_bytes : (m : Machine) (u : Store) (r t k : ℕ) → IsWhole m → end_of m r ≡ None → owner m.store t ≡ None → r ≢ t → r < length m.store.owners → t < length m.store.owners → k ≤ len m.store r →
+    len u r ≡ k → len u t + k ≡ len m.store r → ((q : ℕ) → q ≢ r → q ≢ t → len u q ≡ len m.store q) →
+    (q : ℕ) → length (slice_index_or (slice_set (slice_set m.buffers t (drop k (buffer m r))) r (take k (buffer m r))) q []) ≡ cond (is_some (end_of m q)) 0 (len u q)
+split_bytes m u r t k w d f ne there t_there few head tail others q =
+    let long : length (buffer m r) ≡ len m.store r = w.bytes r ∙ rw d refl in
+    let bs : List (List ℕ) = slice_set m.buffers t (drop k (buffer m r)) in
+    let r_in : r < length bs = subst (λ (j : ℕ). r < j) (sym (length-set m.buffers t (drop k (buffer m r)) ∙ w.buffers)) there in
+    rw (at_set bs r q (take k (buffer m r)) [] r_in, at_set m.buffers t q (drop k (buffer m r)) [] (rw w.buffers t_there)) (elim (cases_eq q r) [
+      | inl e ↦ rw (eq-eqb q r e, e, d, head) (length-take-le k (buffer m r) (rw long few))
+      | inr nr ↦ rw (ne_eqb q r nr) (elim (cases_eq q t) [
+        | inl e ↦ rw (eq-eqb q t e, e, free_no_end m t w f) (let rest : length (drop k (buffer m r)) ≡ length (buffer m r) - k = length-drop k (buffer m r) in omega (arith, rest, long, tail))
+        | inr nt ↦ rw (ne_eqb q t nt, others q nr nt) (w.bytes q)
+      ])
+    ])
+
+-- a block is split
+pub parted_whole : (m : Machine) (p r t k : ℕ) → IsWhole m → IsRunning m p → Gained p (t ∷ []) m.store (after (Cut p r t k) (after (Claim p t) m.store)) →
+    end_of m r ≡ None → owner m.store t ≡ None → r ≢ t → r < length m.store.owners → t < length m.store.owners → k ≤ len m.store r →
+    len (after (Cut p r t k) (after (Claim p t) m.store)) r ≡ k → len (after (Cut p r t k) (after (Claim p t) m.store)) t + k ≡ len m.store r →
+    ((q : ℕ) → q ≢ r → q ≢ t → len (after (Cut p r t k) (after (Claim p t) m.store)) q ≡ len m.store q) → IsWhole (parted p r t k m)
+unfolding parted
+parted_whole m p r t k w run g d f ne there t_there few head tail others =
+    gained_whole p (t ∷ []) m (parted p r t k m) w run g refl refl refl refl refl refl
+    (length-set (slice_set m.buffers t (drop k (buffer m r))) r (take k (buffer m r)) ∙ length-set m.buffers t (drop k (buffer m r)))
+    (split_bytes m (after (Cut p r t k) (after (Claim p t) m.store)) r t k w d f ne there t_there few head tail others)
+
+-- ---- write
+
+-- a block has other bytes, as many as before
+pub written_whole : (m : Machine) (r : ℕ) (new : List ℕ) → IsWhole m → r < length m.buffers → length new ≡ length (buffer m r) → IsWhole (record m { buffers = slice_set m.buffers r new })
+written_whole m r new w l e = record {
+  store = w.store;
+  once = w.once;
+  full = w.full;
+  kinds = w.kinds;
+  ends = λ q d h. let was : IsEnd m q d = w.ends q d h in record { held = was.held; opened = was.opened; alone = was.alone };
+  buffers = length-set m.buffers r new ∙ w.buffers;
+  bytes = λ q. grind (arith, nat_tests, at_set m.buffers r q new [] l, w.bytes q);
+  places = w.places;
+  channels = w.channels;
+  deep = w.deep;
+}

@@ -1,14 +1,8 @@
 pub mod Machines
-pub mod Fresh
 pub mod Swept
 pub mod Wired
-pub mod Kept
-pub mod Reclaiming
+pub mod Sweeps
 pub mod Room
-pub mod Summed
-pub mod Listed
 pub mod Closing
-pub mod Taking
-pub mod Giving
-pub mod Gains
+pub mod Messages
 pub mod Opening

@@ -44,9 +44,8 @@ relisted_again ps p rs ss l =
 pub list_here : (ps : List Place) (p : ℕ) (x : Place) → p % 32 < length ps → (x.generation == (p / 32)) ≡ true → list_in (slice_set ps (p % 32) x) p ≡ x.blocks.items
 list_here ps p x l g = rw (place_here ps p x l, g) refl
 
-pub list_set : (ps : List Place) (p : ℕ) (x : Place) → p % 32 < length ps → (place_in ps p).generation ≡ p / 32 → x.generation ≡ p / 32 →
-    (k : ℕ) → list_in (slice_set ps (p % 32) x) k ≡ cond (k == p) x.blocks.items (list_in ps k)
-list_set ps p x l g h k = grind (arith, nat_tests, at_set ps (p % 32) (k % 32) x no_place l)
+pub list_set : (ps : List Place) (p : ℕ) (rs : List ℕ) → p % 32 < length ps → (place_in ps p).generation ≡ p / 32 → (k : ℕ) → list_in (relisted p rs ps) k ≡ cond (k == p) rs (list_in ps k)
+list_set ps p rs l g k = grind (arith, nat_tests, at_set ps (p % 32) (k % 32) (record (place_in ps p) { blocks = record { items = rs } }) no_place l)
 
 -- a place that lists as before
 pub same_lists : (ps : List Place) (p : ℕ) (x : Place) → p % 32 < length ps → ((k : ℕ) → listed_at x k ≡ listed_at (place_in ps p) k) → (k : ℕ) → list_in (slice_set ps (p % 32) x) k ≡ list_in ps k

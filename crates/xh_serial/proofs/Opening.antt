@@ -1,43 +1,109 @@
--- A channel is opened, and the machine stays whole.
-use Rattle.std.proofs.Common.{◌≡◌, ℕ, ◌+◌, ◌*◌, ◌<◌, List, ◌++◌, length, Bool, true, false, cond, refl, sym, subst, arith, ◌≢◌, ◌/◌, ◌%◌, [], ◌∷◌, ap, ◌∙◌, inl, inr, get_or-set_same}
-use Rattle.std.proofs.Common.{get_or-set_other}
-use Rattle.std.specs.Prelude.{Option, Some, not, None, is_some, ◌==◌, slice_set, slice_index_or}
-use Rattle.std.proofs.lemmas.Bool.{eq-eqb, cases_eq, ne_eqb}
+-- A new machine is whole, and so is one where a process starts, and one where a channel is opened.
+use Rattle.std.proofs.Common.{◌≡◌, ℕ, ◌*◌, ◌/◌, ◌%◌, ◌<◌, List, [], length, true, false, cond, refl, sym, ap, ◌∙◌, subst, arith, ◌+◌, ◌++◌, Bool, ◌≢◌, ◌∷◌, inl, inr, get_or-set_same}
+use Rattle.std.proofs.Common.{get_or-set_other, append_assoc}
+use Rattle.std.specs.Prelude.{Option, Some, None, is_some, slice_index_or, ok_or, slice_set, not, ◌==◌}
+use Rattle.std.proofs.lemmas.Bool.Decides.{nat_tests}
+use Rattle.std.proofs.lemmas.Bool.{false≢true, eq-eqb, cases_eq, ne_eqb}
+use Rattle.std.proofs.lemmas.List.{length-replicate, length-append, length-set, set-set}
+use Rattle.xh_model.specs.declared.config.Config.{Config}
+use Rattle.xh_model.specs.declared.event.Holder.{Holder}
+use Rattle.xh_model.specs.declared.event.Holder.TheVariants.{Process, Direction}
 use Rattle.xh_model.specs.declared.row.Row.{Row}
-use Rattle.xh_model.specs.Store.{Store, IsLawful, owner, len, holds, after, IsQuiet}
+use Rattle.xh_model.specs.Store.{owner, len, holds, is_held_by, IsLawful, new_store, Store, after}
+use Rattle.xh_model.specs.Config.{IsConfig}
+use Rattle.xh_core.proofs.FreshPlain.{at_replicate}
+use Rattle.xh_serial.specs.declared.place.Place.{Place}
+use Rattle.xh_serial.specs.Machine.{IsNumbered, Machine, carried, blocks, buffer, place, line, on_way, listed, no_place, no_line, end_of, IsWhole, status_at, peer, ArePlaces}
+use Rattle.xh_core.specs.Several.{times}
+use Rattle.xh_serial.specs.PlaceCommands.{new_machine, is_ready, started, spawn_at}
+use Rattle.xh_core.proofs.Claiming.{no_bytes, one_time}
+use Rattle.std.specs.List.{position}
+use Rattle.std.proofs.lemmas.List.Quantifiers.{position-Some}
+use Rattle.xh_core.specs.declared.refused.Refused.TheVariants.{NoPlace, NoProcess, Ended}
+use Rattle.xh_serial.specs.inner.Placing.{started_at, place_in}
+use Rattle.xh_serial.proofs.Machines.{place_there, same_lists, IsPlace, places_set, places_whole, list_in, peer_half, runs_busy, place_here, current_generation, list_set}
 use Rattle.xh_core.specs.declared.refused.Refused.{Refused}
-use Rattle.xh_core.specs.declared.refused.Refused.TheVariants.{NoProcess, Ended}
-use Rattle.xh_serial.specs.Machine.{Machine, status_at, IsWhole, line, no_line, peer, blocks, buffer, carried, end_of, listed, on_way, AreWired, IsEnd, ArePlaces}
-use Rattle.xh_core.specs.Statuses.{is_vacant, is_running}
+use Rattle.xh_core.specs.Statuses.{is_vacant, is_running, is_over}
 use Rattle.xh_serial.specs.Commands.{IsRunning}
 use Rattle.xh_core.specs.Refusing.{first_refusal}
 use Rattle.xh_core.specs.Space.{pair_tests}
 use Rattle.xh_serial.specs.ChannelCommands.{channel_heads, open_channel, wire_channel, new_line, opened, wired}
-use Rattle.xh_core.specs.Pairing.{Paired, moved}
-use Rattle.xh_serial.proofs.Machines.{current_range, list_in, peer_half}
-use Rattle.xh_core.proofs.Pairs.{Shared, paired_two, shared}
-use Rattle.std.proofs.lemmas.List.{length-append, length-set}
-use Rattle.xh_model.specs.declared.event.Holder.{Holder}
-use Rattle.xh_model.specs.declared.event.Holder.TheVariants.{Process, Direction}
+use Rattle.xh_core.specs.Pairing.{moved}
+use Rattle.xh_core.proofs.Pairs.{Shared}
 use Rattle.xh_model.specs.declared.event.Event.TheVariants.{Claim, Carve, Cut}
 use Rattle.xh_serial.specs.declared.line.Line.{Line}
-use Rattle.xh_core.specs.Several.{times}
 use Rattle.xh_serial.specs.inner.Channeling.{IsSound}
-use Rattle.xh_serial.specs.inner.Placing.{place_in}
-use Rattle.xh_core.proofs.Claiming.{no_bytes}
 use Rattle.xh_serial.proofs.Room.{room}
-use Rattle.std.proofs.lemmas.Bool.Decides.{nat_tests}
-use Rattle.std.proofs.lemmas.List.{set-set}
-use Rattle.std.proofs.Common.{append_assoc}
-use Rattle.xh_core.specs.Statuses.{is_over}
-use Rattle.xh_serial.specs.declared.place.Place.{Place}
-use Rattle.xh_serial.specs.Machine.{no_place}
-use Rattle.xh_serial.proofs.Machines.{runs_busy, place_here, current_generation, places_set, list_set}
-use Rattle.xh_core.proofs.Claiming.{one_time}
-use Rattle.xh_core.proofs.Stores.{count_append}
-use Rattle.std.proofs.lemmas.Bool.{false≢true}
-use Rattle.xh_core.proofs.Stores.{at_set}
+use Rattle.xh_core.proofs.Stores.{count_append, at_set}
 use Rattle.xh_serial.proofs.Wired.{set_numbered, same_lines}
+
+module _ (m : Machine) (p : ℕ) (w : IsWhole m) (c : is_ready (place m p) ≡ true) where
+  abbrev next : Machine
+  next = record m { places = slice_set m.places (p % 32) (started (place m p)) }
+
+  started_whole : IsWhole next
+  started_whole =
+      let empty : (place m p).blocks.items ≡ [] = grind (arith, nat_tests, w.places.idle p) in
+      let is : IsPlace (started (place m p)) = record { generation = grind (arith, nat_tests, w.places.generations p); idle = λ h. absurd (false≢true h) } in
+      places_whole m _ w (places_set m.places p (started (place m p)) w.places is)
+      (λ k q. ap (times q) (same_lists m.places p (started (place m p)) (place_there m p w) (λ k. grind (arith, nat_tests, empty)) k))
+
+-- the same at the first place where one can
+pub spawn_whole : (m : Machine) (o : Option ℕ) → IsWhole m → position is_ready m.places ≡ o → IsWhole (record m { places = (started_at o m.places).1 })
+spawn_whole m None w e = w
+spawn_whole m (Some k) w e =
+    let at = position-Some is_ready m.places k no_place e in
+    let small : k % 32 ≡ k = (let l = at.0 in let n = w.places.long in omega (arith, l, n)) in
+    subst (λ (i : ℕ). IsWhole (record m { places = slice_set m.places i (started (slice_index_or m.places i no_place)) })) small
+    (started_whole m k w (ap (λ (i : ℕ). is_ready (slice_index_or m.places i no_place)) small ∙ at.1))
+
+-- what a spawn answers and leaves, by what the places do
+pub spawn_gives : (m : Machine) (o : Option ℕ) → spawn_at o m ≡ (ok_or (started_at o m.places).0 NoPlace, record m { places = (started_at o m.places).1 })
+spawn_gives m None = refl
+spawn_gives m (Some k) = refl
+
+-- ---- a new machine
+
+module _ (c : Config) (is : IsConfig c) (lawful : IsLawful (new_store c)) where
+  abbrev m : Machine
+  m = new_machine c
+
+  -- what is read of it at any number
+  bare : (r : ℕ) → (owner m.store r ≡ None) × (end_of m r ≡ None) × (buffer m r ≡ []) × (place m r ≡ no_place) × (line m r ≡ no_line)
+  unfolding new_machine new_store
+  bare r = (at_replicate (256 * c.arenas) r None, at_replicate (256 * c.arenas) r None, at_replicate (256 * c.arenas) r [], at_replicate 32 (r % 32) no_place, at_replicate 128 r no_line)
+
+  once : (h : Holder) (r : ℕ) → times r (listed m h) ≡ cond (holds m.store h r) 1 0
+  once (Process p) r = grind (arith, nat_tests, (bare p).3, (bare r).0)
+  once (Direction d) r = rw ((bare d).4, (bare r).0) refl
+
+  pub new_whole : IsWhole m
+  unfolding new_machine new_store
+  new_whole = record {
+    store = lawful;
+    once = once;
+    full = λ h r y. absurd (false≢true (ap (λ o. is_held_by o h) (sym (bare r).0) ∙ y));
+    kinds = length-replicate {A = Option ℕ} (256 * c.arenas) None ∙ sym (length-replicate {A = Option Holder} (256 * c.arenas) None);
+    ends = λ r d e. absurd (false≢true (ap is_some (sym (bare r).1 ∙ e)));
+    buffers = length-replicate {A = List ℕ} (256 * c.arenas) [] ∙ sym (length-replicate {A = Option Holder} (256 * c.arenas) None);
+    bytes = λ r. rw ((bare r).2, (bare r).1) (sym (no_bytes (owner m.store r) (len m.store r) (bare r).0 (lawful.owned r)));
+    places = record {
+      long = length-replicate 32 no_place;
+      generations = λ p. rw (bare p).3 (omega arith);
+      idle = λ p s. ap (λ (x : Place). x.blocks.items) (bare p).3;
+    };
+    channels = record {
+      long = length-replicate 128 no_line;
+      fresh = λ d h. (bare d).4;
+      numbered = λ d. subst IsNumbered (sym (bare d).4) (1, refl);
+      contracts_long = length-replicate {A = Option (List Row)} 64 None;
+      wired = λ k rows e. absurd (false≢true (ap is_some (sym (at_replicate {A = Option (List Row)} 64 (k / 2) None) ∙ e)));
+      few = omega arith;
+    };
+    deep = is.most_depth;
+  }
+
+-- ---- a channel is opened
 
 -- ---- one process for both ends
 
@@ -52,13 +118,6 @@ same_process p a contract m =
     let tests = tests_twice (is_vacant (status_at m p)) (not (is_running (status_at m p))) (Some NoProcess) (Some Ended) (first_refusal (channel_heads m a ++ pair_tests p m.store a)) in
     rw (tests, eq-eqb p p refl) refl
 
--- ---- what the two records are
-
-pub pair_there : (m : Machine) (p a r t : ℕ) (u : Store) → IsWhole m → IsRunning m p → Paired p a r t m.store u → (r < length m.buffers) × (t < length m.buffers)
-pair_there m p a r t u w runs g =
-    let two = paired_two p a r t m.store u w.store (current_range m p w runs.0) g in
-    (subst (λ (x : ℕ). r < x) (sym w.buffers) two.there_r, subst (λ (x : ℕ). t < x) (sym w.buffers) two.there_t)
-
 -- what is known once the two records have their blocks, one of them gone to q
 pub record Connects (s : Store) (p q r t : ℕ) (contract : Option (List Row)) (m : Machine) : Type 0 where
   pub whole : IsWhole m
@@ -67,18 +126,6 @@ pub record Connects (s : Store) (p q r t : ℕ) (contract : Option (List Row)) (
   pub more : m.opened < 64
   pub sound : IsSound contract
   pub shared : Shared p q r t m.store s
-
-pub connects : (m : Machine) (p q a r t : ℕ) (contract : Option (List Row)) (u s : Store) → IsWhole m → IsRunning m p → IsRunning m q → m.opened < 64 → IsSound contract →
-    Paired p a r t m.store u → s ≡ moved p q t (2 * m.opened + 1) u → IsLawful s → Connects s p q r t contract m
-connects m p q a r t contract u s w runs_p runs_q more sound g e lawful = record {
-  whole = w;
-  runs_p = runs_p;
-  runs_q = runs_q;
-  more = more;
-  sound = sound;
-  shared = subst (λ (x : Store). Shared p q r t m.store x) (sym e)
-      (shared p q a r t (2 * m.opened + 1) m.store u w.store (current_range m p w runs_p.0) (current_range m q w runs_q.0) (omega (arith, more)) g (subst IsLawful e lawful));
-}
 
 -- ---- records go to the ends of the lists of processes that run
 
@@ -114,7 +161,7 @@ module _ (ps : List Place) (p r : ℕ) (a : ArePlaces ps) (b : IsBusy ps p) wher
   appended_busy k h = record { current = grind (arith, nat_tests, at k, h.current); busy = grind (arith, nat_tests, at k, h.busy) }
 
   pub appended_list : (k : ℕ) → list_in (appended p r ps) k ≡ cond (p == k) (list_in ps k ++ r ∷ []) (list_in ps k)
-  appended_list k = grind (arith, nat_tests, list_set ps p (longer r (place_in ps p)) within b.current b.current k, b.current)
+  appended_list k = grind (arith, nat_tests, list_set ps p ((place_in ps p).blocks.items ++ r ∷ []) within b.current k, b.current)
 
   -- two records for one process
   pub appended_twice : (t : ℕ) → appended p t (appended p r ps) ≡ slice_set ps (p % 32) (record (place_in ps p) { blocks = record { items = list_in ps p ++ r ∷ t ∷ [] } })
@@ -176,9 +223,6 @@ module _ (s : Store) (p q r t : ℕ) (contract : Option (List Row)) (m : Machine
   count : (h j : ℕ) → times j (blocks n h) ≡ times j (blocks m h) + cond {A = ℕ} (p == h) (cond {A = ℕ} (r == j) 1 0) 0 + cond {A = ℕ} (q == h) (cond {A = ℕ} (t == j) 1 0) 0
   count h j = let a = times_longer (q == h) t (list_in (appended p r m.places) h) j in let b = times_longer (p == h) r (blocks m h) j in rw (lists h, a, between h, b) refl
 
-  full : IsQuiet s
-  full h k y = grind (arith, nat_tests, v.shared.owners k, v.shared.full_r, v.shared.full_t, v.shared.kept k, v.whole.full h k)
-
   -- ---- the directions
 
   long_lines : 2 * m.opened + 1 < length m.lines
@@ -191,25 +235,11 @@ module _ (s : Store) (p q r t : ℕ) (contract : Option (List Row)) (m : Machine
       let first = at_set m.lines (2 * m.opened) d (new_line contract) no_line (let e = long_lines in omega (arith, e)) in
       grind (arith, nat_tests, at_set (slice_set m.lines (2 * m.opened) (new_line contract)) (2 * m.opened + 1) d (new_line contract) no_line long)
 
-  -- both ends are in step
-
   line_new : (d : ℕ) → d / 2 ≡ m.opened → line n d ≡ new_line contract
   line_new d e = line_is d ∙ rw (eq-eqb (d / 2) m.opened e) refl
 
   line_old : (d : ℕ) → d / 2 ≢ m.opened → line n d ≡ line m d
   line_old d a = line_is d ∙ rw (ne_eqb (d / 2) m.opened a) refl
-
-  wired_now : AreWired n.contracts n.lines
-  wired_now d rows is = elim (cases_eq (d / 2) m.opened) [
-    | inl e ↦ (
-        let known : m.opened < length m.contracts = subst (λ (x : ℕ). m.opened < x) (sym v.whole.channels.contracts_long) v.more in
-        let there : contract ≡ Some rows = sym (get_or-set_same m.contracts m.opened contract None known) ∙ (ap (λ (i : ℕ). slice_index_or n.contracts i None) (sym e) ∙ is) in
-        let high : new_line contract ≡ line n (peer d) = sym (line_new (peer d) (peer_half d ∙ e)) in
-        (v.sound rows there, same_lines rows (d % 2) (new_line contract) (line n d) (new_line contract) (line n (peer d)) (sym (line_new d e)) high (refl, inl refl)))
-    | inr a ↦ (
-        let was = v.whole.channels.wired d rows (sym (get_or-set_other m.contracts m.opened (d / 2) contract None a) ∙ is) in
-        (was.0, same_lines rows (d % 2) (line m d) (line n d) (line m (peer d)) (line n (peer d)) (sym (line_old d a)) (sym (line_old (peer d) (λ s. a (sym (peer_half d) ∙ s)))) was.1))
-  ]
 
   ways : (d : ℕ) → on_way n d ≡ on_way m d
   ways d = elim (cases_eq (d / 2) m.opened) [
@@ -217,9 +247,9 @@ module _ (s : Store) (p q r t : ℕ) (contract : Option (List Row)) (m : Machine
     | inr a ↦ ap (λ (x : Line). carried x.waiting.items) (line_old d a)
   ]
 
-  once : (h : Holder) (j : ℕ) → times j (listed n h) ≡ cond (holds s h j) 1 0
-  once (Process h) j = grind (arith, nat_tests, count h j, v.shared.owners j, v.whole.once (Process h) j, v.shared.free_r, v.shared.free_t, v.shared.apart)
-  once (Direction d) j = rw (ways d) (grind (arith, nat_tests, v.whole.once (Direction d) j, v.shared.owners j, v.shared.free_r, v.shared.free_t))
+  once_now : (h : Holder) (j : ℕ) → times j (listed n h) ≡ cond (holds s h j) 1 0
+  once_now (Process h) j = grind (arith, nat_tests, count h j, v.shared.owners j, v.whole.once (Process h) j, v.shared.free_r, v.shared.free_t, v.shared.apart)
+  once_now (Direction d) j = rw (ways d) (grind (arith, nat_tests, v.whole.once (Direction d) j, v.shared.owners j, v.shared.free_r, v.shared.free_t))
 
   -- ---- the endpoints
 
@@ -230,34 +260,26 @@ module _ (s : Store) (p q r t : ℕ) (contract : Option (List Row)) (m : Machine
       at_set (slice_set m.ends r (Some (2 * m.opened))) t k (Some (2 * m.opened + 1)) None lt
       ∙ ap (λ (x : Option ℕ). cond (k == t) (Some (2 * m.opened + 1)) x) (at_set m.ends r k (Some (2 * m.opened)) None lr)
 
-  is_end : (k d : ℕ) → end_of n k ≡ Some d → IsEnd n k d
-  is_end k d e =
-      let held : end_of m k ≡ Some d → is_some (owner m.store k) ≡ true = λ f. (v.whole.ends k d f).held in
-      let below : (j : ℕ) → end_of m j ≡ Some d → d < 2 * m.opened = λ j f. (v.whole.ends j d f).opened in
-      let alone : (j : ℕ) → end_of m k ≡ Some d → end_of m j ≡ Some d → j ≡ k = λ j f. (v.whole.ends k d f).alone j in record {
-        held = grind (arith, nat_tests, end_is k, v.shared.owners k, held);
-        opened = grind (arith, nat_tests, end_is k, below k);
-        alone = λ j f. grind (arith, nat_tests, end_is k, end_is j, below k, below j, alone j);
-      }
-
-  -- ---- bytes
-
-  bytes : (k : ℕ) → length (buffer m k) ≡ cond (is_some (end_of n k)) 0 (len s k)
-  bytes k =
-      let none : owner m.store k ≡ None → len m.store k ≡ 0 = λ f. no_bytes (owner m.store k) (len m.store k) f (v.whole.store.owned k) in
-      grind (arith, nat_tests, end_is k, v.shared.free_r, v.shared.free_t, v.shared.kept k, v.whole.bytes k)
-
   -- ---- all of it
 
   pub connected_whole : IsWhole n
   connected_whole = record {
     store = v.shared.lawful;
-    once = once;
-    full = full;
+    once = once_now;
+    full = λ h k y. grind (arith, nat_tests, v.shared.owners k, v.shared.full_r, v.shared.full_t, v.shared.kept k, v.whole.full h k);
     kinds = length-set (slice_set m.ends r (Some (2 * m.opened))) t (Some (2 * m.opened + 1)) ∙ (length-set m.ends r (Some (2 * m.opened)) ∙ (v.whole.kinds ∙ sym v.shared.many));
-    ends = is_end;
+    ends = λ k d e.
+        let held : end_of m k ≡ Some d → is_some (owner m.store k) ≡ true = λ f. (v.whole.ends k d f).held in
+        let below : (j : ℕ) → end_of m j ≡ Some d → d < 2 * m.opened = λ j f. (v.whole.ends j d f).opened in
+        let alone : (j : ℕ) → end_of m k ≡ Some d → end_of m j ≡ Some d → j ≡ k = λ j f. (v.whole.ends k d f).alone j in record {
+          held = grind (arith, nat_tests, end_is k, v.shared.owners k, held);
+          opened = grind (arith, nat_tests, end_is k, below k);
+          alone = λ j f. grind (arith, nat_tests, end_is k, end_is j, below k, below j, alone j);
+        };
     buffers = v.whole.buffers ∙ sym v.shared.many;
-    bytes = bytes;
+    bytes = λ k.
+        let none : owner m.store k ≡ None → len m.store k ≡ 0 = λ f. no_bytes (owner m.store k) (len m.store k) f (v.whole.store.owned k) in
+        grind (arith, nat_tests, end_is k, v.shared.free_r, v.shared.free_t, v.shared.kept k, v.whole.bytes k);
     places = appended_places (appended p r m.places) q t middle busy_q;
     channels = record {
       long = length-set (slice_set m.lines (2 * m.opened) (new_line contract)) (2 * m.opened + 1) (new_line contract) ∙ (length-set m.lines (2 * m.opened) (new_line contract) ∙ v.whole.channels.long);
@@ -266,7 +288,16 @@ module _ (s : Store) (p q r t : ℕ) (contract : Option (List Row)) (m : Machine
           (subst (λ (x : ℕ). 2 * m.opened + 1 < x) (sym (length-set m.lines (2 * m.opened) (new_line contract))) long_lines)
           (set_numbered m.lines (2 * m.opened) (new_line contract) (let e = long_lines in omega (arith, e)) v.whole.channels.numbered (1, refl)) (1, refl);
       contracts_long = length-set m.contracts m.opened contract ∙ v.whole.channels.contracts_long;
-      wired = wired_now;
+      wired = λ d rows is. elim (cases_eq (d / 2) m.opened) [
+        | inl e ↦ (
+            let known : m.opened < length m.contracts = subst (λ (x : ℕ). m.opened < x) (sym v.whole.channels.contracts_long) v.more in
+            let there : contract ≡ Some rows = sym (get_or-set_same m.contracts m.opened contract None known) ∙ (ap (λ (i : ℕ). slice_index_or n.contracts i None) (sym e) ∙ is) in
+            let high : new_line contract ≡ line n (peer d) = sym (line_new (peer d) (peer_half d ∙ e)) in
+            (v.sound rows there, same_lines rows (d % 2) (new_line contract) (line n d) (new_line contract) (line n (peer d)) (sym (line_new d e)) high (refl, inl refl)))
+        | inr a ↦ (
+            let was = v.whole.channels.wired d rows (sym (get_or-set_other m.contracts m.opened (d / 2) contract None a) ∙ is) in
+            (was.0, same_lines rows (d % 2) (line m d) (line n d) (line m (peer d)) (line n (peer d)) (sym (line_old d a)) (sym (line_old (peer d) (λ s. a (sym (peer_half d) ∙ s)))) was.1))
+      ];
       few = omega (arith, v.more);
     };
     deep = v.whole.deep;
@@ -284,11 +315,8 @@ module _ (s : Store) (p q r t : ℕ) (contract : Option (List Row)) (m : Machine
 
 -- ---- the command says the same
 
-abbrev pub cut_in_two : ℕ → ℕ → ℕ → Store → Store
-cut_in_two p r t s = after (Cut p r t 32) (after (Carve p r 64) (after (Claim p t) (after (Claim p r) s)))
-
 pub connected_is : (p q r t : ℕ) (contract : Option (List Row)) (m : Machine) → IsWhole m → IsRunning m p → IsRunning m q →
-    connected (moved p q t (2 * m.opened + 1) (cut_in_two p r t m.store)) p q r t contract m ≡ wired p q r t contract m
+    connected (moved p q t (2 * m.opened + 1) (after (Cut p r t 32) (after (Carve p r 64) (after (Claim p t) (after (Claim p r) m.store))))) p q r t contract m ≡ wired p q r t contract m
 unfolding opened
 connected_is p q r t contract m w runs_p runs_q = elim (cases_eq p q) [
   | inl e ↦ (let twice : appended q t (appended p r m.places) ≡ appended p t (appended p r m.places) = ap (λ (x : ℕ). appended x t (appended p r m.places)) (sym e) in

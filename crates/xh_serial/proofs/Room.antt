@@ -1,24 +1,23 @@
--- Records that go from one holder, or from none, to another, or to none; and distinct records are no more than there are records.
-use Rattle.std.proofs.Common.{◌≡◌, ℕ, ◌+◌, ◌<◌, ◌≤◌, List, [], ◌∷◌, ◌++◌, length, true, cond, refl, ◌∙◌, arith, inl, inr, ◌*◌, sym, ap}
-use Rattle.std.specs.Prelude.{Option, Some, None, ◌==◌, is_some, nat_lt}
+-- Records that go from one holder, or from none, to another, or to none; how many there are at most, and how many bytes they have.
+use Rattle.std.proofs.Common.{◌≡◌, ℕ, ◌+◌, ◌<◌, ◌≤◌, List, [], ◌∷◌, ◌++◌, length, true, cond, refl, ◌∙◌, arith, inl, inr, ◌*◌, sym, ap, ◌%◌, Bool}
+use Rattle.std.specs.Prelude.{Option, Some, None, ◌==◌, is_some, nat_lt, map, slice_index_or}
 use Rattle.std.specs.List.{sum_by, range_with_len}
 use Rattle.std.proofs.lemmas.Bool.Decides.{nat_tests}
-use Rattle.xh_core.proofs.Stores.{same_process, same_direction}
+use Rattle.xh_core.proofs.Stores.{same_process, same_direction, count_append, times-cons, is_there, same_len, same_known}
 use Rattle.xh_serial.specs.declared.place.Place.{Place}
 use Rattle.xh_serial.specs.declared.line.Line.{Line}
-use Rattle.xh_core.proofs.Stores.{count_append}
 use Rattle.std.proofs.lemmas.Bool.{cases_Bool, eq-eqb}
 use Rattle.std.proofs.lemmas.List.{length-append}
-use Rattle.std.proofs.lemmas.List.Sums.{sum_by-le}
+use Rattle.std.proofs.lemmas.List.Sums.{sum_by-le, sum_by-cons, sum_by-append}
 use Rattle.std.proofs.lemmas.List.FromFn.{length-range_with_len}
 use Rattle.xh_model.specs.declared.event.Holder.{Holder}
 use Rattle.xh_model.specs.declared.event.Holder.TheVariants.{Process, Direction}
-use Rattle.xh_model.specs.Store.{owner, holds, is_held_by, Store, len, IsOwner, IsLawful, IsQuiet}
-use Rattle.xh_serial.specs.Machine.{Machine, blocks, way_in, on_way, listed, IsWhole, end_of, buffer, IsEnd, ArePlaces, AreChannels}
+use Rattle.xh_model.specs.Store.{owner, holds, is_held_by, Store, len, IsOwner, IsLawful, numbers, bytes_of, holders, all_holders, all_out}
+use Rattle.xh_serial.specs.Machine.{Machine, blocks, way_in, on_way, listed, IsWhole, end_of, buffer, IsEnd, ArePlaces, AreChannels, no_place, no_line, place, carried}
 use Rattle.xh_core.specs.Several.{times}
-use Rattle.xh_core.proofs.Stores.{times-cons, is_there, same_len, same_known}
-use Rattle.xh_model.proofs.Totals.{sum_zero, sum_add, sum_same}
-use Rattle.xh_core.proofs.Ranges.{picked}
+use Rattle.xh_model.proofs.Totals.{sum_zero, sum_add, sum_same, total_bytes}
+use Rattle.xh_core.proofs.Ranges.{picked, same_range, exchanged, sum_mapped, indexed}
+use Rattle.xh_serial.specs.PlaceCommands.{total}
 
 -- each element counts once
 counted : (n : ℕ) (rs : List ℕ) → ((q : ℕ) → 0 < times q rs → q < n) → sum_by (λ q. times q rs) (range_with_len 0 n) ≡ length rs
@@ -61,19 +60,12 @@ room m p (Some d) w =
 abbrev pub has : Option Holder → Holder → ℕ
 has o h = cond (is_held_by o h) 1 0
 
--- each record stands once in its holder's list and in no other
-abbrev pub AreListed : Store → (Holder → List ℕ) → Type 0
-AreListed s lists = (h : Holder) (q : ℕ) → times q (lists h) ≡ cond (holds s h q) 1 0
-
 -- these records go from one holder to another, and so do they in the lists
 pub record Moved (from to : Option Holder) (rs : List ℕ) (s t : Store) (before now : Holder → List ℕ) : Type 0 where
   pub were : (q : ℕ) → nat_lt 0 (times q rs) ≡ true → owner s q ≡ from
   pub once : (q : ℕ) → times q rs ≤ 1
   pub owners : (q : ℕ) → owner t q ≡ cond (nat_lt 0 (times q rs)) to (owner s q)
   pub lists : (h : Holder) (q : ℕ) → times q (now h) + has from h * times q rs ≡ times q (before h) + has to h * times q rs
-
-pub listed_again : (from to : Option Holder) (rs : List ℕ) (s t : Store) (before now : Holder → List ℕ) → AreListed s before → Moved from to rs s t before now → AreListed t now
-listed_again from to rs s t before now w v h q = grind (arith, nat_tests, v.were q, v.once q, v.owners q, v.lists h q, w h q)
 
 -- ---- the machine
 
@@ -93,25 +85,19 @@ pub record Came (from : Option Holder) (h : Holder) (rs : List ℕ) (m n : Machi
   pub depth : n.depth ≡ m.depth
 
 module _ (from : Option Holder) (h : Holder) (rs : List ℕ) (m n : Machine) (w : IsWhole m) (v : Came from h rs m n) where
-  still_held : (q : ℕ) → is_some (owner m.store q) ≡ true → is_some (owner n.store q) ≡ true
-  still_held q s = grind (arith, nat_tests, v.moved.owners q)
-
-  quiet : IsQuiet n.store
-  quiet k q y = grind (arith, nat_tests, v.moved.owners q, v.full q, v.kept q, w.full k q)
-
   same_end : (q : ℕ) → end_of n q ≡ end_of m q
   same_end q = rw (v.ends) refl
 
   end_now : (r d : ℕ) → end_of n r ≡ Some d → IsEnd n r d
   end_now r d e =
       let was = w.ends r d (sym (same_end r) ∙ e) in
-      record { held = still_held r was.held; opened = rw v.opened was.opened; alone = λ q f. was.alone q (sym (same_end q) ∙ f) }
+      record { held = grind (arith, nat_tests, v.moved.owners r, was.held); opened = rw v.opened was.opened; alone = λ q f. was.alone q (sym (same_end q) ∙ f) }
 
   pub came_whole : IsWhole n
   came_whole = record {
     store = v.lawful;
-    once = listed_again from (Some h) rs m.store n.store (listed m) (listed n) w.once v.moved;
-    full = quiet;
+    once = λ k q. grind (arith, nat_tests, v.moved.were q, v.moved.once q, v.moved.owners q, v.moved.lists k q, w.once k q);
+    full = λ k q y. grind (arith, nat_tests, v.moved.owners q, v.full q, v.kept q, w.full k q);
     kinds = ap length v.ends ∙ (w.kinds ∙ sym v.many);
     ends = end_now;
     buffers = v.buffers ∙ (w.buffers ∙ sym v.many);
@@ -144,26 +130,23 @@ module _ (g h : Holder) (rs : List ℕ) (m : Machine) (t : Store) (ps : List Pla
   had_bytes : (q : ℕ) → nat_lt 0 (times q rs) ≡ true → 0 < len t q
   had_bytes q y = rw (same_len m.store t q arenas) (w.full g q (grind (arith, nat_tests, held q)))
 
-  handed_lawful : IsLawful t
-  handed_lawful = record {
-    few = rw arenas w.store.few;
-    long = rw (many, arenas) w.store.long;
-    covers = λ k. rw arenas (w.store.covers k);
-    records = λ k. rw arenas (w.store.records k);
-    owned = λ q. elim (cases_Bool (nat_lt 0 (times q rs))) [
-      | inl y ↦ rw (owners q, y) (owner_any h (len t q) range (had_bytes q y))
-      | inr f ↦ rw (owners q, f, same_len m.store t q arenas) (w.store.owned q)
-    ];
-    known = λ q s. same_known m.store t q arenas ∙ w.store.known q (elim (cases_Bool (nat_lt 0 (times q rs))) [ inl y ↦ rw (were q y) refl | inr f ↦ rw (owners q, f) at s ]);
-  }
-
   abbrev handed : Machine
   handed = record m { store = t; places = ps; lines = ls }
 
   pub handed_whole : ((k : Holder) (q : ℕ) → times q (listed handed k) + has (Some g) k * times q rs ≡ times q (listed m k) + has (Some h) k * times q rs) →
       ArePlaces ps → AreChannels ls m.contracts m.opened → IsWhole handed
   handed_whole lists places channels = came_whole (Some g) h rs m handed w (record {
-    lawful = handed_lawful;
+    lawful = record {
+      few = rw arenas w.store.few;
+      long = rw (many, arenas) w.store.long;
+      covers = λ k. rw arenas (w.store.covers k);
+      records = λ k. rw arenas (w.store.records k);
+      owned = λ q. elim (cases_Bool (nat_lt 0 (times q rs))) [
+        | inl y ↦ rw (owners q, y) (owner_any h (len t q) range (had_bytes q y))
+        | inr f ↦ rw (owners q, f, same_len m.store t q arenas) (w.store.owned q)
+      ];
+      known = λ q s. same_known m.store t q arenas ∙ w.store.known q (elim (cases_Bool (nat_lt 0 (times q rs))) [ inl y ↦ rw (were q y) refl | inr f ↦ rw (owners q, f) at s ]);
+    };
     moved = record { were = were; once = λ q. grind (arith, nat_tests, held q); owners = owners; lists = lists };
     full = had_bytes;
     kept = λ q l. rw (same_len m.store t q arenas) l;
@@ -176,3 +159,98 @@ module _ (g h : Holder) (rs : List ℕ) (m : Machine) (t : Store) (ps : List Pla
     opened = refl;
     depth = refl;
   })
+
+-- ---- the bytes of one holder
+
+one_number : (f : ℕ → ℕ) (q r : ℕ) (rs : List ℕ) → times q (r ∷ rs) * f q ≡ cond (r == q) (f r) 0 + times q rs * f q
+one_number f q r rs = grind (arith, nat_tests, times-cons q r rs)
+
+-- a sum over a list, number by number
+by_number : (f : ℕ → ℕ) (n : ℕ) (rs : List ℕ) → ((q : ℕ) → 0 < times q rs → q < n) → sum_by (λ q. times q rs * f q) (range_with_len 0 n) ≡ sum_by f rs
+by_number f n [] h = sum_same (λ q. times q [] * f q) (λ q. 0) (range_with_len 0 n) (λ q. let z : times q [] ≡ 0 = refl in rw z (omega arith)) ∙ sum_zero (range_with_len 0 n)
+by_number f n (r ∷ rs) h =
+    let here : r < n = h r (grind (arith, nat_tests, times-cons r r rs)) in
+    let one : sum_by (λ q. cond {A = ℕ} (r == q) (f r) 0) (range_with_len 0 n) ≡ f r = picked (f r) r 0 n (omega arith) (omega arith) in
+    let rest : sum_by (λ q. times q rs * f q) (range_with_len 0 n) ≡ sum_by f rs = by_number f n rs (λ q l. h q (let t = times-cons q r rs in omega arith)) in
+    sum_same (λ q. times q (r ∷ rs) * f q) (λ q. cond (r == q) (f r) 0 + times q rs * f q) (range_with_len 0 n) (λ q. one_number f q r rs)
+    ∙ (sum_add (λ q. cond (r == q) (f r) 0) (λ q. times q rs * f q) (range_with_len 0 n) ∙ (rw (one, rest) (sym (sum_by-cons f r rs))))
+
+once_or_never : (b : Bool) (n k : ℕ) → k ≡ cond b 1 0 → cond b n 0 ≡ k * n
+once_or_never b n k e = grind (arith, nat_tests)
+
+-- the bytes of a holder are those of its list
+listed_bytes : (m : Machine) (h : Holder) → IsWhole m → bytes_of m.store h ≡ total m.store (listed m h)
+listed_bytes m h w =
+    sum_same (λ r. cond (holds m.store h r) (len m.store r) 0) (λ r. times r (listed m h) * len m.store r) (numbers m.store)
+    (λ r. once_or_never (holds m.store h r) (len m.store r) (times r (listed m h)) (w.once h r))
+    ∙ by_number (λ r. len m.store r) (256 * length m.store.arenas) (listed m h) (λ q l. let t = held_there m h q w l in let e = w.store.long in omega (arith, t, e))
+
+-- ---- all processes
+
+-- the latest process of a place
+latest : Machine → ℕ → ℕ
+latest m k = k + 32 * (slice_index_or m.places k no_place).generation
+
+abbrev place_bytes : Machine → ℕ → ℕ
+place_bytes m k = total m.store (slice_index_or m.places k no_place).blocks.items
+
+-- a process has the bytes of its place where it is the latest there, and none of another place
+at_place : (m : Machine) (p k : ℕ) → k < 32 → cond (latest m k == p) (place_bytes m k) 0 ≡ cond ((p % 32) == k) (total m.store (blocks m p)) 0
+unfolding latest
+at_place m p k l = grind (arith, nat_tests)
+
+-- what the latest process of a place holds is what its place lists
+pub place_total : (m : Machine) (k : ℕ) → IsWhole m → k < 32 →
+    bytes_of m.store (Process (k + 32 * (slice_index_or m.places k no_place).generation)) ≡ total m.store (slice_index_or m.places k no_place).blocks.items
+unfolding latest
+place_total m k w l =
+    let rest : latest m k % 32 ≡ k = omega (arith, l) in
+    let a = at_place m (latest m k) k l in
+    listed_bytes m (Process (latest m k)) w ∙ sym (rw (eq-eqb (latest m k) (latest m k) refl, eq-eqb (latest m k % 32) k rest) at a)
+
+latest_below : (m : Machine) (k : ℕ) → IsWhole m → k < 32 → latest m k < 4096
+unfolding latest
+latest_below m k w l =
+    let small : k % 32 ≡ k = omega (arith, l) in
+    let g : (slice_index_or m.places k no_place).generation < 128 = rw small at (w.places.generations k) in omega (arith, g, l)
+
+process_bytes : (m : Machine) (a b : ℕ) → a ≡ 4096 → b ≡ 32 → IsWhole m → sum_by (λ p. total m.store (blocks m p)) (range_with_len 0 a) ≡ sum_by (λ place. total m.store place.blocks.items) m.places
+process_bytes m a b e f w =
+    let split : (p : ℕ) → total m.store (blocks m p) ≡ sum_by (λ k. cond (latest m k == p) (place_bytes m k) 0) (range_with_len 0 b) = λ p.
+    sym (same_range (λ k. cond (latest m k == p) (place_bytes m k) 0) (λ k. cond ((p % 32) == k) (total m.store (blocks m p)) 0) 0 b (λ k l u. at_place m p k (omega (arith, u, f)))
+    ∙ picked (total m.store (blocks m p)) (p % 32) 0 b (omega arith) (omega (arith, f))) in
+    let joined : (k : ℕ) → 0 ≤ k → k < 0 + b → sum_by (λ p. cond (latest m k == p) (place_bytes m k) 0) (range_with_len 0 a) ≡ place_bytes m k = λ k l u.
+    (let top = latest_below m k w (omega (arith, u, f)) in picked (place_bytes m k) (latest m k) 0 a (omega arith) (omega (arith, top, e))) in
+    sum_same (λ p. total m.store (blocks m p)) (λ p. sum_by (λ k. cond (latest m k == p) (place_bytes m k) 0) (range_with_len 0 b)) (range_with_len 0 a) split
+    ∙ (exchanged (λ p k. cond (latest m k == p) (place_bytes m k) 0) (range_with_len 0 a) (range_with_len 0 b)
+    ∙ (same_range (λ k. sum_by (λ p. cond (latest m k == p) (place_bytes m k) 0) (range_with_len 0 a)) (place_bytes m) 0 b joined
+    ∙ indexed (λ (place : Place). total m.store place.blocks.items) m.places no_place b (w.places.long ∙ sym f)))
+
+-- ---- all holders
+
+abbrev map_processes : ℕ → List Holder
+map_processes a = map (λ p. Process p) (range_with_len 0 a)
+
+abbrev map_directions : ℕ → List Holder
+map_directions b = map (λ d. Direction d) (range_with_len 0 b)
+
+holder_bytes : (m : Machine) (a b : ℕ) → a ≡ 4096 → b ≡ 128 → IsWhole m →
+    sum_by (bytes_of m.store) (holders a b) ≡ sum_by (λ place. total m.store place.blocks.items) m.places + sum_by (λ line. total m.store (carried line.waiting.items)) m.lines
+holder_bytes m a b e f w =
+    let processes : sum_by (bytes_of m.store) (map_processes a) ≡ sum_by (λ place. total m.store place.blocks.items) m.places =
+    sum_mapped (bytes_of m.store) (λ p. Process p) (range_with_len 0 a)
+    ∙ (sum_same (λ p. bytes_of m.store (Process p)) (λ p. total m.store (blocks m p)) (range_with_len 0 a) (λ p. listed_bytes m (Process p) w) ∙ process_bytes m a 32 e refl w) in
+    let directions : sum_by (bytes_of m.store) (map_directions b) ≡ sum_by (λ line. total m.store (carried line.waiting.items)) m.lines =
+    sum_mapped (bytes_of m.store) (λ d. Direction d) (range_with_len 0 b)
+    ∙ (sum_same (λ d. bytes_of m.store (Direction d)) (λ d. total m.store (on_way m d)) (range_with_len 0 b) (λ d. listed_bytes m (Direction d) w)
+    ∙ indexed (λ (line : Line). total m.store (carried line.waiting.items)) m.lines no_line b (w.channels.long ∙ sym f)) in
+    sum_by-append (bytes_of m.store) (map_processes a) (map_directions b) ∙ rw (processes, directions) refl
+
+all_are : (f : Holder → ℕ) → sum_by f all_holders ≡ sum_by f (holders 4096 128)
+unfolding all_holders
+all_are f = refl
+
+-- what is handed out is owned or in flight
+pub out_is : (m : Machine) → IsWhole m →
+    all_out m.store ≡ sum_by (λ place. total m.store place.blocks.items) m.places + sum_by (λ line. total m.store (carried line.waiting.items)) m.lines
+out_is m w = total_bytes m.store w.store ∙ (all_are (bytes_of m.store) ∙ holder_bytes m 4096 128 refl refl w)

@@ -1,26 +1,29 @@
--- What sweeping one entry leaves.
-use Rattle.std.proofs.Common.{◌≡◌, ◌≢◌, ℕ, ◌+◌, ◌/◌, ◌<◌, ◌≤◌, List, [], ◌++◌, length, Bool, true, false, cond, refl, sym, ap, ◌∙◌, subst, arith, inl, inr}
-use Rattle.std.specs.Prelude.{Option, Some, None, ◌==◌, nat_lt, slice_index_or}
+-- What sweeping one entry leaves: a whole machine.
+use Rattle.std.proofs.Common.{◌≡◌, ◌≢◌, ℕ, ◌+◌, ◌/◌, ◌<◌, ◌≤◌, List, [], ◌++◌, length, Bool, true, false, cond, refl, sym, ap, ◌∙◌, subst, arith, inl, inr, zero, suc, ◌-◌, ◌*◌, ◌⊎◌, get_or-set_other}
+use Rattle.std.specs.Prelude.{Option, Some, None, ◌==◌, nat_lt, slice_index_or, is_some}
 use Rattle.std.specs.List.{remove}
 use Rattle.std.proofs.lemmas.Bool.Decides.{nat_tests}
-use Rattle.xh_serial.proofs.Machines.{list_set}
+use Rattle.xh_serial.proofs.Machines.{list_set, place_there, current_blocks, relisted_list, relisted_again, lists_current, current_generation, current_range, way_here, way_else, places_set}
+use Rattle.xh_serial.proofs.Machines.{busy_place, lists_busy}
 use Rattle.std.proofs.lemmas.Bool.{cases_eq, cases_Bool, false≢true, eq-eqb, ne_eqb, lt-ltb}
 use Rattle.std.proofs.lemmas.List.{length-set, length-append, get_or_append_left}
 use Rattle.std.proofs.lemmas.List.Sums.{sum_by-remove, get_or-le-sum_by}
 use Rattle.xh_model.specs.declared.event.Holder.{Holder}
 use Rattle.xh_model.specs.declared.event.Holder.TheVariants.{Process, Direction}
 use Rattle.xh_model.specs.declared.event.Event.TheVariants.{GiveBack, Vacate}
-use Rattle.xh_model.specs.Store.{Store, owner, len, holds, change, after}
+use Rattle.xh_model.specs.Store.{Store, owner, len, holds, change, after, all_out, IsLawful}
 use Rattle.xh_model.specs.Arena.{ArenaState}
 use Rattle.xh_serial.specs.declared.place.Place.{Place}
-use Rattle.xh_serial.specs.Machine.{Machine, end_of, place, blocks, way_in, on_way, arriving, listed, IsWhole}
+use Rattle.xh_serial.specs.Machine.{Machine, end_of, place, blocks, way_in, on_way, arriving, listed, IsWhole, buffer, line, no_line, IsEnd}
 use Rattle.xh_core.specs.Several.{times, accept_from}
-use Rattle.xh_serial.specs.Sweeping.{sweep_one, shut_in}
+use Rattle.xh_serial.specs.Sweeping.{sweep_one, shut_in, sweep}
 use Rattle.xh_serial.specs.inner.Placing.{blocks_in, relisted}
-use Rattle.xh_serial.proofs.Room.{room}
-use Rattle.xh_serial.proofs.Room.{has}
-use Rattle.xh_serial.proofs.Machines.{place_there, current_blocks, relisted_list, relisted_again, lists_current, current_generation, current_range, way_here, way_else}
-use Rattle.xh_core.proofs.Stores.{count_append, done, same_process, same_direction, is_there, at_set, Accepted, accepted_all, same_len, len_back, arena_there}
+use Rattle.xh_serial.proofs.Room.{room, has}
+use Rattle.xh_core.proofs.Stores.{count_append, done, same_process, same_direction, is_there, at_set, Accepted, accepted_all, same_len, len_back, arena_there, same_known, len_back_else}
+use Rattle.xh_model.specs.declared.row.Row.{Row}
+use Rattle.xh_model.proofs.Lawful.{back_lawful, back_bytes}
+use Rattle.xh_serial.specs.declared.line.Line.{Line}
+use Rattle.xh_serial.proofs.Wired.{shut_wired, shut_numbered}
 
 -- the records on their way to an endpoint, if there is one
 abbrev pub on_way_to : Machine → Option ℕ → List ℕ
@@ -40,13 +43,11 @@ pub record SweptOne (p from r : ℕ) (m n : Machine) : Type 0 where
   pub arenas : n.store.arenas ≡ (change (GiveBack p r) m.store).arenas
 
 -- an entry of a list is held by its process
-times_at : (rs : List ℕ) (k : ℕ) → k < length rs → 0 < times (slice_index_or rs k 0) rs
-times_at rs k l =
-    let le : cond {A = ℕ} (slice_index_or rs k 0 == slice_index_or rs k 0) 1 0 ≤ times (slice_index_or rs k 0) rs = get_or-le-sum_by (λ x. cond (x == slice_index_or rs k 0) 1 0) rs k 0 l in
-    grind (arith, nat_tests)
-
 pub entry_held : (m : Machine) (p from : ℕ) → IsWhole m → from < length (blocks m p) → holds m.store (Process p) (entry m p from) ≡ true
-entry_held m p from w l = grind (arith, nat_tests, w.once (Process p) (entry m p from), times_at (blocks m p) from l)
+entry_held m p from w l =
+    let r : ℕ = entry m p from in
+    let le : cond {A = ℕ} (r == r) 1 0 ≤ times r (blocks m p) = get_or-le-sum_by (λ x. cond (x == r) 1 0) (blocks m p) from 0 l in
+    grind (arith, nat_tests, w.once (Process p) r)
 
 -- the entry as it is read
 pub entry_read : (m : Machine) (p from : ℕ) (xs : List ℕ) → from < length (blocks m p) → xs ≡ blocks_in m.places p → slice_index_or xs from 0 ≡ entry m p from
@@ -91,13 +92,6 @@ given_up p r t there o l =
     let z : len (change (GiveBack p r) t) r ≡ 0 = len_back t p r there in
     rw one (done (Vacate p r) (change (GiveBack p r) t) (rw (h, z) refl))
 
-abbrev swept_store : ℕ → ℕ → Machine → Store
-swept_store p r m = after (Vacate p r) (after (GiveBack p r) (accepted_store p r m))
-
--- the arenas after a record is given back, by the arenas before
-same_back : (s t : Store) (p r : ℕ) → t.arenas ≡ s.arenas → (change (GiveBack p r) t).arenas ≡ (change (GiveBack p r) s).arenas
-same_back s t p r e = ap (λ (xs : List ArenaState). (change (GiveBack p r) (record { owners = s.owners; arenas = xs })).arenas) e
-
 module _ (m : Machine) (p from : ℕ) (w : IsWhole m) (l : from < length (blocks m p)) where
   abbrev r : ℕ
   r = entry m p from
@@ -114,7 +108,7 @@ module _ (m : Machine) (p from : ℕ) (w : IsWhole m) (l : from < length (blocks
   own : owner t r ≡ Some (Process p)
   own = accepted.owners r ∙ rw (none_of_own m p r (end_of m r) w held) (same_process _ _ held)
 
-  reclaimed : swept_store p r m ≡ change (Vacate p r) (change (GiveBack p r) t)
+  reclaimed : after (Vacate p r) (after (GiveBack p r) t) ≡ change (Vacate p r) (change (GiveBack p r) t)
   reclaimed = given_up p r t (rw accepted.arenas (arena_there m.store (Process p) r w.store held)) own (rw (same_len m.store t r accepted.arenas) (w.full (Process p) r held))
 
   gone : (q : ℕ) → owner (sweep_one p from m).store q ≡ cond (q == r) None (owner t q)
@@ -126,7 +120,7 @@ module _ (m : Machine) (p from : ℕ) (w : IsWhole m) (l : from < length (blocks
   swept_one = record {
     owners = λ q. gone q ∙ rw (accepted.owners q) refl;
     many = ap (λ (s : Store). length s.owners) reclaimed ∙ (length-set t.owners r None ∙ accepted.many);
-    arenas = ap (λ (s : Store). s.arenas) reclaimed ∙ same_back m.store t p r accepted.arenas;
+    arenas = ap (λ (s : Store). s.arenas) reclaimed ∙ ap (λ (xs : List ArenaState). (change (GiveBack p r) (record { owners = m.store.owners; arenas = xs })).arenas) accepted.arenas;
   }
 
 -- ---- lists and directions
@@ -136,8 +130,7 @@ came p from m = arriving m (entry m p from)
 
 blocks_now : (m : Machine) (p from k : ℕ) → IsWhole m → from < length (blocks m p) → blocks (sweep_one p from m) k ≡ cond (k == p) (remove (blocks m p ++ came p from m) from) (blocks m k)
 unfolding sweep_one
-blocks_now m p from k w l =
-    let g : (place m p).generation ≡ p / 32 = current_generation m p (lists_current m p from l) in list_set m.places p _ (place_there m p w) g g k
+blocks_now m p from k w l = list_set m.places p _ (place_there m p w) (current_generation m p (lists_current m p from l)) k
 
 pub blocks_here : (m : Machine) (p from : ℕ) → IsWhole m → from < length (blocks m p) → blocks (sweep_one p from m) p ≡ remove (blocks m p ++ came p from m) from
 blocks_here m p from w l = blocks_now m p from p w l ∙ rw (eq-eqb p p refl) refl
@@ -177,11 +170,10 @@ pub arriving_else : (m : Machine) (p from q : ℕ) → IsWhole m → from < leng
 arriving_else m p from q w l n =
     ap (on_way_to (sweep_one p from m)) (ends_now m p from q w l ∙ rw (ne_eqb q (entry m p from) n) refl) ∙ arriving_by m p from q (end_of m q) w n refl
 
-pub ends_gone : (m : Machine) (p from : ℕ) → IsWhole m → from < length (blocks m p) → end_of (sweep_one p from m) (entry m p from) ≡ None
-ends_gone m p from w l = ends_now m p from (entry m p from) w l ∙ rw (eq-eqb (entry m p from) (entry m p from) refl) refl
-
 pub arriving_here : (m : Machine) (p from : ℕ) → IsWhole m → from < length (blocks m p) → arriving (sweep_one p from m) (entry m p from) ≡ []
-arriving_here m p from w l = ap (on_way_to (sweep_one p from m)) (ends_gone m p from w l)
+arriving_here m p from w l =
+    let gone : end_of (sweep_one p from m) (entry m p from) ≡ None = ends_now m p from (entry m p from) w l ∙ rw (eq-eqb (entry m p from) (entry m p from) refl) refl in
+    ap (on_way_to (sweep_one p from m)) gone
 
 -- ---- each record once
 
@@ -219,3 +211,130 @@ swept_once m p from w l (Direction e) q = elim (cases_Bool (nat_lt 0 (times q (c
       grind (arith, nat_tests, way m p from e w, (swept_one m p from w l).owners q, w.once (Direction e) q, c.1, c.2))
   | inr f ↦ swept_way m p from e q w l f (end_of m (entry m p from)) refl
 ]
+
+-- ---- the machine after it
+
+-- what becomes of another record: p has it now and a direction had it, or its holder is the same
+pub other_owner : (m : Machine) (p from q : ℕ) → IsWhole m → from < length (blocks m p) → q ≢ entry m p from →
+    ((d : ℕ) × (owner m.store q ≡ Some (Direction d)) × (owner (sweep_one p from m).store q ≡ Some (Process p)) × (nat_lt 0 (times q (arriving m (entry m p from))) ≡ true))
+    ⊎ ((owner (sweep_one p from m).store q ≡ owner m.store q) × (nat_lt 0 (times q (arriving m (entry m p from))) ≡ false))
+other_owner m p from q w l n =
+    let r : ℕ = entry m p from in
+    let o : owner (sweep_one p from m).store q ≡ new_owner p r (arriving m r) q (owner m.store q) = (swept_one m p from w l).owners q in
+    elim (cases_Bool (nat_lt 0 (times q (arriving m r)))) [
+      | inl y ↦ (let c = came_held m q (end_of m r) w y in inl (c.0, c.2, o ∙ rw (ne_eqb q r n, y) refl, y))
+      | inr f ↦ inr (o ∙ rw (ne_eqb q r n, f) refl, f)
+    ]
+
+pub gone_owner : (m : Machine) (p from q : ℕ) → IsWhole m → from < length (blocks m p) → q ≡ entry m p from → owner (sweep_one p from m).store q ≡ None
+gone_owner m p from q w l e = (swept_one m p from w l).owners q ∙ rw (eq-eqb q (entry m p from) e) refl
+
+-- the store after the swept record is given back
+abbrev back : ℕ → ℕ → Machine → Store
+back p from m = change (GiveBack p (entry m p from)) m.store
+
+len_now : (m : Machine) (p from q : ℕ) → IsWhole m → from < length (blocks m p) → len (sweep_one p from m).store q ≡ cond (q == entry m p from) 0 (len m.store q)
+len_now m p from q w l =
+    let there : entry m p from / 256 < length m.store.arenas = arena_there m.store (Process p) (entry m p from) w.store (entry_held m p from w l) in
+    same_len (back p from m) (sweep_one p from m).store q (swept_one m p from w l).arenas ∙ grind (arith, nat_tests, len_back m.store p (entry m p from) there, len_back_else m.store p (entry m p from) q there)
+
+full_now : (m : Machine) (p from : ℕ) (h : Holder) (q : ℕ) → IsWhole m → from < length (blocks m p) → holds (sweep_one p from m).store h q ≡ true → 0 < len (sweep_one p from m).store q
+full_now m p from h q w l y =
+    let came : nat_lt 0 (times q (arriving m (entry m p from))) ≡ true → 0 < len m.store q = λ t. (let c = came_held m q (end_of m (entry m p from)) w t in w.full (Direction c.0) q (rw (c.2) (eq-eqb c.0 c.0 refl))) in
+    grind (arith, nat_tests, (swept_one m p from w l).owners q, len_now m p from q w l, w.full h q)
+
+lines_long : (contracts : List (Option (List Row))) (lines : List Line) (o : Option ℕ) → length (shut_in contracts lines o) ≡ length lines
+lines_long contracts lines None = refl
+lines_long contracts lines (Some d) = length-set lines d _
+
+fresh_shut : (contracts : List (Option (List Row))) (lines : List Line) (o : Option ℕ) (k : ℕ) → ((d : ℕ) → o ≡ Some d → k ≢ d) →
+    slice_index_or (shut_in contracts lines o) k no_line ≡ slice_index_or lines k no_line
+fresh_shut contracts lines None k n = refl
+fresh_shut contracts lines (Some d) k n = get_or-set_other lines d k _ no_line (n d refl)
+
+fresh_now : (m : Machine) (p from k : ℕ) → IsWhole m → 2 * m.opened ≤ k → line (sweep_one p from m) k ≡ no_line
+unfolding sweep_one
+fresh_now m p from k w h =
+    fresh_shut m.contracts m.lines (end_of m (entry m p from)) k (λ d e s. let o = (w.ends (entry m p from) d e).opened in omega (arith, o, h, s)) ∙ w.channels.fresh k h
+
+bytes_now : (m : Machine) (p from q : ℕ) → IsWhole m → from < length (blocks m p) →
+    length (buffer (sweep_one p from m) q) ≡ cond (is_some (end_of (sweep_one p from m) q)) 0 (len (sweep_one p from m).store q)
+unfolding sweep_one
+bytes_now m p from q w l =
+    let r : ℕ = entry m p from in
+    let k = w.buffers in
+    let a : r < length m.store.owners = is_there m.store (Process p) r (entry_held m p from w l) in
+    grind (arith, nat_tests, ends_now m p from q w l, at_set m.buffers r q [] [] (omega (arith, k, a)), len_now m p from q w l, w.bytes q)
+
+known_now : (m : Machine) (p from q : ℕ) → IsWhole m → from < length (blocks m p) → is_some (owner (sweep_one p from m).store q) ≡ true → is_some (owner m.store q) ≡ true
+known_now m p from q w l h =
+    let was : nat_lt 0 (times q (arriving m (entry m p from))) ≡ true → is_some (owner m.store q) ≡ true = λ y. ap is_some (came_held m q (end_of m (entry m p from)) w y).2 in
+    grind (arith, nat_tests, (swept_one m p from w l).owners q)
+
+lawful_now : (m : Machine) (p from : ℕ) → IsWhole m → from < length (blocks m p) → IsLawful (sweep_one p from m).store
+lawful_now m p from w l =
+    let r : ℕ = entry m p from in
+    let s : SweptOne p from r m (sweep_one p from m) = swept_one m p from w l in
+    let held : holds m.store (Process p) r ≡ true = entry_held m p from w l in
+    let b : IsLawful (back p from m) = back_lawful m.store p r w.store (rw (held, lt-ltb 0 (len m.store r) (w.full (Process p) r held)) refl) in
+    record {
+      few = rw s.arenas b.few;
+      long = rw (s.many, s.arenas) b.long;
+      covers = λ k. rw s.arenas (b.covers k);
+      records = λ k. rw s.arenas (b.records k);
+      owned = λ q. elim (cases_eq q r) [
+        | inl e ↦ rw (gone_owner m p from q w l e, len_now m p from q w l, eq-eqb q r e) refl
+        | inr d ↦ elim (other_owner m p from q w l d) [
+          | inl c ↦ rw (c.2) (current_range m p w (lists_current m p from l))
+          | inr o ↦ rw (o.0, len_now m p from q w l, ne_eqb q r d) (w.store.owned q)
+        ]
+      ];
+      known = λ q h. same_known (back p from m) (sweep_one p from m).store q s.arenas ∙ b.known q (known_now m p from q w l h);
+    }
+
+end_now : (m : Machine) (p from r d : ℕ) → IsWhole m → from < length (blocks m p) → end_of (sweep_one p from m) r ≡ Some d → IsEnd (sweep_one p from m) r d
+unfolding sweep_one
+end_now m p from r d w l e =
+    let before : (q : ℕ) → end_of (sweep_one p from m) q ≡ Some d → end_of m q ≡ Some d = λ q f. grind (arith, nat_tests, ends_now m p from q w l) in
+    let was = w.ends r d (before r e) in record {
+      held = grind (arith, nat_tests, (swept_one m p from w l).owners r, ends_now m p from r w l, was.held);
+      opened = was.opened;
+      alone = λ q f. was.alone q (before q f);
+    }
+
+pub whole_one : (m : Machine) (p from : ℕ) → IsWhole m → from < length (blocks m p) → IsWhole (sweep_one p from m)
+unfolding sweep_one
+whole_one m p from w l =
+    let s : SweptOne p from (entry m p from) m (sweep_one p from m) = swept_one m p from w l in
+    record {
+      store = lawful_now m p from w l;
+      once = swept_once m p from w l;
+      full = λ h q. full_now m p from h q w l;
+      kinds = length-set m.ends (entry m p from) None ∙ (w.kinds ∙ sym s.many);
+      ends = λ r d e. end_now m p from r d w l e;
+      buffers = length-set m.buffers (entry m p from) [] ∙ (w.buffers ∙ sym s.many);
+      bytes = λ q. bytes_now m p from q w l;
+      places = places_set m.places p _ w.places (busy_place m p _ w (lists_busy m p from w l));
+      channels = record {
+        long = lines_long m.contracts m.lines (end_of m (entry m p from)) ∙ w.channels.long;
+        fresh = λ k h. fresh_now m p from k w h;
+        numbered = shut_numbered m.contracts m.lines (end_of m (entry m p from)) (end_range m (entry m p from) w) w.channels.numbered;
+        contracts_long = w.channels.contracts_long;
+        wired = shut_wired m.contracts m.lines (end_of m (entry m p from)) (end_range m (entry m p from) w) w.channels.wired;
+        few = w.channels.few;
+      };
+      deep = w.deep;
+    }
+
+-- the bytes of the swept entry are given back
+pub bytes_one : (m : Machine) (p from : ℕ) → IsWhole m → from < length (blocks m p) → len m.store (entry m p from) + all_out (sweep_one p from m).store ≡ all_out m.store
+bytes_one m p from w l =
+    let r : ℕ = entry m p from in
+    let held : holds m.store (Process p) r ≡ true = entry_held m p from w l in
+    let e : all_out (back p from m) + len m.store r ≡ all_out m.store = back_bytes m.store p r w.store (rw (held, lt-ltb 0 (len m.store r) (w.full (Process p) r held)) refl) in
+    let a : all_out (sweep_one p from m).store ≡ all_out (back p from m) = ap (λ (xs : List ArenaState). all_out (record { owners = m.store.owners; arenas = xs })) (swept_one m p from w l).arenas in
+    omega (arith, e, a)
+
+pub sweep_step : (n p from : ℕ) (m : Machine) → 0 < n → from < length (blocks m p) → sweep p from n m ≡ sweep p from (n - 1) (sweep_one p from m)
+sweep_step zero p from m h l = absurd (omega arith)
+sweep_step (suc n) p from m h l = let e : suc n - 1 ≡ n = omega arith in rw (e, lt-ltb from (length (blocks m p)) l) refl

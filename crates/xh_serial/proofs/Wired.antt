@@ -1,11 +1,9 @@
 -- The two ends of each channel with a contract stay in step, whichever of them puts, takes or is drained, and the messages that wait have consecutive numbers.
 use Rattle.std.proofs.Common.{◌≡◌, ◌≢◌, ℕ, ◌+◌, ◌-◌, ◌*◌, ◌/◌, ◌%◌, ◌<◌, List, [], ◌∷◌, length, refl, sym, ap, ◌∙◌, subst, arith, inl, inr, get_or-set_same, get_or-set_other, ◌++◌}
-use Rattle.std.specs.Prelude.{Option, Some, None, slice_index_or, Bool, slice_set}
+use Rattle.std.specs.Prelude.{Option, Some, None, slice_index_or, Bool, slice_set, ◌==◌}
 use Rattle.std.proofs.lemmas.Bool.Decides.{nat_tests}
 use Rattle.xh_core.proofs.Stores.{at_set}
-use Rattle.std.proofs.lemmas.Bool.{cases_Bool}
-use Rattle.std.specs.Prelude.{◌==◌}
-use Rattle.std.proofs.lemmas.Bool.{cases_eq, eq-eqb}
+use Rattle.std.proofs.lemmas.Bool.{cases_Bool, cases_eq, eq-eqb}
 use Rattle.std.proofs.lemmas.Option.{none-some, same_Some}
 use Rattle.xh_model.specs.declared.row.Row.{Row}
 use Rattle.xh_model.specs.Rows.{allowed, walk, IsValid, InStep}

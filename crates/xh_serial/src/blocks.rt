@@ -1,5 +1,5 @@
 //! What the blocks of all records hold.
-ghost use Rattle.std.specs.Prelude.{◌≡◌, ◌≢◌, ◌+◌, ◌≤◌, ◌<◌, [], IfOk, None, OnErr, OnOk, Some, drop, length, replicate, take};
+ghost use Rattle.std.specs.Prelude.{◌≡◌, ◌≢◌, ◌+◌, ◌≤◌, ◌<◌, [], IfOk, None, OnErr, OnOk, drop, length, replicate, take};
 ghost use Rattle.xh_serial.specs.BlockCommands.{overwritten};
 ghost use Rattle.xh_serial.specs.inner.Holding.{bytes_at, end_at, with_bytes, with_end};
 
@@ -123,20 +123,12 @@ impl Blocks {
         self.ends.get(usize::from(r)).copied().flatten()
     }
 
-    /// A record is an endpoint from now on, and this the direction toward it.
-    pub(crate) fn bind(&mut self, r: u16, d: u8)
+    /// A record is an endpoint from now on, and this the direction toward it; or it is none.
+    pub(crate) fn bind(&mut self, r: u16, end: Option<u8>)
         requires { r < length self.old.buffers }
-        ensures { self.new ≡ with_end r (Some d) self.old }
+        ensures { self.new ≡ with_end r end self.old }
     {
-        self.ends[usize::from(r)] = Some(d);
-    }
-
-    /// A record is no endpoint from now on.
-    pub(crate) fn unbind(&mut self, r: u16)
-        requires { r < length self.old.buffers }
-        ensures { self.new ≡ with_end r None self.old }
-    {
-        self.ends[usize::from(r)] = None;
+        self.ends[usize::from(r)] = end;
     }
 
     /// A record has these bytes from now on.

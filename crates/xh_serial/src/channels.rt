@@ -1,12 +1,11 @@
 //! The channels: the two directions of each, and its contract.
-ghost use Rattle.std.specs.Prelude.{◌≡◌, ℕ, ◌+◌, ◌-◌, ◌*◌, ◌/◌, ◌%◌, ◌<◌, ◌≤◌, ◌==◌, [], IfOk, None, Some, false, length, replicate, slice_set};
+ghost use Rattle.std.specs.Prelude.{◌≡◌, ℕ, ◌+◌, ◌-◌, ◌*◌, ◌/◌, ◌%◌, ◌<◌, ◌≤◌, ◌==◌, [], IfOk, None, Some, false, length, replicate, slice_set, slice_index_or};
 ghost use Rattle.xh_model.specs.declared.limits.TheConstants.{CHANNELS, DIRECTIONS, MAX_BLOCKS, MAX_DEPTH, MAX_MESSAGES};
 ghost use Rattle.xh_serial.specs.ChannelCommands.{first_state, new_line};
 ghost use Rattle.xh_serial.specs.Machine.{carried, contract_of, drained_state, next_state, no_line, peer, tags_of, way_in};
 ghost use Rattle.xh_serial.specs.MessageCommands.{is_banned, is_full, no_message, put_line, taken_line, told_line};
 ghost use Rattle.xh_serial.specs.Sweeping.{shut_in};
 ghost use Rattle.xh_serial.specs.inner.Channeling.{line_at, with_line, IsSound};
-ghost use Rattle.std.specs.Prelude.{slice_index_or};
 ghost use Rattle.std.specs.List.{remove};
 
 use crate::line::{Line, ROOM};
@@ -133,12 +132,7 @@ fn new_lines(alloc: Global) -> Result<Vec<Line>, AllocError>
 {
     let mut lines = Vec::with_capacity(alloc, DIRECTIONS as usize)?;
     for _ in 0..DIRECTIONS {
-        lines.push(Line {
-            shut: false,
-            state: 0,
-            put: 0,
-            waiting: ArrayVec::new(),
-        })?;
+        lines.push(new_line(0))?;
     }
     Ok(lines)
 }

@@ -10,7 +10,7 @@ use Rattle.xh_script.specs.declared.fault.Fault.TheVariants.{Script, Memory, Rea
 use Rattle.xh_script.specs.declared.fault.Kind.TheVariants.{TooLong}
 use Rattle.xh_script.specs.declared.watch.Watched.{Watched}
 use Rattle.xh_script.specs.Scripts.{Fails, Listing, script_of}
-use Rattle.xh_script.specs.Watching.{Reads, Writes, WritesFront, WritesOrFails, failures, inner_of}
+use Rattle.xh_script.specs.Watching.{Reads, Writes, WritesOrFails, failures, inner_of}
 use Rattle.xh_script.proofs.Writings.{WritesOrFails-then}
 use Rattle.xh_session.specs.Ends.{Done, Stopped}
 use Rattle.xh_session.specs.Reading.{GivesScript, ReadsScript, Unread}

@@ -1,11 +1,9 @@
 //! What the names of a script stand for.
-ghost use Rattle.std.specs.Prelude.{◌≡◌, ◌+◌, ◌*◌, ◌%◌, ◌≤◌, ◌==◌, if◌then◌else◌, length, map, codes, IfOk};
-ghost use Rattle.std.specs.Prelude.{slice_index_or, slice_set};
+ghost use Rattle.std.specs.Prelude.{◌≡◌, ◌+◌, ◌*◌, ◌%◌, ◌≤◌, ◌==◌, if◌then◌else◌, length, map, codes, IfOk, slice_index_or, slice_set};
 ghost use Rattle.xh_session.specs.Bindings.{Bindings, no_bindings, nothings, number_of, has_place, started, name_at, names_by_place, record_of, records_of};
-ghost use Rattle.xh_session.specs.Bindings.{bound, bound_block, bound_each, cleared, without_record, unbound, unbound_each, unbound_all, not_among};
+ghost use Rattle.xh_session.specs.Bindings.{bound, bound_block, bound_each, cleared, without_record, unbound, unbound_each, unbound_all, not_among, process_at};
 ghost use Rattle.xh_model.specs.declared.limits.TheConstants.{PLACES};
 ghost use Rattle.xh_script.specs.declared.limits.TheConstants.{MAX_WORDS, MAX_BLOCK_NAMES};
-ghost use Rattle.xh_session.specs.Bindings.{process_at};
 ghost use Rattle.xh_session.specs.declared.names.TheConstants.{NOTHING};
 
 use arrayvec::ArrayVec;
@@ -53,10 +51,7 @@ fn nothings(alloc: Global, count: usize) -> Result<Vec<u16>, AllocError>
 fn at(entries: &[u16], index: usize) -> u16
     ensures { result ≡ slice_index_or entries.now index NOTHING }
 {
-    match entries.get(index) {
-        Some(entry) => *entry,
-        None => NOTHING,
-    }
+    entries.get(index).copied().unwrap_or(NOTHING)
 }
 
 // Sets the entry, where there is one.
@@ -168,11 +163,7 @@ impl Names {
         ensures { result ≡ process_at self.now place }
     {
         let process = *self.latest.get(usize::from(place))?;
-        if self.number(process) == u16::from(place) {
-            Some(process)
-        } else {
-            None
-        }
+        (self.number(process) == u16::from(place)).then_some(process)
     }
 
     /// By place, the name of its latest process.

@@ -60,12 +60,10 @@ impl<'a> Stage<'a> {
         ensures fresh { IfOk result (λ stage. stage ≡ new_world config contracts.entry.now) }
         ensures refused { IfErr result (λ e. ((e ≡ Fault.BadConfig) × ¬ IsConfig config) ⊎ (e ≡ Fault.Memory)) }
     {
-        let names = Names::new(alloc)?;
-        let machine = new_machine(alloc, config)?;
         Ok(Stage {
             session: Session {
-                machine,
-                names,
+                names: Names::new(alloc)?,
+                machine: new_machine(alloc, config)?,
                 contracts,
             },
         })

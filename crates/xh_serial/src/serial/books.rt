@@ -1,5 +1,5 @@
 //! What the ledger tells: the arenas, the places, and the sums of their bytes.
-ghost use Rattle.std.specs.Prelude.{◌≡◌, ◌+◌, ◌<◌, ◌≤◌, ◌*◌, All, length, slice_index_or};
+ghost use Rattle.std.specs.Prelude.{◌≡◌, ◌+◌, ◌<◌, ◌≤◌, ◌*◌, All, slice_index_or};
 ghost use Rattle.std.specs.List.{sum_by};
 ghost use Rattle.xh_core.specs.Statuses.{is_vacant};
 ghost use Rattle.xh_serial.specs.Machine.{no_place};

@@ -40,8 +40,8 @@ impl Serial {
         self.check_wire(p, q, arena)?;
         let (r, t) = self.plain.allocate_ends(p, arena)?;
         let channel = self.channels.open(contract);
-        self.blocks.bind(r, 2 * channel);
-        self.blocks.bind(t, 2 * channel + 1);
+        self.blocks.bind(r, Some(2 * channel));
+        self.blocks.bind(t, Some(2 * channel + 1));
         self.plain.hand_over(p, q, t, 2 * channel + 1);
         self.places.add(p, r);
         self.places.add(q, t);
@@ -60,6 +60,7 @@ impl Serial {
     /// A new channel, the lowest that was not opened, whose two ends `p` holds: side 0 and side 1,
     /// the halves of one run of 64 bytes of the arena. NoProcess, Ended, NoArena, NoChannel,
     /// NoRecord, NoSpace and Worn, in this order; each leaves all as it was.
+    #[tactic(auto, using(crate::proofs::Opening::same_process))]
     pub fn open(&mut self, p: u16, arena: u32) -> Result<(Block, Block), Refused>
         ensures is { open_channel p arena None self.old ≡ (result, self.new) }
         ensures orderly { AreOrderly self.new }
@@ -68,6 +69,7 @@ impl Serial {
     }
 
     /// The same, and both ends go by a contract, from its first state on.
+    #[tactic(auto, using(crate::proofs::Opening::same_process))]
     pub fn open_with(
         &mut self,
         p: u16,

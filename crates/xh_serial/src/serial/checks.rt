@@ -88,12 +88,9 @@ impl Serial {
     fn holds_all(&self, p: u16, blocks: &[u16]) -> bool
         ensures { result ≡ list_all (λ r. holds self.now.store (Process p) r) blocks.now }
     {
-        for r in blocks {
-            if !self.plain.holds(Holder::Process(p), *r) {
-                return false;
-            }
-        }
-        true
+        blocks
+            .iter()
+            .all(|r| self.plain.holds(Holder::Process(p), *r))
     }
 
     /// What a take tests, or the direction that it takes from.

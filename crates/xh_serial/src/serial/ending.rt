@@ -4,8 +4,8 @@ ghost use Rattle.xh_model.specs.Reclaimed.{Frees};
 ghost use Rattle.xh_model.specs.Store.{holds};
 ghost use Rattle.xh_model.specs.declared.event.Holder.TheVariants.{Process};
 ghost use Rattle.xh_model.specs.declared.limits.TheConstants.{MAX_BUDGET};
-ghost use Rattle.xh_core.specs.declared.status.Status.TheVariants as status;
-ghost use Rattle.xh_serial.specs.Machine.{arriving, blocks, is_current, status_at, with_status};
+ghost use Rattle.xh_core.specs.Statuses.{is_over};
+ghost use Rattle.xh_serial.specs.Machine.{arriving, blocks, is_current, place, status_at, with_status};
 ghost use Rattle.xh_core.specs.Calls.{stop};
 ghost use Rattle.xh_core.specs.Refusing.{first_refusal};
 ghost use Rattle.xh_serial.specs.Commands.{IsRunning};
@@ -17,19 +17,12 @@ use xh_core::{Refused, Status};
 use xh_model::limits::MAX_BUDGET;
 
 impl Serial {
-    fn begin_ending(&mut self, p: u16)
-        requires { is_current self.old p ≡ true }
-        ensures { self.new ≡ with_status p status.Ending self.old }
+    /// How far a process has come: one that has ended lists nothing.
+    fn set_status(&mut self, p: u16, status: Status)
+        requires { is_over status ≡ true → length (place self.old p).blocks.items ≡ 0 }
+        ensures { self.new ≡ with_status p status self.old }
     {
-        self.places.set_status(p, Status::Ending);
-    }
-
-    fn finish_ending(&mut self, p: u16)
-        requires current { is_current self.old p ≡ true }
-        requires empty { length (blocks self.old p) ≡ 0 }
-        ensures { self.new ≡ with_status p status.Ended self.old }
-    {
-        self.places.set_status(p, Status::Ended);
+        self.places.set_status(p, status);
     }
 
     /// A process is ended: its whole list is swept, as far as the budget goes.
@@ -41,13 +34,13 @@ impl Serial {
         ensures bound { Sweeps p 0 budget self.old self.new }
     {
         let _start = &self.plain;
-        self.begin_ending(p);
+        self.set_status(p, Status::Ending);
         let bytes = self.sweep(p, 0, budget);
         let left = self.count(p);
         if left > 0 {
             return Err(Refused::Unfinished { left: left as u32 });
         }
-        self.finish_ending(p);
+        self.set_status(p, Status::Ended);
         Ok(bytes)
     }
 

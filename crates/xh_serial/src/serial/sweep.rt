@@ -30,7 +30,7 @@ impl Serial {
         self.plain.accept_from(p, end, came.as_slice());
         self.places.add_all(p, came.as_slice());
         self.plain.discard(p, r);
-        self.blocks.unbind(r);
+        self.blocks.bind(r, None);
         self.blocks.clear(r);
         self.places.remove_at(p, from);
     }

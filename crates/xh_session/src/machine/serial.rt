@@ -107,10 +107,7 @@ impl Machine for Serial {
     }
 
     fn take(&mut self, process: u16, endpoint: u16, _waits: bool) -> Result<Received, Refused> {
-        match Serial::take(self, process, endpoint) {
-            Ok(message) => Ok(received(message)),
-            Err(refused) => Err(refused),
-        }
+        Serial::take(self, process, endpoint).map(received)
     }
 
     fn free(&mut self, process: u16, block: u16) -> Result<u32, Refused> {

@@ -17,9 +17,7 @@ fn array_of(bytes: &[u8]) -> ArrayVec<u8, MAX_HEX>
     ensures { result.items ≡ bytes.now }
 {
     let mut array = ArrayVec::new();
-    for byte in bytes {
-        array.push(*byte);
-    }
+    let _ = array.try_extend_from_slice(bytes);
     array
 }
 

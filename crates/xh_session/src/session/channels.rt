@@ -13,10 +13,7 @@ use xh_script::Reply;
 fn contract_at<'a>(contracts: &'a [Contract], number: Option<u8>) -> Option<&'a Contract>
     ensures { option_map (λ c. c.now) result ≡ contract_at contracts.now number }
 {
-    match number {
-        Some(number) => contracts.get(usize::from(number)),
-        None => None,
-    }
+    contracts.get(usize::from(number?))
 }
 
 impl<'a, M: Machine> Session<'a, M> {

@@ -18,10 +18,7 @@ use xh_script::{Reply, Word};
 fn length_of(block: &Option<Block>) -> Option<u32>
     ensures { result ≡ option_map (λ b. b.len) block.now }
 {
-    match block {
-        Some(block) => Some(block.len),
-        None => None,
-    }
+    block.map(|block| block.len)
 }
 
 fn lengths_of(blocks: &[Option<Block>]) -> ArrayVec<Option<u32>, MAX_BLOCKS>

@@ -105,10 +105,8 @@ impl<'a, M: Machine> Session<'a, M> {
         ensures { Steps M.alone (exit_step (world_of M.state self.old) process budget) result (world_of M.state self.new) }
     {
         let number = self.names.number(process);
-        match self.machine.exit(number, budget) {
-            Ok(bytes) => Reply::Reclaimed(bytes),
-            Err(refused) => Reply::No(refused),
-        }
+        let ended = self.machine.exit(number, budget);
+        ended.map_or_else(Reply::No, Reply::Reclaimed)
     }
 
     pub(crate) fn kill(&mut self, process: u8, victim: u8, budget: u32) -> Reply

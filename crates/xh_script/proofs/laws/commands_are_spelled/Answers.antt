@@ -1,4 +1,4 @@
-use Rattle.xh_script.proofs.SpellingLines.{said_ok}
+use Rattle.xh_script.proofs.Spelling.{said_ok}
 use Rattle.xh_script.proofs.laws.commands_are_spelled.Goals as goal
 
 pub returns : goal.returns

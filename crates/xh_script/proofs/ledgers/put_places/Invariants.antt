@@ -1,9 +1,7 @@
-use Rattle.std.proofs.Common.{◌≡◌, ℕ, List, ◌++◌, drop}
-use Rattle.xh_script.specs.Watching.{Writes}
+use Rattle.std.proofs.Common.{drop}
 use Rattle.xh_script.specs.Texts.{place_texts}
+use Rattle.xh_script.proofs.Writings.{Wrote}
 use Rattle.xh_script.proofs.ledgers.put_places.Given as goal
 
 abbrev pub invariant-loop-line : goal.invariant-loop-line
-invariant-loop-line g l =
-    (written : List ℕ) × Writes g.W.Write.contents l.fn.writer l.writer written
-    × (place_texts l.names l.lines ≡ written ++ place_texts l.names (drop l.line-index l.lines))
+invariant-loop-line g l = Wrote g.W.Write.contents l.fn.writer l.writer (place_texts l.names l.lines) (place_texts l.names (drop l.line-index l.lines))

@@ -1,22 +1,19 @@
-use Rattle.std.proofs.Common.{ap, subst, ◌∙◌}
-use Rattle.std.proofs.lemmas.Result.{err_from_is_err_and}
-use Rattle.xh_script.specs.Watching.{Writes, WritesFront}
+use Rattle.std.proofs.Common.{ap, subst, Err}
+use Rattle.xh_script.specs.Watching.{Writes, WritesOrFails}
 use Rattle.xh_script.specs.Texts.{arena_texts, place_texts}
-use Rattle.xh_script.proofs.Writings.{WritesOrFails-then, WritesFront-then, WritesFront-stops}
+use Rattle.xh_script.proofs.Writings.{WritesOrFails-then, stops}
 use Rattle.xh_script.proofs.ledgers.write_ledger.Goals as goal
 
 pub returns-in_err-put_arenas : goal.returns-in_err-put_arenas
 returns-in_err-put_arenas g c =
-    let p = err_from_is_err_and c.from_residual.result c.from_residual.ensures.1 in
-    let front = subst (WritesFront g.W.Write.contents _ _) (ap (arena_texts 0) c.deref.ensures.0) c.in_err-put_arenas.ensures.1 in
-    rw p.1 (p.2 ∙ c.in_err-put_arenas.ensures.0, WritesFront-stops g.W.Write.contents _ _ _ _ front)
+    let front = subst (WritesOrFails g.W.Write.contents _ _ (Err _)) (ap (arena_texts 0) c.deref.ensures.0) c.in_err-put_arenas.ensures in
+    stops g.W.Write.contents _ _ _ _ _ _ c.from_residual.ensures.1 front
 
 pub returns-in_err-put_places : goal.returns-in_err-put_places
 returns-in_err-put_places g c =
-    let p = err_from_is_err_and c.from_residual-in_err-put_places.result c.from_residual-in_err-put_places.ensures.1 in
     let arenas = subst (Writes g.W.Write.contents _ _) (ap (arena_texts 0) c.deref.ensures.0) c.in_ok-put_arenas.ensures in
-    let front = subst (WritesFront g.W.Write.contents _ _) (ap (place_texts c.args.names.now) c.deref-2.ensures.0) c.in_err-put_places.ensures.1 in
-    rw p.1 (p.2 ∙ c.in_err-put_places.ensures.0, WritesFront-then g.W.Write.contents _ _ _ _ _ arenas (WritesFront-stops g.W.Write.contents _ _ _ _ front))
+    let front = subst (WritesOrFails g.W.Write.contents _ _ (Err _)) (ap (place_texts c.args.names.now) c.deref-2.ensures.0) c.in_err-put_places.ensures in
+    WritesOrFails-then g.W.Write.contents _ _ _ _ _ _ arenas (stops g.W.Write.contents _ _ _ _ _ _ c.from_residual-in_err-put_places.ensures.1 front)
 
 pub returns : goal.returns
 returns g c =

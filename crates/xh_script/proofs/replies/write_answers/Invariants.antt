@@ -1,9 +1,7 @@
-use Rattle.std.proofs.Common.{◌≡◌, ℕ, List, ◌++◌, drop}
-use Rattle.xh_script.specs.Watching.{Writes}
+use Rattle.std.proofs.Common.{drop}
 use Rattle.xh_script.specs.Texts.{answer_texts}
+use Rattle.xh_script.proofs.Writings.{Wrote}
 use Rattle.xh_script.proofs.replies.write_answers.Given as goal
 
 abbrev pub invariant-loop-answered : goal.invariant-loop-answered
-invariant-loop-answered g l =
-    (written : List ℕ) × Writes g.W.Write.contents l.fn.writer l.writer written
-    × (answer_texts l.answers ≡ written ++ answer_texts (drop l.answered-index l.answers))
+invariant-loop-answered g l = Wrote g.W.Write.contents l.fn.writer l.writer (answer_texts l.answers) (answer_texts (drop l.answered-index l.answers))

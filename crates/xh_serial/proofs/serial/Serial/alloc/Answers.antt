@@ -9,7 +9,7 @@ use Rattle.xh_core.specs.Gaining.{Gained}
 use Rattle.xh_serial.specs.BlockCommands.{alloc, alloc_heads, allocated}
 use Rattle.xh_core.specs.Space.{free_record, rounded, space_tests}
 use Rattle.xh_core.proofs.Claiming.{IsFree, free_is, in_range}
-use Rattle.xh_serial.proofs.Gains.{room_for, free_there, allocated_whole}
+use Rattle.xh_serial.proofs.Closing.{room_for, free_there, allocated_whole}
 use Rattle.xh_core.proofs.Firsts.{first_append, first_later}
 use Rattle.xh_serial.specs.View.{machine_of}
 use Rattle.xh_serial.proofs.serial.Serial.alloc.Goals as goal

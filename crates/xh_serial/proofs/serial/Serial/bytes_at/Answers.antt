@@ -4,7 +4,7 @@ use Rattle.xh_model.specs.Store.{bytes_of}
 use Rattle.xh_serial.specs.declared.place.Place.{Place}
 use Rattle.xh_serial.specs.Machine.{Machine}
 use Rattle.xh_serial.specs.View.{machine_of}
-use Rattle.xh_serial.proofs.Summed.{place_total}
+use Rattle.xh_serial.proofs.Room.{place_total}
 use Rattle.xh_serial.proofs.serial.Serial.bytes_at.Goals as goal
 
 pub returns-clause-sum : goal.returns-clause-sum

@@ -1,12 +1,15 @@
-use Rattle.std.proofs.Common.{◌≡◌, ◌∙◌, ◌*◌, ◌+◌, ◌<◌, ℕ, length, sym, ap, refl, subst, Some, None, Ok}
+use Rattle.std.proofs.Common.{◌≡◌, ◌∙◌, ◌*◌, ◌+◌, ◌<◌, ℕ, length, sym, ap, refl, subst, arith, Some, None, Ok}
 use Rattle.std.proofs.lemmas.Result.{err_from_is_err_and}
-use Rattle.xh_model.specs.Store.{Store}
+use Rattle.xh_model.specs.Store.{Store, IsLawful}
+use Rattle.xh_serial.specs.Commands.{IsRunning}
+use Rattle.xh_core.proofs.Pairs.{paired_two, shared}
+use Rattle.xh_serial.proofs.Machines.{current_range}
 use Rattle.xh_serial.specs.Machine.{Machine, IsWhole}
 use Rattle.xh_core.specs.Refusing.{first_refusal}
 use Rattle.xh_serial.specs.ChannelCommands.{ends_at, wired, wire_channel, wire_heads}
 use Rattle.xh_core.specs.Space.{pair_tests}
 use Rattle.xh_core.specs.Pairing.{Paired, moved}
-use Rattle.xh_serial.proofs.Opening.{Connects, connects, connected, connected_whole, connected_is, room_p, room_q, pair_there}
+use Rattle.xh_serial.proofs.Opening.{Connects, connected, connected_whole, connected_is, room_p, room_q}
 use Rattle.xh_core.proofs.Firsts.{first_append, first_later}
 use Rattle.xh_serial.proofs.Wired.{whole_orderly, wired_orderly}
 use Rattle.xh_serial.specs.View.{machine_of}
@@ -39,8 +42,10 @@ returns-in_err-r-clause-orderly c = let m : Machine = record (machine_of c.self.
 
 there : (c : In_ok-r) → (c.in_ok-r.r < length c.self.inside.blocks.buffers) × (c.in_ok-r.t < length c.self.inside.blocks.buffers)
 there c =
-    pair_there (machine_of c.self.inside) c.args.p c.args.arena c.in_ok-r.r c.in_ok-r.t c.allocate_ends.new.self c.self.invariant
-    (rw (← c.self.view_is) at c.in_ok-check_wire.ensures.1.0) c.in_ok-r.ensures.done
+    let m : Machine = machine_of c.self.inside in
+    let runs : IsRunning m c.args.p = rw (← c.self.view_is) at c.in_ok-check_wire.ensures.1.0 in
+    let two = paired_two c.args.p c.args.arena c.in_ok-r.r c.in_ok-r.t m.store c.allocate_ends.new.self c.self.invariant.store (current_range m c.args.p c.self.invariant runs.0) c.in_ok-r.ensures.done in
+    (omega (arith, c.self.invariant.buffers, two.there_r), omega (arith, c.self.invariant.buffers, two.there_t))
 
 pub bind-requires : goal.bind-requires
 bind-requires c = (there (goal.at.bind-requires c).In_ok-r).0
@@ -58,9 +63,18 @@ handed c = c.hand_over.ensures.store ∙ ap (λ (k : ℕ). moved c.args.p c.args
 
 facts : (c : After-hand_over) → Connects c.hand_over.new.self c.args.p c.args.q c.in_ok-r.r c.in_ok-r.t c.args.contract (was c)
 facts c =
+    let m : Machine = was c in
     let checked = rw (← c.self.view_is) at c.in_ok-check_wire.ensures.1 in
-    connects (was c) c.args.p c.args.q c.args.arena c.in_ok-r.r c.in_ok-r.t c.args.contract c.allocate_ends.new.self c.hand_over.new.self c.self.invariant checked.0 checked.1 checked.3
-    c.open-channel.ensures.sound c.in_ok-r.ensures.done (handed c) c.hand_over.ensures.lawful
+    let two = shared c.args.p c.args.q c.args.arena c.in_ok-r.r c.in_ok-r.t (2 * m.opened + 1) m.store c.allocate_ends.new.self c.self.invariant.store
+    (current_range m c.args.p c.self.invariant checked.0.0) (current_range m c.args.q c.self.invariant checked.1.0) (omega (arith, checked.3)) c.in_ok-r.ensures.done
+    (subst IsLawful (handed c) c.hand_over.ensures.lawful) in record {
+      whole = c.self.invariant;
+      runs_p = checked.0;
+      runs_q = checked.1;
+      more = checked.3;
+      sound = c.open-channel.ensures.sound;
+      shared = rw (handed c) two;
+    }
 
 pub add-requires : goal.add-requires
 add-requires c = room_p _ _ _ _ _ _ _ (facts (goal.at.add-requires c).After-hand_over)

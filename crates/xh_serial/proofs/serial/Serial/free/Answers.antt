@@ -4,7 +4,7 @@ use Rattle.xh_model.specs.Store.{holds}
 use Rattle.xh_serial.specs.BlockCommands.{free, freed_block}
 use Rattle.xh_serial.specs.Machine.{Machine, IsWhole, end_of}
 use Rattle.xh_serial.specs.Commands.{IsRunning}
-use Rattle.xh_serial.proofs.Gains.{listed_place, freed_whole}
+use Rattle.xh_serial.proofs.Closing.{listed_place, freed_whole}
 use Rattle.xh_serial.specs.View.{machine_of}
 use Rattle.xh_serial.proofs.serial.Serial.free.Goals as goal
 use Rattle.xh_serial.proofs.serial.Serial.free.Goals.{In_ok-check_free}

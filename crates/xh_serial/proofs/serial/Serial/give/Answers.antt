@@ -6,7 +6,7 @@ use Rattle.xh_serial.specs.declared.line.Line.{Line}
 use Rattle.xh_serial.specs.Commands.{toward}
 use Rattle.xh_serial.specs.MessageCommands.{give, given, told_line}
 use Rattle.xh_serial.specs.inner.Checks.{MayGive}
-use Rattle.xh_serial.proofs.Giving.{given_whole}
+use Rattle.xh_serial.proofs.Messages.{given_whole}
 use Rattle.xh_serial.proofs.Wired.{whole_orderly, whole_numbered}
 use Rattle.xh_serial.specs.View.{machine_of}
 use Rattle.xh_serial.proofs.serial.Serial.give.Goals as goal

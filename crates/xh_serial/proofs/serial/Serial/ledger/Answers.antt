@@ -3,7 +3,7 @@ use Rattle.std.specs.List.{sum_by}
 use Rattle.xh_serial.specs.Machine.{Machine, carried}
 use Rattle.xh_serial.specs.View.{machine_of}
 use Rattle.xh_serial.specs.PlaceCommands.{ledger_of, place_lines, total}
-use Rattle.xh_serial.proofs.Summed.{out_is}
+use Rattle.xh_serial.proofs.Room.{out_is}
 use Rattle.xh_serial.proofs.serial.Serial.ledger.Goals as goal
 use Rattle.xh_serial.proofs.serial.Serial.ledger.Goals.{After-owned-held}
 

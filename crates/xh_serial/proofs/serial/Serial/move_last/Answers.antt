@@ -7,8 +7,7 @@ use Rattle.xh_serial.specs.Commands.{IsRunning}
 use Rattle.xh_serial.specs.inner.Placing.{blocks_in}
 use Rattle.xh_serial.specs.EndingCommands.{moved_last}
 use Rattle.xh_serial.proofs.Machines.{current_blocks}
-use Rattle.xh_serial.proofs.Closing.{last_whole}
-use Rattle.xh_serial.proofs.Gains.{listed_place}
+use Rattle.xh_serial.proofs.Closing.{last_whole, listed_place}
 use Rattle.xh_serial.proofs.serial.Serial.move_last.Goals as goal
 use Rattle.xh_serial.proofs.serial.Serial.move_last.Goals.{After-self}
 

@@ -1,7 +1,7 @@
 use Rattle.std.proofs.Common.{subst}
 use Rattle.xh_model.specs.Store.{IsLawful}
 use Rattle.xh_serial.specs.PlaceCommands.{new_machine}
-use Rattle.xh_serial.proofs.Fresh.{new_whole}
+use Rattle.xh_serial.proofs.Opening.{new_whole}
 use Rattle.xh_serial.proofs.serial.Serial.new.Goals as goal
 
 pub invariant_of-result : goal.invariant_of-result

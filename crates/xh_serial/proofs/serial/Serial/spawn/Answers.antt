@@ -6,7 +6,7 @@ use Rattle.xh_core.specs.declared.refused.Refused.TheVariants.{NoPlace}
 use Rattle.xh_serial.specs.Machine.{Machine, IsWhole}
 use Rattle.xh_serial.specs.PlaceCommands.{is_ready, spawn}
 use Rattle.xh_serial.specs.View.{machine_of}
-use Rattle.xh_serial.proofs.Fresh.{spawn_whole, spawn_gives}
+use Rattle.xh_serial.proofs.Opening.{spawn_whole, spawn_gives}
 use Rattle.xh_serial.proofs.serial.Serial.spawn.Goals as goal
 
 pub invariant_of-self : goal.invariant_of-self

@@ -10,7 +10,7 @@ use Rattle.xh_serial.specs.BlockCommands.{parted, split, split_heads}
 use Rattle.xh_serial.specs.inner.Checks.{MaySplit}
 use Rattle.xh_core.proofs.Stores.{is_there}
 use Rattle.xh_core.proofs.Claiming.{IsFree, free_is, in_range, apart}
-use Rattle.xh_serial.proofs.Gains.{room_for, free_there, parted_whole}
+use Rattle.xh_serial.proofs.Closing.{room_for, free_there, parted_whole}
 use Rattle.xh_core.proofs.Firsts.{first_append, first_later}
 use Rattle.xh_serial.specs.View.{machine_of}
 use Rattle.xh_serial.proofs.serial.Serial.split.Goals as goal

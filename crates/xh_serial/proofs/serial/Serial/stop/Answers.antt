@@ -1,9 +1,9 @@
-use Rattle.std.proofs.Common.{◌≡◌, length, sym, ap, ◌∙◌, subst, arith}
+use Rattle.std.proofs.Common.{◌≡◌, length, refl, sym, ap, ◌∙◌, subst, arith}
 use Rattle.xh_model.specs.Reclaimed.{Frees}
-use Rattle.xh_core.specs.declared.status.Status.TheVariants.{Ending}
+use Rattle.xh_core.specs.declared.status.Status.TheVariants.{Ending, Ended}
 use Rattle.xh_serial.specs.Machine.{Machine, IsWhole, blocks, arriving, with_status}
-use Rattle.xh_serial.specs.Sweeping.{sweep, Sweeps}
-use Rattle.xh_serial.proofs.Closing.{stop_sweeps, stop_ends, stop_frees}
+use Rattle.xh_serial.specs.Sweeping.{sweep}
+use Rattle.xh_serial.proofs.Closing.{stop_sweeps, ended_blocks, stop_frees}
 use Rattle.xh_serial.proofs.serial.Serial.stop.Goals as goal
 use Rattle.xh_serial.proofs.serial.Serial.stop.Goals.{After-sweep-bytes}
 
@@ -11,21 +11,22 @@ whole : (c : After-sweep-bytes) → IsWhole c.args.self.now
 whole c = subst IsWhole c.self.view_is c.self.invariant
 
 is : (c : After-sweep-bytes) → c.sweep-bytes.new.self ≡ sweep c.args.p 0 c.args.budget (with_status c.args.p Ending c.args.self.now)
-is c = c.sweep-bytes.ensures.is ∙ ap (sweep c.args.p 0 c.args.budget) c.begin_ending.ensures
+is c = c.sweep-bytes.ensures.is ∙ ap (sweep c.args.p 0 c.args.budget) c.set_status.ensures
 
 pub returns-then-left-gt0-clause-bound : goal.returns-then-left-gt0-clause-bound
 returns-then-left-gt0-clause-bound c =
     let d = (goal.at.returns-then-left-gt0-clause-bound c).After-sweep-bytes in
-    stop_sweeps c.args.self.now c.sweep-bytes.new.self c.args.p c.args.budget (whole d) (is d)
+    stop_sweeps c.args.self.now c.sweep-bytes.new.self c.sweep-bytes.new.self c.args.p c.args.budget (whole d) (is d) refl
 
 pub returns-clause-frees : goal.returns-clause-frees
 returns-clause-frees c = λ _.
     let d = (goal.at.returns-clause-frees c).After-sweep-bytes in
     let none : length (blocks c.sweep-bytes.new.self c.args.p) ≡ 0 = (let e = c.count-left.ensures.value in let z = c.if-left-gt0.false in omega (arith, e, z)) in
-    subst (λ (x : Machine). Frees (arriving c.args.self.now) c.args.self.now.store x.store (blocks c.args.self.now c.args.p)) (sym c.finish_ending.ensures)
+    subst (λ (x : Machine). Frees (arriving c.args.self.now) c.args.self.now.store x.store (blocks c.args.self.now c.args.p)) (sym c.set_status-2.ensures)
     (stop_frees c.args.self.now c.sweep-bytes.new.self c.args.p c.args.budget (whole d) (is d) none)
 
 pub returns-clause-bound : goal.returns-clause-bound
 returns-clause-bound c =
     let d = (goal.at.returns-clause-bound c).After-sweep-bytes in
-    subst (Sweeps c.args.p 0 c.args.budget c.args.self.now) (sym c.finish_ending.ensures) (stop_ends c.args.self.now c.sweep-bytes.new.self c.args.p c.args.budget (whole d) (is d))
+    let same = ended_blocks c.args.self.now c.sweep-bytes.new.self c.args.p c.args.budget (whole d) (is d) in
+    rw c.set_status-2.ensures (stop_sweeps c.args.self.now c.sweep-bytes.new.self (with_status c.args.p Ended c.sweep-bytes.new.self) c.args.p c.args.budget (whole d) (is d) same)

@@ -5,8 +5,7 @@ use Rattle.xh_serial.specs.Machine.{Machine, IsWhole, blocks, end_of, way_in}
 use Rattle.xh_serial.specs.View.{machine_of}
 use Rattle.xh_serial.specs.inner.Placing.{blocks_in}
 use Rattle.xh_serial.specs.Sweeping.{sweep_one}
-use Rattle.xh_serial.proofs.Swept.{entry, end_range, entry_read, entry_there, entry_room, entry_left}
-use Rattle.xh_serial.proofs.Kept.{whole_one, bytes_one}
+use Rattle.xh_serial.proofs.Swept.{entry, end_range, entry_read, entry_there, entry_room, entry_left, whole_one, bytes_one}
 use Rattle.xh_serial.proofs.serial.Serial.sweep_one.Goals as goal
 use Rattle.xh_serial.proofs.serial.Serial.sweep_one.Goals.{After-end-end}
 
@@ -42,11 +41,11 @@ add_all-requires c =
     subst (λ (xs : List ℕ). length (blocks_in c.self.inside.places c.args.p) + length xs ≤ 2048) (sym (c.as_slice-2.ensures.value ∙ c.shut-came.ensures.records))
     (entry_room (was d) c.args.p c.args.from c.end-end.result c.self.invariant (has d))
 
-pub unbind-requires : goal.unbind-requires
-unbind-requires c = let d = (goal.at.unbind-requires c).After-end-end in rw (read d) (there d)
+pub bind-requires : goal.bind-requires
+bind-requires c = let d = (goal.at.bind-requires c).After-end-end in rw (read d) (there d)
 
 pub clear-requires : goal.clear-requires
-clear-requires c = let d = (goal.at.clear-requires c).After-end-end in rw (read d, c.unbind.ensures) (there d)
+clear-requires c = let d = (goal.at.clear-requires c).After-end-end in rw (read d, c.bind.ensures) (there d)
 
 -- ---- the machine after
 
@@ -71,7 +70,7 @@ made c =
     let d = begun c in
     let came = c.as_slice-2.ensures.value ∙ (c.shut-came.ensures.records ∙ ap (way_in (was d).lines) (end_is d)) in
     let listed = entry_left (was d) c.args.p c.args.from c.as_slice-2.result.now c.add_all.new.self c.remove_at.new.self c.self.invariant (has d) came c.add_all.ensures c.remove_at.ensures in
-    rw (listed, c.discard.ensures.store, c.accept_from.ensures, c.as_slice.ensures.value, c.clear.ensures, c.unbind.ensures)
+    rw (listed, c.discard.ensures.store, c.accept_from.ensures, c.as_slice.ensures.value, c.clear.ensures, c.bind.ensures)
     (rw (c.shut-came.ensures.records, c.shut-came.ensures.lines, end_is d, read d) refl)
 
 pub invariant_of-self : goal.invariant_of-self

@@ -7,7 +7,7 @@ use Rattle.xh_serial.specs.declared.message.Message.{Message}
 use Rattle.xh_serial.specs.MessageCommands.{take, taken, front}
 use Rattle.xh_serial.specs.inner.Checks.{MayTake}
 use Rattle.xh_serial.specs.inner.Placing.{blocks_in}
-use Rattle.xh_serial.proofs.Taking.{taken_room, front_allowed, taken_whole}
+use Rattle.xh_serial.proofs.Messages.{taken_room, front_allowed, taken_whole}
 use Rattle.xh_serial.proofs.Wired.{whole_orderly, whole_numbered}
 use Rattle.xh_serial.proofs.serial.Serial.take.Goals as goal
 use Rattle.xh_serial.proofs.serial.Serial.take.Goals.{After-take_front-message}

@@ -1,9 +1,11 @@
-use Rattle.std.proofs.Common.{◌≡◌, ◌+◌, ◌<◌, ◌≤◌, ℕ, length, sym, subst, refl, true, None}
+use Rattle.std.proofs.Common.{◌≡◌, ◌+◌, ◌≤◌, length, arith, sym, subst, refl, true, None, ◌∙◌}
+use Rattle.std.proofs.lemmas.Grind.{common_steps}
 use Rattle.xh_model.specs.declared.event.Holder.TheVariants.{Process}
 use Rattle.xh_model.specs.Store.{holds, len}
+use Rattle.xh_core.proofs.Stores.{is_there}
 use Rattle.xh_serial.specs.Machine.{Machine, IsWhole, buffer, end_of}
 use Rattle.xh_serial.specs.BlockCommands.{overwritten, write}
-use Rattle.xh_serial.proofs.Gains.{held_buffer, buffer_length, overwritten_length, written_whole}
+use Rattle.xh_serial.proofs.Closing.{written_whole}
 use Rattle.xh_serial.specs.inner.Holding.{BlocksOf}
 use Rattle.xh_serial.specs.View.{machine_of}
 use Rattle.xh_serial.proofs.serial.Serial.write.Goals as goal
@@ -12,13 +14,12 @@ pub invariant_of-self : goal.invariant_of-self
 invariant_of-self c =
     let m : Machine = machine_of c.self.inside in
     let held : holds m.store (Process c.args.p) c.args.r ≡ true = rw (← c.self.view_is) at c.in_ok-check_range.ensures.1.0 in
-    let there : c.args.r < length m.buffers = held_buffer m c.args.p c.args.r c.self.invariant held in
     let bare : end_of m c.args.r ≡ None = rw (← c.self.view_is) at c.in_ok-check_range.ensures.1.1 in
     let room : c.args.at + length c.args.bytes.now ≤ len m.store c.args.r = rw (← c.self.view_is) at c.in_ok-check_range.ensures.1.2 in
-    let within : c.args.at + length c.args.bytes.now ≤ length (buffer m c.args.r) =
-    subst (λ (n : ℕ). c.args.at + length c.args.bytes.now ≤ n) (sym (buffer_length m c.args.r c.self.invariant bare)) room in
+    let long : length (buffer m c.args.r) ≡ len m.store c.args.r = c.self.invariant.bytes c.args.r ∙ rw bare refl in
+    let same : length (overwritten c.args.at c.args.bytes.now (buffer m c.args.r)) ≡ length (buffer m c.args.r) = grind (arith, common_steps, room, long) in
     subst (λ (b : BlocksOf). IsWhole (record m { ends = b.ends; buffers = b.buffers })) (sym c.overwrite.ensures)
-    (written_whole m c.args.r (overwritten c.args.at c.args.bytes.now (buffer m c.args.r)) c.self.invariant there (overwritten_length c.args.at c.args.bytes.now (buffer m c.args.r) within))
+    (written_whole m c.args.r _ c.self.invariant (rw c.self.invariant.buffers (is_there m.store (Process c.args.p) c.args.r held)) same)
 
 pub returns : goal.returns
 unfolding write

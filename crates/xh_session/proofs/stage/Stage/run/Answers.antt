@@ -1,4 +1,4 @@
-use Rattle.std.proofs.Common.{sym, ◌∙◌, rules, arith}
+use Rattle.std.proofs.Common.{sym, arith}
 use Rattle.xh_session.proofs.Worlds.{answers_more, after_more}
 use Rattle.xh_session.proofs.stage.Stage.run.Goals as goal
 

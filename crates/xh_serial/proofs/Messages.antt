@@ -1,32 +1,31 @@
--- A give leaves a whole machine.
+-- A give and a take leave a whole machine.
 use Rattle.std.proofs.Common.{◌≡◌, ◌≢◌, ℕ, ◌+◌, ◌*◌, ◌/◌, ◌%◌, ◌<◌, ◌≤◌, List, [], ◌∷◌, ◌++◌, length, Bool, true, false, cond, refl, sym, ap, ◌∙◌, subst, arith, inl, inr, get_or-set_same}
-use Rattle.std.proofs.Common.{get_or-set_other, append-nil}
+use Rattle.std.proofs.Common.{get_or-set_other, append-nil, ◌-◌}
 use Rattle.std.specs.Prelude.{Option, Some, None, is_none, ◌==◌, nat_lt, unwrap_or, slice_set, slice_index_or}
-use Rattle.std.specs.List.{list_all, list_any}
+use Rattle.std.specs.List.{list_all, list_any, remove}
 use Rattle.std.proofs.lemmas.Bool.Decides.{nat_tests}
-use Rattle.xh_serial.proofs.Room.{handed_whole}
+use Rattle.xh_serial.proofs.Room.{handed_whole, has, room}
 use Rattle.std.proofs.lemmas.Bool.{cases_eq, false≢true, lt-ltb}
-use Rattle.std.proofs.lemmas.List.{length-set}
+use Rattle.std.proofs.lemmas.List.{length-set, length-append}
 use Rattle.std.proofs.lemmas.List.Concat.{flat_map-append}
 use Rattle.xh_model.specs.declared.event.Holder.{Holder}
 use Rattle.xh_model.specs.declared.event.Holder.TheVariants.{Process, Direction}
 use Rattle.xh_model.specs.declared.event.Event.TheVariants.{Pass}
 use Rattle.xh_serial.specs.declared.message.Message.{Message}
-use Rattle.xh_serial.specs.declared.place.Place.{Place}
 use Rattle.xh_serial.specs.declared.line.Line.{Line}
 use Rattle.xh_model.specs.Store.{Store, owner, len, holds, after, change}
 use Rattle.xh_model.specs.declared.row.Row.{Row}
 use Rattle.xh_model.specs.Rows.{allowed, IsValid, InStep}
-use Rattle.xh_model.proofs.InStep.{put_step}
-use Rattle.xh_serial.specs.Machine.{Machine, blocks, place, line, no_line, waiting, peer, tags_of, contract_of, next_state, carried, on_way, listed, IsWhole}
-use Rattle.xh_core.specs.Several.{times, pass_all, has_twice}
+use Rattle.xh_model.proofs.InStep.{put_step, take_step}
+use Rattle.xh_serial.specs.Machine.{Machine, blocks, line, no_line, waiting, peer, tags_of, contract_of, next_state, carried, on_way, listed, IsWhole}
+use Rattle.xh_core.specs.Several.{times, pass_all, has_twice, accept_all}
 use Rattle.xh_serial.specs.Commands.{toward}
-use Rattle.xh_serial.specs.MessageCommands.{given, told_line, put_line, without, is_banned}
-use Rattle.xh_serial.specs.inner.Checks.{MayGive}
-use Rattle.xh_core.proofs.Stores.{count_append, done, all_owners, is_there, at_set, times-cons, same_len}
-use Rattle.xh_serial.proofs.Machines.{runs_busy, place_there, list_set, current_generation, busy_place, places_set, way_here, way_else, peer_ne, peer_half, peer_below}
-use Rattle.xh_serial.proofs.Wired.{state_in, IsPair, same_lines, wired_pair, half_apart, put_numbered, set_numbered}
-use Rattle.xh_serial.proofs.Room.{has}
+use Rattle.xh_serial.specs.MessageCommands.{given, told_line, put_line, without, is_banned, taken, taken_line, front, no_message}
+use Rattle.xh_serial.specs.inner.Checks.{MayGive, MayTake}
+use Rattle.xh_core.proofs.Stores.{count_append, done, all_owners, is_there, at_set, times-cons, same_len, Accepted, accepted_all}
+use Rattle.xh_serial.proofs.Machines.{runs_busy, place_there, list_set, current_generation, busy_place, places_set, way_here, way_else, peer_ne, peer_half, peer_below, current_range, current_blocks}
+use Rattle.xh_serial.proofs.Wired.{state_in, IsPair, same_lines, wired_pair, half_apart, put_numbered, set_numbered, tags_in, taken_numbered}
+use Rattle.xh_serial.specs.inner.Placing.{blocks_in}
 
 pub any_times : (q : ℕ) (bs : List ℕ) → list_any (λ b. b == q) bs ≡ nat_lt 0 (times q bs)
 any_times q [] = refl
@@ -101,9 +100,6 @@ module _ (m : Machine) (p e tag : ℕ) (bs : List ℕ) (w : IsWhole m) (g : MayG
   abbrev d : ℕ
   d = peer (toward m e)
 
-  abbrev x : Place
-  x = record (place m p) { blocks = record { items = without bs (blocks m p) } }
-
   abbrev z : Line
   z = told_line (contract_of m.contracts own) (own % 2) tag (line m own)
 
@@ -115,9 +111,6 @@ module _ (m : Machine) (p e tag : ℕ) (bs : List ℕ) (w : IsWhole m) (g : MayG
 
   abbrev n : Machine
   n = given p e tag bs m
-
-  generation : (place m p).generation ≡ p / 32
-  generation = current_generation m p g.runs.0
 
   held : (q : ℕ) → times q bs ≤ cond (holds m.store (Process p) q) 1 0
   held = distinct_pass (λ q. holds m.store (Process p) q) bs g.held g.once
@@ -152,17 +145,11 @@ module _ (m : Machine) (p e tag : ℕ) (bs : List ℕ) (w : IsWhole m) (g : MayG
 
   lists : (k : Holder) (q : ℕ) → times q (listed n k) + has (Some (Process p)) k * times q bs ≡ times q (listed m k) + has (Some (Direction d)) k * times q bs
   unfolding given
-  lists (Process k) q = grind (arith, nat_tests, list_set m.places p x (place_there m p w) generation generation k, left q)
+  lists (Process k) q = grind (arith, nat_tests, list_set m.places p (without bs (blocks m p)) (place_there m p w) (current_generation m p g.runs.0) k, left q)
   lists (Direction k) q = grind (arith, nat_tests, at_set told d k y no_line there, told_way k, ap (times q) way, count_append q (on_way m d) bs)
 
   own_now : slice_index_or (slice_set told d y) own no_line ≡ z
   own_now = get_or-set_other told d own y no_line (λ s. peer_ne own (sym s)) ∙ get_or-set_same m.lines own z no_line own_there
-
-  wired : (rows : List Row) → contract_of m.contracts own ≡ Some rows → IsValid rows → IsPair rows m.lines own → IsPair rows (slice_set told d y) own
-  wired rows is valid pair = give_pair rows m.lines (slice_set told d y) own tag bs valid
-      (subst (λ (o : Option (List Row)). is_banned o (own % 2) (line m own).state tag ≡ false) is g.allowed)
-      (own_now ∙ ap (λ (o : Option (List Row)). told_line o (own % 2) tag (line m own)) is)
-      (get_or-set_same told d y no_line there) pair
 
   other_lines : (k : ℕ) → k ≢ own → k ≢ d → slice_index_or (slice_set told d y) k no_line ≡ line m k
   other_lines k a b = get_or-set_other told d k y no_line b ∙ get_or-set_other m.lines own k z no_line a
@@ -170,12 +157,113 @@ module _ (m : Machine) (p e tag : ℕ) (bs : List ℕ) (w : IsWhole m) (g : MayG
   pub given_whole : IsWhole n
   unfolding given
   given_whole = handed_whole (Process p) (Direction d) bs m n.store n.places (slice_set told d y) w range passed.many passed.arenas held passed.owners lists
-      (places_set m.places p x w.places (busy_place m p (without bs (blocks m p)) w (runs_busy m p g.runs))) (record {
+      (places_set m.places p _ w.places (busy_place m p (without bs (blocks m p)) w (runs_busy m p g.runs))) (record {
         long = length-set told d y ∙ (length-set m.lines own z ∙ w.channels.long);
         fresh = λ k l. other_lines k (λ s. let c = g.within in omega (arith, c, l, s)) (λ s. let c = below in omega (arith, c, l, s)) ∙ w.channels.fresh k l;
         numbered = set_numbered told d y there (set_numbered m.lines own z own_there w.channels.numbered (w.channels.numbered own)) (put_numbered tag bs (line m d) (w.channels.numbered d));
         contracts_long = w.channels.contracts_long;
-        wired = wired_pair m.contracts m.lines (slice_set told d y) own w.channels.wired wired
+        wired = wired_pair m.contracts m.lines (slice_set told d y) own w.channels.wired (λ rows is valid pair. give_pair rows m.lines (slice_set told d y) own tag bs valid
+            (subst (λ (o : Option (List Row)). is_banned o (own % 2) (line m own).state tag ≡ false) is g.allowed)
+            (own_now ∙ ap (λ (o : Option (List Row)). told_line o (own % 2) tag (line m own)) is)
+            (get_or-set_same told d y no_line there) pair)
             (λ k h. other_lines k (half_apart own k h) (λ s. h (ap (λ (i : ℕ). i / 2) s ∙ peer_half own)));
         few = w.channels.few;
       })
+
+-- ---- take
+
+pub front_split : (ms : List Message) → 0 < length ms → carried ms ≡ (slice_index_or ms 0 no_message).blocks.items ++ carried (remove ms 0)
+front_split [] h = absurd (omega arith)
+front_split (m ∷ ms) h = refl
+
+front_tags : (ms : List Message) → 0 < length ms → tags_of ms ≡ (slice_index_or ms 0 no_message).tag ∷ tags_of (remove ms 0)
+front_tags [] h = absurd (omega arith)
+front_tags (m ∷ ms) h = refl
+
+abbrev front_tag : Line → ℕ
+front_tag l = (slice_index_or l.waiting.items 0 no_message).tag
+
+-- the list of the taker has room for the records of the front message
+pub taken_room : (m : Machine) (p e : ℕ) → IsWhole m → MayTake m p e (toward m e) → length (blocks_in m.places p) + length (front m e).blocks.items ≤ 2048
+taken_room m p e w t =
+    let rest : List ℕ = carried (remove (waiting m (toward m e)) 0) in
+    let all : length (blocks m p) + length (on_way m (toward m e)) ≤ 2048 = room m p (Some (toward m e)) w in
+    let way : length (on_way m (toward m e)) ≡ length (front m e).blocks.items + length rest =
+    ap length (front_split (waiting m (toward m e)) t.some) ∙ length-append (front m e).blocks.items rest in
+    let a : length (blocks_in m.places p) ≡ length (blocks m p) = ap length (sym (current_blocks m p t.runs.0)) in
+    omega (arith, all, way, a)
+
+-- the end that takes the front message is in step again
+take_pair : (rows : List Row) (lines new : List Line) (d : ℕ) → 0 < length (slice_index_or lines d no_line).waiting.items →
+    slice_index_or new d no_line ≡ taken_line (Some rows) (1 - d % 2) (front_tag (slice_index_or lines d no_line)) (slice_index_or lines d no_line) →
+    slice_index_or new (peer d) no_line ≡ slice_index_or lines (peer d) no_line → IsPair rows lines d → IsPair rows new d
+take_pair rows lines new d some lo hi pair =
+    let l : Line = slice_index_or lines d no_line in
+    let tag : ℕ = front_tag l in
+    let rest : List ℕ = tags_of (remove l.waiting.items 0) in
+    let split : tags_of l.waiting.items ≡ tag ∷ rest = front_tags l.waiting.items some in
+    let s = take_step rows (d % 2) l.state tag (state_in lines (peer d)) rest (tags_in lines (peer d))
+    (subst (λ (xs : List ℕ). InStep rows (d % 2) l.state xs (state_in lines (peer d)) (tags_in lines (peer d))) split pair) in
+    let next : next_state (Some rows) (1 - d % 2) l.state tag ≡ s.0 = ap (λ (o : Option ℕ). unwrap_or o l.state) s.1 in
+    same_lines rows (d % 2) (taken_line (Some rows) (1 - d % 2) tag l) (slice_index_or new d no_line) (slice_index_or lines (peer d) no_line) (slice_index_or new (peer d) no_line) (sym lo) (sym hi)
+    (subst (λ (z : ℕ). InStep rows (d % 2) z rest (state_in lines (peer d)) (tags_in lines (peer d))) (sym next) s.2)
+
+module _ (m : Machine) (p e : ℕ) (w : IsWhole m) (t : MayTake m p e (toward m e)) where
+  abbrev way_d : ℕ
+  way_d = toward m e
+
+  abbrev came : List ℕ
+  came = (front m e).blocks.items
+
+  abbrev shorter : Line
+  shorter = taken_line (contract_of m.contracts way_d) (1 - way_d % 2) (front m e).tag (line m way_d)
+
+  abbrev later : Machine
+  later = taken p e m
+
+  split : (q : ℕ) → times q (carried (remove (waiting m way_d) 0)) + times q came ≡ times q (on_way m way_d)
+  split q = let s = ap (times q) (front_split (waiting m way_d) t.some) in let k = count_append q came (carried (remove (waiting m way_d) 0)) in omega (arith, s, k)
+
+  way_there : way_d < length m.lines
+  way_there = let a = w.channels.long in let b = w.channels.few in let c = t.within in omega (arith, a, b, c)
+
+  came_once : (q : ℕ) → times q came ≤ cond (holds m.store (Direction way_d) q) 1 0
+  came_once q = let s = split q in let o = w.once (Direction way_d) q in omega (arith, s, o)
+
+  accepted : Accepted p came m.store (accept_all p way_d came m.store)
+  accepted = accepted_all p way_d came m.store (current_range m p w t.runs.0) came_once
+
+  taken_lists : (k : Holder) (q : ℕ) → times q (listed later k) + has (Some (Direction way_d)) k * times q came ≡ times q (listed m k) + has (Some (Process p)) k * times q came
+  unfolding taken
+  taken_lists (Process k) q = grind (arith, nat_tests, list_set m.places p (blocks m p ++ came) (place_there m p w) (current_generation m p t.runs.0) k, count_append q (blocks m p) came)
+  taken_lists (Direction k) q = grind (arith, nat_tests, at_set m.lines way_d k shorter no_line way_there, split q)
+
+  pub taken_whole : IsWhole later
+  unfolding taken
+  taken_whole = handed_whole (Direction way_d) (Process p) came m later.store later.places (slice_set m.lines way_d shorter) w (current_range m p w t.runs.0) accepted.many accepted.arenas came_once accepted.owners taken_lists
+      (places_set m.places p _ w.places (busy_place m p (blocks m p ++ came) w (runs_busy m p t.runs))) (record {
+        long = length-set m.lines way_d shorter ∙ w.channels.long;
+        fresh = λ k l. get_or-set_other m.lines way_d k shorter no_line (λ s. let c = t.within in omega (arith, c, l, s)) ∙ w.channels.fresh k l;
+        numbered = set_numbered m.lines way_d shorter way_there w.channels.numbered
+            (taken_numbered (contract_of m.contracts way_d) (1 - way_d % 2) (front m e).tag (line m way_d) t.some (w.channels.numbered way_d));
+        contracts_long = w.channels.contracts_long;
+        wired = wired_pair m.contracts m.lines (slice_set m.lines way_d shorter) way_d w.channels.wired (λ rows is valid pair. take_pair rows m.lines (slice_set m.lines way_d shorter) way_d t.some
+            (get_or-set_same m.lines way_d shorter no_line way_there ∙ ap (λ (o : Option (List Row)). taken_line o (1 - way_d % 2) (front m e).tag (line m way_d)) is)
+            (get_or-set_other m.lines way_d (peer way_d) shorter no_line (peer_ne way_d)) pair)
+            (λ k h. get_or-set_other m.lines way_d k shorter no_line (half_apart way_d k h));
+        few = w.channels.few;
+      })
+
+  -- the front message is one that the contract allows
+  front_free : (o : Option (List Row)) → contract_of m.contracts way_d ≡ o → is_banned o (1 - way_d % 2) (line m way_d).state (front m e).tag ≡ false
+  front_free None is = refl
+  front_free (Some rows) is =
+      let pair : IsPair rows m.lines way_d = (w.channels.wired way_d rows is).1 in
+      let rest : List ℕ = tags_of (remove (waiting m way_d) 0) in
+      let split : tags_of (waiting m way_d) ≡ (front m e).tag ∷ rest = front_tags (waiting m way_d) t.some in
+      let s = take_step rows (way_d % 2) (line m way_d).state (front m e).tag (state_in m.lines (peer way_d)) rest (tags_in m.lines (peer way_d))
+      (subst (λ (xs : List ℕ). InStep rows (way_d % 2) (line m way_d).state xs (state_in m.lines (peer way_d)) (tags_in m.lines (peer way_d))) split pair) in
+      ap (λ (o : Option ℕ). is_none o) s.1
+
+  pub front_allowed : is_banned (contract_of m.contracts way_d) (1 - way_d % 2) (line m way_d).state (front m e).tag ≡ false
+  front_allowed = front_free (contract_of m.contracts way_d) refl

@@ -1,10 +1,10 @@
--- A word that is read as a name, a number, bytes or a row is spelled so.
-use Rattle.std.proofs.Common.{◌≡◌, ◌≤◌, ◌+◌, ◌-◌, ◌*◌, ◌/◌, ◌%◌, ◌==◌, ◌&&◌, ℕ, Bool, true, false, List, [], ◌∷◌, length, map, Option, Some, None, Result, Ok, Err, refl}
-use Rattle.std.proofs.Common.{sym, ap, ◌∙◌, arith, nat_le, if◌then◌else◌}
+-- What a word or a line is read as is spelled by it.
+use Rattle.std.proofs.Common.{◌≡◌, ◌≤◌, ◌+◌, ◌-◌, ◌*◌, ◌/◌, ◌%◌, ◌==◌, ◌&&◌, ℕ, Bool, true, false, List, [], ◌∷◌, length, map, Option, Some, None, Result, Ok, Err, refl, sym, ap, ◌∙◌, arith, nat_le}
+use Rattle.std.proofs.Common.{if◌then◌else◌, ◌⊎◌, inl, inr, not, subst}
 use Rattle.std.specs.List.{list_all, slice_split, join_with_byte}
 use Rattle.std.specs.Fmt.{decimal}
 use Rattle.std.proofs.lemmas.Bool.Decides.{nat_tests}
-use Rattle.std.proofs.lemmas.Bool.{and_parts}
+use Rattle.std.proofs.lemmas.Bool.{and_parts, not-true}
 use Rattle.std.proofs.lemmas.List.Splits.{join_with_byte-slice_split}
 use Rattle.arrayvec.specs.ArrayVec.{ArrayVec}
 use Rattle.xh_model.specs.declared.row.Row.{Row}
@@ -13,17 +13,22 @@ use Rattle.xh_script.specs.declared.limits.TheConstants.{MAX_TAG}
 use Rattle.xh_script.specs.Words.{is_name, number_of, is_hex_digit, is_hex, hex_value, hex_bytes}
 use Rattle.xh_script.specs.Steps.{◌>>=◌}
 use Rattle.xh_script.specs.Sorts.{name_at, number_or, number_at, number_between, bytes_at, row_said, row_of, row_at, word_at}
-use Rattle.xh_script.specs.Forms.{Row as Shape, sort_at}
-use Rattle.xh_script.specs.Grammar.{words_from}
+use Rattle.xh_script.specs.Forms.{Row as Shape, sort_at, shape, has_count, is_head, form_text, has_text, form_among, verbs, verb_at}
+use Rattle.xh_script.specs.Grammar.{words_from, said, head_line, verb_line, is_filled, line_by, said_by}
 use Rattle.xh_script.specs.Texts.{hex_digit, hex_text}
-use Rattle.xh_script.specs.Spelling.{row_text, word_text}
+use Rattle.xh_script.specs.Spelling.{row_text, word_text, behind_first, spelled}
 use Rattle.xh_script.proofs.Numbers.{is_decimal}
 use Rattle.xh_script.specs.declared.fault.Kind.{Kind}
-use Rattle.xh_script.specs.declared.fault.Kind.TheVariants.{BadWord, BadNumber, BadHex}
+use Rattle.xh_script.specs.declared.fault.Kind.TheVariants.{BadWord, BadNumber, BadHex, BadCount}
 use Rattle.xh_script.specs.declared.form.Sort.{Sort}
 use Rattle.xh_script.specs.declared.form.Sort.TheVariants as sort
 use Rattle.xh_script.specs.declared.command.Word.{Word}
 use Rattle.xh_script.specs.declared.command.Word.TheVariants.{Process, Block, Contract, Number, Bytes, Row as RowWord}
+use Rattle.std.specs.Str.{bytes_eq}
+use Rattle.std.proofs.lemmas.Slice.Eq.{bytes_eq-Decides}
+use Rattle.xh_script.specs.declared.command.Command.{Command}
+use Rattle.xh_script.specs.declared.form.Form.{Form}
+use Rattle.xh_script.specs.declared.form.Form.TheVariants.{Contract as ContractForm, Process as ProcessForm, Wire}
 
 pub bind_ok : {A B : Type 0} (r : Result A Kind) (f : A → Result B Kind) (y : B) → (r >>= f) ≡ Ok y → (x : A) × (r ≡ Ok x) × (f x ≡ Ok y)
 bind_ok (Ok x) f y h = (x, refl, h)
@@ -121,3 +126,85 @@ words_ok row i (w ∷ ws) xs h =
     let more = bind_ok (words_from row (i + 1) ws) _ xs x.2 in
     let both : w ∷ ws ≡ word_text x.0 ∷ map word_text more.0 = cc (word_ok (sort_at row i) w x.0 x.1, words_ok row (i + 1) ws more.0 more.1) in
     both ∙ ap (map word_text) (same_ok (x.0 ∷ more.0) xs more.2)
+
+-- ---- lines
+
+chosen : {A : Type 0} (b : Bool) (x y z : A) → (if b then x else y) ≡ z → ((b ≡ true) × (x ≡ z)) ⊎ ((b ≡ false) × (y ≡ z))
+chosen true x y z h = inl (refl, h)
+chosen false x y z h = inr (refl, h)
+
+-- two texts that compare equal
+same_bytes : (a b : List ℕ) → bytes_eq a b ≡ true → a ≡ b
+same_bytes a b h = (bytes_eq-Decides a b).0 h
+
+abbrev IsVerb : List ℕ → Form → Type 0
+IsVerb word form = (word ≡ form_text form) × (is_head form ≡ false)
+
+-- a form that is found among some, none of them a head's
+form_found : (forms : List Form) (word : List ℕ) (form : Form) → list_all (λ f. not (is_head f)) forms ≡ true → form_among forms word ≡ Ok form → IsVerb word form
+form_found [] word form plain h = absurd (cc)
+form_found (tried ∷ forms) word form plain h =
+    let p = and_parts _ _ plain in
+    elim (chosen (has_text word tried) (Ok tried) (form_among forms word) (Ok form) h) [
+      | inl k ↦ subst (λ f. IsVerb word f) (same_ok tried form k.1) (same_bytes word (form_text tried) k.0, not-true (is_head tried) p.0)
+      | inr k ↦ form_found forms word form p.1 k.1
+    ]
+
+verb_ok : (word : List ℕ) (form : Form) → verb_at word ≡ Ok form → IsVerb word form
+unfolding verb_at
+verb_ok word form h = form_found verbs word form refl h
+
+-- a command has its form, and its words are their texts
+parts_ok : (form : Form) (first : List ℕ) (words : List (List ℕ)) (c : Command (List ℕ)) → said form first words ≡ Ok c → (c.form ≡ form) × (first ∷ words ≡ map word_text c.words.items)
+unfolding said
+parts_ok form first words c h =
+    let g = guarded (has_count (shape form) (1 + length words)) _ BadCount c h in
+    let ws = bind_ok (words_from (shape form) 0 (first ∷ words)) _ c g.1 in
+    let whole : Command (List ℕ) = record { form = form; words = record { items = ws.0 } } in
+    let same = same_ok whole c ws.2 in
+    (sym (ap (λ d. d.form) same), words_ok (shape form) 0 (first ∷ words) ws.0 ws.1 ∙ ap (λ d. map word_text d.words.items) same)
+
+head_ok : (form : Form) (words : List (List ℕ)) (c : Command (List ℕ)) → is_head form ≡ true → head_line form words ≡ Ok c → form_text form ∷ words ≡ spelled c
+unfolding head_line
+head_ok form [] c head h = absurd (cc)
+head_ok form (first ∷ words) c head h =
+    let s = parts_ok form first words c h in
+    rw (s.0, head) (ap (λ t. form_text form ∷ t) s.1)
+
+behind_ok : (form : Form) (p : List ℕ) (words : List (List ℕ)) (c : Command (List ℕ)) → is_head form ≡ false → said form p words ≡ Ok c → p ∷ form_text form ∷ words ≡ spelled c
+behind_ok form p words c plain h =
+    let s = parts_ok form p words c h in
+    rw (s.0, plain) (ap (behind_first (form_text form)) s.1)
+
+verb_line_ok : (p : List ℕ) (words : List (List ℕ)) (c : Command (List ℕ)) → verb_line p words ≡ Ok c → p ∷ words ≡ spelled c
+unfolding verb_line
+verb_line_ok p [] c h = absurd (cc)
+verb_line_ok p (verb ∷ words) c h =
+    let f = bind_ok (verb_at verb) _ c h in
+    let v = verb_ok verb f.0 f.1 in
+    ap (λ t. p ∷ t ∷ words) v.0 ∙ behind_ok f.0 p words c v.1 f.2
+
+-- a line with this first word
+first_is : (first word : List ℕ) (words : List (List ℕ)) (c : Command (List ℕ)) → bytes_eq first word ≡ true → word ∷ words ≡ spelled c → first ∷ words ≡ spelled c
+first_is first word words c same h = ap (λ t. t ∷ words) (same_bytes first word same) ∙ h
+
+line_ok : (first : List ℕ) (words : List (List ℕ)) (c : Command (List ℕ)) → line_by first words ≡ Ok c → first ∷ words ≡ spelled c
+unfolding line_by
+line_ok first words c h = elim (chosen (has_text first ProcessForm) _ _ _ h) [
+  | inl k ↦ first_is first (form_text ProcessForm) words c k.0 (head_ok ProcessForm words c refl k.1)
+  | inr k ↦ elim (chosen (has_text first Wire) _ _ _ k.1) [
+    | inl l ↦ first_is first (form_text Wire) words c l.0 (head_ok Wire words c refl l.1)
+    | inr l ↦ elim (chosen (has_text first ContractForm) _ _ _ l.1) [
+      | inl m ↦ first_is first (form_text ContractForm) words c m.0 (head_ok ContractForm words c refl m.1)
+      | inr m ↦
+          let p = bind_ok (name_at first) _ c m.1 in
+          ap (λ t. t ∷ words) (name_ok first p.0 p.1) ∙ verb_line_ok p.0 words c p.2
+    ]
+  ]
+]
+
+-- what the words of a line are read as is spelled by them
+pub said_ok : (words : List (List ℕ)) (c : Command (List ℕ)) → said_by words ≡ Ok c → words ≡ spelled c
+unfolding said_by
+said_ok [] c h = absurd (cc)
+said_ok (first ∷ words) c h = line_ok first words c (guarded (list_all is_filled (first ∷ words)) (line_by first words) BadWord c h).1
