@@ -5,3 +5,4 @@ pub mod Ending
 pub mod Flying
 pub mod Owning
 pub mod Closed
+pub mod LedgerLines

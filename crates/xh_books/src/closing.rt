@@ -1,8 +1,8 @@
 //! Closing the books.
-ghost use Rattle.std.specs.Prelude.{◌≡◌, ◌+◌, ◌*◌, ◌≤◌, All, IfErr, IfOk, length, sum, vec_len};
+ghost use Rattle.std.specs.Prelude.{◌≡◌, ◌+◌, ◌*◌, ◌<◌, ◌≤◌, All, IfErr, IfOk, length, sum, vec_len};
 ghost use Rattle.std.specs.List.{sum_by};
 ghost use Rattle.xh_kernel.specs.Parts.{IsOpen, vault_names};
-ghost use Rattle.xh_model.specs.declared.limits.TheConstants.{MAX_ARENAS};
+ghost use Rattle.xh_model.specs.declared.limits.TheConstants.{MAX_ARENAS, PLACES};
 ghost use Rattle.xh_place.specs.Places.{IsPlaceOf};
 ghost use Rattle.xh_books.specs.inner.Steps.{AreAt, SayInFlight, lens_of, unlisted_from};
 ghost use Rattle.xh_books.specs.Ledgers.{IsBalanced, all_back, all_taken, arena_lines, bytes_in_flight, bytes_owned, place_lines};
@@ -14,7 +14,7 @@ use arrayvec::ArrayVec;
 use std::alloc::Global;
 use xh_arena::{Lot, Vault};
 use xh_core::{ARENA_LINES, ArenaLine, Ledger, PLACE_LINES, PlaceLine, Refused};
-use xh_kernel::{Account, Names};
+use xh_kernel::{Account, Kernel, Names};
 use xh_place::{Body, Place};
 use xh_records::Records;
 
@@ -92,4 +92,24 @@ pub fn close_books<N: Names>(
     let vaults = audit(vaults, lots, each);
     let arenas = arena_lines(vaults.as_slice());
     Ok(ledger(arenas, places))
+}
+
+/// Takes a kernel apart whose workers are done, and closes its books.
+///
+/// OutOfMemory where a growth was refused.
+pub fn close_kernel<N: Names>(
+    alloc: Global,
+    kernel: Kernel<N>,
+    accounts: Vec<Account<N>>,
+) -> Result<Ledger, Refused>
+    requires { vec_len accounts ≡ N.parts.workers }
+    ensures arenas { IfOk result (λ l. (length l.arenas.items ≡ length N.parts.records.shape.names) × All (λ a. a.size ≡ N.parts.size) l.arenas.items) }
+    ensures places { IfOk result (λ l. All (λ line. line.place < PLACES) l.places.items) }
+    ensures balanced { IfOk result IsBalanced }
+    ensures refused { IfErr result (λ e. e ≡ Refused.OutOfMemory) }
+{
+    match kernel.settle(alloc) {
+        Ok((vaults, places, records)) => close_books(alloc, vaults, places, records, accounts),
+        Err(refused) => Err(refused),
+    }
 }

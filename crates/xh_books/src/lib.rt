@@ -6,4 +6,4 @@ mod closing;
 mod collecting;
 mod lines;
 
-pub use closing::close_books;
+pub use closing::{close_books, close_kernel};

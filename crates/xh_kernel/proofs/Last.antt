@@ -1,12 +1,12 @@
 -- The last entry of a history, once it was told.
-use Rattle.std.proofs.Common.{◌≡◌, ℕ, suc, List, [], ◌∷◌, ◌++◌, length, ◌<◌, ◌%◌, refl, sym, ap, ◌∙◌}
+use Rattle.std.proofs.Common.{◌≡◌, ℕ, List, [], ◌∷◌, ◌++◌, length, ◌<◌, ◌%◌, refl, sym, ap, ◌∙◌}
 use Rattle.std.specs.Prelude.{Some}
 use Rattle.xh_core.specs.declared.glance.Glance.{Glance}
 use Rattle.std.proofs.Math.Nat.{mod-eq_of_lt}
 use Rattle.atomic_table.specs.Seated.{TableId}
 use Rattle.xh_core.specs.declared.status.Status.TheVariants.{Vacant}
 use Rattle.xh_glance.specs.Pen.{PenOf, fresh_pen}
-use Rattle.xh_place.specs.Places.{Item, PlaceOf, headers, total_of}
+use Rattle.xh_place.specs.Places.{PlaceOf, total_of}
 use Rattle.xh_kernel.specs.Places.{IsTold, last_of}
 
 last_push : {A : Type 0} (xs : List A) (x : A) → last_of (xs ++ x ∷ []) ≡ Some x
@@ -16,11 +16,6 @@ last_push (y ∷ z ∷ zs) x = last_push (z ∷ zs) x
 
 pub told : (pen new : PenOf) (g h : Glance) → new ≡ record pen { history = pen.history ++ g ∷ [] } → g ≡ h → last_of new.history ≡ Some h
 told pen new g h e same = ap (λ (p : PenOf). last_of p.history) e ∙ last_push pen.history g ∙ ap Some same
-
--- a place shows as many blocks as it has
-pub long_headers : (xs : List (ℕ × Item)) → length (headers xs) ≡ length xs
-long_headers [] = refl
-long_headers (x ∷ xs) = ap suc (long_headers xs)
 
 -- what a fresh pen has told is the place that nobody has yet
 pub told_first : (id : TableId) (p : PlaceOf) (pen : PenOf) (k : ℕ) → k < 32 → p.process ≡ k → p.state ≡ Vacant → p.blocks ≡ [] → pen ≡ fresh_pen id k → IsTold p pen

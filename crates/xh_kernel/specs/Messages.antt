@@ -11,7 +11,8 @@ use Rattle.xh_kernel.specs.Places.{start}
 
 -- the blocks were passed on the direction away from the endpoint, and left the list, or came back from it, and are in their old places
 abbrev pub Gives : ℕ → ℕ → List ℕ → PlaceOf → PlaceOf → Result ℕ Refused → Type 0
-Gives p e given old new result = RefusedOr (start p old ++ end_tests (found old e) ++ given_tests (is_listed old.blocks) e given) result (new ≡ old) (IsSent (away_in (value_at e old.blocks)) given old new result)
+Gives p e given old new result = RefusedOr (start p old ++ end_tests (found old e) ++ given_tests (is_listed old.blocks) e given) result (new ≡ old)
+    (IsSent (away_in (value_at e old.blocks)) given old new result)
 
 -- the blocks of the message are the last of the list, or none was taken
 abbrev pub Takes : ℕ → ℕ → PlaceOf → PlaceOf → Result Taken Refused → Type 0

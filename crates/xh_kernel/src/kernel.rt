@@ -33,8 +33,8 @@ use xh_model::limits::PLACES;
 use xh_place::{Body, Gate, Place};
 use xh_records::{Records, Seat};
 
-/// An exchange heap for many threads: a lock for each place, each arena and each channel. Each call takes
-/// the lock of its place, then that of a channel or of an arena, and never those of two places. No two
+/// An exchange heap for many threads: a lock for each place, each arena and each line. Each call takes
+/// the lock of its place, then that of a line or of an arena, and never those of two places. No two
 /// locks share a cache line.
 #[derive(Drop)]
 pub struct Kernel<N: Names> {

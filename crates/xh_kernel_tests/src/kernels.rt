@@ -11,7 +11,7 @@ use std::process::Abort;
 use std::sync::Wait;
 use std::thread::Threads;
 use waiting::Ender;
-use xh_books::close_books;
+use xh_books::close_kernel;
 use xh_core::{Config, Ledger, Refused};
 use xh_kernel::{Account, Kernel, Names, Parts};
 use xh_place::OpenGate;
@@ -63,20 +63,6 @@ fn lend<N: Names + Send + Sync, R: Threads + Wait + Abort + Sync>(
     }
 }
 
-/// The ledger of a kernel, which is taken apart.
-fn ledger_of<N: Names>(
-    alloc: Global,
-    kernel: Kernel<N>,
-    accounts: Vec<Account<N>>,
-) -> Result<Ledger, Refused>
-    requires { vec_len accounts ≡ N.parts.workers }
-{
-    match kernel.settle(alloc) {
-        Ok((vaults, places, records)) => close_books(alloc, vaults, places, records, accounts),
-        Err(refused) => Err(refused),
-    }
-}
-
 /// The case on a kernel of the parts; its ledger.
 fn on_parts<N: Names + Send + Sync, R: Threads + Wait + Abort + Sync>(
     rt: &R,
@@ -92,7 +78,7 @@ fn on_parts<N: Names + Send + Sync, R: Threads + Wait + Abort + Sync>(
     };
     drop(looks);
     lend(rt, alloc, &kernel, &mut accounts, case);
-    ledger_of(alloc, kernel, accounts)
+    close_kernel(alloc, kernel, accounts)
 }
 
 /// The case on a new kernel for so many workers; its ledger.

@@ -8,7 +8,7 @@ use std::alloc::Global;
 use std::marker::Brand;
 use std::process::Abort;
 use std::sync::Wait;
-use xh_books::close_books;
+use xh_books::close_kernel;
 use xh_core::{ArenaLine, Config, Ledger, PlaceLine, Refused, State};
 use xh_glance::Look;
 use xh_kernel::{Account, Kernel, Names, Parts};
@@ -100,20 +100,6 @@ fn by_worker<N: Names, R: Wait + Abort>(
     Ok(())
 }
 
-/// The ledger of a kernel, which is taken apart.
-fn ledger_of<N: Names>(
-    alloc: Global,
-    kernel: Kernel<N>,
-    accounts: Vec<Account<N>>,
-) -> Result<Ledger, Refused>
-    requires { vec_len accounts ≡ N.parts.workers }
-{
-    match kernel.settle(alloc) {
-        Ok((vaults, places, records)) => close_books(alloc, vaults, places, records, accounts),
-        Err(refused) => Err(refused),
-    }
-}
-
 /// The trial on a kernel of the parts; its ledger.
 fn on_parts<N: Names, R: Wait + Abort>(
     rt: &R,
@@ -128,7 +114,7 @@ fn on_parts<N: Names, R: Wait + Abort>(
         Err(refused) => return Err(refused),
     };
     let tried = by_worker(rt, alloc, &kernel, &mut accounts, looks, trial);
-    let ledger = ledger_of(alloc, kernel, accounts);
+    let ledger = close_kernel(alloc, kernel, accounts);
     tried?;
     ledger
 }

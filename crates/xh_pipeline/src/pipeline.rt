@@ -10,7 +10,7 @@ use std::alloc::{AllocError, Global};
 use std::marker::Brand;
 use std::sync::Wait;
 use std::thread::{self, JoinHandle, Scope, Threads};
-use xh_books::close_books;
+use xh_books::close_kernel;
 use xh_core::{Config, Ledger, Refused};
 use xh_kernel::{Account, Kernel, Names, Parts};
 
@@ -124,21 +124,6 @@ fn run_all<N: Names + Send + Sync, R: Threads + Wait + Sync>(
     run_players(rt, alloc, players)
 }
 
-// The ledger of a kernel whose workers are done: the kernel is settled, and its books are closed.
-fn ledger_of<N: Names>(
-    alloc: Global,
-    kernel: Kernel<N>,
-    accounts: Vec<Account<N>>,
-) -> Result<Ledger, Refused>
-    requires { vec_len accounts ≡ N.parts.workers }
-    ensures balanced { IfOk result IsBalanced }
-{
-    match kernel.settle(alloc) {
-        Ok((vaults, places, records)) => close_books(alloc, vaults, places, records, accounts),
-        Err(refused) => Err(refused),
-    }
-}
-
 // As `run_pipeline`, over the kernel of these parts.
 fn run_named<N: Names + Send + Sync, R: Threads + Wait + Sync>(
     rt: &R,
@@ -150,7 +135,7 @@ fn run_named<N: Names + Send + Sync, R: Threads + Wait + Sync>(
 {
     let (kernel, mut accounts, _looks) = Kernel::<N>::new(alloc, parts)?;
     let rounds = run_all(rt, alloc, &kernel, &mut accounts);
-    let ledger = ledger_of(alloc, kernel, accounts);
+    let ledger = close_kernel(alloc, kernel, accounts);
     let rounds = rounds?;
     Ok((rounds, ledger?))
 }

@@ -15,9 +15,9 @@ use std::alloc::Global;
 use std::marker::Brand;
 use std::sync::Wait;
 use std::thread::Threads;
-use xh_books::close_books;
-use xh_core::{Config, Ledger, Refused};
-use xh_kernel::{Account, Kernel, Names, Parts};
+use xh_books::close_kernel;
+use xh_core::{Config, Refused};
+use xh_kernel::{Kernel, Names, Parts};
 use xh_model::limits::MAX_WORKERS;
 use xh_place::Gate;
 use xh_script::{Fault, Script};
@@ -35,29 +35,6 @@ fn new_parts(alloc: Global, config: Config) -> Result<Parts, Fault>
             Refused::BadSize => Err(Fault::BadConfig),
             _ => Err(Fault::Memory),
         },
-    }
-}
-
-// The ledger of a kernel whose workers are done: the kernel is settled, and its books are closed.
-fn ledger_of<N: Names>(
-    alloc: Global,
-    kernel: Kernel<N>,
-    accounts: Vec<Account<N>>,
-) -> Result<Ledger, Fault>
-    requires { vec_len accounts ≡ N.parts.workers }
-    ensures arenas { IfOk result (λ l. (length l.arenas.items ≡ length N.parts.records.shape.names) × All (λ a. a.size ≡ N.parts.size) l.arenas.items) }
-    ensures balanced { IfOk result IsBalanced }
-    ensures places { IfOk result (λ l. All (λ line. line.place < PLACES) l.places.items) }
-    ensures refused { IfErr result (λ e. e ≡ Fault.Memory) }
-{
-    match kernel.settle(alloc) {
-        Ok((vaults, places, records)) => {
-            match close_books(alloc, vaults, places, records, accounts) {
-                Ok(ledger) => Ok(ledger),
-                Err(_refused) => Err(Fault::Memory),
-            }
-        }
-        Err(_refused) => Err(Fault::Memory),
     }
 }
 
@@ -92,14 +69,16 @@ fn run_named<N: Names + Send + Sync, R: Threads + Wait + Sync, G: Gate + Sync>(
         gate,
         stops,
     );
-    let ledger = ledger_of(alloc, kernel, accounts);
+    let closed = close_kernel(alloc, kernel, accounts);
     let outcome = outcome?;
-    let ledger = ledger?;
-    Ok(Report {
-        answers: outcome.answers,
-        ledger,
-        names: outcome.names,
-    })
+    match closed {
+        Ok(ledger) => Ok(Report {
+            answers: outcome.answers,
+            ledger,
+            names: outcome.names,
+        }),
+        Err(_refused) => Err(Fault::Memory),
+    }
 }
 
 /// As `run_threads`; `stops` says whether the gate may stop a worker.
