@@ -5,9 +5,9 @@ use Rattle.xh_arena.specs.Views.{LotOf}
 use Rattle.xh_model.specs.declared.event.Event.{Event}
 use Rattle.xh_model.specs.Keyed.{Among, keys, put, value_at}
 use Rattle.xh_model.proofs.Keyed.{last_at, put_at}
-use Rattle.xh_records.specs.Seats.{Held, did, with_lots}
+use Rattle.xh_records.specs.Seats.{Held, did, seen, with_lots}
 
-pub has : {B : Type 0} (x y : Held B) (r : ℕ) (l : LotOf B) (e : Event) → y ≡ did e (with_lots x (x.lots ++ (r, l) ∷ [])) → (Among (keys x.lots) r → ⊥) → value_at r y.lots ≡ Some l
+pub has : {B : Type 0} (x y : Held B) (r : ℕ) (l : LotOf B) (e : Event) → y ≡ seen y.front (did e (with_lots x (x.lots ++ (r, l) ∷ []))) → (Among (keys x.lots) r → ⊥) → value_at r y.lots ≡ Some l
 has {B} x y r l e gained fresh = ap (λ (h : Held B). value_at r h.lots) gained ∙ last_at r l x.lots fresh
 
 pub changed : {B : Type 0} (x y : Held B) (r : ℕ) (l m : LotOf B) → value_at r x.lots ≡ Some l → y ≡ with_lots x (put r m x.lots) → value_at r y.lots ≡ Some m

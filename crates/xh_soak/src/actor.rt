@@ -1,53 +1,56 @@
 //! A worker of a round: what it calls, and what it knows.
-ghost use Rattle.std.specs.Prelude.{◌≡◌};
-
 use crate::board::Board;
 use crate::marks::mark_of;
 use crate::memory::Memory;
 use std::alloc::Global;
 use std::sync::Wait;
-use xh_core::{Block, Refused, Status};
-use xh_glance::Look;
-use xh_kernel::{Account, Kernel, Names};
-use xh_place::OpenGate;
+use xh_core::{Block, Glance, Refused, Status};
+use xh_runner::Machine;
 
 /// A worker.
 #[derive(Drop)]
-pub(crate) struct Actor<'a, N: Names, R> {
+pub(crate) struct Actor<'a, M, R> {
     pub(crate) rt: &'a R,
     pub(crate) alloc: Global,
-    pub(crate) kernel: &'a Kernel<N>,
     pub(crate) board: &'a Board,
-    pub(crate) account: &'a mut Account<N>,
-    pub(crate) look: Look,
+    pub(crate) machine: M,
     pub(crate) memory: Memory,
-    ghost own: { look.glances ≡ N.parts.glances },
 }
 
-impl<'a, N: Names, R: Wait> Actor<'a, N, R> {
+impl<'a, M: Machine, R: Wait> Actor<'a, M, R> {
     /// The block has this mark all over.
     pub(crate) fn check(&mut self, p: u16, block: Block, mark: u64, what: &'static str) {
-        match mark_of(self.rt, self.kernel, p, block) {
+        match mark_of(&mut self.machine, p, block) {
             Ok(found) if found == Some(mark) => {}
-            Ok(_) => self.memory.fail(what),
+            Ok(_found) => self.memory.fail(what),
             Err(refused) => self.lose_or(&refused, "a block can't be read"),
+        }
+    }
+
+    /// Ends a process, in whichever state it is.
+    pub(crate) fn end(&mut self, process: u16, what: &'static str) {
+        match self.machine.exit(process, 4096) {
+            Ok(_) | Err(Refused::Ended) => {}
+            Err(_refused) => self.memory.fail(what),
         }
     }
 
     /// The process was killed, if that is what the refusal says. At times the worker goes on with the killer's work.
     pub(crate) fn lose_or(&mut self, refused: &Refused, what: &'static str) {
-        let Some(process) = self.memory.lose_or(self.board, refused, what) else {
-            return;
-        };
-        match self
-            .kernel
-            .exit(self.rt, process, 4096, self.account, &OpenGate)
-        {
-            Ok(_) | Err(Refused::Ended) => {}
-            Err(_) => self
-                .memory
-                .fail("a process that was killed can't be finished"),
+        if let Some(process) = self.memory.lose_or(self.board, refused, what) {
+            self.end(process, "a process that was killed can't be finished");
         }
+    }
+
+    /// A look at the process's own place, if it shows the process, as it has to show one that runs.
+    pub(crate) fn look(&mut self, p: u16) -> Option<Glance> {
+        match self.machine.glance((p % 32) as u8) {
+            Ok(seen) if seen.process == p && seen.state == Status::Running => return Some(seen),
+            Ok(_seen) if self.board.is_victim(p) => {}
+            Ok(_seen) => self.memory.fail("a process ended that nobody killed"),
+            Err(_refused) => self.memory.fail("a place can't be seen"),
+        }
+        None
     }
 
     /// Once all work is done: each block of its process has its mark still, and the place shows exactly what the worker
@@ -63,21 +66,10 @@ impl<'a, N: Names, R: Wait> Actor<'a, N, R> {
                 self.check(p, kept.block, kept.mark, what);
             }
         }
-        if self.memory.process == Some(p) {
-            self.check_total(p);
-        }
-    }
-
-    fn check_total(&mut self, p: u16) {
-        let Ok(seen) = self.kernel.glance((p % 32) as u8, &mut self.look) else {
-            self.memory.fail("a place can't be seen at the end");
-            return;
-        };
-        if seen.process != p || seen.state != Status::Running {
-            if !self.board.is_victim(p) {
-                self.memory.fail("a process is gone that nobody killed");
-            }
-        } else if seen.blocks as usize != self.memory.count() || seen.bytes != self.memory.bytes() {
+        if self.memory.process == Some(p)
+            && let Some(seen) = self.look(p)
+            && (seen.blocks as usize != self.memory.count() || seen.bytes != self.memory.bytes())
+        {
             self.memory
                 .fail("a process has other blocks at the end than it was given");
         }

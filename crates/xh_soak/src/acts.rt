@@ -4,11 +4,10 @@ use crate::marks::fill;
 use crate::memory::Kept;
 use crossbeam_utils::Backoff;
 use std::sync::Wait;
-use xh_core::{Refused, Status};
-use xh_kernel::Names;
-use xh_place::OpenGate;
+use xh_core::Refused;
+use xh_runner::Machine;
 
-impl<'a, N: Names, R: Wait> Actor<'a, N, R> {
+impl<'a, M: Machine, R: Wait> Actor<'a, M, R> {
     /// Does its commands, as long as nothing is wrong. The first worker then ends all waiting.
     pub(crate) fn work(&mut self) {
         let is_first = self.memory.worker == 0;
@@ -38,23 +37,12 @@ impl<'a, N: Names, R: Wait> Actor<'a, N, R> {
                 return;
             }
             for worker in 0..u32::from(self.memory.plan.workers) {
-                if let Some(process) = self.board.waits.process(worker) {
-                    self.end(process);
+                if let Some(process) = self.board.waits.processes.of(worker) {
+                    self.board.aim_at(process);
+                    self.end(process, "a process that waits can't be ended");
                 }
             }
             backoff.snooze();
-        }
-    }
-
-    // Ends a process, in whichever state it is.
-    fn end(&mut self, process: u16) {
-        self.board.aim_at(process);
-        match self
-            .kernel
-            .exit(self.rt, process, 4096, self.account, &OpenGate)
-        {
-            Ok(_) | Err(Refused::Ended) => {}
-            Err(_) => self.memory.fail("a process that waits can't be ended"),
         }
     }
 
@@ -89,13 +77,13 @@ impl<'a, N: Names, R: Wait> Actor<'a, N, R> {
     }
 
     fn start(&mut self) {
-        match self.kernel.spawn(self.rt, &OpenGate) {
+        match self.machine.spawn() {
             Ok(process) => {
                 self.memory.process = Some(process);
-                self.board.start(self.memory.worker, process);
+                self.board.processes.set(self.memory.worker, Some(process));
             }
             Err(Refused::NoPlace) => {}
-            Err(_) => self.memory.fail("no process can start"),
+            Err(_refused) => self.memory.fail("no process can start"),
         }
     }
 
@@ -112,20 +100,12 @@ impl<'a, N: Names, R: Wait> Actor<'a, N, R> {
     fn get_block(&mut self, p: u16) {
         let bytes = self.memory.size();
         let arena = self.memory.arena();
-        match self.kernel.alloc(
-            self.rt,
-            self.alloc,
-            p,
-            bytes,
-            arena,
-            self.account,
-            &OpenGate,
-        ) {
+        match self.machine.alloc(self.alloc, p, bytes, arena) {
             Ok(block) if block.len == bytes.div_ceil(16).saturating_mul(16) => {
                 self.memory.add_block(block, 0);
                 self.check(p, block, 0, "a new block has bytes that aren't zero");
             }
-            Ok(_) => self
+            Ok(_other) => self
                 .memory
                 .fail("a block has another length than was asked for"),
             Err(Refused::NoRecord | Refused::NoSpace) => {}
@@ -150,17 +130,14 @@ impl<'a, N: Names, R: Wait> Actor<'a, N, R> {
             .saturating_add(1)
             .saturating_mul(16);
         let (record, mark) = (kept.block.rec, kept.mark);
-        match self
-            .kernel
-            .split(self.rt, self.alloc, p, record, at, &OpenGate)
-        {
+        match self.machine.split(self.alloc, p, record, at) {
             Ok((head, tail)) if head.rec == record && head.len == at => {
                 self.memory.drop_block(record);
                 self.memory.add_block(head, mark);
                 self.memory.add_block(tail, mark);
                 self.check(p, tail, mark, "a tail has other bytes than the block had");
             }
-            Ok(_) => self.memory.fail("a head isn't what was asked for"),
+            Ok(_other) => self.memory.fail("a head isn't what was asked for"),
             Err(Refused::NoRecord) => {}
             Err(Refused::OutOfMemory) if self.memory.plan.scarce => {}
             Err(refused) => self.lose_or(&refused, "a block can't be cut"),
@@ -172,7 +149,7 @@ impl<'a, N: Names, R: Wait> Actor<'a, N, R> {
             return;
         };
         let block = kept.block;
-        match fill(self.rt, self.kernel, p, &[Kept { block, mark }]) {
+        match fill(&mut self.machine, p, &[Kept { block, mark }]) {
             Ok(()) => {
                 self.memory.drop_block(block.rec);
                 self.memory.add_block(block, mark);
@@ -186,12 +163,9 @@ impl<'a, N: Names, R: Wait> Actor<'a, N, R> {
             return;
         };
         let record = kept.block.rec;
-        match self
-            .kernel
-            .free(self.rt, p, record, self.account, &OpenGate)
-        {
+        match self.machine.free(p, record) {
             Ok(bytes) if bytes == kept.block.len => self.memory.drop_block(record),
-            Ok(_) => self.memory.fail("a block gave back another count of bytes"),
+            Ok(_other) => self.memory.fail("a block gave back another count of bytes"),
             Err(refused) => self.lose_or(&refused, "a block can't be freed"),
         }
     }
@@ -200,50 +174,36 @@ impl<'a, N: Names, R: Wait> Actor<'a, N, R> {
     fn exit(&mut self, p: u16) {
         self.board.aim_at(p);
         let budget = self.memory.budget();
-        match self
-            .kernel
-            .exit(self.rt, p, budget, self.account, &OpenGate)
-        {
+        match self.machine.exit(p, budget) {
             Ok(_) | Err(Refused::Unfinished { .. } | Refused::Ended) => self.memory.forget(),
-            Err(_) => self.memory.fail("a process can't end"),
+            Err(_refused) => self.memory.fail("a process can't end"),
         }
     }
 
     // The process kills another, all at once or in part.
     fn kill(&mut self, p: u16) {
         let other = self.memory.any_worker();
-        let Some(victim) = self.board.process_of(other) else {
+        let Some(victim) = self.board.processes.of(other) else {
             return;
         };
         self.board.aim_at(victim);
         let budget = self.memory.budget();
-        match self
-            .kernel
-            .kill(self.rt, p, victim, budget, self.account, &OpenGate)
-        {
+        match self.machine.kill(p, victim, budget) {
             Ok(_) | Err(Refused::Unfinished { .. } | Refused::Ended) => {}
-            Err(_) => self.memory.fail("a kill has another refusal than Ended"),
+            Err(_refused) => self.memory.fail("a kill has another refusal than Ended"),
         }
     }
 
-    // A look at a place; at the own one it shows no less than what the worker knows.
+    // A look at a place; the own one shows no less than what the worker knows.
     fn glance(&mut self, p: u16) {
         let other = (self.memory.below(32) % 32) as u8;
-        let own = self.memory.below(2) == 0;
-        let place = if own { (p % 32) as u8 } else { other };
-        let Ok(seen) = self.kernel.glance(place, &mut self.look) else {
-            self.memory.fail("a place can't be seen");
-            return;
-        };
-        if !own || seen.process != p {
-            return;
-        }
-        let known = self.memory.count();
-        if seen.state != Status::Running {
-            if !self.board.is_victim(p) {
-                self.memory.fail("a process ended that nobody killed");
+        if self.memory.below(2) == 0 {
+            if self.machine.glance(other).is_err() {
+                self.memory.fail("a place can't be seen");
             }
-        } else if (seen.blocks as usize) < known {
+        } else if let Some(seen) = self.look(p)
+            && (seen.blocks as usize) < self.memory.count()
+        {
             self.memory
                 .fail("a process has fewer blocks than it was given");
         }
@@ -258,18 +218,13 @@ impl<'a, N: Names, R: Wait> Actor<'a, N, R> {
         }
         let mut bytes = [7u8; 8];
         let answer = match self.memory.below(4) {
-            0 => self
-                .kernel
-                .read(self.rt, p, record, 0, &mut bytes, &OpenGate),
-            1 => self.kernel.write(self.rt, p, record, 0, &bytes, &OpenGate),
+            0 => self.machine.read(p, record, 0, &mut bytes),
+            1 => self.machine.write(p, record, 0, &bytes),
             2 => self
-                .kernel
-                .split(self.rt, self.alloc, p, record, 16, &OpenGate)
-                .map(|_| ()),
-            _ => self
-                .kernel
-                .free(self.rt, p, record, self.account, &OpenGate)
-                .map(|_| ()),
+                .machine
+                .split(self.alloc, p, record, 16)
+                .map(|_halves| ()),
+            _ => self.machine.free(p, record).map(|_bytes| ()),
         };
         match answer {
             Err(Refused::NotOwned | Refused::NotData) => {}

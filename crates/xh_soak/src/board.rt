@@ -1,6 +1,6 @@
 //! What the workers of a random run share besides the kernel.
 use crate::marks::parts_of;
-use crate::waits::{Waits, zeros};
+use crate::waits::{Processes, Waits, zeros};
 use std::alloc::{AllocError, Global};
 use std::mem;
 use std::sync::atomic::{AtomicU64, Ordering};
@@ -22,7 +22,7 @@ pub(crate) struct Post {
 /// somebody meant to kill; the marks that were taken, by worker and number; and who waits.
 #[derive(Drop)]
 pub(crate) struct Board {
-    processes: Vec<AtomicU64>,
+    pub(crate) processes: Processes,
     posts: Vec<Mutex<Vec<Post>>>,
     victims: Vec<AtomicU64>,
     taken: Vec<Vec<AtomicU64>>,
@@ -39,26 +39,12 @@ impl Board {
             taken.push(zeros(alloc, MARKS)?)?;
         }
         Ok(Board {
-            processes: zeros(alloc, workers)?,
+            processes: Processes::new(alloc, workers)?,
             posts,
             victims: zeros(alloc, PROCESSES)?,
             taken,
             waits: Waits::new(alloc, workers)?,
         })
-    }
-
-    /// The worker's latest process is this.
-    pub(crate) fn start(&self, worker: u32, process: u16) {
-        if let Some(word) = self.processes.get(worker as usize) {
-            word.store(u64::from(process).saturating_add(1), Ordering::SeqCst);
-        }
-    }
-
-    /// The worker's latest process.
-    pub(crate) fn process_of(&self, worker: u32) -> Option<u16> {
-        let word = self.processes.get(worker as usize)?;
-        let number = word.load(Ordering::SeqCst).checked_sub(1)?;
-        u16::try_from(number).ok()
     }
 
     /// Somebody means to kill the process.
@@ -70,10 +56,8 @@ impl Board {
 
     /// Whether somebody meant to.
     pub(crate) fn is_victim(&self, process: u16) -> bool {
-        match self.victims.get(usize::from(process)) {
-            Some(word) => word.load(Ordering::SeqCst) == 1,
-            None => false,
-        }
+        let word = self.victims.get(usize::from(process));
+        word.is_some_and(|word| word.load(Ordering::SeqCst) == 1)
     }
 
     /// An endpoint came to the worker's process.
@@ -96,12 +80,7 @@ impl Board {
     /// The mark is taken now; whether it is one that no other taking found.
     pub(crate) fn take(&self, mark: u64) -> bool {
         let (worker, number) = parts_of(mark);
-        let Some(marks) = self.taken.get(worker) else {
-            return false;
-        };
-        match marks.get(number) {
-            Some(word) => number > 0 && word.fetch_add(1, Ordering::SeqCst) == 0,
-            None => false,
-        }
+        let word = self.taken.get(worker).and_then(|marks| marks.get(number));
+        number > 0 && word.is_some_and(|word| word.fetch_add(1, Ordering::SeqCst) == 0)
     }
 }

@@ -4,51 +4,35 @@ use crate::board::Post;
 use crate::memory::CONTRACT_TAGS;
 use std::sync::Wait;
 use xh_core::{Contract, Refused};
-use xh_kernel::Names;
 use xh_model::Row;
-use xh_place::OpenGate;
+use xh_runner::Machine;
 
-// Side 0 says one word, and then side 1 does; or side 0 says words until one is the last.
-const ROWS: &[Row] = &[
-    Row {
-        state: 0,
-        tag: CONTRACT_TAGS,
-        side: 0,
-        next: 1,
-    },
-    Row {
-        state: 0,
-        tag: 60_001,
-        side: 0,
-        next: 2,
-    },
-    Row {
-        state: 1,
-        tag: 60_002,
-        side: 1,
-        next: 0,
-    },
-    Row {
-        state: 2,
-        tag: CONTRACT_TAGS,
-        side: 0,
-        next: 2,
-    },
-    Row {
-        state: 2,
-        tag: 60_003,
-        side: 0,
-        next: 0,
-    },
+// The rows of a contract: state, tag, side and next state. Side 0 says one word, and then side 1 does; or side 0 says
+// words until one is the last.
+const ROWS: [(u8, u16, u8, u8); 5] = [
+    (0, CONTRACT_TAGS, 0, 1),
+    (0, 60_001, 0, 2),
+    (1, 60_002, 1, 0),
+    (2, CONTRACT_TAGS, 0, 2),
+    (2, 60_003, 0, 0),
 ];
 
-impl<'a, N: Names, R: Wait> Actor<'a, N, R> {
+fn row((state, tag, side, next): (u8, u16, u8, u8)) -> Row {
+    Row {
+        state,
+        tag,
+        side,
+        next,
+    }
+}
+
+impl<'a, M: Machine, R: Wait> Actor<'a, M, R> {
     // The contract of a new channel, if it is to have one.
     fn contract(&mut self) -> Option<Contract> {
         if !self.memory.plan.contracts || self.memory.below(2) == 0 {
             return None;
         }
-        let made = Contract::new(ROWS);
+        let made = Contract::new(&ROWS.map(row));
         if made.is_err() {
             self.memory.fail("a contract is refused");
         }
@@ -58,19 +42,12 @@ impl<'a, N: Names, R: Wait> Actor<'a, N, R> {
     /// A channel between the process and another worker's.
     pub(crate) fn wire(&mut self, p: u16) {
         let other = self.memory.any_worker();
-        let Some(q) = self.board.process_of(other) else {
+        let Some(q) = self.board.processes.of(other) else {
             return;
         };
         let arena = self.memory.arena();
-        let answer = match self.contract() {
-            Some(contract) => self
-                .kernel
-                .wire_with(self.rt, p, q, arena, contract, self.account, &OpenGate),
-            None => self
-                .kernel
-                .wire(self.rt, p, q, arena, self.account, &OpenGate),
-        };
-        match answer {
+        let contract = self.contract();
+        match self.machine.wire(p, q, arena, contract.as_ref()) {
             Ok((low, high)) => {
                 self.memory.add_end(low.rec);
                 let post = Post {
@@ -89,14 +66,8 @@ impl<'a, N: Names, R: Wait> Actor<'a, N, R> {
     /// A channel whose ends are both the process's.
     pub(crate) fn open(&mut self, p: u16) {
         let arena = self.memory.arena();
-        let answer = match self.contract() {
-            Some(contract) => {
-                self.kernel
-                    .open_with(self.rt, p, arena, contract, self.account, &OpenGate)
-            }
-            None => self.kernel.open(self.rt, p, arena, self.account, &OpenGate),
-        };
-        match answer {
+        let contract = self.contract();
+        match self.machine.open(p, arena, contract.as_ref()) {
             Ok((low, high)) => {
                 self.memory.add_end(low.rec);
                 self.memory.add_end(high.rec);

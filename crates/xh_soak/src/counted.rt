@@ -1,33 +1,34 @@
 //! A second count of what a settled kernel held, from its parts.
 use crate::wrong::Wrong;
 use arrayvec::ArrayVec;
-use std::alloc::{AllocError, Global};
 use xh_arena::Vault;
-use xh_core::{ARENA_LINES, ArenaLine, Ledger, PLACE_LINES, PlaceLine, State, Status};
+use xh_core::{ARENA_LINES, ArenaLine, Glance, Ledger, PLACE_LINES, PlaceLine, Status};
 use xh_kernel::{Account, Names};
 use xh_place::Place;
 
-// The records that stand in the lists of places.
-fn listed(alloc: Global, places: &[Place]) -> Result<Vec<u16>, AllocError> {
-    let mut records = Vec::new(alloc);
-    for place in places {
-        for (record, _) in place.blocks() {
-            records.push(*record)?;
-        }
-    }
-    Ok(records)
+// Whether a record stands in the list of a place.
+fn is_listed(places: &[Place], record: u16) -> bool {
+    let mut places = places.iter();
+    places.any(|place| place.blocks().contains(&record))
 }
 
-// The bytes of an arena's records that stand in no list.
-fn unlisted(arena: usize, vault: &Vault, listed: &[u16]) -> u64 {
+// The bytes that a record has of its arena.
+fn bytes_of(vaults: &[Vault], record: u16) -> u64 {
+    match vaults.get(usize::from(record / 256)) {
+        Some(vault) if record % 256 < vault.records() => {
+            let extent = vault.extent(record % 256);
+            extent.map_or(0, |(_start, len)| u64::from(len))
+        }
+        _ => 0,
+    }
+}
+
+// The bytes of all records that stand in no list.
+fn unlisted(vaults: &[Vault], places: &[Place]) -> u64 {
     let mut bytes = 0u64;
-    for index in 0..vault.records() {
-        let number = arena.saturating_mul(256).saturating_add(usize::from(index));
-        let is_listed = listed.iter().any(|record| usize::from(*record) == number);
-        if let Some((_, len)) = vault.extent(index)
-            && !is_listed
-        {
-            bytes = bytes.saturating_add(u64::from(len));
+    for record in 0..2048u16 {
+        if !is_listed(places, record) {
+            bytes = bytes.saturating_add(bytes_of(vaults, record));
         }
     }
     bytes
@@ -44,11 +45,8 @@ fn moved<N: Names>(arena: u8, accounts: &[Account<N>]) -> (u64, u64) {
     all
 }
 
-fn arena_line<N: Names>(
-    arena: u8,
-    vault: &Vault,
-    accounts: &[Account<N>],
-) -> Result<ArenaLine, Wrong> {
+// The line of an arena of which so much was moved.
+fn arena_line(vault: &Vault, (taken, back): (u64, u64)) -> Result<ArenaLine, Wrong> {
     let mut free = 0u32;
     for (_, len) in vault.holes() {
         free = free.saturating_add(*len);
@@ -56,7 +54,6 @@ fn arena_line<N: Names>(
     if free.saturating_add(vault.handed_out()) != vault.size() {
         return Err(Wrong::Answer("holes and blocks don't fill an arena"));
     }
-    let (taken, back) = moved(arena, accounts);
     Ok(ArenaLine {
         size: vault.size(),
         out: vault.handed_out(),
@@ -66,45 +63,6 @@ fn arena_line<N: Names>(
     })
 }
 
-fn state_of(place: &Place) -> Option<State> {
-    match place.state() {
-        Status::Vacant => None,
-        Status::Running => Some(State::Running),
-        Status::Ending => Some(State::Ending),
-        Status::Ended => Some(State::Ended),
-    }
-}
-
-// The line of a place that somebody has had.
-fn place_line(number: u8, place: &Place) -> Option<PlaceLine> {
-    let state = state_of(place)?;
-    let mut bytes = 0u64;
-    for (_, header) in place.blocks() {
-        bytes = bytes.saturating_add(u64::from(header.len));
-    }
-    Some(PlaceLine {
-        place: number,
-        process: place.process(),
-        state,
-        blocks: u32::try_from(place.blocks().len()).unwrap_or(u32::MAX),
-        bytes,
-    })
-}
-
-fn place_lines(places: &[Place]) -> Result<ArrayVec<PlaceLine, PLACE_LINES>, Wrong> {
-    let mut lines = ArrayVec::new();
-    let mut number = 0u8;
-    for place in places {
-        if let Some(line) = place_line(number, place)
-            && lines.try_push(line).is_err()
-        {
-            return Err(Wrong::Answer("there are more places than 32"));
-        }
-        number = number.saturating_add(1);
-    }
-    Ok(lines)
-}
-
 fn arena_lines<N: Names>(
     vaults: &[Vault],
     accounts: &[Account<N>],
@@ -112,7 +70,8 @@ fn arena_lines<N: Names>(
     let mut lines = ArrayVec::new();
     let mut arena = 0u8;
     for vault in vaults {
-        if lines.try_push(arena_line(arena, vault, accounts)?).is_err() {
+        let line = arena_line(vault, moved(arena, accounts))?;
+        if lines.try_push(line).is_err() {
             return Err(Wrong::Answer("there are more arenas than 8"));
         }
         arena = arena.saturating_add(1);
@@ -120,35 +79,54 @@ fn arena_lines<N: Names>(
     Ok(lines)
 }
 
+// The line of a place that somebody has had.
+fn place_line(vaults: &[Vault], place: &Place) -> PlaceLine {
+    let mut bytes = 0u64;
+    for number in place.blocks() {
+        bytes = bytes.saturating_add(bytes_of(vaults, *number));
+    }
+    let seen = Glance {
+        process: place.process(),
+        state: place.state(),
+        blocks: u32::try_from(place.blocks().len()).unwrap_or(u32::MAX),
+        bytes,
+    };
+    seen.line()
+}
+
+fn place_lines(
+    vaults: &[Vault],
+    places: &[Place],
+) -> Result<ArrayVec<PlaceLine, PLACE_LINES>, Wrong> {
+    let mut lines = ArrayVec::new();
+    for place in places {
+        if place.state() != Status::Vacant && lines.try_push(place_line(vaults, place)).is_err() {
+            return Err(Wrong::Answer("there are more places than 32"));
+        }
+    }
+    Ok(lines)
+}
+
 /// The ledger by this count.
 pub(crate) fn count<N: Names>(
-    alloc: Global,
     vaults: &[Vault],
     places: &[Place],
     accounts: &[Account<N>],
 ) -> Result<Ledger, Wrong> {
-    let listed = listed(alloc, places)?;
-    let mut flight = 0u64;
-    let mut arena = 0usize;
-    for vault in vaults {
-        flight = flight.saturating_add(unlisted(arena, vault, listed.as_slice()));
-        arena = arena.saturating_add(1);
-    }
     let arenas = arena_lines(vaults, accounts)?;
-    let places = place_lines(places)?;
-    let mut owned = 0u64;
-    for line in places.as_slice() {
-        owned = owned.saturating_add(line.bytes);
-    }
-    let mut out = 0u64;
+    let places_of = place_lines(vaults, places)?;
+    let (mut out, mut owned) = (0u64, 0u64);
     for line in arenas.as_slice() {
         out = out.saturating_add(u64::from(line.out));
     }
+    for line in places_of.as_slice() {
+        owned = owned.saturating_add(line.bytes);
+    }
     Ok(Ledger {
         arenas,
-        places,
+        places: places_of,
         owned,
-        flight,
+        flight: unlisted(vaults, places),
         out,
     })
 }

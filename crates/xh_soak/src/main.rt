@@ -43,13 +43,6 @@ fn read_words(words: &[String]) -> Option<(u64, u64, bool)> {
     }
 }
 
-// The seed of the round that went wrong, and what was wrong.
-#[derive(Clone, Copy, Debug)]
-struct Failed {
-    seed: u64,
-    what: &'static str,
-}
-
 // Plays the round of a seed, and tells it.
 fn play<R: Threads + Wait + Print + Sync>(
     rt: &R,
@@ -76,29 +69,28 @@ fn play<R: Threads + Wait + Print + Sync>(
     };
     match told {
         Ok(()) => Ok(done),
-        Err(_) => Err("the output can't be written"),
+        Err(_error) => Err("the output can't be written"),
     }
 }
 
-// What the rounds of so many seeds did, from one on.
+// What the rounds of so many seeds did, from one on; or the seed of the round that went wrong, and what was wrong.
 fn play_all<R: Threads + Wait + Print + Sync>(
     rt: &R,
     alloc: Global,
     from: u64,
     rounds: u64,
     scarce: bool,
-) -> Result<Done, Failed> {
+) -> Result<Done, (u64, &'static str)> {
     let mut all = Done::NONE;
     for number in 0..rounds {
         let seed = from.wrapping_add(number);
         match play(rt, alloc, seed, scarce) {
             Ok(done) => all.add(done),
-            Err(what) => return Err(Failed { seed, what }),
+            Err(what) => return Err((seed, what)),
         }
     }
     if rounds >= 20 && all.taken == 0 {
-        let what = "no round from this one on took a block";
-        return Err(Failed { seed: from, what });
+        return Err((from, "no round from this one on took a block"));
     }
     Ok(all)
 }
@@ -108,7 +100,7 @@ fn main(rt: HostRuntime) -> ExitCode {
     let words = match env::args(&rt) {
         Ok(words) => words.collect::<Vec<String>>(alloc),
         Err(refused) if refused.kind() == io::ErrorKind::OutOfMemory => return ExitCode::from(3),
-        Err(_) => Ok(Vec::new(alloc)),
+        Err(_error) => Ok(Vec::new(alloc)),
     };
     let Ok(words) = words else {
         return ExitCode::from(3);
@@ -122,7 +114,7 @@ fn main(rt: HostRuntime) -> ExitCode {
             let _ = eprintln!(rt; "xh_soak: {taken} blocks were taken, {waited} waits");
             ExitCode::SUCCESS
         }
-        Err(Failed { seed, what }) => {
+        Err((seed, what)) => {
             let _ = eprintln!(rt; "xh_soak: seed {seed}: {what}");
             ExitCode::FAILURE
         }

@@ -1,9 +1,7 @@
 //! Marks: a word that stands all over a block, so that it tells whose bytes these are.
 use crate::memory::Kept;
-use std::sync::Wait;
 use xh_core::{Block, Refused};
-use xh_kernel::{Kernel, Names};
-use xh_place::OpenGate;
+use xh_runner::Machine;
 
 /// The mark of a worker with a number of its own, counted from 1.
 pub(crate) fn mark(worker: u32, number: u32) -> u64 {
@@ -26,40 +24,34 @@ pub(crate) fn low_half(number: u64) -> u16 {
 }
 
 /// The mark of each block stands all over it from now on.
-pub(crate) fn fill<N: Names, R: Wait>(
-    rt: &R,
-    kernel: &Kernel<N>,
-    process: u16,
-    blocks: &[Kept],
-) -> Result<(), Refused> {
+pub(crate) fn fill<M: Machine>(machine: &mut M, p: u16, blocks: &[Kept]) -> Result<(), Refused> {
     for kept in blocks {
         let bytes = kept.mark.to_le_bytes();
         for word in 0..kept.block.len / 8 {
             let at = word.saturating_mul(8);
-            kernel.write(rt, process, kept.block.rec, at, &bytes, &OpenGate)?;
+            machine.write(p, kept.block.rec, at, &bytes)?;
         }
     }
     Ok(())
 }
 
 /// The mark that stands all over the block, and not past its end; none where there is no such mark.
-pub(crate) fn mark_of<N: Names, R: Wait>(
-    rt: &R,
-    kernel: &Kernel<N>,
-    process: u16,
+pub(crate) fn mark_of<M: Machine>(
+    machine: &mut M,
+    p: u16,
     block: Block,
 ) -> Result<Option<u64>, Refused> {
     let mut bytes = [0u8; 8];
     let mut mark = None;
     for word in 0..block.len / 8 {
         let at = word.saturating_mul(8);
-        kernel.read(rt, process, block.rec, at, &mut bytes, &OpenGate)?;
+        machine.read(p, block.rec, at, &mut bytes)?;
         let found = u64::from_le_bytes(bytes);
         if *mark.get_or_insert(found) != found {
             return Ok(None);
         }
     }
-    match kernel.read(rt, process, block.rec, block.len, &mut bytes, &OpenGate) {
+    match machine.read(p, block.rec, block.len, &mut bytes) {
         Err(Refused::BadRange) => Ok(mark),
         Err(refused) => Err(refused),
         Ok(()) => Ok(None),

@@ -64,18 +64,12 @@ impl Memory {
 
     /// Something was answered that must not be.
     pub(crate) fn fail(&mut self, what: &'static str) {
-        self.note(Wrong::Answer(what));
+        let _first = self.wrong.get_or_insert(Wrong::Answer(what));
     }
 
     /// The round has no memory for what it notes itself.
     pub(crate) fn starve(&mut self) {
-        self.note(Wrong::Memory);
-    }
-
-    fn note(&mut self, wrong: Wrong) {
-        if self.wrong.is_none() {
-            self.wrong = Some(wrong);
-        }
+        let _first = self.wrong.get_or_insert(Wrong::Memory);
     }
 
     /// A number below a count, or 0.
@@ -109,7 +103,7 @@ impl Memory {
     }
 
     /// How many records an ending may reclaim: few or all.
-    pub(crate) fn budget(&mut self) -> u16 {
+    pub(crate) fn budget(&mut self) -> u32 {
         if self.below(2) == 0 { 2 } else { 4096 }
     }
 
@@ -145,12 +139,9 @@ impl Memory {
 
     /// How many bytes these are.
     pub(crate) fn bytes(&self) -> u64 {
-        let mut bytes = 0u64;
+        let mut bytes = u64::from(END_BYTES).saturating_mul(self.ends.len() as u64);
         for kept in &self.blocks {
             bytes = bytes.saturating_add(u64::from(kept.block.len));
-        }
-        for _end in &self.ends {
-            bytes = bytes.saturating_add(u64::from(END_BYTES));
         }
         bytes
     }

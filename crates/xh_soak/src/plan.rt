@@ -2,11 +2,10 @@
 use rand_core::Rng;
 use rand_pcg::Pcg32;
 use xh_core::Config;
+use xh_model::limits::MAX_WEAR;
 
 // No seed of a worker's own numbers has this stream.
 const STREAM: u64 = 1024;
-
-const NO_WEAR: u64 = 9_223_372_036_854_775_807;
 
 /// How a round goes.
 #[derive(Clone, Copy, Debug)]
@@ -27,7 +26,7 @@ pub(crate) struct Plan {
 impl Plan {
     /// Whether an arena may hand out only so much that it comes to that.
     pub(crate) fn can_wear(&self) -> bool {
-        self.config.wear < NO_WEAR
+        self.config.wear < MAX_WEAR
     }
 
     /// The plan of a seed.
@@ -41,7 +40,7 @@ impl Plan {
             wear: if random.next_u32() % 4 == 0 {
                 65_536
             } else {
-                NO_WEAR
+                MAX_WEAR
             },
         };
         Plan {

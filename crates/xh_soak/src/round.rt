@@ -1,5 +1,5 @@
 //! A round: a kernel, workers on threads of their own, and the closed books.
-ghost use Rattle.std.specs.Prelude.{◌≡◌, All, IfOk, Ok};
+ghost use Rattle.std.specs.Prelude.{◌≡◌, All, IfOk, Ok, length, vec_len};
 
 use crate::actor::Actor;
 use crate::board::Board;
@@ -10,13 +10,12 @@ use crate::wrong::Wrong;
 use std::alloc::{AllocError, Global};
 use std::marker::Brand;
 use std::sync::Wait;
-use std::thread;
-use std::thread::Threads;
+use std::thread::{self, Threads};
 use xh_books::close_books;
 use xh_core::{Ledger, Refused};
 use xh_glance::Look;
 use xh_kernel::{Account, Kernel, Names, Parts};
-use xh_place::OpenGate;
+use xh_runner::{Machine, OpenGate, hire};
 
 /// What the workers of a round did: how many blocks they took, and how often one waited for a message.
 #[derive(Clone, Copy, Debug)]
@@ -38,44 +37,32 @@ impl Done {
     }
 }
 
-// A worker for each account and look.
-fn hire<'a, N: Names, R>(
+// A worker for each machine.
+fn hire_all<'a, M: Machine, R>(
     rt: &'a R,
     alloc: Global,
-    kernel: &'a Kernel<N>,
     board: &'a Board,
     plan: Plan,
-    accounts: &'a mut [Account<N>],
-    looks: Vec<Look>,
-) -> Result<Vec<Actor<'a, N, R>>, AllocError>
-    requires { All (λ l. l.glances ≡ N.parts.glances) looks.items }
-{
-    let mut actors = Vec::with_capacity(alloc, accounts.len())?;
-    let mut looks = looks.into_iter();
+    machines: Vec<M>,
+) -> Result<Vec<Actor<'a, M, R>>, AllocError> {
+    let mut actors = Vec::with_capacity(alloc, machines.len())?;
     let mut worker = 0u32;
-    for account in accounts {
-        let Some(look) = looks.next() else {
-            break;
-        };
+    for machine in machines {
+        let memory = Memory::new(alloc, plan, worker);
         actors.push(Actor {
             rt,
             alloc,
-            kernel,
             board,
-            account,
-            look,
-            memory: Memory::new(alloc, plan, worker),
+            machine,
+            memory,
         })?;
         worker = worker.saturating_add(1);
     }
     Ok(actors)
 }
 
-// What the workers did, none of whom found anything wrong, and of whom there are so many.
-fn done_by<N: Names, R>(actors: &[Actor<N, R>], workers: u8) -> Result<Done, Wrong> {
-    if actors.len() != usize::from(workers) {
-        return Err(Wrong::Answer("a worker is missing"));
-    }
+// What the workers did, none of whom found anything wrong.
+fn done_by<M, R>(actors: &[Actor<M, R>]) -> Result<Done, Wrong> {
     let mut done = Done::NONE;
     for actor in actors {
         if let Some(wrong) = actor.memory.wrong {
@@ -89,8 +76,49 @@ fn done_by<N: Names, R>(actors: &[Actor<N, R>], workers: u8) -> Result<Done, Wro
     Ok(done)
 }
 
-// The workers do their commands, each in a thread of its own, and then look whether all is as they know it.
-fn work<N: Names + Send + Sync, R: Threads + Wait + Sync>(
+// The workers work, each in a thread of its own, and finish; what they did.
+fn work<M: Machine + Send, R: Threads + Wait + Sync>(
+    rt: &R,
+    actors: &mut [Actor<M, R>],
+) -> Result<Done, Wrong> {
+    let threads = actors.len().max(1);
+    thread::for_each_mut(rt, actors, threads, &|_, actor| actor.work());
+    let done = done_by(actors)?;
+    for actor in actors.iter_mut() {
+        actor.finish();
+    }
+    let _all_right = done_by(actors)?;
+    Ok(done)
+}
+
+// Ends all processes.
+fn end_all<M: Machine, R>(actors: &mut [Actor<M, R>]) {
+    if let Some(actor) = actors.first_mut() {
+        for process in 0..4096u16 {
+            let _done = actor.machine.exit(process, 4096);
+        }
+    }
+}
+
+// A round by a worker for each machine.
+fn run_by<M: Machine + Send, R: Threads + Wait + Sync>(
+    rt: &R,
+    alloc: Global,
+    board: &Board,
+    plan: Plan,
+    machines: Vec<M>,
+) -> Result<Done, Wrong> {
+    let mut actors = hire_all(rt, alloc, board, plan, machines)?;
+    let worked = work(rt, &mut actors);
+    if plan.ends {
+        end_all(&mut actors);
+    }
+    drop(actors);
+    worked
+}
+
+// A round on a kernel, by a worker for each account.
+fn run_on<N: Names + Send + Sync, R: Threads + Wait + Sync>(
     rt: &R,
     alloc: Global,
     kernel: &Kernel<N>,
@@ -99,36 +127,11 @@ fn work<N: Names + Send + Sync, R: Threads + Wait + Sync>(
     accounts: &mut [Account<N>],
     looks: Vec<Look>,
 ) -> Result<Done, Wrong>
-    requires { All (λ l. l.glances ≡ N.parts.glances) looks.items }
+    requires count { vec_len looks ≡ length accounts.old }
+    requires own { All (λ l. l.glances ≡ N.parts.glances) looks.items }
 {
-    let mut actors = hire(rt, alloc, kernel, board, plan, accounts, looks)?;
-    let threads = actors.len().max(1);
-    let team = actors.as_mut_slice();
-    thread::for_each_mut(rt, team, threads, &|_, actor| actor.work());
-    let done = done_by(&actors, plan.workers)?;
-    for actor in &mut actors {
-        actor.finish();
-    }
-    let _all_right = done_by(&actors, plan.workers)?;
-    Ok(done)
-}
-
-// Ends all processes.
-fn end_all<N: Names, R: Wait>(rt: &R, kernel: &Kernel<N>, accounts: &mut [Account<N>]) {
-    let Some(account) = accounts.first_mut() else {
-        return;
-    };
-    for process in 0..4096u16 {
-        let _done = kernel.exit(rt, process, 4096, account, &OpenGate);
-    }
-}
-
-// What a round came to: the ledger, a second count of it, and what its workers did.
-#[derive(Drop)]
-struct Outcome {
-    ledger: Ledger,
-    counted: Ledger,
-    worked: Result<Done, Wrong>,
+    let machines = hire(rt, alloc, kernel, &OpenGate, accounts, looks)?;
+    run_by(rt, alloc, board, plan, machines)
 }
 
 // What a call of the heap answers that may be refused memory alone.
@@ -138,7 +141,47 @@ fn of_memory<T>(answer: Result<T, Refused>, what: &'static str) -> Result<T, Wro
     match answer {
         Ok(it) => Ok(it),
         Err(Refused::OutOfMemory) => Err(Wrong::Memory),
-        Err(_) => Err(Wrong::Answer(what)),
+        Err(_refused) => Err(Wrong::Answer(what)),
+    }
+}
+
+// Whether two ledgers are the same, line by line.
+fn is_same(alloc: Global, one: &Ledger, other: &Ledger) -> Result<bool, AllocError> {
+    let one = format!(in alloc; "{one:?}")?;
+    let other = format!(in alloc; "{other:?}")?;
+    Ok(one == other)
+}
+
+// The ledger is the second count, and in balance.
+fn audit(alloc: Global, plan: Plan, ledger: &Ledger, counted: &Ledger) -> Result<(), Wrong> {
+    if !is_same(alloc, ledger, counted)? {
+        Err(Wrong::Answer("the ledger is not the second count"))
+    } else if ledger.out != ledger.owned.saturating_add(ledger.flight) {
+        Err(Wrong::Answer("the ledger is not in balance"))
+    } else if plan.ends && ledger.out != 0 {
+        Err(Wrong::Answer("bytes are lost once all processes have ended"))
+    } else {
+        Ok(())
+    }
+}
+
+// Settles a kernel whose workers are done, closes its books, and audits the ledger.
+fn close<N: Names>(
+    alloc: Global,
+    plan: Plan,
+    kernel: Kernel<N>,
+    accounts: Vec<Account<N>>,
+) -> Result<(), Wrong>
+    requires { vec_len accounts ≡ N.parts.workers }
+{
+    match kernel.settle(alloc) {
+        Ok((vaults, places, records)) => {
+            let counted = count(&vaults, &places, &accounts);
+            let closed = close_books(alloc, vaults, places, records, accounts);
+            let ledger = of_memory(closed, "the books can't be closed")?;
+            audit(alloc, plan, &ledger, &counted?)
+        }
+        Err(_refused) => Err(Wrong::Memory),
     }
 }
 
@@ -149,51 +192,16 @@ fn run_named<N: Names + Send + Sync, R: Threads + Wait + Sync>(
     parts: Parts,
     board: &Board,
     plan: Plan,
-) -> Result<Outcome, Wrong>
-    requires parts { parts ≡ N.parts }
-    requires workers { parts.workers ≡ plan.workers }
+) -> Result<Done, Wrong>
+    requires { parts ≡ N.parts }
 {
-    let Ok((kernel, mut accounts, looks)) = Kernel::<N>::new(alloc, parts) else {
-        return Err(Wrong::Memory);
+    let (kernel, mut accounts, looks) = match Kernel::<N>::new(alloc, parts) {
+        Ok(made) => made,
+        Err(_refused) => return Err(Wrong::Memory),
     };
-    let lent = accounts.as_mut_slice();
-    let worked = work(rt, alloc, &kernel, board, plan, lent, looks);
-    if plan.ends {
-        end_all(rt, &kernel, accounts.as_mut_slice());
-    }
-    if accounts.len() != usize::from(plan.workers) {
-        return Err(Wrong::Answer("an account is missing"));
-    }
-    let Ok((vaults, places, records)) = kernel.settle(alloc) else {
-        return Err(Wrong::Memory);
-    };
-    let counted = count(alloc, &vaults, &places, &accounts);
-    let closed = close_books(alloc, vaults, places, records, accounts);
-    let counted = counted?;
-    let ledger = of_memory(closed, "the books can't be closed")?;
-    Ok(Outcome {
-        ledger,
-        counted,
-        worked,
-    })
-}
-
-// The ledger is the second count, and in balance.
-fn audit(alloc: Global, plan: Plan, outcome: &Outcome) -> Result<(), Wrong> {
-    let ledger = &outcome.ledger;
-    let counted = &outcome.counted;
-    let text = format!(in alloc; "{ledger:?}")?;
-    let wanted = format!(in alloc; "{counted:?}")?;
-    if text != wanted {
-        return Err(Wrong::Answer("the ledger is not the second count"));
-    }
-    if ledger.out != ledger.owned.saturating_add(ledger.flight) {
-        return Err(Wrong::Answer("the ledger is not in balance"));
-    }
-    if plan.ends && ledger.out != 0 {
-        return Err(Wrong::Answer("bytes are lost once all processes have ended"));
-    }
-    Ok(())
+    let worked = run_on(rt, alloc, &kernel, board, plan, &mut accounts, looks);
+    close(alloc, plan, kernel, accounts)?;
+    worked
 }
 
 /// A round by a plan.
@@ -205,7 +213,5 @@ pub(crate) fn run_round<R: Threads + Wait + Sync>(
     let board = Board::new(alloc, u32::from(plan.workers))?;
     let parts = Parts::new(alloc, plan.config, plan.workers);
     let parts = of_memory(parts, "a config within the limits is refused")?;
-    let outcome = run_named::<Brand, R>(rt, alloc, parts, &board, plan)?;
-    audit(alloc, plan, &outcome)?;
-    outcome.worked
+    run_named::<Brand, R>(rt, alloc, parts, &board, plan)
 }

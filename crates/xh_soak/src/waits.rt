@@ -8,13 +8,6 @@ const OPEN: u64 = 1;
 
 const CLOSED: u64 = 2;
 
-/// How far the first worker is; and for each worker the process, counted from 1, that waits.
-#[derive(Drop)]
-pub(crate) struct Waits {
-    first: AtomicU64,
-    processes: Vec<AtomicU64>,
-}
-
 /// Words that are 0.
 pub(crate) fn zeros(alloc: Global, count: u32) -> Result<Vec<AtomicU64>, AllocError> {
     let mut words = Vec::with_capacity(alloc, count as usize)?;
@@ -24,11 +17,44 @@ pub(crate) fn zeros(alloc: Global, count: u32) -> Result<Vec<AtomicU64>, AllocEr
     Ok(words)
 }
 
+/// For each worker a process, if it has one: the process counted from 1, or 0.
+#[derive(Drop)]
+pub(crate) struct Processes(Vec<AtomicU64>);
+
+impl Processes {
+    /// Nobody has one.
+    pub(crate) fn new(alloc: Global, workers: u32) -> Result<Processes, AllocError> {
+        Ok(Processes(zeros(alloc, workers)?))
+    }
+
+    /// The worker's process.
+    pub(crate) fn of(&self, worker: u32) -> Option<u16> {
+        let word = self.0.get(worker as usize)?;
+        let number = word.load(Ordering::SeqCst).checked_sub(1)?;
+        u16::try_from(number).ok()
+    }
+
+    /// The worker's process is this from now on.
+    pub(crate) fn set(&self, worker: u32, process: Option<u16>) {
+        let number = process.map_or(0, |process| u64::from(process).saturating_add(1));
+        if let Some(word) = self.0.get(worker as usize) {
+            word.store(number, Ordering::SeqCst);
+        }
+    }
+}
+
+/// How far the first worker is; and for each worker the process that waits.
+#[derive(Drop)]
+pub(crate) struct Waits {
+    first: AtomicU64,
+    pub(crate) processes: Processes,
+}
+
 impl Waits {
     pub(crate) fn new(alloc: Global, workers: u32) -> Result<Waits, AllocError> {
         Ok(Waits {
             first: AtomicU64::new(0),
-            processes: zeros(alloc, workers)?,
+            processes: Processes::new(alloc, workers)?,
         })
     }
 
@@ -46,17 +72,10 @@ impl Waits {
         self.first.load(Ordering::SeqCst) == OPEN
     }
 
-    /// The worker's process that waits.
-    pub(crate) fn process(&self, worker: u32) -> Option<u16> {
-        let word = self.processes.get(worker as usize)?;
-        let number = word.load(Ordering::SeqCst).checked_sub(1)?;
-        u16::try_from(number).ok()
-    }
-
     /// How many wait.
     pub(crate) fn count(&self) -> u32 {
         let mut count = 0u32;
-        for word in &self.processes {
+        for word in &self.processes.0 {
             if word.load(Ordering::SeqCst) != 0 {
                 count = count.saturating_add(1);
             }
@@ -66,13 +85,11 @@ impl Waits {
 
     /// Whether the process of a worker may wait, as it says then; not the first one's, and at most about half of all.
     pub(crate) fn begin(&self, worker: u32, process: u16) -> bool {
-        let is_few = self.count() as usize <= self.processes.len() / 2;
+        let is_few = self.count() as usize <= self.processes.0.len() / 2;
         if worker == 0 || !is_few || !self.is_open() {
             return false;
         }
-        if let Some(word) = self.processes.get(worker as usize) {
-            word.store(u64::from(process).saturating_add(1), Ordering::SeqCst);
-        }
+        self.processes.set(worker, Some(process));
         if self.is_open() {
             return true;
         }
@@ -82,8 +99,6 @@ impl Waits {
 
     /// The worker waits no more.
     pub(crate) fn end(&self, worker: u32) {
-        if let Some(word) = self.processes.get(worker as usize) {
-            word.store(0, Ordering::SeqCst);
-        }
+        self.processes.set(worker, None);
     }
 }
