@@ -10,10 +10,11 @@ ghost use Rattle.xh_records.specs.History.{by_place};
 ghost use Rattle.xh_records.specs.Seats.{Ends, Held, IsSeatOf, indices, lot_in, view_of};
 ghost use Rattle.xh_records.specs.inner.Gathering.{slot_at, or_else, IsGathered};
 
+use crate::plays::Whole;
 use crate::records::Records;
 use crate::refused::Refused;
 use crate::seat::Seat;
-use crate::token::{Board, Token, hand_over, join};
+use crate::token::{Board, Token, join};
 use atomic_table::Closed;
 use std::alloc::{AllocError, Global};
 use xh_arena::{Fits, Lot};
@@ -118,7 +119,7 @@ fn empty_out<B: Fits + Drop>(
         held[slot] = lot;
         token.turn();
     }
-    hand_over(board, &mut token)
+    board.split_seat::<Whole>(&mut token)
 }
 
 // Empties all seats, and joins their views.

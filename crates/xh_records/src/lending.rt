@@ -115,12 +115,8 @@ impl<B: Fits + Drop> Records<B> {
         let i = self.slot_of(first);
         let j = self.slot_of(second);
         let order = seat.order.as_slice();
-        let Some(mut left) = swap_slot(board, &mut seat.token, order, i, None) else {
-            unreachable!()
-        };
-        let Some(mut also) = swap_slot(board, &mut seat.token, order, j, None) else {
-            unreachable!()
-        };
+        let mut left = swap_slot(board, &mut seat.token, order, i, None).unwrap();
+        let mut also = swap_slot(board, &mut seat.token, order, j, None).unwrap();
         let answer = call_at_two(f, &mut left, &mut also);
         drop(swap_slot(board, &mut seat.token, order, i, Some(left)));
         drop(swap_slot(board, &mut seat.token, order, j, Some(also)));

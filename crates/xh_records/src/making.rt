@@ -8,11 +8,12 @@ ghost use Rattle.xh_records.specs.Showing.{IsEmpty, IsLotAt, IsSmall};
 ghost use Rattle.xh_records.specs.Seats.{Held};
 ghost use Rattle.xh_records.specs.inner.Views.{dealer};
 
+use crate::plays::Deal;
 use crate::refused::Refused;
 use crate::rule::Showing;
 use crate::seat::Seat;
 use crate::shape::Shape;
-use crate::token::{Board, Token, deal};
+use crate::token::{Board, Token};
 use crate::view::View;
 use atomic_table::Table;
 use std::alloc::{AllocError, Global};
@@ -41,10 +42,10 @@ pub(crate) fn table_of<B: Fits + Drop>(
 {
     let words = vec![in alloc; 0u64; lots.len()]?;
     let slots = in_slots(alloc, lots)?;
-    let Ok(made) = Table::new(alloc, words.as_slice(), slots, shape) else {
-        return Err(Refused::OutOfMemory);
-    };
-    Ok(made)
+    match Table::new(alloc, words.as_slice(), slots, shape) {
+        Ok(made) => Ok(made),
+        Err(_refused) => Err(Refused::OutOfMemory),
+    }
 }
 
 // A seat for each of the places that the token stands for, with room for so many slots.
@@ -66,7 +67,7 @@ pub(crate) fn seats_of<B: Fits>(
     let mut seats = Vec::with_capacity(alloc, usize::from(places))?;
     for place in 0..places {
         let order = Vec::with_capacity(alloc, count)?;
-        let token = deal(board, all);
+        let token = board.split_seat::<Deal>(all);
         let process = u16::from(place);
         seats.push_reserved(Seat {
             token,

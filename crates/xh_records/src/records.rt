@@ -14,11 +14,12 @@ ghost use Rattle.xh_records.specs.Seats.{SawTaken};
 ghost use Rattle.xh_records.specs.inner.Events.{taking, giving, IsAway, IsHomeLot};
 
 use crate::making::{Home, seats_of, table_of};
+use crate::plays::{Looks, Notes, Renews};
 use crate::refused::Refused;
 use crate::seat::Seat;
 use crate::seen::Seen;
 use crate::shape::Shape;
-use crate::token::{compare_note, give_slot, look_at, note, renew_token, take_slot};
+use crate::token::{compare_note, give_slot, take_slot};
 use crate::word::OwnerWord;
 use arrayvec::ArrayVec;
 use std::alloc::Global;
@@ -253,8 +254,9 @@ impl<B: Fits + Drop> Records<B> {
         requires exists { IsRecord self.now.shape number }
         ensures { HasSeen number result seat.old seat.new }
     {
+        let board = &self.table.shared;
         let slot = self.slot_of(number);
-        look_at(&self.table.shared, &mut seat.token, slot)
+        board.load::<Looks>(&mut seat.token, usize::from(slot))
     }
 
     /// The seat, which holds no record, stands for the next generation of its place, at most 127. The
@@ -266,7 +268,7 @@ impl<B: Fits + Drop> Records<B> {
         ensures process { result ≡ seat.old.process + PLACES }
         ensures renewed { seat.new ≡ record seat.old { process = seat.old.process + PLACES } }
     {
-        renew_token(&self.table.shared, &mut seat.token, seat.process);
+        self.table.shared.load::<Renews>(&mut seat.token, 0);
         seat.process += u16::from(PLACES);
         seat.process
     }
@@ -279,7 +281,7 @@ impl<B: Fits + Drop> Records<B> {
         ensures one { IsOneLog first.old.front second.old.front }
     {
         let board = &self.table.shared;
-        let told = note(board, &mut second.token);
+        let told = board.split_seat::<Notes>(&mut second.token);
         compare_note(board, &mut first.token, told);
     }
 }

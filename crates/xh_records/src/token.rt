@@ -6,19 +6,18 @@ ghost use lib.ListN.{get_elem?};
 ghost use Rattle.atomic_table.specs.Table.{step, Allows};
 ghost use Rattle.xh_arena.specs.Views.{LotOf};
 ghost use Rattle.xh_model.specs.declared.event.Event.{Event};
-ghost use Rattle.xh_model.specs.declared.limits.TheConstants.{PLACES, PROCESSES};
 ghost use Rattle.xh_model.specs.Words.{word_of, IsHolder};
 ghost use Rattle.xh_model.specs.Keyed.{without};
 ghost use Rattle.xh_records.specs.declared.token.TheConstants.{NEAR};
 ghost use Rattle.xh_records.specs.Encoding.{holder_of};
 ghost use Rattle.xh_records.specs.Showing.{Shown, IsLotAt, Owns, Sits};
 ghost use Rattle.xh_records.specs.inner.Events.{IsAway, IsHomeLot};
-ghost use Rattle.xh_records.specs.inner.Views.{IsAlone, IsDealer, dealt, dealt_from, front_in, gained, joined, lost, note_of, renewed, spent};
+ghost use Rattle.xh_records.specs.inner.Views.{IsAlone, front_in, gained, joined, lost, note_of};
 ghost use Rattle.xh_records.specs.inner.Steps.{IsOthers, SeesMore, process_in};
 ghost use Rattle.xh_records.specs.History.{IsOneLog};
 ghost use Rattle.xh_records.specs.inner.Tokens.{IsListed, IsTurned, in_slot, turns};
 
-use crate::plays::{Both, Compares, Deal, Gives, Looks, Notes, Renews, Takes, Whole};
+use crate::plays::{Both, Compares, Gives, Takes};
 use crate::rule::Showing;
 use crate::shape::Shape;
 use crate::view::View;
@@ -56,16 +55,16 @@ fn is_near(order: &[u16], k: usize, slot: u16) -> bool
     near
 }
 
-// A place at or before the slot's, and near it.
+// An end behind the slot's place, and near it. It looks from the end of the order, where what was gained last stands.
 fn skip_far(order: &[u16], slot: u16) -> usize
     requires { (k : ℕ) × (get_elem? order.now k ≡ some slot) }
-    ensures { (k : ℕ) × (result ≤ k) × (get_elem? order.now k ≡ some slot) }
+    ensures { (k : ℕ) × (k < result) × (result ≤ length order.now) × (get_elem? order.now k ≡ some slot) }
 {
-    let mut k = 0;
-    while order.len() - k >= NEAR && !is_near(order, k, slot) {
-        k += NEAR;
+    let mut end = order.len();
+    while end >= NEAR && !is_near(order, end - NEAR, slot) {
+        end -= NEAR;
     }
-    k
+    end
 }
 
 // Where the slot stands in the order.
@@ -73,9 +72,9 @@ fn position(order: &[u16], slot: u16) -> usize
     requires { (k : ℕ) × (get_elem? order.now k ≡ some slot) }
     ensures { get_elem? order.now result ≡ some slot }
 {
-    let mut k = skip_far(order, slot);
+    let mut k = skip_far(order, slot) - 1;
     while order[k] != slot {
-        k += 1;
+        k -= 1;
     }
     k
 }
@@ -145,46 +144,6 @@ pub(crate) fn give_slot<B: Fits>(
     k
 }
 
-// The word in a slot.
-pub(crate) fn look_at<B: Fits>(board: &Board<B>, token: &mut Token<B>, slot: u16) -> u64
-    requires own { token.old.table_id ≡ board.now.table_id }
-    requires inside { (slot < board.now.table_id.words) × (slot < board.now.table_id.slots) }
-    requires process { (p : ℕ) × IsAlone token.old.me.0 p }
-    ensures token { (token.new.table_id ≡ token.old.table_id) × (token.new.id ≡ token.old.id) }
-    ensures seen { SeesMore slot result token.old.me token.new.me }
-{
-    board.load::<Looks>(token, usize::from(slot))
-}
-
-// The next generation of the token's one place, which has no record.
-pub(crate) fn renew_token<B: Fits>(board: &Board<B>, token: &mut Token<B>, process: u16)
-    requires own { (token.old.table_id ≡ board.now.table_id) × (0 < board.now.table_id.words) × (0 < board.now.table_id.slots) }
-    requires process { (token.old.me.0.processes ≡ process ∷ []) × (process + PLACES < PROCESSES) }
-    requires empty { token.old.me.0.records ≡ [] }
-    ensures { (token.new.table_id ≡ token.old.table_id) × (token.new.id ≡ token.old.id) × (token.new.me ≡ (renewed token.old.me.0, token.old.me.1)) }
-{
-    board.load::<Renews>(token, 0);
-}
-
-// The first place of the token goes to a new one. The token stands for places of generation 0, and has no record.
-pub(crate) fn deal<B: Fits>(board: &Board<B>, token: &mut Token<B>) -> Token<B>
-    requires own { (token.old.table_id ≡ board.now.table_id) × (0 < board.now.table_id.words) }
-    requires places { IsDealer token.old.me.0 }
-    ensures token { (token.new.table_id ≡ token.old.table_id) × (token.new.id ≡ token.old.id) × (token.new.me ≡ (dealt_from token.old.me.0, token.old.me.1)) }
-    ensures seat { (result.table_id ≡ token.old.table_id) × (result.me ≡ (dealt token.old.me.0, [])) }
-{
-    board.split_seat::<Deal>(token)
-}
-
-// The token's whole view goes to a new one, which has no slot.
-pub(crate) fn hand_over<B: Fits>(board: &Board<B>, token: &mut Token<B>) -> Token<B>
-    requires own { (token.old.table_id ≡ board.now.table_id) × (0 < board.now.table_id.words) }
-    ensures token { (token.new.table_id ≡ token.old.table_id) × (token.new.id ≡ token.old.id) × (token.new.me ≡ (spent, token.old.me.1)) }
-    ensures seat { (result.table_id ≡ token.old.table_id) × (result.me ≡ (token.old.me.0, [])) }
-{
-    board.split_seat::<Whole>(token)
-}
-
 // The other token, which has no slot, gives its view to this one, which stands for a place.
 pub(crate) fn join<B: Fits>(board: &Board<B>, token: &mut Token<B>, other: Token<B>)
     requires own { (token.old.table_id ≡ board.now.table_id) × (other.table_id ≡ board.now.table_id) × (0 < board.now.table_id.words) }
@@ -193,16 +152,6 @@ pub(crate) fn join<B: Fits>(board: &Board<B>, token: &mut Token<B>, other: Token
     ensures token { (token.new.table_id ≡ token.old.table_id) × (token.new.id ≡ token.old.id) × (token.new.me ≡ (joined token.old.me.0 other.me.0, token.old.me.1)) }
 {
     board.join_seat::<Both>(token, other);
-}
-
-// What the token has seen, as a new one.
-pub(crate) fn note<B: Fits>(board: &Board<B>, token: &mut Token<B>) -> Token<B>
-    requires own { (token.old.table_id ≡ board.now.table_id) × (0 < board.now.table_id.words) }
-    requires process { (p : ℕ) × IsAlone token.old.me.0 p }
-    ensures token { (token.new.table_id ≡ token.old.table_id) × (token.new.id ≡ token.old.id) × (token.new.me ≡ token.old.me) }
-    ensures seat { (result.table_id ≡ token.old.table_id) × (result.me ≡ (note_of token.old.me.0, [])) }
-{
-    board.split_seat::<Notes>(token)
 }
 
 // Shows that of what the token has seen and what the note tells one is a beginning of the other.

@@ -10,6 +10,7 @@ use Rattle.xh_records.specs.History.{by_place}
 use Rattle.xh_records.specs.Seats.{lot_in, indices, Held}
 use Rattle.xh_records.specs.inner.Tokens.{in_slot, AllLots, AllBelow}
 use Rattle.xh_records.specs.inner.Gathering.{slot_at, or_else}
+use Rattle.xh_records.proofs.Cuts.{hands_over, splits}
 use Rattle.xh_records.proofs.Lists.{next_slot, all_front, fills, first_is, below_at}
 use Rattle.xh_records.proofs.Ended.{read_is}
 use Rattle.xh_records.proofs.Seating.{lot_here, all_full}
@@ -100,11 +101,16 @@ returns-clause-full g c = λ k h.
     let t = all_full me.0.shape me.1 seat.lots k there in
     (t.0, ap (λ (x : Held g.row.B.Denot). lot_in k x) (sym c.seat.view_is) ∙ lot_numbered me.0.shape seat.small me.1 k seat.lots ∙ t.1)
 
+pub split_seat-requires : goal.split_seat-requires
+split_seat-requires g c =
+    let key = c.args.board.now.key in
+    (c.loop-k.invariant.3.table ∙ ap (λ h. h.table) c.seat.view_is ∙ c.requires.own.0, c.requires.own.1, splits g.B.Fits.is_fit key _ _ _ _ (hands_over g.B.Fits.is_fit key _ _))
+
 pub returns-clause-token : goal.returns-clause-token
 returns-clause-token g c =
     let f = c.loop-k.invariant.3 in (
-      c.hand_over.ensures.seat.0 ∙ f.table ∙ ap (λ h. h.table) c.seat.view_is,
-      c.hand_over.ensures.seat.1 ∙ ap (λ z. (z, [])) (f.view ∙ sym (views_are c.args.seat _ _ _ c.seat.inside.token.me c.seat.view_is _ _ _ c.seat.invariant)),
+      c.split_seat.ensures.3 ∙ f.table ∙ ap (λ h. h.table) c.seat.view_is,
+      c.split_seat.ensures.4 ∙ ap (λ z. (z, [])) (f.view ∙ sym (views_are c.args.seat _ _ _ c.seat.inside.token.me c.seat.view_is _ _ _ c.seat.invariant)),
     )
 
 pub returns-clause-did : goal.returns-clause-did

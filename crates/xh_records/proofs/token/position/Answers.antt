@@ -1,16 +1,13 @@
-use Rattle.std.proofs.Common.{arith, ◌≡◌, ℕ, ◌<◌, ◌≤◌, length, get_or, sym, ap, ◌∙◌}
+use Rattle.std.proofs.Common.{arith, ◌≡◌, ℕ, ◌≤◌, get_or, sym, ap, ◌∙◌}
 use mathlib.Core.Option.{some}
-use Rattle.xh_records.proofs.Elements.{in_range, is_there, nth_is}
+use Rattle.xh_records.proofs.Elements.{is_there, nth_is}
 use Rattle.xh_records.proofs.token.position.Goals as goal
-
-pub loop-k-init : goal.loop-k-init
-loop-k-init c = let t = c.skip_far-k.ensures in let h = in_range c.args.order.now t.0 c.args.slot t.2 in let k : c.skip_far-k.result ≤ t.0 = t.1 in (omega arith, t.0, t.1, h, t.2)
 
 pub loop-k-preserved : goal.loop-k-preserved
 loop-k-preserved c =
-    let i = c.loop-k.invariant in let h : i.1 < length c.args.order.now = i.3 in let k : c.loop-k.k ≤ i.1 = i.2 in
-    let other : (c.loop-k.k ≡ i.1 → ⊥) = λ e. c.loop-k-test.true (ap (λ (z : ℕ). get_or c.args.order.now z 0) e ∙ nth_is c.args.order.now i.1 0 c.args.slot i.4) in
-    (omega arith, i.1, omega arith, i.3, i.4)
+    let i = c.loop-k.invariant in let k : i.1 ≤ c.loop-k.k = i.2 in
+    let other : (c.loop-k.k ≡ i.1 → ⊥) = λ e. c.loop-k-test.true (ap (λ (z : ℕ). get_or c.args.order.now z 0) e ∙ nth_is c.args.order.now i.1 0 c.args.slot i.3) in
+    (omega arith, i.1, omega arith, i.3)
 
 pub returns : goal.returns
 returns c = let t = is_there c.args.order.now c.loop-k.k c.loop-k.invariant.0 in t.1 ∙ ap some (sym (nth_is c.args.order.now c.loop-k.k 0 t.0 t.1) ∙ c.loop-k-test.false)

@@ -1,10 +1,10 @@
-use Rattle.std.proofs.Common.{◌≡◌, ℕ, ◌≤◌, ◌<◌, length, ◌-◌}
+use Rattle.std.proofs.Common.{◌≡◌, ℕ, ◌≤◌, ◌<◌, length}
 use mathlib.Core.Option.{some}
 use lib.ListN.{get_elem?}
 use Rattle.xh_records.proofs.token.position.Given as goal
 
 abbrev pub invariant-loop-k : goal.invariant-loop-k
-invariant-loop-k l = (l.k < length l.order) × (j : ℕ) × (l.k ≤ j) × (j < length l.order) × (get_elem? l.order j ≡ some l.slot)
+invariant-loop-k l = (l.k < length l.order) × (j : ℕ) × (j ≤ l.k) × (get_elem? l.order j ≡ some l.slot)
 
 abbrev pub decreases-loop-k : goal.decreases-loop-k
-decreases-loop-k l = length l.order - l.k
+decreases-loop-k l = l.k

@@ -1,10 +1,10 @@
-use Rattle.std.proofs.Common.{◌≡◌, ℕ, ◌≤◌, ◌<◌, length, ◌-◌}
+use Rattle.std.proofs.Common.{◌≡◌, ℕ, ◌≤◌, ◌<◌, length}
 use mathlib.Core.Option.{some}
 use lib.ListN.{get_elem?}
 use Rattle.xh_records.proofs.token.skip_far.Given as goal
 
-abbrev pub invariant-loop-k : goal.invariant-loop-k
-invariant-loop-k l = (j : ℕ) × (l.k ≤ j) × (j < length l.order) × (get_elem? l.order j ≡ some l.slot)
+abbrev pub invariant-loop-end : goal.invariant-loop-end
+invariant-loop-end l = (j : ℕ) × (j < l.end) × (l.end ≤ length l.order) × (get_elem? l.order j ≡ some l.slot)
 
-abbrev pub decreases-loop-k : goal.decreases-loop-k
-decreases-loop-k l = length l.order - l.k
+abbrev pub decreases-loop-end : goal.decreases-loop-end
+decreases-loop-end l = l.end

@@ -1,19 +1,28 @@
-use Rattle.std.proofs.Common.{◌≡◌, ℕ, ◌+◌, refl, ap, ◌∙◌, []}
+use Rattle.std.proofs.Common.{arith, ◌≡◌, ℕ, ◌+◌, ◌<◌, refl, sym, ap, ◌∙◌, subst, []}
+use Rattle.xh_model.specs.declared.limits.TheConstants.{GENERATIONS}
+use Rattle.xh_model.specs.Words.{generation_of}
 use Rattle.xh_model.specs.Keyed.{keys}
 use Rattle.xh_records.specs.Seats.{owned_by}
+use Rattle.xh_records.proofs.Ages.{ages}
 use Rattle.xh_records.proofs.Seating.{seat_is, grows_old}
 use Rattle.xh_records.proofs.Numbered.{none_numbered}
 use Rattle.xh_records.proofs.records.Records.renew.Goals as goal
 
-pub renew_token-requires-clause-empty : goal.renew_token-requires-clause-empty
-renew_token-requires-clause-empty g c =
-    let s = c.seat.invariant in
+pub load-requires : goal.load-requires
+load-requires g c =
+    let s = c.seat.invariant in let table = c.self.invariant in
     let bare : c.seat.inside.token.me.1 ≡ [] = none_numbered c.seat.inside.token.me.0.shape s.small c.seat.inside.token.me.1 s.lots (ap (λ h. h.lots) c.seat.view_is ∙ c.requires.empty) in
-    s.records ∙ ap (owned_by c.seat.inside.process) (s.ordered ∙ ap keys bare)
+    let process : c.seat.inside.process ≡ c.args.seat.now.process = ap (λ h. h.process) c.seat.view_is in
+    let generation : generation_of c.args.seat.now.process + 1 < GENERATIONS = c.requires.generation in (
+      ap (λ h. h.table) c.seat.view_is ∙ c.requires.own.0 ∙ sym (ap (λ r. r.table) c.self.view_is),
+      table.some,
+      ages g.B.Fits.is_fit c.self.inside.table.shared.key _ _ _ c.seat.inside.process (subst (λ (n : ℕ). 0 < n) (table.words ∙ sym table.slots) table.some) s.processes
+          (s.records ∙ ap (owned_by c.seat.inside.process) (s.ordered ∙ ap keys bare)) (omega arith),
+    )
 
 pub invariant_of-seat : goal.invariant_of-seat
 invariant_of-seat g c =
     let s = c.seat.invariant in
     let bare : c.seat.inside.token.me.1 ≡ [] = none_numbered c.seat.inside.token.me.0.shape s.small c.seat.inside.token.me.1 s.lots (ap (λ h. h.lots) c.seat.view_is ∙ c.requires.empty) in
-    seat_is _ _ _ _ _ _ _ _ _ _ (ap (λ (n : ℕ). c.seat.inside.process + n) c.from.ensures) refl refl (ap (λ z. z.slots) c.renew_token.ensures.0) c.renew_token.ensures.2
+    seat_is _ _ _ _ _ _ _ _ _ _ (ap (λ (n : ℕ). c.seat.inside.process + n) c.from.ensures) refl refl (ap (λ z. z.slots) c.load.ensures.0) c.load.ensures.2
     (grows_old _ _ _ _ c.seat.inside.token.me s bare)

@@ -4,6 +4,7 @@ use Rattle.std.specs.Fn.{CalledAtPairMut}
 use Rattle.xh_model.specs.Keyed.{put}
 use Rattle.xh_model.proofs.Keyed.{put_both}
 use Rattle.xh_records.specs.inner.Tokens.{IsListed, in_slot}
+use Rattle.xh_records.proofs.Ended.{is_some}
 use Rattle.xh_records.proofs.Lists.{slot_other}
 use Rattle.xh_records.proofs.Seating.{seat_is}
 use Rattle.xh_records.proofs.Lent.{LentBoth, lends_both, spot_of, kept_two, after_two, still_listed, listed_as}
@@ -33,11 +34,11 @@ module _ (g : Over) (c : After-swap_slot-4 g) (b : LentBoth c.args.seat.now _ _ 
     c.args.second c.requires.held.0 c.requires.held.1) (has : c.swap_slot-2.result ≡ Some c.requires.held.1) where
   called : CalledAtPairMut g.F.FnMut c.args.f.now c.requires.held.0 c.requires.held.1 c.call_at_two-answer.result c.call_at_two-answer.new.f c.call_at_two-answer.new.x c.call_at_two-answer.new.y
   called =
-      let one : Some c.in-Some.left ≡ Some c.requires.held.0 = sym c.in-Some.is ∙ c.swap_slot.ensures.value ∙ b.one.reach.has in
-      let two : Some c.in-Some-swap_slot.also ≡ Some c.requires.held.1 = sym c.in-Some-swap_slot.is ∙ has in
-      let is_left : c.in-Some.left ≡ c.requires.held.0 = cc in let is_also : c.in-Some-swap_slot.also ≡ c.requires.held.1 = cc in
+      let one : Some c.unwrap-left.result ≡ Some c.requires.held.0 = sym c.unwrap-left.ensures ∙ c.swap_slot.ensures.value ∙ b.one.reach.has in
+      let two : Some c.unwrap-also.result ≡ Some c.requires.held.1 = sym c.unwrap-also.ensures ∙ has in
+      let is_left : c.unwrap-left.result ≡ c.requires.held.0 = cc in let is_also : c.unwrap-also.result ≡ c.requires.held.1 = cc in
       subst (λ z. CalledAtPairMut g.F.FnMut c.args.f.now z c.requires.held.1 c.call_at_two-answer.result c.call_at_two-answer.new.f c.call_at_two-answer.new.x c.call_at_two-answer.new.y) is_left
-      (subst (λ z. CalledAtPairMut g.F.FnMut c.args.f.now c.in-Some.left z c.call_at_two-answer.result c.call_at_two-answer.new.f c.call_at_two-answer.new.x c.call_at_two-answer.new.y) is_also
+      (subst (λ z. CalledAtPairMut g.F.FnMut c.args.f.now c.unwrap-left.result z c.call_at_two-answer.result c.call_at_two-answer.new.f c.call_at_two-answer.new.x c.call_at_two-answer.new.y) is_also
       c.call_at_two-answer.ensures)
 
   last : c.swap_slot-4.new.token.me ≡ (
@@ -54,23 +55,22 @@ module _ (g : Over) (c : After-swap_slot-4 g) (b : LentBoth c.args.seat.now _ _ 
 pub swap_slot-requires-clause-listed : goal.swap_slot-requires-clause-listed
 swap_slot-requires-clause-listed g c = listed_as _ _ c.seat.inside.token.me.1 _ c.as_slice-order.ensures.value (both g (goal.at.swap_slot-requires-clause-listed g c).After-as_slice-order).one.reach.listed
 
-pub unreachable-requires : goal.unreachable-requires
-unreachable-requires g c = c.in_default.not-Some c.requires.held.0 (c.swap_slot.ensures.value ∙ (both g (goal.at.unreachable-requires g c).After-as_slice-order).one.reach.has)
+pub unwrap-left-requires : goal.unwrap-left-requires
+unwrap-left-requires g c = is_some _ c.requires.held.0 (c.swap_slot.ensures.value ∙ (both g (goal.at.unwrap-left-requires g c).After-as_slice-order).one.reach.has)
 
 pub swap_slot-requires-2-clause-listed : goal.swap_slot-requires-2-clause-listed
 swap_slot-requires-2-clause-listed g c = listed_as _ _ c.swap_slot.new.token.me.1 _ c.as_slice-order.ensures.value
     (still_listed _ _ _ None _ _ (both g (goal.at.swap_slot-requires-2-clause-listed g c).After-as_slice-order).two.reach.listed (ap (λ m. m.1) c.swap_slot.ensures.token.2))
 
-pub unreachable-requires-in_default-swap_slot : goal.unreachable-requires-in_default-swap_slot
-unreachable-requires-in_default-swap_slot g c =
-    let at = goal.at.unreachable-requires-in_default-swap_slot g c in c.in_default-swap_slot.not-Some c.requires.held.1 (second g at.After-swap_slot-2 (both g at.After-as_slice-order))
+pub unwrap-also-requires : goal.unwrap-also-requires
+unwrap-also-requires g c = let at = goal.at.unwrap-also-requires g c in is_some _ c.requires.held.1 (second g at.After-swap_slot-2 (both g at.After-as_slice-order))
 
 pub call_at_two-answer-requires : goal.call_at_two-answer-requires
 call_at_two-answer-requires g c =
     let at = goal.at.call_at_two-answer-requires g c in let b = both g at.After-as_slice-order in
-    let first : Some c.in-Some.left ≡ Some c.requires.held.0 = sym c.in-Some.is ∙ c.swap_slot.ensures.value ∙ b.one.reach.has in
-    let next : Some c.in-Some-swap_slot.also ≡ Some c.requires.held.1 = sym c.in-Some-swap_slot.is ∙ second g at.After-swap_slot-2 b in
-    let is_left : c.in-Some.left ≡ c.requires.held.0 = cc in let is_also : c.in-Some-swap_slot.also ≡ c.requires.held.1 = cc in
+    let first : Some c.unwrap-left.result ≡ Some c.requires.held.0 = sym c.unwrap-left.ensures ∙ c.swap_slot.ensures.value ∙ b.one.reach.has in
+    let next : Some c.unwrap-also.result ≡ Some c.requires.held.1 = sym c.unwrap-also.ensures ∙ second g at.After-swap_slot-2 b in
+    let is_left : c.unwrap-left.result ≡ c.requires.held.0 = cc in let is_also : c.unwrap-also.result ≡ c.requires.held.1 = cc in
     λ lender other ep eq. c.requires.held.4 lender other (ep ∙ is_left) (eq ∙ is_also)
 
 pub swap_slot-requires-3-clause-listed : goal.swap_slot-requires-3-clause-listed
