@@ -1,5 +1,5 @@
 -- Each step on a closed word keeps the rule.
-use Rattle.std.proofs.Common.{◌≡◌, ◌≢◌, ◌⊎◌, inl, inr, ℕ, zero, suc, ◌<◌, ◌||◌, Bool, true, false, true≢false, List, [], ◌∷◌, length, set}
+use Rattle.std.proofs.Common.{◌≡◌, ◌≢◌, ◌⊎◌, inl, inr, ℕ, zero, suc, ◌<◌, ◌&&◌, ◌||◌, not, Bool, true, false, true≢false, List, [], ◌∷◌, length, set}
 use Rattle.std.proofs.Common.{sym, refl, ap, ◌∙◌, subst, ⊎_elim, replicate, eqb, eq-eqb, ne_eqb, cond, arith}
 use Rattle.std.proofs.lemmas.List.{set-get_or}
 use Rattle.std.specs.Prelude.{slice_index}
@@ -11,7 +11,7 @@ use Rattle.atomic_table.specs.Table.{State, Me, step, keeps, Allows, Splits, Joi
 use Rattle.atomic_table.proofs.Lists.{at_set, set_here, set_else}
 use Rattle.xh_model.specs.declared.limits.TheConstants.{DIRECTIONS}
 use Rattle.xh_channel.specs.declared.closed_rule.Sight.{Sight}
-use Rattle.xh_channel.specs.inner.ClosedWords.{sight, bit, peer, FitsSight, Shows, Shut, Looked, one_word, other_words, shut_told, hearing_shut}
+use Rattle.xh_channel.specs.inner.ClosedWords.{sight, bit, peer, FitsSight, Shows, Shut, Looked, IsShown, never_shown, one_word, other_words, shut_told, hearing_shut, seen_told, hearing_seen}
 use Rattle.xh_channel.proofs.Views.{every_set, every_snoc, one_view}
 
 all_zero : (k w : ℕ) → w < k → get_elem? {A = ℕ} (replicate k 0) w ≡ some 0
@@ -161,3 +161,45 @@ hears_shut id v other w same s h at two at' =
       every_set (FitsSight h.0 s.words) vs other (sight 0 0 false false) (fits_told h.0 s.words other 0 false (λ p. absurd (true≢false (sym p))))
           (λ j u _ e. every_set (FitsSight h.0 s.words) s.views id both (mine.0, seen) (λ i y _ f. h.2 i y f) j u e),
     )
+
+pub tells_seen : {S : Type 0} (id : ℕ) (v : Sight) → Splits (Shows {S = S}) id v v (seen_told v)
+tells_seen id v s h at =
+    let mine = h.2 id v at in
+    let vs : List Sight = set s.views id v in (
+      h.0,
+      h.1,
+      every_snoc (FitsSight h.0 s.words) vs (seen_told v) (fits_told h.0 s.words (length vs) v.from v.peer_shut mine.1)
+          (every_set (FitsSight h.0 s.words) s.views id v mine (λ j u _ e. h.2 j u e)),
+    )
+
+-- what holds of a seat holds of it after it heard what was seen of it
+heard : (F : Sight → Type 0) (v w : Sight) → (w.peer_shut ≡ true → v.shut ≡ false → ⊥) → F v → F (hearing_seen v w)
+heard F v w never f = go w.peer_shut v.shut never where
+  go : (a b : Bool) → (a ≡ true → b ≡ false → ⊥) → F (cond (a && not b) never_shown v)
+  go false b apart = f
+  go true true apart = f
+  go true false apart = absurd (apart refl refl)
+
+pub hears_seen : {S : Type 0} (id : ℕ) (v : Sight) (other : ℕ) (w : Sight) → v.upto ≡ suc v.from → v.from ≡ peer w.from
+    → Joins (Shows {S = S}) id v other w (hearing_seen v w) (sight 0 0 false false)
+hears_seen id v other w one same s h at two at' =
+    let both : Sight = hearing_seen v w in
+    let vs : List Sight = set s.views id both in
+    let was : get_elem? s.views other ≡ some w = ⊎_elim (λ x. absurd (two x.0)) (λ x. x.1) (at_set s.views id other both w at') in
+    let mine = h.2 id v at in
+    let own = (mine.0 v.from (omega arith) (omega arith)).1 in
+    let seen : w.peer_shut ≡ true → bit v.shut ≡ 1 = λ p. some-injective (bit v.shut) 1 (sym own ∙ subst (λ (x : ℕ). get_elem? s.words x ≡ some 1) (sym same) ((h.2 other w was).1 p)) in (
+      h.0,
+      h.1,
+      every_set (FitsSight h.0 s.words) vs other (sight 0 0 false false) (fits_told h.0 s.words other 0 false (λ p. absurd (true≢false (sym p))))
+          (λ j u _ e. every_set (FitsSight h.0 s.words) s.views id both
+          (heard (FitsSight h.0 s.words id) v w (λ p q. let a = seen p in let b = ap bit q in absurd (omega arith)) mine) (λ i y _ f. h.2 i y f) j u e),
+    )
+
+not_shown : (keeper : ℕ → ℕ) (words : List ℕ) (id : ℕ) → FitsSight keeper words id never_shown → ⊥
+not_shown keeper words id f = let e = some-injective 0 1 (sym (f.0 1 (omega arith) (omega arith)).1 ∙ f.1 refl) in absurd (omega (arith, e))
+
+pub shown : {S : Type 0} (slots id : ℕ) (me : Me S Sight) (i : ℕ) → Allows Shows slots id me i (λ n. n) (IsShown (step slots i 0 0 none) me)
+shown slots id me i s h _ at _ =
+    let mine = h.2 id me.0 at in
+    (me.0, keeps, tt, same_words s id i me.0 me.0 h at mine, (refl, λ e. not_shown h.0 s.words id (subst (λ (v : Sight). FitsSight h.0 s.words id v) e mine)))

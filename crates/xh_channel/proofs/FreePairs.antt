@@ -1,5 +1,7 @@
 -- A pair more at the end of the places.
-use Rattle.std.proofs.Common.{◌≡◌, ℕ, zero, suc, ◌+◌, ◌<◌, true, List, [], ◌∷◌, ◌++◌, length, set, Option, Some, None, sym, ap, ◌∙◌, arith}
+use Rattle.std.proofs.Common.{◌≡◌, ℕ, zero, suc, ◌+◌, ◌<◌, true, false, true≢false, List, [], ◌∷◌, ◌++◌, length, set, Option, Some, None, sym, refl, get_or, ap, ◌∙◌, subst, arith}
+use Rattle.std.specs.Prelude.{◌==◌, MatchOption}
+use Rattle.std.proofs.lemmas.Bool.Decides.{nat_tests}
 use Rattle.std.proofs.lemmas.Option.{none-some}
 use Rattle.xh_channel.specs.declared.free_pair.FreePair.{FreePair}
 use Rattle.xh_channel.specs.inner.FreeNumbers.{at_place, has_depth, StandAtTheirNumbers}
@@ -35,3 +37,33 @@ none_at (x ∷ xs) (suc n) (suc i) p e = none_at xs n i p e
 
 pub placed_none : (xs : List (Option FreePair)) (n : ℕ) → StandAtTheirNumbers xs → StandAtTheirNumbers (set xs n None)
 placed_none xs n old i p e = old i p (none_at xs n i p e)
+
+set_at : (xs : List (Option FreePair)) (k n : ℕ) (p : FreePair) → ((i : ℕ) (q : FreePair) → at_place xs i ≡ Some q → q.low.channel ≡ i + k) → p.low.channel ≡ n + k
+    → (i : ℕ) (q : FreePair) → at_place (set xs n (Some p)) i ≡ Some q → q.low.channel ≡ i + k
+set_at [] k n p old is i q e = old i q e
+set_at (y ∷ ys) k zero p old is zero q e = ap channel_of (sym e) ∙ is
+set_at (y ∷ ys) k zero p old is (suc i) q e = old (suc i) q e
+set_at (y ∷ ys) k (suc n) p old is zero q e = old 0 q e
+set_at (y ∷ ys) k (suc n) p old is (suc i) q e = set_at ys (suc k) n p (λ j r f. old (suc j) r f ∙ omega arith) (is ∙ omega arith) i q e ∙ omega arith
+
+pub placed_some : (xs : List (Option FreePair)) (n : ℕ) (p : FreePair) → StandAtTheirNumbers xs → p.low.channel ≡ n → StandAtTheirNumbers (set xs n (Some p))
+placed_some xs n p old is i q e = set_at xs 0 n p (λ j r f. old j r f ∙ omega arith) (is ∙ omega arith) i q e ∙ omega arith
+
+-- what stands at a place, whatever is said of places past the end
+pub stands_at : (xs : List (Option FreePair)) (k n : ℕ) (d : Option FreePair) → length xs ≡ n → k < n → at_place xs k ≡ get_or xs k d
+stands_at [] k n d long h = absurd (omega arith)
+stands_at (x ∷ xs) zero n d long h = refl
+stands_at (x ∷ xs) (suc k) zero d long h = absurd (omega arith)
+stands_at (x ∷ xs) (suc k) (suc n) d long h = stands_at xs k n d (omega (arith, long)) (omega arith)
+
+-- the pair of the lowest number that is free was taken out
+pub opened : (xs : List (Option FreePair)) (at d : ℕ) (taken left : Option FreePair) (none : Type 0) → StandAtTheirNumbers xs → at_place xs at ≡ taken → left ≡ None
+    → has_depth d (at_place xs at) ≡ true → ((j : ℕ) → j < at → has_depth d (at_place xs j) ≡ false)
+    → MatchOption taken none (λ p. (p.low.depth ≡ d) × (at_place xs p.low.channel ≡ Some p) × (set xs at left ≡ set xs p.low.channel None)
+    × ((j : ℕ) → j < p.low.channel → has_depth d (at_place xs j) ≡ false))
+opened xs at d None left none stand is gone fits below = absurd (true≢false (sym fits ∙ ap (has_depth d) is))
+opened xs at d (Some p) left none stand is gone fits below =
+    let here : at ≡ p.low.channel = sym (stand at p is) in
+    let same : (p.low.depth == d) ≡ true = sym (ap (has_depth d) is) ∙ fits in
+    let deep : p.low.depth ≡ d = grind (arith, nat_tests) in
+    (deep, subst (λ (k : ℕ). at_place xs k ≡ Some p) here is, (λ i. set xs (here i) (gone i)), λ j less. below j (omega (arith, here, less)))

@@ -1,7 +1,7 @@
 pub mod inner
-pub mod ContractEnds
 pub mod Directions
 pub mod Ends
+pub mod LineSeats
 pub mod Lines
 pub mod Notes
 pub mod Numbers

@@ -1,6 +1,8 @@
 -- The two ends of a channel that was just opened.
-use Rattle.std.specs.Prelude.{◌≡◌, ◌<◌, false, []}
+use Rattle.std.specs.Prelude.{◌≡◌, ◌<◌, true, false, List, []}
 use Rattle.xh_model.specs.declared.limits.TheConstants.{CHANNELS}
+use Rattle.xh_model.specs.declared.row.Row.{Row}
+use Rattle.xh_model.specs.Rows.{row_at}
 use Rattle.xh_channel.specs.Ends.{no_counts}
 use Rattle.xh_channel.specs.Queues.{Posted}
 
@@ -14,7 +16,7 @@ pub record IsUnused (end : Posted) : Type 0 where
   pub told_put : end.told_put ≡ 0
   pub told_taken : end.told_taken ≡ 0
 
--- the sides 0 and 1 of one channel, each at the other's queues, both unused
+-- the sides 0 and 1 of one channel, each at the other's queues and both at one line, by the same contract in the same state, both unused
 pub record IsPair (low high : Posted) : Type 0 where
   pub number : low.channel < CHANNELS
   pub channel : high.channel ≡ low.channel
@@ -26,4 +28,15 @@ pub record IsPair (low high : Posted) : Type 0 where
   pub to_high : high.into ≡ low.out
   pub to_low : high.out ≡ low.into
   pub closed : high.closed ≡ low.closed
+  pub line : high.line ≡ low.line
   pub contract : high.has_contract ≡ low.has_contract
+  pub rows : high.rows ≡ low.rows
+  pub state : high.state ≡ low.state
+
+-- an end that goes by the contract, in its first state
+abbrev pub ruled_by : List Row → Posted → Posted
+ruled_by rows end = record end { has_contract = true; rows = rows; state = (row_at rows 0).state }
+
+-- an end without a contract
+abbrev pub unruled : Posted → Posted
+unruled end = record end { has_contract = false; rows = []; state = 0 }

@@ -1,4 +1,5 @@
 -- What the private steps go by. No exported call's promise needs it to be read.
 pub mod ClosedWords
 pub mod FreeNumbers
-pub mod Rooms
+pub mod LineRule
+pub mod Turns

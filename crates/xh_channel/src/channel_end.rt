@@ -1,67 +1,52 @@
 //! One end of a channel, apart from where its number is free again.
-ghost use Rattle.std.specs.Prelude.{◌≡◌, ◌+◌, ◌*◌, ◌<◌, ◌≤◌, suc, true, false, List, [], length, OnErr, IfOk, IfErr, MatchBool};
-ghost use Rattle.xh_model.specs.declared.limits.TheConstants.{CHANNELS, MAX_MESSAGES};
-ghost use Rattle.xh_channel.specs.ContractEnds.{PutsByLine, TakesByLine, counted_put, counted_taken};
-ghost use Rattle.xh_channel.specs.Directions.{WaitsAfter};
-ghost use Rattle.xh_channel.specs.Ends.{given_back, no_counts, now_shut};
-ghost use Rattle.xh_channel.specs.Notes.{IsOfPeer, hearing, told_by};
+ghost use Rattle.std.specs.Prelude.{◌≡◌, ◌+◌, ◌*◌, ◌<◌, ◌≤◌, suc, true, false, [], OnErr, IfOk, IfErr, MatchBool};
+ghost use Rattle.xh_model.specs.declared.limits.TheConstants.{CHANNELS, MAX_DEPTH, MAX_MESSAGES};
+ghost use Rattle.xh_channel.specs.Ends.{given_back};
+ghost use Rattle.xh_channel.specs.Notes.{AgreesWith, ArePeers, IsOfPeer, hearing, told_by};
+ghost use Rattle.xh_channel.specs.LineSeats.{IsBlank};
 ghost use Rattle.xh_channel.specs.Numbers.{message};
-ghost use Rattle.xh_channel.specs.Pairs.{IsUnused};
-ghost use Rattle.xh_channel.specs.Queues.{IsSameEnd, IsUnsent, KeepsItsMessages, PutsAs, ShutsAs, TakesAs, Unpushed};
+ghost use Rattle.xh_channel.specs.Pairs.{IsPair, IsUnused, ruled_by, unruled};
+ghost use Rattle.xh_channel.specs.Queues.{AreIdle, IsSameEnd, IsUnsent, KeepsItsMessages, PutsAs, ShutsAs, TakesAs, Unpushed};
 
 use crate::closed_word::ClosedWord;
-use crate::counts::Counts;
+use crate::line_seat::{self, LineSeat};
 use crate::message::Message;
 use crate::note::Note;
 use crate::numbers::number_after;
 use crate::queue_end::{self, ReceivingEnd, SendingEnd};
 use crate::refused::Refused;
-use crate::room::OwnRoom;
 use crate::spot::Spot;
+use crate::turn::OwnTurn;
 use crate::unsent::Unsent;
 use arrayvec::ArrayVec;
 use std::marker::Model;
 use std::sync::Wait;
+use xh_core::Contract;
 use xh_model::limits::MAX_BLOCKS;
 
 /// One end of a channel.
 #[derive(Drop)]
 pub struct ChannelEnd {
     spot: Spot,
+    // with a contract the line carries the messages, and the queues nothing
+    has_contract: bool,
     sender: SendingEnd,
     receiver: ReceivingEnd,
     word: ClosedWord,
     put: u64,
+    line: LineSeat,
     // its channel's, also where it is used on other channels
-    pub(crate) room: OwnRoom,
-    // where the channel has a contract, what its line said that this end carried
-    line_counts: Option<Counts>,
+    turn: OwnTurn,
 }
 
 impl Model for ChannelEnd {
-    ghost use Rattle.std.specs.Prelude.{length, take, is_some};
-    ghost use Rattle.xh_channel.specs.Queues.{IsEnd, Posted, counts_of};
+    ghost use Rattle.xh_channel.specs.Queues.{IsEnd, Posted, posted};
 
     ghost Value = { Posted };
 
-    ghost view = { λ e. record {
-      channel = e.spot.channel;
-      side = e.spot.side;
-      counts = counts_of e.line_counts (record { put = e.put; taken = length e.receiver.got; shut = e.word.shut });
-      has_contract = is_some e.line_counts;
-      depth = e.sender.depth;
-      out = e.sender.queue;
-      into = e.receiver.queue;
-      closed = e.word.table;
-      sent = take e.put e.sender.sent;
-      pushed = e.sender.sent;
-      got = e.receiver.got;
-      peer_shut = e.word.peer_shut;
-      told_put = e.receiver.told;
-      told_taken = e.sender.told;
-    } };
+    ghost view = { λ e. posted e.spot e.has_contract e.sender e.receiver e.word e.put e.line };
 
-    ghost invariant = { λ e. IsEnd e.spot e.sender e.receiver e.word e.put e.line_counts };
+    ghost invariant = { λ e. IsEnd e.spot e.has_contract e.sender e.receiver e.word e.put e.line };
 }
 
 fn copy_of(blocks: &ArrayVec<u16, MAX_BLOCKS>) -> ArrayVec<u16, MAX_BLOCKS>
@@ -73,44 +58,114 @@ fn copy_of(blocks: &ArrayVec<u16, MAX_BLOCKS>) -> ArrayVec<u16, MAX_BLOCKS>
     copy
 }
 
-/// Shows, of both ends of a direction, that what one took is a prefix of what the other pushed, and tells each what the other did.
-pub fn compare(from: ChannelEnd, to: ChannelEnd) -> (ChannelEnd, ChannelEnd)
-    requires { to.into ≡ from.out }
-    ensures told { (result.0 ≡ record from { told_taken = length to.got }) × (result.1 ≡ record to { told_put = length from.pushed }) }
-    ensures grows { (from.told_taken ≤ length to.got) × (to.told_put ≤ length from.pushed) }
-    ensures prefix { (items : List Message) × WaitsAfter from.pushed to.got items }
-    ensures sent { from.peer_shut ≡ false → from.pushed ≡ from.sent }
+/// Both ends of a channel without a contract go by the contract from now on, from its first state.
+pub fn begin<R: Wait>(
+    rt: &R,
+    low: ChannelEnd,
+    high: ChannelEnd,
+    contract: Contract,
+    depth: u8,
+) -> (ChannelEnd, ChannelEnd)
+    requires pair { IsPair low high × (low.has_contract ≡ false) }
+    requires depth { (low.depth ≡ depth) × (1 ≤ depth) × (depth ≤ MAX_DEPTH) }
+    ensures { (result.0 ≡ ruled_by contract low) × (result.1 ≡ ruled_by contract high) }
 {
-    let (sender, receiver) = queue_end::compare(from.sender, to.receiver);
-    let from = ChannelEnd { sender, ..from };
-    let to = ChannelEnd { receiver, ..to };
-    (from, to)
+    let (line, peers) = LineSeat::begin(rt, low.line, high.line, contract, depth);
+    let low = ChannelEnd {
+        has_contract: true,
+        line,
+        ..low
+    };
+    let high = ChannelEnd {
+        has_contract: true,
+        line: peers,
+        ..high
+    };
+    (low, high)
+}
+
+// As `compare`, by both queues and the closed words.
+fn compare_queues(one: ChannelEnd, other: ChannelEnd) -> (ChannelEnd, ChannelEnd)
+    requires { ArePeers one other × (one.has_contract ≡ false) }
+    ensures told { (result.0 ≡ hearing one (told_by other)) × (result.1 ≡ hearing other (told_by one)) }
+    ensures agree { AgreesWith one other × AgreesWith other one }
+{
+    let (sender, receiver) = queue_end::compare(one.sender, other.receiver);
+    let (peers, theirs) = queue_end::compare(other.sender, one.receiver);
+    let mut one = ChannelEnd {
+        sender,
+        receiver: theirs,
+        ..one
+    };
+    let mut other = ChannelEnd {
+        sender: peers,
+        receiver,
+        ..other
+    };
+    one.word.agree(&mut other.word);
+    other.word.agree(&mut one.word);
+    let note = one.word.note();
+    one.word.hear(other.word.note());
+    other.word.hear(note);
+    (one, other)
+}
+
+// As `compare`, by the line, side 0 first.
+fn compare_lines(low: ChannelEnd, high: ChannelEnd) -> (ChannelEnd, ChannelEnd)
+    requires { ArePeers low high × (low.has_contract ≡ true) × (low.side ≡ 0) }
+    ensures told { (result.0 ≡ hearing low (told_by high)) × (result.1 ≡ hearing high (told_by low)) }
+    ensures agree { AgreesWith low high × AgreesWith high low }
+{
+    let (line, peers) = line_seat::compare(low.line, high.line);
+    let low = ChannelEnd { line, ..low };
+    let high = ChannelEnd {
+        line: peers,
+        ..high
+    };
+    (low, high)
+}
+
+/// Shows, of both ends of a channel, that what each took is a prefix of what the other pushed, and tells each what the other did.
+pub fn compare(one: ChannelEnd, other: ChannelEnd) -> (ChannelEnd, ChannelEnd)
+    requires { ArePeers one other }
+    ensures told { (result.0 ≡ hearing one (told_by other)) × (result.1 ≡ hearing other (told_by one)) }
+    ensures agree { AgreesWith one other × AgreesWith other one }
+{
+    if !one.has_contract() {
+        return compare_queues(one, other);
+    }
+    if one.spot.side == 0 {
+        return compare_lines(one, other);
+    }
+    let (other, one) = compare_lines(other, one);
+    (one, other)
 }
 
 impl ChannelEnd {
-    /// An end with nothing put and nothing taken.
+    /// An end with nothing put and nothing taken, of a channel without a contract.
     pub fn new(
         spot: Spot,
-        sender: SendingEnd,
-        receiver: ReceivingEnd,
+        queues: (SendingEnd, ReceivingEnd),
         word: ClosedWord,
-        room: OwnRoom,
+        line: LineSeat,
+        turn: OwnTurn,
     ) -> ChannelEnd
-        requires word { word.word ≡ 2 * spot.channel + spot.side }
-        requires new { (sender.sent ≡ []) × (receiver.got ≡ []) × (word.shut ≡ false) × (word.peer_shut ≡ false) }
-        requires untold { (sender.told ≡ 0) × (receiver.told ≡ 0) }
-        ensures spot { (result.channel ≡ spot.channel) × (result.side ≡ spot.side) }
-        ensures queues { (result.depth ≡ sender.depth) × (result.out ≡ sender.queue) × (result.into ≡ receiver.queue) × (result.closed ≡ word.table) }
-        ensures unused { IsUnused result × (result.has_contract ≡ false) }
+        requires own { (word.word ≡ 2 * spot.channel + spot.side) × (line.side ≡ spot.side) }
+        requires new { AreIdle queues.0 queues.1 word × IsBlank line }
+        ensures spot { (result.channel ≡ spot.channel) × (result.side ≡ spot.side) × (result.depth ≡ queues.0.depth) }
+        ensures tables { (result.out ≡ queues.0.queue) × (result.into ≡ queues.1.queue) × (result.closed ≡ word.table) × (result.line ≡ line.table) }
+        ensures unused { IsUnused result × (result ≡ unruled result) }
     {
+        let (sender, receiver) = queues;
         ChannelEnd {
             spot,
+            has_contract: false,
             sender,
             receiver,
             word,
             put: 0,
-            room,
-            line_counts: None,
+            line,
+            turn,
         }
     }
 
@@ -125,7 +180,7 @@ impl ChannelEnd {
     pub fn has_contract(&self) -> bool
         ensures { result ≡ self.now.has_contract }
     {
-        self.line_counts.is_some()
+        self.has_contract
     }
 
     pub fn depth(&self) -> usize
@@ -134,24 +189,13 @@ impl ChannelEnd {
         self.sender.depth()
     }
 
-    /// The channel gets a contract.
-    pub fn with_contract(self) -> ChannelEnd
-        requires { (self.has_contract ≡ false) × (self.counts ≡ no_counts) }
-        ensures { result ≡ record self { has_contract = true } }
-    {
-        ChannelEnd {
-            line_counts: Some(Counts::none()),
-            ..self
-        }
-    }
-
     /// The channel has no contract any more.
     pub fn without_contract(self) -> ChannelEnd
-        requires { self.counts ≡ no_counts }
-        ensures { result ≡ record self { has_contract = false } }
+        requires { IsUnused self }
+        ensures { result ≡ unruled self }
     {
         ChannelEnd {
-            line_counts: None,
+            has_contract: false,
             ..self
         }
     }
@@ -163,9 +207,11 @@ impl ChannelEnd {
     {
         Note {
             spot: self.spot,
+            has_contract: self.has_contract,
             put: self.sender.note(),
             taken: self.receiver.note(),
             shut: self.word.note(),
+            line: self.line.note(),
         }
     }
 
@@ -173,9 +219,13 @@ impl ChannelEnd {
         requires { IsOfPeer note self.old }
         ensures { self.new ≡ hearing self.old note }
     {
-        self.receiver.hear(note.put);
-        self.sender.hear(note.taken);
-        self.word.hear(note.shut);
+        if note.has_contract && self.has_contract {
+            self.line.hear(note.line);
+        } else if !note.has_contract && !self.has_contract {
+            self.receiver.hear(note.put);
+            self.sender.hear(note.taken);
+            self.word.hear(note.shut);
+        }
     }
 
     /// Looks at the peer's word, and pushes.
@@ -254,36 +304,6 @@ impl ChannelEnd {
         }
     }
 
-    /// The line put a message of this end.
-    pub fn was_put(&mut self, no: u64)
-        requires { self.old.has_contract ≡ true }
-        ensures { self.new ≡ record self.old { counts = counted_put no self.old.counts } }
-    {
-        if let Some(counts) = &mut self.line_counts {
-            counts.put = no;
-        }
-    }
-
-    /// The line took a message for this end.
-    pub fn was_taken(&mut self, no: u64)
-        requires { self.old.has_contract ≡ true }
-        ensures { self.new ≡ record self.old { counts = counted_taken no self.old.counts } }
-    {
-        if let Some(counts) = &mut self.line_counts {
-            counts.taken = no;
-        }
-    }
-
-    /// The line shut this end.
-    pub fn was_shut(&mut self)
-        requires { self.old.has_contract ≡ true }
-        ensures { self.new ≡ record self.old { counts = now_shut self.old.counts } }
-    {
-        if let Some(counts) = &mut self.line_counts {
-            counts.shut = true;
-        }
-    }
-
     // A put on the queue, or on the line where the channel has a contract.
     fn send<R: Wait>(
         &mut self,
@@ -291,18 +311,17 @@ impl ChannelEnd {
         tag: u16,
         blocks: ArrayVec<u16, MAX_BLOCKS>,
     ) -> Result<u64, Unsent>
-        ensures put { MatchBool self.old.has_contract (PutsByLine self.old self.new result) (PutsAs self.old self.new tag blocks result) }
+        ensures put { PutsAs self.old self.new tag blocks result }
         ensures last { IfOk result (λ no. no ≤ MAX_MESSAGES) }
         ensures back { IfErr result (λ u. given_back u ≡ blocks) }
         ensures kept { OnErr result (Unpushed self.old self.new (message (suc self.old.counts.put) tag blocks)) }
         ensures same { IsSameEnd self.old self.new }
     {
-        if !self.has_contract() {
-            return self.put_on_queue(rt, tag, blocks);
+        if self.has_contract {
+            self.line.put(rt, tag, blocks)
+        } else {
+            self.put_on_queue(rt, tag, blocks)
         }
-        let no = self.room.put(rt, self.spot.side, tag, blocks)?;
-        self.was_put(no);
-        Ok(no)
     }
 
     /// Puts, and then wakes the channel's waiters.
@@ -312,38 +331,36 @@ impl ChannelEnd {
         tag: u16,
         blocks: ArrayVec<u16, MAX_BLOCKS>,
     ) -> Result<u64, Unsent>
-        ensures put { MatchBool self.old.has_contract (PutsByLine self.old self.new result) (PutsAs self.old self.new tag blocks result) }
+        ensures put { PutsAs self.old self.new tag blocks result }
         ensures last { IfOk result (λ no. no ≤ MAX_MESSAGES) }
         ensures back { IfErr result (λ u. given_back u ≡ blocks) }
         ensures kept { OnErr result (Unpushed self.old self.new (message (suc self.old.counts.put) tag blocks)) }
         ensures same { IsSameEnd self.old self.new }
     {
         let no = self.send(rt, tag, blocks)?;
-        self.room.turn.raise();
+        self.turn.raise();
         Ok(no)
     }
 
     /// Takes from the queue, or from the line where the channel has a contract.
     pub fn take<R: Wait>(&mut self, rt: &R) -> Result<Message, Refused>
-        ensures taken { MatchBool self.old.has_contract (TakesByLine self.old self.new result) (TakesAs self.old self.new result) }
+        ensures taken { TakesAs self.old self.new result }
         ensures kept { OnErr result (KeepsItsMessages self.old self.new) }
         ensures same { IsSameEnd self.old self.new }
     {
-        if !self.has_contract() {
-            return self.take_from_queue(rt);
+        if self.has_contract {
+            self.line.take(rt)
+        } else {
+            self.take_from_queue(rt)
         }
-        let message = self.room.take(rt, self.spot.side)?;
-        self.was_taken(message.no);
-        Ok(message)
     }
 
     // The shut of its word, or of its side of the line where the channel has a contract.
     fn close<R: Wait>(&mut self, rt: &R)
         ensures { ShutsAs self.old self.new }
     {
-        if self.has_contract() {
-            self.room.shut(rt, self.spot.side);
-            self.was_shut();
+        if self.has_contract {
+            self.line.shut(rt);
         } else {
             self.word.shut();
         }
@@ -354,6 +371,6 @@ impl ChannelEnd {
         ensures { ShutsAs self.old self.new }
     {
         self.close(rt);
-        self.room.turn.raise();
+        self.turn.raise();
     }
 }

@@ -1,7 +1,7 @@
 //! All channels of a heap.
-ghost use Rattle.std.specs.Prelude.{◌≡◌, ℕ, ◌+◌, ◌*◌, ◌<◌, ◌≤◌, ◌⊎◌, suc, true, false, length, IfOk, IfErr, OnErr, MatchBool};
+ghost use Rattle.std.specs.Prelude.{◌≡◌, ℕ, ◌+◌, ◌*◌, ◌<◌, ◌≤◌, ◌⊎◌, suc, true, false, length, IfOk, IfErr, OnErr};
+ghost use Rattle.xh_model.specs.Rows.{row_at};
 ghost use Rattle.xh_model.specs.declared.limits.TheConstants.{CHANNELS, MAX_DEPTH, MAX_MESSAGES};
-ghost use Rattle.xh_channel.specs.ContractEnds.{PutsByLine, TakesByLine};
 ghost use Rattle.xh_channel.specs.Ends.{given_back};
 ghost use Rattle.xh_channel.specs.inner.FreeNumbers.{StandAtTheirNumbers, at_place, has_depth};
 ghost use Rattle.xh_channel.specs.Numbers.{message};
@@ -10,16 +10,17 @@ ghost use Rattle.xh_channel.specs.QueueEnds.{IsNewDirection};
 ghost use Rattle.xh_channel.specs.Queues.{IsSameEnd, KeepsItsMessages, PutsAs, ShutsAs, TakesAs, Unpushed};
 ghost use Rattle.xh_channel.specs.declared.refused.Refused.TheVariants.{OutOfMemory, BadSize, NoChannel};
 
-use crate::channel_end::ChannelEnd;
+use crate::channel_end::{self, ChannelEnd};
 use crate::closed_word::ClosedWords;
 use crate::endpoint::Endpoint;
 use crate::free_numbers::{FreeNumbers, Home};
 use crate::free_pair::FreePair;
+use crate::line_seat::LineSeat;
 use crate::message::Message;
 use crate::queue_end::{ReceivingEnd, SendingEnd, direction};
 use crate::refused::Refused;
-use crate::room::{OwnRoom, Room};
 use crate::spot::Spot;
+use crate::turn::{OwnTurn, Turn};
 use crate::unsent::Unsent;
 use arrayvec::ArrayVec;
 use crossbeam_utils::CachePadded;
@@ -33,22 +34,22 @@ use xh_model::limits::{CHANNELS, MAX_BLOCKS, MAX_DEPTH};
 pub struct Channels {
     depth: u8,
     home: Home,
-    rooms: Vec<OwnRoom>,
+    turns: Vec<OwnTurn>,
     ghost deep: { (1 ≤ depth) × (depth ≤ MAX_DEPTH) },
-    ghost each: { length rooms.items ≡ CHANNELS },
+    ghost each: { length turns.items ≡ CHANNELS },
 }
 
-// Both ends of a direction.
-type Direction = (SendingEnd, ReceivingEnd);
+// What an end sends by, and what it receives by.
+type Queues = (SendingEnd, ReceivingEnd);
 
-// Both directions of a channel.
-fn directions(alloc: Global, depth: usize) -> Result<(Direction, Direction), AllocError>
+// Those of both ends of a channel.
+fn queues(alloc: Global, depth: usize) -> Result<(Queues, Queues), AllocError>
     requires { 0 < depth }
-    ensures { IfOk result (λ d. IsNewDirection depth d.0.0 d.0.1 × IsNewDirection depth d.1.0 d.1.1) }
+    ensures { IfOk result (λ q. IsNewDirection depth q.0.0 q.1.1 × IsNewDirection depth q.1.0 q.0.1) }
 {
     let there = direction(alloc, depth)?;
     let back = direction(alloc, depth)?;
-    Ok((there, back))
+    Ok(((there.0, back.1), (back.0, there.1)))
 }
 
 // Both ends of the channel that is made next.
@@ -57,18 +58,25 @@ fn pair(
     depth: usize,
     words: &mut ClosedWords,
     channel: u8,
-    room: &OwnRoom,
+    turn: &OwnTurn,
 ) -> Result<FreePair, AllocError>
     requires { (0 < depth) × (channel < CHANNELS) × (words.old.next ≡ 2 * channel) }
     ensures { IfOk result (λ p. (p.low.channel ≡ channel) × (p.low.depth ≡ depth) × (words.new.next ≡ 2 * channel + 2)) }
 {
     let low_word = words.next()?;
     let high_word = words.next()?;
-    let (there, back) = directions(alloc, depth)?;
+    let (lows, highs) = queues(alloc, depth)?;
+    let (low_line, high_line) = LineSeat::pair(alloc)?;
     let low_spot = Spot { channel, side: 0 };
-    let low = ChannelEnd::new(low_spot, there.0, back.1, low_word, Arc::try_clone(room)?);
+    let low = ChannelEnd::new(low_spot, lows, low_word, low_line, Arc::try_clone(turn)?);
     let high_spot = Spot { channel, side: 1 };
-    let high = ChannelEnd::new(high_spot, back.0, there.1, high_word, Arc::try_clone(room)?);
+    let high = ChannelEnd::new(
+        high_spot,
+        highs,
+        high_word,
+        high_line,
+        Arc::try_clone(turn)?,
+    );
     Ok(FreePair { low, high })
 }
 
@@ -77,28 +85,28 @@ fn pairs(
     alloc: Global,
     depth: usize,
     words: &mut ClosedWords,
-    rooms: &Vec<OwnRoom>,
+    turns: &Vec<OwnTurn>,
 ) -> Result<Vec<Option<FreePair>>, AllocError>
-    requires { (0 < depth) × (words.old.next ≡ 0) × (length rooms.now.items ≡ CHANNELS) }
+    requires { (0 < depth) × (words.old.next ≡ 0) × (length turns.now.items ≡ CHANNELS) }
     ensures { IfOk result (λ v. (length v.items ≡ CHANNELS) × StandAtTheirNumbers v.items × ((i : ℕ) → i < CHANNELS → has_depth depth (at_place v.items i) ≡ true)) }
 {
     let mut pairs = Vec::with_capacity(alloc, CHANNELS as usize)?;
     for channel in 0..CHANNELS {
-        let room = &rooms[channel as usize];
-        pairs.push(Some(pair(alloc, depth, words, channel, room)?))?;
+        let turn = &turns[channel as usize];
+        pairs.push(Some(pair(alloc, depth, words, channel, turn)?))?;
     }
     Ok(pairs)
 }
 
-// The room of each number.
-fn rooms(alloc: Global) -> Result<Vec<OwnRoom>, AllocError>
+// The turn of each number.
+fn turns(alloc: Global) -> Result<Vec<OwnTurn>, AllocError>
     ensures { IfOk result (λ v. length v.items ≡ CHANNELS) }
 {
-    let mut rooms = Vec::with_capacity(alloc, CHANNELS as usize)?;
+    let mut turns = Vec::with_capacity(alloc, CHANNELS as usize)?;
     for _ in 0..CHANNELS {
-        rooms.push(Arc::new(alloc, CachePadded::new(Room::new()))?)?;
+        turns.push(Arc::new(alloc, CachePadded::new(Turn::new()))?)?;
     }
-    Ok(rooms)
+    Ok(turns)
 }
 
 // The pairs under a lock that all ends share.
@@ -119,12 +127,12 @@ impl Channels {
             return Err(Refused::BadSize);
         }
         let mut words = ClosedWords::new(alloc)?;
-        let rooms = rooms(alloc)?;
-        let pairs = pairs(alloc, depth as usize, &mut words, &rooms)?;
+        let turns = turns(alloc)?;
+        let pairs = pairs(alloc, depth as usize, &mut words, &turns)?;
         Ok(Channels {
             depth,
             home: home(alloc, pairs)?,
-            rooms,
+            turns,
         })
     }
 
@@ -161,15 +169,24 @@ impl Channels {
         contract: Contract,
     ) -> Result<(Endpoint, Endpoint), Refused>
         ensures ok { IfOk result (λ ends. IsPair ends.0 ends.1 × (ends.0.depth ≡ self.now.depth) × (ends.0.has_contract ≡ true)) }
+        ensures contract { IfOk result (λ ends. (ends.0.rows ≡ contract) × (ends.0.state ≡ (row_at contract 0).state)) }
         ensures err { IfErr result (λ r. r ≡ NoChannel) }
     {
         let (low, high) = self.open(rt)?;
-        low.inner.room.begin(rt, contract, self.depth);
-        Ok((low.with_contract(), high.with_contract()))
+        let (first, second) = channel_end::begin(rt, low.inner, high.inner, contract, self.depth);
+        let low = Endpoint {
+            inner: first,
+            ..low
+        };
+        let high = Endpoint {
+            inner: second,
+            ..high
+        };
+        Ok((low, high))
     }
 
     /// The number of a channel that was never used is free again, where it was opened: of a pair of
-    /// another heap's channels it is free there, and no number of these.
+    /// another heap's channels it is free there, and no number of these. A contract is gone with it.
     pub fn cancel<R: Wait>(&self, rt: &R, low: Endpoint, high: Endpoint)
         requires { IsPair low high }
     {
@@ -179,12 +196,13 @@ impl Channels {
         home.lock(rt).cancel(FreePair { low, high });
     }
 
-    /// Puts a message, and answers its number, which is the count of this end's puts.
-    /// PeerClosed where the peer was seen shut, then Full where as many messages as the depth were found
-    /// to wait or the direction has carried 2^62 - 1 of them: this end has put the depth more than it was told were taken. On a channel with a contract Protocol
-    /// comes first, where the contract doesn't allow the message. Each hands the blocks back. After
-    /// PeerClosed the shut end may still take a message with the numbers of these blocks, where it was
-    /// shut between the push and the second look: who has a block is what its owner word says.
+    /// Puts a message, and answers its number, which is the count of this end's puts: it is at the back of what was sent.
+    /// On a channel with a contract the message moves this end's state, and Protocol comes first, exactly where the contract
+    /// doesn't allow the message in that state. Then PeerClosed where the peer was seen shut, then Full where as many messages as
+    /// the depth were found to wait or the direction has carried 2^62 - 1 of them: this end has put the depth more than it was
+    /// told were taken. Each hands the blocks back. After PeerClosed on a channel without a contract the shut end may still take
+    /// a message with the numbers of these blocks, where it was shut between the push and the second look: who has a block is
+    /// what its owner word says.
     pub fn put<R: Wait>(
         &self,
         rt: &R,
@@ -192,7 +210,7 @@ impl Channels {
         tag: u16,
         blocks: ArrayVec<u16, MAX_BLOCKS>,
     ) -> Result<u64, Unsent>
-        ensures put { MatchBool end.old.has_contract (PutsByLine end.old end.new result) (PutsAs end.old end.new tag blocks result) }
+        ensures put { PutsAs end.old end.new tag blocks result }
         ensures last { IfOk result (λ no. no ≤ MAX_MESSAGES) }
         ensures back { IfErr result (λ u. given_back u ≡ blocks) }
         ensures kept { OnErr result (Unpushed end.old end.new (message (suc end.old.counts.put) tag blocks)) }
@@ -201,10 +219,11 @@ impl Channels {
         end.inner.put(rt, tag, blocks)
     }
 
-    /// Takes the message at the front. With none, PeerClosed where the peer was seen shut, and else
-    /// Empty: this end has taken all that it was told were put. An end that was shut still takes what is left.
+    /// Takes the message at the front, which comes next after those that were taken; on a channel with a contract it moves this
+    /// end's state. With none, PeerClosed where the peer was seen shut, and else Empty: this end has taken all that it was told
+    /// were put. An end that was shut still takes what is left.
     pub fn take<R: Wait>(&self, rt: &R, end: &mut Endpoint) -> Result<Message, Refused>
-        ensures taken { MatchBool end.old.has_contract (TakesByLine end.old end.new result) (TakesAs end.old end.new result) }
+        ensures taken { TakesAs end.old end.new result }
         ensures kept { OnErr result (KeepsItsMessages end.old end.new) }
         ensures same { IsSameEnd end.old end.new }
     {
@@ -221,19 +240,19 @@ impl Channels {
     /// The channel's turn rises by one, and all that wait there look again. For whoever ends a process
     /// without shutting its endpoint: the process may wait at the endpoint's spot, and no put comes.
     pub fn rouse<R: Wait>(&self, _rt: &R, spot: Spot) {
-        self.rooms[spot.channel as usize].turn.raise();
+        self.turns[spot.channel as usize].raise();
     }
 
     /// How many puts that succeeded, shuts and calls of `rouse` there were at this channel. At 2^64 - 1 it stays.
     /// To wait for a message, first read the turn, then take, and where nothing waits call `wait` with
     /// the turn that was read: a put between the take and the `wait` isn't slept through.
     pub fn turn<R: Wait>(&self, _rt: &R, spot: Spot) -> u64 {
-        self.rooms[spot.channel as usize].turn.count()
+        self.turns[spot.channel as usize].count()
     }
 
     /// Returns where the channel's turn isn't `seen`, and at once where it is 2^64 - 1. Only a put that
     /// succeeds, a shut and `rouse` end a wait: nothing else that happens to the waiter's process does.
     pub fn wait<R: Wait>(&self, rt: &R, spot: Spot, seen: u64) {
-        self.rooms[spot.channel as usize].turn.wait(rt, seen);
+        self.turns[spot.channel as usize].wait(rt, seen);
     }
 }

@@ -56,6 +56,38 @@ impl Join<Sight> for HearsShut {
     ghost spent = { sight 0 0 false false };
 }
 
+/// A new seat tells what this one saw of its peer.
+pub struct TellsSeen;
+
+impl Split<Sight> for TellsSeen {
+    ghost use Rattle.xh_channel.specs.inner.ClosedWords.{seen_told};
+
+    ghost left = { λ v. v };
+
+    ghost right = { seen_told };
+}
+
+/// The peer's own seat hears what was seen of it, and stays. Were it not so, it would have a sight that no words show.
+pub struct HearsSeen;
+
+impl Join<Sight> for HearsSeen {
+    ghost use Rattle.std.specs.Prelude.{false};
+    ghost use Rattle.xh_channel.specs.inner.ClosedWords.{sight, hearing_seen};
+
+    ghost both = { hearing_seen };
+
+    ghost spent = { sight 0 0 false false };
+}
+
+/// A load, by a seat whose sight some words show.
+pub struct Shown;
+
+impl Play<(), Sight> for Shown {
+    ghost use Rattle.xh_channel.specs.inner.ClosedWords.{IsShown};
+
+    ghost then = { IsShown };
+}
+
 /// The seat's word is 1 now.
 pub struct Shuts;
 

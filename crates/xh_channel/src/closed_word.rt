@@ -3,7 +3,9 @@ ghost use Rattle.std.specs.Prelude.{◌≡◌, ◌+◌, ◌<◌, ◌||◌, true,
 ghost use Rattle.xh_model.specs.declared.limits.TheConstants.{DIRECTIONS};
 ghost use Rattle.xh_channel.specs.inner.ClosedWords.{own_shut, peer, peer_seen_shut};
 
-use crate::closed_rule::{HearsShut, Looks, OneWord, Shuts, Sight, TellsShut, Words};
+use crate::closed_rule::{
+    HearsSeen, HearsShut, Looks, OneWord, Shown, Shuts, Sight, TellsSeen, TellsShut, Words,
+};
 use atomic_table::{Seat, Table};
 use std::alloc::{AllocError, Global};
 use std::marker::Model;
@@ -127,6 +129,18 @@ impl ClosedWord {
         table
             .shared
             .join_seat::<HearsShut>(&mut self.seat, note.seat);
+    }
+
+    /// Shows that where it saw its peer shut, or was told so, the peer was shut.
+    pub fn agree(&mut self, other: &mut ClosedWord)
+        requires { (other.old.table ≡ self.old.table) × (other.old.word ≡ peer self.old.word) }
+        ensures same { (self.new ≡ self.old) × (other.new ≡ other.old) }
+        ensures shut { self.old.peer_shut ≡ true → other.old.shut ≡ true }
+    {
+        let table = &self.words;
+        let seen = table.shared.split_seat::<TellsSeen>(&mut self.seat);
+        table.shared.join_seat::<HearsSeen>(&mut other.seat, seen);
+        table.shared.load::<Shown>(&mut other.seat, 0);
     }
 
     /// Whether the peer's word is 1.

@@ -1,9 +1,7 @@
 //! One end of a channel.
-ghost use Rattle.std.specs.Prelude.{◌≡◌, ◌<◌, ◌≤◌, true, false, List, length};
+ghost use Rattle.std.specs.Prelude.{◌≡◌, ◌<◌};
 ghost use Rattle.xh_model.specs.declared.limits.TheConstants.{CHANNELS};
-ghost use Rattle.xh_channel.specs.Directions.{WaitsAfter};
-ghost use Rattle.xh_channel.specs.Ends.{no_counts};
-ghost use Rattle.xh_channel.specs.Notes.{IsOfPeer, hearing, told_by};
+ghost use Rattle.xh_channel.specs.Notes.{AgreesWith, ArePeers, IsOfPeer, hearing, told_by};
 
 use crate::channel_end::{self, ChannelEnd};
 use crate::free_numbers::Home;
@@ -28,26 +26,24 @@ impl Model for Endpoint {
     ghost view = { λ e. e.inner };
 }
 
-/// Shows, of both ends of a direction, that what one took is a prefix of what the other pushed, each message once, with the numbers 1, 2, .. in order.
-/// It takes both ends and gives them back, each told of all that the other did. All that the one pushed it also sent, but for a
-/// message that met a shut peer.
-pub fn compare(from: Endpoint, to: Endpoint) -> (Endpoint, Endpoint)
-    requires { to.into ≡ from.out }
-    ensures told { (result.0 ≡ record from { told_taken = length to.got }) × (result.1 ≡ record to { told_put = length from.pushed }) }
-    ensures grows { (from.told_taken ≤ length to.got) × (to.told_put ≤ length from.pushed) }
-    ensures prefix { (items : List Message) × WaitsAfter from.pushed to.got items }
-    ensures sent { from.peer_shut ≡ false → from.pushed ≡ from.sent }
+/// Shows, of both ends of a channel, that what each took is a prefix of what the other pushed, each message once, with the numbers 1, 2, .. in order.
+/// It takes both ends and gives them back, each told of all that the other did, as by a note of the other. What an end was told before is no more
+/// than that. All that an end pushed it also sent, but for a message that met a shut peer.
+pub fn compare(one: Endpoint, other: Endpoint) -> (Endpoint, Endpoint)
+    requires { ArePeers one other }
+    ensures told { (result.0 ≡ hearing one (told_by other)) × (result.1 ≡ hearing other (told_by one)) }
+    ensures agree { AgreesWith one other × AgreesWith other one }
 {
-    let (sender, receiver) = channel_end::compare(from.inner, to.inner);
-    let from = Endpoint {
-        inner: sender,
-        ..from
+    let (first, second) = channel_end::compare(one.inner, other.inner);
+    let one = Endpoint {
+        inner: first,
+        ..one
     };
-    let to = Endpoint {
-        inner: receiver,
-        ..to
+    let other = Endpoint {
+        inner: second,
+        ..other
     };
-    (from, to)
+    (one, other)
 }
 
 impl Endpoint {
@@ -65,7 +61,7 @@ impl Endpoint {
         self.inner.has_contract()
     }
 
-    /// How much it put and took until now, and whether it was shut, for its peer to hear.
+    /// How much it put and took until now, whether it was shut, and whether its channel has a contract, for its peer to hear.
     pub fn note(&mut self) -> Note
         ensures told { result ≡ told_by self.old }
         ensures same { self.new ≡ self.old }
@@ -75,22 +71,12 @@ impl Endpoint {
 
     /// Hears a note of its peer. From then on a take finds nothing only where as much was taken as the note says was put, a put
     /// finds no room only where as many messages as the depth were put beyond those that the note says were taken, and no put
-    /// succeeds where the note says that the peer was shut.
+    /// succeeds where the note says that the peer was shut. To an end of a channel with a contract a note of one without tells
+    /// nothing, nor the other way: the pair was given back in between, and opened anew.
     pub fn hear(&mut self, note: Note)
         requires { IsOfPeer note self.old }
         ensures { self.new ≡ hearing self.old note }
     {
         self.inner.hear(note);
-    }
-
-    // The channel gets a contract.
-    pub(crate) fn with_contract(self) -> Endpoint
-        requires { (self.has_contract ≡ false) × (self.counts ≡ no_counts) }
-        ensures { result ≡ record self { has_contract = true } }
-    {
-        Endpoint {
-            inner: self.inner.with_contract(),
-            ..self
-        }
     }
 }

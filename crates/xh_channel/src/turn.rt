@@ -1,11 +1,13 @@
 //! A channel's turn, and what its waiters sleep on. No step takes a lock.
 ghost use Rattle.std.specs.Prelude.{◌≡◌};
-ghost use Rattle.xh_channel.specs.inner.Rooms.{is_waited_for};
+ghost use Rattle.xh_channel.specs.inner.Turns.{is_waited_for};
 
+use crossbeam_utils::CachePadded;
+use std::alloc::Global;
 use std::hint;
-use std::sync::Wait;
 use std::sync::atomic::AtomicU64;
 use std::sync::atomic::Ordering::SeqCst;
+use std::sync::{Arc, Wait};
 
 /// How often a waiter looks at the turn before it sleeps.
 const LOOKS: u16 = 400;
@@ -23,6 +25,9 @@ pub struct Turn {
     count: AtomicU64,
     bell: AtomicU64,
 }
+
+/// A channel's turn, which its ends know. It lies on cache lines of its own, for threads on channels side by side.
+pub type OwnTurn = Arc<CachePadded<Turn>, Global>;
 
 // Whether a call that saw the turn `seen` goes on waiting.
 fn is_waited_for(turn: u64, seen: u64) -> bool

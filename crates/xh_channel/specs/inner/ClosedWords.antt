@@ -1,5 +1,5 @@
 -- The closed words: each is 0 or 1, one seat alone stores it, and a seat that saw its peer's word at 1 knows that it stays.
-use Rattle.std.specs.Prelude.{◌≡◌, ◌≢◌, ◌⊎◌, ℕ, suc, ◌-◌, ◌*◌, ◌%◌, ◌<◌, ◌≤◌, Bool, true, false, ◌||◌, List, []}
+use Rattle.std.specs.Prelude.{◌≡◌, ◌≢◌, ◌⊎◌, ℕ, suc, ◌-◌, ◌*◌, ◌%◌, ◌<◌, ◌≤◌, Bool, true, false, not, cond, ◌&&◌, ◌||◌, List, []}
 use mathlib.Core.Option.{some}
 use lib.ListN.{get_elem?}
 use Rattle.atomic_table.specs.Seated.{TableId}
@@ -25,6 +25,10 @@ module _ (keeper : ℕ → ℕ) (words : List ℕ) (id : ℕ) (v : Sight) where
   abbrev pub FitsSight : Type 0
   FitsSight = Keeps × (v.peer_shut ≡ true → get_elem? words (peer v.from) ≡ some 1)
 
+-- no words show this: word 1 is 0 as its own, and 1 as its peer's
+abbrev pub never_shown : Sight
+never_shown = sight 0 2 false true
+
 module _ {S : Type 0} where
   abbrev pub Shows : State S Sight → Type 0
   Shows s = (keeper : ℕ → ℕ) × ((w n : ℕ) → get_elem? s.words w ≡ some n → (n ≡ 0) ⊎ (n ≡ 1))
@@ -32,6 +36,9 @@ module _ {S : Type 0} where
 
   abbrev pub Shut : Step S → Me S Sight → ℕ → Me S Sight → Type 0
   Shut st m r m' = m' ≡ (sight m.0.from m.0.upto true m.0.peer_shut, m.1)
+
+  abbrev pub IsShown : Step S → Me S Sight → ℕ → Me S Sight → Type 0
+  IsShown st m r m' = (m' ≡ m) × (m.0 ≢ never_shown)
 
   abbrev pub Looked : Step S → Me S Sight → ℕ → Me S Sight → Type 0
   Looked st m r m' = (r ≡ 1 → m' ≡ (sight m.0.from m.0.upto m.0.shut true, m.1)) × (r ≢ 1 → (m' ≡ m) × (m.0.peer_shut ≡ false))
@@ -49,6 +56,14 @@ shut_told v = sight (peer v.from) (peer v.from) false v.shut
 -- it knows of its peer what the other knows of the same one
 abbrev pub hearing_shut : Sight → Sight → Sight
 hearing_shut v w = sight v.from v.upto v.shut (v.peer_shut || w.peer_shut)
+
+-- what a seat saw of its peer is told. It has no word to store
+abbrev pub seen_told : Sight → Sight
+seen_told v = sight v.from v.from false v.peer_shut
+
+-- a seat stays, unless it was seen shut and isn't, which never is so
+abbrev pub hearing_seen : Sight → Sight → Sight
+hearing_seen v w = cond (w.peer_shut && not v.shut) never_shown v
 
 -- what contracts see of the closed words: which table, and the first word that no end has yet
 pub record ClosedRest : Type 0 where

@@ -1,5 +1,5 @@
 //! What a table of calls doesn't show: all blocks of a message, and what a caller knows after a refusal.
-ghost use Rattle.std.specs.Prelude.{◌≡◌, true, false};
+ghost use Rattle.std.specs.Prelude.{◌≡◌, true};
 ghost use Rattle.xh_channel.specs.Queues.{IsSameEnd};
 
 use super::answers::{Answer, Ends, of_put};
@@ -26,7 +26,6 @@ pub(super) fn assert_all_blocks<R: Wait + Abort>(rt: &R, channels: &Channels, en
 
 // Whether a put found the direction full: then as much was pushed as before.
 fn finds_full<R: Wait>(rt: &R, channels: &Channels, end: &mut Endpoint) -> bool
-    requires { end.old.has_contract ≡ false }
     ensures kept { result ≡ true → end.new.pushed ≡ end.old.pushed }
     ensures same { IsSameEnd end.old end.new }
 {
@@ -38,7 +37,6 @@ fn finds_full<R: Wait>(rt: &R, channels: &Channels, end: &mut Endpoint) -> bool
 
 // Whether a take found nothing: then as much was taken as before.
 fn finds_nothing<R: Wait>(rt: &R, channels: &Channels, end: &mut Endpoint) -> bool
-    requires { end.old.has_contract ≡ false }
     ensures kept { result ≡ true → end.new.got ≡ end.old.got }
     ensures same { IsSameEnd end.old end.new }
 {
@@ -49,9 +47,7 @@ fn finds_nothing<R: Wait>(rt: &R, channels: &Channels, end: &mut Endpoint) -> bo
 }
 
 /// A caller keeps what it knew of a direction over a put and a take that are refused.
-pub(super) fn assert_refusals<R: Wait + Abort>(rt: &R, channels: &Channels, ends: &mut Ends)
-    requires { (ends.old.low.has_contract ≡ false) × (ends.old.high.has_contract ≡ false) }
-{
+pub(super) fn assert_refusals<R: Wait + Abort>(rt: &R, channels: &Channels, ends: &mut Ends) {
     let first = finds_full(rt, channels, &mut ends.low);
     let second = finds_full(rt, channels, &mut ends.low);
     assert_eq!(rt; (first, second), (false, true));

@@ -1,5 +1,5 @@
 //! Channels that go by a contract.
-ghost use Rattle.std.specs.Prelude.{IfOk};
+ghost use Rattle.std.specs.Prelude.{◌≡◌, true, IfOk};
 ghost use Rattle.xh_channel.specs.Pairs.{IsPair};
 
 use super::answers::Answer::{self, Refused as No, Sent, Shut as Closed, Taken, Turn};
@@ -33,7 +33,7 @@ const REQUEST_AND_REPLY: &[Row] = &[
 ];
 
 // Side 0 sends any number of messages of tag 1.
-const ONE_WAY: &[Row] = &[Row {
+pub(super) const ONE_WAY: &[Row] = &[Row {
     state: 0,
     tag: 1,
     side: 0,
@@ -48,8 +48,13 @@ fn contract_of(rt: &impl Abort, rows: &[Row]) -> Contract {
 }
 
 // Both ends of the next channel, which goes by the contract.
-fn next_with<R: Wait + Abort>(rt: &R, channels: &Channels, rows: &[Row]) -> Result<Ends, Refused>
-    ensures { IfOk result (λ e. IsPair e.low e.high) }
+pub(super) fn next_with<R: Wait + Abort>(
+    rt: &R,
+    channels: &Channels,
+    rows: &[Row],
+) -> Result<Ends, Refused>
+    ensures pair { IfOk result (λ e. IsPair e.low e.high) }
+    ensures ruled { IfOk result (λ e. (e.low.has_contract ≡ true) × (e.high.has_contract ≡ true)) }
 {
     let (low, high) = channels.open_with(rt, contract_of(rt, rows))?;
     Ok(Ends { low, high })

@@ -1,7 +1,10 @@
 //! Which channel opens, and both ends compared.
+ghost use Rattle.xh_channel.specs.Pairs.{IsPair};
+
 use super::answers::Answer::{self, Sent, Taken};
 use super::answers::Call::{self, Put, Take};
 use super::answers::{Ends, assert_answers, next_ends};
+use super::lines::{ONE_WAY, next_with};
 use std::alloc::Global;
 use std::process::Abort;
 use std::sync::Wait;
@@ -59,23 +62,32 @@ pub(super) fn assert_goes_back<R: Wait + Abort>(
     cancelled
 }
 
-/// Both ends go on after they were compared.
-pub(super) fn assert_compared<R: Wait + Abort>(rt: &R, channels: &Channels) -> Result<(), Refused> {
+// Both ends go on after they were compared.
+fn assert_compared_ends<R: Wait + Abort>(rt: &R, channels: &Channels, mut ends: Ends)
+    requires { IsPair ends.low ends.high }
+{
     const BEFORE: &[(u8, Call, Answer)] = &[
-        (0, Put(5, Some(7)), Sent(1)),
-        (0, Put(6, Some(8)), Sent(2)),
-        (1, Take, Taken(1, 5, Some(7))),
+        (0, Put(1, Some(7)), Sent(1)),
+        (0, Put(1, Some(8)), Sent(2)),
+        (1, Take, Taken(1, 1, Some(7))),
     ];
     const AFTER: &[(u8, Call, Answer)] = &[
-        (0, Put(7, Some(9)), Sent(3)),
-        (1, Take, Taken(2, 6, Some(8))),
-        (1, Take, Taken(3, 7, Some(9))),
+        (0, Put(1, Some(9)), Sent(3)),
+        (1, Take, Taken(2, 1, Some(8))),
+        (1, Take, Taken(3, 1, Some(9))),
     ];
-    let mut ends = next_ends(rt, channels)?;
     assert_answers(rt, channels, &mut ends, BEFORE);
-    let (low, high) = compare(ends.low, ends.high);
+    let (high, low) = compare(ends.high, ends.low);
     let mut ends = Ends { low, high };
     assert_answers(rt, channels, &mut ends, AFTER);
     drop(ends);
+}
+
+/// So it is on a channel without a contract, and on one with.
+pub(super) fn assert_compared<R: Wait + Abort>(rt: &R, channels: &Channels) -> Result<(), Refused> {
+    let queued = next_ends(rt, channels)?;
+    assert_compared_ends(rt, channels, queued);
+    let lined = next_with(rt, channels, ONE_WAY)?;
+    assert_compared_ends(rt, channels, lined);
     Ok(())
 }

@@ -1,13 +1,11 @@
 //! What is done on new channels. One function makes and drops them, and one the ends that are used.
-ghost use Rattle.std.specs.Prelude.{◌≡◌, false};
-
 use super::answers::{Answer, Call, Ends, assert_on_next, next_ends};
 use super::ends::{assert_all_blocks, assert_refusals};
 use super::lines::{
     assert_all_open_with, assert_contract_gone, assert_exchange, assert_full_at, assert_line_puts,
     assert_line_shuts, assert_own_rooms,
 };
-use super::notes::{assert_put_heard, assert_shut_heard};
+use super::notes::{assert_line_put_heard, assert_put_heard, assert_shut_heard};
 use super::opening::{assert_all_open, assert_compared, assert_free_again, assert_goes_back};
 use super::order::{assert_put_before_turn, assert_shut_before_turn};
 use super::threads::{assert_in_order, assert_last_comes, assert_put_and_shut};
@@ -55,6 +53,7 @@ pub(super) enum Scene {
     LineShutThenTurn,
     OwnRooms,
     PutHeard,
+    LinePutHeard,
     ShutHeard,
 }
 
@@ -64,9 +63,7 @@ fn act_at<R: Clock + Threads + Wait + Abort + Sync>(
     ends: &mut Ends,
     act: Act,
     at: u8,
-)
-    requires { (ends.old.low.has_contract ≡ false) × (ends.old.high.has_contract ≡ false) }
-{
+) {
     let at = u64::from(at);
     match act {
         Act::AllBlocks => assert_all_blocks(rt, channels, ends),
@@ -136,6 +133,7 @@ fn play_on<R: Clock + Threads + Wait + Abort + Sync>(
         Scene::LineShutThenTurn => assert_line_shuts(rt, channels),
         Scene::OwnRooms => assert_own_rooms(rt, alloc, channels),
         Scene::PutHeard => assert_put_heard(rt, channels),
+        Scene::LinePutHeard => assert_line_put_heard(rt, channels),
         Scene::ShutHeard => assert_shut_heard(rt, channels),
     }
 }

@@ -1,5 +1,6 @@
 use Rattle.std.proofs.Common.{◌∙◌, ap, inr, ◌++◌, ◌∷◌, []}
 use Rattle.xh_channel.specs.Numbers.{message}
+use Rattle.xh_channel.proofs.Ends.{state_stays}
 use Rattle.xh_channel.proofs.channel_end.ChannelEnd.put_on_queue.Goals as goal
 
 pub returns-then-not-stays_sent-clause-refused : goal.returns-then-not-stays_sent-clause-refused
@@ -18,6 +19,8 @@ returns-then-not-stays_sent-clause-refused g c =
           out = ends.out ∙ same.out;
           into = ends.into ∙ same.into;
           closed = ends.closed ∙ same.closed;
+          line = ends.line ∙ same.line;
+          rows = ends.rows ∙ same.rows;
           told_put = ends.told_put ∙ same.told_put;
           told_taken = ends.told_taken ∙ same.told_taken;
         },
@@ -25,5 +28,6 @@ returns-then-not-stays_sent-clause-refused g c =
         un.got ∙ went.0.2,
         λ _. un.closed,
       ),
+      un.state ∙ state_stays _ _ _ _ c.requires went.3,
       inr (un.pushed ∙ (went.1 ∙ ap (λ n. c.args.self.now.pushed ++ message n c.args.tag c.args.blocks ∷ []) sent.0), un.closed),
     )

@@ -1,0 +1,391 @@
+-- Each step on a line's word keeps the rule.
+use Rattle.std.proofs.Common.{◌≡◌, ◌≢◌, ◌⊎◌, inl, inr, ℕ, zero, suc, ◌-◌, ◌≤◌, max, ◌||◌, Bool, true, false, true≢false, List, [], ◌∷◌, length, set}
+use Rattle.std.proofs.Common.{sym, refl, ap, ◌∙◌, subst, ⊎_elim, replicate, eqb, eq-eqb, ne_eqb, arith}
+use Rattle.std.specs.Prelude.{slice_index, Option, Some, None}
+use mathlib.Core.Option.{some, none}
+use mathlib.Core.Option as maybe
+use mathlib.Core.Logic.{dite}
+use native.Mathlib.Decide.{ℕ_discrete}
+use lib.ListN.{get_elem?}
+use prog.Atomic.{either}
+use Rattle.atomic_table.specs.Table.{Me, step, keeps, takes, gives, put_back, carried_after, Allows, Splits, Joins, opening}
+use Rattle.atomic_table.proofs.Lists.{at_set, exchanged}
+use Rattle.xh_channel.specs.declared.counts.Counts.{Counts}
+use Rattle.xh_channel.specs.declared.line_rule.Account.{Account}
+use Rattle.xh_channel.specs.declared.line_rule.Part.{Part}
+use Rattle.xh_channel.specs.Lines.{Lined, waiting}
+use Rattle.xh_channel.specs.Ends.{no_counts}
+use Rattle.xh_channel.specs.inner.LineRule.{by, IsTold, Grows, IsSettled, own_by, peer_by, settled, seen, Settled, Seen, IsTaken, Lies, LiesFor, Truth, IsHome, IsOut, Owns, Fits, Kept, no_account, counts_in, both_sides, no_part, low_side, high_side, joined, telling, hearing, holding, Locked, Compared}
+use Rattle.xh_channel.proofs.Views.{Every, every_set, every_snoc, one_view}
+
+abbrev S : Type 0
+S = Option Lined
+
+abbrev M : Type 0
+M = Me S Part
+
+-- by a side's own account and its peer's, each side has its own
+lies_turned : (k : ℕ) (line : S) (low high : Account) → Lies line low high → LiesFor k line (by k low high) (by k high low)
+lies_turned zero line low high l = l
+lies_turned (suc k) line low high l = l
+
+predecessor : (n : ℕ) → n ≢ 0 → (m : ℕ) × (n ≡ suc m)
+predecessor zero ne = absurd (ne refl)
+predecessor (suc m) ne = (m, refl)
+
+-- where a compare with 0 finds another number, that stays
+pub not_home : (n : ℕ) → either (eqb n 0) 1 n ≢ 0
+not_home n = exchanged n 0 1 (λ x. x ≢ 0) (λ _ e. omega arith) (λ ne. ne)
+
+-- another seat's view stays true where the holder changes between no seat and this one, and it doesn't hold the line
+abbrev held_by : Truth → ℕ → Truth
+held_by t h = record t { holder = h }
+
+not_holder : (id j : ℕ) → j ≢ id → eqb (suc id) (suc j) ≡ false
+not_holder id j other = ne_eqb (suc id) (suc j) (λ e. other (omega arith))
+
+no_holder : (j : ℕ) → eqb 0 (suc j) ≡ false
+no_holder j = ne_eqb 0 (suc j) (λ e. omega arith)
+
+pub locks : (slots id : ℕ) (me : M) (f : ℕ → ℕ) (a b : ℕ) → ((n : ℕ) → f n ≢ 0) → me.0.owns ≡ true
+    → Allows Kept slots id me 0 f (Locked (step slots 0 a b none) me)
+locks slots id me f a b out owns s h long at small =
+    let v : Part = me.0 in
+    let t : Truth = h.0 in
+    let o : Owns t id v = (h.2 id v at).0 owns in
+    let next : ℕ = f (slice_index s.words 0) in
+    let m = predecessor next (out (slice_index s.words 0)) in
+    ⊎_elim
+    (λ (home : IsHome t s.words s.homes).
+    let others : List ℕ = home.0 in let line : S = home.1 in let words = home.2 in let homes = home.3 in let free = home.4 in
+    let peer : Account = by v.side t.high t.low in
+    let w : Part = holding v peer in
+    let t' : Truth = held_by t (suc id) in
+    let none_holds : (j : ℕ) (u : Part) → Owns t j u → u.holds ≡ false = λ j u x. x.holds ∙ ap (λ n. eqb n (suc j)) free ∙ no_holder j in (
+      w,
+      takes 0 line,
+      ap (λ l. get_elem? l 0) homes,
+      (
+        t',
+        inr (m.0, others, v.side, ap (λ l. set l 0 next) words ∙ ap (λ n. n ∷ others) m.1, ap (λ l. set l 0 none) homes, ap suc (sym o.seat)),
+        every_set (Fits t') s.views id w
+            ((λ _. record { seat = o.seat; own = o.own; holds = sym (eq-eqb (suc id) (suc id) refl); knows = λ _. refl; both = λ p. ((o.both p).0, refl) }), (h.2 id v at).1, (h.2 id v at).2)
+            (λ j u other e. let g = h.2 j u e in
+            ((λ p. let x = g.0 p in record { seat = x.seat; own = x.own; holds = none_holds j u x ∙ sym (not_holder id j other); knows = x.knows; both = x.both }), g.1, g.2)),
+      ),
+      (
+        (λ _. (
+          line,
+          peer,
+          refl,
+          subst (λ own. LiesFor v.side line own peer) o.own (lies_turned v.side line t.low t.high home.5),
+          (h.2 id v at).1,
+          λ p. (o.both p).1,
+        )),
+        λ ne. absurd (ne (ap (λ l. slice_index l 0) words)),
+      ),
+    ))
+    (λ (gone : IsOut t s.words s.homes).
+    let found : slice_index s.words 0 ≡ suc gone.0 = ap (λ l. slice_index l 0) gone.3 in (
+      v,
+      keeps,
+      tt,
+      (
+        t,
+        inr (m.0, gone.1, gone.2, ap (λ l. set l 0 next) gone.3 ∙ ap (λ n. n ∷ gone.1) m.1, gone.4, gone.5),
+        every_set (Fits t) s.views id v (h.2 id v at) (λ j u _ e. h.2 j u e),
+      ),
+      ((λ zero_is. absurd (omega arith)), λ _. refl),
+    ))
+    h.1
+
+told_more : (c : Counts) (a b : Account) → Grows a b → IsTold c a → IsTold c b
+told_more c a b g t = let put = t.0 in let taken = t.1 in let p = g.0 in let q = g.1 in (omega arith, omega arith, λ e. g.2 (t.2 e))
+
+-- the accounts of a side and of its peer, by side
+own_back : (k : ℕ) (own peer : Account) → by k (by k own peer) (by k peer own) ≡ own
+own_back zero own peer = refl
+own_back (suc k) own peer = refl
+
+peer_back : (k : ℕ) (own peer : Account) → by k (by k peer own) (by k own peer) ≡ peer
+peer_back zero own peer = refl
+peer_back (suc k) own peer = refl
+
+-- each side goes on, where a side and its peer do
+both_grow : (k : ℕ) (low high own peer : Account) → Grows (by k low high) own → Grows (by k high low) peer → Grows low (by k own peer) × Grows high (by k peer own)
+both_grow zero low high own peer a b = (a, b)
+both_grow (suc k) low high own peer a b = (b, a)
+
+told_by_side : (k : ℕ) (c : Counts) (low high low' high' : Account) → Grows low low' → Grows high high' → IsTold c (by k low high) → IsTold c (by k low' high')
+told_by_side zero c low high low' high' a b t = told_more c low low' a t
+told_by_side (suc k) c low high low' high' a b t = told_more c high high' b t
+
+-- a seat of a side has another account than the seat of the other side: that of the other stays, where its peer's does, or where one seat has both
+elsewhere : (k j low high : ℕ) (a b own peer : Account) → by j low high ≢ by k low high → (peer ≡ by k b a) ⊎ (by k high low ≡ by k low high) → by j (by k own peer) (by k peer own) ≡ by j a b
+elsewhere zero zero low high a b own peer n p = absurd (n refl)
+elsewhere (suc k) (suc j) low high a b own peer n p = absurd (n refl)
+elsewhere zero (suc j) low high a b own peer n p = ⊎_elim (λ e. e) (λ e. absurd (n e)) p
+elsewhere (suc k) zero low high a b own peer n p = ⊎_elim (λ e. e) (λ e. absurd (n e)) p
+
+one_seat : (k j low high id : ℕ) → by j low high ≡ id → by j high low ≡ id → by k low high ≡ id
+one_seat zero zero low high id p q = p
+one_seat zero (suc j) low high id p q = q
+one_seat (suc k) zero low high id p q = q
+one_seat (suc k) (suc j) low high id p q = p
+
+holder_is : (n id : ℕ) → eqb n (suc id) ≡ true → n ≡ suc id
+holder_is n id e = dite (ℕ_discrete n (suc id)) (λ p. p) (λ ne. absurd (true≢false (sym e ∙ ne_eqb n (suc id) ne)))
+
+-- the line goes back, by the seat that holds it: its own account goes on, its peer's stays or is its own as well
+pub gives_back : (slots id : ℕ) (me : M) (line : Lined) (own peer : Account) (told : Counts) → me.1 ≡ (0, Some line) ∷ [] → me.0.owns ≡ true → me.0.holds ≡ true
+    → LiesFor me.0.side (Some line) own peer → Grows me.0.own own → Grows me.0.peer peer → (peer ≡ me.0.peer) ⊎ (me.0.both ≡ true) → IsTold told peer
+    → Allows Kept slots id me 0 (λ _. 0) (λ n m. m ≡ (record me.0 { holds = false; own = own; peer = peer; told = told }, []))
+gives_back slots id me line own peer told front owns holds lies own_grows peer_grows stays is_told s h long at small =
+    let v : Part = me.0 in
+    let k : ℕ = v.side in
+    let t : Truth = h.0 in
+    let mine = h.2 id v at in
+    let o : Owns t id v = mine.0 owns in
+    let holder : t.holder ≡ suc id = holder_is t.holder id (sym o.holds ∙ holds) in
+    let others : (ws : List ℕ) × (n : ℕ) × (s.words ≡ n ∷ ws) = ⊎_elim (λ (x : IsHome t s.words s.homes). (x.0, 0, x.2)) (λ (x : IsOut t s.words s.homes). (x.1, suc x.0, x.3)) h.1 in
+    let slot : (x : maybe.Option S) × (s.homes ≡ x ∷ []) = ⊎_elim (λ (x : IsHome t s.words s.homes). (some x.1, x.3)) (λ (x : IsOut t s.words s.homes). (none, x.4)) h.1 in
+    let low : Account = by k own peer in
+    let high : Account = by k peer own in
+    let t' : Truth = record { low_seat = t.low_seat; high_seat = t.high_seat; holder = 0; low = low; high = high } in
+    let w : Part = record v { holds = false; own = own; peer = peer; told = told } in
+    let grow : Grows t.low low × Grows t.high high = both_grow k t.low t.high own peer (subst (λ a. Grows a own) (sym o.own) own_grows) (subst (λ a. Grows a peer) (sym (o.knows holds)) peer_grows) in
+    let same : (peer ≡ by k t.high t.low) ⊎ (by k t.high_seat t.low_seat ≡ by k t.low_seat t.high_seat) =
+    ⊎_elim (λ e. inl (e ∙ sym (o.knows holds))) (λ p. inr ((o.both p).0 ∙ sym o.seat)) stays in (
+      w,
+      gives,
+      tt,
+      (
+        t',
+        inl (others.0, Some line, ap (λ l. set l 0 0) others.2, (λ i. put_back (slot.1 i) (front i)), refl, lies),
+        every_set (Fits t') s.views id w (
+          (λ _. record { seat = o.seat; own = own_back k own peer; holds = sym (no_holder id); knows = λ p. absurd (true≢false (sym p)); both = λ p. ((o.both p).0, peer_back k own peer) }),
+          subst (IsTold told) (sym (peer_back k own peer)) is_told,
+          told_by_side k v.peer_told t.low t.high low high grow.0 grow.1 mine.2,
+        )
+            (λ j u other e. let f = h.2 j u e in (
+              (λ p. let x : Owns t j u = f.0 p in let apart : by u.side t.low_seat t.high_seat ≢ by k t.low_seat t.high_seat = λ q. other (sym x.seat ∙ q ∙ o.seat) in
+                  let idle : u.holds ≡ false = x.holds ∙ ap (λ n. eqb n (suc j)) holder ∙ not_holder id j other in record {
+                    seat = x.seat;
+                    own = elsewhere k u.side t.low_seat t.high_seat t.low t.high own peer apart same ∙ x.own;
+                    holds = idle ∙ sym (no_holder j);
+                    knows = λ q. absurd (true≢false (sym q ∙ idle));
+                    both = λ q. absurd (other (sym (one_seat k u.side t.low_seat t.high_seat j x.seat (x.both q).0) ∙ o.seat));
+                  }),
+              told_by_side u.side u.told t.high t.low high low grow.1 grow.0 f.1,
+              told_by_side u.side u.peer_told t.low t.high low high grow.0 grow.1 f.2,
+            )),
+      ),
+      ap (λ l. (w, carried_after l gives)) front,
+    )
+
+either_true : (a b : Bool) → a || b ≡ true → (a ≡ true) ⊎ (b ≡ true)
+either_true true b e = inl refl
+either_true false b e = inr e
+
+-- gives it back as it is now
+pub settles : (slots id : ℕ) (me : M) (line : Lined) → me.1 ≡ (0, Some line) ∷ [] → me.0.owns ≡ true → me.0.holds ≡ true → IsSettled me.0 line
+    → Allows Kept slots id me 0 (λ _. 0) (Settled (step slots 0 0 0 none) me)
+settles slots id me line front owns holds is s h long at small =
+    let v : Part = me.0 in
+    let r = gives_back slots id me line (own_by v line) (peer_by v line) v.told front owns holds is.0 is.1 (omega arith, omega arith, λ p. p) is.2 is.3 s h long at small in
+    (r.0, r.1, r.2, r.3, r.4 ∙ ap (λ l. (settled v l, [])) (sym front))
+
+-- gives it back as it was
+pub sees : (slots id : ℕ) (me : M) (line : Lined) → me.1 ≡ (0, Some line) ∷ [] → me.0.owns ≡ true → me.0.holds ≡ true → LiesFor me.0.side (Some line) me.0.own me.0.peer → IsTold me.0.told me.0.peer
+    → Allows Kept slots id me 0 (λ _. 0) (Seen (step slots 0 0 0 none) me)
+sees slots id me line front owns holds lies told =
+    let v : Part = me.0 in
+    gives_back slots id me line v.own v.peer (seen v).told front owns holds lies (omega arith, omega arith, λ p. p) (omega arith, omega arith, λ p. p) (inl refl)
+    (told.0, told.1, λ e. ⊎_elim told.2 (λ p. p) (either_true v.told.shut v.peer.shut e))
+
+holds_it : (t : Truth) (id : ℕ) (v : Part) → Owns t id v → t.holder ≡ suc id → v.holds ≡ true
+holds_it t id v o e = o.holds ∙ ap (λ n. eqb n (suc id)) e ∙ eq-eqb (suc id) (suc id) refl
+
+nothing_told : (a : Account) → IsTold no_counts a
+nothing_told a = (omega arith, omega arith, λ p. absurd (true≢false (sym p)))
+
+all_told : (a : Account) → IsTold (counts_in a) a
+all_told a = (omega arith, omega arith, λ p. p)
+
+no_fits : (t : Truth) (id : ℕ) → Fits t id no_part
+no_fits t id = ((λ p. absurd (true≢false (sym p))), nothing_told t.high, nothing_told t.low)
+
+-- where one seat has both accounts and doesn't hold the line, that is at home
+at_home : (t : Truth) (id : ℕ) (v : Part) (words : List ℕ) (homes : List (maybe.Option S)) → IsHome t words homes ⊎ IsOut t words homes → Owns t id v → v.both ≡ true → v.holds ≡ false → IsHome t words homes
+at_home t id v words homes is o both idle = ⊎_elim (λ x. x)
+    (λ (x : IsOut t words homes). absurd (true≢false (sym (holds_it t id v o (x.5 ∙ ap suc (one_seat x.2 v.side t.low_seat t.high_seat id o.seat (o.both both).0))) ∙ idle))) is
+
+all_taken : (line : S) (low high : Account) → Lies line low high → IsTaken low high × IsTaken high low
+all_taken None low high l = subst (λ (x : Account × Account). IsTaken x.0 x.1 × IsTaken x.1 x.0) (λ i. (sym l.0 i, sym l.1 i)) (([], (refl, tt)), ([], (refl, tt)))
+all_taken (Some line) low high l = ((waiting line.right, l.1.waits), (waiting line.left, l.0.waits))
+
+taken_by : (k : ℕ) (low high : Account) → IsTaken low high × IsTaken high low → IsTaken (by k low high) (by k high low) × IsTaken (by k high low) (by k low high)
+taken_by zero low high t = t
+taken_by (suc k) low high t = (t.1, t.0)
+
+pub compares : (slots id : ℕ) (me : M) → me.0.owns ≡ true → me.0.both ≡ true → me.0.holds ≡ false → Allows Kept slots id me 0 (λ n. n) (Compared (step slots 0 0 0 none) me)
+compares slots id me owns both idle s h long at small =
+    let v : Part = me.0 in
+    let t : Truth = h.0 in
+    let mine = h.2 id v at in
+    let o : Owns t id v = mine.0 owns in
+    let peer = (o.both both).1 in
+    let home : IsHome t s.words s.homes = at_home t id v s.words s.homes h.1 o both idle in
+    let taken = taken_by v.side t.low t.high (all_taken home.1 t.low t.high home.5) in
+    let w : Part = record v { told = counts_in v.peer; peer_told = counts_in v.own } in (
+      w,
+      keeps,
+      tt,
+      (
+        t,
+        inl (home.0, home.1, ap (λ l. set l 0 (slice_index l 0)) home.2, home.3, home.4, home.5),
+        every_set (Fits t) s.views id w (
+          (λ _. record { seat = o.seat; own = o.own; holds = o.holds; knows = o.knows; both = o.both }),
+          subst (IsTold w.told) (sym peer) (all_told v.peer),
+          subst (IsTold w.peer_told) (sym o.own) (all_told v.own),
+        )
+            (λ j u _ e. h.2 j u e),
+      ),
+      (
+        refl,
+        subst (IsTold v.told) peer mine.1,
+        subst (IsTold v.peer_told) o.own mine.2,
+        subst (λ (x : Account × Account). IsTaken x.0 x.1) (λ i. (o.own i, peer i)) taken.0,
+        subst (λ (x : Account × Account). IsTaken x.0 x.1) (λ i. (peer i, o.own i)) taken.1,
+      ),
+    )
+
+pub sides : (id : ℕ) (v : Part) → v.side ≡ 0 → v.owns ≡ true → v.both ≡ true → v.holds ≡ false → Splits Kept id v (low_side v) (high_side v)
+sides id v side owns both idle s h at =
+    let t : Truth = h.0 in
+    let mine = h.2 id v at in
+    let o : Owns t id v = mine.0 owns in
+    let home : IsHome t s.words s.homes = at_home t id v s.words s.homes h.1 o both idle in
+    let low : Part = low_side v in
+    let high : Part = high_side v in
+    let vs : List Part = set s.views id low in
+    let new : ℕ = length vs in
+    let t' : Truth = record t { high_seat = new } in
+    let low_seat : t.low_seat ≡ id = subst (λ (n : ℕ). by n t.low_seat t.high_seat ≡ id) side o.seat in (
+      t',
+      inl home,
+      every_snoc (Fits t') vs high (
+        (λ _. record {
+          seat = refl;
+          own = subst (λ (n : ℕ). by n t.high t.low ≡ v.peer) side (o.both both).1;
+          holds = sym (ap (λ n. eqb n (suc new)) home.4 ∙ no_holder new);
+          knows = λ p. absurd (true≢false (sym p));
+          both = λ p. absurd (true≢false (sym p));
+        }),
+        subst (λ (n : ℕ). IsTold v.peer_told (by n t.low t.high)) side mine.2,
+        subst (λ (n : ℕ). IsTold v.told (by n t.high t.low)) side mine.1,
+      )
+          (every_set (Fits t') s.views id low (
+            (λ _. record {
+              seat = subst (λ (n : ℕ). by n t.low_seat new ≡ id) (sym side) low_seat;
+              own = o.own;
+              holds = o.holds;
+              knows = o.knows;
+              both = λ p. absurd (true≢false (sym p));
+            }),
+            mine.1,
+            mine.2,
+          )
+          (λ j u other e. let f = h.2 j u e in
+          ((λ p. absurd (other (sym (f.0 p).seat ∙ one_seat u.side v.side t.low_seat t.high_seat id o.seat (o.both both).0))), f.1, f.2))),
+    )
+
+seats_are : (k low high a b : ℕ) → low ≡ a → high ≡ b → (by k low high ≡ a) ⊎ (by k low high ≡ b)
+seats_are zero low high a b p q = inl p
+seats_are (suc k) low high a b p q = inr q
+
+pub joins : (id : ℕ) (v : Part) (other : ℕ) (w : Part) → v.side ≡ 0 → w.side ≡ 1 → v.owns ≡ true → w.owns ≡ true → v.holds ≡ false → w.holds ≡ false
+    → Joins Kept id v other w (joined v w) no_part
+joins id v other w side side' owns owns' idle idle' s h at two at' =
+    let t : Truth = h.0 in
+    let both : Part = joined v w in
+    let vs : List Part = set s.views id both in
+    let was : get_elem? s.views other ≡ some w = ⊎_elim (λ x. absurd (two x.0)) (λ x. x.1) (at_set s.views id other both w at') in
+    let mine = h.2 id v at in
+    let theirs = h.2 other w was in
+    let o : Owns t id v = mine.0 owns in
+    let x : Owns t other w = theirs.0 owns' in
+    let low_seat : t.low_seat ≡ id = subst (λ (n : ℕ). by n t.low_seat t.high_seat ≡ id) side o.seat in
+    let high_seat : t.high_seat ≡ other = subst (λ (n : ℕ). by n t.low_seat t.high_seat ≡ other) side' x.seat in
+    let home : IsHome t s.words s.homes = ⊎_elim (λ y. y)
+    (λ (y : IsOut t s.words s.homes). absurd (⊎_elim
+    (λ e. true≢false (sym (holds_it t id v o (y.5 ∙ ap suc e)) ∙ idle))
+    (λ e. true≢false (sym (holds_it t other w x (y.5 ∙ ap suc e)) ∙ idle'))
+    (seats_are y.2 t.low_seat t.high_seat id other low_seat high_seat)))
+    h.1 in
+    let t' : Truth = record t { high_seat = id } in
+    let Now : ℕ → Part → Type 0 = λ j u. j ≢ other → Fits t' j u in
+    let now : Every Now vs = every_set Now s.views id both
+    (λ _. (
+      (λ _. record {
+        seat = subst (λ (n : ℕ). by n t.low_seat id ≡ id) (sym side) low_seat;
+        own = o.own;
+        holds = o.holds;
+        knows = λ p. absurd (true≢false (sym p ∙ idle));
+        both = λ _. subst (λ (n : ℕ). (by n id t.low_seat ≡ id) × (by n t.high t.low ≡ w.own)) (sym side) (refl, subst (λ (n : ℕ). by n t.low t.high ≡ w.own) side' x.own);
+      }),
+      mine.1,
+      subst (λ (n : ℕ). IsTold w.told (by n t.low t.high)) (sym side) (subst (λ (n : ℕ). IsTold w.told (by n t.high t.low)) side' theirs.1),
+    ))
+    (λ j u apart e far. let f = h.2 j u e in (
+      (λ p. absurd (⊎_elim (λ q. apart (sym (f.0 p).seat ∙ q)) (λ q. far (sym (f.0 p).seat ∙ q)) (seats_are u.side t.low_seat t.high_seat id other low_seat high_seat))),
+      f.1,
+      f.2,
+    )) in
+    (t', inl home, every_set (Fits t') vs other no_part (no_fits t' other) (λ j u far e. now j u e far))
+
+across : (k : ℕ) (low high : Account) → k ≤ 1 → by (1 - k) high low ≡ by k low high
+across zero low high h = refl
+across (suc zero) low high h = refl
+across (suc (suc k)) low high h = absurd (omega arith)
+
+pub tells : (id : ℕ) (v : Part) → v.owns ≡ true → v.side ≤ 1 → Splits Kept id v v (telling v)
+tells id v owns few s h at =
+    let t : Truth = h.0 in
+    let mine = h.2 id v at in
+    let vs : List Part = set s.views id v in
+    let is = across v.side t.low t.high few ∙ (mine.0 owns).own in (
+      t,
+      h.1,
+      every_snoc (Fits t) vs (telling v) ((λ p. absurd (true≢false (sym p))), subst (IsTold (counts_in v.own)) (sym is) (all_told v.own), nothing_told (by (1 - v.side) t.low t.high))
+          (every_set (Fits t) s.views id v mine (λ j u _ e. h.2 j u e)),
+    )
+
+pub told_either : (c d : Counts) (a : Account) → IsTold c a → IsTold d a → IsTold (record { put = max c.put d.put; taken = max c.taken d.taken; shut = c.shut || d.shut }) a
+told_either c d a x y = let p = x.0 in let q = y.0 in let r = x.1 in let z = y.1 in (omega arith, omega arith, λ e. ⊎_elim x.2 y.2 (either_true c.shut d.shut e))
+
+pub hears : (id : ℕ) (v : Part) (other : ℕ) (w : Part) → w.side ≡ v.side → Joins Kept id v other w (hearing v w) no_part
+hears id v other w same s h at two at' =
+    let t : Truth = h.0 in
+    let both : Part = hearing v w in
+    let vs : List Part = set s.views id both in
+    let was : get_elem? s.views other ≡ some w = ⊎_elim (λ x. absurd (two x.0)) (λ x. x.1) (at_set s.views id other both w at') in
+    let mine = h.2 id v at in
+    let theirs = subst (λ (n : ℕ). IsTold w.told (by n t.high t.low)) same (h.2 other w was).1 in (
+      t,
+      h.1,
+      every_set (Fits t) vs other no_part (no_fits t other) (λ j u _ e. every_set (Fits t) s.views id both (
+        (λ p. let o : Owns t id v = mine.0 p in record { seat = o.seat; own = o.own; holds = o.holds; knows = o.knows; both = o.both }),
+        told_either v.told w.told (by v.side t.high t.low) mine.1 theirs,
+        mine.2,
+      )
+          (λ i y _ f. h.2 i y f) j u e),
+    )
+
+pub begins : Kept (opening (replicate 16 0) (replicate 1 None) both_sides)
+begins =
+    let t : Truth = record { low_seat = 0; high_seat = 0; holder = 0; low = no_account; high = no_account } in (
+      t,
+      inl (replicate 15 0, None, refl, refl, refl, (refl, refl)),
+      one_view (Fits t) both_sides ((λ _. record { seat = refl; own = refl; holds = refl; knows = λ p. absurd (true≢false (sym p)); both = λ _. (refl, refl) }), nothing_told no_account, nothing_told no_account),
+    )

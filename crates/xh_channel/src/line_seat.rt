@@ -1,0 +1,223 @@
+//! An end's seat at the line of its channel.
+ghost use Rattle.std.specs.Prelude.{◌≡◌, ◌+◌, ◌<◌, ◌≤◌, true, IfOk, OnErr};
+ghost use Rattle.xh_model.specs.declared.limits.TheConstants.{MAX_DEPTH, MAX_MESSAGES};
+ghost use Rattle.xh_channel.specs.LineSeats.{AreAcross, IsBegun, IsBlank, IsDelivered, IsLessTold, OnlySaw, PutsBy, TakesBy, begun, hearing_on_line, told_all, told_on_line};
+ghost use Rattle.std.specs.Arc.{arc_value};
+ghost use Rattle.xh_channel.specs.inner.LineRule.{IsWhole, high_side, line_view, low_side};
+
+use crate::line_rule::{BothSides, Compares, Hears, LineTable, Sides, Tells};
+use crate::line_steps::{
+    HOME, Token, begin_held, hold, leave, lock, put_held, settle, shut_held, take_held,
+};
+use crate::message::Message;
+use crate::refused::Refused;
+use crate::unsent::Unsent;
+use arrayvec::ArrayVec;
+use atomic_table::Table;
+use std::alloc::{AllocError, Global};
+use std::marker::Model;
+use std::sync::{Arc, Wait};
+use xh_core::Contract;
+use xh_model::limits::MAX_BLOCKS;
+
+/// The lock's word lies in a block of these: no two locks are on one cache line.
+const WORDS: usize = 16;
+
+/// The seat of one end at its channel's line. Contracts see what the end did and what it was told.
+#[derive(Drop)]
+pub struct LineSeat {
+    table: Arc<LineTable, Global>,
+    seat: Token,
+    side: u8,
+}
+
+impl Model for LineSeat {
+    ghost use Rattle.std.specs.Arc.{arc_value};
+    ghost use Rattle.xh_channel.specs.LineSeats.{LineView};
+    ghost use Rattle.xh_channel.specs.inner.LineRule.{IsLineSeat, line_view};
+
+    ghost Value = { LineView };
+
+    ghost view = { λ s. line_view s.seat.table_id s.seat.me.0 };
+
+    ghost invariant = { λ s. IsLineSeat (arc_value s.table).shared.table_id s.seat.table_id s.seat.me s.side };
+}
+
+/// What an end tells its peer of what it did.
+#[derive(Drop)]
+pub struct LineNote {
+    seat: Token,
+}
+
+impl Model for LineNote {
+    ghost use Rattle.std.specs.Prelude.{◌≡◌, ◌≤◌, []};
+    ghost use Rattle.xh_channel.specs.LineSeats.{LineTelling};
+    ghost use Rattle.xh_channel.specs.inner.LineRule.{line_telling};
+
+    ghost Value = { LineTelling };
+
+    ghost view = { λ n. line_telling n.seat.table_id n.seat.me.0 };
+
+    ghost invariant = { λ n. (n.seat.me.1 ≡ []) × (n.seat.me.0.side ≤ 1) };
+}
+
+type OwnTable = Arc<LineTable, Global>;
+
+// The table's seat of both sides, cut in two.
+fn cut(low: OwnTable, high: OwnTable, mut token: Token) -> (LineSeat, LineSeat)
+    requires { IsWhole (arc_value low).shared.table_id (arc_value high).shared.table_id token.table_id token.me }
+    ensures { (result.0 ≡ line_view token.table_id (low_side token.me.0)) × (result.1 ≡ line_view token.table_id (high_side token.me.0)) }
+{
+    let seat = low.shared.split_seat::<Sides>(&mut token);
+    let low = LineSeat {
+        table: low,
+        seat: token,
+        side: 0,
+    };
+    let high = LineSeat {
+        table: high,
+        seat,
+        side: 1,
+    };
+    (low, high)
+}
+
+// One seat of both sides, and a handle to the table for each.
+fn join(low: LineSeat, high: LineSeat) -> (OwnTable, OwnTable, Token)
+    requires { AreAcross low high }
+    ensures whole { IsWhole (arc_value result.0).shared.table_id (arc_value result.1).shared.table_id result.2.table_id result.2.me }
+    ensures sides { (low ≡ line_view result.2.table_id (low_side result.2.me.0)) × (high ≡ line_view result.2.table_id (high_side result.2.me.0)) }
+{
+    let LineSeat {
+        table,
+        seat: mut token,
+        side: _,
+    } = low;
+    let LineSeat {
+        table: also,
+        seat: other,
+        side: _,
+    } = high;
+    table.shared.join_seat::<BothSides>(&mut token, other);
+    (table, also, token)
+}
+
+/// Shows, of both seats of a line, that what each took is a prefix of what the other sent, and tells each all that the other did.
+pub fn compare(low: LineSeat, high: LineSeat) -> (LineSeat, LineSeat)
+    requires { AreAcross low high }
+    ensures told { (result.0 ≡ told_all low high) × (result.1 ≡ told_all high low) }
+    ensures grows { IsLessTold low high × IsLessTold high low }
+    ensures delivered { IsDelivered low high × IsDelivered high low }
+{
+    let (low, high, mut token) = join(low, high);
+    low.shared.load::<Compares>(&mut token, 0);
+    cut(low, high, token)
+}
+
+impl LineSeat {
+    /// Both seats of a new table, where no line is yet.
+    pub fn pair(alloc: Global) -> Result<(LineSeat, LineSeat), AllocError>
+        ensures { IfOk result (λ s. AreAcross s.0 s.1 × IsBlank s.0 × IsBlank s.1 × (s.0.depth ≡ 0) × (s.1.depth ≡ 0)) }
+    {
+        let (table, token) = Table::vacant(alloc, &[HOME; WORDS], 1, &())?;
+        let low = Arc::new(alloc, table)?;
+        let high = Arc::try_clone(&low)?;
+        Ok(cut(low, high, token))
+    }
+
+    /// Both sides go by the contract, on a new line. The depth is how many messages may wait in a direction.
+    pub fn begin<R: Wait>(
+        rt: &R,
+        low: LineSeat,
+        high: LineSeat,
+        contract: Contract,
+        depth: u8,
+    ) -> (LineSeat, LineSeat)
+        requires { AreAcross low high × IsBlank low × IsBlank high × (1 ≤ depth) × (depth ≤ MAX_DEPTH) }
+        ensures { (result.0 ≡ begun contract depth low) × (result.1 ≡ begun contract depth high) }
+    {
+        let (low, high, mut token) = join(low, high);
+        let board = &low.shared;
+        lock(rt, board, &mut token);
+        begin_held(board, &mut token, contract, depth);
+        settle(board, &mut token);
+        cut(low, high, token)
+    }
+
+    /// Its number. Protocol where the state doesn't allow the message, then PeerClosed where the peer is shut, then Full.
+    pub fn put<R: Wait>(
+        &mut self,
+        rt: &R,
+        tag: u16,
+        blocks: ArrayVec<u16, MAX_BLOCKS>,
+    ) -> Result<u64, Unsent>
+        requires { IsBegun self.old }
+        ensures put { PutsBy self.old self.new tag blocks result }
+        ensures last { IfOk result (λ no. no ≤ MAX_MESSAGES) }
+        ensures refused { OnErr result (OnlySaw self.old self.new) }
+    {
+        let board = &self.table.shared;
+        hold(rt, board, &mut self.seat);
+        match put_held(board, &mut self.seat, self.side, tag, blocks) {
+            Ok(no) => {
+                settle(board, &mut self.seat);
+                Ok(no)
+            }
+            Err(unsent) => {
+                leave(board, &mut self.seat);
+                Err(unsent)
+            }
+        }
+    }
+
+    /// The message that comes next. Where none waits, PeerClosed if the peer is shut, else Empty.
+    pub fn take<R: Wait>(&mut self, rt: &R) -> Result<Message, Refused>
+        requires { IsBegun self.old }
+        ensures taken { TakesBy self.old self.new result }
+        ensures last { IfOk result (λ m. m.no ≤ MAX_MESSAGES) }
+        ensures refused { OnErr result (OnlySaw self.old self.new) }
+    {
+        let board = &self.table.shared;
+        hold(rt, board, &mut self.seat);
+        match take_held(board, &mut self.seat, self.side) {
+            Ok(message) => {
+                settle(board, &mut self.seat);
+                Ok(message)
+            }
+            Err(refused) => {
+                leave(board, &mut self.seat);
+                Err(refused)
+            }
+        }
+    }
+
+    /// No later put of its peer succeeds.
+    pub fn shut<R: Wait>(&mut self, rt: &R)
+        requires { IsBegun self.old }
+        ensures { self.new ≡ record self.old { shut = true } }
+    {
+        let board = &self.table.shared;
+        hold(rt, board, &mut self.seat);
+        shut_held(board, &mut self.seat, self.side);
+        settle(board, &mut self.seat);
+    }
+
+    /// What its peer may hear of it.
+    pub fn note(&mut self) -> LineNote
+        ensures told { result ≡ told_on_line self.old }
+        ensures same { self.new ≡ self.old }
+    {
+        let table = &self.table;
+        LineNote {
+            seat: table.shared.split_seat::<Tells>(&mut self.seat),
+        }
+    }
+
+    pub fn hear(&mut self, note: LineNote)
+        requires { (note.table ≡ self.old.table) × (note.side + self.old.side ≡ 1) }
+        ensures { self.new ≡ hearing_on_line self.old note }
+    {
+        let table = &self.table;
+        table.shared.join_seat::<Hears>(&mut self.seat, note.seat);
+    }
+}
