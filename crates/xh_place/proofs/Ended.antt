@@ -25,7 +25,7 @@ any_state : (from budget bytes left : ℕ) (old new : PlaceOf) (s t : Status) �
     → IsSwept from budget (record old { state = s }) (record new { state = t }) bytes left
 any_state from budget bytes left old new s t is = let by = is.by in record {
   count = is.count;
-  by = record { accepted = by.accepted; log = by.log; there = by.there; list = by.list; moved = by.moved; theirs = by.theirs; sum = by.sum };
+  by = record { accepted = by.accepted; log = by.log; there = by.there; list = by.list; moved = by.moved; ended = by.ended; sum = by.sum };
   within = is.within;
   rest = is.rest;
   more = is.more;

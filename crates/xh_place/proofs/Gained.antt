@@ -1,5 +1,5 @@
 -- A seat that has gained a record.
-use Rattle.std.proofs.Common.{◌≡◌, ℕ, ◌/◌, ◌<◌, ◌≤◌, List, [], ◌∷◌, ◌++◌, length, refl, sym, ap, ◌∙◌, subst, true, eq-eqb, eqb, arith, rules}
+use Rattle.std.proofs.Common.{◌≡◌, ℕ, ◌/◌, ◌<◌, ◌≤◌, List, [], ◌∷◌, ◌++◌, length, sym, ap, ◌∙◌, subst, true, eq-eqb, eqb, arith, rules}
 use Rattle.std.specs.Prelude.{Some, slice_get, ◌&&◌, nat_le, nat_lt}
 use Rattle.atomic_table.specs.Seated.{TableId}
 use Rattle.xh_arena.specs.Views.{LotOf}
@@ -10,9 +10,7 @@ use Rattle.xh_records.specs.Seats.{Held, with_lots}
 use Rattle.xh_place.specs.inner.Lots.{HasNow, bare}
 use Rattle.xh_place.specs.declared.body.Body.{Body}
 use Rattle.xh_place.specs.declared.body.Body.TheVariants.{Nothing, Data, End}
-use Rattle.xh_channel.specs.Queues.{Posted}
-use Rattle.xh_core.specs.declared.header.Kind.TheVariants as kind
-use Rattle.xh_place.specs.Bodies.{bytes, content_of, fits_in, kind_of}
+use Rattle.xh_place.specs.Bodies.{bytes, content_of, fits_in}
 
 module _ (seat new : Held Body) (r : ℕ) (l : LotOf Body) (is : HasNow seat (seat.lots ++ (r, l) ∷ []) new) (fresh : Among (keys seat.lots) r → ⊥) where
   pub has : value_at r new.lots ≡ Some l
@@ -42,8 +40,3 @@ fits_bytes Nothing xs n e long some most = let same : [] ≡ xs = cc in let none
 fits_bytes (Data v) xs n e long some most = let same : v.items ≡ xs = cc in let a : eqb (length v.items) n ≡ true = eq-eqb (length v.items) n (ap length same ∙ long) in
     let b : nat_le n 1048576 ≡ true = search rules in let d : nat_lt 0 n ≡ true = search rules in (λ i. a i && (d i && b i))
 fits_bytes (End p) xs n e long some most = absurd (cc)
-
-pub is_end : (b : Body) → kind_of (content_of b) ≡ kind.End → (p : Posted) × (b ≡ End p)
-is_end Nothing e = absurd (cc)
-is_end (Data v) e = absurd (cc)
-is_end (End p) e = (p, refl)

@@ -16,6 +16,7 @@ pub mod Shown
 pub mod Last
 pub mod Opened
 pub mod Ends
-pub mod Untaken
 pub mod Ended
 pub mod GiveTests
+pub mod Drained
+pub mod Answered

@@ -7,16 +7,16 @@ use native.Mathlib.Decide.{ℕ_discrete}
 use Rattle.xh_arena.specs.Views.{LotOf}
 use Rattle.xh_core.specs.declared.status.Status.{Status}
 use Rattle.xh_core.specs.Statuses.{is_over}
-use Rattle.xh_model.specs.Keyed.{Among, Distinct, keys, value_at, without}
+use Rattle.xh_model.specs.Keyed.{Among, Distinct, keys, put, value_at, without}
 use Rattle.xh_model.proofs.Keyed.{distinct_without, here_first, not_here, put_at, put_keys, put_other, without_at, without_other}
-use Rattle.xh_records.specs.Seats.{Held}
+use Rattle.xh_records.specs.Seats.{Held, with_lots}
 use Rattle.xh_place.specs.inner.Lots.{HasNow}
 use Rattle.xh_place.specs.inner.Lists.{AreBack, lens, less_all}
 use Rattle.xh_place.specs.declared.body.Body.{Body}
-use Rattle.xh_place.specs.Places.{Item, item_at, item_of, item_in, shown, total_of, IsBlock, IsPlace}
+use Rattle.xh_place.specs.Places.{Item, item_at, item_of, item_in, shown, total_of, with_blocks, IsBlock, IsPlace}
 use Rattle.xh_place.specs.Messages.{settle, settled}
-use Rattle.xh_place.proofs.Steps.{IsNow, is_now, quiet_alive}
-use Rattle.xh_place.proofs.Listing.{keys_settled, lens_none, shown_keys, total_put, total_without}
+use Rattle.xh_place.proofs.Steps.{IsNow, is_now, quiet_alive, turned}
+use Rattle.xh_place.proofs.Listing.{keys_settled, lens_none, lens_same, shown_keys, total_put, total_without}
 
 module _ {X : Type 0} where
   -- at another record nothing changes
@@ -108,7 +108,7 @@ among_or q [] = inr (λ h. h)
 among_or q (x ∷ xs) = dite (ℕ_discrete q x) (λ e. inl (inl e)) (λ n. ⊎_elim (λ a. inl (inr a)) (λ m. inr (λ h. ⊎_elim n m h)) (among_or q xs))
 
 -- After a give, whatever came back: of the end e only what it counts changed; each given record has what its seat has for it now, and its old place; all others are as they were.
-pub settled_place : (seat last : Held Body) (rs ys given back : List ℕ) (room cap total total' : ℕ) (state : Status) (e : ℕ) (l m : LotOf Body) → (is_over state ≡ true → ⊥)
+settled_place : (seat last : Held Body) (rs ys given back : List ℕ) (room cap total total' : ℕ) (state : Status) (e : ℕ) (l m : LotOf Body) → (is_over state ≡ true → ⊥)
     → IsPlace seat (shown seat.lots rs) room total state → value_at e seat.lots ≡ Some l → IsBlock seat.shape e m → item_of m ≡ item_of l → value_at e last.lots ≡ Some m
     → Distinct given → ((r : ℕ) → Among given r → (k : LotOf Body) × (value_at r seat.lots ≡ Some k))
     → HasNow seat last.lots last → ((q : ℕ) → (Among given q → ⊥) → e ≢ q → value_at q last.lots ≡ value_at q seat.lots) → AreBack given back last
@@ -141,3 +141,22 @@ settled_place seat last rs ys given back room cap total total' state e l m alive
       room = subst (λ s. (length s.names * s.records ≤ room) × (length s.names ≤ 8)) (sym shape) is.room;
       quiet = quiet_alive state (settled given f xs) alive;
     }) (items ∙ sym numbers) caps refl
+
+-- the same where the end e did something
+pub given_place : (seat last : Held Body) (rs ys given back : List ℕ) (room cap total total' : ℕ) (state : Status) (e : ℕ) (l m : LotOf Body) → (is_over state ≡ true → ⊥)
+    → IsPlace seat (shown seat.lots rs) room total state → value_at e seat.lots ≡ Some l → IsBlock seat.shape e m → m.len ≡ l.len → value_at e last.lots ≡ Some m
+    → Distinct given → (Among given e → ⊥) → ((r : ℕ) → Among given r → (k : LotOf Body) × (value_at r seat.lots ≡ Some k))
+    → HasNow seat last.lots last → ((q : ℕ) → (Among given q → ⊥) → e ≢ q → value_at q last.lots ≡ value_at q seat.lots) → AreBack given back last
+    → ys ≡ less_all given (λ r. list_any (λ q. q == r) back) rs → cap ≡ room → total' + lens given (λ r. value_at r seat.lots) ≡ total + lens given (λ r. value_at r last.lots)
+    → IsNow seat rs state last ys cap total' (λ (xs : List (ℕ × Item)). settled given (λ r. item_at (value_at r last.lots)) (put e (item_of m) xs))
+given_place seat last rs ys given back room cap total total' state e l m alive is at good len now d apart held same others came items caps sum =
+    let mid : Held Body = with_lots seat (put e m seat.lots) in
+    let turn = turned seat rs room total state is mid e l m at refl good len in
+    let other : (r : ℕ) → e ≢ r → value_at r mid.lots ≡ value_at r seat.lots = λ r n. put_other r e m seat.lots n in
+    let away : (r : ℕ) → Among given r → e ≢ r = λ r a s. apart (subst (λ (z : ℕ). Among given z) (sym s) a) in
+    let lent : lens given (λ r. value_at r mid.lots) ≡ lens given (λ r. value_at r seat.lots) =
+    lens_same given (λ r. value_at r mid.lots) (λ r. value_at r seat.lots) (λ r a. other r (away r a)) in
+    let sums : total' + lens given (λ r. value_at r mid.lots) ≡ total + lens given (λ r. value_at r last.lots) = omega (arith, lent, sum) in
+    let all = settled_place mid last rs ys given back room cap total total' state e m m alive turn.0 (put_at e m l seat.lots at) good refl now d
+    (λ r a. let h = held r a in (h.0, other r (away r a) ∙ h.1)) same (λ q n o. others q n o ∙ sym (other q o)) came items caps sums in
+    (all.0, λ p shows. all.1 (with_blocks p (put e (item_of m) p.blocks)) (turn.1 p shows))

@@ -1,22 +1,24 @@
 -- Sweeps one after another, and what a worker gave back.
 use Rattle.std.proofs.Common.{◌≡◌, ℕ, zero, suc, ◌+◌, ◌<◌, ◌≤◌, ◌⊎◌, ⊎_elim, inl, inr, List, [], ◌∷◌, ◌++◌, length, take, drop, length-append}
-use Rattle.std.proofs.Common.{append_assoc, append-nil, refl, sym, ap, ◌∙◌, subst, arith, false, not}
-use Rattle.std.specs.Prelude.{Option, Some, None}
+use Rattle.std.proofs.Common.{append_assoc, append-nil, refl, sym, ap, ◌∙◌, subst, arith}
+use Rattle.std.specs.Prelude.{Some}
 use Rattle.std.proofs.lemmas.List.{drop-append-le, take-append-le}
 use Rattle.std.proofs.Math.Seq.{drop-append_seam, take-append_seam}
 use Rattle.xh_arena.specs.Views.{TallyOf}
 use Rattle.xh_model.specs.declared.event.Event.{Event}
-use Rattle.xh_model.specs.Keyed.{Among, Distinct, keys, without}
-use Rattle.xh_model.proofs.Keyed.{absent, here_first, not_here}
-use Rattle.xh_core.specs.declared.header.Kind.TheVariants as kind
-use Rattle.xh_core.specs.declared.header.Kind.{Kind}
-use Rattle.xh_core.specs.Headers.{has_end, is_data}
-use Rattle.xh_place.specs.Bodies.{kind_of, toward}
+use mathlib.Core.Logic.{dite}
+use native.Mathlib.Decide.{ℕ_discrete}
+use Rattle.xh_model.specs.Keyed.{Among, Distinct, keys, put, value_at, without}
+use Rattle.xh_model.proofs.Keyed.{absent, here_first, not_here, put_keys, put_without, without_here, without_there}
+use Rattle.xh_place.specs.Bodies.{toward}
 use Rattle.xh_place.specs.Moves.{accepted_on}
-use Rattle.xh_place.specs.Ending.{AreFor, HasGivenBack, IsSweptBy, back_of}
-use Rattle.xh_place.specs.Ends.{toward_in}
-use Rattle.xh_place.specs.Places.{Item, PlaceOf, entry_of, total_of, with_blocks, with_list, with_more}
+use Rattle.xh_place.specs.Ending.{AreEnded, HasGivenBack, IsSweptBy, back_of}
+use Rattle.xh_place.specs.Endpoints.{EndsWith}
+use Rattle.xh_place.specs.inner.Reclaiming.{Clears}
+use Rattle.xh_place.specs.Places.{Item, PlaceOf, total_of, with_blocks, with_list, with_more}
 use Rattle.xh_place.specs.Tallies.{gave}
+use Rattle.xh_place.proofs.Listing.{total_put}
+use Rattle.xh_place.proofs.Moves.{keys_both}
 
 module _ {X : Type 0} where
   pub drop_long : (u : ℕ) (w : List X) → u ≤ length w → u + length (drop u w) ≡ length w
@@ -45,48 +47,26 @@ total_both : (xs ys : List (ℕ × Item)) → total_of (xs ++ ys) ≡ total_of x
 total_both [] ys = omega arith
 total_both (x ∷ xs) ys = let e : total_of (xs ++ ys) ≡ total_of xs + total_of ys = total_both xs ys in omega arith
 
--- ---- what was accepted on the way to the ends that went
+-- ---- the blocks that went
 
-for_both : (p : ℕ) (ends : List (ℕ × Item)) (ys zs : List (ℕ × Item)) (es fs : List Event) → AreFor p ends ys es → AreFor p ends zs fs → AreFor p ends (ys ++ zs) (es ++ fs)
-for_both p ends [] zs [] fs one two = two
-for_both p ends [] zs (e ∷ es) fs one two = absurd one
-for_both p ends (y ∷ ys) zs [] fs one two = absurd one
-for_both p ends (y ∷ ys) zs (e ∷ es) fs one two = (one.0, for_both p ends ys zs es fs one.1 two)
+takes : (u k : ℕ) (w ys : List (ℕ × Item)) → u ≤ length w → take (u + k) (w ++ ys) ≡ take u w ++ take k (drop u w ++ ys)
+takes zero k w ys h = let e : 0 + k ≡ k = omega arith in ap (λ (n : ℕ). take n (w ++ ys)) e
+takes (suc u) k [] ys h = absurd (omega arith)
+takes (suc u) k (x ∷ w) ys h =
+    let e : suc u + k ≡ suc (u + k) = omega arith in ap (λ (n : ℕ). take n (x ∷ (w ++ ys))) e ∙ ap (λ (l : List (ℕ × Item)). x ∷ l) (takes u k w ys (omega arith))
 
-for_more : (p : ℕ) (ends all : List (ℕ × Item)) (ys : List (ℕ × Item)) (es : List Event) → ((z : ℕ × Item) → Among ends z → Among all z) → AreFor p ends ys es → AreFor p all ys es
-for_more p ends all [] [] within one = tt
-for_more p ends all [] (e ∷ es) within one = absurd one
-for_more p ends all (y ∷ ys) [] within one = absurd one
-for_more p ends all (y ∷ ys) (e ∷ es) within one = let h = one.0 in ((h.0, h.1, within (h.0, h.1) h.2, h.3, h.4), for_more p ends all ys es within one.1)
-
-for_end : (p q : ℕ) (x : Item) (ends ys : List (ℕ × Item)) → Among ends (q, x) → kind_of x.content ≡ kind.End → AreFor p ends ys (accepted_on p (toward x.content) (keys ys))
-for_end p q x ends [] among end = tt
-for_end p q x ends (y ∷ ys) among end = ((q, x, among, end, refl), for_end p q x ends ys among end)
-
--- what came to a block of the list, where it is an endpoint, and to no other
-pub for_drained : (p q : ℕ) (x : Item) (o : Option Item) (ends ys : List (ℕ × Item)) → o ≡ Some x → Among ends (q, x) → (has_end (entry_of o) ≡ false → ys ≡ [])
-    → AreFor p ends ys (accepted_on p (toward_in o) (keys ys))
-for_drained p q x None ends ys at among none = absurd (cc)
-for_drained p q x (Some z) ends ys at among none = go (kind_of z.content) refl where
-  go : (k : Kind) → kind_of z.content ≡ k → AreFor p ends ys (accepted_on p (toward z.content) (keys ys))
-  go kind.Data e = subst (λ (l : List (ℕ × Item)). AreFor p ends l (accepted_on p (toward z.content) (keys l))) (sym (none (ap (λ (k : Kind). not (is_data k)) e))) tt
-  go kind.End e = for_end p q z ends ys (subst (λ (y : Item). Among ends (q, y)) (sym one_) among) e where
-    one_ : z ≡ x
-    one_ = let both : Some z ≡ Some x = at in cc
-
-among_first : (u k : ℕ) (w ys : List (ℕ × Item)) (z : ℕ × Item) → Among (take u w) z → Among (take (u + k) (w ++ ys)) z
-among_first zero k w ys z h = absurd h
-among_first (suc u) k [] ys z h = absurd h
-among_first (suc u) k (x ∷ w) ys z h =
-    let e : suc (u + k) ≡ suc u + k = omega arith in
-    subst (λ (n : ℕ). Among (take n (x ∷ (w ++ ys))) z) e (⊎_elim (λ a. inl a) (λ a. inr (among_first u k w ys z a)) h)
-
-among_then : (u k : ℕ) (w ys : List (ℕ × Item)) (z : ℕ × Item) → u ≤ length w → Among (take k (drop u w ++ ys)) z → Among (take (u + k) (w ++ ys)) z
-among_then zero k w ys z h a = let e : k ≡ 0 + k = omega arith in subst (λ (n : ℕ). Among (take n (w ++ ys)) z) e a
-among_then (suc u) k [] ys z h a = absurd (omega arith)
-among_then (suc u) k (x ∷ w) ys z h a =
-    let e : suc (u + k) ≡ suc u + k = omega arith in
-    subst (λ (n : ℕ). Among (take n (x ∷ (w ++ ys))) z) e (inr (among_then u k w ys z (omega arith) a))
+ended_both : (p : ℕ) (gone more ys zs : List (ℕ × Item)) (es fs : List Event) → AreEnded p gone ys es → AreEnded p more zs fs → AreEnded p (gone ++ more) (ys ++ zs) (es ++ fs)
+ended_both p [] more ys zs es fs one two =
+    subst (λ (z : List (ℕ × Item) × List Event). AreEnded p more (z.0 ++ zs) (z.1 ++ fs)) (λ i. (sym one.0 i, sym one.1 i)) two
+ended_both p (y ∷ gone) more ys zs es fs one two = (
+  one.0,
+  one.1 ++ zs,
+  one.2 ++ fs,
+  ap (λ (l : List (ℕ × Item)). l ++ zs) one.3 ∙ append_assoc one.0 one.1 zs,
+  ap (λ (l : List Event). l ++ fs) one.4 ∙ append_assoc (accepted_on p (toward y.1.content) (keys one.0)) one.2 fs,
+  one.5,
+  ended_both p gone more one.1 zs one.2 fs one.6 two,
+)
 
 -- one sweep after another from the same place
 pub swept_more : (from u k a b : ℕ) (old mid new : PlaceOf) → from ≤ length old.blocks → mid.process ≡ old.process → IsSweptBy from u old mid a → IsSweptBy from k mid new b
@@ -106,20 +86,18 @@ swept_more from u k a b old mid new inside whose one two =
     let sums : total_of both ≡ total_of one.accepted + total_of two.accepted = total_both one.accepted two.accepted in
     let first : a + total_of mid.blocks ≡ total_of old.blocks + total_of one.accepted = one.sum in
     let second : b + total_of new.blocks ≡ total_of mid.blocks + total_of two.accepted = two.sum in
-    let ends : List (ℕ × Item) = take (u + k) (w ++ two.accepted) in
-    let mine : AreFor old.process ends one.accepted one.log = for_more old.process (take u w) ends one.accepted one.log (λ z h. among_first u k w two.accepted z h) one.theirs in
-    let later : AreFor old.process (take k (drop u w ++ two.accepted)) two.accepted two.log =
-    subst (λ (z : ℕ × List (ℕ × Item)). AreFor z.0 (take k (z.1 ++ two.accepted)) two.accepted two.log) (λ i. (whose i, rest i)) two.theirs in
-    let more : AreFor old.process ends two.accepted two.log =
-    for_more old.process (take k (drop u w ++ two.accepted)) ends two.accepted two.log (λ z h. among_then u k w two.accepted z one.there h) later in
+    let later : AreEnded old.process (take k (drop u w ++ two.accepted)) two.accepted two.log =
+    subst (λ (z : ℕ × List (ℕ × Item)). AreEnded z.0 (take k (z.1 ++ two.accepted)) two.accepted two.log) (λ i. (whose i, rest i)) two.ended in
+    let ends : take (u + k) (drop from old.blocks ++ both) ≡ take u w ++ take k (drop u w ++ two.accepted) =
+    ap (take (u + k)) (sym all) ∙ takes u k w two.accepted one.there in
     record {
       accepted = both;
       log = one.log ++ two.log;
       there = omega (arith, long, left, fits);
       list = two.list ∙ (λ i. ahead i ++ same i);
       moved = two.moved ∙ ap (λ (l : List Event). l ++ two.log) one.moved ∙ append_assoc old.moved one.log two.log;
-      theirs = subst (λ (l : List (ℕ × Item)). AreFor old.process (take (u + k) l) both (one.log ++ two.log)) all
-          (for_both old.process ends one.accepted two.accepted one.log two.log mine more);
+      ended = subst (λ (l : List (ℕ × Item)). AreEnded old.process l both (one.log ++ two.log)) (sym ends)
+          (ended_both old.process (take u w) (take k (drop u w ++ two.accepted)) one.accepted two.accepted one.log two.log one.ended later);
       sum = omega (arith, sums, first, second);
     }
 
@@ -136,10 +114,11 @@ cut_out (suc from) r x more (y ∷ w) d e =
       among_drop (suc k) q (z ∷ w) h = inr (among_drop k q w h)
 
 -- some came to an end at `from`, and then it went
-pub swept_one : (from r bytes d : ℕ) (x : Item) (more : List (ℕ × Item)) (old mid new : PlaceOf) (ys : List (ℕ × Item)) → from ≤ length old.blocks → drop from old.blocks ≡ (r, x) ∷ more
-    → mid ≡ with_more d ys old → Distinct (keys mid.blocks) → AreFor old.process ((r, x) ∷ []) ys (accepted_on old.process d (keys ys)) → new ≡ with_blocks mid (without r mid.blocks)
+swept_one : (from r bytes d : ℕ) (x : Item) (more : List (ℕ × Item)) (old mid new : PlaceOf) (ys : List (ℕ × Item)) → from ≤ length old.blocks → drop from old.blocks ≡ (r, x) ∷ more
+    → mid ≡ with_more d ys old → Distinct (keys mid.blocks) → AreEnded old.process ((r, x) ∷ []) ys (accepted_on old.process d (keys ys))
+    → new ≡ with_blocks mid (without r mid.blocks)
     → bytes + total_of new.blocks ≡ total_of mid.blocks → IsSweptBy from 1 old new bytes
-swept_one from r bytes d x more old mid new ys inside first came once theirs is sum =
+swept_one from r bytes d x more old mid new ys inside first came once ends is sum =
     let list : mid.blocks ≡ old.blocks ++ ys = ap (λ (p : PlaceOf). p.blocks) came in
     let ahead : take from mid.blocks ≡ take from old.blocks = ap (take from) list ∙ take-append-le from old.blocks ys inside in
     let rest : drop from mid.blocks ≡ (r, x) ∷ (more ++ ys) = ap (drop from) list ∙ drop-append-le from old.blocks ys inside ∙ ap (λ (l : List (ℕ × Item)). l ++ ys) first in
@@ -152,9 +131,36 @@ swept_one from r bytes d x more old mid new ys inside first came once theirs is 
       there = omega (arith, long);
       list = ap (λ (p : PlaceOf). p.blocks) is ∙ cut_out from r x (more ++ ys) mid.blocks once rest ∙ (λ i. ahead i ++ drop 1 (sym whole i));
       moved = ap (λ (p : PlaceOf). p.moved) is ∙ ap (λ (p : PlaceOf). p.moved) came;
-      theirs = subst (λ (l : List (ℕ × Item)). AreFor old.process (take 1 l) ys (accepted_on old.process d (keys ys))) (sym whole) theirs;
+      ended = subst (λ (l : List (ℕ × Item)). AreEnded old.process (take 1 l) ys (accepted_on old.process d (keys ys))) (sym whole) ends;
       sum = sum ∙ all;
     }
+
+without_both : (r : ℕ) (xs ys : List (ℕ × Item)) → without r (xs ++ ys) ≡ without r xs ++ without r ys
+without_both r [] ys = refl
+without_both r (x ∷ xs) ys = dite (ℕ_discrete x.0 r)
+    (λ e. without_here r x (xs ++ ys) e ∙ without_both r xs ys ∙ sym (ap (λ (l : List (ℕ × Item)). l ++ without r ys) (without_here r x xs e)))
+    (λ n. without_there r x (xs ++ ys) n ∙ ap (λ (l : List (ℕ × Item)). x ∷ l) (without_both r xs ys) ∙ sym (ap (λ (l : List (ℕ × Item)). l ++ without r ys) (without_there r x xs n)))
+
+-- the block at `from` went, an endpoint after it was shut and drained
+pub swept_clear : (from r bytes : ℕ) (x : Item) (more : List (ℕ × Item)) (old mid new : PlaceOf) → from ≤ length old.blocks → drop from old.blocks ≡ (r, x) ∷ more → value_at r old.blocks ≡ Some x
+    → Clears r old mid → Distinct (keys mid.blocks) → new ≡ with_blocks mid (without r mid.blocks) → bytes + total_of new.blocks ≡ total_of mid.blocks → IsSweptBy from 1 old new bytes
+swept_clear from r bytes x more old mid new inside first at clear once is sum =
+    let z : Item = clear.0 in let y : Item = clear.1 in let ys : List (ℕ × Item) = clear.2 in let xs : List (ℕ × Item) = old.blocks in
+    let both : Some z ≡ Some x = sym clear.3 ∙ at in let one : z ≡ x = cc in
+    let d : ℕ = toward x.content in let log : List Event = accepted_on old.process d (keys ys) in
+    let came : mid ≡ with_more d ys (with_blocks old (put r y xs)) = clear.6 ∙ ap (λ (w : Item). with_more (toward w.content) ys (with_blocks old (put r y xs))) one in
+    let list : mid.blocks ≡ put r y xs ++ ys = ap (λ (p : PlaceOf). p.blocks) came in
+    let names : keys mid.blocks ≡ keys (xs ++ ys) =
+    ap keys list ∙ keys_both (put r y xs) ys ∙ ap (λ (l : List ℕ). l ++ keys ys) (put_keys r y xs) ∙ sym (keys_both xs ys) in
+    let less : without r mid.blocks ≡ without r (xs ++ ys) =
+    ap (without r) list ∙ without_both r (put r y xs) ys ∙ ap (λ (l : List (ℕ × Item)). l ++ without r ys) (put_without r y xs) ∙ sym (without_both r xs ys) in
+    let long : total_of (put r y xs) + z.len ≡ total_of xs + y.len = total_put xs r z y clear.3 in let sizes : y.len ≡ z.len = clear.4 in
+    let one_total : total_of mid.blocks ≡ total_of (put r y xs) + total_of ys = ap total_of list ∙ total_both (put r y xs) ys in
+    let two_total : total_of (xs ++ ys) ≡ total_of xs + total_of ys = total_both xs ys in
+    let total : total_of mid.blocks ≡ total_of (xs ++ ys) = omega (arith, long, sizes, one_total, two_total) in
+    swept_one from r bytes d x more old (with_more d ys old) new ys inside first refl (subst Distinct names once)
+    (ys, [], [], sym (append-nil ys), sym (append-nil log), subst (λ (w : Item). EndsWith w.content ys) one clear.5, (refl, refl))
+    (is ∙ (λ i. with_blocks (came i) (less i))) (sum ∙ total)
 
 -- nothing yet
 pub swept_none : (from : ℕ) (old : PlaceOf) → IsSweptBy from 0 old old 0
@@ -164,7 +170,7 @@ swept_none from old = record {
   there = omega arith;
   list = sym (whole from old.blocks);
   moved = sym (append-nil old.moved);
-  theirs = tt;
+  ended = (refl, refl);
   sum = omega arith;
 } where
   whole : (k : ℕ) (w : List (ℕ × Item)) → take k w ++ (drop k w ++ []) ≡ w
@@ -187,9 +193,9 @@ gave_some (suc i) n (t ∷ ts) h = let more = gave_some i n ts (omega arith) in 
     (omega arith, ap (λ (l : List TallyOf). record t { back = 0 } ∷ l) more.1)
 
 -- a place whose list changed twice
-pub twice : (d : ℕ) (old mid new : PlaceOf) (ys xs : List (ℕ × Item)) → mid ≡ with_more d ys old → new ≡ with_blocks mid xs → new ≡ with_list old new
-twice d old mid new ys xs one two =
-    let all : new ≡ with_blocks (with_more d ys old) xs = two ∙ ap (λ (p : PlaceOf). with_blocks p xs) one in
+pub twice : (d : ℕ) (old mid new : PlaceOf) (zs ys xs : List (ℕ × Item)) → mid ≡ with_more d ys (with_blocks old zs) → new ≡ with_blocks mid xs → new ≡ with_list old new
+twice d old mid new zs ys xs one two =
+    let all : new ≡ with_blocks (with_more d ys (with_blocks old zs)) xs = two ∙ ap (λ (p : PlaceOf). with_blocks p xs) one in
     all ∙ ap (λ (p : PlaceOf). with_list old p) (sym all)
 
 -- the same, where each is told by its own list

@@ -5,30 +5,30 @@ use Rattle.xh_core.specs.declared.refused.Refused.{Refused}
 use Rattle.xh_core.specs.declared.status.Status.{Status}
 use Rattle.xh_core.specs.declared.status.Status.TheVariants.{Ending, Ended}
 use Rattle.xh_model.specs.declared.event.Event.{Event}
-use Rattle.xh_model.specs.declared.event.Event.TheVariants.{Accept}
-use Rattle.xh_model.specs.Keyed.{Among, value_at, without}
+use Rattle.xh_model.specs.Keyed.{keys, value_at, without}
 use Rattle.xh_core.specs.Calls.{reclaimed}
 use Rattle.xh_model.specs.declared.limits.TheConstants.{MAX_BUDGET}
-use Rattle.xh_place.specs.Bodies.{kind_of, toward}
-use Rattle.xh_core.specs.declared.header.Kind.TheVariants as kind
+use Rattle.xh_place.specs.Bodies.{toward}
+use Rattle.xh_place.specs.Endpoints.{EndsWith}
+use Rattle.xh_place.specs.Moves.{accepted_on}
 use Rattle.xh_place.specs.Places.{Item, PlaceOf, with_blocks, with_list, total_of}
 
--- the process accepted each of the blocks, by the events, on the direction toward an endpoint that is among `ends`
-abbrev pub AreFor : ℕ → List (ℕ × Item) → List (ℕ × Item) → List Event → Type 0
-AreFor p ends [] [] = Unit {0}
-AreFor p ends (y ∷ ys) (e ∷ es) = ((q : ℕ) × (x : Item) × Among ends (q, x) × (kind_of x.content ≡ kind.End) × (e ≡ Accept p y.0 (toward x.content))) × AreFor p ends ys es
-AreFor p ends [] (e ∷ es) = ⊥
-AreFor p ends (y ∷ ys) [] = ⊥
+-- These went, one after another, each as it ends. What was accepted is what came with each, in their order, which the process accepted on the direction toward it.
+abbrev pub AreEnded : ℕ → List (ℕ × Item) → List (ℕ × Item) → List Event → Type 0
+AreEnded p [] accepted log = (accepted ≡ []) × (log ≡ [])
+AreEnded p (y ∷ ys) accepted log = (came : List (ℕ × Item)) × (more : List (ℕ × Item)) × (later : List Event) × (accepted ≡ came ++ more)
+    × (log ≡ accepted_on p (toward y.1.content) (keys came) ++ later) × EndsWith y.1.content came × AreEnded p ys more later
 
 -- So many blocks were reclaimed: the list from `from` on is the old one from there, followed by what was accepted, without its first blocks.
--- What was accepted was on its way to the endpoints among those first blocks. The bytes are those that the list had and gained, less those that it has.
+-- Those were bytes, or endpoints that were shut and took all that they found; what was accepted came with their messages.
+-- The bytes are those that the list had and gained, less those that it has.
 pub record IsSweptBy (from count : ℕ) (old new : PlaceOf) (bytes : ℕ) : Type 0 where
   pub accepted : List (ℕ × Item)
   pub log : List Event
   pub there : count ≤ length (drop from old.blocks ++ accepted)
   pub list : new.blocks ≡ take from old.blocks ++ drop count (drop from old.blocks ++ accepted)
   pub moved : new.moved ≡ old.moved ++ log
-  pub theirs : AreFor old.process (take count (drop from old.blocks ++ accepted)) accepted log
+  pub ended : AreEnded old.process (take count (drop from old.blocks ++ accepted)) accepted log
   pub sum : bytes + total_of new.blocks ≡ total_of old.blocks + total_of accepted
 
 -- A sweep: no more blocks were reclaimed than the budget, and blocks are left from `from` on only where it is used up.

@@ -10,9 +10,9 @@ use Rattle.xh_core.specs.declared.status.Status.TheVariants as status
 use Rattle.xh_model.specs.declared.limits.TheConstants.{DIRECTIONS, END_BYTES, MAX_BUDGET, MAX_RECORDS}
 use Rattle.xh_core.specs.Refusing.{Tests, first_refusal}
 use Rattle.xh_core.specs.Statuses.{is_running}
-use Rattle.xh_model.specs.Keyed.{value_at}
+use Rattle.xh_model.specs.Keyed.{put, value_at}
 use Rattle.xh_records.specs.Seats.{IsRecord}
-use Rattle.xh_place.specs.Bodies.{spot, toward, away}
+use Rattle.xh_place.specs.Bodies.{away, endpoint, toward}
 use Rattle.xh_arena.specs.Views.{TallyOf}
 use Rattle.xh_place.specs.declared.opening.Unopened.{Unopened}
 use Rattle.xh_place.specs.Tallies.{took}
@@ -32,11 +32,15 @@ abbrev pub away_in : Option Item → ℕ
 away_in None = DIRECTIONS
 away_in (Some x) = away x.content
 
--- ---- open
-
 -- an endpoint's block
 abbrev pub end_block : Posted → Item
-end_block p = record { len = END_BYTES; content = spot p.channel p.side }
+end_block p = record { len = END_BYTES; content = endpoint p }
+
+-- from p to q, which else are the same place, the endpoint of the record e became another, as `does` says
+abbrev pub EndDoes : ℕ → PlaceOf → PlaceOf → (Posted → Posted → Type 0) → Type 0
+EndDoes e p q does = (before after : Posted) × (value_at e p.blocks ≡ Some (end_block before)) × (q ≡ with_blocks p (put e (end_block after) p.blocks)) × does before after
+
+-- ---- open
 
 -- an endpoint's length, and a record of the arena
 abbrev pub IsEndIn : ℕ → Block → Type 0

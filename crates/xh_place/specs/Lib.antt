@@ -1,5 +1,6 @@
 pub mod Vaults
 pub mod Bodies
+pub mod Endpoints
 pub mod Moves
 pub mod Places
 pub mod Desk

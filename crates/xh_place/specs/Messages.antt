@@ -1,11 +1,17 @@
 -- Give and take: what they do to the place.
-use Rattle.std.specs.Prelude.{◌≡◌, ◌≢◌, ℕ, ◌+◌, ◌*◌, Bool, List, [], ◌∷◌, ◌++◌, Option, Some, None, is_some, Result, MatchResult}
+use Rattle.std.specs.Prelude.{◌≡◌, ℕ, Bool, List, [], ◌∷◌, Option, Some, None, is_some, map, Result, Ok, Err, MatchResult}
+use Rattle.arrayvec.specs.ArrayVec.{ArrayVec}
+use Rattle.xh_channel.specs.declared.message.Message.{Message}
+use Rattle.xh_channel.specs.declared.refused.Refused.{Refused as NoMessage}
+use Rattle.xh_channel.specs.declared.unsent.Unsent.{Unsent}
+use Rattle.xh_channel.specs.declared.unsent.Unsent.TheVariants as unsent
+use Rattle.xh_channel.specs.Refusals.{same_refusal}
 use Rattle.xh_core.specs.declared.refused.Refused.{Refused}
-use Rattle.xh_core.specs.declared.refused.Refused.TheVariants.{Protocol, PeerClosed, Full, Empty}
+use Rattle.xh_core.specs.declared.refused.Refused.TheVariants.{Protocol, PeerClosed, Full}
 use Rattle.xh_model.specs.Keyed.{Among, keys, put, value_at, without}
+use Rattle.xh_place.specs.Endpoints.{AreGot, Puts, Takes, record_of}
+use Rattle.xh_place.specs.Ends.{EndDoes, away_in, toward_in}
 use Rattle.xh_place.specs.Moves.{there_and_back}
-use Rattle.xh_place.specs.declared.got.Got.{Got}
-use Rattle.xh_place.specs.declared.got.Got.TheVariants.{Here, Missing}
 use Rattle.xh_place.specs.declared.got.Taken.{Taken}
 use Rattle.xh_place.specs.Places.{Item, PlaceOf, with_blocks, with_moved, with_more}
 
@@ -14,12 +20,16 @@ use Rattle.xh_place.specs.Places.{Item, PlaceOf, with_blocks, with_moved, with_m
 abbrev pub is_listed : List (ℕ × Item) → ℕ → Bool
 is_listed xs r = is_some (value_at r xs)
 
--- why the message did not go, and which blocks came back
-abbrev pub IsUnsent : List ℕ → Refused → Type 0
-IsUnsent back (Protocol named) = named.items ≡ back
-IsUnsent back (PeerClosed named) = named.items ≡ back
-IsUnsent back (Full named) = named.items ≡ back
-IsUnsent back _ = ⊥
+-- the refusal of a put, with the blocks that came back
+abbrev pub refusal : ArrayVec ℕ → Unsent → Refused
+refusal back (unsent.Protocol blocks) = Protocol back
+refusal back (unsent.PeerClosed blocks) = PeerClosed back
+refusal back (unsent.Full blocks) = Full back
+
+-- the number of the put, and nothing came back; or its refusal, with what came back
+abbrev pub Answers : List ℕ → Result ℕ Unsent → Result ℕ Refused → Type 0
+Answers back answered result = MatchResult answered (λ no. (result ≡ Ok no) × (back ≡ []))
+    (λ u. (named : ArrayVec ℕ) × (result ≡ Err (refusal named u)) × (named.items ≡ back))
 
 -- the block of a record is gone, or has what came back
 abbrev pub settle : {X : Type 0} → ℕ → Option X → List (ℕ × X) → List (ℕ × X)
@@ -32,30 +42,38 @@ settled [] back xs = xs
 settled (r ∷ rs) back xs = settled rs back (settle r (back r) xs)
 
 -- Each given block was passed on the direction, in the order given. Then those that came back were accepted from that direction.
--- Each given block has left the list, or came back, and then is in its old place, with the length and content that it has now. None came back where the message went.
-abbrev pub IsSent : ℕ → List ℕ → PlaceOf → PlaceOf → Result ℕ Refused → Type 0
-IsSent d given old new result = (back : List (ℕ × Item))
-    × (new ≡ with_moved (with_blocks old (settled given (λ r. value_at r back) old.blocks)) (there_and_back old.process d given (keys back)))
-    × ((r : ℕ) → Among (keys back) r → Among given r) × MatchResult result (λ no. keys back ≡ []) (IsUnsent (keys back))
+-- Each given block has left the list, or came back, and then is in its old place, with the length and content that it has now.
+abbrev pub GoesOrReturns : ℕ → List ℕ → List (ℕ × Item) → PlaceOf → PlaceOf → Type 0
+GoesOrReturns d given back old new = (new ≡ with_moved (with_blocks old (settled given (λ r. value_at r back) old.blocks)) (there_and_back old.process d given (keys back)))
+    × ((r : ℕ) → Among (keys back) r → Among given r)
+
+-- The endpoint put the blocks with the tag, they went or came back, and the answer is that of the put.
+pub record IsSent (e tag : ℕ) (given : List ℕ) (old new : PlaceOf) (result : Result ℕ Refused) : Type 0 where
+  pub mid : PlaceOf
+  pub blocks : ArrayVec ℕ
+  pub answered : Result ℕ Unsent
+  pub back : List (ℕ × Item)
+  pub all : blocks.items ≡ given
+  pub made : EndDoes e old mid (Puts tag blocks answered)
+  pub moved : GoesOrReturns (away_in (value_at e old.blocks)) given back mid new
+  pub answer : Answers (keys back) answered result
 
 -- ---- take
 
--- why no message was taken
-abbrev pub IsUntaken : Refused → Type 0
-IsUntaken (PeerClosed back) = back.items ≡ []
-IsUntaken Empty = Unit {0}
-IsUntaken _ = ⊥
+-- The answer has the number and the tag of the message, and tells of each of its blocks, in their order.
+-- Those that were on the direction came, and are the last of the list, in their order.
+pub record Unpacks (d : ℕ) (m : Message) (old new : PlaceOf) (taken : Taken) : Type 0 where
+  pub number : taken.no ≡ m.no
+  pub tag : taken.tag ≡ m.tag
+  pub records : map record_of taken.blocks.items ≡ m.blocks.items
+  pub gained : List (ℕ × Item)
+  pub list : new ≡ with_more d gained old
+  pub got : AreGot d gained taken.blocks.items
 
--- a block is here, and then it is what the list gained; or the word that was seen isn't "in flight on the direction"
-abbrev pub IsGot : ℕ → List (ℕ × Item) → Got → Type 0
-IsGot d ys (Here block) = (x : Item) × (ys ≡ (block.rec, x) ∷ []) × (x.len ≡ block.len)
-IsGot d ys (Missing r word) = (ys ≡ []) × (word ≢ 2 + 4 * d)
-
--- of each block in turn, and the list gained them in this order
-abbrev pub AreGot : ℕ → List (ℕ × Item) → List Got → Type 0
-AreGot d ys [] = ys ≡ []
-AreGot d ys (got ∷ gots) = (here : List (ℕ × Item)) × (more : List (ℕ × Item)) × (ys ≡ here ++ more) × IsGot d here got × AreGot d more gots
-
--- the blocks of the message that were on the direction came, and are the last of the list, in their order
+-- the endpoint took a message, and its blocks came
 abbrev pub IsTaken : ℕ → PlaceOf → PlaceOf → Taken → Type 0
-IsTaken direction old new taken = (ys : List (ℕ × Item)) × (new ≡ with_more direction ys old) × AreGot direction ys taken.blocks.items
+IsTaken e old new taken = (mid : PlaceOf) × (m : Message) × EndDoes e old mid (Takes (Ok m)) × Unpacks (toward_in (value_at e old.blocks)) m mid new taken
+
+-- the endpoint took nothing, and the answer is that of the take
+abbrev pub IsUntaken : ℕ → PlaceOf → PlaceOf → Refused → Type 0
+IsUntaken e old new refused = (none : NoMessage) × EndDoes e old new (Takes (Err none)) × (refused ≡ same_refusal none)

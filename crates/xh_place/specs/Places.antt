@@ -15,7 +15,7 @@ use Rattle.xh_model.specs.Keyed.{Distinct, keys, value_at, without}
 use Rattle.xh_records.specs.Seats.{RecordsOf, Held, IsRecord}
 use Rattle.xh_place.specs.declared.body.Body.{Body}
 use Rattle.xh_core.specs.declared.header.Header.{Header}
-use Rattle.xh_place.specs.Bodies.{Content, bytes, spot, content_of, kind_of, fits_in}
+use Rattle.xh_place.specs.Bodies.{Content, bytes, endpoint, content_of, kind_of, fits_in}
 use Rattle.xh_place.specs.Moves.{accepted_on, passed_on}
 
 -- a block: its length, and what it carries
@@ -96,7 +96,7 @@ shown lots (r ∷ rs) = (r, item_in (value_at r lots)) ∷ shown lots rs
 -- a block has bytes, and what it carries is of its length
 abbrev pub Fits : Content → ℕ → Type 0
 Fits (bytes xs) n = (length xs ≡ n) × (n ≤ MAX_BYTES)
-Fits (spot channel side) n = n ≡ END_BYTES
+Fits (endpoint e) n = n ≡ END_BYTES
 
 abbrev pub IsWhole : Item → Type 0
 IsWhole x = (0 < x.len) × Fits x.content x.len

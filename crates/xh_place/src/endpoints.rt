@@ -1,15 +1,14 @@
 // What a place does to an endpoint, in its lot.
-ghost use Rattle.std.specs.Prelude.{◌≡◌, ◌+◌, ◌*◌, ◌<◌, Some, IfErr};
+ghost use Rattle.std.specs.Prelude.{◌≡◌, ◌+◌, ◌*◌, ◌<◌, Some};
 ghost use Rattle.xh_arena.specs.Views.{LotOf};
-ghost use Rattle.xh_channel.specs.Refusals.{same_refusal};
 ghost use Rattle.xh_model.specs.declared.limits.TheConstants.{CHANNELS, DIRECTIONS};
 ghost use Rattle.xh_model.specs.Keyed.{value_at, put};
 ghost use Rattle.xh_records.specs.Showing.{IsLotOf};
 ghost use Rattle.xh_records.specs.Seats.{IsSeatOf, IsRecord, with_lots};
 ghost use Rattle.xh_place.specs.declared.body.Body.{Body};
-ghost use Rattle.xh_place.specs.Bodies.{content_of, spot, toward};
-ghost use Rattle.xh_place.specs.inner.Lots.{IsEnd, KeepsEnd};
-ghost use Rattle.xh_place.specs.Messages.{IsUntaken};
+ghost use Rattle.xh_place.specs.Bodies.{IsEndAt, content_of, toward};
+ghost use Rattle.xh_place.specs.Endpoints.{Puts, Shuts, Takes};
+ghost use Rattle.xh_place.specs.inner.Lots.{IsEnd, LotDoes};
 
 use crate::body::Body;
 use crate::desk::Desk;
@@ -23,7 +22,7 @@ use xh_records::{Records, Seat};
 pub(crate) fn spot_at(records: &Records<Body>, seat: &mut Seat<Body>, e: u16) -> Spot
     requires own { IsSeatOf records.now seat.old × IsRecord records.now.shape e }
     requires held { (l : LotOf Body) × (value_at e seat.old.lots ≡ Some l) × IsLotOf seat.old.shape e l × IsEnd l }
-    ensures seat { (l : LotOf Body) → value_at e seat.old.lots ≡ Some l → (content_of l.body ≡ spot result.channel result.side) × (seat.new ≡ with_lots seat.old (put e l seat.old.lots)) }
+    ensures seat { (l : LotOf Body) → value_at e seat.old.lots ≡ Some l → IsEndAt (content_of l.body) result.channel result.side × (seat.new ≡ with_lots seat.old (put e l seat.old.lots)) }
     ensures small { (result.channel < CHANNELS) × (result.side < 2) }
 {
     records.with_lot(
@@ -32,7 +31,7 @@ pub(crate) fn spot_at(records: &Records<Body>, seat: &mut Seat<Body>, e: u16) ->
         &mut |lot: &mut Lot<Body>|
             requires { IsEnd lot.old }
             ensures same { lot.new ≡ lot.old }
-            ensures spot { (content_of lot.old.body ≡ spot result.channel result.side) × (result.channel < CHANNELS) × (result.side < 2) }
+            ensures spot { IsEndAt (content_of lot.old.body) result.channel result.side × (result.channel < CHANNELS) × (result.side < 2) }
         {
             let Body::End(end) = lot.body() else {
                 unreachable!()
@@ -61,7 +60,7 @@ pub(crate) fn put_at<R: Wait, V, G>(
 ) -> Result<u64, Unsent>
     requires own { IsSeatOf desk.now.records.now seat.old × IsRecord desk.now.records.now.shape e }
     requires held { (l : LotOf Body) × (value_at e seat.old.lots ≡ Some l) × IsLotOf seat.old.shape e l × IsEnd l }
-    ensures { (l : LotOf Body) → value_at e seat.old.lots ≡ Some l → (m : LotOf Body) × KeepsEnd l m × (seat.new ≡ with_lots seat.old (put e m seat.old.lots)) }
+    ensures { (l : LotOf Body) → value_at e seat.old.lots ≡ Some l → (m : LotOf Body) × LotDoes (Puts tag given.now result) l m × (seat.new ≡ with_lots seat.old (put e m seat.old.lots)) }
 {
     let (rt, channels) = (desk.rt, desk.channels);
     desk.records.with_lot(
@@ -69,7 +68,7 @@ pub(crate) fn put_at<R: Wait, V, G>(
         e,
         &mut |lot: &mut Lot<Body>|
             requires { IsEnd lot.old }
-            ensures { KeepsEnd lot.old lot.new }
+            ensures { LotDoes (Puts tag given.entry.now result) lot.old lot.new }
         {
             let Body::End(end) = lot.body_mut() else {
                 unreachable!()
@@ -88,9 +87,8 @@ pub(crate) fn take_at<R: Wait, V, G>(
     requires own { IsSeatOf desk.now.records.now seat.old × IsRecord desk.now.records.now.shape e }
     requires held { (l : LotOf Body) × (value_at e seat.old.lots ≡ Some l) × IsLotOf seat.old.shape e l × IsEnd l }
     ensures seat { (l : LotOf Body) → value_at e seat.old.lots ≡ Some l → (result.1 ≡ toward (content_of l.body))
-        × ((m : LotOf Body) × KeepsEnd l m × (seat.new ≡ with_lots seat.old (put e m seat.old.lots))) }
+        × ((m : LotOf Body) × LotDoes (Takes result.0) l m × (seat.new ≡ with_lots seat.old (put e m seat.old.lots))) }
     ensures small { result.1 < DIRECTIONS }
-    ensures none { IfErr result.0 (λ refused. IsUntaken (same_refusal refused)) }
 {
     let (rt, channels) = (desk.rt, desk.channels);
     desk.records.with_lot(
@@ -98,9 +96,8 @@ pub(crate) fn take_at<R: Wait, V, G>(
         e,
         &mut |lot: &mut Lot<Body>|
             requires { IsEnd lot.old }
-            ensures lot { KeepsEnd lot.old lot.new }
+            ensures lot { LotDoes (Takes result.0) lot.old lot.new }
             ensures direction { (result.1 ≡ toward (content_of lot.old.body)) × (result.1 < DIRECTIONS) }
-            ensures none { IfErr result.0 (λ refused. IsUntaken (same_refusal refused)) }
         {
             let Body::End(end) = lot.body_mut() else {
                 unreachable!()
@@ -115,7 +112,7 @@ pub(crate) fn take_at<R: Wait, V, G>(
 pub(crate) fn shut_at<R: Wait, V, G>(desk: &Desk<'_, R, V, G>, seat: &mut Seat<Body>, e: u16)
     requires own { IsSeatOf desk.now.records.now seat.old × IsRecord desk.now.records.now.shape e }
     requires held { (l : LotOf Body) × (value_at e seat.old.lots ≡ Some l) × IsLotOf seat.old.shape e l × IsEnd l }
-    ensures { (l : LotOf Body) → value_at e seat.old.lots ≡ Some l → (m : LotOf Body) × KeepsEnd l m × (seat.new ≡ with_lots seat.old (put e m seat.old.lots)) }
+    ensures { (l : LotOf Body) → value_at e seat.old.lots ≡ Some l → (m : LotOf Body) × LotDoes Shuts l m × (seat.new ≡ with_lots seat.old (put e m seat.old.lots)) }
 {
     let (rt, channels) = (desk.rt, desk.channels);
     desk.records.with_lot(
@@ -123,7 +120,7 @@ pub(crate) fn shut_at<R: Wait, V, G>(desk: &Desk<'_, R, V, G>, seat: &mut Seat<B
         e,
         &mut |lot: &mut Lot<Body>|
             requires { IsEnd lot.old }
-            ensures { KeepsEnd lot.old lot.new }
+            ensures { LotDoes Shuts lot.old lot.new }
         {
             let Body::End(end) = lot.body_mut() else {
                 unreachable!()

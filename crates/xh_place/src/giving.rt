@@ -1,19 +1,20 @@
 // What a give does to the seat: its blocks leave it, and some come back.
-ghost use Rattle.std.specs.Prelude.{◌≡◌, ◌≢◌, ◌⊎◌, ℕ, ◌+◌, ◌*◌, ◌/◌, ◌%◌, ◌<◌, ◌≤◌, List, [], ◌++◌, length, Some, None, OnOk, MatchResult};
+ghost use Rattle.std.specs.Prelude.{◌≡◌, ◌≢◌, ◌⊎◌, ℕ, ◌+◌, ◌*◌, ◌/◌, ◌%◌, ◌<◌, ◌≤◌, List, [], ◌++◌, length, Some, None, OnOk};
 ghost use Rattle.arrayvec.specs.ArrayVec.{ArrayVec};
 ghost use Rattle.xh_arena.specs.Views.{LotOf};
 ghost use Rattle.xh_model.specs.declared.limits.TheConstants.{DIRECTIONS, MAX_BLOCKS};
 ghost use Rattle.xh_model.specs.Keyed.{Among, Distinct, keys, value_at};
 ghost use Rattle.xh_records.specs.Showing.{IsFull};
-ghost use Rattle.xh_place.specs.Messages.{IsUnsent};
+ghost use Rattle.xh_place.specs.Endpoints.{Puts};
+ghost use Rattle.xh_place.specs.Messages.{Answers, refusal};
 ghost use Rattle.xh_records.specs.Seats.{IsSeatOf, IsRecord};
 ghost use Rattle.xh_place.specs.Moves.{accepted_on, passed_on, there_and_back};
 ghost use Rattle.xh_place.specs.inner.Lists.{AreBack, CameBack, lens};
-ghost use Rattle.xh_place.specs.inner.Lots.{HasNow, with_done};
+ghost use Rattle.xh_place.specs.inner.Lots.{HasNow, LotDoes, with_done};
 ghost use Rattle.xh_place.specs.declared.body.Body.{Body};
 ghost use Rattle.xh_core.specs.declared.header.Kind.TheVariants as kind;
 ghost use Rattle.xh_place.specs.Bodies.{away, content_of, kind_of, fits_in};
-ghost use Rattle.xh_place.specs.Places.{IsBlock, item_in, item_of};
+ghost use Rattle.xh_place.specs.Places.{IsBlock, item_in};
 
 use crate::body::Body;
 use crate::desk::Desk;
@@ -117,7 +118,7 @@ fn post<R: Wait, V, G: Gate>(
     requires held { (r : ℕ) → Among given.now.items r → (l : LotOf Body) × (value_at r seat.old.lots ≡ Some l) × IsBlock seat.old.shape r l }
     ensures direction { (result.1 ≡ away (item_in (value_at e seat.old.lots)).content) × (result.1 < DIRECTIONS) }
     ensures passed { HasNow (with_done (passed_on seat.old.process result.1 given.now.items) seat.old) seat.new.lots seat.new }
-    ensures end { (l : LotOf Body) → value_at e seat.old.lots ≡ Some l → (m : LotOf Body) × (value_at e seat.new.lots ≡ Some m) × (item_of m ≡ item_of l) × IsBlock seat.old.shape e m }
+    ensures end { (l : LotOf Body) → value_at e seat.old.lots ≡ Some l → (m : LotOf Body) × (value_at e seat.new.lots ≡ Some m) × LotDoes (Puts tag given.now result.0) l m × IsBlock seat.old.shape e m }
     ensures gone { (r : ℕ) → Among given.now.items r → value_at r seat.new.lots ≡ None }
     ensures others { (r : ℕ) → (Among given.now.items r → ⊥) → e ≢ r → value_at r seat.new.lots ≡ value_at r seat.old.lots }
     ensures bytes { result.2 ≡ lens given.now.items (λ r. value_at r seat.old.lots) }
@@ -144,7 +145,7 @@ pub(crate) fn give_all<R: Wait, V, G: Gate>(
     requires distinct { Distinct given.now.items × (Among given.now.items e → ⊥) }
     requires held { (r : ℕ) → Among given.now.items r → (l : LotOf Body) × (value_at r seat.old.lots ≡ Some l) × IsBlock seat.old.shape r l }
     ensures moved { HasNow (with_done (there_and_back seat.old.process (away (item_in (value_at e seat.old.lots)).content) given.now.items result.back.items) seat.old) seat.new.lots seat.new }
-    ensures end { (l : LotOf Body) → value_at e seat.old.lots ≡ Some l → (m : LotOf Body) × (value_at e seat.new.lots ≡ Some m) × (item_of m ≡ item_of l) × IsBlock seat.old.shape e m }
+    ensures end { (l : LotOf Body) → value_at e seat.old.lots ≡ Some l → (m : LotOf Body) × (value_at e seat.new.lots ≡ Some m) × LotDoes (Puts tag given.now result.put) l m × IsBlock seat.old.shape e m }
     ensures others { (r : ℕ) → (Among given.now.items r → ⊥) → e ≢ r → value_at r seat.new.lots ≡ value_at r seat.old.lots }
     ensures back { AreBack given.now.items result.back.items seat.new }
     ensures lost { result.lost ≡ lens given.now.items (λ r. value_at r seat.old.lots) }
@@ -172,7 +173,7 @@ pub(crate) fn give_all<R: Wait, V, G: Gate>(
 // The answer of a give.
 pub(crate) fn answer(put: Result<u64, Unsent>, back: ArrayVec<u16, 8>) -> Result<u64, Refused>
     requires { OnOk put (back.items ≡ []) }
-    ensures { MatchResult result (λ no. back.items ≡ []) (IsUnsent back.items) }
+    ensures { Answers back.items put result }
 {
     match put {
         Ok(no) => Ok(no),
@@ -182,7 +183,7 @@ pub(crate) fn answer(put: Result<u64, Unsent>, back: ArrayVec<u16, 8>) -> Result
 
 // The refusal of a put, with what came back.
 fn refusal(unsent: Unsent, back: ArrayVec<u16, 8>) -> Refused
-    ensures { IsUnsent back.items result }
+    ensures { result ≡ refusal back unsent }
 {
     match unsent {
         Unsent::Protocol { .. } => Refused::Protocol { back },

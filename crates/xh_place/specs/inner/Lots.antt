@@ -5,7 +5,9 @@ use Rattle.xh_model.specs.declared.limits.TheConstants.{MAX_RECORDS}
 use Rattle.xh_model.specs.declared.event.Event.{Event}
 use Rattle.xh_model.specs.Keyed.{Among, keys, put}
 use Rattle.xh_records.specs.Seats.{Held, with_lots}
+use Rattle.xh_channel.specs.Queues.{Posted}
 use Rattle.xh_place.specs.declared.body.Body.{Body}
+use Rattle.xh_place.specs.declared.body.Body.TheVariants.{End}
 use Rattle.xh_core.specs.declared.header.Kind.TheVariants as kind
 use Rattle.xh_place.specs.Bodies.{content_of, fits_in, front, kind_of, rest}
 use Rattle.xh_place.specs.Moves.{moves}
@@ -37,6 +39,6 @@ IsCut old new r k l t = (h m : LotOf Body) × (Among (keys old.lots) t → ⊥) 
 abbrev pub IsEnd : LotOf Body → Type 0
 IsEnd l = kind_of (content_of l.body) ≡ kind.End
 
--- the lot has its endpoint still, whatever that has counted since
-abbrev pub KeepsEnd : LotOf Body → LotOf Body → Type 0
-KeepsEnd old new = (new ≡ record old { body = new.body }) × (content_of new.body ≡ content_of old.body)
+-- the lot's endpoint became another, as `does` says
+abbrev pub LotDoes : (Posted → Posted → Type 0) → LotOf Body → LotOf Body → Type 0
+LotDoes does old new = (before after : Posted) × (old.body ≡ End before) × (new ≡ record old { body = End after }) × does before after

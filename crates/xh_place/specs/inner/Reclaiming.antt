@@ -1,10 +1,15 @@
 -- The steps of an endpoint that nobody is here for.
-use Rattle.std.specs.Prelude.{◌≡◌, ℕ, [], ◌∷◌, length}
+use Rattle.std.specs.Prelude.{◌≡◌, ℕ, List, [], ◌∷◌, length, Some}
+use Rattle.xh_channel.specs.declared.message.Message.{Message}
 use Rattle.xh_core.specs.declared.status.Status.{Status}
 use Rattle.xh_core.specs.declared.status.Status.TheVariants as status
 use Rattle.xh_model.specs.declared.limits.TheConstants.{MAX_BUDGET}
+use Rattle.xh_model.specs.Keyed.{put, value_at}
+use Rattle.xh_place.specs.Bodies.{toward}
 use Rattle.xh_place.specs.Ending.{IsSwept}
-use Rattle.xh_place.specs.Places.{Item, PlaceOf, with_list, with_more}
+use Rattle.xh_place.specs.Endpoints.{AreUnpacked, EndsWith, IsDrained}
+use Rattle.xh_place.specs.Ends.{EndDoes, toward_in}
+use Rattle.xh_place.specs.Places.{Item, PlaceOf, with_blocks, with_list, with_more}
 
 -- one that had ended is ending while blocks come
 abbrev pub awake : Status → Status
@@ -16,3 +21,13 @@ awake status.Ending = status.Ending
 -- the endpoint came on the direction to the end of the list, and was swept from there
 abbrev pub IsSweptLate : ℕ → ℕ → PlaceOf → PlaceOf → ℕ → Type 0
 IsSweptLate d r old new sum = (x : Item) × (left : ℕ) × IsSwept (length old.blocks) MAX_BUDGET (with_more d ((r, x) ∷ []) old) new sum left × (new ≡ with_list old new)
+
+-- the endpoint was drained, and what came with its messages is at the end of the list
+abbrev pub Drains : ℕ → PlaceOf → PlaceOf → Type 0
+Drains e old new = (mid : PlaceOf) × (ys : List (ℕ × Item)) × (ms : List Message) × EndDoes e old mid (IsDrained ms) × AreUnpacked (toward_in (value_at e old.blocks)) ms ys
+    × (new ≡ with_more (toward_in (value_at e old.blocks)) ys mid)
+
+-- A block of the list is about to go: an endpoint was shut and drained, and what came with its messages is at the end of the list. Of a data block nothing changed.
+abbrev pub Clears : ℕ → PlaceOf → PlaceOf → Type 0
+Clears r old new = (x : Item) × (y : Item) × (ys : List (ℕ × Item)) × (value_at r old.blocks ≡ Some x) × (y.len ≡ x.len) × EndsWith x.content ys
+    × (new ≡ with_more (toward x.content) ys (with_blocks old (put r y old.blocks)))

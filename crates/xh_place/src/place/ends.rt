@@ -1,6 +1,7 @@
 //! Endpoints of a place.
 ghost use Rattle.std.specs.Prelude.{◌≡◌, ◌≢◌, ◌⊎◌, ℕ, ◌+◌, ◌*◌, ◌/◌, ◌<◌, List, [], ◌∷◌, ◌++◌, length, Some, MatchOption, true, false};
 ghost use Rattle.xh_channel.specs.Pairs.{IsPair};
+ghost use Rattle.xh_channel.specs.Queues.{Posted};
 ghost use Rattle.xh_core.specs.declared.status.Status.TheVariants as status;
 ghost use Rattle.xh_core.specs.Calls.{arena_tests, end_tests};
 ghost use Rattle.xh_core.specs.Headers.{has_end};
@@ -9,11 +10,13 @@ ghost use Rattle.xh_core.specs.Statuses.{is_over};
 ghost use Rattle.xh_model.specs.Keyed.{value_at};
 ghost use Rattle.xh_records.specs.Seats.{IsRecord};
 ghost use Rattle.xh_core.specs.declared.header.Kind.TheVariants as kind;
-ghost use Rattle.xh_place.specs.Bodies.{kind_of, spot};
+ghost use Rattle.xh_place.specs.Bodies.{IsEndAt, kind_of};
 ghost use Rattle.xh_place.specs.Desk.{IsAt, StaysAt};
 ghost use Rattle.xh_place.specs.Ending.{HasGivenBack, IsClosed, last};
-ghost use Rattle.xh_place.specs.Ends.{RefusedOr, toward_in, Accepts, Opens, IsUnopened, is_here};
-ghost use Rattle.xh_place.specs.Places.{Item, IsPlaceOf, found, with_blocks, with_less, with_more};
+ghost use Rattle.xh_place.specs.Endpoints.{Shuts};
+ghost use Rattle.xh_place.specs.Ends.{Accepts, EndDoes, IsUnopened, Opens, RefusedOr, end_block, is_here};
+ghost use Rattle.xh_place.specs.inner.Reclaiming.{Clears, Drains};
+ghost use Rattle.xh_place.specs.Places.{Item, IsPlaceOf, found, with_blocks, with_less};
 ghost use Rattle.xh_model.specs.declared.limits.TheConstants.{DIRECTIONS, END_BYTES};
 ghost use Rattle.xh_place.specs.Starts.{start};
 ghost use Rattle.xh_place.specs.Vaults.{IsNoPair};
@@ -56,7 +59,7 @@ impl Place {
     pub fn spot(&mut self, records: &Records<Body>, r: u16) -> Option<Spot>
         requires own { IsPlaceOf records.now self.old }
         ensures same { self.new ≡ self.old }
-        ensures spot { MatchOption result (has_end (found self.old r) ≡ false) (λ s. (x : Item) × (value_at r self.old.blocks ≡ Some x) × (x.content ≡ spot s.channel s.side)) }
+        ensures spot { MatchOption result (has_end (found self.old r) ≡ false) (λ s. (x : Item) × (value_at r self.old.blocks ≡ Some x) × IsEndAt x.content s.channel s.side) }
     {
         let Some(
             Header {
@@ -75,7 +78,7 @@ impl Place {
         requires own { IsPlaceOf records.now self.old }
         requires end { (x : Item) × (value_at e self.old.blocks ≡ Some x) × (kind_of x.content ≡ kind.End) }
         ensures same { self.new ≡ self.old }
-        ensures spot { (x : Item) → value_at e self.old.blocks ≡ Some x → x.content ≡ spot result.channel result.side }
+        ensures spot { (x : Item) → value_at e self.old.blocks ≡ Some x → IsEndAt x.content result.channel result.side }
     {
         spot_at(records, &mut self.seat, e)
     }
@@ -217,7 +220,7 @@ impl Place {
     fn shut<R: Wait, V, G>(&mut self, desk: &Desk<'_, R, V, G>, e: u16)
         requires own { IsPlaceOf desk.now.records.now self.old }
         requires end { (x : Item) × (value_at e self.old.blocks ≡ Some x) × (kind_of x.content ≡ kind.End) }
-        ensures same { self.new ≡ self.old }
+        ensures { EndDoes e self.old self.new Shuts }
     {
         shut_at(desk, &mut self.seat, e);
     }
@@ -226,13 +229,14 @@ impl Place {
     fn drain<R: Wait, V, G: Gate>(&mut self, desk: &Desk<'_, R, V, G>, e: u16)
         requires own { IsPlaceOf desk.now.records.now self.old }
         requires alive { is_over self.old.state ≢ true }
-        requires end { (x : Item) × (value_at e self.old.blocks ≡ Some x) × (kind_of x.content ≡ kind.End) }
-        ensures { (ys : List (ℕ × Item)) × (self.new ≡ with_more (toward_in (value_at e self.old.blocks)) ys self.old) }
+        requires end { (p : Posted) × (value_at e self.old.blocks ≡ Some (end_block p)) }
+        ensures { Drains e self.old self.new }
     {
-        for _ in 0..u64::MAX {
-            let Ok(_taken) = self.take_message(desk, e) else {
-                return;
-            };
+        for _count in 0..u64::MAX {
+            match self.take_message(desk, e) {
+                Ok(_taken) => {}
+                Err(_refused) => return,
+            }
         }
     }
 
@@ -241,10 +245,11 @@ impl Place {
         requires own { IsPlaceOf desk.now.records.now self.old }
         requires alive { is_over self.old.state ≢ true }
         requires listed { (x : Item) × (value_at r self.old.blocks ≡ Some x) }
-        ensures { (ys : List (ℕ × Item)) × (self.new ≡ with_more (toward_in (value_at r self.old.blocks)) ys self.old) × (has_end (found self.old r) ≡ false → ys ≡ []) }
+        ensures { Clears r self.old self.new }
     {
-        if self.look(desk.records, r).kind == Kind::Data {
-            return;
+        match self.look(desk.records, r).kind {
+            Kind::Data => return,
+            Kind::End => {}
         }
         self.shut(desk, r);
         desk.gate.between(place_of(&self.seat), Point::Shut);

@@ -2,7 +2,6 @@
 ghost use Rattle.std.specs.Prelude.{◌≡◌, ◌≢◌, ℕ, ◌+◌, ◌*◌, ◌<◌, List, [], ◌∷◌, ◌++◌, Some, IfOk, IfErr, MatchResult, map, true};
 ghost use Rattle.std.specs.List.{list_all};
 ghost use Rattle.xh_core.specs.declared.status.Status.TheVariants as status;
-ghost use Rattle.xh_channel.specs.Refusals.{same_refusal};
 ghost use Rattle.xh_core.specs.Calls.{end_tests, given_tests};
 ghost use Rattle.xh_core.specs.Refusing.{Tested};
 ghost use Rattle.xh_core.specs.Statuses.{is_over};
@@ -11,11 +10,11 @@ ghost use Rattle.xh_model.specs.Keyed.{Among, Distinct, value_at};
 ghost use Rattle.xh_records.specs.Seats.{IsRecord};
 ghost use Rattle.xh_core.specs.declared.header.Kind.TheVariants as kind;
 ghost use Rattle.xh_place.specs.Bodies.{kind_of};
-ghost use Rattle.xh_place.specs.Ends.{RefusedOr, away_in, toward_in};
-ghost use Rattle.xh_place.specs.Messages.{is_listed, AreGot, IsGot, IsSent, IsTaken, IsUntaken};
+ghost use Rattle.xh_place.specs.Endpoints.{AreGot, IsGot, Takes, record_of};
+ghost use Rattle.xh_place.specs.Ends.{EndDoes, RefusedOr, toward_in};
+ghost use Rattle.xh_place.specs.Messages.{is_listed, IsSent, IsTaken, IsUntaken};
 ghost use Rattle.xh_place.specs.Places.{Item, IsPlaceOf, IsSamePlace, found, with_more};
 ghost use Rattle.xh_place.specs.Starts.{start};
-ghost use Rattle.xh_place.specs.inner.Answers.{record_of};
 
 use crate::body::Body;
 use crate::desk::Desk;
@@ -45,7 +44,7 @@ impl Place {
         requires own { IsPlaceOf desk.now.records.now self.old }
         ensures place { IsSamePlace self.old self.new }
         ensures given { RefusedOr (start self.old.state ++ end_tests (found self.old e) ++ given_tests (is_listed self.old.blocks) e blocks.now) result (self.new ≡ self.old)
-            (IsSent (away_in (value_at e self.old.blocks)) blocks.now self.old self.new result) }
+            (IsSent e tag blocks.now self.old self.new result) }
     {
         self.test_end(desk.records, e)?;
         let given = self.test_given(desk.records, e, blocks)?;
@@ -104,7 +103,7 @@ impl Place {
         requires given { Distinct given.now.items × (Among given.now.items e → ⊥) }
         requires listed { (r : ℕ) → Among given.now.items r → (x : Item) × (value_at r self.old.blocks ≡ Some x) }
         ensures place { IsSamePlace self.old self.new }
-        ensures sent { IsSent (away_in (value_at e self.old.blocks)) given.now.items self.old self.new result }
+        ensures sent { IsSent e tag given.now.items self.old self.new result }
     {
         let Given {
             put,
@@ -119,6 +118,7 @@ impl Place {
 
     /// Takes the message at the front of the direction toward the endpoint `e`. Its blocks come to the end of the list.
     /// Ended, NotOwned, NotEndpoint; then PeerClosed or Empty where no message waits.
+    #[tactic(auto, using(crate::proofs::Answered::empty_keeps))]
     pub fn take<R: Wait, V, G: Gate>(
         &mut self,
         desk: &Desk<'_, R, V, G>,
@@ -127,7 +127,8 @@ impl Place {
         requires own { IsPlaceOf desk.now.records.now self.old }
         ensures place { IsSamePlace self.old self.new }
         ensures taken { RefusedOr (start self.old.state ++ end_tests (found self.old e)) result (self.new ≡ self.old)
-            (MatchResult result (IsTaken (toward_in (value_at e self.old.blocks)) self.old self.new) (λ refused. IsUntaken refused × (self.new ≡ self.old))) }
+            (MatchResult result (IsTaken e self.old self.new) (IsUntaken e self.old self.new)) }
+        ensures empty { IfErr result (λ u. u ≡ Refused.Empty → self.new ≡ self.old) }
     {
         self.test_end(desk.records, e)?;
         self.take_message(desk, e)
@@ -143,7 +144,7 @@ impl Place {
         requires alive { is_over self.old.state ≢ true }
         requires end { (x : Item) × (value_at e self.old.blocks ≡ Some x) × (kind_of x.content ≡ kind.End) }
         ensures place { IsSamePlace self.old self.new }
-        ensures taken { MatchResult result (IsTaken (toward_in (value_at e self.old.blocks)) self.old self.new) (λ refused. IsUntaken refused × (self.new ≡ self.old)) }
+        ensures taken { MatchResult result (IsTaken e self.old self.new) (IsUntaken e self.old self.new) }
     {
         let (taken, direction) = self.pop(desk, e);
         let message = taken?;
@@ -161,9 +162,8 @@ impl Place {
     ) -> (Result<Message, Untaken>, u8)
         requires own { IsPlaceOf desk.now.records.now self.old }
         requires end { (x : Item) × (value_at e self.old.blocks ≡ Some x) × (kind_of x.content ≡ kind.End) }
-        ensures same { self.new ≡ self.old }
+        ensures took { EndDoes e self.old self.new (Takes result.0) }
         ensures direction { (result.1 ≡ toward_in (value_at e self.old.blocks)) × (result.1 < DIRECTIONS) }
-        ensures none { IfErr result.0 (λ refused. IsUntaken (same_refusal refused)) }
     {
         take_at(desk, &mut self.seat, e)
     }

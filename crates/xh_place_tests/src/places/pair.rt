@@ -40,9 +40,9 @@ pub(super) struct Pair {
     ghost ids: { ids_of tallies.items ≡ records.shape.names },
 }
 
-/// A pair of an arena of `size` bytes and 8 records.
+/// A pair of an arena of `size` bytes and 16 records.
 pub(super) fn make_pair(alloc: Global, size: u32, depth: u8) -> Option<Pair> {
-    let bench = make_bench(alloc, size, 8, depth)?;
+    let bench = make_bench(alloc, size, 16, depth)?;
     let Bench {
         records,
         vaults,

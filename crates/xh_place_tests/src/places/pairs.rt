@@ -124,3 +124,98 @@ fn contract_refusals(rt: HostRuntime) {
     ];
     assert_answers(&rt, rt.alloc(), 4, CALLS)
 }
+
+/// Eight blocks.
+const EIGHT: &[u16] = &[9, 8, 7, 6, 5, 4, 3, 2];
+
+/// A message has all its blocks and its tag, the highest too, and one that finds no room hands all its blocks back.
+#[test]
+fn long_messages(rt: HostRuntime) {
+    const CALLS: &[(Call, Answer)] = &[
+        (Wire, Ends(0, 1)),
+        (Alloc(16, 0), Block(2, 16)),
+        (Alloc(16, 0), Block(3, 16)),
+        (Alloc(16, 0), Block(4, 16)),
+        (Alloc(16, 0), Block(5, 16)),
+        (Alloc(16, 0), Block(6, 16)),
+        (Alloc(16, 0), Block(7, 16)),
+        (Alloc(16, 0), Block(8, 16)),
+        (Alloc(16, 0), Block(9, 16)),
+        (Give(0, 65_535, EIGHT), Number(1)),
+        (Both, Lists(1, 32, 1, 32)),
+        (Turn, Done),
+        (
+            Take(1),
+            Message(1, 65_535, 8, [Some((9, 16)), Some((8, 16))]),
+        ),
+        (Both, Lists(9, 160, 1, 32)),
+        (Give(1, 0, &[]), Number(1)),
+        (Give(1, 32_768, EIGHT), Back("Full", 8, Some(9))),
+        (Both, Lists(9, 160, 1, 32)),
+        (Turn, Done),
+        (Take(0), Message(1, 0, 0, [None, None])),
+        (Turn, Done),
+        (Give(1, 32_768, &[2, 3, 4, 5, 6]), Number(2)),
+        (Turn, Done),
+        (
+            Take(0),
+            Message(2, 32_768, 5, [Some((2, 16)), Some((3, 16))]),
+        ),
+        (Both, Lists(6, 112, 4, 80)),
+    ];
+    assert_answers(&rt, rt.alloc(), 1, CALLS)
+}
+
+/// A message that the contract doesn't allow, or whose peer is closed, hands all its blocks back too.
+#[test]
+fn long_messages_refused(rt: HostRuntime) {
+    const CALLS: &[(Call, Answer)] = &[
+        (OpenWith, Ends(0, 1)),
+        (Alloc(16, 0), Block(2, 16)),
+        (Alloc(16, 0), Block(3, 16)),
+        (Alloc(16, 0), Block(4, 16)),
+        (Alloc(16, 0), Block(5, 16)),
+        (Alloc(16, 0), Block(6, 16)),
+        (Alloc(16, 0), Block(7, 16)),
+        (Alloc(16, 0), Block(8, 16)),
+        (Alloc(16, 0), Block(9, 16)),
+        (Give(0, 7, EIGHT), Back("Protocol", 8, Some(9))),
+        (Both, Lists(10, 192, 0, 0)),
+        (Close(1), Number(32)),
+        (Give(0, 1, EIGHT), Back("PeerClosed", 8, Some(9))),
+        (Both, Lists(9, 160, 0, 0)),
+        (Count, Moved(192, 32)),
+    ];
+    assert_answers(&rt, rt.alloc(), 1, CALLS)
+}
+
+/// An end that is closed takes all that waits for it, sixteen messages too.
+#[test]
+fn close_takes_all_messages(rt: HostRuntime) {
+    const CALLS: &[(Call, Answer)] = &[
+        (Wire, Ends(0, 1)),
+        (Alloc(16, 0), Block(2, 16)),
+        (Give(0, 1, &[]), Number(1)),
+        (Give(0, 1, &[]), Number(2)),
+        (Give(0, 1, &[]), Number(3)),
+        (Give(0, 1, &[]), Number(4)),
+        (Give(0, 1, &[]), Number(5)),
+        (Give(0, 1, &[]), Number(6)),
+        (Give(0, 1, &[]), Number(7)),
+        (Give(0, 1, &[]), Number(8)),
+        (Give(0, 1, &[]), Number(9)),
+        (Give(0, 1, &[]), Number(10)),
+        (Give(0, 1, &[]), Number(11)),
+        (Give(0, 1, &[]), Number(12)),
+        (Give(0, 1, &[]), Number(13)),
+        (Give(0, 1, &[]), Number(14)),
+        (Give(0, 1, &[]), Number(15)),
+        (Give(0, 1, &[2]), Number(16)),
+        (Turn, Done),
+        (Close(1), Number(48)),
+        (Turn, Done),
+        (Give(0, 1, &[]), Back("PeerClosed", 0, None)),
+        (Count, Moved(80, 48)),
+    ];
+    assert_answers(&rt, rt.alloc(), 16, CALLS)
+}

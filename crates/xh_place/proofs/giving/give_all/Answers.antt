@@ -1,12 +1,13 @@
 use Rattle.std.proofs.Common.{◌≡◌, ℕ, List, [], ◌++◌, rules, sym, ap, ◌∙◌, subst}
 use Rattle.xh_place.proofs.Givens.{back_none}
 use Rattle.xh_model.specs.declared.event.Event.{Event}
-use Rattle.xh_model.specs.Keyed.{value_at}
+use Rattle.xh_model.specs.Keyed.{Among, value_at}
 use Rattle.xh_records.specs.Seats.{Held}
 use Rattle.xh_place.specs.declared.body.Body.{Body}
 use Rattle.xh_place.specs.Bodies.{away}
+use Rattle.xh_place.specs.Endpoints.{Puts}
 use Rattle.xh_place.specs.Moves.{accepted_on, passed_on, there_and_back}
-use Rattle.xh_place.specs.inner.Lots.{HasNow, with_done}
+use Rattle.xh_place.specs.inner.Lots.{HasNow, LotDoes, with_done}
 use Rattle.xh_place.specs.Places.{item_in}
 use Rattle.xh_place.specs.inner.Lists.{AreBack, lens}
 use Rattle.xh_place.proofs.Listing.{lens_none}
@@ -35,3 +36,9 @@ returns-clause-moved g c =
     λ i. passed_on seat.process (c.post-put.ensures.direction.0 i) given ++ accepted_on (whose i) (c.post-put.ensures.direction.0 i) rs in
     subst (λ (es : List Event). HasNow (with_done es seat) last.lots last) log
     (moved_twice seat mid last (passed_on seat.process d given) (accepted_on mid.process d rs) c.post-put.ensures.passed c.accept_back-back.ensures.came)
+
+pub returns-clause-end : goal.returns-clause-end
+returns-clause-end g c = λ l at.
+    let h = c.post-put.ensures.end l at in
+    let kept = c.accept_back-back.ensures.others c.args.e (λ a. c.requires.distinct.1 (subst (λ (rs : List ℕ). Among rs c.args.e) c.as_slice.ensures.value a)) in
+    (h.0, kept ∙ h.1, subst (λ r. LotDoes (Puts c.args.tag c.args.given.now r) l h.0) c.in-Err.is h.2, h.3)

@@ -6,12 +6,14 @@ use Rattle.xh_model.proofs.Keyed.{put_at, put_other}
 use Rattle.xh_records.specs.Showing.{IsLotOf}
 use Rattle.xh_records.specs.Seats.{Held, IsRecord, with_lots}
 use Rattle.xh_place.specs.Moves.{passed_on}
-use Rattle.xh_place.specs.inner.Lots.{bare, with_done}
+use Rattle.xh_place.specs.inner.Lots.{LotDoes, bare, with_done}
 use Rattle.xh_place.specs.declared.body.Body.{Body}
-use Rattle.xh_place.specs.Bodies.{away, spot}
-use Rattle.xh_place.specs.Places.{IsBlock, item_in, item_of}
+use Rattle.xh_place.specs.Bodies.{away, content_of}
+use Rattle.xh_channel.specs.Queues.{Posted}
+use Rattle.xh_place.specs.Endpoints.{Puts}
+use Rattle.xh_place.specs.Places.{IsBlock, item_in}
 use Rattle.xh_place.specs.inner.Lists.{lens}
-use Rattle.xh_place.proofs.Ends.{still_block}
+use Rattle.xh_place.proofs.Ends.{away_at, still_block}
 use Rattle.xh_place.proofs.Found.{unmoved}
 use Rattle.xh_place.proofs.giving.post.Goals as goal
 
@@ -56,8 +58,9 @@ pub returns-clause-direction : goal.returns-clause-direction
 returns-clause-direction g c =
     let q = c.requires.end in let lots = c.args.seat.now.lots in let own = c.requires.own in
     let s = c.spot_at-spot.ensures.seat q.0 q.1 in let same = unmoved c.args.seat.now c.spot_at-spot.new.seat c.args.e q.0 q.1 s.1 in
-    let content : (item_in (value_at c.args.e lots)).content ≡ spot c.spot_at-spot.result.channel c.spot_at-spot.result.side = ap (λ (o : Option (LotOf Body)). (item_in o).content) q.1 ∙ s.0 in
-    (sym (ap away content), omega (arith, c.spot_at-spot.ensures.small.0, c.spot_at-spot.ensures.small.1))
+    let content : away (item_in (value_at c.args.e lots)).content ≡ 2 * c.spot_at-spot.result.channel + 1 - c.spot_at-spot.result.side =
+    ap (λ (o : Option (LotOf Body)). away (item_in o).content) q.1 ∙ away_at (content_of q.0.body) c.spot_at-spot.result.channel c.spot_at-spot.result.side s.0 in
+    (sym content, omega (arith, c.spot_at-spot.ensures.small.0, c.spot_at-spot.ensures.small.1))
 
 pub returns-clause-passed : goal.returns-clause-passed
 returns-clause-passed g c =
@@ -83,11 +86,12 @@ returns-clause-end g c =
     c.pass_all-bytes.ensures.others c.args.e (λ a. c.requires.distinct.1 (subst (λ (l : List ℕ). Among l c.args.e) c.as_slice.ensures.value a))
     ∙ ap (λ (h : Held Body). value_at c.args.e h.lots) same ∙ q.1 in
     let k = c.put_at-put.ensures q.0 at in let m = k.0 in
+    let does : Posted → Posted → Type 0 = Puts c.args.tag c.args.given.now c.put_at-put.result in
     λ l at'. let two : Some q.0 ≡ Some l = sym q.1 ∙ at' in let one : q.0 ≡ l = cc in (
       m,
       ap (λ (h : Held Body). value_at c.args.e h.lots) k.2 ∙ put_at c.args.e m q.0 c.pass_all-bytes.new.seat.lots at,
-      (λ i. record { len = ap (λ (z : LotOf Body). z.len) k.1.0 i; content = k.1.1 i }) ∙ ap item_of one,
-      still_block c.args.seat.now.shape c.args.e q.0 m q.2 q.3 k.1,
+      subst (λ (z : LotOf Body). LotDoes does z m) one k.1,
+      still_block does c.args.seat.now.shape c.args.e q.0 m q.2 k.1,
     )
 
 pub returns-clause-gone : goal.returns-clause-gone

@@ -1,23 +1,26 @@
-use Rattle.std.proofs.Common.{arith, ◌≡◌, ℕ, ◌+◌, ◌-◌, ◌≤◌, true, List, [], sym, ap, ◌∙◌, subst}
-use Rattle.std.specs.Prelude.{Option, Some, MatchResult, ◌==◌}
+use Rattle.std.proofs.Common.{arith, ◌≡◌, ℕ, ◌+◌, ◌-◌, ◌≤◌, true, List, refl, sym, ap, ◌∙◌, subst}
+use Rattle.std.specs.Prelude.{Option, Some, ◌==◌}
 use Rattle.std.specs.List.{list_any}
 use Rattle.std.specs.Vec.{vec_capacity}
 use Rattle.xh_arena.specs.Views.{LotOf}
 use Rattle.xh_core.specs.Statuses.{is_running}
 use Rattle.xh_model.specs.declared.event.Event.{Event}
-use Rattle.xh_model.specs.Keyed.{Among, keys, value_at}
+use Rattle.xh_model.specs.Keyed.{Among, keys, put, value_at}
 use Rattle.xh_place.specs.declared.body.Body.{Body}
 use Rattle.xh_place.specs.Bodies.{away, kind_of}
 use Rattle.xh_place.specs.Moves.{there_and_back}
-use Rattle.xh_place.specs.Ends.{away_in}
+use Rattle.xh_place.specs.Ends.{away_in, end_block}
 use Rattle.xh_place.specs.inner.Lists.{lens, less_all}
 use Rattle.xh_place.specs.inner.Lots.{with_done}
-use Rattle.xh_place.specs.Places.{Item, IsBlock, item_at, item_in, shown, with_blocks, with_moved}
-use Rattle.xh_place.specs.Messages.{IsUnsent, settled}
+use Rattle.xh_place.specs.Places.{Item, IsBlock, item_at, item_in, item_of, shown, with_blocks, with_moved}
+use Rattle.xh_place.specs.Messages.{Answers, settled}
+use Rattle.xh_channel.specs.Queues.{Posted}
+use Rattle.xh_place.specs.Endpoints.{Puts}
+use Rattle.xh_place.proofs.Ends.{item_now, item_was}
 use Rattle.xh_place.proofs.Found.{found}
 use Rattle.xh_place.proofs.Moves.{all_move, heard, heard_shows}
 use Rattle.xh_place.proofs.Listing.{shown_keys}
-use Rattle.xh_place.proofs.Settled.{passed_below, settled_place, settled_same, shown_look}
+use Rattle.xh_place.proofs.Settled.{given_place, passed_below, settled_same, shown_look}
 use Rattle.xh_place.proofs.Steps.{list_distinct, over_running, total_bound}
 use Rattle.xh_place.proofs.place.Place.send.Goals as goal
 
@@ -69,8 +72,8 @@ overflow_add-self g c =
     let es : List Event = there_and_back seat.process (away (item_in (value_at c.args.e seat.lots)).content) given back in
     let was : lost ≡ lens given (λ r. value_at r seat.lots) = a.lost in let came : gained ≡ lens given (λ r. value_at r last.lots) = a.gained in
     let sum : total - lost + gained + lens given (λ r. value_at r seat.lots) ≡ total + lens given (λ r. value_at r last.lots) = omega (arith, was, came, less) in
-    let all = settled_place (with_done es seat) last rs c.settle.new.list.items given back room (vec_capacity c.settle.new.list) total (total - lost + gained) state c.args.e t.lot end.0 (over_running state run)
-    (heard es seat xs room total state is) t.held end.3 end.2 end.1 c.requires.given.0 (λ r h. ((held r h).0, (held r h).1)) a.moved a.others a.back
+    let all = given_place (with_done es seat) last rs c.settle.new.list.items given back room (vec_capacity c.settle.new.list) total (total - lost + gained) state c.args.e t.lot end.0 (over_running state run)
+    (heard es seat xs room total state is) t.held end.3 (ap (λ (z : LotOf Body). z.len) end.2.3) end.1 c.requires.given.0 c.requires.given.1 (λ r h. ((held r h).0, (held r h).1)) a.moved a.others a.back
     (c.settle.ensures.items ∙ (λ i. less_all (c.as_slice.ensures.value i) (λ r. list_any (λ q. q == r) (c.as_slice-2.ensures.value i)) rs)) c.settle.ensures.room sum in
     let most : total - lost + gained ≤ 2147483648 = total_bound last (shown last.lots c.settle.new.list.items) (vec_capacity c.settle.new.list) (total - lost + gained) state all.0 in omega (arith, most)
 
@@ -89,8 +92,8 @@ invariant_of-self g c =
     let es : List Event = there_and_back seat.process (away (item_in (value_at c.args.e seat.lots)).content) given back in
     let was : lost ≡ lens given (λ r. value_at r seat.lots) = a.lost in let came : gained ≡ lens given (λ r. value_at r last.lots) = a.gained in
     let sum : total - lost + gained + lens given (λ r. value_at r seat.lots) ≡ total + lens given (λ r. value_at r last.lots) = omega (arith, was, came, less) in
-    let all = settled_place (with_done es seat) last rs c.settle.new.list.items given back room (vec_capacity c.settle.new.list) total (total - lost + gained) state c.args.e t.lot end.0 (over_running state run)
-    (heard es seat xs room total state is) t.held end.3 end.2 end.1 c.requires.given.0 (λ r h. ((held r h).0, (held r h).1)) a.moved a.others a.back
+    let all = given_place (with_done es seat) last rs c.settle.new.list.items given back room (vec_capacity c.settle.new.list) total (total - lost + gained) state c.args.e t.lot end.0 (over_running state run)
+    (heard es seat xs room total state is) t.held end.3 (ap (λ (z : LotOf Body). z.len) end.2.3) end.1 c.requires.given.0 c.requires.given.1 (λ r h. ((held r h).0, (held r h).1)) a.moved a.others a.back
     (c.settle.ensures.items ∙ (λ i. less_all (c.as_slice.ensures.value i) (λ r. list_any (λ q. q == r) (c.as_slice-2.ensures.value i)) rs)) c.settle.ensures.room sum in
     all.0
 
@@ -109,17 +112,30 @@ returns-clause-sent g c =
     let es : List Event = there_and_back seat.process (away (item_in (value_at c.args.e seat.lots)).content) given back in
     let was : lost ≡ lens given (λ r. value_at r seat.lots) = a.lost in let came : gained ≡ lens given (λ r. value_at r last.lots) = a.gained in
     let sum : total - lost + gained + lens given (λ r. value_at r seat.lots) ≡ total + lens given (λ r. value_at r last.lots) = omega (arith, was, came, less) in
-    let all = settled_place (with_done es seat) last rs c.settle.new.list.items given back room (vec_capacity c.settle.new.list) total (total - lost + gained) state c.args.e t.lot end.0 (over_running state run)
-    (heard es seat xs room total state is) t.held end.3 end.2 end.1 c.requires.given.0 (λ r h. ((held r h).0, (held r h).1)) a.moved a.others a.back
+    let all = given_place (with_done es seat) last rs c.settle.new.list.items given back room (vec_capacity c.settle.new.list) total (total - lost + gained) state c.args.e t.lot end.0 (over_running state run)
+    (heard es seat xs room total state is) t.held end.3 (ap (λ (z : LotOf Body). z.len) end.2.3) end.1 c.requires.given.0 c.requires.given.1 (λ r h. ((held r h).0, (held r h).1)) a.moved a.others a.back
     (c.settle.ensures.items ∙ (λ i. less_all (c.as_slice.ensures.value i) (λ r. list_any (λ q. q == r) (c.as_slice-2.ensures.value i)) rs)) c.settle.ensures.room sum in
     let old = c.args.self.now in let d : ℕ = away (item_in (value_at c.args.e seat.lots)).content in
     let way : d ≡ away_in (value_at c.args.e old.blocks) = ap (λ (o : Option (LotOf Body)). away (item_in o).content) t.held ∙ ap (λ (x : Item). away x.content) t.same ∙ sym (ap away_in q.1) in
     let log : es ≡ there_and_back old.process (away_in (value_at c.args.e old.blocks)) given (keys (shown last.lots back)) =
     λ i. there_and_back (c.self.view_is i).process (way i) given (sym (shown_keys last.lots back) i) in
-    let blocks : settled given (λ r. item_at (value_at r last.lots)) old.blocks ≡ settled given (λ r. value_at r (shown last.lots back)) old.blocks =
-    settled_same given (λ r. item_at (value_at r last.lots)) (λ r. value_at r (shown last.lots back)) old.blocks (λ r h. sym (shown_look last.lots back r (a.back.here r h))) in (
-      shown last.lots back,
-      all.1 (with_moved old es) (heard_shows es seat xs state old (all_move seat.process d given back) c.self.view_is) ∙ (λ i. with_moved (with_blocks old (blocks i)) (log i)),
-      (λ r h. a.back.only r (subst (λ (ks : List ℕ). Among ks r) (shown_keys last.lots back) h)),
-      subst (λ (ks : List ℕ). MatchResult c.answer.result (λ no. ks ≡ []) (IsUnsent ks)) (sym (shown_keys last.lots back)) c.answer.ensures,
-    )
+    let does : Posted → Posted → Type 0 = Puts c.args.tag c.args.given.now c.give_all-put.result.put in
+    let was : Item = end_block end.2.0 in let now : Item = end_block end.2.1 in
+    let here : value_at c.args.e old.blocks ≡ Some was =
+    q.1 ∙ ap (λ (x : Item). Some x) (sym t.same) ∙ ap (λ (x : Item). Some x) (item_was does seat.shape c.args.e t.lot end.0 t.block end.2) in
+    let xs' : List (ℕ × Item) = put c.args.e now old.blocks in
+    let blocks : settled given (λ r. item_at (value_at r last.lots)) (put c.args.e (item_of end.0) old.blocks) ≡ settled given (λ r. value_at r (shown last.lots back)) xs' =
+    ap (λ (x : Item). settled given (λ r. item_at (value_at r last.lots)) (put c.args.e x old.blocks)) (item_now does seat.shape c.args.e t.lot end.0 t.block end.2)
+    ∙ settled_same given (λ r. item_at (value_at r last.lots)) (λ r. value_at r (shown last.lots back)) xs' (λ r h. sym (shown_look last.lots back r (a.back.here r h))) in record {
+      mid = with_blocks old xs';
+      blocks = c.args.given.now;
+      answered = c.give_all-put.result.put;
+      back = shown last.lots back;
+      all = refl;
+      made = (end.2.0, end.2.1, here, refl, end.2.4);
+      moved = (
+        all.1 (with_moved old es) (heard_shows es seat xs state old (all_move seat.process d given back) c.self.view_is) ∙ (λ i. with_moved (with_blocks old (blocks i)) (log i)),
+        (λ r h. a.back.only r (subst (λ (ks : List ℕ). Among ks r) (shown_keys last.lots back) h)),
+      );
+      answer = subst (λ (ks : List ℕ). Answers ks c.give_all-put.result.put c.answer.result) (sym (shown_keys last.lots back)) c.answer.ensures;
+    }

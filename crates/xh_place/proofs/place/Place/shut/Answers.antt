@@ -1,5 +1,6 @@
+use Rattle.xh_place.specs.Endpoints.{Shuts}
 use Rattle.std.specs.Vec.{vec_capacity}
-use Rattle.xh_place.proofs.Ends.{end_of, keeps}
+use Rattle.xh_place.proofs.Ends.{does, end_of}
 use Rattle.xh_place.proofs.place.Place.shut.Goals as goal
 
 pub shut_at-requires-clause-own : goal.shut_at-requires-clause-own
@@ -21,8 +22,9 @@ invariant_of-self g c =
     let q = c.requires.end in
     let t = end_of c.self.inside.seat c.self.inside.list.items (vec_capacity c.self.inside.list) c.self.inside.total c.self.inside.state c.self.invariant c.args.self.now c.self.view_is
     c.args.desk.now.records.now c.requires.own c.args.e q.0 q.1 q.2 in
-    let both = keeps c.self.inside.seat c.self.inside.list.items (vec_capacity c.self.inside.list) c.self.inside.total c.self.inside.state c.self.invariant c.args.self.now c.self.view_is
-    c.args.desk.now.records.now c.args.e q.0 t c.shut_at.new.seat (c.shut_at.ensures t.lot t.held).0 (c.shut_at.ensures t.lot t.held).1 (c.shut_at.ensures t.lot t.held).2 in
+    let m = c.shut_at.ensures t.lot t.held in
+    let both = does c.self.inside.seat c.self.inside.list.items (vec_capacity c.self.inside.list) c.self.inside.total c.self.inside.state c.self.invariant c.args.self.now c.self.view_is
+    c.args.desk.now.records.now c.args.e q.0 t c.shut_at.new.seat m.0 Shuts m.1 m.2 in
     both.0
 
 pub returns : goal.returns
@@ -30,6 +32,7 @@ returns g c =
     let q = c.requires.end in
     let t = end_of c.self.inside.seat c.self.inside.list.items (vec_capacity c.self.inside.list) c.self.inside.total c.self.inside.state c.self.invariant c.args.self.now c.self.view_is
     c.args.desk.now.records.now c.requires.own c.args.e q.0 q.1 q.2 in
-    let both = keeps c.self.inside.seat c.self.inside.list.items (vec_capacity c.self.inside.list) c.self.inside.total c.self.inside.state c.self.invariant c.args.self.now c.self.view_is
-    c.args.desk.now.records.now c.args.e q.0 t c.shut_at.new.seat (c.shut_at.ensures t.lot t.held).0 (c.shut_at.ensures t.lot t.held).1 (c.shut_at.ensures t.lot t.held).2 in
-    record { same = both.1 }
+    let m = c.shut_at.ensures t.lot t.held in
+    let both = does c.self.inside.seat c.self.inside.list.items (vec_capacity c.self.inside.list) c.self.inside.total c.self.inside.state c.self.invariant c.args.self.now c.self.view_is
+    c.args.desk.now.records.now c.args.e q.0 t c.shut_at.new.seat m.0 Shuts m.1 m.2 in
+    both.1

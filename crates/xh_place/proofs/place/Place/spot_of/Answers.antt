@@ -1,5 +1,6 @@
-use Rattle.std.proofs.Common.{◌≡◌, refl, sym, ap, ◌∙◌}
+use Rattle.std.proofs.Common.{◌≡◌, sym, ap, ◌∙◌, subst}
 use Rattle.std.specs.Prelude.{Some}
+use Rattle.xh_place.specs.Bodies.{Content, IsEndAt}
 use Rattle.xh_place.specs.Places.{Item}
 use Rattle.std.specs.Vec.{vec_capacity}
 use Rattle.xh_place.proofs.Ends.{end_of, keeps}
@@ -24,8 +25,7 @@ invariant_of-self c =
     let q = c.requires.end in
     let t = end_of c.self.inside.seat c.self.inside.list.items (vec_capacity c.self.inside.list) c.self.inside.total c.self.inside.state c.self.invariant c.args.self.now c.self.view_is
     c.args.records.now c.requires.own c.args.e q.0 q.1 q.2 in
-    let both = keeps c.self.inside.seat c.self.inside.list.items (vec_capacity c.self.inside.list) c.self.inside.total c.self.inside.state c.self.invariant c.args.self.now c.self.view_is
-    c.args.records.now c.args.e q.0 t c.spot_at.new.seat t.lot (refl, refl) (c.spot_at.ensures.seat t.lot t.held).1 in
+    let both = keeps c.self.inside.seat c.self.inside.list.items (vec_capacity c.self.inside.list) c.self.inside.total c.self.inside.state c.self.invariant c.args.self.now c.self.view_is c.args.e t.lot c.spot_at.new.seat t.held (c.spot_at.ensures.seat t.lot t.held).1 in
     both.0
 
 pub returns-clause-same : goal.returns-clause-same
@@ -33,8 +33,7 @@ returns-clause-same c =
     let q = c.requires.end in
     let t = end_of c.self.inside.seat c.self.inside.list.items (vec_capacity c.self.inside.list) c.self.inside.total c.self.inside.state c.self.invariant c.args.self.now c.self.view_is
     c.args.records.now c.requires.own c.args.e q.0 q.1 q.2 in
-    let both = keeps c.self.inside.seat c.self.inside.list.items (vec_capacity c.self.inside.list) c.self.inside.total c.self.inside.state c.self.invariant c.args.self.now c.self.view_is
-    c.args.records.now c.args.e q.0 t c.spot_at.new.seat t.lot (refl, refl) (c.spot_at.ensures.seat t.lot t.held).1 in
+    let both = keeps c.self.inside.seat c.self.inside.list.items (vec_capacity c.self.inside.list) c.self.inside.total c.self.inside.state c.self.invariant c.args.self.now c.self.view_is c.args.e t.lot c.spot_at.new.seat t.held (c.spot_at.ensures.seat t.lot t.held).1 in
     both.1
 
 pub returns-clause-spot : goal.returns-clause-spot
@@ -43,4 +42,4 @@ returns-clause-spot c =
     let t = end_of c.self.inside.seat c.self.inside.list.items (vec_capacity c.self.inside.list) c.self.inside.total c.self.inside.state c.self.invariant c.args.self.now c.self.view_is
     c.args.records.now c.requires.own c.args.e q.0 q.1 q.2 in
     λ x at. let two : Some q.0 ≡ Some x = sym q.1 ∙ at in let one : q.0 ≡ x = cc in
-    sym (ap (λ (z : Item). z.content) one) ∙ sym t.content ∙ (c.spot_at.ensures.seat t.lot t.held).0
+    subst (λ (y : Content). IsEndAt y c.spot_at.result.channel c.spot_at.result.side) (t.content ∙ ap (λ (z : Item). z.content) one) (c.spot_at.ensures.seat t.lot t.held).0

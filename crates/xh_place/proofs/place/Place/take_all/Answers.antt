@@ -1,8 +1,7 @@
 use Rattle.std.proofs.Common.{arith, ◌≡◌, ℕ, ◌<◌, List, [], ◌∷◌, ◌++◌, length, map, get_or, sym, ap, ap₂, ◌∙◌, subst}
 use Rattle.std.proofs.lemmas.List.{map-append}
-use Rattle.xh_place.specs.inner.Answers.{record_of}
 use Rattle.xh_place.specs.Places.{with_more}
-use Rattle.xh_place.specs.Messages.{AreGot}
+use Rattle.xh_place.specs.Endpoints.{AreGot, record_of}
 use Rattle.xh_place.proofs.Givens.{take_more, take_whole}
 use Rattle.xh_place.proofs.Moves.{more_twice}
 use Rattle.xh_place.proofs.Gotten.{one_more}

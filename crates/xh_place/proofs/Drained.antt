@@ -1,0 +1,166 @@
+-- An endpoint of a place that takes one message after another.
+use Rattle.std.proofs.Common.{◌≡◌, ℕ, ◌≤◌, inl, inr, List, [], ◌∷◌, ◌++◌, append_assoc, append-nil, length, refl, sym, ap, ◌∙◌, subst}
+use Rattle.std.specs.Prelude.{Some, None, Option, Ok, Err}
+use Rattle.std.proofs.lemmas.List.{map-append}
+use Rattle.xh_channel.specs.declared.message.Message.{Message}
+use Rattle.xh_channel.specs.Queues.{Posted}
+use Rattle.xh_core.specs.declared.refused.Refused.{Refused}
+use Rattle.xh_core.specs.declared.header.Kind.TheVariants as kind
+use Rattle.xh_model.specs.Keyed.{put, value_at}
+use Rattle.xh_model.proofs.Keyed.{front_at, put_at, put_here, put_same, put_there, put_twice, value_there}
+use mathlib.Core.Logic.{dite}
+use native.Mathlib.Decide.{ℕ_discrete}
+use Rattle.xh_place.specs.Bodies.{Content, bytes, endpoint, kind_of, toward}
+use Rattle.xh_place.specs.declared.got.Taken.{Taken}
+use Rattle.xh_place.specs.Endpoints.{AreGot, AreUnpacked, EndsWith, IsDrained, Shuts, Takes, TakesEach, blocks_of, record_of}
+use Rattle.xh_place.specs.Ends.{EndDoes, end_block, toward_in}
+use Rattle.xh_place.specs.inner.Reclaiming.{Clears, Drains}
+use Rattle.xh_place.specs.Messages.{IsTaken, IsUntaken}
+use Rattle.xh_place.specs.Places.{Item, PlaceOf, with_blocks, with_more}
+use Rattle.xh_place.proofs.Answered.{way_shut, way_taken}
+use Rattle.xh_place.proofs.Gotten.{got_both}
+use Rattle.xh_place.proofs.Moves.{more_none, more_twice}
+
+-- what stands at a record of the front is changed there
+put_front : (r : ℕ) (y z : Item) (xs ys : List (ℕ × Item)) → value_at r xs ≡ Some z → put r y (xs ++ ys) ≡ put r y xs ++ ys
+put_front r y z [] ys at = absurd (cc)
+put_front r y z (x ∷ xs) ys at = dite (ℕ_discrete x.0 r)
+    (λ e. put_here r y x (xs ++ ys) e ∙ sym (ap (λ (l : List (ℕ × Item)). l ++ ys) (put_here r y x xs e)))
+    (λ n. put_there r y x (xs ++ ys) n ∙ ap (λ (l : List (ℕ × Item)). x ∷ l) (put_front r y z xs ys (sym (value_there r x xs n) ∙ at))
+    ∙ sym (ap (λ (l : List (ℕ × Item)). l ++ ys) (put_there r y x xs n)))
+
+-- ---- one endpoint
+
+abbrev end_of : Posted → Content → Posted
+end_of p (bytes xs) = p
+end_of p (endpoint q) = q
+
+abbrev end_in : Posted → Option Item → Posted
+end_in p None = p
+end_in p (Some x) = end_of p x.content
+
+one_end : (p q : Posted) → Some (end_block p) ≡ Some (end_block q) → p ≡ q
+one_end p q e = ap (end_in p) e
+
+each_more : (ms : List Message) (m : Message) (old mid new : Posted) → TakesEach ms old mid → Takes (Ok m) mid new → TakesEach (ms ++ m ∷ []) old new
+each_more [] m old mid new each one = (new, subst (λ (p : Posted). Takes (Ok m) p new) each one, refl)
+each_more (n ∷ ms) m old mid new each one = (each.0, each.1, each_more ms m each.0 mid new each.2 one)
+
+each_way : (ms : List Message) (old new : Posted) → TakesEach ms old new → toward (endpoint new) ≡ toward (endpoint old)
+each_way [] old new each = ap (λ (p : Posted). toward (endpoint p)) each
+each_way (m ∷ ms) old new each = each_way ms each.0 new each.2 ∙ way_taken m old each.0 each.1
+
+blocks_more : (ms : List Message) (m : Message) → blocks_of (ms ++ m ∷ []) ≡ blocks_of ms ++ m.blocks.items
+blocks_more [] m = append-nil m.blocks.items
+blocks_more (n ∷ ms) m = ap (λ (l : List ℕ). n.blocks.items ++ l) (blocks_more ms m) ∙ sym (append_assoc n.blocks.items (blocks_of ms) m.blocks.items)
+
+-- until now the endpoint took these messages, and what came with them is at the end of the list
+pub record Draining (e : ℕ) (ms : List Message) (old new : PlaceOf) : Type 0 where
+  pub before : Posted
+  pub after : Posted
+  pub came : List (ℕ × Item)
+  pub there : value_at e old.blocks ≡ Some (end_block before)
+  pub each : TakesEach ms before after
+  pub blocks : AreUnpacked (toward_in (value_at e old.blocks)) ms came
+  pub list : new ≡ with_more (toward_in (value_at e old.blocks)) came (with_blocks old (put e (end_block after) old.blocks))
+
+pub draining_none : (e : ℕ) (p : Posted) (old : PlaceOf) → value_at e old.blocks ≡ Some (end_block p) → put e (end_block p) old.blocks ≡ old.blocks → Draining e [] old old
+draining_none e p old at same = record {
+  before = p;
+  after = p;
+  came = [];
+  there = at;
+  each = refl;
+  blocks = ([], refl, refl);
+  list = more_none (toward_in (value_at e old.blocks)) old ∙ ap (λ (l : List (ℕ × Item)). with_more (toward_in (value_at e old.blocks)) [] (with_blocks old l)) (sym same);
+}
+
+module _ (e : ℕ) (ms : List Message) (old mid : PlaceOf) (is : Draining e ms old mid) where
+  abbrev d : ℕ
+  d = toward_in (value_at e old.blocks)
+
+  -- where it is now
+  pub draining_at : value_at e mid.blocks ≡ Some (end_block is.after)
+  draining_at = ap (λ (p : PlaceOf). value_at e p.blocks) is.list
+      ∙ front_at e (end_block is.after) (put e (end_block is.after) old.blocks) is.came (put_at e (end_block is.after) (end_block is.before) old.blocks is.there)
+
+  draining_way : toward_in (value_at e mid.blocks) ≡ d
+  draining_way = ap toward_in draining_at ∙ each_way ms is.before is.after is.each ∙ sym (ap toward_in is.there)
+
+  -- it is another now
+  draining_put : (p : Posted) → with_blocks mid (put e (end_block p) mid.blocks) ≡ with_more d is.came (with_blocks old (put e (end_block p) old.blocks))
+  draining_put p =
+      let x : Item = end_block is.after in let y : Item = end_block p in
+      let at : value_at e (put e x old.blocks) ≡ Some x = put_at e x (end_block is.before) old.blocks is.there in
+      let blocks : put e y (put e x old.blocks ++ is.came) ≡ put e y old.blocks ++ is.came =
+      put_front e y x (put e x old.blocks) is.came at ∙ ap (λ (l : List (ℕ × Item)). l ++ is.came) (put_twice e y x old.blocks) in
+      ap (λ (q : PlaceOf). with_blocks q (put e y q.blocks)) is.list ∙ ap (with_blocks (with_more d is.came old)) blocks
+
+  same_after : (before : Posted) → value_at e mid.blocks ≡ Some (end_block before) → before ≡ is.after
+  same_after before at = one_end before is.after (sym at ∙ draining_at)
+
+  pub draining_more : (new : PlaceOf) (taken : Taken) → (t : IsTaken e mid new taken) → Draining e (ms ++ t.1 ∷ []) old new
+  draining_more new taken t =
+      let does = t.2 in let q : Posted = does.1 in
+      let one : Takes (Ok t.1) is.after q = subst (λ (p : Posted). Takes (Ok t.1) p q) (same_after does.0 does.2) does.4 in
+      let base : PlaceOf = with_blocks old (put e (end_block q) old.blocks) in record {
+        before = is.before;
+        after = q;
+        came = is.came ++ t.3.gained;
+        there = is.there;
+        each = each_more ms t.1 is.before is.after q is.each one;
+        blocks = (
+          is.blocks.0 ++ taken.blocks.items,
+          map-append record_of is.blocks.0 taken.blocks.items ∙ (λ i. is.blocks.1 i ++ t.3.records i) ∙ sym (blocks_more ms t.1),
+          got_both d is.came t.3.gained is.blocks.0 taken.blocks.items is.blocks.2 (subst (λ (n : ℕ). AreGot n t.3.gained taken.blocks.items) draining_way t.3.got),
+        );
+        list = t.3.list ∙ (λ i. with_more (draining_way i) t.3.gained ((does.3 ∙ draining_put q) i)) ∙ more_twice d is.came t.3.gained base;
+      }
+
+  pub drained : (new : PlaceOf) (refused : Refused) → IsUntaken e mid new refused → Drains e old new
+  drained new refused t =
+      let does = t.1 in let q : Posted = does.1 in
+      let one : Takes (Err t.0) is.after q = subst (λ (p : Posted). Takes (Err t.0) p q) (same_after does.0 does.2) does.4 in (
+        with_blocks old (put e (end_block q) old.blocks),
+        is.came,
+        ms,
+        (is.before, q, is.there, refl, (is.after, is.each, inl (t.0, one))),
+        is.blocks,
+        does.3 ∙ draining_put q,
+      )
+
+  pub drained_all : 18446744073709551615 ≤ length ms → Drains e old mid
+  drained_all all = (with_blocks old (put e (end_block is.after) old.blocks), is.came, ms, (is.before, is.after, is.there, refl, (is.after, is.each, inr (all, refl))), is.blocks, is.list)
+
+-- it was shut before
+pub cleared : (r : ℕ) (old mid new : PlaceOf) → EndDoes r old mid Shuts → Drains r mid new → Clears r old new
+cleared r old mid new shut drain =
+    let p : Posted = shut.0 in let s : Posted = shut.1 in let does = drain.3 in let q : Posted = does.1 in let ms : List Message = drain.2 in
+    let at : value_at r mid.blocks ≡ Some (end_block s) = ap (λ (z : PlaceOf). value_at r z.blocks) shut.3 ∙ put_at r (end_block s) (end_block p) old.blocks shut.2 in
+    let one : does.0 ≡ s = one_end does.0 s (sym does.2 ∙ at) in
+    let turned : toward_in (value_at r mid.blocks) ≡ toward (endpoint p) = ap toward_in at ∙ way_shut p s shut.4 in
+    let base : drain.0 ≡ with_blocks old (put r (end_block q) old.blocks) =
+    does.3 ∙ ap (λ (z : PlaceOf). with_blocks z (put r (end_block q) z.blocks)) shut.3 ∙ ap (with_blocks old) (put_twice r (end_block q) (end_block s) old.blocks) in (
+      end_block p,
+      end_block q,
+      drain.1,
+      shut.2,
+      refl,
+      (ms, s, q, shut.4, subst (λ (z : Posted). IsDrained ms z q) one does.4, subst (λ (n : ℕ). AreUnpacked n ms drain.1) turned drain.4),
+      drain.5 ∙ (λ i. with_more (turned i) drain.1 (base i)),
+    )
+
+-- nothing came with bytes
+pub cleared_bytes : (r : ℕ) (x : Item) (old new : PlaceOf) → value_at r old.blocks ≡ Some x → kind_of x.content ≡ kind.Data → new ≡ old → Clears r old new
+cleared_bytes r x old new at plain same = (
+  x,
+  x,
+  [],
+  at,
+  refl,
+  none x.content plain,
+  same ∙ more_none (toward x.content) old ∙ ap (λ (l : List (ℕ × Item)). with_more (toward x.content) [] (with_blocks old l)) (sym (put_same r x old.blocks at)),
+) where
+  none : (c : Content) → kind_of c ≡ kind.Data → EndsWith c []
+  none (bytes xs) e = refl
+  none (endpoint p) e = absurd (cc)

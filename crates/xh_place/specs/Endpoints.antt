@@ -1,0 +1,69 @@
+-- What an endpoint of a place does, by what its channel's contracts see of it before and after.
+use Rattle.std.specs.Prelude.{◌≡◌, ◌≢◌, ◌⊎◌, ℕ, suc, ◌+◌, ◌*◌, ◌≤◌, List, [], ◌∷◌, ◌++◌, length, map, Result, Ok, Err, OnErr}
+use Rattle.arrayvec.specs.ArrayVec.{ArrayVec}
+use Rattle.xh_channel.specs.declared.message.Message.{Message}
+use Rattle.xh_channel.specs.declared.refused.Refused.{Refused}
+use Rattle.xh_channel.specs.declared.unsent.Unsent.{Unsent}
+use Rattle.xh_channel.specs.Numbers.{message}
+use Rattle.xh_channel.specs.Queues.{IsSameEnd, KeepsItsMessages, Posted, PutsAs, ShutsAs, TakesAs, Unpushed}
+use Rattle.xh_place.specs.Bodies.{Content, bytes, endpoint, toward}
+use Rattle.xh_place.specs.declared.got.Got.{Got}
+use Rattle.xh_place.specs.declared.got.Got.TheVariants.{Here, Missing}
+use Rattle.xh_place.specs.Places.{Item}
+
+-- it puts the blocks with the tag: what the channel's put says
+pub record Puts (tag : ℕ) (blocks : ArrayVec ℕ) (result : Result ℕ Unsent) (old new : Posted) : Type 0 where
+  pub answer : PutsAs old new tag blocks result
+  pub kept : OnErr result (Unpushed old new (message (suc old.counts.put) tag blocks))
+  pub same : IsSameEnd old new
+
+-- it takes: what the channel's take says
+pub record Takes (result : Result Message Refused) (old new : Posted) : Type 0 where
+  pub answer : TakesAs old new result
+  pub kept : OnErr result (KeepsItsMessages old new)
+  pub same : IsSameEnd old new
+
+-- it shuts: what the channel's shut says
+abbrev pub Shuts : Posted → Posted → Type 0
+Shuts old new = ShutsAs old new
+
+-- it takes these messages, one after another
+abbrev pub TakesEach : List Message → Posted → Posted → Type 0
+TakesEach [] old new = new ≡ old
+TakesEach (m ∷ ms) old new = (mid : Posted) × Takes (Ok m) old mid × TakesEach ms mid new
+
+-- it takes these, and then a take finds none; or there are 2^64 - 1 of them
+abbrev pub IsDrained : List Message → Posted → Posted → Type 0
+IsDrained ms old new = (last : Posted) × TakesEach ms old last
+    × (((none : Refused) × Takes (Err none) last new) ⊎ ((18446744073709551615 ≤ length ms) × (new ≡ last)))
+
+-- ---- the blocks of messages
+
+-- a block is here, and then it is what the list gained; or the word that was seen isn't "in flight on the direction"
+abbrev pub IsGot : ℕ → List (ℕ × Item) → Got → Type 0
+IsGot d ys (Here block) = (x : Item) × (ys ≡ (block.rec, x) ∷ []) × (x.len ≡ block.len)
+IsGot d ys (Missing r word) = (ys ≡ []) × (word ≢ 2 + 4 * d)
+
+-- of each block in turn, and the list gained them in this order
+abbrev pub AreGot : ℕ → List (ℕ × Item) → List Got → Type 0
+AreGot d ys [] = ys ≡ []
+AreGot d ys (got ∷ gots) = (here : List (ℕ × Item)) × (more : List (ℕ × Item)) × (ys ≡ here ++ more) × IsGot d here got × AreGot d more gots
+
+-- the record that it is about
+abbrev pub record_of : Got → ℕ
+record_of (Here block) = block.rec
+record_of (Missing r word) = r
+
+-- the records of the blocks of messages
+abbrev pub blocks_of : List Message → List ℕ
+blocks_of [] = []
+blocks_of (m ∷ ms) = m.blocks.items ++ blocks_of ms
+
+-- each block of the messages, in their order, came to the list or was missing
+abbrev pub AreUnpacked : ℕ → List Message → List (ℕ × Item) → Type 0
+AreUnpacked d ms came = (gots : List Got) × (map record_of gots ≡ blocks_of ms) × AreGot d came gots
+
+-- bytes, with which nothing came, or an endpoint that was shut and then drained, and the blocks of its messages came
+abbrev pub EndsWith : Content → List (ℕ × Item) → Type 0
+EndsWith (bytes xs) came = came ≡ []
+EndsWith (endpoint e) came = (ms : List Message) × (shut : Posted) × (last : Posted) × Shuts e shut × IsDrained ms shut last × AreUnpacked (toward (endpoint e)) ms came
