@@ -1,5 +1,5 @@
 //! What lies behind a place's lock.
-ghost use Rattle.std.specs.Prelude.{◌≡◌, ℕ, ◌*◌, ◌++◌, length, IfErr, IfOk, Ok, Err, MatchResult, false, is_some};
+ghost use Rattle.std.specs.Prelude.{◌≡◌, ℕ, ◌*◌, ◌++◌, length, IfErr, IfOk, Ok, Err, MatchResult, false};
 ghost use Rattle.xh_channel.specs.Pairs.{IsPair};
 ghost use Rattle.xh_channel.specs.Queues.{Posted};
 ghost use Rattle.xh_core.specs.declared.status.Status.TheVariants as status;
@@ -11,7 +11,7 @@ ghost use Rattle.xh_place.specs.Ends.{AreListed};
 ghost use Rattle.xh_place.specs.Places.{IsPlaceOf};
 ghost use Rattle.xh_kernel.specs.Accounts.{has_taken};
 ghost use Rattle.xh_kernel.specs.Calls.{Spawns};
-ghost use Rattle.xh_kernel.specs.Channels.{Opens};
+ghost use Rattle.xh_kernel.specs.Channels.{GoesBy, Opens};
 ghost use Rattle.xh_kernel.specs.Endings.{Closes};
 ghost use Rattle.xh_kernel.specs.inner.Looking.{LooksFor};
 ghost use Rattle.xh_kernel.specs.Messages.{Takes};
@@ -55,7 +55,7 @@ fn open_channel<N: Names, R: Wait>(
     shared: &Shared<N>,
     contract: Option<Contract>,
 ) -> Result<(Endpoint, Endpoint), Refused>
-    ensures ok { IfOk result (λ ends. IsPair ends.0 ends.1 × (ends.0.depth ≡ N.parts.depth) × (ends.0.has_contract ≡ is_some contract)) }
+    ensures ok { IfOk result (λ ends. IsPair ends.0 ends.1 × (ends.0.depth ≡ N.parts.depth) × GoesBy contract ends.0) }
     ensures err { IfErr result (λ e. e ≡ Refused.NoChannel) }
 {
     let ends = match contract {
@@ -160,7 +160,7 @@ impl<N: Names> Held<N> {
         account: &mut Account<N>,
         gate: &G,
     ) -> Result<(Block, Block), Refused>
-        ensures place { Opens N.parts p arena (is_some contract) self.old.place self.new.place result }
+        ensures place { Opens N.parts p arena contract self.old.place self.new.place result }
         ensures ends { IfOk result (λ ends. (self.new.place.state ≡ status.Running) × ((low : Posted) × (high : Posted) × AreListed low high self.new.place ends)) }
         ensures account { MatchResult result (λ _. account.new ≡ has_taken arena (2 * END_BYTES) account.old) (λ _. account.new ≡ account.old) }
     {

@@ -1,5 +1,5 @@
 //! Channels are opened, for one process or between two.
-ghost use Rattle.std.specs.Prelude.{◌≡◌, ℕ, ◌*◌, ◌++◌, MatchOption, MatchResult, Err, Ok, IfOk, is_some, true, false};
+ghost use Rattle.std.specs.Prelude.{◌≡◌, ℕ, ◌*◌, ◌++◌, MatchOption, MatchResult, Err, Ok, IfOk, None, Some};
 ghost use Rattle.xh_core.specs.Refusing.{first_refusal};
 ghost use Rattle.xh_model.specs.declared.limits.TheConstants.{END_BYTES};
 ghost use Rattle.xh_place.specs.Places.{IsPlaceOf, PlaceOf};
@@ -40,7 +40,7 @@ impl<N: Names> Kernel<N> {
         gate: &G,
     ) -> Result<(Block, Block), Refused>
         ensures account { MatchResult result (λ _. account.new ≡ has_taken arena (2 * END_BYTES) account.old) (λ _. account.new ≡ account.old) }
-        ensures place { (old : PlaceOf) × (new : PlaceOf) × IsPlaceOf N.parts.records old × Opens N.parts p arena false old new result }
+        ensures place { (old : PlaceOf) × (new : PlaceOf) × IsPlaceOf N.parts.records old × Opens N.parts p arena None old new result }
     {
         let mut held = self.lock_of(p).lock(rt);
         held.open(rt, &self.shared, p, arena, None, account, gate)
@@ -57,7 +57,7 @@ impl<N: Names> Kernel<N> {
         gate: &G,
     ) -> Result<(Block, Block), Refused>
         ensures account { MatchResult result (λ _. account.new ≡ has_taken arena (2 * END_BYTES) account.old) (λ _. account.new ≡ account.old) }
-        ensures place { (old : PlaceOf) × (new : PlaceOf) × IsPlaceOf N.parts.records old × Opens N.parts p arena true old new result }
+        ensures place { (old : PlaceOf) × (new : PlaceOf) × IsPlaceOf N.parts.records old × Opens N.parts p arena (Some contract) old new result }
     {
         let mut held = self.lock_of(p).lock(rt);
         held.open(rt, &self.shared, p, arena, Some(contract), account, gate)
@@ -78,7 +78,7 @@ impl<N: Names> Kernel<N> {
     ) -> Result<(Block, Block), Refused>
         ensures account { MatchResult result (λ _. account.new ≡ has_taken arena (2 * END_BYTES) account.old) (HasUnwired arena account.old account.new) }
         ensures first { (first : PlaceOf) × (second : PlaceOf) × IsPlaceOf N.parts.records first × IsPlaceOf N.parts.records second × MatchOption (first_refusal (start p first ++ start q second))
-            (Wires N.parts p q arena false result) (λ refused. result ≡ Err refused) }
+            (Wires N.parts p q arena None result) (λ refused. result ≡ Err refused) }
     {
         self.connect(rt, p, q, arena, None, account, gate)
     }
@@ -96,7 +96,7 @@ impl<N: Names> Kernel<N> {
     ) -> Result<(Block, Block), Refused>
         ensures account { MatchResult result (λ _. account.new ≡ has_taken arena (2 * END_BYTES) account.old) (HasUnwired arena account.old account.new) }
         ensures first { (first : PlaceOf) × (second : PlaceOf) × IsPlaceOf N.parts.records first × IsPlaceOf N.parts.records second × MatchOption (first_refusal (start p first ++ start q second))
-            (Wires N.parts p q arena true result) (λ refused. result ≡ Err refused) }
+            (Wires N.parts p q arena (Some contract) result) (λ refused. result ≡ Err refused) }
     {
         self.connect(rt, p, q, arena, Some(contract), account, gate)
     }
@@ -114,7 +114,7 @@ impl<N: Names> Kernel<N> {
     ) -> Result<(Block, Block), Refused>
         ensures account { MatchResult result (λ _. account.new ≡ has_taken arena (2 * END_BYTES) account.old) (HasUnwired arena account.old account.new) }
         ensures first { (first : PlaceOf) × (second : PlaceOf) × IsPlaceOf N.parts.records first × IsPlaceOf N.parts.records second × MatchOption (first_refusal (start p first ++ start q second))
-            (Wires N.parts p q arena (is_some contract) result) (λ refused. result ≡ Err refused) }
+            (Wires N.parts p q arena contract result) (λ refused. result ≡ Err refused) }
     {
         self.look_at(rt, p)?;
         self.look_at(rt, q)?;
@@ -136,8 +136,8 @@ impl<N: Names> Kernel<N> {
         account: &mut Account<N>,
         gate: &G,
     ) -> Result<Wired, Refused>
-        ensures place { (old : PlaceOf) × (new : PlaceOf) × IsPlaceOf N.parts.records old × MatchResult result (λ w. Opens N.parts p arena (is_some contract) old new (Ok (w.low, w.high)))
-            (λ e. Opens N.parts p arena (is_some contract) old new (Err e)) }
+        ensures place { (old : PlaceOf) × (new : PlaceOf) × IsPlaceOf N.parts.records old × MatchResult result (λ w. Opens N.parts p arena contract old new (Ok (w.low, w.high)))
+            (λ e. Opens N.parts p arena contract old new (Err e)) }
         ensures exists { IfOk result (λ w. IsRecord N.parts.records.shape w.high.rec) }
         ensures account { MatchResult result (λ _. account.new ≡ has_taken arena (2 * END_BYTES) account.old) (λ _. account.new ≡ account.old) }
     {

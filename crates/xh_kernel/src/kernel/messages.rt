@@ -27,7 +27,7 @@ impl<N: Names> Kernel<N> {
         blocks: &[u16],
         gate: &G,
     ) -> Result<u64, Refused>
-        ensures { (old : PlaceOf) × (new : PlaceOf) × IsPlaceOf N.parts.records old × Gives p e blocks.now old new result }
+        ensures { (old : PlaceOf) × (new : PlaceOf) × IsPlaceOf N.parts.records old × Gives p e tag blocks.now old new result }
     {
         let mut guard = self.lock_of(p).lock(rt);
         let held: &mut Held<N> = &mut guard;

@@ -1,5 +1,5 @@
 use Rattle.std.proofs.Common.{rules, ◌≡◌, ◌∙◌, sym, subst, inr}
-use Rattle.std.specs.Prelude.{Err, is_some}
+use Rattle.std.specs.Prelude.{Err}
 use Rattle.xh_core.proofs.Firsts.{first_append, first_later}
 use Rattle.xh_kernel.specs.Channels.{Wires}
 use Rattle.xh_kernel.specs.Places.{start}
@@ -27,18 +27,18 @@ returns-in_err-wired-clause-first g c =
     let a = c.in_ok-look_at.ensures in let b = c.in_ok-look_at-2.ensures in let w = c.in_err-wired.ensures.place in
     let result = c.from_residual-in_err-wired.result in
     let e : result ≡ Err c.in_err-wired.field-0.0 = search rules in
-    let wires = Wires g.N.Names.parts c.args.p c.args.q c.args.arena (is_some c.args.contract) in
+    let wires = Wires g.N.Names.parts c.args.p c.args.q c.args.arena c.args.contract in
     (a.0, b.0, a.1, b.1, neither (start c.args.p a.0) (start c.args.q b.0) (wires result) result a.2.0 b.2.0 (subst wires (sym e) (inr (w.0, w.1, w.2, w.3))))
 
 pub returns-clause-first : goal.returns-clause-first
 returns-clause-first g c =
     let a = c.in_ok-look_at.ensures in let b = c.in_ok-look_at-2.ensures in let w = c.in_ok-wired.wired in
-    let parts = g.N.Names.parts in let ruled = is_some c.args.contract in (
+    let parts = g.N.Names.parts in (
       a.0,
       b.0,
       a.1,
       b.1,
-      neither (start c.args.p a.0) (start c.args.q b.0) (Wires parts c.args.p c.args.q c.args.arena ruled c.hand_over.result) c.hand_over.result a.2.0 b.2.0
-          (wired parts c.args.p c.args.q c.args.arena ruled w.low w.high c.open_toward.new.account c.hand_over.new.account c.hand_over.result
+      neither (start c.args.p a.0) (start c.args.q b.0) (Wires parts c.args.p c.args.q c.args.arena c.args.contract c.hand_over.result) c.hand_over.result a.2.0 b.2.0
+          (wired parts c.args.p c.args.q c.args.arena c.args.contract w.low w.high c.open_toward.new.account c.hand_over.new.account c.hand_over.result
           c.in_ok-wired.ensures.place c.hand_over.ensures.account c.hand_over.ensures.ends),
     )
