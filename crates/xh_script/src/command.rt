@@ -28,6 +28,9 @@ impl<N> Default for Word<N> {
     }
 }
 
+/// What the words of a line say.
+pub(crate) type Words<N> = ArrayVec<Word<N>, MAX_WORDS>;
+
 /// A command: its form, and what its words say, in the order of the form's row in the table.
 #[derive(Debug, Drop)]
 pub struct Command<N> {

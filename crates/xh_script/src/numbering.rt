@@ -1,14 +1,15 @@
 //! Numbers in place of names.
-ghost use Rattle.std.specs.Prelude.{◌≡◌, ◌<◌, ◌≤◌, IfOk, length};
+ghost use Rattle.std.specs.Prelude.{◌≡◌, ◌<◌, ◌≤◌, [], IfOk, length};
 ghost use Rattle.std.specs.List.{list_all};
 ghost use Rattle.xh_script.specs.inner.Stops.{Answers};
 ghost use Rattle.xh_script.specs.Numbering.{word_in, words_in, is_known, numbered, rows_in, declared_by, declared, placed};
 ghost use Rattle.xh_script.specs.declared.limits.TheConstants.{MAX_HEX, MAX_PROCESSES, MAX_WORDS};
 
+use crate::command::Words;
 use crate::limits::{MAX_CONTRACTS, MAX_HEX, MAX_WORDS};
 use crate::reading::Reading;
 use crate::table::table_of;
-use crate::{Command, Form, Kind, Name, Stop, Word};
+use crate::{Form, Kind, Name, Stop, Word};
 use arrayvec::ArrayVec;
 use xh_model::Row;
 
@@ -61,19 +62,19 @@ impl Reading {
         }
     }
 
-    /// Words with numbers for their names, from left to right.
-    fn numbers(&mut self, words: &[Word<Name>]) -> Result<ArrayVec<Word<u8>, MAX_WORDS>, Stop>
-        requires { length words.now ≤ MAX_WORDS }
-        ensures { Answers (λ ws. (ws.items, self.new)) result (words_in self.old 0 words.now) }
+    /// Adds words with numbers for their names, from left to right.
+    fn add_numbers(&mut self, words: &[Word<Name>], numbers: &mut Words<u8>) -> Result<(), Stop>
+        requires none { numbers.old.items ≡ [] }
+        requires room { length words.now ≤ MAX_WORDS }
+        ensures { Answers (λ _. (numbers.new.items, self.new)) result (words_in self.old 0 words.now) }
     {
         let mut process = 0;
-        let mut numbers = ArrayVec::new();
         for word in words {
             let (named, number) = self.number(process, word)?;
             process = named;
             numbers.push(number);
         }
-        Ok(numbers)
+        Ok(())
     }
 
     /// Whether a contract that is named stands on an earlier line.
@@ -92,23 +93,35 @@ impl Reading {
         words.iter().all(|word| self.is_known(word))
     }
 
-    /// A command of words that names what was declared before.
+    /// A command of words that names what was declared before. The words come to `numbers`.
     #[tactic(auto, unfolding(crate::specs::Numbering::numbered), using(crate::proofs::Readings::stops_then))]
-    fn numbered(&mut self, form: Form, words: &[Word<Name>]) -> Result<Command<u8>, Stop>
-        requires { length words.now ≤ MAX_WORDS }
-        ensures { Answers (λ c. (c, self.new)) result (numbered self.old form words.now) }
+    fn numbered(
+        &mut self,
+        form: Form,
+        words: &[Word<Name>],
+        numbers: &mut Words<u8>,
+    ) -> Result<Form, Stop>
+        requires none { numbers.old.items ≡ [] }
+        requires room { length words.now ≤ MAX_WORDS }
+        ensures { Answers (λ form. (record { form = form; words = numbers.new }, self.new)) result (numbered self.old form words.now) }
     {
         if !self.are_known(words) {
             return Err(Stop::Bad(Kind::BadContract));
         }
-        let words = self.numbers(words)?;
-        Ok(Command { form, words })
+        self.add_numbers(words, numbers)?;
+        Ok(form)
     }
 
     /// A new contract.
     #[tactic(auto, unfolding(crate::specs::Numbering::declared_by), using(crate::proofs::Readings::stops_then))]
-    fn declared_by(&mut self, name: &Name, rows: &[Row]) -> Result<Command<u8>, Stop>
-        ensures { Answers (λ c. (c, self.new)) result (declared_by self.old name.now rows.now) }
+    fn declared_by(
+        &mut self,
+        name: &Name,
+        rows: &[Row],
+        numbers: &mut Words<u8>,
+    ) -> Result<Form, Stop>
+        requires { numbers.old.items ≡ [] }
+        ensures { Answers (λ form. (record { form = form; words = numbers.new }, self.new)) result (declared_by self.old name.now rows.now) }
     {
         let Some(table) = table_of(rows) else {
             return Err(Stop::Bad(Kind::BadContract));
@@ -118,42 +131,45 @@ impl Reading {
         }
         let contract = self.declared.enter(MAX_CONTRACTS, name)?;
         self.contracts.push(table)?;
-        let mut words = ArrayVec::new();
-        words.push(Word::Contract(contract));
-        Ok(Command {
-            form: Form::Contract,
-            words,
-        })
+        numbers.push(Word::Contract(contract));
+        Ok(Form::Contract)
     }
 
     /// The contract that a line declares.
     #[tactic(auto, unfolding(crate::specs::Numbering::declared), using(crate::proofs::Readings::stops_then))]
-    fn declare(&mut self, words: &[Word<Name>]) -> Result<Command<u8>, Stop>
-        requires { length words.now ≤ MAX_WORDS }
-        ensures { Answers (λ c. (c, self.new)) result (declared self.old words.now) }
+    fn declare(&mut self, words: &[Word<Name>], numbers: &mut Words<u8>) -> Result<Form, Stop>
+        requires none { numbers.old.items ≡ [] }
+        requires room { length words.now ≤ MAX_WORDS }
+        ensures { Answers (λ form. (record { form = form; words = numbers.new }, self.new)) result (declared self.old words.now) }
     {
         let [first, rows @ ..] = words else {
             return Err(Stop::Bad(Kind::BadContract));
         };
         match first {
-            Word::Contract(name) => self.declared_by(name, &rows_in(rows)),
+            Word::Contract(name) => self.declared_by(name, &rows_in(rows), numbers),
             _ => Err(Stop::Bad(Kind::BadContract)),
         }
     }
 
-    /// The command that a line says, where its place in the script allows it.
+    /// The command that a line says, where its place in the script allows it. Its words come to `numbers`.
     #[tactic(auto, unfolding(crate::specs::Numbering::placed), using(crate::proofs::Readings::stops_then))]
-    pub(crate) fn place(&mut self, said: Command<Name>) -> Result<Command<u8>, Stop>
-        ensures { Answers (λ c. (c, self.new)) result (placed self.old said) }
+    pub(crate) fn place(
+        &mut self,
+        form: Form,
+        said: &Words<Name>,
+        numbers: &mut Words<u8>,
+    ) -> Result<Form, Stop>
+        requires { numbers.old.items ≡ [] }
+        ensures { Answers (λ form. (record { form = form; words = numbers.new }, self.new)) result (placed self.old (record { form = form; words = said.now })) }
     {
-        let head = said.form.is_head();
+        let head = form.is_head();
         if head && self.begun {
             return Err(Stop::Bad(Kind::LateHead));
         }
-        if said.form.declares() {
-            return self.declare(&said.words);
+        if form.declares() {
+            return self.declare(said, numbers);
         }
         self.begun = self.begun || !head;
-        self.numbered(said.form, &said.words)
+        self.numbered(form, said, numbers)
     }
 }

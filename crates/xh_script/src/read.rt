@@ -1,15 +1,17 @@
 //! How a script is read.
-ghost use Rattle.std.specs.Prelude.{◌≤◌, ◌==◌, length};
+ghost use Rattle.std.specs.Prelude.{◌≤◌, ◌==◌, Some, length};
 ghost use Rattle.xh_script.specs.inner.Stops.{Answers};
 ghost use Rattle.xh_script.specs.Scripts.{with_line, with_command, at_line, after_line, after_lines, nothing_read, script_of, listing_of, Gives};
 ghost use Rattle.std.specs.List.{slice_split};
 ghost use Rattle.xh_script.specs.declared.limits.TheConstants.{MAX_SCRIPT};
 
+use crate::command::Words;
 use crate::limits::{MAX_COMMANDS, MAX_SCRIPT};
 use crate::line::said_at;
 use crate::pieces::pieces;
 use crate::reading::Reading;
-use crate::{Command, Fault, Kind, Line, Name, Script, Stop};
+use crate::{Command, Fault, Form, Kind, Line, Name, Script, Stop};
+use arrayvec::ArrayVec;
 use std::alloc::Global;
 
 /// Adds a command.
@@ -26,16 +28,12 @@ fn add_line(reading: &mut Reading, number: u32, command: Command<u8>) -> Result<
 
 /// Adds what a line says.
 #[tactic(auto, using(crate::proofs::Readings::stops_then))]
-fn add_said(reading: &mut Reading, number: u32, said: Option<Command<Name>>) -> Result<(), Stop>
-    ensures { Answers (λ _. reading.new) result (with_command reading.old number said) }
+fn add_said(reading: &mut Reading, number: u32, form: Form, said: &Words<Name>) -> Result<(), Stop>
+    ensures { Answers (λ _. reading.new) result (with_command reading.old number (Some (record { form = form; words = said.now }))) }
 {
-    match said {
-        None => Ok(()),
-        Some(said) => {
-            let command = reading.place(said)?;
-            add_line(reading, number, command)
-        }
-    }
+    let mut words = ArrayVec::new();
+    let form = reading.place(form, said, &mut words)?;
+    add_line(reading, number, Command { form, words })
 }
 
 /// Reads one more line.
@@ -43,8 +41,11 @@ fn add_said(reading: &mut Reading, number: u32, said: Option<Command<Name>>) -> 
 fn add_text(alloc: Global, reading: &mut Reading, number: u32, line: &[u8]) -> Result<(), Stop>
     ensures { Answers (λ _. reading.new) result (after_line reading.old number line.now) }
 {
-    let said = said_at(alloc, line)?;
-    add_said(reading, number, said)
+    let mut said = ArrayVec::new();
+    match said_at(alloc, line, &mut said)? {
+        None => Ok(()),
+        Some(form) => add_said(reading, number, form, &said),
+    }
 }
 
 /// Reads one more line, and gives its number with a fault.

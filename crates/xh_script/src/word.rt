@@ -1,13 +1,14 @@
 //! The words of a line, each read as what its place in the table asks for.
-ghost use Rattle.std.specs.Prelude.{◌≡◌, ◌<◌, ◌∷◌, map, length};
+ghost use Rattle.std.specs.Prelude.{◌≡◌, ◌<◌, [], ◌∷◌, map, length};
 ghost use Rattle.xh_script.specs.Grammar.{words_from};
 ghost use Rattle.xh_script.specs.Sorts.{name_at, bytes_at, word_at};
 ghost use Rattle.xh_script.specs.inner.Stops.{Answers};
 ghost use Rattle.xh_script.specs.declared.limits.TheConstants.{MAX_WORDS};
 
+use crate::command::Words;
 use crate::form::{Shape, Sort};
 use crate::hex::{hex_bytes, is_hex};
-use crate::limits::{MAX_HEX, MAX_WORDS};
+use crate::limits::MAX_HEX;
 use crate::number::number_between;
 use crate::row::row_at;
 use crate::{Kind, Name, Stop, Word};
@@ -49,21 +50,22 @@ fn word_at(alloc: Global, sort: Sort, word: &[u8]) -> Result<Word<Name>, Stop>
     }
 }
 
-/// What the words of a line say, a first one and others.
-pub(crate) fn words_of(
+/// Adds what the words of a line say, a first one and others.
+pub(crate) fn add_words(
     alloc: Global,
     shape: &Shape,
     first: &[u8],
     others: &[&[u8]],
-) -> Result<ArrayVec<Word<Name>, MAX_WORDS>, Stop>
-    requires { length others.now < MAX_WORDS }
-    ensures { Answers (λ ws. ws.items) result (words_from shape.now 0 (first.now ∷ map (λ w. w.now) others.now)) }
+    words: &mut Words<Name>,
+) -> Result<(), Stop>
+    requires none { words.old.items ≡ [] }
+    requires room { length others.now < MAX_WORDS }
+    ensures { Answers (λ _. words.new.items) result (words_from shape.now 0 (first.now ∷ map (λ w. w.now) others.now)) }
 {
-    let mut words = ArrayVec::new();
     words.push(word_at(alloc, shape.sort(0), first)?);
     for word in others {
         let sort = shape.sort(words.len());
         words.push(word_at(alloc, sort, word)?);
     }
-    Ok(words)
+    Ok(())
 }

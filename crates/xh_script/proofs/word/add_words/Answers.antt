@@ -2,7 +2,7 @@ use Rattle.std.proofs.Common.{◌+◌, sym, ap, ◌∙◌, get_or, arith, length
 use Rattle.xh_script.specs.Forms.{sort_at}
 use Rattle.xh_script.specs.Sorts.{word_at}
 use Rattle.xh_script.proofs.WordLemmas.{no_word, words_more}
-use Rattle.xh_script.proofs.word.words_of.Goals as goal
+use Rattle.xh_script.proofs.word.add_words.Goals as goal
 
 pub loop-word-preserved : goal.loop-word-preserved
 loop-word-preserved c =
