@@ -44,14 +44,6 @@ fn room_for<L: Drop>(
     Ok((words, lots, held))
 }
 
-// The word in a slot of the closed table.
-fn word_in<L>(closed: &Closed<Option<L>, Global>, slot: usize) -> u64
-    requires { IsWhole closed.now.words × (slot < slots_len closed.now.words) }
-    ensures { get_elem? (slots_items closed.now.words) slot ≡ some result }
-{
-    closed.word(slot)
-}
-
 // Takes the lot of a slot: the one that was held, or else the one at home.
 fn lot_left<L: Drop>(
     closed: &mut Closed<Option<L>, Global>,
@@ -86,7 +78,7 @@ fn unload<L: Drop>(
     ensures lots { (k : ℕ) (l : L) → get_elem? result.1.items k ≡ some l → or_else (slot_at held.items k) (slot_at (slots_items closed.slots) k) ≡ Some l }
 {
     for slot in 0..closed.slot_count() {
-        words.push_reserved(word_in(&closed, slot));
+        words.push_reserved(closed.word(slot));
         lots.push_reserved(lot_left(&mut closed, &mut held, slot));
     }
     closed.free();

@@ -115,10 +115,13 @@ impl<B: Fits + Drop> Records<B> {
         let i = self.slot_of(first);
         let j = self.slot_of(second);
         let order = seat.order.as_slice();
-        let mut left = swap_slot(board, &mut seat.token, order, i, None).unwrap();
         let mut also = swap_slot(board, &mut seat.token, order, j, None).unwrap();
-        let answer = call_at_two(f, &mut left, &mut also);
-        drop(swap_slot(board, &mut seat.token, order, i, Some(left)));
+        let k = turn_to(&mut seat.token, order, i);
+        let Some(left) = seat.token.slot_mut(board, usize::from(i)) else {
+            unreachable!()
+        };
+        let answer = call_at_two(f, left, &mut also);
+        turn_by(&mut seat.token, order.len() - k);
         drop(swap_slot(board, &mut seat.token, order, j, Some(also)));
         answer
     }

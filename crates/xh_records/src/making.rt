@@ -1,5 +1,5 @@
 // Makes the table, and a seat for each place.
-ghost use Rattle.std.specs.Prelude.{◌≡◌, ℕ, ◌<◌, ◌≤◌, [], length, IfOk, Some, map};
+ghost use Rattle.std.specs.Prelude.{◌≡◌, ℕ, ◌<◌, ◌≤◌, [], length, IfOk, Some, map, replicate};
 ghost use mathlib.Core.Option.{some};
 ghost use lib.ListN.{get_elem?};
 ghost use Rattle.xh_arena.specs.Views.{LotOf};
@@ -22,11 +22,13 @@ use xh_arena::{Fits, Lot};
 /// The table itself, which its seats share.
 pub(crate) type Home<B> = Table<Option<Lot<B>>, View, Shape, Showing<B>, Global>;
 
-// Each lot in a slot.
-fn in_slots<B: Drop>(alloc: Global, lots: Vec<Lot<B>>) -> Result<Vec<Option<Lot<B>>>, AllocError>
-    ensures { IfOk result (λ slots. slots.items ≡ map Some lots.items) }
+// A word of no holder and a slot for each lot.
+fn homes_of<L: Drop>(alloc: Global, lots: Vec<L>) -> Result<(Vec<u64>, Vec<Option<L>>), AllocError>
+    ensures { IfOk result (λ h. (h.0.items ≡ replicate (length lots.items) 0) × (h.1.items ≡ map Some lots.items)) }
 {
-    lots.into_iter().map(|lot| Some(lot)).collect(alloc)
+    let words = vec![in alloc; 0u64; lots.len()]?;
+    let slots = lots.into_iter().map(|lot| Some(lot)).collect(alloc)?;
+    Ok((words, slots))
 }
 
 // The table over empty lots, each record free, and one token that stands for all places.
@@ -37,11 +39,10 @@ pub(crate) fn table_of<B: Fits + Drop>(
 ) -> Result<(Home<B>, Token<B>), Refused>
     requires limits { (shape.now.places ≤ PLACES) × IsSmall shape.now }
     requires empty { (k : ℕ) (l : LotOf B) → get_elem? lots.items k ≡ some l → IsLotAt shape.now k l × IsEmpty B.is_fit l }
-    ensures table { IfOk result (λ t. (t.0.shared.table_id.words ≡ length lots.items) × (t.0.shared.table_id.slots ≡ length lots.items) × (t.0.shared.key ≡ shape.now)) }
-    ensures dealer { IfOk result (λ t. (t.1.table_id ≡ t.0.shared.table_id) × (t.1.me.0 ≡ dealer shape.now 0 shape.now.places)) }
+    ensures { IfOk result (λ t. (t.0.shared.table_id.words ≡ length lots.items) × (t.0.shared.table_id.slots ≡ length lots.items) × (t.0.shared.key ≡ shape.now)
+        × (t.1.table_id ≡ t.0.shared.table_id) × (t.1.me.0 ≡ dealer shape.now 0 shape.now.places)) }
 {
-    let words = vec![in alloc; 0u64; lots.len()]?;
-    let slots = in_slots(alloc, lots)?;
+    let (words, slots) = homes_of(alloc, lots)?;
     match Table::new(alloc, words.as_slice(), slots, shape) {
         Ok(made) => Ok(made),
         Err(_refused) => Err(Refused::OutOfMemory),

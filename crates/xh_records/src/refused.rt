@@ -1,13 +1,21 @@
 use std::alloc::AllocError;
-use thiserror::Error;
+use std::error::Error;
+use std::fmt;
 
 /// Why a table of records wasn't made, or not closed.
-#[derive(Debug, Drop, Error)]
+#[derive(Debug, Drop)]
 pub enum Refused {
     /// A growth was refused. What was handed in is dropped.
-    #[error("a growth of memory was refused")]
     OutOfMemory,
 }
+
+impl fmt::Display for Refused {
+    fn fmt<W: fmt::Write>(&self, f: &mut fmt::Formatter<W>) -> fmt::Result {
+        f.write_str("a growth of memory was refused")
+    }
+}
+
+impl Error for Refused {}
 
 impl From<AllocError> for Refused {
     fn from(_error: AllocError) -> Refused {

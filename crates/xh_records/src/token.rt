@@ -55,7 +55,7 @@ fn is_near(order: &[u16], k: usize, slot: u16) -> bool
     near
 }
 
-// An end behind the slot's place, and near it. It looks from the end of the order, where what was gained last stands.
+// An end behind the slot's place, and near it, seen from the end of the order.
 fn skip_far(order: &[u16], slot: u16) -> usize
     requires { (k : ℕ) × (get_elem? order.now k ≡ some slot) }
     ensures { (k : ℕ) × (k < result) × (result ≤ length order.now) × (get_elem? order.now k ≡ some slot) }
@@ -67,16 +67,45 @@ fn skip_far(order: &[u16], slot: u16) -> usize
     end
 }
 
-// Where the slot stands in the order.
-fn position(order: &[u16], slot: u16) -> usize
-    requires { (k : ℕ) × (get_elem? order.now k ≡ some slot) }
+// Where the slot stands before this end.
+fn last_before(order: &[u16], end: usize, slot: u16) -> usize
+    requires { (k : ℕ) × (k < end) × (end ≤ length order.now) × (get_elem? order.now k ≡ some slot) }
     ensures { get_elem? order.now result ≡ some slot }
 {
-    let mut k = skip_far(order, slot) - 1;
+    let mut k = end - 1;
     while order[k] != slot {
         k -= 1;
     }
     k
+}
+
+// Where the slot stands, counted from the front.
+fn first_at(order: &[u16], slot: u16) -> usize
+    requires { (k : ℕ) × (get_elem? order.now k ≡ some slot) }
+    ensures { get_elem? order.now result ≡ some slot }
+{
+    let mut k = 0;
+    while order[k] != slot {
+        k += 1;
+    }
+    k
+}
+
+// Where the slot stands in the order. It looks near the end, where what was gained last stands, then near the front, and then at all from the end.
+fn position(order: &[u16], slot: u16) -> usize
+    requires { (k : ℕ) × (get_elem? order.now k ≡ some slot) }
+    ensures { get_elem? order.now result ≡ some slot }
+{
+    let end = order.len();
+    if end >= NEAR && !is_near(order, end - NEAR, slot) {
+        if is_near(order, 0, slot) {
+            first_at(order, slot)
+        } else {
+            last_before(order, skip_far(order, slot), slot)
+        }
+    } else {
+        last_before(order, end, slot)
+    }
 }
 
 // Turns the token's list until this slot is first, and answers where it stood: as many turns as stood from there on bring the list back.

@@ -1,4 +1,4 @@
-use Rattle.std.proofs.Common.{rules, arith, ◌≡◌, ℕ, suc, ◌+◌, ◌<◌, ⊎_elim, length, take, get_or, set, false, refl, sym, ap, ◌∙◌, subst, [], ◌∷◌, ◌++◌, get_or-set_same, get_or-set_other}
+use Rattle.std.proofs.Common.{rules, arith, ◌≡◌, ℕ, suc, ◌+◌, ◌<◌, ◌≤◌, ⊎_elim, length, take, get_or, set, false, refl, sym, ap, ◌∙◌, subst, [], ◌∷◌, ◌++◌, get_or-set_same, get_or-set_other}
 use Rattle.std.specs.Prelude.{Some, None}
 use Rattle.std.specs.Vec.{vec_len}
 use Rattle.std.specs.Slots.{slots_items, slots_len, slots_filled, slots_counts}
@@ -10,11 +10,11 @@ use Rattle.xh_records.specs.inner.Gathering.{slot_at, or_else}
 use Rattle.xh_records.proofs.Elements.{snoc_at}
 use Rattle.xh_records.proofs.Ended.{take_one_more}
 use Rattle.xh_records.proofs.closing.unload.Given.{Over}
-use Rattle.xh_records.proofs.closing.unload.Goals.{After-word_in}
+use Rattle.xh_records.proofs.closing.unload.Goals.{After-word}
 use Rattle.xh_records.proofs.closing.unload.Goals as goal
 
 -- the slot is one of the table's
-within : (g : Over) (c : After-word_in g) → c.loop-slot.slot < slots_len c.args.closed.slots
+within : (g : Over) (c : After-word g) → c.loop-slot.slot < slots_len c.args.closed.slots
 within g c = let same : slots_len c.loop-slot.closed.slots ≡ slots_len c.args.closed.slots = c.loop-slot.invariant.same_count in
     let h : c.loop-slot.slot < c.slot_count-slot-end.result = c.loop-slot-test.true in search rules
 
@@ -22,7 +22,7 @@ pub lot_left-requires : goal.lot_left-requires
 lot_left-requires g c =
     let v = c.loop-slot.invariant in
     let i : ℕ = c.loop-slot.slot in
-    let below = within g (goal.at.lot_left-requires g c).After-word_in in
+    let below = within g (goal.at.lot_left-requires g c).After-word in
     let some_lot = c.requires.some_lot i below in record {
       home = (subst (λ (n : ℕ). i < n) (sym v.same_count) below, v.left i (omega arith) below);
       held = subst (λ (n : ℕ). i < n) (sym (v.held_long ∙ c.requires.full.3)) below;
@@ -48,13 +48,13 @@ loop-slot-preserved g c =
           (λ e. ap (get_or (set (slots_filled c.loop-slot.closed.slots) i false) k) refl ∙ ap (λ (n : ℕ). get_or (set (slots_filled c.loop-slot.closed.slots) i false) n false) e
           ∙ get_or-set_same (slots_filled c.loop-slot.closed.slots) i false false long)
           (λ n. get_or-set_other (slots_filled c.loop-slot.closed.slots) i k false false n ∙ v.gone k (omega arith));
-      words = c.push_reserved.ensures.items ∙ ap (λ z. z ++ c.word_in.result ∷ []) v.words ∙ sym
-          (take_one_more (slots_items c.args.closed.words) i c.word_in.result (subst (λ z. get_elem? (slots_items z) i ≡ some c.word_in.result) v.words_stay c.word_in.ensures))
+      words = c.push_reserved.ensures.items ∙ ap (λ z. z ++ c.word.result ∷ []) v.words ∙ sym
+          (take_one_more (slots_items c.args.closed.words) i c.word.result (subst (λ z. get_elem? (slots_items z) i ≡ some c.word.result) v.words_stay c.word.ensures))
           ∙ ap (λ (n : ℕ). take n (slots_items c.args.closed.words)) next;
-      words_long = search rules;
-      lots_long = search rules;
-      words_room = search rules;
-      lots_room = search rules;
+      words_long = c.push_reserved.ensures.len ∙ ap (λ (n : ℕ). n + 1) v.words_long;
+      lots_long = c.push_reserved-in-loop-slot.ensures.len ∙ ap (λ (n : ℕ). n + 1) v.lots_long;
+      words_room = subst (λ (n : ℕ). slots_len c.args.closed.slots ≤ n) (sym c.push_reserved.ensures.capacity) v.words_room;
+      lots_room = subst (λ (n : ℕ). slots_len c.args.closed.slots ≤ n) (sym c.push_reserved-in-loop-slot.ensures.capacity) v.lots_room;
       held_long = search rules;
       held = λ r le. ap (λ z. get_or z r None) left.held ∙ get_or-set_other c.loop-slot.held.items i r _ None (λ e. omega arith) ∙ v.held r (omega arith);
       lots = λ r x at. ⊎_elim

@@ -1,15 +1,16 @@
-use Rattle.std.proofs.Common.{◌≡◌, refl, sym, ap, ◌∙◌, subst}
+use Rattle.std.proofs.Common.{◌≡◌, ◌-◌, ◌∷◌, length, refl, sym, ap, ◌∙◌, subst}
 use Rattle.std.specs.Prelude.{Some, None}
 use Rattle.std.specs.Fn.{CalledAtPairMut}
+use Rattle.atomic_table.specs.Table.{rest}
 use Rattle.xh_model.specs.Keyed.{put}
-use Rattle.xh_model.proofs.Keyed.{put_both}
-use Rattle.xh_records.specs.inner.Tokens.{IsListed, in_slot}
+use Rattle.xh_model.proofs.Keyed.{put_swap, put_twice}
+use Rattle.xh_records.specs.inner.Tokens.{in_slot, turns}
 use Rattle.xh_records.proofs.Ended.{is_some}
-use Rattle.xh_records.proofs.Lists.{slot_other}
+use Rattle.xh_records.proofs.Lists.{first_is, slot_other}
 use Rattle.xh_records.proofs.Seating.{seat_is}
 use Rattle.xh_records.proofs.Lent.{LentBoth, lends_both, spot_of, kept_two, after_two, still_listed, listed_as}
 use Rattle.xh_records.proofs.records.Records.with_two.Given.{Over}
-use Rattle.xh_records.proofs.records.Records.with_two.Goals.{After-as_slice-order, After-swap_slot-2, After-swap_slot-4}
+use Rattle.xh_records.proofs.records.Records.with_two.Goals.{After-as_slice-order, After-slot_mut, In-Some, After-turn_by, After-swap_slot-2}
 use Rattle.xh_records.proofs.records.Records.with_two.Goals as goal
 
 -- where the lots are
@@ -20,89 +21,95 @@ both g c = lends_both _ _ _ _ _ _ _ _ _ _ _ _ _ _ _ _
     (spot_of _ _ _ _ _ c.seat.view_is c.args.self.now _ _ c.requires.own c.requires.exists.1 c.slot_of-j.ensures.index)
     c.requires.exists.2 c.requires.held.2 c.requires.held.3
 
--- what the second slot had, and that both are still in the list once they are empty
-second : (g : Over) (c : After-swap_slot-2 g) → LentBoth c.args.seat.now _ _ _ c.seat.inside.token.me c.seat.view_is _ _ _ c.seat.invariant c.slot_of-i.result c.slot_of-j.result c.args.first
-    c.args.second c.requires.held.0 c.requires.held.1 → c.swap_slot-2.result ≡ Some c.requires.held.1
-second g c b = c.swap_slot-2.ensures.value ∙ ap (λ m. in_slot c.slot_of-j.result m.1) c.swap_slot.ensures.token.2
-    ∙ slot_other c.slot_of-i.result c.slot_of-j.result None c.seat.inside.token.me.1 b.apart ∙ b.two.reach.has
+-- the first lot lies in its slot, and the second is the one that was taken out
+here : (g : Over) (c : After-slot_mut g) → LentBoth c.args.seat.now _ _ _ c.seat.inside.token.me c.seat.view_is _ _ _ c.seat.invariant c.slot_of-i.result c.slot_of-j.result c.args.first
+    c.args.second c.requires.held.0 c.requires.held.1 → c.slot_mut.result.now ≡ Some c.requires.held.0
+here g c b =
+    sym (first_is c.slot_of-i.result _ _ _ _ _ c.turn_to-k.ensures.turned.first (c.slot_mut.ensures.value ∙ (λ i. (c.from.ensures i, c.slot_mut.result.now) ∷ rest c.turn_to-k.new.token.me.1)))
+    ∙ ap (λ m. in_slot c.slot_of-i.result m.1) c.swap_slot.ensures.token.2 ∙ slot_other c.slot_of-j.result c.slot_of-i.result None c.seat.inside.token.me.1 (λ e. b.apart (sym e)) ∙ b.one.reach.has
 
-listed : (g : Over) (c : After-swap_slot-2 g) (slot : _) → IsListed c.seat.inside.order.items c.seat.inside.token.me.1 slot → IsListed c.seat.inside.order.items c.swap_slot-2.new.token.me.1 slot
-listed g c slot h = still_listed _ _ slot None _ _ (still_listed _ _ slot None _ _ h (ap (λ m. m.1) c.swap_slot.ensures.token.2)) (ap (λ m. m.1) c.swap_slot-2.ensures.token.2)
+is_left : (g : Over) (c : In-Some g) → c.slot_mut.result.now ≡ Some c.requires.held.0 → c.in-Some.left ≡ c.requires.held.0
+is_left g c has = let same : Some c.in-Some.left ≡ Some c.requires.held.0 = sym c.in-Some.is ∙ has in cc
+
+is_also : (g : Over) (c : In-Some g) → LentBoth c.args.seat.now _ _ _ c.seat.inside.token.me c.seat.view_is _ _ _ c.seat.invariant c.slot_of-i.result c.slot_of-j.result c.args.first
+    c.args.second c.requires.held.0 c.requires.held.1 → c.unwrap-also.result ≡ c.requires.held.1
+is_also g c b = let same : Some c.unwrap-also.result ≡ Some c.requires.held.1 = sym c.unwrap-also.ensures ∙ c.swap_slot.ensures.value ∙ b.two.reach.has in cc
+
+-- the list when the first lot was lent
+left_in : (g : Over) (c : After-turn_by g) → c.turn_by.new.token.me ≡ (c.seat.inside.token.me.0, put c.slot_of-i.result (Some c.call_at_two-answer.new.x) (put c.slot_of-j.result None c.seat.inside.token.me.1))
+left_in g c =
+    let t = c.turn_to-k.ensures in let x = Some c.call_at_two-answer.new.x in
+    c.turn_by.ensures.2 ∙ (λ i. (t.same.2 i, turns (length c.as_slice-order.result.now - c.turn_to-k.result) ((c.from.ensures i, x) ∷ rest c.turn_to-k.new.token.me.1)))
+    ∙ ap (λ z. (c.swap_slot.new.token.me.0, z)) (t.turned.again x) ∙ ap (λ m. (m.0, put c.slot_of-i.result x m.1)) c.swap_slot.ensures.token.2
 
 -- what was lent, and the seat afterwards
-module _ (g : Over) (c : After-swap_slot-4 g) (b : LentBoth c.args.seat.now _ _ _ c.seat.inside.token.me c.seat.view_is _ _ _ c.seat.invariant c.slot_of-i.result c.slot_of-j.result c.args.first
-    c.args.second c.requires.held.0 c.requires.held.1) (has : c.swap_slot-2.result ≡ Some c.requires.held.1) where
+module _ (g : Over) (c : After-swap_slot-2 g) (b : LentBoth c.args.seat.now _ _ _ c.seat.inside.token.me c.seat.view_is _ _ _ c.seat.invariant c.slot_of-i.result c.slot_of-j.result c.args.first
+    c.args.second c.requires.held.0 c.requires.held.1) (left : c.in-Some.left ≡ c.requires.held.0) (also : c.unwrap-also.result ≡ c.requires.held.1)
+    (now : c.turn_by.new.token.me ≡ (c.seat.inside.token.me.0, put c.slot_of-i.result (Some c.call_at_two-answer.new.x) (put c.slot_of-j.result None c.seat.inside.token.me.1))) where
   called : CalledAtPairMut g.F.FnMut c.args.f.now c.requires.held.0 c.requires.held.1 c.call_at_two-answer.result c.call_at_two-answer.new.f c.call_at_two-answer.new.x c.call_at_two-answer.new.y
   called =
-      let one : Some c.unwrap-left.result ≡ Some c.requires.held.0 = sym c.unwrap-left.ensures ∙ c.swap_slot.ensures.value ∙ b.one.reach.has in
-      let two : Some c.unwrap-also.result ≡ Some c.requires.held.1 = sym c.unwrap-also.ensures ∙ has in
-      let is_left : c.unwrap-left.result ≡ c.requires.held.0 = cc in let is_also : c.unwrap-also.result ≡ c.requires.held.1 = cc in
-      subst (λ z. CalledAtPairMut g.F.FnMut c.args.f.now z c.requires.held.1 c.call_at_two-answer.result c.call_at_two-answer.new.f c.call_at_two-answer.new.x c.call_at_two-answer.new.y) is_left
-      (subst (λ z. CalledAtPairMut g.F.FnMut c.args.f.now c.unwrap-left.result z c.call_at_two-answer.result c.call_at_two-answer.new.f c.call_at_two-answer.new.x c.call_at_two-answer.new.y) is_also
+      subst (λ z. CalledAtPairMut g.F.FnMut c.args.f.now z c.requires.held.1 c.call_at_two-answer.result c.call_at_two-answer.new.f c.call_at_two-answer.new.x c.call_at_two-answer.new.y) left
+      (subst (λ z. CalledAtPairMut g.F.FnMut c.args.f.now c.in-Some.left z c.call_at_two-answer.result c.call_at_two-answer.new.f c.call_at_two-answer.new.x c.call_at_two-answer.new.y) also
       c.call_at_two-answer.ensures)
 
-  last : c.swap_slot-4.new.token.me ≡ (
+  last : c.swap_slot-2.new.token.me ≡ (
     c.seat.inside.token.me.0,
     put c.slot_of-j.result (Some c.call_at_two-answer.new.y)
         (put c.slot_of-i.result (Some c.call_at_two-answer.new.x) c.seat.inside.token.me.1),
   )
   last =
-      let i = c.slot_of-i.result in let j = c.slot_of-j.result in let x = Some c.call_at_two-answer.new.x in let y = Some c.call_at_two-answer.new.y in
-      c.swap_slot-4.ensures.token.2
-      ∙ ap (λ m. (m.0, put j y m.1)) (c.swap_slot-3.ensures.token.2 ∙ ap (λ m. (m.0, put i x m.1)) (c.swap_slot-2.ensures.token.2 ∙ ap (λ m. (m.0, put j None m.1)) c.swap_slot.ensures.token.2))
-      ∙ ap (λ z. (c.seat.inside.token.me.0, z)) (put_both i j None None x y c.seat.inside.token.me.1 b.apart)
+      let i = c.slot_of-i.result in let j = c.slot_of-j.result in let x = Some c.call_at_two-answer.new.x in let y = Some c.call_at_two-answer.new.y in let l = c.seat.inside.token.me.1 in
+      c.swap_slot-2.ensures.token.2 ∙ ap (λ m. (m.0, put j y m.1)) now
+      ∙ ap (λ z. (c.seat.inside.token.me.0, z)) (ap (put j y) (put_swap i j x None l b.apart) ∙ put_twice j y None (put i x l))
 
 pub swap_slot-requires-clause-listed : goal.swap_slot-requires-clause-listed
-swap_slot-requires-clause-listed g c = listed_as _ _ c.seat.inside.token.me.1 _ c.as_slice-order.ensures.value (both g (goal.at.swap_slot-requires-clause-listed g c).After-as_slice-order).one.reach.listed
-
-pub unwrap-left-requires : goal.unwrap-left-requires
-unwrap-left-requires g c = is_some _ c.requires.held.0 (c.swap_slot.ensures.value ∙ (both g (goal.at.unwrap-left-requires g c).After-as_slice-order).one.reach.has)
-
-pub swap_slot-requires-2-clause-listed : goal.swap_slot-requires-2-clause-listed
-swap_slot-requires-2-clause-listed g c = listed_as _ _ c.swap_slot.new.token.me.1 _ c.as_slice-order.ensures.value
-    (still_listed _ _ _ None _ _ (both g (goal.at.swap_slot-requires-2-clause-listed g c).After-as_slice-order).two.reach.listed (ap (λ m. m.1) c.swap_slot.ensures.token.2))
+swap_slot-requires-clause-listed g c = listed_as _ _ c.seat.inside.token.me.1 _ c.as_slice-order.ensures.value (both g (goal.at.swap_slot-requires-clause-listed g c).After-as_slice-order).two.reach.listed
 
 pub unwrap-also-requires : goal.unwrap-also-requires
-unwrap-also-requires g c = let at = goal.at.unwrap-also-requires g c in is_some _ c.requires.held.1 (second g at.After-swap_slot-2 (both g at.After-as_slice-order))
+unwrap-also-requires g c = is_some _ c.requires.held.1 (c.swap_slot.ensures.value ∙ (both g (goal.at.unwrap-also-requires g c).After-as_slice-order).two.reach.has)
+
+pub turn_to-k-requires : goal.turn_to-k-requires
+turn_to-k-requires g c = listed_as _ _ c.swap_slot.new.token.me.1 _ c.as_slice-order.ensures.value
+    (still_listed _ _ _ None _ _ (both g (goal.at.turn_to-k-requires g c).After-as_slice-order).one.reach.listed (ap (λ m. m.1) c.swap_slot.ensures.token.2))
+
+pub unreachable-requires : goal.unreachable-requires
+unreachable-requires g c =
+    let at = goal.at.unreachable-requires g c in
+    let none : None ≡ Some c.requires.held.0 = sym c.in_default.is ∙ here g at.After-slot_mut (both g at.After-as_slice-order) in absurd (cc)
 
 pub call_at_two-answer-requires : goal.call_at_two-answer-requires
 call_at_two-answer-requires g c =
     let at = goal.at.call_at_two-answer-requires g c in let b = both g at.After-as_slice-order in
-    let first : Some c.unwrap-left.result ≡ Some c.requires.held.0 = sym c.unwrap-left.ensures ∙ c.swap_slot.ensures.value ∙ b.one.reach.has in
-    let next : Some c.unwrap-also.result ≡ Some c.requires.held.1 = sym c.unwrap-also.ensures ∙ second g at.After-swap_slot-2 b in
-    let is_left : c.unwrap-left.result ≡ c.requires.held.0 = cc in let is_also : c.unwrap-also.result ≡ c.requires.held.1 = cc in
-    λ lender other ep eq. c.requires.held.4 lender other (ep ∙ is_left) (eq ∙ is_also)
+    λ lender other ep eq. c.requires.held.4 lender other (ep ∙ is_left g at.In-Some (here g at.After-slot_mut b)) (eq ∙ is_also g at.In-Some b)
 
-pub swap_slot-requires-3-clause-listed : goal.swap_slot-requires-3-clause-listed
-swap_slot-requires-3-clause-listed g c =
-    let at = goal.at.swap_slot-requires-3-clause-listed g c in
-    listed_as _ _ c.swap_slot-2.new.token.me.1 _ c.as_slice-order.ensures.value (listed g at.After-swap_slot-2 _ (both g at.After-as_slice-order).one.reach.listed)
-
-pub swap_slot-requires-4-clause-listed : goal.swap_slot-requires-4-clause-listed
-swap_slot-requires-4-clause-listed g c =
-    let at = goal.at.swap_slot-requires-4-clause-listed g c in listed_as _ _ c.swap_slot-3.new.token.me.1 _ c.as_slice-order.ensures.value
-    (still_listed _ _ _ _ _ _ (listed g at.After-swap_slot-2 _ (both g at.After-as_slice-order).two.reach.listed) (ap (λ m. m.1) c.swap_slot-3.ensures.token.2))
+pub swap_slot-requires-2-clause-listed : goal.swap_slot-requires-2-clause-listed
+swap_slot-requires-2-clause-listed g c =
+    let at = goal.at.swap_slot-requires-2-clause-listed g c in
+    let j = c.slot_of-j.result in let b = both g at.After-as_slice-order in
+    listed_as _ _ c.turn_by.new.token.me.1 _ c.as_slice-order.ensures.value
+    (still_listed _ c.slot_of-i.result j _ _ _ (still_listed _ j j None _ _ b.two.reach.listed refl) (ap (λ m. m.1) (left_in g at.After-turn_by)))
 
 pub invariant_of-seat : goal.invariant_of-seat
 invariant_of-seat g c =
-    let at = goal.at.invariant_of-seat g c in let s = at.After-swap_slot-4 in let b = both g at.After-as_slice-order in let has = second g at.After-swap_slot-2 b in
-    let good = c.requires.held.5 _ _ _ _ (called g s b has) in
-    seat_is _ _ _ _ _ _ _ _ _ _ refl refl refl (ap (λ z. z.slots)
-    (c.swap_slot-4.ensures.token.0 ∙ c.swap_slot-3.ensures.token.0 ∙ c.swap_slot-2.ensures.token.0 ∙ c.swap_slot.ensures.token.0)) (last g s b has)
+    let at = goal.at.invariant_of-seat g c in let s = at.After-swap_slot-2 in let b = both g at.After-as_slice-order in
+    let left = is_left g at.In-Some (here g at.After-slot_mut b) in let also = is_also g at.In-Some b in let now = left_in g at.After-turn_by in
+    let good = c.requires.held.5 _ _ _ _ (called g s b left also now) in
+    seat_is _ _ _ _ _ _ _ _ _ _ refl refl refl (ap (λ z. z.slots) (c.swap_slot-2.ensures.token.0 ∙ c.turn_by.ensures.0 ∙ c.turn_to-k.ensures.same.0 ∙ c.swap_slot.ensures.token.0)) (last g s b left also now)
     (kept_two _ _ _ _ _ c.seat.view_is _ _ _ c.seat.invariant _ _ _ _ _ _ _ _ b.one b.two good.0 good.1)
 
 pub returns : goal.returns
 returns g c =
-    let at = goal.at.returns g c in let s = at.After-swap_slot-4 in let b = both g at.After-as_slice-order in let has = second g at.After-swap_slot-2 b in
-    let good = c.requires.held.5 _ _ _ _ (called g s b has) in
-    let table = c.swap_slot-4.ensures.token.0 ∙ c.swap_slot-3.ensures.token.0 ∙ c.swap_slot-2.ensures.token.0 ∙ c.swap_slot.ensures.token.0 in
-    let id = c.swap_slot-4.ensures.token.1 ∙ c.swap_slot-3.ensures.token.1 ∙ c.swap_slot-2.ensures.token.1 ∙ c.swap_slot.ensures.token.1 in (
+    let at = goal.at.returns g c in let s = at.After-swap_slot-2 in let b = both g at.After-as_slice-order in
+    let left = is_left g at.In-Some (here g at.After-slot_mut b) in let also = is_also g at.In-Some b in let now = left_in g at.After-turn_by in
+    let good = c.requires.held.5 _ _ _ _ (called g s b left also now) in
+    let table = c.swap_slot-2.ensures.token.0 ∙ c.turn_by.ensures.0 ∙ c.turn_to-k.ensures.same.0 ∙ c.swap_slot.ensures.token.0 in
+    let id = c.swap_slot-2.ensures.token.1 ∙ c.turn_by.ensures.1 ∙ c.turn_to-k.ensures.same.1 ∙ c.swap_slot.ensures.token.1 in (
       c.requires.held.0,
       c.requires.held.1,
       c.call_at_two-answer.new.x,
       c.call_at_two-answer.new.y,
       c.requires.held.2,
       c.requires.held.3,
-      called g s b has,
-      after_two _ _ _ _ _ c.seat.view_is _ _ _ c.seat.invariant _ _ c.swap_slot-4.new.token.me _ _ _ _ _ _ _ _ b.one b.two good.0 table id (last g s b has),
+      called g s b left also now,
+      after_two _ _ _ _ _ c.seat.view_is _ _ _ c.seat.invariant _ _ c.swap_slot-2.new.token.me _ _ _ _ _ _ _ _ b.one b.two good.0 table id (last g s b left also now),
     )

@@ -1,7 +1,7 @@
 use Rattle.std.proofs.Common.{◌≡◌, ℕ, ◌≤◌, ◌<◌, length}
 use mathlib.Core.Option.{some}
 use lib.ListN.{get_elem?}
-use Rattle.xh_records.proofs.token.position.Given as goal
+use Rattle.xh_records.proofs.token.last_before.Given as goal
 
 abbrev pub invariant-loop-k : goal.invariant-loop-k
 invariant-loop-k l = (l.k < length l.order) × (j : ℕ) × (j ≤ l.k) × (get_elem? l.order j ≡ some l.slot)
