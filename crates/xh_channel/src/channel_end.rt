@@ -15,8 +15,8 @@ use crate::note::Note;
 use crate::numbers::number_after;
 use crate::queue_end::{self, ReceivingEnd, SendingEnd};
 use crate::refused::Refused;
+use crate::signal::OwnSignal;
 use crate::spot::Spot;
-use crate::turn::OwnTurn;
 use crate::unsent::Unsent;
 use arrayvec::ArrayVec;
 use std::marker::Model;
@@ -36,7 +36,7 @@ pub struct ChannelEnd {
     put: u64,
     line: LineSeat,
     // its channel's, also where it is used on other channels
-    turn: OwnTurn,
+    signal: OwnSignal,
 }
 
 impl Model for ChannelEnd {
@@ -148,7 +148,7 @@ impl ChannelEnd {
         queues: (SendingEnd, ReceivingEnd),
         word: ClosedWord,
         line: LineSeat,
-        turn: OwnTurn,
+        signal: OwnSignal,
     ) -> ChannelEnd
         requires own { (word.word ≡ 2 * spot.channel + spot.side) × (line.side ≡ spot.side) }
         requires new { AreIdle queues.0 queues.1 word × IsBlank line }
@@ -165,7 +165,7 @@ impl ChannelEnd {
             word,
             put: 0,
             line,
-            turn,
+            signal,
         }
     }
 
@@ -338,7 +338,7 @@ impl ChannelEnd {
         ensures same { IsSameEnd self.old self.new }
     {
         let no = self.send(rt, tag, blocks)?;
-        self.turn.raise();
+        self.signal.raise();
         Ok(no)
     }
 
@@ -371,6 +371,6 @@ impl ChannelEnd {
         ensures { ShutsAs self.old self.new }
     {
         self.close(rt);
-        self.turn.raise();
+        self.signal.raise();
     }
 }

@@ -1,7 +1,7 @@
 //! All channels of a heap.
 ghost use Rattle.std.specs.Prelude.{◌≡◌, ℕ, ◌+◌, ◌*◌, ◌<◌, ◌≤◌, ◌⊎◌, suc, true, false, length, IfOk, IfErr, OnErr};
 ghost use Rattle.xh_model.specs.Rows.{row_at};
-ghost use Rattle.xh_model.specs.declared.limits.TheConstants.{CHANNELS, MAX_DEPTH, MAX_MESSAGES};
+ghost use Rattle.xh_model.specs.declared.limits.TheConstants.{CHANNELS, MAX_DEPTH, MAX_MESSAGES, PLACES};
 ghost use Rattle.xh_channel.specs.Ends.{given_back};
 ghost use Rattle.xh_channel.specs.inner.FreeNumbers.{StandAtTheirNumbers, at_place, has_depth};
 ghost use Rattle.xh_channel.specs.Numbers.{message};
@@ -10,6 +10,7 @@ ghost use Rattle.xh_channel.specs.QueueEnds.{IsNewDirection};
 ghost use Rattle.xh_channel.specs.Queues.{IsSameEnd, KeepsItsMessages, PutsAs, ShutsAs, TakesAs, Unpushed};
 ghost use Rattle.xh_channel.specs.declared.refused.Refused.TheVariants.{OutOfMemory, BadSize, NoChannel};
 
+use crate::bells::{Bells, OwnBells};
 use crate::channel_end::{self, ChannelEnd};
 use crate::closed_word::ClosedWords;
 use crate::endpoint::Endpoint;
@@ -19,13 +20,14 @@ use crate::line_seat::LineSeat;
 use crate::message::Message;
 use crate::queue_end::{ReceivingEnd, SendingEnd, direction};
 use crate::refused::Refused;
+use crate::signal::{OwnSignal, Signal};
 use crate::spot::Spot;
-use crate::turn::{OwnTurn, Turn};
 use crate::unsent::Unsent;
 use arrayvec::ArrayVec;
 use crossbeam_utils::CachePadded;
 use std::alloc::{AllocError, Global};
 use std::sync::{Arc, Mutex, Wait};
+use std::time::{Clock, Instant};
 use xh_core::Contract;
 use xh_model::limits::{CHANNELS, MAX_BLOCKS, MAX_DEPTH};
 
@@ -34,9 +36,10 @@ use xh_model::limits::{CHANNELS, MAX_BLOCKS, MAX_DEPTH};
 pub struct Channels {
     depth: u8,
     home: Home,
-    turns: Vec<OwnTurn>,
+    signals: Vec<OwnSignal>,
+    bells: OwnBells,
     ghost deep: { (1 ≤ depth) × (depth ≤ MAX_DEPTH) },
-    ghost each: { length turns.items ≡ CHANNELS },
+    ghost each: { length signals.items ≡ CHANNELS },
 }
 
 // What an end sends by, and what it receives by.
@@ -58,7 +61,7 @@ fn pair(
     depth: usize,
     words: &mut ClosedWords,
     channel: u8,
-    turn: &OwnTurn,
+    signal: &OwnSignal,
 ) -> Result<FreePair, AllocError>
     requires { (0 < depth) × (channel < CHANNELS) × (words.old.next ≡ 2 * channel) }
     ensures { IfOk result (λ p. (p.low.channel ≡ channel) × (p.low.depth ≡ depth) × (words.new.next ≡ 2 * channel + 2)) }
@@ -68,14 +71,14 @@ fn pair(
     let (lows, highs) = queues(alloc, depth)?;
     let (low_line, high_line) = LineSeat::pair(alloc)?;
     let low_spot = Spot { channel, side: 0 };
-    let low = ChannelEnd::new(low_spot, lows, low_word, low_line, Arc::try_clone(turn)?);
+    let low = ChannelEnd::new(low_spot, lows, low_word, low_line, Arc::try_clone(signal)?);
     let high_spot = Spot { channel, side: 1 };
     let high = ChannelEnd::new(
         high_spot,
         highs,
         high_word,
         high_line,
-        Arc::try_clone(turn)?,
+        Arc::try_clone(signal)?,
     );
     Ok(FreePair { low, high })
 }
@@ -85,28 +88,29 @@ fn pairs(
     alloc: Global,
     depth: usize,
     words: &mut ClosedWords,
-    turns: &Vec<OwnTurn>,
+    signals: &Vec<OwnSignal>,
 ) -> Result<Vec<Option<FreePair>>, AllocError>
-    requires { (0 < depth) × (words.old.next ≡ 0) × (length turns.now.items ≡ CHANNELS) }
+    requires { (0 < depth) × (words.old.next ≡ 0) × (length signals.now.items ≡ CHANNELS) }
     ensures { IfOk result (λ v. (length v.items ≡ CHANNELS) × StandAtTheirNumbers v.items × ((i : ℕ) → i < CHANNELS → has_depth depth (at_place v.items i) ≡ true)) }
 {
     let mut pairs = Vec::with_capacity(alloc, CHANNELS as usize)?;
     for channel in 0..CHANNELS {
-        let turn = &turns[channel as usize];
-        pairs.push(Some(pair(alloc, depth, words, channel, turn)?))?;
+        let signal = &signals[channel as usize];
+        pairs.push(Some(pair(alloc, depth, words, channel, signal)?))?;
     }
     Ok(pairs)
 }
 
-// The turn of each number.
-fn turns(alloc: Global) -> Result<Vec<OwnTurn>, AllocError>
+// The signal of each number.
+fn signals(alloc: Global, bells: &OwnBells) -> Result<Vec<OwnSignal>, AllocError>
     ensures { IfOk result (λ v. length v.items ≡ CHANNELS) }
 {
-    let mut turns = Vec::with_capacity(alloc, CHANNELS as usize)?;
+    let mut signals = Vec::with_capacity(alloc, CHANNELS as usize)?;
     for _ in 0..CHANNELS {
-        turns.push(Arc::new(alloc, CachePadded::new(Turn::new()))?)?;
+        let signal = Signal::new(Arc::try_clone(bells)?);
+        signals.push(Arc::new(alloc, CachePadded::new(signal))?)?;
     }
-    Ok(turns)
+    Ok(signals)
 }
 
 // The pairs under a lock that all ends share.
@@ -127,12 +131,14 @@ impl Channels {
             return Err(Refused::BadSize);
         }
         let mut words = ClosedWords::new(alloc)?;
-        let turns = turns(alloc)?;
-        let pairs = pairs(alloc, depth as usize, &mut words, &turns)?;
+        let bells = Bells::new(alloc)?;
+        let signals = signals(alloc, &bells)?;
+        let pairs = pairs(alloc, depth as usize, &mut words, &signals)?;
         Ok(Channels {
             depth,
             home: home(alloc, pairs)?,
-            turns,
+            signals,
+            bells,
         })
     }
 
@@ -240,19 +246,63 @@ impl Channels {
     /// The channel's turn rises by one, and all that wait there look again. For whoever ends a process
     /// without shutting its endpoint: the process may wait at the endpoint's spot, and no put comes.
     pub fn rouse<R: Wait>(&self, _rt: &R, spot: Spot) {
-        self.turns[spot.channel as usize].raise();
+        self.signals[spot.channel as usize].raise();
     }
 
     /// How many puts that succeeded, shuts and calls of `rouse` there were at this channel. At 2^64 - 1 it stays.
     /// To wait for a message, first read the turn, then take, and where nothing waits call `wait` with
     /// the turn that was read: a put between the take and the `wait` isn't slept through.
     pub fn turn<R: Wait>(&self, _rt: &R, spot: Spot) -> u64 {
-        self.turns[spot.channel as usize].count()
+        self.signals[spot.channel as usize].turn.count()
     }
 
     /// Returns where the channel's turn isn't `seen`, and at once where it is 2^64 - 1. Only a put that
     /// succeeds, a shut and `rouse` end a wait: nothing else that happens to the waiter's process does.
     pub fn wait<R: Wait>(&self, rt: &R, spot: Spot, seen: u64) {
-        self.turns[spot.channel as usize].wait(rt, seen);
+        self.signals[spot.channel as usize].turn.wait(rt, seen);
+    }
+
+    /// As `wait`, and returns once the time is past, or where the clock can't be read.
+    pub fn wait_until<R: Wait + Clock>(&self, rt: &R, spot: Spot, seen: u64, deadline: Instant) {
+        let signal = &self.signals[spot.channel as usize];
+        signal.turn.wait_until(rt, seen, deadline);
+    }
+
+    /// From now on all that raises the turn of the spot's channel rings this place's bell as well, until
+    /// another place listens at the spot: nothing else ends that.
+    pub fn listen<R: Wait>(&self, _rt: &R, spot: Spot, place: u8)
+        requires { place < PLACES }
+    {
+        self.signals[spot.channel as usize].listen(spot.side, place);
+    }
+
+    /// The place's bell rings, and all that wait at it look again.
+    pub fn ring<R: Wait>(&self, _rt: &R, place: u8)
+        requires { place < PLACES }
+    {
+        self.bells.of(place).raise();
+    }
+
+    /// How often the place's bell rang. At 2^64 - 1 it stays. To wait for a message at any of several spots,
+    /// first listen at each, then read the bell, then take at each, and where nothing waits at any call
+    /// `wait_at` with the bell that was read: a put after its take isn't slept through.
+    pub fn bell<R: Wait>(&self, _rt: &R, place: u8) -> u64
+        requires { place < PLACES }
+    {
+        self.bells.of(place).count()
+    }
+
+    /// Returns where the place's bell isn't `seen`, and at once where it is 2^64 - 1.
+    pub fn wait_at<R: Wait>(&self, rt: &R, place: u8, seen: u64)
+        requires { place < PLACES }
+    {
+        self.bells.of(place).wait(rt, seen);
+    }
+
+    /// As `wait_at`, and returns once the time is past, or where the clock can't be read.
+    pub fn wait_at_until<R: Wait + Clock>(&self, rt: &R, place: u8, seen: u64, deadline: Instant)
+        requires { place < PLACES }
+    {
+        self.bells.of(place).wait_until(rt, seen, deadline);
     }
 }

@@ -1,6 +1,7 @@
 //! The channels: their directions, their endpoints, and shutting.
 #![tactic(auto)]
 
+mod bells;
 mod channel_end;
 mod channels;
 mod closed_rule;
@@ -20,6 +21,7 @@ mod note;
 mod numbers;
 mod queue_end;
 mod refused;
+mod signal;
 mod spot;
 mod turn;
 mod unsent;

@@ -1,13 +1,12 @@
-//! A channel's turn, and what its waiters sleep on. No step takes a lock.
+//! What is waited for, and what its waiters sleep on. No step takes a lock.
 ghost use Rattle.std.specs.Prelude.{◌≡◌};
 ghost use Rattle.xh_channel.specs.inner.Turns.{is_waited_for};
 
-use crossbeam_utils::CachePadded;
-use std::alloc::Global;
 use std::hint;
+use std::sync::Wait;
 use std::sync::atomic::AtomicU64;
 use std::sync::atomic::Ordering::SeqCst;
-use std::sync::{Arc, Wait};
+use std::time::{Clock, Duration, Instant};
 
 /// How often a waiter looks at the turn before it sleeps.
 const LOOKS: u16 = 400;
@@ -19,21 +18,26 @@ const LOOKS: u16 = 400;
 /// on and wakes all. So where the turn rises after a waiter's look, the bell moves on after it too:
 /// the waiter doesn't fall asleep, or is woken. A sleep compares 32 bits of the bell, as those of the
 /// system do: it would be slept through where, between a waiter's look and its sleep, others fell
-/// asleep at this channel and were woken 2^31 times.
+/// asleep at this turn and were woken 2^31 times.
 #[derive(Drop)]
 pub struct Turn {
     count: AtomicU64,
     bell: AtomicU64,
 }
 
-/// A channel's turn, which its ends know. It lies on cache lines of its own, for threads on channels side by side.
-pub type OwnTurn = Arc<CachePadded<Turn>, Global>;
-
 // Whether a call that saw the turn `seen` goes on waiting.
 fn is_waited_for(turn: u64, seen: u64) -> bool
     ensures { result ≡ is_waited_for turn seen }
 {
     turn == seen && seen != u64::MAX
+}
+
+// How long it is until then: nothing where the clock can't be read.
+fn left<R: Clock>(rt: &R, deadline: Instant) -> Duration {
+    match Instant::now(rt) {
+        Ok(now) => deadline.saturating_duration_since(now),
+        Err(_refused) => Duration::ZERO,
+    }
 }
 
 impl Turn {
@@ -68,12 +72,23 @@ impl Turn {
     }
 
     // Makes the bell odd, or where it is, sleeps until it moves on, unless the turn has risen.
-    fn sleep<R: Wait>(&self, rt: &R, seen: u64) {
+    fn sleep<R: Wait>(&self, rt: &R, seen: u64, longest: Duration) {
         let heard = self.bell.load(SeqCst);
         if heard % 2 == 0 {
             self.moves_on(heard);
         } else if is_waited_for(self.count(), seen) {
-            self.bell.park(rt, (heard & 0xffff_ffff) as u32);
+            let low = (heard & 0xffff_ffff) as u32;
+            self.bell.park_timeout(rt, low, longest);
+        }
+    }
+
+    // Between two looks: after so many it sleeps.
+    fn pause<R: Wait>(&self, rt: &R, seen: u64, looks: &mut u16, longest: Duration) {
+        if *looks < LOOKS {
+            *looks += 1;
+            hint::spin_loop();
+        } else {
+            self.sleep(rt, seen, longest);
         }
     }
 
@@ -84,12 +99,19 @@ impl Turn {
             if !is_waited_for(self.count(), seen) {
                 break;
             }
-            if looks < LOOKS {
-                looks += 1;
-                hint::spin_loop();
-            } else {
-                self.sleep(rt, seen);
+            self.pause(rt, seen, &mut looks, Duration::MAX);
+        }
+    }
+
+    /// As `wait`, and returns once the time is past. A clock that can't be read ends the wait.
+    pub fn wait_until<R: Wait + Clock>(&self, rt: &R, seen: u64, deadline: Instant) {
+        let mut looks = 0;
+        for _ in rt.forever() {
+            let left = left(rt, deadline);
+            if left.is_zero() || !is_waited_for(self.count(), seen) {
+                break;
             }
+            self.pause(rt, seen, &mut looks, left);
         }
     }
 }

@@ -1,5 +1,6 @@
 //! Channels by calls.
 mod answers;
+mod bells;
 mod ends;
 mod lines;
 mod notes;

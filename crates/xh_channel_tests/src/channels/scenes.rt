@@ -1,5 +1,6 @@
 //! What is done on new channels. One function makes and drops them, and one the ends that are used.
 use super::answers::{Answer, Call, Ends, assert_on_next, next_ends};
+use super::bells::{Way, assert_deadlines, assert_none_lost};
 use super::ends::{assert_all_blocks, assert_refusals};
 use super::lines::{
     assert_all_open_with, assert_contract_gone, assert_exchange, assert_full_at, assert_line_puts,
@@ -32,6 +33,8 @@ pub(super) enum Act {
     ShutWakes,
     RouseWakes,
     Turns,
+    Rings(Way),
+    Deadlines,
     PutThenTurn,
     ShutThenTurn,
 }
@@ -76,6 +79,8 @@ fn act_at<R: Clock + Threads + Wait + Abort + Sync>(
         Act::ShutWakes => assert_shut_wakes(rt, channels, ends),
         Act::RouseWakes => assert_rouse_wakes(rt, channels, ends),
         Act::Turns => assert_turns(rt, channels, ends),
+        Act::Rings(way) => assert_none_lost(rt, channels, ends, way),
+        Act::Deadlines => assert_deadlines(rt, channels, ends),
         Act::PutThenTurn => assert_put_before_turn(rt, channels, ends),
         Act::ShutThenTurn => assert_shut_before_turn(rt, channels, ends),
     }

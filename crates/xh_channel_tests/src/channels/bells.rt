@@ -1,0 +1,143 @@
+//! Threads that wait at the bells of places, what rings them, and waits until a deadline.
+use super::answers::Ends;
+use super::scenes::{Act, Scene, play};
+use arrayvec::ArrayVec;
+use std::hint;
+use std::process::Abort;
+use std::sync::Wait;
+use std::sync::atomic::AtomicU64;
+use std::sync::atomic::Ordering::SeqCst;
+use std::test::Fail;
+use std::thread::{self, Threads};
+use std::time::{Clock, Duration, Instant};
+use xh_channel::{Channels, Endpoint};
+
+const ROUNDS: u64 = 2048;
+
+/// What wakes who waits at a bell.
+#[derive(Clone, Copy)]
+pub(super) enum Way {
+    Put,
+    Shut,
+    Rouse,
+    Ring,
+}
+
+// The time after so many milliseconds.
+fn after<R: Clock + Abort>(rt: &R, millis: u64) -> Instant {
+    let Ok(now) = Instant::now(rt) else {
+        panic!(rt; "the clock can't be read")
+    };
+    let then = now.checked_add(Duration::from_millis(millis));
+    then.expect(rt, "the clock goes on")
+}
+
+fn take_all<R: Wait>(rt: &R, channels: &Channels, end: &mut Endpoint) {
+    for _ in 0..16 {
+        if channels.take(rt, end).is_err() {
+            break;
+        }
+    }
+}
+
+// Wakes who waits at the other side's bell.
+fn wake<R: Wait>(rt: &R, channels: &Channels, end: &mut Endpoint, way: Way) {
+    let spot = end.spot();
+    match way {
+        Way::Put => {
+            take_all(rt, channels, end);
+            let _sent = channels.put(rt, end, 1, ArrayVec::new());
+        }
+        Way::Shut => channels.shut(rt, end),
+        Way::Rouse => channels.rouse(rt, spot),
+        Way::Ring => channels.ring(rt, 1 - spot.side),
+    }
+}
+
+// Ends each second round, and waits at its bell through the others. The pauses before are of some that a waiter looks
+// through, and of some that it sleeps through.
+fn alternate<R: Clock + Wait>(
+    rt: &R,
+    channels: &Channels,
+    end: &mut Endpoint,
+    round: &AtomicU64,
+    way: Way,
+    deadline: Instant,
+) {
+    let place = end.spot().side;
+    channels.listen(rt, end.spot(), place);
+    for _ in rt.forever() {
+        let seen = channels.bell(rt, place);
+        let at = round.load(SeqCst);
+        if at >= ROUNDS {
+            break;
+        }
+        if at % 2 == u64::from(place) {
+            for _ in 0..(at % 32) * 256 {
+                hint::spin_loop();
+            }
+            round.store(at + 1, SeqCst);
+            wake(rt, channels, end, way);
+        } else if at % 4 < 2 {
+            channels.wait_at(rt, place, seen);
+        } else {
+            channels.wait_at_until(rt, place, seen, deadline);
+        }
+    }
+}
+
+/// Two threads wake each other, and neither sleeps through its rounds.
+pub(super) fn assert_none_lost<R: Clock + Threads + Wait + Abort + Sync>(
+    rt: &R,
+    channels: &Channels,
+    ends: &mut Ends,
+    way: Way,
+) {
+    let (low, high) = (&mut ends.low, &mut ends.high);
+    let round = AtomicU64::new(0);
+    let deadline = after(rt, 30_000);
+    thread::join(
+        rt,
+        || alternate(rt, channels, low, &round, way, deadline),
+        || alternate(rt, channels, high, &round, way, deadline),
+    );
+    assert_eq!(rt; round.load(SeqCst), ROUNDS);
+    assert!(rt; after(rt, 0) < deadline);
+}
+
+/// A wait returns once its time is past, at once where it was, and before where it is woken.
+pub(super) fn assert_deadlines<R: Clock + Wait + Abort>(
+    rt: &R,
+    channels: &Channels,
+    ends: &mut Ends,
+) {
+    let spot = ends.low.spot();
+    channels.listen(rt, spot, 31);
+    channels.wait_until(rt, spot, 0, after(rt, 0));
+    channels.wait_at_until(rt, 31, 0, after(rt, 0));
+    let soon = after(rt, 20);
+    channels.wait_until(rt, spot, 0, soon);
+    assert!(rt; after(rt, 0) >= soon);
+    let later = after(rt, 20);
+    channels.wait_at_until(rt, 31, 0, later);
+    assert!(rt; after(rt, 0) >= later);
+    let never = after(rt, 3_600_000);
+    channels.rouse(rt, spot);
+    channels.wait_until(rt, spot, 0, never);
+    channels.wait_at_until(rt, 31, 0, never);
+    assert_eq!(rt; (channels.turn(rt, spot), channels.bell(rt, 31)), (1, 1));
+}
+
+#[test]
+fn no_ring_is_slept_through(rt: HostRuntime) -> Result<(), Fail> {
+    for way in [Way::Put, Way::Shut, Way::Rouse, Way::Ring] {
+        play(&rt, rt.alloc(), 16, Scene::Each(Act::Rings(way), 1))?;
+    }
+    Ok(())
+}
+
+#[test]
+fn waits_end_at_their_deadlines(rt: HostRuntime) -> Result<(), Fail> {
+    play(&rt, rt.alloc(), 1, Scene::Each(Act::Deadlines, 1))?;
+    Ok(())
+}
