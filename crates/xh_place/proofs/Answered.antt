@@ -16,6 +16,7 @@ use Rattle.xh_place.specs.Endpoints.{Shuts, Takes}
 use Rattle.xh_place.specs.Messages.{IsTaken, IsUntaken}
 use Rattle.xh_place.specs.Ends.{EndDoes, end_block}
 use Rattle.xh_place.specs.Places.{PlaceOf, with_blocks}
+use Rattle.xh_place.specs.Seen.{PlaceSeen}
 
 -- ---- an endpoint stays at its direction
 
@@ -61,6 +62,6 @@ untaken_empty e old new t = go t.0 t.1 t.2 where
   go none.BadSize d h = absurd (cc)
   go none.NoChannel d h = absurd (cc)
 
-pub empty_keeps : (e : ℕ) (old new : PlaceOf) (result : Result Taken Refused) → MatchResult result (IsTaken e old new) (IsUntaken e old new) → IfErr result (λ u. u ≡ Empty → new ≡ old)
+pub empty_keeps : (e : ℕ) (old new : PlaceSeen) (result : Result Taken Refused) → MatchResult result (IsTaken e old new) (IsUntaken e old.place new.place) → IfErr result (λ u. u ≡ Empty → new.place ≡ old.place)
 empty_keeps e old new (Ok t) is = tt
-empty_keeps e old new (Err u) is = λ h. untaken_empty e old new (subst (IsUntaken e old new) h is)
+empty_keeps e old new (Err u) is = λ h. untaken_empty e old.place new.place (subst (IsUntaken e old.place new.place) h is)

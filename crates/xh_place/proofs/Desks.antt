@@ -5,7 +5,8 @@ use Rattle.xh_records.specs.Seats.{Held}
 use Rattle.xh_place.specs.declared.body.Body.{Body}
 use Rattle.xh_place.specs.declared.desk.Desk.{Desk}
 use Rattle.xh_place.specs.Desk.{IsAt, IsSameDesk, IsSeatAt}
-use Rattle.xh_place.specs.Places.{Item, IsSamePlace, PlaceOf, with_blocks}
+use Rattle.xh_place.specs.Places.{Item, PlaceOf, with_blocks}
+use Rattle.xh_place.specs.Seen.{IsSamePlace, PlaceSeen, SeesMore}
 
 module _ {R V G : Type 0} (names : V → List TableId) where
   -- the seat of a place that is at the desk
@@ -24,5 +25,5 @@ module _ {R V G : Type 0} (names : V → List TableId) where
     )
 
 -- a place with other blocks is the same place
-pub same_place : (old new : PlaceOf) (xs : List (ℕ × Item)) → new ≡ with_blocks old xs → IsSamePlace old new
-same_place old new xs e = (ap (λ p. p.table) e, ap (λ p. p.shape) e, ap (λ p. p.process) e)
+pub same_place : (old new : PlaceSeen) (xs : List (ℕ × Item)) → new.place ≡ with_blocks old.place xs → SeesMore old new → IsSamePlace old new
+same_place old new xs e more = (ap (λ p. p.table) e, ap (λ p. p.shape) e, ap (λ p. p.process) e, more)

@@ -1,6 +1,6 @@
 -- An endpoint of a place that takes one message after another.
 use Rattle.std.proofs.Common.{◌≡◌, ℕ, ◌≤◌, inl, inr, List, [], ◌∷◌, ◌++◌, append_assoc, append-nil, length, refl, sym, ap, ◌∙◌, subst}
-use Rattle.std.specs.Prelude.{Some, None, Option, Ok, Err}
+use Rattle.std.specs.Prelude.{Some, None, Option, Ok, Err, Result, MatchResult}
 use Rattle.std.proofs.lemmas.List.{map-append}
 use Rattle.xh_channel.specs.declared.message.Message.{Message}
 use Rattle.xh_channel.specs.Queues.{Posted}
@@ -13,13 +13,16 @@ use native.Mathlib.Decide.{ℕ_discrete}
 use Rattle.xh_place.specs.Bodies.{Content, bytes, endpoint, kind_of, toward}
 use Rattle.xh_place.specs.declared.got.Taken.{Taken}
 use Rattle.xh_place.specs.Endpoints.{AreGot, AreUnpacked, EndsWith, IsDrained, Shuts, Takes, TakesEach, blocks_of, record_of}
-use Rattle.xh_place.specs.Ends.{EndDoes, end_block, toward_in}
+use Rattle.xh_place.specs.Ends.{EndDoes, end_block, toward_in, away_in}
 use Rattle.xh_place.specs.inner.Reclaiming.{Clears, Drains}
-use Rattle.xh_place.specs.Messages.{IsTaken, IsUntaken}
+use Rattle.xh_place.specs.Messages.{IsUntaken, Unpacks, IsSent, IsTaken}
 use Rattle.xh_place.specs.Places.{Item, PlaceOf, with_blocks, with_more}
 use Rattle.xh_place.proofs.Answered.{way_shut, way_taken}
 use Rattle.xh_place.proofs.Gotten.{got_both}
 use Rattle.xh_place.proofs.Moves.{more_none, more_twice}
+use Rattle.xh_place.proofs.Seeing.{all_got_as, unpacked_as, away_as, seen_wide, starts_same, word_wide}
+use Rattle.xh_place.specs.Seen.{IsSeen, PlaceSeen, SawWord, Stays}
+use Rattle.xh_place.proofs.Counted.{on_err}
 
 -- what stands at a record of the front is changed there
 put_front : (r : ℕ) (y z : Item) (xs ys : List (ℕ × Item)) → value_at r xs ≡ Some z → put r y (xs ++ ys) ≡ put r y xs ++ ys
@@ -55,17 +58,17 @@ blocks_more [] m = append-nil m.blocks.items
 blocks_more (n ∷ ms) m = ap (λ (l : List ℕ). n.blocks.items ++ l) (blocks_more ms m) ∙ sym (append_assoc n.blocks.items (blocks_of ms) m.blocks.items)
 
 -- until now the endpoint took these messages, and what came with them is at the end of the list
-pub record Draining (e : ℕ) (ms : List Message) (old new : PlaceOf) : Type 0 where
+pub record Draining (saw : ℕ → ℕ → Type 0) (e : ℕ) (ms : List Message) (old new : PlaceOf) : Type 0 where
   pub before : Posted
   pub after : Posted
   pub came : List (ℕ × Item)
   pub there : value_at e old.blocks ≡ Some (end_block before)
   pub each : TakesEach ms before after
-  pub blocks : AreUnpacked (toward_in (value_at e old.blocks)) ms came
+  pub blocks : AreUnpacked saw (toward_in (value_at e old.blocks)) ms came
   pub list : new ≡ with_more (toward_in (value_at e old.blocks)) came (with_blocks old (put e (end_block after) old.blocks))
 
-pub draining_none : (e : ℕ) (p : Posted) (old : PlaceOf) → value_at e old.blocks ≡ Some (end_block p) → put e (end_block p) old.blocks ≡ old.blocks → Draining e [] old old
-draining_none e p old at same = record {
+pub draining_none : (saw : ℕ → ℕ → Type 0) (e : ℕ) (p : Posted) (old : PlaceOf) → value_at e old.blocks ≡ Some (end_block p) → put e (end_block p) old.blocks ≡ old.blocks → Draining saw e [] old old
+draining_none saw e p old at same = record {
   before = p;
   after = p;
   came = [];
@@ -75,7 +78,38 @@ draining_none e p old at same = record {
   list = more_none (toward_in (value_at e old.blocks)) old ∙ ap (λ (l : List (ℕ × Item)). with_more (toward_in (value_at e old.blocks)) [] (with_blocks old l)) (sym same);
 }
 
-module _ (e : ℕ) (ms : List Message) (old mid : PlaceOf) (is : Draining e ms old mid) where
+-- the looks are looks in another sense
+pub draining_as : (P Q : ℕ → ℕ → Type 0) → ((r word : ℕ) → P r word → Q r word) → (e : ℕ) (ms : List Message) (old new : PlaceOf) → Draining P e ms old new → Draining Q e ms old new
+draining_as P Q f e ms old new is = record {
+  before = is.before;
+  after = is.after;
+  came = is.came;
+  there = is.there;
+  each = is.each;
+  blocks = unpacked_as P Q f (toward_in (value_at e old.blocks)) ms is.came is.blocks;
+  list = is.list;
+}
+
+-- the endpoint took a message, and its blocks came
+abbrev pub TakesOne : (ℕ → ℕ → Type 0) → ℕ → PlaceOf → PlaceOf → Taken → Type 0
+TakesOne saw e old new taken = (mid : PlaceOf) × (m : Message) × EndDoes e old mid (Takes (Ok m)) × Unpacks saw (toward_in (value_at e old.blocks)) m mid new taken
+
+pub takes_as : (P Q : ℕ → ℕ → Type 0) → ((r word : ℕ) → P r word → Q r word) → (e : ℕ) (old new : PlaceOf) (taken : Taken) → TakesOne P e old new taken → TakesOne Q e old new taken
+takes_as P Q f e old new taken t = let u = t.3 in (
+  t.0,
+  t.1,
+  t.2,
+  record {
+    number = u.number;
+    tag = u.tag;
+    records = u.records;
+    gained = u.gained;
+    list = u.list;
+    got = all_got_as P Q f (toward_in (value_at e old.blocks)) u.gained taken.blocks.items u.got;
+  },
+)
+
+module _ (saw : ℕ → ℕ → Type 0) (e : ℕ) (ms : List Message) (old mid : PlaceOf) (is : Draining saw e ms old mid) where
   abbrev d : ℕ
   d = toward_in (value_at e old.blocks)
 
@@ -99,7 +133,7 @@ module _ (e : ℕ) (ms : List Message) (old mid : PlaceOf) (is : Draining e ms o
   same_after : (before : Posted) → value_at e mid.blocks ≡ Some (end_block before) → before ≡ is.after
   same_after before at = one_end before is.after (sym at ∙ draining_at)
 
-  pub draining_more : (new : PlaceOf) (taken : Taken) → (t : IsTaken e mid new taken) → Draining e (ms ++ t.1 ∷ []) old new
+  pub draining_more : (new : PlaceOf) (taken : Taken) → (t : TakesOne saw e mid new taken) → Draining saw e (ms ++ t.1 ∷ []) old new
   draining_more new taken t =
       let does = t.2 in let q : Posted = does.1 in
       let one : Takes (Ok t.1) is.after q = subst (λ (p : Posted). Takes (Ok t.1) p q) (same_after does.0 does.2) does.4 in
@@ -112,12 +146,12 @@ module _ (e : ℕ) (ms : List Message) (old mid : PlaceOf) (is : Draining e ms o
         blocks = (
           is.blocks.0 ++ taken.blocks.items,
           map-append record_of is.blocks.0 taken.blocks.items ∙ (λ i. is.blocks.1 i ++ t.3.records i) ∙ sym (blocks_more ms t.1),
-          got_both d is.came t.3.gained is.blocks.0 taken.blocks.items is.blocks.2 (subst (λ (n : ℕ). AreGot n t.3.gained taken.blocks.items) draining_way t.3.got),
+          got_both saw d is.came t.3.gained is.blocks.0 taken.blocks.items is.blocks.2 (subst (λ (n : ℕ). AreGot saw n t.3.gained taken.blocks.items) draining_way t.3.got),
         );
         list = t.3.list ∙ (λ i. with_more (draining_way i) t.3.gained ((does.3 ∙ draining_put q) i)) ∙ more_twice d is.came t.3.gained base;
       }
 
-  pub drained : (new : PlaceOf) (refused : Refused) → IsUntaken e mid new refused → Drains e old new
+  pub drained : (new : PlaceOf) (refused : Refused) → IsUntaken e mid new refused → Drains saw e old new
   drained new refused t =
       let does = t.1 in let q : Posted = does.1 in
       let one : Takes (Err t.0) is.after q = subst (λ (p : Posted). Takes (Err t.0) p q) (same_after does.0 does.2) does.4 in (
@@ -129,12 +163,12 @@ module _ (e : ℕ) (ms : List Message) (old mid : PlaceOf) (is : Draining e ms o
         does.3 ∙ draining_put q,
       )
 
-  pub drained_all : 18446744073709551615 ≤ length ms → Drains e old mid
+  pub drained_all : 18446744073709551615 ≤ length ms → Drains saw e old mid
   drained_all all = (with_blocks old (put e (end_block is.after) old.blocks), is.came, ms, (is.before, is.after, is.there, refl, (is.after, is.each, inr (all, refl))), is.blocks, is.list)
 
 -- it was shut before
-pub cleared : (r : ℕ) (old mid new : PlaceOf) → EndDoes r old mid Shuts → Drains r mid new → Clears r old new
-cleared r old mid new shut drain =
+pub cleared : (saw : ℕ → ℕ → Type 0) (r : ℕ) (old mid new : PlaceOf) → EndDoes r old mid Shuts → Drains saw r mid new → Clears saw r old new
+cleared saw r old mid new shut drain =
     let p : Posted = shut.0 in let s : Posted = shut.1 in let does = drain.3 in let q : Posted = does.1 in let ms : List Message = drain.2 in
     let at : value_at r mid.blocks ≡ Some (end_block s) = ap (λ (z : PlaceOf). value_at r z.blocks) shut.3 ∙ put_at r (end_block s) (end_block p) old.blocks shut.2 in
     let one : does.0 ≡ s = one_end does.0 s (sym does.2 ∙ at) in
@@ -146,13 +180,13 @@ cleared r old mid new shut drain =
       drain.1,
       shut.2,
       refl,
-      (ms, s, q, shut.4, subst (λ (z : Posted). IsDrained ms z q) one does.4, subst (λ (n : ℕ). AreUnpacked n ms drain.1) turned drain.4),
+      (ms, s, q, shut.4, subst (λ (z : Posted). IsDrained ms z q) one does.4, subst (λ (n : ℕ). AreUnpacked saw n ms drain.1) turned drain.4),
       drain.5 ∙ (λ i. with_more (turned i) drain.1 (base i)),
     )
 
 -- nothing came with bytes
-pub cleared_bytes : (r : ℕ) (x : Item) (old new : PlaceOf) → value_at r old.blocks ≡ Some x → kind_of x.content ≡ kind.Data → new ≡ old → Clears r old new
-cleared_bytes r x old new at plain same = (
+pub cleared_bytes : (saw : ℕ → ℕ → Type 0) (r : ℕ) (x : Item) (old new : PlaceOf) → value_at r old.blocks ≡ Some x → kind_of x.content ≡ kind.Data → new ≡ old → Clears saw r old new
+cleared_bytes saw r x old new at plain same = (
   x,
   x,
   [],
@@ -161,6 +195,30 @@ cleared_bytes r x old new at plain same = (
   none x.content plain,
   same ∙ more_none (toward x.content) old ∙ ap (λ (l : List (ℕ × Item)). with_more (toward x.content) [] (with_blocks old l)) (sym (put_same r x old.blocks at)),
 ) where
-  none : (c : Content) → kind_of c ≡ kind.Data → EndsWith c []
+  none : (c : Content) → kind_of c ≡ kind.Data → EndsWith saw c []
   none (bytes xs) e = refl
   none (endpoint p) e = absurd (cc)
+
+-- ---- a call that did its tests before, which looked only
+
+pub taken_from : (e : ℕ) (old mid new : PlaceSeen) (result : Result Taken Refused) → Stays old mid → MatchResult result (IsTaken e mid new) (IsUntaken e mid.place new.place)
+    → MatchResult result (IsTaken e old new) (IsUntaken e old.place new.place)
+taken_from e old mid new (Ok taken) same is = subst (λ (p : PlaceOf). TakesOne (IsSeen old new) e p new.place taken) same.0
+    (takes_as (IsSeen mid new) (IsSeen old new) (seen_wide mid new old new (ap (λ (p : PlaceOf). p.shape) same.0) same.1 (starts_same new.front new.front refl)) e mid.place new.place taken is)
+taken_from e old mid new (Err refused) same is = subst (λ (p : PlaceOf). IsUntaken e p new.place refused) same.0 is
+
+pub sent_from : (e tag : ℕ) (given : List ℕ) (old mid new : PlaceSeen) (result : Result ℕ Refused) → Stays old mid → IsSent e tag given mid new result → IsSent e tag given old new result
+sent_from e tag given old mid new result same is =
+    let seen : PlaceSeen = record { place = mid.place; front = old.front } in
+    subst (λ (p : PlaceOf). IsSent e tag given (record { place = p; front = old.front }) new result) same.0 (record {
+      mid = is.mid;
+      blocks = is.blocks;
+      answered = is.answered;
+      back = is.back;
+      all = is.all;
+      made = is.made;
+      moved = is.moved;
+      lost = on_err is.answered (λ h r among missed. away_as (SawWord mid new) (SawWord seen new)
+          (word_wide mid new seen new refl same.1 (starts_same new.front new.front refl)) (away_in (value_at e mid.place.blocks)) r (h r among missed)) is.lost;
+      answer = is.answer;
+    })

@@ -8,10 +8,12 @@ use Rattle.xh_arena.specs.Views.{LotOf}
 use Rattle.xh_model.specs.declared.event.Event.{Event}
 use Rattle.xh_model.specs.declared.event.Event.TheVariants.{Accept, Pass}
 use Rattle.xh_model.specs.Keyed.{Among, Distinct, value_at, without}
-use Rattle.xh_model.proofs.Keyed.{among_either, last_at, last_other, next, without_at, without_other}
+use Rattle.xh_model.proofs.Keyed.{among_back, among_either, among_front, last_at, last_other, next, without_at, without_other}
 use Rattle.xh_records.specs.Seats.{Held, did}
 use Rattle.xh_place.specs.Moves.{accepted_on, moves, passed_on}
-use Rattle.xh_place.specs.inner.Lots.{HasNow, with_done}
+use Rattle.xh_place.specs.inner.Lots.{HasNow, SeatSaw, SeatSeesMore, with_done}
+use Rattle.xh_place.specs.Seen.{IsElsewhere}
+use Rattle.xh_place.proofs.Seeing.{away_as, saw_later, seat_same}
 use Rattle.xh_place.specs.declared.body.Body.{Body}
 use Rattle.xh_place.specs.inner.Lists.{AreBack, CameBack, lens}
 use Rattle.xh_place.specs.Places.{IsBlock, item_in}
@@ -173,6 +175,26 @@ accepting d given more r bytes n old seat last back new once among is came = ⊎
       omega arith,
     ))
     came
+
+-- each of these that didn't come back had another word
+abbrev pub AreLost : ℕ → List ℕ → List ℕ → Held Body → Held Body → Type 0
+AreLost d gone back old new = (r : ℕ) → Among gone r → (Among back r → ⊥) → IsElsewhere (SeatSaw old new) d r
+
+pub lost_more : (d : ℕ) (gone : List ℕ) (r n : ℕ) (old seat last : Held Body) (back new : List ℕ) → seat.shape ≡ old.shape → SeatSeesMore old seat → SeatSeesMore seat last
+    → AreLost d gone back old seat → CameBack d r seat last back new n → AreLost d (gone ++ r ∷ []) new old last
+lost_more d gone r n old seat last back new shape before after lost came q among missed = ⊎_elim
+    (λ a. away_as (SeatSaw old seat) (SeatSaw old last) (saw_later old old seat last refl (seat_same old old refl) after) d q (lost q a (λ b. missed (kept q b))))
+    (λ a. ⊎_elim (λ (e : q ≡ r). here e) (λ z. absurd z) a)
+    (among_either gone (r ∷ []) q among) where
+      kept : (z : ℕ) → Among back z → Among new z
+      kept z b = ⊎_elim (λ h. subst (λ (l : List ℕ). Among l z) (sym h.0) b) (λ h. subst (λ (l : List ℕ). Among l z) (sym h.1) (among_front back (r ∷ []) z b)) came
+
+      here : q ≡ r → IsElsewhere (SeatSaw old last) d q
+      here e = ⊎_elim
+          (λ h. subst (λ (z : ℕ). IsElsewhere (SeatSaw old last) d z) (sym e)
+          (away_as (SeatSaw seat last) (SeatSaw old last) (saw_later old seat last last shape before (seat_same last last refl)) d r h.3))
+          (λ h. absurd (missed (subst (λ (l : List ℕ). Among l q) (sym h.1) (among_back back (r ∷ []) q (inl e)))))
+          came
 
 pub one_longer : (d r bytes : ℕ) (old new : Held Body) (had back : List ℕ) → CameBack d r old new had back bytes → (k : ℕ) → length had ≤ k → length back ≤ k + 1
 one_longer d r bytes old new had back came k few = ⊎_elim

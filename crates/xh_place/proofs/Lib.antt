@@ -1,5 +1,6 @@
 pub mod Listing
 pub mod Steps
+pub mod Seeing
 pub mod Moves
 pub mod Holding
 pub mod Gained

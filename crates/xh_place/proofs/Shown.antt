@@ -4,11 +4,13 @@ use Rattle.std.specs.Prelude.{Some}
 use Rattle.xh_core.specs.declared.status.Status.{Status}
 use Rattle.xh_core.specs.declared.status.Status.TheVariants.{Vacant, Running, Ending, Ended}
 use Rattle.xh_model.specs.Keyed.{value_at}
+use Rattle.xh_arena.specs.Views.{LotOf}
+use Rattle.xh_records.specs.declared.shape.Shape.{Shape}
 use Rattle.xh_records.specs.Seats.{Held}
 use Rattle.xh_place.specs.declared.body.Body.{Body}
 use Rattle.xh_place.specs.declared.body.Body.TheVariants.{Nothing, Data, End}
 use Rattle.xh_place.specs.Bodies.{content_of, fits_in}
-use Rattle.xh_place.specs.Places.{AreBlocks, Fits, Item, IsPlace, IsQuiet, IsWhole, Lists, item_at}
+use Rattle.xh_place.specs.Places.{AreBlocks, Fits, IsBlock, IsPlace, IsQuiet, IsWhole, Item, Lists, item_at, item_of}
 use Rattle.xh_core.specs.Statuses.{is_over}
 use Rattle.xh_place.proofs.Found.{Found, found}
 use Rattle.xh_place.proofs.Steps.{count_bound, total_bound, view_of}
@@ -17,6 +19,9 @@ fits_whole : (b : Body) (n : ℕ) → fits_in b n ≡ true → Fits (content_of 
 fits_whole Nothing n e = (search rules, search rules)
 fits_whole (Data v) n e = (search rules, search rules)
 fits_whole (End p) n e = search rules
+
+pub block_whole : {s : Shape} {r : ℕ} {l : LotOf Body} → IsBlock s r l → IsWhole (item_of l)
+block_whole {s} {r} {l} is = (is.full.0, fits_whole l.body l.len is.full.1)
 
 module _ (seat : Held Body) (xs : List (ℕ × Item)) (room total : ℕ) (state : Status) (is : IsPlace seat xs room total state) where
   has : (r : ℕ) (x : Item) → value_at r xs ≡ Some x → Found seat xs r x

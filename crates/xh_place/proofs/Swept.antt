@@ -43,7 +43,7 @@ module _ {X : Type 0} where
   behind : (from : ℕ) (old w : List X) → from ≤ length old → drop from (take from old ++ w) ≡ w
   behind from old w h = ap (λ (n : ℕ). drop n (take from old ++ w)) (sym (take_long from old h)) ∙ drop-append_seam (take from old) w
 
-total_both : (xs ys : List (ℕ × Item)) → total_of (xs ++ ys) ≡ total_of xs + total_of ys
+pub total_both : (xs ys : List (ℕ × Item)) → total_of (xs ++ ys) ≡ total_of xs + total_of ys
 total_both [] ys = omega arith
 total_both (x ∷ xs) ys = let e : total_of (xs ++ ys) ≡ total_of xs + total_of ys = total_both xs ys in omega arith
 
@@ -55,23 +55,23 @@ takes (suc u) k [] ys h = absurd (omega arith)
 takes (suc u) k (x ∷ w) ys h =
     let e : suc u + k ≡ suc (u + k) = omega arith in ap (λ (n : ℕ). take n (x ∷ (w ++ ys))) e ∙ ap (λ (l : List (ℕ × Item)). x ∷ l) (takes u k w ys (omega arith))
 
-ended_both : (p : ℕ) (gone more ys zs : List (ℕ × Item)) (es fs : List Event) → AreEnded p gone ys es → AreEnded p more zs fs → AreEnded p (gone ++ more) (ys ++ zs) (es ++ fs)
-ended_both p [] more ys zs es fs one two =
-    subst (λ (z : List (ℕ × Item) × List Event). AreEnded p more (z.0 ++ zs) (z.1 ++ fs)) (λ i. (sym one.0 i, sym one.1 i)) two
-ended_both p (y ∷ gone) more ys zs es fs one two = (
+ended_both : (saw : ℕ → ℕ → Type 0) (p : ℕ) (gone more ys zs : List (ℕ × Item)) (es fs : List Event) → AreEnded saw p gone ys es → AreEnded saw p more zs fs → AreEnded saw p (gone ++ more) (ys ++ zs) (es ++ fs)
+ended_both saw p [] more ys zs es fs one two =
+    subst (λ (z : List (ℕ × Item) × List Event). AreEnded saw p more (z.0 ++ zs) (z.1 ++ fs)) (λ i. (sym one.0 i, sym one.1 i)) two
+ended_both saw p (y ∷ gone) more ys zs es fs one two = (
   one.0,
   one.1 ++ zs,
   one.2 ++ fs,
   ap (λ (l : List (ℕ × Item)). l ++ zs) one.3 ∙ append_assoc one.0 one.1 zs,
   ap (λ (l : List Event). l ++ fs) one.4 ∙ append_assoc (accepted_on p (toward y.1.content) (keys one.0)) one.2 fs,
   one.5,
-  ended_both p gone more one.1 zs one.2 fs one.6 two,
+  ended_both saw p gone more one.1 zs one.2 fs one.6 two,
 )
 
 -- one sweep after another from the same place
-pub swept_more : (from u k a b : ℕ) (old mid new : PlaceOf) → from ≤ length old.blocks → mid.process ≡ old.process → IsSweptBy from u old mid a → IsSweptBy from k mid new b
-    → IsSweptBy from (u + k) old new (a + b)
-swept_more from u k a b old mid new inside whose one two =
+pub swept_more : (saw : ℕ → ℕ → Type 0) (from u k a b : ℕ) (old mid new : PlaceOf) → from ≤ length old.blocks → mid.process ≡ old.process → IsSweptBy saw from u old mid a → IsSweptBy saw from k mid new b
+    → IsSweptBy saw from (u + k) old new (a + b)
+swept_more saw from u k a b old mid new inside whose one two =
     let w : List (ℕ × Item) = drop from old.blocks ++ one.accepted in
     let both : List (ℕ × Item) = one.accepted ++ two.accepted in
     let ahead : take from mid.blocks ≡ take from old.blocks = ap (take from) one.list ∙ front from old.blocks (drop u w) inside in
@@ -86,8 +86,8 @@ swept_more from u k a b old mid new inside whose one two =
     let sums : total_of both ≡ total_of one.accepted + total_of two.accepted = total_both one.accepted two.accepted in
     let first : a + total_of mid.blocks ≡ total_of old.blocks + total_of one.accepted = one.sum in
     let second : b + total_of new.blocks ≡ total_of mid.blocks + total_of two.accepted = two.sum in
-    let later : AreEnded old.process (take k (drop u w ++ two.accepted)) two.accepted two.log =
-    subst (λ (z : ℕ × List (ℕ × Item)). AreEnded z.0 (take k (z.1 ++ two.accepted)) two.accepted two.log) (λ i. (whose i, rest i)) two.ended in
+    let later : AreEnded saw old.process (take k (drop u w ++ two.accepted)) two.accepted two.log =
+    subst (λ (z : ℕ × List (ℕ × Item)). AreEnded saw z.0 (take k (z.1 ++ two.accepted)) two.accepted two.log) (λ i. (whose i, rest i)) two.ended in
     let ends : take (u + k) (drop from old.blocks ++ both) ≡ take u w ++ take k (drop u w ++ two.accepted) =
     ap (take (u + k)) (sym all) ∙ takes u k w two.accepted one.there in
     record {
@@ -96,8 +96,8 @@ swept_more from u k a b old mid new inside whose one two =
       there = omega (arith, long, left, fits);
       list = two.list ∙ (λ i. ahead i ++ same i);
       moved = two.moved ∙ ap (λ (l : List Event). l ++ two.log) one.moved ∙ append_assoc old.moved one.log two.log;
-      ended = subst (λ (l : List (ℕ × Item)). AreEnded old.process l both (one.log ++ two.log)) (sym ends)
-          (ended_both old.process (take u w) (take k (drop u w ++ two.accepted)) one.accepted two.accepted one.log two.log one.ended later);
+      ended = subst (λ (l : List (ℕ × Item)). AreEnded saw old.process l both (one.log ++ two.log)) (sym ends)
+          (ended_both saw old.process (take u w) (take k (drop u w ++ two.accepted)) one.accepted two.accepted one.log two.log one.ended later);
       sum = omega (arith, sums, first, second);
     }
 
@@ -114,11 +114,11 @@ cut_out (suc from) r x more (y ∷ w) d e =
       among_drop (suc k) q (z ∷ w) h = inr (among_drop k q w h)
 
 -- some came to an end at `from`, and then it went
-swept_one : (from r bytes d : ℕ) (x : Item) (more : List (ℕ × Item)) (old mid new : PlaceOf) (ys : List (ℕ × Item)) → from ≤ length old.blocks → drop from old.blocks ≡ (r, x) ∷ more
-    → mid ≡ with_more d ys old → Distinct (keys mid.blocks) → AreEnded old.process ((r, x) ∷ []) ys (accepted_on old.process d (keys ys))
+swept_one : (saw : ℕ → ℕ → Type 0) (from r bytes d : ℕ) (x : Item) (more : List (ℕ × Item)) (old mid new : PlaceOf) (ys : List (ℕ × Item)) → from ≤ length old.blocks → drop from old.blocks ≡ (r, x) ∷ more
+    → mid ≡ with_more d ys old → Distinct (keys mid.blocks) → AreEnded saw old.process ((r, x) ∷ []) ys (accepted_on old.process d (keys ys))
     → new ≡ with_blocks mid (without r mid.blocks)
-    → bytes + total_of new.blocks ≡ total_of mid.blocks → IsSweptBy from 1 old new bytes
-swept_one from r bytes d x more old mid new ys inside first came once ends is sum =
+    → bytes + total_of new.blocks ≡ total_of mid.blocks → IsSweptBy saw from 1 old new bytes
+swept_one saw from r bytes d x more old mid new ys inside first came once ends is sum =
     let list : mid.blocks ≡ old.blocks ++ ys = ap (λ (p : PlaceOf). p.blocks) came in
     let ahead : take from mid.blocks ≡ take from old.blocks = ap (take from) list ∙ take-append-le from old.blocks ys inside in
     let rest : drop from mid.blocks ≡ (r, x) ∷ (more ++ ys) = ap (drop from) list ∙ drop-append-le from old.blocks ys inside ∙ ap (λ (l : List (ℕ × Item)). l ++ ys) first in
@@ -131,7 +131,7 @@ swept_one from r bytes d x more old mid new ys inside first came once ends is su
       there = omega (arith, long);
       list = ap (λ (p : PlaceOf). p.blocks) is ∙ cut_out from r x (more ++ ys) mid.blocks once rest ∙ (λ i. ahead i ++ drop 1 (sym whole i));
       moved = ap (λ (p : PlaceOf). p.moved) is ∙ ap (λ (p : PlaceOf). p.moved) came;
-      ended = subst (λ (l : List (ℕ × Item)). AreEnded old.process (take 1 l) ys (accepted_on old.process d (keys ys))) (sym whole) ends;
+      ended = subst (λ (l : List (ℕ × Item)). AreEnded saw old.process (take 1 l) ys (accepted_on old.process d (keys ys))) (sym whole) ends;
       sum = sum ∙ all;
     }
 
@@ -142,9 +142,9 @@ without_both r (x ∷ xs) ys = dite (ℕ_discrete x.0 r)
     (λ n. without_there r x (xs ++ ys) n ∙ ap (λ (l : List (ℕ × Item)). x ∷ l) (without_both r xs ys) ∙ sym (ap (λ (l : List (ℕ × Item)). l ++ without r ys) (without_there r x xs n)))
 
 -- the block at `from` went, an endpoint after it was shut and drained
-pub swept_clear : (from r bytes : ℕ) (x : Item) (more : List (ℕ × Item)) (old mid new : PlaceOf) → from ≤ length old.blocks → drop from old.blocks ≡ (r, x) ∷ more → value_at r old.blocks ≡ Some x
-    → Clears r old mid → Distinct (keys mid.blocks) → new ≡ with_blocks mid (without r mid.blocks) → bytes + total_of new.blocks ≡ total_of mid.blocks → IsSweptBy from 1 old new bytes
-swept_clear from r bytes x more old mid new inside first at clear once is sum =
+pub swept_clear : (saw : ℕ → ℕ → Type 0) (from r bytes : ℕ) (x : Item) (more : List (ℕ × Item)) (old mid new : PlaceOf) → from ≤ length old.blocks → drop from old.blocks ≡ (r, x) ∷ more → value_at r old.blocks ≡ Some x
+    → Clears saw r old mid → Distinct (keys mid.blocks) → new ≡ with_blocks mid (without r mid.blocks) → bytes + total_of new.blocks ≡ total_of mid.blocks → IsSweptBy saw from 1 old new bytes
+swept_clear saw from r bytes x more old mid new inside first at clear once is sum =
     let z : Item = clear.0 in let y : Item = clear.1 in let ys : List (ℕ × Item) = clear.2 in let xs : List (ℕ × Item) = old.blocks in
     let both : Some z ≡ Some x = sym clear.3 ∙ at in let one : z ≡ x = cc in
     let d : ℕ = toward x.content in let log : List Event = accepted_on old.process d (keys ys) in
@@ -158,13 +158,13 @@ swept_clear from r bytes x more old mid new inside first at clear once is sum =
     let one_total : total_of mid.blocks ≡ total_of (put r y xs) + total_of ys = ap total_of list ∙ total_both (put r y xs) ys in
     let two_total : total_of (xs ++ ys) ≡ total_of xs + total_of ys = total_both xs ys in
     let total : total_of mid.blocks ≡ total_of (xs ++ ys) = omega (arith, long, sizes, one_total, two_total) in
-    swept_one from r bytes d x more old (with_more d ys old) new ys inside first refl (subst Distinct names once)
-    (ys, [], [], sym (append-nil ys), sym (append-nil log), subst (λ (w : Item). EndsWith w.content ys) one clear.5, (refl, refl))
+    swept_one saw from r bytes d x more old (with_more d ys old) new ys inside first refl (subst Distinct names once)
+    (ys, [], [], sym (append-nil ys), sym (append-nil log), subst (λ (w : Item). EndsWith saw w.content ys) one clear.5, (refl, refl))
     (is ∙ (λ i. with_blocks (came i) (less i))) (sum ∙ total)
 
 -- nothing yet
-pub swept_none : (from : ℕ) (old : PlaceOf) → IsSweptBy from 0 old old 0
-swept_none from old = record {
+pub swept_none : (saw : ℕ → ℕ → Type 0) (from : ℕ) (old : PlaceOf) → IsSweptBy saw from 0 old old 0
+swept_none saw from old = record {
   accepted = [];
   log = [];
   there = omega arith;

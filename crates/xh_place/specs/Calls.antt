@@ -9,7 +9,8 @@ use Rattle.xh_core.specs.Space.{rounded}
 use Rattle.xh_model.specs.declared.limits.TheConstants.{MAX_RECORDS}
 use Rattle.xh_model.specs.Keyed.{put, value_at, without}
 use Rattle.xh_place.specs.Bodies.{bytes, part, patched}
-use Rattle.xh_place.specs.Places.{Item, PlaceOf, IsSamePlace, found, with_blocks}
+use Rattle.xh_place.specs.Places.{Item, PlaceOf, found, with_blocks}
+use Rattle.xh_place.specs.Seen.{IsSamePlace, PlaceSeen, Stays}
 use Rattle.xh_place.specs.Splitting.{IsSplit}
 use Rattle.xh_place.specs.Starts.{start}
 use Rattle.xh_place.specs.Tallies.{gave, took}
@@ -34,15 +35,15 @@ pub record Splits (r k : ℕ) (old new : PlaceOf) (told tallies : List TallyOf) 
   pub unmoved : tallies ≡ told
 
 -- the bytes of the block from `at` on are there now, and the place is as it was
-pub record Reads (r at : ℕ) (old new : PlaceOf) (before after : List ℕ) (result : Result (Unit {0}) Refused) : Type 0 where
-  pub same : new ≡ old
-  pub read : Tested (start old.state ++ range_tests (found old r) at (length before)) result
-      (λ _. (x : Item) × (value_at r old.blocks ≡ Some x) × (after ≡ part at (length before) x.content))
+pub record Reads (r at : ℕ) (old new : PlaceSeen) (before after : List ℕ) (result : Result (Unit {0}) Refused) : Type 0 where
+  pub same : Stays old new
+  pub read : Tested (start old.place.state ++ range_tests (found old.place r) at (length before)) result
+      (λ _. (x : Item) × (value_at r old.place.blocks ≡ Some x) × (after ≡ part at (length before) x.content))
   pub refused : OnErr result (after ≡ before)
 
 -- these bytes stand in the block from `at` on
-pub record Writes (r at : ℕ) (xs : List ℕ) (old new : PlaceOf) (result : Result (Unit {0}) Refused) : Type 0 where
+pub record Writes (r at : ℕ) (xs : List ℕ) (old new : PlaceSeen) (result : Result (Unit {0}) Refused) : Type 0 where
   pub place : IsSamePlace old new
-  pub written : Tested (start old.state ++ range_tests (found old r) at (length xs)) result
-      (λ _. (x : Item) × (value_at r old.blocks ≡ Some x) × (new ≡ with_blocks old (put r (record x { content = patched at xs x.content }) old.blocks)))
-  pub refused : OnErr result (new ≡ old)
+  pub written : Tested (start old.place.state ++ range_tests (found old.place r) at (length xs)) result
+      (λ _. (x : Item) × (value_at r old.place.blocks ≡ Some x) × (new.place ≡ with_blocks old.place (put r (record x { content = patched at xs x.content }) old.place.blocks)))
+  pub refused : OnErr result (new.place ≡ old.place)

@@ -4,7 +4,8 @@ use Rattle.atomic_table.specs.Seated.{TableId}
 use Rattle.xh_records.specs.Seats.{Held, IsSeatOf}
 use Rattle.xh_place.specs.declared.body.Body.{Body}
 use Rattle.xh_place.specs.declared.desk.Desk.{Desk}
-use Rattle.xh_place.specs.Places.{PlaceOf, IsPlaceOf, IsSamePlace}
+use Rattle.xh_place.specs.Places.{PlaceOf, IsPlaceOf}
+use Rattle.xh_place.specs.Seen.{IsSamePlace, PlaceSeen}
 use Rattle.xh_place.specs.Tallies.{ids_of}
 
 -- `names` says what the vaults' names are, and `extent` the bytes of each
@@ -27,5 +28,5 @@ module _ {R V G : Type 0} (names : V → List TableId) where
       × (new.records ≡ old.records) × (new.vaults.ghost_name ≡ old.vaults.ghost_name) × (new.tallies.ghost_name ≡ old.tallies.ghost_name)
 
   -- so is the place the same, and its process
-  abbrev pub StaysAt : (V → ℕ) → Desk R V G → Desk R V G → PlaceOf → PlaceOf → Type 0
+  abbrev pub StaysAt : (V → ℕ) → Desk R V G → Desk R V G → PlaceSeen → PlaceSeen → Type 0
   StaysAt extent from to old new = IsSameDesk extent from to × IsSamePlace old new

@@ -12,32 +12,35 @@ use Rattle.xh_place.specs.Bodies.{toward}
 use Rattle.xh_place.specs.Endpoints.{EndsWith}
 use Rattle.xh_place.specs.Moves.{accepted_on}
 use Rattle.xh_place.specs.Places.{Item, PlaceOf, with_blocks, with_list, total_of}
+use Rattle.xh_place.specs.Seen.{IsSeen, PlaceSeen}
 
--- These went, one after another, each as it ends. What was accepted is what came with each, in their order, which the process accepted on the direction toward it.
-abbrev pub AreEnded : ℕ → List (ℕ × Item) → List (ℕ × Item) → List Event → Type 0
-AreEnded p [] accepted log = (accepted ≡ []) × (log ≡ [])
-AreEnded p (y ∷ ys) accepted log = (came : List (ℕ × Item)) × (more : List (ℕ × Item)) × (later : List Event) × (accepted ≡ came ++ more)
-    × (log ≡ accepted_on p (toward y.1.content) (keys came) ++ later) × EndsWith y.1.content came × AreEnded p ys more later
+-- `saw r word` says that this word was seen at the record r
+module _ (saw : ℕ → ℕ → Type 0) where
+  -- These went, one after another, each as it ends. What was accepted is what came with each, in their order, which the process accepted on the direction toward it.
+  abbrev pub AreEnded : ℕ → List (ℕ × Item) → List (ℕ × Item) → List Event → Type 0
+  AreEnded p [] accepted log = (accepted ≡ []) × (log ≡ [])
+  AreEnded p (y ∷ ys) accepted log = (came : List (ℕ × Item)) × (more : List (ℕ × Item)) × (later : List Event) × (accepted ≡ came ++ more)
+      × (log ≡ accepted_on p (toward y.1.content) (keys came) ++ later) × EndsWith saw y.1.content came × AreEnded p ys more later
 
--- So many blocks were reclaimed: the list from `from` on is the old one from there, followed by what was accepted, without its first blocks.
--- Those were bytes, or endpoints that were shut and took all that they found; what was accepted came with their messages.
--- The bytes are those that the list had and gained, less those that it has.
-pub record IsSweptBy (from count : ℕ) (old new : PlaceOf) (bytes : ℕ) : Type 0 where
-  pub accepted : List (ℕ × Item)
-  pub log : List Event
-  pub there : count ≤ length (drop from old.blocks ++ accepted)
-  pub list : new.blocks ≡ take from old.blocks ++ drop count (drop from old.blocks ++ accepted)
-  pub moved : new.moved ≡ old.moved ++ log
-  pub ended : AreEnded old.process (take count (drop from old.blocks ++ accepted)) accepted log
-  pub sum : bytes + total_of new.blocks ≡ total_of old.blocks + total_of accepted
+  -- So many blocks were reclaimed: the list from `from` on is the old one from there, followed by what was accepted, without its first blocks.
+  -- Those were bytes, or endpoints that were shut and took all that they found; what was accepted came with their messages.
+  -- The bytes are those that the list had and gained, less those that it has.
+  pub record IsSweptBy (from count : ℕ) (old new : PlaceOf) (bytes : ℕ) : Type 0 where
+    pub accepted : List (ℕ × Item)
+    pub log : List Event
+    pub there : count ≤ length (drop from old.blocks ++ accepted)
+    pub list : new.blocks ≡ take from old.blocks ++ drop count (drop from old.blocks ++ accepted)
+    pub moved : new.moved ≡ old.moved ++ log
+    pub ended : AreEnded old.process (take count (drop from old.blocks ++ accepted)) accepted log
+    pub sum : bytes + total_of new.blocks ≡ total_of old.blocks + total_of accepted
 
--- A sweep: no more blocks were reclaimed than the budget, and blocks are left from `from` on only where it is used up.
-pub record IsSwept (from budget : ℕ) (old new : PlaceOf) (bytes left : ℕ) : Type 0 where
-  pub count : ℕ
-  pub by : IsSweptBy from count old new bytes
-  pub within : count ≤ budget
-  pub rest : left ≡ length new.blocks - from
-  pub more : 0 < left → count ≡ budget
+  -- A sweep: no more blocks were reclaimed than the budget, and blocks are left from `from` on only where it is used up.
+  pub record IsSwept (from budget : ℕ) (old new : PlaceOf) (bytes left : ℕ) : Type 0 where
+    pub count : ℕ
+    pub by : IsSweptBy from count old new bytes
+    pub within : count ≤ budget
+    pub rest : left ≡ length new.blocks - from
+    pub more : 0 < left → count ≡ budget
 
 -- the bytes that a worker has given back, of all arenas, and its tallies but for these bytes
 abbrev pub back_of : List TallyOf → ℕ
@@ -59,9 +62,9 @@ ending left = cond (left == 0) Ended Ending
 -- ---- stop
 
 -- the whole list is swept
-abbrev pub IsStopped : ℕ → PlaceOf → PlaceOf → ℕ → Result ℕ Refused → Type 0
-IsStopped budget old new bytes result = IsSwept 0 budget old new bytes (length new.blocks)
-    × (new ≡ record (with_list old new) { state = ending (length new.blocks) }) × (result ≡ reclaimed bytes (length new.blocks))
+abbrev pub IsStopped : ℕ → PlaceSeen → PlaceSeen → ℕ → Result ℕ Refused → Type 0
+IsStopped budget old new bytes result = IsSwept (IsSeen old new) 0 budget old.place new.place bytes (length new.place.blocks)
+    × (new.place ≡ record (with_list old.place new.place) { state = ending (length new.place.blocks) }) × (result ≡ reclaimed bytes (length new.place.blocks))
 
 -- ---- close
 
@@ -75,6 +78,6 @@ abbrev pub last : ℕ → List (ℕ × Item) → List (ℕ × Item)
 last r xs = without r xs ++ alone r (value_at r xs)
 
 -- the endpoint goes to the end of the list, and the list is swept from there
-abbrev pub IsClosed : ℕ → PlaceOf → PlaceOf → ℕ → Result ℕ Refused → Type 0
-IsClosed e old new bytes result = (left : ℕ) × IsSwept (length (without e old.blocks)) MAX_BUDGET (with_blocks old (last e old.blocks)) new bytes left
-    × (new ≡ with_list old new) × (result ≡ reclaimed bytes left)
+abbrev pub IsClosed : ℕ → PlaceSeen → PlaceSeen → ℕ → Result ℕ Refused → Type 0
+IsClosed e old new bytes result = (left : ℕ) × IsSwept (IsSeen old new) (length (without e old.place.blocks)) MAX_BUDGET (with_blocks old.place (last e old.place.blocks)) new.place bytes left
+    × (new.place ≡ with_list old.place new.place) × (result ≡ reclaimed bytes left)

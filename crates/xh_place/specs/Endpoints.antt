@@ -39,16 +39,6 @@ IsDrained ms old new = (last : Posted) × TakesEach ms old last
 
 -- ---- the blocks of messages
 
--- a block is here, and then it is what the list gained; or the word that was seen isn't "in flight on the direction"
-abbrev pub IsGot : ℕ → List (ℕ × Item) → Got → Type 0
-IsGot d ys (Here block) = (x : Item) × (ys ≡ (block.rec, x) ∷ []) × (x.len ≡ block.len)
-IsGot d ys (Missing r word) = (ys ≡ []) × (word ≢ 2 + 4 * d)
-
--- of each block in turn, and the list gained them in this order
-abbrev pub AreGot : ℕ → List (ℕ × Item) → List Got → Type 0
-AreGot d ys [] = ys ≡ []
-AreGot d ys (got ∷ gots) = (here : List (ℕ × Item)) × (more : List (ℕ × Item)) × (ys ≡ here ++ more) × IsGot d here got × AreGot d more gots
-
 -- the record that it is about
 abbrev pub record_of : Got → ℕ
 record_of (Here block) = block.rec
@@ -59,11 +49,23 @@ abbrev pub blocks_of : List Message → List ℕ
 blocks_of [] = []
 blocks_of (m ∷ ms) = m.blocks.items ++ blocks_of ms
 
--- each block of the messages, in their order, came to the list or was missing
-abbrev pub AreUnpacked : ℕ → List Message → List (ℕ × Item) → Type 0
-AreUnpacked d ms came = (gots : List Got) × (map record_of gots ≡ blocks_of ms) × AreGot d came gots
+-- `saw r word` says that this word was seen at the record r
+module _ (saw : ℕ → ℕ → Type 0) where
+  -- a block is here, and then it is what the list gained; or the word that was seen isn't "in flight on the direction"
+  abbrev pub IsGot : ℕ → List (ℕ × Item) → Got → Type 0
+  IsGot d ys (Here block) = (x : Item) × (ys ≡ (block.rec, x) ∷ []) × (x.len ≡ block.len)
+  IsGot d ys (Missing r word) = (ys ≡ []) × (word ≢ 2 + 4 * d) × saw r word
 
--- bytes, with which nothing came, or an endpoint that was shut and then drained, and the blocks of its messages came
-abbrev pub EndsWith : Content → List (ℕ × Item) → Type 0
-EndsWith (bytes xs) came = came ≡ []
-EndsWith (endpoint e) came = (ms : List Message) × (shut : Posted) × (last : Posted) × Shuts e shut × IsDrained ms shut last × AreUnpacked (toward (endpoint e)) ms came
+  -- of each block in turn, and the list gained them in this order
+  abbrev pub AreGot : ℕ → List (ℕ × Item) → List Got → Type 0
+  AreGot d ys [] = ys ≡ []
+  AreGot d ys (got ∷ gots) = (here : List (ℕ × Item)) × (more : List (ℕ × Item)) × (ys ≡ here ++ more) × IsGot d here got × AreGot d more gots
+
+  -- each block of the messages, in their order, came to the list or was missing
+  abbrev pub AreUnpacked : ℕ → List Message → List (ℕ × Item) → Type 0
+  AreUnpacked d ms came = (gots : List Got) × (map record_of gots ≡ blocks_of ms) × AreGot d came gots
+
+  -- bytes, with which nothing came, or an endpoint that was shut and then drained, and the blocks of its messages came
+  abbrev pub EndsWith : Content → List (ℕ × Item) → Type 0
+  EndsWith (bytes xs) came = came ≡ []
+  EndsWith (endpoint e) came = (ms : List Message) × (shut : Posted) × (last : Posted) × Shuts e shut × IsDrained ms shut last × AreUnpacked (toward (endpoint e)) ms came

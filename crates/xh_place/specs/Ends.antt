@@ -1,5 +1,5 @@
 -- Endpoints of a place: what opening and handing over do.
-use Rattle.std.specs.Prelude.{◌≡◌, ◌≢◌, ◌⊎◌, ℕ, ◌*◌, ◌/◌, ◌==◌, ◌&&◌, Bool, true, false, cond, List, [], ◌∷◌, ◌++◌, length, Option}
+use Rattle.std.specs.Prelude.{◌≡◌, ◌≢◌, ◌⊎◌, ℕ, ◌*◌, ◌/◌, ◌≤◌, ◌==◌, ◌&&◌, Bool, true, false, cond, List, [], ◌∷◌, ◌++◌, length, Option}
 use Rattle.std.specs.Prelude.{Some, None, Result, Err, MatchOption, MatchResult, IfErr, IfOk, OnOk}
 use Rattle.xh_channel.specs.Queues.{Posted}
 use Rattle.xh_core.specs.declared.block.Block.{Block}
@@ -16,7 +16,8 @@ use Rattle.xh_place.specs.Bodies.{away, endpoint, toward}
 use Rattle.xh_arena.specs.Views.{TallyOf}
 use Rattle.xh_place.specs.declared.opening.Unopened.{Unopened}
 use Rattle.xh_place.specs.Tallies.{took}
-use Rattle.xh_place.specs.Places.{Item, PlaceOf, with_blocks, with_list, with_more}
+use Rattle.xh_place.specs.Places.{IsWhole, Item, PlaceOf, with_blocks, with_list, with_more}
+use Rattle.xh_place.specs.Seen.{IsElsewhere, IsSeen, PlaceSeen, SawWord}
 use Rattle.xh_place.specs.Ending.{HasGivenBack, IsSwept}
 
 -- the call answers the first refusal whose test is true, and then these stay as they were; where none is, it does what is said
@@ -75,13 +76,16 @@ ending_again status.Vacant left = status.Vacant
 ending_again status.Running left = status.Running
 ending_again status.Ending left = status.Ending
 
--- an endpoint came that nobody is here for: so it was swept
-abbrev pub IsTooLate : ℕ → ℕ → PlaceOf → PlaceOf → ℕ → Type 0
-IsTooLate d r old new sum = (x : Item) × (left : ℕ) × IsSwept (length old.blocks) MAX_BUDGET (with_more d ((r, x) ∷ []) old) new sum left
-    × (new ≡ record (with_list old new) { state = ending_again old.state (length new.blocks) })
+-- An endpoint came that nobody is here for: so it was swept, and no fewer bytes than it has were given back.
+abbrev pub IsTooLate : (ℕ → ℕ → Type 0) → ℕ → ℕ → PlaceOf → PlaceOf → ℕ → Type 0
+IsTooLate saw d r old new sum = (x : Item) × (left : ℕ) × IsSwept saw (length old.blocks) MAX_BUDGET (with_more d ((r, x) ∷ []) old) new sum left
+    × (new ≡ record (with_list old new) { state = ending_again old.state (length new.blocks) }) × IsWhole x × (x.len ≤ sum)
 
--- It came on the direction to the end of the list of the process, which runs here; or the process doesn't, and then nothing has changed, or it came too late.
-pub record Accepts (process r direction : ℕ) (old new : PlaceOf) (told tallies : List TallyOf) (result : Result Block Refused) : Type 0 where
-  pub here : IfOk result (λ b. (is_here old process ≡ true) × (b.rec ≡ r) × ((x : Item) × (x.len ≡ b.len) × (new ≡ with_more direction ((r, x) ∷ []) old)) × (tallies ≡ told))
-  pub away : IfErr result (λ e. (e ≡ Ended) × (((new ≡ old) × (tallies ≡ told))
-      ⊎ ((is_here old process ≡ false) × (old.state ≢ status.Vacant) × ((bytes : ℕ) × IsTooLate direction r old new bytes × HasGivenBack bytes told tallies))))
+-- It came on the direction to the end of the list of the process, which runs here; or the process doesn't, and then it came too late;
+-- or nothing has changed, since nobody has the place, or another word was seen than "in flight on the direction".
+pub record Accepts (process r direction : ℕ) (old new : PlaceSeen) (told tallies : List TallyOf) (result : Result Block Refused) : Type 0 where
+  pub here : IfOk result (λ b. (is_here old.place process ≡ true) × (b.rec ≡ r) × ((x : Item) × (x.len ≡ b.len) × (new.place ≡ with_more direction ((r, x) ∷ []) old.place) × IsWhole x)
+      × (tallies ≡ told))
+  pub away : IfErr result (λ e. (e ≡ Ended) × (((new.place ≡ old.place) × (tallies ≡ told) × ((old.place.state ≡ status.Vacant) ⊎ IsElsewhere (SawWord old new) direction r))
+      ⊎ ((is_here old.place process ≡ false) × (old.place.state ≢ status.Vacant)
+      × ((bytes : ℕ) × IsTooLate (IsSeen old new) direction r old.place new.place bytes × HasGivenBack bytes told tallies))))

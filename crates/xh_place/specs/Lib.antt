@@ -3,6 +3,7 @@ pub mod Bodies
 pub mod Endpoints
 pub mod Moves
 pub mod Places
+pub mod Seen
 pub mod Desk
 pub mod Starts
 pub mod Tallies

@@ -1,5 +1,5 @@
 -- Give and take: what they do to the place.
-use Rattle.std.specs.Prelude.{◌≡◌, ℕ, Bool, List, [], ◌∷◌, Option, Some, None, is_some, map, Result, Ok, Err, MatchResult}
+use Rattle.std.specs.Prelude.{◌≡◌, ℕ, Bool, List, [], ◌∷◌, Option, Some, None, is_some, map, Result, Ok, Err, MatchResult, OnErr}
 use Rattle.arrayvec.specs.ArrayVec.{ArrayVec}
 use Rattle.xh_channel.specs.declared.message.Message.{Message}
 use Rattle.xh_channel.specs.declared.refused.Refused.{Refused as NoMessage}
@@ -14,6 +14,7 @@ use Rattle.xh_place.specs.Ends.{EndDoes, away_in, toward_in}
 use Rattle.xh_place.specs.Moves.{there_and_back}
 use Rattle.xh_place.specs.declared.got.Taken.{Taken}
 use Rattle.xh_place.specs.Places.{Item, PlaceOf, with_blocks, with_moved, with_more}
+use Rattle.xh_place.specs.Seen.{IsElsewhere, IsSeen, PlaceSeen, SawWord}
 
 -- ---- give
 
@@ -48,31 +49,33 @@ GoesOrReturns d given back old new = (new ≡ with_moved (with_blocks old (settl
     × ((r : ℕ) → Among (keys back) r → Among given r)
 
 -- The endpoint put the blocks with the tag, they went or came back, and the answer is that of the put.
-pub record IsSent (e tag : ℕ) (given : List ℕ) (old new : PlaceOf) (result : Result ℕ Refused) : Type 0 where
+-- Where it was refused, each given block that didn't come back had another word, which was seen, than "in flight on the direction".
+pub record IsSent (e tag : ℕ) (given : List ℕ) (old new : PlaceSeen) (result : Result ℕ Refused) : Type 0 where
   pub mid : PlaceOf
   pub blocks : ArrayVec ℕ
   pub answered : Result ℕ Unsent
   pub back : List (ℕ × Item)
   pub all : blocks.items ≡ given
-  pub made : EndDoes e old mid (Puts tag blocks answered)
-  pub moved : GoesOrReturns (away_in (value_at e old.blocks)) given back mid new
+  pub made : EndDoes e old.place mid (Puts tag blocks answered)
+  pub moved : GoesOrReturns (away_in (value_at e old.place.blocks)) given back mid new.place
+  pub lost : OnErr answered ((r : ℕ) → Among given r → (Among (keys back) r → ⊥) → IsElsewhere (SawWord old new) (away_in (value_at e old.place.blocks)) r)
   pub answer : Answers (keys back) answered result
 
 -- ---- take
 
 -- The answer has the number and the tag of the message, and tells of each of its blocks, in their order.
--- Those that were on the direction came, and are the last of the list, in their order.
-pub record Unpacks (d : ℕ) (m : Message) (old new : PlaceOf) (taken : Taken) : Type 0 where
+-- Those that were on the direction came, and are the last of the list, in their order. `saw r word` says that this word was seen at the record r.
+pub record Unpacks (saw : ℕ → ℕ → Type 0) (d : ℕ) (m : Message) (old new : PlaceOf) (taken : Taken) : Type 0 where
   pub number : taken.no ≡ m.no
   pub tag : taken.tag ≡ m.tag
   pub records : map record_of taken.blocks.items ≡ m.blocks.items
   pub gained : List (ℕ × Item)
   pub list : new ≡ with_more d gained old
-  pub got : AreGot d gained taken.blocks.items
+  pub got : AreGot saw d gained taken.blocks.items
 
 -- the endpoint took a message, and its blocks came
-abbrev pub IsTaken : ℕ → PlaceOf → PlaceOf → Taken → Type 0
-IsTaken e old new taken = (mid : PlaceOf) × (m : Message) × EndDoes e old mid (Takes (Ok m)) × Unpacks (toward_in (value_at e old.blocks)) m mid new taken
+abbrev pub IsTaken : ℕ → PlaceSeen → PlaceSeen → Taken → Type 0
+IsTaken e old new taken = (mid : PlaceOf) × (m : Message) × EndDoes e old.place mid (Takes (Ok m)) × Unpacks (IsSeen old new) (toward_in (value_at e old.place.blocks)) m mid new.place taken
 
 -- the endpoint took nothing, and the answer is that of the take
 abbrev pub IsUntaken : ℕ → PlaceOf → PlaceOf → Refused → Type 0

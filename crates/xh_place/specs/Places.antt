@@ -51,10 +51,6 @@ with_more d ys p = with_moved (with_blocks p (p.blocks ++ ys)) (accepted_on p.pr
 abbrev pub with_less : ℕ → ℕ → PlaceOf → PlaceOf
 with_less d r p = with_moved (with_blocks p (without r p.blocks)) (passed_on p.process d (r ∷ []))
 
--- the same place, and the same process
-abbrev pub IsSamePlace : PlaceOf → PlaceOf → Type 0
-IsSamePlace old new = (new.table ≡ old.table) × (new.shape ≡ old.shape) × (new.process ≡ old.process)
-
 -- the table gave its seat
 abbrev pub IsPlaceOf : RecordsOf → PlaceOf → Type 0
 IsPlaceOf all p = (p.table ≡ all.table) × (p.shape ≡ all.shape)

@@ -1,6 +1,8 @@
--- What a split does to a place.
-use Rattle.std.specs.Prelude.{◌≡◌, ℕ, ◌+◌, ◌/◌, [], ◌∷◌, ◌++◌, Some}
+-- What a split does to a place, and why it doesn't.
+use Rattle.std.specs.Prelude.{◌≡◌, ◌⊎◌, ℕ, ◌+◌, ◌/◌, [], ◌∷◌, ◌++◌, Some}
 use Rattle.xh_core.specs.declared.block.Block.{Block}
+use Rattle.xh_core.specs.declared.refused.Refused.{Refused}
+use Rattle.xh_core.specs.declared.refused.Refused.TheVariants.{NoRecord, OutOfMemory}
 use Rattle.xh_model.specs.declared.limits.TheConstants.{MAX_RECORDS}
 use Rattle.xh_model.specs.Keyed.{put, value_at}
 use Rattle.xh_place.specs.Bodies.{front, rest}
@@ -11,3 +13,7 @@ abbrev pub IsSplit : PlaceOf → PlaceOf → ℕ → ℕ → Block → Block →
 IsSplit old new r k head tail = (x : Item) × (value_at r old.blocks ≡ Some x)
     × (new ≡ with_blocks old (put r (record { len = k; content = front k x.content }) old.blocks ++ (tail.rec, record { len = tail.len; content = rest k x.content }) ∷ []))
     × (head ≡ record { rec = r; len = k }) × (tail.rec / MAX_RECORDS ≡ r / MAX_RECORDS) × (k + tail.len ≡ x.len)
+
+-- no record was found free, as `full` says; or a growth was refused
+abbrev pub IsUncut : Type 0 → Refused → Type 0
+IsUncut full refused = ((refused ≡ NoRecord) × full) ⊎ (refused ≡ OutOfMemory)

@@ -14,17 +14,17 @@ module _ {V : Type 0} (changes : V → V → ℕ → VaultOf → VaultOf → Typ
   abbrev pub IsRefusedAt : Refused → Type 0
   IsRefusedAt e = (v : VaultOf) × changes old new a v v × IsLawfulArena v.arena × RefusesCarve n v.arena e
 
-  -- no record was found free, or then a growth was refused, and no vault was touched; or then the vault refused
-  abbrev pub IsNoBlock : Reason → Type 0
-  IsNoBlock reason.NoRecord = new ≡ old
-  IsNoBlock reason.OutOfMemory = new ≡ old
-  IsNoBlock reason.NoSpace = IsRefusedAt arena.NoSpace
-  IsNoBlock reason.Worn = IsRefusedAt arena.Worn
-  IsNoBlock _ = ⊥
+  -- no record was found free, as `full` says, or then a growth was refused, and no vault was touched; or then the vault refused
+  abbrev pub IsNoBlock : Type 0 → Reason → Type 0
+  IsNoBlock full reason.NoRecord = (new ≡ old) × full
+  IsNoBlock full reason.OutOfMemory = new ≡ old
+  IsNoBlock full reason.NoSpace = IsRefusedAt arena.NoSpace
+  IsNoBlock full reason.Worn = IsRefusedAt arena.Worn
+  IsNoBlock full _ = ⊥
 
-  -- no two records were found free, and no vault was touched; or no arena has so many bytes, or then the vault refused
-  abbrev pub IsNoPair : ℕ → Reason → Type 0
-  IsNoPair extent reason.NoRecord = new ≡ old
-  IsNoPair extent reason.NoSpace = ((extent < n) × (new ≡ old)) ⊎ IsRefusedAt arena.NoSpace
-  IsNoPair extent reason.Worn = IsRefusedAt arena.Worn
-  IsNoPair extent _ = ⊥
+  -- no two records were found free, as `full` says, and no vault was touched; or no arena has so many bytes, or then the vault refused
+  abbrev pub IsNoPair : Type 0 → ℕ → Reason → Type 0
+  IsNoPair full extent reason.NoRecord = (new ≡ old) × full
+  IsNoPair full extent reason.NoSpace = ((extent < n) × (new ≡ old)) ⊎ IsRefusedAt arena.NoSpace
+  IsNoPair full extent reason.Worn = IsRefusedAt arena.Worn
+  IsNoPair full extent _ = ⊥

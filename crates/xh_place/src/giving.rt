@@ -1,5 +1,5 @@
 // What a give does to the seat: its blocks leave it, and some come back.
-ghost use Rattle.std.specs.Prelude.{◌≡◌, ◌≢◌, ◌⊎◌, ℕ, ◌+◌, ◌*◌, ◌/◌, ◌%◌, ◌<◌, ◌≤◌, List, [], ◌++◌, length, Some, None, OnOk};
+ghost use Rattle.std.specs.Prelude.{◌≡◌, ◌≢◌, ◌⊎◌, ℕ, ◌+◌, ◌*◌, ◌/◌, ◌%◌, ◌<◌, ◌≤◌, List, [], ◌++◌, length, Some, None, OnOk, OnErr};
 ghost use Rattle.arrayvec.specs.ArrayVec.{ArrayVec};
 ghost use Rattle.xh_arena.specs.Views.{LotOf};
 ghost use Rattle.xh_model.specs.declared.limits.TheConstants.{DIRECTIONS, MAX_BLOCKS};
@@ -10,7 +10,8 @@ ghost use Rattle.xh_place.specs.Messages.{Answers, refusal};
 ghost use Rattle.xh_records.specs.Seats.{IsSeatOf, IsRecord};
 ghost use Rattle.xh_place.specs.Moves.{accepted_on, passed_on, there_and_back};
 ghost use Rattle.xh_place.specs.inner.Lists.{AreBack, CameBack, lens};
-ghost use Rattle.xh_place.specs.inner.Lots.{HasNow, LotDoes, with_done};
+ghost use Rattle.xh_place.specs.inner.Lots.{HasNow, LotDoes, SeatSaw, SeatSeesMore, with_done};
+ghost use Rattle.xh_place.specs.Seen.{IsElsewhere};
 ghost use Rattle.xh_place.specs.declared.body.Body.{Body};
 ghost use Rattle.xh_core.specs.declared.header.Kind.TheVariants as kind;
 ghost use Rattle.xh_place.specs.Bodies.{away, content_of, kind_of, fits_in};
@@ -39,6 +40,7 @@ pub(crate) fn pass_all(
     requires few { length given.now ≤ MAX_BLOCKS }
     requires held { (r : ℕ) → Among given.now r → (l : LotOf Body) × (value_at r seat.old.lots ≡ Some l) × IsBlock seat.old.shape r l }
     ensures passed { HasNow (with_done (passed_on seat.old.process direction given.now) seat.old) seat.new.lots seat.new }
+    ensures seen { SeatSeesMore seat.old seat.new }
     ensures gone { (r : ℕ) → Among given.now r → value_at r seat.new.lots ≡ None }
     ensures others { (r : ℕ) → (Among given.now r → ⊥) → value_at r seat.new.lots ≡ value_at r seat.old.lots }
     ensures bytes { result ≡ lens given.now (λ r. value_at r seat.old.lots) }
@@ -60,7 +62,8 @@ fn accept_into(
 ) -> u32
     requires own { IsSeatOf records.now seat.old × IsRecord records.now.shape r × (direction < DIRECTIONS) }
     requires room { length back.old.items < MAX_BLOCKS }
-    ensures { CameBack direction r seat.old seat.new back.old.items back.new.items result }
+    ensures came { CameBack direction r seat.old seat.new back.old.items back.new.items result }
+    ensures seen { SeatSeesMore seat.old seat.new }
 {
     let Ok(header) = accept_block(records, seat, r, direction) else {
         return 0;
@@ -82,6 +85,8 @@ pub(crate) fn accept_back(
     requires gone { (r : ℕ) → Among given.now r → value_at r seat.old.lots ≡ None }
     requires records { (r : ℕ) → Among given.now r → IsRecord records.now.shape r }
     ensures came { HasNow (with_done (accepted_on seat.old.process direction result.0.items) seat.old) seat.new.lots seat.new }
+    ensures lost { (r : ℕ) → Among given.now r → (Among result.0.items r → ⊥) → IsElsewhere (SeatSaw seat.old seat.new) direction r }
+    ensures seen { SeatSeesMore seat.old seat.new }
     ensures back { AreBack given.now result.0.items seat.new }
     ensures others { (r : ℕ) → (Among given.now r → ⊥) → value_at r seat.new.lots ≡ value_at r seat.old.lots }
     ensures bytes { result.1 ≡ lens given.now (λ r. value_at r seat.new.lots) }
@@ -118,6 +123,7 @@ fn post<R: Wait, V, G: Gate>(
     requires held { (r : ℕ) → Among given.now.items r → (l : LotOf Body) × (value_at r seat.old.lots ≡ Some l) × IsBlock seat.old.shape r l }
     ensures direction { (result.1 ≡ away (item_in (value_at e seat.old.lots)).content) × (result.1 < DIRECTIONS) }
     ensures passed { HasNow (with_done (passed_on seat.old.process result.1 given.now.items) seat.old) seat.new.lots seat.new }
+    ensures seen { SeatSeesMore seat.old seat.new }
     ensures end { (l : LotOf Body) → value_at e seat.old.lots ≡ Some l → (m : LotOf Body) × (value_at e seat.new.lots ≡ Some m) × LotDoes (Puts tag given.now result.0) l m × IsBlock seat.old.shape e m }
     ensures gone { (r : ℕ) → Among given.now.items r → value_at r seat.new.lots ≡ None }
     ensures others { (r : ℕ) → (Among given.now.items r → ⊥) → e ≢ r → value_at r seat.new.lots ≡ value_at r seat.old.lots }
@@ -151,6 +157,9 @@ pub(crate) fn give_all<R: Wait, V, G: Gate>(
     ensures lost { result.lost ≡ lens given.now.items (λ r. value_at r seat.old.lots) }
     ensures gained { result.gained ≡ lens given.now.items (λ r. value_at r seat.new.lots) }
     ensures sent { OnOk result.put (result.back.items ≡ []) }
+    ensures missed { OnErr result.put ((r : ℕ) → Among given.now.items r → (Among result.back.items r → ⊥)
+        → IsElsewhere (SeatSaw seat.old seat.new) (away (item_in (value_at e seat.old.lots)).content) r) }
+    ensures seen { SeatSeesMore seat.old seat.new }
 {
     let (put, direction, lost) = post(desk, seat, e, tag, given);
     let Err(unsent) = put else {

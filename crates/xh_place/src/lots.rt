@@ -7,8 +7,9 @@ ghost use Rattle.xh_model.specs.Keyed.{Among, keys, value_at, put, without};
 ghost use Rattle.xh_records.specs.Showing.{IsLotOf, IsFull};
 ghost use Rattle.xh_records.specs.Seats.{IsSeatOf, IsRecord, did, with_lots};
 ghost use Rattle.xh_model.specs.declared.limits.TheConstants.{DIRECTIONS, MAX_BYTES, MAX_RECORDS, UNIT};
-ghost use Rattle.xh_place.specs.inner.Lots.{HasNow, IsCut, IsData};
+ghost use Rattle.xh_place.specs.inner.Lots.{HasNow, IsCut, IsData, SeatFull, SeatSaw, SeatSeesMore};
 ghost use Rattle.xh_place.specs.Desk.{IsSameDesk, IsSeatAt};
+ghost use Rattle.xh_place.specs.Splitting.{IsUncut};
 ghost use Rattle.xh_place.specs.Tallies.{gave, took};
 ghost use Rattle.xh_place.specs.Vaults.{IsNoBlock, IsRefusedAt};
 ghost use Rattle.xh_place.specs.inner.Answers.{reason_of};
@@ -144,7 +145,8 @@ pub(crate) fn make_block<R, V: Vaults, G: Gate>(
         × (l.len ≡ n) × (content_of l.body ≡ bytes (replicate n 0))) }
     ensures taken { OnOk result (desk.new.tallies.now ≡ took arena n desk.old.tallies.now) }
     ensures refused { OnErr result (HasNow seat.old seat.old.lots seat.new × (desk.new.tallies.now ≡ desk.old.tallies.now)) }
-    ensures why { IfErr result (IsNoBlock V.changes desk.old.vaults.now desk.new.vaults.now arena n) }
+    ensures why { IfErr result (IsNoBlock V.changes desk.old.vaults.now desk.new.vaults.now arena n (SeatFull seat.old seat.new arena)) }
+    ensures seen { SeatSeesMore seat.old seat.new }
 {
     let Ok(r) = desk.records.claim(seat, arena) else {
         return Err(Reason::NoRecord);
@@ -174,6 +176,7 @@ pub(crate) fn give_up<R, V: Vaults, G: Gate>(
     requires held { (l : LotOf Body) × (value_at r seat.old.lots ≡ Some l) × IsBlock seat.old.shape r l }
     ensures same { IsSameDesk V.names V.extent desk.old desk.new }
     ensures seat { HasNow seat.old (without r seat.old.lots) seat.new }
+    ensures seen { SeatSeesMore seat.old seat.new }
     ensures back { (l : LotOf Body) → value_at r seat.old.lots ≡ Some l → (desk.new.tallies.now ≡ gave (r / MAX_RECORDS) l.len desk.old.tallies.now) × (result ≡ l.len) }
 {
     let len = empty(desk, seat, r);
@@ -186,7 +189,7 @@ pub(crate) fn give_up<R, V: Vaults, G: Gate>(
 pub(crate) fn holds(records: &Records<Body>, seat: &mut Seat<Body>, r: u16) -> bool
     requires own { IsSeatOf records.now seat.old }
     requires exist { (q : ℕ) → Among (keys seat.old.lots) q → IsRecord seat.old.shape q }
-    ensures same { HasNow seat.old seat.old.lots seat.new }
+    ensures same { HasNow seat.old seat.old.lots seat.new × SeatSeesMore seat.old seat.new }
     ensures holds { MatchBool result (Among (keys seat.old.lots) r) (Among (keys seat.old.lots) r → ⊥) }
 {
     if !records.has(r) {
@@ -230,7 +233,8 @@ pub(crate) fn accept_block(
     requires own { IsSeatOf records.now seat.old × IsRecord records.now.shape r × (direction < DIRECTIONS) }
     ensures here { IfOk result (λ s. (l : LotOf Body) × (Among (keys seat.old.lots) r → ⊥)
         × HasNow (did (Accept seat.old.process r direction) seat.old) (seat.old.lots ++ (r, l) ∷ []) seat.new × IsBlock seat.old.shape r l × (s ≡ header_of (item_of l))) }
-    ensures missing { IfErr result (λ word. (word ≢ 2 + 4 * direction) × HasNow seat.old seat.old.lots seat.new) }
+    ensures missing { IfErr result (λ word. (word ≢ 2 + 4 * direction) × HasNow seat.old seat.old.lots seat.new × SeatSaw seat.old seat.new r word) }
+    ensures seen { SeatSeesMore seat.old seat.new }
 {
     records.accept(seat, r, direction)?;
     Ok(look(records, seat, r))
@@ -246,6 +250,7 @@ pub(crate) fn pass_block(
     requires own { IsSeatOf records.now seat.old × IsRecord records.now.shape r × (direction < DIRECTIONS) }
     requires held { (l : LotOf Body) × (value_at r seat.old.lots ≡ Some l) × IsLotOf seat.old.shape r l × IsFull fits_in l }
     ensures passed { HasNow (did (Pass seat.old.process r direction) seat.old) (without r seat.old.lots) seat.new }
+    ensures seen { SeatSeesMore seat.old seat.new }
     ensures bytes { (l : LotOf Body) → value_at r seat.old.lots ≡ Some l → result ≡ l.len }
 {
     let header = look(records, seat, r);
@@ -310,7 +315,8 @@ pub(crate) fn cut_block<R, V: Vaults, G: Gate>(
     ensures tallies { desk.new.tallies.now ≡ desk.old.tallies.now }
     ensures cut { IfOk result (λ t. (l : LotOf Body) → value_at r seat.old.lots ≡ Some l → IsCut seat.old seat.new r k l t) }
     ensures refused { OnErr result (HasNow seat.old seat.old.lots seat.new × (desk.new.vaults.now ≡ desk.old.vaults.now)) }
-    ensures why { IfErr result (λ e. (e ≡ Reason.NoRecord) ⊎ (e ≡ Reason.OutOfMemory)) }
+    ensures why { IfErr result (IsUncut (SeatFull seat.old seat.new (r / MAX_RECORDS))) }
+    ensures seen { SeatSeesMore seat.old seat.new }
 {
     let Ok(t) = desk.records.claim(seat, (r / MAX_RECORDS) as u8) else {
         return Err(Reason::NoRecord);

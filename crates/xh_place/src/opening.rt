@@ -11,7 +11,7 @@ ghost use Rattle.xh_place.specs.declared.body.Body.TheVariants.{End};
 ghost use Rattle.xh_place.specs.Bodies.{fits_in};
 ghost use Rattle.xh_place.specs.Desk.{IsSameDesk, IsSeatAt};
 ghost use Rattle.xh_place.specs.Ends.{end_block};
-ghost use Rattle.xh_place.specs.inner.Lots.{HasNow};
+ghost use Rattle.xh_place.specs.inner.Lots.{HasNow, SeatFull, SeatSeesMore};
 ghost use Rattle.xh_place.specs.inner.Opening.{AreClaimed, AreEmpty, AreMade};
 ghost use Rattle.xh_place.specs.Places.{item_of};
 ghost use Rattle.xh_place.specs.Tallies.{took};
@@ -92,7 +92,8 @@ fn claim_two<G: Gate>(
 ) -> Option<(u16, u16)>
     requires own { IsSeatOf records.now seat.old }
     requires arena { arena < length seat.old.shape.names }
-    ensures { MatchOption result (HasNow seat.old seat.old.lots seat.new) (λ r. (l m : LotOf Body) × AreClaimed arena seat.old seat.new r.0 r.1 l m) }
+    ensures seen { SeatSeesMore seat.old seat.new }
+    ensures claimed { MatchOption result (HasNow seat.old seat.old.lots seat.new × SeatFull seat.old seat.new arena) (λ r. (l m : LotOf Body) × AreClaimed arena seat.old seat.new r.0 r.1 l m) }
 {
     let Ok(r) = records.claim(seat, arena) else {
         return None;
@@ -110,7 +111,8 @@ fn claim_two<G: Gate>(
 fn vacate_two(records: &Records<Body>, seat: &mut Seat<Body>, r: u16, t: u16)
     requires own { IsSeatOf records.now seat.old × IsRecord records.now.shape r × IsRecord records.now.shape t × (t ≢ r) }
     requires held { (l m : LotOf Body) × (value_at r seat.old.lots ≡ Some l) × (value_at t seat.old.lots ≡ Some m) × IsEmpty fits_in l × IsEmpty fits_in m }
-    ensures { HasNow seat.old (without r (without t seat.old.lots)) seat.new }
+    ensures free { HasNow seat.old (without r (without t seat.old.lots)) seat.new }
+    ensures seen { SeatSeesMore seat.old seat.new }
 {
     records.vacate(seat, t);
     records.vacate(seat, r);
@@ -143,7 +145,7 @@ fn fit_ends<R, V: Vaults, G>(
         → seat.new ≡ with_lots seat.old (put pair.1 (record m { len = END_BYTES; body = End high }) (put pair.0 (record l { len = END_BYTES; body = End low }) seat.old.lots))) }
     ensures taken { OnOk result (desk.new.tallies.now ≡ took (pair.0 / MAX_RECORDS) (2 * END_BYTES) desk.old.tallies.now) }
     ensures refused { IfErr result (λ u. (seat.new ≡ seat.old) × (desk.new.tallies.now ≡ desk.old.tallies.now) × (u.low ≡ low) × (u.high ≡ high)) }
-    ensures why { IfErr result (λ u. IsNoPair V.changes desk.old.vaults.now desk.new.vaults.now (pair.0 / MAX_RECORDS) (2 * END_BYTES) (V.extent desk.old.vaults.now) u.why) }
+    ensures why { IfErr result (λ u. IsNoPair V.changes desk.old.vaults.now desk.new.vaults.now (pair.0 / MAX_RECORDS) (2 * END_BYTES) ⊥ (V.extent desk.old.vaults.now) u.why) }
 {
     if desk.vaults.size() < 2 * END_BYTES {
         let why = Reason::NoSpace;
@@ -175,7 +177,8 @@ pub(crate) fn make_ends<R, V: Vaults, G: Gate>(
     ensures made { IfOk result (λ r. (l m : LotOf Body) × AreMade arena seat.old seat.new r.0 r.1 l m × (item_of l ≡ end_block low) × (item_of m ≡ end_block high)) }
     ensures taken { OnOk result (desk.new.tallies.now ≡ took arena (2 * END_BYTES) desk.old.tallies.now) }
     ensures refused { IfErr result (λ u. HasNow seat.old seat.old.lots seat.new × (desk.new.tallies.now ≡ desk.old.tallies.now) × (u.low ≡ low) × (u.high ≡ high)) }
-    ensures why { IfErr result (λ u. IsNoPair V.changes desk.old.vaults.now desk.new.vaults.now arena (2 * END_BYTES) (V.extent desk.old.vaults.now) u.why) }
+    ensures why { IfErr result (λ u. IsNoPair V.changes desk.old.vaults.now desk.new.vaults.now arena (2 * END_BYTES) (SeatFull seat.old seat.new arena) (V.extent desk.old.vaults.now) u.why) }
+    ensures seen { SeatSeesMore seat.old seat.new }
 {
     let Some((r, t)) = claim_two(desk.records, seat, arena, desk.gate) else {
         let why = Reason::NoRecord;

@@ -9,6 +9,7 @@ ghost use Rattle.xh_place.specs.Moves.{moves};
 ghost use Rattle.xh_model.specs.Keyed.{keys, value_at};
 ghost use Rattle.xh_place.specs.Messages.{is_listed};
 ghost use Rattle.xh_place.specs.Places.{AreBlocks, IsPlaceOf, Item, Lists, found, header_of, line, line_in, started, total_of};
+ghost use Rattle.xh_place.specs.Seen.{Stays};
 ghost use Rattle.xh_place.specs.Starts.{start, stop};
 
 mod blocks;
@@ -36,11 +37,15 @@ pub struct Place {
 impl Model for Place {
     ghost use Rattle.std.specs.Prelude.{vec_capacity};
     ghost use Rattle.xh_place.specs.Moves.{moves};
-    ghost use Rattle.xh_place.specs.Places.{PlaceOf, IsPlace, shown};
+    ghost use Rattle.xh_place.specs.Places.{IsPlace, shown};
+    ghost use Rattle.xh_place.specs.Seen.{PlaceSeen};
 
-    ghost Value = { PlaceOf };
+    ghost Value = { PlaceSeen };
 
-    ghost view = { λ p. record { table = p.seat.table; shape = p.seat.shape; process = p.seat.process; blocks = shown p.seat.lots p.list.items; state = p.state; moved = moves p.seat.done } };
+    ghost view = { λ p. record {
+      place = record { table = p.seat.table; shape = p.seat.shape; process = p.seat.process; blocks = shown p.seat.lots p.list.items; state = p.state; moved = moves p.seat.done };
+      front = p.seat.front;
+    } };
 
     ghost invariant = { λ p. IsPlace p.seat (shown p.seat.lots p.list.items) (vec_capacity p.list) p.total p.state };
 }
@@ -72,7 +77,10 @@ impl Place {
         requires empty { seat.lots ≡ [] }
         requires room { room ≡ length seat.shape.names * seat.shape.records }
         requires arenas { length seat.shape.names ≤ MAX_ARENAS }
-        ensures place { IfOk result (λ p. p ≡ record { table = seat.table; shape = seat.shape; process = seat.process; blocks = []; state = status.Vacant; moved = moves seat.done }) }
+        ensures place { IfOk result (λ p. p ≡ record {
+          place = record { table = seat.table; shape = seat.shape; process = seat.process; blocks = []; state = status.Vacant; moved = moves seat.done };
+          front = seat.front;
+        }) }
         ensures refused { IfErr result (λ e. e ≡ Refused.OutOfMemory) }
     {
         let list = Vec::with_capacity(alloc, usize::from(room))?;
@@ -86,9 +94,9 @@ impl Place {
 
     /// The place is a process's from now on: its first one, or the next, of which there are at most 128.
     pub fn start(&mut self, records: &Records<Body>)
-        requires own { IsPlaceOf records.now self.old }
-        requires free { (self.old.state ≡ status.Vacant) ⊎ ((self.old.state ≡ status.Ended) × (generation_of self.old.process + 1 < GENERATIONS)) }
-        ensures { self.new ≡ started self.old }
+        requires own { IsPlaceOf records.now self.old.place }
+        requires free { (self.old.place.state ≡ status.Vacant) ⊎ ((self.old.place.state ≡ status.Ended) × (generation_of self.old.place.process + 1 < GENERATIONS)) }
+        ensures { self.new ≡ record self.old { place = started self.old.place } }
     {
         if let Status::Ended = self.state {
             records.renew(&mut self.seat);
@@ -98,59 +106,59 @@ impl Place {
 
     /// The records of its blocks, in the order gained.
     pub fn blocks(&self) -> &[u16]
-        ensures list { result.now ≡ keys self.now.blocks }
-        ensures blocks { AreBlocks self.now.blocks }
-        ensures none { is_over self.now.state ≡ true → self.now.blocks ≡ [] }
+        ensures list { result.now ≡ keys self.now.place.blocks }
+        ensures blocks { AreBlocks self.now.place.blocks }
+        ensures none { is_over self.now.place.state ≡ true → self.now.place.blocks ≡ [] }
     {
         self.list.as_slice()
     }
 
     /// How many bytes its blocks have.
     pub fn total(&self) -> u64
-        ensures total { result ≡ total_of self.now.blocks }
-        ensures blocks { AreBlocks self.now.blocks }
+        ensures total { result ≡ total_of self.now.place.blocks }
+        ensures blocks { AreBlocks self.now.place.blocks }
     {
         self.total
     }
 
     /// The number of its latest process: the place, and 32 times the generation.
     pub fn process(&self) -> u16
-        ensures { result ≡ self.now.process }
+        ensures { result ≡ self.now.place.process }
     {
         self.seat.process()
     }
 
     /// How far its process has come.
     pub fn state(&self) -> Status
-        ensures { result ≡ self.now.state }
+        ensures { result ≡ self.now.place.state }
     {
         self.state
     }
 
     // Whether the record is one of the list.
     fn has(&mut self, records: &Records<Body>, r: u16) -> bool
-        requires own { IsPlaceOf records.now self.old }
-        ensures same { self.new ≡ self.old }
-        ensures has { result ≡ is_listed self.old.blocks r }
+        requires own { IsPlaceOf records.now self.old.place }
+        ensures same { Stays self.old self.new }
+        ensures has { result ≡ is_listed self.old.place.blocks r }
     {
         holds(records, &mut self.seat, r)
     }
 
     // The length and kind of a block of the list.
     fn look(&mut self, records: &Records<Body>, r: u16) -> Header
-        requires own { IsPlaceOf records.now self.old }
-        requires listed { (x : Item) × (value_at r self.old.blocks ≡ Some x) }
-        ensures same { self.new ≡ self.old }
-        ensures header { Some result ≡ found self.old r }
+        requires own { IsPlaceOf records.now self.old.place }
+        requires listed { (x : Item) × (value_at r self.old.place.blocks ≡ Some x) }
+        ensures same { Stays self.old self.new }
+        ensures header { Some result ≡ found self.old.place r }
     {
         look(records, &mut self.seat, r)
     }
 
     /// The length and kind of a block of the list; of any other record None.
     pub fn header(&mut self, records: &Records<Body>, r: u16) -> Option<Header>
-        requires own { IsPlaceOf records.now self.old }
-        ensures same { self.new ≡ self.old }
-        ensures header { result ≡ found self.old r }
+        requires own { IsPlaceOf records.now self.old.place }
+        ensures same { Stays self.old self.new }
+        ensures header { result ≡ found self.old.place r }
     {
         if !self.has(records, r) {
             return None;
@@ -159,7 +167,7 @@ impl Place {
     }
 
     fn count(&self) -> usize
-        ensures { result ≡ length self.now.blocks }
+        ensures { result ≡ length self.now.place.blocks }
     {
         self.list.len()
     }
@@ -167,11 +175,11 @@ impl Place {
     /// Gives the seat, which holds the blocks of the list and no others, and what the ledger says of the
     /// place, unless nobody has had it.
     pub fn end(self) -> (Seat<Body>, Option<PlaceLine>)
-        ensures same { (result.0.table ≡ self.table) × (result.0.shape ≡ self.shape) × (result.0.process ≡ self.process) }
-        ensures lists { Lists result.0 self.blocks }
-        ensures moved { moves result.0.done ≡ self.moved }
-        ensures nothing { is_over self.state ≡ true → result.0.lots ≡ [] }
-        ensures line { result.1 ≡ line_in self.state (line self) }
+        ensures same { (result.0.table ≡ self.place.table) × (result.0.shape ≡ self.place.shape) × (result.0.process ≡ self.place.process) × (result.0.front ≡ self.front) }
+        ensures lists { Lists result.0 self.place.blocks }
+        ensures moved { moves result.0.done ≡ self.place.moved }
+        ensures nothing { is_over self.place.state ≡ true → result.0.lots ≡ [] }
+        ensures line { result.1 ≡ line_in self.place.state (line self.place) }
     {
         let line = self.line();
         let Place {
@@ -188,7 +196,7 @@ impl Place {
 
     // What the ledger says of it.
     fn line(&self) -> PlaceLine
-        ensures { result ≡ line self.now }
+        ensures { result ≡ line self.now.place }
     {
         let glance = Glance {
             process: self.seat.process(),

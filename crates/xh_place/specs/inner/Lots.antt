@@ -4,6 +4,8 @@ use Rattle.xh_arena.specs.Views.{LotOf}
 use Rattle.xh_model.specs.declared.limits.TheConstants.{MAX_RECORDS}
 use Rattle.xh_model.specs.declared.event.Event.{Event}
 use Rattle.xh_model.specs.Keyed.{Among, keys, put}
+use Rattle.xh_model.specs.Slots.{index_of}
+use Rattle.xh_records.specs.History.{StartsWith}
 use Rattle.xh_records.specs.Seats.{Held, with_lots}
 use Rattle.xh_channel.specs.Queues.{Posted}
 use Rattle.xh_place.specs.declared.body.Body.{Body}
@@ -12,6 +14,7 @@ use Rattle.xh_core.specs.declared.header.Kind.TheVariants as kind
 use Rattle.xh_place.specs.Bodies.{content_of, fits_in, front, kind_of, rest}
 use Rattle.xh_place.specs.Moves.{moves}
 use Rattle.xh_place.specs.Places.{IsBlock}
+use Rattle.xh_place.specs.Seen.{SawAt, SawFull}
 
 -- a seat, of whose events only the passes and accepts count, and not what it has seen of others
 abbrev pub bare : Held Body → Held Body
@@ -24,6 +27,17 @@ with_done es seat = record seat { done = seat.done ++ es }
 -- the seat has these lots now, and passed and accepted nothing, and all else but its other events and what it has seen is as it was
 abbrev pub HasNow : Held Body → List (ℕ × LotOf Body) → Held Body → Type 0
 HasNow old lots new = bare new ≡ with_lots (bare old) lots
+
+-- what was seen stays seen
+abbrev pub SeatSeesMore : Held Body → Held Body → Type 0
+SeatSeesMore old new = StartsWith new.front old.front
+
+-- the seat saw this word at the record r at a step of this call, or that no record of the arena was free
+abbrev pub SeatSaw : Held Body → Held Body → ℕ → ℕ → Type 0
+SeatSaw old new r word = SawAt old.shape old.front new.front (index_of old.shape.records r) word
+
+abbrev pub SeatFull : Held Body → Held Body → ℕ → Type 0
+SeatFull old new arena = SawFull old.shape old.front new.front arena
 
 -- a data block's lot: a buffer of its length, which isn't 0
 abbrev pub IsData : LotOf Body → Type 0

@@ -1,5 +1,5 @@
 //! Data blocks of a place.
-ghost use Rattle.std.specs.Prelude.{◌≡◌, ◌⊎◌, ℕ, ◌+◌, ◌/◌, ◌%◌, ◌<◌, ◌≤◌, ◌∷◌, ◌++◌, length, Some, Err, IfErr, OnErr, MatchOption};
+ghost use Rattle.std.specs.Prelude.{◌≡◌, ℕ, ◌+◌, ◌/◌, ◌%◌, ◌<◌, ◌≤◌, ◌∷◌, ◌++◌, length, Some, Err, IfErr, OnErr, MatchOption};
 ghost use Rattle.xh_core.specs.Calls.{alloc_tests, data_tests, range_tests, split_tests};
 ghost use Rattle.xh_core.specs.Headers.{len_in};
 ghost use Rattle.xh_core.specs.Refusing.{Tested, first_refusal};
@@ -13,6 +13,8 @@ ghost use Rattle.xh_place.specs.Bodies.{bytes, kind_of};
 ghost use Rattle.xh_place.specs.Calls.{Allocates, Frees, Reads, Splits, Writes};
 ghost use Rattle.xh_place.specs.Desk.{HasVaults, IsAt, IsSameDesk, StaysAt};
 ghost use Rattle.xh_place.specs.Places.{Item, IsPlaceOf, found, total_of, with_blocks};
+ghost use Rattle.xh_place.specs.Seen.{Becomes, FindsFull, Stays};
+ghost use Rattle.xh_place.specs.Splitting.{IsUncut};
 ghost use Rattle.xh_place.specs.Starts.{start};
 ghost use Rattle.xh_place.specs.Tallies.{gave};
 ghost use Rattle.xh_place.specs.Vaults.{IsNoBlock};
@@ -51,11 +53,12 @@ impl Place {
         n: u32,
         arena: u32,
     ) -> Result<Block, Refused>
-        requires at { IsAt V.names desk.old self.old }
+        requires at { IsAt V.names desk.old self.old.place }
         ensures same { StaysAt V.names V.extent desk.old desk.new self.old self.new }
-        ensures made { Allocates n arena self.old self.new desk.old.tallies.now desk.new.tallies.now result }
-        ensures why { MatchOption (first_refusal (start self.old.state ++ alloc_tests arena (length self.old.shape.names) n (V.extent desk.old.vaults.now)))
-            (IfErr result (IsNoBlock V.changes desk.old.vaults.now desk.new.vaults.now arena (rounded n))) (λ refused. (result ≡ Err refused) × (desk.new.vaults.now ≡ desk.old.vaults.now)) }
+        ensures made { Allocates n arena self.old.place self.new.place desk.old.tallies.now desk.new.tallies.now result }
+        ensures why { MatchOption (first_refusal (start self.old.place.state ++ alloc_tests arena (length self.old.place.shape.names) n (V.extent desk.old.vaults.now)))
+            (IfErr result (IsNoBlock V.changes desk.old.vaults.now desk.new.vaults.now arena (rounded n) (FindsFull self.old self.new arena)))
+            (λ refused. (result ≡ Err refused) × (desk.new.vaults.now ≡ desk.old.vaults.now)) }
     {
         check_start(self.state)?;
         if arena >= u32::from(desk.vaults.arenas()) {
@@ -78,12 +81,12 @@ impl Place {
         desk: &mut Desk<'_, R, V, G>,
         r: u16,
     ) -> u32
-        requires at { IsAt V.names desk.old self.old }
-        requires listed { (x : Item) × (value_at r self.old.blocks ≡ Some x) }
+        requires at { IsAt V.names desk.old self.old.place }
+        requires listed { (x : Item) × (value_at r self.old.place.blocks ≡ Some x) }
         ensures same { IsSameDesk V.names V.extent desk.old desk.new }
-        ensures list { self.new ≡ with_blocks self.old (without r self.old.blocks) }
-        ensures once { Distinct (keys self.old.blocks) }
-        ensures bytes { (result ≡ len_in (found self.old r)) × (result + total_of self.new.blocks ≡ total_of self.old.blocks) }
+        ensures list { Becomes (with_blocks self.old.place (without r self.old.place.blocks)) self.old self.new }
+        ensures once { Distinct (keys self.old.place.blocks) }
+        ensures bytes { (result ≡ len_in (found self.old.place r)) × (result + total_of self.new.place.blocks ≡ total_of self.old.place.blocks) }
         ensures back { (desk.new.tallies.now ≡ gave (r / MAX_RECORDS) result desk.old.tallies.now) × HasGivenBack result desk.old.tallies.now desk.new.tallies.now }
     {
         remove(&mut self.list, r);
@@ -94,9 +97,9 @@ impl Place {
 
     // The tests of a call on a data block.
     fn test_data(&mut self, records: &Records<Body>, r: u16) -> Result<Header, Refused>
-        requires own { IsPlaceOf records.now self.old }
-        ensures same { self.new ≡ self.old }
-        ensures tested { Tested (start self.old.state ++ data_tests (found self.old r)) result (λ s. found self.old r ≡ Some s) }
+        requires own { IsPlaceOf records.now self.old.place }
+        ensures same { Stays self.old self.new }
+        ensures tested { Tested (start self.old.place.state ++ data_tests (found self.old.place r)) result (λ s. found self.old.place r ≡ Some s) }
     {
         check_start(self.state())?;
         let Some(header) = self.header(records, r) else {
@@ -114,11 +117,11 @@ impl Place {
         desk: &mut Desk<'_, R, V, G>,
         r: u16,
     ) -> Result<u32, Refused>
-        requires at { IsAt V.names desk.old self.old }
+        requires at { IsAt V.names desk.old self.old.place }
         ensures same { StaysAt V.names V.extent desk.old desk.new self.old self.new }
-        ensures freed { Frees r self.old self.new desk.old.tallies.now desk.new.tallies.now result }
+        ensures freed { Frees r self.old.place self.new.place desk.old.tallies.now desk.new.tallies.now result }
         ensures untouched { OnErr result (desk.new.vaults.now ≡ desk.old.vaults.now) }
-        ensures bytes { Tested (start self.old.state ++ data_tests (found self.old r)) result (λ n. n ≡ len_in (found self.old r)) }
+        ensures bytes { Tested (start self.old.place.state ++ data_tests (found self.old.place r)) result (λ n. n ≡ len_in (found self.old.place r)) }
     {
         self.test_data(desk.records, r)?;
         Ok(self.give_up(desk, r))
@@ -132,10 +135,10 @@ impl Place {
         at: u32,
         count: usize,
     ) -> Result<(), Refused>
-        requires own { IsPlaceOf records.now self.old }
-        ensures same { self.new ≡ self.old }
-        ensures tested { Tested (start self.old.state ++ range_tests (found self.old r) at count) result
-            (λ _. (x : Item) × (value_at r self.old.blocks ≡ Some x) × (kind_of x.content ≡ kind.Data) × (at + count ≤ x.len)) }
+        requires own { IsPlaceOf records.now self.old.place }
+        ensures same { Stays self.old self.new }
+        ensures tested { Tested (start self.old.place.state ++ range_tests (found self.old.place r) at count) result
+            (λ _. (x : Item) × (value_at r self.old.place.blocks ≡ Some x) × (kind_of x.content ≡ kind.Data) × (at + count ≤ x.len)) }
     {
         let header = self.test_data(records, r)?;
         let len = header.len as usize;
@@ -156,11 +159,11 @@ impl Place {
         r: u16,
         k: u32,
     ) -> Result<(Block, Block), Refused>
-        requires at { HasVaults V.names desk.old self.old }
+        requires at { HasVaults V.names desk.old self.old.place }
         ensures same { StaysAt V.names V.extent desk.old desk.new self.old self.new }
-        ensures cut { Splits r k self.old self.new desk.old.tallies.now desk.new.tallies.now result }
+        ensures cut { Splits r k self.old.place self.new.place desk.old.tallies.now desk.new.tallies.now result }
         ensures untouched { OnErr result (desk.new.vaults.now ≡ desk.old.vaults.now) }
-        ensures why { MatchOption (first_refusal (start self.old.state ++ split_tests (found self.old r) k)) (IfErr result (λ e. (e ≡ Refused.NoRecord) ⊎ (e ≡ Refused.OutOfMemory)))
+        ensures why { MatchOption (first_refusal (start self.old.place.state ++ split_tests (found self.old.place r) k)) (IfErr result (IsUncut (FindsFull self.old self.new (r / MAX_RECORDS))))
             (λ refused. result ≡ Err refused) }
     {
         let len = self.test_cut(desk.records, r, k)?;
@@ -172,10 +175,10 @@ impl Place {
 
     // The tests of a split: the block's length.
     fn test_cut(&mut self, records: &Records<Body>, r: u16, k: u32) -> Result<u32, Refused>
-        requires own { IsPlaceOf records.now self.old }
-        ensures same { self.new ≡ self.old }
-        ensures tested { Tested (start self.old.state ++ split_tests (found self.old r) k) result
-            (λ n. (x : Item) × (value_at r self.old.blocks ≡ Some x) × (kind_of x.content ≡ kind.Data) × (x.len ≡ n) × IsGoodCut k n) }
+        requires own { IsPlaceOf records.now self.old.place }
+        ensures same { Stays self.old self.new }
+        ensures tested { Tested (start self.old.place.state ++ split_tests (found self.old.place r) k) result
+            (λ n. (x : Item) × (value_at r self.old.place.blocks ≡ Some x) × (kind_of x.content ≡ kind.Data) × (x.len ≡ n) × IsGoodCut k n) }
     {
         let header = self.test_data(records, r)?;
         if k == 0 || k % UNIT != 0 || k >= header.len {
@@ -193,7 +196,7 @@ impl Place {
         at: u32,
         out: &mut [u8],
     ) -> Result<(), Refused>
-        requires { IsPlaceOf records.now self.old }
+        requires { IsPlaceOf records.now self.old.place }
         ensures { Reads r at self.old self.new out.old out.new result }
     {
         self.test_range(records, r, at, out.len())?;
@@ -210,7 +213,7 @@ impl Place {
         at: u32,
         bytes: &[u8],
     ) -> Result<(), Refused>
-        requires { IsPlaceOf records.now self.old }
+        requires { IsPlaceOf records.now self.old.place }
         ensures { Writes r at bytes.now self.old self.new result }
     {
         self.test_range(records, r, at, bytes.len())?;

@@ -11,7 +11,8 @@ ghost use Rattle.xh_place.specs.Desk.{IsAt, IsSameDesk, StaysAt};
 ghost use Rattle.xh_place.specs.Ending.{HasGivenBack, IsStopped, IsSwept, IsSweptBy, ending};
 ghost use Rattle.xh_place.specs.Ends.{RefusedOr, IsTooLate, ending_again};
 ghost use Rattle.xh_place.specs.inner.Reclaiming.{IsSweptLate, awake};
-ghost use Rattle.xh_place.specs.Places.{Item, IsSamePlace, total_of, with_blocks, with_list};
+ghost use Rattle.xh_place.specs.Places.{Item, total_of, with_blocks, with_list};
+ghost use Rattle.xh_place.specs.Seen.{Becomes, IsElsewhere, IsSamePlace, IsSeen, SawWord};
 ghost use Rattle.xh_place.specs.Starts.{stop};
 
 use crate::desk::Desk;
@@ -56,24 +57,24 @@ fn ending_again(state: Status, left: u16) -> Status
 impl Place {
     // The record at a place of the list.
     fn at(&self, k: usize) -> u16
-        requires { k < length self.now.blocks }
-        ensures { (x : Item) × (more : List (ℕ × Item)) × (drop k self.now.blocks ≡ (result, x) ∷ more) × (value_at result self.now.blocks ≡ Some x) }
+        requires { k < length self.now.place.blocks }
+        ensures { (x : Item) × (more : List (ℕ × Item)) × (drop k self.now.place.blocks ≡ (result, x) ∷ more) × (value_at result self.now.place.blocks ≡ Some x) }
     {
         self.list[k]
     }
 
     // How many blocks the list has from a place on. A place that is over has none.
     pub(super) fn left(&self, from: usize) -> u16
-        ensures left { result ≡ length self.now.blocks - from }
-        ensures quiet { is_over self.now.state ≡ true → self.now.blocks ≡ [] }
+        ensures left { result ≡ length self.now.place.blocks - from }
+        ensures quiet { is_over self.now.place.state ≡ true → self.now.place.blocks ≡ [] }
     {
         self.list.len().saturating_sub(from) as u16
     }
 
     // The place is in another state. One that is over has no block.
     fn set_state(&mut self, state: Status)
-        requires { is_over state ≡ true → self.old.blocks ≡ [] }
-        ensures { self.new ≡ record self.old { state = state } }
+        requires { is_over state ≡ true → self.old.place.blocks ≡ [] }
+        ensures { Becomes (record self.old.place { state = state }) self.old self.new }
     {
         self.state = state;
     }
@@ -85,12 +86,12 @@ impl Place {
         desk: &mut Desk<'_, R, V, G>,
         from: usize,
     ) -> u32
-        requires at { IsAt V.names desk.old self.old }
-        requires alive { is_over self.old.state ≢ true }
-        requires some { from < length self.old.blocks }
+        requires at { IsAt V.names desk.old self.old.place }
+        requires alive { is_over self.old.place.state ≢ true }
+        requires some { from < length self.old.place.blocks }
         ensures same { IsSameDesk V.names V.extent desk.old desk.new }
-        ensures list { self.new ≡ with_list self.old self.new }
-        ensures swept { IsSweptBy from 1 self.old self.new result }
+        ensures list { Becomes (with_list self.old.place self.new.place) self.old self.new }
+        ensures swept { IsSweptBy (IsSeen self.old self.new) from 1 self.old.place self.new.place result }
         ensures back { HasGivenBack result desk.old.tallies.now desk.new.tallies.now }
     {
         let r = self.at(from);
@@ -107,10 +108,10 @@ impl Place {
         from: usize,
         budget: u16,
     ) -> (u64, usize)
-        requires at { IsAt V.names desk.old self.old }
+        requires at { IsAt V.names desk.old self.old.place }
         ensures same { IsSameDesk V.names V.extent desk.old desk.new }
-        ensures list { self.new ≡ with_list self.old self.new }
-        ensures swept { IsSwept from budget self.old self.new result.0 result.1 }
+        ensures list { Becomes (with_list self.old.place self.new.place) self.old self.new }
+        ensures swept { IsSwept (IsSeen self.old self.new) from budget self.old.place self.new.place result.0 result.1 }
         ensures back { HasGivenBack result.0 desk.old.tallies.now desk.new.tallies.now }
     {
         let mut bytes = 0;
@@ -129,9 +130,9 @@ impl Place {
         desk: &mut Desk<'_, R, V, G>,
         budget: u16,
     ) -> Result<u64, Refused>
-        requires at { IsAt V.names desk.old self.old }
+        requires at { IsAt V.names desk.old self.old.place }
         ensures same { StaysAt V.names V.extent desk.old desk.new self.old self.new }
-        ensures stopped { RefusedOr (stop self.old.state) result ((self.new ≡ self.old) × (desk.new.tallies.now ≡ desk.old.tallies.now))
+        ensures stopped { RefusedOr (stop self.old.place.state) result ((self.new.place ≡ self.old.place) × (desk.new.tallies.now ≡ desk.old.tallies.now))
             ((bytes : ℕ) × IsStopped budget self.old self.new bytes result × HasGivenBack bytes desk.old.tallies.now desk.new.tallies.now) }
     {
         check_stop(self.state())?;
@@ -149,12 +150,12 @@ impl Place {
         r: u16,
         direction: u8,
     )
-        requires at { IsAt V.names desk.old self.old × IsRecord desk.old.records.now.shape r × (direction < DIRECTIONS) }
-        requires taken { self.old.state ≢ status.Vacant }
+        requires at { IsAt V.names desk.old self.old.place × IsRecord desk.old.records.now.shape r × (direction < DIRECTIONS) }
+        requires taken { self.old.place.state ≢ status.Vacant }
         ensures same { IsSameDesk V.names V.extent desk.old desk.new }
         ensures place { IsSamePlace self.old self.new }
-        ensures swept { ((self.new ≡ self.old) × (desk.new.tallies.now ≡ desk.old.tallies.now))
-            ⊎ ((bytes : ℕ) × IsTooLate direction r self.old self.new bytes × HasGivenBack bytes desk.old.tallies.now desk.new.tallies.now) }
+        ensures swept { ((self.new.place ≡ self.old.place) × (desk.new.tallies.now ≡ desk.old.tallies.now) × IsElsewhere (SawWord self.old self.new) direction r)
+            ⊎ ((bytes : ℕ) × IsTooLate (IsSeen self.old self.new) direction r self.old.place self.new.place bytes × HasGivenBack bytes desk.old.tallies.now desk.new.tallies.now) }
     {
         let state = self.state();
         self.wake();
@@ -164,9 +165,9 @@ impl Place {
 
     // A process that had ended is ending again.
     fn wake(&mut self)
-        requires { self.old.state ≢ status.Vacant }
-        ensures woken { self.new ≡ record self.old { state = awake self.old.state } }
-        ensures quiet { self.old.state ≡ status.Ended → self.old.blocks ≡ [] }
+        requires { self.old.place.state ≢ status.Vacant }
+        ensures woken { Becomes (record self.old.place { state = awake self.old.place.state }) self.old self.new }
+        ensures quiet { self.old.place.state ≡ status.Ended → self.old.place.blocks ≡ [] }
     {
         if self.state == Status::Ended {
             self.state = Status::Ending;
@@ -180,12 +181,12 @@ impl Place {
         r: u16,
         direction: u8,
     )
-        requires at { IsAt V.names desk.old self.old × IsRecord desk.old.records.now.shape r × (direction < DIRECTIONS) }
-        requires alive { is_over self.old.state ≢ true }
+        requires at { IsAt V.names desk.old self.old.place × IsRecord desk.old.records.now.shape r × (direction < DIRECTIONS) }
+        requires alive { is_over self.old.place.state ≢ true }
         ensures same { IsSameDesk V.names V.extent desk.old desk.new }
         ensures place { IsSamePlace self.old self.new }
-        ensures swept { ((self.new ≡ self.old) × (desk.new.tallies.now ≡ desk.old.tallies.now))
-            ⊎ ((bytes : ℕ) × IsSweptLate direction r self.old self.new bytes × HasGivenBack bytes desk.old.tallies.now desk.new.tallies.now) }
+        ensures swept { ((self.new.place ≡ self.old.place) × (desk.new.tallies.now ≡ desk.old.tallies.now) × IsElsewhere (SawWord self.old self.new) direction r)
+            ⊎ ((bytes : ℕ) × IsSweptLate (IsSeen self.old self.new) direction r self.old.place self.new.place bytes × HasGivenBack bytes desk.old.tallies.now desk.new.tallies.now) }
     {
         let from = self.count();
         let Ok(_block) = self.accept(desk.records, r, direction) else {

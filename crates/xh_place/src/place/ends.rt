@@ -18,6 +18,7 @@ ghost use Rattle.xh_place.specs.Ends.{Accepts, EndDoes, IsUnopened, Opens, Refus
 ghost use Rattle.xh_place.specs.inner.Reclaiming.{Clears, Drains};
 ghost use Rattle.xh_place.specs.Places.{Item, IsPlaceOf, found, with_blocks, with_less};
 ghost use Rattle.xh_model.specs.declared.limits.TheConstants.{DIRECTIONS, END_BYTES};
+ghost use Rattle.xh_place.specs.Seen.{Becomes, FindsFull, IsSeen, SeesMore, Stays};
 ghost use Rattle.xh_place.specs.Starts.{start};
 ghost use Rattle.xh_place.specs.Vaults.{IsNoPair};
 
@@ -40,10 +41,10 @@ use xh_records::Records;
 impl Place {
     // The tests of a call on an endpoint.
     pub(super) fn test_end(&mut self, records: &Records<Body>, e: u16) -> Result<(), Refused>
-        requires own { IsPlaceOf records.now self.old }
-        ensures same { self.new ≡ self.old }
-        ensures tested { Tested (start self.old.state ++ end_tests (found self.old e)) result
-            (λ _. (self.old.state ≡ status.Running) × ((x : Item) × (value_at e self.old.blocks ≡ Some x) × (kind_of x.content ≡ kind.End))) }
+        requires own { IsPlaceOf records.now self.old.place }
+        ensures same { Stays self.old self.new }
+        ensures tested { Tested (start self.old.place.state ++ end_tests (found self.old.place e)) result
+            (λ _. (self.old.place.state ≡ status.Running) × ((x : Item) × (value_at e self.old.place.blocks ≡ Some x) × (kind_of x.content ≡ kind.End))) }
     {
         check_start(self.state())?;
         let Some(header) = self.header(records, e) else {
@@ -57,9 +58,9 @@ impl Place {
 
     /// The channel and side of an endpoint of the list; of any other record None.
     pub fn spot(&mut self, records: &Records<Body>, r: u16) -> Option<Spot>
-        requires own { IsPlaceOf records.now self.old }
-        ensures same { self.new ≡ self.old }
-        ensures spot { MatchOption result (has_end (found self.old r) ≡ false) (λ s. (x : Item) × (value_at r self.old.blocks ≡ Some x) × IsEndAt x.content s.channel s.side) }
+        requires own { IsPlaceOf records.now self.old.place }
+        ensures same { Stays self.old self.new }
+        ensures spot { MatchOption result (has_end (found self.old.place r) ≡ false) (λ s. (x : Item) × (value_at r self.old.place.blocks ≡ Some x) × IsEndAt x.content s.channel s.side) }
     {
         let Some(
             Header {
@@ -75,10 +76,10 @@ impl Place {
 
     // The channel and side of an endpoint of the list.
     fn spot_of(&mut self, records: &Records<Body>, e: u16) -> Spot
-        requires own { IsPlaceOf records.now self.old }
-        requires end { (x : Item) × (value_at e self.old.blocks ≡ Some x) × (kind_of x.content ≡ kind.End) }
-        ensures same { self.new ≡ self.old }
-        ensures spot { (x : Item) → value_at e self.old.blocks ≡ Some x → IsEndAt x.content result.channel result.side }
+        requires own { IsPlaceOf records.now self.old.place }
+        requires end { (x : Item) × (value_at e self.old.place.blocks ≡ Some x) × (kind_of x.content ≡ kind.End) }
+        ensures same { Stays self.old self.new }
+        ensures spot { (x : Item) → value_at e self.old.place.blocks ≡ Some x → IsEndAt x.content result.channel result.side }
     {
         spot_at(records, &mut self.seat, e)
     }
@@ -92,12 +93,12 @@ impl Place {
         high: Endpoint,
         arena: u32,
     ) -> Result<(Block, Block), Unopened>
-        requires at { IsAt V.names desk.old self.old }
+        requires at { IsAt V.names desk.old self.old.place }
         requires fresh { IsPair low high }
         ensures same { StaysAt V.names V.extent desk.old desk.new self.old self.new }
-        ensures opened { Opens arena low high self.old self.new desk.old.tallies.now desk.new.tallies.now result }
-        ensures why { IsUnopened (start self.old.state ++ arena_tests arena (length self.old.shape.names)) (desk.new.vaults.now ≡ desk.old.vaults.now)
-            (IsNoPair V.changes desk.old.vaults.now desk.new.vaults.now arena (2 * END_BYTES) (V.extent desk.old.vaults.now)) result }
+        ensures opened { Opens arena low high self.old.place self.new.place desk.old.tallies.now desk.new.tallies.now result }
+        ensures why { IsUnopened (start self.old.place.state ++ arena_tests arena (length self.old.place.shape.names)) (desk.new.vaults.now ≡ desk.old.vaults.now)
+            (IsNoPair V.changes desk.old.vaults.now desk.new.vaults.now arena (2 * END_BYTES) (FindsFull self.old self.new arena) (V.extent desk.old.vaults.now)) result }
     {
         if let Err(why) = check_start(self.state) {
             return Err(Unopened { why, low, high });
@@ -123,31 +124,31 @@ impl Place {
         high: Endpoint,
         arena: u32,
     ) -> Result<(Block, Block), Unopened>
-        requires at { IsAt V.names desk.old self.old }
+        requires at { IsAt V.names desk.old self.old.place }
         requires fresh { IsPair low high × (low.has_contract ≡ true) }
         ensures same { StaysAt V.names V.extent desk.old desk.new self.old self.new }
-        ensures opened { Opens arena low high self.old self.new desk.old.tallies.now desk.new.tallies.now result }
-        ensures why { IsUnopened (start self.old.state ++ arena_tests arena (length self.old.shape.names)) (desk.new.vaults.now ≡ desk.old.vaults.now)
-            (IsNoPair V.changes desk.old.vaults.now desk.new.vaults.now arena (2 * END_BYTES) (V.extent desk.old.vaults.now)) result }
+        ensures opened { Opens arena low high self.old.place self.new.place desk.old.tallies.now desk.new.tallies.now result }
+        ensures why { IsUnopened (start self.old.place.state ++ arena_tests arena (length self.old.place.shape.names)) (desk.new.vaults.now ≡ desk.old.vaults.now)
+            (IsNoPair V.changes desk.old.vaults.now desk.new.vaults.now arena (2 * END_BYTES) (FindsFull self.old self.new arena) (V.extent desk.old.vaults.now)) result }
     {
         self.open(desk, low, high, arena)
     }
 
     /// An endpoint of the list is in flight on the direction from now on.
     pub fn pass_end(&mut self, records: &Records<Body>, r: u16, direction: u8)
-        requires own { IsPlaceOf records.now self.old × (direction < DIRECTIONS) }
-        requires running { self.old.state ≡ status.Running }
-        requires end { has_end (found self.old r) ≡ true }
-        ensures { self.new ≡ with_less direction r self.old }
+        requires own { IsPlaceOf records.now self.old.place × (direction < DIRECTIONS) }
+        requires running { self.old.place.state ≡ status.Running }
+        requires end { has_end (found self.old.place r) ≡ true }
+        ensures { Becomes (with_less direction r self.old.place) self.old self.new }
     {
         self.pass(records, r, direction);
     }
 
     // A block of the list is in flight on the direction from now on.
     fn pass(&mut self, records: &Records<Body>, r: u16, direction: u8)
-        requires own { IsPlaceOf records.now self.old × (direction < DIRECTIONS) }
-        requires listed { (x : Item) × (value_at r self.old.blocks ≡ Some x) }
-        ensures { self.new ≡ with_less direction r self.old }
+        requires own { IsPlaceOf records.now self.old.place × (direction < DIRECTIONS) }
+        requires listed { (x : Item) × (value_at r self.old.place.blocks ≡ Some x) }
+        ensures { Becomes (with_less direction r self.old.place) self.old self.new }
     {
         let len = pass_block(records, &mut self.seat, r, direction);
         remove(&mut self.list, r);
@@ -156,8 +157,8 @@ impl Place {
 
     // Whether the process runs here.
     fn is_here(&self, process: u16) -> bool
-        ensures here { result ≡ is_here self.now process }
-        ensures running { result ≡ true → self.now.state ≡ status.Running }
+        ensures here { result ≡ is_here self.now.place process }
+        ensures running { result ≡ true → self.now.place.state ≡ status.Running }
     {
         self.state() == Status::Running && self.seat.process() == process
     }
@@ -171,7 +172,7 @@ impl Place {
         r: u16,
         direction: u8,
     ) -> Result<Block, Refused>
-        requires at { IsAt V.names desk.old self.old × IsRecord desk.old.records.now.shape r × (direction < DIRECTIONS) }
+        requires at { IsAt V.names desk.old self.old.place × IsRecord desk.old.records.now.shape r × (direction < DIRECTIONS) }
         ensures same { StaysAt V.names V.extent desk.old desk.new self.old self.new }
         ensures accepted { Accepts process r direction self.old self.new desk.old.tallies.now desk.new.tallies.now result }
     {
@@ -195,9 +196,9 @@ impl Place {
         desk: &mut Desk<'_, R, V, G>,
         e: u16,
     ) -> Result<u64, Refused>
-        requires at { IsAt V.names desk.old self.old }
+        requires at { IsAt V.names desk.old self.old.place }
         ensures same { StaysAt V.names V.extent desk.old desk.new self.old self.new }
-        ensures closed { RefusedOr (start self.old.state ++ end_tests (found self.old e)) result ((self.new ≡ self.old) × (desk.new.tallies.now ≡ desk.old.tallies.now))
+        ensures closed { RefusedOr (start self.old.place.state ++ end_tests (found self.old.place e)) result ((self.new.place ≡ self.old.place) × (desk.new.tallies.now ≡ desk.old.tallies.now))
             ((bytes : ℕ) × IsClosed e self.old self.new bytes result × HasGivenBack bytes desk.old.tallies.now desk.new.tallies.now) }
     {
         self.test_end(desk.records, e)?;
@@ -209,8 +210,8 @@ impl Place {
 
     // A block of the list goes to its end.
     fn move_last(&mut self, r: u16)
-        requires { (x : Item) × (value_at r self.old.blocks ≡ Some x) }
-        ensures { self.new ≡ with_blocks self.old (last r self.old.blocks) }
+        requires { (x : Item) × (value_at r self.old.place.blocks ≡ Some x) }
+        ensures { Becomes (with_blocks self.old.place (last r self.old.place.blocks)) self.old self.new }
     {
         remove(&mut self.list, r);
         self.list.push_reserved(r);
@@ -218,19 +219,21 @@ impl Place {
 
     // Shuts an endpoint of the list.
     fn shut<R: Wait, V, G>(&mut self, desk: &Desk<'_, R, V, G>, e: u16)
-        requires own { IsPlaceOf desk.now.records.now self.old }
-        requires end { (x : Item) × (value_at e self.old.blocks ≡ Some x) × (kind_of x.content ≡ kind.End) }
-        ensures { EndDoes e self.old self.new Shuts }
+        requires own { IsPlaceOf desk.now.records.now self.old.place }
+        requires end { (x : Item) × (value_at e self.old.place.blocks ≡ Some x) × (kind_of x.content ≡ kind.End) }
+        ensures shut { EndDoes e self.old.place self.new.place Shuts }
+        ensures seen { SeesMore self.old self.new }
     {
         shut_at(desk, &mut self.seat, e);
     }
 
     // Takes all that waits for an endpoint of the list, with its blocks, at the end of the list.
     fn drain<R: Wait, V, G: Gate>(&mut self, desk: &Desk<'_, R, V, G>, e: u16)
-        requires own { IsPlaceOf desk.now.records.now self.old }
-        requires alive { is_over self.old.state ≢ true }
-        requires end { (p : Posted) × (value_at e self.old.blocks ≡ Some (end_block p)) }
-        ensures { Drains e self.old self.new }
+        requires own { IsPlaceOf desk.now.records.now self.old.place }
+        requires alive { is_over self.old.place.state ≢ true }
+        requires end { (p : Posted) × (value_at e self.old.place.blocks ≡ Some (end_block p)) }
+        ensures drained { Drains (IsSeen self.old self.new) e self.old.place self.new.place }
+        ensures seen { SeesMore self.old self.new }
     {
         for _count in 0..u64::MAX {
             match self.take_message(desk, e) {
@@ -242,10 +245,11 @@ impl Place {
 
     // An endpoint is shut, and what waits for it comes to the end of the list. A data block stays.
     pub(super) fn drain_end<R: Wait, V, G: Gate>(&mut self, desk: &Desk<'_, R, V, G>, r: u16)
-        requires own { IsPlaceOf desk.now.records.now self.old }
-        requires alive { is_over self.old.state ≢ true }
-        requires listed { (x : Item) × (value_at r self.old.blocks ≡ Some x) }
-        ensures { Clears r self.old self.new }
+        requires own { IsPlaceOf desk.now.records.now self.old.place }
+        requires alive { is_over self.old.place.state ≢ true }
+        requires listed { (x : Item) × (value_at r self.old.place.blocks ≡ Some x) }
+        ensures cleared { Clears (IsSeen self.old self.new) r self.old.place self.new.place }
+        ensures seen { SeesMore self.old self.new }
     {
         match self.look(desk.records, r).kind {
             Kind::Data => return,

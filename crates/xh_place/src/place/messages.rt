@@ -13,7 +13,8 @@ ghost use Rattle.xh_place.specs.Bodies.{kind_of};
 ghost use Rattle.xh_place.specs.Endpoints.{AreGot, IsGot, Takes, record_of};
 ghost use Rattle.xh_place.specs.Ends.{EndDoes, RefusedOr, toward_in};
 ghost use Rattle.xh_place.specs.Messages.{is_listed, IsSent, IsTaken, IsUntaken};
-ghost use Rattle.xh_place.specs.Places.{Item, IsPlaceOf, IsSamePlace, found, with_more};
+ghost use Rattle.xh_place.specs.Places.{IsWhole, Item, IsPlaceOf, found, with_more};
+ghost use Rattle.xh_place.specs.Seen.{IsSamePlace, IsSeen, SawWord, SeesMore, Stays};
 ghost use Rattle.xh_place.specs.Starts.{start};
 
 use crate::body::Body;
@@ -41,10 +42,10 @@ impl Place {
         tag: u16,
         blocks: &[u16],
     ) -> Result<u64, Refused>
-        requires own { IsPlaceOf desk.now.records.now self.old }
+        requires own { IsPlaceOf desk.now.records.now self.old.place }
         ensures place { IsSamePlace self.old self.new }
-        ensures given { RefusedOr (start self.old.state ++ end_tests (found self.old e) ++ given_tests (is_listed self.old.blocks) e blocks.now) result (self.new ≡ self.old)
-            (IsSent e tag blocks.now self.old self.new result) }
+        ensures given { RefusedOr (start self.old.place.state ++ end_tests (found self.old.place e) ++ given_tests (is_listed self.old.place.blocks) e blocks.now) result
+            (self.new.place ≡ self.old.place) (IsSent e tag blocks.now self.old self.new result) }
     {
         self.test_end(desk.records, e)?;
         let given = self.test_given(desk.records, e, blocks)?;
@@ -53,9 +54,9 @@ impl Place {
 
     // Whether each of the records is one of the list.
     fn lists_all(&mut self, records: &Records<Body>, blocks: &[u16]) -> bool
-        requires own { IsPlaceOf records.now self.old }
-        ensures same { self.new ≡ self.old }
-        ensures all { result ≡ list_all (is_listed self.old.blocks) blocks.now }
+        requires own { IsPlaceOf records.now self.old.place }
+        ensures same { Stays self.old self.new }
+        ensures all { result ≡ list_all (is_listed self.old.place.blocks) blocks.now }
     {
         for r in blocks {
             if !self.has(records, *r) {
@@ -72,9 +73,9 @@ impl Place {
         e: u16,
         blocks: &[u16],
     ) -> Result<ArrayVec<u16, 8>, Refused>
-        requires own { IsPlaceOf records.now self.old }
-        ensures same { self.new ≡ self.old }
-        ensures tested { Tested (given_tests (is_listed self.old.blocks) e blocks.now) result (λ given. given.items ≡ blocks.now) }
+        requires own { IsPlaceOf records.now self.old.place }
+        ensures same { Stays self.old self.new }
+        ensures tested { Tested (given_tests (is_listed self.old.place.blocks) e blocks.now) result (λ given. given.items ≡ blocks.now) }
     {
         let mut given = ArrayVec::new();
         let Ok(()) = given.try_extend_from_slice(blocks) else {
@@ -97,11 +98,11 @@ impl Place {
         tag: u16,
         given: &ArrayVec<u16, 8>,
     ) -> Result<u64, Refused>
-        requires own { IsPlaceOf desk.now.records.now self.old }
-        requires running { self.old.state ≡ status.Running }
-        requires end { (x : Item) × (value_at e self.old.blocks ≡ Some x) × (kind_of x.content ≡ kind.End) }
+        requires own { IsPlaceOf desk.now.records.now self.old.place }
+        requires running { self.old.place.state ≡ status.Running }
+        requires end { (x : Item) × (value_at e self.old.place.blocks ≡ Some x) × (kind_of x.content ≡ kind.End) }
         requires given { Distinct given.now.items × (Among given.now.items e → ⊥) }
-        requires listed { (r : ℕ) → Among given.now.items r → (x : Item) × (value_at r self.old.blocks ≡ Some x) }
+        requires listed { (r : ℕ) → Among given.now.items r → (x : Item) × (value_at r self.old.place.blocks ≡ Some x) }
         ensures place { IsSamePlace self.old self.new }
         ensures sent { IsSent e tag given.now.items self.old self.new result }
     {
@@ -124,11 +125,11 @@ impl Place {
         desk: &Desk<'_, R, V, G>,
         e: u16,
     ) -> Result<Taken, Refused>
-        requires own { IsPlaceOf desk.now.records.now self.old }
+        requires own { IsPlaceOf desk.now.records.now self.old.place }
         ensures place { IsSamePlace self.old self.new }
-        ensures taken { RefusedOr (start self.old.state ++ end_tests (found self.old e)) result (self.new ≡ self.old)
-            (MatchResult result (IsTaken e self.old self.new) (IsUntaken e self.old self.new)) }
-        ensures empty { IfErr result (λ u. u ≡ Refused.Empty → self.new ≡ self.old) }
+        ensures taken { RefusedOr (start self.old.place.state ++ end_tests (found self.old.place e)) result (self.new.place ≡ self.old.place)
+            (MatchResult result (IsTaken e self.old self.new) (IsUntaken e self.old.place self.new.place)) }
+        ensures empty { IfErr result (λ u. u ≡ Refused.Empty → self.new.place ≡ self.old.place) }
     {
         self.test_end(desk.records, e)?;
         self.take_message(desk, e)
@@ -140,11 +141,11 @@ impl Place {
         desk: &Desk<'_, R, V, G>,
         e: u16,
     ) -> Result<Taken, Refused>
-        requires own { IsPlaceOf desk.now.records.now self.old }
-        requires alive { is_over self.old.state ≢ true }
-        requires end { (x : Item) × (value_at e self.old.blocks ≡ Some x) × (kind_of x.content ≡ kind.End) }
+        requires own { IsPlaceOf desk.now.records.now self.old.place }
+        requires alive { is_over self.old.place.state ≢ true }
+        requires end { (x : Item) × (value_at e self.old.place.blocks ≡ Some x) × (kind_of x.content ≡ kind.End) }
         ensures place { IsSamePlace self.old self.new }
-        ensures taken { MatchResult result (IsTaken e self.old self.new) (IsUntaken e self.old self.new) }
+        ensures taken { MatchResult result (IsTaken e self.old self.new) (IsUntaken e self.old.place self.new.place) }
     {
         let (taken, direction) = self.pop(desk, e);
         let message = taken?;
@@ -160,10 +161,11 @@ impl Place {
         desk: &Desk<'_, R, V, G>,
         e: u16,
     ) -> (Result<Message, Untaken>, u8)
-        requires own { IsPlaceOf desk.now.records.now self.old }
-        requires end { (x : Item) × (value_at e self.old.blocks ≡ Some x) × (kind_of x.content ≡ kind.End) }
-        ensures took { EndDoes e self.old self.new (Takes result.0) }
-        ensures direction { (result.1 ≡ toward_in (value_at e self.old.blocks)) × (result.1 < DIRECTIONS) }
+        requires own { IsPlaceOf desk.now.records.now self.old.place }
+        requires end { (x : Item) × (value_at e self.old.place.blocks ≡ Some x) × (kind_of x.content ≡ kind.End) }
+        ensures took { EndDoes e self.old.place self.new.place (Takes result.0) }
+        ensures seen { SeesMore self.old self.new }
+        ensures direction { (result.1 ≡ toward_in (value_at e self.old.place.blocks)) × (result.1 < DIRECTIONS) }
     {
         take_at(desk, &mut self.seat, e)
     }
@@ -176,11 +178,11 @@ impl Place {
         r: u16,
         direction: u8,
     ) -> Result<Block, u64>
-        requires own { IsPlaceOf records.now self.old × IsRecord records.now.shape r × (direction < DIRECTIONS) }
-        requires alive { is_over self.old.state ≢ true }
+        requires own { IsPlaceOf records.now self.old.place × IsRecord records.now.shape r × (direction < DIRECTIONS) }
+        requires alive { is_over self.old.place.state ≢ true }
         ensures place { IsSamePlace self.old self.new }
-        ensures here { IfOk result (λ b. (b.rec ≡ r) × ((x : Item) × (x.len ≡ b.len) × (self.new ≡ with_more direction ((r, x) ∷ []) self.old))) }
-        ensures missing { IfErr result (λ word. (word ≢ 2 + 4 * direction) × (self.new ≡ self.old)) }
+        ensures here { IfOk result (λ b. (b.rec ≡ r) × ((x : Item) × (x.len ≡ b.len) × (self.new.place ≡ with_more direction ((r, x) ∷ []) self.old.place) × IsWhole x)) }
+        ensures missing { IfErr result (λ word. (word ≢ 2 + 4 * direction) × (self.new.place ≡ self.old.place) × SawWord self.old self.new r word) }
     {
         let header = accept_block(records, &mut self.seat, r, direction)?;
         let Header { len, .. } = header;
@@ -191,9 +193,10 @@ impl Place {
 
     // Takes a block of a message, at the end of the list. A record that doesn't exist is free.
     fn take_one(&mut self, records: &Records<Body>, r: u16, direction: u8) -> Got
-        requires own { IsPlaceOf records.now self.old × (direction < DIRECTIONS) }
-        requires alive { is_over self.old.state ≢ true }
-        ensures got { (ys : List (ℕ × Item)) × (self.new ≡ with_more direction ys self.old) × IsGot direction ys result }
+        requires own { IsPlaceOf records.now self.old.place × (direction < DIRECTIONS) }
+        requires alive { is_over self.old.place.state ≢ true }
+        ensures place { IsSamePlace self.old self.new }
+        ensures got { (ys : List (ℕ × Item)) × (self.new.place ≡ with_more direction ys self.old.place) × IsGot (IsSeen self.old self.new) direction ys result }
         ensures record { record_of result ≡ r }
     {
         if !records.has(r) {
@@ -212,10 +215,10 @@ impl Place {
         message: &Message,
         direction: u8,
     ) -> ArrayVec<Got, 8>
-        requires own { IsPlaceOf records.now self.old × (direction < DIRECTIONS) }
-        requires alive { is_over self.old.state ≢ true }
+        requires own { IsPlaceOf records.now self.old.place × (direction < DIRECTIONS) }
+        requires alive { is_over self.old.place.state ≢ true }
         ensures place { IsSamePlace self.old self.new }
-        ensures got { (ys : List (ℕ × Item)) × (self.new ≡ with_more direction ys self.old) × AreGot direction ys result.items }
+        ensures got { (ys : List (ℕ × Item)) × (self.new.place ≡ with_more direction ys self.old.place) × AreGot (IsSeen self.old self.new) direction ys result.items }
         ensures records { map record_of result.items ≡ message.now.blocks.items }
     {
         let mut got = ArrayVec::new();

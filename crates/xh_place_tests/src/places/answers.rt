@@ -1,4 +1,6 @@
 // Calls of two places by one thread, and what they answer, to be compared.
+use super::Measures;
+use super::many::{fill, goes_round, open_all};
 use super::pair::{Pair, make_pair};
 use std::alloc::Global;
 use std::process::Abort;
@@ -7,11 +9,12 @@ use xh_core::{Block, Refused, Status};
 use xh_place::{Got, Point, Taken};
 
 /// A call of the place whose turn it is, by records: a read is of four bytes, `ReadPart` of so many of them, a channel of
-/// arena 0, and its contract, of `OpenWith`, is a request with the tag 1 by side 0, then a reply with the tag 2 by side 1,
+/// the arena, and its contract, of `OpenWith`, is a request with the tag 1 by side 0, then a reply with the tag 2 by side 1,
 /// and so on. `HandOver` passes an end to the other place, which accepts it; `Accept` is the other place's, of an end on a
 /// direction. `Turn` makes it the other place's turn. `Lists` asks for the blocks and bytes of this place and of the other,
 /// `Moved` what the account took and gave back, and `Stops` whether these are the points where a place's calls stopped
-/// since it was last asked.
+/// since it was last asked. `Fill` is of so many blocks of 16 bytes of the arena, `OpenAll` of so many channels, and `Rounds`,
+/// by both ends of a channel, of so many messages, given and then taken, so many times.
 #[derive(Clone, Copy)]
 pub(super) enum Call<'a> {
     Alloc(u32, u32),
@@ -20,7 +23,7 @@ pub(super) enum Call<'a> {
     ReadPart(u16, u32, usize),
     Write(u16, u32, &'a [u8]),
     Free(u16),
-    Open,
+    Open(u32),
     OpenWith,
     HandOver(u16),
     Wire,
@@ -34,6 +37,9 @@ pub(super) enum Call<'a> {
     Lists,
     Moved,
     Stops(u8, &'a [Point]),
+    Fill(u16, u32),
+    OpenAll(u16),
+    Rounds(u16, u16, u16, u16),
 }
 
 /// A message's number, or how many bytes came back; a block, by record and length; two blocks; the bytes of a read; the
@@ -150,6 +156,14 @@ fn lists_of(pair: &Pair) -> Answer {
     )
 }
 
+fn of_all(done: bool) -> Answer {
+    if done {
+        Answer::Done
+    } else {
+        Answer::No("not all")
+    }
+}
+
 fn stops_of(pair: &Pair, place: u8, points: &[Point]) -> Answer {
     if pair.notes.are(place, points) {
         Answer::Done
@@ -177,7 +191,7 @@ fn answer_of<R: Wait>(rt: &R, alloc: Global, pair: &mut Pair, call: Call) -> Ans
         Call::ReadPart(r, at, count) => bytes_of(pair, r, at, count),
         Call::Write(r, at, bytes) => of_nothing(pair.write(r, at, bytes)),
         Call::Free(r) => of_number(pair.free(r).map(u64::from)),
-        Call::Open => of_ends(pair.open(rt)),
+        Call::Open(arena) => of_ends(pair.open(rt, arena)),
         Call::OpenWith => of_ends(pair.open_with(rt)),
         Call::HandOver(e) => of_block(pair.hand_over(rt, e)),
         Call::Wire => of_ends(pair.wire(rt)),
@@ -191,6 +205,9 @@ fn answer_of<R: Wait>(rt: &R, alloc: Global, pair: &mut Pair, call: Call) -> Ans
         Call::Lists => lists_of(pair),
         Call::Moved => moved_of(pair),
         Call::Stops(place, points) => stops_of(pair, place, points),
+        Call::Fill(count, arena) => of_all(fill(alloc, pair, count, arena)),
+        Call::OpenAll(count) => of_all(open_all(rt, pair, count)),
+        Call::Rounds(e, f, count, rounds) => of_all(goes_round(rt, pair, (e, f), count, rounds)),
     }
 }
 
@@ -202,6 +219,22 @@ fn assert_each<R: Wait + Abort>(rt: &R, alloc: Global, pair: &mut Pair, calls: &
     }
 }
 
+/// One arena of 256 bytes and 16 records.
+pub(super) const ROOMY: Measures = Measures {
+    arenas: 1,
+    size: 256,
+    count: 16,
+    wear: 1000,
+};
+
+/// Eight arenas of 1,048,576 bytes and 256 records.
+const LARGE: Measures = Measures {
+    arenas: 8,
+    size: 1_048_576,
+    count: 256,
+    wear: 4_194_304,
+};
+
 /// Makes each call at a pair of 256 bytes, whose directions have room for so many messages, and compares what it answers.
 pub(super) fn assert_answers<R: Wait + Abort>(
     rt: &R,
@@ -209,6 +242,16 @@ pub(super) fn assert_answers<R: Wait + Abort>(
     depth: u8,
     calls: &[(Call, Answer)],
 ) {
-    let mut pair = make_pair(alloc, 256, depth).expect(rt, "a pair");
+    let mut pair = make_pair(alloc, ROOMY, depth).expect(rt, "a pair");
+    assert_each(rt, alloc, &mut pair, calls);
+}
+
+/// The same at a pair of eight arenas, all as large as they may be.
+pub(super) fn assert_large_answers<R: Wait + Abort>(
+    rt: &R,
+    alloc: Global,
+    calls: &[(Call, Answer)],
+) {
+    let mut pair = make_pair(alloc, LARGE, 1).expect(rt, "a large pair");
     assert_each(rt, alloc, &mut pair, calls);
 }

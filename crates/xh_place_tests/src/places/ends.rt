@@ -13,7 +13,7 @@ use xh_core::Status;
 #[test]
 fn refusals_of_give(rt: HostRuntime) {
     const CALLS: &[(Call, Answer)] = &[
-        (Open, Ends(0, 1)),
+        (Open(0), Ends(0, 1)),
         (Alloc(16, 0), Block(2, 16)),
         (Give(0, 1, &[2, 2]), No("Twice")),
         (Give(0, 1, &[0]), No("Twice")),
@@ -35,7 +35,7 @@ fn refusals_of_give(rt: HostRuntime) {
 #[test]
 fn full_direction(rt: HostRuntime) {
     const CALLS: &[(Call, Answer)] = &[
-        (Open, Ends(0, 1)),
+        (Open(0), Ends(0, 1)),
         (Alloc(16, 0), Block(2, 16)),
         (Alloc(16, 0), Block(3, 16)),
         (Give(0, 0, &[2]), Number(1)),
@@ -70,7 +70,7 @@ fn unfinished_kill(rt: HostRuntime) {
 #[test]
 fn endpoint_in_flight_to_itself(rt: HostRuntime) {
     const CALLS: &[(Call, Answer)] = &[
-        (Open, Ends(0, 1)),
+        (Open(0), Ends(0, 1)),
         (Give(0, 0, &[1]), Number(1)),
         (Stop(4096), Number(32)),
         (Count, Moved(64, 32)),
@@ -82,7 +82,7 @@ fn endpoint_in_flight_to_itself(rt: HostRuntime) {
 #[test]
 fn close_reclaims_messages(rt: HostRuntime) {
     const CALLS: &[(Call, Answer)] = &[
-        (Open, Ends(0, 1)),
+        (Open(0), Ends(0, 1)),
         (Alloc(16, 0), Block(2, 16)),
         (Give(0, 0, &[2]), Number(1)),
         (Close(1), Number(48)),

@@ -71,6 +71,7 @@ pub(super) fn open<G: Gate>(
     gate: &G,
     low: Endpoint,
     high: Endpoint,
+    arena: u32,
 ) -> Result<(Block, Block), Unopened>
     requires at { IsAt records.now vaults.old.vaults.items tallies.old place.old }
     requires fresh { IsPair low high }
@@ -84,7 +85,7 @@ pub(super) fn open<G: Gate>(
         tallies,
         gate,
     };
-    place.open(&mut desk, low, high, 0)
+    place.open(&mut desk, low, high, arena)
 }
 
 pub(super) fn open_with<G: Gate>(

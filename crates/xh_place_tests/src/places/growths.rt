@@ -1,6 +1,6 @@
 // Refused growths: each test passes whichever growth of memory is refused, and when none is.
 use super::answers::{Answer, of_block, of_nothing, of_number, of_two};
-use super::{Bench, make_bench};
+use super::{Bench, SMALL, make_bench};
 use std::alloc::Global;
 use std::process::Abort;
 use xh_core::Status;
@@ -92,8 +92,8 @@ fn answer_again(alloc: Global, bench: &mut Bench, call: Call) -> Answer {
 
 /// A new bench: where the first growth that it asks for is refused, the next bench is whole.
 fn whole_bench<R: Abort>(rt: &R, alloc: Global) -> Bench {
-    make_bench(alloc, 256, 3, 1)
-        .or_else(|| make_bench(alloc, 256, 3, 1))
+    make_bench(alloc, SMALL, 1)
+        .or_else(|| make_bench(alloc, SMALL, 1))
         .expect(rt, "a bench")
 }
 

@@ -5,7 +5,7 @@ ghost use Rattle.xh_place.specs.Tallies.{ids_of};
 
 use super::notes::Notes;
 use super::vaults::Plain;
-use super::{Bench, flat, make_bench};
+use super::{Bench, Measures, flat, make_bench};
 use std::alloc::Global;
 use std::mem;
 use std::sync::Wait;
@@ -25,7 +25,7 @@ fn row(state: u8, tag: u16, side: u8, next: u8) -> Row {
     }
 }
 
-/// One arena, one account, all channels and two places. Calls are of the place whose turn it is, and where they stop is noted.
+/// All arenas, one account, all channels and two places. Calls are of the place whose turn it is, and where they stop is noted.
 #[derive(Drop)]
 pub(super) struct Pair {
     pub(super) records: Records<Body>,
@@ -35,14 +35,14 @@ pub(super) struct Pair {
     pub(super) place: Place,
     pub(super) other: Place,
     pub(super) notes: Notes,
-    ghost own: { IsPlaceOf records place × IsPlaceOf records other },
+    ghost own: { IsPlaceOf records place.place × IsPlaceOf records other.place },
     ghost names: { map (λ v. v.id) vaults.vaults.items ≡ records.shape.names },
     ghost ids: { ids_of tallies.items ≡ records.shape.names },
 }
 
-/// A pair of an arena of `size` bytes and 16 records.
-pub(super) fn make_pair(alloc: Global, size: u32, depth: u8) -> Option<Pair> {
-    let bench = make_bench(alloc, size, 16, depth)?;
+/// A pair of new arenas.
+pub(super) fn make_pair(alloc: Global, measures: Measures, depth: u8) -> Option<Pair> {
+    let bench = make_bench(alloc, measures, depth)?;
     let Bench {
         records,
         vaults,
@@ -114,8 +114,8 @@ impl Pair {
         )
     }
 
-    /// The records of both ends of a new channel.
-    pub(super) fn open<R: Wait>(&mut self, rt: &R) -> Option<(u16, u16)> {
+    /// The records of both ends of a new channel, of the arena.
+    pub(super) fn open<R: Wait>(&mut self, rt: &R, arena: u32) -> Option<(u16, u16)> {
         let (low, high) = self.channels.open(rt).ok()?;
         let made = flat::open(
             &mut self.place,
@@ -126,6 +126,7 @@ impl Pair {
             &self.notes,
             low,
             high,
+            arena,
         );
         let (a, b) = made.ok()?;
         Some((a.rec, b.rec))
@@ -189,7 +190,7 @@ impl Pair {
 
     /// The records of a new channel's end here and of its end at the other place.
     pub(super) fn wire<R: Wait>(&mut self, rt: &R) -> Option<(u16, u16)> {
-        let (e, f) = self.open(rt)?;
+        let (e, f) = self.open(rt, 0)?;
         self.hand_over(rt, f).ok()?;
         Some((e, f))
     }

@@ -33,7 +33,7 @@ fn give_take_and_write(rt: HostRuntime) {
 #[test]
 fn end_that_is_not_in_flight(rt: HostRuntime) {
     const CALLS: &[(Call, Answer)] = &[
-        (Open, Ends(0, 1)),
+        (Open(0), Ends(0, 1)),
         (Accept(1, 1), No("Ended")),
         (Both, Lists(2, 64, 0, 0)),
         (HandOver(1), Block(1, 32)),
@@ -87,7 +87,7 @@ fn exit_leaves_sent_messages(rt: HostRuntime) {
 fn kill_reclaims_nested_endpoints(rt: HostRuntime) {
     const CALLS: &[(Call, Answer)] = &[
         (Wire, Ends(0, 1)),
-        (Open, Ends(2, 3)),
+        (Open(0), Ends(2, 3)),
         (Alloc(16, 0), Block(4, 16)),
         (Give(2, 1, &[4]), Number(1)),
         (Give(0, 2, &[3]), Number(1)),

@@ -1,6 +1,7 @@
 // Two places on two threads, and one channel between them.
 ghost use Rattle.xh_place.specs.Places.{IsPlaceOf};
 
+use super::answers::ROOMY;
 use super::pair::{Pair, make_pair};
 use std::alloc::Global;
 use std::process::Abort;
@@ -30,7 +31,7 @@ struct Party<'a> {
     place: Place,
     e: u16,
     spot: Spot,
-    ghost own: { IsPlaceOf records.now place },
+    ghost own: { IsPlaceOf records.now place.place },
 }
 
 // What a give and a take work on.
@@ -119,7 +120,7 @@ struct Ends {
 
 fn begin<R: Wait>(rt: &R, alloc: Global, pair: &mut Pair) -> Option<Ends> {
     let (e, f) = pair.wire(rt)?;
-    let (_, h) = pair.open(rt)?;
+    let (_, h) = pair.open(rt, 0)?;
     let x = pair.alloc(alloc, 16, 0).ok()?.rec;
     let (low, high) = pair.spots(e, f)?;
     Some(Ends {
@@ -166,7 +167,7 @@ fn talk<R: Threads + Wait + Sync>(rt: &R, pair: Pair, ends: Ends) -> ((u64, u64)
 
 /// A block and an endpoint go from one thread to the other and back, each time in one message.
 fn there_and_back_over<R: Abort + Threads + Wait + Sync>(rt: &R, alloc: Global) {
-    let mut pair = make_pair(alloc, 256, 1).expect(rt, "a pair");
+    let mut pair = make_pair(alloc, ROOMY, 1).expect(rt, "a pair");
     let ends = begin(rt, alloc, &mut pair).expect(rt, "two channels and a block");
     let (one, two) = talk(rt, pair, ends);
     assert_eq!(rt; one, (ROUNDS, 112));

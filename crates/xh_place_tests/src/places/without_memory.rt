@@ -2,7 +2,7 @@
 use super::answers::Answer::{self, Block, Bytes, Done, Lists, Moved, No, Number, Two};
 use super::growths::Call::{self, Alloc, AllocOf, Free, Read, Size, Split, SplitOf, Write};
 use super::growths::{answer_of, state_of};
-use super::{Bench, make_bench};
+use super::{Bench, SMALL, make_bench};
 use std::alloc::Global;
 use std::process::Abort;
 
@@ -114,7 +114,7 @@ fn assert_lacking<R: Abort>(rt: &R, alloc: Global, bench: &mut Bench) {
 #[test]
 fn calls_without_memory(rt: HostRuntime) {
     let alloc = rt.alloc();
-    match make_bench(alloc, 256, 3, 1) {
+    match make_bench(alloc, SMALL, 1) {
         Some(mut bench) => {
             if is_prepared(&rt, alloc, &mut bench) {
                 if is_split(&rt, alloc, &mut bench) {
@@ -124,6 +124,6 @@ fn calls_without_memory(rt: HostRuntime) {
                 }
             }
         }
-        None => assert!(rt; make_bench(alloc, 256, 3, 1).is_none()),
+        None => assert!(rt; make_bench(alloc, SMALL, 1).is_none()),
     }
 }

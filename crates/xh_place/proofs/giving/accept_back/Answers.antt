@@ -1,15 +1,16 @@
-use Rattle.std.proofs.Common.{arith, rules, ◌≡◌, sym, ap, ◌∙◌, ℕ, ◌<◌, ◌+◌, subst, length, drop, get_or, List, [], ◌∷◌}
-use Rattle.xh_place.proofs.Givens.{next_one, accepting_none, IsAccepting, accepting, one_longer}
+use Rattle.std.proofs.Common.{arith, rules, ◌≡◌, sym, ap, ◌∙◌, ℕ, ◌<◌, ◌+◌, subst, length, drop, get_or, List, [], ◌∷◌, refl, take}
+use Rattle.xh_place.proofs.Givens.{AreLost, IsAccepting, accepting, accepting_none, lost_more, next_one, one_longer, take_more, take_whole}
 use Rattle.xh_records.specs.Seats.{Held}
 use Rattle.xh_place.specs.declared.body.Body.{Body}
 use Rattle.xh_place.specs.inner.Lists.{CameBack}
 use Rattle.xh_place.proofs.Listing.{among_get}
+use Rattle.xh_place.proofs.Seeing.{seat_more, seat_same}
 use Rattle.xh_place.proofs.giving.accept_back.Goals as goal
 
 pub loop-k-init : goal.loop-k-init
 loop-k-init c =
     let new : c.new-back.result.items ≡ [] = search rules in
-    (accepting_none c.args.direction c.args.given.now c.args.seat.now c.new-back.result.items new c.requires.gone c.requires.distinct, omega (arith, ap length new), omega arith)
+    (accepting_none c.args.direction c.args.given.now c.args.seat.now c.new-back.result.items new c.requires.gone c.requires.distinct, omega (arith, ap length new), omega arith, seat_same c.args.seat.now c.args.seat.now refl, (λ r a. absurd a))
 
 pub accept_into-requires-clause-own : goal.accept_into-requires-clause-own
 accept_into-requires-clause-own c =
@@ -26,9 +27,17 @@ loop-k-preserved c =
     let r : ℕ = get_or given k 0 in
     let is : IsAccepting d given (r ∷ drop (k + 1) given) c.args.seat.now c.loop-k.seat c.loop-k.back.items c.loop-k.bytes =
     subst (λ (l : List ℕ). IsAccepting d given l c.args.seat.now c.loop-k.seat c.loop-k.back.items c.loop-k.bytes) (next_one k given 0 inside) c.loop-k.invariant.0 in
-    let came = subst (λ (n : ℕ). CameBack d r c.loop-k.seat c.accept_into.new.seat c.loop-k.back.items c.accept_into.new.back.items n) (sym c.from-bytes.ensures) c.accept_into.ensures in (
+    let came = subst (λ (n : ℕ). CameBack d r c.loop-k.seat c.accept_into.new.seat c.loop-k.back.items c.accept_into.new.back.items n) (sym c.from-bytes.ensures) c.accept_into.ensures.came in (
       accepting d given (drop (k + 1) given) r c.loop-k.bytes c.from-bytes.result c.args.seat.now c.loop-k.seat c.accept_into.new.seat c.loop-k.back.items c.accept_into.new.back.items c.requires.distinct
           (among_get k given 0 inside) is came,
       one_longer d r c.from-bytes.result c.loop-k.seat c.accept_into.new.seat c.loop-k.back.items c.accept_into.new.back.items came k c.loop-k.invariant.1,
       omega (arith, c.loop-k.invariant.2, c.from-bytes.ensures),
+      seat_more c.args.seat.now c.loop-k.seat c.accept_into.new.seat c.loop-k.invariant.3 c.accept_into.ensures.seen,
+      subst (λ (l : List ℕ). AreLost d l c.accept_into.new.back.items c.args.seat.now c.accept_into.new.seat) (take_more k given 0 inside)
+          (lost_more d (take k given) r c.accept_into.result c.args.seat.now c.loop-k.seat c.accept_into.new.seat c.loop-k.back.items c.accept_into.new.back.items (ap (λ (h : Held Body). h.shape) is.0)
+          c.loop-k.invariant.3 c.accept_into.ensures.seen c.loop-k.invariant.4 c.accept_into.ensures.came),
     )
+
+pub returns-clause-lost : goal.returns-clause-lost
+returns-clause-lost c = subst (λ (l : List ℕ). AreLost c.args.direction l c.loop-k.back.items c.args.seat.now c.loop-k.seat)
+    (take_whole c.loop-k.k c.args.given.now (omega (arith, c.loop-k-test.false))) c.loop-k.invariant.4

@@ -1,4 +1,4 @@
-use Rattle.std.proofs.Common.{◌≡◌, ℕ, List, [], ◌++◌, rules, sym, ap, ◌∙◌, subst}
+use Rattle.std.proofs.Common.{◌≡◌, ℕ, List, [], ◌++◌, rules, sym, ap, ◌∙◌, subst, refl}
 use Rattle.xh_place.proofs.Givens.{back_none}
 use Rattle.xh_model.specs.declared.event.Event.{Event}
 use Rattle.xh_model.specs.Keyed.{Among, value_at}
@@ -7,11 +7,13 @@ use Rattle.xh_place.specs.declared.body.Body.{Body}
 use Rattle.xh_place.specs.Bodies.{away}
 use Rattle.xh_place.specs.Endpoints.{Puts}
 use Rattle.xh_place.specs.Moves.{accepted_on, passed_on, there_and_back}
-use Rattle.xh_place.specs.inner.Lots.{HasNow, LotDoes, with_done}
+use Rattle.xh_place.specs.inner.Lots.{HasNow, LotDoes, SeatSaw, with_done}
 use Rattle.xh_place.specs.Places.{item_in}
 use Rattle.xh_place.specs.inner.Lists.{AreBack, lens}
 use Rattle.xh_place.proofs.Listing.{lens_none}
 use Rattle.xh_place.proofs.Moves.{moved_twice}
+use Rattle.xh_place.proofs.Seeing.{away_as, saw_later, seat_same}
+use Rattle.xh_place.specs.Seen.{IsElsewhere}
 use Rattle.xh_place.proofs.giving.give_all.Goals as goal
 
 pub returns-in_default-clause-back : goal.returns-in_default-clause-back
@@ -42,3 +44,11 @@ returns-clause-end g c = λ l at.
     let h = c.post-put.ensures.end l at in
     let kept = c.accept_back-back.ensures.others c.args.e (λ a. c.requires.distinct.1 (subst (λ (rs : List ℕ). Among rs c.args.e) c.as_slice.ensures.value a)) in
     (h.0, kept ∙ h.1, subst (λ r. LotDoes (Puts c.args.tag c.args.given.now r) l h.0) c.in-Err.is h.2, h.3)
+
+pub returns-clause-missed : goal.returns-clause-missed
+returns-clause-missed g c = λ r among missed.
+    let seat = c.args.seat.now in let mid = c.post-put.new.seat in let last = c.accept_back-back.new.seat in
+    let shape : mid.shape ≡ seat.shape = ap (λ (h : Held Body). h.shape) c.post-put.ensures.passed in
+    let there = c.accept_back-back.ensures.lost r (subst (λ (l : List ℕ). Among l r) (sym c.as_slice.ensures.value) among) missed in
+    subst (λ (d : ℕ). IsElsewhere (SeatSaw seat last) d r) c.post-put.ensures.direction.0
+    (away_as (SeatSaw mid last) (SeatSaw seat last) (saw_later seat mid last last shape c.post-put.ensures.seen (seat_same last last refl)) c.post-put.result.1 r there)

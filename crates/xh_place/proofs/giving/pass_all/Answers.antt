@@ -10,6 +10,7 @@ use Rattle.xh_place.specs.declared.body.Body.{Body}
 use Rattle.xh_place.specs.inner.Lists.{lens}
 use Rattle.xh_place.proofs.Givens.{next_one, told_none, IsPassing, passed_bytes, passing, take_more, take_whole}
 use Rattle.xh_place.proofs.Listing.{among_get, lens_none}
+use Rattle.xh_place.proofs.Seeing.{seat_more, seat_same}
 use Rattle.xh_place.proofs.giving.pass_all.Goals as goal
 
 pub pass_block-requires-clause-own : goal.pass_block-requires-clause-own
@@ -33,7 +34,7 @@ pass_block-requires-clause-held c =
     (h.0, is.2 r (inl refl) ∙ h.1, subst (λ s. IsLotOf s r h.0) (sym shape) h.2.lot, h.2.full)
 
 pub loop-k-init : goal.loop-k-init
-loop-k-init c = ((told_none c.args.seat.now, (λ r n a. absurd (n a)), (λ r a. refl), (λ r n. refl), c.requires.distinct), omega arith, omega arith)
+loop-k-init c = ((told_none c.args.seat.now, (λ r n a. absurd (n a)), (λ r a. refl), (λ r n. refl), c.requires.distinct), omega arith, omega arith, seat_same c.args.seat.now c.args.seat.now refl)
 
 pub loop-k-preserved : goal.loop-k-preserved
 loop-k-preserved c =
@@ -51,6 +52,7 @@ loop-k-preserved c =
       passed_bytes given (drop (k + 1) given) (take k given) d r c.loop-k.bytes c.from-bytes.result h.0 c.args.seat.now c.loop-k.seat last c.requires.distinct (among_get k given 0 inside) is h.1
           (ap (λ (z : Held Body). z.lots) c.pass_block.ensures.passed) len c.loop-k.invariant.1,
       omega (arith, c.loop-k.invariant.2, c.from-bytes.ensures),
+      seat_more c.args.seat.now c.loop-k.seat last c.loop-k.invariant.3 c.pass_block.ensures.seen,
     )
 
 pub returns-clause-passed : goal.returns-clause-passed

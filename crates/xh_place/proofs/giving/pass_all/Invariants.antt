@@ -1,4 +1,5 @@
 use Rattle.std.proofs.Common.{◌≡◌, ◌+◌, ◌*◌, ◌≤◌, take, drop}
+use Rattle.xh_place.specs.inner.Lots.{SeatSeesMore}
 use Rattle.xh_place.proofs.Givens.{IsPassing}
 use Rattle.xh_model.specs.Keyed.{value_at}
 use Rattle.xh_place.specs.inner.Lists.{lens}
@@ -6,4 +7,4 @@ use Rattle.xh_place.proofs.giving.pass_all.Given as goal
 
 abbrev pub invariant-loop-k : goal.invariant-loop-k
 invariant-loop-k l = IsPassing l.direction l.given (take l.k l.given) (drop l.k l.given) l.initial.seat l.seat
-    × (l.bytes + lens l.given (λ q. value_at q l.seat.lots) ≡ lens l.given (λ q. value_at q l.initial.seat.lots)) × (l.bytes ≤ l.k * 4294967295)
+    × (l.bytes + lens l.given (λ q. value_at q l.seat.lots) ≡ lens l.given (λ q. value_at q l.initial.seat.lots)) × (l.bytes ≤ l.k * 4294967295) × SeatSeesMore l.initial.seat l.seat

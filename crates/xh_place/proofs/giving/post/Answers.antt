@@ -15,6 +15,7 @@ use Rattle.xh_place.specs.Places.{IsBlock, item_in}
 use Rattle.xh_place.specs.inner.Lists.{lens}
 use Rattle.xh_place.proofs.Ends.{away_at, still_block}
 use Rattle.xh_place.proofs.Found.{unmoved}
+use Rattle.xh_place.proofs.Seeing.{seat_more, seat_same}
 use Rattle.xh_place.proofs.giving.post.Goals as goal
 
 pub spot_at-spot-requires-clause-own : goal.spot_at-spot-requires-clause-own
@@ -121,3 +122,13 @@ pub returns-clause-bytes : goal.returns-clause-bytes
 returns-clause-bytes g c =
     let q = c.requires.end in let s = c.spot_at-spot.ensures.seat q.0 q.1 in let same = unmoved c.args.seat.now c.spot_at-spot.new.seat c.args.e q.0 q.1 s.1 in
     c.pass_all-bytes.ensures.bytes ∙ (λ i. lens (c.as_slice.ensures.value i) (λ r. value_at r (same i).lots))
+
+pub returns-clause-seen : goal.returns-clause-seen
+returns-clause-seen g c =
+    let q = c.requires.end in let seat = c.args.seat.now in let look = c.spot_at-spot.new.seat in let gone = c.pass_all-bytes.new.seat in
+    let s = c.spot_at-spot.ensures.seat q.0 q.1 in let same = unmoved seat look c.args.e q.0 q.1 s.1 in
+    let at : value_at c.args.e gone.lots ≡ Some q.0 =
+    c.pass_all-bytes.ensures.others c.args.e (λ a. c.requires.distinct.1 (subst (λ (l : List ℕ). Among l c.args.e) c.as_slice.ensures.value a))
+    ∙ ap (λ (h : Held Body). value_at c.args.e h.lots) same ∙ q.1 in
+    seat_more seat look c.put_at-put.new.seat (seat_same seat look (ap (λ (h : Held Body). h.front) same))
+    (seat_more look gone c.put_at-put.new.seat c.pass_all-bytes.ensures.seen (seat_same gone c.put_at-put.new.seat (ap (λ (h : Held Body). h.front) (c.put_at-put.ensures q.0 at).2)))

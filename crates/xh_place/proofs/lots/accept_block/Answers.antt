@@ -1,9 +1,11 @@
-use Rattle.std.proofs.Common.{◌<◌, ◌/◌, ◌%◌, length, sym, ap, subst}
+use Rattle.std.proofs.Common.{rules, ◌≡◌, ◌<◌, ◌/◌, ◌%◌, length, sym, ap, subst}
 use Rattle.xh_model.specs.declared.event.Event.TheVariants.{Accept}
 use Rattle.xh_records.specs.Seats.{Held, did}
 use Rattle.xh_place.specs.declared.body.Body.{Body}
 use Rattle.xh_place.specs.inner.Lots.{bare}
 use Rattle.xh_place.proofs.Gained.{has, changed, lot_is}
+use Rattle.std.specs.Prelude.{Err}
+use Rattle.xh_place.proofs.Seeing.{advanced, looked, seat_more, seat_same}
 use Rattle.xh_place.proofs.lots.accept_block.Goals as goal
 
 pub look-requires-clause-held : goal.look-requires-clause-held
@@ -24,3 +26,15 @@ returns-clause-here c =
       record { exists = subst (λ z. (c.args.r / 256 < length z.names) × (c.args.r % 256 < z.records)) (sym own.0.1) own.1; lot = t.2; full = t.3 },
       s.0,
     )
+
+pub returns-clause-seen : goal.returns-clause-seen
+returns-clause-seen c =
+    let t = c.in_ok-accept.ensures.accepted in let old = c.args.seat.now in let mid = c.accept.new.seat in
+    let at = has (did (Accept old.process c.args.r c.args.direction) old) mid c.args.r t.0 (ap bare t.1) c.in_ok-accept.ensures.fresh in
+    seat_more old mid c.look.new.seat (advanced _ old mid t.4) (seat_same mid c.look.new.seat (ap (λ (h : Held Body). h.front) (c.look.ensures t.0 at).1))
+
+pub returns-in_err-accept-clause-missing : goal.returns-in_err-accept-clause-missing
+returns-in_err-accept-clause-missing c =
+    let m = c.in_err-accept.ensures.missed in
+    let is : c.from_residual.result ≡ Err c.in_err-accept.field-0.0 = search rules in
+    rw is (m.0, ap bare m.1.1.0, looked c.args.seat.now c.accept.new.seat c.args.r _ m.1)

@@ -1,4 +1,4 @@
-use Rattle.std.proofs.Common.{◌≡◌, ℕ, ◌-◌, ◌/◌, ◌<◌, List, length, refl, sym, ap, ◌∙◌, subst}
+use Rattle.std.proofs.Common.{◌≡◌, ℕ, ◌-◌, ◌/◌, ◌<◌, List, length, refl, sym, ap, ◌∙◌, subst, inl}
 use Rattle.std.proofs.Math.Nat.{le_of_lt}
 use Rattle.std.specs.Prelude.{Some, slice_get}
 use Rattle.atomic_table.specs.Seated.{TableId}
@@ -10,6 +10,8 @@ use Rattle.xh_place.specs.declared.body.Body.TheVariants.{Data}
 use Rattle.xh_place.proofs.Gained.{undone}
 use Rattle.xh_place.proofs.Moves.{claims, vacates}
 use Rattle.xh_place.proofs.Parted.{Cutting, cutting, lent, is_cut}
+use Rattle.xh_records.specs.Seats.{Held}
+use Rattle.xh_place.proofs.Seeing.{advanced, no_record, seat_more, seat_same}
 use Rattle.xh_place.proofs.lots.cut_block.Goals as goal
 use Rattle.xh_place.proofs.lots.cut_block.Goals.{In-Ok, After-rest_of}
 
@@ -68,3 +70,22 @@ returns-clause-cut g c = λ l here.
     let cut = is_cut all seat c.rest_of.new.seat c.part.new.seat r n c.args.k h.0 t.0 p.0 (record t.0 { len = h.0.len - c.args.k; body = b }) b j c.in-Ok.ensures.fresh h.2 t.2
     (subst (λ s. IsRecord s n) (sym c.requires.own.1) j.exist.1) h.3 h.4 c.in-Ok.ensures.record.0 p.1 p.2 refl (c.in-Some.ensures h.0 (claimed g at.In-Ok).head).0 p.3 in
     subst (λ (z : LotOf Body). IsCut seat c.part.new.seat r c.args.k z n) (same h.0 l (sym h.1 ∙ here)) cut
+
+pub returns-in_default-clause-why : goal.returns-in_default-clause-why
+returns-in_default-clause-why g c = inl (refl, no_record (c.args.r / 256) _ c.args.seat.now c.claim.new.seat c.in_default.ensures.seen)
+
+pub returns-in_default-rest_of-clause-seen : goal.returns-in_default-rest_of-clause-seen
+returns-in_default-rest_of-clause-seen g c =
+    let seat = c.args.seat.now in let mid = c.claim.new.seat in let lent = c.rest_of.new.seat in
+    let k = claimed g (goal.at.returns-in_default-rest_of-clause-seen g c).In-Ok in
+    seat_more seat mid c.vacate.new.seat (advanced _ seat mid c.in-Ok.ensures.claimed.4)
+    (seat_more mid lent c.vacate.new.seat (seat_same mid lent (ap (λ (h : Held Body). h.front) (c.rest_of.ensures _ k.head).1)) (advanced _ lent c.vacate.new.seat c.vacate.ensures.vacated.1))
+
+pub returns-clause-seen : goal.returns-clause-seen
+returns-clause-seen g c =
+    let h = c.requires.held in let t = c.in-Ok.ensures.claimed in
+    let seat = c.args.seat.now in let mid = c.claim.new.seat in let lent = c.rest_of.new.seat in
+    let at = goal.at.returns-clause-seen g c in let k = claimed g at.In-Ok in let j = read g at.After-rest_of k in
+    seat_more seat mid c.part.new.seat (advanced _ seat mid t.4)
+    (seat_more mid lent c.part.new.seat (seat_same mid lent (ap (λ (z : Held Body). z.front) (c.rest_of.ensures _ k.head).1))
+    (seat_same lent c.part.new.seat (ap (λ (z : Held Body). z.front) (c.part.ensures.parted h.0 t.0 j.head j.tail).3)))

@@ -7,6 +7,7 @@ use Rattle.xh_place.specs.declared.body.Body.{Body}
 use Rattle.xh_place.specs.declared.body.Body.TheVariants.{Nothing}
 use Rattle.xh_place.proofs.Desks.{still_at}
 use Rattle.xh_place.proofs.Moves.{vacates}
+use Rattle.xh_place.proofs.Seeing.{advanced, seat_more, seat_same}
 use Rattle.xh_place.proofs.lots.give_up.Goals as goal
 
 pub vacate-requires-clause-held : goal.vacate-requires-clause-held
@@ -28,3 +29,8 @@ returns-clause-seat g c =
 
 pub returns-clause-back : goal.returns-clause-back
 returns-clause-back g c = λ l at. ((c.empty-len.ensures.emptied l at).1, (c.empty-len.ensures.emptied l at).2)
+
+pub returns-clause-seen : goal.returns-clause-seen
+returns-clause-seen g c =
+    let h = c.requires.held in let mid = c.empty-len.new.seat in
+    seat_more c.args.seat.now mid c.vacate.new.seat (seat_same c.args.seat.now mid (ap (λ (z : Held Body). z.front) (c.empty-len.ensures.emptied h.0 h.1).0)) (advanced _ mid c.vacate.new.seat c.vacate.ensures.vacated.1)

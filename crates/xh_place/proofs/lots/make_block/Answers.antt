@@ -8,6 +8,7 @@ use Rattle.xh_place.specs.Bodies.{bytes}
 use Rattle.xh_place.proofs.Desks.{still_at}
 use Rattle.xh_place.proofs.Gained.{has, undone, changed, lot_is, fits_bytes}
 use Rattle.xh_place.proofs.Moves.{claims, vacates}
+use Rattle.xh_place.proofs.Seeing.{advanced, no_record, seat_more, seat_same}
 use Rattle.xh_place.proofs.lots.make_block.Goals as goal
 
 pub vacate-requires-clause-held : goal.vacate-requires-clause-held
@@ -78,3 +79,13 @@ returns-in_default-filled-clause-block g c =
 
 pub returns-in_default-filled-clause-taken : goal.returns-in_default-filled-clause-taken
 returns-in_default-filled-clause-taken g c = c.in_default-filled.ensures.taken ∙ ap (λ (a : ℕ). took a c.args.n c.args.desk.now.tallies.now) c.in-Ok.ensures.record.0
+
+pub returns-in_default-clause-why : goal.returns-in_default-clause-why
+returns-in_default-clause-why g c = (refl, no_record c.args.arena _ c.args.seat.now c.claim.new.seat c.in_default.ensures.seen)
+
+pub returns-in_default-filled-clause-seen : goal.returns-in_default-filled-clause-seen
+returns-in_default-filled-clause-seen g c =
+    let t = c.in-Ok.ensures.claimed in let mid = c.claim.new.seat in let now = claims c.args.seat.now mid _ _ _ t.1 in
+    let at = has c.args.seat.now mid c.in-Ok.r t.0 now c.in-Ok.ensures.fresh in
+    seat_more c.args.seat.now mid c.fill-filled.new.seat (advanced _ c.args.seat.now mid t.4)
+    (seat_same mid c.fill-filled.new.seat (ap (λ (h : Held Body). h.front) (c.in_default-filled.ensures.seat t.0 at)))

@@ -6,6 +6,7 @@ use Rattle.xh_core.specs.declared.header.Header.{Header}
 use Rattle.xh_place.specs.declared.body.Body.{Body}
 use Rattle.xh_place.specs.inner.Lots.{bare}
 use Rattle.xh_place.proofs.Found.{unmoved}
+use Rattle.xh_place.proofs.Seeing.{advanced, seat_more, seat_same}
 use Rattle.xh_place.proofs.lots.pass_block.Goals as goal
 
 pub pass-requires-clause-own : goal.pass-requires-clause-own
@@ -25,3 +26,8 @@ returns-clause-passed c =
 
 pub returns-clause-bytes : goal.returns-clause-bytes
 returns-clause-bytes c = λ l at. ap (λ (z : Header). z.len) (c.look-header.ensures l at).0
+
+pub returns-clause-seen : goal.returns-clause-seen
+returns-clause-seen c =
+    let h = c.requires.held in let mid = c.look-header.new.seat in
+    seat_more c.args.seat.now mid c.pass.new.seat (seat_same c.args.seat.now mid (ap (λ (z : Held Body). z.front) (c.look-header.ensures h.0 h.1).1)) (advanced _ mid c.pass.new.seat c.pass.ensures.passed.1)

@@ -7,6 +7,7 @@ use Rattle.xh_place.specs.declared.body.Body.{Body}
 use Rattle.xh_place.specs.inner.Lots.{bare}
 use Rattle.xh_place.proofs.Moves.{claims, vacates}
 use Rattle.xh_place.proofs.Gained.{has, undone}
+use Rattle.xh_place.proofs.Seeing.{advanced, full_later, no_record}
 use Rattle.xh_place.proofs.opening.claim_two.Goals as goal
 
 pub vacate-requires-clause-held : goal.vacate-requires-clause-held
@@ -14,14 +15,21 @@ vacate-requires-clause-held g c =
     let t = c.in-Ok.ensures.claimed in let same = c.in_default-claim.ensures.missed.0 in
     (t.0, ap (λ (h : Held Body). value_at c.in-Ok.r h.lots) same ∙ has c.args.seat.now c.claim.new.seat c.in-Ok.r t.0 (claims c.args.seat.now c.claim.new.seat _ _ _ t.1) c.in-Ok.ensures.fresh, t.3)
 
-pub returns-in_default-claim : goal.returns-in_default-claim
-returns-in_default-claim g c =
-    let t = c.in-Ok.ensures.claimed in let same = c.in_default-claim.ensures.missed.0 in
-    undone c.args.seat.now c.claim.new.seat c.in-Ok.r t.0 (claims c.args.seat.now c.claim.new.seat _ _ _ t.1) c.in-Ok.ensures.fresh c.vacate.new.seat
-    (vacates c.claim-2.new.seat c.vacate.new.seat _ _ _ c.vacate.ensures.vacated ∙ ap (λ (h : Held Body). with_lots (bare h) (without c.in-Ok.r h.lots)) same)
+pub returns-in_default-clause-claimed : goal.returns-in_default-clause-claimed
+returns-in_default-clause-claimed g c = (ap bare c.in_default.ensures.missed.0, no_record c.args.arena _ c.args.seat.now c.claim.new.seat c.in_default.ensures.seen)
 
-pub returns : goal.returns
-returns g c =
+pub returns-in_default-claim-clause-claimed : goal.returns-in_default-claim-clause-claimed
+returns-in_default-claim-clause-claimed g c =
+    let t = c.in-Ok.ensures.claimed in let same = c.in_default-claim.ensures.missed.0 in
+    let seat = c.args.seat.now in let mid = c.claim.new.seat in let last = c.claim-2.new.seat in (
+      undone seat mid c.in-Ok.r t.0 (claims seat mid _ _ _ t.1) c.in-Ok.ensures.fresh c.vacate.new.seat
+          (vacates last c.vacate.new.seat _ _ _ c.vacate.ensures.vacated ∙ ap (λ (h : Held Body). with_lots (bare h) (without c.in-Ok.r h.lots)) same),
+      full_later seat mid last c.vacate.new.seat (ap (λ (h : Held Body). h.shape) t.1) (advanced _ seat mid t.4) (advanced _ last c.vacate.new.seat c.vacate.ensures.vacated.1) c.args.arena
+          (no_record c.args.arena _ mid last c.in_default-claim.ensures.seen),
+    )
+
+pub returns-clause-claimed : goal.returns-clause-claimed
+returns-clause-claimed g c =
     let t = c.in-Ok.ensures.claimed in let u = c.in-Ok-claim.ensures.claimed in let r : ℕ = c.in-Ok.r in let q : ℕ = c.in-Ok-claim.t in let lots = c.args.seat.now.lots in
     let keyed : keys c.claim.new.seat.lots ≡ keys lots ++ r ∷ [] = ap (λ (h : Held Body). keys h.lots) t.1 ∙ keys_push lots (r, t.0) in
     let fresh : Among (keys lots ++ r ∷ []) q → ⊥ = λ h. c.in-Ok-claim.ensures.fresh (subst (λ (ks : List ℕ). Among ks q) (sym keyed) h) in

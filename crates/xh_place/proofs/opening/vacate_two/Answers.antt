@@ -16,7 +16,7 @@ pub vacate-requires-2-clause-held : goal.vacate-requires-2-clause-held
 vacate-requires-2-clause-held c =
     let h = c.requires.held in (h.0, ap (λ (z : Held Body). value_at c.args.r z.lots) c.vacate.ensures.vacated.0 ∙ without_other c.args.r c.args.t c.args.seat.now.lots c.requires.own.3 ∙ h.2, h.4)
 
-pub returns : goal.returns
-returns c =
+pub returns-clause-free : goal.returns-clause-free
+returns-clause-free c =
     vacates c.vacate.new.seat c.vacate-2.new.seat _ _ _ c.vacate-2.ensures.vacated
     ∙ ap (λ (h : Held Body). with_lots h (without c.args.r h.lots)) (vacates c.args.seat.now c.vacate.new.seat _ _ _ c.vacate.ensures.vacated)

@@ -4,6 +4,15 @@ use Rattle.xh_core.specs.Statuses.{is_running}
 use Rattle.xh_place.specs.Places.{Item}
 use Rattle.xh_place.proofs.Steps.{block_small, list_room, list_small, over_running, stays, won}
 use Rattle.xh_place.proofs.Desks.{same_place, seat_at}
+use Rattle.xh_place.proofs.Seeing.{placed, fronted, since}
+use Rattle.xh_place.specs.Seen.{PlaceSeen, SawFull}
+use Rattle.xh_place.specs.Vaults.{IsNoBlock}
+use Rattle.std.specs.Prelude.{Err, None, IfErr}
+use Rattle.xh_core.specs.Calls.{alloc_tests}
+use Rattle.xh_core.specs.Refusing.{first_refusal, Tests}
+use Rattle.xh_place.specs.Starts.{start}
+use Rattle.xh_place.proofs.Ended.{untested}
+use Rattle.xh_core.specs.Space.{rounded}
 use Rattle.xh_place.proofs.place.Place.alloc.Goals as goal
 
 pub push_reserved-requires : goal.push_reserved-requires
@@ -52,14 +61,18 @@ returns-clause-made g c =
     let both = won seat rs room total state is c.make_block.new.seat r l c.push_reserved.new.self.items (vec_capacity c.push_reserved.new.self) c.from-2.result t.1 t.2 t.3 alive
     c.push_reserved.ensures.items c.push_reserved.ensures.capacity len in
     record {
-      made = both.1 c.args.self.now c.self.view_is ∙ ap (λ (z : Item). record c.args.self.now { blocks = c.args.self.now.blocks ++ (r, z) ∷ [] }) (λ i. record { len = t.4 i; content = t.5 i });
+      made = both.1 c.args.self.now.place (placed c.self.view_is) ∙ ap (λ (z : Item). record c.args.self.now.place { blocks = c.args.self.now.place.blocks ++ (r, z) ∷ [] }) (λ i. record { len = t.4 i; content = t.5 i });
       block = search rules;
       taken = search rules;
       refused = search rules;
     }
 
 pub returns-clause-same : goal.returns-clause-same
-returns-clause-same g c = (c.make_block.ensures.same, same_place c.args.self.now _ _ (returns-clause-made g c).made)
+returns-clause-same g c = (
+  c.make_block.ensures.same,
+  same_place c.args.self.now _ _ (returns-clause-made g c).made
+      (since c.args.self.now c.self.inside.seat c.make_block.new.seat (fronted c.self.view_is) c.make_block.ensures.seen),
+)
 
 pub invariant_of-self : goal.invariant_of-self
 invariant_of-self g c =
@@ -68,10 +81,23 @@ invariant_of-self g c =
     (stays seat rs room total state is c.make_block.new.seat c.in_err-rec.ensures.refused.0).0
 
 pub make_block-requires-clause-at : goal.make_block-requires-clause-at
-make_block-requires-clause-at g c = seat_at g.V.Vaults.names c.args.desk.now c.args.self.now c.self.inside.seat (ap (λ p. p.table) c.self.view_is) (ap (λ p. p.shape) c.self.view_is) c.requires.at
+make_block-requires-clause-at g c = seat_at g.V.Vaults.names c.args.desk.now c.args.self.now.place c.self.inside.seat (ap (λ p. p.table) (placed c.self.view_is)) (ap (λ p. p.shape) (placed c.self.view_is)) c.requires.at
 
 pub make_block-requires-clause-arena : goal.make_block-requires-clause-arena
 make_block-requires-clause-arena g c =
-    let names : length c.self.inside.seat.shape.names ≡ length c.args.self.now.shape.names = ap (λ p. length p.shape.names) c.self.view_is in
-    let all : length (g.V.Vaults.names c.args.desk.now.vaults.now) ≡ length c.args.self.now.shape.names = ap length c.requires.at.1.0 in
+    let names : length c.self.inside.seat.shape.names ≡ length c.args.self.now.place.shape.names = ap (λ p. length p.shape.names) (placed c.self.view_is) in
+    let all : length (g.V.Vaults.names c.args.desk.now.vaults.now) ≡ length c.args.self.now.place.shape.names = ap length c.requires.at.1.0 in
     omega (arith, c.arenas.ensures, c.from.ensures, c.if-arena-from.false, names, all)
+
+pub returns-in_err-rec-clause-why : goal.returns-in_err-rec-clause-why
+returns-in_err-rec-clause-why g c =
+    let vaults = c.args.desk.now.vaults.now in let left = c.make_block.new.desk.vaults.now in let last = c.make_block.new.seat in let old = c.args.self.now in
+    let arena : ℕ = c.args.arena in let e = c.in_err-rec.field-0.0 in
+    let is : c.from_residual-in_err-rec.result ≡ Err e = search rules in
+    let tests : Tests = start old.place.state ++ alloc_tests arena (length old.place.shape.names) c.args.n (g.V.Vaults.extent vaults) in
+    let passed : first_refusal tests ≡ None = search rules in
+    let saw : IsNoBlock g.V.Vaults.changes vaults left arena c.round_up-len.result (SawFull old.place.shape old.front last.front arena) e =
+    subst (λ (p : PlaceSeen). IsNoBlock g.V.Vaults.changes vaults left arena c.round_up-len.result (SawFull p.place.shape p.front last.front arena) e) c.self.view_is c.in_err-rec.ensures.why in
+    let why = subst (λ (k : ℕ). IsNoBlock g.V.Vaults.changes vaults left arena k (SawFull old.place.shape old.front last.front arena) e) c.round_up-len.ensures.result saw in
+    untested tests (IfErr c.from_residual-in_err-rec.result (IsNoBlock g.V.Vaults.changes vaults left arena (rounded c.args.n) (SawFull old.place.shape old.front last.front arena)))
+    (λ refused. (c.from_residual-in_err-rec.result ≡ Err refused) × (left ≡ vaults)) passed (rw is why)

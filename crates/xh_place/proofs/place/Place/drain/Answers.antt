@@ -3,7 +3,9 @@ use Rattle.xh_model.proofs.Keyed.{put_same}
 use Rattle.xh_core.specs.Statuses.{is_over}
 use Rattle.xh_place.specs.Ends.{end_block}
 use Rattle.xh_place.specs.Places.{PlaceOf}
-use Rattle.xh_place.proofs.Drained.{drained, drained_all, draining_at, draining_more, draining_none}
+use Rattle.xh_place.proofs.Drained.{drained, drained_all, draining_at, draining_more, draining_none, draining_as, takes_as}
+use Rattle.xh_place.proofs.Seeing.{seen_wide, starts_same, stays_more}
+use Rattle.xh_place.specs.Seen.{IsSeen}
 use Rattle.xh_place.proofs.place.Place.drain.Goals as goal
 
 pub take_message-requires-clause-own : goal.take_message-requires-clause-own
@@ -15,22 +17,33 @@ take_message-requires-clause-alive g c = λ e. c.requires.alive (ap (λ (p : Pla
 
 pub take_message-requires-clause-end : goal.take_message-requires-clause-end
 take_message-requires-clause-end g c =
-    let i = c.loop-count.invariant in (end_block i.1.after, draining_at c.args.e i.0 c.args.self.now c.loop-count.self i.1, refl)
+    let i = c.loop-count.invariant in
+    (end_block i.1.after, draining_at (IsSeen c.args.self.now c.loop-count.self) c.args.e i.0 c.args.self.now.place c.loop-count.self.place i.1, refl)
 
 pub loop-count-init : goal.loop-count-init
 loop-count-init g c =
-    let q = c.requires.end in ([], draining_none c.args.e q.0 c.args.self.now q.1 (put_same c.args.e (end_block q.0) c.args.self.now.blocks q.1), refl)
+    let q = c.requires.end in let old = c.args.self.now in
+    ([], draining_none (IsSeen old old) c.args.e q.0 old.place q.1 (put_same c.args.e (end_block q.0) old.place.blocks q.1), refl, starts_same old.front old.front refl)
 
 pub loop-count-preserved : goal.loop-count-preserved
 loop-count-preserved g c =
-    let i = c.loop-count.invariant in let t = c.in-Ok.ensures.taken in
+    let i = c.loop-count.invariant in let old = c.args.self.now in let mid = c.loop-count.self in let new = c.take_message.new.self in let after = c.take_message.ensures.place.3 in
+    let was = draining_as (IsSeen old mid) (IsSeen old new) (seen_wide old mid old new refl (starts_same old.front old.front refl) after) c.args.e i.0 old.place mid.place i.1 in
+    let t = takes_as (IsSeen mid new) (IsSeen old new) (seen_wide mid new old new (ap (λ (p : PlaceOf). p.shape) i.1.list) i.3 (starts_same new.front new.front refl)) c.args.e mid.place new.place _
+    c.in-Ok.ensures.taken in
     let long : length (i.0 ++ t.1 ∷ []) ≡ length i.0 + 1 = length-append i.0 (t.1 ∷ []) in
-    (i.0 ++ t.1 ∷ [], draining_more c.args.e i.0 c.args.self.now c.loop-count.self i.1 c.take_message.new.self _ t, omega (arith, long, i.2))
+    (i.0 ++ t.1 ∷ [], draining_more (IsSeen old new) c.args.e i.0 old.place mid.place was new.place _ t, omega (arith, long, i.2), stays_more old mid new i.3 after)
 
-pub returns-in-Err : goal.returns-in-Err
-returns-in-Err g c =
-    let i = c.loop-count.invariant in drained c.args.e i.0 c.args.self.now c.loop-count.self i.1 c.take_message.new.self _ c.in-Err.ensures.taken
+pub returns-in-Err-clause-drained : goal.returns-in-Err-clause-drained
+returns-in-Err-clause-drained g c =
+    let i = c.loop-count.invariant in let old = c.args.self.now in let mid = c.loop-count.self in let new = c.take_message.new.self in
+    let was = draining_as (IsSeen old mid) (IsSeen old new) (seen_wide old mid old new refl (starts_same old.front old.front refl) c.take_message.ensures.place.3) c.args.e i.0 old.place mid.place i.1 in
+    drained (IsSeen old new) c.args.e i.0 old.place mid.place was new.place _ c.in-Err.ensures.taken
 
-pub returns : goal.returns
-returns g c =
-    let i = c.loop-count.invariant in drained_all c.args.e i.0 c.args.self.now c.loop-count.self i.1 (omega (arith, i.2, c.loop-count-test.false))
+pub returns-in-Err-clause-seen : goal.returns-in-Err-clause-seen
+returns-in-Err-clause-seen g c = stays_more c.args.self.now c.loop-count.self c.take_message.new.self c.loop-count.invariant.3 c.take_message.ensures.place.3
+
+pub returns-clause-drained : goal.returns-clause-drained
+returns-clause-drained g c =
+    let i = c.loop-count.invariant in
+    drained_all (IsSeen c.args.self.now c.loop-count.self) c.args.e i.0 c.args.self.now.place c.loop-count.self.place i.1 (omega (arith, i.2, c.loop-count-test.false))

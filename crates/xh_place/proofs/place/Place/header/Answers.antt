@@ -7,5 +7,5 @@ use Rattle.xh_place.proofs.place.Place.header.Goals as goal
 pub look-requires-clause-listed : goal.look-requires-clause-listed
 look-requires-clause-listed c =
     let is : c.has.result ≡ true = search rules in
-    let t = some_of (value_at c.args.r c.args.self.now.blocks) (sym c.has.ensures.has ∙ is) in
-    (t.0, ap (λ (p : PlaceOf). value_at c.args.r p.blocks) c.has.ensures.same ∙ t.1)
+    let t = some_of (value_at c.args.r c.args.self.now.place.blocks) (sym c.has.ensures.has ∙ is) in
+    (t.0, ap (λ (p : PlaceOf). value_at c.args.r p.blocks) c.has.ensures.same.0 ∙ t.1)

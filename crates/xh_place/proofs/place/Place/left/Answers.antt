@@ -2,6 +2,7 @@ use Rattle.std.proofs.Common.{rules, ◌≡◌, ◌≤◌, length, sym, ap, ◌�
 use Rattle.std.specs.Vec.{vec_capacity}
 use Rattle.xh_place.proofs.Steps.{list_few}
 use Rattle.xh_place.proofs.Listing.{shown_long}
+use Rattle.xh_place.proofs.Seeing.{placed}
 use Rattle.xh_place.proofs.place.Place.left.Goals as goal
 
 pub overflow_cast-result : goal.overflow_cast-result
@@ -12,5 +13,5 @@ overflow_cast-result c =
 
 pub returns-clause-left : goal.returns-clause-left
 returns-clause-left c =
-    let long : length c.self.inside.list.items ≡ length c.args.self.now.blocks = sym (shown_long c.self.inside.seat.lots c.self.inside.list.items) ∙ ap (λ p. length p.blocks) c.self.view_is in
+    let long : length c.self.inside.list.items ≡ length c.args.self.now.place.blocks = sym (shown_long c.self.inside.seat.lots c.self.inside.list.items) ∙ ap (λ p. length p.blocks) (placed c.self.view_is) in
     search rules

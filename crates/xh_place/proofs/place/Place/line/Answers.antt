@@ -4,6 +4,7 @@ use Rattle.xh_core.specs.Glances.{line_of}
 use Rattle.xh_place.specs.Places.{line}
 use Rattle.xh_place.proofs.Steps.{list_few}
 use Rattle.xh_place.proofs.Listing.{shown_long}
+use Rattle.xh_place.proofs.Seeing.{placed}
 use Rattle.xh_place.proofs.place.Place.line.Goals as goal
 
 pub overflow_cast-glance : goal.overflow_cast-glance
@@ -22,4 +23,4 @@ returns c =
       blocks = (count ∙ sym (shown_long seat.lots xs)) i;
       bytes =
           sum i;
-    })) ∙ ap line c.self.view_is
+    })) ∙ ap line (placed c.self.view_is)

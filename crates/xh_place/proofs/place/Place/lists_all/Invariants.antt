@@ -1,7 +1,8 @@
 use Rattle.std.proofs.Common.{◌≡◌, take, true}
 use Rattle.std.specs.List.{list_all}
 use Rattle.xh_place.specs.Messages.{is_listed}
+use Rattle.xh_place.specs.Seen.{Stays}
 use Rattle.xh_place.proofs.place.Place.lists_all.Given as goal
 
 abbrev pub invariant-loop-r : goal.invariant-loop-r
-invariant-loop-r l = (l.self ≡ l.initial.self) × (list_all (is_listed l.self.blocks) (take l.r-index l.blocks) ≡ true)
+invariant-loop-r l = Stays l.initial.self l.self × (list_all (is_listed l.self.place.blocks) (take l.r-index l.blocks) ≡ true)

@@ -6,6 +6,14 @@ use Rattle.xh_place.specs.Places.{Item, shown, with_blocks}
 use Rattle.xh_place.proofs.Opened.{both_listed, opened, room_first, room_second}
 use Rattle.xh_place.proofs.Steps.{over_running, stays, total_bound}
 use Rattle.xh_place.proofs.Desks.{same_place, seat_at}
+use Rattle.xh_place.proofs.Seeing.{placed, fronted, since}
+use Rattle.std.specs.Prelude.{Err, None, IfErr, OnOk}
+use Rattle.xh_core.specs.Calls.{arena_tests}
+use Rattle.xh_core.specs.Refusing.{first_refusal, Tests}
+use Rattle.xh_place.specs.Starts.{start}
+use Rattle.xh_place.specs.Seen.{PlaceSeen, SawFull}
+use Rattle.xh_place.specs.Vaults.{IsNoPair}
+use Rattle.xh_place.proofs.Ended.{untested}
 use Rattle.xh_place.proofs.place.Place.open.Goals as goal
 
 pub push_reserved-requires : goal.push_reserved-requires
@@ -62,7 +70,7 @@ returns-clause-opened g c =
     let sum : total + c.from-2.result ≡ total + l.len + m.len = omega (arith, c.from-2.ensures, len, len2) in
     let both = opened seat c.make_ends.new.seat rs room total state is alive c.args.arena r q l m k.2 c.push_reserved-2.new.self.items (vec_capacity c.push_reserved-2.new.self)
     (total + c.from-2.result) items (c.push_reserved-2.ensures.capacity ∙ c.push_reserved.ensures.capacity) sum in (
-      both.1 c.args.self.now c.self.view_is ∙ ap (λ (z : Item × Item). with_blocks c.args.self.now (c.args.self.now.blocks ++ (r, z.0) ∷ (q, z.1) ∷ [])) (λ i. (k.3 i, k.4 i)),
+      both.1 c.args.self.now.place (placed c.self.view_is) ∙ ap (λ (z : Item × Item). with_blocks c.args.self.now.place (c.args.self.now.place.blocks ++ (r, z.0) ∷ (q, z.1) ∷ [])) (λ i. (k.3 i, k.4 i)),
       (refl, k.2.two.first_arena),
       (refl, k.2.two.second_arena),
       c.in_ok-made.ensures.taken,
@@ -71,7 +79,11 @@ returns-clause-opened g c =
     )
 
 pub returns-clause-same : goal.returns-clause-same
-returns-clause-same g c = (c.make_ends.ensures.same, same_place c.args.self.now _ _ (returns-clause-opened g c).0)
+returns-clause-same g c = (
+  c.make_ends.ensures.same,
+  same_place c.args.self.now _ _ (returns-clause-opened g c).0
+      (since c.args.self.now c.self.inside.seat c.make_ends.new.seat (fronted c.self.view_is) c.make_ends.ensures.seen),
+)
 
 pub invariant_of-self : goal.invariant_of-self
 invariant_of-self g c =
@@ -80,10 +92,22 @@ invariant_of-self g c =
     (stays seat rs room total state is c.make_ends.new.seat c.in_err-made.ensures.refused.0).0
 
 pub make_ends-requires-clause-at : goal.make_ends-requires-clause-at
-make_ends-requires-clause-at g c = seat_at g.V.Vaults.names c.args.desk.now c.args.self.now c.self.inside.seat (ap (λ p. p.table) c.self.view_is) (ap (λ p. p.shape) c.self.view_is) c.requires.at
+make_ends-requires-clause-at g c = seat_at g.V.Vaults.names c.args.desk.now c.args.self.now.place c.self.inside.seat (ap (λ p. p.table) (placed c.self.view_is)) (ap (λ p. p.shape) (placed c.self.view_is)) c.requires.at
 
 pub make_ends-requires-clause-arena : goal.make_ends-requires-clause-arena
 make_ends-requires-clause-arena g c =
-    let names : length c.self.inside.seat.shape.names ≡ length c.args.self.now.shape.names = ap (λ p. length p.shape.names) c.self.view_is in
-    let all : length (g.V.Vaults.names c.args.desk.now.vaults.now) ≡ length c.args.self.now.shape.names = ap length c.requires.at.1.0 in
+    let names : length c.self.inside.seat.shape.names ≡ length c.args.self.now.place.shape.names = ap (λ p. length p.shape.names) (placed c.self.view_is) in
+    let all : length (g.V.Vaults.names c.args.desk.now.vaults.now) ≡ length c.args.self.now.place.shape.names = ap length c.requires.at.1.0 in
     omega (arith, c.arenas.ensures, c.from.ensures, c.if-arena-from.false, names, all)
+
+pub returns-in_err-made-clause-why : goal.returns-in_err-made-clause-why
+returns-in_err-made-clause-why g c =
+    let vaults = c.args.desk.now.vaults.now in let left = c.make_ends.new.desk.vaults.now in let last = c.make_ends.new.seat in let old = c.args.self.now in
+    let arena : ℕ = c.args.arena in let u = c.in_err-made.field-0.0 in
+    let is : c.from_residual.result ≡ Err u = search rules in
+    let tests : Tests = start old.place.state ++ arena_tests arena (length old.place.shape.names) in
+    let passed : first_refusal tests ≡ None = search rules in
+    let why = subst (λ (p : PlaceSeen). IsNoPair g.V.Vaults.changes vaults left arena 64 (SawFull p.place.shape p.front last.front arena) (g.V.Vaults.extent vaults) u.why) c.self.view_is
+    c.in_err-made.ensures.why in
+    untested tests (IfErr c.from_residual.result (λ z. IsNoPair g.V.Vaults.changes vaults left arena 64 (SawFull old.place.shape old.front last.front arena) (g.V.Vaults.extent vaults) z.why))
+    (λ refused. IfErr c.from_residual.result (λ z. z.why ≡ refused) × OnOk c.from_residual.result ⊥ × (left ≡ vaults)) passed (rw is why)

@@ -1,27 +1,43 @@
-use Rattle.std.proofs.Common.{arith, ℕ, ◌+◌, ◌<◌, length, refl, sym, ap, subst}
+use Rattle.std.proofs.Common.{◌≡◌, arith, ℕ, ◌+◌, ◌<◌, length, refl, sym, ap, subst}
 use Rattle.xh_place.specs.Ending.{HasGivenBack, IsSweptBy}
 use Rattle.xh_place.specs.Places.{PlaceOf}
 use Rattle.xh_place.proofs.Swept.{gave_more, gave_nothing, started, swept_more, swept_none, twice_own}
 use Rattle.xh_place.proofs.Desks.{same_again}
+use Rattle.xh_place.proofs.Seeing.{seen_wide, starts_same, stays_more, swept_by_as}
+use Rattle.xh_place.specs.Seen.{IsSeen}
 use Rattle.xh_place.proofs.place.Place.sweep.Goals as goal
 
 pub loop-used-init : goal.loop-used-init
-loop-used-init g c = (omega arith, omega arith, refl, swept_none c.args.from c.args.self.now, (λ h. refl), (refl, refl, refl, refl, refl, refl), gave_nothing c.args.desk.now.tallies.now)
+loop-used-init g c = let old = c.args.self.now in (
+  omega arith,
+  omega arith,
+  refl,
+  swept_none (IsSeen old old) c.args.from old.place,
+  (λ h. refl),
+  (refl, refl, refl, refl, refl, refl),
+  gave_nothing c.args.desk.now.tallies.now,
+  starts_same old.front old.front refl,
+)
 
 pub loop-used-preserved : goal.loop-used-preserved
 loop-used-preserved g c =
-    let i = c.loop-used.invariant in let old = c.args.self.now in let mid = c.loop-used.self in let new = c.reclaim.new.self in let used : ℕ = c.loop-used.used in let from : ℕ = c.args.from in let bytes : ℕ = c.from-bytes.result in
-    let some : from < length mid.blocks = omega arith in
-    let inside : from < length old.blocks = started from old.blocks mid.blocks some i.4 in
-    let by : IsSweptBy from (used + 1) old new (c.loop-used.bytes + bytes) =
-    swept_more from used 1 c.loop-used.bytes bytes old mid new (omega (arith, inside))
-    (ap (λ (p : PlaceOf). p.process) i.2) i.3 (subst (λ (n : ℕ). IsSweptBy from 1 mid new n) (sym c.from-bytes.ensures) c.reclaim.ensures.swept) in (
+    let i = c.loop-used.invariant in let old = c.args.self.now in let mid = c.loop-used.self in let new = c.reclaim.new.self in let used : ℕ = c.loop-used.used in let from : ℕ = c.args.from in
+    let bytes : ℕ = c.from-bytes.result in let after = c.reclaim.ensures.list.1 in
+    let some : from < length mid.place.blocks = omega arith in
+    let inside : from < length old.place.blocks = started from old.place.blocks mid.place.blocks some i.4 in
+    let shape : mid.place.shape ≡ old.place.shape = ap (λ (p : PlaceOf). p.shape) i.2 in
+    let one = swept_by_as (IsSeen old mid) (IsSeen old new) (seen_wide old mid old new refl (starts_same old.front old.front refl) after) from used old.place mid.place c.loop-used.bytes i.3 in
+    let two = swept_by_as (IsSeen mid new) (IsSeen old new) (seen_wide mid new old new shape i.7 (starts_same new.front new.front refl)) from 1 mid.place new.place c.reclaim.result c.reclaim.ensures.swept in
+    let by : IsSweptBy (IsSeen old new) from (used + 1) old.place new.place (c.loop-used.bytes + bytes) =
+    swept_more (IsSeen old new) from used 1 c.loop-used.bytes bytes old.place mid.place new.place (omega (arith, inside))
+    (ap (λ (p : PlaceOf). p.process) i.2) one (subst (λ (n : ℕ). IsSweptBy (IsSeen old new) from 1 mid.place new.place n) (sym c.from-bytes.ensures) two) in (
       omega arith,
       omega (arith, i.1),
-      twice_own old mid new i.2 c.reclaim.ensures.list,
+      twice_own old.place mid.place new.place i.2 c.reclaim.ensures.list.0,
       by,
       (λ h. absurd (omega (arith, inside, h))),
       same_again g.V.Vaults.names g.V.Vaults.extent c.args.desk.now c.loop-used.desk c.reclaim.new.desk i.5 c.reclaim.ensures.same,
       gave_more c.loop-used.bytes bytes c.args.desk.now.tallies.now c.loop-used.desk.tallies.now c.reclaim.new.desk.tallies.now i.6
           (subst (λ (n : ℕ). HasGivenBack n c.loop-used.desk.tallies.now c.reclaim.new.desk.tallies.now) (sym c.from-bytes.ensures) c.reclaim.ensures.back),
+      stays_more old mid new i.7 after,
     )

@@ -1,4 +1,4 @@
-use Rattle.std.proofs.Common.{ℕ, [], ◌∷◌, refl, sym, ap, ◌∙◌}
+use Rattle.std.proofs.Common.{inl, ℕ, [], ◌∷◌, refl, sym, ap, ◌∙◌}
 use Rattle.xh_place.proofs.Moves.{more_none}
 use Rattle.xh_place.proofs.place.Place.take_one.Goals as goal
 
@@ -8,4 +8,4 @@ returns-in-Ok-clause-got c =
 
 pub returns-in-Err-clause-got : goal.returns-in-Err-clause-got
 returns-in-Err-clause-got c =
-    let m = c.in-Err.ensures.missing in ([], m.1 ∙ more_none c.args.direction c.args.self.now, (refl, m.0))
+    let m = c.in-Err.ensures.missing in ([], m.1 ∙ more_none c.args.direction c.args.self.now.place, (refl, m.0, inl m.2))

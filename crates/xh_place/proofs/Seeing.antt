@@ -1,0 +1,144 @@
+-- What was seen stays seen, and a word that was seen between two fronts was seen between wider ones.
+use Rattle.std.proofs.Common.{◌≡◌, ◌≢◌, ℕ, ◌+◌, ◌*◌, ⊎_elim, inl, inr, List, [], ◌∷◌, ◌++◌, append_assoc, append-nil, refl, sym, ap, ◌∙◌, subst}
+use Rattle.std.specs.Prelude.{slice_index}
+use Rattle.xh_model.specs.declared.event.Event.{Event}
+use Rattle.xh_model.specs.Keyed.{value_at}
+use Rattle.xh_model.specs.Slots.{index_of}
+use Rattle.xh_records.specs.declared.shape.Shape.{Shape}
+use Rattle.xh_records.specs.History.{StartsWith}
+use Rattle.xh_records.specs.Seats.{Advances, Held, IsRecord, HasSeen, SawTaken}
+use Rattle.xh_place.specs.declared.body.Body.{Body}
+use Rattle.xh_place.specs.declared.got.Got.{Got}
+use Rattle.xh_place.specs.declared.got.Got.TheVariants.{Here, Missing}
+use Rattle.xh_channel.specs.declared.message.Message.{Message}
+use Rattle.xh_place.specs.Bodies.{Content, bytes, endpoint, toward}
+use Rattle.xh_place.specs.Ending.{AreEnded, IsSwept, IsSweptBy}
+use Rattle.xh_place.specs.Endpoints.{AreGot, AreUnpacked, EndsWith, IsGot}
+use Rattle.xh_place.specs.Ends.{toward_in}
+use Rattle.xh_place.specs.inner.Reclaiming.{Clears, Drains}
+use Rattle.xh_place.specs.inner.Lots.{SeatFull, SeatSaw, SeatSeesMore}
+use Rattle.xh_place.specs.Places.{Item, PlaceOf}
+use Rattle.xh_place.specs.Seen.{IsElsewhere, IsSeen, PlaceSeen, SawAt, SawFull, SawWord, SeesMore}
+
+pub starts_same : (a b : List Event) → b ≡ a → StartsWith b a
+starts_same a b e = ([], e ∙ sym (append-nil a))
+
+pub starts_more : (a b c : List Event) → StartsWith b a → StartsWith c b → StartsWith c a
+starts_more a b c one two = (one.0 ++ two.0, two.1 ∙ ap (λ (l : List Event). l ++ two.0) one.1 ∙ append_assoc a one.0 two.0)
+
+-- ---- seats
+
+-- a step of the seat
+pub advanced : (own : List Event) (x y : Held Body) → Advances own x y → SeatSeesMore x y
+advanced own x y h = (h.0 ++ own, h.1)
+
+-- a seat of which something else changed
+pub seat_same : (x y : Held Body) → y.front ≡ x.front → SeatSeesMore x y
+seat_same x y e = starts_same x.front y.front e
+
+pub seat_more : (x y z : Held Body) → SeatSeesMore x y → SeatSeesMore y z → SeatSeesMore x z
+seat_more x y z one two = starts_more x.front y.front z.front one two
+
+-- ---- looks
+
+-- a look, as the seat says it
+pub looked : (x y : Held Body) (r word : ℕ) → HasSeen r word x y → SeatSaw x y r word
+looked x y r word h = (y.front, advanced [] x y h.1.1, starts_same y.front y.front refl, h.0.1)
+
+pub saw_wide : (s : Shape) (from to from' to' : List Event) (k word : ℕ) → StartsWith from from' → StartsWith to' to → SawAt s from to k word → SawAt s from' to' k word
+saw_wide s from to from' to' k word before after h = (h.0, starts_more from' from h.0 before h.1, starts_more h.0 to to' h.2 after, h.3)
+
+pub full_wide : (s : Shape) (from to from' to' : List Event) (arena : ℕ) → StartsWith from from' → StartsWith to' to → SawFull s from to arena → SawFull s from' to' arena
+full_wide s from to from' to' arena before after h =
+    (h.0, h.1, λ k small. let look = h.2 k small in (look.0, saw_wide s from to from' to' (arena * s.records + k) (slice_index h.0 k) before after look.1))
+
+-- a claim found no record free
+pub no_record : (arena : ℕ) (words : List ℕ) (x y : Held Body) → SawTaken arena words x y → SeatFull x y arena
+no_record arena words x y h = (words, h.0, λ k small. let look = h.1 k small in (look.0, (look.1, look.2, look.3, look.4.1)))
+
+-- the same of a step among others of the seat
+module _ (x y z w : Held Body) (shape : y.shape ≡ x.shape) (before : SeatSeesMore x y) (after : SeatSeesMore z w) where
+  pub saw_later : (r word : ℕ) → SeatSaw y z r word → SeatSaw x w r word
+  saw_later r word h = subst (λ (s : Shape). SawAt s x.front w.front (index_of s.records r) word) shape
+      (saw_wide y.shape y.front z.front x.front w.front (index_of y.shape.records r) word before after h)
+
+  pub full_later : (arena : ℕ) → SeatFull y z arena → SeatFull x w arena
+  full_later arena h = subst (λ (s : Shape). SawFull s x.front w.front arena) shape (full_wide y.shape y.front z.front x.front w.front arena before after h)
+
+module _ (old new old' new' : PlaceSeen) (shape : old.place.shape ≡ old'.place.shape) (before : SeesMore old' old) (after : SeesMore new new') where
+  pub word_wide : (r word : ℕ) → SawWord old new r word → SawWord old' new' r word
+  word_wide r word h = subst (λ (s : Shape). SawAt s old'.front new'.front (index_of s.records r) word) shape
+      (saw_wide old.place.shape old.front new.front old'.front new'.front (index_of old.place.shape.records r) word before after h)
+
+  pub seen_wide : (r word : ℕ) → IsSeen old new r word → IsSeen old' new' r word
+  seen_wide r word h = ⊎_elim (λ w. inl (word_wide r word w)) (λ n. inr (subst (λ (s : Shape). (IsRecord s r → ⊥) × (word ≡ 0)) shape n)) h
+
+-- ---- what is told of looks, where each is a look in another sense
+
+module _ (P Q : ℕ → ℕ → Type 0) (f : (r word : ℕ) → P r word → Q r word) where
+  pub away_as : (d r : ℕ) → IsElsewhere P d r → IsElsewhere Q d r
+  away_as d r h = (h.0, h.1, f r h.0 h.2)
+
+  pub got_as : (d : ℕ) (ys : List (ℕ × Item)) (got : Got) → IsGot P d ys got → IsGot Q d ys got
+  got_as d ys (Here block) h = h
+  got_as d ys (Missing r word) h = (h.0, h.1, f r word h.2)
+
+  pub all_got_as : (d : ℕ) (ys : List (ℕ × Item)) (gots : List Got) → AreGot P d ys gots → AreGot Q d ys gots
+  all_got_as d ys [] h = h
+  all_got_as d ys (got ∷ gots) h = (h.0, h.1, h.2, got_as d h.0 got h.3, all_got_as d h.1 gots h.4)
+
+  pub unpacked_as : (d : ℕ) (ms : List Message) (came : List (ℕ × Item)) → AreUnpacked P d ms came → AreUnpacked Q d ms came
+  unpacked_as d ms came h = (h.0, h.1, all_got_as d came h.0 h.2)
+
+  pub ends_as : (c : Content) (came : List (ℕ × Item)) → EndsWith P c came → EndsWith Q c came
+  ends_as (bytes xs) came h = h
+  ends_as (endpoint e) came h = (h.0, h.1, h.2, h.3, h.4, unpacked_as (toward (endpoint e)) h.0 came h.5)
+
+  ended_as : (p : ℕ) (gone accepted : List (ℕ × Item)) (log : List Event) → AreEnded P p gone accepted log → AreEnded Q p gone accepted log
+  ended_as p [] accepted log h = h
+  ended_as p (y ∷ ys) accepted log h = (h.0, h.1, h.2, h.3, h.4, ends_as y.1.content h.0 h.5, ended_as p ys h.1 h.2 h.6)
+
+  pub swept_by_as : (from count : ℕ) (old new : PlaceOf) (n : ℕ) → IsSweptBy P from count old new n → IsSweptBy Q from count old new n
+  swept_by_as from count old new n h = record {
+    accepted = h.accepted;
+    log = h.log;
+    there = h.there;
+    list = h.list;
+    moved = h.moved;
+    ended = ended_as old.process _ h.accepted h.log h.ended;
+    sum = h.sum;
+  }
+
+  pub swept_as : (from budget : ℕ) (old new : PlaceOf) (n left : ℕ) → IsSwept P from budget old new n left → IsSwept Q from budget old new n left
+  swept_as from budget old new n left h = record { count = h.count; by = swept_by_as from h.count old new n h.by; within = h.within; rest = h.rest; more = h.more }
+
+  pub drains_as : (e : ℕ) (old new : PlaceOf) → Drains P e old new → Drains Q e old new
+  drains_as e old new h = (h.0, h.1, h.2, h.3, unpacked_as (toward_in (value_at e old.blocks)) h.2 h.1 h.4, h.5)
+
+  pub clears_as : (r : ℕ) (old new : PlaceOf) → Clears P r old new → Clears Q r old new
+  clears_as r old new h = (h.0, h.1, h.2, h.3, h.4, ends_as h.0.content h.2 h.5, h.6)
+
+-- ---- a place whose seat is seen
+
+pub placed : {p q : PlaceSeen} → p ≡ q → p.place ≡ q.place
+placed e = ap (λ (p : PlaceSeen). p.place) e
+
+pub fronted : {p q : PlaceSeen} → p ≡ q → p.front ≡ q.front
+fronted e = ap (λ (p : PlaceSeen). p.front) e
+
+-- the seat saw more since it was the place's
+pub since : (p : PlaceSeen) (seat last : Held Body) → seat.front ≡ p.front → SeatSeesMore seat last → StartsWith last.front p.front
+since p seat last e h = subst (λ (f : List Event). StartsWith last.front f) e h
+
+-- the place that it became stays, through two calls
+pub stays_more : (p q r : PlaceSeen) → SeesMore p q → SeesMore q r → SeesMore p r
+stays_more p q r one two = starts_more p.front q.front r.front one two
+
+-- what the seat saw, as the place says it
+module _ (p : PlaceSeen) (seat last : Held Body) (shape : seat.shape ≡ p.place.shape) (front : seat.front ≡ p.front) where
+  pub place_saw : (r word : ℕ) → SeatSaw seat last r word → SawAt p.place.shape p.front last.front (index_of p.place.shape.records r) word
+  place_saw r word h = subst (λ (z : Shape × List Event). SawAt z.0 z.1 last.front (index_of z.0.records r) word) (λ i. (shape i, front i)) h
+
+  pub place_away : (d way r : ℕ) → d ≡ way → IsElsewhere (SeatSaw seat last) d r
+      → (word : ℕ) × (word ≢ 2 + 4 * way) × SawAt p.place.shape p.front last.front (index_of p.place.shape.records r) word
+  place_away d way r same h = (h.0, subst (λ (n : ℕ). h.0 ≢ 2 + 4 * n) same h.1, place_saw r h.0 h.2)
