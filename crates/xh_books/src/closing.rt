@@ -2,6 +2,7 @@
 ghost use Rattle.std.specs.Prelude.{◌≡◌, ◌+◌, ◌*◌, ◌<◌, ◌≤◌, All, IfErr, IfOk, length, sum, vec_len};
 ghost use Rattle.std.specs.List.{sum_by};
 ghost use Rattle.xh_kernel.specs.Parts.{IsOpen, vault_names};
+ghost use Rattle.xh_kernel.specs.Places.{places_of};
 ghost use Rattle.xh_model.specs.declared.limits.TheConstants.{MAX_ARENAS, PLACES};
 ghost use Rattle.xh_place.specs.Places.{IsPlaceOf};
 ghost use Rattle.xh_books.specs.inner.Steps.{AreAt, SayInFlight, lens_of, unlisted_from};
@@ -14,7 +15,7 @@ use arrayvec::ArrayVec;
 use std::alloc::Global;
 use xh_arena::{Lot, Vault};
 use xh_core::{ARENA_LINES, ArenaLine, Ledger, PLACE_LINES, PlaceLine, Refused};
-use xh_kernel::{Account, Kernel, Names};
+use xh_kernel::{Account, Kernel, Names, Settled};
 use xh_place::{Body, Place};
 use xh_records::Records;
 
@@ -24,11 +25,11 @@ fn close_table(
     records: Records<Body>,
     places: Vec<Place>,
 ) -> Result<(Vec<u64>, Vec<Lot<Body>>, ArrayVec<PlaceLine, PLACE_LINES>), Refused>
-    requires places { All (IsPlaceOf records) places.items × (vec_len places ≡ records.shape.places) }
+    requires places { All (IsPlaceOf records) (places_of places.items) × (vec_len places ≡ records.shape.places) }
     ensures lots { IfOk result (λ r. (length r.1.items ≡ length records.shape.names * records.shape.records) × AreAt records.shape.records records.shape.names r.1.items) }
-    ensures owned { IfOk result (λ r. sum (lens_of r.1.items) ≡ bytes_owned places.items + sum (unlisted_from places.items records.shape.records 0 (lens_of r.1.items))) }
-    ensures words { IfOk result (λ r. SayInFlight places.items records.shape.records r.0.items (lens_of r.1.items)) }
-    ensures lines { IfOk result (λ r. (r.2.items ≡ place_lines places.items) × (sum_by (λ l. l.bytes) r.2.items ≡ bytes_owned places.items)) }
+    ensures owned { IfOk result (λ r. sum (lens_of r.1.items) ≡ bytes_owned (places_of places.items) + sum (unlisted_from (places_of places.items) records.shape.records 0 (lens_of r.1.items))) }
+    ensures words { IfOk result (λ r. SayInFlight (places_of places.items) records.shape.records r.0.items (lens_of r.1.items)) }
+    ensures lines { IfOk result (λ r. (r.2.items ≡ place_lines (places_of places.items)) × (sum_by (λ l. l.bytes) r.2.items ≡ bytes_owned (places_of places.items))) }
     ensures refused { IfErr result (λ e. e ≡ Refused.OutOfMemory) }
 {
     let (seats, lines) = end_places(alloc, places)?;
@@ -75,13 +76,13 @@ pub fn close_books<N: Names>(
     accounts: Vec<Account<N>>,
 ) -> Result<Ledger, Refused>
     requires vaults { (vault_names vaults.items ≡ N.parts.records.shape.names) × All (IsOpen N.parts) vaults.items × (vec_len vaults ≤ MAX_ARENAS) }
-    requires places { All (IsPlaceOf records) places.items × (vec_len places ≡ records.shape.places) }
+    requires places { All (IsPlaceOf records) (places_of places.items) × (vec_len places ≡ records.shape.places) }
     requires records { records ≡ N.parts.records }
     requires accounts { vec_len accounts ≡ N.parts.workers }
     ensures arenas { IfOk result (λ l. l.arenas.items ≡ arena_lines accounts.items 0 vaults.items) }
-    ensures places { IfOk result (λ l. l.places.items ≡ place_lines places.items) }
-    ensures owned { IfOk result (λ l. l.owned ≡ bytes_owned places.items) }
-    ensures flight { IfOk result (λ l. l.flight ≡ bytes_in_flight places.items 0 vaults.items) }
+    ensures places { IfOk result (λ l. l.places.items ≡ place_lines (places_of places.items)) }
+    ensures owned { IfOk result (λ l. l.owned ≡ bytes_owned (places_of places.items)) }
+    ensures flight { IfOk result (λ l. l.flight ≡ bytes_in_flight (places_of places.items) 0 vaults.items) }
     ensures moved { IfOk result (λ l. all_taken accounts.items ≡ all_back accounts.items + l.out) }
     ensures balanced { IfOk result IsBalanced }
     ensures refused { IfErr result (λ e. e ≡ Refused.OutOfMemory) }
@@ -109,7 +110,15 @@ pub fn close_kernel<N: Names>(
     ensures refused { IfErr result (λ e. e ≡ Refused.OutOfMemory) }
 {
     match kernel.settle(alloc) {
-        Ok((vaults, places, records)) => close_books(alloc, vaults, places, records, accounts),
+        Ok(
+            Settled {
+                vaults,
+                places,
+                pens: _,
+                records,
+                glances: _,
+            },
+        ) => close_books(alloc, vaults, places, records, accounts),
         Err(refused) => Err(refused),
     }
 }

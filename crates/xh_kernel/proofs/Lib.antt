@@ -5,5 +5,7 @@ pub mod Makings
 pub mod Last
 pub mod Moved
 pub mod Vaulted
+pub mod Found
 pub mod Wired
 pub mod Started
+pub mod Several

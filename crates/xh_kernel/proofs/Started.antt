@@ -8,19 +8,12 @@ use Rattle.xh_core.specs.declared.status.Status.{Status}
 use Rattle.xh_core.specs.declared.status.Status.TheVariants.{Running}
 use Rattle.xh_core.specs.Refusing.{Tests, Tested, first_refusal}
 use Rattle.xh_core.specs.Statuses.{is_over}
-use Rattle.xh_place.specs.Ends.{RefusedOr}
 use Rattle.xh_place.specs.Starts.{start as starts, stop}
 
-less : {A : Type 0} (result : Result A Refused) (same left done all : Type 0) → (all → done) → (o : Option Refused)
-    → MatchOption o all (λ refused. (result ≡ Err refused) × (same × left)) → MatchOption o done (λ refused. (result ≡ Err refused) × same)
-less result same left done all f None d = f d
-less result same left done all f (Some refused) d = (d.0, d.1.0)
-
 -- a process that may end: so may the place's
-pub stops : {A : Type 0} (result : Result A Refused) (tests : Tests) (none : first_refusal tests ≡ None) (state : Status) (alive : is_over state ≡ false) (same left done all : Type 0) → (all → done)
-    → RefusedOr (stop state) result (same × left) all → RefusedOr tests result same done
-stops result tests none state alive same left done all f h =
-    subst (λ (o : Option Refused). MatchOption o done (λ refused. (result ≡ Err refused) × same)) (ap (λ b. cond b (Some Ended) None) alive ∙ sym none) (less result same left done all f (first_refusal (stop state)) h)
+pub stops : (done : Type 0) (P : Refused → Type 0) (tests : Tests) (none : first_refusal tests ≡ None) (state : Status) (alive : is_over state ≡ false)
+    → MatchOption (first_refusal (stop state)) done P → MatchOption (first_refusal tests) done P
+stops done P tests none state alive h = subst (λ (o : Option Refused). MatchOption o done P) (ap (λ b. cond b (Some Ended) None) alive ∙ sym none) h
 
 module _ (tests more : Tests) (none : first_refusal tests ≡ None) (state : Status) (run : state ≡ Running) where
   later : first_refusal (tests ++ more) ≡ first_refusal (starts state ++ more)
@@ -32,10 +25,6 @@ module _ (tests more : Tests) (none : first_refusal tests ≡ None) (state : Sta
   module _ {A : Type 0} (result : Result A Refused) where
     pub tested : (P : A → Type 0) → Tested (starts state ++ more) result P → Tested (tests ++ more) result P
     tested P h = subst (λ (o : Option Refused). MatchResult result (λ a. (o ≡ None) × P a) (λ refused. o ≡ Some refused)) (sym later) h
-
-    -- less is said of what stays, and of what is done
-    pub fewer : (same left done all : Type 0) → (all → done) → RefusedOr (starts state ++ more) result (same × left) all → RefusedOr (tests ++ more) result same done
-    fewer same left done all f h = passes done (λ refused. (result ≡ Err refused) × same) (less result same left done all f (first_refusal (starts state ++ more)) h)
 
 -- the first test that refuses is what a call answers
 module _ {A : Type 0} (o : Option Refused) (result : Result A Refused) (e : Refused) (first : o ≡ Some e) (is : result ≡ Err e) where

@@ -1,5 +1,5 @@
 -- What each call of a process does to its place, and why it is refused.
-use Rattle.std.specs.Prelude.{◌≡◌, ◌⊎◌, ℕ, ◌/◌, Bool, true, false, List, [], ◌∷◌, ◌++◌, length, replicate, Option, Some, Result, Err, IfErr, IfOk, MatchOption, OnErr, OnOk}
+use Rattle.std.specs.Prelude.{◌≡◌, ℕ, ◌/◌, Bool, true, false, List, [], ◌∷◌, ◌++◌, length, replicate, Option, Some, Result, Err, IfErr, IfOk, MatchOption, OnErr, OnOk}
 use Rattle.xh_arena.specs.Views.{VaultOf}
 use Rattle.xh_core.specs.declared.block.Block.{Block}
 use Rattle.xh_core.specs.declared.refused.Refused.{Refused}
@@ -15,7 +15,8 @@ use Rattle.xh_place.specs.Places.{found, Item, PlaceOf, started, with_blocks}
 use Rattle.xh_core.specs.Calls.{alloc_tests, data_tests, range_tests, split_tests}
 use Rattle.xh_core.specs.Headers.{len_in}
 use Rattle.xh_core.specs.Space.{rounded}
-use Rattle.xh_place.specs.Splitting.{IsSplit}
+use Rattle.xh_place.specs.Seen.{FindsFull, PlaceSeen}
+use Rattle.xh_place.specs.Splitting.{IsSplit, IsUncut}
 use Rattle.xh_kernel.specs.Parts.{PartsOf, IsVaultOf}
 use Rattle.xh_kernel.specs.Places.{start}
 
@@ -36,30 +37,30 @@ Spawns old new result = MatchOption result ((can_start old ≡ false) × (new �
 abbrev pub IsOfSome : PartsOf → ℕ → (ArenaState → Type 0) → Type 0
 IsOfSome parts a P = (v : VaultOf) × IsVaultOf parts a v × IsLawfulArena v.arena × P v.arena
 
--- no record or no memory was had, or n bytes could not be carved of the arena
-abbrev pub IsLack : PartsOf → ℕ → ℕ → Refused → Type 0
-IsLack parts a n NoRecord = Unit {0}
-IsLack parts a n OutOfMemory = Unit {0}
-IsLack parts a n NoSpace = IsOfSome parts a (HasNoSpace n)
-IsLack parts a n Worn = IsOfSome parts a (IsWorn n)
-IsLack parts a n _ = ⊥
+-- no record was free, as `full` says; or no memory was had, or n bytes could not be carved of the arena
+abbrev pub IsLack : PartsOf → Type 0 → ℕ → ℕ → Refused → Type 0
+IsLack parts full a n NoRecord = full
+IsLack parts full a n OutOfMemory = Unit {0}
+IsLack parts full a n NoSpace = IsOfSome parts a (HasNoSpace n)
+IsLack parts full a n Worn = IsOfSome parts a (IsWorn n)
+IsLack parts full a n _ = ⊥
 
 -- a new data block of at least n bytes of the arena, all of them zero, is the last of the list
-pub record Allocates (parts : PartsOf) (p n arena : ℕ) (old new : PlaceOf) (result : Result Block Refused) : Type 0 where
-  pub made : IfOk result (λ b. new ≡ with_blocks old (old.blocks ++ (b.rec, record { len = b.len; content = bytes (replicate b.len 0) }) ∷ []))
+pub record Allocates (parts : PartsOf) (p n arena : ℕ) (old new : PlaceSeen) (result : Result Block Refused) : Type 0 where
+  pub made : IfOk result (λ b. new.place ≡ with_blocks old.place (old.place.blocks ++ (b.rec, record { len = b.len; content = bytes (replicate b.len 0) }) ∷ []))
   pub block : IfOk result (λ b. (b.len ≡ rounded n) × (b.rec / MAX_RECORDS ≡ arena))
-  pub refused : OnErr result (new ≡ old)
-  pub why : MatchOption (first_refusal (start p old ++ alloc_tests arena (length parts.records.shape.names) n parts.size))
-      (IfErr result (IsLack parts arena (rounded n))) (λ refused. result ≡ Err refused)
+  pub refused : OnErr result (new.place ≡ old.place)
+  pub why : MatchOption (first_refusal (start p old.place ++ alloc_tests arena (length parts.records.shape.names) n parts.size))
+      (IfErr result (IsLack parts (FindsFull old new arena) arena (rounded n))) (λ refused. result ≡ Err refused)
 
 -- ---- split
 
 -- the block is cut after its first k bytes
-pub record Splits (p r k : ℕ) (old new : PlaceOf) (result : Result (Block × Block) Refused) : Type 0 where
-  pub cut : IfOk result (λ ends. IsSplit old new r k ends.0 ends.1)
-  pub refused : OnErr result (new ≡ old)
-  pub why : MatchOption (first_refusal (start p old ++ split_tests (found old r) k))
-      (IfErr result (λ e. (e ≡ NoRecord) ⊎ (e ≡ OutOfMemory))) (λ refused. result ≡ Err refused)
+pub record Splits (p r k : ℕ) (old new : PlaceSeen) (result : Result (Block × Block) Refused) : Type 0 where
+  pub cut : IfOk result (λ ends. IsSplit old.place new.place r k ends.0 ends.1)
+  pub refused : OnErr result (new.place ≡ old.place)
+  pub why : MatchOption (first_refusal (start p old.place ++ split_tests (found old.place r) k))
+      (IfErr result (IsUncut (FindsFull old new (r / MAX_RECORDS)))) (λ refused. result ≡ Err refused)
 
 -- ---- read, write
 

@@ -4,6 +4,8 @@ pub mod Places
 pub mod Calls
 pub mod Reclaims
 pub mod Channels
+pub mod Wires
 pub mod Messages
+pub mod Several
 pub mod Endings
 pub mod inner

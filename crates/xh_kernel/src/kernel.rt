@@ -3,21 +3,23 @@ ghost use Rattle.std.specs.Prelude.{◌≡◌, ◌<◌, ◌≤◌, [], All, IfEr
 ghost use Rattle.xh_glance.specs.Look.{fresh_look, Sees};
 ghost use Rattle.xh_glance.specs.Pen.{fresh_pen};
 ghost use Rattle.xh_model.specs.declared.limits.TheConstants.{MAX_ARENAS, PLACES};
-ghost use Rattle.xh_place.specs.Places.{IsPlaceOf, PlaceOf};
+ghost use Rattle.xh_place.specs.Places.{IsPlaceOf};
 ghost use Rattle.xh_records.specs.Seats.{IsSeatOf};
 ghost use Rattle.xh_kernel.specs.Accounts.{AreFresh};
 ghost use Rattle.xh_kernel.specs.Calls.{Spawns};
 ghost use Rattle.xh_kernel.specs.Parts.{IsOpen, vault_names};
+ghost use Rattle.xh_kernel.specs.Places.{AreTold, Finds, places_of};
 ghost use Rattle.xh_kernel.specs.inner.Making.{AreBundles, ArePens, AreSeats};
 
 mod blocks;
 mod channels;
 mod endings;
 mod messages;
+mod waiting;
 
 use crate::account::{Account, Bundle};
 use crate::arenas::Arenas;
-use crate::held::Held;
+use crate::held::{Held, Waits};
 use crate::names::Names;
 use crate::parts::Parts;
 use crate::shared::Shared;
@@ -28,7 +30,7 @@ use std::marker::PhantomData;
 use std::sync::{Mutex, Wait};
 use xh_arena::Vault;
 use xh_core::{Glance, Refused};
-use xh_glance::{Look, Pen};
+use xh_glance::{Glances, Look, Pen};
 use xh_model::limits::PLACES;
 use xh_place::{Body, Gate, Place};
 use xh_records::{Records, Seat};
@@ -41,6 +43,17 @@ pub struct Kernel<N: Names> {
     shared: Shared<N>,
     places: Vec<CachePadded<Mutex<Held<N>>>>,
     ghost all: { vec_len places ≡ PLACES },
+}
+
+/// What a kernel was: the vaults by arena, the places by number, which hold all seats of the records, the
+/// pen of each place's history of glances, the records and the glances.
+#[derive(Drop)]
+pub struct Settled {
+    pub vaults: Vec<Vault>,
+    pub places: Vec<Place>,
+    pub pens: Vec<Pen>,
+    pub records: Records<Body>,
+    pub glances: Glances,
 }
 
 // The lock of a place that nobody has yet, beside its pen.
@@ -60,7 +73,7 @@ fn lock_place<N: Names>(
     Ok(CachePadded::new(Mutex::new(Held {
         teller: Teller::new(pen, &place),
         place,
-        waits: None,
+        waits: Waits::Nowhere,
         of: PhantomData,
     })))
 }
@@ -103,19 +116,23 @@ fn name_accounts<N: Names>(alloc: Global, bundles: Vec<Bundle>) -> Result<Vec<Ac
     Ok(accounts)
 }
 
-// The places out of their locks.
+// The places out of their locks, and the pens that told of them.
 fn unlock_places<N: Names>(
     alloc: Global,
     locks: Vec<CachePadded<Mutex<Held<N>>>>,
-) -> Result<Vec<Place>, AllocError>
-    ensures count { IfOk result (λ p. vec_len p ≡ vec_len locks) }
-    ensures named { IfOk result (λ p. All (IsPlaceOf N.parts.records) p.items) }
+) -> Result<(Vec<Place>, Vec<Pen>), AllocError>
+    ensures count { IfOk result (λ r. vec_len r.0 ≡ vec_len locks) }
+    ensures named { IfOk result (λ r. All (IsPlaceOf N.parts.records) (places_of r.0.items)) }
+    ensures told { IfOk result (λ r. AreTold N.parts r.0.items r.1.items) }
 {
     let mut places = Vec::with_capacity(alloc, locks.len())?;
+    let mut pens = Vec::with_capacity(alloc, locks.len())?;
     for lock in locks {
-        places.push(lock.into_inner().into_inner().into_place())?;
+        let (place, pen) = lock.into_inner().into_inner().into_parts();
+        places.push(place)?;
+        pens.push(pen)?;
     }
-    Ok(places)
+    Ok((places, pens))
 }
 
 impl<N: Names> Kernel<N> {
@@ -161,7 +178,7 @@ impl<N: Names> Kernel<N> {
     /// or its process has ended and was not the 128th. It answers the process's number, the place and 32
     /// times the generation. NoPlace where none was found.
     pub fn spawn<R: Wait, G: Gate>(&self, rt: &R, _gate: &G) -> Result<u16, Refused>
-        ensures found { IfOk result (λ p. (old : PlaceOf) × (new : PlaceOf) × IsPlaceOf N.parts.records old × Spawns old new (Some p)) }
+        ensures found { IfOk result (λ p. Finds N.parts (λ old new. Spawns old.place new.place (Some p))) }
         ensures none { IfErr result (λ e. e ≡ Refused.NoPlace) }
     {
         for place in &self.places {
@@ -186,23 +203,30 @@ impl<N: Names> Kernel<N> {
         Ok(self.shared.glances.look(look, place))
     }
 
-    /// Takes the kernel apart and changes nothing: the vaults by arena, the places by number, which hold all
-    /// seats of the records, and the records. OutOfMemory where a growth was refused.
-    pub fn settle(self, alloc: Global) -> Result<(Vec<Vault>, Vec<Place>, Records<Body>), Refused>
-        ensures vaults { IfOk result (λ r. (vault_names r.0.items ≡ N.parts.records.shape.names) × All (IsOpen N.parts) r.0.items × (vec_len r.0 ≤ MAX_ARENAS)) }
-        ensures places { IfOk result (λ r. All (IsPlaceOf r.2) r.1.items × (vec_len r.1 ≡ r.2.shape.places)) }
-        ensures records { IfOk result (λ r. r.2 ≡ N.parts.records) }
+    /// Takes the kernel apart and changes nothing. What a look has seen of a place is a beginning of the
+    /// history of the place's pen, as `Glances::compare` shows. OutOfMemory where a growth was refused.
+    pub fn settle(self, alloc: Global) -> Result<Settled, Refused>
+        ensures vaults { IfOk result (λ s. (vault_names s.vaults.items ≡ N.parts.records.shape.names) × All (IsOpen N.parts) s.vaults.items × (vec_len s.vaults ≤ MAX_ARENAS)) }
+        ensures places { IfOk result (λ s. All (IsPlaceOf s.records) (places_of s.places.items) × (vec_len s.places ≡ s.records.shape.places)) }
+        ensures told { IfOk result (λ s. AreTold N.parts s.places.items s.pens.items) }
+        ensures tables { IfOk result (λ s. (s.records ≡ N.parts.records) × (s.glances ≡ N.parts.glances)) }
         ensures refused { IfErr result (λ e. e ≡ Refused.OutOfMemory) }
     {
         let Kernel { shared, places } = self;
         let Shared {
             records,
             channels: _,
-            glances: _,
+            glances,
             arenas,
         } = shared;
         let vaults = arenas.into_vaults(alloc)?;
-        let places = unlock_places(alloc, places)?;
-        Ok((vaults, places, records))
+        let (places, pens) = unlock_places(alloc, places)?;
+        Ok(Settled {
+            vaults,
+            places,
+            pens,
+            records,
+            glances,
+        })
     }
 }

@@ -29,10 +29,12 @@ mod kernel;
 mod making;
 mod names;
 mod parts;
+mod search;
 mod shared;
 mod teller;
 
 pub use account::Account;
-pub use kernel::Kernel;
+pub use kernel::{Kernel, Settled};
 pub use names::Names;
 pub use parts::Parts;
+pub use search::{Answered, MAX_ENDS};

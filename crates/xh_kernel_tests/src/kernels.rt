@@ -2,6 +2,8 @@
 ghost use Rattle.std.specs.Prelude.{◌≡◌, vec_len};
 
 mod passing;
+mod serving;
+mod several;
 mod waiting;
 mod wiring;
 
@@ -10,20 +12,26 @@ use std::marker::Brand;
 use std::process::Abort;
 use std::sync::Wait;
 use std::thread::Threads;
+use std::time::Clock;
 use waiting::Ender;
 use xh_books::close_kernel;
 use xh_core::{Config, Ledger, Refused};
 use xh_kernel::{Account, Kernel, Names, Parts};
 use xh_place::OpenGate;
 
-/// What is tried on a kernel: no call; ten messages from one thread to another; rounds of a process that waits, which
-/// answers so once its wait is ended; a wire to a process that ends.
+/// What is tried on a kernel: no call; ten messages from one thread to another; rounds of a process that waits, at two
+/// ends or at one, which answers so once its wait is ended; a wire to a process that ends; takes at several endpoints, by
+/// what they answer, by their deadlines and by turns; a server of eight clients.
 #[derive(Clone, Copy)]
 enum Case {
     Nothing,
     TenMessages,
-    Waits(Ender, u64),
+    Waits(bool, Ender, u64),
     WireToOneThatEnds,
+    Order,
+    Deadlines,
+    Turns,
+    Serves,
 }
 
 /// A configuration of one arena of so many bytes, in which so many messages wait in a direction.
@@ -45,7 +53,7 @@ fn assert_two_start<N: Names, R: Wait + Abort>(rt: &R, kernel: &Kernel<N>) {
 }
 
 /// Tries the case on a kernel.
-fn lend<N: Names + Send + Sync, R: Threads + Wait + Abort + Sync>(
+fn lend<N: Names + Send + Sync, R: Threads + Wait + Clock + Abort + Sync>(
     rt: &R,
     alloc: Global,
     kernel: &Kernel<N>,
@@ -58,13 +66,19 @@ fn lend<N: Names + Send + Sync, R: Threads + Wait + Abort + Sync>(
     match case {
         Case::Nothing => {}
         Case::TenMessages => passing::assert_ten(rt, alloc, kernel, mine),
-        Case::Waits(ender, want) => waiting::assert_rounds(rt, alloc, kernel, mine, ender, want),
+        Case::Waits(both, ender, want) => {
+            waiting::assert_rounds(rt, alloc, kernel, mine, (both, ender), want);
+        }
         Case::WireToOneThatEnds => wiring::assert_refused(rt, kernel, mine, others),
+        Case::Order => several::assert_order(rt, alloc, kernel, mine),
+        Case::Deadlines => several::assert_deadlines(rt, kernel, mine),
+        Case::Turns => several::assert_turns(rt, kernel, mine),
+        Case::Serves => serving::assert_served(rt, alloc, kernel, mine, others),
     }
 }
 
 /// The case on a kernel of the parts; its ledger.
-fn on_parts<N: Names + Send + Sync, R: Threads + Wait + Abort + Sync>(
+fn on_parts<N: Names + Send + Sync, R: Threads + Wait + Clock + Abort + Sync>(
     rt: &R,
     alloc: Global,
     parts: Parts,
@@ -82,7 +96,7 @@ fn on_parts<N: Names + Send + Sync, R: Threads + Wait + Abort + Sync>(
 }
 
 /// The case on a new kernel for so many workers; its ledger.
-fn on_kernel<R: Threads + Wait + Abort + Sync>(
+fn on_kernel<R: Threads + Wait + Clock + Abort + Sync>(
     rt: &R,
     alloc: Global,
     config: Config,
@@ -94,7 +108,7 @@ fn on_kernel<R: Threads + Wait + Abort + Sync>(
 }
 
 /// The case on a new kernel for two workers.
-fn assert_case<R: Threads + Wait + Abort + Sync>(
+fn assert_case<R: Threads + Wait + Clock + Abort + Sync>(
     rt: &R,
     alloc: Global,
     config: Config,
@@ -105,7 +119,7 @@ fn assert_case<R: Threads + Wait + Abort + Sync>(
 }
 
 /// What the making of a kernel answers: the name of a refusal, or nothing.
-fn made<R: Threads + Wait + Abort + Sync>(
+fn made<R: Threads + Wait + Clock + Abort + Sync>(
     rt: &R,
     alloc: Global,
     arenas: u8,
@@ -134,4 +148,27 @@ fn limits_of_parts(rt: HostRuntime) {
     for (arenas, workers, expected) in LIMITS {
         assert_eq!(rt; made(&rt, rt.alloc(), *arenas, *workers), *expected);
     }
+}
+
+/// What takes at several endpoints answer, one after the other.
+#[test]
+fn takes_at_several(rt: HostRuntime) {
+    let config = Config {
+        records: 32,
+        ..waiting_of(1024, 2)
+    };
+    for case in [Case::Order, Case::Deadlines, Case::Turns] {
+        assert_case(&rt, rt.alloc(), config, case);
+    }
+}
+
+/// A server takes at the ends of its clients, some of which are killed and replaced.
+#[test]
+fn clients_are_served(rt: HostRuntime) {
+    let config = Config {
+        records: 64,
+        ..waiting_of(4096, 2)
+    };
+    let ledger = on_kernel(&rt, rt.alloc(), config, 10, Case::Serves);
+    assert!(rt; ledger.is_ok());
 }

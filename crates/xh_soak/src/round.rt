@@ -14,7 +14,7 @@ use std::thread::{self, Threads};
 use xh_books::close_books;
 use xh_core::{Ledger, Refused};
 use xh_glance::Look;
-use xh_kernel::{Account, Kernel, Names, Parts};
+use xh_kernel::{Account, Kernel, Names, Parts, Settled};
 use xh_runner::{Machine, OpenGate, hire};
 
 /// What the workers of a round did: how many blocks they took, and how often one waited for a message.
@@ -175,7 +175,15 @@ fn close<N: Names>(
     requires { vec_len accounts ≡ N.parts.workers }
 {
     match kernel.settle(alloc) {
-        Ok((vaults, places, records)) => {
+        Ok(
+            Settled {
+                vaults,
+                places,
+                pens: _,
+                records,
+                glances: _,
+            },
+        ) => {
             let counted = count(&vaults, &places, &accounts);
             let closed = close_books(alloc, vaults, places, records, accounts);
             let ledger = of_memory(closed, "the books can't be closed")?;

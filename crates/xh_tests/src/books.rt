@@ -8,7 +8,7 @@ use std::sync::Wait;
 use std::test::Fail;
 use xh_books::close_books;
 use xh_core::{Config, Ledger, Refused, State};
-use xh_kernel::{Account, Kernel, Names, Parts};
+use xh_kernel::{Account, Kernel, Names, Parts, Settled};
 use xh_place::OpenGate;
 
 // A process gets a block of 48 bytes, and another of 16, which it gives back.
@@ -41,7 +41,13 @@ fn close_named<N: Names, R: Wait>(
     } else {
         Ok(())
     };
-    let (vaults, places, records) = kernel.settle(alloc)?;
+    let Settled {
+        vaults,
+        places,
+        pens: _,
+        records,
+        glances: _,
+    } = kernel.settle(alloc)?;
     let books = close_books(alloc, vaults, places, records, accounts)?;
     used?;
     Ok((count, books))

@@ -1,8 +1,9 @@
 //! The calls of a process on its data blocks.
 ghost use Rattle.std.specs.Prelude.{◌≡◌, ◌/◌, MatchResult};
-ghost use Rattle.xh_place.specs.Places.{IsPlaceOf, PlaceOf};
+ghost use Rattle.xh_place.specs.Places.{PlaceOf};
 ghost use Rattle.xh_kernel.specs.Accounts.{has_taken, has_given};
 ghost use Rattle.xh_kernel.specs.Calls.{Allocates, Splits, Reads, Writes, Frees};
+ghost use Rattle.xh_kernel.specs.Places.{Finds, IsFound};
 ghost use Rattle.xh_model.specs.declared.limits.TheConstants.{MAX_RECORDS};
 
 use crate::account::Account;
@@ -30,7 +31,7 @@ impl<N: Names> Kernel<N> {
         gate: &G,
     ) -> Result<Block, Refused>
         ensures account { MatchResult result (λ b. account.new ≡ has_taken arena b.len account.old) (λ _. account.new ≡ account.old) }
-        ensures place { (old : PlaceOf) × (new : PlaceOf) × IsPlaceOf N.parts.records old × Allocates N.parts p n arena old new result }
+        ensures place { Finds N.parts (λ old new. Allocates N.parts p n arena old new result) }
     {
         let mut guard = self.lock_of(p).lock(rt);
         let held: &mut Held<N> = &mut guard;
@@ -56,7 +57,7 @@ impl<N: Names> Kernel<N> {
         k: u32,
         gate: &G,
     ) -> Result<(Block, Block), Refused>
-        ensures { (old : PlaceOf) × (new : PlaceOf) × IsPlaceOf N.parts.records old × Splits p r k old new result }
+        ensures { Finds N.parts (λ old new. Splits p r k old new result) }
     {
         let mut guard = self.lock_of(p).lock(rt);
         let held: &mut Held<N> = &mut guard;
@@ -80,7 +81,7 @@ impl<N: Names> Kernel<N> {
         out: &mut [u8],
         _gate: &G,
     ) -> Result<(), Refused>
-        ensures { (place : PlaceOf) × IsPlaceOf N.parts.records place × Reads p r at place out.old out.new result }
+        ensures { (place : PlaceOf) × IsFound N.parts place × Reads p r at place out.old out.new result }
     {
         let mut guard = self.lock_of(p).lock(rt);
         let held: &mut Held<N> = &mut guard;
@@ -100,7 +101,7 @@ impl<N: Names> Kernel<N> {
         bytes: &[u8],
         _gate: &G,
     ) -> Result<(), Refused>
-        ensures { (old : PlaceOf) × (new : PlaceOf) × IsPlaceOf N.parts.records old × Writes p r at bytes.now old new result }
+        ensures { Finds N.parts (λ old new. Writes p r at bytes.now old.place new.place result) }
     {
         let mut guard = self.lock_of(p).lock(rt);
         let held: &mut Held<N> = &mut guard;
@@ -122,7 +123,7 @@ impl<N: Names> Kernel<N> {
         gate: &G,
     ) -> Result<u32, Refused>
         ensures account { MatchResult result (λ n. account.new ≡ has_given (r / MAX_RECORDS) n account.old) (λ _. account.new ≡ account.old) }
-        ensures place { (old : PlaceOf) × (new : PlaceOf) × IsPlaceOf N.parts.records old × Frees p r old new result }
+        ensures place { Finds N.parts (λ old new. Frees p r old.place new.place result) }
     {
         let mut guard = self.lock_of(p).lock(rt);
         let held: &mut Held<N> = &mut guard;

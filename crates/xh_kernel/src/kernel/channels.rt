@@ -1,29 +1,28 @@
 //! Channels are opened, for one process or between two.
-ghost use Rattle.std.specs.Prelude.{◌≡◌, ℕ, ◌*◌, ◌++◌, MatchOption, MatchResult, Err, Ok, IfOk, None, Some};
-ghost use Rattle.xh_core.specs.Refusing.{first_refusal};
-ghost use Rattle.xh_model.specs.declared.limits.TheConstants.{END_BYTES};
-ghost use Rattle.xh_place.specs.Places.{IsPlaceOf, PlaceOf};
+ghost use Rattle.std.specs.Prelude.{◌≡◌, ℕ, ◌+◌, ◌*◌, ◌<◌, MatchResult, Err, IfOk, None, Some};
+ghost use Rattle.xh_model.specs.declared.limits.TheConstants.{CHANNELS, END_BYTES};
 ghost use Rattle.xh_records.specs.Seats.{IsRecord};
 ghost use Rattle.xh_kernel.specs.Accounts.{has_taken};
-ghost use Rattle.xh_kernel.specs.Channels.{Opens, Receives, Wires};
-ghost use Rattle.xh_kernel.specs.Places.{start};
-ghost use Rattle.xh_kernel.specs.Reclaims.{HasBack, HasUnwired};
+ghost use Rattle.xh_kernel.specs.Channels.{Opens};
+ghost use Rattle.xh_kernel.specs.Places.{Finds};
+ghost use Rattle.xh_kernel.specs.Reclaims.{HasBack};
+ghost use Rattle.xh_kernel.specs.Wires.{IsOpened, IsTakenBack, Receives, TurnsAway, Wires};
 
 use crate::account::Account;
 use crate::held::Held;
 use crate::kernel::Kernel;
 use crate::names::Names;
 use std::sync::Wait;
-use xh_channel::Spot;
 use xh_core::{Block, Contract, Refused};
 use xh_place::Gate;
 
-/// A channel whose side 1 is on its way: both ends' blocks, and the spot of side 0.
+/// A channel whose side 1 is on its way: both ends' blocks, and the channel's number.
 #[derive(Drop)]
 struct Wired {
     low: Block,
     high: Block,
-    spot: Spot,
+    channel: u8,
+    ghost there: { channel < CHANNELS },
 }
 
 impl<N: Names> Kernel<N> {
@@ -40,7 +39,7 @@ impl<N: Names> Kernel<N> {
         gate: &G,
     ) -> Result<(Block, Block), Refused>
         ensures account { MatchResult result (λ _. account.new ≡ has_taken arena (2 * END_BYTES) account.old) (λ _. account.new ≡ account.old) }
-        ensures place { (old : PlaceOf) × (new : PlaceOf) × IsPlaceOf N.parts.records old × Opens N.parts p arena None old new result }
+        ensures place { Finds N.parts (λ old new. Opens N.parts p arena None old new result) }
     {
         let mut held = self.lock_of(p).lock(rt);
         held.open(rt, &self.shared, p, arena, None, account, gate)
@@ -57,7 +56,7 @@ impl<N: Names> Kernel<N> {
         gate: &G,
     ) -> Result<(Block, Block), Refused>
         ensures account { MatchResult result (λ _. account.new ≡ has_taken arena (2 * END_BYTES) account.old) (λ _. account.new ≡ account.old) }
-        ensures place { (old : PlaceOf) × (new : PlaceOf) × IsPlaceOf N.parts.records old × Opens N.parts p arena (Some contract) old new result }
+        ensures place { Finds N.parts (λ old new. Opens N.parts p arena (Some contract) old new result) }
     {
         let mut held = self.lock_of(p).lock(rt);
         held.open(rt, &self.shared, p, arena, Some(contract), account, gate)
@@ -76,9 +75,7 @@ impl<N: Names> Kernel<N> {
         account: &mut Account<N>,
         gate: &G,
     ) -> Result<(Block, Block), Refused>
-        ensures account { MatchResult result (λ _. account.new ≡ has_taken arena (2 * END_BYTES) account.old) (HasUnwired arena account.old account.new) }
-        ensures first { (first : PlaceOf) × (second : PlaceOf) × IsPlaceOf N.parts.records first × IsPlaceOf N.parts.records second × MatchOption (first_refusal (start p first ++ start q second))
-            (Wires N.parts p q arena None result) (λ refused. result ≡ Err refused) }
+        ensures { Wires N.parts p q arena None account.old account.new result }
     {
         self.connect(rt, p, q, arena, None, account, gate)
     }
@@ -94,9 +91,7 @@ impl<N: Names> Kernel<N> {
         account: &mut Account<N>,
         gate: &G,
     ) -> Result<(Block, Block), Refused>
-        ensures account { MatchResult result (λ _. account.new ≡ has_taken arena (2 * END_BYTES) account.old) (HasUnwired arena account.old account.new) }
-        ensures first { (first : PlaceOf) × (second : PlaceOf) × IsPlaceOf N.parts.records first × IsPlaceOf N.parts.records second × MatchOption (first_refusal (start p first ++ start q second))
-            (Wires N.parts p q arena (Some contract) result) (λ refused. result ≡ Err refused) }
+        ensures { Wires N.parts p q arena (Some contract) account.old account.new result }
     {
         self.connect(rt, p, q, arena, Some(contract), account, gate)
     }
@@ -112,9 +107,7 @@ impl<N: Names> Kernel<N> {
         account: &mut Account<N>,
         gate: &G,
     ) -> Result<(Block, Block), Refused>
-        ensures account { MatchResult result (λ _. account.new ≡ has_taken arena (2 * END_BYTES) account.old) (HasUnwired arena account.old account.new) }
-        ensures first { (first : PlaceOf) × (second : PlaceOf) × IsPlaceOf N.parts.records first × IsPlaceOf N.parts.records second × MatchOption (first_refusal (start p first ++ start q second))
-            (Wires N.parts p q arena contract result) (λ refused. result ≡ Err refused) }
+        ensures { Wires N.parts p q arena contract account.old account.new result }
     {
         self.look_at(rt, p)?;
         self.look_at(rt, q)?;
@@ -136,8 +129,7 @@ impl<N: Names> Kernel<N> {
         account: &mut Account<N>,
         gate: &G,
     ) -> Result<Wired, Refused>
-        ensures place { (old : PlaceOf) × (new : PlaceOf) × IsPlaceOf N.parts.records old × MatchResult result (λ w. Opens N.parts p arena contract old new (Ok (w.low, w.high)))
-            (λ e. Opens N.parts p arena contract old new (Err e)) }
+        ensures place { MatchResult result (λ w. IsOpened N.parts p arena contract (w.low, w.high) w.channel) (λ e. Finds N.parts (λ old new. Opens N.parts p arena contract old new (Err e))) }
         ensures exists { IfOk result (λ w. IsRecord N.parts.records.shape w.high.rec) }
         ensures account { MatchResult result (λ _. account.new ≡ has_taken arena (2 * END_BYTES) account.old) (λ _. account.new ≡ account.old) }
     {
@@ -148,9 +140,10 @@ impl<N: Names> Kernel<N> {
         let Some(spot) = held.place.spot(records, low.rec) else {
             unreachable!()
         };
-        held.place.pass_end(records, high.rec, 2 * spot.channel + 1);
+        let channel = spot.channel;
+        held.place.pass_end(records, high.rec, 2 * channel + 1);
         held.teller.tell(&self.shared.glances, &held.place);
-        Ok(Wired { low, high, spot })
+        Ok(Wired { low, high, channel })
     }
 
     // Side 1 goes to `q`. Where that has ended, side 0 is closed.
@@ -164,38 +157,37 @@ impl<N: Names> Kernel<N> {
         gate: &G,
     ) -> Result<(Block, Block), Refused>
         requires { IsRecord N.parts.records.shape wired.high.rec }
-        ensures account { MatchResult result (λ _. account.new ≡ account.old) (λ e. (e ≡ Refused.Ended) × ((bytes : ℕ) × HasBack bytes account.old account.new)) }
-        ensures ends { IfOk result (λ ends. (ends ≡ (wired.low, wired.high)) × Receives N.parts q wired.high.rec) }
+        ensures { MatchResult result (λ ends. (ends ≡ (wired.low, wired.high)) × (account.new ≡ account.old) × Finds N.parts (Receives q (2 * wired.channel + 1) wired.high.rec))
+            (λ e. (e ≡ Refused.Ended) × IsTakenBack N.parts p q wired.channel (wired.low, wired.high) account.old account.new) }
     {
-        let Wired { low, high, spot } = wired;
-        let Err(_ended) = self.receive(rt, q, high.rec, spot, account, gate) else {
+        let Wired { low, high, channel } = wired;
+        let Err(_ended) = self.receive(rt, q, high.rec, channel, account, gate) else {
             return Ok((low, high));
         };
         let mut held = self.lock_of(p).lock(rt);
-        held.close_spot(rt, &self.shared, p, low.rec, spot, account, gate);
+        held.close_again(rt, &self.shared, p, low.rec, channel, account, gate);
         Err(Refused::Ended)
     }
 
-    // Side 1 comes to `q`'s list, or is swept.
+    // Side 1 of the channel comes to `q`'s list, or is swept.
     fn receive<R: Wait, G: Gate>(
         &self,
         rt: &R,
         q: u16,
         r: u16,
-        spot: Spot,
+        channel: u8,
         account: &mut Account<N>,
         gate: &G,
     ) -> Result<Block, Refused>
-        requires { IsRecord N.parts.records.shape r }
-        ensures account { MatchResult result (λ _. account.new ≡ account.old) (λ _. (bytes : ℕ) × HasBack bytes account.old account.new) }
-        ensures here { IfOk result (λ _. Receives N.parts q r) }
+        requires { IsRecord N.parts.records.shape r × (channel < CHANNELS) }
+        ensures { MatchResult result (λ _. (account.new ≡ account.old) × Finds N.parts (Receives q (2 * channel + 1) r))
+            (λ _. (bytes : ℕ) × Finds N.parts (λ old new. TurnsAway q (2 * channel + 1) r old new bytes) × HasBack bytes account.old account.new) }
     {
         let mut guard = self.lock_of(q).lock(rt);
         let held: &mut Held<N> = &mut guard;
         let tallies = account.tallies.as_mut_slice();
         let mut desk = desk!(rt, self.shared, gate, tallies);
-        let place = &mut held.place;
-        let answer = place.accept_end(&mut desk, q, r, 2 * spot.channel + 1);
+        let answer = held.place.accept_end(&mut desk, q, r, 2 * channel + 1);
         held.teller.tell(&self.shared.glances, &held.place);
         answer
     }

@@ -1,10 +1,10 @@
 //! The ends of endpoints and of processes.
-ghost use Rattle.std.specs.Prelude.{◌≡◌, Err, MatchOption};
-ghost use Rattle.xh_core.specs.Refusing.{first_refusal, Tested};
-ghost use Rattle.xh_place.specs.Places.{IsPlaceOf, PlaceOf};
+ghost use Rattle.std.specs.Prelude.{◌≡◌};
+ghost use Rattle.xh_core.specs.Refusing.{Tested};
+ghost use Rattle.xh_place.specs.Ends.{RefusedOr};
+ghost use Rattle.xh_place.specs.Places.{PlaceOf};
 ghost use Rattle.xh_kernel.specs.Endings.{Closes, Stops};
-ghost use Rattle.xh_kernel.specs.Places.{start};
-ghost use Rattle.xh_kernel.specs.Reclaims.{HasReclaimed};
+ghost use Rattle.xh_kernel.specs.Places.{Finds, IsFound, start};
 
 use crate::account::Account;
 use crate::held::Held;
@@ -27,8 +27,7 @@ impl<N: Names> Kernel<N> {
         account: &mut Account<N>,
         gate: &G,
     ) -> Result<u64, Refused>
-        ensures account { HasReclaimed account.old account.new result }
-        ensures place { (old : PlaceOf) × (new : PlaceOf) × IsPlaceOf N.parts.records old × Closes p e old new result }
+        ensures { Finds N.parts (λ old new. Closes p e account.old account.new old new result) }
     {
         let mut held = self.lock_of(p).lock(rt);
         held.close(rt, &self.shared, p, e, account, gate)
@@ -47,8 +46,7 @@ impl<N: Names> Kernel<N> {
         account: &mut Account<N>,
         gate: &G,
     ) -> Result<u64, Refused>
-        ensures account { HasReclaimed account.old account.new result }
-        ensures place { (old : PlaceOf) × (new : PlaceOf) × IsPlaceOf N.parts.records old × Stops p budget old new result }
+        ensures { Finds N.parts (λ old new. Stops p budget account.old account.new old new result) }
     {
         let mut guard = self.lock_of(p).lock(rt);
         let held: &mut Held<N> = &mut guard;
@@ -57,9 +55,7 @@ impl<N: Names> Kernel<N> {
         let mut desk = desk!(rt, self.shared, gate, tallies);
         let answer = held.place.stop(&mut desk, budget);
         held.teller.tell(&self.shared.glances, &held.place);
-        if let Some(spot) = held.waits.take() {
-            self.shared.channels.rouse(rt, spot);
-        }
+        held.wake(rt, &self.shared);
         answer
     }
 
@@ -75,9 +71,8 @@ impl<N: Names> Kernel<N> {
         account: &mut Account<N>,
         gate: &G,
     ) -> Result<u64, Refused>
-        ensures account { HasReclaimed account.old account.new result }
-        ensures place { (killer : PlaceOf) × IsPlaceOf N.parts.records killer × MatchOption (first_refusal (start by killer))
-            ((old : PlaceOf) × (new : PlaceOf) × IsPlaceOf N.parts.records old × Stops victim budget old new result) (λ refused. result ≡ Err refused) }
+        ensures { (killer : PlaceOf) × IsFound N.parts killer × RefusedOr (start by killer) result (account.new ≡ account.old)
+            (Finds N.parts (λ old new. Stops victim budget account.old account.new old new result)) }
     {
         self.look_at(rt, by)?;
         self.exit(rt, victim, budget, account, gate)
@@ -85,7 +80,7 @@ impl<N: Names> Kernel<N> {
 
     // Whether the process runs.
     pub(super) fn look_at<R: Wait>(&self, rt: &R, p: u16) -> Result<(), Refused>
-        ensures { (place : PlaceOf) × IsPlaceOf N.parts.records place × Tested (start p place) result (λ _. Unit {0}) }
+        ensures { (place : PlaceOf) × IsFound N.parts place × Tested (start p place) result (λ _. Unit {0}) }
     {
         let held = self.lock_of(p).lock(rt);
         held.start(p)

@@ -1,8 +1,8 @@
 //! Messages of a process.
 ghost use Rattle.std.specs.Prelude.{◌≢◌, IfErr};
 ghost use Rattle.xh_core.specs.declared.refused.Refused.TheVariants as refused;
-ghost use Rattle.xh_place.specs.Places.{IsPlaceOf, PlaceOf};
 ghost use Rattle.xh_kernel.specs.Messages.{Gives, Takes};
+ghost use Rattle.xh_kernel.specs.Places.{Finds};
 
 use crate::held::{Held, Look};
 use crate::kernel::Kernel;
@@ -27,7 +27,7 @@ impl<N: Names> Kernel<N> {
         blocks: &[u16],
         gate: &G,
     ) -> Result<u64, Refused>
-        ensures { (old : PlaceOf) × (new : PlaceOf) × IsPlaceOf N.parts.records old × Gives p e tag blocks.now old new result }
+        ensures { Finds N.parts (λ old new. Gives p e tag blocks.now old new result) }
     {
         let mut guard = self.lock_of(p).lock(rt);
         let held: &mut Held<N> = &mut guard;
@@ -35,6 +35,7 @@ impl<N: Names> Kernel<N> {
         let desk = desk!(rt, self.shared, gate);
         let answer = held.place.give(&desk, e, tag, blocks);
         held.teller.tell(&self.shared.glances, &held.place);
+        held.wake(rt, &self.shared);
         answer
     }
 
@@ -43,7 +44,7 @@ impl<N: Names> Kernel<N> {
     ///
     /// NoProcess, Ended, NotOwned, NotEndpoint; then, where no message waits, PeerClosed or Empty.
     pub fn take<R: Wait, G: Gate>(&self, rt: &R, p: u16, e: u16, gate: &G) -> Result<Taken, Refused>
-        ensures { (old : PlaceOf) × (new : PlaceOf) × IsPlaceOf N.parts.records old × Takes p e old new result }
+        ensures { Finds N.parts (λ old new. Takes p e old new result) }
     {
         let mut held = self.lock_of(p).lock(rt);
         held.take(rt, &self.shared, p, e, gate)
@@ -60,7 +61,7 @@ impl<N: Names> Kernel<N> {
         e: u16,
         gate: &G,
     ) -> Result<Taken, Refused>
-        ensures last { (old : PlaceOf) × (new : PlaceOf) × IsPlaceOf N.parts.records old × Takes p e old new result }
+        ensures last { Finds N.parts (λ old new. Takes p e old new result) }
         ensures waits { IfErr result (λ why. why ≢ refused.Empty) }
     {
         for _ in rt.forever() {

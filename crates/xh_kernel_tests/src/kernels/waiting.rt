@@ -1,4 +1,4 @@
-// A process that waits for a message, on threads.
+// A process that waits for a message at one endpoint or at one of two, on threads.
 use super::{Case, assert_case, waiting_of};
 use std::alloc::Global;
 use std::hint::spin_loop;
@@ -6,8 +6,9 @@ use std::process::Abort;
 use std::sync::Wait;
 use std::thread;
 use std::thread::Threads;
+use std::time::{Clock, Duration, Instant};
 use xh_core::Refused;
-use xh_kernel::{Account, Kernel, Names};
+use xh_kernel::{Account, Answered, Kernel, Names};
 use xh_place::{Got, OpenGate, Taken};
 
 /// What ends the wait.
@@ -17,10 +18,22 @@ pub enum Ender {
     Closes,
     Kills,
     KillsInPart,
+    Exits,
     ClosesItsEnd,
+    MovesItsEnd,
+    KillsPeer,
+    PeerExits,
 }
 
-/// A process at its end of a channel, and the other at the other, with a block to give.
+/// How the process waits: at its end, or at both its ends, and until a time or without one.
+#[derive(Clone, Copy)]
+struct Way {
+    both: bool,
+    timed: bool,
+}
+
+/// A process at its end of a channel, and the other at the other, with a block to give; and the first's end of a second channel
+/// between them, at which nothing is given.
 #[derive(Clone, Copy)]
 struct Pair {
     p: u16,
@@ -28,6 +41,13 @@ struct Pair {
     e: u16,
     f: u16,
     x: u16,
+    still: u16,
+}
+
+/// The time after so many milliseconds, where the clock can be read.
+pub fn after<R: Clock>(rt: &R, millis: u64) -> Option<Instant> {
+    let now = Instant::now(rt).ok()?;
+    now.checked_add(Duration::from_millis(millis))
 }
 
 fn pause(turns: u64) {
@@ -55,7 +75,16 @@ fn coded(answer: Result<Taken, Refused>) -> u64 {
     }
 }
 
-// Two processes with a channel. The first has a block ahead of its end, so that a budget of 1 doesn't reach it.
+// The same of two endpoints, of which the second is the one that a message comes to.
+fn coded_any(answer: Result<Answered, Refused>) -> u64 {
+    match answer {
+        Ok(Answered { at: 0, answer }) if answer.is_ok() => 6,
+        Ok(Answered { at: _, answer }) => coded(answer),
+        Err(refused) => coded(Err(refused)),
+    }
+}
+
+// Two processes with two channels. The first has a block ahead of its end, so that a budget of 1 doesn't reach it.
 fn make_pair<N: Names, R: Wait>(
     rt: &R,
     alloc: Global,
@@ -68,7 +97,16 @@ fn make_pair<N: Names, R: Wait>(
     let x = kernel.alloc(rt, alloc, q, 16, 0, account, &OpenGate)?.rec;
     let (low, high) = kernel.wire(rt, p, q, 0, account, &OpenGate)?;
     let (e, f) = (low.rec, high.rec);
-    Ok(Pair { p, q, e, f, x })
+    let (other, _theirs) = kernel.wire(rt, p, q, 0, account, &OpenGate)?;
+    let still = other.rec;
+    Ok(Pair {
+        p,
+        q,
+        e,
+        f,
+        x,
+        still,
+    })
 }
 
 // Ends the wait after a pause.
@@ -80,37 +118,80 @@ fn end_wait<N: Names, R: Wait>(
     ender: Ender,
     turns: u64,
 ) {
-    let Pair { p, q, e, f, x } = pair;
+    let Pair {
+        p,
+        q,
+        e,
+        f,
+        x,
+        still,
+    } = pair;
     pause(turns);
     let _done = match ender {
         Ender::Gives => kernel.give(rt, q, f, 7, &[x], &OpenGate),
         Ender::Closes => kernel.close(rt, q, f, account, &OpenGate),
         Ender::Kills => kernel.kill(rt, q, p, 4096, account, &OpenGate),
         Ender::KillsInPart => kernel.kill(rt, q, p, 1, account, &OpenGate),
+        Ender::Exits => kernel.exit(rt, p, 4096, account, &OpenGate),
         Ender::ClosesItsEnd => kernel.close(rt, p, e, account, &OpenGate),
+        Ender::MovesItsEnd => kernel.give(rt, p, still, 7, &[e], &OpenGate),
+        Ender::KillsPeer => kernel.kill(rt, p, q, 4096, account, &OpenGate),
+        Ender::PeerExits => kernel.exit(rt, q, 4096, account, &OpenGate),
     };
 }
 
-// What the process answers that waits after a pause.
-fn wait_late<N: Names, R: Wait>(rt: &R, kernel: &Kernel<N>, pair: Pair, turns: u64) -> u64 {
+// What the process answers that waits after a pause, by one of the ways, a long time at most.
+fn wait_late<N: Names, R: Wait + Clock>(
+    rt: &R,
+    kernel: &Kernel<N>,
+    pair: Pair,
+    way: Way,
+    turns: u64,
+) -> u64 {
     pause(turns);
-    coded(kernel.take_wait(rt, pair.p, pair.e, &OpenGate))
+    let Some(deadline) = after(rt, 20_000) else {
+        return 7;
+    };
+    let (p, e, ends) = (pair.p, pair.e, [pair.still, pair.e]);
+    match way {
+        Way {
+            both: false,
+            timed: false,
+        } => coded(kernel.take_wait(rt, p, e, &OpenGate)),
+        Way {
+            both: false,
+            timed: true,
+        } => { coded(kernel.take_wait_until(rt, p, e, deadline, &OpenGate)) }
+        Way {
+            both: true,
+            timed: false,
+        } => coded_any(kernel.take_any_wait(rt, p, &ends, &OpenGate)),
+        Way {
+            both: true,
+            timed: true,
+        } => { coded_any(kernel.take_any_wait_until(rt, p, &ends, deadline, &OpenGate)) }
+    }
 }
 
 // One round: what the waiting process answered, while another thread ends its wait.
-fn round<N: Names + Send + Sync, R: Threads + Wait + Sync>(
+fn round<N: Names + Send + Sync, R: Threads + Wait + Clock + Sync>(
     rt: &R,
     alloc: Global,
     kernel: &Kernel<N>,
     account: &mut Account<N>,
-    ender: Ender,
+    how: (bool, Ender),
     seed: u64,
 ) -> Result<u64, Refused> {
+    let (both, ender) = how;
     let pair = make_pair(rt, alloc, kernel, account)?;
     let turns = (seed % 211, (seed / 211) % 4001);
+    let way = Way {
+        both,
+        timed: seed % 2 == 0,
+    };
     let (answered, ()) = thread::join(
         rt,
-        || wait_late(rt, kernel, pair, turns.0),
+        || wait_late(rt, kernel, pair, way, turns.0),
         || end_wait(rt, kernel, account, pair, ender, turns.1),
     );
     for process in [pair.p, pair.q] {
@@ -119,59 +200,119 @@ fn round<N: Names + Send + Sync, R: Threads + Wait + Sync>(
     Ok(answered)
 }
 
-/// In 64 rounds over one kernel, which has a channel for each, the waiting process always answers so, and all bytes
+/// In 32 rounds over one kernel, which has two channels for each, the waiting process always answers so, and all bytes
 /// come back.
-pub fn assert_rounds<N: Names + Send + Sync, R: Threads + Wait + Abort + Sync>(
+pub fn assert_rounds<N: Names + Send + Sync, R: Threads + Wait + Clock + Abort + Sync>(
     rt: &R,
     alloc: Global,
     kernel: &Kernel<N>,
     account: &mut Account<N>,
-    ender: Ender,
+    how: (bool, Ender),
     want: u64,
 ) {
     let mut seed = 1u64;
-    for at in 0..64u8 {
+    for at in 0..32u8 {
         seed = drawn(seed);
-        let answer = round(rt, alloc, kernel, account, ender, seed >> 20);
+        let answer = round(rt, alloc, kernel, account, how, seed >> 20);
         assert!(rt; matches!(answer, Ok(code) if code == want), "round {at}");
     }
     let moved = account.moved(0);
     assert!(rt; matches!(moved, Some((taken, back)) if taken == back));
 }
 
-/// In 2,048 rounds over 32 kernels the waiting process always answers so.
-fn assert_waits<R: Threads + Wait + Abort + Sync>(rt: &R, alloc: Global, ender: Ender, want: u64) {
-    for _ in 0..32 {
-        assert_case(rt, alloc, waiting_of(1024, 2), Case::Waits(ender, want));
+/// In 2,048 rounds over 64 kernels the waiting process always answers so.
+fn assert_waits<R: Threads + Wait + Clock + Abort + Sync>(
+    rt: &R,
+    alloc: Global,
+    both: bool,
+    ender: Ender,
+    want: u64,
+) {
+    for _ in 0..64 {
+        let case = Case::Waits(both, ender, want);
+        assert_case(rt, alloc, waiting_of(1024, 2), case);
     }
 }
 
 /// A process that waits is given a message.
 #[test]
 fn waits_and_is_given(rt: HostRuntime) {
-    assert_waits(&rt, rt.alloc(), Ender::Gives, 1);
+    assert_waits(&rt, rt.alloc(), false, Ender::Gives, 1);
 }
 
 /// The peer of a process that waits closes.
 #[test]
 fn waits_and_its_peer_closes(rt: HostRuntime) {
-    assert_waits(&rt, rt.alloc(), Ender::Closes, 3);
+    assert_waits(&rt, rt.alloc(), false, Ender::Closes, 3);
 }
 
 /// A process that waits is killed.
 #[test]
 fn waits_and_is_killed(rt: HostRuntime) {
-    assert_waits(&rt, rt.alloc(), Ender::Kills, 2);
+    assert_waits(&rt, rt.alloc(), false, Ender::Kills, 2);
 }
 
 /// A process that waits is killed in part: its endpoint is not reached.
 #[test]
 fn waits_and_is_killed_in_part(rt: HostRuntime) {
-    assert_waits(&rt, rt.alloc(), Ender::KillsInPart, 2);
+    assert_waits(&rt, rt.alloc(), false, Ender::KillsInPart, 2);
 }
 
 /// The end that a process waits at is closed by another thread.
 #[test]
 fn waits_and_its_end_is_closed(rt: HostRuntime) {
-    assert_waits(&rt, rt.alloc(), Ender::ClosesItsEnd, 4);
+    assert_waits(&rt, rt.alloc(), false, Ender::ClosesItsEnd, 4);
+}
+
+/// The end that a process waits at is given to another process by another thread.
+#[test]
+fn waits_and_its_end_moves(rt: HostRuntime) {
+    assert_waits(&rt, rt.alloc(), false, Ender::MovesItsEnd, 4);
+}
+
+// The same of one that waits at two ends.
+
+#[test]
+fn waits_at_two_and_is_given(rt: HostRuntime) {
+    assert_waits(&rt, rt.alloc(), true, Ender::Gives, 1);
+}
+
+#[test]
+fn waits_at_two_and_its_peer_closes(rt: HostRuntime) {
+    assert_waits(&rt, rt.alloc(), true, Ender::Closes, 3);
+}
+
+#[test]
+fn waits_at_two_and_is_killed(rt: HostRuntime) {
+    assert_waits(&rt, rt.alloc(), true, Ender::Kills, 2);
+}
+
+#[test]
+fn waits_at_two_and_is_killed_in_part(rt: HostRuntime) {
+    assert_waits(&rt, rt.alloc(), true, Ender::KillsInPart, 2);
+}
+
+#[test]
+fn waits_at_two_and_its_end_is_closed(rt: HostRuntime) {
+    assert_waits(&rt, rt.alloc(), true, Ender::ClosesItsEnd, 4);
+}
+
+#[test]
+fn waits_at_two_and_its_end_moves(rt: HostRuntime) {
+    assert_waits(&rt, rt.alloc(), true, Ender::MovesItsEnd, 4);
+}
+
+#[test]
+fn waits_at_two_and_exits(rt: HostRuntime) {
+    assert_waits(&rt, rt.alloc(), true, Ender::Exits, 2);
+}
+
+#[test]
+fn waits_at_two_and_its_peer_is_killed(rt: HostRuntime) {
+    assert_waits(&rt, rt.alloc(), true, Ender::KillsPeer, 3);
+}
+
+#[test]
+fn waits_at_two_and_its_peer_exits(rt: HostRuntime) {
+    assert_waits(&rt, rt.alloc(), true, Ender::PeerExits, 3);
 }

@@ -4,6 +4,7 @@ use Rattle.arrayvec.specs.ArrayVec.{ArrayVec}
 use Rattle.xh_core.specs.declared.ledger.ArenaLine.{ArenaLine}
 use Rattle.xh_core.specs.declared.ledger.PlaceLine.{PlaceLine}
 use Rattle.xh_model.specs.Arena.{ArenaState}
+use Rattle.xh_kernel.specs.Places.{places_of}
 use Rattle.xh_books.specs.Ledgers.{all_back}
 use Rattle.xh_books.specs.inner.Steps.{AreBooks, arenas_of, closed_line, lens_of}
 use Rattle.xh_books.proofs.Audited.{each_open}
@@ -17,8 +18,8 @@ audit-vaults-requires-clause-each g c =
     subst (λ (xs : List ArenaState). All (λ a. a.records ≡ c.from-each.result) xs) (sym c.gather-vaults.ensures.gathered.arenas)
     (subst (λ (n : ℕ). All (λ a. a.records ≡ n) (arenas_of c.args.vaults.items)) count (each_open g.N.Names.parts c.args.vaults.items c.requires.vaults.1))
 
-facts : (g : _) (c : After-arena_lines-arenas g) → Sums c.args.accounts.items c.args.vaults.items c.args.places.items c.arena_lines-arenas.result.items
-facts g c = sums g.N.Names.parts c.args.records.shape.records c.args.accounts.items c.args.vaults.items c.gather-vaults.result.items c.audit-vaults.result.items c.args.places.items
+facts : (g : _) (c : After-arena_lines-arenas g) → Sums c.args.accounts.items c.args.vaults.items (places_of c.args.places.items) c.arena_lines-arenas.result.items
+facts g c = sums g.N.Names.parts c.args.records.shape.records c.args.accounts.items c.args.vaults.items c.gather-vaults.result.items c.audit-vaults.result.items (places_of c.args.places.items)
     (lens_of c.in_ok-_words.lots.items) c.arena_lines-arenas.result.items (ap (λ r. r.shape.records) c.requires.records) (let a = c.per_arena.ensures.0 in let b = c.per_arena.ensures.2 in omega arith)
     c.requires.vaults.0 c.requires.vaults.1 c.gather-vaults.ensures.names c.gather-vaults.ensures.gathered c.audit-vaults.ensures.same c.audit-vaults.ensures.known c.in_ok-_words.ensures.owned
     (c.arena_lines-arenas.ensures.lines ∙ ap (λ vs. map closed_line vs) c.as_slice.ensures.value) (subst (All AreBooks) c.as_slice.ensures.value c.arena_lines-arenas.ensures.books)
