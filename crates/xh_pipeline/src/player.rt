@@ -5,8 +5,8 @@ use crate::protocol::BLOCK;
 use std::alloc::Global;
 use std::sync::Wait;
 use xh_core::Refused;
-use xh_kernel::{Account, Kernel, Names};
-use xh_place::{Got, OpenGate};
+use xh_kernel::{Account, Answered, Kernel, Names};
+use xh_place::{Got, OpenGate, Taken};
 
 /// What an end of a process may reclaim: all.
 const BUDGET: u16 = 4096;
@@ -25,6 +25,15 @@ fn record_of(got: Option<&Got>) -> Option<u16> {
     match got {
         Some(Got::Here(block)) => Some(block.rec),
         _ => None,
+    }
+}
+
+fn message_of(taken: &Taken) -> Message {
+    let blocks = taken.blocks.as_slice();
+    Message {
+        tag: taken.tag,
+        first: record_of(blocks.first()),
+        second: record_of(blocks.get(1)),
     }
 }
 
@@ -57,12 +66,14 @@ impl<'a, N: Names, R: Wait> Process for Player<'a, N, R> {
         let taken = self
             .kernel
             .take_wait(self.rt, self.process, endpoint, &OpenGate)?;
-        let blocks = taken.blocks.as_slice();
-        Ok(Message {
-            tag: taken.tag,
-            first: record_of(blocks.first()),
-            second: record_of(blocks.get(1)),
-        })
+        Ok(message_of(&taken))
+    }
+
+    fn take_any(&mut self, endpoints: &[u16]) -> Result<(usize, Message), Refused> {
+        let Answered { at, answer } = self
+            .kernel
+            .take_any_wait(self.rt, self.process, endpoints, &OpenGate)?;
+        Ok((at, message_of(&answer?)))
     }
 
     fn give(&mut self, endpoint: u16, tag: u16, blocks: &[u16]) -> Result<(), Refused> {

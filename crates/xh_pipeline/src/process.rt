@@ -27,6 +27,9 @@ pub(crate) trait Process: Drop {
     /// Waits for the next message toward an endpoint.
     fn take(&mut self, endpoint: u16) -> Result<Message, Refused>;
 
+    /// Waits for the next message toward any of these endpoints. It answers the endpoint's index too.
+    fn take_any(&mut self, endpoints: &[u16]) -> Result<(usize, Message), Refused>;
+
     /// Gives blocks by an endpoint.
     fn give(&mut self, endpoint: u16, tag: u16, blocks: &[u16]) -> Result<(), Refused>;
 

@@ -53,7 +53,7 @@ fn replace<P: Process>(player: &mut P, staff: [Staff; 4]) -> Result<Staff, Refus
     Ok(new)
 }
 
-// Connects all, waits until the first stage hangs, and replaces it; then the thread of the supervisor does the calls
+// Connects all, waits for a message of any, by which the first stage tells that it hangs, and replaces it; then the thread of the supervisor does the calls
 // of the new stage too.
 fn supervise<P: Process, R: Wait>(
     rt: &R,
@@ -61,7 +61,8 @@ fn supervise<P: Process, R: Wait>(
     staff: [Staff; 4],
 ) -> Result<(), Refused> {
     connect(player, staff)?;
-    if player.take(staff[1].mine)?.tag != HUNG {
+    let (at, message) = player.take_any(&staff.map(|one| one.mine))?;
+    if at != 1 || message.tag != HUNG {
         return Err(Refused::NotEndpoint);
     }
     let new = replace(player, staff)?;
