@@ -1,5 +1,5 @@
 -- A seat that has gained a record has its lot, and what is carved for it.
-use Rattle.std.proofs.Common.{◌≡◌, ℕ, None, [], ◌∷◌, ◌++◌, ap, ◌∙◌, refl, subst, sym}
+use Rattle.std.proofs.Common.{◌≡◌, ℕ, [], ◌∷◌, ◌++◌, ap, ◌∙◌, refl, subst, sym}
 use Rattle.std.specs.Prelude.{Some, Option, IsSomeAnd}
 use Rattle.xh_arena.specs.Views.{LotOf}
 use Rattle.xh_model.specs.declared.event.Event.{Event}
@@ -12,11 +12,6 @@ has {B} x y r l e gained fresh = ap (λ (h : Held B). value_at r h.lots) gained 
 
 pub changed : {B : Type 0} (x y : Held B) (r : ℕ) (l m : LotOf B) → value_at r x.lots ≡ Some l → y ≡ with_lots x (put r m x.lots) → value_at r y.lots ≡ Some m
 changed {B} x y r l m at to = ap (λ (h : Held B). value_at r h.lots) to ∙ put_at r m l x.lots at
-
--- what holds of the lot that is there
-pub some_and : {L : Type 0} (o : Option L) (is : L → Type 0) → IsSomeAnd o is → (l : L) × (o ≡ Some l) × is l
-some_and None is held = absurd held
-some_and (Some l) is held = (l, refl, held)
 
 pub and_some : {L : Type 0} (o : Option L) (is : L → Type 0) (l : L) → o ≡ Some l → is l → IsSomeAnd o is
 and_some o is l at held = subst (λ o. IsSomeAnd o is) (sym at) held

@@ -1,12 +1,13 @@
-//! Bytes of an arena, and of a vault.
-ghost use Rattle.std.specs.Prelude.{◌≡◌, ◌<◌};
-ghost use Rattle.xh_model.specs.Cover.{length_of};
+//! Bytes of a vault.
+ghost use Rattle.std.specs.Prelude.{◌≡◌};
 
 use crate::blank::Blank;
 use crate::failure::Failure;
 use crate::timer::Work;
 use std::alloc::Global;
-use xh_arena::{Arena, Lot, Tally, Vault};
+use std::sync::Wait;
+use std::time::Clock;
+use xh_arena::{Lot, Tally, Vault};
 use xh_model::limits::{MAX_RECORDS, MAX_WEAR};
 
 const SIZE: u32 = 65_536;
@@ -14,30 +15,8 @@ const SIZE: u32 = 65_536;
 /// The bytes that are carved.
 const BYTES: u32 = 64;
 
-/// A record of an arena whose other records are empty: bytes are carved for it and given back.
-#[derive(Drop)]
-pub(crate) struct ArenaCarving {
-    arena: Arena,
-    ghost some: { 0 < arena.records },
-    ghost empty: { length_of 0 arena.cover ≡ 0 },
-}
-
-impl ArenaCarving {
-    pub(crate) fn new(alloc: Global) -> Result<ArenaCarving, Failure> {
-        let arena = Arena::new(alloc, SIZE, MAX_RECORDS, MAX_WEAR)?;
-        Ok(ArenaCarving { arena })
-    }
-}
-
-impl Work for ArenaCarving {
-    fn round(&mut self) -> Result<(), Failure> {
-        self.arena.carve(0, BYTES)?;
-        self.arena.give_back(0);
-        Ok(())
-    }
-}
-
-/// The same with the arena's books: a lot and a tally.
+/// A record of an arena whose other records are empty, by a vault, with the record's lot and a tally: bytes are carved
+/// for it and given back.
 #[derive(Drop)]
 pub(crate) struct VaultCarving {
     vault: Vault,
@@ -49,24 +28,23 @@ pub(crate) struct VaultCarving {
 
 impl VaultCarving {
     pub(crate) fn new(alloc: Global) -> Result<VaultCarving, Failure> {
-        let Ok((vault, mut lots, mut tallies)) = Vault::new::<Blank>(
-            alloc,
-            SIZE,
-            MAX_RECORDS,
-            MAX_WEAR,
-            1,
-        ) else {
-            return Err(Failure::Memory);
-        };
-        let lot = lots.remove(0);
-        let tally = tallies.remove(0);
-        Ok(VaultCarving { vault, lot, tally })
+        match Vault::new::<Blank>(alloc, SIZE, MAX_RECORDS, MAX_WEAR, 1) {
+            Ok((vault, mut lots, mut tallies)) => {
+                let lot = lots.remove(0);
+                let tally = tallies.remove(0);
+                Ok(VaultCarving { vault, lot, tally })
+            }
+            Err(_refused) => Err(Failure::Memory),
+        }
     }
 }
 
 impl Work for VaultCarving {
-    fn round(&mut self) -> Result<(), Failure> {
-        self.vault.carve(&mut self.lot, &mut self.tally, BYTES)?;
+    fn round<R: Wait + Clock>(&mut self, _rt: &R) -> Result<(), Failure> {
+        let carved = self.vault.carve(&mut self.lot, &mut self.tally, BYTES);
+        if carved.is_err() {
+            return Err(Failure::Astray);
+        }
         self.vault.give_back(&mut self.lot, &mut self.tally);
         Ok(())
     }

@@ -1,98 +1,102 @@
-//! Calls of the kernel on one thread.
-ghost use Rattle.std.specs.Prelude.{◌≡◌};
-
-use crate::failure::Failure;
-use crate::player::Player;
+//! Calls of one process.
+use crate::failure::{Failure, add, unless_refused};
+use crate::player::{Player, TAG, Taking};
 use crate::timer::Work;
-use arrayvec::ArrayVec;
 use std::sync::Wait;
-use xh_glance::Look;
-use xh_kernel::{Kernel, Names};
-use xh_model::limits::MAX_BLOCKS;
+use std::time::Clock;
+use xh_model::limits::MAX_ARENAS;
 
-/// A block is made and freed.
+/// What a process does over and over.
 #[derive(Drop)]
-pub(crate) struct AllocFree<'a, N: Names, R> {
-    player: Player<'a, N, R>,
-    bytes: u32,
-    arena: u32,
+pub(crate) enum Deed {
+    /// It makes a block of so many bytes of an arena, and frees it.
+    AllocFree(u32, u32),
+    /// It gives blocks by one end of a channel, and takes them by the other.
+    GiveTake(u16, u16, Vec<u16>),
+    /// It reads the first 16 bytes of a block.
+    Read(u16),
+    /// It looks at a place.
+    Glance,
 }
 
-impl<'a, N: Names, R> AllocFree<'a, N, R> {
-    pub(crate) fn new(player: Player<'a, N, R>, bytes: u32, arena: u32) -> AllocFree<'a, N, R> {
-        AllocFree {
-            player,
-            bytes,
-            arena,
-        }
-    }
-}
-
-impl<'a, N: Names, R: Wait> Work for AllocFree<'a, N, R> {
-    fn round(&mut self) -> Result<(), Failure> {
-        let block = self.player.alloc(self.bytes, self.arena)?;
-        self.player.free(block)
-    }
-}
-
-/// Blocks are given by one end of a channel and taken by the other, by one process.
+/// A process that does so.
 #[derive(Drop)]
-pub(crate) struct GiveTake<'a, N: Names, R> {
-    player: Player<'a, N, R>,
+pub(crate) struct Doing<M> {
+    pub(crate) player: Player<M>,
+    pub(crate) deed: Deed,
+}
+
+// It makes a block and frees it.
+fn alloc_free<M: Taking>(player: &mut Player<M>, bytes: u32, arena: u32) -> Result<(), Failure> {
+    let block = player.alloc(player.process, bytes, arena)?;
+    player.free(block)
+}
+
+// It gives blocks by one end and takes them by the other.
+fn pass<M: Taking>(
+    player: &mut Player<M>,
     low: u16,
     high: u16,
-    blocks: ArrayVec<u16, MAX_BLOCKS>,
+    blocks: &[u16],
+) -> Result<(), Failure> {
+    let given = player.machine.give(player.process, low, TAG, blocks);
+    let taken = player.machine.taken(player.process, high, false);
+    if given.is_ok() && taken.is_ok() {
+        Ok(())
+    } else {
+        Err(Failure::Refused)
+    }
 }
 
-impl<'a, N: Names, R: Wait> GiveTake<'a, N, R> {
-    /// Messages of so many blocks.
-    pub(crate) fn new(
-        mut player: Player<'a, N, R>,
-        count: u8,
-    ) -> Result<GiveTake<'a, N, R>, Failure> {
-        let (low, high) = player.open()?;
-        let mut blocks = ArrayVec::new();
-        for _ in 0..count {
-            if blocks.try_push(player.alloc(64, 0)?).is_err() {
-                return Err(Failure::Astray);
-            }
+fn read<M: Taking>(player: &mut Player<M>, block: u16) -> Result<(), Failure> {
+    let mut room = [0u8; 16];
+    unless_refused(player.machine.read(player.process, block, 0, &mut room))
+}
+
+fn glance<M: Taking>(player: &mut Player<M>) -> Result<(), Failure> {
+    unless_refused(player.machine.glance(0))?;
+    Ok(())
+}
+
+impl<M: Taking> Work for Doing<M> {
+    fn round<R: Wait + Clock>(&mut self, _rt: &R) -> Result<(), Failure> {
+        let player = &mut self.player;
+        match &self.deed {
+            Deed::AllocFree(bytes, arena) => alloc_free(player, *bytes, *arena),
+            Deed::GiveTake(low, high, blocks) => pass(player, *low, *high, blocks),
+            Deed::Read(block) => read(player, *block),
+            Deed::Glance => glance(player),
         }
-        Ok(GiveTake {
-            player,
-            low,
-            high,
-            blocks,
-        })
     }
 }
 
-impl<'a, N: Names, R: Wait> Work for GiveTake<'a, N, R> {
-    fn round(&mut self) -> Result<(), Failure> {
-        self.player.give(self.low, self.blocks.as_slice())?;
-        self.player.take(self.high)?;
-        Ok(())
+// So many blocks of 16 bytes of a process, which are of all arenas.
+fn fill<M: Taking>(player: &mut Player<M>, blocks: u32) -> Result<(), Failure> {
+    for block in 0..blocks {
+        player.alloc(player.process, 16, block % u32::from(MAX_ARENAS))?;
     }
+    Ok(())
 }
 
-/// A look at a place.
-#[derive(Drop)]
-pub(crate) struct Looking<'a, N: Names> {
-    kernel: &'a Kernel<N>,
-    look: Look,
-    ghost own: { look.glances ≡ N.parts.glances },
+/// The process has so many blocks of 16 bytes, which are of all arenas, the first record of which stays free.
+pub(crate) fn crowd<M: Taking>(player: &mut Player<M>, blocks: u32) -> Result<(), Failure> {
+    let first = player.alloc(player.process, 16, 0)?;
+    fill(player, blocks)?;
+    player.free(first)
 }
 
-impl<'a, N: Names> Looking<'a, N> {
-    pub(crate) fn new(kernel: &'a Kernel<N>, look: Look) -> Looking<'a, N>
-        requires { look.glances ≡ N.parts.glances }
-    {
-        Looking { kernel, look }
+// So many new blocks of a process.
+fn blocks_of<M: Taking>(player: &mut Player<M>, count: u32) -> Result<Vec<u16>, Failure> {
+    let mut blocks = Vec::new(player.alloc);
+    for _ in 0..count {
+        let block = player.alloc(player.process, 64, 0)?;
+        add(&mut blocks, block)?;
     }
+    Ok(blocks)
 }
 
-impl<'a, N: Names> Work for Looking<'a, N> {
-    fn round(&mut self) -> Result<(), Failure> {
-        self.kernel.glance(0, &mut self.look)?;
-        Ok(())
-    }
+/// That it gives and takes so many new blocks.
+pub(crate) fn give_take<M: Taking>(player: &mut Player<M>, count: u32) -> Result<Deed, Failure> {
+    let (low, high) = unless_refused(player.machine.open(player.process, 1, None))?;
+    Ok(Deed::GiveTake(low.rec, high.rec, blocks_of(player, count)?))
 }

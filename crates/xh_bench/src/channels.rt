@@ -1,165 +1,196 @@
 //! Messages of a channel.
-use crate::failure::Failure;
-use crate::timer::Work;
+use crate::failure::{Failure, add};
+use crate::player::TAG;
+use crate::talks::{End, Talk, talkers};
+use crate::timer::{Pace, Work, best};
 use arrayvec::ArrayVec;
 use std::alloc::Global;
 use std::sync::Wait;
-use std::thread;
+use std::thread::{self, Threads};
+use std::time::Clock;
 use xh_channel::{Channels, Endpoint, Refused, Unsent};
-use xh_core::{Contract, Row};
 use xh_model::limits::{MAX_BLOCKS, MAX_DEPTH};
 
-const TAG: u16 = 1;
+/// Who puts messages on channels and takes them, each for a number.
+#[derive(Clone, Copy)]
+pub(crate) enum Traffic {
+    /// One thread, where so many other channels are open.
+    Beside,
+    /// So many threads, each on a channel of its own.
+    Apart,
+    /// So many pairs of threads, each on a channel of its own: one puts, and the other takes.
+    Pairs,
+}
 
-/// The blocks of each message: one.
+// The blocks of each message: one.
 fn one_block() -> ArrayVec<u16, MAX_BLOCKS> {
     let mut blocks = ArrayVec::new();
     blocks.push(7);
     blocks
 }
 
-/// Side 0 may always send.
-fn contract() -> Result<Contract, Failure> {
-    let row = Row {
-        state: 0,
-        tag: TAG,
-        side: 0,
-        next: 0,
-    };
-    Ok(Contract::new(&[row])?)
-}
-
-pub(crate) fn channels(alloc: Global) -> Result<Channels, Failure> {
-    Ok(Channels::new(alloc, MAX_DEPTH)?)
-}
-
 /// A message is put by one end of a channel and taken by the other.
 #[derive(Drop)]
-pub(crate) struct PutTake<'a, R> {
-    rt: &'a R,
+struct PutTake<'a> {
     channels: &'a Channels,
     low: Endpoint,
     high: Endpoint,
 }
 
-impl<'a, R: Wait> PutTake<'a, R> {
-    pub(crate) fn new(rt: &'a R, channels: &'a Channels) -> Result<PutTake<'a, R>, Failure> {
-        let (low, high) = channels.open(rt)?;
-        Ok(PutTake {
-            rt,
-            channels,
-            low,
-            high,
-        })
-    }
-
-    /// The channel goes by a contract.
-    pub(crate) fn with_contract(
-        rt: &'a R,
-        channels: &'a Channels,
-    ) -> Result<PutTake<'a, R>, Failure> {
-        let (low, high) = channels.open_with(rt, contract()?)?;
-        Ok(PutTake {
-            rt,
-            channels,
-            low,
-            high,
-        })
+impl<'a> Work for PutTake<'a> {
+    fn round<R: Wait + Clock>(&mut self, rt: &R) -> Result<(), Failure> {
+        let put = self.channels.put(rt, &mut self.low, TAG, one_block());
+        let taken = self.channels.take(rt, &mut self.high);
+        if put.is_ok() && taken.is_ok() {
+            Ok(())
+        } else {
+            Err(Failure::Astray)
+        }
     }
 }
 
-impl<'a, R: Wait> Work for PutTake<'a, R> {
-    fn round(&mut self) -> Result<(), Failure> {
-        self.channels.put(self.rt, &mut self.low, TAG, one_block())?;
-        self.channels.take(self.rt, &mut self.high)?;
-        Ok(())
-    }
-}
-
-/// One thread of a pair: one puts messages, and the other takes them.
+/// What one thread of a pair passes messages by.
 #[derive(Drop)]
-pub(crate) struct Partner<'a, R> {
-    rt: &'a R,
+struct Partner<'a> {
     channels: &'a Channels,
     end: Endpoint,
-    puts: bool,
 }
 
-impl<'a, R: Wait> Partner<'a, R> {
-    // Puts a message, as soon as there is room.
-    fn put(&mut self) -> Result<(), Failure> {
-        for _ in self.rt.forever() {
-            match self.channels.put(self.rt, &mut self.end, TAG, one_block()) {
-                Ok(_no) => return Ok(()),
-                Err(Unsent::Full { back: _ }) => thread::yield_now(),
-                Err(unsent) => return Err(Failure::from(unsent)),
+impl<'a> Partner<'a> {
+    // Whether there was room for a message.
+    fn puts<R: Wait>(&mut self, rt: &R) -> Result<bool, Failure> {
+        match self.channels.put(rt, &mut self.end, TAG, one_block()) {
+            Ok(_no) => Ok(true),
+            Err(Unsent::Full { back: _ }) => Ok(false),
+            Err(_unsent) => Err(Failure::Refused),
+        }
+    }
+
+    // Whether there was a message.
+    fn takes<R: Wait>(&mut self, rt: &R) -> Result<bool, Failure> {
+        match self.channels.take(rt, &mut self.end) {
+            Ok(_message) => Ok(true),
+            Err(Refused::Empty) => Ok(false),
+            Err(_refused) => Err(Failure::Refused),
+        }
+    }
+}
+
+impl<'a> End<()> for Partner<'a> {
+    fn make(&mut self) -> Result<(), Failure> {
+        Ok(())
+    }
+
+    fn send<R: Wait>(&mut self, rt: &R, _buffer: ()) -> Result<(), Failure> {
+        for _ in rt.forever() {
+            if self.puts(rt)? {
+                return Ok(());
             }
+            thread::yield_now();
         }
         unreachable!()
     }
 
-    // Takes a message, as soon as one waits.
-    fn take(&mut self) -> Result<(), Failure> {
-        for _ in self.rt.forever() {
+    fn receive<R: Wait>(&mut self, rt: &R) -> Result<(), Failure> {
+        for _ in rt.forever() {
             let spot = self.end.spot();
-            let seen = self.channels.turn(self.rt, spot);
-            match self.channels.take(self.rt, &mut self.end) {
-                Ok(_message) => return Ok(()),
-                Err(Refused::Empty) => self.channels.wait(self.rt, spot, seen),
-                Err(refused) => return Err(Failure::from(refused)),
+            let seen = self.channels.turn(rt, spot);
+            if self.takes(rt)? {
+                return Ok(());
             }
+            self.channels.wait(rt, spot, seen);
         }
         unreachable!()
     }
+
+    fn unmake(&mut self, _buffer: ()) -> Result<(), Failure> {
+        Ok(())
+    }
+
+    fn leave<R: Wait>(&mut self, rt: &R) {
+        self.channels.shut(rt, &mut self.end);
+    }
 }
 
-impl<'a, R: Wait> Work for Partner<'a, R> {
-    fn round(&mut self) -> Result<(), Failure> {
-        let done = if self.puts { self.put() } else { self.take() };
-        if done.is_err() {
-            // so that the other thread waits for nothing
-            self.channels.shut(self.rt, &mut self.end);
+fn open<R: Wait>(rt: &R, channels: &Channels) -> Result<(Endpoint, Endpoint), Failure> {
+    match channels.open(rt) {
+        Ok(ends) => Ok(ends),
+        Err(_refused) => Err(Failure::Refused),
+    }
+}
+
+// Threads, each of which puts and takes on a channel of its own.
+fn apart<'a, R: Wait>(
+    rt: &R,
+    alloc: Global,
+    channels: &'a Channels,
+    count: u32,
+) -> Result<Vec<PutTake<'a>>, Failure> {
+    let mut works = Vec::new(alloc);
+    for _ in 0..count {
+        let (low, high) = open(rt, channels)?;
+        let work = PutTake {
+            channels,
+            low,
+            high,
+        };
+        add(&mut works, work)?;
+    }
+    Ok(works)
+}
+
+// Pairs of threads, each on a channel of its own.
+fn pairs<'a, R: Wait>(
+    rt: &R,
+    alloc: Global,
+    channels: &'a Channels,
+    count: u32,
+) -> Result<Vec<Partner<'a>>, Failure> {
+    let mut ends = Vec::new(alloc);
+    for _ in 0..count {
+        let (low, high) = open(rt, channels)?;
+        add(&mut ends, Partner { channels, end: low })?;
+        let end = high;
+        add(&mut ends, Partner { channels, end })?;
+    }
+    Ok(ends)
+}
+
+// Times the traffic on these channels.
+fn time_on<R: Threads + Wait + Clock + Sync>(
+    rt: &R,
+    alloc: Global,
+    channels: &Channels,
+    traffic: Traffic,
+    number: u32,
+) -> Result<Pace, Failure> {
+    match traffic {
+        Traffic::Beside => {
+            let others = apart(rt, alloc, channels, number)?;
+            let pace = best(rt, apart(rt, alloc, channels, 1), 1);
+            drop(others);
+            pace
         }
-        done
+        Traffic::Apart => best(rt, apart(rt, alloc, channels, number), number),
+        Traffic::Pairs => {
+            let ends = pairs(rt, alloc, channels, number)?;
+            best(rt, talkers(alloc, ends, Talk::Stream), number)
+        }
     }
 }
 
-/// Pairs of threads, each on a channel of its own.
-pub(crate) fn pairs<'a, R: Wait>(
-    rt: &'a R,
+/// Times the traffic on new channels.
+pub(crate) fn time<R: Threads + Wait + Clock + Sync>(
+    rt: &R,
     alloc: Global,
-    channels: &'a Channels,
-    count: u8,
-) -> Result<Vec<Partner<'a, R>>, Failure> {
-    let mut works = Vec::new(alloc);
-    for _ in 0..count {
-        let (low, high) = channels.open(rt)?;
-        works.push(Partner {
-            rt,
-            channels,
-            end: low,
-            puts: true,
-        })?;
-        works.push(Partner {
-            rt,
-            channels,
-            end: high,
-            puts: false,
-        })?;
-    }
-    Ok(works)
-}
-
-/// Threads, each of which puts and takes on a channel of its own.
-pub(crate) fn apart<'a, R: Wait>(
-    rt: &'a R,
-    alloc: Global,
-    channels: &'a Channels,
-    count: u8,
-) -> Result<Vec<PutTake<'a, R>>, Failure> {
-    let mut works = Vec::new(alloc);
-    for _ in 0..count {
-        works.push(PutTake::new(rt, channels)?)?;
-    }
-    Ok(works)
+    traffic: Traffic,
+    number: u32,
+) -> Result<Pace, Failure> {
+    let channels = match Channels::new(alloc, MAX_DEPTH) {
+        Ok(channels) => channels,
+        Err(_refused) => return Err(Failure::Memory),
+    };
+    let pace = time_on(rt, alloc, &channels, traffic, number);
+    drop(channels);
+    pace
 }

@@ -1,72 +1,29 @@
 //! Why a measure has no figure.
 use std::alloc::{AllocError, AllocFailed};
-use std::io;
-use thiserror::Error;
-use xh_channel::Unsent;
 use xh_core::Refused;
-use xh_script::Fault;
 
 /// Why a measure has no figure.
-#[derive(Debug, Drop, Error)]
+#[derive(Clone, Copy)]
 pub(crate) enum Failure {
-    #[error("a growth of memory was refused")]
     Memory,
-    #[error("the heap refused a call: {0}")]
-    Refused(Refused),
-    #[error("the clock or the output failed")]
     Io,
-    #[error("a script was refused")]
     Script,
+    NoMeasure,
+    Refused,
     /// A call answered something that this measure's calls never make it answer.
-    #[error("a call had another answer than it should have")]
     Astray,
 }
 
-impl From<Refused> for Failure {
-    fn from(refused: Refused) -> Failure {
-        Failure::Refused(refused)
-    }
-}
-
-impl From<xh_arena::Refused> for Failure {
-    fn from(refused: xh_arena::Refused) -> Failure {
-        match refused {
-            xh_arena::Refused::OutOfMemory => Failure::Memory,
-            xh_arena::Refused::BadSize => Failure::Refused(Refused::BadSize),
-            xh_arena::Refused::NoSpace => Failure::Refused(Refused::NoSpace),
-            xh_arena::Refused::BadCut => Failure::Refused(Refused::BadCut),
-            xh_arena::Refused::Worn => Failure::Refused(Refused::Worn),
+impl Failure {
+    pub(crate) fn text(self) -> &'static str {
+        match self {
+            Failure::Memory => "a growth of memory was refused",
+            Failure::Io => "the clock or the output failed",
+            Failure::Script => "a script was refused",
+            Failure::NoMeasure => "there is no such measure",
+            Failure::Refused => "the heap refused a call",
+            Failure::Astray => "a call had another answer than it should have",
         }
-    }
-}
-
-impl From<xh_records::Refused> for Failure {
-    fn from(_refused: xh_records::Refused) -> Failure {
-        Failure::Memory
-    }
-}
-
-impl From<xh_channel::Refused> for Failure {
-    fn from(refused: xh_channel::Refused) -> Failure {
-        Failure::Refused(Refused::from(refused))
-    }
-}
-
-impl From<Unsent> for Failure {
-    fn from(unsent: Unsent) -> Failure {
-        Failure::Refused(Refused::from(unsent))
-    }
-}
-
-impl From<Fault> for Failure {
-    fn from(_fault: Fault) -> Failure {
-        Failure::Script
-    }
-}
-
-impl From<io::Error> for Failure {
-    fn from(_error: io::Error) -> Failure {
-        Failure::Io
     }
 }
 
@@ -79,5 +36,21 @@ impl From<AllocError> for Failure {
 impl<T: Drop> From<AllocFailed<T>> for Failure {
     fn from(_error: AllocFailed<T>) -> Failure {
         Failure::Memory
+    }
+}
+
+/// What the heap answered, if it did not refuse.
+pub(crate) fn unless_refused<T>(answer: Result<T, Refused>) -> Result<T, Failure> {
+    match answer {
+        Ok(value) => Ok(value),
+        Err(_refused) => Err(Failure::Refused),
+    }
+}
+
+/// Adds to a list, if there is memory.
+pub(crate) fn add<T: Drop>(list: &mut Vec<T>, item: T) -> Result<(), Failure> {
+    match list.push(item) {
+        Ok(()) => Ok(()),
+        Err(_back) => Err(Failure::Memory),
     }
 }

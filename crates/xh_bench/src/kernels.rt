@@ -1,184 +1,188 @@
-//! Measures of a kernel: it is made, and one kind of call is timed on it.
-ghost use Rattle.std.specs.Prelude.{◌≡◌, All};
-ghost use Rattle.xh_glance.specs.Look.{fresh_look};
+//! Measures of a kernel: it is made, one kind of call is timed on it, and its books are closed.
+ghost use Rattle.std.specs.Prelude.{◌≡◌, All, length, vec_len};
 
-use crate::calls::{AllocFree, GiveTake, Looking};
-use crate::failure::Failure;
-use crate::player::Player;
-use crate::talks::{Idle, PingPong, Stream};
-use crate::timer::{Pace, best, best_alone, spent};
+use crate::calls::{Deed, Doing, crowd, give_take};
+use crate::failure::{Failure, add, unless_refused};
+use crate::kills::kill_all;
+use crate::player::{Player, Taking, wired};
+use crate::talks::{Talk, talkers};
+use crate::timer::{MOST, Pace, Runs, best, spent};
 use std::alloc::Global;
 use std::marker::Brand;
 use std::sync::Wait;
 use std::thread::Threads;
 use std::time::{Clock, CpuClock};
+use xh_books::close_kernel;
 use xh_core::Config;
 use xh_glance::Look;
 use xh_kernel::{Account, Kernel, Names, Parts};
-use xh_model::limits::{MAX_BYTES, MAX_DEPTH, MAX_RECORDS, MAX_WEAR};
+use xh_model::limits::{MAX_ARENAS, MAX_BYTES, MAX_DEPTH, MAX_RECORDS, MAX_WEAR};
+use xh_runner::{OpenGate, hire};
 
-/// What is timed on a kernel.
+/// What is timed on a kernel, each for a number.
 #[derive(Clone, Copy)]
 pub(crate) enum Call {
     /// One thread makes and frees a block of so many bytes.
-    AllocFree(u32),
+    AllocFree,
+    /// The same of 64 bytes, by a process that has so many other blocks.
+    AllocBeside,
     /// So many threads do so, each by an arena of its own.
-    AllocsApart(u8),
+    Apart,
     /// The same, all by one arena.
-    AllocsTogether(u8),
+    Together,
     /// One thread gives and takes a message of so many blocks.
-    GiveTake(u8),
+    GiveTake,
+    /// The same with one block, by a process that has so many others.
+    GiveBeside,
+    /// One thread reads a block of a process that has so many others.
+    ReadBeside,
     /// One thread looks at a place.
     Glance,
     /// Two threads pass a block of so many bytes to and fro, and wait for it.
-    PingPong(u32),
-    /// One thread makes blocks and gives them; another takes and frees them.
+    PingPong,
+    /// One thread makes blocks of so many bytes and gives them; another takes and frees them.
     Stream,
-    /// One thread waits for a message, and another gives it after a pause: the processor time of both.
+    /// The same with a pause before each of so many blocks: the processor time of both.
     Idle,
+    /// A process with so many blocks is killed.
+    Kill,
 }
 
-/// The bytes of a block of several threads.
+/// The bytes of a block where the number tells something else.
 const SMALL: u32 = 64;
 
-/// How many pauses are waited for.
-const PAUSES: u64 = 10;
-
-/// How many threads do calls at most, and how many arenas they have.
-const WORKERS: u8 = 4;
-
-/// What the kernels are made with.
-pub(crate) fn config() -> Config {
-    Config {
-        arenas: WORKERS,
-        bytes: MAX_BYTES,
-        records: MAX_RECORDS,
-        depth: MAX_DEPTH,
-        wear: MAX_WEAR,
-    }
-}
-
-/// A kernel, and the accounts of the threads that have no process yet.
-#[derive(Drop)]
-pub(crate) struct Crew<'a, N: Names, R> {
-    pub(crate) rt: &'a R,
-    pub(crate) alloc: Global,
-    pub(crate) kernel: &'a Kernel<N>,
-    pub(crate) accounts: Vec<Account<N>>,
-}
-
-impl<'a, N: Names, R: Wait> Crew<'a, N, R> {
-    /// A new process.
-    pub(crate) fn player(&mut self) -> Result<Player<'a, N, R>, Failure> {
-        let Some(account) = self.accounts.pop() else {
-            return Err(Failure::Astray);
-        };
-        Player::new(self.rt, self.alloc, self.kernel, account)
-    }
-
-    // Two new processes.
-    fn two_players(&mut self) -> Result<(Player<'a, N, R>, Player<'a, N, R>), Failure> {
-        let first = self.player()?;
-        let second = self.player()?;
-        Ok((first, second))
-    }
-
-    // So many threads that make and free blocks of so many bytes.
-    fn allocs(
-        &mut self,
-        threads: u8,
-        step: u8,
-        bytes: u32,
-    ) -> Result<Vec<AllocFree<'a, N, R>>, Failure> {
-        let mut works = Vec::new(self.alloc);
-        for number in 0..threads {
-            let arena = u32::from(number) * u32::from(step);
-            works.push(AllocFree::new(self.player()?, bytes, arena))?;
+impl Call {
+    // How many threads there are.
+    fn threads(self, number: u32) -> u8 {
+        match self {
+            Call::Apart | Call::Together => (number % 32) as u8,
+            Call::PingPong | Call::Stream | Call::Idle => 2,
+            _ => 1,
         }
-        Ok(works)
+    }
+
+    // What a process does, of which so many stand before it.
+    fn deed<M: Taking>(
+        self,
+        player: &mut Player<M>,
+        number: u32,
+        before: u32,
+    ) -> Result<Deed, Failure> {
+        match self {
+            Call::AllocFree => Ok(Deed::AllocFree(number, 0)),
+            Call::Apart => Ok(Deed::AllocFree(SMALL, before)),
+            Call::Together => Ok(Deed::AllocFree(SMALL, 0)),
+            Call::GiveTake => give_take(player, number),
+            Call::AllocBeside | Call::GiveBeside | Call::ReadBeside => {
+                crowd(player, number)?;
+                self.deed_beside(player)
+            }
+            _ => Ok(Deed::Glance),
+        }
+    }
+
+    // What a process does that has other blocks.
+    fn deed_beside<M: Taking>(self, player: &mut Player<M>) -> Result<Deed, Failure> {
+        match self {
+            Call::GiveBeside => give_take(player, 1),
+            Call::ReadBeside => Ok(Deed::Read(player.alloc(player.process, SMALL, 0)?)),
+            _ => Ok(Deed::AllocFree(SMALL, 0)),
+        }
     }
 }
 
-// Times threads that make and free blocks. The arena of each is its number times the step.
-fn time_allocs<N: Names + Send + Sync, R: Threads + Wait + Clock + Sync>(
-    crew: &mut Crew<N, R>,
-    threads: u8,
-    step: u8,
+// A process for each machine, which does calls.
+fn doings<M: Taking>(
+    alloc: Global,
+    machines: Vec<M>,
+    call: Call,
+    number: u32,
+) -> Result<Vec<Doing<M>>, Failure> {
+    let mut doings = Vec::with_capacity(alloc, machines.len())?;
+    let mut before = 0u32;
+    for machine in machines {
+        let mut player = Player::new(alloc, machine, 0)?;
+        let deed = call.deed(&mut player, number, before)?;
+        add(&mut doings, Doing { player, deed })?;
+        before = before.saturating_add(1);
+    }
+    Ok(doings)
+}
+
+// Times two processes that talk with blocks of so many bytes.
+fn time_talk<M: Taking + Send, R: Threads + Wait + Clock + Sync>(
+    rt: &R,
+    alloc: Global,
+    machines: Vec<M>,
     bytes: u32,
+    talk: Talk,
 ) -> Result<Pace, Failure> {
-    let works = crew.allocs(threads, step, bytes)?;
-    best(crew.rt, crew.alloc, works, u64::from(threads))
+    let players = wired(alloc, machines, bytes)?;
+    best(rt, talkers(alloc, players, talk), 1)
 }
 
-// Times a process that gives itself messages of so many blocks.
-fn time_gives<N: Names + Send + Sync, R: Threads + Wait + Clock + Sync>(
-    crew: &mut Crew<N, R>,
-    blocks: u8,
+// The processor time of so many blocks of two processes, with a pause before each.
+fn time_idle<M: Taking + Send, R: Threads + Wait + Clock + CpuClock + Sync>(
+    rt: &R,
+    alloc: Global,
+    machines: Vec<M>,
+    blocks: u32,
 ) -> Result<Pace, Failure> {
-    let work = GiveTake::new(crew.player()?, blocks)?;
-    best_alone(crew.rt, crew.alloc, work, 1)
+    let players = wired(alloc, machines, SMALL)?;
+    spent(rt, talkers(alloc, players, Talk::Idle), blocks)
 }
 
-// Times two processes that pass a block of so many bytes to and fro.
-fn time_ping_pong<N: Names + Send + Sync, R: Threads + Wait + Clock + Sync>(
-    crew: &mut Crew<N, R>,
-    bytes: u32,
+// Times kills by a process of the machine.
+fn time_kills_by<M: Taking, R: Clock>(
+    rt: &R,
+    alloc: Global,
+    mut machines: Vec<M>,
+    blocks: u32,
 ) -> Result<Pace, Failure> {
-    let (first, second) = crew.two_players()?;
-    let works = PingPong::pair(crew.alloc, first, second, bytes)?;
-    best(crew.rt, crew.alloc, works, 1)
-}
-
-// Times a process that makes blocks and one that frees them.
-fn time_stream<N: Names + Send + Sync, R: Threads + Wait + Clock + Sync>(
-    crew: &mut Crew<N, R>,
-) -> Result<Pace, Failure> {
-    let (first, second) = crew.two_players()?;
-    let works = Stream::pair(crew.alloc, first, second)?;
-    best(crew.rt, crew.alloc, works, 1)
-}
-
-// The processor time of a process that waits and one that lets it wait.
-fn time_idle<N: Names + Send + Sync, R: Threads + Wait + Clock + CpuClock + Sync>(
-    crew: &mut Crew<N, R>,
-) -> Result<Pace, Failure> {
-    let (first, second) = crew.two_players()?;
-    let works = Idle::pair(crew.alloc, first, second)?;
-    spent(crew.rt, crew.alloc, works, PAUSES)
-}
-
-// Times looks at a place.
-fn time_looks<N: Names + Send + Sync, R: Threads + Clock + Sync>(
-    crew: &mut Crew<N, R>,
-    looks: &mut Vec<Look>,
-) -> Result<Pace, Failure>
-    requires { All (λ l. l ≡ fresh_look N.parts.glances) looks.old.items }
-{
-    let Some(look) = looks.pop() else {
+    let Some(machine) = machines.pop() else {
         return Err(Failure::Astray);
     };
-    let work = Looking::<N>::new(crew.kernel, look);
-    best_alone(crew.rt, crew.alloc, work, 1)
+    let mut peer = Player::new(alloc, machine, 0)?;
+    let pace = kill_all(rt, &mut peer, blocks);
+    drop(peer);
+    pace
 }
 
-// Times the call.
-fn time_call<N: Names + Send + Sync, R: Threads + Wait + Clock + CpuClock + Sync>(
-    crew: &mut Crew<N, R>,
-    looks: &mut Vec<Look>,
+// Times the call by these machines.
+fn time_call<M: Taking + Send, R: Threads + Wait + Clock + CpuClock + Sync>(
+    rt: &R,
+    alloc: Global,
+    machines: Vec<M>,
     call: Call,
-) -> Result<Pace, Failure>
-    requires { All (λ l. l ≡ fresh_look N.parts.glances) looks.old.items }
-{
+    number: u32,
+) -> Result<Pace, Failure> {
     match call {
-        Call::AllocFree(bytes) => time_allocs(crew, 1, 0, bytes),
-        Call::AllocsApart(threads) => time_allocs(crew, threads, 1, SMALL),
-        Call::AllocsTogether(threads) => time_allocs(crew, threads, 0, SMALL),
-        Call::GiveTake(blocks) => time_gives(crew, blocks),
-        Call::Glance => time_looks(crew, looks),
-        Call::PingPong(bytes) => time_ping_pong(crew, bytes),
-        Call::Stream => time_stream(crew),
-        Call::Idle => time_idle(crew),
+        Call::PingPong => time_talk(rt, alloc, machines, number, Talk::PingPong),
+        Call::Stream => time_talk(rt, alloc, machines, number, Talk::Stream),
+        Call::Idle => time_idle(rt, alloc, machines, number),
+        Call::Kill => time_kills_by(rt, alloc, machines, number),
+        _ => {
+            let operations = u32::from(call.threads(number));
+            best(rt, doings(alloc, machines, call, number), operations)
+        }
     }
+}
+
+// Times the call on a kernel, by a worker for each account.
+fn time_on<N: Names + Send + Sync, R: Threads + Wait + Clock + CpuClock + Sync>(
+    rt: &R,
+    alloc: Global,
+    kernel: &Kernel<N>,
+    accounts: &mut [Account<N>],
+    looks: Vec<Look>,
+    call: Call,
+    number: u32,
+) -> Result<Pace, Failure>
+    requires count { vec_len looks ≡ length accounts.old }
+    requires own { All (λ l. l.glances ≡ N.parts.glances) looks.items }
+{
+    let workers = hire(rt, alloc, kernel, &OpenGate, accounts, looks)?;
+    time_call(rt, alloc, workers, call, number)
 }
 
 // Times the call on the kernel of these parts.
@@ -187,25 +191,50 @@ fn time_named<N: Names + Send + Sync, R: Threads + Wait + Clock + CpuClock + Syn
     alloc: Global,
     parts: Parts,
     call: Call,
+    number: u32,
 ) -> Result<Pace, Failure>
     requires names { parts ≡ N.parts }
 {
-    let (kernel, accounts, mut looks) = Kernel::<N>::new(alloc, parts)?;
-    let mut crew = Crew {
-        rt,
-        alloc,
-        kernel: &kernel,
-        accounts,
+    let (kernel, mut accounts, looks) = match Kernel::<N>::new(alloc, parts) {
+        Ok(made) => made,
+        Err(_refused) => return Err(Failure::Memory),
     };
-    time_call(&mut crew, &mut looks, call)
+    let pace = time_on(rt, alloc, &kernel, &mut accounts, looks, call, number);
+    unless_refused(close_kernel(alloc, kernel, accounts))?;
+    pace
 }
+
+/// What each kernel is made with.
+const CONFIG: Config = Config {
+    arenas: MAX_ARENAS,
+    bytes: MAX_BYTES,
+    records: MAX_RECORDS,
+    depth: MAX_DEPTH,
+    wear: MAX_WEAR,
+};
 
 /// Times the call on a new kernel.
 pub(crate) fn time<R: Threads + Wait + Clock + CpuClock + Sync>(
     rt: &R,
     alloc: Global,
     call: Call,
+    number: u32,
 ) -> Result<Pace, Failure> {
-    let parts = Parts::new(alloc, config(), WORKERS)?;
-    time_named::<Brand, R>(rt, alloc, parts, call)
+    let parts = unless_refused(Parts::new(alloc, CONFIG, call.threads(number)))?;
+    time_named::<Brand, R>(rt, alloc, parts, call, number)
+}
+
+/// Times kernel after kernel whose processes are killed, with so many blocks each.
+pub(crate) fn time_kills<R: Threads + Wait + Clock + CpuClock + Sync>(
+    rt: &R,
+    alloc: Global,
+    number: u32,
+) -> Result<Pace, Failure> {
+    let mut runs = Runs::NONE;
+    for _ in 0..MOST {
+        if runs.add(time(rt, alloc, Call::Kill, number)?) {
+            break;
+        }
+    }
+    Ok(runs.best)
 }

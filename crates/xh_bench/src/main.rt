@@ -11,6 +11,7 @@ mod channels;
 mod failure;
 mod kernels;
 mod kills;
+mod lines;
 mod measures;
 mod player;
 mod records;
@@ -20,7 +21,7 @@ mod timer;
 mod yardsticks;
 
 use crate::failure::Failure;
-use crate::measures::{MEASURES, Measure};
+use crate::measures::{MEASURES, Row};
 use std::alloc::Global;
 use std::env;
 use std::process::ExitCode;
@@ -31,54 +32,64 @@ use std::time::{Clock, CpuClock};
 const USAGE: &str =
     "usage: xh_bench all, or the names of measures, of which docs/PERFORMANCE.md tells";
 
-// Times the measure of this name, and prints its line.
+// Prints the line of a measure.
+fn print_line<R: Print>(rt: &R, name: &str, tenths: u64) -> Result<(), Failure> {
+    match println!(rt; "{name} {}.{}", tenths / 10, tenths % 10) {
+        Ok(()) => Ok(()),
+        Err(_error) => Err(Failure::Io),
+    }
+}
+
+// Tells a measure.
 fn tell_one<R: Threads + Wait + Clock + CpuClock + Print + Sync>(
     rt: &R,
     alloc: Global,
-    name: &str,
-    measure: Measure,
+    row: &Row,
 ) -> Result<(), Failure> {
-    let (whole, tenths) = measure.time(rt, alloc)?.nanoseconds();
-    println!(rt; "{name} {whole}.{tenths}")?;
-    Ok(())
+    let (name, measure, number) = row;
+    let pace = measure.time(rt, alloc, *number)?;
+    print_line(rt, name, pace.tenths())
 }
 
-// Tells the measures that the word names: one, or all. It answers how many there were.
+// Tells the measures that the word names: one, or all.
 fn tell<R: Threads + Wait + Clock + CpuClock + Print + Sync>(
     rt: &R,
     alloc: Global,
     word: &str,
-) -> Result<u32, Failure> {
-    let mut told = 0u32;
-    for (name, measure) in MEASURES {
-        if word == "all" || word == *name {
-            tell_one(rt, alloc, name, *measure)?;
-            told = told.saturating_add(1);
+) -> Result<(), Failure> {
+    let mut told = Err(Failure::NoMeasure);
+    for row in MEASURES {
+        if word == "all" || word == row.0 {
+            tell_one(rt, alloc, row)?;
+            told = Ok(());
         }
     }
-    Ok(told)
+    told
+}
+
+// Tells why a word has no figure.
+fn complain<R: Eprint>(rt: &R, word: &str, failure: Failure) {
+    let _ = eprintln!(rt; "xh_bench: {word}: {}", failure.text());
+}
+
+// How the program is used.
+fn print_usage<R: Print>(rt: &R) -> bool {
+    println!(rt; "{USAGE}").is_ok()
 }
 
 fn main(rt: HostRuntime) -> ExitCode {
-    let Ok(words) = env::args(&rt) else {
+    let Some(words) = env::args(&rt).ok() else {
         return ExitCode::FAILURE;
     };
     let mut count = 0u32;
     for word in words.skip(1) {
         count = count.saturating_add(1);
-        match tell(&rt, rt.alloc(), &word) {
-            Ok(0) => {
-                let _ = eprintln!(rt; "xh_bench: there is no measure {word}");
-                return ExitCode::FAILURE;
-            }
-            Ok(_told) => {}
-            Err(failure) => {
-                let _ = eprintln!(rt; "xh_bench: {word}: {failure}");
-                return ExitCode::FAILURE;
-            }
+        if let Err(failure) = tell(&rt, rt.alloc(), &word) {
+            complain(&rt, &word, failure);
+            return ExitCode::FAILURE;
         }
     }
-    if count == 0 && println!(rt; "{USAGE}").is_err() {
+    if count == 0 && !print_usage(&rt) {
         return ExitCode::FAILURE;
     }
     ExitCode::SUCCESS

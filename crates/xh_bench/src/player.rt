@@ -1,141 +1,152 @@
 //! A process, as the thread sees it that does its calls.
-use crate::failure::Failure;
+use crate::failure::{Failure, add, unless_refused};
+use crate::talks::End;
 use std::alloc::Global;
 use std::sync::Wait;
-use xh_kernel::{Account, Kernel, Names};
-use xh_place::{OpenGate, Taken};
+use std::thread;
+use xh_core::Refused;
+use xh_kernel::Names;
+use xh_place::{Got, Taken};
+use xh_runner::{Gate, Machine, Worker};
 
 /// The tag of each message.
-const TAG: u16 = 1;
+pub(crate) const TAG: u16 = 1;
 
 /// The budget of each end of a process: all that it may have.
-const BUDGET: u16 = 4096;
+pub(crate) const BUDGET: u32 = 4096;
 
-/// A process of the kernel, and the account of the thread that does its calls.
-#[derive(Drop)]
-pub(crate) struct Player<'a, N: Names, R> {
-    rt: &'a R,
-    alloc: Global,
-    kernel: &'a Kernel<N>,
-    process: u16,
-    account: Account<N>,
+/// A machine whose messages come as the kernel hands them out.
+pub(crate) trait Taking: Machine {
+    fn taken(&mut self, process: u16, endpoint: u16, waits: bool) -> Result<Taken, Refused>;
 }
 
-impl<'a, N: Names, R: Wait> Player<'a, N, R> {
-    /// A new process.
-    pub(crate) fn new(
-        rt: &'a R,
-        alloc: Global,
-        kernel: &'a Kernel<N>,
-        account: Account<N>,
-    ) -> Result<Player<'a, N, R>, Failure> {
-        let process = kernel.spawn(rt, &OpenGate)?;
+impl<'a, N: Names, R: Wait, G: Gate> Taking for Worker<'a, N, R, G> {
+    fn taken(&mut self, process: u16, endpoint: u16, waits: bool) -> Result<Taken, Refused> {
+        if waits {
+            self.kernel.take_wait(self.rt, process, endpoint, self.gate)
+        } else {
+            self.kernel.take(self.rt, process, endpoint, self.gate)
+        }
+    }
+}
+
+/// A process, which talks by an endpoint, with blocks of so many bytes.
+#[derive(Drop)]
+pub(crate) struct Player<M> {
+    pub(crate) alloc: Global,
+    pub(crate) machine: M,
+    pub(crate) process: u16,
+    pub(crate) endpoint: u16,
+    pub(crate) bytes: u32,
+}
+
+impl<M: Taking> Player<M> {
+    /// A new process of the machine.
+    pub(crate) fn new(alloc: Global, mut machine: M, bytes: u32) -> Result<Player<M>, Failure> {
+        let process = unless_refused(machine.spawn())?;
         Ok(Player {
-            rt,
             alloc,
-            kernel,
+            machine,
             process,
-            account,
+            endpoint: 0,
+            bytes,
         })
     }
 
-    pub(crate) fn rt(&self) -> &'a R {
-        self.rt
-    }
-
-    /// The process's number.
-    pub(crate) fn process(&self) -> u16 {
-        self.process
-    }
-
-    /// The number of another new process, which has so many blocks of 16 bytes.
-    pub(crate) fn spawn_with(&mut self, blocks: u16) -> Result<u16, Failure> {
-        let process = self.kernel.spawn(self.rt, &OpenGate)?;
-        let account = &mut self.account;
-        for _ in 0..blocks {
-            self.kernel
-                .alloc(self.rt, self.alloc, process, 16, 0, account, &OpenGate)?;
-        }
-        Ok(process)
-    }
-
-    /// A new block.
-    pub(crate) fn alloc(&mut self, bytes: u32, arena: u32) -> Result<u16, Failure> {
-        let account = &mut self.account;
-        let block = self.kernel.alloc(
-            self.rt,
-            self.alloc,
-            self.process,
-            bytes,
-            arena,
-            account,
-            &OpenGate,
-        )?;
+    /// A new block of the process, or of another.
+    pub(crate) fn alloc(&mut self, process: u16, bytes: u32, arena: u32) -> Result<u16, Failure> {
+        let block = unless_refused(self.machine.alloc(self.alloc, process, bytes, arena))?;
         Ok(block.rec)
     }
 
     pub(crate) fn free(&mut self, block: u16) -> Result<(), Failure> {
-        let account = &mut self.account;
-        self.kernel
-            .free(self.rt, self.process, block, account, &OpenGate)?;
+        unless_refused(self.machine.free(self.process, block))?;
         Ok(())
     }
 
-    /// Both ends of a channel of its own, of the second arena.
-    pub(crate) fn open(&mut self) -> Result<(u16, u16), Failure> {
-        let account = &mut self.account;
-        let (low, high) = self
-            .kernel
-            .open(self.rt, self.process, 1, account, &OpenGate)?;
-        Ok((low.rec, high.rec))
-    }
-
-    /// Its end of a channel between it and another process, and the other's, of the second arena.
+    /// Its own end of a channel of the second arena between it and another process, and the other's.
     pub(crate) fn wire(&mut self, other: u16) -> Result<(u16, u16), Failure> {
-        let account = &mut self.account;
-        let (low, high) = self
-            .kernel
-            .wire(self.rt, self.process, other, 1, account, &OpenGate)?;
+        let (low, high) = unless_refused(self.machine.wire(self.process, other, 1, None))?;
         Ok((low.rec, high.rec))
     }
 
-    /// Gives blocks. The error is the kernel's, so that Full can be told.
-    pub(crate) fn give(&self, endpoint: u16, blocks: &[u16]) -> Result<u64, xh_core::Refused> {
-        self.kernel
-            .give(self.rt, self.process, endpoint, TAG, blocks, &OpenGate)
+    // Whether there was room for the block.
+    fn gives(&mut self, block: u16) -> Result<bool, Failure> {
+        let given = self
+            .machine
+            .give(self.process, self.endpoint, TAG, &[block]);
+        match given {
+            Ok(_number) => Ok(true),
+            Err(Refused::Full { back: _ }) => Ok(false),
+            Err(_refused) => Err(Failure::Refused),
+        }
+    }
+}
+
+impl<M: Taking> End<u16> for Player<M> {
+    fn make(&mut self) -> Result<u16, Failure> {
+        self.alloc(self.process, self.bytes, 0)
     }
 
-    pub(crate) fn take(&self, endpoint: u16) -> Result<Taken, xh_core::Refused> {
-        self.kernel.take(self.rt, self.process, endpoint, &OpenGate)
+    fn send<R: Wait>(&mut self, rt: &R, block: u16) -> Result<(), Failure> {
+        for _ in rt.forever() {
+            if self.gives(block)? {
+                return Ok(());
+            }
+            thread::yield_now();
+        }
+        unreachable!()
     }
 
-    pub(crate) fn take_wait(&self, endpoint: u16) -> Result<Taken, Failure> {
-        Ok(
-            self.kernel
-                .take_wait(self.rt, self.process, endpoint, &OpenGate)?,
-        )
+    fn receive<R: Wait>(&mut self, _rt: &R) -> Result<u16, Failure> {
+        let taken = unless_refused(self.machine.taken(self.process, self.endpoint, true))?;
+        match taken.blocks.first() {
+            Some(Got::Here(block)) => Ok(block.rec),
+            _ => Err(Failure::Astray),
+        }
     }
 
-    /// Ends another process.
-    pub(crate) fn kill(&mut self, victim: u16) -> Result<(), Failure> {
-        let account = &mut self.account;
-        self.kernel
-            .kill(self.rt, self.process, victim, BUDGET, account, &OpenGate)?;
-        Ok(())
+    fn unmake(&mut self, block: u16) -> Result<(), Failure> {
+        self.free(block)
     }
 
-    pub(crate) fn close(&mut self, endpoint: u16) -> Result<(), Failure> {
-        let account = &mut self.account;
-        self.kernel
-            .close(self.rt, self.process, endpoint, account, &OpenGate)?;
-        Ok(())
+    fn leave<R: Wait>(&mut self, _rt: &R) {
+        let _ended = self.machine.exit(self.process, BUDGET);
     }
+}
 
-    /// The process ends, so that nobody waits for it.
-    pub(crate) fn exit(&mut self) {
-        let account = &mut self.account;
-        let _ended = self
-            .kernel
-            .exit(self.rt, self.process, BUDGET, account, &OpenGate);
+// A process for each machine.
+fn players<M: Taking>(
+    alloc: Global,
+    machines: Vec<M>,
+    bytes: u32,
+) -> Result<Vec<Player<M>>, Failure> {
+    let mut players = Vec::with_capacity(alloc, machines.len())?;
+    for machine in machines {
+        let player = Player::new(alloc, machine, bytes)?;
+        add(&mut players, player)?;
     }
+    Ok(players)
+}
+
+// Makes a channel between two processes.
+fn wire_both<M: Taking>(players: &mut [Player<M>]) -> Result<(), Failure> {
+    let [low, high] = players else {
+        return Err(Failure::Astray);
+    };
+    let (own, others) = low.wire(high.process)?;
+    low.endpoint = own;
+    high.endpoint = others;
+    Ok(())
+}
+
+/// Two processes with a channel between them, which talk with blocks of so many bytes.
+pub(crate) fn wired<M: Taking>(
+    alloc: Global,
+    machines: Vec<M>,
+    bytes: u32,
+) -> Result<Vec<Player<M>>, Failure> {
+    let mut players = players(alloc, machines, bytes)?;
+    wire_both(&mut players)?;
+    Ok(players)
 }

@@ -12,6 +12,8 @@ use crate::failure::Failure;
 use crate::timer::Work;
 use std::alloc::Global;
 use std::collections::LinkedList;
+use std::sync::Wait;
+use std::time::Clock;
 use xh_arena::{Lot, Tally, Vault};
 use xh_model::limits::{MAX_RECORDS, MAX_WEAR};
 use xh_records::{Records, Seat};
@@ -34,60 +36,53 @@ pub(crate) struct Claiming {
 }
 
 // The seat has no record, unless a growth was refused.
-fn fresh(alloc: Global) -> Option<Claiming> {
-    let Ok((mut vault, lots, mut tallies)) = Vault::new::<Blank>(
-        alloc,
-        SIZE,
-        MAX_RECORDS,
-        MAX_WEAR,
-        1,
-    ) else {
-        return None;
-    };
-    let mut names = LinkedList::new(alloc);
-    names.push_back(vault.name()).ok()?;
-    let Ok((records, mut seats)) = Records::new(alloc, lots, names, MAX_RECORDS, 1) else {
-        return None;
-    };
-    let seat = seats.remove(0);
-    let tally = tallies.remove(0);
-    Some(Claiming {
-        records,
-        seat,
-        vault,
-        tally,
-    })
+fn fresh(alloc: Global) -> Result<Claiming, Failure> {
+    match Vault::new::<Blank>(alloc, SIZE, MAX_RECORDS, MAX_WEAR, 1) {
+        Ok((mut vault, lots, mut tallies)) => {
+            let mut names = LinkedList::new(alloc);
+            names.push_back(vault.name())?;
+            match Records::new(alloc, lots, names, MAX_RECORDS, 1) {
+                Ok((records, mut seats)) => {
+                    let seat = seats.remove(0);
+                    let tally = tallies.remove(0);
+                    Ok(Claiming {
+                        records,
+                        seat,
+                        vault,
+                        tally,
+                    })
+                }
+                Err(_refused) => Err(Failure::Memory),
+            }
+        }
+        Err(_refused) => Err(Failure::Memory),
+    }
 }
 
 impl Claiming {
     /// The seat has so many records.
-    pub(crate) fn new(alloc: Global, taken: u16) -> Result<Claiming, Failure> {
-        let Some(mut claiming) = fresh(alloc) else {
-            return Err(Failure::Memory);
-        };
+    pub(crate) fn new(alloc: Global, taken: u32) -> Result<Claiming, Failure> {
+        let mut claiming = fresh(alloc)?;
         for _ in 0..taken {
-            claiming.claim()?;
+            let one = &mut claiming;
+            if one.records.claim(&mut one.seat, 0).is_err() {
+                return Err(Failure::Astray);
+            }
         }
         Ok(claiming)
-    }
-
-    // One more record.
-    fn claim(&mut self) -> Result<(), Failure> {
-        match self.records.claim(&mut self.seat, 0) {
-            Ok(_number) => Ok(()),
-            Err(_seen) => Err(Failure::Astray),
-        }
     }
 }
 
 impl Work for Claiming {
     #[tactic(auto, using(crate::proofs::Gained::has))]
-    fn round(&mut self) -> Result<(), Failure> {
-        let Ok(number) = self.records.claim(&mut self.seat, 0) else {
-            return Err(Failure::Astray);
-        };
-        self.records.vacate(&mut self.seat, number);
-        Ok(())
+    fn round<R: Wait + Clock>(&mut self, _rt: &R) -> Result<(), Failure> {
+        match self.records.claim(&mut self.seat, 0) {
+            Ok(number) => {
+                self.records.vacate(&mut self.seat, number);
+                Ok(())
+            }
+            Err(_seen) => Err(Failure::Astray),
+        }
     }
 }
 
@@ -123,49 +118,49 @@ fn carve_at(
 }
 
 // One more record, and it has bytes.
-fn carved(claiming: Claiming) -> Option<Passing> {
+fn carved(claiming: Claiming) -> Result<Passing, Failure> {
     let Claiming {
         records,
         mut seat,
         mut vault,
         mut tally,
     } = claiming;
-    let Ok(number) = records.claim(&mut seat, 0) else {
-        return None;
+    let number = match records.claim(&mut seat, 0) {
+        Ok(number) => number,
+        Err(_seen) => return Err(Failure::Astray),
     };
-    let Some(_start) = carve_at(&records, &mut seat, number, &mut vault, &mut tally) else {
-        return None;
-    };
-    Some(Passing {
-        records,
-        seat,
-        number,
-        has: true,
-    })
+    match carve_at(&records, &mut seat, number, &mut vault, &mut tally) {
+        Some(_start) => Ok(Passing {
+            records,
+            seat,
+            number,
+            has: true,
+        }),
+        None => Err(Failure::Astray),
+    }
 }
 
 impl Passing {
     /// The seat has so many records besides.
-    pub(crate) fn new(alloc: Global, taken: u16) -> Result<Passing, Failure> {
-        match carved(Claiming::new(alloc, taken)?) {
-            Some(passing) => Ok(passing),
-            None => Err(Failure::Astray),
-        }
+    pub(crate) fn new(alloc: Global, taken: u32) -> Result<Passing, Failure> {
+        carved(Claiming::new(alloc, taken)?)
     }
 }
 
 impl Work for Passing {
     #[tactic(auto, using(crate::proofs::Gained::has))]
-    fn round(&mut self) -> Result<(), Failure> {
+    fn round<R: Wait + Clock>(&mut self, _rt: &R) -> Result<(), Failure> {
         if !self.has {
             return Err(Failure::Astray);
         }
         self.has = false;
         self.records.pass(&mut self.seat, self.number, DIRECTION);
-        let Ok(()) = self.records.accept(&mut self.seat, self.number, DIRECTION) else {
-            return Err(Failure::Astray);
-        };
-        self.has = true;
-        Ok(())
+        match self.records.accept(&mut self.seat, self.number, DIRECTION) {
+            Ok(()) => {
+                self.has = true;
+                Ok(())
+            }
+            Err(_seen) => Err(Failure::Astray),
+        }
     }
 }

@@ -3,6 +3,8 @@ use crate::failure::Failure;
 use crate::timer::Work;
 use std::alloc::Global;
 use std::io;
+use std::sync::Wait;
+use std::time::Clock;
 use xh_core::Config;
 use xh_model::limits::MAX_WEAR;
 use xh_runner::run_serial;
@@ -11,20 +13,20 @@ use xh_script::Watched;
 /// What the commands of a script do, over and over.
 #[derive(Clone, Copy)]
 pub(crate) enum Kind {
-    AllocFree,
-    WriteRead,
-    GiveTake,
-    EightBlocks,
+    Alloc,
+    Write,
+    Give,
+    Eight,
 }
 
 impl Kind {
     // The lines that stand once, at the beginning.
     fn head(self) -> &'static str {
         match self {
-            Kind::AllocFree => "process a\n",
-            Kind::WriteRead => "process a\na alloc x 64 0\n",
-            Kind::GiveTake => "process a\nprocess b\nwire a e b f 0\na alloc x 64 0\n",
-            Kind::EightBlocks => {
+            Kind::Alloc => "process a\n",
+            Kind::Write => "process a\na alloc x 64 0\n",
+            Kind::Give => "process a\nprocess b\nwire a e b f 0\na alloc x 64 0\n",
+            Kind::Eight => {
                 "process a\nprocess b\nwire a e b f 0\na alloc p 64 0\na alloc q 64 0\n\
                  a alloc r 64 0\na alloc s 64 0\na alloc t 64 0\na alloc u 64 0\na alloc v 64 0\n\
                  a alloc w 64 0\n"
@@ -32,45 +34,30 @@ impl Kind {
         }
     }
 
-    // The lines that follow over and over.
-    fn body(self) -> [&'static str; 4] {
+    // The four lines that follow over and over.
+    fn body(self) -> &'static str {
         match self {
-            Kind::AllocFree => [
-                "a alloc x 64 0\n",
-                "a free x\n",
-                "a alloc y 64 0\n",
-                "a free y\n",
-            ],
-            Kind::WriteRead => [
-                "a write x 0 00112233445566778899aabbccddeeff\n",
-                "a read x 0 16\n",
-                "a write x 16 00112233445566778899aabbccddeeff\n",
-                "a read x 16 16\n",
-            ],
-            Kind::GiveTake => [
-                "a give e 1 x\n",
-                "b take f x\n",
-                "b give f 1 x\n",
-                "a take e x\n",
-            ],
-            Kind::EightBlocks => [
-                "a give e 1 p q r s t u v w\n",
-                "b take f p q r s t u v w\n",
-                "b give f 1 p q r s t u v w\n",
-                "a take e p q r s t u v w\n",
-            ],
+            Kind::Alloc => "a alloc x 64 0\na free x\na alloc y 64 0\na free y\n",
+            Kind::Write => {
+                "a write x 0 00112233445566778899aabbccddeeff\na read x 0 16\n\
+                 a write x 16 00112233445566778899aabbccddeeff\na read x 16 16\n"
+            }
+            Kind::Give => "a give e 1 x\nb take f x\nb give f 1 x\na take e x\n",
+            Kind::Eight => {
+                "a give e 1 p q r s t u v w\nb take f p q r s t u v w\n\
+                 b give f 1 p q r s t u v w\na take e p q r s t u v w\n"
+            }
         }
     }
 
-    // A script of so many commands.
-    fn text(self, alloc: Global, commands: u16) -> Result<String, Failure> {
+    // A script of so many commands, or up to three less.
+    fn text(self, alloc: Global, commands: u32) -> Result<String, Failure> {
         let head = self.head();
+        let lines = (commands as usize).saturating_sub(head.lines().count());
         let mut text = String::new(alloc);
         text.push_str(head)?;
-        let body = self.body();
-        let heads = head.lines().count();
-        for at in 0..usize::from(commands).saturating_sub(heads) {
-            text.push_str(body[at % 4])?;
+        for _ in 0..lines / 4 {
+            text.push_str(self.body())?;
         }
         Ok(text)
     }
@@ -93,7 +80,7 @@ const CONFIG: Config = Config {
 
 impl Script {
     /// A script of so many commands, none of which is refused.
-    pub(crate) fn new(alloc: Global, kind: Kind, commands: u16) -> Result<Script, Failure> {
+    pub(crate) fn new(alloc: Global, kind: Kind, commands: u32) -> Result<Script, Failure> {
         let text = kind.text(alloc, commands)?;
         let script = Script { alloc, text };
         let mut output = Vec::new(alloc);
@@ -107,13 +94,15 @@ impl Script {
     fn run<W: io::Write + Drop>(&self, output: W) -> Result<(), Failure> {
         let mut reader = Watched::new(self.text.as_bytes());
         let mut writer = Watched::new(output);
-        run_serial(self.alloc, &mut reader, &mut writer, CONFIG)?;
-        Ok(())
+        match run_serial(self.alloc, &mut reader, &mut writer, CONFIG) {
+            Ok(_ran) => Ok(()),
+            Err(_fault) => Err(Failure::Script),
+        }
     }
 }
 
 impl Work for Script {
-    fn round(&mut self) -> Result<(), Failure> {
+    fn round<R: Wait + Clock>(&mut self, _rt: &R) -> Result<(), Failure> {
         self.run(io::sink())
     }
 }

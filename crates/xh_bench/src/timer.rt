@@ -1,181 +1,213 @@
 //! The timer: how long one operation takes, as the best of five runs of at least 100 ms each.
 use crate::failure::Failure;
-use std::alloc::{AllocError, Global};
+use std::alloc::Global;
+use std::io;
+use std::sync::{Mutex, Wait};
 use std::thread::{self, Threads};
-use std::time::{Clock, CpuClock, Duration, Instant};
+use std::time::{Clock, CpuClock, Duration};
 
 /// An operation that is done over and over.
-pub(crate) trait Work {
+pub(crate) trait Work: Drop {
     /// Does it once.
-    fn round(&mut self) -> Result<(), Failure>;
+    fn round<R: Wait + Clock>(&mut self, rt: &R) -> Result<(), Failure>;
 }
 
 /// How many runs there are, of which the best counts.
-pub(crate) const RUNS: u8 = 5;
+const RUNS: u8 = 5;
 
 /// The least time of a run.
-pub(crate) const RUN_MILLIS: u64 = 100;
+const RUN_MILLIS: u64 = 100;
 
 /// The least time of the rounds that are timed at once.
 const BATCH_MILLIS: u64 = 40;
 
-/// How often rounds are timed at most, for a clock that stands still.
-const MOST: u8 = 60;
+/// How often something is timed at most, for a clock that stands still.
+pub(crate) const MOST: u16 = 10_000;
 
-/// The time of one operation, in tenths of a nanosecond.
+/// How long operations took, and how many they were.
 #[derive(Clone, Copy)]
 pub(crate) struct Pace {
-    tenths: u64,
+    taken: Duration,
+    operations: u64,
 }
 
 impl Pace {
-    /// The time of one of so many operations.
+    const NONE: Pace = Pace {
+        taken: Duration::ZERO,
+        operations: 0,
+    };
+
     pub(crate) fn of(taken: Duration, operations: u64) -> Pace {
-        let nanos = taken
-            .as_secs()
-            .saturating_mul(1_000_000_000)
-            .saturating_add(u64::from(taken.subsec_nanos()));
-        Pace {
-            tenths: nanos
-                .saturating_mul(10)
-                .checked_div(operations)
-                .unwrap_or(u64::MAX),
-        }
+        Pace { taken, operations }
     }
 
-    /// The better of two.
-    pub(crate) fn least(self, other: Pace) -> Pace {
-        if other.tenths < self.tenths {
-            other
-        } else {
-            self
-        }
-    }
-
-    /// Whole nanoseconds, and tenths.
-    pub(crate) fn nanoseconds(self) -> (u64, u64) {
-        (self.tenths / 10, self.tenths % 10)
+    /// The time of one operation, in tenths of a nanosecond.
+    pub(crate) fn tenths(self) -> u64 {
+        let seconds = self.taken.as_secs().saturating_mul(10_000_000_000);
+        let nanos = u64::from(self.taken.subsec_nanos()).saturating_mul(10);
+        let tenths = seconds.saturating_add(nanos);
+        tenths.checked_div(self.operations).unwrap_or(u64::MAX)
     }
 }
 
-/// A work, and why it failed, if it did.
-#[derive(Drop)]
-struct Member<W> {
-    work: W,
-    failed: Option<Failure>,
+/// Five runs, in each of which operations are timed until they have taken their time.
+#[derive(Clone, Copy)]
+pub(crate) struct Runs {
+    /// The best pace of the runs that are done.
+    pub(crate) best: Pace,
+    run: Pace,
+    done: u8,
 }
 
-impl<W: Work> Member<W> {
-    fn repeat(&mut self, rounds: u64) {
-        for _ in 0..rounds {
-            if let Err(failure) = self.work.round() {
-                self.failed = Some(failure);
-                return;
+impl Runs {
+    pub(crate) const NONE: Runs = Runs {
+        best: Pace::NONE,
+        run: Pace::NONE,
+        done: 0,
+    };
+
+    /// Adds what was timed; whether all runs are done.
+    pub(crate) fn add(&mut self, pace: Pace) -> bool {
+        self.run = Pace {
+            taken: self.run.taken.saturating_add(pace.taken),
+            operations: self.run.operations.saturating_add(pace.operations),
+        };
+        if self.run.taken >= Duration::from_millis(RUN_MILLIS) {
+            if self.run.tenths() < self.best.tenths() {
+                self.best = self.run;
             }
+            self.run = Pace::NONE;
+            self.done = self.done.saturating_add(1);
         }
+        self.done >= RUNS
     }
 }
 
-// How long it takes to do each work so often, all at once: one in this thread, each other in one of its own.
-fn time<R: Threads + Clock + Sync, W: Work + Send>(
+// Does a work so often, unless it fails.
+fn repeat<R: Wait + Clock, W: Work>(rt: &R, work: &mut W, rounds: u64) -> Result<(), Failure> {
+    for _ in 0..rounds {
+        work.round(rt)?;
+    }
+    Ok(())
+}
+
+// Does each work so often, all at once: one in this thread, each other in one of its own.
+fn repeat_all<R: Threads + Wait + Clock + Sync, W: Work + Send>(
     rt: &R,
-    team: &mut [Member<W>],
+    works: &mut [W],
+    rounds: u64,
+) -> Result<(), Failure> {
+    let threads = works.len().max(1);
+    let failed = Mutex::new(None);
+    thread::for_each_mut(
+        rt,
+        works,
+        threads,
+        &|_, work: &mut W| {
+            if let Err(failure) = repeat(rt, work, rounds) {
+                *failed.lock(rt) = Some(failure);
+            }
+        },
+    );
+    match failed.into_inner() {
+        Some(failure) => Err(failure),
+        None => Ok(()),
+    }
+}
+
+// What a clock says.
+fn read(clock: io::Result<Duration>) -> Result<Duration, Failure> {
+    match clock {
+        Ok(time) => Ok(time),
+        Err(_error) => Err(Failure::Io),
+    }
+}
+
+/// What the clock says.
+pub(crate) fn now<R: Clock>(rt: &R) -> Result<Duration, Failure> {
+    read(rt.monotonic())
+}
+
+// How long it takes to do each work so often, all at once.
+fn time<R: Threads + Wait + Clock + Sync, W: Work + Send>(
+    rt: &R,
+    works: &mut [W],
     rounds: u64,
 ) -> Result<Duration, Failure> {
-    let threads = team.len().max(1);
-    let start = Instant::now(rt)?;
-    thread::for_each_mut(rt, team, threads, &|_, member| member.repeat(rounds));
-    let taken = start.elapsed(rt)?;
-    for member in team.iter_mut() {
-        if let Some(failure) = member.failed.take() {
-            return Err(failure);
-        }
-    }
-    Ok(taken)
+    let start = now(rt)?;
+    repeat_all(rt, works, rounds)?;
+    let end = now(rt)?;
+    Ok(end.saturating_sub(start))
 }
 
-// So many rounds that they are worth timing at once.
-fn batch_of<R: Threads + Clock + Sync, W: Work + Send>(
+// The best pace of five runs.
+fn best_of<R: Threads + Wait + Clock + Sync, W: Work + Send>(
     rt: &R,
-    team: &mut [Member<W>],
-) -> Result<u64, Failure> {
-    let least = Duration::from_millis(BATCH_MILLIS);
-    let mut rounds = 1u64;
-    for _ in 0..MOST {
-        if time(rt, team, rounds)? >= least {
-            break;
-        }
-        rounds = rounds.saturating_mul(2);
-    }
-    Ok(rounds)
-}
-
-// One run: batch after batch, until they have taken their time. A round of all has so many operations.
-fn run<R: Threads + Clock + Sync, W: Work + Send>(
-    rt: &R,
-    team: &mut [Member<W>],
-    batch: u64,
+    works: &mut [W],
     operations: u64,
 ) -> Result<Pace, Failure> {
-    let least = Duration::from_millis(RUN_MILLIS);
-    let mut taken = Duration::ZERO;
-    let mut done = 0u64;
+    let mut runs = Runs::NONE;
+    let mut batch = 1u64;
     for _ in 0..MOST {
-        taken = taken.saturating_add(time(rt, team, batch)?);
-        done = done.saturating_add(batch);
-        if taken >= least {
+        let taken = time(rt, works, batch)?;
+        if taken < Duration::from_millis(BATCH_MILLIS) {
+            batch = batch.saturating_mul(2);
+        } else if runs.add(Pace::of(taken, batch.saturating_mul(operations))) {
             break;
         }
     }
-    Ok(Pace::of(taken, done.saturating_mul(operations)))
-}
-
-fn team_of<W: Drop>(alloc: Global, works: Vec<W>) -> Result<Vec<Member<W>>, AllocError> {
-    let mut team = Vec::with_capacity(alloc, works.len())?;
-    for work in works {
-        team.push(Member { work, failed: None })?;
-    }
-    Ok(team)
+    Ok(runs.best)
 }
 
 /// The best pace of works that are done at once, each by a thread. A round of all has so many operations.
-pub(crate) fn best<R: Threads + Clock + Sync, W: Work + Send + Drop>(
+pub(crate) fn best<R: Threads + Wait + Clock + Sync, W: Work + Send>(
+    rt: &R,
+    works: Result<Vec<W>, Failure>,
+    operations: u32,
+) -> Result<Pace, Failure> {
+    let mut works = works?;
+    let pace = best_of(rt, &mut works, u64::from(operations));
+    drop(works);
+    pace
+}
+
+// A list of one work.
+fn one<W: Work>(alloc: Global, work: Result<W, Failure>) -> Result<Vec<W>, Failure> {
+    let mut works = Vec::with_capacity(alloc, 1)?;
+    works.push_reserved(work?);
+    Ok(works)
+}
+
+/// The best pace of a work that is done alone.
+pub(crate) fn alone<R: Threads + Wait + Clock + Sync, W: Work + Send>(
     rt: &R,
     alloc: Global,
-    works: Vec<W>,
-    operations: u64,
+    work: Result<W, Failure>,
+    operations: u32,
 ) -> Result<Pace, Failure> {
-    let mut team = team_of(alloc, works)?;
-    let batch = batch_of(rt, team.as_mut_slice())?;
-    let mut best = run(rt, team.as_mut_slice(), batch, operations)?;
-    for _ in 1..RUNS {
-        best = best.least(run(rt, team.as_mut_slice(), batch, operations)?);
-    }
-    Ok(best)
+    best(rt, one(alloc, work), operations)
+}
+
+// The processor time that works take in so many rounds.
+fn spent_by<R: Threads + Wait + Clock + CpuClock + Sync, W: Work + Send>(
+    rt: &R,
+    works: &mut [W],
+    rounds: u64,
+) -> Result<Pace, Failure> {
+    let start = read(rt.process_cpu_time())?;
+    repeat_all(rt, works, rounds)?;
+    let end = read(rt.process_cpu_time())?;
+    Ok(Pace::of(end.saturating_sub(start), rounds))
 }
 
 /// The processor time that works take which are done at once, each by a thread, in so many rounds.
-pub(crate) fn spent<R: Threads + Clock + CpuClock + Sync, W: Work + Send + Drop>(
+pub(crate) fn spent<R: Threads + Wait + Clock + CpuClock + Sync, W: Work + Send>(
     rt: &R,
-    alloc: Global,
-    works: Vec<W>,
-    rounds: u64,
+    works: Result<Vec<W>, Failure>,
+    rounds: u32,
 ) -> Result<Pace, Failure> {
-    let mut team = team_of(alloc, works)?;
-    let start = rt.process_cpu_time()?;
-    time(rt, team.as_mut_slice(), rounds)?;
-    let spent = rt.process_cpu_time()?.saturating_sub(start);
-    Ok(Pace::of(spent, rounds))
-}
-
-/// The best pace of a work that one thread does.
-pub(crate) fn best_alone<R: Threads + Clock + Sync, W: Work + Send + Drop>(
-    rt: &R,
-    alloc: Global,
-    work: W,
-    operations: u64,
-) -> Result<Pace, Failure> {
-    let mut works = Vec::new(alloc);
-    works.push(work)?;
-    best(rt, alloc, works, operations)
+    let mut works = works?;
+    let pace = spent_by(rt, &mut works, u64::from(rounds));
+    drop(works);
+    pace
 }

@@ -3,8 +3,8 @@ use Rattle.std.proofs.lemmas.Option.{slice_get_read}
 use Rattle.xh_records.proofs.OneVault.{of_one_vault}
 use Rattle.xh_bench.proofs.records.fresh.Goals as goal
 
-pub new-requires-2-clause-empty : goal.new-requires-2-clause-empty
-new-requires-2-clause-empty c = of_one_vault _ (λ b n. true) _ 256 _ c.in-Ok.lots.items (λ b new. refl) (search rules) c.in-Ok.ensures.lots
+pub new-requires-in-Ok-clause-empty : goal.new-requires-in-Ok-clause-empty
+new-requires-in-Ok-clause-empty c = of_one_vault _ (λ b n. true) _ 256 _ c.in-Ok.lots.items (λ b new. refl) (search rules) c.in-Ok.ensures.lots
 
 pub invariant_of-result : goal.invariant_of-result
 invariant_of-result c =
