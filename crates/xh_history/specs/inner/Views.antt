@@ -1,0 +1,87 @@
+-- What a seat knows, and the rule: there is one history a place, which the seat that writes it knows whole, and of which each worker has seen a beginning that has all of its own calls.
+use Rattle.std.specs.Prelude.{◌≡◌, ℕ, suc, ◌<◌, ◌≤◌, List, [], ◌∷◌, ◌++◌, length, map, replicate, slice_set}
+use mathlib.Core.Option.{some}
+use lib.ListN.{get_elem?}
+use Rattle.atomic_table.specs.Table.{State, Step, Me}
+use Rattle.xh_history.specs.declared.view.View.{View}
+use Rattle.xh_model.specs.declared.limits.TheConstants.{PLACES}
+use Rattle.xh_history.specs.Histories.{History, HasSeen, at}
+
+module _ {E : Type 0} where
+  -- the seat writes the history of the place
+  abbrev pub Writes : View E → ℕ → Type 0
+  Writes v p = (v.place ≤ p) × (p < v.places_end)
+
+  -- the seat has seen the places for the worker
+  abbrev pub Serves : View E → ℕ → Type 0
+  Serves v k = (v.worker ≤ k) × (k < v.workers_end)
+
+  -- what the rule says of one view, where h is the history of each place, and the seats of each place and of each worker are known
+  pub record Fits (h : ℕ → History E) (writer_of server_of : ℕ → ℕ) (id : ℕ) (v : View E) : Type 0 where
+    pub whole : (p : ℕ) → Writes v p → v.history ≡ h p
+    pub writer : (p : ℕ) → Writes v p → id ≡ writer_of p
+    pub seen : (k : ℕ) → Serves v k → (p : ℕ) → HasSeen k (at v.fronts p) (h p)
+    pub server : (k : ℕ) → Serves v k → id ≡ server_of k
+
+  abbrev pub AllFit : (ℕ → History E) → (ℕ → ℕ) → (ℕ → ℕ) → List (View E) → Type 0
+  AllFit h writer_of server_of views = (id : ℕ) (v : View E) → get_elem? views id ≡ some v → Fits h writer_of server_of id v
+
+  abbrev pub IsKept : {S : Type 0} → State S (View E) → Type 0
+  IsKept s = (h : ℕ → History E) × (writer_of : ℕ → ℕ) × (server_of : ℕ → ℕ) × AllFit h writer_of server_of s.views
+
+  -- the seat of all places from p on and of all workers from k on, on which nothing was called yet
+  abbrev pub view_from : ℕ → ℕ → View E
+  view_from p k = record { place = p; places_end = PLACES; history = []; worker = k; workers_end = 256; fronts = replicate PLACES [] }
+
+  abbrev pub first_view : View E
+  first_view = view_from 0 0
+
+  -- the first place goes to a seat of its own
+  abbrev pub without_place : View E → View E
+  without_place v = record v { place = suc v.place }
+
+  abbrev pub place_alone : View E → View E
+  place_alone v = record { place = v.place; places_end = suc v.place; history = v.history; worker = 0; workers_end = 0; fronts = [] }
+
+  -- the first worker goes to a seat of its own
+  abbrev pub without_worker : View E → View E
+  without_worker v = record v { worker = suc v.worker }
+
+  abbrev pub worker_alone : View E → View E
+  worker_alone v = record { place = 0; places_end = 0; history = []; worker = v.worker; workers_end = suc v.worker; fronts = v.fronts }
+
+  -- the seat of a place takes in that of a worker
+  abbrev pub both : View E → View E → View E
+  both v w = record v { worker = w.worker; workers_end = w.workers_end; fronts = w.fronts }
+
+  abbrev pub spent : View E
+  spent = record { place = 0; places_end = 0; history = []; worker = 0; workers_end = 0; fronts = [] }
+
+  -- the calls, each beside the number of its worker
+  abbrev pub signed : ℕ → List E → History E
+  signed k = map (λ e. (k, e))
+
+  -- the worker's calls come to the end of the place's history, which the worker has seen then
+  abbrev pub with_calls : List E → View E → View E
+  with_calls es v = record v { history = v.history ++ signed v.worker es; fronts = slice_set v.fronts v.place (v.history ++ signed v.worker es) }
+
+  -- a load: the calls were added, and what the worker had seen was a beginning of the history
+  abbrev pub Added : List E → {S : Type 0} → Step S → Me S (View E) → ℕ → Me S (View E) → Type 0
+  Added es s v n w = (w ≡ (with_calls es v.0, v.1)) × HasSeen v.0.worker (at v.0.fronts v.0.place) v.0.history
+
+  -- a seat that writes the history of one place, and serves no worker
+  pub record IsPen (v : View E) : Type 0 where
+    pub place : v.place < PLACES
+    pub alone : v.places_end ≡ suc v.place
+    pub none : v.workers_end ≤ v.worker
+
+  abbrev pub view_in : List (View E) → View E
+  view_in [] = spent
+  view_in (v ∷ vs) = v
+
+  -- a seat that serves one worker, and writes nothing
+  pub record IsFront (views : List (View E)) : Type 0 where
+    pub one : views ≡ view_in views ∷ []
+    pub alone : (view_in views).workers_end ≡ suc (view_in views).worker
+    pub none : (view_in views).places_end ≡ 0
+    pub fronts : length (view_in views).fronts ≡ PLACES
