@@ -4,8 +4,8 @@ use Rattle.std.specs.Prelude.{Some, slice_get}
 use Rattle.std.proofs.Math.Nat.{mod-lt, mul_comm, div-add-mod}
 use Rattle.std.proofs.lemmas.List.{length-map, length-append}
 use Rattle.xh_arena.specs.Views.{LotOf, VaultOf}
-use Rattle.xh_kernel.proofs.Lists.{below_get, front_at}
-use Rattle.xh_kernel.specs.Parts.{PartsOf, IsOpen}
+use Rattle.xh_calls.proofs.Lists.{below_get, front_at}
+use Rattle.xh_calls.specs.Parts.{PartsOf, IsOpen}
 use Rattle.xh_model.specs.Arena.{ArenaState, lengths_of}
 use Rattle.xh_model.specs.Cover.{length_of}
 use Rattle.xh_model.proofs.Lengths.{length_at, length-lengths}

@@ -4,7 +4,7 @@ use Rattle.std.specs.List.{sum_by}
 use Rattle.xh_arena.specs.Views.{VaultOf}
 use Rattle.xh_core.specs.declared.ledger.ArenaLine.{ArenaLine}
 use Rattle.xh_kernel.specs.Accounts.{AccountOf}
-use Rattle.xh_kernel.specs.Parts.{PartsOf, IsOpen, vault_names}
+use Rattle.xh_calls.specs.Parts.{PartsOf, IsOpen, vault_names}
 use Rattle.xh_place.specs.Places.{PlaceOf}
 use Rattle.xh_books.specs.Ledgers.{all_back, all_taken, arena_lines, bytes_in_flight, bytes_owned}
 use Rattle.xh_books.specs.inner.Steps.{AreBooks, AreGathered, all_lengths, arenas_of, closed_line, unlisted_from}

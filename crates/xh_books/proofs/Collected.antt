@@ -9,7 +9,7 @@ use Rattle.atomic_table.specs.Seated.{TableId}
 use Rattle.xh_arena.specs.Views.{Move, TallyOf, VaultOf}
 use Rattle.xh_core.specs.declared.ledger.ArenaLine.{ArenaLine}
 use Rattle.xh_kernel.specs.Accounts.{AccountOf}
-use Rattle.xh_kernel.specs.Parts.{PartsOf, IsOpen, vault_names}
+use Rattle.xh_calls.specs.Parts.{PartsOf, IsOpen, vault_names}
 use Rattle.xh_model.specs.Cover.{bytes_out, holes_of}
 use Rattle.xh_place.specs.Tallies.{ids_of}
 use Rattle.xh_books.specs.Ledgers.{arena_lines, taken_of, back_of}

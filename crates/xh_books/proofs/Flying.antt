@@ -11,7 +11,7 @@ use Rattle.std.proofs.lemmas.Option.{get_or_from_slice_get}
 use mathlib.Core.Logic.{dite}
 use native.Mathlib.Decide.{ℕ_discrete}
 use Rattle.xh_arena.specs.Views.{VaultOf}
-use Rattle.xh_kernel.proofs.Lists.{below_get, there}
+use Rattle.xh_calls.proofs.Lists.{below_get, there}
 use Rattle.xh_model.specs.Arena.{lengths_of}
 use Rattle.xh_model.specs.Keyed.{Among, Distinct, keys, value_at}
 use Rattle.xh_model.specs.Slots.{index_of}

@@ -4,7 +4,7 @@ use Rattle.std.specs.Prelude.{Option, Some, None, slice_get}
 use Rattle.std.proofs.Math.Nat.{mod-lt}
 use Rattle.std.proofs.lemmas.Option.{get_or_from_slice_get, slice_get-map}
 use Rattle.xh_arena.specs.Views.{LotOf}
-use Rattle.xh_kernel.proofs.Lists.{below_get}
+use Rattle.xh_calls.proofs.Lists.{below_get}
 use Rattle.xh_model.specs.declared.event.Holder.{Holder}
 use Rattle.xh_model.specs.declared.event.Holder.TheVariants.{Process, Direction}
 use Rattle.xh_model.specs.Keyed.{Among, Distinct, keys, value_at}

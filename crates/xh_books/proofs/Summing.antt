@@ -9,7 +9,7 @@ use Rattle.atomic_table.specs.Seated.{TableId}
 use Rattle.xh_arena.specs.Views.{TallyOf, VaultOf}
 use Rattle.xh_core.specs.declared.ledger.ArenaLine.{ArenaLine}
 use Rattle.xh_kernel.specs.Accounts.{AccountOf}
-use Rattle.xh_kernel.specs.Parts.{vault_names}
+use Rattle.xh_calls.specs.Parts.{vault_names}
 use Rattle.xh_model.specs.Arena.{lengths_of}
 use Rattle.xh_books.specs.Ledgers.{all_back, all_taken, arena_line, arena_lines, back_of, taken_of}
 use Rattle.xh_books.specs.inner.Steps.{AreBooks, all_lengths, arenas_of, closed_line}

@@ -1,6 +1,6 @@
 // The lots of the closed table are those of the vaults.
 ghost use Rattle.std.specs.Prelude.{◌≡◌, ◌*◌, ◌<◌, All, length};
-ghost use Rattle.xh_kernel.specs.Parts.{vault_names};
+ghost use Rattle.xh_calls.specs.Parts.{vault_names};
 ghost use Rattle.xh_books.specs.inner.Steps.{AreAt, all_lengths, arenas_of, lens_of};
 
 use xh_arena::{Lot, Vault};

@@ -1,7 +1,7 @@
 //! Closing the books.
 ghost use Rattle.std.specs.Prelude.{◌≡◌, ◌+◌, ◌*◌, ◌<◌, ◌≤◌, All, IfErr, IfOk, length, sum, vec_len};
 ghost use Rattle.std.specs.List.{sum_by};
-ghost use Rattle.xh_kernel.specs.Parts.{IsOpen, vault_names};
+ghost use Rattle.xh_calls.specs.Parts.{IsOpen, vault_names};
 ghost use Rattle.xh_kernel.specs.Places.{places_of};
 ghost use Rattle.xh_model.specs.declared.limits.TheConstants.{MAX_ARENAS, PLACES};
 ghost use Rattle.xh_place.specs.Places.{IsPlaceOf};
@@ -117,6 +117,7 @@ pub fn close_kernel<N: Names>(
                 pens: _,
                 records,
                 glances: _,
+                histories: _,
             },
         ) => close_books(alloc, vaults, places, records, accounts),
         Err(refused) => Err(refused),

@@ -1,6 +1,6 @@
 // The vaults take in the accounts.
 ghost use Rattle.std.specs.Prelude.{◌≡◌, All, vec_len};
-ghost use Rattle.xh_kernel.specs.Parts.{IsOpen, vault_names};
+ghost use Rattle.xh_calls.specs.Parts.{IsOpen, vault_names};
 ghost use Rattle.xh_place.specs.Tallies.{ids_of};
 ghost use Rattle.xh_books.specs.inner.Steps.{AreGathered, with_accounts, with_tallies};
 

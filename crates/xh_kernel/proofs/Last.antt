@@ -1,16 +1,19 @@
--- The last entry of a history, once it was told.
-use Rattle.std.proofs.Common.{◌≡◌, ℕ, List, [], ◌∷◌, ◌++◌, length, ◌<◌, ◌%◌, All, arith, refl, sym, ap, ◌∙◌}
+-- The last entry of a history, once it was told; and what is kept of each place.
+use Rattle.std.proofs.Common.{◌≡◌, ℕ, List, [], ◌∷◌, ◌++◌, All, arith, refl, sym, subst, ap, ◌∙◌}
 use Rattle.std.proofs.lemmas.List.Elements.{All-cons}
 use Rattle.std.specs.Prelude.{Some}
 use Rattle.xh_core.specs.declared.glance.Glance.{Glance}
-use Rattle.std.proofs.Math.Nat.{mod-eq_of_lt}
-use Rattle.atomic_table.specs.Seated.{TableId}
-use Rattle.xh_core.specs.declared.status.Status.TheVariants.{Vacant}
 use Rattle.xh_glance.specs.Pen.{PenOf, fresh_pen}
-use Rattle.xh_place.specs.Places.{IsPlaceOf, PlaceOf, total_of}
+use Rattle.xh_history.specs.Histories as histories
+use Rattle.xh_place.specs.Places.{IsPlaceOf}
 use Rattle.xh_place.specs.Seen.{PlaceSeen}
-use Rattle.xh_kernel.specs.Parts.{PartsOf}
-use Rattle.xh_kernel.specs.Places.{AreTold, IsFound, IsTold, last_of, places_of}
+use Rattle.xh_records.proofs.History.{starts_itself}
+use Rattle.xh_calls.specs.Parts.{PartsOf}
+use Rattle.xh_kernel.specs.declared.call.Call.{Call}
+use Rattle.xh_kernel.specs.declared.scribe.Pens.{Pens}
+use Rattle.xh_kernel.specs.Histories.{IsHistoryOf, IsUnused}
+use Rattle.xh_kernel.specs.Kept.{AreKept, AreOf, IsKept}
+use Rattle.xh_kernel.specs.Places.{last_of, places_of}
 
 last_push : {A : Type 0} (xs : List A) (x : A) → last_of (xs ++ x ∷ []) ≡ Some x
 last_push [] x = refl
@@ -20,22 +23,20 @@ last_push (y ∷ z ∷ zs) x = last_push (z ∷ zs) x
 pub told : (pen new : PenOf) (g h : Glance) → new ≡ record pen { history = pen.history ++ g ∷ [] } → g ≡ h → last_of new.history ≡ Some h
 told pen new g h e same = ap (λ (p : PenOf). last_of p.history) e ∙ last_push pen.history g ∙ ap Some same
 
--- what a fresh pen has told is the place that nobody has yet
-pub told_first : (id : TableId) (p : PlaceOf) (pen : PenOf) (k : ℕ) → k < 32 → p.process ≡ k → p.state ≡ Vacant → p.blocks ≡ [] → pen ≡ fresh_pen id k → IsTold p pen
-told_first id p pen k small process state blocks is = record {
-  number = ap (λ z. z % 32) process ∙ mod-eq_of_lt small ∙ sym (ap (λ (z : PenOf). z.number) is);
-  last = ap (λ (z : PenOf). last_of z.history) is ∙ (λ i. Some (record { process = sym process i; state = sym state i; blocks = length (sym blocks i); bytes = total_of (sym blocks i) }));
-}
+-- a place that nobody has had yet, whose history has no call
+pub history_first : (parts : PartsOf) (p : PlaceSeen) (pens : Pens) (k : ℕ) → IsUnused parts k p.place → pens.glances ≡ fresh_pen parts.glances k → pens.history ≡ histories.fresh_pen parts.histories k → AreOf parts pens p
+history_first parts p pens k unused glances history =
+    let first : IsHistoryOf parts k [] (fresh_pen parts.glances k).history p = ∣ (p, [], unused, refl, ((refl, starts_itself p.front), refl)) ∣₁ in
+    subst (λ (z : histories.PenOf Call). IsHistoryOf parts z.number z.history pens.glances.history p) (sym history) (subst (λ (z : PenOf). IsHistoryOf parts k [] z.history p) (sym glances) first)
 
--- one place more, and its pen
-pub told_push : (parts : PartsOf) (ps : List PlaceSeen) (pens : List PenOf) (p : PlaceSeen) (pen : PenOf) → AreTold parts ps pens → IsFound parts p.place × (pen.glances ≡ parts.glances) × IsTold p.place pen
-    → AreTold parts (ps ++ p ∷ []) (pens ++ pen ∷ [])
-told_push parts [] [] p pen are is = (is, tt)
-told_push parts [] (q ∷ pens) p pen are is = absurd are
-told_push parts (x ∷ ps) [] p pen are is = absurd are
-told_push parts (x ∷ ps) (q ∷ pens) p pen are is = (are.0, told_push parts ps pens p pen are.1 is)
+-- one place more, and its pens
+pub kept_push : (parts : PartsOf) (ps : List PlaceSeen) (all : List Pens) (p : PlaceSeen) (pens : Pens) → AreKept parts ps all → IsKept parts p pens → AreKept parts (ps ++ p ∷ []) (all ++ pens ∷ [])
+kept_push parts [] [] p pens are is = (is, tt)
+kept_push parts [] (q ∷ all) p pens are is = absurd are
+kept_push parts (x ∷ ps) [] p pens are is = absurd are
+kept_push parts (x ∷ ps) (q ∷ all) p pens are is = (are.0, kept_push parts ps all p pens are.1 is)
 
-pub told_named : (parts : PartsOf) (ps : List PlaceSeen) (pens : List PenOf) → AreTold parts ps pens → All (IsPlaceOf parts.records) (places_of ps)
-told_named parts [] pens are = λ k d below. absurd (omega (arith, below))
-told_named parts (p ∷ ps) [] are = absurd are
-told_named parts (p ∷ ps) (pen ∷ pens) are = All-cons (IsPlaceOf parts.records) p.place (places_of ps) are.0.0.0 (told_named parts ps pens are.1)
+pub kept_named : (parts : PartsOf) (ps : List PlaceSeen) (all : List Pens) → AreKept parts ps all → All (IsPlaceOf parts.records) (places_of ps)
+kept_named parts [] all are = λ k d below. absurd (omega (arith, below))
+kept_named parts (p ∷ ps) [] are = absurd are
+kept_named parts (p ∷ ps) (pens ∷ all) are = All-cons (IsPlaceOf parts.records) p.place (places_of ps) are.0.found.0 (kept_named parts ps all are.1)

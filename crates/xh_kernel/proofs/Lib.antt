@@ -1,11 +1,4 @@
-pub mod Lists
-pub mod Taking
-pub mod Fresh
-pub mod Makings
+pub mod Again
+pub mod Back
 pub mod Last
-pub mod Moved
-pub mod Vaulted
-pub mod Found
-pub mod Wired
-pub mod Started
-pub mod Several
+pub mod Recorded

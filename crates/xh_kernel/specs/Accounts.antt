@@ -1,34 +1,44 @@
 -- What contracts see of an account, and what calls do to it.
-use Rattle.std.specs.Prelude.{◌≡◌, ℕ, ◌<◌, List, map, slice_index_or, length, Option, Some, None}
+use Rattle.std.specs.Prelude.{◌≡◌, ℕ, ◌<◌, List, [], map, replicate, slice_index_or, length, Option, Some, None}
 use Rattle.atomic_table.specs.Seated.{TableId}
 use Rattle.xh_arena.specs.Views.{TallyOf}
+use Rattle.xh_calls.specs.Tallies.{fresh_tally}
+use Rattle.xh_history.specs.Histories.{History}
+use Rattle.xh_kernel.specs.declared.call.Call.{Call}
+use Rattle.xh_model.specs.declared.limits.TheConstants.{PLACES}
+use Rattle.xh_place.specs.Ending.{HasGivenBack}
 use Rattle.xh_place.specs.Tallies.{took, gave}
 
--- a worker's number, and its tallies by arena
+-- a worker's number, its tallies by arena, and of each place what the worker has seen of its history
 pub record AccountOf : Type 0 where
   pub number : ℕ
   pub tallies : List TallyOf
+  pub fronts : List (History Call)
 
 -- what a tally has taken and given back
 abbrev pub moved_of : Option TallyOf → Option (ℕ × ℕ)
 moved_of None = None
 moved_of (Some t) = Some (t.taken, t.back)
 
+-- no bytes were taken or given back
+abbrev pub IsUnmoved : AccountOf → AccountOf → Type 0
+IsUnmoved old new = (new.number ≡ old.number) × (new.tallies ≡ old.tallies)
+
 -- n bytes of the arena were taken
-abbrev pub has_taken : ℕ → ℕ → AccountOf → AccountOf
-has_taken arena n a = record a { tallies = took arena n a.tallies }
+abbrev pub HasTaken : ℕ → ℕ → AccountOf → AccountOf → Type 0
+HasTaken arena n old new = (new.number ≡ old.number) × (new.tallies ≡ took arena n old.tallies)
 
 -- n bytes of the arena were given back
-abbrev pub has_given : ℕ → ℕ → AccountOf → AccountOf
-has_given arena n a = record a { tallies = gave arena n a.tallies }
+abbrev pub HasGiven : ℕ → ℕ → AccountOf → AccountOf → Type 0
+HasGiven arena n old new = (new.number ≡ old.number) × (new.tallies ≡ gave arena n old.tallies)
 
--- the tally of the worker k for a vault, with nothing taken
-abbrev pub fresh_tally : ℕ → TableId → TallyOf
-fresh_tally k z = record { id = z; number = k; taken = 0; back = 0 }
+-- so many bytes were given back, of whatever arenas, and no others moved
+abbrev pub HasBack : ℕ → AccountOf → AccountOf → Type 0
+HasBack bytes old new = (new.number ≡ old.number) × HasGivenBack bytes old.tallies new.tallies
 
--- the account of the worker k, with nothing taken, over vaults of these names
+-- the account of the worker k, with nothing taken and nothing seen, over vaults of these names
 abbrev pub fresh : List TableId → ℕ → AccountOf
-fresh zs k = record { number = k; tallies = map (fresh_tally k) zs }
+fresh zs k = record { number = k; tallies = map (fresh_tally k) zs; fronts = replicate PLACES [] }
 
 -- the accounts of the workers 0, 1, .., in order
 abbrev pub AreFresh : List TableId → List AccountOf → Type 0

@@ -1,11 +1,8 @@
-pub mod Parts
 pub mod Accounts
 pub mod Places
-pub mod Calls
-pub mod Reclaims
-pub mod Channels
-pub mod Wires
-pub mod Messages
-pub mod Several
+pub mod Histories
+pub mod Kept
+pub mod Waits
 pub mod Endings
+pub mod Wires
 pub mod inner

@@ -1,18 +1,24 @@
-//! What a worker has taken and given back.
-ghost use Rattle.std.specs.Prelude.{◌≡◌, slice_get};
-ghost use Rattle.xh_kernel.specs.Accounts.{fresh, moved_of};
-ghost use Rattle.xh_kernel.specs.inner.Making.{AreFreshTallies};
+//! What a worker has taken and given back, and what it has seen of the histories.
+ghost use Rattle.std.specs.Prelude.{◌≡◌, slice_get, slice_set};
+ghost use Rattle.xh_calls.specs.inner.Making.{AreFreshTallies};
+ghost use Rattle.xh_history.specs.Histories.{HasSeen, at, fresh_front};
+ghost use Rattle.xh_kernel.specs.Accounts.{IsUnmoved, fresh, moved_of};
 ghost use Rattle.xh_place.specs.Tallies.{ids_of};
 
-use crate::names::Names;
+use crate::call::Call;
+use crate::scribe::Pens;
 use std::marker::{Model, PhantomData};
 use xh_arena::Tally;
+use xh_calls::{Bundle, Names};
+use xh_history::{Front, Histories};
 
-/// A worker's tally of each arena. It tells how many bytes of each the worker ever took and gave back.
+/// A worker's tally of each arena, and of each place's history what the worker has seen. It tells how many
+/// bytes of each arena the worker ever took and gave back.
 #[derive(Drop)]
 pub struct Account<N: Names> {
     number: u8,
     pub(crate) tallies: Vec<Tally>,
+    pub(crate) front: Front<Call>,
     of: PhantomData<N>,
 }
 
@@ -23,27 +29,22 @@ impl<N: Names> Model for Account<N> {
 
     ghost Value = { AccountOf };
 
-    ghost view = { λ a. record { number = a.number; tallies = a.tallies.items } };
+    ghost view = { λ a. record { number = a.number; tallies = a.tallies.items; fronts = a.front.fronts } };
 
-    ghost invariant = { λ a. ids_of a.tallies.items ≡ N.parts.records.shape.names };
-}
-
-/// A worker's number and tallies, whose names are not known yet.
-#[derive(Drop)]
-pub struct Bundle {
-    pub(crate) number: u8,
-    pub(crate) tallies: Vec<Tally>,
+    ghost invariant = { λ a. (ids_of a.tallies.items ≡ N.parts.records.shape.names) × (a.front.table ≡ N.parts.histories) × (a.front.number ≡ a.number) };
 }
 
 impl<N: Names> Account<N> {
-    // The account of a bundle of the kernel's own.
-    pub(crate) fn named(bundle: Bundle) -> Account<N>
-        requires { AreFreshTallies N.parts.records.shape.names bundle.number bundle.tallies.items }
+    // The account of a bundle of the kernel's own, and of a worker who has seen nothing.
+    pub(crate) fn named(bundle: Bundle, front: Front<Call>) -> Account<N>
+        requires tallies { AreFreshTallies N.parts.records.shape.names bundle.number bundle.tallies.items }
+        requires front { front ≡ fresh_front N.parts.histories bundle.number }
         ensures { result ≡ fresh N.parts.records.shape.names bundle.number }
     {
         Account {
             number: bundle.number,
             tallies: bundle.tallies,
+            front,
             of: PhantomData,
         }
     }
@@ -71,8 +72,21 @@ impl<N: Names> Account<N> {
         let Account {
             number: _,
             tallies,
+            front: _,
             of: _,
         } = self;
         tallies
+    }
+
+    /// Shows that what the worker has seen of the pens' place is a beginning of the place's history, in which
+    /// all of the worker's calls stand. The worker has seen it to its end then.
+    pub fn compare(&mut self, histories: &Histories<Call>, pens: &mut Pens)
+        requires table { histories.now ≡ N.parts.histories }
+        requires pens { pens.old.history.table ≡ N.parts.histories }
+        ensures pens { pens.new ≡ pens.old }
+        ensures seen { HasSeen self.old.number (at self.old.fronts pens.old.history.number) pens.old.history.history }
+        ensures account { IsUnmoved self.old self.new × (self.new.fronts ≡ slice_set self.old.fronts pens.old.history.number pens.old.history.history) }
+    {
+        histories.compare(&mut pens.history, &mut self.front);
     }
 }

@@ -1,15 +1,22 @@
 //! The locks of the places, and the calls.
-ghost use Rattle.std.specs.Prelude.{◌≡◌, ◌<◌, ◌≤◌, [], All, IfErr, IfOk, MatchResult, Some, vec_len};
+ghost use Rattle.std.specs.Prelude.{◌≡◌, ◌<◌, ◌≤◌, [], All, IfErr, IfOk, MatchResult, vec_len};
+ghost use Rattle.std.specs.Sync.Mutex.{mutex_guard_value};
+ghost use Rattle.xh_calls.specs.inner.Making.{AreBundles};
+ghost use Rattle.xh_calls.specs.Parts.{IsOpen, vault_names};
 ghost use Rattle.xh_glance.specs.Look.{fresh_look, Sees};
 ghost use Rattle.xh_glance.specs.Pen.{fresh_pen};
+ghost use Rattle.xh_history.specs.Histories as histories;
+ghost use Rattle.xh_kernel.specs.Accounts.{AreFresh};
+ghost use Rattle.xh_kernel.specs.declared.call.Call.TheVariants.{Spawn};
+ghost use Rattle.xh_kernel.specs.Histories.{Asks};
+ghost use Rattle.xh_kernel.specs.inner.Making.{ArePens, AreSeats, AreUnseen, AreUnwritten};
+ghost use Rattle.xh_kernel.specs.Kept.{AreKept};
+ghost use Rattle.xh_kernel.specs.Places.{places_of};
+ghost use Rattle.xh_kernel.specs.Waits.{SpawnsAt};
 ghost use Rattle.xh_model.specs.declared.limits.TheConstants.{MAX_ARENAS, PLACES};
+ghost use Rattle.xh_model.specs.Words.{place_of};
 ghost use Rattle.xh_place.specs.Places.{IsPlaceOf};
 ghost use Rattle.xh_records.specs.Seats.{IsSeatOf};
-ghost use Rattle.xh_kernel.specs.Accounts.{AreFresh};
-ghost use Rattle.xh_kernel.specs.Calls.{Spawns};
-ghost use Rattle.xh_kernel.specs.Parts.{IsOpen, vault_names};
-ghost use Rattle.xh_kernel.specs.Places.{AreTold, Finds, places_of};
-ghost use Rattle.xh_kernel.specs.inner.Making.{AreBundles, ArePens, AreSeats};
 
 mod blocks;
 mod channels;
@@ -17,20 +24,22 @@ mod endings;
 mod messages;
 mod waiting;
 
-use crate::account::{Account, Bundle};
-use crate::arenas::Arenas;
-use crate::held::{Held, Waits};
-use crate::names::Names;
+use crate::account::Account;
+use crate::call::Call;
+use crate::held::Held;
+use crate::looking::Waits;
 use crate::parts::Parts;
+use crate::scribe::{Pens, Scribe};
 use crate::shared::Shared;
-use crate::teller::Teller;
 use crossbeam_utils::CachePadded;
 use std::alloc::{AllocError, Global};
 use std::marker::PhantomData;
-use std::sync::{Mutex, Wait};
+use std::sync::{Mutex, MutexGuard, Wait};
 use xh_arena::Vault;
+use xh_calls::{Arenas, Bundle, Heap, Names};
 use xh_core::{Glance, Refused};
 use xh_glance::{Glances, Look, Pen};
+use xh_history::{Front, Histories};
 use xh_model::limits::PLACES;
 use xh_place::{Body, Gate, Place};
 use xh_records::{Records, Seat};
@@ -46,32 +55,34 @@ pub struct Kernel<N: Names> {
 }
 
 /// What a kernel was: the vaults by arena, the places by number, which hold all seats of the records, the
-/// pen of each place's history of glances, the records and the glances.
+/// pens of each place's glances and history, the records, the glances and the histories.
 #[derive(Drop)]
 pub struct Settled {
     pub vaults: Vec<Vault>,
     pub places: Vec<Place>,
-    pub pens: Vec<Pen>,
+    pub pens: Vec<Pens>,
     pub records: Records<Body>,
     pub glances: Glances,
+    pub histories: Histories<Call>,
 }
 
-// The lock of a place that nobody has yet, beside its pen.
+// The lock of a place that nobody has yet, beside its pens.
 fn lock_place<N: Names>(
     alloc: Global,
     records: &Records<Body>,
     seat: Seat<Body>,
-    pen: Pen,
+    pens: Pens,
 ) -> Result<CachePadded<Mutex<Held<N>>>, Refused>
     requires records { records.now ≡ N.parts.records }
     requires seat { IsSeatOf N.parts.records seat × (seat.lots ≡ []) × (seat.process < PLACES) }
-    requires pen { pen ≡ fresh_pen N.parts.glances seat.process }
+    requires glances { pens.glances ≡ fresh_pen N.parts.glances seat.process }
+    requires history { pens.history ≡ histories.fresh_pen N.parts.histories seat.process }
     ensures { IfErr result (λ e. e ≡ Refused.OutOfMemory) }
 {
     let room = u16::from(records.arenas()) * records.per_arena();
     let place = Place::new(alloc, seat, room)?;
     Ok(CachePadded::new(Mutex::new(Held {
-        teller: Teller::new(pen, &place),
+        scribe: Scribe::new(pens, &place),
         place,
         waits: Waits::Nowhere,
         of: PhantomData,
@@ -84,53 +95,65 @@ fn lock_places<N: Names>(
     records: &Records<Body>,
     seats: Vec<Seat<Body>>,
     pens: Vec<Pen>,
+    unwritten: Vec<xh_history::Pen<Call>>,
 ) -> Result<Vec<CachePadded<Mutex<Held<N>>>>, Refused>
     requires records { records.now ≡ N.parts.records }
     requires seats { AreSeats N.parts.records seats.items }
     requires pens { ArePens N.parts.glances pens.items }
+    requires unwritten { AreUnwritten N.parts.histories unwritten.items }
     ensures count { IfOk result (λ l. vec_len l ≡ PLACES) }
     ensures refused { IfErr result (λ e. e ≡ Refused.OutOfMemory) }
 {
     let mut locks = Vec::with_capacity(alloc, seats.len())?;
     let mut left = pens.into_iter();
+    let mut unwritten = unwritten.into_iter();
     for seat in seats {
-        let Some(pen) = left.next() else {
+        let (Some(glances), Some(history)) = (left.next(), unwritten.next()) else {
             unreachable!()
         };
-        locks.push(lock_place(alloc, records, seat, pen)?)?;
+        locks.push(lock_place(alloc, records, seat, Pens { glances, history })?)?;
     }
     Ok(locks)
 }
 
 // An account for each bundle.
-fn name_accounts<N: Names>(alloc: Global, bundles: Vec<Bundle>) -> Result<Vec<Account<N>>, Refused>
-    requires { AreBundles N.parts.records.shape.names bundles.items }
+fn name_accounts<N: Names>(
+    alloc: Global,
+    bundles: Vec<Bundle>,
+    fronts: Vec<Front<Call>>,
+) -> Result<Vec<Account<N>>, Refused>
+    requires bundles { AreBundles N.parts.records.shape.names bundles.items }
+    requires fronts { (vec_len fronts ≡ vec_len bundles) × AreUnseen N.parts.histories fronts.items }
     ensures count { IfOk result (λ v. vec_len v ≡ vec_len bundles) }
     ensures fresh { IfOk result (λ v. AreFresh N.parts.records.shape.names v.items) }
     ensures refused { IfErr result (λ e. e ≡ Refused.OutOfMemory) }
 {
     let mut accounts = Vec::with_capacity(alloc, bundles.len())?;
+    let mut left = fronts.into_iter();
     for bundle in bundles {
-        accounts.push(Account::named(bundle))?;
+        let Some(front) = left.next() else {
+            unreachable!()
+        };
+        accounts.push(Account::named(bundle, front))?;
     }
     Ok(accounts)
 }
 
-// The places out of their locks, and the pens that told of them.
+// The places out of their locks, and their pens.
 fn unlock_places<N: Names>(
     alloc: Global,
     locks: Vec<CachePadded<Mutex<Held<N>>>>,
-) -> Result<(Vec<Place>, Vec<Pen>), AllocError>
+) -> Result<(Vec<Place>, Vec<Pens>), AllocError>
     ensures count { IfOk result (λ r. vec_len r.0 ≡ vec_len locks) }
     ensures named { IfOk result (λ r. All (IsPlaceOf N.parts.records) (places_of r.0.items)) }
-    ensures told { IfOk result (λ r. AreTold N.parts r.0.items r.1.items) }
+    ensures kept { IfOk result (λ r. AreKept N.parts r.0.items r.1.items) }
 {
     let mut places = Vec::with_capacity(alloc, locks.len())?;
     let mut pens = Vec::with_capacity(alloc, locks.len())?;
     for lock in locks {
-        let (place, pen) = lock.into_inner().into_inner().into_parts();
+        let (place, own) = lock.into_inner().into_inner().into_parts();
         places.push(place)?;
-        pens.push(pen)?;
+        pens.push(own)?;
     }
     Ok((places, pens))
 }
@@ -156,37 +179,71 @@ impl<N: Names> Kernel<N> {
             pens,
             bundles,
             looks,
+            histories,
+            unwritten,
+            fronts,
             config,
         } = parts;
-        let places = lock_places(alloc, &records, seats, pens)?;
-        let accounts = name_accounts(alloc, bundles)?;
-        let shared = Shared {
+        let places = lock_places(alloc, &records, seats, pens, unwritten)?;
+        let accounts = name_accounts(alloc, bundles, fronts)?;
+        let heap = Heap {
             records,
             channels,
-            glances,
             arenas: Arenas::new(vaults, config.bytes),
+        };
+        let shared = Shared {
+            heap,
+            glances,
+            histories,
         };
         Ok((Kernel { shared, places }, accounts, looks))
     }
 
-    // The lock of the process's place.
-    fn lock_of(&self, p: u16) -> &Mutex<Held<N>> {
-        &self.places[usize::from(p % u16::from(PLACES))]
+    // What lies behind the lock of the process's place, which knows its number.
+    pub(crate) fn held<R: Wait>(&self, rt: &R, p: u16) -> MutexGuard<'_, Held<N>>
+        ensures { (mutex_guard_value result).scribe.pens.history.number ≡ place_of p }
+    {
+        let number = p % u16::from(PLACES);
+        for _ in rt.forever() {
+            let held = self.places[usize::from(number)].lock(rt);
+            if u16::from(held.scribe.pens.glances.number()) == number {
+                return held;
+            }
+        }
+        unreachable!()
     }
 
     /// A process runs from now on at the lowest place that was found without one: nobody has had the place,
     /// or its process has ended and was not the 128th. It answers the process's number, the place and 32
     /// times the generation. NoPlace where none was found.
-    pub fn spawn<R: Wait, G: Gate>(&self, rt: &R, _gate: &G) -> Result<u16, Refused>
-        ensures found { IfOk result (λ p. Finds N.parts (λ old new. Spawns old.place new.place (Some p))) }
+    pub fn spawn<R: Wait, G: Gate>(
+        &self,
+        rt: &R,
+        account: &mut Account<N>,
+        _gate: &G,
+    ) -> Result<u16, Refused>
+        ensures calls { SpawnsAt N.parts account.old account.new result }
         ensures none { IfErr result (λ e. e ≡ Refused.NoPlace) }
     {
-        for place in &self.places {
-            if let Some(p) = place.lock(rt).spawn(&self.shared) {
+        for number in 0..PLACES {
+            if let Some(p) = self.spawn_at(rt, number, account) {
                 return Ok(p);
             }
         }
         Err(Refused::NoPlace)
+    }
+
+    // The next process of the place runs, where one can start there: its number.
+    fn spawn_at<R: Wait>(&self, rt: &R, number: u8, account: &mut Account<N>) -> Option<u16>
+        requires { number < PLACES }
+        ensures { Asks N.parts number (Spawn result) account.old account.new }
+    {
+        let mut guard = self.held(rt, u16::from(number));
+        let held: &mut Held<N> = &mut guard;
+        let answer = self.shared.heap.spawn(&mut held.place);
+        held.scribe
+            .note(&self.shared, &held.place, &mut account.front, &answer);
+        answer
     }
 
     /// What a place was at one moment of the call: its latest process, how far that had come, how many
@@ -204,21 +261,26 @@ impl<N: Names> Kernel<N> {
     }
 
     /// Takes the kernel apart and changes nothing. What a look has seen of a place is a beginning of the
-    /// history of the place's pen, as `Glances::compare` shows. OutOfMemory where a growth was refused.
+    /// glances of the place's pen, as `Glances::compare` shows, and what a worker has seen of it a beginning of
+    /// its history, as `Histories::compare` shows. OutOfMemory where a growth was refused.
     pub fn settle(self, alloc: Global) -> Result<Settled, Refused>
         ensures vaults { IfOk result (λ s. (vault_names s.vaults.items ≡ N.parts.records.shape.names) × All (IsOpen N.parts) s.vaults.items × (vec_len s.vaults ≤ MAX_ARENAS)) }
         ensures places { IfOk result (λ s. All (IsPlaceOf s.records) (places_of s.places.items) × (vec_len s.places ≡ s.records.shape.places)) }
-        ensures told { IfOk result (λ s. AreTold N.parts s.places.items s.pens.items) }
-        ensures tables { IfOk result (λ s. (s.records ≡ N.parts.records) × (s.glances ≡ N.parts.glances)) }
+        ensures kept { IfOk result (λ s. AreKept N.parts s.places.items s.pens.items) }
+        ensures tables { IfOk result (λ s. (s.records ≡ N.parts.records) × (s.glances ≡ N.parts.glances) × (s.histories ≡ N.parts.histories)) }
         ensures refused { IfErr result (λ e. e ≡ Refused.OutOfMemory) }
     {
         let Kernel { shared, places } = self;
         let Shared {
+            heap,
+            glances,
+            histories,
+        } = shared;
+        let Heap {
             records,
             channels: _,
-            glances,
             arenas,
-        } = shared;
+        } = heap;
         let vaults = arenas.into_vaults(alloc)?;
         let (places, pens) = unlock_places(alloc, places)?;
         Ok(Settled {
@@ -227,6 +289,7 @@ impl<N: Names> Kernel<N> {
             pens,
             records,
             glances,
+            histories,
         })
     }
 }

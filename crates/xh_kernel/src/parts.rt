@@ -1,15 +1,16 @@
 //! What a kernel is made of.
 ghost use Rattle.std.specs.Prelude.{◌≡◌, ◌⊎◌, ◌↔◌, Err, IfErr, IfOk, OnOk};
-ghost use Rattle.xh_kernel.specs.Parts.{AreMadeBy, ArePartsLimits};
+ghost use Rattle.xh_calls.specs.Parts.{AreMadeBy, ArePartsLimits};
 
-use crate::account::Bundle;
-use crate::making::{Makings, make_vaults};
+use crate::call::Call;
 use std::alloc::Global;
 use std::marker::Model;
 use xh_arena::Vault;
+use xh_calls::{Bundle, Makings, make_vaults};
 use xh_channel::Channels;
 use xh_core::{Config, Refused};
 use xh_glance::{Glances, Look, Pen};
+use xh_history::{Front, Histories};
 use xh_model::limits::{MAX_WORKERS, PLACES};
 use xh_place::Body;
 use xh_records::{Records, Seat};
@@ -25,20 +26,23 @@ pub struct Parts {
     pub(crate) pens: Vec<Pen>,
     pub(crate) bundles: Vec<Bundle>,
     pub(crate) looks: Vec<Look>,
+    pub(crate) histories: Histories<Call>,
+    pub(crate) unwritten: Vec<xh_history::Pen<Call>>,
+    pub(crate) fronts: Vec<Front<Call>>,
     pub(crate) config: Config,
 }
 
 impl Model for Parts {
     ghost use Rattle.std.specs.Prelude.{vec_len};
-    ghost use Rattle.xh_kernel.specs.Parts.{PartsOf};
+    ghost use Rattle.xh_calls.specs.Parts.{PartsOf};
     ghost use Rattle.xh_kernel.specs.inner.Making.{AreParts, parts_of};
 
     ghost Value = { PartsOf };
 
-    ghost view = { λ p. parts_of p.records (vec_len p.bundles) p.config p.channels.depth p.glances };
+    ghost view = { λ p. parts_of p.records (vec_len p.bundles) p.config p.channels.depth p.glances p.histories };
 
-    ghost invariant = { λ p. AreParts (parts_of p.records (vec_len p.bundles) p.config p.channels.depth p.glances)
-        p.vaults.items p.seats.items p.pens.items p.bundles.items p.looks.items };
+    ghost invariant = { λ p. AreParts (parts_of p.records (vec_len p.bundles) p.config p.channels.depth p.glances p.histories)
+        p.vaults.items p.seats.items p.pens.items p.bundles.items p.looks.items p.unwritten.items p.fronts.items };
 }
 
 // The parts of a kernel within its limits.
@@ -59,6 +63,7 @@ fn make_parts(alloc: Global, config: Config, workers: u8) -> Result<Parts, Refus
     };
     let channels = Channels::new(alloc, config.depth)?;
     let (glances, pens, looks) = Glances::new(alloc, workers)?;
+    let (histories, unwritten, fronts) = Histories::new(alloc, workers)?;
     Ok(Parts {
         vaults,
         records,
@@ -68,6 +73,9 @@ fn make_parts(alloc: Global, config: Config, workers: u8) -> Result<Parts, Refus
         pens,
         bundles,
         looks,
+        histories,
+        unwritten,
+        fronts,
         config,
     })
 }

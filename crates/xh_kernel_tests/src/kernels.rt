@@ -7,6 +7,7 @@ mod several;
 mod waiting;
 mod wiring;
 
+use passing::Passing;
 use std::alloc::Global;
 use std::marker::Brand;
 use std::process::Abort;
@@ -19,13 +20,13 @@ use xh_core::{Config, Ledger, Refused};
 use xh_kernel::{Account, Kernel, Names, Parts};
 use xh_place::OpenGate;
 
-/// What is tried on a kernel: no call; ten messages from one thread to another; rounds of a process that waits, at two
+/// What is tried on a kernel: no call; messages from one thread to another; rounds of a process that waits, at two
 /// ends or at one, which answers so once its wait is ended; a wire to a process that ends; takes at several endpoints, by
 /// what they answer, by their deadlines and by turns; a server of eight clients.
 #[derive(Clone, Copy)]
 enum Case {
     Nothing,
-    TenMessages,
+    Passes(Passing),
     Waits(bool, Ender, u64),
     WireToOneThatEnds,
     Order,
@@ -46,9 +47,13 @@ fn waiting_of(bytes: u32, depth: u8) -> Config {
 }
 
 /// The processes 0 and 1 start.
-fn assert_two_start<N: Names, R: Wait + Abort>(rt: &R, kernel: &Kernel<N>) {
-    let one = kernel.spawn(rt, &OpenGate);
-    let other = kernel.spawn(rt, &OpenGate);
+fn assert_two_start<N: Names, R: Wait + Abort>(
+    rt: &R,
+    kernel: &Kernel<N>,
+    account: &mut Account<N>,
+) {
+    let one = kernel.spawn(rt, account, &OpenGate);
+    let other = kernel.spawn(rt, account, &OpenGate);
     assert!(rt; matches!((one, other), (Ok(0), Ok(1))));
 }
 
@@ -65,9 +70,9 @@ fn lend<N: Names + Send + Sync, R: Threads + Wait + Clock + Abort + Sync>(
     };
     match case {
         Case::Nothing => {}
-        Case::TenMessages => passing::assert_ten(rt, alloc, kernel, mine),
+        Case::Passes(what) => passing::assert_passes(rt, alloc, kernel, mine, others, what),
         Case::Waits(both, ender, want) => {
-            waiting::assert_rounds(rt, alloc, kernel, mine, (both, ender), want);
+            waiting::assert_rounds(rt, alloc, kernel, mine, others, (both, ender, want));
         }
         Case::WireToOneThatEnds => wiring::assert_refused(rt, kernel, mine, others),
         Case::Order => several::assert_order(rt, alloc, kernel, mine),

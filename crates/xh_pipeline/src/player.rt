@@ -45,7 +45,7 @@ impl<'a, N: Names, R: Wait> Process for Player<'a, N, R> {
     }
 
     fn spawn(&mut self) -> Result<u16, Refused> {
-        self.kernel.spawn(self.rt, &OpenGate)
+        self.kernel.spawn(self.rt, self.account, &OpenGate)
     }
 
     fn wire(&mut self, other: u16) -> Result<(u16, u16), Refused> {
@@ -65,20 +65,20 @@ impl<'a, N: Names, R: Wait> Process for Player<'a, N, R> {
     fn take(&mut self, endpoint: u16) -> Result<Message, Refused> {
         let taken = self
             .kernel
-            .take_wait(self.rt, self.process, endpoint, &OpenGate)?;
+            .take_wait(self.rt, self.process, endpoint, self.account, &OpenGate)?;
         Ok(message_of(&taken))
     }
 
     fn take_any(&mut self, endpoints: &[u16]) -> Result<(usize, Message), Refused> {
         let Answered { at, answer } = self
             .kernel
-            .take_any_wait(self.rt, self.process, endpoints, &OpenGate)?;
+            .take_any_wait(self.rt, self.process, endpoints, self.account, &OpenGate)?;
         Ok((at, message_of(&answer?)))
     }
 
     fn give(&mut self, endpoint: u16, tag: u16, blocks: &[u16]) -> Result<(), Refused> {
-        self.kernel
-            .give(self.rt, self.process, endpoint, tag, blocks, &OpenGate)?;
+        let (rt, process) = (self.rt, self.process);
+        self.kernel.give(rt, process, endpoint, tag, blocks, self.account, &OpenGate)?;
         Ok(())
     }
 
@@ -93,14 +93,16 @@ impl<'a, N: Names, R: Wait> Process for Player<'a, N, R> {
 
     fn first(&mut self, block: u16) -> Result<u8, Refused> {
         let mut first = [0];
+        let (rt, process) = (self.rt, self.process);
         self.kernel
-            .read(self.rt, self.process, block, 0, &mut first, &OpenGate)?;
+            .read(rt, process, block, 0, &mut first, self.account, &OpenGate)?;
         Ok(first[0])
     }
 
     fn set_first(&mut self, block: u16, first: u8) -> Result<(), Refused> {
+        let (rt, process) = (self.rt, self.process);
         self.kernel
-            .write(self.rt, self.process, block, 0, &[first], &OpenGate)
+            .write(rt, process, block, 0, &[first], self.account, &OpenGate)
     }
 
     fn free(&mut self, block: u16) -> Result<(), Refused> {

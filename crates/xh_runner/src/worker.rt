@@ -64,7 +64,7 @@ impl<'a, N: Names, R: Wait, G: Gate> Machine for Worker<'a, N, R, G> {
     ghost state = { λ _. no_machine };
 
     fn spawn(&mut self) -> Result<u16, Refused> {
-        self.kernel.spawn(self.rt, self.gate)
+        self.kernel.spawn(self.rt, self.account, self.gate)
     }
 
     fn open(
@@ -136,18 +136,16 @@ impl<'a, N: Names, R: Wait, G: Gate> Machine for Worker<'a, N, R, G> {
         block: u16,
         at: u32,
     ) -> Result<(Block, Block), Refused> {
-        self.kernel
-            .split(self.rt, alloc, process, block, at, self.gate)
+        self.kernel.split(self.rt, alloc, process, block, at, self.account, self.gate)
     }
 
     fn read(&mut self, process: u16, block: u16, at: u32, room: &mut [u8]) -> Result<(), Refused> {
         self.kernel
-            .read(self.rt, process, block, at, room, self.gate)
+            .read(self.rt, process, block, at, room, self.account, self.gate)
     }
 
     fn write(&mut self, process: u16, block: u16, at: u32, bytes: &[u8]) -> Result<(), Refused> {
-        self.kernel
-            .write(self.rt, process, block, at, bytes, self.gate)
+        self.kernel.write(self.rt, process, block, at, bytes, self.account, self.gate)
     }
 
     fn give(
@@ -157,15 +155,24 @@ impl<'a, N: Names, R: Wait, G: Gate> Machine for Worker<'a, N, R, G> {
         tag: u16,
         blocks: &[u16],
     ) -> Result<u64, Refused> {
-        self.kernel
-            .give(self.rt, process, endpoint, tag, blocks, self.gate)
+        self.kernel.give(
+            self.rt,
+            process,
+            endpoint,
+            tag,
+            blocks,
+            self.account,
+            self.gate,
+        )
     }
 
     fn take(&mut self, process: u16, endpoint: u16, waits: bool) -> Result<Received, Refused> {
         let taken = if waits {
-            self.kernel.take_wait(self.rt, process, endpoint, self.gate)
+            self.kernel
+                .take_wait(self.rt, process, endpoint, self.account, self.gate)
         } else {
-            self.kernel.take(self.rt, process, endpoint, self.gate)
+            self.kernel
+                .take(self.rt, process, endpoint, self.account, self.gate)
         };
         match taken {
             Ok(message) => Ok(received(message)),

@@ -182,6 +182,7 @@ fn close<N: Names>(
                 pens: _,
                 records,
                 glances: _,
+                histories: _,
             },
         ) => {
             let counted = count(&vaults, &places, &accounts);

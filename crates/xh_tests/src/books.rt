@@ -18,7 +18,7 @@ fn use_some<N: Names, R: Wait>(
     kernel: &Kernel<N>,
     account: &mut Account<N>,
 ) -> Result<(), Refused> {
-    let p = kernel.spawn(rt, &OpenGate)?;
+    let p = kernel.spawn(rt, account, &OpenGate)?;
     kernel.alloc(rt, alloc, p, 48, 0, account, &OpenGate)?;
     let other = kernel.alloc(rt, alloc, p, 16, 0, account, &OpenGate)?;
     kernel.free(rt, p, other.rec, account, &OpenGate)?;
@@ -47,6 +47,7 @@ fn close_named<N: Names, R: Wait>(
         pens: _,
         records,
         glances: _,
+        histories: _,
     } = kernel.settle(alloc)?;
     let books = close_books(alloc, vaults, places, records, accounts)?;
     used?;

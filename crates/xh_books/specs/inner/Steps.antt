@@ -5,7 +5,7 @@ use Rattle.atomic_table.specs.Seated.{TableId}
 use Rattle.xh_arena.specs.Views.{LotOf, TallyOf, VaultOf}
 use Rattle.xh_core.specs.declared.ledger.ArenaLine.{ArenaLine}
 use Rattle.xh_kernel.specs.Accounts.{AccountOf}
-use Rattle.xh_kernel.specs.Parts.{vault_names}
+use Rattle.xh_calls.specs.Parts.{vault_names}
 use Rattle.xh_model.specs.declared.event.Holder.TheVariants.{Direction}
 use Rattle.xh_model.specs.declared.limits.TheConstants.{DIRECTIONS}
 use Rattle.xh_model.specs.Arena.{ArenaState, lengths_of}

@@ -1,17 +1,16 @@
 //! The calls of a process on its data blocks.
-ghost use Rattle.std.specs.Prelude.{◌≡◌, ◌/◌, MatchResult};
-ghost use Rattle.xh_place.specs.Places.{PlaceOf};
-ghost use Rattle.xh_kernel.specs.Accounts.{has_taken, has_given};
-ghost use Rattle.xh_kernel.specs.Calls.{Allocates, Splits, Reads, Writes, Frees};
-ghost use Rattle.xh_kernel.specs.Places.{Finds, IsFound};
+ghost use Rattle.std.specs.Prelude.{◌≡◌, ◌/◌, MatchResult, OnErr};
+ghost use Rattle.xh_kernel.specs.declared.call.Call.TheVariants as call;
+ghost use Rattle.xh_kernel.specs.Accounts.{HasGiven, HasTaken, IsUnmoved};
+ghost use Rattle.xh_kernel.specs.Histories.{Calls, CallsOnly};
 ghost use Rattle.xh_model.specs.declared.limits.TheConstants.{MAX_RECORDS};
 
 use crate::account::Account;
 use crate::held::Held;
 use crate::kernel::Kernel;
-use crate::names::Names;
 use std::alloc::Global;
 use std::sync::Wait;
+use xh_calls::Names;
 use xh_core::{Block, Refused};
 use xh_place::Gate;
 
@@ -30,16 +29,17 @@ impl<N: Names> Kernel<N> {
         account: &mut Account<N>,
         gate: &G,
     ) -> Result<Block, Refused>
-        ensures account { MatchResult result (λ b. account.new ≡ has_taken arena b.len account.old) (λ _. account.new ≡ account.old) }
-        ensures place { Finds N.parts (λ old new. Allocates N.parts p n arena old new result) }
+        ensures account { MatchResult result (λ b. HasTaken arena b.len account.old account.new) (λ _. IsUnmoved account.old account.new) }
+        ensures call { Calls N.parts p (call.Alloc p n arena result) account.old account.new }
     {
-        let mut guard = self.lock_of(p).lock(rt);
+        let mut guard = self.held(rt, p);
         let held: &mut Held<N> = &mut guard;
-        held.start(p)?;
         let tallies = account.tallies.as_mut_slice();
-        let mut desk = desk!(rt, self.shared, gate, tallies);
-        let answer = held.place.alloc(alloc, &mut desk, n, arena);
-        held.teller.tell(&self.shared.glances, &held.place);
+        let heap = &self.shared.heap;
+        let answer = heap.alloc(rt, alloc, &mut held.place, p, n, arena, tallies, gate);
+        let about = (p, n, arena, &answer);
+        held.scribe
+            .note(&self.shared, &held.place, &mut account.front, &about);
         answer
     }
 
@@ -55,16 +55,18 @@ impl<N: Names> Kernel<N> {
         p: u16,
         r: u16,
         k: u32,
+        account: &mut Account<N>,
         gate: &G,
     ) -> Result<(Block, Block), Refused>
-        ensures { Finds N.parts (λ old new. Splits p r k old new result) }
+        ensures { CallsOnly N.parts p (call.Split p r k result) account.old account.new }
     {
-        let mut guard = self.lock_of(p).lock(rt);
+        let mut guard = self.held(rt, p);
         let held: &mut Held<N> = &mut guard;
-        held.start(p)?;
-        let mut desk = desk!(rt, self.shared, gate, &mut []);
-        let answer = held.place.split(alloc, &mut desk, r, k);
-        held.teller.tell(&self.shared.glances, &held.place);
+        let heap = &self.shared.heap;
+        let answer = heap.split(rt, alloc, &mut held.place, p, r, k, gate);
+        let about = (p, r, k, &answer);
+        held.scribe
+            .note(&self.shared, &held.place, &mut account.front, &about);
         answer
     }
 
@@ -79,14 +81,19 @@ impl<N: Names> Kernel<N> {
         r: u16,
         at: u32,
         out: &mut [u8],
+        account: &mut Account<N>,
         _gate: &G,
     ) -> Result<(), Refused>
-        ensures { (place : PlaceOf) × IsFound N.parts place × Reads p r at place out.old out.new result }
+        ensures call { CallsOnly N.parts p (call.Read p r at out.new result) account.old account.new }
+        ensures refused { OnErr result (out.new ≡ out.old) }
     {
-        let mut guard = self.lock_of(p).lock(rt);
+        let mut guard = self.held(rt, p);
         let held: &mut Held<N> = &mut guard;
-        held.start(p)?;
-        held.place.read(&self.shared.records, r, at, out)
+        let answer = self.shared.heap.read(&mut held.place, p, r, at, out);
+        let about = (p, r, at, &*out, &answer);
+        held.scribe
+            .note(&self.shared, &held.place, &mut account.front, &about);
+        answer
     }
 
     /// These bytes stand in a data block in the place of as many from `at` on.
@@ -99,15 +106,17 @@ impl<N: Names> Kernel<N> {
         r: u16,
         at: u32,
         bytes: &[u8],
+        account: &mut Account<N>,
         _gate: &G,
     ) -> Result<(), Refused>
-        ensures { Finds N.parts (λ old new. Writes p r at bytes.now old.place new.place result) }
+        ensures { CallsOnly N.parts p (call.Write p r at bytes.now result) account.old account.new }
     {
-        let mut guard = self.lock_of(p).lock(rt);
+        let mut guard = self.held(rt, p);
         let held: &mut Held<N> = &mut guard;
-        held.start(p)?;
-        let answer = held.place.write(&self.shared.records, r, at, bytes);
-        held.teller.tell(&self.shared.glances, &held.place);
+        let answer = self.shared.heap.write(&mut held.place, p, r, at, bytes);
+        let about = (p, r, at, bytes, &answer);
+        held.scribe
+            .note(&self.shared, &held.place, &mut account.front, &about);
         answer
     }
 
@@ -122,16 +131,17 @@ impl<N: Names> Kernel<N> {
         account: &mut Account<N>,
         gate: &G,
     ) -> Result<u32, Refused>
-        ensures account { MatchResult result (λ n. account.new ≡ has_given (r / MAX_RECORDS) n account.old) (λ _. account.new ≡ account.old) }
-        ensures place { Finds N.parts (λ old new. Frees p r old.place new.place result) }
+        ensures account { MatchResult result (λ n. HasGiven (r / MAX_RECORDS) n account.old account.new) (λ _. IsUnmoved account.old account.new) }
+        ensures call { Calls N.parts p (call.Free p r result) account.old account.new }
     {
-        let mut guard = self.lock_of(p).lock(rt);
+        let mut guard = self.held(rt, p);
         let held: &mut Held<N> = &mut guard;
-        held.start(p)?;
         let tallies = account.tallies.as_mut_slice();
-        let mut desk = desk!(rt, self.shared, gate, tallies);
-        let answer = held.place.free(&mut desk, r);
-        held.teller.tell(&self.shared.glances, &held.place);
+        let heap = &self.shared.heap;
+        let answer = heap.free(rt, &mut held.place, p, r, tallies, gate);
+        let about = (p, r, &answer);
+        held.scribe
+            .note(&self.shared, &held.place, &mut account.front, &about);
         answer
     }
 }

@@ -1,29 +1,21 @@
 //! Channels are opened, for one process or between two.
-ghost use Rattle.std.specs.Prelude.{◌≡◌, ℕ, ◌+◌, ◌*◌, ◌<◌, MatchResult, Err, IfOk, None, Some};
-ghost use Rattle.xh_model.specs.declared.limits.TheConstants.{CHANNELS, END_BYTES};
+ghost use Rattle.std.specs.Prelude.{◌≡◌, ◌<◌, IfOk, MatchResult, None, Option, Some, List, ℕ};
+ghost use Rattle.xh_kernel.specs.declared.call.Call.TheVariants as call;
+ghost use Rattle.xh_kernel.specs.Endings.{GivesBack};
+ghost use Rattle.xh_kernel.specs.Histories.{Calls};
+ghost use Rattle.xh_kernel.specs.Wires.{HandsOver, Opens, TakesEnds, Wires};
+ghost use Rattle.xh_model.specs.declared.limits.TheConstants.{CHANNELS};
+ghost use Rattle.xh_model.specs.declared.row.Row.{Row};
+ghost use Rattle.xh_place.specs.Ending.{back_of};
 ghost use Rattle.xh_records.specs.Seats.{IsRecord};
-ghost use Rattle.xh_kernel.specs.Accounts.{has_taken};
-ghost use Rattle.xh_kernel.specs.Channels.{Opens};
-ghost use Rattle.xh_kernel.specs.Places.{Finds};
-ghost use Rattle.xh_kernel.specs.Reclaims.{HasBack};
-ghost use Rattle.xh_kernel.specs.Wires.{IsOpened, IsTakenBack, Receives, TurnsAway, Wires};
 
 use crate::account::Account;
 use crate::held::Held;
 use crate::kernel::Kernel;
-use crate::names::Names;
 use std::sync::Wait;
+use xh_calls::{Names, Wired};
 use xh_core::{Block, Contract, Refused};
 use xh_place::Gate;
-
-/// A channel whose side 1 is on its way: both ends' blocks, and the channel's number.
-#[derive(Drop)]
-struct Wired {
-    low: Block,
-    high: Block,
-    channel: u8,
-    ghost there: { channel < CHANNELS },
-}
 
 impl<N: Names> Kernel<N> {
     /// Both ends of a new channel come to the process: side 0 and side 1, each of 32 bytes, the halves of
@@ -38,11 +30,9 @@ impl<N: Names> Kernel<N> {
         account: &mut Account<N>,
         gate: &G,
     ) -> Result<(Block, Block), Refused>
-        ensures account { MatchResult result (λ _. account.new ≡ has_taken arena (2 * END_BYTES) account.old) (λ _. account.new ≡ account.old) }
-        ensures place { Finds N.parts (λ old new. Opens N.parts p arena None old new result) }
+        ensures { Opens N.parts p arena None account.old account.new result }
     {
-        let mut held = self.lock_of(p).lock(rt);
-        held.open(rt, &self.shared, p, arena, None, account, gate)
+        self.open_by(rt, p, arena, None, account, gate)
     }
 
     /// As `open`; the channel goes by the contract.
@@ -55,11 +45,9 @@ impl<N: Names> Kernel<N> {
         account: &mut Account<N>,
         gate: &G,
     ) -> Result<(Block, Block), Refused>
-        ensures account { MatchResult result (λ _. account.new ≡ has_taken arena (2 * END_BYTES) account.old) (λ _. account.new ≡ account.old) }
-        ensures place { Finds N.parts (λ old new. Opens N.parts p arena (Some contract) old new result) }
+        ensures { Opens N.parts p arena (Some contract) account.old account.new result }
     {
-        let mut held = self.lock_of(p).lock(rt);
-        held.open(rt, &self.shared, p, arena, Some(contract), account, gate)
+        self.open_by(rt, p, arena, Some(contract), account, gate)
     }
 
     /// As `open` by `p`; then side 1 goes to `q`, unless `q` is `p`.
@@ -96,6 +84,31 @@ impl<N: Names> Kernel<N> {
         self.connect(rt, p, q, arena, Some(contract), account, gate)
     }
 
+    // Opens a channel that goes by the contract, or by none.
+    fn open_by<R: Wait, G: Gate>(
+        &self,
+        rt: &R,
+        p: u16,
+        arena: u32,
+        contract: Option<Contract>,
+        account: &mut Account<N>,
+        gate: &G,
+    ) -> Result<(Block, Block), Refused>
+        ghost by: { Option (List Row) }
+        requires { contract ≡ by }
+        ensures { Opens N.parts p arena by account.old account.new result }
+    {
+        let mut guard = self.held(rt, p);
+        let held: &mut Held<N> = &mut guard;
+        let tallies = account.tallies.as_mut_slice();
+        let heap = &self.shared.heap;
+        let answer = heap.open(rt, &mut held.place, p, arena, contract, tallies, gate);
+        let about = (p, arena, &answer);
+        held.scribe
+            .note(&self.shared, &held.place, &mut account.front, &about);
+        answer
+    }
+
     // Each place is locked for its part alone.
     fn connect<R: Wait, G: Gate>(
         &self,
@@ -109,11 +122,10 @@ impl<N: Names> Kernel<N> {
     ) -> Result<(Block, Block), Refused>
         ensures { Wires N.parts p q arena contract account.old account.new result }
     {
-        self.look_at(rt, p)?;
-        self.look_at(rt, q)?;
+        self.look_at(rt, p, account)?;
+        self.look_at(rt, q, account)?;
         if p == q {
-            let mut held = self.lock_of(p).lock(rt);
-            return held.open(rt, &self.shared, p, arena, contract, account, gate);
+            return self.open_by(rt, p, arena, contract, account, gate);
         }
         let wired = self.open_toward(rt, p, arena, contract, account, gate)?;
         self.hand_over(rt, p, q, wired, account, gate)
@@ -129,21 +141,21 @@ impl<N: Names> Kernel<N> {
         account: &mut Account<N>,
         gate: &G,
     ) -> Result<Wired, Refused>
-        ensures place { MatchResult result (λ w. IsOpened N.parts p arena contract (w.low, w.high) w.channel) (λ e. Finds N.parts (λ old new. Opens N.parts p arena contract old new (Err e))) }
+        ghost by: { Option (List Row) }
+        requires { contract ≡ by }
+        ensures call { Calls N.parts p (call.OpenToward p arena by result) account.old account.new }
+        ensures account { TakesEnds arena account.old account.new result }
         ensures exists { IfOk result (λ w. IsRecord N.parts.records.shape w.high.rec) }
-        ensures account { MatchResult result (λ _. account.new ≡ has_taken arena (2 * END_BYTES) account.old) (λ _. account.new ≡ account.old) }
     {
-        let mut guard = self.lock_of(p).lock(rt);
+        let mut guard = self.held(rt, p);
         let held: &mut Held<N> = &mut guard;
-        let (low, high) = held.open(rt, &self.shared, p, arena, contract, account, gate)?;
-        let records = &self.shared.records;
-        let Some(spot) = held.place.spot(records, low.rec) else {
-            unreachable!()
-        };
-        let channel = spot.channel;
-        held.place.pass_end(records, high.rec, 2 * channel + 1);
-        held.teller.tell(&self.shared.glances, &held.place);
-        Ok(Wired { low, high, channel })
+        let tallies = account.tallies.as_mut_slice();
+        let heap = &self.shared.heap;
+        let answer = heap.open_toward(rt, &mut held.place, p, arena, contract, tallies, gate);
+        let about = (p, arena, &answer);
+        held.scribe
+            .note(&self.shared, &held.place, &mut account.front, &about);
+        answer
     }
 
     // Side 1 goes to `q`. Where that has ended, side 0 is closed.
@@ -157,15 +169,13 @@ impl<N: Names> Kernel<N> {
         gate: &G,
     ) -> Result<(Block, Block), Refused>
         requires { IsRecord N.parts.records.shape wired.high.rec }
-        ensures { MatchResult result (λ ends. (ends ≡ (wired.low, wired.high)) × (account.new ≡ account.old) × Finds N.parts (Receives q (2 * wired.channel + 1) wired.high.rec))
-            (λ e. (e ≡ Refused.Ended) × IsTakenBack N.parts p q wired.channel (wired.low, wired.high) account.old account.new) }
+        ensures { HandsOver N.parts p q wired account.old account.new result }
     {
         let Wired { low, high, channel } = wired;
         let Err(_ended) = self.receive(rt, q, high.rec, channel, account, gate) else {
             return Ok((low, high));
         };
-        let mut held = self.lock_of(p).lock(rt);
-        held.close_again(rt, &self.shared, p, low.rec, channel, account, gate);
+        self.close_again(rt, p, low.rec, channel, account, gate);
         Err(Refused::Ended)
     }
 
@@ -179,16 +189,43 @@ impl<N: Names> Kernel<N> {
         account: &mut Account<N>,
         gate: &G,
     ) -> Result<Block, Refused>
-        requires { IsRecord N.parts.records.shape r × (channel < CHANNELS) }
-        ensures { MatchResult result (λ _. (account.new ≡ account.old) × Finds N.parts (Receives q (2 * channel + 1) r))
-            (λ _. (bytes : ℕ) × Finds N.parts (λ old new. TurnsAway q (2 * channel + 1) r old new bytes) × HasBack bytes account.old account.new) }
+        ghost before: { ℕ }
+        requires there { IsRecord N.parts.records.shape r × (channel < CHANNELS) }
+        requires before { before ≡ back_of account.old.tallies }
+        ensures { GivesBack N.parts q (λ bytes. call.Receive q r channel bytes result) account.old account.new }
     {
-        let mut guard = self.lock_of(q).lock(rt);
+        let mut guard = self.held(rt, q);
         let held: &mut Held<N> = &mut guard;
         let tallies = account.tallies.as_mut_slice();
-        let mut desk = desk!(rt, self.shared, gate, tallies);
-        let answer = held.place.accept_end(&mut desk, q, r, 2 * channel + 1);
-        held.teller.tell(&self.shared.glances, &held.place);
+        let heap = &self.shared.heap;
+        let answer = heap.receive(rt, &mut held.place, q, r, channel, tallies, gate);
+        let about = (q, r, channel, &account.tallies, &answer);
+        held.scribe
+            .note(&self.shared, &held.place, &mut account.front, &about);
         answer
+    }
+
+    // Side 0 of the channel is closed, where `p` runs and still has it.
+    fn close_again<R: Wait, G: Gate>(
+        &self,
+        rt: &R,
+        p: u16,
+        r: u16,
+        channel: u8,
+        account: &mut Account<N>,
+        gate: &G,
+    )
+        ghost before: { ℕ }
+        requires { before ≡ back_of account.old.tallies }
+        ensures { GivesBack N.parts p (λ bytes. call.CloseAgain p r channel bytes) account.old account.new }
+    {
+        let mut guard = self.held(rt, p);
+        let held: &mut Held<N> = &mut guard;
+        let tallies = account.tallies.as_mut_slice();
+        let heap = &self.shared.heap;
+        heap.close_again(rt, &mut held.place, p, r, channel, tallies, gate);
+        let about = (p, r, channel, &account.tallies);
+        held.scribe
+            .note(&self.shared, &held.place, &mut account.front, &about);
     }
 }

@@ -1,16 +1,15 @@
 //! The ends of endpoints and of processes.
-ghost use Rattle.std.specs.Prelude.{◌≡◌};
-ghost use Rattle.xh_core.specs.Refusing.{Tested};
-ghost use Rattle.xh_place.specs.Ends.{RefusedOr};
-ghost use Rattle.xh_place.specs.Places.{PlaceOf};
-ghost use Rattle.xh_kernel.specs.Endings.{Closes, Stops};
-ghost use Rattle.xh_kernel.specs.Places.{Finds, IsFound, start};
+ghost use Rattle.std.specs.Prelude.{◌≡◌, ℕ};
+ghost use Rattle.xh_kernel.specs.declared.call.Call.TheVariants as call;
+ghost use Rattle.xh_kernel.specs.Endings.{Closes, Exits, Kills};
+ghost use Rattle.xh_kernel.specs.Histories.{CallsOnly};
+ghost use Rattle.xh_place.specs.Ending.{back_of};
 
 use crate::account::Account;
 use crate::held::Held;
 use crate::kernel::Kernel;
-use crate::names::Names;
 use std::sync::Wait;
+use xh_calls::{Names, check_start};
 use xh_core::Refused;
 use xh_place::Gate;
 
@@ -27,10 +26,35 @@ impl<N: Names> Kernel<N> {
         account: &mut Account<N>,
         gate: &G,
     ) -> Result<u64, Refused>
-        ensures { Finds N.parts (λ old new. Closes p e account.old account.new old new result) }
+        ensures { Closes N.parts p e account.old account.new result }
     {
-        let mut held = self.lock_of(p).lock(rt);
-        held.close(rt, &self.shared, p, e, account, gate)
+        self.close_with(rt, p, e, account, gate)
+    }
+
+    // The same, with what the worker had given back before.
+    fn close_with<R: Wait, G: Gate>(
+        &self,
+        rt: &R,
+        p: u16,
+        e: u16,
+        account: &mut Account<N>,
+        gate: &G,
+    ) -> Result<u64, Refused>
+        ghost before: { ℕ }
+        requires { before ≡ back_of account.old.tallies }
+        ensures { Closes N.parts p e account.old account.new result }
+    {
+        let mut guard = self.held(rt, p);
+        let held: &mut Held<N> = &mut guard;
+        let tallies = account.tallies.as_mut_slice();
+        let answer = self
+            .shared
+            .heap
+            .close(rt, &mut held.place, p, e, tallies, gate);
+        let about = (p, e, &account.tallies, &answer);
+        held.scribe
+            .note(&self.shared, &held.place, &mut account.front, &about);
+        answer
     }
 
     /// The process ends, or goes on ending: its blocks go, at most `budget` of them, and what was on its way
@@ -46,17 +70,9 @@ impl<N: Names> Kernel<N> {
         account: &mut Account<N>,
         gate: &G,
     ) -> Result<u64, Refused>
-        ensures { Finds N.parts (λ old new. Stops p budget account.old account.new old new result) }
+        ensures { Exits N.parts p budget account.old account.new result }
     {
-        let mut guard = self.lock_of(p).lock(rt);
-        let held: &mut Held<N> = &mut guard;
-        held.check_stop(p)?;
-        let tallies = account.tallies.as_mut_slice();
-        let mut desk = desk!(rt, self.shared, gate, tallies);
-        let answer = held.place.stop(&mut desk, budget);
-        held.teller.tell(&self.shared.glances, &held.place);
-        held.wake(rt, &self.shared);
-        answer
+        self.stop(rt, p, budget, account, gate)
     }
 
     /// The process `by` ends the process `victim`, as `exit` does.
@@ -71,18 +87,54 @@ impl<N: Names> Kernel<N> {
         account: &mut Account<N>,
         gate: &G,
     ) -> Result<u64, Refused>
-        ensures { (killer : PlaceOf) × IsFound N.parts killer × RefusedOr (start by killer) result (account.new ≡ account.old)
-            (Finds N.parts (λ old new. Stops victim budget account.old account.new old new result)) }
+        ensures { Kills N.parts by victim budget account.old account.new result }
     {
-        self.look_at(rt, by)?;
+        self.look_at(rt, by, account)?;
         self.exit(rt, victim, budget, account, gate)
     }
 
-    // Whether the process runs.
-    pub(super) fn look_at<R: Wait>(&self, rt: &R, p: u16) -> Result<(), Refused>
-        ensures { (place : PlaceOf) × IsFound N.parts place × Tested (start p place) result (λ _. Unit {0}) }
+    // An exit, with what the worker had given back before.
+    fn stop<R: Wait, G: Gate>(
+        &self,
+        rt: &R,
+        p: u16,
+        budget: u16,
+        account: &mut Account<N>,
+        gate: &G,
+    ) -> Result<u64, Refused>
+        ghost before: { ℕ }
+        requires { before ≡ back_of account.old.tallies }
+        ensures { Exits N.parts p budget account.old account.new result }
     {
-        let held = self.lock_of(p).lock(rt);
-        held.start(p)
+        let mut guard = self.held(rt, p);
+        let held: &mut Held<N> = &mut guard;
+        let tallies = account.tallies.as_mut_slice();
+        let answer = self
+            .shared
+            .heap
+            .stop(rt, &mut held.place, p, budget, tallies, gate);
+        let about = (p, budget, &account.tallies, &answer);
+        held.scribe
+            .note(&self.shared, &held.place, &mut account.front, &about);
+        held.wake(rt, &self.shared);
+        answer
+    }
+
+    // Whether the process runs.
+    pub(super) fn look_at<R: Wait>(
+        &self,
+        rt: &R,
+        p: u16,
+        account: &mut Account<N>,
+    ) -> Result<(), Refused>
+        ensures { CallsOnly N.parts p (call.Look p result) account.old account.new }
+    {
+        let mut guard = self.held(rt, p);
+        let held: &mut Held<N> = &mut guard;
+        let answer = check_start(&held.place, p);
+        let about = (p, &answer);
+        held.scribe
+            .note(&self.shared, &held.place, &mut account.front, &about);
+        answer
     }
 }

@@ -1,13 +1,16 @@
 //! Messages of a process.
-ghost use Rattle.std.specs.Prelude.{◌≢◌, IfErr};
+ghost use Rattle.std.specs.Prelude.{◌≢◌, Err, IfErr};
 ghost use Rattle.xh_core.specs.declared.refused.Refused.TheVariants as refused;
-ghost use Rattle.xh_kernel.specs.Messages.{Gives, Takes};
-ghost use Rattle.xh_kernel.specs.Places.{Finds};
+ghost use Rattle.xh_kernel.specs.declared.call.Call.TheVariants as call;
+ghost use Rattle.xh_kernel.specs.Histories.{CallsOnly};
+ghost use Rattle.xh_kernel.specs.Waits.{AtLast};
 
-use crate::held::{Held, Look};
+use crate::account::Account;
+use crate::held::Held;
 use crate::kernel::Kernel;
-use crate::names::Names;
+use crate::looking::Look;
 use std::sync::Wait;
+use xh_calls::Names;
 use xh_core::Refused;
 use xh_place::{Gate, Taken};
 
@@ -25,16 +28,18 @@ impl<N: Names> Kernel<N> {
         e: u16,
         tag: u16,
         blocks: &[u16],
+        account: &mut Account<N>,
         gate: &G,
     ) -> Result<u64, Refused>
-        ensures { Finds N.parts (λ old new. Gives p e tag blocks.now old new result) }
+        ensures { CallsOnly N.parts p (call.Give p e tag blocks.now result) account.old account.new }
     {
-        let mut guard = self.lock_of(p).lock(rt);
+        let mut guard = self.held(rt, p);
         let held: &mut Held<N> = &mut guard;
-        held.start(p)?;
-        let desk = desk!(rt, self.shared, gate);
-        let answer = held.place.give(&desk, e, tag, blocks);
-        held.teller.tell(&self.shared.glances, &held.place);
+        let heap = &self.shared.heap;
+        let answer = heap.give(rt, &mut held.place, p, e, tag, blocks, gate);
+        let about = (p, e, tag, blocks, &answer);
+        held.scribe
+            .note(&self.shared, &held.place, &mut account.front, &about);
         held.wake(rt, &self.shared);
         answer
     }
@@ -43,11 +48,18 @@ impl<N: Names> Kernel<N> {
     /// process's.
     ///
     /// NoProcess, Ended, NotOwned, NotEndpoint; then, where no message waits, PeerClosed or Empty.
-    pub fn take<R: Wait, G: Gate>(&self, rt: &R, p: u16, e: u16, gate: &G) -> Result<Taken, Refused>
-        ensures { Finds N.parts (λ old new. Takes p e old new result) }
+    pub fn take<R: Wait, G: Gate>(
+        &self,
+        rt: &R,
+        p: u16,
+        e: u16,
+        account: &mut Account<N>,
+        gate: &G,
+    ) -> Result<Taken, Refused>
+        ensures { CallsOnly N.parts p (call.Take p e result) account.old account.new }
     {
-        let mut held = self.lock_of(p).lock(rt);
-        held.take(rt, &self.shared, p, e, gate)
+        let mut held = self.held(rt, p);
+        held.take(rt, &self.shared, p, e, account, gate)
     }
 
     /// As `take`; where no message waits and the peer is not closed, it waits for one, without a lock, and
@@ -59,19 +71,19 @@ impl<N: Names> Kernel<N> {
         rt: &R,
         p: u16,
         e: u16,
+        account: &mut Account<N>,
         gate: &G,
     ) -> Result<Taken, Refused>
-        ensures last { Finds N.parts (λ old new. Takes p e old new result) }
+        ensures calls { AtLast N.parts p (call.Take p e (Err refused.Empty)) (call.Take p e result) account.old account.new }
         ensures waits { IfErr result (λ why. why ≢ refused.Empty) }
     {
         for _ in rt.forever() {
-            let look = self
-                .lock_of(p)
-                .lock(rt)
-                .look_for(rt, &self.shared, p, e, gate);
+            let mut held = self.held(rt, p);
+            let look = held.look_for(rt, &self.shared, p, e, account, gate);
+            drop(held);
             match look {
                 Look::Done(answer) => return answer,
-                Look::Later { spot, seen } => self.shared.channels.wait(rt, spot, seen),
+                Look::Later { spot, seen } => self.shared.heap.channels.wait(rt, spot, seen),
             }
         }
         unreachable!()

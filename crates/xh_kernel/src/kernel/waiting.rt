@@ -1,16 +1,16 @@
 //! Messages at any of several endpoints of a process, and until a time.
-ghost use Rattle.std.specs.Prelude.{◌≡◌, ◌≢◌, [], IfErr};
+ghost use Rattle.std.specs.Prelude.{◌≡◌, [], Err, IfErr};
 ghost use Rattle.xh_core.specs.declared.refused.Refused.TheVariants as refused;
-ghost use Rattle.xh_kernel.specs.Places.{Finds};
-ghost use Rattle.xh_kernel.specs.Messages.{Takes};
-ghost use Rattle.xh_kernel.specs.Several.{TakesAny};
+ghost use Rattle.xh_kernel.specs.declared.call.Call.TheVariants as call;
+ghost use Rattle.xh_kernel.specs.Histories.{CallsOnly};
+ghost use Rattle.xh_kernel.specs.Waits.{AtLast};
 
-use crate::held::{Look, bell_of};
+use crate::account::Account;
 use crate::kernel::Kernel;
-use crate::names::Names;
-use crate::search::{Answered, Search};
+use crate::looking::{Look, Search, bell_of};
 use std::sync::Wait;
 use std::time::{Clock, Instant};
+use xh_calls::{Answered, Names};
 use xh_core::Refused;
 use xh_place::{Gate, Taken};
 
@@ -33,21 +33,24 @@ impl<N: Names> Kernel<N> {
         p: u16,
         e: u16,
         deadline: Instant,
+        account: &mut Account<N>,
         gate: &G,
     ) -> Result<Taken, Refused>
-        ensures { Finds N.parts (λ old new. Takes p e old new result) }
+        ensures { AtLast N.parts p (call.Take p e (Err refused.Empty)) (call.Take p e result) account.old account.new }
     {
         for _ in rt.forever() {
             let past = is_past(rt, deadline);
-            let look = self
-                .lock_of(p)
-                .lock(rt)
-                .look_for(rt, &self.shared, p, e, gate);
+            let mut held = self.held(rt, p);
+            let look = held.look_for(rt, &self.shared, p, e, account, gate);
+            drop(held);
             match look {
                 Look::Done(answer) => return answer,
                 Look::Later { .. } if past => return Err(Refused::Empty),
                 Look::Later { spot, seen } => {
-                    self.shared.channels.wait_until(rt, spot, seen, deadline);
+                    self.shared
+                        .heap
+                        .channels
+                        .wait_until(rt, spot, seen, deadline);
                 }
             }
         }
@@ -65,12 +68,13 @@ impl<N: Names> Kernel<N> {
         rt: &R,
         p: u16,
         ends: &[u16],
+        account: &mut Account<N>,
         gate: &G,
     ) -> Result<Answered, Refused>
-        ensures { Finds N.parts (λ old new. TakesAny p ends.now old new result) }
+        ensures { CallsOnly N.parts p (call.TakeAny p ends.now result) account.old account.new }
     {
-        let mut held = self.lock_of(p).lock(rt);
-        held.take_any(rt, &self.shared, p, ends, gate)
+        let mut held = self.held(rt, p);
+        held.take_any(rt, &self.shared, p, ends, account, gate)
     }
 
     /// As `take_any`; where no message waits and no peer is closed, it waits for one, without a lock, and
@@ -83,19 +87,19 @@ impl<N: Names> Kernel<N> {
         rt: &R,
         p: u16,
         ends: &[u16],
+        account: &mut Account<N>,
         gate: &G,
     ) -> Result<Answered, Refused>
-        ensures last { Finds N.parts (λ old new. TakesAny p ends.now old new result) }
+        ensures calls { AtLast N.parts p (call.TakeAny p ends.now (Err refused.Empty)) (call.TakeAny p ends.now result) account.old account.new }
         ensures waits { IfErr result (λ why. why ≡ refused.Empty → ends.now ≡ []) }
     {
         for _ in rt.forever() {
-            let found = self
-                .lock_of(p)
-                .lock(rt)
-                .search(rt, &self.shared, p, ends, gate);
+            let mut held = self.held(rt, p);
+            let found = held.search(rt, &self.shared, p, ends, account, gate);
+            drop(held);
             match found {
                 Search::Done(answer) => return answer,
-                Search::Later { seen } => self.shared.channels.wait_at(rt, bell_of(p), seen),
+                Search::Later { seen } => self.shared.heap.channels.wait_at(rt, bell_of(p), seen),
             }
         }
         unreachable!()
@@ -111,21 +115,21 @@ impl<N: Names> Kernel<N> {
         p: u16,
         ends: &[u16],
         deadline: Instant,
+        account: &mut Account<N>,
         gate: &G,
     ) -> Result<Answered, Refused>
-        ensures { Finds N.parts (λ old new. TakesAny p ends.now old new result) }
+        ensures { AtLast N.parts p (call.TakeAny p ends.now (Err refused.Empty)) (call.TakeAny p ends.now result) account.old account.new }
     {
         for _ in rt.forever() {
             let past = is_past(rt, deadline);
-            let found = self
-                .lock_of(p)
-                .lock(rt)
-                .search(rt, &self.shared, p, ends, gate);
+            let mut held = self.held(rt, p);
+            let found = held.search(rt, &self.shared, p, ends, account, gate);
+            drop(held);
             match found {
                 Search::Done(answer) => return answer,
                 Search::Later { .. } if past => return Err(Refused::Empty),
                 Search::Later { seen } => {
-                    let channels = &self.shared.channels;
+                    let channels = &self.shared.heap.channels;
                     channels.wait_at_until(rt, bell_of(p), seen, deadline);
                 }
             }

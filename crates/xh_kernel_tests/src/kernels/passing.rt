@@ -4,80 +4,284 @@ use std::alloc::Global;
 use std::process::Abort;
 use std::sync::Wait;
 use std::thread::{self, Threads};
-use xh_core::Refused;
+use xh_core::{Config, Refused};
 use xh_kernel::{Account, Kernel, Names};
-use xh_place::{Got, OpenGate};
+use xh_place::{Got, OpenGate, Taken};
 
-// Process 0 gives the block at its end, again while the direction is full, at most a million times.
-fn give_on<N: Names, R: Wait>(rt: &R, kernel: &Kernel<N>, r: u16) -> Result<(), Refused> {
-    for _ in 0..1_000_000u32 {
-        match kernel.give(rt, 0, 0, 0, &[r], &OpenGate) {
-            Ok(_) => return Ok(()),
-            Err(Refused::Full { .. }) => thread::yield_now(),
-            Err(refused) => return Err(refused),
-        }
-    }
-    Err(Refused::Empty)
+/// What process 0 gives to process 1: so many messages, each of so many new blocks of so many bytes of an arena, of which the
+/// first fill the direction before the other begins to take. So many blocks of the arena and so many channels are there before.
+#[derive(Clone, Copy)]
+pub struct Passing {
+    messages: u16,
+    first: u16,
+    blocks: u16,
+    bytes: u32,
+    arena: u32,
+    filled: u16,
+    channels: u16,
 }
 
-// It gives ten blocks of 16 bytes, whose first bytes are 1 to 10.
-fn give_ten<N: Names, R: Wait>(
+/// Ten messages of one block.
+const TEN: Passing = Passing {
+    messages: 10,
+    first: 0,
+    blocks: 1,
+    bytes: 16,
+    arena: 0,
+    filled: 0,
+    channels: 0,
+};
+
+/// Many of eight blocks, by the last channel. Where sixteen wait the direction is full, and eight records of the arena are
+/// left, up to 2047.
+const MANY: Passing = Passing {
+    messages: 400,
+    first: 16,
+    blocks: 8,
+    arena: 7,
+    filled: 120,
+    channels: 63,
+    ..TEN
+};
+
+/// Blocks of a whole arena.
+const LARGE: Passing = Passing {
+    messages: 8,
+    bytes: 1_048_576,
+    arena: 7,
+    ..TEN
+};
+
+/// The largest heap.
+const LARGEST: Config = Config {
+    arenas: 8,
+    bytes: 1_048_576,
+    records: 256,
+    depth: 16,
+    wear: 9_223_372_036_854_775_807,
+};
+
+/// A process, its end, and its thread's account.
+#[derive(Drop)]
+struct Peer<'a, N: Names, R> {
+    rt: &'a R,
+    alloc: Global,
+    kernel: &'a Kernel<N>,
+    account: &'a mut Account<N>,
+    e: u16,
+}
+
+// The tag of the message at `k`.
+fn tag_of(k: u16) -> u16 {
+    65_535u16.saturating_sub(k)
+}
+
+impl<'a, N: Names, R: Wait> Peer<'a, N, R> {
+    // A new block, tried again while there is no room, at most a million times.
+    fn alloc_on(&mut self, what: Passing) -> Result<u16, Refused> {
+        for _ in 0..1_000_000u32 {
+            let (rt, alloc, bytes, arena) = (self.rt, self.alloc, what.bytes, what.arena);
+            match self
+                .kernel
+                .alloc(rt, alloc, 0, bytes, arena, self.account, &OpenGate)
+            {
+                Ok(block) => return Ok(block.rec),
+                Err(Refused::NoRecord | Refused::NoSpace) => thread::yield_now(),
+                Err(refused) => return Err(refused),
+            }
+        }
+        Err(Refused::Empty)
+    }
+
+    // Gives the blocks, again while the direction is full, at most a million times. All come back each time.
+    fn give_on(&mut self, tag: u16, blocks: &[u16]) -> Result<u64, Refused> {
+        for _ in 0..1_000_000u32 {
+            let (rt, e) = (self.rt, self.e);
+            match self
+                .kernel
+                .give(rt, 0, e, tag, blocks, self.account, &OpenGate)
+            {
+                Err(Refused::Full { back }) if back.as_slice() == blocks => thread::yield_now(),
+                answer => return answer,
+            }
+        }
+        Err(Refused::Empty)
+    }
+
+    // New blocks, whose first bytes are the low half of the tag.
+    fn make(&mut self, what: Passing, tag: u16) -> Result<Vec<u16>, Refused> {
+        let mut blocks = Vec::new(self.alloc);
+        for _ in 0..what.blocks {
+            let r = self.alloc_on(what)?;
+            let first = [(tag % 256) as u8];
+            self.kernel
+                .write(self.rt, 0, r, 0, &first, self.account, &OpenGate)?;
+            blocks.push(r)?;
+        }
+        Ok(blocks)
+    }
+
+    // Gives so many messages, from this one on.
+    fn give_some(&mut self, what: Passing, from: u16, count: u16) -> Result<(), Refused> {
+        for k in from..from.saturating_add(count) {
+            let blocks = self.make(what, tag_of(k))?;
+            self.give_on(tag_of(k), &blocks)?;
+        }
+        Ok(())
+    }
+
+    // Whether one more message finds no room, and all its blocks come back. They are freed.
+    fn is_full(&mut self, what: Passing) -> Result<bool, Refused> {
+        let blocks = self.make(what, 0)?;
+        let (rt, e) = (self.rt, self.e);
+        let answer = self
+            .kernel
+            .give(rt, 0, e, 0, &blocks, self.account, &OpenGate);
+        for r in &blocks {
+            self.kernel.free(rt, 0, *r, self.account, &OpenGate)?;
+        }
+        Ok(matches!(answer, Err(Refused::Full { back }) if back.as_slice() == blocks.as_slice()))
+    }
+
+    // Whether the blocks of a message are so many, with the first byte that they should have, and can be freed.
+    fn are_whole(&mut self, what: Passing, taken: &Taken) -> Result<bool, Refused> {
+        let mut first = [0];
+        for got in taken.blocks.as_slice() {
+            let Got::Here(block) = got else {
+                return Ok(false);
+            };
+            self.kernel.read(
+                self.rt,
+                1,
+                block.rec,
+                0,
+                &mut first,
+                self.account,
+                &OpenGate,
+            )?;
+            let freed = self
+                .kernel
+                .free(self.rt, 1, block.rec, self.account, &OpenGate)?;
+            if u16::from(first[0]) != taken.tag % 256 || freed != what.bytes {
+                return Ok(false);
+            }
+        }
+        Ok(taken.blocks.len() == usize::from(what.blocks))
+    }
+
+    // Whether the next message has this number, its tag and its blocks.
+    fn take_next(&mut self, what: Passing, k: u16) -> Result<bool, Refused> {
+        let taken = self
+            .kernel
+            .take_wait(self.rt, 1, self.e, self.account, &OpenGate)?;
+        let is_next = taken.no == u64::from(k) + 1 && taken.tag == tag_of(k);
+        Ok(self.are_whole(what, &taken)? && is_next)
+    }
+
+    // How many messages come as they should, up to the first that is refused.
+    fn take_all(&mut self, what: Passing) -> u16 {
+        let mut came = 0u16;
+        for k in 0..what.messages {
+            match self.take_next(what, k) {
+                Ok(true) => came = came.saturating_add(1),
+                Ok(false) => {}
+                Err(_) => break,
+            }
+        }
+        came
+    }
+}
+
+// The ends of a channel between the two, once so many blocks and channels are there.
+fn prepare<N: Names, R: Wait>(
     rt: &R,
     alloc: Global,
     kernel: &Kernel<N>,
     account: &mut Account<N>,
-) -> Result<(), Refused> {
-    for first in 1..11u8 {
-        let block = kernel.alloc(rt, alloc, 0, 16, 0, account, &OpenGate)?;
-        kernel.write(rt, 0, block.rec, 0, &[first], &OpenGate)?;
-        give_on(rt, kernel, block.rec)?;
+    what: Passing,
+) -> Result<(u16, u16), Refused> {
+    for _ in 0..what.channels {
+        kernel.open(rt, 0, 0, account, &OpenGate)?;
     }
-    Ok(())
+    for _ in 0..what.filled {
+        kernel.alloc(rt, alloc, 0, 16, what.arena, account, &OpenGate)?;
+    }
+    let (low, high) = kernel.wire(rt, 0, 1, 0, account, &OpenGate)?;
+    Ok((low.rec, high.rec))
 }
 
-// The number of the next message at the end of process 1, and the first byte of its block.
-fn take_next<N: Names, R: Wait>(rt: &R, kernel: &Kernel<N>) -> Result<(u64, u8), Refused> {
-    let taken = kernel.take_wait(rt, 1, 1, &OpenGate)?;
-    let Some(Got::Here(block)) = taken.blocks.first() else {
-        return Ok((taken.no, 0));
-    };
-    let mut first = [0];
-    kernel.read(rt, 1, block.rec, 0, &mut first, &OpenGate)?;
-    Ok((taken.no, first[0]))
-}
-
-// How many of ten messages come with the number and the byte that they should have, up to the first that is refused.
-fn take_ten<N: Names, R: Wait>(rt: &R, kernel: &Kernel<N>) -> u64 {
-    let mut came = 0u64;
-    for k in 1..11u8 {
-        match take_next(rt, kernel) {
-            Ok(next) if next == (u64::from(k), k) => came = came.wrapping_add(1),
-            Ok(_) => {}
-            Err(_) => break,
-        }
-    }
-    came
+// The first are given; then the others are, while all are taken; then as many as the first are given, and reclaimed with the
+// process that they are on their way to.
+fn assert_given<N: Names + Send + Sync, R: Threads + Wait + Abort + Sync>(
+    rt: &R,
+    giver: &mut Peer<N, R>,
+    taker: &mut Peer<N, R>,
+    what: Passing,
+) {
+    let (first, all) = (what.first, what.messages);
+    assert!(rt; giver.give_some(what, 0, first).is_ok());
+    assert!(rt; first == 0 || matches!(giver.is_full(what), Ok(true)));
+    let passed = thread::join(
+        rt,
+        || giver
+            .give_some(what, first, all.saturating_sub(first))
+            .is_ok(),
+        || taker.take_all(what),
+    );
+    assert_eq!(rt; passed, (true, all));
+    assert!(rt; giver.give_some(what, all, first).is_ok());
+    let blocks = u64::from(first).saturating_mul(u64::from(what.blocks));
+    let bytes = blocks.saturating_mul(u64::from(what.bytes));
+    let swept = taker.kernel.exit(rt, 1, 4096, taker.account, &OpenGate);
+    assert!(rt; matches!(swept, Ok(back) if back == bytes.saturating_add(32)));
 }
 
 /// All are given, and all come as they should.
-pub fn assert_ten<N: Names + Send + Sync, R: Threads + Wait + Abort + Sync>(
-    rt: &R,
+pub fn assert_passes<'x, N: Names + Send + Sync, R: Threads + Wait + Abort + Sync>(
+    rt: &'x R,
     alloc: Global,
-    kernel: &Kernel<N>,
-    account: &mut Account<N>,
+    kernel: &'x Kernel<N>,
+    mine: &'x mut Account<N>,
+    others: &'x mut [Account<N>],
+    what: Passing,
 ) {
-    assert_two_start(rt, kernel);
-    let wired = kernel.wire(rt, 0, 1, 0, account, &OpenGate);
-    assert!(rt; matches!(wired, Ok((low, high)) if (low.rec, high.rec) == (0, 1)));
-    let passed = thread::join(
+    let Some(other) = others.first_mut() else {
+        panic!(rt; "no other worker");
+    };
+    assert_two_start(rt, kernel, mine);
+    let Ok((e, f)) = prepare(rt, alloc, kernel, mine, what) else {
+        panic!(rt; "no channel");
+    };
+    let low = what.channels.saturating_mul(2);
+    assert_eq!(rt; (e, f), (low, low.saturating_add(1)));
+    let mut giver = Peer {
         rt,
-        || give_ten(rt, alloc, kernel, account).is_ok(),
-        || take_ten(rt, kernel),
-    );
-    assert_eq!(rt; passed, (true, 10));
+        alloc,
+        kernel,
+        account: mine,
+        e,
+    };
+    let mut taker = Peer {
+        rt,
+        alloc,
+        kernel,
+        account: other,
+        e: f,
+    };
+    assert_given(rt, &mut giver, &mut taker, what);
 }
 
 #[test]
 fn ten_messages_between_threads(rt: HostRuntime) {
-    assert_case(&rt, rt.alloc(), waiting_of(1024, 4), Case::TenMessages);
+    assert_case(&rt, rt.alloc(), waiting_of(1024, 4), Case::Passes(TEN));
+}
+
+#[test]
+fn many_messages_between_threads(rt: HostRuntime) {
+    assert_case(&rt, rt.alloc(), LARGEST, Case::Passes(MANY));
+}
+
+#[test]
+fn large_blocks_between_threads(rt: HostRuntime) {
+    assert_case(&rt, rt.alloc(), LARGEST, Case::Passes(LARGE));
 }

@@ -39,7 +39,7 @@ fn enter<N: Names, R: Wait>(
     account: &mut Account<N>,
     server: u16,
 ) -> Result<Client, Refused> {
-    let p = kernel.spawn(rt, &OpenGate)?;
+    let p = kernel.spawn(rt, account, &OpenGate)?;
     let (mine, other) = kernel.wire(rt, p, server, 0, account, &OpenGate)?;
     Ok(Client {
         p,
@@ -54,7 +54,7 @@ fn make_board<N: Names, R: Wait>(
     kernel: &Kernel<N>,
     account: &mut Account<N>,
 ) -> Result<Board, Refused> {
-    let server = kernel.spawn(rt, &OpenGate)?;
+    let server = kernel.spawn(rt, account, &OpenGate)?;
     let mut first = Vec::with_capacity(alloc, CLIENTS)?;
     let mut new = Vec::with_capacity(alloc, CLIENTS)?;
     for _ in 0..CLIENTS {
@@ -70,17 +70,22 @@ fn make_board<N: Names, R: Wait>(
 }
 
 // Asks so often, each time once it was answered. How often the answer was right.
-fn ask<N: Names, R: Wait>(rt: &R, kernel: &Kernel<N>, client: Client) -> u64 {
+fn ask<N: Names, R: Wait>(
+    rt: &R,
+    kernel: &Kernel<N>,
+    account: &mut Account<N>,
+    client: Client,
+) -> u64 {
     let Client { p, e, theirs: _ } = client;
     let mut right = 0;
     for tag in 0..REQUESTS {
-        let _given = kernel.give(rt, p, e, tag, &[], &OpenGate);
-        match kernel.take_wait(rt, p, e, &OpenGate) {
+        let _given = kernel.give(rt, p, e, tag, &[], account, &OpenGate);
+        match kernel.take_wait(rt, p, e, account, &OpenGate) {
             Ok(taken) if taken.tag == tag => right = u64::from(tag) + 1,
             _ => break,
         }
     }
-    let _unanswered = kernel.give(rt, p, e, REQUESTS, &[], &OpenGate);
+    let _unanswered = kernel.give(rt, p, e, REQUESTS, &[], account, &OpenGate);
     right
 }
 
@@ -95,14 +100,18 @@ fn be_clients<N: Names, R: Wait>(
     let (Some(first), Some(new)) = (board.first.get(at).copied(), board.new.get(at)) else {
         return;
     };
-    board.answered.fetch_add(ask(rt, kernel, first), SeqCst);
+    board
+        .answered
+        .fetch_add(ask(rt, kernel, account, first), SeqCst);
     let entered = enter(rt, kernel, account, board.server);
     if let Ok(second) = &entered {
         new.store(65_536 + u64::from(second.theirs), SeqCst);
     }
     let _killed = kernel.kill(rt, board.server, first.p, 4096, account, &OpenGate);
     if let Ok(second) = entered {
-        board.answered.fetch_add(ask(rt, kernel, second), SeqCst);
+        board
+            .answered
+            .fetch_add(ask(rt, kernel, account, second), SeqCst);
         let _killed = kernel.kill(rt, board.server, second.p, 4096, account, &OpenGate);
     }
 }
@@ -129,12 +138,13 @@ fn serve<N: Names, R: Wait>(
         if ends.is_empty() {
             break;
         }
-        let Answered { at, answer } = kernel.take_any_wait(rt, board.server, ends, &OpenGate)?;
+        let found = kernel.take_any_wait(rt, board.server, ends, account, &OpenGate);
+        let Answered { at, answer } = found?;
         let Some(e) = ends.get(at).copied() else {
             break;
         };
         if let Ok(taken) = answer {
-            let _gone = kernel.give(rt, board.server, e, taken.tag, &[], &OpenGate);
+            let _gone = kernel.give(rt, board.server, e, taken.tag, &[], account, &OpenGate);
             ends.rotate_left(1);
         } else {
             kernel.close(rt, board.server, e, account, &OpenGate)?;

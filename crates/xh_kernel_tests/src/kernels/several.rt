@@ -23,7 +23,7 @@ fn open_all<N: Names, R: Wait>(
     kernel: &Kernel<N>,
     account: &mut Account<N>,
 ) -> Result<Ends, Refused> {
-    let p = kernel.spawn(rt, &OpenGate)?;
+    let p = kernel.spawn(rt, account, &OpenGate)?;
     let (mut low, mut high) = ([0; CLIENTS], [0; CLIENTS]);
     for at in 0..CLIENTS {
         let ends = kernel.open(rt, p, 0, account, &OpenGate)?;
@@ -53,10 +53,11 @@ fn told_at(answer: Result<Answered, Refused>) -> (usize, (u16, &'static str)) {
 fn any<N: Names, R: Wait>(
     rt: &R,
     kernel: &Kernel<N>,
+    account: &mut Account<N>,
     p: u16,
     ends: &[u16],
 ) -> (usize, (u16, &'static str)) {
-    told_at(kernel.take_any(rt, p, ends, &OpenGate))
+    told_at(kernel.take_any(rt, p, ends, account, &OpenGate))
 }
 
 // A refusal that is of no endpoint.
@@ -65,8 +66,14 @@ fn refused(name: &'static str) -> (usize, (u16, &'static str)) {
 }
 
 // Gives a message with the tag and no block.
-fn give<N: Names, R: Wait>(rt: &R, kernel: &Kernel<N>, p: u16, e: u16, tag: u16) -> bool {
-    kernel.give(rt, p, e, tag, &[], &OpenGate).is_ok()
+fn give<N: Names, R: Wait>(
+    rt: &R,
+    kernel: &Kernel<N>,
+    account: &mut Account<N>,
+    p: u16,
+    (e, tag): (u16, u16),
+) -> bool {
+    kernel.give(rt, p, e, tag, &[], account, &OpenGate).is_ok()
 }
 
 /// The refusals in their order, what has a message before what is closed, and that before what is empty.
@@ -86,30 +93,32 @@ pub fn assert_order<N: Names, R: Wait + Abort>(
         panic!(rt; "no block");
     };
     let none = refused("Empty");
-    assert_eq!(rt; any(rt, kernel, p, &[]), none);
-    assert_eq!(rt; any(rt, kernel, p, &high), none);
-    assert_eq!(rt; any(rt, kernel, 9, &high), refused("NoProcess"));
-    assert_eq!(rt; any(rt, kernel, p, &[200; 65]), refused("TooMany"));
+    assert_eq!(rt; any(rt, kernel, account, p, &[]), none);
+    assert_eq!(rt; any(rt, kernel, account, p, &high), none);
+    assert_eq!(rt; any(rt, kernel, account, 9, &high), refused("NoProcess"));
+    assert_eq!(rt; any(rt, kernel, account, p, &[200; 65]), refused("TooMany"));
     assert_eq!(rt;
-        any(rt, kernel, p, &[high[0], 200, high[0]]),
+        any(rt, kernel, account, p, &[high[0], 200, high[0]]),
         refused("NotOwned")
     );
     assert_eq!(rt;
-        any(rt, kernel, p, &[high[0], data.rec, 200]),
+        any(rt, kernel, account, p, &[high[0], data.rec, 200]),
         refused("NotEndpoint")
     );
     assert_eq!(rt;
-        any(rt, kernel, p, &[high[0], high[1], high[0]]),
+        any(rt, kernel, account, p, &[high[0], high[1], high[0]]),
         refused("Twice")
     );
     let _closed = kernel.close(rt, p, low[1], account, &OpenGate);
     let _closed = kernel.close(rt, p, low[2], account, &OpenGate);
-    assert_eq!(rt; any(rt, kernel, p, &high), (1, (0, "PeerClosed")));
-    assert!(rt; give(rt, kernel, p, low[5], 7) && give(rt, kernel, p, low[3], 8));
-    assert_eq!(rt; any(rt, kernel, p, &high), (3, (8, "")));
-    assert_eq!(rt; any(rt, kernel, p, &high), (5, (7, "")));
+    assert_eq!(rt; any(rt, kernel, account, p, &high), (1, (0, "PeerClosed")));
+    assert!(rt;
+        give(rt, kernel, account, p, (low[5], 7)) && give(rt, kernel, account, p, (low[3], 8))
+    );
+    assert_eq!(rt; any(rt, kernel, account, p, &high), (3, (8, "")));
+    assert_eq!(rt; any(rt, kernel, account, p, &high), (5, (7, "")));
     assert_eq!(rt;
-        any(rt, kernel, p, &[high[7], high[2], high[1]]),
+        any(rt, kernel, account, p, &[high[7], high[2], high[1]]),
         (1, (0, "PeerClosed"))
     );
 }
@@ -130,26 +139,28 @@ pub fn assert_deadlines<N: Names, R: Wait + Clock + Abort>(
         let Some(deadline) = after(rt, millis) else {
             panic!(rt; "no clock");
         };
-        let one = kernel.take_wait_until(rt, p, high[0], deadline, &OpenGate);
+        let one = kernel.take_wait_until(rt, p, high[0], deadline, account, &OpenGate);
         assert_eq!(rt; told(one), (0, "Empty"));
-        let any = kernel.take_any_wait_until(rt, p, &high, deadline, &OpenGate);
+        let any = kernel.take_any_wait_until(rt, p, &high, deadline, account, &OpenGate);
         assert_eq!(rt; told_at(any), (MAX_ENDS, (0, "Empty")));
         assert!(rt; after(rt, 0) >= Some(deadline));
-        assert!(rt; give(rt, kernel, p, low[0], 7) && give(rt, kernel, p, low[1], 8));
-        let one = kernel.take_wait_until(rt, p, high[0], deadline, &OpenGate);
+        assert!(rt;
+            give(rt, kernel, account, p, (low[0], 7)) && give(rt, kernel, account, p, (low[1], 8))
+        );
+        let one = kernel.take_wait_until(rt, p, high[0], deadline, account, &OpenGate);
         assert_eq!(rt; told(one), (7, ""));
-        let any = kernel.take_any_wait_until(rt, p, &high, deadline, &OpenGate);
+        let any = kernel.take_any_wait_until(rt, p, &high, deadline, account, &OpenGate);
         assert_eq!(rt; told_at(any), (1, (8, "")));
     }
-    let none = kernel.take_any_wait(rt, p, &[], &OpenGate);
+    let none = kernel.take_any_wait(rt, p, &[], account, &OpenGate);
     assert_eq!(rt; told_at(none), (MAX_ENDS, (0, "Empty")));
 }
 
 // Gives at each, as many as there is room for.
-fn fill<N: Names, R: Wait>(rt: &R, kernel: &Kernel<N>, ends: &Ends) {
+fn fill<N: Names, R: Wait>(rt: &R, kernel: &Kernel<N>, account: &mut Account<N>, ends: &Ends) {
     for (at, e) in ends.low.iter().enumerate() {
         for _ in 0..2 {
-            let _full = give(rt, kernel, ends.p, *e, at as u16);
+            let _full = give(rt, kernel, account, ends.p, (*e, at as u16));
         }
     }
 }
@@ -166,8 +177,8 @@ pub fn assert_turns<N: Names, R: Wait + Abort>(
     let mut from = ends.high;
     let mut taken = [0u16; CLIENTS];
     for _ in 0..CLIENTS * 16 {
-        fill(rt, kernel, &ends);
-        let (at, (tag, _none)) = any(rt, kernel, ends.p, &from);
+        fill(rt, kernel, account, &ends);
+        let (at, (tag, _none)) = any(rt, kernel, account, ends.p, &from);
         assert_eq!(rt; at, 0);
         if let Some(count) = taken.get_mut(usize::from(tag)) {
             *count = count.saturating_add(1);

@@ -91,8 +91,8 @@ fn make_pair<N: Names, R: Wait>(
     kernel: &Kernel<N>,
     account: &mut Account<N>,
 ) -> Result<Pair, Refused> {
-    let p = kernel.spawn(rt, &OpenGate)?;
-    let q = kernel.spawn(rt, &OpenGate)?;
+    let p = kernel.spawn(rt, account, &OpenGate)?;
+    let q = kernel.spawn(rt, account, &OpenGate)?;
     kernel.alloc(rt, alloc, p, 16, 0, account, &OpenGate)?;
     let x = kernel.alloc(rt, alloc, q, 16, 0, account, &OpenGate)?.rec;
     let (low, high) = kernel.wire(rt, p, q, 0, account, &OpenGate)?;
@@ -128,13 +128,13 @@ fn end_wait<N: Names, R: Wait>(
     } = pair;
     pause(turns);
     let _done = match ender {
-        Ender::Gives => kernel.give(rt, q, f, 7, &[x], &OpenGate),
+        Ender::Gives => kernel.give(rt, q, f, 7, &[x], account, &OpenGate),
         Ender::Closes => kernel.close(rt, q, f, account, &OpenGate),
         Ender::Kills => kernel.kill(rt, q, p, 4096, account, &OpenGate),
         Ender::KillsInPart => kernel.kill(rt, q, p, 1, account, &OpenGate),
         Ender::Exits => kernel.exit(rt, p, 4096, account, &OpenGate),
         Ender::ClosesItsEnd => kernel.close(rt, p, e, account, &OpenGate),
-        Ender::MovesItsEnd => kernel.give(rt, p, still, 7, &[e], &OpenGate),
+        Ender::MovesItsEnd => kernel.give(rt, p, still, 7, &[e], account, &OpenGate),
         Ender::KillsPeer => kernel.kill(rt, p, q, 4096, account, &OpenGate),
         Ender::PeerExits => kernel.exit(rt, q, 4096, account, &OpenGate),
     };
@@ -144,6 +144,7 @@ fn end_wait<N: Names, R: Wait>(
 fn wait_late<N: Names, R: Wait + Clock>(
     rt: &R,
     kernel: &Kernel<N>,
+    account: &mut Account<N>,
     pair: Pair,
     way: Way,
     turns: u64,
@@ -157,19 +158,19 @@ fn wait_late<N: Names, R: Wait + Clock>(
         Way {
             both: false,
             timed: false,
-        } => coded(kernel.take_wait(rt, p, e, &OpenGate)),
+        } => coded(kernel.take_wait(rt, p, e, account, &OpenGate)),
         Way {
             both: false,
             timed: true,
-        } => { coded(kernel.take_wait_until(rt, p, e, deadline, &OpenGate)) }
+        } => { coded(kernel.take_wait_until(rt, p, e, deadline, account, &OpenGate)) }
         Way {
             both: true,
             timed: false,
-        } => coded_any(kernel.take_any_wait(rt, p, &ends, &OpenGate)),
+        } => coded_any(kernel.take_any_wait(rt, p, &ends, account, &OpenGate)),
         Way {
             both: true,
             timed: true,
-        } => { coded_any(kernel.take_any_wait_until(rt, p, &ends, deadline, &OpenGate)) }
+        } => { coded_any(kernel.take_any_wait_until(rt, p, &ends, deadline, account, &OpenGate)) }
     }
 }
 
@@ -178,12 +179,13 @@ fn round<N: Names + Send + Sync, R: Threads + Wait + Clock + Sync>(
     rt: &R,
     alloc: Global,
     kernel: &Kernel<N>,
-    account: &mut Account<N>,
+    mine: &mut Account<N>,
+    other: &mut Account<N>,
     how: (bool, Ender),
     seed: u64,
 ) -> Result<u64, Refused> {
     let (both, ender) = how;
-    let pair = make_pair(rt, alloc, kernel, account)?;
+    let pair = make_pair(rt, alloc, kernel, mine)?;
     let turns = (seed % 211, (seed / 211) % 4001);
     let way = Way {
         both,
@@ -191,11 +193,11 @@ fn round<N: Names + Send + Sync, R: Threads + Wait + Clock + Sync>(
     };
     let (answered, ()) = thread::join(
         rt,
-        || wait_late(rt, kernel, pair, way, turns.0),
-        || end_wait(rt, kernel, account, pair, ender, turns.1),
+        || wait_late(rt, kernel, other, pair, way, turns.0),
+        || end_wait(rt, kernel, mine, pair, ender, turns.1),
     );
     for process in [pair.p, pair.q] {
-        let _ended = kernel.exit(rt, process, 4096, account, &OpenGate);
+        let _ended = kernel.exit(rt, process, 4096, mine, &OpenGate);
     }
     Ok(answered)
 }
@@ -206,17 +208,20 @@ pub fn assert_rounds<N: Names + Send + Sync, R: Threads + Wait + Clock + Abort +
     rt: &R,
     alloc: Global,
     kernel: &Kernel<N>,
-    account: &mut Account<N>,
-    how: (bool, Ender),
-    want: u64,
+    mine: &mut Account<N>,
+    others: &mut [Account<N>],
+    (both, ender, want): (bool, Ender, u64),
 ) {
+    let Some(other) = others.first_mut() else {
+        panic!(rt; "no other worker");
+    };
     let mut seed = 1u64;
     for at in 0..32u8 {
         seed = drawn(seed);
-        let answer = round(rt, alloc, kernel, account, how, seed >> 20);
+        let answer = round(rt, alloc, kernel, mine, other, (both, ender), seed >> 20);
         assert!(rt; matches!(answer, Ok(code) if code == want), "round {at}");
     }
-    let moved = account.moved(0);
+    let moved = mine.moved(0);
     assert!(rt; matches!(moved, Some((taken, back)) if taken == back));
 }
 

@@ -82,7 +82,7 @@ pub fn assert_refused<N: Names + Send + Sync, R: Threads + Wait + Abort + Sync>(
     mine: &mut Account<N>,
     others: &mut [Account<N>],
 ) {
-    assert_two_start(rt, kernel);
+    assert_two_start(rt, kernel, mine);
     let Some(other) = others.first_mut() else {
         panic!(rt; "no other worker");
     };

@@ -6,7 +6,7 @@ use Rattle.std.specs.Prelude.{Some, slice_get, slice_set}
 use mathlib.Core.Logic.{dite}
 use native.Mathlib.Decide.{ℕ_discrete}
 use Rattle.xh_arena.specs.Views.{LotOf, VaultOf}
-use Rattle.xh_kernel.proofs.Lists.{below_get, there}
+use Rattle.xh_calls.proofs.Lists.{below_get, there}
 use Rattle.xh_model.specs.Arena.{ArenaState}
 use Rattle.xh_model.specs.Cover.{length_of}
 use Rattle.xh_place.specs.declared.body.Body.{Body}

@@ -1,11 +1,28 @@
-use Rattle.std.proofs.Common.{rules, ◌≡◌, ℕ, ◌+◌, length, ap, ◌∙◌}
+use Rattle.std.proofs.Common.{rules, arith, ◌≡◌, ◌<◌, ℕ, vec_len, length, ap, sym, ◌∙◌}
+use Rattle.std.specs.Vec.Iter.{into_iter_len}
+use Rattle.xh_calls.specs.inner.Making.{IsBundle}
+use Rattle.xh_calls.proofs.Lists.{each_push, first_of, rest_of}
+use Rattle.xh_history.specs.Histories.{FrontOf, fresh_front}
+use Rattle.xh_kernel.specs.declared.call.Call.{Call}
 use Rattle.xh_kernel.specs.Accounts.{AccountOf, fresh}
-use Rattle.xh_kernel.proofs.Lists.{each_push}
 use Rattle.xh_kernel.proofs.kernel.name_accounts.Goals as goal
+
+pub named-requires-clause-front : goal.named-requires-clause-front
+named-requires-clause-front g c =
+    let was = c.loop-bundle.invariant in let step = c.in-Some.ensures.steps in let parts = g.N.Names.parts in let done = vec_len c.loop-bundle.accounts in
+    let some : 0 < into_iter_len c.loop-bundle.bundle-iterator = omega (arith, step.1) in
+    let here = first_of (IsBundle parts.records.shape.names) done _ _ c.in-Some.bundle step.0 _ was.2 some in
+    first_of (λ k (x : FrontOf Call). x ≡ fresh_front parts.histories k) done _ _ c.in-Some-next.front c.in-Some-next.ensures.items _ was.3 (omega (arith, was.1, some))
+    ∙ ap (fresh_front parts.histories) (sym here.0)
 
 pub loop-bundle-preserved : goal.loop-bundle-preserved
 loop-bundle-preserved g c =
-    let was = c.loop-bundle.invariant in let step = c.in-Some.ensures.steps in
-    let P : ℕ → AccountOf → Type 0 = λ k a. a ≡ fresh g.N.Names.parts.records.shape.names k in
-    let here : c.in-Some.bundle.number ≡ length c.loop-bundle.accounts.items = let h = was.1 0 c.in-Some.bundle in grind rules in
-    (search rules, (λ k d below. let h = was.1 (k + 1) d in grind rules), rw c.in_ok-push.ensures.items (each_push P _ _ was.2 (c.named.ensures ∙ ap (fresh g.N.Names.parts.records.shape.names) here)))
+    let was = c.loop-bundle.invariant in let step = c.in-Some.ensures.steps in let parts = g.N.Names.parts in let done = vec_len c.loop-bundle.accounts in
+    let P : ℕ → AccountOf → Type 0 = λ k a. a ≡ fresh parts.records.shape.names k in
+    let here : c.in-Some.bundle.number ≡ length c.loop-bundle.accounts.items = let h = was.2 0 c.in-Some.bundle in grind rules in (
+      search rules,
+      search rules,
+      rest_of (IsBundle parts.records.shape.names) done _ _ c.in-Some.bundle step.0 _ was.2 _ _ step.1 (search rules),
+      rest_of (λ k (x : FrontOf Call). x ≡ fresh_front parts.histories k) done _ _ c.in-Some-next.front c.in-Some-next.ensures.items _ was.3 _ _ (search rules) (search rules),
+      rw c.in_ok-push.ensures.items (each_push P _ _ was.4 (c.named.ensures ∙ ap (fresh parts.records.shape.names) here)),
+    )

@@ -1,14 +1,17 @@
 use Rattle.std.proofs.Common.{◌≡◌, ◌+◌, ◌<◌, ℕ, vec_len}
 use Rattle.std.specs.Prelude.{slice_index_or}
 use Rattle.std.specs.Vec.Iter.{into_iter_items, into_iter_len}
-use Rattle.xh_kernel.specs.declared.account.Bundle.{Bundle}
+use Rattle.xh_calls.specs.declared.making.Bundle.{Bundle}
+use Rattle.xh_calls.specs.inner.Making.{IsBundle}
+use Rattle.xh_history.specs.Histories.{FrontOf, fresh_front}
+use Rattle.xh_kernel.specs.declared.call.Call.{Call}
 use Rattle.xh_kernel.specs.Accounts.{AreFresh}
-use Rattle.xh_kernel.specs.inner.Making.{IsBundle}
 use Rattle.xh_kernel.proofs.kernel.name_accounts.Given as goal
 
 abbrev pub invariant-loop-bundle : goal.invariant-loop-bundle
 invariant-loop-bundle g l =
     let done = vec_len l.accounts in let rest = l.bundle-iterator in
-    (done + into_iter_len rest ≡ vec_len l.fn.bundles)
+    (done + into_iter_len rest ≡ vec_len l.fn.bundles) × (into_iter_len l.left ≡ into_iter_len rest)
     × ((k : ℕ) (d : Bundle) → k < into_iter_len rest → IsBundle g.N.Names.parts.records.shape.names (done + k) (slice_index_or (into_iter_items rest) k d))
+    × ((k : ℕ) (d : FrontOf Call) → k < into_iter_len l.left → slice_index_or (into_iter_items l.left) k d ≡ fresh_front g.N.Names.parts.histories (done + k))
     × AreFresh g.N.Names.parts.records.shape.names l.accounts.items

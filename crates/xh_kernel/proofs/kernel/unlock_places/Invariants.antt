@@ -1,9 +1,9 @@
 use Rattle.std.proofs.Common.{◌≡◌, ◌+◌, vec_len}
 use Rattle.std.specs.Vec.Iter.{into_iter_len}
-use Rattle.xh_kernel.specs.Places.{AreTold}
+use Rattle.xh_kernel.specs.Kept.{AreKept}
 use Rattle.xh_kernel.proofs.kernel.unlock_places.Given as goal
 
 abbrev pub invariant-loop-lock : goal.invariant-loop-lock
 invariant-loop-lock g l =
     (vec_len l.places + into_iter_len l.lock-iterator ≡ vec_len l.fn.locks)
-    × AreTold g.N.Names.parts l.places.items l.pens.items
+    × AreKept g.N.Names.parts l.places.items l.pens.items

@@ -1,5 +1,5 @@
 use Rattle.std.proofs.Common.{◌≡◌, ℕ, All, IfOk, Result, Ok, Err, length, subst, ◌∙◌}
-use Rattle.xh_kernel.specs.Parts.{PartsOf}
+use Rattle.xh_calls.specs.Parts.{PartsOf}
 use Rattle.xh_model.specs.declared.config.Config.{Config}
 use Rattle.xh_script.specs.declared.fault.Fault.{Fault}
 use Rattle.xh_runner.specs.Reports.{HasArenas}

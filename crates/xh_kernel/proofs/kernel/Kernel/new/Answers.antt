@@ -1,9 +1,6 @@
-use Rattle.std.proofs.Common.{All, ◌∙◌, ap, subst}
-use Rattle.xh_kernel.specs.Parts.{IsOpen}
+use Rattle.std.proofs.Common.{All, ◌∙◌, subst}
+use Rattle.xh_calls.specs.Parts.{IsOpen}
 use Rattle.xh_kernel.proofs.kernel.Kernel.new.Goals as goal
 
 pub new-requires-clause-open_vaults : goal.new-requires-clause-open_vaults
 new-requires-clause-open_vaults g c = subst (λ p. All (IsOpen p) c.parts.inside.vaults.items) (c.parts.view_is ∙ c.requires) c.parts.invariant.open_vaults
-
-pub returns-clause-accounts : goal.returns-clause-accounts
-returns-clause-accounts g c = (c.in_ok-accounts.ensures.count ∙ ap (λ p. p.workers) c.parts.view_is, c.in_ok-accounts.ensures.fresh)

@@ -1,18 +1,34 @@
-use Rattle.std.proofs.Common.{rules, sym, ap, ◌∙◌}
+use Rattle.std.proofs.Common.{rules, ◌-◌, ℕ, subst}
 use Rattle.std.proofs.lemmas.List.{with_items_is, places}
-use Rattle.xh_place.specs.Tallies.{ids_of}
-use Rattle.xh_kernel.proofs.Found.{found_still}
-use Rattle.xh_kernel.proofs.Moved.{received}
+use Rattle.std.specs.Vec.{with_items}
+use Rattle.xh_calls.proofs.Same.{stays_itself}
+use Rattle.xh_calls.specs.Wires.{ReceivesOr, toward_high}
+use Rattle.xh_place.specs.Ending.{back_of}
+use Rattle.xh_kernel.proofs.Back.{came_back}
 use Rattle.xh_kernel.proofs.kernel.Kernel.receive.Goals as goal
+
+pub note-requires : goal.note-requires
+note-requires g c κs within =
+    let held = c.deref_mut-held.result.now in let d = c.receive-answer.ensures.received in
+    let back = came_back g.before d.0 (search rules) c.account.view_is c.as_mut_slice-tallies.ensures.value (with_items_is c.account.inside.tallies _ (search (rules, places))) d.2 in (
+      search rules,
+      (
+        search rules,
+        (
+          search rules,
+          (
+            search rules,
+            (
+              search rules,
+              (held.place, held.place, held.told, held.history, stays_itself held.place, subst (λ (bytes : ℕ). ReceivesOr c.args.q (toward_high c.args.channel) c.args.r bytes held.place c.receive-answer.new.place c.receive-answer.result) back.0 d.1, c.receive-answer.ensures.same.0.3),
+            ),
+          ),
+        ),
+      ),
+    )
 
 pub returns : goal.returns
 returns g c =
-    let held = c.deref_mut-held.result.now in
-    received c.account.view_is c.as_mut_slice-tallies.ensures.value (with_items_is c.account.inside.tallies _ (search (rules, places)) ∙ c.tallies-1.given.1.1 (sym c.accept_end-answer.ensures.same.0.5))
-    g.N.Names.parts _ _ _ held.place c.accept_end-answer.new.self c.accept_end-answer.result (held.named.0, held.lawful)
-    (found_still g.N.Names.parts held.place c.accept_end-answer.new.self held.named.0 c.accept_end-answer.ensures.same.1 c.tell.ensures.lawful) c.accept_end-answer.ensures.accepted
-
-pub invariant_of-account : goal.invariant_of-account
-invariant_of-account g c =
-    ap ids_of (with_items_is c.account.inside.tallies _ (search (rules, places)) ∙ c.tallies-1.given.1.1 (sym c.accept_end-answer.ensures.same.0.5))
-    ∙ c.accept_end-answer.ensures.same.0.2 ∙ ap ids_of c.as_mut_slice-tallies.ensures.value ∙ c.account.invariant
+    let d = c.receive-answer.ensures.received in
+    let back = came_back g.before d.0 (search rules) c.account.view_is c.as_mut_slice-tallies.ensures.value (with_items_is c.account.inside.tallies _ (search (rules, places))) d.2 in
+    (back_of (with_items c.account.inside.tallies c.receive-answer.new.tallies).items - g.before, search rules, (search rules, back.1))

@@ -1,0 +1,10 @@
+pub mod Same
+pub mod Lists
+pub mod Taking
+pub mod Fresh
+pub mod Made
+pub mod Moved
+pub mod Vaulted
+pub mod Started
+pub mod Looks
+pub mod Wiring

@@ -1,0 +1,45 @@
+-- What a place's calls say of the tallies that they were lent.
+use Rattle.std.proofs.Common.{◌≡◌, ℕ, ◌+◌, ◌++◌, List, ⊎_elim, inl, inr, refl, ap, arith}
+use Rattle.std.specs.Prelude.{Option, Some, None, Result, Ok, Err, MatchOption}
+use Rattle.xh_arena.specs.Views.{TallyOf}
+use Rattle.xh_core.specs.Calls.{end_tests}
+use Rattle.xh_core.specs.declared.block.Block.{Block}
+use Rattle.xh_core.specs.declared.refused.Refused.{Refused}
+use Rattle.xh_core.specs.declared.status.Status.TheVariants.{Running}
+use Rattle.xh_core.specs.Refusing.{Tests, first_refusal}
+use Rattle.xh_place.specs.Ending.{HasGivenBack, IsClosed, back_of, but_back}
+use Rattle.xh_place.specs.Ends.{Accepts, RefusedOr}
+use Rattle.xh_place.specs.Places.{found}
+use Rattle.xh_place.specs.Seen.{PlaceSeen}
+use Rattle.xh_place.specs.Starts.{start as starts}
+use Rattle.xh_calls.specs.Endings.{Closes, IsUntouched}
+use Rattle.xh_calls.specs.Places.{start}
+use Rattle.xh_calls.specs.Wires.{ReceivesOr}
+use Rattle.xh_calls.proofs.Started.{passes}
+
+-- nothing came back
+pub none_back : (old new : List TallyOf) → new ≡ old → HasGivenBack 0 old new
+none_back old new e = ((let same : back_of new ≡ back_of old = ap back_of e in let sum : back_of new ≡ back_of old + 0 = omega (arith, same) in sum), ap but_back e)
+
+-- an endpoint that came to a place, or was turned away
+module _ {from to : List TallyOf} where
+  pub received : (q r d : ℕ) (old new : PlaceSeen) (result : Result Block Refused) → Accepts q r d old new from to result
+      → (bytes : ℕ) × ReceivesOr q d r bytes old new result × HasGivenBack bytes from to
+  received q r d old new (Ok b) h = (0, (refl, (h.here.0, (h.here.2.0, h.here.2.2))), none_back from to h.here.3)
+  received q r d old new (Err e) h = ⊎_elim
+      (λ s. (0, inl ((s.0, refl), s.2), none_back from to s.1))
+      (λ m. (m.2.0, inr (m.0, m.1, m.2.1), m.2.2)) h.away.1
+
+-- an endpoint that was closed, or was none
+module _ (from to : List TallyOf) where
+  pub closed : (p e : ℕ) (old new : PlaceSeen) (result : Result ℕ Refused) → first_refusal (start p old.place) ≡ None → old.place.state ≡ Running
+      → RefusedOr (starts old.place.state ++ end_tests (found old.place e)) result ((new.place ≡ old.place) × (to ≡ from)) ((bytes : ℕ) × IsClosed e old new bytes result × HasGivenBack bytes from to)
+      → (bytes : ℕ) × Closes p e bytes old new result × HasGivenBack bytes from to
+  closed p e old new result none runs h = go (first_refusal tests) (passes (start p old.place) (end_tests (found old.place e)) none old.place.state runs _ _ h) where
+    tests : Tests
+    tests = start p old.place ++ end_tests (found old.place e)
+
+    go : (o : Option Refused) → MatchOption o ((bytes : ℕ) × IsClosed e old new bytes result × HasGivenBack bytes from to) (λ refused. (result ≡ Err refused) × ((new.place ≡ old.place) × (to ≡ from)))
+        → (bytes : ℕ) × MatchOption o (IsClosed e old new bytes result) (λ refused. (result ≡ Err refused) × IsUntouched old new bytes) × HasGivenBack bytes from to
+    go None d = d
+    go (Some refused) d = (0, (d.0, (d.1.0, refl)), none_back from to d.1.1)

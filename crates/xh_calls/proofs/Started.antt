@@ -1,0 +1,24 @@
+-- What the first tests of a call, which refused nothing, leave to the tests of its place.
+use Rattle.std.proofs.Common.{◌≡◌, ◌∙◌, ◌++◌, ap, sym, subst}
+use Rattle.std.specs.Prelude.{Option, Some, None, Result, Err, MatchOption, MatchResult}
+use Rattle.xh_core.proofs.Firsts.{first_later}
+use Rattle.xh_core.specs.declared.refused.Refused.{Refused}
+use Rattle.xh_core.specs.declared.status.Status.{Status}
+use Rattle.xh_core.specs.declared.status.Status.TheVariants.{Running}
+use Rattle.xh_core.specs.Refusing.{Tests, first_refusal}
+use Rattle.xh_place.specs.Starts.{start as starts}
+
+module _ (tests more : Tests) (none : first_refusal tests ≡ None) (state : Status) (run : state ≡ Running) where
+  later : first_refusal (tests ++ more) ≡ first_refusal (starts state ++ more)
+  later = first_later tests more none ∙ sym (first_later (starts state) more (ap (λ (s : Status). first_refusal (starts s)) run))
+
+  pub passes : (done : Type 0) (P : Refused → Type 0) → MatchOption (first_refusal (starts state ++ more)) done P → MatchOption (first_refusal (tests ++ more)) done P
+  passes done P h = subst (λ (o : Option Refused). MatchOption o done P) (sym later) h
+
+-- the first test that refuses is what a call answers
+module _ {A : Type 0} (o : Option Refused) (result : Result A Refused) (e : Refused) (first : o ≡ Some e) (is : result ≡ Err e) where
+  pub refused_tested : (P : A → Type 0) → MatchResult result (λ a. (o ≡ None) × P a) (λ refused. o ≡ Some refused)
+  refused_tested P = subst (λ (r : Result A Refused). MatchResult r (λ a. (o ≡ None) × P a) (λ refused. o ≡ Some refused)) (sym is) first
+
+  pub refused_or : (same done : Type 0) → same → MatchOption o done (λ refused. (result ≡ Err refused) × same)
+  refused_or same done s = subst (λ (p : Option Refused). MatchOption p done (λ refused. (result ≡ Err refused) × same)) (sym first) (is, s)

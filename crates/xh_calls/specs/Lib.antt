@@ -1,0 +1,10 @@
+pub mod Parts
+pub mod Tallies
+pub mod Places
+pub mod Calls
+pub mod Channels
+pub mod Wires
+pub mod Messages
+pub mod Several
+pub mod Endings
+pub mod inner

@@ -1,0 +1,58 @@
+-- What the parts of a kernel have in common.
+use Rattle.std.specs.Prelude.{◌≡◌, ℕ, ◌<◌, ◌≤◌, List, [], length, map, slice_get, Some}
+use Rattle.atomic_table.specs.Seated.{TableId}
+use Rattle.xh_arena.specs.Views.{VaultOf}
+use Rattle.xh_model.specs.declared.config.Config.{Config}
+use Rattle.xh_model.specs.declared.limits.TheConstants.{MAX_WORKERS}
+use Rattle.xh_model.specs.Config.{IsConfig}
+use Rattle.xh_records.specs.declared.shape.Shape.{Shape}
+use Rattle.xh_records.specs.Seats.{RecordsOf}
+
+-- the table of the records, whose shape has the names of the vaults in the order of their arenas; how many workers
+-- share each vault, the bytes of each, and how many it may ever hand out; how many messages may wait in a direction;
+-- and the tables of the glances and of the histories
+pub record PartsOf : Type 0 where
+  pub records : RecordsOf
+  pub workers : ℕ
+  pub size : ℕ
+  pub wear : ℕ
+  pub depth : ℕ
+  pub glances : TableId
+  pub histories : TableId
+
+-- the name of no table
+abbrev pub no_table : TableId
+no_table = record { words = 0; slots = 0; views_name = 0; atom = 0; block = 0; offset = 0; slot_names = [] }
+
+abbrev pub no_shape : Shape
+no_shape = record { records = 0; places = 0; names = [] }
+
+abbrev pub no_parts : PartsOf
+no_parts = record { records = record { table = no_table; shape = no_shape }; workers = 0; size = 0; wear = 0; depth = 0; glances = no_table; histories = no_table }
+
+-- the limits that a kernel's parts are made with
+pub record ArePartsLimits (config : Config) (workers : ℕ) : Type 0 where
+  pub within : IsConfig config
+  pub some_workers : 1 ≤ workers
+  pub most_workers : workers ≤ MAX_WORKERS
+
+-- parts that were made by a configuration, for so many workers
+abbrev pub AreMadeBy : Config → ℕ → PartsOf → Type 0
+AreMadeBy config workers p = (p.workers ≡ workers) × (p.size ≡ config.bytes) × (p.wear ≡ config.wear) × (p.depth ≡ config.depth)
+    × (p.records.shape.records ≡ config.records) × (length p.records.shape.names ≡ config.arenas)
+
+abbrev pub vault_names : List VaultOf → List TableId
+vault_names = map (λ v. v.id)
+
+-- a vault for so many workers, none of whose tallies it took in yet, of so many records and bytes, that may ever hand
+-- out so many
+abbrev pub IsNew : ℕ → ℕ → ℕ → ℕ → VaultOf → Type 0
+IsNew workers records size wear v = (v.workers ≡ workers) × (v.collected ≡ []) × (0 < workers) × (v.arena.records ≡ records) × (length v.arena.cover ≡ size) × (v.arena.limit ≡ wear)
+
+-- such a vault of these parts
+abbrev pub IsOpen : PartsOf → VaultOf → Type 0
+IsOpen p = IsNew p.workers p.records.shape.records p.size p.wear
+
+-- that of an arena of these parts
+abbrev pub IsVaultOf : PartsOf → ℕ → VaultOf → Type 0
+IsVaultOf p a v = (slice_get p.records.shape.names a ≡ Some v.id) × IsOpen p v

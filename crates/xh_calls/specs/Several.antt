@@ -1,0 +1,61 @@
+-- A take at the first of several endpoints that has a message.
+use Rattle.std.specs.Prelude.{◌≡◌, ℕ, List, [], ◌∷◌, ◌++◌, length, nat_lt, Result, Err, MatchResult}
+use Rattle.xh_core.specs.Calls.{end_tests}
+use Rattle.xh_core.specs.Refusing.{Tests}
+use Rattle.xh_core.specs.Several.{has_twice}
+use Rattle.xh_core.specs.declared.refused.Refused.{Refused}
+use Rattle.xh_core.specs.declared.refused.Refused.TheVariants.{Empty, PeerClosed, TooMany, Twice}
+use Rattle.xh_place.specs.Ends.{RefusedOr}
+use Rattle.xh_place.specs.Places.{PlaceOf, found}
+use Rattle.xh_place.specs.Seen.{PlaceSeen}
+use Rattle.xh_calls.specs.declared.several.Answered.{Answered}
+use Rattle.xh_calls.specs.declared.several.TheConstants.{MAX_ENDS}
+use Rattle.xh_calls.specs.Messages.{Takes}
+use Rattle.xh_calls.specs.Places.{start}
+
+-- ---- why it is refused
+
+-- the tests of each of the endpoints, one after the other
+abbrev pub each_end : PlaceOf → List ℕ → Tests
+each_end place [] = []
+each_end place (e ∷ es) = end_tests (found place e) ++ each_end place es
+
+abbrev pub several_tests : ℕ → PlaceOf → List ℕ → Tests
+several_tests p place ends = start p place ++ (nat_lt MAX_ENDS (length ends), TooMany) ∷ (each_end place ends ++ (has_twice ends, Twice) ∷ [])
+
+-- ---- what its looks find
+
+-- each of the endpoints was looked at, in their order, and none had a message
+abbrev pub HaveNone : ℕ → List ℕ → PlaceSeen → PlaceSeen → Type 0
+HaveNone p [] old new = new ≡ old
+HaveNone p (e ∷ es) old new = (mid : PlaceSeen) × (why : Refused) × Takes p e old mid (Err why) × HaveNone p es mid new
+
+-- each of the endpoints was looked at, in their order, and had no message and an open peer
+abbrev pub AreEmpty : ℕ → List ℕ → PlaceSeen → PlaceSeen → Type 0
+AreEmpty p [] old new = new ≡ old
+AreEmpty p (e ∷ es) old new = (mid : PlaceSeen) × Takes p e old mid (Err Empty) × (mid.place ≡ old.place) × AreEmpty p es mid new
+
+-- what the take of an endpoint answers whose peer is closed and which has no message
+abbrev pub closed : Refused
+closed = PeerClosed (record { items = [] })
+
+-- The endpoint of the index took a message, and those before it had none; or its peer is closed, those before it are open, and none of all had a message.
+pub record AnswersAt (p : ℕ) (ends : List ℕ) (old new : PlaceSeen) (a : Answered) : Type 0 where
+  pub before : List ℕ
+  pub e : ℕ
+  pub after : List ℕ
+  pub first : PlaceSeen
+  pub mid : PlaceSeen
+  pub ends_are : ends ≡ before ++ e ∷ after
+  pub index : a.at ≡ length before
+  pub takes : Takes p e first mid a.answer
+  pub looks : MatchResult a.answer (λ _. HaveNone p before old first × (new ≡ mid))
+      (λ why. (why ≡ closed) × AreEmpty p before old first × HaveNone p after mid new)
+
+-- one of the endpoints answers, or each of them was looked at and was empty
+abbrev pub TakesFirst : ℕ → List ℕ → PlaceSeen → PlaceSeen → Result Answered Refused → Type 0
+TakesFirst p ends old new result = MatchResult result (AnswersAt p ends old new) (λ why. (why ≡ Empty) × AreEmpty p ends old new)
+
+-- the first test that refuses is the answer, and then nothing changed; else the first message is taken
+abbrev pub TakesAny : ℕ → List ℕ → PlaceSeen → PlaceSeen → Result Answered Refused → Type 0
+TakesAny p ends old new result = RefusedOr (several_tests p old.place ends) result (new.place ≡ old.place) (TakesFirst p ends old new result)

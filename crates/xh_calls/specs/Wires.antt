@@ -1,0 +1,60 @@
+-- What the steps of wiring do: side 0 of a channel is of the one process, and side 1 comes to the other.
+use Rattle.std.specs.Prelude.{◌≡◌, ◌≢◌, ◌⊎◌, ℕ, ◌+◌, ◌*◌, ◌≤◌, true, false, List, [], ◌∷◌, Option, Some, Result, Ok, Err, MatchResult}
+use Rattle.xh_core.specs.declared.block.Block.{Block}
+use Rattle.xh_core.specs.declared.refused.Refused.{Refused}
+use Rattle.xh_core.specs.declared.status.Status.TheVariants.{Vacant}
+use Rattle.xh_core.specs.Refusing.{first_refusal}
+use Rattle.xh_model.specs.declared.limits.TheConstants.{END_BYTES}
+use Rattle.xh_model.specs.declared.row.Row.{Row}
+use Rattle.xh_model.specs.Keyed.{value_at}
+use Rattle.xh_place.specs.Bodies.{IsEndAt}
+use Rattle.xh_place.specs.Ending.{IsClosed}
+use Rattle.xh_place.specs.Ends.{is_here, IsTooLate}
+use Rattle.xh_place.specs.Places.{Item, PlaceOf, with_less, with_more}
+use Rattle.xh_place.specs.Seen.{Becomes, IsElsewhere, IsSeen, PlaceSeen, SawWord}
+use Rattle.xh_calls.specs.declared.wired.Wired.{Wired}
+use Rattle.xh_calls.specs.Channels.{Opens}
+use Rattle.xh_calls.specs.Endings.{IsUntouched}
+use Rattle.xh_calls.specs.Parts.{PartsOf}
+use Rattle.xh_calls.specs.Places.{start}
+
+-- the block of the record is side 0 of the channel
+abbrev pub HasLow : ℕ → ℕ → PlaceOf → Type 0
+HasLow channel r place = (x : Item) × (value_at r place.blocks ≡ Some x) × IsEndAt x.content channel 0
+
+-- the direction toward side 1 of a channel
+abbrev pub toward_high : ℕ → ℕ
+toward_high channel = 2 * channel + 1
+
+-- ---- both sides at p, the first process
+
+-- p opened a channel, and passed its side 1 on the direction toward it; or could not open one
+abbrev pub OpensToward : PartsOf → ℕ → ℕ → Option (List Row) → PlaceSeen → PlaceSeen → Result Wired Refused → Type 0
+OpensToward parts p arena contract old new result = MatchResult result
+    (λ w. (mid : PlaceSeen) × Opens parts p arena contract old mid (Ok (w.low, w.high)) × HasLow w.channel w.low.rec mid.place
+    × Becomes (with_less (toward_high w.channel) w.high.rec mid.place) mid new)
+    (λ refused. Opens parts p arena contract old new (Err refused))
+
+-- ---- side 1, on its way to q on the direction d
+
+-- it came to the end of q's list
+abbrev pub Receives : ℕ → ℕ → ℕ → PlaceSeen → PlaceSeen → Type 0
+Receives q d r old new = (is_here old.place q ≡ true) × ((x : Item) × (new.place ≡ with_more d ((r, x) ∷ []) old.place))
+
+-- nobody has q's place; or another word was seen than "in flight on the direction"; or q doesn't run there, and it was swept: no fewer bytes came back than it has
+abbrev pub TurnsAway : ℕ → ℕ → ℕ → PlaceSeen → PlaceSeen → ℕ → Type 0
+TurnsAway q d r old new bytes =
+    (IsUntouched old new bytes × ((old.place.state ≡ Vacant) ⊎ IsElsewhere (SawWord old new) d r))
+    ⊎ ((is_here old.place q ≡ false) × (old.place.state ≢ Vacant) × IsTooLate (IsSeen old new) d r old.place new.place bytes)
+
+-- it was received, or turned away
+abbrev pub ReceivesOr : ℕ → ℕ → ℕ → ℕ → PlaceSeen → PlaceSeen → Result Block Refused → Type 0
+ReceivesOr q d r bytes old new result = MatchResult result (λ _. (bytes ≡ 0) × Receives q d r old new) (λ _. TurnsAway q d r old new bytes)
+
+-- ---- side 0, of the record r of p, once side 1 was turned away
+
+-- p doesn't run any more; or has it no more; or it was closed: no fewer bytes came back than it has
+abbrev pub ClosesAgain : ℕ → ℕ → ℕ → PlaceSeen → PlaceSeen → ℕ → Type 0
+ClosesAgain p channel r old new bytes =
+    (IsUntouched old new bytes × (((refused : Refused) × (first_refusal (start p old.place) ≡ Some refused)) ⊎ (HasLow channel r old.place → ⊥)))
+    ⊎ ((result : Result ℕ Refused) × IsClosed r old new bytes result × (END_BYTES ≤ bytes))

@@ -1,0 +1,150 @@
+//! The locks of the arenas.
+ghost use Rattle.std.specs.Prelude.{◌≡◌, ◌≤◌, ◌%◌, All, IfOk, length, vec_len};
+ghost use Rattle.xh_model.specs.declared.limits.TheConstants.{MAX_ARENAS, MAX_BYTES, UNIT};
+ghost use Rattle.xh_calls.specs.Parts.{IsOpen, vault_names};
+
+use crate::kept::Kept;
+use crate::names::Names;
+use crossbeam_utils::CachePadded;
+use std::alloc::{AllocError, Global};
+use std::sync::{Mutex, Wait};
+use xh_arena::{Lot, Refused, Tally, Vault};
+use xh_place::{Body, Vaults};
+
+/// One lock for each arena, on cache lines of its own, and how many arenas there are, and how many bytes
+/// each has.
+#[derive(Drop)]
+pub struct Arenas<N: Names> {
+    pub(crate) count: u8,
+    pub(crate) size: u32,
+    pub(crate) arena0: CachePadded<Mutex<Kept<N, 0>>>,
+    pub(crate) arena1: CachePadded<Mutex<Kept<N, 1>>>,
+    pub(crate) arena2: CachePadded<Mutex<Kept<N, 2>>>,
+    pub(crate) arena3: CachePadded<Mutex<Kept<N, 3>>>,
+    pub(crate) arena4: CachePadded<Mutex<Kept<N, 4>>>,
+    pub(crate) arena5: CachePadded<Mutex<Kept<N, 5>>>,
+    pub(crate) arena6: CachePadded<Mutex<Kept<N, 6>>>,
+    pub(crate) arena7: CachePadded<Mutex<Kept<N, 7>>>,
+    ghost counted: { (count ≡ length N.parts.records.shape.names) × (count ≤ MAX_ARENAS) },
+    ghost sized: { (size ≡ N.parts.size) × (size % UNIT ≡ 0) × (size ≤ MAX_BYTES) },
+}
+
+// The lock of an arena.
+fn locked<N: Names, const A: u8>(kept: Kept<N, A>) -> CachePadded<Mutex<Kept<N, A>>> {
+    CachePadded::new(Mutex::new(kept))
+}
+
+impl<N: Names> Arenas<N> {
+    /// The vaults of all arenas behind their locks.
+    pub fn new(vaults: Vec<Vault>, size: u32) -> Arenas<N>
+        requires sized { (size ≡ N.parts.size) × (size % UNIT ≡ 0) × (size ≤ MAX_BYTES) }
+        requires names { vault_names vaults.items ≡ N.parts.records.shape.names }
+        requires open_vaults { All (IsOpen N.parts) vaults.items }
+        requires few { vec_len vaults ≤ MAX_ARENAS }
+    {
+        let count = vaults.len() as u8;
+        let mut rest = vaults.into_iter();
+        Arenas {
+            count,
+            size,
+            arena0: locked(Kept::next(&mut rest)),
+            arena1: locked(Kept::next(&mut rest)),
+            arena2: locked(Kept::next(&mut rest)),
+            arena3: locked(Kept::next(&mut rest)),
+            arena4: locked(Kept::next(&mut rest)),
+            arena5: locked(Kept::next(&mut rest)),
+            arena6: locked(Kept::next(&mut rest)),
+            arena7: locked(Kept::next(&mut rest)),
+        }
+    }
+
+    /// The vaults, by arena, out of their locks.
+    pub fn into_vaults(self, alloc: Global) -> Result<Vec<Vault>, AllocError>
+        ensures names { IfOk result (λ v. vault_names v.items ≡ N.parts.records.shape.names) }
+        ensures open_vaults { IfOk result (λ v. All (IsOpen N.parts) v.items) }
+        ensures few { IfOk result (λ v. vec_len v ≤ MAX_ARENAS) }
+    {
+        let Arenas {
+            count,
+            size: _,
+            arena0,
+            arena1,
+            arena2,
+            arena3,
+            arena4,
+            arena5,
+            arena6,
+            arena7,
+        } = self;
+        let mut vaults = Vec::with_capacity(alloc, usize::from(count))?;
+        arena0.into_inner().into_inner().put_back(&mut vaults);
+        arena1.into_inner().into_inner().put_back(&mut vaults);
+        arena2.into_inner().into_inner().put_back(&mut vaults);
+        arena3.into_inner().into_inner().put_back(&mut vaults);
+        arena4.into_inner().into_inner().put_back(&mut vaults);
+        arena5.into_inner().into_inner().put_back(&mut vaults);
+        arena6.into_inner().into_inner().put_back(&mut vaults);
+        arena7.into_inner().into_inner().put_back(&mut vaults);
+        Ok(vaults)
+    }
+}
+
+// The call on the lock of an arena, by its number.
+macro_rules! at_arena {
+    ($lent:expr, $arena:expr, $call:ident($($with:expr),*)) => {
+        match $arena {
+            0 => Kept::$call($lent.rt, &$lent.arenas.arena0, $arena, $($with),*),
+            1 => Kept::$call($lent.rt, &$lent.arenas.arena1, $arena, $($with),*),
+            2 => Kept::$call($lent.rt, &$lent.arenas.arena2, $arena, $($with),*),
+            3 => Kept::$call($lent.rt, &$lent.arenas.arena3, $arena, $($with),*),
+            4 => Kept::$call($lent.rt, &$lent.arenas.arena4, $arena, $($with),*),
+            5 => Kept::$call($lent.rt, &$lent.arenas.arena5, $arena, $($with),*),
+            6 => Kept::$call($lent.rt, &$lent.arenas.arena6, $arena, $($with),*),
+            7 => Kept::$call($lent.rt, &$lent.arenas.arena7, $arena, $($with),*),
+            _ => unreachable!(),
+        }
+    };
+}
+
+/// It takes an arena's lock for the one call.
+#[derive(Drop)]
+pub(crate) struct Lent<'a, N: Names, R: Wait> {
+    pub(crate) rt: &'a R,
+    pub(crate) arenas: &'a Arenas<N>,
+}
+
+impl<'a, N: Names, R: Wait> Vaults for Lent<'a, N, R> {
+    ghost use Rattle.xh_calls.specs.Parts.{IsVaultOf};
+
+    ghost names = { λ _. N.parts.records.shape.names };
+
+    ghost extent = { λ _. N.parts.size };
+
+    ghost changes = { λ _ _ a v _. IsVaultOf N.parts a v };
+
+    fn arenas(&self) -> u8 {
+        self.arenas.count
+    }
+
+    fn size(&self) -> u32 {
+        self.arenas.size
+    }
+
+    fn carve(
+        &mut self,
+        arena: u8,
+        lot: &mut Lot<Body>,
+        tally: &mut Tally,
+        n: u32,
+    ) -> Result<u32, Refused> {
+        at_arena!(self, arena, carve(lot, tally, n))
+    }
+
+    fn cut(&mut self, arena: u8, head: &mut Lot<Body>, tail: &mut Lot<Body>, k: u32) {
+        at_arena!(self, arena, cut(head, tail, k))
+    }
+
+    fn give_back(&mut self, arena: u8, lot: &mut Lot<Body>, tally: &mut Tally) {
+        at_arena!(self, arena, give_back(lot, tally))
+    }
+}

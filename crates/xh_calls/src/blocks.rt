@@ -1,0 +1,130 @@
+//! The calls of a process on its data blocks.
+ghost use Rattle.std.specs.Prelude.{◌≡◌, ◌/◌, MatchResult, OnErr};
+ghost use Rattle.xh_model.specs.declared.limits.TheConstants.{MAX_RECORDS};
+ghost use Rattle.xh_place.specs.Places.{IsPlaceOf};
+ghost use Rattle.xh_place.specs.Seen.{IsSamePlace, Stays};
+ghost use Rattle.xh_place.specs.Tallies.{gave, ids_of, took};
+ghost use Rattle.xh_calls.specs.Calls.{Allocates, Frees, Reads, Splits, Writes};
+ghost use Rattle.xh_calls.specs.Places.{IsServed};
+
+use crate::heap::Heap;
+use crate::names::Names;
+use crate::starting::check_start;
+use std::alloc::Global;
+use std::sync::Wait;
+use xh_arena::Tally;
+use xh_core::{Block, Refused};
+use xh_place::{Gate, Place};
+
+impl<N: Names> Heap<N> {
+    /// A new data block of `n` bytes of the arena, rounded up to a multiple of 16, all of them zero.
+    ///
+    /// NoProcess, Ended, NoArena, BadSize where `n` is 0 or more than an arena has, NoRecord, OutOfMemory
+    /// where a growth was refused, NoSpace, Worn.
+    pub fn alloc<R: Wait, G: Gate>(
+        &self,
+        rt: &R,
+        alloc: Global,
+        place: &mut Place,
+        p: u16,
+        n: u32,
+        arena: u32,
+        tallies: &mut [Tally],
+        gate: &G,
+    ) -> Result<Block, Refused>
+        requires { IsServed N.parts place.old.place tallies.old }
+        ensures same { IsSamePlace place.old place.new × (ids_of tallies.new ≡ ids_of tallies.old) }
+        ensures tallies { MatchResult result (λ b. tallies.new ≡ took arena b.len tallies.old) (λ _. tallies.new ≡ tallies.old) }
+        ensures made { Allocates N.parts p n arena place.old place.new result }
+    {
+        check_start(place, p)?;
+        let mut desk = desk!(rt, self, gate, tallies);
+        place.alloc(alloc, &mut desk, n, arena)
+    }
+
+    /// Cuts a data block after its first `k` bytes, a multiple of 16: the head, which keeps its record, and
+    /// the tail, of the same arena.
+    ///
+    /// NoProcess, Ended, NotOwned, NotData, BadCut where `k` is 0, no multiple of 16 or not less than the
+    /// block has, NoRecord, OutOfMemory where a growth was refused.
+    pub fn split<R: Wait, G: Gate>(
+        &self,
+        rt: &R,
+        alloc: Global,
+        place: &mut Place,
+        p: u16,
+        r: u16,
+        k: u32,
+        gate: &G,
+    ) -> Result<(Block, Block), Refused>
+        requires { IsPlaceOf N.parts.records place.old.place }
+        ensures same { IsSamePlace place.old place.new }
+        ensures cut { Splits p r k place.old place.new result }
+    {
+        check_start(place, p)?;
+        let mut desk = desk!(rt, self, gate, &mut []);
+        place.split(alloc, &mut desk, r, k)
+    }
+
+    /// The bytes of a data block from `at` on, as many as `out` has.
+    ///
+    /// NoProcess, Ended, NotOwned, NotData, BadRange where they reach past its end; `out` stays as it was
+    /// then.
+    pub fn read(
+        &self,
+        place: &mut Place,
+        p: u16,
+        r: u16,
+        at: u32,
+        out: &mut [u8],
+    ) -> Result<(), Refused>
+        requires { IsPlaceOf N.parts.records place.old.place }
+        ensures same { Stays place.old place.new }
+        ensures read { Reads p r at place.old.place out.new result }
+        ensures refused { OnErr result (out.new ≡ out.old) }
+    {
+        check_start(place, p)?;
+        place.read(&self.records, r, at, out)
+    }
+
+    /// These bytes stand in a data block in the place of as many from `at` on.
+    ///
+    /// NoProcess, Ended, NotOwned, NotData, BadRange where they reach past its end.
+    pub fn write(
+        &self,
+        place: &mut Place,
+        p: u16,
+        r: u16,
+        at: u32,
+        bytes: &[u8],
+    ) -> Result<(), Refused>
+        requires { IsPlaceOf N.parts.records place.old.place }
+        ensures same { IsSamePlace place.old place.new }
+        ensures written { Writes p r at bytes.now place.old.place place.new.place result }
+    {
+        check_start(place, p)?;
+        place.write(&self.records, r, at, bytes)
+    }
+
+    /// A data block's bytes go back, and its record is free. It answers the bytes.
+    ///
+    /// NoProcess, Ended, NotOwned, NotData.
+    pub fn free<R: Wait, G: Gate>(
+        &self,
+        rt: &R,
+        place: &mut Place,
+        p: u16,
+        r: u16,
+        tallies: &mut [Tally],
+        gate: &G,
+    ) -> Result<u32, Refused>
+        requires { IsServed N.parts place.old.place tallies.old }
+        ensures same { IsSamePlace place.old place.new × (ids_of tallies.new ≡ ids_of tallies.old) }
+        ensures tallies { MatchResult result (λ n. tallies.new ≡ gave (r / MAX_RECORDS) n tallies.old) (λ _. tallies.new ≡ tallies.old) }
+        ensures freed { Frees p r place.old.place place.new.place result }
+    {
+        check_start(place, p)?;
+        let mut desk = desk!(rt, self, gate, tallies);
+        place.free(&mut desk, r)
+    }
+}

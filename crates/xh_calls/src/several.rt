@@ -1,0 +1,139 @@
+//! A take at any of several endpoints of a process.
+ghost use Rattle.std.specs.Prelude.{◌≡◌, ◌<◌, ◌-◌, ◌^◌, IfOk, length};
+ghost use Rattle.xh_core.specs.declared.refused.Refused.TheVariants as refused;
+ghost use Rattle.xh_core.specs.Refusing.{Tested};
+ghost use Rattle.xh_place.specs.Places.{IsPlaceOf};
+ghost use Rattle.xh_place.specs.Seen.{IsSamePlace, PlaceSeen, SeesMore, Stays};
+ghost use Rattle.xh_calls.specs.inner.Looking.{AreEndsOf, AreReady, first_of};
+ghost use Rattle.xh_calls.specs.Several.{TakesAny, TakesFirst, each_end, several_tests};
+
+use crate::heap::Heap;
+use crate::names::Names;
+use crate::starting::check_start;
+use std::sync::Wait;
+use xh_core::{Kind, Refused, is_twice};
+use xh_place::{Body, Gate, Place, Taken};
+use xh_records::Records;
+
+/// A process takes at so many endpoints at once, at most.
+pub const MAX_ENDS: usize = 64;
+
+/// What the take of one of several endpoints answered, and the endpoint's index: a message, or that its peer is closed.
+#[derive(Drop, Debug)]
+pub struct Answered {
+    pub at: usize,
+    pub answer: Result<Taken, Refused>,
+}
+
+// What those behind an endpoint without a message answered is the answer, unless the endpoint's peer is closed and they have none.
+fn first_of(why: Refused, later: Result<Answered, Refused>) -> Result<Answered, Refused>
+    requires { IfOk later (λ a. a.at < 2 ^ 64 - 1) }
+    ensures { result ≡ first_of why later }
+{
+    let is_closed = !matches!(why, Refused::Empty);
+    match later {
+        Ok(Answered { at, answer }) if answer.is_ok() || !is_closed => Ok(Answered {
+            at: at + 1,
+            answer,
+        }),
+        _ if is_closed => Ok(Answered {
+            at: 0,
+            answer: Err(why),
+        }),
+        later => later,
+    }
+}
+
+// Each is an endpoint of the process.
+#[tactic(auto, using(crate::proofs::Same::stays_again, crate::proofs::Same::stays_itself))]
+fn test_each(records: &Records<Body>, place: &mut Place, ends: &[u16]) -> Result<(), Refused>
+    requires { IsPlaceOf records.now place.old.place }
+    ensures same { Stays place.old place.new }
+    ensures tested { Tested (each_end place.old.place ends.now) result (λ _. AreEndsOf place.old.place ends.now) }
+{
+    let Some((e, rest)) = ends.split_first() else {
+        return Ok(());
+    };
+    let Some(header) = place.header(records, *e) else {
+        return Err(Refused::NotOwned);
+    };
+    if header.kind == Kind::Data {
+        return Err(Refused::NotEndpoint);
+    }
+    test_each(records, place, rest)
+}
+
+// The tests of a take at several endpoints.
+#[tactic(auto, using(crate::proofs::Same::stays_itself, xh_core::proofs::Firsts::first_append, xh_core::proofs::Firsts::first_later))]
+fn test_several(
+    records: &Records<Body>,
+    place: &mut Place,
+    p: u16,
+    ends: &[u16],
+) -> Result<(), Refused>
+    requires { IsPlaceOf records.now place.old.place }
+    ensures same { Stays place.old place.new }
+    ensures tested { Tested (several_tests p place.old.place ends.now) result (λ _. AreReady p place.old.place ends.now) }
+{
+    check_start(place, p)?;
+    if ends.len() > MAX_ENDS {
+        return Err(Refused::TooMany);
+    }
+    test_each(records, place, ends)?;
+    if is_twice(ends) {
+        return Err(Refused::Twice);
+    }
+    Ok(())
+}
+
+impl<N: Names> Heap<N> {
+    // Takes at each of the endpoints, until one has a message.
+    #[tactic(auto, using(crate::proofs::Same::same_itself, crate::proofs::Same::same_again, crate::proofs::Looks::first_takes))]
+    fn take_first<R: Wait, G: Gate>(
+        &self,
+        rt: &R,
+        place: &mut Place,
+        p: u16,
+        ends: &[u16],
+        gate: &G,
+    ) -> Result<Answered, Refused>
+        requires own { IsPlaceOf N.parts.records place.old.place }
+        requires ready { AreReady p place.old.place ends.now }
+        ensures same { IsSamePlace place.old place.new }
+        ensures at { IfOk result (λ a. a.at < length ends.now) }
+        ensures taken { TakesFirst p ends.now place.old place.new result }
+    {
+        let Some((e, rest)) = ends.split_first() else {
+            return Err(Refused::Empty);
+        };
+        match self.take(rt, place, p, *e, gate) {
+            Ok(taken) => Ok(Answered {
+                at: 0,
+                answer: Ok(taken),
+            }),
+            Err(why) => first_of(why, self.take_first(rt, place, p, rest, gate)),
+        }
+    }
+
+    /// Looks at the endpoints in the order given, takes at the first that has a message, and answers its
+    /// index and what `take` answers of it. Where none has one, PeerClosed with the index of the first whose
+    /// peer is closed, if there is any, and else Empty.
+    ///
+    /// NoProcess, Ended, TooMany of more than 64 endpoints, NotOwned and NotEndpoint of the first that is,
+    /// Twice, Empty.
+    pub fn take_any<R: Wait, G: Gate>(
+        &self,
+        rt: &R,
+        place: &mut Place,
+        p: u16,
+        ends: &[u16],
+        gate: &G,
+    ) -> Result<Answered, Refused>
+        requires { IsPlaceOf N.parts.records place.old.place }
+        ensures same { IsSamePlace place.old place.new }
+        ensures taken { (from : PlaceSeen) × Stays place.old from × SeesMore from place.new × TakesAny p ends.now from place.new result }
+    {
+        test_several(&self.records, place, p, ends)?;
+        self.take_first(rt, place, p, ends, gate)
+    }
+}

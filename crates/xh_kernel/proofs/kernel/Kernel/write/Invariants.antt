@@ -1,0 +1,5 @@
+use Rattle.xh_kernel.specs.declared.call.Call.TheVariants.{Write}
+use Rattle.xh_kernel.proofs.kernel.Kernel.write.Given as goal
+
+abbrev pub ghost-note : goal.ghost-note
+ghost-note g a = let s = a.about.now in Write s.0 s.1 s.2 s.3.now s.4.now

@@ -1,0 +1,18 @@
+use Rattle.std.proofs.Common.{rules}
+use Rattle.xh_kernel.proofs.parts.make_parts.Goals as goal
+
+pub invariant_of-result : goal.invariant_of-result
+invariant_of-result c =
+    let unseen = c.in_ok-histories.ensures.fronts in record {
+      vaults = search rules;
+      open_vaults = search rules;
+      arenas = search rules;
+      size = search rules;
+      places = search rules;
+      seats = (search rules, λ k x e. let h = c.in-Ok.ensures.seats.1 k x e in (h.0, h.1, h.2));
+      pens_are = (search rules, c.in_ok-glances.ensures.pens.1);
+      bundles = search rules;
+      looks_are = search rules;
+      unwritten_are = (search rules, c.in_ok-histories.ensures.pens.1);
+      fronts_are = (search rules, λ k d below. unseen.1 k d (let few = unseen.0 in search rules));
+    }

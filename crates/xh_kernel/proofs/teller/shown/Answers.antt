@@ -1,8 +1,0 @@
-use Rattle.std.proofs.Common.{rules, ◌≤◌}
-use Rattle.xh_place.specs.Places.{total_of}
-use Rattle.xh_kernel.proofs.teller.shown.Goals as goal
-
-pub returns-clause-bounds : goal.returns-clause-bounds
-returns-clause-bounds c =
-    let sum : total_of c.args.place.now.place.blocks ≤ 2147483648 = c.total.ensures.blocks.sum in
-    (search rules, search rules)
