@@ -6,3 +6,5 @@ pub mod Flying
 pub mod Owning
 pub mod Closed
 pub mod LedgerLines
+pub mod Sums
+pub mod Stepping

@@ -1,2 +1,3 @@
 pub mod Ledgers
+pub mod Sums
 pub mod inner

@@ -4,6 +4,8 @@
 mod auditing;
 mod closing;
 mod collecting;
+mod laws;
 mod lines;
 
 pub use closing::{close_books, close_kernel};
+pub use laws::{accounts_are_sums, calls_are_steps, ledgers_are_sums};

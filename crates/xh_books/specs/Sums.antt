@@ -1,0 +1,93 @@
+-- What the calls of a worker took of the arenas and gave back, in its account and over the histories of the places.
+use Rattle.std.specs.Prelude.{◌≡◌, ◌==◌, ◌⊎◌, ℕ, zero, suc, ◌*◌, ◌/◌, ◌<◌, nat_lt, cond, List, length, slice_index_or, slice_set, Ok, MatchResult, All}
+use Rattle.std.specs.List.{sum_by}
+use Rattle.xh_calls.specs.Parts.{PartsOf}
+use Rattle.xh_history.specs.Histories.{HasSeen, History, at, calls_of}
+use Rattle.xh_kernel.specs.declared.call.Call.{Call}
+use Rattle.xh_kernel.specs.declared.call.Call.TheVariants as call
+use Rattle.xh_kernel.specs.Accounts.{AccountOf, HasBack, HasGiven, HasTaken, IsUnmoved, fresh}
+use Rattle.xh_kernel.specs.Histories.{Made}
+use Rattle.xh_kernel.specs.Wires.{TakesEnds}
+use Rattle.xh_model.specs.declared.limits.TheConstants.{END_BYTES, MAX_RECORDS, PLACES}
+
+-- ---- a call
+
+-- the bytes that it took of the arena
+abbrev pub taken_in : ℕ → Call → ℕ
+taken_in arena (call.Alloc p n a (Ok b)) = cond (a == arena) b.len 0
+taken_in arena (call.Open p a contract (Ok ends)) = cond (a == arena) (2 * END_BYTES) 0
+taken_in arena (call.OpenToward p a contract (Ok wired)) = cond (a == arena) (2 * END_BYTES) 0
+taken_in arena _ = 0
+
+-- the bytes that it gave back, where there are so many arenas: a record of another is nobody's
+abbrev pub back_in : ℕ → Call → ℕ
+back_in arenas (call.Free p r (Ok n)) = cond (nat_lt (r / MAX_RECORDS) arenas) n 0
+back_in arenas (call.Receive q r channel bytes result) = bytes
+back_in arenas (call.CloseAgain p r channel bytes) = bytes
+back_in arenas (call.Close p e bytes result) = bytes
+back_in arenas (call.Stop p budget bytes result) = bytes
+back_in arenas _ = 0
+
+-- what a call's contract says of the tallies
+abbrev pub Moves : Call → AccountOf → AccountOf → Type 0
+Moves (call.Alloc p n a result) old new = MatchResult result (λ b. HasTaken a b.len old new) (λ _. IsUnmoved old new)
+Moves (call.Free p r result) old new = MatchResult result (λ n. HasGiven (r / MAX_RECORDS) n old new) (λ _. IsUnmoved old new)
+Moves (call.Open p a contract result) old new = TakesEnds a old new result
+Moves (call.OpenToward p a contract result) old new = TakesEnds a old new result
+Moves (call.Receive q r channel bytes result) old new = HasBack bytes old new
+Moves (call.CloseAgain p r channel bytes) old new = HasBack bytes old new
+Moves (call.Close p e bytes result) old new = HasBack bytes old new
+Moves (call.Stop p budget bytes result) old new = HasBack bytes old new
+Moves _ old new = IsUnmoved old new
+
+-- ---- a worker
+
+-- it made a call on a place
+abbrev pub MakesOne : PartsOf → AccountOf → AccountOf → Type 0
+MakesOne parts old new = (p : ℕ) × (e : Call) × (p < PLACES) × Made parts p e old.number old.fronts new.fronts × Moves e old new
+
+-- it saw what others had called on a place, as `Account::compare` shows
+abbrev pub SeesOthers : AccountOf → AccountOf → Type 0
+SeesOthers old new = (p : ℕ) × (h : History Call) × HasSeen old.number (at old.fronts p) h × IsUnmoved old new × (new.fronts ≡ slice_set old.fronts p h)
+
+-- it did n of these steps, one after another
+abbrev pub Steps : PartsOf → ℕ → AccountOf → AccountOf → Type 0
+Steps parts zero old new = new ≡ old
+Steps parts (suc n) old new = (mid : AccountOf) × Steps parts n old mid × (MakesOne parts mid new ⊎ SeesOthers mid new)
+
+abbrev pub Reaches : PartsOf → AccountOf → AccountOf → Type 0
+Reaches parts old new = (n : ℕ) × Steps parts n old new
+
+-- what the contract of a call says is that it was some steps
+abbrev pub AreSteps : PartsOf → (AccountOf → AccountOf → Type 0) → Type 0
+AreSteps parts Contract = (old new : AccountOf) → Contract old new → Reaches parts old new
+
+-- these are the histories of the places, in their order, and each call that the worker made stands there
+abbrev pub AreSeen : AccountOf → List (History Call) → Type 0
+AreSeen a hs = (length hs ≡ PLACES) × ((p : ℕ) → p < PLACES → HasSeen a.number (at a.fronts p) (at hs p))
+
+-- the worker k of a kernel of these parts began with a fresh account, and its steps led to this one and these histories
+abbrev pub Worked : PartsOf → List (History Call) → ℕ → AccountOf → Type 0
+Worked parts hs k a = Reaches parts (fresh parts.records.shape.names k) a × AreSeen a hs
+
+-- these are the accounts of the workers 0, 1, .., in order, and each call of the histories is of one of them
+abbrev pub AllWorked : PartsOf → List (History Call) → List AccountOf → Type 0
+AllWorked parts hs all = ((k : ℕ) (d : AccountOf) → k < length all → Worked parts hs k (slice_index_or all k d)) × All (λ h. All (λ c. c.0 < length all) h) hs
+
+-- ---- the sums
+
+-- how many arenas the kernel has
+abbrev pub arena_count : PartsOf → ℕ
+arena_count parts = length parts.records.shape.names
+
+-- it is so of each arena of the kernel
+abbrev pub EachArena : PartsOf → (ℕ → Type 0) → Type 0
+EachArena parts P = (arena : ℕ) → arena < arena_count parts → P arena
+
+-- of what the calls of a worker moved
+abbrev pub sum_of : (Call → ℕ) → ℕ → List (History Call) → ℕ
+sum_of moved k = sum_by (λ h. sum_by moved (calls_of k h))
+
+-- of what all calls moved
+abbrev pub sum_of_all : (Call → ℕ) → List (History Call) → ℕ
+sum_of_all moved = sum_by (λ h. sum_by (λ c. moved c.1) h)
