@@ -1,7 +1,7 @@
 -- What a cut and a giving back make of an arena that is kept.
-use Rattle.std.proofs.Common.{◌≡◌, ℕ, ◌+◌, ◌-◌, ◌<◌, ◌≤◌, ◌%◌, List, ◌++◌, length, get_or, set, Bool, true, false}
+use Rattle.std.proofs.Common.{◌≡◌, ℕ, ◌+◌, ◌-◌, ◌<◌, ◌≤◌, ◌%◌, List, ◌++◌, length, get_or, set, true, false}
 use Rattle.std.proofs.Common.{cond, refl, sym, ap, ◌∙◌, subst, Option, Some, None, arith, inl, inr}
-use Rattle.std.specs.Prelude.{is_none, is_some, ◌||◌, ◌≢◌, All, not}
+use Rattle.std.specs.Prelude.{is_none, is_some, ◌≢◌, All, not}
 use Rattle.std.proofs.lemmas.Bool.{cases_eq, cases_Bool, false≢true}
 use Rattle.std.proofs.lemmas.Bool.Decides.{nat_tests}
 use Rattle.std.proofs.lemmas.List.{length-set}
@@ -18,9 +18,6 @@ use Rattle.xh_arena.proofs.Kept.{aligned-parts, empty_has, join_run-aligned, pla
 
 abbrev pub cut_extents : List (ℕ × ℕ) → ℕ → ℕ → ℕ → ℕ → ℕ → List (ℕ × ℕ)
 cut_extents extents r t s m k = set (set extents r (s, k)) t (s + k, m - k)
-
-head_same : (s m k i : ℕ) → k < m → within (s + k, m - k) i ≡ false → within (s, k) i ≡ within (s, m) i
-head_same s m k i l w = grind (arith, nat_tests)
 
 same_count : (f g : ℕ → Option ℕ) (size : ℕ) → ((i : ℕ) → is_some (g i) ≡ is_some (f i)) → bytes_out (table f 0 size) ≡ bytes_out (table g 0 size)
 same_count f g size h =
@@ -63,14 +60,12 @@ module _ (size : ℕ) (extents holes : List (ℕ × ℕ)) (out r t s m k : ℕ) 
   owner_head i w =
       same_owner extents (set extents r (s, k)) i kept.disjoint disjoint_head (λ q.
       elim (cases_eq q r) [
-        | inl e ↦ rw e (has_byte-set_same extents r (s, k) i known ∙ (head_same s m k i fits w ∙ sym (has i)))
+        | inl e ↦ rw e (has_byte-set_same extents r (s, k) i known ∙ ((grind (arith, nat_tests)) ∙ sym (has i)))
         | inr ne ↦ has_byte-set_other extents r (s, k) q i ne
       ])
 
   cut-owner : (i : ℕ) → owner_of (cut_extents extents r t s m k) i ≡ cond (within (s + k, m - k) i) (Some t) (owner_of extents i)
-  cut-owner i =
-      owner-set (set extents r (s, k)) t (s + k, m - k) i disjoint_head cut-disjoint tail_there (has_byte-set_other extents r (s, k) t i other ∙ empty_has extents t i empty)
-      ∙ elim (cases_Bool (within (s + k, m - k) i)) [ inl y ↦ rw y refl | inr x ↦ rw (x, owner_head i x) refl ]
+  cut-owner i = grind (arith, nat_tests, owner-set, disjoint_head, cut-disjoint, tail_there, has_byte-set_other, empty_has, owner_head)
 
   pub cutting-cover : cover_of size (cut_extents extents r t s m k) ≡ cut_past r t k (cover_of size extents)
   cutting-cover =
@@ -122,9 +117,7 @@ module _ (size : ℕ) (extents a b : List (ℕ × ℕ)) (out r s m : ℕ) (kept 
   back-owner i = owner-cleared extents r i kept.disjoint back-disjoint known
 
   pub returning-cover : cover_of size (set extents r (0, 0)) ≡ given_back r (cover_of size extents)
-  returning-cover =
-      same_table (owner_of (set extents r (0, 0))) (λ i. cond (is_of r (owner_of extents i)) None (owner_of extents i)) 0 size (λ i g h. back-owner i)
-      ∙ sym (given_back-table r (owner_of extents) 0 size)
+  returning-cover = grind (arith, nat_tests, same_table, back-owner, given_back-table)
 
   test : (i : ℕ) → is_of r (owner_of extents i) ≡ within (s, m) i
   test i = owner_of_test extents r i kept.disjoint ∙ ap (λ e. within e i) extent
@@ -147,14 +140,7 @@ module _ (size : ℕ) (extents a b : List (ℕ × ℕ)) (out r s m : ℕ) (kept 
       kept.free i (omega arith) ∙ ap not (is_some_from_test r (owner_of extents i) (test i ∙ within-in s m i g h))
 
   back-free : (i : ℕ) → i < size → in_hole (a ++ join_run s m b) i ≡ is_none (owner_of (set extents r (0, 0)) i)
-  back-free i l =
-      let left : in_hole (a ++ join_run s m b) i ≡ (within (s, m) i || in_hole (a ++ b) i) =
-      in_hole-append a (join_run s m b) i ∙ (ap (λ v. in_hole a i || v) (join_run-in_hole s m b i)
-      ∙ (or_swap (in_hole a i) (within (s, m) i) (in_hole b i) ∙ ap (λ v. within (s, m) i || v) (sym (in_hole-append a b i)))) in
-      left ∙ elim (cases_Bool (within (s, m) i)) [
-        | inl y ↦ rw (y, back-owner i, test i, y) refl
-        | inr x ↦ rw (x, back-owner i, test i, x) (kept.free i l)
-      ]
+  back-free i l = grind (arith, nat_tests, in_hole-append, join_run-in_hole, or_swap, back-owner, test)
 
   pub returning-kept : IsKept size (set extents r (0, 0)) (a ++ join_run s m b) (out - m)
   returning-kept =

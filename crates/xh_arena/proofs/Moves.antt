@@ -1,5 +1,5 @@
 -- Each step of a vault's seat keeps the rule.
-use Rattle.std.proofs.Common.{◌≡◌, ℕ, ◌+◌, ◌≤◌, List, [], ◌∷◌, ◌++◌, length, set, refl, sym, ap, ◌∙◌, subst, arith, replicate, length-set}
+use Rattle.std.proofs.Common.{◌≡◌, ℕ, ◌+◌, List, [], ◌∷◌, ◌++◌, length, set, refl, sym, ap, ◌∙◌, subst, arith, replicate, length-set}
 use Rattle.std.specs.Prelude.{slice_set, slice_index}
 use mathlib.Core.Option.{some, none}
 use lib.ListN.{get_elem?}

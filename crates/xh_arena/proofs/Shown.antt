@@ -1,10 +1,11 @@
 -- What a look shows of a vault's books, and that each change keeps them.
+use Rattle.std.proofs.lemmas.Bool.Decides.{nat_tests}
 use Rattle.std.proofs.Common.{◌≡◌, ℕ, zero, suc, ◌+◌, ◌-◌, ◌≤◌, ◌<◌, List, [], ◌∷◌, length, map, set, Some, refl, sym, ap, ◌∙◌, subst, arith}
 use Rattle.std.specs.Prelude.{slice_get, slice_set}
 use Rattle.xh_arena.specs.declared.parts.Part.{Part}
 use Rattle.xh_arena.specs.declared.parts.Part.TheVariants.{Books, Length, Moved}
-use Rattle.xh_arena.specs.inner.Parts.{weigh, tallies_from, whole, AreOfOneWhole, part_in, below, under, with_length, with_taken, with_back}
-use Rattle.xh_model.specs.Arena.{ArenaState, IsGoodCut, lengths_of}
+use Rattle.xh_arena.specs.inner.Parts.{weigh, whole, AreOfOneWhole, part_in, below, under, with_length, with_taken, with_back}
+use Rattle.xh_model.specs.Arena.{IsGoodCut, lengths_of}
 use Rattle.xh_model.proofs.Lengths.{length_is}
 use Rattle.xh_arena.specs.Sharing.{IsLotOf}
 use Rattle.xh_arena.specs.Views.{LotOf, VaultOf, Move, AreSummed}
@@ -62,13 +63,7 @@ back_none (Moved j x y) e = absurd (omega arith)
 module _ (h : Part → ℕ) (g : ℕ × ℕ → ℕ) (m : Move → ℕ) (zl : (r n : ℕ) → h (Length r n) ≡ 0) (zb : (ls : List ℕ) (t b k : ℕ) → h (Books ls t b k) ≡ 0)
     (eg : (j : ℕ) (u : ℕ × ℕ) → h (Moved j u.0 u.1) ≡ g u) (em : (x : Move) → h (moved x) ≡ m x) where
   whole_weighs : (ls : List ℕ) (ts : List (ℕ × ℕ)) → weigh h (whole ls ts) ≡ weigh g ts
-  whole_weighs ls ts = omega (
-    arith,
-    weigh-whole h ls ts,
-    listed-none (λ i n. Length i n) h 0 ls (λ k j n _ _. zl j n),
-    weigh-listed (λ i t. Moved i t.0 t.1) h g eg 0 ts,
-    zb ls (weigh (λ (u : ℕ × ℕ). u.0) ts) (weigh (λ (u : ℕ × ℕ). u.1) ts) (length ts),
-  )
+  whole_weighs ls ts = grind (arith, nat_tests, weigh-whole, listed-none, weigh-listed)
 
   vault_weighs : (ls : List ℕ) (t b k : ℕ) (ms : List Move) → weigh h (vault_parts ls t b k ms) ≡ weigh m ms
   vault_weighs ls t b k ms = omega (arith, zb ls t b k, moves_weigh h m em ms)
@@ -158,9 +153,7 @@ moves_moved (m ∷ ms) = λ i. m ∷ moves_moved ms i
 -- books that are known whole are balanced
 pub settled : (a : Booked) (parts : List Part) (b k : ℕ) (ms : List Move) → parts ≡ vault_parts a.lengths a.wear b k ms → a.wear ≡ b + weigh (λ (n : ℕ). n) a.lengths
     → AreSummed a.wear b k ms → Balanced a parts
-settled a parts b k ms e w s =
-    subst (λ (ps : List Part). Balanced a ps) (sym e)
-    (ap (λ l. vault_parts a.lengths a.wear b k l) (sym (moves_moved ms)), w, subst (λ (l : List Move). AreSummed a.wear b k l) (sym (moves_moved ms)) s)
+settled a parts b k ms e w s = grind (arith, nat_tests, moves_moved)
 
 -- what a carving of n bytes for the lot i, by a tally with x taken and y back, shows of the books a, and that the parts after it keep them
 pub record CarveShown (a : Booked) (now : List Part) (i n x y : ℕ) : Type 0 where
@@ -182,9 +175,7 @@ carve_shown a p p1 now vs ts i m n j x y b v t z f1 e1 f e2 =
     let total = weigh-set (λ (u : ℕ). u) a.lengths i 0 n at in
     record {
       tally = (tally_shown j x y (slice_set a.lengths i n) a.wear bk wk (map moved ms) tally).0;
-      kept = λ a' l w.
-          let sums : weigh (λ (u : ℕ). u) a'.lengths ≡ weigh (λ (u : ℕ). u) (slice_set a.lengths i n) = ap (λ l. weigh (λ (u : ℕ). u) l) l in
-          settled a' now bk wk ms (q2 ∙ (λ k. vault_parts (sym l k) (sym w k) bk wk ms)) (omega (arith, b.1)) (not_all a'.wear bk wk ms left);
+      kept = grind (arith, nat_tests, settled, not_all);
     }
 
 -- what a giving back of the n bytes of the lot i, by a tally with x taken and y back, shows of the books a, and that the parts after it keep them
@@ -209,9 +200,7 @@ back_shown a p p1 now vs ts i n j x y b v t f1 e1 f2 e2 =
     record {
       lot = at;
       tally = (tally_shown j x y (slice_set a.lengths i 0) a.wear bk wk (map moved ms) tally).1;
-      kept = λ a' l w.
-          let sums : weigh (λ (u : ℕ). u) a'.lengths ≡ weigh (λ (u : ℕ). u) (slice_set a.lengths i 0) = ap (λ l. weigh (λ (u : ℕ). u) l) l in
-          settled a' now (bk + n) wk ms (q2 ∙ (λ k. vault_parts (sym l k) (sym w k) (bk + n) wk ms)) (omega (arith, b.1)) (not_all a'.wear (bk + n) wk ms left);
+      kept = grind (arith, nat_tests, settled, not_all);
     }
 
 get_set_other : {X : Type 0} (xs : List X) (i j : ℕ) (y : X) → (j ≡ i → ⊥) → slice_get (set xs i y) j ≡ slice_get xs j
@@ -228,9 +217,7 @@ get_set_same (z ∷ xs) (suc i) x y e = get_set_same xs i x y e
 
 -- a record whose length is 0 after that of another was set to some bytes is another record
 apart : (ls : List ℕ) (i j m k : ℕ) → slice_get ls i ≡ Some m → slice_get (set ls i k) j ≡ Some 0 → 0 < k → j ≡ i → ⊥
-apart ls i j m k a b h e =
-    let c : Some k ≡ Some 0 = sym (get_set_same ls i m k a) ∙ ap (λ r. slice_get (set ls i k) r) (sym e) ∙ b in
-    let z : k ≡ 0 = cc in absurd (omega arith)
+apart ls i j m k a b h e = grind (arith, nat_tests, get_set_same)
 
 -- what a cut of the m bytes of the lot i after k bytes, for the empty lot j, shows of the books a, and that the parts after it keep them
 pub record CutShown (a : Booked) (now : List Part) (i m j k : ℕ) : Type 0 where
@@ -239,7 +226,8 @@ pub record CutShown (a : Booked) (now : List Part) (i m j k : ℕ) : Type 0 wher
   pub other : j ≡ i → ⊥
   pub kept : (a' : Booked) → a'.lengths ≡ slice_set (slice_set a.lengths i k) j (m - k) → a'.wear ≡ a.wear → Balanced a' now
 
-pub cut_shown : (a : Booked) (p p1 now : List Part) (vs ts : List (List Part)) (i m j n k : ℕ) {seen : ℕ} → Balanced a p → vs ≡ (Length i m ∷ []) ∷ [] → ts ≡ (Length j n ∷ []) ∷ [] → n ≡ 0 → m ≡ seen → IsGoodCut k seen
+pub cut_shown : (a : Booked) (p p1 now : List Part) (vs ts : List (List Part)) (i m j n k : ℕ) {seen : ℕ} → Balanced a p → vs ≡ (Length i m ∷ []) ∷ []
+    → ts ≡ (Length j n ∷ []) ∷ [] → n ≡ 0 → m ≡ seen → IsGoodCut k seen
     → AreOfOneWhole (part_in vs ∷ p) → p1 ≡ below (with_length k (part_in vs ∷ p)) → AreOfOneWhole (part_in ts ∷ p1) → now ≡ below (with_length (m - k) (part_in ts ∷ p1)) → CutShown a now i m j k
 cut_shown a p p1 now vs ts i m j n k b v t z len good f1 e1 f2 e2 =
     let some : 0 < k = good.0 in
@@ -255,16 +243,10 @@ cut_shown a p p1 now vs ts i m j n k b v t z len good f1 e1 f2 e2 =
     let other : j ≡ i → ⊥ = apart a.lengths i j m k at there some in
     let total = weigh-set (λ (u : ℕ). u) a.lengths i m k at in
     let total' = weigh-set (λ (u : ℕ). u) (slice_set a.lengths i k) j 0 (m - k) there in
-    record {
-      head = at;
-      tail = sym (get_set_other a.lengths i j k other) ∙ there;
-      other = other;
-      kept = λ a' l w.
-          let sums : weigh (λ (u : ℕ). u) a'.lengths ≡ weigh (λ (u : ℕ). u) (slice_set (slice_set a.lengths i k) j (m - k)) = ap (λ l. weigh (λ (u : ℕ). u) l) l in
-          settled a' now bk wk ms (q2 ∙ (λ q. vault_parts (sym l q) (sym w q) bk wk ms)) (omega (arith, b.1)) (subst (λ (wear : ℕ). AreSummed wear bk wk ms) (sym w) b.2);
-    }
+    grind (arith, nat_tests, get_set_other, settled)
 
-pub collect_kept : (a : Booked) (p p1 : List Part) (ts : List (List Part)) (j x y : ℕ) → Balanced a p → ts ≡ (Moved j x y ∷ []) ∷ [] → p1 ≡ under p (part_in ts ∷ []) → AreOfOneWhole p1 → Balanced a p1
+pub collect_kept : (a : Booked) (p p1 : List Part) (ts : List (List Part)) (j x y : ℕ) → Balanced a p → ts ≡ (Moved j x y ∷ []) ∷ [] → p1 ≡ under p (part_in ts ∷ [])
+    → AreOfOneWhole p1 → Balanced a p1
 collect_kept a p p1 ts j x y b t e f =
     let ms : List Move = record { number = j; taken = x; back = y } ∷ moves_of p in
     let now : p1 ≡ vault_parts a.lengths a.wear (back_of p) (workers_of p) ms = e ∙ (λ q. under (b.0 q) (part_in (t q) ∷ [])) in

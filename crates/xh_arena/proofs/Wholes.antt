@@ -1,5 +1,5 @@
 -- A part that stands in a whole is the whole's, and a changed part makes another whole.
-use Rattle.std.proofs.Common.{◌≡◌, ℕ, zero, suc, ◌+◌, ◌≤◌, Bool, true, false, ◌&&◌, cond, eqb, List, [], ◌∷◌, ◌++◌, length, set, Option, Some, None, refl, sym, ap, ◌∙◌, subst, arith}
+use Rattle.std.proofs.Common.{◌≡◌, ℕ, zero, suc, ◌+◌, ◌≤◌, Bool, true, false, ◌&&◌, cond, eqb, List, [], ◌∷◌, ◌++◌, length, set, Option, Some, None, refl, ap, arith}
 use Rattle.std.specs.Prelude.{slice_get}
 use lib.Pointwise.{pointwise}
 use Rattle.std.proofs.lemmas.Slice.Eq.{slice_eq-Decides}
@@ -59,7 +59,8 @@ whole_own ls ts =
     let at : j ≡ k = omega arith in rw (at, e, same x) refl) in
     let tallies = listed-none (λ i t. Moved i t.0 t.1) (foreign ls ts) 0 ts (λ k j u q e.
     let at : j ≡ k = omega arith in rw (at, e, same u.0, same u.1) refl) in
-    let own : foreign ls ts (books ls ts) ≡ 0 = rw ((slice_eq-Decides Decides-eqb ls ls (same_lists ls ls) refl).1 refl, same (weigh (λ (u : ℕ × ℕ). u.0) ts), same (weigh (λ (u : ℕ × ℕ). u.1) ts), same (length ts)) refl in
+    let own : foreign ls ts (books ls ts) ≡ 0 =
+    rw ((slice_eq-Decides Decides-eqb ls ls (same_lists ls ls) refl).1 refl, same (weigh (λ (u : ℕ × ℕ). u.0) ts), same (weigh (λ (u : ℕ × ℕ). u.1) ts), same (length ts)) refl in
     omega (arith, weigh-whole (foreign ls ts) ls ts, lots, tallies, own)
 
 passes : (b : Bool) → ◌≡◌ {A = ℕ} (cond b 0 1) 0 → b ≡ true

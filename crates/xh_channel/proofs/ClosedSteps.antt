@@ -1,33 +1,31 @@
 -- Each step on a closed word keeps the rule.
-use Rattle.std.proofs.Common.{◌≡◌, ◌≢◌, ◌⊎◌, inl, inr, ℕ, zero, suc, ◌<◌, ◌&&◌, ◌||◌, not, Bool, true, false, true≢false, List, [], ◌∷◌, length, set}
+use Rattle.std.proofs.Common.{◌≡◌, ◌≢◌, inl, inr, ℕ, zero, suc, ◌<◌, ◌&&◌, not, Bool, true, false, true≢false, List, [], ◌∷◌, length, set}
 use Rattle.std.proofs.Common.{sym, refl, ap, ◌∙◌, subst, ⊎_elim, replicate, eqb, eq-eqb, ne_eqb, cond, arith}
-use Rattle.std.proofs.lemmas.List.{set-get_or}
+use Rattle.std.proofs.lemmas.List.{length-replicate, set-get_or}
 use Rattle.std.specs.Prelude.{slice_index}
 use mathlib.Core.Option.{some, none, some-injective, some-ne-none}
 use mathlib.Core.Logic.{dite}
 use native.Mathlib.Decide.{ℕ_discrete}
 use lib.ListN.{get_elem?}
 use Rattle.atomic_table.specs.Table.{State, Me, step, keeps, Allows, Splits, Joins, opening}
-use Rattle.atomic_table.proofs.Lists.{at_set, set_here, set_else}
+use Rattle.atomic_table.proofs.Lists.{at_index, at_set, set_here, set_else}
+use Rattle.xh_core.proofs.FreshPlain.{at_replicate}
 use Rattle.xh_model.specs.declared.limits.TheConstants.{DIRECTIONS}
 use Rattle.xh_channel.specs.declared.closed_rule.Sight.{Sight}
 use Rattle.xh_channel.specs.inner.ClosedWords.{sight, bit, peer, FitsSight, Shows, Shut, Looked, IsShown, never_shown, one_word, other_words, shut_told, hearing_shut, seen_told, hearing_seen}
-use Rattle.xh_channel.proofs.Views.{every_set, every_snoc, one_view}
-
-all_zero : (k w : ℕ) → w < k → get_elem? {A = ℕ} (replicate k 0) w ≡ some 0
-all_zero zero w h = absurd (omega arith)
-all_zero (suc k) zero h = refl
-all_zero (suc k) (suc w) h = all_zero k w (omega arith)
-
-only_zero : (k w n : ℕ) → get_elem? {A = ℕ} (replicate k 0) w ≡ some n → n ≡ 0
-only_zero zero w n e = absurd (some-ne-none n (sym e))
-only_zero (suc k) zero n e = sym (some-injective 0 n e)
-only_zero (suc k) (suc w) n e = only_zero k w n e
+use Rattle.std.proofs.lemmas.Bool.{false_from_ne_true, or_cases}
+use Rattle.xh_channel.proofs.Views.{every_set, every_two, every_snoc, one_view}
 
 found : (ws : List ℕ) (w n : ℕ) → get_elem? ws w ≡ some n → slice_index ws w ≡ n
 found [] w n e = absurd (some-ne-none n (sym e))
 found (x ∷ xs) zero n e = some-injective x n e
 found (x ∷ xs) (suc w) n e = found xs w n e
+
+all_zero : (k w : ℕ) → w < k → get_elem? {A = ℕ} (replicate k 0) w ≡ some 0
+all_zero k w h = at_index (replicate {A = ℕ} k 0) w 0 (rw (length-replicate {A = ℕ} k 0) h) (sym (at_replicate k w 0))
+
+only_zero : (k w n : ℕ) → get_elem? {A = ℕ} (replicate k 0) w ≡ some n → n ≡ 0
+only_zero k w n e = sym (found (replicate {A = ℕ} k 0) w n e) ∙ at_replicate k w 0
 
 there : (ws : List ℕ) (w n : ℕ) → get_elem? ws w ≡ some n → w < length ws
 there [] w n e = absurd (some-ne-none n (sym e))
@@ -100,10 +98,6 @@ at_one [] w e = absurd (omega arith)
 at_one (x ∷ xs) zero e = ap some e
 at_one (x ∷ xs) (suc w) e = at_one xs w e
 
-not_true : (b : Bool) → b ≢ true → b ≡ false
-not_true false n = refl
-not_true true n = absurd (n refl)
-
 -- the words stay, and the seat has a view that is true of them
 same_words : {S : Type 0} (s : State S Sight) (id i : ℕ) (v w : Sight) (h : Shows s) → get_elem? s.views id ≡ some v → FitsSight h.0 s.words id w
     → Shows {S = S} (record { words = set s.words i (slice_index s.words i); homes = s.homes; views = set s.views id w })
@@ -120,7 +114,7 @@ looks slots id me i is s h _ at _ =
     let is_one : (w : ℕ) → Type 0 = λ w. get_elem? s.words w ≡ some 1 in
     dite (ℕ_discrete (slice_index s.words i) 1)
     (λ one. (seen, keeps, tt, same_words s id i v seen h at (mine.0, λ _. subst is_one is (at_one s.words i one)), ((λ _. refl), λ ne. absurd (ne one))))
-    (λ ne. (v, keeps, tt, same_words s id i v v h at mine, ((λ e. absurd (ne e)), λ _. (refl, not_true v.peer_shut (λ p. ne (found s.words i 1 (subst is_one (sym is) (mine.1 p))))))))
+    (λ ne. (v, keeps, tt, same_words s id i v v h at mine, ((λ e. absurd (ne e)), λ _. (refl, false_from_ne_true v.peer_shut (λ p. ne (found s.words i 1 (subst is_one (sym is) (mine.1 p))))))))
 
 pub shuts_at : {S : Type 0} (slots id : ℕ) (me : Me S Sight) (i : ℕ) → me.0.from ≡ i → me.0.upto ≡ suc i
     → Allows Shows slots id me i (λ _. 1) (λ _. Shut (step slots i 1 0 none) me 1)
@@ -130,51 +124,40 @@ shuts_at slots id me i is one = subst (λ (w : ℕ). Allows Shows slots id me w 
 fits_told : (keeper : ℕ → ℕ) (words : List ℕ) (id from : ℕ) (seen : Bool) → (seen ≡ true → get_elem? words (peer from) ≡ some 1) → FitsSight keeper words id (sight from from false seen)
 fits_told keeper words id from seen at = ((λ w a b. absurd (omega arith)), at)
 
-pub tells_shut : {S : Type 0} (id : ℕ) (v : Sight) → v.upto ≡ suc v.from → Splits (Shows {S = S}) id v v (shut_told v)
-tells_shut id v one s h at =
+-- a seat tells: it stays, and the new one has a view that is true where its own is
+told : {S : Type 0} (id : ℕ) (v w : Sight) → ((keeper : ℕ → ℕ) (words : List ℕ) (n : ℕ) → FitsSight keeper words id v → FitsSight keeper words n w) → Splits (Shows {S = S}) id v v w
+told id v w so s h at =
     let mine = h.2 id v at in
+    let vs : List Sight = set s.views id v in
+    (h.0, h.1, every_snoc (FitsSight h.0 s.words) vs w (so h.0 s.words (length vs) mine) (every_set (FitsSight h.0 s.words) s.views id v mine (λ j u _ e. h.2 j u e)))
+
+pub tells_shut : {S : Type 0} (id : ℕ) (v : Sight) → v.upto ≡ suc v.from → Splits (Shows {S = S}) id v v (shut_told v)
+tells_shut id v one = told id v (shut_told v) (λ keeper words n mine.
     let own = (mine.0 v.from (omega arith) (omega arith)).1 in
     let back : v.from ≡ peer (peer v.from) = omega arith in
-    let vs : List Sight = set s.views id v in (
-      h.0,
-      h.1,
-      every_snoc (FitsSight h.0 s.words) vs (shut_told v)
-          (fits_told h.0 s.words (length vs) (peer v.from) v.shut (λ p. subst (λ (w : ℕ). get_elem? s.words w ≡ some 1) back (own ∙ ap (λ b. some (bit b)) p)))
-          (every_set (FitsSight h.0 s.words) s.views id v mine (λ j u _ e. h.2 j u e)),
-    )
-
-either : (a b : Bool) → a || b ≡ true → (a ≡ true) ⊎ (b ≡ true)
-either true b e = inl refl
-either false b e = inr e
-
-pub hears_shut : {S : Type 0} (id : ℕ) (v : Sight) (other : ℕ) (w : Sight) → w.from ≡ v.from → Joins (Shows {S = S}) id v other w (hearing_shut v w) (sight 0 0 false false)
-hears_shut id v other w same s h at two at' =
-    let both : Sight = hearing_shut v w in
-    let vs : List Sight = set s.views id both in
-    let was : get_elem? s.views other ≡ some w = ⊎_elim (λ x. absurd (two x.0)) (λ x. x.1) (at_set s.views id other both w at') in
-    let mine = h.2 id v at in
-    let theirs = h.2 other w was in
-    let seen : both.peer_shut ≡ true → get_elem? s.words (peer v.from) ≡ some 1 =
-    λ p. ⊎_elim mine.1 (λ q. subst (λ (x : ℕ). get_elem? s.words (peer x) ≡ some 1) same (theirs.1 q)) (either v.peer_shut w.peer_shut p) in (
-      h.0,
-      h.1,
-      every_set (FitsSight h.0 s.words) vs other (sight 0 0 false false) (fits_told h.0 s.words other 0 false (λ p. absurd (true≢false (sym p))))
-          (λ j u _ e. every_set (FitsSight h.0 s.words) s.views id both (mine.0, seen) (λ i y _ f. h.2 i y f) j u e),
-    )
+    fits_told keeper words n (peer v.from) v.shut (λ p. subst (λ (w : ℕ). get_elem? words w ≡ some 1) back (own ∙ ap (λ b. some (bit b)) p)))
 
 pub tells_seen : {S : Type 0} (id : ℕ) (v : Sight) → Splits (Shows {S = S}) id v v (seen_told v)
-tells_seen id v s h at =
-    let mine = h.2 id v at in
-    let vs : List Sight = set s.views id v in (
+tells_seen id v = told id v (seen_told v) (λ keeper words n mine. fits_told keeper words n v.from v.peer_shut mine.1)
+
+-- a seat hears another, which has no word from then on: its view is true where both were
+heard : {S : Type 0} (id : ℕ) (v : Sight) (other : ℕ) (w both : Sight) → ((keeper : ℕ → ℕ) (words : List ℕ) → FitsSight keeper words id v → FitsSight keeper words other w → FitsSight keeper words id both)
+    → Joins (Shows {S = S}) id v other w both (sight 0 0 false false)
+heard id v other w both so s h at two at' =
+    let was : get_elem? s.views other ≡ some w = ⊎_elim (λ x. absurd (two x.0)) (λ x. x.1) (at_set s.views id other both w at') in (
       h.0,
       h.1,
-      every_snoc (FitsSight h.0 s.words) vs (seen_told v) (fits_told h.0 s.words (length vs) v.from v.peer_shut mine.1)
-          (every_set (FitsSight h.0 s.words) s.views id v mine (λ j u _ e. h.2 j u e)),
+      every_two (FitsSight h.0 s.words) s.views id other both (sight 0 0 false false) (so h.0 s.words (h.2 id v at) (h.2 other w was))
+          (fits_told h.0 s.words other 0 false (λ p. absurd (true≢false (sym p)))) (λ j u _ _ e. h.2 j u e),
     )
 
+pub hears_shut : {S : Type 0} (id : ℕ) (v : Sight) (other : ℕ) (w : Sight) → w.from ≡ v.from → Joins (Shows {S = S}) id v other w (hearing_shut v w) (sight 0 0 false false)
+hears_shut id v other w same = heard id v other w (hearing_shut v w) (λ keeper words mine theirs.
+    (mine.0, λ p. ⊎_elim mine.1 (λ q. subst (λ (x : ℕ). get_elem? words (peer x) ≡ some 1) same (theirs.1 q)) (or_cases v.peer_shut w.peer_shut p)))
+
 -- what holds of a seat holds of it after it heard what was seen of it
-heard : (F : Sight → Type 0) (v w : Sight) → (w.peer_shut ≡ true → v.shut ≡ false → ⊥) → F v → F (hearing_seen v w)
-heard F v w never f = go w.peer_shut v.shut never where
+still : (F : Sight → Type 0) (v w : Sight) → (w.peer_shut ≡ true → v.shut ≡ false → ⊥) → F v → F (hearing_seen v w)
+still F v w never f = go w.peer_shut v.shut never where
   go : (a b : Bool) → (a ≡ true → b ≡ false → ⊥) → F (cond (a && not b) never_shown v)
   go false b apart = f
   go true true apart = f
@@ -182,19 +165,10 @@ heard F v w never f = go w.peer_shut v.shut never where
 
 pub hears_seen : {S : Type 0} (id : ℕ) (v : Sight) (other : ℕ) (w : Sight) → v.upto ≡ suc v.from → v.from ≡ peer w.from
     → Joins (Shows {S = S}) id v other w (hearing_seen v w) (sight 0 0 false false)
-hears_seen id v other w one same s h at two at' =
-    let both : Sight = hearing_seen v w in
-    let vs : List Sight = set s.views id both in
-    let was : get_elem? s.views other ≡ some w = ⊎_elim (λ x. absurd (two x.0)) (λ x. x.1) (at_set s.views id other both w at') in
-    let mine = h.2 id v at in
+hears_seen id v other w one same = heard id v other w (hearing_seen v w) (λ keeper words mine theirs.
     let own = (mine.0 v.from (omega arith) (omega arith)).1 in
-    let seen : w.peer_shut ≡ true → bit v.shut ≡ 1 = λ p. some-injective (bit v.shut) 1 (sym own ∙ subst (λ (x : ℕ). get_elem? s.words x ≡ some 1) (sym same) ((h.2 other w was).1 p)) in (
-      h.0,
-      h.1,
-      every_set (FitsSight h.0 s.words) vs other (sight 0 0 false false) (fits_told h.0 s.words other 0 false (λ p. absurd (true≢false (sym p))))
-          (λ j u _ e. every_set (FitsSight h.0 s.words) s.views id both
-          (heard (FitsSight h.0 s.words id) v w (λ p q. let a = seen p in let b = ap bit q in absurd (omega arith)) mine) (λ i y _ f. h.2 i y f) j u e),
-    )
+    let seen : w.peer_shut ≡ true → bit v.shut ≡ 1 = λ p. some-injective (bit v.shut) 1 (sym own ∙ subst (λ (x : ℕ). get_elem? words x ≡ some 1) (sym same) (theirs.1 p)) in
+    still (FitsSight keeper words id) v w (λ p q. let a = seen p in let b = ap bit q in absurd (omega arith)) mine)
 
 not_shown : (keeper : ℕ → ℕ) (words : List ℕ) (id : ℕ) → FitsSight keeper words id never_shown → ⊥
 not_shown keeper words id f = let e = some-injective 0 1 (sym (f.0 1 (omega arith) (omega arith)).1 ∙ f.1 refl) in absurd (omega (arith, e))

@@ -1,5 +1,6 @@
 -- What a put, a take and a shut of the line that a seat holds make of its account, and what contracts see of that.
-use Rattle.std.proofs.Common.{◌≡◌, inl, ℕ, zero, suc, ◌-◌, ◌<◌, ◌≤◌, Bool, true, false, true≢false, List, [], ◌∷◌, ◌++◌, length, take, sym, refl, ap, ◌∙◌, subst, append_assoc, arith}
+use Rattle.std.proofs.Common.{◌≡◌, inl, ℕ, zero, suc, ◌-◌, ◌<◌, ◌≤◌, false, true≢false, List, [], ◌∷◌, ◌++◌, length, take, sym, refl, ap, ◌∙◌, subst, append_assoc, arith}
+use Rattle.std.proofs.lemmas.Bool.{false_from_ne_true}
 use Rattle.std.proofs.lemmas.List.{length_push}
 use Rattle.std.proofs.Math.Seq.{take-append_seam}
 use Rattle.std.specs.Prelude.{Option, Some, None, unwrap_or, IsSome, Ok}
@@ -72,10 +73,6 @@ settled_so v peer own line few e grows told = let a = accounts v peer own peer.r
   a.0,
 )
 
-not_told : (a b : Bool) → (a ≡ true → b ≡ true) → b ≡ false → a ≡ false
-not_told false b h e = refl
-not_told true b h e = absurd (true≢false (sym (h refl) ∙ e))
-
 module _ (table : TableId) (v : Part) (peer : Account) (line line' : Lined) (found : Found v peer line) where
   abbrev k : ℕ
   k = v.side
@@ -112,7 +109,7 @@ module _ (table : TableId) (v : Part) (peer : Account) (line line' : Lined) (fou
         let numbered = numbers_join number 0 own.sent m e.waits.1 (is_next ∙ ap suc (omega arith)) in
         let own' : Account = record own { sent = own.sent ++ m ∷ []; state = (end_of line' k).state } in
         let closed : peer.shut ≡ false = ap (λ (c : Counts). c.shut) (sym e.counts) ∙ r.3 in
-        let unshut : v.told.shut ≡ false = not_told v.told.shut peer.shut found.told.2 closed in
+        let unshut : v.told.shut ≡ false = false_from_ne_true v.told.shut (λ p. true≢false (sym (found.told.2 p) ∙ closed)) in
         let step : allowed own.rows own.state tag k ≡ Some own'.state = (λ i. allowed (sym o.rows i) (sym o.state i) tag k) ∙ r.4.1 in
         let counts : counts_in own' ≡ one_put (counts_in own) = λ i. record { put = longer i; taken = length own.got; shut = own.shut } in
         let ends' : Ends k line' own' peer = (

@@ -1,11 +1,9 @@
 -- Each step on a line's word keeps the rule.
-use Rattle.std.proofs.Common.{◌≡◌, ◌≢◌, ◌⊎◌, inl, inr, ℕ, zero, suc, ◌-◌, ◌≤◌, max, ◌||◌, Bool, true, false, true≢false, List, [], ◌∷◌, length, set}
+use Rattle.std.proofs.Common.{◌≡◌, ◌≢◌, ◌⊎◌, inl, inr, ℕ, zero, suc, ◌-◌, ◌≤◌, max, ◌||◌, true, false, true≢false, List, [], ◌∷◌, length, set}
 use Rattle.std.proofs.Common.{sym, refl, ap, ◌∙◌, subst, ⊎_elim, replicate, eqb, eq-eqb, ne_eqb, arith}
 use Rattle.std.specs.Prelude.{slice_index, Option, Some, None}
 use mathlib.Core.Option.{some, none}
 use mathlib.Core.Option as maybe
-use mathlib.Core.Logic.{dite}
-use native.Mathlib.Decide.{ℕ_discrete}
 use lib.ListN.{get_elem?}
 use prog.Atomic.{either}
 use Rattle.atomic_table.specs.Table.{Me, step, keeps, takes, gives, put_back, carried_after, Allows, Splits, Joins, opening}
@@ -16,7 +14,8 @@ use Rattle.xh_channel.specs.declared.line_rule.Part.{Part}
 use Rattle.xh_channel.specs.Lines.{Lined, waiting}
 use Rattle.xh_channel.specs.Ends.{no_counts}
 use Rattle.xh_channel.specs.inner.LineRule.{by, IsTold, Grows, IsSettled, own_by, peer_by, settled, seen, Settled, Seen, IsTaken, Lies, LiesFor, Truth, IsHome, IsOut, Owns, Fits, Kept, no_account, counts_in, both_sides, no_part, low_side, high_side, joined, telling, hearing, holding, Locked, Compared}
-use Rattle.xh_channel.proofs.Views.{Every, every_set, every_snoc, one_view}
+use Rattle.std.proofs.lemmas.Bool.{eqb-true, or_cases}
+use Rattle.xh_channel.proofs.Views.{every_set, every_two, every_snoc, one_view}
 
 abbrev S : Type 0
 S = Option Lined
@@ -133,9 +132,6 @@ one_seat zero (suc j) low high id p q = q
 one_seat (suc k) zero low high id p q = q
 one_seat (suc k) (suc j) low high id p q = p
 
-holder_is : (n id : ℕ) → eqb n (suc id) ≡ true → n ≡ suc id
-holder_is n id e = dite (ℕ_discrete n (suc id)) (λ p. p) (λ ne. absurd (true≢false (sym e ∙ ne_eqb n (suc id) ne)))
-
 -- the line goes back, by the seat that holds it: its own account goes on, its peer's stays or is its own as well
 pub gives_back : (slots id : ℕ) (me : M) (line : Lined) (own peer : Account) (told : Counts) → me.1 ≡ (0, Some line) ∷ [] → me.0.owns ≡ true → me.0.holds ≡ true
     → LiesFor me.0.side (Some line) own peer → Grows me.0.own own → Grows me.0.peer peer → (peer ≡ me.0.peer) ⊎ (me.0.both ≡ true) → IsTold told peer
@@ -146,7 +142,7 @@ gives_back slots id me line own peer told front owns holds lies own_grows peer_g
     let t : Truth = h.0 in
     let mine = h.2 id v at in
     let o : Owns t id v = mine.0 owns in
-    let holder : t.holder ≡ suc id = holder_is t.holder id (sym o.holds ∙ holds) in
+    let holder : t.holder ≡ suc id = eqb-true t.holder (suc id) (sym o.holds ∙ holds) in
     let others : (ws : List ℕ) × (n : ℕ) × (s.words ≡ n ∷ ws) = ⊎_elim (λ (x : IsHome t s.words s.homes). (x.0, 0, x.2)) (λ (x : IsOut t s.words s.homes). (x.1, suc x.0, x.3)) h.1 in
     let slot : (x : maybe.Option S) × (s.homes ≡ x ∷ []) = ⊎_elim (λ (x : IsHome t s.words s.homes). (some x.1, x.3)) (λ (x : IsOut t s.words s.homes). (none, x.4)) h.1 in
     let low : Account = by k own peer in
@@ -183,10 +179,6 @@ gives_back slots id me line own peer told front owns holds lies own_grows peer_g
       ap (λ l. (w, carried_after l gives)) front,
     )
 
-either_true : (a b : Bool) → a || b ≡ true → (a ≡ true) ⊎ (b ≡ true)
-either_true true b e = inl refl
-either_true false b e = inr e
-
 -- gives it back as it is now
 pub settles : (slots id : ℕ) (me : M) (line : Lined) → me.1 ≡ (0, Some line) ∷ [] → me.0.owns ≡ true → me.0.holds ≡ true → IsSettled me.0 line
     → Allows Kept slots id me 0 (λ _. 0) (Settled (step slots 0 0 0 none) me)
@@ -201,7 +193,7 @@ pub sees : (slots id : ℕ) (me : M) (line : Lined) → me.1 ≡ (0, Some line) 
 sees slots id me line front owns holds lies told =
     let v : Part = me.0 in
     gives_back slots id me line v.own v.peer (seen v).told front owns holds lies (omega arith, omega arith, λ p. p) (omega arith, omega arith, λ p. p) (inl refl)
-    (told.0, told.1, λ e. ⊎_elim told.2 (λ p. p) (either_true v.told.shut v.peer.shut e))
+    (told.0, told.1, λ e. ⊎_elim told.2 (λ p. p) (or_cases v.told.shut v.peer.shut e))
 
 holds_it : (t : Truth) (id : ℕ) (v : Part) → Owns t id v → t.holder ≡ suc id → v.holds ≡ true
 holds_it t id v o e = o.holds ∙ ap (λ n. eqb n (suc id)) e ∙ eq-eqb (suc id) (suc id) refl
@@ -309,7 +301,6 @@ pub joins : (id : ℕ) (v : Part) (other : ℕ) (w : Part) → v.side ≡ 0 → 
 joins id v other w side side' owns owns' idle idle' s h at two at' =
     let t : Truth = h.0 in
     let both : Part = joined v w in
-    let vs : List Part = set s.views id both in
     let was : get_elem? s.views other ≡ some w = ⊎_elim (λ x. absurd (two x.0)) (λ x. x.1) (at_set s.views id other both w at') in
     let mine = h.2 id v at in
     let theirs = h.2 other w was in
@@ -323,26 +314,27 @@ joins id v other w side side' owns owns' idle idle' s h at two at' =
     (λ e. true≢false (sym (holds_it t other w x (y.5 ∙ ap suc e)) ∙ idle'))
     (seats_are y.2 t.low_seat t.high_seat id other low_seat high_seat)))
     h.1 in
-    let t' : Truth = record t { high_seat = id } in
-    let Now : ℕ → Part → Type 0 = λ j u. j ≢ other → Fits t' j u in
-    let now : Every Now vs = every_set Now s.views id both
-    (λ _. (
-      (λ _. record {
-        seat = subst (λ (n : ℕ). by n t.low_seat id ≡ id) (sym side) low_seat;
-        own = o.own;
-        holds = o.holds;
-        knows = λ p. absurd (true≢false (sym p ∙ idle));
-        both = λ _. subst (λ (n : ℕ). (by n id t.low_seat ≡ id) × (by n t.high t.low ≡ w.own)) (sym side) (refl, subst (λ (n : ℕ). by n t.low t.high ≡ w.own) side' x.own);
-      }),
-      mine.1,
-      subst (λ (n : ℕ). IsTold w.told (by n t.low t.high)) (sym side) (subst (λ (n : ℕ). IsTold w.told (by n t.high t.low)) side' theirs.1),
-    ))
-    (λ j u apart e far. let f = h.2 j u e in (
-      (λ p. absurd (⊎_elim (λ q. apart (sym (f.0 p).seat ∙ q)) (λ q. far (sym (f.0 p).seat ∙ q)) (seats_are u.side t.low_seat t.high_seat id other low_seat high_seat))),
-      f.1,
-      f.2,
-    )) in
-    (t', inl home, every_set (Fits t') vs other no_part (no_fits t' other) (λ j u far e. now j u e far))
+    let t' : Truth = record t { high_seat = id } in (
+      t',
+      inl home,
+      every_two (Fits t') s.views id other both no_part (
+        (λ _. record {
+          seat = subst (λ (n : ℕ). by n t.low_seat id ≡ id) (sym side) low_seat;
+          own = o.own;
+          holds = o.holds;
+          knows = λ p. absurd (true≢false (sym p ∙ idle));
+          both = λ _. subst (λ (n : ℕ). (by n id t.low_seat ≡ id) × (by n t.high t.low ≡ w.own)) (sym side) (refl, subst (λ (n : ℕ). by n t.low t.high ≡ w.own) side' x.own);
+        }),
+        mine.1,
+        subst (λ (n : ℕ). IsTold w.told (by n t.low t.high)) (sym side) (subst (λ (n : ℕ). IsTold w.told (by n t.high t.low)) side' theirs.1),
+      )
+          (no_fits t' other)
+          (λ j u apart far e. let f = h.2 j u e in (
+            (λ p. absurd (⊎_elim (λ q. apart (sym (f.0 p).seat ∙ q)) (λ q. far (sym (f.0 p).seat ∙ q)) (seats_are u.side t.low_seat t.high_seat id other low_seat high_seat))),
+            f.1,
+            f.2,
+          )),
+    )
 
 across : (k : ℕ) (low high : Account) → k ≤ 1 → by (1 - k) high low ≡ by k low high
 across zero low high h = refl
@@ -362,24 +354,23 @@ tells id v owns few s h at =
     )
 
 pub told_either : (c d : Counts) (a : Account) → IsTold c a → IsTold d a → IsTold (record { put = max c.put d.put; taken = max c.taken d.taken; shut = c.shut || d.shut }) a
-told_either c d a x y = let p = x.0 in let q = y.0 in let r = x.1 in let z = y.1 in (omega arith, omega arith, λ e. ⊎_elim x.2 y.2 (either_true c.shut d.shut e))
+told_either c d a x y = let p = x.0 in let q = y.0 in let r = x.1 in let z = y.1 in (omega arith, omega arith, λ e. ⊎_elim x.2 y.2 (or_cases c.shut d.shut e))
 
 pub hears : (id : ℕ) (v : Part) (other : ℕ) (w : Part) → w.side ≡ v.side → Joins Kept id v other w (hearing v w) no_part
 hears id v other w same s h at two at' =
     let t : Truth = h.0 in
     let both : Part = hearing v w in
-    let vs : List Part = set s.views id both in
     let was : get_elem? s.views other ≡ some w = ⊎_elim (λ x. absurd (two x.0)) (λ x. x.1) (at_set s.views id other both w at') in
     let mine = h.2 id v at in
     let theirs = subst (λ (n : ℕ). IsTold w.told (by n t.high t.low)) same (h.2 other w was).1 in (
       t,
       h.1,
-      every_set (Fits t) vs other no_part (no_fits t other) (λ j u _ e. every_set (Fits t) s.views id both (
+      every_two (Fits t) s.views id other both no_part (
         (λ p. let o : Owns t id v = mine.0 p in record { seat = o.seat; own = o.own; holds = o.holds; knows = o.knows; both = o.both }),
         told_either v.told w.told (by v.side t.high t.low) mine.1 theirs,
         mine.2,
       )
-          (λ i y _ f. h.2 i y f) j u e),
+          (no_fits t other) (λ j u _ _ e. h.2 j u e),
     )
 
 pub begins : Kept (opening (replicate 16 0) (replicate 1 None) both_sides)

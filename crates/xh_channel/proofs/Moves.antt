@@ -8,7 +8,7 @@ use Rattle.crossbeam_queue.proofs.Lists.{at_set}
 use Rattle.xh_channel.specs.declared.message.Message.{Message}
 use Rattle.xh_channel.specs.declared.direction.Role.{Role}
 use Rattle.xh_channel.specs.Numbers.{number, Numbered}
-use Rattle.xh_channel.proofs.Views.{Every, every_set, every_snoc, one_view}
+use Rattle.xh_channel.proofs.Views.{Every, every_set, every_two, every_snoc, one_view}
 use Rattle.xh_channel.specs.Directions.{role, hearing, Fits, Ordered, Sent, Got, WaitsAhead, WaitsBehind}
 
 pub begins : Ordered [] (role true true [] [] 0 0 ∷ [])
@@ -104,14 +104,17 @@ pub merges : (port : ℕ) (v : Role) (other : ℕ) (u : Role) → v.pushes ≡ t
 merges port v other u a b items views h at two at' =
     let both : Role = role true true v.sent u.got u.told_put v.told_taken in
     let mine = h.5 port v at in
-    let vs : List Role = set views port both in
     let was : get_elem? views other ≡ some u = ⊎_elim (λ x. absurd (two x.0)) (λ x. x.1) (at_set views port other both u at') in
     let f = h.5 other u was in
-    let theirs = f.1 b in
-    let Now : ℕ → Role → Type 0 = λ j y. j ≢ other → Fits h.0 port h.2 h.3 j y in
-    let now : Every Now vs = every_set Now views port both (λ _. ((λ _. mine.0 a), (λ _. (refl, theirs.1)), f.2, mine.3))
-    (λ j y _ e apart. let g = h.5 j y e in (g.0, (λ p. absurd (apart ((g.1 p).0 ∙ sym theirs.0))), g.2, g.3)) in
-    (h.0, port, h.2, h.3, h.4, every_set (Fits h.0 port h.2 h.3) vs other (idle 0 0) (idle_fits h.0 port h.2 h.3 other 0 0 (omega arith) (omega arith)) (λ j y apart e. now j y e apart))
+    let theirs = f.1 b in (
+      h.0,
+      port,
+      h.2,
+      h.3,
+      h.4,
+      every_two (Fits h.0 port h.2 h.3) views port other both (idle 0 0) ((λ _. mine.0 a), (λ _. (refl, theirs.1)), f.2, mine.3)
+          (idle_fits h.0 port h.2 h.3 other 0 0 (omega arith) (omega arith)) (λ j y _ apart e. let g = h.5 j y e in (g.0, (λ p. absurd (apart ((g.1 p).0 ∙ sym theirs.0))), g.2, g.3)),
+    )
 
 -- a pass stays, and a new one tells of no more than it may
 tells : (port : ℕ) (v : Role) (put taken : ℕ) → ((sent got : List Message) (writer reader : ℕ) → Fits writer reader sent got port v → (put ≤ length sent) × (taken ≤ length got))
@@ -138,10 +141,15 @@ pub hears : (port : ℕ) (v : Role) (other : ℕ) (u : Role) → Merges Ordered 
 hears port v other u items views h at two at' =
     let both : Role = hearing v u.told_put u.told_taken in
     let mine = h.5 port v at in
-    let vs : List Role = set views port both in
     let was : get_elem? views other ≡ some u = ⊎_elim (λ x. absurd (two x.0)) (λ x. x.1) (at_set views port other both u at') in
     let theirs = h.5 other u was in
     let a : max v.told_put u.told_put ≤ length h.2 = let m = mine.2 in let t = theirs.2 in omega arith in
-    let b : max v.told_taken u.told_taken ≤ length h.3 = let m = mine.3 in let t = theirs.3 in omega arith in
-    let now : Every (Fits h.0 h.1 h.2 h.3) vs = every_set (Fits h.0 h.1 h.2 h.3) views port both (mine.0, mine.1, a, b) (λ j y _ e. h.5 j y e) in
-    (h.0, h.1, h.2, h.3, h.4, every_set (Fits h.0 h.1 h.2 h.3) vs other (idle 0 0) (idle_fits h.0 h.1 h.2 h.3 other 0 0 (omega arith) (omega arith)) (λ j y _ e. now j y e))
+    let b : max v.told_taken u.told_taken ≤ length h.3 = let m = mine.3 in let t = theirs.3 in omega arith in (
+      h.0,
+      h.1,
+      h.2,
+      h.3,
+      h.4,
+      every_two (Fits h.0 h.1 h.2 h.3) views port other both (idle 0 0) (mine.0, mine.1, a, b)
+          (idle_fits h.0 h.1 h.2 h.3 other 0 0 (omega arith) (omega arith)) (λ j y _ _ e. h.5 j y e),
+    )

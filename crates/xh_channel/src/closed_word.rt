@@ -85,6 +85,7 @@ impl ClosedWords {
         })
     }
 
+    #[tactic(auto, using(crate::proofs::ClosedSteps::splits))]
     pub fn next(&mut self) -> Result<ClosedWord, AllocError>
         requires { self.old.next < DIRECTIONS }
         ensures word { IfOk result (λ s. (s.table ≡ self.old.table) × (s.word ≡ self.old.next) × (s.shut ≡ false) × (s.peer_shut ≡ false)) }
@@ -111,6 +112,7 @@ impl ClosedWord {
     }
 
     /// Tells the peer whether it was shut.
+    #[tactic(auto, using(crate::proofs::ClosedSteps::tells_shut))]
     pub fn note(&mut self) -> ShutNote
         ensures note { (result.table ≡ self.old.table) × (result.word ≡ peer self.old.word) × (result.shut ≡ self.old.shut) }
         ensures same { self.new ≡ self.old }
@@ -121,6 +123,7 @@ impl ClosedWord {
         }
     }
 
+    #[tactic(auto, using(crate::proofs::ClosedSteps::hears_shut))]
     pub fn hear(&mut self, note: ShutNote)
         requires { (note.table ≡ self.old.table) × (note.word ≡ self.old.word) }
         ensures { self.new ≡ record self.old { peer_shut = self.old.peer_shut || note.shut } }
@@ -132,6 +135,7 @@ impl ClosedWord {
     }
 
     /// Shows that where it saw its peer shut, or was told so, the peer was shut.
+    #[tactic(auto, using(crate::proofs::ClosedSteps::tells_seen, crate::proofs::ClosedSteps::hears_seen))]
     pub fn agree(&mut self, other: &mut ClosedWord)
         requires { (other.old.table ≡ self.old.table) × (other.old.word ≡ peer self.old.word) }
         ensures same { (self.new ≡ self.old) × (other.new ≡ other.old) }

@@ -64,6 +64,7 @@ impl Model for LineNote {
 type OwnTable = Arc<LineTable, Global>;
 
 // The table's seat of both sides, cut in two.
+#[tactic(auto, using(crate::proofs::LineMoves::has_word, crate::proofs::LineSteps::sides))]
 fn cut(low: OwnTable, high: OwnTable, mut token: Token) -> (LineSeat, LineSeat)
     requires { IsWhole (arc_value low).shared.table_id (arc_value high).shared.table_id token.table_id token.me }
     ensures { (result.0 ≡ line_view token.table_id (low_side token.me.0)) × (result.1 ≡ line_view token.table_id (high_side token.me.0)) }
@@ -116,6 +117,7 @@ pub fn compare(low: LineSeat, high: LineSeat) -> (LineSeat, LineSeat)
 
 impl LineSeat {
     /// Both seats of a new table, where no line is yet.
+    #[tactic(auto, using(crate::proofs::LineSteps::begins))]
     pub fn pair(alloc: Global) -> Result<(LineSeat, LineSeat), AllocError>
         ensures { IfOk result (λ s. AreAcross s.0 s.1 × IsBlank s.0 × IsBlank s.1 × (s.0.depth ≡ 0) × (s.1.depth ≡ 0)) }
     {
@@ -203,6 +205,7 @@ impl LineSeat {
     }
 
     /// What its peer may hear of it.
+    #[tactic(auto, using(crate::proofs::LineMoves::has_word, crate::proofs::LineSteps::tells))]
     pub fn note(&mut self) -> LineNote
         ensures told { result ≡ told_on_line self.old }
         ensures same { self.new ≡ self.old }
@@ -213,6 +216,7 @@ impl LineSeat {
         }
     }
 
+    #[tactic(auto, using(crate::proofs::LineMoves::has_word, crate::proofs::LineSteps::hears))]
     pub fn hear(&mut self, note: LineNote)
         requires { (note.table ≡ self.old.table) × (note.side + self.old.side ≡ 1) }
         ensures { self.new ≡ hearing_on_line self.old note }

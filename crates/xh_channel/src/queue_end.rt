@@ -79,6 +79,7 @@ impl Model for QueueNote {
 }
 
 /// Both ends of a new direction.
+#[tactic(auto, using(crate::proofs::Moves::begins, crate::proofs::Moves::forks))]
 pub fn direction(alloc: Global, depth: usize) -> Result<(SendingEnd, ReceivingEnd), AllocError>
     requires { 0 < depth }
     ensures { IfOk result (λ ends. IsNewDirection depth ends.0 ends.1) }
@@ -98,6 +99,7 @@ pub fn direction(alloc: Global, depth: usize) -> Result<(SendingEnd, ReceivingEn
 }
 
 /// Shows, of both ends of a direction, that what was popped is a prefix of what was pushed, and tells each all that the other did.
+#[tactic(auto, using(crate::proofs::Moves::merges, crate::proofs::Moves::forks))]
 pub fn compare(sender: SendingEnd, receiver: ReceivingEnd) -> (SendingEnd, ReceivingEnd)
     requires { receiver.queue ≡ sender.queue }
     ensures told { (result.0 ≡ record sender { told = length receiver.got }) × (result.1 ≡ record receiver { told = length sender.sent }) }
@@ -138,6 +140,7 @@ impl SendingEnd {
     }
 
     /// How much it has pushed.
+    #[tactic(auto, using(crate::proofs::Moves::tells_put))]
     pub fn note(&mut self) -> QueueNote
         ensures note { (result.queue ≡ self.old.queue) × (result.put ≡ length self.old.sent) }
         ensures same { self.new ≡ self.old }
@@ -148,6 +151,7 @@ impl SendingEnd {
         }
     }
 
+    #[tactic(auto, using(crate::proofs::Moves::hears))]
     pub fn hear(&mut self, note: QueueNote)
         requires { note.queue ≡ self.old.queue }
         ensures { self.new ≡ record self.old { told = max self.old.told note.taken } }
@@ -167,6 +171,7 @@ impl ReceivingEnd {
     }
 
     /// How much it has popped.
+    #[tactic(auto, using(crate::proofs::Moves::tells_taken))]
     pub fn note(&mut self) -> QueueNote
         ensures note { (result.queue ≡ self.old.queue) × (result.taken ≡ length self.old.got) }
         ensures same { self.new ≡ self.old }
@@ -177,6 +182,7 @@ impl ReceivingEnd {
         }
     }
 
+    #[tactic(auto, using(crate::proofs::Moves::hears))]
     pub fn hear(&mut self, note: QueueNote)
         requires { note.queue ≡ self.old.queue }
         ensures { self.new ≡ record self.old { told = max self.old.told note.put } }

@@ -1,17 +1,12 @@
 -- The lengths of the records where one arena is another.
 use Rattle.std.proofs.Common.{◌≡◌, ◌≢◌, ℕ, ◌/◌, ◌%◌, ◌<◌, length, refl, sym, ap, ◌∙◌, arith, inl, inr, get_or-set_same, get_or-set_other}
 use Rattle.std.proofs.lemmas.Bool.{cases_eq}
-use Rattle.std.proofs.lemmas.List.{set-get_or}
 use Rattle.xh_model.specs.Cover.{SameRun, length_of}
 use Rattle.xh_model.specs.Arena.{ArenaState}
 use Rattle.xh_model.specs.Store.{Store, no_arena, arena_at, arena_of, len, with_arena}
 
 pub same_number : (q r : ℕ) → q / 256 ≡ r / 256 → q % 256 ≡ r % 256 → q ≡ r
 same_number q r a b = omega arith
-
--- an arena that is put in as it was
-pub same_arena : (s : Store) (k : ℕ) (a : ArenaState) → a ≡ arena_at s k → with_arena k a s ≡ s
-same_arena s k a e = rw (e, set-get_or s.arenas k no_arena) refl
 
 -- a record of the arena that is put in
 pub len_here : (s : Store) (k q : ℕ) (a : ArenaState) → k < length s.arenas → q / 256 ≡ k → len (with_arena k a s) q ≡ length_of (q % 256) a.cover

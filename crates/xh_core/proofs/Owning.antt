@@ -1,8 +1,8 @@
 -- What each process holds, where a record changes hands or has another length.
-use Rattle.std.proofs.Common.{◌≡◌, ◌≢◌, ℕ, ◌+◌, ◌-◌, ◌*◌, ◌/◌, ◌%◌, ◌<◌, ◌≤◌, List, length, Bool, true, false, cond, refl, sym, ap, ◌∙◌, subst, arith, inl, inr, get_or-set_same, get_or-set_other}
-use Rattle.std.specs.Prelude.{Option, Some, None, ◌==◌, is_some, slice_index_or}
+use Rattle.std.proofs.Common.{◌≡◌, ◌≢◌, ℕ, ◌+◌, ◌-◌, ◌*◌, ◌/◌, ◌%◌, ◌<◌, ◌≤◌, List, length, Bool, true, cond, refl, sym, ap, ◌∙◌, subst, arith, inl, inr, get_or-set_same, get_or-set_other}
+use Rattle.std.specs.Prelude.{Option, Some, None, ◌==◌, slice_index_or}
 use Rattle.std.specs.List.{sum_by, range_with_len}
-use Rattle.std.proofs.lemmas.Bool.{cases_Bool, cases_eq, eq-eqb, false≢true, ne_eqb}
+use Rattle.std.proofs.lemmas.Bool.{cases_eq, eq-eqb}
 use Rattle.std.proofs.lemmas.Bool.Decides.{nat_tests}
 use Rattle.std.proofs.lemmas.List.{length-set}
 use Rattle.std.proofs.lemmas.List.Sums.{sum_by-le, count_by-le-length}
@@ -76,14 +76,6 @@ room_after s ts o n w t l p =
     let a = at_less o n p ts l in
     let b = t.each p in
     let c = few_bytes s (Process p) w.few t.sizes in omega (arith, a, b, c)
-
--- a record that is not there has no bytes
-no_bytes : (o : Option Holder) (n : ℕ) → IsOwner o n → is_some o ≡ false → n ≡ 0
-no_bytes None n i e = i
-no_bytes (Some h) n i e = absurd (false≢true (sym e))
-
-pub unknown_empty : (s : Store) (r : ℕ) → IsLawful s → is_known s r ≡ false → len s r ≡ 0
-unknown_empty s r w e = let none = no_bytes (owner s r) (len s r) (w.owned r) in let known = w.known r in grind (arith, nat_tests, none, known, e)
 
 -- ---- a record changes hands
 
@@ -165,9 +157,6 @@ totals_less s ts p r a w t l own e others size = record {
   sizes = same_sizes s (r / 256) a l size t.sizes;
 }
 
-both_or_none : (b : Bool) (x y u v : ℕ) → x + y ≡ u + v → cond b x 0 + cond b y 0 ≡ cond b u 0 + cond b v 0
-both_or_none b x y u v e = grind arith
-
 -- bytes of a process's record are another one's of the same process
 pub totals_cut : (s : Store) (ts : List ℕ) (p r t : ℕ) (a : ArenaState) → AreTotals s ts → r / 256 < length s.arenas → r / 256 ≡ t / 256 → r ≢ t →
     owner s r ≡ Some (Process p) → owner s t ≡ Some (Process p) → length_of (r % 256) a.cover + length_of (t % 256) a.cover ≡ len s r + len s t →
@@ -183,7 +172,7 @@ totals_cut s ts p r t a w l both other own_r own_t sum others size =
       each = λ q.
           let now : ℕ → ℕ = λ k. cond (holds s (Process q) k) (len n k) 0 in
           let two : now r + now t ≡ cond (holds s (Process q) r) (len s r) 0 + cond (holds s (Process q) t) (len s t) 0 =
-          rw (own_r, own_t) (both_or_none (p == q) _ _ _ _ here) in
+          rw (own_r, own_t) (grind (arith, here)) in
           w.each q
           ∙ sym (ap (λ k. sum_by now (range_with_len 0 (256 * k))) (length-set s.arenas (r / 256) a)
           ∙ sum_but_two now (λ k. cond (holds s (Process q) k) (len s k) 0) (256 * length s.arenas) r t (in_range s r l) (in_range s t there) other

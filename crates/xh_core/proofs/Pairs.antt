@@ -1,7 +1,8 @@
 -- Two free records are claimed and get bytes, and one of them changes hands.
 use Rattle.std.proofs.Common.{◌≡◌, ◌≢◌, ℕ, ◌+◌, ◌/◌, ◌<◌, List, length, Bool, true, false, cond, refl, sym, ap, ◌∙◌, subst, arith, inl, inr, get_or-set_same}
 use Rattle.std.specs.Prelude.{Option, Some, None, is_none, ◌==◌, ◌||◌, slice_set, slice_index_or, unwrap_or}
-use Rattle.std.proofs.lemmas.Bool.{cases_eq, cases_Bool, eq-eqb, ne_eqb, lt-ltb}
+use Rattle.std.proofs.lemmas.Bool.{cases_eq, eq-eqb, ne_eqb, lt-ltb}
+use Rattle.std.proofs.lemmas.Bool.Decides.{nat_tests}
 use Rattle.std.proofs.lemmas.List.{length-set, set-set, set-get_or}
 use Rattle.xh_model.specs.declared.event.Holder.{Holder}
 use Rattle.xh_model.specs.declared.event.Holder.TheVariants.{Process, Direction}
@@ -10,7 +11,7 @@ use Rattle.xh_model.specs.Store.{Store, owner, len, holds, is_held_by, is_known,
 use Rattle.xh_model.proofs.Lawful.{owner_lawful}
 use Rattle.xh_core.specs.declared.refused.Refused.{Refused}
 use Rattle.xh_core.specs.declared.refused.Refused.TheVariants.{NoRecord}
-use Rattle.xh_core.specs.Space.{free_record, lowest, space_tests, claimed_once, pair_tests}
+use Rattle.xh_core.specs.Space.{free_record, space_tests, claimed_once, pair_tests}
 use Rattle.xh_core.specs.Refusing.{first_refusal}
 use Rattle.xh_core.specs.Several.{handed}
 use Rattle.xh_core.specs.inner.Pairing.{ClaimedTwo}
@@ -36,19 +37,8 @@ pub record TwoClaimed (p r t : ℕ) (s n : Store) : Type 0 where
   pub many : length n.owners ≡ length s.owners
   pub back : after (Vacate p r) (after (Vacate p t) n) ≡ s
 
--- the number of the lowest free record, where there is one
-pub lowest_is : (s : Store) (a r : ℕ) → free_record s a ≡ Some r → lowest s a ≡ r
-lowest_is s a r e = ap (λ (o : Option ℕ). unwrap_or o 2048) e
-
 pub once_is : (p : ℕ) (s : Store) (a r : ℕ) → free_record s a ≡ Some r → claimed_once p s a ≡ after (Claim p r) s
-once_is p s a r e = ap (λ (x : ℕ). after (Claim p x) s) (lowest_is s a r e)
-
-pub claim_arenas : (s : Store) (p r : ℕ) → (after (Claim p r) s).arenas ≡ s.arenas
-unfolding after
-claim_arenas s p r = elim (cases_Bool (can (Claim p r) s)) [ inl y ↦ rw y refl | inr f ↦ rw f refl ]
-
-pub claim_lawful : (s : Store) (p r : ℕ) → IsLawful s → p < 4096 → is_known s r ≡ true → owner s r ≡ None → IsLawful (after (Claim p r) s)
-claim_lawful s p r w l k f = subst IsLawful (sym (claimed s p r w l k f).is) (owner_lawful s r (Some (Process p)) w k l)
+once_is p s a r e = ap (λ (o : Option ℕ). after (Claim p (unwrap_or o 2048)) s) e
 
 pub two_claimed : (s : Store) (p a r t : ℕ) → IsLawful s → p < 4096 → free_record s a ≡ Some r → free_record (after (Claim p r) s) a ≡ Some t →
     TwoClaimed p r t s (after (Claim p t) (after (Claim p r) s))
@@ -56,7 +46,7 @@ two_claimed s p a r t w l low high =
     let fr : IsFree s a r = free_is s a r w low in
     let mid : Store = after (Claim p r) s in
     let one : Claimed p r s mid = claimed s p r w l fr.known fr.free in
-    let w1 : IsLawful mid = claim_lawful s p r w l fr.known fr.free in
+    let w1 : IsLawful mid = rw one.is (owner_lawful s r (Some (Process p)) w fr.known l) in
     let ft : IsFree mid a t = free_is mid a t w1 high in
     let two : Claimed p t mid (after (Claim p t) mid) = claimed mid p t w1 l ft.known ft.free in
     let unlike : r ≢ t = apart mid p r t one.holds ft.free in
@@ -157,10 +147,6 @@ pub record Shared (p q r t : ℕ) (s n : Store) : Type 0 where
   pub kept : (k : ℕ) → k ≢ r → k ≢ t → len n k ≡ len s k
   pub many : length n.owners ≡ length s.owners
 
-paired_owners : (p a r t : ℕ) (s n : Store) → Paired p a r t s n → n.owners ≡ (after (Claim p t) (after (Claim p r) s)).owners
-paired_owners p a r t s n g = let two : Store = after (Claim p t) (after (Claim p r) s) in
-    ap (λ (x : Store). x.owners) g.is ∙ (cut-owners (after (Carve p r 64) two) p r t 32 ∙ carve-owners two p r 64)
-
 -- an end that its owner keeps, or hands over, is the new owner's
 moved_is : (p q t d : ℕ) (s : Store) → q < 4096 → d < 128 → owner s t ≡ Some (Process p) → 0 < len s t → t < length s.owners → moved p q t d s ≡ with_owner t (Some (Process q)) s
 moved_is p q t d s ql dl own some there = elim (cases_eq p q) [
@@ -168,17 +154,14 @@ moved_is p q t d s ql dl own some there = elim (cases_eq p q) [
   | inr n ↦ rw (ne_eqb p q n) (handed_is p q t d s ql dl (own_holder s p t own) some there)
 ]
 
-later_owner : (a b : Bool) (p q : ℕ) (o : Option Holder) → cond a (Some (Process q)) (cond a (Some (Process p)) (cond b (Some (Process p)) o)) ≡ cond a (Some (Process q)) (cond b (Some (Process p)) o)
-later_owner true b p q o = refl
-later_owner false b p q o = refl
-
 pub paired_two : (p a r t : ℕ) (s n : Store) → IsLawful s → p < 4096 → Paired p a r t s n → TwoClaimed p r t s (after (Claim p t) (after (Claim p r) s))
 paired_two p a r t s n w l g = two_claimed s p a r t w l g.low (subst (λ (x : Store). free_record x a ≡ Some t) (once_is p s a r g.low) g.high)
 
 pub shared : (p q a r t d : ℕ) (s n : Store) → IsLawful s → p < 4096 → q < 4096 → d < 128 → Paired p a r t s n → IsLawful (moved p q t d n) → Shared p q r t s (moved p q t d n)
 shared p q a r t d s n w pl ql dl g lawful =
-    let c : TwoClaimed p r t s (after (Claim p t) (after (Claim p r) s)) = paired_two p a r t s n w pl g in
-    let same : n.owners ≡ (after (Claim p t) (after (Claim p r) s)).owners = paired_owners p a r t s n g in
+    let two : Store = after (Claim p t) (after (Claim p r) s) in
+    let c : TwoClaimed p r t s two = paired_two p a r t s n w pl g in
+    let same : n.owners ≡ two.owners = ap (λ (x : Store). x.owners) g.is ∙ (cut-owners (after (Carve p r 64) two) p r t 32 ∙ carve-owners two p r 64) in
     let owners : (k : ℕ) → owner n k ≡ cond (k == t) (Some (Process p)) (cond (k == r) (Some (Process p)) (owner s k)) =
     (λ k. ap (λ (os : List (Option Holder)). slice_index_or os k None) same ∙ c.owners k) in
     let own : owner n t ≡ Some (Process p) = owners t ∙ rw (eq-eqb t t refl) refl in
@@ -198,8 +181,10 @@ shared p q a r t d s n w pl ql dl g lawful =
       free_t = c.free_t;
       there_r = c.there_r;
       there_t = c.there_t;
-      owners = λ k. ap (λ (x : Store). owner x k) is ∙ (at_set n.owners t k (Some (Process q)) None there
-          ∙ (ap (λ (o : Option Holder). cond (k == t) (Some (Process q)) o) (owners k) ∙ later_owner (k == t) (k == r) p q (owner s k)));
+      owners = λ k.
+          let kept = ap (λ (x : Store). owner x k) is ∙ at_set n.owners t k (Some (Process q)) None there in
+          let was = owners k in
+          grind (arith, nat_tests, kept, was);
       full_r = omega (arith, lr);
       full_t = omega (arith, lt);
       kept = λ k a b. lens k ∙ g.kept k a b;

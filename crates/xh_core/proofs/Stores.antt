@@ -1,7 +1,7 @@
 -- What accepting and giving back leave of a store.
-use Rattle.std.proofs.Common.{◌≡◌, ◌++◌, ◌≢◌, ℕ, ◌+◌, ◌/◌, ◌%◌, ◌<◌, ◌≤◌, List, [], ◌∷◌, length, Bool, true, cond, refl, sym, ap, ◌∙◌, subst, arith, inl, inr, get_or-set_same, get_or-set_other}
+use Rattle.std.proofs.Common.{◌≡◌, ◌++◌, ◌≢◌, ℕ, ◌+◌, ◌/◌, ◌%◌, ◌<◌, ◌≤◌, List, [], ◌∷◌, length, Bool, true, cond, refl, ap, ◌∙◌, arith, get_or-set_same, get_or-set_other}
 use Rattle.std.specs.Prelude.{Option, Some, None, ◌==◌, nat_lt, slice_set, slice_index_or}
-use Rattle.std.proofs.lemmas.Bool.{cases_eq, cases_Bool, cases_lt, false≢true, eq-eqb, ne_eqb, lt-ltb}
+use Rattle.std.proofs.lemmas.Bool.{false≢true, eq-eqb, lt-ltb}
 use Rattle.std.proofs.lemmas.Bool.Decides.{nat_tests}
 use Rattle.std.proofs.lemmas.List.{get_or_past, length-set}
 use Rattle.std.proofs.lemmas.List.Sums.{sum_by-append, sum_by-cons}
@@ -11,7 +11,7 @@ use Rattle.xh_model.specs.declared.event.Event.{Event}
 use Rattle.xh_model.specs.declared.event.Event.TheVariants.{GiveBack, Accept}
 use Rattle.xh_model.specs.Cover.{length_of}
 use Rattle.xh_model.specs.Arena.{ArenaState}
-use Rattle.xh_model.specs.Store.{Store, no_arena, owner, arena_of, arena_at, len, holds, is_held_by, is_known, can, change, after, IsLawful}
+use Rattle.xh_model.specs.Store.{Store, no_arena, owner, arena_of, len, holds, is_held_by, is_known, can, change, after, IsLawful}
 use Rattle.xh_model.proofs.Changed.{known_there}
 use Rattle.xh_model.proofs.Lawful.{held_known}
 use Rattle.xh_model.proofs.Returned.{given-own, given-run}

@@ -1,9 +1,9 @@
 -- What follows of a carving, a cut and a giving back, whatever arena they are of.
-use Rattle.std.proofs.Common.{◌≡◌, ◌≢◌, ℕ, ◌+◌, ◌-◌, ◌<◌, List, true, cond, refl, sym, ap, ◌∙◌, arith, length, Option, Some, None, inl, inr}
+use Rattle.std.proofs.Common.{◌≡◌, ◌≢◌, ℕ, ◌+◌, ◌-◌, ◌<◌, List, true, cond, refl, sym, ap, ◌∙◌, arith, length, Option, Some, None}
 use Rattle.std.specs.Prelude.{slice_set, is_some}
-use Rattle.std.proofs.lemmas.Bool.{cases_eq, eq-eqb, ne_eqb}
+use Rattle.std.proofs.lemmas.Bool.{ne_eqb}
+use Rattle.std.proofs.lemmas.Bool.Decides.{nat_tests}
 use Rattle.std.proofs.lemmas.List.{length-map}
-use Rattle.std.proofs.lemmas.Option.{same_Some}
 use Rattle.xh_model.specs.Cover.{SameRun, is_of, length_of, start_of, run_of, bytes_out, given_back}
 use Rattle.xh_model.specs.Arena.{ArenaState, IsCarved, IsCut, IsGivenBack, lengths_of}
 use Rattle.xh_model.proofs.Lengths.{lengths_set, lengths_set_two}
@@ -16,15 +16,12 @@ other_test q r ne = ne_eqb r q (λ e. ne (sym e))
 -- a record's run tells its length
 run_length : (r s n : ℕ) (cover : List (Option ℕ)) → run_of r cover ≡ Some (s, n) → length_of r cover ≡ n
 unfolding run_of
-run_length r s n cover e = elim (cases_eq (length_of r cover) 0) [
-  | inl z ↦ absurd (let f : None ≡ Some (s, n) = rw (eq-eqb (length_of r cover) 0 z) at e in cc)
-  | inr ne ↦ (let f : Some (start_of r cover, length_of r cover) ≡ Some (s, n) = rw (ne_eqb (length_of r cover) 0 ne) at e in ap (λ run. run.1) (same_Some _ _ f))
-]
+run_length r s n cover e = grind (arith, nat_tests)
 
 -- a record that has bytes has a run
 some_run : (r : ℕ) (cover : List (Option ℕ)) → 0 < length_of r cover → run_of r cover ≡ Some (start_of r cover, length_of r cover)
 unfolding run_of
-some_run r cover l = rw (ne_eqb (length_of r cover) 0 (λ e. omega arith)) refl
+some_run r cover l = grind (arith, nat_tests)
 
 module _ (r n at : ℕ) (old new : ArenaState) (is : IsCarved r n at old new) where
   pub carved_length : length_of r new.cover ≡ n

@@ -1,7 +1,7 @@
 -- The two ends of a channel under a valid contract stay in step.
-use Rattle.std.proofs.Common.{◌≡◌, ℕ, suc, ◌<◌, ◌-◌, true, List, [], ◌∷◌, ◌++◌, ◌⊎◌, inl, inr, sym, ap, ◌∙◌, refl, rules, arith, length}
+use Rattle.std.proofs.Common.{◌≡◌, ℕ, suc, ◌<◌, ◌-◌, true, List, [], ◌∷◌, ◌++◌, ◌⊎◌, inl, inr, sym, refl, rules, arith, length}
 use Rattle.std.specs.Prelude.{Option, Some, None}
-use Rattle.std.proofs.lemmas.Bool.{cases_Bool, cases_lt}
+use Rattle.std.proofs.lemmas.Bool.{cases_Bool}
 use Rattle.std.proofs.lemmas.Option.{none-some, same_Some}
 use Rattle.xh_model.specs.declared.row.Row.{Row}
 use Rattle.xh_model.specs.Rows.{row_at, IsValid, fits, allowed, walk, InStep, IsFrontAllowed}
@@ -25,13 +25,7 @@ one_side rows state tag tag' side side' next next' valid a b =
     let y = allowing rows state tag' side' next' b in
     let p = fits_parts state tag side (row_at rows x.0) x.2 in
     let q = fits_parts state tag' side' (row_at rows y.0) y.2 in
-    elim (cases_lt x.0 y.0) [
-      | inl before ↦ sym p.1 ∙ ((valid x.0 y.0 before y.1 (p.0 ∙ sym q.0)).0 ∙ q.1)
-      | inr not_before ↦ elim (cases_lt y.0 x.0) [
-        | inl before ↦ sym p.1 ∙ (sym ((valid y.0 x.0 before x.1 (q.0 ∙ sym p.0)).0) ∙ q.1)
-        | inr not_after ↦ let same : x.0 ≡ y.0 = omega arith in sym p.1 ∙ (ap (λ i. (row_at rows i).side) same ∙ q.1)
-      ]
-    ]
+    grind (arith, p.0, p.1, q.0, q.1, x.1, y.1, valid x.0 y.0, valid y.0 x.0)
 
 pub cases_Option : (o : Option ℕ) → (o ≡ None) ⊎ ((n : ℕ) × (o ≡ Some n))
 cases_Option None = inl refl

@@ -1,40 +1,9 @@
 -- Lists of values beside their keys.
-use Rattle.std.proofs.Common.{
-  eqb,
-  ◌≡◌,
-  ◌≢◌,
-  ℕ,
-  zero,
-  suc,
-  ◌<◌,
-  ◌≤◌,
-  ◌⊎◌,
-  ⊎_elim,
-  inl,
-  inr,
-  Bool,
-  List,
-  [],
-  ◌∷◌,
-  ◌++◌,
-  length,
-  cond,
-  get_or,
-  refl,
-  sym,
-  ap,
-  ◌∙◌,
-  subst,
-  arith,
-  drop,
-  take,
-  append-nil,
-  set,
-  ne_eqb,
-  eq-eqb,
-}
+use Rattle.std.proofs.Common.{◌≡◌, ◌≢◌, ℕ, zero, suc, ◌<◌, ◌≤◌, ◌⊎◌, ⊎_elim, inl, inr, Bool, List, [], ◌∷◌, ◌++◌, length, cond, get_or, drop}
+use Rattle.std.proofs.Common.{refl, sym, ap, ◌∙◌, subst, arith, eqb, ne_eqb, eq-eqb, drop-cons}
 use Rattle.std.specs.Prelude.{Option, Some, None}
-use Rattle.std.specs.List.{remove}
+use Rattle.std.proofs.lemmas.Bool.Decides.{nat_tests}
+use Rattle.std.proofs.lemmas.List.{at_drop_all}
 use mathlib.Core.Option.{some, some-injective, some-ne-none}
 use mathlib.Core.Logic.{dite}
 use native.Mathlib.Decide.{ℕ_discrete}
@@ -44,7 +13,7 @@ use Rattle.xh_model.specs.Keyed.{Among, Distinct, keys, value_at, put, without}
 -- what stands in a list
 pub among_front : {A : Type 0} (xs ys : List A) (x : A) → Among xs x → Among (xs ++ ys) x
 among_front [] ys x h = absurd h
-among_front (y ∷ xs) ys x h = ⊎_elim (λ (e : x ≡ y). inl e) (λ (t : Among xs x). inr (among_front xs ys x t)) h
+among_front (y ∷ xs) ys x h = grind (arith, among_front xs ys x)
 
 pub among_back : {A : Type 0} (xs ys : List A) (x : A) → Among ys x → Among (xs ++ ys) x
 among_back [] ys x h = h
@@ -52,9 +21,7 @@ among_back (y ∷ xs) ys x h = inr (among_back xs ys x h)
 
 pub among_either : {A : Type 0} (xs ys : List A) (x : A) → Among (xs ++ ys) x → Among xs x ⊎ Among ys x
 among_either [] ys x h = inr h
-among_either (y ∷ xs) ys x h = ⊎_elim (λ (e : x ≡ y). inl (inl e))
-    (λ (t : Among (xs ++ ys) x). ⊎_elim (λ (a : Among xs x). inl (inr a)) (λ (b : Among ys x). inr b) (among_either xs ys x t))
-    h
+among_either (y ∷ xs) ys x h = grind (arith, among_either xs ys x)
 
 pub dec_among : (l : List ℕ) (p : ℕ) → Dec (Among l p)
 dec_among [] p = no (λ h. h)
@@ -63,22 +30,14 @@ dec_among (x ∷ xs) p = dite (ℕ_discrete p x) (λ e. yes (inl e))
 
 pub distinct_push : (xs : List ℕ) (i : ℕ) → Distinct xs → (Among xs i → ⊥) → Distinct (xs ++ i ∷ [])
 distinct_push [] i d n = ((λ h. absurd h), tt)
-distinct_push (x ∷ xs) i d n = (
-  (λ h. ⊎_elim (λ (a : Among xs x). d.0 a)
-      (λ (b : Among (i ∷ []) x). ⊎_elim (λ (e : x ≡ i). n (inl (sym e))) (λ (z : ⊥). z) b)
-      (among_either xs (i ∷ []) x h)),
-  distinct_push xs i d.1 (λ h. n (inr h)),
-)
+distinct_push (x ∷ xs) i d n = ((λ h. grind (arith, n, d.0, among_either xs (i ∷ []) x h)), distinct_push xs i d.1 (λ h. n (inr h)))
 
 pub distinct_split : (a : List ℕ) (i : ℕ) (b : List ℕ) → Distinct (a ++ i ∷ b) → (Among a i → ⊥) × (Among b i → ⊥) × Distinct (a ++ b)
 distinct_split [] i b d = ((λ h. h), d.0, d.1)
 distinct_split (y ∷ ys) i b d = let t = distinct_split ys i b d.1 in (
-  (λ h. ⊎_elim (λ (e : i ≡ y). d.0 (among_back ys (i ∷ b) y (inl (sym e)))) (λ (u : Among ys i). t.0 u) h),
+  (λ h. grind (arith, d.0, t.0, among_back ys (i ∷ b) y)),
   t.1,
-  (
-    (λ h. ⊎_elim (λ (u : Among ys y). d.0 (among_front ys (i ∷ b) y u)) (λ (u : Among b y). d.0 (among_back ys (i ∷ b) y (inr u))) (among_either ys b y h)),
-    t.2,
-  ),
+  ((λ h. grind (arith, d.0, among_front ys (i ∷ b) y, among_back ys (i ∷ b) y, among_either ys b y)), t.2),
 )
 
 -- whether a key is the one that is looked for
@@ -108,13 +67,12 @@ pub put_there : {X : Type 0} (r : ℕ) (y : X) (x : ℕ × X) (xs : List (ℕ ×
 put_there r y x xs n = not_here x.0 r ((r, y) ∷ xs) (x ∷ put r y xs) n
 
 -- keys
-pub keys_push : {X : Type 0} (xs : List (ℕ × X)) (x : ℕ × X) → keys (xs ++ x ∷ []) ≡ keys xs ++ x.0 ∷ []
-keys_push [] x = refl
-keys_push (y ∷ ys) x = ap (λ (l : List ℕ). y.0 ∷ l) (keys_push ys x)
-
 pub keys_append : {X : Type 0} (a b : List (ℕ × X)) → keys (a ++ b) ≡ keys a ++ keys b
 keys_append [] b = refl
 keys_append (y ∷ ys) b = ap (λ (l : List ℕ). y.0 ∷ l) (keys_append ys b)
+
+pub keys_push : {X : Type 0} (xs : List (ℕ × X)) (x : ℕ × X) → keys (xs ++ x ∷ []) ≡ keys xs ++ x.0 ∷ []
+keys_push xs x = keys_append xs (x ∷ [])
 
 pub length-keys : {X : Type 0} (a : List (ℕ × X)) → length (keys a) ≡ length a
 length-keys [] = refl
@@ -136,13 +94,11 @@ module _ {X : Type 0} where
   -- a key is in the list exactly where a value is beside it
   pub at_key : (r : ℕ) (y : X) (xs : List (ℕ × X)) → value_at r xs ≡ Some y → Among (keys xs) r
   at_key r y [] = λ e. absurd (cc)
-  at_key r y (x ∷ xs) = dite (ℕ_discrete x.0 r) (λ same e. inl (sym same)) (λ other e. inr (at_key r y xs (sym (value_there r x xs other) ∙ e)))
+  at_key r y (x ∷ xs) = λ e. grind (arith, nat_tests, at_key r y xs)
 
   pub no_key : (r : ℕ) (xs : List (ℕ × X)) → value_at r xs ≡ None → Among (keys xs) r → ⊥
   no_key r [] = λ e h. h
-  no_key r (x ∷ xs) = dite (ℕ_discrete x.0 r)
-      (λ same e h. let f : Some x.1 ≡ None = sym (value_here r x xs same) ∙ e in absurd (cc))
-      (λ other e h. ⊎_elim (λ q. other (sym q)) (λ a. no_key r xs (sym (value_there r x xs other) ∙ e) a) h)
+  no_key r (x ∷ xs) = λ e h. grind (arith, nat_tests, no_key r xs)
 
   pub none_at : (r : ℕ) (xs : List (ℕ × X)) → (Among (keys xs) r → ⊥) → value_at r xs ≡ None
   none_at r [] n = refl
@@ -150,9 +106,7 @@ module _ {X : Type 0} where
 
   pub front_at : (r : ℕ) (y : X) (xs ys : List (ℕ × X)) → value_at r xs ≡ Some y → value_at r (xs ++ ys) ≡ Some y
   front_at r y [] ys = λ e. absurd (cc)
-  front_at r y (x ∷ xs) ys = dite (ℕ_discrete x.0 r)
-      (λ same e. value_here r x (xs ++ ys) same ∙ sym (value_here r x xs same) ∙ e)
-      (λ other e. value_there r x (xs ++ ys) other ∙ front_at r y xs ys (sym (value_there r x xs other) ∙ e))
+  front_at r y (x ∷ xs) ys = λ e. grind (arith, nat_tests, front_at r y xs ys)
 
   -- one more at the end
   pub last_at : (r : ℕ) (y : X) (xs : List (ℕ × X)) → (Among (keys xs) r → ⊥) → value_at r (xs ++ (r, y) ∷ []) ≡ Some y
@@ -182,21 +136,15 @@ module _ {X : Type 0} where
 
   pub without_at : (r : ℕ) (xs : List (ℕ × X)) → value_at r (without r xs) ≡ None
   without_at r [] = refl
-  without_at r (x ∷ xs) = dite (ℕ_discrete x.0 r)
-      (λ same. ap (value_at r) (without_here r x xs same) ∙ without_at r xs)
-      (λ other. ap (value_at r) (without_there r x xs other) ∙ value_there r x (without r xs) other ∙ without_at r xs)
+  without_at r (x ∷ xs) = grind (arith, nat_tests, without_at r xs)
 
   pub without_other : (q r : ℕ) (xs : List (ℕ × X)) → r ≢ q → value_at q (without r xs) ≡ value_at q xs
   without_other q r [] n = refl
-  without_other q r (x ∷ xs) n = dite (ℕ_discrete x.0 r)
-      (λ same. ap (value_at q) (without_here r x xs same) ∙ without_other q r xs n ∙ sym (value_there q x xs (λ e. n (sym same ∙ e))))
-      (λ other. ap (value_at q) (without_there r x xs other) ∙ ap (λ (z : Option X). cond (eqb x.0 q) (Some x.1) z) (without_other q r xs n))
+  without_other q r (x ∷ xs) n = grind (arith, nat_tests, without_other q r xs n)
 
   pub without_key : (q r : ℕ) (xs : List (ℕ × X)) → Among (keys (without r xs)) q → Among (keys xs) q
   without_key q r [] = λ h. h
-  without_key q r (x ∷ xs) = dite (ℕ_discrete x.0 r)
-      (λ same h. inr (without_key q r xs (subst (λ (l : List (ℕ × X)). Among (keys l) q) (without_here r x xs same) h)))
-      (λ other h. ⊎_elim (λ e. inl e) (λ a. inr (without_key q r xs a)) (subst (λ (l : List (ℕ × X)). Among (keys l) q) (without_there r x xs other) h))
+  without_key q r (x ∷ xs) = λ h. grind (arith, nat_tests, without_key q r xs)
 
   pub distinct_without : (r : ℕ) (xs : List (ℕ × X)) → Distinct (keys xs) → Distinct (keys (without r xs))
   distinct_without r [] d = tt
@@ -204,23 +152,10 @@ module _ {X : Type 0} where
       (λ same. subst (λ (l : List (ℕ × X)). Distinct (keys l)) (sym (without_here r x xs same)) (distinct_without r xs d.1))
       (λ other. subst (λ (l : List (ℕ × X)). Distinct (keys l)) (sym (without_there r x xs other)) ((λ h. d.0 (without_key x.0 r xs h)), distinct_without r xs d.1))
 
-  pub removed : (r k : ℕ) (xs : List (ℕ × X)) (d : ℕ × X) → Distinct (keys xs) → k < length xs → (get_or xs k d).0 ≡ r → remove xs k ≡ without r xs
-  removed r k [] d distinct h e = absurd (omega arith)
-  removed r zero (x ∷ xs) d distinct h e = sym (without_here r x xs e ∙ absent r xs (λ a. distinct.0 (subst (λ (z : ℕ). Among (keys xs) z) (sym e) a)))
-  removed r (suc k) (x ∷ xs) d distinct h e =
-      let apart : x.0 ≢ r = λ q. distinct.0 (subst (λ (z : ℕ). Among (keys xs) z) (e ∙ sym q) (get_key k xs d (omega arith))) in
-      ap (λ (l : List (ℕ × X)). x ∷ l) (removed r k xs d distinct.1 (omega arith) e) ∙ sym (without_there r x xs apart)
-
   -- another in its place
   pub put_keys : (r : ℕ) (y : X) (xs : List (ℕ × X)) → keys (put r y xs) ≡ keys xs
   put_keys r y [] = refl
-  put_keys r y (x ∷ xs) = dite (ℕ_discrete x.0 r)
-      (λ same. ap keys (put_here r y x xs same) ∙ ap (λ (n : ℕ). n ∷ keys xs) (sym same))
-      (λ other. ap keys (put_there r y x xs other) ∙ ap (λ (l : List ℕ). x.0 ∷ l) (put_keys r y xs))
-
-  pub put_absent : (r : ℕ) (y : X) (xs : List (ℕ × X)) → (Among (keys xs) r → ⊥) → put r y xs ≡ xs
-  put_absent r y [] n = refl
-  put_absent r y (x ∷ xs) n = put_there r y x xs (λ e. n (inl (sym e))) ∙ ap (λ (l : List (ℕ × X)). x ∷ l) (put_absent r y xs (λ h. n (inr h)))
+  put_keys r y (x ∷ xs) = grind (arith, nat_tests, put_keys r y xs)
 
   pub put_split : (r : ℕ) (x y : X) (a b : List (ℕ × X)) → (Among (keys a) r → ⊥) → put r y (a ++ (r, x) ∷ b) ≡ a ++ (r, y) ∷ b
   put_split r x y [] b n = put_here r y (r, x) b refl
@@ -228,85 +163,32 @@ module _ {X : Type 0} where
 
   pub put_at : (r : ℕ) (y z : X) (xs : List (ℕ × X)) → value_at r xs ≡ Some z → value_at r (put r y xs) ≡ Some y
   put_at r y z [] = λ e. absurd (cc)
-  put_at r y z (x ∷ xs) = dite (ℕ_discrete x.0 r)
-      (λ same e. ap (value_at r) (put_here r y x xs same) ∙ value_here r (r, y) xs refl)
-      (λ other e. ap (value_at r) (put_there r y x xs other) ∙ value_there r x (put r y xs) other ∙ put_at r y z xs (sym (value_there r x xs other) ∙ e))
+  put_at r y z (x ∷ xs) = λ e. grind (arith, nat_tests, put_at r y z xs)
 
   pub put_other : (q r : ℕ) (y : X) (xs : List (ℕ × X)) → r ≢ q → value_at q (put r y xs) ≡ value_at q xs
   put_other q r y [] n = refl
-  put_other q r y (x ∷ xs) n = dite (ℕ_discrete x.0 r)
-      (λ same. ap (value_at q) (put_here r y x xs same) ∙ value_there q (r, y) xs n ∙ sym (value_there q x xs (λ e. n (sym same ∙ e))))
-      (λ other. ap (value_at q) (put_there r y x xs other) ∙ ap (λ (z : Option X). cond (eqb x.0 q) (Some x.1) z) (put_other q r y xs n))
+  put_other q r y (x ∷ xs) n = grind (arith, nat_tests, put_other q r y xs n)
 
   pub put_same : (r : ℕ) (y : X) (xs : List (ℕ × X)) → value_at r xs ≡ Some y → put r y xs ≡ xs
   put_same r y [] = λ e. refl
-  put_same r y (x ∷ xs) = dite (ℕ_discrete x.0 r)
-      (λ same e. let f : Some x.1 ≡ Some y = sym (value_here r x xs same) ∙ e in let g : x.1 ≡ y = cc in put_here r y x xs same ∙ (λ i. (sym same i, sym g i) ∷ xs))
-      (λ other e. put_there r y x xs other ∙ ap (λ (z : List (ℕ × X)). x ∷ z) (put_same r y xs (sym (value_there r x xs other) ∙ e)))
+  put_same r y (x ∷ xs) = λ e. grind (arith, nat_tests, put_same r y xs)
 
   pub put_without : (r : ℕ) (y : X) (xs : List (ℕ × X)) → without r (put r y xs) ≡ without r xs
   put_without r y [] = refl
-  put_without r y (x ∷ xs) = dite (ℕ_discrete x.0 r)
-      (λ same. ap (without r) (put_here r y x xs same) ∙ without_here r (r, y) xs refl ∙ sym (without_here r x xs same))
-      (λ other. ap (without r) (put_there r y x xs other) ∙ without_there r x (put r y xs) other ∙ ap (λ (l : List (ℕ × X)). x ∷ l) (put_without r y xs) ∙ sym (without_there r x xs other))
-
-  pub placed : (r k : ℕ) (y : X) (xs : List (ℕ × X)) (d : ℕ × X) → Distinct (keys xs) → k < length xs → (get_or xs k d).0 ≡ r → set xs k (r, y) ≡ put r y xs
-  placed r k y [] d distinct h e = absurd (omega arith)
-  placed r zero y (x ∷ xs) d distinct h e = sym (put_here r y x xs e)
-  placed r (suc k) y (x ∷ xs) d distinct h e =
-      let apart : x.0 ≢ r = λ q. distinct.0 (subst (λ (z : ℕ). Among (keys xs) z) (e ∙ sym q) (get_key k xs d (omega arith))) in
-      ap (λ (l : List (ℕ × X)). x ∷ l) (placed r k y xs d distinct.1 (omega arith) e) ∙ sym (put_there r y x xs apart)
+  put_without r y (x ∷ xs) = grind (arith, nat_tests, put_without r y xs)
 
   -- others in two places
   pub put_twice : (r : ℕ) (y z : X) (xs : List (ℕ × X)) → put r y (put r z xs) ≡ put r y xs
   put_twice r y z [] = refl
-  put_twice r y z (x ∷ xs) = dite (ℕ_discrete x.0 r)
-      (λ e. ap (put r y) (put_here r z x xs e) ∙ put_here r y (r, z) xs refl ∙ sym (put_here r y x xs e))
-      (λ n. ap (put r y) (put_there r z x xs n) ∙ put_there r y x (put r z xs) n ∙ ap (λ (l : List (ℕ × X)). x ∷ l) (put_twice r y z xs) ∙ sym (put_there r y x xs n))
+  put_twice r y z (x ∷ xs) = grind (arith, nat_tests, put_twice r y z xs)
 
   pub put_swap : (i j : ℕ) (y z : X) (xs : List (ℕ × X)) → i ≢ j → put i y (put j z xs) ≡ put j z (put i y xs)
   put_swap i j y z [] ne = refl
-  put_swap i j y z (x ∷ xs) ne = dite (ℕ_discrete x.0 i)
-      (λ e. let nj : x.0 ≢ j = λ q. ne (sym e ∙ q) in
-      ap (put i y) (put_there j z x xs nj) ∙ put_here i y x (put j z xs) e ∙ sym (ap (put j z) (put_here i y x xs e) ∙ put_there j z (i, y) xs ne))
-      (λ n. dite (ℕ_discrete x.0 j)
-      (λ e. ap (put i y) (put_here j z x xs e) ∙ put_there i y (j, z) xs (λ q. ne (sym q)) ∙ sym (ap (put j z) (put_there i y x xs n) ∙ put_here j z x (put i y xs) e))
-      (λ m. ap (put i y) (put_there j z x xs m) ∙ put_there i y x (put j z xs) n ∙ ap (λ (l : List (ℕ × X)). x ∷ l) (put_swap i j y z xs ne)
-      ∙ sym (ap (put j z) (put_there i y x xs n) ∙ put_there j z x (put i y xs) m)))
-
-  pub put_both : (i j : ℕ) (m n a b : X) (xs : List (ℕ × X)) → i ≢ j → put j b (put i a (put j n (put i m xs))) ≡ put j b (put i a xs)
-  put_both i j m n a b xs ne = ap (put j b) (put_swap i j a n (put i m xs) ne) ∙ put_twice j b n (put i a (put i m xs)) ∙ ap (put j b) (put_twice i a m xs)
+  put_swap i j y z (x ∷ xs) ne = grind (arith, nat_tests, put_swap i j y z xs ne)
 
 -- a list cut at a place
 pub next : {X : Type 0} (k : ℕ) (xs : List X) (d : X) → k < length xs → drop k xs ≡ get_or xs k d ∷ drop (suc k) xs
-next k [] d h = absurd (omega arith)
-next zero (x ∷ xs) d h = refl
-next (suc k) (x ∷ xs) d h = next k xs d (omega arith)
+next k xs d h = drop-cons xs k d h
 
 pub past : {X : Type 0} (k : ℕ) (xs : List X) → length xs ≤ k → drop k xs ≡ []
-past zero [] h = refl
-past (suc k) [] h = refl
-past zero (x ∷ xs) h = absurd (omega arith)
-past (suc k) (x ∷ xs) h = past k xs (omega arith)
-
--- the value beside the key r stands at the place k of a list, which has more at its end
-module _ {X : Type 0} (r : ℕ) (x : X) (more : List (ℕ × X)) where
-  pub at_drop : (k : ℕ) (es ys : List (ℕ × X)) → drop k es ≡ (r, x) ∷ more → Among (keys (es ++ ys)) r
-  at_drop zero es ys e = subst (λ (l : List (ℕ × X)). Among (keys (l ++ ys)) r) (sym e) (inl refl)
-  at_drop (suc k) [] ys e = absurd (cc)
-  at_drop (suc k) (y ∷ es) ys e = inr (at_drop k es ys e)
-
-  pub value_drop : (k : ℕ) (es : List (ℕ × X)) → drop k es ≡ (r, x) ∷ more → Distinct (keys es) → value_at r es ≡ Some x
-  value_drop zero es e d = ap (value_at r) e ∙ value_here r (r, x) more refl
-  value_drop (suc k) [] e d = absurd (cc)
-  value_drop (suc k) (y ∷ es) e d =
-      let there : Among (keys es) r = subst (λ (l : List (ℕ × X)). Among (keys l) r) (append-nil es) (at_drop k es [] e) in
-      value_there r y es (λ q. d.0 (subst (λ (z : ℕ). Among (keys es) z) (sym q) there)) ∙ value_drop k es e d.1
-
-  pub cut_out : (k : ℕ) (es ys : List (ℕ × X)) → drop k es ≡ (r, x) ∷ more → Distinct (keys (es ++ ys)) → without r (es ++ ys) ≡ take k es ++ (drop (suc k) es ++ ys)
-  cut_out zero [] ys e d = absurd (cc)
-  cut_out zero (y ∷ es) ys e d = let same : y.0 ≡ r = cc in
-      without_here r y (es ++ ys) same ∙ absent r (es ++ ys) (λ h. d.0 (subst (λ (z : ℕ). Among (keys (es ++ ys)) z) (sym same) h))
-  cut_out (suc k) [] ys e d = absurd (cc)
-  cut_out (suc k) (y ∷ es) ys e d =
-      without_there r y (es ++ ys) (λ q. d.0 (subst (λ (z : ℕ). Among (keys (es ++ ys)) z) (sym q) (at_drop k es ys e))) ∙ ap (λ (l : List (ℕ × X)). y ∷ l) (cut_out k es ys e d.1)
+past k xs h = at_drop_all (λ ys. ys) xs k h

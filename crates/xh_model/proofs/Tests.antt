@@ -1,9 +1,10 @@
 -- What is the same of two covers that pass a test at the same places.
-use Rattle.std.proofs.Common.{◌≡◌, ℕ, zero, suc, ◌+◌, ◌-◌, ◌*◌, ◌<◌, ◌≤◌, List, [], ◌∷◌, ◌++◌, Bool, true, false, cond, refl, sym, ap, ◌∙◌, arith, take, drop, replicate, length, map, Option, Some, None, inl, inr}
-use Rattle.std.specs.Prelude.{count_by, slice_index_or, ◌==◌}
+use Rattle.std.proofs.Common.{◌≡◌, ℕ, zero, suc, ◌+◌, ◌-◌, ◌*◌, ◌<◌, ◌≤◌, List, [], ◌∷◌, ◌++◌, Bool, true, false, cond, refl, sym, ap, ◌∙◌, arith, take, drop, replicate, length, map, Option, Some, None}
+use Rattle.std.specs.Prelude.{count_by, slice_index_or}
 use Rattle.std.specs.List.{position_or_len}
-use Rattle.std.proofs.lemmas.Bool.{cases_Bool, eqb-true}
-use Rattle.std.proofs.lemmas.List.{map-append}
+use Rattle.std.proofs.lemmas.Bool.{eqb-true}
+use Rattle.std.proofs.lemmas.Bool.Decides.{nat_tests}
+use Rattle.std.proofs.lemmas.List.{map-append, length-map}
 use Rattle.std.proofs.lemmas.List.Sums.{sum_by-cons, sum_by-append}
 use Rattle.std.proofs.lemmas.List.Folds.{sum_by-replicate}
 use Rattle.xh_model.specs.Cover.{IsFree, SameRun, is_of, length_of, start_of, run_of, carved, cut_past}
@@ -28,12 +29,8 @@ same_run q xs ys e =
     let n : length_of q ys ≡ length_of q xs = same_count (is_of q) ys xs e in
     let s : start_of q ys ≡ start_of q xs = same_start (is_of q) ys xs e in (rw (n, s) refl, n)
 
-tests_length : (xs : List (Option ℕ)) → length (map (λ _. true) xs) ≡ length xs
-tests_length [] = refl
-tests_length (x ∷ xs) = ap (λ n. suc n) (tests_length xs)
-
 pub same_length : (xs ys : List (Option ℕ)) → map (λ _. true) xs ≡ map (λ _. true) ys → length xs ≡ length ys
-same_length xs ys e = sym (tests_length xs) ∙ (ap length e ∙ tests_length ys)
+same_length xs ys e = sym (length-map xs (λ _. true)) ∙ (ap length e ∙ length-map ys (λ _. true))
 
 -- ---- a carving
 
@@ -97,10 +94,4 @@ is_entry r (Some q) e = ap (λ i. Some i) (eqb-true q r e)
 pub cut_tests : (p : Option ℕ → Bool) (r t k : ℕ) (cover : List (Option ℕ)) → p (Some t) ≡ p (Some r) → map p (cut_past r t k cover) ≡ map p cover
 unfolding cut_past
 cut_tests p r t k [] e = refl
-cut_tests p r t k (x ∷ xs) e = elim (cases_Bool (is_of r x)) [
-  | inl own ↦ (let head : p (Some t) ≡ p x = e ∙ ap p (sym (is_entry r x own)) in elim (cases_Bool (k == 0)) [
-    | inl z ↦ rw (own, z, head, cut_tests p r t 0 xs e) refl
-    | inr z ↦ rw (own, z, cut_tests p r t (k - 1) xs e) refl
-  ])
-  | inr other ↦ rw (other, cut_tests p r t k xs e) refl
-]
+cut_tests p r t k (x ∷ xs) e = grind (arith, nat_tests, is_entry r x, cut_tests p r t 0 xs e, cut_tests p r t (k - 1) xs e, cut_tests p r t k xs e)

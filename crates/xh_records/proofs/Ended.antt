@@ -1,6 +1,5 @@
 -- The closed table: its words, the lots at home, and those that the seats had.
-use Rattle.std.proofs.Common.{◌≡◌, ℕ, zero, suc, ◌*◌, ◌<◌, map, length-append, ◌≤◌, Bool, List, [], ◌∷◌}
-use Rattle.std.proofs.Common.{◌++◌, length, take, get_or, sym, refl, ap, ◌∙◌, subst, inl, inr, ⊎_elim, arith, rules, mod-lt}
+use Rattle.std.proofs.Common.{◌≡◌, ℕ, zero, suc, ◌*◌, ◌<◌, map, length-append, ◌≤◌, Bool, List, [], ◌∷◌, ◌++◌, length, take, get_or, sym, refl, ap, ◌∙◌, subst, inl, inr, ⊎_elim, arith, rules, mod-lt}
 use Rattle.std.proofs.lemmas.List.{length-map}
 use Rattle.std.specs.Prelude.{Option, Some, None, slice_get}
 use Rattle.std.specs.Option.{option_or, IsSome}
@@ -27,11 +26,10 @@ use Rattle.xh_records.specs.Seats.{Held, owned_by, indices, lot_in, view_of, End
 use Rattle.xh_records.specs.inner.Events.{IsAway, IsHomeLot}
 use Rattle.xh_records.specs.inner.Views.{spent}
 use Rattle.xh_records.specs.inner.Gathering.{slot_at, or_else, IsGathered}
-use Rattle.xh_records.proofs.Elements.{in_range, is_there, only_one, elem_slice, slice_elem, nth_is}
+use Rattle.xh_records.proofs.Elements.{in_range, is_there, only_one, elem_slice, slice_elem, nth_is, among_map}
 use Rattle.xh_records.proofs.Keeps.{home_lot, one_holder, same_place, never}
 use Rattle.xh_records.proofs.Lists.{among_owned, none_or_some}
 use Rattle.xh_records.proofs.Distinct.{process_in, not_twice, distinct_front, covers}
-use Rattle.xh_records.proofs.Elements.{among_map}
 
 -- each place has its seat among these
 abbrev AllSit : {B : Type 0} → ℕ → List (Held B) → Type 0
@@ -212,13 +210,6 @@ module _ {B : Type 0} (fits : B → ℕ → Bool) (s : Shape) (id : ℕ) (v : Vi
     held = λ j k x l at e. by_seat j k x l (slice_elem seats j x at) e;
     one = λ i j x y at_x at_y e. gathered.one fit.places i j x y (slice_elem seats i x at_x) (slice_elem seats j y at_y) (omega arith) (omega arith) e;
   }
-
--- one more slot that has no lot
-pub none_more : {L : Type 0} (xs : List (Option L)) → ((r : ℕ) → slot_at xs r ≡ None) → (r : ℕ) → slot_at (xs ++ None ∷ []) r ≡ None
-none_more [] n zero = refl
-none_more [] n (suc r) = refl
-none_more (x ∷ xs) n zero = n zero
-none_more (x ∷ xs) n (suc r) = none_more xs (λ k. n (suc k)) r
 
 pub or_is : {L : Type 0} (a b : Option L) → option_or a b ≡ or_else a b
 or_is None b = refl

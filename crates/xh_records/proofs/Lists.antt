@@ -1,4 +1,5 @@
 -- Lists of numbers, and lists with keys.
+use Rattle.std.proofs.lemmas.Bool.Decides.{nat_tests}
 use Rattle.std.proofs.Common.{◌≡◌, ℕ, zero, suc, ◌+◌, ◌-◌, ◌<◌, ◌≤◌, ◌≢◌, Bool, true, false, List, [], ◌∷◌, ◌++◌, length, set}
 use Rattle.std.proofs.Common.{get_or, eqb, append_assoc, append-nil, get_or-set_same, get_or-set_other, sym, refl, ap, ◌∙◌, subst, ◌⊎◌, inl, inr, ⊎_elim, arith, ne_eqb, cond, ◌||◌}
 use Rattle.std.specs.Prelude.{Option, Some, None}
@@ -10,7 +11,7 @@ use native.Mathlib.Decide.{ℕ_discrete}
 use lib.ListN.{get_elem?}
 use Rattle.atomic_table.specs.Table.{rest}
 use Rattle.xh_model.specs.Keyed.{Among, Distinct, keys, put, without}
-use Rattle.xh_model.proofs.Keyed.{distinct_split, here_first, keys_append, length-keys, not_here, put_here, put_split, put_there, split_at_key, without_split}
+use Rattle.xh_model.proofs.Keyed.{distinct_split, here_first, keys_append, length-keys, not_here, put_split, split_at_key, without_split}
 use Rattle.xh_records.specs.Seats.{owned_by}
 use Rattle.xh_records.specs.inner.Tokens.{AllBelow, IsTurned, turns, in_slot}
 use Rattle.xh_records.specs.inner.Gathering.{slot_at, or_else}
@@ -134,9 +135,7 @@ turned_at {L} l now k slot distinct at is =
 
 pub slot_other : {L : Type 0} (i j : ℕ) (y : Option L) (l : List (ℕ × Option L)) → i ≢ j → in_slot j (put i y l) ≡ in_slot j l
 slot_other i j y [] ne = refl
-slot_other {L} i j y (w ∷ ws) ne = dite (ℕ_discrete w.0 i)
-    (λ e. ap (in_slot j) (put_here i y w ws e) ∙ not_here i j y (in_slot j ws) ne ∙ sym (not_here w.0 j w.1 (in_slot j ws) (λ q. ne (sym e ∙ q))))
-    (λ n. ap (in_slot j) (put_there i y w ws n) ∙ ap (λ (z : Option L). cond (eqb w.0 j) w.1 z) (slot_other i j y ws ne))
+slot_other i j y (w ∷ ws) ne = grind (arith, nat_tests, slot_other i j y ws ne)
 
 -- one more of what was seen
 pub seen_more : (P : ℕ → ℕ → Type 0) (xs : List ℕ) (x : ℕ) → ((k : ℕ) → k < length xs → P k (get_or xs k 0)) → P (length xs) x → (k : ℕ) → k < length xs + 1 → P k (get_or (xs ++ x ∷ []) k 0)

@@ -1,5 +1,6 @@
 -- A seat's lots by the numbers of their records.
-use Rattle.std.proofs.Common.{◌≡◌, ℕ, suc, ◌/◌, length, ◌%◌, ◌<◌, ◌≤◌, List, [], ◌∷◌, ◌++◌, map, sym, refl, ap, ◌∙◌, subst, get_or, append-nil}
+use Rattle.std.proofs.lemmas.Bool.Decides.{nat_tests}
+use Rattle.std.proofs.Common.{arith, ◌≡◌, ℕ, suc, ◌/◌, length, ◌%◌, ◌<◌, ◌≤◌, List, [], ◌∷◌, ◌++◌, map, sym, refl, ap, ◌∙◌, subst, get_or, append-nil}
 use Rattle.std.specs.Prelude.{Option, Some, None}
 use mathlib.Core.Logic.{dite}
 use native.Mathlib.Decide.{ℕ_discrete}
@@ -12,7 +13,7 @@ use Rattle.xh_model.specs.Words.{number_of, place_of}
 use Rattle.xh_model.proofs.Words.{number_inside, index_back, number_back}
 use Rattle.xh_model.specs.Keyed.{Among, keys, put, value_at, without}
 use Rattle.xh_records.proofs.Elements.{among_map, in_range, slice_elem}
-use Rattle.xh_model.proofs.Keyed.{here_first, not_here, value_here, value_there}
+use Rattle.xh_model.proofs.Keyed.{value_here, value_there}
 use Rattle.xh_records.specs.declared.shape.Shape.{Shape}
 use Rattle.xh_records.specs.declared.view.View.{View}
 use Rattle.xh_records.specs.Showing.{IsLotOf, IsLotAt, IsSmall}
@@ -49,31 +50,17 @@ module _ {B : Type 0} (s : Shape) (small : IsSmall s) where
 
   pub lot_numbered : (xs : List (ℕ × Option (LotOf B))) (k : ℕ) → AllLots s xs → value_at (number_of s.records k) (numbered s.records xs) ≡ in_slot k xs
   lot_numbered [] k all = refl
-  lot_numbered (x ∷ xs) k all = ap (value_at (number_of s.records k)) (head_is x xs all.0.0 all.0.1) ∙ dite (ℕ_discrete x.0 k)
-      (λ e. here_first (number_of s.records x.0) (number_of s.records k) (Some all.0.0) (value_at (number_of s.records k) (numbered s.records xs)) (ap (number_of s.records) e) ∙ sym all.0.1
-      ∙ sym (here_first x.0 k x.1 (in_slot k xs) e))
-      (λ other. not_here (number_of s.records x.0) (number_of s.records k) (Some all.0.0) (value_at (number_of s.records k) (numbered s.records xs))
-      (λ e. other (index_injective s.records x.0 k small.0 small.1 e)) ∙ lot_numbered xs k all.1 ∙ sym (not_here x.0 k x.1 (in_slot k xs) other))
+  lot_numbered (x ∷ xs) k all = grind (arith, nat_tests, head_is x xs all.0.0 all.0.1, lot_numbered xs k all.1, index_injective s.records x.0 k small.0 small.1, ap (number_of s.records), all.0.1)
 
   pub without_numbered : (xs : List (ℕ × Option (LotOf B))) (k : ℕ) → AllLots s xs → numbered s.records (without k xs) ≡ without (number_of s.records k) (numbered s.records xs)
   without_numbered [] k all = refl
-  without_numbered (x ∷ xs) k all = dite (ℕ_discrete x.0 k)
-      (λ e. ap (numbered s.records) (here_first x.0 k (without k xs) (x ∷ without k xs) e) ∙ without_numbered xs k all.1
-      ∙ sym (ap (without (number_of s.records k)) (head_is x xs all.0.0 all.0.1) ∙ here_first (number_of s.records x.0) (number_of s.records k) _ _ (ap (number_of s.records) e)))
-      (λ other. ap (numbered s.records) (not_here x.0 k (without k xs) (x ∷ without k xs) other) ∙ head_is x (without k xs) all.0.0 all.0.1
-      ∙ ap (λ (l : List (ℕ × LotOf B)). (number_of s.records x.0, all.0.0) ∷ l) (without_numbered xs k all.1)
-      ∙ sym (ap (without (number_of s.records k)) (head_is x xs all.0.0 all.0.1) ∙ not_here (number_of s.records x.0) (number_of s.records k) _ _
-      (λ e. other (index_injective s.records x.0 k small.0 small.1 e))))
+  without_numbered (x ∷ xs) k all =
+      grind (arith, nat_tests, head_is x xs all.0.0 all.0.1, head_is x (without k xs) all.0.0 all.0.1, without_numbered xs k all.1, index_injective s.records x.0 k small.0 small.1)
 
   pub put_numbered : (xs : List (ℕ × Option (LotOf B))) (k : ℕ) (l : LotOf B) → AllLots s xs → numbered s.records (put k (Some l) xs) ≡ put (number_of s.records k) l (numbered s.records xs)
   put_numbered [] k l all = refl
-  put_numbered (x ∷ xs) k l all = dite (ℕ_discrete x.0 k)
-      (λ e. ap (numbered s.records) (here_first x.0 k ((k, Some l) ∷ xs) (x ∷ put k (Some l) xs) e)
-      ∙ sym (ap (put (number_of s.records k) l) (head_is x xs all.0.0 all.0.1) ∙ here_first (number_of s.records x.0) (number_of s.records k) _ _ (ap (number_of s.records) e)))
-      (λ other. ap (numbered s.records) (not_here x.0 k ((k, Some l) ∷ xs) (x ∷ put k (Some l) xs) other) ∙ head_is x (put k (Some l) xs) all.0.0 all.0.1
-      ∙ ap (λ (z : List (ℕ × LotOf B)). (number_of s.records x.0, all.0.0) ∷ z) (put_numbered xs k l all.1)
-      ∙ sym (ap (put (number_of s.records k) l) (head_is x xs all.0.0 all.0.1) ∙ not_here (number_of s.records x.0) (number_of s.records k) _ _
-      (λ e. other (index_injective s.records x.0 k small.0 small.1 e))))
+  put_numbered (x ∷ xs) k l all =
+      grind (arith, nat_tests, head_is x xs all.0.0 all.0.1, head_is x (put k (Some l) xs) all.0.0 all.0.1, put_numbered xs k l all.1, index_injective s.records x.0 k small.0 small.1)
 
   pub none_numbered : (xs : List (ℕ × Option (LotOf B))) → AllLots s xs → numbered s.records xs ≡ [] → xs ≡ []
   none_numbered [] all e = refl

@@ -2,6 +2,7 @@
 use Rattle.std.proofs.Common.{◌≡◌, ◌<◌, ◌+◌, ◌⊎◌, inl, inr, ℕ, zero, suc, Bool, true, false, cond, List, [], ◌∷◌, ◌++◌, length, refl, ap, arith, Option, Some, None, IfSome, slice_get, if◌then◌else◌}
 use Rattle.std.specs.Str.{bytes_eq}
 use Rattle.std.proofs.lemmas.Bool.Decides.{nat_tests}
+use Rattle.std.proofs.lemmas.Option.{slice_get_within}
 use Rattle.std.proofs.lemmas.Slice.Eq.{bytes_eq-Decides}
 use Rattle.xh_script.specs.Names.{number_from, number_in}
 
@@ -15,19 +16,6 @@ number_from_more i j (n ∷ names) k q e new =
 pub number_more : (names : List (List ℕ)) (k q : List ℕ) → number_in names k ≡ None
     → number_in (names ++ k ∷ []) q ≡ cond (bytes_eq k q) (Some (length names)) (number_in names q)
 number_more names k q new = number_from_more 0 (length names) names k q (omega arith) new
-
-below_of : (b : Bool) (i j : ℕ) (o : Option ℕ) → i < j → IfSome o (λ n. n < j) → IfSome (if b then Some i else o) (λ n. n < j)
-below_of true i j o first rest = first
-below_of false i j o first rest = rest
-
-number_from_below : (i j : ℕ) (names : List (List ℕ)) (q : List ℕ) → j ≡ i + length names → IfSome (number_from i names q) (λ n. n < j)
-number_from_below i j [] q e = tt
-number_from_below i j (n ∷ names) q e =
-    below_of (bytes_eq n q) i j (number_from (i + 1) names q) (omega arith) (number_from_below (i + 1) j names q (omega arith))
-
--- a number is below the count of the names
-pub number_below : (names : List (List ℕ)) (q : List ℕ) → IfSome (number_in names q) (λ n. n < length names)
-number_below names q = number_from_below 0 (length names) names q (omega arith)
 
 split : (b : Bool) (i n : ℕ) (o : Option ℕ) → (if b then Some i else o) ≡ Some n → ((b ≡ true) × (i ≡ n)) ⊎ (o ≡ Some n)
 split true i n o h = inl (refl, cc)
@@ -46,3 +34,11 @@ name_numbered names name n h =
     let r = found_at 0 n names name h in
     let same : n ≡ r.0 = omega (arith, r.1) in
     rw same r.2
+
+if_some : (o : Option ℕ) (P : ℕ → Type 0) → ((n : ℕ) → o ≡ Some n → P n) → IfSome o P
+if_some None P h = tt
+if_some (Some n) P h = h n refl
+
+-- a number is below the count of the names
+pub number_below : (names : List (List ℕ)) (q : List ℕ) → IfSome (number_in names q) (λ n. n < length names)
+number_below names q = if_some (number_in names q) (λ n. n < length names) (λ n e. slice_get_within names n q (name_numbered names q n e))

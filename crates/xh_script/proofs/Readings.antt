@@ -1,10 +1,11 @@
 -- Lemmas on readings that may stop.
-use Rattle.std.proofs.Common.{◌≡◌, ◌≤◌, ◌<◌, ◌+◌, ◌==◌, suc, ℕ, List, [], Result, Ok, refl, ap, length, drop, map, Bor, get_or, arith, add-one, drop-cons}
+use Rattle.std.proofs.Common.{◌≡◌, ◌≤◌, ◌<◌, ◌+◌, ◌==◌, suc, ℕ, List, Result, Ok, refl, ap, length, drop, map, Bor, get_or, arith, add-one, drop-cons}
 use Rattle.std.specs.List.{slice_split}
 use Rattle.std.proofs.Math.ListN.{length-map}
 use Rattle.std.proofs.lemmas.List.Splits.{length-slice_split}
 use Rattle.std.proofs.lemmas.List.Sums.{count_by-le-length}
 use Rattle.xh_script.specs.declared.limits.TheConstants.{MAX_SCRIPT}
+use Rattle.xh_script.proofs.WordLemmas.{no_word}
 use Rattle.xh_script.specs.Steps.{◌>>=◌}
 use Rattle.xh_script.specs.inner.Stops.{Stops}
 use Rattle.xh_script.specs.SoFar.{SoFar}
@@ -30,17 +31,16 @@ fails_then Gate r f h = h
 fails_then BadConfig r f h = h
 
 -- one more line was read
-pub goes_on : (lines : List (List ℕ)) (i : ℕ) (before now : SoFar) → i < length lines → at_line (i + 1) (after_line before (i + 1) (get_or lines i [])) ≡ Ok now
-    → after_lines before (i + 1) (drop i lines) ≡ after_lines now (i + 1 + 1) (drop (i + 1) lines)
-goes_on lines i before now below h = rw (drop-cons lines i [], h, add-one i) refl
+pub goes_on : (items : List (Bor (List ℕ))) (i : ℕ) (before now : SoFar) → i < length items → at_line (i + 1) (after_line before (i + 1) (get_or items i no_word).now) ≡ Ok now
+    → after_lines before (i + 1) (map (λ w. w.now) (drop i items)) ≡ after_lines now (i + 1 + 1) (map (λ w. w.now) (drop (i + 1) items))
+goes_on items i before now below h = rw (drop-cons items i no_word, h, add-one i) refl
 
 -- a line was not
-pub stops_at : (e : Fault) (lines : List (List ℕ)) (i : ℕ) (before : SoFar) → i < length lines → Fails e (at_line (i + 1) (after_line before (i + 1) (get_or lines i [])))
-    → Fails e (after_lines before (i + 1) (drop i lines))
-stops_at e lines i before below h = rw (drop-cons lines i []) (fails_then e _ (λ now. after_lines now (i + 1 + 1) (drop (suc i) lines)) h)
+pub stops_at : (e : Fault) (items : List (Bor (List ℕ))) (i : ℕ) (before : SoFar) → i < length items → Fails e (at_line (i + 1) (after_line before (i + 1) (get_or items i no_word).now))
+    → Fails e (after_lines before (i + 1) (map (λ w. w.now) (drop i items)))
+stops_at e items i before below h = rw (drop-cons items i no_word) (fails_then e _ (λ now. after_lines now (i + 1 + 1) (map (λ w. w.now) (drop (suc i) items))) h)
 
-pub lines_fit : (text : List ℕ) → length text ≤ MAX_SCRIPT → length (slice_split (λ b. b == 10) text) ≤ MAX_SCRIPT + 1
-lines_fit text short = omega (arith, length-slice_split (λ b. b == 10) text, count_by-le-length (λ b. b == 10) text)
-
-pub same_length : (items : List (Bor (List ℕ))) (lines : List (List ℕ)) → map (λ w. w.now) items ≡ lines → length items ≡ length lines
-same_length items lines e = simp length-map at (ap length e)
+-- a text has few lines
+pub lines_fit : (items : List (Bor (List ℕ))) (text : List ℕ) → map (λ w. w.now) items ≡ slice_split (λ b. b == 10) text → length text ≤ MAX_SCRIPT → length items ≤ MAX_SCRIPT + 1
+lines_fit items text lines short =
+    omega (arith, simp length-map at (ap length lines), length-slice_split (λ b. b == 10) text, count_by-le-length (λ b. b == 10) text)

@@ -1,12 +1,13 @@
 -- What can be said is read from the words that spell it.
-use Rattle.std.proofs.Common.{◌≡◌, ◌-◌, ◌<◌, ◌≤◌, ◌+◌, ◌*◌, ◌/◌, ◌%◌, ◌^◌, ◌==◌, ℕ, zero, suc, true, false, List, [], ◌∷◌, ◌++◌, length, get_or, map, Result, Ok, refl, ap, ◌∙◌, arith, nat_lt}
+use Rattle.std.proofs.Common.{◌≡◌, ◌-◌, ◌<◌, ◌≤◌, ◌+◌, ◌*◌, ◌/◌, ◌%◌, ◌^◌, ◌==◌, ℕ, zero, suc, true, false, List, [], ◌∷◌, ◌++◌, length, map, Result, Ok, refl, ap, ◌∙◌, arith, nat_lt}
 use Rattle.std.proofs.Common.{length-append, ◌||◌, not, Bool, codes, subst}
-use Rattle.std.specs.List.{list_all, slice_split, onto_first}
+use Rattle.std.specs.List.{All, list_all}
 use Rattle.std.specs.Fmt.{decimal}
-use Rattle.std.proofs.lemmas.Bool.{le-leb, lt-ltb, ltb-true, ne_eqb, and_parts, and_from, or_right, not_from_false}
+use Rattle.std.proofs.lemmas.Bool.{le-leb, lt-ltb, ltb-true, and_parts, and_from}
 use Rattle.std.proofs.lemmas.Bool.Decides.{nat_tests}
 use Rattle.std.proofs.lemmas.Fmt.{decimal_nonempty, first_decimal, length-decimal-le, digits_decimal, digits_value-decimal, decimal_digit}
-use Rattle.std.proofs.lemmas.List.Splits.{slice_split-cons_yes, slice_split-cons_no}
+use Rattle.std.proofs.lemmas.List.Sums.{AllPass-from_list_all}
+use Rattle.std.proofs.lemmas.List.Splits.{slice_split_at, slice_split_none}
 use Rattle.arrayvec.specs.ArrayVec.{ArrayVec}
 use Rattle.xh_model.specs.declared.row.Row.{Row}
 use Rattle.xh_model.specs.declared.limits.TheConstants.{STATES}
@@ -43,9 +44,7 @@ name_back w h = rw h refl
 
 front_back : (n : ℕ) → n < 2 ^ 32 → has_no_zero_in_front (decimal n) ≡ true
 front_back zero h = rw (decimal_digit 0 (omega arith)) refl
-front_back (suc n) h =
-    let first = first_decimal (suc n) (omega arith) (omega arith) in
-    or_right (length (decimal (suc n)) == 1) _ (not_from_false _ (ne_eqb (get_or (decimal (suc n)) 0 0) 48 (omega arith)))
+front_back (suc n) h = grind (arith, nat_tests, first_decimal (suc n) (omega arith) (omega arith))
 
 numeral_back : (n : ℕ) → n < 2 ^ 32 → is_numeral (decimal n) ≡ true
 numeral_back n h =
@@ -72,33 +71,27 @@ name_filled w h = (and_parts _ _ (and_parts _ _ (and_parts _ _ (and_parts _ _ h)
 digit_value : (d : ℕ) → d ≤ 15 → (is_hex_digit (hex_digit d) ≡ true) × (hex_value (hex_digit d) ≡ d)
 digit_value d h = (grind (arith, nat_tests), grind (arith, nat_tests))
 
-bytes_told : (bytes : List ℕ) → list_all (λ b. nat_lt b 256) bytes ≡ true → hex_bytes (hex_text bytes) ≡ bytes
-bytes_told [] h = refl
-bytes_told (b ∷ bytes) h =
+hex_told : (bytes : List ℕ) → list_all (λ b. nat_lt b 256) bytes ≡ true → (hex_bytes (hex_text bytes) ≡ bytes) × (list_all is_hex_digit (hex_text bytes) ≡ true)
+hex_told [] h = (refl, refl)
+hex_told (b ∷ bytes) h =
     let t = and_parts _ _ h in
     let below : b < 256 = ltb-true b 256 t.0 in
     let high = digit_value (b / 16) (omega arith) in
     let low = digit_value (b % 16) (omega arith) in
     let whole : 16 * (b / 16) + b % 16 ≡ b = omega arith in
-    rw (high.1, low.1, bytes_told bytes t.1) (ap (λ x. x ∷ bytes) whole)
-
-hex_digits : (bytes : List ℕ) → list_all (λ b. nat_lt b 256) bytes ≡ true → list_all is_hex_digit (hex_text bytes) ≡ true
-hex_digits [] h = refl
-hex_digits (b ∷ bytes) h =
-    let t = and_parts _ _ h in
-    let below : b < 256 = ltb-true b 256 t.0 in
-    and_from _ _ (digit_value (b / 16) (omega arith)).0 (and_from _ _ (digit_value (b % 16) (omega arith)).0 (hex_digits bytes t.1))
+    let rest = hex_told bytes t.1 in
+    (rw (high.1, low.1, rest.0) (ap (λ x. x ∷ bytes) whole), and_from _ _ high.0 (and_from _ _ low.0 rest.1))
 
 length-hex_text : (bytes : List ℕ) → length (hex_text bytes) ≡ 2 * length bytes
 length-hex_text [] = refl
 length-hex_text (b ∷ bytes) = omega (arith, length-hex_text bytes)
 
 hex_back : (bytes : List ℕ) → AreBytes bytes → is_hex (hex_text bytes) ≡ true
-hex_back bytes h = grind (arith, nat_tests, length-hex_text bytes, h.1.0, h.1.1, hex_digits bytes h.0)
+hex_back bytes h = grind (arith, nat_tests, length-hex_text bytes, h.1.0, h.1.1, (hex_told bytes h.0).1)
 
 pub bytes_back : (bytes : ArrayVec ℕ) → AreBytes bytes.items → bytes_at (hex_text bytes.items) ≡ Ok bytes
 unfolding bytes_at
-bytes_back bytes h = rw (hex_back bytes.items h, bytes_told bytes.items h.0) refl
+bytes_back bytes h = rw (hex_back bytes.items h, (hex_told bytes.items h.0).0) refl
 
 pub bytes_filled : (bytes : List ℕ) → AreBytes bytes → is_filled (hex_text bytes) ≡ true
 bytes_filled bytes h = lt-ltb 0 (length (hex_text bytes)) (omega (arith, length-hex_text bytes, h.1.0))
@@ -108,20 +101,13 @@ bytes_filled bytes h = lt-ltb 0 (length (hex_text bytes)) (omega (arith, length-
 not_colon : (d : ℕ) → is_digit d ≡ true → (d == 58) ≡ false
 not_colon d h = grind (arith, nat_tests)
 
-split_digits : (ds rest : List ℕ) → list_all is_digit ds ≡ true → slice_split (λ b. b == 58) (ds ++ 58 ∷ rest) ≡ ds ∷ slice_split (λ b. b == 58) rest
-split_digits [] rest h = slice_split-cons_yes (λ b. b == 58) 58 rest refl
-split_digits (d ∷ ds) rest h = let t = and_parts _ _ h in slice_split-cons_no (λ b. b == 58) d (ds ++ 58 ∷ rest) (not_colon d t.0) ∙ ap (onto_first d) (split_digits ds rest t.1)
+-- a number has no `:`
+digits : (n : ℕ) → n ≤ 65535 → All (λ b. (b == 58) ≡ false) (decimal n)
+digits n h = λ k d below. not_colon _ (AllPass-from_list_all is_digit (decimal n) (digits_decimal own n (omega arith)) k d below)
 
-last_digits : (ds : List ℕ) → list_all is_digit ds ≡ true → slice_split (λ b. b == 58) ds ≡ ds ∷ []
-last_digits [] h = refl
-last_digits (d ∷ ds) h = let t = and_parts _ _ h in slice_split-cons_no (λ b. b == 58) d ds (not_colon d t.0) ∙ ap (onto_first d) (last_digits ds t.1)
-
-digits : (n : ℕ) → n ≤ 65535 → list_all is_digit (decimal n) ≡ true
-digits n h = digits_decimal own n (omega arith)
-
-row_said_back : (row : Row) → IsRow row → row_said (decimal row.state) (decimal row.tag) (decimal row.side) (decimal row.next) ≡ Ok row
-unfolding row_said
-row_said_back row h =
+row_of_back : (row : Row) → IsRow row → row_of (decimal row.state ∷ decimal row.tag ∷ decimal row.side ∷ decimal row.next ∷ []) ≡ Ok row
+unfolding row_of row_said
+row_of_back row h =
     rw (
       between_back 0 (STATES - 1) row.state (omega (arith, h.0)) (omega arith, omega (arith, h.0)),
       between_back 0 MAX_TAG row.tag (omega (arith, h.1)) (omega arith, h.1),
@@ -129,16 +115,12 @@ row_said_back row h =
       between_back 0 (STATES - 1) row.next (omega (arith, h.3)) (omega arith, omega (arith, h.3)),
     ) refl
 
-row_of_back : (row : Row) → IsRow row → row_of (decimal row.state ∷ decimal row.tag ∷ decimal row.side ∷ decimal row.next ∷ []) ≡ Ok row
-unfolding row_of
-row_of_back row h = row_said_back row h
-
 row_back : (row : Row) → IsRow row → row_at (row_text row) ≡ Ok row
 row_back row h =
-    let state = split_digits (decimal row.state) _ (digits row.state (omega (arith, h.0))) in
-    let tag = split_digits (decimal row.tag) _ (digits row.tag h.1) in
-    let side = split_digits (decimal row.side) _ (digits row.side (omega (arith, h.2))) in
-    let next = last_digits (decimal row.next) (digits row.next (omega (arith, h.3))) in
+    let state = slice_split_at (λ b. b == 58) (decimal row.state) 58 _ (digits row.state (omega (arith, h.0))) refl in
+    let tag = slice_split_at (λ b. b == 58) (decimal row.tag) 58 _ (digits row.tag h.1) refl in
+    let side = slice_split_at (λ b. b == 58) (decimal row.side) 58 _ (digits row.side (omega (arith, h.2))) refl in
+    let next = slice_split_none (λ b. b == 58) (decimal row.next) (digits row.next (omega (arith, h.3))) in
     let pieces = state ∙ ap (λ ws. decimal row.state ∷ ws) (tag ∙ ap (λ ws. decimal row.tag ∷ ws) (side ∙ ap (λ ws. decimal row.side ∷ ws) next)) in
     ap row_of pieces ∙ row_of_back row h
 
@@ -183,10 +165,7 @@ abbrev command : Form → List (Word (List ℕ)) → Command (List ℕ)
 command form xs = record { form = form; words = record { items = xs } }
 
 none_of_three : (a b c : Bool) → not (a || b || c) ≡ true → (a ≡ false) × (b ≡ false) × (c ≡ false)
-none_of_three false false false h = (refl, refl, refl)
-none_of_three false false true h = absurd (cc)
-none_of_three false true c h = absurd (cc)
-none_of_three true b c h = absurd (cc)
+none_of_three a b c h = grind (arith, nat_tests)
 
 -- as many words as there are texts of them
 count_back : (f : Form) (xs : List (Word (List ℕ))) → has_count (shape f) (suc (length xs)) ≡ true → has_count (shape f) (1 + length (map word_text xs)) ≡ true

@@ -1,18 +1,18 @@
 -- What a word or a line is read as is spelled by it.
-use Rattle.std.proofs.Common.{◌≡◌, ◌≤◌, ◌+◌, ◌-◌, ◌*◌, ◌/◌, ◌%◌, ◌==◌, ◌&&◌, ℕ, Bool, true, false, List, [], ◌∷◌, length, map, Option, Some, None, Result, Ok, Err, refl, sym, ap, ◌∙◌, arith, nat_le}
-use Rattle.std.proofs.Common.{if◌then◌else◌, ◌⊎◌, inl, inr, not, subst}
+use Rattle.std.proofs.Common.{◌≡◌, ◌≤◌, ◌+◌, ◌-◌, ◌*◌, ◌/◌, ◌%◌, ◌==◌, ◌&&◌, ℕ, Bool, true, false, List, [], ◌∷◌, length, map, Result, Ok, Err, refl, sym, ap, ◌∙◌, arith, nat_le}
+use Rattle.std.proofs.Common.{if◌then◌else◌, ◌⊎◌, inl, inr, not}
 use Rattle.std.specs.List.{list_all, slice_split, join_with_byte}
 use Rattle.std.specs.Fmt.{decimal}
 use Rattle.std.proofs.lemmas.Bool.Decides.{nat_tests}
-use Rattle.std.proofs.lemmas.Bool.{and_parts, not-true}
+use Rattle.std.proofs.lemmas.Bool.{and_parts}
 use Rattle.std.proofs.lemmas.List.Splits.{join_with_byte-slice_split}
 use Rattle.arrayvec.specs.ArrayVec.{ArrayVec}
 use Rattle.xh_model.specs.declared.row.Row.{Row}
 use Rattle.xh_model.specs.declared.limits.TheConstants.{STATES}
 use Rattle.xh_script.specs.declared.limits.TheConstants.{MAX_TAG}
-use Rattle.xh_script.specs.Words.{is_name, number_of, is_hex_digit, is_hex, hex_value, hex_bytes}
+use Rattle.xh_script.specs.Words.{is_hex_digit, is_hex, hex_value, hex_bytes}
 use Rattle.xh_script.specs.Steps.{◌>>=◌}
-use Rattle.xh_script.specs.Sorts.{name_at, number_or, number_at, number_between, bytes_at, row_said, row_of, row_at, word_at}
+use Rattle.xh_script.specs.Sorts.{name_at, number_at, number_between, bytes_at, row_said, row_of, row_at, word_at}
 use Rattle.xh_script.specs.Forms.{Row as Shape, sort_at, shape, has_count, is_head, form_text, has_text, form_among, verbs, verb_at}
 use Rattle.xh_script.specs.Grammar.{words_from, said, head_line, verb_line, is_filled, line_by, said_by}
 use Rattle.xh_script.specs.Texts.{hex_digit, hex_text}
@@ -43,15 +43,11 @@ guarded false x e y h = absurd (cc)
 
 pub name_ok : (w p : List ℕ) → name_at w ≡ Ok p → w ≡ p
 unfolding name_at
-name_ok w p h = same_ok w p (guarded (is_name w) (Ok w) BadWord p h).1
-
-number_by : (o : Option ℕ) (n : ℕ) → number_or o ≡ Ok n → o ≡ Some n
-number_by (Some m) n h = ap Some (same_ok m n h)
-number_by None n h = absurd (cc)
+name_ok w p h = grind arith
 
 pub number_ok : (w : List ℕ) (n : ℕ) → number_at w ≡ Ok n → w ≡ decimal n
 unfolding number_at
-number_ok w n h = is_decimal w n (number_by (number_of w) n h)
+number_ok w n h = grind (arith, is_decimal w)
 
 pub between_ok : (low high : ℕ) (w : List ℕ) (n : ℕ) → number_between low high w ≡ Ok n → w ≡ decimal n
 unfolding number_between
@@ -133,10 +129,6 @@ chosen : {A : Type 0} (b : Bool) (x y z : A) → (if b then x else y) ≡ z → 
 chosen true x y z h = inl (refl, h)
 chosen false x y z h = inr (refl, h)
 
--- two texts that compare equal
-same_bytes : (a b : List ℕ) → bytes_eq a b ≡ true → a ≡ b
-same_bytes a b h = (bytes_eq-Decides a b).0 h
-
 abbrev IsVerb : List ℕ → Form → Type 0
 IsVerb word form = (word ≡ form_text form) × (is_head form ≡ false)
 
@@ -144,11 +136,8 @@ IsVerb word form = (word ≡ form_text form) × (is_head form ≡ false)
 form_found : (forms : List Form) (word : List ℕ) (form : Form) → list_all (λ f. not (is_head f)) forms ≡ true → form_among forms word ≡ Ok form → IsVerb word form
 form_found [] word form plain h = absurd (cc)
 form_found (tried ∷ forms) word form plain h =
-    let p = and_parts _ _ plain in
-    elim (chosen (has_text word tried) (Ok tried) (form_among forms word) (Ok form) h) [
-      | inl k ↦ subst (λ f. IsVerb word f) (same_ok tried form k.1) (same_bytes word (form_text tried) k.0, not-true (is_head tried) p.0)
-      | inr k ↦ form_found forms word form p.1 k.1
-    ]
+    let p = and_parts (not (is_head tried)) (list_all (λ f. not (is_head f)) forms) plain in
+    grind (arith, nat_tests, p.0, bytes_eq-Decides word (form_text tried), form_found forms word form p.1)
 
 verb_ok : (word : List ℕ) (form : Form) → verb_at word ≡ Ok form → IsVerb word form
 unfolding verb_at
@@ -186,7 +175,7 @@ verb_line_ok p (verb ∷ words) c h =
 
 -- a line with this first word
 first_is : (first word : List ℕ) (words : List (List ℕ)) (c : Command (List ℕ)) → bytes_eq first word ≡ true → word ∷ words ≡ spelled c → first ∷ words ≡ spelled c
-first_is first word words c same h = ap (λ t. t ∷ words) (same_bytes first word same) ∙ h
+first_is first word words c same h = ap (λ t. t ∷ words) ((bytes_eq-Decides first word).0 same) ∙ h
 
 line_ok : (first : List ℕ) (words : List (List ℕ)) (c : Command (List ℕ)) → line_by first words ≡ Ok c → first ∷ words ≡ spelled c
 unfolding line_by

@@ -1,14 +1,9 @@
 -- Lemmas on what is written in several calls.
-use Rattle.std.proofs.Common.{◌≡◌, ℕ, suc, List, [], ◌∷◌, ◌++◌, ◌/◌, ◌%◌, codes, Option, Some, None, Result, Ok, Err, refl, ap, sym, ◌∙◌, append_assoc, map, drop, get_or}
+use Rattle.std.proofs.Common.{◌≡◌, ℕ, suc, List, [], ◌∷◌, ◌++◌, Option, Some, None, Result, Ok, Err, ap, sym, ◌∙◌, append_assoc, drop, get_or}
 use Rattle.std.proofs.Common.{length, ◌<◌, ◌+◌, add-one, drop-cons, IsErrAnd}
-use Rattle.std.specs.List.{concat}
-use Rattle.xh_script.specs.Texts.{arena_text, arena_texts, place_text, place_texts, length_text, lengths_text, reply_text, answer_texts, hex_digit, hex_text}
+use Rattle.xh_script.specs.Texts.{reply_text, answer_texts}
 use Rattle.xh_script.specs.declared.reply.Answered.{Answered}
-use Rattle.xh_core.specs.declared.ledger.ArenaLine.{ArenaLine}
-use Rattle.xh_core.specs.declared.ledger.PlaceLine.{PlaceLine}
 use Rattle.std.specs.Io.KnownBytes.{Appends}
-use Rattle.xh_script.specs.declared.put.Piece.{Piece}
-use Rattle.xh_script.specs.inner.Pieces.{piece_text}
 use Rattle.xh_script.specs.Watching.{inner_of, Writes, WritesFront, WritesOrFails}
 use Rattle.xh_script.specs.declared.watch.Watched.{Watched}
 use Rattle.xh_script.specs.declared.fault.Fault.{Fault}
@@ -70,24 +65,6 @@ module _ {T : Type 0} (contents : T → Option (List ℕ)) where
       WritesOrFails contents b c (Err e) piece → WritesOrFails contents a c r whole
   stops_at a b c r e piece more rest whole w s h q = rw (w.2, s) (WritesOrFails-then a b c r w.0 (piece ++ more) w.1 (stops b c r e piece more h q))
 
--- the pieces from the i-th on
-pub pieces_at : (pieces : List Piece) (i : ℕ) (d : Piece) → i < length pieces → concat (map piece_text (drop i pieces)) ≡ piece_text (get_or pieces i d) ++ concat (map piece_text (drop (i + 1) pieces))
-pieces_at pieces i d below = rw (drop-cons pieces i d, add-one i) refl
-
-pub arenas_at : (arenas : List ArenaLine) (i : ℕ) (d : ArenaLine) → i < length arenas → arena_texts i (drop i arenas) ≡ arena_text i (get_or arenas i d) ++ arena_texts (i + 1) (drop (i + 1) arenas)
-arenas_at arenas i d below = rw (drop-cons arenas i d, add-one i) refl
-
-pub places_at : (names : List (List ℕ)) (places : List PlaceLine) (i : ℕ) (d : PlaceLine) → i < length places
-    → place_texts names (drop i places) ≡ place_text names (get_or places i d) ++ place_texts names (drop (i + 1) places)
-places_at names places i d below = rw (drop-cons places i d, add-one i) refl
-
-pub lengths_at : (lengths : List (Option ℕ)) (i : ℕ) (d : Option ℕ) → i < length lengths
-    → lengths_text (drop i lengths) ≡ concat (codes " " ∷ length_text (get_or lengths i d) ∷ []) ++ lengths_text (drop (i + 1) lengths)
-lengths_at lengths i d below = rw (drop-cons lengths i d, add-one i) refl
-
 pub answers_at : (answers : List Answered) (i : ℕ) (a : Answered) → a ≡ get_or answers i a → i < length answers
     → answer_texts (drop i answers) ≡ reply_text a.line a.reply ++ answer_texts (drop (i + 1) answers)
 answers_at answers i a item below = rw (drop-cons answers i a, add-one i) (ap (λ b. reply_text b.line b.reply ++ answer_texts (drop (suc i) answers)) (sym item))
-
-pub hex_text_at : (bytes : List ℕ) (i : ℕ) (d : ℕ) → i < length bytes → hex_text (drop i bytes) ≡ hex_digit (get_or bytes i d / 16) ∷ hex_digit (get_or bytes i d % 16) ∷ hex_text (drop (i + 1) bytes)
-hex_text_at bytes i d below = rw (drop-cons bytes i d, add-one i) refl

@@ -51,8 +51,7 @@ impl Word<u8> {
         ensures { result ≡ name_in self.now }
     {
         match self {
-            Word::Process(name) => *name,
-            Word::Block(name) => *name,
+            Word::Process(name) | Word::Block(name) => *name,
             _ => 0,
         }
     }

@@ -1,6 +1,6 @@
 //! The table of the language: a row for each form of line.
 ghost use Rattle.std.specs.Prelude.{◌≡◌, ◌≤◌, ◌+◌, length, true};
-ghost use Rattle.xh_script.specs.Forms.{just, and_more, form_among, form_text, shape, is_head, declares, verb_at, sort_at, has_count};
+ghost use Rattle.xh_script.specs.Forms.{just, and_more, form_among, form_text, shape, is_head, verb_at, sort_at, has_count};
 ghost use Rattle.xh_script.specs.declared.limits.TheConstants.{MAX_WORDS};
 
 use crate::Kind;
@@ -174,13 +174,6 @@ impl Form {
         ensures { result ≡ is_head self }
     {
         matches!(self, Form::Contract | Form::Process | Form::Wire)
-    }
-
-    /// Whether its lines declare a contract.
-    pub(crate) fn declares(self) -> bool
-        ensures { result ≡ declares self }
-    {
-        matches!(self, Form::Contract)
     }
 
     /// The form's own word.

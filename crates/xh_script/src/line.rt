@@ -121,16 +121,10 @@ fn said_by(alloc: Global, words: &[&[u8]], said: &mut Words<Name>) -> Result<For
     }
 }
 
-fn is_printable(b: u8) -> bool
-    ensures { result ≡ is_printable b }
-{
-    0x20 <= b && b <= 0x7e
-}
-
 fn has_printable(line: &[u8]) -> bool
     ensures { result ≡ list_all is_printable line.now }
 {
-    line.iter().all(|b| is_printable(*b))
+    line.iter().all(|b| 0x20 <= *b && *b <= 0x7e)
 }
 
 fn is_skipped(line: &[u8]) -> bool

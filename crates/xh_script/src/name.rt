@@ -66,16 +66,11 @@ fn is_keyword(word: &[u8]) -> bool
     word == b"process".as_slice() || word == b"wire".as_slice() || word == b"contract".as_slice()
 }
 
-fn is_name_byte(b: u8) -> bool
-    ensures { result ≡ is_name_byte b }
-{
-    b.is_ascii_lowercase() || b.is_ascii_digit()
-}
-
 fn has_name_bytes(word: &[u8]) -> bool
     ensures { result ≡ list_all is_name_byte word.now }
 {
-    word.iter().all(|b| is_name_byte(*b))
+    word.iter()
+        .all(|b| b.is_ascii_lowercase() || b.is_ascii_digit())
 }
 
 /// Whether a word is a name.
@@ -89,13 +84,14 @@ pub(crate) fn is_name(word: &[u8]) -> bool
         && !is_keyword(word)
 }
 
-fn letters_of(word: &[u8]) -> ArrayVec<u8, MAX_NAME>
-    requires { length word.now ≤ MAX_NAME }
-    ensures { result.items ≡ word.now }
+/// The same bytes once more.
+pub(crate) fn copy_of<const N: usize>(bytes: &[u8]) -> ArrayVec<u8, N>
+    requires { length bytes.now ≤ N }
+    ensures { result.items ≡ bytes.now }
 {
-    let mut letters = ArrayVec::new();
-    let _ = letters.try_extend_from_slice(word);
-    letters
+    let mut copy = ArrayVec::new();
+    let _ = copy.try_extend_from_slice(bytes);
+    copy
 }
 
 impl Name {
@@ -107,7 +103,7 @@ impl Name {
             return None;
         }
         Some(Name {
-            letters: letters_of(word),
+            letters: copy_of(word),
         })
     }
 
@@ -123,7 +119,7 @@ impl Name {
         ensures { result ≡ self.now }
     {
         Name {
-            letters: letters_of(self.letters.as_slice()),
+            letters: copy_of(self.letters.as_slice()),
         }
     }
 }

@@ -1,15 +1,12 @@
 //! Numbers.
-ghost use Rattle.std.specs.Prelude.{◌≡◌, ◌-◌, ◌<◌, ◌≤◌, length, IfSome, IfOk};
+ghost use Rattle.std.specs.Prelude.{◌≡◌, ◌<◌, ◌≤◌, length, IfOk};
 ghost use Rattle.std.specs.List.{list_all};
-ghost use Rattle.std.specs.Fmt.{decimal};
 ghost use Rattle.xh_script.specs.Words.{is_digit, has_no_zero_in_front, is_numeral, number_of, value_of};
 ghost use Rattle.xh_script.specs.Sorts.{number_at, number_between};
-ghost use Rattle.xh_model.specs.declared.limits.TheConstants.{STATES};
-ghost use Rattle.xh_script.specs.declared.limits.TheConstants.{MAX_DIGITS, MAX_TAG};
+ghost use Rattle.xh_script.specs.declared.limits.TheConstants.{MAX_DIGITS};
 
 use crate::Kind;
-use crate::limits::{MAX_DIGITS, MAX_TAG};
-use xh_model::limits::STATES;
+use crate::limits::MAX_DIGITS;
 
 fn has_no_zero_in_front(word: &[u8]) -> bool
     requires { 0 < length word.now }
@@ -52,20 +49,12 @@ fn number_of(word: &[u8]) -> Option<u32>
     u32::try_from(value_of(word)).ok()
 }
 
-/// The number below 2^32 whose decimal digits a word is.
-fn read_number(word: &[u8]) -> Option<u32>
-    ensures value { result ≡ number_of word.now }
-    ensures text { IfSome result (λ n. word.now ≡ decimal n) }
-{
-    number_of(word)
-}
-
 /// The number below 2^32 that a word is.
 #[tactic(auto, unfolding(crate::specs::Sorts::number_at))]
 fn number_at(word: &[u8]) -> Result<u32, Kind>
     ensures { result ≡ number_at word.now }
 {
-    read_number(word).ok_or(Kind::BadNumber)
+    number_of(word).ok_or(Kind::BadNumber)
 }
 
 /// The number that a word is, if it is in this range.
@@ -80,25 +69,4 @@ pub(crate) fn number_between(low: u32, high: u32, word: &[u8]) -> Result<u32, Ki
     } else {
         Err(Kind::BadNumber)
     }
-}
-
-/// A state of a contract.
-pub(crate) fn state_at(word: &[u8]) -> Result<u8, Kind>
-    ensures { result ≡ number_between 0 (STATES - 1) word.now }
-{
-    Ok(number_between(0, u32::from(STATES) - 1, word)? as u8)
-}
-
-/// A side of a channel.
-pub(crate) fn side_at(word: &[u8]) -> Result<u8, Kind>
-    ensures { result ≡ number_between 0 1 word.now }
-{
-    Ok(number_between(0, 1, word)? as u8)
-}
-
-/// A tag.
-pub(crate) fn tag_at(word: &[u8]) -> Result<u16, Kind>
-    ensures { result ≡ number_between 0 MAX_TAG word.now }
-{
-    Ok(number_between(0, MAX_TAG, word)? as u16)
 }

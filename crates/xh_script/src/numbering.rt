@@ -3,25 +3,16 @@ ghost use Rattle.std.specs.Prelude.{◌≡◌, ◌<◌, ◌≤◌, [], IfOk, len
 ghost use Rattle.std.specs.List.{list_all};
 ghost use Rattle.xh_script.specs.inner.Stops.{Answers};
 ghost use Rattle.xh_script.specs.Numbering.{word_in, words_in, is_known, numbered, rows_in, declared_by, declared, placed};
-ghost use Rattle.xh_script.specs.declared.limits.TheConstants.{MAX_HEX, MAX_PROCESSES, MAX_WORDS};
+ghost use Rattle.xh_script.specs.declared.limits.TheConstants.{MAX_PROCESSES, MAX_WORDS};
 
 use crate::command::Words;
-use crate::limits::{MAX_CONTRACTS, MAX_HEX, MAX_WORDS};
+use crate::limits::{MAX_CONTRACTS, MAX_WORDS};
+use crate::name::copy_of;
 use crate::reading::Reading;
 use crate::table::table_of;
 use crate::{Form, Kind, Name, Stop, Word};
 use arrayvec::ArrayVec;
 use xh_model::Row;
-
-/// The same bytes once more.
-fn copy_of(bytes: &[u8]) -> ArrayVec<u8, MAX_HEX>
-    requires { length bytes.now ≤ MAX_HEX }
-    ensures { result.items ≡ bytes.now }
-{
-    let mut copy = ArrayVec::new();
-    let _ = copy.try_extend_from_slice(bytes);
-    copy
-}
 
 /// The rows among words.
 fn rows_in(words: &[Word<Name>]) -> ArrayVec<Row, MAX_WORDS>
@@ -166,7 +157,7 @@ impl Reading {
         if head && self.begun {
             return Err(Stop::Bad(Kind::LateHead));
         }
-        if form.declares() {
+        if matches!(form, Form::Contract) {
             return self.declare(said, numbers);
         }
         self.begun = self.begun || !head;

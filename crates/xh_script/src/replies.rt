@@ -9,7 +9,7 @@ ghost use Rattle.xh_script.specs.declared.limits.TheConstants.{MAX_HEX};
 
 use crate::limits::MAX_HEX;
 use crate::put::Piece::{Number, Text};
-use crate::put::{put, put_all};
+use crate::put::{Piece, put, put_all};
 use crate::{Answered, Fault, Reply, Watched};
 use arrayvec::ArrayVec;
 use std::io::Write;
@@ -18,14 +18,19 @@ use xh_core::Refused;
 /// The digits of a HEX, at most.
 const DIGITS: usize = 2 * MAX_HEX;
 
+const OK: Piece = Text(b" ok ");
+
+const NO: Piece = Text(b" no ");
+
+const SPACE: Piece = Text(b" ");
+
+const END: Piece = Text(b"\n");
+
 #[tactic(auto, unfolding(crate::specs::Texts::number_text))]
 fn put_number<W: Write>(writer: &mut Watched<W>, line: u64, n: u64) -> Result<(), Fault>
     ensures { WritesOrFails W.contents writer.old writer.new result (number_text line n) }
 {
-    put_all(
-        writer,
-        &[Number(line), Text(b" ok "), Number(n), Text(b"\n")],
-    )
+    put_all(writer, &[Number(line), OK, Number(n), END])
 }
 
 #[tactic(auto, unfolding(crate::specs::Texts::numbers_text))]
@@ -34,14 +39,7 @@ fn put_numbers<W: Write>(writer: &mut Watched<W>, line: u64, n: u64, m: u64) -> 
 {
     put_all(
         writer,
-        &[
-            Number(line),
-            Text(b" ok "),
-            Number(n),
-            Text(b" "),
-            Number(m),
-            Text(b"\n"),
-        ],
+        &[Number(line), OK, Number(n), SPACE, Number(m), END],
     )
 }
 
@@ -74,8 +72,7 @@ fn put_bytes<W: Write>(
         (concat (decimal line ∷ codes " ok " ∷ hex_text bytes.now.items ∷ codes "\n" ∷ [])) }
 {
     let digits = hex_text(bytes);
-    let digits = Text(digits.as_slice());
-    put_all(writer, &[Number(line), Text(b" ok "), digits, Text(b"\n")])
+    put_all(writer, &[Number(line), OK, Text(digits.as_slice()), END])
 }
 
 fn put_length<W: Write>(writer: &mut Watched<W>, length: Option<u32>) -> Result<(), Fault>
@@ -83,7 +80,7 @@ fn put_length<W: Write>(writer: &mut Watched<W>, length: Option<u32>) -> Result<
         (concat (codes " " ∷ length_text length ∷ [])) }
 {
     match length {
-        Some(n) => put_all(writer, &[Text(b" "), Number(u64::from(n))]),
+        Some(n) => put_all(writer, &[SPACE, Number(u64::from(n))]),
         None => put_all(writer, &[Text(b" -")]),
     }
 }
@@ -106,16 +103,8 @@ fn put_message<W: Write>(
     ensures { WritesOrFails W.contents writer.old writer.new result
         (concat (decimal line ∷ codes " ok " ∷ decimal number ∷ codes " " ∷ decimal tag ∷ [])) }
 {
-    put_all(
-        writer,
-        &[
-            Number(line),
-            Text(b" ok "),
-            Number(number),
-            Text(b" "),
-            Number(u64::from(tag)),
-        ],
-    )
+    let tag = Number(u64::from(tag));
+    put_all(writer, &[Number(line), OK, Number(number), SPACE, tag])
 }
 
 #[tactic(auto, unfolding(crate::specs::Texts::taken_text))]
@@ -147,10 +136,8 @@ fn give_count_of(refused: &Refused) -> Option<u32>
     ensures { result ≡ give_count_of refused.now }
 {
     match refused {
-        Refused::Full { back } => Some(back.len() as u32),
         Refused::PeerClosed { back } => Some(back.len() as u32),
-        Refused::Unfinished { left } => Some(*left),
-        _ => None,
+        _ => count_of(refused),
     }
 }
 
@@ -163,33 +150,15 @@ fn put_refusal<W: Write>(
 ) -> Result<(), Fault>
     ensures { WritesOrFails W.contents writer.old writer.new result (refusal_text line (number_of refused.now) (name_of refused.now) count) }
 {
+    let line = Number(line);
     let code = Number(u64::from(refused.number()));
     let name = Text(refused.name().as_bytes());
     match count {
-        None => put_all(
-            writer,
-            &[
-                Number(line),
-                Text(b" no "),
-                code,
-                Text(b" "),
-                name,
-                Text(b"\n"),
-            ],
-        ),
-        Some(n) => put_all(
-            writer,
-            &[
-                Number(line),
-                Text(b" no "),
-                code,
-                Text(b" "),
-                name,
-                Text(b" "),
-                Number(u64::from(n)),
-                Text(b"\n"),
-            ],
-        ),
+        None => put_all(writer, &[line, NO, code, SPACE, name, END]),
+        Some(n) => {
+            let count = Number(u64::from(n));
+            put_all(writer, &[line, NO, code, SPACE, name, SPACE, count, END])
+        }
     }
 }
 

@@ -6,6 +6,7 @@ use xh_core::Contract;
 use xh_model::Row;
 
 /// The contract of these rows, if they are one.
+#[tactic(auto, using(crate::proofs::TableLemmas::table_true, crate::proofs::TableLemmas::table_false))]
 pub(crate) fn table_of(rows: &[Row]) -> Option<Contract>
     ensures { result ≡ (if is_table rows.now then Some rows.now else None) }
 {

@@ -1,18 +1,19 @@
 -- What a change of a list, of a status or of free records leaves: a whole machine; and what a stop and a close reclaim.
+use Rattle.std.proofs.Common.{rules}
 use Rattle.std.proofs.Common.{◌≡◌, ℕ, zero, suc, ◌+◌, ◌-◌, ◌<◌, ◌≤◌, Bool, List, [], ◌∷◌, ◌++◌, length, drop, true, cond, refl, sym, ap, ◌∙◌, arith, append-nil, subst, ◌≢◌, ◌*◌, take}
-use Rattle.std.proofs.Common.{length-drop, inl, inr}
-use Rattle.std.specs.Prelude.{None, not, unwrap_or, ◌==◌, slice_set, slice_index_or, Option, Some, is_some, replicate}
+use Rattle.std.proofs.Common.{length-drop}
+use Rattle.std.specs.Prelude.{None, not, unwrap_or, ◌==◌, slice_set, slice_index_or, Some, is_some, replicate}
 use Rattle.std.specs.List.{remove, position, position_or_len}
 use Rattle.std.proofs.lemmas.Bool.Decides.{nat_tests}
 use Rattle.xh_core.proofs.Claiming.{one_time, in_range}
 use Rattle.xh_serial.proofs.Machines.{list_set, runs_busy, place_there, list_here, current_generation, busy_place, places_set, places_whole, same_lists, IsPlace, current_blocks}
-use Rattle.std.proofs.lemmas.Bool.{false≢true, cases_eq, eq-eqb, ne_eqb}
+use Rattle.std.proofs.lemmas.Bool.{false≢true, eq-eqb, ne_eqb}
 use Rattle.std.proofs.lemmas.List.Sums.{sum_by-remove, passes_at_first, prefix_len-le-length}
 use Rattle.std.proofs.lemmas.List.Edits.{length-remove}
 use Rattle.std.proofs.lemmas.List.{set-get_or, nil_from_length, length-set, length-take-le, length-replicate}
 use Rattle.xh_model.specs.declared.event.Holder.TheVariants.{Process, Direction}
 use Rattle.xh_model.specs.Store.{holds, Store, owner, len, is_known, after}
-use Rattle.xh_serial.specs.Machine.{Machine, blocks, place, end_of, IsWhole, arriving, with_status, buffer, with_list, listed, IsEnd}
+use Rattle.xh_serial.specs.Machine.{Machine, blocks, place, end_of, IsWhole, arriving, with_status, buffer, with_list, listed}
 use Rattle.xh_core.specs.Several.{times}
 use Rattle.xh_serial.specs.Commands.{IsRunning}
 use Rattle.xh_serial.specs.Sweeping.{sweep_one, sweep, Sweeps}
@@ -55,10 +56,6 @@ drop_to [] e n h = let z : n ≡ 0 = sym h in rw z refl
 drop_to (x ∷ xs) e zero h = absurd (omega arith)
 drop_to (x ∷ xs) e (suc n) h = drop_to xs e n (omega arith)
 
-pub drop_last : (e : ℕ) (rs : List ℕ) → 0 < times e rs → drop (length rs - 1) (last e rs) ≡ e ∷ []
-drop_last e rs h = let b : length (remove rs (position_or_len (λ x. x == e) rs)) + 1 ≡ length rs = length-remove rs (position_or_len (λ x. x == e) rs) (found e rs h) in
-    drop_to (remove rs (position_or_len (λ x. x == e) rs)) e (length rs - 1) (omega arith)
-
 pub one_listed : (m : Machine) (p e : ℕ) → IsWhole m → holds m.store (Process p) e ≡ true → 0 < times e (blocks m p)
 one_listed m p e w h = let o : times e (blocks m p) ≡ 1 = w.once (Process p) e ∙ rw h refl in omega arith
 
@@ -70,11 +67,7 @@ module _ (m : Machine) (p e : ℕ) (w : IsWhole m) (r : IsRunning m p) (h : hold
 -- to free a data block is to sweep its entry
 pub frees_block : (m : Machine) (p r : ℕ) → 0 < times r (blocks m p) → end_of m r ≡ None → sweep_one p (position_or_len (λ q. q == r) (blocks m p)) m ≡ freed_block p r m
 unfolding sweep_one freed_block
-frees_block m p r h none =
-    let at : ℕ = position_or_len (λ q. q == r) (blocks m p) in
-    let is : slice_index_or (blocks m p) at 0 ≡ r = is_found r (blocks m p) h in
-    let same_end : slice_set m.ends r None ≡ m.ends = ap (slice_set m.ends r) (sym none) ∙ set-get_or m.ends r None in
-    rw (is, none, append-nil (blocks m p), same_end) refl
+frees_block m p r h none = grind (arith, nat_tests, is_found, set-get_or, append-nil)
 
 -- ---- another status
 
@@ -122,8 +115,7 @@ stop_frees m n p budget w is none =
 
 pub close_sweeps : (budget : ℕ) (m n : Machine) (p e : ℕ) → IsWhole m → IsRunning m p → holds m.store (Process p) e ≡ true →
     n ≡ sweep p (length (blocks m p) - 1) budget (moved_last p e m) → Sweeps p (length (blocks m p) - 1) budget (moved_last p e m) n
-close_sweeps budget m n p e w r h is =
-    subst (Sweeps p (length (blocks m p) - 1) budget (moved_last p e m)) (sym is) (sweep_sweeps budget p (length (blocks m p) - 1) (moved_last p e m) (last_whole m p e w r h))
+close_sweeps budget m n p e w r h is = grind (arith, nat_tests, sweep_sweeps, last_whole)
 
 pub close_frees : (budget : ℕ) (m n : Machine) (p e : ℕ) → IsWhole m → IsRunning m p → holds m.store (Process p) e ≡ true → 2048 < budget →
     n ≡ sweep p (length (blocks m p) - 1) budget (moved_last p e m) → Frees (arriving m) m.store n.store (e ∷ [])
@@ -132,7 +124,7 @@ close_frees budget m n p e w r h b is =
     let whole : IsWhole (moved_last p e m) = last_whole m p e w r h in
     let done : length (blocks n p) ≤ from = finishes p from budget (moved_last p e m) n whole b (close_sweeps budget m n p e w r h is) in
     let here : blocks (moved_last p e m) p ≡ last e (blocks m p) = list_here m.places p (record (place m p) { blocks = record { items = last e (blocks m p) } }) (place_there m p w) r.0 in
-    let list : drop from (blocks (moved_last p e m) p) ≡ e ∷ [] = ap (drop from) here ∙ drop_last e (blocks m p) (one_listed m p e w h) in
+    let list : drop from (blocks (moved_last p e m) p) ≡ e ∷ [] = ap (drop from) here ∙ (grind (arith, nat_tests, length-remove, found, drop_to)) in
     subst (Frees (arriving m) m.store n.store) list
     (subst (λ (x : Machine). Frees (arriving m) m.store x.store (drop from (blocks (moved_last p e m) p))) (sym is)
     (sweep_frees budget p from (moved_last p e m) whole (subst (λ (x : Machine). length (blocks x p) ≤ from) is done)))
@@ -141,10 +133,7 @@ close_frees budget m n p e w r h b is =
 
 -- a free record is no endpoint
 pub free_no_end : (m : Machine) (r : ℕ) → IsWhole m → owner m.store r ≡ None → end_of m r ≡ None
-free_no_end m r w f = no_end (end_of m r) (λ d e. false≢true (ap is_some (sym f) ∙ (w.ends r d e).held)) where
-  no_end : (o : Option ℕ) → ((d : ℕ) → o ≡ Some d → ⊥) → o ≡ None
-  no_end None h = refl
-  no_end (Some d) h = absurd (h d refl)
+free_no_end m r w f = grind (arith, nat_tests)
 
 -- p gains free records; endpoints, channels and the other lists stay
 module _ (p : ℕ) (rs : List ℕ) (m n : Machine) (w : IsWhole m) (r : IsRunning m p) (g : Gained p rs m.store n.store) (places : n.places ≡ (with_list p (blocks m p ++ rs) m).places)
@@ -198,9 +187,7 @@ allocated_whole m p r n w run g f there long others =
 
 pub listed_place : (m : Machine) (p r : ℕ) → IsWhole m → IsRunning m p → holds m.store (Process p) r ≡ true →
     position_or_len (λ q. q == r) (place m p).blocks.items < length (place m p).blocks.items
-listed_place m p r w run h =
-    let there : position_or_len (λ q. q == r) (blocks m p) < length (blocks m p) = found r (blocks m p) (one_listed m p r w h) in
-    subst (λ (xs : List ℕ). position_or_len (λ q. q == r) xs < length xs) (current_blocks m p run.0) there
+listed_place m p r w run h = grind (arith, nat_tests, found, one_listed, current_blocks)
 
 -- a data block is freed
 pub freed_whole : (m : Machine) (p r : ℕ) → IsWhole m → holds m.store (Process p) r ≡ true → end_of m r ≡ None → IsWhole (freed_block p r m)
@@ -213,17 +200,7 @@ freed_whole m p r w h e =
 split_bytes : (m : Machine) (u : Store) (r t k : ℕ) → IsWhole m → end_of m r ≡ None → owner m.store t ≡ None → r ≢ t → r < length m.store.owners → t < length m.store.owners → k ≤ len m.store r →
     len u r ≡ k → len u t + k ≡ len m.store r → ((q : ℕ) → q ≢ r → q ≢ t → len u q ≡ len m.store q) →
     (q : ℕ) → length (slice_index_or (slice_set (slice_set m.buffers t (drop k (buffer m r))) r (take k (buffer m r))) q []) ≡ cond (is_some (end_of m q)) 0 (len u q)
-split_bytes m u r t k w d f ne there t_there few head tail others q =
-    let long : length (buffer m r) ≡ len m.store r = w.bytes r ∙ rw d refl in
-    let bs : List (List ℕ) = slice_set m.buffers t (drop k (buffer m r)) in
-    let r_in : r < length bs = subst (λ (j : ℕ). r < j) (sym (length-set m.buffers t (drop k (buffer m r)) ∙ w.buffers)) there in
-    rw (at_set bs r q (take k (buffer m r)) [] r_in, at_set m.buffers t q (drop k (buffer m r)) [] (rw w.buffers t_there)) (elim (cases_eq q r) [
-      | inl e ↦ rw (eq-eqb q r e, e, d, head) (length-take-le k (buffer m r) (rw long few))
-      | inr nr ↦ rw (ne_eqb q r nr) (elim (cases_eq q t) [
-        | inl e ↦ rw (eq-eqb q t e, e, free_no_end m t w f) (let rest : length (drop k (buffer m r)) ≡ length (buffer m r) - k = length-drop k (buffer m r) in omega (arith, rest, long, tail))
-        | inr nt ↦ rw (ne_eqb q t nt, others q nr nt) (w.bytes q)
-      ])
-    ])
+split_bytes m u r t k w d f ne there t_there few head tail others q = grind (arith, nat_tests, length-set, at_set, eq-eqb, length-take-le, few, ne_eqb, free_no_end, length-drop)
 
 -- a block is split
 pub parted_whole : (m : Machine) (p r t k : ℕ) → IsWhole m → IsRunning m p → Gained p (t ∷ []) m.store (after (Cut p r t k) (after (Claim p t) m.store)) →
@@ -231,24 +208,10 @@ pub parted_whole : (m : Machine) (p r t k : ℕ) → IsWhole m → IsRunning m p
     len (after (Cut p r t k) (after (Claim p t) m.store)) r ≡ k → len (after (Cut p r t k) (after (Claim p t) m.store)) t + k ≡ len m.store r →
     ((q : ℕ) → q ≢ r → q ≢ t → len (after (Cut p r t k) (after (Claim p t) m.store)) q ≡ len m.store q) → IsWhole (parted p r t k m)
 unfolding parted
-parted_whole m p r t k w run g d f ne there t_there few head tail others =
-    gained_whole p (t ∷ []) m (parted p r t k m) w run g refl refl refl refl refl refl
-    (length-set (slice_set m.buffers t (drop k (buffer m r))) r (take k (buffer m r)) ∙ length-set m.buffers t (drop k (buffer m r)))
-    (split_bytes m (after (Cut p r t k) (after (Claim p t) m.store)) r t k w d f ne there t_there few head tail others)
+parted_whole m p r t k w run g d f ne there t_there few head tail others = search (rules, gained_whole, length-set, split_bytes, few)
 
 -- ---- write
 
 -- a block has other bytes, as many as before
 pub written_whole : (m : Machine) (r : ℕ) (new : List ℕ) → IsWhole m → r < length m.buffers → length new ≡ length (buffer m r) → IsWhole (record m { buffers = slice_set m.buffers r new })
-written_whole m r new w l e = record {
-  store = w.store;
-  once = w.once;
-  full = w.full;
-  kinds = w.kinds;
-  ends = λ q d h. let was : IsEnd m q d = w.ends q d h in record { held = was.held; opened = was.opened; alone = was.alone };
-  buffers = length-set m.buffers r new ∙ w.buffers;
-  bytes = λ q. grind (arith, nat_tests, at_set m.buffers r q new [] l, w.bytes q);
-  places = w.places;
-  channels = w.channels;
-  deep = w.deep;
-}
+written_whole m r new w l e = grind (arith, nat_tests, length-set, at_set)

@@ -37,9 +37,7 @@ pub relisted_list : (ps : List Place) (p : ℕ) (rs : List ℕ) → p % 32 < len
 relisted_list ps p rs l = ap (λ (x : Place). x.blocks.items) (place_here ps p (record (place_in ps p) { blocks = record { items = rs } }) l)
 
 pub relisted_again : (ps : List Place) (p : ℕ) (rs ss : List ℕ) → p % 32 < length ps → relisted p ss (relisted p rs ps) ≡ relisted p ss ps
-relisted_again ps p rs ss l =
-    ap (λ (x : Place). slice_set (relisted p rs ps) (p % 32) (record x { blocks = record { items = ss } })) (place_here ps p (record (place_in ps p) { blocks = record { items = rs } }) l)
-    ∙ set-set ps (p % 32) (record (place_in ps p) { blocks = record { items = rs } }) (record (place_in ps p) { blocks = record { items = ss } })
+relisted_again ps p rs ss l = grind (arith, nat_tests, place_here, set-set)
 
 pub list_here : (ps : List Place) (p : ℕ) (x : Place) → p % 32 < length ps → (x.generation == (p / 32)) ≡ true → list_in (slice_set ps (p % 32) x) p ≡ x.blocks.items
 list_here ps p x l g = rw (place_here ps p x l, g) refl
@@ -74,14 +72,7 @@ pub record IsPlace (x : Place) : Type 0 where
 
 -- the places but for one
 pub places_set : (ps : List Place) (p : ℕ) (x : Place) → ArePlaces ps → IsPlace x → ArePlaces (slice_set ps (p % 32) x)
-places_set ps p x a is =
-    let e = a.long in
-    let at : (k : ℕ) → place_in (slice_set ps (p % 32) x) k ≡ cond ((k % 32) == (p % 32)) x (place_in ps k) = λ k. at_set ps (p % 32) (k % 32) x no_place (omega (arith, e)) in
-    record {
-      long = length-set ps (p % 32) x ∙ a.long;
-      generations = λ k. grind (arith, nat_tests, at k, a.generations k, is.generation);
-      idle = λ k h. grind (arith, nat_tests, at k, a.idle k, is.idle, h);
-    }
+places_set ps p x a is = grind (arith, nat_tests, at_set, length-set)
 
 -- a place that is not idle may have any list
 pub busy_place : (m : Machine) (p : ℕ) (rs : List ℕ) → IsWhole m → is_over (place m p).status ≡ false →
@@ -95,18 +86,7 @@ module _ (m : Machine) (ps : List Place) (w : IsWhole m) (a : ArePlaces ps) (sam
   once_placed (Direction d) q = w.once (Direction d) q
 
   pub places_whole : IsWhole (record m { places = ps })
-  places_whole = record {
-    store = w.store;
-    once = once_placed;
-    full = w.full;
-    kinds = w.kinds;
-    ends = λ r d e. let was = w.ends r d e in record { held = was.held; opened = was.opened; alone = was.alone };
-    buffers = w.buffers;
-    bytes = w.bytes;
-    places = a;
-    channels = w.channels;
-    deep = w.deep;
-  }
+  places_whole = grind (arith, nat_tests, once_placed)
 
 -- a place that lists something is not idle
 pub lists_busy : (m : Machine) (p from : ℕ) → IsWhole m → from < length (blocks m p) → is_over (place m p).status ≡ false

@@ -1,11 +1,11 @@
 -- A give and a take leave a whole machine.
-use Rattle.std.proofs.Common.{◌≡◌, ◌≢◌, ℕ, ◌+◌, ◌*◌, ◌/◌, ◌%◌, ◌<◌, ◌≤◌, List, [], ◌∷◌, ◌++◌, length, Bool, true, false, cond, refl, sym, ap, ◌∙◌, subst, arith, inl, inr, get_or-set_same}
+use Rattle.std.proofs.Common.{◌≡◌, ◌≢◌, ℕ, ◌+◌, ◌*◌, ◌/◌, ◌%◌, ◌<◌, ◌≤◌, List, [], ◌∷◌, ◌++◌, length, Bool, true, false, cond, refl, sym, ap, ◌∙◌, subst, arith, get_or-set_same}
 use Rattle.std.proofs.Common.{get_or-set_other, append-nil, ◌-◌}
 use Rattle.std.specs.Prelude.{Option, Some, None, is_none, ◌==◌, nat_lt, unwrap_or, slice_set, slice_index_or}
 use Rattle.std.specs.List.{list_all, list_any, remove}
 use Rattle.std.proofs.lemmas.Bool.Decides.{nat_tests}
 use Rattle.xh_serial.proofs.Room.{handed_whole, has, room}
-use Rattle.std.proofs.lemmas.Bool.{cases_eq, false≢true, lt-ltb}
+use Rattle.std.proofs.lemmas.Bool.{false≢true, lt-ltb}
 use Rattle.std.proofs.lemmas.List.{length-set, length-append}
 use Rattle.std.proofs.lemmas.List.Concat.{flat_map-append}
 use Rattle.xh_model.specs.declared.event.Holder.{Holder}
@@ -47,17 +47,13 @@ pub record Passed (d : ℕ) (rs : List ℕ) (s t : Store) : Type 0 where
   pub many : length t.owners ≡ length s.owners
   pub arenas : t.arenas ≡ s.arenas
 
-pass_here : (p d r : ℕ) (s : Store) → d < 128 → holds s (Process p) r ≡ true → 0 < len s r → after (Pass p r d) s ≡ change (Pass p r d) s
-pass_here p d r s l h n = done (Pass p r d) s (rw (lt-ltb d 128 l, h, lt-ltb 0 (len s r) n) refl)
-
 pub passed_all : (p d : ℕ) (rs : List ℕ) (s : Store) → d < 128 → ((q : ℕ) → times q rs ≤ cond (holds s (Process p) q) 1 0) → ((q : ℕ) → holds s (Process p) q ≡ true → 0 < len s q) →
     Passed d rs s (pass_all p d rs s)
 passed_all p d [] s l h f = record { owners = λ q. refl; many = refl; arenas = refl }
 passed_all p d (r ∷ rs) s l h f =
     let first : holds s (Process p) r ≡ true = grind (arith, nat_tests, times-cons r r rs, h r) in
-    let is : after (Pass p r d) s ≡ change (Pass p r d) s = pass_here p d r s l first (f r first) in
-    let own : (q : ℕ) → owner (after (Pass p r d) s) q ≡ cond (q == r) (Some (Direction d)) (owner s q) =
-    (λ q. rw is (at_set s.owners r q (Some (Direction d)) None (is_there s (Process p) r first))) in
+    let is : after (Pass p r d) s ≡ change (Pass p r d) s = done (Pass p r d) s (rw (lt-ltb d 128 l, first, lt-ltb 0 (len s r) (f r first)) refl) in
+    let own : (q : ℕ) → owner (after (Pass p r d) s) q ≡ cond (q == r) (Some (Direction d)) (owner s q) = grind (arith, nat_tests, at_set, is_there) in
     let long : (q : ℕ) → len (after (Pass p r d) s) q ≡ len s q = (λ q. same_len s (after (Pass p r d) s) q (ap (λ (t : Store). t.arenas) is)) in
     let more : Passed d rs (after (Pass p r d) s) (pass_all p d rs (after (Pass p r d) s)) = passed_all p d rs (after (Pass p r d) s) l
     (λ q. grind (arith, nat_tests, times-cons q r rs, h q, own q)) (λ q y. grind (arith, nat_tests, own q, long q, f q)) in
@@ -89,9 +85,7 @@ give_pair rows lines new d tag bs valid free lo hi pair =
     let step : InStep rows (d % 2) row.0 (tags_of mine.waiting.items) theirs.state (tags_of theirs.waiting.items ++ tag ∷ []) =
     put_step rows (d % 2) mine.state tag row.0 theirs.state (tags_of mine.waiting.items) (tags_of theirs.waiting.items) valid pair row.1 in
     let more : tags_of (put_line tag bs theirs).waiting.items ≡ tags_of theirs.waiting.items ++ tag ∷ [] = tags_append theirs.waiting.items _ in
-    same_lines rows (d % 2) (told_line (Some rows) (d % 2) tag mine) (slice_index_or new d no_line) (put_line tag bs theirs) (slice_index_or new (peer d) no_line) (sym lo) (sym hi)
-    (subst (λ (z : ℕ). InStep rows (d % 2) z (tags_of mine.waiting.items) theirs.state (tags_of (put_line tag bs theirs).waiting.items)) (sym next)
-    (subst (λ (xs : List ℕ). InStep rows (d % 2) row.0 (tags_of mine.waiting.items) theirs.state xs) (sym more) step))
+    grind (arith, nat_tests, same_lines)
 
 module _ (m : Machine) (p e tag : ℕ) (bs : List ℕ) (w : IsWhole m) (g : MayGive m p e tag bs (toward m e)) where
   abbrev own : ℕ
@@ -138,10 +132,7 @@ module _ (m : Machine) (p e tag : ℕ) (bs : List ℕ) (w : IsWhole m) (g : MayG
 
   -- the direction toward the giver carries what it carried
   told_way : (k : ℕ) → carried (slice_index_or told k no_line).waiting.items ≡ on_way m k
-  told_way k = elim (cases_eq k own) [
-    | inl s ↦ rw s (way_here m.lines own z own_there)
-    | inr a ↦ way_else m.lines own k z a
-  ]
+  told_way k = grind (arith, nat_tests, way_here, own_there, way_else)
 
   lists : (k : Holder) (q : ℕ) → times q (listed n k) + has (Some (Process p)) k * times q bs ≡ times q (listed m k) + has (Some (Direction d)) k * times q bs
   unfolding given
@@ -188,8 +179,7 @@ pub taken_room : (m : Machine) (p e : ℕ) → IsWhole m → MayTake m p e (towa
 taken_room m p e w t =
     let rest : List ℕ = carried (remove (waiting m (toward m e)) 0) in
     let all : length (blocks m p) + length (on_way m (toward m e)) ≤ 2048 = room m p (Some (toward m e)) w in
-    let way : length (on_way m (toward m e)) ≡ length (front m e).blocks.items + length rest =
-    ap length (front_split (waiting m (toward m e)) t.some) ∙ length-append (front m e).blocks.items rest in
+    let way : length (on_way m (toward m e)) ≡ length (front m e).blocks.items + length rest = grind (arith, nat_tests, front_split, length-append) in
     let a : length (blocks_in m.places p) ≡ length (blocks m p) = ap length (sym (current_blocks m p t.runs.0)) in
     omega (arith, all, way, a)
 
@@ -205,8 +195,7 @@ take_pair rows lines new d some lo hi pair =
     let s = take_step rows (d % 2) l.state tag (state_in lines (peer d)) rest (tags_in lines (peer d))
     (subst (λ (xs : List ℕ). InStep rows (d % 2) l.state xs (state_in lines (peer d)) (tags_in lines (peer d))) split pair) in
     let next : next_state (Some rows) (1 - d % 2) l.state tag ≡ s.0 = ap (λ (o : Option ℕ). unwrap_or o l.state) s.1 in
-    same_lines rows (d % 2) (taken_line (Some rows) (1 - d % 2) tag l) (slice_index_or new d no_line) (slice_index_or lines (peer d) no_line) (slice_index_or new (peer d) no_line) (sym lo) (sym hi)
-    (subst (λ (z : ℕ). InStep rows (d % 2) z rest (state_in lines (peer d)) (tags_in lines (peer d))) (sym next) s.2)
+    grind (arith, nat_tests, same_lines, state_in, tags_in)
 
 module _ (m : Machine) (p e : ℕ) (w : IsWhole m) (t : MayTake m p e (toward m e)) where
   abbrev way_d : ℕ
@@ -240,7 +229,8 @@ module _ (m : Machine) (p e : ℕ) (w : IsWhole m) (t : MayTake m p e (toward m 
 
   pub taken_whole : IsWhole later
   unfolding taken
-  taken_whole = handed_whole (Direction way_d) (Process p) came m later.store later.places (slice_set m.lines way_d shorter) w (current_range m p w t.runs.0) accepted.many accepted.arenas came_once accepted.owners taken_lists
+  taken_whole = handed_whole (Direction way_d) (Process p) came m later.store later.places (slice_set m.lines way_d shorter) w (current_range m p w t.runs.0)
+      accepted.many accepted.arenas came_once accepted.owners taken_lists
       (places_set m.places p _ w.places (busy_place m p (blocks m p ++ came) w (runs_busy m p t.runs))) (record {
         long = length-set m.lines way_d shorter ∙ w.channels.long;
         fresh = λ k l. get_or-set_other m.lines way_d k shorter no_line (λ s. let c = t.within in omega (arith, c, l, s)) ∙ w.channels.fresh k l;

@@ -1,7 +1,7 @@
 -- A new machine is whole, and so is one where a process starts, and one where a channel is opened.
 use Rattle.std.proofs.Common.{◌≡◌, ℕ, ◌*◌, ◌/◌, ◌%◌, ◌<◌, List, [], length, true, false, cond, refl, sym, ap, ◌∙◌, subst, arith, ◌+◌, ◌++◌, Bool, ◌≢◌, ◌∷◌, inl, inr, get_or-set_same}
 use Rattle.std.proofs.Common.{get_or-set_other, append_assoc}
-use Rattle.std.specs.Prelude.{Option, Some, None, is_some, slice_index_or, ok_or, slice_set, not, ◌==◌}
+use Rattle.std.specs.Prelude.{Option, Some, None, is_some, slice_index_or, ok_or, slice_set, ◌==◌}
 use Rattle.std.proofs.lemmas.Bool.Decides.{nat_tests}
 use Rattle.std.proofs.lemmas.Bool.{false≢true, eq-eqb, cases_eq, ne_eqb}
 use Rattle.std.proofs.lemmas.List.{length-replicate, length-append, length-set, set-set}
@@ -13,25 +13,21 @@ use Rattle.xh_model.specs.Store.{owner, len, holds, is_held_by, IsLawful, new_st
 use Rattle.xh_model.specs.Config.{IsConfig}
 use Rattle.xh_core.proofs.FreshPlain.{at_replicate}
 use Rattle.xh_serial.specs.declared.place.Place.{Place}
-use Rattle.xh_serial.specs.Machine.{IsNumbered, Machine, carried, blocks, buffer, place, line, on_way, listed, no_place, no_line, end_of, IsWhole, status_at, peer, ArePlaces}
+use Rattle.xh_serial.specs.Machine.{IsNumbered, Machine, blocks, buffer, place, line, on_way, listed, no_place, no_line, end_of, IsWhole, peer, ArePlaces}
 use Rattle.xh_core.specs.Several.{times}
 use Rattle.xh_serial.specs.PlaceCommands.{new_machine, is_ready, started, spawn_at}
 use Rattle.xh_core.proofs.Claiming.{no_bytes, one_time}
 use Rattle.std.specs.List.{position}
 use Rattle.std.proofs.lemmas.List.Quantifiers.{position-Some}
-use Rattle.xh_core.specs.declared.refused.Refused.TheVariants.{NoPlace, NoProcess, Ended}
+use Rattle.xh_core.specs.declared.refused.Refused.TheVariants.{NoPlace}
 use Rattle.xh_serial.specs.inner.Placing.{started_at, place_in}
 use Rattle.xh_serial.proofs.Machines.{place_there, same_lists, IsPlace, places_set, places_whole, list_in, peer_half, runs_busy, place_here, current_generation, list_set}
-use Rattle.xh_core.specs.declared.refused.Refused.{Refused}
-use Rattle.xh_core.specs.Statuses.{is_vacant, is_running, is_over}
+use Rattle.xh_core.specs.Statuses.{is_over}
 use Rattle.xh_serial.specs.Commands.{IsRunning}
-use Rattle.xh_core.specs.Refusing.{first_refusal}
-use Rattle.xh_core.specs.Space.{pair_tests}
-use Rattle.xh_serial.specs.ChannelCommands.{channel_heads, open_channel, wire_channel, new_line, opened, wired}
+use Rattle.xh_serial.specs.ChannelCommands.{open_channel, wire_channel, new_line, opened, wired}
 use Rattle.xh_core.specs.Pairing.{moved}
 use Rattle.xh_core.proofs.Pairs.{Shared}
 use Rattle.xh_model.specs.declared.event.Event.TheVariants.{Claim, Carve, Cut}
-use Rattle.xh_serial.specs.declared.line.Line.{Line}
 use Rattle.xh_serial.specs.inner.Channeling.{IsSound}
 use Rattle.xh_serial.proofs.Room.{room}
 use Rattle.xh_core.proofs.Stores.{count_append, at_set}
@@ -107,16 +103,9 @@ module _ (c : Config) (is : IsConfig c) (lawful : IsLawful (new_store c)) where
 
 -- ---- one process for both ends
 
-tests_twice : (a b : Bool) (x y z : Option Refused) → cond a x (cond b y (cond a x (cond b y z))) ≡ cond a x (cond b y z)
-tests_twice true b x y z = refl
-tests_twice false true x y z = refl
-tests_twice false false x y z = refl
-
 pub same_process : (p a : ℕ) (contract : Option (List Row)) (m : Machine) → wire_channel p p a contract m ≡ open_channel p a contract m
 unfolding wire_channel open_channel
-same_process p a contract m =
-    let tests = tests_twice (is_vacant (status_at m p)) (not (is_running (status_at m p))) (Some NoProcess) (Some Ended) (first_refusal (channel_heads m a ++ pair_tests p m.store a)) in
-    rw (tests, eq-eqb p p refl) refl
+same_process p a contract m = grind (arith, nat_tests, eq-eqb)
 
 -- what is known once the two records have their blocks, one of them gone to q
 pub record Connects (s : Store) (p q r t : ℕ) (contract : Option (List Row)) (m : Machine) : Type 0 where
@@ -165,25 +154,17 @@ module _ (ps : List Place) (p r : ℕ) (a : ArePlaces ps) (b : IsBusy ps p) wher
 
   -- two records for one process
   pub appended_twice : (t : ℕ) → appended p t (appended p r ps) ≡ slice_set ps (p % 32) (record (place_in ps p) { blocks = record { items = list_in ps p ++ r ∷ t ∷ [] } })
-  appended_twice t =
-      let here : place_in (appended p r ps) p ≡ longer r (place_in ps p) = place_here ps p (longer r (place_in ps p)) within in
-      let items : ((place_in ps p).blocks.items ++ r ∷ []) ++ t ∷ [] ≡ list_in ps p ++ r ∷ t ∷ [] = append_assoc (place_in ps p).blocks.items (r ∷ []) (t ∷ [])
-      ∙ ap (λ (xs : List ℕ). xs ++ r ∷ t ∷ []) (sym (own_list ps p b)) in
-      ap (λ (x : Place). slice_set (appended p r ps) (p % 32) (longer t x)) here
-      ∙ (set-set ps (p % 32) (longer r (place_in ps p)) (longer t (longer r (place_in ps p)))
-      ∙ ap (λ (xs : List ℕ). slice_set ps (p % 32) (record (place_in ps p) { blocks = record { items = xs } })) items)
+  appended_twice t = grind (arith, nat_tests, place_here, within, list_in, append_assoc, own_list, set-set)
 
   -- one each for two
   pub appended_both : (q t : ℕ) → IsBusy ps q → p ≢ q →
       appended q t (appended p r ps) ≡ slice_set (slice_set ps (p % 32) (record (place_in ps p) { blocks = record { items = list_in ps p ++ r ∷ [] } })) (q % 32)
       (record (place_in (slice_set ps (p % 32) (record (place_in ps p) { blocks = record { items = list_in ps p ++ r ∷ [] } })) q) { blocks = record { items = list_in ps q ++ t ∷ [] } })
   appended_both q t h n =
-      let first : appended p r ps ≡ slice_set ps (p % 32) (record (place_in ps p) { blocks = record { items = list_in ps p ++ r ∷ [] } }) =
-      ap (λ (xs : List ℕ). slice_set ps (p % 32) (record (place_in ps p) { blocks = record { items = xs ++ r ∷ [] } })) (sym (own_list ps p b)) in
+      let first : appended p r ps ≡ slice_set ps (p % 32) (record (place_in ps p) { blocks = record { items = list_in ps p ++ r ∷ [] } }) = grind (arith, nat_tests, own_list) in
       let same : list_in (appended p r ps) q ≡ list_in ps q = appended_list q ∙ rw (ne_eqb p q n) refl in
       let items : (place_in (appended p r ps) q).blocks.items ≡ list_in ps q = sym (own_list (appended p r ps) q (appended_busy q h)) ∙ same in
-      ap (λ (xs : List ℕ). slice_set (appended p r ps) (q % 32) (record (place_in (appended p r ps) q) { blocks = record { items = xs ++ t ∷ [] } })) items
-      ∙ ap (λ (x : List Place). slice_set x (q % 32) (record (place_in x q) { blocks = record { items = list_in ps q ++ t ∷ [] } })) first
+      grind (arith, nat_tests, list_in)
 
 -- ---- the machine after it
 
@@ -229,11 +210,7 @@ module _ (s : Store) (p q r t : ℕ) (contract : Option (List Row)) (m : Machine
   long_lines = let e = v.whole.channels.long in omega (arith, e, v.more)
 
   line_is : (d : ℕ) → line n d ≡ cond ((d / 2) == m.opened) (new_line contract) (line m d)
-  line_is d =
-      let long : 2 * m.opened + 1 < length (slice_set m.lines (2 * m.opened) (new_line contract)) =
-      subst (λ (x : ℕ). 2 * m.opened + 1 < x) (sym (length-set m.lines (2 * m.opened) (new_line contract))) long_lines in
-      let first = at_set m.lines (2 * m.opened) d (new_line contract) no_line (let e = long_lines in omega (arith, e)) in
-      grind (arith, nat_tests, at_set (slice_set m.lines (2 * m.opened) (new_line contract)) (2 * m.opened + 1) d (new_line contract) no_line long)
+  line_is d = grind (arith, nat_tests, length-set, long_lines, at_set)
 
   line_new : (d : ℕ) → d / 2 ≡ m.opened → line n d ≡ new_line contract
   line_new d e = line_is d ∙ rw (eq-eqb (d / 2) m.opened e) refl
@@ -242,10 +219,7 @@ module _ (s : Store) (p q r t : ℕ) (contract : Option (List Row)) (m : Machine
   line_old d a = line_is d ∙ rw (ne_eqb (d / 2) m.opened a) refl
 
   ways : (d : ℕ) → on_way n d ≡ on_way m d
-  ways d = elim (cases_eq (d / 2) m.opened) [
-    | inl e ↦ ap (λ (x : Line). carried x.waiting.items) (line_new d e) ∙ sym (ap (λ (x : Line). carried x.waiting.items) (v.whole.channels.fresh d (omega (arith, e))))
-    | inr a ↦ ap (λ (x : Line). carried x.waiting.items) (line_old d a)
-  ]
+  ways d = grind (arith, nat_tests, line_new, line_old)
 
   once_now : (h : Holder) (j : ℕ) → times j (listed n h) ≡ cond (holds s h j) 1 0
   once_now (Process h) j = grind (arith, nat_tests, count h j, v.shared.owners j, v.whole.once (Process h) j, v.shared.free_r, v.shared.free_t, v.shared.apart)
@@ -254,11 +228,7 @@ module _ (s : Store) (p q r t : ℕ) (contract : Option (List Row)) (m : Machine
   -- ---- the endpoints
 
   end_is : (k : ℕ) → end_of n k ≡ cond (k == t) (Some (2 * m.opened + 1)) (cond (k == r) (Some (2 * m.opened)) (end_of m k))
-  end_is k =
-      let lr : r < length m.ends = subst (λ (x : ℕ). r < x) (sym v.whole.kinds) v.shared.there_r in
-      let lt : t < length (slice_set m.ends r (Some (2 * m.opened))) = subst (λ (x : ℕ). t < x) (sym (length-set m.ends r (Some (2 * m.opened)) ∙ v.whole.kinds)) v.shared.there_t in
-      at_set (slice_set m.ends r (Some (2 * m.opened))) t k (Some (2 * m.opened + 1)) None lt
-      ∙ ap (λ (x : Option ℕ). cond (k == t) (Some (2 * m.opened + 1)) x) (at_set m.ends r k (Some (2 * m.opened)) None lr)
+  end_is k = grind (arith, nat_tests, length-set, at_set)
 
   -- ---- all of it
 
@@ -277,12 +247,11 @@ module _ (s : Store) (p q r t : ℕ) (contract : Option (List Row)) (m : Machine
           alone = λ j f. grind (arith, nat_tests, end_is k, end_is j, below k, below j, alone j);
         };
     buffers = v.whole.buffers ∙ sym v.shared.many;
-    bytes = λ k.
-        let none : owner m.store k ≡ None → len m.store k ≡ 0 = λ f. no_bytes (owner m.store k) (len m.store k) f (v.whole.store.owned k) in
-        grind (arith, nat_tests, end_is k, v.shared.free_r, v.shared.free_t, v.shared.kept k, v.whole.bytes k);
+    bytes = grind (arith, nat_tests, no_bytes, end_is);
     places = appended_places (appended p r m.places) q t middle busy_q;
     channels = record {
-      long = length-set (slice_set m.lines (2 * m.opened) (new_line contract)) (2 * m.opened + 1) (new_line contract) ∙ (length-set m.lines (2 * m.opened) (new_line contract) ∙ v.whole.channels.long);
+      long = length-set (slice_set m.lines (2 * m.opened) (new_line contract)) (2 * m.opened + 1) (new_line contract)
+          ∙ (length-set m.lines (2 * m.opened) (new_line contract) ∙ v.whole.channels.long);
       fresh = λ d h. line_old d (λ e. absurd (omega (arith, h, e))) ∙ v.whole.channels.fresh d (omega (arith, h));
       numbered = set_numbered (slice_set m.lines (2 * m.opened) (new_line contract)) (2 * m.opened + 1) (new_line contract)
           (subst (λ (x : ℕ). 2 * m.opened + 1 < x) (sym (length-set m.lines (2 * m.opened) (new_line contract))) long_lines)
@@ -318,8 +287,4 @@ module _ (s : Store) (p q r t : ℕ) (contract : Option (List Row)) (m : Machine
 pub connected_is : (p q r t : ℕ) (contract : Option (List Row)) (m : Machine) → IsWhole m → IsRunning m p → IsRunning m q →
     connected (moved p q t (2 * m.opened + 1) (after (Cut p r t 32) (after (Carve p r 64) (after (Claim p t) (after (Claim p r) m.store))))) p q r t contract m ≡ wired p q r t contract m
 unfolding opened
-connected_is p q r t contract m w runs_p runs_q = elim (cases_eq p q) [
-  | inl e ↦ (let twice : appended q t (appended p r m.places) ≡ appended p t (appended p r m.places) = ap (λ (x : ℕ). appended x t (appended p r m.places)) (sym e) in
-      rw (eq-eqb p q e, twice ∙ appended_twice m.places p r w.places (running_place m p runs_p) t) refl)
-  | inr n ↦ rw (ne_eqb p q n, appended_both m.places p r w.places (running_place m p runs_p) q t (running_place m q runs_q) n) refl
-]
+connected_is p q r t contract m w runs_p runs_q = grind (arith, nat_tests, eq-eqb, appended_twice, running_place, ne_eqb, appended_both)

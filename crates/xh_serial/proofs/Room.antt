@@ -1,18 +1,18 @@
 -- Records that go from one holder, or from none, to another, or to none; how many there are at most, and how many bytes they have.
-use Rattle.std.proofs.Common.{◌≡◌, ℕ, ◌+◌, ◌<◌, ◌≤◌, List, [], ◌∷◌, ◌++◌, length, true, cond, refl, ◌∙◌, arith, inl, inr, ◌*◌, sym, ap, ◌%◌, Bool}
+use Rattle.std.proofs.Common.{◌≡◌, ℕ, ◌+◌, ◌<◌, ◌≤◌, List, [], ◌∷◌, ◌++◌, length, true, cond, refl, ◌∙◌, arith, ◌*◌, sym, ap, ◌%◌}
 use Rattle.std.specs.Prelude.{Option, Some, None, ◌==◌, is_some, nat_lt, map, slice_index_or}
 use Rattle.std.specs.List.{sum_by, range_with_len}
 use Rattle.std.proofs.lemmas.Bool.Decides.{nat_tests}
 use Rattle.xh_core.proofs.Stores.{same_process, same_direction, count_append, times-cons, is_there, same_len, same_known}
 use Rattle.xh_serial.specs.declared.place.Place.{Place}
 use Rattle.xh_serial.specs.declared.line.Line.{Line}
-use Rattle.std.proofs.lemmas.Bool.{cases_Bool, eq-eqb}
+use Rattle.std.proofs.lemmas.Bool.{eq-eqb}
 use Rattle.std.proofs.lemmas.List.{length-append}
 use Rattle.std.proofs.lemmas.List.Sums.{sum_by-le, sum_by-cons, sum_by-append}
 use Rattle.std.proofs.lemmas.List.FromFn.{length-range_with_len}
 use Rattle.xh_model.specs.declared.event.Holder.{Holder}
 use Rattle.xh_model.specs.declared.event.Holder.TheVariants.{Process, Direction}
-use Rattle.xh_model.specs.Store.{owner, holds, is_held_by, Store, len, IsOwner, IsLawful, numbers, bytes_of, holders, all_holders, all_out}
+use Rattle.xh_model.specs.Store.{owner, holds, is_held_by, Store, len, IsLawful, numbers, bytes_of, holders, all_holders, all_out}
 use Rattle.xh_serial.specs.Machine.{Machine, blocks, way_in, on_way, listed, IsWhole, end_of, buffer, IsEnd, ArePlaces, AreChannels, no_place, no_line, place, carried}
 use Rattle.xh_core.specs.Several.{times}
 use Rattle.xh_model.proofs.Totals.{sum_zero, sum_add, sum_same, total_bytes}
@@ -34,9 +34,6 @@ few n rs one in_range =
     let l = sum_by-le (λ q. times q rs) 1 (range_with_len 0 n) (λ k d i. one _) in
     let e = length-range_with_len 0 n in omega arith
 
-not_two : (o : Option Holder) (p d : ℕ) → cond {A = ℕ} (is_held_by o (Process p)) 1 0 + cond {A = ℕ} (is_held_by o (Direction d)) 1 0 ≤ 1
-not_two o p d = grind (arith, nat_tests)
-
 pub held_there : (m : Machine) (h : Holder) (q : ℕ) → IsWhole m → 0 < times q (listed m h) → q < length m.store.owners
 held_there m h q w l = grind (arith, nat_tests, w.once h q, is_there m.store h q)
 
@@ -51,7 +48,7 @@ room m p None w =
 room m p (Some d) w =
     let many = few_records m w in
     let f = few (length m.store.owners) (blocks m p ++ on_way m d)
-    (λ q. grind (arith, nat_tests, count_append q (blocks m p) (on_way m d), w.once (Process p) q, w.once (Direction d) q, not_two (owner m.store q) p d))
+    (λ q. grind (arith, nat_tests, count_append q (blocks m p) (on_way m d), w.once (Process p) q, w.once (Direction d) q))
     (λ q l. grind (arith, nat_tests, count_append q (blocks m p) (on_way m d), held_there m (Process p) q w, held_there m (Direction d) q w)) in
     let e = length-append (blocks m p) (on_way m d) in omega arith
 
@@ -89,9 +86,7 @@ module _ (from : Option Holder) (h : Holder) (rs : List ℕ) (m n : Machine) (w 
   same_end q = rw (v.ends) refl
 
   end_now : (r d : ℕ) → end_of n r ≡ Some d → IsEnd n r d
-  end_now r d e =
-      let was = w.ends r d (sym (same_end r) ∙ e) in
-      record { held = grind (arith, nat_tests, v.moved.owners r, was.held); opened = rw v.opened was.opened; alone = λ q f. was.alone q (sym (same_end q) ∙ f) }
+  end_now r d e = grind (arith, nat_tests, same_end)
 
   pub came_whole : IsWhole n
   came_whole = record {
@@ -113,10 +108,6 @@ abbrev pub IsHolder : Holder → Type 0
 IsHolder (Process p) = p < 4096
 IsHolder (Direction d) = d < 128
 
-owner_any : (h : Holder) (n : ℕ) → IsHolder h → 0 < n → IsOwner (Some h) n
-owner_any (Process p) n r l = r
-owner_any (Direction d) n r l = (r, l)
-
 holder_is : (o : Option Holder) (h : Holder) → is_held_by o h ≡ true → o ≡ Some h
 holder_is o (Process p) = same_process o p
 holder_is o (Direction d) = same_direction o d
@@ -136,17 +127,7 @@ module _ (g h : Holder) (rs : List ℕ) (m : Machine) (t : Store) (ps : List Pla
   pub handed_whole : ((k : Holder) (q : ℕ) → times q (listed handed k) + has (Some g) k * times q rs ≡ times q (listed m k) + has (Some h) k * times q rs) →
       ArePlaces ps → AreChannels ls m.contracts m.opened → IsWhole handed
   handed_whole lists places channels = came_whole (Some g) h rs m handed w (record {
-    lawful = record {
-      few = rw arenas w.store.few;
-      long = rw (many, arenas) w.store.long;
-      covers = λ k. rw arenas (w.store.covers k);
-      records = λ k. rw arenas (w.store.records k);
-      owned = λ q. elim (cases_Bool (nat_lt 0 (times q rs))) [
-        | inl y ↦ rw (owners q, y) (owner_any h (len t q) range (had_bytes q y))
-        | inr f ↦ rw (owners q, f, same_len m.store t q arenas) (w.store.owned q)
-      ];
-      known = λ q s. same_known m.store t q arenas ∙ w.store.known q (elim (cases_Bool (nat_lt 0 (times q rs))) [ inl y ↦ rw (were q y) refl | inr f ↦ rw (owners q, f) at s ]);
-    };
+    lawful = grind (arith, nat_tests, few, had_bytes, same_len, same_known, were);
     moved = record { were = were; once = λ q. grind (arith, nat_tests, held q); owners = owners; lists = lists };
     full = had_bytes;
     kept = λ q l. rw (same_len m.store t q arenas) l;
@@ -175,14 +156,11 @@ by_number f n (r ∷ rs) h =
     sum_same (λ q. times q (r ∷ rs) * f q) (λ q. cond (r == q) (f r) 0 + times q rs * f q) (range_with_len 0 n) (λ q. one_number f q r rs)
     ∙ (sum_add (λ q. cond (r == q) (f r) 0) (λ q. times q rs * f q) (range_with_len 0 n) ∙ (rw (one, rest) (sym (sum_by-cons f r rs))))
 
-once_or_never : (b : Bool) (n k : ℕ) → k ≡ cond b 1 0 → cond b n 0 ≡ k * n
-once_or_never b n k e = grind (arith, nat_tests)
-
 -- the bytes of a holder are those of its list
 listed_bytes : (m : Machine) (h : Holder) → IsWhole m → bytes_of m.store h ≡ total m.store (listed m h)
 listed_bytes m h w =
     sum_same (λ r. cond (holds m.store h r) (len m.store r) 0) (λ r. times r (listed m h) * len m.store r) (numbers m.store)
-    (λ r. once_or_never (holds m.store h r) (len m.store r) (times r (listed m h)) (w.once h r))
+    (λ r. (grind (arith, nat_tests)))
     ∙ by_number (λ r. len m.store r) (256 * length m.store.arenas) (listed m h) (λ q l. let t = held_there m h q w l in let e = w.store.long in omega (arith, t, e))
 
 -- ---- all processes
@@ -203,10 +181,7 @@ at_place m p k l = grind (arith, nat_tests)
 pub place_total : (m : Machine) (k : ℕ) → IsWhole m → k < 32 →
     bytes_of m.store (Process (k + 32 * (slice_index_or m.places k no_place).generation)) ≡ total m.store (slice_index_or m.places k no_place).blocks.items
 unfolding latest
-place_total m k w l =
-    let rest : latest m k % 32 ≡ k = omega (arith, l) in
-    let a = at_place m (latest m k) k l in
-    listed_bytes m (Process (latest m k)) w ∙ sym (rw (eq-eqb (latest m k) (latest m k) refl, eq-eqb (latest m k % 32) k rest) at a)
+place_total m k w l = grind (arith, nat_tests, latest, at_place, listed_bytes, eq-eqb)
 
 latest_below : (m : Machine) (k : ℕ) → IsWhole m → k < 32 → latest m k < 4096
 unfolding latest

@@ -1,13 +1,12 @@
 -- A sweep that finishes frees exactly the reclaimed set, and what the list is after any sweep.
-use Rattle.std.proofs.Common.{◌≡◌, ◌≢◌, ℕ, zero, suc, ◌+◌, ◌<◌, ◌≤◌, List, [], ◌∷◌, ◌++◌, length, drop, drop-cons, Bool, true, false, refl, sym, ap, ◌∙◌, subst, arith, inl, inr, take, cond}
+use Rattle.std.proofs.Common.{◌≡◌, ◌≢◌, ℕ, zero, suc, ◌+◌, ◌<◌, ◌≤◌, List, [], ◌∷◌, ◌++◌, length, drop, drop-cons, Bool, true, refl, sym, ap, ◌∙◌, subst, arith, inl, inr, take, cond}
 use Rattle.std.proofs.Common.{append_assoc, append-nil}
-use Rattle.std.specs.Prelude.{Option, Some, None, is_none, is_some, ◌&&◌, ◌==◌, nat_lt}
+use Rattle.std.specs.Prelude.{Some, None, is_some, ◌==◌, nat_lt}
 use Rattle.std.specs.List.{remove, flat_map}
 use Rattle.std.proofs.Math.Seq.{drop-nil}
 use Rattle.std.proofs.lemmas.Bool.Decides.{nat_tests}
 use Rattle.xh_core.proofs.Stores.{count_append, same_process, times-cons, is_there}
 use Rattle.std.proofs.lemmas.Bool.{cases_eq, cases_lt, false≢true, lt-ltb, le-ltb, ltb-true, cases_Bool, eq-eqb}
-use Rattle.xh_model.specs.declared.event.Holder.{Holder}
 use Rattle.xh_model.specs.Store.{owner}
 use Rattle.xh_serial.specs.Machine.{Machine, blocks, arriving, IsWhole, end_of}
 use Rattle.xh_core.specs.Several.{times}
@@ -78,10 +77,7 @@ module _ (m : Machine) (p from : ℕ) (w : IsWhole m) (l : from < length (blocks
   one_includes = includes_more (freed one.store n.store) (freed m.store n.store) _ more_freed rest.gone.includes
 
   closed_later : (set : ℕ → Bool) → IsClosed (arriving m) set → IsClosed (arriving one) set
-  closed_later set c e f = elim (cases_eq e first) [
-    | inl s ↦ rw (s, arriving_here m p from w l) tt
-    | inr d ↦ rw (arriving_else m p from e w l d) (c e f)
-  ]
+  closed_later set c e f = grind (arith, nat_tests, arriving_here, arriving_else)
 
   pub frees_one : Frees (arriving m) m.store n.store (first ∷ drop (suc from) (blocks m p))
   frees_one = record {
@@ -107,19 +103,8 @@ module _ (m : Machine) (p from : ℕ) (w : IsWhole m) (l : from < length (blocks
     ];
   }
 
-nothing_freed : (o : Option Holder) → is_some o && is_none o ≡ false
-nothing_freed None = refl
-nothing_freed (Some h) = refl
-
 frees_nothing : (m : Machine) → Frees (arriving m) m.store m.store []
-frees_nothing m = record {
-  gone = record {
-    includes = tt;
-    closed = λ e f. absurd (false≢true (sym (nothing_freed (owner m.store e)) ∙ f));
-    least = λ other a c r f. absurd (false≢true (sym (nothing_freed (owner m.store r)) ∙ f));
-  };
-  kept = λ r f. refl;
-}
+frees_nothing m = grind (arith, nat_tests)
 
 pub no_work : (rs : List ℕ) (from : ℕ) → length rs ≤ from → drop from rs ≡ []
 no_work [] from h = drop-nil from
@@ -214,7 +199,9 @@ module _ (m : Machine) (p from budget : ℕ) (w : IsWhole m) (l : from < length 
   ]
 
   once_now : (r : ℕ) → times r (head ∷ (others ++ (came ++ s.accepted))) ≤ 1
-  once_now r = grind (arith, nat_tests, times-cons r head (others ++ (came ++ s.accepted)), ap (times r) work, count_append r (drop from (blocks swept p)) s.accepted, s.once r, not_listed, not_accepted r)
+  once_now r =
+      let t = times-cons r head (others ++ (came ++ s.accepted)) in
+      grind (arith, nat_tests, ap (times r) work, count_append r (drop from (blocks swept p)) s.accepted, s.once r, not_listed, not_accepted r)
 
   pub sweeps_one : Sweeps p from (suc budget) m n
   sweeps_one = record {

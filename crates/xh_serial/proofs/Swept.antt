@@ -1,5 +1,5 @@
 -- What sweeping one entry leaves: a whole machine.
-use Rattle.std.proofs.Common.{◌≡◌, ◌≢◌, ℕ, ◌+◌, ◌/◌, ◌<◌, ◌≤◌, List, [], ◌++◌, length, Bool, true, false, cond, refl, sym, ap, ◌∙◌, subst, arith, inl, inr, zero, suc, ◌-◌, ◌*◌, ◌⊎◌, get_or-set_other}
+use Rattle.std.proofs.Common.{◌≡◌, ◌≢◌, ℕ, ◌+◌, ◌/◌, ◌<◌, ◌≤◌, List, [], ◌++◌, length, Bool, true, false, cond, refl, sym, ap, ◌∙◌, arith, inl, inr, zero, suc, ◌-◌, ◌*◌, ◌⊎◌, get_or-set_other}
 use Rattle.std.specs.Prelude.{Option, Some, None, ◌==◌, nat_lt, slice_index_or, is_some}
 use Rattle.std.specs.List.{remove}
 use Rattle.std.proofs.lemmas.Bool.Decides.{nat_tests}
@@ -14,11 +14,11 @@ use Rattle.xh_model.specs.declared.event.Event.TheVariants.{GiveBack, Vacate}
 use Rattle.xh_model.specs.Store.{Store, owner, len, holds, change, after, all_out, IsLawful}
 use Rattle.xh_model.specs.Arena.{ArenaState}
 use Rattle.xh_serial.specs.declared.place.Place.{Place}
-use Rattle.xh_serial.specs.Machine.{Machine, end_of, place, blocks, way_in, on_way, arriving, listed, IsWhole, buffer, line, no_line, IsEnd}
+use Rattle.xh_serial.specs.Machine.{Machine, end_of, blocks, way_in, on_way, arriving, listed, IsWhole, buffer, line, no_line, IsEnd}
 use Rattle.xh_core.specs.Several.{times, accept_from}
 use Rattle.xh_serial.specs.Sweeping.{sweep_one, shut_in, sweep}
 use Rattle.xh_serial.specs.inner.Placing.{blocks_in, relisted}
-use Rattle.xh_serial.proofs.Room.{room, has}
+use Rattle.xh_serial.proofs.Room.{room}
 use Rattle.xh_core.proofs.Stores.{count_append, done, same_process, same_direction, is_there, at_set, Accepted, accepted_all, same_len, len_back, arena_there, same_known, len_back_else}
 use Rattle.xh_model.specs.declared.row.Row.{Row}
 use Rattle.xh_model.proofs.Lawful.{back_lawful, back_bytes}
@@ -44,10 +44,7 @@ pub record SweptOne (p from r : ℕ) (m n : Machine) : Type 0 where
 
 -- an entry of a list is held by its process
 pub entry_held : (m : Machine) (p from : ℕ) → IsWhole m → from < length (blocks m p) → holds m.store (Process p) (entry m p from) ≡ true
-entry_held m p from w l =
-    let r : ℕ = entry m p from in
-    let le : cond {A = ℕ} (r == r) 1 0 ≤ times r (blocks m p) = get_or-le-sum_by (λ x. cond (x == r) 1 0) (blocks m p) from 0 l in
-    grind (arith, nat_tests, w.once (Process p) r)
+entry_held m p from w l = grind (arith, nat_tests, get_or-le-sum_by)
 
 -- the entry as it is read
 pub entry_read : (m : Machine) (p from : ℕ) (xs : List ℕ) → from < length (blocks m p) → xs ≡ blocks_in m.places p → slice_index_or xs from 0 ≡ entry m p from
@@ -60,18 +57,11 @@ entry_there m p from w l = is_there m.store (Process p) (entry m p from) (entry_
 pub entry_left : (m : Machine) (p from : ℕ) (came : List ℕ) (ps qs : List Place) → IsWhole m → from < length (blocks m p) → came ≡ arriving m (entry m p from) →
     ps ≡ relisted p (blocks_in m.places p ++ came) m.places → qs ≡ relisted p (remove (blocks_in ps p) from) ps →
     qs ≡ relisted p (remove (blocks m p ++ arriving m (entry m p from)) from) m.places
-entry_left m p from came ps qs w l e add cut =
-    let there = place_there m p w in
-    let rs : List ℕ = blocks_in m.places p ++ came in
-    let is : rs ≡ blocks m p ++ arriving m (entry m p from) = (λ i. sym (current_blocks m p (lists_current m p from l)) i ++ e i) in
-    cut ∙ (ap (λ (xs : List Place). relisted p (remove (blocks_in xs p) from) xs) add
-    ∙ (relisted_again m.places p rs (remove (blocks_in (relisted p rs m.places) p) from) there
-    ∙ ap (λ (xs : List ℕ). relisted p (remove xs from) m.places) (relisted_list m.places p rs there ∙ is)))
+entry_left m p from came ps qs w l e add cut = grind (arith, nat_tests, place_there, current_blocks, lists_current, relisted_again, relisted_list)
 
 -- the list has room for what came
 pub entry_room : (m : Machine) (p from : ℕ) (o : Option ℕ) → IsWhole m → from < length (blocks m p) → length (blocks_in m.places p) + length (way_in m.lines o) ≤ 2048
-entry_room m p from o w l =
-    subst (λ (xs : List ℕ). length xs + length (way_in m.lines o) ≤ 2048) (current_blocks m p (lists_current m p from l)) (room m p o w)
+entry_room m p from o w l = grind (arith, nat_tests, current_blocks, lists_current, room)
 
 abbrev accepted_store : ℕ → ℕ → Machine → Store
 accepted_store p r m = accept_from p (end_of m r) (arriving m r) m.store
@@ -117,11 +107,7 @@ module _ (m : Machine) (p from : ℕ) (w : IsWhole m) (l : from < length (blocks
 
   pub swept_one : SweptOne p from r m (sweep_one p from m)
   unfolding sweep_one
-  swept_one = record {
-    owners = λ q. gone q ∙ rw (accepted.owners q) refl;
-    many = ap (λ (s : Store). length s.owners) reclaimed ∙ (length-set t.owners r None ∙ accepted.many);
-    arenas = ap (λ (s : Store). s.arenas) reclaimed ∙ ap (λ (xs : List ArenaState). (change (GiveBack p r) (record { owners = m.store.owners; arenas = xs })).arenas) accepted.arenas;
-  }
+  swept_one = grind (arith, nat_tests, gone, accepted, reclaimed, length-set)
 
 -- ---- lists and directions
 
@@ -163,26 +149,18 @@ ends_now m p from q w l =
 
 arriving_by : (m : Machine) (p from q : ℕ) (e : Option ℕ) → IsWhole m → q ≢ entry m p from → end_of m q ≡ e → on_way_to (sweep_one p from m) e ≡ on_way_to m e
 arriving_by m p from q None w n eq = refl
-arriving_by m p from q (Some d) w n eq =
-    let alone : end_of m (entry m p from) ≡ Some d → q ≡ entry m p from = λ er. (w.ends (entry m p from) d er).alone q eq in rw (way m p from d w) (grind (arith, nat_tests))
+arriving_by m p from q (Some d) w n eq = grind (arith, nat_tests, way)
 
 pub arriving_else : (m : Machine) (p from q : ℕ) → IsWhole m → from < length (blocks m p) → q ≢ entry m p from → arriving (sweep_one p from m) q ≡ arriving m q
-arriving_else m p from q w l n =
-    ap (on_way_to (sweep_one p from m)) (ends_now m p from q w l ∙ rw (ne_eqb q (entry m p from) n) refl) ∙ arriving_by m p from q (end_of m q) w n refl
+arriving_else m p from q w l n = grind (arith, nat_tests, ends_now, ne_eqb, arriving_by)
 
 pub arriving_here : (m : Machine) (p from : ℕ) → IsWhole m → from < length (blocks m p) → arriving (sweep_one p from m) (entry m p from) ≡ []
-arriving_here m p from w l =
-    let gone : end_of (sweep_one p from m) (entry m p from) ≡ None = ends_now m p from (entry m p from) w l ∙ rw (eq-eqb (entry m p from) (entry m p from) refl) refl in
-    ap (on_way_to (sweep_one p from m)) gone
+arriving_here m p from w l = grind (arith, nat_tests, gone, ends_now, eq-eqb)
 
 -- ---- each record once
 
 times_removed : (q k : ℕ) (rs cs : List ℕ) → k < length rs → times q (remove (rs ++ cs) k) + cond (slice_index_or rs k 0 == q) 1 0 ≡ times q (rs ++ cs)
-times_removed q k rs cs l =
-    let f : ℕ → ℕ = λ x. cond (x == q) 1 0 in
-    let e : length (rs ++ cs) ≡ length rs + length cs = length-append rs cs in
-    let one : times q (remove (rs ++ cs) k) + f (slice_index_or (rs ++ cs) k 0) ≡ times q (rs ++ cs) = sum_by-remove f (rs ++ cs) k 0 (omega (arith, e, l)) in
-    rw (get_or_append_left rs cs 0 k l) at one
+times_removed q k rs cs l = grind (arith, nat_tests, length-append, sum_by-remove, get_or_append_left)
 
 -- a record that came is held by the direction that it came from
 pub came_held : (m : Machine) (q : ℕ) (o : Option ℕ) → IsWhole m → nat_lt 0 (times q (on_way_to m o)) ≡ true → (d : ℕ) × (o ≡ Some d) × (owner m.store q ≡ Some (Direction d))
@@ -236,11 +214,13 @@ back p from m = change (GiveBack p (entry m p from)) m.store
 len_now : (m : Machine) (p from q : ℕ) → IsWhole m → from < length (blocks m p) → len (sweep_one p from m).store q ≡ cond (q == entry m p from) 0 (len m.store q)
 len_now m p from q w l =
     let there : entry m p from / 256 < length m.store.arenas = arena_there m.store (Process p) (entry m p from) w.store (entry_held m p from w l) in
-    same_len (back p from m) (sweep_one p from m).store q (swept_one m p from w l).arenas ∙ grind (arith, nat_tests, len_back m.store p (entry m p from) there, len_back_else m.store p (entry m p from) q there)
+    same_len (back p from m) (sweep_one p from m).store q (swept_one m p from w l).arenas
+    ∙ grind (arith, nat_tests, len_back m.store p (entry m p from) there, len_back_else m.store p (entry m p from) q there)
 
 full_now : (m : Machine) (p from : ℕ) (h : Holder) (q : ℕ) → IsWhole m → from < length (blocks m p) → holds (sweep_one p from m).store h q ≡ true → 0 < len (sweep_one p from m).store q
 full_now m p from h q w l y =
-    let came : nat_lt 0 (times q (arriving m (entry m p from))) ≡ true → 0 < len m.store q = λ t. (let c = came_held m q (end_of m (entry m p from)) w t in w.full (Direction c.0) q (rw (c.2) (eq-eqb c.0 c.0 refl))) in
+    let came : nat_lt 0 (times q (arriving m (entry m p from))) ≡ true → 0 < len m.store q =
+    λ t. (let c = came_held m q (end_of m (entry m p from)) w t in w.full (Direction c.0) q (rw (c.2) (eq-eqb c.0 c.0 refl))) in
     grind (arith, nat_tests, (swept_one m p from w l).owners q, len_now m p from q w l, w.full h q)
 
 lines_long : (contracts : List (Option (List Row))) (lines : List Line) (o : Option ℕ) → length (shut_in contracts lines o) ≡ length lines
@@ -254,8 +234,7 @@ fresh_shut contracts lines (Some d) k n = get_or-set_other lines d k _ no_line (
 
 fresh_now : (m : Machine) (p from k : ℕ) → IsWhole m → 2 * m.opened ≤ k → line (sweep_one p from m) k ≡ no_line
 unfolding sweep_one
-fresh_now m p from k w h =
-    fresh_shut m.contracts m.lines (end_of m (entry m p from)) k (λ d e s. let o = (w.ends (entry m p from) d e).opened in omega (arith, o, h, s)) ∙ w.channels.fresh k h
+fresh_now m p from k w h = grind (arith, nat_tests, fresh_shut)
 
 bytes_now : (m : Machine) (p from q : ℕ) → IsWhole m → from < length (blocks m p) →
     length (buffer (sweep_one p from m) q) ≡ cond (is_some (end_of (sweep_one p from m) q)) 0 (len (sweep_one p from m).store q)
@@ -266,31 +245,13 @@ bytes_now m p from q w l =
     let a : r < length m.store.owners = is_there m.store (Process p) r (entry_held m p from w l) in
     grind (arith, nat_tests, ends_now m p from q w l, at_set m.buffers r q [] [] (omega (arith, k, a)), len_now m p from q w l, w.bytes q)
 
-known_now : (m : Machine) (p from q : ℕ) → IsWhole m → from < length (blocks m p) → is_some (owner (sweep_one p from m).store q) ≡ true → is_some (owner m.store q) ≡ true
-known_now m p from q w l h =
-    let was : nat_lt 0 (times q (arriving m (entry m p from))) ≡ true → is_some (owner m.store q) ≡ true = λ y. ap is_some (came_held m q (end_of m (entry m p from)) w y).2 in
-    grind (arith, nat_tests, (swept_one m p from w l).owners q)
-
 lawful_now : (m : Machine) (p from : ℕ) → IsWhole m → from < length (blocks m p) → IsLawful (sweep_one p from m).store
 lawful_now m p from w l =
     let r : ℕ = entry m p from in
     let s : SweptOne p from r m (sweep_one p from m) = swept_one m p from w l in
     let held : holds m.store (Process p) r ≡ true = entry_held m p from w l in
     let b : IsLawful (back p from m) = back_lawful m.store p r w.store (rw (held, lt-ltb 0 (len m.store r) (w.full (Process p) r held)) refl) in
-    record {
-      few = rw s.arenas b.few;
-      long = rw (s.many, s.arenas) b.long;
-      covers = λ k. rw s.arenas (b.covers k);
-      records = λ k. rw s.arenas (b.records k);
-      owned = λ q. elim (cases_eq q r) [
-        | inl e ↦ rw (gone_owner m p from q w l e, len_now m p from q w l, eq-eqb q r e) refl
-        | inr d ↦ elim (other_owner m p from q w l d) [
-          | inl c ↦ rw (c.2) (current_range m p w (lists_current m p from l))
-          | inr o ↦ rw (o.0, len_now m p from q w l, ne_eqb q r d) (w.store.owned q)
-        ]
-      ];
-      known = λ q h. same_known (back p from m) (sweep_one p from m).store q s.arenas ∙ b.known q (known_now m p from q w l h);
-    }
+    grind (arith, nat_tests, gone_owner, len_now, eq-eqb, other_owner, current_range, lists_current, ne_eqb, same_known)
 
 end_now : (m : Machine) (p from r d : ℕ) → IsWhole m → from < length (blocks m p) → end_of (sweep_one p from m) r ≡ Some d → IsEnd (sweep_one p from m) r d
 unfolding sweep_one

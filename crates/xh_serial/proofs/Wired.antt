@@ -38,19 +38,8 @@ same_lines rows side x x' y y' e f step = subst (λ (z : Line). ArePaired rows s
 swapped : (rows : List Row) (s t : ℕ) (x y : Line) → 1 - s ≡ t → 1 - t ≡ s → ArePaired rows s x y → ArePaired rows t y x
 swapped rows s t x y a b step = (rw (b, ← a) (sym step.0), elim step.1 [ inl none ↦ inr none | inr none ↦ inl none ])
 
-sides : (d : ℕ) → (1 - d % 2 ≡ peer d % 2) × (1 - peer d % 2 ≡ d % 2)
-sides d = (grind (arith, nat_tests), grind (arith, nat_tests))
-
-peer_again : (d : ℕ) → peer (peer d) ≡ d
-peer_again d = grind (arith, nat_tests)
-
-other_end : (d k : ℕ) → k / 2 ≡ d / 2 → k ≢ d → k ≡ peer d
-other_end d k h a = grind (arith, nat_tests)
-
 swap_pair : (rows : List Row) (lines : List Line) (d : ℕ) → IsPair rows lines d → IsPair rows lines (peer d)
-swap_pair rows lines d step =
-    subst (λ (k : ℕ). ArePaired rows (peer d % 2) (slice_index_or lines (peer d) no_line) (slice_index_or lines k no_line)) (sym (peer_again d))
-    (swapped rows (d % 2) (peer d % 2) (slice_index_or lines d no_line) (slice_index_or lines (peer d) no_line) (sides d).0 (sides d).1 step)
+swap_pair rows lines d step = grind (arith, nat_tests, swapped)
 
 -- a turn of one channel leaves the others in step
 pub wired_pair : (contracts : List (Option (List Row))) (lines new : List Line) (d : ℕ) → AreWired contracts lines →
@@ -61,7 +50,7 @@ wired_pair contracts lines new d wired turn others k rows is = let was = wired k
       | inl e ↦ (
           let here : contract_of contracts d ≡ Some rows = ap (λ (i : ℕ). slice_index_or contracts i None) (sym e) ∙ is in
           let now : IsPair rows new d = turn rows here was.0 (wired d rows here).1 in
-          (was.0, elim (cases_eq k d) [ inl s ↦ subst (IsPair rows new) (sym s) now | inr n ↦ subst (IsPair rows new) (sym (other_end d k e n)) (swap_pair rows new d now) ]))
+          (was.0, elim (cases_eq k d) [ inl s ↦ subst (IsPair rows new) (sym s) now | inr n ↦ subst (IsPair rows new) (sym ((grind (arith, nat_tests)))) (swap_pair rows new d now) ]))
       | inr n ↦ (
         was.0,
         same_lines rows (k % 2) (slice_index_or lines k no_line) (slice_index_or new k no_line) (slice_index_or lines (peer k) no_line) (slice_index_or new (peer k) no_line)
@@ -81,12 +70,7 @@ drained_walk rows side state (tag ∷ tags) end h = elim (cases_Option (allowed 
 shut_pair : (rows : List Row) (lines new : List Line) (d : ℕ) → slice_index_or new d no_line ≡ shut_line (Some rows) (1 - d % 2) (slice_index_or lines d no_line) →
     slice_index_or new (peer d) no_line ≡ slice_index_or lines (peer d) no_line →
     IsPair rows lines d → IsPair rows new d
-shut_pair rows lines new d lo hi pair =
-    let s = drain_step rows (d % 2) (state_in lines d) (state_in lines (peer d)) (tags_in lines d) (tags_in lines (peer d)) pair in
-    let end : drained_state (Some rows) (1 - d % 2) (state_in lines d) (tags_in lines d) ≡ s.0 = drained_walk rows (1 - d % 2) (state_in lines d) (tags_in lines d) s.0 s.1 in
-    same_lines rows (d % 2) (shut_line (Some rows) (1 - d % 2) (slice_index_or lines d no_line)) (slice_index_or new d no_line) (slice_index_or lines (peer d) no_line)
-    (slice_index_or new (peer d) no_line) (sym lo) (sym hi)
-    (subst (λ (z : ℕ). InStep rows (d % 2) z [] (state_in lines (peer d)) (tags_in lines (peer d))) (sym end) s.2)
+shut_pair rows lines new d lo hi pair = grind (arith, nat_tests, drain_step, drained_walk, same_lines)
 
 pub half_apart : (d k : ℕ) → k / 2 ≢ d / 2 → k ≢ d
 half_apart d k n e = n (ap (λ (x : ℕ). x / 2) e)

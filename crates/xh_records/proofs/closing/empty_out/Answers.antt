@@ -5,9 +5,7 @@ use Rattle.atomic_table.specs.Table.{rest, turned}
 use Rattle.xh_arena.specs.Views.{LotOf}
 use Rattle.xh_model.specs.Keyed.{Among, Distinct, keys}
 use Rattle.xh_model.proofs.Keyed.{distinct_split, keys_append}
-use Rattle.xh_model.specs.Words.{place_of}
-use Rattle.xh_records.specs.History.{by_place}
-use Rattle.xh_records.specs.Seats.{lot_in, indices, Held}
+use Rattle.xh_records.specs.Seats.{lot_in, indices}
 use Rattle.xh_records.specs.inner.Tokens.{in_slot, AllLots, AllBelow}
 use Rattle.xh_records.specs.inner.Gathering.{slot_at, or_else}
 use Rattle.xh_records.proofs.Cuts.{hands_over, splits}
@@ -35,7 +33,7 @@ module _ (g : Over) (c : After-from-slot g) where
       let done : length front ≡ c.loop-k.k = c.loop-k.invariant.3.done in
       let size : length c.seat.inside.order.items ≡ length (keys (front ++ back)) = ap length order_is in
       let at : slot ≡ get_or c.seat.inside.order.items c.loop-k.k slot = c.from-slot.ensures ∙ c.index-at.ensures
-      ∙ ap (λ (z : ℕ). get_or c.seat.inside.order.items c.loop-k.k z) (sym c.from-slot.ensures) in
+      ∙ ap (λ z. get_or c.seat.inside.order.items c.loop-k.k z) (sym c.from-slot.ensures) in
       next_slot front back slot (omega arith) (sym (read_is c.seat.inside.order.items c.loop-k.k slot 0 (omega arith) at) ∙ (λ j. get_or (order_is j) (sym done j) 0))
 
   here : c.loop-k.token.me.1 ≡ (c.from-slot.result, next.0) ∷ (next.1 ++ c.loop-k.invariant.2)
@@ -48,7 +46,7 @@ module _ (g : Over) (c : After-from-slot g) where
   inside =
       let below : c.from-slot.result < c.seat.inside.token.table_id.slots = below_at _ (keys c.loop-k.invariant.0) c.from-slot.result (keys next.1)
       (subst (AllBelow c.seat.inside.token.table_id.slots) all c.seat.invariant.below) in
-      subst (λ (n : ℕ). c.from-slot.result < n) (ap (λ z. z.slots) (ap (λ h. h.table) c.seat.view_is ∙ c.requires.own.0) ∙ sym c.requires.long ∙ sym c.loop-k.invariant.3.long) below
+      subst (λ n. c.from-slot.result < n) (ap (λ z. z.slots) (ap (λ h. h.table) c.seat.view_is ∙ c.requires.own.0) ∙ sym c.requires.long ∙ sym c.loop-k.invariant.3.long) below
 
 pub exchange-lot-requires : goal.exchange-lot-requires
 exchange-lot-requires g c =
@@ -72,7 +70,7 @@ loop-k-preserved g c =
       junk ++ (slot, None) ∷ [],
       record {
         split = f.split ∙ ap (λ z. front ++ z) one.2 ∙ sym (append_assoc front ((slot, one.0) ∷ []) one.1);
-        done = length-append front ((slot, one.0) ∷ []) ∙ ap (λ (n : ℕ). n + 1) f.done;
+        done = length-append front ((slot, one.0) ∷ []) ∙ ap (λ n. n + 1) f.done;
         left = ap (λ m. m.1) c.turn.ensures.2 ∙ ap (λ m. turned m.1) c.exchange-lot.ensures.3 ∙ ap (λ z. rest z ++ (slot, None) ∷ []) (here g s) ∙ append_assoc one.1 junk ((slot, None) ∷ []);
         view = ap (λ m. m.0) c.turn.ensures.2 ∙ ap (λ m. m.0) c.exchange-lot.ensures.3 ∙ f.view;
         table = c.turn.ensures.0 ∙ c.exchange-lot.ensures.0 ∙ f.table;
@@ -92,14 +90,14 @@ returns-clause-lots g c =
     let size : length c.seat.inside.order.items ≡ length (keys (front ++ back)) = ap length (c.seat.invariant.ordered ∙ ap keys f.split) in
     let all = all_front front back (omega arith) in
     λ k h. f.lots k h ∙ ap (λ z. or_else (in_slot k z) (slot_at c.args.held.now.items k)) (all ∙ sym f.split)
-    ∙ ap (λ z. or_else z (slot_at c.args.held.now.items k)) (sym (lot_numbered me.0.shape seat.small me.1 k seat.lots) ∙ ap (λ (x : Held g.row.B.Denot). lot_in k x) c.seat.view_is)
+    ∙ ap (λ z. or_else z (slot_at c.args.held.now.items k)) (sym (lot_numbered me.0.shape seat.small me.1 k seat.lots) ∙ ap (λ x. lot_in k x) c.seat.view_is)
 
 pub returns-clause-full : goal.returns-clause-full
 returns-clause-full g c = λ k h.
     let me = c.seat.inside.token.me in let seat = c.seat.invariant in
-    let there : Among (keys me.1) k = subst (λ (z : List ℕ). Among z k) (ap (λ (x : Held g.row.B.Denot). indices x) (sym c.seat.view_is) ∙ indices_are me.0.shape seat.small me.1 seat.lots) h in
+    let there : Among (keys me.1) k = subst (λ z. Among z k) (ap (λ x. indices x) (sym c.seat.view_is) ∙ indices_are me.0.shape seat.small me.1 seat.lots) h in
     let t = all_full me.0.shape me.1 seat.lots k there in
-    (t.0, ap (λ (x : Held g.row.B.Denot). lot_in k x) (sym c.seat.view_is) ∙ lot_numbered me.0.shape seat.small me.1 k seat.lots ∙ t.1)
+    (t.0, ap (λ x. lot_in k x) (sym c.seat.view_is) ∙ lot_numbered me.0.shape seat.small me.1 k seat.lots ∙ t.1)
 
 pub split_seat-requires : goal.split_seat-requires
 split_seat-requires g c =
@@ -112,6 +110,3 @@ returns-clause-token g c =
       c.split_seat.ensures.3 ∙ f.table ∙ ap (λ h. h.table) c.seat.view_is,
       c.split_seat.ensures.4 ∙ ap (λ z. (z, [])) (f.view ∙ sym (views_are c.args.seat _ _ _ c.seat.inside.token.me c.seat.view_is _ _ _ c.seat.invariant)),
     )
-
-pub returns-clause-did : goal.returns-clause-did
-returns-clause-did g c = sym (ap (λ (h : Held g.row.B.Denot). h.done) c.seat.view_is) ∙ ap (λ (h : Held g.row.B.Denot). by_place (place_of h.process) h.front) c.seat.view_is

@@ -24,8 +24,8 @@ lot_left-requires g c =
     let i : ℕ = c.loop-slot.slot in
     let below = within g (goal.at.lot_left-requires g c).After-word in
     let some_lot = c.requires.some_lot i below in record {
-      home = (subst (λ (n : ℕ). i < n) (sym v.same_count) below, v.left i (omega arith) below);
-      held = subst (λ (n : ℕ). i < n) (sym (v.held_long ∙ c.requires.full.3)) below;
+      home = (subst (λ n. i < n) (sym v.same_count) below, v.left i (omega arith) below);
+      held = subst (λ n. i < n) (sym (v.held_long ∙ c.requires.full.3)) below;
       some_lot = (some_lot.0, (λ j. or_else (v.held i (omega arith) j) (slot_at (v.slots_stay j) i)) ∙ some_lot.1);
     }
 
@@ -45,16 +45,16 @@ loop-slot-preserved g c =
       same_count = others.2 ∙ v.same_count;
       left = λ k le h. ap (λ z. get_or z k false) others.1 ∙ get_or-set_other (slots_filled c.loop-slot.closed.slots) i k false false (λ e. omega arith) ∙ v.left k (omega arith) h;
       gone = λ k h. ap (λ z. get_or z k false) others.1 ∙ dite (ℕ_discrete k i)
-          (λ e. ap (get_or (set (slots_filled c.loop-slot.closed.slots) i false) k) refl ∙ ap (λ (n : ℕ). get_or (set (slots_filled c.loop-slot.closed.slots) i false) n false) e
+          (λ e. ap (get_or (set (slots_filled c.loop-slot.closed.slots) i false) k) refl ∙ ap (λ n. get_or (set (slots_filled c.loop-slot.closed.slots) i false) n false) e
           ∙ get_or-set_same (slots_filled c.loop-slot.closed.slots) i false false long)
           (λ n. get_or-set_other (slots_filled c.loop-slot.closed.slots) i k false false n ∙ v.gone k (omega arith));
       words = c.push_reserved.ensures.items ∙ ap (λ z. z ++ c.word.result ∷ []) v.words ∙ sym
           (take_one_more (slots_items c.args.closed.words) i c.word.result (subst (λ z. get_elem? (slots_items z) i ≡ some c.word.result) v.words_stay c.word.ensures))
-          ∙ ap (λ (n : ℕ). take n (slots_items c.args.closed.words)) next;
-      words_long = c.push_reserved.ensures.len ∙ ap (λ (n : ℕ). n + 1) v.words_long;
-      lots_long = c.push_reserved-in-loop-slot.ensures.len ∙ ap (λ (n : ℕ). n + 1) v.lots_long;
-      words_room = subst (λ (n : ℕ). slots_len c.args.closed.slots ≤ n) (sym c.push_reserved.ensures.capacity) v.words_room;
-      lots_room = subst (λ (n : ℕ). slots_len c.args.closed.slots ≤ n) (sym c.push_reserved-in-loop-slot.ensures.capacity) v.lots_room;
+          ∙ ap (λ n. take n (slots_items c.args.closed.words)) next;
+      words_long = c.push_reserved.ensures.len ∙ ap (λ n. n + 1) v.words_long;
+      lots_long = c.push_reserved-in-loop-slot.ensures.len ∙ ap (λ n. n + 1) v.lots_long;
+      words_room = subst (λ n. slots_len c.args.closed.slots ≤ n) (sym c.push_reserved.ensures.capacity) v.words_room;
+      lots_room = subst (λ n. slots_len c.args.closed.slots ≤ n) (sym c.push_reserved-in-loop-slot.ensures.capacity) v.lots_room;
       held_long = search rules;
       held = λ r le. ap (λ z. get_or z r None) left.held ∙ get_or-set_other c.loop-slot.held.items i r _ None (λ e. omega arith) ∙ v.held r (omega arith);
       lots = λ r x at. ⊎_elim

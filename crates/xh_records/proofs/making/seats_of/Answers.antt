@@ -34,7 +34,7 @@ invariant_of-push_reserved g c =
     let slots : c.split_seat-token.result.table_id.slots ≡ c.args.board.now.table_id.slots = ap (λ z. z.slots) (c.split_seat-token.ensures.3 ∙ i.here) in
     let some_room : c.args.count ≤ vec_capacity c.in_ok-order.order = c.in_ok-order.ensures.capacity in
     let enough : c.args.board.now.table_id.slots ≤ c.args.count = c.requires.room in
-    let room : c.split_seat-token.result.table_id.slots ≤ vec_capacity c.in_ok-order.order = subst (λ (z : ℕ). z ≤ vec_capacity c.in_ok-order.order) (sym slots) (omega arith) in
+    let room : c.split_seat-token.result.table_id.slots ≤ vec_capacity c.in_ok-order.order = subst (λ z. z ≤ vec_capacity c.in_ok-order.order) (sym slots) (omega arith) in
     seat_is c.loop-place.place _ [] _ _ _ _ _ _ _ c.from-process.ensures empty refl refl (c.split_seat-token.ensures.4 ∙ ap (λ x. (dealt x, [])) v)
     record { processes = refl; ordered = refl; records = refl; front = refl; lots = tt; distinct = tt; below = tt; room = room; small = c.requires.small }
 
@@ -46,8 +46,8 @@ loop-place-preserved g c =
     let v = i.view ∙ ap (dealer key c.loop-place.place) (one_left _ _ c.loop-place-test.true) in
     let me = c.split_seat-token.ensures.4 in record {
       here = c.split_seat-token.ensures.0 ∙ i.here;
-      view = ap (λ m. m.0) c.split_seat-token.ensures.2 ∙ ap dealt_from v ∙ ap (λ (n : ℕ). dealer key n (c.args.places - (c.loop-place.place + 1))) next;
-      long = ap length c.push_reserved.ensures.items ∙ length-append _ _ ∙ ap (λ (n : ℕ). n + 1) i.long;
+      view = ap (λ m. m.0) c.split_seat-token.ensures.2 ∙ ap dealt_from v ∙ ap (λ n. dealer key n (c.args.places - (c.loop-place.place + 1))) next;
+      long = ap length c.push_reserved.ensures.items ∙ length-append _ _ ∙ ap (λ n. n + 1) i.long;
       room = search rules;
       seats = λ k x at. ⊎_elim
           (λ old. i.seats k x old)

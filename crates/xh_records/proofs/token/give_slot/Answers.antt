@@ -1,11 +1,9 @@
-use Rattle.std.proofs.Common.{ℕ, ◌-◌, ◌<◌, length, sym, ap, ◌∙◌, subst, ◌∷◌}
+use Rattle.std.proofs.Common.{ℕ, ◌<◌, sym, ◌∙◌, subst, ◌∷◌}
 use Rattle.atomic_table.specs.Table.{rest}
 use Rattle.xh_records.specs.declared.view.View.{View}
 use Rattle.xh_records.specs.Encoding.{holder_of}
 use Rattle.xh_records.specs.Showing.{Owns, IsLotAt}
-use Rattle.xh_records.specs.inner.Views.{IsAlone, lost}
-use Rattle.xh_records.specs.inner.Steps.{IsOthers, process_in}
-use Rattle.xh_records.specs.inner.Tokens.{turns}
+use Rattle.xh_records.specs.inner.Views.{IsAlone}
 use Rattle.xh_records.proofs.Keeps.{gives_lot}
 use Rattle.xh_records.proofs.token.give_slot.Goals as goal
 
@@ -20,13 +18,4 @@ store-requires g c =
           (subst (λ (z : View × ℕ). Owns z.0 z.1 c.requires.owned.0) (λ i. (view i, slot i)) c.requires.owned.2)
           (subst (λ (z : View × ℕ). IsLotAt z.0.shape z.1 lot.0) (λ i. (view i, slot i)) lot.2)
           lot.3,
-    )
-
-pub returns-clause-given : goal.returns-clause-given
-returns-clause-given g c =
-    let t = c.turn_to-k.ensures in let s = c.store.ensures in let u = c.turn_by.ensures in let h = holder_of c.args.to in (
-      s.2.0,
-      subst (λ (z : View). IsOthers z s.2.0) t.same.2 s.2.1,
-      u.2 ∙ ap (λ m. (m.0, turns (length c.args.order.now - c.turn_to-k.result - 1) m.1)) (s.2.2 h c.encode-word.ensures)
-          ∙ (λ i. (lost (t.same.2 i) (c.from.ensures i) (process_in (t.same.2 i)) h s.2.0, t.turned.gone i)),
     )

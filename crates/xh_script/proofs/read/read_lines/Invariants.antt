@@ -5,10 +5,7 @@ use Rattle.xh_script.specs.Scripts.{after_lines, nothing_read}
 use Rattle.xh_script.proofs.read.read_lines.Given as goal
 
 abbrev pub invariant-loop-i : goal.invariant-loop-i
-invariant-loop-i l =
-    let lines = slice_split (λ b. b == 10) l.text in
-    record {
-      rest : after_lines l.reading (l.i + 1) (drop l.i lines) ≡ after_lines nothing_read 1 lines;
-      lines : map (λ w. w.now) l.line-items ≡ lines;
-      short : length l.text ≤ MAX_SCRIPT;
-    }
+invariant-loop-i l = record {
+  rest : after_lines l.reading (l.i + 1) (map (λ w. w.now) (drop l.i l.line-items)) ≡ after_lines nothing_read 1 (slice_split (λ b. b == 10) l.text);
+  short : length l.line-items ≤ MAX_SCRIPT + 1;
+}

@@ -1,41 +1,33 @@
-use Rattle.std.proofs.Common.{◌≡◌, ◌<◌, ◌+◌, ◌-◌, ◌≤◌, length, sym, ◌∙◌, Some, None, arith, rules, refl, ap}
+use Rattle.std.proofs.Common.{◌<◌, ◌+◌, ◌-◌, ◌≤◌, sym, ◌∙◌, arith, rules, refl, ap}
 use Rattle.std.specs.Box.{boxed_slice_items}
 use Rattle.std.specs.Prelude.{Err, slice_index_or}
 use Rattle.std.proofs.lemmas.List.{length-set}
-use Rattle.xh_model.specs.Cover.{length_of}
 use Rattle.xh_model.proofs.Calls.{carved_length, carved_others}
-use Rattle.xh_arena.specs.inner.Layout.{cover_of}
 use Rattle.xh_arena.proofs.Kept.{kept-lawful}
 use Rattle.xh_arena.proofs.Steps.{Carved, carved_by, no_space, holes_within}
 use Rattle.xh_arena.proofs.Refusing.{not_refused, only_no_space, only_worn}
+use Rattle.xh_arena.proofs.arena.Arena.carve.Goals.{In-Some}
 use Rattle.xh_arena.proofs.arena.Arena.carve.Goals as goal
 
-at_worn : (c : goal.Then-self-from) → Carved c.self.inside.size (boxed_slice_items c.self.inside.extents) c.self.inside.holes.items c.self.inside.handed_out c.args.r c.args.n c.in-Some.at
-at_worn c = carved_by _ _ _ _ c.self.invariant.kept _ _ _ c.self.view_is c.requires.known c.requires.empty c.requires.some c.requires.multiple
-    (rw (← c.deref.ensures.0) (sym c.first_hole.ensures ∙ c.in-Some.is))
-
-done : (c : goal.After-self-3-1) → Carved c.self.inside.size (boxed_slice_items c.self.inside.extents) c.self.inside.holes.items c.self.inside.handed_out c.args.r c.args.n c.in-Some.at
-done c = carved_by _ _ _ _ c.self.invariant.kept _ _ _ c.self.view_is c.requires.known c.requires.empty c.requires.some c.requires.multiple
+carved : (c : In-Some) → Carved c.self.inside.size (boxed_slice_items c.self.inside.extents) c.self.inside.holes.items c.self.inside.handed_out c.args.r c.args.n c.in-Some.at
+carved c = carved_by _ _ _ _ c.self.invariant.kept _ _ _ c.self.view_is c.requires.known c.requires.empty c.requires.some c.requires.multiple
     (rw (← c.deref.ensures.0) (sym c.first_hole.ensures ∙ c.in-Some.is))
 
 pub take_front-start-requires-clause-fits : goal.take_front-start-requires-clause-fits
-take_front-start-requires-clause-fits c = (carved_by _ _ _ _ c.self.invariant.kept _ _ c.in-Some.at c.self.view_is c.requires.known c.requires.empty c.requires.some c.requires.multiple
-    (rw (← c.deref.ensures.0) (sym c.first_hole.ensures ∙ c.in-Some.is))).fits
+take_front-start-requires-clause-fits c = (carved (goal.at.take_front-start-requires-clause-fits c).In-Some).fits
 
 pub overflow_add-self : goal.overflow_add-self
-overflow_add-self c =
-    let room = (carved_by _ _ _ _ c.self.invariant.kept _ _ c.in-Some.at c.self.view_is c.requires.known c.requires.empty c.requires.some c.requires.multiple
-    (rw (← c.deref.ensures.0) (sym c.first_hole.ensures ∙ c.in-Some.is))).room in
-    search rules
+overflow_add-self c = let room = (carved (goal.at.overflow_add-self c).In-Some).room in search rules
 
 pub take_front-start-requires-clause-within : goal.take_front-start-requires-clause-within
 take_front-start-requires-clause-within c = holes_within _ _ _ _ c.self.invariant.kept c.self.invariant.limits.most_bytes
 
 pub invariant_of-self : goal.invariant_of-self
 invariant_of-self c =
-    let room : c.self.inside.handed_out + c.args.n ≤ c.self.inside.size = (done c).room in
+    let done = carved (goal.at.invariant_of-self c).In-Some in
+    let room : c.self.inside.handed_out + c.args.n ≤ c.self.inside.size = done.room in
     rw (c.take_front-start.ensures.start, c.take_front-start.ensures.items, c.from-2.ensures, c.from-3.ensures) (record {
-      kept = (done c).kept;
+      kept = done.kept;
       worn = omega arith;
       limits = rw length-set c.self.invariant.limits;
     })
@@ -53,24 +45,24 @@ returns-in_default-clause-lawful c = rw (← c.self.view_is) (kept-lawful _ _ _ 
 pub returns-then-self-from-clause-refused : goal.returns-then-self-from-clause-refused
 returns-then-self-from-clause-refused c =
     let more : c.self.inside.limit - c.self.inside.wear < c.args.n = rw c.from.ensures at c.if-self-from.true in
-    (rw (← c.self.view_is) (record { some = rw (at_worn c).place refl; past = omega arith }), refl)
+    (rw (← c.self.view_is) (record { some = rw (carved (goal.at.returns-then-self-from-clause-refused c).In-Some).place refl; past = omega arith }), refl)
 
 pub returns-then-self-from-clause-exact : goal.returns-then-self-from-clause-exact
 returns-then-self-from-clause-exact c = λ e no. ap (λ x. Err x) (only_worn c.args.n (slice_index_or c.self.inside.holes.items c.in-Some.at (0, 0)).0 c.args.self.now
-    (rw (← c.self.view_is) (at_worn c).place) e no)
+    (rw (← c.self.view_is) (carved (goal.at.returns-then-self-from-clause-exact c).In-Some).place) e no)
 
 pub returns-then-self-from-clause-lawful : goal.returns-then-self-from-clause-lawful
 returns-then-self-from-clause-lawful c = rw (← c.self.view_is) (kept-lawful _ _ _ _ c.self.invariant.kept _ _)
 
 pub returns-clause-done : goal.returns-clause-done
-returns-clause-done c = record {
+returns-clause-done c = let done = carved (goal.at.returns-clause-done c).In-Some in record {
   known = c.requires.known;
   empty = c.requires.empty;
   some = c.requires.some;
-  first = rw (c.take_front-start.ensures.start, ← c.self.view_is) (done c).place;
-  least = rw (c.take_front-start.ensures.start, ← c.self.view_is) (done c).least;
-  change = rw (c.take_front-start.ensures.start, c.from-2.ensures, c.from-3.ensures, ← c.self.view_is, (done c).cover, length-set (boxed_slice_items c.self.inside.extents)) refl;
-  run = rw (c.take_front-start.ensures.start, c.from-2.ensures) (done c).run;
+  first = rw (c.take_front-start.ensures.start, ← c.self.view_is) done.place;
+  least = rw (c.take_front-start.ensures.start, ← c.self.view_is) done.least;
+  change = rw (c.take_front-start.ensures.start, c.from-2.ensures, c.from-3.ensures, ← c.self.view_is, done.cover, length-set (boxed_slice_items c.self.inside.extents)) refl;
+  run = rw (c.take_front-start.ensures.start, c.from-2.ensures) done.run;
   within_limit = (invariant_of-self c).worn;
 }
 

@@ -1,10 +1,8 @@
-use Rattle.std.proofs.Common.{◌≡◌, ◌<◌, length, set, refl, arith}
+use Rattle.std.proofs.Common.{◌<◌, set, refl, arith}
 use Rattle.std.specs.Box.{boxed_slice_items}
 use Rattle.std.proofs.lemmas.Bool.{false≢true}
 use Rattle.std.proofs.lemmas.List.{length-set}
-use Rattle.xh_model.specs.Cover.{length_of}
 use Rattle.xh_model.proofs.Calls.{cut_others}
-use Rattle.xh_arena.specs.inner.Layout.{cover_of}
 use Rattle.xh_arena.proofs.Kept.{kept-lawful}
 use Rattle.xh_arena.proofs.Steps.{CutDone, cut_by, length_read}
 use Rattle.xh_arena.proofs.arena.Arena.cut.Goals as goal
@@ -24,7 +22,8 @@ returns-then-k-eq0-clause-exact c =
 pub returns-then-k-eq0-clause-lawful : goal.returns-then-k-eq0-clause-lawful
 returns-then-k-eq0-clause-lawful c = rw (← c.self.view_is) (kept-lawful _ _ _ _ c.self.invariant.kept _ _)
 
-done : (c : goal.After-self-2-1) → CutDone c.self.inside.size (boxed_slice_items c.self.inside.extents) c.self.inside.holes.items c.self.inside.handed_out c.args.r c.args.t c.args.k c.index.result.now
+done : (c : goal.After-self-2-1) →
+    CutDone c.self.inside.size (boxed_slice_items c.self.inside.extents) c.self.inside.holes.items c.self.inside.handed_out c.args.r c.args.t c.args.k c.index.result.now
 done c = cut_by _ _ _ _ _ _ c.self.invariant.kept c.self.view_is c.requires.known (rw c.from-head.ensures at c.index.ensures) _ _ c.requires.tail_known c.requires.other c.requires.empty
     (omega arith) c.if-k-ne0.false c.if-k-length.false
 

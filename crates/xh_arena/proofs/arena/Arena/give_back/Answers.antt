@@ -1,9 +1,7 @@
-use Rattle.std.proofs.Common.{◌<◌, length, refl}
+use Rattle.std.proofs.Common.{refl}
 use Rattle.std.specs.Box.{boxed_slice_items}
 use Rattle.std.proofs.lemmas.List.{length-set}
-use Rattle.xh_model.specs.Cover.{length_of}
 use Rattle.xh_model.proofs.Calls.{back_length, back_others}
-use Rattle.xh_arena.specs.inner.Layout.{cover_of}
 use Rattle.xh_arena.proofs.Kept.{kept-lawful}
 use Rattle.xh_arena.proofs.Steps.{BackDone, back_by, holes_within, holes_rising}
 use Rattle.xh_arena.proofs.Room.{holes_room}

@@ -1,5 +1,4 @@
 use Rattle.std.proofs.Common.{sym, ◌∙◌}
-use Rattle.std.specs.Box.{boxed_slice_items}
 use Rattle.xh_model.proofs.Sums.{lawful-bytes_out}
 use Rattle.xh_arena.proofs.Kept.{kept-lawful}
 use Rattle.xh_arena.proofs.arena.Arena.handed_out.Goals as goal

@@ -1,7 +1,7 @@
 use Rattle.std.proofs.Common.{◌≡◌, ℕ, [], replicate, refl, sym, ap, ◌∙◌, arith}
 use Rattle.xh_arena.specs.inner.Parts.{weigh}
 use Rattle.xh_model.specs.Arena.{lengths_of}
-use Rattle.xh_arena.specs.inner.Books.{booked, back_of, workers_of, moves_of, vault_parts}
+use Rattle.xh_arena.specs.inner.Books.{booked, vault_parts}
 use Rattle.xh_model.proofs.Lengths.{lengths_new}
 use Rattle.xh_arena.proofs.Weights.{weigh_none}
 use Rattle.xh_arena.proofs.Shown.{settled}
@@ -22,9 +22,3 @@ invariant_of-result g c =
       worn = omega arith;
       most = (let most = limits.most_wear in omega arith);
     }
-
-pub returns-clause-vault : goal.returns-clause-vault
-returns-clause-vault g c =
-    let left = c.in-Ok.ensures.books in
-    let made = c.in_ok-arena.ensures.fresh in
-    λ q. record { id = c.in-Ok.shares.id; arena = made q; back = back_of (left q); workers = workers_of (left q); collected = moves_of (left q) }

@@ -1,4 +1,4 @@
-use Rattle.std.proofs.Common.{◌∙◌, ap, inr, ◌++◌, ◌∷◌, []}
+use Rattle.std.proofs.Common.{rules, ◌∙◌, ap, inr, ◌++◌, ◌∷◌, []}
 use Rattle.xh_channel.specs.Numbers.{message}
 use Rattle.xh_channel.proofs.Ends.{state_stays}
 use Rattle.xh_channel.proofs.channel_end.ChannelEnd.put_on_queue.Goals as goal
@@ -11,19 +11,7 @@ returns-then-not-stays_sent-clause-refused g c =
     let un = c.if-not-stays_sent.ensures in
     let ends = un.same in (
       (
-        record {
-          channel = ends.channel ∙ same.channel;
-          side = ends.side ∙ same.side;
-          has_contract = ends.has_contract ∙ same.has_contract;
-          depth = ends.depth ∙ same.depth;
-          out = ends.out ∙ same.out;
-          into = ends.into ∙ same.into;
-          closed = ends.closed ∙ same.closed;
-          line = ends.line ∙ same.line;
-          rows = ends.rows ∙ same.rows;
-          told_put = ends.told_put ∙ same.told_put;
-          told_taken = ends.told_taken ∙ same.told_taken;
-        },
+        search rules,
         un.sent _ _ went.0.1,
         un.got ∙ went.0.2,
         λ _. un.closed,

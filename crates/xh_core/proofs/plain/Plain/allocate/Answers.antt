@@ -10,9 +10,6 @@ use Rattle.xh_core.proofs.plain.Plain.allocate.Goals.{After-claim}
 known : (c : After-claim) → Claimed c.args.p c.args.r c.args.self.now (after (Claim c.args.p c.args.r) c.args.self.now)
 known c = claimed c.args.self.now c.args.p c.args.r (subst IsLawful c.self.view_is c.self.invariant.0) c.requires.process c.requires.known c.requires.free
 
-arenas : (c : After-claim) → c.claim.new.self.arenas ≡ c.args.self.now.arenas
-arenas c = ap (λ (t : Store). t.arenas) c.claim.ensures.after ∙ (known c).arenas
-
 pub carve-requires : goal.carve-requires
 carve-requires c =
     let cl = known (goal.at.carve-requires c).After-claim in
@@ -27,7 +24,7 @@ carve-requires c =
 
 pub returns-in-Err-clause-room : goal.returns-in-Err-clause-room
 returns-in-Err-clause-room c =
-    sym (same_space c.args.self.now c.claim.new.self (c.args.r / 256) c.args.n (arenas (goal.at.returns-in-Err-clause-room c).After-claim)) ∙ c.in-Err.ensures.room
+    sym (same_space c.args.self.now c.claim.new.self (c.args.r / 256) c.args.n c.claim.ensures.arenas) ∙ c.in-Err.ensures.room
 
 pub returns-in-Err-clause-unchanged : goal.returns-in-Err-clause-unchanged
 returns-in-Err-clause-unchanged c =
@@ -35,7 +32,7 @@ returns-in-Err-clause-unchanged c =
     ∙ unclaimed c.args.self.now c.args.p c.args.r (subst IsLawful c.self.view_is c.self.invariant.0) c.requires.process c.requires.known c.requires.free)
 
 pub returns-clause-others : goal.returns-clause-others
-returns-clause-others c = λ q ne. c.carve.ensures.others q ne ∙ same_len c.args.self.now c.claim.new.self q (arenas (goal.at.returns-clause-others c).After-claim)
+returns-clause-others c = λ q ne. c.carve.ensures.others q ne ∙ same_len c.args.self.now c.claim.new.self q c.claim.ensures.arenas
 
 pub returns-clause-gained : goal.returns-clause-gained
 returns-clause-gained c =
@@ -43,8 +40,8 @@ returns-clause-gained c =
     gained_one c.args.self.now c.carve.new.self c.args.p c.args.r (subst IsLawful c.self-2.view_is c.self-2.invariant.0) (known d) c.requires.free
     (ap (λ (t : Store). t.owners) c.carve.ensures.after ∙ (carve-owners c.claim.new.self c.args.p c.args.r c.args.n ∙ ap (λ (t : Store). t.owners) c.claim.ensures.after))
     (subst (λ (k : ℕ). 0 < k) (sym c.in_default.ensures.length) c.requires.some)
-    (λ q ne l. subst (λ (k : ℕ). 0 < k) (sym (c.carve.ensures.others q ne ∙ same_len c.args.self.now c.claim.new.self q (arenas d))) l)
+    (λ q ne l. subst (λ (k : ℕ). 0 < k) (sym (c.carve.ensures.others q ne ∙ same_len c.args.self.now c.claim.new.self q c.claim.ensures.arenas)) l)
 
 pub returns-clause-room : goal.returns-clause-room
 returns-clause-room c =
-    sym (same_space c.args.self.now c.claim.new.self (c.args.r / 256) c.args.n (arenas (goal.at.returns-clause-room c).After-claim)) ∙ c.in_default.ensures.room
+    sym (same_space c.args.self.now c.claim.new.self (c.args.r / 256) c.args.n c.claim.ensures.arenas) ∙ c.in_default.ensures.room

@@ -19,11 +19,6 @@ last c = rw (← c.self.view_is) at c.holder-last.ensures.is
 bytes : (c : After-holder-last) → c.len-bytes.result ≡ len (store c) c.args.r
 bytes c = rw (← c.self.view_is) at c.len-bytes.ensures
 
-pub take-requires-clause-there : goal.take-requires-clause-there
-take-requires-clause-there c = λ p e.
-    let d = (goal.at.take-requires-clause-there c).After-holder-last in
-    rw c.self.invariant.2.long (owner_there (store d) c.args.r p c.self.invariant.0 (sym (last d) ∙ e))
-
 pub take-requires-clause-enough : goal.take-requires-clause-enough
 take-requires-clause-enough c = λ p e.
     let d = (goal.at.take-requires-clause-enough c).After-holder-last in

@@ -11,7 +11,7 @@ known : (c : After-cut) → Claimed c.args.p c.args.t c.args.self.now (after (Cl
 known c = claimed c.args.self.now c.args.p c.args.t (subst IsLawful c.self.view_is c.self.invariant.0) c.requires.process c.requires.known c.requires.free
 
 same : (c : After-cut) (q : ℕ) → len c.claim.new.self q ≡ len c.args.self.now q
-same c q = same_len c.args.self.now c.claim.new.self q (ap (λ (t : Store). t.arenas) c.claim.ensures.after ∙ (known c).arenas)
+same c q = same_len c.args.self.now c.claim.new.self q c.claim.ensures.arenas
 
 done : (c : After-cut) → c.cut.result ≡ true
 done c = c.cut.ensures.done ∙ (ap (λ (u : Store). can (Cut c.args.p c.args.r c.args.t c.args.k) u) c.claim.ensures.after

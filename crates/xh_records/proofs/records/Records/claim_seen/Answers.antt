@@ -27,9 +27,9 @@ loop-index-preserved g c =
     let at = c.number_at-number.ensures in
     let each = ap (λ h. h.shape.records) i.looked.0 ∙ ap (λ s. s.records) c.requires.own.1 in
     let later = starts_on y z miss.1.1 z.front (starts_itself z.front) in
-    let found = subst (λ (k : ℕ). HasFound k c.in-Err.word x z.front) (λ j. at.0 j * each j + (at.1 ∙ sym long) j) (found_on x y i.looked _ c.in-Err.word z.front miss.1.0) in record {
+    let found = subst (λ k. HasFound k c.in-Err.word x z.front) (λ j. at.0 j * each j + (at.1 ∙ sym long) j) (found_on x y i.looked _ c.in-Err.word z.front miss.1.0) in record {
       looked = looks_on x y i.looked z miss.1.1;
-      long = ap length c.push.ensures.items ∙ length-append words _ ∙ ap (λ (n : ℕ). n + 1) long;
+      long = ap length c.push.ensures.items ∙ length-append words _ ∙ ap (λ n. n + 1) long;
       seen = λ k below. subst (λ l. Saw x z.front (c.args.arena * n + k) (get_or l k 0)) (sym c.push.ensures.items)
           (seen_more (λ j w. Saw x z.front (c.args.arena * n + j) w) words c.in-Err.word
           (λ j m. let t = i.seen j (omega arith) in (t.0, t.1, t.2, starts_twice t.1 y.front z.front t.3 later, t.4))
@@ -45,6 +45,6 @@ returns-clause-seen g c =
     ∙ (let e : c.self.inside.records ≡ c.loop-index.index = omega arith in e) in
     let own : c.args.seat.now.shape.records ≡ c.args.self.now.shape.records = ap (λ s. s.records) c.requires.own.1 in (
       i.long ∙ sym all ∙ sym own,
-      λ k below. subst (λ (n : ℕ). Saw c.args.seat.now c.loop-index.seat.front (c.args.arena * n + k) (get_or c.loop-index.seen.words.items k 0)) (sym own)
-          (i.seen k (subst (λ (n : ℕ). k < n) (own ∙ all) below)),
+      λ k below. subst (λ n. Saw c.args.seat.now c.loop-index.seat.front (c.args.arena * n + k) (get_or c.loop-index.seen.words.items k 0)) (sym own)
+          (i.seen k (subst (λ n. k < n) (own ∙ all) below)),
     )

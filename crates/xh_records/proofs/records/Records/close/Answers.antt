@@ -1,8 +1,7 @@
-use Rattle.std.proofs.Common.{rules, arith, ◌≡◌, ℕ, ◌*◌, ◌<◌, length, sym, ap, ◌∙◌, subst}
+use Rattle.std.proofs.Common.{rules, ◌≡◌, ℕ, ◌*◌, ◌<◌, length, sym, ap, ◌∙◌, subst}
 use Rattle.std.specs.Prelude.{Some, slice_get}
 use Rattle.std.specs.Vec.{vec_len}
 use Rattle.std.specs.Slots.{slots_items, slots_len, slots_counts}
-use Rattle.xh_records.specs.declared.shape.Shape.{Shape}
 use Rattle.xh_records.specs.Seats.{Held, Ends}
 use Rattle.xh_records.proofs.Elements.{elem_slice}
 use Rattle.xh_records.proofs.Ended.{some_lot, ends}
@@ -12,11 +11,6 @@ use Rattle.xh_records.proofs.records.Records.close.Goals as goal
 
 pub join_all-token-requires-clause-own : goal.join_all-token-requires-clause-own
 join_all-token-requires-clause-own g c = λ k x at. (c.requires.own k x (elem_slice c.args.seats.items k x at)).0 ∙ sym (ap (λ r. r.table) c.self.view_is)
-
-pub join_all-token-requires-clause-some_seat : goal.join_all-token-requires-clause-some_seat
-join_all-token-requires-clause-some_seat g c =
-    let some_place : 0 < c.args.self.shape.places = subst (λ (z : Shape). 0 < z.places) (ap (λ r. r.shape) c.self.view_is) c.self.invariant.places.0 in
-    let every = c.requires.all in (omega arith, c.self.invariant.some)
 
 -- the sizes of what is taken apart
 module _ (g : Over) (c : After-close_with g) where
@@ -35,7 +29,7 @@ module _ (g : Over) (c : After-close_with g) where
   own j x at = (c.requires.own j x at).1 ∙ sym shape_is
 
   all : length c.args.seats.items ≡ c.self.inside.table.shared.key.places
-  all = let size : vec_len c.args.seats ≡ length c.args.seats.items = search rules in sym size ∙ c.requires.all ∙ ap (λ (z : Shape). z.places) (sym shape_is)
+  all = let size : vec_len c.args.seats ≡ length c.args.seats.items = search rules in sym size ∙ c.requires.all ∙ ap (λ z. z.places) (sym shape_is)
 
   sized : length (slots_items c.close_with.result.slots) ≡ length c.self.inside.table.shared.key.names * c.self.inside.table.shared.key.records
   sized = let a : slots_len c.close_with.result.slots ≡ c.self.inside.table.shared.table_id.slots = search rules in sym count ∙ a ∙ c.self.invariant.slots
@@ -45,7 +39,7 @@ unload-requires-clause-some_lot g c =
     let s = (goal.at.unload-requires-clause-some_lot g c).After-close_with in
     λ k h. some_lot g.B.Fits.is_fit c.self.inside.table.shared.key c.join_all-token.result.id c.join_all-token.result.me.0 (slots_items c.close_with.result.words)
     (slots_items c.close_with.result.slots) c.args.seats.items c.join_all-token.new.held.items
-    c.close_with.ensures.values.2 c.join_all-token.ensures.gathered (long g s) c.self.invariant.small (own g s) (all g s) (sized g s) k (subst (λ (n : ℕ). k < n) (count g s) h)
+    c.close_with.ensures.values.2 c.join_all-token.ensures.gathered (long g s) c.self.invariant.small (own g s) (all g s) (sized g s) k (subst (λ n. k < n) (count g s) h)
 
 pub returns : goal.returns
 returns g c =

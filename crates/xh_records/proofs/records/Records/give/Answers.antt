@@ -5,7 +5,6 @@ use mathlib.Core.Option.{some}
 use Rattle.xh_model.specs.Words.{number_of, place_of}
 use Rattle.xh_model.specs.Keyed.{without}
 use Rattle.xh_model.specs.declared.event.Event.{Event}
-use Rattle.xh_records.specs.Seats.{Held}
 use Rattle.xh_records.specs.Encoding.{holder_of}
 use Rattle.xh_records.specs.inner.Events.{giving}
 use Rattle.xh_records.specs.inner.Views.{adds, lost}
@@ -31,7 +30,7 @@ Is x y = x ≡ y
 -- the process of a seat's view is the seat's
 who : {B : Type 0} {p : ℕ} (me : Me (Option (LotOf B)) View) (slot : ℕ) (h : Option Holder) (others : List Event) → me.0.processes ≡ p ∷ []
     → Is (lost me.0 slot (process_in me.0) h others, without slot me.1) (lost me.0 slot p h others, without slot me.1)
-who me slot h others mine = ap (λ (l : List ℕ). (lost me.0 slot (get_or l 0 0) h others, without slot me.1)) mine
+who me slot h others mine = ap (λ l. (lost me.0 slot (get_or l 0 0) h others, without slot me.1)) mine
 
 -- where the lot is, and where its slot stands
 lent : (g : Over) (c : After-as_slice g) → Lent c.args.seat.now _ _ _ c.seat.inside.token.me c.seat.view_is _ _ _ c.seat.invariant c.slot_of-slot.result c.args.number c.requires.held.0
@@ -71,7 +70,7 @@ returns g c =
     let number : number_of me.0.shape.records slot ≡ c.args.number = (lent g (goal.at.returns g c).After-as_slice).number in
     let h = holder_of c.args.to in
     let given = c.give_slot-k.ensures.given in let e = giving x.process c.args.number h in
-    let whose = ap (λ (z : Held g.row.B.Denot). z.process) c.seat.view_is in
+    let whose = ap (λ z. z.process) c.seat.view_is in
     let now = given.2 ∙ who me slot h given.0 c.seat.invariant.processes in
     lost_by x _ x.process c.args.number h (held_as x _ _ _ me c.seat.view_is _ _ _ c.seat.invariant _ _ c.give_slot-k.new.token.me _ given.0 (e ∷ []) _ last.0 last.1 (ap (λ m. m.0.shape) now)
     (ap (λ m. numbered m.0.shape.records m.1) now ∙ without_numbered me.0.shape c.seat.invariant.small me.1 slot c.seat.invariant.lots ∙ (λ i. without (number i) (c.seat.view_is i).lots))

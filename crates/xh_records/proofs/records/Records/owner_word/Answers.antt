@@ -1,24 +1,19 @@
-use Rattle.std.proofs.Common.{◌<◌, refl, sym, ap, ◌∙◌, subst}
-use Rattle.atomic_table.specs.Seated.{TableId}
+use Rattle.std.proofs.Common.{◌<◌, sym, ap, ◌∙◌, subst}
 use Rattle.xh_model.specs.Slots.{index_of}
 use Rattle.xh_records.specs.inner.Steps.{SeesMore}
 use Rattle.xh_records.proofs.Keeps.{looks}
 use Rattle.xh_records.proofs.Numbered.{held_seen}
-use Rattle.xh_records.proofs.Seating.{is_alone, seat_is, sees}
+use Rattle.xh_records.proofs.Seating.{is_alone}
 use Rattle.xh_records.proofs.records.Records.owner_word.Goals as goal
 
 pub load-requires : goal.load-requires
 load-requires g c =
-    let inside = subst (λ (t : TableId). (c.from.result < t.words) × (c.from.result < t.slots)) (sym (ap (λ r. r.table) c.self.view_is))
+    let inside = subst (λ t. (c.from.result < t.words) × (c.from.result < t.slots)) (sym (ap (λ r. r.table) c.self.view_is))
     (subst (λ n. (n < c.args.self.now.table.words) × (n < c.args.self.now.table.slots)) (sym c.from.ensures) c.slot_of-slot.ensures.inside) in (
       ap (λ h. h.table) c.seat.view_is ∙ c.requires.own.0 ∙ sym (ap (λ r. r.table) c.self.view_is),
       inside.0,
       looks g.B.Fits.is_fit c.self.inside.table.shared.key _ _ _ _ c.seat.inside.process inside.1 (is_alone _ _ _ _ _ c.seat.invariant),
     )
-
-pub invariant_of-seat : goal.invariant_of-seat
-invariant_of-seat g c =
-    let e = c.load.ensures in seat_is _ _ _ _ _ _ _ _ _ _ refl refl refl (ap (λ z. z.slots) e.0) e.2.2 (sees _ _ _ _ c.seat.inside.token.me _ c.seat.invariant)
 
 pub returns : goal.returns
 returns g c =

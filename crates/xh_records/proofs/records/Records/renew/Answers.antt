@@ -1,4 +1,4 @@
-use Rattle.std.proofs.Common.{arith, ◌≡◌, ℕ, ◌+◌, ◌<◌, refl, sym, ap, ◌∙◌, subst, []}
+use Rattle.std.proofs.Common.{arith, ◌≡◌, ◌+◌, ◌<◌, refl, sym, ap, ◌∙◌, subst, []}
 use Rattle.xh_model.specs.declared.limits.TheConstants.{GENERATIONS}
 use Rattle.xh_model.specs.Words.{generation_of}
 use Rattle.xh_model.specs.Keyed.{keys}
@@ -16,7 +16,7 @@ load-requires g c =
     let generation : generation_of c.args.seat.now.process + 1 < GENERATIONS = c.requires.generation in (
       ap (λ h. h.table) c.seat.view_is ∙ c.requires.own.0 ∙ sym (ap (λ r. r.table) c.self.view_is),
       table.some,
-      ages g.B.Fits.is_fit c.self.inside.table.shared.key _ _ _ c.seat.inside.process (subst (λ (n : ℕ). 0 < n) (table.words ∙ sym table.slots) table.some) s.processes
+      ages g.B.Fits.is_fit c.self.inside.table.shared.key _ _ _ c.seat.inside.process (subst (λ n. 0 < n) (table.words ∙ sym table.slots) table.some) s.processes
           (s.records ∙ ap (owned_by c.seat.inside.process) (s.ordered ∙ ap keys bare)) (omega arith),
     )
 
@@ -24,5 +24,5 @@ pub invariant_of-seat : goal.invariant_of-seat
 invariant_of-seat g c =
     let s = c.seat.invariant in
     let bare : c.seat.inside.token.me.1 ≡ [] = none_numbered c.seat.inside.token.me.0.shape s.small c.seat.inside.token.me.1 s.lots (ap (λ h. h.lots) c.seat.view_is ∙ c.requires.empty) in
-    seat_is _ _ _ _ _ _ _ _ _ _ (ap (λ (n : ℕ). c.seat.inside.process + n) c.from.ensures) refl refl (ap (λ z. z.slots) c.load.ensures.0) c.load.ensures.2
+    seat_is _ _ _ _ _ _ _ _ _ _ (ap (λ n. c.seat.inside.process + n) c.from.ensures) refl refl (ap (λ z. z.slots) c.load.ensures.0) c.load.ensures.2
     (grows_old _ _ _ _ c.seat.inside.token.me s bare)

@@ -2,13 +2,12 @@ use Rattle.std.proofs.Common.{rules, ◌≡◌, ℕ, ◌<◌, length, refl, sym,
 use Rattle.std.specs.Vec.{vec_capacity}
 use Rattle.xh_model.specs.Words.{number_of, place_of}
 use Rattle.xh_records.specs.Encoding.{holder_of}
-use Rattle.xh_records.specs.Seats.{Held}
 use Rattle.xh_records.specs.inner.Events.{taking}
 use Rattle.xh_records.specs.inner.Views.{adds}
 use Rattle.xh_records.specs.inner.Tokens.{numbered}
 use Rattle.xh_records.proofs.History.{by_place_more}
 use Rattle.xh_records.proofs.Keeps.{taking_is}
-use Rattle.xh_records.proofs.Seating.{not_among, has_room, gains, is_alone, seat_is, sees}
+use Rattle.xh_records.proofs.Seating.{not_among, has_room, gains, seat_is}
 use Rattle.xh_records.proofs.Numbered.{numbered_push, gained_by, lot_back, fresh, held_as, held_seen}
 use Rattle.xh_records.proofs.Lent.{Spot, spot_of}
 use Rattle.xh_records.proofs.records.Records.take.Given.{Over}
@@ -21,9 +20,6 @@ module _ (g : Over) (c : After-take_slot g) where
 
   inside : c.slot_of-slot.result < c.seat.inside.token.table_id.slots
   inside = subst (λ z. c.slot_of-slot.result < z.slots) (sym (ap (λ h. h.table) c.seat.view_is ∙ c.requires.own.0)) c.slot_of-slot.ensures.inside.1
-
-pub take_slot-requires-clause-process : goal.take_slot-requires-clause-process
-take_slot-requires-clause-process g c = is_alone _ _ _ _ _ c.seat.invariant
 
 pub push_reserved-requires : goal.push_reserved-requires
 push_reserved-requires g c =
@@ -50,7 +46,7 @@ returns-in-Ok-clause-taken g c =
     let h = holder_of c.args.from in
     let number : number_of me.0.shape.records slot ≡ c.args.number = here.number in
     let e = taking x.process c.args.number h in
-    let who = ap (λ (z : Held g.row.B.Denot). z.process) c.seat.view_is in
+    let who = ap (λ z. z.process) c.seat.view_is in
     gained_by x _ x.process c.args.number h _ t.0 (lot_back x _ _ _ me c.seat.view_is slot c.args.number t.0 here.at here.below t.4) t.5
     (held_as x _ _ _ me c.seat.view_is _ _ _ c.seat.invariant _ _ c.take_slot.new.token.me _ t.1 (e ∷ []) _ c.take_slot.ensures.same.0 c.take_slot.ensures.same.1 (ap (λ m. m.0.shape) t.2)
     (ap (λ m. numbered m.0.shape.records m.1) t.2 ∙ numbered_push me.0.shape.records me.1 slot t.0 ∙ (λ i. (c.seat.view_is i).lots ++ (number i, t.0) ∷ []))
@@ -64,11 +60,6 @@ returns-in-Ok-clause-fresh g c =
     let t = c.in-Ok.ensures.taken in
     let at = (spot g (goal.at.returns-in-Ok-clause-fresh g c).After-take_slot).at in
     fresh x _ _ _ me c.seat.view_is _ _ _ c.seat.invariant slot c.args.number at (not_among _ _ _ _ me slot c.seat.invariant t.6)
-
-pub invariant_of-seat-in-Err : goal.invariant_of-seat-in-Err
-invariant_of-seat-in-Err g c =
-    let same = c.take_slot.ensures.same in let m = c.in-Err.ensures.missed in
-    seat_is _ _ _ _ _ _ _ _ _ _ refl refl refl (ap (λ z. z.slots) same.0) m.1.2 (sees _ _ _ _ c.seat.inside.token.me _ c.seat.invariant)
 
 pub returns-in-Err-clause-missed : goal.returns-in-Err-clause-missed
 returns-in-Err-clause-missed g c =

@@ -44,7 +44,8 @@ there : (c : In_ok-r) → (c.in_ok-r.r < length c.self.inside.blocks.buffers) ×
 there c =
     let m : Machine = machine_of c.self.inside in
     let runs : IsRunning m c.args.p = rw (← c.self.view_is) at c.in_ok-check_wire.ensures.1.0 in
-    let two = paired_two c.args.p c.args.arena c.in_ok-r.r c.in_ok-r.t m.store c.allocate_ends.new.self c.self.invariant.store (current_range m c.args.p c.self.invariant runs.0) c.in_ok-r.ensures.done in
+    let two = paired_two c.args.p c.args.arena c.in_ok-r.r c.in_ok-r.t m.store c.allocate_ends.new.self c.self.invariant.store
+    (current_range m c.args.p c.self.invariant runs.0) c.in_ok-r.ensures.done in
     (omega (arith, c.self.invariant.buffers, two.there_r), omega (arith, c.self.invariant.buffers, two.there_t))
 
 pub bind-requires : goal.bind-requires
@@ -103,14 +104,11 @@ made : (c : goal.After-add-2) → is c ≡ connected c.hand_over.new.self c.args
 made c = rw (c.add-2.ensures, c.add.ensures, c.bind-2.ensures, c.bind.ensures, c.open-channel.ensures.number)
     (rw (c.open-channel.ensures.lines, c.open-channel.ensures.contracts, c.open-channel.ensures.opened) refl)
 
-whole : (c : goal.After-add-2) → IsWhole (is c)
-whole c = subst IsWhole (sym (made c)) (connected_whole _ _ _ _ _ _ _ (facts (steps c)))
-
 pub invariant_of-self-2 : goal.invariant_of-self-2
-invariant_of-self-2 c = whole c
+invariant_of-self-2 c = subst IsWhole (sym (made c)) (connected_whole _ _ _ _ _ _ _ (facts (steps c)))
 
 pub returns-clause-orderly : goal.returns-clause-orderly
-returns-clause-orderly c = whole_orderly (is c) (is c) (whole c) refl
+returns-clause-orderly c = whole_orderly (is c) (is c) (invariant_of-self-2 c) refl
 
 pub returns-clause-is : goal.returns-clause-is
 unfolding wire_channel

@@ -42,24 +42,21 @@ made : (c : goal.After-put) → is c ≡ given c.args.p c.args.e c.args.tag c.ar
 unfolding given
 made c = rw (c.pass_all.ensures, c.remove_all.ensures, c.put.ensures.line, c.tell.ensures, c.peer-to.ensures.is, other c, (may_there c).toward, (may_there c).runs.0) refl
 
-whole : (c : goal.After-put) → IsWhole (is c)
-whole c = subst IsWhole (sym (made c)) (given_whole (was c) c.args.p c.args.e c.args.tag c.args.blocks.now c.self.invariant (may c))
-
 pub invariant_of-self : goal.invariant_of-self
-invariant_of-self c = whole c
+invariant_of-self c = subst IsWhole (sym (made c)) (given_whole (was c) c.args.p c.args.e c.args.tag c.args.blocks.now c.self.invariant (may c))
 
 pub returns-clause-is : goal.returns-clause-is
 unfolding give
 returns-clause-is c = rw (c.in_ok-own.ensures.0, ← c.self.view_is, made c, c.put.ensures.number, c.tell.ensures, c.peer-to.ensures.is, other c, (may_there c).toward) refl
 
 pub returns-clause-orderly : goal.returns-clause-orderly
-returns-clause-orderly c = whole_orderly (is c) (is c) (whole c) refl
+returns-clause-orderly c = whole_orderly (is c) (is c) (invariant_of-self c) refl
 
 pub returns-in_err-own-clause-orderly : goal.returns-in_err-own-clause-orderly
 returns-in_err-own-clause-orderly c = whole_orderly _ _ c.self.invariant c.self.view_is
 
 pub returns-clause-numbered : goal.returns-clause-numbered
-returns-clause-numbered c = (whole c).channels.numbered
+returns-clause-numbered c = (invariant_of-self c).channels.numbered
 
 pub returns-in_err-own-clause-numbered : goal.returns-in_err-own-clause-numbered
 returns-in_err-own-clause-numbered c = whole_numbered _ _ c.self.invariant c.self.view_is

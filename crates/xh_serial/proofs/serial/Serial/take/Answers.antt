@@ -52,11 +52,8 @@ unfolding taken
 made c = rw (c.accept_all.ensures, c.add_all.ensures, c.as_slice.ensures.value, c.as_slice-2.ensures.value, c.take_front-message.ensures.line)
     (rw (c.take_front-message.ensures.front, (may_there (begun c)).toward, (may_there (begun c)).runs.0) refl)
 
-whole : (c : goal.After-add_all) → IsWhole (is c)
-whole c = subst IsWhole (sym (made c)) (taken_whole (was (begun c)) c.args.p c.args.e c.self.invariant (may (begun c)))
-
 pub invariant_of-self : goal.invariant_of-self
-invariant_of-self c = whole c
+invariant_of-self c = subst IsWhole (sym (made c)) (taken_whole (was (begun c)) c.args.p c.args.e c.self.invariant (may (begun c)))
 
 pub returns-clause-is : goal.returns-clause-is
 unfolding take
@@ -67,7 +64,7 @@ returns-clause-is c =
     rw (c.in_ok-d.ensures.0, ← c.self.view_is, made c) (λ i. (Ok (record { no = (same i).no; tag = (same i).tag; blocks = record { items = blocks i } }), taken c.args.p c.args.e m))
 
 pub returns-clause-orderly : goal.returns-clause-orderly
-returns-clause-orderly c = whole_orderly (is c) (is c) (whole c) refl
+returns-clause-orderly c = whole_orderly (is c) (is c) (invariant_of-self c) refl
 
 pub returns-in_err-d-clause-orderly : goal.returns-in_err-d-clause-orderly
 returns-in_err-d-clause-orderly c = whole_orderly _ _ c.self.invariant c.self.view_is
@@ -76,7 +73,7 @@ pub returns-clause-allowed : goal.returns-clause-allowed
 returns-clause-allowed c = rw (← c.self.view_is, first (begun c)) (front_allowed (was (begun c)) c.args.p c.args.e c.self.invariant (may (begun c)))
 
 pub returns-clause-numbered : goal.returns-clause-numbered
-returns-clause-numbered c = (whole c).channels.numbered
+returns-clause-numbered c = (invariant_of-self c).channels.numbered
 
 pub returns-in_err-d-clause-numbered : goal.returns-in_err-d-clause-numbered
 returns-in_err-d-clause-numbered c = whole_numbered _ _ c.self.invariant c.self.view_is
