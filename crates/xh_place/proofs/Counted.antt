@@ -15,12 +15,13 @@ ids_at (t ∷ ts) zero d h = refl
 ids_at (t ∷ ts) (suc i) d h = ids_at ts i d (omega arith)
 
 -- the tally of an arena, where they are of these arenas
-pub tallied : (ts : List TallyOf) (names : List TableId) (i : ℕ) → ids_of ts ≡ names → i < length names → i < length ts
-tallied ts names i same h = subst (λ (n : ℕ). i < n) (ap length (sym same) ∙ ids_long ts) h
+pub tallied : (ts : List TallyOf) {names : List TableId} (i : ℕ) {arena : ℕ} → ids_of ts ≡ names → i ≡ arena → arena < length names → i < length ts
+tallied ts {names} i {arena} same is h = subst (λ (n : ℕ). n < length ts) (sym is) (subst (λ (n : ℕ). arena < n) (ap length (sym same) ∙ ids_long ts) h)
 
-pub tally_is : (ts : List TallyOf) (names : List TableId) (i : ℕ) (d : TallyOf) (id : TableId) → ids_of ts ≡ names → i < length names → slice_get names i ≡ Some id → (get_or ts i d).id ≡ id
-tally_is ts names i d id same h at =
-    let both : Some (get_or ts i d).id ≡ Some id = sym (ids_at ts i d (tallied ts names i same h)) ∙ ap (λ (l : List TableId). slice_get l i) same ∙ at in
+pub tally_is : (ts : List TallyOf) {names : List TableId} (i : ℕ) (d : TallyOf) {arena : ℕ} {id : TableId} → ids_of ts ≡ names → i ≡ arena → arena < length names
+    → slice_get names arena ≡ Some id → (get_or ts i d).id ≡ id
+tally_is ts {names} i d {arena} {id} same is h at =
+    let both : Some (get_or ts i d).id ≡ Some id = sym (ids_at ts i d (tallied ts i same is h)) ∙ (λ k. slice_get (same k) (is k)) ∙ at in
     let one : (get_or ts i d).id ≡ id = cc in one
 
 pub took_set : (ts : List TallyOf) (i n : ℕ) (d t : TallyOf) → i < length ts → t ≡ record (get_or ts i d) { taken = (get_or ts i d).taken + n } → set ts i t ≡ took i n ts

@@ -4,15 +4,11 @@ use Rattle.atomic_table.specs.Seated.{TableId}
 use Rattle.xh_records.specs.Seats.{Held}
 use Rattle.xh_place.specs.declared.body.Body.{Body}
 use Rattle.xh_place.specs.declared.desk.Desk.{Desk}
-use Rattle.xh_place.specs.Desk.{IsAt, IsSameDesk, IsSeatAt}
-use Rattle.xh_place.specs.Places.{Item, PlaceOf, with_blocks}
+use Rattle.xh_place.specs.Desk.{IsSameDesk, IsSeatAt}
+use Rattle.xh_place.specs.Places.{Item, with_blocks}
 use Rattle.xh_place.specs.Seen.{IsSamePlace, PlaceSeen, SeesMore}
 
 module _ {R V G : Type 0} (names : V → List TableId) where
-  -- the seat of a place that is at the desk
-  pub seat_at : (desk : Desk R V G) (p : PlaceOf) (seat : Held Body) → seat.table ≡ p.table → seat.shape ≡ p.shape → IsAt names desk p → IsSeatAt names desk seat
-  seat_at desk p seat table shape at = ((table ∙ at.0.0, shape ∙ at.0.1), (at.1.0 ∙ sym (ap (λ s. s.names) shape), at.1.1 ∙ sym (ap (λ s. s.names) shape)))
-
   module _ (extent : V → ℕ) (first second third : Desk R V G) where
     pub same_again : IsSameDesk names extent first second → IsSameDesk names extent second third → IsSameDesk names extent first third
     same_again h k = (k.0 ∙ h.0, k.1 ∙ h.1, k.2 ∙ h.2, k.3 ∙ h.3, k.4 ∙ h.4, k.5 ∙ h.5)

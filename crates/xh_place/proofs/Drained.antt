@@ -1,4 +1,5 @@
 -- An endpoint of a place that takes one message after another.
+use Rattle.xh_place.proofs.Listing.{put_front}
 use Rattle.std.proofs.Common.{◌≡◌, ℕ, ◌≤◌, inl, inr, List, [], ◌∷◌, ◌++◌, append_assoc, append-nil, length, refl, sym, ap, ◌∙◌, subst}
 use Rattle.std.specs.Prelude.{Some, None, Option, Ok, Err, Result, MatchResult}
 use Rattle.std.proofs.lemmas.List.{map-append}
@@ -7,9 +8,7 @@ use Rattle.xh_channel.specs.Queues.{Posted}
 use Rattle.xh_core.specs.declared.refused.Refused.{Refused}
 use Rattle.xh_core.specs.declared.header.Kind.TheVariants as kind
 use Rattle.xh_model.specs.Keyed.{put, value_at}
-use Rattle.xh_model.proofs.Keyed.{front_at, put_at, put_here, put_same, put_there, put_twice, value_there}
-use mathlib.Core.Logic.{dite}
-use native.Mathlib.Decide.{ℕ_discrete}
+use Rattle.xh_model.proofs.Keyed.{front_at, put_at, put_same, put_twice}
 use Rattle.xh_place.specs.Bodies.{Content, bytes, endpoint, kind_of, toward}
 use Rattle.xh_place.specs.declared.got.Taken.{Taken}
 use Rattle.xh_place.specs.Endpoints.{AreGot, AreUnpacked, EndsWith, IsDrained, Shuts, Takes, TakesEach, blocks_of, record_of}
@@ -23,14 +22,6 @@ use Rattle.xh_place.proofs.Moves.{more_none, more_twice}
 use Rattle.xh_place.proofs.Seeing.{all_got_as, unpacked_as, away_as, seen_wide, starts_same, word_wide}
 use Rattle.xh_place.specs.Seen.{IsSeen, PlaceSeen, SawWord, Stays}
 use Rattle.xh_place.proofs.Counted.{on_err}
-
--- what stands at a record of the front is changed there
-put_front : (r : ℕ) (y z : Item) (xs ys : List (ℕ × Item)) → value_at r xs ≡ Some z → put r y (xs ++ ys) ≡ put r y xs ++ ys
-put_front r y z [] ys at = absurd (cc)
-put_front r y z (x ∷ xs) ys at = dite (ℕ_discrete x.0 r)
-    (λ e. put_here r y x (xs ++ ys) e ∙ sym (ap (λ (l : List (ℕ × Item)). l ++ ys) (put_here r y x xs e)))
-    (λ n. put_there r y x (xs ++ ys) n ∙ ap (λ (l : List (ℕ × Item)). x ∷ l) (put_front r y z xs ys (sym (value_there r x xs n) ∙ at))
-    ∙ sym (ap (λ (l : List (ℕ × Item)). l ++ ys) (put_there r y x xs n)))
 
 -- ---- one endpoint
 
@@ -204,7 +195,7 @@ cleared_bytes saw r x old new at plain same = (
 pub taken_from : (e : ℕ) (old mid new : PlaceSeen) (result : Result Taken Refused) → Stays old mid → MatchResult result (IsTaken e mid new) (IsUntaken e mid.place new.place)
     → MatchResult result (IsTaken e old new) (IsUntaken e old.place new.place)
 taken_from e old mid new (Ok taken) same is = subst (λ (p : PlaceOf). TakesOne (IsSeen old new) e p new.place taken) same.0
-    (takes_as (IsSeen mid new) (IsSeen old new) (seen_wide mid new old new (ap (λ (p : PlaceOf). p.shape) same.0) same.1 (starts_same new.front new.front refl)) e mid.place new.place taken is)
+    (takes_as (IsSeen mid new) (IsSeen old new) (seen_wide mid new old new (ap (λ (p : PlaceOf). p.shape) same.0) same.1 (starts_same refl)) e mid.place new.place taken is)
 taken_from e old mid new (Err refused) same is = subst (λ (p : PlaceOf). IsUntaken e p new.place refused) same.0 is
 
 pub sent_from : (e tag : ℕ) (given : List ℕ) (old mid new : PlaceSeen) (result : Result ℕ Refused) → Stays old mid → IsSent e tag given mid new result → IsSent e tag given old new result
@@ -219,6 +210,6 @@ sent_from e tag given old mid new result same is =
       made = is.made;
       moved = is.moved;
       lost = on_err is.answered (λ h r among missed. away_as (SawWord mid new) (SawWord seen new)
-          (word_wide mid new seen new refl same.1 (starts_same new.front new.front refl)) (away_in (value_at e mid.place.blocks)) r (h r among missed)) is.lost;
+          (word_wide mid new seen new refl same.1 (starts_same refl)) (away_in (value_at e mid.place.blocks)) r (h r among missed)) is.lost;
       answer = is.answer;
     })

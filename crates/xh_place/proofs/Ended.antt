@@ -1,5 +1,6 @@
 -- How far a process has come, before a sweep and after it.
 use Rattle.std.proofs.Common.{◌≡◌, ℕ, zero, suc, ◌+◌, ◌-◌, ◌<◌, ◌≤◌, ◌⊎◌, ⊎_elim, inl, inr, List, [], ◌∷◌, ◌++◌, length, take, drop, length-append, refl, sym, ap, ◌∙◌, subst, arith}
+use Rattle.std.proofs.lemmas.List.{take-append-drop}
 use Rattle.std.proofs.Math.Seq.{drop-append_seam, take-append_seam}
 use Rattle.std.specs.Prelude.{Option, None, Result, Err, MatchOption}
 use Rattle.xh_arena.specs.Views.{TallyOf}
@@ -13,8 +14,7 @@ use Rattle.xh_place.specs.Ending.{HasGivenBack, IsSwept, ending}
 use Rattle.xh_place.specs.Ends.{RefusedOr, IsTooLate, ending_again}
 use Rattle.xh_place.specs.inner.Reclaiming.{IsSweptLate, awake}
 use Rattle.xh_place.specs.Places.{Item, PlaceOf, total_of, with_list, with_more}
-use Rattle.xh_place.proofs.Listing.{total_last}
-use Rattle.xh_place.proofs.Swept.{total_both}
+use Rattle.xh_place.proofs.Listing.{total_both, total_last}
 
 again_same : (state : Status) (xs : List (ℕ × Item)) → (state ≡ Ended → xs ≡ []) → ending_again state (length xs) ≡ state
 again_same Vacant xs none = refl
@@ -63,11 +63,10 @@ untested tests told refusal passed h = subst (λ (o : Option Refused). MatchOpti
 -- ---- what was given back of an endpoint that came too late
 
 total_left : (k : ℕ) (xs : List (ℕ × Item)) → total_of (drop k xs) ≤ total_of xs
-total_left zero xs = omega arith
-total_left (suc k) [] = omega arith
-total_left (suc k) (x ∷ xs) = let e : total_of (drop k xs) ≤ total_of xs = total_left k xs in omega (arith, e)
+total_left k xs = omega (arith, total_both (take k xs) (drop k xs), ap total_of (take-append-drop k xs))
 
-late_bytes : (saw : ℕ → ℕ → Type 0) (d r : ℕ) (x : Item) (old new : PlaceOf) (bytes left : ℕ) → IsSwept saw (length old.blocks) MAX_BUDGET (with_more d ((r, x) ∷ []) old) new bytes left → x.len ≤ bytes
+late_bytes : (saw : ℕ → ℕ → Type 0) (d r : ℕ) (x : Item) (old new : PlaceOf) (bytes left : ℕ) → IsSwept saw (length old.blocks) MAX_BUDGET (with_more d ((r, x) ∷ []) old) new bytes left
+    → x.len ≤ bytes
 late_bytes saw d r x old new bytes left is = go is.count refl is.by.accepted is.by.list is.by.sum where
   from : ℕ
   from = length old.blocks

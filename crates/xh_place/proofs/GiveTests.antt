@@ -1,20 +1,14 @@
 -- What the tests of a give let through.
-use Rattle.std.proofs.Common.{eqb, eq-eqb, ◌≡◌, ℕ, Bool, true, false, ⊎_elim, List, [], ◌∷◌, length, refl, sym, ap, ◌∙◌}
-use Rattle.std.specs.Prelude.{◌==◌, ◌||◌, ◌&&◌, not, cond, Option, Some, None, is_some, nat_lt}
+use Rattle.std.proofs.Common.{arith, eqb, eq-eqb, ◌≡◌, ℕ, Bool, true, false, ⊎_elim, List, [], ◌∷◌, refl, sym, ap, ◌∙◌}
+use Rattle.std.specs.Prelude.{◌==◌, ◌||◌, ◌&&◌, Option, Some, None, is_some}
+use Rattle.std.proofs.lemmas.Bool.Decides.{nat_tests}
 use Rattle.std.specs.List.{list_all, list_any}
-use Rattle.xh_core.specs.declared.refused.Refused.{Refused}
-use Rattle.xh_core.specs.declared.refused.Refused.TheVariants.{TooMany, NotOwned, Twice}
 use Rattle.xh_core.specs.Several.{has_twice}
 use Rattle.xh_core.specs.Refusing.{first_refusal}
 use Rattle.xh_model.specs.Keyed.{Among, Distinct, value_at}
 use Rattle.xh_core.specs.Calls.{given_tests}
-use Rattle.xh_model.specs.declared.limits.TheConstants.{MAX_BLOCKS}
 use Rattle.xh_place.specs.Messages.{is_listed}
 use Rattle.xh_place.specs.Places.{Item}
-
-passes : (b : Bool) (refused : Refused) (rest : Option Refused) → cond b (Some refused) rest ≡ None → (b ≡ false) × (rest ≡ None)
-passes true refused rest e = absurd (cc)
-passes false refused rest e = (refl, e)
 
 neither : (a b : Bool) → (a || b) ≡ false → (a ≡ false) × (b ≡ false)
 neither true b e = absurd (cc)
@@ -23,10 +17,6 @@ neither false b e = (refl, e)
 both : (a b : Bool) → (a && b) ≡ true → (a ≡ true) × (b ≡ true)
 both true b e = (refl, e)
 both false b e = absurd (cc)
-
-denied : (b : Bool) → not b ≡ false → b ≡ true
-denied true e = refl
-denied false e = absurd (cc)
 
 none_of : (e : ℕ) (rs : List ℕ) → list_any (λ q. q == e) rs ≡ false → Among rs e → ⊥
 none_of e [] h a = a
@@ -50,8 +40,5 @@ each xs (q ∷ rs) h r a = let t = both (is_listed xs q) (list_all (is_listed xs
 pub fine : (xs : List (ℕ × Item)) (e : ℕ) (rs : List ℕ) → first_refusal (given_tests (is_listed xs) e rs) ≡ None
     → (Distinct rs × (Among rs e → ⊥)) × ((r : ℕ) → Among rs r → (x : Item) × (value_at r xs ≡ Some x))
 fine xs e rs h =
-    let few = passes (nat_lt MAX_BLOCKS (length rs)) TooMany _ h in
-    let listed = passes (not (list_all (is_listed xs) rs)) NotOwned _ few.1 in
-    let apart = passes (has_twice (e ∷ rs)) Twice None listed.1 in
-    let t = neither (list_any (λ q. q == e) rs) (has_twice rs) apart.0 in
-    ((once rs t.1, none_of e rs t.0), each xs rs (denied (list_all (is_listed xs) rs) listed.0))
+    let listed : list_all (is_listed xs) rs ≡ true = grind (arith, nat_tests) in let apart : list_any (λ q. q == e) rs ≡ false = grind (arith, nat_tests) in
+    let twice : has_twice rs ≡ false = grind (arith, nat_tests) in ((once rs twice, none_of e rs apart), each xs rs listed)

@@ -1,5 +1,6 @@
 -- The loops of a give over its blocks.
-use Rattle.std.proofs.Common.{append-nil, length-append, ◌≡◌, ◌≢◌, ℕ, zero, suc, ◌+◌, ◌<◌, ◌≤◌, ⊎_elim, inl, inr, List, [], ◌∷◌, ◌++◌, length, take, drop, get_or, refl, sym, ap, ◌∙◌, subst, arith, Bool, true, false, eq-eqb}
+use Rattle.std.proofs.lemmas.List.Folds.{list_any-append}
+use Rattle.std.proofs.Common.{append-nil, length-append, ◌≡◌, ◌≢◌, ℕ, ◌+◌, ◌≤◌, ⊎_elim, inl, inr, List, [], ◌∷◌, ◌++◌, length, refl, sym, ap, ◌∙◌, subst, arith, Bool, true, false, eq-eqb}
 use Rattle.std.specs.Prelude.{Some, None, Option, is_some, ◌==◌, ◌||◌}
 use Rattle.std.specs.List.{list_any}
 use mathlib.Core.Logic.{dite}
@@ -8,34 +9,17 @@ use Rattle.xh_arena.specs.Views.{LotOf}
 use Rattle.xh_model.specs.declared.event.Event.{Event}
 use Rattle.xh_model.specs.declared.event.Event.TheVariants.{Accept, Pass}
 use Rattle.xh_model.specs.Keyed.{Among, Distinct, value_at, without}
-use Rattle.xh_model.proofs.Keyed.{among_back, among_either, among_front, last_at, last_other, next, without_at, without_other}
+use Rattle.xh_model.proofs.Keyed.{among_back, among_either, among_front, last_at, last_other, without_at, without_other}
 use Rattle.xh_records.specs.Seats.{Held, did}
 use Rattle.xh_place.specs.Moves.{accepted_on, moves, passed_on}
 use Rattle.xh_place.specs.inner.Lots.{HasNow, SeatSaw, SeatSeesMore, with_done}
 use Rattle.xh_place.specs.Seen.{IsElsewhere}
-use Rattle.xh_place.proofs.Seeing.{away_as, saw_later, seat_same}
+use Rattle.xh_place.proofs.Seeing.{away_as, saw_later, starts_same}
 use Rattle.xh_place.specs.declared.body.Body.{Body}
 use Rattle.xh_place.specs.inner.Lists.{AreBack, CameBack, lens}
 use Rattle.xh_place.specs.Places.{IsBlock, item_in}
 use Rattle.xh_place.proofs.Listing.{lens_none, lens_one, unequal}
 use Rattle.xh_place.proofs.Moves.{moved_twice, on_both, own_lots, passed_both}
-
-pub next_one : {X : Type 0} (k : ℕ) (xs : List X) (d : X) → k < length xs → drop k xs ≡ get_or xs k d ∷ drop (k + 1) xs
-next_one k xs d h = let z : suc k ≡ k + 1 = omega arith in next k xs d h ∙ ap (λ (j : ℕ). get_or xs k d ∷ drop j xs) z
-
-take_next : {X : Type 0} (k : ℕ) (xs : List X) (d : X) → k < length xs → take k xs ++ get_or xs k d ∷ [] ≡ take (suc k) xs
-take_next k [] d h = absurd (omega arith)
-take_next zero (x ∷ xs) d h = refl
-take_next {X = X} (suc k) (x ∷ xs) d h = ap (λ (l : List X). x ∷ l) (take_next k xs d (omega arith))
-
-pub take_more : {X : Type 0} (k : ℕ) (xs : List X) (d : X) → k < length xs → take k xs ++ get_or xs k d ∷ [] ≡ take (k + 1) xs
-take_more k xs d h = let z : suc k ≡ k + 1 = omega arith in take_next k xs d h ∙ ap (λ (j : ℕ). take j xs) z
-
-pub take_whole : {X : Type 0} (k : ℕ) (xs : List X) → length xs ≤ k → take k xs ≡ xs
-take_whole zero [] h = refl
-take_whole (suc k) [] h = refl
-take_whole zero (x ∷ xs) h = absurd (omega arith)
-take_whole {X = X} (suc k) (x ∷ xs) h = ap (λ (l : List X). x ∷ l) (take_whole k xs (omega arith))
 
 -- a seat that did nothing yet
 pub told_none : (seat : Held Body) → HasNow (with_done [] seat) seat.lots seat
@@ -98,10 +82,6 @@ or_false : (b : Bool) → (b || false) ≡ b
 or_false true = refl
 or_false false = refl
 
-or_assoc : (a b c : Bool) → ((a || b) || c) ≡ (a || (b || c))
-or_assoc true b c = refl
-or_assoc false b c = refl
-
 -- nothing of what went came back
 pub back_none : (given : List ℕ) (seat : Held Body) (back : List ℕ) → back ≡ [] → ((r : ℕ) → Among given r → value_at r seat.lots ≡ None) → AreBack given back seat
 back_none given seat back new none = subst (λ (l : List ℕ). AreBack given l seat) (sym new) (record {
@@ -120,10 +100,6 @@ accepting_none d given seat back new none once = subst (λ (l : List ℕ). IsAcc
   once,
   sym (lens_none given (λ q. value_at q seat.lots) none),
 )
-
-any_last : (q r : ℕ) (xs : List ℕ) → list_any (λ z. z == q) (xs ++ r ∷ []) ≡ (list_any (λ z. z == q) xs || r == q)
-any_last q r [] = or_false (r == q)
-any_last q r (x ∷ xs) = ap (λ (b : Bool). (x == q) || b) (any_last q r xs) ∙ sym (or_assoc (x == q) (list_any (λ z. z == q) xs) (r == q))
 
 pub accepting : (d : ℕ) (given more : List ℕ) (r bytes n : ℕ) (old seat last : Held Body) (back new : List ℕ) → Distinct given → Among given r → IsAccepting d given (r ∷ more) old seat back bytes
     → CameBack d r seat last back new n → IsAccepting d given more old last new (bytes + n)
@@ -150,7 +126,7 @@ accepting d given more r bytes n old seat last back new once among is came = ⊎
     let lots : last.lots ≡ seat.lots ++ (r, l) ∷ [] = ap (λ (k : Held Body). k.lots) h.3 in
     let mine : value_at r last.lots ≡ Some l = ap (value_at r) lots ∙ last_at r l seat.lots h.2 in
     let at : (q : ℕ) → r ≢ q → value_at q last.lots ≡ value_at q seat.lots = λ q o. ap (value_at q) lots ∙ last_other q r l seat.lots o in
-    let any : (q : ℕ) → list_any (λ z. z == q) new ≡ (list_any (λ z. z == q) back || r == q) = λ q. ap (list_any (λ z. z == q)) h.1 ∙ any_last q r back in
+    let any : (q : ℕ) → list_any (λ z. z == q) new ≡ (list_any (λ z. z == q) back || (r == q || false)) = λ q. ap (list_any (λ z. z == q)) h.1 ∙ list_any-append (λ z. z == q) back (r ∷ []) in
     let shape : seat.shape ≡ last.shape = sym (ap (λ (k : Held Body). k.shape) h.3) in
     let more_bytes : lens given (λ q. value_at q last.lots) ≡ lens given (λ q. value_at q seat.lots) + (item_in (value_at r last.lots)).len =
     lens_one given r (λ q. value_at q seat.lots) (λ q. value_at q last.lots) once among none at in
@@ -160,8 +136,8 @@ accepting d given more r bytes n old seat last back new once among is came = ⊎
       record {
         here = λ q a. dite (ℕ_discrete r q)
             (λ e. subst (λ (z : ℕ). list_any (λ y. y == z) new ≡ is_some (value_at z last.lots)) e
-            (any r ∙ (λ i. (is.1.here r among ∙ ap is_some none) i || eq-eqb r r refl i) ∙ sym (ap is_some mine)))
-            (λ o. any q ∙ ap (λ (b : Bool). list_any (λ z. z == q) back || b) (unequal r q o) ∙ or_false (list_any (λ z. z == q) back) ∙ is.1.here q a ∙ sym (ap is_some (at q o)));
+            (any r ∙ (λ i. (is.1.here r among ∙ ap is_some none) i || (eq-eqb r r refl i || false)) ∙ sym (ap is_some mine)))
+            (λ o. any q ∙ ap (λ (b : Bool). list_any (λ z. z == q) back || (b || false)) (unequal r q o) ∙ or_false (list_any (λ z. z == q) back) ∙ is.1.here q a ∙ sym (ap is_some (at q o)));
         only = λ q a. ⊎_elim (λ b. is.1.only q b) (λ b. ⊎_elim (λ e. subst (λ (z : ℕ). Among given z) (sym e) among) (λ z. absurd z) b)
             (among_either back (r ∷ []) q (subst (λ (ks : List ℕ). Among ks q) h.1 a));
         good = λ q m a f. dite (ℕ_discrete r q)
@@ -183,7 +159,7 @@ AreLost d gone back old new = (r : ℕ) → Among gone r → (Among back r → �
 pub lost_more : (d : ℕ) (gone : List ℕ) (r n : ℕ) (old seat last : Held Body) (back new : List ℕ) → seat.shape ≡ old.shape → SeatSeesMore old seat → SeatSeesMore seat last
     → AreLost d gone back old seat → CameBack d r seat last back new n → AreLost d (gone ++ r ∷ []) new old last
 lost_more d gone r n old seat last back new shape before after lost came q among missed = ⊎_elim
-    (λ a. away_as (SeatSaw old seat) (SeatSaw old last) (saw_later old old seat last refl (seat_same old old refl) after) d q (lost q a (λ b. missed (kept q b))))
+    (λ a. away_as (SeatSaw old seat) (SeatSaw old last) (saw_later old old seat last refl (starts_same refl) after) d q (lost q a (λ b. missed (kept q b))))
     (λ a. ⊎_elim (λ (e : q ≡ r). here e) (λ z. absurd z) a)
     (among_either gone (r ∷ []) q among) where
       kept : (z : ℕ) → Among back z → Among new z
@@ -192,7 +168,7 @@ lost_more d gone r n old seat last back new shape before after lost came q among
       here : q ≡ r → IsElsewhere (SeatSaw old last) d q
       here e = ⊎_elim
           (λ h. subst (λ (z : ℕ). IsElsewhere (SeatSaw old last) d z) (sym e)
-          (away_as (SeatSaw seat last) (SeatSaw old last) (saw_later old seat last last shape before (seat_same last last refl)) d r h.3))
+          (away_as (SeatSaw seat last) (SeatSaw old last) (saw_later old seat last last shape before (starts_same refl)) d r h.3))
           (λ h. absurd (missed (subst (λ (l : List ℕ). Among l q) (sym h.1) (among_back back (r ∷ []) q (inl e)))))
           came
 

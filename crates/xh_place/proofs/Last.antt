@@ -1,12 +1,13 @@
 -- A block that goes to the end of the list.
-use Rattle.std.proofs.Common.{◌≡◌, ℕ, suc, List, [], ◌∷◌, ◌++◌, length, refl, sym, ap, ◌∙◌, subst, true}
+use Rattle.std.proofs.Common.{arith, ◌≡◌, ℕ, suc, List, [], ◌∷◌, ◌++◌, length, refl, sym, ap, ◌∙◌, subst, true}
 use Rattle.std.specs.Prelude.{Some, None, Option}
+use Rattle.std.proofs.lemmas.Bool.Decides.{nat_tests}
 use mathlib.Core.Logic.{dite}
 use native.Mathlib.Decide.{ℕ_discrete}
 use Rattle.xh_core.specs.declared.status.Status.{Status}
 use Rattle.xh_core.specs.declared.status.Status.TheVariants.{Vacant, Running, Ending, Ended}
 use Rattle.xh_model.specs.Keyed.{Among, Distinct, keys, value_at, without}
-use Rattle.xh_model.proofs.Keyed.{absent, distinct_push, distinct_without, keys_push, last_at, last_other, no_key, value_there, without_at, without_here, without_other, without_there}
+use Rattle.xh_model.proofs.Keyed.{absent, distinct_push, distinct_without, keys_push, last_at, last_other, no_key, without_at, without_other}
 use Rattle.xh_records.specs.Seats.{Held}
 use Rattle.xh_place.specs.declared.body.Body.{Body}
 use Rattle.xh_place.specs.Ending.{alone, last}
@@ -18,11 +19,9 @@ use Rattle.xh_place.proofs.Listing.{keys_without, shown_keys, total_last, total_
 
 pub without_long : {X : Type 0} (r : ℕ) (y : X) (xs : List (ℕ × X)) → Distinct (keys xs) → value_at r xs ≡ Some y → length xs ≡ suc (length (without r xs))
 without_long r y [] d = λ e. absurd (cc)
-without_long r y (x ∷ xs) d = dite (ℕ_discrete x.0 r)
-    (λ same e. ap (λ (n : ℕ). suc n) (sym (ap length (without_here r x xs same ∙ absent r xs (λ h. d.0 (subst (λ (z : ℕ). Among (keys xs) z) (sym same) h))))))
-    (λ other e. ap (λ (n : ℕ). suc n) (without_long r y xs d.1 (sym (value_there r x xs other) ∙ e) ∙ sym (ap length (without_there r x xs other))))
+without_long r y (x ∷ xs) d = λ e. let a = λ (same : x.0 ≡ r). absent r xs (λ h. d.0 (subst (λ (z : ℕ). Among (keys xs) z) (sym same) h)) in grind (arith, nat_tests, a, without_long r y xs d.1)
 
-module _ (seat : Held Body) (xs : List (ℕ × Item)) (room total : ℕ) (state : Status) (is : IsPlace seat xs room total state) (alive : is_over state ≡ true → ⊥) (r : ℕ) (x : Item)
+module _ {seat : Held Body} {xs : List (ℕ × Item)} {room total : ℕ} {state : Status} (is : IsPlace seat xs room total state) (alive : is_over state ≡ true → ⊥) (r : ℕ) {x : Item}
     (at : value_at r xs ≡ Some x) where
   not_left : Among (keys (without r xs)) r → ⊥
   not_left = no_key r (without r xs) (without_at r xs)
@@ -39,16 +38,9 @@ module _ (seat : Held Body) (xs : List (ℕ × Item)) (room total : ℕ) (state 
     quiet = quiet_alive state (without r xs ++ (r, x) ∷ []) alive;
   }
 
-pub quiet_if : (t : Status) (xs : List (ℕ × Item)) → (is_over t ≡ true → xs ≡ []) → IsQuiet t xs
-quiet_if Vacant xs h = h refl
-quiet_if Ended xs h = h refl
-quiet_if Running xs h = tt
-quiet_if Ending xs h = tt
-
 -- a place that lists a block is not over
-pub alive_if : (seat : Held Body) (xs : List (ℕ × Item)) (room total : ℕ) (state : Status) → IsPlace seat xs room total state → (r : ℕ) (x : Item) → value_at r xs ≡ Some x
-    → is_over state ≡ true → ⊥
-alive_if seat xs room total state is r x at = go state is.quiet where
+pub alive_if : {seat : Held Body} {xs : List (ℕ × Item)} {room total : ℕ} {state : Status} → IsPlace seat xs room total state → (r : ℕ) {x : Item} → value_at r xs ≡ Some x → is_over state ≡ true → ⊥
+alive_if {seat} {xs} {room} {total} {state} is r {x} at = go state is.quiet where
   none : xs ≡ [] → ⊥
   none e = let f : None ≡ Some x = sym (ap (value_at r) e) ∙ at in absurd (cc)
 
@@ -59,12 +51,11 @@ alive_if seat xs room total state is r x at = go state is.quiet where
   go Ending q e = absurd (cc)
 
 -- the same, as the fields have it
-pub moved_last : (seat : Held Body) (rs : List ℕ) (room total : ℕ) (state : Status) → IsPlace seat (shown seat.lots rs) room total state → (r : ℕ) (x : Item)
-    → value_at r (shown seat.lots rs) ≡ Some x → (ys : List ℕ) (room' : ℕ) → ys ≡ less r rs ++ r ∷ [] → room' ≡ room → IsNow seat rs state seat ys room' total (last r)
-moved_last seat rs room total state is r x at ys room' items same =
+pub moved_last : {seat : Held Body} (rs : List ℕ) {room total : ℕ} {state : Status} → IsPlace seat (shown seat.lots rs) room total state → (r : ℕ) {x : Item}
+    → value_at r (shown seat.lots rs) ≡ Some x → {ys : List ℕ} {room' : ℕ} → ys ≡ less r rs ++ r ∷ [] → room' ≡ room → IsNow seat rs state seat ys room' total (last r)
+moved_last {seat} rs {room} {total} {state} is r {x} at {ys} {room'} items same =
     let xs : List (ℕ × Item) = shown seat.lots rs in
     let ends : without r xs ++ (r, x) ∷ [] ≡ last r xs = ap (λ (o : Option Item). without r xs ++ alone r o) (sym at) in
     let numbers : keys (without r xs ++ (r, x) ∷ []) ≡ less r rs ++ r ∷ [] = keys_push (without r xs) (r, x) ∙ ap (λ (l : List ℕ). l ++ r ∷ []) (keys_without r xs ∙ ap (less r) (shown_keys seat.lots rs)) in
     is_now seat rs state seat seat.lots ys room total room' total (last r) refl
-    (subst (λ (l : List (ℕ × Item)). IsPlace seat l room total state) ends (moved seat xs room total state is (alive_if seat xs room total state is r x at) r x at))
-    (items ∙ sym numbers ∙ ap keys ends) same refl
+    (subst (λ (l : List (ℕ × Item)). IsPlace seat l room total state) ends (moved is (alive_if is r at) r at)) (items ∙ sym numbers ∙ ap keys ends) same refl

@@ -1,7 +1,7 @@
 -- The blocks of a list as a place shows them, and the sums of their lengths.
-use Rattle.std.proofs.Common.{◌≡◌, ◌≢◌, ℕ, zero, suc, ◌+◌, ◌<◌, Bool, true, false, ⊎_elim, inl, inr, List, [], ◌∷◌, ◌++◌, length}
-use Rattle.std.proofs.Common.{get_or, remove, refl, sym, ap, ◌∙◌, subst, arith}
+use Rattle.std.proofs.Common.{◌≡◌, ◌≢◌, ℕ, zero, suc, ◌+◌, ◌<◌, Bool, true, false, ⊎_elim, inl, inr, List, [], ◌∷◌, ◌++◌, length, get_or, remove, refl, sym, ap, ◌∙◌, subst, arith}
 use Rattle.std.specs.Prelude.{Some, None, Option, cond, is_some, ◌==◌}
+use Rattle.std.proofs.lemmas.Bool.Decides.{nat_tests}
 use mathlib.Core.Logic.{dite}
 use native.Mathlib.Decide.{ℕ_discrete}
 use Rattle.xh_arena.specs.Views.{LotOf}
@@ -24,16 +24,10 @@ shown_long lots rs = sym (length-keys (shown lots rs)) ∙ ap length (shown_keys
 pub as_shown : (lots : List (ℕ × LotOf Body)) (xs : List (ℕ × Item)) → Distinct (keys xs) → ((r : ℕ) (x : Item) → value_at r xs ≡ Some x → item_in (value_at r lots) ≡ x) → shown lots (keys xs) ≡ xs
 as_shown lots [] d same = refl
 as_shown lots (x ∷ xs) d same =
-    let head : item_in (value_at x.0 lots) ≡ x.1 = same x.0 x.1 (here_first x.0 x.0 (Some x.1) (value_at x.0 xs) refl) in
-    let rest : shown lots (keys xs) ≡ xs = as_shown lots xs d.1
-    (λ r y e. same r y (not_here x.0 r (Some x.1) (value_at r xs) (λ q. d.0 (subst (λ (z : ℕ). Among (keys xs) z) (sym q) (at_key r y xs e))) ∙ e)) in
-    λ i. (x.0, head i) ∷ rest i
+    grind (arith, nat_tests, same x.0 x.1, as_shown lots xs d.1 (λ r y e. same r y (not_here x.0 r (Some x.1) (value_at r xs) (λ q. d.0 (subst (λ (z : ℕ). Among (keys xs) z) (sym q) (at_key r y xs e))) ∙ e)))
 
 pub unequal : (n r : ℕ) → n ≢ r → (n == r) ≡ false
-unequal n r o = sym (as_cond (n == r)) ∙ not_here n r true false o where
-  as_cond : (b : Bool) → cond b true false ≡ b
-  as_cond true = refl
-  as_cond false = refl
+unequal n r o = grind (arith, nat_tests)
 
 pub among_get : (k : ℕ) (xs : List ℕ) (d : ℕ) → k < length xs → Among xs (get_or xs k d)
 among_get k [] d h = absurd (omega arith)
@@ -43,10 +37,7 @@ among_get (suc k) (x ∷ xs) d h = inr (among_get k xs d (omega arith))
 -- the numbers of a list that changed
 pub keys_without : {X : Type 0} (r : ℕ) (xs : List (ℕ × X)) → keys (without r xs) ≡ less r (keys xs)
 keys_without r [] = refl
-keys_without r (x ∷ xs) = dite (ℕ_discrete x.0 r)
-    (λ same. ap keys (here_first x.0 r (without r xs) (x ∷ without r xs) same) ∙ keys_without r xs ∙ sym (here_first x.0 r (less r (keys xs)) (x.0 ∷ less r (keys xs)) same))
-    (λ other. ap keys (not_here x.0 r (without r xs) (x ∷ without r xs) other) ∙ ap (λ (l : List ℕ). x.0 ∷ l) (keys_without r xs)
-    ∙ sym (not_here x.0 r (less r (keys xs)) (x.0 ∷ less r (keys xs)) other))
+keys_without r (x ∷ xs) = grind (arith, nat_tests, keys_without r xs)
 
 keys_settle : {X : Type 0} (r : ℕ) (o : Option X) (stays : Bool) (xs : List (ℕ × X)) → stays ≡ is_some o → keys (settle r o xs) ≡ cond stays (keys xs) (less r (keys xs))
 keys_settle r None stays xs e = keys_without r xs ∙ ap (λ (b : Bool). cond b (keys xs) (less r (keys xs))) (sym e)
@@ -62,8 +53,7 @@ pub get_at : {X : Type 0} (k : ℕ) (xs : List (ℕ × X)) (d : ℕ × X) → Di
 get_at k [] d distinct h = absurd (omega arith)
 get_at zero (x ∷ xs) d distinct h = here_first x.0 x.0 (Some x.1) (value_at x.0 xs) refl
 get_at (suc k) (x ∷ xs) d distinct h =
-    not_here x.0 (get_or xs k d).0 (Some x.1) (value_at (get_or xs k d).0 xs) (λ e. distinct.0 (subst (λ (z : ℕ). Among (keys xs) z) (sym e) (get_key k xs d (omega arith))))
-    ∙ get_at k xs d distinct.1 (omega arith)
+    let m : x.0 ≢ (get_or xs k d).0 = λ e. distinct.0 (subst (λ (z : ℕ). Among (keys xs) z) (sym e) (get_key k xs d (omega arith))) in grind (arith, nat_tests, get_at k xs d distinct.1 (omega arith))
 
 pub key_at : {X : Type 0} (k n : ℕ) (xs : List (ℕ × X)) (d : ℕ × X) → k < length xs → get_or (keys xs) k n ≡ (get_or xs k d).0
 key_at k n [] d h = absurd (omega arith)
@@ -73,14 +63,13 @@ key_at (suc k) n (x ∷ xs) d h = key_at k n xs d (omega arith)
 -- a list of numbers that lost one
 pub less_absent : (r : ℕ) (xs : List ℕ) → (Among xs r → ⊥) → less r xs ≡ xs
 less_absent r [] n = refl
-less_absent r (x ∷ xs) n = not_here x r (less r xs) (x ∷ less r xs) (λ e. n (inl (sym e))) ∙ ap (λ (l : List ℕ). x ∷ l) (less_absent r xs (λ a. n (inr a)))
+less_absent r (x ∷ xs) n = let m : x ≢ r = λ e. n (inl (sym e)) in grind (arith, nat_tests, less_absent r xs (λ a. n (inr a)))
 
 pub removed_number : (r k : ℕ) (xs : List ℕ) (d : ℕ) → Distinct xs → k < length xs → get_or xs k d ≡ r → remove xs k ≡ less r xs
 removed_number r k [] d once h e = absurd (omega arith)
-removed_number r zero (x ∷ xs) d once h e = sym (here_first x r (less r xs) (x ∷ less r xs) e ∙ less_absent r xs (λ a. once.0 (subst (λ (z : ℕ). Among xs z) (sym e) a)))
+removed_number r zero (x ∷ xs) d once h e = grind (arith, nat_tests, less_absent r xs (λ a. once.0 (subst (λ (z : ℕ). Among xs z) (sym e) a)))
 removed_number r (suc k) (x ∷ xs) d once h e =
-    ap (λ (l : List ℕ). x ∷ l) (removed_number r k xs d once.1 (omega arith) e)
-    ∙ sym (not_here x r (less r xs) (x ∷ less r xs) (λ q. once.0 (subst (λ (z : ℕ). Among xs z) (e ∙ sym q) (among_get k xs d (omega arith)))))
+    let m : x ≢ r = λ q. once.0 (subst (λ (z : ℕ). Among xs z) (e ∙ sym q) (among_get k xs d (omega arith))) in grind (arith, nat_tests, removed_number r k xs d once.1 (omega arith) e)
 
 among_less : (r q : ℕ) (xs : List ℕ) → Among (less r xs) q → Among xs q
 among_less r q [] = λ a. a
@@ -99,28 +88,20 @@ distinct_unless true r xs d = d
 distinct_unless false r xs d = distinct_less r xs d
 
 -- sums
+pub total_both : (xs ys : List (ℕ × Item)) → total_of (xs ++ ys) ≡ total_of xs + total_of ys
+total_both [] ys = omega arith
+total_both (x ∷ xs) ys = omega (arith, total_both xs ys)
+
 pub total_last : (xs : List (ℕ × Item)) (r : ℕ) (s : Item) → total_of (xs ++ (r, s) ∷ []) ≡ total_of xs + s.len
-total_last [] r s = omega arith
-total_last (x ∷ xs) r s = let e : total_of (xs ++ (r, s) ∷ []) ≡ total_of xs + s.len = total_last xs r s in omega arith
+total_last xs r s = omega (arith, total_both xs ((r, s) ∷ []))
 
 pub total_without : (xs : List (ℕ × Item)) (r : ℕ) (s : Item) → Distinct (keys xs) → value_at r xs ≡ Some s → total_of xs ≡ total_of (without r xs) + s.len
 total_without [] r s d = λ e. absurd (cc)
-total_without (x ∷ xs) r s d = dite (ℕ_discrete x.0 r)
-    (λ same e.
-    let is : Some x.1 ≡ Some s = sym (here_first x.0 r (Some x.1) (value_at r xs) same) ∙ e in let one : x.1 ≡ s = cc in let len : x.1.len ≡ s.len = ap (λ (z : Item). z.len) one in
-    let gone : without r (x ∷ xs) ≡ xs = here_first x.0 r (without r xs) (x ∷ without r xs) same ∙ absent r xs (λ h. d.0 (subst (λ (z : ℕ). Among (keys xs) z) (sym same) h)) in
-    let f : total_of (without r (x ∷ xs)) ≡ total_of xs = ap total_of gone in omega arith)
-    (λ other e.
-    let u : total_of xs ≡ total_of (without r xs) + s.len = total_without xs r s d.1 (sym (not_here x.0 r (Some x.1) (value_at r xs) other) ∙ e) in
-    let f : total_of (without r (x ∷ xs)) ≡ x.1.len + total_of (without r xs) = ap total_of (not_here x.0 r (without r xs) (x ∷ without r xs) other) in omega arith)
+total_without (x ∷ xs) r s d = λ e. let a = λ (same : x.0 ≡ r). absent r xs (λ h. d.0 (subst (λ (z : ℕ). Among (keys xs) z) (sym same) h)) in grind (arith, nat_tests, a, total_without xs r s d.1)
 
 pub total_put : (xs : List (ℕ × Item)) (r : ℕ) (s t : Item) → value_at r xs ≡ Some s → total_of (put r t xs) + s.len ≡ total_of xs + t.len
 total_put [] r s t = λ e. absurd (cc)
-total_put (x ∷ xs) r s t = dite (ℕ_discrete x.0 r)
-    (λ same e. let is : Some x.1 ≡ Some s = sym (here_first x.0 r (Some x.1) (value_at r xs) same) ∙ e in let one : x.1 ≡ s = cc in let len : x.1.len ≡ s.len = ap (λ (z : Item). z.len) one in
-    let f : total_of (put r t (x ∷ xs)) ≡ t.len + total_of xs = ap total_of (here_first x.0 r ((r, t) ∷ xs) (x ∷ put r t xs) same) in omega arith)
-    (λ other e. let u : total_of (put r t xs) + s.len ≡ total_of xs + t.len = total_put xs r s t (sym (not_here x.0 r (Some x.1) (value_at r xs) other) ∙ e) in
-    let f : total_of (put r t (x ∷ xs)) ≡ x.1.len + total_of (put r t xs) = ap total_of (not_here x.0 r ((r, t) ∷ xs) (x ∷ put r t xs) other) in omega arith)
+total_put (x ∷ xs) r s t = λ e. grind (arith, nat_tests, total_put xs r s t)
 
 -- the bytes of records, of which none is held, and of which one is and wasn't
 pub lens_none : (given : List ℕ) (f : ℕ → Option (LotOf Body)) → ((r : ℕ) → Among given r → f r ≡ None) → lens given f ≡ 0
@@ -140,3 +121,8 @@ lens_one (x ∷ xs) r f g d a none same = dite (ℕ_discrete r x)
     let rest : lens xs g ≡ lens xs f = lens_same xs g f (λ q b. same q (λ s. d.0 (subst (λ (z : ℕ). Among xs z) (sym s ∙ e) b))) in omega arith)
     (λ n. let head : (item_in (g x)).len ≡ (item_in (f x)).len = ap (λ (o : Option (LotOf Body)). (item_in o).len) (same x n) in
     let rest : lens xs g ≡ lens xs f + (item_in (g r)).len = lens_one xs r f g d.1 (⊎_elim (λ e. absurd (n e)) (λ b. b) a) none same in omega arith)
+
+-- what stands at a record of the front is changed there
+pub put_front : {X : Type 0} (r : ℕ) (y z : X) (xs ys : List (ℕ × X)) → value_at r xs ≡ Some z → put r y (xs ++ ys) ≡ put r y xs ++ ys
+put_front r y z [] ys at = absurd (cc)
+put_front r y z (x ∷ xs) ys at = grind (arith, nat_tests, put_front r y z xs ys)

@@ -1,4 +1,5 @@
 -- What a seat passed and accepted, and what its place shows of it.
+use Rattle.xh_model.proofs.Keyed.{keys_append}
 use Rattle.std.proofs.Common.{◌≡◌, ℕ, List, [], ◌∷◌, ◌++◌, append_assoc, append-nil, refl, sym, ap, ◌∙◌}
 use Rattle.xh_arena.specs.Views.{LotOf}
 use Rattle.xh_core.specs.declared.status.Status.{Status}
@@ -41,10 +42,6 @@ pub on_both : (p d : ℕ) (rs ts : List ℕ) → accepted_on p d (rs ++ ts) ≡ 
 on_both p d [] ts = refl
 on_both p d (r ∷ rs) ts = ap (λ (l : List Event). Accept p r d ∷ l) (on_both p d rs ts)
 
-pub keys_both : {X : Type 0} (xs ys : List (ℕ × X)) → keys (xs ++ ys) ≡ keys xs ++ keys ys
-keys_both [] ys = refl
-keys_both (x ∷ xs) ys = ap (λ (l : List ℕ). x.0 ∷ l) (keys_both xs ys)
-
 -- ---- an event that moves nothing
 
 quietly : (seat last : Held Body) (e : Event) (lots : List (ℕ × LotOf Body)) → moves (e ∷ []) ≡ [] → last ≡ seen last.front (did e (with_lots seat lots)) → HasNow seat lots last
@@ -56,7 +53,8 @@ quietly seat last e lots none is =
 pub claims : (seat last : Held Body) (p r : ℕ) (lots : List (ℕ × LotOf Body)) → last ≡ seen last.front (did (Claim p r) (with_lots seat lots)) → HasNow seat lots last
 claims seat last p r lots is = quietly seat last (Claim p r) lots refl is
 
-pub vacates : (seat last : Held Body) (p r : ℕ) (lots : List (ℕ × LotOf Body)) → (last ≡ seen last.front (did (Vacate p r) (with_lots seat lots))) × Advances (Vacate p r ∷ []) seat last → HasNow seat lots last
+pub vacates : (seat last : Held Body) (p r : ℕ) (lots : List (ℕ × LotOf Body)) → (last ≡ seen last.front (did (Vacate p r) (with_lots seat lots))) × Advances (Vacate p r ∷ []) seat last
+    → HasNow seat lots last
 vacates seat last p r lots is = quietly seat last (Vacate p r) lots refl is.0
 
 -- ---- a seat that has passed and accepted some
@@ -77,12 +75,12 @@ moved_twice old mid last es fs one two =
 
 -- ---- a place whose seat did more
 
-pub heard : (es : List Event) (seat : Held Body) (xs : List (ℕ × Item)) (room total : ℕ) (state : Status) → IsPlace seat xs room total state → IsPlace (with_done es seat) xs room total state
-heard es seat xs room total state is = record { same = is.same; blocks = is.blocks; distinct = is.distinct; sum = is.sum; room = is.room; quiet = is.quiet }
+pub heard : (es : List Event) {seat : Held Body} {xs : List (ℕ × Item)} {room total : ℕ} {state : Status} → IsPlace seat xs room total state → IsPlace (with_done es seat) xs room total state
+heard es {seat} {xs} {room} {total} {state} is = record { same = is.same; blocks = is.blocks; distinct = is.distinct; sum = is.sum; room = is.room; quiet = is.quiet }
 
-pub heard_shows : (es : List Event) (seat : Held Body) (xs : List (ℕ × Item)) (state : Status) (p : PlaceOf) → moves es ≡ es → view_of seat xs state ≡ p
+pub heard_shows : (es : List Event) (seat : Held Body) {xs : List (ℕ × Item)} {state : Status} {p : PlaceOf} → moves es ≡ es → view_of seat xs state ≡ p
     → view_of (with_done es seat) xs state ≡ with_moved p es
-heard_shows es seat xs state p same is =
+heard_shows es seat {xs} {state} {p} same is =
     let both : moves (seat.done ++ es) ≡ moves seat.done ++ es = moves_both seat.done es ∙ ap (λ (l : List Event). moves seat.done ++ l) same in
     (λ i. record (view_of seat xs state) { moved = both i }) ∙ ap (λ (q : PlaceOf). with_moved q es) is
 
@@ -95,6 +93,6 @@ pub more_twice : (d : ℕ) (ys zs : List (ℕ × Item)) (p : PlaceOf) → with_m
 more_twice d ys zs p =
     let one : List Event = accepted_on p.process d (keys ys) in
     let two : List Event = accepted_on p.process d (keys zs) in
-    let both : accepted_on p.process d (keys (ys ++ zs)) ≡ one ++ two = ap (accepted_on p.process d) (keys_both ys zs) ∙ on_both p.process d (keys ys) (keys zs) in
+    let both : accepted_on p.process d (keys (ys ++ zs)) ≡ one ++ two = ap (accepted_on p.process d) (keys_append ys zs) ∙ on_both p.process d (keys ys) (keys zs) in
     let moved : (p.moved ++ one) ++ two ≡ p.moved ++ accepted_on p.process d (keys (ys ++ zs)) = append_assoc p.moved one two ∙ ap (λ (l : List Event). p.moved ++ l) (sym both) in
     λ i. record p { blocks = append_assoc p.blocks ys zs i; moved = moved i }

@@ -1,16 +1,14 @@
 -- A block cut in two.
 use Rattle.std.proofs.Common.{◌≡◌, ◌≢◌, ℕ, ◌+◌, ◌-◌, ◌/◌, ◌<◌, ◌≤◌, List, [], ◌∷◌, ◌++◌, length, drop, take, true, refl, sym, ap, ◌∙◌, subst, arith, rules, length-take-le, length-drop}
 use Rattle.std.specs.Prelude.{Some, None}
-use mathlib.Core.Logic.{dite}
-use native.Mathlib.Decide.{ℕ_discrete}
 use Rattle.xh_arena.specs.Views.{LotOf}
 use Rattle.xh_place.specs.Starts.{start}
 use Rattle.xh_core.specs.Refusing.{Tests, first_refusal}
-use Rattle.xh_core.specs.Statuses.{is_running}
+use Rattle.xh_core.specs.Statuses.{is_running, is_over}
 use Rattle.xh_core.specs.declared.status.Status.{Status}
 use Rattle.xh_core.specs.declared.status.Status.TheVariants.{Vacant, Running, Ending, Ended}
 use Rattle.xh_model.specs.Keyed.{Among, keys, value_at, put}
-use Rattle.xh_model.proofs.Keyed.{at_key, front_at, here_first, not_here, keys_push, last_put, put_keys}
+use Rattle.xh_model.proofs.Keyed.{at_key, front_at, keys_push, last_put, put_keys}
 use Rattle.xh_model.specs.Arena.{IsGoodCut}
 use Rattle.xh_records.specs.Showing.{IsLotOf}
 use Rattle.xh_records.specs.Seats.{Held, IsRecord, IsSeatOf, RecordsOf, with_lots}
@@ -19,31 +17,21 @@ use Rattle.xh_place.specs.declared.body.Body.{Body}
 use Rattle.xh_place.specs.declared.body.Body.TheVariants.{Nothing, Data, End}
 use Rattle.xh_core.specs.declared.header.Kind.TheVariants as kind
 use Rattle.xh_place.specs.Bodies.{bytes, content_of, fits_in, front, kind_of, rest}
-use Rattle.xh_core.specs.Statuses.{is_over}
 use Rattle.xh_place.specs.Places.{Item, item_at, item_of, shown, total_of, IsBlock, IsPlace}
-use Rattle.xh_place.proofs.Listing.{shown_keys, total_put}
+use Rattle.xh_place.proofs.Listing.{put_front, shown_keys, total_put}
 use Rattle.xh_place.proofs.Found.{unmoved}
 use Rattle.xh_place.proofs.Gained.{fits_bytes, has}
 use Rattle.xh_place.proofs.Steps.{IsNow, changes, gains, is_now, quiet_alive}
-
--- a change ahead of the last entry
-put_front : {X : Type 0} (r t : ℕ) (y z : X) (xs : List (ℕ × X)) → r ≢ t → put r y (xs ++ (t, z) ∷ []) ≡ put r y xs ++ (t, z) ∷ []
-put_front r t y z [] n = not_here t r ((r, y) ∷ []) ((t, z) ∷ []) (λ e. n (sym e))
-put_front r t y z (x ∷ xs) n = dite (ℕ_discrete x.0 r)
-    (λ same. here_first x.0 r ((r, y) ∷ (xs ++ (t, z) ∷ [])) (x ∷ put r y (xs ++ (t, z) ∷ [])) same
-    ∙ sym (ap (λ (l : List (ℕ × _)). l ++ (t, z) ∷ []) (here_first x.0 r ((r, y) ∷ xs) (x ∷ put r y xs) same)))
-    (λ other. not_here x.0 r ((r, y) ∷ (xs ++ (t, z) ∷ [])) (x ∷ put r y (xs ++ (t, z) ∷ [])) other ∙ ap (λ (l : List (ℕ × _)). x ∷ l) (put_front r t y z xs n)
-    ∙ sym (ap (λ (l : List (ℕ × _)). l ++ (t, z) ∷ []) (not_here x.0 r ((r, y) ∷ xs) (x ∷ put r y xs) other)))
 
 still_fresh : {X : Type 0} (r t : ℕ) (y : X) (xs : List (ℕ × X)) → (Among (keys xs) t → ⊥) → Among (keys (put r y xs)) t → ⊥
 still_fresh r t y xs fresh a = fresh (subst (λ (ks : List ℕ). Among ks t) (put_keys r y xs) a)
 
 -- the seat that claimed t, whose two lots then changed
-pub cut_up : (seat mid last : Held Body) (r t : ℕ) (l0 h m : LotOf Body) → HasNow seat (seat.lots ++ (t, l0) ∷ []) mid → (Among (keys seat.lots) t → ⊥) → r ≢ t
+cut_up : (seat mid last : Held Body) (r t : ℕ) (l l0 h m : LotOf Body) → HasNow seat (seat.lots ++ (t, l0) ∷ []) mid → (Among (keys seat.lots) t → ⊥) → value_at r seat.lots ≡ Some l
     → last ≡ with_lots mid (put t m (put r h mid.lots)) → HasNow seat (put r h seat.lots ++ (t, m) ∷ []) last
-cut_up seat mid last r t l0 h m is fresh apart new =
+cut_up seat mid last r t l l0 h m is fresh at new =
     ap bare new ∙ ap (λ (s : Held Body). with_lots s (put t m (put r h s.lots))) is
-    ∙ ap (λ (ls : List (ℕ × LotOf Body)). with_lots (bare seat) (put t m ls)) (put_front r t h l0 seat.lots apart)
+    ∙ ap (λ (ls : List (ℕ × LotOf Body)). with_lots (bare seat) (put t m ls)) (put_front r h l seat.lots ((t, l0) ∷ []) at)
     ∙ ap (with_lots (bare seat)) (last_put t l0 m (put r h seat.lots) (still_fresh r t h seat.lots fresh))
 
 -- the bytes of a data block
@@ -53,22 +41,24 @@ data_of (Data v) n k e = (v.items, refl, search rules, search rules)
 data_of (End p) n k e = absurd (cc)
 
 -- the list and its place after the cut
-pub parted : (seat last : Held Body) (rs ys : List ℕ) (room cap total : ℕ) (state : Status) (r t : ℕ) (l h m : LotOf Body) → (is_over state ≡ true → ⊥) → IsPlace seat (shown seat.lots rs) room total state
-    → value_at r seat.lots ≡ Some l → IsBlock seat.shape r h → IsBlock seat.shape t m → (Among (keys seat.lots) t → ⊥) → HasNow seat (put r h seat.lots ++ (t, m) ∷ []) last
-    → h.len + m.len ≡ l.len → ys ≡ rs ++ t ∷ [] → cap ≡ room → IsNow seat rs state last ys cap total (λ (es : List (ℕ × Item)). put r (item_of h) es ++ (t, item_of m) ∷ [])
-parted seat last rs ys room cap total state r t l h m alive is at head tail fresh new lens items caps =
-    let xs : List (ℕ × Item) = shown seat.lots rs in let xs1 : List (ℕ × Item) = put r (item_of h) xs in
-    let seat1 : Held Body = with_lots seat (put r h seat.lots) in
-    let is1 : IsPlace seat1 xs1 room (total_of xs1) state = changes seat xs room total state is seat1 r l h at refl head in
-    let moved : total_of xs1 + l.len ≡ total_of xs + h.len = total_put xs r (item_of l) (item_of h) (is.same r ∙ ap item_at at) in
-    let all : total ≡ total_of xs = is.sum in let sum : total ≡ total_of xs1 + m.len = omega arith in
-    is_now seat rs state last (put r h seat.lots ++ (t, m) ∷ []) ys room (total_of xs1 + m.len) cap total (λ (es : List (ℕ × Item)). put r (item_of h) es ++ (t, item_of m) ∷ []) new
-    (gains seat1 xs1 room (total_of xs1) state is1 last t m (still_fresh r t h seat.lots fresh) new tail (quiet_alive state (xs1 ++ (t, item_of m) ∷ []) alive))
-    (items ∙ ap (λ (z : List ℕ). z ++ t ∷ []) (sym (shown_keys seat.lots rs) ∙ sym (put_keys r (item_of h) xs)) ∙ sym (keys_push xs1 (t, item_of m))) caps sum
+module _ {seat : Held Body} (last : Held Body) (rs : List ℕ) {ys : List ℕ} {room cap total : ℕ} {state : Status} {r t : ℕ} {l h m : LotOf Body} (alive : is_over state ≡ true → ⊥)
+    (is : IsPlace seat (shown seat.lots rs) room total state) (at : value_at r seat.lots ≡ Some l) (head : IsBlock seat.shape r h) (tail : IsBlock seat.shape t m) (fresh : Among (keys seat.lots) t → ⊥)
+    (new : HasNow seat (put r h seat.lots ++ (t, m) ∷ []) last) (lens : h.len + m.len ≡ l.len) (items : ys ≡ rs ++ t ∷ []) (caps : cap ≡ room) where
+  pub parted : IsNow seat rs state last ys cap total (λ (es : List (ℕ × Item)). put r (item_of h) es ++ (t, item_of m) ∷ [])
+  parted =
+      let xs : List (ℕ × Item) = shown seat.lots rs in let xs1 : List (ℕ × Item) = put r (item_of h) xs in
+      let seat1 : Held Body = with_lots seat (put r h seat.lots) in
+      let is1 : IsPlace seat1 xs1 room (total_of xs1) state = changes is seat1 r l h at refl head in
+      let moved : total_of xs1 + l.len ≡ total_of xs + h.len = total_put xs r (item_of l) (item_of h) (is.same r ∙ ap item_at at) in
+      let all : total ≡ total_of xs = is.sum in let sum : total ≡ total_of xs1 + m.len = omega arith in
+      is_now seat rs state last (put r h seat.lots ++ (t, m) ∷ []) ys room (total_of xs1 + m.len) cap total (λ (es : List (ℕ × Item)). put r (item_of h) es ++ (t, item_of m) ∷ []) new
+      (gains is1 last t m (still_fresh r t h seat.lots fresh) new tail (quiet_alive state (xs1 ++ (t, item_of m) ∷ []) alive))
+      (items ∙ ap (λ (z : List ℕ). z ++ t ∷ []) (sym (shown_keys seat.lots rs) ∙ sym (put_keys r (item_of h) xs)) ∙ sym (keys_push xs1 (t, item_of m))) caps sum
 
 -- A seat that claimed t, to cut r: what it has of both
 pub record Cutting (all : RecordsOf) (seat mid : Held Body) (r t : ℕ) (l l0 : LotOf Body) : Type 0 where
   pub own : IsSeatOf all mid
+  pub was : value_at r seat.lots ≡ Some l
   pub head : value_at r mid.lots ≡ Some l
   pub tail : value_at t mid.lots ≡ Some l0
   pub apart : r ≢ t
@@ -82,6 +72,7 @@ pub cutting : (all : RecordsOf) (seat mid : Held Body) (r t : ℕ) (l l0 : LotOf
     → (Among (keys seat.lots) t → ⊥) → HasNow seat (seat.lots ++ (t, l0) ∷ []) mid → Cutting all seat mid r t l l0
 cutting all seat mid r t l l0 own at block exists lot fresh is = record {
   own = (ap (λ (h : Held Body). h.table) is ∙ own.0, ap (λ (h : Held Body). h.shape) is ∙ own.1);
+  was = at;
   head = ap (λ (h : Held Body). value_at r h.lots) is ∙ front_at r l seat.lots ((t, l0) ∷ []) at;
   tail = has seat mid t l0 is fresh;
   apart = λ e. fresh (subst (λ (z : ℕ). Among (keys seat.lots) z) e (at_key r l seat.lots at));
@@ -111,7 +102,7 @@ is_cut all seat mid last r t k l l0 h m b c fresh block lot exists held good are
       h,
       m,
       fresh,
-      cut_up seat mid last r t l0 h m c.is fresh c.apart new,
+      cut_up seat mid last r t l l0 h m c.is fresh c.was new,
       record {
         exists = block.exists;
         lot = (ap (λ (z : LotOf Body). z.index) head ∙ block.lot.0, block.lot.1 ∙ ap (λ (z : LotOf Body). Some z.id) (sym head));

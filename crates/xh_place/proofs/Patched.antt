@@ -18,10 +18,10 @@ patch_long at ys xs fits =
     let d : length (take at xs ++ (ys ++ drop (at + length ys) xs)) ≡ length (take at xs) + length (ys ++ drop (at + length ys) xs) = length-append (take at xs) (ys ++ drop (at + length ys) xs) in
     omega arith
 
-pub is_patched : (s : Shape) (r at : ℕ) (ys : List ℕ) (l m : LotOf Body) (x : Item) → IsBlock s r l → item_of l ≡ x → kind_of x.content ≡ kind.Data → at + length ys ≤ x.len
+pub is_patched : {s : Shape} {r : ℕ} (at : ℕ) (ys : List ℕ) {l m : LotOf Body} {x : Item} → IsBlock s r l → item_of l ≡ x → kind_of x.content ≡ kind.Data → at + length ys ≤ x.len
     → m ≡ record l { body = m.body } → content_of m.body ≡ patched at ys (content_of l.body)
     → IsBlock s r m × (m.len ≡ l.len) × (item_of m ≡ record x { content = patched at ys x.content })
-is_patched s r at ys l m x block same data_kind fits lot content =
+is_patched {s} {r} at ys {l} {m} {x} block same data_kind fits lot content =
     let d = data_of l.body l.len (ap (λ (z : Item). kind_of z.content) same ∙ data_kind) block.full.1 in let xs : List ℕ = d.0 in
     let long : length xs ≡ l.len = d.2 in let most : l.len ≤ 1048576 = d.3 in
     let len : m.len ≡ l.len = ap (λ (z : LotOf Body). z.len) lot in let x_len : l.len ≡ x.len = ap (λ (z : Item). z.len) same in

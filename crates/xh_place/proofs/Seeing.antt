@@ -18,35 +18,28 @@ use Rattle.xh_place.specs.Ends.{toward_in}
 use Rattle.xh_place.specs.inner.Reclaiming.{Clears, Drains}
 use Rattle.xh_place.specs.inner.Lots.{SeatFull, SeatSaw, SeatSeesMore}
 use Rattle.xh_place.specs.Places.{Item, PlaceOf}
+use Rattle.xh_core.specs.declared.status.Status.{Status}
+use Rattle.xh_place.proofs.Steps.{view_of}
 use Rattle.xh_place.specs.Seen.{IsElsewhere, IsSeen, PlaceSeen, SawAt, SawFull, SawWord, SeesMore}
 
-pub starts_same : (a b : List Event) → b ≡ a → StartsWith b a
-starts_same a b e = ([], e ∙ sym (append-nil a))
+pub starts_same : {a b : List Event} → b ≡ a → StartsWith b a
+starts_same {a} {b} e = ([], e ∙ sym (append-nil a))
 
-pub starts_more : (a b c : List Event) → StartsWith b a → StartsWith c b → StartsWith c a
-starts_more a b c one two = (one.0 ++ two.0, two.1 ∙ ap (λ (l : List Event). l ++ two.0) one.1 ∙ append_assoc a one.0 two.0)
-
--- ---- seats
+pub starts_more : (a : List Event) {b c : List Event} → StartsWith b a → StartsWith c b → StartsWith c a
+starts_more a {b} {c} one two = (one.0 ++ two.0, two.1 ∙ ap (λ (l : List Event). l ++ two.0) one.1 ∙ append_assoc a one.0 two.0)
 
 -- a step of the seat
 pub advanced : (own : List Event) (x y : Held Body) → Advances own x y → SeatSeesMore x y
 advanced own x y h = (h.0 ++ own, h.1)
 
--- a seat of which something else changed
-pub seat_same : (x y : Held Body) → y.front ≡ x.front → SeatSeesMore x y
-seat_same x y e = starts_same x.front y.front e
-
-pub seat_more : (x y z : Held Body) → SeatSeesMore x y → SeatSeesMore y z → SeatSeesMore x z
-seat_more x y z one two = starts_more x.front y.front z.front one two
-
 -- ---- looks
 
 -- a look, as the seat says it
 pub looked : (x y : Held Body) (r word : ℕ) → HasSeen r word x y → SeatSaw x y r word
-looked x y r word h = (y.front, advanced [] x y h.1.1, starts_same y.front y.front refl, h.0.1)
+looked x y r word h = (y.front, advanced [] x y h.1.1, starts_same refl, h.0.1)
 
 pub saw_wide : (s : Shape) (from to from' to' : List Event) (k word : ℕ) → StartsWith from from' → StartsWith to' to → SawAt s from to k word → SawAt s from' to' k word
-saw_wide s from to from' to' k word before after h = (h.0, starts_more from' from h.0 before h.1, starts_more h.0 to to' h.2 after, h.3)
+saw_wide s from to from' to' k word before after h = (h.0, starts_more from' before h.1, starts_more h.0 h.2 after, h.3)
 
 pub full_wide : (s : Shape) (from to from' to' : List Event) (arena : ℕ) → StartsWith from from' → StartsWith to' to → SawFull s from to arena → SawFull s from' to' arena
 full_wide s from to from' to' arena before after h =
@@ -127,17 +120,13 @@ pub fronted : {p q : PlaceSeen} → p ≡ q → p.front ≡ q.front
 fronted e = ap (λ (p : PlaceSeen). p.front) e
 
 -- the seat saw more since it was the place's
-pub since : (p : PlaceSeen) (seat last : Held Body) → seat.front ≡ p.front → SeatSeesMore seat last → StartsWith last.front p.front
-since p seat last e h = subst (λ (f : List Event). StartsWith last.front f) e h
-
--- the place that it became stays, through two calls
-pub stays_more : (p q r : PlaceSeen) → SeesMore p q → SeesMore q r → SeesMore p r
-stays_more p q r one two = starts_more p.front q.front r.front one two
+pub since : {p q : PlaceSeen} → q ≡ p → {last : List Event} → StartsWith last q.front → StartsWith last p.front
+since {p} {q} e {last} h = subst (λ (f : List Event). StartsWith last f) (fronted e) h
 
 -- what the seat saw, as the place says it
-module _ (p : PlaceSeen) (seat last : Held Body) (shape : seat.shape ≡ p.place.shape) (front : seat.front ≡ p.front) where
+module _ (seat : Held Body) {xs : List (ℕ × Item)} {state : Status} {p : PlaceSeen} (is : record { place = view_of seat xs state; front = seat.front } ≡ p) (last : Held Body) where
   pub place_saw : (r word : ℕ) → SeatSaw seat last r word → SawAt p.place.shape p.front last.front (index_of p.place.shape.records r) word
-  place_saw r word h = subst (λ (z : Shape × List Event). SawAt z.0 z.1 last.front (index_of z.0.records r) word) (λ i. (shape i, front i)) h
+  place_saw r word h = subst (λ (z : PlaceSeen). SawAt z.place.shape z.front last.front (index_of z.place.shape.records r) word) is h
 
   pub place_away : (d way r : ℕ) → d ≡ way → IsElsewhere (SeatSaw seat last) d r
       → (word : ℕ) × (word ≢ 2 + 4 * way) × SawAt p.place.shape p.front last.front (index_of p.place.shape.records r) word

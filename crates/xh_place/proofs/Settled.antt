@@ -1,14 +1,15 @@
 -- A give that settles the list with the seat.
-use Rattle.std.proofs.Common.{◌≡◌, ◌≢◌, ℕ, ◌+◌, ◌*◌, ◌≤◌, ◌⊎◌, ⊎_elim, inl, inr, Bool, true, false, List, [], ◌∷◌, length, refl, sym, ap, ◌∙◌, subst, arith}
-use Rattle.std.specs.Prelude.{Some, None, Option, cond, is_some, ◌==◌, ◌||◌}
+use Rattle.std.proofs.Common.{◌≡◌, ◌≢◌, ℕ, ◌+◌, ◌*◌, ◌≤◌, ◌⊎◌, ⊎_elim, inl, inr, Bool, true, List, [], ◌∷◌, length, refl, sym, ap, ◌∙◌, subst, arith}
+use Rattle.std.specs.Prelude.{Some, None, Option, cond, is_some, ◌==◌}
 use Rattle.std.specs.List.{list_any}
+use Rattle.std.proofs.lemmas.Bool.Decides.{nat_tests}
 use mathlib.Core.Logic.{dite}
 use native.Mathlib.Decide.{ℕ_discrete}
 use Rattle.xh_arena.specs.Views.{LotOf}
 use Rattle.xh_core.specs.declared.status.Status.{Status}
 use Rattle.xh_core.specs.Statuses.{is_over}
 use Rattle.xh_model.specs.Keyed.{Among, Distinct, keys, put, value_at, without}
-use Rattle.xh_model.proofs.Keyed.{distinct_without, here_first, not_here, put_at, put_keys, put_other, without_at, without_other}
+use Rattle.xh_model.proofs.Keyed.{distinct_without, put_at, put_keys, put_other, without_at, without_other}
 use Rattle.xh_records.specs.Seats.{Held, with_lots}
 use Rattle.xh_place.specs.inner.Lots.{HasNow}
 use Rattle.xh_place.specs.inner.Lists.{AreBack, lens, less_all}
@@ -71,26 +72,17 @@ total_settled (r ∷ rs) was now xs once d held is =
     omega arith
 
 -- what was passed is at most all
-pub passed_below : (given : List ℕ) (was : ℕ → Option (LotOf Body)) (xs : List (ℕ × Item)) → Distinct (keys xs) → Distinct given → ((r : ℕ) → Among given r → (l : LotOf Body) × (was r ≡ Some l))
-    → ((r : ℕ) → Among given r → value_at r xs ≡ item_at (was r)) → (lost total : ℕ) → lost ≡ lens given was → total ≡ total_of xs → lost ≤ total
-passed_below given was xs once d held is lost total all sum =
-    let none : ℕ → Option (LotOf Body) = λ r. None in
-    let a : total_of (settled given (λ r. item_at (none r)) xs) + lens given was ≡ total_of xs + lens given none = total_settled given was none xs once d held is in
-    let b : lens given none ≡ 0 = lens_none given none (λ r h. refl) in omega arith
+pub passed_below : {seat : Held Body} (rs given : List ℕ) {room total : ℕ} {state : Status} → IsPlace seat (shown seat.lots rs) room total state → Distinct given
+    → ((r : ℕ) → Among given r → (k : LotOf Body) × (value_at r seat.lots ≡ Some k) × IsBlock seat.shape r k) → {lost : ℕ} → lost ≡ lens given (λ r. value_at r seat.lots) → lost ≤ total
+passed_below {seat} rs given {room} {total} {state} is d held {lost} all =
+    let was : ℕ → Option (LotOf Body) = λ r. value_at r seat.lots in let none : ℕ → Option (LotOf Body) = λ r. None in
+    let a = total_settled given was none (shown seat.lots rs) is.distinct d (λ r h. let k = held r h in (k.0, k.1)) (λ r h. is.same r) in
+    omega (arith, is.sum, all, a, lens_none given none (λ r h. refl))
 
 -- what a list of numbers shows at a record that the lots have exactly where the list has it
-pick : {A : Type 0} (b c : Bool) (y n : A) → cond (b || c) y n ≡ cond b y (cond c y n)
-pick true c y n = refl
-pick false c y n = refl
-
 shown_if : (lots : List (ℕ × LotOf Body)) (rs : List ℕ) (r : ℕ) → value_at r (shown lots rs) ≡ cond (list_any (λ q. q == r) rs) (Some (item_in (value_at r lots))) None
 shown_if lots [] r = refl
-shown_if lots (x ∷ xs) r = let it : Option Item = Some (item_in (value_at r lots)) in let more : Bool = list_any (λ q. q == r) xs in
-    dite (ℕ_discrete x r)
-    (λ same. here_first x r (Some (item_in (value_at x lots))) (value_at r (shown lots xs)) same ∙ ap (λ (q : ℕ). Some (item_in (value_at q lots))) same
-    ∙ sym (here_first x r it (cond more it None) same) ∙ sym (pick (x == r) more it None))
-    (λ other. not_here x r (Some (item_in (value_at x lots))) (value_at r (shown lots xs)) other ∙ shown_if lots xs r
-    ∙ sym (not_here x r it (cond more it None) other) ∙ sym (pick (x == r) more it None))
+shown_if lots (x ∷ xs) r = grind (arith, nat_tests, shown_if lots xs r)
 
 item_if : (o : Option (LotOf Body)) → cond (is_some o) (Some (item_in o)) None ≡ item_at o
 item_if None = refl
@@ -143,20 +135,21 @@ settled_place seat last rs ys given back room cap total total' state e l m alive
     }) (items ∙ sym numbers) caps refl
 
 -- the same where the end e did something
-pub given_place : (seat last : Held Body) (rs ys given back : List ℕ) (room cap total total' : ℕ) (state : Status) (e : ℕ) (l m : LotOf Body) → (is_over state ≡ true → ⊥)
-    → IsPlace seat (shown seat.lots rs) room total state → value_at e seat.lots ≡ Some l → IsBlock seat.shape e m → m.len ≡ l.len → value_at e last.lots ≡ Some m
-    → Distinct given → (Among given e → ⊥) → ((r : ℕ) → Among given r → (k : LotOf Body) × (value_at r seat.lots ≡ Some k))
-    → HasNow seat last.lots last → ((q : ℕ) → (Among given q → ⊥) → e ≢ q → value_at q last.lots ≡ value_at q seat.lots) → AreBack given back last
-    → ys ≡ less_all given (λ r. list_any (λ q. q == r) back) rs → cap ≡ room → total' + lens given (λ r. value_at r seat.lots) ≡ total + lens given (λ r. value_at r last.lots)
-    → IsNow seat rs state last ys cap total' (λ (xs : List (ℕ × Item)). settled given (λ r. item_at (value_at r last.lots)) (put e (item_of m) xs))
-given_place seat last rs ys given back room cap total total' state e l m alive is at good len now d apart held same others came items caps sum =
-    let mid : Held Body = with_lots seat (put e m seat.lots) in
-    let turn = turned seat rs room total state is mid e l m at refl good len in
-    let other : (r : ℕ) → e ≢ r → value_at r mid.lots ≡ value_at r seat.lots = λ r n. put_other r e m seat.lots n in
-    let away : (r : ℕ) → Among given r → e ≢ r = λ r a s. apart (subst (λ (z : ℕ). Among given z) (sym s) a) in
-    let lent : lens given (λ r. value_at r mid.lots) ≡ lens given (λ r. value_at r seat.lots) =
-    lens_same given (λ r. value_at r mid.lots) (λ r. value_at r seat.lots) (λ r a. other r (away r a)) in
-    let sums : total' + lens given (λ r. value_at r mid.lots) ≡ total + lens given (λ r. value_at r last.lots) = omega (arith, lent, sum) in
-    let all = settled_place mid last rs ys given back room cap total total' state e m m alive turn.0 (put_at e m l seat.lots at) good refl now d
-    (λ r a. let h = held r a in (h.0, other r (away r a) ∙ h.1)) same (λ q n o. others q n o ∙ sym (other q o)) came items caps sums in
-    (all.0, λ p shows. all.1 (with_blocks p (put e (item_of m) p.blocks)) (turn.1 p shows))
+module _ {seat last : Held Body} (rs : List ℕ) {ys given back : List ℕ} {room cap total total' : ℕ} {state : Status} {e : ℕ} {l m : LotOf Body} (alive : is_over state ≡ true → ⊥)
+    (is : IsPlace seat (shown seat.lots rs) room total state) (at : value_at e seat.lots ≡ Some l) (good : IsBlock seat.shape e m) (len : m.len ≡ l.len) (now : value_at e last.lots ≡ Some m)
+    (d : Distinct given) (apart : Among given e → ⊥) (held : (r : ℕ) → Among given r → (k : LotOf Body) × (value_at r seat.lots ≡ Some k) × IsBlock seat.shape r k)
+    (same : HasNow seat last.lots last) (others : (q : ℕ) → (Among given q → ⊥) → e ≢ q → value_at q last.lots ≡ value_at q seat.lots) (came : AreBack given back last)
+    (items : ys ≡ less_all given (λ r. list_any (λ q. q == r) back) rs) (caps : cap ≡ room)
+    (sum : total' + lens given (λ r. value_at r seat.lots) ≡ total + lens given (λ r. value_at r last.lots)) where
+  pub given_place : IsNow seat rs state last ys cap total' (λ (xs : List (ℕ × Item)). settled given (λ r. item_at (value_at r last.lots)) (put e (item_of m) xs))
+  given_place =
+      let mid : Held Body = with_lots seat (put e m seat.lots) in
+      let turn = turned rs is mid at refl good len in
+      let other : (r : ℕ) → e ≢ r → value_at r mid.lots ≡ value_at r seat.lots = λ r n. put_other r e m seat.lots n in
+      let away : (r : ℕ) → Among given r → e ≢ r = λ r a s. apart (subst (λ (z : ℕ). Among given z) (sym s) a) in
+      let lent : lens given (λ r. value_at r mid.lots) ≡ lens given (λ r. value_at r seat.lots) =
+      lens_same given (λ r. value_at r mid.lots) (λ r. value_at r seat.lots) (λ r a. other r (away r a)) in
+      let sums : total' + lens given (λ r. value_at r mid.lots) ≡ total + lens given (λ r. value_at r last.lots) = omega (arith, lent, sum) in
+      let all = settled_place mid last rs ys given back room cap total total' state e m m alive turn.0 (put_at e m l seat.lots at) good refl now d
+      (λ r a. let h = held r a in (h.0, other r (away r a) ∙ h.1)) same (λ q n o. others q n o ∙ sym (other q o)) came items caps sums in
+      (all.0, λ p shows. all.1 (with_blocks p (put e (item_of m) p.blocks)) (turn.1 p shows))

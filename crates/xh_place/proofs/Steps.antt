@@ -1,6 +1,8 @@
 -- A place's list against what its seat holds, at each change.
-use Rattle.std.proofs.Common.{◌≡◌, ℕ, suc, ◌+◌, ◌-◌, ◌*◌, ◌/◌, ◌%◌, ◌<◌, ◌≤◌, ⊎_elim, inl, inr, List, [], ◌∷◌, ◌++◌, length, map}
-use Rattle.std.proofs.Common.{refl, sym, ap, ◌∙◌, subst, Bool, true, false, arith, rules, mul-le-mul_right, suc-mul}
+use Rattle.std.proofs.Common.{◌≡◌, ℕ, ◌+◌, ◌-◌, ◌*◌, ◌/◌, ◌%◌, ◌<◌, ◌≤◌, ⊎_elim, inl, inr, List, [], ◌∷◌, ◌++◌, length, map, refl, sym, ap, ◌∙◌, subst, Bool, true, false, arith, rules}
+use Rattle.std.proofs.Math.Nat.{mul_comm}
+use Rattle.std.proofs.lemmas.Nat.{mul-add-lt}
+use Rattle.std.proofs.lemmas.List.{length-map}
 use Rattle.std.specs.Prelude.{Some, None, Option, MatchBool, is_some}
 use Rattle.xh_model.specs.Words.{number_of}
 use mathlib.Core.Logic.{dite}
@@ -32,9 +34,7 @@ view_of seat xs state = record { table = seat.table; shape = seat.shape; process
 
 -- there is room for one more, and no sum is too large
 slot_below : (a n r : ℕ) → r / 256 < a → r % 256 < n → index_of n r < a * n
-slot_below a n r h k =
-    let m : suc (r / 256) * n ≤ a * n = mul-le-mul_right n h in let e : suc (r / 256) * n ≡ (r / 256) * n + n = suc-mul (r / 256) n in
-    let x : ℕ = (r / 256) * n in let y : ℕ = a * n in let f : x + n ≤ y = subst (λ (z : ℕ). z ≤ a * n) e m in let g : x + r % 256 < y = omega arith in g
+slot_below a n r h k = subst (λ (m : ℕ). index_of n r < m) (mul_comm n a) (mul-add-lt (r / 256) n (r % 256) a h k)
 
 abbrev pub AllRecords : Shape → List ℕ → Type 0
 AllRecords s [] = Unit {0}
@@ -58,6 +58,10 @@ below_all : (s : Shape) (rs : List ℕ) → length s.names ≤ 8 → AllRecords 
 below_all s [] few all = tt
 below_all s (r ∷ rs) few all = let a : r / 256 < length s.names = all.0.0 in let b : r < 2048 = omega arith in (b, below_all s rs few all.1)
 
+few_records : (s : Shape) (rs : List ℕ) → AllRecords s rs → Distinct rs → length rs ≤ length s.names * s.records
+few_records s rs all d = subst (λ (n : ℕ). n ≤ length s.names * s.records) (length-map rs (index_of s.records))
+    (few (length s.names * s.records) (map (index_of s.records) rs) (below_index s rs all) (distinct_index s rs all d))
+
 -- a block's length
 fit_small : (b : Body) (n : ℕ) → fits_in b n ≡ true → n ≤ 1048576
 fit_small Nothing n e = search rules
@@ -67,15 +71,17 @@ fit_small (End p) n e = search rules
 pub block_small : {s : Shape} {r : ℕ} {l : LotOf Body} → IsBlock s r l → l.len ≤ 1048576
 block_small {s} {r} {l} is = fit_small l.body l.len is.full.1
 
-keys_long : {X : Type 0} (f : ℕ → ℕ) (xs : List (ℕ × X)) → length (map f (keys xs)) ≡ length xs
-keys_long f [] = refl
-keys_long f (x ∷ xs) = ap (λ (n : ℕ). suc n) (keys_long f xs)
-
 pub quiet_alive : (s : Status) (xs : List (ℕ × Item)) → (is_over s ≡ true → ⊥) → IsQuiet s xs
 quiet_alive Running xs e = tt
 quiet_alive Ending xs e = tt
 quiet_alive Vacant xs e = absurd (e refl)
 quiet_alive Ended xs e = absurd (e refl)
+
+still_quiet : (s : Status) (f : List (ℕ × Item) → List (ℕ × Item)) (xs : List (ℕ × Item)) → f [] ≡ [] → IsQuiet s xs → IsQuiet s (f xs)
+still_quiet Running f xs e q = tt
+still_quiet Ending f xs e q = tt
+still_quiet Vacant f xs e q = ap f q ∙ e
+still_quiet Ended f xs e q = ap f q ∙ e
 
 -- what a place's type keeps says nothing of its seat's events
 pub kept : (seat last : Held Body) (xs : List (ℕ × Item)) (room total : ℕ) (state : Status) → HasNow seat seat.lots last → IsPlace seat xs room total state → IsPlace last xs room total state
@@ -100,7 +106,7 @@ item_one : (o : Option (LotOf Body)) (x : Item) → Some x ≡ item_at o → (l 
 item_one None x e = absurd (cc)
 item_one (Some l) x e = let f : x ≡ item_of l = cc in (l, refl, f)
 
-module _ (seat : Held Body) (xs : List (ℕ × Item)) (room total : ℕ) (state : Status) (is : IsPlace seat xs room total state) where
+module _ {seat : Held Body} {xs : List (ℕ × Item)} {room total : ℕ} {state : Status} (is : IsPlace seat xs room total state) where
   -- a record of the list has its lot in the seat, and a lot its record
   pub lot_of : (r : ℕ) (x : Item) → value_at r xs ≡ Some x → (l : LotOf Body) × (value_at r seat.lots ≡ Some l) × (x ≡ item_of l) × IsBlock seat.shape r l
   lot_of r x e = let t = item_one (value_at r seat.lots) x (sym e ∙ is.same r) in (t.0, t.1, t.2, is.blocks r t.0 t.1)
@@ -136,17 +142,10 @@ module _ (seat : Held Body) (xs : List (ℕ × Item)) (room total : ℕ) (state 
     go None e = absurd (no_key r xs e a)
     go (Some s) e = (lot_of r s e).3.exists
 
-  pub has_room : (r : ℕ) → IsRecord seat.shape r → (Among (keys seat.lots) r → ⊥) → (length xs < room) × (length xs < 2048)
+  has_room : (r : ℕ) → IsRecord seat.shape r → (Among (keys seat.lots) r → ⊥) → length xs < room
   has_room r exists fresh =
-      let all : AllRecords seat.shape (r ∷ keys xs) = (exists, all_records xs listed_record) in
-      let most : length (map (index_of seat.shape.records) (r ∷ keys xs)) ≤ length seat.shape.names * seat.shape.records =
-      few (length seat.shape.names * seat.shape.records) (map (index_of seat.shape.records) (r ∷ keys xs)) (below_index seat.shape (r ∷ keys xs) all)
-      (distinct_index seat.shape (r ∷ keys xs) all (not_listed r fresh, is.distinct)) in
-      let long : length (map (index_of seat.shape.records) (keys xs)) ≡ length xs = keys_long (index_of seat.shape.records) xs in
-      let m : ℕ = length seat.shape.names * seat.shape.records in let a : m ≤ room = is.room.0 in
-      let c : suc (length xs) ≤ m = subst (λ (z : ℕ). suc z ≤ m) long most in
-      let d : length (r ∷ keys xs) ≤ 2048 = few 2048 (r ∷ keys xs) (below_all seat.shape (r ∷ keys xs) is.room.1 all) (not_listed r fresh, is.distinct) in
-      let e : length (keys xs) ≡ length xs = length-keys xs in (omega arith, omega arith)
+      let most : length (r ∷ keys xs) ≤ length seat.shape.names * seat.shape.records =
+      few_records seat.shape (r ∷ keys xs) (exists, all_records xs listed_record) (not_listed r fresh, is.distinct) in omega (arith, most, length-keys xs, is.room.0)
 
   sums : (ys : List (ℕ × Item)) → ((r : ℕ) (s : Item) → value_at r ys ≡ Some s → s.len ≤ 1048576) → Distinct (keys ys) → total_of ys ≤ length ys * 1048576
   sums [] h d = omega arith
@@ -164,13 +163,7 @@ module _ (seat : Held Body) (xs : List (ℕ × Item)) (room total : ℕ) (state 
   count_bound = subst (λ (z : ℕ). z ≤ 2048) (length-keys xs) (few 2048 (keys xs) (below_all seat.shape (keys xs) is.room.1 (all_records xs listed_record)) is.distinct)
 
   pub count_room : length xs ≤ room
-  count_room =
-      let all : AllRecords seat.shape (keys xs) = all_records xs listed_record in
-      let most : length (map (index_of seat.shape.records) (keys xs)) ≤ length seat.shape.names * seat.shape.records =
-      few (length seat.shape.names * seat.shape.records) (map (index_of seat.shape.records) (keys xs)) (below_index seat.shape (keys xs) all) (distinct_index seat.shape (keys xs) all is.distinct) in
-      let long : length (map (index_of seat.shape.records) (keys xs)) ≡ length xs = keys_long (index_of seat.shape.records) xs in
-      let m : ℕ = length seat.shape.names * seat.shape.records in let a : m ≤ room = is.room.0 in
-      let b : length xs ≤ m = subst (λ (z : ℕ). z ≤ m) long most in omega (arith, a, b)
+  count_room = omega (arith, few_records seat.shape (keys xs) (all_records xs listed_record) is.distinct, length-keys xs, is.room.0)
 
   pub total_bound : total ≤ 2147483648
   total_bound = let a : length xs ≤ 2048 = count_bound in let b : total ≤ length xs * 1048576 = small in omega arith
@@ -197,8 +190,8 @@ module _ (seat : Held Body) (xs : List (ℕ × Item)) (room total : ℕ) (state 
   enough r s at = let u : total_of xs ≡ total_of (without r xs) + s.len = total_without xs r s is.distinct at in let t : total ≡ total_of xs = is.sum in omega arith
 
   -- where a block is shown, the list has it
-  pub listed : (p : PlaceOf) → view_of seat xs state ≡ p → (r : ℕ) (x : Item) → value_at r p.blocks ≡ Some x → value_at r xs ≡ Some x
-  listed p shows r x at = ap (λ (q : PlaceOf). value_at r q.blocks) shows ∙ at
+  pub listed : {p : PlaceOf} → view_of seat xs state ≡ p → (r : ℕ) {x : Item} → value_at r p.blocks ≡ Some x → value_at r xs ≡ Some x
+  listed {p} shows r {x} at = ap (λ (q : PlaceOf). value_at r q.blocks) shows ∙ at
 
   -- a record less
   module _ (last : Held Body) (r : ℕ) (s : Item) (at : value_at r xs ≡ Some s) (new : HasNow seat (without r seat.lots) last) where
@@ -206,12 +199,6 @@ module _ (seat : Held Body) (xs : List (ℕ × Item)) (room total : ℕ) (state 
     gone q = dite (ℕ_discrete r q)
         (λ e. subst (λ (z : ℕ). value_at z (without r xs) ≡ item_at (value_at z (without r seat.lots))) e (without_at r xs ∙ sym (ap item_at (without_at r seat.lots))))
         (λ n. without_other q r xs n ∙ is.same q ∙ sym (ap item_at (without_other q r seat.lots n)))
-
-    quiet_without : (t : Status) → IsQuiet t xs → IsQuiet t (without r xs)
-    quiet_without Running q = tt
-    quiet_without Ending q = tt
-    quiet_without Vacant q = ap (without r) q
-    quiet_without Ended q = ap (without r) q
 
     pub loses : IsPlace last (without r xs) room (total - s.len) state
     loses = kept (with_lots seat (without r seat.lots)) last (without r xs) room (total - s.len) state new
@@ -224,19 +211,13 @@ module _ (seat : Held Body) (xs : List (ℕ × Item)) (room total : ℕ) (state 
           distinct = distinct_without r xs is.distinct;
           sum = now;
           room = is.room;
-          quiet = quiet_without state is.quiet;
+          quiet = still_quiet state (without r) xs refl is.quiet;
         })
 
   -- another lot in the place of one
   module _ (last : Held Body) (r : ℕ) (l m : LotOf Body) (at : value_at r seat.lots ≡ Some l) (new : HasNow seat (put r m seat.lots) last) (good : IsBlock seat.shape r m) where
     was : value_at r xs ≡ Some (item_of l)
     was = is.same r ∙ ap item_at at
-
-    quiet_put : (t : Status) → IsQuiet t xs → IsQuiet t (put r (item_of m) xs)
-    quiet_put Running q = tt
-    quiet_put Ending q = tt
-    quiet_put Vacant q = ap (put r (item_of m)) q
-    quiet_put Ended q = ap (put r (item_of m)) q
 
     pub changes : IsPlace last (put r (item_of m) xs) room (total_of (put r (item_of m) xs)) state
     changes = kept (with_lots seat (put r m seat.lots)) last (put r (item_of m) xs) room (total_of (put r (item_of m) xs)) state new record {
@@ -251,16 +232,12 @@ module _ (seat : Held Body) (xs : List (ℕ × Item)) (room total : ℕ) (state 
       distinct = subst Distinct (sym (put_keys r (item_of m) xs)) is.distinct;
       sum = refl;
       room = is.room;
-      quiet = quiet_put state is.quiet;
+      quiet = still_quiet state (put r (item_of m)) xs refl is.quiet;
     }
 
     -- of the same length
     pub same_total : m.len ≡ l.len → total_of (put r (item_of m) xs) ≡ total
     same_total e = let a : total_of (put r (item_of m) xs) + l.len ≡ total_of xs + m.len = total_put xs r (item_of l) (item_of m) was in let b : total ≡ total_of xs = is.sum in omega arith
-
-  -- the state
-  pub with_state : (t : Status) → IsQuiet t xs → IsPlace seat xs room total t
-  with_state t quiet = record { same = is.same; blocks = is.blocks; distinct = is.distinct; sum = is.sum; room = is.room; quiet = quiet }
 
   pub holds_nothing : is_over state ≡ true → seat.lots ≡ []
   holds_nothing e = none seat.lots (λ r. header_none (value_at r seat.lots) (sym (is.same r) ∙ ap (value_at r) (empty state is.quiet e))) where
@@ -289,47 +266,44 @@ pub is_now : (seat : Held Body) (rs : List ℕ) (state : Status) (last : Held Bo
     → HasNow seat lots last → IsPlace last (f (shown seat.lots rs)) room total state → ys ≡ keys (f (shown seat.lots rs)) → room' ≡ room → total' ≡ total
     → IsNow seat rs state last ys room' total' f
 is_now seat rs state last lots ys room total room' total' f new is items same sum =
-    let one : shown last.lots ys ≡ f (shown seat.lots rs) = listed_as last (f (shown seat.lots rs)) room total state is ys items in (
+    let one : shown last.lots ys ≡ f (shown seat.lots rs) = listed_as is ys items in (
       subst (λ (z : List (ℕ × Item) × ℕ × ℕ). IsPlace last z.0 z.1 z.2 state) (λ i. (sym one i, sym same i, sym sum i)) is,
       λ p e. shows p seat last (shown seat.lots rs) (shown last.lots ys) state lots f e new one,
     )
 
-module _ (seat : Held Body) (rs : List ℕ) (room total : ℕ) (state : Status) (is : IsPlace seat (shown seat.lots rs) room total state) where
+module _ {seat : Held Body} (rs : List ℕ) {room total : ℕ} {state : Status} (is : IsPlace seat (shown seat.lots rs) room total state) where
   abbrev xs : List (ℕ × Item)
   xs = shown seat.lots rs
 
-  pub list_room : (r : ℕ) → IsRecord seat.shape r → (Among (keys seat.lots) r → ⊥) → (length rs < room) × (length rs < 2048)
-  list_room r exists fresh = subst (λ (n : ℕ). (n < room) × (n < 2048)) (shown_long seat.lots rs) (has_room seat xs room total state is r exists fresh)
-
-  pub list_small : total ≤ length rs * 1048576
-  list_small = subst (λ (n : ℕ). total ≤ n * 1048576) (shown_long seat.lots rs) (small seat xs room total state is)
+  pub list_room : {r : ℕ} {l : LotOf Body} → IsBlock seat.shape r l → (Among (keys seat.lots) r → ⊥) → length rs < room
+  list_room {r} {l} good fresh = subst (λ (n : ℕ). n < room) (shown_long seat.lots rs) (has_room is r good.exists fresh)
 
   pub list_few : length rs ≤ 2048
-  list_few = subst (λ (n : ℕ). n ≤ 2048) (shown_long seat.lots rs) (count_bound seat xs room total state is)
+  list_few = subst (λ (n : ℕ). n ≤ 2048) (shown_long seat.lots rs) (count_bound is)
 
   pub list_distinct : Distinct rs
   list_distinct = subst Distinct (shown_keys seat.lots rs) is.distinct
 
-  pub lost : (last : Held Body) (r : ℕ) (x : Item) (ys : List ℕ) (room' n : ℕ) → value_at r xs ≡ Some x → HasNow seat (without r seat.lots) last → ys ≡ less r rs → room' ≡ room → n ≡ x.len
+  pub lost : (last : Held Body) (r : ℕ) {x : Item} {ys : List ℕ} {room' n : ℕ} → value_at r xs ≡ Some x → HasNow seat (without r seat.lots) last → ys ≡ less r rs → room' ≡ room → n ≡ x.len
       → IsNow seat rs state last ys room' (total - n) (without r)
-  lost last r x ys room' n at new items same len =
-      is_now seat rs state last (without r seat.lots) ys room (total - x.len) room' (total - n) (without r) new (loses seat xs room total state is last r x at new)
+  lost last r {x} {ys} {room'} {n} at new items same len =
+      is_now seat rs state last (without r seat.lots) ys room (total - x.len) room' (total - n) (without r) new (loses is last r x at new)
       (items ∙ ap (less r) (sym (shown_keys seat.lots rs)) ∙ sym (keys_without r xs)) same (ap (λ (z : ℕ). total - z) len)
 
-  pub won : (last : Held Body) (r : ℕ) (l : LotOf Body) (ys : List ℕ) (room' n : ℕ) → (Among (keys seat.lots) r → ⊥) → HasNow seat (seat.lots ++ (r, l) ∷ []) last
+  pub won : (last : Held Body) {r : ℕ} {l : LotOf Body} {ys : List ℕ} {room' n : ℕ} → (Among (keys seat.lots) r → ⊥) → HasNow seat (seat.lots ++ (r, l) ∷ []) last
       → IsBlock seat.shape r l → (is_over state ≡ true → ⊥) → ys ≡ rs ++ r ∷ [] → room' ≡ room → n ≡ l.len
       → IsNow seat rs state last ys room' (total + n) (λ (es : List (ℕ × Item)). es ++ (r, item_of l) ∷ [])
-  won last r l ys room' n fresh new good alive items same len =
+  won last {r} {l} {ys} {room'} {n} fresh new good alive items same len =
       is_now seat rs state last (seat.lots ++ (r, l) ∷ []) ys room (total + l.len) room' (total + n) (λ (es : List (ℕ × Item)). es ++ (r, item_of l) ∷ []) new
-      (gains seat xs room total state is last r l fresh new good (quiet_alive state (xs ++ (r, item_of l) ∷ []) alive))
+      (gains is last r l fresh new good (quiet_alive state (xs ++ (r, item_of l) ∷ []) alive))
       (items ∙ ap (λ (z : List ℕ). z ++ r ∷ []) (sym (shown_keys seat.lots rs)) ∙ sym (keys_push xs (r, item_of l))) same (ap (λ (z : ℕ). total + z) len)
 
   -- its list does not move where one of its lots does
-  pub turned : (last : Held Body) (r : ℕ) (l m : LotOf Body) → value_at r seat.lots ≡ Some l → HasNow seat (put r m seat.lots) last → IsBlock seat.shape r m → m.len ≡ l.len
+  pub turned : (last : Held Body) {r : ℕ} {l m : LotOf Body} → value_at r seat.lots ≡ Some l → HasNow seat (put r m seat.lots) last → IsBlock seat.shape r m → m.len ≡ l.len
       → IsNow seat rs state last rs room total (put r (item_of m))
-  turned last r l m at new good len =
-      is_now seat rs state last (put r m seat.lots) rs room (total_of (put r (item_of m) xs)) room total (put r (item_of m)) new (changes seat xs room total state is last r l m at new good)
-      (sym (shown_keys seat.lots rs) ∙ sym (put_keys r (item_of m) xs)) refl (sym (same_total seat xs room total state is last r l m at new good len))
+  turned last {r} {l} {m} at new good len =
+      is_now seat rs state last (put r m seat.lots) rs room (total_of (put r (item_of m) xs)) room total (put r (item_of m)) new (changes is last r l m at new good)
+      (sym (shown_keys seat.lots rs) ∙ sym (put_keys r (item_of m) xs)) refl (sym (same_total is last r l m at new good len))
 
   -- nor where its seat did what moves nothing
   pub stays : (last : Held Body) → HasNow seat seat.lots last → IsNow seat rs state last rs room total (λ (es : List (ℕ × Item)). es)

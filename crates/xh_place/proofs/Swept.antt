@@ -1,15 +1,13 @@
 -- Sweeps one after another, and what a worker gave back.
-use Rattle.std.proofs.Common.{◌≡◌, ℕ, zero, suc, ◌+◌, ◌<◌, ◌≤◌, ◌⊎◌, ⊎_elim, inl, inr, List, [], ◌∷◌, ◌++◌, length, take, drop, length-append}
-use Rattle.std.proofs.Common.{append_assoc, append-nil, refl, sym, ap, ◌∙◌, subst, arith}
+use Rattle.std.proofs.Common.{◌≡◌, ℕ, zero, suc, ◌+◌, ◌<◌, ◌≤◌, inl, inr, List, [], ◌∷◌, ◌++◌, length, take, drop, length-append, append_assoc, append-nil, refl, sym, ap, ◌∙◌, subst, arith}
 use Rattle.std.specs.Prelude.{Some}
-use Rattle.std.proofs.lemmas.List.{drop-append-le, take-append-le}
-use Rattle.std.proofs.Math.Seq.{drop-append_seam, take-append_seam}
+use Rattle.std.proofs.lemmas.List.{drop-append-le, drop_at, drop-drop, length-drop, length-take-le, take-append-le, take_at}
+use Rattle.std.proofs.Math.Seq.{take-add}
 use Rattle.xh_arena.specs.Views.{TallyOf}
 use Rattle.xh_model.specs.declared.event.Event.{Event}
-use mathlib.Core.Logic.{dite}
-use native.Mathlib.Decide.{ℕ_discrete}
+use Rattle.std.proofs.lemmas.Bool.Decides.{nat_tests}
 use Rattle.xh_model.specs.Keyed.{Among, Distinct, keys, put, value_at, without}
-use Rattle.xh_model.proofs.Keyed.{absent, here_first, not_here, put_keys, put_without, without_here, without_there}
+use Rattle.xh_model.proofs.Keyed.{keys_append, absent, here_first, not_here, put_keys, put_without}
 use Rattle.xh_place.specs.Bodies.{toward}
 use Rattle.xh_place.specs.Moves.{accepted_on}
 use Rattle.xh_place.specs.Ending.{AreEnded, HasGivenBack, IsSweptBy, back_of}
@@ -17,45 +15,12 @@ use Rattle.xh_place.specs.Endpoints.{EndsWith}
 use Rattle.xh_place.specs.inner.Reclaiming.{Clears}
 use Rattle.xh_place.specs.Places.{Item, PlaceOf, total_of, with_blocks, with_list, with_more}
 use Rattle.xh_place.specs.Tallies.{gave}
-use Rattle.xh_place.proofs.Listing.{total_put}
-use Rattle.xh_place.proofs.Moves.{keys_both}
-
-module _ {X : Type 0} where
-  pub drop_long : (u : ℕ) (w : List X) → u ≤ length w → u + length (drop u w) ≡ length w
-  drop_long zero w h = omega arith
-  drop_long (suc u) [] h = absurd (omega arith)
-  drop_long (suc u) (x ∷ w) h = let e : u + length (drop u w) ≡ length w = drop_long u w (omega arith) in omega arith
-
-  pub take_long : (u : ℕ) (w : List X) → u ≤ length w → length (take u w) ≡ u
-  take_long zero w h = refl
-  take_long (suc u) [] h = absurd (omega arith)
-  take_long (suc u) (x ∷ w) h = ap (λ (n : ℕ). suc n) (take_long u w (omega arith))
-
-  drops : (u k : ℕ) (w ys : List X) → u ≤ length w → drop k (drop u w ++ ys) ≡ drop (u + k) (w ++ ys)
-  drops zero k w ys h = let e : k ≡ 0 + k = omega arith in ap (λ (n : ℕ). drop n (w ++ ys)) e
-  drops (suc u) k [] ys h = absurd (omega arith)
-  drops (suc u) k (x ∷ w) ys h = let e : suc (u + k) ≡ suc u + k = omega arith in drops u k w ys (omega arith) ∙ ap (λ (n : ℕ). drop n (x ∷ (w ++ ys))) e
-
-  -- before and behind the place from which a list was cut
-  front : (from : ℕ) (old w : List X) → from ≤ length old → take from (take from old ++ w) ≡ take from old
-  front from old w h = ap (λ (n : ℕ). take n (take from old ++ w)) (sym (take_long from old h)) ∙ take-append_seam (take from old) w
-
-  behind : (from : ℕ) (old w : List X) → from ≤ length old → drop from (take from old ++ w) ≡ w
-  behind from old w h = ap (λ (n : ℕ). drop n (take from old ++ w)) (sym (take_long from old h)) ∙ drop-append_seam (take from old) w
-
-pub total_both : (xs ys : List (ℕ × Item)) → total_of (xs ++ ys) ≡ total_of xs + total_of ys
-total_both [] ys = omega arith
-total_both (x ∷ xs) ys = let e : total_of (xs ++ ys) ≡ total_of xs + total_of ys = total_both xs ys in omega arith
+use Rattle.xh_place.proofs.Listing.{total_both, total_put}
 
 -- ---- the blocks that went
 
-takes : (u k : ℕ) (w ys : List (ℕ × Item)) → u ≤ length w → take (u + k) (w ++ ys) ≡ take u w ++ take k (drop u w ++ ys)
-takes zero k w ys h = let e : 0 + k ≡ k = omega arith in ap (λ (n : ℕ). take n (w ++ ys)) e
-takes (suc u) k [] ys h = absurd (omega arith)
-takes (suc u) k (x ∷ w) ys h =
-    let e : suc u + k ≡ suc (u + k) = omega arith in ap (λ (n : ℕ). take n (x ∷ (w ++ ys))) e ∙ ap (λ (l : List (ℕ × Item)). x ∷ l) (takes u k w ys (omega arith))
-
-ended_both : (saw : ℕ → ℕ → Type 0) (p : ℕ) (gone more ys zs : List (ℕ × Item)) (es fs : List Event) → AreEnded saw p gone ys es → AreEnded saw p more zs fs → AreEnded saw p (gone ++ more) (ys ++ zs) (es ++ fs)
+ended_both : (saw : ℕ → ℕ → Type 0) (p : ℕ) (gone more ys zs : List (ℕ × Item)) (es fs : List Event) → AreEnded saw p gone ys es → AreEnded saw p more zs fs
+    → AreEnded saw p (gone ++ more) (ys ++ zs) (es ++ fs)
 ended_both saw p [] more ys zs es fs one two =
     subst (λ (z : List (ℕ × Item) × List Event). AreEnded saw p more (z.0 ++ zs) (z.1 ++ fs)) (λ i. (sym one.0 i, sym one.1 i)) two
 ended_both saw p (y ∷ gone) more ys zs es fs one two = (
@@ -69,18 +34,18 @@ ended_both saw p (y ∷ gone) more ys zs es fs one two = (
 )
 
 -- one sweep after another from the same place
-pub swept_more : (saw : ℕ → ℕ → Type 0) (from u k a b : ℕ) (old mid new : PlaceOf) → from ≤ length old.blocks → mid.process ≡ old.process → IsSweptBy saw from u old mid a → IsSweptBy saw from k mid new b
+pub swept_more : (saw : ℕ → ℕ → Type 0) (from u k a b : ℕ) (old mid new : PlaceOf) → from ≤ length old.blocks → mid.process ≡ old.process → IsSweptBy saw from u old mid a
+    → IsSweptBy saw from k mid new b
     → IsSweptBy saw from (u + k) old new (a + b)
 swept_more saw from u k a b old mid new inside whose one two =
     let w : List (ℕ × Item) = drop from old.blocks ++ one.accepted in
     let both : List (ℕ × Item) = one.accepted ++ two.accepted in
-    let ahead : take from mid.blocks ≡ take from old.blocks = ap (take from) one.list ∙ front from old.blocks (drop u w) inside in
-    let rest : drop from mid.blocks ≡ drop u w = ap (drop from) one.list ∙ behind from old.blocks (drop u w) inside in
+    let ahead : take from mid.blocks ≡ take from old.blocks = ap (take from) one.list ∙ take_at (take from old.blocks) (drop u w) from (length-take-le from old.blocks inside) in
+    let rest : drop from mid.blocks ≡ drop u w = ap (drop from) one.list ∙ drop_at (take from old.blocks) (drop u w) from (length-take-le from old.blocks inside) in
     let all : w ++ two.accepted ≡ drop from old.blocks ++ both = append_assoc (drop from old.blocks) one.accepted two.accepted in
     let same : drop k (drop from mid.blocks ++ two.accepted) ≡ drop (u + k) (drop from old.blocks ++ both) =
-    ap (λ (l : List (ℕ × Item)). drop k (l ++ two.accepted)) rest ∙ drops u k w two.accepted one.there ∙ ap (drop (u + k)) all in
+    ap (λ (l : List (ℕ × Item)). drop k (l ++ two.accepted)) rest ∙ ap (drop k) (sym (drop-append-le u w two.accepted one.there)) ∙ drop-drop k u (w ++ two.accepted) ∙ ap (drop (u + k)) all in
     let long : length (drop from old.blocks ++ both) ≡ length w + length two.accepted = ap length (sym all) ∙ length-append w two.accepted in
-    let left : u + length (drop u w) ≡ length w = drop_long u w one.there in
     let fits : k ≤ length (drop u w) + length two.accepted =
     subst (λ (n : ℕ). k ≤ n) (ap (λ (l : List (ℕ × Item)). length (l ++ two.accepted)) rest ∙ length-append (drop u w) two.accepted) two.there in
     let sums : total_of both ≡ total_of one.accepted + total_of two.accepted = total_both one.accepted two.accepted in
@@ -89,11 +54,11 @@ swept_more saw from u k a b old mid new inside whose one two =
     let later : AreEnded saw old.process (take k (drop u w ++ two.accepted)) two.accepted two.log =
     subst (λ (z : ℕ × List (ℕ × Item)). AreEnded saw z.0 (take k (z.1 ++ two.accepted)) two.accepted two.log) (λ i. (whose i, rest i)) two.ended in
     let ends : take (u + k) (drop from old.blocks ++ both) ≡ take u w ++ take k (drop u w ++ two.accepted) =
-    ap (take (u + k)) (sym all) ∙ takes u k w two.accepted one.there in
+    ap (take (u + k)) (sym all) ∙ take-add u k (w ++ two.accepted) ∙ (λ i. take-append-le u w two.accepted one.there i ++ take k (drop-append-le u w two.accepted one.there i)) in
     record {
       accepted = both;
       log = one.log ++ two.log;
-      there = omega (arith, long, left, fits);
+      there = omega (arith, long, length-drop u w, one.there, fits);
       list = two.list ∙ (λ i. ahead i ++ same i);
       moved = two.moved ∙ ap (λ (l : List Event). l ++ two.log) one.moved ∙ append_assoc old.moved one.log two.log;
       ended = subst (λ (l : List (ℕ × Item)). AreEnded saw old.process l both (one.log ++ two.log)) (sym ends)
@@ -114,7 +79,8 @@ cut_out (suc from) r x more (y ∷ w) d e =
       among_drop (suc k) q (z ∷ w) h = inr (among_drop k q w h)
 
 -- some came to an end at `from`, and then it went
-swept_one : (saw : ℕ → ℕ → Type 0) (from r bytes d : ℕ) (x : Item) (more : List (ℕ × Item)) (old mid new : PlaceOf) (ys : List (ℕ × Item)) → from ≤ length old.blocks → drop from old.blocks ≡ (r, x) ∷ more
+swept_one : (saw : ℕ → ℕ → Type 0) (from r bytes d : ℕ) (x : Item) (more : List (ℕ × Item)) (old mid new : PlaceOf) (ys : List (ℕ × Item)) → from ≤ length old.blocks
+    → drop from old.blocks ≡ (r, x) ∷ more
     → mid ≡ with_more d ys old → Distinct (keys mid.blocks) → AreEnded saw old.process ((r, x) ∷ []) ys (accepted_on old.process d (keys ys))
     → new ≡ with_blocks mid (without r mid.blocks)
     → bytes + total_of new.blocks ≡ total_of mid.blocks → IsSweptBy saw from 1 old new bytes
@@ -137,12 +103,11 @@ swept_one saw from r bytes d x more old mid new ys inside first came once ends i
 
 without_both : (r : ℕ) (xs ys : List (ℕ × Item)) → without r (xs ++ ys) ≡ without r xs ++ without r ys
 without_both r [] ys = refl
-without_both r (x ∷ xs) ys = dite (ℕ_discrete x.0 r)
-    (λ e. without_here r x (xs ++ ys) e ∙ without_both r xs ys ∙ sym (ap (λ (l : List (ℕ × Item)). l ++ without r ys) (without_here r x xs e)))
-    (λ n. without_there r x (xs ++ ys) n ∙ ap (λ (l : List (ℕ × Item)). x ∷ l) (without_both r xs ys) ∙ sym (ap (λ (l : List (ℕ × Item)). l ++ without r ys) (without_there r x xs n)))
+without_both r (x ∷ xs) ys = grind (arith, nat_tests, without_both r xs ys)
 
 -- the block at `from` went, an endpoint after it was shut and drained
-pub swept_clear : (saw : ℕ → ℕ → Type 0) (from r bytes : ℕ) (x : Item) (more : List (ℕ × Item)) (old mid new : PlaceOf) → from ≤ length old.blocks → drop from old.blocks ≡ (r, x) ∷ more → value_at r old.blocks ≡ Some x
+pub swept_clear : (saw : ℕ → ℕ → Type 0) (from r bytes : ℕ) (x : Item) (more : List (ℕ × Item)) (old mid new : PlaceOf) → from ≤ length old.blocks → drop from old.blocks ≡ (r, x) ∷ more
+    → value_at r old.blocks ≡ Some x
     → Clears saw r old mid → Distinct (keys mid.blocks) → new ≡ with_blocks mid (without r mid.blocks) → bytes + total_of new.blocks ≡ total_of mid.blocks → IsSweptBy saw from 1 old new bytes
 swept_clear saw from r bytes x more old mid new inside first at clear once is sum =
     let z : Item = clear.0 in let y : Item = clear.1 in let ys : List (ℕ × Item) = clear.2 in let xs : List (ℕ × Item) = old.blocks in
@@ -151,7 +116,7 @@ swept_clear saw from r bytes x more old mid new inside first at clear once is su
     let came : mid ≡ with_more d ys (with_blocks old (put r y xs)) = clear.6 ∙ ap (λ (w : Item). with_more (toward w.content) ys (with_blocks old (put r y xs))) one in
     let list : mid.blocks ≡ put r y xs ++ ys = ap (λ (p : PlaceOf). p.blocks) came in
     let names : keys mid.blocks ≡ keys (xs ++ ys) =
-    ap keys list ∙ keys_both (put r y xs) ys ∙ ap (λ (l : List ℕ). l ++ keys ys) (put_keys r y xs) ∙ sym (keys_both xs ys) in
+    ap keys list ∙ keys_append (put r y xs) ys ∙ ap (λ (l : List ℕ). l ++ keys ys) (put_keys r y xs) ∙ sym (keys_append xs ys) in
     let less : without r mid.blocks ≡ without r (xs ++ ys) =
     ap (without r) list ∙ without_both r (put r y xs) ys ∙ ap (λ (l : List (ℕ × Item)). l ++ without r ys) (put_without r y xs) ∙ sym (without_both r xs ys) in
     let long : total_of (put r y xs) + z.len ≡ total_of xs + y.len = total_put xs r z y clear.3 in let sizes : y.len ≡ z.len = clear.4 in
@@ -162,29 +127,10 @@ swept_clear saw from r bytes x more old mid new inside first at clear once is su
     (ys, [], [], sym (append-nil ys), sym (append-nil log), subst (λ (w : Item). EndsWith saw w.content ys) one clear.5, (refl, refl))
     (is ∙ (λ i. with_blocks (came i) (less i))) (sum ∙ total)
 
--- nothing yet
-pub swept_none : (saw : ℕ → ℕ → Type 0) (from : ℕ) (old : PlaceOf) → IsSweptBy saw from 0 old old 0
-swept_none saw from old = record {
-  accepted = [];
-  log = [];
-  there = omega arith;
-  list = sym (whole from old.blocks);
-  moved = sym (append-nil old.moved);
-  ended = (refl, refl);
-  sum = omega arith;
-} where
-  whole : (k : ℕ) (w : List (ℕ × Item)) → take k w ++ (drop k w ++ []) ≡ w
-  whole zero w = append-nil w
-  whole (suc k) [] = refl
-  whole (suc k) (x ∷ w) = ap (λ (l : List (ℕ × Item)). x ∷ l) (whole k w)
-
 -- ---- what a worker gave back
 
 pub gave_more : (a b : ℕ) (old mid new : List TallyOf) → HasGivenBack a old mid → HasGivenBack b mid new → HasGivenBack (a + b) old new
 gave_more a b old mid new one two = let first : back_of mid ≡ back_of old + a = one.0 in let second : back_of new ≡ back_of mid + b = two.0 in (omega arith, two.1 ∙ one.1)
-
-pub gave_nothing : (old : List TallyOf) → HasGivenBack 0 old old
-gave_nothing old = (omega arith, refl)
 
 pub gave_some : (i n : ℕ) (ts : List TallyOf) → i < length ts → HasGivenBack n ts (gave i n ts)
 gave_some i n [] h = absurd (omega arith)
@@ -202,11 +148,6 @@ twice d old mid new zs ys xs one two =
 pub twice_own : (old mid new : PlaceOf) → mid ≡ with_list old mid → new ≡ with_list mid new → new ≡ with_list old new
 twice_own old mid new one two = two ∙ ap (λ (p : PlaceOf). with_list p new) one
 
-less_or : (a b : ℕ) → (a < b) ⊎ (b ≤ a)
-less_or a zero = inr (omega arith)
-less_or zero (suc b) = inl (omega arith)
-less_or (suc a) (suc b) = ⊎_elim (λ h. inl (omega (arith, h))) (λ h. inr (omega (arith, h))) (less_or a b)
-
 -- blocks are there only where there were some at the start
 pub started : (from : ℕ) (old mid : List (ℕ × Item)) → from < length mid → (length old ≤ from → mid ≡ old) → from < length old
-started from old mid some same = ⊎_elim (λ h. h) (λ h. let e : length mid ≡ length old = ap length (same h) in omega (arith, e, some)) (less_or from (length old))
+started from old mid some same = grind (arith, λ (h : length old ≤ from). ap length (same h))

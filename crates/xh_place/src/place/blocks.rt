@@ -1,5 +1,5 @@
 //! Data blocks of a place.
-ghost use Rattle.std.specs.Prelude.{◌≡◌, ℕ, ◌+◌, ◌/◌, ◌%◌, ◌<◌, ◌≤◌, ◌∷◌, ◌++◌, length, Some, Err, IfErr, OnErr, MatchOption};
+ghost use Rattle.std.specs.Prelude.{◌≡◌, ℕ, ◌+◌, ◌/◌, ◌%◌, ◌<◌, ◌≤◌, ◌∷◌, ◌++◌, length, Some, Err, IfErr, OnErr, OnOk, MatchOption};
 ghost use Rattle.xh_core.specs.Calls.{alloc_tests, data_tests, range_tests, split_tests};
 ghost use Rattle.xh_core.specs.Headers.{len_in};
 ghost use Rattle.xh_core.specs.Refusing.{Tested, first_refusal};
@@ -88,6 +88,7 @@ impl Place {
         ensures once { Distinct (keys self.old.place.blocks) }
         ensures bytes { (result ≡ len_in (found self.old.place r)) × (result + total_of self.new.place.blocks ≡ total_of self.old.place.blocks) }
         ensures back { (desk.new.tallies.now ≡ gave (r / MAX_RECORDS) result desk.old.tallies.now) × HasGivenBack result desk.old.tallies.now desk.new.tallies.now }
+        ensures arena { r / MAX_RECORDS < length self.old.place.shape.names }
     {
         remove(&mut self.list, r);
         let len = give_up(desk, &mut self.seat, r);
@@ -120,6 +121,7 @@ impl Place {
         requires at { IsAt V.names desk.old self.old.place }
         ensures same { StaysAt V.names V.extent desk.old desk.new self.old self.new }
         ensures freed { Frees r self.old.place self.new.place desk.old.tallies.now desk.new.tallies.now result }
+        ensures arena { OnOk result (r / MAX_RECORDS < length self.old.place.shape.names) }
         ensures untouched { OnErr result (desk.new.vaults.now ≡ desk.old.vaults.now) }
         ensures bytes { Tested (start self.old.place.state ++ data_tests (found self.old.place r)) result (λ n. n ≡ len_in (found self.old.place r)) }
     {

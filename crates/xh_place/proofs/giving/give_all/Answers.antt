@@ -1,54 +1,33 @@
-use Rattle.std.proofs.Common.{◌≡◌, ℕ, List, [], ◌++◌, rules, sym, ap, ◌∙◌, subst, refl}
-use Rattle.xh_place.proofs.Givens.{back_none}
-use Rattle.xh_model.specs.declared.event.Event.{Event}
+use Rattle.std.proofs.Common.{◌≡◌, ℕ, List, ◌++◌, sym, ap, subst, refl}
 use Rattle.xh_model.specs.Keyed.{Among, value_at}
-use Rattle.xh_records.specs.Seats.{Held}
-use Rattle.xh_place.specs.declared.body.Body.{Body}
 use Rattle.xh_place.specs.Bodies.{away}
-use Rattle.xh_place.specs.Endpoints.{Puts}
 use Rattle.xh_place.specs.Moves.{accepted_on, passed_on, there_and_back}
-use Rattle.xh_place.specs.inner.Lots.{HasNow, LotDoes, SeatSaw, with_done}
+use Rattle.xh_place.specs.inner.Lots.{HasNow, SeatSaw, with_done}
 use Rattle.xh_place.specs.Places.{item_in}
-use Rattle.xh_place.specs.inner.Lists.{AreBack, lens}
 use Rattle.xh_place.proofs.Listing.{lens_none}
 use Rattle.xh_place.proofs.Moves.{moved_twice}
-use Rattle.xh_place.proofs.Seeing.{away_as, saw_later, seat_same}
+use Rattle.xh_place.proofs.Seeing.{away_as, saw_later, starts_same}
 use Rattle.xh_place.specs.Seen.{IsElsewhere}
 use Rattle.xh_place.proofs.giving.give_all.Goals as goal
 
-pub returns-in_default-clause-back : goal.returns-in_default-clause-back
-returns-in_default-clause-back g c = let new : c.new.result.items ≡ [] = search rules in back_none c.args.given.now.items c.post-put.new.seat c.new.result.items new c.post-put.ensures.gone
-
 pub returns-in_default-clause-gained : goal.returns-in_default-clause-gained
 returns-in_default-clause-gained g c = sym (lens_none c.args.given.now.items (λ r. value_at r c.post-put.new.seat.lots) c.post-put.ensures.gone)
-
-pub returns-clause-back : goal.returns-clause-back
-returns-clause-back g c = subst (λ (z : List ℕ). AreBack z c.accept_back-back.result.0.items c.accept_back-back.new.seat) c.as_slice.ensures.value c.accept_back-back.ensures.back
-
-pub returns-clause-gained : goal.returns-clause-gained
-returns-clause-gained g c = c.accept_back-back.ensures.bytes ∙ ap (λ (z : List ℕ). lens z (λ r. value_at r c.accept_back-back.new.seat.lots)) c.as_slice.ensures.value
 
 pub returns-clause-moved : goal.returns-clause-moved
 returns-clause-moved g c =
     let seat = c.args.seat.now in let mid = c.post-put.new.seat in let last = c.accept_back-back.new.seat in
     let given : List ℕ = c.args.given.now.items in let rs : List ℕ = c.accept_back-back.result.0.items in
-    let whose : mid.process ≡ seat.process = ap (λ (h : Held Body). h.process) c.post-put.ensures.passed in
+    let whose : mid.process ≡ seat.process = ap (λ h. h.process) c.post-put.ensures.passed in
     let d : ℕ = c.post-put.result.1 in
     let log : passed_on seat.process d given ++ accepted_on mid.process d rs ≡ there_and_back seat.process (away (item_in (value_at c.args.e seat.lots)).content) given rs =
     λ i. passed_on seat.process (c.post-put.ensures.direction.0 i) given ++ accepted_on (whose i) (c.post-put.ensures.direction.0 i) rs in
-    subst (λ (es : List Event). HasNow (with_done es seat) last.lots last) log
+    subst (λ es. HasNow (with_done es seat) last.lots last) log
     (moved_twice seat mid last (passed_on seat.process d given) (accepted_on mid.process d rs) c.post-put.ensures.passed c.accept_back-back.ensures.came)
-
-pub returns-clause-end : goal.returns-clause-end
-returns-clause-end g c = λ l at.
-    let h = c.post-put.ensures.end l at in
-    let kept = c.accept_back-back.ensures.others c.args.e (λ a. c.requires.distinct.1 (subst (λ (rs : List ℕ). Among rs c.args.e) c.as_slice.ensures.value a)) in
-    (h.0, kept ∙ h.1, subst (λ r. LotDoes (Puts c.args.tag c.args.given.now r) l h.0) c.in-Err.is h.2, h.3)
 
 pub returns-clause-missed : goal.returns-clause-missed
 returns-clause-missed g c = λ r among missed.
     let seat = c.args.seat.now in let mid = c.post-put.new.seat in let last = c.accept_back-back.new.seat in
-    let shape : mid.shape ≡ seat.shape = ap (λ (h : Held Body). h.shape) c.post-put.ensures.passed in
-    let there = c.accept_back-back.ensures.lost r (subst (λ (l : List ℕ). Among l r) (sym c.as_slice.ensures.value) among) missed in
-    subst (λ (d : ℕ). IsElsewhere (SeatSaw seat last) d r) c.post-put.ensures.direction.0
-    (away_as (SeatSaw mid last) (SeatSaw seat last) (saw_later seat mid last last shape c.post-put.ensures.seen (seat_same last last refl)) c.post-put.result.1 r there)
+    let shape : mid.shape ≡ seat.shape = ap (λ h. h.shape) c.post-put.ensures.passed in
+    let there = c.accept_back-back.ensures.lost r (subst (λ l. Among l r) (sym c.as_slice.ensures.value) among) missed in
+    subst (λ d. IsElsewhere (SeatSaw seat last) d r) c.post-put.ensures.direction.0
+    (away_as (SeatSaw mid last) (SeatSaw seat last) (saw_later seat mid last last shape c.post-put.ensures.seen (starts_same refl)) c.post-put.result.1 r there)

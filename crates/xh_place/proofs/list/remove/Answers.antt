@@ -1,8 +1,7 @@
-use Rattle.std.proofs.Common.{arith, ◌-◌, ◌<◌, ℕ, List, ⊎_elim, ◌∙◌, sym, ap, subst, length}
+use Rattle.std.proofs.Common.{arith, ◌-◌, ◌<◌, ℕ, ◌∙◌, sym, ap, subst, length}
 use Rattle.xh_model.specs.Keyed.{Among, Distinct}
 use Rattle.xh_model.proofs.Keyed.{past}
 use Rattle.xh_place.specs.inner.Lists.{less}
-use Rattle.xh_place.proofs.Givens.{next_one}
 use Rattle.xh_place.proofs.Listing.{less_absent, removed_number}
 use Rattle.xh_place.proofs.list.remove.Goals as goal
 
@@ -18,14 +17,8 @@ returns-then-index-r-2-clause-items c =
     c.remove-then-index-r-2.ensures.items ∙ removed_number c.args.r c.loop-k.k c.loop-k.list.items c.index-in-loop-k.result.now (subst (λ l. Distinct l.items) (sym same) c.requires) inside
     (sym c.index-in-loop-k.ensures ∙ c.if-index-r-2.true) ∙ ap (λ l. less c.args.r l.items) same
 
-pub loop-k-preserved : goal.loop-k-preserved
-loop-k-preserved c =
-    let same = c.loop-k.invariant.0 in let k : ℕ = c.loop-k.k in let xs = c.loop-k.list.items in let r : ℕ = c.args.r in
-    let inside : k < length xs = omega (arith, c.loop-k-test.true, c.len-count.ensures, ap (λ l. length l.items) same) in
-    (same, λ n. c.loop-k.invariant.1 (λ a. ⊎_elim (λ e. c.if-index-r-2.false (c.index-in-loop-k.ensures ∙ sym e)) n (subst (λ (l : List ℕ). Among l r) (next_one k xs c.index-in-loop-k.result.now inside) a)))
-
 pub returns-clause-items : goal.returns-clause-items
 returns-clause-items c =
     let xs = c.loop-k.list.items in let same = c.loop-k.invariant.0 in
     let none = past c.loop-k.k xs (omega (arith, c.loop-k-test.false, c.len-count.ensures, ap (λ l. length l.items) same)) in
-    sym (less_absent c.args.r xs (c.loop-k.invariant.1 (λ a. subst (λ (l : List ℕ). Among l c.args.r) none a))) ∙ ap (λ l. less c.args.r l.items) same
+    sym (less_absent c.args.r xs (c.loop-k.invariant.1 (λ a. subst (λ l. Among l c.args.r) none a))) ∙ ap (λ l. less c.args.r l.items) same

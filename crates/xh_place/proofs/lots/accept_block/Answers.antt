@@ -5,7 +5,7 @@ use Rattle.xh_place.specs.declared.body.Body.{Body}
 use Rattle.xh_place.specs.inner.Lots.{bare}
 use Rattle.xh_place.proofs.Gained.{has, changed, lot_is}
 use Rattle.std.specs.Prelude.{Err}
-use Rattle.xh_place.proofs.Seeing.{advanced, looked, seat_more, seat_same}
+use Rattle.xh_place.proofs.Seeing.{advanced, looked, starts_more, starts_same}
 use Rattle.xh_place.proofs.lots.accept_block.Goals as goal
 
 pub look-requires-clause-held : goal.look-requires-clause-held
@@ -31,7 +31,7 @@ pub returns-clause-seen : goal.returns-clause-seen
 returns-clause-seen c =
     let t = c.in_ok-accept.ensures.accepted in let old = c.args.seat.now in let mid = c.accept.new.seat in
     let at = has (did (Accept old.process c.args.r c.args.direction) old) mid c.args.r t.0 (ap bare t.1) c.in_ok-accept.ensures.fresh in
-    seat_more old mid c.look.new.seat (advanced _ old mid t.4) (seat_same mid c.look.new.seat (ap (λ (h : Held Body). h.front) (c.look.ensures t.0 at).1))
+    starts_more old.front (advanced _ old mid t.4) (starts_same (ap (λ h. h.front) (c.look.ensures t.0 at).1))
 
 pub returns-in_err-accept-clause-missing : goal.returns-in_err-accept-clause-missing
 returns-in_err-accept-clause-missing c =

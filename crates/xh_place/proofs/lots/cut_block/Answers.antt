@@ -1,8 +1,6 @@
-use Rattle.std.proofs.Common.{◌≡◌, ℕ, ◌-◌, ◌/◌, ◌<◌, List, length, refl, sym, ap, ◌∙◌, subst, inl}
+use Rattle.std.proofs.Common.{◌≡◌, ℕ, ◌-◌, ◌/◌, ◌<◌, length, refl, sym, ap, ◌∙◌, subst, inl}
 use Rattle.std.proofs.Math.Nat.{le_of_lt}
 use Rattle.std.specs.Prelude.{Some, slice_get}
-use Rattle.atomic_table.specs.Seated.{TableId}
-use Rattle.xh_arena.specs.Views.{LotOf}
 use Rattle.xh_records.specs.Seats.{IsRecord}
 use Rattle.xh_place.specs.inner.Lots.{IsCut}
 use Rattle.xh_place.specs.declared.body.Body.{Body}
@@ -10,8 +8,7 @@ use Rattle.xh_place.specs.declared.body.Body.TheVariants.{Data}
 use Rattle.xh_place.proofs.Gained.{undone}
 use Rattle.xh_place.proofs.Moves.{claims, vacates}
 use Rattle.xh_place.proofs.Parted.{Cutting, cutting, lent, is_cut}
-use Rattle.xh_records.specs.Seats.{Held}
-use Rattle.xh_place.proofs.Seeing.{advanced, no_record, seat_more, seat_same}
+use Rattle.xh_place.proofs.Seeing.{advanced, no_record, starts_more, starts_same}
 use Rattle.xh_place.proofs.lots.cut_block.Goals as goal
 use Rattle.xh_place.proofs.lots.cut_block.Goals.{In-Ok, After-rest_of}
 
@@ -21,7 +18,7 @@ same x y e = cc
 claimed : (g : _) (c : In-Ok g) → Cutting c.args.desk.now.records.now c.args.seat.now c.claim.new.seat c.args.r c.in-Ok.t c.requires.held.0 c.in-Ok.ensures.claimed.0
 claimed g c =
     let h = c.requires.held in let t = c.in-Ok.ensures.claimed in let all = c.args.desk.now.records.now in let there = subst (λ s. IsRecord s c.args.r) c.requires.own.1 h.2.exists in
-    cutting all c.args.seat.now c.claim.new.seat _ _ h.0 t.0 c.requires.own h.1 h.2 (subst (λ (z : ℕ). z < length all.shape.names) (sym c.in-Ok.ensures.record.0) there.0, c.in-Ok.ensures.record.1)
+    cutting all c.args.seat.now c.claim.new.seat _ _ h.0 t.0 c.requires.own h.1 h.2 (subst (λ z. z < length all.shape.names) (sym c.in-Ok.ensures.record.0) there.0, c.in-Ok.ensures.record.1)
     t.2 c.in-Ok.ensures.fresh (claims c.args.seat.now c.claim.new.seat _ _ _ t.1)
 
 read : (g : _) (c : After-rest_of g) → Cutting c.args.desk.now.records.now c.args.seat.now c.claim.new.seat c.args.r c.in-Ok.t c.requires.held.0 c.in-Ok.ensures.claimed.0
@@ -60,7 +57,7 @@ part-requires-clause-held g c =
     let h = c.requires.held in let t = c.in-Ok.ensures.claimed in let r : ℕ = c.args.r in let n : ℕ = c.in-Ok.t in let all = c.args.desk.now.records.now in let seat = c.args.seat.now in
     let at = goal.at.part-requires-clause-held g c in let j = read g at.After-rest_of (claimed g at.In-Ok) in
     let e : Some t.0.id ≡ Some h.0.id = sym t.2.1 ∙ ap (slice_get seat.shape.names) c.in-Ok.ensures.record.0 ∙ h.2.lot.1 in let ids = same t.0.id h.0.id e in
-    (h.0, t.0, j.head, j.tail, j.head_lot, j.tail_lot, ap (λ (z : List TableId). slice_get z (r / 256)) c.requires.names ∙ h.2.lot.1, ids, t.3.0, h.4, h.3.1, h.3.0)
+    (h.0, t.0, j.head, j.tail, j.head_lot, j.tail_lot, ap (λ z. slice_get z (r / 256)) c.requires.names ∙ h.2.lot.1, ids, t.3.0, h.4, h.3.1, h.3.0)
 
 pub returns-clause-cut : goal.returns-clause-cut
 returns-clause-cut g c = λ l here.
@@ -69,7 +66,7 @@ returns-clause-cut g c = λ l here.
     let p = c.part.ensures.parted h.0 t.0 j.head j.tail in let b : Body = Data c.in-Some.buffer in
     let cut = is_cut all seat c.rest_of.new.seat c.part.new.seat r n c.args.k h.0 t.0 p.0 (record t.0 { len = h.0.len - c.args.k; body = b }) b j c.in-Ok.ensures.fresh h.2 t.2
     (subst (λ s. IsRecord s n) (sym c.requires.own.1) j.exist.1) h.3 h.4 c.in-Ok.ensures.record.0 p.1 p.2 refl (c.in-Some.ensures h.0 (claimed g at.In-Ok).head).0 p.3 in
-    subst (λ (z : LotOf Body). IsCut seat c.part.new.seat r c.args.k z n) (same h.0 l (sym h.1 ∙ here)) cut
+    subst (λ z. IsCut seat c.part.new.seat r c.args.k z n) (same h.0 l (sym h.1 ∙ here)) cut
 
 pub returns-in_default-clause-why : goal.returns-in_default-clause-why
 returns-in_default-clause-why g c = inl (refl, no_record (c.args.r / 256) _ c.args.seat.now c.claim.new.seat c.in_default.ensures.seen)
@@ -78,14 +75,11 @@ pub returns-in_default-rest_of-clause-seen : goal.returns-in_default-rest_of-cla
 returns-in_default-rest_of-clause-seen g c =
     let seat = c.args.seat.now in let mid = c.claim.new.seat in let lent = c.rest_of.new.seat in
     let k = claimed g (goal.at.returns-in_default-rest_of-clause-seen g c).In-Ok in
-    seat_more seat mid c.vacate.new.seat (advanced _ seat mid c.in-Ok.ensures.claimed.4)
-    (seat_more mid lent c.vacate.new.seat (seat_same mid lent (ap (λ (h : Held Body). h.front) (c.rest_of.ensures _ k.head).1)) (advanced _ lent c.vacate.new.seat c.vacate.ensures.vacated.1))
+    starts_more seat.front (advanced _ seat mid c.in-Ok.ensures.claimed.4) (starts_more mid.front (starts_same (ap (λ h. h.front) (c.rest_of.ensures _ k.head).1)) (advanced _ lent c.vacate.new.seat c.vacate.ensures.vacated.1))
 
 pub returns-clause-seen : goal.returns-clause-seen
 returns-clause-seen g c =
     let h = c.requires.held in let t = c.in-Ok.ensures.claimed in
     let seat = c.args.seat.now in let mid = c.claim.new.seat in let lent = c.rest_of.new.seat in
     let at = goal.at.returns-clause-seen g c in let k = claimed g at.In-Ok in let j = read g at.After-rest_of k in
-    seat_more seat mid c.part.new.seat (advanced _ seat mid t.4)
-    (seat_more mid lent c.part.new.seat (seat_same mid lent (ap (λ (z : Held Body). z.front) (c.rest_of.ensures _ k.head).1))
-    (seat_same lent c.part.new.seat (ap (λ (z : Held Body). z.front) (c.part.ensures.parted h.0 t.0 j.head j.tail).3)))
+    starts_more seat.front (advanced _ seat mid t.4) (starts_more mid.front (starts_same (ap (λ z. z.front) (c.rest_of.ensures _ k.head).1)) (starts_same (ap (λ z. z.front) (c.part.ensures.parted h.0 t.0 j.head j.tail).3)))

@@ -1,12 +1,9 @@
-use Rattle.std.proofs.Common.{rules, sym, ap, ◌∙◌, subst, []}
+use Rattle.std.proofs.Common.{rules, sym, ap, ◌∙◌, subst}
 use Rattle.std.specs.Prelude.{Some}
 use Rattle.xh_model.specs.declared.event.Holder.TheVariants.{Process}
 use Rattle.xh_model.specs.Words.{word_of}
-use Rattle.xh_records.specs.Seats.{Held, IsRecord}
-use Rattle.xh_place.specs.declared.body.Body.{Body}
-use Rattle.xh_place.specs.inner.Lots.{bare}
+use Rattle.xh_records.specs.Seats.{IsRecord}
 use Rattle.xh_place.proofs.Holding.{word_holds}
-use Rattle.xh_place.proofs.Seeing.{advanced}
 use Rattle.xh_place.proofs.lots.holds.Goals as goal
 
 pub returns-clause-holds : goal.returns-clause-holds
@@ -15,7 +12,4 @@ returns-clause-holds c =
     let exists : IsRecord c.args.records.now.shape c.args.r = search rules in
     word_holds c.args.seat.now c.args.r c.owner_word.result c.encode.result (subst (λ s. IsRecord s c.args.r) (sym shape) exists) c.requires.exist
     c.owner_word.ensures.0.0
-    (c.encode.ensures ∙ ap (λ p. word_of (Some (Process p))) (c.process.ensures ∙ ap (λ (h : Held Body). h.process) c.owner_word.ensures.1.0))
-
-pub returns-clause-same : goal.returns-clause-same
-returns-clause-same c = (ap bare c.owner_word.ensures.1.0, advanced [] c.args.seat.now c.owner_word.new.seat c.owner_word.ensures.1.1)
+    (c.encode.ensures ∙ ap (λ p. word_of (Some (Process p))) (c.process.ensures ∙ ap (λ h. h.process) c.owner_word.ensures.1.0))

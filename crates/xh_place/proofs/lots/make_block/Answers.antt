@@ -1,14 +1,11 @@
 use Rattle.std.proofs.Common.{rules, ℕ, refl, sym, ap, ◌∙◌, replicate, subst, ◌++◌, ◌∷◌, []}
 use Rattle.std.proofs.lemmas.List.{length-replicate}
-use Rattle.xh_records.specs.Seats.{Held, IsRecord}
-use Rattle.xh_place.specs.declared.body.Body.{Body}
+use Rattle.xh_records.specs.Seats.{IsRecord}
 use Rattle.xh_place.specs.inner.Lots.{HasNow, bare}
-use Rattle.xh_place.specs.Tallies.{took}
 use Rattle.xh_place.specs.Bodies.{bytes}
-use Rattle.xh_place.proofs.Desks.{still_at}
 use Rattle.xh_place.proofs.Gained.{has, undone, changed, lot_is, fits_bytes}
 use Rattle.xh_place.proofs.Moves.{claims, vacates}
-use Rattle.xh_place.proofs.Seeing.{advanced, no_record, seat_more, seat_same}
+use Rattle.xh_place.proofs.Seeing.{advanced, no_record, starts_more, starts_same}
 use Rattle.xh_place.proofs.lots.make_block.Goals as goal
 
 pub vacate-requires-clause-held : goal.vacate-requires-clause-held
@@ -22,12 +19,6 @@ returns-in_default-zeros-clause-refused g c = let t = c.in-Ok.ensures.claimed in
   refl,
 )
 
-pub fill-filled-requires-clause-at : goal.fill-filled-requires-clause-at
-fill-filled-requires-clause-at g c =
-    let now = claims c.args.seat.now c.claim.new.seat _ _ _ c.in-Ok.ensures.claimed.1 in
-    still_at g.V.Vaults.names g.V.Vaults.extent c.args.desk.now c.args.desk.now c.args.desk.now c.args.seat.now c.claim.new.seat (refl, refl, refl, refl, refl, refl)
-    (ap (λ (h : Held Body). h.table) now) (ap (λ (h : Held Body). h.shape) now) c.requires.at
-
 pub fill-filled-requires-clause-held : goal.fill-filled-requires-clause-held
 fill-filled-requires-clause-held g c =
     let t = c.in-Ok.ensures.claimed in let r : ℕ = c.in-Ok.r in let now = claims c.args.seat.now c.claim.new.seat _ _ _ t.1 in
@@ -35,15 +26,9 @@ fill-filled-requires-clause-held g c =
       t.0,
       has c.args.seat.now c.claim.new.seat r t.0 now c.in-Ok.ensures.fresh,
       t.3.0,
-      subst (λ s. IsRecord s r) (sym (ap (λ (h : Held Body). h.shape) now)) there,
+      subst (λ s. IsRecord s r) (sym (ap (λ h. h.shape) now)) there,
       lot_is c.args.seat.now c.claim.new.seat r t.0 now c.in-Ok.ensures.fresh t.2,
     )
-
-pub vacate-requires-2-clause-own : goal.vacate-requires-2-clause-own
-vacate-requires-2-clause-own g c =
-    let same = ap bare c.in-Err.ensures.refused.0 ∙ claims c.args.seat.now c.claim.new.seat _ _ _ c.in-Ok.ensures.claimed.1 in
-    (still_at g.V.Vaults.names g.V.Vaults.extent c.args.desk.now c.fill-filled.new.desk c.fill-filled.new.desk c.args.seat.now c.fill-filled.new.seat c.fill-filled.ensures.same
-    (ap (λ (h : Held Body). h.table) same) (ap (λ (h : Held Body). h.shape) same) c.requires.at).0
 
 pub vacate-requires-2-clause-held : goal.vacate-requires-2-clause-held
 vacate-requires-2-clause-held g c =
@@ -77,9 +62,6 @@ returns-in_default-filled-clause-block g c =
       ap bytes c.in-Some.ensures,
     )
 
-pub returns-in_default-filled-clause-taken : goal.returns-in_default-filled-clause-taken
-returns-in_default-filled-clause-taken g c = c.in_default-filled.ensures.taken ∙ ap (λ (a : ℕ). took a c.args.n c.args.desk.now.tallies.now) c.in-Ok.ensures.record.0
-
 pub returns-in_default-clause-why : goal.returns-in_default-clause-why
 returns-in_default-clause-why g c = (refl, no_record c.args.arena _ c.args.seat.now c.claim.new.seat c.in_default.ensures.seen)
 
@@ -87,5 +69,4 @@ pub returns-in_default-filled-clause-seen : goal.returns-in_default-filled-claus
 returns-in_default-filled-clause-seen g c =
     let t = c.in-Ok.ensures.claimed in let mid = c.claim.new.seat in let now = claims c.args.seat.now mid _ _ _ t.1 in
     let at = has c.args.seat.now mid c.in-Ok.r t.0 now c.in-Ok.ensures.fresh in
-    seat_more c.args.seat.now mid c.fill-filled.new.seat (advanced _ c.args.seat.now mid t.4)
-    (seat_same mid c.fill-filled.new.seat (ap (λ (h : Held Body). h.front) (c.in_default-filled.ensures.seat t.0 at)))
+    starts_more c.args.seat.now.front (advanced _ c.args.seat.now mid t.4) (starts_same (ap (λ h. h.front) (c.in_default-filled.ensures.seat t.0 at)))

@@ -2,33 +2,24 @@ use Rattle.std.proofs.Common.{arith, ◌≡◌, ℕ, refl, sym, ap, ◌∙◌, s
 use Rattle.std.specs.Prelude.{Some, slice_get}
 use Rattle.xh_model.specs.Keyed.{put, value_at, without}
 use Rattle.xh_records.specs.Showing.{IsLotOf}
-use Rattle.xh_records.specs.Seats.{Held, IsRecord, with_lots}
-use Rattle.xh_place.specs.declared.body.Body.{Body}
+use Rattle.xh_records.specs.Seats.{IsRecord, with_lots}
 use Rattle.xh_place.specs.declared.body.Body.TheVariants.{End}
 use Rattle.xh_place.specs.inner.Lots.{bare}
-use Rattle.xh_place.specs.Tallies.{took}
-use Rattle.xh_place.proofs.Desks.{still_at}
 use Rattle.xh_place.proofs.Opened.{both_gone, both_put, has_first, has_other}
-use Rattle.xh_place.proofs.Seeing.{seat_more, seat_same}
+use Rattle.xh_place.proofs.Seeing.{starts_more, starts_same}
 use Rattle.xh_place.proofs.opening.make_ends.Goals as goal
-
-pub fit_ends-fitted-requires-clause-at : goal.fit_ends-fitted-requires-clause-at
-fit_ends-fitted-requires-clause-at g c =
-    let now = c.in-Some.ensures.claimed.2.two.lots in
-    still_at g.V.Vaults.names g.V.Vaults.extent c.args.desk.now c.args.desk.now c.args.desk.now c.args.seat.now c.claim_two.new.seat (refl, refl, refl, refl, refl, refl)
-    (ap (λ (h : Held Body). h.table) now) (ap (λ (h : Held Body). h.shape) now) c.requires.at
 
 pub fit_ends-fitted-requires-clause-held : goal.fit_ends-fitted-requires-clause-held
 fit_ends-fitted-requires-clause-held g c =
     let k = c.in-Some.ensures.claimed in let r : ℕ = c.in-Some.r in let q : ℕ = c.in-Some.t in let l = k.0 in let m = k.1 in let two = k.2.two in
-    let shape = sym (ap (λ (h : Held Body). h.shape) two.lots) in let names = c.args.seat.now.shape.names in
+    let shape = sym (ap (λ h. h.shape) two.lots) in let names = c.args.seat.now.shape.names in
     let ids : Some m.id ≡ Some l.id = sym k.2.second.1.1 ∙ ap (slice_get names) (two.second_arena ∙ sym two.first_arena) ∙ k.2.first.1.1 in
     let near : m.id ≡ l.id = cc in (
       l,
       m,
       record {
-        first = (has_first c.args.arena c.args.seat.now c.claim_two.new.seat r q l m two, subst (λ s. IsRecord s r) shape k.2.first.0, subst (λ s. IsLotOf s r l) shape k.2.first.1);
-        second = (has_other c.args.arena c.args.seat.now c.claim_two.new.seat r q l m two, subst (λ s. IsRecord s q) shape k.2.second.0, subst (λ s. IsLotOf s q m) shape k.2.second.1);
+        first = (has_first two, subst (λ s. IsRecord s r) shape k.2.first.0, subst (λ s. IsLotOf s r l) shape k.2.first.1);
+        second = (has_other two, subst (λ s. IsRecord s q) shape k.2.second.0, subst (λ s. IsLotOf s q m) shape k.2.second.1);
         apart = two.apart;
         near = near;
         empty = (k.2.first.2.0, k.2.second.2.0);
@@ -38,9 +29,9 @@ fit_ends-fitted-requires-clause-held g c =
 pub returns-in_default-fitted-clause-made : goal.returns-in_default-fitted-clause-made
 returns-in_default-fitted-clause-made g c =
     let k = c.in-Some.ensures.claimed in let r : ℕ = c.in-Some.r in let q : ℕ = c.in-Some.t in let l = k.0 in let m = k.1 in let two = k.2.two in let lots = c.args.seat.now.lots in
-    let fitted = c.in_default-fitted.ensures.fitted l m (has_first c.args.arena c.args.seat.now c.claim_two.new.seat r q l m two) (has_other c.args.arena c.args.seat.now c.claim_two.new.seat r q l m two) in
+    let fitted = c.in_default-fitted.ensures.fitted l m (has_first two) (has_other two) in
     let l' = record l { len = 32; body = End c.args.low } in let m' = record m { len = 32; body = End c.args.high } in
-    let now = ap bare fitted ∙ ap (λ (h : Held Body). with_lots h (put q m' (put r l' h.lots))) two.lots
+    let now = ap bare fitted ∙ ap (λ h. with_lots h (put q m' (put r l' h.lots))) two.lots
     ∙ ap (with_lots (bare c.args.seat.now)) (both_put lots r q two.first_fresh two.second_fresh two.apart l m l' m') in (
       l',
       m',
@@ -53,25 +44,13 @@ returns-in_default-fitted-clause-made g c =
       refl,
     )
 
-pub vacate_two-requires-clause-own : goal.vacate_two-requires-clause-own
-vacate_two-requires-clause-own g c =
-    let k = c.in-Some.ensures.claimed in let r : ℕ = c.in-Some.r in let q : ℕ = c.in-Some.t in let two = k.2.two in
-    let same = ap bare c.in-Err.ensures.refused.0 ∙ two.lots in let shape = ap (λ (h : Held Body). h.shape) same in
-    let own = (still_at g.V.Vaults.names g.V.Vaults.extent c.args.desk.now c.fit_ends-fitted.new.desk c.fit_ends-fitted.new.desk c.args.seat.now c.fit_ends-fitted.new.seat
-    c.fit_ends-fitted.ensures.same (ap (λ (h : Held Body). h.table) same) shape c.requires.at).0 in (
-      own,
-      subst (λ z. IsRecord z r) (sym shape ∙ own.1) k.2.first.0,
-      subst (λ z. IsRecord z q) (sym shape ∙ own.1) k.2.second.0,
-      (λ e. two.apart (sym e)),
-    )
-
 pub vacate_two-requires-clause-held : goal.vacate_two-requires-clause-held
 vacate_two-requires-clause-held g c =
     let k = c.in-Some.ensures.claimed in let r : ℕ = c.in-Some.r in let q : ℕ = c.in-Some.t in let l = k.0 in let m = k.1 in let two = k.2.two in let same = c.in-Err.ensures.refused.0 in (
       l,
       m,
-      ap (λ (h : Held Body). value_at r h.lots) same ∙ has_first c.args.arena c.args.seat.now c.claim_two.new.seat r q l m two,
-      ap (λ (h : Held Body). value_at q h.lots) same ∙ has_other c.args.arena c.args.seat.now c.claim_two.new.seat r q l m two,
+      ap (λ h. value_at r h.lots) same ∙ has_first two,
+      ap (λ h. value_at q h.lots) same ∙ has_other two,
       k.2.first.2,
       k.2.second.2,
     )
@@ -79,18 +58,15 @@ vacate_two-requires-clause-held g c =
 pub returns-clause-refused : goal.returns-clause-refused
 returns-clause-refused g c =
     let k = c.in-Some.ensures.claimed in let r : ℕ = c.in-Some.r in let q : ℕ = c.in-Some.t in let two = k.2.two in let f = c.in-Err.ensures.refused in (
-      c.vacate_two.ensures.free ∙ ap (λ (h : Held Body). with_lots (bare h) (without r (without q h.lots))) f.0 ∙ ap (λ (h : Held Body). with_lots h (without r (without q h.lots))) two.lots
+      c.vacate_two.ensures.free ∙ ap (λ h. with_lots (bare h) (without r (without q h.lots))) f.0 ∙ ap (λ h. with_lots h (without r (without q h.lots))) two.lots
           ∙ ap (with_lots (bare c.args.seat.now)) (both_gone c.args.seat.now.lots r q two.first_fresh two.second_fresh two.apart k.0 k.1),
       f.1,
       f.2,
       f.3,
     )
 
-pub returns-in_default-fitted-clause-taken : goal.returns-in_default-fitted-clause-taken
-returns-in_default-fitted-clause-taken g c = c.in_default-fitted.ensures.taken ∙ ap (λ (a : ℕ). took a 64 c.args.desk.now.tallies.now) c.in-Some.ensures.claimed.2.two.first_arena
-
 pub returns-in_default-fitted-clause-seen : goal.returns-in_default-fitted-clause-seen
 returns-in_default-fitted-clause-seen g c =
     let k = c.in-Some.ensures.claimed in let r : ℕ = c.in-Some.r in let q : ℕ = c.in-Some.t in let l = k.0 in let m = k.1 in let two = k.2.two in let mid = c.claim_two.new.seat in
-    let fitted = c.in_default-fitted.ensures.fitted l m (has_first c.args.arena c.args.seat.now mid r q l m two) (has_other c.args.arena c.args.seat.now mid r q l m two) in
-    seat_more c.args.seat.now mid c.fit_ends-fitted.new.seat c.claim_two.ensures.seen (seat_same mid c.fit_ends-fitted.new.seat (ap (λ (h : Held Body). h.front) fitted))
+    let fitted = c.in_default-fitted.ensures.fitted l m (has_first two) (has_other two) in
+    starts_more c.args.seat.now.front c.claim_two.ensures.seen (starts_same (ap (λ h. h.front) fitted))

@@ -1,13 +1,12 @@
 use Rattle.std.proofs.Common.{arith, ◌≡◌, ℕ, ◌+◌, ◌-◌, length, length-append, refl, sym, subst, ap, ◌∙◌, ◌++◌}
-use Rattle.std.specs.Prelude.{Option}
 use Rattle.xh_core.specs.Calls.{reclaimed, end_tests}
 use Rattle.xh_model.specs.declared.limits.TheConstants.{MAX_BUDGET}
 use Rattle.xh_model.specs.Keyed.{value_at, without}
 use Rattle.xh_place.specs.Ending.{IsSwept, alone, last, HasGivenBack, IsClosed}
-use Rattle.xh_place.specs.Places.{Item, PlaceOf, with_blocks, with_list, found}
+use Rattle.xh_place.specs.Places.{PlaceOf, with_blocks, with_list, found}
 use Rattle.xh_place.specs.Seen.{IsSeen}
 use Rattle.xh_place.proofs.Ended.{unrefused}
-use Rattle.xh_place.proofs.Seeing.{seen_wide, starts_same, stays_more, swept_as}
+use Rattle.xh_place.proofs.Seeing.{seen_wide, starts_same, starts_more, swept_as}
 use Rattle.xh_place.specs.Starts.{start}
 use Rattle.xh_place.proofs.place.Place.close_end.Goals as goal
 
@@ -16,22 +15,22 @@ returns-clause-closed g c =
     let old = c.args.self.now in let mid = c.test_end.new.self in let turned = c.move_last.new.self in let new = c.sweep-bytes.new.self in let e : ℕ = c.args.e in
     let bytes : ℕ = c.sweep-bytes.result.0 in let left : ℕ = c.sweep-bytes.result.1 in let same = c.in_ok-test_end.ensures.same in let tested = c.in_ok-test_end.ensures.tested in
     let from : ℕ = c.count-from.result - 1 in let ahead : ℕ = length (without e old.place.blocks) in let begun : PlaceOf = with_blocks old.place (last e old.place.blocks) in
-    let moved : turned.place ≡ begun = c.move_last.ensures.0 ∙ ap (λ (p : PlaceOf). with_blocks p (last e p.blocks)) same.0 in
-    let long : length turned.place.blocks ≡ ahead + 1 = ap (λ (p : PlaceOf). length p.blocks) moved
-    ∙ length-append (without e old.place.blocks) (alone e (value_at e old.place.blocks)) ∙ ap (λ (o : Option Item). ahead + length (alone e o)) tested.1.1.1 in
+    let moved : turned.place ≡ begun = c.move_last.ensures.0 ∙ ap (λ p. with_blocks p (last e p.blocks)) same.0 in
+    let long : length turned.place.blocks ≡ ahead + 1 = ap (λ p. length p.blocks) moved
+    ∙ length-append (without e old.place.blocks) (alone e (value_at e old.place.blocks)) ∙ ap (λ o. ahead + length (alone e o)) tested.1.1.1 in
     let there : from ≡ ahead = omega (arith, c.count-from.ensures, long) in
     let is = c.sweep-bytes.ensures.swept in
     let wide = swept_as (IsSeen turned new) (IsSeen old new)
-    (seen_wide turned new old new (ap (λ (p : PlaceOf). p.shape) moved) (stays_more old mid turned same.1 c.move_last.ensures.1) (starts_same new.front new.front refl))
+    (seen_wide turned new old new (ap (λ p. p.shape) moved) (starts_more old.front same.1 c.move_last.ensures.1) (starts_same refl))
     from MAX_BUDGET turned.place new.place bytes left is in
-    let swept = subst (λ (p : PlaceOf). IsSwept (IsSeen old new) from MAX_BUDGET p new.place bytes left) moved wide in
+    let swept = subst (λ p. IsSwept (IsSeen old new) from MAX_BUDGET p new.place bytes left) moved wide in
     unrefused (start old.place.state ++ end_tests (found old.place e)) c.reclaimed.result ((new.place ≡ old.place) × (c.sweep-bytes.new.desk.tallies.now ≡ c.args.desk.now.tallies.now))
     ((n : ℕ) × IsClosed e old new n c.reclaimed.result × HasGivenBack n c.args.desk.now.tallies.now c.sweep-bytes.new.desk.tallies.now) tested.0 (
       bytes,
       (
         left,
-        subst (λ (n : ℕ). IsSwept (IsSeen old new) n MAX_BUDGET begun new.place bytes left) there swept,
-        c.sweep-bytes.ensures.list.0 ∙ ap (λ (p : PlaceOf). with_list p new.place) moved,
+        subst (λ n. IsSwept (IsSeen old new) n MAX_BUDGET begun new.place bytes left) there swept,
+        c.sweep-bytes.ensures.list.0 ∙ ap (λ p. with_list p new.place) moved,
         c.reclaimed.ensures ∙ ap (reclaimed bytes) (c.left.ensures.left ∙ sym is.rest),
       ),
       c.sweep-bytes.ensures.back,

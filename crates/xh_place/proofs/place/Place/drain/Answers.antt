@@ -1,19 +1,10 @@
-use Rattle.std.proofs.Common.{arith, ◌≡◌, ◌+◌, [], ◌∷◌, ◌++◌, length, length-append, refl, sym, ap, ◌∙◌}
+use Rattle.std.proofs.Common.{arith, ◌≡◌, ◌+◌, [], ◌∷◌, ◌++◌, length, length-append, refl, ap}
 use Rattle.xh_model.proofs.Keyed.{put_same}
-use Rattle.xh_core.specs.Statuses.{is_over}
 use Rattle.xh_place.specs.Ends.{end_block}
-use Rattle.xh_place.specs.Places.{PlaceOf}
 use Rattle.xh_place.proofs.Drained.{drained, drained_all, draining_at, draining_more, draining_none, draining_as, takes_as}
-use Rattle.xh_place.proofs.Seeing.{seen_wide, starts_same, stays_more}
+use Rattle.xh_place.proofs.Seeing.{seen_wide, starts_same, starts_more}
 use Rattle.xh_place.specs.Seen.{IsSeen}
 use Rattle.xh_place.proofs.place.Place.drain.Goals as goal
-
-pub take_message-requires-clause-own : goal.take_message-requires-clause-own
-take_message-requires-clause-own g c =
-    let is = c.loop-count.invariant.1.list in (ap (λ (p : PlaceOf). p.table) is ∙ c.requires.own.0, ap (λ (p : PlaceOf). p.shape) is ∙ c.requires.own.1)
-
-pub take_message-requires-clause-alive : goal.take_message-requires-clause-alive
-take_message-requires-clause-alive g c = λ e. c.requires.alive (ap (λ (p : PlaceOf). is_over p.state) (sym c.loop-count.invariant.1.list) ∙ e)
 
 pub take_message-requires-clause-end : goal.take_message-requires-clause-end
 take_message-requires-clause-end g c =
@@ -23,25 +14,22 @@ take_message-requires-clause-end g c =
 pub loop-count-init : goal.loop-count-init
 loop-count-init g c =
     let q = c.requires.end in let old = c.args.self.now in
-    ([], draining_none (IsSeen old old) c.args.e q.0 old.place q.1 (put_same c.args.e (end_block q.0) old.place.blocks q.1), refl, starts_same old.front old.front refl)
+    ([], draining_none (IsSeen old old) c.args.e q.0 old.place q.1 (put_same c.args.e (end_block q.0) old.place.blocks q.1), refl, starts_same refl)
 
 pub loop-count-preserved : goal.loop-count-preserved
 loop-count-preserved g c =
     let i = c.loop-count.invariant in let old = c.args.self.now in let mid = c.loop-count.self in let new = c.take_message.new.self in let after = c.take_message.ensures.place.3 in
-    let was = draining_as (IsSeen old mid) (IsSeen old new) (seen_wide old mid old new refl (starts_same old.front old.front refl) after) c.args.e i.0 old.place mid.place i.1 in
-    let t = takes_as (IsSeen mid new) (IsSeen old new) (seen_wide mid new old new (ap (λ (p : PlaceOf). p.shape) i.1.list) i.3 (starts_same new.front new.front refl)) c.args.e mid.place new.place _
+    let was = draining_as (IsSeen old mid) (IsSeen old new) (seen_wide old mid old new refl (starts_same refl) after) c.args.e i.0 old.place mid.place i.1 in
+    let t = takes_as (IsSeen mid new) (IsSeen old new) (seen_wide mid new old new (ap (λ p. p.shape) i.1.list) i.3 (starts_same refl)) c.args.e mid.place new.place _
     c.in-Ok.ensures.taken in
     let long : length (i.0 ++ t.1 ∷ []) ≡ length i.0 + 1 = length-append i.0 (t.1 ∷ []) in
-    (i.0 ++ t.1 ∷ [], draining_more (IsSeen old new) c.args.e i.0 old.place mid.place was new.place _ t, omega (arith, long, i.2), stays_more old mid new i.3 after)
+    (i.0 ++ t.1 ∷ [], draining_more (IsSeen old new) c.args.e i.0 old.place mid.place was new.place _ t, omega (arith, long, i.2), starts_more old.front i.3 after)
 
 pub returns-in-Err-clause-drained : goal.returns-in-Err-clause-drained
 returns-in-Err-clause-drained g c =
     let i = c.loop-count.invariant in let old = c.args.self.now in let mid = c.loop-count.self in let new = c.take_message.new.self in
-    let was = draining_as (IsSeen old mid) (IsSeen old new) (seen_wide old mid old new refl (starts_same old.front old.front refl) c.take_message.ensures.place.3) c.args.e i.0 old.place mid.place i.1 in
+    let was = draining_as (IsSeen old mid) (IsSeen old new) (seen_wide old mid old new refl (starts_same refl) c.take_message.ensures.place.3) c.args.e i.0 old.place mid.place i.1 in
     drained (IsSeen old new) c.args.e i.0 old.place mid.place was new.place _ c.in-Err.ensures.taken
-
-pub returns-in-Err-clause-seen : goal.returns-in-Err-clause-seen
-returns-in-Err-clause-seen g c = stays_more c.args.self.now c.loop-count.self c.take_message.new.self c.loop-count.invariant.3 c.take_message.ensures.place.3
 
 pub returns-clause-drained : goal.returns-clause-drained
 returns-clause-drained g c =

@@ -2,49 +2,29 @@ use Rattle.std.proofs.Common.{◌≡◌, sym, ap, ◌∙◌, subst, refl}
 use Rattle.std.specs.Prelude.{Some}
 use Rattle.xh_model.specs.Keyed.{value_at, put}
 use Rattle.xh_model.proofs.Keyed.{put_at}
-use Rattle.xh_core.specs.declared.header.Header.{Header}
-use Rattle.xh_core.specs.Statuses.{is_over}
 use Rattle.xh_place.specs.Ends.{end_block}
 use Rattle.xh_place.specs.inner.Reclaiming.{Clears}
-use Rattle.xh_place.specs.Places.{PlaceOf, header_of, entry_of, with_blocks}
+use Rattle.xh_place.specs.Places.{header_of, entry_of, with_blocks}
 use Rattle.xh_place.proofs.Drained.{cleared, cleared_bytes}
-use Rattle.xh_place.proofs.Seeing.{drains_as, seen_wide, starts_same, stays_more}
+use Rattle.xh_place.proofs.Seeing.{drains_as, seen_wide, starts_same, starts_more}
 use Rattle.xh_place.specs.Seen.{IsSeen}
 use Rattle.xh_place.proofs.place.Place.drain_end.Goals as goal
-
-pub shut-requires-clause-end : goal.shut-requires-clause-end
-shut-requires-clause-end g c =
-    let q = c.requires.listed in
-    let both : Some c.look.result ≡ Some (header_of q.0) = c.look.ensures.header ∙ ap entry_of q.1 in let one : c.look.result ≡ header_of q.0 = cc in
-    (q.0, ap (λ (p : PlaceOf). value_at c.args.r p.blocks) c.look.ensures.same.0 ∙ q.1, sym (ap (λ (h : Header). h.kind) one) ∙ c.in-End.is)
-
-pub drain-requires-clause-own : goal.drain-requires-clause-own
-drain-requires-clause-own g c =
-    let s = c.shut.ensures.shut.3 in let same = c.look.ensures.same.0 in
-    (ap (λ (p : PlaceOf). p.table) s ∙ ap (λ (p : PlaceOf). p.table) same ∙ c.requires.own.0, ap (λ (p : PlaceOf). p.shape) s ∙ ap (λ (p : PlaceOf). p.shape) same ∙ c.requires.own.1)
-
-pub drain-requires-clause-alive : goal.drain-requires-clause-alive
-drain-requires-clause-alive g c = λ e. c.requires.alive (ap (λ (p : PlaceOf). is_over p.state) (sym c.look.ensures.same.0) ∙ ap (λ (p : PlaceOf). is_over p.state) (sym c.shut.ensures.shut.3) ∙ e)
 
 pub drain-requires-clause-end : goal.drain-requires-clause-end
 drain-requires-clause-end g c =
     let s = c.shut.ensures.shut in
-    (s.1, ap (λ (p : PlaceOf). value_at c.args.r p.blocks) s.3 ∙ put_at c.args.r (end_block s.1) (end_block s.0) c.look.new.self.place.blocks s.2)
+    (s.1, ap (λ p. value_at c.args.r p.blocks) s.3 ∙ put_at c.args.r (end_block s.1) (end_block s.0) c.look.new.self.place.blocks s.2)
 
 pub returns-clause-cleared : goal.returns-clause-cleared
 returns-clause-cleared g c =
     let old = c.args.self.now in let look = c.look.new.self in let shut = c.shut.new.self in let new = c.drain.new.self in let same = c.look.ensures.same in
-    let shape : shut.place.shape ≡ old.place.shape = ap (λ (p : PlaceOf). p.shape) (c.shut.ensures.shut.3 ∙ ap (λ (p : PlaceOf). with_blocks p (put c.args.r (end_block c.shut.ensures.shut.1) p.blocks)) same.0) in
-    let wide = seen_wide shut new old new shape (stays_more old look shut same.1 c.shut.ensures.seen) (starts_same new.front new.front refl) in
-    subst (λ (p : PlaceOf). Clears (IsSeen old new) c.args.r p new.place) same.0
+    let shape : shut.place.shape ≡ old.place.shape = ap (λ p. p.shape) (c.shut.ensures.shut.3 ∙ ap (λ p. with_blocks p (put c.args.r (end_block c.shut.ensures.shut.1) p.blocks)) same.0) in
+    let wide = seen_wide shut new old new shape (starts_more old.front same.1 c.shut.ensures.seen) (starts_same refl) in
+    subst (λ p. Clears (IsSeen old new) c.args.r p new.place) same.0
     (cleared (IsSeen old new) c.args.r look.place shut.place new.place c.shut.ensures.shut (drains_as (IsSeen shut new) (IsSeen old new) wide c.args.r shut.place new.place c.drain.ensures.drained))
-
-pub returns-clause-seen : goal.returns-clause-seen
-returns-clause-seen g c =
-    stays_more c.args.self.now c.look.new.self c.drain.new.self c.look.ensures.same.1 (stays_more c.look.new.self c.shut.new.self c.drain.new.self c.shut.ensures.seen c.drain.ensures.seen)
 
 pub returns-in-Data-clause-cleared : goal.returns-in-Data-clause-cleared
 returns-in-Data-clause-cleared g c =
     let q = c.requires.listed in
     let both : Some c.look.result ≡ Some (header_of q.0) = c.look.ensures.header ∙ ap entry_of q.1 in let one : c.look.result ≡ header_of q.0 = cc in
-    cleared_bytes (IsSeen c.args.self.now c.look.new.self) c.args.r q.0 c.args.self.now.place c.look.new.self.place q.1 (sym (ap (λ (h : Header). h.kind) one) ∙ c.in-Data.is) c.look.ensures.same.0
+    cleared_bytes (IsSeen c.args.self.now c.look.new.self) c.args.r q.0 c.args.self.now.place c.look.new.self.place q.1 (sym (ap (λ h. h.kind) one) ∙ c.in-Data.is) c.look.ensures.same.0

@@ -1,7 +1,7 @@
-use Rattle.std.proofs.Common.{◌≡◌, List, ℕ, sym, subst, rules, ◌++◌, ◌∙◌}
+use Rattle.std.proofs.Common.{◌≡◌, ℕ, sym, subst, rules, ◌++◌, ◌∙◌}
 use Rattle.xh_model.specs.Keyed.{Among, Distinct, value_at}
 use Rattle.std.specs.Prelude.{Some, None}
-use Rattle.xh_place.specs.Places.{Item, PlaceOf, found as found_at}
+use Rattle.xh_place.specs.Places.{Item, found as found_at}
 use Rattle.xh_place.proofs.GiveTests.{fine}
 use Rattle.xh_core.specs.Calls.{end_tests, given_tests}
 use Rattle.xh_core.specs.Refusing.{first_refusal, Tests}
@@ -10,24 +10,24 @@ use Rattle.xh_place.specs.Seen.{Stays}
 use Rattle.xh_place.specs.Starts.{start}
 use Rattle.xh_place.proofs.Drained.{sent_from}
 use Rattle.xh_place.proofs.Ended.{unrefused}
-use Rattle.xh_place.proofs.Seeing.{stays_more}
+use Rattle.xh_place.proofs.Seeing.{starts_more}
 use Rattle.xh_place.proofs.place.Place.give.Goals as goal
 
 pub send-requires-clause-given : goal.send-requires-clause-given
 send-requires-clause-given g c = let t = c.in_ok-given.ensures.tested in
-    subst (λ (rs : List ℕ). Distinct rs × (Among rs c.args.e → ⊥)) (sym t.1) (fine c.test_end.new.self.place.blocks c.args.e c.args.blocks.now t.0).0
+    subst (λ rs. Distinct rs × (Among rs c.args.e → ⊥)) (sym t.1) (fine c.test_end.new.self.place.blocks c.args.e c.args.blocks.now t.0).0
 
 pub send-requires-clause-listed : goal.send-requires-clause-listed
 send-requires-clause-listed g c = let t = c.in_ok-given.ensures.tested in let same = c.in_ok-given.ensures.same.0 in
     let listed : (r : ℕ) → Among c.args.blocks.now r → (x : Item) × (value_at r c.test_given.new.self.place.blocks ≡ Some x) =
-    subst (λ (p : PlaceOf). (r : ℕ) → Among c.args.blocks.now r → (x : Item) × (value_at r p.blocks ≡ Some x)) (sym same) (fine c.test_end.new.self.place.blocks c.args.e c.args.blocks.now t.0).1 in
-    subst (λ (rs : List ℕ). (r : ℕ) → Among rs r → (x : Item) × (value_at r c.test_given.new.self.place.blocks ≡ Some x)) (sym t.1) listed
+    subst (λ p. (r : ℕ) → Among c.args.blocks.now r → (x : Item) × (value_at r p.blocks ≡ Some x)) (sym same) (fine c.test_end.new.self.place.blocks c.args.e c.args.blocks.now t.0).1 in
+    subst (λ rs. (r : ℕ) → Among rs r → (x : Item) × (value_at r c.test_given.new.self.place.blocks ≡ Some x)) (sym t.1) listed
 
 pub returns-clause-given : goal.returns-clause-given
 returns-clause-given g c =
     let old = c.args.self.now in let one = c.in_ok-test_end.ensures.same in let two = c.in_ok-given.ensures.same in
     let tests : Tests = start old.place.state ++ end_tests (found_at old.place c.args.e) ++ given_tests (is_listed old.place.blocks) c.args.e c.args.blocks.now in
     let passed : first_refusal tests ≡ None = search rules in
-    let same : Stays old c.test_given.new.self = (two.0 ∙ one.0, stays_more old c.test_end.new.self c.test_given.new.self one.1 two.1) in
+    let same : Stays old c.test_given.new.self = (two.0 ∙ one.0, starts_more old.front one.1 two.1) in
     unrefused tests c.send.result (c.send.new.self.place ≡ old.place) (IsSent c.args.e c.args.tag c.args.blocks.now old c.send.new.self c.send.result) passed (sent_from c.args.e c.args.tag c.args.blocks.now old c.test_given.new.self c.send.new.self c.send.result same
-    (subst (λ (rs : List ℕ). IsSent c.args.e c.args.tag rs c.test_given.new.self c.send.new.self c.send.result) c.in_ok-given.ensures.tested.1 c.send.ensures.sent))
+    (subst (λ rs. IsSent c.args.e c.args.tag rs c.test_given.new.self c.send.new.self c.send.result) c.in_ok-given.ensures.tested.1 c.send.ensures.sent))

@@ -1,6 +1,5 @@
 use Rattle.std.proofs.Common.{rules, ◌≡◌, true, sym, ap, ◌∙◌}
 use Rattle.xh_model.specs.Keyed.{value_at}
-use Rattle.xh_place.specs.Places.{PlaceOf}
 use Rattle.xh_place.proofs.GiveTests.{some_of}
 use Rattle.xh_place.proofs.place.Place.header.Goals as goal
 
@@ -8,4 +7,4 @@ pub look-requires-clause-listed : goal.look-requires-clause-listed
 look-requires-clause-listed c =
     let is : c.has.result ≡ true = search rules in
     let t = some_of (value_at c.args.r c.args.self.now.place.blocks) (sym c.has.ensures.has ∙ is) in
-    (t.0, ap (λ (p : PlaceOf). value_at c.args.r p.blocks) c.has.ensures.same.0 ∙ t.1)
+    (t.0, ap (λ p. value_at c.args.r p.blocks) c.has.ensures.same.0 ∙ t.1)

@@ -1,15 +1,11 @@
 use Rattle.std.proofs.Common.{rules, ◌≡◌, ◌≤◌, length, sym, ap, ◌∙◌}
-use Rattle.std.specs.Vec.{vec_capacity}
 use Rattle.xh_place.proofs.Steps.{list_few}
 use Rattle.xh_place.proofs.Listing.{shown_long}
 use Rattle.xh_place.proofs.Seeing.{placed}
 use Rattle.xh_place.proofs.place.Place.left.Goals as goal
 
 pub overflow_cast-result : goal.overflow_cast-result
-overflow_cast-result c =
-    let few : length c.self.inside.list.items ≤ 2048 =
-    list_few c.self.inside.seat c.self.inside.list.items (vec_capacity c.self.inside.list) c.self.inside.total c.self.inside.state c.self.invariant in
-    search rules
+overflow_cast-result c = let few : length c.self.inside.list.items ≤ 2048 = list_few c.self.inside.list.items c.self.invariant in search rules
 
 pub returns-clause-left : goal.returns-clause-left
 returns-clause-left c =

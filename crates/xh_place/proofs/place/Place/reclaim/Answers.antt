@@ -1,31 +1,19 @@
 use Rattle.std.proofs.Common.{arith, ℕ, ap, ◌∙◌, refl}
-use Rattle.xh_model.specs.Keyed.{put, value_at, without}
+use Rattle.xh_model.specs.Keyed.{put, value_at}
 use Rattle.xh_model.proofs.Keyed.{front_at, put_at}
-use Rattle.xh_place.specs.Bodies.{toward}
-use Rattle.xh_place.specs.Places.{PlaceOf}
-use Rattle.xh_place.proofs.Swept.{swept_clear, twice}
-use Rattle.xh_place.proofs.Seeing.{clears_as, seen_wide, starts_same, stays_more}
+use Rattle.xh_place.proofs.Swept.{swept_clear}
+use Rattle.xh_place.proofs.Seeing.{clears_as, seen_wide, starts_same}
 use Rattle.xh_place.specs.Seen.{IsSeen}
 use Rattle.xh_place.proofs.place.Place.reclaim.Goals as goal
-
-pub drain_end-requires-clause-listed : goal.drain_end-requires-clause-listed
-drain_end-requires-clause-listed g c = let b = c.at-r.ensures in (b.0, b.3)
 
 pub give_up-requires-clause-listed : goal.give_up-requires-clause-listed
 give_up-requires-clause-listed g c =
     let r : ℕ = c.at-r.result in let k = c.drain_end.ensures.cleared in let xs = c.args.self.now.place.blocks in
-    (k.1, ap (λ (p : PlaceOf). value_at r p.blocks) k.6 ∙ front_at r k.1 (put r k.1 xs) k.2 (put_at r k.1 k.0 xs k.3))
-
-pub returns-clause-list : goal.returns-clause-list
-returns-clause-list g c =
-    let old = c.args.self.now.place in let mid = c.drain_end.new.self.place in let r : ℕ = c.at-r.result in let k = c.drain_end.ensures.cleared in (
-      twice (toward k.0.content) old mid c.give_up.new.self.place (put r k.1 old.blocks) k.2 (without r mid.blocks) k.6 c.give_up.ensures.list.0,
-      stays_more c.args.self.now c.drain_end.new.self c.give_up.new.self c.drain_end.ensures.seen c.give_up.ensures.list.1,
-    )
+    (k.1, ap (λ p. value_at r p.blocks) k.6 ∙ front_at r k.1 (put r k.1 xs) k.2 (put_at r k.1 k.0 xs k.3))
 
 pub returns-clause-swept : goal.returns-clause-swept
 returns-clause-swept g c =
     let b = c.at-r.ensures in let old = c.args.self.now in let mid = c.drain_end.new.self in let new = c.give_up.new.self in let r : ℕ = c.at-r.result in
-    let clear = clears_as (IsSeen old mid) (IsSeen old new) (seen_wide old mid old new refl (starts_same old.front old.front refl) c.give_up.ensures.list.1) r old.place mid.place c.drain_end.ensures.cleared in
+    let clear = clears_as (IsSeen old mid) (IsSeen old new) (seen_wide old mid old new refl (starts_same refl) c.give_up.ensures.list.1) r old.place mid.place c.drain_end.ensures.cleared in
     swept_clear (IsSeen old new) c.args.from r c.give_up.result b.0 b.1 old.place mid.place new.place (omega (arith, c.requires.some)) b.2 b.3 clear
     c.give_up.ensures.once c.give_up.ensures.list.0 c.give_up.ensures.bytes.1

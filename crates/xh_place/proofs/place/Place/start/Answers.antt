@@ -1,10 +1,7 @@
 use Rattle.std.proofs.Common.{ap}
-use Rattle.std.specs.Vec.{vec_capacity}
 use Rattle.xh_core.specs.Statuses.{is_over}
-use Rattle.xh_place.specs.Places.{shown}
 use Rattle.xh_place.proofs.Steps.{holds_nothing}
 use Rattle.xh_place.proofs.place.Place.start.Goals as goal
 
 pub renew-requires-clause-empty : goal.renew-requires-clause-empty
-renew-requires-clause-empty c = holds_nothing c.self.inside.seat (shown c.self.inside.seat.lots c.self.inside.list.items) (vec_capacity c.self.inside.list) c.self.inside.total c.self.inside.state c.self.invariant
-    (ap is_over c.in-Ended.is)
+renew-requires-clause-empty c = holds_nothing c.self.invariant (ap is_over c.in-Ended.is)

@@ -1,23 +1,10 @@
 use Rattle.std.proofs.Common.{◌≡◌, arith, ℕ, ◌+◌, ◌<◌, length, refl, sym, ap, subst}
 use Rattle.xh_place.specs.Ending.{HasGivenBack, IsSweptBy}
-use Rattle.xh_place.specs.Places.{PlaceOf}
-use Rattle.xh_place.proofs.Swept.{gave_more, gave_nothing, started, swept_more, swept_none, twice_own}
+use Rattle.xh_place.proofs.Swept.{gave_more, started, swept_more, twice_own}
 use Rattle.xh_place.proofs.Desks.{same_again}
-use Rattle.xh_place.proofs.Seeing.{seen_wide, starts_same, stays_more, swept_by_as}
+use Rattle.xh_place.proofs.Seeing.{seen_wide, starts_same, starts_more, swept_by_as}
 use Rattle.xh_place.specs.Seen.{IsSeen}
 use Rattle.xh_place.proofs.place.Place.sweep.Goals as goal
-
-pub loop-used-init : goal.loop-used-init
-loop-used-init g c = let old = c.args.self.now in (
-  omega arith,
-  omega arith,
-  refl,
-  swept_none (IsSeen old old) c.args.from old.place,
-  (λ h. refl),
-  (refl, refl, refl, refl, refl, refl),
-  gave_nothing c.args.desk.now.tallies.now,
-  starts_same old.front old.front refl,
-)
 
 pub loop-used-preserved : goal.loop-used-preserved
 loop-used-preserved g c =
@@ -25,12 +12,12 @@ loop-used-preserved g c =
     let bytes : ℕ = c.from-bytes.result in let after = c.reclaim.ensures.list.1 in
     let some : from < length mid.place.blocks = omega arith in
     let inside : from < length old.place.blocks = started from old.place.blocks mid.place.blocks some i.4 in
-    let shape : mid.place.shape ≡ old.place.shape = ap (λ (p : PlaceOf). p.shape) i.2 in
-    let one = swept_by_as (IsSeen old mid) (IsSeen old new) (seen_wide old mid old new refl (starts_same old.front old.front refl) after) from used old.place mid.place c.loop-used.bytes i.3 in
-    let two = swept_by_as (IsSeen mid new) (IsSeen old new) (seen_wide mid new old new shape i.7 (starts_same new.front new.front refl)) from 1 mid.place new.place c.reclaim.result c.reclaim.ensures.swept in
+    let shape : mid.place.shape ≡ old.place.shape = ap (λ p. p.shape) i.2 in
+    let one = swept_by_as (IsSeen old mid) (IsSeen old new) (seen_wide old mid old new refl (starts_same refl) after) from used old.place mid.place c.loop-used.bytes i.3 in
+    let two = swept_by_as (IsSeen mid new) (IsSeen old new) (seen_wide mid new old new shape i.7 (starts_same refl)) from 1 mid.place new.place c.reclaim.result c.reclaim.ensures.swept in
     let by : IsSweptBy (IsSeen old new) from (used + 1) old.place new.place (c.loop-used.bytes + bytes) =
     swept_more (IsSeen old new) from used 1 c.loop-used.bytes bytes old.place mid.place new.place (omega (arith, inside))
-    (ap (λ (p : PlaceOf). p.process) i.2) one (subst (λ (n : ℕ). IsSweptBy (IsSeen old new) from 1 mid.place new.place n) (sym c.from-bytes.ensures) two) in (
+    (ap (λ p. p.process) i.2) one (subst (λ n. IsSweptBy (IsSeen old new) from 1 mid.place new.place n) (sym c.from-bytes.ensures) two) in (
       omega arith,
       omega (arith, i.1),
       twice_own old.place mid.place new.place i.2 c.reclaim.ensures.list.0,
@@ -38,6 +25,6 @@ loop-used-preserved g c =
       (λ h. absurd (omega (arith, inside, h))),
       same_again g.V.Vaults.names g.V.Vaults.extent c.args.desk.now c.loop-used.desk c.reclaim.new.desk i.5 c.reclaim.ensures.same,
       gave_more c.loop-used.bytes bytes c.args.desk.now.tallies.now c.loop-used.desk.tallies.now c.reclaim.new.desk.tallies.now i.6
-          (subst (λ (n : ℕ). HasGivenBack n c.loop-used.desk.tallies.now c.reclaim.new.desk.tallies.now) (sym c.from-bytes.ensures) c.reclaim.ensures.back),
-      stays_more old mid new i.7 after,
+          (subst (λ n. HasGivenBack n c.loop-used.desk.tallies.now c.reclaim.new.desk.tallies.now) (sym c.from-bytes.ensures) c.reclaim.ensures.back),
+      starts_more old.front i.7 after,
     )

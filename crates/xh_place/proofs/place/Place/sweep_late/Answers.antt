@@ -1,7 +1,7 @@
 use Rattle.std.proofs.Common.{inr, ℕ, [], ◌∷◌, refl, subst, ap, ◌∙◌}
 use Rattle.xh_model.specs.declared.limits.TheConstants.{MAX_BUDGET}
 use Rattle.xh_place.specs.Ending.{IsSwept}
-use Rattle.xh_place.specs.Places.{PlaceOf, with_list, with_more}
+use Rattle.xh_place.specs.Places.{with_list, with_more}
 use Rattle.xh_place.specs.Seen.{IsSeen}
 use Rattle.xh_place.proofs.Seeing.{seen_wide, starts_same, swept_as}
 use Rattle.xh_place.proofs.place.Place.sweep_late.Goals as goal
@@ -10,16 +10,16 @@ pub returns-clause-swept : goal.returns-clause-swept
 returns-clause-swept g c =
     let old = c.args.self.now in let mid = c.accept.new.self in let new = c.sweep-swept.new.self in let r : ℕ = c.args.r in let d : ℕ = c.args.direction in
     let t = c.in-Ok.ensures.here.1 in let bytes : ℕ = c.sweep-swept.result.0 in let left : ℕ = c.sweep-swept.result.1 in let came = c.in-Ok.ensures.place in
-    let one = swept_as (IsSeen mid new) (IsSeen old new) (seen_wide mid new old new came.1 came.3 (starts_same new.front new.front refl))
+    let one = swept_as (IsSeen mid new) (IsSeen old new) (seen_wide mid new old new came.1 came.3 (starts_same refl))
     c.count-from.result MAX_BUDGET mid.place new.place bytes left c.sweep-swept.ensures.swept in
-    let two = subst (λ (p : PlaceOf). IsSwept (IsSeen old new) c.count-from.result MAX_BUDGET p new.place bytes left) t.2 one in
+    let two = subst (λ p. IsSwept (IsSeen old new) c.count-from.result MAX_BUDGET p new.place bytes left) t.2 one in
     inr (
       bytes,
       (
         t.0,
         left,
-        subst (λ (n : ℕ). IsSwept (IsSeen old new) n MAX_BUDGET (with_more d ((r, t.0) ∷ []) old.place) new.place bytes left) c.count-from.ensures two,
-        c.sweep-swept.ensures.list.0 ∙ ap (λ (p : PlaceOf). with_list p new.place) t.2,
+        subst (λ n. IsSwept (IsSeen old new) n MAX_BUDGET (with_more d ((r, t.0) ∷ []) old.place) new.place bytes left) c.count-from.ensures two,
+        c.sweep-swept.ensures.list.0 ∙ ap (λ p. with_list p new.place) t.2,
         t.3,
       ),
       c.sweep-swept.ensures.back,

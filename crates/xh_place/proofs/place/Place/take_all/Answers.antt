@@ -1,11 +1,10 @@
+use Rattle.std.proofs.lemmas.List.{take_more, map-append}
 use Rattle.std.proofs.Common.{arith, ◌≡◌, ℕ, ◌<◌, List, [], ◌∷◌, ◌++◌, length, map, get_or, sym, ap, ap₂, ◌∙◌, subst, refl}
-use Rattle.std.proofs.lemmas.List.{map-append}
-use Rattle.xh_place.specs.Places.{with_more, PlaceOf}
+use Rattle.xh_place.specs.Places.{with_more}
 use Rattle.xh_place.specs.Endpoints.{AreGot, record_of, IsGot}
-use Rattle.xh_place.proofs.Givens.{take_more, take_whole}
 use Rattle.xh_place.proofs.Moves.{more_twice}
 use Rattle.xh_place.proofs.Gotten.{one_more}
-use Rattle.xh_place.proofs.Seeing.{all_got_as, got_as, seen_wide, starts_same, stays_more}
+use Rattle.xh_place.proofs.Seeing.{all_got_as, got_as, seen_wide, starts_same, starts_more}
 use Rattle.xh_place.specs.Seen.{IsSeen}
 use Rattle.xh_place.proofs.place.Place.take_all.Goals as goal
 
@@ -15,12 +14,12 @@ loop-k-preserved c =
     let old = c.args.self.now in let mid = c.loop-k.self in let new = c.take_one.new.self in
     let given = c.args.message.now.blocks.items in let k : ℕ = c.loop-k.k in
     let inside : k < length given = omega (arith, c.loop-k-test.true) in
-    let named : record_of c.take_one.result ≡ get_or given k 0 = c.take_one.ensures.record ∙ ap (λ (l : List ℕ). get_or l k 0) c.deref.ensures.0 in
-    let before = c.loop-k.invariant.2 in let after = c.take_one.ensures.place.3 in let shape : mid.place.shape ≡ old.place.shape = ap (λ (p : PlaceOf). p.shape) t.1 in
+    let named : record_of c.take_one.result ≡ get_or given k 0 = c.take_one.ensures.record ∙ ap (λ l. get_or l k 0) c.deref.ensures.0 in
+    let before = c.loop-k.invariant.2 in let after = c.take_one.ensures.place.3 in let shape : mid.place.shape ≡ old.place.shape = ap (λ p. p.shape) t.1 in
     let had : AreGot (IsSeen old new) d t.0 c.loop-k.got.items =
-    all_got_as (IsSeen old mid) (IsSeen old new) (seen_wide old mid old new refl (starts_same old.front old.front refl) after) d t.0 c.loop-k.got.items t.2 in
+    all_got_as (IsSeen old mid) (IsSeen old new) (seen_wide old mid old new refl (starts_same refl) after) d t.0 c.loop-k.got.items t.2 in
     let one : IsGot (IsSeen old new) d o.0 c.take_one.result =
-    got_as (IsSeen mid new) (IsSeen old new) (seen_wide mid new old new shape before (starts_same new.front new.front refl)) d o.0 c.take_one.result o.2 in (
+    got_as (IsSeen mid new) (IsSeen old new) (seen_wide mid new old new shape before (starts_same refl)) d o.0 c.take_one.result o.2 in (
       (
         t.0 ++ o.0,
         o.1 ∙ ap (with_more d o.0) t.1 ∙ more_twice d t.0 o.0 old.place,
@@ -28,9 +27,6 @@ loop-k-preserved c =
         omega (arith, c.push.ensures.len, t.3),
       ),
       ap (map record_of) c.push.ensures.items ∙ map-append record_of c.loop-k.got.items (c.take_one.result ∷ [])
-          ∙ ap₂ (λ (xs ys : List ℕ). xs ++ ys) c.loop-k.invariant.1 (ap (λ (n : ℕ). n ∷ []) named) ∙ take_more k given 0 inside,
-      stays_more old mid new before after,
+          ∙ ap₂ (λ (xs ys : List ℕ). xs ++ ys) c.loop-k.invariant.1 (ap (λ n. n ∷ []) named) ∙ sym (take_more given k 0 inside),
+      starts_more old.front before after,
     )
-
-pub returns-clause-records : goal.returns-clause-records
-returns-clause-records c = c.loop-k.invariant.1 ∙ take_whole c.loop-k.k c.args.message.now.blocks.items (omega (arith, c.loop-k-test.false))

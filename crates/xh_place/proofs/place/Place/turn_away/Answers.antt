@@ -6,14 +6,14 @@ use Rattle.xh_arena.specs.Views.{TallyOf}
 use Rattle.xh_model.specs.declared.limits.TheConstants.{MAX_BUDGET}
 use Rattle.xh_place.specs.Ending.{HasGivenBack}
 use Rattle.xh_place.specs.inner.Reclaiming.{IsSweptLate}
-use Rattle.xh_place.specs.Places.{PlaceOf, with_more}
+use Rattle.xh_place.specs.Places.{with_more}
 use Rattle.xh_place.specs.Seen.{IsElsewhere, IsSeen, SawWord}
 use Rattle.xh_place.proofs.place.Place.turn_away.Goals as goal
 
 pub returns-clause-swept : goal.returns-clause-swept
 returns-clause-swept g c =
     let old = c.args.self.now in let mid = c.wake.new.self in let swept = c.sweep_late.new.self in let new = c.set_state.new.self in let d : ℕ = c.args.direction in let r : ℕ = c.args.r in
-    let shape : mid.place.shape ≡ old.place.shape = ap (λ (p : PlaceOf). p.shape) c.wake.ensures.woken.0 in
+    let shape : mid.place.shape ≡ old.place.shape = ap (λ p. p.shape) c.wake.ensures.woken.0 in
     let told : List TallyOf = c.args.desk.now.tallies.now in let now : List TallyOf = c.sweep_late.new.desk.tallies.now in
     let came : ((swept.place ≡ mid.place) × (now ≡ told) × IsElsewhere (SawWord old new) d r) ⊎ ((n : ℕ) × IsSweptLate (IsSeen old new) d r mid.place swept.place n × HasGivenBack n told now) =
     ⊎_elim
