@@ -19,6 +19,3 @@ module _ (tests more : Tests) (none : first_refusal tests ≡ None) (state : Sta
 module _ {A : Type 0} (o : Option Refused) (result : Result A Refused) (e : Refused) (first : o ≡ Some e) (is : result ≡ Err e) where
   pub refused_tested : (P : A → Type 0) → MatchResult result (λ a. (o ≡ None) × P a) (λ refused. o ≡ Some refused)
   refused_tested P = subst (λ (r : Result A Refused). MatchResult r (λ a. (o ≡ None) × P a) (λ refused. o ≡ Some refused)) (sym is) first
-
-  pub refused_or : (same done : Type 0) → same → MatchOption o done (λ refused. (result ≡ Err refused) × same)
-  refused_or same done s = subst (λ (p : Option Refused). MatchOption p done (λ refused. (result ≡ Err refused) × same)) (sym first) (is, s)

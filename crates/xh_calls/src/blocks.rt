@@ -1,5 +1,5 @@
 //! The calls of a process on its data blocks.
-ghost use Rattle.std.specs.Prelude.{◌≡◌, ◌/◌, MatchResult, OnErr};
+ghost use Rattle.std.specs.Prelude.{◌≡◌, ◌/◌, ◌<◌, MatchResult, OnErr, OnOk, length};
 ghost use Rattle.xh_model.specs.declared.limits.TheConstants.{MAX_RECORDS};
 ghost use Rattle.xh_place.specs.Places.{IsPlaceOf};
 ghost use Rattle.xh_place.specs.Seen.{IsSamePlace, Stays};
@@ -121,6 +121,7 @@ impl<N: Names> Heap<N> {
         requires { IsServed N.parts place.old.place tallies.old }
         ensures same { IsSamePlace place.old place.new × (ids_of tallies.new ≡ ids_of tallies.old) }
         ensures tallies { MatchResult result (λ n. tallies.new ≡ gave (r / MAX_RECORDS) n tallies.old) (λ _. tallies.new ≡ tallies.old) }
+        ensures arena { OnOk result (r / MAX_RECORDS < length N.parts.records.shape.names) }
         ensures freed { Frees p r place.old.place place.new.place result }
     {
         check_start(place, p)?;

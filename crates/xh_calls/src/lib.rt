@@ -40,5 +40,5 @@ pub use heap::Heap;
 pub use making::{Bundle, Makings, make_vaults};
 pub use names::Names;
 pub use several::{Answered, MAX_ENDS};
-pub use starting::{check_start, check_stop};
+pub use starting::check_start;
 pub use wired::Wired;

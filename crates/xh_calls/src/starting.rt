@@ -35,8 +35,8 @@ pub fn check_start(place: &Place, p: u16) -> Result<(), Refused>
     status_of(place, p).check_start()
 }
 
-/// The tests of an end of the process: it is the latest of the place, and has not ended. NoProcess, Ended.
-pub fn check_stop(place: &Place, p: u16) -> Result<(), Refused>
+// The tests of an end of the process: it is the latest of the place, and has not ended. NoProcess, Ended.
+pub(crate) fn check_stop(place: &Place, p: u16) -> Result<(), Refused>
     ensures { Tested (stop p place.now.place) result (λ _. is_over place.now.place.state ≡ false) }
 {
     status_of(place, p).check_stop()

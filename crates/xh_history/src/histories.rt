@@ -106,6 +106,7 @@ impl<E> Histories<E> {
     }
 
     // The worker adds these calls, and sees the place's history to its end.
+    #[inline(always)]
     #[tactic(auto, using(crate::proofs::Keeping::joins, crate::proofs::Keeping::worker_splits))]
     fn step<S: Says<E>>(&self, pen: &mut Pen<E>, front: &mut Front<E>)
         requires { (pen.old.table ≡ self.now) × (front.old.table ≡ self.now) }
@@ -134,7 +135,8 @@ impl<E> Histories<E> {
     }
 
     /// One more call on the pen's place, which the worker made. Which call it is the caller's proof says,
-    /// by what is shown here.
+    /// by what is shown here. It is inlined, so that what is shown need not lie in memory.
+    #[inline(always)]
     pub fn add<A>(&self, pen: &mut Pen<E>, front: &mut Front<E>, _about: &A)
         ghost call: { E }
         requires { (pen.old.table ≡ self.now) × (front.old.table ≡ self.now) }

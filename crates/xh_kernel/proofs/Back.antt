@@ -1,8 +1,13 @@
 -- What came back of the tallies that an account lent.
-use Rattle.std.proofs.Common.{◌≡◌, ℕ, ◌+◌, ◌-◌, List, ap, arith, ◌∙◌}
+use Rattle.std.proofs.Common.{◌≡◌, ◌<◌, ℕ, ◌+◌, ◌-◌, List, length, ap, arith, refl, ◌∙◌}
+use Rattle.std.specs.Prelude.{Result, Ok, Err, MatchResult, OnOk}
+use Rattle.atomic_table.specs.Seated.{TableId}
 use Rattle.xh_arena.specs.Views.{TallyOf}
+use Rattle.xh_core.specs.declared.refused.Refused.{Refused}
 use Rattle.xh_kernel.specs.Accounts.{AccountOf}
+use Rattle.xh_place.proofs.Counted.{tallied}
 use Rattle.xh_place.specs.Ending.{HasGivenBack, back_of, but_back}
+use Rattle.xh_place.specs.Tallies.{gave, ids_of}
 
 -- the bytes of the call are those that the account has more than before
 pub came_back : {account inside : AccountOf} {lent given new : List TallyOf} (before bytes : ℕ) → before ≡ back_of account.tallies → inside ≡ account → lent ≡ inside.tallies → new ≡ given
@@ -13,3 +18,12 @@ came_back {account} {inside} {lent} {given} {new} before bytes was view start en
       omega (arith, sum, was),
       (omega (arith, sum, was), ap but_back end ∙ back.1 ∙ ap but_back first),
     )
+
+-- the bytes of a block came back, whose record is of an arena of these names
+pub given : {account inside : AccountOf} {lent out new : List TallyOf} (result : Result ℕ Refused) (arena : ℕ) (names : List TableId) → inside ≡ account → lent ≡ inside.tallies → new ≡ out
+    → ids_of account.tallies ≡ names → OnOk result (arena < length names) → MatchResult result (λ n. out ≡ gave arena n lent) (λ _. out ≡ lent)
+    → MatchResult result (λ n. (inside.number ≡ account.number) × (new ≡ gave arena n account.tallies) × (arena < length account.tallies)) (λ _. (inside.number ≡ account.number) × (new ≡ account.tallies))
+given {account} (Ok n) arena names view start end same there m =
+    let first = start ∙ ap (λ (a : AccountOf). a.tallies) view in
+    (ap (λ (a : AccountOf). a.number) view, end ∙ m ∙ ap (gave arena n) first, tallied account.tallies arena same refl there)
+given (Err e) arena names view start end same there m = (ap (λ (a : AccountOf). a.number) view, end ∙ m ∙ start ∙ ap (λ (a : AccountOf). a.tallies) view)

@@ -1,5 +1,5 @@
 -- One more call of a history.
-use Rattle.std.proofs.Common.{◌≡◌, ℕ, List, [], ◌∷◌, ◌++◌, append_assoc, append-nil, refl, sym, ap, ◌∙◌, subst}
+use Rattle.std.proofs.Common.{◌≡◌, ◌<◌, inl, ℕ, List, [], ◌∷◌, ◌++◌, append_assoc, append-nil, refl, sym, ap, ◌∙◌, subst}
 use Rattle.std.specs.Prelude.{slice_set}
 use Rattle.std.proofs.Math.Logic.{∥∥₁_map}
 use Rattle.xh_core.specs.declared.glance.Glance.{Glance}
@@ -7,11 +7,15 @@ use Rattle.xh_history.specs.Histories.{FrontOf, HasSeen, History, PenOf, at}
 use Rattle.xh_calls.proofs.Same.{stays_again, stays_itself}
 use Rattle.xh_calls.specs.Parts.{PartsOf}
 use Rattle.xh_kernel.specs.declared.call.Call.{Call}
-use Rattle.xh_kernel.specs.Histories.{Goes, IsHistoryOf, Leads, LeadsTo, Made}
+use Rattle.xh_kernel.specs.declared.scribe.Pens.{Pens}
+use Rattle.xh_kernel.specs.Histories.{Does, Goes, IsHistoryOf, Leads, LeadsTo, Made}
+use Rattle.xh_kernel.specs.Kept.{AreOf, IsNext}
+use Rattle.xh_kernel.specs.Places.{IsFound}
+use Rattle.xh_place.specs.Places.{glance_of}
 use Rattle.xh_place.specs.Seen.{PlaceSeen, Stays}
 
 module _ (parts : PartsOf) where
-  leads_on : (a b from c : PlaceSeen) (h : History Call) (gs told : List Glance) (n : ℕ) (e : Call) → Leads parts a h gs b → Stays b from → Goes parts e from c told → Leads parts a (h ++ (n, e) ∷ []) (gs ++ told) c
+  leads_on : (a b from c : PlaceSeen) (h : History Call) (gs told : List Glance) (n : ℕ) (e : Call) → Leads parts a h gs b → Stays b from → Goes parts (n, e) from c told → Leads parts a (h ++ (n, e) ∷ []) (gs ++ told) c
   leads_on a b from c [] gs told n e l s g = (from, c, told, [], stays_again a b from l.0 s, g, ap (λ (xs : List Glance). xs ++ told) l.1 ∙ sym (append-nil told), (stays_itself c, refl))
   leads_on a b from c (x ∷ h) gs told n e l s g = (l.0, l.1, l.2, l.3 ++ told, l.4, l.5, ap (λ (xs : List Glance). xs ++ told) l.6 ∙ append_assoc l.2 l.3 told, leads_on l.1 b from c h l.3 told n e l.7 s g)
 
@@ -25,7 +29,7 @@ module _ (parts : PartsOf) where
 
   -- one more call, of which so much was told: the place is what the history leads to, and the worker has seen it to its end
   pub noted : (e : Call) (old from new : PlaceSeen) (pen after : PenOf Call) (gs gs' told : List Glance) (front front' : FrontOf Call)
-      → IsHistoryOf parts pen.number pen.history gs old → Stays old from → Goes parts e from new told → gs' ≡ gs ++ told
+      → IsHistoryOf parts pen.number pen.history gs old → Stays old from → Goes parts (front.number, e) from new told → gs' ≡ gs ++ told
       → after ≡ record pen { history = pen.history ++ (front.number, e) ∷ [] }
       → front' ≡ record front { fronts = slice_set front.fronts pen.number after.history }
       → HasSeen front.number (at front.fronts pen.number) pen.history
@@ -44,22 +48,18 @@ module _ (parts : PartsOf) where
         },
       )
 
-  -- the same where the pen was handed on before
-  pub written : (e : Call) (old from new : PlaceSeen) (pen mid after : PenOf Call) (gs gs' told : List Glance) (front front' : FrontOf Call) → mid ≡ pen
-      → IsHistoryOf parts pen.number pen.history gs old → Stays old from → Goes parts e from new told → gs' ≡ gs ++ told
-      → after ≡ record mid { history = mid.history ++ (front.number, e) ∷ [] }
-      → front' ≡ record front { fronts = slice_set front.fronts mid.number after.history }
-      → HasSeen front.number (at front.fronts mid.number) mid.history
-      → IsHistoryOf parts after.number after.history gs' new × Made parts pen.number e front.number front.fronts front'.fronts
-  written e old from new pen mid after gs gs' told front front' same was stays goes more pen_is front_is seen =
-      let r = noted e old from new mid after gs gs' told front front' (subst (λ (p : PenOf Call). IsHistoryOf parts p.number p.history gs old) (sym same) was) stays goes more pen_is front_is seen in
-      (r.0, subst (λ (p : PenOf Call). Made parts p.number e front.number front.fronts front'.fronts) same r.1)
+  -- a call that left the place as it is, of which nothing was told
+  pub untold : (c : ℕ × Call) (pens : Pens) (old new : PlaceSeen) → AreOf parts pens old → IsFound parts old.place → Stays old new → c.0 < parts.workers → Does parts c.1 old new → IsNext parts c pens new
+  untold c pens old new was found stays worker does =
+      let gs = pens.glances.history in
+      let goes : Goes parts c old new [] = record { worker = worker; does = does; found = subst (IsFound parts) (sym stays.0) found; seen = stays.1; tells = inl (ap glance_of stays.0, refl) } in
+      (old, old, gs, [], was, stays_itself old, goes, sym (append-nil gs))
 
   -- the last call of a lawful history did and answered what such a call does at a lawful place
-  last_leads : (a b : PlaceSeen) (h : History Call) (gs : List Glance) (c : ℕ × Call) → Leads parts a (h ++ c ∷ []) gs b → (old : PlaceSeen) × (new : PlaceSeen) × (told : List Glance) × Goes parts c.1 old new told
+  last_leads : (a b : PlaceSeen) (h : History Call) (gs : List Glance) (c : ℕ × Call) → Leads parts a (h ++ c ∷ []) gs b → (old : PlaceSeen) × (new : PlaceSeen) × (told : List Glance) × Goes parts c old new told
   last_leads a b [] gs c l = (l.0, l.1, l.2, l.5)
   last_leads a b (x ∷ h) gs c l = last_leads l.1 b h l.3 c l.7
 
   -- so did a call that a worker made
-  pub made_goes : (k : ℕ) (e : Call) (number : ℕ) (old new : List (History Call)) → Made parts k e number old new → ∥ ((from : PlaceSeen) × (to : PlaceSeen) × (told : List Glance) × Goes parts e from to told) ∥₁
+  pub made_goes : (k : ℕ) (e : Call) (number : ℕ) (old new : List (History Call)) → Made parts k e number old new → ∥ ((from : PlaceSeen) × (to : PlaceSeen) × (told : List Glance) × Goes parts (number, e) from to told) ∥₁
   made_goes k e number old new m = ∥∥₁_map m.lawful (λ l. last_leads l.2.0 l.1 (at old k ++ m.others) l.2.1 (number, e) l.2.4)

@@ -28,9 +28,9 @@ IsUnmoved old new = (new.number ≡ old.number) × (new.tallies ≡ old.tallies)
 abbrev pub HasTaken : ℕ → ℕ → AccountOf → AccountOf → Type 0
 HasTaken arena n old new = (new.number ≡ old.number) × (new.tallies ≡ took arena n old.tallies)
 
--- n bytes of the arena were given back
+-- n bytes of the arena, which there is, were given back
 abbrev pub HasGiven : ℕ → ℕ → AccountOf → AccountOf → Type 0
-HasGiven arena n old new = (new.number ≡ old.number) × (new.tallies ≡ gave arena n old.tallies)
+HasGiven arena n old new = (new.number ≡ old.number) × (new.tallies ≡ gave arena n old.tallies) × (arena < length old.tallies)
 
 -- so many bytes were given back, of whatever arenas, and no others moved
 abbrev pub HasBack : ℕ → AccountOf → AccountOf → Type 0

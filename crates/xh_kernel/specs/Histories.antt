@@ -1,5 +1,5 @@
 -- The history of a place, and what makes it lawful: each call's answer, and what it did to the place, are that call's relation.
-use Rattle.std.specs.Prelude.{◌≡◌, ◌≢◌, ◌⊎◌, ℕ, List, [], ◌∷◌, ◌++◌, slice_set}
+use Rattle.std.specs.Prelude.{◌≡◌, ◌≢◌, ◌<◌, ◌⊎◌, ℕ, List, [], ◌∷◌, ◌++◌, slice_set}
 use Rattle.xh_core.specs.declared.glance.Glance.{Glance}
 use Rattle.xh_core.specs.declared.status.Status.TheVariants.{Vacant}
 use Rattle.xh_core.specs.Refusing.{Tested}
@@ -46,9 +46,10 @@ Does parts (call.Stop p budget bytes result) old new = Stops p budget bytes old 
 abbrev pub Tells : PlaceOf → PlaceOf → List Glance → Type 0
 Tells old new told = ((glance_of new ≡ glance_of old) × (told ≡ [])) ⊎ ((glance_of new ≢ glance_of old) × (told ≡ glance_of new ∷ []))
 
--- one call, from a place to a lawful one, of which so much was told
-pub record Goes (parts : PartsOf) (e : Call) (old new : PlaceSeen) (told : List Glance) : Type 0 where
-  pub does : Does parts e old new
+-- one call of a worker of the kernel, from a place to a lawful one, of which so much was told
+pub record Goes (parts : PartsOf) (c : ℕ × Call) (old new : PlaceSeen) (told : List Glance) : Type 0 where
+  pub worker : c.0 < parts.workers
+  pub does : Does parts c.1 old new
   pub found : IsFound parts new.place
   pub seen : SeesMore old new
   pub tells : Tells old.place new.place told
@@ -59,7 +60,7 @@ pub record Goes (parts : PartsOf) (e : Call) (old new : PlaceSeen) (told : List 
 abbrev pub Leads : PartsOf → PlaceSeen → History Call → List Glance → PlaceSeen → Type 0
 Leads parts old [] glances new = Stays old new × (glances ≡ [])
 Leads parts old (c ∷ cs) glances new = (from : PlaceSeen) × (mid : PlaceSeen) × (told : List Glance) × (later : List Glance)
-    × Stays old from × Goes parts c.1 from mid told × (glances ≡ told ++ later) × Leads parts mid cs later new
+    × Stays old from × Goes parts c from mid told × (glances ≡ told ++ later) × Leads parts mid cs later new
 
 -- the place k, while nobody has had it
 pub record IsUnused (parts : PartsOf) (k : ℕ) (p : PlaceOf) : Type 0 where

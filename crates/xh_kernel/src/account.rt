@@ -1,5 +1,5 @@
 //! What a worker has taken and given back, and what it has seen of the histories.
-ghost use Rattle.std.specs.Prelude.{◌≡◌, slice_get, slice_set};
+ghost use Rattle.std.specs.Prelude.{◌≡◌, ◌<◌, slice_get, slice_set};
 ghost use Rattle.xh_calls.specs.inner.Making.{AreFreshTallies};
 ghost use Rattle.xh_history.specs.Histories.{HasSeen, at, fresh_front};
 ghost use Rattle.xh_kernel.specs.Accounts.{IsUnmoved, fresh, moved_of};
@@ -23,7 +23,7 @@ pub struct Account<N: Names> {
 }
 
 impl<N: Names> Model for Account<N> {
-    ghost use Rattle.std.specs.Prelude.{◌≡◌};
+    ghost use Rattle.std.specs.Prelude.{◌≡◌, ◌<◌};
     ghost use Rattle.xh_kernel.specs.Accounts.{AccountOf};
     ghost use Rattle.xh_place.specs.Tallies.{ids_of};
 
@@ -31,7 +31,7 @@ impl<N: Names> Model for Account<N> {
 
     ghost view = { λ a. record { number = a.number; tallies = a.tallies.items; fronts = a.front.fronts } };
 
-    ghost invariant = { λ a. (ids_of a.tallies.items ≡ N.parts.records.shape.names) × (a.front.table ≡ N.parts.histories) × (a.front.number ≡ a.number) };
+    ghost invariant = { λ a. (ids_of a.tallies.items ≡ N.parts.records.shape.names) × (a.front.table ≡ N.parts.histories) × (a.front.number ≡ a.number) × (a.number < N.parts.workers) };
 }
 
 impl<N: Names> Account<N> {
@@ -39,6 +39,7 @@ impl<N: Names> Account<N> {
     pub(crate) fn named(bundle: Bundle, front: Front<Call>) -> Account<N>
         requires tallies { AreFreshTallies N.parts.records.shape.names bundle.number bundle.tallies.items }
         requires front { front ≡ fresh_front N.parts.histories bundle.number }
+        requires worker { bundle.number < N.parts.workers }
         ensures { result ≡ fresh N.parts.records.shape.names bundle.number }
     {
         Account {

@@ -123,6 +123,7 @@ fn name_accounts<N: Names>(
     fronts: Vec<Front<Call>>,
 ) -> Result<Vec<Account<N>>, Refused>
     requires bundles { AreBundles N.parts.records.shape.names bundles.items }
+    requires workers { vec_len bundles ≡ N.parts.workers }
     requires fronts { (vec_len fronts ≡ vec_len bundles) × AreUnseen N.parts.histories fronts.items }
     ensures count { IfOk result (λ v. vec_len v ≡ vec_len bundles) }
     ensures fresh { IfOk result (λ v. AreFresh N.parts.records.shape.names v.items) }

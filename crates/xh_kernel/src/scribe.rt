@@ -5,7 +5,7 @@ ghost use Rattle.xh_core.specs.Statuses.{is_over};
 ghost use Rattle.xh_glance.specs.Words.{IsPackable};
 ghost use Rattle.xh_kernel.specs.declared.call.Call.{Call};
 ghost use Rattle.xh_kernel.specs.Histories.{Does, Made, Tells};
-ghost use Rattle.xh_kernel.specs.Kept.{AreOf, AreOwn};
+ghost use Rattle.xh_kernel.specs.Kept.{AreOf, AreOwn, IsNext};
 ghost use Rattle.xh_kernel.specs.Places.{IsLawful, IsTold, last_of};
 ghost use Rattle.xh_model.specs.declared.limits.TheConstants.{GENERATIONS};
 ghost use Rattle.xh_model.specs.Words.{generation_of, place_of};
@@ -106,8 +106,30 @@ impl Scribe {
         self.last = glance;
     }
 
-    // Writes down a call that a worker made on the place, and what the place is now. Which call it was the
-    // caller's proof says, by what is shown here.
+    // Writes down a call that a worker made on the place, of which all is told. Which call it was the caller's
+    // proof says, by what is shown here. It is inlined, so that what is shown costs nothing.
+    #[inline(always)]
+    pub(crate) fn write_down<N: Names, A>(
+        &mut self,
+        shared: &Shared<N>,
+        _place: &Place,
+        front: &mut Front<Call>,
+        about: &A,
+    )
+        ghost call: { Call }
+        requires pens { AreOwn N.parts self.old.pens }
+        requires front { front.old.table ≡ N.parts.histories }
+        requires next { IsNext N.parts (front.old.number, call) self.old.pens _place.now }
+        ensures same { AreOwn N.parts self.new.pens × (self.new.pens.glances ≡ self.old.pens.glances) }
+        ensures history { AreOf N.parts self.new.pens _place.now }
+        ensures front { (front.new.table ≡ front.old.table) × (front.new.number ≡ front.old.number) }
+        ensures made { Made N.parts self.old.pens.history.number call front.old.number front.old.fronts front.new.fronts }
+    {
+        shared.histories.add(&mut self.pens.history, front, about);
+    }
+
+    // The same, and tells what the place is now.
+    #[inline(always)]
     pub(crate) fn note<N: Names, A>(
         &mut self,
         shared: &Shared<N>,
@@ -117,7 +139,7 @@ impl Scribe {
     )
         ghost call: { Call }
         requires pens { AreOwn N.parts self.old.pens }
-        requires front { front.old.table ≡ N.parts.histories }
+        requires front { (front.old.table ≡ N.parts.histories) × (front.old.number < N.parts.workers) }
         requires place { IsPlaceOf N.parts.records place.now.place × (place_of place.now.place.process ≡ self.old.pens.glances.number) × (generation_of place.now.place.process < GENERATIONS) }
         requires does { (old : PlaceSeen) × (from : PlaceSeen) × IsTold old.place self.old.pens.glances × AreOf N.parts self.old.pens old × Stays old from × Does N.parts call from place.now × SeesMore from place.now }
         ensures pens { AreOwn N.parts self.new.pens × (self.new.pens.glances.number ≡ self.old.pens.glances.number) }
@@ -128,6 +150,6 @@ impl Scribe {
         ensures made { Made N.parts self.old.pens.history.number call front.old.number front.old.fronts front.new.fronts }
     {
         self.tell(&shared.glances, place);
-        shared.histories.add(&mut self.pens.history, front, about);
+        self.write_down(shared, place, front, about);
     }
 }

@@ -92,7 +92,7 @@ impl<N: Names> Kernel<N> {
         let answer = self.shared.heap.read(&mut held.place, p, r, at, out);
         let about = (p, r, at, &*out, &answer);
         held.scribe
-            .note(&self.shared, &held.place, &mut account.front, &about);
+            .write_down(&self.shared, &held.place, &mut account.front, &about);
         answer
     }
 

@@ -134,7 +134,7 @@ impl<N: Names> Kernel<N> {
         let answer = check_start(&held.place, p);
         let about = (p, &answer);
         held.scribe
-            .note(&self.shared, &held.place, &mut account.front, &about);
+            .write_down(&self.shared, &held.place, &mut account.front, &about);
         answer
     }
 }

@@ -41,6 +41,7 @@ impl<N: Names> Kernel<N> {
         held.scribe
             .note(&self.shared, &held.place, &mut account.front, &about);
         held.wake(rt, &self.shared);
+        drop(guard);
         answer
     }
 
@@ -58,8 +59,15 @@ impl<N: Names> Kernel<N> {
     ) -> Result<Taken, Refused>
         ensures { CallsOnly N.parts p (call.Take p e result) account.old account.new }
     {
-        let mut held = self.held(rt, p);
-        held.take(rt, &self.shared, p, e, account, gate)
+        let mut guard = self.held(rt, p);
+        let held: &mut Held<N> = &mut guard;
+        let heap = &self.shared.heap;
+        let answer = heap.take(rt, &mut held.place, p, e, gate);
+        let about = (p, e, &answer);
+        held.scribe
+            .note(&self.shared, &held.place, &mut account.front, &about);
+        drop(guard);
+        answer
     }
 
     /// As `take`; where no message waits and the peer is not closed, it waits for one, without a lock, and

@@ -15,6 +15,13 @@ named-requires-clause-front g c =
     first_of (λ k (x : FrontOf Call). x ≡ fresh_front parts.histories k) done _ _ c.in-Some-next.front c.in-Some-next.ensures.items _ was.3 (omega (arith, was.1, some))
     ∙ ap (fresh_front parts.histories) (sym here.0)
 
+pub named-requires-clause-worker : goal.named-requires-clause-worker
+named-requires-clause-worker g c =
+    let was = c.loop-bundle.invariant in let step = c.in-Some.ensures.steps in
+    let some : 0 < into_iter_len c.loop-bundle.bundle-iterator = omega (arith, step.1) in
+    let here = first_of (IsBundle g.N.Names.parts.records.shape.names) (vec_len c.loop-bundle.accounts) _ _ c.in-Some.bundle step.0 _ was.2 some in
+    omega (arith, here.0, was.0, some, c.requires.workers)
+
 pub loop-bundle-preserved : goal.loop-bundle-preserved
 loop-bundle-preserved g c =
     let was = c.loop-bundle.invariant in let step = c.in-Some.ensures.steps in let parts = g.N.Names.parts in let done = vec_len c.loop-bundle.accounts in

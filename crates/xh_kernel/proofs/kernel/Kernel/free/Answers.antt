@@ -1,0 +1,15 @@
+use Rattle.std.proofs.Common.{rules}
+use Rattle.std.proofs.lemmas.List.{with_items_is, places}
+use Rattle.xh_calls.proofs.Same.{stays_itself}
+use Rattle.xh_kernel.proofs.Back.{given}
+use Rattle.xh_kernel.proofs.kernel.Kernel.free.Goals as goal
+
+pub note-requires : goal.note-requires
+note-requires g c κs within =
+    let held = c.deref_mut-held.result.now in let e = c.free-answer.ensures in
+    (search rules, (search rules, (search rules, (search rules, (search rules, (held.place, held.place, held.told, held.history, stays_itself held.place, e.freed, e.same.0.3))))))
+
+pub returns-clause-account : goal.returns-clause-account
+returns-clause-account g c =
+    given _ _ g.N.Names.parts.records.shape.names c.account.view_is c.as_mut_slice-tallies.ensures.value (with_items_is c.account.inside.tallies _ (search (rules, places))) (search rules)
+    c.free-answer.ensures.arena c.free-answer.ensures.tallies

@@ -1,0 +1,5 @@
+use Rattle.xh_kernel.specs.declared.call.Call.TheVariants.{Take}
+use Rattle.xh_kernel.proofs.kernel.Kernel.take.Given as goal
+
+abbrev pub ghost-note : goal.ghost-note
+ghost-note g a = let s = a.about.now in Take s.0 s.1 s.2.now
