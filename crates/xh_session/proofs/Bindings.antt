@@ -1,5 +1,5 @@
 -- Lemmas on what names stand for.
-use Rattle.std.proofs.Common.{◌≡◌, ◌≤◌, ◌<◌, ◌∙◌, ℕ, zero, suc, ◌+◌, ◌*◌, ◌-◌, ◌++◌, take, min, List, [], ◌∷◌, length, drop, add-one, ap, arith, inl, inr, refl, sym, Option}
+use Rattle.std.proofs.Common.{◌≡◌, ◌≤◌, ◌<◌, ◌∙◌, ℕ, zero, suc, ◌+◌, ◌*◌, ◌-◌, ◌++◌, take, min, List, [], ◌∷◌, length, drop, ap, arith, inl, inr, refl, sym, Option}
 use Rattle.std.proofs.lemmas.Bool.{cases_lt}
 use Rattle.std.proofs.lemmas.List.{length-drop}
 use Rattle.std.proofs.Math.ListN.{drop_of_length-le}
@@ -10,38 +10,29 @@ use Rattle.xh_core.specs.declared.block.Block.{Block}
 use Rattle.xh_script.specs.declared.command.Word.{Word}
 use Rattle.xh_script.specs.declared.limits.TheConstants.{MAX_BLOCK_NAMES}
 use borrow.Rule.Slice.PartMut.{put_mid}
-use Rattle.xh_session.specs.Bindings.{Bindings, bound, bound_each, cleared, unbound_below, without_record}
-
-pub unbound_below-none : (b : Bindings) (p : ℕ) → unbound_below b p 0 ≡ b
-unfolding unbound_below
-unbound_below-none b p = refl
-
--- one more name is bound to nothing
-pub unbound_below-more : (b : Bindings) (p n : ℕ) (now next : Bindings) → now ≡ unbound_below b p n → next ≡ bound now p n NOTHING → next ≡ unbound_below b p (n + 1)
-unfolding unbound_below
-unbound_below-more b p n now next h e = rw (e, h, add-one n) refl
+use Rattle.xh_session.specs.Bindings.{Bindings, bound_each, cleared, without_record}
 
 bound_each-none : (b : Bindings) (p : ℕ) (xs : List (Word ℕ)) → bound_each b p xs [] ≡ b
 bound_each-none b p [] = refl
 bound_each-none b p (x ∷ xs) = refl
 
 -- past the last name, or the last block, nothing is bound
-pub bound_each-end : (b : Bindings) (p : ℕ) (xs : List (Word ℕ)) (ys : List (Option Block)) (i : ℕ) → min (length xs) (length ys) ≤ i
+pub bound_each_end : (b : Bindings) (p : ℕ) (xs : List (Word ℕ)) (ys : List (Option Block)) (i : ℕ) → min (length xs) (length ys) ≤ i
     → bound_each b p (drop i xs) (drop i ys) ≡ b
-bound_each-end b p [] ys i h = rw (drop-nil {A = Word ℕ} i) refl
-bound_each-end b p (x ∷ xs) [] i h = rw (drop-nil {A = Option Block} i) (bound_each-none b p (drop i (x ∷ xs)))
-bound_each-end b p (x ∷ xs) (y ∷ ys) zero h = absurd (omega arith)
-bound_each-end b p (x ∷ xs) (y ∷ ys) (suc i) h = bound_each-end b p xs ys i (omega arith)
+bound_each_end b p [] ys i h = rw (drop-nil {A = Word ℕ} i) refl
+bound_each_end b p (x ∷ xs) [] i h = rw (drop-nil {A = Option Block} i) (bound_each-none b p (drop i (x ∷ xs)))
+bound_each_end b p (x ∷ xs) (y ∷ ys) zero h = absurd (omega arith)
+bound_each_end b p (x ∷ xs) (y ∷ ys) (suc i) h = bound_each_end b p xs ys i (omega arith)
 
 -- the next entry becomes nothing where it is the record
 abbrev pub unless : ℕ → ℕ → ℕ
 unless r q = if q == r then NOTHING else q
 
-pub cleared-next : (r d : ℕ) (xs : List ℕ) (i : ℕ) → i < length xs → slice_set (cleared r (take i xs) ++ drop i xs) i (unless r (slice_index_or (cleared r (take i xs) ++ drop i xs) i d))
+pub cleared_next : (r d : ℕ) (xs : List ℕ) (i : ℕ) → i < length xs → slice_set (cleared r (take i xs) ++ drop i xs) i (unless r (slice_index_or (cleared r (take i xs) ++ drop i xs) i d))
     ≡ cleared r (take (suc i) xs) ++ drop (suc i) xs
-cleared-next r d [] i l = absurd (omega arith)
-cleared-next r d (x ∷ xs) zero l = refl
-cleared-next r d (x ∷ xs) (suc i) l = ap (λ ys. unless r x ∷ ys) (cleared-next r d xs i (omega arith))
+cleared_next r d [] i l = absurd (omega arith)
+cleared_next r d (x ∷ xs) zero l = refl
+cleared_next r d (x ∷ xs) (suc i) l = ap (λ ys. unless r x ∷ ys) (cleared_next r d xs i (omega arith))
 
 -- ---- the entries of one process stand between those of the others
 

@@ -13,23 +13,28 @@ use Rattle.xh_script.specs.Scripts.{Fails, Listing, script_of}
 use Rattle.xh_script.specs.Watching.{Reads, Writes, WritesOrFails, failures, inner_of}
 use Rattle.xh_script.proofs.Writings.{WritesOrFails-then}
 use Rattle.xh_session.specs.Ends.{Done, Stopped}
-use Rattle.xh_session.specs.Reading.{GivesScript, ReadsScript, Unread}
+use Rattle.xh_session.specs.Reading.{GivesScript, ReadsAtMost, ReadsScript, Unread}
 
-pub Consumes-then : (a b c : Option (List ℕ)) (x y : List ℕ) → Consumes a b x → Consumes b c y → Consumes a c (x ++ y)
-Consumes-then None b c x y p q = tt
-Consumes-then (Some k) None c x y p q = absurd p
-Consumes-then (Some k) (Some l) None x y p q = absurd q
-Consumes-then (Some k) (Some l) (Some m) x y p q = p ∙ ap (λ t. x ++ t) q ∙ sym (append_assoc x y m)
+pub consumes_then : (a b c : Option (List ℕ)) (x y : List ℕ) → Consumes a b x → Consumes b c y → Consumes a c (x ++ y)
+consumes_then None b c x y p q = tt
+consumes_then (Some k) None c x y p q = absurd p
+consumes_then (Some k) (Some l) None x y p q = absurd q
+consumes_then (Some k) (Some l) (Some m) x y p q = p ∙ ap (λ t. x ++ t) q ∙ sym (append_assoc x y m)
 
-pub Reads-then : {R : Type 0} (remaining : R → Option (List ℕ)) (first now next : Watched R) (text bytes more : List ℕ)
+pub reads_then : {R : Type 0} (remaining : R → Option (List ℕ)) (first now next : Watched R) (text bytes more : List ℕ)
     → Reads remaining first now text → Reads remaining now next bytes → more ≡ text ++ bytes → Reads remaining first next more
-Reads-then remaining first now next text bytes more p q e = record {
-  taken = subst (λ (t : List ℕ). Consumes (remaining (inner_of first)) (remaining (inner_of next)) t) (sym e) (Consumes-then _ _ _ text bytes p.taken q.taken);
+reads_then remaining first now next text bytes more p q e = record {
+  taken = subst (λ (t : List ℕ). Consumes (remaining (inner_of first)) (remaining (inner_of next)) t) (sym e) (consumes_then _ _ _ text bytes p.taken q.taken);
   still = q.still ∙ p.still;
 }
 
 pub length_both : (x y : List ℕ) (a b : ℕ) → length x ≡ a → length y ≤ b → a + b ≤ MAX_SCRIPT + 1 → length (x ++ y) ≤ MAX_SCRIPT + 1
 length_both x y a b e h s = simp length-append (omega arith)
+
+-- what is read last is within what may be read
+pub reads_most : {R : Type 0} (remaining : R → Option (List ℕ)) (first now next : Watched R) (text : List ℕ) (room : ℕ)
+    → Reads remaining first now text → ReadsAtMost remaining room now next → length text + room ≤ MAX_SCRIPT + 1 → ReadsAtMost remaining (MAX_SCRIPT + 1) first next
+reads_most remaining first now next text room p q s = (text ++ q.0, consumes_then _ _ _ text q.0 p.taken q.1, length_both text q.0 (length text) room refl q.2 s)
 
 short_by : (b : Bool) (text : List ℕ) (rest : Result Listing Fault) (script : Listing) → nat_lt MAX_SCRIPT (length text) ≡ b
     → (if b then Err (Script 0 TooLong) else rest) ≡ Ok script → length text ≤ MAX_SCRIPT

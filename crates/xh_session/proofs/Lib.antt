@@ -1,3 +1,4 @@
 pub mod Ends
 pub mod Bindings
+pub mod Plans
 pub mod Worlds

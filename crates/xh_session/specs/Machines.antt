@@ -1,14 +1,38 @@
--- What the calls of a machine promise.
-use Rattle.std.specs.Prelude.{◌≡◌, ◌≢◌, Bool, true, Result, Err}
-use Rattle.xh_core.specs.declared.refused.Refused.{Refused}
+-- What the serial machine answers.
+use Rattle.std.specs.Prelude.{◌≡◌, false, Err}
 use Rattle.xh_core.specs.declared.refused.Refused.TheVariants.{OutOfMemory}
 use Rattle.xh_serial.specs.Machine.{Machine}
-use Rattle.xh_serial.specs.Commands.{Answer}
+use Rattle.xh_serial.specs.PlaceCommands.{spawn, glance}
+use Rattle.xh_serial.specs.BlockCommands.{alloc, split, read, write, free}
+use Rattle.xh_serial.specs.ChannelCommands.{open_channel, wire_channel}
+use Rattle.xh_serial.specs.MessageCommands.{give, take}
+use Rattle.xh_serial.specs.EndingCommands.{close, exit, kill}
+use Rattle.xh_session.specs.Receiving.{receives}
+use Rattle.xh_session.specs.Questions.{Question, Answer, Spawn, Open, Wire, Alloc, Split, Read, Write, Give, Take, Free, Close, Exit, Kill, Glance}
 
--- where nobody else changes the machine, a call answers what its command answers, and leaves the machine as the command does
-abbrev pub Does : {A : Type 0} → Bool → Answer A → Result A Refused → Machine → Type 0
-Does alone command answer new = alone ≡ true → command ≡ (answer, new)
+-- the command of a question: its answer, and the machine after it
+abbrev pub command : (q : Question) → Machine → Answer q × Machine
+command Spawn m = spawn m
+command (Open p arena contract) m = open_channel p arena contract m
+command (Wire p q arena contract) m = wire_channel p q arena contract m
+command (Alloc p bytes arena) m = alloc false p bytes arena m
+command (Split p r at) m = split false p r at m
+command (Read p r at len) m = read p r at len m
+command (Write p r at bytes) m = write p r at bytes m
+command (Give p e tag blocks) m = give p e tag blocks m
+command (Take p e waits) m = receives (take p e m)
+command (Free p r) m = free p r m
+command (Close p e) m = close p e m
+command (Exit p budget) m = exit p budget m
+command (Kill by victim budget) m = kill by victim budget m
+command (Glance place) m = (glance place m, m)
 
--- the same, unless memory was refused
-abbrev pub DoesOrLacks : {A : Type 0} → Bool → Answer A → Result A Refused → Machine → Type 0
-DoesOrLacks alone command answer new = answer ≢ Err OutOfMemory → Does alone command answer new
+-- memory was refused
+abbrev pub Lacks : (q : Question) → Answer q → Type 0
+Lacks (Alloc p bytes arena) answer = answer ≡ Err OutOfMemory
+Lacks (Split p r at) answer = answer ≡ Err OutOfMemory
+Lacks q answer = ⊥
+
+-- unless memory was refused, a call answers what its command answers, and leaves the machine as the command does
+abbrev pub Does : Machine → (q : Question) → Answer q → Machine → Type 0
+Does old q answer new = ¬ Lacks q answer → command q old ≡ (answer, new)

@@ -1,7 +1,6 @@
 -- The world of a session: its machine's state, its names and its contracts.
-use Rattle.xh_serial.specs.Machine.{Machine}
 use Rattle.xh_session.specs.declared.session.Session.{Session}
-use Rattle.xh_session.specs.Meaning.{World}
+use Rattle.xh_session.specs.Plans.{World}
 
-abbrev pub world_of : {M : Type 0} → (M → Machine) → Session M → World
+abbrev pub world_of : {M S : Type 0} → (M → S) → Session M → World S
 world_of state s = record { machine = state s.machine; names = s.names; contracts = s.contracts.now }

@@ -43,6 +43,7 @@ fn read_some<R: Read>(
 }
 
 /// Reads to the end, or to one byte past the most that a script may have.
+#[tactic(auto, using(crate::proofs::Ends::reads_then, crate::proofs::Ends::length_both))]
 fn read_text<R: Read>(alloc: Global, reader: &mut Watched<R>) -> Result<Vec<u8>, Fault>
     ensures ok { IfOk result (λ text. ReadsScript R.remaining reader.old reader.new text.items × (length text.items ≤ MAX_SCRIPT + 1)) }
     ensures err { IfErr result (λ e. (e ≡ Fault.Memory) ⊎ ((e ≡ Fault.Read) × (failures reader.new ≢ failures reader.old))) }
@@ -64,6 +65,7 @@ fn read_text<R: Read>(alloc: Global, reader: &mut Watched<R>) -> Result<Vec<u8>,
 ///
 /// A config outside its limits is BadConfig, and nothing is read. The reader is asked for at most
 /// one byte more than a script may have, so a reader without an end is TooLong. Memory comes where a growth was refused.
+#[tactic(auto, using(crate::proofs::Ends::no_text, crate::proofs::Ends::no_script, crate::proofs::Ends::script_short))]
 pub fn read_input<R: Read>(
     alloc: Global,
     config: Config,

@@ -1,6 +1,6 @@
 //! What the names of a script stand for.
 ghost use Rattle.std.specs.Prelude.{◌≡◌, ◌+◌, ◌*◌, ◌%◌, ◌≤◌, ◌==◌, if◌then◌else◌, length, map, codes, IfOk, slice_index_or, slice_set};
-ghost use Rattle.xh_session.specs.Bindings.{Bindings, no_bindings, nothings, number_of, has_place, started, name_at, names_by_place, record_of, records_of};
+ghost use Rattle.xh_session.specs.Bindings.{Bindings, no_bindings, nothings, number_of, has_place, started, following, name_at, names_by_place, record_of, records_of};
 ghost use Rattle.xh_session.specs.Bindings.{bound, bound_block, bound_each, cleared, without_record, unbound, unbound_each, unbound_all, not_among, process_at};
 ghost use Rattle.xh_model.specs.declared.limits.TheConstants.{PLACES};
 ghost use Rattle.xh_script.specs.declared.limits.TheConstants.{MAX_WORDS, MAX_BLOCK_NAMES};
@@ -71,6 +71,7 @@ fn unless(entry: u16, rec: u16) -> u16
 }
 
 // Every entry is written, so that the compiler can do many at once.
+#[tactic(auto, using(crate::proofs::Bindings::cleared_next))]
 fn clear(entries: &mut [u16], rec: u16)
     ensures { entries.new ≡ cleared rec entries.old }
 {
@@ -80,6 +81,7 @@ fn clear(entries: &mut [u16], rec: u16)
 }
 
 // Each entry of the process that is this record becomes nothing.
+#[tactic(auto, using(crate::proofs::Bindings::between_others))]
 fn clear_record(records: &mut [u16], process: u8, rec: u16)
     ensures { records.new ≡ without_record records.old process rec }
 {
@@ -145,7 +147,7 @@ impl Names {
     }
 
     /// The number of a process, or `NOTHING` where no `process` line gave it a place.
-    pub(crate) fn number(&self, process: u8) -> u16
+    pub fn number(&self, process: u8) -> u16
         ensures { result ≡ number_of self.now process }
     {
         at(&self.numbers, usize::from(process))
@@ -184,11 +186,13 @@ impl Names {
         })
     }
 
-    /// The names of processes stand for what they stand for elsewhere.
-    pub fn follow(&mut self, others: &Names)
-        ensures { self.new ≡ record self.old { numbers = others.now.numbers; latest = others.now.latest } }
+    /// The names of processes stand for what they stand for elsewhere, but for the process's own, which keeps its number.
+    pub fn follow(&mut self, process: u8, others: &Names)
+        ensures { self.new ≡ following process others.now self.old }
     {
+        let own = self.number(process);
         self.numbers = others.numbers;
+        put(&mut self.numbers, usize::from(process), own);
         self.latest = others.latest;
     }
 
@@ -244,6 +248,7 @@ impl Names {
 
     /// The names that words say stand for the blocks of a message, from left to right. Names past the
     /// last block and those of missing blocks stay as they were; blocks past the last name have none.
+    #[tactic(auto, using(crate::proofs::Bindings::bound_each_end))]
     pub(crate) fn bind_each(&mut self, process: u8, words: &[Word<u8>], message: &[Option<Block>])
         ensures { self.new ≡ bound_each self.old process words.now message.now }
     {
@@ -270,6 +275,7 @@ impl Names {
     }
 
     /// All names of the process for blocks are bound to nothing.
+    #[tactic(auto, unfolding(crate::specs::Bindings::unbound_below))]
     pub(crate) fn unbind_all(&mut self, process: u8)
         ensures { self.new ≡ unbound_all self.old process }
     {

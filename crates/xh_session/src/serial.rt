@@ -35,6 +35,7 @@ fn report_of(alloc: Global, config: Config, script: &Script) -> Result<Report, F
 /// Runs the script that a reader gives to its end, and writes its replies and its ledger.
 ///
 /// The faults of reading are those of `read_input`. But for Write, a fault leaves nothing written.
+#[tactic(auto, using(crate::proofs::Ends::memory_stops, crate::proofs::Ends::unread_stops, crate::proofs::Ends::wrote_all, crate::proofs::Ends::wrote_part))]
 pub fn run_serial<R: Read, W: Write>(
     alloc: Global,
     reader: &mut Watched<R>,

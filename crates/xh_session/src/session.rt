@@ -1,6 +1,5 @@
 //! A script on a machine, command by command.
-ghost use Rattle.xh_session.specs.Meaning.{step};
-ghost use Rattle.xh_session.specs.Steps.{StepsOrLacks};
+ghost use Rattle.xh_session.specs.Plans.{Follows, plan};
 ghost use Rattle.xh_session.specs.Worlds.{world_of};
 
 mod blocks;
@@ -24,11 +23,10 @@ pub struct Session<'a, M> {
 }
 
 impl<'a, M: Machine> Session<'a, M> {
-    /// Does a command; its words stand where the form's row of the table has them. Where memory is
-    /// refused, the reply says so.
-    #[tactic(auto, unfolding(crate::specs::Meaning::step_by))]
+    /// Does a command: asks the machine what its plan asks, and replies what that says of the answer.
+    #[tactic(auto, unfolding(crate::specs::Plans::plan_by))]
     pub fn step(&mut self, alloc: Global, c: &Command<u8>) -> Reply
-        ensures { StepsOrLacks M.alone (step (world_of M.state self.old) c.now) result (world_of M.state self.new) }
+        ensures { Follows M.did (plan self.old.names self.old.contracts.now c.now) (world_of M.state self.old) result (world_of M.state self.new) }
     {
         let process = c.name(0);
         let named = c.name(1);

@@ -26,10 +26,11 @@ pub struct Stage<'a> {
 }
 
 impl<'a> Model for Stage<'a> {
-    ghost use Rattle.xh_session.specs.Meaning.{World};
+    ghost use Rattle.xh_serial.specs.Machine.{Machine as Held};
+    ghost use Rattle.xh_session.specs.Plans.{World};
     ghost use Rattle.xh_session.specs.Worlds.{world_of};
 
-    ghost Value = { World };
+    ghost Value = { World Held };
 
     ghost view = { λ s. world_of (λ m. m) s.session };
 }
@@ -70,6 +71,7 @@ impl<'a> Stage<'a> {
     }
 
     /// Does the command of one more line.
+    #[tactic(auto, using(crate::proofs::Plans::stepped))]
     pub fn step(&mut self, alloc: Global, line: &Line) -> Result<Answered, AllocError>
         ensures reply { IfOk result (λ answered. answered ≡ record { line = line.now.number; reply = (step self.old line.now.command).0 }) }
         ensures after { OnOk result (self.new ≡ (step self.old line.now.command).1) }
@@ -85,6 +87,7 @@ impl<'a> Stage<'a> {
     }
 
     // Does the commands of lines in order. Want of memory ends the run.
+    #[tactic(auto, using(crate::proofs::Worlds::answers_more, crate::proofs::Worlds::after_more))]
     fn run(&mut self, alloc: Global, lines: &[Line]) -> Result<Vec<Answered>, AllocError>
         ensures answers { IfOk result (λ replies. replies.items ≡ answers self.old lines.now) }
         ensures after { OnOk result (self.new ≡ after self.old lines.now) }

@@ -33,11 +33,14 @@ fn received(message: Taken) -> Received
 }
 
 impl Machine for Serial {
-    ghost use Rattle.std.specs.Prelude.{true};
+    ghost use Rattle.xh_serial.specs.Machine.{Machine as Held};
+    ghost use Rattle.xh_session.specs.Machines.{Does};
 
-    ghost alone = { true };
+    ghost State = { Held };
 
     ghost state = { λ m. m };
+
+    ghost did = { Does };
 
     fn spawn(&mut self) -> Result<u16, Refused> {
         Serial::spawn(self)

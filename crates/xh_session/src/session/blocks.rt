@@ -1,8 +1,7 @@
 //! The commands alloc, split, read, write and free.
 ghost use Rattle.std.specs.Prelude.{◌≡◌, ◌≤◌, length};
 ghost use Rattle.xh_script.specs.declared.limits.TheConstants.{MAX_HEX};
-ghost use Rattle.xh_session.specs.Meaning.{alloc_step, split_step, read_step, write_step, free_step};
-ghost use Rattle.xh_session.specs.Steps.{Steps, StepsOrLacks};
+ghost use Rattle.xh_session.specs.Plans.{Follows, alloc_plan, split_plan, read_plan, write_plan, free_plan};
 ghost use Rattle.xh_session.specs.Worlds.{world_of};
 
 use crate::machine::Machine;
@@ -30,7 +29,7 @@ impl<'a, M: Machine> Session<'a, M> {
         bytes: u32,
         arena: u32,
     ) -> Reply
-        ensures { StepsOrLacks M.alone (alloc_step (world_of M.state self.old) process block bytes arena) result (world_of M.state self.new) }
+        ensures { Follows M.did (alloc_plan self.old.names process block bytes arena) (world_of M.state self.old) result (world_of M.state self.new) }
     {
         let number = self.names.number(process);
         match self.machine.alloc(alloc, number, bytes, arena) {
@@ -50,7 +49,7 @@ impl<'a, M: Machine> Session<'a, M> {
         at: u32,
         tail: u8,
     ) -> Reply
-        ensures { StepsOrLacks M.alone (split_step (world_of M.state self.old) process block at tail) result (world_of M.state self.new) }
+        ensures { Follows M.did (split_plan self.old.names process block at tail) (world_of M.state self.old) result (world_of M.state self.new) }
     {
         let number = self.names.number(process);
         let rec = self.names.record_of(process, block);
@@ -67,7 +66,7 @@ impl<'a, M: Machine> Session<'a, M> {
     }
 
     pub(crate) fn read(&mut self, process: u8, block: u8, at: u32, len: u32) -> Reply
-        ensures { Steps M.alone (read_step (world_of M.state self.old) process block at len) result (world_of M.state self.new) }
+        ensures { Follows M.did (read_plan self.old.names process block at len) (world_of M.state self.old) result (world_of M.state self.new) }
     {
         let number = self.names.number(process);
         let rec = self.names.record_of(process, block);
@@ -80,7 +79,7 @@ impl<'a, M: Machine> Session<'a, M> {
     }
 
     pub(crate) fn write(&mut self, process: u8, block: u8, at: u32, bytes: &[u8]) -> Reply
-        ensures { Steps M.alone (write_step (world_of M.state self.old) process block at bytes.now) result (world_of M.state self.new) }
+        ensures { Follows M.did (write_plan self.old.names process block at bytes.now) (world_of M.state self.old) result (world_of M.state self.new) }
     {
         let number = self.names.number(process);
         let rec = self.names.record_of(process, block);
@@ -91,7 +90,7 @@ impl<'a, M: Machine> Session<'a, M> {
     }
 
     pub(crate) fn free(&mut self, process: u8, block: u8) -> Reply
-        ensures { Steps M.alone (free_step (world_of M.state self.old) process block) result (world_of M.state self.new) }
+        ensures { Follows M.did (free_plan self.old.names process block) (world_of M.state self.old) result (world_of M.state self.new) }
     {
         let number = self.names.number(process);
         let rec = self.names.record_of(process, block);

@@ -1,8 +1,7 @@
 //! The commands wire and open, with a contract or without.
 ghost use Rattle.std.specs.Prelude.{◌≡◌};
 ghost use Rattle.std.specs.Option.{option_map};
-ghost use Rattle.xh_session.specs.Meaning.{open_step, wire_step, contract_at};
-ghost use Rattle.xh_session.specs.Steps.{Steps};
+ghost use Rattle.xh_session.specs.Plans.{Follows, open_plan, wire_plan, contract_at};
 ghost use Rattle.xh_session.specs.Worlds.{world_of};
 
 use crate::machine::Machine;
@@ -25,7 +24,7 @@ impl<'a, M: Machine> Session<'a, M> {
         arena: u32,
         contract: Option<u8>,
     ) -> Reply
-        ensures { Steps M.alone (open_step (world_of M.state self.old) process first_name second_name arena contract) result (world_of M.state self.new) }
+        ensures { Follows M.did (open_plan self.old.names self.old.contracts.now process first_name second_name arena contract) (world_of M.state self.old) result (world_of M.state self.new) }
     {
         let number = self.names.number(process);
         let contract = contract_at(self.contracts, contract);
@@ -48,7 +47,7 @@ impl<'a, M: Machine> Session<'a, M> {
         arena: u32,
         contract: Option<u8>,
     ) -> Reply
-        ensures { Steps M.alone (wire_step (world_of M.state self.old) process first_name other second_name arena contract) result (world_of M.state self.new) }
+        ensures { Follows M.did (wire_plan self.old.names self.old.contracts.now process first_name other second_name arena contract) (world_of M.state self.old) result (world_of M.state self.new) }
     {
         let p = self.names.number(process);
         let q = self.names.number(other);

@@ -2,8 +2,7 @@
 ghost use Rattle.std.specs.Prelude.{◌≡◌, ◌≤◌, length, map, option_map};
 ghost use Rattle.xh_model.specs.declared.limits.TheConstants.{MAX_BLOCKS};
 ghost use Rattle.xh_script.specs.declared.limits.TheConstants.{MAX_WORDS};
-ghost use Rattle.xh_session.specs.Meaning.{give_step, take_step, handed_back};
-ghost use Rattle.xh_session.specs.Steps.{Steps};
+ghost use Rattle.xh_session.specs.Plans.{Follows, give_plan, take_plan, handed_back};
 ghost use Rattle.xh_session.specs.Worlds.{world_of};
 
 use crate::machine::Machine;
@@ -49,7 +48,7 @@ fn keep_back(names: &mut Names, process: u8, records: &[u16], refused: &Refused)
 impl<'a, M: Machine> Session<'a, M> {
     pub(crate) fn give(&mut self, process: u8, endpoint: u8, tag: u32, words: &[Word<u8>]) -> Reply
         requires { length words.now ≤ MAX_WORDS }
-        ensures { Steps M.alone (give_step (world_of M.state self.old) process endpoint tag words.now) result (world_of M.state self.new) }
+        ensures { Follows M.did (give_plan self.old.names process endpoint tag words.now) (world_of M.state self.old) result (world_of M.state self.new) }
     {
         let number = self.names.number(process);
         let rec = self.names.record_of(process, endpoint);
@@ -75,7 +74,7 @@ impl<'a, M: Machine> Session<'a, M> {
         endpoint: u8,
         words: &[Word<u8>],
     ) -> Reply
-        ensures { Steps M.alone (take_step (world_of M.state self.old) process endpoint words.now) result (world_of M.state self.new) }
+        ensures { Follows M.did (take_plan waits self.old.names process endpoint words.now) (world_of M.state self.old) result (world_of M.state self.new) }
     {
         let number = self.names.number(process);
         let rec = self.names.record_of(process, endpoint);

@@ -1,9 +1,9 @@
 //! The commands process, again, glance, close, exit and kill.
-ghost use Rattle.std.specs.Prelude.{◌≡◌, true};
+ghost use Rattle.std.specs.Prelude.{◌≡◌};
 ghost use Rattle.xh_session.specs.Bindings.{has_place};
-ghost use Rattle.xh_session.specs.Meaning.{process_step, again_step, glance_step, close_step, exit_step, kill_step, look, is_alive};
-ghost use Rattle.xh_session.specs.Steps.{Steps};
+ghost use Rattle.xh_session.specs.Plans.{Follows, process_plan, again_plan, glance_plan, close_plan, exit_plan, kill_plan, is_alive};
 ghost use Rattle.xh_session.specs.Worlds.{world_of};
+ghost use Rattle.xh_session.specs.inner.Looking.{Looks};
 
 use crate::machine::Machine;
 use crate::session::Session;
@@ -27,7 +27,7 @@ fn is_alive(look: &Result<Glance, Refused>) -> bool
 impl<'a, M: Machine> Session<'a, M> {
     /// What the place of a process shows of it; Ended where it shows a later process.
     fn look(&mut self, number: u16) -> Result<Glance, Refused>
-        ensures { M.alone ≡ true → (look (world_of M.state self.old) number ≡ result) × (world_of M.state self.new ≡ world_of M.state self.old) }
+        ensures { Looks M.did number (world_of M.state self.old) result (world_of M.state self.new) }
     {
         match self.machine.glance((number % u16::from(PLACES)) as u8) {
             Ok(look) if look.process == number => Ok(look),
@@ -37,7 +37,7 @@ impl<'a, M: Machine> Session<'a, M> {
     }
 
     pub(crate) fn process(&mut self, process: u8) -> Reply
-        ensures { Steps M.alone (process_step (world_of M.state self.old) process) result (world_of M.state self.new) }
+        ensures { Follows M.did (process_plan self.old.names process) (world_of M.state self.old) result (world_of M.state self.new) }
     {
         if self.names.has_place(process) {
             return Reply::No(Refused::Twice);
@@ -52,7 +52,7 @@ impl<'a, M: Machine> Session<'a, M> {
     }
 
     pub(crate) fn again(&mut self, process: u8) -> Reply
-        ensures { Steps M.alone (again_step (world_of M.state self.old) process) result (world_of M.state self.new) }
+        ensures { Follows M.did (again_plan self.old.names process) (world_of M.state self.old) result (world_of M.state self.new) }
     {
         if !self.names.has_place(process) {
             return Reply::No(Refused::NoProcess);
@@ -72,7 +72,7 @@ impl<'a, M: Machine> Session<'a, M> {
     }
 
     pub(crate) fn glance(&mut self, process: u8, other: u8) -> Reply
-        ensures { Steps M.alone (glance_step (world_of M.state self.old) process other) result (world_of M.state self.new) }
+        ensures { Follows M.did (glance_plan self.old.names process other) (world_of M.state self.old) result (world_of M.state self.new) }
     {
         if !self.names.has_place(process) || !self.names.has_place(other) {
             return Reply::No(Refused::NoProcess);
@@ -88,7 +88,7 @@ impl<'a, M: Machine> Session<'a, M> {
     }
 
     pub(crate) fn close(&mut self, process: u8, endpoint: u8) -> Reply
-        ensures { Steps M.alone (close_step (world_of M.state self.old) process endpoint) result (world_of M.state self.new) }
+        ensures { Follows M.did (close_plan self.old.names process endpoint) (world_of M.state self.old) result (world_of M.state self.new) }
     {
         let number = self.names.number(process);
         let rec = self.names.record_of(process, endpoint);
@@ -102,7 +102,7 @@ impl<'a, M: Machine> Session<'a, M> {
     }
 
     pub(crate) fn exit(&mut self, process: u8, budget: u32) -> Reply
-        ensures { Steps M.alone (exit_step (world_of M.state self.old) process budget) result (world_of M.state self.new) }
+        ensures { Follows M.did (exit_plan self.old.names process budget) (world_of M.state self.old) result (world_of M.state self.new) }
     {
         let number = self.names.number(process);
         let ended = self.machine.exit(number, budget);
@@ -110,7 +110,7 @@ impl<'a, M: Machine> Session<'a, M> {
     }
 
     pub(crate) fn kill(&mut self, process: u8, victim: u8, budget: u32) -> Reply
-        ensures { Steps M.alone (kill_step (world_of M.state self.old) process victim budget) result (world_of M.state self.new) }
+        ensures { Follows M.did (kill_plan self.old.names process victim budget) (world_of M.state self.old) result (world_of M.state self.new) }
     {
         let by = self.names.number(process);
         let number = self.names.number(victim);

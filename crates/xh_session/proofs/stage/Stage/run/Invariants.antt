@@ -1,4 +1,4 @@
-use Rattle.std.proofs.Common.{◌≡◌, ◌++◌, ◌+◌, ◌≤◌, drop, length, vec_len}
+use Rattle.std.proofs.Common.{◌≡◌, ◌++◌, ◌≤◌, drop, length, vec_len}
 use Rattle.std.specs.Vec.{vec_capacity}
 use Rattle.xh_session.specs.Meaning.{answers, after}
 use Rattle.xh_session.proofs.stage.Stage.run.Given as goal
