@@ -8,3 +8,5 @@ pub mod Closed
 pub mod LedgerLines
 pub mod Sums
 pub mod Stepping
+pub mod Kept
+pub mod Compared

@@ -1,5 +1,5 @@
 -- The sums over the lines of the arenas.
-use Rattle.std.proofs.Common.{◌≡◌, ℕ, suc, ◌+◌, List, [], ◌∷◌, ◌++◌, length, map, sum, All, refl, ap, ◌∙◌, arith}
+use Rattle.std.proofs.Common.{◌≡◌, ℕ, suc, ◌+◌, List, [], ◌∷◌, ◌++◌, length, get_or, map, sum, All, refl, ap, ◌∙◌, arith}
 use Rattle.std.proofs.lemmas.Grind.{common_steps}
 use Rattle.std.specs.Prelude.{slice_index}
 use Rattle.std.specs.List.{sum_by}
@@ -52,18 +52,21 @@ module _ (f : ArenaLine → ℕ) (part : ℕ → AccountOf → ℕ) (g : TallyOf
   no_more k [] = refl
   no_more k (v ∷ vs) = omega (arith, sum_by-cons f (arena_line [] k v) (arena_lines [] (suc k) vs), is [] k v, no_more (suc k) vs)
 
-  pub exchanged : (zs : List TableId) (vs : List VaultOf) (all : List AccountOf) → vault_names vs ≡ zs → All (Named zs) all
-      → sum_by f (arena_lines all 0 vs) ≡ sum_by (λ a. sum_by g a.tallies) all
-  exchanged zs vs [] e named = no_more 0 vs
-  exchanged zs vs (a ∷ rest) e named =
-      let ih = exchanged zs vs rest e (λ k d h. named (suc k) d (omega arith)) in
-      let one = one_more a rest 0 vs a.tallies (as_many zs vs a.tallies e (named 0 a (omega arith))) (λ i. let z : 0 + i ≡ i = omega arith in ap (λ y. part y a) z ∙ at i a) in
+  pub exchanged : (vs : List VaultOf) (all : List AccountOf) → All (λ a. length a.tallies ≡ length vs) all → sum_by f (arena_lines all 0 vs) ≡ sum_by (λ a. sum_by g a.tallies) all
+  exchanged vs [] each = no_more 0 vs
+  exchanged vs (a ∷ rest) each =
+      let ih = exchanged vs rest (λ k d h. each (suc k) d (omega arith)) in
+      let one = one_more a rest 0 vs a.tallies (each 0 a (omega arith)) (λ i. let z : 0 + i ≡ i = omega arith in ap (λ y. part y a) z ∙ at i a) in
       omega (arith, ih, one, sum_by-cons (λ (b : AccountOf). sum_by g b.tallies) a rest)
+
+-- all that came back is the sum over the lines
+pub all_back_in_lines : (vs : List VaultOf) (all : List AccountOf) → All (λ a. length a.tallies ≡ length vs) all → sum_by (λ l. l.back) (arena_lines all 0 vs) ≡ all_back all
+all_back_in_lines = exchanged (λ l. l.back) back_of (λ t. t.back) (λ all k v. refl) (λ k a. refl)
 
 -- what all accounts took less what they gave back was handed out
 pub all_moved : (zs : List TableId) (vs : List VaultOf) (all : List AccountOf) → vault_names vs ≡ zs → All (Named zs) all → All IsEven (arena_lines all 0 vs)
     → all_taken all ≡ all_back all + sum_by (λ l. l.out) (arena_lines all 0 vs)
 all_moved zs vs all e named even =
-    let t : sum_by (λ (l : ArenaLine). l.taken) (arena_lines all 0 vs) ≡ all_taken all = exchanged (λ l. l.taken) taken_of (λ t. t.taken) (λ all k v. refl) (λ k a. refl) zs vs all e named in
-    let b : sum_by (λ (l : ArenaLine). l.back) (arena_lines all 0 vs) ≡ all_back all = exchanged (λ l. l.back) back_of (λ t. t.back) (λ all k v. refl) (λ k a. refl) zs vs all e named in
-    omega (arith, t, b, sum_even (arena_lines all 0 vs) even)
+    let each : All (λ (a : AccountOf). length a.tallies ≡ length vs) all = λ k d h. as_many zs vs (get_or all k d).tallies e (named k d h) in
+    let t : sum_by (λ (l : ArenaLine). l.taken) (arena_lines all 0 vs) ≡ all_taken all = exchanged (λ l. l.taken) taken_of (λ t. t.taken) (λ all k v. refl) (λ k a. refl) vs all each in
+    omega (arith, t, all_back_in_lines vs all each, sum_even (arena_lines all 0 vs) even)

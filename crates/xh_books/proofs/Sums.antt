@@ -1,12 +1,14 @@
 -- The sums over a worker's calls, as its account says.
-use Rattle.std.proofs.Common.{◌≡◌, ◌≢◌, ℕ, zero, suc, ◌+◌, ◌*◌, ◌/◌, ◌<◌, ◌≤◌, Bool, true, false, cond, List, [], ◌∷◌, ◌++◌, length, get_or, map, refl, sym, ap, ◌∙◌, subst, ⊎_elim, arith, All, length-set, eq-eqb, ne_eqb, ltb-true, ltb-false}
-use Rattle.std.proofs.lemmas.List.Elements.{All-head, All-tail}
-use mathlib.Core.Logic.{dite}
+use Rattle.std.proofs.Common.{◌≡◌, ◌≢◌, ℕ, zero, suc, ◌+◌, ◌*◌, ◌/◌, ◌<◌, ◌≤◌, Bool, true, false, cond, List, [], ◌∷◌, ◌++◌, length, get_or, map, refl}
+use Rattle.std.proofs.Common.{sym, ap, ◌∙◌, subst, ⊎_elim, arith, All, length-set, eq-eqb, ne_eqb}
+use Rattle.std.proofs.lemmas.List.Elements.{All-cons, All-head, All-nil, All-tail}
+use mathlib.Core.Logic.{dite, ∥∥₁_elim}
 use native.Mathlib.Decide.{ℕ_discrete}
-use Rattle.std.proofs.lemmas.List.{length-map}
+use Rattle.std.specs.Coded.{le_prop}
+use Rattle.std.proofs.lemmas.List.{get_or_default, length-map}
 use Rattle.std.proofs.lemmas.List.Recursion.{is_sum_by}
 use Rattle.std.proofs.lemmas.List.Sums.{sum_by-cons, sum_by-set}
-use Rattle.std.specs.Prelude.{◌==◌, slice_index, slice_set, Ok, nat_lt}
+use Rattle.std.specs.Prelude.{◌==◌, slice_index, slice_set, Ok}
 use Rattle.std.specs.List.{sum_by}
 use Rattle.atomic_table.specs.Seated.{TableId}
 use Rattle.xh_arena.specs.Views.{TallyOf}
@@ -16,12 +18,15 @@ use Rattle.xh_history.specs.Histories.{HasSeen, History, at, calls_of}
 use Rattle.xh_kernel.specs.declared.call.Call.{Call}
 use Rattle.xh_kernel.specs.declared.call.Call.TheVariants as call
 use Rattle.xh_kernel.specs.Accounts.{AccountOf, HasBack, HasGiven, HasTaken, IsUnmoved, fresh}
+use Rattle.xh_kernel.specs.Histories.{IsLawfulHistory, Leads}
+use Rattle.xh_core.specs.declared.glance.Glance.{Glance}
+use Rattle.xh_place.specs.Seen.{PlaceSeen}
 use Rattle.xh_books.specs.Ledgers.{all_back, taken_of}
 use Rattle.xh_books.specs.Sums.{AllWorked, MakesOne, Moves, SeesOthers, Steps, Worked, arena_count, back_in, sum_of, sum_of_all, taken_in}
 use Rattle.xh_model.specs.declared.limits.TheConstants.{END_BYTES, MAX_RECORDS, PLACES}
 use Rattle.xh_place.proofs.Swept.{gave_some}
 use Rattle.xh_place.specs.Ending.{HasGivenBack, back_of, but_back}
-use Rattle.xh_place.specs.Tallies.{gave, took}
+use Rattle.xh_place.specs.Tallies.{took}
 
 -- ---- tallies
 
@@ -45,11 +50,6 @@ took_back : (a n : ℕ) (ts : List TallyOf) → back_of (took a n ts) ≡ back_o
 took_back a n [] = refl
 took_back zero n (t ∷ ts) = refl
 took_back (suc a) n (t ∷ ts) = ap (λ m. t.back + m) (took_back a n ts)
-
-gave_past : (a n : ℕ) (ts : List TallyOf) → length ts ≤ a → gave a n ts ≡ ts
-gave_past a n [] h = refl
-gave_past zero n (t ∷ ts) h = absurd (omega arith)
-gave_past (suc a) n (t ∷ ts) h = ap (λ (l : List TallyOf). t ∷ l) (gave_past a n ts (omega arith))
 
 but_long : (ts : List TallyOf) → length (but_back ts) ≡ length ts
 but_long [] = refl
@@ -93,14 +93,10 @@ module _ (old new : AccountOf) where
     back = m.1.0;
   }
 
-  -- a record of no arena gives nothing back
-  giving : (a n : ℕ) → HasGiven a n old new → Went (λ _. 0) (cond (nat_lt a (length old.tallies)) n 0) old new
-  giving a n m = elim (nat_lt a (length old.tallies)) as (λ b. nat_lt a (length old.tallies) ≡ b → Went (λ _. 0) (cond b n 0) old new) [
-    | true ↦ λ e. reclaiming n (m.0, subst (HasGivenBack n old.tallies) (sym m.1) (gave_some a n old.tallies (ltb-true a (length old.tallies) e)))
-    | false ↦ λ e. unmoved (m.0, m.1 ∙ gave_past a n old.tallies (ltb-false a (length old.tallies) e))
-  ] refl
+  giving : (a n : ℕ) → HasGiven a n old new → Went (λ _. 0) n old new
+  giving a n m = reclaiming n (m.0, subst (HasGivenBack n old.tallies) (sym m.1) (gave_some a n old.tallies m.2))
 
-  went : (e : Call) → Moves e old new → Went (λ arena. taken_in arena e) (back_in (length old.tallies) e) old new
+  went : (e : Call) → Moves e old new → Went (λ arena. taken_in arena e) (back_in e) old new
   went (call.Alloc p n a (Ok b)) m = taking a b.len m
   went (call.Open p a contract (Ok ends)) m = taking a (2 * END_BYTES) m
   went (call.OpenToward p a contract (Ok wired)) m = taking a (2 * END_BYTES) m
@@ -155,7 +151,7 @@ record AreSums (names : List TableId) (k : ℕ) (a : AccountOf) : Type 0 where
   fronts : length a.fronts ≡ PLACES
   count : length a.tallies ≡ length names
   taken : (arena : ℕ) → arena < length names → taken_at arena a.tallies ≡ sum_of (taken_in arena) k a.fronts
-  back : back_of a.tallies ≡ sum_of (back_in (length names)) k a.fronts
+  back : back_of a.tallies ≡ sum_of back_in k a.fronts
 
 module _ (k : ℕ) where
   fresh_taken : (names : List TableId) (arena : ℕ) → taken_at arena (map (fresh_tally k) names) ≡ 0
@@ -187,7 +183,7 @@ module _ (parts : PartsOf) (names : List TableId) (k : ℕ) where
         fronts = ap length m.3.seen ∙ length-set old.fronts m.0 ((at old.fronts m.0 ++ m.3.others) ++ (old.number, m.1) ∷ []) ∙ s.fronts;
         count = w.count ∙ s.count;
         taken = λ arena h. omega (arith, w.taken arena (omega (arith, h, s.count)), s.taken arena h, step (taken_in arena));
-        back = w.back ∙ omega (arith, s.back, step (back_in (length names)), ap (λ n. back_in n m.1) s.count);
+        back = w.back ∙ omega (arith, s.back, step back_in);
       }
 
   saw : (old new : AccountOf) → AreSums names k old → SeesOthers old new → AreSums names k new
@@ -198,7 +194,7 @@ module _ (parts : PartsOf) (names : List TableId) (k : ℕ) where
         fronts = ap length m.4 ∙ length-set old.fronts m.0 m.1 ∙ s.fronts;
         count = ap length m.3.1 ∙ s.count;
         taken = λ arena h. ap (taken_at arena) m.3.1 ∙ s.taken arena h ∙ sym (same (taken_in arena));
-        back = ap back_of m.3.1 ∙ s.back ∙ sym (same (back_in (length names)));
+        back = ap back_of m.3.1 ∙ s.back ∙ sym (same back_in);
       }
 
   steps : (n : ℕ) (a : AccountOf) → Steps parts n (fresh names k) a → AreSums names k a
@@ -218,8 +214,8 @@ module _ (parts : PartsOf) (hs : List (History Call)) where
   pub worked_taken : (k : ℕ) (a : AccountOf) → Worked parts hs k a → (arena : ℕ) → arena < arena_count parts → taken_of arena a ≡ sum_of (taken_in arena) k hs
   worked_taken k a w arena h = (reached k a w).taken arena h ∙ sym (same_sum (taken_in arena) k a w)
 
-  pub worked_back : (k : ℕ) (a : AccountOf) → Worked parts hs k a → sum_by (λ t. t.back) a.tallies ≡ sum_of (back_in (arena_count parts)) k hs
-  worked_back k a w = sym (is_sum_by back_of (λ t. t.back) refl (λ t ts. refl) a.tallies) ∙ (reached k a w).back ∙ sym (same_sum (back_in (arena_count parts)) k a w)
+  pub worked_back : (k : ℕ) (a : AccountOf) → Worked parts hs k a → sum_by (λ t. t.back) a.tallies ≡ sum_of back_in k hs
+  worked_back k a w = sym (is_sum_by back_of (λ t. t.back) refl (λ t ts. refl) a.tallies) ∙ (reached k a w).back ∙ sym (same_sum back_in k a w)
 
 -- ---- all workers
 
@@ -294,9 +290,28 @@ summed : (f : Call → ℕ) (part : AccountOf → ℕ) (all : List AccountOf) (h
 summed f part all hs is within =
     by_number (λ k. sum_of f k hs) part 0 all (λ k d h. let e : k ≡ 0 + k = omega arith in is k d h ∙ ap (λ i. sum_of f i hs) e) ∙ all_owns f (length all) hs within
 
-module _ (parts : PartsOf) (hs : List (History Call)) (all : List AccountOf) (w : AllWorked parts hs all) where
-  pub all_taken_is : (arena : ℕ) → arena < arena_count parts → sum_by (taken_of arena) all ≡ sum_of_all (taken_in arena) hs
-  all_taken_is arena h = summed (taken_in arena) (taken_of arena) all hs (λ k d lt. worked_taken parts hs k (get_or all k d) (w.0 k d lt) arena h) w.1
+-- each call of a lawful history is of a worker of the kernel
+module _ (parts : PartsOf) where
+  abbrev IsOfWorker : ℕ × Call → Type 0
+  IsOfWorker c = c.0 < parts.workers
 
-  pub all_back_is : all_back all ≡ sum_of_all (back_in (arena_count parts)) hs
-  all_back_is = summed (back_in (arena_count parts)) (λ a. sum_by (λ t. t.back) a.tallies) all hs (λ k d lt. worked_back parts hs k (get_or all k d) (w.0 k d lt)) w.1
+  leads_within : (old new : PlaceSeen) (h : History Call) (gs : List Glance) → Leads parts old h gs new → All IsOfWorker h
+  leads_within old new [] gs l = All-nil IsOfWorker
+  leads_within old new (c ∷ h) gs l = All-cons IsOfWorker c h l.5.worker (leads_within l.1 new h l.3 l.7)
+
+  lawful_within : (k : ℕ) (h : History Call) → IsLawfulHistory parts k h → All IsOfWorker h
+  lawful_within k h lawful = λ j d below. ∥∥₁_elim lawful le_prop (λ l. leads_within l.2.0 l.1 h l.2.1 l.2.4 j d below)
+
+module _ (parts : PartsOf) (hs : List (History Call)) (all : List AccountOf) (w : AllWorked parts hs all) where
+  within : All (λ h. All (λ c. c.0 < length all) h) hs
+  within p d below = subst (λ (n : ℕ). All (λ (c : ℕ × Call). c.0 < n) (get_or hs p d)) (sym w.0)
+      (subst (All (IsOfWorker parts)) (get_or_default hs p [] d below) (lawful_within parts p (at hs p) (w.3 p below)))
+
+  pub all_taken_is : (arena : ℕ) → arena < arena_count parts → sum_by (taken_of arena) all ≡ sum_of_all (taken_in arena) hs
+  all_taken_is arena h = summed (taken_in arena) (taken_of arena) all hs (λ k d lt. worked_taken parts hs k (get_or all k d) (w.1 k d lt, w.2 k d lt) arena h) within
+
+  pub all_back_is : all_back all ≡ sum_of_all back_in hs
+  all_back_is = summed back_in (λ a. sum_by (λ t. t.back) a.tallies) all hs (λ k d lt. worked_back parts hs k (get_or all k d) (w.1 k d lt, w.2 k d lt)) within
+
+  pub as_many_tallies : All (λ a. length a.tallies ≡ arena_count parts) all
+  as_many_tallies k d lt = (reached parts hs k (get_or all k d) (w.1 k d lt, w.2 k d lt)).count

@@ -1,3 +1,4 @@
 pub mod Ledgers
 pub mod Sums
+pub mod Closing
 pub mod inner

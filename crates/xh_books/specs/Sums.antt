@@ -1,12 +1,12 @@
 -- What the calls of a worker took of the arenas and gave back, in its account and over the histories of the places.
-use Rattle.std.specs.Prelude.{◌≡◌, ◌==◌, ◌⊎◌, ℕ, zero, suc, ◌*◌, ◌/◌, ◌<◌, nat_lt, cond, List, length, slice_index_or, slice_set, Ok, MatchResult, All}
+use Rattle.std.specs.Prelude.{◌≡◌, ◌==◌, ◌⊎◌, ℕ, zero, suc, ◌*◌, ◌/◌, ◌<◌, cond, List, length, slice_index_or, slice_set, Ok, MatchResult, All}
 use Rattle.std.specs.List.{sum_by}
 use Rattle.xh_calls.specs.Parts.{PartsOf}
 use Rattle.xh_history.specs.Histories.{HasSeen, History, at, calls_of}
 use Rattle.xh_kernel.specs.declared.call.Call.{Call}
 use Rattle.xh_kernel.specs.declared.call.Call.TheVariants as call
 use Rattle.xh_kernel.specs.Accounts.{AccountOf, HasBack, HasGiven, HasTaken, IsUnmoved, fresh}
-use Rattle.xh_kernel.specs.Histories.{Made}
+use Rattle.xh_kernel.specs.Histories.{IsLawfulHistory, Made}
 use Rattle.xh_kernel.specs.Wires.{TakesEnds}
 use Rattle.xh_model.specs.declared.limits.TheConstants.{END_BYTES, MAX_RECORDS, PLACES}
 
@@ -19,14 +19,14 @@ taken_in arena (call.Open p a contract (Ok ends)) = cond (a == arena) (2 * END_B
 taken_in arena (call.OpenToward p a contract (Ok wired)) = cond (a == arena) (2 * END_BYTES) 0
 taken_in arena _ = 0
 
--- the bytes that it gave back, where there are so many arenas: a record of another is nobody's
-abbrev pub back_in : ℕ → Call → ℕ
-back_in arenas (call.Free p r (Ok n)) = cond (nat_lt (r / MAX_RECORDS) arenas) n 0
-back_in arenas (call.Receive q r channel bytes result) = bytes
-back_in arenas (call.CloseAgain p r channel bytes) = bytes
-back_in arenas (call.Close p e bytes result) = bytes
-back_in arenas (call.Stop p budget bytes result) = bytes
-back_in arenas _ = 0
+-- the bytes that it gave back
+abbrev pub back_in : Call → ℕ
+back_in (call.Free p r (Ok n)) = n
+back_in (call.Receive q r channel bytes result) = bytes
+back_in (call.CloseAgain p r channel bytes) = bytes
+back_in (call.Close p e bytes result) = bytes
+back_in (call.Stop p budget bytes result) = bytes
+back_in _ = 0
 
 -- what a call's contract says of the tallies
 abbrev pub Moves : Call → AccountOf → AccountOf → Type 0
@@ -66,13 +66,25 @@ AreSteps parts Contract = (old new : AccountOf) → Contract old new → Reaches
 abbrev pub AreSeen : AccountOf → List (History Call) → Type 0
 AreSeen a hs = (length hs ≡ PLACES) × ((p : ℕ) → p < PLACES → HasSeen a.number (at a.fronts p) (at hs p))
 
--- the worker k of a kernel of these parts began with a fresh account, and its steps led to this one and these histories
-abbrev pub Worked : PartsOf → List (History Call) → ℕ → AccountOf → Type 0
-Worked parts hs k a = Reaches parts (fresh parts.records.shape.names k) a × AreSeen a hs
+-- the worker k of a kernel of these parts began with a fresh account, and its steps led to this one
+abbrev pub Began : PartsOf → ℕ → AccountOf → Type 0
+Began parts k a = Reaches parts (fresh parts.records.shape.names k) a
 
--- these are the accounts of the workers 0, 1, .., in order, and each call of the histories is of one of them
+-- and to these histories
+abbrev pub Worked : PartsOf → List (History Call) → ℕ → AccountOf → Type 0
+Worked parts hs k a = Began parts k a × AreSeen a hs
+
+-- each of these accounts began so, the k-th as that of the worker k
+abbrev pub AllBegan : PartsOf → List AccountOf → Type 0
+AllBegan parts all = (k : ℕ) (d : AccountOf) → k < length all → Began parts k (slice_index_or all k d)
+
+-- the history of each place is lawful
+abbrev pub AreLawful : PartsOf → List (History Call) → Type 0
+AreLawful parts hs = (p : ℕ) → p < length hs → IsLawfulHistory parts p (at hs p)
+
+-- these are the accounts of all workers, in order, and they worked on these histories
 abbrev pub AllWorked : PartsOf → List (History Call) → List AccountOf → Type 0
-AllWorked parts hs all = ((k : ℕ) (d : AccountOf) → k < length all → Worked parts hs k (slice_index_or all k d)) × All (λ h. All (λ c. c.0 < length all) h) hs
+AllWorked parts hs all = (length all ≡ parts.workers) × AllBegan parts all × All (λ a. AreSeen a hs) all × AreLawful parts hs
 
 -- ---- the sums
 

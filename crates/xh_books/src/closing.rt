@@ -5,16 +5,19 @@ ghost use Rattle.xh_calls.specs.Parts.{IsOpen, vault_names};
 ghost use Rattle.xh_kernel.specs.Places.{places_of};
 ghost use Rattle.xh_model.specs.declared.limits.TheConstants.{MAX_ARENAS, PLACES};
 ghost use Rattle.xh_place.specs.Places.{IsPlaceOf};
+ghost use Rattle.xh_books.specs.Closing.{IsClosed};
 ghost use Rattle.xh_books.specs.inner.Steps.{AreAt, SayInFlight, lens_of, unlisted_from};
 ghost use Rattle.xh_books.specs.Ledgers.{IsBalanced, all_back, all_taken, arena_lines, bytes_in_flight, bytes_owned, place_lines};
 
 use crate::auditing::audit;
 use crate::collecting::gather;
+use crate::comparing::compare;
 use crate::lines::{arena_lines, bytes_in, bytes_out, end_places};
 use arrayvec::ArrayVec;
 use std::alloc::Global;
 use xh_arena::{Lot, Vault};
 use xh_core::{ARENA_LINES, ArenaLine, Ledger, PLACE_LINES, PlaceLine, Refused};
+use xh_glance::Look;
 use xh_kernel::{Account, Kernel, Names, Settled};
 use xh_place::{Body, Place};
 use xh_records::Records;
@@ -95,15 +98,19 @@ pub fn close_books<N: Names>(
     Ok(ledger(arenas, places))
 }
 
-/// Takes a kernel apart whose workers are done, and closes its books.
+/// Takes a kernel apart whose workers are done, compares what they have seen with the histories of its places,
+/// and closes its books. The accounts and the looks of all workers are handed in.
 ///
 /// OutOfMemory where a growth was refused.
 pub fn close_kernel<N: Names>(
     alloc: Global,
     kernel: Kernel<N>,
     accounts: Vec<Account<N>>,
+    looks: Vec<Look>,
 ) -> Result<Ledger, Refused>
-    requires { vec_len accounts ≡ N.parts.workers }
+    requires accounts { vec_len accounts ≡ N.parts.workers }
+    requires looks { All (λ l. l.glances ≡ N.parts.glances) looks.items }
+    ensures closed { IfOk result (IsClosed N.parts accounts.items looks.items) }
     ensures arenas { IfOk result (λ l. (length l.arenas.items ≡ length N.parts.records.shape.names) × All (λ a. a.size ≡ N.parts.size) l.arenas.items) }
     ensures places { IfOk result (λ l. All (λ line. line.place < PLACES) l.places.items) }
     ensures balanced { IfOk result IsBalanced }
@@ -114,12 +121,15 @@ pub fn close_kernel<N: Names>(
             Settled {
                 vaults,
                 places,
-                pens: _,
+                pens,
                 records,
-                glances: _,
-                histories: _,
+                glances,
+                histories,
             },
-        ) => close_books(alloc, vaults, places, records, accounts),
+        ) => {
+            let accounts = compare(&glances, &histories, pens, accounts, looks)?;
+            close_books(alloc, vaults, places, records, accounts)
+        }
         Err(refused) => Err(refused),
     }
 }

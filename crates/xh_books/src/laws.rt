@@ -1,12 +1,15 @@
 //! What the contracts of the calls add up to: accounts and ledgers are sums over the histories.
 ghost use Rattle.std.specs.Prelude.{◌≡◌, ℕ, List, Option, Result};
 ghost use Rattle.std.specs.List.{sum_by};
+ghost use Rattle.xh_books.specs.Closing.{IsClosed, IsSumOver, histories_of};
 ghost use Rattle.xh_books.specs.Ledgers.{all_back, taken_of};
-ghost use Rattle.xh_books.specs.Sums.{AllWorked, AreSteps, EachArena, Moves, Worked, arena_count, back_in, sum_of, sum_of_all, taken_in};
+ghost use Rattle.xh_books.specs.Sums.{AllBegan, AllWorked, AreSteps, EachArena, Moves, Worked, back_in, sum_of, sum_of_all, taken_in};
 ghost use Rattle.xh_calls.specs.declared.several.Answered.{Answered};
 ghost use Rattle.xh_calls.specs.Parts.{PartsOf};
 ghost use Rattle.xh_core.specs.declared.block.Block.{Block};
 ghost use Rattle.xh_core.specs.declared.refused.Refused.{Refused};
+ghost use Rattle.xh_core.specs.declared.ledger.Ledger.{Ledger};
+ghost use Rattle.xh_glance.specs.Look.{LookOf};
 ghost use Rattle.xh_history.specs.Histories.{History};
 ghost use Rattle.xh_kernel.specs.declared.call.Call.{Call};
 ghost use Rattle.xh_kernel.specs.declared.call.Call.TheVariants as call;
@@ -36,12 +39,17 @@ pub fn calls_are_steps()
 /// says came back is the sum of what came back by them, over the histories of all places.
 pub fn accounts_are_sums()
     ensures taken { (parts : PartsOf) (hs : List (History Call)) (k : ℕ) (a : AccountOf) → Worked parts hs k a → EachArena parts (λ i. taken_of i a ≡ sum_of (taken_in i) k hs) }
-    ensures back { (parts : PartsOf) (hs : List (History Call)) (k : ℕ) (a : AccountOf) → Worked parts hs k a → sum_by (λ t. t.back) a.tallies ≡ sum_of (back_in (arena_count parts)) k hs }
+    ensures back { (parts : PartsOf) (hs : List (History Call)) (k : ℕ) (a : AccountOf) → Worked parts hs k a → sum_by (λ t. t.back) a.tallies ≡ sum_of back_in k hs }
 {}
 
-/// What a ledger says was taken of an arena, by all accounts, is the sum of what all calls of the histories took
-/// there, and what came back of all arenas is the sum of what came back by them.
+/// What all accounts say was taken of an arena is the sum of what all calls of the histories took there, and what
+/// they say came back of all arenas is the sum of what came back by them.
 pub fn ledgers_are_sums()
     ensures taken { (parts : PartsOf) (hs : List (History Call)) (all : List AccountOf) → AllWorked parts hs all → EachArena parts (λ i. sum_by (taken_of i) all ≡ sum_of_all (taken_in i) hs) }
-    ensures back { (parts : PartsOf) (hs : List (History Call)) (all : List AccountOf) → AllWorked parts hs all → all_back all ≡ sum_of_all (back_in (arena_count parts)) hs }
+    ensures back { (parts : PartsOf) (hs : List (History Call)) (all : List AccountOf) → AllWorked parts hs all → all_back all ≡ sum_of_all back_in hs }
+{}
+
+/// So are the lines of the ledger of a closed kernel, over the histories that its locks kept.
+pub fn closed_ledgers_are_sums()
+    ensures { (parts : PartsOf) (all : List AccountOf) (looks : List LookOf) (l : Ledger) (closed : IsClosed parts all looks l) → AllBegan parts all → IsSumOver parts (histories_of closed.pens) l }
 {}

@@ -95,9 +95,8 @@ fn on_parts<N: Names + Send + Sync, R: Threads + Wait + Clock + Abort + Sync>(
         Ok(made) => made,
         Err(refused) => return Err(refused),
     };
-    drop(looks);
     lend(rt, alloc, &kernel, &mut accounts, case);
-    close_kernel(alloc, kernel, accounts)
+    close_kernel(alloc, kernel, accounts, looks)
 }
 
 /// The case on a new kernel for so many workers; its ledger.

@@ -133,9 +133,9 @@ fn run_named<N: Names + Send + Sync, R: Threads + Wait + Sync>(
     requires names { parts ≡ N.parts }
     ensures balanced { IfOk result (λ r. IsBalanced r.1) }
 {
-    let (kernel, mut accounts, _looks) = Kernel::<N>::new(alloc, parts)?;
+    let (kernel, mut accounts, looks) = Kernel::<N>::new(alloc, parts)?;
     let rounds = run_all(rt, alloc, &kernel, &mut accounts);
-    let ledger = close_kernel(alloc, kernel, accounts);
+    let ledger = close_kernel(alloc, kernel, accounts, looks);
     let rounds = rounds?;
     Ok((rounds, ledger?))
 }

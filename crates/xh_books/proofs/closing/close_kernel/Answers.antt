@@ -1,6 +1,7 @@
-use Rattle.std.proofs.Common.{refl}
+use Rattle.std.proofs.Common.{rules, ◌≡◌, length, refl}
 use Rattle.std.specs.Prelude.{Result, Ok, Err, IfOk}
 use Rattle.xh_kernel.specs.Places.{places_of}
+use Rattle.xh_books.proofs.Kept.{is_closed, kept_own}
 use Rattle.xh_books.proofs.LedgerLines.{ledger_counts, ledger_places, ledger_sizes}
 use Rattle.xh_books.proofs.closing.close_kernel.Goals as goal
 
@@ -8,14 +9,25 @@ more : {A E : Type 0} (r : Result A E) (P Q : A → Type 0) → ((a : A) → P a
 more (Ok a) P Q f h = f a h
 more (Err e) P Q f h = tt
 
-pub returns-in-Ok-clause-arenas : goal.returns-in-Ok-clause-arenas
-returns-in-Ok-clause-arenas g c =
-    let parts = g.N.Names.parts in let settled = c.in-Ok in
-    more c.close_books.result _ _ (λ l e. (
-      ledger_counts parts c.args.accounts.items settled.field-0.vaults.items l.arenas.items e settled.ensures.vaults.0,
-      ledger_sizes parts parts.size c.args.accounts.items settled.field-0.vaults.items l.arenas.items e settled.ensures.vaults.1 refl,
-    )) c.close_books.ensures.arenas
+pub compare-requires-clause-pens : goal.compare-requires-clause-pens
+compare-requires-clause-pens g c = kept_own g.N.Names.parts c.in-Ok.field-0.places.items c.in-Ok.field-0.pens.items c.in-Ok.ensures.kept
 
-pub returns-in-Ok-clause-places : goal.returns-in-Ok-clause-places
-returns-in-Ok-clause-places g c =
-    more c.close_books.result _ _ (λ l e. ledger_places (places_of c.in-Ok.field-0.places.items) l.places.items e) c.close_books.ensures.places
+pub returns-in_ok-accounts-in-Ok-clause-closed : goal.returns-in_ok-accounts-in-Ok-clause-closed
+returns-in_ok-accounts-in-Ok-clause-closed g c =
+    let settled = c.in-Ok in let s = settled.field-0 in let closed = c.close_books.ensures in
+    let count : length c.args.accounts.items ≡ g.N.Names.parts.workers = search rules in
+    is_closed g.N.Names.parts s.places.items s.pens.items s.vaults.items c.args.accounts.items c.in_ok-accounts-in-Ok.accounts.items c.args.looks.items c.close_books.result
+    settled.ensures.kept count c.in_ok-accounts-in-Ok.ensures.seen (settled.ensures.vaults.0, settled.ensures.vaults.1) c.in_ok-accounts-in-Ok.ensures.same
+    closed.arenas closed.places closed.owned closed.flight closed.balanced
+
+pub returns-in_ok-accounts-in-Ok-clause-arenas : goal.returns-in_ok-accounts-in-Ok-clause-arenas
+returns-in_ok-accounts-in-Ok-clause-arenas g c =
+    let parts = g.N.Names.parts in let all = c.args.accounts.items in
+    more c.close_books.result _ _ (λ l e. (
+      ledger_counts parts all e.vaults l.arenas.items e.arenas e.open_vaults.0,
+      ledger_sizes parts parts.size all e.vaults l.arenas.items e.arenas e.open_vaults.1 refl,
+    )) (returns-in_ok-accounts-in-Ok-clause-closed g c)
+
+pub returns-in_ok-accounts-in-Ok-clause-places : goal.returns-in_ok-accounts-in-Ok-clause-places
+returns-in_ok-accounts-in-Ok-clause-places g c =
+    more c.close_books.result _ _ (λ l e. ledger_places (places_of e.places) l.places.items e.lines) (returns-in_ok-accounts-in-Ok-clause-closed g c)

@@ -1,0 +1,70 @@
+-- Comparing what workers have seen with the pens of the places, place by place and worker by worker.
+use Rattle.std.proofs.Common.{◌≡◌, ℕ, suc, ◌+◌, ◌<◌, ◌≤◌, List, [], ◌∷◌, All, length, get_or, map, set, refl, sym, ap, ◌∙◌, subst, arith, get_or-set_other}
+use Rattle.std.proofs.lemmas.List.{get_or-map, map-set, set-get_or}
+use Rattle.std.proofs.lemmas.List.Sums.{sum_by-cons}
+use Rattle.std.specs.List.{sum_by}
+use Rattle.std.specs.Prelude.{slice_index, slice_set}
+use mathlib.Core.Logic.{dite}
+use native.Mathlib.Decide.{ℕ_discrete}
+use Rattle.xh_arena.specs.Views.{TallyOf, VaultOf}
+use Rattle.xh_calls.specs.Parts.{PartsOf}
+use Rattle.xh_core.specs.declared.ledger.ArenaLine.{ArenaLine}
+use Rattle.xh_history.specs.Histories.{HasSeen, History, at}
+use Rattle.xh_kernel.specs.declared.call.Call.{Call}
+use Rattle.xh_kernel.specs.declared.scribe.Pens.{Pens}
+use Rattle.xh_kernel.specs.Accounts.{AccountOf, IsUnmoved}
+use Rattle.xh_kernel.specs.Kept.{AreOwn}
+use Rattle.xh_model.specs.Cover.{bytes_out, holes_of}
+use Rattle.xh_books.specs.Closing.{AreInOrder, histories_of}
+use Rattle.xh_books.specs.Ledgers.{arena_lines}
+use Rattle.xh_books.specs.inner.Steps.{tallies_of}
+
+-- the pens of a place, and what they know, by its number
+pub pens_at : (parts : PartsOf) (pens : List Pens) → All (AreOwn parts) pens → AreInOrder pens → (k : ℕ) (d : Pens) → k < length pens
+    → ((get_or pens k d).history.number ≡ k) × ((get_or pens k d).history.history ≡ at (histories_of pens) k)
+pens_at parts pens own in_order k d h =
+    ((own k d h).2 ∙ in_order.1 k d (omega (arith, h, in_order.0)), sym (get_or-map (λ (p : Pens). p.history.history) pens k d [] h))
+
+-- ---- an account
+
+-- it was compared with the first k places
+pub record SeenSoFar (hs : List (History Call)) (old now_ : AccountOf) (k : ℕ) : Type 0 where
+  pub unmoved : IsUnmoved old now_
+  pub seen : (p : ℕ) → p < k → HasSeen old.number (at old.fronts p) (at hs p)
+  pub rest : (p : ℕ) → k ≤ p → at now_.fronts p ≡ at old.fronts p
+
+pub one_seen : (hs : List (History Call)) (old now_ new : AccountOf) (k n : ℕ) (h : History Call) → SeenSoFar hs old now_ k → n ≡ k → h ≡ at hs k → HasSeen now_.number (at now_.fronts n) h
+    → IsUnmoved now_ new × (new.fronts ≡ slice_set now_.fronts n h) → SeenSoFar hs old new (k + 1)
+one_seen hs old now_ new k n h s same is seen m =
+    let before : at now_.fronts n ≡ at old.fronts k = ap (at now_.fronts) same ∙ s.rest k (omega arith) in
+    let here : HasSeen old.number (at old.fronts k) (at hs k) =
+    subst (HasSeen old.number (at old.fronts k)) is (subst (λ (j : ℕ). HasSeen j (at old.fronts k) h) s.unmoved.0 (subst (λ (f : History Call). HasSeen now_.number f h) before seen)) in record {
+      unmoved = (m.0.0 ∙ s.unmoved.0, m.0.1 ∙ s.unmoved.1);
+      seen = λ p lt. dite (ℕ_discrete p k) (λ e. subst (λ (q : ℕ). HasSeen old.number (at old.fronts q) (at hs q)) (sym e) here) (λ ne. s.seen p (omega arith));
+      rest = λ p le. ap (λ (fs : List (History Call)). at fs p) m.1 ∙ get_or-set_other now_.fronts n p h [] (λ e. omega (arith, e, same, le)) ∙ s.rest p (omega arith);
+    }
+
+-- ---- all accounts
+
+-- their tallies stay
+pub same_tallies : (all : List AccountOf) (k : ℕ) (d a : AccountOf) → a.tallies ≡ (get_or all k d).tallies → tallies_of (set all k a) ≡ tallies_of all
+same_tallies all k d a e =
+    map-set (λ (b : AccountOf). b.tallies) all k a ∙ ap (set (tallies_of all) k) e
+    ∙ sym (map-set (λ (b : AccountOf). b.tallies) all k (get_or all k d)) ∙ ap tallies_of (set-get_or all k d)
+
+-- and with them the lines of the arenas
+sums_same : (f : List TallyOf → ℕ) (xs ys : List AccountOf) → tallies_of xs ≡ tallies_of ys → sum_by (λ a. f a.tallies) xs ≡ sum_by (λ a. f a.tallies) ys
+sums_same f xs ys e = by_tallies xs ∙ ap (sum_by f) e ∙ sym (by_tallies ys) where
+  by_tallies : (zs : List AccountOf) → sum_by (λ a. f a.tallies) zs ≡ sum_by f (tallies_of zs)
+  by_tallies [] = refl
+  by_tallies (a ∷ zs) = omega (arith, by_tallies zs, sum_by-cons (λ (b : AccountOf). f b.tallies) a zs, sum_by-cons f a.tallies (tallies_of zs))
+
+-- the line of an arena of which so much was taken and came back
+abbrev line_with : VaultOf → ℕ → ℕ → ArenaLine
+line_with v taken back = record { size = length v.arena.cover; out = bytes_out v.arena.cover; holes = length (holes_of v.arena.cover); taken = taken; back = back }
+
+pub lines_same : (xs ys : List AccountOf) → tallies_of xs ≡ tallies_of ys → (k : ℕ) (vs : List VaultOf) → arena_lines xs k vs ≡ arena_lines ys k vs
+lines_same xs ys e k [] = refl
+lines_same xs ys e k (v ∷ vs) =
+    let t = sums_same (λ ts. slice_index (map (λ t. t.taken) ts) k) xs ys e in let b = sums_same (λ ts. slice_index (map (λ t. t.back) ts) k) xs ys e in
+    λ i. line_with v (t i) (b i) ∷ lines_same xs ys e (suc k) vs i

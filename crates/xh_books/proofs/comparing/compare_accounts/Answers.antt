@@ -1,0 +1,30 @@
+use Rattle.std.proofs.Common.{rules, arith, ◌≡◌, ◌<◌, ◌≤◌, ◌∙◌, List, ap, get_or, get_or-set_other, length, subst, sym}
+use Rattle.std.proofs.lemmas.List.{get_or_default}
+use mathlib.Core.Logic.{dite}
+use native.Mathlib.Decide.{ℕ_discrete}
+use Rattle.xh_kernel.specs.declared.scribe.Pens.{Pens}
+use Rattle.xh_kernel.specs.Accounts.{AccountOf}
+use Rattle.xh_books.specs.Closing.{histories_of}
+use Rattle.xh_books.specs.Sums.{AreSeen}
+use Rattle.xh_books.proofs.Compared.{same_tallies}
+use Rattle.xh_books.proofs.comparing.compare_accounts.Goals as goal
+
+pub loop-worker-preserved : goal.loop-worker-preserved
+loop-worker-preserved g c =
+    let l = c.loop-worker in let X : AccountOf = c.index-accounts-worker.result in let all : List AccountOf = c.args.accounts.now in
+    let inside : l.worker < length all = search rules in
+    let new : AccountOf = c.compare_account.new.account in
+    let here : get_or l.accounts l.worker X ≡ get_or all l.worker X = l.invariant.3 l.worker X (omega arith) in
+    let seen : AreSeen (get_or all l.worker X) (histories_of c.args.pens.now) =
+    subst (λ (a : AccountOf). AreSeen a (histories_of c.args.pens.now)) here
+    (subst (λ (ps : List Pens). AreSeen (get_or l.accounts l.worker X) (histories_of ps)) l.invariant.0 c.compare_account.ensures.seen) in (
+      c.compare_account.ensures.same.0 ∙ l.invariant.0,
+      same_tallies l.accounts l.worker X new c.compare_account.ensures.same.1.1 ∙ l.invariant.1,
+      λ k d below. dite (ℕ_discrete k l.worker)
+          (λ e. subst (λ (a : AccountOf). AreSeen a (histories_of c.args.pens.now)) (get_or_default all l.worker X d inside ∙ ap (λ j. get_or all j d) (sym e)) seen)
+          (λ other. l.invariant.2 k d (omega arith)),
+      λ k d above. get_or-set_other l.accounts l.worker k new d (λ e. omega (arith, e, above)) ∙ l.invariant.3 k d (omega arith),
+    )
+
+pub returns-clause-seen : goal.returns-clause-seen
+returns-clause-seen g c = let l = c.loop-worker in let end : length c.args.accounts.now ≤ l.worker = search rules in λ k d below. l.invariant.2 k d (omega arith)

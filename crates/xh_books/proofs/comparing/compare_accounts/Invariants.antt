@@ -1,0 +1,12 @@
+use Rattle.std.proofs.Common.{◌≡◌, ◌<◌, ◌≤◌, ℕ, get_or}
+use Rattle.xh_kernel.specs.Accounts.{AccountOf}
+use Rattle.xh_books.specs.Closing.{histories_of}
+use Rattle.xh_books.specs.Sums.{AreSeen}
+use Rattle.xh_books.specs.inner.Steps.{tallies_of}
+use Rattle.xh_books.proofs.comparing.compare_accounts.Given as goal
+
+abbrev pub invariant-loop-worker : goal.invariant-loop-worker
+invariant-loop-worker g l =
+    (l.pens ≡ l.fn.pens) × (tallies_of l.accounts ≡ tallies_of l.fn.accounts)
+    × ((k : ℕ) (d : AccountOf) → k < l.worker → AreSeen (get_or l.fn.accounts k d) (histories_of l.fn.pens))
+    × ((k : ℕ) (d : AccountOf) → l.worker ≤ k → get_or l.accounts k d ≡ get_or l.fn.accounts k d)

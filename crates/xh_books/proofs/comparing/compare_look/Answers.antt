@@ -1,0 +1,28 @@
+use Rattle.std.proofs.Common.{rules, arith, ◌≡◌, ◌<◌, ◌∙◌, List, [], ap, get_or, length, subst, sym}
+use Rattle.std.proofs.lemmas.List.{get_or-map, set-get_or}
+use Rattle.std.specs.Prelude.{slice_set}
+use mathlib.Core.Logic.{dite}
+use native.Mathlib.Decide.{ℕ_discrete}
+use Rattle.xh_glance.specs.Histories.{History, StartsWith, at}
+use Rattle.xh_glance.specs.Look.{LookOf}
+use Rattle.xh_kernel.specs.declared.scribe.Pens.{Pens}
+use Rattle.xh_books.specs.Closing.{glances_of}
+use Rattle.xh_books.proofs.comparing.compare_look.Goals as goal
+
+pub loop-place-preserved : goal.loop-place-preserved
+loop-place-preserved c =
+    let l = c.loop-place in let X : Pens = c.index-pens-place.result in let pens : List Pens = c.args.pens.now in let look : LookOf = c.args.look.now in
+    let inside : l.place < length pens = search rules in
+    let own : Pens = get_or l.pens l.place X in
+    let same : own ≡ get_or pens l.place X = ap (λ (ps : List Pens). get_or ps l.place X) l.invariant.0 in
+    let number : own.glances.number ≡ l.place = ap (λ (p : Pens). p.glances.number) same ∙ c.requires.pens.1.1 l.place X (omega (arith, inside, c.requires.pens.1.0)) in
+    let history : own.glances.history ≡ at (glances_of pens) l.place = ap (λ (p : Pens). p.glances.history) same ∙ sym (get_or-map (λ (p : Pens). p.glances.history) pens l.place X [] inside) in
+    let front : at l.look.fronts own.glances.number ≡ at look.fronts l.place = ap (at l.look.fronts) number ∙ ap (λ (x : LookOf). at x.fronts l.place) l.invariant.1 in
+    let here : StartsWith (at (glances_of pens) l.place) (at look.fronts l.place) =
+    subst (λ (h : History). StartsWith h (at look.fronts l.place)) history (subst (StartsWith own.glances.history) front c.compare.ensures.begins) in (
+      ap (λ x. slice_set l.pens l.place (record own { glances = x })) c.compare.ensures.same.0 ∙ set-get_or l.pens l.place X ∙ l.invariant.0,
+      c.compare.ensures.same.1 ∙ l.invariant.1,
+      λ p below. dite (ℕ_discrete p l.place)
+          (λ e. subst (λ q. StartsWith (at (glances_of pens) q) (at look.fronts q)) (sym e) here)
+          (λ other. l.invariant.2 p (omega arith)),
+    )

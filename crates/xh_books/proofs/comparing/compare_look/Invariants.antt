@@ -1,0 +1,9 @@
+use Rattle.std.proofs.Common.{◌≡◌, ◌<◌, ℕ}
+use Rattle.xh_glance.specs.Histories.{StartsWith, at}
+use Rattle.xh_books.specs.Closing.{glances_of}
+use Rattle.xh_books.proofs.comparing.compare_look.Given as goal
+
+abbrev pub invariant-loop-place : goal.invariant-loop-place
+invariant-loop-place l =
+    (l.pens ≡ l.fn.pens) × (l.look ≡ l.fn.look)
+    × ((p : ℕ) → p < l.place → StartsWith (at (glances_of l.fn.pens) p) (at l.fn.look.fronts p))

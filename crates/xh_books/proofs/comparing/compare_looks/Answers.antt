@@ -1,0 +1,22 @@
+use Rattle.std.proofs.Common.{◌≡◌, All, ◌∙◌, List, refl, subst, sym}
+use Rattle.std.proofs.lemmas.List.Elements.{All-cons, All-tail}
+use Rattle.std.specs.Vec.Iter.{into_iter_items}
+use Rattle.xh_glance.specs.Look.{LookOf}
+use Rattle.xh_kernel.specs.declared.scribe.Pens.{Pens}
+use Rattle.xh_books.specs.Closing.{HasLooked, glances_of}
+use Rattle.xh_books.proofs.comparing.compare_looks.Goals as goal
+
+pub loop-look-init : goal.loop-look-init
+loop-look-init c =
+    let all = c.into_iter-look-iterator.ensures.into_iter_gives.0 in
+    (refl, subst (All (λ (x : LookOf). x.glances ≡ c.args.glances.now)) (sym all) c.requires.looks, subst (All (HasLooked (glances_of c.args.pens.now))) all)
+
+pub loop-look-preserved : goal.loop-look-preserved
+loop-look-preserved c =
+    let l = c.loop-look in let rest = into_iter_items c.next.new.self in let step = sym c.in-Some.ensures.steps.0 in
+    let Looked = HasLooked (glances_of c.args.pens.now) in
+    let here = subst (λ (ps : List Pens). HasLooked (glances_of ps) c.in-Some.look) l.invariant.0 c.compare_look.ensures.looked in (
+      c.compare_look.ensures.same.0 ∙ l.invariant.0,
+      All-tail (λ (x : LookOf). x.glances ≡ c.args.glances.now) c.in-Some.look rest (subst (All (λ (x : LookOf). x.glances ≡ c.args.glances.now)) (sym step) l.invariant.1),
+      λ all. l.invariant.2 (subst (All Looked) step (All-cons Looked c.in-Some.look rest here all)),
+    )

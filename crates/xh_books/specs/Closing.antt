@@ -1,0 +1,60 @@
+-- What a kernel was when it was closed: its places, their histories, and the ledger of them.
+use Rattle.std.specs.Prelude.{◌≡◌, ℕ, ◌<◌, List, All, length, map, slice_index, slice_index_or}
+use Rattle.std.specs.List.{sum_by}
+use Rattle.xh_arena.specs.Views.{VaultOf}
+use Rattle.xh_calls.specs.Parts.{IsOpen, PartsOf, vault_names}
+use Rattle.xh_core.specs.declared.ledger.Ledger.{Ledger}
+use Rattle.xh_glance.specs.Histories as glances
+use Rattle.xh_glance.specs.Look.{LookOf}
+use Rattle.xh_history.specs.Histories.{History}
+use Rattle.xh_kernel.specs.declared.call.Call.{Call}
+use Rattle.xh_kernel.specs.declared.scribe.Pens.{Pens}
+use Rattle.xh_kernel.specs.Accounts.{AccountOf}
+use Rattle.xh_kernel.specs.Kept.{AreKept}
+use Rattle.xh_kernel.specs.Places.{places_of}
+use Rattle.xh_model.specs.declared.limits.TheConstants.{PLACES}
+use Rattle.xh_place.specs.Seen.{PlaceSeen}
+use Rattle.xh_books.specs.Ledgers.{IsBalanced, arena_lines, bytes_in_flight, bytes_owned, place_lines}
+use Rattle.xh_books.specs.Sums.{AreSeen, EachArena, back_in, sum_of_all, taken_in}
+
+-- the histories of the places, and their glances, which the pens know whole
+abbrev pub histories_of : List Pens → List (History Call)
+histories_of = map (λ p. p.history.history)
+
+abbrev pub glances_of : List Pens → List glances.History
+glances_of = map (λ p. p.glances.history)
+
+-- the pens of the places 0, 1, .., 31
+abbrev pub AreInOrder : List Pens → Type 0
+AreInOrder pens = (length pens ≡ PLACES) × ((k : ℕ) (d : Pens) → k < PLACES → (slice_index_or pens k d).glances.number ≡ k)
+
+-- of each place the look has seen a beginning of its glances
+abbrev pub HasLooked : List glances.History → LookOf → Type 0
+HasLooked hs look = (p : ℕ) → p < PLACES → glances.StartsWith (glances.at hs p) (glances.at look.fronts p)
+
+-- each account has seen a beginning of each place's history, in which all its calls stand, and each look one of its glances
+pub record HaveSeen (accounts : List AccountOf) (looks : List LookOf) (pens : List Pens) : Type 0 where
+  pub in_order : AreInOrder pens
+  pub seen : All (λ a. AreSeen a (histories_of pens)) accounts
+  pub looked : All (HasLooked (glances_of pens)) looks
+
+-- The locks of the kernel kept lawful histories of its places, each led to the place beside it, and these are all accounts and looks of the workers that made them. The ledger is of
+-- these places, of the kernel's vaults and of the accounts.
+pub record IsClosed (parts : PartsOf) (accounts : List AccountOf) (looks : List LookOf) (l : Ledger) : Type 0 where
+  pub places : List PlaceSeen
+  pub pens : List Pens
+  pub vaults : List VaultOf
+  pub kept : AreKept parts places pens
+  pub workers : length accounts ≡ parts.workers
+  pub seen : HaveSeen accounts looks pens
+  pub open_vaults : (vault_names vaults ≡ parts.records.shape.names) × All (IsOpen parts) vaults
+  pub arenas : l.arenas.items ≡ arena_lines accounts 0 vaults
+  pub lines : l.places.items ≡ place_lines (places_of places)
+  pub owned : l.owned ≡ bytes_owned (places_of places)
+  pub flight : l.flight ≡ bytes_in_flight (places_of places) 0 vaults
+  pub balanced : IsBalanced l
+
+-- What the ledger says was taken of each arena is the sum of what all calls of the histories took there, and what came back of all arenas the sum of what came back by them.
+pub record IsSumOver (parts : PartsOf) (hs : List (History Call)) (l : Ledger) : Type 0 where
+  pub taken : EachArena parts (λ i. slice_index (map (λ a. a.taken) l.arenas.items) i ≡ sum_of_all (taken_in i) hs)
+  pub back : sum_by (λ a. a.back) l.arenas.items ≡ sum_of_all back_in hs

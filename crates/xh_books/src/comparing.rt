@@ -1,0 +1,107 @@
+// What the workers of a kernel have seen, beside what the pens of its places know.
+ghost use Rattle.std.specs.Prelude.{◌≡◌, ◌↔◌, All, IfErr, IfOk, true};
+ghost use Rattle.xh_books.specs.Closing.{AreInOrder, HasLooked, HaveSeen, glances_of, histories_of};
+ghost use Rattle.xh_books.specs.Sums.{AreSeen};
+ghost use Rattle.xh_books.specs.inner.Steps.{tallies_of};
+ghost use Rattle.xh_kernel.specs.Accounts.{IsUnmoved};
+ghost use Rattle.xh_kernel.specs.Kept.{AreOwn};
+
+use xh_core::Refused;
+use xh_glance::{Glances, Look};
+use xh_history::Histories;
+use xh_kernel::{Account, Call, Names, Pens};
+use xh_model::limits::PLACES;
+
+// Whether these are the pens of all places, in order.
+fn are_in_order(pens: &[Pens]) -> bool
+    ensures { (result ≡ true) ↔ AreInOrder pens.now }
+{
+    if pens.len() != usize::from(PLACES) {
+        return false;
+    }
+    for place in 0..PLACES {
+        if pens[usize::from(place)].glances.number() != place {
+            return false;
+        }
+    }
+    true
+}
+
+// Compares an account with the pens of each place.
+fn compare_account<N: Names>(
+    histories: &Histories<Call>,
+    pens: &mut [Pens],
+    account: &mut Account<N>,
+)
+    requires table { histories.now ≡ N.parts.histories }
+    requires pens { All (AreOwn N.parts) pens.old × AreInOrder pens.old }
+    ensures same { (pens.new ≡ pens.old) × IsUnmoved account.old account.new }
+    ensures seen { AreSeen account.old (histories_of pens.old) }
+{
+    for place in 0..pens.len() {
+        account.compare(histories, &mut pens[place]);
+    }
+}
+
+// Compares all accounts.
+fn compare_accounts<N: Names>(
+    histories: &Histories<Call>,
+    pens: &mut [Pens],
+    accounts: &mut [Account<N>],
+)
+    requires table { histories.now ≡ N.parts.histories }
+    requires pens { All (AreOwn N.parts) pens.old × AreInOrder pens.old }
+    ensures same { (pens.new ≡ pens.old) × (tallies_of accounts.new ≡ tallies_of accounts.old) }
+    ensures seen { All (λ a. AreSeen a (histories_of pens.old)) accounts.old }
+{
+    for worker in 0..accounts.len() {
+        compare_account(histories, pens, &mut accounts[worker]);
+    }
+}
+
+// Compares a look with the pen of each place's glances.
+fn compare_look(glances: &Glances, pens: &mut [Pens], look: &mut Look)
+    requires pens { All (λ p. p.glances.glances ≡ glances.now) pens.old × AreInOrder pens.old }
+    requires look { look.old.glances ≡ glances.now }
+    ensures same { (pens.new ≡ pens.old) × (look.new ≡ look.old) }
+    ensures looked { HasLooked (glances_of pens.old) look.old }
+{
+    for place in 0..pens.len() {
+        glances.compare(&mut pens[place].glances, look);
+    }
+}
+
+// Compares all looks.
+fn compare_looks(glances: &Glances, pens: &mut [Pens], looks: Vec<Look>)
+    requires pens { All (λ p. p.glances.glances ≡ glances.now) pens.old × AreInOrder pens.old }
+    requires looks { All (λ l. l.glances ≡ glances.now) looks.items }
+    ensures looked { All (HasLooked (glances_of pens.old)) looks.items }
+{
+    for mut look in looks {
+        compare_look(glances, pens, &mut look);
+    }
+}
+
+// The accounts, once each was compared with the pens of each place, as each look was. A kernel keeps its places in
+// order; since no lock tells which place is behind it, that is looked at here, and without it nothing is closed.
+pub(crate) fn compare<N: Names>(
+    glances: &Glances,
+    histories: &Histories<Call>,
+    mut pens: Vec<Pens>,
+    mut accounts: Vec<Account<N>>,
+    looks: Vec<Look>,
+) -> Result<Vec<Account<N>>, Refused>
+    requires tables { (glances.now ≡ N.parts.glances) × (histories.now ≡ N.parts.histories) }
+    requires pens { All (AreOwn N.parts) pens.items }
+    requires looks { All (λ l. l.glances ≡ N.parts.glances) looks.items }
+    ensures same { IfOk result (λ r. tallies_of r.items ≡ tallies_of accounts.items) }
+    ensures seen { IfOk result (λ _. HaveSeen accounts.items looks.items pens.items) }
+    ensures refused { IfErr result (λ e. e ≡ Refused.OutOfMemory) }
+{
+    if !are_in_order(pens.as_slice()) {
+        return Err(Refused::OutOfMemory);
+    }
+    compare_accounts(histories, pens.as_mut_slice(), accounts.as_mut_slice());
+    compare_looks(glances, pens.as_mut_slice(), looks);
+    Ok(accounts)
+}
