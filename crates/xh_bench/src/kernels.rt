@@ -1,5 +1,5 @@
 //! Measures of a kernel: it is made, one kind of call is timed on it, and its books are closed.
-ghost use Rattle.std.specs.Prelude.{◌≡◌, All, length, vec_len};
+ghost use Rattle.std.specs.Prelude.{◌≡◌, All, vec_len};
 
 use crate::calls::{Deed, Doing, crowd, give_take};
 use crate::failure::{Failure, add, unless_refused};
@@ -12,7 +12,6 @@ use std::marker::Brand;
 use std::sync::Wait;
 use std::thread::Threads;
 use std::time::{Clock, CpuClock};
-use xh_books::close_kernel;
 use xh_core::Config;
 use xh_glance::Look;
 use xh_kernel::{Account, Kernel, Names, Parts};
@@ -173,12 +172,12 @@ fn time_on<N: Names + Send + Sync, R: Threads + Wait + Clock + CpuClock + Sync>(
     rt: &R,
     alloc: Global,
     kernel: &Kernel<N>,
-    accounts: &mut [Account<N>],
+    accounts: Vec<Account<N>>,
     looks: Vec<Look>,
     call: Call,
     number: u32,
 ) -> Result<Pace, Failure>
-    requires count { vec_len looks ≡ length accounts.old }
+    requires count { vec_len looks ≡ vec_len accounts }
     requires own { All (λ l. l.glances ≡ N.parts.glances) looks.items }
 {
     let workers = hire(rt, alloc, kernel, &OpenGate, accounts, looks)?;
@@ -195,12 +194,12 @@ fn time_named<N: Names + Send + Sync, R: Threads + Wait + Clock + CpuClock + Syn
 ) -> Result<Pace, Failure>
     requires names { parts ≡ N.parts }
 {
-    let (kernel, mut accounts, looks) = match Kernel::<N>::new(alloc, parts) {
+    let (kernel, accounts, looks) = match Kernel::<N>::new(alloc, parts) {
         Ok(made) => made,
         Err(_refused) => return Err(Failure::Memory),
     };
-    let pace = time_on(rt, alloc, &kernel, &mut accounts, looks, call, number);
-    unless_refused(close_kernel(alloc, kernel, accounts))?;
+    let pace = time_on(rt, alloc, &kernel, accounts, looks, call, number);
+    drop(kernel);
     pace
 }
 

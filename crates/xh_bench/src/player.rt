@@ -24,10 +24,10 @@ impl<'a, N: Names, R: Wait, G: Gate> Taking for Worker<'a, N, R, G> {
     fn taken(&mut self, process: u16, endpoint: u16, waits: bool) -> Result<Taken, Refused> {
         if waits {
             self.kernel
-                .take_wait(self.rt, process, endpoint, self.account, self.gate)
+                .take_wait(self.rt, process, endpoint, &mut self.account, self.gate)
         } else {
             self.kernel
-                .take(self.rt, process, endpoint, self.account, self.gate)
+                .take(self.rt, process, endpoint, &mut self.account, self.gate)
         }
     }
 }

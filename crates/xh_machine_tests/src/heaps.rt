@@ -1,10 +1,10 @@
 //! Both machines: a serial one, and a kernel by one worker, made, lent to what is tried, and let go.
-ghost use Rattle.std.specs.Prelude.{◌≡◌, ◌≤◌, All, length, vec_len};
+ghost use Rattle.std.specs.Prelude.{◌≡◌, All, IfOk, vec_len};
 
 use crate::answers::{Answer, Call, assert_answers};
 use crate::growths::assert_again;
 use crate::without_memory::assert_whole;
-use std::alloc::Global;
+use std::alloc::{AllocError, Global};
 use std::marker::Brand;
 use std::process::Abort;
 use std::sync::Wait;
@@ -12,7 +12,7 @@ use xh_books::close_kernel;
 use xh_core::{ArenaLine, Config, Ledger, PlaceLine, Refused, State};
 use xh_glance::Look;
 use xh_kernel::{Account, Kernel, Names, Parts};
-use xh_runner::{Gate, Machine, OpenGate, Worker, hire};
+use xh_runner::{Gate, Machine, OpenGate, Worker, hire, leave_all};
 use xh_serial::Serial;
 
 /// A machine whose books can be looked into.
@@ -82,22 +82,23 @@ pub fn on_serial(
     }
 }
 
-/// The trial by the first worker of a kernel.
+/// The trial by the one worker of a kernel; what the worker has then.
 fn by_worker<N: Names, R: Wait + Abort>(
     rt: &R,
     alloc: Global,
     kernel: &Kernel<N>,
-    accounts: &mut [Account<N>],
+    accounts: Vec<Account<N>>,
     looks: Vec<Look>,
     trial: Trial,
-) -> Result<(), Refused>
-    requires some { 1 ≤ length accounts.old }
-    requires count { vec_len looks ≡ length accounts.old }
+) -> Result<(Vec<Account<N>>, Vec<Look>), AllocError>
+    requires count { (vec_len accounts ≡ 1) × (vec_len looks ≡ 1) }
     requires own { All (λ l. l.glances ≡ N.parts.glances) looks.items }
+    ensures count { IfOk result (λ r. vec_len r.0 ≡ 1) }
+    ensures own { IfOk result (λ r. All (λ l. l.glances ≡ N.parts.glances) r.1.items) }
 {
     let mut workers = hire(rt, alloc, kernel, &OpenGate, accounts, looks)?;
     try_on(rt, alloc, &mut workers[0], trial);
-    Ok(())
+    leave_all(alloc, workers)
 }
 
 /// The trial on a kernel of the parts; its ledger.
@@ -107,16 +108,16 @@ fn on_parts<N: Names, R: Wait + Abort>(
     parts: Parts,
     trial: Trial,
 ) -> Result<Ledger, Refused>
-    requires { (parts ≡ N.parts) × (1 ≤ parts.workers) }
+    requires { (parts ≡ N.parts) × (parts.workers ≡ 1) }
 {
-    let (kernel, mut accounts, looks) = match Kernel::<N>::new(alloc, parts) {
+    let (kernel, accounts, looks) = match Kernel::<N>::new(alloc, parts) {
         Ok(made) => made,
         Err(refused) => return Err(refused),
     };
-    let tried = by_worker(rt, alloc, &kernel, &mut accounts, looks, trial);
-    let ledger = close_kernel(alloc, kernel, accounts);
-    tried?;
-    ledger
+    match by_worker(rt, alloc, &kernel, accounts, looks, trial) {
+        Ok((accounts, looks)) => close_kernel(alloc, kernel, accounts, looks),
+        Err(_refused) => Err(Refused::OutOfMemory),
+    }
 }
 
 /// The trial on a new kernel, by one worker; its ledger.

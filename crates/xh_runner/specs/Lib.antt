@@ -1,2 +1,5 @@
+pub mod Workers
+pub mod Plays
+pub mod Runs
 pub mod Reports
 pub mod inner

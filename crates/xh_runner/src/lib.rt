@@ -7,6 +7,6 @@ mod worker;
 
 pub use parallel::run_parallel;
 pub use threads::run_threads;
-pub use worker::{Worker, hire};
+pub use worker::{Worker, hire, leave_all};
 pub use xh_place::{Gate, OpenGate, Point};
 pub use xh_session::{Input, Machine, Received, Report, Stage, read_input, run_serial};

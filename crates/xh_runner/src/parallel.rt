@@ -1,5 +1,5 @@
 //! A script from its bytes to its replies and its ledger, on threads.
-ghost use Rattle.std.specs.Prelude.{◌≡◌, ◌+◌, ◌<◌, IfErr, IfOk, OnOk, length};
+ghost use Rattle.std.specs.Prelude.{◌≡◌, ◌+◌, ◌<◌, Err, IfErr, IfOk, OnOk, length};
 ghost use Rattle.std.specs.List.{All};
 ghost use Rattle.xh_model.specs.Config.{IsConfig};
 ghost use Rattle.xh_model.specs.declared.limits.TheConstants.{PLACES};
@@ -32,13 +32,14 @@ fn report_of<T: Threads + Wait + Sync>(
     ensures places { IfOk result (λ r. (length r.names.items ≡ PLACES) × All (λ line. line.place < PLACES) r.ledger.places.items) }
     ensures memory { IfErr result (λ e. e ≡ Fault.Memory) }
 {
-    let report = run_gated(rt, alloc, script, config, &OpenGate, false)?;
+    let report = run_gated(rt, alloc, script, config, &OpenGate)?;
     Ok(report)
 }
 
 /// As `run_serial`, on threads: each process that has a place does its commands in a thread of its own.
 ///
 /// Memory comes where a growth outside the commands was refused, or a thread.
+#[tactic(auto, using(xh_session::proofs::Ends::memory_stops, xh_session::proofs::Ends::unread_stops, xh_session::proofs::Ends::wrote_all, xh_session::proofs::Ends::wrote_part))]
 pub fn run_parallel<T: Threads + Wait + Sync, R: Read, W: Write>(
     rt: &T,
     alloc: Global,
@@ -48,6 +49,7 @@ pub fn run_parallel<T: Threads + Wait + Sync, R: Read, W: Write>(
 ) -> Result<(), Fault>
     ensures ok { OnOk result (Done R.remaining W.contents (IsReportOf config) reader.old reader.new writer.old writer.new) }
     ensures err { IfErr result (Stopped R.remaining W.contents (IsReportOf config) config reader.old reader.new writer.old writer.new) }
+    ensures config { ¬ IsConfig config → result ≡ Err Fault.BadConfig }
     ensures limit { ReadsAtMost R.remaining (MAX_SCRIPT + 1) reader.old reader.new }
 {
     let input = read_input(alloc, config, reader)?;

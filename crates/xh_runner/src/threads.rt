@@ -1,31 +1,56 @@
 //! A run of a script on threads, over a kernel that is made, used and settled here.
-ghost use Rattle.std.specs.Prelude.{◌≡◌, ◌<◌, ◌⊎◌, All, IfErr, IfOk, Err, length, true, vec_len};
+ghost use Rattle.std.specs.Prelude.{◌≡◌, ◌<◌, ◌⊎◌, All, IfErr, IfOk, Err, length, vec_len};
+ghost use Rattle.xh_books.specs.Closing.{IsClosed};
 ghost use Rattle.xh_books.specs.Ledgers.{IsBalanced};
+ghost use Rattle.xh_calls.specs.Parts.{AreMadeBy};
+ghost use Rattle.xh_kernel.specs.Accounts.{AccountOf};
 ghost use Rattle.xh_model.specs.Config.{IsConfig};
 ghost use Rattle.xh_model.specs.declared.limits.TheConstants.{MAX_WORKERS, PLACES};
-ghost use Rattle.xh_runner.specs.Reports.{AreAnswersTo, HasArenas};
+ghost use Rattle.xh_runner.specs.Reports.{HasArenas};
+ghost use Rattle.xh_runner.specs.Plays.{AreAnswersTo, HasNames};
+ghost use Rattle.xh_runner.specs.Runs.{HasRun};
+ghost use Rattle.xh_runner.specs.inner.Runs.{HasPlayed};
+ghost use Rattle.xh_runner.specs.Workers.{WorkerState, did};
+ghost use Rattle.xh_runner.specs.inner.Jobs.{EndsBy};
+ghost use Rattle.xh_script.specs.Scripts.{listing_of};
 
 mod crew;
+mod guard;
 mod job;
+mod latest;
+mod play;
 mod replies;
 mod run;
 
-use crate::threads::run::run_script;
+pub(crate) use crate::threads::guard::Guard;
+use crate::threads::guard::Stopping;
+use crate::threads::run::{Outcome, run_on};
+use crate::worker::{hire, leave_all};
 use std::alloc::Global;
 use std::marker::Brand;
 use std::sync::Wait;
 use std::thread::Threads;
 use xh_books::close_kernel;
 use xh_core::{Config, Refused};
-use xh_kernel::{Kernel, Names, Parts};
+use xh_glance::Look;
+use xh_kernel::{Account, Kernel, Names, Parts};
 use xh_model::limits::MAX_WORKERS;
 use xh_place::Gate;
-use xh_script::{Fault, Script};
+use xh_script::{Answered, Fault, Name, Script};
 use xh_session::Report;
 
+/// What a run over a kernel leaves, but for the kernel: the replies, the name of the latest process of each place,
+/// and what the workers had of their own.
+#[derive(Drop)]
+struct Ended<N: Names> {
+    answers: Vec<Answered>,
+    names: Vec<Name>,
+    accounts: Vec<Account<N>>,
+    looks: Vec<Look>,
+}
+
 fn new_parts(alloc: Global, config: Config) -> Result<Parts, Fault>
-    ensures workers { IfOk result (λ parts. parts.workers ≡ MAX_WORKERS) }
-    ensures arenas { IfOk result (λ parts. (parts.size ≡ config.bytes) × (length parts.records.shape.names ≡ config.arenas)) }
+    ensures made { IfOk result (AreMadeBy config MAX_WORKERS) }
     ensures config { ¬ IsConfig config → result ≡ Err Fault.BadConfig }
     ensures refused { IfErr result (λ e. ((e ≡ Fault.BadConfig) × ¬ IsConfig config) ⊎ (e ≡ Fault.Memory)) }
 {
@@ -38,67 +63,111 @@ fn new_parts(alloc: Global, config: Config) -> Result<Parts, Fault>
     }
 }
 
-// Runs a script over a kernel that is made of the parts, settles it and closes its books.
-fn run_named<N: Names + Send + Sync, R: Threads + Wait + Sync, G: Gate + Sync>(
+// Runs a script with a worker for each account.
+fn run_script<N: Names + Send + Sync, R: Threads + Wait + Sync, G: Guard + Sync>(
     rt: &R,
     alloc: Global,
-    parts: Parts,
+    kernel: &Kernel<N>,
+    accounts: Vec<Account<N>>,
+    looks: Vec<Look>,
     script: &Script,
     gate: &G,
-    stops: bool,
-) -> Result<Report, Fault>
-    requires names { parts ≡ N.parts }
-    requires workers { parts.workers ≡ MAX_WORKERS }
-    ensures answers { IfOk result (λ r. AreAnswersTo script.now.lines.items r.answers.items) }
-    ensures arenas { IfOk result (λ r. (length r.ledger.arenas.items ≡ length N.parts.records.shape.names) × All (λ a. a.size ≡ N.parts.size) r.ledger.arenas.items) }
-    ensures balanced { IfOk result (λ r. IsBalanced r.ledger) }
-    ensures names { IfOk result (λ r. (length r.names.items ≡ PLACES) × All (λ line. line.place < PLACES) r.ledger.places.items) }
-    ensures refused { IfErr result (λ e. (e ≡ Fault.Memory) ⊎ ((e ≡ Fault.Gate) × (stops ≡ true))) }
+) -> Result<Ended<N>, Fault>
+    requires count { (vec_len accounts ≡ MAX_WORKERS) × (vec_len looks ≡ MAX_WORKERS) }
+    requires looks { All (λ l. l.glances ≡ N.parts.glances) looks.items }
+    ensures played { IfOk result (λ e. HasPlayed N.parts (listing_of script.now) accounts.items looks.items e.answers.items e.accounts.items e.looks.items) }
+    ensures count { IfOk result (λ e. vec_len e.accounts ≡ MAX_WORKERS) }
+    ensures own { IfOk result (λ e. All (λ l. l.glances ≡ N.parts.glances) e.looks.items) }
+    ensures answers { IfOk result (λ e. AreAnswersTo script.now.lines.items e.answers.items) }
+    ensures names { IfOk result (λ e. HasNames script.now.processes.items script.now.lines.items e.answers.items e.names.items × (length e.names.items ≡ PLACES)) }
+    ensures refused { IfErr result (EndsBy G.always) }
 {
-    let (kernel, mut accounts, looks) = match Kernel::<N>::new(alloc, parts) {
-        Ok(made) => made,
-        Err(_refused) => return Err(Fault::Memory),
-    };
-    let outcome = run_script(
-        rt,
-        alloc,
-        &kernel,
-        &mut accounts,
+    let workers = hire(rt, alloc, kernel, gate, accounts, looks)?;
+    let Outcome {
+        machines,
+        answers,
+        names,
+    } = run_on(rt, alloc, workers, script, gate)?;
+    let (accounts, looks) = leave_all(alloc, machines)?;
+    Ok(Ended {
+        answers,
+        names,
+        accounts,
         looks,
-        script,
-        gate,
-        stops,
-    );
-    let closed = close_kernel(alloc, kernel, accounts);
-    let outcome = outcome?;
-    match closed {
+    })
+}
+
+// Settles a kernel whose workers are done, and closes its books.
+fn report_of<N: Names>(alloc: Global, kernel: Kernel<N>, ended: Ended<N>) -> Result<Report, Fault>
+    requires accounts { vec_len ended.accounts ≡ N.parts.workers }
+    requires looks { All (λ l. l.glances ≡ N.parts.glances) ended.looks.items }
+    ensures closed { IfOk result (λ r. IsClosed N.parts ended.accounts.items ended.looks.items r.ledger) }
+    ensures same { IfOk result (λ r. (r.answers.items ≡ ended.answers.items) × (r.names.items ≡ ended.names.items)) }
+    ensures arenas { IfOk result (λ r. (length r.ledger.arenas.items ≡ length N.parts.records.shape.names) × All (λ a. a.size ≡ N.parts.size) r.ledger.arenas.items) }
+    ensures places { IfOk result (λ r. All (λ line. line.place < PLACES) r.ledger.places.items) }
+    ensures refused { IfErr result (λ e. e ≡ Fault.Memory) }
+{
+    let Ended {
+        answers,
+        names,
+        accounts,
+        looks,
+    } = ended;
+    match close_kernel(alloc, kernel, accounts, looks) {
         Ok(ledger) => Ok(Report {
-            answers: outcome.answers,
+            answers,
             ledger,
-            names: outcome.names,
+            names,
         }),
         Err(_refused) => Err(Fault::Memory),
     }
 }
 
-/// As `run_threads`; `stops` says whether the gate may stop a worker.
-pub(crate) fn run_gated<R: Threads + Wait + Sync, G: Gate + Sync>(
+// Runs a script over a kernel that is made of the parts, settles it and closes its books.
+fn run_named<N: Names + Send + Sync, R: Threads + Wait + Sync, G: Guard + Sync>(
+    rt: &R,
+    alloc: Global,
+    config: Config,
+    parts: Parts,
+    script: &Script,
+    gate: &G,
+) -> Result<Report, Fault>
+    requires names { parts ≡ N.parts }
+    requires made { AreMadeBy config MAX_WORKERS parts }
+    ensures run { IfOk result (HasRun config (listing_of script.now)) }
+    ensures answers { IfOk result (λ r. AreAnswersTo script.now.lines.items r.answers.items) }
+    ensures arenas { IfOk result (λ r. HasArenas config r.ledger) }
+    ensures names { IfOk result (λ r. (length r.names.items ≡ PLACES) × All (λ line. line.place < PLACES) r.ledger.places.items) }
+    ensures refused { IfErr result (EndsBy G.always) }
+{
+    let (kernel, accounts, looks) = match Kernel::<N>::new(alloc, parts) {
+        Ok(made) => made,
+        Err(_refused) => return Err(Fault::Memory),
+    };
+    let ended = run_script(rt, alloc, &kernel, accounts, looks, script, gate);
+    match ended {
+        Ok(ended) => report_of(alloc, kernel, ended),
+        Err(fault) => Err(fault),
+    }
+}
+
+/// As `run_threads`, by a gate whose type says whether it may stop a worker.
+pub(crate) fn run_gated<R: Threads + Wait + Sync, G: Guard + Sync>(
     rt: &R,
     alloc: Global,
     script: &Script,
     config: Config,
     gate: &G,
-    stops: bool,
 ) -> Result<Report, Fault>
+    ensures run { IfOk result (HasRun config (listing_of script.now)) }
     ensures answers { IfOk result (λ r. AreAnswersTo script.now.lines.items r.answers.items) }
     ensures arenas { IfOk result (λ r. HasArenas config r.ledger) }
-    ensures balanced { IfOk result (λ r. IsBalanced r.ledger) }
     ensures names { IfOk result (λ r. (length r.names.items ≡ PLACES) × All (λ line. line.place < PLACES) r.ledger.places.items) }
     ensures config { ¬ IsConfig config → result ≡ Err Fault.BadConfig }
-    ensures refused { IfErr result (λ e. ((e ≡ Fault.BadConfig) × ¬ IsConfig config) ⊎ ((e ≡ Fault.Memory) ⊎ ((e ≡ Fault.Gate) × (stops ≡ true)))) }
+    ensures refused { IfErr result (λ e. ((e ≡ Fault.BadConfig) × ¬ IsConfig config) ⊎ EndsBy G.always e) }
 {
     let parts = new_parts(alloc, config)?;
-    run_named::<Brand, R, G>(rt, alloc, parts, script, gate, stops)
+    run_named::<Brand, R, G>(rt, alloc, config, parts, script, gate)
 }
 
 /// Runs a script on threads: the head lines in order, and then the commands of each process that has a
@@ -116,6 +185,7 @@ pub fn run_threads<R: Threads + Wait + Sync, G: Gate + Sync>(
     config: Config,
     gate: &G,
 ) -> Result<Report, Fault>
+    ensures run { IfOk result (HasRun config (listing_of script.now)) }
     ensures answers { IfOk result (λ r. AreAnswersTo script.now.lines.items r.answers.items) }
     ensures arenas { IfOk result (λ r. HasArenas config r.ledger) }
     ensures balanced { IfOk result (λ r. IsBalanced r.ledger) }
@@ -123,5 +193,5 @@ pub fn run_threads<R: Threads + Wait + Sync, G: Gate + Sync>(
     ensures config { ¬ IsConfig config → result ≡ Err Fault.BadConfig }
     ensures refused { IfErr result (λ e. ((e ≡ Fault.BadConfig) × ¬ IsConfig config) ⊎ ((e ≡ Fault.Memory) ⊎ (e ≡ Fault.Gate))) }
 {
-    run_gated(rt, alloc, script, config, gate, true)
+    run_gated(rt, alloc, script, config, &Stopping(gate))
 }

@@ -1,7 +1,7 @@
 //! A worker's calls on a kernel.
 ghost use Rattle.std.specs.Prelude.{◌≡◌, ◌≤◌, All, IfOk, length, map, vec_len};
 ghost use Rattle.xh_model.specs.declared.limits.TheConstants.{MAX_BLOCKS};
-ghost use Rattle.xh_runner.specs.inner.Workers.{gotten, gotten_message};
+ghost use Rattle.xh_runner.specs.Workers.{gotten, gotten_answer, gotten_message};
 
 use arrayvec::ArrayVec;
 use std::alloc::{AllocError, Global};
@@ -13,14 +13,14 @@ use xh_model::limits::{MAX_BLOCKS, MAX_BUDGET};
 use xh_place::{Gate, Got, Taken};
 use xh_session::{Machine, Received};
 
-/// A worker on a kernel that others work on too: what its calls take besides, an account that no other
-/// has and a look of its own among it.
+/// A worker on a kernel that others work on too: what its calls take besides, an account and a look of its
+/// own among it.
 #[derive(Drop)]
 pub struct Worker<'a, N: Names, R, G> {
     pub rt: &'a R,
     pub kernel: &'a Kernel<N>,
     pub gate: &'a G,
-    pub account: &'a mut Account<N>,
+    pub account: Account<N>,
     pub look: Look,
     ghost own: { look.glances ≡ N.parts.glances },
 }
@@ -55,16 +55,26 @@ fn received(message: Taken) -> Received
     }
 }
 
+fn answered(taken: Result<Taken, Refused>) -> Result<Received, Refused>
+    ensures { result ≡ gotten_answer taken }
+{
+    match taken {
+        Ok(message) => Ok(received(message)),
+        Err(refused) => Err(refused),
+    }
+}
+
 impl<'a, N: Names, R: Wait, G: Gate> Machine for Worker<'a, N, R, G> {
-    ghost use Rattle.std.specs.Prelude.{false};
-    ghost use Rattle.xh_runner.specs.inner.Workers.{no_machine};
+    ghost use Rattle.xh_runner.specs.Workers.{WorkerState, did};
 
-    ghost alone = { false };
+    ghost State = { WorkerState };
 
-    ghost state = { λ _. no_machine };
+    ghost state = { λ w. record { account = w.account; look = w.look } };
+
+    ghost did = { did N.parts };
 
     fn spawn(&mut self) -> Result<u16, Refused> {
-        self.kernel.spawn(self.rt, self.account, self.gate)
+        self.kernel.spawn(self.rt, &mut self.account, self.gate)
     }
 
     fn open(
@@ -76,12 +86,18 @@ impl<'a, N: Names, R: Wait, G: Gate> Machine for Worker<'a, N, R, G> {
         match contract {
             Some(contract) => {
                 let contract = contract.copy();
-                self.kernel
-                    .open_with(self.rt, process, arena, contract, self.account, self.gate)
+                self.kernel.open_with(
+                    self.rt,
+                    process,
+                    arena,
+                    contract,
+                    &mut self.account,
+                    self.gate,
+                )
             }
             None => self
                 .kernel
-                .open(self.rt, process, arena, self.account, self.gate),
+                .open(self.rt, process, arena, &mut self.account, self.gate),
         }
     }
 
@@ -101,13 +117,11 @@ impl<'a, N: Names, R: Wait, G: Gate> Machine for Worker<'a, N, R, G> {
                     other,
                     arena,
                     contract,
-                    self.account,
+                    &mut self.account,
                     self.gate,
                 )
             }
-            None => self
-                .kernel
-                .wire(self.rt, process, other, arena, self.account, self.gate),
+            None => self.kernel.wire(self.rt, process, other, arena, &mut self.account, self.gate),
         }
     }
 
@@ -124,7 +138,7 @@ impl<'a, N: Names, R: Wait, G: Gate> Machine for Worker<'a, N, R, G> {
             process,
             bytes,
             arena,
-            self.account,
+            &mut self.account,
             self.gate,
         )
     }
@@ -136,16 +150,39 @@ impl<'a, N: Names, R: Wait, G: Gate> Machine for Worker<'a, N, R, G> {
         block: u16,
         at: u32,
     ) -> Result<(Block, Block), Refused> {
-        self.kernel.split(self.rt, alloc, process, block, at, self.account, self.gate)
+        self.kernel.split(
+            self.rt,
+            alloc,
+            process,
+            block,
+            at,
+            &mut self.account,
+            self.gate,
+        )
     }
 
     fn read(&mut self, process: u16, block: u16, at: u32, room: &mut [u8]) -> Result<(), Refused> {
-        self.kernel
-            .read(self.rt, process, block, at, room, self.account, self.gate)
+        self.kernel.read(
+            self.rt,
+            process,
+            block,
+            at,
+            room,
+            &mut self.account,
+            self.gate,
+        )
     }
 
     fn write(&mut self, process: u16, block: u16, at: u32, bytes: &[u8]) -> Result<(), Refused> {
-        self.kernel.write(self.rt, process, block, at, bytes, self.account, self.gate)
+        self.kernel.write(
+            self.rt,
+            process,
+            block,
+            at,
+            bytes,
+            &mut self.account,
+            self.gate,
+        )
     }
 
     fn give(
@@ -161,7 +198,7 @@ impl<'a, N: Names, R: Wait, G: Gate> Machine for Worker<'a, N, R, G> {
             endpoint,
             tag,
             blocks,
-            self.account,
+            &mut self.account,
             self.gate,
         )
     }
@@ -169,37 +206,40 @@ impl<'a, N: Names, R: Wait, G: Gate> Machine for Worker<'a, N, R, G> {
     fn take(&mut self, process: u16, endpoint: u16, waits: bool) -> Result<Received, Refused> {
         let taken = if waits {
             self.kernel
-                .take_wait(self.rt, process, endpoint, self.account, self.gate)
+                .take_wait(self.rt, process, endpoint, &mut self.account, self.gate)
         } else {
             self.kernel
-                .take(self.rt, process, endpoint, self.account, self.gate)
+                .take(self.rt, process, endpoint, &mut self.account, self.gate)
         };
-        match taken {
-            Ok(message) => Ok(received(message)),
-            Err(refused) => Err(refused),
-        }
+        answered(taken)
     }
 
     fn free(&mut self, process: u16, block: u16) -> Result<u32, Refused> {
         self.kernel
-            .free(self.rt, process, block, self.account, self.gate)
+            .free(self.rt, process, block, &mut self.account, self.gate)
     }
 
     fn close(&mut self, process: u16, endpoint: u16) -> Result<u64, Refused> {
         self.kernel
-            .close(self.rt, process, endpoint, self.account, self.gate)
+            .close(self.rt, process, endpoint, &mut self.account, self.gate)
     }
 
     fn exit(&mut self, process: u16, budget: u32) -> Result<u64, Refused> {
         let budget = budget.min(u32::from(MAX_BUDGET)) as u16;
         self.kernel
-            .exit(self.rt, process, budget, self.account, self.gate)
+            .exit(self.rt, process, budget, &mut self.account, self.gate)
     }
 
     fn kill(&mut self, process: u16, victim: u16, budget: u32) -> Result<u64, Refused> {
         let budget = budget.min(u32::from(MAX_BUDGET)) as u16;
-        self.kernel
-            .kill(self.rt, process, victim, budget, self.account, self.gate)
+        self.kernel.kill(
+            self.rt,
+            process,
+            victim,
+            budget,
+            &mut self.account,
+            self.gate,
+        )
     }
 
     fn glance(&mut self, place: u8) -> Result<Glance, Refused> {
@@ -207,18 +247,37 @@ impl<'a, N: Names, R: Wait, G: Gate> Machine for Worker<'a, N, R, G> {
     }
 }
 
-/// A worker for each account, which is lent to it, and look, in order.
+impl<'a, N: Names, R, G> Worker<'a, N, R, G> {
+    /// What the worker has of its own.
+    pub fn leave(self) -> (Account<N>, Look)
+        ensures same { (result.0 ≡ self.entry.account) × (result.1 ≡ self.entry.look) }
+        ensures own { result.1.glances ≡ N.parts.glances }
+    {
+        let Worker {
+            rt: _,
+            kernel: _,
+            gate: _,
+            account,
+            look,
+        } = self;
+        (account, look)
+    }
+}
+
+/// A worker for each account and look, in order.
 pub fn hire<'a, N: Names, R, G>(
     rt: &'a R,
     alloc: Global,
     kernel: &'a Kernel<N>,
     gate: &'a G,
-    accounts: &'a mut [Account<N>],
+    accounts: Vec<Account<N>>,
     looks: Vec<Look>,
 ) -> Result<Vec<Worker<'a, N, R, G>>, AllocError>
-    requires count { vec_len looks ≡ length accounts.old }
+    requires count { vec_len looks ≡ vec_len accounts }
     requires own { All (λ l. l.glances ≡ N.parts.glances) looks.items }
-    ensures { IfOk result (λ workers. vec_len workers ≡ length accounts.entry.now) }
+    ensures count { IfOk result (λ workers. vec_len workers ≡ vec_len accounts) }
+    ensures accounts { IfOk result (λ workers. map (λ w. w.account) workers.items ≡ accounts.items) }
+    ensures looks { IfOk result (λ workers. map (λ w. w.look) workers.items ≡ looks.items) }
 {
     let mut workers = Vec::with_capacity(alloc, accounts.len())?;
     let mut looks = looks.into_iter();
@@ -235,4 +294,24 @@ pub fn hire<'a, N: Names, R, G>(
         });
     }
     Ok(workers)
+}
+
+/// What the workers have of their own, in order.
+pub fn leave_all<N: Names, R, G>(
+    alloc: Global,
+    workers: Vec<Worker<'_, N, R, G>>,
+) -> Result<(Vec<Account<N>>, Vec<Look>), AllocError>
+    ensures count { IfOk result (λ r. (vec_len r.0 ≡ vec_len workers.entry) × (vec_len r.1 ≡ vec_len workers.entry)) }
+    ensures accounts { IfOk result (λ r. r.0.items ≡ map (λ w. w.account) workers.entry.items) }
+    ensures looks { IfOk result (λ r. r.1.items ≡ map (λ w. w.look) workers.entry.items) }
+    ensures own { IfOk result (λ r. All (λ l. l.glances ≡ N.parts.glances) r.1.items) }
+{
+    let mut accounts = Vec::with_capacity(alloc, workers.len())?;
+    let mut looks = Vec::with_capacity(alloc, workers.len())?;
+    for worker in workers {
+        let (account, look) = worker.leave();
+        accounts.push(account)?;
+        looks.push(look)?;
+    }
+    Ok((accounts, looks))
 }

@@ -1,81 +1,53 @@
-//! The replies to the lines of a script, by the places of the lines.
-ghost use Rattle.std.specs.Prelude.{◌≡◌, IfOk, IfSome, None, Some, replicate, slice_set};
-ghost use Rattle.xh_runner.specs.Reports.{AreAnswersTo};
-ghost use Rattle.xh_runner.specs.inner.Jobs.{with_replies};
+//! The replies to the lines of a script, out of those of its parts.
+ghost use Rattle.std.specs.Prelude.{◌≡◌, ◌∷◌, ◌<◌, IfOk, List, length, map, replicate, slice_set, vec_len};
+ghost use Rattle.std.specs.Vec.Iter.{into_iter_items};
+ghost use Rattle.xh_model.specs.declared.limits.TheConstants.{PLACES};
+ghost use Rattle.xh_runner.specs.inner.Jobs.{Deals, Fits, queue_at};
+ghost use Rattle.xh_runner.specs.Plays.{told};
+ghost use Rattle.xh_session.specs.Bindings.{no_bindings};
 
+use crate::threads::latest::Latest;
+use crate::threads::play::part_of;
 use std::alloc::{AllocError, Global};
+use std::vec::IntoIter;
 use xh_script::{Answered, Line, Reply};
-use xh_session::{Machine, Session};
+use xh_session::Names as Bindings;
 
-/// The reply to the line at a place of the script.
-#[derive(Drop)]
-pub(super) struct Placed {
-    pub(super) index: usize,
-    pub(super) reply: Reply,
-}
-
-/// No line has a reply.
-pub(super) fn no_replies(alloc: Global, count: usize) -> Result<Vec<Option<Reply>>, AllocError>
-    ensures { IfOk result (λ replies. replies.items ≡ replicate count None) }
+// The next reply of a part.
+fn next_of(queues: &mut Vec<IntoIter<Reply>>, part: u8) -> Reply
+    requires there { part < vec_len queues.old }
+    requires some { 0 < length (queue_at (map into_iter_items queues.old.items) part) }
+    ensures { (rest : List Reply) × (queue_at (map into_iter_items queues.old.items) part ≡ result ∷ rest)
+        × (map into_iter_items queues.new.items ≡ slice_set (map into_iter_items queues.old.items) part rest) }
 {
-    let mut replies = Vec::with_capacity(alloc, count)?;
-    for _index in 0..count {
-        replies.push_reserved(None);
-    }
-    Ok(replies)
-}
-
-/// The line at this place has this reply.
-pub(super) fn put(replies: &mut [Option<Reply>], index: usize, reply: Reply)
-    ensures { replies.new ≡ slice_set replies.old index (Some reply) }
-{
-    if index < replies.len() {
-        replies[index] = Some(reply);
+    match queues[usize::from(part)].next() {
+        Some(reply) => reply,
+        None => unreachable!(),
     }
 }
 
-/// Each of these lines has its reply.
-pub(super) fn put_each(replies: &mut [Option<Reply>], placed: Vec<Placed>)
-    ensures { replies.new ≡ with_replies replies.old placed.items }
-{
-    for one in placed {
-        let Placed { index, reply } = one;
-        put(replies, index, reply);
-    }
-}
-
-// The reply that there is, or else that of the session.
-fn reply_of<'a, M: Machine>(
+/// The replies with the numbers of their lines, each the next one of its part; and what the names stand for by what
+/// they tell.
+pub(super) fn answered(
     alloc: Global,
-    session: &mut Session<'a, M>,
-    line: &Line,
-    reply: Option<Option<Reply>>,
-) -> Reply
-    ensures { IfSome reply (λ r. IfSome r (λ kept. result ≡ kept)) }
-{
-    match reply {
-        Some(Some(kept)) => kept,
-        _ => session.step(alloc, &line.command),
-    }
-}
-
-/// The replies with the numbers of their lines. The session does the commands that have none yet.
-pub(super) fn answered<'a, M: Machine>(
-    alloc: Global,
-    session: &mut Session<'a, M>,
+    names: &Bindings,
     lines: &[Line],
-    replies: Vec<Option<Reply>>,
-) -> Result<Vec<Answered>, AllocError>
-    ensures { IfOk result (λ answers. AreAnswersTo lines.now answers.items) }
+    queues: Vec<IntoIter<Reply>>,
+) -> Result<(Vec<Answered>, Bindings), AllocError>
+    requires { Fits names.now lines.now (map into_iter_items queues.items) }
+    ensures deals { IfOk result (λ r. Deals names.now lines.now (map into_iter_items queues.items) r.0.items) }
+    ensures names { IfOk result (λ r. r.1 ≡ told (replicate PLACES 0) no_bindings lines.now r.0.items) }
 {
+    let mut queues = queues;
     let mut answers = Vec::with_capacity(alloc, lines.len())?;
-    let mut replies = replies.into_iter();
+    let mut latest = Latest::new(alloc)?;
     for line in lines {
-        let reply = reply_of(alloc, session, line, replies.next());
-        answers.push_reserved(Answered {
+        let reply = next_of(&mut queues, part_of(names, line));
+        latest.tell(line, &reply);
+        answers.push(Answered {
             line: line.number,
             reply,
-        });
+        })?;
     }
-    Ok(answers)
+    Ok((answers, latest.names))
 }

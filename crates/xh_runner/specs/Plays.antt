@@ -1,0 +1,140 @@
+-- How the lines of a script are played on threads: the head, then the commands of each process by a machine of its own, and last those of processes without a place.
+use Rattle.std.specs.Prelude.{◌≡◌, ◌==◌, ◌&&◌, ◌%◌, ℕ, suc, nat_le, nat_lt, Bool, true, false, List, [], ◌∷◌, map, replicate, slice_index_or, slice_set, if◌then◌else◌, Option, Some, None}
+use Rattle.std.specs.List.{filter}
+use Rattle.xh_model.specs.declared.limits.TheConstants.{PLACES}
+use Rattle.xh_model.specs.declared.row.Row.{Row}
+use Rattle.xh_script.specs.declared.command.Line.{Line}
+use Rattle.xh_script.specs.declared.form.Form.{Form}
+use Rattle.xh_script.specs.declared.form.Form.TheVariants.{Kill, Glance}
+use Rattle.xh_script.specs.declared.reply.Answered.{Answered}
+use Rattle.xh_script.specs.declared.reply.Reply.{Reply}
+use Rattle.xh_script.specs.declared.reply.Reply.TheVariants.{Started}
+use Rattle.xh_script.specs.Forms.{is_head}
+use Rattle.xh_script.specs.Operands.{name}
+use Rattle.xh_session.specs.Bindings.{Bindings, following, names_by_place, no_bindings, number_of, process_at, started}
+use Rattle.xh_session.specs.Plans.{Follows, World, plan}
+use Rattle.xh_session.specs.Questions.{Question, Answer}
+
+-- ---- which lines are whose
+
+-- the process of a line: the one that its first word names
+abbrev pub process_of : Line → ℕ
+process_of line = name line.command.words.items 0
+
+abbrev pub is_some_of : ℕ → Option ℕ → Bool
+is_some_of p None = false
+is_some_of p (Some q) = q == p
+
+-- whether a process has one of the 32 places, by what the names stand for
+abbrev pub is_placed : Bindings → ℕ → Bool
+is_placed b p = nat_lt (number_of b p) PLACES && is_some_of p (process_at b (number_of b p))
+
+-- the last part of a run
+abbrev pub LAST : ℕ
+LAST = suc PLACES
+
+-- the part of a run to which a line belongs, by what the names stand for after the head: 0 is the head, 1 + k are the commands of the process that has
+-- the place k, and the last part those of processes without a place
+abbrev pub part_of : Bindings → Line → ℕ
+part_of b line = if is_head line.command.form then 0 else if is_placed b (process_of line) then suc (number_of b (process_of line)) else LAST
+
+-- the lines of a part, in their order
+abbrev pub part : Bindings → ℕ → List Line → List Line
+part b k lines = filter (λ line. part_of b line == k) lines
+
+-- the replies to them
+abbrev pub replies_in : Bindings → ℕ → List Line → List Answered → List Reply
+replies_in b k [] answers = []
+replies_in b k (line ∷ lines) [] = []
+replies_in b k (line ∷ lines) (a ∷ answers) = if part_of b line == k then a.reply ∷ replies_in b k lines answers else replies_in b k lines answers
+
+-- there is one reply for each line, in the order of the lines, with its number
+abbrev pub AreAnswersTo : List Line → List Answered → Type 0
+AreAnswersTo lines answers = map (λ a. a.line) answers ≡ map (λ l. l.number) lines
+
+-- ---- which process is the latest of a place
+
+-- of the processes that a place had, the one with the greatest number is the latest: whether a number is not below that of the place's latest so far
+abbrev pub is_latest : List ℕ → ℕ → Bool
+is_latest numbers n = nat_le (slice_index_or numbers (n % PLACES) 0) n
+
+-- by place, the number of its latest process, once a reply tells that one was started
+abbrev pub numbers_after : List ℕ → Reply → List ℕ
+numbers_after numbers (Started n) = if is_latest numbers n then slice_set numbers (n % PLACES) n else numbers
+numbers_after numbers reply = numbers
+
+-- and what names stand for, where it is the line's process
+abbrev pub names_after : List ℕ → Bindings → Line → Reply → Bindings
+names_after numbers b line (Started n) = if is_latest numbers n then started b (process_of line) n else b
+names_after numbers b line reply = b
+
+-- once all replies were told
+abbrev pub told : List ℕ → Bindings → List Line → List Answered → Bindings
+told numbers b [] answers = b
+told numbers b (line ∷ lines) [] = b
+told numbers b (line ∷ lines) (a ∷ answers) = told (numbers_after numbers a.reply) (names_after numbers b line a.reply) lines answers
+
+-- the names are those of the script's processes that are the latest of the places, by what the replies tell
+abbrev pub HasNames : List (List ℕ) → List Line → List Answered → List (List ℕ) → Type 0
+HasNames processes lines answers names = names ≡ names_by_place processes (told (replicate PLACES 0) no_bindings lines answers)
+
+-- ---- how they were played
+
+-- whether the form's command names another process
+abbrev pub names_another : Form → Bool
+names_another Kill = true
+names_another Glance = true
+names_another form = false
+
+-- the lines, one after another, each with its reply
+abbrev pub Plays : {S : Type 0} → (World S → Line → Reply → World S → Type 0) → World S → List Line → List Reply → World S → Type 0
+Plays Step old [] [] new = new ≡ old
+Plays Step old [] (reply ∷ replies) new = ⊥
+Plays Step old (line ∷ lines) [] new = ⊥
+Plays {S} Step old (line ∷ lines) (reply ∷ replies) new = (mid : World S) × Step old line reply mid × Plays Step mid lines replies new
+
+-- the items of two lists, place by place; the places count from k on
+abbrev pub AllZipFrom : {A B : Type 0} → (ℕ → A → B → Type 0) → ℕ → List A → List B → Type 0
+AllZipFrom R k [] [] = Unit {0}
+AllZipFrom R k [] (y ∷ ys) = ⊥
+AllZipFrom R k (x ∷ xs) [] = ⊥
+AllZipFrom R k (x ∷ xs) (y ∷ ys) = R k x y × AllZipFrom R (suc k) xs ys
+
+-- the world in which a run begins, by the head's machine
+abbrev pub began : {S : Type 0} → S → List (List Row) → World S
+began first contracts = record { machine = first; names = no_bindings; contracts = contracts }
+
+module _ {S : Type 0} (did : S → (q : Question) → Answer q → S → Type 0) where
+  -- a machine did the command of a line: what the command asked was answered by the machine, and the reply and the names follow of the answers
+  abbrev pub Does : World S → Line → Reply → World S → Type 0
+  Does old line reply new = Follows did (plan old.names old.contracts line.command) old reply new
+
+  -- the same, while other workers do theirs: where a command names another process, the names of the others may stand for later processes by then
+  abbrev pub DoesAmong : World S → Line → Reply → World S → Type 0
+  DoesAmong old line reply new = (others : Bindings)
+      × Does (if names_another line.command.form then record old { names = following (process_of line) others old.names } else old) line reply new
+
+  -- a script's lines, with the answers of a report
+  module _ (contracts : List (List Row)) (lines : List Line) (answers : List Answered) where
+    -- a part of the lines was played, with its replies
+    abbrev pub PlaysPart : (World S → Line → Reply → World S → Type 0) → Bindings → ℕ → World S → World S → Type 0
+    PlaysPart Step b k old new = Plays Step old (part b k lines) (replies_in b k lines answers) new
+
+    -- a machine played the commands of the process at the place k, from what the head left on
+    abbrev pub PlaysPlace : World S → ℕ → S → S → Type 0
+    PlaysPlace ready k old new = (end : World S) × PlaysPart DoesAmong ready.names (suc k) (record ready { machine = old }) end × (end.machine ≡ new)
+
+    -- the first machine played the head and, at the end, the last part; and of the others each its place
+    pub record PlayAll (first : S) (olds : List S) (last : S) (news : List S) : Type 0 where
+      pub ready : World S
+      pub end : World S
+      pub head : PlaysPart Does ready.names 0 (began first contracts) ready
+      pub places : AllZipFrom (PlaysPlace ready) 0 olds news
+      pub rest : PlaysPart Does ready.names LAST ready end
+      pub left : end.machine ≡ last
+
+    -- the machines, as they were before, played all lines, and this is what they are after
+    abbrev pub ArePlayed : List S → List S → Type 0
+    ArePlayed [] news = ⊥
+    ArePlayed (first ∷ olds) [] = ⊥
+    ArePlayed (first ∷ olds) (last ∷ news) = PlayAll first olds last news
