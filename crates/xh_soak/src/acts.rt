@@ -98,8 +98,7 @@ impl<'a, M: Machine, R: Wait> Actor<'a, M, R> {
 
     // A block that is new is all zeros.
     fn get_block(&mut self, p: u16) {
-        let bytes = self.memory.size();
-        let arena = self.memory.arena();
+        let (bytes, arena) = self.memory.wanted();
         match self.machine.alloc(self.alloc, p, bytes, arena) {
             Ok(block) if block.len == bytes.div_ceil(16).saturating_mul(16) => {
                 self.memory.add_block(block, 0);

@@ -23,6 +23,15 @@ pub(crate) fn low_half(number: u64) -> u16 {
     (number % 65_536) as u16
 }
 
+/// The tag that tells the half of a number, and the half that a tag tells: tags are low and high ones.
+pub(crate) fn turned(word: u16) -> u16 {
+    if word % 2 == 0 {
+        word
+    } else {
+        0u16.wrapping_sub(word)
+    }
+}
+
 /// The mark of each block stands all over it from now on.
 pub(crate) fn fill<M: Machine>(machine: &mut M, p: u16, blocks: &[Kept]) -> Result<(), Refused> {
     for kept in blocks {

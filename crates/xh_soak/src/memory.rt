@@ -1,6 +1,6 @@
 //! What a worker of a round knows: what its process holds, and what was wrong.
 use crate::board::{Board, MARKS};
-use crate::marks::{low_half, mark};
+use crate::marks::{low_half, mark, turned};
 use crate::plan::Plan;
 use crate::wrong::Wrong;
 use rand_core::Rng;
@@ -9,7 +9,7 @@ use std::alloc::{AllocError, Global};
 use xh_core::{Block, Refused};
 use xh_model::limits::END_BYTES;
 
-/// Tags from here on are those of contracts. They don't tell the marks of a message.
+/// The first of the four tags of contracts. They don't tell the marks of a message.
 pub(crate) const CONTRACT_TAGS: u16 = 60_000;
 
 /// A data block of the process, and its mark.
@@ -84,16 +84,24 @@ impl Memory {
         if count == 0 { 0 } else { word % count }
     }
 
-    /// One of the arenas.
+    /// One of the arenas. In a large heap it is mostly the last, whose records run out, and never the first.
     pub(crate) fn arena(&mut self) -> u32 {
+        if self.plan.is_large() {
+            return self.below(32).clamp(1, 7);
+        }
         let arenas = u32::from(self.plan.config.arenas);
         self.below(arenas)
     }
 
-    /// A length of a block: mostly small, and seldom more than some arenas have.
-    pub(crate) fn size(&mut self) -> u32 {
+    /// A length of a block, and its arena: mostly small, and seldom more than some arenas have. In a large heap it is
+    /// seldom all that the first arena has.
+    pub(crate) fn wanted(&mut self) -> (u32, u32) {
+        if self.plan.is_large() && self.below(256) == 0 {
+            return (self.plan.config.bytes, 0);
+        }
         let most = if self.below(8) == 0 { 1024 } else { 128 };
-        self.below(most).saturating_add(1)
+        let bytes = self.below(most).saturating_add(1);
+        (bytes, self.arena())
     }
 
     /// One of the workers.
@@ -114,9 +122,14 @@ impl Memory {
         self.blocks.get(at).copied()
     }
 
-    /// One of the endpoints.
+    /// One of the endpoints, mostly one of the first three, so that their channels run full.
     pub(crate) fn any_end(&mut self) -> Option<u16> {
-        let count = self.ends.len();
+        let most = if self.below(4) == 0 {
+            self.ends.len()
+        } else {
+            3
+        };
+        let count = self.ends.len().min(most);
         let at = self.spot(count);
         self.ends.get(at).copied()
     }
@@ -225,16 +238,16 @@ impl Memory {
         })
     }
 
-    // The number of the latest mark, which the marks of the message follow; or a tag of a contract.
+    // Tells the number of the latest mark, which the marks of the message follow; or it is a tag of a contract.
     fn tag(&mut self) -> u16 {
         if self.plan.contracts && self.below(3) == 0 {
             CONTRACT_TAGS.saturating_add((self.below(4) % 4) as u16)
         } else {
-            low_half(u64::from(self.number))
+            turned(low_half(u64::from(self.number)))
         }
     }
 
-    /// Up to three blocks for a give by this endpoint, and at times another endpoint; where all is to be closed at the
+    /// Up to eight blocks for a give by this endpoint, and at times another endpoint; where all is to be closed at the
     /// end none, since one that is on its way to itself can't be closed. The process is not to hold them any more.
     pub(crate) fn load(&mut self, alloc: Global, by: u16) -> Result<Load, AllocError> {
         let mut load = Load {
@@ -243,14 +256,14 @@ impl Memory {
             end: None,
             records: Vec::new(alloc),
         };
-        let count = self.below(4);
+        let count = self.below(9);
         for _ in 0..count {
             if let Some(kept) = self.marked() {
                 load.records.push(kept.block.rec)?;
                 load.blocks.push(kept)?;
             }
         }
-        if !self.plan.ends && self.below(4) == 0 {
+        if !self.plan.ends && count < 8 && self.below(4) == 0 {
             load.end = self.any_end().filter(|end| *end != by);
         }
         if let Some(end) = load.end {

@@ -7,6 +7,14 @@ use xh_model::limits::MAX_WEAR;
 // No seed of a worker's own numbers has this stream.
 const STREAM: u64 = 1024;
 
+const LARGEST: Config = Config {
+    arenas: 8,
+    bytes: 1_048_576,
+    records: 256,
+    depth: 16,
+    wear: MAX_WEAR,
+};
+
 /// How a round goes.
 #[derive(Clone, Copy, Debug)]
 pub(crate) struct Plan {
@@ -29,6 +37,11 @@ impl Plan {
         self.config.wear < MAX_WEAR
     }
 
+    /// Whether the heap is as large as can be.
+    pub(crate) fn is_large(&self) -> bool {
+        self.config.records == 256
+    }
+
     /// The plan of a seed.
     pub(crate) fn new(seed: u64, scarce: bool) -> Plan {
         let mut random = Pcg32::new(seed, STREAM);
@@ -43,7 +56,7 @@ impl Plan {
                 MAX_WEAR
             },
         };
-        Plan {
+        let mut plan = Plan {
             seed,
             config,
             workers: (random.next_u32() % 15 + 2) as u8,
@@ -51,6 +64,13 @@ impl Plan {
             ends: random.next_u32() % 4 == 0,
             contracts: random.next_u32() % 2 == 0,
             scarce,
+        };
+        if random.next_u32() % 4 == 0 {
+            plan.config = Config {
+                wear: config.wear,
+                ..LARGEST
+            };
         }
+        plan
     }
 }

@@ -1,5 +1,5 @@
 //! A round: a kernel, workers on threads of their own, and the closed books.
-ghost use Rattle.std.specs.Prelude.{◌≡◌, All, IfOk, Ok, length, vec_len};
+ghost use Rattle.std.specs.Prelude.{◌≡◌, All, IfOk, Ok, vec_len};
 
 use crate::actor::Actor;
 use crate::board::Board;
@@ -15,7 +15,7 @@ use xh_books::close_books;
 use xh_core::{Ledger, Refused};
 use xh_glance::Look;
 use xh_kernel::{Account, Kernel, Names, Parts, Settled};
-use xh_runner::{Machine, OpenGate, hire};
+use xh_runner::{Machine, OpenGate, hire, leave_all};
 
 /// What the workers of a round did: how many blocks they took, and how often one waited for a message.
 #[derive(Clone, Copy, Debug)]
@@ -44,7 +44,9 @@ fn hire_all<'a, M: Machine, R>(
     board: &'a Board,
     plan: Plan,
     machines: Vec<M>,
-) -> Result<Vec<Actor<'a, M, R>>, AllocError> {
+) -> Result<Vec<Actor<'a, M, R>>, AllocError>
+    ensures { IfOk result (λ actors. vec_len actors ≡ vec_len machines) }
+{
     let mut actors = Vec::with_capacity(alloc, machines.len())?;
     let mut worker = 0u32;
     for machine in machines {
@@ -100,38 +102,64 @@ fn end_all<M: Machine, R>(actors: &mut [Actor<M, R>]) {
     }
 }
 
-// A round by a worker for each machine.
+// The machines of the workers.
+fn machines_of<M: Drop, R>(
+    alloc: Global,
+    actors: Vec<Actor<'_, M, R>>,
+) -> Result<Vec<M>, AllocError>
+    ensures { IfOk result (λ machines. vec_len machines ≡ vec_len actors.entry) }
+{
+    let mut machines = Vec::with_capacity(alloc, actors.len())?;
+    for actor in actors {
+        let Actor {
+            rt: _,
+            alloc: _,
+            board: _,
+            machine,
+            memory: _,
+        } = actor;
+        machines.push(machine)?;
+    }
+    Ok(machines)
+}
+
+// A round by a worker for each machine: what they did, and the machines.
 fn run_by<M: Machine + Send, R: Threads + Wait + Sync>(
     rt: &R,
     alloc: Global,
     board: &Board,
     plan: Plan,
     machines: Vec<M>,
-) -> Result<Done, Wrong> {
+) -> Result<(Done, Vec<M>), Wrong>
+    ensures { IfOk result (λ r. vec_len r.1 ≡ vec_len machines) }
+{
     let mut actors = hire_all(rt, alloc, board, plan, machines)?;
     let worked = work(rt, &mut actors);
     if plan.ends {
         end_all(&mut actors);
     }
-    drop(actors);
-    worked
+    let machines = machines_of(alloc, actors)?;
+    Ok((worked?, machines))
 }
 
-// A round on a kernel, by a worker for each account.
+// A round on a kernel, by a worker for each account: what they did, and the accounts.
 fn run_on<N: Names + Send + Sync, R: Threads + Wait + Sync>(
     rt: &R,
     alloc: Global,
     kernel: &Kernel<N>,
     board: &Board,
     plan: Plan,
-    accounts: &mut [Account<N>],
+    accounts: Vec<Account<N>>,
     looks: Vec<Look>,
-) -> Result<Done, Wrong>
-    requires count { vec_len looks ≡ length accounts.old }
+) -> Result<(Done, Vec<Account<N>>), Wrong>
+    requires count { vec_len looks ≡ vec_len accounts }
     requires own { All (λ l. l.glances ≡ N.parts.glances) looks.items }
+    ensures { IfOk result (λ r. vec_len r.1 ≡ vec_len accounts) }
 {
     let machines = hire(rt, alloc, kernel, &OpenGate, accounts, looks)?;
-    run_by(rt, alloc, board, plan, machines)
+    let (done, machines) = run_by(rt, alloc, board, plan, machines)?;
+    let (accounts, _looks) = leave_all(alloc, machines)?;
+    Ok((done, accounts))
 }
 
 // What a call of the heap answers that may be refused memory alone.
@@ -204,13 +232,17 @@ fn run_named<N: Names + Send + Sync, R: Threads + Wait + Sync>(
 ) -> Result<Done, Wrong>
     requires { parts ≡ N.parts }
 {
-    let (kernel, mut accounts, looks) = match Kernel::<N>::new(alloc, parts) {
+    let (kernel, accounts, looks) = match Kernel::<N>::new(alloc, parts) {
         Ok(made) => made,
         Err(_refused) => return Err(Wrong::Memory),
     };
-    let worked = run_on(rt, alloc, &kernel, board, plan, &mut accounts, looks);
-    close(alloc, plan, kernel, accounts)?;
-    worked
+    match run_on(rt, alloc, &kernel, board, plan, accounts, looks) {
+        Ok((done, accounts)) => {
+            close(alloc, plan, kernel, accounts)?;
+            Ok(done)
+        }
+        Err(wrong) => Err(wrong),
+    }
 }
 
 /// A round by a plan.

@@ -1,6 +1,6 @@
 //! What a worker of a round does with its endpoints.
 use crate::actor::Actor;
-use crate::marks::{fill, low_half, mark_of};
+use crate::marks::{fill, low_half, mark_of, turned};
 use crate::memory::{CONTRACT_TAGS, Load};
 use std::sync::Wait;
 use xh_core::{Block, Refused};
@@ -61,11 +61,12 @@ impl<'a, M: Machine, R: Wait> Actor<'a, M, R> {
 
     // The blocks of a message have the marks that its tag tells, unless it is one of a contract.
     fn keep_all(&mut self, p: u16, tag: u16, blocks: &[Option<Block>]) {
-        let mut number = u64::from(tag);
+        let mut number = u64::from(turned(tag));
+        let any = (CONTRACT_TAGS..=60_003).contains(&tag);
         for got in blocks {
             number = number.saturating_add(1);
             if let Some(block) = got {
-                self.keep(p, *block, low_half(number), tag >= CONTRACT_TAGS);
+                self.keep(p, *block, low_half(number), any);
             }
         }
     }

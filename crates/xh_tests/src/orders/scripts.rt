@@ -5,13 +5,15 @@ use rand_pcg::Pcg32;
 use std::alloc::{AllocError, Global};
 use xh_core::Config;
 
-/// What scripts of a kind have in common: the config; the head, which has so many lines; the processes; the commands.
+/// What scripts of a kind have in common: the config; the head, which has so many lines; the processes; the commands that each
+/// begins with; the commands.
 /// Where a kind is loose, processes and channels end in it; where it is exact, holes are counted too.
 pub(super) struct Setting {
     pub(super) config: Config,
     pub(super) head: &'static str,
     pub(super) heads: usize,
     pub(super) roles: &'static [Role],
+    first: &'static [&'static str],
     commands: &'static [&'static [Piece]],
     pub(super) loose: bool,
     pub(super) exact: bool,
@@ -167,13 +169,38 @@ const ENDING: [&[Piece]; 16] = [
     &[Either(" kill c\n", " again\n")],
 ];
 
-/// Two processes, or three in a ring, in an arena that runs full: nothing ends.
-const WORKING_PLAYS: &[Setting; 2] = &[
+/// Blocks for large messages.
+const EIGHT: &[&str] = &[
+    " alloc u 16 7\n",
+    " alloc v 512 6\n",
+    " alloc w 16 7\n",
+    " alloc x 48 5\n",
+    " alloc y 16 7\n",
+    " alloc z 16 0\n",
+    " alloc s 32 7\n",
+    " alloc t 16 1\n",
+];
+
+/// Commands that end nothing, with messages of up to eight blocks.
+const CARRYING: [&[Piece]; 8] = [
+    &[Is(" alloc "), X, Is(" 16 7\n")],
+    &[Is(" give "), E, Is(" 65535 u v w x y\n")],
+    &[Is(" give "), E, Is(" 40000 y x w v u z\n")],
+    &[Is(" give "), E, Is(" 32768 z y x w v u s t\n")],
+    GIVE,
+    &[Is(" take "), E, Is(" u v w x y z s t\n")],
+    &[Is(" take "), E, Is(" s t u v w x y z\n")],
+    FREE,
+];
+
+/// Two processes, or three in a ring, in an arena that runs full, or two with large messages: nothing ends.
+const WORKING_PLAYS: &[Setting; 3] = &[
     Setting {
         config: NARROW,
         head: "process a\nprocess b\nwire a e b f 0\n",
         heads: 3,
         roles: &PAIR,
+        first: &[],
         commands: &WORKING,
         loose: false,
         exact: true,
@@ -186,19 +213,31 @@ const WORKING_PLAYS: &[Setting; 2] = &[
         head: "process a\nprocess b\nprocess c\nwire a e b f 0\nwire b g c h 0\nwire c i a j 0\n",
         heads: 6,
         roles: &RING,
+        first: &[],
         commands: &WORKING,
+        loose: false,
+        exact: false,
+    },
+    Setting {
+        config: WIDE,
+        head: "process a\nprocess b\nwire a e b f 7\n",
+        heads: 3,
+        roles: &PAIR,
+        first: EIGHT,
+        commands: &CARRYING,
         loose: false,
         exact: false,
     },
 ];
 
-/// Two processes, or three around the first, in an ample arena: processes and channels end.
-const ENDING_PLAYS: &[Setting; 2] = &[
+/// Two processes, or three around the first, in an ample arena or in eight: processes and channels end.
+const ENDING_PLAYS: &[Setting; 3] = &[
     Setting {
         config: AMPLE,
         head: "process a\nprocess b\nwire a e b f 0\n",
         heads: 3,
         roles: &PAIR,
+        first: &[],
         commands: &ENDING,
         loose: true,
         exact: false,
@@ -208,6 +247,17 @@ const ENDING_PLAYS: &[Setting; 2] = &[
         head: "process a\nprocess b\nprocess c\nwire a e b f 0\nwire a g c h 0\n",
         heads: 5,
         roles: &STAR,
+        first: &[],
+        commands: &ENDING,
+        loose: true,
+        exact: false,
+    },
+    Setting {
+        config: WIDE,
+        head: "process a\nprocess b\nprocess c\nwire a e b f 7\nwire a g c h 6\n",
+        heads: 5,
+        roles: &STAR,
+        first: &[],
         commands: &ENDING,
         loose: true,
         exact: false,
@@ -220,6 +270,14 @@ const NARROW: Config = Config {
     records: 64,
     depth: 1,
     wear: 1_000_000,
+};
+
+const WIDE: Config = Config {
+    arenas: 8,
+    bytes: 1024,
+    records: 256,
+    depth: 16,
+    ..NARROW
 };
 
 const AMPLE: Config = Config {
@@ -274,7 +332,7 @@ fn command(
     Ok(text)
 }
 
-// Up to six commands of a process, behind those that are there.
+// A process's first commands, and up to six more, behind those that are there.
 fn add_lines(
     alloc: Global,
     random: &mut Pcg32,
@@ -283,6 +341,11 @@ fn add_lines(
     role: Role,
     lines: &mut Vec<Line>,
 ) -> Result<(), AllocError> {
+    for rest in setting.first {
+        let mut text = String::from_str(alloc, role.name)?;
+        text.push_str(rest)?;
+        lines.push(Line { process, text })?;
+    }
     let count = below(random, 6).saturating_add(1);
     for _ in 0..count {
         let text = command(alloc, random, role, setting.commands)?;
@@ -291,14 +354,14 @@ fn add_lines(
     Ok(())
 }
 
-/// A script of this number in one of two settings, by random numbers of a stream.
+/// A script of this number in one of three settings, by random numbers of a stream.
 fn random_play(
     alloc: Global,
     seed: u64,
     stream: u64,
-    settings: &'static [Setting; 2],
+    settings: &'static [Setting; 3],
 ) -> Result<Play, AllocError> {
-    let setting = &settings[(seed % 2) as usize];
+    let setting = &settings[(seed % 3) as usize];
     let mut random = Pcg32::new(seed, stream);
     let mut lines = Vec::new(alloc);
     let mut process = 0usize;
