@@ -1,4 +1,4 @@
-//! Measures of a kernel: it is made, one kind of call is timed on it, and its books are closed.
+//! Measures of a kernel: it is made, one kind of call is timed on it, and it is dropped.
 ghost use Rattle.std.specs.Prelude.{◌≡◌, All, vec_len};
 
 use crate::calls::{Deed, Doing, crowd, give_take};
