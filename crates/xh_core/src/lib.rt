@@ -8,6 +8,7 @@
 
 mod block;
 mod contract;
+mod flight;
 mod glance;
 mod header;
 mod ledger;
@@ -21,6 +22,7 @@ mod twice;
 
 pub use block::Block;
 pub use contract::Contract;
+pub use flight::{FLIGHT_LINES, FlightLine};
 pub use glance::Glance;
 pub use header::{Header, Kind};
 pub use ledger::{ARENA_LINES, ArenaLine, Ledger, PLACE_LINES, PlaceLine, State};
