@@ -101,8 +101,7 @@ module _ (size : ℕ) (extents holes : List (ℕ × ℕ)) (out r t s m k : ℕ) 
 -- ---- giving back
 
 is_some_from_test : (r : ℕ) (o : Option ℕ) → is_of r o ≡ true → is_some o ≡ true
-is_some_from_test r None e = absurd (false≢true e)
-is_some_from_test r (Some q) e = refl
+is_some_from_test r o e = grind (arith, nat_tests)
 
 -- a giving back of the run (s, m) of the record r, where the holes in a end before s
 module _ (size : ℕ) (extents a b : List (ℕ × ℕ)) (out r s m : ℕ) (kept : IsKept size extents (a ++ b) out) (known : r < length extents) (extent : get_or extents r (0, 0) ≡ (s, m))

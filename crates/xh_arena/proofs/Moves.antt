@@ -1,4 +1,5 @@
 -- Each step of a vault's seat keeps the rule.
+use Rattle.std.proofs.lemmas.Bool.Decides.{nat_tests}
 use Rattle.std.proofs.Common.{◌≡◌, ℕ, ◌+◌, List, [], ◌∷◌, ◌++◌, length, set, refl, sym, ap, ◌∙◌, subst, arith, replicate, length-set}
 use Rattle.std.specs.Prelude.{slice_set, slice_index}
 use mathlib.Core.Option.{some, none}
@@ -35,8 +36,7 @@ changes f slots id me keep s kept len at fits =
     )
 
 weigh-cut : (h : Part → ℕ) (v : List Part) → weigh h (below v) + weigh h (top v) ≡ weigh h v
-weigh-cut h [] = refl
-weigh-cut h (p ∷ ps) = omega arith
+weigh-cut h v = grind (arith, nat_tests)
 
 pub splits : {S : Type 0} (id : ℕ) (v : List Part) → Splits {S = S} Kept id v (below v) (top v)
 splits id v s kept at =

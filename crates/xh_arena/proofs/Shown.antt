@@ -1,6 +1,6 @@
 -- What a look shows of a vault's books, and that each change keeps them.
 use Rattle.std.proofs.lemmas.Bool.Decides.{nat_tests}
-use Rattle.std.proofs.Common.{◌≡◌, ℕ, zero, suc, ◌+◌, ◌-◌, ◌≤◌, ◌<◌, List, [], ◌∷◌, length, map, set, Some, refl, sym, ap, ◌∙◌, subst, arith}
+use Rattle.std.proofs.Common.{◌++◌, ◌≡◌, ℕ, zero, suc, ◌+◌, ◌-◌, ◌≤◌, ◌<◌, List, [], ◌∷◌, length, map, set, Some, refl, sym, ap, ◌∙◌, subst, arith}
 use Rattle.std.specs.Prelude.{slice_get, slice_set}
 use Rattle.xh_arena.specs.declared.parts.Part.{Part}
 use Rattle.xh_arena.specs.declared.parts.Part.TheVariants.{Books, Length, Moved}
@@ -10,7 +10,7 @@ use Rattle.xh_model.proofs.Lengths.{length_is}
 use Rattle.xh_arena.specs.Sharing.{IsLotOf}
 use Rattle.xh_arena.specs.Views.{LotOf, VaultOf, Move, AreSummed}
 use Rattle.xh_arena.specs.inner.Books.{Booked, moved, moves_of, back_of, workers_of, vault_parts, booked, Balanced}
-use Rattle.xh_arena.proofs.Weights.{weigh-set, weigh-at, weigh-none, weigh_sum}
+use Rattle.xh_arena.proofs.Weights.{weigh-append, weigh-set, weigh-at, weigh-none, weigh_sum}
 use Rattle.xh_arena.proofs.Wholes.{weigh-whole, weigh-listed, listed-none, lot_stands, tally_stands, books_stand}
 
 lot_shown : (i x : ℕ) (ls : List ℕ) (t b k : ℕ) (rest : List Part) → AreOfOneWhole (Length i x ∷ Books ls t b k ∷ rest) → slice_get ls i ≡ Some x
@@ -50,14 +50,10 @@ back_in (Moved j x y) = y
 back_in _ = 0
 
 taken_none : (p : Part) → one_tally p ≡ 0 → taken_in p ≡ 0
-taken_none (Books l t b k) e = refl
-taken_none (Length r n) e = refl
-taken_none (Moved j x y) e = absurd (omega arith)
+taken_none p e = grind (arith, nat_tests)
 
 back_none : (p : Part) → one_tally p ≡ 0 → back_in p ≡ 0
-back_none (Books l t b k) e = refl
-back_none (Length r n) e = refl
-back_none (Moved j x y) e = absurd (omega arith)
+back_none p e = grind (arith, nat_tests)
 
 -- what a weight of tallies alone says of a whole, and of tallies that were collected
 module _ (h : Part → ℕ) (g : ℕ × ℕ → ℕ) (m : Move → ℕ) (zl : (r n : ℕ) → h (Length r n) ≡ 0) (zb : (ls : List ℕ) (t b k : ℕ) → h (Books ls t b k) ≡ 0)
@@ -65,22 +61,15 @@ module _ (h : Part → ℕ) (g : ℕ × ℕ → ℕ) (m : Move → ℕ) (zl : (r
   whole_weighs : (ls : List ℕ) (ts : List (ℕ × ℕ)) → weigh h (whole ls ts) ≡ weigh g ts
   whole_weighs ls ts = grind (arith, nat_tests, weigh-whole, listed-none, weigh-listed)
 
-  vault_weighs : (ls : List ℕ) (t b k : ℕ) (ms : List Move) → weigh h (vault_parts ls t b k ms) ≡ weigh m ms
-  vault_weighs ls t b k ms = omega (arith, zb ls t b k, moves_weigh h m em ms)
+  weighs : (v : List Part) (ls : List ℕ) (t b k : ℕ) (ms : List Move) (f : AreOfOneWhole (v ++ vault_parts ls t b k ms)) → weigh h v + weigh m ms + weigh h f.0 ≡ weigh g f.1.1
+  weighs v ls t b k ms f = omega (arith, f.1.2 h, whole_weighs f.1.0 f.1.1, weigh-append h v (vault_parts ls t b k ms), zb ls t b k, moves_weigh h m em ms)
 
 -- while a tally is elsewhere, not all were collected
 one_shown : (j x y : ℕ) (ls : List ℕ) (t b k : ℕ) (ms : List Move) → AreOfOneWhole (Moved j x y ∷ vault_parts ls t b k ms) → length ms < k
 one_shown j x y ls t b k ms f =
     let same = books_stand (Moved j x y ∷ vault_parts ls t b k ms) f.0 f.1 ls t b k (λ h. omega arith) in
     let K : length f.1.1 ≡ k = cc in
-    omega (
-      arith,
-      f.1.2 one_tally,
-      whole_weighs one_tally (λ _. 1) (λ _. 1) (λ _ _. refl) (λ _ _ _ _. refl) (λ _ _. refl) (λ _. refl) f.1.0 f.1.1,
-      vault_weighs one_tally (λ _. 1) (λ _. 1) (λ _ _. refl) (λ _ _ _ _. refl) (λ _ _. refl) (λ _. refl) ls t b k ms,
-      weigh-ones f.1.1,
-      weigh-ones ms,
-    )
+    omega (arith, weighs one_tally (λ _. 1) (λ _. 1) (λ _ _. refl) (λ _ _ _ _. refl) (λ _ _. refl) (λ _. refl) (Moved j x y ∷ []) ls t b k ms f, weigh-ones f.1.1, weigh-ones ms)
 
 all_shown : (ls : List ℕ) (t b k : ℕ) (ms : List Move) → AreOfOneWhole (vault_parts ls t b k ms) → length ms ≡ k → (weigh (λ (m : Move). m.taken) ms ≡ t) × (weigh (λ (m : Move). m.back) ms ≡ b)
 all_shown ls t b k ms f all =
@@ -90,29 +79,10 @@ all_shown ls t b k ms f all =
     let B : weigh (λ (u : ℕ × ℕ). u.1) ts ≡ b = cc in
     let K : length ts ≡ k = cc in
     let none : weigh one_tally f.0 ≡ 0 =
-    omega (
-      arith,
-      f.1.2 one_tally,
-      whole_weighs one_tally (λ _. 1) (λ _. 1) (λ _ _. refl) (λ _ _ _ _. refl) (λ _ _. refl) (λ _. refl) f.1.0 ts,
-      vault_weighs one_tally (λ _. 1) (λ _. 1) (λ _ _. refl) (λ _ _ _ _. refl) (λ _ _. refl) (λ _. refl) ls t b k ms,
-      weigh-ones ts,
-      weigh-ones ms,
-    ) in (
-      omega (
-        arith,
-        f.1.2 taken_in,
-        weigh-none one_tally taken_in taken_none f.0 none,
-        whole_weighs taken_in (λ u. u.0) (λ m. m.taken) (λ _ _. refl) (λ _ _ _ _. refl) (λ _ _. refl) (λ _. refl) f.1.0 ts,
-        vault_weighs taken_in (λ u. u.0) (λ m. m.taken) (λ _ _. refl) (λ _ _ _ _. refl) (λ _ _. refl) (λ _. refl) ls t b k ms,
-      ),
-      omega (
-        arith,
-        f.1.2 back_in,
-        weigh-none one_tally back_in back_none f.0 none,
-        whole_weighs back_in (λ u. u.1) (λ m. m.back) (λ _ _. refl) (λ _ _ _ _. refl) (λ _ _. refl) (λ _. refl) f.1.0 ts,
-        vault_weighs back_in (λ u. u.1) (λ m. m.back) (λ _ _. refl) (λ _ _ _ _. refl) (λ _ _. refl) (λ _. refl) ls t b k ms,
-      ),
-    )
+    omega (arith, weighs one_tally (λ _. 1) (λ _. 1) (λ _ _. refl) (λ _ _ _ _. refl) (λ _ _. refl) (λ _. refl) [] ls t b k ms f, weigh-ones ts, weigh-ones ms) in
+    let taken = weighs taken_in (λ u. u.0) (λ m. m.taken) (λ _ _. refl) (λ _ _ _ _. refl) (λ _ _. refl) (λ _. refl) [] ls t b k ms f in
+    let back = weighs back_in (λ u. u.1) (λ m. m.back) (λ _ _. refl) (λ _ _ _ _. refl) (λ _ _. refl) (λ _. refl) [] ls t b k ms f in
+    (omega (arith, weigh-none one_tally taken_in taken_none f.0 none, taken), omega (arith, weigh-none one_tally back_in back_none f.0 none, back))
 
 -- the same of the vault's parts, with one share's part before them
 module _ (vs : List (List Part)) (parts : List Part) (p : Part) (ls : List ℕ) (t b k : ℕ) (ms : List Move) (e : vs ≡ (p ∷ []) ∷ []) (is : parts ≡ vault_parts ls t b k ms) where

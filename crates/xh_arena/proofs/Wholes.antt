@@ -1,5 +1,6 @@
 -- A part that stands in a whole is the whole's, and a changed part makes another whole.
-use Rattle.std.proofs.Common.{◌≡◌, ℕ, zero, suc, ◌+◌, ◌≤◌, Bool, true, false, ◌&&◌, cond, eqb, List, [], ◌∷◌, ◌++◌, length, set, Option, Some, None, refl, ap, arith}
+use Rattle.std.proofs.lemmas.Bool.Decides.{nat_tests}
+use Rattle.std.proofs.Common.{◌≡◌, ℕ, zero, suc, ◌+◌, ◌≤◌, Bool, true, false, ◌&&◌, cond, eqb, List, [], ◌∷◌, ◌++◌, length, set, Option, Some, None, refl, arith}
 use Rattle.std.specs.Prelude.{slice_get}
 use lib.Pointwise.{pointwise}
 use Rattle.std.proofs.lemmas.Slice.Eq.{slice_eq-Decides}
@@ -59,21 +60,17 @@ whole_own ls ts =
     let at : j ≡ k = omega arith in rw (at, e, same x) refl) in
     let tallies = listed-none (λ i t. Moved i t.0 t.1) (foreign ls ts) 0 ts (λ k j u q e.
     let at : j ≡ k = omega arith in rw (at, e, same u.0, same u.1) refl) in
-    let own : foreign ls ts (books ls ts) ≡ 0 =
-    rw ((slice_eq-Decides Decides-eqb ls ls (same_lists ls ls) refl).1 refl, same (weigh (λ (u : ℕ × ℕ). u.0) ts), same (weigh (λ (u : ℕ × ℕ). u.1) ts), same (length ts)) refl in
+    let own : foreign ls ts (books ls ts) ≡ 0 = grind (arith, nat_tests, slice_eq-Decides, Decides-eqb, same) in
     omega (arith, weigh-whole (foreign ls ts) ls ts, lots, tallies, own)
 
 passes : (b : Bool) → ◌≡◌ {A = ℕ} (cond b 0 1) 0 → b ≡ true
-passes true e = refl
-passes false e = absurd (omega arith)
+passes b e = grind (arith, nat_tests)
 
 length_from : (o : Option ℕ) (x : ℕ) → is_length o x ≡ true → o ≡ Some x
-length_from None x e = absurd (cc)
-length_from (Some y) x e = ap Some ((Decides-eqb y x).0 e)
+length_from o x e = grind (arith, nat_tests, Decides-eqb)
 
 moved_from : (o : Option (ℕ × ℕ)) (x y : ℕ) → is_moved o x y ≡ true → o ≡ Some (x, y)
-moved_from None x y e = absurd (cc)
-moved_from (Some u) x y e = let s = and_parts (eqb u.0 x) (eqb u.1 y) e in λ k. Some ((Decides-eqb u.0 x).0 s.0 k, (Decides-eqb u.1 y).0 s.1 k)
+moved_from o x y e = grind (arith, nat_tests, and_parts, eqb, Decides-eqb)
 
 -- of parts that are one whole with others, each is of that whole
 module _ (v os : List Part) (f : AreOneWhole v os) where

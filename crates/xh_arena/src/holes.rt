@@ -67,6 +67,7 @@ fn join_next(holes: &mut Holes, at: usize)
 }
 
 /// Puts a run in among the holes, joined with those that it touches.
+#[tactic(auto, using(crate::proofs::HoleRuns::refilled, crate::proofs::Steps::set_above))]
 pub(crate) fn add_hole(holes: &mut Holes, start: u32, length: u32)
     requires room { array_vec_len holes.old < ROOM }
     requires rising { IsNonDecreasingBy (λ hole. hole.0 + hole.1) holes.old.items }

@@ -38,6 +38,7 @@ impl Shares {
     }
 
     /// The parts of a share go before the vault's own.
+    #[tactic(auto, using(crate::proofs::Moves::joins))]
     fn join(&mut self, share: &mut Badge<View>)
         requires { (share.old.table_id ≡ self.old.id) × (share.old.views ≡ view_in share.old.views ∷ []) }
         ensures { (self.new.id ≡ self.old.id) × (self.new.parts ≡ view_in share.old.views ++ self.old.parts) × (share.new.views ≡ []) }
@@ -50,6 +51,7 @@ impl Shares {
     }
 
     /// The first part goes to a share.
+    #[tactic(auto, using(crate::proofs::Moves::splits))]
     pub fn split(&mut self) -> Badge<View>
         ensures { (self.new.id ≡ self.old.id) × (self.new.parts ≡ below self.old.parts) × (result.table_id ≡ self.old.id) × (result.views ≡ top self.old.parts ∷ []) }
     {
@@ -76,6 +78,7 @@ impl Shares {
     }
 
     /// A share of nothing.
+    #[tactic(auto, using(crate::proofs::Moves::splits_nothing))]
     pub fn name(&mut self) -> Name
         ensures same { self.new ≡ self.old }
         ensures name { result ≡ self.old.id }
@@ -86,6 +89,7 @@ impl Shares {
     }
 
     /// The part of a share that is taken in for good goes under the vault's own.
+    #[tactic(auto, using(crate::proofs::Moves::joins_under))]
     pub fn keep(&mut self, share: Badge<View>)
         requires { (share.table_id ≡ self.old.id) × IsOne share.views }
         ensures { (self.new.id ≡ self.old.id) × (self.new.parts ≡ under self.old.parts (part_in share.views ∷ [])) }

@@ -1,5 +1,6 @@
 -- A step after which a place has its next generation keeps the rule.
-use Rattle.std.proofs.Common.{◌≡◌, ℕ, ◌+◌, ◌<◌, ◌≢◌, Bool, List, [], ◌∷◌, map, set, get_or, sym, refl, ap, ◌∙◌, subst, inl, ⊎_elim, arith}
+use Rattle.std.proofs.lemmas.Bool.Decides.{nat_tests}
+use Rattle.std.proofs.Common.{◌≡◌, ℕ, ◌+◌, ◌<◌, ◌≢◌, Bool, List, [], ◌∷◌, map, set, get_or, sym, refl, ap, ◌∙◌, subst, inl, arith}
 use Rattle.std.specs.Prelude.{Option, Some}
 use mathlib.Core.Option.{none, some, some-injective}
 use mathlib.Core.Option as maybe
@@ -17,7 +18,7 @@ use Rattle.xh_model.specs.Words.{Ownership, IsHeldBy, word_of, place_of}
 use Rattle.xh_records.specs.Showing.{Sits, ViewFits, ViewTells, Shows, Shown}
 use Rattle.xh_records.specs.inner.Views.{renewed}
 use Rattle.xh_records.specs.inner.Steps.{aged}
-use Rattle.xh_records.proofs.Elements.{in_range, nth_is, only_one, pick, pick_yes, pick_no}
+use Rattle.xh_records.proofs.Elements.{either_way, in_range, nth_is, only_one, pick, pick_yes, pick_no}
 use Rattle.xh_records.proofs.Keeps.{At, at}
 use Rattle.xh_records.proofs.Cuts.{reseats}
 
@@ -53,18 +54,13 @@ module _ {B : Type 0} (fits : B → ℕ → Bool) (s : Shape) where
       let one : shown.process_at x ≡ p = only_one (subst (λ (k : List ℕ). Among k (shown.process_at x)) mine (subst (λ (u : View). Sits u (shown.process_at x)) same at.2)) in
       n (sym at.3 ∙ ap place_of one) in
       (at.0, set_else vs id (shown.seat_of x) w apart ∙ at.1, subst (Sits at.0) (sym is) at.2, ap place_of is ∙ at.3)))
-      (λ j x u there sat. ⊎_elim
-      (λ (t : (j ≡ id) × (w ≡ u)). let e = only_now x (subst (λ (z : View). Sits z x) (sym t.1) sat) in let at : place_of x ≡ q = ap place_of e ∙ sym turn in (
+      (λ j x u there sat. either_way (at_set vs id j w u there) (λ t. let e = only_now x (subst (λ (z : View). Sits z x) (sym t.1) sat) in let at : place_of x ≡ q = ap place_of e ∙ sym turn in (
         subst (λ (z : ℕ). z < s.places) (sym at) was.0,
         e ∙ sym (pick_yes (ℕ_discrete (place_of x) q) (p + 32) (shown.process_at (place_of x)) at),
         t.0 ∙ was.2 ∙ ap shown.seat_of (sym at),
         subst (λ (z : ℕ). z < 4096) (sym e) small,
-      ))
-      (λ (t : (j ≢ id) × (get_elem? vs j ≡ some u)). let at = shown.alone j x u t.1 sat in
-      (at.0, at.1 ∙ sym (pick_no (ℕ_discrete (place_of x) q) (p + 32) (shown.process_at (place_of x)) (other j x u t.0 t.1 sat)), at.2, at.3))
-      (at_set vs id j w u there))
-      (λ j u there. ⊎_elim
-      (λ (t : (j ≡ id) × (w ≡ u)). subst (λ (z : View). ViewFits s o z × ViewTells shown.log z) t.1 (
+      )) (λ t. let at = shown.alone j x u t.1 sat in (at.0, at.1 ∙ sym (pick_no (ℕ_discrete (place_of x) q) (p + 32) (shown.process_at (place_of x)) (other j x u t.0 t.1 sat)), at.2, at.3)))
+      (λ j u there. either_way (at_set vs id j w u there) (λ t. subst (λ (z : View). ViewFits s o z × ViewTells shown.log z) t.1 (
         record {
           is_owner = λ k x owns. absurd (subst (λ (l : List (ℕ × ℕ)). Among l (k, x)) bare owns);
           owns_all = λ k x is sat. absurd (none_held k x is (ap place_of (only_now x sat) ∙ sym turn));
@@ -73,12 +69,9 @@ module _ {B : Type 0} (fits : B → ℕ → Bool) (s : Shape) where
         },
         record {
           begins = told.begins;
-          only = λ y f among few. let one = told.only y f among few in
-              let e : one.0 ≡ p = only_one (subst (λ (k : List ℕ). Among k one.0) mine one.1) in (p + 32, sits_now, one.2 ∙ ap place_of e ∙ turn, one.3);
+          only = λ y f among few. grind (arith, nat_tests, only_one);
         },
-      ))
-      (λ (t : (j ≢ id) × (get_elem? vs j ≡ some u)). (shown.views_fit j u t.1, shown.history.tells j u t.1))
-      (at_set vs id j w u there))
+      )) (λ t. (shown.views_fit j u t.1, shown.history.tells j u t.1)))
 
   -- a load, by a seat whose place has its next generation
   pub ages : (slots id : ℕ) (me : Me (Option (LotOf B)) View) (p : ℕ) → 0 < slots → me.0.processes ≡ p ∷ [] → me.0.records ≡ [] → p + 32 < 4096

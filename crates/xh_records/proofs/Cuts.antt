@@ -1,5 +1,6 @@
 -- A view cut in two, and two views in one.
-use Rattle.std.proofs.Common.{◌≡◌, ℕ, suc, ◌<◌, ◌≢◌, Bool, List, [], ◌∷◌, ◌++◌, map, length, set, sym, refl, ap, ◌∙◌, subst, ◌⊎◌, inl, inr, ⊎_elim, arith, length-set}
+use Rattle.std.proofs.lemmas.Bool.Decides.{nat_tests}
+use Rattle.std.proofs.Common.{◌≡◌, ℕ, suc, ◌<◌, ◌≢◌, Bool, List, [], ◌∷◌, ◌++◌, map, length, set, sym, refl, ap, ◌∙◌, subst, ◌⊎◌, inl, inr, arith, length-set}
 use Rattle.std.specs.Prelude.{Option, Some}
 use mathlib.Core.Option as maybe
 use Rattle.xh_model.specs.declared.event.Holder.TheVariants.{Process}
@@ -21,7 +22,7 @@ use Rattle.xh_records.specs.History.{StartsWith}
 use Rattle.xh_records.specs.Showing.{Sits, Owns, ViewFits, ViewTells, Shows, Shown}
 use Rattle.xh_records.specs.inner.Views.{IsAlone, front_in, note_of, spent, joined, dealt, dealt_from, dealer, IsDealer, places_from}
 use Rattle.xh_records.proofs.History.{one_is, lists_back}
-use Rattle.xh_records.proofs.Elements.{in_range, only_one, snoc_at, pick, pick_yes, pick_no}
+use Rattle.xh_records.proofs.Elements.{either_way, in_range, only_one, snoc_at, pick, pick_yes, pick_no}
 use Rattle.xh_records.proofs.Distinct.{distinct_places, least}
 
 -- a part of a view: all that the view has of some of its processes
@@ -35,18 +36,10 @@ pub record Part (v u : View) : Type 0 where
 
 -- one that stands for no place
 bare : (v u : View) → u.processes ≡ [] → u.records ≡ [] → ((log : List Event) → ViewTells log v → ViewTells log u) → Part v u
-bare v u no_place no_record tells =
-    let none : (p : ℕ) → Sits u p → ⊥ = λ p h. subst (λ (l : List ℕ). Among l p) no_place h in record {
-      sits = λ p h. absurd (none p h);
-      record_of = λ k p h. absurd (subst (λ (l : List (ℕ × ℕ)). Among l (k, p)) no_record h);
-      all_records = λ k p h sits. absurd (none p sits);
-      same_shape = λ p h. absurd (none p h);
-      tells = tells;
-      places = λ d. subst (λ (l : List ℕ). Distinct (map place_of l)) (sym no_place) tt;
-    }
+bare v u no_place no_record tells = grind (arith, nat_tests)
 
 nothing : (v : View) → Part v spent
-nothing v = bare v spent refl refl (λ log told. record { begins = λ q f h. absurd h; only = λ q f h few. absurd h })
+nothing v = grind (arith, nat_tests)
 
 a_note : (v : View) (p : ℕ) → IsAlone v p → Part v (note_of v)
 a_note v p alone = bare v (note_of v) refl refl (λ log told. record {
@@ -56,26 +49,11 @@ a_note v p alone = bare v (note_of v) refl refl (λ log told. record {
 })
 
 everything : (v : View) → Part v v
-everything v = record {
-  sits = λ p h. h;
-  record_of = λ k p h. (h, λ z. z);
-  all_records = λ k p h sits. h;
-  same_shape = λ p h. refl;
-  tells = λ log told. told;
-  places = λ d. d;
-}
+everything v = grind (arith, nat_tests)
 
 -- a part fits the ownership, and tells of its events, as the whole does
 part_shows : (s : Shape) (o : Ownership) (log : List Event) (v u : View) → Part v u → ViewFits s o v → ViewTells log v → ViewFits s o u × ViewTells log u
-part_shows s o log v u part fit tells = (
-  record {
-    is_owner = λ k p owns. let w = part.record_of k p owns in let z = fit.is_owner k p w.0 in (z.0, w.1 z.1);
-    owns_all = λ k p is sits. part.all_records k p (fit.owns_all k p is (part.sits p sits)) sits;
-    knows = λ p sits. part.same_shape p sits ∙ fit.knows p (part.sits p sits);
-    places = part.places fit.places;
-  },
-  part.tells log tells,
-)
+part_shows s o log v u part fit tells = grind (arith, nat_tests)
 
 -- a table that shows an ownership still does where its seats have these views now
 pub reseats : {B : Type 0} (fits : B → ℕ → Bool) (s : Shape) (o : Ownership) (ws : List ℕ) (hs : List (maybe.Option (Option (LotOf B)))) (vs now : List View) (shown : Shows fits s o ws hs vs)
@@ -113,10 +91,9 @@ module _ {B : Type 0} (fits : B → ℕ → Bool) (s : Shape) (o : Ownership) (w
       (λ n. (was.0, set_else vs id (shown.seat_of q) w n ∙ was.1, was.2, was.3))
 
   pub still_alone : (j p : ℕ) (u : View) → get_elem? (set vs id w) j ≡ some u → Sits u p → (place_of p < s.places) × (p ≡ shown.process_at (place_of p)) × (j ≡ shown.seat_of (place_of p)) × (p < 4096)
-  still_alone j p u there sits = ⊎_elim
-      (λ (x : (j ≡ id) × (w ≡ u)). let was = shown.alone id p v at (subst (λ (l : List ℕ). Among l p) same (subst (λ (z : View). Sits z p) (sym x.1) sits)) in (was.0, was.1, x.0 ∙ was.2, was.3))
-      (λ (x : (j ≢ id) × (get_elem? vs j ≡ some u)). shown.alone j p u x.1 sits)
-      (at_set vs id j w u there)
+  still_alone j p u there sits = either_way (at_set vs id j w u there)
+      (λ x. let was = shown.alone id p v at (subst (λ (l : List ℕ). Among l p) same (subst (λ (z : View). Sits z p) (sym x.1) sits)) in (was.0, was.1, x.0 ∙ was.2, was.3))
+      (λ x. shown.alone j p u x.1 sits)
 
 module _ {B : Type 0} (fits : B → ℕ → Bool) (s : Shape) where
   -- a table that shows an ownership still does after a seat with the view v keeps a part of it, and gives the other to a new seat
@@ -150,23 +127,14 @@ module _ {B : Type 0} (fits : B → ℕ → Bool) (s : Shape) where
       goes_to p e h = pick_yes (dec_among r.processes (shown.process_at (place_of p))) n (shown.seat_of (place_of p)) (subst (Sits r) e h)
 
       there : (j : ℕ) (u : View) → get_elem? (set vs id l ++ r ∷ []) j ≡ some u → (((j ≡ id) × (l ≡ u)) ⊎ ((j ≢ id) × (get_elem? vs j ≡ some u))) ⊎ ((r ≡ u) × (j ≡ n))
-      there j u e = ⊎_elim (λ (a : get_elem? (set vs id l) j ≡ some u). inl (at_set vs id j l u a)) (λ (b : (r ≡ u) × (j ≡ length (set vs id l))). inr (b.0, b.1 ∙ length-set vs id l))
-          (snoc_at (set vs id l) r u j e)
+      there j u e = grind (arith, nat_tests, at_set, length-set, snoc_at)
 
       not_handed : (j p : ℕ) (u : View) → j ≢ id → get_elem? vs j ≡ some u → Sits u p → Sits r p → ⊥
       not_handed j p u other e sits h = other ((shown.alone j p u e sits).2 ∙ sym (shown.alone id p v here (hands.sits p h)).2)
 
       alone' : (j p : ℕ) (u : View) → get_elem? (set vs id l ++ r ∷ []) j ≡ some u → Sits u p
           → (place_of p < s.places) × (p ≡ shown.process_at (place_of p)) × (j ≡ seat_of' (place_of p)) × (p < 4096)
-      alone' j p u e sits = ⊎_elim
-          (λ (a : ((j ≡ id) × (l ≡ u)) ⊎ ((j ≢ id) × (get_elem? vs j ≡ some u))). ⊎_elim
-          (λ (x : (j ≡ id) × (l ≡ u)). let in_l : Sits l p = subst (λ (z : View). Sits z p) (sym x.1) sits in
-          let w = shown.alone id p v here (keeps.sits p in_l) in (w.0, w.1, x.0 ∙ w.2 ∙ sym (stays_at p w.1 (λ h. apart p in_l h)), w.3))
-          (λ (x : (j ≢ id) × (get_elem? vs j ≡ some u)). let w = shown.alone j p u x.1 sits in (w.0, w.1, w.2 ∙ sym (stays_at p w.1 (not_handed j p u x.0 x.1 sits)), w.3))
-          a)
-          (λ (x : (r ≡ u) × (j ≡ n)). let in_r : Sits r p = subst (λ (z : View). Sits z p) (sym x.0) sits in
-          let w = shown.alone id p v here (hands.sits p in_r) in (w.0, w.1, x.1 ∙ sym (goes_to p w.1 in_r), w.3))
-          (there j u e)
+      alone' j p u e sits = grind (arith, nat_tests, stays_at, not_handed, n, goes_to, there)
 
       at_new : get_elem? (set vs id l ++ r ∷ []) n ≡ some r
       at_new = at_last (set vs id l) r n (length-set vs id l)
@@ -178,7 +146,7 @@ module _ {B : Type 0} (fits : B → ℕ → Bool) (s : Shape) where
           (λ e. let in_v : Sits v p = subst (λ (u : View). Sits u p) (some-injective was.0 v (sym was.1 ∙ ap (get_elem? vs) e ∙ here)) was.2 in (
             l,
             subst (λ (k : ℕ). get_elem? (set vs id l ++ r ∷ []) k ≡ some l) (sym (k_is ∙ e)) (at_longer (set vs id l) (r ∷ []) id l (set_here vs id l (in_range vs id v here))),
-            ⊎_elim (λ (a : Sits l p). a) (λ (b : Sits r p). absurd (no_h b)) (either p in_v),
+            either_way (either p in_v) (λ a. a) (λ b. absurd (no_h b)),
             was.3,
           ))
           (λ other. (
@@ -193,11 +161,7 @@ module _ {B : Type 0} (fits : B → ℕ → Bool) (s : Shape) where
       part_is z u whole e = subst (λ (y : View). ViewFits s o y × ViewTells shown.log y) e (part_shows s o shown.log v z whole (shown.views_fit id v here) (shown.history.tells id v here))
 
       each : (j : ℕ) (u : View) → get_elem? (set vs id l ++ r ∷ []) j ≡ some u → ViewFits s o u × ViewTells shown.log u
-      each j u e = ⊎_elim
-          (λ (a : ((j ≡ id) × (l ≡ u)) ⊎ ((j ≢ id) × (get_elem? vs j ≡ some u))). ⊎_elim (λ (x : (j ≡ id) × (l ≡ u)). part_is l u keeps x.1)
-          (λ (x : (j ≢ id) × (get_elem? vs j ≡ some u)). (shown.views_fit j u x.1, shown.history.tells j u x.1)) a)
-          (λ (x : (r ≡ u) × (j ≡ n)). part_is r u hands x.0)
-          (there j u e)
+      each j u e = either_way (there j u e) (λ a. either_way a (λ x. part_is l u keeps x.1) (λ x. (shown.views_fit j u x.1, shown.history.tells j u x.1))) (λ x. part_is r u hands x.0)
 
       after : Shows fits s o t.words t.homes (set vs id l ++ r ∷ [])
       after = reseats fits s o t.words t.homes vs (set vs id l ++ r ∷ []) shown shown.process_at seat_of' shown.placed seated' alone' each
@@ -228,15 +192,7 @@ module _ {B : Type 0} (fits : B → ℕ → Bool) (s : Shape) where
       seat_of' q = pick (ℕ_discrete (shown.seat_of q) other) id (shown.seat_of q)
 
       both_fits : ViewFits s o both
-      both_fits = record {
-        is_owner = λ k p owns. ⊎_elim (λ (a : Owns v k p). let z = fit_v.is_owner k p a in (z.0, among_front v.processes w.processes p z.1))
-            (λ (b : Owns w k p). let z = fit_w.is_owner k p b in (z.0, among_back v.processes w.processes p z.1)) (among_either v.records w.records (k, p) owns);
-        owns_all = λ k p is sits. ⊎_elim (λ (a : Sits v p). among_front v.records w.records (k, p) (fit_v.owns_all k p is a))
-            (λ (b : Sits w p). among_back v.records w.records (k, p) (fit_w.owns_all k p is b)) (among_either v.processes w.processes p sits);
-        knows = λ p sits. fit_v.knows p₀ placed;
-        places = distinct_places v.processes w.processes fit_v.places fit_w.places
-            (λ p q in_v in_w e. apart ((shown.alone other q w w_here in_w).2 ∙ sym (ap shown.seat_of e) ∙ sym (shown.alone id p v here in_v).2));
-      }
+      both_fits = grind (arith, nat_tests, fit_v, among_front, fit_w, among_back, among_either, distinct_places)
 
       told_v : ViewTells shown.log v
       told_v = shown.history.tells id v here
@@ -246,38 +202,26 @@ module _ {B : Type 0} (fits : B → ℕ → Bool) (s : Shape) where
 
       both_tells : ViewTells shown.log both
       both_tells = record {
-        begins = λ q f there. ⊎_elim (told_v.begins q f) (told_w.begins q f) (among_either v.fronts w.fronts (q, f) there);
-        only = λ q f there few. ⊎_elim
-            (λ (a : Among v.fronts (q, f)). let t = told_v.only q f a few in (t.0, among_front v.processes w.processes t.0 t.1, t.2, t.3))
-            (λ (b : Among w.fronts (q, f)). let t = told_w.only q f b few in (t.0, among_back v.processes w.processes t.0 t.1, t.2, t.3))
-            (among_either v.fronts w.fronts (q, f) there);
+        begins = λ q f there. either_way (among_either v.fronts w.fronts (q, f) there) (told_v.begins q f) (told_w.begins q f);
+        only = λ q f there few. grind (arith, nat_tests, there, told_v, among_front, told_w, among_back, among_either);
       }
 
       there : (j : ℕ) (u : View) → get_elem? now j ≡ some u → ((j ≡ other) × (spent ≡ u)) ⊎ ((j ≢ other) × (((j ≡ id) × (both ≡ u)) ⊎ ((j ≢ id) × (get_elem? vs j ≡ some u))))
-      there j u e = ⊎_elim (λ (a : (j ≡ other) × (spent ≡ u)). inl a) (λ (b : (j ≢ other) × (get_elem? (set vs id both) j ≡ some u)). inr (b.0, at_set vs id j both u b.1))
-          (at_set (set vs id both) other j spent u e)
+      there j u e = grind (arith, nat_tests, both, at_set)
 
       at_id : get_elem? now id ≡ some both
       at_id = set_else (set vs id both) other id spent (λ e. apart (sym e)) ∙ set_here vs id both (in_range vs id v here)
 
       alone' : (j p : ℕ) (u : View) → get_elem? now j ≡ some u → Sits u p → (place_of p < s.places) × (p ≡ shown.process_at (place_of p)) × (j ≡ seat_of' (place_of p)) × (p < 4096)
-      alone' j p u e sits = let q : ℕ = place_of p in ⊎_elim
-          (λ (a : (j ≡ other) × (spent ≡ u)). absurd (subst (λ (z : View). Sits z p) (sym a.1) sits))
-          (λ (b : (j ≢ other) × (((j ≡ id) × (both ≡ u)) ⊎ ((j ≢ id) × (get_elem? vs j ≡ some u)))). ⊎_elim
-          (λ (x : (j ≡ id) × (both ≡ u)). ⊎_elim
-          (λ (in_v : Sits v p). let z = shown.alone id p v here in_v in (
+      alone' j p u e sits = let q : ℕ = place_of p in either_way (there j u e) (λ a. absurd (subst (λ (z : View). Sits z p) (sym a.1) sits)) (λ b. either_way b.1
+          (λ x. either_way (among_either v.processes w.processes p (subst (λ (z : View). Sits z p) (sym x.1) sits)) (λ in_v. let z = shown.alone id p v here in_v in (
             z.0,
             z.1,
             x.0 ∙ z.2
                 ∙ sym (pick_no (ℕ_discrete (shown.seat_of q) other) id (shown.seat_of q) (λ k. apart (sym (z.2 ∙ k)))),
             z.3,
-          ))
-          (λ (in_w : Sits w p). let z = shown.alone other p w w_here in_w in (z.0, z.1, x.0 ∙ sym (pick_yes (ℕ_discrete (shown.seat_of q) other) id (shown.seat_of q) (sym z.2)), z.3))
-          (among_either v.processes w.processes p (subst (λ (z : View). Sits z p) (sym x.1) sits)))
-          (λ (x : (j ≢ id) × (get_elem? vs j ≡ some u)). let z = shown.alone j p u x.1 sits in
-          (z.0, z.1, z.2 ∙ sym (pick_no (ℕ_discrete (shown.seat_of q) other) id (shown.seat_of q) (λ k. b.0 (z.2 ∙ k))), z.3))
-          b.1)
-          (there j u e)
+          )) (λ in_w. let z = shown.alone other p w w_here in_w in (z.0, z.1, x.0 ∙ sym (pick_yes (ℕ_discrete (shown.seat_of q) other) id (shown.seat_of q) (sym z.2)), z.3)))
+          (λ x. let z = shown.alone j p u x.1 sits in (z.0, z.1, z.2 ∙ sym (pick_no (ℕ_discrete (shown.seat_of q) other) id (shown.seat_of q) (λ k. b.0 (z.2 ∙ k))), z.3)))
 
       seated' : (q : ℕ) → q < s.places → (u : View) × (get_elem? now (seat_of' q) ≡ some u) × Sits u (shown.process_at q) × (place_of (shown.process_at q) ≡ q)
       seated' q lt = let was = shown.seated q lt in let p : ℕ = shown.process_at q in dite (ℕ_discrete (shown.seat_of q) other)
@@ -302,12 +246,8 @@ module _ {B : Type 0} (fits : B → ℕ → Bool) (s : Shape) where
           )))
 
       each : (j : ℕ) (u : View) → get_elem? now j ≡ some u → ViewFits s o u × ViewTells shown.log u
-      each j u e = ⊎_elim
-          (λ (a : (j ≡ other) × (spent ≡ u)). subst (λ (z : View). ViewFits s o z × ViewTells shown.log z) a.1 (part_shows s o shown.log v spent (nothing v) fit_v told_v))
-          (λ (b : (j ≢ other) × (((j ≡ id) × (both ≡ u)) ⊎ ((j ≢ id) × (get_elem? vs j ≡ some u)))). ⊎_elim
-          (λ (x : (j ≡ id) × (both ≡ u)). subst (λ (z : View). ViewFits s o z × ViewTells shown.log z) x.1 (both_fits, both_tells))
-          (λ (x : (j ≢ id) × (get_elem? vs j ≡ some u)). (shown.views_fit j u x.1, shown.history.tells j u x.1)) b.1)
-          (there j u e)
+      each j u e = either_way (there j u e) (λ a. subst (λ (z : View). ViewFits s o z × ViewTells shown.log z) a.1 (part_shows s o shown.log v spent (nothing v) fit_v told_v)) (λ b. either_way b.1
+          (λ x. subst (λ (z : View). ViewFits s o z × ViewTells shown.log z) x.1 (both_fits, both_tells)) (λ x. (shown.views_fit j u x.1, shown.history.tells j u x.1)))
 
       after : Shows fits s o t.words t.homes now
       after = reseats fits s o t.words t.homes vs now shown shown.process_at seat_of' shown.placed seated' alone' each
@@ -346,7 +286,7 @@ pub deals : {B : Type 0} (fits : B → ℕ → Bool) (s : Shape) (id : ℕ) (v :
 deals {B} fits s id v is =
     let z : Shape = is.0 in let p : ℕ = is.1 in let k : ℕ = is.2 in subst (λ (u : View). KeepsSplit {B = B} fits s id u (dealt_from u) (dealt u)) (sym is.3)
     (cuts fits s id (dealer z p (suc k)) (dealer z (suc p) k) (dealt (dealer z p (suc k))) (later_places z p k) (first_place z p k)
-    (λ q h. ⊎_elim (λ (e : q ≡ p). inr (inl e)) (λ (t : Among (places_from (suc p) k) q). inl t) h)
+    (λ q h. either_way h (λ e. inr (inl e)) (λ t. inl t))
     (λ q h m. let l = (least (suc p) k q h).0 in let e : q ≡ p = only_one m in absurd (omega arith)))
 
 pub hands_over : {B : Type 0} (fits : B → ℕ → Bool) (s : Shape) (id : ℕ) (v : View) → KeepsSplit {B = B} fits s id v spent v

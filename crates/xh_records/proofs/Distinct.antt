@@ -1,36 +1,32 @@
 -- Lists in which no number stands twice.
-use Rattle.std.proofs.Common.{◌≡◌, ℕ, zero, suc, ◌+◌, ◌%◌, ◌<◌, ◌≤◌, List, [], ◌∷◌, ◌++◌, map, length, sym, refl, ap, ◌∙◌, subst, inl, inr, ⊎_elim, arith}
+use Rattle.std.proofs.lemmas.Bool.Decides.{nat_tests}
+use Rattle.std.proofs.Common.{◌≡◌, ℕ, zero, suc, ◌+◌, ◌<◌, ◌≤◌, List, [], ◌∷◌, ◌++◌, map, length, sym, refl, subst, inl, inr, arith}
 use mathlib.Core.Logic.{dite}
 use Rattle.xh_model.specs.Words.{place_of}
 use Rattle.xh_model.specs.Keyed.{Among, Distinct}
 use Rattle.xh_model.proofs.Keyed.{among_back, among_either, among_front, dec_among}
 use Rattle.xh_records.specs.inner.Views.{places_from}
 use Rattle.xh_records.specs.inner.Tokens.{AllBelow}
-use Rattle.xh_records.proofs.Elements.{among_map}
+use Rattle.xh_records.proofs.Elements.{either_way, among_map}
 use Rattle.xh_records.proofs.Lists.{few}
 
 -- the processes at places
 pub process_in : (ps : List ℕ) (q : ℕ) → Among (map place_of ps) q → (p : ℕ) × Among ps p × (place_of p ≡ q)
 process_in [] q h = absurd h
-process_in (x ∷ xs) q h = ⊎_elim (λ (e : q ≡ place_of x). (x, inl refl, sym e)) (λ (t : Among (map place_of xs) q). let r = process_in xs q t in (r.0, inr r.1, r.2)) h
+process_in (x ∷ xs) q h = grind (arith, nat_tests, process_in xs q)
 
 pub distinct_places : (xs ys : List ℕ) → Distinct (map place_of xs) → Distinct (map place_of ys) → ((p q : ℕ) → Among xs p → Among ys q → place_of p ≡ place_of q → ⊥)
     → Distinct (map place_of (xs ++ ys))
 distinct_places [] ys a b none = b
 distinct_places (x ∷ xs) ys a b none = (
-  λ h. let r = process_in (xs ++ ys) (place_of x) h in ⊎_elim
-      (λ (t : Among xs r.0). a.0 (subst (Among (map place_of xs)) r.2 (among_map place_of xs r.0 t)))
-      (λ (t : Among ys r.0). none x r.0 (inl refl) t (sym r.2))
-      (among_either xs ys r.0 r.1),
+  λ h. let r = process_in (xs ++ ys) (place_of x) h in either_way (among_either xs ys r.0 r.1) (λ t. a.0 (subst (Among (map place_of xs)) r.2 (among_map place_of xs r.0 t)))
+      (λ t. none x r.0 (inl refl) t (sym r.2)),
   distinct_places xs ys a.1 b (λ p q t u e. none p q (inr t) u e),
 )
 
 pub not_twice : (xs : List ℕ) (y p : ℕ) → Distinct (map place_of (xs ++ y ∷ [])) → Among xs p → place_of p ≡ place_of y → ⊥
 not_twice [] y p d h e = h
-not_twice (x ∷ xs) y p d h e = ⊎_elim
-    (λ (s : p ≡ x). d.0 (subst (Among (map place_of (xs ++ y ∷ []))) (sym e ∙ ap place_of s) (among_map place_of (xs ++ y ∷ []) y (among_back xs (y ∷ []) y (inl refl)))))
-    (λ (t : Among xs p). not_twice xs y p d.1 t e)
-    h
+not_twice (x ∷ xs) y p d h e = let last = among_map place_of (xs ++ y ∷ []) y (among_back xs (y ∷ []) y (inl refl)) in grind (arith, nat_tests, not_twice xs y p d.1)
 
 pub distinct_front : (xs : List ℕ) (y : ℕ) → Distinct (map place_of (xs ++ y ∷ [])) → Distinct (map place_of xs)
 distinct_front [] y d = tt
@@ -41,15 +37,11 @@ distinct_front (x ∷ xs) y d = (
 
 pub least : (a k p : ℕ) → Among (places_from a k) p → (a ≤ p) × (p < a + k)
 least a zero p h = absurd h
-least a (suc k) p h = ⊎_elim (λ (e : p ≡ a). (omega arith, omega arith)) (λ (t : Among (places_from (suc a) k) p). let l = least (suc a) k p t in let b = l.0 in
-    let c = l.1 in (omega arith, omega arith)) h
+least a (suc k) p h = grind (arith, nat_tests, least (suc a) k p)
 
 pub few_places : (a k : ℕ) → a + k ≤ 32 → Distinct (map place_of (places_from a k))
 few_places a zero few = tt
-few_places a (suc k) few = (
-  λ h. let r = process_in (places_from (suc a) k) (place_of a) h in let l = least (suc a) k r.0 r.1 in let b = l.0 in let c = l.1 in let e : r.0 % 32 ≡ a % 32 = r.2 in absurd (omega arith),
-  few_places (suc a) k (omega arith),
-)
+few_places a (suc k) few = grind (arith, nat_tests, process_in, least, few_places (suc a) k (omega arith))
 
 all_below : (n : ℕ) (xs : List ℕ) → ((x : ℕ) → Among xs x → x < n) → AllBelow n xs
 all_below n [] below = tt

@@ -1,4 +1,5 @@
 -- Elements of lists, and one of two numbers by a test.
+use Rattle.std.proofs.lemmas.Bool.Decides.{nat_tests}
 use Rattle.std.proofs.Common.{◌≡◌, ℕ, zero, suc, ◌<◌, List, [], ◌∷◌, ◌++◌, map, length, get_or, sym, refl, ap, ◌⊎◌, inl, inr, ⊎_elim, arith}
 use Rattle.std.specs.Prelude.{Some, None, slice_get}
 use mathlib.Core.Option.{some, some-injective, some-ne-none}
@@ -46,6 +47,10 @@ among_map f (y ∷ ys) x h = ⊎_elim (λ (e : x ≡ y). inl (ap f e)) (λ (t : 
 pub only_one : {A : Type 0} {x y : A} → Among (y ∷ []) x → x ≡ y
 only_one h = ⊎_elim (λ e. e) (λ (z : ⊥). absurd z) h
 
+-- what both ways lead to
+pub either_way : {A B C : Type 0} → A ⊎ B → (A → C) → (B → C) → C
+either_way s f g = ⊎_elim f g s
+
 -- one of two, by a test
 pub pick : {X : Type 0} → Dec X → ℕ → ℕ → ℕ
 pick (yes h) a b = a
@@ -53,10 +58,8 @@ pick (no n) a b = b
 
 pub pick_yes : {X : Type 0} (d : Dec X) (a b : ℕ) → X → pick d a b ≡ a
 unfolding pick
-pick_yes (yes h) a b x = refl
-pick_yes (no n) a b x = absurd (n x)
+pick_yes d a b x = grind (arith, nat_tests)
 
 pub pick_no : {X : Type 0} (d : Dec X) (a b : ℕ) → (X → ⊥) → pick d a b ≡ b
 unfolding pick
-pick_no (yes h) a b x = absurd (x h)
-pick_no (no n) a b x = refl
+pick_no d a b x = grind (arith, nat_tests)

@@ -1,5 +1,6 @@
 -- The closed table: its words, the lots at home, and those that the seats had.
-use Rattle.std.proofs.Common.{◌≡◌, ℕ, zero, suc, ◌*◌, ◌<◌, map, length-append, ◌≤◌, Bool, List, [], ◌∷◌, ◌++◌, length, take, get_or, sym, refl, ap, ◌∙◌, subst, inl, inr, ⊎_elim, arith, rules, mod-lt}
+use Rattle.std.proofs.lemmas.Bool.Decides.{nat_tests}
+use Rattle.std.proofs.Common.{◌≡◌, ℕ, zero, suc, ◌*◌, ◌<◌, map, length-append, Bool, List, [], ◌∷◌, ◌++◌, length, take, get_or, sym, ap, ◌∙◌, subst, arith, rules, mod-lt}
 use Rattle.std.proofs.lemmas.List.{length-map}
 use Rattle.std.specs.Prelude.{Option, Some, None, slice_get}
 use Rattle.std.specs.Option.{option_or, IsSome}
@@ -13,7 +14,6 @@ use Rattle.xh_arena.specs.Views.{LotOf}
 use Rattle.xh_model.specs.declared.event.Holder.{Holder}
 use Rattle.xh_model.specs.declared.event.Holder.TheVariants.{Process, Direction}
 use Rattle.xh_model.specs.Slots.{index_of}
-use Rattle.xh_model.specs.declared.event.Event.{Event}
 use Rattle.xh_model.specs.Words.{Ownership, IsHeldBy, word_of, place_of, number_of}
 use Rattle.xh_model.proofs.Words.{index_back}
 use Rattle.xh_model.specs.Keyed.{Among, Distinct, keys}
@@ -21,12 +21,12 @@ use Rattle.xh_model.proofs.Keyed.{among_back, among_either, among_front, at_key}
 use Rattle.xh_records.specs.declared.shape.Shape.{Shape}
 use Rattle.xh_records.specs.declared.view.View.{View}
 use Rattle.xh_records.specs.History.{by_place}
-use Rattle.xh_records.specs.Showing.{IsLotAt, Sits, Owns, ViewFits, Shows, Shown, IsSmall}
+use Rattle.xh_records.specs.Showing.{IsLotAt, Sits, ViewFits, Shows, Shown, IsSmall}
 use Rattle.xh_records.specs.Seats.{Held, owned_by, indices, lot_in, view_of, Ends, EndsAs}
 use Rattle.xh_records.specs.inner.Events.{IsAway, IsHomeLot}
 use Rattle.xh_records.specs.inner.Views.{spent}
 use Rattle.xh_records.specs.inner.Gathering.{slot_at, or_else, IsGathered}
-use Rattle.xh_records.proofs.Elements.{in_range, is_there, only_one, elem_slice, slice_elem, nth_is, among_map}
+use Rattle.xh_records.proofs.Elements.{either_way, in_range, is_there, only_one, elem_slice, slice_elem, nth_is, among_map}
 use Rattle.xh_records.proofs.Keeps.{home_lot, one_holder, same_place, never}
 use Rattle.xh_records.proofs.Lists.{among_owned, none_or_some}
 use Rattle.xh_records.proofs.Distinct.{process_in, not_twice, distinct_front, covers}
@@ -40,10 +40,7 @@ pub gathers : {B : Type 0} (m : ℕ) (seats : List (Held B)) (x : Held B) (v v' 
     → v'.processes ≡ v.processes ++ x.process ∷ [] → v'.records ≡ v.records ++ (view_of x).records → v'.fronts ≡ v.fronts ++ (view_of x).fronts → x.done ≡ by_place (place_of x.process) x.front → length held' ≡ length held
     → ((r : ℕ) → Among (indices x) r → (l : LotOf B) × (lot_in r x ≡ Some l)) → ((r : ℕ) → r < length held → slot_at held' r ≡ or_else (lot_in r x) (slot_at held r)) → IsGathered m seats v' held'
 gathers {B} m seats x v v' held held' at old places records lists did long has fill = record {
-  each = λ p h. ⊎_elim
-      (λ (a : Among v.processes p). old.each p a)
-      (λ (b : Among (x.process ∷ []) p). (m, x, at, sym (only_one b)))
-      (among_either v.processes (x.process ∷ []) p (subst (λ (l : List ℕ). Among l p) places h));
+  each = λ p h. grind (arith, nat_tests, only_one, among_either);
   count = let c = old.count in let l = ap length places ∙ length-append v.processes (x.process ∷ []) in omega arith;
   one = λ d i j y z at_y at_z le le' e.
       let d' : Distinct (map place_of (v.processes ++ x.process ∷ [])) = subst (λ (l : List ℕ). Distinct (map place_of l)) places d in
@@ -53,35 +50,21 @@ gathers {B} m seats x v v' held held' at old places records lists did long has f
       (λ k. dite (ℕ_discrete j m)
       (λ b. absurd (not_twice v.processes x.process y.process d' (old.sits i y at_y (omega arith)) (ap place_of (e ∙ ap (λ (u : Held B). u.process) (same j z b at_z)))))
       (λ n. old.one (distinct_front v.processes x.process d') i j y z at_y at_z (omega arith) (omega arith) e));
-  sits = λ k y there le. dite (ℕ_discrete k m)
-      (λ e. subst (λ (l : List ℕ). Among l y.process) (sym places) (among_back v.processes (x.process ∷ []) y.process (inl (ap (λ (z : Held B). z.process) (same k y e there)))))
-      (λ n. subst (λ (l : List ℕ). Among l y.process) (sym places) (among_front v.processes (x.process ∷ []) y.process (old.sits k y there (omega arith))));
-  fronts = λ k y there le. subst (λ (l : List (ℕ × List Event)). Among l (place_of y.process, y.front) × (y.done ≡ by_place (place_of y.process) y.front)) (sym lists) (dite (ℕ_discrete k m)
-      (λ e. subst (λ (z : Held B). Among (v.fronts ++ (view_of x).fronts) (place_of z.process, z.front) × (z.done ≡ by_place (place_of z.process) z.front)) (sym (same k y e there))
-      (among_back v.fronts (view_of x).fronts (place_of x.process, x.front) (inl refl), did))
-      (λ n. let t = old.fronts k y there (omega arith) in (among_front v.fronts (view_of x).fronts (place_of y.process, y.front) t.0, t.1)));
-  records = λ r p owns. ⊎_elim
-      (λ (a : Owns v r p). let t = old.records r p a in (t.0, t.1, t.2, let le : suc m ≤ t.0 = t.3 in omega arith, t.4))
-      (λ (b : Among (view_of x).records (r, p)). (m, x, at, omega arith, b))
-      (among_either v.records (view_of x).records (r, p) (subst (λ (l : List (ℕ × ℕ)). Among l (r, p)) records owns));
+  sits = λ k y there le. grind (arith, nat_tests, among_back, among_front);
+  fronts = λ k y there le. grind (arith, nat_tests, among_back, among_front);
+  records = λ r p owns. grind (arith, nat_tests, among_either);
   all_records = λ k r p y there le owns. dite (ℕ_discrete k m)
       (λ e. subst (λ (l : List (ℕ × ℕ)). Among l (r, p)) (sym records) (among_back v.records (view_of x).records (r, p)
       (subst (λ (z : Held B). Among (view_of z).records (r, p)) (same k y e there) owns)))
       (λ n. subst (λ (l : List (ℕ × ℕ)). Among l (r, p)) (sym records) (among_front v.records (view_of x).records (r, p) (old.all_records k r p y there (omega arith) owns)));
-  lots = λ r l below e. let inside : r < length held = omega arith in ⊎_elim
-      (λ (a : lot_in r x ≡ None). let t = old.lots r l inside (sym (ap (λ (z : Option (LotOf B)). or_else z (slot_at held r)) a) ∙ sym (fill r inside) ∙ e) in
-      (t.0, t.1, t.2, let le : suc m ≤ t.0 = t.3 in omega arith, t.4))
-      (λ (b : (l' : LotOf B) × (lot_in r x ≡ Some l')). (m, x, at, omega arith, b.1 ∙ sym (ap (λ (z : Option (LotOf B)). or_else z (slot_at held r)) b.1) ∙ sym (fill r inside) ∙ e))
-      (none_or_some (lot_in r x));
+  lots = λ r l below e. grind (arith, nat_tests, none_or_some);
   full = λ k r y there le h. dite (ℕ_discrete k m)
       (λ e. subst (λ (z : Held B). (l : LotOf B) × (lot_in r z ≡ Some l)) (sym (same k y e there)) (has r (subst (λ (z : Held B). Among (indices z) r) (same k y e there) h)))
       (λ n. old.full k r y there (omega arith) h);
-  all_lots = λ k r y l there le e below. let inside : r < length held = omega arith in ⊎_elim
-      (λ (a : lot_in r x ≡ None). dite (ℕ_discrete k m)
-      (λ q. let f : None ≡ Some l = sym a ∙ ap (λ (z : Held B). lot_in r z) (sym (same k y q there)) ∙ e in absurd (cc))
+  all_lots = λ k r y l there le e below. let inside : r < length held = omega arith in either_way (none_or_some (lot_in r x))
+      (λ a. dite (ℕ_discrete k m) (λ q. let f : None ≡ Some l = sym a ∙ ap (λ (z : Held B). lot_in r z) (sym (same k y q there)) ∙ e in absurd (cc))
       (λ n. let t = old.all_lots k r y l there (omega arith) e inside in (t.0, fill r inside ∙ ap (λ (z : Option (LotOf B)). or_else z (slot_at held r)) a ∙ t.1)))
-      (λ (b : (l' : LotOf B) × (lot_in r x ≡ Some l')). (b.0, fill r inside ∙ ap (λ (z : Option (LotOf B)). or_else z (slot_at held r)) b.1))
-      (none_or_some (lot_in r x));
+      (λ b. (b.0, fill r inside ∙ ap (λ (z : Option (LotOf B)). or_else z (slot_at held r)) b.1));
 }
   where
     same : (k : ℕ) (y : Held B) → k ≡ m → get_elem? seats k ≡ some y → y ≡ x
@@ -105,8 +88,7 @@ gathers_none {B} seats m held past none_there = record {
 
 owned_back : (q : ℕ) (xs : List ℕ) (r p : ℕ) → Among (owned_by q xs) (r, p) → Among xs r × (p ≡ q)
 owned_back q [] r p h = absurd h
-owned_back q (x ∷ xs) r p h = ⊎_elim (λ (e : (r, p) ≡ (x, q)). (inl (ap (λ (z : ℕ × ℕ). z.0) e), ap (λ (z : ℕ × ℕ). z.1) e))
-    (λ (t : Among (owned_by q xs) (r, p)). let u = owned_back q xs r p t in (inr u.0, u.1)) h
+owned_back q (x ∷ xs) r p h = grind (arith, nat_tests, owned_back q xs r p)
 
 has_index : {B : Type 0} (x : Held B) (k : ℕ) (l : LotOf B) → IsSmall x.shape → lot_in k x ≡ Some l → Among (indices x) k
 has_index x k l small e = let n : ℕ = x.shape.records in
@@ -173,10 +155,7 @@ module _ {B : Type 0} (fits : B → ℕ → Bool) (s : Shape) (id : ℕ) (v : Vi
       (from.0, from.1, from.2, same, taken.0, from.4, taken.1)
 
   not_taken : (k : ℕ) (h : Option Holder) → IsHeldBy o k h → IsAway h → slot_at held k ≡ None
-  not_taken k h is free = ⊎_elim (λ (e : slot_at held k ≡ None). e)
-      (λ (t : (l : LotOf B) × (slot_at held k ≡ Some l)). let from = gathered.lots k t.0 (let i = in_range o k h is in let e : length o ≡ length held = count in omega arith) t.1 in absurd
-      (free from.1.process (one_holder o k h (Some (Process from.1.process)) is (by_seat from.0 k from.1 t.0 from.2 from.4))))
-      (none_or_some (slot_at held k))
+  not_taken k h is free = grind (arith, nat_tests, in_range, count, one_holder, by_seat, none_or_some)
 
   free_away : IsAway None
   free_away p e = let w : word_of None ≡ word_of (Some (Process p)) = ap word_of e in absurd (omega arith)
@@ -212,8 +191,7 @@ module _ {B : Type 0} (fits : B → ℕ → Bool) (s : Shape) (id : ℕ) (v : Vi
   }
 
 pub or_is : {L : Type 0} (a b : Option L) → option_or a b ≡ or_else a b
-or_is None b = refl
-or_is (Some x) b = refl
+or_is a b = grind (arith, nat_tests)
 
 pub read_is : {A : Type 0} (l : List A) (k : ℕ) (x d : A) → k < length l → x ≡ get_or l k x → get_or l k d ≡ x
 read_is l k x d h e = nth_is l k d x (at_index l k x h e)

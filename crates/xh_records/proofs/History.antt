@@ -1,6 +1,6 @@
 -- The log of all events, as it grows, and the views' fronts.
-use Rattle.std.proofs.Common.{◌≡◌, ℕ, ◌<◌, ◌≢◌, Bool, true, false, List, [], ◌∷◌, ◌++◌, length, set, sym, refl, ap, ◌∙◌, subst, inl, inr, ⊎_elim, eq-eqb, ne_eqb, cond, arith, append_assoc, append-nil, mod-lt}
-use Rattle.std.specs.Prelude.{◌==◌}
+use Rattle.std.proofs.lemmas.Bool.Decides.{nat_tests}
+use Rattle.std.proofs.Common.{◌≡◌, ℕ, ◌<◌, ◌≢◌, Bool, List, [], ◌∷◌, ◌++◌, length, set, sym, refl, ap, ◌∙◌, subst, inl, inr, eq-eqb, ne_eqb, cond, arith, append_assoc, append-nil, mod-lt}
 use mathlib.Core.Option.{some}
 use lib.ListN.{get_elem?}
 use Rattle.atomic_table.proofs.Lists.{at_set}
@@ -13,7 +13,7 @@ use Rattle.xh_records.specs.declared.view.View.{View}
 use Rattle.xh_records.specs.After.{IsAfter}
 use Rattle.xh_records.specs.History.{Grows, IsOneLog, LeadsTo, StartsWith, all_free, by_place, process_of}
 use Rattle.xh_records.specs.Showing.{Sits, ViewTells, IsHistory}
-use Rattle.xh_records.proofs.Elements.{only_one}
+use Rattle.xh_records.proofs.Elements.{either_way, only_one}
 use Rattle.xh_records.specs.inner.Views.{IsAlone, adds, first_front, front_in, no_events, tail_of}
 
 -- one more event
@@ -22,13 +22,11 @@ leads_more n o m o' [] e leads done after = (o', subst (λ (z : Ownership). IsDo
 leads_more n o m o' (x ∷ xs) e leads done after = (leads.0, leads.1, leads.2, leads_more n leads.0 m o' xs e leads.3 done after)
 
 cond_append : (b : Bool) (x : Event) (l m : List Event) → cond b (x ∷ (l ++ m)) (l ++ m) ≡ cond b (x ∷ l) l ++ m
-cond_append true x l m = refl
-cond_append false x l m = refl
+cond_append b x l m = grind (arith, nat_tests)
 
 pub by_place_append : (q : ℕ) (log more : List Event) → by_place q (log ++ more) ≡ by_place q log ++ by_place q more
 by_place_append q [] more = refl
-by_place_append q (x ∷ xs) more = ap (λ (z : List Event). cond (place_of (process_of x) == q) (x ∷ z) z) (by_place_append q xs more)
-    ∙ cond_append (place_of (process_of x) == q) x (by_place q xs) (by_place q more)
+by_place_append q (x ∷ xs) more = grind (arith, nat_tests, cond_append, by_place_append q xs more)
 
 pub by_place_more : (q : ℕ) (log : List Event) (e : Event) → place_of (process_of e) ≡ q → by_place q (log ++ e ∷ []) ≡ by_place q log ++ e ∷ []
 by_place_more q log e at = by_place_append q log (e ∷ []) ∙ ap (λ (b : Bool). by_place q log ++ cond b (e ∷ []) []) (eq-eqb (place_of (process_of e)) q at)
@@ -58,10 +56,7 @@ one_log log (p ∷ a) [] x y = inl (p ∷ a, refl)
 one_log log (p ∷ a) (q ∷ b) x y =
     let same : p ∷ (a ++ x.0) ≡ q ∷ (b ++ y.0) = sym x.1 ∙ y.1 in
     let first : p ≡ q = cc in
-    let rest : a ++ x.0 ≡ b ++ y.0 = cc in ⊎_elim
-    (λ (t : StartsWith a b). inl (t.0, λ i. first i ∷ t.1 i))
-    (λ (t : StartsWith b a). inr (t.0, λ i. sym first i ∷ t.1 i))
-    (one_log (a ++ x.0) a b (x.0, refl) (y.0, rest))
+    let rest : a ++ x.0 ≡ b ++ y.0 = cc in either_way (one_log (a ++ x.0) a b (x.0, refl) (y.0, rest)) (λ t. inl (t.0, λ i. first i ∷ t.1 i)) (λ t. inr (t.0, λ i. sym first i ∷ t.1 i))
 
 no_more : (xs ys : List Event) → xs ≡ xs ++ ys → ys ≡ []
 no_more [] ys e = sym e
@@ -69,8 +64,7 @@ no_more (x ∷ xs) ys e = no_more xs ys (ap (λ (z : List Event). tail_of z) e)
 
 -- an entry of a list of one
 pub one_is : (l : List (ℕ × List Event)) (q k : ℕ) (es fs : List Event) → l ≡ (k, fs) ∷ [] → Among l (q, es) → (q ≡ k) × (es ≡ fs)
-one_is l q k es fs is there = let e : (q, es) ≡ (k, fs) = only_one (subst (λ (z : List (ℕ × List Event)). Among z (q, es)) is there) in
-    (ap (λ (z : ℕ × List Event). z.0) e, ap (λ (z : ℕ × List Event). z.1) e)
+one_is l q k es fs is there = grind (arith, nat_tests, only_one)
 
 -- a view of one process that has seen the whole log
 pub tells_all : (log : List Event) (w : View) (p : ℕ) → Sits w p → w.fronts ≡ (place_of p, log) ∷ [] → ViewTells log w
@@ -108,21 +102,16 @@ pub more_history : (s : Shape) (o o' : Ownership) (views : List View) (log : Lis
     → ((j p : ℕ) (u : View) → j ≢ id → get_elem? views j ≡ some u → Sits u p → place_of (process_of e) ≢ place_of p) → IsHistory s o' (set views id w) (log ++ e ∷ [])
 more_history s o o' views log id w e old done after long inside sits one apart = record {
   leads = subst (λ (n : ℕ). LeadsTo s.records (all_free n) (log ++ e ∷ []) o') (sym long) (leads_more s.records (all_free (length o)) o o' log e old.leads done after);
-  theirs = λ x there. ⊎_elim (λ (a : Among log x). old.theirs x a) (λ (b : Among (e ∷ []) x). subst (λ (z : Event). place_of (process_of z) < s.places) (sym (only_one b)) inside) (among_either log (e ∷ []) x there);
-  tells = λ j u there. ⊎_elim
-      (λ (t : (j ≡ id) × (w ≡ u)). subst (ViewTells (log ++ e ∷ [])) t.1 (tells_all (log ++ e ∷ []) w (process_of e) sits one))
-      (λ (t : (j ≢ id) × (get_elem? views j ≡ some u)). tells_others log u e (old.tells j u t.1) (λ p sits. apart j p u t.0 t.1 sits))
-      (at_set views id j w u there);
+  theirs = λ x there. either_way (among_either log (e ∷ []) x there) (λ a. old.theirs x a) (λ b. subst (λ (z : Event). place_of (process_of z) < s.places) (sym (only_one b)) inside);
+  tells = λ j u there. either_way (at_set views id j w u there) (λ t. subst (ViewTells (log ++ e ∷ [])) t.1 (tells_all (log ++ e ∷ []) w (process_of e) sits one))
+      (λ t. tells_others log u e (old.tells j u t.1) (λ p sits. apart j p u t.0 t.1 sits));
 }
 
 -- the one front of a view, and more events in it
 pub adds_one : (es : List Event) (q : ℕ) (l : List (ℕ × List Event)) → l ≡ (q, first_front l) ∷ [] → (first_front (adds es l) ≡ first_front l ++ es) × (adds es l ≡ (q, first_front (adds es l)) ∷ [])
-adds_one es q l one =
-    let now : adds es l ≡ (q, first_front l ++ es) ∷ [] = ap (adds es) one in
-    (ap first_front now, now ∙ ap (λ (z : List Event). (q, z) ∷ []) (sym (ap first_front now)))
+adds_one es q l one = grind (arith, nat_tests)
 
 -- the fronts of places with no event yet
 pub lists_back : (ps : List ℕ) (q : ℕ) (es : List Event) → Among (no_events ps) (q, es) → (p : ℕ) × Among ps p × (q ≡ place_of p) × (es ≡ [])
 lists_back [] q es h = absurd h
-lists_back (x ∷ xs) q es h = ⊎_elim (λ e. let is = one_is ((place_of x, []) ∷ []) q (place_of x) es [] refl (inl e) in (x, inl refl, is.0, is.1))
-    (λ (t : Among (no_events xs) (q, es)). let u = lists_back xs q es t in (u.0, inr u.1, u.2, u.3)) h
+lists_back (x ∷ xs) q es h = grind (arith, nat_tests, lists_back xs q es)

@@ -1,5 +1,6 @@
 -- A step on one record's word keeps the rule.
-use Rattle.std.proofs.Common.{◌≡◌, ℕ, ◌%◌, ◌<◌, ◌≢◌, Bool, List, [], ◌∷◌, ◌++◌, map, length, set, get_or, eqb, sym, refl, ap, ◌∙◌, subst, inl, inr, ⊎_elim, arith, length-set, ne_eqb, eq-eqb, append-nil}
+use Rattle.std.proofs.lemmas.Bool.Decides.{nat_tests}
+use Rattle.std.proofs.Common.{◌≡◌, ℕ, ◌%◌, ◌<◌, ◌≢◌, Bool, List, [], ◌∷◌, ◌++◌, map, length, set, get_or, eqb, sym, refl, ap, ◌∙◌, subst, inl, inr, arith, length-set, ne_eqb, eq-eqb, append-nil}
 use Rattle.std.specs.Prelude.{Option, Some, None}
 use mathlib.Core.Option.{none, some, some-injective, some-ne-none}
 use mathlib.Core.Option as maybe
@@ -11,7 +12,7 @@ use Rattle.atomic_table.specs.Table.{State, Me, Act, rest, put_back, takes, give
 use Rattle.atomic_table.proofs.Lists.{at_set, set_here, set_else, set_again, at_map}
 use Rattle.xh_arena.specs.Views.{LotOf}
 use Rattle.xh_model.specs.Keyed.{Among, Distinct, without}
-use Rattle.xh_model.proofs.Keyed.{among_back, among_either, among_front, without_here, without_there}
+use Rattle.xh_model.proofs.Keyed.{among_back, among_either, among_front}
 use Rattle.xh_records.specs.declared.shape.Shape.{Shape}
 use Rattle.xh_records.specs.declared.view.View.{View}
 use Rattle.xh_model.specs.declared.event.Holder.{Holder}
@@ -29,7 +30,7 @@ use Rattle.xh_records.specs.inner.Steps.{IsOthers, SeesMore, took, gave, looked,
 use Rattle.xh_records.proofs.History.{Unseen, more_history, one_log, tells_all, unseen}
 use Rattle.xh_records.proofs.Cuts.{reseats, still_alone, still_seated}
 use Rattle.xh_records.proofs.After.{done_after}
-use Rattle.xh_records.proofs.Elements.{in_range, is_there, nth_is, only_one}
+use Rattle.xh_records.proofs.Elements.{either_way, in_range, is_there, nth_is, only_one}
 use prog.Atomic.{either}
 
 -- words
@@ -75,13 +76,8 @@ module _ {B : Type 0} (fits : B → ℕ → Bool) (s : Shape) (o : Ownership) (w
 
   mine_fits : ViewFits s o' w
   mine_fits = let old = shown.views_fit id v at in record {
-    is_owner = λ r' p owns. dite (ℕ_discrete r' r)
-        (λ e. let now = change.right p (subst (λ (x : ℕ). Owns w x p) e owns) in (subst (λ (x : ℕ). IsHeldBy o' x (Some (Process p))) (sym e) (here p now), sits p (change.is_mine p now)))
-        (λ n. let was = old.is_owner r' p (change.no_more r' p n owns) in (set_else o r r' k n ∙ was.0, sits p was.1));
-    owns_all = λ r' p is there. ⊎_elim
-        (λ (t : (r' ≡ r) × (k ≡ Some (Process p))). subst (λ (x : ℕ). Owns w x p) (sym t.0) (change.left p t.1))
-        (λ (t : (r' ≢ r) × (get_elem? o r' ≡ some (Some (Process p)))). change.no_less r' p t.0 (old.owns_all r' p t.1 (sat p there)))
-        (at_set o r r' k (Some (Process p)) is);
+    is_owner = λ r' p owns. grind (arith, nat_tests, here, sits, set_else);
+    owns_all = λ r' p is there. grind (arith, nat_tests, sat, at_set);
     knows = λ p there. change.shape ∙ old.knows p (sat p there);
     places = subst (λ (l : List ℕ). Distinct (map place_of l)) (sym change.processes) old.places;
   }
@@ -91,13 +87,8 @@ module _ {B : Type 0} (fits : B → ℕ → Bool) (s : Shape) (o : Ownership) (w
 
   others_fit : (j : ℕ) (u : View) → j ≢ id → get_elem? vs j ≡ some u → ViewFits s o' u
   others_fit j u other there = let old = shown.views_fit j u there in record {
-    is_owner = λ r' p owns. let was = old.is_owner r' p owns in dite (ℕ_discrete r' r)
-        (λ e. absurd (apart j p u other there was.1 (change.was_mine p (one_holder o r h (Some (Process p)) held (subst (λ (x : ℕ). IsHeldBy o x (Some (Process p))) e was.0)))))
-        (λ n. (set_else o r r' k n ∙ was.0, was.1));
-    owns_all = λ r' p is sat. ⊎_elim
-        (λ (t : (r' ≡ r) × (k ≡ Some (Process p))). absurd (apart j p u other there sat (change.is_mine p t.1)))
-        (λ (t : (r' ≢ r) × (get_elem? o r' ≡ some (Some (Process p)))). old.owns_all r' p t.1 sat)
-        (at_set o r r' k (Some (Process p)) is);
+    is_owner = λ r' p owns. grind (arith, nat_tests, apart, one_holder, set_else);
+    owns_all = λ r' p is sat. grind (arith, nat_tests, sat, apart, at_set);
     knows = old.knows;
     places = old.places;
   }
@@ -111,31 +102,15 @@ module _ {B : Type 0} (fits : B → ℕ → Bool) (s : Shape) (o : Ownership) (w
   pub moved : (y : maybe.Option (Option (LotOf B))) → IsHolder k → HomeFits fits s r k y → Shows fits s o' (set ws r (word_of k)) (set hs r y) (set vs id w)
   moved y good home = record {
     words_are = ap (λ (l : List ℕ). set l r (word_of k)) shown.words_are ∙ sym (map-set word_of o r k);
-    holders = λ r' g is. ⊎_elim
-        (λ (t : (r' ≡ r) × (k ≡ g)). subst IsHolder t.1 good)
-        (λ (t : (r' ≢ r) × (get_elem? o r' ≡ some g)). shown.holders r' g t.1)
-        (at_set o r r' k g is);
+    holders = λ r' g is. grind (arith, nat_tests, at_set);
     homes_long = length-set hs r y ∙ shown.homes_long ∙ sym (length-set o r k);
-    homes_are = λ r' g is. ⊎_elim
-        (λ (t : (r' ≡ r) × (k ≡ g)). (
-          y,
-          subst (λ (x : ℕ). get_elem? (set hs r y) x ≡ some y) (sym t.0) (set_here hs r y (let i = in_range o r h held in let e = shown.homes_long in omega arith)),
-          subst (λ (z : ℕ × Option Holder). HomeFits fits s z.0 z.1 y) (λ i. (sym t.0 i, t.1 i)) home,
-        ))
-        (λ (t : (r' ≢ r) × (get_elem? o r' ≡ some g)). let was = shown.homes_are r' g t.1 in (was.0, set_else hs r r' y t.0 ∙ was.1, was.2))
-        (at_set o r r' k g is);
-    placed = λ r' p is. ⊎_elim
-        (λ (t : (r' ≡ r) × (k ≡ Some (Process p))). let z = shown.alone id p v at (change.is_mine p t.1) in (z.0, z.1))
-        (λ (t : (r' ≢ r) × (get_elem? o r' ≡ some (Some (Process p)))). shown.placed r' p t.1)
-        (at_set o r r' k (Some (Process p)) is);
+    homes_are = λ r' g is. grind (arith, nat_tests, set_here, in_range, set_else, at_set);
+    placed = λ r' p is. grind (arith, nat_tests, at_set);
     process_at = shown.process_at;
     seat_of = shown.seat_of;
     seated = still_seated fits s o ws hs vs shown id v w at change.processes;
     alone = still_alone fits s o ws hs vs shown id v w at change.processes;
-    views_fit = λ j u there. ⊎_elim
-        (λ (t : (j ≡ id) × (w ≡ u)). subst (ViewFits s o') t.1 mine_fits)
-        (λ (t : (j ≢ id) × (get_elem? vs j ≡ some u)). others_fit j u t.0 t.1)
-        (at_set vs id j w u there);
+    views_fit = λ j u there. either_way (at_set vs id j w u there) (λ t. subst (ViewFits s o') t.1 mine_fits) (λ t. others_fit j u t.0 t.1);
     small = shown.small;
     log = shown.log ++ e ∷ [];
     history = more_history s o o' vs shown.log id w e shown.history done (done_after s.records o o' e by.inside (subst IsHolder (sym by.to) good) done) (length-set o r k)
@@ -144,31 +119,21 @@ module _ {B : Type 0} (fits : B → ℕ → Bool) (s : Shape) (o : Ownership) (w
 
 pub among_without : (r : ℕ) (xs : List (ℕ × ℕ)) (x : ℕ × ℕ) → Among (without r xs) x → Among xs x × (x.0 ≢ r)
 among_without r [] x h = absurd h
-among_without r (y ∷ ys) x h = dite (ℕ_discrete y.0 r)
-    (λ e. let t = among_without r ys x (subst (λ (l : List (ℕ × ℕ)). Among l x) (without_here r y ys e) h) in (inr t.0, t.1))
-    (λ n. ⊎_elim (λ (e : x ≡ y). (inl e, λ (q : x.0 ≡ r). n (ap (λ (z : ℕ × ℕ). z.0) (sym e) ∙ q)))
-    (λ (u : Among (without r ys) x). let t = among_without r ys x u in (inr t.0, t.1)) (subst (λ (l : List (ℕ × ℕ)). Among l x) (without_there r y ys n) h))
+among_without r (y ∷ ys) x h = grind (arith, nat_tests, among_without r ys x)
 
 pub among_kept : (r : ℕ) (xs : List (ℕ × ℕ)) (x : ℕ × ℕ) → x.0 ≢ r → Among xs x → Among (without r xs) x
 among_kept r [] x n h = absurd h
-among_kept r (y ∷ ys) x other h = dite (ℕ_discrete y.0 r)
-    (λ e. subst (λ (l : List (ℕ × ℕ)). Among l x) (sym (without_here r y ys e))
-    (⊎_elim (λ (q : x ≡ y). absurd (other (ap (λ (z : ℕ × ℕ). z.0) q ∙ e))) (λ (u : Among ys x). among_kept r ys x other u) h))
-    (λ n. subst (λ (l : List (ℕ × ℕ)). Among l x) (sym (without_there r y ys n)) (⊎_elim (λ (q : x ≡ y). inl q) (λ (u : Among ys x). inr (among_kept r ys x other u)) h))
+among_kept r (y ∷ ys) x other h = grind (arith, nat_tests, among_kept r ys x other)
 
 -- by the event e the record n goes from h to k, and the process p does it
 abbrev pub IsMove : Event → ℕ → ℕ → Option Holder → Option Holder → Type 0
 IsMove e n p h k = (record_of e ≡ n) × (from_of e ≡ h) × (to_of e ≡ k) × (process_of e ≡ p)
 
 pub taking_is : (p n : ℕ) (h : Option Holder) → IsAway h → IsMove (taking p n h) n p h (Some (Process p))
-taking_is p n None away = (refl, refl, refl, refl)
-taking_is p n (Some (Process q)) away = absurd (away q refl)
-taking_is p n (Some (Direction d)) away = (refl, refl, refl, refl)
+taking_is p n h away = grind (arith, nat_tests)
 
 pub giving_is : (p n : ℕ) (k : Option Holder) → IsAway k → IsMove (giving p n k) n p (Some (Process p)) k
-giving_is p n None away = (refl, refl, refl, refl)
-giving_is p n (Some (Process q)) away = absurd (away q refl)
-giving_is p n (Some (Direction d)) away = (refl, refl, refl, refl)
+giving_is p n k away = grind (arith, nat_tests)
 
 pub same_place : (p q : ℕ) → word_of (Some (Process p)) ≡ word_of (Some (Process q)) → p ≡ q
 same_place p q e = omega arith
@@ -203,51 +168,23 @@ module _ {B : Type 0} (fits : B → ℕ → Bool) (s : Shape) where
             shown.placed
             (still_seated fits s o t.words t.homes t.views shown id v w here refl)
             (still_alone fits s o t.words t.homes t.views shown id v w here refl)
-            (λ j u there. ⊎_elim
-            (λ (x : (j ≡ id) × (w ≡ u)). subst (λ (z : View). ViewFits s o z × ViewTells shown.log z) x.1
-            (record { is_owner = fit.is_owner; owns_all = fit.owns_all; knows = fit.knows; places = fit.places }, tells))
-            (λ (x : (j ≢ id) × (get_elem? t.views j ≡ some u)). (shown.views_fit j u x.1, shown.history.tells j u x.1))
-            (at_set t.views id j w u there))),
+            (λ j u there. either_way (at_set t.views id j w u there)
+            (λ x. subst (λ (z : View). ViewFits s o z × ViewTells shown.log z) x.1 (record { is_owner = fit.is_owner; owns_all = fit.owns_all; knows = fit.knows; places = fit.places }, tells))
+            (λ x. (shown.views_fit j u x.1, shown.history.tells j u x.1)))),
       )
 
   -- what a seat knows of the word of a record
   knows_word : (o : Ownership) (v : View) (r n : ℕ) (h : Option Holder) → ViewFits s o v → IsHeldBy o r h → IsHolder h → n ≡ word_of h → Knows v r n
-  knows_word o v r n h fit held good is = (
-    (h, good, is),
-    λ p sits. (
-      (λ e. fit.owns_all r p (subst (IsHeldBy o r) (word_injective h (Some (Process p)) (sym is ∙ e)) held) sits),
-      (λ owns. is ∙ ap word_of (one_holder o r h (Some (Process p)) held (fit.is_owner r p owns).0)),
-    ),
-  )
+  knows_word o v r n h fit held good is = grind (arith, nat_tests, sits, word_injective, one_holder)
 
   takes_change : (o : Ownership) (v : View) (r p : ℕ) (h : Option Holder) (others : List Event) → ViewFits s o v → IsHeldBy o r h → ((q : ℕ) → h ≡ Some (Process q) → ⊥) → v.processes ≡ p ∷ []
       → Change v (gained v r p h others) r h (Some (Process p))
-  takes_change o v r p h others fit held free mine = let sits_p : Sits v p = subst (λ (l : List ℕ). Among l p) (sym mine) (inl refl) in
-      let turn = λ (q : ℕ) (e : Some (Process p) ≡ Some (Process q)). same_place p q (ap word_of e) in record {
-        processes = refl;
-        shape = refl;
-        was_mine = λ q e. absurd (free q e);
-        is_mine = λ q e. subst (λ (x : ℕ). Sits v x) (turn q e) sits_p;
-        no_more = λ r' q n owns. ⊎_elim (λ (a : Owns v r' q). a) (λ (b : Among ((r, p) ∷ []) (r', q)). absurd (n (ap (λ (z : ℕ × ℕ). z.0) (only_one b))))
-            (among_either v.records ((r, p) ∷ []) (r', q) owns);
-        no_less = λ r' q n owns. among_front v.records ((r, p) ∷ []) (r', q) owns;
-        right = λ q owns. ⊎_elim (λ (a : Owns v r q). absurd (free q (one_holder o r h (Some (Process q)) held (fit.is_owner r q a).0)))
-            (λ (b : Among ((r, p) ∷ []) (r, q)). ap (λ (z : ℕ × ℕ). Some (Process z.1)) (sym (only_one b)))
-            (among_either v.records ((r, p) ∷ []) (r, q) owns);
-        left = λ q e. among_back v.records ((r, p) ∷ []) (r, q) (inl (ap (λ (x : ℕ). (r, x)) (sym (turn q e))));
-      }
+  takes_change o v r p h others fit held free mine = grind (arith, nat_tests, same_place, only_one, among_either, among_front, one_holder, among_back)
 
   -- the event of a step that takes, or gives
   step_by : (log : List Event) (v w : View) (r p : ℕ) (h k : Option Holder) (e : ℕ → Event) → ((n : ℕ) → IsMove (e n) n p h k) → IsSmall s → v.shape ≡ s → Sits v p
       → w.fronts ≡ (place_of p, log ++ e (number_of v.shape.records r) ∷ []) ∷ [] → By s log v w r h k (e (number_of s.records r))
-  step_by log v w r p h k e is small same sits front = let n : ℕ = number_of s.records r in let i = is n in record {
-    inside = subst (λ (z : ℕ). z % 256 < s.records) (sym i.0) (number_inside s.records r small.0 small.1);
-    index = ap (index_of s.records) i.0 ∙ index_back s.records r small.0 small.1;
-    from = i.1;
-    to = i.2;
-    sits = subst (Sits v) (sym i.3) sits;
-    front = front ∙ (λ j. (place_of (sym i.3 j), log ++ e (number_of (same j).records r) ∷ []) ∷ []);
-  }
+  step_by log v w r p h k e is small same sits front = grind (arith, nat_tests, number_inside, index_back, sits)
 
   -- what is at home, where no process holds the record
   pub home_is : (r : ℕ) (h : Option Holder) (l : LotOf B) → IsLotAt s r l → IsHomeLot fits h l → HomeFits fits s r h (some (Some l))
@@ -333,16 +270,8 @@ module _ {B : Type 0} (fits : B → ℕ → Bool) (s : Shape) where
 
   gives_change : (o : Ownership) (v : View) (r p : ℕ) (k : Option Holder) (others : List Event) → ViewFits s o v → Owns v r p → ((q : ℕ) → k ≡ Some (Process q) → ⊥)
       → Change v (lost v r p k others) r (Some (Process p)) k
-  gives_change o v r p k others fit owns free = let sits_p : Sits v p = (fit.is_owner r p owns).1 in record {
-    processes = refl;
-    shape = refl;
-    was_mine = λ q e. subst (λ (x : ℕ). Sits v x) (same_place p q (ap word_of e)) sits_p;
-    is_mine = λ q e. absurd (free q e);
-    no_more = λ r' q n still. (among_without r v.records (r', q) still).0;
-    no_less = λ r' q n was. among_kept r v.records (r', q) n was;
-    right = λ q still. absurd ((among_without r v.records (r, q) still).1 refl);
-    left = λ q e. absurd (free q e);
-  }
+  gives_change o v r p k others fit owns free =
+      let out = λ (i q : ℕ). among_without r v.records (i, q) in let still = λ (i q : ℕ). among_kept r v.records (i, q) in grind (arith, nat_tests, same_place, out, still)
 
   -- a store that gives
   pub gives_lot : (slots id : ℕ) (me : M) (r new p : ℕ) (k : Option Holder) (lot : LotOf B) (rest_of : List (ℕ × S)) → new ≡ word_of k → IsAway k → IsHolder k → me.1 ≡ (r, Some lot) ∷ rest_of

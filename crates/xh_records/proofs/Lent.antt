@@ -1,4 +1,6 @@
 -- A seat whose lots were lent.
+use Rattle.std.proofs.Common.{arith}
+use Rattle.std.proofs.lemmas.Bool.Decides.{nat_tests}
 use Rattle.std.proofs.Common.{◌≡◌, ◌≢◌, ℕ, ◌%◌, ◌<◌, List, sym, ap, ◌∙◌, subst}
 use Rattle.std.specs.Prelude.{Option, Some}
 use Rattle.atomic_table.specs.Table.{Me}
@@ -10,7 +12,6 @@ use Rattle.xh_model.specs.Keyed.{keys, put, value_at}
 use Rattle.xh_model.proofs.Keyed.{put_keys}
 use Rattle.xh_model.proofs.Numbers.{index_apart}
 use Rattle.xh_model.specs.declared.limits.TheConstants.{MAX_RECORDS}
-use Rattle.xh_records.specs.declared.shape.Shape.{Shape}
 use Rattle.xh_records.specs.declared.view.View.{View}
 use Rattle.xh_records.specs.Showing.{IsLotOf, IsLotAt}
 use Rattle.xh_records.specs.Seats.{RecordsOf, Held, IsRecord, IsSeatOf, with_lots}
@@ -27,10 +28,7 @@ pub record Spot {B : Type 0} (x : Held B) (me : Me (Option (LotOf B)) View) (slo
 pub spot_of : {B : Type 0} (x : Held B) (t : TableId) (id process : ℕ) (me : Me (Option (LotOf B)) View) → held t id process me ≡ x → (all : RecordsOf) (slot r : ℕ) → IsSeatOf all x
     → IsRecord all.shape r
     → slot ≡ index_of all.shape.records r → Spot x me slot r
-spot_of {B} x t id process me is all slot r own exists index =
-    let at : slot ≡ index_of x.shape.records r = index ∙ ap (λ (s : Shape). index_of s.records r) (sym own.1) in
-    let below : r % MAX_RECORDS < x.shape.records = subst (λ (s : Shape). r % MAX_RECORDS < s.records) (sym own.1) exists.1 in
-    record { at = at; below = below; number = number_is me.0.shape.records x.shape.records slot r (ap (λ (z : Held B). z.shape.records) is) at below }
+spot_of {B} x t id process me is all slot r own exists index = grind (arith, nat_tests, number_is)
 
 -- the list after something was put into a slot is still in this order
 pub still_listed : {X : Type 0} (order : List ℕ) (slot j : ℕ) (y : X) (ls now : List (ℕ × X)) → IsListed order ls j → now ≡ put slot y ls → IsListed order now j
@@ -73,8 +71,7 @@ module _ {B : Type 0} (x : Held B) (t : TableId) (id process : ℕ) (me : Me (Op
 
   pub after_one : (t' : TableId) (id' : ℕ) (me' : Me (Option (LotOf B)) View) (slot r : ℕ) (l left : LotOf B) → Lent slot r l → t' ≡ t → id' ≡ id → me' ≡ (me.0, put slot (Some left) me.1)
       → held t' id' process me' ≡ with_lots x (put r left x.lots)
-  after_one t' id' me' slot r l left lent et en e = held_same x t id process me is t' id' me' (put r left x.lots) et en (ap (λ (m : Me (Option (LotOf B)) View). m.0) e)
-      (ap (λ (m : Me (Option (LotOf B)) View). numbered m.0.shape.records m.1) e ∙ put_numbered me.0.shape seat.small me.1 slot left seat.lots ∙ (λ i. put (lent.number i) left (is i).lots))
+  after_one t' id' me' slot r l left lent et en e = grind (arith, nat_tests, held_same, put_numbered)
 
   -- the seat after two lots were lent
   pub kept_two : (i j r q : ℕ) (l m left also : LotOf B) → Lent i r l → Lent j q m → IsLotOf x.shape r left → IsLotOf x.shape q also

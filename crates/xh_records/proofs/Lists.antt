@@ -1,7 +1,7 @@
 -- Lists of numbers, and lists with keys.
 use Rattle.std.proofs.lemmas.Bool.Decides.{nat_tests}
 use Rattle.std.proofs.Common.{◌≡◌, ℕ, zero, suc, ◌+◌, ◌-◌, ◌<◌, ◌≤◌, ◌≢◌, Bool, true, false, List, [], ◌∷◌, ◌++◌, length, set}
-use Rattle.std.proofs.Common.{get_or, eqb, append_assoc, append-nil, get_or-set_same, get_or-set_other, sym, refl, ap, ◌∙◌, subst, ◌⊎◌, inl, inr, ⊎_elim, arith, ne_eqb, cond, ◌||◌}
+use Rattle.std.proofs.Common.{get_or, eqb, append_assoc, append-nil, get_or-set_same, get_or-set_other, sym, refl, ap, ◌∙◌, subst, ◌⊎◌, inl, inr, ⊎_elim, arith, ne_eqb, cond}
 use Rattle.std.specs.Prelude.{Option, Some, None}
 use Rattle.std.specs.List.{remove, IsDistinct, AllByRecursion, list_any}
 use Rattle.std.proofs.lemmas.Map.Steps.{length-le_from_distinct_below}
@@ -27,9 +27,7 @@ is_distinct (x ∷ xs) d = (apart_all xs x d.0, is_distinct xs d.1)
 
 pub any_below : (n : ℕ) (xs : List ℕ) (q : ℕ) → AllBelow n xs → list_any (eqb q) xs ≡ true → q < n
 any_below n [] q b = λ e. absurd (cc)
-any_below n (x ∷ xs) q b = dite (ℕ_discrete q x)
-    (λ same e. subst (λ (z : ℕ). z < n) (sym same) b.0)
-    (λ other. subst (λ (t : Bool). (t || list_any (eqb q) xs) ≡ true → q < n) (sym (ne_eqb q x other)) (λ e. any_below n xs q b.1 e))
+any_below n (x ∷ xs) q b = grind (arith, nat_tests, any_below n xs q b.1)
 
 pub few : (n : ℕ) (xs : List ℕ) → AllBelow n xs → Distinct xs → length xs ≤ n
 few n xs b d = length-le_from_distinct_below xs n (is_distinct xs d) (λ q e. any_below n xs q b e)
@@ -101,11 +99,7 @@ pub fills : {L : Type 0} (front : List (ℕ × Option L)) (slot : ℕ) (x result
     → slot < length held
     → ((r : ℕ) → r < n → slot_at held r ≡ or_else (in_slot r front) (slot_at held0 r)) → (r : ℕ) → r < n
     → slot_at (set held slot result) r ≡ or_else (in_slot r (front ++ (slot, x) ∷ [])) (slot_at held0 r)
-fills {L} front slot x result l held held0 n fresh is_some is_x inside before r below = dite (ℕ_discrete r slot)
-    (λ e. let at : slot_at (set held slot result) r ≡ Some l = ap (slot_at (set held slot result)) e ∙ get_or-set_same held slot result None inside ∙ is_x ∙ is_some in
-    let lot : in_slot r (front ++ (slot, x) ∷ []) ≡ Some l = ap (λ (k : ℕ). in_slot k (front ++ (slot, x) ∷ [])) e ∙ slot_split slot x front [] fresh ∙ is_some in at
-    ∙ sym (ap (λ (z : Option L). or_else z (slot_at held0 r)) lot))
-    (λ ne. get_or-set_other held slot r result None ne ∙ before r below ∙ sym (ap (λ (z : Option L). or_else z (slot_at held0 r)) (slot_front r slot x front ne)))
+fills {L} front slot x result l held held0 n fresh is_some is_x inside before r below = grind (arith, nat_tests, get_or-set_same, slot_split, get_or-set_other, slot_front)
 
 pub all_front : {X : Type 0} (front back : List (ℕ × X)) → length (keys (front ++ back)) ≤ length front → front ≡ front ++ back
 all_front [] [] h = refl

@@ -1,9 +1,7 @@
 -- A seat's lots by the numbers of their records.
 use Rattle.std.proofs.lemmas.Bool.Decides.{nat_tests}
-use Rattle.std.proofs.Common.{arith, ◌≡◌, ℕ, suc, ◌/◌, length, ◌%◌, ◌<◌, ◌≤◌, List, [], ◌∷◌, ◌++◌, map, sym, refl, ap, ◌∙◌, subst, get_or, append-nil}
+use Rattle.std.proofs.Common.{arith, ◌≡◌, ℕ, suc, length, ◌%◌, ◌<◌, ◌≤◌, List, [], ◌∷◌, ◌++◌, map, sym, refl, ap, ◌∙◌, subst, append-nil}
 use Rattle.std.specs.Prelude.{Option, Some, None}
-use mathlib.Core.Logic.{dite}
-use native.Mathlib.Decide.{ℕ_discrete}
 use Rattle.atomic_table.specs.Table.{Me}
 use Rattle.atomic_table.specs.Seated.{TableId}
 use Rattle.xh_arena.specs.Views.{LotOf}
@@ -13,15 +11,14 @@ use Rattle.xh_model.specs.Words.{number_of, place_of}
 use Rattle.xh_model.proofs.Words.{number_inside, index_back, number_back}
 use Rattle.xh_model.specs.Keyed.{Among, keys, put, value_at, without}
 use Rattle.xh_records.proofs.Elements.{among_map, in_range, slice_elem}
-use Rattle.xh_model.proofs.Keyed.{value_here, value_there}
 use Rattle.xh_records.specs.declared.shape.Shape.{Shape}
 use Rattle.xh_records.specs.declared.view.View.{View}
 use Rattle.xh_records.specs.Showing.{IsLotOf, IsLotAt, IsSmall}
 use Rattle.xh_model.specs.declared.event.Holder.{Holder}
 use Rattle.xh_model.specs.declared.event.Holder.TheVariants.{Process, Direction}
 use Rattle.xh_records.specs.inner.Events.{taking, giving}
-use Rattle.xh_records.specs.Seats.{Advances, HasGained, HasLost, HasSeen, Held, Knows, owned_by, seen, view_of, did, with_lots, IsRecord}
-use Rattle.xh_records.specs.inner.Views.{adds, first_front, front_in}
+use Rattle.xh_records.specs.Seats.{Advances, HasGained, HasLost, HasSeen, Held, Knows, seen, view_of, did, with_lots, IsRecord}
+use Rattle.xh_records.specs.inner.Views.{adds, front_in}
 use Rattle.xh_records.specs.inner.Steps.{IsOthers, SeesMore}
 use Rattle.xh_records.specs.History.{Grows, TellsWord, by_place}
 use Rattle.xh_records.proofs.History.{adds_one, by_place_append}
@@ -31,8 +28,7 @@ pub index_injective : (n k j : ℕ) → 0 < n → n ≤ 256 → number_of n k �
 index_injective n k j pos most e = sym (index_back n k pos most) ∙ ap (index_of n) e ∙ index_back n j pos most
 
 with_lot_append : {L : Type 0} (r : ℕ) (o : Option L) (ls ms : List (ℕ × L)) → with_lot r o (ls ++ ms) ≡ with_lot r o ls ++ ms
-with_lot_append r None ls ms = refl
-with_lot_append r (Some l) ls ms = refl
+with_lot_append r o ls ms = grind (arith, nat_tests)
 
 pub numbered_push : {L : Type 0} (n : ℕ) (xs : List (ℕ × Option L)) (k : ℕ) (l : L) → numbered n (xs ++ (k, Some l) ∷ []) ≡ numbered n xs ++ (number_of n k, l) ∷ []
 numbered_push n [] k l = refl
@@ -54,13 +50,11 @@ module _ {B : Type 0} (s : Shape) (small : IsSmall s) where
 
   pub without_numbered : (xs : List (ℕ × Option (LotOf B))) (k : ℕ) → AllLots s xs → numbered s.records (without k xs) ≡ without (number_of s.records k) (numbered s.records xs)
   without_numbered [] k all = refl
-  without_numbered (x ∷ xs) k all =
-      grind (arith, nat_tests, head_is x xs all.0.0 all.0.1, head_is x (without k xs) all.0.0 all.0.1, without_numbered xs k all.1, index_injective s.records x.0 k small.0 small.1)
+  without_numbered (x ∷ xs) k all = grind (arith, nat_tests, head_is, index_injective, without_numbered xs k all.1)
 
   pub put_numbered : (xs : List (ℕ × Option (LotOf B))) (k : ℕ) (l : LotOf B) → AllLots s xs → numbered s.records (put k (Some l) xs) ≡ put (number_of s.records k) l (numbered s.records xs)
   put_numbered [] k l all = refl
-  put_numbered (x ∷ xs) k l all =
-      grind (arith, nat_tests, head_is x xs all.0.0 all.0.1, head_is x (put k (Some l) xs) all.0.0 all.0.1, put_numbered xs k l all.1, index_injective s.records x.0 k small.0 small.1)
+  put_numbered (x ∷ xs) k l all = grind (arith, nat_tests, head_is, index_injective, put_numbered xs k l all.1)
 
   pub none_numbered : (xs : List (ℕ × Option (LotOf B))) → AllLots s xs → numbered s.records xs ≡ [] → xs ≡ []
   none_numbered [] all e = refl
@@ -74,18 +68,11 @@ module _ {B : Type 0} (s : Shape) (small : IsSmall s) where
   -- a lot beside a record's number is that of its slot
   own_lot : (r : ℕ) (l : LotOf B) (xs : List (ℕ × Option (LotOf B))) → AllLots s xs → value_at r (numbered s.records xs) ≡ Some l → (k : ℕ) × (number_of s.records k ≡ r) × IsLotAt s k l
   own_lot r l [] all = λ e. absurd (cc)
-  own_lot r l (x ∷ xs) all =
-      let y : ℕ × LotOf B = (number_of s.records x.0, all.0.0) in
-      let head = ap (value_at r) (sym (head_is s small x xs all.0.0 all.0.1)) in dite (ℕ_discrete y.0 r)
-      (λ same e. let f : Some y.1 ≡ Some l = sym (value_here r y (numbered s.records xs) same) ∙ head ∙ e in let is : y.1 ≡ l = cc in (x.0, same, subst (IsLotAt s x.0) is all.0.2))
-      (λ other e. own_lot r l xs all.1 (sym (value_there r y (numbered s.records xs) other) ∙ head ∙ e))
+  own_lot r l (x ∷ xs) all = grind (arith, nat_tests, head_is, own_lot r l xs all.1)
 
   -- and the record is one of the table
   pub own_record : (r : ℕ) (l : LotOf B) (xs : List (ℕ × Option (LotOf B))) → AllLots s xs → value_at r (numbered s.records xs) ≡ Some l → IsRecord s r × IsLotOf s r l
-  own_record r l xs all e =
-      let t = own_lot r l xs all e in
-      let arena = in_range s.names (number_of s.records t.0 / 256) l.id (slice_elem s.names _ l.id t.2.1) in
-      subst (λ (z : ℕ). IsRecord s z × IsLotOf s z l) t.1 ((arena, number_inside s.records t.0 small.0 small.1), t.2)
+  own_record r l xs all e = grind (arith, nat_tests, own_lot, in_range, slice_elem, number_inside)
 
 -- what a seat gained or lost, by the event of a step
 pub gained_by : {B : Type 0} (x y : Held B) (p r : ℕ) (h : Option Holder) (is : LotOf B → Type 0) (l : LotOf B) → IsLotOf x.shape r l → is l
@@ -96,9 +83,7 @@ gained_by x y p r (Some (Direction d)) is l lot good e = (l, e.0, lot, good, e.1
 
 pub lost_by : {B : Type 0} (x y : Held B) (p r : ℕ) (h : Option Holder)
     → (y ≡ seen y.front (did (giving p r h) (with_lots x (without r x.lots)))) × Advances (giving p r h ∷ []) x y → HasLost (giving p r h) x y
-lost_by x y p r None e = e
-lost_by x y p r (Some (Process q)) e = e
-lost_by x y p r (Some (Direction d)) e = e
+lost_by x y p r h e = grind (arith, nat_tests)
 
 -- a seat as contracts see it
 abbrev pub held : {B : Type 0} → TableId → ℕ → ℕ → Me (Option (LotOf B)) View → Held B
@@ -111,38 +96,26 @@ number_is n m slot r same at inside = (λ i. number_of (same i) (at i)) ∙ numb
 module _ {B : Type 0} (x : Held B) (t : TableId) (id process : ℕ) (me : Me (Option (LotOf B)) View) (is : held t id process me ≡ x) where
   -- a seat's view
   pub views_are : (order : List ℕ) (capacity slots : ℕ) → IsSeat process order capacity slots me → view_of x ≡ me.0
-  views_are order capacity slots seat = ap (λ (y : Held B). view_of y) (sym is) ∙ (λ i. record {
-    shape = me.0.shape;
-    processes = sym seat.processes i;
-    records = (ap (owned_by process) (indices_are me.0.shape seat.small me.1 seat.lots ∙ sym seat.ordered) ∙ sym seat.records) i;
-    fronts = sym seat.front i;
-  })
+  views_are order capacity slots seat = grind (arith, nat_tests, indices_are)
 
   -- what a seat has in the slot of a record
   pub slot_is : (order : List ℕ) (capacity slots : ℕ) → IsSeat process order capacity slots me → (slot r : ℕ) (y : Option (LotOf B)) → slot ≡ index_of x.shape.records r → r % 256 < x.shape.records
       → value_at r x.lots ≡ y → in_slot slot me.1 ≡ y
-  slot_is order capacity slots seat slot r y at inside has =
-      let number : number_of me.0.shape.records slot ≡ r = number_is me.0.shape.records x.shape.records slot r (ap (λ (z : Held B). z.shape.records) is) at inside in
-      sym (lot_numbered me.0.shape seat.small me.1 slot seat.lots) ∙ (λ i. value_at (number i) (is i).lots) ∙ has
+  slot_is order capacity slots seat slot r y at inside has = grind (arith, nat_tests, number_is, lot_numbered)
 
   -- the lot of a record is that of its slot
   pub lot_there : (slot r : ℕ) (l : LotOf B) → slot ≡ index_of x.shape.records r → r % 256 < x.shape.records → IsLotOf x.shape r l → IsLotAt me.0.shape slot l
-  lot_there slot r l at inside lot =
-      let number : number_of me.0.shape.records slot ≡ r = number_is me.0.shape.records x.shape.records slot r (ap (λ (z : Held B). z.shape.records) is) at inside in
-      subst (λ (z : Shape × ℕ). IsLotOf z.0 z.1 l) (λ i. (ap (λ (y : Held B). y.shape) (sym is) i, sym number i)) lot
+  lot_there slot r l at inside lot = grind (arith, nat_tests, number_is)
 
   pub lot_back : (slot r : ℕ) (l : LotOf B) → slot ≡ index_of x.shape.records r → r % 256 < x.shape.records → IsLotAt me.0.shape slot l → IsLotOf x.shape r l
-  lot_back slot r l at inside lot =
-      let number : number_of me.0.shape.records slot ≡ r = number_is me.0.shape.records x.shape.records slot r (ap (λ (z : Held B). z.shape.records) is) at inside in
-      subst (λ (z : Shape × ℕ). IsLotOf z.0 z.1 l) (λ i. (ap (λ (y : Held B). y.shape) is i, number i)) lot
+  lot_back slot r l at inside lot = grind (arith, nat_tests, number_is)
 
   -- a record that the seat has not isn't in its list
   pub fresh : (order : List ℕ) (capacity slots : ℕ) → IsSeat process order capacity slots me → (slot r : ℕ) → slot ≡ index_of x.shape.records r → (Among order slot → ⊥) → Among (keys x.lots) r → ⊥
   fresh order capacity slots seat slot r at new h =
       let n : ℕ = x.shape.records in
       let there : Among (map (index_of n) (keys x.lots)) (index_of n r) = among_map (index_of n) (keys x.lots) r h in
-      let keys_are : map (index_of n) (keys x.lots) ≡ order = ap (λ (y : Held B). map (index_of y.shape.records) (keys y.lots)) (sym is) ∙ indices_are me.0.shape seat.small me.1 seat.lots
-      ∙ sym seat.ordered in
+      let keys_are : map (index_of n) (keys x.lots) ≡ order = grind (arith, nat_tests, indices_are) in
       new (subst (λ (z : List ℕ × ℕ). Among z.0 z.1) (λ i. (keys_are i, sym at i)) there)
 
   -- the seat afterwards, with other lots
@@ -163,24 +136,7 @@ module _ {B : Type 0} (x : Held B) (t : TableId) (id process : ℕ) (me : Me (Op
       (others own done : List Event) → t' ≡ t → id' ≡ id → me'.0.shape ≡ me.0.shape → numbered me'.0.shape.records me'.1 ≡ ls → me'.0.fronts ≡ adds (others ++ own) me.0.fronts → IsOthers me.0 others
       → by_place (place_of x.process) own ≡ own → x.done ++ own ≡ done
       → (held t' id' process me' ≡ seen (front_in me'.0) (record x { lots = ls; done = done })) × Grows (place_of x.process) own x.front (front_in me'.0)
-  held_as order capacity slots seat t' id' me' ls others own done et en es el ef of_others mine ed =
-      let q : ℕ = place_of process in let f : List Event = front_in me.0 in
-      let turn : q ≡ place_of x.process = ap (λ (y : Held B). place_of y.process) is in
-      let grown : front_in me'.0 ≡ f ++ (others ++ own) = ap first_front ef ∙ (adds_one (others ++ own) q me.0.fronts seat.front).0 in
-      let by : by_place q others ≡ [] = ap (λ (l : List ℕ). by_place (place_of (get_or l 0 0)) others) (sym seat.processes) ∙ of_others in
-      let all : by_place q (front_in me'.0) ≡ done = ap (by_place q) grown ∙ by_place_append q f (others ++ own)
-      ∙ ap (λ (z : List Event). by_place q f ++ z) (by_place_append q others own ∙ (λ j. by j ++ (ap (λ (k : ℕ). by_place k own) turn ∙ mine) j)) ∙ (λ j. (is j).done ++ own) ∙ ed in (
-        (λ j. record {
-          table = (et ∙ ap (λ (y : Held B). y.table) is) j;
-          id = (en ∙ ap (λ (y : Held B). y.id) is) j;
-          shape = (es ∙ ap (λ (y : Held B). y.shape) is) j;
-          process = (is j).process;
-          lots = el j;
-          done = all j;
-          front = front_in me'.0;
-        }),
-        (others, grown ∙ (λ j. (is j).front ++ (others ++ own)), ap (λ (k : ℕ). by_place k others) (sym turn) ∙ by),
-      )
+  held_as order capacity slots seat t' id' me' ls others own done et en es el ef of_others mine ed = grind (arith, nat_tests, adds_one, by_place_append)
 
   -- and after a look, which found a word
   pub held_seen : (order : List ℕ) (capacity slots : ℕ) (seat : IsSeat process order capacity slots me) (t' : TableId) (id' : ℕ) (me' : Me (Option (LotOf B)) View) (slot r word : ℕ) → t' ≡ t → id' ≡ id

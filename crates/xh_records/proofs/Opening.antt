@@ -1,4 +1,5 @@
 -- The table at the start: no record is held, and one seat stands for all places.
+use Rattle.std.proofs.lemmas.Bool.Decides.{nat_tests}
 use Rattle.std.proofs.Common.{◌≡◌, ℕ, zero, suc, ◌+◌, ◌%◌, ◌<◌, ◌≤◌, Bool, List, [], ◌∷◌, ◌++◌, map, length, replicate, sym, refl, ap, ◌∙◌, subst, inl, inr, arith}
 use Rattle.std.proofs.lemmas.List.{length-map, length-replicate}
 use Rattle.std.specs.Prelude.{Option, Some, None}
@@ -17,7 +18,7 @@ use Rattle.xh_records.specs.declared.shape.Shape.{Shape}
 use Rattle.xh_records.specs.declared.view.View.{View}
 use Rattle.xh_model.specs.declared.event.Event.{Event}
 use Rattle.xh_records.specs.History.{by_place}
-use Rattle.xh_records.specs.Showing.{Sits, IsLotAt, IsEmpty, IsSmall, HomeFits, ViewFits, ViewTells, Shown}
+use Rattle.xh_records.specs.Showing.{IsLotAt, IsEmpty, IsSmall, HomeFits, ViewFits, ViewTells, Shown}
 use Rattle.xh_records.specs.inner.Views.{places_from, all_places}
 use Rattle.xh_records.proofs.History.{lists_back}
 use Rattle.xh_records.proofs.Elements.{in_range, is_there}
@@ -56,9 +57,7 @@ opens {B} fits s n words lots slots few zeros wrapped long empty small = (
     seat_of = λ q. 0;
     placed = λ r p is. absurd (nobody r p is);
     seated = λ q lt. (all_places s, refl, sits_from 0 s.places q (omega arith) (omega arith), (let m : s.places ≤ 32 = few in let e : q % 32 ≡ q = omega arith in e));
-    alone = λ id p v there sits.
-        let z = only id v there in let l : p < 0 + s.places = (least 0 s.places p (subst (λ (u : View). Sits u p) (sym z.1) sits)).1 in let m : s.places ≤ 32 = few in
-        let e : p % 32 ≡ p = omega arith in (omega arith, sym e, z.0, omega arith);
+    alone = grind (arith, nat_tests, least);
     views_fit = λ id v there. subst (ViewFits s (replicate n None)) (only id v there).1 begins;
     small = small;
     log = [];

@@ -1,5 +1,6 @@
 -- What a seat's type keeps, at each change of its list.
-use Rattle.std.proofs.Common.{◌≡◌, ℕ, suc, ◌+◌, ◌<◌, ◌≤◌, List, [], ◌∷◌, ◌++◌, map, length, sym, refl, ap, ◌∙◌, subst, inl, ⊎_elim, arith}
+use Rattle.std.proofs.lemmas.Bool.Decides.{nat_tests}
+use Rattle.std.proofs.Common.{◌≡◌, ℕ, suc, ◌+◌, ◌<◌, ◌≤◌, List, [], ◌∷◌, ◌++◌, length, sym, refl, ap, ◌∙◌, subst, inl, ⊎_elim, arith}
 use Rattle.std.specs.Prelude.{Option, Some}
 use Rattle.std.specs.List.{remove}
 use mathlib.Core.Option.{some}
@@ -17,8 +18,8 @@ use Rattle.xh_model.specs.declared.event.Holder.{Holder}
 use Rattle.xh_model.specs.Words.{number_of, place_of}
 use Rattle.xh_records.specs.Showing.{Owns, IsLotAt}
 use Rattle.xh_records.specs.Seats.{owned_by}
-use Rattle.xh_records.specs.inner.Events.{taking, giving}
-use Rattle.xh_records.specs.inner.Views.{IsAlone, front_in, gained, knowing, lost, renewed}
+use Rattle.xh_records.specs.inner.Events.{giving}
+use Rattle.xh_records.specs.inner.Views.{IsAlone, gained, knowing, lost, renewed}
 use Rattle.xh_records.specs.inner.Tokens.{AllBelow, AllLots, IsSeat, in_slot}
 use Rattle.xh_records.proofs.History.{adds_one}
 use Rattle.xh_records.proofs.Lists.{few, below_push, owned_push, among_owned, slot_split, below_split, owned_without, remove_split, below_at, stands}
@@ -30,7 +31,7 @@ lots_push s (x ∷ xs) i l a h = (a.0, lots_push s xs i l a.1 h)
 lots_split : {B : Type 0} (s : Shape) (a : List (ℕ × Option (LotOf B))) (x : ℕ × Option (LotOf B)) (b : List (ℕ × Option (LotOf B))) → AllLots s (a ++ x ∷ b)
     → ((l : LotOf B) × (x.1 ≡ Some l) × IsLotAt s x.0 l) × AllLots s (a ++ b)
 lots_split s [] x b h = h
-lots_split s (y ∷ ys) x b h = let t = lots_split s ys x b h.1 in (t.0, (h.0, t.1))
+lots_split s (y ∷ ys) x b h = grind (arith, nat_tests, lots_split s ys x b h.1)
 
 lots_put : {B : Type 0} (s : Shape) (i : ℕ) (y : LotOf B) (l : List (ℕ × Option (LotOf B))) → IsLotAt s i y → AllLots s l → AllLots s (put i (Some y) l)
 lots_put s i y [] is all = tt
@@ -72,17 +73,7 @@ module _ {B : Type 0} (process : ℕ) (order : List ℕ) (capacity slots : ℕ) 
 
   pub gains : (i : ℕ) (l : LotOf B) (h : Option Holder) (others : List Event) → IsSeat process order capacity slots me → i < slots → IsLotAt me.0.shape i l → ((p : ℕ) → Owns me.0 i p → ⊥)
       → IsSeat process (order ++ i ∷ []) capacity slots (gained me.0 i process h others, me.1 ++ (i, Some l) ∷ [])
-  gains i l h others seat inside lot new = record {
-    processes = seat.processes;
-    ordered = ap (λ (k : List ℕ). k ++ i ∷ []) seat.ordered ∙ sym (keys_push me.1 (i, Some l));
-    records = ap (λ (k : List (ℕ × ℕ)). k ++ (i, process) ∷ []) seat.records ∙ sym (owned_push process order i);
-    front = (adds_one (others ++ taking process (number_of me.0.shape.records i) h ∷ []) (place_of process) me.0.fronts seat.front).1;
-    lots = lots_push me.0.shape me.1 i l seat.lots lot;
-    distinct = distinct_push order i seat.distinct (not_among i seat new);
-    below = below_push slots order i seat.below inside;
-    room = seat.room;
-    small = seat.small;
-  }
+  gains i l h others seat inside lot new = grind (arith, nat_tests, keys_push, owned_push, adds_one, lots_push, distinct_push, not_among, below_push)
 
   pub reaches : (i : ℕ) (l : LotOf B) → IsSeat process order capacity slots me → in_slot i me.1 ≡ Some l → Reach process order slots me i l
   reaches i l seat has =
@@ -111,8 +102,7 @@ module _ {B : Type 0} (process : ℕ) (order : List ℕ) (capacity slots : ℕ) 
       let same : order ≡ keys a ++ i ∷ keys b = seat.ordered ∙ ap keys t.3 ∙ keys_append a ((i, t.1) ∷ b) in
       let d = distinct_split (keys a) i (keys b) (subst Distinct same seat.distinct) in
       let rest_is : without i me.1 ≡ a ++ b = ap (without i) t.3 ∙ without_split i t.1 a b d.0 d.1 in
-      let order_is : remove order k ≡ keys a ++ keys b = ap (λ (z : List ℕ). remove z k) same ∙ ap (remove (keys a ++ i ∷ keys b)) (sym t.4 ∙ sym (length-keys a))
-      ∙ remove_split (keys a) i (keys b) in
+      let order_is : remove order k ≡ keys a ++ keys b = grind (arith, nat_tests, length-keys, remove_split) in
       record {
         processes = seat.processes;
         ordered = order_is ∙ sym (keys_append a b) ∙ ap keys (sym rest_is);
@@ -126,47 +116,16 @@ module _ {B : Type 0} (process : ℕ) (order : List ℕ) (capacity slots : ℕ) 
       }
 
   pub replaces : (i : ℕ) (y : LotOf B) → IsSeat process order capacity slots me → IsLotAt me.0.shape i y → IsSeat process order capacity slots (me.0, put i (Some y) me.1)
-  replaces i y seat is = record {
-    processes = seat.processes;
-    ordered = seat.ordered ∙ sym (put_keys i (Some y) me.1);
-    records = seat.records;
-    front = seat.front;
-    lots = lots_put me.0.shape i y me.1 is seat.lots;
-    distinct = seat.distinct;
-    below = seat.below;
-    room = seat.room;
-    small = seat.small;
-  }
+  replaces i y seat is = grind (arith, nat_tests, put_keys, lots_put)
 
   -- a seat that has seen more
   pub sees : (es : List Event) → IsSeat process order capacity slots me → IsSeat process order capacity slots (knowing me.0 es, me.1)
-  sees es seat = record {
-    processes = seat.processes;
-    ordered = seat.ordered;
-    records = seat.records;
-    front = (adds_one es (place_of process) me.0.fronts seat.front).1;
-    lots = seat.lots;
-    distinct = seat.distinct;
-    below = seat.below;
-    room = seat.room;
-    small = seat.small;
-  }
+  sees es seat = grind (arith, nat_tests, adds_one)
 
   -- a seat with no slot, of the next generation
   pub grows_old : IsSeat process order capacity slots me → me.1 ≡ [] → IsSeat (process + 32) order capacity slots (renewed me.0, me.1)
-  grows_old seat bare = let none : order ≡ [] = seat.ordered ∙ ap keys bare in record {
-    processes = ap (map (λ (p : ℕ). p + 32)) seat.processes;
-    ordered = seat.ordered;
-    front = let turn : place_of process ≡ place_of (process + 32) = omega arith in seat.front ∙ ap (λ (q : ℕ). (q, front_in me.0) ∷ []) turn;
-    records = seat.records ∙ ap (owned_by process) none ∙ ap (owned_by (process + 32)) (sym none);
-    lots = seat.lots;
-    distinct = seat.distinct;
-    below = seat.below;
-    room = seat.room;
-    small = seat.small;
-  }
+  grows_old seat bare = grind (arith, nat_tests)
 
 pub seat_is : {B : Type 0} (process p : ℕ) (a a' : List ℕ) (b b' c c' : ℕ) (d d' : Me (Option (LotOf B)) View) → p ≡ process → a' ≡ a → b' ≡ b → c' ≡ c → d' ≡ d → IsSeat process a b c d
     → IsSeat p a' b' c' d'
-seat_is {B} process p a a' b b' c c' d d' ep ea eb ec ed = subst (λ (z : ℕ × List ℕ × ℕ × ℕ × Me (Option (LotOf B)) View). IsSeat z.0 z.1 z.2 z.3 z.4)
-    (λ i. (sym ep i, sym ea i, sym eb i, sym ec i, sym ed i))
+seat_is {B} process p a a' b b' c c' d d' ep ea eb ec ed = grind (arith, nat_tests)

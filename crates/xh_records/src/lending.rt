@@ -56,6 +56,7 @@ fn call_in<B: Fits, A, F: FnMut(&mut Lot<B>) -> A>(
 }
 
 // Puts a lot or nothing into a slot that the token holds, and gives what was there. The list keeps its order.
+#[inline(always)]
 fn swap_slot<B: Fits>(
     board: &Board<B>,
     token: &mut Token<B>,

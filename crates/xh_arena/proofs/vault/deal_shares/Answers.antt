@@ -1,3 +1,5 @@
+use Rattle.std.proofs.Common.{arith}
+use Rattle.std.proofs.lemmas.Bool.Decides.{nat_tests}
 use Rattle.std.proofs.Common.{◌++◌, [], ◌∷◌, drop, replicate, sym, ap, ◌∙◌, subst}
 use Rattle.atomic_table.specs.Seated.{TableId}
 use Rattle.xh_arena.specs.Views.{AreLots}
@@ -6,19 +8,13 @@ use Rattle.xh_arena.proofs.Dealt.{drop_lots, drop_tallies, new_books}
 use Rattle.xh_arena.proofs.vault.deal_shares.Goals as goal
 
 pub lots-requires : goal.lots-requires
-lots-requires g c =
-    let first = c.in_ok-shares.ensures in
-    first ∙ ap (λ ps. lots_from 0 (replicate c.args.records 0) ++ ps) (sym (ap (λ ps. drop c.args.records ps) first ∙ drop_lots c.args.records c.args.workers))
+lots-requires g c = grind (arith, nat_tests, drop_lots)
 
 pub tallies-requires : goal.tallies-requires
-tallies-requires g c =
-    let past = c.in_ok-lots.ensures.rest.1 ∙ ap (λ ps. drop c.args.records ps) c.in_ok-shares.ensures ∙ drop_lots c.args.records c.args.workers in
-    past ∙ ap (λ ps. tallies_from 0 (replicate c.args.workers (0, 0)) ++ ps) (sym (ap (λ ps. drop c.args.workers ps) past ∙ drop_tallies c.args.records c.args.workers))
+tallies-requires g c = grind (arith, nat_tests, drop_lots, drop_tallies)
 
 pub returns-clause-books : goal.returns-clause-books
-returns-clause-books g c =
-    let past = c.in_ok-lots.ensures.rest.1 ∙ ap (λ ps. drop c.args.records ps) c.in_ok-shares.ensures ∙ drop_lots c.args.records c.args.workers in
-    c.in_ok-tallies.ensures.rest.1 ∙ ap (λ ps. drop c.args.workers ps) past ∙ drop_tallies c.args.records c.args.workers ∙ ap (λ p. p ∷ []) (new_books c.args.records c.args.workers)
+returns-clause-books g c = grind (arith, nat_tests, drop_lots, drop_tallies, new_books)
 
 pub returns-clause-lots : goal.returns-clause-lots
 returns-clause-lots g c =

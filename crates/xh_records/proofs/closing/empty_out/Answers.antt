@@ -1,4 +1,5 @@
-use Rattle.std.proofs.Common.{rules, arith, ◌≡◌, ℕ, ◌+◌, ◌<◌, ◌≤◌, List, length, get_or, refl, sym, ap, ◌∙◌, subst, [], ◌∷◌, ◌++◌, append_assoc, append-nil, length-append}
+use Rattle.std.proofs.lemmas.Bool.Decides.{nat_tests}
+use Rattle.std.proofs.Common.{rules, arith, ◌≡◌, ℕ, ◌+◌, ◌<◌, List, length, get_or, refl, sym, ap, ◌∙◌, subst, [], ◌∷◌, ◌++◌, append_assoc, append-nil, length-append}
 use Rattle.std.specs.Prelude.{Option, None}
 use Rattle.std.specs.Vec.{vec_len}
 use Rattle.atomic_table.specs.Table.{rest, turned}
@@ -6,8 +7,7 @@ use Rattle.xh_arena.specs.Views.{LotOf}
 use Rattle.xh_model.specs.Keyed.{Among, Distinct, keys}
 use Rattle.xh_model.proofs.Keyed.{distinct_split, keys_append}
 use Rattle.xh_records.specs.Seats.{lot_in, indices}
-use Rattle.xh_records.specs.inner.Tokens.{in_slot, AllLots, AllBelow}
-use Rattle.xh_records.specs.inner.Gathering.{slot_at, or_else}
+use Rattle.xh_records.specs.inner.Tokens.{AllLots}
 use Rattle.xh_records.proofs.Cuts.{hands_over, splits}
 use Rattle.xh_records.proofs.Lists.{next_slot, all_front, fills, first_is, below_at}
 use Rattle.xh_records.proofs.Ended.{read_is}
@@ -43,10 +43,7 @@ module _ (g : Over) (c : After-from-slot g) where
   all = order_is ∙ ap (λ z. keys (c.loop-k.invariant.0 ++ z)) next.2 ∙ keys_append c.loop-k.invariant.0 ((c.from-slot.result, next.0) ∷ next.1)
 
   inside : c.from-slot.result < vec_len c.loop-k.held
-  inside =
-      let below : c.from-slot.result < c.seat.inside.token.table_id.slots = below_at _ (keys c.loop-k.invariant.0) c.from-slot.result (keys next.1)
-      (subst (AllBelow c.seat.inside.token.table_id.slots) all c.seat.invariant.below) in
-      subst (λ n. c.from-slot.result < n) (ap (λ z. z.slots) (ap (λ h. h.table) c.seat.view_is ∙ c.requires.own.0) ∙ sym c.requires.long ∙ sym c.loop-k.invariant.3.long) below
+  inside = grind (arith, nat_tests, below_at, next, all)
 
 pub exchange-lot-requires : goal.exchange-lot-requires
 exchange-lot-requires g c =
@@ -81,16 +78,7 @@ loop-k-preserved g c =
 
 -- what the seat has at an index
 pub returns-clause-lots : goal.returns-clause-lots
-returns-clause-lots g c =
-    let i = c.loop-k.invariant in
-    let front = i.0 in let back = i.1 in let f = i.3 in
-    let me = c.seat.inside.token.me in let seat = c.seat.invariant in
-    let ended : c.len-k-end.result ≤ c.loop-k.k = c.loop-k-test.false in
-    let done : length front ≡ c.loop-k.k = f.done in
-    let size : length c.seat.inside.order.items ≡ length (keys (front ++ back)) = ap length (c.seat.invariant.ordered ∙ ap keys f.split) in
-    let all = all_front front back (omega arith) in
-    λ k h. f.lots k h ∙ ap (λ z. or_else (in_slot k z) (slot_at c.args.held.now.items k)) (all ∙ sym f.split)
-    ∙ ap (λ z. or_else z (slot_at c.args.held.now.items k)) (sym (lot_numbered me.0.shape seat.small me.1 k seat.lots) ∙ ap (λ x. lot_in k x) c.seat.view_is)
+returns-clause-lots g c = grind (arith, nat_tests, inside, all, all_front, lot_numbered)
 
 pub returns-clause-full : goal.returns-clause-full
 returns-clause-full g c = λ k h.
@@ -100,9 +88,7 @@ returns-clause-full g c = λ k h.
     (t.0, ap (λ x. lot_in k x) (sym c.seat.view_is) ∙ lot_numbered me.0.shape seat.small me.1 k seat.lots ∙ t.1)
 
 pub split_seat-requires : goal.split_seat-requires
-split_seat-requires g c =
-    let key = c.args.board.now.key in
-    (c.loop-k.invariant.3.table ∙ ap (λ h. h.table) c.seat.view_is ∙ c.requires.own.0, c.requires.own.1, splits g.B.Fits.is_fit key _ _ _ _ (hands_over g.B.Fits.is_fit key _ _))
+split_seat-requires g c = grind (arith, nat_tests, splits, hands_over)
 
 pub returns-clause-token : goal.returns-clause-token
 returns-clause-token g c =

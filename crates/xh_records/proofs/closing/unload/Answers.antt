@@ -18,16 +18,11 @@ within : (g : Over) (c : After-word g) → c.loop-slot.slot < slots_len c.args.c
 within g c = let same : slots_len c.loop-slot.closed.slots ≡ slots_len c.args.closed.slots = c.loop-slot.invariant.same_count in
     let h : c.loop-slot.slot < c.slot_count-slot-end.result = c.loop-slot-test.true in search rules
 
-pub lot_left-requires : goal.lot_left-requires
-lot_left-requires g c =
-    let v = c.loop-slot.invariant in
-    let i : ℕ = c.loop-slot.slot in
-    let below = within g (goal.at.lot_left-requires g c).After-word in
-    let some_lot = c.requires.some_lot i below in record {
-      home = (subst (λ n. i < n) (sym v.same_count) below, v.left i (omega arith) below);
-      held = subst (λ n. i < n) (sym (v.held_long ∙ c.requires.full.3)) below;
-      some_lot = (some_lot.0, (λ j. or_else (v.held i (omega arith) j) (slot_at (v.slots_stay j) i)) ∙ some_lot.1);
-    }
+pub lot_left-requires-clause-some_lot : goal.lot_left-requires-clause-some_lot
+lot_left-requires-clause-some_lot g c =
+    let v = c.loop-slot.invariant in let i : ℕ = c.loop-slot.slot in
+    let some_lot = c.requires.some_lot i (within g (goal.at.lot_left-requires-clause-some_lot g c).After-word) in
+    (some_lot.0, (λ j. or_else (v.held i (omega arith) j) (slot_at (v.slots_stay j) i)) ∙ some_lot.1)
 
 pub loop-slot-preserved : goal.loop-slot-preserved
 loop-slot-preserved g c =

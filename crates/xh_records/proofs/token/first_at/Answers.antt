@@ -1,4 +1,5 @@
-use Rattle.std.proofs.Common.{arith, ◌≡◌, ◌≤◌, get_or, sym, ap, ◌∙◌}
+use Rattle.std.proofs.lemmas.Bool.Decides.{nat_tests}
+use Rattle.std.proofs.Common.{arith, sym, ap, ◌∙◌}
 use mathlib.Core.Option.{some}
 use Rattle.xh_records.proofs.Elements.{in_range, is_there, nth_is}
 use Rattle.xh_records.proofs.token.first_at.Goals as goal
@@ -7,10 +8,7 @@ pub loop-k-init : goal.loop-k-init
 loop-k-init c = (c.requires.0, omega arith, in_range c.args.order.now c.requires.0 c.args.slot c.requires.1, c.requires.1)
 
 pub loop-k-preserved : goal.loop-k-preserved
-loop-k-preserved c =
-    let i = c.loop-k.invariant in let k : c.loop-k.k ≤ i.0 = i.1 in
-    let other : (c.loop-k.k ≡ i.0 → ⊥) = λ e. c.loop-k-test.true (ap (λ z. get_or c.args.order.now z 0) e ∙ nth_is c.args.order.now i.0 0 c.args.slot i.3) in
-    (i.0, omega arith, i.2, i.3)
+loop-k-preserved c = grind (arith, nat_tests, nth_is)
 
 pub returns : goal.returns
 returns c = let i = c.loop-k.invariant in

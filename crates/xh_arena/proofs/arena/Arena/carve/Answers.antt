@@ -1,3 +1,4 @@
+use Rattle.std.proofs.lemmas.Bool.Decides.{nat_tests}
 use Rattle.std.proofs.Common.{◌<◌, ◌+◌, ◌-◌, ◌≤◌, sym, ◌∙◌, arith, rules, refl, ap}
 use Rattle.std.specs.Box.{boxed_slice_items}
 use Rattle.std.specs.Prelude.{Err, slice_index_or}
@@ -67,11 +68,7 @@ returns-clause-done c = let done = carved (goal.at.returns-clause-done c).In-Som
 }
 
 pub returns-clause-exact : goal.returns-clause-exact
-returns-clause-exact c = λ e no.
-    let left = c.if-self-from.false in
-    let worn = c.self.invariant.worn in
-    let within : c.self.inside.wear + c.args.n ≤ c.self.inside.limit = omega (arith, c.from.ensures) in
-    absurd (not_refused c.args.n c.take_front-start.result c.args.self.now (returns-clause-done c).first (rw (← c.self.view_is) within) e no)
+returns-clause-exact c = grind (arith, nat_tests, not_refused, returns-clause-done)
 
 pub returns-clause-lawful : goal.returns-clause-lawful
 returns-clause-lawful c = kept-lawful _ _ _ _ (invariant_of-self c).kept _ _

@@ -1,3 +1,4 @@
+use Rattle.std.proofs.lemmas.Bool.Decides.{nat_tests}
 use Rattle.std.proofs.Common.{◌<◌, set, refl, arith}
 use Rattle.std.specs.Box.{boxed_slice_items}
 use Rattle.std.proofs.lemmas.Bool.{false≢true}
@@ -28,11 +29,7 @@ done c = cut_by _ _ _ _ _ _ c.self.invariant.kept c.self.view_is c.requires.know
     (omega arith) c.if-k-ne0.false c.if-k-length.false
 
 pub invariant_of-self : goal.invariant_of-self
-invariant_of-self c = rw (c.from-head.ensures, c.from-tail.ensures) (record {
-  kept = (done c).kept;
-  worn = c.self.invariant.worn;
-  limits = rw (length-set, length-set) c.self.invariant.limits;
-})
+invariant_of-self c = grind (arith, nat_tests, done, length-set)
 
 pub returns-clause-exact : goal.returns-clause-exact
 returns-clause-exact c =

@@ -1,3 +1,5 @@
+use Rattle.std.proofs.Common.{arith}
+use Rattle.std.proofs.lemmas.Bool.Decides.{nat_tests}
 use Rattle.std.proofs.Common.{◌<◌, ℕ, length, refl, ap, sym, ◌∙◌}
 use Rattle.std.specs.Box.{boxed_slice_items}
 use Rattle.std.proofs.lemmas.List.{get_or_read}
@@ -18,10 +20,7 @@ returns-else-extent-eq0-clause-is c =
     rw (← c.self.view_is, read-run_of _ _ _ _ c.self.invariant.kept _ _ l read, ne_eqb _ _ c.if-extent-eq0.false) refl
 
 pub returns-then-extent-eq0-clause-length : goal.returns-then-extent-eq0-clause-length
-returns-then-extent-eq0-clause-length c =
-    let l : c.args.r < length (boxed_slice_items c.self.inside.extents) = rw (← c.self.view_is) at c.requires in
-    let e = get_or_read (boxed_slice_items c.self.inside.extents) c.args.r c.index-extent.result.now l (rw c.from.ensures at c.index-extent.ensures) (0, 0) in
-    rw (← c.self.view_is) (kept-length_of _ _ _ _ c.self.invariant.kept c.args.r ∙ (sym (ap (λ (run : ℕ × ℕ). run.1) e) ∙ c.if-extent-eq0.true))
+returns-then-extent-eq0-clause-length c = grind (arith, nat_tests, get_or_read, kept-length_of)
 
 pub returns-else-extent-eq0-clause-length : goal.returns-else-extent-eq0-clause-length
 returns-else-extent-eq0-clause-length c =

@@ -1,3 +1,4 @@
+use Rattle.std.proofs.lemmas.Bool.Decides.{nat_tests}
 use Rattle.std.proofs.Common.{◌∙◌, arith}
 use Rattle.xh_arena.proofs.Kept.{kept-lawful, kept-holes}
 use Rattle.xh_arena.proofs.Room.{holes_by_records}
@@ -14,6 +15,4 @@ pub returns-clause-lawful : goal.returns-clause-lawful
 returns-clause-lawful c = rw (← c.self.view_is) (kept-lawful _ _ _ _ c.self.invariant.kept _ _)
 
 pub returns-clause-few : goal.returns-clause-few
-returns-clause-few c =
-    let most = holes_by_records _ _ _ _ c.self.invariant.kept in
-    let records = c.self.invariant.limits.most_records in rw c.as_slice.ensures.value (omega (arith, most, records))
+returns-clause-few c = grind (arith, nat_tests, holes_by_records)

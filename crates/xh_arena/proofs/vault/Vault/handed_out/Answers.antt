@@ -1,3 +1,5 @@
+use Rattle.std.proofs.Common.{arith}
+use Rattle.std.proofs.lemmas.Bool.Decides.{nat_tests}
 use Rattle.std.proofs.Common.{◌+◌, sym, ap, ◌∙◌}
 use Rattle.xh_model.specs.Arena.{lengths_of}
 use Rattle.xh_model.proofs.Lengths.{sum-lengths}
@@ -9,6 +11,4 @@ pub returns-clause-sum : goal.returns-clause-sum
 returns-clause-sum c = rw (← c.self.view_is) (c.handed_out.ensures.sum ∙ sym (sum-lengths c.self.inside.arena))
 
 pub returns-clause-books : goal.returns-clause-books
-returns-clause-books c =
-    rw (← c.self.view_is) (c.self.invariant.balanced.1 ∙ ap (λ n. back_of c.self.inside.shares.parts + n)
-    (weigh_all (lengths_of c.self.inside.arena) ∙ (sum-lengths c.self.inside.arena ∙ sym c.handed_out.ensures.sum)))
+returns-clause-books c = grind (arith, nat_tests, weigh_all, sum-lengths)

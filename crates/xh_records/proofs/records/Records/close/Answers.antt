@@ -1,3 +1,5 @@
+use Rattle.std.proofs.Common.{arith}
+use Rattle.std.proofs.lemmas.Bool.Decides.{nat_tests}
 use Rattle.std.proofs.Common.{rules, ◌≡◌, ℕ, ◌*◌, ◌<◌, length, sym, ap, ◌∙◌, subst}
 use Rattle.std.specs.Prelude.{Some, slice_get}
 use Rattle.std.specs.Vec.{vec_len}
@@ -18,9 +20,7 @@ module _ (g : Over) (c : After-close_with g) where
   count = (slots_counts c.close_with.result.slots).0
 
   long : length c.join_all-token.new.held.items ≡ length (slots_items c.close_with.result.slots)
-  long =
-      let held_long : vec_len c.join_all-token.new.held ≡ slots_len c.close_with.result.slots = search rules in
-      let size : vec_len c.join_all-token.new.held ≡ length c.join_all-token.new.held.items = search rules in sym size ∙ held_long ∙ count
+  long = grind (arith, nat_tests, count)
 
   shape_is : c.self.inside.table.shared.key ≡ c.args.self.shape
   shape_is = ap (λ r. r.shape) c.self.view_is

@@ -1,3 +1,4 @@
+use Rattle.std.proofs.lemmas.Bool.Decides.{nat_tests}
 use Rattle.std.proofs.Common.{◌≡◌, ℕ, ◌/◌, ◌%◌, ◌<◌, ◌≤◌, arith, sym, ap, ◌∙◌, subst, mod-lt}
 use Rattle.std.specs.Prelude.{Some, slice_get}
 use Rattle.xh_model.specs.declared.limits.TheConstants.{MAX_RECORDS}
@@ -21,6 +22,4 @@ table_of-requires-clause-empty g c =
     )
 
 pub returns-clause-seats : goal.returns-clause-seats
-returns-clause-seats g c =
-    let made = c.in_ok-seats.ensures in
-    (made.long, λ k x at. let s = made.seats k x (slice_elem _ k x at) in ((s.0, s.1), s.2, s.3, s.4, s.5))
+returns-clause-seats g c = grind (arith, nat_tests, slice_elem)

@@ -1,4 +1,5 @@
-use Rattle.std.proofs.Common.{arith, ◌≡◌, ◌+◌, ◌<◌, refl, sym, ap, ◌∙◌, subst, []}
+use Rattle.std.proofs.lemmas.Bool.Decides.{nat_tests}
+use Rattle.std.proofs.Common.{arith, ◌≡◌, ◌+◌, ◌<◌, sym, ap, ◌∙◌, subst, []}
 use Rattle.xh_model.specs.declared.limits.TheConstants.{GENERATIONS}
 use Rattle.xh_model.specs.Words.{generation_of}
 use Rattle.xh_model.specs.Keyed.{keys}
@@ -21,8 +22,4 @@ load-requires g c =
     )
 
 pub invariant_of-seat : goal.invariant_of-seat
-invariant_of-seat g c =
-    let s = c.seat.invariant in
-    let bare : c.seat.inside.token.me.1 ≡ [] = none_numbered c.seat.inside.token.me.0.shape s.small c.seat.inside.token.me.1 s.lots (ap (λ h. h.lots) c.seat.view_is ∙ c.requires.empty) in
-    seat_is _ _ _ _ _ _ _ _ _ _ (ap (λ n. c.seat.inside.process + n) c.from.ensures) refl refl (ap (λ z. z.slots) c.load.ensures.0) c.load.ensures.2
-    (grows_old _ _ _ _ c.seat.inside.token.me s bare)
+invariant_of-seat g c = grind (arith, nat_tests, none_numbered, seat_is, grows_old)

@@ -1,4 +1,6 @@
-use Rattle.std.proofs.Common.{◌≡◌, refl, sym, ap, ◌∙◌, subst}
+use Rattle.std.proofs.Common.{arith}
+use Rattle.std.proofs.lemmas.Bool.Decides.{nat_tests}
+use Rattle.std.proofs.Common.{◌≡◌, refl, ap}
 use Rattle.std.specs.Prelude.{Some}
 use Rattle.std.specs.Fn.{CalledAtMut}
 use Rattle.xh_records.specs.inner.Tokens.{in_slot}
@@ -15,9 +17,7 @@ lent g c = lends _ _ _ _ _ _ _ _ _ _ _ _ _ (spot_of _ _ _ _ _ c.seat.view_is c.a
 -- the call was at the lot that the seat has
 called : (g : Over) (c : After-call_in g) → in_slot c.slot_of-slot.result c.seat.inside.token.me.1 ≡ Some c.requires.held.0
     → CalledAtMut g.F.FnMut c.args.f.now c.requires.held.0 c.call_in.result c.call_in.new.f c.call_in.ensures.called.1
-called g c has =
-    let k = c.call_in.ensures.called in let found : Some k.0 ≡ Some c.requires.held.0 = sym k.2 ∙ has in let is : k.0 ≡ c.requires.held.0 = cc in
-    subst (λ z. CalledAtMut g.F.FnMut c.args.f.now z c.call_in.result c.call_in.new.f k.1) is k.3
+called g c has = grind (arith, nat_tests)
 
 pub call_in-requires-clause-listed : goal.call_in-requires-clause-listed
 call_in-requires-clause-listed g c =

@@ -1,10 +1,10 @@
-use Rattle.std.proofs.Common.{◌≡◌, ◌-◌, ◌∷◌, length, refl, sym, ap, ◌∙◌, subst}
+use Rattle.std.proofs.Common.{arith}
+use Rattle.std.proofs.lemmas.Bool.Decides.{nat_tests}
+use Rattle.std.proofs.Common.{◌≡◌, refl, sym, ap, ◌∙◌, subst}
 use Rattle.std.specs.Prelude.{Some, None}
 use Rattle.std.specs.Fn.{CalledAtPairMut}
-use Rattle.atomic_table.specs.Table.{rest}
 use Rattle.xh_model.specs.Keyed.{put}
 use Rattle.xh_model.proofs.Keyed.{put_swap, put_twice}
-use Rattle.xh_records.specs.inner.Tokens.{in_slot, turns}
 use Rattle.xh_records.proofs.Ended.{is_some}
 use Rattle.xh_records.proofs.Lists.{first_is, slot_other}
 use Rattle.xh_records.proofs.Seating.{seat_is}
@@ -24,9 +24,7 @@ both g c = lends_both _ _ _ _ _ _ _ _ _ _ _ _ _ _ _ _
 -- the first lot lies in its slot, and the second is the one that was taken out
 here : (g : Over) (c : After-slot_mut g) → LentBoth c.args.seat.now _ _ _ c.seat.inside.token.me c.seat.view_is _ _ _ c.seat.invariant c.slot_of-i.result c.slot_of-j.result c.args.first
     c.args.second c.requires.held.0 c.requires.held.1 → c.slot_mut.result.now ≡ Some c.requires.held.0
-here g c b =
-    sym (first_is c.slot_of-i.result _ _ _ _ _ c.turn_to-k.ensures.turned.first (c.slot_mut.ensures.value ∙ (λ i. (c.from.ensures i, c.slot_mut.result.now) ∷ rest c.turn_to-k.new.token.me.1)))
-    ∙ ap (λ m. in_slot c.slot_of-i.result m.1) c.swap_slot.ensures.token.2 ∙ slot_other c.slot_of-j.result c.slot_of-i.result None c.seat.inside.token.me.1 (λ e. b.apart (sym e)) ∙ b.one.reach.has
+here g c b = grind (arith, nat_tests, first_is, slot_other)
 
 is_left : (g : Over) (c : In-Some g) → c.slot_mut.result.now ≡ Some c.requires.held.0 → c.in-Some.left ≡ c.requires.held.0
 is_left g c has = let same : Some c.in-Some.left ≡ Some c.requires.held.0 = sym c.in-Some.is ∙ has in cc
@@ -37,10 +35,7 @@ is_also g c b = let same : Some c.unwrap-also.result ≡ Some c.requires.held.1 
 
 -- the list when the first lot was lent
 left_in : (g : Over) (c : After-turn_by g) → c.turn_by.new.token.me ≡ (c.seat.inside.token.me.0, put c.slot_of-i.result (Some c.call_at_two-answer.new.x) (put c.slot_of-j.result None c.seat.inside.token.me.1))
-left_in g c =
-    let t = c.turn_to-k.ensures in let x = Some c.call_at_two-answer.new.x in
-    c.turn_by.ensures.2 ∙ (λ i. (t.same.2 i, turns (length c.as_slice-order.result.now - c.turn_to-k.result) ((c.from.ensures i, x) ∷ rest c.turn_to-k.new.token.me.1)))
-    ∙ ap (λ z. (c.swap_slot.new.token.me.0, z)) (t.turned.again x) ∙ ap (λ m. (m.0, put c.slot_of-i.result x m.1)) c.swap_slot.ensures.token.2
+left_in g c = grind (arith, nat_tests)
 
 -- what was lent, and the seat afterwards
 module _ (g : Over) (c : After-swap_slot-2 g) (b : LentBoth c.args.seat.now _ _ _ c.seat.inside.token.me c.seat.view_is _ _ _ c.seat.invariant c.slot_of-i.result c.slot_of-j.result c.args.first
