@@ -13,40 +13,36 @@ mod waits;
 
 use answers::Answer::{self, Refused as No, Sent, Shut as Closed, Taken, Turn};
 use answers::Call::{self, Put, Shut, Take, Turn as Look};
-use answers::assert_on_next;
 use arrayvec::ArrayVec;
-use scenes::{Act, Scene, play};
+use opening::{FREE, ONE_WAY};
+use scenes::{Act, Scene, play, play_grown};
 use std::alloc::Global;
 use std::fmt::Display;
-use std::test::Fail;
-use xh_channel::{Channels, Refused, Unsent};
+use xh_channel::{Refused, Unsent};
 
 #[test]
-fn a_cancelled_number_is_free_again(rt: HostRuntime) -> Result<(), Fail> {
-    play(&rt, rt.alloc(), 1, Scene::FreeAgain)?;
-    Ok(())
+fn a_cancelled_number_is_free_again(rt: HostRuntime) {
+    play(&rt, rt.alloc(), 1, Scene::FreeAgain);
 }
 
 #[test]
-fn a_pair_of_other_channels_goes_back_there(rt: HostRuntime) -> Result<(), Fail> {
-    play(&rt, rt.alloc(), 1, Scene::GoesBack)?;
-    Ok(())
+fn a_pair_of_other_channels_goes_back_there(rt: HostRuntime) {
+    play(&rt, rt.alloc(), 1, Scene::GoesBack);
 }
 
 #[test]
-fn ends_use_their_own_rooms(rt: HostRuntime) -> Result<(), Fail> {
-    play(&rt, rt.alloc(), 2, Scene::OwnRooms)?;
-    Ok(())
+fn ends_use_their_own_rooms(rt: HostRuntime) {
+    play(&rt, rt.alloc(), 2, Scene::OwnRooms(FREE));
+    play(&rt, rt.alloc(), 2, Scene::OwnRooms(ONE_WAY));
 }
 
 #[test]
-fn channels_run_out(rt: HostRuntime) -> Result<(), Fail> {
-    play(&rt, rt.alloc(), 1, Scene::AllOpen)?;
-    Ok(())
+fn channels_run_out(rt: HostRuntime) {
+    play(&rt, rt.alloc(), 1, Scene::AllOpen(FREE));
 }
 
 #[test]
-fn direction_until_shut(rt: HostRuntime) -> Result<(), Fail> {
+fn direction_until_shut(rt: HostRuntime) {
     const CALLS: &[(u8, Call, Answer)] = &[
         (0, Put(5, None), Sent(1)),
         (0, Put(5, Some(7)), Sent(2)),
@@ -57,12 +53,11 @@ fn direction_until_shut(rt: HostRuntime) -> Result<(), Fail> {
         (1, Take, No(15, None)),
         (1, Put(5, Some(9)), No(15, Some(9))),
     ];
-    play(&rt, rt.alloc(), 2, Scene::Calls(CALLS))?;
-    Ok(())
+    play(&rt, rt.alloc(), 2, Scene::Each(FREE, Act::Calls(CALLS), 1));
 }
 
 #[test]
-fn what_an_end_sends_it_does_not_take(rt: HostRuntime) -> Result<(), Fail> {
+fn what_an_end_sends_it_does_not_take(rt: HostRuntime) {
     const CALLS: &[(u8, Call, Answer)] = &[
         (0, Put(5, Some(7)), Sent(1)),
         (0, Take, No(16, None)),
@@ -70,12 +65,11 @@ fn what_an_end_sends_it_does_not_take(rt: HostRuntime) -> Result<(), Fail> {
         (0, Take, Taken(1, 6, Some(8))),
         (1, Take, Taken(1, 5, Some(7))),
     ];
-    play(&rt, rt.alloc(), 2, Scene::Calls(CALLS))?;
-    Ok(())
+    play(&rt, rt.alloc(), 2, Scene::Each(FREE, Act::Calls(CALLS), 1));
 }
 
 #[test]
-fn an_end_that_was_shut_takes_what_is_left(rt: HostRuntime) -> Result<(), Fail> {
+fn an_end_that_was_shut_takes_what_is_left(rt: HostRuntime) {
     const CALLS: &[(u8, Call, Answer)] = &[
         (0, Put(5, Some(7)), Sent(1)),
         (1, Shut, Closed),
@@ -83,24 +77,21 @@ fn an_end_that_was_shut_takes_what_is_left(rt: HostRuntime) -> Result<(), Fail> 
         (1, Take, Taken(1, 5, Some(7))),
         (1, Take, No(16, None)),
     ];
-    play(&rt, rt.alloc(), 2, Scene::Calls(CALLS))?;
-    Ok(())
+    play(&rt, rt.alloc(), 2, Scene::Each(FREE, Act::Calls(CALLS), 1));
 }
 
 #[test]
-fn a_message_has_all_its_blocks(rt: HostRuntime) -> Result<(), Fail> {
-    play(&rt, rt.alloc(), 1, Scene::Each(Act::AllBlocks, 1))?;
-    Ok(())
+fn a_message_has_all_its_blocks(rt: HostRuntime) {
+    play(&rt, rt.alloc(), 1, Scene::Each(FREE, Act::AllBlocks, 1));
 }
 
 #[test]
-fn refusals_keep_what_is_known(rt: HostRuntime) -> Result<(), Fail> {
-    play(&rt, rt.alloc(), 1, Scene::Each(Act::Refusals, 1))?;
-    Ok(())
+fn refusals_keep_what_is_known(rt: HostRuntime) {
+    play(&rt, rt.alloc(), 1, Scene::Each(FREE, Act::Refusals, 1));
 }
 
 #[test]
-fn the_turn_rises_with_each_put_and_shut(rt: HostRuntime) -> Result<(), Fail> {
+fn the_turn_rises_with_each_put_and_shut(rt: HostRuntime) {
     const CALLS: &[(u8, Call, Answer)] = &[
         (0, Look, Turn(0)),
         (0, Put(5, Some(7)), Sent(1)),
@@ -113,34 +104,24 @@ fn the_turn_rises_with_each_put_and_shut(rt: HostRuntime) -> Result<(), Fail> {
         (1, Look, Turn(2)),
         (0, Look, Turn(2)),
     ];
-    play(&rt, rt.alloc(), 1, Scene::Calls(CALLS))?;
-    Ok(())
+    play(&rt, rt.alloc(), 1, Scene::Each(FREE, Act::Calls(CALLS), 1));
 }
 
 #[test]
-fn a_turn_that_was_not_seen_is_not_waited_for(rt: HostRuntime) -> Result<(), Fail> {
-    play(&rt, rt.alloc(), 1, Scene::Each(Act::Unwaited, 1))?;
-    Ok(())
+fn a_turn_that_was_not_seen_is_not_waited_for(rt: HostRuntime) {
+    play(&rt, rt.alloc(), 1, Scene::Each(FREE, Act::Unwaited, 1));
 }
 
 #[test]
-fn both_ends_of_a_direction_are_compared(rt: HostRuntime) -> Result<(), Fail> {
-    play(&rt, rt.alloc(), 2, Scene::Compared)?;
-    Ok(())
-}
-
-/// The channels that the call makes, or where a growth was refused, the same call made again.
-fn grown(alloc: Global, depth: u8) -> Result<Channels, Refused> {
-    match Channels::new(alloc, depth) {
-        Err(Refused::OutOfMemory) => Channels::new(alloc, depth),
-        made => made,
-    }
+fn both_ends_of_a_direction_are_compared(rt: HostRuntime) {
+    play(&rt, rt.alloc(), 2, Scene::Compared(FREE));
+    play(&rt, rt.alloc(), 2, Scene::Compared(ONE_WAY));
 }
 
 /// With a growth refused, whichever it is, there are no channels; the same call then makes them, with their depth, and all of
 /// them are free.
 #[test]
-fn a_refused_growth_leaves_nothing(rt: HostRuntime) -> Result<(), Fail> {
+fn a_refused_growth_leaves_nothing(rt: HostRuntime) {
     const CALLS: &[(u8, Call, Answer)] = &[
         (0, Look, Turn(0)),
         (0, Put(5, Some(7)), Sent(1)),
@@ -152,10 +133,7 @@ fn a_refused_growth_leaves_nothing(rt: HostRuntime) -> Result<(), Fail> {
         (1, Take, No(16, None)),
         (0, Take, Taken(1, 8, Some(9))),
     ];
-    let channels = grown(rt.alloc(), 2)?;
-    let answered = assert_on_next(&rt, &channels, CALLS);
-    drop(channels);
-    Ok(answered?)
+    play_grown(&rt, rt.alloc(), 2, Scene::Each(FREE, Act::Calls(CALLS), 1));
 }
 
 fn reads(alloc: Global, refused: &impl Display, text: &str) -> bool {

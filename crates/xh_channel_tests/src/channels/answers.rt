@@ -1,6 +1,5 @@
 //! Calls on a channel or a line and what they answer, to be compared.
-ghost use Rattle.std.specs.Prelude.{◌≡◌, ◌<◌, IfOk, false};
-ghost use Rattle.xh_channel.specs.Pairs.{IsPair};
+ghost use Rattle.std.specs.Prelude.{◌<◌};
 ghost use Rattle.xh_channel.specs.Queues.{IsSameEnd};
 
 use arrayvec::ArrayVec;
@@ -64,16 +63,8 @@ pub(super) struct Ends {
     pub(super) high: Endpoint,
 }
 
-/// Both ends of the next channel.
-pub(super) fn next_ends<R: Wait>(rt: &R, channels: &Channels) -> Result<Ends, Refused>
-    ensures pair { IfOk result (λ e. IsPair e.low e.high) }
-    ensures free { IfOk result (λ e. (e.low.has_contract ≡ false) × (e.high.has_contract ≡ false)) }
-{
-    let (low, high) = channels.open(rt)?;
-    Ok(Ends { low, high })
-}
-
-fn by_end<R: Wait>(rt: &R, channels: &Channels, end: &mut Endpoint, call: Call) -> Answer
+/// What the call answers, by this end.
+pub(super) fn by_end<R: Wait>(rt: &R, channels: &Channels, end: &mut Endpoint, call: Call) -> Answer
     ensures { IsSameEnd end.old end.new }
 {
     match call {
@@ -122,18 +113,6 @@ pub(super) fn assert_answers<R: Wait + Abort>(
         let answered = answer_of(rt, channels, ends, *side, *call);
         assert_same(rt, at, answered, *expected);
     }
-}
-
-/// Makes each call on the next channel, and compares what it answers.
-pub(super) fn assert_on_next<R: Wait + Abort>(
-    rt: &R,
-    channels: &Channels,
-    calls: &[(u8, Call, Answer)],
-) -> Result<(), Refused> {
-    let mut ends = next_ends(rt, channels)?;
-    assert_answers(rt, channels, &mut ends, calls);
-    drop(ends);
-    Ok(())
 }
 
 /// What the call answers by a side of a line, which has no turn.

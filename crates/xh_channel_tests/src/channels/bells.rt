@@ -1,13 +1,12 @@
 //! Threads that wait at the bells of places, what rings them, and waits until a deadline.
-use super::answers::Ends;
+use super::answers::{Answer, Call, Ends, by_end};
+use super::opening::FREE;
 use super::scenes::{Act, Scene, play};
-use arrayvec::ArrayVec;
 use std::hint;
 use std::process::Abort;
 use std::sync::Wait;
 use std::sync::atomic::AtomicU64;
 use std::sync::atomic::Ordering::SeqCst;
-use std::test::Fail;
 use std::thread::{self, Threads};
 use std::time::{Clock, Duration, Instant};
 use xh_channel::{Channels, Endpoint};
@@ -25,28 +24,29 @@ pub(super) enum Way {
 
 // The time after so many milliseconds.
 fn after<R: Clock + Abort>(rt: &R, millis: u64) -> Instant {
-    let Ok(now) = Instant::now(rt) else {
-        panic!(rt; "the clock can't be read")
-    };
-    let then = now.checked_add(Duration::from_millis(millis));
-    then.expect(rt, "the clock goes on")
+    match Instant::now(rt) {
+        Ok(now) => now
+            .checked_add(Duration::from_millis(millis))
+            .expect(rt, "the clock goes on"),
+        Err(_refused) => panic!(rt; "the clock can't be read"),
+    }
 }
 
 fn take_all<R: Wait>(rt: &R, channels: &Channels, end: &mut Endpoint) {
     for _ in 0..16 {
-        if channels.take(rt, end).is_err() {
+        if !matches!(by_end(rt, channels, end, Call::Take), Answer::Taken(..)) {
             break;
         }
     }
 }
 
-// Wakes who waits at the other side's bell.
-fn wake<R: Wait>(rt: &R, channels: &Channels, end: &mut Endpoint, way: Way) {
+/// Wakes who waits at the other side's bell, and but for `Ring` at the channel's turn.
+pub(super) fn wake<R: Wait>(rt: &R, channels: &Channels, end: &mut Endpoint, way: Way) {
     let spot = end.spot();
     match way {
         Way::Put => {
             take_all(rt, channels, end);
-            let _sent = channels.put(rt, end, 1, ArrayVec::new());
+            let _sent = by_end(rt, channels, end, Call::Put(1, None));
         }
         Way::Shut => channels.shut(rt, end),
         Way::Rouse => channels.rouse(rt, spot),
@@ -129,15 +129,13 @@ pub(super) fn assert_deadlines<R: Clock + Wait + Abort>(
 }
 
 #[test]
-fn no_ring_is_slept_through(rt: HostRuntime) -> Result<(), Fail> {
+fn no_ring_is_slept_through(rt: HostRuntime) {
     for way in [Way::Put, Way::Shut, Way::Rouse, Way::Ring] {
-        play(&rt, rt.alloc(), 16, Scene::Each(Act::Rings(way), 1))?;
+        play(&rt, rt.alloc(), 16, Scene::Each(FREE, Act::Rings(way), 1));
     }
-    Ok(())
 }
 
 #[test]
-fn waits_end_at_their_deadlines(rt: HostRuntime) -> Result<(), Fail> {
-    play(&rt, rt.alloc(), 1, Scene::Each(Act::Deadlines, 1))?;
-    Ok(())
+fn waits_end_at_their_deadlines(rt: HostRuntime) {
+    play(&rt, rt.alloc(), 1, Scene::Each(FREE, Act::Deadlines, 1));
 }

@@ -2,7 +2,9 @@
 ghost use Rattle.std.specs.Prelude.{◌≡◌, true};
 ghost use Rattle.xh_channel.specs.Queues.{IsSameEnd};
 
-use super::answers::{Answer, Ends, of_put};
+use super::answers::Answer::{self, Refused as No, Sent, Shut as Closed, Taken};
+use super::answers::Call::{self, Put, Shut, Take};
+use super::answers::{Ends, answer_of, assert_answers, assert_same, of_put};
 use arrayvec::ArrayVec;
 use std::process::Abort;
 use std::sync::Wait;
@@ -21,7 +23,7 @@ fn takes_all_blocks<R: Wait>(rt: &R, channels: &Channels, end: &mut Endpoint) ->
 pub(super) fn assert_all_blocks<R: Wait + Abort>(rt: &R, channels: &Channels, ends: &mut Ends) {
     let sent = of_put(channels.put(rt, &mut ends.low, 5, ArrayVec::from(BLOCKS)));
     let came = takes_all_blocks(rt, channels, &mut ends.high);
-    assert_eq!(rt; (sent, came), (Answer::Sent(1), true));
+    assert_eq!(rt; (sent, came), (Sent(1), true));
 }
 
 // Whether a put found the direction full: then as much was pushed as before.
@@ -54,4 +56,36 @@ pub(super) fn assert_refusals<R: Wait + Abort>(rt: &R, channels: &Channels, ends
     let first = finds_nothing(rt, channels, &mut ends.high);
     let second = finds_nothing(rt, channels, &mut ends.high);
     assert_eq!(rt; (first, second), (false, true));
+}
+
+// The put of a number is sent.
+fn assert_sent<R: Wait + Abort>(rt: &R, channels: &Channels, ends: &mut Ends, no: u8) {
+    let answered = answer_of(rt, channels, ends, 0, Put(1, Some(7)));
+    assert_same(rt, usize::from(no), answered, Sent(u64::from(no)));
+}
+
+/// The direction of side 0 is full at this depth, and has room again once one message was taken.
+pub(super) fn assert_full_at<R: Wait + Abort>(
+    rt: &R,
+    channels: &Channels,
+    ends: &mut Ends,
+    depth: u8,
+) {
+    const FULL: &[(u8, Call, Answer)] = &[
+        (0, Put(2, Some(7)), No(22, Some(7))),
+        (0, Put(1, Some(7)), No(14, Some(7))),
+        (1, Take, Taken(1, 1, Some(7))),
+    ];
+    const FULL_AGAIN: &[(u8, Call, Answer)] = &[
+        (0, Put(1, Some(8)), No(14, Some(8))),
+        (1, Shut, Closed),
+        (0, Put(1, Some(8)), No(15, Some(8))),
+        (0, Put(2, Some(8)), No(22, Some(8))),
+    ];
+    for no in 1..=depth {
+        assert_sent(rt, channels, ends, no);
+    }
+    assert_answers(rt, channels, ends, FULL);
+    assert_sent(rt, channels, ends, depth.saturating_add(1));
+    assert_answers(rt, channels, ends, FULL_AGAIN);
 }

@@ -1,65 +1,109 @@
-//! Which channel opens, and both ends compared.
+//! Which channel opens, what goes back, and both ends compared.
+ghost use Rattle.std.specs.Prelude.{IfSome};
 ghost use Rattle.xh_channel.specs.Pairs.{IsPair};
 
-use super::answers::Answer::{self, Sent, Taken};
-use super::answers::Call::{self, Put, Take};
-use super::answers::{Ends, assert_answers, next_ends};
-use super::lines::{ONE_WAY, next_with};
-use std::alloc::Global;
+use super::answers::Answer::{self, Refused as No, Sent, Shut as Closed, Taken, Turn};
+use super::answers::Call::{self, Put, Shut, Take, Turn as Look};
+use super::answers::{Ends, answer_of, assert_answers};
 use std::process::Abort;
 use std::sync::Wait;
-use xh_channel::{Channels, Refused, compare};
+use xh_channel::{Channels, Endpoint, Refused, compare};
+use xh_core::{Contract, Row};
 
-// The number of the next channel, or nothing where none opens.
-fn next_number<R: Wait>(rt: &R, channels: &Channels) -> Option<u8> {
-    match next_ends(rt, channels) {
-        Ok(ends) => {
-            let channel = ends.low.spot().channel;
-            drop(ends);
-            Some(channel)
-        }
+/// The rows of no contract.
+pub(super) const FREE: &[Row] = &[];
+
+/// Side 0 sends any number of messages of tag 1.
+pub(super) const ONE_WAY: &[Row] = &[Row {
+    state: 0,
+    tag: 1,
+    side: 0,
+    next: 0,
+}];
+
+/// A request (tag 1) by side 0, a reply (tag 2) by side 1, and again.
+pub(super) const REQUEST_AND_REPLY: &[Row] = &[
+    Row {
+        state: 0,
+        tag: 1,
+        side: 0,
+        next: 1,
+    },
+    Row {
+        state: 1,
+        tag: 2,
+        side: 1,
+        next: 0,
+    },
+];
+
+pub(super) fn contract_of(rt: &impl Abort, rows: &[Row]) -> Contract {
+    match Contract::new(rows) {
+        Ok(contract) => contract,
+        Err(_refused) => panic!(rt; "the table is valid"),
+    }
+}
+
+/// Both ends of the next channel, which goes by the contract of the rows; of none, where there are no rows.
+pub(super) fn opened<R: Wait + Abort>(rt: &R, channels: &Channels, rows: &[Row]) -> Option<Ends>
+    ensures { IfSome result (λ e. IsPair e.low e.high) }
+{
+    let made = if rows.is_empty() {
+        channels.open(rt)
+    } else {
+        channels.open_with(rt, contract_of(rt, rows))
+    };
+    match made {
+        Ok((low, high)) => Some(Ends { low, high }),
         Err(_refused) => None,
     }
 }
 
-/// As many open as there are, each with the lowest number that is free, and then none.
-pub(super) fn assert_all_open<R: Wait + Abort>(rt: &R, channels: &Channels) {
-    for channel in 0..64 {
-        assert_eq!(rt; next_number(rt, channels), Some(channel));
+// The number of the next channel, or nothing where none opens.
+fn next_number<R: Wait + Abort>(rt: &R, channels: &Channels, rows: &[Row]) -> Option<u8> {
+    match opened(rt, channels, rows) {
+        Some(ends) => {
+            let channel = ends.low.spot().channel;
+            drop(ends);
+            Some(channel)
+        }
+        None => None,
     }
-    assert_eq!(rt; next_number(rt, channels), None);
+}
+
+/// As many open as there are, each with the lowest number that is free, and then none.
+pub(super) fn assert_all_open<R: Wait + Abort>(rt: &R, channels: &Channels, rows: &[Row]) {
+    for channel in 0..64 {
+        assert_eq!(rt; next_number(rt, channels, rows), Some(channel));
+    }
+    assert_eq!(rt; next_number(rt, channels, rows), None);
 }
 
 /// The next pair of these channels is cancelled by a call on others.
-fn cancel_next<R: Wait>(rt: &R, channels: &Channels, others: &Channels) -> Result<(), Refused> {
-    let Ends { low, high } = next_ends(rt, channels)?;
-    others.cancel(rt, low, high);
-    Ok(())
-}
-
-pub(super) fn assert_free_again<R: Wait + Abort>(
+pub(super) fn cancel_next<R: Wait + Abort>(
     rt: &R,
     channels: &Channels,
-) -> Result<(), Refused> {
-    cancel_next(rt, channels, channels)?;
-    assert_eq!(rt; next_number(rt, channels), Some(0));
-    assert_eq!(rt; next_number(rt, channels), Some(1));
-    Ok(())
+    others: &Channels,
+    rows: &[Row],
+) {
+    match opened(rt, channels, rows) {
+        Some(ends) => others.cancel(rt, ends.low, ends.high),
+        None => panic!(rt; "a channel is free"),
+    }
+}
+
+pub(super) fn assert_free_again<R: Wait + Abort>(rt: &R, channels: &Channels) {
+    cancel_next(rt, channels, channels, FREE);
+    assert_eq!(rt; next_number(rt, channels, FREE), Some(0));
+    assert_eq!(rt; next_number(rt, channels, FREE), Some(1));
 }
 
 /// A pair of others goes back to them, and is no number of these channels, of which the first is open.
-pub(super) fn assert_goes_back<R: Wait + Abort>(
-    rt: &R,
-    alloc: Global,
-    channels: &Channels,
-) -> Result<(), Refused> {
-    let first = next_number(rt, channels);
-    let others = Channels::new(alloc, 2)?;
-    let cancelled = cancel_next(rt, &others, channels);
-    let free = (next_number(rt, channels), next_number(rt, &others));
-    drop(others);
-    assert_eq!(rt; (first, free), (Some(0), (Some(1), Some(0))));
-    cancelled
+pub(super) fn assert_goes_back<R: Wait + Abort>(rt: &R, channels: &Channels, others: &Channels) {
+    assert_eq!(rt; next_number(rt, channels, FREE), Some(0));
+    cancel_next(rt, others, channels, FREE);
+    assert_eq!(rt; next_number(rt, channels, FREE), Some(1));
+    assert_eq!(rt; next_number(rt, others, FREE), Some(0));
 }
 
 // Both ends go on after they were compared.
@@ -83,11 +127,43 @@ fn assert_compared_ends<R: Wait + Abort>(rt: &R, channels: &Channels, mut ends: 
     drop(ends);
 }
 
-/// So it is on a channel without a contract, and on one with.
-pub(super) fn assert_compared<R: Wait + Abort>(rt: &R, channels: &Channels) -> Result<(), Refused> {
-    let queued = next_ends(rt, channels)?;
-    assert_compared_ends(rt, channels, queued);
-    let lined = next_with(rt, channels, ONE_WAY)?;
-    assert_compared_ends(rt, channels, lined);
-    Ok(())
+pub(super) fn assert_compared<R: Wait + Abort>(rt: &R, channels: &Channels, rows: &[Row]) {
+    match opened(rt, channels, rows) {
+        Some(ends) => assert_compared_ends(rt, channels, ends),
+        None => panic!(rt; "a channel is free"),
+    }
+}
+
+// Each call is made on the other channels, and is answered by the end's own, whose turn alone rises.
+fn assert_in_own_room<R: Wait + Abort>(
+    rt: &R,
+    channels: &Channels,
+    others: &Channels,
+    ends: &mut Ends,
+) {
+    const CALLS: &[(u8, Call, Answer)] = &[
+        (0, Put(1, Some(7)), Sent(1)),
+        (1, Take, Taken(1, 1, Some(7))),
+        (0, Shut, Closed),
+        (1, Take, No(15, None)),
+        (0, Look, Turn(0)),
+    ];
+    assert_answers(rt, others, ends, CALLS);
+    assert_eq!(rt; answer_of(rt, channels, ends, 0, Look), Turn(2));
+}
+
+/// The ends of the next channel use its own room on other channels too.
+pub(super) fn assert_own_rooms<R: Wait + Abort>(
+    rt: &R,
+    channels: &Channels,
+    others: &Channels,
+    rows: &[Row],
+) {
+    match opened(rt, channels, rows) {
+        Some(mut ends) => {
+            assert_in_own_room(rt, channels, others, &mut ends);
+            drop(ends);
+        }
+        None => panic!(rt; "a channel is free"),
+    }
 }

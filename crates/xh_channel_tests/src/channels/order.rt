@@ -1,41 +1,33 @@
 //! The turn rises after the step that it tells of: whoever sees it risen finds the message, or the peer shut.
 //! A thread sleeps at the turn meanwhile, so that a rouse takes long: a step that came after its rouse would be looked for in vain.
-use super::answers::Ends;
+use super::answers::{Answer, Call, Ends, by_end};
+use super::opening::{FREE, ONE_WAY};
 use super::scenes::{Act, Scene, play};
-use arrayvec::ArrayVec;
+use super::waits::pause;
 use std::hint;
 use std::process::Abort;
 use std::sync::Wait;
-use std::test::Fail;
 use std::thread::{self, Threads};
-use std::time::{Clock, Duration};
-use xh_channel::{Channels, Endpoint, Refused, Spot, Unsent};
+use std::time::Clock;
+use xh_channel::{Channels, Endpoint, Spot};
 
 const PUTS: u64 = 100;
 
-// So long that the sleeper sleeps by then.
-fn pause() -> Duration {
-    Duration::from_micros(200)
-}
+// The sleeper sleeps by then.
+const ASLEEP: u64 = 200;
 
-// Sleeps at the turn, again and again, until it has risen so often.
-fn sleep_until<R: Wait>(rt: &R, channels: &Channels, spot: Spot, last: u64) {
+// Looks at the turn until it has risen so often, and sleeps at it meanwhile, or looks without a pause.
+fn follow_until<R: Wait>(rt: &R, channels: &Channels, spot: Spot, last: u64, sleeps: bool) {
     for _ in rt.forever() {
         let seen = channels.turn(rt, spot);
         if seen >= last {
             break;
         }
-        channels.wait(rt, spot, seen);
-    }
-}
-
-// Looks at the turn without a pause, until it has risen so often.
-fn watch_until<R: Wait>(rt: &R, channels: &Channels, spot: Spot, last: u64) {
-    for _ in rt.forever() {
-        if channels.turn(rt, spot) >= last {
-            break;
+        if sleeps {
+            channels.wait(rt, spot, seen);
+        } else {
+            hint::spin_loop();
         }
-        hint::spin_loop();
     }
 }
 
@@ -46,11 +38,11 @@ fn put_slowly<R: Clock + Wait>(rt: &R, channels: &Channels, end: &mut Endpoint, 
         if sent >= count {
             break;
         }
-        thread::sleep(rt, pause());
-        match channels.put(rt, end, 1, ArrayVec::new()) {
-            Ok(no) => sent = no,
-            Err(Unsent::Full { .. }) => (),
-            Err(_refused) => break,
+        thread::sleep(rt, pause(ASLEEP));
+        match by_end(rt, channels, end, Call::Put(1, None)) {
+            Answer::Sent(no) => sent = no,
+            Answer::Refused(14, _) => (),
+            _ => break,
         }
     }
     sent
@@ -60,8 +52,8 @@ fn put_slowly<R: Clock + Wait>(rt: &R, channels: &Channels, end: &mut Endpoint, 
 fn take_at_once<R: Wait>(rt: &R, channels: &Channels, end: &mut Endpoint, count: u64) -> u64 {
     let mut found = 0u64;
     for no in 1..=count {
-        watch_until(rt, channels, end.spot(), no);
-        if channels.take(rt, end).is_err() {
+        follow_until(rt, channels, end.spot(), no, false);
+        if !matches!(by_end(rt, channels, end, Call::Take), Answer::Taken(..)) {
             break;
         }
         found = no;
@@ -79,79 +71,95 @@ fn take_and_end<R: Wait>(rt: &R, channels: &Channels, end: &mut Endpoint, count:
     found
 }
 
-/// Each message is there once the turn has risen for it.
-pub(super) fn assert_put_before_turn<R: Clock + Threads + Wait + Abort + Sync>(
+// Shuts the end once the sleeper sleeps, or puts all messages.
+fn tell_slowly<R: Clock + Wait>(
+    rt: &R,
+    channels: &Channels,
+    end: &mut Endpoint,
+    by_shut: bool,
+) -> u64 {
+    if by_shut {
+        thread::sleep(rt, pause(ASLEEP));
+        channels.shut(rt, end);
+        1
+    } else {
+        put_slowly(rt, channels, end, PUTS)
+    }
+}
+
+// Whether the peer is found shut as soon as the turn has risen, as a number, or how many messages were there.
+fn find_at_once<R: Wait>(rt: &R, channels: &Channels, end: &mut Endpoint, by_shut: bool) -> u64 {
+    if by_shut {
+        follow_until(rt, channels, end.spot(), 1, false);
+        u64::from(matches!(
+            by_end(rt, channels, end, Call::Take),
+            Answer::Refused(15, _)
+        ))
+    } else {
+        take_and_end(rt, channels, end, PUTS)
+    }
+}
+
+/// Each message is there once the turn has risen for it, or the peer is shut once it has risen for its shut.
+pub(super) fn assert_before_turn<R: Clock + Threads + Wait + Abort + Sync>(
     rt: &R,
     channels: &Channels,
     ends: &mut Ends,
+    by_shut: bool,
 ) {
     let (low, high) = (&mut ends.low, &mut ends.high);
     let spot = low.spot();
+    let count = if by_shut { 1 } else { PUTS };
     let carried = thread::join(
         rt,
-        || sleep_until(rt, channels, spot, PUTS),
+        || follow_until(rt, channels, spot, count, true),
         || {
             thread::join(
                 rt,
-                || put_slowly(rt, channels, low, PUTS),
-                || take_and_end(rt, channels, high, PUTS),
+                || tell_slowly(rt, channels, low, by_shut),
+                || find_at_once(rt, channels, high, by_shut),
             )
         },
     );
-    assert_eq!(rt; carried.1, (PUTS, PUTS));
+    assert_eq!(rt; carried.1, (count, count));
 }
 
-// Whether the peer is found shut as soon as the turn has risen.
-fn finds_shut<R: Wait>(rt: &R, channels: &Channels, end: &mut Endpoint) -> bool {
-    watch_until(rt, channels, end.spot(), 1);
-    matches!(channels.take(rt, end), Err(Refused::PeerClosed { .. }))
-}
-
-/// The peer is shut once the turn has risen for its shut.
-pub(super) fn assert_shut_before_turn<R: Clock + Threads + Wait + Abort + Sync>(
-    rt: &R,
-    channels: &Channels,
-    ends: &mut Ends,
-) {
-    let (low, high) = (&mut ends.low, &mut ends.high);
-    let spot = low.spot();
-    let found = thread::join(
-        rt,
-        || sleep_until(rt, channels, spot, 1),
-        || {
-            thread::join(
-                rt,
-                || {
-                    thread::sleep(rt, pause());
-                    channels.shut(rt, low);
-                },
-                || finds_shut(rt, channels, high),
-            )
-        },
+#[test]
+fn a_put_comes_before_its_turn(rt: HostRuntime) {
+    play(
+        &rt,
+        rt.alloc(),
+        2,
+        Scene::Each(FREE, Act::BeforeTurn(false), 1),
     );
-    assert!(rt; found.1.1);
 }
 
 #[test]
-fn a_put_comes_before_its_turn(rt: HostRuntime) -> Result<(), Fail> {
-    play(&rt, rt.alloc(), 2, Scene::Each(Act::PutThenTurn, 1))?;
-    Ok(())
+fn a_shut_comes_before_its_turn(rt: HostRuntime) {
+    play(
+        &rt,
+        rt.alloc(),
+        1,
+        Scene::Each(FREE, Act::BeforeTurn(true), 64),
+    );
 }
 
 #[test]
-fn a_shut_comes_before_its_turn(rt: HostRuntime) -> Result<(), Fail> {
-    play(&rt, rt.alloc(), 1, Scene::Each(Act::ShutThenTurn, 64))?;
-    Ok(())
+fn a_put_on_a_line_comes_before_its_turn(rt: HostRuntime) {
+    play(
+        &rt,
+        rt.alloc(),
+        2,
+        Scene::Each(ONE_WAY, Act::BeforeTurn(false), 1),
+    );
 }
 
 #[test]
-fn a_put_on_a_line_comes_before_its_turn(rt: HostRuntime) -> Result<(), Fail> {
-    play(&rt, rt.alloc(), 2, Scene::LinePutThenTurn)?;
-    Ok(())
-}
-
-#[test]
-fn a_shut_of_a_line_comes_before_its_turn(rt: HostRuntime) -> Result<(), Fail> {
-    play(&rt, rt.alloc(), 1, Scene::LineShutThenTurn)?;
-    Ok(())
+fn a_shut_of_a_line_comes_before_its_turn(rt: HostRuntime) {
+    play(
+        &rt,
+        rt.alloc(),
+        1,
+        Scene::Each(ONE_WAY, Act::BeforeTurn(true), 64),
+    );
 }

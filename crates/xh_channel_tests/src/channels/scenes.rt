@@ -1,63 +1,58 @@
 //! What is done on new channels. One function makes and drops them, and one the ends that are used.
-use super::answers::{Answer, Call, Ends, assert_on_next, next_ends};
+ghost use Rattle.xh_channel.specs.Pairs.{IsPair};
+
+use super::answers::{Answer, Call, Ends, assert_answers};
 use super::bells::{Way, assert_deadlines, assert_none_lost};
-use super::ends::{assert_all_blocks, assert_refusals};
-use super::lines::{
-    assert_all_open_with, assert_contract_gone, assert_exchange, assert_full_at, assert_line_puts,
-    assert_line_shuts, assert_own_rooms,
+use super::ends::{assert_all_blocks, assert_full_at, assert_refusals};
+use super::notes::{assert_put_heard, assert_shut_heard};
+use super::opening::{
+    FREE, assert_all_open, assert_compared, assert_free_again, assert_goes_back, assert_own_rooms,
+    cancel_next, opened,
 };
-use super::notes::{assert_line_put_heard, assert_put_heard, assert_shut_heard};
-use super::opening::{assert_all_open, assert_compared, assert_free_again, assert_goes_back};
-use super::order::{assert_put_before_turn, assert_shut_before_turn};
+use super::order::assert_before_turn;
+use super::side_by_side::assert_alike;
 use super::threads::{assert_in_order, assert_last_comes, assert_put_and_shut};
-use super::waits::{
-    assert_put_wakes, assert_rouse_wakes, assert_shut_wakes, assert_turns, assert_unwaited,
-};
+use super::waits::{assert_turns, assert_unwaited, assert_wakes};
 use std::alloc::Global;
 use std::process::Abort;
 use std::sync::Wait;
 use std::thread::Threads;
 use std::time::Clock;
 use xh_channel::{Channels, Refused};
+use xh_model::Row;
 
 /// What is done at both ends of a channel that nobody else uses.
 #[derive(Clone, Copy)]
 pub(super) enum Act {
+    Calls(&'static [(u8, Call, Answer)]),
+    FullAt(u8),
     AllBlocks,
     Refusals,
     InOrder,
     PutAndShut,
     LastComes,
     Unwaited,
-    PutWakes,
-    ShutWakes,
-    RouseWakes,
+    Wakes(Way, Answer),
     Turns,
     Rings(Way),
     Deadlines,
-    PutThenTurn,
-    ShutThenTurn,
+    BeforeTurn(bool),
+    PutHeard,
+    ShutHeard,
 }
 
-/// What is done on new channels: an act on so many of them, one after the other, or calls, or what opens ends by itself.
+/// What is done on new channels: an act on so many of them, one after the other, or what opens ends by itself. The channels
+/// go by the contract of the rows, or by none.
 #[derive(Clone, Copy)]
 pub(super) enum Scene {
-    Each(Act, u8),
-    Calls(&'static [(u8, Call, Answer)]),
-    AllOpen,
+    Each(&'static [Row], Act, u8),
+    AllOpen(&'static [Row]),
     FreeAgain,
     GoesBack,
-    Compared,
-    Exchange(&'static [(u8, Call, Answer)]),
-    AllOpenWith,
-    ContractGone,
-    FullWith,
-    LinePutThenTurn,
-    LineShutThenTurn,
-    OwnRooms,
-    PutHeard,
-    LinePutHeard,
-    ShutHeard,
+    Compared(&'static [Row]),
+    ContractGone(&'static [Row], Act),
+    OwnRooms(&'static [Row]),
+    Alike,
 }
 
 fn act_at<R: Clock + Threads + Wait + Abort + Sync>(
@@ -66,80 +61,100 @@ fn act_at<R: Clock + Threads + Wait + Abort + Sync>(
     ends: &mut Ends,
     act: Act,
     at: u8,
-) {
+)
+    requires { IsPair ends.old.low ends.old.high }
+{
     let at = u64::from(at);
     match act {
+        Act::Calls(calls) => {
+            assert_eq!(rt; ends.low.spot().channel, 0);
+            assert_answers(rt, channels, ends, calls);
+        }
+        Act::FullAt(depth) => assert_full_at(rt, channels, ends, depth),
         Act::AllBlocks => assert_all_blocks(rt, channels, ends),
         Act::Refusals => assert_refusals(rt, channels, ends),
         Act::InOrder => assert_in_order(rt, channels, ends),
         Act::PutAndShut => assert_put_and_shut(rt, channels, ends, at % 16),
         Act::LastComes => assert_last_comes(rt, channels, ends, at * 8),
         Act::Unwaited => assert_unwaited(rt, channels, ends),
-        Act::PutWakes => assert_put_wakes(rt, channels, ends),
-        Act::ShutWakes => assert_shut_wakes(rt, channels, ends),
-        Act::RouseWakes => assert_rouse_wakes(rt, channels, ends),
+        Act::Wakes(way, expected) => assert_wakes(rt, channels, ends, way, expected),
         Act::Turns => assert_turns(rt, channels, ends),
         Act::Rings(way) => assert_none_lost(rt, channels, ends, way),
         Act::Deadlines => assert_deadlines(rt, channels, ends),
-        Act::PutThenTurn => assert_put_before_turn(rt, channels, ends),
-        Act::ShutThenTurn => assert_shut_before_turn(rt, channels, ends),
+        Act::BeforeTurn(by_shut) => assert_before_turn(rt, channels, ends, by_shut),
+        Act::PutHeard => assert_put_heard(rt, channels, ends),
+        Act::ShutHeard => assert_shut_heard(rt, channels, ends),
     }
 }
 
 fn act_on_next<R: Clock + Threads + Wait + Abort + Sync>(
     rt: &R,
     channels: &Channels,
+    rows: &[Row],
     act: Act,
     at: u8,
-) -> Result<(), Refused> {
-    let mut ends = next_ends(rt, channels)?;
-    act_at(rt, channels, &mut ends, act, at);
-    drop(ends);
-    Ok(())
-}
-
-fn act_on_each<R: Clock + Threads + Wait + Abort + Sync>(
-    rt: &R,
-    channels: &Channels,
-    act: Act,
-    count: u8,
-) -> Result<(), Refused> {
-    for at in 0..count {
-        act_on_next(rt, channels, act, at)?;
+) {
+    match opened(rt, channels, rows) {
+        Some(mut ends) => {
+            act_at(rt, channels, &mut ends, act, at);
+            drop(ends);
+        }
+        None => panic!(rt; "a channel is free"),
     }
-    Ok(())
 }
 
 fn play_on<R: Clock + Threads + Wait + Abort + Sync>(
     rt: &R,
     alloc: Global,
     channels: &Channels,
-    depth: u8,
     scene: Scene,
-) -> Result<(), Refused> {
+) {
     match scene {
-        Scene::Each(act, count) => act_on_each(rt, channels, act, count),
-        Scene::Calls(calls) => assert_on_next(rt, channels, calls),
-        Scene::AllOpen => {
-            assert_all_open(rt, channels);
-            Ok(())
+        Scene::Each(rows, act, count) => {
+            for at in 0..count {
+                act_on_next(rt, channels, rows, act, at);
+            }
         }
+        Scene::AllOpen(rows) => assert_all_open(rt, channels, rows),
         Scene::FreeAgain => assert_free_again(rt, channels),
-        Scene::GoesBack => assert_goes_back(rt, alloc, channels),
-        Scene::Compared => assert_compared(rt, channels),
-        Scene::Exchange(calls) => assert_exchange(rt, channels, calls),
-        Scene::AllOpenWith => {
-            assert_all_open_with(rt, channels);
-            Ok(())
+        Scene::GoesBack => play_beside(rt, alloc, channels, None),
+        Scene::Compared(rows) => assert_compared(rt, channels, rows),
+        Scene::ContractGone(rows, act) => {
+            cancel_next(rt, channels, channels, rows);
+            act_on_next(rt, channels, FREE, act, 0);
         }
-        Scene::ContractGone => assert_contract_gone(rt, channels),
-        Scene::FullWith => assert_full_at(rt, channels, depth),
-        Scene::LinePutThenTurn => assert_line_puts(rt, channels),
-        Scene::LineShutThenTurn => assert_line_shuts(rt, channels),
-        Scene::OwnRooms => assert_own_rooms(rt, alloc, channels),
-        Scene::PutHeard => assert_put_heard(rt, channels),
-        Scene::LinePutHeard => assert_line_put_heard(rt, channels),
-        Scene::ShutHeard => assert_shut_heard(rt, channels),
+        Scene::OwnRooms(rows) => play_beside(rt, alloc, channels, Some(rows)),
+        Scene::Alike => assert_alike(rt, channels),
+    }
+}
+
+// Plays on the channels beside others.
+fn play_beside<R: Wait + Abort>(rt: &R, alloc: Global, channels: &Channels, rows: Option<&[Row]>) {
+    match Channels::new(alloc, 2) {
+        Ok(others) => {
+            match rows {
+                Some(rows) => assert_own_rooms(rt, channels, &others, rows),
+                None => assert_goes_back(rt, channels, &others),
+            }
+            drop(others);
+        }
+        Err(_refused) => panic!(rt; "a growth is refused"),
+    }
+}
+
+// Plays the scene on channels that were made.
+fn play_made<R: Clock + Threads + Wait + Abort + Sync>(
+    rt: &R,
+    alloc: Global,
+    made: Result<Channels, Refused>,
+    scene: Scene,
+) {
+    match made {
+        Ok(channels) => {
+            play_on(rt, alloc, &channels, scene);
+            drop(channels);
+        }
+        Err(_refused) => panic!(rt; "a growth is refused"),
     }
 }
 
@@ -149,9 +164,24 @@ pub(super) fn play<R: Clock + Threads + Wait + Abort + Sync>(
     alloc: Global,
     depth: u8,
     scene: Scene,
-) -> Result<(), Refused> {
-    let channels = Channels::new(alloc, depth)?;
-    let played = play_on(rt, alloc, &channels, depth, scene);
-    drop(channels);
-    played
+) {
+    play_made(rt, alloc, Channels::new(alloc, depth), scene);
+}
+
+// The channels that the call makes, or where a growth was refused, the same call made again.
+fn grown(alloc: Global, depth: u8) -> Result<Channels, Refused> {
+    match Channels::new(alloc, depth) {
+        Err(Refused::OutOfMemory) => Channels::new(alloc, depth),
+        made => made,
+    }
+}
+
+/// Plays the scene, also where a growth is refused: with one refused there are no channels.
+pub(super) fn play_grown<R: Clock + Threads + Wait + Abort + Sync>(
+    rt: &R,
+    alloc: Global,
+    depth: u8,
+    scene: Scene,
+) {
+    play_made(rt, alloc, grown(alloc, depth), scene);
 }

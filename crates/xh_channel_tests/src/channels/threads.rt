@@ -1,9 +1,9 @@
-use super::answers::Ends;
+use super::answers::{Answer, Call, Ends, by_end};
+use super::opening::FREE;
 use super::scenes::{Act, Scene, play};
 use arrayvec::ArrayVec;
 use std::process::Abort;
 use std::sync::Wait;
-use std::test::Fail;
 use std::thread::Threads;
 use std::{hint, thread};
 use xh_channel::{Channels, Endpoint, Message, Refused, Unsent};
@@ -81,21 +81,20 @@ pub(super) fn assert_in_order<R: Threads + Wait + Abort + Sync>(
 }
 
 #[test]
-fn a_hundred_thousand_messages_come_in_order(rt: HostRuntime) -> Result<(), Fail> {
+fn a_hundred_thousand_messages_come_in_order(rt: HostRuntime) {
     for depth in [1, 16] {
-        play(&rt, rt.alloc(), depth, Scene::Each(Act::InOrder, 1))?;
+        play(&rt, rt.alloc(), depth, Scene::Each(FREE, Act::InOrder, 1));
     }
-    Ok(())
 }
 
 // Takes what waits, and answers the number of the last message, or nothing where the numbers leave their order.
 fn drain<R: Wait>(rt: &R, channels: &Channels, end: &mut Endpoint, before: u64) -> Option<u64> {
     let mut taken = before;
     for _ in 0..64 {
-        match channels.take(rt, end) {
-            Ok(message) if message.no == taken.wrapping_add(1) => taken = message.no,
-            Ok(_message) => return None,
-            Err(_refused) => break,
+        match by_end(rt, channels, end, Call::Take) {
+            Answer::Taken(no, ..) if no == taken.wrapping_add(1) => taken = no,
+            Answer::Taken(..) => return None,
+            _ => break,
         }
     }
     Some(taken)
@@ -114,7 +113,7 @@ fn shut_and_drain<R: Wait>(
         if taken >= count {
             break;
         }
-        if channels.take(rt, end).is_ok() {
+        if matches!(by_end(rt, channels, end, Call::Take), Answer::Taken(..)) {
             taken = taken.wrapping_add(1);
         }
     }
@@ -148,19 +147,19 @@ fn put_and_shut<R: Wait>(rt: &R, channels: &Channels, end: &mut Endpoint, pause:
     for _ in 0..pause {
         hint::spin_loop();
     }
-    let sent = channels.put(rt, end, 5, ArrayVec::new()).is_ok();
+    let answered = by_end(rt, channels, end, Call::Put(5, None));
     channels.shut(rt, end);
-    sent
+    matches!(answered, Answer::Sent(..))
 }
 
 // Takes until the peer is closed, and answers how many messages came.
 fn take_to_the_end<R: Wait>(rt: &R, channels: &Channels, end: &mut Endpoint) -> u64 {
     let mut taken = 0u64;
     for _ in rt.forever() {
-        match channels.take(rt, end) {
-            Ok(_message) => taken = taken.wrapping_add(1),
-            Err(Refused::Empty) => (),
-            Err(_refused) => break,
+        match by_end(rt, channels, end, Call::Take) {
+            Answer::Taken(..) => taken = taken.wrapping_add(1),
+            Answer::Refused(16, _) => (),
+            _ => break,
         }
     }
     taken
@@ -183,17 +182,15 @@ pub(super) fn assert_last_comes<R: Threads + Wait + Abort + Sync>(
 }
 
 #[test]
-fn a_put_races_a_shut(rt: HostRuntime) -> Result<(), Fail> {
+fn a_put_races_a_shut(rt: HostRuntime) {
     for _ in 0..64 {
-        play(&rt, rt.alloc(), 16, Scene::Each(Act::PutAndShut, 64))?;
+        play(&rt, rt.alloc(), 16, Scene::Each(FREE, Act::PutAndShut, 64));
     }
-    Ok(())
 }
 
 #[test]
-fn a_take_races_a_put_and_a_shut(rt: HostRuntime) -> Result<(), Fail> {
+fn a_take_races_a_put_and_a_shut(rt: HostRuntime) {
     for _ in 0..50 {
-        play(&rt, rt.alloc(), 1, Scene::Each(Act::LastComes, 64))?;
+        play(&rt, rt.alloc(), 1, Scene::Each(FREE, Act::LastComes, 64));
     }
-    Ok(())
 }

@@ -1,113 +1,99 @@
 //! Threads that wait at a channel's turn, and what wakes them.
-use super::answers::Ends;
+use super::answers::{Answer, Call, Ends, by_end};
+use super::bells::{Way, wake};
+use super::opening::FREE;
 use super::scenes::{Act, Scene, play};
-use arrayvec::ArrayVec;
 use std::hint;
 use std::process::Abort;
 use std::sync::Wait;
-use std::test::Fail;
 use std::thread::{self, Threads};
 use std::time::{Clock, Duration};
-use xh_channel::{Channels, Refused, Spot};
+use xh_channel::{Channels, Spot};
 
-// So long that the other threads sleep by then.
-fn pause() -> Duration {
-    Duration::from_millis(20)
+// The other threads sleep by then.
+const ASLEEP: u64 = 20_000;
+
+const FIRST: Spot = Spot {
+    channel: 0,
+    side: 0,
+};
+
+const SECOND: Spot = Spot {
+    channel: 1,
+    side: 0,
+};
+
+/// So many microseconds.
+pub(super) fn pause(micros: u64) -> Duration {
+    Duration::from_micros(micros)
 }
 
-/// After a shut, the first channel's turn is 1 and the second's is 0, and no other is waited for.
+// The channel has the turn, and no other is waited for.
+fn assert_turn<R: Wait + Abort>(rt: &R, channels: &Channels, spot: Spot, turn: u64, other: u64) {
+    assert_eq!(rt; channels.turn(rt, spot), turn);
+    channels.wait(rt, spot, other);
+    channels.wait(rt, spot, u64::MAX);
+}
+
+/// After a shut, the first channel's turn is 1 and the second's is 0.
 pub(super) fn assert_unwaited<R: Wait + Abort>(rt: &R, channels: &Channels, ends: &mut Ends) {
     channels.shut(rt, &mut ends.low);
-    for (channel, turn) in [(0, 1), (1, 0)] {
-        let spot = Spot { channel, side: 0 };
-        assert_eq!(rt; channels.turn(rt, spot), turn, "channel {channel}");
-        channels.wait(rt, spot, 1 - turn);
-        channels.wait(rt, spot, u64::MAX);
-    }
+    assert_turn(rt, channels, FIRST, 1, 0);
+    assert_turn(rt, channels, SECOND, 0, 1);
 }
 
-pub(super) fn assert_shut_wakes<R: Clock + Threads + Wait + Abort + Sync>(
+/// One thread sleeps at each side's turn, until the low side does what wakes them. What the high side's take answers then.
+pub(super) fn assert_wakes<R: Clock + Threads + Wait + Abort + Sync>(
     rt: &R,
     channels: &Channels,
     ends: &mut Ends,
+    way: Way,
+    expected: Answer,
 ) {
-    let (own, peer) = (ends.low.spot(), ends.high.spot());
-    let low = &mut ends.low;
+    let (low, high) = (&mut ends.low, &mut ends.high);
+    let (own, peer) = (low.spot(), high.spot());
     let seen = channels.turn(rt, own);
-    thread::join(
+    assert_eq!(rt;
+        by_end(rt, channels, high, Call::Take),
+        Answer::Refused(16, None)
+    );
+    let passed = thread::join(
         rt,
         || {
             thread::join(
                 rt,
                 || channels.wait(rt, own, seen),
-                || channels.wait(rt, peer, seen),
+                || {
+                    channels.wait(rt, peer, seen);
+                    by_end(rt, channels, high, Call::Take)
+                },
             )
         },
         || {
-            thread::sleep(rt, pause());
-            channels.shut(rt, low);
+            thread::sleep(rt, pause(ASLEEP));
+            wake(rt, channels, low, way);
         },
     );
+    assert_eq!(rt; passed.0.1, expected);
     assert_eq!(rt; channels.turn(rt, own), seen.wrapping_add(1));
 }
 
 #[test]
-fn a_shut_wakes_all_that_wait(rt: HostRuntime) -> Result<(), Fail> {
-    play(&rt, rt.alloc(), 1, Scene::Each(Act::ShutWakes, 2))?;
-    Ok(())
-}
-
-pub(super) fn assert_put_wakes<R: Clock + Threads + Wait + Abort + Sync>(
-    rt: &R,
-    channels: &Channels,
-    ends: &mut Ends,
-) {
-    let (low, high) = (&mut ends.low, &mut ends.high);
-    let spot = high.spot();
-    let seen = channels.turn(rt, spot);
-    assert!(rt; matches!(channels.take(rt, high), Err(Refused::Empty)));
-    let passed = thread::join(
-        rt,
-        || {
-            channels.wait(rt, spot, seen);
-            channels.take(rt, high).is_ok()
-        },
-        || {
-            thread::sleep(rt, pause());
-            channels.put(rt, low, 5, ArrayVec::new()).is_ok()
-        },
-    );
-    assert_eq!(rt; passed, (true, true));
+fn a_shut_wakes_all_that_wait(rt: HostRuntime) {
+    const ACT: Act = Act::Wakes(Way::Shut, Answer::Refused(15, None));
+    play(&rt, rt.alloc(), 1, Scene::Each(FREE, ACT, 2));
 }
 
 #[test]
-fn a_put_wakes_who_waits(rt: HostRuntime) -> Result<(), Fail> {
-    play(&rt, rt.alloc(), 1, Scene::Each(Act::PutWakes, 2))?;
-    Ok(())
-}
-
-pub(super) fn assert_rouse_wakes<R: Clock + Threads + Wait + Abort + Sync>(
-    rt: &R,
-    channels: &Channels,
-    ends: &mut Ends,
-) {
-    let spot = ends.low.spot();
-    let seen = channels.turn(rt, spot);
-    thread::join(
-        rt,
-        || channels.wait(rt, spot, seen),
-        || {
-            thread::sleep(rt, pause());
-            channels.rouse(rt, spot);
-        },
-    );
-    assert_eq!(rt; channels.turn(rt, spot), seen.wrapping_add(1));
+fn a_put_wakes_who_waits(rt: HostRuntime) {
+    const ACT: Act = Act::Wakes(Way::Put, Answer::Taken(1, 1, None));
+    play(&rt, rt.alloc(), 1, Scene::Each(FREE, ACT, 2));
 }
 
 #[test]
-fn a_rouse_wakes_who_waits(rt: HostRuntime) -> Result<(), Fail> {
-    play(&rt, rt.alloc(), 1, Scene::Each(Act::RouseWakes, 2))?;
-    Ok(())
+fn a_rouse_wakes_who_waits(rt: HostRuntime) {
+    const ACT: Act = Act::Wakes(Way::Rouse, Answer::Refused(16, None));
+    play(&rt, rt.alloc(), 1, Scene::Each(FREE, ACT, 2));
 }
 
 // Raises the turn where it leaves the remainder `own` by 3, and else waits until it has risen: so many turns of its own.
@@ -153,7 +139,6 @@ pub(super) fn assert_turns<R: Threads + Wait + Abort + Sync>(
 }
 
 #[test]
-fn no_turn_is_slept_through(rt: HostRuntime) -> Result<(), Fail> {
-    play(&rt, rt.alloc(), 1, Scene::Each(Act::Turns, 2))?;
-    Ok(())
+fn no_turn_is_slept_through(rt: HostRuntime) {
+    play(&rt, rt.alloc(), 1, Scene::Each(FREE, Act::Turns, 2));
 }
