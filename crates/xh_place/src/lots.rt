@@ -72,6 +72,7 @@ fn fill<R, V: Vaults, G>(
 }
 
 // The bytes of the record's lot go back, and its body is gone. It answers the bytes.
+#[inline(always)]
 fn empty<R, V: Vaults, G>(desk: &mut Desk<'_, R, V, G>, seat: &mut Seat<Body>, r: u16) -> u32
     requires at { IsSeatAt V.names desk.old seat.old }
     requires held { (l : LotOf Body) × (value_at r seat.old.lots ≡ Some l) × IsBlock seat.old.shape r l }
@@ -167,6 +168,7 @@ pub(crate) fn make_block<R, V: Vaults, G: Gate>(
 }
 
 // Gives a block's bytes back, and makes its record free. It answers the bytes.
+#[inline(always)]
 pub(crate) fn give_up<R, V: Vaults, G: Gate>(
     desk: &mut Desk<'_, R, V, G>,
     seat: &mut Seat<Body>,

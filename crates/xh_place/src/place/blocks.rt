@@ -76,6 +76,7 @@ impl Place {
     }
 
     // A block's bytes go back, and its record is free. It answers the bytes.
+    #[inline(always)]
     pub(super) fn give_up<R, V: Vaults, G: Gate>(
         &mut self,
         desk: &mut Desk<'_, R, V, G>,
@@ -97,6 +98,7 @@ impl Place {
     }
 
     // The tests of a call on a data block.
+    #[inline(always)]
     fn test_data(&mut self, records: &Records<Body>, r: u16) -> Result<Header, Refused>
         requires own { IsPlaceOf records.now self.old.place }
         ensures same { Stays self.old self.new }

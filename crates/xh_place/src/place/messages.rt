@@ -135,7 +135,9 @@ impl Place {
         self.take_message(desk, e)
     }
 
-    // Takes the message at the front for an endpoint of the list, and its blocks.
+    // Takes the message at the front for an endpoint of the list, and its blocks. It is inlined, so that the
+    // large answer is moved less often.
+    #[inline(always)]
     pub(super) fn take_message<R: Wait, V, G: Gate>(
         &mut self,
         desk: &Desk<'_, R, V, G>,
