@@ -5,6 +5,7 @@ pub mod Fresh
 pub mod Made
 pub mod Moved
 pub mod Vaulted
+pub mod Asking
 pub mod Started
 pub mod Looks
 pub mod Wiring

@@ -1,19 +1,21 @@
 -- What a place's calls say of the tallies that they were lent.
-use Rattle.std.proofs.Common.{◌≡◌, ℕ, ◌+◌, ◌++◌, List, ⊎_elim, inl, inr, refl, ap, arith}
-use Rattle.std.specs.Prelude.{Option, Some, None, Result, Ok, Err, MatchOption}
+use Rattle.std.proofs.Common.{◌≡◌, ℕ, ◌+◌, ◌++◌, List, [], ◌∷◌, ⊎_elim, inl, inr, refl, sym, subst, ap, arith}
+use Rattle.std.specs.Prelude.{Bool, false, Option, Some, None, Result, Ok, Err, MatchOption}
 use Rattle.xh_arena.specs.Views.{TallyOf}
 use Rattle.xh_core.specs.Calls.{end_tests}
 use Rattle.xh_core.specs.declared.block.Block.{Block}
 use Rattle.xh_core.specs.declared.refused.Refused.{Refused}
+use Rattle.xh_core.specs.declared.refused.Refused.TheVariants.{Ended}
 use Rattle.xh_core.specs.declared.status.Status.TheVariants.{Running}
+use Rattle.xh_core.specs.Statuses.{is_over}
 use Rattle.xh_core.specs.Refusing.{Tests, first_refusal}
-use Rattle.xh_place.specs.Ending.{HasGivenBack, IsClosed, back_of, but_back}
+use Rattle.xh_place.specs.Ending.{HasGivenBack, IsClosed, IsStopped, back_of, but_back}
 use Rattle.xh_place.specs.Ends.{Accepts, RefusedOr}
 use Rattle.xh_place.specs.Places.{found}
 use Rattle.xh_place.specs.Seen.{PlaceSeen}
-use Rattle.xh_place.specs.Starts.{start as starts}
-use Rattle.xh_calls.specs.Endings.{Closes, IsUntouched}
-use Rattle.xh_calls.specs.Places.{start}
+use Rattle.xh_place.specs.Starts.{start as starts, stop as stops}
+use Rattle.xh_calls.specs.Endings.{Closes, IsUntouched, Stops}
+use Rattle.xh_calls.specs.Places.{start, stop}
 use Rattle.xh_calls.specs.Wires.{ReceivesOr}
 use Rattle.xh_calls.proofs.Started.{passes}
 
@@ -43,3 +45,17 @@ module _ (from to : List TallyOf) where
         → (bytes : ℕ) × MatchOption o (IsClosed e old new bytes result) (λ refused. (result ≡ Err refused) × IsUntouched old new bytes) × HasGivenBack bytes from to
     go None d = d
     go (Some refused) d = (0, (d.0, (d.1.0, refl)), none_back from to d.1.1)
+
+  -- a process that had not ended
+  pub stopped : (p budget : ℕ) (old new : PlaceSeen) (result : Result ℕ Refused) → first_refusal (stop p old.place) ≡ None → is_over old.place.state ≡ false
+      → RefusedOr (stops old.place.state) result ((new.place ≡ old.place) × (to ≡ from)) ((bytes : ℕ) × IsStopped budget old new bytes result × HasGivenBack bytes from to)
+      → (bytes : ℕ) × Stops p budget bytes old new result × HasGivenBack bytes from to
+  stopped p budget old new result none over h =
+      let D : Type 0 = (bytes : ℕ) × IsStopped budget old new bytes result × HasGivenBack bytes from to in
+      let d : D = subst (λ (o : Option Refused). MatchOption o D (λ refused. (result ≡ Err refused) × ((new.place ≡ old.place) × (to ≡ from)))) (ap (λ (b : Bool). first_refusal ((b, Ended) ∷ [])) over) h in
+      (d.0, subst (λ (o : Option Refused). MatchOption o (IsStopped budget old new d.0 result) (λ refused. (result ≡ Err refused) × IsUntouched old new d.0)) (sym none) d.1, d.2)
+
+-- what was given back by the tallies that were lent
+pub lent_back : {lent tallies given new : List TallyOf} (bytes : ℕ) → lent ≡ tallies → new ≡ given → HasGivenBack bytes lent given → HasGivenBack bytes tallies new
+lent_back {lent} {tallies} {given} {new} bytes start end h =
+    subst (λ (z : List TallyOf). HasGivenBack bytes z new) start (subst (λ (z : List TallyOf). HasGivenBack bytes lent z) (sym end) h)

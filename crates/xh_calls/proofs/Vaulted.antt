@@ -1,18 +1,54 @@
--- The vault of an arena's lock stays one of that arena under each call.
-use Rattle.std.proofs.Common.{◌≡◌, ℕ, length, sym, ap, ◌∙◌, subst}
-use Rattle.std.specs.Prelude.{◌≤◌, Option, Some, Result, Ok, Err, IfOk, IfErr, MatchOption}
+-- The vault of an arena's lock stays one of that arena under each call, and its history ends in it.
+use Rattle.std.proofs.Common.{◌≡◌, ℕ, [], ◌∷◌, ◌++◌, length, refl, sym, ap, ◌∙◌, subst}
+use Rattle.std.specs.Prelude.{◌≤◌, Option, Some, Result, Ok, Err, IfOk, IfErr, MatchOption, slice_set}
 use Rattle.xh_arena.specs.declared.refused.Refused.{Refused}
 use Rattle.xh_arena.specs.Refusals.{RefusesCarve}
 use Rattle.xh_arena.specs.Sharing.{IsVaultCarved, IsVaultCut, IsVaultGivenBack}
 use Rattle.xh_arena.specs.Views.{LotOf, TallyOf, VaultOf}
-use Rattle.xh_model.specs.Arena.{ArenaState}
+use Rattle.xh_history.specs.Histories.{FrontOf, HasSeen, History, PenOf, at}
+use Rattle.xh_model.specs.Arena.{ArenaState, IsLawfulArena}
 use Rattle.xh_model.proofs.Calls.{carved_records, carved_size, cut_records, cut_size, back_records, back_size}
 use Rattle.xh_calls.specs.Parts.{PartsOf, IsVaultOf}
+use Rattle.xh_calls.specs.Vaults.{EndsIn, Enters, IsKeptAt, IsPenOf, IsRefusedBy}
+
+ends_push : (v : VaultOf) (h : History VaultOf) (k : ℕ) → EndsIn v (h ++ (k, v) ∷ [])
+ends_push v [] k = refl
+ends_push v (c ∷ []) k = refl
+ends_push v (c ∷ d ∷ h) k = ends_push v (d ∷ h) k
 
 module _ (p : PartsOf) (a : ℕ) where
   -- the vault that the lock holds
-  pub known : (o : Option VaultOf) (v : VaultOf) → o ≡ Some v → MatchOption o (length p.records.shape.names ≤ a) (IsVaultOf p a) → IsVaultOf p a v
-  known o v e is = subst (λ (z : Option VaultOf). MatchOption z (length p.records.shape.names ≤ a) (IsVaultOf p a)) e is
+  pub known : (o : Option VaultOf) (pen : PenOf VaultOf) (v : VaultOf) → o ≡ Some v → IsKeptAt p a (record { vault = o; pen = pen }) → IsVaultOf p a v × EndsIn v pen.history
+  known o pen v e is = subst (λ (z : Option VaultOf). MatchOption z (length p.records.shape.names ≤ a) (λ w. IsVaultOf p a w × EndsIn w pen.history)) e is.1
+
+  -- once a worker has entered what the vault is now
+  module _ (v w : VaultOf) (pen pen' : PenOf VaultOf) (front front' : FrontOf VaultOf) (own : IsPenOf p a pen) (was : IsVaultOf p a v × EndsIn v pen.history) (is : IsVaultOf p a w)
+      (pen_is : pen' ≡ record pen { history = pen.history ++ (front.number, w) ∷ [] }) (front_is : front' ≡ record front { fronts = slice_set front.fronts pen.number pen'.history })
+      (seen : HasSeen front.number (at front.fronts pen.number) pen.history) where
+    pub entered : IsKeptAt p a (record { vault = Some w; pen = pen' })
+    entered = subst (λ (z : PenOf VaultOf). IsKeptAt p a (record { vault = Some w; pen = z })) (sym pen_is) (own, (is, ends_push w pen.history front.number))
+
+    entry : Enters a v w front front'
+    entry =
+        let here : HasSeen front.number (at front.fronts a) pen.history = subst (λ (k : ℕ). HasSeen front.number (at front.fronts k) pen.history) own.1 seen in record {
+          others = here.0;
+          not_its_own = here.2;
+          found = subst (EndsIn v) here.1 was.1;
+          seen = front_is ∙ ap (λ (k : ℕ). record front { fronts = slice_set front.fronts k pen'.history }) own.1
+              ∙ ap (λ (h : History VaultOf). record front { fronts = slice_set front.fronts a h })
+              (ap (λ (z : PenOf VaultOf). z.history) pen_is ∙ ap (λ (h : History VaultOf). h ++ (front.number, w) ∷ []) here.1);
+        }
+
+    -- where it refused to carve
+    pub asked : (arena n : ℕ) (X Y : Type 0) (result : Result ℕ Refused) → arena ≡ a → IsLawfulArena w.arena → IfErr result (λ e. RefusesCarve n v.arena e × (w ≡ v) × X × Y)
+        → IfErr result (IsRefusedBy p arena n front front')
+    asked arena n X Y (Ok start) here lawful refused = tt
+    asked arena n X Y (Err e) here lawful refused = subst (λ (k : ℕ). IsRefusedBy p k n front front' e) (sym here) (
+      v,
+      (was.0, subst (λ (z : VaultOf). Enters a v z front front') refused.1 entry),
+      subst (λ (z : VaultOf). IsLawfulArena z.arena) refused.1 lawful,
+      refused.0,
+    )
 
   stays : (v w : VaultOf) → IsVaultOf p a v → w ≡ record v { arena = w.arena; back = w.back } → w.arena.records ≡ v.arena.records
       → length w.arena.cover ≡ length v.arena.cover → w.arena.limit ≡ v.arena.limit → IsVaultOf p a w

@@ -33,7 +33,7 @@ Spawns old new result = MatchOption result ((can_start old ≡ false) × (new �
 
 -- ---- alloc
 
--- this is so of some lawful vault of the arena. That the call saw it, no clause says
+-- this is so of some lawful vault of the arena; that it is the one which the call found under its lock, the histories of the arenas say
 abbrev pub IsOfSome : PartsOf → ℕ → (ArenaState → Type 0) → Type 0
 IsOfSome parts a P = (v : VaultOf) × IsVaultOf parts a v × IsLawfulArena v.arena × P v.arena
 

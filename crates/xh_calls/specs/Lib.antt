@@ -1,5 +1,6 @@
 pub mod Parts
 pub mod Tallies
+pub mod Vaults
 pub mod Places
 pub mod Calls
 pub mod Channels

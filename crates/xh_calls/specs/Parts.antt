@@ -2,6 +2,7 @@
 use Rattle.std.specs.Prelude.{◌≡◌, ℕ, ◌<◌, ◌≤◌, List, [], length, map, slice_get, Some}
 use Rattle.atomic_table.specs.Seated.{TableId}
 use Rattle.xh_arena.specs.Views.{VaultOf}
+use Rattle.xh_history.specs.Histories.{no_table}
 use Rattle.xh_model.specs.declared.config.Config.{Config}
 use Rattle.xh_model.specs.declared.limits.TheConstants.{MAX_WORKERS}
 use Rattle.xh_model.specs.Config.{IsConfig}
@@ -10,7 +11,7 @@ use Rattle.xh_records.specs.Seats.{RecordsOf}
 
 -- the table of the records, whose shape has the names of the vaults in the order of their arenas; how many workers
 -- share each vault, the bytes of each, and how many it may ever hand out; how many messages may wait in a direction;
--- and the tables of the glances and of the histories
+-- and the tables of the glances, of the histories of the places, and of those of the arenas
 pub record PartsOf : Type 0 where
   pub records : RecordsOf
   pub workers : ℕ
@@ -19,16 +20,13 @@ pub record PartsOf : Type 0 where
   pub depth : ℕ
   pub glances : TableId
   pub histories : TableId
-
--- the name of no table
-abbrev pub no_table : TableId
-no_table = record { words = 0; slots = 0; views_name = 0; atom = 0; block = 0; offset = 0; slot_names = [] }
+  pub vaults : TableId
 
 abbrev pub no_shape : Shape
 no_shape = record { records = 0; places = 0; names = [] }
 
 abbrev pub no_parts : PartsOf
-no_parts = record { records = record { table = no_table; shape = no_shape }; workers = 0; size = 0; wear = 0; depth = 0; glances = no_table; histories = no_table }
+no_parts = record { records = record { table = no_table; shape = no_shape }; workers = 0; size = 0; wear = 0; depth = 0; glances = no_table; histories = no_table; vaults = no_table }
 
 -- the limits that a kernel's parts are made with
 pub record ArePartsLimits (config : Config) (workers : ℕ) : Type 0 where

@@ -2,6 +2,7 @@
 ghost use Rattle.std.specs.Prelude.{◌≡◌, ◌≤◌, ◌%◌, All, IfOk, length, vec_len};
 ghost use Rattle.xh_model.specs.declared.limits.TheConstants.{MAX_ARENAS, MAX_BYTES, UNIT};
 ghost use Rattle.xh_calls.specs.Parts.{IsOpen, vault_names};
+ghost use Rattle.xh_calls.specs.inner.Making.{AreFreshFrom};
 
 use crate::kept::Kept;
 use crate::names::Names;
@@ -9,14 +10,16 @@ use crossbeam_utils::CachePadded;
 use std::alloc::{AllocError, Global};
 use std::sync::{Mutex, Wait};
 use xh_arena::{Lot, Refused, Tally, Vault};
+use xh_history::{Front, Histories, Pen};
 use xh_place::{Body, Vaults};
 
-/// One lock for each arena, on cache lines of its own, and how many arenas there are, and how many bytes
-/// each has.
+/// One lock for each arena, on cache lines of its own, and how many arenas there are, how many bytes
+/// each has, and the histories of the arenas.
 #[derive(Drop)]
 pub struct Arenas<N: Names> {
     pub(crate) count: u8,
     pub(crate) size: u32,
+    pub(crate) histories: Histories<Vault>,
     pub(crate) arena0: CachePadded<Mutex<Kept<N, 0>>>,
     pub(crate) arena1: CachePadded<Mutex<Kept<N, 1>>>,
     pub(crate) arena2: CachePadded<Mutex<Kept<N, 2>>>,
@@ -26,6 +29,7 @@ pub struct Arenas<N: Names> {
     pub(crate) arena6: CachePadded<Mutex<Kept<N, 6>>>,
     pub(crate) arena7: CachePadded<Mutex<Kept<N, 7>>>,
     ghost counted: { (count ≡ length N.parts.records.shape.names) × (count ≤ MAX_ARENAS) },
+    ghost recorded: { histories ≡ N.parts.vaults },
     ghost sized: { (size ≡ N.parts.size) × (size % UNIT ≡ 0) × (size ≤ MAX_BYTES) },
 }
 
@@ -35,26 +39,34 @@ fn locked<N: Names, const A: u8>(kept: Kept<N, A>) -> CachePadded<Mutex<Kept<N, 
 }
 
 impl<N: Names> Arenas<N> {
-    /// The vaults of all arenas behind their locks.
-    pub fn new(vaults: Vec<Vault>, size: u32) -> Arenas<N>
+    /// The vaults of all arenas behind their locks, beside the pens of their histories.
+    pub fn new(
+        vaults: Vec<Vault>,
+        size: u32,
+        histories: Histories<Vault>,
+        pens: Vec<Pen<Vault>>,
+    ) -> Arenas<N>
         requires sized { (size ≡ N.parts.size) × (size % UNIT ≡ 0) × (size ≤ MAX_BYTES) }
         requires names { vault_names vaults.items ≡ N.parts.records.shape.names }
         requires open_vaults { All (IsOpen N.parts) vaults.items }
         requires few { vec_len vaults ≤ MAX_ARENAS }
+        requires histories { (histories ≡ N.parts.vaults) × AreFreshFrom 0 pens.items N.parts.vaults }
     {
         let count = vaults.len() as u8;
         let mut rest = vaults.into_iter();
+        let mut pens = pens.into_iter();
         Arenas {
             count,
             size,
-            arena0: locked(Kept::next(&mut rest)),
-            arena1: locked(Kept::next(&mut rest)),
-            arena2: locked(Kept::next(&mut rest)),
-            arena3: locked(Kept::next(&mut rest)),
-            arena4: locked(Kept::next(&mut rest)),
-            arena5: locked(Kept::next(&mut rest)),
-            arena6: locked(Kept::next(&mut rest)),
-            arena7: locked(Kept::next(&mut rest)),
+            histories,
+            arena0: locked(Kept::next(&mut rest, &mut pens)),
+            arena1: locked(Kept::next(&mut rest, &mut pens)),
+            arena2: locked(Kept::next(&mut rest, &mut pens)),
+            arena3: locked(Kept::next(&mut rest, &mut pens)),
+            arena4: locked(Kept::next(&mut rest, &mut pens)),
+            arena5: locked(Kept::next(&mut rest, &mut pens)),
+            arena6: locked(Kept::next(&mut rest, &mut pens)),
+            arena7: locked(Kept::next(&mut rest, &mut pens)),
         }
     }
 
@@ -67,6 +79,7 @@ impl<N: Names> Arenas<N> {
         let Arenas {
             count,
             size: _,
+            histories: _,
             arena0,
             arena1,
             arena2,
@@ -93,34 +106,36 @@ impl<N: Names> Arenas<N> {
 macro_rules! at_arena {
     ($lent:expr, $arena:expr, $call:ident($($with:expr),*)) => {
         match $arena {
-            0 => Kept::$call($lent.rt, &$lent.arenas.arena0, $arena, $($with),*),
-            1 => Kept::$call($lent.rt, &$lent.arenas.arena1, $arena, $($with),*),
-            2 => Kept::$call($lent.rt, &$lent.arenas.arena2, $arena, $($with),*),
-            3 => Kept::$call($lent.rt, &$lent.arenas.arena3, $arena, $($with),*),
-            4 => Kept::$call($lent.rt, &$lent.arenas.arena4, $arena, $($with),*),
-            5 => Kept::$call($lent.rt, &$lent.arenas.arena5, $arena, $($with),*),
-            6 => Kept::$call($lent.rt, &$lent.arenas.arena6, $arena, $($with),*),
-            7 => Kept::$call($lent.rt, &$lent.arenas.arena7, $arena, $($with),*),
+            0 => Kept::$call($lent.rt, &$lent.arenas.arena0, &$lent.arenas.histories, &mut $lent.front, $arena, $($with),*),
+            1 => Kept::$call($lent.rt, &$lent.arenas.arena1, &$lent.arenas.histories, &mut $lent.front, $arena, $($with),*),
+            2 => Kept::$call($lent.rt, &$lent.arenas.arena2, &$lent.arenas.histories, &mut $lent.front, $arena, $($with),*),
+            3 => Kept::$call($lent.rt, &$lent.arenas.arena3, &$lent.arenas.histories, &mut $lent.front, $arena, $($with),*),
+            4 => Kept::$call($lent.rt, &$lent.arenas.arena4, &$lent.arenas.histories, &mut $lent.front, $arena, $($with),*),
+            5 => Kept::$call($lent.rt, &$lent.arenas.arena5, &$lent.arenas.histories, &mut $lent.front, $arena, $($with),*),
+            6 => Kept::$call($lent.rt, &$lent.arenas.arena6, &$lent.arenas.histories, &mut $lent.front, $arena, $($with),*),
+            7 => Kept::$call($lent.rt, &$lent.arenas.arena7, &$lent.arenas.histories, &mut $lent.front, $arena, $($with),*),
             _ => unreachable!(),
         }
     };
 }
 
-/// It takes an arena's lock for the one call.
+/// It takes an arena's lock for the one call, and enters the call in the arena's history as the worker's.
 #[derive(Drop)]
 pub(crate) struct Lent<'a, N: Names, R: Wait> {
     pub(crate) rt: &'a R,
     pub(crate) arenas: &'a Arenas<N>,
+    pub(crate) front: Front<Vault>,
+    ghost own: { front.table ≡ N.parts.vaults },
 }
 
 impl<'a, N: Names, R: Wait> Vaults for Lent<'a, N, R> {
-    ghost use Rattle.xh_calls.specs.Parts.{IsVaultOf};
+    ghost use Rattle.xh_calls.specs.Vaults.{Leaves};
 
     ghost names = { λ _. N.parts.records.shape.names };
 
     ghost extent = { λ _. N.parts.size };
 
-    ghost changes = { λ _ _ a v _. IsVaultOf N.parts a v };
+    ghost changes = { λ old new. Leaves N.parts old.front new.front };
 
     fn arenas(&self) -> u8 {
         self.arenas.count
@@ -130,6 +145,7 @@ impl<'a, N: Names, R: Wait> Vaults for Lent<'a, N, R> {
         self.arenas.size
     }
 
+    #[inline(always)]
     fn carve(
         &mut self,
         arena: u8,
@@ -140,10 +156,12 @@ impl<'a, N: Names, R: Wait> Vaults for Lent<'a, N, R> {
         at_arena!(self, arena, carve(lot, tally, n))
     }
 
+    #[inline(always)]
     fn cut(&mut self, arena: u8, head: &mut Lot<Body>, tail: &mut Lot<Body>, k: u32) {
         at_arena!(self, arena, cut(head, tail, k))
     }
 
+    #[inline(always)]
     fn give_back(&mut self, arena: u8, lot: &mut Lot<Body>, tally: &mut Tally) {
         at_arena!(self, arena, give_back(lot, tally))
     }

@@ -1,18 +1,20 @@
 //! The calls of a process on its data blocks.
-ghost use Rattle.std.specs.Prelude.{◌≡◌, ◌/◌, ◌<◌, MatchResult, OnErr, OnOk, length};
+ghost use Rattle.std.specs.Prelude.{◌≡◌, ◌/◌, ◌<◌, IfErr, MatchResult, OnErr, OnOk, length};
+ghost use Rattle.xh_core.specs.Space.{rounded};
 ghost use Rattle.xh_model.specs.declared.limits.TheConstants.{MAX_RECORDS};
 ghost use Rattle.xh_place.specs.Places.{IsPlaceOf};
 ghost use Rattle.xh_place.specs.Seen.{IsSamePlace, Stays};
-ghost use Rattle.xh_place.specs.Tallies.{gave, ids_of, took};
+ghost use Rattle.xh_place.specs.Tallies.{gave, took};
 ghost use Rattle.xh_calls.specs.Calls.{Allocates, Frees, Reads, Splits, Writes};
-ghost use Rattle.xh_calls.specs.Places.{IsServed};
+ghost use Rattle.xh_calls.specs.Places.{IsServed, IsTillOf};
+ghost use Rattle.xh_calls.specs.Vaults.{AsksVault};
 
 use crate::heap::Heap;
 use crate::names::Names;
 use crate::starting::check_start;
+use crate::till::Till;
 use std::alloc::Global;
 use std::sync::Wait;
-use xh_arena::Tally;
 use xh_core::{Block, Refused};
 use xh_place::{Gate, Place};
 
@@ -29,17 +31,18 @@ impl<N: Names> Heap<N> {
         p: u16,
         n: u32,
         arena: u32,
-        tallies: &mut [Tally],
+        till: &mut Till,
         gate: &G,
     ) -> Result<Block, Refused>
-        requires { IsServed N.parts place.old.place tallies.old }
-        ensures same { IsSamePlace place.old place.new × (ids_of tallies.new ≡ ids_of tallies.old) }
-        ensures tallies { MatchResult result (λ b. tallies.new ≡ took arena b.len tallies.old) (λ _. tallies.new ≡ tallies.old) }
+        requires { IsServed N.parts place.old.place till.old }
+        ensures same { IsSamePlace place.old place.new × IsTillOf N.parts till.new }
+        ensures tallies { MatchResult result (λ b. till.new.tallies.items ≡ took arena b.len till.old.tallies.items) (λ _. till.new.tallies.items ≡ till.old.tallies.items) }
         ensures made { Allocates N.parts p n arena place.old place.new result }
+        ensures refused { IfErr result (AsksVault N.parts arena (rounded n) till.old.seen till.new.seen) }
     {
         check_start(place, p)?;
-        let mut desk = desk!(rt, self, gate, tallies);
-        place.alloc(alloc, &mut desk, n, arena)
+        let tallies = till.tallies.as_mut_slice();
+        at_desk!(rt, self, gate, till, tallies, desk => place.alloc(alloc, &mut desk, n, arena))
     }
 
     /// Cuts a data block after its first `k` bytes, a multiple of 16: the head, which keeps its record, and
@@ -55,15 +58,16 @@ impl<N: Names> Heap<N> {
         p: u16,
         r: u16,
         k: u32,
+        till: &mut Till,
         gate: &G,
     ) -> Result<(Block, Block), Refused>
-        requires { IsPlaceOf N.parts.records place.old.place }
-        ensures same { IsSamePlace place.old place.new }
+        requires { IsServed N.parts place.old.place till.old }
+        ensures same { IsSamePlace place.old place.new × IsTillOf N.parts till.new }
+        ensures tallies { till.new.tallies.items ≡ till.old.tallies.items }
         ensures cut { Splits p r k place.old place.new result }
     {
         check_start(place, p)?;
-        let mut desk = desk!(rt, self, gate, &mut []);
-        place.split(alloc, &mut desk, r, k)
+        at_desk!(rt, self, gate, till, &mut [], desk => place.split(alloc, &mut desk, r, k))
     }
 
     /// The bytes of a data block from `at` on, as many as `out` has.
@@ -115,17 +119,17 @@ impl<N: Names> Heap<N> {
         place: &mut Place,
         p: u16,
         r: u16,
-        tallies: &mut [Tally],
+        till: &mut Till,
         gate: &G,
     ) -> Result<u32, Refused>
-        requires { IsServed N.parts place.old.place tallies.old }
-        ensures same { IsSamePlace place.old place.new × (ids_of tallies.new ≡ ids_of tallies.old) }
-        ensures tallies { MatchResult result (λ n. tallies.new ≡ gave (r / MAX_RECORDS) n tallies.old) (λ _. tallies.new ≡ tallies.old) }
+        requires { IsServed N.parts place.old.place till.old }
+        ensures same { IsSamePlace place.old place.new × IsTillOf N.parts till.new }
+        ensures tallies { MatchResult result (λ n. till.new.tallies.items ≡ gave (r / MAX_RECORDS) n till.old.tallies.items) (λ _. till.new.tallies.items ≡ till.old.tallies.items) }
         ensures arena { OnOk result (r / MAX_RECORDS < length N.parts.records.shape.names) }
         ensures freed { Frees p r place.old.place place.new.place result }
     {
         check_start(place, p)?;
-        let mut desk = desk!(rt, self, gate, tallies);
-        place.free(&mut desk, r)
+        let tallies = till.tallies.as_mut_slice();
+        at_desk!(rt, self, gate, till, tallies, desk => place.free(&mut desk, r))
     }
 }

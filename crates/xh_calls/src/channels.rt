@@ -1,5 +1,5 @@
 //! Channels are opened, for one process or toward another.
-ghost use Rattle.std.specs.Prelude.{◌≡◌, ℕ, ◌+◌, ◌*◌, ◌<◌, ◌++◌, Err, IfErr, IfOk, MatchResult, Ok, false, length, true};
+ghost use Rattle.std.specs.Prelude.{◌≡◌, ℕ, ◌+◌, ◌*◌, ◌<◌, ◌++◌, Err, IfErr, IfOk, MatchResult, Ok, false, length, true, ⊤};
 ghost use Rattle.xh_channel.specs.Pairs.{IsPair};
 ghost use Rattle.xh_channel.specs.Queues.{Posted};
 ghost use Rattle.xh_core.specs.declared.status.Status.TheVariants as status;
@@ -7,21 +7,24 @@ ghost use Rattle.xh_core.specs.Calls.{arena_tests};
 ghost use Rattle.xh_core.specs.Refusing.{Tested};
 ghost use Rattle.xh_model.specs.declared.limits.TheConstants.{CHANNELS, END_BYTES};
 ghost use Rattle.xh_place.specs.Ending.{HasGivenBack};
-ghost use Rattle.xh_place.specs.Ends.{AreListed};
+ghost use Rattle.xh_place.specs.Ends.{AreListed, IsUnopened, Opens as OpensEnds};
+ghost use Rattle.xh_place.specs.Starts.{start as starts};
 ghost use Rattle.xh_place.specs.Places.{IsPlaceOf};
-ghost use Rattle.xh_place.specs.Seen.{IsSamePlace, PlaceSeen, SeesMore, Stays};
-ghost use Rattle.xh_place.specs.Tallies.{ids_of, took};
+ghost use Rattle.xh_place.specs.Seen.{FindsFull, IsSamePlace, PlaceSeen, SeesMore, Stays};
+ghost use Rattle.xh_place.specs.Tallies.{took};
 ghost use Rattle.xh_records.specs.Seats.{IsRecord};
 ghost use Rattle.xh_calls.specs.Channels.{GoesBy, Opens};
-ghost use Rattle.xh_calls.specs.Places.{IsServed, start};
+ghost use Rattle.xh_calls.specs.Places.{IsServed, IsTillOf, start};
+ghost use Rattle.xh_calls.specs.Vaults.{AsksVault};
+ghost use Rattle.xh_calls.specs.inner.Opening.{LacksSpace};
 ghost use Rattle.xh_calls.specs.Wires.{ClosesAgain, HasLow, OpensToward, ReceivesOr, toward_high};
 
 use crate::heap::Heap;
 use crate::names::Names;
 use crate::starting::check_start;
+use crate::till::Till;
 use crate::wired::Wired;
 use std::sync::Wait;
-use xh_arena::Tally;
 use xh_channel::Endpoint;
 use xh_core::{Block, Contract, Refused};
 use xh_place::{Gate, Place, Unopened};
@@ -72,6 +75,29 @@ impl<N: Names> Heap<N> {
         Ok(())
     }
 
+    // Both ends of a channel that was opened come to the process.
+    #[tactic(auto, using(crate::proofs::Asking::lacks, crate::proofs::Asking::lacks_so))]
+    fn open_ends<R: Wait, G: Gate>(
+        &self,
+        rt: &R,
+        place: &mut Place,
+        low: Endpoint,
+        high: Endpoint,
+        arena: u32,
+        till: &mut Till,
+        gate: &G,
+    ) -> Result<(Block, Block), Unopened>
+        requires served { IsServed N.parts place.old.place till.old }
+        requires fresh { IsPair low high }
+        ensures same { IsSamePlace place.old place.new × IsTillOf N.parts till.new }
+        ensures opened { OpensEnds arena low high place.old.place place.new.place till.old.tallies.items till.new.tallies.items result }
+        ensures why { IsUnopened (starts place.old.place.state ++ arena_tests arena (length place.old.place.shape.names)) ⊤
+            (LacksSpace N.parts arena (FindsFull place.old place.new arena) till.old.seen till.new.seen) result }
+    {
+        let tallies = till.tallies.as_mut_slice();
+        at_desk!(rt, self, gate, till, tallies, desk => place.open(&mut desk, low, high, arena))
+    }
+
     /// Both ends of a new channel come to the process: side 0 and side 1, each of 32 bytes, the halves of
     /// one first fit of 64 bytes of the arena. The channel goes by the contract, or by none.
     ///
@@ -83,19 +109,19 @@ impl<N: Names> Heap<N> {
         p: u16,
         arena: u32,
         contract: Option<Contract>,
-        tallies: &mut [Tally],
+        till: &mut Till,
         gate: &G,
     ) -> Result<(Block, Block), Refused>
-        requires { IsServed N.parts place.old.place tallies.old }
-        ensures same { IsSamePlace place.old place.new × (ids_of tallies.new ≡ ids_of tallies.old) }
-        ensures tallies { MatchResult result (λ _. tallies.new ≡ took arena (2 * END_BYTES) tallies.old) (λ _. tallies.new ≡ tallies.old) }
+        requires { IsServed N.parts place.old.place till.old }
+        ensures same { IsSamePlace place.old place.new × IsTillOf N.parts till.new }
+        ensures tallies { MatchResult result (λ _. till.new.tallies.items ≡ took arena (2 * END_BYTES) till.old.tallies.items) (λ _. till.new.tallies.items ≡ till.old.tallies.items) }
         ensures opened { Opens N.parts p arena contract place.old place.new result }
+        ensures refused { IfErr result (AsksVault N.parts arena (2 * END_BYTES) till.old.seen till.new.seen) }
         ensures ends { IfOk result (λ ends. (place.new.place.state ≡ status.Running) × ((low : Posted) × (high : Posted) × IsPair low high × AreListed low high place.new.place ends)) }
     {
         self.test_open(place, p, arena)?;
         let (low, high) = open_channel(rt, self, contract)?;
-        let mut desk = desk!(rt, self, gate, tallies);
-        let opened = place.open(&mut desk, low, high, arena);
+        let opened = self.open_ends(rt, place, low, high, arena, till, gate);
         finish(rt, self, opened)
     }
 
@@ -107,16 +133,17 @@ impl<N: Names> Heap<N> {
         p: u16,
         arena: u32,
         contract: Option<Contract>,
-        tallies: &mut [Tally],
+        till: &mut Till,
         gate: &G,
     ) -> Result<Wired, Refused>
-        requires { IsServed N.parts place.old.place tallies.old }
-        ensures same { IsSamePlace place.old place.new × (ids_of tallies.new ≡ ids_of tallies.old) }
-        ensures tallies { MatchResult result (λ _. tallies.new ≡ took arena (2 * END_BYTES) tallies.old) (λ _. tallies.new ≡ tallies.old) }
+        requires { IsServed N.parts place.old.place till.old }
+        ensures same { IsSamePlace place.old place.new × IsTillOf N.parts till.new }
+        ensures tallies { MatchResult result (λ _. till.new.tallies.items ≡ took arena (2 * END_BYTES) till.old.tallies.items) (λ _. till.new.tallies.items ≡ till.old.tallies.items) }
         ensures opened { OpensToward N.parts p arena contract place.old place.new result }
+        ensures refused { IfErr result (AsksVault N.parts arena (2 * END_BYTES) till.old.seen till.new.seen) }
         ensures exists { IfOk result (λ w. IsRecord N.parts.records.shape w.high.rec) }
     {
-        let (low, high) = self.open(rt, place, p, arena, contract, tallies, gate)?;
+        let (low, high) = self.open(rt, place, p, arena, contract, till, gate)?;
         let Some(spot) = place.spot(&self.records, low.rec) else {
             unreachable!()
         };
@@ -127,7 +154,6 @@ impl<N: Names> Heap<N> {
 
     /// Side 1 of the channel, on its way, comes to the process's list; or it is swept where the process has
     /// ended. Ended where it didn't come.
-    #[tactic(auto, using(crate::proofs::Moved::received))]
     pub fn receive<R: Wait, G: Gate>(
         &self,
         rt: &R,
@@ -135,16 +161,17 @@ impl<N: Names> Heap<N> {
         q: u16,
         r: u16,
         channel: u8,
-        tallies: &mut [Tally],
+        till: &mut Till,
         gate: &G,
     ) -> Result<Block, Refused>
-        requires served { IsServed N.parts place.old.place tallies.old }
+        requires served { IsServed N.parts place.old.place till.old }
         requires there { IsRecord N.parts.records.shape r × (channel < CHANNELS) }
-        ensures same { IsSamePlace place.old place.new × (ids_of tallies.new ≡ ids_of tallies.old) }
-        ensures received { (bytes : ℕ) × ReceivesOr q (toward_high channel) r bytes place.old place.new result × HasGivenBack bytes tallies.old tallies.new }
+        ensures same { IsSamePlace place.old place.new × IsTillOf N.parts till.new }
+        ensures received { (bytes : ℕ) × ReceivesOr q (toward_high channel) r bytes place.old place.new result × HasGivenBack bytes till.old.tallies.items till.new.tallies.items }
     {
-        let mut desk = desk!(rt, self, gate, tallies);
-        place.accept_end(&mut desk, q, r, 2 * channel + 1)
+        let tallies = till.tallies.as_mut_slice();
+        let toward = 2 * channel + 1;
+        at_desk!(rt, self, gate, till, tallies, desk => place.accept_end(&mut desk, q, r, toward))
     }
 
     // Whether the record is side 0 of the channel.
@@ -168,12 +195,12 @@ impl<N: Names> Heap<N> {
         p: u16,
         r: u16,
         channel: u8,
-        tallies: &mut [Tally],
+        till: &mut Till,
         gate: &G,
     )
-        requires { IsServed N.parts place.old.place tallies.old }
-        ensures same { IsSamePlace place.old place.new × (ids_of tallies.new ≡ ids_of tallies.old) }
-        ensures closed { (from : PlaceSeen) × Stays place.old from × SeesMore from place.new × (bytes : ℕ) × ClosesAgain p channel r from place.new bytes × HasGivenBack bytes tallies.old tallies.new }
+        requires { IsServed N.parts place.old.place till.old }
+        ensures same { IsSamePlace place.old place.new × IsTillOf N.parts till.new }
+        ensures closed { (from : PlaceSeen) × Stays place.old from × SeesMore from place.new × (bytes : ℕ) × ClosesAgain p channel r from place.new bytes × HasGivenBack bytes till.old.tallies.items till.new.tallies.items }
     {
         if let Err(_refused) = check_start(place, p) {
             return;
@@ -181,7 +208,7 @@ impl<N: Names> Heap<N> {
         // Each of its blocks is whole.
         let _blocks = place.blocks();
         if self.has_low(place, r, channel) {
-            let _closed = self.close(rt, place, p, r, tallies, gate);
+            let _closed = self.close(rt, place, p, r, till, gate);
         }
     }
 }

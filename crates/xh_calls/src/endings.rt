@@ -2,15 +2,14 @@
 ghost use Rattle.std.specs.Prelude.{◌≡◌, ℕ};
 ghost use Rattle.xh_place.specs.Ending.{HasGivenBack};
 ghost use Rattle.xh_place.specs.Seen.{IsSamePlace};
-ghost use Rattle.xh_place.specs.Tallies.{ids_of};
 ghost use Rattle.xh_calls.specs.Endings.{Closes, Stops};
-ghost use Rattle.xh_calls.specs.Places.{IsServed};
+ghost use Rattle.xh_calls.specs.Places.{IsServed, IsTillOf};
 
 use crate::heap::Heap;
 use crate::names::Names;
 use crate::starting::{check_start, check_stop};
+use crate::till::Till;
 use std::sync::Wait;
-use xh_arena::Tally;
 use xh_core::Refused;
 use xh_place::{Gate, Place};
 
@@ -25,16 +24,16 @@ impl<N: Names> Heap<N> {
         place: &mut Place,
         p: u16,
         e: u16,
-        tallies: &mut [Tally],
+        till: &mut Till,
         gate: &G,
     ) -> Result<u64, Refused>
-        requires { IsServed N.parts place.old.place tallies.old }
-        ensures same { IsSamePlace place.old place.new × (ids_of tallies.new ≡ ids_of tallies.old) }
-        ensures closed { (bytes : ℕ) × Closes p e bytes place.old place.new result × HasGivenBack bytes tallies.old tallies.new }
+        requires { IsServed N.parts place.old.place till.old }
+        ensures same { IsSamePlace place.old place.new × IsTillOf N.parts till.new }
+        ensures closed { (bytes : ℕ) × Closes p e bytes place.old place.new result × HasGivenBack bytes till.old.tallies.items till.new.tallies.items }
     {
         check_start(place, p)?;
-        let mut desk = desk!(rt, self, gate, tallies);
-        place.close_end(&mut desk, e)
+        let tallies = till.tallies.as_mut_slice();
+        at_desk!(rt, self, gate, till, tallies, desk => place.close_end(&mut desk, e))
     }
 
     /// The process ends, or goes on ending: its blocks go, at most `budget` of them, and what was on its way
@@ -48,15 +47,15 @@ impl<N: Names> Heap<N> {
         place: &mut Place,
         p: u16,
         budget: u16,
-        tallies: &mut [Tally],
+        till: &mut Till,
         gate: &G,
     ) -> Result<u64, Refused>
-        requires { IsServed N.parts place.old.place tallies.old }
-        ensures same { IsSamePlace place.old place.new × (ids_of tallies.new ≡ ids_of tallies.old) }
-        ensures stopped { (bytes : ℕ) × Stops p budget bytes place.old place.new result × HasGivenBack bytes tallies.old tallies.new }
+        requires { IsServed N.parts place.old.place till.old }
+        ensures same { IsSamePlace place.old place.new × IsTillOf N.parts till.new }
+        ensures stopped { (bytes : ℕ) × Stops p budget bytes place.old place.new result × HasGivenBack bytes till.old.tallies.items till.new.tallies.items }
     {
         check_stop(place, p)?;
-        let mut desk = desk!(rt, self, gate, tallies);
-        place.stop(&mut desk, budget)
+        let tallies = till.tallies.as_mut_slice();
+        at_desk!(rt, self, gate, till, tallies, desk => place.stop(&mut desk, budget))
     }
 }

@@ -2,11 +2,12 @@
 ghost use Rattle.std.specs.Prelude.{◌≡◌, ◌⊎◌, ◌+◌, ◌-◌, ◌%◌, ◌<◌, ◌≤◌, length, slice_get, Some, take, drop, All, IfErr, OnErr, OnOk};
 ghost use Rattle.std.specs.Vec.{vec_capacity};
 ghost use Rattle.std.specs.Vec.Iter.{into_iter_items};
-ghost use Rattle.xh_arena.specs.Refusals.{RefusesCarve};
-ghost use Rattle.xh_arena.specs.Views.{VaultOf};
-ghost use Rattle.xh_model.specs.Arena.{IsGoodCut, IsLawfulArena};
-ghost use Rattle.xh_model.specs.declared.limits.TheConstants.{UNIT};
-ghost use Rattle.xh_calls.specs.Parts.{IsOpen, IsVaultOf, vault_names};
+ghost use Rattle.xh_history.specs.Histories.{fresh_pen};
+ghost use Rattle.xh_model.specs.Arena.{IsGoodCut};
+ghost use Rattle.xh_model.specs.declared.limits.TheConstants.{MAX_ARENAS, UNIT};
+ghost use Rattle.xh_calls.specs.Parts.{IsOpen, vault_names};
+ghost use Rattle.xh_calls.specs.Vaults.{IsRefusedBy};
+ghost use Rattle.xh_calls.specs.inner.Making.{AreFreshFrom};
 
 use crate::names::Names;
 use crossbeam_utils::CachePadded;
@@ -14,42 +15,61 @@ use std::marker::{Model, PhantomData};
 use std::sync::{Mutex, Wait};
 use std::vec::IntoIter;
 use xh_arena::{Lot, Refused, Tally, Vault};
+use xh_history::{Front, Histories, Pen};
 use xh_place::Body;
 
-/// The vault of arena A, where the kernel has that arena.
+/// The vault of arena A, where the kernel has that arena, and the pen of its history.
 #[derive(Drop)]
 pub struct Kept<N: Names, const A: u8> {
     vault: Option<Vault>,
+    pen: Pen<Vault>,
     of: PhantomData<N>,
 }
 
 impl<N: Names, const A: u8> Model for Kept<N, A> {
-    ghost use Rattle.std.specs.Prelude.{◌≤◌, length, Option, MatchOption};
-    ghost use Rattle.xh_arena.specs.Views.{VaultOf};
-    ghost use Rattle.xh_calls.specs.Parts.{IsVaultOf};
+    ghost use Rattle.xh_calls.specs.Vaults.{IsKeptAt, KeptOf};
 
-    ghost Value = { Option VaultOf };
+    ghost Value = { KeptOf };
 
-    ghost view = { λ k. k.vault };
+    ghost view = { λ k. record { vault = k.vault; pen = k.pen } };
 
-    ghost invariant = { λ k. MatchOption k.vault (length N.parts.records.shape.names ≤ A) (IsVaultOf N.parts A) };
+    ghost invariant = { λ k. IsKeptAt N.parts A (record { vault = k.vault; pen = k.pen }) };
 }
 
 impl<N: Names, const A: u8> Kept<N, A> {
-    // The next vault, which is that of arena A, where there is one.
-    pub(crate) fn next(rest: &mut IntoIter<Vault>) -> Kept<N, A>
+    // The pen of the history of arena A, which is the next one.
+    fn next_pen(pens: &mut IntoIter<Pen<Vault>>) -> Pen<Vault>
+        requires arena { A < MAX_ARENAS }
+        requires pens { AreFreshFrom A (into_iter_items pens.old) N.parts.vaults }
+        ensures pen { result ≡ fresh_pen N.parts.vaults A }
+        ensures pens { AreFreshFrom (A + 1) (into_iter_items pens.new) N.parts.vaults }
+    {
+        let Some(pen) = pens.next() else {
+            unreachable!()
+        };
+        pen
+    }
+
+    // The next vault, which is that of arena A, where there is one, and the next pen.
+    pub(crate) fn next(rest: &mut IntoIter<Vault>, pens: &mut IntoIter<Pen<Vault>>) -> Kept<N, A>
+        requires arena { A < MAX_ARENAS }
         requires names { vault_names (into_iter_items rest.old) ≡ drop A N.parts.records.shape.names }
         requires open_vaults { All (IsOpen N.parts) (into_iter_items rest.old) }
+        requires pens { AreFreshFrom A (into_iter_items pens.old) N.parts.vaults }
         ensures names { vault_names (into_iter_items rest.new) ≡ drop (A + 1) N.parts.records.shape.names }
         ensures open_vaults { All (IsOpen N.parts) (into_iter_items rest.new) }
+        ensures pens { AreFreshFrom (A + 1) (into_iter_items pens.new) N.parts.vaults }
     {
+        let pen = Kept::<N, A>::next_pen(pens);
         match rest.next() {
             Some(vault) => Kept {
                 vault: Some(vault),
+                pen,
                 of: PhantomData,
             },
             None => Kept {
                 vault: None,
+                pen,
                 of: PhantomData,
             },
         }
@@ -64,22 +84,29 @@ impl<N: Names, const A: u8> Kept<N, A> {
         ensures open_vaults { All (IsOpen N.parts) vaults.new.items }
         ensures room { vec_capacity vaults.new ≡ vec_capacity vaults.old }
     {
-        let Kept { vault, of: _ } = self;
+        let Kept {
+            vault,
+            pen: _,
+            of: _,
+        } = self;
         if let Some(vault) = vault {
             vaults.push_reserved(vault);
         }
     }
 
-    // As `Vault::carve`, under the lock of the arena, which is A.
+    // As `Vault::carve`, under the lock of the arena, which is A. The worker enters it in the arena's history.
     pub(crate) fn carve<R: Wait>(
         rt: &R,
         lock: &CachePadded<Mutex<Kept<N, A>>>,
+        histories: &Histories<Vault>,
+        front: &mut Front<Vault>,
         arena: u8,
         lot: &mut Lot<Body>,
         tally: &mut Tally,
         n: u32,
     ) -> Result<u32, Refused>
         requires is { arena ≡ A }
+        requires tables { (histories.now ≡ N.parts.vaults) × (front.old.table ≡ N.parts.vaults) }
         requires ids { (slice_get N.parts.records.shape.names arena ≡ Some lot.old.id) × (tally.old.id ≡ lot.old.id) }
         requires empty { lot.old.len ≡ 0 }
         requires size { (0 < n) × (n % UNIT ≡ 0) × (n ≤ N.parts.size) }
@@ -87,29 +114,36 @@ impl<N: Names, const A: u8> Kept<N, A> {
         ensures tally { OnOk result (tally.new ≡ record tally.old { taken = tally.old.taken + n }) }
         ensures refused { OnErr result ((lot.new ≡ lot.old) × (tally.new ≡ tally.old)) }
         ensures reason { IfErr result (λ e. (e ≡ Refused.NoSpace) ⊎ (e ≡ Refused.Worn)) }
-        ensures why { IfErr result (λ e. (v : VaultOf) × IsVaultOf N.parts arena v × IsLawfulArena v.arena × RefusesCarve n v.arena e) }
+        ensures front { front.new.table ≡ front.old.table }
+        ensures why { IfErr result (IsRefusedBy N.parts arena n front.old front.new) }
     {
         let mut guard = lock.lock(rt);
         let kept: &mut Kept<N, A> = &mut guard;
         let Some(vault) = &mut kept.vault else {
             unreachable!()
         };
-        vault.carve(lot, tally, n)
+        let answer = vault.carve(lot, tally, n);
+        histories.add(&mut kept.pen, front, &*vault);
+        answer
     }
 
-    // As `Vault::cut`, under the lock of the arena, which is A.
+    // As `Vault::cut`, under the lock of the arena, which is A. The worker enters it in the arena's history.
     pub(crate) fn cut<R: Wait>(
         rt: &R,
         lock: &CachePadded<Mutex<Kept<N, A>>>,
+        histories: &Histories<Vault>,
+        front: &mut Front<Vault>,
         arena: u8,
         head: &mut Lot<Body>,
         tail: &mut Lot<Body>,
         k: u32,
     )
         requires is { arena ≡ A }
+        requires tables { (histories.now ≡ N.parts.vaults) × (front.old.table ≡ N.parts.vaults) }
         requires ids { (slice_get N.parts.records.shape.names arena ≡ Some head.old.id) × (tail.old.id ≡ head.old.id) }
         requires empty { tail.old.len ≡ 0 }
         requires good { IsGoodCut k head.old.len }
+        ensures front { front.new.table ≡ front.old.table }
         ensures head { head.new ≡ record head.old { len = k } }
         ensures tail { tail.new ≡ record tail.old { len = head.old.len - k } }
     {
@@ -118,20 +152,25 @@ impl<N: Names, const A: u8> Kept<N, A> {
         let Some(vault) = &mut kept.vault else {
             unreachable!()
         };
-        vault.cut(head, tail, k)
+        vault.cut(head, tail, k);
+        histories.add(&mut kept.pen, front, &*vault);
     }
 
-    // As `Vault::give_back`, under the lock of the arena, which is A.
+    // As `Vault::give_back`, under the lock of the arena, which is A. The worker enters it in the arena's history.
     pub(crate) fn give_back<R: Wait>(
         rt: &R,
         lock: &CachePadded<Mutex<Kept<N, A>>>,
+        histories: &Histories<Vault>,
+        front: &mut Front<Vault>,
         arena: u8,
         lot: &mut Lot<Body>,
         tally: &mut Tally,
     )
         requires is { arena ≡ A }
+        requires tables { (histories.now ≡ N.parts.vaults) × (front.old.table ≡ N.parts.vaults) }
         requires ids { (slice_get N.parts.records.shape.names arena ≡ Some lot.old.id) × (tally.old.id ≡ lot.old.id) }
         requires some { 0 < lot.old.len }
+        ensures front { front.new.table ≡ front.old.table }
         ensures lot { lot.new ≡ record lot.old { len = 0 } }
         ensures tally { tally.new ≡ record tally.old { back = tally.old.back + lot.old.len } }
     {
@@ -140,6 +179,7 @@ impl<N: Names, const A: u8> Kept<N, A> {
         let Some(vault) = &mut kept.vault else {
             unreachable!()
         };
-        vault.give_back(lot, tally)
+        vault.give_back(lot, tally);
+        histories.add(&mut kept.pen, front, &*vault);
     }
 }

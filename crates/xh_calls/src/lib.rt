@@ -7,9 +7,6 @@ macro_rules! desk {
     ($rt:expr, $heap:expr, $gate:expr) => {
         desk!($rt, $heap, $gate, &mut (), &mut [])
     };
-    ($rt:expr, $heap:expr, $gate:expr, $tallies:expr) => {
-        desk!($rt, $heap, $gate, &mut $crate::arenas::Lent { rt: $rt, arenas: &$heap.arenas }, $tallies)
-    };
     ($rt:expr, $heap:expr, $gate:expr, $vaults:expr, $tallies:expr) => {
         xh_place::Desk {
             rt: $rt,
@@ -20,6 +17,28 @@ macro_rules! desk {
             gate: $gate,
         }
     };
+}
+
+// A call at a desk with the vaults and these tallies. What the worker has seen of the arenas is lent to it
+// meanwhile.
+macro_rules! at_desk {
+    ($rt:expr, $heap:expr, $gate:expr, $till:expr, $tallies:expr, $desk:ident => $call:expr) => {{
+        let seen = std::mem::replace(&mut $till.seen, xh_history::Front::blank());
+        let mut lent = $crate::arenas::Lent {
+            rt: $rt,
+            arenas: &$heap.arenas,
+            front: seen,
+        };
+        let mut $desk = desk!($rt, $heap, $gate, &mut lent, $tallies);
+        let answer = $call;
+        let $crate::arenas::Lent {
+            rt: _,
+            arenas: _,
+            front,
+        } = lent;
+        $till.seen = front;
+        answer
+    }};
 }
 
 mod arenas;
@@ -33,6 +52,7 @@ mod messages;
 mod names;
 mod several;
 mod starting;
+mod till;
 mod wired;
 
 pub use arenas::Arenas;
@@ -41,4 +61,5 @@ pub use making::{Bundle, Makings, make_vaults};
 pub use names::Names;
 pub use several::{Answered, MAX_ENDS};
 pub use starting::check_start;
+pub use till::Till;
 pub use wired::Wired;

@@ -6,11 +6,12 @@ use mathlib.Core.Logic.{dite}
 use native.Mathlib.Decide.{ℕ_discrete}
 use lib.ListN.{get_elem?}
 use Rattle.atomic_table.specs.Table.{Me, step, keeps, Allows, Splits, Joins, opening}
+use Rattle.atomic_table.specs.Seated.{TableId}
 use Rattle.atomic_table.proofs.Lists.{at_set, set_else}
 use Rattle.xh_history.specs.declared.view.View.{View}
 use Rattle.xh_model.specs.declared.limits.TheConstants.{PLACES}
 use Rattle.xh_history.specs.Histories.{History, HasSeen, calls_of, at}
-use Rattle.xh_history.specs.inner.Views.{Added, Fits, IsKept, Serves, Writes, both, first_view, place_alone, signed, spent, with_calls, without_place, without_worker, worker_alone}
+use Rattle.xh_history.specs.inner.Views.{Added, Fits, IsFront, IsFrontOrNone, IsKept, front_of, Serves, Writes, both, first_view, place_alone, signed, spent, with_calls, without_place, without_worker, worker_alone}
 
 -- the function with another value at one number
 abbrev but : {A : Type 0} → (ℕ → A) → ℕ → A → ℕ → A
@@ -215,3 +216,8 @@ module _ {E : Type 0} where
       server = λ k sv. refl;
     },
   )
+
+  -- a front at a table is a seat there
+  pub not_blank : (id t : TableId) (views : List (View E)) → (front_of id views).table ≡ t → t.words ≡ 1 → IsFrontOrNone views → IsFront views
+  not_blank id t [] e one is = let none : 0 ≡ 1 = ap (λ (x : TableId). x.words) e ∙ one in absurd (omega (arith, none))
+  not_blank id t (v ∷ vs) e one is = is

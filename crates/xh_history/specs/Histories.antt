@@ -38,3 +38,11 @@ fresh_pen id k = record { table = id; number = k; history = [] }
 -- of a worker who has seen nothing
 abbrev pub fresh_front : {E : Type 0} → TableId → ℕ → FrontOf E
 fresh_front id k = record { table = id; number = k; fronts = replicate PLACES [] }
+
+-- the name of no table
+abbrev pub no_table : TableId
+no_table = record { words = 0; slots = 0; views_name = 0; atom = 0; block = 0; offset = 0; slot_names = [] }
+
+-- of nobody, at no table
+abbrev pub no_front : {E : Type 0} → FrontOf E
+no_front = record { table = no_table; number = 0; fronts = [] }

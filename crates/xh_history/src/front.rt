@@ -1,4 +1,7 @@
 //! What a worker has seen.
+ghost use Rattle.std.specs.Prelude.{◌≡◌};
+ghost use Rattle.xh_history.specs.Histories.{no_front};
+
 use crate::view::View;
 use atomic_table::Badge;
 use std::marker::Model;
@@ -12,11 +15,22 @@ pub struct Front<E> {
 
 impl<E> Model for Front<E> {
     ghost use Rattle.xh_history.specs.Histories.{FrontOf};
-    ghost use Rattle.xh_history.specs.inner.Views.{IsFront, view_in};
+    ghost use Rattle.xh_history.specs.inner.Views.{IsFrontOrNone, front_of};
 
     ghost Value = { FrontOf E };
 
-    ghost view = { λ f. record { table = f.badge.table_id; number = (view_in f.badge.views).worker; fronts = (view_in f.badge.views).fronts } };
+    ghost view = { λ f. front_of f.badge.table_id f.badge.views };
 
-    ghost invariant = { λ f. IsFront f.badge.views };
+    ghost invariant = { λ f. IsFrontOrNone f.badge.views };
+}
+
+impl<E> Front<E> {
+    /// Of nobody: what stands where a worker's own was taken from, for as long as it is lent.
+    pub fn blank() -> Front<E>
+        ensures { result ≡ no_front }
+    {
+        Front {
+            badge: Badge::blank(),
+        }
+    }
 }

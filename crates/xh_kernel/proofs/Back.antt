@@ -1,9 +1,12 @@
 -- What came back of the tallies that an account lent.
-use Rattle.std.proofs.Common.{◌≡◌, ◌<◌, ℕ, ◌+◌, ◌-◌, List, length, ap, arith, refl, ◌∙◌}
-use Rattle.std.specs.Prelude.{Result, Ok, Err, MatchResult, OnOk}
+use Rattle.std.proofs.Common.{◌≡◌, ◌<◌, ℕ, ◌+◌, ◌-◌, List, length, ap, arith, refl, subst, ◌∙◌}
+use Rattle.std.specs.Prelude.{Result, Ok, Err, IfErr, MatchResult, OnOk}
 use Rattle.atomic_table.specs.Seated.{TableId}
-use Rattle.xh_arena.specs.Views.{TallyOf}
+use Rattle.xh_arena.specs.Views.{TallyOf, VaultOf}
 use Rattle.xh_core.specs.declared.refused.Refused.{Refused}
+use Rattle.xh_calls.specs.Parts.{PartsOf}
+use Rattle.xh_calls.specs.Vaults.{AsksVault}
+use Rattle.xh_history.specs.Histories.{FrontOf}
 use Rattle.xh_kernel.specs.Accounts.{AccountOf}
 use Rattle.xh_place.proofs.Counted.{tallied}
 use Rattle.xh_place.specs.Ending.{HasGivenBack, back_of, but_back}
@@ -27,3 +30,13 @@ given {account} (Ok n) arena names view start end same there m =
     let first = start ∙ ap (λ (a : AccountOf). a.tallies) view in
     (ap (λ (a : AccountOf). a.number) view, end ∙ m ∙ ap (gave arena n) first, tallied account.tallies arena same refl there)
 given (Err e) arena names view start end same there m = (ap (λ (a : AccountOf). a.number) view, end ∙ m ∙ start ∙ ap (λ (a : AccountOf). a.tallies) view)
+
+-- what the till has seen is what the account has
+module _ (parts : PartsOf) where
+  pub tabled : (f : FrontOf VaultOf) → f.table ≡ parts.vaults → f ≡ record { table = parts.vaults; number = f.number; fronts = f.fronts }
+  tabled f table = λ i. record { table = table i; number = f.number; fronts = f.fronts }
+
+  pub asked : {A : Type 0} (arena n : ℕ) (f g f' g' : FrontOf VaultOf) (result : Result A Refused) → f ≡ f' → g ≡ g'
+      → IfErr result (AsksVault parts arena n f g) → IfErr result (AsksVault parts arena n f' g')
+  asked arena n f g f' g' result before after h =
+      subst (λ (x : FrontOf VaultOf). IfErr result (AsksVault parts arena n x g')) before (subst (λ (y : FrontOf VaultOf). IfErr result (AsksVault parts arena n f y)) after h)

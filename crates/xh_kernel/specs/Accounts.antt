@@ -1,19 +1,25 @@
 -- What contracts see of an account, and what calls do to it.
-use Rattle.std.specs.Prelude.{◌≡◌, ℕ, ◌<◌, List, [], map, replicate, slice_index_or, length, Option, Some, None}
+use Rattle.std.specs.Prelude.{◌≡◌, ℕ, ◌<◌, List, [], map, replicate, slice_index_or, length, Option, Some, None, Result, IfErr}
 use Rattle.atomic_table.specs.Seated.{TableId}
-use Rattle.xh_arena.specs.Views.{TallyOf}
+use Rattle.xh_arena.specs.Views.{TallyOf, VaultOf}
+use Rattle.xh_calls.specs.Parts.{PartsOf}
 use Rattle.xh_calls.specs.Tallies.{fresh_tally}
-use Rattle.xh_history.specs.Histories.{History}
+use Rattle.xh_calls.specs.Vaults.{AsksVault}
+use Rattle.xh_core.specs.declared.refused.Refused.{Refused}
+use Rattle.xh_history.specs.Histories.{FrontOf, History}
 use Rattle.xh_kernel.specs.declared.call.Call.{Call}
 use Rattle.xh_model.specs.declared.limits.TheConstants.{PLACES}
 use Rattle.xh_place.specs.Ending.{HasGivenBack}
 use Rattle.xh_place.specs.Tallies.{took, gave}
 
--- a worker's number, its tallies by arena, and of each place what the worker has seen of its history
+-- a worker's number, its tallies by arena, and of each place what the worker has seen of its history; the number by which
+-- it signs the histories of the arenas, and what it has seen of them
 pub record AccountOf : Type 0 where
   pub number : ℕ
   pub tallies : List TallyOf
   pub fronts : List (History Call)
+  pub signs : ℕ
+  pub vaults : List (History VaultOf)
 
 -- what a tally has taken and given back
 abbrev pub moved_of : Option TallyOf → Option (ℕ × ℕ)
@@ -38,8 +44,16 @@ HasBack bytes old new = (new.number ≡ old.number) × HasGivenBack bytes old.ta
 
 -- the account of the worker k, with nothing taken and nothing seen, over vaults of these names
 abbrev pub fresh : List TableId → ℕ → AccountOf
-fresh zs k = record { number = k; tallies = map (fresh_tally k) zs; fronts = replicate PLACES [] }
+fresh zs k = record { number = k; tallies = map (fresh_tally k) zs; fronts = replicate PLACES []; signs = k; vaults = replicate PLACES [] }
 
 -- the accounts of the workers 0, 1, .., in order
 abbrev pub AreFresh : List TableId → List AccountOf → Type 0
 AreFresh zs all = (k : ℕ) (d : AccountOf) → k < length all → slice_index_or all k d ≡ fresh zs k
+
+-- what the worker has seen of the histories of the arenas
+abbrev pub seen_of : PartsOf → AccountOf → FrontOf VaultOf
+seen_of parts a = record { table = parts.vaults; number = a.signs; fronts = a.vaults }
+
+-- where the answer was NoSpace or Worn, the vault of the arena refused n bytes for this reason when this call asked it
+abbrev pub Asked : PartsOf → ℕ → ℕ → AccountOf → AccountOf → {A : Type 0} → Result A Refused → Type 0
+Asked parts arena n old new result = IfErr result (AsksVault parts arena n (seen_of parts old) (seen_of parts new))

@@ -8,16 +8,16 @@ ghost use Rattle.xh_place.specs.Tallies.{ids_of};
 use crate::call::Call;
 use crate::scribe::Pens;
 use std::marker::{Model, PhantomData};
-use xh_arena::Tally;
-use xh_calls::{Bundle, Names};
+use xh_arena::{Tally, Vault};
+use xh_calls::{Bundle, Names, Till};
 use xh_history::{Front, Histories};
 
-/// A worker's tally of each arena, and of each place's history what the worker has seen. It tells how many
+/// A worker's tally of each arena, and of each place's and each arena's history what the worker has seen. It tells how many
 /// bytes of each arena the worker ever took and gave back.
 #[derive(Drop)]
 pub struct Account<N: Names> {
     number: u8,
-    pub(crate) tallies: Vec<Tally>,
+    pub(crate) till: Till,
     pub(crate) front: Front<Call>,
     of: PhantomData<N>,
 }
@@ -25,26 +25,30 @@ pub struct Account<N: Names> {
 impl<N: Names> Model for Account<N> {
     ghost use Rattle.std.specs.Prelude.{◌≡◌, ◌<◌};
     ghost use Rattle.xh_kernel.specs.Accounts.{AccountOf};
-    ghost use Rattle.xh_place.specs.Tallies.{ids_of};
+    ghost use Rattle.xh_calls.specs.Places.{IsTillOf};
 
     ghost Value = { AccountOf };
 
-    ghost view = { λ a. record { number = a.number; tallies = a.tallies.items; fronts = a.front.fronts } };
+    ghost view = { λ a. record { number = a.number; tallies = a.till.tallies.items; fronts = a.front.fronts; signs = a.till.seen.number; vaults = a.till.seen.fronts } };
 
-    ghost invariant = { λ a. (ids_of a.tallies.items ≡ N.parts.records.shape.names) × (a.front.table ≡ N.parts.histories) × (a.front.number ≡ a.number) × (a.number < N.parts.workers) };
+    ghost invariant = { λ a. IsTillOf N.parts a.till × (a.front.table ≡ N.parts.histories) × (a.front.number ≡ a.number) × (a.number < N.parts.workers) };
 }
 
 impl<N: Names> Account<N> {
     // The account of a bundle of the kernel's own, and of a worker who has seen nothing.
-    pub(crate) fn named(bundle: Bundle, front: Front<Call>) -> Account<N>
+    pub(crate) fn named(bundle: Bundle, front: Front<Call>, seen: Front<Vault>) -> Account<N>
         requires tallies { AreFreshTallies N.parts.records.shape.names bundle.number bundle.tallies.items }
         requires front { front ≡ fresh_front N.parts.histories bundle.number }
+        requires seen { seen ≡ fresh_front N.parts.vaults bundle.number }
         requires worker { bundle.number < N.parts.workers }
         ensures { result ≡ fresh N.parts.records.shape.names bundle.number }
     {
         Account {
             number: bundle.number,
-            tallies: bundle.tallies,
+            till: Till {
+                tallies: bundle.tallies,
+                seen,
+            },
             front,
             of: PhantomData,
         }
@@ -61,7 +65,7 @@ impl<N: Names> Account<N> {
     pub fn moved(&self, arena: u8) -> Option<(u64, u64)>
         ensures { result ≡ moved_of (slice_get self.now.tallies arena) }
     {
-        let tally = self.tallies.get(usize::from(arena))?;
+        let tally = self.till.tallies.get(usize::from(arena))?;
         Some((tally.taken(), tally.back()))
     }
 
@@ -72,10 +76,11 @@ impl<N: Names> Account<N> {
     {
         let Account {
             number: _,
-            tallies,
+            till,
             front: _,
             of: _,
         } = self;
+        let Till { tallies, seen: _ } = till;
         tallies
     }
 

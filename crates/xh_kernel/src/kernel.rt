@@ -121,21 +121,24 @@ fn name_accounts<N: Names>(
     alloc: Global,
     bundles: Vec<Bundle>,
     fronts: Vec<Front<Call>>,
+    seen: Vec<Front<Vault>>,
 ) -> Result<Vec<Account<N>>, Refused>
     requires bundles { AreBundles N.parts.records.shape.names bundles.items }
     requires workers { vec_len bundles ≡ N.parts.workers }
     requires fronts { (vec_len fronts ≡ vec_len bundles) × AreUnseen N.parts.histories fronts.items }
+    requires seen { (vec_len seen ≡ vec_len bundles) × AreUnseen N.parts.vaults seen.items }
     ensures count { IfOk result (λ v. vec_len v ≡ vec_len bundles) }
     ensures fresh { IfOk result (λ v. AreFresh N.parts.records.shape.names v.items) }
     ensures refused { IfErr result (λ e. e ≡ Refused.OutOfMemory) }
 {
     let mut accounts = Vec::with_capacity(alloc, bundles.len())?;
     let mut left = fronts.into_iter();
+    let mut unseen = seen.into_iter();
     for bundle in bundles {
-        let Some(front) = left.next() else {
+        let (Some(front), Some(seen)) = (left.next(), unseen.next()) else {
             unreachable!()
         };
-        accounts.push(Account::named(bundle, front))?;
+        accounts.push(Account::named(bundle, front, seen))?;
     }
     Ok(accounts)
 }
@@ -183,14 +186,17 @@ impl<N: Names> Kernel<N> {
             histories,
             unwritten,
             fronts,
+            vault_histories,
+            vault_pens,
+            seen,
             config,
         } = parts;
         let places = lock_places(alloc, &records, seats, pens, unwritten)?;
-        let accounts = name_accounts(alloc, bundles, fronts)?;
+        let accounts = name_accounts(alloc, bundles, fronts, seen)?;
         let heap = Heap {
             records,
             channels,
-            arenas: Arenas::new(vaults, config.bytes),
+            arenas: Arenas::new(vaults, config.bytes, vault_histories, vault_pens),
         };
         let shared = Shared {
             heap,
@@ -201,6 +207,7 @@ impl<N: Names> Kernel<N> {
     }
 
     // What lies behind the lock of the process's place, which knows its number.
+    #[inline(always)]
     pub(crate) fn held<R: Wait>(&self, rt: &R, p: u16) -> MutexGuard<'_, Held<N>>
         ensures { (mutex_guard_value result).scribe.pens.history.number ≡ place_of p }
     {

@@ -29,6 +29,9 @@ pub struct Parts {
     pub(crate) histories: Histories<Call>,
     pub(crate) unwritten: Vec<xh_history::Pen<Call>>,
     pub(crate) fronts: Vec<Front<Call>>,
+    pub(crate) vault_histories: Histories<Vault>,
+    pub(crate) vault_pens: Vec<xh_history::Pen<Vault>>,
+    pub(crate) seen: Vec<Front<Vault>>,
     pub(crate) config: Config,
 }
 
@@ -39,10 +42,10 @@ impl Model for Parts {
 
     ghost Value = { PartsOf };
 
-    ghost view = { λ p. parts_of p.records (vec_len p.bundles) p.config p.channels.depth p.glances p.histories };
+    ghost view = { λ p. parts_of p.records (vec_len p.bundles) p.config p.channels.depth p.glances p.histories p.vault_histories };
 
-    ghost invariant = { λ p. AreParts (parts_of p.records (vec_len p.bundles) p.config p.channels.depth p.glances p.histories)
-        p.vaults.items p.seats.items p.pens.items p.bundles.items p.looks.items p.unwritten.items p.fronts.items };
+    ghost invariant = { λ p. AreParts (parts_of p.records (vec_len p.bundles) p.config p.channels.depth p.glances p.histories p.vault_histories)
+        p.vaults.items p.seats.items p.pens.items p.bundles.items p.looks.items p.unwritten.items p.fronts.items p.vault_pens.items p.seen.items };
 }
 
 // The parts of a kernel within its limits.
@@ -64,6 +67,7 @@ fn make_parts(alloc: Global, config: Config, workers: u8) -> Result<Parts, Refus
     let channels = Channels::new(alloc, config.depth)?;
     let (glances, pens, looks) = Glances::new(alloc, workers)?;
     let (histories, unwritten, fronts) = Histories::new(alloc, workers)?;
+    let (vault_histories, vault_pens, seen) = Histories::new(alloc, workers)?;
     Ok(Parts {
         vaults,
         records,
@@ -76,6 +80,9 @@ fn make_parts(alloc: Global, config: Config, workers: u8) -> Result<Parts, Refus
         histories,
         unwritten,
         fronts,
+        vault_histories,
+        vault_pens,
+        seen,
         config,
     })
 }

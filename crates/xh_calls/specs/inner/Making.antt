@@ -1,7 +1,9 @@
 -- What the vaults and the tallies of a kernel are, while it is made.
-use Rattle.std.specs.Prelude.{◌≡◌, ℕ, ◌*◌, ◌/◌, ◌%◌, ◌<◌, List, length, map, All, Some, slice_get, slice_index_or}
+use Rattle.std.specs.Prelude.{◌≡◌, ℕ, ◌+◌, ◌*◌, ◌/◌, ◌%◌, ◌<◌, List, length, map, All, Some, slice_get, slice_index_or}
 use Rattle.atomic_table.specs.Seated.{TableId}
 use Rattle.xh_arena.specs.Views.{LotOf, TallyOf, VaultOf}
+use Rattle.xh_history.specs.Histories.{PenOf, fresh_pen}
+use Rattle.xh_model.specs.declared.limits.TheConstants.{PLACES}
 use Rattle.xh_place.specs.Bodies.{fits_in}
 use Rattle.xh_place.specs.declared.body.Body.{Body}
 use Rattle.xh_records.specs.Showing.{IsEmpty}
@@ -27,3 +29,7 @@ AreAllLots n names ls = (length ls ≡ length names * n) × ((k : ℕ) (l : LotO
 -- new vaults with their lots and names
 abbrev pub AreMakings : ℕ → ℕ → ℕ → ℕ → List VaultOf → List (LotOf Body) → List TableId → Type 0
 AreMakings workers records size wear vs ls names = (vault_names vs ≡ names) × All (IsNew workers records size wear) vs × AreAllLots records names ls
+
+-- the pens of the histories from the number a on, in which nothing stands yet
+abbrev pub AreFreshFrom : ℕ → List (PenOf VaultOf) → TableId → Type 0
+AreFreshFrom a pens id = (a + length pens ≡ PLACES) × ((k : ℕ) (d : PenOf VaultOf) → k < length pens → slice_index_or pens k d ≡ fresh_pen id (a + k))

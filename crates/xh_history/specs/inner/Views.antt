@@ -5,7 +5,8 @@ use lib.ListN.{get_elem?}
 use Rattle.atomic_table.specs.Table.{State, Step, Me}
 use Rattle.xh_history.specs.declared.view.View.{View}
 use Rattle.xh_model.specs.declared.limits.TheConstants.{PLACES}
-use Rattle.xh_history.specs.Histories.{History, HasSeen, at}
+use Rattle.xh_history.specs.Histories.{FrontOf, History, HasSeen, at, no_front}
+use Rattle.atomic_table.specs.Seated.{TableId}
 
 module _ {E : Type 0} where
   -- the seat writes the history of the place
@@ -85,3 +86,13 @@ module _ {E : Type 0} where
     pub alone : (view_in views).workers_end ≡ suc (view_in views).worker
     pub none : (view_in views).places_end ≡ 0
     pub fronts : length (view_in views).fronts ≡ PLACES
+
+  -- or no seat
+  abbrev pub IsFrontOrNone : List (View E) → Type 0
+  IsFrontOrNone [] = Unit {0}
+  IsFrontOrNone (v ∷ vs) = IsFront (v ∷ vs)
+
+  -- what contracts see of it
+  abbrev pub front_of : TableId → List (View E) → FrontOf E
+  front_of id [] = no_front
+  front_of id (v ∷ vs) = record { table = id; number = v.worker; fronts = v.fronts }

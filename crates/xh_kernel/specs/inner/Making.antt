@@ -10,7 +10,7 @@ use Rattle.xh_model.specs.declared.limits.TheConstants.{MAX_ARENAS, MAX_BYTES, P
 use Rattle.xh_place.specs.declared.body.Body.{Body}
 use Rattle.xh_records.specs.Seats.{Held, RecordsOf, IsSeatOf}
 use Rattle.xh_calls.specs.declared.making.Bundle.{Bundle}
-use Rattle.xh_calls.specs.inner.Making.{AreBundles}
+use Rattle.xh_calls.specs.inner.Making.{AreBundles, AreFreshFrom}
 use Rattle.xh_calls.specs.Parts.{PartsOf, IsOpen, vault_names}
 use Rattle.xh_kernel.specs.declared.call.Call.{Call}
 
@@ -30,16 +30,16 @@ abbrev pub AreUnwritten : TableId → List (histories.PenOf Call) → Type 0
 AreUnwritten id pens = (length pens ≡ PLACES) × ((k : ℕ) (d : histories.PenOf Call) → k < PLACES → slice_index_or pens k d ≡ histories.fresh_pen id k)
 
 -- the front of each worker, who has seen no call yet
-abbrev pub AreUnseen : TableId → List (histories.FrontOf Call) → Type 0
-AreUnseen id fronts = (k : ℕ) (d : histories.FrontOf Call) → k < length fronts → slice_index_or fronts k d ≡ histories.fresh_front id k
+abbrev pub AreUnseen : {E : Type 0} → TableId → List (histories.FrontOf E) → Type 0
+AreUnseen {E} id fronts = (k : ℕ) (d : histories.FrontOf E) → k < length fronts → slice_index_or fronts k d ≡ histories.fresh_front id k
 
 -- a kernel's parts of these records, glances and histories, made by the configuration
-abbrev pub parts_of : RecordsOf → ℕ → Config → ℕ → TableId → TableId → PartsOf
-parts_of records workers config depth glances table = record { records = records; workers = workers; size = config.bytes; wear = config.wear; depth = depth; glances = glances; histories = table }
+abbrev pub parts_of : RecordsOf → ℕ → Config → ℕ → TableId → TableId → TableId → PartsOf
+parts_of records workers config depth glances table vaults = record { records = records; workers = workers; size = config.bytes; wear = config.wear; depth = depth; glances = glances; histories = table; vaults = vaults }
 
 -- what the type of a kernel's parts keeps
 pub record AreParts (p : PartsOf) (vs : List VaultOf) (xs : List (Held Body)) (pens : List PenOf) (bs : List Bundle) (looks : List LookOf)
-    (unwritten : List (histories.PenOf Call)) (fronts : List (histories.FrontOf Call)) : Type 0 where
+    (unwritten : List (histories.PenOf Call)) (fronts : List (histories.FrontOf Call)) (vault_pens : List (histories.PenOf VaultOf)) (seen : List (histories.FrontOf VaultOf)) : Type 0 where
   pub vaults : vault_names vs ≡ p.records.shape.names
   pub open_vaults : All (IsOpen p) vs
   pub arenas : length vs ≤ MAX_ARENAS
@@ -51,3 +51,5 @@ pub record AreParts (p : PartsOf) (vs : List VaultOf) (xs : List (Held Body)) (p
   pub looks_are : (length looks ≡ length bs) × All (λ l. l ≡ fresh_look p.glances) looks
   pub unwritten_are : AreUnwritten p.histories unwritten
   pub fronts_are : (length fronts ≡ length bs) × AreUnseen p.histories fronts
+  pub vault_pens_are : AreFreshFrom 0 vault_pens p.vaults
+  pub seen_are : (length seen ≡ length bs) × AreUnseen p.vaults seen

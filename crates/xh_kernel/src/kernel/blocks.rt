@@ -1,7 +1,8 @@
 //! The calls of a process on its data blocks.
 ghost use Rattle.std.specs.Prelude.{◌≡◌, ◌/◌, MatchResult, OnErr};
+ghost use Rattle.xh_core.specs.Space.{rounded};
 ghost use Rattle.xh_kernel.specs.declared.call.Call.TheVariants as call;
-ghost use Rattle.xh_kernel.specs.Accounts.{HasGiven, HasTaken, IsUnmoved};
+ghost use Rattle.xh_kernel.specs.Accounts.{Asked, HasGiven, HasTaken, IsUnmoved};
 ghost use Rattle.xh_kernel.specs.Histories.{Calls, CallsOnly};
 ghost use Rattle.xh_model.specs.declared.limits.TheConstants.{MAX_RECORDS};
 
@@ -31,12 +32,21 @@ impl<N: Names> Kernel<N> {
     ) -> Result<Block, Refused>
         ensures account { MatchResult result (λ b. HasTaken arena b.len account.old account.new) (λ _. IsUnmoved account.old account.new) }
         ensures call { Calls N.parts p (call.Alloc p n arena result) account.old account.new }
+        ensures vault { Asked N.parts arena (rounded n) account.old account.new result }
     {
         let mut guard = self.held(rt, p);
         let held: &mut Held<N> = &mut guard;
-        let tallies = account.tallies.as_mut_slice();
         let heap = &self.shared.heap;
-        let answer = heap.alloc(rt, alloc, &mut held.place, p, n, arena, tallies, gate);
+        let answer = heap.alloc(
+            rt,
+            alloc,
+            &mut held.place,
+            p,
+            n,
+            arena,
+            &mut account.till,
+            gate,
+        );
         let about = (p, n, arena, &answer);
         held.scribe
             .note(&self.shared, &held.place, &mut account.front, &about);
@@ -63,7 +73,7 @@ impl<N: Names> Kernel<N> {
         let mut guard = self.held(rt, p);
         let held: &mut Held<N> = &mut guard;
         let heap = &self.shared.heap;
-        let answer = heap.split(rt, alloc, &mut held.place, p, r, k, gate);
+        let answer = heap.split(rt, alloc, &mut held.place, p, r, k, &mut account.till, gate);
         let about = (p, r, k, &answer);
         held.scribe
             .note(&self.shared, &held.place, &mut account.front, &about);
@@ -136,9 +146,8 @@ impl<N: Names> Kernel<N> {
     {
         let mut guard = self.held(rt, p);
         let held: &mut Held<N> = &mut guard;
-        let tallies = account.tallies.as_mut_slice();
         let heap = &self.shared.heap;
-        let answer = heap.free(rt, &mut held.place, p, r, tallies, gate);
+        let answer = heap.free(rt, &mut held.place, p, r, &mut account.till, gate);
         let about = (p, r, &answer);
         held.scribe
             .note(&self.shared, &held.place, &mut account.front, &about);

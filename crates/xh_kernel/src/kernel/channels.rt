@@ -1,10 +1,11 @@
 //! Channels are opened, for one process or between two.
-ghost use Rattle.std.specs.Prelude.{◌≡◌, ◌<◌, IfOk, MatchResult, None, Option, Some, List, ℕ};
+ghost use Rattle.std.specs.Prelude.{◌≡◌, ◌*◌, ◌<◌, IfOk, MatchResult, None, Option, Some, List, ℕ};
 ghost use Rattle.xh_kernel.specs.declared.call.Call.TheVariants as call;
+ghost use Rattle.xh_kernel.specs.Accounts.{Asked};
 ghost use Rattle.xh_kernel.specs.Endings.{GivesBack};
 ghost use Rattle.xh_kernel.specs.Histories.{Calls};
 ghost use Rattle.xh_kernel.specs.Wires.{HandsOver, Opens, TakesEnds, Wires};
-ghost use Rattle.xh_model.specs.declared.limits.TheConstants.{CHANNELS};
+ghost use Rattle.xh_model.specs.declared.limits.TheConstants.{CHANNELS, END_BYTES};
 ghost use Rattle.xh_model.specs.declared.row.Row.{Row};
 ghost use Rattle.xh_place.specs.Ending.{back_of};
 ghost use Rattle.xh_records.specs.Seats.{IsRecord};
@@ -100,9 +101,16 @@ impl<N: Names> Kernel<N> {
     {
         let mut guard = self.held(rt, p);
         let held: &mut Held<N> = &mut guard;
-        let tallies = account.tallies.as_mut_slice();
         let heap = &self.shared.heap;
-        let answer = heap.open(rt, &mut held.place, p, arena, contract, tallies, gate);
+        let answer = heap.open(
+            rt,
+            &mut held.place,
+            p,
+            arena,
+            contract,
+            &mut account.till,
+            gate,
+        );
         let about = (p, arena, &answer);
         held.scribe
             .note(&self.shared, &held.place, &mut account.front, &about);
@@ -145,13 +153,21 @@ impl<N: Names> Kernel<N> {
         requires { contract ≡ by }
         ensures call { Calls N.parts p (call.OpenToward p arena by result) account.old account.new }
         ensures account { TakesEnds arena account.old account.new result }
+        ensures vault { Asked N.parts arena (2 * END_BYTES) account.old account.new result }
         ensures exists { IfOk result (λ w. IsRecord N.parts.records.shape w.high.rec) }
     {
         let mut guard = self.held(rt, p);
         let held: &mut Held<N> = &mut guard;
-        let tallies = account.tallies.as_mut_slice();
         let heap = &self.shared.heap;
-        let answer = heap.open_toward(rt, &mut held.place, p, arena, contract, tallies, gate);
+        let answer = heap.open_toward(
+            rt,
+            &mut held.place,
+            p,
+            arena,
+            contract,
+            &mut account.till,
+            gate,
+        );
         let about = (p, arena, &answer);
         held.scribe
             .note(&self.shared, &held.place, &mut account.front, &about);
@@ -196,10 +212,9 @@ impl<N: Names> Kernel<N> {
     {
         let mut guard = self.held(rt, q);
         let held: &mut Held<N> = &mut guard;
-        let tallies = account.tallies.as_mut_slice();
         let heap = &self.shared.heap;
-        let answer = heap.receive(rt, &mut held.place, q, r, channel, tallies, gate);
-        let about = (q, r, channel, &account.tallies, &answer);
+        let answer = heap.receive(rt, &mut held.place, q, r, channel, &mut account.till, gate);
+        let about = (q, r, channel, &account.till.tallies, &answer);
         held.scribe
             .note(&self.shared, &held.place, &mut account.front, &about);
         answer
@@ -221,10 +236,9 @@ impl<N: Names> Kernel<N> {
     {
         let mut guard = self.held(rt, p);
         let held: &mut Held<N> = &mut guard;
-        let tallies = account.tallies.as_mut_slice();
         let heap = &self.shared.heap;
-        heap.close_again(rt, &mut held.place, p, r, channel, tallies, gate);
-        let about = (p, r, channel, &account.tallies);
+        heap.close_again(rt, &mut held.place, p, r, channel, &mut account.till, gate);
+        let about = (p, r, channel, &account.till.tallies);
         held.scribe
             .note(&self.shared, &held.place, &mut account.front, &about);
     }

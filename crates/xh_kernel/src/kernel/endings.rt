@@ -46,12 +46,11 @@ impl<N: Names> Kernel<N> {
     {
         let mut guard = self.held(rt, p);
         let held: &mut Held<N> = &mut guard;
-        let tallies = account.tallies.as_mut_slice();
         let answer = self
             .shared
             .heap
-            .close(rt, &mut held.place, p, e, tallies, gate);
-        let about = (p, e, &account.tallies, &answer);
+            .close(rt, &mut held.place, p, e, &mut account.till, gate);
+        let about = (p, e, &account.till.tallies, &answer);
         held.scribe
             .note(&self.shared, &held.place, &mut account.front, &about);
         answer
@@ -108,12 +107,11 @@ impl<N: Names> Kernel<N> {
     {
         let mut guard = self.held(rt, p);
         let held: &mut Held<N> = &mut guard;
-        let tallies = account.tallies.as_mut_slice();
         let answer = self
             .shared
             .heap
-            .stop(rt, &mut held.place, p, budget, tallies, gate);
-        let about = (p, budget, &account.tallies, &answer);
+            .stop(rt, &mut held.place, p, budget, &mut account.till, gate);
+        let about = (p, budget, &account.till.tallies, &answer);
         held.scribe
             .note(&self.shared, &held.place, &mut account.front, &about);
         held.wake(rt, &self.shared);

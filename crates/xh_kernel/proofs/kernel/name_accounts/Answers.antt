@@ -2,6 +2,7 @@ use Rattle.std.proofs.Common.{rules, arith, ◌≡◌, ◌<◌, ℕ, vec_len, le
 use Rattle.std.specs.Vec.Iter.{into_iter_len}
 use Rattle.xh_calls.specs.inner.Making.{IsBundle}
 use Rattle.xh_calls.proofs.Lists.{each_push, first_of, rest_of}
+use Rattle.xh_arena.specs.Views.{VaultOf}
 use Rattle.xh_history.specs.Histories.{FrontOf, fresh_front}
 use Rattle.xh_kernel.specs.declared.call.Call.{Call}
 use Rattle.xh_kernel.specs.Accounts.{AccountOf, fresh}
@@ -12,8 +13,16 @@ named-requires-clause-front g c =
     let was = c.loop-bundle.invariant in let step = c.in-Some.ensures.steps in let parts = g.N.Names.parts in let done = vec_len c.loop-bundle.accounts in
     let some : 0 < into_iter_len c.loop-bundle.bundle-iterator = omega (arith, step.1) in
     let here = first_of (IsBundle parts.records.shape.names) done _ _ c.in-Some.bundle step.0 _ was.2 some in
-    first_of (λ k (x : FrontOf Call). x ≡ fresh_front parts.histories k) done _ _ c.in-Some-next.front c.in-Some-next.ensures.items _ was.3 (omega (arith, was.1, some))
+    first_of (λ k (x : FrontOf Call). x ≡ fresh_front parts.histories k) done _ _ c.in-Some-Some.front c.in-Some-Some.ensures.items _ was.3 (omega (arith, was.1, some))
     ∙ ap (fresh_front parts.histories) (sym here.0)
+
+pub named-requires-clause-seen : goal.named-requires-clause-seen
+named-requires-clause-seen g c =
+    let was = c.loop-bundle.invariant in let step = c.in-Some.ensures.steps in let parts = g.N.Names.parts in let done = vec_len c.loop-bundle.accounts in
+    let some : 0 < into_iter_len c.loop-bundle.bundle-iterator = omega (arith, step.1) in
+    let here = first_of (IsBundle parts.records.shape.names) done _ _ c.in-Some.bundle step.0 _ was.2 some in
+    first_of (λ k (x : FrontOf VaultOf). x ≡ fresh_front parts.vaults k) done _ _ c.in-Some-Some.seen c.in-Some-Some.ensures'.items _ was.5 (omega (arith, was.4, some))
+    ∙ ap (fresh_front parts.vaults) (sym here.0)
 
 pub named-requires-clause-worker : goal.named-requires-clause-worker
 named-requires-clause-worker g c =
@@ -30,6 +39,8 @@ loop-bundle-preserved g c =
       search rules,
       search rules,
       rest_of (IsBundle parts.records.shape.names) done _ _ c.in-Some.bundle step.0 _ was.2 _ _ step.1 (search rules),
-      rest_of (λ k (x : FrontOf Call). x ≡ fresh_front parts.histories k) done _ _ c.in-Some-next.front c.in-Some-next.ensures.items _ was.3 _ _ (search rules) (search rules),
-      rw c.in_ok-push.ensures.items (each_push P _ _ was.4 (c.named.ensures ∙ ap (fresh parts.records.shape.names) here)),
+      rest_of (λ k (x : FrontOf Call). x ≡ fresh_front parts.histories k) done _ _ c.in-Some-Some.front c.in-Some-Some.ensures.items _ was.3 _ _ (search rules) (search rules),
+      search rules,
+      rest_of (λ k (x : FrontOf VaultOf). x ≡ fresh_front parts.vaults k) done _ _ c.in-Some-Some.seen c.in-Some-Some.ensures'.items _ was.5 _ _ (search rules) (search rules),
+      rw c.in_ok-push.ensures.items (each_push P _ _ was.6 (c.named.ensures ∙ ap (fresh parts.records.shape.names) here)),
     )

@@ -3,6 +3,7 @@ use Rattle.std.specs.Prelude.{slice_index_or}
 use Rattle.std.specs.Vec.Iter.{into_iter_items, into_iter_len}
 use Rattle.xh_calls.specs.declared.making.Bundle.{Bundle}
 use Rattle.xh_calls.specs.inner.Making.{IsBundle}
+use Rattle.xh_arena.specs.Views.{VaultOf}
 use Rattle.xh_history.specs.Histories.{FrontOf, fresh_front}
 use Rattle.xh_kernel.specs.declared.call.Call.{Call}
 use Rattle.xh_kernel.specs.Accounts.{AreFresh}
@@ -14,4 +15,6 @@ invariant-loop-bundle g l =
     (done + into_iter_len rest ≡ vec_len l.fn.bundles) × (into_iter_len l.left ≡ into_iter_len rest)
     × ((k : ℕ) (d : Bundle) → k < into_iter_len rest → IsBundle g.N.Names.parts.records.shape.names (done + k) (slice_index_or (into_iter_items rest) k d))
     × ((k : ℕ) (d : FrontOf Call) → k < into_iter_len l.left → slice_index_or (into_iter_items l.left) k d ≡ fresh_front g.N.Names.parts.histories (done + k))
+    × (into_iter_len l.unseen ≡ into_iter_len rest)
+    × ((k : ℕ) (d : FrontOf VaultOf) → k < into_iter_len l.unseen → slice_index_or (into_iter_items l.unseen) k d ≡ fresh_front g.N.Names.parts.vaults (done + k))
     × AreFresh g.N.Names.parts.records.shape.names l.accounts.items

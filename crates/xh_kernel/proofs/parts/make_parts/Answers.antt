@@ -1,9 +1,10 @@
-use Rattle.std.proofs.Common.{rules}
+use Rattle.std.proofs.Common.{rules, ap, arith, ◌∙◌, ◌≡◌, ◌+◌}
+use Rattle.xh_history.specs.Histories.{fresh_pen}
 use Rattle.xh_kernel.proofs.parts.make_parts.Goals as goal
 
 pub invariant_of-result : goal.invariant_of-result
 invariant_of-result c =
-    let unseen = c.in_ok-histories.ensures.fronts in record {
+    let unseen = c.in_ok-histories.ensures.fronts in let unasked = c.in_ok-vault_histories.ensures.fronts in let pens = c.in_ok-vault_histories.ensures.pens in record {
       vaults = search rules;
       open_vaults = search rules;
       arenas = search rules;
@@ -15,4 +16,6 @@ invariant_of-result c =
       looks_are = search rules;
       unwritten_are = (search rules, c.in_ok-histories.ensures.pens.1);
       fronts_are = (search rules, λ k d below. unseen.1 k d (let few = unseen.0 in search rules));
+      vault_pens_are = (search rules, λ k d below. pens.1 k d (let few = pens.0 in search rules) ∙ ap (fresh_pen c.in_ok-vault_histories.vault_histories) (let e : k ≡ 0 + k = omega arith in e));
+      seen_are = (search rules, λ k d below. unasked.1 k d (let few = unasked.0 in search rules));
     }

@@ -1,8 +1,12 @@
 use Rattle.std.proofs.Common.{arith, All, sym, ap, ◌∙◌, subst}
 use Rattle.xh_calls.specs.Parts.{vault_names, IsOpen}
+use Rattle.xh_calls.specs.inner.Making.{AreFreshFrom}
 use Rattle.xh_calls.proofs.arenas.Arenas.new.Goals as goal
 
 pub next-requires : goal.next-requires
 next-requires g c =
-    let rest = c.into_iter-rest.ensures.rest in
-    (omega arith, (ap vault_names rest ∙ c.requires.names, subst (All (IsOpen g.N.Names.parts)) (sym rest) c.requires.open_vaults))
+    let rest = c.into_iter-rest.ensures.rest in let parts = g.N.Names.parts in
+    let names = ap vault_names rest ∙ c.requires.names in
+    let vaults = subst (All (IsOpen parts)) (sym rest) c.requires.open_vaults in
+    let pens = subst (λ l. AreFreshFrom 0 l parts.vaults) (sym c.into_iter-pens.ensures.rest) c.requires.histories.1 in
+    (omega arith, (omega arith, (names, (vaults, pens))))

@@ -1,9 +1,10 @@
 use Rattle.std.proofs.Common.{rules}
-use Rattle.xh_calls.proofs.Moved.{closed}
+use Rattle.std.proofs.lemmas.List.{places}
+use Rattle.xh_calls.proofs.Moved.{closed, lent_back}
 use Rattle.xh_calls.proofs.heap.Heap.close.Goals as goal
 
 pub returns-clause-closed : goal.returns-clause-closed
 returns-clause-closed g c =
-    let d = closed c.args.tallies.now c.close_end.new.desk.tallies.now c.args.p c.args.e c.args.place.now c.close_end.new.self c.close_end.result
-    c.in_ok-check_start.ensures.0 c.in_ok-check_start.ensures.1 c.close_end.ensures.closed in
-    (d.0, d.1, search rules)
+    let d = closed c.as_mut_slice-tallies.result.now c.close_end-answer.new.desk.tallies.now c.args.p c.args.e c.args.place.now c.close_end-answer.new.self c.close_end-answer.result
+    c.in_ok-check_start.ensures.0 c.in_ok-check_start.ensures.1 c.close_end-answer.ensures.closed in
+    (d.0, d.1, lent_back d.0 c.as_mut_slice-tallies.ensures.value (search (rules, places)) d.2)

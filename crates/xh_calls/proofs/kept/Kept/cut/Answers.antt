@@ -1,7 +1,8 @@
-use Rattle.xh_calls.proofs.Vaulted.{known, cut_stays}
+use Rattle.xh_calls.proofs.Vaulted.{cut_stays, entered, known}
 use Rattle.xh_calls.proofs.kept.Kept.cut.Goals as goal
 
 pub invariant_of-kept-2 : goal.invariant_of-kept-2
 invariant_of-kept-2 g c =
-    let was = known g.N.Names.parts g.row.A _ c.in-Some.vault c.in-Some.is c.kept.invariant in
-    cut_stays g.N.Names.parts g.row.A c.args.k _ _ _ _ _ _ was c.cut.ensures.done
+    let parts = g.N.Names.parts in let e = c.add.ensures in
+    let was = known parts g.row.A _ c.kept.inside.pen c.in-Some.vault c.in-Some.is c.kept.invariant in
+    entered parts g.row.A _ _ _ _ _ _ c.kept.invariant.0 was (cut_stays parts g.row.A c.args.k _ _ _ _ _ _ was.0 c.cut.ensures.done) e.pen e.front e.seen

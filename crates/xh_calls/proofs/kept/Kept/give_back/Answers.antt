@@ -1,7 +1,8 @@
-use Rattle.xh_calls.proofs.Vaulted.{known, back_stays}
+use Rattle.xh_calls.proofs.Vaulted.{back_stays, entered, known}
 use Rattle.xh_calls.proofs.kept.Kept.give_back.Goals as goal
 
 pub invariant_of-kept-2 : goal.invariant_of-kept-2
 invariant_of-kept-2 g c =
-    let was = known g.N.Names.parts g.row.A _ c.in-Some.vault c.in-Some.is c.kept.invariant in
-    back_stays g.N.Names.parts g.row.A _ _ _ _ _ _ was c.give_back.ensures.done
+    let parts = g.N.Names.parts in let e = c.add.ensures in
+    let was = known parts g.row.A _ c.kept.inside.pen c.in-Some.vault c.in-Some.is c.kept.invariant in
+    entered parts g.row.A _ _ _ _ _ _ c.kept.invariant.0 was (back_stays parts g.row.A _ _ _ _ _ _ was.0 c.give_back.ensures.done) e.pen e.front e.seen

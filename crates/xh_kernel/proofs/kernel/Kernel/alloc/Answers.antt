@@ -1,8 +1,17 @@
-use Rattle.std.proofs.Common.{rules}
+use Rattle.std.proofs.Common.{rules, ap, ◌∙◌}
+use Rattle.xh_kernel.specs.Accounts.{seen_of}
+use Rattle.xh_core.specs.Space.{rounded}
 use Rattle.xh_calls.proofs.Same.{stays_itself}
+use Rattle.xh_kernel.proofs.Back.{asked, tabled}
 use Rattle.xh_kernel.proofs.kernel.Kernel.alloc.Goals as goal
 
 pub note-requires : goal.note-requires
 note-requires g c κs within =
     let held = c.deref_mut-held.result.now in let e = c.alloc-answer.ensures in
     (search rules, (search rules, (search rules, (search rules, (search rules, (held.place, held.place, held.told, held.history, stays_itself held.place, e.made, e.same.0.3))))))
+
+pub returns-clause-vault : goal.returns-clause-vault
+returns-clause-vault g c =
+    let parts = g.N.Names.parts in let e = c.alloc-answer.ensures in
+    asked parts c.args.arena (rounded c.args.n) c.account.inside.till.seen c.alloc-answer.new.till.seen _ _ c.alloc-answer.result
+    (tabled parts c.account.inside.till.seen c.account.invariant.0.1 ∙ ap (seen_of parts) c.account.view_is) (tabled parts c.alloc-answer.new.till.seen e.same.1.1) e.refused

@@ -1,6 +1,4 @@
-use Rattle.std.proofs.Common.{rules, ◌-◌, ℕ, subst}
-use Rattle.std.proofs.lemmas.List.{with_items_is, places}
-use Rattle.std.specs.Vec.{with_items}
+use Rattle.std.proofs.Common.{rules, ◌-◌, ℕ, refl, subst}
 use Rattle.xh_calls.specs.Wires.{ClosesAgain}
 use Rattle.xh_place.specs.Ending.{back_of}
 use Rattle.xh_kernel.proofs.Back.{came_back}
@@ -9,7 +7,7 @@ use Rattle.xh_kernel.proofs.kernel.Kernel.close_again.Goals as goal
 pub note-requires : goal.note-requires
 note-requires g c κs within =
     let held = c.deref_mut-held.result.now in let d = c.close_again.ensures.closed in
-    let back = came_back g.before d.3 (search rules) c.account.view_is c.as_mut_slice-tallies.ensures.value (with_items_is c.account.inside.tallies _ (search (rules, places))) d.5 in (
+    let back = came_back g.before d.3 (search rules) c.account.view_is refl refl d.5 in (
       search rules,
       (
         search rules,
@@ -29,5 +27,5 @@ note-requires g c κs within =
 pub returns : goal.returns
 returns g c =
     let d = c.close_again.ensures.closed in
-    let back = came_back g.before d.3 (search rules) c.account.view_is c.as_mut_slice-tallies.ensures.value (with_items_is c.account.inside.tallies _ (search (rules, places))) d.5 in
-    (back_of (with_items c.account.inside.tallies c.close_again.new.tallies).items - g.before, search rules, (search rules, back.1))
+    let back = came_back g.before d.3 (search rules) c.account.view_is refl refl d.5 in
+    (back_of c.close_again.new.till.tallies.items - g.before, search rules, (search rules, back.1))

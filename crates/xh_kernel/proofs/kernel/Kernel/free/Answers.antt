@@ -1,5 +1,4 @@
-use Rattle.std.proofs.Common.{rules}
-use Rattle.std.proofs.lemmas.List.{with_items_is, places}
+use Rattle.std.proofs.Common.{rules, refl}
 use Rattle.xh_calls.proofs.Same.{stays_itself}
 use Rattle.xh_kernel.proofs.Back.{given}
 use Rattle.xh_kernel.proofs.kernel.Kernel.free.Goals as goal
@@ -11,5 +10,5 @@ note-requires g c κs within =
 
 pub returns-clause-account : goal.returns-clause-account
 returns-clause-account g c =
-    given _ _ g.N.Names.parts.records.shape.names c.account.view_is c.as_mut_slice-tallies.ensures.value (with_items_is c.account.inside.tallies _ (search (rules, places))) (search rules)
+    given _ _ g.N.Names.parts.records.shape.names c.account.view_is refl refl (search rules)
     c.free-answer.ensures.arena c.free-answer.ensures.tallies

@@ -1,0 +1,55 @@
+-- The history of each arena: what its vault was at the end of each call under its lock, beside the number of the worker that made the call.
+use Rattle.std.specs.Prelude.{◌≡◌, ◌⊎◌, ◌<◌, ◌≤◌, ℕ, List, [], ◌∷◌, ◌++◌, length, slice_set, Option, MatchOption}
+use Rattle.xh_arena.specs.declared.refused.Refused.{Refused as Reason}
+use Rattle.xh_arena.specs.declared.refused.Refused.TheVariants as arena
+use Rattle.xh_arena.specs.Refusals.{RefusesCarve}
+use Rattle.xh_arena.specs.Views.{VaultOf}
+use Rattle.xh_core.specs.declared.refused.Refused.{Refused}
+use Rattle.xh_core.specs.declared.refused.Refused.TheVariants.{NoSpace, Worn}
+use Rattle.xh_history.specs.Histories.{FrontOf, History, PenOf, at, calls_of}
+use Rattle.xh_model.specs.Arena.{IsLawfulArena}
+use Rattle.xh_calls.specs.Parts.{PartsOf, IsVaultOf}
+
+-- ---- behind the lock of an arena
+
+-- the last entry of the history, where it has one, is what the vault is
+abbrev pub EndsIn : VaultOf → History VaultOf → Type 0
+EndsIn v [] = Unit {0}
+EndsIn v (c ∷ []) = c.1 ≡ v
+EndsIn v (c ∷ d ∷ cs) = EndsIn v (d ∷ cs)
+
+-- the vault of the arena, where the kernel has that arena, and the pen of its history
+pub record KeptOf : Type 0 where
+  pub vault : Option VaultOf
+  pub pen : PenOf VaultOf
+
+-- the pen writes the history of the arena
+abbrev pub IsPenOf : PartsOf → ℕ → PenOf VaultOf → Type 0
+IsPenOf parts a pen = (pen.table ≡ parts.vaults) × (pen.number ≡ a)
+
+-- the vault is the arena's, and its history ends in it
+abbrev pub IsKeptAt : PartsOf → ℕ → KeptOf → Type 0
+IsKeptAt parts a k = IsPenOf parts a k.pen × MatchOption k.vault (length parts.records.shape.names ≤ a) (λ v. IsVaultOf parts a v × EndsIn v k.pen.history)
+
+-- ---- one call
+
+-- A worker's call on the vault of the arena found it as v, and left it as w. What the worker has seen of the arena now is what it had seen, then entries of others, then this one.
+pub record Enters (a : ℕ) (v w : VaultOf) (old new : FrontOf VaultOf) : Type 0 where
+  pub others : History VaultOf
+  pub not_its_own : calls_of old.number others ≡ []
+  pub found : EndsIn v (at old.fronts a ++ others)
+  pub seen : new ≡ record old { fronts = slice_set old.fronts a ((at old.fronts a ++ others) ++ (old.number, w) ∷ []) }
+
+-- the call was one on the arena of these parts
+abbrev pub Leaves : PartsOf → FrontOf VaultOf → FrontOf VaultOf → ℕ → VaultOf → VaultOf → Type 0
+Leaves parts old new a v w = IsVaultOf parts a v × Enters a v w old new
+
+-- the vault of the arena, as the call found it, refused to carve n bytes for this reason, and stayed what it was; the call stands in the arena's history
+abbrev pub IsRefusedBy : PartsOf → ℕ → ℕ → FrontOf VaultOf → FrontOf VaultOf → Reason → Type 0
+IsRefusedBy parts a n old new e = (v : VaultOf) × Leaves parts old new a v v × IsLawfulArena v.arena × RefusesCarve n v.arena e
+
+-- NoSpace and Worn are what the arena's vault answered, or no arena of these parts has n bytes
+abbrev pub AsksVault : PartsOf → ℕ → ℕ → FrontOf VaultOf → FrontOf VaultOf → Refused → Type 0
+AsksVault parts a n old new NoSpace = (parts.size < n) ⊎ IsRefusedBy parts a n old new arena.NoSpace
+AsksVault parts a n old new Worn = IsRefusedBy parts a n old new arena.Worn
+AsksVault parts a n old new _ = Unit {0}

@@ -1,0 +1,15 @@
+use Rattle.std.proofs.Common.{rules, ap, ◌∙◌}
+use Rattle.xh_kernel.specs.Accounts.{seen_of}
+use Rattle.std.specs.Prelude.{◌*◌}
+use Rattle.xh_model.specs.declared.limits.TheConstants.{END_BYTES}
+use Rattle.xh_kernel.proofs.Back.{asked, tabled}
+use Rattle.xh_kernel.proofs.kernel.Kernel.open_by.Goals as goal
+
+pub returns : goal.returns
+returns g c =
+    let parts = g.N.Names.parts in let e = c.open-answer.ensures in (
+      search rules,
+      search rules,
+      asked parts c.args.arena (2 * END_BYTES) c.account.inside.till.seen c.open-answer.new.till.seen _ _ c.open-answer.result
+          (tabled parts c.account.inside.till.seen c.account.invariant.0.1 ∙ ap (seen_of parts) c.account.view_is) (tabled parts c.open-answer.new.till.seen e.same.1.1) e.refused,
+    )

@@ -1,0 +1,12 @@
+use Rattle.std.proofs.Common.{rules, ap, ◌∙◌}
+use Rattle.xh_kernel.specs.Accounts.{seen_of}
+use Rattle.std.specs.Prelude.{◌*◌}
+use Rattle.xh_model.specs.declared.limits.TheConstants.{END_BYTES}
+use Rattle.xh_kernel.proofs.Back.{asked, tabled}
+use Rattle.xh_kernel.proofs.kernel.Kernel.open_toward.Goals as goal
+
+pub returns-clause-vault : goal.returns-clause-vault
+returns-clause-vault g c =
+    let parts = g.N.Names.parts in let e = c.open_toward-answer.ensures in
+    asked parts c.args.arena (2 * END_BYTES) c.account.inside.till.seen c.open_toward-answer.new.till.seen _ _ c.open_toward-answer.result
+    (tabled parts c.account.inside.till.seen c.account.invariant.0.1 ∙ ap (seen_of parts) c.account.view_is) (tabled parts c.open_toward-answer.new.till.seen e.same.1.1) e.refused
