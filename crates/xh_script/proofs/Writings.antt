@@ -1,5 +1,5 @@
 -- Lemmas on what is written in several calls.
-use Rattle.std.proofs.Common.{◌≡◌, ℕ, suc, List, [], ◌∷◌, ◌++◌, Option, Some, None, Result, Ok, Err, ap, sym, ◌∙◌, append_assoc, drop, get_or}
+use Rattle.std.proofs.Common.{◌≡◌, ℕ, suc, List, ◌++◌, Option, Some, None, Result, Ok, Err, ap, sym, ◌∙◌, append_assoc, drop, get_or}
 use Rattle.std.proofs.Common.{length, ◌<◌, ◌+◌, add-one, drop-cons, IsErrAnd}
 use Rattle.xh_script.specs.Texts.{reply_text, answer_texts}
 use Rattle.xh_script.specs.declared.reply.Answered.{Answered}

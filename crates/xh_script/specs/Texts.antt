@@ -1,4 +1,4 @@
--- The text of faults, of replies and of ledgers.
+-- The text of faults, of replies, of ledgers and of what is in flight.
 use Rattle.std.specs.Prelude.{ℕ, ◌+◌, ◌/◌, ◌%◌, List, [], ◌∷◌, ◌++◌, codes, length, nat_lt, if◌then◌else◌, Option, Some, None, slice_index_or}
 use Rattle.std.specs.List.{concat}
 use Rattle.std.specs.Fmt.{decimal}
@@ -8,8 +8,11 @@ use Rattle.xh_core.specs.declared.ledger.State.TheVariants.{Running, Ending, End
 use Rattle.xh_core.specs.declared.ledger.ArenaLine.{ArenaLine}
 use Rattle.xh_core.specs.declared.ledger.PlaceLine.{PlaceLine}
 use Rattle.xh_core.specs.declared.ledger.Ledger.{Ledger}
+use Rattle.xh_core.specs.declared.flight.FlightLine.{FlightLine}
 use Rattle.xh_core.specs.declared.refused.Refused.{Refused}
 use Rattle.xh_core.specs.declared.refused.Refused.TheVariants.{Full, PeerClosed, Unfinished}
+use Rattle.xh_script.specs.declared.fault.Fault.{Fault}
+use Rattle.xh_script.specs.declared.fault.Fault.TheVariants.{Script, Memory, Read, Write, Gate, BadConfig}
 use Rattle.xh_script.specs.declared.fault.Kind.{Kind}
 use Rattle.xh_script.specs.declared.fault.Kind.TheVariants.{TooLong, LongLine, BadByte, BadWord, BadCount, BadNumber, BadHex, LateHead, BadContract}
 use Rattle.xh_script.specs.declared.reply.Reply.{Reply}
@@ -27,6 +30,15 @@ kind_name BadNumber = codes "BadNumber"
 kind_name BadHex = codes "BadHex"
 kind_name LateHead = codes "LateHead"
 kind_name BadContract = codes "BadContract"
+
+-- what is said of a fault
+abbrev pub fault_text : Fault → List ℕ
+fault_text (Script line kind) = concat (codes "line " ∷ decimal line ∷ codes ": " ∷ kind_name kind ∷ [])
+fault_text Memory = codes "out of memory"
+fault_text Read = codes "read failed"
+fault_text Write = codes "write failed"
+fault_text Gate = codes "internal fault"
+fault_text BadConfig = codes "internal fault"
 
 -- ---- replies
 
@@ -131,3 +143,13 @@ sums_text l = concat (codes "owned " ∷ decimal l.owned ∷ codes "\nflight " �
 -- the ledger, with the names of the processes by place
 abbrev pub ledger_text : Ledger → List (List ℕ) → List ℕ
 ledger_text l names = arena_texts 0 l.arenas.items ++ (place_texts names l.places.items ++ sums_text l)
+
+-- ---- what is in flight
+
+-- `direction D BLOCKS BYTES`
+unfoldable pub flight_text : FlightLine → List ℕ
+flight_text l = concat (codes "direction " ∷ decimal l.direction ∷ codes " " ∷ decimal l.blocks ∷ codes " " ∷ decimal l.bytes ∷ codes "\n" ∷ [])
+
+abbrev pub flight_texts : List FlightLine → List ℕ
+flight_texts [] = []
+flight_texts (l ∷ lines) = flight_text l ++ flight_texts lines

@@ -1,9 +1,10 @@
 //! Why a run ended.
-ghost use Rattle.std.specs.Prelude.{◌≡◌};
-ghost use Rattle.xh_script.specs.Texts.{kind_name};
+ghost use Rattle.std.specs.Prelude.{◌≡◌, Some};
+ghost use Rattle.xh_script.specs.Texts.{fault_text, kind_name};
 ghost use Rattle.xh_script.specs.declared.fault.Fault.TheVariants.{Memory};
 
 use std::alloc::{AllocError, AllocFailed};
+use std::fmt;
 
 /// What is wrong with a line of a script, or with the whole.
 #[derive(Clone, Copy, Debug, PartialEq, Eq)]
@@ -63,6 +64,20 @@ pub enum Fault {
     Gate,
     /// The configuration is outside its limits.
     BadConfig,
+}
+
+impl fmt::Display for Fault {
+    ghost output = { λ f. Some (fault_text f) };
+
+    fn fmt<W: fmt::Write>(&self, f: &mut fmt::Formatter<W>) -> fmt::Result {
+        match self {
+            Fault::Script { line, kind } => write!(f, "line {line}: {}", kind.name()),
+            Fault::Memory => f.write_str("out of memory"),
+            Fault::Read => f.write_str("read failed"),
+            Fault::Write => f.write_str("write failed"),
+            Fault::Gate | Fault::BadConfig => f.write_str("internal fault"),
+        }
+    }
 }
 
 impl From<AllocError> for Fault {

@@ -1,14 +1,14 @@
-//! How ledgers are written.
+//! How ledgers, and what is in flight, are written.
 ghost use Rattle.std.specs.Prelude.{◌≡◌, ◌<◌, length};
 ghost use Rattle.std.specs.List.{All};
 ghost use Rattle.xh_script.specs.Watching.{WritesOrFails};
-ghost use Rattle.xh_script.specs.Texts.{state_text, arena_text, arena_texts, place_text, place_texts, sums_text, ledger_text};
+ghost use Rattle.xh_script.specs.Texts.{state_text, arena_text, arena_texts, place_text, place_texts, sums_text, ledger_text, flight_text, flight_texts};
 
 use crate::put::Piece::{Number, Text};
 use crate::put::put_all;
 use crate::{Fault, Name, Watched};
 use std::io::Write;
-use xh_core::{ArenaLine, Ledger, PlaceLine, State};
+use xh_core::{ArenaLine, FlightLine, Ledger, PlaceLine, State};
 
 fn state_name(state: State) -> &'static str
     ensures { result.now ≡ state_text state }
@@ -128,4 +128,34 @@ pub fn write_ledger<W: Write>(
     put_arenas(writer, &ledger.arenas)?;
     put_places(writer, names, &ledger.places)?;
     put_sums(writer, ledger)
+}
+
+#[tactic(auto, unfolding(crate::specs::Texts::flight_text))]
+fn put_flight<W: Write>(writer: &mut Watched<W>, line: &FlightLine) -> Result<(), Fault>
+    ensures { WritesOrFails W.contents writer.old writer.new result (flight_text line.now) }
+{
+    let (blocks, bytes) = (u64::from(line.blocks), line.bytes);
+    put_all(
+        writer,
+        &[
+            Text(b"direction "),
+            Number(u64::from(line.direction)),
+            Text(b" "),
+            Number(blocks),
+            Text(b" "),
+            Number(bytes),
+            Text(b"\n"),
+        ],
+    )
+}
+
+/// Writes what is in flight, a line for each direction. Where the writer fails, or takes no byte, a
+/// front of the text was written, and the fault is `Write`.
+pub fn write_flight<W: Write>(writer: &mut Watched<W>, lines: &[FlightLine]) -> Result<(), Fault>
+    ensures { WritesOrFails W.contents writer.old writer.new result (flight_texts lines.now) }
+{
+    for line in lines {
+        put_flight(writer, line)?;
+    }
+    Ok(())
 }

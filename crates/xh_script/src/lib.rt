@@ -1,4 +1,4 @@
-//! The language of scripts: how a script is read, and how replies and ledgers are written.
+//! The language of scripts: how a script is read, and how replies, ledgers and what is in flight are written.
 #![tactic(auto)]
 
 mod command;
@@ -30,7 +30,7 @@ pub use command::{Command, Line, Word};
 pub use fault::{Fault, Kind};
 pub use form::{Form, Sort};
 pub use laws::{commands_are_spelled, numbers_tell_names, spelled_commands_are_read};
-pub use ledgers::write_ledger;
+pub use ledgers::{write_flight, write_ledger};
 pub use name::Name;
 pub use put::put as write_bytes;
 pub use read::read_script;

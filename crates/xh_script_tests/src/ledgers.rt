@@ -1,8 +1,8 @@
-//! The text of a ledger.
+//! The text of a ledger, and of what is in flight.
 use arrayvec::ArrayVec;
 use std::test::Fail;
-use xh_core::{ARENA_LINES, ArenaLine, Ledger, PLACE_LINES, PlaceLine, State};
-use xh_script::{Watched, read_script, write_ledger};
+use xh_core::{ARENA_LINES, ArenaLine, FlightLine, Ledger, PLACE_LINES, PlaceLine, State};
+use xh_script::{Watched, read_script, write_flight, write_ledger};
 
 const TEXT: &str =
     "arena 0 256 128 1 128 0\nprocess a running 1 32\nprocess b ended 3 96\nowned 128\nflight 0\nout 128\n";
@@ -61,4 +61,26 @@ fn one_ledger(rt: HostRuntime) -> Result<(), Fail> {
     assert!(rt; ended == Ok(()));
     assert!(rt; out.as_slice() == TEXT.as_bytes());
     Ok(())
+}
+
+/// A line for each direction, with no number cut short.
+#[test]
+fn lines_of_flight(rt: HostRuntime) {
+    let lines = [
+        FlightLine {
+            direction: 0,
+            blocks: 2,
+            bytes: 64,
+        },
+        FlightLine {
+            direction: 127,
+            blocks: 128,
+            bytes: 8_388_608,
+        },
+    ];
+    let mut out = Vec::new(rt.alloc());
+    let ended = write_flight(&mut Watched::new(&mut out), &lines);
+    assert!(&rt; ended == Ok(()));
+    let text = out.as_slice();
+    assert!(&rt; text == b"direction 0 2 64\ndirection 127 128 8388608\n".as_slice());
 }

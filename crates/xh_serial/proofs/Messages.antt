@@ -70,8 +70,7 @@ tags_append [] m = refl
 tags_append (k ∷ ms) m = ap (λ (xs : List ℕ). k.tag ∷ xs) (tags_append ms m)
 
 some_of : (o : Option ℕ) → is_none o ≡ false → (k : ℕ) × (o ≡ Some k)
-some_of None h = absurd (false≢true (sym h))
-some_of (Some k) h = (k, refl)
+some_of o h = grind (arith, nat_tests)
 
 -- the end that puts a message is in step again
 give_pair : (rows : List Row) (lines new : List Line) (d tag : ℕ) (bs : List ℕ) → IsValid rows → is_banned (Some rows) (d % 2) (state_in lines d) tag ≡ false →
@@ -164,12 +163,10 @@ module _ (m : Machine) (p e tag : ℕ) (bs : List ℕ) (w : IsWhole m) (g : MayG
 -- ---- take
 
 pub front_split : (ms : List Message) → 0 < length ms → carried ms ≡ (slice_index_or ms 0 no_message).blocks.items ++ carried (remove ms 0)
-front_split [] h = absurd (omega arith)
-front_split (m ∷ ms) h = refl
+front_split ms h = grind (arith, nat_tests)
 
 front_tags : (ms : List Message) → 0 < length ms → tags_of ms ≡ (slice_index_or ms 0 no_message).tag ∷ tags_of (remove ms 0)
-front_tags [] h = absurd (omega arith)
-front_tags (m ∷ ms) h = refl
+front_tags ms h = grind (arith, nat_tests)
 
 abbrev front_tag : Line → ℕ
 front_tag l = (slice_index_or l.waiting.items 0 no_message).tag

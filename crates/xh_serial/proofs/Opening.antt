@@ -55,8 +55,7 @@ spawn_whole m (Some k) w e =
 
 -- what a spawn answers and leaves, by what the places do
 pub spawn_gives : (m : Machine) (o : Option ℕ) → spawn_at o m ≡ (ok_or (started_at o m.places).0 NoPlace, record m { places = (started_at o m.places).1 })
-spawn_gives m None = refl
-spawn_gives m (Some k) = refl
+spawn_gives m o = grind (arith, nat_tests)
 
 -- ---- a new machine
 

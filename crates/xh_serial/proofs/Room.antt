@@ -109,8 +109,7 @@ IsHolder (Process p) = p < 4096
 IsHolder (Direction d) = d < 128
 
 holder_is : (o : Option Holder) (h : Holder) → is_held_by o h ≡ true → o ≡ Some h
-holder_is o (Process p) = same_process o p
-holder_is o (Direction d) = same_direction o d
+holder_is o h = grind (arith, nat_tests, same_process, same_direction)
 
 module _ (g h : Holder) (rs : List ℕ) (m : Machine) (t : Store) (ps : List Place) (ls : List Line) (w : IsWhole m) (range : IsHolder h) (many : length t.owners ≡ length m.store.owners)
     (arenas : t.arenas ≡ m.store.arenas) (held : (q : ℕ) → times q rs ≤ cond (holds m.store g q) 1 0)

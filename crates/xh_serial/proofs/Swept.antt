@@ -126,11 +126,7 @@ is_at e None = false
 is_at e (Some d) = e == d
 
 shut_at : (m : Machine) (o : Option ℕ) (e : ℕ) → ((d : ℕ) → o ≡ Some d → d < length m.lines) → way_in (shut_in m.contracts m.lines o) (Some e) ≡ cond (is_at e o) [] (on_way m e)
-shut_at m None e l = refl
-shut_at m (Some d) e l = elim (cases_eq e d) [
-  | inl s ↦ rw (eq-eqb e d s, s) (way_here m.lines d _ (l d refl))
-  | inr n ↦ rw (ne_eqb e d n) (way_else m.lines d e _ n)
-]
+shut_at m o e l = grind (arith, nat_tests, eq-eqb, way_here, ne_eqb, way_else)
 
 pub end_range : (m : Machine) (r : ℕ) → IsWhole m → (d : ℕ) → end_of m r ≡ Some d → d < length m.lines
 end_range m r w d e = let h = (w.ends r d e).opened in let o = w.channels.few in let n = w.channels.long in omega (arith, h, o, n)
@@ -148,8 +144,7 @@ ends_now m p from q w l =
     at_set m.ends r q None None there
 
 arriving_by : (m : Machine) (p from q : ℕ) (e : Option ℕ) → IsWhole m → q ≢ entry m p from → end_of m q ≡ e → on_way_to (sweep_one p from m) e ≡ on_way_to m e
-arriving_by m p from q None w n eq = refl
-arriving_by m p from q (Some d) w n eq = grind (arith, nat_tests, way)
+arriving_by m p from q e w n eq = grind (arith, nat_tests, way)
 
 pub arriving_else : (m : Machine) (p from q : ℕ) → IsWhole m → from < length (blocks m p) → q ≢ entry m p from → arriving (sweep_one p from m) q ≡ arriving m q
 arriving_else m p from q w l n = grind (arith, nat_tests, ends_now, ne_eqb, arriving_by)
@@ -224,13 +219,11 @@ full_now m p from h q w l y =
     grind (arith, nat_tests, (swept_one m p from w l).owners q, len_now m p from q w l, w.full h q)
 
 lines_long : (contracts : List (Option (List Row))) (lines : List Line) (o : Option ℕ) → length (shut_in contracts lines o) ≡ length lines
-lines_long contracts lines None = refl
-lines_long contracts lines (Some d) = length-set lines d _
+lines_long contracts lines o = grind (arith, nat_tests, length-set)
 
 fresh_shut : (contracts : List (Option (List Row))) (lines : List Line) (o : Option ℕ) (k : ℕ) → ((d : ℕ) → o ≡ Some d → k ≢ d) →
     slice_index_or (shut_in contracts lines o) k no_line ≡ slice_index_or lines k no_line
-fresh_shut contracts lines None k n = refl
-fresh_shut contracts lines (Some d) k n = get_or-set_other lines d k _ no_line (n d refl)
+fresh_shut contracts lines o k n = grind (arith, nat_tests, get_or-set_other)
 
 fresh_now : (m : Machine) (p from k : ℕ) → IsWhole m → 2 * m.opened ≤ k → line (sweep_one p from m) k ≡ no_line
 unfolding sweep_one
@@ -297,5 +290,4 @@ bytes_one m p from w l =
     omega (arith, e, a)
 
 pub sweep_step : (n p from : ℕ) (m : Machine) → 0 < n → from < length (blocks m p) → sweep p from n m ≡ sweep p from (n - 1) (sweep_one p from m)
-sweep_step zero p from m h l = absurd (omega arith)
-sweep_step (suc n) p from m h l = let e : suc n - 1 ≡ n = omega arith in rw (e, lt-ltb from (length (blocks m p)) l) refl
+sweep_step n p from m h l = grind (arith, nat_tests, lt-ltb)

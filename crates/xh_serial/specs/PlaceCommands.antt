@@ -1,12 +1,14 @@
--- A new machine, and the commands spawn, glance and ledger.
-use Rattle.std.specs.Prelude.{ℕ, ◌+◌, ◌*◌, Bool, cond, List, [], ◌∷◌, Option, Some, None, length, map, replicate, nat_le, slice_set, slice_index_or, Result, Ok, Err}
+-- A new machine, the commands spawn, glance and ledger, and what is in flight.
+use Rattle.std.specs.Prelude.{ℕ, ◌+◌, ◌*◌, ◌==◌, Bool, cond, List, [], ◌∷◌, Option, Some, None, length, map, replicate, nat_le, slice_set, slice_index_or, Result, Ok, Err}
 use Rattle.std.specs.List.{position, sum_by}
 use Rattle.xh_model.specs.declared.limits.TheConstants.{CHANNELS, DIRECTIONS, MAX_RECORDS, PLACES}
 use Rattle.xh_model.specs.declared.config.Config.{Config}
 use Rattle.xh_model.specs.Store.{Store, len, all_out, new_store}
+use Rattle.xh_core.specs.declared.flight.FlightLine.{FlightLine}
 use Rattle.xh_core.specs.declared.glance.Glance.{Glance}
 use Rattle.xh_core.specs.declared.ledger.PlaceLine.{PlaceLine}
 use Rattle.xh_core.specs.declared.ledger.Ledger.{Ledger}
+use Rattle.xh_serial.specs.declared.line.Line.{Line}
 use Rattle.xh_serial.specs.declared.place.Place.{Place}
 use Rattle.xh_core.specs.declared.refused.Refused.{Refused}
 use Rattle.xh_core.specs.declared.refused.Refused.TheVariants.{NoProcess, NoPlace}
@@ -81,3 +83,19 @@ ledger_of m = record {
   flight = sum_by (λ line. total m.store (carried line.waiting.items)) m.lines;
   out = all_out m.store;
 }
+
+-- ---- flight
+
+-- the line of a direction on which these records wait
+abbrev pub flight_line : Store → ℕ → List ℕ → FlightLine
+flight_line s d rs = record { direction = d; blocks = length rs; bytes = total s rs }
+
+-- the directions from number d on, each on which records wait
+abbrev pub flight_lines : Store → ℕ → List Line → List FlightLine
+flight_lines s d [] = []
+flight_lines s d (line ∷ lines) =
+    let rs : List ℕ = carried line.waiting.items in
+    cond (length rs == 0) (flight_lines s (d + 1) lines) (flight_line s d rs ∷ flight_lines s (d + 1) lines)
+
+unfoldable pub flight_of : Machine → List FlightLine
+flight_of m = flight_lines m.store 0 m.lines

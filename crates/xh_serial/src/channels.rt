@@ -175,6 +175,14 @@ impl Channels {
         self.lines[usize::from(d)].waiting.as_slice()
     }
 
+    /// The records on their way in a direction, front first.
+    pub(crate) fn on_way(&self, d: u8) -> ArrayVec<u16, WAITING>
+        requires { d < DIRECTIONS }
+        ensures { result.items ≡ carried (line_at self.now d).waiting.items }
+    {
+        carried(&self.lines[usize::from(d)].waiting)
+    }
+
     /// Whether the end that a direction leads to is closed.
     pub(crate) fn is_shut(&self, d: u8) -> bool
         requires { d < DIRECTIONS }

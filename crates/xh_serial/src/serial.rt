@@ -8,6 +8,7 @@ mod books;
 mod channels;
 mod checks;
 mod ending;
+mod flight;
 mod messages;
 mod places;
 mod readers;

@@ -12,8 +12,13 @@ use Rattle.xh_script.specs.declared.watch.Watched.{Watched}
 use Rattle.xh_script.specs.Scripts.{Fails, Listing, script_of}
 use Rattle.xh_script.specs.Watching.{Reads, Writes, WritesOrFails, failures, inner_of}
 use Rattle.xh_script.proofs.Writings.{WritesOrFails-then}
+use Rattle.xh_serial.specs.PlaceCommands.{flight_of}
+use Rattle.xh_session.specs.declared.report.Report.{Report}
 use Rattle.xh_session.specs.Ends.{Done, Stopped}
+use Rattle.xh_session.specs.Meaning.{after, new_world}
+use Rattle.xh_session.specs.Output.{IsTold, meaning, run_text}
 use Rattle.xh_session.specs.Reading.{GivesScript, ReadsAtMost, ReadsScript, Unread}
+use Rattle.xh_session.specs.Reports.{text_of, told_text}
 
 pub consumes_then : (a b c : Option (List ℕ)) (x y : List ℕ) → Consumes a b x → Consumes b c y → Consumes a c (x ++ y)
 consumes_then None b c x y p q = tt
@@ -99,3 +104,10 @@ module _ {R W : Type 0} (remaining : R → Option (List ℕ)) (contents : W → 
   wrote_part config reader reader' writer writer' (Err e) text script bytes reads is_for w =
       subst (Stopped remaining contents IsFor config reader reader' writer writer') (sym w.0)
       (record { text = text; script = script; bytes = bytes; reads = reads; is_for = is_for; writes = w.1 })
+
+-- what a report tells with and without what is in flight
+pub told : (config : Config) (script : Listing) (r : Report) → text_of r ≡ run_text (new_world config script.contracts) script
+    → r.flight.items ≡ flight_of (after (new_world config script.contracts) script.lines).machine → (flight : Bool) → IsTold flight config script (told_text flight r)
+unfolding meaning
+told config script r text lines false = text
+told config script r text lines true = rw (text, lines) refl

@@ -1,10 +1,10 @@
 -- What is written for a script.
-use Rattle.std.specs.Prelude.{◌≡◌, ℕ, List, ◌++◌}
+use Rattle.std.specs.Prelude.{◌≡◌, ℕ, Bool, true, false, List, ◌++◌}
 use Rattle.xh_model.specs.declared.config.Config.{Config}
 use Rattle.xh_serial.specs.Machine.{Machine}
-use Rattle.xh_serial.specs.PlaceCommands.{ledger_of}
+use Rattle.xh_serial.specs.PlaceCommands.{flight_of, ledger_of}
 use Rattle.xh_script.specs.Scripts.{Listing}
-use Rattle.xh_script.specs.Texts.{answer_texts, ledger_text}
+use Rattle.xh_script.specs.Texts.{answer_texts, flight_texts, ledger_text}
 use Rattle.xh_session.specs.Bindings.{names_by_place}
 use Rattle.xh_session.specs.Meaning.{new_world, answers, after}
 use Rattle.xh_session.specs.Plans.{World}
@@ -23,3 +23,8 @@ meaning config script = run_text (new_world config script.contracts) script
 
 abbrev pub IsMeaning : Config → Listing → List ℕ → Type 0
 IsMeaning config script bytes = bytes ≡ meaning config script
+
+-- the same, and after it, where it is asked for, what is in flight when the script's commands are done
+abbrev pub IsTold : Bool → Config → Listing → List ℕ → Type 0
+IsTold false config script bytes = IsMeaning config script bytes
+IsTold true config script bytes = bytes ≡ meaning config script ++ flight_texts (flight_of (after (new_world config script.contracts) script.lines).machine)

@@ -15,6 +15,6 @@ pub use machine::Machine;
 pub use names::Names;
 pub use received::Received;
 pub use report::{Report, write_report};
-pub use serial::run_serial;
+pub use serial::{Run, run_serial, run_serial_as};
 pub use session::Session;
 pub use stage::Stage;

@@ -2,28 +2,47 @@
 ghost use Rattle.std.specs.Prelude.{◌<◌, length};
 ghost use Rattle.std.specs.List.{All};
 ghost use Rattle.xh_script.specs.Watching.{WritesOrFails};
-ghost use Rattle.xh_session.specs.Reports.{text_of};
+ghost use Rattle.xh_session.specs.Reports.{told_text, text_of};
 
+use arrayvec::ArrayVec;
 use std::io::Write;
-use xh_core::Ledger;
-use xh_script::{Answered, Fault, Name, Watched, write_answers, write_ledger};
+use xh_core::{FLIGHT_LINES, FlightLine, Ledger};
+use xh_script::{Answered, Fault, Name, Watched, write_answers, write_flight, write_ledger};
 
-/// What a run answered: the replies in the order of the script, the ledger at its end, and the name of
-/// the latest process of each of the 32 places; one that nobody has had is called vacant, and the ledger
-/// has no line of it.
+/// What a run answered: the replies in the order of the script, the ledger and what is in flight at its
+/// end, and the name of the latest process of each of the 32 places; one that nobody has had is called
+/// vacant, and the ledger has no line of it.
 #[derive(Drop)]
 pub struct Report {
     pub answers: Vec<Answered>,
     pub ledger: Ledger,
+    pub flight: ArrayVec<FlightLine, FLIGHT_LINES>,
     pub names: Vec<Name>,
 }
 
-/// Writes the replies, and then the ledger, and sends all on its way.
-pub fn write_report<W: Write>(writer: &mut Watched<W>, report: &Report) -> Result<(), Fault>
+// Writes the replies, and then the ledger.
+fn put_report<W: Write>(writer: &mut Watched<W>, report: &Report) -> Result<(), Fault>
     requires { All (λ line. line.place < length report.now.names.items) report.now.ledger.places.items }
     ensures { WritesOrFails W.contents writer.old writer.new result (text_of report.now) }
 {
     write_answers(writer, &report.answers)?;
-    write_ledger(writer, &report.ledger, &report.names)?;
+    write_ledger(writer, &report.ledger, &report.names)
+}
+
+/// Writes the replies, and then the ledger, and where it is asked for what is in flight, and sends all on
+/// its way.
+pub fn write_report<W: Write>(
+    writer: &mut Watched<W>,
+    report: &Report,
+    flight: bool,
+) -> Result<(), Fault>
+    requires { All (λ line. line.place < length report.now.names.items) report.now.ledger.places.items }
+    ensures { WritesOrFails W.contents writer.old writer.new result (told_text flight report.now) }
+{
+    put_report(writer, report)?;
+    if !flight {
+        return writer.flush();
+    }
+    write_flight(writer, &report.flight)?;
     writer.flush()
 }

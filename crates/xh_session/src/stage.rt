@@ -3,7 +3,7 @@ ghost use Rattle.std.specs.Prelude.{◌≡◌, ◌≢◌, ◌⊎◌, ◌<◌, le
 ghost use Rattle.std.specs.List.{All};
 ghost use Rattle.xh_model.specs.Config.{IsConfig};
 ghost use Rattle.xh_model.specs.declared.limits.TheConstants.{PLACES};
-ghost use Rattle.xh_serial.specs.PlaceCommands.{new_machine};
+ghost use Rattle.xh_serial.specs.PlaceCommands.{flight_of, new_machine};
 ghost use Rattle.xh_script.specs.Scripts.{listing_of};
 ghost use Rattle.xh_session.specs.Meaning.{new_world, step, answers, after};
 ghost use Rattle.xh_session.specs.Output.{run_text};
@@ -103,6 +103,7 @@ impl<'a> Stage<'a> {
     /// Does a script's commands, and tells what they leave.
     pub(crate) fn report(&mut self, alloc: Global, script: &Script) -> Result<Report, AllocError>
         ensures text { IfOk result (λ r. text_of r ≡ run_text self.old (listing_of script.now)) }
+        ensures flight { IfOk result (λ r. r.flight.items ≡ flight_of (after self.old script.now.lines.items).machine) }
         ensures places { IfOk result (λ r. (length r.names.items ≡ PLACES) × All (λ line. line.place < PLACES) r.ledger.places.items) }
     {
         let answers = self.run(alloc, &script.lines)?;
@@ -110,6 +111,7 @@ impl<'a> Stage<'a> {
         Ok(Report {
             answers,
             ledger: self.session.machine.ledger(),
+            flight: self.session.machine.flight(),
             names,
         })
     }

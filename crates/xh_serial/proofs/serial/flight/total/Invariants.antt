@@ -1,0 +1,9 @@
+use Rattle.std.proofs.Common.{◌≡◌, ◌+◌, ◌≤◌, ◌*◌, drop}
+use Rattle.xh_serial.specs.PlaceCommands.{total}
+use Rattle.xh_serial.proofs.serial.flight.total.Given as goal
+
+abbrev pub invariant-loop-record : goal.invariant-loop-record
+invariant-loop-record l = record {
+  sum : l.sum + total l.plain (drop l.record-index l.records) ≡ total l.plain l.records;
+  small : l.sum ≤ l.record-index * 4294967295;
+}
