@@ -10,7 +10,8 @@ use Rattle.xh_model.specs.Arena.{ArenaState, lengths_of}
 use Rattle.xh_model.specs.Cover.{length_of}
 use Rattle.xh_model.proofs.Lengths.{length_at, length-lengths}
 use Rattle.xh_place.specs.declared.body.Body.{Body}
-use Rattle.xh_books.specs.inner.Steps.{all_lengths, arenas_of, lens_of}
+use Rattle.xh_books.specs.Ledgers.{all_lengths, arenas_of}
+use Rattle.xh_books.specs.inner.Steps.{lens_of}
 
 abbrev pub Each : ℕ → List ArenaState → Type 0
 Each n as_ = All (λ a. a.records ≡ n) as_

@@ -6,24 +6,26 @@ use Rattle.xh_core.specs.declared.ledger.ArenaLine.{ArenaLine}
 use Rattle.xh_kernel.specs.Accounts.{AccountOf}
 use Rattle.xh_calls.specs.Parts.{PartsOf, IsOpen, vault_names}
 use Rattle.xh_place.specs.Places.{PlaceOf}
-use Rattle.xh_books.specs.Ledgers.{all_back, all_taken, arena_lines, bytes_in_flight, bytes_owned}
-use Rattle.xh_books.specs.inner.Steps.{AreBooks, AreGathered, all_lengths, arenas_of, closed_line, unlisted_from}
+use Rattle.xh_books.specs.Ledgers.{all_back, all_lengths, all_taken, arena_lines, arenas_of, bytes_in_flight, bytes_owned}
+use Rattle.xh_books.specs.inner.Steps.{AreBooks, AreGathered, closed_line, unlisted_from}
 use Rattle.xh_books.proofs.Audited.{each_open}
 use Rattle.xh_books.proofs.Collected.{Named}
 use Rattle.xh_books.proofs.Flying.{flight_from}
 use Rattle.xh_books.proofs.Summing.{IsEven, all_moved, lines_even, outs_are}
 
 -- what the ledger of them says
-pub record Sums (accounts : List AccountOf) (vs : List VaultOf) (ps : List PlaceOf) (lines : List ArenaLine) : Type 0 where
+pub record Sums (accounts : List AccountOf) (vs : List VaultOf) (ps : List PlaceOf) (n : ℕ) (lens : List ℕ) (lines : List ArenaLine) : Type 0 where
   pub arenas : lines ≡ arena_lines accounts 0 vs
   pub even : All IsEven lines
   pub out : sum_by (λ l. l.out) lines ≡ bytes_owned ps + bytes_in_flight ps 0 vs
+  pub lengths : lens ≡ all_lengths (arenas_of vs)
+  pub flight : sum (unlisted_from ps n 0 lens) ≡ bytes_in_flight ps 0 vs
   pub moved : all_taken accounts ≡ all_back accounts + sum_by (λ l. l.out) lines
 
 -- `vs` are the vaults handed in, `ws` with the accounts, `us` audited
 pub sums : (p : PartsOf) (n : ℕ) (accounts : List AccountOf) (vs ws us : List VaultOf) (ps : List PlaceOf) (lens : List ℕ) (lines : List ArenaLine)
     → n ≡ p.records.shape.records → n ≤ 256 → vault_names vs ≡ p.records.shape.names → All (IsOpen p) vs → All (Named p.records.shape.names) accounts → AreGathered accounts vs ws
-    → us ≡ ws → lens ≡ all_lengths (arenas_of ws) → sum lens ≡ bytes_owned ps + sum (unlisted_from ps n 0 lens) → lines ≡ map closed_line us → All AreBooks us → Sums accounts vs ps lines
+    → us ≡ ws → lens ≡ all_lengths (arenas_of ws) → sum lens ≡ bytes_owned ps + sum (unlisted_from ps n 0 lens) → lines ≡ map closed_line us → All AreBooks us → Sums accounts vs ps n lens lines
 sums p n accounts vs ws us ps lens lines count small vaults fresh named gathered same known owned lines_are books =
     let arenas : lines ≡ arena_lines accounts 0 vs = lines_are ∙ ap (map closed_line) same ∙ gathered.lines in
     let even : All IsEven lines = subst (All IsEven) (sym lines_are) (lines_even us books) in
@@ -40,6 +42,8 @@ sums p n accounts vs ws us ps lens lines count small vaults fresh named gathered
       arenas = arenas;
       even = even;
       out = outs ∙ split ∙ ap (λ z. bytes_owned ps + z) flight;
+      lengths = lens_are;
+      flight = ap (λ ls. sum (unlisted_from ps n 0 ls)) lens_are ∙ flight;
       moved =
           let m = all_moved p.records.shape.names vs accounts vaults named (subst (All IsEven) arenas even) in
           m ∙ ap (λ (ls : List ArenaLine). all_back accounts + sum_by (λ l. l.out) ls) (sym arenas);

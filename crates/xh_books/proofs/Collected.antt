@@ -12,8 +12,8 @@ use Rattle.xh_kernel.specs.Accounts.{AccountOf}
 use Rattle.xh_calls.specs.Parts.{PartsOf, IsOpen, vault_names}
 use Rattle.xh_model.specs.Cover.{bytes_out, holes_of}
 use Rattle.xh_place.specs.Tallies.{ids_of}
-use Rattle.xh_books.specs.Ledgers.{arena_lines, taken_of, back_of}
-use Rattle.xh_books.specs.inner.Steps.{AreGathered, IsFull, arenas_of, closed_line, with_accounts, with_tallies, with_tally}
+use Rattle.xh_books.specs.Ledgers.{arena_lines, arenas_of, back_of, taken_of}
+use Rattle.xh_books.specs.inner.Steps.{AreGathered, IsFull, closed_line, with_accounts, with_tallies, with_tally}
 
 -- ---- one account, tally by tally
 

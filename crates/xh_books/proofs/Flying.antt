@@ -21,8 +21,8 @@ use Rattle.xh_model.proofs.Lengths.{length-lengths}
 use Rattle.xh_model.proofs.Numbers.{place_in, slot_is}
 use Rattle.xh_model.proofs.Words.{number_back}
 use Rattle.xh_place.specs.Places.{Item, PlaceOf, total_of}
-use Rattle.xh_books.specs.Ledgers.{bytes_in_flight, bytes_owned, is_listed, unlisted}
-use Rattle.xh_books.specs.inner.Steps.{all_lengths, arenas_of, unlisted_from}
+use Rattle.xh_books.specs.Ledgers.{all_lengths, arenas_of, bytes_in_flight, bytes_owned, is_listed, unlisted}
+use Rattle.xh_books.specs.inner.Steps.{unlisted_from}
 use Rattle.xh_books.proofs.Audited.{Each, same_lists, some_eq}
 use Rattle.xh_books.proofs.Summing.{sum-append}
 

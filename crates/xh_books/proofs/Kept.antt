@@ -7,6 +7,7 @@ use Rattle.std.specs.Prelude.{slice_index, Result, Ok, Err, IfOk}
 use Rattle.xh_arena.specs.Views.{VaultOf}
 use Rattle.xh_calls.specs.Parts.{IsOpen, PartsOf, vault_names}
 use Rattle.xh_core.specs.declared.ledger.ArenaLine.{ArenaLine}
+use Rattle.xh_core.specs.declared.flight.FlightLine.{FlightLine}
 use Rattle.xh_core.specs.declared.ledger.Ledger.{Ledger}
 use Rattle.xh_core.specs.declared.refused.Refused.{Refused}
 use Rattle.xh_glance.specs.Look.{LookOf}
@@ -18,7 +19,9 @@ use Rattle.xh_kernel.specs.Kept.{AreKept, AreOwn, IsKept}
 use Rattle.xh_kernel.specs.Places.{places_of}
 use Rattle.xh_place.specs.Seen.{PlaceSeen}
 use Rattle.xh_books.specs.Closing.{AreInOrder, HaveSeen, IsClosed, IsSumOver, histories_of}
-use Rattle.xh_books.specs.Ledgers.{IsBalanced, arena_lines, bytes_in_flight, bytes_owned, place_lines, taken_of}
+use Rattle.xh_books.specs.declared.closing.Books.{Books}
+use Rattle.xh_books.specs.Flight.{IsInFlight}
+use Rattle.xh_books.specs.Ledgers.{IsBalanced, all_lengths, arena_lines, arenas_of, bytes_in_flight, bytes_owned, place_lines, taken_of}
 use Rattle.xh_books.specs.Sums.{AllBegan, AllWorked, AreLawful, arena_count}
 use Rattle.xh_books.specs.inner.Steps.{tallies_of}
 use Rattle.xh_books.proofs.Compared.{lines_same}
@@ -50,12 +53,14 @@ module _ (parts : PartsOf) where
 -- ---- a closed kernel
 
 -- its ledger, of accounts whose tallies are still those that were handed in
-pub is_closed : (parts : PartsOf) (places : List PlaceSeen) (pens : List Pens) (vaults : List VaultOf) (all now_ : List AccountOf) (looks : List LookOf) (r : Result Ledger Refused)
+pub is_closed : (parts : PartsOf) (places : List PlaceSeen) (pens : List Pens) (vaults : List VaultOf) (all now_ : List AccountOf) (looks : List LookOf) (r : Result Books Refused)
     → AreKept parts places pens → length all ≡ parts.workers → HaveSeen all looks pens → (vault_names vaults ≡ parts.records.shape.names) × All (IsOpen parts) vaults → tallies_of now_ ≡ tallies_of all
-    → IfOk r (λ l. l.arenas.items ≡ arena_lines now_ 0 vaults) → IfOk r (λ l. l.places.items ≡ place_lines (places_of places)) → IfOk r (λ l. l.owned ≡ bytes_owned (places_of places))
-    → IfOk r (λ l. l.flight ≡ bytes_in_flight (places_of places) 0 vaults) → IfOk r IsBalanced → IfOk r (IsClosed parts all looks)
-is_closed parts places pens vaults all now_ looks (Err e) kept workers seen open_vaults same arenas lines owned flight balanced = tt
-is_closed parts places pens vaults all now_ looks (Ok l) kept workers seen open_vaults same arenas lines owned flight balanced = record {
+    → IfOk r (λ b. b.ledger.arenas.items ≡ arena_lines now_ 0 vaults) → IfOk r (λ b. b.ledger.places.items ≡ place_lines (places_of places))
+    → IfOk r (λ b. b.ledger.owned ≡ bytes_owned (places_of places))
+    → IfOk r (λ b. b.ledger.flight ≡ bytes_in_flight (places_of places) 0 vaults) → IfOk r (λ b. IsBalanced b.ledger)
+    → IfOk r (λ b. IsInFlight parts.records.shape (places_of places) (all_lengths (arenas_of vaults)) b.flight.items) → IfOk r (λ b. IsClosed parts all looks b.ledger b.flight.items)
+is_closed parts places pens vaults all now_ looks (Err e) kept workers seen open_vaults same arenas lines owned flight balanced in_flight = tt
+is_closed parts places pens vaults all now_ looks (Ok b) kept workers seen open_vaults same arenas lines owned flight balanced in_flight = record {
   places = places;
   pens = pens;
   vaults = vaults;
@@ -68,6 +73,7 @@ is_closed parts places pens vaults all now_ looks (Ok l) kept workers seen open_
   owned = owned;
   flight = flight;
   balanced = balanced;
+  in_flight = in_flight;
 }
 
 line_taken : (all : List AccountOf) (k : ℕ) (vs : List VaultOf) (i : ℕ) → i < length vs → slice_index (map (λ a. a.taken) (arena_lines all k vs)) i ≡ sum_by (taken_of (k + i)) all
@@ -75,7 +81,7 @@ line_taken all k [] i h = absurd (omega arith)
 line_taken all k (v ∷ vs) zero h = let e : k ≡ k + 0 = omega arith in ap (λ j. sum_by (taken_of j) all) e
 line_taken all k (v ∷ vs) (suc i) h = let e : suc k + i ≡ k + suc i = omega arith in line_taken all (suc k) vs i (omega arith) ∙ ap (λ j. sum_by (taken_of j) all) e
 
-module _ (parts : PartsOf) (all : List AccountOf) (looks : List LookOf) (l : Ledger) (c : IsClosed parts all looks l) (began : AllBegan parts all) where
+module _ (parts : PartsOf) (all : List AccountOf) (looks : List LookOf) (l : Ledger) (directions : List FlightLine) (c : IsClosed parts all looks l directions) (began : AllBegan parts all) where
   worked : AllWorked parts (histories_of c.pens) all
   worked = (c.workers, began, c.seen.seen, kept_lawful parts c.places c.pens c.kept c.seen.in_order)
 

@@ -4,6 +4,8 @@ pub mod Audited
 pub mod Ending
 pub mod Flying
 pub mod Owning
+pub mod FlightLines
+pub mod Passing
 pub mod Closed
 pub mod LedgerLines
 pub mod Sums

@@ -1,28 +1,36 @@
 -- What the places list is what the closed table's lots have, each once.
-use Rattle.std.proofs.Common.{◌≡◌, ℕ, zero, suc, ◌+◌, ◌%◌, ◌<◌, ◌≤◌, Bool, true, false, List, [], ◌∷◌, ◌++◌, map, length, sum, All, sym, refl, ap, ◌∙◌, subst, inl, inr, ⊎_elim, arith}
-use Rattle.std.specs.Prelude.{Option, Some, None, slice_get}
+use Rattle.std.proofs.Common.{get_or, ◌≡◌, ℕ, zero, suc, ◌+◌, ◌%◌, ◌<◌, ◌≤◌, Bool, true, false, List, [], ◌∷◌, ◌++◌, map, length, sum, All, sym, refl, ap, ◌∙◌, subst, inl, inr, ⊎_elim, arith}
+use Rattle.std.specs.Prelude.{IsSomeAnd, Option, Some, None, slice_get}
+use Rattle.std.specs.List.{sum_by, zip}
 use Rattle.std.proofs.Math.Nat.{mod-lt}
+use Rattle.std.proofs.lemmas.List.{length-map}
 use Rattle.std.proofs.lemmas.Option.{get_or_from_slice_get, slice_get-map}
 use Rattle.xh_arena.specs.Views.{LotOf}
-use Rattle.xh_calls.proofs.Lists.{below_get}
+use Rattle.xh_calls.proofs.Lists.{below_get, there}
+use Rattle.xh_core.specs.declared.flight.FlightLine.{FlightLine}
 use Rattle.xh_model.specs.declared.event.Holder.{Holder}
 use Rattle.xh_model.specs.declared.event.Holder.TheVariants.{Process, Direction}
 use Rattle.xh_model.specs.Keyed.{Among, Distinct, keys, value_at}
 use Rattle.xh_model.specs.Slots.{index_of}
-use Rattle.xh_model.specs.Words.{IsHeldBy, number_of, word_of}
+use Rattle.xh_model.specs.Words.{IsHeldBy, IsHolder, number_of, place_of, word_of}
 use Rattle.xh_model.proofs.Keyed.{among_either, keys_append}
 use Rattle.xh_model.proofs.Numbers.{index_apart}
 use Rattle.xh_model.proofs.Words.{arena_of_number, index_back, number_back, place_of_number}
 use Rattle.xh_place.specs.declared.body.Body.{Body}
-use Rattle.xh_place.specs.Places.{IsPlaceOf, Item, PlaceOf}
+use Rattle.xh_place.specs.Moves.{moves}
+use Rattle.xh_place.specs.Places.{IsPlaceOf, Item, PlaceOf, item_of}
 use Rattle.xh_records.specs.declared.shape.Shape.{Shape}
+use Rattle.xh_records.specs.History.{by_place}
 use Rattle.xh_records.specs.Seats.{Ends, Held, IsSeatOf, RecordsOf, lot_in}
 use Rattle.xh_records.specs.Showing.{IsLotAt}
 use Rattle.xh_records.proofs.Elements.{elem_slice, in_range, is_there, slice_elem}
-use Rattle.xh_records.proofs.Keeps.{one_holder, same_place}
+use Rattle.xh_records.proofs.Keeps.{never, one_holder, same_place}
 use Rattle.xh_books.specs.Ledgers.{bytes_owned, is_listed}
-use Rattle.xh_books.specs.inner.Steps.{AreAt, AreSeats, IsSeatOfPlace, SayInFlight, lens_of, unlisted_from}
+use Rattle.xh_books.specs.Flight.{AreFlightLines, IsInFlight, Stands, flight_lines, is_on}
+use Rattle.xh_books.specs.inner.Steps.{AreAt, AreSeats, IsSeatOfPlace, TellFlight, lens_of, unlisted_from, word_lines}
 use Rattle.xh_books.proofs.Audited.{len_at, some_eq}
+use Rattle.xh_books.proofs.Passing.{was_passed}
+use Rattle.xh_books.proofs.FlightLines.{all_zip, are_lines, by_words, flying, flying_is, in_flight_full}
 use Rattle.xh_books.proofs.Flying.{all_blocks, among_key, among_value, cleared_is, in_all, in_indexed, in_place}
 use Rattle.xh_books.proofs.Flying.{indexed, key_among, listed, listed_somewhere, picked, sum_cleared, total_blocks, value_from}
 
@@ -190,24 +198,76 @@ module _ (fits : Body → ℕ → Bool) (all : RecordsOf) (seats : List (Held Bo
       let m : k % n < n = mod-lt k pos in let small : k % n < 256 = omega arith in
       (subst (λ (z : ℕ). slice_get all.shape.names z ≡ Some l.id) (arena_of_number n k small) is.1, is.0 ∙ place_of_number n k small)
 
-  -- a record with bytes that stands in no place's list is in flight, and its word says so
-  in_flight : (k m : ℕ) (l : LotOf Body) (h : Option Holder) → 0 < n → n ≤ 256 → slice_get lots k ≡ Some l → l.len ≡ m → 0 < m → is_listed (number_of n k) ps ≡ false → IsHeldBy ends.owners k h
-      → (d : ℕ) × IsHeldBy ends.owners k (Some (Direction d))
-  in_flight k m l None pos few at len full none held = let e : l.len ≡ 0 = (ends.lots_are k None l held at).1.0 in absurd (omega arith)
-  in_flight k m l (Some (Direction d)) pos few at len full none held = (d, held)
-  in_flight k m l (Some (Process p)) pos few at len full none held =
+  -- what a place lists has the place's process for its holder
+  not_listed : 0 < n → n ≤ 256 → (k : ℕ) (h : Option Holder) → IsHeldBy ends.owners k h → ((p : ℕ) → h ≡ Some (Process p) → ⊥) → is_listed (number_of n k) ps ≡ false
+  not_listed some small k h held other = never_listed (is_listed (number_of n k) ps) refl
+    where
+      never_listed : (b : Bool) → is_listed (number_of n k) ps ≡ b → b ≡ false
+      never_listed false e = refl
+      never_listed true e =
+          let t = listed_somewhere (number_of n k) ps e in let own = block t.0 t.1 (number_of n k) t.2 t.3 t.4 in
+          let theirs = subst (λ (z : ℕ). IsHeldBy ends.owners z (Some (Process own.seat.process))) (index_back n k some small) own.held in
+          absurd (other own.seat.process (one_holder ends.owners k h (Some (Process own.seat.process)) held theirs))
+
+  stands : 0 < n → n ≤ 256 → (k m : ℕ) (h : Option Holder) (l : LotOf Body) → slice_get lots k ≡ Some l → l.len ≡ m → IsHeldBy ends.owners k h → Stands ps (number_of n k) m h
+  stands some small k m None l at len held = (sym len ∙ (ends.lots_are k None l held at).1.0, not_listed some small k None held (λ p e. absurd (cc)))
+  stands some small k m (Some (Direction d)) l at len held =
+      (subst (λ (z : ℕ). 0 < z) len (ends.lots_are k (Some (Direction d)) l held at).1.0, not_listed some small k (Some (Direction d)) held (λ p e. never d p e))
+  stands some small k m (Some (Process p)) l at len held =
       let end = ends.lots_are k (Some (Process p)) l held at in let x = end.1 in
       let q = place_at seats ps end.0 x are end.2 in
       let number : number_of x.shape.records k ≡ number_of n k = ap (λ (z : Shape). number_of z.records k) (shape_of end.0 x end.2) in
-      let value = (q.2.lists.all (number_of x.shape.records k) l end.4).0 in
-      let yes_ : is_listed (number_of n k) ps ≡ true = ap (λ (z : ℕ). is_listed z ps) (sym number) ∙ listed (number_of x.shape.records k) end.0 ps q.0 _ q.1 value in
-      let f : true ≡ false = sym yes_ ∙ none in absurd (cc)
+      let value : value_at (number_of n k) q.0.blocks ≡ Some (item_of l) =
+      subst (λ (z : ℕ). value_at z q.0.blocks ≡ Some (item_of l)) number (q.2.lists.all (number_of x.shape.records k) l end.4).0 in (
+        subst (λ (z : ℕ). 0 < z) len (q.2.whole (number_of n k) (item_of l) value),
+        (
+          end.0,
+          q.0,
+          below_get ps end.0 q.0 q.1,
+          get_or_from_slice_get ps end.0 q.0 q.0 q.1,
+          (sym q.2.same.2 ∙ end.3, subst (λ (o : Option Item). IsSomeAnd o (λ b. b.len ≡ m)) (sym value) len),
+        ),
+      )
 
-  pub say_in_flight : 0 < n → n ≤ 256 → SayInFlight ps n words (lens_of lots)
-  say_in_flight pos few k m at full none =
-      let t = len_at lots k m at in
-      let below : k < length lots = below_get lots k t.0 t.1 in
-      let there = is_there ends.owners k (let e : length lots ≡ length ends.owners = ends.lots_long in omega arith) in
-      let f = in_flight k m t.0 there.0 pos few t.1 t.2 full none there.1 in
-      let told = map_at word_of ends.owners k (Some (Direction f.0)) (elem_slice ends.owners k (Some (Direction f.0)) f.1) in
-      (f.0, ends.holders k (Some (Direction f.0)) f.1, ap (λ (ws : List ℕ). slice_get ws k) ends.words_are ∙ told)
+  quiet : 0 < n → n ≤ 256 → (k m : ℕ) (h : Option Holder) → slice_get (lens_of lots) k ≡ Some m → IsHeldBy ends.owners k h → Stands ps (number_of n k) m h
+  quiet some small k m h at held = let t = len_at lots k m at in stands some small k m h t.0 t.1 t.2 held
+
+  -- the moves of each place are its part of the log
+  parts : All (λ p. p.moved ≡ moves (by_place (place_of p.process) ends.log)) ps
+  parts j d below =
+      let p : PlaceOf = get_or ps j d in let s = seat_at seats ps j p are (there ps j d below) in
+      sym s.2.moved ∙ ap moves (ends.parts j s.0 s.1) ∙ ap (λ (z : ℕ). moves (by_place (place_of z) ends.log)) s.2.same.2
+
+  long : length ends.owners ≡ length (lens_of lots)
+  long = sym (length-map lots (λ (l : LotOf Body). l.len) ∙ ends.lots_long)
+
+  lines_from : (lines : List FlightLine) → lines ≡ word_lines (zip words (lens_of lots)) → lines ≡ flight_lines (zip ends.owners (lens_of lots))
+  lines_from lines e = e ∙ ap (λ ws. word_lines (zip ws (lens_of lots))) ends.words_are ∙ by_words ends.owners (lens_of lots)
+
+  in_flight : 0 < n → n ≤ 256 → (lines : List FlightLine) → lines ≡ word_lines (zip words (lens_of lots)) → IsInFlight all.shape ps (lens_of lots) lines
+  in_flight some small lines e = record {
+    log = ends.log;
+    theirs = ends.theirs;
+    parts = parts;
+    owners = ends.owners;
+    count = long;
+    leads = ends.leads;
+    passed = λ k d held. was_passed n (length ends.owners) ends.log ends.owners k d ends.leads held;
+    quiet = quiet some small;
+    full = λ j d below. (seat_at seats ps j (get_or ps j d) are (there ps j d below)).2.whole;
+    lines_are = lines_from lines e;
+  }
+
+  flight_sums : 0 < n → n ≤ 256 → (lines : List FlightLine) → lines ≡ word_lines (zip words (lens_of lots)) → AreFlightLines (sum (unlisted_from ps n 0 (lens_of lots))) lines
+  flight_sums some small lines e =
+      let each : (k m : ℕ) (h : Option Holder) → slice_get (lens_of lots) k ≡ Some m → slice_get ends.owners k ≡ Some h → Stands ps (number_of n (0 + k)) m h =
+      λ k m h at held. let z : k ≡ 0 + k = omega arith in subst (λ (j : ℕ). Stands ps (number_of n j) m h) z (quiet some small k m h at (slice_elem ends.owners k h held)) in
+      let lawful = are_lines (zip ends.owners (lens_of lots))
+      (all_zip (λ r. IsHolder r.0) ends.owners (lens_of lots) (λ k m h at held. ends.holders k h (slice_elem ends.owners k h held)))
+      (λ d. all_zip (λ r. is_on d r.0 ≡ true → 0 < r.1) ends.owners (lens_of lots) (λ k m h at held. in_flight_full d ps (number_of n (0 + k)) m h (each k m h at held))) in
+      let sums = flying_is ps n 0 ends.owners (lens_of lots) long each in
+      subst (λ (z : ℕ). AreFlightLines z lines) sums (subst (AreFlightLines (sum_by flying (zip ends.owners (lens_of lots)))) (sym (lines_from lines e)) lawful)
+
+  pub tell_flight : 0 < n → n ≤ 256 → (lines : List FlightLine) → lines ≡ word_lines (zip words (lens_of lots)) → TellFlight all.shape ps (lens_of lots) lines
+  unfolding TellFlight
+  tell_flight some small lines e = (in_flight some small lines e, flight_sums some small lines e)

@@ -11,8 +11,8 @@ use Rattle.xh_core.specs.declared.ledger.ArenaLine.{ArenaLine}
 use Rattle.xh_kernel.specs.Accounts.{AccountOf}
 use Rattle.xh_calls.specs.Parts.{vault_names}
 use Rattle.xh_model.specs.Arena.{lengths_of}
-use Rattle.xh_books.specs.Ledgers.{all_back, all_taken, arena_line, arena_lines, back_of, taken_of}
-use Rattle.xh_books.specs.inner.Steps.{AreBooks, all_lengths, arenas_of, closed_line}
+use Rattle.xh_books.specs.Ledgers.{all_back, all_lengths, all_taken, arena_line, arena_lines, arenas_of, back_of, taken_of}
+use Rattle.xh_books.specs.inner.Steps.{AreBooks, closed_line}
 use Rattle.xh_books.proofs.Collected.{Named, as_many}
 
 pub sum-append : (xs ys : List ℕ) → sum (xs ++ ys) ≡ sum xs + sum ys

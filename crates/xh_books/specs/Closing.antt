@@ -3,6 +3,7 @@ use Rattle.std.specs.Prelude.{◌≡◌, ℕ, ◌<◌, List, All, length, map, s
 use Rattle.std.specs.List.{sum_by}
 use Rattle.xh_arena.specs.Views.{VaultOf}
 use Rattle.xh_calls.specs.Parts.{IsOpen, PartsOf, vault_names}
+use Rattle.xh_core.specs.declared.flight.FlightLine.{FlightLine}
 use Rattle.xh_core.specs.declared.ledger.Ledger.{Ledger}
 use Rattle.xh_glance.specs.Histories as glances
 use Rattle.xh_glance.specs.Look.{LookOf}
@@ -14,7 +15,8 @@ use Rattle.xh_kernel.specs.Kept.{AreKept}
 use Rattle.xh_kernel.specs.Places.{places_of}
 use Rattle.xh_model.specs.declared.limits.TheConstants.{PLACES}
 use Rattle.xh_place.specs.Seen.{PlaceSeen}
-use Rattle.xh_books.specs.Ledgers.{IsBalanced, arena_lines, bytes_in_flight, bytes_owned, place_lines}
+use Rattle.xh_books.specs.Flight.{IsInFlight}
+use Rattle.xh_books.specs.Ledgers.{IsBalanced, all_lengths, arena_lines, arenas_of, bytes_in_flight, bytes_owned, place_lines}
 use Rattle.xh_books.specs.Sums.{AreSeen, EachArena, back_in, sum_of_all, taken_in}
 
 -- the histories of the places, and their glances, which the pens know whole
@@ -39,8 +41,8 @@ pub record HaveSeen (accounts : List AccountOf) (looks : List LookOf) (pens : Li
   pub looked : All (HasLooked (glances_of pens)) looks
 
 -- The locks of the kernel kept lawful histories of its places, each led to the place beside it, and these are all accounts and looks of the workers that made them. The ledger is of
--- these places, of the kernel's vaults and of the accounts.
-pub record IsClosed (parts : PartsOf) (accounts : List AccountOf) (looks : List LookOf) (l : Ledger) : Type 0 where
+-- these places, of the kernel's vaults and of the accounts; the lines of directions are of these places and vaults.
+pub record IsClosed (parts : PartsOf) (accounts : List AccountOf) (looks : List LookOf) (l : Ledger) (directions : List FlightLine) : Type 0 where
   pub places : List PlaceSeen
   pub pens : List Pens
   pub vaults : List VaultOf
@@ -53,6 +55,7 @@ pub record IsClosed (parts : PartsOf) (accounts : List AccountOf) (looks : List 
   pub owned : l.owned ≡ bytes_owned (places_of places)
   pub flight : l.flight ≡ bytes_in_flight (places_of places) 0 vaults
   pub balanced : IsBalanced l
+  pub in_flight : IsInFlight parts.records.shape (places_of places) (all_lengths (arenas_of vaults)) directions
 
 -- What the ledger says was taken of each arena is the sum of what all calls of the histories took there, and what came back of all arenas the sum of what came back by them.
 pub record IsSumOver (parts : PartsOf) (hs : List (History Call)) (l : Ledger) : Type 0 where

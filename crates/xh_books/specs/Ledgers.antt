@@ -1,5 +1,5 @@
 -- The ledger of closed books: what it says of the vaults, the places and the accounts that were handed in.
-use Rattle.std.specs.Prelude.{◌≡◌, ℕ, suc, ◌+◌, ◌*◌, Bool, cond, is_some, List, [], ◌∷◌, All, length, map, slice_index, sum}
+use Rattle.std.specs.Prelude.{◌≡◌, ℕ, suc, ◌+◌, ◌*◌, Bool, cond, is_some, List, [], ◌∷◌, ◌++◌, All, length, map, slice_index, sum}
 use Rattle.std.specs.List.{filter_map, list_any, sum_by}
 use Rattle.xh_arena.specs.Views.{VaultOf}
 use Rattle.xh_core.specs.declared.ledger.ArenaLine.{ArenaLine}
@@ -7,7 +7,7 @@ use Rattle.xh_core.specs.declared.ledger.Ledger.{Ledger}
 use Rattle.xh_core.specs.declared.ledger.PlaceLine.{PlaceLine}
 use Rattle.xh_kernel.specs.Accounts.{AccountOf}
 use Rattle.xh_model.specs.declared.limits.TheConstants.{MAX_RECORDS}
-use Rattle.xh_model.specs.Arena.{lengths_of}
+use Rattle.xh_model.specs.Arena.{ArenaState, lengths_of}
 use Rattle.xh_model.specs.Cover.{bytes_out, holes_of}
 use Rattle.xh_model.specs.Keyed.{value_at}
 use Rattle.xh_place.specs.Places.{PlaceOf, line, line_in, total_of}
@@ -35,6 +35,14 @@ arena_line accounts arena v = record {
 abbrev pub arena_lines : List AccountOf → ℕ → List VaultOf → List ArenaLine
 arena_lines accounts arena [] = []
 arena_lines accounts arena (v ∷ vs) = arena_line accounts arena v ∷ arena_lines accounts (suc arena) vs
+
+-- the arenas of the vaults, and the lengths of all their records, in order
+abbrev pub arenas_of : List VaultOf → List ArenaState
+arenas_of = map (λ v. v.arena)
+
+abbrev pub all_lengths : List ArenaState → List ℕ
+all_lengths [] = []
+all_lengths (a ∷ rest) = lengths_of a ++ all_lengths rest
 
 -- all that the workers took of all arenas, and all that they gave back
 abbrev pub all_taken : List AccountOf → ℕ

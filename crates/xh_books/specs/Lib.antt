@@ -1,4 +1,5 @@
 pub mod Ledgers
+pub mod Flight
 pub mod Sums
 pub mod Closing
 pub mod inner

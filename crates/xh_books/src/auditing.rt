@@ -1,7 +1,8 @@
 // The lots of the closed table are those of the vaults.
 ghost use Rattle.std.specs.Prelude.{◌≡◌, ◌*◌, ◌<◌, All, length};
 ghost use Rattle.xh_calls.specs.Parts.{vault_names};
-ghost use Rattle.xh_books.specs.inner.Steps.{AreAt, all_lengths, arenas_of, lens_of};
+ghost use Rattle.xh_books.specs.Ledgers.{all_lengths, arenas_of};
+ghost use Rattle.xh_books.specs.inner.Steps.{AreAt, lens_of};
 
 use xh_arena::{Lot, Vault};
 use xh_place::Body;

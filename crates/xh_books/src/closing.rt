@@ -6,32 +6,47 @@ ghost use Rattle.xh_kernel.specs.Places.{places_of};
 ghost use Rattle.xh_model.specs.declared.limits.TheConstants.{MAX_ARENAS, PLACES};
 ghost use Rattle.xh_place.specs.Places.{IsPlaceOf};
 ghost use Rattle.xh_books.specs.Closing.{IsClosed};
-ghost use Rattle.xh_books.specs.inner.Steps.{AreAt, SayInFlight, lens_of, unlisted_from};
-ghost use Rattle.xh_books.specs.Ledgers.{IsBalanced, all_back, all_taken, arena_lines, bytes_in_flight, bytes_owned, place_lines};
+ghost use Rattle.xh_books.specs.Flight.{AreFlightLines, IsInFlight};
+ghost use Rattle.xh_books.specs.inner.Steps.{AreAt, TellFlight, lens_of, unlisted_from};
+ghost use Rattle.xh_books.specs.Ledgers.{IsBalanced, all_back, all_lengths, all_taken, arena_lines, arenas_of, bytes_in_flight, bytes_owned, place_lines};
 
 use crate::auditing::audit;
 use crate::collecting::gather;
 use crate::comparing::compare;
+use crate::flight::flight_lines;
 use crate::lines::{arena_lines, bytes_in, bytes_out, end_places};
 use arrayvec::ArrayVec;
 use std::alloc::Global;
 use xh_arena::{Lot, Vault};
-use xh_core::{ARENA_LINES, ArenaLine, Ledger, PLACE_LINES, PlaceLine, Refused};
+use xh_core::{
+    ARENA_LINES, ArenaLine, FLIGHT_LINES, FlightLine, Ledger, PLACE_LINES, PlaceLine, Refused,
+};
 use xh_glance::Look;
 use xh_kernel::{Account, Kernel, Names, Settled};
 use xh_place::{Body, Place};
 use xh_records::Records;
 
-// Ends all places and closes the table of their records: the owner word and the lot of each record, and the lines of the places.
-fn close_table(
-    alloc: Global,
-    records: Records<Body>,
-    places: Vec<Place>,
-) -> Result<(Vec<u64>, Vec<Lot<Body>>, ArrayVec<PlaceLine, PLACE_LINES>), Refused>
+/// The books of a closed kernel: its ledger, and a line for each direction that holds blocks, in rising order.
+#[derive(Drop, Debug)]
+pub struct Books {
+    pub ledger: Ledger,
+    pub flight: ArrayVec<FlightLine, FLIGHT_LINES>,
+}
+
+// What a table of records left: the lines of the directions, the lot of each record, and the lines of the places.
+type Left = (
+    ArrayVec<FlightLine, FLIGHT_LINES>,
+    Vec<Lot<Body>>,
+    ArrayVec<PlaceLine, PLACE_LINES>,
+);
+
+// Ends all places and closes the table of their records.
+fn close_table(alloc: Global, records: Records<Body>, places: Vec<Place>) -> Result<Left, Refused>
+    requires few { length records.shape.names ≤ MAX_ARENAS }
     requires places { All (IsPlaceOf records) (places_of places.items) × (vec_len places ≡ records.shape.places) }
     ensures lots { IfOk result (λ r. (length r.1.items ≡ length records.shape.names * records.shape.records) × AreAt records.shape.records records.shape.names r.1.items) }
     ensures owned { IfOk result (λ r. sum (lens_of r.1.items) ≡ bytes_owned (places_of places.items) + sum (unlisted_from (places_of places.items) records.shape.records 0 (lens_of r.1.items))) }
-    ensures words { IfOk result (λ r. SayInFlight (places_of places.items) records.shape.records r.0.items (lens_of r.1.items)) }
+    ensures flight { IfOk result (λ r. TellFlight records.shape (places_of places.items) (lens_of r.1.items) r.0.items) }
     ensures lines { IfOk result (λ r. (r.2.items ≡ place_lines (places_of places.items)) × (sum_by (λ l. l.bytes) r.2.items ≡ bytes_owned (places_of places.items))) }
     ensures refused { IfErr result (λ e. e ≡ Refused.OutOfMemory) }
 {
@@ -39,7 +54,8 @@ fn close_table(
     let Ok((words, lots)) = records.close(alloc, seats) else {
         return Err(Refused::OutOfMemory);
     };
-    Ok((words, lots, lines))
+    let flight = flight_lines(words.as_slice(), lots.as_slice());
+    Ok((flight, lots, lines))
 }
 
 // The ledger of these lines.
@@ -68,34 +84,37 @@ pub(crate) fn ledger(
 /// arena, the places by number, which hold all seats of the records, and the records. The accounts may
 /// come in any order.
 ///
-/// The ledger is exact. A record that stands in no place's list and has bytes is in flight: its word,
-/// in the closed table, names a direction. OutOfMemory where a growth was refused; all that was handed in
-/// is then dropped.
+/// The ledger is exact, and so are the lines of the directions: whoever holds a record with bytes is a place or
+/// a direction, and whatever one of them holds has bytes. OutOfMemory where a growth was refused; all that was
+/// handed in is then dropped.
 pub fn close_books<N: Names>(
     alloc: Global,
     vaults: Vec<Vault>,
     places: Vec<Place>,
     records: Records<Body>,
     accounts: Vec<Account<N>>,
-) -> Result<Ledger, Refused>
+) -> Result<Books, Refused>
     requires vaults { (vault_names vaults.items ≡ N.parts.records.shape.names) × All (IsOpen N.parts) vaults.items × (vec_len vaults ≤ MAX_ARENAS) }
     requires places { All (IsPlaceOf records) (places_of places.items) × (vec_len places ≡ records.shape.places) }
     requires records { records ≡ N.parts.records }
     requires accounts { vec_len accounts ≡ N.parts.workers }
-    ensures arenas { IfOk result (λ l. l.arenas.items ≡ arena_lines accounts.items 0 vaults.items) }
-    ensures places { IfOk result (λ l. l.places.items ≡ place_lines (places_of places.items)) }
-    ensures owned { IfOk result (λ l. l.owned ≡ bytes_owned (places_of places.items)) }
-    ensures flight { IfOk result (λ l. l.flight ≡ bytes_in_flight (places_of places.items) 0 vaults.items) }
-    ensures moved { IfOk result (λ l. all_taken accounts.items ≡ all_back accounts.items + l.out) }
-    ensures balanced { IfOk result IsBalanced }
+    ensures arenas { IfOk result (λ b. b.ledger.arenas.items ≡ arena_lines accounts.items 0 vaults.items) }
+    ensures places { IfOk result (λ b. b.ledger.places.items ≡ place_lines (places_of places.items)) }
+    ensures owned { IfOk result (λ b. b.ledger.owned ≡ bytes_owned (places_of places.items)) }
+    ensures flight { IfOk result (λ b. b.ledger.flight ≡ bytes_in_flight (places_of places.items) 0 vaults.items) }
+    ensures moved { IfOk result (λ b. all_taken accounts.items ≡ all_back accounts.items + b.ledger.out) }
+    ensures balanced { IfOk result (λ b. IsBalanced b.ledger) }
+    ensures in_flight { IfOk result (λ b. IsInFlight records.shape (places_of places.items) (all_lengths (arenas_of vaults.items)) b.flight.items) }
+    ensures lines { IfOk result (λ b. AreFlightLines b.ledger.flight b.flight.items) }
     ensures refused { IfErr result (λ e. e ≡ Refused.OutOfMemory) }
 {
     let each = usize::from(records.per_arena());
     let vaults = gather(vaults, accounts);
-    let (_words, lots, places) = close_table(alloc, records, places)?;
+    let (flight, lots, places) = close_table(alloc, records, places)?;
     let vaults = audit(vaults, lots, each);
     let arenas = arena_lines(vaults.as_slice());
-    Ok(ledger(arenas, places))
+    let ledger = ledger(arenas, places);
+    Ok(Books { ledger, flight })
 }
 
 /// Takes a kernel apart whose workers are done, compares what they have seen with the histories of its places,
@@ -107,13 +126,14 @@ pub fn close_kernel<N: Names>(
     kernel: Kernel<N>,
     accounts: Vec<Account<N>>,
     looks: Vec<Look>,
-) -> Result<Ledger, Refused>
+) -> Result<Books, Refused>
     requires accounts { vec_len accounts ≡ N.parts.workers }
     requires looks { All (λ l. l.glances ≡ N.parts.glances) looks.items }
-    ensures closed { IfOk result (IsClosed N.parts accounts.items looks.items) }
-    ensures arenas { IfOk result (λ l. (length l.arenas.items ≡ length N.parts.records.shape.names) × All (λ a. a.size ≡ N.parts.size) l.arenas.items) }
-    ensures places { IfOk result (λ l. All (λ line. line.place < PLACES) l.places.items) }
-    ensures balanced { IfOk result IsBalanced }
+    ensures closed { IfOk result (λ b. IsClosed N.parts accounts.items looks.items b.ledger b.flight.items) }
+    ensures arenas { IfOk result (λ b. (length b.ledger.arenas.items ≡ length N.parts.records.shape.names) × All (λ a. a.size ≡ N.parts.size) b.ledger.arenas.items) }
+    ensures places { IfOk result (λ b. All (λ line. line.place < PLACES) b.ledger.places.items) }
+    ensures balanced { IfOk result (λ b. IsBalanced b.ledger) }
+    ensures lines { IfOk result (λ b. AreFlightLines b.ledger.flight b.flight.items) }
     ensures refused { IfErr result (λ e. e ≡ Refused.OutOfMemory) }
 {
     match kernel.settle(alloc) {

@@ -8,6 +8,7 @@ ghost use Rattle.xh_calls.specs.declared.several.Answered.{Answered};
 ghost use Rattle.xh_calls.specs.Parts.{PartsOf};
 ghost use Rattle.xh_core.specs.declared.block.Block.{Block};
 ghost use Rattle.xh_core.specs.declared.refused.Refused.{Refused};
+ghost use Rattle.xh_core.specs.declared.flight.FlightLine.{FlightLine};
 ghost use Rattle.xh_core.specs.declared.ledger.Ledger.{Ledger};
 ghost use Rattle.xh_glance.specs.Look.{LookOf};
 ghost use Rattle.xh_history.specs.Histories.{History};
@@ -51,5 +52,6 @@ pub fn ledgers_are_sums()
 
 /// So are the lines of the ledger of a closed kernel, over the histories that its locks kept.
 pub fn closed_ledgers_are_sums()
-    ensures { (parts : PartsOf) (all : List AccountOf) (looks : List LookOf) (l : Ledger) (closed : IsClosed parts all looks l) → AllBegan parts all → IsSumOver parts (histories_of closed.pens) l }
+    ensures { (parts : PartsOf) (all : List AccountOf) (looks : List LookOf) (l : Ledger) (directions : List FlightLine)
+        (closed : IsClosed parts all looks l directions) → AllBegan parts all → IsSumOver parts (histories_of closed.pens) l }
 {}

@@ -5,8 +5,9 @@ mod auditing;
 mod closing;
 mod collecting;
 mod comparing;
+mod flight;
 mod laws;
 mod lines;
 
-pub use closing::{close_books, close_kernel};
+pub use closing::{Books, close_books, close_kernel};
 pub use laws::{accounts_are_sums, calls_are_steps, closed_ledgers_are_sums, ledgers_are_sums};

@@ -88,6 +88,8 @@ pub(crate) fn end_places(
     let mut seats = Vec::with_capacity(alloc, places.len())?;
     let mut lines = ArrayVec::new();
     for place in places {
+        // A look at a place shows that each of its blocks has bytes.
+        let _bytes = place.total();
         let (seat, line) = place.end();
         seats.push(seat)?;
         push_line(&mut lines, line);

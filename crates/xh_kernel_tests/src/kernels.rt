@@ -15,8 +15,8 @@ use std::sync::Wait;
 use std::thread::Threads;
 use std::time::Clock;
 use waiting::Ender;
-use xh_books::close_kernel;
-use xh_core::{Config, Ledger, Refused};
+use xh_books::{Books, close_kernel};
+use xh_core::{Config, Refused};
 use xh_kernel::{Account, Kernel, Names, Parts};
 use xh_place::OpenGate;
 
@@ -82,13 +82,13 @@ fn lend<N: Names + Send + Sync, R: Threads + Wait + Clock + Abort + Sync>(
     }
 }
 
-/// The case on a kernel of the parts; its ledger.
+/// The case on a kernel of the parts; its books.
 fn on_parts<N: Names + Send + Sync, R: Threads + Wait + Clock + Abort + Sync>(
     rt: &R,
     alloc: Global,
     parts: Parts,
     case: Case,
-) -> Result<Ledger, Refused>
+) -> Result<Books, Refused>
     requires { parts ≡ N.parts }
 {
     let (kernel, mut accounts, looks) = match Kernel::<N>::new(alloc, parts) {
@@ -99,14 +99,14 @@ fn on_parts<N: Names + Send + Sync, R: Threads + Wait + Clock + Abort + Sync>(
     close_kernel(alloc, kernel, accounts, looks)
 }
 
-/// The case on a new kernel for so many workers; its ledger.
+/// The case on a new kernel for so many workers; its books.
 fn on_kernel<R: Threads + Wait + Clock + Abort + Sync>(
     rt: &R,
     alloc: Global,
     config: Config,
     workers: u8,
     case: Case,
-) -> Result<Ledger, Refused> {
+) -> Result<Books, Refused> {
     let parts = Parts::new(alloc, config, workers)?;
     on_parts::<Brand, R>(rt, alloc, parts, case)
 }
@@ -118,8 +118,8 @@ fn assert_case<R: Threads + Wait + Clock + Abort + Sync>(
     config: Config,
     case: Case,
 ) {
-    let ledger = on_kernel(rt, alloc, config, 2, case);
-    assert!(rt; ledger.is_ok());
+    let books = on_kernel(rt, alloc, config, 2, case);
+    assert!(rt; books.is_ok());
 }
 
 /// What the making of a kernel answers: the name of a refusal, or nothing.
@@ -134,7 +134,7 @@ fn made<R: Threads + Wait + Clock + Abort + Sync>(
         ..waiting_of(16, 4)
     };
     match on_kernel(rt, alloc, config, workers, Case::Nothing) {
-        Ok(_ledger) => "",
+        Ok(_books) => "",
         Err(refused) => refused.name(),
     }
 }
@@ -173,6 +173,6 @@ fn clients_are_served(rt: HostRuntime) {
         records: 64,
         ..waiting_of(4096, 2)
     };
-    let ledger = on_kernel(&rt, rt.alloc(), config, 10, Case::Serves);
-    assert!(rt; ledger.is_ok());
+    let books = on_kernel(&rt, rt.alloc(), config, 10, Case::Serves);
+    assert!(rt; books.is_ok());
 }

@@ -2,6 +2,8 @@
 #![tactic(auto)]
 
 #[cfg(test)]
+mod flights;
+#[cfg(test)]
 mod glances;
 #[cfg(test)]
 mod kernels;

@@ -1,20 +1,24 @@
 -- What the steps of closing say: taking the accounts in, ending the places, closing the table, auditing.
-use Rattle.std.specs.Prelude.{◌≡◌, ℕ, suc, ◌+◌, ◌/◌, ◌%◌, ◌<◌, false, cond, List, [], ◌∷◌, ◌++◌, All, length, map, slice_get, Some, sum}
-use Rattle.std.specs.List.{sum_by}
+use Rattle.std.specs.Prelude.{◌≡◌, ℕ, suc, ◌+◌, ◌*◌, ◌/◌, ◌%◌, ◌==◌, ◌<◌, cond, count_by, filter, List, [], ◌∷◌, All, length, map, nat_lt, slice_get, Some, sum}
+use Rattle.std.specs.List.{range_with_len, sum_by}
 use Rattle.atomic_table.specs.Seated.{TableId}
 use Rattle.xh_arena.specs.Views.{LotOf, TallyOf, VaultOf}
+use Rattle.xh_core.specs.declared.flight.FlightLine.{FlightLine}
 use Rattle.xh_core.specs.declared.ledger.ArenaLine.{ArenaLine}
 use Rattle.xh_kernel.specs.Accounts.{AccountOf}
 use Rattle.xh_calls.specs.Parts.{vault_names}
-use Rattle.xh_model.specs.declared.event.Holder.TheVariants.{Direction}
 use Rattle.xh_model.specs.declared.limits.TheConstants.{DIRECTIONS}
-use Rattle.xh_model.specs.Arena.{ArenaState, lengths_of}
+use Rattle.xh_model.specs.Arena.{lengths_of}
 use Rattle.xh_model.specs.Cover.{bytes_out, holes_of}
-use Rattle.xh_model.specs.Words.{number_of, word_of}
+use Rattle.xh_model.specs.Keyed.{value_at}
+use Rattle.xh_model.specs.Words.{number_of}
 use Rattle.xh_place.specs.declared.body.Body.{Body}
-use Rattle.xh_place.specs.Places.{PlaceOf, Lists}
+use Rattle.xh_place.specs.Moves.{moves}
+use Rattle.xh_place.specs.Places.{Item, Lists, PlaceOf}
 use Rattle.xh_records.specs.Seats.{Held}
-use Rattle.xh_books.specs.Ledgers.{arena_lines, is_listed}
+use Rattle.xh_records.specs.declared.shape.Shape.{Shape}
+use Rattle.xh_books.specs.Flight.{AreFlightLines, IsInFlight}
+use Rattle.xh_books.specs.Ledgers.{arena_lines, arenas_of, is_listed}
 
 -- ---- the accounts
 
@@ -54,9 +58,6 @@ closed_line v = record {
 abbrev pub AreBooks : VaultOf → Type 0
 AreBooks v = (bytes_out v.arena.cover ≡ sum (lengths_of v.arena)) × (sum_by (λ m. m.taken) v.collected ≡ sum_by (λ m. m.back) v.collected + bytes_out v.arena.cover)
 
-abbrev pub arenas_of : List VaultOf → List ArenaState
-arenas_of = map (λ v. v.arena)
-
 -- the vaults with all accounts taken in
 pub record AreGathered (accounts : List AccountOf) (old new : List VaultOf) : Type 0 where
   pub names : vault_names new ≡ vault_names old
@@ -66,10 +67,12 @@ pub record AreGathered (accounts : List AccountOf) (old new : List VaultOf) : Ty
 
 -- ---- the places
 
--- the seat that a place gave at its end
+-- the seat that a place gave at its end: the place's blocks are its lots, and each has bytes
 pub record IsSeatOfPlace (x : Held Body) (p : PlaceOf) : Type 0 where
   pub same : (x.table ≡ p.table) × (x.shape ≡ p.shape) × (x.process ≡ p.process)
   pub lists : Lists x p.blocks
+  pub moved : moves x.done ≡ p.moved
+  pub whole : (r : ℕ) (b : Item) → value_at r p.blocks ≡ Some b → 0 < b.len
 
 -- those of all places, in their order
 abbrev pub AreSeats : List (Held Body) → List PlaceOf → Type 0
@@ -79,11 +82,6 @@ AreSeats (x ∷ xs) [] = ⊥
 AreSeats (x ∷ xs) (p ∷ ps) = IsSeatOfPlace x p × AreSeats xs ps
 
 -- ---- the table
-
--- the lengths of all records of all arenas, in their order
-abbrev pub all_lengths : List ArenaState → List ℕ
-all_lengths [] = []
-all_lengths (a ∷ rest) = lengths_of a ++ all_lengths rest
 
 abbrev pub lens_of : List (LotOf Body) → List ℕ
 lens_of = map (λ l. l.len)
@@ -97,7 +95,16 @@ abbrev pub unlisted_from : List PlaceOf → ℕ → ℕ → List ℕ → List �
 unlisted_from places n k [] = []
 unlisted_from places n k (x ∷ xs) = cond (is_listed (number_of n k) places) 0 x ∷ unlisted_from places n (suc k) xs
 
--- a record that stands in no place's list and has bytes is in flight on a direction: its word says so
-abbrev pub SayInFlight : List PlaceOf → ℕ → List ℕ → List ℕ → Type 0
-SayInFlight places n words lens =
-    (k m : ℕ) → slice_get lens k ≡ Some m → 0 < m → is_listed (number_of n k) places ≡ false → (d : ℕ) × (d < DIRECTIONS) × (slice_get words k ≡ Some (word_of (Some (Direction d))))
+-- ---- what is in flight, of all records, each given by its word and its length
+
+-- the line of a direction
+abbrev pub word_line : List (ℕ × ℕ) → ℕ → FlightLine
+word_line all d = record { direction = d; blocks = count_by (λ r. r.0 == 2 + 4 * d) all; bytes = sum_by (λ r. cond (r.0 == 2 + 4 * d) r.1 0) all }
+
+-- those of the directions that have a record
+abbrev pub word_lines : List (ℕ × ℕ) → List FlightLine
+word_lines all = filter (λ l. nat_lt 0 l.blocks) (map (word_line all) (range_with_len 0 DIRECTIONS))
+
+-- the lines are what is in flight, of records of these lengths, and their sum is that of the lengths of the records in no place's list
+unfoldable pub TellFlight : Shape → List PlaceOf → List ℕ → List FlightLine → Type 0
+TellFlight s places lens lines = IsInFlight s places lens lines × AreFlightLines (sum (unlisted_from places s.records 0 lens)) lines

@@ -10,7 +10,7 @@ use Rattle.xh_calls.proofs.Lists.{below_get, there}
 use Rattle.xh_model.specs.Arena.{ArenaState}
 use Rattle.xh_model.specs.Cover.{length_of}
 use Rattle.xh_place.specs.declared.body.Body.{Body}
-use Rattle.xh_books.specs.inner.Steps.{all_lengths, arenas_of}
+use Rattle.xh_books.specs.Ledgers.{all_lengths, arenas_of}
 use Rattle.xh_books.proofs.Audited.{at_index, audited, some_eq}
 use Rattle.xh_books.proofs.auditing.audit_lots.Goals as goal
 

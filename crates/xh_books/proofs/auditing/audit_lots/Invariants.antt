@@ -2,7 +2,7 @@ use Rattle.std.proofs.Common.{◌≡◌, ℕ, ◌<◌}
 use Rattle.std.specs.Prelude.{Some, slice_get}
 use Rattle.xh_arena.specs.Views.{LotOf}
 use Rattle.xh_place.specs.declared.body.Body.{Body}
-use Rattle.xh_books.specs.inner.Steps.{all_lengths, arenas_of}
+use Rattle.xh_books.specs.Ledgers.{all_lengths, arenas_of}
 use Rattle.xh_books.proofs.auditing.audit_lots.Given as goal
 
 abbrev pub invariant-loop-k : goal.invariant-loop-k

@@ -1,0 +1,68 @@
+-- What is in flight when the books are closed, direction by direction.
+use Rattle.std.specs.Prelude.{◌≡◌, ◌≢◌, ◌∷◌, ◌++◌, ℕ, ◌==◌, ◌<◌, Bool, false, cond, count_by, filter, List, All, AllPairs, Any, IsSomeAnd, length, map, nat_lt, slice_get, Option, Some, None}
+use Rattle.std.specs.List.{range_with_len, sum_by, zip}
+use Rattle.xh_core.specs.declared.flight.FlightLine.{FlightLine}
+use Rattle.xh_model.specs.declared.event.Event.{Event}
+use Rattle.xh_model.specs.declared.event.Event.TheVariants.{Pass}
+use Rattle.xh_model.specs.declared.event.Holder.{Holder}
+use Rattle.xh_model.specs.declared.event.Holder.TheVariants.{Process, Direction}
+use Rattle.xh_model.specs.declared.limits.TheConstants.{DIRECTIONS}
+use Rattle.xh_model.specs.Keyed.{Among, value_at}
+use Rattle.xh_model.specs.Slots.{index_of}
+use Rattle.xh_model.specs.Words.{IsHeldBy, Ownership, number_of, place_of, record_of}
+use Rattle.xh_place.specs.Moves.{moves}
+use Rattle.xh_place.specs.Places.{Item, PlaceOf}
+use Rattle.xh_records.specs.declared.shape.Shape.{Shape}
+use Rattle.xh_records.specs.History.{LeadsTo, all_free, by_place, process_of}
+use Rattle.xh_books.specs.Ledgers.{is_listed}
+
+-- ---- the lines, of all records, each given by its holder and its length
+
+-- whether this holder is the direction
+abbrev pub is_on : ℕ → Option Holder → Bool
+is_on d None = false
+is_on d (Some (Process p)) = false
+is_on d (Some (Direction e)) = e == d
+
+-- the line of a direction: how many records are on it, and how many bytes these have
+abbrev pub flight_line : List (Option Holder × ℕ) → ℕ → FlightLine
+flight_line all d = record { direction = d; blocks = count_by (λ r. is_on d r.0) all; bytes = sum_by (λ r. cond (is_on d r.0) r.1 0) all }
+
+-- the lines of the directions that have a record, in their order
+abbrev pub flight_lines : List (Option Holder × ℕ) → List FlightLine
+flight_lines all = filter (λ l. nat_lt 0 l.blocks) (map (flight_line all) (range_with_len 0 DIRECTIONS))
+
+-- the lines of so many bytes in flight: they rise strictly in their directions, of which there are 128, each has blocks and bytes, and the bytes are their sum
+pub record AreFlightLines (bytes : ℕ) (lines : List FlightLine) : Type 0 where
+  pub rising : AllPairs (λ a b. a.direction < b.direction) lines
+  pub each : All (λ l. (l.direction < DIRECTIONS) × (0 < l.blocks) × (0 < l.bytes)) lines
+  pub sum : bytes ≡ sum_by (λ l. l.bytes) lines
+
+-- ---- whose they are
+
+-- Where the record r, of n bytes, stands by its holder: a free one has no bytes and is in no list; that of a process has bytes, and is a block of so many in the process's list; one in flight
+-- has bytes and is in no list.
+abbrev pub Stands : List PlaceOf → ℕ → ℕ → Option Holder → Type 0
+Stands places r n None = (n ≡ 0) × (is_listed r places ≡ false)
+Stands places r n (Some (Process p)) = (0 < n) × Any (λ q. (q.process ≡ p) × IsSomeAnd (value_at r q.blocks) (λ x. x.len ≡ n)) places
+Stands places r n (Some (Direction d)) = (0 < n) × (is_listed r places ≡ false)
+
+-- the last event of the log on the record at the index k, with n records in an arena, is a pass to the direction
+abbrev pub WasPassed : ℕ → List Event → ℕ → ℕ → Type 0
+WasPassed n log k d =
+    (before after : List Event) × (p r : ℕ) × (log ≡ before ++ Pass p r d ∷ after) × (index_of n r ≡ k) × ((e : Event) → Among after e → index_of n (record_of e) ≢ k)
+
+-- These lines are what is in flight, of records that have these lengths. There is one log of all record events, each by a process of these places, of which each place's passes and accepts are
+-- its part. It leads from where all records are free to the owners by which each record stands where it does, and the lines are those of these owners. It is quiet: whatever a process or a
+-- direction has has bytes.
+pub record IsInFlight (s : Shape) (places : List PlaceOf) (lengths : List ℕ) (lines : List FlightLine) : Type 0 where
+  pub log : List Event
+  pub theirs : (e : Event) → Among log e → place_of (process_of e) < s.places
+  pub parts : All (λ p. p.moved ≡ moves (by_place (place_of p.process) log)) places
+  pub owners : Ownership
+  pub count : length owners ≡ length lengths
+  pub leads : LeadsTo s.records (all_free (length owners)) log owners
+  pub passed : (k d : ℕ) → IsHeldBy owners k (Some (Direction d)) → WasPassed s.records log k d
+  pub quiet : (k n : ℕ) (h : Option Holder) → slice_get lengths k ≡ Some n → IsHeldBy owners k h → Stands places (number_of s.records k) n h
+  pub full : All (λ p. (r : ℕ) (x : Item) → value_at r p.blocks ≡ Some x → 0 < x.len) places
+  pub lines_are : lines ≡ flight_lines (zip owners lengths)
