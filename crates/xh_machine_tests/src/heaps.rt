@@ -115,7 +115,10 @@ fn on_parts<N: Names, R: Wait + Abort>(
         Err(refused) => return Err(refused),
     };
     match by_worker(rt, alloc, &kernel, accounts, looks, trial) {
-        Ok((accounts, looks)) => close_kernel(alloc, kernel, accounts, looks),
+        Ok((accounts, looks)) => {
+            let books = close_kernel(alloc, kernel, accounts, looks)?;
+            Ok(books.ledger)
+        }
         Err(_refused) => Err(Refused::OutOfMemory),
     }
 }

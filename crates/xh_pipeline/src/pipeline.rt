@@ -135,9 +135,9 @@ fn run_named<N: Names + Send + Sync, R: Threads + Wait + Sync>(
 {
     let (kernel, mut accounts, looks) = Kernel::<N>::new(alloc, parts)?;
     let rounds = run_all(rt, alloc, &kernel, &mut accounts);
-    let ledger = close_kernel(alloc, kernel, accounts, looks);
+    let books = close_kernel(alloc, kernel, accounts, looks);
     let rounds = rounds?;
-    Ok((rounds, ledger?))
+    Ok((rounds, books?.ledger))
 }
 
 /// Runs the pipeline. It answers how many rounds came whole through both stages, and the ledger of the

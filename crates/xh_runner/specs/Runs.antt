@@ -24,7 +24,7 @@ pub record AreNew (parts : PartsOf) (workers : List WorkerState) : Type 0 where
   pub count : length workers ≡ MAX_WORKERS
 
 -- A report tells a run of a script: workers of a kernel that was made by the configuration played its lines with the replies of the report; and the
--- report's ledger is the one with which the books of this kernel were closed, over what these workers left.
+-- report's ledger and its lines of what is in flight are those with which the books of this kernel were closed, over what these workers left.
 pub record HasRun (config : Config) (script : Listing) (report : Report) : Type 0 where
   pub parts : PartsOf
   pub made : AreMadeBy config MAX_WORKERS parts
@@ -32,5 +32,5 @@ pub record HasRun (config : Config) (script : Listing) (report : Report) : Type 
   pub left : List WorkerState
   pub are_new : AreNew parts workers
   pub played : ArePlayed (did parts) script.contracts script.lines report.answers.items workers left
-  pub closed : IsClosed parts (accounts_of left) (looks_of left) report.ledger
+  pub closed : IsClosed parts (accounts_of left) (looks_of left) report.ledger report.flight.items
   pub named : HasNames script.processes script.lines report.answers.items report.names.items

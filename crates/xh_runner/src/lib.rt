@@ -5,8 +5,10 @@ mod parallel;
 mod threads;
 mod worker;
 
-pub use parallel::run_parallel;
+pub use parallel::{run_parallel, run_parallel_as};
 pub use threads::run_threads;
 pub use worker::{Worker, hire, leave_all};
 pub use xh_place::{Gate, OpenGate, Point};
-pub use xh_session::{Input, Machine, Received, Report, Stage, read_input, run_serial};
+pub use xh_session::{
+    Input, Machine, Received, Report, Run, Stage, read_input, run_serial, run_serial_as,
+};

@@ -7,10 +7,10 @@ ghost use Rattle.xh_script.specs.declared.limits.TheConstants.{MAX_SCRIPT};
 ghost use Rattle.xh_script.specs.Scripts.{listing_of};
 ghost use Rattle.xh_session.specs.Ends.{Done, Stopped};
 ghost use Rattle.xh_session.specs.Reading.{ReadsAtMost};
-ghost use Rattle.xh_runner.specs.Reports.{IsReportOf};
-ghost use Rattle.xh_session.specs.Reports.{text_of};
+ghost use Rattle.xh_runner.specs.Reports.{IsReportOf, IsReportTold};
+ghost use Rattle.xh_session.specs.Reports.{told_text};
 
-use crate::threads::run_gated;
+use crate::threads::run_threads;
 use std::alloc::Global;
 use std::io::{Read, Write};
 use std::sync::Wait;
@@ -18,28 +18,48 @@ use std::thread::Threads;
 use xh_core::Config;
 use xh_place::OpenGate;
 use xh_script::{Fault, Script, Watched};
-use xh_session::{Report, read_input, write_report};
+use xh_session::{Report, Run, read_input, write_report};
 
-/// Runs a script on threads, through a gate that stops nobody.
+// Runs a script on threads, through a gate that stops nobody.
 fn report_of<T: Threads + Wait + Sync>(
     rt: &T,
     alloc: Global,
-    config: Config,
+    run: Run,
     script: &Script,
 ) -> Result<Report, Fault>
-    requires { IsConfig config }
-    ensures report { IfOk result (λ r. IsReportOf config (listing_of script.now) (text_of r)) }
+    requires { IsConfig run.config }
+    ensures report { IfOk result (λ r. IsReportTold run.flight run.config (listing_of script.now) (told_text run.flight r)) }
     ensures places { IfOk result (λ r. (length r.names.items ≡ PLACES) × All (λ line. line.place < PLACES) r.ledger.places.items) }
     ensures memory { IfErr result (λ e. e ≡ Fault.Memory) }
 {
-    let report = run_gated(rt, alloc, script, config, &OpenGate)?;
-    Ok(report)
+    match run_threads(rt, alloc, script, run.config, &OpenGate) {
+        Ok(report) => Ok(report),
+        Err(fault) => Err(fault),
+    }
+}
+
+/// As `run_parallel`, and with what is in flight, where the run is to tell it.
+#[tactic(auto, using(xh_session::proofs::Ends::memory_stops, xh_session::proofs::Ends::unread_stops, xh_session::proofs::Ends::wrote_all, xh_session::proofs::Ends::wrote_part))]
+pub fn run_parallel_as<T: Threads + Wait + Sync, R: Read, W: Write>(
+    rt: &T,
+    alloc: Global,
+    reader: &mut Watched<R>,
+    writer: &mut Watched<W>,
+    run: Run,
+) -> Result<(), Fault>
+    ensures ok { OnOk result (Done R.remaining W.contents (IsReportTold run.flight run.config) reader.old reader.new writer.old writer.new) }
+    ensures err { IfErr result (Stopped R.remaining W.contents (IsReportTold run.flight run.config) run.config reader.old reader.new writer.old writer.new) }
+    ensures config { ¬ IsConfig run.config → result ≡ Err Fault.BadConfig }
+    ensures limit { ReadsAtMost R.remaining (MAX_SCRIPT + 1) reader.old reader.new }
+{
+    let input = read_input(alloc, run.config, reader)?;
+    let report = report_of(rt, alloc, run, &input.script)?;
+    write_report(writer, &report, run.flight)
 }
 
 /// As `run_serial`, on threads: each process that has a place does its commands in a thread of its own.
 ///
 /// Memory comes where a growth outside the commands was refused, or a thread.
-#[tactic(auto, using(xh_session::proofs::Ends::memory_stops, xh_session::proofs::Ends::unread_stops, xh_session::proofs::Ends::wrote_all, xh_session::proofs::Ends::wrote_part))]
 pub fn run_parallel<T: Threads + Wait + Sync, R: Read, W: Write>(
     rt: &T,
     alloc: Global,
@@ -52,7 +72,9 @@ pub fn run_parallel<T: Threads + Wait + Sync, R: Read, W: Write>(
     ensures config { ¬ IsConfig config → result ≡ Err Fault.BadConfig }
     ensures limit { ReadsAtMost R.remaining (MAX_SCRIPT + 1) reader.old reader.new }
 {
-    let input = read_input(alloc, config, reader)?;
-    let report = report_of(rt, alloc, config, &input.script)?;
-    write_report(writer, &report)
+    let run = Run {
+        config,
+        flight: false,
+    };
+    run_parallel_as(rt, alloc, reader, writer, run)
 }

@@ -1,29 +1,25 @@
 //! A run of a script on threads, over a kernel that is made, used and settled here.
 ghost use Rattle.std.specs.Prelude.{◌≡◌, ◌<◌, ◌⊎◌, All, IfErr, IfOk, Err, length, vec_len};
-ghost use Rattle.xh_books.specs.Closing.{IsClosed};
+ghost use Rattle.xh_books.specs.Flight.{AreFlightLines};
 ghost use Rattle.xh_books.specs.Ledgers.{IsBalanced};
 ghost use Rattle.xh_calls.specs.Parts.{AreMadeBy};
-ghost use Rattle.xh_kernel.specs.Accounts.{AccountOf};
+ghost use Rattle.xh_glance.specs.Look.{fresh_look};
+ghost use Rattle.xh_kernel.specs.Accounts.{AreFresh};
 ghost use Rattle.xh_model.specs.Config.{IsConfig};
 ghost use Rattle.xh_model.specs.declared.limits.TheConstants.{MAX_WORKERS, PLACES};
-ghost use Rattle.xh_runner.specs.Reports.{HasArenas};
-ghost use Rattle.xh_runner.specs.Plays.{AreAnswersTo, HasNames};
+ghost use Rattle.xh_runner.specs.Reports.{HasArenas, Stops};
+ghost use Rattle.xh_runner.specs.Plays.{AreAnswersTo};
 ghost use Rattle.xh_runner.specs.Runs.{HasRun};
 ghost use Rattle.xh_runner.specs.inner.Runs.{HasPlayed};
-ghost use Rattle.xh_runner.specs.Workers.{WorkerState, did};
-ghost use Rattle.xh_runner.specs.inner.Jobs.{EndsBy};
 ghost use Rattle.xh_script.specs.Scripts.{listing_of};
 
 mod crew;
-mod guard;
 mod job;
 mod latest;
 mod play;
 mod replies;
 mod run;
 
-pub(crate) use crate::threads::guard::Guard;
-use crate::threads::guard::Stopping;
 use crate::threads::run::{Outcome, run_on};
 use crate::worker::{hire, leave_all};
 use std::alloc::Global;
@@ -31,7 +27,7 @@ use std::marker::Brand;
 use std::sync::Wait;
 use std::thread::Threads;
 use xh_books::close_kernel;
-use xh_core::{Config, Refused};
+use xh_core::Config;
 use xh_glance::Look;
 use xh_kernel::{Account, Kernel, Names, Parts};
 use xh_model::limits::MAX_WORKERS;
@@ -49,22 +45,8 @@ struct Ended<N: Names> {
     looks: Vec<Look>,
 }
 
-fn new_parts(alloc: Global, config: Config) -> Result<Parts, Fault>
-    ensures made { IfOk result (AreMadeBy config MAX_WORKERS) }
-    ensures config { ¬ IsConfig config → result ≡ Err Fault.BadConfig }
-    ensures refused { IfErr result (λ e. ((e ≡ Fault.BadConfig) × ¬ IsConfig config) ⊎ (e ≡ Fault.Memory)) }
-{
-    match Parts::new(alloc, config, MAX_WORKERS) {
-        Ok(parts) => Ok(parts),
-        Err(refused) => match refused {
-            Refused::BadSize => Err(Fault::BadConfig),
-            _ => Err(Fault::Memory),
-        },
-    }
-}
-
 // Runs a script with a worker for each account.
-fn run_script<N: Names + Send + Sync, R: Threads + Wait + Sync, G: Guard + Sync>(
+fn run_script<N: Names + Send + Sync, R: Threads + Wait + Sync, G: Gate + Sync>(
     rt: &R,
     alloc: Global,
     kernel: &Kernel<N>,
@@ -73,14 +55,13 @@ fn run_script<N: Names + Send + Sync, R: Threads + Wait + Sync, G: Guard + Sync>
     script: &Script,
     gate: &G,
 ) -> Result<Ended<N>, Fault>
-    requires count { (vec_len accounts ≡ MAX_WORKERS) × (vec_len looks ≡ MAX_WORKERS) }
-    requires looks { All (λ l. l.glances ≡ N.parts.glances) looks.items }
-    ensures played { IfOk result (λ e. HasPlayed N.parts (listing_of script.now) accounts.items looks.items e.answers.items e.accounts.items e.looks.items) }
-    ensures count { IfOk result (λ e. vec_len e.accounts ≡ MAX_WORKERS) }
+    requires accounts { (vec_len accounts ≡ MAX_WORKERS) × AreFresh N.parts.records.shape.names accounts.items }
+    requires looks { (vec_len looks ≡ MAX_WORKERS) × All (λ l. l ≡ fresh_look N.parts.glances) looks.items }
+    ensures played { IfOk result (λ e. HasPlayed N.parts (listing_of script.now) e.answers.items e.names.items e.accounts.items e.looks.items) }
+    ensures count { IfOk result (λ e. (vec_len e.accounts ≡ MAX_WORKERS) × (length e.names.items ≡ PLACES)) }
     ensures own { IfOk result (λ e. All (λ l. l.glances ≡ N.parts.glances) e.looks.items) }
     ensures answers { IfOk result (λ e. AreAnswersTo script.now.lines.items e.answers.items) }
-    ensures names { IfOk result (λ e. HasNames script.now.processes.items script.now.lines.items e.answers.items e.names.items × (length e.names.items ≡ PLACES)) }
-    ensures refused { IfErr result (EndsBy G.always) }
+    ensures stopped { IfErr result (Stops G.always) }
 {
     let workers = hire(rt, alloc, kernel, gate, accounts, looks)?;
     let Outcome {
@@ -99,12 +80,13 @@ fn run_script<N: Names + Send + Sync, R: Threads + Wait + Sync, G: Guard + Sync>
 
 // Settles a kernel whose workers are done, and closes its books.
 fn report_of<N: Names>(alloc: Global, kernel: Kernel<N>, ended: Ended<N>) -> Result<Report, Fault>
-    requires accounts { vec_len ended.accounts ≡ N.parts.workers }
+    requires count { (vec_len ended.accounts ≡ N.parts.workers) × (length ended.names.items ≡ PLACES) }
     requires looks { All (λ l. l.glances ≡ N.parts.glances) ended.looks.items }
-    ensures closed { IfOk result (λ r. IsClosed N.parts ended.accounts.items ended.looks.items r.ledger) }
-    ensures same { IfOk result (λ r. (r.answers.items ≡ ended.answers.items) × (r.names.items ≡ ended.names.items)) }
+    ensures run { IfOk result (λ r. (config : _) (script : _) → AreMadeBy config MAX_WORKERS N.parts → HasPlayed N.parts script ended.answers.items ended.names.items ended.accounts.items ended.looks.items → HasRun config script r) }
+    ensures same { IfOk result (λ r. r.answers.items ≡ ended.answers.items) }
     ensures arenas { IfOk result (λ r. (length r.ledger.arenas.items ≡ length N.parts.records.shape.names) × All (λ a. a.size ≡ N.parts.size) r.ledger.arenas.items) }
-    ensures places { IfOk result (λ r. All (λ line. line.place < PLACES) r.ledger.places.items) }
+    ensures flight { IfOk result (λ r. AreFlightLines r.ledger.flight r.flight.items) }
+    ensures names { IfOk result (λ r. (length r.names.items ≡ PLACES) × All (λ line. line.place < PLACES) r.ledger.places.items) }
     ensures refused { IfErr result (λ e. e ≡ Fault.Memory) }
 {
     let Ended {
@@ -114,9 +96,10 @@ fn report_of<N: Names>(alloc: Global, kernel: Kernel<N>, ended: Ended<N>) -> Res
         looks,
     } = ended;
     match close_kernel(alloc, kernel, accounts, looks) {
-        Ok(ledger) => Ok(Report {
+        Ok(books) => Ok(Report {
             answers,
-            ledger,
+            ledger: books.ledger,
+            flight: books.flight,
             names,
         }),
         Err(_refused) => Err(Fault::Memory),
@@ -124,7 +107,7 @@ fn report_of<N: Names>(alloc: Global, kernel: Kernel<N>, ended: Ended<N>) -> Res
 }
 
 // Runs a script over a kernel that is made of the parts, settles it and closes its books.
-fn run_named<N: Names + Send + Sync, R: Threads + Wait + Sync, G: Guard + Sync>(
+fn run_named<N: Names + Send + Sync, R: Threads + Wait + Sync, G: Gate + Sync>(
     rt: &R,
     alloc: Global,
     config: Config,
@@ -137,37 +120,18 @@ fn run_named<N: Names + Send + Sync, R: Threads + Wait + Sync, G: Guard + Sync>(
     ensures run { IfOk result (HasRun config (listing_of script.now)) }
     ensures answers { IfOk result (λ r. AreAnswersTo script.now.lines.items r.answers.items) }
     ensures arenas { IfOk result (λ r. HasArenas config r.ledger) }
+    ensures flight { IfOk result (λ r. AreFlightLines r.ledger.flight r.flight.items) }
     ensures names { IfOk result (λ r. (length r.names.items ≡ PLACES) × All (λ line. line.place < PLACES) r.ledger.places.items) }
-    ensures refused { IfErr result (EndsBy G.always) }
+    ensures stopped { IfErr result (Stops G.always) }
 {
     let (kernel, accounts, looks) = match Kernel::<N>::new(alloc, parts) {
         Ok(made) => made,
         Err(_refused) => return Err(Fault::Memory),
     };
-    let ended = run_script(rt, alloc, &kernel, accounts, looks, script, gate);
-    match ended {
+    match run_script(rt, alloc, &kernel, accounts, looks, script, gate) {
         Ok(ended) => report_of(alloc, kernel, ended),
         Err(fault) => Err(fault),
     }
-}
-
-/// As `run_threads`, by a gate whose type says whether it may stop a worker.
-pub(crate) fn run_gated<R: Threads + Wait + Sync, G: Guard + Sync>(
-    rt: &R,
-    alloc: Global,
-    script: &Script,
-    config: Config,
-    gate: &G,
-) -> Result<Report, Fault>
-    ensures run { IfOk result (HasRun config (listing_of script.now)) }
-    ensures answers { IfOk result (λ r. AreAnswersTo script.now.lines.items r.answers.items) }
-    ensures arenas { IfOk result (λ r. HasArenas config r.ledger) }
-    ensures names { IfOk result (λ r. (length r.names.items ≡ PLACES) × All (λ line. line.place < PLACES) r.ledger.places.items) }
-    ensures config { ¬ IsConfig config → result ≡ Err Fault.BadConfig }
-    ensures refused { IfErr result (λ e. ((e ≡ Fault.BadConfig) × ¬ IsConfig config) ⊎ EndsBy G.always e) }
-{
-    let parts = new_parts(alloc, config)?;
-    run_named::<Brand, R, G>(rt, alloc, config, parts, script, gate)
 }
 
 /// Runs a script on threads: the head lines in order, and then the commands of each process that has a
@@ -188,10 +152,17 @@ pub fn run_threads<R: Threads + Wait + Sync, G: Gate + Sync>(
     ensures run { IfOk result (HasRun config (listing_of script.now)) }
     ensures answers { IfOk result (λ r. AreAnswersTo script.now.lines.items r.answers.items) }
     ensures arenas { IfOk result (λ r. HasArenas config r.ledger) }
+    ensures flight { IfOk result (λ r. AreFlightLines r.ledger.flight r.flight.items) }
     ensures balanced { IfOk result (λ r. IsBalanced r.ledger) }
     ensures names { IfOk result (λ r. (length r.names.items ≡ PLACES) × All (λ line. line.place < PLACES) r.ledger.places.items) }
     ensures config { ¬ IsConfig config → result ≡ Err Fault.BadConfig }
-    ensures refused { IfErr result (λ e. ((e ≡ Fault.BadConfig) × ¬ IsConfig config) ⊎ ((e ≡ Fault.Memory) ⊎ (e ≡ Fault.Gate))) }
+    ensures refused { IfErr result (λ e. ((e ≡ Fault.BadConfig) × ¬ IsConfig config) ⊎ Stops G.always e) }
 {
-    run_gated(rt, alloc, script, config, &Stopping(gate))
+    if !config.is_in_limits() {
+        return Err(Fault::BadConfig);
+    }
+    match Parts::new(alloc, config, MAX_WORKERS) {
+        Ok(parts) => run_named::<Brand, R, G>(rt, alloc, config, parts, script, gate),
+        Err(_refused) => Err(Fault::Memory),
+    }
 }

@@ -247,23 +247,6 @@ impl<'a, N: Names, R: Wait, G: Gate> Machine for Worker<'a, N, R, G> {
     }
 }
 
-impl<'a, N: Names, R, G> Worker<'a, N, R, G> {
-    /// What the worker has of its own.
-    pub fn leave(self) -> (Account<N>, Look)
-        ensures same { (result.0 ≡ self.entry.account) × (result.1 ≡ self.entry.look) }
-        ensures own { result.1.glances ≡ N.parts.glances }
-    {
-        let Worker {
-            rt: _,
-            kernel: _,
-            gate: _,
-            account,
-            look,
-        } = self;
-        (account, look)
-    }
-}
-
 /// A worker for each account and look, in order.
 pub fn hire<'a, N: Names, R, G>(
     rt: &'a R,
@@ -309,9 +292,15 @@ pub fn leave_all<N: Names, R, G>(
     let mut accounts = Vec::with_capacity(alloc, workers.len())?;
     let mut looks = Vec::with_capacity(alloc, workers.len())?;
     for worker in workers {
-        let (account, look) = worker.leave();
-        accounts.push(account)?;
-        looks.push(look)?;
+        let Worker {
+            rt: _,
+            kernel: _,
+            gate: _,
+            account,
+            look,
+        } = worker;
+        accounts.push_reserved(account);
+        looks.push_reserved(look);
     }
     Ok((accounts, looks))
 }

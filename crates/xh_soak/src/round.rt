@@ -215,8 +215,8 @@ fn close<N: Names>(
         ) => {
             let counted = count(&vaults, &places, &accounts);
             let closed = close_books(alloc, vaults, places, records, accounts);
-            let ledger = of_memory(closed, "the books can't be closed")?;
-            audit(alloc, plan, &ledger, &counted?)
+            let books = of_memory(closed, "the books can't be closed")?;
+            audit(alloc, plan, &books.ledger, &counted?)
         }
         Err(_refused) => Err(Wrong::Memory),
     }

@@ -6,8 +6,8 @@ use std::marker::Brand;
 use std::process::Abort;
 use std::sync::Wait;
 use std::test::Fail;
-use xh_books::close_books;
-use xh_core::{Config, Ledger, Refused, State};
+use xh_books::{Books, close_books};
+use xh_core::{Config, Refused, State};
 use xh_kernel::{Account, Kernel, Names, Parts, Settled};
 use xh_place::OpenGate;
 
@@ -25,13 +25,13 @@ fn use_some<N: Names, R: Wait>(
     Ok(())
 }
 
-// How many accounts a new kernel gives, and its ledger, where it is used so or not at all.
+// How many accounts a new kernel gives, and its books, where it is used so or not at all.
 fn close_named<N: Names, R: Wait>(
     rt: &R,
     alloc: Global,
     parts: Parts,
     is_used: bool,
-) -> Result<(usize, Ledger), Refused>
+) -> Result<(usize, Books), Refused>
     requires { parts ≡ N.parts }
 {
     let (kernel, mut accounts, _looks) = Kernel::<N>::new(alloc, parts)?;
@@ -60,7 +60,7 @@ fn close_one<R: Wait>(
     alloc: Global,
     bytes: u32,
     is_used: bool,
-) -> Result<(usize, Ledger), Refused> {
+) -> Result<(usize, Books), Refused> {
     let config = Config {
         arenas: 1,
         bytes,
@@ -77,24 +77,26 @@ fn close_one<R: Wait>(
 #[test]
 fn empty_kernel(rt: HostRuntime) -> Result<(), Fail> {
     let (count, books) = close_one(&rt, rt.alloc(), 256, false)?;
-    let is_empty = books.places.is_empty() && books.owned == 0 && books.flight == 0;
-    assert!(rt; count == 2 && is_empty && books.out == 0);
+    let ledger = &books.ledger;
+    let is_empty = ledger.places.is_empty() && ledger.owned == 0 && books.flight.is_empty();
+    assert!(rt; count == 2 && is_empty && ledger.flight == 0 && ledger.out == 0);
     let refused = close_one(&rt, rt.alloc(), 40, false);
     assert!(rt; matches!(&refused, Err(Refused::BadSize)));
     Ok(())
 }
 
 // Whether these are the books of a kernel that was used so.
-fn are_of_used(books: &Ledger) -> bool {
-    let ([arena], [place]) = (books.arenas.as_slice(), books.places.as_slice()) else {
+fn are_of_used(books: &Books) -> bool {
+    let ledger = &books.ledger;
+    let ([arena], [place]) = (ledger.arenas.as_slice(), ledger.places.as_slice()) else {
         return false;
     };
     let is_arena = arena.size == 256 && arena.out == 48 && arena.holes == 1;
     let is_moved = arena.taken == 64 && arena.back == 16;
     let is_place = place.process == 0 && place.state == State::Running;
     let is_held = place.blocks == 1 && place.bytes == 48;
-    let is_sum = books.owned == 48 && books.flight == 0 && books.out == 48;
-    is_arena && is_moved && is_place && is_held && is_sum
+    let is_sum = ledger.owned == 48 && ledger.flight == 0 && ledger.out == 48;
+    is_arena && is_moved && is_place && is_held && is_sum && books.flight.is_empty()
 }
 
 /// With a growth refused, whichever it is, there is no ledger, and that of the next kernel is exact.

@@ -1,11 +1,9 @@
-//! A job for each place, and a thread for each job that has a process.
-ghost use Rattle.std.specs.Prelude.{◌≡◌, ◌<◌, ◌≤◌, [], IfOk, OnOk, vec_len};
+//! A thread for each place that has a process.
+ghost use Rattle.std.specs.Prelude.{◌≡◌, ◌<◌, ◌≤◌, [], IfOk, MatchResult, OnOk, vec_len};
 ghost use Rattle.xh_model.specs.declared.limits.TheConstants.{PLACES};
-ghost use Rattle.xh_runner.specs.inner.Jobs.{AreDone, AreHands, AreJoined, IsHand, IsJob, Joins, PlaceIsDone};
-ghost use Rattle.xh_runner.specs.Plays.{AllZipFrom};
-ghost use Rattle.xh_session.specs.Worlds.{world_of};
+ghost use Rattle.xh_runner.specs.inner.Jobs.{AreHands, AreJoined, ArePlaces, IsHand, IsJob, Joins};
+ghost use Rattle.xh_runner.specs.Reports.{Stops};
 
-use crate::threads::guard::Guard;
 use crate::threads::job::{Done, Job, Shared};
 use crate::threads::play::is_in;
 use std::alloc::{AllocError, Global};
@@ -13,101 +11,79 @@ use std::snapshot::Snapshot;
 use std::sync::Wait;
 use std::thread;
 use std::thread::{Promise, PromisedHandle, Scope, Threads};
-use xh_script::Line;
+use xh_place::Gate;
+use xh_script::{Fault, Line};
 use xh_session::{Machine, Names as Bindings, Session};
 
-/// That a worker's job is done.
+/// That a worker's job is done, or it was stopped.
 #[derive(Drop)]
 struct Does<'s, 'a, M, G> {
     job: Snapshot<Job<'a, M>>,
     shared: &'s Shared<'a, G>,
 }
 
-impl<'s, 'a, M: Machine, G: Guard> Promise<Done<M>> for Does<'s, 'a, M, G> {
-    ghost use Rattle.xh_runner.specs.inner.Jobs.{IsDone};
+impl<'s, 'a, M: Machine, G: Gate> Promise<Result<Done<M>, Fault>> for Does<'s, 'a, M, G> {
+    ghost use Rattle.xh_runner.specs.inner.Jobs.{Leaves};
 
-    ghost kept_by = { λ p done. IsDone M.state M.did G.always p.shared.now.ready p.shared.now.lines.now p.job.value done };
+    ghost kept_by = { λ p left. Leaves M.state M.did G.always p.shared.now p.job.value left };
 }
 
-/// A job that is being done by a worker, or one without commands.
+/// A worker of a place, or the machine of one without a process.
 #[derive(Drop)]
-enum Hand<'s, 'a, M: Machine, G: Guard> {
-    Works(PromisedHandle<Done<M>, Does<'s, 'a, M, G>>),
-    Idle(Job<'a, M>),
+enum Hand<'s, 'a, M: Machine, G: Gate> {
+    Works(PromisedHandle<Result<Done<M>, Fault>, Does<'s, 'a, M, G>>),
+    Idle(M),
 }
 
-fn count_of(names: &Bindings, lines: &[Line], place: u8) -> usize
-    requires { place < PLACES }
-{
-    lines
-        .iter()
-        .filter(|line| is_in(names, line, place))
-        .count()
+fn count_of(names: &Bindings, lines: &[Line], number: u8) -> usize {
+    let mut count = 0usize;
+    for line in lines {
+        if is_in(names, line, number) {
+            count = count.saturating_add(1);
+        }
+    }
+    count
 }
 
-// The job of a place, with what the names stand for in the head's session, and room for its replies.
-fn job<'a, M: Machine>(
+// The job of a place, with what the names stand for after the head, and room for its replies.
+fn job<'a, M: Machine, G>(
     alloc: Global,
     machine: M,
-    head: &Session<'a, M>,
-    lines: &[Line],
     place: u8,
+    shared: &Shared<'a, G>,
 ) -> Result<Job<'a, M>, AllocError>
     requires { place < PLACES }
-    ensures { IfOk result (IsJob M.state (world_of M.state head.now) place machine) }
+    ensures { IfOk result (IsJob M.state shared.now place machine) }
 {
-    let room = Vec::with_capacity(alloc, count_of(&head.names, lines, place))?;
-    let names = head.names.copy(alloc)?;
+    let room = Vec::with_capacity(alloc, count_of(shared.ready, shared.lines, place + 1))?;
+    let names = shared.ready.copy(alloc)?;
     Ok(Job {
         session: Session {
             machine,
             names,
-            contracts: head.contracts,
+            contracts: shared.contracts,
         },
         place,
         room,
     })
 }
 
-// The jobs of the places, the lowest first, each with a machine.
-fn deal<'a, M: Machine>(
-    alloc: Global,
-    machines: Vec<M>,
-    head: &Session<'a, M>,
-    lines: &[Line],
-) -> Result<Vec<Job<'a, M>>, AllocError>
-    requires { vec_len machines ≤ PLACES }
-    ensures { IfOk result (λ jobs. AllZipFrom (IsJob M.state (world_of M.state head.now)) 0 machines.items jobs.items) }
-{
-    let mut jobs = Vec::with_capacity(alloc, machines.len())?;
-    let mut place = 0u8;
-    for machine in machines {
-        jobs.push(job(alloc, machine, head, lines, place)?)?;
-        place += 1;
-    }
-    Ok(jobs)
-}
-
-// Starts a thread for a job, if there is a process.
-fn start<
-    's,
-    'a: 's,
-    E,
-    M: Machine + Send + 's,
-    R: Threads + Wait + Sync + 's,
-    G: Guard + Sync + 's,
->(
+// Starts a thread for a place, if it has a process.
+fn start<'s, 'a: 's, E, M: Machine + Send + 's, R: Threads + Wait + Sync + 's, G: Gate + Sync + 's>(
     scope: &Scope<'s, E>,
     rt: &'s R,
     alloc: Global,
-    job: Job<'a, M>,
+    machine: M,
+    place: u8,
     shared: &'s Shared<'a, G>,
 ) -> Result<Hand<'s, 'a, M, G>, AllocError>
-    ensures { IfOk result (IsHand shared.now job.entry) }
+    requires { place < PLACES }
+    ensures { IfOk result (IsHand M.state shared.now place machine) }
 {
-    if shared.ready.process_at(job.place).is_none() {
-        return Ok(Hand::Idle(job));
+    if shared.ready.process_at(place).is_none() {
+        return Ok(Hand::Idle(machine));
     }
+    let job = job(alloc, machine, place, shared)?;
     let promise = Does {
         job: Snapshot::of(&job),
         shared,
@@ -123,113 +99,110 @@ fn start_all<
     E,
     M: Machine + Send + 's,
     R: Threads + Wait + Sync + 's,
-    G: Guard + Sync + 's,
+    G: Gate + Sync + 's,
 >(
     scope: &Scope<'s, E>,
     rt: &'s R,
     alloc: Global,
-    jobs: Vec<Job<'a, M>>,
+    machines: Vec<M>,
     shared: &'s Shared<'a, G>,
     hands: &mut Vec<Hand<'s, 'a, M, G>>,
 ) -> Result<(), AllocError>
-    requires { hands.old.items ≡ [] }
-    ensures { OnOk result (AreHands shared.now jobs.entry.items hands.new.items) }
+    requires empty { hands.old.items ≡ [] }
+    requires count { vec_len machines ≤ PLACES }
+    ensures { OnOk result (AreHands M.state shared.now machines.items hands.new.items) }
 {
     let mut started = shared.started.lock(rt);
-    for job in jobs {
-        hands.push(start(scope, rt, alloc, job, shared)?)?;
+    let mut place = 0u8;
+    for machine in machines {
+        hands.push(start(scope, rt, alloc, machine, place, shared)?)?;
+        place += 1;
     }
     *started = true;
     Ok(())
 }
 
-impl<'s, 'a, M: Machine, G: Guard> Hand<'s, 'a, M, G> {
-    // What the job leaves once it is done.
-    fn join<R: Threads + Wait>(self, rt: &R, alloc: Global, shared: &Shared<'a, G>) -> Done<M>
-        ensures { Joins M.state M.did G.always shared.now self.entry result }
+impl<'s, 'a, M: Machine, G: Gate> Hand<'s, 'a, M, G> {
+    // What the place leaves.
+    fn join<R: Threads>(self, rt: &R, alloc: Global) -> Result<Done<M>, Fault>
+        ensures { MatchResult result (Joins M.state M.did self.entry) (Stops G.always) }
     {
         match self {
             Hand::Works(handle) => handle.join(rt),
-            Hand::Idle(job) => job.work(rt, alloc, shared),
+            Hand::Idle(machine) => Ok(Done {
+                machine,
+                replies: Vec::new(alloc),
+            }),
         }
     }
 }
 
-// Joins all. There is room for what they leave.
-fn join_all<'s, 'a: 's, M: Machine, R: Threads + Wait, G: Guard>(
+// Joins all, also past one that was stopped. There is room for what they leave.
+fn join_all<'s, 'a: 's, M: Machine, R: Threads, G: Gate>(
     rt: &R,
     alloc: Global,
-    shared: &'s Shared<'a, G>,
     hands: Vec<Hand<'s, 'a, M, G>>,
     mut dones: Vec<Done<M>>,
-) -> Result<Vec<Done<M>>, AllocError>
+) -> Result<Vec<Done<M>>, Fault>
     requires { dones.items ≡ [] }
-    ensures { IfOk result (λ dones. AreJoined M.state M.did G.always shared.now hands.entry.items dones.items) }
+    ensures { MatchResult result (λ dones. AreJoined M.state M.did hands.entry.items dones.items) (Stops G.always) }
 {
+    let mut ended = Ok(());
     for hand in hands {
-        dones.push(hand.join(rt, alloc, shared))?;
+        match hand.join(rt, alloc) {
+            Ok(done) => dones.push(done)?,
+            Err(fault) => ended = Err(fault),
+        }
     }
+    ended?;
     Ok(dones)
 }
 
-// Does each job, in a thread of the scope where it has a process, and joins all.
+// Does the commands of each place by a machine, in a thread of the scope, and joins all.
 fn run_in<
     's,
     'a: 's,
     E,
     M: Machine + Send + 's,
     R: Threads + Wait + Sync + 's,
-    G: Guard + Sync + 's,
+    G: Gate + Sync + 's,
 >(
     scope: &Scope<'s, E>,
     rt: &'s R,
     alloc: Global,
-    jobs: Vec<Job<'a, M>>,
+    machines: Vec<M>,
     shared: &'s Shared<'a, G>,
-) -> Result<Vec<Done<M>>, AllocError>
-    ensures { IfOk result (λ dones. AreDone M.state M.did G.always shared.now.ready shared.now.lines.now jobs.entry.items dones.items) }
+) -> Result<Vec<Done<M>>, Fault>
+    requires { vec_len machines ≤ PLACES }
+    ensures { MatchResult result (λ dones. ArePlaces M.state M.did shared.now machines.items dones.items) (Stops G.always) }
 {
-    let dones = Vec::with_capacity(alloc, jobs.len())?;
-    let mut hands = Vec::with_capacity(alloc, jobs.len())?;
-    let started = start_all(scope, rt, alloc, jobs, shared, &mut hands);
-    let dones = join_all(rt, alloc, shared, hands, dones);
+    let dones = Vec::with_capacity(alloc, machines.len())?;
+    let mut hands = Vec::with_capacity(alloc, machines.len())?;
+    let started = start_all(scope, rt, alloc, machines, shared, &mut hands);
+    let dones = join_all(rt, alloc, hands, dones);
     match started {
         Ok(()) => dones,
-        Err(error) => Err(error),
+        Err(_refused) => Err(Fault::Memory),
     }
-}
-
-// Does each job, in a thread of its own where it has a process.
-fn run_jobs<'s, 'a: 's, M: Machine + Send, R: Threads + Wait + Sync, G: Guard + Sync>(
-    rt: &'s R,
-    alloc: Global,
-    jobs: Vec<Job<'a, M>>,
-    shared: &'s Shared<'a, G>,
-) -> Result<Vec<Done<M>>, AllocError>
-    ensures { IfOk result (λ dones. AreDone M.state M.did G.always shared.now.ready shared.now.lines.now jobs.entry.items dones.items) }
-{
-    thread::scope(
-        thread::scope_env(),
-        rt,
-        |scope| -> Result<Vec<Done<M>>, AllocError>
-            ensures { IfOk result (λ dones. AreDone M.state M.did G.always shared.entry.now.ready shared.entry.now.lines.now jobs.entry.items dones.items) }
-        { run_in(scope, rt, alloc, jobs, shared) },
-    )
 }
 
 /// Does the commands of the processes that have a place, each by a machine and in a thread of its own, and
 /// joins all: what each machine's worker leaves, by place.
-pub(super) fn work_all<'s, 'a: 's, M: Machine + Send, R: Threads + Wait + Sync, G: Guard + Sync>(
+pub(super) fn work_all<'s, 'a: 's, M: Machine + Send, R: Threads + Wait + Sync, G: Gate + Sync>(
     rt: &'s R,
     alloc: Global,
     machines: Vec<M>,
-    head: &Session<'a, M>,
     shared: &'s Shared<'a, G>,
-) -> Result<Vec<Done<M>>, AllocError>
-    requires count { vec_len machines ≤ PLACES }
-    requires ready { shared.now.ready ≡ head.now.names }
-    ensures { IfOk result (λ dones. AllZipFrom (PlaceIsDone M.state M.did G.always (world_of M.state head.now) shared.now.lines.now) 0 machines.items dones.items) }
+) -> Result<Vec<Done<M>>, Fault>
+    requires { vec_len machines ≤ PLACES }
+    ensures { MatchResult result (λ dones. ArePlaces M.state M.did shared.now machines.items dones.items) (Stops G.always) }
 {
-    let jobs = deal(alloc, machines, head, shared.lines)?;
-    run_jobs(rt, alloc, jobs, shared)
+    thread::scope(
+        thread::scope_env(),
+        rt,
+        |scope| -> Result<Vec<Done<M>>, Fault>
+            requires { vec_len machines ≤ PLACES }
+            ensures { MatchResult result (λ dones. ArePlaces M.state M.did shared.entry.now machines.items dones.items) (Stops G.always) }
+        { run_in(scope, rt, alloc, machines, shared) },
+    )
 }

@@ -1,15 +1,16 @@
 //! How a worker does its job.
-ghost use Rattle.std.specs.Prelude.{◌≡◌, ◌==◌, ◌<◌, ◌≤◌, [], suc, IfOk, IfErr};
+ghost use Rattle.std.specs.Prelude.{◌≡◌, ◌==◌, ◌<◌, [], suc, IfOk, IfErr};
 ghost use Rattle.xh_model.specs.declared.limits.TheConstants.{PLACES};
 ghost use Rattle.xh_runner.specs.Plays.{DoesAmong, Plays, is_placed, names_another, part, part_of};
-ghost use Rattle.xh_runner.specs.inner.Jobs.{EndsBy, Hears, IsDone};
+ghost use Rattle.xh_runner.specs.inner.Jobs.{Hears, Leaves};
+ghost use Rattle.xh_runner.specs.Reports.{Stops};
 ghost use Rattle.xh_session.specs.Worlds.{world_of};
 
-use crate::threads::guard::Guard;
 use crate::threads::job::{Done, Job, Shared};
 use std::alloc::Global;
 use std::sync::Wait;
 use xh_model::limits::PLACES;
+use xh_place::Gate;
 use xh_script::{Fault, Form, Line, Reply};
 use xh_session::{Machine, Names as Bindings, Session};
 
@@ -18,7 +19,13 @@ fn is_placed(names: &Bindings, process: u8) -> bool
     ensures { result ≡ is_placed names.now process }
 {
     let number = names.number(process);
-    number < u16::from(PLACES) && names.process_at(number as u8) == Some(process)
+    if number >= u16::from(PLACES) {
+        return false;
+    }
+    match names.process_at(number as u8) {
+        Some(latest) => latest == process,
+        None => false,
+    }
 }
 
 /// The part of a run to which a line belongs.
@@ -35,12 +42,11 @@ pub(super) fn part_of(names: &Bindings, line: &Line) -> u8
     }
 }
 
-/// Whether a line belongs to the part of a place, or, for the place 32, to the last part.
-pub(super) fn is_in(names: &Bindings, line: &Line, place: u8) -> bool
-    requires { place ≤ PLACES }
-    ensures { result ≡ (part_of names.now line.now == suc place) }
+/// Whether a line belongs to the part of a number.
+pub(super) fn is_in(names: &Bindings, line: &Line, number: u8) -> bool
+    ensures { result ≡ (part_of names.now line.now == number) }
 {
-    part_of(names, line) == place + 1
+    part_of(names, line) == number
 }
 
 fn names_another(form: Form) -> bool
@@ -77,7 +83,7 @@ fn step<'a, M: Machine, R: Wait, G>(
 }
 
 // Does the commands of a place in order, as far as the gate lets them: the replies, for which there is room.
-fn play<'a, M: Machine, R: Wait, G: Guard>(
+fn play<'a, M: Machine, R: Wait, G: Gate>(
     rt: &R,
     alloc: Global,
     shared: &Shared<'_, G>,
@@ -86,14 +92,14 @@ fn play<'a, M: Machine, R: Wait, G: Guard>(
     room: Vec<Reply>,
 ) -> Result<Vec<Reply>, Fault>
     requires { (place < PLACES) × (room.items ≡ []) }
-    ensures played { IfOk result (λ replies. Plays (DoesAmong M.did) (world_of M.state session.old) (part shared.now.ready (suc place) shared.now.lines.now) replies.items (world_of M.state session.new)) }
-    ensures stopped { IfErr result (EndsBy G.always) }
+    ensures played { IfOk result (λ replies. Plays (DoesAmong M.did) (world_of M.state session.old) (part shared.now.ready.now (suc place) shared.now.lines.now) replies.items (world_of M.state session.new)) }
+    ensures stopped { IfErr result (Stops G.always) }
 {
     let mut replies = room;
     let mut command = 0u32;
     for line in shared.lines {
-        if is_in(&shared.ready, line, place) {
-            if !shared.gate.lets(place, command) {
+        if is_in(shared.ready, line, place + 1) {
+            if !shared.gate.before(place, command) {
                 return Err(Fault::Gate);
             }
             replies.push(step(rt, alloc, shared, session, line))?;
@@ -106,13 +112,13 @@ fn play<'a, M: Machine, R: Wait, G: Guard>(
 
 impl<'a, M: Machine> Job<'a, M> {
     /// Does the commands once all workers were started; none where one could not be.
-    pub(super) fn work<R: Wait, G: Guard>(
+    pub(super) fn work<R: Wait, G: Gate>(
         self,
         rt: &R,
         alloc: Global,
         shared: &Shared<'_, G>,
-    ) -> Done<M>
-        ensures { IsDone M.state M.did G.always shared.now.ready shared.now.lines.now self.entry result }
+    ) -> Result<Done<M>, Fault>
+        ensures { Leaves M.state M.did G.always shared.now self.entry result }
     {
         let Job {
             mut session,
@@ -120,7 +126,7 @@ impl<'a, M: Machine> Job<'a, M> {
             room,
         } = self;
         let started = *shared.started.lock(rt);
-        let ended = if started {
+        let played = if started {
             play(rt, alloc, shared, &mut session, place, room)
         } else {
             Err(Fault::Memory)
@@ -130,6 +136,7 @@ impl<'a, M: Machine> Job<'a, M> {
             names: _,
             contracts: _,
         } = session;
-        Done { machine, ended }
+        let replies = played?;
+        Ok(Done { machine, replies })
     }
 }

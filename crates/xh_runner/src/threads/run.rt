@@ -1,14 +1,13 @@
 //! The run itself: the head, the workers, and what they leave.
-ghost use Rattle.std.specs.Prelude.{◌≡◌, ◌≤◌, ◌∷◌, ◌++◌, [], List, IfErr, IfOk, IsOk, length, map, vec_len};
-ghost use Rattle.std.specs.List.{AllByRecursion};
+ghost use Rattle.std.specs.Prelude.{◌≡◌, ◌≤◌, ◌∷◌, ◌++◌, [], List, IfErr, IfOk, MatchResult, length, map, vec_len};
 ghost use Rattle.std.specs.Vec.Iter.{into_iter_items};
 ghost use Rattle.xh_model.specs.declared.limits.TheConstants.{MAX_WORKERS, PLACES};
-ghost use Rattle.xh_runner.specs.Plays.{AllZipFrom, AreAnswersTo, ArePlayed, Does, HasNames, LAST, Plays, began, part};
-ghost use Rattle.xh_runner.specs.inner.Jobs.{EndsBy, HavePlayed, PlaceIsDone, head_lines, replies_left};
+ghost use Rattle.xh_runner.specs.Plays.{AllZipFrom, AreAnswersTo, ArePlayed, Does, HasNames, Plays, began, part};
+ghost use Rattle.xh_runner.specs.inner.Jobs.{HavePlayed, PlaceIsDone, replies_of};
+ghost use Rattle.xh_runner.specs.Reports.{Stops};
 ghost use Rattle.xh_session.specs.Worlds.{world_of};
 
 use crate::threads::crew::work_all;
-use crate::threads::guard::Guard;
 use crate::threads::job::{Done, Shared};
 use crate::threads::play::is_in;
 use crate::threads::replies::answered;
@@ -17,6 +16,7 @@ use std::sync::{Mutex, Wait};
 use std::thread::Threads;
 use std::vec::IntoIter;
 use xh_model::limits::{MAX_WORKERS, PLACES};
+use xh_place::Gate;
 use xh_script::{Answered, Fault, Line, Name, Reply, Script};
 use xh_session::{Machine, Names as Bindings, Session};
 
@@ -28,15 +28,33 @@ pub(super) struct Outcome<M> {
     pub(super) names: Vec<Name>,
 }
 
-// What all have played: the replies of the head and of the last part, with the machine that did both; what the
-// workers of the places leave; and what the names stood for after the head.
+// What all have played: the replies of the head, what the workers of the places leave, the replies of the last part,
+// and what the names stood for after the head.
 #[derive(Drop)]
 struct Played<M> {
-    machine: M,
     head: Vec<Reply>,
     dones: Vec<Done<M>>,
     rest: Vec<Reply>,
     ready: Bindings,
+}
+
+// Does the lines of a part in order.
+fn run_part<'a, M: Machine>(
+    alloc: Global,
+    head: &mut Session<'a, M>,
+    names: &Bindings,
+    lines: &[Line],
+    number: u8,
+) -> Result<Vec<Reply>, AllocError>
+    ensures { IfOk result (λ replies. Plays (Does M.did) (world_of M.state head.old) (part names.now number lines.now) replies.items (world_of M.state head.new)) }
+{
+    let mut replies = Vec::new(alloc);
+    for line in lines {
+        if is_in(names, line, number) {
+            replies.push(head.step(alloc, &line.command))?;
+        }
+    }
+    Ok(replies)
 }
 
 // Does the head lines in order.
@@ -45,136 +63,104 @@ fn run_head<'a, M: Machine>(
     head: &mut Session<'a, M>,
     lines: &[Line],
 ) -> Result<Vec<Reply>, AllocError>
-    ensures { IfOk result (λ replies. Plays (Does M.did) (world_of M.state head.old) (head_lines lines.now) replies.items (world_of M.state head.new)) }
+    ensures { IfOk result (λ replies. Plays (Does M.did) (world_of M.state head.old) (part head.old.names 0 lines.now) replies.items (world_of M.state head.new)) }
 {
-    let mut replies = Vec::new(alloc);
-    for line in lines {
-        if line.command.form.is_head() {
-            replies.push(head.step(alloc, &line.command))?;
-        }
-    }
-    Ok(replies)
-}
-
-// Does the commands of processes without a place in order.
-fn run_rest<'a, M: Machine>(
-    alloc: Global,
-    head: &mut Session<'a, M>,
-    ready: &Bindings,
-    lines: &[Line],
-) -> Result<Vec<Reply>, AllocError>
-    ensures { IfOk result (λ replies. Plays (Does M.did) (world_of M.state head.old) (part ready.now LAST lines.now) replies.items (world_of M.state head.new)) }
-{
-    let mut replies = Vec::new(alloc);
-    for line in lines {
-        if is_in(ready, line, PLACES) {
-            replies.push(head.step(alloc, &line.command))?;
-        }
-    }
-    Ok(replies)
+    let names = head.names.copy(alloc)?;
+    run_part(alloc, head, &names, lines, 0)
 }
 
 // Does the commands of the processes that have a place, each by a machine: what the workers leave.
-fn work<'a, M: Machine + Send, R: Threads + Wait + Sync, G: Guard + Sync>(
+fn work<'a, M: Machine + Send, R: Threads + Wait + Sync, G: Gate + Sync>(
     rt: &R,
     alloc: Global,
     machines: Vec<M>,
-    head: &Session<'a, M>,
+    head: &'a Session<'_, M>,
     lines: &'a [Line],
     gate: &'a G,
-) -> Result<Vec<Done<M>>, AllocError>
+) -> Result<Vec<Done<M>>, Fault>
     requires { vec_len machines ≤ PLACES }
-    ensures { IfOk result (λ r. AllZipFrom (PlaceIsDone M.state M.did G.always (world_of M.state head.now) lines.now) 0 machines.items r.items) }
+    ensures { MatchResult result (λ dones. AllZipFrom (PlaceIsDone M.state M.did (world_of M.state head.entry.now) lines.entry.now) 0 machines.items dones.items) (Stops G.always) }
 {
     let shared = Shared {
         lines,
+        contracts: head.contracts,
+        ready: &head.names,
         gate,
-        ready: head.names.copy(alloc)?,
         names: Mutex::new(head.names.copy(alloc)?),
         started: Mutex::new(false),
     };
-    work_all(rt, alloc, machines, head, &shared)
+    work_all(rt, alloc, machines, &shared)
 }
 
 // Plays all lines, with a machine for each place and the head's.
-fn play_all<'a, M: Machine + Send, R: Threads + Wait + Sync, G: Guard + Sync>(
+fn play_all<M: Machine + Send, R: Threads + Wait + Sync, G: Gate + Sync>(
     rt: &R,
     alloc: Global,
     machines: Vec<M>,
-    head: Session<'a, M>,
-    lines: &'a [Line],
-    gate: &'a G,
-) -> Result<Played<M>, AllocError>
+    head: &mut Session<'_, M>,
+    lines: &[Line],
+    gate: &G,
+) -> Result<Played<M>, Fault>
     requires { vec_len machines ≡ PLACES }
-    ensures { IfOk result (HavePlayed M.state M.did G.always lines.entry.now (world_of M.state head.entry) machines.items) }
+    ensures played { IfOk result (HavePlayed M.state M.did lines.now (world_of M.state head.old) machines.items (M.state head.new.machine)) }
+    ensures stopped { IfErr result (Stops G.always) }
 {
-    let mut session = head;
-    let head = run_head(alloc, &mut session, lines)?;
-    let ready = session.names.copy(alloc)?;
-    let dones = work(rt, alloc, machines, &session, lines, gate)?;
-    let rest = run_rest(alloc, &mut session, &ready, lines)?;
-    let Session {
-        machine,
-        names: _,
-        contracts: _,
-    } = session;
+    let replies = run_head(alloc, head, lines)?;
+    let dones = work(rt, alloc, machines, head, lines, gate)?;
+    let ready = head.names.copy(alloc)?;
+    let rest = run_part(alloc, head, &ready, lines, 1 + PLACES)?;
     Ok(Played {
-        machine,
-        head,
+        head: replies,
         dones,
         rest,
         ready,
     })
 }
 
-// The machines, and the replies of the parts, where no worker was stopped.
-fn gather<M: Machine, G: Guard>(
+// The machines, and the replies of the parts.
+fn gather<M: Machine>(
     alloc: Global,
     machine: M,
     head: Vec<Reply>,
     dones: Vec<Done<M>>,
     rest: Vec<Reply>,
-) -> Result<(Vec<M>, Vec<IntoIter<Reply>>), Fault>
-    requires { AllByRecursion (λ done. IfErr done.ended (EndsBy G.always)) dones.items }
+) -> Result<(Vec<M>, Vec<IntoIter<Reply>>), AllocError>
     ensures machines { IfOk result (λ r. r.0.items ≡ machine ∷ map (λ done. done.machine) dones.items) }
-    ensures queues { IfOk result (λ r. map into_iter_items r.1.items ≡ head.items ∷ (map replies_left dones.items ++ rest.items ∷ [])) }
-    ensures ended { IfOk result (λ _. AllByRecursion (λ done. IsOk done.ended) dones.items) }
-    ensures stopped { IfErr result (EndsBy G.always) }
+    ensures queues { IfOk result (λ r. map into_iter_items r.1.items ≡ head.items ∷ (replies_of dones.items ++ rest.items ∷ [])) }
 {
     let mut machines = Vec::with_capacity(alloc, usize::from(MAX_WORKERS))?;
     let mut queues = Vec::with_capacity(alloc, usize::from(MAX_WORKERS) + 1)?;
     machines.push(machine)?;
     queues.push(head.into_iter())?;
     for done in dones {
-        let Done { machine, ended } = done;
+        let Done { machine, replies } = done;
         machines.push(machine)?;
-        queues.push(ended?.into_iter())?;
+        queues.push(replies.into_iter())?;
     }
     queues.push(rest.into_iter())?;
     Ok((machines, queues))
 }
 
-// What the run says, where no worker was stopped.
-fn conclude<M: Machine, G: Guard>(
+// What the run says.
+fn conclude<M: Machine>(
     alloc: Global,
+    machine: M,
     played: Played<M>,
     script: &Script,
-) -> Result<Outcome<M>, Fault>
-    requires { (first : M.State) × (olds : List M) × HavePlayed M.state M.did G.always script.now.lines.items (began first script.now.contracts.items) olds played }
-    ensures played { IfOk result (λ o. (first : M.State) (olds : List M) → HavePlayed M.state M.did G.always script.now.lines.items (began first script.now.contracts.items) olds played
+) -> Result<Outcome<M>, AllocError>
+    requires { (first : M.State) × (olds : List M) × HavePlayed M.state M.did script.now.lines.items (began first script.now.contracts.items) olds (M.state machine) played }
+    ensures played { IfOk result (λ o. (first : M.State) (olds : List M) → HavePlayed M.state M.did script.now.lines.items (began first script.now.contracts.items) olds (M.state machine) played
         → ArePlayed M.did script.now.contracts.items script.now.lines.items o.answers.items (first ∷ map M.state olds) (map M.state o.machines.items)) }
     ensures answers { IfOk result (λ o. AreAnswersTo script.now.lines.items o.answers.items) }
     ensures names { IfOk result (λ o. HasNames script.now.processes.items script.now.lines.items o.answers.items o.names.items × (length o.names.items ≡ PLACES)) }
-    ensures refused { IfErr result (EndsBy G.always) }
 {
     let Played {
-        machine,
         head,
         dones,
         rest,
         ready,
     } = played;
-    let (machines, queues) = gather::<M, G>(alloc, machine, head, dones, rest)?;
+    let (machines, queues) = gather(alloc, machine, head, dones, rest)?;
     let (answers, names) = answered(alloc, &ready, &script.lines, queues)?;
     let names = names.by_place(alloc, &script.processes)?;
     Ok(Outcome {
@@ -185,7 +171,7 @@ fn conclude<M: Machine, G: Guard>(
 }
 
 /// Runs a script with the first machine for the head, and the others for the processes that have a place.
-pub(super) fn run_on<M: Machine + Send, R: Threads + Wait + Sync, G: Guard + Sync>(
+pub(super) fn run_on<M: Machine + Send, R: Threads + Wait + Sync, G: Gate + Sync>(
     rt: &R,
     alloc: Global,
     mut machines: Vec<M>,
@@ -196,13 +182,18 @@ pub(super) fn run_on<M: Machine + Send, R: Threads + Wait + Sync, G: Guard + Syn
     ensures played { IfOk result (λ o. ArePlayed M.did script.now.contracts.items script.now.lines.items o.answers.items (map M.state machines.items) (map M.state o.machines.items)) }
     ensures answers { IfOk result (λ o. AreAnswersTo script.now.lines.items o.answers.items) }
     ensures names { IfOk result (λ o. HasNames script.now.processes.items script.now.lines.items o.answers.items o.names.items × (length o.names.items ≡ PLACES)) }
-    ensures refused { IfErr result (EndsBy G.always) }
+    ensures stopped { IfErr result (Stops G.always) }
 {
-    let head = Session {
+    let mut head = Session {
         machine: machines.remove(0),
         names: Bindings::new(alloc)?,
         contracts: &script.contracts,
     };
-    let played = play_all(rt, alloc, machines, head, &script.lines, gate)?;
-    conclude::<M, G>(alloc, played, script)
+    let played = play_all(rt, alloc, machines, &mut head, &script.lines, gate);
+    let Session {
+        machine,
+        names: _,
+        contracts: _,
+    } = head;
+    Ok(conclude(alloc, machine, played?, script)?)
 }

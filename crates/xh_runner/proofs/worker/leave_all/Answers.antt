@@ -1,4 +1,4 @@
-use Rattle.std.proofs.Common.{◌≡◌, ◌∷◌, ◌++◌, ◌∙◌, [], All, ap, arith, subst, sym}
+use Rattle.std.proofs.Common.{◌≡◌, All, arith, subst, sym}
 use Rattle.std.proofs.lemmas.List.Elements.{All-push}
 use Rattle.xh_glance.specs.Look.{LookOf}
 use Rattle.xh_runner.proofs.Workers.{left_more}
@@ -7,12 +7,14 @@ use Rattle.xh_runner.proofs.worker.leave_all.Goals as goal
 pub loop-worker-preserved : goal.loop-worker-preserved
 loop-worker-preserved g c =
     let past = c.loop-worker.invariant in
-    let left = c.leave-account.ensures in record {
-      accounts_are = left_more (λ w. w.account) _ _ c.in-Some.worker _ _ _ (c.in_ok-push.ensures.items ∙ ap (λ a. c.loop-worker.accounts.items ++ a ∷ []) left.same.0) c.in-Some.ensures.steps.0 past.accounts_are;
-      looks_are = left_more (λ w. w.look) _ _ c.in-Some.worker _ _ _ (c.in_ok-push-2.ensures.items ∙ ap (λ a. c.loop-worker.looks.items ++ a ∷ []) left.same.1) c.in-Some.ensures.steps.0 past.looks_are;
-      own = subst (All (λ (x : LookOf). x.glances ≡ g.N.Names.parts.glances)) (sym c.in_ok-push-2.ensures.items) (All-push (λ (x : LookOf). x.glances ≡ g.N.Names.parts.glances) c.loop-worker.looks.items _ past.own left.own);
-      accounts_count = omega (arith, c.in_ok-push.ensures.len, c.in-Some.ensures.steps.1, past.accounts_count);
-      looks_count = omega (arith, c.in_ok-push-2.ensures.len, c.in-Some.ensures.steps.1, past.looks_count);
+    let own : All (λ (x : LookOf). x.glances ≡ g.N.Names.parts.glances) _ = All-push (λ (x : LookOf). x.glances ≡ g.N.Names.parts.glances) c.loop-worker.looks.items _ past.own c.in-Some.worker.own in record {
+      accounts_are = left_more (λ w. w.account) _ _ c.in-Some.worker _ _ _ c.push_reserved.ensures.items c.in-Some.ensures.steps.0 past.accounts_are;
+      looks_are = left_more (λ w. w.look) _ _ c.in-Some.worker _ _ _ c.push_reserved-in-loop-worker.ensures.items c.in-Some.ensures.steps.0 past.looks_are;
+      own = subst (All (λ (x : LookOf). x.glances ≡ g.N.Names.parts.glances)) (sym c.push_reserved-in-loop-worker.ensures.items) own;
+      accounts_room = omega (arith, c.push_reserved.ensures.capacity, past.accounts_room);
+      looks_room = omega (arith, c.push_reserved-in-loop-worker.ensures.capacity, past.looks_room);
+      accounts_count = omega (arith, c.push_reserved.ensures.len, c.in-Some.ensures.steps.1, past.accounts_count);
+      looks_count = omega (arith, c.push_reserved-in-loop-worker.ensures.len, c.in-Some.ensures.steps.1, past.looks_count);
     }
 
 pub returns-clause-count : goal.returns-clause-count

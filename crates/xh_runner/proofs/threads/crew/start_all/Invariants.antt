@@ -1,8 +1,12 @@
-use Rattle.std.proofs.Common.{ℕ}
-use Rattle.std.specs.Vec.Iter.{into_iter_items}
+use Rattle.std.proofs.Common.{◌≤◌, ◌+◌}
+use Rattle.std.specs.Vec.Iter.{into_iter_items, into_iter_len}
+use Rattle.xh_model.specs.declared.limits.TheConstants.{PLACES}
 use Rattle.xh_runner.proofs.Plays.{ZipsOn}
 use Rattle.xh_runner.specs.inner.Jobs.{IsHand}
 use Rattle.xh_runner.proofs.threads.crew.start_all.Given as goal
 
-abbrev pub invariant-loop-job : goal.invariant-loop-job
-invariant-loop-job g l = (k : ℕ) × ZipsOn (λ _ job hand. IsHand l.shared job hand) l.fn.jobs.items l.hands.items k (into_iter_items l.job-iterator)
+abbrev pub invariant-loop-machine : goal.invariant-loop-machine
+invariant-loop-machine g l = record {
+  count : into_iter_len l.machine-iterator + l.place ≤ PLACES;
+  hands : ZipsOn (IsHand g.M.Machine.state l.shared) l.fn.machines.items l.hands.items l.place (into_iter_items l.machine-iterator);
+}

@@ -1,31 +1,25 @@
-use Rattle.std.proofs.Common.{[], ◌∷◌, ◌++◌, ◌∙◌, ap, map, refl, replicate, subst}
+use Rattle.std.proofs.Common.{◌∙◌, ap, map, refl, replicate, subst}
 use Rattle.std.specs.Vec.Iter.{into_iter_items}
 use Rattle.xh_model.specs.declared.limits.TheConstants.{PLACES}
 use Rattle.xh_runner.proofs.Plays.{dealt, deals_lines}
-use Rattle.xh_runner.proofs.Wholes.{all_ended, all_played, fits_all}
-use Rattle.xh_runner.specs.inner.Jobs.{Deals, replies_left}
+use Rattle.xh_runner.proofs.Wholes.{all_played, fits_all}
+use Rattle.xh_runner.specs.inner.Jobs.{Deals, queues_of}
 use Rattle.xh_runner.specs.Plays.{AreAnswersTo, began, told}
 use Rattle.xh_session.specs.Bindings.{names_by_place, no_bindings}
 use Rattle.xh_runner.proofs.threads.run.conclude.Goals as goal
 
-pub gather-requires : goal.gather-requires
-gather-requires g c = let h = c.requires.2 in all_ended g.M.Machine.state g.M.Machine.did g.G.Guard.always _ h.ready 0 c.requires.1 _ h.places
-
 pub answered-requires : goal.answered-requires
-answered-requires g c = rw (c.in_ok-machines.ensures.queues, c.deref.ensures.value)
-    (fits_all g.M.Machine.state g.M.Machine.did g.G.Guard.always _ _ c.requires.1 c.args.played c.requires.2 c.in_ok-machines.ensures.ended)
+answered-requires g c = rw (c.in_ok-machines.ensures.queues, c.deref.ensures.value) (fits_all g.M.Machine.state g.M.Machine.did _ _ c.requires.1 _ c.args.played c.requires.2)
 
 pub returns-clause-played : goal.returns-clause-played
 returns-clause-played g c = λ first olds h.
     let p = c.args.played in
     let s = c.args.script.now in
-    let oks = c.in_ok-machines.ensures.ended in
-    let whole = p.head.items ∷ (map replies_left p.dones.items ++ p.rest.items ∷ []) in
     let deals = subst (λ qs. Deals p.ready s.lines.items qs c.in_ok-answers.answers.items) c.in_ok-machines.ensures.queues
     (subst (λ ls. Deals p.ready ls (map into_iter_items c.in_ok-machines.queues.items) c.in_ok-answers.answers.items) c.deref.ensures.value c.in_ok-answers.ensures.deals) in
-    let fits = fits_all g.M.Machine.state g.M.Machine.did g.G.Guard.always s.lines.items (began first s.contracts.items) olds p h oks in
-    rw c.in_ok-machines.ensures.machines (all_played g.M.Machine.state g.M.Machine.did g.G.Guard.always s.lines.items (began first s.contracts.items) olds p h oks
-    s.contracts.items c.in_ok-answers.answers.items refl (dealt p.ready s.lines.items whole c.in_ok-answers.answers.items fits deals))
+    let fits = fits_all g.M.Machine.state g.M.Machine.did s.lines.items (began first s.contracts.items) olds _ p h in
+    rw c.in_ok-machines.ensures.machines (all_played g.M.Machine.state g.M.Machine.did s.lines.items (began first s.contracts.items) olds _ p h
+    s.contracts.items c.in_ok-answers.answers.items refl (dealt p.ready s.lines.items (queues_of p) c.in_ok-answers.answers.items fits deals))
 
 pub returns-clause-answers : goal.returns-clause-answers
 returns-clause-answers g c = subst (λ ls. AreAnswersTo ls c.in_ok-answers.answers.items) c.deref.ensures.value (deals_lines c.args.played.ready c.deref.result.now (map into_iter_items c.in_ok-machines.queues.items) c.in_ok-answers.answers.items c.in_ok-answers.ensures.deals)

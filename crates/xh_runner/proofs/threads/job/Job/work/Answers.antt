@@ -1,11 +1,12 @@
-use Rattle.std.proofs.Common.{inl, refl}
-use Rattle.xh_runner.proofs.Wholes.{left_from}
-use Rattle.xh_runner.specs.Plays.{DoesAmong}
+use Rattle.std.proofs.Common.{◌∙◌, ap, sym}
+use Rattle.xh_session.specs.Worlds.{world_of}
 use Rattle.xh_runner.proofs.threads.job.Job.work.Goals as goal
 use Rattle.xh_runner.proofs.threads.job.Job.work.Goals.{then-started, else-started}
 
 pub returns : goal.returns
 returns g c = elim c.if-started.branch [
-  | then-started w ↦ rw (w.session-is, w.ended-is) (left_from (DoesAmong g.M.Machine.did) g.G.Guard.always _ _ _ w.play-ended.result w.play-ended.ensures.played w.play-ended.ensures.stopped)
-  | else-started w ↦ rw (w.session-is, w.ended-is) (inl refl)
+  | then-started w ↦
+      let played = rw (sym w.played-is ∙ c.in_ok-replies.was) at w.play-played.ensures.played in
+      (world_of g.M.Machine.state w.play-played.new.session, played, ap (λ s. g.M.Machine.state s.machine) (sym w.session-is))
+  | else-started w ↦ let stopped = sym w.played-is ∙ c.in_ok-replies.was in absurd (cc)
 ]

@@ -1,7 +1,7 @@
 use Rattle.std.proofs.Common.{sym, ◌∙◌}
 use Rattle.xh_runner.proofs.Plays.{continues_own, continues_other, continues_end}
-use Rattle.xh_runner.proofs.threads.run.run_rest.Goals as goal
-use Rattle.xh_runner.proofs.threads.run.run_rest.Goals.{then-is_in+in_ok-push, else-is_in}
+use Rattle.xh_runner.proofs.threads.run.run_part.Goals as goal
+use Rattle.xh_runner.proofs.threads.run.run_part.Goals.{then-is_in+in_ok-push, else-is_in}
 
 pub loop-line-preserved : goal.loop-line-preserved
 loop-line-preserved g c = elim c.if-is_in.branch [
