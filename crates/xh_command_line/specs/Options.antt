@@ -31,8 +31,15 @@ valued name least most default = record (new_rule name) {
   parser = Some (Unsigned least most);
 }
 
+-- an option without a value
+abbrev pub flag : Text → Rule
+flag name = record (new_rule name) { long = Some name; action = Some SetTrue }
+
 abbrev pub serial : Rule
-serial = record (new_rule (codes "serial")) { long = Some (codes "serial"); action = Some SetTrue }
+serial = flag (codes "serial")
+
+abbrev pub flight : Rule
+flight = flag (codes "flight")
 
 abbrev pub arenas : Rule
 arenas = valued (codes "arenas") 1 MAX_ARENAS (codes "1")
@@ -51,7 +58,7 @@ wear = valued (codes "wear") 0 MAX_WEAR (codes "9223372036854775807")
 
 -- the command line of a program of this name
 unfoldable pub command_line : Text → App
-command_line name = on_top (λ s. record s { has_version = true; rules = serial ∷ arenas ∷ bytes ∷ records ∷ depth ∷ wear ∷ [] }) (new_app name)
+command_line name = on_top (λ s. record s { has_version = true; rules = serial ∷ flight ∷ arenas ∷ bytes ∷ records ∷ depth ∷ wear ∷ [] }) (new_app name)
 
 -- ---- what words give
 
@@ -80,14 +87,19 @@ config_in rows = record {
 abbrev pub options_of : Text → List Text → Config
 options_of name words = config_in (matches_of (command_line name) words)
 
--- `--serial` is among what was found exactly where the flag is up
-abbrev pub Serially : List Row → Bool → Type 0
-Serially rows flag = (one_of (codes "serial") rows ≡ Some (codes "true") → flag ≡ true)
-    × (one_of (codes "serial") rows ≡ Some (codes "false") → flag ≡ false)
-    × (one_of (codes "serial") rows ≡ None → flag ≡ false)
+-- an option without a value is among what was found exactly where this is true
+abbrev pub IsGiven : Text → List Row → Bool → Type 0
+IsGiven option rows given = (one_of option rows ≡ Some (codes "true") → given ≡ true)
+    × (one_of option rows ≡ Some (codes "false") → given ≡ false)
+    × (one_of option rows ≡ None → given ≡ false)
 
-abbrev pub serially : Text → List Text → Bool → Type 0
-serially name words = Serially (matches_of (command_line name) words)
+-- `--serial` is among the words exactly where this is true
+abbrev pub Serially : Text → List Text → Bool → Type 0
+Serially name words = IsGiven (codes "serial") (matches_of (command_line name) words)
+
+-- so is `--flight`
+abbrev pub WithFlight : Text → List Text → Bool → Type 0
+WithFlight name words = IsGiven (codes "flight") (matches_of (command_line name) words)
 
 -- ---- which words say what
 
@@ -114,7 +126,7 @@ AreWrong name words = ((kind : ErrorKind) × IsAmong kind (fault_of (command_lin
 
 -- the words ask for a run, with these options
 abbrev pub Asks : Text → List Text → Options → Type 0
-Asks name words options = AreOptions name words × (options.config ≡ options_of name words) × serially name words options.serial
+Asks name words options = AreOptions name words × (options.config ≡ options_of name words) × Serially name words options.serial × WithFlight name words options.flight
 
 -- the words ask for no run: help or the version was printed, with status 0; or they are wrong, or memory was refused, and nothing was printed
 abbrev pub IsUnasked : {W : Type 0} → Text → List Text → Watched W → Watched W → ℕ → Type 0

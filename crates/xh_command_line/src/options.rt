@@ -2,7 +2,7 @@
 ghost use Rattle.std.specs.Prelude.{◌≡◌, IfErr, IfOk};
 ghost use Rattle.clap.specs.Words.{FailsBy, app_of, fault_of, found_of, kind_of, matches_of, rows_of};
 ghost use Rattle.xh_command_line.specs.Options as spec;
-ghost use Rattle.xh_command_line.specs.Options.{Asks, IsUnasked, Serially, command_line, config_in, options_of, serially, texts_of, valued};
+ghost use Rattle.xh_command_line.specs.Options.{Asks, IsGiven, IsUnasked, Serially, WithFlight, command_line, config_in, flag, options_of, texts_of, valued};
 ghost use Rattle.xh_command_line.specs.inner.Parts.{Explained, HasRule};
 
 use crate::status::{DONE, WORDS, out_of_memory, told};
@@ -17,13 +17,14 @@ use xh_script::{Watched, write_bytes};
 
 const VERSION: &str = "1.0";
 
-/// A program: its name, and what its help says of it, in a line and at length, of `--serial`, and at the end.
+/// A program: its name, and what its help says of it, in a line and at length, of `--serial`, of `--flight`, and at the end.
 #[derive(Clone, Copy)]
 pub struct Program<'a> {
     pub name: &'a str,
     pub about: &'a str,
     pub detail: &'a str,
     pub serial: &'a str,
+    pub flight: &'a str,
     pub closing: &'a str,
 }
 
@@ -46,11 +47,12 @@ fn option<'a>(
         .default_value(default)
 }
 
-fn serial<'a>(alloc: Global, help: &'a str) -> Arg<'a>
-    ensures { HasRule spec.serial result }
+/// An option without a value.
+fn flag<'a>(alloc: Global, name: &'a str, help: &'a str) -> Arg<'a>
+    ensures { HasRule (flag name.entry.now) result }
 {
-    Arg::new(alloc, "serial")
-        .long("serial")
+    Arg::new(alloc, name)
+        .long(name)
         .action(ArgAction::SetTrue)
         .help(help)
 }
@@ -108,7 +110,8 @@ fn command<'a>(alloc: Global, program: Program<'a>) -> Result<Command<'a>, Alloc
         .about(program.about)
         .long_about(program.detail)
         .after_help(program.closing)
-        .arg(serial(alloc, program.serial))?
+        .arg(flag(alloc, "serial", program.serial))?
+        .arg(flag(alloc, "flight", program.flight))?
         .arg(arenas(alloc))?
         .arg(bytes(alloc))?
         .arg(records(alloc))?
@@ -128,7 +131,7 @@ fn matched<'a>(
     command(alloc, program)?.try_get_matches_from(words)
 }
 
-/// The limits among what was found. `--serial` says nothing of them.
+/// The limits among what was found. `--serial` and `--flight` say nothing of them.
 fn limits(matches: &ArgMatches) -> Config
     ensures { result ≡ config_in (rows_of (found_of matches.now)) }
 {
@@ -141,18 +144,20 @@ fn limits(matches: &ArgMatches) -> Config
     }
 }
 
-/// What the words ask for: the limits, and whether the commands are to be done one by one.
+/// What the words ask for: the limits, whether the commands are to be done one by one, and whether it is
+/// to be written what is in flight.
 #[derive(Drop)]
 pub struct Options {
     pub config: Config,
     pub serial: bool,
+    pub flight: bool,
 }
 
-/// Whether `--serial` was found.
-fn is_serial(matches: &ArgMatches) -> bool
-    ensures { Serially (rows_of (found_of matches.now)) result }
+/// Whether an option without a value was found.
+fn is_given(matches: &ArgMatches, option: &str) -> bool
+    ensures { IsGiven option.now (rows_of (found_of matches.now)) result }
 {
-    matches.get_flag("serial")
+    matches.get_flag(option)
 }
 
 /// What the words ask for. An error is clap's text, or want of memory.
@@ -162,13 +167,15 @@ fn options_of<'a>(
     words: &'a [String],
 ) -> Result<Options, Error>
     ensures config { IfOk result (λ options. options.config ≡ options_of program.entry.name.now (texts_of words.entry.now)) }
-    ensures serial { IfOk result (λ options. serially program.entry.name.now (texts_of words.entry.now) options.serial) }
+    ensures serial { IfOk result (λ options. Serially program.entry.name.now (texts_of words.entry.now) options.serial) }
+    ensures flight { IfOk result (λ options. WithFlight program.entry.name.now (texts_of words.entry.now) options.flight) }
     ensures fault { FailsBy (fault_of (command_line program.entry.name.now) (texts_of words.entry.now)) result }
 {
     let matches = matched(alloc, program, words)?;
     Ok(Options {
         config: limits(&matches),
-        serial: is_serial(&matches),
+        serial: is_given(&matches, "serial"),
+        flight: is_given(&matches, "flight"),
     })
 }
 

@@ -30,7 +30,7 @@ pub(crate) fn told<E: Write>(program: &str, text: &str, status: u8, err: &mut E)
 pub fn out_of_memory<E: Write>(program: &str, err: &mut E) -> u8
     ensures { result ≡ MEMORY }
 {
-    told(program, "out of memory", MEMORY, err)
+    report(program, Fault::Memory, err)
 }
 
 /// Reports that the words of the command line cannot be read: a word that is no UTF-8 is a fault of
@@ -50,19 +50,15 @@ pub fn unread_words<E: Write>(program: &str, kind: ErrorKind, err: &mut E) -> u8
     )
 }
 
-/// Reports a fault. A fault of `err` itself is passed over.
+/// Reports a fault, in the words that it has itself. A fault of `err` is passed over.
 pub fn report<E: Write>(program: &str, fault: Fault, err: &mut E) -> u8
     ensures { result ≡ status_of fault }
 {
+    let _ = writeln!(err, "{program}: {fault}");
     match fault {
-        Fault::Script { line, kind } => {
-            let name = kind.name();
-            let _ = writeln!(err, "{program}: line {line}: {name}");
-            SCRIPT
-        }
-        Fault::Memory => out_of_memory(program, err),
-        Fault::Read => told(program, "read failed", STREAM, err),
-        Fault::Write => told(program, "write failed", STREAM, err),
-        Fault::Gate | Fault::BadConfig => told(program, "internal fault", INTERNAL, err),
+        Fault::Script { line: _, kind: _ } => SCRIPT,
+        Fault::Memory => MEMORY,
+        Fault::Read | Fault::Write => STREAM,
+        Fault::Gate | Fault::BadConfig => INTERNAL,
     }
 }

@@ -217,7 +217,24 @@ fn begin(alloc: Global, whole: Area) -> Result<Document, AllocError> {
     Ok(document)
 }
 
-/// Draws the legend, the rows, the strips, the bars, and then a line above each row.
+/// Draws below the rows what is in flight after the last, a line for each direction.
+fn draw_flight(
+    alloc: Global,
+    document: &mut Document,
+    layout: &Layout,
+    labels: &Labels,
+    history: &History,
+) -> Result<(), AllocError> {
+    for (index, line) in history.flight.as_slice().iter().enumerate() {
+        let said = labels.flight(alloc, line)?;
+        let row = history.answers.len().saturating_add(index);
+        let base = layout.row(row).saturating_add(12);
+        words(document, COMMANDS, base, &said, said.len());
+    }
+    Ok(())
+}
+
+/// Draws the legend, the rows, the strips, the bars, a line above each row, and what is in flight.
 fn draw_parts(
     alloc: Global,
     document: &mut Document,
@@ -226,18 +243,18 @@ fn draw_parts(
     labels: &Labels,
     keepers: &[Keeper],
     bars: &[Bar],
-    answers: &[Answered],
+    history: &History,
 ) -> Result<(), AllocError> {
     for (index, keeper) in keepers.iter().enumerate() {
         draw_entry(alloc, document, labels, index, *keeper)?;
     }
-    draw_rows(alloc, document, layout, labels, answers)?;
+    draw_rows(alloc, document, layout, labels, &history.answers)?;
     draw_strips(alloc, document, layout, config)?;
     for bar in bars {
         draw_bar(alloc, document, layout.bar(bar), labels, bar)?;
     }
-    draw_lines(document, layout, answers.len());
-    Ok(())
+    draw_lines(document, layout, history.answers.len());
+    draw_flight(alloc, document, layout, labels, history)
 }
 
 /// The picture of what was found of a run.
@@ -247,11 +264,11 @@ fn picture_of(
     labels: &Labels,
     keepers: &[Keeper],
     bars: &[Bar],
-    answers: &[Answered],
+    history: &History,
 ) -> Result<Vec<u8>, AllocError>
     ensures { IfOk result (λ picture. IsPicture picture.items) }
 {
-    let layout = Layout::new(config, keepers.len(), answers.len(), bars);
+    let layout = Layout::new(config, keepers.len(), history, bars);
     let mut document = begin(alloc, layout.whole())?;
     draw_parts(
         alloc,
@@ -261,7 +278,7 @@ fn picture_of(
         labels,
         keepers,
         bars,
-        answers,
+        history,
     )?;
     let mut picture = document.finish()?;
     picture.extend_from_slice(b"\n")?;
@@ -281,5 +298,5 @@ pub fn draw(
     let bars = history.bars(alloc)?;
     let labels = Labels::new(alloc, text, processes, history)?;
     let keepers = keepers_of(alloc, processes.len(), &bars)?;
-    picture_of(alloc, config, &labels, &keepers, &bars, &history.answers)
+    picture_of(alloc, config, &labels, &keepers, &bars, history)
 }

@@ -1,9 +1,10 @@
 //! What the commands of a script did to the heap.
 ghost use Rattle.std.specs.Prelude.{◌≡◌, ◌++◌, ◌∷◌, [], IfOk, OnOk};
 
+use arrayvec::ArrayVec;
 use std::alloc::{AllocError, Global};
 use std::marker::Model;
-use xh_core::Holder;
+use xh_core::{FLIGHT_LINES, FlightLine, Holder};
 use xh_model::limits::{MAX_RECORDS, PLACES};
 use xh_script::{Answered, Form, Line, Reply};
 use xh_serial::Serial;
@@ -39,6 +40,8 @@ pub struct History {
     past: Vec<Bar>,
     /// By channel, the row of the command that opened it.
     pub(crate) channels: Vec<usize>,
+    /// What was in flight after the last row.
+    pub(crate) flight: ArrayVec<FlightLine, FLIGHT_LINES>,
 }
 
 impl Model for History {
@@ -103,6 +106,7 @@ impl History {
             current: vec![in alloc; None; records]?,
             past: Vec::new(alloc),
             channels: Vec::new(alloc),
+            flight: ArrayVec::new(),
         })
     }
 
@@ -122,6 +126,7 @@ impl History {
             self.channels.push(row)?;
         }
         self.answers.push(answered)?;
+        self.flight = machine.flight();
         for record in 0..u16::from(self.arenas) * MAX_RECORDS {
             self.follow(usize::from(record), bar_of(machine, latest, record, row))?;
         }

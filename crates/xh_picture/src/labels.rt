@@ -2,6 +2,7 @@
 use crate::history::{Bar, History, Keeper};
 use std::alloc::{AllocError, Global};
 use std::io::Write;
+use xh_core::FlightLine;
 use xh_script::{Answered, Name, Reply, Watched, write_reply};
 
 /// The pieces, one behind the other.
@@ -136,5 +137,13 @@ impl<'a> Labels<'a> {
         let (record, length, start) = (bar.record, bar.length, bar.start);
         let place = format!(in alloc; "record {record}{kind}{length} bytes from {start} on, ")?;
         phrase(alloc, &[place.as_bytes(), &holder])
+    }
+
+    /// What is told of a direction that holds blocks.
+    pub(crate) fn flight(&self, alloc: Global, line: &FlightLine) -> Result<Vec<u8>, AllocError> {
+        let holder = self.holder(alloc, Keeper::Direction(line.direction))?;
+        let (direction, blocks, bytes) = (line.direction, line.blocks, line.bytes);
+        let counts = format!(in alloc; ": direction {direction}, blocks {blocks}, bytes {bytes}")?;
+        phrase(alloc, &[&holder, counts.as_bytes()])
     }
 }

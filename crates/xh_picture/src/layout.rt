@@ -1,5 +1,5 @@
 //! Where things stand in a picture.
-use crate::history::Bar;
+use crate::history::{Bar, History};
 use crate::shapes::Area;
 use xh_core::Config;
 use xh_model::limits::MAX_RECORDS;
@@ -29,11 +29,13 @@ const SPACE: u64 = 10;
 /// The entries of a line of the legend.
 const ENTRIES: usize = 5;
 
-/// Where the rows begin, how many there are, how many arenas, and how many bytes of each are shown.
+/// Where the rows begin, how many there are and how many lines below them, how many arenas, and how many
+/// bytes of each are shown.
 #[derive(Clone, Copy)]
 pub(crate) struct Layout {
     top: u64,
     rows: u64,
+    below: u64,
     arenas: u8,
     shown: u32,
 }
@@ -60,11 +62,12 @@ pub(crate) fn entry(index: usize) -> (u64, u64) {
 
 impl Layout {
     /// Where a run stands, below a legend of so many entries.
-    pub(crate) fn new(config: &Config, entries: usize, rows: usize, bars: &[Bar]) -> Layout {
+    pub(crate) fn new(config: &Config, entries: usize, history: &History, bars: &[Bar]) -> Layout {
         let (_, last) = entry(entries);
         Layout {
             top: last.saturating_add(50),
-            rows: rows as u64,
+            rows: history.answers.len() as u64,
+            below: history.flight.len() as u64,
             arenas: config.arenas,
             shown: shown(config.bytes, bars),
         }
@@ -124,6 +127,7 @@ impl Layout {
             width: STRIPS + WIDTH,
             height: self
                 .rows
+                .saturating_add(self.below)
                 .saturating_mul(ROW)
                 .saturating_add(self.top)
                 .saturating_add(SPACE),

@@ -8,7 +8,7 @@ use std::io::{Read, Write};
 use std::sync::Wait;
 use std::thread::Threads;
 use xh_command_line::{DONE, Options, Program, read_options, report};
-use xh_runner::{run_parallel, run_serial};
+use xh_runner::{Run, run_parallel_as, run_serial_as};
 use xh_script::Watched;
 
 /// The program's name.
@@ -22,6 +22,10 @@ a command and then the ledger: what each arena holds, what each process owns, an
 
 const SERIAL: &str = "Does the commands one by one in the order of the script, without threads";
 
+const FLIGHT: &str =
+    "Writes after the ledger a line for each direction of a channel that holds blocks: its number, how many \
+blocks, and how many bytes they have";
+
 const CLOSING: &str =
     "Example: printf 'process a\\na alloc x 40 0\\n' | xheap --serial --bytes 256\n\
 Status: 0 done, 1 a fault of the script, 2 a fault of the command line, 3 out of memory, 4 reading or writing failed.";
@@ -34,6 +38,7 @@ fn program<'a>() -> Program<'a>
         about: ABOUT,
         detail: DETAIL,
         serial: SERIAL,
+        flight: FLIGHT,
         closing: CLOSING,
     }
 }
@@ -47,12 +52,16 @@ fn run<T: Threads + Wait + Sync, R: Read, W: Write, E: Write>(
     out: &mut Watched<W>,
     err: &mut E,
 ) -> u8
-    ensures { RanBy R.remaining W.contents options.serial options.config reader.old reader.new out.old out.new result }
+    ensures { RanBy R.remaining W.contents options.serial options.flight options.config reader.old reader.new out.old out.new result }
 {
+    let run = Run {
+        config: options.config,
+        flight: options.flight,
+    };
     let ended = if options.serial {
-        run_serial(alloc, reader, out, options.config)
+        run_serial_as(alloc, reader, out, run)
     } else {
-        run_parallel(rt, alloc, reader, out, options.config)
+        run_parallel_as(rt, alloc, reader, out, run)
     };
     match ended {
         Ok(()) => DONE,

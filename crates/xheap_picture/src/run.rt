@@ -24,6 +24,8 @@ block in the colour of its holder, and a circle on each endpoint.";
 
 const SERIAL: &str = "Says nothing: the commands are always done one by one";
 
+const FLIGHT: &str = "Says nothing: what is in flight at the end is always shown";
+
 const CLOSING: &str =
     "Example: xheap_picture --serial --bytes 256 < examples/give_and_take.script > picture.svg\n\
 Status: 0 done, 1 a fault of the script, 2 a fault of the command line, 3 out of memory, 4 reading or writing failed.";
@@ -36,6 +38,7 @@ fn program<'a>() -> Program<'a>
         about: ABOUT,
         detail: DETAIL,
         serial: SERIAL,
+        flight: FLIGHT,
         closing: CLOSING,
     }
 }

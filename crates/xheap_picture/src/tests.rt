@@ -178,6 +178,26 @@ fn endpoint_in_flight(rt: HostRuntime) -> Result<(), Fail> {
     Ok(())
 }
 
+/// What is in flight at the end has a line of its own.
+#[test]
+fn lines_of_flight(rt: HostRuntime) -> Result<(), Fail> {
+    let script =
+        "process a\nprocess b\nwire a e b f 0\na alloc x 48 0\na alloc y 16 0\na give e 7 x y\n";
+    let picture = picture(&rt, rt.alloc(), &["--serial"], script)?;
+    has(
+        &rt,
+        &picture,
+        &[
+            (
+                ">in flight to b.f: direction 1, blocks 2, bytes 64</text>",
+                1,
+            ),
+            (">in flight to b.f</text>", 1),
+        ],
+    );
+    Ok(())
+}
+
 /// Refusals are marked, with and without a count, and those of a contract.
 #[test]
 fn refusals_are_marked(rt: HostRuntime) -> Result<(), Fail> {
