@@ -1,18 +1,14 @@
 -- What a cut and a giving back make of an arena that is kept.
-use Rattle.std.proofs.Common.{◌≡◌, ℕ, ◌+◌, ◌-◌, ◌<◌, ◌≤◌, ◌%◌, List, ◌++◌, length, get_or, set, true, false}
-use Rattle.std.proofs.Common.{cond, refl, sym, ap, ◌∙◌, subst, Option, Some, None, arith, inl, inr}
-use Rattle.std.specs.Prelude.{is_none, is_some, ◌≢◌, All, not}
-use Rattle.std.proofs.lemmas.Bool.{cases_eq, cases_Bool, false≢true}
-use Rattle.std.proofs.lemmas.Bool.Decides.{nat_tests}
+use Rattle.xh_arena.proofs.Common.{◌≡◌, ℕ, ◌+◌, ◌-◌, ◌<◌, ◌≤◌, ◌%◌, List, ◌++◌, length, get_or, set, true, false, cond, refl, sym, ap, ◌∙◌, subst, Option, Some, None, arith, inl, inr, is_none}
+use Rattle.xh_arena.proofs.Common.{is_some, ◌≢◌, All, not, cases_eq, cases_Bool, false≢true, nat_tests, is_of, bytes_out, within, in_hole, owner_of, cover_of, has_byte, AreDisjoint, IsPlaced}
+use Rattle.xh_arena.proofs.Common.{IsKept, join_run}
 use Rattle.std.proofs.lemmas.List.{length-set}
-use Rattle.xh_model.specs.Cover.{is_of, cut_past, given_back, bytes_out}
-use Rattle.xh_arena.specs.inner.Layout.{within, in_hole, owner_of, cover_of, has_byte, AreDisjoint, IsAligned, IsPlaced, IsKept, join_run}
+use Rattle.xh_model.specs.Cover.{cut_past, given_back}
 use Rattle.xh_arena.proofs.HoleRuns.{within-in, within-out, within-at}
 use Rattle.xh_arena.proofs.HoleRuns.{or_swap, in_hole-append, join_run-apart, join_run-in_hole, FirstReaches}
-use Rattle.xh_arena.proofs.Owners.{owner_is, nothing_within, owner_of_test, disjoint-set, same_owner, owner-set, owner-cleared, has_byte-set_same, has_byte-set_other}
+use Rattle.xh_arena.proofs.Owners.{owner_is, nothing_within, owner_of_test, disjoint-set, owner-set, has_byte-set_same, has_byte-set_other}
 use Rattle.xh_arena.proofs.Covers.{same_table, table, count_adds, given_back-table, cut_past-table}
-use Rattle.std.proofs.lemmas.List.Elements.{All-append}
-use Rattle.xh_arena.proofs.Kept.{aligned-parts, empty_has, join_run-aligned, placed-set}
+use Rattle.xh_arena.proofs.Kept.{empty_has, placed-set}
 
 -- ---- cutting
 
@@ -57,12 +53,7 @@ module _ (size : ℕ) (extents holes : List (ℕ × ℕ)) (out r t s m k : ℕ) 
 
   -- away from the tail nothing changes
   owner_head : (i : ℕ) → within (s + k, m - k) i ≡ false → owner_of (set extents r (s, k)) i ≡ owner_of extents i
-  owner_head i w =
-      same_owner extents (set extents r (s, k)) i kept.disjoint disjoint_head (λ q.
-      elim (cases_eq q r) [
-        | inl e ↦ rw e (has_byte-set_same extents r (s, k) i known ∙ ((grind (arith, nat_tests)) ∙ sym (has i)))
-        | inr ne ↦ has_byte-set_other extents r (s, k) q i ne
-      ])
+  owner_head i w = grind (arith, nat_tests, owner-set, disjoint_head, has, owner_is)
 
   cut-owner : (i : ℕ) → owner_of (cut_extents extents r t s m k) i ≡ cond (within (s + k, m - k) i) (Some t) (owner_of extents i)
   cut-owner i = grind (arith, nat_tests, owner-set, disjoint_head, cut-disjoint, tail_there, has_byte-set_other, empty_has, owner_head)
@@ -91,7 +82,6 @@ module _ (size : ℕ) (extents holes : List (ℕ × ℕ)) (out r t s m k : ℕ) 
       let head : IsPlaced size (s, k) = record { start = start; length = multiple; end = omega arith } in
       record {
         apart = kept.apart;
-        aligned = kept.aligned;
         placed = placed-set size (set extents r (s, k)) t (s + k, m - k) tail_there tail (placed-set size extents r (s, k) known head kept.placed);
         disjoint = cut-disjoint;
         free = λ i l. kept.free i l ∙ ap not (sym (covered i));
@@ -113,7 +103,7 @@ module _ (size : ℕ) (extents a b : List (ℕ × ℕ)) (out r s m : ℕ) (kept 
   back-disjoint = disjoint-set extents r (0, 0) kept.disjoint known (λ q i w ne. absurd (false≢true (sym (nothing_within i) ∙ w)))
 
   back-owner : (i : ℕ) → owner_of (set extents r (0, 0)) i ≡ cond (is_of r (owner_of extents i)) None (owner_of extents i)
-  back-owner i = owner-cleared extents r i kept.disjoint back-disjoint known
+  back-owner i = owner-set extents r (0, 0) i kept.disjoint back-disjoint known ∙ rw (nothing_within i, owner_of_test extents r i kept.disjoint) refl
 
   pub returning-cover : cover_of size (set extents r (0, 0)) ≡ given_back r (cover_of size extents)
   returning-cover = grind (arith, nat_tests, same_table, back-owner, given_back-table)
@@ -145,11 +135,9 @@ module _ (size : ℕ) (extents a b : List (ℕ × ℕ)) (out r s m : ℕ) (kept 
   returning-kept =
       let run = returning-placed in
       let end : s + m ≤ size = run.end in
-      let parts = aligned-parts a b kept.aligned in
       let count = returning-counted in
       record {
         apart = join_run-apart 0 a s m b (size + 1) kept.apart (omega arith) before after some (omega arith) taken;
-        aligned = All-append IsAligned a (join_run s m b) parts.0 (join_run-aligned s m b (run.start, run.length) parts.1);
         placed = placed-set size extents r (0, 0) known (record { start = refl; length = refl; end = (let e : 0 + 0 ≤ size = omega arith in e) }) kept.placed;
         disjoint = back-disjoint;
         free = back-free;

@@ -1,14 +1,9 @@
 -- Each step of a vault's seat keeps the rule.
-use Rattle.std.proofs.lemmas.Bool.Decides.{nat_tests}
-use Rattle.std.proofs.Common.{◌≡◌, ℕ, ◌+◌, List, [], ◌∷◌, ◌++◌, length, set, refl, sym, ap, ◌∙◌, subst, arith, replicate, length-set}
-use Rattle.std.specs.Prelude.{slice_set, slice_index}
-use mathlib.Core.Option.{some, none}
-use lib.ListN.{get_elem?}
+use Rattle.xh_arena.proofs.Common.{nat_tests, ◌≡◌, ℕ, ◌+◌, List, [], ◌∷◌, ◌++◌, length, set, refl, sym, ap, ◌∙◌, subst, arith, replicate, slice_set, slice_index, some, none, get_elem?, Part}
+use Rattle.xh_arena.proofs.Common.{Books, Length, Moved, weigh, books, whole, first_parts, Kept, AreOneWhole, Keeps, Changed, top, below, under, with_length, with_taken, with_back}
+use Rattle.std.proofs.Common.{length-set}
 use Rattle.atomic_table.specs.Table.{Me, step, keeps, Allows, Splits, Joins, opening}
 use Rattle.atomic_table.proofs.Lists.{set_again}
-use Rattle.xh_arena.specs.declared.parts.Part.{Part}
-use Rattle.xh_arena.specs.declared.parts.Part.TheVariants.{Books, Length, Moved}
-use Rattle.xh_arena.specs.inner.Parts.{weigh, books, whole, first_parts, Kept, AreOneWhole, Keeps, Changed, top, below, under, with_length, with_taken, with_back}
 use Rattle.xh_arena.proofs.Weights.{weigh-append, weigh-set, others_of}
 use Rattle.xh_arena.proofs.Wholes.{weigh-whole, listed-set, lot_stands, tally_stands, books_stand}
 

@@ -1,10 +1,6 @@
 -- A carving is refused for one reason at most, and for none where there is a place and the wear is within the limit.
-use Rattle.std.proofs.lemmas.Bool.Decides.{nat_tests}
-use Rattle.std.proofs.Common.{◌≡◌, ℕ, ◌+◌, ◌≤◌, sym, ap, ◌∙◌, arith, Some, None}
-use Rattle.std.specs.Prelude.{is_some}
-use Rattle.std.proofs.lemmas.Bool.{false≢true}
+use Rattle.xh_arena.proofs.Common.{nat_tests, ◌≡◌, ℕ, ◌+◌, ◌≤◌, sym, ap, ◌∙◌, arith, Some, None, is_some, false≢true, ArenaState}
 use Rattle.xh_model.specs.Cover.{first_fit}
-use Rattle.xh_model.specs.Arena.{ArenaState}
 use Rattle.xh_arena.specs.declared.refused.Refused.{Refused}
 use Rattle.xh_arena.specs.declared.refused.Refused.TheVariants.{NoSpace, Worn}
 use Rattle.xh_arena.specs.Refusals.{RefusesCarve}

@@ -1,15 +1,8 @@
 -- What a look shows of a vault's books, and that each change keeps them.
-use Rattle.std.proofs.lemmas.Bool.Decides.{nat_tests}
-use Rattle.std.proofs.Common.{◌++◌, ◌≡◌, ℕ, zero, suc, ◌+◌, ◌-◌, ◌≤◌, ◌<◌, List, [], ◌∷◌, length, map, set, Some, refl, sym, ap, ◌∙◌, subst, arith}
-use Rattle.std.specs.Prelude.{slice_get, slice_set}
-use Rattle.xh_arena.specs.declared.parts.Part.{Part}
-use Rattle.xh_arena.specs.declared.parts.Part.TheVariants.{Books, Length, Moved}
-use Rattle.xh_arena.specs.inner.Parts.{weigh, whole, AreOfOneWhole, part_in, below, under, with_length, with_taken, with_back}
-use Rattle.xh_model.specs.Arena.{IsGoodCut, lengths_of}
-use Rattle.xh_model.proofs.Lengths.{length_is}
+use Rattle.xh_arena.proofs.Common.{nat_tests, ◌++◌, ◌≡◌, ℕ, zero, suc, ◌+◌, ◌-◌, ◌≤◌, ◌<◌, List, [], ◌∷◌, length, map, set, Some, refl, sym, ap, ◌∙◌, subst, arith, slice_get, slice_set, Part}
+use Rattle.xh_arena.proofs.Common.{Books, Length, Moved, weigh, whole, AreOfOneWhole, part_in, below, under, with_length, with_taken, with_back, IsGoodCut, lengths_of, length_is, LotOf, VaultOf}
+use Rattle.xh_arena.proofs.Common.{Move, AreSummed, Booked, moved, moves_of, back_of, workers_of, vault_parts, booked, Balanced}
 use Rattle.xh_arena.specs.Sharing.{IsLotOf}
-use Rattle.xh_arena.specs.Views.{LotOf, VaultOf, Move, AreSummed}
-use Rattle.xh_arena.specs.inner.Books.{Booked, moved, moves_of, back_of, workers_of, vault_parts, booked, Balanced}
 use Rattle.xh_arena.proofs.Weights.{weigh-append, weigh-set, weigh-at, weigh-none, weigh_sum}
 use Rattle.xh_arena.proofs.Wholes.{weigh-whole, weigh-listed, listed-none, lot_stands, tally_stands, books_stand}
 

@@ -1,14 +1,8 @@
 -- A part that stands in a whole is the whole's, and a changed part makes another whole.
-use Rattle.std.proofs.lemmas.Bool.Decides.{nat_tests}
-use Rattle.std.proofs.Common.{◌≡◌, ℕ, zero, suc, ◌+◌, ◌≤◌, Bool, true, false, ◌&&◌, cond, eqb, List, [], ◌∷◌, ◌++◌, length, set, Option, Some, None, refl, arith}
-use Rattle.std.specs.Prelude.{slice_get}
+use Rattle.xh_arena.proofs.Common.{nat_tests, ◌≡◌, ℕ, zero, suc, ◌+◌, ◌≤◌, Bool, true, false, ◌&&◌, cond, eqb, List, [], ◌∷◌, ◌++◌, length, set, Option, Some, None, refl, arith, slice_get}
+use Rattle.xh_arena.proofs.Common.{and_parts, Decides-eqb, Part, Books, Length, Moved, weigh, listed, lots_from, tallies_from, books, whole, AreOneWhole}
 use lib.Pointwise.{pointwise}
 use Rattle.std.proofs.lemmas.Slice.Eq.{slice_eq-Decides}
-use Rattle.std.proofs.lemmas.Bool.{and_parts}
-use Rattle.std.proofs.lemmas.Bool.Decides.{Decides-eqb}
-use Rattle.xh_arena.specs.declared.parts.Part.{Part}
-use Rattle.xh_arena.specs.declared.parts.Part.TheVariants.{Books, Length, Moved}
-use Rattle.xh_arena.specs.inner.Parts.{weigh, listed, lots_from, tallies_from, books, whole, AreOneWhole}
 use Rattle.xh_arena.proofs.Weights.{weigh-append}
 
 pub weigh-whole : (h : Part → ℕ) (ls : List ℕ) (ts : List (ℕ × ℕ)) → weigh h (whole ls ts) ≡ weigh h (lots_from 0 ls) + (weigh h (tallies_from 0 ts) + h (books ls ts))

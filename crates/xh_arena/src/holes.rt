@@ -33,6 +33,7 @@ fn place_of(holes: &[(u32, u32)], start: u32) -> usize
 }
 
 /// Takes `n` bytes from the front of the hole at `at`, and says where they begin.
+#[tactic(auto, using(crate::proofs::HoleRuns::refilled, crate::proofs::HoleRuns::shrunk_set))]
 pub(crate) fn take_front(holes: &mut Holes, at: usize, n: u32) -> u32
     requires in_list { at < length holes.old.items }
     requires fits { n ≤ (slice_index_or holes.old.items at (0, 0)).1 }

@@ -1,5 +1,4 @@
-use Rattle.std.proofs.Common.{◌+◌, ◌<◌, ap, ◌∙◌, get_or, length, arith}
-use Rattle.std.specs.Prelude.{remove}
+use Rattle.xh_arena.proofs.Common.{◌+◌, ◌<◌, ap, ◌∙◌, get_or, length, arith, remove}
 use Rattle.xh_arena.proofs.HoleRuns.{refilled, joined}
 use Rattle.xh_arena.proofs.holes.join_next.Goals as goal
 

@@ -1,6 +1,5 @@
+use Rattle.xh_arena.proofs.Common.{rules, nat_lt, ◌+◌}
 use Rattle.std.proofs.lemmas.List.Sorted.{IsPartitionedBy-ltb, IsPartitionPoint-from_clause}
-use Rattle.std.proofs.Common.{rules}
-use Rattle.std.specs.Prelude.{nat_lt, ◌+◌}
 use Rattle.xh_arena.proofs.Steps.{parted_place}
 use Rattle.xh_arena.proofs.holes.place_of.Goals as goal
 

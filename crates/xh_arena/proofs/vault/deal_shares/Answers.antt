@@ -1,9 +1,5 @@
-use Rattle.std.proofs.Common.{arith}
-use Rattle.std.proofs.lemmas.Bool.Decides.{nat_tests}
-use Rattle.std.proofs.Common.{◌++◌, [], ◌∷◌, drop, replicate, sym, ap, ◌∙◌, subst}
+use Rattle.xh_arena.proofs.Common.{arith, nat_tests, sym, ◌∙◌, subst, AreLots}
 use Rattle.atomic_table.specs.Seated.{TableId}
-use Rattle.xh_arena.specs.Views.{AreLots}
-use Rattle.xh_arena.specs.inner.Parts.{lots_from, tallies_from}
 use Rattle.xh_arena.proofs.Dealt.{drop_lots, drop_tallies, new_books}
 use Rattle.xh_arena.proofs.vault.deal_shares.Goals as goal
 

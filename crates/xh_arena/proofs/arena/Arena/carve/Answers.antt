@@ -1,9 +1,5 @@
-use Rattle.std.proofs.lemmas.Bool.Decides.{nat_tests}
-use Rattle.std.proofs.Common.{◌<◌, ◌+◌, ◌-◌, ◌≤◌, sym, ◌∙◌, arith, rules, refl, ap}
-use Rattle.std.specs.Box.{boxed_slice_items}
-use Rattle.std.specs.Prelude.{Err, slice_index_or}
+use Rattle.xh_arena.proofs.Common.{nat_tests, ◌<◌, ◌+◌, ◌-◌, ◌≤◌, sym, ◌∙◌, arith, rules, refl, ap, boxed_slice_items, Err, slice_index_or, carved_length, carved_others}
 use Rattle.std.proofs.lemmas.List.{length-set}
-use Rattle.xh_model.proofs.Calls.{carved_length, carved_others}
 use Rattle.xh_arena.proofs.Kept.{kept-lawful}
 use Rattle.xh_arena.proofs.Steps.{Carved, carved_by, no_space, holes_within}
 use Rattle.xh_arena.proofs.Refusing.{not_refused, only_no_space, only_worn}

@@ -1,9 +1,5 @@
-use Rattle.std.proofs.lemmas.Bool.Decides.{nat_tests}
-use Rattle.std.proofs.Common.{◌<◌, set, refl, arith}
-use Rattle.std.specs.Box.{boxed_slice_items}
-use Rattle.std.proofs.lemmas.Bool.{false≢true}
+use Rattle.xh_arena.proofs.Common.{nat_tests, ◌<◌, set, refl, arith, boxed_slice_items, false≢true, cut_others}
 use Rattle.std.proofs.lemmas.List.{length-set}
-use Rattle.xh_model.proofs.Calls.{cut_others}
 use Rattle.xh_arena.proofs.Kept.{kept-lawful}
 use Rattle.xh_arena.proofs.Steps.{CutDone, cut_by, length_read}
 use Rattle.xh_arena.proofs.arena.Arena.cut.Goals as goal

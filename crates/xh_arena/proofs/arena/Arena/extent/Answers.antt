@@ -1,9 +1,4 @@
-use Rattle.std.proofs.Common.{arith}
-use Rattle.std.proofs.lemmas.Bool.Decides.{nat_tests}
-use Rattle.std.proofs.Common.{◌<◌, ℕ, length, refl, ap, sym, ◌∙◌}
-use Rattle.std.specs.Box.{boxed_slice_items}
-use Rattle.std.proofs.lemmas.List.{get_or_read}
-use Rattle.std.proofs.lemmas.Bool.{eq-eqb, ne_eqb}
+use Rattle.xh_arena.proofs.Common.{arith, nat_tests, ◌<◌, ℕ, length, refl, ap, sym, ◌∙◌, boxed_slice_items, get_or_read, eq-eqb, ne_eqb}
 use Rattle.xh_arena.proofs.Kept.{read-run_of, kept-length_of}
 use Rattle.xh_arena.proofs.arena.Arena.extent.Goals as goal
 

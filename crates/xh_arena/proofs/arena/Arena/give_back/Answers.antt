@@ -1,7 +1,5 @@
-use Rattle.std.proofs.Common.{refl}
-use Rattle.std.specs.Box.{boxed_slice_items}
+use Rattle.xh_arena.proofs.Common.{refl, boxed_slice_items, back_length, back_others}
 use Rattle.std.proofs.lemmas.List.{length-set}
-use Rattle.xh_model.proofs.Calls.{back_length, back_others}
 use Rattle.xh_arena.proofs.Kept.{kept-lawful}
 use Rattle.xh_arena.proofs.Steps.{BackDone, back_by, holes_within, holes_rising}
 use Rattle.xh_arena.proofs.Room.{holes_room}

@@ -1,5 +1,4 @@
-use Rattle.std.proofs.lemmas.Bool.Decides.{nat_tests}
-use Rattle.std.proofs.Common.{◌∙◌, arith}
+use Rattle.xh_arena.proofs.Common.{nat_tests, ◌∙◌, arith}
 use Rattle.xh_arena.proofs.Kept.{kept-lawful, kept-holes}
 use Rattle.xh_arena.proofs.Room.{holes_by_records}
 use Rattle.xh_arena.proofs.Steps.{kept-all_holes}

@@ -1,7 +1,4 @@
-use Rattle.std.proofs.Common.{◌≤◌, refl, arith, rules}
-use Rattle.std.proofs.lemmas.List.{length-replicate}
-use Rattle.xh_model.specs.Arena.{AreLimits}
-use Rattle.xh_model.proofs.Lengths.{none_of}
+use Rattle.xh_arena.proofs.Common.{◌≤◌, refl, arith, rules, length-replicate, AreLimits, none_of}
 use Rattle.xh_arena.proofs.Kept.{kept-lawful}
 use Rattle.xh_arena.proofs.Steps.{new-kept, new-cover}
 use Rattle.xh_arena.proofs.arena.Arena.new.Goals as goal

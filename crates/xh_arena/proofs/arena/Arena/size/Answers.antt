@@ -1,7 +1,4 @@
-use Rattle.std.proofs.Common.{sym}
-use Rattle.std.specs.Box.{boxed_slice_items}
-use Rattle.std.proofs.lemmas.List.FromFn.{length-map-range_with_len}
-use Rattle.xh_arena.specs.inner.Layout.{owner_of}
+use Rattle.xh_arena.proofs.Common.{sym, boxed_slice_items, length-map-range_with_len, owner_of}
 use Rattle.xh_arena.proofs.arena.Arena.size.Goals as goal
 
 pub returns-clause-size : goal.returns-clause-size

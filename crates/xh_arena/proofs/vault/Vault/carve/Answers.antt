@@ -1,8 +1,4 @@
-use Rattle.std.proofs.Common.{List, Some, sym, ap, ◌∙◌, subst, arith}
-use Rattle.xh_model.proofs.Calls.{carved_wear, carved_limit, carved_lengths}
-use Rattle.xh_model.proofs.Lengths.{length_is}
-use Rattle.xh_arena.specs.inner.Books.{booked, Balanced}
-use Rattle.xh_arena.specs.declared.parts.Part.{Part}
+use Rattle.xh_arena.proofs.Common.{List, Some, sym, ap, ◌∙◌, subst, arith, carved_wear, carved_limit, carved_lengths, length_is, booked, Balanced, Part}
 use Rattle.xh_arena.proofs.Shown.{lot_known, lot_of, CarveShown, carve_shown}
 use Rattle.xh_arena.proofs.vault.Vault.carve.Goals.{After-take_by}
 use Rattle.xh_arena.proofs.vault.Vault.carve.Goals as goal

@@ -1,6 +1,4 @@
-use Rattle.std.proofs.Common.{sym, ap, ◌∙◌, subst}
-use Rattle.xh_arena.specs.inner.Parts.{AreOfOneWhole}
-use Rattle.xh_arena.specs.inner.Books.{Balanced, booked}
+use Rattle.xh_arena.proofs.Common.{sym, ap, ◌∙◌, subst, AreOfOneWhole, Balanced, booked}
 use Rattle.xh_arena.proofs.Shown.{collect_kept}
 use Rattle.xh_arena.proofs.vault.Vault.collect.Goals as goal
 

@@ -1,9 +1,4 @@
-use Rattle.std.proofs.Common.{Some, ℕ, ◌-◌, sym, ap, ◌∙◌, subst, arith}
-use Rattle.std.specs.Prelude.{slice_set}
-use Rattle.xh_model.specs.Arena.{IsGoodCut, lengths_of}
-use Rattle.xh_model.proofs.Calls.{cut_wear, cut_limit, cut_lengths}
-use Rattle.xh_model.proofs.Lengths.{length_is}
-use Rattle.xh_arena.specs.inner.Books.{booked}
+use Rattle.xh_arena.proofs.Common.{Some, ℕ, ◌-◌, sym, ap, ◌∙◌, subst, arith, slice_set, IsGoodCut, lengths_of, cut_wear, cut_limit, cut_lengths, length_is, booked}
 use Rattle.xh_arena.proofs.Shown.{CutShown, lot_seen, cut_shown}
 use Rattle.xh_arena.proofs.vault.Vault.cut.Goals.{After-set_length_of-2}
 use Rattle.xh_arena.proofs.vault.Vault.cut.Goals as goal

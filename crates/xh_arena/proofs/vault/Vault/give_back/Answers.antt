@@ -1,8 +1,4 @@
-use Rattle.std.proofs.Common.{ℕ, ◌<◌, sym, ap, ◌∙◌, subst, arith}
-use Rattle.xh_model.specs.Arena.{lengths_of}
-use Rattle.xh_model.proofs.Calls.{back_wear, back_limit, back_lengths}
-use Rattle.xh_model.proofs.Lengths.{length_is}
-use Rattle.xh_arena.specs.inner.Books.{booked}
+use Rattle.xh_arena.proofs.Common.{ℕ, ◌<◌, sym, ap, ◌∙◌, subst, arith, lengths_of, back_wear, back_limit, back_lengths, length_is, booked}
 use Rattle.xh_arena.proofs.Shown.{lot_known, lot_of, back_shown}
 use Rattle.xh_arena.proofs.Weights.{weigh-at}
 use Rattle.xh_arena.proofs.vault.Vault.give_back.Goals as goal

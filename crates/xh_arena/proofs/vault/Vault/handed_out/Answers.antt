@@ -1,9 +1,4 @@
-use Rattle.std.proofs.Common.{arith}
-use Rattle.std.proofs.lemmas.Bool.Decides.{nat_tests}
-use Rattle.std.proofs.Common.{◌+◌, sym, ap, ◌∙◌}
-use Rattle.xh_model.specs.Arena.{lengths_of}
-use Rattle.xh_model.proofs.Lengths.{sum-lengths}
-use Rattle.xh_arena.specs.inner.Books.{back_of}
+use Rattle.xh_arena.proofs.Common.{arith, nat_tests, sym, ◌∙◌, sum-lengths}
 use Rattle.xh_arena.proofs.Weights.{weigh_all}
 use Rattle.xh_arena.proofs.vault.Vault.handed_out.Goals as goal
 
