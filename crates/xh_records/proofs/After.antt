@@ -1,17 +1,9 @@
 -- What is done on the ownership is what the core's events do.
-use Rattle.std.proofs.Common.{arith}
-use Rattle.std.proofs.lemmas.Bool.Decides.{nat_tests}
-use Rattle.std.proofs.Common.{◌≡◌, ℕ, eq-eqb, ◌%◌, ◌<◌, Bool, true, cond, length, set, refl, ap, ◌∙◌}
-use Rattle.std.specs.Prelude.{Option, None, ◌==◌}
+use Rattle.xh_records.proofs.Common.{arith, nat_tests, ◌≡◌, ℕ, eq-eqb, ◌%◌, ◌<◌, Bool, true, cond, length, set, refl, ap, ◌∙◌, Option, None, ◌==◌, Holder, Event, Claim, Carve, Cut, GiveBack}
+use Rattle.xh_records.proofs.Common.{Vacate, Pass, Accept, index_of, AreOwners, Ownership, IsHeldBy, IsHolder, IsDone, record_of, from_of, to_of, Wants, IsAfter}
 use Rattle.std.proofs.lemmas.Bool.{lt-ltb}
-use Rattle.xh_model.specs.declared.event.Holder.{Holder}
-use Rattle.xh_model.specs.declared.event.Event.{Event}
-use Rattle.xh_model.specs.declared.event.Event.TheVariants.{Claim, Carve, Cut, GiveBack, Vacate, Pass, Accept}
 use Rattle.xh_model.specs.Store.{Store, owner, arena_of, len, can, change, after}
-use Rattle.xh_model.specs.Slots.{index_of, AreOwners}
-use Rattle.xh_model.specs.Words.{Ownership, IsHeldBy, IsHolder, IsDone, record_of, from_of, to_of}
 use Rattle.xh_model.proofs.Slots.{assigned}
-use Rattle.xh_records.specs.After.{Wants, IsAfter}
 use Rattle.xh_records.proofs.Elements.{in_range, nth_is}
 
 -- an event that can be done changes the store

@@ -1,12 +1,6 @@
 -- Lists in which no number stands twice.
-use Rattle.std.proofs.lemmas.Bool.Decides.{nat_tests}
-use Rattle.std.proofs.Common.{◌≡◌, ℕ, zero, suc, ◌+◌, ◌<◌, ◌≤◌, List, [], ◌∷◌, ◌++◌, map, length, sym, refl, subst, inl, inr, arith}
-use mathlib.Core.Logic.{dite}
-use Rattle.xh_model.specs.Words.{place_of}
-use Rattle.xh_model.specs.Keyed.{Among, Distinct}
-use Rattle.xh_model.proofs.Keyed.{among_back, among_either, among_front, dec_among}
-use Rattle.xh_records.specs.inner.Views.{places_from}
-use Rattle.xh_records.specs.inner.Tokens.{AllBelow}
+use Rattle.xh_records.proofs.Common.{nat_tests, ◌≡◌, ℕ, zero, suc, ◌+◌, ◌<◌, ◌≤◌, List, [], ◌∷◌, ◌++◌, map, length, sym, refl, subst, inl, inr, arith, dite, place_of, Among, Distinct, among_back}
+use Rattle.xh_records.proofs.Common.{among_either, among_front, dec_among, places_from, AllBelow}
 use Rattle.xh_records.proofs.Elements.{either_way, among_map}
 use Rattle.xh_records.proofs.Lists.{few}
 

@@ -1,39 +1,18 @@
 -- The closed table: its words, the lots at home, and those that the seats had.
-use Rattle.std.proofs.lemmas.Bool.Decides.{nat_tests}
-use Rattle.std.proofs.Common.{◌≡◌, ℕ, zero, suc, ◌*◌, ◌<◌, map, length-append, Bool, List, [], ◌∷◌, ◌++◌, length, take, get_or, sym, ap, ◌∙◌, subst, arith, rules, mod-lt}
-use Rattle.std.proofs.lemmas.List.{length-map}
-use Rattle.std.specs.Prelude.{Option, Some, None, slice_get}
+use Rattle.xh_records.proofs.Common.{nat_tests, ◌≡◌, ℕ, zero, suc, ◌*◌, ◌<◌, map, length-append, Bool, List, [], ◌∷◌, ◌++◌, length, take, get_or, sym, ap, ◌∙◌, subst, arith, rules, mod-lt}
+use Rattle.xh_records.proofs.Common.{length-map, Option, Some, None, slice_get, at_index, some, some-injective, some-ne-none, dite, ℕ_discrete, get_elem?, State, Final, Seen, LotOf, Holder}
+use Rattle.xh_records.proofs.Common.{Process, Direction, index_of, Ownership, IsHeldBy, word_of, place_of, number_of, index_back, Among, Distinct, keys, among_back, among_either, among_front}
+use Rattle.xh_records.proofs.Common.{at_key, Shape, View, by_place, IsLotAt, Sits, ViewFits, Shows, Shown, IsSmall, Held, owned_by, indices, lot_in, view_of, Ends, EndsAs, IsAway, IsHomeLot}
+use Rattle.xh_records.proofs.Common.{spent, slot_at, or_else, IsGathered}
 use Rattle.std.specs.Option.{option_or, IsSome}
-use Rattle.atomic_table.proofs.Lists.{at_index}
-use mathlib.Core.Option.{some, some-injective, some-ne-none}
-use mathlib.Core.Logic.{dite}
-use native.Mathlib.Decide.{ℕ_discrete}
-use lib.ListN.{get_elem?}
-use Rattle.atomic_table.specs.Table.{State, Final, Seen}
-use Rattle.xh_arena.specs.Views.{LotOf}
-use Rattle.xh_model.specs.declared.event.Holder.{Holder}
-use Rattle.xh_model.specs.declared.event.Holder.TheVariants.{Process, Direction}
-use Rattle.xh_model.specs.Slots.{index_of}
-use Rattle.xh_model.specs.Words.{Ownership, IsHeldBy, word_of, place_of, number_of}
-use Rattle.xh_model.proofs.Words.{index_back}
-use Rattle.xh_model.specs.Keyed.{Among, Distinct, keys}
-use Rattle.xh_model.proofs.Keyed.{among_back, among_either, among_front, at_key}
-use Rattle.xh_records.specs.declared.shape.Shape.{Shape}
-use Rattle.xh_records.specs.declared.view.View.{View}
-use Rattle.xh_records.specs.History.{by_place}
-use Rattle.xh_records.specs.Showing.{IsLotAt, Sits, ViewFits, Shows, Shown, IsSmall}
-use Rattle.xh_records.specs.Seats.{Held, owned_by, indices, lot_in, view_of, Ends, EndsAs}
-use Rattle.xh_records.specs.inner.Events.{IsAway, IsHomeLot}
-use Rattle.xh_records.specs.inner.Views.{spent}
-use Rattle.xh_records.specs.inner.Gathering.{slot_at, or_else, IsGathered}
 use Rattle.xh_records.proofs.Elements.{either_way, in_range, is_there, only_one, elem_slice, slice_elem, nth_is, among_map}
 use Rattle.xh_records.proofs.Keeps.{home_lot, one_holder, same_place, never}
 use Rattle.xh_records.proofs.Lists.{among_owned, none_or_some}
 use Rattle.xh_records.proofs.Distinct.{process_in, not_twice, distinct_front, covers}
 
--- each place has its seat among these
-abbrev AllSit : {B : Type 0} → ℕ → List (Held B) → Type 0
-AllSit {B} places seats = (q : ℕ) → q < places → (j : ℕ) × (x : Held B) × (slice_get seats j ≡ Some x) × (place_of x.process ≡ q)
+among_owned_back : (q : ℕ) (xs : List ℕ) (r p : ℕ) → Among (owned_by q xs) (r, p) → Among xs r
+among_owned_back q [] r p h = absurd h
+among_owned_back q (x ∷ xs) r p h = grind (arith, nat_tests, among_owned_back q xs r p)
 
 -- one more seat is gathered
 pub gathers : {B : Type 0} (m : ℕ) (seats : List (Held B)) (x : Held B) (v v' : View) (held held' : List (Option (LotOf B))) → get_elem? seats m ≡ some x → IsGathered (suc m) seats v held
@@ -52,15 +31,14 @@ gathers {B} m seats x v v' held held' at old places records lists did long has f
       (λ n. old.one (distinct_front v.processes x.process d') i j y z at_y at_z (omega arith) (omega arith) e));
   sits = λ k y there le. grind (arith, nat_tests, among_back, among_front);
   fronts = λ k y there le. grind (arith, nat_tests, among_back, among_front);
-  records = λ r p owns. grind (arith, nat_tests, among_either);
+  records = λ r p owns. either_way (among_either v.records (view_of x).records (r, p) (subst (λ (l : List (ℕ × ℕ)). Among l (r, p)) records owns))
+      (λ a. let t = old.records r p a in (t.0, t.1, t.2, t.3, omega (arith, t.4), t.5))
+      (λ b. let l = has r (among_owned_back x.process (indices x) r p b) in (m, x, l.0, at, omega arith, l.1));
   all_records = λ k r p y there le owns. dite (ℕ_discrete k m)
       (λ e. subst (λ (l : List (ℕ × ℕ)). Among l (r, p)) (sym records) (among_back v.records (view_of x).records (r, p)
       (subst (λ (z : Held B). Among (view_of z).records (r, p)) (same k y e there) owns)))
       (λ n. subst (λ (l : List (ℕ × ℕ)). Among l (r, p)) (sym records) (among_front v.records (view_of x).records (r, p) (old.all_records k r p y there (omega arith) owns)));
   lots = λ r l below e. grind (arith, nat_tests, none_or_some);
-  full = λ k r y there le h. dite (ℕ_discrete k m)
-      (λ e. subst (λ (z : Held B). (l : LotOf B) × (lot_in r z ≡ Some l)) (sym (same k y e there)) (has r (subst (λ (z : Held B). Among (indices z) r) (same k y e there) h)))
-      (λ n. old.full k r y there (omega arith) h);
   all_lots = λ k r y l there le e below. let inside : r < length held = omega arith in either_way (none_or_some (lot_in r x))
       (λ a. dite (ℕ_discrete k m) (λ q. let f : None ≡ Some l = sym a ∙ ap (λ (z : Held B). lot_in r z) (sym (same k y q there)) ∙ e in absurd (cc))
       (λ n. let t = old.all_lots k r y l there (omega arith) e inside in (t.0, fill r inside ∙ ap (λ (z : Option (LotOf B)). or_else z (slot_at held r)) a ∙ t.1)))
@@ -82,13 +60,8 @@ gathers_none {B} seats m held past none_there = record {
   records = λ r p owns. absurd owns;
   all_records = λ k r p y there le owns. absurd (let i = in_range seats k y there in omega arith);
   lots = λ r l below e. let f : None ≡ Some l = sym (none_there r below) ∙ e in absurd (cc);
-  full = λ k r y there le h. absurd (let i = in_range seats k y there in omega arith);
   all_lots = λ k r y l there le e below. absurd (let i = in_range seats k y there in omega arith);
 }
-
-owned_back : (q : ℕ) (xs : List ℕ) (r p : ℕ) → Among (owned_by q xs) (r, p) → Among xs r × (p ≡ q)
-owned_back q [] r p h = absurd h
-owned_back q (x ∷ xs) r p h = grind (arith, nat_tests, owned_back q xs r p)
 
 has_index : {B : Type 0} (x : Held B) (k : ℕ) (l : LotOf B) → IsSmall x.shape → lot_in k x ≡ Some l → Among (indices x) k
 has_index x k l small e = let n : ℕ = x.shape.records in
@@ -115,14 +88,14 @@ module _ {B : Type 0} (fits : B → ℕ → Bool) (s : Shape) (id : ℕ) (v : Vi
   fit = shown.views_fit id v final.1.1
 
   -- each place has its seat
-  all : AllSit s.places seats
+  all : (q : ℕ) → q < s.places → (j : ℕ) × (x : Held B) × (get_elem? seats j ≡ some x) × (place_of x.process ≡ q)
   all q inside =
       let places : List ℕ = map place_of v.processes in
       let long : length places ≡ s.places = length-map v.processes place_of ∙ (let c = gathered.count in let e = every in omega arith) in
-      let below : (x : ℕ) → Among places x → x < s.places = λ x h. let r = process_in v.processes x h in subst (λ (z : ℕ). z < s.places) r.2 (shown.alone id r.0 v final.1.1 r.1).0 in
+      let below : (x : ℕ) → Among places x → x < s.places = λ x h. let r = process_in v.processes x h in subst (λ (z : ℕ). z < s.places) r.2 (shown.inside id r.0 v final.1.1 r.1).0 in
       let r = process_in v.processes q (covers s.places places fit.places below long q inside) in
       let t = gathered.each r.0 r.1 in
-      (t.0, t.1, elem_slice seats t.0 t.1 t.2, ap place_of t.3 ∙ r.2)
+      (t.0, t.1, t.2, ap place_of t.3 ∙ r.2)
 
   count : length o ≡ length held
   count = sym shown.homes_long ∙ final.3 ∙ sym long
@@ -138,17 +111,13 @@ module _ {B : Type 0} (fits : B → ℕ → Bool) (s : Shape) (id : ℕ) (v : Vi
   by_process : (k p : ℕ) → IsHeldBy o k (Some (Process p)) → (j : ℕ) × (x : Held B) × (get_elem? seats j ≡ some x) × (x.process ≡ p) × (l : LotOf B) × (lot_in k x ≡ Some l)
       × (slot_at held k ≡ Some l)
   by_process k p is =
-      let at = shown.placed k p is in
-      let there = all (place_of p) at.0 in
-      let sits_there : Sits v there.1.process = gathered.sits there.0 there.1 (slice_elem seats there.0 there.1 there.2) (omega arith) in
-      let alone = shown.alone id there.1.process v final.1.1 sits_there in
-      let one : there.1.process ≡ p = alone.1 ∙ ap shown.process_at there.3 ∙ sym at.1 in
+      let there = all (place_of p) (shown.placed k p is) in
+      let sits_there : Sits v there.1.process = gathered.sits there.0 there.1 there.2 (omega arith) in
+      let one : there.1.process ≡ p = shown.latest k p id there.1.process v is final.1.1 sits_there there.3 in
       let sits : Sits v p = subst (λ (q : ℕ). Sits v q) one sits_there in
       let owner = gathered.records k p (fit.owns_all k p is sits) in
-      let back = owned_back owner.1.process (indices owner.1) k p owner.4 in
-      let full = gathered.full owner.0 k owner.1 owner.2 (omega arith) back.0 in
       let inside : k < length held = (let i = in_range o k (Some (Process p)) is in let e : length o ≡ length held = count in omega arith) in
-      let taken = gathered.all_lots owner.0 k owner.1 full.0 owner.2 (omega arith) full.1 inside in
+      let taken = gathered.all_lots owner.0 k owner.1 owner.2 owner.3 (omega arith) owner.5 inside in
       let from = gathered.lots k taken.0 inside taken.1 in
       let held_by = by_seat from.0 k from.1 taken.0 from.2 from.4 in
       let same : from.1.process ≡ p = sym (same_place p from.1.process (ap word_of (one_holder o k (Some (Process p)) (Some (Process from.1.process)) is held_by))) in

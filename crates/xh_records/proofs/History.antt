@@ -1,20 +1,9 @@
 -- The log of all events, as it grows, and the views' fronts.
-use Rattle.std.proofs.lemmas.Bool.Decides.{nat_tests}
-use Rattle.std.proofs.Common.{◌≡◌, ℕ, ◌<◌, ◌≢◌, Bool, List, [], ◌∷◌, ◌++◌, length, set, sym, refl, ap, ◌∙◌, subst, inl, inr, eq-eqb, ne_eqb, cond, arith, append_assoc, append-nil, mod-lt}
-use mathlib.Core.Option.{some}
-use lib.ListN.{get_elem?}
-use Rattle.atomic_table.proofs.Lists.{at_set}
-use Rattle.xh_model.specs.declared.event.Event.{Event}
-use Rattle.xh_model.specs.Words.{Ownership, IsDone, place_of}
-use Rattle.xh_model.specs.Keyed.{Among}
-use Rattle.xh_model.proofs.Keyed.{among_either}
-use Rattle.xh_records.specs.declared.shape.Shape.{Shape}
-use Rattle.xh_records.specs.declared.view.View.{View}
-use Rattle.xh_records.specs.After.{IsAfter}
-use Rattle.xh_records.specs.History.{Grows, IsOneLog, LeadsTo, StartsWith, all_free, by_place, process_of}
-use Rattle.xh_records.specs.Showing.{Sits, ViewTells, IsHistory}
+use Rattle.xh_records.proofs.Common.{nat_tests, ◌≡◌, ℕ, ◌<◌, ◌≢◌, Bool, List, [], ◌∷◌, ◌++◌, length, set, get_or, sym, refl, ap, ◌∙◌, subst, inl, inr, eq-eqb, ne_eqb, cond, arith, append_assoc}
+use Rattle.xh_records.proofs.Common.{append-nil, mod-lt, some, get_elem?, at_set, Event, Ownership, IsDone, place_of, Among, among_either, Shape, View, IsAfter, Grows, IsOneLog, LeadsTo}
+use Rattle.xh_records.proofs.Common.{StartsWith, all_free, by_place, process_of, Sits, ViewTells, IsHistory, IsOthers, IsAlone, adds, first_front, front_in, no_events, tail_of}
 use Rattle.xh_records.proofs.Elements.{either_way, only_one}
-use Rattle.xh_records.specs.inner.Views.{IsAlone, adds, first_front, front_in, no_events, tail_of}
+use Rattle.xh_records.specs.inner.Steps.{process_in}
 
 -- one more event
 pub leads_more : (n : ℕ) (o m o' : Ownership) (log : List Event) (e : Event) → LeadsTo n o log m → IsDone n m e o' → IsAfter n m e o' → LeadsTo n o (log ++ e ∷ []) o'
@@ -76,16 +65,22 @@ tells_all log w p sits one = record {
 -- what the seat of a process hasn't seen of the log is of others, and what it has seen once it did its own
 pub record Unseen (log : List Event) (v : View) (p : ℕ) : Type 0 where
   pub others : List Event
-  pub by : by_place (place_of p) others ≡ []
+  pub sits : Sits v p
+  pub placed : process_in v ≡ p
+  pub by : IsOthers v others
   pub now : (own : List Event) → adds (others ++ own) v.fronts ≡ (place_of p, log ++ own) ∷ []
 
 pub unseen : (log : List Event) (v : View) (p : ℕ) → ViewTells log v → IsAlone v p → Unseen log v p
 unseen log v p tells alone =
     let q : ℕ = place_of p in let f : List Event = front_in v in
     let there : Among v.fronts (q, f) = subst (λ (z : List (ℕ × List Event)). Among z (q, f)) (sym alone.1) (inl refl) in
+    let placed : process_in v ≡ p = ap (λ (l : List ℕ). get_or l 0 0) alone.0 in
     let more = tells.begins q f there in record {
       others = more.0;
-      by = no_more (by_place q f) (by_place q more.0) ((tells.only q f there (mod-lt p (omega arith))).3 ∙ ap (by_place q) more.1 ∙ by_place_append q f more.0);
+      sits = subst (λ (k : List ℕ). Among k p) (sym alone.0) (inl refl);
+      placed = placed;
+      by = ap (λ (x : ℕ). by_place (place_of x) more.0) placed
+          ∙ no_more (by_place q f) (by_place q more.0) ((tells.only q f there (mod-lt p (omega arith))).3 ∙ ap (by_place q) more.1 ∙ by_place_append q f more.0);
       now = λ own. ap (adds (more.0 ++ own)) alone.1 ∙ ap (λ (z : List Event). (q, z) ∷ []) (sym (append_assoc f more.0 own) ∙ ap (λ (z : List Event). z ++ own) (sym more.1));
     }
 

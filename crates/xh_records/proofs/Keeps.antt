@@ -1,34 +1,14 @@
 -- A step on one record's word keeps the rule.
-use Rattle.std.proofs.lemmas.Bool.Decides.{nat_tests}
-use Rattle.std.proofs.Common.{◌≡◌, ℕ, ◌%◌, ◌<◌, ◌≢◌, Bool, List, [], ◌∷◌, ◌++◌, map, length, set, get_or, eqb, sym, refl, ap, ◌∙◌, subst, inl, inr, arith, length-set, ne_eqb, eq-eqb, append-nil}
-use Rattle.std.specs.Prelude.{Option, Some, None}
-use mathlib.Core.Option.{none, some, some-injective, some-ne-none}
+use Rattle.xh_records.proofs.Common.{nat_tests, ◌≡◌, ℕ, ◌%◌, ◌<◌, ◌≢◌, Bool, List, [], ◌∷◌, ◌++◌, map, length, set, get_or, eqb, sym, refl, ap, ◌∙◌, subst, inl, inr, arith, length-set, ne_eqb}
+use Rattle.xh_records.proofs.Common.{eq-eqb, append-nil, Option, Some, None, none, some, some-injective, dite, ℕ_discrete, get_elem?, State, Me, Act, rest, put_back, takes, gives}
+use Rattle.xh_records.proofs.Common.{keeps, step, stepped, Allows, at_set, set_here, set_else, set_again, at_map, LotOf, Among, Distinct, without, among_back, among_either, among_front, Shape}
+use Rattle.xh_records.proofs.Common.{View, Holder, Process, Direction, Event, index_of, Ownership, IsHeldBy, IsHolder, IsDone, word_of, place_of, number_of, record_of, from_of, to_of}
+use Rattle.xh_records.proofs.Common.{word_injective, index_back, number_inside, LeadsTo, all_free, process_of, Sits, Owns, IsLotAt, HomeFits, ViewFits, ViewTells, IsSmall, Shows, Shown, Knows}
+use Rattle.xh_records.proofs.Common.{taking, giving, IsAway, IsHomeLot, IsAlone, first_front, gained, head_of, knowing, lost, SeesMore, took, gave, looked, compared}
 use mathlib.Core.Option as maybe
-use mathlib.Core.Logic.{dite}
-use native.Mathlib.Decide.{ℕ_discrete}
-use lib.ListN.{get_elem?}
 use lib.Seq.{map-set}
-use Rattle.atomic_table.specs.Table.{State, Me, Act, rest, put_back, takes, gives, keeps, step, stepped, Allows}
-use Rattle.atomic_table.proofs.Lists.{at_set, set_here, set_else, set_again, at_map}
-use Rattle.xh_arena.specs.Views.{LotOf}
-use Rattle.xh_model.specs.Keyed.{Among, Distinct, without}
-use Rattle.xh_model.proofs.Keyed.{among_back, among_either, among_front}
-use Rattle.xh_records.specs.declared.shape.Shape.{Shape}
-use Rattle.xh_records.specs.declared.view.View.{View}
-use Rattle.xh_model.specs.declared.event.Holder.{Holder}
-use Rattle.xh_model.specs.declared.event.Holder.TheVariants.{Process, Direction}
-use Rattle.xh_model.specs.declared.event.Event.{Event}
-use Rattle.xh_model.specs.Slots.{index_of}
-use Rattle.xh_model.specs.Words.{Ownership, IsHeldBy, IsHolder, IsDone, word_of, place_of, number_of, record_of, from_of, to_of}
-use Rattle.xh_model.proofs.Words.{word_injective, index_back, number_inside}
-use Rattle.xh_records.specs.History.{LeadsTo, all_free, by_place, process_of}
-use Rattle.xh_records.specs.Showing.{Sits, Owns, IsLotAt, HomeFits, ViewFits, ViewTells, IsSmall, Shows, Shown}
-use Rattle.xh_records.specs.Seats.{Knows}
-use Rattle.xh_records.specs.inner.Events.{taking, giving, IsAway, IsHomeLot}
-use Rattle.xh_records.specs.inner.Views.{IsAlone, first_front, gained, head_of, knowing, lost}
-use Rattle.xh_records.specs.inner.Steps.{IsOthers, SeesMore, took, gave, looked, compared, process_in}
 use Rattle.xh_records.proofs.History.{Unseen, more_history, one_log, tells_all, unseen}
-use Rattle.xh_records.proofs.Cuts.{reseats, still_alone, still_seated}
+use Rattle.xh_records.proofs.Cuts.{sat, shares_out, stands, still_seated}
 use Rattle.xh_records.proofs.After.{done_after}
 use Rattle.xh_records.proofs.Elements.{either_way, in_range, is_there, nth_is, only_one}
 use prog.Atomic.{either}
@@ -71,19 +51,19 @@ module _ {B : Type 0} (fits : B → ℕ → Bool) (s : Shape) (o : Ownership) (w
   sits : (p : ℕ) → Sits v p → Sits w p
   sits p = subst (λ (l : List ℕ). Among l p) (sym change.processes)
 
-  sat : (p : ℕ) → Sits w p → Sits v p
-  sat p = subst (λ (l : List ℕ). Among l p) change.processes
+  mine : (p : ℕ) → Sits w p → Sits v p
+  mine p = subst (λ (l : List ℕ). Among l p) change.processes
 
   mine_fits : ViewFits s o' w
   mine_fits = let old = shown.views_fit id v at in record {
     is_owner = λ r' p owns. grind (arith, nat_tests, here, sits, set_else);
-    owns_all = λ r' p is there. grind (arith, nat_tests, sat, at_set);
-    knows = λ p there. change.shape ∙ old.knows p (sat p there);
+    owns_all = λ r' p is there. grind (arith, nat_tests, mine, at_set);
+    knows = λ p there. change.shape ∙ old.knows p (mine p there);
     places = subst (λ (l : List ℕ). Distinct (map place_of l)) (sym change.processes) old.places;
   }
 
   apart : (j p : ℕ) (u : View) → j ≢ id → get_elem? vs j ≡ some u → Sits u p → Sits v p → ⊥
-  apart j p u other there a b = other ((shown.alone j p u there a).2 ∙ sym (shown.alone id p v at b).2)
+  apart j p u other there a b = other (shown.alone j id p p u v there at a b refl).0
 
   others_fit : (j : ℕ) (u : View) → j ≢ id → get_elem? vs j ≡ some u → ViewFits s o' u
   others_fit j u other there = let old = shown.views_fit j u there in record {
@@ -97,7 +77,7 @@ module _ {B : Type 0} (fits : B → ℕ → Bool) (s : Shape) (o : Ownership) (w
   done = subst (λ (z : ℕ × Option Holder × Option Holder). IsHeldBy o z.0 z.1 × (set o r k ≡ set o z.0 z.2)) (λ i. (sym by.index i, sym by.from i, sym by.to i)) (held, refl)
 
   elsewhere : (j p : ℕ) (u : View) → j ≢ id → get_elem? vs j ≡ some u → Sits u p → place_of (process_of e) ≢ place_of p
-  elsewhere j p u other there sits same = other ((shown.alone j p u there sits).2 ∙ ap shown.seat_of (sym same) ∙ sym (shown.alone id (process_of e) v at by.sits).2)
+  elsewhere j p u other there sits same = other (shown.alone j id p (process_of e) u v there at sits by.sits (sym same)).0
 
   pub moved : (y : maybe.Option (Option (LotOf B))) → IsHolder k → HomeFits fits s r k y → Shows fits s o' (set ws r (word_of k)) (set hs r y) (set vs id w)
   moved y good home = record {
@@ -105,16 +85,17 @@ module _ {B : Type 0} (fits : B → ℕ → Bool) (s : Shape) (o : Ownership) (w
     holders = λ r' g is. grind (arith, nat_tests, at_set);
     homes_long = length-set hs r y ∙ shown.homes_long ∙ sym (length-set o r k);
     homes_are = λ r' g is. grind (arith, nat_tests, set_here, in_range, set_else, at_set);
-    placed = λ r' p is. grind (arith, nat_tests, at_set);
-    process_at = shown.process_at;
-    seat_of = shown.seat_of;
+    placed = λ r' p is. grind (arith, nat_tests, at_set, shown.inside id p v at);
+    latest = λ r' p j q u is there sits same. let f = sat vs id v w at change.processes j q u there sits in grind (arith, nat_tests, at_set, shown.alone j id q p f.0 v f.1 at f.2);
     seated = still_seated fits s o ws hs vs shown id v w at change.processes;
-    alone = still_alone fits s o ws hs vs shown id v w at change.processes;
+    inside = λ j p u there sits. let f = sat vs id v w at change.processes j p u there sits in shown.inside j p f.0 f.1 f.2;
+    alone = λ i j p q u z there there' sits sits' same. let f = sat vs id v w at change.processes i p u there sits in let g = sat vs id v w at change.processes j q z there' sits' in
+        shown.alone i j p q f.0 g.0 f.1 g.1 f.2 g.2 same;
     views_fit = λ j u there. either_way (at_set vs id j w u there) (λ t. subst (ViewFits s o') t.1 mine_fits) (λ t. others_fit j u t.0 t.1);
     small = shown.small;
     log = shown.log ++ e ∷ [];
     history = more_history s o o' vs shown.log id w e shown.history done (done_after s.records o o' e by.inside (subst IsHolder (sym by.to) good) done) (length-set o r k)
-        (shown.alone id (process_of e) v at by.sits).0 (sits (process_of e) by.sits) by.front elsewhere;
+        (shown.inside id (process_of e) v at by.sits).0 (sits (process_of e) by.sits) by.front elsewhere;
   }
 
 pub among_without : (r : ℕ) (xs : List (ℕ × ℕ)) (x : ℕ × ℕ) → Among (without r xs) x → Among xs x × (x.0 ≢ r)
@@ -149,14 +130,14 @@ module _ {B : Type 0} (fits : B → ℕ → Bool) (s : Shape) where
   pub record At (t : State S View) (o : Ownership) (r : ℕ) : Type 0 where
     pub holder : Option Holder
     pub held : IsHeldBy o r holder
-    pub word_at : get_elem? t.words r ≡ some (word_of holder)
+    pub found : get_or t.words r 0 ≡ word_of holder
+    pub word_at : get_elem? t.words r ≡ some (get_or t.words r 0)
 
   pub at : (t : State S View) (o : Ownership) (r slots : ℕ) → Shows fits s o t.words t.homes t.views → length t.homes ≡ slots → r < slots → At t o r
-  at t o r slots shown long inside = let there = is_there o r (let e = shown.homes_long in omega arith) in record {
-    holder = there.0;
-    held = there.1;
-    word_at = subst (λ (l : List ℕ). get_elem? l r ≡ some (word_of there.0)) (sym shown.words_are) (at_map word_of o r there.0 there.1);
-  }
+  at t o r slots shown long inside =
+      let there = is_there o r (let e = shown.homes_long in omega arith) in
+      let word = subst (λ (l : List ℕ). get_elem? l r ≡ some (word_of there.0)) (sym shown.words_are) (at_map word_of o r there.0 there.1) in
+      let found = nth_is t.words r 0 (word_of there.0) word in record { holder = there.0; held = there.1; found = found; word_at = word ∙ ap some (sym found) }
 
   -- a step that leaves all but what its seat has seen as it was
   pub stays : (t : State S View) (id : ℕ) (me : M) (r : ℕ) (n : ℕ) (fronts : List (ℕ × List Event)) (holds : Shown fits s t) → get_elem? t.views id ≡ some me.0 → get_elem? t.words r ≡ some n
@@ -164,10 +145,11 @@ module _ {B : Type 0} (fits : B → ℕ → Bool) (s : Shape) where
   stays t id me r n fronts holds here word tells =
       let o = holds.0 in let shown = holds.1 in let v : View = me.0 in let w : View = record v { fronts = fronts } in let fit = shown.views_fit id v here in (
         o,
-        subst (λ (z : List ℕ). Shows fits s o z t.homes (set t.views id w)) (sym (set_again t.words r n word)) (reseats fits s o t.words t.homes t.views (set t.views id w) shown shown.process_at shown.seat_of
-            shown.placed
-            (still_seated fits s o t.words t.homes t.views shown id v w here refl)
-            (still_alone fits s o t.words t.homes t.views shown id v w here refl)
+        subst (λ (z : List ℕ). Shows fits s o z t.homes (set t.views id w)) (sym (set_again t.words r n word)) (shares_out fits s o t.words t.homes t.views (set t.views id w) shown
+            (λ j p u there sits. let f = sat t.views id v w here refl j p u there sits in (j, f.0, f.1, f.2))
+            (λ j p u there sits. let f = stands t.views id v w here refl j p u there sits in (j, f.0, f.1, f.2))
+            (λ i j p u z there there' sits sits'. let f = sat t.views id v w here refl i p u there sits in let g = sat t.views id v w here refl j p z there' sits' in
+            (shown.alone i j p p f.0 g.0 f.1 g.1 f.2 g.2 refl).0)
             (λ j u there. either_way (at_set t.views id j w u there)
             (λ x. subst (λ (z : View). ViewFits s o z × ViewTells shown.log z) x.1 (record { is_owner = fit.is_owner; owns_all = fit.owns_all; knows = fit.knows; places = fit.places }, tells))
             (λ x. (shown.views_fit j u x.1, shown.history.tells j u x.1)))),
@@ -202,22 +184,19 @@ module _ {B : Type 0} (fits : B → ℕ → Bool) (s : Shape) where
       → (w : View) × Shown fits s (stepped t r (get_or t.words r 0) id me.1 w keeps) × SeesMore r (get_or t.words r 0) me (w, me.1)
   a_look slots id me r p inside alone t holds long seen =
       let o = holds.0 in let shown = holds.1 in let a : At t o r = at t o r slots shown long inside in let n : ℕ = get_or t.words r 0 in
-      let found : n ≡ word_of a.holder = nth_is t.words r 0 (word_of a.holder) a.word_at in
       let fit = shown.views_fit id me.0 seen in
-      let sits : Sits me.0 p = subst (λ (k : List ℕ). Among k p) (sym alone.0) (inl refl) in
       let new_to_it : Unseen shown.log me.0 p = unseen shown.log me.0 p (shown.history.tells id me.0 seen) alone in
-      let placed : process_in me.0 ≡ p = ap (λ (l : List ℕ). get_or l 0 0) alone.0 in
       let w : View = knowing me.0 (new_to_it.others ++ []) in
       let front : w.fronts ≡ (place_of p, shown.log) ∷ [] = new_to_it.now [] ∙ ap (λ (z : List Event). (place_of p, z) ∷ []) (append-nil shown.log) in (
         w,
-        stays t id me r n w.fronts holds seen (a.word_at ∙ ap some (sym found)) (tells_all shown.log w p sits front),
+        stays t id me r n w.fronts holds seen a.word_at (tells_all shown.log w p new_to_it.sits front),
         (
           new_to_it.others,
-          ap (λ (x : ℕ). by_place (place_of x) new_to_it.others) placed ∙ new_to_it.by,
+          new_to_it.by,
           refl,
           (
-            knows_word o me.0 r n a.holder fit a.held (shown.holders r a.holder a.held) found,
-            (o, subst (λ (z : Shape × List Event). LeadsTo z.0.records (all_free (length o)) z.1 o) (λ i. (sym (fit.knows p sits) i, sym (ap first_front front) i)) shown.history.leads, a.holder, a.held, found),
+            knows_word o me.0 r n a.holder fit a.held (shown.holders r a.holder a.held) a.found,
+            (o, subst (λ (z : Shape × List Event). LeadsTo z.0.records (all_free (length o)) z.1 o) (λ i. (sym (fit.knows p new_to_it.sits) i, sym (ap first_front front) i)) shown.history.leads, a.holder, a.held, a.found),
           ),
         ),
       )
@@ -228,13 +207,9 @@ module _ {B : Type 0} (fits : B → ℕ → Bool) (s : Shape) where
   takes_lot slots id me r old new p h said is_old is_new free inside alone t holds long seen small =
       let mine : me.0.processes ≡ p ∷ [] = alone.0 in
       let o = holds.0 in let shown = holds.1 in let a : At t o r = at t o r slots shown long inside in let n : ℕ = get_or t.words r 0 in
-      let found : n ≡ word_of a.holder = nth_is t.words r 0 (word_of a.holder) a.word_at in
-      let placed : process_in me.0 ≡ p = ap (λ (l : List ℕ). get_or l 0 0) mine in
-      let sits : Sits me.0 p = subst (λ (k : List ℕ). Among k p) (sym mine) (inl refl) in
-      let good : p < 4096 = (shown.alone id p me.0 seen sits).3 in
-      let new_to_it : Unseen shown.log me.0 p = unseen shown.log me.0 p (shown.history.tells id me.0 seen) alone in
-      let by_it : IsOthers me.0 new_to_it.others = ap (λ (x : ℕ). by_place (place_of x) new_to_it.others) placed ∙ new_to_it.by in dite (ℕ_discrete n old)
-      (λ hit. let same : a.holder ≡ h = word_injective a.holder h (sym found ∙ hit ∙ is_old) in let held : IsHeldBy o r h = subst (IsHeldBy o r) same a.held in
+      let new_to_it : Unseen shown.log me.0 p = unseen shown.log me.0 p (shown.history.tells id me.0 seen) alone in let sits : Sits me.0 p = new_to_it.sits in
+      let good : p < 4096 = (shown.inside id p me.0 seen sits).1 in dite (ℕ_discrete n old)
+      (λ hit. let same : a.holder ≡ h = word_injective a.holder h (sym a.found ∙ hit ∙ is_old) in let held : IsHeldBy o r h = subst (IsHeldBy o r) same a.held in
       let fit = shown.views_fit id me.0 seen in let x = shown.homes_are r h held in let l = home_lot r h x.0 free x.2 in let w : View = gained me.0 r p h new_to_it.others in
       let act : Act S = takes r (Some l.0) in (
         w,
@@ -249,9 +224,9 @@ module _ {B : Type 0} (fits : B → ℕ → Bool) (s : Shape) where
           (λ _. (
             l.0,
             new_to_it.others,
-            by_it,
+            new_to_it.by,
             (λ k e. let is : h ≡ k = word_injective h k (sym is_old ∙ e) in (
-              (λ i. (gained me.0 r (sym placed i) (is i) new_to_it.others, (r, Some l.0) ∷ me.1)),
+              (λ i. (gained me.0 r (sym new_to_it.placed i) (is i) new_to_it.others, (r, Some l.0) ∷ me.1)),
               subst (λ (z : Option Holder). IsHomeLot fits z l.0) is l.3,
             )),
             subst (λ (z : Shape). IsLotAt z r l.0) (sym (fit.knows p sits)) l.2,
@@ -280,7 +255,7 @@ module _ {B : Type 0} (fits : B → ℕ → Bool) (s : Shape) where
   gives_lot slots id me r new p k lot rest_of is_new free good front alone owns is_lot home t holds long seen small =
       let o = holds.0 in let shown = holds.1 in let fit = shown.views_fit id me.0 seen in let was = fit.is_owner r p owns in
       let new_to_it : Unseen shown.log me.0 p = unseen shown.log me.0 p (shown.history.tells id me.0 seen) alone in let w : View = lost me.0 r p k new_to_it.others in
-      let placed : process_in me.0 ≡ p = ap (λ (l : List ℕ). get_or l 0 0) alone.0 in let y : maybe.Option S = some (Some lot) in (
+      let y : maybe.Option S = some (Some lot) in (
         w,
         gives,
         tt,
@@ -293,8 +268,8 @@ module _ {B : Type 0} (fits : B → ℕ → Bool) (s : Shape) where
         ),
         (
           new_to_it.others,
-          ap (λ (x : ℕ). by_place (place_of x) new_to_it.others) placed ∙ new_to_it.by,
-          λ j e. let is : k ≡ j = word_injective k j (sym is_new ∙ e) in (λ i. (lost me.0 r (sym placed i) (is i) new_to_it.others, rest me.1)),
+          new_to_it.by,
+          λ j e. let is : k ≡ j = word_injective k j (sym is_new ∙ e) in (λ i. (lost me.0 r (sym new_to_it.placed i) (is i) new_to_it.others, rest me.1)),
         ),
       )
 
@@ -307,7 +282,6 @@ module _ {B : Type 0} (fits : B → ℕ → Bool) (s : Shape) where
       → Allows (Shown fits s) slots id me r (λ n. n) (compared (step slots r 0 0 none) me)
   compares slots id me r own note inside two t holds long seen small =
       let a : At t holds.0 r = at t holds.0 r slots holds.1 long inside in
-      let found : get_or t.words r 0 ≡ word_of a.holder = nth_is t.words r 0 (word_of a.holder) a.word_at in
       let log : List Event = holds.1.log in let told = holds.1.history.tells id me.0 seen in
       let first : head_of me.0.fronts ≡ own ∷ [] = ap (λ (z : List (ℕ × List Event)). head_of z) two in
       let kept : (q : ℕ) (f : List Event) → Among (head_of me.0.fronts) (q, f) → Among me.0.fronts (q, f) = λ q f there.
@@ -315,7 +289,7 @@ module _ {B : Type 0} (fits : B → ℕ → Bool) (s : Shape) where
         record me.0 { fronts = head_of me.0.fronts },
         keeps,
         tt,
-        stays t id me r (get_or t.words r 0) (head_of me.0.fronts) holds seen (a.word_at ∙ ap some (sym found))
+        stays t id me r (get_or t.words r 0) (head_of me.0.fronts) holds seen a.word_at
             record { begins = λ q f there. told.begins q f (kept q f there); only = λ q f there few. told.only q f (kept q f there) few },
         (
           refl,

@@ -1,21 +1,7 @@
 -- A seat whose lots were lent.
-use Rattle.std.proofs.Common.{arith}
-use Rattle.std.proofs.lemmas.Bool.Decides.{nat_tests}
-use Rattle.std.proofs.Common.{◌≡◌, ◌≢◌, ℕ, ◌%◌, ◌<◌, List, sym, ap, ◌∙◌, subst}
-use Rattle.std.specs.Prelude.{Option, Some}
-use Rattle.atomic_table.specs.Table.{Me}
-use Rattle.atomic_table.specs.Seated.{TableId}
-use Rattle.xh_arena.specs.Views.{LotOf}
-use Rattle.xh_model.specs.Slots.{index_of}
-use Rattle.xh_model.specs.Words.{number_of}
-use Rattle.xh_model.specs.Keyed.{keys, put, value_at}
-use Rattle.xh_model.proofs.Keyed.{put_keys}
+use Rattle.xh_records.proofs.Common.{arith, nat_tests, ◌≡◌, ◌≢◌, ℕ, ◌%◌, ◌<◌, List, sym, ap, ◌∙◌, subst, Option, Some, Me, TableId, LotOf, index_of, number_of, keys, put, value_at, put_keys}
+use Rattle.xh_records.proofs.Common.{MAX_RECORDS, View, IsLotOf, IsLotAt, RecordsOf, Held, IsRecord, IsSeatOf, with_lots, IsListed, IsSeat, numbered}
 use Rattle.xh_model.proofs.Numbers.{index_apart}
-use Rattle.xh_model.specs.declared.limits.TheConstants.{MAX_RECORDS}
-use Rattle.xh_records.specs.declared.view.View.{View}
-use Rattle.xh_records.specs.Showing.{IsLotOf, IsLotAt}
-use Rattle.xh_records.specs.Seats.{RecordsOf, Held, IsRecord, IsSeatOf, with_lots}
-use Rattle.xh_records.specs.inner.Tokens.{IsListed, IsSeat, numbered}
 use Rattle.xh_records.proofs.Seating.{Reach, reaches, replaces}
 use Rattle.xh_records.proofs.Numbered.{held, number_is, put_numbered, slot_is, lot_there, held_same}
 

@@ -1,3 +1,4 @@
+mod Common
 pub mod History
 pub mod After
 pub mod Elements

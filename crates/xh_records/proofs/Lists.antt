@@ -1,20 +1,10 @@
 -- Lists of numbers, and lists with keys.
-use Rattle.std.proofs.lemmas.Bool.Decides.{nat_tests}
-use Rattle.std.proofs.Common.{◌≡◌, ℕ, zero, suc, ◌+◌, ◌-◌, ◌<◌, ◌≤◌, ◌≢◌, Bool, true, false, List, [], ◌∷◌, ◌++◌, length, set}
-use Rattle.std.proofs.Common.{get_or, eqb, append_assoc, append-nil, get_or-set_same, get_or-set_other, sym, refl, ap, ◌∙◌, subst, ◌⊎◌, inl, inr, ⊎_elim, arith, ne_eqb, cond}
-use Rattle.std.specs.Prelude.{Option, Some, None}
-use Rattle.std.specs.List.{remove, IsDistinct, AllByRecursion, list_any}
+use Rattle.xh_records.proofs.Common.{length-append, nat_tests, ◌≡◌, ℕ, zero, suc, ◌+◌, ◌-◌, ◌<◌, ◌≤◌, ◌≢◌, Bool, true, false, List, [], ◌∷◌, ◌++◌, length, set, get_or, eqb, append_assoc, append-nil}
+use Rattle.xh_records.proofs.Common.{get_or-set_same, get_or-set_other, sym, refl, ap, ◌∙◌, subst, ◌⊎◌, inl, inr, ⊎_elim, arith, ne_eqb, cond, Option, Some, None, remove, AllByRecursion, list_any}
+use Rattle.xh_records.proofs.Common.{some, dite, ℕ_discrete, get_elem?, rest, Among, Distinct, keys, put, without, distinct_split, here_first, keys_append, length-keys, not_here, put_split}
+use Rattle.xh_records.proofs.Common.{split_at_key, without_split, owned_by, AllBelow, IsTurned, turns, in_slot, slot_at, or_else}
+use Rattle.std.specs.List.{IsDistinct}
 use Rattle.std.proofs.lemmas.Map.Steps.{length-le_from_distinct_below}
-use mathlib.Core.Option.{some}
-use mathlib.Core.Logic.{dite}
-use native.Mathlib.Decide.{ℕ_discrete}
-use lib.ListN.{get_elem?}
-use Rattle.atomic_table.specs.Table.{rest}
-use Rattle.xh_model.specs.Keyed.{Among, Distinct, keys, put, without}
-use Rattle.xh_model.proofs.Keyed.{distinct_split, here_first, keys_append, length-keys, not_here, put_split, split_at_key, without_split}
-use Rattle.xh_records.specs.Seats.{owned_by}
-use Rattle.xh_records.specs.inner.Tokens.{AllBelow, IsTurned, turns, in_slot}
-use Rattle.xh_records.specs.inner.Gathering.{slot_at, or_else}
 
 pub apart_all : (xs : List ℕ) (x : ℕ) → (Among xs x → ⊥) → AllByRecursion (λ y. eqb x y ≡ false) xs
 apart_all [] x n = tt
@@ -71,10 +61,6 @@ pub below_at : (n : ℕ) (a : List ℕ) (i : ℕ) (b : List ℕ) → AllBelow n 
 below_at n [] i b h = h.0
 below_at n (y ∷ ys) i b h = below_at n ys i b h.1
 
-pub length_at : (a : List ℕ) (i : ℕ) (b : List ℕ) → length (a ++ i ∷ b) ≡ length a + 1 + length b
-length_at [] i b = omega arith
-length_at (y ∷ ys) i b = let e = length_at ys i b in omega arith
-
 pub stands : {L : Type 0} (l : List (ℕ × Option L)) (i : ℕ) (x : L) → in_slot i l ≡ Some x → (k : ℕ) × (get_elem? (keys l) k ≡ some i)
 stands [] i x = λ e. absurd (cc)
 stands {L} (y ∷ ys) i x = dite (ℕ_discrete y.0 i)
@@ -117,7 +103,7 @@ turned_at {L} l now k slot distinct at is =
     let a = t.0 in let x = t.1 in let b = t.2 in
     let order : keys l ≡ keys a ++ slot ∷ keys b = ap keys t.3 ∙ keys_append a ((slot, x) ∷ b) in
     let d = distinct_split (keys a) slot (keys b) (subst Distinct order distinct) in
-    let behind : length (keys l) - k ≡ suc (length b) = (let e = ap length order ∙ length_at (keys a) slot (keys b) in let f = length-keys a in let g = length-keys b in
+    let behind : length (keys l) - k ≡ suc (length b) = (let e = ap length order ∙ length-append (keys a) (slot ∷ keys b) in let f = length-keys a in let g = length-keys b in
     let n : length a ≡ k = t.4 in omega arith) in
     let less : length (keys l) - k - 1 ≡ length b = omega arith in
     let first : now ≡ (slot, x) ∷ (b ++ a) = is ∙ ap (turns k) t.3 ∙ ap (λ (n : ℕ). turns n (a ++ (slot, x) ∷ b)) (sym t.4) ∙ turns_over a ((slot, x) ∷ b) in

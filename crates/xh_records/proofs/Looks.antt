@@ -1,11 +1,6 @@
 -- A seat that looked before it did something.
-use Rattle.std.proofs.Common.{ℕ, List, [], ◌∷◌, ◌++◌, ap, ◌∙◌, subst}
-use Rattle.xh_arena.specs.Views.{LotOf}
-use Rattle.xh_model.specs.declared.event.Event.{Event}
-use Rattle.xh_model.specs.Words.{place_of, record_of}
-use Rattle.xh_records.specs.History.{Grows, StartsWith}
-use Rattle.xh_records.specs.Showing.{IsLotOf}
-use Rattle.xh_records.specs.Seats.{Held, HasFound, HasGained, HasLooked, SawTaken, did, seen, with_lots}
+use Rattle.xh_records.proofs.Common.{ℕ, List, [], ◌∷◌, ◌++◌, ap, ◌∙◌, subst, LotOf, Event, place_of, record_of, Grows, StartsWith, IsLotOf, Held, HasFound, HasGained, HasLooked, SawTaken, did}
+use Rattle.xh_records.proofs.Common.{seen, with_lots}
 use Rattle.xh_records.proofs.History.{grows_twice, starts_twice}
 
 module _ {B : Type 0} (x y : Held B) (look : HasLooked x y) where

@@ -1,28 +1,10 @@
 -- A seat's lots by the numbers of their records.
-use Rattle.std.proofs.lemmas.Bool.Decides.{nat_tests}
-use Rattle.std.proofs.Common.{arith, ◌≡◌, ℕ, suc, length, ◌%◌, ◌<◌, ◌≤◌, List, [], ◌∷◌, ◌++◌, map, sym, refl, ap, ◌∙◌, subst, append-nil}
-use Rattle.std.specs.Prelude.{Option, Some, None}
-use Rattle.atomic_table.specs.Table.{Me}
-use Rattle.atomic_table.specs.Seated.{TableId}
-use Rattle.xh_arena.specs.Views.{LotOf}
-use Rattle.xh_model.specs.Slots.{index_of}
-use Rattle.xh_model.specs.declared.event.Event.{Event}
-use Rattle.xh_model.specs.Words.{number_of, place_of}
-use Rattle.xh_model.proofs.Words.{number_inside, index_back, number_back}
-use Rattle.xh_model.specs.Keyed.{Among, keys, put, value_at, without}
+use Rattle.xh_records.proofs.Common.{nat_tests, arith, ◌≡◌, ℕ, suc, length, ◌%◌, ◌<◌, ◌≤◌, List, [], ◌∷◌, ◌++◌, map, sym, refl, ap, ◌∙◌, subst, append-nil, Option, Some, None, Me, TableId, LotOf}
+use Rattle.xh_records.proofs.Common.{index_of, Event, number_of, place_of, number_inside, index_back, number_back, Among, keys, put, value_at, without, Shape, View, IsLotOf, IsLotAt, IsSmall}
+use Rattle.xh_records.proofs.Common.{Holder, Process, Direction, taking, giving, Advances, HasGained, HasLost, HasSeen, Held, Knows, seen, view_of, did, with_lots, IsRecord, adds, front_in}
+use Rattle.xh_records.proofs.Common.{IsOthers, SeesMore, Grows, TellsWord, by_place, in_slot, with_lot, numbered, AllLots, IsSeat}
 use Rattle.xh_records.proofs.Elements.{among_map, in_range, slice_elem}
-use Rattle.xh_records.specs.declared.shape.Shape.{Shape}
-use Rattle.xh_records.specs.declared.view.View.{View}
-use Rattle.xh_records.specs.Showing.{IsLotOf, IsLotAt, IsSmall}
-use Rattle.xh_model.specs.declared.event.Holder.{Holder}
-use Rattle.xh_model.specs.declared.event.Holder.TheVariants.{Process, Direction}
-use Rattle.xh_records.specs.inner.Events.{taking, giving}
-use Rattle.xh_records.specs.Seats.{Advances, HasGained, HasLost, HasSeen, Held, Knows, seen, view_of, did, with_lots, IsRecord}
-use Rattle.xh_records.specs.inner.Views.{adds, front_in}
-use Rattle.xh_records.specs.inner.Steps.{IsOthers, SeesMore}
-use Rattle.xh_records.specs.History.{Grows, TellsWord, by_place}
 use Rattle.xh_records.proofs.History.{adds_one, by_place_append}
-use Rattle.xh_records.specs.inner.Tokens.{in_slot, with_lot, numbered, AllLots, IsSeat}
 
 pub index_injective : (n k j : ℕ) → 0 < n → n ≤ 256 → number_of n k ≡ number_of n j → k ≡ j
 index_injective n k j pos most e = sym (index_back n k pos most) ∙ ap (index_of n) e ∙ index_back n j pos most

@@ -1,11 +1,7 @@
 -- A table over the lots of one vault, with two places.
-use Rattle.std.proofs.Common.{◌≡◌, ℕ, ◌%◌, ◌/◌, ◌<◌, ◌∙◌, Bool, true, List, [], ◌∷◌, sym, ap, subst, rules}
-use Rattle.std.specs.Prelude.{Some, slice_get}
+use Rattle.xh_records.proofs.Common.{◌≡◌, ℕ, ◌%◌, ◌/◌, ◌<◌, ◌∙◌, Bool, true, List, [], ◌∷◌, sym, ap, subst, rules, Some, slice_get, TableId, LotOf, AreLots, IsEmpty}
 use Rattle.std.proofs.Math.Nat.{mod-eq_of_lt, div-eq_of_lt}
 use Rattle.std.proofs.lemmas.Option.{slice_get_within}
-use Rattle.atomic_table.specs.Seated.{TableId}
-use Rattle.xh_arena.specs.Views.{LotOf, AreLots}
-use Rattle.xh_records.specs.Showing.{IsEmpty}
 
 -- its lots are those of a table with one arena
 pub of_one_vault : {B : Type 0} (new : B → Type 0) (fits : B → ℕ → Bool) (id : TableId) (n : ℕ) (names : List TableId) (ls : List (LotOf B)) → ((b : B) → new b → fits b 0 ≡ true) → names ≡ id ∷ []

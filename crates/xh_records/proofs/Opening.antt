@@ -1,25 +1,8 @@
 -- The table at the start: no record is held, and one seat stands for all places.
-use Rattle.std.proofs.lemmas.Bool.Decides.{nat_tests}
-use Rattle.std.proofs.Common.{◌≡◌, ℕ, zero, suc, ◌+◌, ◌%◌, ◌<◌, ◌≤◌, Bool, List, [], ◌∷◌, ◌++◌, map, length, replicate, sym, refl, ap, ◌∙◌, subst, inl, inr, arith}
-use Rattle.std.proofs.lemmas.List.{length-map, length-replicate}
-use Rattle.std.specs.Prelude.{Option, Some, None}
-use mathlib.Core.Option.{some, some-injective, some-ne-none}
-use mathlib.Core.Logic.{dite}
-use native.Mathlib.Decide.{ℕ_discrete}
-use lib.ListN.{get_elem?}
-use Rattle.atomic_table.specs.Table.{opening}
-use Rattle.atomic_table.proofs.Lists.{at_map}
-use Rattle.xh_arena.specs.Views.{LotOf}
-use Rattle.xh_model.specs.Keyed.{Among}
-use Rattle.xh_model.specs.declared.event.Holder.{Holder}
-use Rattle.xh_model.specs.declared.event.Holder.TheVariants.{Process}
-use Rattle.xh_model.specs.Words.{IsHeldBy, IsHolder, word_of}
-use Rattle.xh_records.specs.declared.shape.Shape.{Shape}
-use Rattle.xh_records.specs.declared.view.View.{View}
-use Rattle.xh_model.specs.declared.event.Event.{Event}
-use Rattle.xh_records.specs.History.{by_place}
-use Rattle.xh_records.specs.Showing.{IsLotAt, IsEmpty, IsSmall, HomeFits, ViewFits, ViewTells, Shown}
-use Rattle.xh_records.specs.inner.Views.{places_from, all_places}
+use Rattle.xh_records.proofs.Common.{nat_tests, ◌≡◌, ℕ, zero, suc, ◌≤◌, Bool, List, [], ◌∷◌, ◌++◌, map, length, replicate, sym, refl, ap, ◌∙◌, subst, arith, length-map, length-replicate, Option}
+use Rattle.xh_records.proofs.Common.{Some, None, some, some-injective, some-ne-none, get_elem?, opening, at_map, LotOf, Holder, Process, IsHeldBy, IsHolder, word_of, Shape, View, Event, by_place}
+use Rattle.xh_records.proofs.Common.{IsLotAt, IsEmpty, IsSmall, HomeFits, ViewFits, ViewTells, Shown, places_from, all_places}
+use Rattle.xh_records.proofs.Common.{◌+◌, ◌<◌, ◌%◌, Among, dite, ℕ_discrete, inl, inr}
 use Rattle.xh_records.proofs.History.{lists_back}
 use Rattle.xh_records.proofs.Elements.{in_range, is_there}
 use Rattle.xh_records.proofs.Distinct.{few_places, least}
@@ -53,11 +36,11 @@ opens {B} fits s n words lots slots few zeros wrapped long empty small = (
         let at : get_elem? (map some slots) r ≡ some (some (Some there.0)) = at_map some slots r (Some there.0)
         (subst (λ (z : List (Option (LotOf B))). get_elem? z r ≡ some (Some there.0)) (sym wrapped) (at_map Some lots r there.0 there.1)) in
         (some (Some there.0), at, subst (λ (k : Option Holder). HomeFits fits s r k (some (Some there.0))) (sym (none_there n r h is)) (there.0, refl, e.0, e.1));
-    process_at = λ q. q;
-    seat_of = λ q. 0;
     placed = λ r p is. absurd (nobody r p is);
-    seated = λ q lt. (all_places s, refl, sits_from 0 s.places q (omega arith) (omega arith), (let m : s.places ≤ 32 = few in let e : q % 32 ≡ q = omega arith in e));
-    alone = grind (arith, nat_tests, least);
+    latest = λ r p id q v is there sits same. absurd (nobody r p is);
+    seated = λ q below. (0, q, all_places s, refl, sits_from 0 s.places q (omega arith) (omega arith), (let m : s.places ≤ 32 = few in let e : q % 32 ≡ q = omega arith in e));
+    inside = λ id p v there sits. grind (arith, nat_tests, least);
+    alone = λ i j p q u v at_u at_v sits sits' same. grind (arith, nat_tests, only, least);
     views_fit = λ id v there. subst (ViewFits s (replicate n None)) (only id v there).1 begins;
     small = small;
     log = [];

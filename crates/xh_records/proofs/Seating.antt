@@ -1,26 +1,8 @@
 -- What a seat's type keeps, at each change of its list.
-use Rattle.std.proofs.lemmas.Bool.Decides.{nat_tests}
-use Rattle.std.proofs.Common.{◌≡◌, ℕ, suc, ◌+◌, ◌<◌, ◌≤◌, List, [], ◌∷◌, ◌++◌, length, sym, refl, ap, ◌∙◌, subst, inl, ⊎_elim, arith}
-use Rattle.std.specs.Prelude.{Option, Some}
-use Rattle.std.specs.List.{remove}
-use mathlib.Core.Option.{some}
-use mathlib.Core.Logic.{dite}
-use native.Mathlib.Decide.{ℕ_discrete}
-use lib.ListN.{get_elem?}
-use Rattle.atomic_table.specs.Table.{Me}
-use Rattle.xh_arena.specs.Views.{LotOf}
-use Rattle.xh_model.specs.Keyed.{Among, Distinct, keys, put, without}
-use Rattle.xh_model.proofs.Keyed.{among_back, distinct_push, distinct_split, here_first, keys_append, keys_push, length-keys, not_here, put_keys, split_at_key, without_split}
-use Rattle.xh_records.specs.declared.shape.Shape.{Shape}
-use Rattle.xh_records.specs.declared.view.View.{View}
-use Rattle.xh_model.specs.declared.event.Event.{Event}
-use Rattle.xh_model.specs.declared.event.Holder.{Holder}
-use Rattle.xh_model.specs.Words.{number_of, place_of}
-use Rattle.xh_records.specs.Showing.{Owns, IsLotAt}
-use Rattle.xh_records.specs.Seats.{owned_by}
-use Rattle.xh_records.specs.inner.Events.{giving}
-use Rattle.xh_records.specs.inner.Views.{IsAlone, gained, knowing, lost, renewed}
-use Rattle.xh_records.specs.inner.Tokens.{AllBelow, AllLots, IsSeat, in_slot}
+use Rattle.xh_records.proofs.Common.{nat_tests, ◌≡◌, ℕ, suc, ◌+◌, ◌<◌, ◌≤◌, List, [], ◌∷◌, ◌++◌, length, sym, refl, ap, ◌∙◌, subst, inl, ⊎_elim, arith, Option, Some, remove, some, dite}
+use Rattle.xh_records.proofs.Common.{ℕ_discrete, get_elem?, Me, LotOf, Among, Distinct, keys, put, without, among_back, distinct_push, distinct_split, here_first, keys_append, keys_push}
+use Rattle.xh_records.proofs.Common.{length-keys, not_here, put_keys, split_at_key, without_split, Shape, View, Event, Holder, number_of, place_of, Owns, IsLotAt, owned_by, giving, IsAlone}
+use Rattle.xh_records.proofs.Common.{gained, knowing, lost, renewed, AllBelow, AllLots, IsSeat, in_slot}
 use Rattle.xh_records.proofs.History.{adds_one}
 use Rattle.xh_records.proofs.Lists.{few, below_push, owned_push, among_owned, slot_split, below_split, owned_without, remove_split, below_at, stands}
 

@@ -69,19 +69,18 @@ pub record IsHistory (s : Shape) (o : Ownership) (views : List View) (log : List
 abbrev pub IsSmall : Shape → Type 0
 IsSmall s = (0 < s.records) × (s.records ≤ MAX_RECORDS)
 
--- each word is that of its record's holder; a slot is at home, with the lot of its record, exactly where no process holds the record; each place stands in one view, with one generation, and no
--- process of another generation holds a record; the events that the seats did lead to this ownership
+-- each word is that of its record's holder; a slot is at home, with the lot of its record, exactly where no process holds the record; each place stands in exactly one view, with one
+-- generation, and no process of another generation holds a record; the events that the seats did lead to this ownership
 pub record Shows {B : Type 0} (fits : B → ℕ → Bool) (s : Shape) (o : Ownership) (words : List ℕ) (homes : List (maybe.Option (Option (LotOf B)))) (views : List View) : Type 0 where
   pub words_are : words ≡ map word_of o
   pub holders : (k : ℕ) (h : Option Holder) → IsHeldBy o k h → IsHolder h
   pub homes_long : length homes ≡ length o
   pub homes_are : (k : ℕ) (h : Option Holder) → IsHeldBy o k h → (x : maybe.Option (Option (LotOf B))) × (get_elem? homes k ≡ some x) × HomeFits fits s k h x
-  -- the process that each place is now, and the seat that stands for it
-  pub process_at : ℕ → ℕ
-  pub seat_of : ℕ → ℕ
-  pub placed : (k p : ℕ) → IsHeldBy o k (Some (Process p)) → (place_of p < s.places) × (p ≡ process_at (place_of p))
-  pub seated : (q : ℕ) → q < s.places → (v : View) × (get_elem? views (seat_of q) ≡ some v) × Sits v (process_at q) × (place_of (process_at q) ≡ q)
-  pub alone : (id p : ℕ) (v : View) → get_elem? views id ≡ some v → Sits v p → (place_of p < s.places) × (p ≡ process_at (place_of p)) × (id ≡ seat_of (place_of p)) × (p < PROCESSES)
+  pub placed : (k p : ℕ) → IsHeldBy o k (Some (Process p)) → place_of p < s.places
+  pub latest : (k p id q : ℕ) (v : View) → IsHeldBy o k (Some (Process p)) → get_elem? views id ≡ some v → Sits v q → place_of q ≡ place_of p → q ≡ p
+  pub seated : (q : ℕ) → q < s.places → (id p : ℕ) × (v : View) × (get_elem? views id ≡ some v) × Sits v p × (place_of p ≡ q)
+  pub inside : (id p : ℕ) (v : View) → get_elem? views id ≡ some v → Sits v p → (place_of p < s.places) × (p < PROCESSES)
+  pub alone : (i j p q : ℕ) (u v : View) → get_elem? views i ≡ some u → get_elem? views j ≡ some v → Sits u p → Sits v q → place_of p ≡ place_of q → (i ≡ j) × (p ≡ q)
   pub views_fit : (id : ℕ) (v : View) → get_elem? views id ≡ some v → ViewFits s o v
   pub small : IsSmall s
   pub log : List Event

@@ -92,6 +92,7 @@ fn first_at(order: &[u16], slot: u16) -> usize
 }
 
 // Where the slot stands in the order. It looks near the end, where what was gained last stands, then near the front, and then at all from the end.
+#[tactic(auto, using(crate::proofs::Elements::in_range))]
 fn position(order: &[u16], slot: u16) -> usize
     requires { (k : ℕ) × (get_elem? order.now k ≡ some slot) }
     ensures { get_elem? order.now result ≡ some slot }

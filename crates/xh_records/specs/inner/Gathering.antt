@@ -8,7 +8,7 @@ use Rattle.xh_model.specs.Keyed.{Among, Distinct}
 use Rattle.xh_records.specs.declared.view.View.{View}
 use Rattle.xh_records.specs.History.{by_place}
 use Rattle.xh_records.specs.Showing.{Owns}
-use Rattle.xh_records.specs.Seats.{Held, indices, lot_in, view_of}
+use Rattle.xh_records.specs.Seats.{Held, lot_in, view_of}
 
 -- the first that is there
 abbrev pub or_else : {L : Type 0} → Option L → Option L → Option L
@@ -25,8 +25,7 @@ pub record IsGathered {B : Type 0} (m : ℕ) (seats : List (Held B)) (v : View) 
   pub each : (p : ℕ) → Among v.processes p → (j : ℕ) × (x : Held B) × (get_elem? seats j ≡ some x) × (x.process ≡ p)
   pub count : length v.processes + m ≡ length seats
   pub one : Distinct (map place_of v.processes) → (i j : ℕ) (x y : Held B) → get_elem? seats i ≡ some x → get_elem? seats j ≡ some y → m ≤ i → m ≤ j → x.process ≡ y.process → i ≡ j
-  pub records : (k p : ℕ) → Owns v k p → (j : ℕ) × (x : Held B) × (get_elem? seats j ≡ some x) × (m ≤ j) × Owns (view_of x) k p
+  pub records : (k p : ℕ) → Owns v k p → (j : ℕ) × (x : Held B) × (l : LotOf B) × (get_elem? seats j ≡ some x) × (m ≤ j) × (lot_in k x ≡ Some l)
   pub all_records : (j k p : ℕ) (x : Held B) → get_elem? seats j ≡ some x → m ≤ j → Owns (view_of x) k p → Owns v k p
   pub lots : (k : ℕ) (l : LotOf B) → k < length held → slot_at held k ≡ Some l → (j : ℕ) × (x : Held B) × (get_elem? seats j ≡ some x) × (m ≤ j) × (lot_in k x ≡ Some l)
-  pub full : (j k : ℕ) (x : Held B) → get_elem? seats j ≡ some x → m ≤ j → Among (indices x) k → (l : LotOf B) × (lot_in k x ≡ Some l)
   pub all_lots : (j k : ℕ) (x : Held B) (l : LotOf B) → get_elem? seats j ≡ some x → m ≤ j → lot_in k x ≡ Some l → k < length held → (l' : LotOf B) × (slot_at held k ≡ Some l')

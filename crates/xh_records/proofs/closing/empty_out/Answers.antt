@@ -1,14 +1,6 @@
-use Rattle.std.proofs.lemmas.Bool.Decides.{nat_tests}
-use Rattle.std.proofs.Common.{rules, arith, ◌≡◌, ℕ, ◌+◌, ◌<◌, List, length, get_or, refl, sym, ap, ◌∙◌, subst, [], ◌∷◌, ◌++◌, append_assoc, append-nil, length-append}
-use Rattle.std.specs.Prelude.{Option, None}
-use Rattle.std.specs.Vec.{vec_len}
-use Rattle.atomic_table.specs.Table.{rest, turned}
-use Rattle.xh_arena.specs.Views.{LotOf}
-use Rattle.xh_model.specs.Keyed.{Among, Distinct, keys}
-use Rattle.xh_model.proofs.Keyed.{distinct_split, keys_append}
-use Rattle.xh_records.specs.Seats.{lot_in, indices}
-use Rattle.xh_records.specs.inner.Tokens.{AllLots}
-use Rattle.xh_records.proofs.Cuts.{hands_over, splits}
+use Rattle.xh_records.proofs.Common.{nat_tests, rules, arith, ◌≡◌, ℕ, ◌+◌, ◌<◌, List, length, get_or, refl, sym, ap, ◌∙◌, subst, [], ◌∷◌, ◌++◌, append_assoc, append-nil, length-append, Option}
+use Rattle.xh_records.proofs.Common.{None, vec_len, rest, turned, LotOf, Among, Distinct, keys, distinct_split, keys_append, lot_in, indices, AllLots}
+use Rattle.xh_records.proofs.Cuts.{hands_over}
 use Rattle.xh_records.proofs.Lists.{next_slot, all_front, fills, first_is, below_at}
 use Rattle.xh_records.proofs.Ended.{read_is}
 use Rattle.xh_records.proofs.Seating.{lot_here, all_full}
@@ -88,7 +80,7 @@ returns-clause-full g c = λ k h.
     (t.0, ap (λ x. lot_in k x) (sym c.seat.view_is) ∙ lot_numbered me.0.shape seat.small me.1 k seat.lots ∙ t.1)
 
 pub split_seat-requires : goal.split_seat-requires
-split_seat-requires g c = grind (arith, nat_tests, splits, hands_over)
+split_seat-requires g c = grind (arith, nat_tests, hands_over)
 
 pub returns-clause-token : goal.returns-clause-token
 returns-clause-token g c =

@@ -1,9 +1,4 @@
-use Rattle.std.proofs.Common.{◌≡◌, ℕ, ◌<◌, ◌++◌, List, length}
-use Rattle.std.specs.Prelude.{Option}
-use Rattle.std.specs.Vec.{vec_len}
-use Rattle.xh_arena.specs.Views.{LotOf}
-use Rattle.xh_records.specs.inner.Tokens.{in_slot}
-use Rattle.xh_records.specs.inner.Gathering.{slot_at, or_else}
+use Rattle.xh_records.proofs.Common.{◌≡◌, ℕ, ◌<◌, ◌++◌, List, length, Option, vec_len, LotOf, in_slot, slot_at, or_else}
 use Rattle.xh_records.proofs.closing.empty_out.Given as goal
 
 abbrev pub invariant-loop-k : goal.invariant-loop-k

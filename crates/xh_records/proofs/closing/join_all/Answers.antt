@@ -1,13 +1,5 @@
-use Rattle.std.proofs.Common.{rules, arith, ◌≡◌, ℕ, suc, ◌<◌, length, inl, refl, sym, ap, ◌∙◌, subst, [], ◌∷◌, ◌++◌, append_assoc, length-append}
-use Rattle.std.specs.Vec.{vec_len}
-use mathlib.Core.Option.{some}
-use lib.ListN.{get_elem?}
-use Rattle.atomic_table.proofs.Lists.{at_last, at_longer}
-use Rattle.xh_model.proofs.Keyed.{among_front}
-use Rattle.xh_records.specs.Showing.{Sits}
-use Rattle.xh_records.specs.Seats.{view_of}
-use Rattle.xh_records.specs.inner.Views.{spent, joined}
-use Rattle.xh_records.specs.inner.Gathering.{IsGathered}
+use Rattle.xh_records.proofs.Common.{rules, arith, ◌≡◌, ℕ, suc, ◌<◌, length, inl, refl, sym, ap, ◌∙◌, subst, [], ◌∷◌, ◌++◌, append_assoc, length-append, vec_len, some, get_elem?, at_last}
+use Rattle.xh_records.proofs.Common.{at_longer, among_front, Sits, view_of, spent, joined, IsGathered}
 use Rattle.xh_records.proofs.Ended.{gathers, gathers_none}
 use Rattle.xh_records.proofs.closing.join_all.Given.{Over}
 use Rattle.xh_records.proofs.closing.join_all.Goals.{In-Some, In-Some-pop}

@@ -1,8 +1,4 @@
-use Rattle.std.proofs.Common.{◌≡◌, ℕ, ◌++◌, List, length, []}
-use Rattle.std.specs.Vec.{vec_len}
-use Rattle.xh_records.specs.Showing.{Sits}
-use Rattle.xh_records.specs.Seats.{Held}
-use Rattle.xh_records.specs.inner.Gathering.{IsGathered}
+use Rattle.xh_records.proofs.Common.{◌≡◌, ℕ, ◌++◌, List, length, [], vec_len, Sits, Held, IsGathered}
 use Rattle.xh_records.proofs.closing.join_all.Given as goal
 
 abbrev pub invariant-loop-seat : goal.invariant-loop-seat

@@ -1,8 +1,4 @@
-use Rattle.std.proofs.Common.{arith}
-use Rattle.std.proofs.lemmas.Bool.Decides.{nat_tests}
-use Rattle.std.proofs.Common.{◌≡◌, sym, ◌∙◌}
-use Rattle.std.specs.Slots.{slots_items}
-use Rattle.xh_records.specs.inner.Gathering.{slot_at, or_else}
+use Rattle.xh_records.proofs.Common.{arith, nat_tests, ◌≡◌, sym, ◌∙◌, slots_items, slot_at, or_else}
 use Rattle.xh_records.proofs.Elements.{nth_is}
 use Rattle.xh_records.proofs.Ended.{or_is, read_is, is_some}
 use Rattle.xh_records.proofs.closing.lot_left.Given.{Over}

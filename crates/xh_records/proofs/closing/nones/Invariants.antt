@@ -1,7 +1,4 @@
-use Rattle.std.proofs.Common.{◌≡◌, ℕ, ◌≤◌}
-use Rattle.std.specs.Prelude.{None}
-use Rattle.std.specs.Vec.{vec_len, vec_capacity}
-use Rattle.xh_records.specs.inner.Gathering.{slot_at}
+use Rattle.xh_records.proofs.Common.{◌≡◌, ℕ, ◌≤◌, None, vec_len, vec_capacity, slot_at}
 use Rattle.xh_records.proofs.closing.nones.Given as goal
 
 abbrev pub invariant-loop : goal.invariant-loop

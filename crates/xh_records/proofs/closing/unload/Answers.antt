@@ -1,12 +1,5 @@
-use Rattle.std.proofs.Common.{rules, arith, ◌≡◌, ℕ, suc, ◌+◌, ◌<◌, ◌≤◌, ⊎_elim, length, take, get_or, set, false, refl, sym, ap, ◌∙◌, subst, [], ◌∷◌, ◌++◌, get_or-set_same, get_or-set_other}
-use Rattle.std.specs.Prelude.{Some, None}
-use Rattle.std.specs.Vec.{vec_len}
-use Rattle.std.specs.Slots.{slots_items, slots_len, slots_filled, slots_counts}
-use mathlib.Core.Option.{some}
-use mathlib.Core.Logic.{dite}
-use native.Mathlib.Decide.{ℕ_discrete}
-use lib.ListN.{get_elem?}
-use Rattle.xh_records.specs.inner.Gathering.{slot_at, or_else}
+use Rattle.xh_records.proofs.Common.{rules, arith, ◌≡◌, ℕ, suc, ◌+◌, ◌<◌, ◌≤◌, ⊎_elim, length, take, get_or, set, false, refl, sym, ap, ◌∙◌, subst, [], ◌∷◌, ◌++◌, get_or-set_same}
+use Rattle.xh_records.proofs.Common.{get_or-set_other, Some, None, vec_len, slots_items, slots_len, slots_filled, slots_counts, some, dite, ℕ_discrete, get_elem?, slot_at, or_else}
 use Rattle.xh_records.proofs.Elements.{snoc_at}
 use Rattle.xh_records.proofs.Ended.{take_one_more}
 use Rattle.xh_records.proofs.closing.unload.Given.{Over}

@@ -1,10 +1,4 @@
-use Rattle.std.proofs.Common.{◌≡◌, ℕ, ◌≤◌, ◌<◌, take, get_or, true, false}
-use Rattle.std.specs.Prelude.{Some}
-use Rattle.std.specs.Vec.{vec_len, vec_capacity}
-use Rattle.std.specs.Slots.{slots_items, slots_len, slots_filled}
-use mathlib.Core.Option.{some}
-use lib.ListN.{get_elem?}
-use Rattle.xh_records.specs.inner.Gathering.{slot_at, or_else}
+use Rattle.xh_records.proofs.Common.{◌≡◌, ℕ, ◌≤◌, ◌<◌, take, get_or, true, false, Some, vec_len, vec_capacity, slots_items, slots_len, slots_filled, some, get_elem?, slot_at, or_else}
 use Rattle.xh_records.proofs.closing.unload.Given as goal
 
 abbrev pub invariant-loop-slot : goal.invariant-loop-slot

@@ -1,7 +1,4 @@
-use Rattle.std.proofs.Common.{◌-◌, ◌∷◌, length, ap, ◌∙◌}
-use Rattle.std.specs.Prelude.{Some}
-use Rattle.atomic_table.specs.Table.{rest}
-use Rattle.xh_records.specs.inner.Tokens.{turns}
+use Rattle.xh_records.proofs.Common.{◌-◌, ◌∷◌, length, ap, ◌∙◌, Some, rest, turns}
 use Rattle.xh_records.proofs.Lists.{first_is}
 use Rattle.xh_records.proofs.lending.call_in.Goals as goal
 

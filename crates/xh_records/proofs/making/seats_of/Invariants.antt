@@ -1,9 +1,4 @@
-use Rattle.std.proofs.Common.{◌≡◌, ℕ, ◌-◌, ◌≤◌, [], length}
-use Rattle.std.specs.Vec.{vec_capacity}
-use mathlib.Core.Option.{some}
-use lib.ListN.{get_elem?}
-use Rattle.xh_records.specs.Seats.{Held}
-use Rattle.xh_records.specs.inner.Views.{dealer}
+use Rattle.xh_records.proofs.Common.{◌≡◌, ℕ, ◌-◌, ◌≤◌, [], length, vec_capacity, some, get_elem?, Held, dealer}
 use Rattle.xh_records.proofs.making.seats_of.Given as goal
 
 abbrev pub invariant-loop-place : goal.invariant-loop-place

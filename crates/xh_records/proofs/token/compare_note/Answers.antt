@@ -1,7 +1,4 @@
-use Rattle.std.proofs.Common.{◌≡◌, ap, ◌∙◌, [], ◌∷◌, ◌++◌}
-use Rattle.xh_model.specs.declared.limits.TheConstants.{PLACES}
-use Rattle.xh_model.specs.Words.{place_of}
-use Rattle.xh_records.specs.inner.Views.{front_in}
+use Rattle.xh_records.proofs.Common.{◌≡◌, ap, ◌∙◌, [], ◌∷◌, ◌++◌, PLACES, place_of, front_in}
 use Rattle.xh_records.proofs.Keeps.{compares}
 use Rattle.xh_records.proofs.token.compare_note.Given.{Over}
 use Rattle.xh_records.proofs.token.compare_note.Goals.{After-join}

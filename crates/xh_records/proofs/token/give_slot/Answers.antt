@@ -1,9 +1,4 @@
-use Rattle.std.proofs.Common.{ℕ, ◌<◌, sym, ◌∙◌, subst, ◌∷◌}
-use Rattle.atomic_table.specs.Table.{rest}
-use Rattle.xh_records.specs.declared.view.View.{View}
-use Rattle.xh_records.specs.Encoding.{holder_of}
-use Rattle.xh_records.specs.Showing.{Owns, IsLotAt}
-use Rattle.xh_records.specs.inner.Views.{IsAlone}
+use Rattle.xh_records.proofs.Common.{ℕ, ◌<◌, sym, ◌∙◌, subst, ◌∷◌, rest, View, holder_of, Owns, IsLotAt, IsAlone}
 use Rattle.xh_records.proofs.Keeps.{gives_lot}
 use Rattle.xh_records.proofs.token.give_slot.Goals as goal
 

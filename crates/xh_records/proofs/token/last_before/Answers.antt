@@ -1,6 +1,4 @@
-use Rattle.std.proofs.lemmas.Bool.Decides.{nat_tests}
-use Rattle.std.proofs.Common.{arith, sym, ap, ◌∙◌}
-use mathlib.Core.Option.{some}
+use Rattle.xh_records.proofs.Common.{nat_tests, arith, sym, ap, ◌∙◌, some}
 use Rattle.xh_records.proofs.Elements.{is_there, nth_is}
 use Rattle.xh_records.proofs.token.last_before.Goals as goal
 

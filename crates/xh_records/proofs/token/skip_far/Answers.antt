@@ -1,5 +1,4 @@
-use Rattle.std.proofs.lemmas.Bool.Decides.{nat_tests}
-use Rattle.std.proofs.Common.{arith}
+use Rattle.xh_records.proofs.Common.{nat_tests, arith}
 use Rattle.xh_records.proofs.Elements.{in_range, nth_is}
 use Rattle.xh_records.proofs.token.skip_far.Goals as goal
 

@@ -1,6 +1,4 @@
-use Rattle.std.proofs.Common.{◌≡◌, ℕ, ◌≤◌, ◌<◌, length}
-use mathlib.Core.Option.{some}
-use lib.ListN.{get_elem?}
+use Rattle.xh_records.proofs.Common.{◌≡◌, ℕ, ◌≤◌, ◌<◌, length, some, get_elem?}
 use Rattle.xh_records.proofs.token.skip_far.Given as goal
 
 abbrev pub invariant-loop-end : goal.invariant-loop-end

@@ -1,10 +1,4 @@
-use Rattle.std.proofs.Common.{ℕ, ◌<◌, ◌++◌, [], ◌∷◌, get_or, ap, sym, subst, ◌∙◌}
-use Rattle.std.specs.Prelude.{Some}
-use mathlib.Core.Option.{none}
-use Rattle.atomic_table.specs.Table.{turned}
-use Rattle.xh_records.specs.Encoding.{holder_of}
-use Rattle.xh_records.specs.Showing.{IsLotAt, Owns}
-use Rattle.xh_records.specs.inner.Views.{gained}
+use Rattle.xh_records.proofs.Common.{ℕ, ◌<◌, ◌++◌, [], ◌∷◌, get_or, ap, sym, subst, ◌∙◌, Some, none, turned, holder_of, IsLotAt, Owns, gained}
 use Rattle.xh_records.proofs.Keeps.{takes_lot}
 use Rattle.xh_records.proofs.token.take_slot.Goals as goal
 

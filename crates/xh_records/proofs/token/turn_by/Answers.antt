@@ -1,5 +1,4 @@
-use Rattle.std.proofs.Common.{arith, ◌≡◌, suc, ◌+◌, ◌-◌, ap, ◌∙◌}
-use Rattle.xh_records.specs.inner.Tokens.{turns}
+use Rattle.xh_records.proofs.Common.{arith, ◌≡◌, suc, ◌+◌, ◌-◌, ap, ◌∙◌, turns}
 use Rattle.xh_records.proofs.token.turn_by.Goals as goal
 
 pub loop-done-preserved : goal.loop-done-preserved

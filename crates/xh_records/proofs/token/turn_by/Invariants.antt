@@ -1,5 +1,4 @@
-use Rattle.std.proofs.Common.{◌≡◌, ◌-◌}
-use Rattle.xh_records.specs.inner.Tokens.{turns}
+use Rattle.xh_records.proofs.Common.{◌≡◌, ◌-◌, turns}
 use Rattle.xh_records.proofs.token.turn_by.Given as goal
 
 abbrev pub invariant-loop-done : goal.invariant-loop-done

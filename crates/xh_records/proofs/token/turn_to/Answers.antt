@@ -1,8 +1,4 @@
-use Rattle.std.proofs.Common.{◌≡◌, ◌-◌, length, ap, subst, sym}
-use lib.ListN.{get_elem?}
-use mathlib.Core.Option.{some}
-use Rattle.xh_model.specs.Keyed.{Distinct}
-use Rattle.xh_records.specs.inner.Tokens.{IsTurned}
+use Rattle.xh_records.proofs.Common.{◌≡◌, ◌-◌, length, ap, subst, sym, get_elem?, some, Distinct, IsTurned}
 use Rattle.xh_records.proofs.Elements.{in_range}
 use Rattle.xh_records.proofs.Lists.{turned_at}
 use Rattle.xh_records.proofs.token.turn_to.Goals as goal

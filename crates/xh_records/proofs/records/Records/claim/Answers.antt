@@ -1,5 +1,4 @@
-use Rattle.xh_model.specs.declared.event.Event.TheVariants.{Claim}
-use Rattle.xh_records.specs.Showing.{IsEmpty}
+use Rattle.xh_records.proofs.Common.{Claim, IsEmpty}
 use Rattle.std.proofs.lemmas.Result.{IfOk-weaker, IfErr-weaker}
 use Rattle.xh_records.proofs.Looks.{looks_on, gains_on, saw_on}
 use Rattle.xh_records.proofs.records.Records.claim.Goals as goal

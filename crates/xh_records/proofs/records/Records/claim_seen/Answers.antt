@@ -1,9 +1,4 @@
-use Rattle.std.proofs.Common.{arith, ◌≡◌, ◌≢◌, ℕ, List, ◌+◌, ◌*◌, ◌<◌, ◌≤◌, ◌∙◌, length, get_or, subst, sym, ap, length-append}
-use Rattle.xh_model.specs.declared.event.Event.{Event}
-use Rattle.xh_model.specs.declared.event.Event.TheVariants.{Claim}
-use Rattle.xh_records.specs.History.{StartsWith}
-use Rattle.xh_records.specs.Showing.{IsEmpty}
-use Rattle.xh_records.specs.Seats.{Held, HasFound}
+use Rattle.xh_records.proofs.Common.{arith, ◌≡◌, ◌≢◌, ℕ, List, ◌+◌, ◌*◌, ◌<◌, ◌≤◌, ◌∙◌, length, get_or, subst, sym, ap, length-append, Event, Claim, StartsWith, IsEmpty, Held, HasFound}
 use Rattle.xh_records.proofs.History.{starts_itself, starts_twice}
 use Rattle.xh_records.proofs.Lists.{seen_more}
 use Rattle.xh_records.proofs.Looks.{looks_on, gains_on, starts_on, found_on}

@@ -1,7 +1,4 @@
-use Rattle.std.proofs.Common.{◌≡◌, ◌≢◌, ℕ, List, ◌+◌, ◌*◌, ◌<◌, length, get_or}
-use Rattle.xh_model.specs.declared.event.Event.{Event}
-use Rattle.xh_records.specs.History.{StartsWith}
-use Rattle.xh_records.specs.Seats.{HasFound, HasLooked}
+use Rattle.xh_records.proofs.Common.{◌≡◌, ◌≢◌, ℕ, List, ◌+◌, ◌*◌, ◌<◌, length, get_or, Event, StartsWith, HasFound, HasLooked}
 use Rattle.xh_records.proofs.records.Records.claim_seen.Given as goal
 
 abbrev pub invariant-loop-index : goal.invariant-loop-index

@@ -1,10 +1,4 @@
-use Rattle.std.proofs.Common.{arith}
-use Rattle.std.proofs.lemmas.Bool.Decides.{nat_tests}
-use Rattle.std.proofs.Common.{rules, ◌≡◌, ℕ, ◌*◌, ◌<◌, length, sym, ap, ◌∙◌, subst}
-use Rattle.std.specs.Prelude.{Some, slice_get}
-use Rattle.std.specs.Vec.{vec_len}
-use Rattle.std.specs.Slots.{slots_items, slots_len, slots_counts}
-use Rattle.xh_records.specs.Seats.{Held, Ends}
+use Rattle.xh_records.proofs.Common.{arith, nat_tests, rules, ◌≡◌, ℕ, ◌*◌, ◌<◌, length, sym, ap, ◌∙◌, subst, Some, slice_get, vec_len, slots_items, slots_len, slots_counts, Held, Ends}
 use Rattle.xh_records.proofs.Elements.{elem_slice}
 use Rattle.xh_records.proofs.Ended.{some_lot, ends}
 use Rattle.xh_records.proofs.records.Records.close.Given.{Over}

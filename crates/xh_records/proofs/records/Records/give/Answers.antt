@@ -1,19 +1,6 @@
-use Rattle.std.proofs.Common.{rules, ◌≡◌, ℕ, ◌<◌, List, [], ◌∷◌, ◌++◌, get_or, length, refl, ap, ◌∙◌, subst}
-use Rattle.std.specs.Prelude.{Option}
-use lib.ListN.{get_elem?}
-use mathlib.Core.Option.{some}
-use Rattle.xh_model.specs.Words.{number_of, place_of}
-use Rattle.xh_model.specs.Keyed.{without}
-use Rattle.xh_model.specs.declared.event.Event.{Event}
-use Rattle.xh_records.specs.Encoding.{holder_of}
-use Rattle.xh_records.specs.inner.Events.{giving}
-use Rattle.xh_records.specs.inner.Views.{adds, lost}
+use Rattle.xh_records.proofs.Common.{rules, ◌≡◌, ℕ, ◌<◌, List, [], ◌∷◌, ◌++◌, get_or, length, refl, ap, ◌∙◌, subst, Option, get_elem?, some, number_of, place_of, without, Event, holder_of, giving}
+use Rattle.xh_records.proofs.Common.{adds, lost, numbered, Holder, Me, LotOf, View}
 use Rattle.xh_records.specs.inner.Steps.{process_in}
-use Rattle.xh_records.specs.inner.Tokens.{numbered}
-use Rattle.xh_model.specs.declared.event.Holder.{Holder}
-use Rattle.atomic_table.specs.Table.{Me}
-use Rattle.xh_arena.specs.Views.{LotOf}
-use Rattle.xh_records.specs.declared.view.View.{View}
 use Rattle.xh_records.proofs.History.{by_place_more}
 use Rattle.xh_records.proofs.Keeps.{giving_is}
 use Rattle.xh_records.proofs.Elements.{in_range}

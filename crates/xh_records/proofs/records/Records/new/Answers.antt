@@ -1,9 +1,4 @@
-use Rattle.std.proofs.lemmas.Bool.Decides.{nat_tests}
-use Rattle.std.proofs.Common.{◌≡◌, ℕ, ◌/◌, ◌%◌, ◌<◌, ◌≤◌, arith, sym, ap, ◌∙◌, subst, mod-lt}
-use Rattle.std.specs.Prelude.{Some, slice_get}
-use Rattle.xh_model.specs.declared.limits.TheConstants.{MAX_RECORDS}
-use Rattle.xh_model.specs.Words.{number_of}
-use Rattle.xh_model.proofs.Words.{arena_of_number, place_of_number}
+use Rattle.xh_records.proofs.Common.{nat_tests, ◌≡◌, ℕ, ◌/◌, ◌%◌, ◌<◌, ◌≤◌, arith, sym, ap, ◌∙◌, subst, mod-lt, Some, slice_get, MAX_RECORDS, number_of, arena_of_number, place_of_number}
 use Rattle.xh_records.proofs.Elements.{elem_slice, slice_elem}
 use Rattle.xh_records.proofs.records.Records.new.Goals.{In_ok-table}
 use Rattle.xh_records.proofs.records.Records.new.Goals as goal

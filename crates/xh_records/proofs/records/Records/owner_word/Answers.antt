@@ -1,6 +1,4 @@
-use Rattle.std.proofs.Common.{◌<◌, sym, ap, ◌∙◌, subst}
-use Rattle.xh_model.specs.Slots.{index_of}
-use Rattle.xh_records.specs.inner.Steps.{SeesMore}
+use Rattle.xh_records.proofs.Common.{◌<◌, sym, ap, ◌∙◌, subst, index_of, SeesMore}
 use Rattle.xh_records.proofs.Keeps.{looks}
 use Rattle.xh_records.proofs.Numbered.{held_seen}
 use Rattle.xh_records.proofs.Seating.{is_alone}

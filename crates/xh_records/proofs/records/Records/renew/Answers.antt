@@ -1,9 +1,4 @@
-use Rattle.std.proofs.lemmas.Bool.Decides.{nat_tests}
-use Rattle.std.proofs.Common.{arith, ◌≡◌, ◌+◌, ◌<◌, sym, ap, ◌∙◌, subst, []}
-use Rattle.xh_model.specs.declared.limits.TheConstants.{GENERATIONS}
-use Rattle.xh_model.specs.Words.{generation_of}
-use Rattle.xh_model.specs.Keyed.{keys}
-use Rattle.xh_records.specs.Seats.{owned_by}
+use Rattle.xh_records.proofs.Common.{nat_tests, arith, ◌≡◌, ◌+◌, ◌<◌, sym, ap, ◌∙◌, subst, [], GENERATIONS, generation_of, keys, owned_by}
 use Rattle.xh_records.proofs.Ages.{ages}
 use Rattle.xh_records.proofs.Seating.{seat_is, grows_old}
 use Rattle.xh_records.proofs.Numbered.{none_numbered}

@@ -1,10 +1,4 @@
-use Rattle.std.proofs.Common.{rules, ◌≡◌, ℕ, ◌<◌, length, refl, sym, ap, ◌∙◌, subst, [], ◌∷◌, ◌++◌}
-use Rattle.std.specs.Vec.{vec_capacity}
-use Rattle.xh_model.specs.Words.{number_of, place_of}
-use Rattle.xh_records.specs.Encoding.{holder_of}
-use Rattle.xh_records.specs.inner.Events.{taking}
-use Rattle.xh_records.specs.inner.Views.{adds}
-use Rattle.xh_records.specs.inner.Tokens.{numbered}
+use Rattle.xh_records.proofs.Common.{rules, ◌≡◌, ℕ, ◌<◌, length, refl, sym, ap, ◌∙◌, subst, [], ◌∷◌, ◌++◌, vec_capacity, number_of, place_of, holder_of, taking, adds, numbered}
 use Rattle.xh_records.proofs.History.{by_place_more}
 use Rattle.xh_records.proofs.Keeps.{taking_is}
 use Rattle.xh_records.proofs.Seating.{not_among, has_room, gains, seat_is}

@@ -1,9 +1,4 @@
-use Rattle.std.proofs.Common.{arith}
-use Rattle.std.proofs.lemmas.Bool.Decides.{nat_tests}
-use Rattle.std.proofs.Common.{◌≡◌, refl, ap}
-use Rattle.std.specs.Prelude.{Some}
-use Rattle.std.specs.Fn.{CalledAtMut}
-use Rattle.xh_records.specs.inner.Tokens.{in_slot}
+use Rattle.xh_records.proofs.Common.{arith, nat_tests, ◌≡◌, refl, ap, Some, CalledAtMut, in_slot}
 use Rattle.xh_records.proofs.Seating.{seat_is}
 use Rattle.xh_records.proofs.Lent.{Lent, lends, spot_of, kept, after_one, listed_as}
 use Rattle.xh_records.proofs.records.Records.with_lot.Given.{Over}

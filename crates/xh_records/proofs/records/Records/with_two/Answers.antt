@@ -1,10 +1,4 @@
-use Rattle.std.proofs.Common.{arith}
-use Rattle.std.proofs.lemmas.Bool.Decides.{nat_tests}
-use Rattle.std.proofs.Common.{◌≡◌, refl, sym, ap, ◌∙◌, subst}
-use Rattle.std.specs.Prelude.{Some, None}
-use Rattle.std.specs.Fn.{CalledAtPairMut}
-use Rattle.xh_model.specs.Keyed.{put}
-use Rattle.xh_model.proofs.Keyed.{put_swap, put_twice}
+use Rattle.xh_records.proofs.Common.{arith, nat_tests, ◌≡◌, refl, sym, ap, ◌∙◌, subst, Some, None, CalledAtPairMut, put, put_swap, put_twice}
 use Rattle.xh_records.proofs.Ended.{is_some}
 use Rattle.xh_records.proofs.Lists.{first_is, slot_other}
 use Rattle.xh_records.proofs.Seating.{seat_is}

@@ -1,6 +1,4 @@
-use Rattle.std.proofs.Common.{arith}
-use Rattle.std.proofs.lemmas.Bool.Decides.{nat_tests}
-use Rattle.xh_model.proofs.Keyed.{length-keys}
+use Rattle.xh_records.proofs.Common.{arith, nat_tests, length-keys}
 use Rattle.xh_records.proofs.Lists.{few}
 use Rattle.xh_records.proofs.Numbered.{length-numbered, own_record}
 use Rattle.xh_records.proofs.seat.Seat.count.Goals as goal
