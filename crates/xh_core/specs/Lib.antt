@@ -12,5 +12,6 @@ pub mod Several
 pub mod Gaining
 pub mod Pairing
 pub mod ArenaLines
+pub mod Flight
 pub mod Wearing
 pub mod inner
