@@ -155,6 +155,7 @@ module _ (p : ℕ) (rs : List ℕ) (m n : Machine) (w : IsWhole m) (r : IsRunnin
     bytes = bytes;
     places = rw places (places_set m.places p _ w.places (busy_place m p (blocks m p ++ rs) w (runs_busy m p r)));
     channels = rw (lines, contracts, opened) w.channels;
+    reached = rw (ends, lines, opened) w.reached;
     opened = opened;
     depth = depth;
   })

@@ -5,4 +5,5 @@ pub mod Sweeps
 pub mod Room
 pub mod Closing
 pub mod Messages
+pub mod Flights
 pub mod Opening

@@ -24,7 +24,7 @@ use Rattle.xh_serial.specs.MessageCommands.{given, told_line, put_line, without,
 use Rattle.xh_serial.specs.inner.Checks.{MayGive, MayTake}
 use Rattle.xh_core.proofs.Stores.{count_append, done, all_owners, is_there, at_set, times-cons, same_len, Accepted, accepted_all}
 use Rattle.xh_serial.proofs.Machines.{runs_busy, place_there, list_set, current_generation, busy_place, places_set, way_here, way_else, peer_ne, peer_half, peer_below, current_range, current_blocks}
-use Rattle.xh_serial.proofs.Wired.{state_in, IsPair, same_lines, wired_pair, half_apart, put_numbered, set_numbered, tags_in, taken_numbered}
+use Rattle.xh_serial.proofs.Wired.{state_in, IsPair, same_lines, wired_pair, half_apart, put_numbered, set_numbered, set_reached, tags_in, taken_numbered}
 use Rattle.xh_serial.specs.inner.Placing.{blocks_in}
 
 pub any_times : (q : ℕ) (bs : List ℕ) → list_any (λ b. b == q) bs ≡ nat_lt 0 (times q bs)
@@ -159,6 +159,8 @@ module _ (m : Machine) (p e tag : ℕ) (bs : List ℕ) (w : IsWhole m) (g : MayG
             (λ k h. other_lines k (half_apart own k h) (λ s. h (ap (λ (i : ℕ). i / 2) s ∙ peer_half own)));
         few = w.channels.few;
       })
+      (set_reached m.ends told m.opened d y there (grind (arith, nat_tests, get_or-set_other, peer_ne)) (λ s. absurd (false≢true (sym g.not_shut ∙ s)))
+      (set_reached m.ends m.lines m.opened own z own_there refl (w.reached.drained own) w.reached))
 
 -- ---- take
 
@@ -240,6 +242,7 @@ module _ (m : Machine) (p e : ℕ) (w : IsWhole m) (t : MayTake m p e (toward m 
             (λ k h. get_or-set_other m.lines way_d k shorter no_line (half_apart way_d k h));
         few = w.channels.few;
       })
+      (set_reached m.ends m.lines m.opened way_d shorter way_there refl (λ s. ap (λ (ms : List Message). remove ms 0) (w.reached.drained way_d s)) w.reached)
 
   -- the front message is one that the contract allows
   front_free : (o : Option (List Row)) → contract_of m.contracts way_d ≡ o → is_banned o (1 - way_d % 2) (line m way_d).state (front m e).tag ≡ false

@@ -12,8 +12,9 @@ use Rattle.xh_model.specs.declared.row.Row.{Row}
 use Rattle.xh_model.specs.Store.{owner, len, holds, is_held_by, IsLawful, new_store, Store, after}
 use Rattle.xh_model.specs.Config.{IsConfig}
 use Rattle.xh_core.proofs.FreshPlain.{at_replicate}
+use Rattle.xh_serial.specs.declared.line.Line.{Line}
 use Rattle.xh_serial.specs.declared.place.Place.{Place}
-use Rattle.xh_serial.specs.Machine.{IsNumbered, Machine, blocks, buffer, place, line, on_way, listed, no_place, no_line, end_of, IsWhole, peer, ArePlaces}
+use Rattle.xh_serial.specs.Machine.{IsNumbered, Machine, waiting, blocks, buffer, place, line, on_way, listed, no_place, no_line, end_of, IsWhole, peer, ArePlaces}
 use Rattle.xh_core.specs.Several.{times}
 use Rattle.xh_serial.specs.PlaceCommands.{new_machine, is_ready, started, spawn_at}
 use Rattle.xh_core.proofs.Claiming.{no_bytes, one_time}
@@ -95,6 +96,7 @@ module _ (c : Config) (is : IsConfig c) (lawful : IsLawful (new_store c)) where
       wired = λ k rows e. absurd (false≢true (ap is_some (sym (at_replicate {A = Option (List Row)} 64 (k / 2) None) ∙ e)));
       few = omega arith;
     };
+    reached = record { drained = λ d h. ap (λ (l : Line). l.waiting.items) (bare d).4; there = λ d h. absurd (omega (arith, h)) };
     deep = is.most_depth;
   }
 
@@ -229,6 +231,17 @@ module _ (s : Store) (p q r t : ℕ) (contract : Option (List Row)) (m : Machine
   end_is : (k : ℕ) → end_of n k ≡ cond (k == t) (Some (2 * m.opened + 1)) (cond (k == r) (Some (2 * m.opened)) (end_of m k))
   end_is k = grind (arith, nat_tests, length-set, at_set)
 
+  drained : (d : ℕ) → (line n d).shut ≡ true → waiting n d ≡ []
+  drained d = grind (arith, nat_tests, line_is d, v.whole.reached.drained d)
+
+  reached : (d : ℕ) → d < 2 * (m.opened + 1) → (line n d).shut ≡ false → (e : ℕ) × (end_of n e ≡ Some d)
+  reached d below not_shut = elim (cases_eq (d / 2) m.opened) [
+    | inl e ↦ (cond ((d % 2) == 0) r t, grind (arith, nat_tests, end_is r, end_is t, v.shared.apart))
+    | inr a ↦ (
+        let old = v.whole.reached.there d (grind (arith, nat_tests)) (grind (arith, nat_tests, line_is d)) in
+        (old.0, grind (arith, nat_tests, end_is old.0, old.1, (v.whole.ends old.0 d old.1).held, v.shared.free_r, v.shared.free_t)))
+  ]
+
   -- ---- all of it
 
   pub connected_whole : IsWhole n
@@ -268,6 +281,7 @@ module _ (s : Store) (p q r t : ℕ) (contract : Option (List Row)) (m : Machine
       ];
       few = omega (arith, v.more);
     };
+    reached = record { drained = drained; there = reached };
     deep = v.whole.deep;
   }
 

@@ -13,7 +13,7 @@ use Rattle.std.proofs.lemmas.List.FromFn.{length-range_with_len}
 use Rattle.xh_model.specs.declared.event.Holder.{Holder}
 use Rattle.xh_model.specs.declared.event.Holder.TheVariants.{Process, Direction}
 use Rattle.xh_model.specs.Store.{owner, holds, is_held_by, Store, len, IsLawful, numbers, bytes_of, holders, all_holders, all_out}
-use Rattle.xh_serial.specs.Machine.{Machine, blocks, way_in, on_way, listed, IsWhole, end_of, buffer, IsEnd, ArePlaces, AreChannels, no_place, no_line, place, carried}
+use Rattle.xh_serial.specs.Machine.{Machine, blocks, way_in, on_way, listed, IsWhole, end_of, buffer, IsEnd, ArePlaces, AreChannels, HaveEnds, no_place, no_line, carried}
 use Rattle.xh_core.specs.Several.{times}
 use Rattle.xh_model.proofs.Totals.{sum_zero, sum_add, sum_same, total_bytes}
 use Rattle.xh_core.proofs.Ranges.{picked, same_range, exchanged, sum_mapped, indexed}
@@ -78,6 +78,7 @@ pub record Came (from : Option Holder) (h : Holder) (rs : List ℕ) (m n : Machi
   pub bytes : (q : ℕ) → length (buffer n q) ≡ cond (is_some (end_of m q)) 0 (len n.store q)
   pub places : ArePlaces n.places
   pub channels : AreChannels n.lines n.contracts n.opened
+  pub reached : HaveEnds n.ends n.lines n.opened
   pub opened : n.opened ≡ m.opened
   pub depth : n.depth ≡ m.depth
 
@@ -99,6 +100,7 @@ module _ (from : Option Holder) (h : Holder) (rs : List ℕ) (m n : Machine) (w 
     bytes = λ q. v.bytes q ∙ rw (same_end q) refl;
     places = v.places;
     channels = v.channels;
+    reached = v.reached;
     deep = rw v.depth w.deep;
   }
 
@@ -124,8 +126,8 @@ module _ (g h : Holder) (rs : List ℕ) (m : Machine) (t : Store) (ps : List Pla
   handed = record m { store = t; places = ps; lines = ls }
 
   pub handed_whole : ((k : Holder) (q : ℕ) → times q (listed handed k) + has (Some g) k * times q rs ≡ times q (listed m k) + has (Some h) k * times q rs) →
-      ArePlaces ps → AreChannels ls m.contracts m.opened → IsWhole handed
-  handed_whole lists places channels = came_whole (Some g) h rs m handed w (record {
+      ArePlaces ps → AreChannels ls m.contracts m.opened → HaveEnds m.ends ls m.opened → IsWhole handed
+  handed_whole lists places channels reached = came_whole (Some g) h rs m handed w (record {
     lawful = grind (arith, nat_tests, few, had_bytes, same_len, same_known, were);
     moved = record { were = were; once = λ q. grind (arith, nat_tests, held q); owners = owners; lists = lists };
     full = had_bytes;
@@ -136,6 +138,7 @@ module _ (g h : Holder) (rs : List ℕ) (m : Machine) (t : Store) (ps : List Pla
     bytes = λ q. rw (same_len m.store t q arenas) (w.bytes q);
     places = places;
     channels = channels;
+    reached = reached;
     opened = refl;
     depth = refl;
   })

@@ -1,5 +1,5 @@
 -- A sweep that finishes frees exactly the reclaimed set, and what the list is after any sweep.
-use Rattle.std.proofs.Common.{◌≡◌, ◌≢◌, ℕ, zero, suc, ◌+◌, ◌<◌, ◌≤◌, List, [], ◌∷◌, ◌++◌, length, drop, drop-cons, Bool, true, refl, sym, ap, ◌∙◌, subst, arith, inl, inr, take, cond}
+use Rattle.std.proofs.Common.{◌≡◌, ◌≢◌, ℕ, zero, suc, ◌<◌, ◌≤◌, List, [], ◌∷◌, ◌++◌, length, drop, drop-cons, Bool, true, refl, sym, ap, ◌∙◌, subst, arith, inl, inr, take, cond}
 use Rattle.std.proofs.Common.{append_assoc, append-nil}
 use Rattle.std.specs.Prelude.{Some, None, is_some, ◌==◌, nat_lt}
 use Rattle.std.specs.List.{remove, flat_map}

@@ -1,11 +1,11 @@
 -- What sweeping one entry leaves: a whole machine.
-use Rattle.std.proofs.Common.{◌≡◌, ◌≢◌, ℕ, ◌+◌, ◌/◌, ◌<◌, ◌≤◌, List, [], ◌++◌, length, Bool, true, false, cond, refl, sym, ap, ◌∙◌, arith, inl, inr, zero, suc, ◌-◌, ◌*◌, ◌⊎◌, get_or-set_other}
+use Rattle.std.proofs.Common.{◌≡◌, ◌≢◌, ℕ, ◌+◌, ◌/◌, ◌<◌, ◌≤◌, List, [], ◌++◌, length, Bool, true, false, cond, refl, sym, ap, ◌∙◌, arith, inl, inr, ◌-◌, ◌*◌, ◌⊎◌, get_or-set_other}
 use Rattle.std.specs.Prelude.{Option, Some, None, ◌==◌, nat_lt, slice_index_or, is_some}
 use Rattle.std.specs.List.{remove}
 use Rattle.std.proofs.lemmas.Bool.Decides.{nat_tests}
 use Rattle.xh_serial.proofs.Machines.{list_set, place_there, current_blocks, relisted_list, relisted_again, lists_current, current_generation, current_range, way_here, way_else, places_set}
 use Rattle.xh_serial.proofs.Machines.{busy_place, lists_busy}
-use Rattle.std.proofs.lemmas.Bool.{cases_eq, cases_Bool, false≢true, eq-eqb, ne_eqb, lt-ltb}
+use Rattle.std.proofs.lemmas.Bool.{cases_Bool, false≢true, eq-eqb, ne_eqb, lt-ltb}
 use Rattle.std.proofs.lemmas.List.{length-set, length-append, get_or_append_left}
 use Rattle.std.proofs.lemmas.List.Sums.{sum_by-remove, get_or-le-sum_by}
 use Rattle.xh_model.specs.declared.event.Holder.{Holder}
@@ -23,7 +23,7 @@ use Rattle.xh_core.proofs.Stores.{count_append, done, same_process, same_directi
 use Rattle.xh_model.specs.declared.row.Row.{Row}
 use Rattle.xh_model.proofs.Lawful.{back_lawful, back_bytes}
 use Rattle.xh_serial.specs.declared.line.Line.{Line}
-use Rattle.xh_serial.proofs.Wired.{shut_wired, shut_numbered}
+use Rattle.xh_serial.proofs.Wired.{shut_wired, shut_numbered, shut_reached}
 
 -- the records on their way to an endpoint, if there is one
 abbrev pub on_way_to : Machine → Option ℕ → List ℕ
@@ -277,6 +277,7 @@ whole_one m p from w l =
         wired = shut_wired m.contracts m.lines (end_of m (entry m p from)) (end_range m (entry m p from) w) w.channels.wired;
         few = w.channels.few;
       };
+      reached = shut_reached m.ends m.contracts m.lines m.opened (entry m p from) (end_of m (entry m p from)) (rw w.kinds (entry_there m p from w l)) refl (end_range m (entry m p from) w) w.reached;
       deep = w.deep;
     }
 

@@ -1,5 +1,5 @@
 -- The two ends of each channel with a contract stay in step, whichever of them puts, takes or is drained, and the messages that wait have consecutive numbers.
-use Rattle.std.proofs.Common.{◌≡◌, ◌≢◌, ℕ, ◌+◌, ◌-◌, ◌*◌, ◌/◌, ◌%◌, ◌<◌, List, [], ◌∷◌, length, refl, sym, ap, ◌∙◌, subst, arith, inl, inr, get_or-set_same, get_or-set_other, ◌++◌}
+use Rattle.std.proofs.Common.{true, ◌≡◌, ◌≢◌, ℕ, ◌+◌, ◌-◌, ◌*◌, ◌/◌, ◌%◌, ◌<◌, List, [], ◌∷◌, length, refl, sym, ap, ◌∙◌, subst, arith, inl, inr, get_or-set_same, get_or-set_other, ◌++◌}
 use Rattle.std.specs.Prelude.{Option, Some, None, slice_index_or, Bool, slice_set, ◌==◌}
 use Rattle.std.proofs.lemmas.Bool.Decides.{nat_tests}
 use Rattle.xh_core.proofs.Stores.{at_set}
@@ -9,7 +9,7 @@ use Rattle.xh_model.specs.declared.row.Row.{Row}
 use Rattle.xh_model.specs.Rows.{allowed, walk, IsValid, InStep}
 use Rattle.xh_model.proofs.InStep.{cases_Option, drain_step, front_step}
 use Rattle.xh_serial.specs.declared.line.Line.{Line}
-use Rattle.xh_serial.specs.Machine.{Machine, line, no_line, peer, tags_of, contract_of, drained_state, AreWired, AreNumbered, IsNumbered, IsWhole}
+use Rattle.xh_serial.specs.Machine.{Machine, line, no_line, peer, tags_of, contract_of, drained_state, AreWired, AreNumbered, IsNumbered, IsWhole, HaveEnds}
 use Rattle.xh_serial.specs.MessageCommands.{AreOrderly, put_line, taken_line}
 use Rattle.xh_serial.specs.Sweeping.{shut_line, shut_in}
 use Rattle.xh_serial.proofs.Machines.{peer_ne, peer_half}
@@ -135,3 +135,18 @@ set_numbered lines d l there all h k = rw (at_set lines d k l no_line there) (el
 pub shut_numbered : (contracts : List (Option (List Row))) (lines : List Line) (o : Option ℕ) → ((d : ℕ) → o ≡ Some d → d < length lines) → AllNumbered lines → AllNumbered (shut_in contracts lines o)
 shut_numbered contracts lines None there all = all
 shut_numbered contracts lines (Some d) there all = set_numbered lines d _ (there d refl) all ((slice_index_or lines d no_line).put + 1, refl)
+
+-- ---- a direction has its end, or is shut and holds nothing
+
+-- one line is another, shut as before
+pub set_reached : (ends : List (Option ℕ)) (lines : List Line) (opened d : ℕ) (l : Line) → d < length lines → l.shut ≡ (slice_index_or lines d no_line).shut → (l.shut ≡ true → l.waiting.items ≡ []) →
+    HaveEnds ends lines opened → HaveEnds ends (slice_set lines d l) opened
+set_reached ends lines opened d l within same empty h = grind (arith, nat_tests, at_set)
+
+-- an end is swept: its direction is shut and drained
+pub shut_reached : (ends : List (Option ℕ)) (contracts : List (Option (List Row))) (lines : List Line) (opened r : ℕ) (o : Option ℕ) → r < length ends → slice_index_or ends r None ≡ o →
+    ((d : ℕ) → o ≡ Some d → d < length lines) → HaveEnds ends lines opened → HaveEnds (slice_set ends r None) (shut_in contracts lines o) opened
+shut_reached ends contracts lines opened r o there is l h = record {
+  drained = λ k. grind (arith, nat_tests, at_set, h.drained k);
+  there = λ k below not_shut. let e = h.there k below (grind (arith, nat_tests, at_set)) in (e.0, grind (arith, nat_tests, at_set, e.1, is));
+}

@@ -7,4 +7,5 @@ pub mod MessageCommands
 pub mod BlockCommands
 pub mod ChannelCommands
 pub mod PlaceCommands
+pub mod InFlight
 pub mod inner

@@ -163,6 +163,11 @@ pub record AreChannels (lines : List Line) (contracts : List (Option (List Row))
   pub wired : AreWired contracts lines
   pub few : opened ≤ CHANNELS
 
+-- a direction that is shut holds no message, and one that was opened and isn't shut has its end
+pub record HaveEnds (ends : List (Option ℕ)) (lines : List Line) (opened : ℕ) : Type 0 where
+  pub drained : (d : ℕ) → (slice_index_or lines d no_line).shut ≡ true → (slice_index_or lines d no_line).waiting.items ≡ []
+  pub there : (d : ℕ) → d < 2 * opened → (slice_index_or lines d no_line).shut ≡ false → (e : ℕ) × (slice_index_or ends e None ≡ Some d)
+
 -- each record stands once in its holder's list and in no other; each held record has bytes; a data block's buffer has its length
 pub record IsWhole (m : Machine) : Type 0 where
   pub store : IsLawful m.store
@@ -174,4 +179,5 @@ pub record IsWhole (m : Machine) : Type 0 where
   pub bytes : (r : ℕ) → length (buffer m r) ≡ cond (is_some (end_of m r)) 0 (len m.store r)
   pub places : ArePlaces m.places
   pub channels : AreChannels m.lines m.contracts m.opened
+  pub reached : HaveEnds m.ends m.lines m.opened
   pub deep : m.depth ≤ MAX_DEPTH

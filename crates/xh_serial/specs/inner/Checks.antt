@@ -29,6 +29,7 @@ pub record MayGive (m : Machine) (p e tag : ℕ) (bs : List ℕ) (d : ℕ) : Typ
   pub held : list_all (λ r. holds m.store (Process p) r) bs ≡ true
   pub once : has_twice bs ≡ false
   pub allowed : is_banned (contract_of m.contracts d) (d % 2) (line m d).state tag ≡ false
+  pub not_shut : (line m (peer d)).shut ≡ false
   pub room : length (waiting m (peer d)) < m.depth
   pub more : (line m (peer d)).put < MAX_MESSAGES
 

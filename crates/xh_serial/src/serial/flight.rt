@@ -1,8 +1,9 @@
 //! What is in flight, direction by direction.
 ghost use Rattle.std.specs.Prelude.{◌≡◌, ◌<◌, ◌≤◌, length};
-ghost use Rattle.std.specs.List.{sum_by};
 ghost use Rattle.xh_model.specs.declared.limits.TheConstants.{DIRECTIONS, MAX_HELD};
 ghost use Rattle.xh_serial.specs.Machine.{on_way};
+ghost use Rattle.xh_core.specs.Flight.{AreFlightLines};
+ghost use Rattle.xh_serial.specs.InFlight.{IsUnderWay};
 ghost use Rattle.xh_serial.specs.PlaceCommands.{flight_line, flight_of, ledger_of, total};
 
 use crate::serial::Serial;
@@ -36,10 +37,12 @@ impl Serial {
         }
     }
 
-    /// A line for each direction on which blocks are on their way, in rising order.
+    /// A line for each direction on which blocks are on their way, in rising order. Where each end of
+    /// a channel was closed there is none.
     pub fn flight(&self) -> ArrayVec<FlightLine, FLIGHT_LINES>
         ensures lines { result.items ≡ flight_of self.now }
-        ensures sum { sum_by (λ line. line.bytes) result.items ≡ (ledger_of self.now).flight }
+        ensures sums { AreFlightLines (ledger_of self.now).flight result.items }
+        ensures under_way { IsUnderWay self.now result.items }
     {
         let _start = &self.plain;
         let mut lines = ArrayVec::new();
