@@ -28,26 +28,19 @@ free_push d (y ∷ ys) zero x long old new i h = absurd (omega arith)
 free_push d (y ∷ ys) (suc n) x long old new zero h = old 0 (omega arith)
 free_push d (y ∷ ys) (suc n) x long old new (suc i) h = free_push d ys n x (omega arith) (λ k b. old (suc k) (omega arith)) new i (omega arith)
 
-none_at : (xs : List (Option FreePair)) (n i : ℕ) (p : FreePair) → at_place (set xs n None) i ≡ Some p → at_place xs i ≡ Some p
-none_at [] n i p e = e
-none_at (x ∷ xs) zero zero p e = absurd (none-some p e)
-none_at (x ∷ xs) zero (suc i) p e = e
-none_at (x ∷ xs) (suc n) zero p e = e
-none_at (x ∷ xs) (suc n) (suc i) p e = none_at xs n i p e
-
-pub placed_none : (xs : List (Option FreePair)) (n : ℕ) → StandAtTheirNumbers xs → StandAtTheirNumbers (set xs n None)
-placed_none xs n old i p e = old i p (none_at xs n i p e)
-
-set_at : (xs : List (Option FreePair)) (k n : ℕ) (p : FreePair) → ((i : ℕ) (q : FreePair) → at_place xs i ≡ Some q → q.low.channel ≡ i + k) → p.low.channel ≡ n + k
-    → (i : ℕ) (q : FreePair) → at_place (set xs n (Some p)) i ≡ Some q → q.low.channel ≡ i + k
-set_at [] k n p old is i q e = old i q e
-set_at (y ∷ ys) k zero p old is zero q e = ap channel_of (sym e) ∙ is
-set_at (y ∷ ys) k zero p old is (suc i) q e = old (suc i) q e
-set_at (y ∷ ys) k (suc n) p old is zero q e = old 0 q e
-set_at (y ∷ ys) k (suc n) p old is (suc i) q e = set_at ys (suc k) n p (λ j r f. old (suc j) r f ∙ omega arith) (is ∙ omega arith) i q e ∙ omega arith
+set_at : (xs : List (Option FreePair)) (k n : ℕ) (x : Option FreePair) → ((i : ℕ) (q : FreePair) → at_place xs i ≡ Some q → q.low.channel ≡ i + k) → ((q : FreePair) → x ≡ Some q → q.low.channel ≡ n + k)
+    → (i : ℕ) (q : FreePair) → at_place (set xs n x) i ≡ Some q → q.low.channel ≡ i + k
+set_at [] k n x old is i q e = old i q e
+set_at (y ∷ ys) k zero x old is zero q e = is q e
+set_at (y ∷ ys) k zero x old is (suc i) q e = old (suc i) q e
+set_at (y ∷ ys) k (suc n) x old is zero q e = old 0 q e
+set_at (y ∷ ys) k (suc n) x old is (suc i) q e = set_at ys (suc k) n x (λ j r f. old (suc j) r f ∙ omega arith) (λ r f. is r f ∙ omega arith) i q e ∙ omega arith
 
 pub placed_some : (xs : List (Option FreePair)) (n : ℕ) (p : FreePair) → StandAtTheirNumbers xs → p.low.channel ≡ n → StandAtTheirNumbers (set xs n (Some p))
-placed_some xs n p old is i q e = set_at xs 0 n p (λ j r f. old j r f ∙ omega arith) (is ∙ omega arith) i q e ∙ omega arith
+placed_some xs n p old is i q e = set_at xs 0 n (Some p) (λ j r f. old j r f ∙ omega arith) (λ r f. ap channel_of (sym f) ∙ is ∙ omega arith) i q e ∙ omega arith
+
+pub placed_none : (xs : List (Option FreePair)) (n : ℕ) → StandAtTheirNumbers xs → StandAtTheirNumbers (set xs n None)
+placed_none xs n old i q e = set_at xs 0 n None (λ j r f. old j r f ∙ omega arith) (λ r f. absurd (none-some r f)) i q e ∙ omega arith
 
 -- what stands at a place, whatever is said of places past the end
 pub stands_at : (xs : List (Option FreePair)) (k n : ℕ) (d : Option FreePair) → length xs ≡ n → k < n → at_place xs k ≡ get_or xs k d

@@ -1,9 +1,9 @@
 -- What a put, a take and a shut of the line that a seat holds make of its account, and what contracts see of that.
-use Rattle.std.proofs.Common.{◌≡◌, inl, ℕ, zero, suc, ◌-◌, ◌<◌, ◌≤◌, false, true≢false, List, [], ◌∷◌, ◌++◌, length, take, sym, refl, ap, ◌∙◌, subst, append_assoc, arith}
+use Rattle.std.proofs.Common.{◌≡◌, inl, inr, ℕ, zero, suc, ◌+◌, ◌-◌, ◌<◌, ◌≤◌, Bool, true, false, ◌||◌, true≢false, List, [], ◌∷◌, ◌++◌, length, length-append, take, sym, refl, ap, ◌∙◌, subst, ⊎_elim, append_assoc, arith}
 use Rattle.std.proofs.lemmas.Bool.{false_from_ne_true}
 use Rattle.std.proofs.lemmas.List.{length_push}
 use Rattle.std.proofs.Math.Seq.{take-append_seam}
-use Rattle.std.specs.Prelude.{Option, Some, None, unwrap_or, IsSome, Ok}
+use Rattle.std.specs.Prelude.{Option, Some, None, unwrap_or, IsSome, Result, Ok, Err, OnErr}
 use Rattle.arrayvec.specs.ArrayVec.{ArrayVec}
 use Rattle.atomic_table.specs.Seated.{TableId}
 use Rattle.atomic_table.specs.Table.{Me, rest}
@@ -16,11 +16,19 @@ use Rattle.xh_channel.specs.declared.line_end.LineEnd.{LineEnd}
 use Rattle.xh_channel.specs.declared.line_rule.Account.{Account}
 use Rattle.xh_channel.specs.declared.line_rule.Part.{Part}
 use Rattle.xh_channel.specs.declared.message.Message.{Message}
-use Rattle.xh_channel.specs.Ends.{one_put, one_taken}
-use Rattle.xh_channel.specs.Lines.{Lined, PutsOn, TakesOn, end_of, waiting}
-use Rattle.xh_channel.specs.LineSeats.{PutsBy, TakesBy}
+use Rattle.xh_channel.specs.declared.refused.Refused.{Refused}
+use Rattle.xh_channel.specs.declared.refused.Refused.TheVariants as refused
+use Rattle.xh_channel.specs.declared.unsent.Unsent.{Unsent}
+use Rattle.xh_channel.specs.declared.unsent.Unsent.TheVariants.{Protocol, PeerClosed, Full}
+use Rattle.xh_channel.specs.Ends.{one_put, one_taken, now_shut}
+use Rattle.xh_channel.specs.Lines.{Lined, PutsOn, Shuts, TakesOn, end_of, waiting}
+use Rattle.xh_channel.specs.LineSeats.{LineView, OnlySaw, PutsBy, ShutsBy, TakesBy, counts_at}
 use Rattle.xh_channel.specs.Numbers.{message, number}
-use Rattle.xh_channel.specs.inner.LineRule.{Found, Grows, IsEndBy, IsSettled, IsTold, LiesFor, counts_in, holding, line_view, own_by, peer_by, settled}
+use Rattle.xh_channel.specs.inner.LineRule.{Found, Grows, IsEndBy, IsSettled, IsTold, LiesFor, counts_in, holding, line_view, own_by, peer_by, settled, settled_by}
+
+or_right : (a b : Bool) → b ≡ true → (a || b) ≡ true
+or_right true b e = refl
+or_right false b e = e
 
 -- a line lies where the seat's side has a depth
 pub has_line : (k : ℕ) (l : Option Lined) (own peer : Account) → LiesFor k l own peer → 1 ≤ own.depth → (line : Lined) × (l ≡ Some line)
@@ -93,24 +101,58 @@ module _ (table : TableId) (v : Part) (peer : Account) (line line' : Lined) (fou
     waits = subst (λ (x : List Message × LineEnd). IsDirection number x.0 peer.got (waiting x.1)) (λ i. (sent i, sym same i)) was.1.waits;
   }
 
+  -- what contracts see of the seat once it gave the line back
+  abbrev seen : LineView
+  seen = line_view table (settled_by (holding v peer) (Some line'))
+
+  abbrev saw : Bool
+  saw = v.told.shut || peer.shut
+
+  seen_is : (own' : Account) → own_by (holding v peer) line' ≡ own' → seen ≡ record (line_view table (record v { own = own' })) { peer_shut = saw }
+  seen_is own' is = ap (λ (a : Account). record (line_view table (record v { own = a })) { peer_shut = saw }) is
+
+  saw_no_less : v.told.shut ≡ true → saw ≡ true
+  saw_no_less e = ap (λ b. b || peer.shut) e
+
+  saw_shut : (end_of line (1 - k)).counts.shut ≡ true → saw ≡ true
+  saw_shut e = or_right v.told.shut peer.shut (ap (λ (c : Counts). c.shut) (sym was.1.counts) ∙ e)
+
+  saw_open : (end_of line (1 - k)).counts.shut ≡ false → (v.told.shut ≡ false) × (saw ≡ false)
+  saw_open e =
+      let closed : peer.shut ≡ false = ap (λ (c : Counts). c.shut) (sym was.1.counts) ∙ e in
+      let told = false_from_ne_true v.told.shut (λ p. true≢false (sym (found.told.2 p) ∙ closed)) in
+      (told, (λ i. told i || closed i))
+
+  -- where the line stayed as it was
+  kept : line' ≡ line → IsSettled (holding v peer) line' × (own_by (holding v peer) line' ≡ own)
+  kept same = settled_so v peer own line' found.few (subst (λ (l : Lined). Ends k l own peer) (sym same) was) (omega arith, omega arith, λ p. p) found.told
+
+  only_saw : line' ≡ line → OnlySaw (line_view table v) seen
+  only_saw same = (seen_is own (kept same).1, saw_no_less)
+
+  same_counts : line' ≡ line → counts_at seen ≡ counts_in own
+  same_counts same = ap counts_in (kept same).1
+
+  -- what the contract allows by the line it allows by the account
+  step_by : (tag side : ℕ) (next : Option ℕ) → allowed line.rows (end_of line k).state tag side ≡ next → allowed own.rows own.state tag side ≡ next
+  step_by tag side next e = (λ i. allowed (sym was.0.rows i) (sym was.0.state i) tag side) ∙ e
+
   module _ (tag : ℕ) (blocks : ArrayVec ℕ) where
-    pub put_ok : (n : ℕ) → PutsOn line line' k tag blocks (Ok n) → let own' : Account = record own { sent = own.sent ++ message n tag blocks ∷ []; state = (end_of line' k).state } in
-        IsSettled (holding v peer) line' × (own_by (holding v peer) line' ≡ own')
-        × PutsBy (line_view table v) (line_view table (record v { own = own' })) tag blocks (Ok n)
-    put_ok n p =
+    full : length (waiting (end_of line (1 - k))) ≡ line.depth → v.told.taken + own.depth ≤ length own.sent
+    full e = let sent = ap length was.1.waits.0 in let deep = was.0.depth in let told = found.told.1 in omega (arith, length-append peer.got (waiting (end_of line (1 - k))))
+
+    pub put_done : (r : Result ℕ Unsent) → PutsOn line line' k tag blocks r → OnErr r (line' ≡ line)
+        → IsSettled (holding v peer) line' × PutsBy (line_view table v) seen tag blocks r × OnErr r (OnlySaw (line_view table v) seen)
+    put_done (Ok n) p _ =
         let m : Message = message n tag blocks in
         let o = was.0 in
         let e = was.1 in
         let r = p.put in
-        let before : (end_of line k).counts ≡ counts_in own = o.counts in
-        let next = n in
         let is_next : n ≡ suc (length own.sent) = r.0 ∙ ap (λ (c : Counts). suc c.put) o.counts in
         let longer : length (own.sent ++ m ∷ []) ≡ suc (length own.sent) = omega (arith, length_push own.sent m) in
         let numbered = numbers_join number 0 own.sent m e.waits.1 (is_next ∙ ap suc (omega arith)) in
         let own' : Account = record own { sent = own.sent ++ m ∷ []; state = (end_of line' k).state } in
-        let closed : peer.shut ≡ false = ap (λ (c : Counts). c.shut) (sym e.counts) ∙ r.3 in
-        let unshut : v.told.shut ≡ false = false_from_ne_true v.told.shut (λ p. true≢false (sym (found.told.2 p) ∙ closed)) in
-        let step : allowed own.rows own.state tag k ≡ Some own'.state = (λ i. allowed (sym o.rows i) (sym o.state i) tag k) ∙ r.4.1 in
+        let step = step_by tag k (Some own'.state) r.4.1 in
         let counts : counts_in own' ≡ one_put (counts_in own) = λ i. record { put = longer i; taken = length own.got; shut = own.shut } in
         let ends' : Ends k line' own' peer = (
           record {
@@ -129,26 +171,55 @@ module _ (table : TableId) (v : Part) (peer : Account) (line line' : Lined) (fou
           },
         ) in
         let s = settled_so v peer own' line' found.few ends' (omega arith, omega arith, λ q. q) found.told in
-        (s.0, s.1, (is_next, counts, subst IsSome (sym step) refl, (unshut, unshut), (step, refl, numbered)))
+        let unshut = saw_open r.3 in
+        let so : PutsBy (line_view table v) (record (line_view table (record v { own = own' })) { peer_shut = saw }) tag blocks (Ok n) =
+        (is_next, counts, subst IsSome (sym step) refl, unshut, (step, (λ i. record (line_view table (record v { own = own' })) { peer_shut = (unshut.1 ∙ sym unshut.0) i }), numbered)) in
+        (s.0, subst (λ (x : LineView). PutsBy (line_view table v) x tag blocks (Ok n)) (sym (seen_is own' s.1)) so, tt)
+    put_done (Err (Protocol back)) p same = ((kept same).0, (p.put.0, same_counts same, step_by tag k None p.put.2), only_saw same)
+    put_done (Err (PeerClosed back)) p same = ((kept same).0, (p.put.0, same_counts same, subst IsSome (sym (step_by tag k _ refl)) p.put.2, saw_shut p.put.3), only_saw same)
+    put_done (Err (Full back)) p same = (
+      (kept same).0,
+      (p.put.0, same_counts same, subst IsSome (sym (step_by tag k _ refl)) p.put.2, saw_open p.put.3, ⊎_elim (λ e. inl (full e)) (λ e. inr (ap (λ (c : Counts). c.put) (sym was.0.counts) ∙ e)) p.put.4),
+      only_saw same,
+    )
 
-  pub take_ok : (m : Message) → TakesOn line line' k (Ok m) → let own' : Account = record own { got = own.got ++ m ∷ []; state = (end_of line' k).state } in
-      IsSettled (holding v peer) line' × (own_by (holding v peer) line' ≡ own')
-      × TakesBy (line_view table v) (line_view table (record v { own = own' })) (Ok m)
-  take_ok m t =
+  emptied : waiting (end_of line k) ≡ [] → v.told.put ≤ length own.got
+  emptied e = let sent = ap length was.0.waits.0 in let none = ap length e in let told = found.told.0 in omega (arith, length-append own.got (waiting (end_of line k)))
+
+  pub take_done : (r : Result Message Refused) → TakesOn line line' k r → OnErr r (line' ≡ line)
+      → IsSettled (holding v peer) line' × TakesBy (line_view table v) seen r × OnErr r (OnlySaw (line_view table v) seen)
+  take_done (Ok m) t _ =
       let o = was.0 in
-      let e = was.1 in
       let r = t.taken in
       let own' : Account = record own { got = own.got ++ m ∷ []; state = (end_of line' k).state } in
       let longer : length (own.got ++ m ∷ []) ≡ suc (length own.got) = omega (arith, length_push own.got m) in
       let counts : counts_in own' ≡ one_taken (counts_in own) = λ i. record { put = length own.sent; taken = longer i; shut = own.shut } in
       let split : peer.sent ≡ (own.got ++ m ∷ []) ++ waiting (end_of line' k) = o.waits.0 ∙ ap (λ l. own.got ++ l) r.2.0 ∙ sym (append_assoc own.got (m ∷ []) (waiting (end_of line' k))) in
-      let step : allowed own.rows own.state m.tag (1 - k) ≡ Some own'.state = (λ i. allowed (sym o.rows i) (sym o.state i) m.tag (1 - k)) ∙ r.2.1 in
       let ends' : Ends k line' own' peer = (
         record { rows = t.rules.0 ∙ o.rows; depth = t.rules.1 ∙ o.depth; state = refl; counts = r.1 ∙ ap one_taken o.counts ∙ sym counts; waits = (split, o.waits.1) },
         peer_same t.rules.0 t.rules.1 t.peer own' refl,
       ) in
       let s = settled_so v peer own' line' found.few ends' (omega arith, omega arith, λ q. q) found.told in
-      (s.0, s.1, (r.0 ∙ ap (λ (c : Counts). suc c.taken) o.counts, counts, (step, refl, numbers_before number 0 (own.got ++ m ∷ []) (waiting (end_of line' k)) (subst (AreNumberedFrom number 0) split o.waits.1))))
+      let numbered = numbers_before number 0 (own.got ++ m ∷ []) (waiting (end_of line' k)) (subst (AreNumberedFrom number 0) split o.waits.1) in
+      let so : TakesBy (line_view table v) (record (line_view table (record v { own = own' })) { peer_shut = saw }) (Ok m) =
+      (r.0 ∙ ap (λ (c : Counts). suc c.taken) o.counts, counts, (step_by m.tag (1 - k) (Some own'.state) r.2.1, refl, saw_no_less, numbered)) in
+      (s.0, subst (λ (x : LineView). TakesBy (line_view table v) x (Ok m)) (sym (seen_is own' s.1)) so, tt)
+  take_done (Err (refused.PeerClosed back)) t same = ((kept same).0, (t.taken.0, same_counts same, emptied t.taken.2, saw_shut t.taken.3), only_saw same)
+  take_done (Err refused.Empty) t same = ((kept same).0, (same_counts same, emptied t.taken.1, saw_open t.taken.2), only_saw same)
+  take_done (Err refused.OutOfMemory) t same = absurd t.taken
+  take_done (Err refused.BadSize) t same = absurd t.taken
+  take_done (Err refused.NoChannel) t same = absurd t.taken
+
+  pub shut_done : Shuts line line' k → IsSettled (holding v peer) line' × ShutsBy (line_view table v) seen
+  shut_done t =
+      let o = was.0 in
+      let own' : Account = record own { shut = true } in
+      let ends' : Ends k line' own' peer = (
+        record { rows = t.rules.0 ∙ o.rows; depth = t.rules.1 ∙ o.depth; state = t.state ∙ o.state; counts = t.shut ∙ ap now_shut o.counts; waits = subst (IsDirection number peer.sent own.got) (sym t.waits) o.waits },
+        peer_same t.rules.0 t.rules.1 t.peer own' refl,
+      ) in
+      let s = settled_so v peer own' line' found.few ends' (omega arith, omega arith, λ _. refl) found.told in
+      (s.0, (seen_is own' s.1, saw_no_less))
 
 pub has_word : (a b : TableId) → a ≡ b → a.words ≡ 16 → 0 < b.words
 has_word a b same words = subst (λ (t : TableId). 0 < t.words) same (omega arith)
@@ -156,28 +227,21 @@ has_word a b same words = subst (λ (t : TableId). 0 < t.words) same (omega arit
 pub slot_first : (held : List (ℕ × Option Lined)) (x : Option Lined) → held ≡ (0, x) ∷ [] → held ≡ (0, x) ∷ rest held
 slot_first held x e = e ∙ ap (λ l. (0, x) ∷ l) (sym (ap rest e))
 
-line_of : Lined → List (ℕ × Option Lined) → Lined
+abbrev line_of : Lined → List (ℕ × Option Lined) → Lined
 line_of line [] = line
 line_of line (x ∷ xs) = unwrap_or x.1 line
 
--- one slot has one line
-pub same_line : (held : List (ℕ × Option Lined)) (a b : Lined) → held ≡ (0, Some a) ∷ [] → held ≡ (0, Some b) ∷ [] → a ≡ b
-unfolding line_of
-same_line held a b p q = ap (line_of a) (sym p ∙ q)
+-- what was done to what lies in the slot was done to the line that the seat found
+module _ (v : Part) (peer : Account) (line : Lined) (me : Me (Option Lined) Part) (held : me ≡ (holding v peer, (0, Some line) ∷ [])) where
+  pub done_here : (side : ℕ) (slot : Option Lined) (line1 line2 : Lined) (P : Lined → Lined → ℕ → Type 0) → v.side ≡ side → me.1 ≡ (0, slot) ∷ rest me.1 → slot ≡ Some line1 → P line1 line2 side → P line line2 v.side
+  done_here side slot line1 line2 P is front some p =
+      let same : line1 ≡ line = ap (λ (x : Option Lined). unwrap_or x line1) (sym some) ∙ ap (line_of line1) (sym front) ∙ ap (λ (m : Me (Option Lined) Part). line_of line1 m.1) held in
+      subst (λ (x : Lined × ℕ). P x.0 line2 x.1) (λ j. (same j, sym is j)) p
 
--- the seat after it gave the line back as it is now
-module _ (v : Part) (peer own : Account) (line : Lined) (is : own_by (holding v peer) line ≡ own) (before after : Me (Option Lined) Part) (held : before ≡ (holding v peer, (0, Some line) ∷ []))
-    (gone : after ≡ (settled before.0 before.1, [])) where
-  after_it : after ≡ (settled (holding v peer) ((0, Some line) ∷ []), [])
-  after_it = gone ∙ ap (λ m. (settled m.0 m.1, [])) held
+  pub still_held : (line2 : Lined) → ◌≡◌ {A = Me (Option Lined) Part} (me.0, (0, Some line2) ∷ rest me.1) (holding v peer, (0, Some line2) ∷ [])
+  still_held line2 = ap (λ (m : Me (Option Lined) Part). (m.0, (0, Some line2) ∷ rest m.1)) held
 
-  pub view_after : (table : TableId) → line_view table after.0 ≡ line_view table (record v { own = own })
-  view_after table = ap (λ m. line_view table m.0) after_it ∙ ap (λ (a : Account). line_view table (record v { own = a })) is
-
--- what was done to the line that it found, and the seat meanwhile
-module _ (v : Part) (peer : Account) (line line1 line2 : Lined) (side : ℕ) (m1 m2 : Me (Option Lined) Part) (is : v.side ≡ side) (held : m1 ≡ (holding v peer, (0, Some line) ∷ [])) where
-  pub done_here : (P : Lined → Lined → ℕ → Type 0) → m1.1 ≡ (0, Some line1) ∷ [] → P line1 line2 side → P line line2 v.side
-  done_here P front p = subst (λ (x : Lined × ℕ). P x.0 line2 x.1) (λ j. (same_line m1.1 line1 line front (ap (λ m. m.1) held) j, sym is j)) p
-
-  pub still_held : m2 ≡ (m1.0, (0, Some line2) ∷ []) → m2 ≡ (holding v peer, (0, Some line2) ∷ [])
-  still_held after = after ∙ ap (λ m. (m.0, (0, Some line2) ∷ [])) held
+-- the seat that gave the line back
+pub view_after : (table : TableId) (v : Part) (peer : Account) (line : Lined) (before after : Me (Option Lined) Part) → before ≡ (holding v peer, (0, Some line) ∷ []) → after ≡ (settled before.0 before.1, [])
+    → line_view table after.0 ≡ line_view table (settled_by (holding v peer) (Some line))
+view_after table v peer line before after held gone = ap (λ m. line_view table m.0) gone ∙ ap (λ m. line_view table (settled m.0 m.1)) held

@@ -13,7 +13,7 @@ use Rattle.xh_channel.specs.declared.line_rule.Account.{Account}
 use Rattle.xh_channel.specs.declared.line_rule.Part.{Part}
 use Rattle.xh_channel.specs.Lines.{Lined, waiting}
 use Rattle.xh_channel.specs.Ends.{no_counts}
-use Rattle.xh_channel.specs.inner.LineRule.{by, IsTold, Grows, IsSettled, own_by, peer_by, settled, seen, Settled, Seen, IsTaken, Lies, LiesFor, Truth, IsHome, IsOut, Owns, Fits, Kept, no_account, counts_in, both_sides, no_part, low_side, high_side, joined, telling, hearing, holding, Locked, Compared}
+use Rattle.xh_channel.specs.inner.LineRule.{by, IsTold, Grows, IsSettled, own_by, peer_by, settled, Settled, IsTaken, Lies, LiesFor, Truth, IsHome, IsOut, Owns, Fits, Kept, no_account, counts_in, both_sides, no_part, low_side, high_side, joined, telling, hearing, holding, Locked, Compared}
 use Rattle.std.proofs.lemmas.Bool.{eqb-true, or_cases}
 use Rattle.xh_channel.proofs.Views.{every_set, every_two, every_snoc, one_view}
 
@@ -132,12 +132,15 @@ one_seat zero (suc j) low high id p q = q
 one_seat (suc k) zero low high id p q = q
 one_seat (suc k) (suc j) low high id p q = p
 
--- the line goes back, by the seat that holds it: its own account goes on, its peer's stays or is its own as well
-pub gives_back : (slots id : ℕ) (me : M) (line : Lined) (own peer : Account) (told : Counts) → me.1 ≡ (0, Some line) ∷ [] → me.0.owns ≡ true → me.0.holds ≡ true
-    → LiesFor me.0.side (Some line) own peer → Grows me.0.own own → Grows me.0.peer peer → (peer ≡ me.0.peer) ⊎ (me.0.both ≡ true) → IsTold told peer
-    → Allows Kept slots id me 0 (λ _. 0) (λ n m. m ≡ (record me.0 { holds = false; own = own; peer = peer; told = told }, []))
-gives_back slots id me line own peer told front owns holds lies own_grows peer_grows stays is_told s h long at small =
+-- the line goes back as it is now, by the seat that holds it, which has seen whether its peer is shut: its own account goes on, its peer's stays or is its own as well
+pub settles : (slots id : ℕ) (me : M) (line : Lined) → me.1 ≡ (0, Some line) ∷ [] → me.0.owns ≡ true → me.0.holds ≡ true → IsSettled me.0 line
+    → Allows Kept slots id me 0 (λ _. 0) (Settled (step slots 0 0 0 none) me)
+settles slots id me line front owns holds is s h long at small =
     let v : Part = me.0 in
+    let own : Account = own_by v line in
+    let peer : Account = peer_by v line in
+    let told : Counts = record v.told { shut = v.told.shut || v.peer.shut } in
+    let is_told : IsTold told peer = (is.3.0, is.3.1, λ e. ⊎_elim is.3.2 (λ p. p) (or_cases v.told.shut v.peer.shut e)) in
     let k : ℕ = v.side in
     let t : Truth = h.0 in
     let mine = h.2 id v at in
@@ -149,15 +152,15 @@ gives_back slots id me line own peer told front owns holds lies own_grows peer_g
     let high : Account = by k peer own in
     let t' : Truth = record { low_seat = t.low_seat; high_seat = t.high_seat; holder = 0; low = low; high = high } in
     let w : Part = record v { holds = false; own = own; peer = peer; told = told } in
-    let grow : Grows t.low low × Grows t.high high = both_grow k t.low t.high own peer (subst (λ a. Grows a own) (sym o.own) own_grows) (subst (λ a. Grows a peer) (sym (o.knows holds)) peer_grows) in
+    let grow : Grows t.low low × Grows t.high high = both_grow k t.low t.high own peer (subst (λ a. Grows a own) (sym o.own) is.1) (subst (λ a. Grows a peer) (sym (o.knows holds)) (omega arith, omega arith, λ p. p)) in
     let same : (peer ≡ by k t.high t.low) ⊎ (by k t.high_seat t.low_seat ≡ by k t.low_seat t.high_seat) =
-    ⊎_elim (λ e. inl (e ∙ sym (o.knows holds))) (λ p. inr ((o.both p).0 ∙ sym o.seat)) stays in (
+    ⊎_elim (λ e. inl (e ∙ sym (o.knows holds))) (λ p. inr ((o.both p).0 ∙ sym o.seat)) is.2 in (
       w,
       gives,
       tt,
       (
         t',
-        inl (others.0, Some line, ap (λ l. set l 0 0) others.2, (λ i. put_back (slot.1 i) (front i)), refl, lies),
+        inl (others.0, Some line, ap (λ l. set l 0 0) others.2, (λ i. put_back (slot.1 i) (front i)), refl, is.0),
         every_set (Fits t') s.views id w (
           (λ _. record { seat = o.seat; own = own_back k own peer; holds = sym (no_holder id); knows = λ p. absurd (true≢false (sym p)); both = λ p. ((o.both p).0, peer_back k own peer) }),
           subst (IsTold told) (sym (peer_back k own peer)) is_told,
@@ -176,24 +179,8 @@ gives_back slots id me line own peer told front owns holds lies own_grows peer_g
               told_by_side u.side u.peer_told t.low t.high low high grow.0 grow.1 f.2,
             )),
       ),
-      ap (λ l. (w, carried_after l gives)) front,
+      ap (λ l. (w, carried_after l gives)) front ∙ ap (λ l. (settled v l, [])) (sym front),
     )
-
--- gives it back as it is now
-pub settles : (slots id : ℕ) (me : M) (line : Lined) → me.1 ≡ (0, Some line) ∷ [] → me.0.owns ≡ true → me.0.holds ≡ true → IsSettled me.0 line
-    → Allows Kept slots id me 0 (λ _. 0) (Settled (step slots 0 0 0 none) me)
-settles slots id me line front owns holds is s h long at small =
-    let v : Part = me.0 in
-    let r = gives_back slots id me line (own_by v line) (peer_by v line) v.told front owns holds is.0 is.1 (omega arith, omega arith, λ p. p) is.2 is.3 s h long at small in
-    (r.0, r.1, r.2, r.3, r.4 ∙ ap (λ l. (settled v l, [])) (sym front))
-
--- gives it back as it was
-pub sees : (slots id : ℕ) (me : M) (line : Lined) → me.1 ≡ (0, Some line) ∷ [] → me.0.owns ≡ true → me.0.holds ≡ true → LiesFor me.0.side (Some line) me.0.own me.0.peer → IsTold me.0.told me.0.peer
-    → Allows Kept slots id me 0 (λ _. 0) (Seen (step slots 0 0 0 none) me)
-sees slots id me line front owns holds lies told =
-    let v : Part = me.0 in
-    gives_back slots id me line v.own v.peer (seen v).told front owns holds lies (omega arith, omega arith, λ p. p) (omega arith, omega arith, λ p. p) (inl refl)
-    (told.0, told.1, λ e. ⊎_elim told.2 (λ p. p) (or_cases v.told.shut v.peer.shut e))
 
 holds_it : (t : Truth) (id : ℕ) (v : Part) → Owns t id v → t.holder ≡ suc id → v.holds ≡ true
 holds_it t id v o e = o.holds ∙ ap (λ n. eqb n (suc id)) e ∙ eq-eqb (suc id) (suc id) refl

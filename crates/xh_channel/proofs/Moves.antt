@@ -1,5 +1,5 @@
 -- Each move keeps the rule of a direction.
-use Rattle.std.proofs.Common.{◌≡◌, ◌≢◌, ℕ, suc, ◌≤◌, max, true, false, true≢false, List, [], ◌∷◌, ◌++◌, length, length-append, set, sym, refl, ap, ◌∙◌, subst, ⊎_elim, append_assoc, arith}
+use Rattle.std.proofs.Common.{◌≡◌, ◌≢◌, ℕ, suc, ◌≤◌, max, Bool, true, false, true≢false, List, [], ◌∷◌, ◌++◌, length, length-append, set, sym, refl, ap, ◌∙◌, subst, ⊎_elim, append_assoc, arith}
 use mathlib.Core.Option.{some}
 use lib.ListN.{get_elem?}
 use Rattle.crossbeam_queue.specs.Fifo.{Pushes, Pops, Forks, Merges, Learns}
@@ -8,6 +8,7 @@ use Rattle.crossbeam_queue.proofs.Lists.{at_set}
 use Rattle.xh_channel.specs.declared.message.Message.{Message}
 use Rattle.xh_channel.specs.declared.direction.Role.{Role}
 use Rattle.xh_channel.specs.Numbers.{number, Numbered}
+use Rattle.xh_channel.specs.QueueEnds.{IsRole}
 use Rattle.xh_channel.proofs.Views.{Every, every_set, every_two, every_snoc, one_view}
 use Rattle.xh_channel.specs.Directions.{role, hearing, Fits, Ordered, Sent, Got, WaitsAhead, WaitsBehind}
 
@@ -71,6 +72,10 @@ pub receiver_learns : (port : ℕ) (v : Role) → v.pops ≡ true → Learns Ord
 receiver_learns port v may items views h at =
     let mine = h.5 port v at in let got = ap length (mine.1 may).1 in let split = ap length h.4.0 in let told = mine.2 in omega (arith, length-append h.3 items)
 
+-- what was sent, taken and waits stays, and another pass may pop now
+with_reader : (items : List Message) (views now : List Role) (h : Ordered items views) (reader : ℕ) → Every (Fits h.0 reader h.2 h.3) now → Ordered items now
+with_reader items views now h reader f = (h.0, reader, h.2, h.3, h.4, f)
+
 pub forks : (port : ℕ) (v : Role) → v.pushes ≡ true → v.pops ≡ true
     → Forks Ordered port v (role true false v.sent [] 0 (length v.got)) (role false true [] v.got (length v.sent) 0)
 forks port v a b items views h at =
@@ -82,15 +87,10 @@ forks port v a b items views h at =
     let vs : List Role = set views port l in
     let Old : ℕ → Role → Type 0 = λ j u. (u.pushes ≡ true → (j ≡ h.0) × (u.sent ≡ h.2)) × (u.pops ≢ true) × (u.told_put ≤ length h.2) × (u.told_taken ≤ length h.3) in
     let old : Every Old vs = every_set Old views port l ((λ _. mine.0 a), (λ p. true≢false (sym p)), omega arith, omega arith)
-    (λ j u other e. let f = h.5 j u e in (f.0, (λ p. other ((f.1 p).0 ∙ sym (mine.1 b).0)), f.2, f.3)) in (
-      h.0,
-      length vs,
-      h.2,
-      h.3,
-      h.4,
-      every_snoc (Fits h.0 (length vs) h.2 h.3) vs r ((λ p. absurd (true≢false (sym p))), (λ _. (refl, (mine.1 b).1)), omega arith, omega arith)
-          (λ j u e. let o = old j u e in (o.0, (λ p. absurd (o.1 p)), o.2, o.3)),
-    )
+    (λ j u other e. let f = h.5 j u e in (f.0, (λ p. other ((f.1 p).0 ∙ sym (mine.1 b).0)), f.2, f.3)) in
+    with_reader items views (vs ++ r ∷ []) h (length vs)
+    (every_snoc (Fits h.0 (length vs) h.2 h.3) vs r ((λ p. absurd (true≢false (sym p))), (λ _. (refl, (mine.1 b).1)), omega arith, omega arith)
+    (λ j u e. let o = old j u e in (o.0, (λ p. absurd (o.1 p)), o.2, o.3)))
 
 -- a pass of no queue's end
 abbrev idle : ℕ → ℕ → Role
@@ -106,36 +106,24 @@ merges port v other u a b items views h at two at' =
     let mine = h.5 port v at in
     let was : get_elem? views other ≡ some u = ⊎_elim (λ x. absurd (two x.0)) (λ x. x.1) (at_set views port other both u at') in
     let f = h.5 other u was in
-    let theirs = f.1 b in (
-      h.0,
-      port,
-      h.2,
-      h.3,
-      h.4,
-      every_two (Fits h.0 port h.2 h.3) views port other both (idle 0 0) ((λ _. mine.0 a), (λ _. (refl, theirs.1)), f.2, mine.3)
-          (idle_fits h.0 port h.2 h.3 other 0 0 (omega arith) (omega arith)) (λ j y _ apart e. let g = h.5 j y e in (g.0, (λ p. absurd (apart ((g.1 p).0 ∙ sym theirs.0))), g.2, g.3)),
-    )
+    let theirs = f.1 b in
+    with_reader items views (set (set views port both) other (idle 0 0)) h port
+    (every_two (Fits h.0 port h.2 h.3) views port other both (idle 0 0) ((λ _. mine.0 a), (λ _. (refl, theirs.1)), f.2, mine.3)
+    (idle_fits h.0 port h.2 h.3 other 0 0 (omega arith) (omega arith)) (λ j y _ apart e. let g = h.5 j y e in (g.0, (λ p. absurd (apart ((g.1 p).0 ∙ sym theirs.0))), g.2, g.3)))
 
--- a pass stays, and a new one tells of no more than it may
-tells : (port : ℕ) (v : Role) (put taken : ℕ) → ((sent got : List Message) (writer reader : ℕ) → Fits writer reader sent got port v → (put ≤ length sent) × (taken ≤ length got))
-    → Forks Ordered port v v (idle put taken)
-tells port v put taken may items views h at =
+no_longer : (b : Bool) {P : Type 0} (own all : List Message) → (b ≡ true → P × (own ≡ all)) → (b ≡ false → own ≡ []) → length own ≤ length all
+no_longer true own all is none = let same = ap length (is refl).1 in omega arith
+no_longer false own all is none = let same = ap length (none refl) in omega arith
+
+-- a pass stays, and a new one tells of no more than it did
+pub tells : (port : ℕ) (v : Role) → IsRole v → Forks Ordered port v v (idle (length v.sent) (length v.got))
+tells port v is items views h at =
     let vs : List Role = set views port v in
-    let so = may h.2 h.3 h.0 h.1 (h.5 port v at) in (
-      h.0,
-      h.1,
-      h.2,
-      h.3,
-      h.4,
-      every_snoc (Fits h.0 h.1 h.2 h.3) vs (idle put taken) (idle_fits h.0 h.1 h.2 h.3 (length vs) put taken so.0 so.1)
-          (every_set (Fits h.0 h.1 h.2 h.3) views port v (h.5 port v at) (λ j u _ e. h.5 j u e)),
-    )
-
-pub tells_put : (port : ℕ) (v : Role) → v.pushes ≡ true → Forks Ordered port v v (role false false [] [] (length v.sent) 0)
-tells_put port v a = tells port v (length v.sent) 0 (λ sent got writer reader f. let same = ap length (f.0 a).1 in (omega arith, omega arith))
-
-pub tells_taken : (port : ℕ) (v : Role) → v.pops ≡ true → Forks Ordered port v v (role false false [] [] 0 (length v.got))
-tells_taken port v b = tells port v 0 (length v.got) (λ sent got writer reader f. let same = ap length (f.1 b).1 in (omega arith, omega arith))
+    let mine = h.5 port v at in
+    with_reader items views (vs ++ idle (length v.sent) (length v.got) ∷ []) h h.1
+    (every_snoc (Fits h.0 h.1 h.2 h.3) vs (idle (length v.sent) (length v.got))
+    (idle_fits h.0 h.1 h.2 h.3 (length vs) (length v.sent) (length v.got) (no_longer v.pushes v.sent h.2 mine.0 is.2) (no_longer v.pops v.got h.3 mine.1 is.3))
+    (every_set (Fits h.0 h.1 h.2 h.3) views port v mine (λ j u _ e. h.5 j u e)))
 
 pub hears : (port : ℕ) (v : Role) (other : ℕ) (u : Role) → Merges Ordered port v other u (hearing v u.told_put u.told_taken) (role false false [] [] 0 0)
 hears port v other u items views h at two at' =
@@ -144,12 +132,7 @@ hears port v other u items views h at two at' =
     let was : get_elem? views other ≡ some u = ⊎_elim (λ x. absurd (two x.0)) (λ x. x.1) (at_set views port other both u at') in
     let theirs = h.5 other u was in
     let a : max v.told_put u.told_put ≤ length h.2 = let m = mine.2 in let t = theirs.2 in omega arith in
-    let b : max v.told_taken u.told_taken ≤ length h.3 = let m = mine.3 in let t = theirs.3 in omega arith in (
-      h.0,
-      h.1,
-      h.2,
-      h.3,
-      h.4,
-      every_two (Fits h.0 h.1 h.2 h.3) views port other both (idle 0 0) (mine.0, mine.1, a, b)
-          (idle_fits h.0 h.1 h.2 h.3 other 0 0 (omega arith) (omega arith)) (λ j y _ _ e. h.5 j y e),
-    )
+    let b : max v.told_taken u.told_taken ≤ length h.3 = let m = mine.3 in let t = theirs.3 in omega arith in
+    with_reader items views (set (set views port both) other (idle 0 0)) h h.1
+    (every_two (Fits h.0 h.1 h.2 h.3) views port other both (idle 0 0) (mine.0, mine.1, a, b)
+    (idle_fits h.0 h.1 h.2 h.3 other 0 0 (omega arith) (omega arith)) (λ j y _ _ e. h.5 j y e))

@@ -64,11 +64,16 @@ PutsBy old new tag =
     (next_state old tag old.side ≡ None) (IsSome (next_state old tag old.side))
     (old.told_taken + old.depth ≤ length old.sent) (new.peer_shut ≡ true) ((old.peer_shut ≡ false) × (new.peer_shut ≡ false)) (counts_at old) (counts_at new) tag
 
--- a take: the message comes next after what was taken, and the state moved by the contract
+-- a take: the message comes next after what was taken, the state moved by the contract, and it was seen at most that the peer is shut
 abbrev pub TakesBy : LineView → LineView → Result Message Refused → Type 0
 TakesBy old new =
-    Takes (λ m. (next_state old m.tag (1 - old.side) ≡ Some new.state) × (new ≡ record old { got = old.got ++ m ∷ []; state = new.state }) × Numbered new.got)
+    Takes (λ m. (next_state old m.tag (1 - old.side) ≡ Some new.state) × (new ≡ record old { got = old.got ++ m ∷ []; state = new.state; peer_shut = new.peer_shut })
+    × (old.peer_shut ≡ true → new.peer_shut ≡ true) × Numbered new.got)
     (old.told_put ≤ length old.got) (new.peer_shut ≡ true) ((old.peer_shut ≡ false) × (new.peer_shut ≡ false)) (counts_at old) (counts_at new)
+
+-- a shut: it was seen at most that the peer is shut too
+abbrev pub ShutsBy : LineView → LineView → Type 0
+ShutsBy old new = (new ≡ record old { shut = true; peer_shut = new.peer_shut }) × (old.peer_shut ≡ true → new.peer_shut ≡ true)
 
 -- it was seen at most that the peer is shut
 abbrev pub OnlySaw : LineView → LineView → Type 0

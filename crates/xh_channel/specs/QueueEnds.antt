@@ -1,33 +1,33 @@
--- What contracts see of an endpoint's two queue ends: the sending end of one queue, and the receiving end of the other.
-use Rattle.std.specs.Prelude.{◌≡◌, ℕ, List, [], ◌∷◌, ◌++◌}
+-- What contracts see of an end of a queue. An endpoint has the sending end of one, and the receiving end of the other.
+use Rattle.std.specs.Prelude.{◌≡◌, ℕ, true, false, [], ◌∷◌, ◌++◌}
 use Rattle.atomic_table.specs.Seated.{TableId}
 use Rattle.xh_channel.specs.declared.message.Message.{Message}
+use Rattle.xh_channel.specs.declared.direction.Role.{Role}
+use Rattle.xh_channel.specs.Directions.{role}
+use Rattle.xh_channel.specs.Numbers.{Numbered}
 
--- `told` is how many messages it was told that the other end took
-pub record Outgoing : Type 0 where
+-- its queue, the depth, and its role: whether it pushes or pops, what it pushed or popped, and how many messages it was told that the other end sent and took
+pub record QueueView : Type 0 where
   pub queue : TableId
   pub depth : ℕ
-  pub sent : List Message
-  pub told : ℕ
+  pub role : Role
 
--- `told` is how many messages it was told that the other end sent
-pub record Incoming : Type 0 where
-  pub queue : TableId
-  pub got : List Message
-  pub told : ℕ
-
--- how many messages an end pushed, or how many it popped
+-- how many messages an end pushed, and how many it popped
 pub record Telling : Type 0 where
   pub queue : TableId
   pub put : ℕ
   pub taken : ℕ
 
-abbrev pub sending : Outgoing → Message → Outgoing
-sending o m = record o { sent = o.sent ++ m ∷ [] }
+-- what it pushed and what it popped is numbered, and nothing where it doesn't push or pop
+abbrev pub IsRole : Role → Type 0
+IsRole v = Numbered v.sent × Numbered v.got × (v.pushes ≡ false → v.sent ≡ []) × (v.pops ≡ false → v.got ≡ [])
 
-abbrev pub getting : Incoming → Message → Incoming
-getting i m = record i { got = i.got ++ m ∷ [] }
+abbrev pub sending : QueueView → Message → QueueView
+sending e m = record e { role = record e.role { sent = e.role.sent ++ m ∷ [] } }
+
+abbrev pub getting : QueueView → Message → QueueView
+getting e m = record e { role = record e.role { got = e.role.got ++ m ∷ [] } }
 
 -- the ends of a direction that was just made
-abbrev pub IsNewDirection : ℕ → Outgoing → Incoming → Type 0
-IsNewDirection depth o i = (o.depth ≡ depth) × (i.queue ≡ o.queue) × (o.sent ≡ []) × (i.got ≡ []) × (o.told ≡ 0) × (i.told ≡ 0)
+abbrev pub IsNewDirection : ℕ → QueueView → QueueView → Type 0
+IsNewDirection depth o i = (o.depth ≡ depth) × (i.queue ≡ o.queue) × (o.role ≡ role true false [] [] 0 0) × (i.role ≡ role false true [] [] 0 0)

@@ -14,7 +14,7 @@ use Rattle.xh_channel.specs.inner.ClosedWords.{ClosedView}
 use Rattle.xh_channel.specs.Numbers.{Numbered}
 use Rattle.xh_channel.specs.Ends.{Puts, Takes, now_shut}
 use Rattle.xh_channel.specs.LineSeats.{LineView, IsBegun, IsBlank, counts_at}
-use Rattle.xh_channel.specs.QueueEnds.{Outgoing, Incoming}
+use Rattle.xh_channel.specs.QueueEnds.{QueueView}
 
 -- its spot, whether its channel has a contract, the depth, its two queues and its line; the contract's rows and its state, [] and 0 without a contract.
 -- Of what it did: its counts, the messages that it sent and took, and all that it pushed.
@@ -39,7 +39,7 @@ pub record Posted : Type 0 where
   pub told_taken : ℕ
 
 -- with a contract its line carries its messages, and else its queues
-abbrev pub posted : Spot → Bool → Outgoing → Incoming → ClosedView → ℕ → LineView → Posted
+abbrev pub posted : Spot → Bool → QueueView → QueueView → ClosedView → ℕ → LineView → Posted
 posted spot has_contract out into word put line = record {
   channel = spot.channel;
   side = spot.side;
@@ -51,26 +51,28 @@ posted spot has_contract out into word put line = record {
   line = line.table;
   rows = cond has_contract line.rows [];
   state = cond has_contract line.state 0;
-  counts = cond has_contract (counts_at line) (record { put = put; taken = length into.got; shut = word.shut });
-  sent = cond has_contract line.sent (take put out.sent);
-  pushed = cond has_contract line.sent out.sent;
-  got = cond has_contract line.got into.got;
+  counts = cond has_contract (counts_at line) (record { put = put; taken = length into.role.got; shut = word.shut });
+  sent = cond has_contract line.sent (take put out.role.sent);
+  pushed = cond has_contract line.sent out.role.sent;
+  got = cond has_contract line.got into.role.got;
   peer_shut = cond has_contract line.peer_shut word.peer_shut;
-  told_put = cond has_contract line.told_put into.told;
-  told_taken = cond has_contract line.told_taken out.told;
+  told_put = cond has_contract line.told_put into.role.told_put;
+  told_taken = cond has_contract line.told_taken out.role.told_taken;
 }
 
 -- nothing was pushed, popped or shut, and nothing was told
-abbrev pub AreIdle : Outgoing → Incoming → ClosedView → Type 0
-AreIdle out into word = (out.sent ≡ []) × (into.got ≡ []) × (word.shut ≡ false) × (word.peer_shut ≡ false) × (into.told ≡ 0) × (out.told ≡ 0)
+abbrev pub AreIdle : QueueView → QueueView → ClosedView → Type 0
+AreIdle out into word = (out.role.sent ≡ []) × (into.role.got ≡ []) × (word.shut ≡ false) × (word.peer_shut ≡ false) × (into.role.told_put ≡ 0) × (out.role.told_taken ≡ 0)
 
 -- The parts of an endpoint are those of its spot, and of what it pushed it sent all but one message at most, which met a shut peer.
 -- With a contract its queues are idle and its line was begun with its depth, and else its line is blank
-pub record IsEnd (spot : Spot) (has_contract : Bool) (out : Outgoing) (into : Incoming) (word : ClosedView) (put : ℕ) (line : LineView) : Type 0 where
+pub record IsEnd (spot : Spot) (has_contract : Bool) (out into : QueueView) (word : ClosedView) (put : ℕ) (line : LineView) : Type 0 where
   pub own_word : word.word ≡ 2 * spot.channel + spot.side
   pub own_seat : line.side ≡ spot.side
-  pub some_sent : put ≤ length out.sent
-  pub all_sent : word.peer_shut ≡ false → put ≡ length out.sent
+  pub pushes : out.role.pushes ≡ true
+  pub pops : into.role.pops ≡ true
+  pub some_sent : put ≤ length out.role.sent
+  pub all_sent : word.peer_shut ≡ false → put ≡ length out.role.sent
   pub numbers : put ≤ MAX_MESSAGES
   pub by_line : has_contract ≡ true → AreIdle out into word × IsBegun line × (line.depth ≡ out.depth)
   pub by_queues : has_contract ≡ false → IsBlank line

@@ -12,17 +12,16 @@ use crate::closed_word::ClosedWord;
 use crate::line_seat::{self, LineSeat};
 use crate::message::Message;
 use crate::note::Note;
-use crate::numbers::number_after;
-use crate::queue_end::{self, ReceivingEnd, SendingEnd};
+use crate::queue_end::{self, QueueEnd};
 use crate::refused::Refused;
-use crate::signal::OwnSignal;
+use crate::signal::{OwnSignal, Signal};
 use crate::spot::Spot;
 use crate::unsent::Unsent;
 use arrayvec::ArrayVec;
 use std::marker::Model;
 use std::sync::Wait;
 use xh_core::Contract;
-use xh_model::limits::MAX_BLOCKS;
+use xh_model::limits::{MAX_BLOCKS, MAX_MESSAGES};
 
 /// One end of a channel.
 #[derive(Drop)]
@@ -30,8 +29,8 @@ pub struct ChannelEnd {
     spot: Spot,
     // with a contract the line carries the messages, and the queues nothing
     has_contract: bool,
-    sender: SendingEnd,
-    receiver: ReceivingEnd,
+    sender: QueueEnd,
+    receiver: QueueEnd,
     word: ClosedWord,
     put: u64,
     line: LineSeat,
@@ -145,12 +144,13 @@ impl ChannelEnd {
     /// An end with nothing put and nothing taken, of a channel without a contract.
     pub fn new(
         spot: Spot,
-        queues: (SendingEnd, ReceivingEnd),
+        queues: (QueueEnd, QueueEnd),
         word: ClosedWord,
         line: LineSeat,
         signal: OwnSignal,
     ) -> ChannelEnd
         requires own { (word.word ≡ 2 * spot.channel + spot.side) × (line.side ≡ spot.side) }
+        requires roles { (queues.0.role.pushes ≡ true) × (queues.1.role.pops ≡ true) }
         requires new { AreIdle queues.0 queues.1 word × IsBlank line }
         ensures spot { (result.channel ≡ spot.channel) × (result.side ≡ spot.side) × (result.depth ≡ queues.0.depth) }
         ensures tables { (result.out ≡ queues.0.queue) × (result.into ≡ queues.1.queue) × (result.closed ≡ word.table) × (result.line ≡ line.table) }
@@ -243,9 +243,10 @@ impl ChannelEnd {
         if self.word.peer_is_shut() {
             return Err(Unsent::PeerClosed { back: blocks });
         }
-        let Some(no) = number_after(self.put) else {
+        if self.put == MAX_MESSAGES {
             return Err(Unsent::Full { back: blocks });
-        };
+        }
+        let no = self.put + 1;
         let message = Message { no, tag, blocks };
         if let Err(message) = self.sender.push(rt, message) {
             return Err(Unsent::Full {
@@ -304,8 +305,8 @@ impl ChannelEnd {
         }
     }
 
-    // A put on the queue, or on the line where the channel has a contract.
-    fn send<R: Wait>(
+    /// A put on the queue, or on the line where the channel has a contract.
+    pub fn put<R: Wait>(
         &mut self,
         rt: &R,
         tag: u16,
@@ -324,24 +325,6 @@ impl ChannelEnd {
         }
     }
 
-    /// Puts, and then wakes the channel's waiters.
-    pub fn put<R: Wait>(
-        &mut self,
-        rt: &R,
-        tag: u16,
-        blocks: ArrayVec<u16, MAX_BLOCKS>,
-    ) -> Result<u64, Unsent>
-        ensures put { PutsAs self.old self.new tag blocks result }
-        ensures last { IfOk result (λ no. no ≤ MAX_MESSAGES) }
-        ensures back { IfErr result (λ u. given_back u ≡ blocks) }
-        ensures kept { OnErr result (Unpushed self.old self.new (message (suc self.old.counts.put) tag blocks)) }
-        ensures same { IsSameEnd self.old self.new }
-    {
-        let no = self.send(rt, tag, blocks)?;
-        self.signal.raise();
-        Ok(no)
-    }
-
     /// Takes from the queue, or from the line where the channel has a contract.
     pub fn take<R: Wait>(&mut self, rt: &R) -> Result<Message, Refused>
         ensures taken { TakesAs self.old self.new result }
@@ -355,8 +338,8 @@ impl ChannelEnd {
         }
     }
 
-    // The shut of its word, or of its side of the line where the channel has a contract.
-    fn close<R: Wait>(&mut self, rt: &R)
+    /// The shut of its word, or of its side of the line where the channel has a contract.
+    pub fn shut<R: Wait>(&mut self, rt: &R)
         ensures { ShutsAs self.old self.new }
     {
         if self.has_contract {
@@ -366,11 +349,8 @@ impl ChannelEnd {
         }
     }
 
-    /// Shuts, and then wakes the channel's waiters.
-    pub fn shut<R: Wait>(&mut self, rt: &R)
-        ensures { ShutsAs self.old self.new }
-    {
-        self.close(rt);
-        self.signal.raise();
+    /// Who waits at its channel.
+    pub fn signal(&self) -> &Signal {
+        &self.signal
     }
 }

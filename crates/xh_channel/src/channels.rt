@@ -18,7 +18,7 @@ use crate::free_numbers::{FreeNumbers, Home};
 use crate::free_pair::FreePair;
 use crate::line_seat::LineSeat;
 use crate::message::Message;
-use crate::queue_end::{ReceivingEnd, SendingEnd, direction};
+use crate::queue_end::{QueueEnd, direction};
 use crate::refused::Refused;
 use crate::signal::{OwnSignal, Signal};
 use crate::spot::Spot;
@@ -43,7 +43,7 @@ pub struct Channels {
 }
 
 // What an end sends by, and what it receives by.
-type Queues = (SendingEnd, ReceivingEnd);
+type Queues = (QueueEnd, QueueEnd);
 
 // Those of both ends of a channel.
 fn queues(alloc: Global, depth: usize) -> Result<(Queues, Queues), AllocError>
@@ -66,20 +66,19 @@ fn pair(
     requires { (0 < depth) × (channel < CHANNELS) × (words.old.next ≡ 2 * channel) }
     ensures { IfOk result (λ p. (p.low.channel ≡ channel) × (p.low.depth ≡ depth) × (words.new.next ≡ 2 * channel + 2)) }
 {
-    let low_word = words.next()?;
-    let high_word = words.next()?;
-    let (lows, highs) = queues(alloc, depth)?;
-    let (low_line, high_line) = LineSeat::pair(alloc)?;
-    let low_spot = Spot { channel, side: 0 };
-    let low = ChannelEnd::new(low_spot, lows, low_word, low_line, Arc::try_clone(signal)?);
-    let high_spot = Spot { channel, side: 1 };
-    let high = ChannelEnd::new(
-        high_spot,
-        highs,
-        high_word,
-        high_line,
-        Arc::try_clone(signal)?,
-    );
+    let words = words.both();
+    let queues = queues(alloc, depth);
+    let lines = LineSeat::pair(alloc);
+    let own: Result<_, _> = Arc::try_clone(signal);
+    let peers: Result<_, _> = Arc::try_clone(signal);
+    let (Ok(words), Ok(queues), Ok(lines), Ok(own), Ok(peers)) = (words, queues, lines, own, peers)
+    else {
+        return Err(AllocError);
+    };
+    let spot = Spot { channel, side: 0 };
+    let low = ChannelEnd::new(spot, queues.0, words.0, lines.0, own);
+    let spot = Spot { channel, side: 1 };
+    let high = ChannelEnd::new(spot, queues.1, words.1, lines.1, peers);
     Ok(FreePair { low, high })
 }
 
@@ -117,7 +116,7 @@ fn signals(alloc: Global, bells: &OwnBells) -> Result<Vec<OwnSignal>, AllocError
 fn home(alloc: Global, pairs: Vec<Option<FreePair>>) -> Result<Home, AllocError>
     requires { (length pairs.items ≡ CHANNELS) × StandAtTheirNumbers pairs.items }
 {
-    Ok(Arc::new(alloc, Mutex::new(FreeNumbers::new(pairs)))?)
+    Ok(Arc::new(alloc, Mutex::new(FreeNumbers { pairs }))?)
 }
 
 impl Channels {
@@ -222,7 +221,9 @@ impl Channels {
         ensures kept { OnErr result (Unpushed end.old end.new (message (suc end.old.counts.put) tag blocks)) }
         ensures same { IsSameEnd end.old end.new }
     {
-        end.inner.put(rt, tag, blocks)
+        let no = end.inner.put(rt, tag, blocks)?;
+        end.inner.signal().raise();
+        Ok(no)
     }
 
     /// Takes the message at the front, which comes next after those that were taken; on a channel with a contract it moves this
@@ -241,6 +242,7 @@ impl Channels {
         ensures { ShutsAs end.old end.new }
     {
         end.inner.shut(rt);
+        end.inner.signal().raise();
     }
 
     /// The channel's turn rises by one, and all that wait there look again. For whoever ends a process

@@ -86,7 +86,7 @@ impl ClosedWords {
     }
 
     #[tactic(auto, using(crate::proofs::ClosedSteps::splits))]
-    pub fn next(&mut self) -> Result<ClosedWord, AllocError>
+    fn next(&mut self) -> Result<ClosedWord, AllocError>
         requires { self.old.next < DIRECTIONS }
         ensures word { IfOk result (λ s. (s.table ≡ self.old.table) × (s.word ≡ self.old.next) × (s.shut ≡ false) × (s.peer_shut ≡ false)) }
         ensures rest { IfOk result (λ _. self.new ≡ record self.old { next = self.old.next + 1 }) }
@@ -97,6 +97,18 @@ impl ClosedWords {
         let word = self.next;
         self.next += 1;
         Ok(ClosedWord { words, seat, word })
+    }
+
+    /// The next two words.
+    pub fn both(&mut self) -> Result<(ClosedWord, ClosedWord), AllocError>
+        requires { self.old.next + 1 < DIRECTIONS }
+        ensures words { IfOk result (λ s. (s.1.table ≡ s.0.table) × (s.0.word ≡ self.old.next) × (s.1.word ≡ self.old.next + 1)) }
+        ensures open { IfOk result (λ s. (s.0.shut ≡ false) × (s.0.peer_shut ≡ false) × (s.1.shut ≡ false) × (s.1.peer_shut ≡ false)) }
+        ensures rest { IfOk result (λ _. self.new ≡ record self.old { next = self.old.next + 2 }) }
+    {
+        let low = self.next()?;
+        let high = self.next()?;
+        Ok((low, high))
     }
 }
 

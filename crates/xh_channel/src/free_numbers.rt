@@ -21,19 +21,12 @@ fn fits(place: &Option<FreePair>, depth: usize) -> bool
     ensures { result ≡ has_depth depth place.now }
 {
     match place {
-        Some(pair) => pair.depth() == depth,
+        Some(pair) => pair.low.depth() == depth,
         None => false,
     }
 }
 
 impl FreeNumbers {
-    pub fn new(pairs: Vec<Option<FreePair>>) -> FreeNumbers
-        requires { (length pairs.items ≡ CHANNELS) × StandAtTheirNumbers pairs.items }
-        ensures { result.pairs ≡ pairs }
-    {
-        FreeNumbers { pairs }
-    }
-
     fn lowest(&self, depth: usize) -> Option<usize>
         ensures { MatchOption result (NoneFree depth self.now.pairs.items)
             (λ i. (i < CHANNELS) × (has_depth depth (at_place self.now.pairs.items i) ≡ true) × ((j : ℕ) → j < i → has_depth depth (at_place self.now.pairs.items j) ≡ false)) }

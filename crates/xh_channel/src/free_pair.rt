@@ -12,11 +12,3 @@ pub struct FreePair {
     ghost fresh: { IsPair low high },
     ghost plain: { low.has_contract ≡ false },
 }
-
-impl FreePair {
-    pub fn depth(&self) -> usize
-        ensures { result ≡ self.now.low.depth }
-    {
-        self.low.depth()
-    }
-}

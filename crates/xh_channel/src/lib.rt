@@ -18,7 +18,6 @@ mod line_seat;
 mod line_steps;
 mod message;
 mod note;
-mod numbers;
 mod queue_end;
 mod refused;
 mod signal;

@@ -25,7 +25,11 @@ impl LineEnd {
         LineEnd {
             state,
             waiting: ArrayVec::new(),
-            counts: Counts::none(),
+            counts: Counts {
+                put: 0,
+                taken: 0,
+                shut: false,
+            },
         }
     }
 }

@@ -49,22 +49,13 @@ impl Play<Option<Line>, Part> for Locks {
     ghost then = { Locked };
 }
 
-/// Gives the line back, and the accounts are what it says now.
+/// Gives the line back, the accounts are what it says now, and the seat has seen whether its peer is shut.
 pub struct Settles;
 
 impl Play<Option<Line>, Part> for Settles {
     ghost use Rattle.xh_channel.specs.inner.LineRule.{Settled};
 
     ghost then = { Settled };
-}
-
-/// Gives the line back as it was, and the seat has seen whether its peer is shut.
-pub struct Sees;
-
-impl Play<Option<Line>, Part> for Sees {
-    ghost use Rattle.xh_channel.specs.inner.LineRule.{Seen};
-
-    ghost then = { Seen };
 }
 
 /// The seat of both sides is told all that they did.

@@ -1,14 +1,13 @@
 //! An end's seat at the line of its channel.
 ghost use Rattle.std.specs.Prelude.{◌≡◌, ◌+◌, ◌<◌, ◌≤◌, true, IfOk, OnErr};
 ghost use Rattle.xh_model.specs.declared.limits.TheConstants.{MAX_DEPTH, MAX_MESSAGES};
-ghost use Rattle.xh_channel.specs.LineSeats.{AreAcross, IsBegun, IsBlank, IsDelivered, IsLessTold, OnlySaw, PutsBy, TakesBy, begun, hearing_on_line, told_all, told_on_line};
+ghost use Rattle.xh_channel.specs.LineSeats.{AreAcross, IsBegun, IsBlank, IsDelivered, IsLessTold, OnlySaw, PutsBy, ShutsBy, TakesBy, begun, hearing_on_line, told_all, told_on_line};
 ghost use Rattle.std.specs.Arc.{arc_value};
 ghost use Rattle.xh_channel.specs.inner.LineRule.{IsWhole, high_side, line_view, low_side};
 
+use crate::line::Line;
 use crate::line_rule::{BothSides, Compares, Hears, LineTable, Sides, Tells};
-use crate::line_steps::{
-    HOME, Token, begin_held, hold, leave, lock, put_held, settle, shut_held, take_held,
-};
+use crate::line_steps::{HOME, Token, hold, lock, settle};
 use crate::message::Message;
 use crate::refused::Refused;
 use crate::unsent::Unsent;
@@ -141,7 +140,7 @@ impl LineSeat {
         let (low, high, mut token) = join(low, high);
         let board = &low.shared;
         lock(rt, board, &mut token);
-        begin_held(board, &mut token, contract, depth);
+        drop(board.exchange(&mut token, 0, Some(Line::new(contract, depth))));
         settle(board, &mut token);
         cut(low, high, token)
     }
@@ -160,16 +159,12 @@ impl LineSeat {
     {
         let board = &self.table.shared;
         hold(rt, board, &mut self.seat);
-        match put_held(board, &mut self.seat, self.side, tag, blocks) {
-            Ok(no) => {
-                settle(board, &mut self.seat);
-                Ok(no)
-            }
-            Err(unsent) => {
-                leave(board, &mut self.seat);
-                Err(unsent)
-            }
-        }
+        let Some(line) = self.seat.slot_mut(board, 0) else {
+            unreachable!()
+        };
+        let put = line.put(self.side, tag, blocks);
+        settle(board, &mut self.seat);
+        put
     }
 
     /// The message that comes next. Where none waits, PeerClosed if the peer is shut, else Empty.
@@ -181,26 +176,25 @@ impl LineSeat {
     {
         let board = &self.table.shared;
         hold(rt, board, &mut self.seat);
-        match take_held(board, &mut self.seat, self.side) {
-            Ok(message) => {
-                settle(board, &mut self.seat);
-                Ok(message)
-            }
-            Err(refused) => {
-                leave(board, &mut self.seat);
-                Err(refused)
-            }
-        }
+        let Some(line) = self.seat.slot_mut(board, 0) else {
+            unreachable!()
+        };
+        let taken = line.take(self.side);
+        settle(board, &mut self.seat);
+        taken
     }
 
     /// No later put of its peer succeeds.
     pub fn shut<R: Wait>(&mut self, rt: &R)
         requires { IsBegun self.old }
-        ensures { self.new ≡ record self.old { shut = true } }
+        ensures { ShutsBy self.old self.new }
     {
         let board = &self.table.shared;
         hold(rt, board, &mut self.seat);
-        shut_held(board, &mut self.seat, self.side);
+        let Some(line) = self.seat.slot_mut(board, 0) else {
+            unreachable!()
+        };
+        line.shut(self.side);
         settle(board, &mut self.seat);
     }
 

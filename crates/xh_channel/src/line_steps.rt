@@ -1,21 +1,14 @@
 // Single steps of a seat at its line, and what it does to the line that it holds.
-ghost use Rattle.std.specs.Prelude.{◌≡◌, ◌<◌, ◌≤◌, true, false, [], ◌∷◌, Some, Option, IfOk, OnErr};
-ghost use Rattle.xh_model.specs.declared.limits.TheConstants.{MAX_DEPTH, MAX_MESSAGES};
+ghost use Rattle.std.specs.Prelude.{◌≡◌, ◌<◌, ◌≤◌, true, false, [], ◌∷◌, Some};
 ghost use Rattle.xh_channel.specs.declared.line_rule.Account.{Account};
-ghost use Rattle.xh_channel.specs.inner.LineRule.{Found, IsLocked, IsSettled, IsTold, LiesFor, holding, seen, settled};
-ghost use Rattle.xh_channel.specs.Lines.{IsNewLine, Lined, PutsOn, Shuts, TakesOn};
+ghost use Rattle.xh_channel.specs.inner.LineRule.{Found, IsLocked, IsSettled, holding, settled};
+ghost use Rattle.xh_channel.specs.Lines.{Lined};
 
 use crate::line::Line;
-use crate::line_rule::{Keeping, Locks, Part, Sees, Settles};
-use crate::message::Message;
-use crate::refused::Refused;
-use crate::unsent::Unsent;
-use arrayvec::ArrayVec;
+use crate::line_rule::{Keeping, Locks, Part, Settles};
 use atomic_table::{Seat, Shared};
 use std::hint;
 use std::sync::Wait;
-use xh_core::Contract;
-use xh_model::limits::MAX_BLOCKS;
 
 /// The table, as both ends' threads share it.
 pub(crate) type Board = Shared<Option<Line>, Part, (), Keeping>;
@@ -77,7 +70,7 @@ pub(crate) fn lock<R: Wait>(rt: &R, board: &Board, token: &mut Token)
     }
 }
 
-// Gives the line back as it is now.
+// Gives the line back as it is now, and the token has seen whether its peer is shut.
 pub(crate) fn settle(board: &Board, token: &mut Token)
     requires own { (token.old.table_id ≡ board.now.table_id) × (0 < board.now.table_id.words) }
     requires owns { (token.old.me.0.owns ≡ true) × (token.old.me.0.holds ≡ true) }
@@ -86,20 +79,6 @@ pub(crate) fn settle(board: &Board, token: &mut Token)
     ensures settled { token.new.me ≡ (settled token.old.me.0 token.old.me.1, []) }
 {
     if board.swap::<Settles>(token, 0, HOME) == WAITED_FOR {
-        board.wake_one(0);
-    }
-}
-
-// Gives the line back as it was, and the token has seen whether its peer is shut.
-pub(crate) fn leave(board: &Board, token: &mut Token)
-    requires own { (token.old.table_id ≡ board.now.table_id) × (0 < board.now.table_id.words) }
-    requires owns { (token.old.me.0.owns ≡ true) × (token.old.me.0.holds ≡ true) }
-    requires line { (line : Lined) × (token.old.me.1 ≡ (0, Some line) ∷ []) × LiesFor token.old.me.0.side (Some line) token.old.me.0.own token.old.me.0.peer }
-    requires told { IsTold token.old.me.0.told token.old.me.0.peer }
-    ensures same { (token.new.table_id ≡ token.old.table_id) × (token.new.id ≡ token.old.id) }
-    ensures seen { token.new.me ≡ (seen token.old.me.0, []) }
-{
-    if board.swap::<Sees>(token, 0, HOME) == WAITED_FOR {
         board.wake_one(0);
     }
 }
@@ -113,64 +92,4 @@ pub(crate) fn hold<R: Wait>(rt: &R, board: &Board, token: &mut Token)
     ensures held { (line : Lined) × (peer : Account) × (token.new.me ≡ (holding token.old.me.0 peer, (0, Some line) ∷ [])) × Found token.old.me.0 peer line }
 {
     lock(rt, board, token);
-}
-
-// A new line is in place of what the token holds.
-pub(crate) fn begin_held(board: &Board, token: &mut Token, contract: Contract, depth: u8)
-    requires own { (token.old.table_id ≡ board.now.table_id) × (1 ≤ depth) × (depth ≤ MAX_DEPTH) }
-    requires held { (old : Option Lined) × (token.old.me.1 ≡ (0, old) ∷ []) }
-    ensures same { (token.new.table_id ≡ token.old.table_id) × (token.new.id ≡ token.old.id) }
-    ensures begun { (line : Lined) × (token.new.me ≡ (token.old.me.0, (0, Some line) ∷ [])) × IsNewLine contract depth line }
-{
-    let line = Line::new(contract, depth);
-    drop(board.exchange(token, 0, Some(line)));
-}
-
-// A put on the line that the token holds.
-pub(crate) fn put_held(
-    board: &Board,
-    token: &mut Token,
-    side: u8,
-    tag: u16,
-    blocks: ArrayVec<u16, MAX_BLOCKS>,
-) -> Result<u64, Unsent>
-    requires own { (token.old.table_id ≡ board.now.table_id) × (side < 2) }
-    requires held { (line : Lined) × (token.old.me.1 ≡ (0, Some line) ∷ []) }
-    ensures same { (token.new.table_id ≡ token.old.table_id) × (token.new.id ≡ token.old.id) }
-    ensures put { (line line' : Lined) × (token.old.me.1 ≡ (0, Some line) ∷ []) × (token.new.me ≡ (token.old.me.0, (0, Some line') ∷ []))
-        × PutsOn line line' side tag blocks result × OnErr result (line' ≡ line) }
-    ensures last { IfOk result (λ no. no ≤ MAX_MESSAGES) }
-{
-    let Some(line) = token.slot_mut(board, 0) else {
-        unreachable!()
-    };
-    line.put(side, tag, blocks)
-}
-
-// A take from the line that the token holds.
-pub(crate) fn take_held(board: &Board, token: &mut Token, side: u8) -> Result<Message, Refused>
-    requires own { (token.old.table_id ≡ board.now.table_id) × (side < 2) }
-    requires held { (line : Lined) × (token.old.me.1 ≡ (0, Some line) ∷ []) }
-    ensures same { (token.new.table_id ≡ token.old.table_id) × (token.new.id ≡ token.old.id) }
-    ensures taken { (line line' : Lined) × (token.old.me.1 ≡ (0, Some line) ∷ []) × (token.new.me ≡ (token.old.me.0, (0, Some line') ∷ []))
-        × TakesOn line line' side result × OnErr result (line' ≡ line) }
-    ensures last { IfOk result (λ m. m.no ≤ MAX_MESSAGES) }
-{
-    let Some(line) = token.slot_mut(board, 0) else {
-        unreachable!()
-    };
-    line.take(side)
-}
-
-// Shuts a side of the line that the token holds.
-pub(crate) fn shut_held(board: &Board, token: &mut Token, side: u8)
-    requires own { (token.old.table_id ≡ board.now.table_id) × (side < 2) }
-    requires held { (line : Lined) × (token.old.me.1 ≡ (0, Some line) ∷ []) }
-    ensures same { (token.new.table_id ≡ token.old.table_id) × (token.new.id ≡ token.old.id) }
-    ensures shut { (line line' : Lined) × (token.old.me.1 ≡ (0, Some line) ∷ []) × (token.new.me ≡ (token.old.me.0, (0, Some line') ∷ [])) × Shuts line line' side }
-{
-    let Some(line) = token.slot_mut(board, 0) else {
-        unreachable!()
-    };
-    line.shut(side);
 }

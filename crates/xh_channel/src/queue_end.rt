@@ -1,67 +1,37 @@
 // The ends of a direction's queue. An endpoint has the sending end of one, and the receiving end of the other.
-ghost use Rattle.std.specs.Prelude.{◌≡◌, ◌<◌, ◌≤◌, ◌+◌, suc, max, List, length, MatchOption, MatchResult, IfOk};
-ghost use Rattle.xh_channel.specs.QueueEnds.{IsNewDirection, Outgoing, Incoming, sending, getting};
-ghost use Rattle.xh_channel.specs.Directions.{WaitsAfter};
+ghost use Rattle.std.specs.Prelude.{◌≡◌, ◌<◌, ◌≤◌, ◌+◌, suc, true, false, List, [], length, MatchOption, MatchResult, IfOk};
+ghost use Rattle.xh_channel.specs.QueueEnds.{IsNewDirection, sending, getting};
+ghost use Rattle.xh_channel.specs.Directions.{WaitsAfter, hearing, role};
 ghost use Rattle.xh_channel.specs.Numbers.{Numbered};
 
-use crate::direction::{
-    Gets, Halves, Hears, Port, Queue, Sends, TellsPut, TellsTaken, Together, Total,
-};
+use crate::direction::{Gets, Halves, Hears, Port, Queue, Sends, Tells, Together, Total};
 use crate::message::Message;
 use std::alloc::{AllocError, Global};
 use std::marker::Model;
 use std::sync::{Arc, Wait};
 
-/// What pushes: contracts see the depth, what was pushed and what it was told.
+/// What pushes or pops: contracts see the depth, what was pushed or popped, and what it was told.
 #[derive(Drop)]
-pub struct SendingEnd {
+pub struct QueueEnd {
     queue: Arc<Queue, Global>,
     pass: Port,
 }
 
-impl Model for SendingEnd {
+impl Model for QueueEnd {
     ghost use Rattle.std.specs.Prelude.{◌≡◌, true};
-    ghost use Rattle.xh_channel.specs.QueueEnds.{Outgoing};
+    ghost use Rattle.xh_channel.specs.QueueEnds.{IsRole, QueueView};
 
-    ghost Value = { Outgoing };
+    ghost Value = { QueueView };
 
     ghost use Rattle.std.specs.Arc.{arc_value};
     ghost use Rattle.crossbeam_queue.specs.Passes.{IsPassOf, ruled_capacity};
-    ghost use Rattle.xh_channel.specs.Numbers.{Numbered};
 
-    ghost view = { λ o. record {
-      queue = o.pass.table_id;
-      depth = ruled_capacity (arc_value o.queue);
-      sent = o.pass.me.0.client.sent;
-      told = o.pass.me.0.client.told_taken;
-    } };
+    ghost view = { λ e. record { queue = e.pass.table_id; depth = ruled_capacity (arc_value e.queue); role = e.pass.me.0.client } };
 
-    ghost invariant = { λ o. IsPassOf (arc_value o.queue) o.pass × (o.pass.me.0.client.pushes ≡ true) × Numbered o.pass.me.0.client.sent };
+    ghost invariant = { λ e. IsPassOf (arc_value e.queue) e.pass × IsRole e.pass.me.0.client };
 }
 
-/// What pops: contracts see what was popped and what it was told.
-#[derive(Drop)]
-pub struct ReceivingEnd {
-    queue: Arc<Queue, Global>,
-    pass: Port,
-}
-
-impl Model for ReceivingEnd {
-    ghost use Rattle.std.specs.Prelude.{◌≡◌, true};
-    ghost use Rattle.xh_channel.specs.QueueEnds.{Incoming};
-
-    ghost Value = { Incoming };
-
-    ghost use Rattle.std.specs.Arc.{arc_value};
-    ghost use Rattle.crossbeam_queue.specs.Passes.{IsPassOf};
-    ghost use Rattle.xh_channel.specs.Numbers.{Numbered};
-
-    ghost view = { λ i. record { queue = i.pass.table_id; got = i.pass.me.0.client.got; told = i.pass.me.0.client.told_put } };
-
-    ghost invariant = { λ i. IsPassOf (arc_value i.queue) i.pass × (i.pass.me.0.client.pops ≡ true) × Numbered i.pass.me.0.client.got };
-}
-
-/// What an end of a queue tells of how much it pushed or popped.
+/// What an end of a queue tells of how much it pushed and popped.
 #[derive(Drop)]
 pub struct QueueNote {
     pass: Port,
@@ -78,20 +48,20 @@ impl Model for QueueNote {
     ghost invariant = { λ n. n.pass.me.1 ≡ [] };
 }
 
-/// Both ends of a new direction.
+/// Both ends of a new direction, the sending end first.
 #[tactic(auto, using(crate::proofs::Moves::begins, crate::proofs::Moves::forks))]
-pub fn direction(alloc: Global, depth: usize) -> Result<(SendingEnd, ReceivingEnd), AllocError>
+pub fn direction(alloc: Global, depth: usize) -> Result<(QueueEnd, QueueEnd), AllocError>
     requires { 0 < depth }
     ensures { IfOk result (λ ends. IsNewDirection depth ends.0 ends.1) }
 {
     let (queue, mut sending) = Queue::ruled(alloc, depth)?;
     let receiving = queue.another::<Halves>(&mut sending);
     let queue = Arc::new(alloc, queue)?;
-    let sender = SendingEnd {
+    let sender = QueueEnd {
         queue: Arc::try_clone(&queue)?,
         pass: sending,
     };
-    let receiver = ReceivingEnd {
+    let receiver = QueueEnd {
         queue,
         pass: receiving,
     };
@@ -100,14 +70,16 @@ pub fn direction(alloc: Global, depth: usize) -> Result<(SendingEnd, ReceivingEn
 
 /// Shows, of both ends of a direction, that what was popped is a prefix of what was pushed, and tells each all that the other did.
 #[tactic(auto, using(crate::proofs::Moves::merges, crate::proofs::Moves::forks))]
-pub fn compare(sender: SendingEnd, receiver: ReceivingEnd) -> (SendingEnd, ReceivingEnd)
-    requires { receiver.queue ≡ sender.queue }
-    ensures told { (result.0 ≡ record sender { told = length receiver.got }) × (result.1 ≡ record receiver { told = length sender.sent }) }
-    ensures grows { (sender.told ≤ length receiver.got) × (receiver.told ≤ length sender.sent) }
-    ensures prefix { (items : List Message) × WaitsAfter sender.sent receiver.got items }
+pub fn compare(sender: QueueEnd, receiver: QueueEnd) -> (QueueEnd, QueueEnd)
+    requires queue { receiver.queue ≡ sender.queue }
+    requires roles { (sender.role.pushes ≡ true) × (receiver.role.pops ≡ true) }
+    ensures sender { result.0 ≡ record sender { role = role true false sender.role.sent [] 0 (length receiver.role.got) } }
+    ensures receiver { result.1 ≡ record receiver { role = role false true [] receiver.role.got (length sender.role.sent) 0 } }
+    ensures grows { (sender.role.told_taken ≤ length receiver.role.got) × (receiver.role.told_put ≤ length sender.role.sent) }
+    ensures prefix { (items : List Message) × WaitsAfter sender.role.sent receiver.role.got items }
 {
-    let SendingEnd { queue, mut pass } = sender;
-    let ReceivingEnd {
+    let QueueEnd { queue, mut pass } = sender;
+    let QueueEnd {
         queue: theirs,
         pass: receiving,
     } = receiver;
@@ -115,15 +87,15 @@ pub fn compare(sender: SendingEnd, receiver: ReceivingEnd) -> (SendingEnd, Recei
     line.absorb::<Together>(&mut pass, receiving);
     line.learn_as::<Total>(&mut pass);
     let receiving = line.another::<Halves>(&mut pass);
-    let sender = SendingEnd { queue, pass };
-    let receiver = ReceivingEnd {
+    let sender = QueueEnd { queue, pass };
+    let receiver = QueueEnd {
         queue: theirs,
         pass: receiving,
     };
     (sender, receiver)
 }
 
-impl SendingEnd {
+impl QueueEnd {
     pub fn depth(&self) -> usize
         ensures { result ≡ self.now.depth }
     {
@@ -131,61 +103,39 @@ impl SendingEnd {
     }
 
     pub fn push<R: Wait>(&mut self, rt: &R, message: Message) -> Result<(), Message>
-        requires { message.no ≡ suc (length self.old.sent) }
-        ensures { MatchResult result (λ _. (self.new ≡ sending self.old message) × Numbered self.new.sent)
-            (λ back. (back ≡ message) × (self.new ≡ self.old) × (self.old.told + self.old.depth ≤ length self.old.sent)) }
+        requires { (self.old.role.pushes ≡ true) × (message.no ≡ suc (length self.old.role.sent)) }
+        ensures { MatchResult result (λ _. (self.new ≡ sending self.old message) × Numbered self.new.role.sent)
+            (λ back. (back ≡ message) × (self.new ≡ self.old) × (self.old.role.told_taken + self.old.depth ≤ length self.old.role.sent)) }
     {
         let queue = &self.queue;
         queue.push_as::<Sends, R>(rt, &mut self.pass, message)
     }
 
-    /// How much it has pushed.
-    #[tactic(auto, using(crate::proofs::Moves::tells_put))]
-    pub fn note(&mut self) -> QueueNote
-        ensures note { (result.queue ≡ self.old.queue) × (result.put ≡ length self.old.sent) }
-        ensures same { self.new ≡ self.old }
-    {
-        let queue = &self.queue;
-        QueueNote {
-            pass: queue.another::<TellsPut>(&mut self.pass),
-        }
-    }
-
-    #[tactic(auto, using(crate::proofs::Moves::hears))]
-    pub fn hear(&mut self, note: QueueNote)
-        requires { note.queue ≡ self.old.queue }
-        ensures { self.new ≡ record self.old { told = max self.old.told note.taken } }
-    {
-        let queue = &self.queue;
-        queue.absorb::<Hears>(&mut self.pass, note.pass);
-    }
-}
-
-impl ReceivingEnd {
     pub fn pop<R: Wait>(&mut self, rt: &R) -> Option<Message>
-        ensures { MatchOption result ((self.new ≡ self.old) × (self.old.told ≤ length self.old.got))
-            (λ x. (self.new ≡ getting self.old x) × (x.no ≡ suc (length self.old.got)) × Numbered self.new.got) }
+        requires { self.old.role.pops ≡ true }
+        ensures { MatchOption result ((self.new ≡ self.old) × (self.old.role.told_put ≤ length self.old.role.got))
+            (λ x. (self.new ≡ getting self.old x) × (x.no ≡ suc (length self.old.role.got)) × Numbered self.new.role.got) }
     {
         let queue = &self.queue;
         queue.pop_as::<Gets, R>(rt, &mut self.pass)
     }
 
-    /// How much it has popped.
-    #[tactic(auto, using(crate::proofs::Moves::tells_taken))]
+    /// How much it has pushed and popped.
+    #[tactic(auto, using(crate::proofs::Moves::tells))]
     pub fn note(&mut self) -> QueueNote
-        ensures note { (result.queue ≡ self.old.queue) × (result.taken ≡ length self.old.got) }
+        ensures note { result ≡ record { queue = self.old.queue; put = length self.old.role.sent; taken = length self.old.role.got } }
         ensures same { self.new ≡ self.old }
     {
         let queue = &self.queue;
         QueueNote {
-            pass: queue.another::<TellsTaken>(&mut self.pass),
+            pass: queue.another::<Tells>(&mut self.pass),
         }
     }
 
     #[tactic(auto, using(crate::proofs::Moves::hears))]
     pub fn hear(&mut self, note: QueueNote)
         requires { note.queue ≡ self.old.queue }
-        ensures { self.new ≡ record self.old { told = max self.old.told note.put } }
+        ensures { self.new ≡ record self.old { role = hearing self.old.role note.put note.taken } }
     {
         let queue = &self.queue;
         queue.absorb::<Hears>(&mut self.pass, note.pass);

@@ -23,8 +23,7 @@ const NOBODY: u64 = PLACES as u64;
 #[derive(Drop)]
 pub struct Signal {
     pub turn: Turn,
-    low: AtomicU64,
-    high: AtomicU64,
+    listeners: [AtomicU64; 2],
     bells: OwnBells,
 }
 
@@ -35,31 +34,27 @@ impl Signal {
     pub fn new(bells: OwnBells) -> Signal {
         Signal {
             turn: Turn::new(),
-            low: AtomicU64::new(NOBODY),
-            high: AtomicU64::new(NOBODY),
+            listeners: [AtomicU64::new(NOBODY), AtomicU64::new(NOBODY)],
             bells,
-        }
-    }
-
-    fn ring(&self, listener: &AtomicU64) {
-        let place = listener.load(SeqCst);
-        if place < NOBODY {
-            self.bells.of(place as u8).raise();
         }
     }
 
     /// The turn rises by one, and who waits at it or listens looks again. Where nobody does, that is one step and three loads.
     pub fn raise(&self) {
         self.turn.raise();
-        self.ring(&self.low);
-        self.ring(&self.high);
+        for listener in &self.listeners {
+            let place = listener.load(SeqCst);
+            if place < NOBODY {
+                self.bells.of(place as u8).raise();
+            }
+        }
     }
 
     /// The place listens at the side now, and no other.
     pub fn listen(&self, side: u8, place: u8)
-        requires { place < PLACES }
+        requires { (side < 2) × (place < PLACES) }
     {
-        let listener = if side == 0 { &self.low } else { &self.high };
+        let listener = &self.listeners[side as usize];
         let place = u64::from(place);
         if listener.load(SeqCst) != place {
             listener.store(place, SeqCst);

@@ -71,47 +71,50 @@ impl Turn {
         moved.is_ok()
     }
 
-    // Makes the bell odd, or where it is, sleeps until it moves on, unless the turn has risen.
-    fn sleep<R: Wait>(&self, rt: &R, seen: u64, longest: Duration) {
-        let heard = self.bell.load(SeqCst);
-        if heard % 2 == 0 {
-            self.moves_on(heard);
-        } else if is_waited_for(self.count(), seen) {
-            let low = (heard & 0xffff_ffff) as u32;
-            self.bell.park_timeout(rt, low, longest);
+    // Looks at the turn for a while, as long as it is waited for.
+    fn look(&self, seen: u64) {
+        for _ in 0..LOOKS {
+            if !is_waited_for(self.count(), seen) {
+                break;
+            }
+            hint::spin_loop();
         }
     }
 
-    // Between two looks: after so many it sleeps.
-    fn pause<R: Wait>(&self, rt: &R, seen: u64, looks: &mut u16, longest: Duration) {
-        if *looks < LOOKS {
-            *looks += 1;
-            hint::spin_loop();
-        } else {
-            self.sleep(rt, seen, longest);
+    // Makes the bell odd, or where it is, sleeps until it moves on or the time is past, unless the turn has risen. Whether it hasn't.
+    fn sleep<R: Wait>(&self, rt: &R, seen: u64, longest: Option<Duration>) -> bool {
+        let heard = self.bell.load(SeqCst);
+        let waits = is_waited_for(self.count(), seen);
+        if waits && heard % 2 == 0 {
+            self.moves_on(heard);
+        } else if waits {
+            let low = (heard & 0xffff_ffff) as u32;
+            match longest {
+                Some(longest) => self.bell.park_timeout(rt, low, longest),
+                None => self.bell.park(rt, low),
+            }
         }
+        waits
     }
 
     /// Returns where the turn isn't `seen`, and at once where it is 2^64 - 1.
     pub fn wait<R: Wait>(&self, rt: &R, seen: u64) {
-        let mut looks = 0;
+        self.look(seen);
         for _ in rt.forever() {
-            if !is_waited_for(self.count(), seen) {
+            if !self.sleep(rt, seen, None) {
                 break;
             }
-            self.pause(rt, seen, &mut looks, Duration::MAX);
         }
     }
 
     /// As `wait`, and returns once the time is past. A clock that can't be read ends the wait.
     pub fn wait_until<R: Wait + Clock>(&self, rt: &R, seen: u64, deadline: Instant) {
-        let mut looks = 0;
+        self.look(seen);
         for _ in rt.forever() {
             let left = left(rt, deadline);
-            if left.is_zero() || !is_waited_for(self.count(), seen) {
+            if left.is_zero() || !self.sleep(rt, seen, Some(left)) {
                 break;
             }
-            self.pause(rt, seen, &mut looks, left);
         }
     }
 }

@@ -5,9 +5,7 @@ use mathlib.Core.Option as maybe
 use lib.ListN.{get_elem?}
 use Rattle.atomic_table.specs.Seated.{TableId}
 use Rattle.atomic_table.specs.Table.{State, Step, Me}
-use Rattle.xh_model.specs.declared.row.Row.{Row}
 use Rattle.xh_model.specs.Direction.{IsDirection}
-use Rattle.xh_model.specs.Rows.{row_at}
 use Rattle.xh_channel.specs.declared.counts.Counts.{Counts}
 use Rattle.xh_channel.specs.declared.line_end.LineEnd.{LineEnd}
 use Rattle.xh_channel.specs.declared.line_rule.Account.{Account}
@@ -123,9 +121,10 @@ own_by v line = record {
 abbrev pub peer_by : Part → Lined → Account
 peer_by v line = record v.peer { rows = line.rows; depth = line.depth; state = (end_of line (1 - v.side)).state }
 
+-- it gave the line back, and has seen whether the peer is shut
 abbrev pub settled_by : Part → Option Lined → Part
 settled_by v None = v
-settled_by v (Some line) = record v { holds = false; own = own_by v line; peer = peer_by v line }
+settled_by v (Some line) = record v { holds = false; own = own_by v line; peer = peer_by v line; told = record v.told { shut = v.told.shut || v.peer.shut } }
 
 abbrev pub settled : Part → List (ℕ × Option Lined) → Part
 settled v [] = v
@@ -134,10 +133,6 @@ settled v (x ∷ xs) = settled_by v x.1
 -- the line is as the accounts say that the seat has by it: its own goes on, and its peer's stays or is its own too
 abbrev pub IsSettled : Part → Lined → Type 0
 IsSettled v line = LiesFor v.side (Some line) (own_by v line) (peer_by v line) × Grows v.own (own_by v line) × ((peer_by v line ≡ v.peer) ⊎ (v.both ≡ true)) × IsTold v.told v.peer
-
--- it gave the line back as it was, and has seen whether the peer is shut
-abbrev pub seen : Part → Part
-seen v = record v { holds = false; told = record v.told { shut = v.told.shut || v.peer.shut } }
 
 -- what the one side took is a beginning of what the other put
 abbrev pub IsTaken : Account → Account → Type 0
@@ -155,9 +150,6 @@ Locked st me n me' = (n ≡ 0 → IsLocked me me') × (n ≢ 0 → me' ≡ me)
 abbrev pub Settled : Step (Option Lined) → Me (Option Lined) Part → ℕ → Me (Option Lined) Part → Type 0
 Settled st me n me' = me' ≡ (settled me.0 me.1, [])
 
-abbrev pub Seen : Step (Option Lined) → Me (Option Lined) Part → ℕ → Me (Option Lined) Part → Type 0
-Seen st me n me' = me' ≡ (seen me.0, [])
-
 abbrev pub Compared : Step (Option Lined) → Me (Option Lined) Part → ℕ → Me (Option Lined) Part → Type 0
 Compared st me n me' = (me' ≡ (record me.0 { told = counts_in me.0.peer; peer_told = counts_in me.0.own }, me.1))
     × IsTold me.0.told me.0.peer × IsTold me.0.peer_told me.0.own × IsTaken me.0.own me.0.peer × IsTaken me.0.peer me.0.own
@@ -167,14 +159,6 @@ pub record Found (v : Part) (peer : Account) (line : Lined) : Type 0 where
   pub few : v.side ≤ 1
   pub lies : LiesFor v.side (Some line) v.own peer
   pub told : IsTold v.told peer
-
--- an account of nothing
-abbrev pub IsIdle : Account → Type 0
-IsIdle a = (a.sent ≡ []) × (a.got ≡ []) × (a.shut ≡ false)
-
--- it goes by the contract, in the first state
-abbrev pub started : List Row → ℕ → Account → Account
-started rows depth a = record a { rows = rows; depth = depth; state = (row_at rows 0).state }
 
 -- the seat is one of the table, which has one slot, and doesn't hold it
 pub record IsLineSeat (table seat : TableId) (me : Me (Option Lined) Part) (which : ℕ) : Type 0 where

@@ -35,7 +35,11 @@ pub(super) fn blocks_of(block: Option<u16>) -> ArrayVec<u16, MAX_BLOCKS> {
     blocks
 }
 
+// The one block, or 65535, which none has as its number, where there are more.
 fn first(blocks: &ArrayVec<u16, MAX_BLOCKS>) -> Option<u16> {
+    if blocks.len() > 1 {
+        return Some(u16::MAX);
+    }
     blocks.first().copied()
 }
 

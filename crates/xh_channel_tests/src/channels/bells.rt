@@ -2,13 +2,13 @@
 use super::answers::{Answer, Call, Ends, by_end};
 use super::opening::FREE;
 use super::scenes::{Act, Scene, play};
-use std::hint;
+use super::threads::{Job, Jobs, Watch};
 use std::process::Abort;
 use std::sync::Wait;
 use std::sync::atomic::AtomicU64;
 use std::sync::atomic::Ordering::SeqCst;
-use std::thread::{self, Threads};
 use std::time::{Clock, Duration, Instant};
+use std::{hint, thread};
 use xh_channel::{Channels, Endpoint};
 
 const ROUNDS: u64 = 2048;
@@ -40,8 +40,8 @@ fn take_all<R: Wait>(rt: &R, channels: &Channels, end: &mut Endpoint) {
     }
 }
 
-/// Wakes who waits at the other side's bell, and but for `Ring` at the channel's turn.
-pub(super) fn wake<R: Wait>(rt: &R, channels: &Channels, end: &mut Endpoint, way: Way) {
+// Wakes who waits at the other side's bell, and but for `Ring` at the channel's turn.
+fn wake<R: Wait>(rt: &R, channels: &Channels, end: &mut Endpoint, way: Way) {
     let spot = end.spot();
     match way {
         Way::Put => {
@@ -54,16 +54,28 @@ pub(super) fn wake<R: Wait>(rt: &R, channels: &Channels, end: &mut Endpoint, way
     }
 }
 
-// Ends each second round, and waits at its bell through the others. The pauses before are of some that a waiter looks
-// through, and of some that it sleeps through.
-fn alternate<R: Clock + Wait>(
+/// Wakes the other threads once they sleep.
+pub(super) fn wake_later<R: Clock + Wait>(
+    rt: &R,
+    channels: &Channels,
+    end: &mut Endpoint,
+    way: Way,
+) -> u64 {
+    thread::sleep(rt, Duration::from_millis(20));
+    wake(rt, channels, end, way);
+    0
+}
+
+/// Ends each second round, and waits at its bell through the others. The pauses before are of some that a waiter looks
+/// through, and of some that it sleeps through. The round at the end, or 0 where a deadline was met.
+pub(super) fn alternate<R: Clock + Wait + Abort>(
     rt: &R,
     channels: &Channels,
     end: &mut Endpoint,
     round: &AtomicU64,
     way: Way,
-    deadline: Instant,
-) {
+) -> u64 {
+    let deadline = after(rt, 30_000);
     let place = end.spot().side;
     channels.listen(rt, end.spot(), place);
     for _ in rt.forever() {
@@ -84,25 +96,11 @@ fn alternate<R: Clock + Wait>(
             channels.wait_at_until(rt, place, seen, deadline);
         }
     }
-}
-
-/// Two threads wake each other, and neither sleeps through its rounds.
-pub(super) fn assert_none_lost<R: Clock + Threads + Wait + Abort + Sync>(
-    rt: &R,
-    channels: &Channels,
-    ends: &mut Ends,
-    way: Way,
-) {
-    let (low, high) = (&mut ends.low, &mut ends.high);
-    let round = AtomicU64::new(0);
-    let deadline = after(rt, 30_000);
-    thread::join(
-        rt,
-        || alternate(rt, channels, low, &round, way, deadline),
-        || alternate(rt, channels, high, &round, way, deadline),
-    );
-    assert_eq!(rt; round.load(SeqCst), ROUNDS);
-    assert!(rt; after(rt, 0) < deadline);
+    if after(rt, 0) < deadline {
+        round.load(SeqCst)
+    } else {
+        0
+    }
 }
 
 /// A wait returns once its time is past, at once where it was, and before where it is woken.
@@ -126,6 +124,20 @@ pub(super) fn assert_deadlines<R: Clock + Wait + Abort>(
     channels.wait_until(rt, spot, 0, never);
     channels.wait_at_until(rt, 31, 0, never);
     assert_eq!(rt; (channels.turn(rt, spot), channels.bell(rt, 31)), (1, 1));
+}
+
+/// Two threads wake each other, and neither sleeps through its rounds.
+pub(super) fn rings(way: Way) -> Jobs {
+    let turn = match way {
+        Way::Ring => 0,
+        _ => ROUNDS,
+    };
+    Jobs {
+        turn: Watch::Rest,
+        low: Job::Alternate(way),
+        high: Job::Alternate(way),
+        answers: (ROUNDS, ROUNDS, turn),
+    }
 }
 
 #[test]

@@ -1,14 +1,12 @@
 //! The turn rises after the step that it tells of: whoever sees it risen finds the message, or the peer shut.
 //! A thread sleeps at the turn meanwhile, so that a rouse takes long: a step that came after its rouse would be looked for in vain.
-use super::answers::{Answer, Call, Ends, by_end};
+use super::answers::{Answer, Call, by_end};
 use super::opening::{FREE, ONE_WAY};
 use super::scenes::{Act, Scene, play};
-use super::waits::pause;
-use std::hint;
-use std::process::Abort;
+use super::threads::{Job, Jobs, Watch};
 use std::sync::Wait;
-use std::thread::{self, Threads};
-use std::time::Clock;
+use std::time::{Clock, Duration};
+use std::{hint, thread};
 use xh_channel::{Channels, Endpoint, Spot};
 
 const PUTS: u64 = 100;
@@ -16,8 +14,14 @@ const PUTS: u64 = 100;
 // The sleeper sleeps by then.
 const ASLEEP: u64 = 200;
 
-// Looks at the turn until it has risen so often, and sleeps at it meanwhile, or looks without a pause.
-fn follow_until<R: Wait>(rt: &R, channels: &Channels, spot: Spot, last: u64, sleeps: bool) {
+/// Looks at the turn until it has risen so often, and sleeps at it meanwhile, or looks without a pause.
+pub(super) fn follow_until<R: Wait>(
+    rt: &R,
+    channels: &Channels,
+    spot: Spot,
+    last: u64,
+    sleeps: bool,
+) {
     for _ in rt.forever() {
         let seen = channels.turn(rt, spot);
         if seen >= last {
@@ -38,7 +42,7 @@ fn put_slowly<R: Clock + Wait>(rt: &R, channels: &Channels, end: &mut Endpoint, 
         if sent >= count {
             break;
         }
-        thread::sleep(rt, pause(ASLEEP));
+        thread::sleep(rt, Duration::from_micros(ASLEEP));
         match by_end(rt, channels, end, Call::Put(1, None)) {
             Answer::Sent(no) => sent = no,
             Answer::Refused(14, _) => (),
@@ -71,15 +75,15 @@ fn take_and_end<R: Wait>(rt: &R, channels: &Channels, end: &mut Endpoint, count:
     found
 }
 
-// Shuts the end once the sleeper sleeps, or puts all messages.
-fn tell_slowly<R: Clock + Wait>(
+/// Shuts the end once the sleeper sleeps, or puts all messages.
+pub(super) fn tell_slowly<R: Clock + Wait>(
     rt: &R,
     channels: &Channels,
     end: &mut Endpoint,
     by_shut: bool,
 ) -> u64 {
     if by_shut {
-        thread::sleep(rt, pause(ASLEEP));
+        thread::sleep(rt, Duration::from_micros(ASLEEP));
         channels.shut(rt, end);
         1
     } else {
@@ -87,8 +91,13 @@ fn tell_slowly<R: Clock + Wait>(
     }
 }
 
-// Whether the peer is found shut as soon as the turn has risen, as a number, or how many messages were there.
-fn find_at_once<R: Wait>(rt: &R, channels: &Channels, end: &mut Endpoint, by_shut: bool) -> u64 {
+/// Whether the peer is found shut as soon as the turn has risen, as a number, or how many messages were there.
+pub(super) fn find_at_once<R: Wait>(
+    rt: &R,
+    channels: &Channels,
+    end: &mut Endpoint,
+    by_shut: bool,
+) -> u64 {
     if by_shut {
         follow_until(rt, channels, end.spot(), 1, false);
         u64::from(matches!(
@@ -100,58 +109,35 @@ fn find_at_once<R: Wait>(rt: &R, channels: &Channels, end: &mut Endpoint, by_shu
     }
 }
 
-/// Each message is there once the turn has risen for it, or the peer is shut once it has risen for its shut.
-pub(super) fn assert_before_turn<R: Clock + Threads + Wait + Abort + Sync>(
-    rt: &R,
-    channels: &Channels,
-    ends: &mut Ends,
-    by_shut: bool,
-) {
-    let (low, high) = (&mut ends.low, &mut ends.high);
-    let spot = low.spot();
-    let count = if by_shut { 1 } else { PUTS };
-    let carried = thread::join(
-        rt,
-        || follow_until(rt, channels, spot, count, true),
-        || {
-            thread::join(
-                rt,
-                || tell_slowly(rt, channels, low, by_shut),
-                || find_at_once(rt, channels, high, by_shut),
-            )
-        },
-    );
-    assert_eq!(rt; carried.1, (count, count));
-}
+// Each message is there once the turn has risen for it, and the end that took them is shut.
+const PUT: &Jobs = &Jobs {
+    turn: Watch::Follow(PUTS),
+    low: Job::TellSlowly(false),
+    high: Job::FindAtOnce(false),
+    answers: (PUTS, PUTS, PUTS + 1),
+};
+
+// The peer is shut once the turn has risen for its shut.
+const SHUT: &Jobs = &Jobs {
+    turn: Watch::Follow(1),
+    low: Job::TellSlowly(true),
+    high: Job::FindAtOnce(true),
+    answers: (1, 1, 1),
+};
 
 #[test]
 fn a_put_comes_before_its_turn(rt: HostRuntime) {
-    play(
-        &rt,
-        rt.alloc(),
-        2,
-        Scene::Each(FREE, Act::BeforeTurn(false), 1),
-    );
+    play(&rt, rt.alloc(), 2, Scene::Each(FREE, Act::Jobs(PUT), 1));
 }
 
 #[test]
 fn a_shut_comes_before_its_turn(rt: HostRuntime) {
-    play(
-        &rt,
-        rt.alloc(),
-        1,
-        Scene::Each(FREE, Act::BeforeTurn(true), 64),
-    );
+    play(&rt, rt.alloc(), 1, Scene::Each(FREE, Act::Jobs(SHUT), 64));
 }
 
 #[test]
 fn a_put_on_a_line_comes_before_its_turn(rt: HostRuntime) {
-    play(
-        &rt,
-        rt.alloc(),
-        2,
-        Scene::Each(ONE_WAY, Act::BeforeTurn(false), 1),
-    );
+    play(&rt, rt.alloc(), 2, Scene::Each(ONE_WAY, Act::Jobs(PUT), 1));
 }
 
 #[test]
@@ -160,6 +146,6 @@ fn a_shut_of_a_line_comes_before_its_turn(rt: HostRuntime) {
         &rt,
         rt.alloc(),
         1,
-        Scene::Each(ONE_WAY, Act::BeforeTurn(true), 64),
+        Scene::Each(ONE_WAY, Act::Jobs(SHUT), 64),
     );
 }

@@ -2,17 +2,16 @@
 ghost use Rattle.xh_channel.specs.Pairs.{IsPair};
 
 use super::answers::{Answer, Call, Ends, assert_answers};
-use super::bells::{Way, assert_deadlines, assert_none_lost};
+use super::bells::{Way, assert_deadlines, rings};
 use super::ends::{assert_all_blocks, assert_full_at, assert_refusals};
 use super::notes::{assert_put_heard, assert_shut_heard};
 use super::opening::{
     FREE, assert_all_open, assert_compared, assert_free_again, assert_goes_back, assert_own_rooms,
     cancel_next, opened,
 };
-use super::order::assert_before_turn;
 use super::side_by_side::assert_alike;
-use super::threads::{assert_in_order, assert_last_comes, assert_put_and_shut};
-use super::waits::{assert_turns, assert_unwaited, assert_wakes};
+use super::threads::{Jobs, assert_jobs, assert_put_and_shut};
+use super::waits::{assert_unwaited, woken};
 use std::alloc::Global;
 use std::process::Abort;
 use std::sync::Wait;
@@ -28,15 +27,12 @@ pub(super) enum Act {
     FullAt(u8),
     AllBlocks,
     Refusals,
-    InOrder,
-    PutAndShut,
-    LastComes,
-    Unwaited,
+    Jobs(&'static Jobs),
     Wakes(Way, Answer),
-    Turns,
     Rings(Way),
+    PutAndShut,
+    Unwaited,
     Deadlines,
-    BeforeTurn(bool),
     PutHeard,
     ShutHeard,
 }
@@ -73,15 +69,12 @@ fn act_at<R: Clock + Threads + Wait + Abort + Sync>(
         Act::FullAt(depth) => assert_full_at(rt, channels, ends, depth),
         Act::AllBlocks => assert_all_blocks(rt, channels, ends),
         Act::Refusals => assert_refusals(rt, channels, ends),
-        Act::InOrder => assert_in_order(rt, channels, ends),
-        Act::PutAndShut => assert_put_and_shut(rt, channels, ends, at % 16),
-        Act::LastComes => assert_last_comes(rt, channels, ends, at * 8),
+        Act::Jobs(jobs) => assert_jobs(rt, channels, ends, jobs, at),
+        Act::Wakes(way, expected) => assert_jobs(rt, channels, ends, &woken(way, expected), at),
+        Act::Rings(way) => assert_jobs(rt, channels, ends, &rings(way), at),
+        Act::PutAndShut => assert_put_and_shut(rt, channels, ends, at),
         Act::Unwaited => assert_unwaited(rt, channels, ends),
-        Act::Wakes(way, expected) => assert_wakes(rt, channels, ends, way, expected),
-        Act::Turns => assert_turns(rt, channels, ends),
-        Act::Rings(way) => assert_none_lost(rt, channels, ends, way),
         Act::Deadlines => assert_deadlines(rt, channels, ends),
-        Act::BeforeTurn(by_shut) => assert_before_turn(rt, channels, ends, by_shut),
         Act::PutHeard => assert_put_heard(rt, channels, ends),
         Act::ShutHeard => assert_shut_heard(rt, channels, ends),
     }

@@ -1,25 +1,28 @@
-use Rattle.std.proofs.Common.{sym, ap, subst, ◌∙◌}
-use Rattle.std.specs.Prelude.{Ok}
+use Rattle.std.proofs.Common.{◌≡◌, rules, sym, ap, subst, ◌∙◌}
+use Rattle.std.specs.Prelude.{Some, OnErr}
 use Rattle.xh_channel.specs.Lines.{PutsOn}
 use Rattle.xh_channel.specs.LineSeats.{LineView, PutsBy}
 use Rattle.xh_channel.specs.inner.LineRule.{IsSettled, line_view}
-use Rattle.xh_channel.proofs.LineMoves.{done_here, put_ok, still_held, view_after}
+use Rattle.xh_channel.proofs.LineMoves.{done_here, put_done, slot_first, still_held, view_after}
 use Rattle.xh_channel.proofs.line_seat.LineSeat.put.Goals as goal
+
+pub slot_mut-requires : goal.slot_mut-requires
+slot_mut-requires g c = let h = c.hold.ensures.held in (search rules, (Some h.0, slot_first _ _ (ap (λ m. m.1) h.2)))
 
 pub settle-requires-clause-line : goal.settle-requires-clause-line
 settle-requires-clause-line g c =
-    let v = c.self.inside.seat.me.0 in let t = c.self.inside.seat.table_id in let i = c.self.invariant in
-    let h = c.hold.ensures.held in let p = c.in-Ok.ensures.put in
-    let held = still_held v h.1 h.0 p.0 p.1 _ _ _ i.side h.2 p.3 in
-    let s = put_ok t v h.1 h.0 p.1 h.3 c.args.tag c.args.blocks c.in-Ok.no (done_here v h.1 h.0 p.0 p.1 _ _ (c.put_held.new.token.me) i.side h.2 (λ a b k. PutsOn a b k c.args.tag c.args.blocks (Ok c.in-Ok.no)) p.2 p.4) in
-    (p.1, ap (λ m. m.1) held, subst (λ m. IsSettled m.0 p.1) (sym held) s.0)
+    let v = c.self.inside.seat.me.0 in let t = c.self.inside.seat.table_id in let h = c.hold.ensures.held in let line = c.put-put.new.self in
+    let d = done_here v h.1 h.0 _ h.2 _ _ _ line (λ a b k. PutsOn a b k c.args.tag c.args.blocks c.put-put.result × OnErr c.put-put.result (b ≡ a)) c.self.invariant.side c.slot_mut.ensures.value c.in-Some.is (c.put-put.ensures.put, c.put-put.ensures.refused) in
+    let s = put_done t v h.1 h.0 line h.3 c.args.tag c.args.blocks c.put-put.result d.0 d.1 in
+    let held = still_held v h.1 h.0 _ h.2 line in
+    (line, ap (λ m. m.1) held, subst (λ m. IsSettled m.0 line) (sym held) s.0)
 
-pub returns-in-Ok-clause-put : goal.returns-in-Ok-clause-put
-returns-in-Ok-clause-put g c =
-    let v = c.self.inside.seat.me.0 in let t = c.self.inside.seat.table_id in let i = c.self.invariant in
-    let h = c.hold.ensures.held in let p = c.in-Ok.ensures.put in
-    let held = still_held v h.1 h.0 p.0 p.1 _ _ _ i.side h.2 p.3 in
-    let s = put_ok t v h.1 h.0 p.1 h.3 c.args.tag c.args.blocks c.in-Ok.no (done_here v h.1 h.0 p.0 p.1 _ _ (c.put_held.new.token.me) i.side h.2 (λ a b k. PutsOn a b k c.args.tag c.args.blocks (Ok c.in-Ok.no)) p.2 p.4) in
+pub returns-clause-put : goal.returns-clause-put
+returns-clause-put g c =
+    let v = c.self.inside.seat.me.0 in let t = c.self.inside.seat.table_id in let h = c.hold.ensures.held in let line = c.put-put.new.self in
+    let d = done_here v h.1 h.0 _ h.2 _ _ _ line (λ a b k. PutsOn a b k c.args.tag c.args.blocks c.put-put.result × OnErr c.put-put.result (b ≡ a)) c.self.invariant.side c.slot_mut.ensures.value c.in-Some.is (c.put-put.ensures.put, c.put-put.ensures.refused) in
+    let s = put_done t v h.1 h.0 line h.3 c.args.tag c.args.blocks c.put-put.result d.0 d.1 in
+    let held = still_held v h.1 h.0 _ h.2 line in
     let gone = c.settle.ensures in
-    let now = ap (λ table. line_view table c.settle.new.token.me.0) (gone.same.0 ∙ c.in-Ok.ensures.same.0 ∙ c.hold.ensures.same.0) ∙ view_after v h.1 _ p.1 s.1 _ _ held gone.settled t in
-    subst (λ (x : LineView × LineView). PutsBy x.0 x.1 c.args.tag c.args.blocks (Ok c.in-Ok.no)) (λ j. (c.self.view_is j, sym now j)) s.2
+    let now = ap (λ table. line_view table c.settle.new.token.me.0) (gone.same.0 ∙ c.hold.ensures.same.0) ∙ view_after t v h.1 line _ _ held gone.settled in
+    subst (λ (x : LineView × LineView). PutsBy x.0 x.1 c.args.tag c.args.blocks c.put-put.result) (λ j. (c.self.view_is j, sym now j)) s.1

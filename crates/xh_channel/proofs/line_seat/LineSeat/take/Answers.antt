@@ -1,25 +1,28 @@
-use Rattle.std.proofs.Common.{sym, ap, subst, ◌∙◌}
-use Rattle.std.specs.Prelude.{Ok}
+use Rattle.std.proofs.Common.{◌≡◌, rules, sym, ap, subst, ◌∙◌}
+use Rattle.std.specs.Prelude.{Some, OnErr}
 use Rattle.xh_channel.specs.Lines.{TakesOn}
 use Rattle.xh_channel.specs.LineSeats.{LineView, TakesBy}
 use Rattle.xh_channel.specs.inner.LineRule.{IsSettled, line_view}
-use Rattle.xh_channel.proofs.LineMoves.{done_here, take_ok, still_held, view_after}
+use Rattle.xh_channel.proofs.LineMoves.{done_here, take_done, slot_first, still_held, view_after}
 use Rattle.xh_channel.proofs.line_seat.LineSeat.take.Goals as goal
+
+pub slot_mut-requires : goal.slot_mut-requires
+slot_mut-requires g c = let h = c.hold.ensures.held in (search rules, (Some h.0, slot_first _ _ (ap (λ m. m.1) h.2)))
 
 pub settle-requires-clause-line : goal.settle-requires-clause-line
 settle-requires-clause-line g c =
-    let v = c.self.inside.seat.me.0 in let t = c.self.inside.seat.table_id in let i = c.self.invariant in
-    let h = c.hold.ensures.held in let p = c.in-Ok.ensures.taken in
-    let held = still_held v h.1 h.0 p.0 p.1 _ _ _ i.side h.2 p.3 in
-    let s = take_ok t v h.1 h.0 p.1 h.3 c.in-Ok.message (done_here v h.1 h.0 p.0 p.1 _ _ (c.take_held.new.token.me) i.side h.2 (λ a b k. TakesOn a b k (Ok c.in-Ok.message)) p.2 p.4) in
-    (p.1, ap (λ m. m.1) held, subst (λ m. IsSettled m.0 p.1) (sym held) s.0)
+    let v = c.self.inside.seat.me.0 in let t = c.self.inside.seat.table_id in let h = c.hold.ensures.held in let line = c.take-taken.new.self in
+    let d = done_here v h.1 h.0 _ h.2 _ _ _ line (λ a b k. TakesOn a b k c.take-taken.result × OnErr c.take-taken.result (b ≡ a)) c.self.invariant.side c.slot_mut.ensures.value c.in-Some.is (c.take-taken.ensures.taken, c.take-taken.ensures.refused) in
+    let s = take_done t v h.1 h.0 line h.3 c.take-taken.result d.0 d.1 in
+    let held = still_held v h.1 h.0 _ h.2 line in
+    (line, ap (λ m. m.1) held, subst (λ m. IsSettled m.0 line) (sym held) s.0)
 
-pub returns-in-Ok-clause-taken : goal.returns-in-Ok-clause-taken
-returns-in-Ok-clause-taken g c =
-    let v = c.self.inside.seat.me.0 in let t = c.self.inside.seat.table_id in let i = c.self.invariant in
-    let h = c.hold.ensures.held in let p = c.in-Ok.ensures.taken in
-    let held = still_held v h.1 h.0 p.0 p.1 _ _ _ i.side h.2 p.3 in
-    let s = take_ok t v h.1 h.0 p.1 h.3 c.in-Ok.message (done_here v h.1 h.0 p.0 p.1 _ _ (c.take_held.new.token.me) i.side h.2 (λ a b k. TakesOn a b k (Ok c.in-Ok.message)) p.2 p.4) in
+pub returns-clause-taken : goal.returns-clause-taken
+returns-clause-taken g c =
+    let v = c.self.inside.seat.me.0 in let t = c.self.inside.seat.table_id in let h = c.hold.ensures.held in let line = c.take-taken.new.self in
+    let d = done_here v h.1 h.0 _ h.2 _ _ _ line (λ a b k. TakesOn a b k c.take-taken.result × OnErr c.take-taken.result (b ≡ a)) c.self.invariant.side c.slot_mut.ensures.value c.in-Some.is (c.take-taken.ensures.taken, c.take-taken.ensures.refused) in
+    let s = take_done t v h.1 h.0 line h.3 c.take-taken.result d.0 d.1 in
+    let held = still_held v h.1 h.0 _ h.2 line in
     let gone = c.settle.ensures in
-    let now = ap (λ table. line_view table c.settle.new.token.me.0) (gone.same.0 ∙ c.in-Ok.ensures.same.0 ∙ c.hold.ensures.same.0) ∙ view_after v h.1 _ p.1 s.1 _ _ held gone.settled t in
-    subst (λ (x : LineView × LineView). TakesBy x.0 x.1 (Ok c.in-Ok.message)) (λ j. (c.self.view_is j, sym now j)) s.2
+    let now = ap (λ table. line_view table c.settle.new.token.me.0) (gone.same.0 ∙ c.hold.ensures.same.0) ∙ view_after t v h.1 line _ _ held gone.settled in
+    subst (λ (x : LineView × LineView). TakesBy x.0 x.1 c.take-taken.result) (λ j. (c.self.view_is j, sym now j)) s.1
