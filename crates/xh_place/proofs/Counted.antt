@@ -1,9 +1,7 @@
--- A worker's tallies.
-use Rattle.std.proofs.Common.{◌≡◌, ℕ, zero, suc, ◌+◌, ◌<◌, List, [], ◌∷◌, length, get_or, set, refl, sym, ap, ◌∙◌, subst, arith}
-use Rattle.std.specs.Prelude.{Some, slice_get, Result, Ok, Err, OnOk, OnErr}
-use Rattle.atomic_table.specs.Seated.{TableId}
-use Rattle.xh_arena.specs.Views.{TallyOf}
-use Rattle.xh_place.specs.Tallies.{ids_of, took, gave}
+-- A worker's tallies and desk.
+use Rattle.xh_place.proofs.Words.{◌≡◌, ℕ, zero, suc, ◌+◌, ◌<◌, List, [], ◌∷◌, length, get_or, set, refl, sym, ap, ◌∙◌, subst, arith, Some, slice_get, TableId, TallyOf, ids_of, took, gave, Held}
+use Rattle.xh_place.proofs.Words.{Body, IsSameDesk, IsSeatAt, Item, with_blocks, IsSamePlace, PlaceSeen, SeesMore}
+use Rattle.xh_place.specs.declared.desk.Desk.{Desk}
 
 pub ids_long : (ts : List TallyOf) → length (ids_of ts) ≡ length ts
 ids_long [] = refl
@@ -39,11 +37,20 @@ ids_set [] i d x h e = absurd (omega arith)
 ids_set (t ∷ ts) zero d x h e = ap (λ (n : TableId). n ∷ ids_of ts) e
 ids_set (t ∷ ts) (suc i) d x h e = ap (λ (l : List TableId). t.id ∷ l) (ids_set ts i d x (omega arith) e)
 
--- what an outcome tells, told in other words
-pub on_ok : {A E P Q : Type 0} (r : Result A E) → (P → Q) → OnOk r P → OnOk r Q
-on_ok (Ok a) f p = f p
-on_ok (Err e) f p = tt
+-- ---- a desk that stays the same through several calls
 
-pub on_err : {A E P Q : Type 0} (r : Result A E) → (P → Q) → OnErr r P → OnErr r Q
-on_err (Ok a) f p = tt
-on_err (Err e) f p = f p
+module _ {R V G : Type 0} (names : V → List TableId) where
+  module _ (extent : V → ℕ) (first second third : Desk R V G) where
+    pub same_again : IsSameDesk names extent first second → IsSameDesk names extent second third → IsSameDesk names extent first third
+    same_again h k = (k.0 ∙ h.0, k.1 ∙ h.1, k.2 ∙ h.2, k.3 ∙ h.3, k.4 ∙ h.4, k.5 ∙ h.5)
+
+    -- a seat of the same table and shape is at the desk still
+    pub still_at : (seat last : Held Body) → IsSameDesk names extent first second → last.table ≡ seat.table → last.shape ≡ seat.shape → IsSeatAt names first seat → IsSeatAt names second last
+    still_at seat last h table shape at = (
+      (table ∙ at.0.0 ∙ sym (ap (λ r. r.now.table) h.3), shape ∙ at.0.1 ∙ sym (ap (λ r. r.now.shape) h.3)),
+      (h.0 ∙ at.1.0 ∙ sym (ap (λ s. s.names) shape), h.2 ∙ at.1.1 ∙ sym (ap (λ s. s.names) shape)),
+    )
+
+-- a place with other blocks is the same place
+pub same_place : (old new : PlaceSeen) (xs : List (ℕ × Item)) → new.place ≡ with_blocks old.place xs → SeesMore old new → IsSamePlace old new
+same_place old new xs e more = (ap (λ p. p.table) e, ap (λ p. p.shape) e, ap (λ p. p.process) e, more)

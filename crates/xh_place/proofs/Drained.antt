@@ -1,27 +1,13 @@
 -- An endpoint of a place that takes one message after another.
+use Rattle.xh_place.proofs.Words.{on_err_weaker, ◌≡◌, ℕ, ◌≤◌, inl, inr, List, [], ◌∷◌, ◌++◌, append_assoc, append-nil, length, refl, sym, ap, ◌∙◌, subst, Some, None, Option, Ok, Err, Result}
+use Rattle.xh_place.proofs.Words.{MatchResult, map-append, Message, Posted, Refused, put, value_at, front_at, put_at, put_same, put_twice, Content, bytes, endpoint, kind_of, toward, Taken, AreGot}
+use Rattle.xh_place.proofs.Words.{AreUnpacked, EndsWith, IsDrained, Shuts, Takes, TakesEach, blocks_of, record_of, EndDoes, end_block, toward_in, away_in, Clears, Drains, IsUntaken, Unpacks, IsSent}
+use Rattle.xh_place.proofs.Words.{IsTaken, Item, PlaceOf, with_blocks, with_more, IsSeen, PlaceSeen, SawWord, Stays}
 use Rattle.xh_place.proofs.Listing.{put_front}
-use Rattle.std.proofs.Common.{◌≡◌, ℕ, ◌≤◌, inl, inr, List, [], ◌∷◌, ◌++◌, append_assoc, append-nil, length, refl, sym, ap, ◌∙◌, subst}
-use Rattle.std.specs.Prelude.{Some, None, Option, Ok, Err, Result, MatchResult}
-use Rattle.std.proofs.lemmas.List.{map-append}
-use Rattle.xh_channel.specs.declared.message.Message.{Message}
-use Rattle.xh_channel.specs.Queues.{Posted}
-use Rattle.xh_core.specs.declared.refused.Refused.{Refused}
-use Rattle.xh_core.specs.declared.header.Kind.TheVariants as kind
-use Rattle.xh_model.specs.Keyed.{put, value_at}
-use Rattle.xh_model.proofs.Keyed.{front_at, put_at, put_same, put_twice}
-use Rattle.xh_place.specs.Bodies.{Content, bytes, endpoint, kind_of, toward}
-use Rattle.xh_place.specs.declared.got.Taken.{Taken}
-use Rattle.xh_place.specs.Endpoints.{AreGot, AreUnpacked, EndsWith, IsDrained, Shuts, Takes, TakesEach, blocks_of, record_of}
-use Rattle.xh_place.specs.Ends.{EndDoes, end_block, toward_in, away_in}
-use Rattle.xh_place.specs.inner.Reclaiming.{Clears, Drains}
-use Rattle.xh_place.specs.Messages.{IsUntaken, Unpacks, IsSent, IsTaken}
-use Rattle.xh_place.specs.Places.{Item, PlaceOf, with_blocks, with_more}
-use Rattle.xh_place.proofs.Answered.{way_shut, way_taken}
-use Rattle.xh_place.proofs.Gotten.{got_both}
+use Rattle.xh_place.proofs.Ends.{way_shut, way_taken}
+use Rattle.xh_place.proofs.Seeing.{got_both, all_got_as, unpacked_as, away_as, seen_wide, starts_same, word_wide}
 use Rattle.xh_place.proofs.Moves.{more_none, more_twice}
-use Rattle.xh_place.proofs.Seeing.{all_got_as, unpacked_as, away_as, seen_wide, starts_same, word_wide}
-use Rattle.xh_place.specs.Seen.{IsSeen, PlaceSeen, SawWord, Stays}
-use Rattle.xh_place.proofs.Counted.{on_err}
+use Rattle.xh_core.specs.declared.header.Kind.TheVariants as kind
 
 -- ---- one endpoint
 
@@ -49,37 +35,17 @@ blocks_more [] m = append-nil m.blocks.items
 blocks_more (n ∷ ms) m = ap (λ (l : List ℕ). n.blocks.items ++ l) (blocks_more ms m) ∙ sym (append_assoc n.blocks.items (blocks_of ms) m.blocks.items)
 
 -- until now the endpoint took these messages, and what came with them is at the end of the list
-pub record Draining (saw : ℕ → ℕ → Type 0) (e : ℕ) (ms : List Message) (old new : PlaceOf) : Type 0 where
-  pub before : Posted
-  pub after : Posted
-  pub came : List (ℕ × Item)
-  pub there : value_at e old.blocks ≡ Some (end_block before)
-  pub each : TakesEach ms before after
-  pub blocks : AreUnpacked saw (toward_in (value_at e old.blocks)) ms came
-  pub list : new ≡ with_more (toward_in (value_at e old.blocks)) came (with_blocks old (put e (end_block after) old.blocks))
+abbrev pub Draining : (ℕ → ℕ → Type 0) → ℕ → List Message → PlaceOf → PlaceOf → Type 0
+Draining saw e ms old new = (mid : PlaceOf) × (ys : List (ℕ × Item)) × EndDoes e old mid (TakesEach ms) × AreUnpacked saw (toward_in (value_at e old.blocks)) ms ys
+    × (new ≡ with_more (toward_in (value_at e old.blocks)) ys mid)
 
 pub draining_none : (saw : ℕ → ℕ → Type 0) (e : ℕ) (p : Posted) (old : PlaceOf) → value_at e old.blocks ≡ Some (end_block p) → put e (end_block p) old.blocks ≡ old.blocks → Draining saw e [] old old
-draining_none saw e p old at same = record {
-  before = p;
-  after = p;
-  came = [];
-  there = at;
-  each = refl;
-  blocks = ([], refl, refl);
-  list = more_none (toward_in (value_at e old.blocks)) old ∙ ap (λ (l : List (ℕ × Item)). with_more (toward_in (value_at e old.blocks)) [] (with_blocks old l)) (sym same);
-}
+draining_none saw e p old at same =
+    (old, [], (p, p, at, ap (with_blocks old) (sym same), refl), ([], refl, refl), more_none (toward_in (value_at e old.blocks)) old)
 
 -- the looks are looks in another sense
 pub draining_as : (P Q : ℕ → ℕ → Type 0) → ((r word : ℕ) → P r word → Q r word) → (e : ℕ) (ms : List Message) (old new : PlaceOf) → Draining P e ms old new → Draining Q e ms old new
-draining_as P Q f e ms old new is = record {
-  before = is.before;
-  after = is.after;
-  came = is.came;
-  there = is.there;
-  each = is.each;
-  blocks = unpacked_as P Q f (toward_in (value_at e old.blocks)) ms is.came is.blocks;
-  list = is.list;
-}
+draining_as P Q f e ms old new is = (is.0, is.1, is.2, unpacked_as P Q f (toward_in (value_at e old.blocks)) ms is.1 is.3, is.4)
 
 -- the endpoint took a message, and its blocks came
 abbrev pub TakesOne : (ℕ → ℕ → Type 0) → ℕ → PlaceOf → PlaceOf → Taken → Type 0
@@ -104,58 +70,56 @@ module _ (saw : ℕ → ℕ → Type 0) (e : ℕ) (ms : List Message) (old mid :
   abbrev d : ℕ
   d = toward_in (value_at e old.blocks)
 
+  abbrev before : Posted
+  before = is.2.0
+
+  abbrev after : Posted
+  after = is.2.1
+
   -- where it is now
-  pub draining_at : value_at e mid.blocks ≡ Some (end_block is.after)
-  draining_at = ap (λ (p : PlaceOf). value_at e p.blocks) is.list
-      ∙ front_at e (end_block is.after) (put e (end_block is.after) old.blocks) is.came (put_at e (end_block is.after) (end_block is.before) old.blocks is.there)
+  pub draining_at : value_at e mid.blocks ≡ Some (end_block after)
+  draining_at = ap (λ (p : PlaceOf). value_at e p.blocks) is.4
+      ∙ front_at e (end_block after) is.0.blocks is.1 (ap (λ (p : PlaceOf). value_at e p.blocks) is.2.3 ∙ put_at e (end_block after) (end_block before) old.blocks is.2.2)
 
   draining_way : toward_in (value_at e mid.blocks) ≡ d
-  draining_way = ap toward_in draining_at ∙ each_way ms is.before is.after is.each ∙ sym (ap toward_in is.there)
+  draining_way = ap toward_in draining_at ∙ each_way ms before after is.2.4 ∙ sym (ap toward_in is.2.2)
 
   -- it is another now
-  draining_put : (p : Posted) → with_blocks mid (put e (end_block p) mid.blocks) ≡ with_more d is.came (with_blocks old (put e (end_block p) old.blocks))
+  draining_put : (p : Posted) → with_blocks mid (put e (end_block p) mid.blocks) ≡ with_more d is.1 (with_blocks old (put e (end_block p) old.blocks))
   draining_put p =
-      let x : Item = end_block is.after in let y : Item = end_block p in
-      let at : value_at e (put e x old.blocks) ≡ Some x = put_at e x (end_block is.before) old.blocks is.there in
-      let blocks : put e y (put e x old.blocks ++ is.came) ≡ put e y old.blocks ++ is.came =
-      put_front e y x (put e x old.blocks) is.came at ∙ ap (λ (l : List (ℕ × Item)). l ++ is.came) (put_twice e y x old.blocks) in
-      ap (λ (q : PlaceOf). with_blocks q (put e y q.blocks)) is.list ∙ ap (with_blocks (with_more d is.came old)) blocks
+      let x : Item = end_block after in let y : Item = end_block p in
+      let at : value_at e (put e x old.blocks) ≡ Some x = put_at e x (end_block before) old.blocks is.2.2 in
+      let blocks : put e y (put e x old.blocks ++ is.1) ≡ put e y old.blocks ++ is.1 =
+      put_front e y x (put e x old.blocks) is.1 at ∙ ap (λ (l : List (ℕ × Item)). l ++ is.1) (put_twice e y x old.blocks) in
+      ap (λ (q : PlaceOf). with_blocks q (put e y q.blocks)) (is.4 ∙ ap (with_more d is.1) is.2.3) ∙ ap (with_blocks (with_more d is.1 old)) blocks
 
-  same_after : (before : Posted) → value_at e mid.blocks ≡ Some (end_block before) → before ≡ is.after
-  same_after before at = one_end before is.after (sym at ∙ draining_at)
+  same_after : (p : Posted) → value_at e mid.blocks ≡ Some (end_block p) → p ≡ after
+  same_after p at = one_end p after (sym at ∙ draining_at)
 
   pub draining_more : (new : PlaceOf) (taken : Taken) → (t : TakesOne saw e mid new taken) → Draining saw e (ms ++ t.1 ∷ []) old new
   draining_more new taken t =
       let does = t.2 in let q : Posted = does.1 in
-      let one : Takes (Ok t.1) is.after q = subst (λ (p : Posted). Takes (Ok t.1) p q) (same_after does.0 does.2) does.4 in
-      let base : PlaceOf = with_blocks old (put e (end_block q) old.blocks) in record {
-        before = is.before;
-        after = q;
-        came = is.came ++ t.3.gained;
-        there = is.there;
-        each = each_more ms t.1 is.before is.after q is.each one;
-        blocks = (
-          is.blocks.0 ++ taken.blocks.items,
-          map-append record_of is.blocks.0 taken.blocks.items ∙ (λ i. is.blocks.1 i ++ t.3.records i) ∙ sym (blocks_more ms t.1),
-          got_both saw d is.came t.3.gained is.blocks.0 taken.blocks.items is.blocks.2 (subst (λ (n : ℕ). AreGot saw n t.3.gained taken.blocks.items) draining_way t.3.got),
-        );
-        list = t.3.list ∙ (λ i. with_more (draining_way i) t.3.gained ((does.3 ∙ draining_put q) i)) ∙ more_twice d is.came t.3.gained base;
-      }
+      let one : Takes (Ok t.1) after q = subst (λ (p : Posted). Takes (Ok t.1) p q) (same_after does.0 does.2) does.4 in
+      let base : PlaceOf = with_blocks old (put e (end_block q) old.blocks) in (
+        base,
+        is.1 ++ t.3.gained,
+        (before, q, is.2.2, refl, each_more ms t.1 before after q is.2.4 one),
+        (
+          is.3.0 ++ taken.blocks.items,
+          map-append record_of is.3.0 taken.blocks.items ∙ (λ i. is.3.1 i ++ t.3.records i) ∙ sym (blocks_more ms t.1),
+          got_both saw d is.1 t.3.gained is.3.0 taken.blocks.items is.3.2 (subst (λ (n : ℕ). AreGot saw n t.3.gained taken.blocks.items) draining_way t.3.got),
+        ),
+        t.3.list ∙ (λ i. with_more (draining_way i) t.3.gained ((does.3 ∙ draining_put q) i)) ∙ more_twice d is.1 t.3.gained base,
+      )
 
   pub drained : (new : PlaceOf) (refused : Refused) → IsUntaken e mid new refused → Drains saw e old new
   drained new refused t =
       let does = t.1 in let q : Posted = does.1 in
-      let one : Takes (Err t.0) is.after q = subst (λ (p : Posted). Takes (Err t.0) p q) (same_after does.0 does.2) does.4 in (
-        with_blocks old (put e (end_block q) old.blocks),
-        is.came,
-        ms,
-        (is.before, q, is.there, refl, (is.after, is.each, inl (t.0, one))),
-        is.blocks,
-        does.3 ∙ draining_put q,
-      )
+      let one : Takes (Err t.0) after q = subst (λ (p : Posted). Takes (Err t.0) p q) (same_after does.0 does.2) does.4 in
+      (with_blocks old (put e (end_block q) old.blocks), is.1, ms, (before, q, is.2.2, refl, (after, is.2.4, inl (t.0, one))), is.3, does.3 ∙ draining_put q)
 
   pub drained_all : 18446744073709551615 ≤ length ms → Drains saw e old mid
-  drained_all all = (with_blocks old (put e (end_block is.after) old.blocks), is.came, ms, (is.before, is.after, is.there, refl, (is.after, is.each, inr (all, refl))), is.blocks, is.list)
+  drained_all all = (is.0, is.1, ms, (before, after, is.2.2, is.2.3, (after, is.2.4, inr (all, refl))), is.3, is.4)
 
 -- it was shut before
 pub cleared : (saw : ℕ → ℕ → Type 0) (r : ℕ) (old mid new : PlaceOf) → EndDoes r old mid Shuts → Drains saw r mid new → Clears saw r old new
@@ -209,7 +173,7 @@ sent_from e tag given old mid new result same is =
       all = is.all;
       made = is.made;
       moved = is.moved;
-      lost = on_err is.answered (λ h r among missed. away_as (SawWord mid new) (SawWord seen new)
+      lost = on_err_weaker is.answered (λ h r among missed. away_as (SawWord mid new) (SawWord seen new)
           (word_wide mid new seen new refl same.1 (starts_same refl)) (away_in (value_at e mid.place.blocks)) r (h r among missed)) is.lost;
       answer = is.answer;
     })

@@ -1,23 +1,14 @@
--- An endpoint that a call works on in its lot.
-use Rattle.std.proofs.Common.{rules, ◌≡◌, ℕ, List, true, sym, ap, ◌∙◌, subst}
-use Rattle.std.specs.Prelude.{Some}
-use Rattle.xh_arena.specs.Views.{LotOf}
-use Rattle.xh_core.specs.declared.status.Status.{Status}
-use Rattle.xh_core.specs.declared.header.Kind.TheVariants as kind
-use Rattle.xh_model.specs.declared.limits.TheConstants.{END_BYTES}
-use Rattle.xh_model.specs.Keyed.{put, value_at}
-use Rattle.xh_records.specs.declared.shape.Shape.{Shape}
-use Rattle.xh_records.specs.Showing.{IsLotOf}
-use Rattle.xh_records.specs.Seats.{Held, with_lots}
-use Rattle.xh_channel.specs.Queues.{Posted}
-use Rattle.xh_place.specs.declared.body.Body.{Body}
-use Rattle.xh_place.specs.declared.body.Body.TheVariants.{End}
-use Rattle.xh_place.specs.Bodies.{content_of, endpoint, fits_in, kind_of}
-use Rattle.xh_place.specs.inner.Lots.{IsEnd, LotDoes, bare}
-use Rattle.xh_place.specs.Ends.{EndDoes, end_block}
-use Rattle.xh_place.specs.Places.{Item, PlaceOf, IsBlock, IsPlace, item_of, shown, with_blocks}
+-- An endpoint that a call works on in its lot, and what follows of the channel's clauses.
+use Rattle.xh_place.proofs.Words.{rules, ◌≡◌, ℕ, List, true, sym, ap, ◌∙◌, subst, Some, LotOf, Status, END_BYTES, put, value_at, Shape, IsLotOf, Held, with_lots, Posted, Body, End, content_of}
+use Rattle.xh_place.proofs.Words.{endpoint, fits_in, kind_of, IsEnd, LotDoes, bare, EndDoes, end_block, Item, PlaceOf, IsBlock, IsPlace, item_of, shown, with_blocks, Ok, Err, Result, IfErr}
+use Rattle.xh_place.proofs.Words.{MatchResult, Message, IsSameEnd, Refused, put_same, toward, Taken, Shuts, Takes, IsTaken, IsUntaken, PlaceSeen}
+use Rattle.xh_channel.specs.declared.refused.Refused.{Refused as NoMessage}
+use Rattle.xh_channel.specs.Refusals.{same_refusal}
+use Rattle.xh_core.specs.declared.refused.Refused.TheVariants.{Empty}
 use Rattle.xh_place.proofs.Found.{found}
 use Rattle.xh_place.proofs.Steps.{turned, view_of}
+use Rattle.xh_core.specs.declared.header.Kind.TheVariants as kind
+use Rattle.xh_channel.specs.declared.refused.Refused.TheVariants as none
 
 end_long : (n : ℕ) (p : Posted) → fits_in (End p) n ≡ true → n ≡ END_BYTES
 end_long n p e = search rules
@@ -54,3 +45,50 @@ module _ {seat : Held Body} (rs : List ℕ) {room total : ℕ} {state : Status} 
       let both = turned rs is last f.held (ap bare t.2) (still_block rel f.block moved) (same_len rel f.block moved) in
       let here : value_at e p.blocks ≡ Some (end_block moved.0) = end.1 ∙ ap (λ (x : Item). Some x) (sym f.same ∙ item_was rel f.block moved) in
       (both.0, (moved.0, moved.1, here, both.1 p view ∙ ap (λ (z : Item). with_blocks p (put e z p.blocks)) (item_now rel f.block moved), moved.4))
+
+-- ---- what follows of the channel's clauses
+
+-- ---- an endpoint stays at its direction
+
+way : (old new : Posted) → IsSameEnd old new → toward (endpoint new) ≡ toward (endpoint old)
+way old new same = λ i. toward (endpoint (record old { channel = same.channel i; side = same.side i }))
+
+pub way_taken : (m : Message) (old new : Posted) → Takes (Ok m) old new → toward (endpoint new) ≡ toward (endpoint old)
+way_taken m old new t = way old new t.same
+
+pub way_shut : (old new : Posted) → Shuts old new → toward (endpoint new) ≡ toward (endpoint old)
+way_shut old new t = way old new t.1.0.0
+
+-- ---- a take that answers Empty changes nothing
+
+same_end : (p q : Posted) → Takes (Err none.Empty) p q → q ≡ p
+same_end p q t = let h = t.answer in let s = t.same in let k = t.kept in let open_ : q.peer_shut ≡ p.peer_shut = h.2.1 ∙ sym h.2.0 in λ i. record {
+  channel = s.channel i;
+  side = s.side i;
+  has_contract = s.has_contract i;
+  depth = s.depth i;
+  out = s.out i;
+  into = s.into i;
+  closed = s.closed i;
+  line = s.line i;
+  rows = s.rows i;
+  state = k.2 i;
+  counts = h.0 i;
+  sent = k.0.1 i;
+  pushed = k.1 i;
+  got = k.0.2 i;
+  peer_shut = open_ i;
+  told_put = s.told_put i;
+  told_taken = s.told_taken i;
+}
+
+untaken_empty : (e : ℕ) (old new : PlaceOf) → IsUntaken e old new Empty → new ≡ old
+untaken_empty e old new t = go t.0 t.1 t.2 where
+  go : (n : NoMessage) → EndDoes e old new (Takes (Err n)) → Empty ≡ same_refusal n → new ≡ old
+  go none.Empty d h = d.3 ∙ ap (λ (q : Posted). with_blocks old (put e (end_block q) old.blocks)) (same_end d.0 d.1 d.4)
+      ∙ ap (with_blocks old) (put_same e (end_block d.0) old.blocks d.2)
+  go n d h = absurd (cc)
+
+pub empty_keeps : (e : ℕ) (old new : PlaceSeen) (result : Result Taken Refused) → MatchResult result (IsTaken e old new) (IsUntaken e old.place new.place) → IfErr result (λ u. u ≡ Empty → new.place ≡ old.place)
+empty_keeps e old new (Ok t) is = tt
+empty_keeps e old new (Err u) is = λ h. untaken_empty e old.place new.place (subst (IsUntaken e old.place new.place) h is)

@@ -1,15 +1,13 @@
--- What a call that names a block of the list knows of it.
-use Rattle.std.proofs.Common.{◌≡◌, ℕ, List, refl, sym, ap, ◌∙◌, subst}
-use Rattle.std.specs.Prelude.{Some, None, Option}
+-- What a call that names a block of the list knows of it, and what the value of a place keeps.
+use Rattle.xh_place.proofs.Words.{◌≡◌, ℕ, List, refl, sym, ap, ◌∙◌, subst, Some, None, Option, LotOf, Status, Among, value_at, put, put_same, Held, IsRecord, IsSeatOf, RecordsOf, with_lots, Body}
+use Rattle.xh_place.proofs.Words.{Item, PlaceOf, entry_of, item_of, IsBlock, IsPlace, IsPlaceOf, ◌≤◌, true, rules, Shape, End, content_of, fits_in, AreBlocks, Fits, IsWhole, Lists, item_at, Bool}
+use Rattle.xh_place.proofs.Words.{⊎_elim, inl, inr, [], ◌∷◌, map, eq-eqb, dite, ℕ_discrete, MatchBool, ◌==◌, Process, keys, index_of, word_of, Knows, owned_by}
+use Rattle.xh_core.specs.Headers.{has_end}
 use Rattle.xh_core.specs.declared.header.Header.{Header}
-use Rattle.xh_arena.specs.Views.{LotOf}
-use Rattle.xh_core.specs.declared.status.Status.{Status}
-use Rattle.xh_model.specs.Keyed.{Among, value_at, put}
-use Rattle.xh_model.proofs.Keyed.{put_same}
-use Rattle.xh_records.specs.Seats.{Held, IsRecord, IsSeatOf, RecordsOf, with_lots}
-use Rattle.xh_place.specs.declared.body.Body.{Body}
-use Rattle.xh_place.specs.Places.{Item, PlaceOf, entry_of, item_of, shown, IsBlock, IsPlace, IsPlaceOf}
-use Rattle.xh_place.proofs.Steps.{listed, lot_of, view_of}
+use Rattle.xh_records.specs.Seats.{view_of as seen_of}
+use Rattle.xh_records.proofs.Elements.{among_map}
+use Rattle.xh_place.proofs.Steps.{listed, lot_of, view_of, count_bound, total_bound, among_index}
+use Rattle.xh_place.proofs.Listing.{unequal}
 
 pub record Found (seat : Held Body) (xs : List (ℕ × Item)) (r : ℕ) (x : Item) : Type 0 where
   pub lot : LotOf Body
@@ -36,17 +34,58 @@ pub entry_some : (o : Option Item) (s : Header) → entry_of o ≡ Some s → (x
 entry_some None s e = absurd (cc)
 entry_some (Some x) s e = (x, refl)
 
+pub end_listed : (o : Option Item) → has_end (entry_of o) ≡ true → (x : Item) × (o ≡ Some x)
+end_listed None e = absurd (cc)
+end_listed (Some x) e = (x, refl)
+
 -- its lot is put back as it was
 pub unmoved : (seat last : Held Body) (r : ℕ) (l : LotOf Body) → value_at r seat.lots ≡ Some l → last ≡ with_lots seat (put r l seat.lots) → last ≡ seat
 unmoved seat last r l at new = new ∙ ap (with_lots seat) (put_same r l seat.lots at)
 
--- the place is as it was where its lot was only looked at
-module _ {seat : Held Body} (rs : List ℕ) {room total : ℕ} {state : Status} (is : IsPlace seat (shown seat.lots rs) room total state) {p : PlaceOf} (shows : view_of seat (shown seat.lots rs) state ≡ p) where
-  pub looked_at : (last : Held Body) (r : ℕ) {x : Item} → value_at r p.blocks ≡ Some x → ((l : LotOf Body) → value_at r seat.lots ≡ Some l → last ≡ with_lots seat (put r l seat.lots))
-      → IsPlace last (shown last.lots rs) room total state × (view_of last (shown last.lots rs) state ≡ p) × (last.front ≡ seat.front)
-  looked_at last r {x} at new =
-      let f = found is shows r at in let same = unmoved seat last r f.lot f.held (new f.lot f.held) in (
-        subst (λ (h : Held Body). IsPlace h (shown h.lots rs) room total state) (sym same) is,
-        ap (λ (h : Held Body). view_of h (shown h.lots rs) state) same ∙ shows,
-        ap (λ (h : Held Body). h.front) same,
-      )
+-- ---- what the value of a place keeps, and how its list and its seat belong together
+
+fits_whole : (b : Body) (n : ℕ) → fits_in b n ≡ true → Fits (content_of b) n
+fits_whole (End p) n e = search rules
+fits_whole b n e = (search rules, search rules)
+
+pub block_whole : {s : Shape} {r : ℕ} {l : LotOf Body} → IsBlock s r l → IsWhole (item_of l)
+block_whole {s} {r} {l} is = (is.full.0, fits_whole l.body l.len is.full.1)
+
+module _ {seat : Held Body} {xs : List (ℕ × Item)} {room total : ℕ} {state : Status} (is : IsPlace seat xs room total state) where
+  has : (r : ℕ) (x : Item) → value_at r xs ≡ Some x → Found seat xs r x
+  has r x at = found is refl r at
+
+  pub are_blocks : AreBlocks xs
+  are_blocks = record {
+    distinct = is.distinct;
+    whole = λ r x at. let f = has r x at in subst IsWhole f.same (f.block.full.0, fits_whole f.lot.body f.lot.len f.block.full.1);
+    few = count_bound is;
+    sum = subst (λ (n : ℕ). n ≤ 2147483648) is.sum (total_bound is);
+  }
+
+  pub lists : Lists seat xs
+  lists = record {
+    distinct = is.distinct;
+    listed = λ r x at. let f = has r x at in (f.lot, f.held, sym f.same);
+    all = λ r l at. let block = is.blocks r l at in (is.same r ∙ ap item_at at, block.exists, block.lot);
+  }
+
+-- ---- what a record's word says of whether its seat holds it
+
+owns_key : (p k : ℕ) (ks : List ℕ) → Among (owned_by p ks) (k, p) → Among ks k
+owns_key p k [] a = a
+owns_key p k (x ∷ xs) a = ⊎_elim (λ e. inl (ap (λ (z : ℕ × ℕ). z.0) e)) (λ b. inr (owns_key p k xs b)) a
+
+key_owns : (p k : ℕ) (ks : List ℕ) → Among ks k → Among (owned_by p ks) (k, p)
+key_owns p k [] a = a
+key_owns p k (x ∷ xs) a = ⊎_elim (λ e. inl (ap (λ (z : ℕ). (z, p)) e)) (λ b. inr (key_owns p k xs b)) a
+
+pub word_holds : (seat : Held Body) (r word own : ℕ) → IsRecord seat.shape r → ((q : ℕ) → Among (keys seat.lots) q → IsRecord seat.shape q) → Knows (seen_of seat) (index_of seat.shape.records r) word
+    → own ≡ word_of (Some (Process seat.process)) → MatchBool (word == own) (Among (keys seat.lots) r) (Among (keys seat.lots) r → ⊥)
+word_holds seat r word own is all knows same =
+    let mine = knows.1 seat.process (inl refl) in let k : ℕ = index_of seat.shape.records r in let ks : List ℕ = map (index_of seat.shape.records) (keys seat.lots) in
+    dite (ℕ_discrete word own)
+    (λ e. subst (λ (b : Bool). MatchBool b (Among (keys seat.lots) r) (Among (keys seat.lots) r → ⊥)) (sym (eq-eqb word own e))
+    (among_index seat.shape (keys seat.lots) r all is.1 (owns_key seat.process k ks (mine.0 (e ∙ same)))))
+    (λ n. subst (λ (b : Bool). MatchBool b (Among (keys seat.lots) r) (Among (keys seat.lots) r → ⊥)) (sym (unequal word own n))
+    (λ a. n (mine.1 (key_owns seat.process k ks (among_map (index_of seat.shape.records) (keys seat.lots) r a)) ∙ sym same)))

@@ -1,16 +1,7 @@
 -- The blocks of a list as a place shows them, and the sums of their lengths.
-use Rattle.std.proofs.Common.{◌≡◌, ◌≢◌, ℕ, zero, suc, ◌+◌, ◌<◌, Bool, true, false, ⊎_elim, inl, inr, List, [], ◌∷◌, ◌++◌, length, get_or, remove, refl, sym, ap, ◌∙◌, subst, arith}
-use Rattle.std.specs.Prelude.{Some, None, Option, cond, is_some, ◌==◌}
-use Rattle.std.proofs.lemmas.Bool.Decides.{nat_tests}
-use mathlib.Core.Logic.{dite}
-use native.Mathlib.Decide.{ℕ_discrete}
-use Rattle.xh_arena.specs.Views.{LotOf}
-use Rattle.xh_model.specs.Keyed.{Among, Distinct, keys, value_at, put, without}
-use Rattle.xh_model.proofs.Keyed.{absent, at_key, get_key, here_first, length-keys, not_here, put_keys}
-use Rattle.xh_place.specs.declared.body.Body.{Body}
-use Rattle.xh_place.specs.inner.Lists.{less, less_all, lens}
-use Rattle.xh_place.specs.Messages.{settle, settled}
-use Rattle.xh_place.specs.Places.{Item, item_in, shown, total_of}
+use Rattle.xh_place.proofs.Words.{◌≡◌, ◌≢◌, ℕ, zero, suc, ◌+◌, ◌<◌, Bool, true, false, ⊎_elim, inl, inr, List, [], ◌∷◌, ◌++◌, length, get_or, remove, refl, sym, ap, ◌∙◌, subst, arith, Some, None}
+use Rattle.xh_place.proofs.Words.{Option, cond, is_some, ◌==◌, nat_tests, dite, ℕ_discrete, LotOf, Among, Distinct, keys, value_at, put, without, absent, at_key, get_key, here_first, length-keys}
+use Rattle.xh_place.proofs.Words.{not_here, put_keys, Body, less, less_all, lens, settle, settled, Item, item_in, shown, total_of}
 
 -- the numbers of the blocks shown, and how many they are
 pub shown_keys : (lots : List (ℕ × LotOf Body)) (rs : List ℕ) → keys (shown lots rs) ≡ rs

@@ -1,46 +1,22 @@
 -- What a seat passed and accepted, and what its place shows of it.
-use Rattle.xh_model.proofs.Keyed.{keys_append}
-use Rattle.std.proofs.Common.{◌≡◌, ℕ, List, [], ◌∷◌, ◌++◌, append_assoc, append-nil, refl, sym, ap, ◌∙◌}
-use Rattle.xh_arena.specs.Views.{LotOf}
-use Rattle.xh_core.specs.declared.status.Status.{Status}
-use Rattle.xh_model.specs.declared.event.Event.{Event}
-use Rattle.xh_model.specs.declared.event.Event.TheVariants.{Claim, Carve, Cut, GiveBack, Vacate, Pass, Accept}
-use Rattle.xh_model.specs.Keyed.{keys}
-use Rattle.xh_records.specs.Seats.{Advances, Held, did, seen, with_lots}
-use Rattle.xh_place.specs.declared.body.Body.{Body}
-use Rattle.xh_place.specs.Moves.{moves, accepted_on, passed_on, there_and_back}
-use Rattle.xh_place.specs.inner.Lots.{HasNow, bare, with_done}
-use Rattle.xh_place.specs.Places.{IsPlace, Item, PlaceOf, with_moved, with_more}
+use Rattle.xh_place.proofs.Words.{map, map-append, keys_append, ◌≡◌, ℕ, List, [], ◌∷◌, ◌++◌, append_assoc, append-nil, refl, sym, ap, ◌∙◌, LotOf, Status, Event, Claim, Vacate, Pass, Accept, keys}
+use Rattle.xh_place.proofs.Words.{Advances, Held, did, seen, with_lots, Body, moves, accepted_on, passed_on, there_and_back, HasNow, bare, with_done, IsPlace, Item, PlaceOf, with_moved, with_more}
 use Rattle.xh_place.proofs.Steps.{view_of}
 
 pub moves_both : (xs ys : List Event) → moves (xs ++ ys) ≡ moves xs ++ moves ys
 moves_both [] ys = refl
-moves_both (Claim p r ∷ xs) ys = moves_both xs ys
-moves_both (Carve p r n ∷ xs) ys = moves_both xs ys
-moves_both (Cut p r t k ∷ xs) ys = moves_both xs ys
-moves_both (GiveBack p r ∷ xs) ys = moves_both xs ys
-moves_both (Vacate p r ∷ xs) ys = moves_both xs ys
 moves_both (Pass p r d ∷ xs) ys = ap (λ (l : List Event). Pass p r d ∷ l) (moves_both xs ys)
 moves_both (Accept p r d ∷ xs) ys = ap (λ (l : List Event). Accept p r d ∷ l) (moves_both xs ys)
+moves_both (e ∷ xs) ys = moves_both xs ys
 
-accepts_move : (p d : ℕ) (rs : List ℕ) → moves (accepted_on p d rs) ≡ accepted_on p d rs
-accepts_move p d [] = refl
-accepts_move p d (r ∷ rs) = ap (λ (l : List Event). Accept p r d ∷ l) (accepts_move p d rs)
-
-passes_move : (p d : ℕ) (rs : List ℕ) → moves (passed_on p d rs) ≡ passed_on p d rs
-passes_move p d [] = refl
-passes_move p d (r ∷ rs) = ap (λ (l : List Event). Pass p r d ∷ l) (passes_move p d rs)
+moves_map : (f : ℕ → Event) → ((r : ℕ) (es : List Event) → moves (f r ∷ es) ≡ f r ∷ moves es) → (rs : List ℕ) → moves (map f rs) ≡ map f rs
+moves_map f each [] = refl
+moves_map f each (r ∷ rs) = each r (map f rs) ∙ ap (λ (l : List Event). f r ∷ l) (moves_map f each rs)
 
 pub all_move : (p d : ℕ) (rs ts : List ℕ) → moves (there_and_back p d rs ts) ≡ there_and_back p d rs ts
-all_move p d rs ts = moves_both (passed_on p d rs) (accepted_on p d ts) ∙ (λ i. passes_move p d rs i ++ accepts_move p d ts i)
-
-pub passed_both : (p d : ℕ) (rs ts : List ℕ) → passed_on p d (rs ++ ts) ≡ passed_on p d rs ++ passed_on p d ts
-passed_both p d [] ts = refl
-passed_both p d (r ∷ rs) ts = ap (λ (l : List Event). Pass p r d ∷ l) (passed_both p d rs ts)
-
-pub on_both : (p d : ℕ) (rs ts : List ℕ) → accepted_on p d (rs ++ ts) ≡ accepted_on p d rs ++ accepted_on p d ts
-on_both p d [] ts = refl
-on_both p d (r ∷ rs) ts = ap (λ (l : List Event). Accept p r d ∷ l) (on_both p d rs ts)
+all_move p d rs ts =
+    moves_both (passed_on p d rs) (accepted_on p d ts)
+    ∙ (λ i. moves_map (λ (r : ℕ). Pass p r d) (λ r es. refl) rs i ++ moves_map (λ (r : ℕ). Accept p r d) (λ r es. refl) ts i)
 
 -- ---- an event that moves nothing
 
@@ -93,6 +69,6 @@ pub more_twice : (d : ℕ) (ys zs : List (ℕ × Item)) (p : PlaceOf) → with_m
 more_twice d ys zs p =
     let one : List Event = accepted_on p.process d (keys ys) in
     let two : List Event = accepted_on p.process d (keys zs) in
-    let both : accepted_on p.process d (keys (ys ++ zs)) ≡ one ++ two = ap (accepted_on p.process d) (keys_append ys zs) ∙ on_both p.process d (keys ys) (keys zs) in
+    let both : accepted_on p.process d (keys (ys ++ zs)) ≡ one ++ two = ap (accepted_on p.process d) (keys_append ys zs) ∙ map-append (λ (r : ℕ). Accept p.process r d) (keys ys) (keys zs) in
     let moved : (p.moved ++ one) ++ two ≡ p.moved ++ accepted_on p.process d (keys (ys ++ zs)) = append_assoc p.moved one two ∙ ap (λ (l : List Event). p.moved ++ l) (sym both) in
     λ i. record p { blocks = append_assoc p.blocks ys zs i; moved = moved i }

@@ -1,27 +1,13 @@
--- A block cut in two.
-use Rattle.std.proofs.Common.{◌≡◌, ◌≢◌, ℕ, ◌+◌, ◌-◌, ◌/◌, ◌<◌, ◌≤◌, List, [], ◌∷◌, ◌++◌, length, drop, take, true, refl, sym, ap, ◌∙◌, subst, arith, rules, length-take-le, length-drop}
-use Rattle.std.specs.Prelude.{Some, None}
-use Rattle.xh_arena.specs.Views.{LotOf}
-use Rattle.xh_place.specs.Starts.{start}
-use Rattle.xh_core.specs.Refusing.{Tests, first_refusal}
-use Rattle.xh_core.specs.Statuses.{is_running, is_over}
-use Rattle.xh_core.specs.declared.status.Status.{Status}
-use Rattle.xh_core.specs.declared.status.Status.TheVariants.{Vacant, Running, Ending, Ended}
-use Rattle.xh_model.specs.Keyed.{Among, keys, value_at, put}
-use Rattle.xh_model.proofs.Keyed.{at_key, front_at, keys_push, last_put, put_keys}
+-- A block cut in two, and one in which some bytes were overwritten.
+use Rattle.xh_place.proofs.Words.{◌≡◌, ◌≢◌, ℕ, ◌+◌, ◌-◌, ◌/◌, ◌<◌, ◌≤◌, List, [], ◌∷◌, ◌++◌, length, drop, take, true, refl, sym, ap, ◌∙◌, subst, arith, rules, length-take-le, length-drop, Some}
+use Rattle.xh_place.proofs.Words.{None, LotOf, start, Tests, first_refusal, is_running, is_over, Status, Running, Among, keys, value_at, put, at_key, front_at, keys_push, last_put, put_keys}
+use Rattle.xh_place.proofs.Words.{IsLotOf, Held, IsRecord, IsSeatOf, RecordsOf, with_lots, HasNow, IsCut, IsData, bare, Body, Nothing, Data, End, bytes, content_of, fits_in, front, kind_of, rest}
+use Rattle.xh_place.proofs.Words.{Item, item_at, item_of, shown, total_of, IsBlock, IsPlace, length-append, Shape, patched}
 use Rattle.xh_model.specs.Arena.{IsGoodCut}
-use Rattle.xh_records.specs.Showing.{IsLotOf}
-use Rattle.xh_records.specs.Seats.{Held, IsRecord, IsSeatOf, RecordsOf, with_lots}
-use Rattle.xh_place.specs.inner.Lots.{HasNow, IsCut, IsData, bare}
-use Rattle.xh_place.specs.declared.body.Body.{Body}
-use Rattle.xh_place.specs.declared.body.Body.TheVariants.{Nothing, Data, End}
-use Rattle.xh_core.specs.declared.header.Kind.TheVariants as kind
-use Rattle.xh_place.specs.Bodies.{bytes, content_of, fits_in, front, kind_of, rest}
-use Rattle.xh_place.specs.Places.{Item, item_at, item_of, shown, total_of, IsBlock, IsPlace}
 use Rattle.xh_place.proofs.Listing.{put_front, shown_keys, total_put}
-use Rattle.xh_place.proofs.Found.{unmoved}
 use Rattle.xh_place.proofs.Gained.{fits_bytes, has}
 use Rattle.xh_place.proofs.Steps.{IsNow, changes, gains, is_now, quiet_alive}
+use Rattle.xh_core.specs.declared.header.Kind.TheVariants as kind
 
 still_fresh : {X : Type 0} (r t : ℕ) (y : X) (xs : List (ℕ × X)) → (Among (keys xs) t → ⊥) → Among (keys (put r y xs)) t → ⊥
 still_fresh r t y xs fresh a = fresh (subst (λ (ks : List ℕ). Among ks t) (put_keys r y xs) a)
@@ -82,10 +68,6 @@ cutting all seat mid r t l l0 own at block exists lot fresh is = record {
   is = is;
 }
 
--- one of the two was lent, and put back
-pub lent : (all : RecordsOf) (seat mid last : Held Body) (r t : ℕ) (l l0 : LotOf Body) → Cutting all seat mid r t l l0 → last ≡ with_lots mid (put r l mid.lots) → Cutting all seat last r t l l0
-lent all seat mid last r t l l0 c new = subst (λ (h : Held Body). Cutting all seat h r t l l0) (sym (unmoved mid last r l c.head new)) c
-
 pub is_cut : (all : RecordsOf) (seat mid last : Held Body) (r t k : ℕ) (l l0 h m : LotOf Body) (b : Body) → Cutting all seat mid r t l l0 → (Among (keys seat.lots) t → ⊥) → IsBlock seat.shape r l
     → IsLotOf seat.shape t l0 → IsRecord seat.shape t → IsData l → IsGoodCut k l.len → t / 256 ≡ r / 256
     → h ≡ record l { len = k; body = h.body } → content_of h.body ≡ front k (content_of l.body) → m ≡ record l0 { len = l.len - k; body = b } → content_of b ≡ rest k (content_of l.body)
@@ -125,6 +107,34 @@ is_cut all seat mid last r t k l l0 h m b c fresh block lot exists held good are
 -- a call that is not refused is by a process that runs
 pub runs : (s : Status) (tests : Tests) → first_refusal (start s ++ tests) ≡ None → is_running s ≡ true
 runs Running tests e = refl
-runs Vacant tests e = absurd (cc)
-runs Ending tests e = absurd (cc)
-runs Ended tests e = absurd (cc)
+runs s tests e = absurd (cc)
+
+-- ---- a block in which some bytes were overwritten
+
+patch_long : (at : ℕ) (ys xs : List ℕ) → at + length ys ≤ length xs → length (take at xs ++ (ys ++ drop (at + length ys) xs)) ≡ length xs
+patch_long at ys xs fits =
+    let a : length (take at xs) ≡ at = length-take-le at xs (omega arith) in
+    let b : length (drop (at + length ys) xs) ≡ length xs - (at + length ys) = length-drop (at + length ys) xs in
+    let c : length (ys ++ drop (at + length ys) xs) ≡ length ys + length (drop (at + length ys) xs) = length-append ys (drop (at + length ys) xs) in
+    let d : length (take at xs ++ (ys ++ drop (at + length ys) xs)) ≡ length (take at xs) + length (ys ++ drop (at + length ys) xs) = length-append (take at xs) (ys ++ drop (at + length ys) xs) in
+    omega arith
+
+pub is_patched : {s : Shape} {r : ℕ} (at : ℕ) (ys : List ℕ) {l m : LotOf Body} {x : Item} → IsBlock s r l → item_of l ≡ x → kind_of x.content ≡ kind.Data → at + length ys ≤ x.len
+    → m ≡ record l { body = m.body } → content_of m.body ≡ patched at ys (content_of l.body)
+    → IsBlock s r m × (m.len ≡ l.len) × (item_of m ≡ record x { content = patched at ys x.content })
+is_patched {s} {r} at ys {l} {m} {x} block same data_kind fits lot content =
+    let d = data_of l.body l.len (ap (λ (z : Item). kind_of z.content) same ∙ data_kind) block.full.1 in let xs : List ℕ = d.0 in
+    let long : length xs ≡ l.len = d.2 in let most : l.len ≤ 1048576 = d.3 in
+    let len : m.len ≡ l.len = ap (λ (z : LotOf Body). z.len) lot in let x_len : l.len ≡ x.len = ap (λ (z : Item). z.len) same in
+    let room : at + length ys ≤ length xs = omega arith in let some : 0 < l.len = block.full.0 in
+    let new : content_of m.body ≡ bytes (take at xs ++ (ys ++ drop (at + length ys) xs)) = content ∙ ap (patched at ys) d.1 in
+    let new_long : length (take at xs ++ (ys ++ drop (at + length ys) xs)) ≡ m.len = patch_long at ys xs room ∙ long ∙ sym len in (
+      record {
+        exists = block.exists;
+        lot = (ap (λ (z : LotOf Body). z.index) lot ∙ block.lot.0, block.lot.1 ∙ ap (λ (z : LotOf Body). Some z.id) (sym lot));
+        full =
+            (omega arith, fits_bytes m.body (take at xs ++ (ys ++ drop (at + length ys) xs)) m.len new new_long (omega arith) (omega arith));
+      },
+      len,
+      (λ i. record { len = (len ∙ x_len) i; content = (content ∙ ap (λ (z : Item). patched at ys z.content) same) i }),
+    )

@@ -1,26 +1,10 @@
 -- What was seen stays seen, and a word that was seen between two fronts was seen between wider ones.
-use Rattle.std.proofs.Common.{◌≡◌, ◌≢◌, ℕ, ◌+◌, ◌*◌, ⊎_elim, inl, inr, List, [], ◌∷◌, ◌++◌, append_assoc, append-nil, refl, sym, ap, ◌∙◌, subst}
-use Rattle.std.specs.Prelude.{slice_index}
-use Rattle.xh_model.specs.declared.event.Event.{Event}
-use Rattle.xh_model.specs.Keyed.{value_at}
-use Rattle.xh_model.specs.Slots.{index_of}
-use Rattle.xh_records.specs.declared.shape.Shape.{Shape}
-use Rattle.xh_records.specs.History.{StartsWith}
-use Rattle.xh_records.specs.Seats.{Advances, Held, IsRecord, HasSeen, SawTaken}
-use Rattle.xh_place.specs.declared.body.Body.{Body}
-use Rattle.xh_place.specs.declared.got.Got.{Got}
+use Rattle.xh_place.proofs.Words.{◌≡◌, ◌≢◌, ℕ, ◌+◌, ◌*◌, ⊎_elim, inl, inr, List, [], ◌∷◌, ◌++◌, append_assoc, append-nil, refl, sym, ap, ◌∙◌, subst, slice_index, Event, value_at, index_of, Shape}
+use Rattle.xh_place.proofs.Words.{StartsWith, Advances, Held, IsRecord, HasSeen, SawTaken, Body, Got, Message, Content, bytes, endpoint, toward, AreEnded, IsSwept, IsSweptBy, AreGot, AreUnpacked}
+use Rattle.xh_place.proofs.Words.{EndsWith, IsGot, toward_in, Clears, Drains, SeatFull, SeatSaw, SeatSeesMore, Item, PlaceOf, Status, IsElsewhere, IsSeen, PlaceSeen, SawAt, SawFull, SawWord}
+use Rattle.xh_place.proofs.Words.{SeesMore}
 use Rattle.xh_place.specs.declared.got.Got.TheVariants.{Here, Missing}
-use Rattle.xh_channel.specs.declared.message.Message.{Message}
-use Rattle.xh_place.specs.Bodies.{Content, bytes, endpoint, toward}
-use Rattle.xh_place.specs.Ending.{AreEnded, IsSwept, IsSweptBy}
-use Rattle.xh_place.specs.Endpoints.{AreGot, AreUnpacked, EndsWith, IsGot}
-use Rattle.xh_place.specs.Ends.{toward_in}
-use Rattle.xh_place.specs.inner.Reclaiming.{Clears, Drains}
-use Rattle.xh_place.specs.inner.Lots.{SeatFull, SeatSaw, SeatSeesMore}
-use Rattle.xh_place.specs.Places.{Item, PlaceOf}
-use Rattle.xh_core.specs.declared.status.Status.{Status}
 use Rattle.xh_place.proofs.Steps.{view_of}
-use Rattle.xh_place.specs.Seen.{IsElsewhere, IsSeen, PlaceSeen, SawAt, SawFull, SawWord, SeesMore}
 
 pub starts_same : {a b : List Event} → b ≡ a → StartsWith b a
 starts_same {a} {b} e = ([], e ∙ sym (append-nil a))
@@ -131,3 +115,13 @@ module _ (seat : Held Body) {xs : List (ℕ × Item)} {state : Status} {p : Plac
   pub place_away : (d way r : ℕ) → d ≡ way → IsElsewhere (SeatSaw seat last) d r
       → (word : ℕ) × (word ≢ 2 + 4 * way) × SawAt p.place.shape p.front last.front (index_of p.place.shape.records r) word
   place_away d way r same h = (h.0, subst (λ (n : ℕ). h.0 ≢ 2 + 4 * n) same h.1, place_saw r h.0 h.2)
+
+-- ---- what a take gained, block by block
+
+module _ (saw : ℕ → ℕ → Type 0) where
+  pub got_both : (d : ℕ) (ys zs : List (ℕ × Item)) (gots more : List Got) → AreGot saw d ys gots → AreGot saw d zs more → AreGot saw d (ys ++ zs) (gots ++ more)
+  got_both d ys zs [] more all two = subst (λ (l : List (ℕ × Item)). AreGot saw d (l ++ zs) more) (sym all) two
+  got_both d ys zs (g ∷ gots) more all two = (all.0, all.1 ++ zs, ap (λ (l : List (ℕ × Item)). l ++ zs) all.2 ∙ append_assoc all.0 all.1 zs, all.3, got_both d all.1 zs gots more all.4 two)
+
+  pub one_more : (d : ℕ) (ys zs : List (ℕ × Item)) (gots : List Got) (got : Got) → AreGot saw d ys gots → IsGot saw d zs got → AreGot saw d (ys ++ zs) (gots ++ got ∷ [])
+  one_more d ys zs gots got all one = got_both d ys zs gots (got ∷ []) all (zs, [], sym (append-nil zs), one, refl)

@@ -1,32 +1,14 @@
 -- A place's list against what its seat holds, at each change.
-use Rattle.std.proofs.Common.{◌≡◌, ℕ, ◌+◌, ◌-◌, ◌*◌, ◌/◌, ◌%◌, ◌<◌, ◌≤◌, ⊎_elim, inl, inr, List, [], ◌∷◌, ◌++◌, length, map, refl, sym, ap, ◌∙◌, subst, Bool, true, false, arith, rules}
+use Rattle.xh_place.proofs.Words.{◌≡◌, ℕ, ◌+◌, ◌-◌, ◌*◌, ◌/◌, ◌%◌, ◌<◌, ◌≤◌, ⊎_elim, inl, inr, List, [], ◌∷◌, ◌++◌, length, map, refl, sym, ap, ◌∙◌, subst, Bool, true, false, arith, rules}
+use Rattle.xh_place.proofs.Words.{length-map, Some, None, Option, MatchBool, is_some, number_of, dite, ℕ_discrete, LotOf, Status, Vacant, Running, Ending, Ended, index_of, Shape, Among, Distinct}
+use Rattle.xh_place.proofs.Words.{keys, value_at, put, without, at_key, distinct_push, distinct_without, here_first, keys_push, length-keys, last_at, last_other, no_key, none_at, not_here, put_at}
+use Rattle.xh_place.proofs.Words.{put_keys, put_other, without_at, without_other, Held, IsRecord, with_lots, moves, HasNow, Body, Nothing, fits_in, is_over, is_running, Item, PlaceOf, with_blocks}
+use Rattle.xh_place.proofs.Words.{item_of, item_in, item_at, shown, total_of, IsBlock, IsQuiet, IsPlace, less, suc, nat_tests, absent, alone, last}
 use Rattle.std.proofs.Math.Nat.{mul_comm}
 use Rattle.std.proofs.lemmas.Nat.{mul-add-lt}
-use Rattle.std.proofs.lemmas.List.{length-map}
-use Rattle.std.specs.Prelude.{Some, None, Option, MatchBool, is_some}
-use Rattle.xh_model.specs.Words.{number_of}
-use mathlib.Core.Logic.{dite}
-use native.Mathlib.Decide.{ℕ_discrete}
-use Rattle.xh_arena.specs.Views.{LotOf}
-use Rattle.xh_core.specs.declared.status.Status.{Status}
-use Rattle.xh_core.specs.declared.status.Status.TheVariants.{Vacant, Running, Ending, Ended}
-use Rattle.xh_model.specs.Slots.{index_of}
 use Rattle.xh_model.proofs.Words.{number_back}
-use Rattle.xh_records.specs.declared.shape.Shape.{Shape}
-use Rattle.xh_model.specs.Keyed.{Among, Distinct, keys, value_at, put, without}
-use Rattle.xh_model.proofs.Keyed.{at_key, distinct_push, distinct_without, here_first, keys_push, length-keys, last_at, last_other, no_key, none_at}
-use Rattle.xh_model.proofs.Keyed.{not_here, put_at, put_keys, put_other, without_at, without_other}
-use Rattle.xh_records.specs.Seats.{Held, IsRecord, with_lots}
 use Rattle.xh_records.specs.inner.Tokens.{AllBelow}
-use Rattle.xh_place.specs.Moves.{moves}
-use Rattle.xh_place.specs.inner.Lots.{HasNow}
 use Rattle.xh_records.proofs.Lists.{few}
-use Rattle.xh_place.specs.declared.body.Body.{Body}
-use Rattle.xh_place.specs.declared.body.Body.TheVariants.{Nothing, Data, End}
-use Rattle.xh_place.specs.Bodies.{fits_in}
-use Rattle.xh_core.specs.Statuses.{is_over, is_running}
-use Rattle.xh_place.specs.Places.{Item, PlaceOf, with_blocks, item_of, item_in, item_at, shown, total_of, IsBlock, IsQuiet, IsPlace}
-use Rattle.xh_place.specs.inner.Lists.{less}
 use Rattle.xh_place.proofs.Listing.{as_shown, keys_without, shown_keys, shown_long, total_last, total_put, total_without}
 
 abbrev pub view_of : Held Body → List (ℕ × Item) → Status → PlaceOf
@@ -37,26 +19,25 @@ slot_below : (a n r : ℕ) → r / 256 < a → r % 256 < n → index_of n r < a 
 slot_below a n r h k = subst (λ (m : ℕ). index_of n r < m) (mul_comm n a) (mul-add-lt (r / 256) n (r % 256) a h k)
 
 abbrev pub AllRecords : Shape → List ℕ → Type 0
-AllRecords s [] = Unit {0}
-AllRecords s (r ∷ rs) = IsRecord s r × AllRecords s rs
+AllRecords s rs = (r : ℕ) → Among rs r → IsRecord s r
 
 pub among_index : (s : Shape) (rs : List ℕ) (r : ℕ) → AllRecords s rs → r % 256 < s.records → Among (map (index_of s.records) rs) (index_of s.records r) → Among rs r
 among_index s [] r all inside h = h
 among_index s (q ∷ rs) r all inside h = ⊎_elim
-    (λ e. inl (sym (number_back s.records r inside) ∙ ap (number_of s.records) e ∙ number_back s.records q all.0.1))
-    (λ a. inr (among_index s rs r all.1 inside a)) h
+    (λ e. inl (sym (number_back s.records r inside) ∙ ap (number_of s.records) e ∙ number_back s.records q (all q (inl refl)).1))
+    (λ a. inr (among_index s rs r (λ x b. all x (inr b)) inside a)) h
 
 distinct_index : (s : Shape) (rs : List ℕ) → AllRecords s rs → Distinct rs → Distinct (map (index_of s.records) rs)
 distinct_index s [] all d = tt
-distinct_index s (r ∷ rs) all d = ((λ h. d.0 (among_index s rs r all.1 all.0.1 h)), distinct_index s rs all.1 d.1)
+distinct_index s (r ∷ rs) all d = let rest : AllRecords s rs = λ x b. all x (inr b) in ((λ h. d.0 (among_index s rs r rest (all r (inl refl)).1 h)), distinct_index s rs rest d.1)
 
 below_index : (s : Shape) (rs : List ℕ) → AllRecords s rs → AllBelow (length s.names * s.records) (map (index_of s.records) rs)
 below_index s [] all = tt
-below_index s (r ∷ rs) all = (slot_below (length s.names) s.records r all.0.0 all.0.1, below_index s rs all.1)
+below_index s (r ∷ rs) all = let here = all r (inl refl) in (slot_below (length s.names) s.records r here.0 here.1, below_index s rs (λ x b. all x (inr b)))
 
 below_all : (s : Shape) (rs : List ℕ) → length s.names ≤ 8 → AllRecords s rs → AllBelow 2048 rs
 below_all s [] few all = tt
-below_all s (r ∷ rs) few all = let a : r / 256 < length s.names = all.0.0 in let b : r < 2048 = omega arith in (b, below_all s rs few all.1)
+below_all s (r ∷ rs) few all = let a : r / 256 < length s.names = (all r (inl refl)).0 in let b : r < 2048 = omega arith in (b, below_all s rs few (λ x h. all x (inr h)))
 
 few_records : (s : Shape) (rs : List ℕ) → AllRecords s rs → Distinct rs → length rs ≤ length s.names * s.records
 few_records s rs all d = subst (λ (n : ℕ). n ≤ length s.names * s.records) (length-map rs (index_of s.records))
@@ -65,8 +46,7 @@ few_records s rs all d = subst (λ (n : ℕ). n ≤ length s.names * s.records) 
 -- a block's length
 fit_small : (b : Body) (n : ℕ) → fits_in b n ≡ true → n ≤ 1048576
 fit_small Nothing n e = search rules
-fit_small (Data v) n e = search rules
-fit_small (End p) n e = search rules
+fit_small b n e = search rules
 
 pub block_small : {s : Shape} {r : ℕ} {l : LotOf Body} → IsBlock s r l → l.len ≤ 1048576
 block_small {s} {r} {l} is = fit_small l.body l.len is.full.1
@@ -74,14 +54,12 @@ block_small {s} {r} {l} is = fit_small l.body l.len is.full.1
 pub quiet_alive : (s : Status) (xs : List (ℕ × Item)) → (is_over s ≡ true → ⊥) → IsQuiet s xs
 quiet_alive Running xs e = tt
 quiet_alive Ending xs e = tt
-quiet_alive Vacant xs e = absurd (e refl)
-quiet_alive Ended xs e = absurd (e refl)
+quiet_alive s xs e = absurd (e refl)
 
 still_quiet : (s : Status) (f : List (ℕ × Item) → List (ℕ × Item)) (xs : List (ℕ × Item)) → f [] ≡ [] → IsQuiet s xs → IsQuiet s (f xs)
 still_quiet Running f xs e q = tt
 still_quiet Ending f xs e q = tt
-still_quiet Vacant f xs e q = ap f q ∙ e
-still_quiet Ended f xs e q = ap f q ∙ e
+still_quiet s f xs e q = ap f q ∙ e
 
 -- what a place's type keeps says nothing of its seat's events
 pub kept : (seat last : Held Body) (xs : List (ℕ × Item)) (room total : ℕ) (state : Status) → HasNow seat seat.lots last → IsPlace seat xs room total state → IsPlace last xs room total state
@@ -125,16 +103,11 @@ module _ {seat : Held Body} {xs : List (ℕ × Item)} {room total : ℕ} {state 
   held_is b r m = go b (value_at r seat.lots) refl m where
     go : (b : Bool) (o : Option (LotOf Body)) → value_at r seat.lots ≡ o → MatchBool b (Among (keys seat.lots) r) (Among (keys seat.lots) r → ⊥) → b ≡ is_some (value_at r xs)
     go true None e m = absurd (no_key r seat.lots e m)
-    go true (Some l) e m = sym (ap is_some (is.same r ∙ ap item_at e))
-    go false None e m = sym (ap is_some (is.same r ∙ ap item_at e))
     go false (Some l) e m = absurd (m (at_key r l seat.lots e))
+    go b o e m = sym (ap is_some (is.same r ∙ ap item_at e))
 
   pub not_listed : (r : ℕ) → (Among (keys seat.lots) r → ⊥) → Among (keys xs) r → ⊥
   not_listed r n = no_key r xs (is.same r ∙ ap item_at (none_at r seat.lots n))
-
-  all_records : (ys : List (ℕ × Item)) → ((r : ℕ) → Among (keys ys) r → IsRecord seat.shape r) → AllRecords seat.shape (keys ys)
-  all_records [] h = tt
-  all_records (y ∷ ys) h = (h y.0 (inl refl), all_records ys (λ r a. h r (inr a)))
 
   listed_record : (r : ℕ) → Among (keys xs) r → IsRecord seat.shape r
   listed_record r a = go (value_at r xs) refl where
@@ -145,7 +118,7 @@ module _ {seat : Held Body} {xs : List (ℕ × Item)} {room total : ℕ} {state 
   has_room : (r : ℕ) → IsRecord seat.shape r → (Among (keys seat.lots) r → ⊥) → length xs < room
   has_room r exists fresh =
       let most : length (r ∷ keys xs) ≤ length seat.shape.names * seat.shape.records =
-      few_records seat.shape (r ∷ keys xs) (exists, all_records xs listed_record) (not_listed r fresh, is.distinct) in omega (arith, most, length-keys xs, is.room.0)
+      few_records seat.shape (r ∷ keys xs) (λ q a. ⊎_elim (λ e. subst (IsRecord seat.shape) (sym e) exists) (listed_record q) a) (not_listed r fresh, is.distinct) in omega (arith, most, length-keys xs, is.room.0)
 
   sums : (ys : List (ℕ × Item)) → ((r : ℕ) (s : Item) → value_at r ys ≡ Some s → s.len ≤ 1048576) → Distinct (keys ys) → total_of ys ≤ length ys * 1048576
   sums [] h d = omega arith
@@ -160,10 +133,10 @@ module _ {seat : Held Body} {xs : List (ℕ × Item)} {room total : ℕ} {state 
 
   -- how many blocks there are, and their sum
   pub count_bound : length xs ≤ 2048
-  count_bound = subst (λ (z : ℕ). z ≤ 2048) (length-keys xs) (few 2048 (keys xs) (below_all seat.shape (keys xs) is.room.1 (all_records xs listed_record)) is.distinct)
+  count_bound = subst (λ (z : ℕ). z ≤ 2048) (length-keys xs) (few 2048 (keys xs) (below_all seat.shape (keys xs) is.room.1 listed_record) is.distinct)
 
   pub count_room : length xs ≤ room
-  count_room = omega (arith, few_records seat.shape (keys xs) (all_records xs listed_record) is.distinct, length-keys xs, is.room.0)
+  count_room = omega (arith, few_records seat.shape (keys xs) listed_record is.distinct, length-keys xs, is.room.0)
 
   pub total_bound : total ≤ 2147483648
   total_bound = let a : length xs ≤ 2048 = count_bound in let b : total ≤ length xs * 1048576 = small in omega arith
@@ -244,8 +217,7 @@ module _ {seat : Held Body} {xs : List (ℕ × Item)} {room total : ℕ} {state 
     empty : (t : Status) → IsQuiet t xs → is_over t ≡ true → xs ≡ []
     empty Vacant q e = q
     empty Ended q e = q
-    empty Running q e = absurd (cc)
-    empty Ending q e = absurd (cc)
+    empty t q e = absurd (cc)
 
     header_none : (o : Option (LotOf Body)) → item_at o ≡ None → o ≡ None
     header_none None e = refl
@@ -311,6 +283,48 @@ module _ {seat : Held Body} (rs : List ℕ) {room total : ℕ} {state : Status} 
 
 pub over_running : (s : Status) → is_running s ≡ true → is_over s ≡ true → ⊥
 over_running Running e f = absurd (cc)
-over_running Ending e f = absurd (cc)
-over_running Vacant e f = absurd (cc)
-over_running Ended e f = absurd (cc)
+over_running s e f = absurd (cc)
+
+-- ---- a block that goes to the end of the list
+
+pub without_long : {X : Type 0} (r : ℕ) (y : X) (xs : List (ℕ × X)) → Distinct (keys xs) → value_at r xs ≡ Some y → length xs ≡ suc (length (without r xs))
+without_long r y [] d = λ e. absurd (cc)
+without_long r y (x ∷ xs) d = λ e. let a = λ (same : x.0 ≡ r). absent r xs (λ h. d.0 (subst (λ (z : ℕ). Among (keys xs) z) (sym same) h)) in grind (arith, nat_tests, a, without_long r y xs d.1)
+
+module _ {seat : Held Body} {xs : List (ℕ × Item)} {room total : ℕ} {state : Status} (is : IsPlace seat xs room total state) (alive : is_over state ≡ true → ⊥) (r : ℕ) {x : Item}
+    (at : value_at r xs ≡ Some x) where
+  not_left : Among (keys (without r xs)) r → ⊥
+  not_left = no_key r (without r xs) (without_at r xs)
+
+  pub moved : IsPlace seat (without r xs ++ (r, x) ∷ []) room total state
+  moved = record {
+    same = λ q. dite (ℕ_discrete r q)
+        (λ e. subst (λ (z : ℕ). value_at z (without r xs ++ (r, x) ∷ []) ≡ item_at (value_at z seat.lots)) e (last_at r x (without r xs) not_left ∙ sym at ∙ is.same r))
+        (λ n. last_other q r x (without r xs) n ∙ without_other q r xs n ∙ is.same q);
+    blocks = is.blocks;
+    distinct = subst Distinct (sym (keys_push (without r xs) (r, x))) (distinct_push (keys (without r xs)) r (distinct_without r xs is.distinct) not_left);
+    sum = is.sum ∙ total_without xs r x is.distinct at ∙ sym (total_last (without r xs) r x);
+    room = is.room;
+    quiet = quiet_alive state (without r xs ++ (r, x) ∷ []) alive;
+  }
+
+-- a place that lists a block is not over
+pub alive_if : {seat : Held Body} {xs : List (ℕ × Item)} {room total : ℕ} {state : Status} → IsPlace seat xs room total state → (r : ℕ) {x : Item} → value_at r xs ≡ Some x → is_over state ≡ true → ⊥
+alive_if {seat} {xs} {room} {total} {state} is r {x} at = go state is.quiet where
+  none : xs ≡ [] → ⊥
+  none e = let f : None ≡ Some x = sym (ap (value_at r) e) ∙ at in absurd (cc)
+
+  go : (t : Status) → IsQuiet t xs → is_over t ≡ true → ⊥
+  go Vacant q e = none q
+  go Ended q e = none q
+  go t q e = absurd (cc)
+
+-- the same, as the fields have it
+pub moved_last : {seat : Held Body} (rs : List ℕ) {room total : ℕ} {state : Status} → IsPlace seat (shown seat.lots rs) room total state → (r : ℕ) {x : Item}
+    → value_at r (shown seat.lots rs) ≡ Some x → {ys : List ℕ} {room' : ℕ} → ys ≡ less r rs ++ r ∷ [] → room' ≡ room → IsNow seat rs state seat ys room' total (last r)
+moved_last {seat} rs {room} {total} {state} is r {x} at {ys} {room'} items same =
+    let xs : List (ℕ × Item) = shown seat.lots rs in
+    let ends : without r xs ++ (r, x) ∷ [] ≡ last r xs = ap (λ (o : Option Item). without r xs ++ alone r o) (sym at) in
+    let numbers : keys (without r xs ++ (r, x) ∷ []) ≡ less r rs ++ r ∷ [] = keys_push (without r xs) (r, x) ∙ ap (λ (l : List ℕ). l ++ r ∷ []) (keys_without r xs ∙ ap (less r) (shown_keys seat.lots rs)) in
+    is_now seat rs state seat seat.lots ys room total room' total (last r) refl
+    (subst (λ (l : List (ℕ × Item)). IsPlace seat l room total state) ends (moved is (alive_if is r at) r at)) (items ∙ sym numbers ∙ ap keys ends) same refl

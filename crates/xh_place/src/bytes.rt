@@ -2,11 +2,11 @@
 ghost use Rattle.std.specs.Prelude.{◌≡◌, ◌+◌, ◌≤◌, Some, IfSome, length};
 ghost use Rattle.xh_arena.specs.Views.{LotOf};
 ghost use Rattle.xh_model.specs.Keyed.{value_at, put};
-ghost use Rattle.xh_records.specs.Showing.{IsLotOf};
-ghost use Rattle.xh_records.specs.Seats.{IsSeatOf, IsRecord, with_lots};
-ghost use Rattle.xh_place.specs.declared.body.Body.{Body};
 ghost use Rattle.xh_place.specs.Bodies.{bytes, content_of, part, patched, rest};
+ghost use Rattle.xh_place.specs.declared.body.Body.{Body};
 ghost use Rattle.xh_place.specs.inner.Lots.{IsData};
+ghost use Rattle.xh_records.specs.Seats.{IsSeatOf, IsRecord, with_lots};
+ghost use Rattle.xh_records.specs.Showing.{IsLotOf};
 
 use crate::body::Body;
 use std::alloc::Global;
@@ -14,6 +14,7 @@ use xh_arena::Lot;
 use xh_records::{Records, Seat};
 
 // Its bytes from `at` on, as many as `out` has.
+#[tactic(auto, using(xh_model::proofs::Keyed::put_same))]
 pub(crate) fn read_lot(
     records: &Records<Body>,
     seat: &mut Seat<Body>,
@@ -23,7 +24,8 @@ pub(crate) fn read_lot(
 )
     requires own { IsSeatOf records.now seat.old × IsRecord records.now.shape r }
     requires held { (l : LotOf Body) × (value_at r seat.old.lots ≡ Some l) × IsLotOf seat.old.shape r l × IsData l × (at + length out.old ≤ l.len) }
-    ensures { (l : LotOf Body) → value_at r seat.old.lots ≡ Some l → (out.new ≡ part at (length out.old) (content_of l.body)) × (seat.new ≡ with_lots seat.old (put r l seat.old.lots)) }
+    ensures same { seat.new ≡ seat.old }
+    ensures bytes { (l : LotOf Body) → value_at r seat.old.lots ≡ Some l → out.new ≡ part at (length out.old) (content_of l.body) }
 {
     records.with_lot(
         seat,
@@ -72,6 +74,7 @@ pub(crate) fn write_lot(
 }
 
 // Its bytes past the first `k`, in a buffer of their own.
+#[tactic(auto, using(xh_model::proofs::Keyed::put_same))]
 pub(crate) fn rest_of(
     alloc: Global,
     records: &Records<Body>,
@@ -81,7 +84,8 @@ pub(crate) fn rest_of(
 ) -> Option<Vec<u8>>
     requires own { IsSeatOf records.now seat.old × IsRecord records.now.shape r }
     requires held { (l : LotOf Body) × (value_at r seat.old.lots ≡ Some l) × IsLotOf seat.old.shape r l × IsData l × (k ≤ l.len) }
-    ensures { (l : LotOf Body) → value_at r seat.old.lots ≡ Some l → IfSome result (λ v. bytes v.items ≡ rest k (content_of l.body)) × (seat.new ≡ with_lots seat.old (put r l seat.old.lots)) }
+    ensures same { seat.new ≡ seat.old }
+    ensures bytes { (l : LotOf Body) → value_at r seat.old.lots ≡ Some l → IfSome result (λ v. bytes v.items ≡ rest k (content_of l.body)) }
 {
     records.with_lot(
         seat,

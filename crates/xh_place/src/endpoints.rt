@@ -1,14 +1,14 @@
 // What a place does to an endpoint, in its lot.
 ghost use Rattle.std.specs.Prelude.{◌≡◌, ◌+◌, ◌*◌, ◌<◌, Some};
 ghost use Rattle.xh_arena.specs.Views.{LotOf};
-ghost use Rattle.xh_model.specs.declared.limits.TheConstants.{CHANNELS, DIRECTIONS};
 ghost use Rattle.xh_model.specs.Keyed.{value_at, put};
-ghost use Rattle.xh_records.specs.Showing.{IsLotOf};
-ghost use Rattle.xh_records.specs.Seats.{IsSeatOf, IsRecord, with_lots};
-ghost use Rattle.xh_place.specs.declared.body.Body.{Body};
+ghost use Rattle.xh_model.specs.declared.limits.TheConstants.{CHANNELS, DIRECTIONS};
 ghost use Rattle.xh_place.specs.Bodies.{IsEndAt, content_of, toward};
 ghost use Rattle.xh_place.specs.Endpoints.{Puts, Shuts, Takes};
+ghost use Rattle.xh_place.specs.declared.body.Body.{Body};
 ghost use Rattle.xh_place.specs.inner.Lots.{IsEnd, LotDoes};
+ghost use Rattle.xh_records.specs.Seats.{IsSeatOf, IsRecord, with_lots};
+ghost use Rattle.xh_records.specs.Showing.{IsLotOf};
 
 use crate::body::Body;
 use crate::desk::Desk;
@@ -19,10 +19,12 @@ use xh_channel::{Channels, Message, Refused as Untaken, Spot, Unsent};
 use xh_records::{Records, Seat};
 
 // The channel and side of the endpoint.
+#[tactic(auto, using(xh_model::proofs::Keyed::put_same))]
 pub(crate) fn spot_at(records: &Records<Body>, seat: &mut Seat<Body>, e: u16) -> Spot
     requires own { IsSeatOf records.now seat.old × IsRecord records.now.shape e }
     requires held { (l : LotOf Body) × (value_at e seat.old.lots ≡ Some l) × IsLotOf seat.old.shape e l × IsEnd l }
-    ensures seat { (l : LotOf Body) → value_at e seat.old.lots ≡ Some l → IsEndAt (content_of l.body) result.channel result.side × (seat.new ≡ with_lots seat.old (put e l seat.old.lots)) }
+    ensures same { seat.new ≡ seat.old }
+    ensures spot { (l : LotOf Body) → value_at e seat.old.lots ≡ Some l → IsEndAt (content_of l.body) result.channel result.side }
     ensures small { (result.channel < CHANNELS) × (result.side < 2) }
 {
     records.with_lot(
@@ -78,7 +80,9 @@ pub(crate) fn put_at<R: Wait, V, G>(
     )
 }
 
-// Takes the message at the front for the endpoint. With the answer goes the direction.
+// Takes the message at the front for the endpoint. With the answer goes the direction. The answer is large:
+// it is put where the caller lends room, and in a function of its own, since each move of it costs.
+#[inline(never)]
 pub(crate) fn take_at<R: Wait, V, G>(
     desk: &Desk<'_, R, V, G>,
     seat: &mut Seat<Body>,
@@ -91,21 +95,24 @@ pub(crate) fn take_at<R: Wait, V, G>(
     ensures small { result.1 < DIRECTIONS }
 {
     let (rt, channels) = (desk.rt, desk.channels);
-    desk.records.with_lot(
+    let mut taken = Err(Untaken::Empty);
+    let direction = desk.records.with_lot(
         seat,
         e,
-        &mut |lot: &mut Lot<Body>|
+        &mut |lot: &mut Lot<Body>| -> u8
             requires { IsEnd lot.old }
-            ensures lot { LotDoes (Takes result.0) lot.old lot.new }
-            ensures direction { (result.1 ≡ toward (content_of lot.old.body)) × (result.1 < DIRECTIONS) }
+            ensures lot { LotDoes (Takes taken.exit) lot.old lot.new }
+            ensures direction { (result ≡ toward (content_of lot.old.body)) × (result < DIRECTIONS) }
         {
             let Body::End(end) = lot.body_mut() else {
                 unreachable!()
             };
             let spot = end.spot();
-            (channels.take(rt, end), 2 * spot.channel + spot.side)
+            taken = channels.take(rt, end);
+            2 * spot.channel + spot.side
         },
-    )
+    );
+    (taken, direction)
 }
 
 // Shuts the endpoint.

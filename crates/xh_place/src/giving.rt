@@ -1,21 +1,21 @@
 // What a give does to the seat: its blocks leave it, and some come back.
 ghost use Rattle.std.specs.Prelude.{◌≡◌, ◌≢◌, ◌⊎◌, ℕ, ◌+◌, ◌*◌, ◌/◌, ◌%◌, ◌<◌, ◌≤◌, List, [], ◌++◌, length, Some, None, OnOk, OnErr};
-ghost use Rattle.arrayvec.specs.ArrayVec.{ArrayVec};
 ghost use Rattle.xh_arena.specs.Views.{LotOf};
-ghost use Rattle.xh_model.specs.declared.limits.TheConstants.{DIRECTIONS, MAX_BLOCKS};
 ghost use Rattle.xh_model.specs.Keyed.{Among, Distinct, keys, value_at};
-ghost use Rattle.xh_records.specs.Showing.{IsFull};
+ghost use Rattle.xh_model.specs.declared.limits.TheConstants.{DIRECTIONS, MAX_BLOCKS};
+ghost use Rattle.xh_place.specs.Bodies.{away, content_of, kind_of, fits_in};
 ghost use Rattle.xh_place.specs.Endpoints.{Puts};
-ghost use Rattle.xh_place.specs.Messages.{Answers, refusal};
-ghost use Rattle.xh_records.specs.Seats.{IsSeatOf, IsRecord};
-ghost use Rattle.xh_place.specs.Moves.{accepted_on, passed_on, there_and_back};
-ghost use Rattle.xh_place.specs.inner.Lists.{AreBack, CameBack, lens};
-ghost use Rattle.xh_place.specs.inner.Lots.{HasNow, LotDoes, SeatSaw, SeatSeesMore, with_done};
+ghost use Rattle.xh_place.specs.Messages.{Answers};
+ghost use Rattle.xh_place.specs.Places.{IsBlock, item_in};
 ghost use Rattle.xh_place.specs.Seen.{IsElsewhere};
 ghost use Rattle.xh_place.specs.declared.body.Body.{Body};
+ghost use Rattle.xh_place.specs.inner.Lots.{HasNow, LotDoes, SeatSaw, SeatSeesMore, with_done};
+ghost use Rattle.xh_records.specs.Seats.{IsSeatOf, IsRecord};
+ghost use Rattle.xh_records.specs.Showing.{IsFull};
+ghost use Rattle.arrayvec.specs.ArrayVec.{ArrayVec};
+ghost use Rattle.xh_place.specs.Moves.{accepted_on, passed_on, there_and_back};
+ghost use Rattle.xh_place.specs.inner.Lists.{AreBack, CameBack, lens};
 ghost use Rattle.xh_core.specs.declared.header.Kind.TheVariants as kind;
-ghost use Rattle.xh_place.specs.Bodies.{away, content_of, kind_of, fits_in};
-ghost use Rattle.xh_place.specs.Places.{IsBlock, item_in};
 
 use crate::body::Body;
 use crate::desk::Desk;
@@ -179,24 +179,15 @@ pub(crate) fn give_all<R: Wait, V, G: Gate>(
     }
 }
 
-// The answer of a give.
+// The answer of a give: the put's, with what came back.
 pub(crate) fn answer(put: Result<u64, Unsent>, back: ArrayVec<u16, 8>) -> Result<u64, Refused>
     requires { OnOk put (back.items ≡ []) }
     ensures { Answers back.items put result }
 {
     match put {
         Ok(no) => Ok(no),
-        Err(unsent) => Err(refusal(unsent, back)),
-    }
-}
-
-// The refusal of a put, with what came back.
-fn refusal(unsent: Unsent, back: ArrayVec<u16, 8>) -> Refused
-    ensures { result ≡ refusal back unsent }
-{
-    match unsent {
-        Unsent::Protocol { .. } => Refused::Protocol { back },
-        Unsent::PeerClosed { .. } => Refused::PeerClosed { back },
-        Unsent::Full { .. } => Refused::Full { back },
+        Err(Unsent::Protocol { .. }) => Err(Refused::Protocol { back }),
+        Err(Unsent::PeerClosed { .. }) => Err(Refused::PeerClosed { back }),
+        Err(Unsent::Full { .. }) => Err(Refused::Full { back }),
     }
 }

@@ -1,7 +1,7 @@
 // A place's list: the numbers of its records.
 ghost use Rattle.std.specs.Prelude.{◌≡◌, ◌==◌, cond, vec_capacity};
-ghost use Rattle.std.specs.List.{list_any};
 ghost use Rattle.xh_model.specs.Keyed.{Distinct};
+ghost use Rattle.std.specs.List.{list_any};
 ghost use Rattle.xh_place.specs.inner.Lists.{less, less_all};
 
 // The list without a number. The newest one is looked at first: it is the one that goes most often.

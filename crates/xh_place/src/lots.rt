@@ -1,23 +1,23 @@
 // What a place does to the lots of its seat.
 ghost use Rattle.std.specs.Prelude.{◌≡◌, ◌≢◌, ◌⊎◌, ℕ, MatchBool, ◌+◌, ◌-◌, ◌*◌, ◌%◌, ◌/◌, ◌<◌, ◌≤◌, ◌++◌, ◌∷◌, [], Some, IfOk, IfErr, IfSome, OnOk, OnErr, slice_get, length, replicate, true};
 ghost use Rattle.xh_arena.specs.Views.{LotOf};
-ghost use Rattle.xh_model.specs.declared.event.Event.TheVariants.{Accept, Pass};
 ghost use Rattle.xh_model.specs.Arena.{IsGoodCut};
 ghost use Rattle.xh_model.specs.Keyed.{Among, keys, value_at, put, without};
-ghost use Rattle.xh_records.specs.Showing.{IsLotOf, IsFull};
-ghost use Rattle.xh_records.specs.Seats.{IsSeatOf, IsRecord, did, with_lots};
 ghost use Rattle.xh_model.specs.declared.limits.TheConstants.{DIRECTIONS, MAX_BYTES, MAX_RECORDS, UNIT};
-ghost use Rattle.xh_place.specs.inner.Lots.{HasNow, IsCut, IsData, SeatFull, SeatSaw, SeatSeesMore};
+ghost use Rattle.xh_place.specs.Bodies.{bytes, front, content_of, fits_in, kind_of};
 ghost use Rattle.xh_place.specs.Desk.{IsSameDesk, IsSeatAt};
+ghost use Rattle.xh_place.specs.Places.{IsBlock, item_of, header_of};
 ghost use Rattle.xh_place.specs.Splitting.{IsUncut};
 ghost use Rattle.xh_place.specs.Tallies.{gave, took};
 ghost use Rattle.xh_place.specs.Vaults.{IsNoBlock, IsRefusedAt};
-ghost use Rattle.xh_place.specs.inner.Answers.{reason_of};
 ghost use Rattle.xh_place.specs.declared.body.Body.{Body};
+ghost use Rattle.xh_place.specs.inner.Lots.{HasNow, IsCut, IsData, SeatFull, SeatSaw, SeatSeesMore};
+ghost use Rattle.xh_records.specs.Seats.{IsSeatOf, IsRecord, did, with_lots};
+ghost use Rattle.xh_records.specs.Showing.{IsLotOf, IsFull};
+ghost use Rattle.xh_model.specs.declared.event.Event.TheVariants.{Accept, Pass};
+ghost use Rattle.xh_place.specs.inner.Answers.{reason_of};
 ghost use Rattle.xh_place.specs.declared.body.Body.TheVariants.{Nothing};
 ghost use Rattle.xh_core.specs.declared.header.Kind.TheVariants as kind;
-ghost use Rattle.xh_place.specs.Bodies.{bytes, front, content_of, fits_in, kind_of};
-ghost use Rattle.xh_place.specs.Places.{IsBlock, item_of, header_of};
 
 use crate::body::Body;
 use crate::bytes::rest_of;
@@ -96,7 +96,7 @@ fn empty<R, V: Vaults, G>(desk: &mut Desk<'_, R, V, G>, seat: &mut Seat<Body>, r
         {
             let len = lot.len();
             vaults.give_back(arena, lot, tally);
-            *lot.body_mut() = Body::Nothing;
+            drop(mem::take(lot.body_mut()));
             len
         },
     )
@@ -201,10 +201,12 @@ pub(crate) fn holds(records: &Records<Body>, seat: &mut Seat<Body>, r: u16) -> b
 }
 
 // The length and kind of the record's block.
+#[tactic(auto, using(xh_model::proofs::Keyed::put_same))]
 pub(crate) fn look(records: &Records<Body>, seat: &mut Seat<Body>, r: u16) -> Header
     requires own { IsSeatOf records.now seat.old × IsRecord records.now.shape r }
     requires held { (l : LotOf Body) × (value_at r seat.old.lots ≡ Some l) × IsLotOf seat.old.shape r l × IsFull fits_in l }
-    ensures { (l : LotOf Body) → value_at r seat.old.lots ≡ Some l → (result ≡ header_of (item_of l)) × (seat.new ≡ with_lots seat.old (put r l seat.old.lots)) }
+    ensures same { seat.new ≡ seat.old }
+    ensures header { (l : LotOf Body) → value_at r seat.old.lots ≡ Some l → result ≡ header_of (item_of l) }
 {
     records.with_lot(
         seat,
@@ -330,5 +332,6 @@ pub(crate) fn cut_block<R, V: Vaults, G: Gate>(
     };
     let mut body = Body::Data(buffer);
     part(desk, seat, (r, t), k, &mut body);
+    drop(body);
     Ok(t)
 }

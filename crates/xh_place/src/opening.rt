@@ -3,19 +3,19 @@ ghost use Rattle.std.specs.Prelude.{◌≡◌, ◌≢◌, ◌⊎◌, ◌+◌, �
 ghost use Rattle.xh_arena.specs.Views.{LotOf};
 ghost use Rattle.xh_channel.specs.Queues.{Posted};
 ghost use Rattle.xh_model.specs.Keyed.{put, value_at, without};
-ghost use Rattle.xh_records.specs.Showing.{IsEmpty, IsLotOf};
-ghost use Rattle.xh_records.specs.Seats.{IsRecord, IsSeatOf, with_lots};
 ghost use Rattle.xh_model.specs.declared.limits.TheConstants.{END_BYTES, MAX_RECORDS};
-ghost use Rattle.xh_place.specs.declared.body.Body.{Body};
-ghost use Rattle.xh_place.specs.declared.body.Body.TheVariants.{End};
 ghost use Rattle.xh_place.specs.Bodies.{fits_in};
 ghost use Rattle.xh_place.specs.Desk.{IsSameDesk, IsSeatAt};
 ghost use Rattle.xh_place.specs.Ends.{end_block};
-ghost use Rattle.xh_place.specs.inner.Lots.{HasNow, SeatFull, SeatSeesMore};
-ghost use Rattle.xh_place.specs.inner.Opening.{AreClaimed, AreEmpty, AreMade};
 ghost use Rattle.xh_place.specs.Places.{item_of};
 ghost use Rattle.xh_place.specs.Tallies.{took};
 ghost use Rattle.xh_place.specs.Vaults.{IsNoPair, IsRefusedAt};
+ghost use Rattle.xh_place.specs.declared.body.Body.{Body};
+ghost use Rattle.xh_place.specs.inner.Lots.{HasNow, SeatFull, SeatSeesMore};
+ghost use Rattle.xh_records.specs.Seats.{IsRecord, IsSeatOf, with_lots};
+ghost use Rattle.xh_records.specs.Showing.{IsEmpty, IsLotOf};
+ghost use Rattle.xh_place.specs.declared.body.Body.TheVariants.{End};
+ghost use Rattle.xh_place.specs.inner.Opening.{AreClaimed, AreEmpty, AreMade};
 
 use crate::body::Body;
 use crate::desk::Desk;
@@ -155,6 +155,8 @@ fn fit_ends<R, V: Vaults, G>(
     let mut second = Body::End(high);
     let halved = halve(desk, seat, pair, &mut first, &mut second);
     let Err(refused) = halved else {
+        drop(first);
+        drop(second);
         return Ok(());
     };
     let low = end_in(first);

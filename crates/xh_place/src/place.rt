@@ -1,16 +1,16 @@
 //! A process's place.
 ghost use Rattle.std.specs.Prelude.{◌≡◌, ◌⊎◌, ◌+◌, ◌*◌, ◌<◌, ◌≤◌, [], length, Some, IfOk, IfErr, false, true};
-ghost use Rattle.xh_core.specs.declared.status.Status.TheVariants as status;
 ghost use Rattle.xh_core.specs.Refusing.{Tested};
 ghost use Rattle.xh_core.specs.Statuses.{is_over};
-ghost use Rattle.xh_model.specs.declared.limits.TheConstants.{GENERATIONS, MAX_ARENAS};
-ghost use Rattle.xh_model.specs.Words.{generation_of};
-ghost use Rattle.xh_place.specs.Moves.{moves};
 ghost use Rattle.xh_model.specs.Keyed.{keys, value_at};
+ghost use Rattle.xh_model.specs.declared.limits.TheConstants.{GENERATIONS, MAX_ARENAS, MAX_RECORDS};
 ghost use Rattle.xh_place.specs.Messages.{is_listed};
 ghost use Rattle.xh_place.specs.Places.{AreBlocks, IsPlaceOf, Item, Lists, found, header_of, line, line_in, started, total_of};
 ghost use Rattle.xh_place.specs.Seen.{Stays};
 ghost use Rattle.xh_place.specs.Starts.{start, stop};
+ghost use Rattle.xh_model.specs.Words.{generation_of};
+ghost use Rattle.xh_place.specs.Moves.{moves};
+ghost use Rattle.xh_core.specs.declared.status.Status.TheVariants as status;
 
 mod blocks;
 mod ending;
@@ -166,8 +166,11 @@ impl Place {
         Some(self.look(records, r))
     }
 
+    // How many blocks the list has.
     fn count(&self) -> usize
-        ensures { result ≡ length self.now.place.blocks }
+        ensures count { result ≡ length self.now.place.blocks }
+        ensures few { result ≤ MAX_ARENAS * MAX_RECORDS }
+        ensures quiet { is_over self.now.place.state ≡ true → self.now.place.blocks ≡ [] }
     {
         self.list.len()
     }
@@ -199,10 +202,10 @@ impl Place {
         ensures { result ≡ line self.now.place }
     {
         let glance = Glance {
-            process: self.seat.process(),
+            process: self.process(),
             state: self.state,
-            blocks: self.list.len() as u32,
-            bytes: self.total,
+            blocks: self.count() as u32,
+            bytes: self.total(),
         };
         glance.line()
     }

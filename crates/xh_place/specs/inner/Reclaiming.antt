@@ -1,8 +1,6 @@
 -- The steps of an endpoint that nobody is here for.
 use Rattle.std.specs.Prelude.{◌≡◌, ℕ, List, [], ◌∷◌, length, Some}
 use Rattle.xh_channel.specs.declared.message.Message.{Message}
-use Rattle.xh_core.specs.declared.status.Status.{Status}
-use Rattle.xh_core.specs.declared.status.Status.TheVariants as status
 use Rattle.xh_model.specs.declared.limits.TheConstants.{MAX_BUDGET}
 use Rattle.xh_model.specs.Keyed.{put, value_at}
 use Rattle.xh_place.specs.Bodies.{toward}
@@ -10,13 +8,6 @@ use Rattle.xh_place.specs.Ending.{IsSwept}
 use Rattle.xh_place.specs.Endpoints.{AreUnpacked, EndsWith, IsDrained}
 use Rattle.xh_place.specs.Ends.{EndDoes, toward_in}
 use Rattle.xh_place.specs.Places.{IsWhole, Item, PlaceOf, with_blocks, with_list, with_more}
-
--- one that had ended is ending while blocks come
-abbrev pub awake : Status → Status
-awake status.Ended = status.Ending
-awake status.Vacant = status.Vacant
-awake status.Running = status.Running
-awake status.Ending = status.Ending
 
 -- the endpoint came on the direction to the end of the list, and was swept from there
 abbrev pub IsSweptLate : (ℕ → ℕ → Type 0) → ℕ → ℕ → PlaceOf → PlaceOf → ℕ → Type 0

@@ -1,23 +1,23 @@
 //! Data blocks of a place.
 ghost use Rattle.std.specs.Prelude.{◌≡◌, ℕ, ◌+◌, ◌/◌, ◌%◌, ◌<◌, ◌≤◌, ◌∷◌, ◌++◌, length, Some, Err, IfErr, OnErr, OnOk, MatchOption};
 ghost use Rattle.xh_core.specs.Calls.{alloc_tests, data_tests, range_tests, split_tests};
-ghost use Rattle.xh_core.specs.Headers.{len_in};
 ghost use Rattle.xh_core.specs.Refusing.{Tested, first_refusal};
-ghost use Rattle.xh_core.specs.Space.{rounded};
-ghost use Rattle.xh_model.specs.declared.limits.TheConstants.{MAX_BYTES, MAX_RECORDS, UNIT};
 ghost use Rattle.xh_model.specs.Arena.{IsGoodCut};
 ghost use Rattle.xh_model.specs.Keyed.{Distinct, keys, value_at, without};
-ghost use Rattle.xh_place.specs.Ending.{HasGivenBack};
-ghost use Rattle.xh_core.specs.declared.header.Kind.TheVariants as kind;
+ghost use Rattle.xh_model.specs.declared.limits.TheConstants.{MAX_BYTES, MAX_RECORDS, UNIT};
 ghost use Rattle.xh_place.specs.Bodies.{bytes, kind_of};
-ghost use Rattle.xh_place.specs.Calls.{Allocates, Frees, Reads, Splits, Writes};
 ghost use Rattle.xh_place.specs.Desk.{HasVaults, IsAt, IsSameDesk, StaysAt};
+ghost use Rattle.xh_place.specs.Ending.{HasGivenBack};
 ghost use Rattle.xh_place.specs.Places.{Item, IsPlaceOf, found, total_of, with_blocks};
 ghost use Rattle.xh_place.specs.Seen.{Becomes, FindsFull, Stays};
 ghost use Rattle.xh_place.specs.Splitting.{IsUncut};
 ghost use Rattle.xh_place.specs.Starts.{start};
 ghost use Rattle.xh_place.specs.Tallies.{gave};
 ghost use Rattle.xh_place.specs.Vaults.{IsNoBlock};
+ghost use Rattle.xh_core.specs.Headers.{len_in};
+ghost use Rattle.xh_core.specs.Space.{rounded};
+ghost use Rattle.xh_place.specs.Calls.{Allocates, Frees, Reads, Splits, Writes};
+ghost use Rattle.xh_core.specs.declared.header.Kind.TheVariants as kind;
 
 use crate::body::Body;
 use crate::bytes::{read_lot, write_lot};

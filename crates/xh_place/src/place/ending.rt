@@ -1,19 +1,19 @@
 //! How a place is reclaimed.
 ghost use Rattle.std.specs.Prelude.{◌≡◌, ◌≢◌, ℕ, ◌+◌, ◌-◌, ◌*◌, ◌<◌, ◌≤◌, ◌⊎◌, List, [], ◌∷◌, ◌++◌, length, take, drop, Some, true};
-ghost use Rattle.xh_core.specs.declared.status.Status.TheVariants as status;
 ghost use Rattle.xh_core.specs.Calls.{reclaimed};
 ghost use Rattle.xh_core.specs.Statuses.{is_over};
-ghost use Rattle.xh_model.specs.declared.limits.TheConstants.{DIRECTIONS};
 ghost use Rattle.xh_model.specs.Keyed.{value_at};
-ghost use Rattle.xh_records.specs.Seats.{IsRecord};
+ghost use Rattle.xh_model.specs.declared.limits.TheConstants.{DIRECTIONS};
 ghost use Rattle.xh_place.specs.Bodies.{kind_of};
 ghost use Rattle.xh_place.specs.Desk.{IsAt, IsSameDesk, StaysAt};
 ghost use Rattle.xh_place.specs.Ending.{HasGivenBack, IsStopped, IsSwept, IsSweptBy, ending};
 ghost use Rattle.xh_place.specs.Ends.{RefusedOr, IsTooLate, ending_again};
-ghost use Rattle.xh_place.specs.inner.Reclaiming.{IsSweptLate, awake};
 ghost use Rattle.xh_place.specs.Places.{Item, total_of, with_blocks, with_list};
 ghost use Rattle.xh_place.specs.Seen.{Becomes, IsElsewhere, IsSamePlace, IsSeen, SawWord};
 ghost use Rattle.xh_place.specs.Starts.{stop};
+ghost use Rattle.xh_records.specs.Seats.{IsRecord};
+ghost use Rattle.xh_place.specs.inner.Reclaiming.{IsSweptLate};
+ghost use Rattle.xh_core.specs.declared.status.Status.TheVariants as status;
 
 use crate::desk::Desk;
 use crate::gate::Gate;
@@ -68,13 +68,14 @@ impl Place {
         ensures left { result ≡ length self.now.place.blocks - from }
         ensures quiet { is_over self.now.place.state ≡ true → self.now.place.blocks ≡ [] }
     {
-        self.list.len().saturating_sub(from) as u16
+        self.count().saturating_sub(from) as u16
     }
 
     // The place is in another state. One that is over has no block.
     fn set_state(&mut self, state: Status)
         requires { is_over state ≡ true → self.old.place.blocks ≡ [] }
-        ensures { Becomes (record self.old.place { state = state }) self.old self.new }
+        ensures state { Becomes (record self.old.place { state = state }) self.old self.new }
+        ensures quiet { is_over self.old.place.state ≡ true → self.old.place.blocks ≡ [] }
     {
         self.state = state;
     }
@@ -158,20 +159,9 @@ impl Place {
             ⊎ ((bytes : ℕ) × IsTooLate (IsSeen self.old self.new) direction r self.old.place self.new.place bytes × HasGivenBack bytes desk.old.tallies.now desk.new.tallies.now) }
     {
         let state = self.state();
-        self.wake();
+        self.set_state(Status::Ending);
         self.sweep_late(desk, r, direction);
         self.set_state(ending_again(state, self.left(0)));
-    }
-
-    // A process that had ended is ending again.
-    fn wake(&mut self)
-        requires { self.old.place.state ≢ status.Vacant }
-        ensures woken { Becomes (record self.old.place { state = awake self.old.place.state }) self.old self.new }
-        ensures quiet { self.old.place.state ≡ status.Ended → self.old.place.blocks ≡ [] }
-    {
-        if self.state == Status::Ended {
-            self.state = Status::Ending;
-        }
     }
 
     // Takes an endpoint, and sweeps it at once.

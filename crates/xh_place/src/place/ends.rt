@@ -1,26 +1,26 @@
 //! Endpoints of a place.
 ghost use Rattle.std.specs.Prelude.{◌≡◌, ◌≢◌, ◌⊎◌, ℕ, ◌+◌, ◌*◌, ◌/◌, ◌<◌, List, [], ◌∷◌, ◌++◌, length, Some, MatchOption, true, false};
-ghost use Rattle.xh_channel.specs.Pairs.{IsPair};
 ghost use Rattle.xh_channel.specs.Queues.{Posted};
-ghost use Rattle.xh_core.specs.declared.status.Status.TheVariants as status;
 ghost use Rattle.xh_core.specs.Calls.{arena_tests, end_tests};
-ghost use Rattle.xh_core.specs.Headers.{has_end};
 ghost use Rattle.xh_core.specs.Refusing.{Tested};
 ghost use Rattle.xh_core.specs.Statuses.{is_over};
 ghost use Rattle.xh_model.specs.Keyed.{value_at};
-ghost use Rattle.xh_records.specs.Seats.{IsRecord};
-ghost use Rattle.xh_core.specs.declared.header.Kind.TheVariants as kind;
+ghost use Rattle.xh_model.specs.declared.limits.TheConstants.{DIRECTIONS, END_BYTES};
 ghost use Rattle.xh_place.specs.Bodies.{IsEndAt, kind_of};
 ghost use Rattle.xh_place.specs.Desk.{IsAt, StaysAt};
 ghost use Rattle.xh_place.specs.Ending.{HasGivenBack, IsClosed, last};
 ghost use Rattle.xh_place.specs.Endpoints.{Shuts};
 ghost use Rattle.xh_place.specs.Ends.{Accepts, EndDoes, IsUnopened, Opens, RefusedOr, end_block, is_here};
-ghost use Rattle.xh_place.specs.inner.Reclaiming.{Clears, Drains};
 ghost use Rattle.xh_place.specs.Places.{Item, IsPlaceOf, found, with_blocks, with_less};
-ghost use Rattle.xh_model.specs.declared.limits.TheConstants.{DIRECTIONS, END_BYTES};
 ghost use Rattle.xh_place.specs.Seen.{Becomes, FindsFull, IsSeen, SeesMore, Stays};
 ghost use Rattle.xh_place.specs.Starts.{start};
 ghost use Rattle.xh_place.specs.Vaults.{IsNoPair};
+ghost use Rattle.xh_records.specs.Seats.{IsRecord};
+ghost use Rattle.xh_channel.specs.Pairs.{IsPair};
+ghost use Rattle.xh_core.specs.Headers.{has_end};
+ghost use Rattle.xh_place.specs.inner.Reclaiming.{Clears, Drains};
+ghost use Rattle.xh_core.specs.declared.status.Status.TheVariants as status;
+ghost use Rattle.xh_core.specs.declared.header.Kind.TheVariants as kind;
 
 use crate::body::Body;
 use crate::desk::Desk;
@@ -139,15 +139,6 @@ impl Place {
         requires own { IsPlaceOf records.now self.old.place × (direction < DIRECTIONS) }
         requires running { self.old.place.state ≡ status.Running }
         requires end { has_end (found self.old.place r) ≡ true }
-        ensures { Becomes (with_less direction r self.old.place) self.old self.new }
-    {
-        self.pass(records, r, direction);
-    }
-
-    // A block of the list is in flight on the direction from now on.
-    fn pass(&mut self, records: &Records<Body>, r: u16, direction: u8)
-        requires own { IsPlaceOf records.now self.old.place × (direction < DIRECTIONS) }
-        requires listed { (x : Item) × (value_at r self.old.place.blocks ≡ Some x) }
         ensures { Becomes (with_less direction r self.old.place) self.old self.new }
     {
         let len = pass_block(records, &mut self.seat, r, direction);

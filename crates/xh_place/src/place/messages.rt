@@ -1,14 +1,10 @@
 //! Messages that a place gives and takes.
 ghost use Rattle.std.specs.Prelude.{◌≡◌, ◌≢◌, ℕ, ◌+◌, ◌*◌, ◌<◌, List, [], ◌∷◌, ◌++◌, Some, IfOk, IfErr, MatchResult, map, true};
-ghost use Rattle.std.specs.List.{list_all};
-ghost use Rattle.xh_core.specs.declared.status.Status.TheVariants as status;
 ghost use Rattle.xh_core.specs.Calls.{end_tests, given_tests};
 ghost use Rattle.xh_core.specs.Refusing.{Tested};
 ghost use Rattle.xh_core.specs.Statuses.{is_over};
-ghost use Rattle.xh_model.specs.declared.limits.TheConstants.{DIRECTIONS};
 ghost use Rattle.xh_model.specs.Keyed.{Among, Distinct, value_at};
-ghost use Rattle.xh_records.specs.Seats.{IsRecord};
-ghost use Rattle.xh_core.specs.declared.header.Kind.TheVariants as kind;
+ghost use Rattle.xh_model.specs.declared.limits.TheConstants.{DIRECTIONS};
 ghost use Rattle.xh_place.specs.Bodies.{kind_of};
 ghost use Rattle.xh_place.specs.Endpoints.{AreGot, IsGot, Takes, record_of};
 ghost use Rattle.xh_place.specs.Ends.{EndDoes, RefusedOr, toward_in};
@@ -16,6 +12,10 @@ ghost use Rattle.xh_place.specs.Messages.{is_listed, IsSent, IsTaken, IsUntaken}
 ghost use Rattle.xh_place.specs.Places.{IsWhole, Item, IsPlaceOf, found, with_more};
 ghost use Rattle.xh_place.specs.Seen.{IsSamePlace, IsSeen, SawWord, SeesMore, Stays};
 ghost use Rattle.xh_place.specs.Starts.{start};
+ghost use Rattle.xh_records.specs.Seats.{IsRecord};
+ghost use Rattle.std.specs.List.{list_all};
+ghost use Rattle.xh_core.specs.declared.status.Status.TheVariants as status;
+ghost use Rattle.xh_core.specs.declared.header.Kind.TheVariants as kind;
 
 use crate::body::Body;
 use crate::desk::Desk;
@@ -119,7 +119,7 @@ impl Place {
 
     /// Takes the message at the front of the direction toward the endpoint `e`. Its blocks come to the end of the list.
     /// Ended, NotOwned, NotEndpoint; then PeerClosed or Empty where no message waits.
-    #[tactic(auto, using(crate::proofs::Answered::empty_keeps))]
+    #[tactic(auto, using(crate::proofs::Ends::empty_keeps))]
     pub fn take<R: Wait, V, G: Gate>(
         &mut self,
         desk: &Desk<'_, R, V, G>,

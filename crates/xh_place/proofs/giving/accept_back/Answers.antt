@@ -1,9 +1,6 @@
-use Rattle.std.proofs.lemmas.List.{drop_more, take_more}
-use Rattle.std.proofs.Common.{arith, rules, ◌≡◌, sym, ap, ◌∙◌, ℕ, ◌<◌, ◌+◌, subst, length, drop, get_or, [], ◌∷◌, refl, take}
+use Rattle.xh_place.proofs.Common.{drop_more, take_more, arith, rules, ◌≡◌, sym, ap, ◌∙◌, ℕ, ◌<◌, ◌+◌, subst, length, drop, get_or, [], ◌∷◌, refl, take, CameBack, among_get, starts_more}
+use Rattle.xh_place.proofs.Common.{starts_same}
 use Rattle.xh_place.proofs.Givens.{AreLost, IsAccepting, accepting, accepting_none, lost_more, one_longer}
-use Rattle.xh_place.specs.inner.Lists.{CameBack}
-use Rattle.xh_place.proofs.Listing.{among_get}
-use Rattle.xh_place.proofs.Seeing.{starts_more, starts_same}
 use Rattle.xh_place.proofs.giving.accept_back.Goals as goal
 
 pub loop-k-init : goal.loop-k-init

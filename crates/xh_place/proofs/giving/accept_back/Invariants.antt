@@ -1,5 +1,4 @@
-use Rattle.std.proofs.Common.{◌*◌, ◌≤◌, length, drop, take}
-use Rattle.xh_place.specs.inner.Lots.{SeatSeesMore}
+use Rattle.xh_place.proofs.Common.{◌*◌, ◌≤◌, length, drop, take, SeatSeesMore}
 use Rattle.xh_place.proofs.Givens.{AreLost, IsAccepting}
 use Rattle.xh_place.proofs.giving.accept_back.Given as goal
 

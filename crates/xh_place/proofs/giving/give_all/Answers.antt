@@ -1,13 +1,5 @@
-use Rattle.std.proofs.Common.{◌≡◌, ℕ, List, ◌++◌, sym, ap, subst, refl}
-use Rattle.xh_model.specs.Keyed.{Among, value_at}
-use Rattle.xh_place.specs.Bodies.{away}
-use Rattle.xh_place.specs.Moves.{accepted_on, passed_on, there_and_back}
-use Rattle.xh_place.specs.inner.Lots.{HasNow, SeatSaw, with_done}
-use Rattle.xh_place.specs.Places.{item_in}
-use Rattle.xh_place.proofs.Listing.{lens_none}
-use Rattle.xh_place.proofs.Moves.{moved_twice}
-use Rattle.xh_place.proofs.Seeing.{away_as, saw_later, starts_same}
-use Rattle.xh_place.specs.Seen.{IsElsewhere}
+use Rattle.xh_place.proofs.Common.{◌≡◌, ℕ, List, ◌++◌, sym, ap, subst, refl, Among, value_at, away, accepted_on, passed_on, there_and_back, HasNow, SeatSaw, with_done, item_in, IsElsewhere}
+use Rattle.xh_place.proofs.Common.{lens_none, moved_twice, away_as, saw_later, starts_same}
 use Rattle.xh_place.proofs.giving.give_all.Goals as goal
 
 pub returns-in_default-clause-gained : goal.returns-in_default-clause-gained

@@ -1,14 +1,6 @@
-use Rattle.std.proofs.lemmas.List.{drop_more, take_more}
-use Rattle.std.proofs.Common.{arith, ◌≡◌, ℕ, ◌<◌, ◌+◌, ◌∙◌, refl, ap, subst, sym, length, take, drop, get_or, ◌∷◌, inl}
-use Rattle.std.specs.Prelude.{Some}
-use Rattle.xh_model.specs.Keyed.{Among, value_at}
-use Rattle.xh_model.proofs.Keyed.{past}
-use Rattle.xh_records.specs.Seats.{IsRecord}
-use Rattle.xh_records.specs.Showing.{IsLotOf}
-use Rattle.xh_place.specs.inner.Lists.{lens}
+use Rattle.xh_place.proofs.Common.{drop_more, take_more, arith, ◌≡◌, ℕ, ◌<◌, ◌+◌, ◌∙◌, refl, ap, subst, sym, length, take, drop, get_or, ◌∷◌, inl, Some, Among, value_at, past, IsRecord, IsLotOf}
+use Rattle.xh_place.proofs.Common.{lens, among_get, lens_none, starts_more}
 use Rattle.xh_place.proofs.Givens.{IsPassing, passed_bytes, passing}
-use Rattle.xh_place.proofs.Listing.{among_get, lens_none}
-use Rattle.xh_place.proofs.Seeing.{starts_more}
 use Rattle.xh_place.proofs.giving.pass_all.Goals as goal
 
 pub pass_block-requires : goal.pass_block-requires

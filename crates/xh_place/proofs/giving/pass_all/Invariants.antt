@@ -1,8 +1,5 @@
-use Rattle.std.proofs.Common.{◌≡◌, ◌+◌, ◌*◌, ◌≤◌, take, drop}
-use Rattle.xh_place.specs.inner.Lots.{SeatSeesMore}
+use Rattle.xh_place.proofs.Common.{◌≡◌, ◌+◌, ◌*◌, ◌≤◌, take, drop, SeatSeesMore, value_at, lens}
 use Rattle.xh_place.proofs.Givens.{IsPassing}
-use Rattle.xh_model.specs.Keyed.{value_at}
-use Rattle.xh_place.specs.inner.Lists.{lens}
 use Rattle.xh_place.proofs.giving.pass_all.Given as goal
 
 abbrev pub invariant-loop-k : goal.invariant-loop-k

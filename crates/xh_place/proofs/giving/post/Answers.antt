@@ -1,25 +1,12 @@
-use Rattle.std.proofs.Common.{rules, ◌≡◌, ◌≢◌, ℕ, ◌+◌, ◌*◌, ◌-◌, List, sym, ap, ◌∙◌, subst}
-use Rattle.std.specs.Prelude.{Some}
-use Rattle.xh_model.specs.Keyed.{Among, value_at, put}
-use Rattle.xh_model.proofs.Keyed.{put_at, put_other}
-use Rattle.xh_records.specs.Showing.{IsLotOf}
-use Rattle.xh_records.specs.Seats.{Held, with_lots}
-use Rattle.xh_place.specs.Moves.{passed_on}
-use Rattle.xh_place.specs.inner.Lots.{LotDoes, bare, with_done}
-use Rattle.xh_place.specs.declared.body.Body.{Body}
-use Rattle.xh_channel.specs.Queues.{Posted}
-use Rattle.xh_place.specs.Endpoints.{Puts}
-use Rattle.xh_place.specs.Places.{IsBlock}
-use Rattle.xh_place.specs.inner.Lists.{lens}
+use Rattle.xh_place.proofs.Common.{rules, ◌≡◌, ◌≢◌, ℕ, ◌+◌, ◌*◌, ◌-◌, List, sym, ap, ◌∙◌, subst, Some, Among, value_at, put, put_at, put_other, IsLotOf, Held, with_lots, passed_on, LotDoes, bare}
+use Rattle.xh_place.proofs.Common.{with_done, Body, Posted, Puts, IsBlock, lens, starts_more, starts_same}
 use Rattle.xh_place.proofs.Ends.{still_block}
-use Rattle.xh_place.proofs.Found.{unmoved}
-use Rattle.xh_place.proofs.Seeing.{starts_more, starts_same}
-use Rattle.xh_place.proofs.giving.post.Goals as goal
 use Rattle.xh_place.proofs.giving.post.Goals.{After-pass_all-bytes}
+use Rattle.xh_place.proofs.giving.post.Goals as goal
 
 pub pass_all-bytes-requires-clause-held : goal.pass_all-bytes-requires-clause-held
 pass_all-bytes-requires-clause-held g c = λ r a.
-    let q = c.requires.end in let same = unmoved c.args.seat.now c.spot_at-spot.new.seat c.args.e q.0 q.1 (c.spot_at-spot.ensures.seat q.0 q.1).1 in
+    let q = c.requires.end in let same = c.spot_at-spot.ensures.same in
     let h = c.requires.held r (subst (λ l. Among l r) c.as_slice.ensures.value a) in
     (h.0, ap (λ z. value_at r z.lots) same ∙ h.1, subst (λ s. IsBlock s r h.0) (sym (ap (λ z. z.shape) same)) h.2)
 
@@ -29,7 +16,7 @@ there g c same = c.pass_all-bytes.ensures.others c.args.e (λ a. c.requires.dist
 
 pub put_at-put-requires-clause-held : goal.put_at-put-requires-clause-held
 put_at-put-requires-clause-held g c =
-    let q = c.requires.end in let same = unmoved c.args.seat.now c.spot_at-spot.new.seat c.args.e q.0 q.1 (c.spot_at-spot.ensures.seat q.0 q.1).1 in
+    let q = c.requires.end in let same = c.spot_at-spot.ensures.same in
     let at = there g (goal.at.put_at-put-requires-clause-held g c).After-pass_all-bytes same in
     (q.0, at, subst (λ s. IsLotOf s c.args.e q.0) (sym (ap (λ h. h.shape) c.pass_all-bytes.ensures.passed ∙ ap (λ h. h.shape) same)) q.2.lot, q.3)
 
@@ -37,7 +24,7 @@ pub returns : goal.returns
 returns g c =
     let q = c.requires.end in let seat = c.args.seat.now in let look = c.spot_at-spot.new.seat in let gone = c.pass_all-bytes.new.seat in let pass = c.pass_all-bytes.ensures in
     let value = c.as_slice.ensures.value in
-    let same = unmoved seat look c.args.e q.0 q.1 (c.spot_at-spot.ensures.seat q.0 q.1).1 in let at = there g (goal.at.returns g c).After-pass_all-bytes same in
+    let same = c.spot_at-spot.ensures.same in let at = there g (goal.at.returns g c).After-pass_all-bytes same in
     let k = c.put_at-put.ensures q.0 at in let m = k.0 in
     let d : ℕ = 2 * c.spot_at-spot.result.channel + 1 - c.spot_at-spot.result.side in
     let after : Held Body → List ℕ → Held Body = λ h rs. bare (with_done (passed_on h.process d rs) h) in

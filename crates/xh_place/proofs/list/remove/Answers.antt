@@ -1,8 +1,4 @@
-use Rattle.std.proofs.Common.{arith, ◌-◌, ◌<◌, ℕ, ◌∙◌, sym, ap, subst, length}
-use Rattle.xh_model.specs.Keyed.{Among, Distinct}
-use Rattle.xh_model.proofs.Keyed.{past}
-use Rattle.xh_place.specs.inner.Lists.{less}
-use Rattle.xh_place.proofs.Listing.{less_absent, removed_number}
+use Rattle.xh_place.proofs.Common.{arith, ◌-◌, ◌<◌, ℕ, ◌∙◌, sym, ap, subst, length, Among, Distinct, past, less, less_absent, removed_number}
 use Rattle.xh_place.proofs.list.remove.Goals as goal
 
 pub returns-then-index-r-clause-items : goal.returns-then-index-r-clause-items

@@ -1,9 +1,4 @@
-use Rattle.std.proofs.Common.{◌≡◌, drop}
-use Rattle.std.specs.Prelude.{◌==◌}
-use Rattle.std.specs.List.{list_any}
-use Rattle.std.specs.Vec.{vec_capacity}
-use Rattle.xh_model.specs.Keyed.{Distinct}
-use Rattle.xh_place.specs.inner.Lists.{less_all}
+use Rattle.xh_place.proofs.Common.{◌≡◌, drop, ◌==◌, list_any, vec_capacity, Distinct, less_all}
 use Rattle.xh_place.proofs.list.settle.Given as goal
 
 abbrev pub invariant-loop-k : goal.invariant-loop-k

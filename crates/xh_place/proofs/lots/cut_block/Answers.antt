@@ -1,16 +1,9 @@
-use Rattle.std.proofs.Common.{◌≡◌, ℕ, ◌-◌, ◌/◌, ◌<◌, length, refl, sym, ap, ◌∙◌, subst, inl}
+use Rattle.xh_place.proofs.Common.{◌≡◌, ℕ, ◌-◌, ◌/◌, ◌<◌, length, refl, sym, ap, ◌∙◌, subst, inl, Some, slice_get, IsRecord, IsCut, Body, Data, claims, vacates, advanced, no_record, starts_more}
+use Rattle.xh_place.proofs.Common.{starts_same, undone}
 use Rattle.std.proofs.Math.Nat.{le_of_lt}
-use Rattle.std.specs.Prelude.{Some, slice_get}
-use Rattle.xh_records.specs.Seats.{IsRecord}
-use Rattle.xh_place.specs.inner.Lots.{IsCut}
-use Rattle.xh_place.specs.declared.body.Body.{Body}
-use Rattle.xh_place.specs.declared.body.Body.TheVariants.{Data}
-use Rattle.xh_place.proofs.Gained.{undone}
-use Rattle.xh_place.proofs.Moves.{claims, vacates}
-use Rattle.xh_place.proofs.Parted.{Cutting, cutting, lent, is_cut}
-use Rattle.xh_place.proofs.Seeing.{advanced, no_record, starts_more, starts_same}
-use Rattle.xh_place.proofs.lots.cut_block.Goals as goal
+use Rattle.xh_place.proofs.Parted.{Cutting, cutting, is_cut}
 use Rattle.xh_place.proofs.lots.cut_block.Goals.{In-Ok, After-rest_of}
+use Rattle.xh_place.proofs.lots.cut_block.Goals as goal
 
 same : {X : Type 0} (x y : X) → Some x ≡ Some y → x ≡ y
 same x y e = cc
@@ -23,7 +16,7 @@ claimed g c =
 
 read : (g : _) (c : After-rest_of g) → Cutting c.args.desk.now.records.now c.args.seat.now c.claim.new.seat c.args.r c.in-Ok.t c.requires.held.0 c.in-Ok.ensures.claimed.0
     → Cutting c.args.desk.now.records.now c.args.seat.now c.rest_of.new.seat c.args.r c.in-Ok.t c.requires.held.0 c.in-Ok.ensures.claimed.0
-read g c k = lent _ c.args.seat.now c.claim.new.seat c.rest_of.new.seat _ _ _ _ k (c.rest_of.ensures _ k.head).1
+read g c k = subst (λ h. Cutting c.args.desk.now.records.now c.args.seat.now h c.args.r c.in-Ok.t c.requires.held.0 c.in-Ok.ensures.claimed.0) (sym c.rest_of.ensures.same) k
 
 pub rest_of-requires-clause-held : goal.rest_of-requires-clause-held
 rest_of-requires-clause-held g c =
@@ -65,7 +58,7 @@ returns-clause-cut g c = λ l here.
     let at = goal.at.returns-clause-cut g c in let j = read g at.After-rest_of (claimed g at.In-Ok) in
     let p = c.part.ensures.parted h.0 t.0 j.head j.tail in let b : Body = Data c.in-Some.buffer in
     let cut = is_cut all seat c.rest_of.new.seat c.part.new.seat r n c.args.k h.0 t.0 p.0 (record t.0 { len = h.0.len - c.args.k; body = b }) b j c.in-Ok.ensures.fresh h.2 t.2
-    (subst (λ s. IsRecord s n) (sym c.requires.own.1) j.exist.1) h.3 h.4 c.in-Ok.ensures.record.0 p.1 p.2 refl (c.in-Some.ensures h.0 (claimed g at.In-Ok).head).0 p.3 in
+    (subst (λ s. IsRecord s n) (sym c.requires.own.1) j.exist.1) h.3 h.4 c.in-Ok.ensures.record.0 p.1 p.2 refl (c.in-Some.ensures.bytes h.0 (claimed g at.In-Ok).head) p.3 in
     subst (λ z. IsCut seat c.part.new.seat r c.args.k z n) (same h.0 l (sym h.1 ∙ here)) cut
 
 pub returns-in_default-clause-why : goal.returns-in_default-clause-why
@@ -75,11 +68,11 @@ pub returns-in_default-rest_of-clause-seen : goal.returns-in_default-rest_of-cla
 returns-in_default-rest_of-clause-seen g c =
     let seat = c.args.seat.now in let mid = c.claim.new.seat in let lent = c.rest_of.new.seat in
     let k = claimed g (goal.at.returns-in_default-rest_of-clause-seen g c).In-Ok in
-    starts_more seat.front (advanced _ seat mid c.in-Ok.ensures.claimed.4) (starts_more mid.front (starts_same (ap (λ h. h.front) (c.rest_of.ensures _ k.head).1)) (advanced _ lent c.vacate.new.seat c.vacate.ensures.vacated.1))
+    starts_more seat.front (advanced _ seat mid c.in-Ok.ensures.claimed.4) (starts_more mid.front (starts_same (ap (λ h. h.front) c.rest_of.ensures.same)) (advanced _ lent c.vacate.new.seat c.vacate.ensures.vacated.1))
 
 pub returns-clause-seen : goal.returns-clause-seen
 returns-clause-seen g c =
     let h = c.requires.held in let t = c.in-Ok.ensures.claimed in
     let seat = c.args.seat.now in let mid = c.claim.new.seat in let lent = c.rest_of.new.seat in
     let at = goal.at.returns-clause-seen g c in let k = claimed g at.In-Ok in let j = read g at.After-rest_of k in
-    starts_more seat.front (advanced _ seat mid t.4) (starts_more mid.front (starts_same (ap (λ z. z.front) (c.rest_of.ensures _ k.head).1)) (starts_same (ap (λ z. z.front) (c.part.ensures.parted h.0 t.0 j.head j.tail).3)))
+    starts_more seat.front (advanced _ seat mid t.4) (starts_more mid.front (starts_same (ap (λ z. z.front) c.rest_of.ensures.same)) (starts_same (ap (λ z. z.front) (c.part.ensures.parted h.0 t.0 j.head j.tail).3)))

@@ -1,13 +1,5 @@
-use Rattle.std.proofs.Common.{refl, rules, arith, ◌≡◌, ◌+◌, ◌/◌, ◌<◌, get_or, set, ap, ◌∙◌}
-use Rattle.std.specs.Prelude.{Some, slice_get}
-use Rattle.xh_arena.specs.Views.{LotOf}
-use Rattle.xh_model.specs.Keyed.{put, value_at}
-use Rattle.xh_records.specs.Showing.{IsLotOf}
-use Rattle.xh_records.specs.Seats.{with_lots}
-use Rattle.xh_place.specs.declared.body.Body.{Body}
-use Rattle.xh_place.specs.declared.body.Body.TheVariants.{Nothing}
-use Rattle.xh_place.specs.Tallies.{ids_of, gave}
-use Rattle.xh_place.proofs.Counted.{gave_set, ids_set, tallied, tally_is}
+use Rattle.xh_place.proofs.Common.{refl, rules, arith, ◌≡◌, ◌+◌, ◌/◌, ◌<◌, get_or, set, ap, ◌∙◌, Some, slice_get, LotOf, put, value_at, IsLotOf, with_lots, Body, Nothing, ids_of, gave, gave_set}
+use Rattle.xh_place.proofs.Common.{ids_set, tallied, tally_is}
 use Rattle.xh_place.proofs.lots.empty.Goals as goal
 
 pub bounds-desk-from : goal.bounds-desk-from

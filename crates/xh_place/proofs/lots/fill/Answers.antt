@@ -1,14 +1,5 @@
-use Rattle.std.proofs.Common.{refl, rules, arith, ◌≡◌, ◌+◌, ◌/◌, get_or, set, ap, ◌∙◌}
-use Rattle.std.specs.Prelude.{Some, slice_get, OnOk, OnErr}
-use Rattle.std.proofs.lemmas.List.{set-get_or}
-use Rattle.xh_arena.specs.Views.{LotOf}
-use Rattle.xh_model.specs.Keyed.{put, value_at}
-use Rattle.xh_records.specs.Showing.{IsLotOf}
-use Rattle.xh_records.specs.Seats.{with_lots}
-use Rattle.xh_place.specs.declared.body.Body.{Body}
-use Rattle.xh_place.specs.Tallies.{ids_of, took}
-use Rattle.xh_place.proofs.Counted.{ids_set, on_err, on_ok, tallied, tally_is, took_set}
-use Rattle.xh_place.proofs.Found.{unmoved}
+use Rattle.xh_place.proofs.Common.{refl, rules, arith, ◌≡◌, ◌+◌, ◌/◌, get_or, set, ap, ◌∙◌, Some, slice_get, OnOk, OnErr, set-get_or, LotOf, put, value_at, IsLotOf, with_lots, Body, ids_of, took}
+use Rattle.xh_place.proofs.Common.{ids_set, on_err_weaker, on_ok_weaker, tallied, tally_is, took_set, unmoved}
 use Rattle.xh_place.proofs.lots.fill.Goals as goal
 
 pub bounds-desk-from : goal.bounds-desk-from
@@ -33,7 +24,7 @@ returns g c =
     → (c.with_lot.new.seat ≡ with_lots c.args.seat.now (put c.args.r l c.args.seat.now.lots)) × (t ≡ get_or ts i d)) = search rules in record {
       same = search rules;
       seat = search rules;
-      taken = on_ok c.with_lot.result (λ e. took_set ts i c.args.n d t inside e ∙ ap (λ a. took a c.args.n ts) c.from.ensures) done;
-      refused = on_err c.with_lot.result (λ f. (unmoved c.args.seat.now c.with_lot.new.seat c.args.r h.0 h.1 (f h.0 h.1).0, ap (set ts i) (f h.0 h.1).1 ∙ set-get_or ts i d)) undone;
+      taken = on_ok_weaker c.with_lot.result (λ e. took_set ts i c.args.n d t inside e ∙ ap (λ a. took a c.args.n ts) c.from.ensures) done;
+      refused = on_err_weaker c.with_lot.result (λ f. (unmoved c.args.seat.now c.with_lot.new.seat c.args.r h.0 h.1 (f h.0 h.1).0, ap (set ts i) (f h.0 h.1).1 ∙ set-get_or ts i d)) undone;
       why = search rules;
     }

@@ -1,12 +1,4 @@
-use Rattle.std.proofs.Common.{rules, refl, ap, ◌∙◌}
-use Rattle.xh_model.specs.Keyed.{value_at, without}
-use Rattle.xh_model.proofs.Keyed.{put_at, put_without}
-use Rattle.xh_records.specs.Seats.{with_lots}
-use Rattle.xh_place.specs.inner.Lots.{bare}
-use Rattle.xh_place.specs.declared.body.Body.TheVariants.{Nothing}
-use Rattle.xh_place.proofs.Desks.{still_at}
-use Rattle.xh_place.proofs.Moves.{vacates}
-use Rattle.xh_place.proofs.Seeing.{advanced, starts_more, starts_same}
+use Rattle.xh_place.proofs.Common.{rules, refl, ap, ◌∙◌, value_at, without, put_at, put_without, with_lots, bare, Nothing, vacates, advanced, starts_more, starts_same, still_at}
 use Rattle.xh_place.proofs.lots.give_up.Goals as goal
 
 pub vacate-requires : goal.vacate-requires

@@ -1,9 +1,4 @@
-use Rattle.std.proofs.Common.{rules, sym, ap, ◌∙◌, subst}
-use Rattle.std.specs.Prelude.{Some}
-use Rattle.xh_model.specs.declared.event.Holder.TheVariants.{Process}
-use Rattle.xh_model.specs.Words.{word_of}
-use Rattle.xh_records.specs.Seats.{IsRecord}
-use Rattle.xh_place.proofs.Holding.{word_holds}
+use Rattle.xh_place.proofs.Common.{rules, sym, ap, ◌∙◌, subst, Some, Process, word_of, IsRecord, word_holds}
 use Rattle.xh_place.proofs.lots.holds.Goals as goal
 
 pub returns-clause-holds : goal.returns-clause-holds

@@ -1,11 +1,6 @@
-use Rattle.std.proofs.Common.{rules, ℕ, refl, sym, ap, ◌∙◌, replicate, subst, ◌++◌, ◌∷◌, []}
-use Rattle.std.proofs.lemmas.List.{length-replicate}
-use Rattle.xh_records.specs.Seats.{IsRecord}
-use Rattle.xh_place.specs.inner.Lots.{HasNow, bare}
-use Rattle.xh_place.specs.Bodies.{bytes}
-use Rattle.xh_place.proofs.Gained.{has, undone, changed, lot_is, fits_bytes}
-use Rattle.xh_place.proofs.Moves.{claims, vacates}
-use Rattle.xh_place.proofs.Seeing.{advanced, no_record, starts_more, starts_same}
+use Rattle.xh_place.proofs.Common.{rules, ℕ, refl, sym, ap, ◌∙◌, replicate, subst, ◌++◌, ◌∷◌, [], length-replicate, IsRecord, HasNow, bare, bytes, claims, vacates, advanced, no_record, starts_more}
+use Rattle.xh_place.proofs.Common.{starts_same, has, undone}
+use Rattle.xh_place.proofs.Gained.{changed, lot_is, fits_bytes}
 use Rattle.xh_place.proofs.lots.make_block.Goals as goal
 
 pub vacate-requires-clause-held : goal.vacate-requires-clause-held

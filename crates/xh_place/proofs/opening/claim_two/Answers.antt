@@ -1,12 +1,5 @@
-use Rattle.std.proofs.Common.{◌≡◌, ℕ, ◌<◌, ◌%◌, length, [], ◌∷◌, ◌++◌, append_assoc, inl, sym, ap, ◌∙◌, subst}
-use Rattle.xh_model.specs.Keyed.{Among, keys, value_at, without}
-use Rattle.xh_model.proofs.Keyed.{among_back, among_front, keys_push}
-use Rattle.xh_records.specs.Showing.{IsLotOf}
-use Rattle.xh_records.specs.Seats.{with_lots}
-use Rattle.xh_place.specs.inner.Lots.{bare}
-use Rattle.xh_place.proofs.Moves.{claims, vacates}
-use Rattle.xh_place.proofs.Gained.{has, undone}
-use Rattle.xh_place.proofs.Seeing.{advanced, full_later, no_record}
+use Rattle.xh_place.proofs.Common.{◌≡◌, ℕ, ◌<◌, ◌%◌, length, [], ◌∷◌, ◌++◌, append_assoc, inl, sym, ap, ◌∙◌, subst, Among, keys, value_at, without, among_back, among_front, keys_push, IsLotOf}
+use Rattle.xh_place.proofs.Common.{with_lots, bare, claims, vacates, advanced, full_later, no_record, has, undone}
 use Rattle.xh_place.proofs.opening.claim_two.Goals as goal
 
 pub vacate-requires-clause-held : goal.vacate-requires-clause-held

@@ -1,14 +1,5 @@
-use Rattle.std.proofs.Common.{refl, rules, arith, ◌≡◌, ◌+◌, ◌/◌, get_or, set, ap, ◌∙◌}
-use Rattle.std.specs.Prelude.{Some, slice_get, OnOk, OnErr}
-use Rattle.std.proofs.lemmas.List.{set-get_or}
-use Rattle.xh_arena.specs.Views.{LotOf}
-use Rattle.xh_model.specs.Keyed.{put, value_at}
-use Rattle.xh_model.proofs.Keyed.{put_same}
-use Rattle.xh_records.specs.Showing.{IsLotOf}
-use Rattle.xh_records.specs.Seats.{with_lots}
-use Rattle.xh_place.specs.declared.body.Body.{Body}
-use Rattle.xh_place.specs.Tallies.{ids_of, took}
-use Rattle.xh_place.proofs.Counted.{ids_set, on_err, on_ok, tallied, tally_is, took_set}
+use Rattle.xh_place.proofs.Common.{refl, rules, arith, ◌≡◌, ◌+◌, ◌/◌, get_or, set, ap, ◌∙◌, Some, slice_get, OnOk, OnErr, set-get_or, LotOf, put, value_at, put_same, IsLotOf, with_lots, Body}
+use Rattle.xh_place.proofs.Common.{ids_of, took, ids_set, on_err_weaker, on_ok_weaker, tallied, tally_is, took_set}
 use Rattle.xh_place.proofs.opening.halve.Goals as goal
 
 pub bounds-desk-from : goal.bounds-desk-from
@@ -35,8 +26,8 @@ returns g c =
     × (c.with_two.new.f.3.now ≡ c.args.first.now) × (c.with_two.new.f.4.now ≡ c.args.second.now)) = search rules in record {
       same = search rules;
       halved = search rules;
-      taken = on_ok c.with_two.result (λ e. took_set ts i 64 d t inside e ∙ ap (λ a. took a 64 ts) c.from.ensures) done;
-      refused = on_err c.with_two.result (λ f. let e = f l m h.first.0 h.second.0 in let first : c.with_two.new.f.3.now ≡ c.args.first.now = e.2 in let second : c.with_two.new.f.4.now ≡ c.args.second.now = e.3 in (
+      taken = on_ok_weaker c.with_two.result (λ e. took_set ts i 64 d t inside e ∙ ap (λ a. took a 64 ts) c.from.ensures) done;
+      refused = on_err_weaker c.with_two.result (λ f. let e = f l m h.first.0 h.second.0 in let first : c.with_two.new.f.3.now ≡ c.args.first.now = e.2 in let second : c.with_two.new.f.4.now ≡ c.args.second.now = e.3 in (
         e.0 ∙ ap (with_lots c.args.seat.now) (ap (put c.args.pair.1 m) (put_same c.args.pair.0 l lots h.first.0) ∙ put_same c.args.pair.1 m lots h.second.0),
         ap (set ts i) e.1 ∙ set-get_or ts i d,
         search rules,

@@ -1,12 +1,5 @@
-use Rattle.std.proofs.Common.{arith, ◌≡◌, ℕ, refl, sym, ap, ◌∙◌, subst}
-use Rattle.std.specs.Prelude.{Some, slice_get}
-use Rattle.xh_model.specs.Keyed.{put, value_at, without}
-use Rattle.xh_records.specs.Showing.{IsLotOf}
-use Rattle.xh_records.specs.Seats.{IsRecord, with_lots}
-use Rattle.xh_place.specs.declared.body.Body.TheVariants.{End}
-use Rattle.xh_place.specs.inner.Lots.{bare}
-use Rattle.xh_place.proofs.Opened.{both_gone, both_put, has_first, has_other}
-use Rattle.xh_place.proofs.Seeing.{starts_more, starts_same}
+use Rattle.xh_place.proofs.Common.{arith, ◌≡◌, ℕ, refl, sym, ap, ◌∙◌, subst, Some, slice_get, put, value_at, without, IsLotOf, IsRecord, with_lots, End, bare, starts_more, starts_same}
+use Rattle.xh_place.proofs.Gained.{both_gone, both_put, has_first, has_other}
 use Rattle.xh_place.proofs.opening.make_ends.Goals as goal
 
 pub fit_ends-fitted-requires-clause-held : goal.fit_ends-fitted-requires-clause-held

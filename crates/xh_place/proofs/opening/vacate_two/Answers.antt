@@ -1,8 +1,4 @@
-use Rattle.std.proofs.Common.{ap, ◌∙◌}
-use Rattle.xh_model.specs.Keyed.{value_at, without}
-use Rattle.xh_model.proofs.Keyed.{without_other}
-use Rattle.xh_records.specs.Seats.{with_lots}
-use Rattle.xh_place.proofs.Moves.{vacates}
+use Rattle.xh_place.proofs.Common.{ap, ◌∙◌, value_at, without, without_other, with_lots, vacates}
 use Rattle.xh_place.proofs.opening.vacate_two.Goals as goal
 
 pub vacate-requires-2-clause-held : goal.vacate-requires-2-clause-held

@@ -1,14 +1,5 @@
-use Rattle.std.proofs.Common.{rules, arith, ◌≡◌, ◌<◌, [], ◌∷◌, ◌++◌, length, refl, sym, ap, ◌∙◌, true}
-use Rattle.std.specs.Prelude.{Err}
-use Rattle.std.specs.Vec.{vec_capacity}
-use Rattle.xh_model.specs.declared.event.Event.{Event}
-use Rattle.xh_model.specs.declared.event.Event.TheVariants.{Accept}
-use Rattle.xh_core.specs.Statuses.{is_over}
-use Rattle.xh_place.specs.Places.{item_of, with_blocks, with_moved}
-use Rattle.xh_place.proofs.Moves.{heard, heard_shows}
-use Rattle.xh_place.proofs.Steps.{block_small, list_room, total_bound, stays, won}
-use Rattle.xh_place.proofs.Seeing.{placed, place_saw}
-use Rattle.xh_place.proofs.Shown.{block_whole}
+use Rattle.xh_place.proofs.Common.{rules, arith, ◌≡◌, ◌<◌, [], ◌∷◌, ◌++◌, length, refl, sym, ap, ◌∙◌, true, Err, vec_capacity, Event, Accept, is_over, item_of, with_blocks, with_moved, heard}
+use Rattle.xh_place.proofs.Common.{heard_shows, block_small, list_room, total_bound, stays, won, placed, place_saw, block_whole}
 use Rattle.xh_place.proofs.place.Place.accept.Goals as goal
 
 pub push_reserved-requires : goal.push_reserved-requires

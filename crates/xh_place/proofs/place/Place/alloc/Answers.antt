@@ -1,14 +1,6 @@
-use Rattle.std.proofs.Common.{rules, arith, ◌≡◌, ℕ, ◌<◌, [], ◌∷◌, ◌++◌, length, sym, ap, ◌∙◌, subst}
-use Rattle.std.specs.Vec.{vec_capacity}
-use Rattle.xh_place.proofs.Steps.{block_small, list_room, total_bound, over_running, stays, won}
-use Rattle.xh_place.proofs.Seeing.{placed}
-use Rattle.xh_place.specs.Seen.{SawFull}
+use Rattle.xh_place.proofs.Common.{rules, arith, ◌≡◌, ℕ, ◌<◌, [], ◌∷◌, ◌++◌, length, sym, ap, ◌∙◌, subst, vec_capacity, SawFull, Err, None, IfErr, alloc_tests, first_refusal, Tests, start}
+use Rattle.xh_place.proofs.Common.{block_small, list_room, total_bound, over_running, stays, won, placed, untested}
 use Rattle.xh_place.specs.Vaults.{IsNoBlock}
-use Rattle.std.specs.Prelude.{Err, None, IfErr}
-use Rattle.xh_core.specs.Calls.{alloc_tests}
-use Rattle.xh_core.specs.Refusing.{first_refusal, Tests}
-use Rattle.xh_place.specs.Starts.{start}
-use Rattle.xh_place.proofs.Ended.{untested}
 use Rattle.xh_core.specs.Space.{rounded}
 use Rattle.xh_place.proofs.place.Place.alloc.Goals as goal
 

@@ -1,10 +1,5 @@
-use Rattle.std.proofs.Common.{rules, ◌≡◌, ℕ, suc, ◌<◌, List, [], ◌∷◌, drop, get_or, length, sym, ap, ◌∙◌, subst}
-use Rattle.xh_model.specs.Keyed.{value_at}
-use Rattle.xh_model.proofs.Keyed.{next}
-use Rattle.xh_place.specs.Bodies.{bytes}
-use Rattle.xh_place.specs.Places.{Item, shown}
-use Rattle.xh_place.proofs.Listing.{get_at, key_at, shown_keys, shown_long}
-use Rattle.xh_place.proofs.Seeing.{placed}
+use Rattle.xh_place.proofs.Common.{rules, ◌≡◌, ℕ, suc, ◌<◌, List, [], ◌∷◌, drop, get_or, length, sym, ap, ◌∙◌, subst, value_at, next, bytes, Item, shown, get_at, key_at, shown_keys, shown_long}
+use Rattle.xh_place.proofs.Common.{placed}
 use Rattle.xh_place.proofs.place.Place.at.Goals as goal
 
 pub index-requires : goal.index-requires

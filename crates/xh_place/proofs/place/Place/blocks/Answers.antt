@@ -1,9 +1,4 @@
-use Rattle.std.proofs.Common.{sym, ◌∙◌, ap, subst}
-use Rattle.xh_place.specs.Places.{AreBlocks}
-use Rattle.xh_model.specs.Keyed.{keys}
-use Rattle.xh_place.proofs.Listing.{shown_keys}
-use Rattle.xh_place.proofs.Shown.{are_blocks}
-use Rattle.xh_place.proofs.Seeing.{placed}
+use Rattle.xh_place.proofs.Common.{sym, ◌∙◌, ap, subst, AreBlocks, keys, shown_keys, placed, are_blocks}
 use Rattle.xh_place.proofs.place.Place.blocks.Goals as goal
 
 pub returns-clause-list : goal.returns-clause-list

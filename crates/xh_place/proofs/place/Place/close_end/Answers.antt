@@ -1,13 +1,5 @@
-use Rattle.std.proofs.Common.{arith, ◌≡◌, ℕ, ◌+◌, ◌-◌, length, length-append, refl, sym, subst, ap, ◌∙◌, ◌++◌}
-use Rattle.xh_core.specs.Calls.{reclaimed, end_tests}
-use Rattle.xh_model.specs.declared.limits.TheConstants.{MAX_BUDGET}
-use Rattle.xh_model.specs.Keyed.{value_at, without}
-use Rattle.xh_place.specs.Ending.{IsSwept, alone, last, HasGivenBack, IsClosed}
-use Rattle.xh_place.specs.Places.{PlaceOf, with_blocks, with_list, found}
-use Rattle.xh_place.specs.Seen.{IsSeen}
-use Rattle.xh_place.proofs.Ended.{unrefused}
-use Rattle.xh_place.proofs.Seeing.{seen_wide, starts_same, starts_more, swept_as}
-use Rattle.xh_place.specs.Starts.{start}
+use Rattle.xh_place.proofs.Common.{arith, ◌≡◌, ℕ, ◌+◌, ◌-◌, length, length-append, refl, sym, subst, ap, ◌∙◌, ◌++◌, reclaimed, end_tests, MAX_BUDGET, value_at, without, IsSwept, alone, last}
+use Rattle.xh_place.proofs.Common.{HasGivenBack, IsClosed, PlaceOf, with_blocks, with_list, found_at, IsSeen, start, seen_wide, starts_same, starts_more, swept_as, unrefused}
 use Rattle.xh_place.proofs.place.Place.close_end.Goals as goal
 
 pub returns-clause-closed : goal.returns-clause-closed
@@ -18,13 +10,13 @@ returns-clause-closed g c =
     let moved : turned.place ≡ begun = c.move_last.ensures.0 ∙ ap (λ p. with_blocks p (last e p.blocks)) same.0 in
     let long : length turned.place.blocks ≡ ahead + 1 = ap (λ p. length p.blocks) moved
     ∙ length-append (without e old.place.blocks) (alone e (value_at e old.place.blocks)) ∙ ap (λ o. ahead + length (alone e o)) tested.1.1.1 in
-    let there : from ≡ ahead = omega (arith, c.count-from.ensures, long) in
+    let there : from ≡ ahead = omega (arith, c.count-from.ensures.count, long) in
     let is = c.sweep-bytes.ensures.swept in
     let wide = swept_as (IsSeen turned new) (IsSeen old new)
     (seen_wide turned new old new (ap (λ p. p.shape) moved) (starts_more old.front same.1 c.move_last.ensures.1) (starts_same refl))
     from MAX_BUDGET turned.place new.place bytes left is in
     let swept = subst (λ p. IsSwept (IsSeen old new) from MAX_BUDGET p new.place bytes left) moved wide in
-    unrefused (start old.place.state ++ end_tests (found old.place e)) c.reclaimed.result ((new.place ≡ old.place) × (c.sweep-bytes.new.desk.tallies.now ≡ c.args.desk.now.tallies.now))
+    unrefused (start old.place.state ++ end_tests (found_at old.place e)) c.reclaimed.result ((new.place ≡ old.place) × (c.sweep-bytes.new.desk.tallies.now ≡ c.args.desk.now.tallies.now))
     ((n : ℕ) × IsClosed e old new n c.reclaimed.result × HasGivenBack n c.args.desk.now.tallies.now c.sweep-bytes.new.desk.tallies.now) tested.0 (
       bytes,
       (

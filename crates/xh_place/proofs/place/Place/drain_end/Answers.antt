@@ -1,13 +1,6 @@
-use Rattle.std.proofs.Common.{◌≡◌, sym, ap, ◌∙◌, subst, refl}
-use Rattle.std.specs.Prelude.{Some}
-use Rattle.xh_model.specs.Keyed.{value_at, put}
-use Rattle.xh_model.proofs.Keyed.{put_at}
-use Rattle.xh_place.specs.Ends.{end_block}
-use Rattle.xh_place.specs.inner.Reclaiming.{Clears}
-use Rattle.xh_place.specs.Places.{header_of, entry_of, with_blocks}
+use Rattle.xh_place.proofs.Common.{◌≡◌, sym, ap, ◌∙◌, subst, refl, Some, value_at, put, put_at, end_block, Clears, header_of, entry_of, with_blocks, IsSeen, drains_as, seen_wide, starts_same}
+use Rattle.xh_place.proofs.Common.{starts_more}
 use Rattle.xh_place.proofs.Drained.{cleared, cleared_bytes}
-use Rattle.xh_place.proofs.Seeing.{drains_as, seen_wide, starts_same, starts_more}
-use Rattle.xh_place.specs.Seen.{IsSeen}
 use Rattle.xh_place.proofs.place.Place.drain_end.Goals as goal
 
 pub drain-requires-clause-end : goal.drain-requires-clause-end

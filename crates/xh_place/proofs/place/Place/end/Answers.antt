@@ -1,9 +1,4 @@
-use Rattle.std.proofs.Common.{◌∙◌, ap, subst}
-use Rattle.xh_place.specs.Places.{Lists}
-use Rattle.xh_core.specs.Statuses.{is_over}
-use Rattle.xh_place.proofs.Steps.{holds_nothing}
-use Rattle.xh_place.proofs.Shown.{lists}
-use Rattle.xh_place.proofs.Seeing.{placed}
+use Rattle.xh_place.proofs.Common.{◌∙◌, ap, subst, Lists, is_over, holds_nothing, placed, lists}
 use Rattle.xh_place.proofs.place.Place.end.Goals as goal
 
 pub returns-in-Vacant-clause-nothing : goal.returns-in-Vacant-clause-nothing

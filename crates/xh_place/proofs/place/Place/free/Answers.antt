@@ -1,6 +1,4 @@
-use Rattle.std.proofs.Common.{ap, ◌∙◌}
-use Rattle.xh_model.specs.Keyed.{value_at}
-use Rattle.xh_place.proofs.Found.{entry_some}
+use Rattle.xh_place.proofs.Common.{ap, ◌∙◌, value_at, entry_some}
 use Rattle.xh_place.proofs.place.Place.free.Goals as goal
 
 pub give_up-requires-clause-listed : goal.give_up-requires-clause-listed

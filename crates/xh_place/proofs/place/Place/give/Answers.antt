@@ -1,16 +1,7 @@
-use Rattle.std.proofs.Common.{◌≡◌, ℕ, sym, subst, rules, ◌++◌, ◌∙◌}
-use Rattle.xh_model.specs.Keyed.{Among, Distinct, value_at}
-use Rattle.std.specs.Prelude.{Some, None}
-use Rattle.xh_place.specs.Places.{Item, found as found_at}
-use Rattle.xh_place.proofs.GiveTests.{fine}
-use Rattle.xh_core.specs.Calls.{end_tests, given_tests}
-use Rattle.xh_core.specs.Refusing.{first_refusal, Tests}
-use Rattle.xh_place.specs.Messages.{IsSent, is_listed}
-use Rattle.xh_place.specs.Seen.{Stays}
-use Rattle.xh_place.specs.Starts.{start}
+use Rattle.xh_place.proofs.Common.{◌≡◌, ℕ, sym, subst, rules, ◌++◌, ◌∙◌, Among, Distinct, value_at, Some, None, Item, found_at, end_tests, given_tests, first_refusal, Tests, IsSent, is_listed}
+use Rattle.xh_place.proofs.Common.{Stays, start, starts_more, unrefused}
+use Rattle.xh_place.proofs.Givens.{fine}
 use Rattle.xh_place.proofs.Drained.{sent_from}
-use Rattle.xh_place.proofs.Ended.{unrefused}
-use Rattle.xh_place.proofs.Seeing.{starts_more}
 use Rattle.xh_place.proofs.place.Place.give.Goals as goal
 
 pub send-requires-clause-given : goal.send-requires-clause-given

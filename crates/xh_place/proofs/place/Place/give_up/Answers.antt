@@ -1,15 +1,7 @@
-use Rattle.std.proofs.Common.{refl, arith, ◌≡◌, ℕ, ◌+◌, ◌/◌, ◌<◌, length, sym, ap, ◌∙◌, subst}
+use Rattle.xh_place.proofs.Common.{refl, arith, ◌≡◌, ℕ, ◌+◌, ◌/◌, ◌<◌, length, sym, ap, ◌∙◌, subst, Distinct, keys, without, HasGivenBack, Item, entry_of, total_of, gave, tallied, found}
+use Rattle.xh_place.proofs.Common.{total_without, enough, list_distinct, lost, placed, since}
 use Rattle.xh_core.specs.Headers.{len_in}
-use Rattle.xh_model.specs.Keyed.{Distinct, keys, without}
-use Rattle.xh_place.specs.Ending.{HasGivenBack}
-use Rattle.xh_place.specs.Places.{Item, entry_of, total_of}
-use Rattle.xh_place.proofs.Counted.{tallied}
 use Rattle.xh_place.proofs.Swept.{gave_some}
-use Rattle.xh_place.specs.Tallies.{gave}
-use Rattle.xh_place.proofs.Found.{found}
-use Rattle.xh_place.proofs.Listing.{total_without}
-use Rattle.xh_place.proofs.Steps.{enough, list_distinct, lost}
-use Rattle.xh_place.proofs.Seeing.{placed, since}
 use Rattle.xh_place.proofs.place.Place.give_up.Goals as goal
 
 pub remove-requires : goal.remove-requires

@@ -1,8 +1,4 @@
-use Rattle.std.proofs.Common.{ap, ◌∙◌}
-use Rattle.std.specs.Prelude.{is_some}
-use Rattle.xh_model.specs.Keyed.{value_at}
-use Rattle.xh_place.proofs.Steps.{held_is, held_record, stays}
-use Rattle.xh_place.proofs.Seeing.{placed}
+use Rattle.xh_place.proofs.Common.{ap, ◌∙◌, is_some, value_at, held_is, held_record, stays, placed}
 use Rattle.xh_place.proofs.place.Place.has.Goals as goal
 
 pub holds-requires-clause-exist : goal.holds-requires-clause-exist

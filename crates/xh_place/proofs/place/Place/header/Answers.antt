@@ -1,6 +1,5 @@
-use Rattle.std.proofs.Common.{rules, ◌≡◌, true, sym, ap, ◌∙◌}
-use Rattle.xh_model.specs.Keyed.{value_at}
-use Rattle.xh_place.proofs.GiveTests.{some_of}
+use Rattle.xh_place.proofs.Common.{rules, ◌≡◌, true, sym, ap, ◌∙◌, value_at}
+use Rattle.xh_place.proofs.Givens.{some_of}
 use Rattle.xh_place.proofs.place.Place.header.Goals as goal
 
 pub look-requires-clause-listed : goal.look-requires-clause-listed

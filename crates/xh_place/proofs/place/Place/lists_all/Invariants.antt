@@ -1,7 +1,4 @@
-use Rattle.std.proofs.Common.{◌≡◌, take, true}
-use Rattle.std.specs.List.{list_all}
-use Rattle.xh_place.specs.Messages.{is_listed}
-use Rattle.xh_place.specs.Seen.{Stays}
+use Rattle.xh_place.proofs.Common.{◌≡◌, take, true, list_all, is_listed, Stays}
 use Rattle.xh_place.proofs.place.Place.lists_all.Given as goal
 
 abbrev pub invariant-loop-r : goal.invariant-loop-r

@@ -1,13 +1,5 @@
-use Rattle.std.proofs.Common.{rules, arith, ◌≡◌, ℕ, suc, ◌<◌, List, [], ◌∷◌, ◌++◌, length, sym, ap, ◌∙◌, refl}
-use Rattle.std.specs.Vec.{vec_capacity}
-use Rattle.xh_model.specs.Keyed.{without}
-use Rattle.xh_model.proofs.Keyed.{length-keys}
-use Rattle.xh_place.specs.inner.Lists.{less}
-use Rattle.xh_place.specs.Places.{Item, shown}
-use Rattle.xh_place.proofs.Last.{moved_last, without_long}
-use Rattle.xh_place.proofs.Listing.{keys_without, shown_keys}
-use Rattle.xh_place.proofs.Steps.{count_room, list_distinct, listed}
-use Rattle.xh_place.proofs.Seeing.{placed, starts_same, since}
+use Rattle.xh_place.proofs.Common.{rules, arith, ◌≡◌, ℕ, suc, ◌<◌, List, [], ◌∷◌, ◌++◌, length, sym, ap, ◌∙◌, refl, vec_capacity, without, length-keys, less, Item, shown, keys_without, shown_keys}
+use Rattle.xh_place.proofs.Common.{count_room, list_distinct, listed, placed, starts_same, since, moved_last, without_long}
 use Rattle.xh_place.proofs.place.Place.move_last.Goals as goal
 
 pub remove-requires : goal.remove-requires

@@ -1,16 +1,7 @@
-use Rattle.std.proofs.Common.{rules, arith, ◌≡◌, ℕ, ◌+◌, ◌<◌, List, [], ◌∷◌, ◌++◌, length, refl, sym, ap, ◌∙◌, subst}
-use Rattle.std.specs.Vec.{vec_capacity}
-use Rattle.xh_place.specs.Places.{with_blocks}
-use Rattle.xh_place.proofs.Opened.{both_listed, opened, room_second}
-use Rattle.xh_place.proofs.Steps.{list_room, over_running, stays, total_bound}
-use Rattle.xh_place.proofs.Seeing.{placed}
-use Rattle.std.specs.Prelude.{Err, None, IfErr, OnOk}
-use Rattle.xh_core.specs.Calls.{arena_tests}
-use Rattle.xh_core.specs.Refusing.{first_refusal, Tests}
-use Rattle.xh_place.specs.Starts.{start}
-use Rattle.xh_place.specs.Seen.{SawFull}
+use Rattle.xh_place.proofs.Common.{rules, arith, ◌≡◌, ℕ, ◌+◌, ◌<◌, List, [], ◌∷◌, ◌++◌, length, refl, sym, ap, ◌∙◌, subst, vec_capacity, with_blocks, Err, None, IfErr, OnOk, arena_tests}
+use Rattle.xh_place.proofs.Common.{first_refusal, Tests, start, SawFull, list_room, over_running, stays, total_bound, placed, untested}
 use Rattle.xh_place.specs.Vaults.{IsNoPair}
-use Rattle.xh_place.proofs.Ended.{untested}
+use Rattle.xh_place.proofs.Gained.{both_listed, opened, room_second}
 use Rattle.xh_place.proofs.place.Place.open.Goals as goal
 
 pub push_reserved-requires : goal.push_reserved-requires

@@ -1,7 +1,4 @@
-use Rattle.xh_place.specs.Endpoints.{Takes}
-use Rattle.xh_place.proofs.Seeing.{placed}
-use Rattle.xh_place.proofs.Found.{own_record}
-use Rattle.xh_place.proofs.Ends.{end_held, end_did}
+use Rattle.xh_place.proofs.Common.{Takes, placed, own_record, end_held, end_did}
 use Rattle.xh_place.proofs.place.Place.pop.Goals as goal
 
 pub take_at-requires : goal.take_at-requires

@@ -1,7 +1,4 @@
-use Rattle.std.proofs.Common.{rules, ◌+◌, ◌≤◌, length, sym, ap, ◌∙◌, subst}
-use Rattle.xh_place.specs.Bodies.{kind_of, part}
-use Rattle.xh_place.proofs.Found.{found, looked_at, own_record}
-use Rattle.xh_place.proofs.Seeing.{placed, starts_same, since, starts_more}
+use Rattle.xh_place.proofs.Common.{rules, ◌+◌, ◌≤◌, length, sym, ap, ◌∙◌, subst, kind_of, part, found, own_record, placed, starts_same, since, starts_more}
 use Rattle.xh_place.proofs.place.Place.read.Goals as goal
 
 pub read_lot-requires : goal.read_lot-requires
@@ -11,16 +8,11 @@ read_lot-requires c =
       held = (f.lot, f.held, f.block.lot, (ap (λ x. kind_of x.content) f.same ∙ q.2, f.block.full.1, f.block.full.0), subst (λ x. c.args.at + length c.args.out.now ≤ x.len) (sym f.same) q.3);
     }
 
-pub invariant_of-self : goal.invariant_of-self
-invariant_of-self c =
-    let v = placed c.self.view_is ∙ c.in_ok-test_range.ensures.same.0 in
-    (looked_at c.self.inside.list.items c.self.invariant v c.read_lot.new.seat c.args.r c.in_ok-test_range.ensures.tested.1.1 (λ l h. (c.read_lot.ensures l h).1)).0
-
 pub returns : goal.returns
 returns c =
     let q = c.in_ok-test_range.ensures.tested.1 in let v = placed c.self.view_is ∙ c.in_ok-test_range.ensures.same.0 in let f = found c.self.invariant v c.args.r q.1 in
-    let t = looked_at c.self.inside.list.items c.self.invariant v c.read_lot.new.seat c.args.r q.1 (λ l h. (c.read_lot.ensures l h).1) in record {
-      same = (t.1, starts_more c.args.self.now.front c.in_ok-test_range.ensures.same.1 (since c.self.view_is (starts_same t.2)));
-      read = (c.in_ok-test_range.ensures.tested.0, (q.0, q.1, (c.read_lot.ensures f.lot f.held).0 ∙ ap (λ x. part c.args.at (length c.args.out.now) x.content) f.same));
+    let after = since c.self.view_is (starts_same (ap (λ h. h.front) c.read_lot.ensures.same)) in record {
+      same = (rw c.read_lot.ensures.same v, starts_more c.args.self.now.front c.in_ok-test_range.ensures.same.1 after);
+      read = (c.in_ok-test_range.ensures.tested.0, (q.0, q.1, c.read_lot.ensures.bytes f.lot f.held ∙ ap (λ x. part c.args.at (length c.args.out.now) x.content) f.same));
       refused = search rules;
     }

@@ -1,9 +1,5 @@
-use Rattle.std.proofs.Common.{arith, ℕ, ap, ◌∙◌, refl}
-use Rattle.xh_model.specs.Keyed.{put, value_at}
-use Rattle.xh_model.proofs.Keyed.{front_at, put_at}
+use Rattle.xh_place.proofs.Common.{arith, ℕ, ap, ◌∙◌, refl, put, value_at, front_at, put_at, IsSeen, clears_as, seen_wide, starts_same}
 use Rattle.xh_place.proofs.Swept.{swept_clear}
-use Rattle.xh_place.proofs.Seeing.{clears_as, seen_wide, starts_same}
-use Rattle.xh_place.specs.Seen.{IsSeen}
 use Rattle.xh_place.proofs.place.Place.reclaim.Goals as goal
 
 pub give_up-requires-clause-listed : goal.give_up-requires-clause-listed

@@ -1,29 +1,10 @@
-use Rattle.std.proofs.Common.{arith, ◌≡◌, ℕ, ◌+◌, ◌-◌, ◌≤◌, true, List, refl, sym, ap, ◌∙◌, subst}
-use Rattle.std.specs.Prelude.{Some, ◌==◌}
-use Rattle.std.specs.List.{list_any}
-use Rattle.std.specs.Vec.{vec_capacity}
-use Rattle.xh_core.specs.Statuses.{is_running}
-use Rattle.xh_model.specs.declared.event.Event.{Event}
-use Rattle.xh_model.specs.Keyed.{Among, keys, put, value_at}
-use Rattle.xh_place.specs.Bodies.{away, kind_of}
-use Rattle.xh_place.specs.Moves.{there_and_back}
-use Rattle.xh_place.specs.Ends.{away_in, end_block}
-use Rattle.xh_place.specs.inner.Lists.{lens, less_all}
-use Rattle.xh_place.specs.inner.Lots.{with_done}
-use Rattle.xh_place.specs.Places.{Item, item_at, item_in, item_of, shown, with_blocks, with_moved}
-use Rattle.xh_place.specs.Messages.{Answers, settled}
-use Rattle.xh_channel.specs.Queues.{Posted}
-use Rattle.xh_place.specs.Endpoints.{Puts}
+use Rattle.xh_place.proofs.Common.{arith, ◌≡◌, ℕ, ◌+◌, ◌-◌, ◌≤◌, true, List, refl, sym, ap, ◌∙◌, subst, Some, ◌==◌, list_any, vec_capacity, is_running, Event, Among, keys, put, value_at, away}
+use Rattle.xh_place.proofs.Common.{kind_of, there_and_back, away_in, end_block, lens, less_all, with_done, Item, item_at, item_in, item_of, shown, with_blocks, with_moved, Answers, settled, Posted}
+use Rattle.xh_place.proofs.Common.{Puts, all_move, heard, heard_shows, shown_keys, list_distinct, over_running, total_bound, IsNow, placed, place_away, on_err_weaker, all_found, found}
 use Rattle.xh_place.proofs.Ends.{item_now, item_was}
-use Rattle.xh_place.proofs.Moves.{all_move, heard, heard_shows}
-use Rattle.xh_place.proofs.Listing.{shown_keys}
-use Rattle.xh_place.proofs.Settled.{given_place, passed_below, settled_same, shown_look}
-use Rattle.xh_place.proofs.Steps.{list_distinct, over_running, total_bound, IsNow}
-use Rattle.xh_place.proofs.Seeing.{placed, place_away}
-use Rattle.xh_place.proofs.Counted.{on_err}
-use Rattle.xh_place.proofs.Found.{all_found, found}
-use Rattle.xh_place.proofs.place.Place.send.Goals as goal
+use Rattle.xh_place.proofs.Givens.{given_place, passed_below, settled_same, shown_look}
 use Rattle.xh_place.proofs.place.Place.send.Goals.{After-settle}
+use Rattle.xh_place.proofs.place.Place.send.Goals as goal
 
 -- where the place is once the list is settled
 went : (g : _) (c : After-settle g) → let f = found c.self.invariant (placed c.self.view_is) c.args.e c.requires.end.1 in IsNow
@@ -87,7 +68,7 @@ returns-clause-sent g c =
             ∙ (λ i. with_moved (with_blocks old (blocks i)) (log i)),
         (λ r h. a.back.only r (subst (λ ks. Among ks r) (shown_keys last.lots back) h)),
       );
-      lost = on_err c.give_all-put.result.put (λ h r among missed.
+      lost = on_err_weaker c.give_all-put.result.put (λ h r among missed.
           let there = h r among (subst (λ ks. Among ks r → ⊥) (shown_keys last.lots back) missed) in
           place_away seat c.self.view_is last d (away_in (value_at c.args.e old.blocks)) r way there) a.missed;
       answer = subst (λ ks. Answers ks c.give_all-put.result.put c.answer.result) (sym (shown_keys last.lots back)) c.answer.ensures;

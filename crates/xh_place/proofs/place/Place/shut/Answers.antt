@@ -1,7 +1,4 @@
-use Rattle.xh_place.specs.Endpoints.{Shuts}
-use Rattle.xh_place.proofs.Seeing.{placed}
-use Rattle.xh_place.proofs.Found.{own_record}
-use Rattle.xh_place.proofs.Ends.{end_held, end_did}
+use Rattle.xh_place.proofs.Common.{Shuts, placed, own_record, end_held, end_did}
 use Rattle.xh_place.proofs.place.Place.shut.Goals as goal
 
 pub shut_at-requires : goal.shut_at-requires

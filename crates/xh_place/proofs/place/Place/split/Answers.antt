@@ -1,20 +1,8 @@
-use Rattle.std.proofs.Common.{rules, arith, ◌≡◌, ℕ, ◌-◌, ◌<◌, [], ◌∷◌, ◌++◌, length, refl, sym, ap, ◌∙◌, subst, ⊎_elim, inl, inr, ◌/◌}
-use Rattle.std.specs.Vec.{vec_capacity}
-use Rattle.xh_model.specs.Keyed.{put}
-use Rattle.xh_place.specs.Bodies.{front, kind_of, rest}
-use Rattle.xh_place.specs.Places.{found as found_at, with_blocks}
-use Rattle.xh_core.specs.Calls.{split_tests}
-use Rattle.xh_core.specs.Statuses.{is_running}
-use Rattle.xh_place.proofs.Found.{found}
-use Rattle.xh_place.proofs.Parted.{parted, runs}
-use Rattle.xh_place.proofs.Steps.{list_room, over_running, stays}
-use Rattle.xh_place.proofs.Seeing.{placed, fronted, full_wide, starts_same}
-use Rattle.std.specs.Prelude.{Err, IfErr}
-use Rattle.xh_records.specs.History.{StartsWith}
+use Rattle.xh_place.proofs.Common.{rules, arith, ◌≡◌, ℕ, ◌-◌, ◌<◌, [], ◌∷◌, ◌++◌, length, refl, sym, ap, ◌∙◌, subst, ⊎_elim, inl, inr, ◌/◌, vec_capacity, put, front, kind_of, rest, found_at}
+use Rattle.xh_place.proofs.Common.{with_blocks, split_tests, is_running, Err, IfErr, StartsWith, SawFull, start, found, list_room, over_running, stays, placed, fronted, full_wide, starts_same}
+use Rattle.xh_place.proofs.Common.{untested}
 use Rattle.xh_place.specs.Splitting.{IsUncut}
-use Rattle.xh_place.specs.Seen.{SawFull}
-use Rattle.xh_place.proofs.Ended.{untested}
-use Rattle.xh_place.specs.Starts.{start}
+use Rattle.xh_place.proofs.Parted.{parted, runs}
 use Rattle.xh_place.proofs.place.Place.split.Goals as goal
 
 pub cut_block-requires-clause-held : goal.cut_block-requires-clause-held

@@ -1,6 +1,4 @@
-use Rattle.std.proofs.Common.{ap}
-use Rattle.xh_core.specs.Statuses.{is_over}
-use Rattle.xh_place.proofs.Steps.{holds_nothing}
+use Rattle.xh_place.proofs.Common.{ap, is_over, holds_nothing}
 use Rattle.xh_place.proofs.place.Place.start.Goals as goal
 
 pub renew-requires-clause-empty : goal.renew-requires-clause-empty

@@ -1,23 +1,18 @@
-use Rattle.std.proofs.Common.{rules, ◌≡◌, ℕ, ap, ◌∙◌}
-use Rattle.std.specs.Prelude.{None}
-use Rattle.xh_place.specs.Starts.{stop}
-use Rattle.xh_core.specs.Refusing.{first_refusal}
-use Rattle.xh_place.proofs.Ended.{stopped, unrefused}
-use Rattle.xh_place.proofs.Seeing.{seen_wide, swept_as}
-use Rattle.xh_place.specs.Seen.{IsSeen}
+use Rattle.xh_place.proofs.Common.{rules, ◌≡◌, ℕ, ap, ◌∙◌, None, stop, first_refusal, IsSeen, seen_wide, swept_as, unrefused}
+use Rattle.xh_place.proofs.Swept.{stopped}
 use Rattle.xh_place.proofs.place.Place.stop.Goals as goal
 
 pub returns-clause-stopped : goal.returns-clause-stopped
 returns-clause-stopped g c =
     let old = c.args.self.now in let mid = c.set_state.new.self in let swept = c.sweep-bytes.new.self in let new = c.set_state-2.new.self in let bytes : ℕ = c.sweep-bytes.result.0 in
     let passed : first_refusal (stop old.place.state) ≡ None = search rules in
-    let shape : mid.place.shape ≡ old.place.shape = ap (λ p. p.shape) c.set_state.ensures.0 in
-    let is = swept_as (IsSeen mid swept) (IsSeen old new) (seen_wide mid swept old new shape c.set_state.ensures.1 c.set_state-2.ensures.1) 0 c.args.budget mid.place swept.place bytes
+    let shape : mid.place.shape ≡ old.place.shape = ap (λ p. p.shape) c.set_state.ensures.state.0 in
+    let is = swept_as (IsSeen mid swept) (IsSeen old new) (seen_wide mid swept old new shape c.set_state.ensures.state.1 c.set_state-2.ensures.state.1) 0 c.args.budget mid.place swept.place bytes
     c.sweep-bytes.result.1 c.sweep-bytes.ensures.swept in
     unrefused (stop old.place.state) c.reclaimed.result _ _ passed (
       bytes,
-      stopped (IsSeen old new) c.args.budget bytes c.sweep-bytes.result.1 c.left-left.result old.place mid.place swept.place new.place c.reclaimed.result c.set_state.ensures.0
+      stopped (IsSeen old new) c.args.budget bytes c.sweep-bytes.result.1 c.left-left.result old.place mid.place swept.place new.place c.reclaimed.result c.set_state.ensures.state.0
           is c.sweep-bytes.ensures.list.0 c.left-left.ensures.left
-          (c.set_state-2.ensures.0 ∙ ap (λ s. record swept.place { state = s }) c.ending.ensures) c.reclaimed.ensures,
+          (c.set_state-2.ensures.state.0 ∙ ap (λ s. record swept.place { state = s }) c.ending.ensures) c.reclaimed.ensures,
       c.sweep-bytes.ensures.back,
     )

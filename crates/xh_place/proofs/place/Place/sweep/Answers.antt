@@ -1,9 +1,5 @@
-use Rattle.std.proofs.Common.{◌≡◌, arith, ℕ, ◌+◌, ◌<◌, length, refl, sym, ap, subst}
-use Rattle.xh_place.specs.Ending.{HasGivenBack, IsSweptBy}
+use Rattle.xh_place.proofs.Common.{◌≡◌, arith, ℕ, ◌+◌, ◌<◌, length, refl, sym, ap, subst, HasGivenBack, IsSweptBy, IsSeen, seen_wide, starts_same, starts_more, swept_by_as, same_again}
 use Rattle.xh_place.proofs.Swept.{gave_more, started, swept_more, twice_own}
-use Rattle.xh_place.proofs.Desks.{same_again}
-use Rattle.xh_place.proofs.Seeing.{seen_wide, starts_same, starts_more, swept_by_as}
-use Rattle.xh_place.specs.Seen.{IsSeen}
 use Rattle.xh_place.proofs.place.Place.sweep.Goals as goal
 
 pub loop-used-preserved : goal.loop-used-preserved

@@ -1,8 +1,4 @@
-use Rattle.std.proofs.Common.{◌≡◌, ◌-◌, ◌*◌, ◌≤◌, length}
-use Rattle.xh_place.specs.Desk.{IsSameDesk}
-use Rattle.xh_place.specs.Ending.{HasGivenBack, IsSweptBy}
-use Rattle.xh_place.specs.Places.{with_list}
-use Rattle.xh_place.specs.Seen.{IsSeen, SeesMore}
+use Rattle.xh_place.proofs.Common.{◌≡◌, ◌-◌, ◌*◌, ◌≤◌, length, IsSameDesk, HasGivenBack, IsSweptBy, with_list, IsSeen, SeesMore}
 use Rattle.xh_place.proofs.place.Place.sweep.Given as goal
 
 abbrev pub invariant-loop-used : goal.invariant-loop-used

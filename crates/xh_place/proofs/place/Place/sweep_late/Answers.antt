@@ -1,9 +1,4 @@
-use Rattle.std.proofs.Common.{inr, ℕ, [], ◌∷◌, refl, subst, ap, ◌∙◌}
-use Rattle.xh_model.specs.declared.limits.TheConstants.{MAX_BUDGET}
-use Rattle.xh_place.specs.Ending.{IsSwept}
-use Rattle.xh_place.specs.Places.{with_list, with_more}
-use Rattle.xh_place.specs.Seen.{IsSeen}
-use Rattle.xh_place.proofs.Seeing.{seen_wide, starts_same, swept_as}
+use Rattle.xh_place.proofs.Common.{inr, ℕ, [], ◌∷◌, refl, subst, ap, ◌∙◌, MAX_BUDGET, IsSwept, with_list, with_more, IsSeen, seen_wide, starts_same, swept_as}
 use Rattle.xh_place.proofs.place.Place.sweep_late.Goals as goal
 
 pub returns-clause-swept : goal.returns-clause-swept
@@ -18,7 +13,7 @@ returns-clause-swept g c =
       (
         t.0,
         left,
-        subst (λ n. IsSwept (IsSeen old new) n MAX_BUDGET (with_more d ((r, t.0) ∷ []) old.place) new.place bytes left) c.count-from.ensures two,
+        subst (λ n. IsSwept (IsSeen old new) n MAX_BUDGET (with_more d ((r, t.0) ∷ []) old.place) new.place bytes left) c.count-from.ensures.count two,
         c.sweep-swept.ensures.list.0 ∙ ap (λ p. with_list p new.place) t.2,
         t.3,
       ),

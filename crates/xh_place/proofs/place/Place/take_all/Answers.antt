@@ -1,11 +1,5 @@
-use Rattle.std.proofs.lemmas.List.{take_more, map-append}
-use Rattle.std.proofs.Common.{arith, ◌≡◌, ℕ, ◌<◌, List, [], ◌∷◌, ◌++◌, length, map, get_or, sym, ap, ap₂, ◌∙◌, subst, refl}
-use Rattle.xh_place.specs.Places.{with_more}
-use Rattle.xh_place.specs.Endpoints.{AreGot, record_of, IsGot}
-use Rattle.xh_place.proofs.Moves.{more_twice}
-use Rattle.xh_place.proofs.Gotten.{one_more}
-use Rattle.xh_place.proofs.Seeing.{all_got_as, got_as, seen_wide, starts_same, starts_more}
-use Rattle.xh_place.specs.Seen.{IsSeen}
+use Rattle.xh_place.proofs.Common.{take_more, map-append, arith, ◌≡◌, ℕ, ◌<◌, List, [], ◌∷◌, ◌++◌, length, map, get_or, sym, ap, ap₂, ◌∙◌, subst, refl, with_more, AreGot, record_of, IsGot, IsSeen}
+use Rattle.xh_place.proofs.Common.{more_twice, all_got_as, got_as, seen_wide, starts_same, starts_more, one_more}
 use Rattle.xh_place.proofs.place.Place.take_all.Goals as goal
 
 pub loop-k-preserved : goal.loop-k-preserved

@@ -1,8 +1,4 @@
-use Rattle.std.proofs.Common.{refl, ap, ◌∙◌, subst}
-use Rattle.xh_place.specs.Endpoints.{AreGot, Takes}
-use Rattle.xh_place.specs.Places.{with_more}
-use Rattle.xh_place.proofs.Seeing.{all_got_as, seen_wide, starts_same}
-use Rattle.xh_place.specs.Seen.{IsSeen}
+use Rattle.xh_place.proofs.Common.{refl, ap, ◌∙◌, subst, AreGot, Takes, with_more, IsSeen, all_got_as, seen_wide, starts_same}
 use Rattle.xh_place.proofs.place.Place.take_message.Goals as goal
 
 pub returns-clause-taken : goal.returns-clause-taken

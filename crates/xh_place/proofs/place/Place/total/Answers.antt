@@ -1,7 +1,4 @@
-use Rattle.std.proofs.Common.{subst}
-use Rattle.xh_place.specs.Places.{AreBlocks}
-use Rattle.xh_place.proofs.Shown.{are_blocks}
-use Rattle.xh_place.proofs.Seeing.{placed}
+use Rattle.xh_place.proofs.Common.{subst, AreBlocks, placed, are_blocks}
 use Rattle.xh_place.proofs.place.Place.total.Goals as goal
 
 pub returns-clause-blocks : goal.returns-clause-blocks

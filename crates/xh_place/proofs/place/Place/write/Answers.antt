@@ -1,13 +1,5 @@
-use Rattle.std.proofs.Common.{rules, ◌+◌, ◌≤◌, length, sym, ap, ◌∙◌, subst}
-use Rattle.xh_model.specs.Keyed.{put}
-use Rattle.xh_place.specs.Bodies.{kind_of}
-use Rattle.xh_place.specs.Places.{with_blocks}
-use Rattle.xh_place.proofs.Desks.{same_place}
-use Rattle.xh_place.specs.inner.Lots.{bare}
-use Rattle.xh_place.proofs.Found.{found, own_record}
-use Rattle.xh_place.proofs.Steps.{turned}
-use Rattle.xh_place.proofs.Patched.{is_patched}
-use Rattle.xh_place.proofs.Seeing.{placed, starts_same, since, starts_more}
+use Rattle.xh_place.proofs.Common.{rules, ◌+◌, ◌≤◌, length, sym, ap, ◌∙◌, subst, put, kind_of, with_blocks, bare, found, own_record, turned, placed, starts_same, since, starts_more, same_place}
+use Rattle.xh_place.proofs.Parted.{is_patched}
 use Rattle.xh_place.proofs.place.Place.write.Goals as goal
 
 pub write_lot-requires : goal.write_lot-requires

@@ -1,18 +1,11 @@
-use Rattle.std.proofs.Common.{arith, [], ◌∷◌, refl, ap, ◌∙◌}
-use Rattle.xh_model.specs.declared.event.Event.{Event}
-use Rattle.xh_model.specs.declared.event.Event.TheVariants.{Pass}
-use Rattle.xh_model.specs.Keyed.{without}
-use Rattle.xh_place.specs.Places.{with_blocks, with_moved}
-use Rattle.xh_place.proofs.Found.{found, own_record}
-use Rattle.xh_place.proofs.Moves.{heard, heard_shows}
-use Rattle.xh_place.proofs.Steps.{enough, list_distinct, lost}
-use Rattle.xh_place.proofs.Seeing.{placed, since}
-use Rattle.xh_place.proofs.place.Place.pass.Goals as goal
+use Rattle.xh_place.proofs.Common.{arith, value_at, end_listed, [], ◌∷◌, refl, ap, ◌∙◌, Event, Pass, without, with_blocks, with_moved, found, own_record, heard, heard_shows, enough, list_distinct}
+use Rattle.xh_place.proofs.Common.{lost, placed, since}
+use Rattle.xh_place.proofs.place.Place.pass_end.Goals as goal
 
 pub pass_block-len-requires : goal.pass_block-len-requires
 pass_block-len-requires c =
-    let v = placed c.self.view_is in let f = found c.self.invariant v c.args.r c.requires.listed.1 in
-    let own = own_record c.self.invariant v c.args.records.now c.requires.own.0 c.args.r c.requires.listed.1 in
+    let q = end_listed (value_at c.args.r c.args.self.now.place.blocks) c.requires.end in let v = placed c.self.view_is in let f = found c.self.invariant v c.args.r q.1 in
+    let own = own_record c.self.invariant v c.args.records.now c.requires.own.0 c.args.r q.1 in
     record { own = (own.0, own.1, c.requires.own.1); held = (f.lot, f.held, f.block.lot, f.block.full) }
 
 pub remove-requires : goal.remove-requires
@@ -20,18 +13,18 @@ remove-requires c = list_distinct c.self.inside.list.items c.self.invariant
 
 pub overflow_sub-self : goal.overflow_sub-self
 overflow_sub-self c =
-    let f = found c.self.invariant (placed c.self.view_is) c.args.r c.requires.listed.1 in
-    omega (arith, c.from.ensures, c.pass_block-len.ensures.bytes f.lot f.held, ap (λ z. z.len) f.same, enough c.self.invariant c.args.r c.requires.listed.0 f.entry)
+    let q = end_listed (value_at c.args.r c.args.self.now.place.blocks) c.requires.end in let f = found c.self.invariant (placed c.self.view_is) c.args.r q.1 in
+    omega (arith, c.from.ensures, c.pass_block-len.ensures.bytes f.lot f.held, ap (λ z. z.len) f.same, enough c.self.invariant c.args.r q.0 f.entry)
 
 pub invariant_of-self : goal.invariant_of-self
 invariant_of-self c =
-    let f = found c.self.invariant (placed c.self.view_is) c.args.r c.requires.listed.1 in
+    let q = end_listed (value_at c.args.r c.args.self.now.place.blocks) c.requires.end in let f = found c.self.invariant (placed c.self.view_is) c.args.r q.1 in
     (lost c.self.inside.list.items (heard (Pass c.self.inside.seat.process c.args.r c.args.direction ∷ []) c.self.invariant) c.pass_block-len.new.seat c.args.r f.entry c.pass_block-len.ensures.passed
     c.remove.ensures.items c.remove.ensures.room (c.from.ensures ∙ c.pass_block-len.ensures.bytes f.lot f.held ∙ ap (λ z. z.len) f.same)).0
 
 pub returns : goal.returns
 returns c =
-    let f = found c.self.invariant (placed c.self.view_is) c.args.r c.requires.listed.1 in let gone : Event = Pass c.self.inside.seat.process c.args.r c.args.direction in
+    let q = end_listed (value_at c.args.r c.args.self.now.place.blocks) c.requires.end in let f = found c.self.invariant (placed c.self.view_is) c.args.r q.1 in let gone : Event = Pass c.self.inside.seat.process c.args.r c.args.direction in
     let old = c.args.self.now.place in
     let both = lost c.self.inside.list.items (heard (gone ∷ []) c.self.invariant) c.pass_block-len.new.seat c.args.r f.entry c.pass_block-len.ensures.passed
     c.remove.ensures.items c.remove.ensures.room (c.from.ensures ∙ c.pass_block-len.ensures.bytes f.lot f.held ∙ ap (λ z. z.len) f.same) in (

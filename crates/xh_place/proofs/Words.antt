@@ -1,0 +1,54 @@
+-- The names that the proofs of this crate cite, passed on from one place. Declares nothing.
+pub use Rattle.atomic_table.specs.Seated.{TableId}
+pub use Rattle.std.proofs.Common.{Bool, Err, IfErr, List, MatchBool, MatchOption, MatchResult, None, Ok, OnErr, OnOk, Option, Result, Some, [], ap, append-nil, append_assoc, ap₂, arith, cond, drop}
+pub use Rattle.std.proofs.Common.{eq-eqb, eqb, false, get_or, inl, inr, is_some, length, length-append, length-drop, length-take-le, map, nat_le, nat_lt, refl, remove, replicate, rules, set}
+pub use Rattle.std.proofs.Common.{slice_get, slice_index, subst, suc, sym, take, true, vec_capacity, zero, ℕ, ⊎_elim, ◌%◌, ◌&&◌, ◌*◌, ◌++◌, ◌+◌, ◌-◌, ◌/◌, ◌<◌, ◌==◌, ◌||◌, ◌∙◌, ◌∷◌, ◌≡◌, ◌≢◌, ◌≤◌}
+pub use Rattle.std.proofs.Common.{◌⊎◌}
+pub use Rattle.std.proofs.lemmas.Bool.Decides.{nat_tests}
+pub use Rattle.std.proofs.lemmas.List.{drop-append-le, drop-drop, drop_at, drop_more, length-map, length-replicate, map-append, set-get_or, take-append-drop, take-append-le, take_at, take_more}
+pub use Rattle.std.proofs.lemmas.Result.{on_err_weaker, on_ok_weaker}
+pub use Rattle.std.specs.List.{list_all, list_any}
+pub use Rattle.xh_arena.specs.Views.{LotOf, TallyOf}
+pub use Rattle.xh_channel.specs.Queues.{IsSameEnd, Posted}
+pub use Rattle.xh_channel.specs.declared.message.Message.{Message}
+pub use Rattle.xh_core.specs.Calls.{alloc_tests, arena_tests, end_tests, given_tests, reclaimed, split_tests}
+pub use Rattle.xh_core.specs.Refusing.{Tests, first_refusal}
+pub use Rattle.xh_core.specs.Statuses.{is_over, is_running}
+pub use Rattle.xh_core.specs.declared.refused.Refused.{Refused}
+pub use Rattle.xh_core.specs.declared.status.Status.{Status}
+pub use Rattle.xh_core.specs.declared.status.Status.TheVariants.{Ended, Ending, Running, Vacant}
+pub use Rattle.xh_model.proofs.Keyed.{absent, dec_among, among_back, among_either, among_front, at_key, distinct_push, distinct_without, front_at, get_key, here_first, keys_append, keys_push}
+pub use Rattle.xh_model.proofs.Keyed.{last_at, last_other, last_put, last_without, length-keys, next, no_key, none_at, not_here, past, put_at, put_keys, put_other, put_same, put_split, put_twice}
+pub use Rattle.xh_model.proofs.Keyed.{put_without, without_at, without_other}
+pub use Rattle.xh_model.specs.Keyed.{Among, Distinct, keys, put, value_at, without}
+pub use Rattle.xh_model.specs.Slots.{index_of}
+pub use Rattle.xh_model.specs.Words.{number_of, word_of}
+pub use Rattle.xh_model.specs.declared.event.Event.{Event}
+pub use Rattle.xh_model.specs.declared.event.Event.TheVariants.{Accept, Claim, Pass, Vacate}
+pub use Rattle.xh_model.specs.declared.event.Holder.TheVariants.{Process}
+pub use Rattle.xh_model.specs.declared.limits.TheConstants.{END_BYTES, MAX_BUDGET}
+pub use Rattle.xh_place.specs.Bodies.{Content, away, bytes, content_of, endpoint, fits_in, front, kind_of, part, patched, rest, toward}
+pub use Rattle.xh_place.specs.Desk.{IsSameDesk, IsSeatAt}
+pub use Rattle.xh_place.specs.Ending.{AreEnded, HasGivenBack, IsClosed, IsSwept, IsSweptBy, alone, back_of, ending, last}
+pub use Rattle.xh_place.specs.Endpoints.{AreGot, AreUnpacked, EndsWith, IsDrained, IsGot, Puts, Shuts, Takes, TakesEach, blocks_of, record_of}
+pub use Rattle.xh_place.specs.Ends.{EndDoes, IsTooLate, RefusedOr, away_in, end_block, ending_again, toward_in}
+pub use Rattle.xh_place.specs.Messages.{Answers, IsSent, IsTaken, IsUntaken, Unpacks, is_listed, settle, settled}
+pub use Rattle.xh_place.specs.Moves.{accepted_on, moves, passed_on, there_and_back}
+pub use Rattle.xh_place.specs.Places.{AreBlocks, Fits, IsBlock, IsPlace, IsPlaceOf, IsQuiet, IsWhole, Item, Lists, PlaceOf, entry_of, found as found_at, header_of, item_at, item_in, item_of, shown}
+pub use Rattle.xh_place.specs.Places.{total_of, with_blocks, with_list, with_more, with_moved}
+pub use Rattle.xh_place.specs.Seen.{IsElsewhere, IsSamePlace, IsSeen, PlaceSeen, SawAt, SawFull, SawWord, SeesMore, Stays}
+pub use Rattle.xh_place.specs.Starts.{start, stop}
+pub use Rattle.xh_place.specs.Tallies.{gave, ids_of, took}
+pub use Rattle.xh_place.specs.declared.body.Body.{Body}
+pub use Rattle.xh_place.specs.declared.body.Body.TheVariants.{Data, End, Nothing}
+pub use Rattle.xh_place.specs.declared.got.Got.{Got}
+pub use Rattle.xh_place.specs.declared.got.Taken.{Taken}
+pub use Rattle.xh_place.specs.inner.Lists.{AreBack, CameBack, lens, less, less_all}
+pub use Rattle.xh_place.specs.inner.Lots.{HasNow, IsCut, IsData, IsEnd, LotDoes, SeatFull, SeatSaw, SeatSeesMore, bare, with_done}
+pub use Rattle.xh_place.specs.inner.Reclaiming.{Clears, Drains, IsSweptLate}
+pub use Rattle.xh_records.specs.History.{StartsWith}
+pub use Rattle.xh_records.specs.Seats.{Advances, HasSeen, Held, IsRecord, IsSeatOf, Knows, RecordsOf, SawTaken, did, owned_by, seen, with_lots}
+pub use Rattle.xh_records.specs.Showing.{IsLotOf}
+pub use Rattle.xh_records.specs.declared.shape.Shape.{Shape}
+pub use mathlib.Core.Logic.{dite}
+pub use native.Mathlib.Decide.{ℕ_discrete}
