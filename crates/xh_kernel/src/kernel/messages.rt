@@ -21,8 +21,6 @@ impl<N: Names> Kernel<N> {
     /// NoProcess, Ended, NotOwned and NotEndpoint of the endpoint, TooMany of more than 8 blocks, NotOwned of a
     /// block, Twice where a block stands twice or is the endpoint; Protocol where the channel's contract
     /// doesn't allow the message, PeerClosed, Full: these name the blocks that came back.
-    // (not inlined: it is optimized by itself then, and a give takes less time)
-    #[inline(never)]
     pub fn give<R: Wait, G: Gate>(
         &self,
         rt: &R,
@@ -51,6 +49,8 @@ impl<N: Names> Kernel<N> {
     /// process's.
     ///
     /// NoProcess, Ended, NotOwned, NotEndpoint; then, where no message waits, PeerClosed or Empty.
+    // (not inlined: it is optimized by itself then, and a take takes less time)
+    #[inline(never)]
     pub fn take<R: Wait, G: Gate>(
         &self,
         rt: &R,
