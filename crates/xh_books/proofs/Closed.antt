@@ -1,5 +1,5 @@
 -- The closed books: what was handed out is what the places own and what is in flight.
-use Rattle.std.proofs.Common.{◌≡◌, ℕ, ◌+◌, ◌*◌, ◌≤◌, List, map, sum, All, sym, ap, ◌∙◌, subst, arith}
+use Rattle.std.proofs.Common.{◌≡◌, ℕ, ◌+◌, List, map, sum, All, sym, ap, ◌∙◌, subst}
 use Rattle.std.specs.List.{sum_by}
 use Rattle.xh_arena.specs.Views.{VaultOf}
 use Rattle.xh_core.specs.declared.ledger.ArenaLine.{ArenaLine}
@@ -7,43 +7,33 @@ use Rattle.xh_kernel.specs.Accounts.{AccountOf}
 use Rattle.xh_calls.specs.Parts.{PartsOf, IsOpen, vault_names}
 use Rattle.xh_place.specs.Places.{PlaceOf}
 use Rattle.xh_books.specs.Ledgers.{all_back, all_lengths, all_taken, arena_lines, arenas_of, bytes_in_flight, bytes_owned}
-use Rattle.xh_books.specs.inner.Steps.{AreBooks, AreGathered, closed_line, unlisted_from}
-use Rattle.xh_books.proofs.Audited.{each_open}
+use Rattle.xh_books.specs.inner.Steps.{AreBooks, AreGathered, closed_line}
 use Rattle.xh_books.proofs.Collected.{Named}
-use Rattle.xh_books.proofs.Flying.{flight_from}
 use Rattle.xh_books.proofs.Summing.{IsEven, all_moved, lines_even, outs_are}
 
 -- what the ledger of them says
 pub record Sums (accounts : List AccountOf) (vs : List VaultOf) (ps : List PlaceOf) (n : ℕ) (lens : List ℕ) (lines : List ArenaLine) : Type 0 where
   pub arenas : lines ≡ arena_lines accounts 0 vs
   pub even : All IsEven lines
-  pub out : sum_by (λ l. l.out) lines ≡ bytes_owned ps + bytes_in_flight ps 0 vs
+  pub out : sum_by (λ l. l.out) lines ≡ bytes_owned ps + bytes_in_flight ps n 0 lens
   pub lengths : lens ≡ all_lengths (arenas_of vs)
-  pub flight : sum (unlisted_from ps n 0 lens) ≡ bytes_in_flight ps 0 vs
   pub moved : all_taken accounts ≡ all_back accounts + sum_by (λ l. l.out) lines
 
 -- `vs` are the vaults handed in, `ws` with the accounts, `us` audited
 pub sums : (p : PartsOf) (n : ℕ) (accounts : List AccountOf) (vs ws us : List VaultOf) (ps : List PlaceOf) (lens : List ℕ) (lines : List ArenaLine)
-    → n ≡ p.records.shape.records → n ≤ 256 → vault_names vs ≡ p.records.shape.names → All (IsOpen p) vs → All (Named p.records.shape.names) accounts → AreGathered accounts vs ws
-    → us ≡ ws → lens ≡ all_lengths (arenas_of ws) → sum lens ≡ bytes_owned ps + sum (unlisted_from ps n 0 lens) → lines ≡ map closed_line us → All AreBooks us → Sums accounts vs ps n lens lines
-sums p n accounts vs ws us ps lens lines count small vaults fresh named gathered same known owned lines_are books =
+    → vault_names vs ≡ p.records.shape.names → All (IsOpen p) vs → All (Named p.records.shape.names) accounts → AreGathered accounts vs ws
+    → us ≡ ws → lens ≡ all_lengths (arenas_of ws) → sum lens ≡ bytes_owned ps + bytes_in_flight ps n 0 lens → lines ≡ map closed_line us → All AreBooks us → Sums accounts vs ps n lens lines
+sums p n accounts vs ws us ps lens lines vaults fresh named gathered same known owned lines_are books =
     let arenas : lines ≡ arena_lines accounts 0 vs = lines_are ∙ ap (map closed_line) same ∙ gathered.lines in
     let even : All IsEven lines = subst (All IsEven) (sym lines_are) (lines_even us books) in
     let now_ : arenas_of us ≡ arenas_of vs = ap arenas_of same ∙ gathered.arenas in
     let lens_are : lens ≡ all_lengths (arenas_of vs) = known ∙ ap all_lengths gathered.arenas in
     let outs : sum_by (λ (l : ArenaLine). l.out) lines ≡ sum (all_lengths (arenas_of vs)) =
-    ap (λ (ls : List ArenaLine). sum_by (λ l. l.out) ls) lines_are ∙ outs_are us books ∙ ap (λ as_. sum (all_lengths as_)) now_ in
-    let zero_ : 0 ≡ 0 * n = omega arith in
-    let each = subst (λ (z : ℕ). All (λ a. a.records ≡ z) (arenas_of vs)) (sym count) (each_open p vs fresh) in
-    let flight : sum (unlisted_from ps n 0 (all_lengths (arenas_of vs))) ≡ bytes_in_flight ps 0 vs =
-    ap (λ j. sum (unlisted_from ps n j (all_lengths (arenas_of vs)))) zero_ ∙ flight_from ps n 0 vs small each in
-    let split : sum (all_lengths (arenas_of vs)) ≡ bytes_owned ps + sum (unlisted_from ps n 0 (all_lengths (arenas_of vs))) =
-    subst (λ (ls : List ℕ). sum ls ≡ bytes_owned ps + sum (unlisted_from ps n 0 ls)) lens_are owned in record {
+    ap (λ (ls : List ArenaLine). sum_by (λ l. l.out) ls) lines_are ∙ outs_are us books ∙ ap (λ as_. sum (all_lengths as_)) now_ in record {
       arenas = arenas;
       even = even;
-      out = outs ∙ split ∙ ap (λ z. bytes_owned ps + z) flight;
+      out = outs ∙ ap sum (sym lens_are) ∙ owned;
       lengths = lens_are;
-      flight = ap (λ ls. sum (unlisted_from ps n 0 ls)) lens_are ∙ flight;
       moved =
           let m = all_moved p.records.shape.names vs accounts vaults named (subst (All IsEven) arenas even) in
           m ∙ ap (λ (ls : List ArenaLine). all_back accounts + sum_by (λ l. l.out) ls) (sym arenas);

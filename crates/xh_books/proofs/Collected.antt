@@ -3,16 +3,15 @@ use Rattle.std.proofs.Common.{◌≡◌, ℕ, zero, suc, ◌+◌, ◌<◌, List,
 use Rattle.std.specs.Prelude.{slice_index}
 use Rattle.std.specs.List.{sum_by}
 use Rattle.std.proofs.lemmas.List.{length-map, length-drop}
-use Rattle.std.proofs.lemmas.List.Elements.{All-cons}
+use Rattle.std.proofs.lemmas.List.Elements.{All-cons, All-head, All-nil, All-tail}
 use Rattle.std.proofs.lemmas.List.Sums.{sum_by-cons}
 use Rattle.atomic_table.specs.Seated.{TableId}
 use Rattle.xh_arena.specs.Views.{Move, TallyOf, VaultOf}
-use Rattle.xh_core.specs.declared.ledger.ArenaLine.{ArenaLine}
 use Rattle.xh_kernel.specs.Accounts.{AccountOf}
 use Rattle.xh_calls.specs.Parts.{PartsOf, IsOpen, vault_names}
 use Rattle.xh_model.specs.Cover.{bytes_out, holes_of}
 use Rattle.xh_place.specs.Tallies.{ids_of}
-use Rattle.xh_books.specs.Ledgers.{arena_lines, arenas_of, back_of, taken_of}
+use Rattle.xh_books.specs.Ledgers.{arena_lines, back_of, taken_of}
 use Rattle.xh_books.specs.inner.Steps.{AreGathered, IsFull, closed_line, with_accounts, with_tallies, with_tally}
 
 -- ---- one account, tally by tally
@@ -39,22 +38,6 @@ collect_ids (v ∷ vs) (suc a) d w z zs e = let r = collect_ids vs a d w z zs e 
 pub collect_below : (vs : List VaultOf) (a : ℕ) (z : TableId) (zs : List TableId) → z ∷ zs ≡ vault_names (drop a vs) → a < length vs
 collect_below vs a z zs e = let l = ap length e in omega (arith, l, length-map (drop a vs) (λ (v : VaultOf). v.id), length-drop a vs)
 
--- ---- what stays
-
--- what of a vault does not hang on its tallies
-module _ {B : Type 0} (f : VaultOf → B) (same : (v : VaultOf) (t : TallyOf) → f (with_tally v t) ≡ f v) where
-  pub kept_with : (vs : List VaultOf) (ts : List TallyOf) → map f (with_tallies vs ts) ≡ map f vs
-  kept_with [] ts = refl
-  kept_with (v ∷ vs) [] = refl
-  kept_with (v ∷ vs) (t ∷ ts) = λ i. same v t i ∷ kept_with vs ts i
-
-  pub kept_with_all : (vs : List VaultOf) (all : List AccountOf) → map f (with_accounts vs all) ≡ map f vs
-  kept_with_all vs [] = refl
-  kept_with_all vs (a ∷ rest) = kept_with_all (with_tallies vs a.tallies) rest ∙ kept_with vs a.tallies
-
-pub names_with : (vs : List VaultOf) (ts : List TallyOf) → vault_names (with_tallies vs ts) ≡ vault_names vs
-names_with = kept_with (λ v. v.id) (λ v t. refl)
-
 -- ---- each account has a tally for each vault
 
 abbrev pub Named : List TableId → AccountOf → Type 0
@@ -63,104 +46,87 @@ Named zs a = ids_of a.tallies ≡ zs
 pub as_many : (zs : List TableId) (vs : List VaultOf) (ts : List TallyOf) → vault_names vs ≡ zs → ids_of ts ≡ zs → length ts ≡ length vs
 as_many zs vs ts v t = sym (length-map ts (λ (x : TallyOf). x.id)) ∙ ap length (t ∙ sym v) ∙ length-map vs (λ (x : VaultOf). x.id)
 
--- ---- once all accounts were taken in, each vault took in all its tallies
+pub names_with : (vs : List VaultOf) (ts : List TallyOf) → vault_names (with_tallies vs ts) ≡ vault_names vs
+names_with [] ts = refl
+names_with (v ∷ vs) [] = refl
+names_with (v ∷ vs) (t ∷ ts) = ap (λ zs. v.id ∷ zs) (names_with vs ts)
 
--- so many tallies are left
-abbrev Lacks : ℕ → VaultOf → Type 0
-Lacks m v = length v.collected + m ≡ v.workers
+-- ---- all accounts, vault by vault
 
-lacks_less : (m : ℕ) (vs : List VaultOf) (ts : List TallyOf) → length ts ≡ length vs → All (Lacks (suc m)) vs → All (Lacks m) (with_tallies vs ts)
-lacks_less m [] ts e all = λ k d h. absurd (omega arith)
-lacks_less m (v ∷ vs) [] e all = absurd (omega arith)
-lacks_less m (v ∷ vs) (t ∷ ts) e all = All-cons (Lacks m) (with_tally v t) (with_tallies vs ts)
-    (let here : length v.collected + suc m ≡ v.workers = all 0 v (omega arith) in let g : suc (length v.collected) + m ≡ v.workers = omega arith in g)
-    (lacks_less m vs ts (omega arith) (λ k d h. all (suc k) d (omega arith)))
+-- what an account moved of an arena, and what its vault has collected once it took all in
+abbrev move_of : ℕ → AccountOf → Move
+move_of arena a = record { number = slice_index (map (λ t. t.number) a.tallies) arena; taken = taken_of arena a; back = back_of arena a }
 
-lacks_none : (zs : List TableId) (vs : List VaultOf) (all : List AccountOf) → vault_names vs ≡ zs → All (Named zs) all → All (Lacks (length all)) vs → All (Lacks 0) (with_accounts vs all)
-lacks_none zs vs [] e named lacks = lacks
-lacks_none zs vs (a ∷ rest) e named lacks =
-    lacks_none zs (with_tallies vs a.tallies) rest (names_with vs a.tallies ∙ e) (λ k d h. named (suc k) d (omega arith))
-    (lacks_less (length rest) vs a.tallies (as_many zs vs a.tallies e (named 0 a (omega arith))) lacks)
+abbrev moves_of : ℕ → List AccountOf → List Move → List Move
+moves_of arena [] ms = ms
+moves_of arena (a ∷ rest) ms = moves_of arena rest (move_of arena a ∷ ms)
 
-pub all_full : (p : PartsOf) (zs : List TableId) (vs : List VaultOf) (all : List AccountOf) → vault_names vs ≡ zs → All (Named zs) all → All (IsOpen p) vs → length all ≡ p.workers
-    → All IsFull (with_accounts vs all)
-all_full p zs vs all e named fresh count k d h =
-    let lacks : All (Lacks (length all)) vs = λ j c below.
-    let o = fresh j c below in let v : VaultOf = get_or vs j c in let w : v.workers ≡ p.workers = o.0 in let none : length v.collected ≡ 0 = ap length o.1 in omega arith in
-    let r : length (get_or (with_accounts vs all) k d).collected + 0 ≡ (get_or (with_accounts vs all) k d).workers = lacks_none zs vs all e named lacks k d h in omega arith
+abbrev collected : ℕ → List AccountOf → List VaultOf → List VaultOf
+collected arena all [] = []
+collected arena all (v ∷ vs) = record v { collected = moves_of arena all v.collected } ∷ collected (suc arena) all vs
 
--- ---- their lines
+-- the first of the tallies that are left, and the others
+first_left : (k : ℕ) (ts : List TallyOf) (t : TallyOf) (rest : List TallyOf) → t ∷ rest ≡ drop k ts → ((f : TallyOf → ℕ) → slice_index (map f ts) k ≡ f t) × (rest ≡ drop (suc k) ts)
+first_left zero [] t rest e = absurd (cc)
+first_left (suc k) [] t rest e = absurd (cc)
+first_left zero (x ∷ ts) t rest e = let same : x ≡ t = cc in (λ f. ap f same, cc)
+first_left (suc k) (x ∷ ts) t rest e = first_left k ts t rest e
 
--- what the line of a vault says once these accounts are taken in too
-abbrev line_after : List AccountOf → ℕ → VaultOf → ArenaLine
-line_after all arena v = record {
-  size = length v.arena.cover;
-  out = bytes_out v.arena.cover;
-  holes = length (holes_of v.arena.cover);
-  taken = sum_by (taken_of arena) all + sum_by (λ m. m.taken) v.collected;
-  back = sum_by (back_of arena) all + sum_by (λ m. m.back) v.collected;
-}
+one_account : (a : AccountOf) (rest : List AccountOf) (k : ℕ) (vs : List VaultOf) (ts : List TallyOf) → length ts ≡ length vs → ts ≡ drop k a.tallies
+    → collected k rest (with_tallies vs ts) ≡ collected k (a ∷ rest) vs
+one_account a rest k [] ts e left = refl
+one_account a rest k (v ∷ vs) [] e left = absurd (omega arith)
+one_account a rest k (v ∷ vs) (t ∷ ts) e left =
+    let first = first_left k a.tallies t ts left in
+    let n = first.0 (λ t. t.number) in let taken = first.0 (λ t. t.taken) in let back = first.0 (λ t. t.back) in
+    let same : record { number = t.number; taken = t.taken; back = t.back } ≡ move_of k a = sym (λ i. record { number = n i; taken = taken i; back = back i }) in
+    λ i. record v { collected = moves_of k rest (same i ∷ v.collected) } ∷ one_account a rest (suc k) vs ts (omega arith) first.1 i
 
-abbrev lines_after : List AccountOf → ℕ → List VaultOf → List ArenaLine
-lines_after all arena [] = []
-lines_after all arena (v ∷ vs) = line_after all arena v ∷ lines_after all (suc arena) vs
+none_left : (k : ℕ) (vs : List VaultOf) → vs ≡ collected k [] vs
+none_left k [] = refl
+none_left k (v ∷ vs) = ap (λ l. v ∷ l) (none_left (suc k) vs)
 
--- the tallies are those of the account from the arena on
-pub record From (a : AccountOf) (arena : ℕ) (ts : List TallyOf) : Type 0 where
-  pub taken : (i : ℕ) → taken_of (arena + i) a ≡ slice_index (map (λ t. t.taken) ts) i
-  pub back : (i : ℕ) → back_of (arena + i) a ≡ slice_index (map (λ t. t.back) ts) i
+by_vault : (zs : List TableId) (vs : List VaultOf) (all : List AccountOf) → vault_names vs ≡ zs → All (Named zs) all → with_accounts vs all ≡ collected 0 all vs
+by_vault zs vs [] e named = none_left 0 vs
+by_vault zs vs (a ∷ rest) e named =
+    by_vault zs (with_tallies vs a.tallies) rest (names_with vs a.tallies ∙ e) (All-tail (Named zs) a rest named)
+    ∙ one_account a rest 0 vs a.tallies (as_many zs vs a.tallies e (All-head (Named zs) a rest named)) refl
 
-from_next : (a : AccountOf) (arena : ℕ) (t : TallyOf) (ts : List TallyOf) → From a arena (t ∷ ts) → From a (suc arena) ts
-from_next a arena t ts f = record {
-  taken = λ i. let e : suc arena + i ≡ arena + suc i = omega arith in ap (λ z. taken_of z a) e ∙ f.taken (suc i);
-  back = λ i. let e : suc arena + i ≡ arena + suc i = omega arith in ap (λ z. back_of z a) e ∙ f.back (suc i);
-}
+-- ---- what they are then
 
-one_line : (a : AccountOf) (rest : List AccountOf) (arena : ℕ) (v : VaultOf) (t : TallyOf) (ts : List TallyOf) → From a arena (t ∷ ts)
-    → line_after rest arena (with_tally v t) ≡ line_after (a ∷ rest) arena v
-one_line a rest arena v t ts f =
-    let z : arena + 0 ≡ arena = omega arith in
-    let m : Move = record { number = t.number; taken = t.taken; back = t.back } in
-    let here : taken_of arena a ≡ t.taken = ap (λ y. taken_of y a) (sym z) ∙ f.taken 0 in
-    let here' : back_of arena a ≡ t.back = ap (λ y. back_of y a) (sym z) ∙ f.back 0 in
-    grind (arith, sum_by-cons (taken_of arena) a rest, sum_by-cons (back_of arena) a rest, sum_by-cons (λ (y : Move). y.taken) m v.collected, sum_by-cons (λ (y : Move). y.back) m v.collected)
+kept : {B : Type 0} (f : VaultOf → B) → ((v : VaultOf) (ms : List Move) → f (record v { collected = ms }) ≡ f v) → (k : ℕ) (all : List AccountOf) (vs : List VaultOf) → map f (collected k all vs) ≡ map f vs
+kept f same k all [] = refl
+kept f same k all (v ∷ vs) = λ i. same v (moves_of k all v.collected) i ∷ kept f same (suc k) all vs i
 
-one_account : (a : AccountOf) (rest : List AccountOf) (arena : ℕ) (vs : List VaultOf) (ts : List TallyOf) → length ts ≡ length vs → From a arena ts
-    → lines_after rest arena (with_tallies vs ts) ≡ lines_after (a ∷ rest) arena vs
-one_account a rest arena [] ts e f = refl
-one_account a rest arena (v ∷ vs) [] e f = absurd (omega arith)
-one_account a rest arena (v ∷ vs) (t ∷ ts) e f = λ i. one_line a rest arena v t ts f i ∷ one_account a rest (suc arena) vs ts (omega arith) (from_next a arena t ts f) i
+sum_moves : (g : Move → ℕ) (part : AccountOf → ℕ) (k : ℕ) → ((a : AccountOf) → g (move_of k a) ≡ part a) → (all : List AccountOf) (ms : List Move) → sum_by g (moves_of k all ms) ≡ sum_by part all + sum_by g ms
+sum_moves g part k is [] ms = omega arith
+sum_moves g part k is (a ∷ all) ms = omega (arith, sum_moves g part k is all (move_of k a ∷ ms), sum_by-cons g (move_of k a) ms, sum_by-cons part a all, is a)
 
-closed_lines : (zs : List TableId) (vs : List VaultOf) (all : List AccountOf) → vault_names vs ≡ zs → All (Named zs) all → lines_after [] 0 (with_accounts vs all) ≡ lines_after all 0 vs
-closed_lines zs vs [] e named = refl
-closed_lines zs vs (a ∷ rest) e named =
-    let z : (i : ℕ) → 0 + i ≡ i = λ i. omega arith in
-    closed_lines zs (with_tallies vs a.tallies) rest (names_with vs a.tallies ∙ e) (λ k d h. named (suc k) d (omega arith))
-    ∙ one_account a rest 0 vs a.tallies (as_many zs vs a.tallies e (named 0 a (omega arith))) record { taken = λ i. ap (λ y. taken_of y a) (z i); back = λ i. ap (λ y. back_of y a) (z i) }
+length-moves : (k : ℕ) (all : List AccountOf) (ms : List Move) → length (moves_of k all ms) ≡ length all + length ms
+length-moves k [] ms = omega arith
+length-moves k (a ∷ all) ms = omega (arith, length-moves k all (move_of k a ∷ ms))
 
--- with none left, or none before
-none_left : (arena : ℕ) (vs : List VaultOf) → lines_after [] arena vs ≡ map closed_line vs
-none_left arena [] = refl
-none_left arena (v ∷ vs) = grind (arith, none_left (suc arena) vs)
+module _ (p : PartsOf) where
+  full : (k : ℕ) (all : List AccountOf) (vs : List VaultOf) → length all ≡ p.workers → All (IsOpen p) vs → All IsFull (collected k all vs)
+  full k all [] count fresh = All-nil IsFull
+  full k all (v ∷ vs) count fresh =
+      let o = All-head (IsOpen p) v vs fresh in
+      All-cons IsFull (record v { collected = moves_of k all v.collected }) (collected (suc k) all vs) (omega (arith, length-moves k all v.collected, ap length o.1, o.0, count))
+      (full (suc k) all vs count (All-tail (IsOpen p) v vs fresh))
 
-none_before : (p : PartsOf) (all : List AccountOf) (arena : ℕ) (vs : List VaultOf) → All (IsOpen p) vs → lines_after all arena vs ≡ arena_lines all arena vs
-none_before p all arena [] fresh = refl
-none_before p all arena (v ∷ vs) fresh =
-    let none : v.collected ≡ [] = (fresh 0 v (omega arith)).1 in
-    let t0 : sum_by (λ (m : Move). m.taken) v.collected ≡ 0 = ap (λ (l : List Move). sum_by (λ m. m.taken) l) none in
-    let b0 : sum_by (λ (m : Move). m.back) v.collected ≡ 0 = ap (λ (l : List Move). sum_by (λ m. m.back) l) none in
-    grind (arith, t0, b0, none_before p all (suc arena) vs (λ k d h. fresh (suc k) d (omega arith)))
+  lines : (k : ℕ) (all : List AccountOf) (vs : List VaultOf) → All (IsOpen p) vs → map closed_line (collected k all vs) ≡ arena_lines all k vs
+  lines k all [] fresh = refl
+  lines k all (v ∷ vs) fresh =
+      let none = (All-head (IsOpen p) v vs fresh).1 in
+      let taken : sum_by (λ (m : Move). m.taken) (moves_of k all v.collected) ≡ sum_by (taken_of k) all = omega (arith, sum_moves (λ m. m.taken) (taken_of k) k (λ a. refl) all v.collected, ap (sum_by (λ (m : Move). m.taken)) none) in
+      let back : sum_by (λ (m : Move). m.back) (moves_of k all v.collected) ≡ sum_by (back_of k) all = omega (arith, sum_moves (λ m. m.back) (back_of k) k (λ a. refl) all v.collected, ap (sum_by (λ (m : Move). m.back)) none) in
+      λ i. record { size = length v.arena.cover; out = bytes_out v.arena.cover; holes = length (holes_of v.arena.cover); taken = taken i; back = back i } ∷ lines (suc k) all vs (All-tail (IsOpen p) v vs fresh) i
 
-pub lines_are : (p : PartsOf) (zs : List TableId) (vs : List VaultOf) (all : List AccountOf) → vault_names vs ≡ zs → All (Named zs) all → All (IsOpen p) vs
-    → map closed_line (with_accounts vs all) ≡ arena_lines all 0 vs
-lines_are p zs vs all e named fresh = sym (none_left 0 (with_accounts vs all)) ∙ closed_lines zs vs all e named ∙ none_before p all 0 vs fresh
-
-pub gathered : (p : PartsOf) (vs ws : List VaultOf) (all : List AccountOf) → vault_names vs ≡ p.records.shape.names → All (Named p.records.shape.names) all
-    → All (IsOpen p) vs → length all ≡ p.workers → ws ≡ with_accounts vs all
-    → AreGathered all vs ws
-gathered p vs ws all e named fresh count is = record {
-  names = ap vault_names is ∙ kept_with_all (λ v. v.id) (λ v t. refl) vs all;
-  arenas = ap arenas_of is ∙ kept_with_all (λ v. v.arena) (λ v t. refl) vs all;
-  full = subst (All IsFull) (sym is) (all_full p p.records.shape.names vs all e named fresh count);
-  lines = ap (map closed_line) is ∙ lines_are p p.records.shape.names vs all e named fresh;
-}
+  pub gathered : (vs ws : List VaultOf) (all : List AccountOf) → vault_names vs ≡ p.records.shape.names → All (Named p.records.shape.names) all → All (IsOpen p) vs → length all ≡ p.workers → ws ≡ with_accounts vs all
+      → AreGathered all vs ws
+  gathered vs ws all e named fresh count is = subst (AreGathered all vs) (sym (is ∙ by_vault p.records.shape.names vs all e named)) record {
+    names = kept (λ v. v.id) (λ v ms. refl) 0 all vs;
+    arenas = kept (λ v. v.arena) (λ v ms. refl) 0 all vs;
+    full = full 0 all vs count fresh;
+    lines = lines 0 all vs fresh;
+  }

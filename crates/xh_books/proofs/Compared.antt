@@ -4,8 +4,7 @@ use Rattle.std.proofs.lemmas.List.{get_or-map, map-set, set-get_or}
 use Rattle.std.proofs.lemmas.List.Sums.{sum_by-cons}
 use Rattle.std.specs.List.{sum_by}
 use Rattle.std.specs.Prelude.{slice_index, slice_set}
-use mathlib.Core.Logic.{dite}
-use native.Mathlib.Decide.{ℕ_discrete}
+use borrow.Author.Count.{below_more}
 use Rattle.xh_arena.specs.Views.{TallyOf, VaultOf}
 use Rattle.xh_calls.specs.Parts.{PartsOf}
 use Rattle.xh_core.specs.declared.ledger.ArenaLine.{ArenaLine}
@@ -40,7 +39,7 @@ one_seen hs old now_ new k n h s same is seen m =
     let here : HasSeen old.number (at old.fronts k) (at hs k) =
     subst (HasSeen old.number (at old.fronts k)) is (subst (λ (j : ℕ). HasSeen j (at old.fronts k) h) s.unmoved.0 (subst (λ (f : History Call). HasSeen now_.number f h) before seen)) in record {
       unmoved = (m.0.0 ∙ s.unmoved.0, m.0.1 ∙ s.unmoved.1);
-      seen = λ p lt. dite (ℕ_discrete p k) (λ e. subst (λ (q : ℕ). HasSeen old.number (at old.fronts q) (at hs q)) (sym e) here) (λ ne. s.seen p (omega arith));
+      seen = below_more (λ p. HasSeen old.number (at old.fronts p) (at hs p)) k s.seen here;
       rest = λ p le. ap (λ (fs : List (History Call)). at fs p) m.1 ∙ get_or-set_other now_.fronts n p h [] (λ e. omega (arith, e, same, le)) ∙ s.rest p (omega arith);
     }
 

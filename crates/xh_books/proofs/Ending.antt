@@ -4,6 +4,7 @@ use Rattle.std.proofs.lemmas.Grind.{common_steps}
 use Rattle.std.specs.Prelude.{Option, Some, None}
 use Rattle.std.specs.List.{cons_option, sum_by}
 use Rattle.std.proofs.lemmas.List.Elements.{filter_map-append}
+use Rattle.std.proofs.lemmas.Slice.Zip.{all_zipped_more}
 use Rattle.std.proofs.lemmas.List.Sums.{sum_by-append, sum_by-cons}
 use Rattle.xh_core.specs.declared.ledger.PlaceLine.{PlaceLine}
 use Rattle.xh_core.specs.declared.status.Status.{Status}
@@ -15,12 +16,6 @@ use Rattle.xh_core.specs.Statuses.{is_over}
 use Rattle.xh_records.specs.Seats.{Held}
 use Rattle.xh_books.specs.Ledgers.{bytes_owned, place_lines}
 use Rattle.xh_books.specs.inner.Steps.{AreSeats, IsSeatOfPlace}
-
-pub seats_push : (xs : List (Held Body)) (ps : List PlaceOf) (x : Held Body) (p : PlaceOf) → AreSeats xs ps → IsSeatOfPlace x p → AreSeats (xs ++ x ∷ []) (ps ++ p ∷ [])
-seats_push [] [] x p are is = (is, tt)
-seats_push [] (q ∷ ps) x p are is = absurd are
-seats_push (y ∷ xs) [] x p are is = absurd are
-seats_push (y ∷ xs) (q ∷ ps) x p are is = (are.0, seats_push xs ps x p are.1 is)
 
 -- a seat that holds nothing is that of a place without blocks
 no_blocks : (x : Held Body) (bs : List (ℕ × Item)) → Lists x bs → x.lots ≡ [] → bs ≡ []
@@ -50,7 +45,7 @@ one_ended all rest now_ p seats seats' lines lines' x o was next is none line_is
     record {
       done = was.done ++ p ∷ [];
       split = was.split ∙ ap (λ l. was.done ++ l) next ∙ sym (append_assoc was.done (p ∷ []) rest);
-      seats_are = subst (λ (xs : List (Held Body)). AreSeats xs (was.done ++ p ∷ [])) (sym more_seats) (seats_push seats was.done x p was.seats_are is);
+      seats_are = subst (λ (xs : List (Held Body)). AreSeats xs (was.done ++ p ∷ [])) (sym more_seats) (all_zipped_more IsSeatOfPlace seats was.done x p was.seats_are is);
       lines_are = lines_now ∙ ap (λ l. l ++ mine) was.lines_are ∙ sym (filter_map-append (λ (q : PlaceOf). line_in q.state (line q)) was.done (p ∷ []));
       owned =
           (let a = ap (λ (ls : List PlaceLine). sum_by (λ l. l.bytes) ls) lines_now in

@@ -17,6 +17,7 @@ use Rattle.xh_kernel.specs.Accounts.{AccountOf}
 use Rattle.xh_kernel.specs.Histories.{IsLawfulHistory}
 use Rattle.xh_kernel.specs.Kept.{AreKept, AreOwn, IsKept}
 use Rattle.xh_kernel.specs.Places.{places_of}
+use Rattle.xh_records.specs.Seats.{RecordsOf}
 use Rattle.xh_place.specs.Seen.{PlaceSeen}
 use Rattle.xh_books.specs.Closing.{AreInOrder, HaveSeen, IsClosed, IsSumOver, histories_of}
 use Rattle.xh_books.specs.declared.closing.Books.{Books}
@@ -53,14 +54,14 @@ module _ (parts : PartsOf) where
 -- ---- a closed kernel
 
 -- its ledger, of accounts whose tallies are still those that were handed in
-pub is_closed : (parts : PartsOf) (places : List PlaceSeen) (pens : List Pens) (vaults : List VaultOf) (all now_ : List AccountOf) (looks : List LookOf) (r : Result Books Refused)
+pub is_closed : (parts : PartsOf) (own : RecordsOf) → own ≡ parts.records → (places : List PlaceSeen) (pens : List Pens) (vaults : List VaultOf) (all now_ : List AccountOf) (looks : List LookOf) (r : Result Books Refused)
     → AreKept parts places pens → length all ≡ parts.workers → HaveSeen all looks pens → (vault_names vaults ≡ parts.records.shape.names) × All (IsOpen parts) vaults → tallies_of now_ ≡ tallies_of all
     → IfOk r (λ b. b.ledger.arenas.items ≡ arena_lines now_ 0 vaults) → IfOk r (λ b. b.ledger.places.items ≡ place_lines (places_of places))
     → IfOk r (λ b. b.ledger.owned ≡ bytes_owned (places_of places))
-    → IfOk r (λ b. b.ledger.flight ≡ bytes_in_flight (places_of places) 0 vaults) → IfOk r (λ b. IsBalanced b.ledger)
-    → IfOk r (λ b. IsInFlight parts.records.shape (places_of places) (all_lengths (arenas_of vaults)) b.flight.items) → IfOk r (λ b. IsClosed parts all looks b.ledger b.flight.items)
-is_closed parts places pens vaults all now_ looks (Err e) kept workers seen open_vaults same arenas lines owned flight balanced in_flight = tt
-is_closed parts places pens vaults all now_ looks (Ok b) kept workers seen open_vaults same arenas lines owned flight balanced in_flight = record {
+    → IfOk r (λ b. b.ledger.flight ≡ bytes_in_flight (places_of places) own.shape.records 0 (all_lengths (arenas_of vaults))) → IfOk r (λ b. IsBalanced b.ledger)
+    → IfOk r (λ b. IsInFlight own.shape (places_of places) (all_lengths (arenas_of vaults)) b.flight.items) → IfOk r (λ b. IsClosed parts all looks b.ledger b.flight.items)
+is_closed parts own is places pens vaults all now_ looks (Err e) kept workers seen open_vaults same arenas lines owned flight balanced in_flight = tt
+is_closed parts own is places pens vaults all now_ looks (Ok b) kept workers seen open_vaults same arenas lines owned flight balanced in_flight = record {
   places = places;
   pens = pens;
   vaults = vaults;
@@ -71,9 +72,9 @@ is_closed parts places pens vaults all now_ looks (Ok b) kept workers seen open_
   arenas = arenas ∙ lines_same now_ all same 0 vaults;
   lines = lines;
   owned = owned;
-  flight = flight;
+  flight = flight ∙ ap (λ x. bytes_in_flight (places_of places) x.shape.records 0 (all_lengths (arenas_of vaults))) is;
   balanced = balanced;
-  in_flight = in_flight;
+  in_flight = subst (λ (x : RecordsOf). IsInFlight x.shape (places_of places) (all_lengths (arenas_of vaults)) b.flight.items) is in_flight;
 }
 
 line_taken : (all : List AccountOf) (k : ℕ) (vs : List VaultOf) (i : ℕ) → i < length vs → slice_index (map (λ a. a.taken) (arena_lines all k vs)) i ≡ sum_by (taken_of (k + i)) all

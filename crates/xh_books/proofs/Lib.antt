@@ -1,6 +1,7 @@
 pub mod Collected
 pub mod Summing
 pub mod Audited
+pub mod Terms
 pub mod Ending
 pub mod Flying
 pub mod Owning

@@ -1,11 +1,9 @@
 -- A record in flight on a direction was passed to it last.
-use Rattle.std.proofs.Common.{◌≡◌, ◌≢◌, ℕ, zero, suc, ◌⊎◌, inl, inr, ⊎_elim, List, [], ◌∷◌, refl, sym, ap, subst}
-use Rattle.std.specs.Prelude.{Option, Some, slice_set}
-use mathlib.Core.Logic.{dite}
-use native.Mathlib.Decide.{ℕ_discrete}
+use Rattle.std.proofs.Common.{◌≡◌, ◌≢◌, ℕ, zero, suc, ◌⊎◌, inl, inr, ⊎_elim, List, [], ◌∷◌, sym, ap, subst}
+use Rattle.std.specs.Prelude.{Some}
+use Rattle.atomic_table.proofs.Lists.{at_set}
 use Rattle.xh_model.specs.declared.event.Event.{Event}
 use Rattle.xh_model.specs.declared.event.Event.TheVariants.{Claim, Carve, Cut, GiveBack, Vacate, Pass, Accept}
-use Rattle.xh_model.specs.declared.event.Holder.{Holder}
 use Rattle.xh_model.specs.declared.event.Holder.TheVariants.{Direction}
 use Rattle.xh_model.specs.Keyed.{Among}
 use Rattle.xh_model.specs.Slots.{index_of}
@@ -23,19 +21,6 @@ only_pass (Vacate p r) d t = absurd (cc)
 only_pass (Pass p r b) d t = (p, let same : b ≡ d = cc in ap (Pass p r) same)
 only_pass (Accept p r b) d t = absurd (cc)
 
--- what the slots are after one is set
-set_here : (o : Ownership) (i : ℕ) (h k : Option Holder) → IsHeldBy (slice_set o i h) i k → k ≡ h
-set_here [] i h k e = absurd (cc)
-set_here (x ∷ o) zero h k e = cc
-set_here (x ∷ o) (suc i) h k e = set_here o i h k e
-
-set_other : (o : Ownership) (i j : ℕ) (h k : Option Holder) → i ≢ j → IsHeldBy (slice_set o i h) j k → IsHeldBy o j k
-set_other [] i j h k n e = e
-set_other (x ∷ o) zero zero h k n e = absurd (n refl)
-set_other (x ∷ o) zero (suc j) h k n e = e
-set_other (x ∷ o) (suc i) zero h k n e = e
-set_other (x ∷ o) (suc i) (suc j) h k n e = set_other o i j h k (λ q. n (ap suc q)) e
-
 -- it was, or it was on the direction before and nothing was done with it
 abbrev Either : ℕ → Ownership → List Event → ℕ → ℕ → Type 0
 Either n o log k d = WasPassed n log k d ⊎ (IsHeldBy o k (Some (Direction d)) × ((e : Event) → Among log e → index_of n (record_of e) ≢ k))
@@ -43,21 +28,14 @@ Either n o log k d = WasPassed n log k d ⊎ (IsHeldBy o k (Some (Direction d)) 
 either : (n : ℕ) (o : Ownership) (log : List Event) (o' : Ownership) (k d : ℕ) → LeadsTo n o log o' → IsHeldBy o' k (Some (Direction d)) → Either n o log k d
 either n o [] o' k d leads held = inr (subst (λ (z : Ownership). IsHeldBy z k (Some (Direction d))) leads held, λ e h. absurd h)
 either n o (e ∷ log) o' k d leads held =
-    let m = leads.0 in let done : IsDone n o e m = leads.1 in let slot : ℕ = index_of n (record_of e) in
+    let done : IsDone n o e leads.0 = leads.1 in let slot : ℕ = index_of n (record_of e) in
     ⊎_elim
     (λ (t : WasPassed n log k d). inl (e ∷ t.0, t.1, t.2, t.3, ap (λ (es : List Event). e ∷ es) t.4, t.5, t.6))
-    (λ (t : IsHeldBy m k (Some (Direction d)) × ((x : Event) → Among log x → index_of n (record_of x) ≢ k)).
-    let now_ = subst (λ (z : Ownership). IsHeldBy z k (Some (Direction d))) done.1 t.0 in
-    dite (ℕ_discrete slot k)
-    (λ same.
-    let here = set_here o slot (to_of e) (Some (Direction d)) (subst (λ (z : ℕ). IsHeldBy (slice_set o slot (to_of e)) z (Some (Direction d))) (sym same) now_) in
-    let pass = only_pass e d (sym here) in
-    inl ([], log, pass.0, record_of e, ap (λ (x : Event). x ∷ log) pass.1, same, t.1))
-    (λ other. inr (
-      set_other o slot k (to_of e) (Some (Direction d)) other now_,
-      λ x h. ⊎_elim (λ (q : x ≡ e). subst (λ (z : Event). index_of n (record_of z) ≢ k) (sym q) other) (λ (r : Among log x). t.1 x r) h,
-    )))
-    (either n m log o' k d leads.3 held)
+    (λ (t : IsHeldBy leads.0 k (Some (Direction d)) × ((x : Event) → Among log x → index_of n (record_of x) ≢ k)). ⊎_elim
+    (λ s. let pass = only_pass e d s.1 in inl ([], log, pass.0, record_of e, ap (λ (x : Event). x ∷ log) pass.1, sym s.0, t.1))
+    (λ s. inr (s.1, λ x h. ⊎_elim (λ (q : x ≡ e). subst (λ (z : Event). index_of n (record_of z) ≢ k) (sym q) (λ same. s.0 (sym same))) (λ (r : Among log x). t.1 x r) h))
+    (at_set o slot k (to_of e) (Some (Direction d)) (subst (λ (z : Ownership). IsHeldBy z k (Some (Direction d))) done.1 t.0)))
+    (either n leads.0 log o' k d leads.3 held)
 
 none_held : (n k d : ℕ) → IsHeldBy (all_free n) k (Some (Direction d)) → ⊥
 none_held zero k d e = cc

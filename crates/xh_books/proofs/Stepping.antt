@@ -3,7 +3,6 @@ use Rattle.std.proofs.Common.{◌≡◌, ℕ, zero, suc, ◌<◌, ◌≤◌, Lis
 use Rattle.std.specs.Prelude.{◌≢◌, ◌⊎◌, Option, None, Some, Result, Ok, Err, MatchResult}
 use Rattle.xh_core.specs.declared.block.Block.{Block}
 use Rattle.xh_core.specs.declared.refused.Refused.{Refused}
-use Rattle.xh_core.specs.declared.refused.Refused.TheVariants as refused
 use Rattle.xh_calls.specs.Parts.{PartsOf}
 use Rattle.xh_calls.specs.declared.wired.Wired.{Wired}
 use Rattle.xh_kernel.specs.declared.call.Call.{Call}
@@ -17,6 +16,10 @@ use Rattle.xh_kernel.specs.Wires.{Connects, HandsOver, Opens, Wires}
 use Rattle.xh_model.specs.declared.limits.TheConstants.{PLACES}
 use Rattle.xh_model.specs.declared.row.Row.{Row}
 use Rattle.xh_model.specs.Words.{place_of}
+
+settled : {A E C : Type 0} (r : Result A E) {P : A → Type 0} {Q : E → Type 0} → MatchResult r P Q → ((a : A) → P a → C) → ((e : E) → Q e → C) → C
+settled (Ok a) m ok err = ok a m
+settled (Err e) m ok err = err e m
 
 module _ (parts : PartsOf) where
   stays : (old new : AccountOf) → new ≡ old → Reaches parts old new
@@ -56,21 +59,15 @@ module _ (parts : PartsOf) where
 
   -- ---- ends
 
-  gives_back : (p : ℕ) (e : ℕ → Call) (old new : AccountOf) → ((bytes : ℕ) → HasBack bytes old new → Moves (e bytes) old new) → GivesBack parts p e old new → Reaches parts old new
+  pub gives_back : (p : ℕ) (e : ℕ → Call) (old new : AccountOf) → ((bytes : ℕ) → HasBack bytes old new → Moves (e bytes) old new) → GivesBack parts p e old new → Reaches parts old new
   gives_back p e old new moves s = does p (e s.0) old new s.1 (moves s.0 s.2)
-
-  pub closes : (p e : ℕ) (old new : AccountOf) (result : Result ℕ Refused) → GivesBack parts p (λ bytes. call.Close p e bytes result) old new → Reaches parts old new
-  closes p e old new result = gives_back p (λ bytes. call.Close p e bytes result) old new (λ bytes m. m)
 
   pub exits : (p budget : ℕ) (old new : AccountOf) (result : Result ℕ Refused) → Exits parts p budget old new result → Reaches parts old new
   exits p budget old new result = gives_back p (λ bytes. call.Stop p budget bytes result) old new (λ bytes m. m)
 
   looks_first : (p : ℕ) (old new : AccountOf) {A : Type 0} (result : Result A Refused) (next : AccountOf → Type 0) → ((mid : AccountOf) → next mid → Reaches parts mid new)
       → LooksFirst parts p old new result next → Reaches parts old new
-  looks_first p old new {A} result next then s = on old s.0 new (does p (call.Look p s.1) old s.0 s.2.0 s.2.1) (go s.1 s.3) where
-    go : (looked : Result (Unit {0}) Refused) → MatchResult looked (λ _. next s.0) (λ why. (result ≡ Err why) × (new ≡ s.0)) → Reaches parts s.0 new
-    go (Ok _) m = then s.0 m
-    go (Err why) m = stays s.0 new m.1
+  looks_first p old new {A} result next then s = on old s.0 new (does p (call.Look p s.1) old s.0 s.2.0 s.2.1) (settled s.1 s.3 (λ _ m. then s.0 m) (λ why m. stays s.0 new m.1))
 
   pub kills : (by victim budget : ℕ) (old new : AccountOf) (result : Result ℕ Refused) → Kills parts by victim budget old new result → Reaches parts old new
   kills by victim budget old new result = looks_first by old new result (λ mid. Exits parts victim budget mid new result) (λ mid. exits victim budget mid new result)
@@ -83,17 +80,11 @@ module _ (parts : PartsOf) where
 
     module _ (q : ℕ) (new : AccountOf) (result : Result (Block × Block) Refused) where
       hands_over : (w : Wired) (old : AccountOf) → HandsOver parts p q w old new result → Reaches parts old new
-      hands_over w old s = on old s.0 new (gives_back q (λ bytes. call.Receive q w.high.rec w.channel bytes s.1) old s.0 (λ bytes m. m) s.2) (go s.1 s.3) where
-        go : (received : Result Block Refused) → MatchResult received (λ _. (result ≡ Ok (w.low, w.high)) × (new ≡ s.0))
-            (λ _. (result ≡ Err refused.Ended) × GivesBack parts p (λ bytes. call.CloseAgain p w.low.rec w.channel bytes) s.0 new) → Reaches parts s.0 new
-        go (Ok b) m = stays s.0 new m.1
-        go (Err why) m = gives_back p (λ bytes. call.CloseAgain p w.low.rec w.channel bytes) s.0 new (λ bytes n. n) m.1
+      hands_over w old s = on old s.0 new (gives_back q (λ bytes. call.Receive q w.high.rec w.channel bytes s.1) old s.0 (λ bytes m. m) s.2) (settled s.1 s.3 (λ b m. stays s.0 new m.1)
+          (λ why m. gives_back p (λ bytes. call.CloseAgain p w.low.rec w.channel bytes) s.0 new (λ bytes n. n) m.1))
 
       connects : (old : AccountOf) → Connects parts p q arena contract old new result → Reaches parts old new
-      connects old s = on old s.0 new (does p (call.OpenToward p arena contract s.1) old s.0 s.2 s.3) (go s.1 s.4) where
-        go : (opened : Result Wired Refused) → MatchResult opened (λ w. HandsOver parts p q w s.0 new result) (λ why. (result ≡ Err why) × (new ≡ s.0)) → Reaches parts s.0 new
-        go (Ok w) m = hands_over w s.0 m
-        go (Err why) m = stays s.0 new m.1
+      connects old s = on old s.0 new (does p (call.OpenToward p arena contract s.1) old s.0 s.2 s.3) (settled s.1 s.4 (λ w m. hands_over w s.0 m) (λ why m. stays s.0 new m.1))
 
       pub wires : (old : AccountOf) → Wires parts p q arena contract old new result → Reaches parts old new
       wires old = looks_first p old new result

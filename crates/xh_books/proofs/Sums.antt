@@ -1,17 +1,17 @@
 -- The sums over a worker's calls, as its account says.
-use Rattle.std.proofs.Common.{◌≡◌, ◌≢◌, ℕ, zero, suc, ◌+◌, ◌*◌, ◌/◌, ◌<◌, ◌≤◌, Bool, true, false, cond, List, [], ◌∷◌, ◌++◌, length, get_or, map, refl}
-use Rattle.std.proofs.Common.{sym, ap, ◌∙◌, subst, ⊎_elim, arith, All, length-set, eq-eqb, ne_eqb}
-use Rattle.std.proofs.lemmas.List.Elements.{All-cons, All-head, All-nil, All-tail}
-use mathlib.Core.Logic.{dite, ∥∥₁_elim}
-use native.Mathlib.Decide.{ℕ_discrete}
+use Rattle.std.proofs.Common.{◌≡◌, ℕ, zero, suc, ◌+◌, ◌*◌, ◌/◌, ◌<◌, cond, List, [], ◌∷◌, ◌++◌, length, get_or, map, refl}
+use Rattle.std.proofs.Common.{sym, ap, ◌∙◌, subst, ⊎_elim, arith, All, length-set}
+use Rattle.std.proofs.lemmas.List.Elements.{All-cons, All-nil}
+use mathlib.Core.Logic.{∥∥₁_elim}
 use Rattle.std.specs.Coded.{le_prop}
 use Rattle.std.proofs.lemmas.List.{get_or_default, length-map}
 use Rattle.std.proofs.lemmas.List.Recursion.{is_sum_by}
-use Rattle.std.proofs.lemmas.List.Sums.{sum_by-cons, sum_by-set}
+use Rattle.std.proofs.lemmas.List.Sums.{sum_by-append, sum_by-cons, sum_by-set}
 use Rattle.std.specs.Prelude.{◌==◌, slice_index, slice_set, Ok}
-use Rattle.std.specs.List.{sum_by}
+use Rattle.std.specs.List.{range_with_len, sum_by}
 use Rattle.atomic_table.specs.Seated.{TableId}
 use Rattle.xh_arena.specs.Views.{TallyOf}
+use Rattle.xh_calls.proofs.Moved.{none_back}
 use Rattle.xh_calls.specs.Parts.{PartsOf}
 use Rattle.xh_calls.specs.Tallies.{fresh_tally}
 use Rattle.xh_history.specs.Histories.{HasSeen, History, at, calls_of}
@@ -27,6 +27,11 @@ use Rattle.xh_model.specs.declared.limits.TheConstants.{END_BYTES, MAX_RECORDS, 
 use Rattle.xh_place.proofs.Swept.{gave_some}
 use Rattle.xh_place.specs.Ending.{HasGivenBack, back_of, but_back}
 use Rattle.xh_place.specs.Tallies.{took}
+use Rattle.std.proofs.lemmas.Bool.Decides.{nat_tests}
+use Rattle.std.proofs.lemmas.Grind.{common_steps}
+use Rattle.xh_core.proofs.Ranges.{indexed, picked, same_range}
+use Rattle.xh_model.proofs.Totals.{sum_same}
+use Rattle.xh_books.proofs.Terms.{exchanged, same_terms}
 
 -- ---- tallies
 
@@ -34,10 +39,10 @@ use Rattle.xh_place.specs.Tallies.{took}
 abbrev taken_at : ℕ → List TallyOf → ℕ
 taken_at arena ts = slice_index (map (λ t. t.taken) ts) arena
 
-took_long : (a n : ℕ) (ts : List TallyOf) → length (took a n ts) ≡ length ts
-took_long a n [] = refl
-took_long zero n (t ∷ ts) = refl
-took_long (suc a) n (t ∷ ts) = ap suc (took_long a n ts)
+took_same : (a n : ℕ) (ts : List TallyOf) → (length (took a n ts) ≡ length ts) × (back_of (took a n ts) ≡ back_of ts)
+took_same a n [] = (refl, refl)
+took_same zero n (t ∷ ts) = (refl, refl)
+took_same (suc a) n (t ∷ ts) = let rest = took_same a n ts in (ap suc rest.0, ap (λ m. t.back + m) rest.1)
 
 took_at : (a n arena : ℕ) (ts : List TallyOf) → arena < length ts → taken_at arena (took a n ts) ≡ taken_at arena ts + cond (a == arena) n 0
 took_at a n arena [] h = absurd (omega arith)
@@ -46,19 +51,9 @@ took_at zero n (suc arena) (t ∷ ts) h = grind arith
 took_at (suc a) n zero (t ∷ ts) h = grind arith
 took_at (suc a) n (suc arena) (t ∷ ts) h = grind (arith, took_at a n arena ts (omega arith))
 
-took_back : (a n : ℕ) (ts : List TallyOf) → back_of (took a n ts) ≡ back_of ts
-took_back a n [] = refl
-took_back zero n (t ∷ ts) = refl
-took_back (suc a) n (t ∷ ts) = ap (λ m. t.back + m) (took_back a n ts)
-
-but_long : (ts : List TallyOf) → length (but_back ts) ≡ length ts
-but_long [] = refl
-but_long (t ∷ ts) = ap suc (but_long ts)
-
-but_at : (arena : ℕ) (ts : List TallyOf) → taken_at arena (but_back ts) ≡ taken_at arena ts
-but_at arena [] = refl
-but_at zero (t ∷ ts) = refl
-but_at (suc arena) (t ∷ ts) = but_at arena ts
+but_taken : (ts : List TallyOf) → map (λ t. t.taken) (but_back ts) ≡ map (λ t. t.taken) ts
+but_taken [] = refl
+but_taken (t ∷ ts) = ap (λ l. t.taken ∷ l) (but_taken ts)
 
 -- ---- what a call moves
 
@@ -69,29 +64,26 @@ record Went (takes : ℕ → ℕ) (gives : ℕ) (old new : AccountOf) : Type 0 w
   back : back_of new.tallies ≡ back_of old.tallies + gives
 
 module _ (old new : AccountOf) where
-  unmoved : IsUnmoved old new → Went (λ _. 0) 0 old new
-  unmoved m = record {
-    number = m.0;
-    count = ap length m.1;
-    taken = λ arena h. ap (taken_at arena) m.1 ∙ omega arith;
-    back = ap back_of m.1 ∙ omega arith;
-  }
-
   taking : (a n : ℕ) → HasTaken a n old new → Went (λ arena. cond (a == arena) n 0) 0 old new
   taking a n m = record {
     number = m.0;
-    count = ap length m.1 ∙ took_long a n old.tallies;
+    count = ap length m.1 ∙ (took_same a n old.tallies).0;
     taken = λ arena h. ap (taken_at arena) m.1 ∙ took_at a n arena old.tallies h;
-    back = ap back_of m.1 ∙ took_back a n old.tallies ∙ omega arith;
+    back = ap back_of m.1 ∙ (took_same a n old.tallies).1 ∙ omega arith;
   }
 
   reclaiming : (n : ℕ) → HasBack n old new → Went (λ _. 0) n old new
-  reclaiming n m = record {
-    number = m.0;
-    count = sym (but_long new.tallies) ∙ ap length m.1.1 ∙ but_long old.tallies;
-    taken = λ arena h. sym (but_at arena new.tallies) ∙ ap (taken_at arena) m.1.1 ∙ but_at arena old.tallies ∙ omega arith;
-    back = m.1.0;
-  }
+  reclaiming n m =
+      let same : map (λ (t : TallyOf). t.taken) new.tallies ≡ map (λ (t : TallyOf). t.taken) old.tallies =
+      sym (but_taken new.tallies) ∙ ap (map (λ (t : TallyOf). t.taken)) m.1.1 ∙ but_taken old.tallies in record {
+        number = m.0;
+        count = sym (length-map new.tallies (λ (t : TallyOf). t.taken)) ∙ ap length same ∙ length-map old.tallies (λ (t : TallyOf). t.taken);
+        taken = λ arena h. ap (λ (l : List ℕ). slice_index l arena) same ∙ omega arith;
+        back = m.1.0;
+      }
+
+  unmoved : IsUnmoved old new → Went (λ _. 0) 0 old new
+  unmoved m = reclaiming 0 (m.0, none_back old.tallies new.tallies m.1)
 
   giving : (a n : ℕ) → HasGiven a n old new → Went (λ _. 0) n old new
   giving a n m = reclaiming n (m.0, subst (HasGivenBack n old.tallies) (sym m.1) (gave_some a n old.tallies m.2))
@@ -109,40 +101,48 @@ module _ (old new : AccountOf) where
 
 -- ---- sums over histories
 
+module _ (f : Call → ℕ) where
+  -- what a call moved, if it is the worker's
+  abbrev own : ℕ × Call → ℕ → ℕ
+  own c k = cond (c.0 == k) (f c.1) 0
+
+  abbrev owns : ℕ → History Call → ℕ
+  owns k h = sum_by f (calls_of k h)
+
+  owns_is : (k : ℕ) (h : History Call) → owns k h ≡ sum_by (λ c. own c k) h
+  owns_is k [] = refl
+  owns_is k (c ∷ h) = grind (arith, common_steps, nat_tests, owns_is k h)
+
+  -- each call of a history is of one worker
+  all_owns : (m : ℕ) (hs : List (History Call)) → All (λ h. All (λ c. c.0 < m) h) hs → sum_by (λ k. sum_of f k hs) (range_with_len 0 m) ≡ sum_of_all f hs
+  all_owns m hs within =
+      let ks = range_with_len 0 m in
+      exchanged (λ h k. owns k h) hs ks ∙ same_terms _ _ hs (λ p d below. let h : History Call = get_or hs p d in
+      sum_same _ _ ks (λ k. owns_is k h) ∙ exchanged own h ks ∙ same_terms _ _ h (λ i e inside. let c : ℕ × Call = get_or h i e in
+      picked (f c.1) c.0 0 m (omega arith) (omega (arith, within p d below i e inside))))
+
 module _ (f : Call → ℕ) (n : ℕ) where
-  abbrev own : History Call → ℕ
-  own h = sum_by f (calls_of n h)
+  owns_both : (xs ys : History Call) → owns f n (xs ++ ys) ≡ owns f n xs + owns f n ys
+  owns_both xs ys = owns_is f n (xs ++ ys) ∙ sum_by-append (λ c. own f c n) xs ys ∙ (λ i. sym (owns_is f n xs) i + sym (owns_is f n ys) i)
 
-  own-append : (xs ys : History Call) → own (xs ++ ys) ≡ own xs + own ys
-  own-append [] ys = omega arith
-  own-append (c ∷ xs) ys = go (c.0 == n) (own-append xs ys) where
-    go : (b : Bool) → own (xs ++ ys) ≡ own xs + own ys → sum_by f (cond b (c.1 ∷ calls_of n (xs ++ ys)) (calls_of n (xs ++ ys))) ≡ sum_by f (cond b (c.1 ∷ calls_of n xs) (calls_of n xs)) + own ys
-    go true e = omega (arith, e, sum_by-cons f c.1 (calls_of n (xs ++ ys)), sum_by-cons f c.1 (calls_of n xs))
-    go false e = e
-
-  own_seen : (seen h : History Call) → HasSeen n seen h → own h ≡ own seen
-  own_seen seen h s = let none : own s.0 ≡ 0 = ap (sum_by f) s.2 in ap own s.1 ∙ own-append seen s.0 ∙ omega (arith, none)
-
-  own_one : (e : Call) → own ((n, e) ∷ []) ≡ f e
-  own_one e = ap (λ (b : Bool). sum_by f (cond b (e ∷ []) [])) (eq-eqb n n refl) ∙ omega arith
+  owns_seen : (seen h : History Call) → HasSeen n seen h → owns f n h ≡ owns f n seen
+  owns_seen seen h s = let none : owns f n s.0 ≡ 0 = ap (sum_by f) s.2 in ap (owns f n) s.1 ∙ owns_both seen s.0 ∙ omega (arith, none)
 
   grows : (fs : List (History Call)) (p : ℕ) (others : History Call) (e : Call) → p < length fs → calls_of n others ≡ []
       → sum_of f n (slice_set fs p ((at fs p ++ others) ++ (n, e) ∷ [])) ≡ sum_of f n fs + f e
   grows fs p others e inside none =
       let h : History Call = (at fs p ++ others) ++ (n, e) ∷ [] in
-      let more : own h ≡ own (at fs p) + f e = own-append (at fs p ++ others) ((n, e) ∷ []) ∙ omega (arith, own_seen (at fs p) (at fs p ++ others) (others, refl, none), own_one e) in
-      omega (arith, more, sum_by-set own fs p h [] inside)
+      let one : owns f n ((n, e) ∷ []) ≡ f e = grind (arith, common_steps, nat_tests) in
+      omega (arith, one, owns_both (at fs p ++ others) ((n, e) ∷ []), owns_seen (at fs p) (at fs p ++ others) (others, refl, none), sum_by-set (owns f n) fs p h [] inside)
 
   sees : (fs : List (History Call)) (p : ℕ) (h : History Call) → HasSeen n (at fs p) h → sum_of f n (slice_set fs p h) ≡ sum_of f n fs
   sees [] p h s = refl
-  sees (x ∷ fs) zero h s = omega (arith, sum_by-cons own h fs, sum_by-cons own x fs, own_seen x h s)
-  sees (x ∷ fs) (suc p) h s = omega (arith, sum_by-cons own x (slice_set fs p h), sum_by-cons own x fs, sees fs p h s)
+  sees (x ∷ fs) zero h s = omega (arith, sum_by-cons (owns f n) h fs, sum_by-cons (owns f n) x fs, owns_seen x h s)
+  sees (x ∷ fs) (suc p) h s = omega (arith, sum_by-cons (owns f n) x (slice_set fs p h), sum_by-cons (owns f n) x fs, sees fs p h s)
 
-  sees_all : (fs hs : List (History Call)) → length fs ≡ length hs → ((p : ℕ) → p < length hs → HasSeen n (at fs p) (at hs p)) → sum_of f n hs ≡ sum_of f n fs
-  sees_all [] [] long s = refl
-  sees_all [] (h ∷ hs) long s = absurd (omega arith)
-  sees_all (x ∷ fs) [] long s = absurd (omega arith)
-  sees_all (x ∷ fs) (h ∷ hs) long s = omega (arith, sum_by-cons own x fs, sum_by-cons own h hs, own_seen x h (s 0 (omega arith)), sees_all fs hs (omega arith) (λ p lt. s (suc p) (omega arith)))
+  sees_all : (fs hs : List (History Call)) → length fs ≡ PLACES → length hs ≡ PLACES → ((p : ℕ) → p < PLACES → HasSeen n (at fs p) (at hs p)) → sum_of f n hs ≡ sum_of f n fs
+  sees_all fs hs count counts s =
+      sym (indexed (owns f n) hs [] PLACES counts) ∙ same_range _ _ 0 PLACES (λ p from to. owns_seen (at fs p) (at hs p) (s p (omega arith))) ∙ indexed (owns f n) fs [] PLACES count
 
 -- ---- a worker
 
@@ -209,7 +209,7 @@ module _ (parts : PartsOf) (hs : List (History Call)) where
   same_sum : (f : Call → ℕ) (k : ℕ) (a : AccountOf) → Worked parts hs k a → sum_of f k hs ≡ sum_of f k a.fronts
   same_sum f k a w =
       let s = reached k a w in
-      sees_all f k a.fronts hs (s.fronts ∙ sym w.1.0) (λ p lt. subst (λ n. HasSeen n (at a.fronts p) (at hs p)) s.number (w.1.1 p (omega (arith, lt, w.1.0))))
+      sees_all f k a.fronts hs s.fronts w.1.0 (λ p lt. subst (λ n. HasSeen n (at a.fronts p) (at hs p)) s.number (w.1.1 p lt))
 
   pub worked_taken : (k : ℕ) (a : AccountOf) → Worked parts hs k a → (arena : ℕ) → arena < arena_count parts → taken_of arena a ≡ sum_of (taken_in arena) k hs
   worked_taken k a w arena h = (reached k a w).taken arena h ∙ sym (same_sum (taken_in arena) k a w)
@@ -219,76 +219,16 @@ module _ (parts : PartsOf) (hs : List (History Call)) where
 
 -- ---- all workers
 
--- the sum of so many values, from a number on
-abbrev ranged : (ℕ → ℕ) → ℕ → ℕ → ℕ
-ranged g j zero = 0
-ranged g j (suc m) = g j + ranged g (suc j) m
-
-ranged_same : (g h : ℕ → ℕ) → ((k : ℕ) → g k ≡ h k) → (j m : ℕ) → ranged g j m ≡ ranged h j m
-ranged_same g h e j zero = refl
-ranged_same g h e j (suc m) = omega (arith, e j, ranged_same g h e (suc j) m)
-
-ranged_both : (g h : ℕ → ℕ) (j m : ℕ) → ranged (λ k. g k + h k) j m ≡ ranged g j m + ranged h j m
-ranged_both g h j zero = omega arith
-ranged_both g h j (suc m) = omega (arith, ranged_both g h (suc j) m)
-
-ranged_none : (j m : ℕ) → ranged (λ k. 0) j m ≡ 0
-ranged_none j zero = refl
-ranged_none j (suc m) = omega (arith, ranged_none (suc j) m)
-
--- one value among them, at its own number
-module _ (n x : ℕ) where
-  abbrev here : ℕ → ℕ
-  here k = cond (n == k) x 0
-
-  ranged_past : (j m : ℕ) → n < j → ranged here j m ≡ 0
-  ranged_past j zero h = refl
-  ranged_past j (suc m) h =
-      let no : here j ≡ 0 = ap (λ (b : Bool). cond b x 0) (ne_eqb n j (λ e. omega (arith, e, h))) in
-      omega (arith, no, ranged_past (suc j) m (omega arith))
-
-  ranged_one : (j m : ℕ) → j ≤ n → n < j + m → ranged here j m ≡ x
-  ranged_one j zero from to = absurd (omega arith)
-  ranged_one j (suc m) from to = dite (ℕ_discrete n j)
-      (λ (e : n ≡ j). let yes : here j ≡ x = ap (λ (b : Bool). cond b x 0) (eq-eqb n j e) in omega (arith, yes, ranged_past (suc j) m (omega (arith, e))))
-      (λ (ne : n ≢ j). let no : here j ≡ 0 = ap (λ (b : Bool). cond b x 0) (ne_eqb n j ne) in omega (arith, no, ranged_one (suc j) m (omega (arith, from, ne)) (omega (arith, to))))
-
-module _ (f : Call → ℕ) (m : ℕ) where
-  own_first : (k : ℕ) (c : ℕ × Call) (h : History Call) → own f k (c ∷ h) ≡ here c.0 (f c.1) k + own f k h
-  own_first k c h = go (c.0 == k) where
-    go : (b : Bool) → sum_by f (cond b (c.1 ∷ calls_of k h) (calls_of k h)) ≡ cond b (f c.1) 0 + own f k h
-    go true = sum_by-cons f c.1 (calls_of k h)
-    go false = omega arith
-
-  -- each call of a history is of one worker
-  all_own : (h : History Call) → All (λ c. c.0 < m) h → ranged (λ k. own f k h) 0 m ≡ sum_by (λ c. f c.1) h
-  all_own [] within = ranged_none 0 m
-  all_own (c ∷ h) within =
-      let one = ranged_one c.0 (f c.1) 0 m (omega arith) (omega (arith, All-head (λ (d : ℕ × Call). d.0 < m) c h within)) in
-      let rest = all_own h (All-tail (λ (d : ℕ × Call). d.0 < m) c h within) in
-      ranged_same (λ k. own f k (c ∷ h)) (λ k. here c.0 (f c.1) k + own f k h) (λ k. own_first k c h) 0 m
-      ∙ ranged_both (here c.0 (f c.1)) (λ k. own f k h) 0 m ∙ omega (arith, one, rest, sum_by-cons (λ (d : ℕ × Call). f d.1) c h)
-
-  all_owns : (hs : List (History Call)) → All (λ h. All (λ c. c.0 < m) h) hs → ranged (λ k. sum_of f k hs) 0 m ≡ sum_of_all f hs
-  all_owns [] within = ranged_none 0 m
-  all_owns (h ∷ hs) within =
-      let one = all_own h (All-head (λ (x : History Call). All (λ (d : ℕ × Call). d.0 < m) x) h hs within) in
-      let rest = all_owns hs (All-tail (λ (x : History Call). All (λ (d : ℕ × Call). d.0 < m) x) h hs within) in
-      ranged_same (λ k. sum_of f k (h ∷ hs)) (λ k. own f k h + sum_of f k hs) (λ k. sum_by-cons (own f k) h hs) 0 m
-      ∙ ranged_both (λ k. own f k h) (λ k. sum_of f k hs) 0 m ∙ omega (arith, one, rest, sum_by-cons (λ (x : History Call). sum_by (λ (d : ℕ × Call). f d.1) x) h hs)
-
-module _ (g : ℕ → ℕ) (part : AccountOf → ℕ) where
-  by_number : (j : ℕ) (all : List AccountOf) → ((k : ℕ) (d : AccountOf) → k < length all → part (get_or all k d) ≡ g (j + k)) → sum_by part all ≡ ranged g j (length all)
-  by_number j [] is = refl
-  by_number j (a ∷ all) is =
-      let first : part a ≡ g j = (let e : j + 0 ≡ j = omega arith in is 0 a (omega arith) ∙ ap g e) in
-      let later = by_number (suc j) all (λ k d h. let e : j + suc k ≡ suc j + k = omega arith in is (suc k) d (omega arith) ∙ ap g e) in
-      omega (arith, first, later, sum_by-cons part a all)
+-- the sum over all workers, in their order
+by_number : (g : ℕ → ℕ) (part : AccountOf → ℕ) (j : ℕ) (all : List AccountOf) → ((i k : ℕ) (d : AccountOf) → k ≡ j + i → i < length all → part (get_or all i d) ≡ g k)
+    → sum_by part all ≡ sum_by g (range_with_len j (length all))
+by_number g part j [] is = refl
+by_number g part j (a ∷ all) is =
+    omega (arith, is 0 j a (omega arith) (omega arith), by_number g part (j + 1) all (λ i k d e h. is (suc i) k d (omega arith) (omega arith)), sum_by-cons part a all, sum_by-cons g j (range_with_len (j + 1) (length all)))
 
 summed : (f : Call → ℕ) (part : AccountOf → ℕ) (all : List AccountOf) (hs : List (History Call))
     → ((k : ℕ) (d : AccountOf) → k < length all → part (get_or all k d) ≡ sum_of f k hs) → All (λ h. All (λ c. c.0 < length all) h) hs → sum_by part all ≡ sum_of_all f hs
-summed f part all hs is within =
-    by_number (λ k. sum_of f k hs) part 0 all (λ k d h. let e : k ≡ 0 + k = omega arith in is k d h ∙ ap (λ i. sum_of f i hs) e) ∙ all_owns f (length all) hs within
+summed f part all hs is within = by_number (λ k. sum_of f k hs) part 0 all (λ i k d e h. let z : i ≡ k = omega arith in is i d h ∙ ap (λ w. sum_of f w hs) z) ∙ all_owns f (length all) hs within
 
 -- each call of a lawful history is of a worker of the kernel
 module _ (parts : PartsOf) where

@@ -53,7 +53,7 @@ pub record IsClosed (parts : PartsOf) (accounts : List AccountOf) (looks : List 
   pub arenas : l.arenas.items ≡ arena_lines accounts 0 vaults
   pub lines : l.places.items ≡ place_lines (places_of places)
   pub owned : l.owned ≡ bytes_owned (places_of places)
-  pub flight : l.flight ≡ bytes_in_flight (places_of places) 0 vaults
+  pub flight : l.flight ≡ bytes_in_flight (places_of places) parts.records.shape.records 0 (all_lengths (arenas_of vaults))
   pub balanced : IsBalanced l
   pub in_flight : IsInFlight parts.records.shape (places_of places) (all_lengths (arenas_of vaults)) directions
 

@@ -1,5 +1,5 @@
 -- What is in flight when the books are closed, direction by direction.
-use Rattle.std.specs.Prelude.{◌≡◌, ◌≢◌, ◌∷◌, ◌++◌, ℕ, ◌==◌, ◌<◌, Bool, false, cond, count_by, filter, List, All, AllPairs, Any, IsSomeAnd, length, map, nat_lt, slice_get, Option, Some, None}
+use Rattle.std.specs.Prelude.{◌≡◌, ◌≢◌, ◌∷◌, ◌++◌, ℕ, ◌==◌, ◌<◌, false, cond, count_by, filter, List, All, Any, IsSomeAnd, length, map, nat_lt, slice_get, Option, Some, None}
 use Rattle.std.specs.List.{range_with_len, sum_by, zip}
 use Rattle.xh_core.specs.declared.flight.FlightLine.{FlightLine}
 use Rattle.xh_model.specs.declared.event.Event.{Event}
@@ -9,34 +9,26 @@ use Rattle.xh_model.specs.declared.event.Holder.TheVariants.{Process, Direction}
 use Rattle.xh_model.specs.declared.limits.TheConstants.{DIRECTIONS}
 use Rattle.xh_model.specs.Keyed.{Among, value_at}
 use Rattle.xh_model.specs.Slots.{index_of}
-use Rattle.xh_model.specs.Words.{IsHeldBy, Ownership, number_of, place_of, record_of}
+use Rattle.xh_model.specs.Words.{IsHeldBy, Ownership, number_of, place_of, record_of, word_of}
 use Rattle.xh_place.specs.Moves.{moves}
 use Rattle.xh_place.specs.Places.{Item, PlaceOf}
 use Rattle.xh_records.specs.declared.shape.Shape.{Shape}
 use Rattle.xh_records.specs.History.{LeadsTo, all_free, by_place, process_of}
 use Rattle.xh_books.specs.Ledgers.{is_listed}
 
--- ---- the lines, of all records, each given by its holder and its length
-
--- whether this holder is the direction
-abbrev pub is_on : ℕ → Option Holder → Bool
-is_on d None = false
-is_on d (Some (Process p)) = false
-is_on d (Some (Direction e)) = e == d
+-- ---- the lines, of all records, each given by the word of its holder and its length
 
 -- the line of a direction: how many records are on it, and how many bytes these have
-abbrev pub flight_line : List (Option Holder × ℕ) → ℕ → FlightLine
-flight_line all d = record { direction = d; blocks = count_by (λ r. is_on d r.0) all; bytes = sum_by (λ r. cond (is_on d r.0) r.1 0) all }
+abbrev pub flight_line : List (ℕ × ℕ) → ℕ → FlightLine
+flight_line all d = record {
+  direction = d;
+  blocks = count_by (λ r. r.0 == word_of (Some (Direction d))) all;
+  bytes = sum_by (λ r. cond (r.0 == word_of (Some (Direction d))) r.1 0) all;
+}
 
 -- the lines of the directions that have a record, in their order
-abbrev pub flight_lines : List (Option Holder × ℕ) → List FlightLine
+abbrev pub flight_lines : List (ℕ × ℕ) → List FlightLine
 flight_lines all = filter (λ l. nat_lt 0 l.blocks) (map (flight_line all) (range_with_len 0 DIRECTIONS))
-
--- the lines of so many bytes in flight: they rise strictly in their directions, of which there are 128, each has blocks and bytes, and the bytes are their sum
-pub record AreFlightLines (bytes : ℕ) (lines : List FlightLine) : Type 0 where
-  pub rising : AllPairs (λ a b. a.direction < b.direction) lines
-  pub each : All (λ l. (l.direction < DIRECTIONS) × (0 < l.blocks) × (0 < l.bytes)) lines
-  pub sum : bytes ≡ sum_by (λ l. l.bytes) lines
 
 -- ---- whose they are
 
@@ -65,4 +57,4 @@ pub record IsInFlight (s : Shape) (places : List PlaceOf) (lengths : List ℕ) (
   pub passed : (k d : ℕ) → IsHeldBy owners k (Some (Direction d)) → WasPassed s.records log k d
   pub quiet : (k n : ℕ) (h : Option Holder) → slice_get lengths k ≡ Some n → IsHeldBy owners k h → Stands places (number_of s.records k) n h
   pub full : All (λ p. (r : ℕ) (x : Item) → value_at r p.blocks ≡ Some x → 0 < x.len) places
-  pub lines_are : lines ≡ flight_lines (zip owners lengths)
+  pub lines_are : lines ≡ flight_lines (zip (map word_of owners) lengths)

@@ -1,15 +1,15 @@
 -- The ledger of closed books: what it says of the vaults, the places and the accounts that were handed in.
-use Rattle.std.specs.Prelude.{◌≡◌, ℕ, suc, ◌+◌, ◌*◌, Bool, cond, is_some, List, [], ◌∷◌, ◌++◌, All, length, map, slice_index, sum}
-use Rattle.std.specs.List.{filter_map, list_any, sum_by}
+use Rattle.std.specs.Prelude.{◌≡◌, ℕ, suc, ◌+◌, Bool, cond, is_some, List, [], ◌∷◌, All, length, map, slice_index}
+use Rattle.std.specs.List.{filter_map, flat_map, list_any, sum_by}
 use Rattle.xh_arena.specs.Views.{VaultOf}
 use Rattle.xh_core.specs.declared.ledger.ArenaLine.{ArenaLine}
 use Rattle.xh_core.specs.declared.ledger.Ledger.{Ledger}
 use Rattle.xh_core.specs.declared.ledger.PlaceLine.{PlaceLine}
 use Rattle.xh_kernel.specs.Accounts.{AccountOf}
-use Rattle.xh_model.specs.declared.limits.TheConstants.{MAX_RECORDS}
 use Rattle.xh_model.specs.Arena.{ArenaState, lengths_of}
 use Rattle.xh_model.specs.Cover.{bytes_out, holes_of}
 use Rattle.xh_model.specs.Keyed.{value_at}
+use Rattle.xh_model.specs.Words.{number_of}
 use Rattle.xh_place.specs.Places.{PlaceOf, line, line_in, total_of}
 
 -- ---- arenas
@@ -41,8 +41,7 @@ abbrev pub arenas_of : List VaultOf → List ArenaState
 arenas_of = map (λ v. v.arena)
 
 abbrev pub all_lengths : List ArenaState → List ℕ
-all_lengths [] = []
-all_lengths (a ∷ rest) = lengths_of a ++ all_lengths rest
+all_lengths = flat_map lengths_of
 
 -- all that the workers took of all arenas, and all that they gave back
 abbrev pub all_taken : List AccountOf → ℕ
@@ -67,15 +66,10 @@ is_listed r = list_any (λ p. is_some (value_at r p.blocks))
 
 -- ---- what is in flight
 
--- the lengths of the records from the number r on, with 0 for each that stands in a place's list
-abbrev pub unlisted : List PlaceOf → ℕ → List ℕ → List ℕ
-unlisted places r [] = []
-unlisted places r (n ∷ ns) = cond (is_listed r places) 0 n ∷ unlisted places (suc r) ns
-
--- the bytes, in the vaults of the arenas from a number on, of the records that stand in no place's list
-abbrev pub bytes_in_flight : List PlaceOf → ℕ → List VaultOf → ℕ
-bytes_in_flight places arena [] = 0
-bytes_in_flight places arena (v ∷ vs) = sum (unlisted places (arena * MAX_RECORDS) (lengths_of v.arena)) + bytes_in_flight places (suc arena) vs
+-- the bytes of the records that stand in no place's list, of these lengths from the index k on, with n records in each arena
+abbrev pub bytes_in_flight : List PlaceOf → ℕ → ℕ → List ℕ → ℕ
+bytes_in_flight places n k [] = 0
+bytes_in_flight places n k (x ∷ xs) = cond (is_listed (number_of n k) places) 0 x + bytes_in_flight places n (k + 1) xs
 
 -- ---- the sums
 

@@ -6,8 +6,9 @@ ghost use Rattle.xh_kernel.specs.Places.{places_of};
 ghost use Rattle.xh_model.specs.declared.limits.TheConstants.{MAX_ARENAS, PLACES};
 ghost use Rattle.xh_place.specs.Places.{IsPlaceOf};
 ghost use Rattle.xh_books.specs.Closing.{IsClosed};
-ghost use Rattle.xh_books.specs.Flight.{AreFlightLines, IsInFlight};
-ghost use Rattle.xh_books.specs.inner.Steps.{AreAt, TellFlight, lens_of, unlisted_from};
+ghost use Rattle.xh_core.specs.Flight.{AreFlightLines};
+ghost use Rattle.xh_books.specs.Flight.{IsInFlight};
+ghost use Rattle.xh_books.specs.inner.Steps.{AreAt, TellFlight, lens_of};
 ghost use Rattle.xh_books.specs.Ledgers.{IsBalanced, all_back, all_lengths, all_taken, arena_lines, arenas_of, bytes_in_flight, bytes_owned, place_lines};
 
 use crate::auditing::audit;
@@ -45,7 +46,7 @@ fn close_table(alloc: Global, records: Records<Body>, places: Vec<Place>) -> Res
     requires few { length records.shape.names ≤ MAX_ARENAS }
     requires places { All (IsPlaceOf records) (places_of places.items) × (vec_len places ≡ records.shape.places) }
     ensures lots { IfOk result (λ r. (length r.1.items ≡ length records.shape.names * records.shape.records) × AreAt records.shape.records records.shape.names r.1.items) }
-    ensures owned { IfOk result (λ r. sum (lens_of r.1.items) ≡ bytes_owned (places_of places.items) + sum (unlisted_from (places_of places.items) records.shape.records 0 (lens_of r.1.items))) }
+    ensures owned { IfOk result (λ r. sum (lens_of r.1.items) ≡ bytes_owned (places_of places.items) + bytes_in_flight (places_of places.items) records.shape.records 0 (lens_of r.1.items)) }
     ensures flight { IfOk result (λ r. TellFlight records.shape (places_of places.items) (lens_of r.1.items) r.0.items) }
     ensures lines { IfOk result (λ r. (r.2.items ≡ place_lines (places_of places.items)) × (sum_by (λ l. l.bytes) r.2.items ≡ bytes_owned (places_of places.items))) }
     ensures refused { IfErr result (λ e. e ≡ Refused.OutOfMemory) }
@@ -101,7 +102,7 @@ pub fn close_books<N: Names>(
     ensures arenas { IfOk result (λ b. b.ledger.arenas.items ≡ arena_lines accounts.items 0 vaults.items) }
     ensures places { IfOk result (λ b. b.ledger.places.items ≡ place_lines (places_of places.items)) }
     ensures owned { IfOk result (λ b. b.ledger.owned ≡ bytes_owned (places_of places.items)) }
-    ensures flight { IfOk result (λ b. b.ledger.flight ≡ bytes_in_flight (places_of places.items) 0 vaults.items) }
+    ensures flight { IfOk result (λ b. b.ledger.flight ≡ bytes_in_flight (places_of places.items) records.shape.records 0 (all_lengths (arenas_of vaults.items))) }
     ensures moved { IfOk result (λ b. all_taken accounts.items ≡ all_back accounts.items + b.ledger.out) }
     ensures balanced { IfOk result (λ b. IsBalanced b.ledger) }
     ensures in_flight { IfOk result (λ b. IsInFlight records.shape (places_of places.items) (all_lengths (arenas_of vaults.items)) b.flight.items) }

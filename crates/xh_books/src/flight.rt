@@ -2,7 +2,8 @@
 ghost use Rattle.std.specs.Prelude.{◌≡◌, ◌*◌, ◌<◌, ◌≤◌, length};
 ghost use Rattle.std.specs.List.{zip};
 ghost use Rattle.xh_model.specs.declared.limits.TheConstants.{DIRECTIONS, MAX_ARENAS, MAX_RECORDS};
-ghost use Rattle.xh_books.specs.inner.Steps.{lens_of, word_line, word_lines};
+ghost use Rattle.xh_books.specs.Flight.{flight_line, flight_lines};
+ghost use Rattle.xh_books.specs.inner.Steps.{lens_of};
 
 use arrayvec::ArrayVec;
 use xh_arena::Lot;
@@ -16,7 +17,7 @@ fn line_of(direction: u8, words: &[u64], lots: &[Lot<Body>]) -> FlightLine
     requires direction { direction < DIRECTIONS }
     requires both { length words.now ≡ length lots.now }
     requires few { length lots.now ≤ MAX_ARENAS * MAX_RECORDS }
-    ensures { result ≡ word_line (zip words.now (lens_of lots.now)) direction }
+    ensures { result ≡ flight_line (zip words.now (lens_of lots.now)) direction }
 {
     let word = OwnerWord::InFlight(direction).encode();
     let mut blocks = 0u32;
@@ -38,7 +39,7 @@ fn line_of(direction: u8, words: &[u64], lots: &[Lot<Body>]) -> FlightLine
 pub(crate) fn flight_lines(words: &[u64], lots: &[Lot<Body>]) -> ArrayVec<FlightLine, FLIGHT_LINES>
     requires both { length words.now ≡ length lots.now }
     requires few { length lots.now ≤ MAX_ARENAS * MAX_RECORDS }
-    ensures { result.items ≡ word_lines (zip words.now (lens_of lots.now)) }
+    ensures { result.items ≡ flight_lines (zip words.now (lens_of lots.now)) }
 {
     let mut lines = ArrayVec::new();
     for direction in 0..DIRECTIONS {

@@ -1,9 +1,8 @@
 -- Lemmas on whole runs: what all have played is what the answers tell.
 use Rattle.std.proofs.Common.{◌≡◌, ◌<◌, ◌≤◌, ◌+◌, ◌++◌, ◌==◌, ◌&&◌, ◌∙◌, ℕ, suc, zero, Bool, true, false, List, [], ◌∷◌, map, length, get_or, if◌then◌else◌, None, inl, inr, refl, ap, sym, subst, arith}
-use Rattle.std.proofs.Math.Bool.{and-false}
-use Rattle.std.proofs.Math.Dec.{eqb-suc-zero, eqb-zero-suc}
 use Rattle.std.proofs.Math.Nat.{eq-or-lt_of_le}
-use Rattle.std.proofs.lemmas.Bool.{false≢true, ne_eqb}
+use Rattle.std.proofs.Math.Dec.{eqb-suc-zero}
+use Rattle.std.proofs.lemmas.Bool.Decides.{nat_tests}
 use Rattle.std.proofs.lemmas.List.{get_or_append_left, get_or_push, length-map, length_push}
 use Rattle.xh_model.specs.declared.limits.TheConstants.{PLACES}
 use Rattle.xh_model.specs.declared.row.Row.{Row}
@@ -38,19 +37,9 @@ same_head b c (line ∷ lines) = rw (zero_at (is_head line.command.form) (is_pla
 -- ---- a place
 
 -- a place without a process has no lines
-test_at : (m : Bool) (n k : ℕ) → k < PLACES → (m ≡ true → n ≡ k → ⊥) → ((if m then suc n else LAST) == suc k) ≡ false
-test_at true n k below other = ne_eqb (suc n) (suc k) (λ e. other refl (omega (arith, e)))
-test_at false n k below other = ne_eqb LAST (suc k) (λ e. omega (arith, e, below))
-
-none_at : (b : Bindings) (k n p : ℕ) (h l : Bool) → k < PLACES → process_at b k ≡ None → ((if h then 0 else if l && is_some_of p (process_at b n) then suc n else LAST) == suc k) ≡ false
-none_at b k n p true l below none = eqb-zero-suc k
-none_at b k n p false l below none = test_at (l && is_some_of p (process_at b n)) n k below (λ e same.
-    let nobody : is_some_of p (process_at b n) ≡ false = subst (λ x. is_some_of p (process_at b x) ≡ false) (sym same) (ap (is_some_of p) none) in
-    false≢true (sym (ap (λ x. l && x) nobody ∙ and-false l) ∙ e))
-
 pub no_part : (b : Bindings) (k : ℕ) (lines : List Line) → k < PLACES → process_at b k ≡ None → part b (suc k) lines ≡ []
 no_part b k [] below none = refl
-no_part b k (line ∷ lines) below none = rw (none_at b k (number_of b (process_of line)) (process_of line) (is_head line.command.form) _ below none, no_part b k lines below none) refl
+no_part b k (line ∷ lines) below none = grind (arith, nat_tests, no_part b k lines below none, none)
 
 module _ {M S : Type 0} (state : M → S) (did : S → (q : Question) → Answer q → S → Type 0) where
   -- what was joined of a place is what is left of it

@@ -1,6 +1,6 @@
 -- What a run leaves.
 use Rattle.std.specs.Prelude.{◌≡◌, ◌≢◌, ◌⊎◌, ℕ, All, Bool, false, true, List, length}
-use Rattle.xh_books.specs.Flight.{AreFlightLines}
+use Rattle.xh_core.specs.Flight.{AreFlightLines}
 use Rattle.xh_books.specs.Ledgers.{IsBalanced}
 use Rattle.xh_core.specs.declared.ledger.Ledger.{Ledger}
 use Rattle.xh_model.specs.declared.config.Config.{Config}

@@ -1,14 +1,10 @@
 //! A script from its bytes to its replies and its ledger, on threads.
-ghost use Rattle.std.specs.Prelude.{◌≡◌, ◌+◌, ◌<◌, Err, IfErr, IfOk, OnOk, length};
-ghost use Rattle.std.specs.List.{All};
+ghost use Rattle.std.specs.Prelude.{◌≡◌, ◌+◌, Err, IfErr, OnOk};
 ghost use Rattle.xh_model.specs.Config.{IsConfig};
-ghost use Rattle.xh_model.specs.declared.limits.TheConstants.{PLACES};
 ghost use Rattle.xh_script.specs.declared.limits.TheConstants.{MAX_SCRIPT};
-ghost use Rattle.xh_script.specs.Scripts.{listing_of};
 ghost use Rattle.xh_session.specs.Ends.{Done, Stopped};
 ghost use Rattle.xh_session.specs.Reading.{ReadsAtMost};
 ghost use Rattle.xh_runner.specs.Reports.{IsReportOf, IsReportTold};
-ghost use Rattle.xh_session.specs.Reports.{told_text};
 
 use crate::threads::run_threads;
 use std::alloc::Global;
@@ -17,26 +13,8 @@ use std::sync::Wait;
 use std::thread::Threads;
 use xh_core::Config;
 use xh_place::OpenGate;
-use xh_script::{Fault, Script, Watched};
-use xh_session::{Report, Run, read_input, write_report};
-
-// Runs a script on threads, through a gate that stops nobody.
-fn report_of<T: Threads + Wait + Sync>(
-    rt: &T,
-    alloc: Global,
-    run: Run,
-    script: &Script,
-) -> Result<Report, Fault>
-    requires { IsConfig run.config }
-    ensures report { IfOk result (λ r. IsReportTold run.flight run.config (listing_of script.now) (told_text run.flight r)) }
-    ensures places { IfOk result (λ r. (length r.names.items ≡ PLACES) × All (λ line. line.place < PLACES) r.ledger.places.items) }
-    ensures memory { IfErr result (λ e. e ≡ Fault.Memory) }
-{
-    match run_threads(rt, alloc, script, run.config, &OpenGate) {
-        Ok(report) => Ok(report),
-        Err(fault) => Err(fault),
-    }
-}
+use xh_script::{Fault, Watched};
+use xh_session::{Run, read_input, write_report};
 
 /// As `run_parallel`, and with what is in flight, where the run is to tell it.
 #[tactic(auto, using(xh_session::proofs::Ends::memory_stops, xh_session::proofs::Ends::unread_stops, xh_session::proofs::Ends::wrote_all, xh_session::proofs::Ends::wrote_part))]
@@ -53,7 +31,7 @@ pub fn run_parallel_as<T: Threads + Wait + Sync, R: Read, W: Write>(
     ensures limit { ReadsAtMost R.remaining (MAX_SCRIPT + 1) reader.old reader.new }
 {
     let input = read_input(alloc, run.config, reader)?;
-    let report = report_of(rt, alloc, run, &input.script)?;
+    let report = run_threads(rt, alloc, &input.script, run.config, &OpenGate)?;
     write_report(writer, &report, run.flight)
 }
 

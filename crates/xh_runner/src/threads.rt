@@ -1,6 +1,6 @@
 //! A run of a script on threads, over a kernel that is made, used and settled here.
 ghost use Rattle.std.specs.Prelude.{◌≡◌, ◌<◌, ◌⊎◌, All, IfErr, IfOk, Err, length, vec_len};
-ghost use Rattle.xh_books.specs.Flight.{AreFlightLines};
+ghost use Rattle.xh_core.specs.Flight.{AreFlightLines};
 ghost use Rattle.xh_books.specs.Ledgers.{IsBalanced};
 ghost use Rattle.xh_calls.specs.Parts.{AreMadeBy};
 ghost use Rattle.xh_glance.specs.Look.{fresh_look};

@@ -1,24 +1,23 @@
 -- What the steps of closing say: taking the accounts in, ending the places, closing the table, auditing.
-use Rattle.std.specs.Prelude.{◌≡◌, ℕ, suc, ◌+◌, ◌*◌, ◌/◌, ◌%◌, ◌==◌, ◌<◌, cond, count_by, filter, List, [], ◌∷◌, All, length, map, nat_lt, slice_get, Some, sum}
-use Rattle.std.specs.List.{range_with_len, sum_by}
+use Rattle.std.specs.Prelude.{◌≡◌, ℕ, ◌+◌, ◌/◌, ◌%◌, ◌<◌, List, [], ◌∷◌, All, length, map, slice_get, Some, sum}
+use Rattle.std.specs.List.{AllZip, sum_by}
 use Rattle.atomic_table.specs.Seated.{TableId}
 use Rattle.xh_arena.specs.Views.{LotOf, TallyOf, VaultOf}
 use Rattle.xh_core.specs.declared.flight.FlightLine.{FlightLine}
 use Rattle.xh_core.specs.declared.ledger.ArenaLine.{ArenaLine}
 use Rattle.xh_kernel.specs.Accounts.{AccountOf}
 use Rattle.xh_calls.specs.Parts.{vault_names}
-use Rattle.xh_model.specs.declared.limits.TheConstants.{DIRECTIONS}
 use Rattle.xh_model.specs.Arena.{lengths_of}
 use Rattle.xh_model.specs.Cover.{bytes_out, holes_of}
 use Rattle.xh_model.specs.Keyed.{value_at}
-use Rattle.xh_model.specs.Words.{number_of}
 use Rattle.xh_place.specs.declared.body.Body.{Body}
 use Rattle.xh_place.specs.Moves.{moves}
 use Rattle.xh_place.specs.Places.{Item, Lists, PlaceOf}
 use Rattle.xh_records.specs.Seats.{Held}
 use Rattle.xh_records.specs.declared.shape.Shape.{Shape}
-use Rattle.xh_books.specs.Flight.{AreFlightLines, IsInFlight}
-use Rattle.xh_books.specs.Ledgers.{arena_lines, arenas_of, is_listed}
+use Rattle.xh_core.specs.Flight.{AreFlightLines}
+use Rattle.xh_books.specs.Flight.{IsInFlight}
+use Rattle.xh_books.specs.Ledgers.{arena_lines, arenas_of, bytes_in_flight}
 
 -- ---- the accounts
 
@@ -76,10 +75,7 @@ pub record IsSeatOfPlace (x : Held Body) (p : PlaceOf) : Type 0 where
 
 -- those of all places, in their order
 abbrev pub AreSeats : List (Held Body) → List PlaceOf → Type 0
-AreSeats [] [] = Unit {0}
-AreSeats [] (p ∷ ps) = ⊥
-AreSeats (x ∷ xs) [] = ⊥
-AreSeats (x ∷ xs) (p ∷ ps) = IsSeatOfPlace x p × AreSeats xs ps
+AreSeats = AllZip IsSeatOfPlace
 
 -- ---- the table
 
@@ -90,21 +86,6 @@ lens_of = map (λ l. l.len)
 abbrev pub AreAt : ℕ → List TableId → List (LotOf Body) → Type 0
 AreAt n names ls = (k : ℕ) (l : LotOf Body) → slice_get ls k ≡ Some l → (slice_get names (k / n) ≡ Some l.id) × (l.index ≡ k % n)
 
--- the lengths from the index k on, with n records in each arena, and 0 for each record that stands in a place's list
-abbrev pub unlisted_from : List PlaceOf → ℕ → ℕ → List ℕ → List ℕ
-unlisted_from places n k [] = []
-unlisted_from places n k (x ∷ xs) = cond (is_listed (number_of n k) places) 0 x ∷ unlisted_from places n (suc k) xs
-
--- ---- what is in flight, of all records, each given by its word and its length
-
--- the line of a direction
-abbrev pub word_line : List (ℕ × ℕ) → ℕ → FlightLine
-word_line all d = record { direction = d; blocks = count_by (λ r. r.0 == 2 + 4 * d) all; bytes = sum_by (λ r. cond (r.0 == 2 + 4 * d) r.1 0) all }
-
--- those of the directions that have a record
-abbrev pub word_lines : List (ℕ × ℕ) → List FlightLine
-word_lines all = filter (λ l. nat_lt 0 l.blocks) (map (word_line all) (range_with_len 0 DIRECTIONS))
-
 -- the lines are what is in flight, of records of these lengths, and their sum is that of the lengths of the records in no place's list
 unfoldable pub TellFlight : Shape → List PlaceOf → List ℕ → List FlightLine → Type 0
-TellFlight s places lens lines = IsInFlight s places lens lines × AreFlightLines (sum (unlisted_from places s.records 0 lens)) lines
+TellFlight s places lens lines = IsInFlight s places lens lines × AreFlightLines (bytes_in_flight places s.records 0 lens) lines

@@ -1,17 +1,16 @@
-use Rattle.std.proofs.Common.{rules, arith, ◌≡◌, ℕ, ◌*◌, ◌/◌, ◌%◌, ◌<◌, ◌≤◌, List, length, get_or, sym, ap, ◌∙◌, subst}
-use Rattle.std.proofs.lemmas.List.{length-map, set-get_or}
-use Rattle.std.proofs.Math.ListN.{get_or-map}
+use Rattle.std.proofs.Common.{rules, arith, ◌≡◌, ℕ, ◌*◌, ◌/◌, ◌%◌, ◌<◌, ◌≤◌, List, length, get_or, sym, ap, ◌∙◌}
+use Rattle.std.proofs.lemmas.List.{get_or-map, length-map, set-get_or}
 use Rattle.std.proofs.Math.Nat.{div-lt_iff_lt-mul}
-use Rattle.std.specs.Prelude.{Some, slice_get, slice_set}
-use mathlib.Core.Logic.{dite}
-use native.Mathlib.Decide.{ℕ_discrete}
+use Rattle.std.specs.Prelude.{slice_set}
+use borrow.Author.Count.{below_more}
 use Rattle.xh_arena.specs.Views.{LotOf, VaultOf}
-use Rattle.xh_calls.proofs.Lists.{below_get, there}
+use Rattle.xh_calls.proofs.Lists.{there}
 use Rattle.xh_model.specs.Arena.{ArenaState}
 use Rattle.xh_model.specs.Cover.{length_of}
 use Rattle.xh_place.specs.declared.body.Body.{Body}
 use Rattle.xh_books.specs.Ledgers.{all_lengths, arenas_of}
-use Rattle.xh_books.proofs.Audited.{at_index, audited, some_eq}
+use Rattle.xh_books.specs.inner.Steps.{lens_of}
+use Rattle.xh_books.proofs.Audited.{at_index, audited}
 use Rattle.xh_books.proofs.auditing.audit_lots.Goals as goal
 
 pub loop-k-preserved : goal.loop-k-preserved
@@ -26,26 +25,20 @@ loop-k-preserved c =
     let same_l : slice_set l.lots k c.audit.new.lot ≡ ls = (λ i. slice_set (inv.1 i) k ((c.audit.ensures.same.1 ∙ l_is) i)) ∙ set-get_or ls k L in (
       same_v,
       same_l,
-      λ i x below at. dite (ℕ_discrete i k)
-          (λ e.
-          let here : slice_get ls k ≡ Some x = ap (slice_get ls) (sym e) ∙ at in
-          let inside : k < length ls = below_get ls k x here in
-          let is : get_or l.lots k L ≡ x = l_is ∙ some_eq (get_or ls k L) x (sym (there ls k L inside) ∙ here) in
-          let count : length ls ≡ length vs * n = c.requires.long in
-          let arena : k / n < length vs = (div-lt_iff_lt-mul c.requires.some).1 (subst (λ (z : ℕ). k < z) count inside) in
-          let arena' : k / n < length (arenas_of vs) = subst (λ (z : ℕ). k / n < z) (sym (length-map vs (λ (v : VaultOf). v.arena))) arena in
-          let index : x.index ≡ k % n = (c.requires.at k x here).1 in
+      below_more (λ i. (d : ℕ) → get_or (lens_of ls) i d ≡ get_or (all_lengths (arenas_of vs)) i d) k inv.2
+          (λ d.
+          let inside : k < length ls = search rules in
+          let arena : k / n < length vs = (div-lt_iff_lt-mul c.requires.some).1 (omega (arith, inside, c.requires.long)) in
+          let index = (c.requires.at k (get_or ls k L) (there ls k L inside)).1 in
           let known : length_of (get_or l.lots k L).index (get_or l.vaults (k / n) V).arena.cover ≡ (get_or l.lots k L).len = c.audit.ensures.lot.length in
-          ap (slice_get (all_lengths (arenas_of vs))) e
-          ∙ at_index (arenas_of vs) n k V.arena c.requires.some c.requires.each arena'
-          ∙ ap (λ (z : ArenaState). Some (length_of (k % n) z.cover)) (get_or-map (λ (v : VaultOf). v.arena) vs (k / n) V)
-          ∙ (λ j. Some (length_of (sym (ap (λ (z : LotOf Body). z.index) is ∙ index) j) (sym v_is j).arena.cover))
-          ∙ ap Some (known ∙ ap (λ (z : LotOf Body). z.len) is))
-          (λ other. inv.2 i x (omega arith) at),
+          get_or-map (λ (x : LotOf Body). x.len) ls k L d inside ∙ ap (λ (x : LotOf Body). x.len) (sym l_is) ∙ sym known
+          ∙ (λ j. length_of ((ap (λ (x : LotOf Body). x.index) l_is ∙ index) j) (v_is j).arena.cover)
+          ∙ ap (λ (a : ArenaState). length_of (k % n) a.cover) (sym (get_or-map (λ (v : VaultOf). v.arena) vs (k / n) V V.arena arena))
+          ∙ sym (at_index (arenas_of vs) n k d V.arena c.requires.some c.requires.each (omega (arith, arena, length-map vs (λ (v : VaultOf). v.arena))))),
     )
 
 pub returns-clause-known : goal.returns-clause-known
 returns-clause-known c =
     let l = c.loop-k in let vs : List VaultOf = c.args.vaults.now in
     audited (arenas_of vs) c.args.lots.now c.args.records c.requires.each (c.requires.long ∙ ap (λ (z : ℕ). z * c.args.records) (sym (length-map vs (λ (v : VaultOf). v.arena))))
-    (λ k x below at. l.invariant.2 k x (let h : length c.args.lots.now ≤ l.k = search rules in omega arith) at)
+    (λ k d below. l.invariant.2 k (let h : length c.args.lots.now ≤ l.k = search rules in omega arith) d)

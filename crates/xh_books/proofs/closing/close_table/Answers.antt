@@ -1,11 +1,13 @@
-use Rattle.std.proofs.Common.{rules, subst, ◌∙◌}
+use Rattle.std.proofs.Common.{rules, subst, sym, ◌∙◌}
 use Rattle.std.proofs.lemmas.List.{length-map}
+use Rattle.std.proofs.lemmas.Slice.Zip.{AllZip-long}
 use Rattle.xh_place.specs.Seen.{PlaceSeen}
 use Rattle.xh_kernel.specs.Places.{places_of}
 use Rattle.xh_records.specs.Showing.{IsSmall}
 use Rattle.std.specs.List.{zip}
-use Rattle.xh_books.specs.inner.Steps.{lens_of, word_lines}
-use Rattle.xh_books.proofs.Owning.{lots_at, owned, seats_long, seats_own, tell_flight}
+use Rattle.xh_books.specs.inner.Steps.{IsSeatOfPlace, lens_of}
+use Rattle.xh_books.specs.Flight.{flight_lines}
+use Rattle.xh_books.proofs.Owning.{lots_at, owned, seats_own, tell_flight}
 use Rattle.xh_books.proofs.closing.close_table.Goals as goal
 
 pub close-requires-clause-own : goal.close-requires-clause-own
@@ -13,7 +15,7 @@ close-requires-clause-own c = λ k x at. seats_own c.args.records c.in_ok-seats.
 
 pub close-requires-clause-all : goal.close-requires-clause-all
 close-requires-clause-all c =
-    let l = seats_long c.in_ok-seats.seats.items (places_of c.args.places.items) c.in_ok-seats.ensures.seats in
+    let l = sym (AllZip-long IsSeatOfPlace c.in_ok-seats.seats.items (places_of c.args.places.items) c.in_ok-seats.ensures.seats) in
     let count = c.requires.places.1 in let same = length-map c.args.places.items (λ (p : PlaceSeen). p.place) in search rules
 
 pub returns-clause-lots : goal.returns-clause-lots
@@ -34,4 +36,4 @@ returns-clause-flight c =
     let small : IsSmall c.args.records.shape = subst (λ r. IsSmall r.shape) c.records.view_is c.records.invariant.small in
     tell_flight _ c.args.records c.in_ok-seats.seats.items (places_of c.args.places.items) c.in-Ok.words.items c.in-Ok.lots.items c.in-Ok.ensures
     c.in_ok-seats.ensures.seats c.requires.places.0 small.0 small.1 c.flight_lines-flight.result.items
-    (c.flight_lines-flight.ensures ∙ (λ i. word_lines (zip (c.as_slice.ensures.value i) (lens_of (c.as_slice-2.ensures.value i)))))
+    (c.flight_lines-flight.ensures ∙ (λ i. flight_lines (zip (c.as_slice.ensures.value i) (lens_of (c.as_slice-2.ensures.value i)))))

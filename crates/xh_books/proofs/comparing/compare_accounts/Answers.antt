@@ -1,7 +1,6 @@
-use Rattle.std.proofs.Common.{rules, arith, ◌≡◌, ◌<◌, ◌≤◌, ◌∙◌, List, ap, get_or, get_or-set_other, length, subst, sym}
+use Rattle.std.proofs.Common.{rules, arith, ◌≡◌, ◌<◌, ◌≤◌, ◌∙◌, List, get_or, get_or-set_other, length, subst}
 use Rattle.std.proofs.lemmas.List.{get_or_default}
-use mathlib.Core.Logic.{dite}
-use native.Mathlib.Decide.{ℕ_discrete}
+use borrow.Author.Count.{below_more}
 use Rattle.xh_kernel.specs.declared.scribe.Pens.{Pens}
 use Rattle.xh_kernel.specs.Accounts.{AccountOf}
 use Rattle.xh_books.specs.Closing.{histories_of}
@@ -20,11 +19,10 @@ loop-worker-preserved g c =
     (subst (λ (ps : List Pens). AreSeen (get_or l.accounts l.worker X) (histories_of ps)) l.invariant.0 c.compare_account.ensures.seen) in (
       c.compare_account.ensures.same.0 ∙ l.invariant.0,
       same_tallies l.accounts l.worker X new c.compare_account.ensures.same.1.1 ∙ l.invariant.1,
-      λ k d below. dite (ℕ_discrete k l.worker)
-          (λ e. subst (λ (a : AccountOf). AreSeen a (histories_of c.args.pens.now)) (get_or_default all l.worker X d inside ∙ ap (λ j. get_or all j d) (sym e)) seen)
-          (λ other. l.invariant.2 k d (omega arith)),
+      below_more (λ k. (d : AccountOf) → AreSeen (get_or all k d) (histories_of c.args.pens.now)) l.worker l.invariant.2
+          (λ d. subst (λ (a : AccountOf). AreSeen a (histories_of c.args.pens.now)) (get_or_default all l.worker X d inside) seen),
       λ k d above. get_or-set_other l.accounts l.worker k new d (λ e. omega (arith, e, above)) ∙ l.invariant.3 k d (omega arith),
     )
 
 pub returns-clause-seen : goal.returns-clause-seen
-returns-clause-seen g c = let l = c.loop-worker in let end : length c.args.accounts.now ≤ l.worker = search rules in λ k d below. l.invariant.2 k d (omega arith)
+returns-clause-seen g c = let l = c.loop-worker in let end : length c.args.accounts.now ≤ l.worker = search rules in λ k d below. l.invariant.2 k (omega arith) d

@@ -8,5 +8,5 @@ use Rattle.xh_books.proofs.comparing.compare_accounts.Given as goal
 abbrev pub invariant-loop-worker : goal.invariant-loop-worker
 invariant-loop-worker g l =
     (l.pens ≡ l.fn.pens) × (tallies_of l.accounts ≡ tallies_of l.fn.accounts)
-    × ((k : ℕ) (d : AccountOf) → k < l.worker → AreSeen (get_or l.fn.accounts k d) (histories_of l.fn.pens))
+    × ((k : ℕ) → k < l.worker → (d : AccountOf) → AreSeen (get_or l.fn.accounts k d) (histories_of l.fn.pens))
     × ((k : ℕ) (d : AccountOf) → l.worker ≤ k → get_or l.accounts k d ≡ get_or l.fn.accounts k d)

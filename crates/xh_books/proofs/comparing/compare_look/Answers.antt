@@ -1,8 +1,7 @@
 use Rattle.std.proofs.Common.{rules, arith, ◌≡◌, ◌<◌, ◌∙◌, List, [], ap, get_or, length, subst, sym}
 use Rattle.std.proofs.lemmas.List.{get_or-map, set-get_or}
 use Rattle.std.specs.Prelude.{slice_set}
-use mathlib.Core.Logic.{dite}
-use native.Mathlib.Decide.{ℕ_discrete}
+use borrow.Author.Count.{below_more}
 use Rattle.xh_glance.specs.Histories.{History, StartsWith, at}
 use Rattle.xh_glance.specs.Look.{LookOf}
 use Rattle.xh_kernel.specs.declared.scribe.Pens.{Pens}
@@ -22,7 +21,5 @@ loop-place-preserved c =
     subst (λ (h : History). StartsWith h (at look.fronts l.place)) history (subst (StartsWith own.glances.history) front c.compare.ensures.begins) in (
       ap (λ x. slice_set l.pens l.place (record own { glances = x })) c.compare.ensures.same.0 ∙ set-get_or l.pens l.place X ∙ l.invariant.0,
       c.compare.ensures.same.1 ∙ l.invariant.1,
-      λ p below. dite (ℕ_discrete p l.place)
-          (λ e. subst (λ q. StartsWith (at (glances_of pens) q) (at look.fronts q)) (sym e) here)
-          (λ other. l.invariant.2 p (omega arith)),
+      below_more (λ p. StartsWith (at (glances_of pens) p) (at look.fronts p)) l.place l.invariant.2 here,
     )

@@ -5,18 +5,19 @@ use Rattle.std.proofs.lemmas.List.FromFn.{filter_of_map_range_with_len_more}
 use Rattle.std.specs.List.{range_with_len, zip}
 use Rattle.std.specs.Prelude.{nat_lt}
 use Rattle.xh_core.specs.declared.flight.FlightLine.{FlightLine}
-use Rattle.xh_books.specs.inner.Steps.{lens_of, word_line}
+use Rattle.xh_books.specs.inner.Steps.{lens_of}
+use Rattle.xh_books.specs.Flight.{flight_line}
 use Rattle.xh_books.proofs.flight.flight_lines.Goals.{else-line-gt0, then-line-gt0}
 use Rattle.xh_books.proofs.flight.flight_lines.Goals as goal
 
 pub loop-direction-preserved : goal.loop-direction-preserved
 loop-direction-preserved c =
     let all = zip c.args.words.now (lens_of c.args.lots.now) in let d = c.loop-direction.direction in
-    let more = filter_of_map_range_with_len_more (λ (x : FlightLine). nat_lt 0 x.blocks) (word_line all) 0 d d (omega arith) in
+    let more = filter_of_map_range_with_len_more (λ (x : FlightLine). nat_lt 0 x.blocks) (flight_line all) 0 d d (omega arith) in
     let is = c.line_of-line.ensures in
     elim c.if-line-gt0.branch [ then-line-gt0 w ↦ grind (arith, common_steps, nat_tests, more, is) | else-line-gt0 w ↦ grind (arith, common_steps, nat_tests, more, is) ]
 
 pub returns : goal.returns
 returns c =
     let end : c.loop-direction.direction ≡ 128 = omega arith in
-    c.loop-direction.invariant.0 ∙ ap (λ n. filter (λ (x : FlightLine). nat_lt 0 x.blocks) (map (word_line (zip c.args.words.now (lens_of c.args.lots.now))) (range_with_len 0 n))) end
+    c.loop-direction.invariant.0 ∙ ap (λ n. filter (λ (x : FlightLine). nat_lt 0 x.blocks) (map (flight_line (zip c.args.words.now (lens_of c.args.lots.now))) (range_with_len 0 n))) end

@@ -1,5 +1,5 @@
 use Rattle.xh_kernel.specs.declared.call.Call.TheVariants as call
-use Rattle.xh_books.proofs.Stepping.{at_last, closes, does, exits, kills, opens, spawns, wires}
+use Rattle.xh_books.proofs.Stepping.{at_last, does, exits, gives_back, kills, opens, spawns, wires}
 use Rattle.xh_books.proofs.laws.calls_are_steps.Goals as goal
 
 pub returns-clause-one : goal.returns-clause-one
@@ -15,7 +15,7 @@ pub returns-clause-wire : goal.returns-clause-wire
 returns-clause-wire c parts p q arena contract result old new = wires parts p arena contract q new result old
 
 pub returns-clause-close : goal.returns-clause-close
-returns-clause-close c parts p e result old new = closes parts p e old new result
+returns-clause-close c parts p e result old new = gives_back parts p (λ bytes. call.Close p e bytes result) old new (λ bytes m. m)
 
 pub returns-clause-exit : goal.returns-clause-exit
 returns-clause-exit c parts p budget result old new = exits parts p budget old new result
