@@ -53,6 +53,10 @@ module _ {T : Type 0} (contents : T → Option (List ℕ)) where
   pub goes_on : (a b c : Watched T) (piece more rest whole : List ℕ) → Wrote a b whole rest → rest ≡ piece ++ more → Writes contents b c piece → Wrote a c whole more
   goes_on a b c piece more rest whole w s q = (w.0 ++ piece, Writes-then a b c w.0 piece w.1 q, w.2 ∙ ap (λ t. w.0 ++ t) s ∙ sym (append_assoc w.0 piece more))
 
+  -- the rest is all that follows
+  pub ends : (a b c : Watched T) (r : Result (Unit {0}) Fault) (rest whole : List ℕ) → Wrote a b whole rest → WritesOrFails contents b c r rest → WritesOrFails contents a c r whole
+  ends a b c r rest whole w q = rw w.2 (WritesOrFails-then a b c r w.0 rest w.1 q)
+
   -- a fault that is passed on, and that is then the fault of all
   pub passes : (a b : Watched T) (r : Result (Unit {0}) Fault) (e : Fault) (x : List ℕ) → IsErrAnd r (λ f. f ≡ e) → WritesOrFails contents a b (Err e) x → WritesOrFails contents a b r x
   passes a b (Ok u) e x h q = absurd h
@@ -63,7 +67,7 @@ module _ {T : Type 0} (contents : T → Option (List ℕ)) where
 
   pub stops_at : (a b c : Watched T) (r : Result (Unit {0}) Fault) (e : Fault) (piece more rest whole : List ℕ) → Wrote a b whole rest → rest ≡ piece ++ more → IsErrAnd r (λ f. f ≡ e) →
       WritesOrFails contents b c (Err e) piece → WritesOrFails contents a c r whole
-  stops_at a b c r e piece more rest whole w s h q = rw (w.2, s) (WritesOrFails-then a b c r w.0 (piece ++ more) w.1 (stops b c r e piece more h q))
+  stops_at a b c r e piece more rest whole w s h q = ends a b c r rest whole w (rw s (stops b c r e piece more h q))
 
 pub answers_at : (answers : List Answered) (i : ℕ) (a : Answered) → a ≡ get_or answers i a → i < length answers
     → answer_texts (drop i answers) ≡ reply_text a.line a.reply ++ answer_texts (drop (i + 1) answers)

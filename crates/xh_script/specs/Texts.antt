@@ -1,5 +1,5 @@
 -- The text of faults, of replies, of ledgers and of what is in flight.
-use Rattle.std.specs.Prelude.{ℕ, ◌+◌, ◌/◌, ◌%◌, List, [], ◌∷◌, ◌++◌, codes, length, nat_lt, if◌then◌else◌, Option, Some, None, slice_index_or}
+use Rattle.std.specs.Prelude.{ℕ, ◌+◌, ◌/◌, ◌%◌, List, [], ◌∷◌, ◌++◌, codes, length, map, nat_lt, if◌then◌else◌, Option, Some, None, slice_index_or}
 use Rattle.std.specs.List.{concat}
 use Rattle.std.specs.Fmt.{decimal}
 use Rattle.xh_core.specs.Refusals.{number_of, name_of}
@@ -40,6 +40,17 @@ fault_text Write = codes "write failed"
 fault_text Gate = codes "internal fault"
 fault_text BadConfig = codes "internal fault"
 
+-- ---- lines
+
+-- words, a space ahead of each, and the end of a line
+abbrev pub words_text : List (List ℕ) → List ℕ
+words_text [] = codes "\n"
+words_text (word ∷ words) = codes " " ++ (word ++ words_text words)
+
+-- a line: words with a space between each two
+abbrev pub line_text : List ℕ → List (List ℕ) → List ℕ
+line_text first words = first ++ words_text words
+
 -- ---- replies
 
 -- a hexadecimal digit
@@ -56,21 +67,9 @@ abbrev pub length_text : Option ℕ → List ℕ
 length_text (Some n) = decimal n
 length_text None = codes "-"
 
-abbrev pub lengths_text : List (Option ℕ) → List ℕ
-lengths_text [] = []
-lengths_text (n ∷ lengths) = concat (codes " " ∷ length_text n ∷ []) ++ lengths_text lengths
-
--- `ok` and a number
-unfoldable pub number_text : ℕ → ℕ → List ℕ
-number_text line n = concat (decimal line ∷ codes " ok " ∷ decimal n ∷ codes "\n" ∷ [])
-
--- `ok` and two numbers
-unfoldable pub numbers_text : ℕ → ℕ → ℕ → List ℕ
-numbers_text line n m = concat (decimal line ∷ codes " ok " ∷ decimal n ∷ codes " " ∷ decimal m ∷ codes "\n" ∷ [])
-
--- `ok`, the message's number, its tag and the lengths of its blocks
-unfoldable pub taken_text : ℕ → ℕ → ℕ → List (Option ℕ) → List ℕ
-taken_text line n tag lengths = concat (decimal line ∷ codes " ok " ∷ decimal n ∷ codes " " ∷ decimal tag ∷ []) ++ (lengths_text lengths ++ codes "\n")
+-- `LINE ok`, and these words
+abbrev pub ok_text : ℕ → List (List ℕ) → List ℕ
+ok_text line words = line_text (decimal line) (codes "ok" ∷ words)
 
 -- the number behind the name of a refusal, where it has one
 abbrev pub count_of : Refused → Option ℕ
@@ -85,24 +84,27 @@ give_count_of (PeerClosed back) = Some (length back.items)
 give_count_of (Unfinished left) = Some left
 give_count_of _ = None
 
--- `no NUMBER NAME`, and the number behind it
-unfoldable pub refusal_text : ℕ → ℕ → List ℕ → Option ℕ → List ℕ
-refusal_text line code name None = concat (decimal line ∷ codes " no " ∷ decimal code ∷ codes " " ∷ name ∷ codes "\n" ∷ [])
-refusal_text line code name (Some n) = concat (decimal line ∷ codes " no " ∷ decimal code ∷ codes " " ∷ name ∷ codes " " ∷ decimal n ∷ codes "\n" ∷ [])
+abbrev pub count_words : Option ℕ → List (List ℕ)
+count_words None = []
+count_words (Some n) = decimal n ∷ []
+
+-- a line with `no NUMBER NAME`, and the number behind it
+abbrev pub refusal_text : List ℕ → Refused → Option ℕ → List ℕ
+refusal_text line e count = line_text line (codes "no" ∷ decimal (number_of e) ∷ name_of e ∷ count_words count)
 
 -- the reply to the command of a line
 unfoldable pub reply_text : ℕ → Reply → List ℕ
-reply_text line Done = concat (decimal line ∷ codes " ok\n" ∷ [])
-reply_text line (Started n) = number_text line n
-reply_text line (Length n) = number_text line n
-reply_text line (Parts head tail) = numbers_text line head tail
-reply_text line (Bytes bytes) = concat (decimal line ∷ codes " ok " ∷ hex_text bytes.items ∷ codes "\n" ∷ [])
-reply_text line (Given n) = number_text line n
-reply_text line (Taken n tag lengths) = taken_text line n tag lengths.items
-reply_text line (Reclaimed n) = number_text line n
-reply_text line (Glance blocks bytes) = numbers_text line blocks bytes
-reply_text line (NotGiven e) = refusal_text line (number_of e) (name_of e) (give_count_of e)
-reply_text line (No e) = refusal_text line (number_of e) (name_of e) (count_of e)
+reply_text line Done = ok_text line []
+reply_text line (Started n) = ok_text line (decimal n ∷ [])
+reply_text line (Length n) = ok_text line (decimal n ∷ [])
+reply_text line (Parts head tail) = ok_text line (decimal head ∷ decimal tail ∷ [])
+reply_text line (Bytes bytes) = ok_text line (hex_text bytes.items ∷ [])
+reply_text line (Given n) = ok_text line (decimal n ∷ [])
+reply_text line (Taken n tag lengths) = ok_text line (decimal n ∷ decimal tag ∷ map length_text lengths.items)
+reply_text line (Reclaimed n) = ok_text line (decimal n ∷ [])
+reply_text line (Glance blocks bytes) = ok_text line (decimal blocks ∷ decimal bytes ∷ [])
+reply_text line (NotGiven e) = refusal_text (decimal line) e (give_count_of e)
+reply_text line (No e) = refusal_text (decimal line) e (count_of e)
 
 -- the replies in their order
 abbrev pub answer_texts : List Answered → List ℕ
@@ -118,8 +120,7 @@ state_text EndedState = codes "ended"
 
 -- `arena A SIZE OUT HOLES TAKEN BACK`
 unfoldable pub arena_text : ℕ → ArenaLine → List ℕ
-arena_text n a = concat (codes "arena " ∷ decimal n ∷ codes " " ∷ decimal a.size ∷ codes " " ∷ decimal a.out
-    ∷ codes " " ∷ decimal a.holes ∷ codes " " ∷ decimal a.taken ∷ codes " " ∷ decimal a.back ∷ codes "\n" ∷ [])
+arena_text n a = line_text (codes "arena") (decimal n ∷ decimal a.size ∷ decimal a.out ∷ decimal a.holes ∷ decimal a.taken ∷ decimal a.back ∷ [])
 
 -- the arenas' lines, numbered from n on
 abbrev pub arena_texts : ℕ → List ArenaLine → List ℕ
@@ -127,18 +128,19 @@ arena_texts n [] = []
 arena_texts n (a ∷ arenas) = arena_text n a ++ arena_texts (n + 1) arenas
 
 -- `process NAME STATE BLOCKS BYTES`
-abbrev pub process_text : List ℕ → List ℕ → List ℕ → List ℕ → List ℕ
-process_text name state blocks bytes = concat (codes "process " ∷ name ∷ codes " " ∷ state ∷ codes " " ∷ blocks ∷ codes " " ∷ bytes ∷ codes "\n" ∷ [])
-
 unfoldable pub place_text : List (List ℕ) → PlaceLine → List ℕ
-place_text names p = process_text (slice_index_or names p.place []) (state_text p.state) (decimal p.blocks) (decimal p.bytes)
+place_text names p = line_text (codes "process") (slice_index_or names p.place [] ∷ state_text p.state ∷ decimal p.blocks ∷ decimal p.bytes ∷ [])
 
 abbrev pub place_texts : List (List ℕ) → List PlaceLine → List ℕ
 place_texts names [] = []
 place_texts names (p ∷ places) = place_text names p ++ place_texts names places
 
-unfoldable pub sums_text : Ledger → List ℕ
-sums_text l = concat (codes "owned " ∷ decimal l.owned ∷ codes "\nflight " ∷ decimal l.flight ∷ codes "\nout " ∷ decimal l.out ∷ codes "\n" ∷ [])
+unfoldable pub sum_text : List ℕ → ℕ → List ℕ
+sum_text word n = line_text word (decimal n ∷ [])
+
+-- `owned N`, `flight N` and `out N`
+abbrev pub sums_text : Ledger → List ℕ
+sums_text l = sum_text (codes "owned") l.owned ++ (sum_text (codes "flight") l.flight ++ sum_text (codes "out") l.out)
 
 -- the ledger, with the names of the processes by place
 abbrev pub ledger_text : Ledger → List (List ℕ) → List ℕ
@@ -148,7 +150,7 @@ ledger_text l names = arena_texts 0 l.arenas.items ++ (place_texts names l.place
 
 -- `direction D BLOCKS BYTES`
 unfoldable pub flight_text : FlightLine → List ℕ
-flight_text l = concat (codes "direction " ∷ decimal l.direction ∷ codes " " ∷ decimal l.blocks ∷ codes " " ∷ decimal l.bytes ∷ codes "\n" ∷ [])
+flight_text l = line_text (codes "direction") (decimal l.direction ∷ decimal l.blocks ∷ decimal l.bytes ∷ [])
 
 abbrev pub flight_texts : List FlightLine → List ℕ
 flight_texts [] = []

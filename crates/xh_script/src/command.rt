@@ -32,14 +32,14 @@ impl<N> Default for Word<N> {
 pub(crate) type Words<N> = ArrayVec<Word<N>, MAX_WORDS>;
 
 /// A command: its form, and what its words say, in the order of the form's row in the table.
-#[derive(Debug, Drop)]
+#[derive(Drop)]
 pub struct Command<N> {
     pub form: Form,
     pub words: ArrayVec<Word<N>, MAX_WORDS>,
 }
 
 /// A command with the number of its line, from 1 on; lines without a command count too.
-#[derive(Debug, Drop)]
+#[derive(Drop)]
 pub struct Line {
     pub number: u32,
     pub command: Command<u8>,

@@ -9,7 +9,7 @@ use std::marker::Model;
 use xh_model::limits::{MAX_BLOCKS, MAX_BUDGET, MAX_ROWS};
 
 /// What a word of a line has to be.
-#[derive(Clone, Copy, Debug)]
+#[derive(Clone, Copy)]
 pub enum Sort {
     /// The name of a process.
     Process,

@@ -7,16 +7,10 @@ ghost use Rattle.xh_script.specs.declared.limits.TheConstants.{MAX_HEX};
 use crate::limits::MAX_HEX;
 use arrayvec::ArrayVec;
 
-fn is_hex_letter(b: u8) -> bool
-    ensures { result ≡ is_hex_letter b }
-{
-    b'a' <= b && b <= b'f'
-}
-
 fn is_hex_digit(b: u8) -> bool
     ensures { result ≡ is_hex_digit b }
 {
-    b.is_ascii_digit() || is_hex_letter(b)
+    b.is_ascii_digit() || (b'a' <= b && b <= b'f')
 }
 
 fn has_hex_digits(word: &[u8]) -> bool
@@ -39,7 +33,7 @@ fn hex_value(b: u8) -> u8
 {
     if b.is_ascii_digit() {
         b - b'0'
-    } else if is_hex_letter(b) {
+    } else if b'a' <= b && b <= b'f' {
         b - b'a' + 10
     } else {
         0

@@ -2,10 +2,10 @@
 ghost use Rattle.std.specs.Prelude.{◌≡◌, ◌<◌, length};
 ghost use Rattle.std.specs.List.{All};
 ghost use Rattle.xh_script.specs.Watching.{WritesOrFails};
-ghost use Rattle.xh_script.specs.Texts.{state_text, arena_text, arena_texts, place_text, place_texts, sums_text, ledger_text, flight_text, flight_texts};
+ghost use Rattle.xh_script.specs.Texts.{state_text, arena_text, arena_texts, place_text, place_texts, sum_text, sums_text, ledger_text, flight_text, flight_texts};
 
 use crate::put::Piece::{Number, Text};
-use crate::put::put_all;
+use crate::put::put_line;
 use crate::{Fault, Name, Watched};
 use std::io::Write;
 use xh_core::{ArenaLine, FlightLine, Ledger, PlaceLine, State};
@@ -28,22 +28,16 @@ fn put_arena<W: Write>(
 ) -> Result<(), Fault>
     ensures { WritesOrFails W.contents writer.old writer.new result (arena_text number arena.now) }
 {
-    put_all(
+    put_line(
         writer,
+        Text(b"arena"),
         &[
-            Text(b"arena "),
             Number(number as u64),
-            Text(b" "),
             Number(u64::from(arena.size)),
-            Text(b" "),
             Number(u64::from(arena.out)),
-            Text(b" "),
             Number(u64::from(arena.holes)),
-            Text(b" "),
             Number(arena.taken),
-            Text(b" "),
             Number(arena.back),
-            Text(b"\n"),
         ],
     )
 }
@@ -66,19 +60,14 @@ fn put_place<W: Write>(
     requires { line.now.place < length names.now }
     ensures { WritesOrFails W.contents writer.old writer.new result (place_text names.now line.now) }
 {
-    let name = &names[usize::from(line.place)];
-    put_all(
+    put_line(
         writer,
+        Text(b"process"),
         &[
-            Text(b"process "),
-            Text(name.as_bytes()),
-            Text(b" "),
+            Text(names[usize::from(line.place)].as_bytes()),
             Text(state_name(line.state).as_bytes()),
-            Text(b" "),
             Number(u64::from(line.blocks)),
-            Text(b" "),
             Number(line.bytes),
-            Text(b"\n"),
         ],
     )
 }
@@ -97,22 +86,19 @@ fn put_places<W: Write>(
     Ok(())
 }
 
-#[tactic(auto, unfolding(crate::specs::Texts::sums_text))]
+#[tactic(auto, unfolding(crate::specs::Texts::sum_text))]
+fn put_sum<W: Write>(writer: &mut Watched<W>, word: &[u8], sum: u64) -> Result<(), Fault>
+    ensures { WritesOrFails W.contents writer.old writer.new result (sum_text word.now sum) }
+{
+    put_line(writer, Text(word), &[Number(sum)])
+}
+
 fn put_sums<W: Write>(writer: &mut Watched<W>, ledger: &Ledger) -> Result<(), Fault>
     ensures { WritesOrFails W.contents writer.old writer.new result (sums_text ledger.now) }
 {
-    put_all(
-        writer,
-        &[
-            Text(b"owned "),
-            Number(ledger.owned),
-            Text(b"\nflight "),
-            Number(ledger.flight),
-            Text(b"\nout "),
-            Number(ledger.out),
-            Text(b"\n"),
-        ],
-    )
+    put_sum(writer, b"owned", ledger.owned)?;
+    put_sum(writer, b"flight", ledger.flight)?;
+    put_sum(writer, b"out", ledger.out)
 }
 
 /// Writes a ledger, with the name of the latest process of each place. Where the writer fails, or
@@ -134,18 +120,12 @@ pub fn write_ledger<W: Write>(
 fn put_flight<W: Write>(writer: &mut Watched<W>, line: &FlightLine) -> Result<(), Fault>
     ensures { WritesOrFails W.contents writer.old writer.new result (flight_text line.now) }
 {
+    let direction = Number(u64::from(line.direction));
     let (blocks, bytes) = (u64::from(line.blocks), line.bytes);
-    put_all(
+    put_line(
         writer,
-        &[
-            Text(b"direction "),
-            Number(u64::from(line.direction)),
-            Text(b" "),
-            Number(blocks),
-            Text(b" "),
-            Number(bytes),
-            Text(b"\n"),
-        ],
+        Text(b"direction"),
+        &[direction, Number(blocks), Number(bytes)],
     )
 }
 

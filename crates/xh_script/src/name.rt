@@ -16,7 +16,7 @@ use std::hash::{Hash, Hasher};
 use std::marker::Model;
 
 /// A name: a lower-case letter, and then such letters or digits, 16 in all at most.
-#[derive(Debug, Drop)]
+#[derive(Drop)]
 pub struct Name {
     letters: ArrayVec<u8, MAX_NAME>,
 }

@@ -40,21 +40,15 @@ fn value_of(digits: &[u8]) -> u64
     value
 }
 
-fn number_of(word: &[u8]) -> Option<u32>
-    ensures { result ≡ number_of word.now }
-{
-    if !is_numeral(word) {
-        return None;
-    }
-    u32::try_from(value_of(word)).ok()
-}
-
 /// The number below 2^32 that a word is.
 #[tactic(auto, unfolding(crate::specs::Sorts::number_at))]
 fn number_at(word: &[u8]) -> Result<u32, Kind>
     ensures { result ≡ number_at word.now }
 {
-    number_of(word).ok_or(Kind::BadNumber)
+    if !is_numeral(word) {
+        return Err(Kind::BadNumber);
+    }
+    u32::try_from(value_of(word)).or(Err(Kind::BadNumber))
 }
 
 /// The number that a word is, if it is in this range.

@@ -6,7 +6,7 @@ ghost use Rattle.xh_script.specs.Numbering.{word_in, words_in, is_known, numbere
 ghost use Rattle.xh_script.specs.declared.limits.TheConstants.{MAX_PROCESSES, MAX_WORDS};
 
 use crate::command::Words;
-use crate::limits::{MAX_CONTRACTS, MAX_WORDS};
+use crate::limits::{MAX_BLOCK_NAMES, MAX_CONTRACTS, MAX_PROCESSES, MAX_WORDS};
 use crate::name::copy_of;
 use crate::reading::Reading;
 use crate::table::table_of;
@@ -31,7 +31,7 @@ fn rows_in(words: &[Word<Name>]) -> ArrayVec<Row, MAX_WORDS>
 impl Reading {
     /// A word with a number for its name, where `process` was named last; and the process that is
     /// named last then.
-    #[tactic(auto, unfolding(crate::specs::Numbering::word_in), using(crate::proofs::Readings::stops_then))]
+    #[tactic(auto, unfolding(crate::specs::Numbering::word_in, crate::specs::Numbering::process_in, crate::specs::Numbering::block_in), using(crate::proofs::Readings::stops_then))]
     fn number(&mut self, process: u8, word: &Word<Name>) -> Result<(u8, Word<u8>), Stop>
         requires { process < MAX_PROCESSES }
         ensures gives { Answers (λ w. (w.0, w.1, self.new)) result (word_in self.old process word.now) }
@@ -39,10 +39,13 @@ impl Reading {
     {
         match word {
             Word::Process(name) => {
-                let number = self.process(name)?;
+                let number = self.processes.enter(MAX_PROCESSES, name)?;
                 Ok((number, Word::Process(number)))
             }
-            Word::Block(name) => Ok((process, Word::Block(self.block(process, name)?))),
+            Word::Block(name) => {
+                let names = &mut self.blocks[usize::from(process)];
+                Ok((process, Word::Block(names.enter(MAX_BLOCK_NAMES, name)?)))
+            }
             Word::Contract(name) => match self.declared.number(name) {
                 Some(number) => Ok((process, Word::Contract(number))),
                 None => Err(Stop::Bad(Kind::BadContract)),

@@ -1,7 +1,7 @@
 //! How texts are written.
-ghost use Rattle.std.specs.Prelude.{map};
-ghost use Rattle.std.specs.List.{concat};
+ghost use Rattle.std.specs.Prelude.{◌++◌, codes, map};
 ghost use Rattle.xh_script.specs.Watching.{WritesOrFails};
+ghost use Rattle.xh_script.specs.Texts.{line_text};
 ghost use Rattle.xh_script.specs.inner.Pieces.{piece_text};
 
 use crate::{Fault, Watched};
@@ -31,6 +31,12 @@ pub(crate) enum Piece<'a> {
     Number(u64),
 }
 
+impl Default for Piece<'_> {
+    fn default() -> Self {
+        Piece::Number(0)
+    }
+}
+
 fn put_piece<W: Write>(writer: &mut Watched<W>, piece: &Piece) -> Result<(), Fault>
     ensures { WritesOrFails W.contents writer.old writer.new result (piece_text piece.now) }
 {
@@ -41,12 +47,25 @@ fn put_piece<W: Write>(writer: &mut Watched<W>, piece: &Piece) -> Result<(), Fau
     }
 }
 
-/// Writes pieces in turn.
-pub(crate) fn put_all<W: Write>(writer: &mut Watched<W>, pieces: &[Piece]) -> Result<(), Fault>
-    ensures { WritesOrFails W.contents writer.old writer.new result (concat (map piece_text pieces.now)) }
+/// Writes a word behind a space.
+fn put_word<W: Write>(writer: &mut Watched<W>, word: &Piece) -> Result<(), Fault>
+    ensures { WritesOrFails W.contents writer.old writer.new result (codes " " ++ piece_text word.now) }
 {
-    for piece in pieces {
-        put_piece(writer, piece)?;
+    put(writer, b" ")?;
+    put_piece(writer, word)
+}
+
+/// Writes a line: words with a space between each two.
+pub(crate) fn put_line<W: Write>(
+    writer: &mut Watched<W>,
+    first: Piece,
+    words: &[Piece],
+) -> Result<(), Fault>
+    ensures { WritesOrFails W.contents writer.old writer.new result (line_text (piece_text first.entry) (map piece_text words.now)) }
+{
+    put_piece(writer, &first)?;
+    for word in words {
+        put_word(writer, word)?;
     }
-    Ok(())
+    put(writer, b"\n")
 }

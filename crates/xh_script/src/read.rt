@@ -14,26 +14,19 @@ use crate::{Command, Fault, Form, Kind, Line, Name, Script, Stop};
 use arrayvec::ArrayVec;
 use std::alloc::Global;
 
-/// Adds a command.
-#[tactic(auto, unfolding(crate::specs::Scripts::with_line))]
-fn add_line(reading: &mut Reading, number: u32, command: Command<u8>) -> Result<(), Stop>
-    ensures { Answers (λ _. reading.new) result (with_line reading.old number command) }
-{
-    if reading.lines.len() >= MAX_COMMANDS {
-        return Err(Stop::Bad(Kind::TooLong));
-    }
-    reading.lines.push(Line { number, command })?;
-    Ok(())
-}
-
 /// Adds what a line says.
-#[tactic(auto, using(crate::proofs::Readings::stops_then))]
+#[tactic(auto, unfolding(crate::specs::Scripts::with_line), using(crate::proofs::Readings::stops_then))]
 fn add_said(reading: &mut Reading, number: u32, form: Form, said: &Words<Name>) -> Result<(), Stop>
     ensures { Answers (λ _. reading.new) result (with_command reading.old number (Some (record { form = form; words = said.now }))) }
 {
     let mut words = ArrayVec::new();
     let form = reading.place(form, said, &mut words)?;
-    add_line(reading, number, Command { form, words })
+    if reading.lines.len() >= MAX_COMMANDS {
+        return Err(Stop::Bad(Kind::TooLong));
+    }
+    let command = Command { form, words };
+    reading.lines.push(Line { number, command })?;
+    Ok(())
 }
 
 /// Reads one more line.

@@ -5,9 +5,9 @@ ghost use Rattle.xh_script.specs.Numbering.{process_in, block_in};
 ghost use Rattle.xh_script.specs.Scripts.{nothing_read, listing_of, listing_so_far};
 ghost use Rattle.xh_script.specs.declared.limits.TheConstants.{MAX_PROCESSES};
 
-use crate::limits::{MAX_BLOCK_NAMES, MAX_PROCESSES};
+use crate::limits::MAX_PROCESSES;
 use crate::names::Names;
-use crate::{Line, Name, Script, Stop};
+use crate::{Line, Script};
 use std::alloc::{AllocError, Global};
 use std::marker::Model;
 use xh_core::Contract;
@@ -61,24 +61,6 @@ impl Reading {
             contracts: Vec::new(alloc),
             begun: false,
         })
-    }
-
-    /// The number of a process.
-    #[tactic(auto, unfolding(crate::specs::Numbering::process_in), using(crate::proofs::Readings::stops_then))]
-    pub(crate) fn process(&mut self, name: &Name) -> Result<u8, Stop>
-        ensures gives { Answers (λ n. (n, self.new)) result (process_in self.old name.now) }
-        ensures within { IfOk result (λ n. n < MAX_PROCESSES) }
-    {
-        Ok(self.processes.enter(MAX_PROCESSES, name)?)
-    }
-
-    /// The number of a block of a process.
-    #[tactic(auto, unfolding(crate::specs::Numbering::block_in), using(crate::proofs::Readings::stops_then))]
-    pub(crate) fn block(&mut self, process: u8, name: &Name) -> Result<u8, Stop>
-        requires { process < MAX_PROCESSES }
-        ensures { Answers (λ n. (n, self.new)) result (block_in self.old process name.now) }
-    {
-        Ok(self.blocks[usize::from(process)].enter(MAX_BLOCK_NAMES, name)?)
     }
 
     /// The script that has been read.

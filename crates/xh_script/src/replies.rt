@@ -1,46 +1,41 @@
 //! How replies are written.
-ghost use Rattle.std.specs.Prelude.{◌≡◌, ◌≤◌, ◌<◌, length, [], ◌∷◌, codes};
-ghost use Rattle.std.specs.List.{concat};
+ghost use Rattle.std.specs.Prelude.{◌≡◌, ◌≤◌, ◌<◌, length, [], ◌∷◌, codes, map};
 ghost use Rattle.std.specs.Fmt.{decimal};
 ghost use Rattle.xh_script.specs.Watching.{WritesOrFails};
-ghost use Rattle.xh_core.specs.Refusals.{number_of, name_of};
-ghost use Rattle.xh_script.specs.Texts.{hex_digit, hex_text, length_text, lengths_text, number_text, numbers_text, taken_text, count_of, give_count_of, refusal_text, reply_text, answer_texts};
+ghost use Rattle.xh_script.specs.Texts.{hex_digit, hex_text, length_text, line_text, count_of, give_count_of, refusal_text, reply_text, answer_texts};
+ghost use Rattle.xh_script.specs.inner.Pieces.{piece_text};
 ghost use Rattle.xh_script.specs.declared.limits.TheConstants.{MAX_HEX};
+ghost use Rattle.xh_model.specs.declared.limits.TheConstants.{MAX_BLOCKS};
 
 use crate::limits::MAX_HEX;
 use crate::put::Piece::{Number, Text};
-use crate::put::{Piece, put, put_all};
+use crate::put::{Piece, put_line};
 use crate::{Answered, Fault, Reply, Watched};
 use arrayvec::ArrayVec;
 use std::io::Write;
 use xh_core::Refused;
+use xh_model::limits::MAX_BLOCKS;
 
 /// The digits of a HEX, at most.
 const DIGITS: usize = 2 * MAX_HEX;
 
-const OK: Piece = Text(b" ok ");
+/// The words of the longest reply, behind its line: those of a message with all its blocks.
+const WORDS: usize = 3 + MAX_BLOCKS;
 
-const NO: Piece = Text(b" no ");
+const OK: Piece = Text(b"ok");
 
-const SPACE: Piece = Text(b" ");
+const NO: Piece = Text(b"no");
 
-const END: Piece = Text(b"\n");
-
-#[tactic(auto, unfolding(crate::specs::Texts::number_text))]
-fn put_number<W: Write>(writer: &mut Watched<W>, line: u64, n: u64) -> Result<(), Fault>
-    ensures { WritesOrFails W.contents writer.old writer.new result (number_text line n) }
+fn put_number<W: Write>(writer: &mut Watched<W>, line: Piece, n: u64) -> Result<(), Fault>
+    ensures { WritesOrFails W.contents writer.old writer.new result (line_text (piece_text line.entry) (codes "ok" ∷ decimal n ∷ [])) }
 {
-    put_all(writer, &[Number(line), OK, Number(n), END])
+    put_line(writer, line, &[OK, Number(n)])
 }
 
-#[tactic(auto, unfolding(crate::specs::Texts::numbers_text))]
-fn put_numbers<W: Write>(writer: &mut Watched<W>, line: u64, n: u64, m: u64) -> Result<(), Fault>
-    ensures { WritesOrFails W.contents writer.old writer.new result (numbers_text line n m) }
+fn put_numbers<W: Write>(writer: &mut Watched<W>, line: Piece, n: u64, m: u64) -> Result<(), Fault>
+    ensures { WritesOrFails W.contents writer.old writer.new result (line_text (piece_text line.entry) (codes "ok" ∷ decimal n ∷ decimal m ∷ [])) }
 {
-    put_all(
-        writer,
-        &[Number(line), OK, Number(n), SPACE, Number(m), END],
-    )
+    put_line(writer, line, &[OK, Number(n), Number(m)])
 }
 
 fn hex_digit(n: u8) -> u8
@@ -63,63 +58,36 @@ fn hex_text(bytes: &[u8]) -> ArrayVec<u8, DIGITS>
     digits
 }
 
-fn put_bytes<W: Write>(
-    writer: &mut Watched<W>,
-    line: u64,
-    bytes: &ArrayVec<u8, MAX_HEX>,
-) -> Result<(), Fault>
-    ensures { WritesOrFails W.contents writer.old writer.new result
-        (concat (decimal line ∷ codes " ok " ∷ hex_text bytes.now.items ∷ codes "\n" ∷ [])) }
+fn put_bytes<W: Write>(writer: &mut Watched<W>, line: Piece, bytes: &[u8]) -> Result<(), Fault>
+    requires { length bytes.now ≤ MAX_HEX }
+    ensures { WritesOrFails W.contents writer.old writer.new result (line_text (piece_text line.entry) (codes "ok" ∷ hex_text bytes.now ∷ [])) }
 {
     let digits = hex_text(bytes);
-    put_all(writer, &[Number(line), OK, Text(digits.as_slice()), END])
+    put_line(writer, line, &[OK, Text(digits.as_slice())])
 }
 
-fn put_length<W: Write>(writer: &mut Watched<W>, length: Option<u32>) -> Result<(), Fault>
-    ensures { WritesOrFails W.contents writer.old writer.new result
-        (concat (codes " " ∷ length_text length ∷ [])) }
+fn length_piece(length: Option<u32>) -> Piece<'static>
+    ensures { piece_text result ≡ length_text length }
 {
     match length {
-        Some(n) => put_all(writer, &[SPACE, Number(u64::from(n))]),
-        None => put_all(writer, &[Text(b" -")]),
+        Some(n) => Number(u64::from(n)),
+        None => Text(b"-"),
     }
 }
 
-fn put_lengths<W: Write>(writer: &mut Watched<W>, lengths: &[Option<u32>]) -> Result<(), Fault>
-    ensures { WritesOrFails W.contents writer.old writer.new result (lengths_text lengths.now) }
+/// The words of a message that was taken.
+fn taken(number: u64, tag: u16, lengths: &[Option<u32>]) -> ArrayVec<Piece<'static>, WORDS>
+    requires { length lengths.now ≤ MAX_BLOCKS }
+    ensures { map piece_text result.items ≡ codes "ok" ∷ decimal number ∷ decimal tag ∷ map length_text lengths.now }
 {
+    let mut words = ArrayVec::new();
+    words.push(OK);
+    words.push(Number(number));
+    words.push(Number(u64::from(tag)));
     for length in lengths {
-        put_length(writer, *length)?;
+        words.push(length_piece(*length));
     }
-    Ok(())
-}
-
-fn put_message<W: Write>(
-    writer: &mut Watched<W>,
-    line: u64,
-    number: u64,
-    tag: u16,
-) -> Result<(), Fault>
-    ensures { WritesOrFails W.contents writer.old writer.new result
-        (concat (decimal line ∷ codes " ok " ∷ decimal number ∷ codes " " ∷ decimal tag ∷ [])) }
-{
-    let tag = Number(u64::from(tag));
-    put_all(writer, &[Number(line), OK, Number(number), SPACE, tag])
-}
-
-#[tactic(auto, unfolding(crate::specs::Texts::taken_text))]
-fn put_taken<W: Write>(
-    writer: &mut Watched<W>,
-    line: u64,
-    number: u64,
-    tag: u16,
-    lengths: &[Option<u32>],
-) -> Result<(), Fault>
-    ensures { WritesOrFails W.contents writer.old writer.new result (taken_text line number tag lengths.now) }
-{
-    put_message(writer, line, number, tag)?;
-    put_lengths(writer, lengths)?;
-    put(writer, b"\n")
+    words
 }
 
 fn count_of(refused: &Refused) -> Option<u32>
@@ -141,24 +109,19 @@ fn give_count_of(refused: &Refused) -> Option<u32>
     }
 }
 
-#[tactic(auto, unfolding(crate::specs::Texts::refusal_text))]
 fn put_refusal<W: Write>(
     writer: &mut Watched<W>,
-    line: u64,
+    line: Piece,
     refused: &Refused,
     count: Option<u32>,
 ) -> Result<(), Fault>
-    ensures { WritesOrFails W.contents writer.old writer.new result (refusal_text line (number_of refused.now) (name_of refused.now) count) }
+    ensures { WritesOrFails W.contents writer.old writer.new result (refusal_text (piece_text line.entry) refused.now count) }
 {
-    let line = Number(line);
     let code = Number(u64::from(refused.number()));
     let name = Text(refused.name().as_bytes());
     match count {
-        None => put_all(writer, &[line, NO, code, SPACE, name, END]),
-        Some(n) => {
-            let count = Number(u64::from(n));
-            put_all(writer, &[line, NO, code, SPACE, name, SPACE, count, END])
-        }
+        None => put_line(writer, line, &[NO, code, name]),
+        Some(n) => put_line(writer, line, &[NO, code, name, Number(u64::from(n))]),
     }
 }
 
@@ -168,9 +131,9 @@ fn put_refusal<W: Write>(
 pub fn write_reply<W: Write>(writer: &mut Watched<W>, line: u32, reply: &Reply) -> Result<(), Fault>
     ensures { WritesOrFails W.contents writer.old writer.new result (reply_text line reply.now) }
 {
-    let line = u64::from(line);
+    let line = Number(u64::from(line));
     match reply {
-        Reply::Done => put_all(writer, &[Number(line), Text(b" ok\n")]),
+        Reply::Done => put_line(writer, line, &[OK]),
         Reply::Started(process) => put_number(writer, line, u64::from(*process)),
         Reply::Length(length) => put_number(writer, line, u64::from(*length)),
         Reply::Parts { head, tail } => {
@@ -182,7 +145,7 @@ pub fn write_reply<W: Write>(writer: &mut Watched<W>, line: u32, reply: &Reply) 
             number,
             tag,
             blocks,
-        } => put_taken(writer, line, *number, *tag, blocks),
+        } => put_line(writer, line, &taken(*number, *tag, blocks)),
         Reply::Reclaimed(bytes) => put_number(writer, line, *bytes),
         Reply::Glance { blocks, bytes } => { put_numbers(writer, line, u64::from(*blocks), *bytes) }
         Reply::NotGiven(refused) => put_refusal(writer, line, refused, give_count_of(refused)),

@@ -5,7 +5,7 @@ use xh_core::Refused;
 use xh_model::limits::MAX_BLOCKS;
 
 /// What is answered to a command, one variant for each form of text.
-#[derive(Debug, Drop)]
+#[derive(Drop)]
 pub enum Reply {
     /// `contract`, `wire`, `open` and `write` are done.
     Done,
@@ -43,7 +43,7 @@ pub enum Reply {
 }
 
 /// A reply with the number of its command's line.
-#[derive(Debug, Drop)]
+#[derive(Drop)]
 pub struct Answered {
     pub line: u32,
     pub reply: Reply,

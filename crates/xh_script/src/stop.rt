@@ -6,7 +6,7 @@ use crate::Kind;
 use std::alloc::{AllocError, AllocFailed};
 
 /// Why a reading stops: at a fault of the script, or because a growth of memory was refused.
-#[derive(Clone, Copy, Debug)]
+#[derive(Clone, Copy)]
 pub enum Stop {
     Bad(Kind),
     Memory,

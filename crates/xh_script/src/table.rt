@@ -10,8 +10,5 @@ use xh_model::Row;
 pub(crate) fn table_of(rows: &[Row]) -> Option<Contract>
     ensures { result ≡ (if is_table rows.now then Some rows.now else None) }
 {
-    match Contract::new(rows) {
-        Ok(contract) => Some(contract),
-        Err(_) => None,
-    }
+    Contract::new(rows).ok()
 }

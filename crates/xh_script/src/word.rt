@@ -8,11 +8,9 @@ ghost use Rattle.xh_script.specs.declared.limits.TheConstants.{MAX_WORDS};
 use crate::command::Words;
 use crate::form::{Shape, Sort};
 use crate::hex::{hex_bytes, is_hex};
-use crate::limits::MAX_HEX;
 use crate::number::number_between;
 use crate::row::row_at;
 use crate::{Kind, Name, Stop, Word};
-use arrayvec::ArrayVec;
 use std::alloc::Global;
 
 /// The name that a word is.
@@ -23,20 +21,8 @@ pub(crate) fn name_at(word: &[u8]) -> Result<Name, Kind>
     Name::read(word).ok_or(Kind::BadWord)
 }
 
-/// The bytes that hexadecimal digits say.
-#[tactic(auto, unfolding(crate::specs::Sorts::bytes_at))]
-fn bytes_at(word: &[u8]) -> Result<ArrayVec<u8, MAX_HEX>, Kind>
-    ensures { result ≡ bytes_at word.now }
-{
-    if is_hex(word) {
-        Ok(hex_bytes(word))
-    } else {
-        Err(Kind::BadHex)
-    }
-}
-
 /// What a word says, if it is of this sort.
-#[tactic(auto, unfolding(crate::specs::Sorts::word_at), using(crate::proofs::Readings::stops_then))]
+#[tactic(auto, unfolding(crate::specs::Sorts::word_at, crate::specs::Sorts::bytes_at), using(crate::proofs::Readings::stops_then))]
 fn word_at(alloc: Global, sort: Sort, word: &[u8]) -> Result<Word<Name>, Stop>
     ensures { Answers (λ w. w) result (word_at sort word.now) }
 {
@@ -45,7 +31,8 @@ fn word_at(alloc: Global, sort: Sort, word: &[u8]) -> Result<Word<Name>, Stop>
         Sort::Block => Ok(Word::Block(name_at(word)?)),
         Sort::Contract => Ok(Word::Contract(name_at(word)?)),
         Sort::Number { least, most } => Ok(Word::Number(number_between(least, most, word)?)),
-        Sort::Bytes => Ok(Word::Bytes(bytes_at(word)?)),
+        Sort::Bytes if is_hex(word) => Ok(Word::Bytes(hex_bytes(word))),
+        Sort::Bytes => Err(Stop::Bad(Kind::BadHex)),
         Sort::Row => Ok(Word::Row(row_at(alloc, word)?)),
     }
 }
