@@ -2,7 +2,7 @@
 use Rattle.std.specs.Prelude.{◌≡◌, ◌≢◌, ◌==◌, ◌&&◌, ℕ, All, Bool, true, false, List, [], ◌∷◌, ◌++◌, codes, if◌then◌else◌, nat_le}
 use Rattle.std.specs.List.{flat_map}
 use Rattle.xh_picture.specs.declared.tags.Key.{Key}
-use Rattle.xh_picture.specs.declared.tags.Key.TheVariants.{Xmlns, X, Y, Width, Height, CentreX, CentreY, Radius, Fill, FillOpacity, Stroke, Dashes, FontFamily, FontSize, FontWeight}
+use Rattle.xh_picture.specs.declared.tags.Key.TheVariants.{Xmlns, X, Y, Width, Height, CentreX, CentreY, Radius, Fill, FillOpacity, Stroke, Dashes, FontFamily, FontSize}
 use Rattle.xh_picture.specs.declared.tags.Tag.{Tag}
 use Rattle.xh_picture.specs.declared.tags.Tag.TheVariants.{Svg, Title, Rect, Circle, Text}
 
@@ -32,7 +32,6 @@ key_name Stroke = codes "stroke"
 key_name Dashes = codes "stroke-dasharray"
 key_name FontFamily = codes "font-family"
 key_name FontSize = codes "font-size"
-key_name FontWeight = codes "font-weight"
 
 -- ---- texts
 

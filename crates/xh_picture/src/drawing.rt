@@ -4,7 +4,7 @@ ghost use Rattle.xh_picture.specs.Documents.{IsPicture};
 
 use crate::document::Document;
 use crate::history::{Bar, History, Keeper};
-use crate::labels::{Labels, is_refused, reply_text};
+use crate::labels::{Label, Labels, Piece, is_refused, phrase, reply_text};
 use crate::layout::{COMMANDS, LETTER, LETTERS, Layout, REPLIES, ROW, STRIPS, entry};
 use crate::shapes::{Area, open_rect, rect, tell, words};
 use crate::tags::{Key, Tag};
@@ -15,28 +15,30 @@ use xh_script::{Answered, Name};
 const HEADING: &[u8] = b"The heap over time, command by command";
 
 /// The colour of a number's hue. Numbers below 360 have hues of their own, those of neighbours far apart.
-fn colour(alloc: Global, number: usize) -> Result<Vec<u8>, AllocError> {
-    let hue = (number % 360 * 137 + 210) % 360;
-    let text = format!(in alloc; "hsl({hue},65%,60%)")?;
-    Ok(text.into_bytes())
+fn colour(number: u8) -> Label {
+    let hue = (u64::from(number) * 137 + 210) % 360;
+    phrase(&[
+        Piece::Text(b"hsl("),
+        Piece::Number(hue),
+        Piece::Text(b",65%,60%)"),
+    ])
 }
 
 /// Gives an open rectangle the look of a holder: a process has a full colour, a direction a pale one
 /// and a dashed edge.
-fn look(alloc: Global, document: &mut Document, keeper: Keeper) -> Result<(), AllocError> {
+fn look(document: &mut Document, keeper: Keeper) {
     match keeper {
         Keeper::Process { name, .. } => {
-            document.give(Key::Fill, &colour(alloc, usize::from(name))?);
+            document.give(Key::Fill, &colour(name));
             document.give(Key::Stroke, b"#333333");
         }
         Keeper::Direction(direction) => {
-            document.give(Key::Fill, &colour(alloc, usize::from(direction) + 3)?);
+            document.give(Key::Fill, &colour(direction.saturating_add(3)));
             document.give(Key::FillOpacity, b"0.35");
             document.give(Key::Stroke, b"#333333");
             document.give(Key::Dashes, b"3");
         }
     }
-    Ok(())
 }
 
 /// The keepers of the legend: each process, and each direction that held a block.
@@ -49,23 +51,16 @@ fn keepers_of(alloc: Global, processes: usize, bars: &[Bar]) -> Result<Vec<Keepe
         })?;
     }
     for bar in bars {
-        let is_new = matches!(bar.keeper, Keeper::Direction(_))
-            && !keepers.iter().any(|seen| *seen == bar.keeper);
-        if is_new {
-            keepers.push(bar.keeper)?;
+        let keeper = bar.block.keeper;
+        if matches!(keeper, Keeper::Direction(_)) && !keepers.contains(&keeper) {
+            keepers.push(keeper)?;
         }
     }
     Ok(keepers)
 }
 
 /// Draws an entry of the legend.
-fn draw_entry(
-    alloc: Global,
-    document: &mut Document,
-    labels: &Labels,
-    index: usize,
-    keeper: Keeper,
-) -> Result<(), AllocError> {
+fn draw_entry(document: &mut Document, labels: &Labels, index: usize, keeper: Keeper) {
     let (x, y) = entry(index);
     let square = Area {
         x,
@@ -74,27 +69,14 @@ fn draw_entry(
         height: 12,
     };
     open_rect(document, square);
-    look(alloc, document, keeper)?;
+    look(document, keeper);
     document.close();
-    let said = labels.holder(alloc, keeper)?;
-    words(
-        document,
-        x.saturating_add(18),
-        y.saturating_add(10),
-        &said,
-        LETTERS,
-    );
-    Ok(())
+    let (x, y) = (x.saturating_add(18), y.saturating_add(10));
+    words(document, x, y, &labels.holder(keeper), LETTERS);
 }
 
 /// Draws the texts of a row.
-fn draw_row(
-    alloc: Global,
-    document: &mut Document,
-    y: u64,
-    command: &[u8],
-    answered: &Answered,
-) -> Result<(), AllocError> {
+fn draw_row(document: &mut Document, y: u64, command: &[u8], answered: &Answered) {
     if is_refused(&answered.reply) {
         let area = Area {
             x: REPLIES - 4,
@@ -105,51 +87,34 @@ fn draw_row(
         rect(document, area, b"#f9c4c9");
     }
     let base = y.saturating_add(12);
-    let reply = reply_text(alloc, answered)?;
     words(document, COMMANDS, base, command, LETTERS);
-    words(document, REPLIES, base, &reply, LETTERS);
-    Ok(())
-}
-
-/// Draws the texts of all rows.
-fn draw_rows(
-    alloc: Global,
-    document: &mut Document,
-    layout: &Layout,
-    labels: &Labels,
-    answers: &[Answered],
-) -> Result<(), AllocError> {
-    for (row, answered) in answers.iter().enumerate() {
-        let command = labels.commands.get(row).copied().unwrap_or(&[]);
-        draw_row(alloc, document, layout.row(row), command, answered)?;
-    }
-    Ok(())
+    words(document, REPLIES, base, &reply_text(answered), LETTERS);
 }
 
 /// What stands above the strip of an arena.
-fn heading(alloc: Global, arena: u8, shown: u32, size: u32) -> Result<Vec<u8>, AllocError> {
-    let text = format!(in alloc; "arena {arena}: the first {shown} of {size} bytes")?;
-    Ok(text.into_bytes())
+fn heading(arena: u8, layout: &Layout) -> Label {
+    phrase(&[
+        Piece::Text(b"arena "),
+        Piece::Number(u64::from(arena)),
+        Piece::Text(b": the first "),
+        Piece::Number(u64::from(layout.shown)),
+        Piece::Text(b" of "),
+        Piece::Number(u64::from(layout.size)),
+        Piece::Text(b" bytes"),
+    ])
 }
 
 /// Draws the heads of the columns, and the strips of the arenas, all holes.
-fn draw_strips(
-    alloc: Global,
-    document: &mut Document,
-    layout: &Layout,
-    config: &Config,
-) -> Result<(), AllocError> {
+fn draw_strips(document: &mut Document, layout: &Layout) {
     let base = layout.row(0).saturating_sub(6);
     words(document, COMMANDS, base, b"command", LETTERS);
     words(document, REPLIES, base, b"line and reply", LETTERS);
-    for arena in 0..config.arenas {
-        let said = heading(alloc, arena, layout.shown(), config.bytes)?;
+    for arena in 0..layout.arenas {
         let area = layout.strip(u16::from(arena));
         rect(document, area, b"#ffffff");
         let letters = (area.width / LETTER) as usize;
-        words(document, area.x, base, &said, letters);
+        words(document, area.x, base, &heading(arena, layout), letters);
     }
-    Ok(())
 }
 
 /// Draws the circle of an endpoint.
@@ -164,28 +129,19 @@ fn draw_circle(document: &mut Document, area: Area) {
 }
 
 /// Draws a bar: an endpoint has a circle, and there stands whose it is where there is room.
-fn draw_bar(
-    alloc: Global,
-    document: &mut Document,
-    area: Area,
-    labels: &Labels,
-    bar: &Bar,
-) -> Result<(), AllocError> {
+fn draw_bar(document: &mut Document, area: Area, labels: &Labels, bar: &Bar) {
     open_rect(document, area);
-    look(alloc, document, bar.keeper)?;
-    tell(document, &labels.bar(alloc, bar)?);
+    look(document, bar.block.keeper);
+    tell(document, &labels.bar(bar));
     document.close();
-    if bar.is_end {
+    if bar.block.is_end {
         draw_circle(document, area);
     }
-    let short = labels.short(alloc, bar.keeper)?;
-    let letters = (area.width / LETTER).saturating_sub(3) as usize;
-    if short.len() <= letters {
-        let x = area.x.saturating_add(16);
-        let y = area.y.saturating_add(12);
+    let short = labels.short(bar.block.keeper);
+    if short.len() <= (area.width / LETTER).saturating_sub(3) as usize {
+        let (x, y) = (area.x.saturating_add(16), area.y.saturating_add(12));
         words(document, x, y, &short, LETTERS);
     }
-    Ok(())
 }
 
 /// Draws a line above each row.
@@ -217,69 +173,41 @@ fn begin(alloc: Global, whole: Area) -> Result<Document, AllocError> {
     Ok(document)
 }
 
-/// Draws below the rows what is in flight after the last, a line for each direction.
-fn draw_flight(
-    alloc: Global,
-    document: &mut Document,
-    layout: &Layout,
-    labels: &Labels,
-    history: &History,
-) -> Result<(), AllocError> {
+/// Draws the rows, the strips, a line above each row, and below them what is in flight after the last, a line
+/// for each direction.
+fn draw_rows(document: &mut Document, layout: &Layout, labels: &Labels, bars: &[Bar]) {
+    let history = labels.history;
+    for (row, answered) in history.answers.iter().enumerate() {
+        draw_row(document, layout.row(row), labels.command(row), answered);
+    }
+    draw_strips(document, layout);
+    for bar in bars {
+        draw_bar(document, layout.bar(bar), labels, bar);
+    }
+    draw_lines(document, layout, history.answers.len());
     for (index, line) in history.flight.as_slice().iter().enumerate() {
-        let said = labels.flight(alloc, line)?;
+        let said = labels.flight(line);
         let row = history.answers.len().saturating_add(index);
         let base = layout.row(row).saturating_add(12);
         words(document, COMMANDS, base, &said, said.len());
     }
-    Ok(())
-}
-
-/// Draws the legend, the rows, the strips, the bars, a line above each row, and what is in flight.
-fn draw_parts(
-    alloc: Global,
-    document: &mut Document,
-    config: &Config,
-    layout: &Layout,
-    labels: &Labels,
-    keepers: &[Keeper],
-    bars: &[Bar],
-    history: &History,
-) -> Result<(), AllocError> {
-    for (index, keeper) in keepers.iter().enumerate() {
-        draw_entry(alloc, document, labels, index, *keeper)?;
-    }
-    draw_rows(alloc, document, layout, labels, &history.answers)?;
-    draw_strips(alloc, document, layout, config)?;
-    for bar in bars {
-        draw_bar(alloc, document, layout.bar(bar), labels, bar)?;
-    }
-    draw_lines(document, layout, history.answers.len());
-    draw_flight(alloc, document, layout, labels, history)
 }
 
 /// The picture of what was found of a run.
 fn picture_of(
     alloc: Global,
-    config: &Config,
+    layout: &Layout,
     labels: &Labels,
     keepers: &[Keeper],
     bars: &[Bar],
-    history: &History,
 ) -> Result<Vec<u8>, AllocError>
     ensures { IfOk result (λ picture. IsPicture picture.items) }
 {
-    let layout = Layout::new(config, keepers.len(), history, bars);
     let mut document = begin(alloc, layout.whole())?;
-    draw_parts(
-        alloc,
-        &mut document,
-        config,
-        &layout,
-        labels,
-        keepers,
-        bars,
-        history,
-    )?;
+    for (index, keeper) in keepers.iter().enumerate() {
+        draw_entry(&mut document, labels, index, *keeper);
+    }
+    draw_rows(&mut document, layout, labels, bars);
     let mut picture = document.finish()?;
     picture.extend_from_slice(b"\n")?;
     Ok(picture)
@@ -296,7 +224,12 @@ pub fn draw(
     ensures { IfOk result (λ picture. IsPicture picture.items) }
 {
     let bars = history.bars(alloc)?;
-    let labels = Labels::new(alloc, text, processes, history)?;
     let keepers = keepers_of(alloc, processes.len(), &bars)?;
-    picture_of(alloc, config, &labels, &keepers, &bars, history)
+    let labels = Labels {
+        processes,
+        lines: text.split(|byte| *byte == b'\n').collect(alloc)?,
+        history,
+    };
+    let layout = Layout::new(config, keepers.len(), history, &bars);
+    picture_of(alloc, &layout, &labels, &keepers, &bars)
 }

@@ -16,15 +16,21 @@ pub(crate) enum Keeper {
     Direction(u8),
 }
 
-/// A block while it neither moved nor changed hands: its record, where its bytes begin and how many
-/// they are, its holder, whether it is an endpoint, and the first and the last of its rows.
+/// A block at a row: its record, where its bytes begin and how many they are, its holder, and whether it is
+/// an endpoint.
 #[derive(Clone, Copy, PartialEq, Eq)]
-pub(crate) struct Bar {
+pub(crate) struct Block {
     pub(crate) record: u16,
     pub(crate) start: u32,
     pub(crate) length: u32,
     pub(crate) keeper: Keeper,
     pub(crate) is_end: bool,
+}
+
+/// A block while it neither moved nor changed hands: the first and the last of its rows.
+#[derive(Clone, Copy)]
+pub(crate) struct Bar {
+    pub(crate) block: Block,
     pub(crate) first: usize,
     pub(crate) last: usize,
 }
@@ -64,29 +70,27 @@ fn keeper_of(holder: Holder, latest: &[u8]) -> Keeper {
     }
 }
 
-/// The bar of a record that begins in a row, if the record has bytes.
-fn bar_of(machine: &Serial, latest: &[u8], record: u16, row: usize) -> Option<Bar> {
+/// The block of a record, if the record has bytes.
+fn block_of(machine: &Serial, latest: &[u8], record: u16) -> Option<Block> {
     let holder = machine.holder(record)?;
     let (start, length) = machine.extent(record)?;
-    Some(Bar {
+    Some(Block {
         record,
         start,
         length,
         keeper: keeper_of(holder, latest),
         is_end: machine.end(record).is_some(),
-        first: row,
-        last: row,
     })
 }
 
-/// Whether a bar goes on in a later one.
-fn goes_on(old: &Bar, new: &Bar) -> bool {
-    let later = Bar {
-        first: new.first,
-        last: new.last,
-        ..*old
-    };
-    later == *new
+/// The bar that a block begins in a row.
+fn begun(block: Option<Block>, row: usize) -> Option<Bar> {
+    let block = block?;
+    Some(Bar {
+        block,
+        first: row,
+        last: row,
+    })
 }
 
 /// Whether a command opened a channel.
@@ -128,28 +132,27 @@ impl History {
         self.answers.push(answered)?;
         self.flight = machine.flight();
         for record in 0..u16::from(self.arenas) * MAX_RECORDS {
-            self.follow(usize::from(record), bar_of(machine, latest, record, row))?;
+            let block = block_of(machine, latest, record);
+            self.follow(usize::from(record), block, row)?;
         }
         Ok(())
     }
 
-    /// A record has this bar in the last row.
-    fn follow(&mut self, index: usize, new: Option<Bar>) -> Result<(), AllocError>
+    /// A record has this block in a row, the last one.
+    fn follow(&mut self, record: usize, new: Option<Block>, row: usize) -> Result<(), AllocError>
         ensures { self.new ≡ self.old }
     {
-        if index >= self.current.len() {
+        if record >= self.current.len() {
             return Ok(());
         }
-        self.current[index] = match (self.current[index], new) {
-            (Some(old), Some(new)) if goes_on(&old, &new) => Some(Bar {
-                first: old.first,
-                ..new
-            }),
-            (Some(old), _) => {
-                self.past.push(old)?;
-                new
+        self.current[record] = match (self.current[record], new) {
+            (Some(bar), Some(block)) if bar.block == block => Some(Bar { last: row, ..bar }),
+            (old, _) => {
+                if let Some(bar) = old {
+                    self.past.push(bar)?;
+                }
+                begun(new, row)
             }
-            (None, _) => new,
         };
         Ok(())
     }

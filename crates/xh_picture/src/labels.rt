@@ -1,52 +1,49 @@
 //! What rows and holders are called by.
 use crate::history::{Bar, History, Keeper};
-use std::alloc::{AllocError, Global};
+use arrayvec::ArrayVec;
+use itoa::Buffer;
 use std::io::Write;
 use xh_core::FlightLine;
 use xh_script::{Answered, Name, Reply, Watched, write_reply};
 
-/// The pieces, one behind the other.
-fn phrase(alloc: Global, pieces: &[&[u8]]) -> Result<Vec<u8>, AllocError> {
-    let mut text = Vec::new(alloc);
-    for piece in pieces {
-        text.extend_from_slice(piece)?;
-    }
-    Ok(text)
+/// A label, or the text of a reply: none has more bytes.
+pub(crate) type Label = ArrayVec<u8, 256>;
+
+/// A piece of a label: bytes as they are, or the digits of a number.
+#[derive(Clone, Copy)]
+pub(crate) enum Piece<'a> {
+    Text(&'a [u8]),
+    Number(u64),
 }
 
-/// The names of the processes by number, the commands by row, and by channel the row of the command
-/// that opened it.
+/// The pieces, one behind the other.
+pub(crate) fn phrase(pieces: &[Piece]) -> Label {
+    let mut label = Label::new();
+    for piece in pieces {
+        let mut digits = Buffer::new();
+        let said = match piece {
+            Piece::Text(said) => said,
+            Piece::Number(number) => digits.format(*number).as_bytes(),
+        };
+        let _ = label.try_extend_from_slice(said);
+    }
+    label
+}
+
+/// The names of the processes by number, the lines of the script, and what its commands did.
 #[derive(Drop)]
 pub(crate) struct Labels<'a> {
-    processes: &'a [Name],
-    pub(crate) commands: Vec<&'a [u8]>,
-    channels: &'a [usize],
+    pub(crate) processes: &'a [Name],
+    pub(crate) lines: Vec<&'a [u8]>,
+    pub(crate) history: &'a History,
 }
 
-/// The piece of a text at this place between bytes that separate them.
-fn piece_at(text: &[u8], separator: u8, index: usize) -> &[u8] {
-    text.split(|byte| *byte == separator)
+/// The word of a command at this place.
+fn word_at(command: &[u8], index: usize) -> &[u8] {
+    command
+        .split(|byte| *byte == b' ')
         .nth(index)
         .unwrap_or(&[])
-}
-
-/// The lines of a text.
-fn lines_of<'a>(alloc: Global, text: &'a [u8]) -> Result<Vec<&'a [u8]>, AllocError> {
-    text.split(|byte| *byte == b'\n').collect(alloc)
-}
-
-/// Those of the lines that have a reply.
-fn commands_of<'a>(
-    alloc: Global,
-    lines: &[&'a [u8]],
-    answers: &[Answered],
-) -> Result<Vec<&'a [u8]>, AllocError> {
-    let mut commands = Vec::with_capacity(alloc, answers.len())?;
-    for answered in answers {
-        let index = (answered.line as usize).saturating_sub(1);
-        commands.push(lines.get(index).copied().unwrap_or(&[]))?;
-    }
-    Ok(commands)
 }
 
 /// Whether a command was refused.
@@ -55,95 +52,102 @@ pub(crate) fn is_refused(reply: &Reply) -> bool {
 }
 
 /// The line of a reply without its end: the number of the command's line, and the reply.
-pub(crate) fn reply_text(alloc: Global, answered: &Answered) -> Result<Vec<u8>, AllocError> {
-    let mut said = Vec::new(alloc);
-    let written = write_reply(&mut Watched::new(&mut said), answered.line, &answered.reply);
-    match written {
-        Ok(()) => {
-            let _end = said.pop();
-            Ok(said)
-        }
-        Err(_) => Err(AllocError),
-    }
-}
-
-/// What is told of a bar behind its record.
-fn kind_of(bar: &Bar) -> &'static str {
-    if bar.is_end { " (an endpoint): " } else { ": " }
+pub(crate) fn reply_text(answered: &Answered) -> Label {
+    let mut said = Label::new();
+    let _ = write_reply(&mut Watched::new(&mut said), answered.line, &answered.reply);
+    let _end = said.pop();
+    said
 }
 
 impl<'a> Labels<'a> {
-    /// The labels of a script's run.
-    pub(crate) fn new(
-        alloc: Global,
-        text: &'a [u8],
-        processes: &'a [Name],
-        history: &'a History,
-    ) -> Result<Labels<'a>, AllocError> {
-        let lines = lines_of(alloc, text)?;
-        Ok(Labels {
-            processes,
-            commands: commands_of(alloc, &lines, &history.answers)?,
-            channels: &history.channels,
-        })
+    /// The command of a row.
+    pub(crate) fn command(&self, row: usize) -> &'a [u8] {
+        let history = self.history;
+        let Some(answered) = history.answers.get(row) else {
+            return &[];
+        };
+        let index = (answered.line as usize).saturating_sub(1);
+        match self.lines.get(index) {
+            Some(line) => *line,
+            None => &[],
+        }
     }
 
     /// The name of the end that a direction leads to, from the command that opened the channel.
-    fn end_name(&self, alloc: Global, direction: u8) -> Result<Vec<u8>, AllocError> {
-        let row = self
-            .channels
-            .get(usize::from(direction / 2))
-            .copied()
-            .unwrap_or(0);
-        let command = self.commands.get(row).copied().unwrap_or(&[]);
+    fn end_name(&self, direction: u8) -> Label {
+        let channel = usize::from(direction / 2);
+        let history = self.history;
+        let row = history.channels.get(channel).copied().unwrap_or(0);
+        let command = self.command(row);
         let (process, end) = match (command.starts_with(b"wire "), direction % 2) {
             (true, 0) => (1, 2),
             (true, _) => (3, 4),
             (false, 0) => (0, 2),
             (false, _) => (0, 3),
         };
-        let process = piece_at(command, b' ', process);
-        let end = piece_at(command, b' ', end);
-        phrase(alloc, &[process, b".", end])
+        phrase(&[
+            Piece::Text(word_at(command, process)),
+            Piece::Text(b"."),
+            Piece::Text(word_at(command, end)),
+        ])
     }
 
     /// What is written on the blocks of a holder.
-    pub(crate) fn short(&self, alloc: Global, keeper: Keeper) -> Result<Vec<u8>, AllocError> {
+    pub(crate) fn short(&self, keeper: Keeper) -> Label {
         match keeper {
             Keeper::Process { name, .. } => match self.processes.get(usize::from(name)) {
-                Some(name) => phrase(alloc, &[name.as_bytes()]),
-                None => Ok(Vec::new(alloc)),
+                Some(name) => phrase(&[Piece::Text(name.as_bytes())]),
+                None => Label::new(),
             },
             Keeper::Direction(direction) => {
-                let end = self.end_name(alloc, direction)?;
-                phrase(alloc, &[b"to ", &end])
+                let end = self.end_name(direction);
+                phrase(&[Piece::Text(b"to "), Piece::Text(&end)])
             }
         }
     }
 
     /// What is said of a holder.
-    pub(crate) fn holder(&self, alloc: Global, keeper: Keeper) -> Result<Vec<u8>, AllocError> {
-        let short = self.short(alloc, keeper)?;
-        match keeper {
-            Keeper::Process { .. } => phrase(alloc, &[b"held by ", &short]),
-            Keeper::Direction(_) => phrase(alloc, &[b"in flight ", &short]),
-        }
+    pub(crate) fn holder(&self, keeper: Keeper) -> Label {
+        let short = self.short(keeper);
+        let how = match keeper {
+            Keeper::Process { .. } => "held by ",
+            Keeper::Direction(_) => "in flight ",
+        };
+        phrase(&[Piece::Text(how.as_bytes()), Piece::Text(&short)])
     }
 
     /// What is told of a bar: its record, its length, where it begins, and its holder.
-    pub(crate) fn bar(&self, alloc: Global, bar: &Bar) -> Result<Vec<u8>, AllocError> {
-        let holder = self.holder(alloc, bar.keeper)?;
-        let kind = kind_of(bar);
-        let (record, length, start) = (bar.record, bar.length, bar.start);
-        let place = format!(in alloc; "record {record}{kind}{length} bytes from {start} on, ")?;
-        phrase(alloc, &[place.as_bytes(), &holder])
+    pub(crate) fn bar(&self, bar: &Bar) -> Label {
+        let block = bar.block;
+        let kind = if block.is_end {
+            " (an endpoint): "
+        } else {
+            ": "
+        };
+        let holder = self.holder(block.keeper);
+        phrase(&[
+            Piece::Text(b"record "),
+            Piece::Number(u64::from(block.record)),
+            Piece::Text(kind.as_bytes()),
+            Piece::Number(u64::from(block.length)),
+            Piece::Text(b" bytes from "),
+            Piece::Number(u64::from(block.start)),
+            Piece::Text(b" on, "),
+            Piece::Text(&holder),
+        ])
     }
 
     /// What is told of a direction that holds blocks.
-    pub(crate) fn flight(&self, alloc: Global, line: &FlightLine) -> Result<Vec<u8>, AllocError> {
-        let holder = self.holder(alloc, Keeper::Direction(line.direction))?;
-        let (direction, blocks, bytes) = (line.direction, line.blocks, line.bytes);
-        let counts = format!(in alloc; ": direction {direction}, blocks {blocks}, bytes {bytes}")?;
-        phrase(alloc, &[&holder, counts.as_bytes()])
+    pub(crate) fn flight(&self, line: &FlightLine) -> Label {
+        let holder = self.holder(Keeper::Direction(line.direction));
+        phrase(&[
+            Piece::Text(&holder),
+            Piece::Text(b": direction "),
+            Piece::Number(u64::from(line.direction)),
+            Piece::Text(b", blocks "),
+            Piece::Number(u64::from(line.blocks)),
+            Piece::Text(b", bytes "),
+            Piece::Number(line.bytes),
+        ])
     }
 }

@@ -29,15 +29,16 @@ const SPACE: u64 = 10;
 /// The entries of a line of the legend.
 const ENTRIES: usize = 5;
 
-/// Where the rows begin, how many there are and how many lines below them, how many arenas, and how many
-/// bytes of each are shown.
+/// Where the rows begin, how many there are and how many lines below them, how many arenas, the bytes of
+/// each, and how many of these are shown.
 #[derive(Clone, Copy)]
 pub(crate) struct Layout {
     top: u64,
     rows: u64,
     below: u64,
-    arenas: u8,
-    shown: u32,
+    pub(crate) arenas: u8,
+    pub(crate) size: u32,
+    pub(crate) shown: u32,
 }
 
 /// How many bytes of an arena are shown: all, or, where no block came near to its end, some more
@@ -45,7 +46,7 @@ pub(crate) struct Layout {
 fn shown(size: u32, bars: &[Bar]) -> u32 {
     let mut reach = 0u32;
     for bar in bars {
-        reach = reach.max(bar.start.saturating_add(bar.length));
+        reach = reach.max(bar.block.start.saturating_add(bar.block.length));
     }
     (reach / 64).saturating_add(1).saturating_mul(64).min(size)
 }
@@ -69,13 +70,9 @@ impl Layout {
             rows: history.answers.len() as u64,
             below: history.flight.len() as u64,
             arenas: config.arenas,
+            size: config.bytes,
             shown: shown(config.bytes, bars),
         }
-    }
-
-    /// How many bytes of each arena are shown.
-    pub(crate) fn shown(&self) -> u32 {
-        self.shown
     }
 
     /// Where a row begins.
@@ -108,11 +105,14 @@ impl Layout {
 
     /// The area of a bar.
     pub(crate) fn bar(&self, bar: &Bar) -> Area {
-        let from = self.across(bar.start);
-        let to = self.across(bar.start.saturating_add(bar.length));
+        let from = self.across(bar.block.start);
+        let to = self.across(bar.block.start.saturating_add(bar.block.length));
         let rows = bar.last.saturating_sub(bar.first).saturating_add(1) as u64;
         Area {
-            x: self.strip(bar.record / MAX_RECORDS).x.saturating_add(from),
+            x: self
+                .strip(bar.block.record / MAX_RECORDS)
+                .x
+                .saturating_add(from),
             y: self.row(bar.first),
             width: to.saturating_sub(from).max(1),
             height: rows.saturating_mul(ROW),

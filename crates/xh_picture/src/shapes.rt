@@ -2,9 +2,6 @@
 use crate::document::Document;
 use crate::tags::{Key, Tag};
 
-/// What is written in black.
-pub(crate) const INK: &[u8] = b"#222222";
-
 /// A rectangle.
 #[derive(Clone, Copy)]
 pub(crate) struct Area {
@@ -30,14 +27,6 @@ pub(crate) fn rect(document: &mut Document, area: Area, fill: &[u8]) {
     document.close();
 }
 
-/// Opens a text that begins at a place.
-pub(crate) fn open_words(document: &mut Document, x: u64, y: u64, ink: &[u8]) {
-    document.open(Tag::Text);
-    document.measure(Key::X, x);
-    document.measure(Key::Y, y);
-    document.give(Key::Fill, ink);
-}
-
 /// What is told of the open element when one points to it.
 pub(crate) fn tell(document: &mut Document, said: &[u8]) {
     document.open(Tag::Title);
@@ -45,9 +34,12 @@ pub(crate) fn tell(document: &mut Document, said: &[u8]) {
     document.close();
 }
 
-/// A text of so many letters at most; of a longer one a front, and the whole when one points to it.
+/// A text that begins at a place, of so many letters at most; of a longer one a front, and the whole when one points to it.
 pub(crate) fn words(document: &mut Document, x: u64, y: u64, said: &[u8], most: usize) {
-    open_words(document, x, y, INK);
+    document.open(Tag::Text);
+    document.measure(Key::X, x);
+    document.measure(Key::Y, y);
+    document.give(Key::Fill, b"#222222");
     if said.len() <= most {
         document.say(said);
     } else {

@@ -29,7 +29,6 @@ pub(crate) enum Key {
     Dashes,
     FontFamily,
     FontSize,
-    FontWeight,
 }
 
 impl Tag {
@@ -67,7 +66,6 @@ impl Key {
             Key::Dashes => "stroke-dasharray",
             Key::FontFamily => "font-family",
             Key::FontSize => "font-size",
-            Key::FontWeight => "font-weight",
         }
     }
 }

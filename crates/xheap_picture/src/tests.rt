@@ -1,30 +1,11 @@
-//! The pictures of scripts, by their texts.
-mod ends;
-mod reading;
-
+//! The program by its words and its input: what it draws, what it reports, and its status.
 use crate::run::run_main;
-use crate::tests::reading::{count, is_well_formed};
 use std::alloc::Global;
+use std::io;
+use std::io::{Read, Write};
 use std::process::Abort;
 use std::test::Fail;
 use xh_script::Watched;
-
-const GIVE_AND_TAKE: &str = "\
-# Two processes and a channel between them: e is a's end, f is b's.
-process a
-process b
-wire a e b f 0
-# a asks for 40 bytes and gets the next multiple of 16, writes to them and gives them away.
-a alloc x 40 0
-a write x 0 68656c6c6f
-a give e 7 x
-# The block is no longer a's.
-a read x 0 5
-# b takes it with its bytes, without a copy, and hands it back to the arena.
-b take f y
-b read y 0 5
-b free y
-";
 
 const NESTED_ENDPOINT: &str = "\
 process client
@@ -67,212 +48,244 @@ b again
 b alloc y 16 0
 ";
 
-fn words_of(alloc: Global, options: &[&str]) -> Result<Vec<String>, Fail> {
-    let mut words = Vec::new(alloc);
-    words.push("xheap_picture".to_string(alloc)?)?;
-    for option in options {
-        words.push(option.to_string(alloc)?)?;
-    }
-    Ok(words)
-}
+const IN_FLIGHT: &str =
+    "process a\nprocess b\nwire a e b f 0\na alloc x 48 0\na alloc y 16 0\na give e 7 x y\n";
 
-/// With these options and this input: the status, and what is written on both outputs.
-fn ended(alloc: Global, options: &[&str], script: &str) -> Result<(u8, Vec<u8>, Vec<u8>), Fail> {
-    let words = words_of(alloc, options)?;
-    let mut input = script.as_bytes();
-    let mut out = Vec::new(alloc);
-    let mut err = Vec::new(alloc);
-    let status = run_main(
-        alloc,
-        &words,
-        &mut Watched::new(&mut input),
-        &mut Watched::new(&mut out),
-        &mut err,
-    );
-    Ok((status, out, err))
-}
+const FULL: &str = "process a\na open e f 0\na give e 1\na give e 1\n";
 
-/// The picture of a script.
-fn picture(
-    rt: &impl Abort,
-    alloc: Global,
-    options: &[&str],
-    script: &str,
-) -> Result<Vec<u8>, Fail> {
-    let (status, out, err) = ended(alloc, options, script)?;
-    assert!(rt; status == 0);
-    assert!(rt; err.is_empty());
-    let is_document = is_well_formed(alloc, &out)?;
-    assert!(rt; is_document);
-    Ok(out)
-}
-
-/// The picture has these texts, each so often.
-fn has(rt: &impl Abort, picture: &[u8], wanted: &[(&str, usize)]) {
-    for (text, times) in wanted {
-        let found = count(picture, text.as_bytes());
-        assert!(rt; found == *times, "{text}: {found}");
-    }
-}
-
-/// Each command with its reply, each block with its holder, and the names.
-#[test]
-fn give_and_take(rt: HostRuntime) -> Result<(), Fail> {
-    let picture = picture(&rt, rt.alloc(), &["--serial"], GIVE_AND_TAKE)?;
-    has(
-        &rt,
-        &picture,
-        &[
-            (">a write x 0 68656c6c6f</text>", 1),
-            (">6 ok 48</text>", 1),
-            (">12 ok 1 7 48</text>", 1),
-            (">10 no 6 NotOwned</text>", 1),
-            ("fill=\"#f9c4c9\"", 1),
-            (
-                ">record 0 (an endpoint): 32 bytes from 0 on, held by a</title>",
-                1,
-            ),
-            (
-                ">record 1 (an endpoint): 32 bytes from 32 on, held by b</title>",
-                1,
-            ),
-            (">record 2: 48 bytes from 64 on, held by a</title>", 1),
-            (
-                ">record 2: 48 bytes from 64 on, in flight to b.f</title>",
-                1,
-            ),
-            (">record 2: 48 bytes from 64 on, held by b</title>", 1),
-            ("<title>record ", 5),
-            ("<circle ", 2),
-            (">in flight to b.f</text>", 1),
-            (">held by a</text>", 1),
-            (">arena 0: the first 128 of 65536 bytes</text>", 1),
-            ("</svg>\n", 1),
-        ],
-    );
-    Ok(())
-}
-
-/// An endpoint is sent, and a channel that its process opened has its names.
-#[test]
-fn endpoint_in_flight(rt: HostRuntime) -> Result<(), Fail> {
-    let picture = picture(&rt, rt.alloc(), &["--serial"], NESTED_ENDPOINT)?;
-    has(
-        &rt,
-        &picture,
-        &[
-            (
-                ">record 3 (an endpoint): 32 bytes from 96 on, in flight to server.door</title>",
-                1,
-            ),
-            (
-                ">record 3 (an endpoint): 32 bytes from 96 on, held by server</title>",
-                1,
-            ),
-            (
-                ">record 4: 16 bytes from 128 on, in flight to client.yours</title>",
-                1,
-            ),
-        ],
-    );
-    Ok(())
-}
-
-/// What is in flight at the end has a line of its own.
-#[test]
-fn lines_of_flight(rt: HostRuntime) -> Result<(), Fail> {
-    let script =
-        "process a\nprocess b\nwire a e b f 0\na alloc x 48 0\na alloc y 16 0\na give e 7 x y\n";
-    let picture = picture(&rt, rt.alloc(), &["--serial"], script)?;
-    has(
-        &rt,
-        &picture,
-        &[
-            (
-                ">in flight to b.f: direction 1, blocks 2, bytes 64</text>",
-                1,
-            ),
-            (">in flight to b.f</text>", 1),
-        ],
-    );
-    Ok(())
-}
-
-/// Refusals are marked, with and without a count, and those of a contract.
-#[test]
-fn refusals_are_marked(rt: HostRuntime) -> Result<(), Fail> {
-    let alloc = rt.alloc();
-    let drawn = picture(&rt, alloc, &["--serial"], PROTOCOL)?;
-    has(
-        &rt,
-        &drawn,
-        &[("no 22 Protocol</text>", 2), ("fill=\"#f9c4c9\"", 2)],
-    );
-    let script = "process a\na open e f 0\na give e 1\na give e 1\n";
-    let drawn = picture(&rt, alloc, &["--serial", "--depth", "1"], script)?;
-    has(&rt, &drawn, &[(">4 no 14 Full 0</text>", 1)]);
-    Ok(())
-}
-
-/// A place is used by one process after another, each with its own name.
-#[test]
-fn place_used_again(rt: HostRuntime) -> Result<(), Fail> {
-    let picture = picture(&rt, rt.alloc(), &["--serial"], PLACE_USED_AGAIN)?;
-    has(
-        &rt,
-        &picture,
-        &[
-            (">record 0: 48 bytes from 0 on, held by a</title>", 1),
-            (">record 0: 16 bytes from 0 on, held by b</title>", 1),
-        ],
-    );
-    Ok(())
-}
-
-/// Each arena has a strip, and a script without commands has a picture too.
-#[test]
-fn arenas_and_no_commands(rt: HostRuntime) -> Result<(), Fail> {
-    let alloc = rt.alloc();
-    let script = "process a\na alloc x 64 0\na alloc y 16 1\n";
-    let options = ["--serial", "--arenas=2", "--bytes=64"];
-    let drawn = picture(&rt, alloc, &options, script)?;
-    has(
-        &rt,
-        &drawn,
-        &[
-            (">arena 0: the first 64 of 64 bytes</text>", 1),
-            (">arena 1: the first 64 of 64 bytes</text>", 1),
-            (">record 256: 16 bytes from 0 on, held by a</title>", 1),
-        ],
-    );
-    picture(&rt, alloc, &[], "")?;
-    Ok(())
-}
+const TWO_ARENAS: &str = "process a\na alloc x 64 0\na alloc y 16 1\n";
 
 /// Many processes, and commands and replies that are longer than their columns.
-#[test]
-fn many_processes_and_long_lines(rt: HostRuntime) -> Result<(), Fail> {
-    let alloc = rt.alloc();
-    let mut script = String::new(alloc);
-    for process in 0..40u8 {
-        script.push_str(&format!(in alloc; "process p{process}\n")?)?;
+const MANY: &str =
+    "process p0\nprocess p1\nprocess p2\nprocess p3\nprocess p4\nprocess p5\nprocess p6\nprocess p7\n\
+     process p8\nprocess p9\nprocess p10\nprocess p11\nprocess p12\nprocess p13\nprocess p14\nprocess p15\n\
+     process p16\nprocess p17\nprocess p18\nprocess p19\nprocess p20\nprocess p21\nprocess p22\nprocess p23\n\
+     process p24\nprocess p25\nprocess p26\nprocess p27\nprocess p28\nprocess p29\nprocess p30\nprocess p31\n\
+     process p32\nprocess p33\nprocess p34\nprocess p35\nprocess p36\nprocess p37\nprocess p38\nprocess p39\n\
+     p9 alloc x 16 0\np9 write x 0 000102030405060708090a0b0c0d0e0f\np9 read x 0 16\np33 free y\n";
+
+/// The options and the script of each picture.
+const PICTURES: &[(&str, &str)] = &[
+    ("--serial", NESTED_ENDPOINT),
+    ("--serial", IN_FLIGHT),
+    ("--serial", PROTOCOL),
+    ("--serial --depth 1", FULL),
+    ("--serial", PLACE_USED_AGAIN),
+    ("--serial --arenas=2 --bytes=64", TWO_ARENAS),
+    ("", ""),
+    ("--serial", MANY),
+];
+
+/// What a picture shows: its place in the table, a text, and how often it has that.
+const SHOWN: &[(usize, &str, usize)] = &[
+    (
+        0,
+        ">record 3 (an endpoint): 32 bytes from 96 on, in flight to server.door</title>",
+        1,
+    ),
+    (
+        0,
+        ">record 3 (an endpoint): 32 bytes from 96 on, held by server</title>",
+        1,
+    ),
+    (
+        0,
+        ">record 4: 16 bytes from 128 on, in flight to client.yours</title>",
+        1,
+    ),
+    (
+        1,
+        ">in flight to b.f: direction 1, blocks 2, bytes 64</text>",
+        1,
+    ),
+    (1, ">in flight to b.f</text>", 1),
+    (2, "no 22 Protocol</text>", 2),
+    (2, "fill=\"#f9c4c9\"", 2),
+    (3, ">4 no 14 Full 0</text>", 1),
+    (4, ">record 0: 48 bytes from 0 on, held by a</title>", 1),
+    (4, ">record 0: 16 bytes from 0 on, held by b</title>", 1),
+    (5, ">arena 0: the first 64 of 64 bytes</text>", 1),
+    (5, ">arena 1: the first 64 of 64 bytes</text>", 1),
+    (5, ">record 256: 16 bytes from 0 on, held by a</title>", 1),
+    (6, "</svg>\n", 1),
+    (
+        7,
+        "<title>p9 write x 0 000102030405060708090a0b0c0d0e0f</title>",
+        1,
+    ),
+    (
+        7,
+        "</title>p9 write x 0 000102030405060708090a0..</text>",
+        1,
+    ),
+    (7, "no 21 NoPlace</text>", 8),
+    (7, ">held by p39</text>", 1),
+];
+
+/// Options and a script of which no picture is drawn: the status, what is printed, and what is reported.
+const UNDRAWN: &[(&str, &str, u8, &str, &str)] = &[
+    (
+        "--serial",
+        "process a\na alloc x 040 0\n",
+        1,
+        "",
+        "xheap_picture: line 2: BadNumber\n",
+    ),
+    ("", "a fly\n", 1, "", "xheap_picture: line 1: BadWord\n"),
+    (
+        "--bytes 40",
+        "",
+        2,
+        "",
+        "xheap_picture: --bytes must be a multiple of 16\n",
+    ),
+    ("--arenas=9", "", 2, "", "error: "),
+    ("--bytes=1048592", "", 2, "", "error: "),
+    ("--records=257", "", 2, "", "error: "),
+    ("--depth=17", "", 2, "", "error: "),
+    ("--wear=9223372036854775808", "", 2, "", "error: "),
+    ("script", "", 2, "", "error: "),
+    ("--help", "a fly\n", 0, "Reads a script ", ""),
+    ("--version", "a fly\n", 0, "xheap_picture 1.0\n", ""),
+];
+
+/// Runs the program with these options, and gives its status.
+fn run_with<R: Read, W: Write>(
+    alloc: Global,
+    options: &str,
+    reader: &mut R,
+    out: &mut W,
+    err: &mut Vec<u8>,
+) -> Result<u8, Fail> {
+    let mut words = Vec::new(alloc);
+    words.push("xheap_picture".to_string(alloc)?)?;
+    for option in options.split_ascii_whitespace() {
+        words.push(option.to_string(alloc)?)?;
     }
-    script.push_str(
-        "p9 alloc x 16 0\np9 write x 0 000102030405060708090a0b0c0d0e0f\np9 read x 0 16\np33 free y\n",
-    )?;
-    let drawn = picture(&rt, alloc, &["--serial"], &script)?;
-    has(
-        &rt,
-        &drawn,
-        &[
-            (
-                "<title>p9 write x 0 000102030405060708090a0b0c0d0e0f</title>",
-                1,
-            ),
-            ("</title>p9 write x 0 000102030405060708090a0..</text>", 1),
-            ("no 21 NoPlace</text>", 8),
-            (">held by p39</text>", 1),
-        ],
-    );
+    let mut input = Watched::new(reader);
+    let mut output = Watched::new(out);
+    Ok(run_main(alloc, &words, &mut input, &mut output, err))
+}
+
+/// How often a text has a piece, overlaps too.
+fn count(text: &[u8], piece: &[u8]) -> usize {
+    let mut found = 0usize;
+    for at in 0..text.len() {
+        if text[at..].starts_with(piece) {
+            found = found.saturating_add(1);
+        }
+    }
+    found
+}
+
+/// The picture shows what the table says of it.
+fn shows(rt: &impl Abort, picture: &[u8], number: usize) {
+    for (of, text, times) in SHOWN {
+        if *of == number {
+            assert!(rt; count(picture, text.as_bytes()) == *times, "{text}");
+        }
+    }
+}
+
+#[test]
+fn pictures(rt: HostRuntime) -> Result<(), Fail> {
+    for (number, (options, script)) in PICTURES.iter().enumerate() {
+        let mut out = Vec::new(rt.alloc());
+        let mut err = Vec::new(rt.alloc());
+        let status = run_with(
+            rt.alloc(),
+            options,
+            &mut script.as_bytes(),
+            &mut out,
+            &mut err,
+        )?;
+        assert!(&rt; status == 0 && err.is_empty(), "{options}");
+        shows(&rt, &out, number);
+    }
+    Ok(())
+}
+
+/// A text is this, or begins with it where a space ends it.
+fn is_told(text: &[u8], wanted: &str) -> bool {
+    text == wanted.as_bytes() || (wanted.ends_with(" ") && text.starts_with(wanted.as_bytes()))
+}
+
+#[test]
+fn nothing_is_drawn(rt: HostRuntime) -> Result<(), Fail> {
+    for (options, script, wanted, printed, reported) in UNDRAWN {
+        let mut out = Vec::new(rt.alloc());
+        let mut err = Vec::new(rt.alloc());
+        let status = run_with(
+            rt.alloc(),
+            options,
+            &mut script.as_bytes(),
+            &mut out,
+            &mut err,
+        )?;
+        assert!(&rt;
+            status == *wanted && is_told(&out, printed) && is_told(&err, reported),
+            "{options}"
+        );
+    }
+    Ok(())
+}
+
+/// A reader that fails, and a writer that takes some bytes and then fails.
+#[derive(Drop)]
+struct Broken {
+    room: usize,
+}
+
+impl Read for Broken {
+    fn read(&mut self, _room: &mut [u8]) -> io::Result<usize> {
+        Err(io::Error::from(io::ErrorKind::Other))
+    }
+}
+
+impl Write for Broken {
+    fn write(&mut self, bytes: &[u8]) -> io::Result<usize> {
+        if self.room == 0 {
+            return Err(io::Error::from(io::ErrorKind::Other));
+        }
+        let taken = self.room.min(bytes.len());
+        self.room -= taken;
+        Ok(taken)
+    }
+
+    fn flush(&mut self) -> io::Result<()> {
+        Ok(())
+    }
+}
+
+/// A stream is broken: the status is 4, and this is reported.
+fn breaks<R: Read>(
+    rt: &impl Abort,
+    alloc: Global,
+    reader: &mut R,
+    room: usize,
+    report: &str,
+) -> Result<(), Fail> {
+    let mut err = Vec::new(alloc);
+    let status = run_with(alloc, "", reader, &mut Broken { room }, &mut err)?;
+    assert!(rt; status == 4);
+    assert!(rt; err.as_slice() == report.as_bytes());
+    Ok(())
+}
+
+#[test]
+fn broken_streams(rt: HostRuntime) -> Result<(), Fail> {
+    let alloc = rt.alloc();
+    let mut broken = Broken { room: 0 };
+    breaks(&rt, alloc, &mut broken, 0, "xheap_picture: read failed\n")?;
+    for room in [0, 1000] {
+        let mut input = FULL.as_bytes();
+        breaks(
+            &rt,
+            alloc,
+            &mut input,
+            room,
+            "xheap_picture: write failed\n",
+        )?;
+    }
     Ok(())
 }
