@@ -1,16 +1,29 @@
 //! Bytes of a vault.
 ghost use Rattle.std.specs.Prelude.{◌≡◌};
 
-use crate::blank::Blank;
 use crate::failure::Failure;
 use crate::timer::Work;
 use std::alloc::Global;
 use std::sync::Wait;
 use std::time::Clock;
-use xh_arena::{Lot, Tally, Vault};
+use xh_arena::{Fits, Lot, Tally, Vault};
 use xh_model::limits::{MAX_RECORDS, MAX_WEAR};
 
-const SIZE: u32 = 65_536;
+pub(crate) const SIZE: u32 = 65_536;
+
+/// A body without bytes, which fits each length.
+#[derive(Default, Drop)]
+pub(crate) struct Blank;
+
+impl Fits for Blank {
+    ghost use Rattle.std.specs.Prelude.{true};
+
+    ghost is_fit = { λ _ _. true };
+
+    fn fits(&self, _len: u32) -> bool {
+        true
+    }
+}
 
 /// The bytes that are carved.
 const BYTES: u32 = 64;

@@ -1,15 +1,15 @@
 //! Messages of a channel.
 use crate::failure::{Failure, add};
 use crate::player::TAG;
-use crate::talks::{End, Talk, talkers};
-use crate::timer::{Pace, Work, best};
+use crate::talks::{End, Talk, Talker};
+use crate::timer::{Host, Pace, Way, Work, pace_of};
 use arrayvec::ArrayVec;
 use std::alloc::Global;
 use std::sync::Wait;
-use std::thread::{self, Threads};
+use std::thread;
 use std::time::Clock;
 use xh_channel::{Channels, Endpoint, Refused, Unsent};
-use xh_model::limits::{MAX_BLOCKS, MAX_DEPTH};
+use xh_model::limits::MAX_DEPTH;
 
 /// Who puts messages on channels and takes them, each for a number.
 #[derive(Clone, Copy)]
@@ -22,34 +22,7 @@ pub(crate) enum Traffic {
     Pairs,
 }
 
-// The blocks of each message: one.
-fn one_block() -> ArrayVec<u16, MAX_BLOCKS> {
-    let mut blocks = ArrayVec::new();
-    blocks.push(7);
-    blocks
-}
-
-/// A message is put by one end of a channel and taken by the other.
-#[derive(Drop)]
-struct PutTake<'a> {
-    channels: &'a Channels,
-    low: Endpoint,
-    high: Endpoint,
-}
-
-impl<'a> Work for PutTake<'a> {
-    fn round<R: Wait + Clock>(&mut self, rt: &R) -> Result<(), Failure> {
-        let put = self.channels.put(rt, &mut self.low, TAG, one_block());
-        let taken = self.channels.take(rt, &mut self.high);
-        if put.is_ok() && taken.is_ok() {
-            Ok(())
-        } else {
-            Err(Failure::Astray)
-        }
-    }
-}
-
-/// What one thread of a pair passes messages by.
+/// An end of a channel.
 #[derive(Drop)]
 struct Partner<'a> {
     channels: &'a Channels,
@@ -57,9 +30,11 @@ struct Partner<'a> {
 }
 
 impl<'a> Partner<'a> {
-    // Whether there was room for a message.
+    // Whether there was room for a message of one block.
     fn puts<R: Wait>(&mut self, rt: &R) -> Result<bool, Failure> {
-        match self.channels.put(rt, &mut self.end, TAG, one_block()) {
+        let mut blocks = ArrayVec::new();
+        blocks.push(7);
+        match self.channels.put(rt, &mut self.end, TAG, blocks) {
             Ok(_no) => Ok(true),
             Err(Unsent::Full { back: _ }) => Ok(false),
             Err(_unsent) => Err(Failure::Refused),
@@ -77,11 +52,7 @@ impl<'a> Partner<'a> {
 }
 
 impl<'a> End<()> for Partner<'a> {
-    fn make(&mut self) -> Result<(), Failure> {
-        Ok(())
-    }
-
-    fn send<R: Wait>(&mut self, rt: &R, _buffer: ()) -> Result<(), Failure> {
+    fn send<R: Wait>(&mut self, rt: &R, _buffer: Option<()>) -> Result<(), Failure> {
         for _ in rt.forever() {
             if self.puts(rt)? {
                 return Ok(());
@@ -103,24 +74,31 @@ impl<'a> End<()> for Partner<'a> {
         unreachable!()
     }
 
-    fn unmake(&mut self, _buffer: ()) -> Result<(), Failure> {
-        Ok(())
-    }
-
     fn leave<R: Wait>(&mut self, rt: &R) {
         self.channels.shut(rt, &mut self.end);
     }
 }
 
-fn open<R: Wait>(rt: &R, channels: &Channels) -> Result<(Endpoint, Endpoint), Failure> {
-    match channels.open(rt) {
-        Ok(ends) => Ok(ends),
-        Err(_refused) => Err(Failure::Refused),
+/// A channel: a message is put by one end and taken by the other.
+#[derive(Drop)]
+struct PutTake<'a> {
+    low: Partner<'a>,
+    high: Partner<'a>,
+}
+
+impl<'a> Work for PutTake<'a> {
+    fn round<R: Wait + Clock>(&mut self, rt: &R) -> Result<(), Failure> {
+        let put = self.low.puts(rt)?;
+        if put && self.high.takes(rt)? {
+            Ok(())
+        } else {
+            Err(Failure::Astray)
+        }
     }
 }
 
-// Threads, each of which puts and takes on a channel of its own.
-fn apart<'a, R: Wait>(
+// So many new channels.
+fn open<'a, R: Wait>(
     rt: &R,
     alloc: Global,
     channels: &'a Channels,
@@ -128,59 +106,53 @@ fn apart<'a, R: Wait>(
 ) -> Result<Vec<PutTake<'a>>, Failure> {
     let mut works = Vec::new(alloc);
     for _ in 0..count {
-        let (low, high) = open(rt, channels)?;
-        let work = PutTake {
-            channels,
-            low,
-            high,
+        let (low, high) = match channels.open(rt) {
+            Ok((low, high)) => (
+                Partner { channels, end: low },
+                Partner {
+                    channels,
+                    end: high,
+                },
+            ),
+            Err(_refused) => return Err(Failure::Refused),
         };
-        add(&mut works, work)?;
+        add(&mut works, PutTake { low, high })?;
     }
     Ok(works)
 }
 
-// Pairs of threads, each on a channel of its own.
-fn pairs<'a, R: Wait>(
-    rt: &R,
-    alloc: Global,
-    channels: &'a Channels,
-    count: u32,
-) -> Result<Vec<Partner<'a>>, Failure> {
-    let mut ends = Vec::new(alloc);
-    for _ in 0..count {
-        let (low, high) = open(rt, channels)?;
-        add(&mut ends, Partner { channels, end: low })?;
-        let end = high;
-        add(&mut ends, Partner { channels, end })?;
+// A pair of threads for each channel.
+fn pairs(alloc: Global, works: Vec<PutTake<'_>>) -> Result<Vec<Talker<Partner<'_>, ()>>, Failure> {
+    let mut talkers = Vec::new(alloc);
+    for PutTake { low, high } in works {
+        add(&mut talkers, Talker::new(low, Talk::Stream, true))?;
+        add(&mut talkers, Talker::new(high, Talk::Stream, false))?;
     }
-    Ok(ends)
+    Ok(talkers)
 }
 
 // Times the traffic on these channels.
-fn time_on<R: Threads + Wait + Clock + Sync>(
+fn time_on<R: Host>(
     rt: &R,
     alloc: Global,
     channels: &Channels,
     traffic: Traffic,
     number: u32,
 ) -> Result<Pace, Failure> {
+    let works = open(rt, alloc, channels, number)?;
     match traffic {
         Traffic::Beside => {
-            let others = apart(rt, alloc, channels, number)?;
-            let pace = best(rt, apart(rt, alloc, channels, 1), 1);
-            drop(others);
+            let pace = pace_of(rt, open(rt, alloc, channels, 1), Way::Best(1));
+            drop(works);
             pace
         }
-        Traffic::Apart => best(rt, apart(rt, alloc, channels, number), number),
-        Traffic::Pairs => {
-            let ends = pairs(rt, alloc, channels, number)?;
-            best(rt, talkers(alloc, ends, Talk::Stream), number)
-        }
+        Traffic::Apart => pace_of(rt, Ok(works), Way::Best(number)),
+        Traffic::Pairs => pace_of(rt, pairs(alloc, works), Way::Best(number)),
     }
 }
 
 /// Times the traffic on new channels.
-pub(crate) fn time<R: Threads + Wait + Clock + Sync>(
+pub(crate) fn time<R: Host>(
     rt: &R,
     alloc: Global,
     traffic: Traffic,

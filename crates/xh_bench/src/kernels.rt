@@ -1,17 +1,13 @@
 //! Measures of a kernel: it is made, one kind of call is timed on it, and it is dropped.
 ghost use Rattle.std.specs.Prelude.{◌≡◌, All, vec_len};
 
-use crate::calls::{Deed, Doing, crowd, give_take};
+use crate::calls::{Deed, Doing};
 use crate::failure::{Failure, add, unless_refused};
-use crate::kills::kill_all;
-use crate::player::{Player, Taking, wired};
-use crate::talks::{Talk, talkers};
-use crate::timer::{MOST, Pace, Runs, best, spent};
+use crate::player::{Player, Taking, talkers};
+use crate::talks::Talk;
+use crate::timer::{Host, MOST, Pace, Runs, Way, pace_of};
 use std::alloc::Global;
 use std::marker::Brand;
-use std::sync::Wait;
-use std::thread::Threads;
-use std::time::{Clock, CpuClock};
 use xh_core::Config;
 use xh_glance::Look;
 use xh_kernel::{Account, Kernel, Names, Parts};
@@ -50,159 +46,6 @@ pub(crate) enum Call {
 /// The bytes of a block where the number tells something else.
 const SMALL: u32 = 64;
 
-impl Call {
-    // How many threads there are.
-    fn threads(self, number: u32) -> u8 {
-        match self {
-            Call::Apart | Call::Together => (number % 32) as u8,
-            Call::PingPong | Call::Stream | Call::Idle => 2,
-            _ => 1,
-        }
-    }
-
-    // What a process does, of which so many stand before it.
-    fn deed<M: Taking>(
-        self,
-        player: &mut Player<M>,
-        number: u32,
-        before: u32,
-    ) -> Result<Deed, Failure> {
-        match self {
-            Call::AllocFree => Ok(Deed::AllocFree(number, 0)),
-            Call::Apart => Ok(Deed::AllocFree(SMALL, before)),
-            Call::Together => Ok(Deed::AllocFree(SMALL, 0)),
-            Call::GiveTake => give_take(player, number),
-            Call::AllocBeside | Call::GiveBeside | Call::ReadBeside => {
-                crowd(player, number)?;
-                self.deed_beside(player)
-            }
-            _ => Ok(Deed::Glance),
-        }
-    }
-
-    // What a process does that has other blocks.
-    fn deed_beside<M: Taking>(self, player: &mut Player<M>) -> Result<Deed, Failure> {
-        match self {
-            Call::GiveBeside => give_take(player, 1),
-            Call::ReadBeside => Ok(Deed::Read(player.alloc(player.process, SMALL, 0)?)),
-            _ => Ok(Deed::AllocFree(SMALL, 0)),
-        }
-    }
-}
-
-// A process for each machine, which does calls.
-fn doings<M: Taking>(
-    alloc: Global,
-    machines: Vec<M>,
-    call: Call,
-    number: u32,
-) -> Result<Vec<Doing<M>>, Failure> {
-    let mut doings = Vec::with_capacity(alloc, machines.len())?;
-    let mut before = 0u32;
-    for machine in machines {
-        let mut player = Player::new(alloc, machine, 0)?;
-        let deed = call.deed(&mut player, number, before)?;
-        add(&mut doings, Doing { player, deed })?;
-        before = before.saturating_add(1);
-    }
-    Ok(doings)
-}
-
-// Times two processes that talk with blocks of so many bytes.
-fn time_talk<M: Taking + Send, R: Threads + Wait + Clock + Sync>(
-    rt: &R,
-    alloc: Global,
-    machines: Vec<M>,
-    bytes: u32,
-    talk: Talk,
-) -> Result<Pace, Failure> {
-    let players = wired(alloc, machines, bytes)?;
-    best(rt, talkers(alloc, players, talk), 1)
-}
-
-// The processor time of so many blocks of two processes, with a pause before each.
-fn time_idle<M: Taking + Send, R: Threads + Wait + Clock + CpuClock + Sync>(
-    rt: &R,
-    alloc: Global,
-    machines: Vec<M>,
-    blocks: u32,
-) -> Result<Pace, Failure> {
-    let players = wired(alloc, machines, SMALL)?;
-    spent(rt, talkers(alloc, players, Talk::Idle), blocks)
-}
-
-// Times kills by a process of the machine.
-fn time_kills_by<M: Taking, R: Clock>(
-    rt: &R,
-    alloc: Global,
-    mut machines: Vec<M>,
-    blocks: u32,
-) -> Result<Pace, Failure> {
-    let Some(machine) = machines.pop() else {
-        return Err(Failure::Astray);
-    };
-    let mut peer = Player::new(alloc, machine, 0)?;
-    let pace = kill_all(rt, &mut peer, blocks);
-    drop(peer);
-    pace
-}
-
-// Times the call by these machines.
-fn time_call<M: Taking + Send, R: Threads + Wait + Clock + CpuClock + Sync>(
-    rt: &R,
-    alloc: Global,
-    machines: Vec<M>,
-    call: Call,
-    number: u32,
-) -> Result<Pace, Failure> {
-    match call {
-        Call::PingPong => time_talk(rt, alloc, machines, number, Talk::PingPong),
-        Call::Stream => time_talk(rt, alloc, machines, number, Talk::Stream),
-        Call::Idle => time_idle(rt, alloc, machines, number),
-        Call::Kill => time_kills_by(rt, alloc, machines, number),
-        _ => {
-            let operations = u32::from(call.threads(number));
-            best(rt, doings(alloc, machines, call, number), operations)
-        }
-    }
-}
-
-// Times the call on a kernel, by a worker for each account.
-fn time_on<N: Names + Send + Sync, R: Threads + Wait + Clock + CpuClock + Sync>(
-    rt: &R,
-    alloc: Global,
-    kernel: &Kernel<N>,
-    accounts: Vec<Account<N>>,
-    looks: Vec<Look>,
-    call: Call,
-    number: u32,
-) -> Result<Pace, Failure>
-    requires count { vec_len looks ≡ vec_len accounts }
-    requires own { All (λ l. l.glances ≡ N.parts.glances) looks.items }
-{
-    let workers = hire(rt, alloc, kernel, &OpenGate, accounts, looks)?;
-    time_call(rt, alloc, workers, call, number)
-}
-
-// Times the call on the kernel of these parts.
-fn time_named<N: Names + Send + Sync, R: Threads + Wait + Clock + CpuClock + Sync>(
-    rt: &R,
-    alloc: Global,
-    parts: Parts,
-    call: Call,
-    number: u32,
-) -> Result<Pace, Failure>
-    requires names { parts ≡ N.parts }
-{
-    let (kernel, accounts, looks) = match Kernel::<N>::new(alloc, parts) {
-        Ok(made) => made,
-        Err(_refused) => return Err(Failure::Memory),
-    };
-    let pace = time_on(rt, alloc, &kernel, accounts, looks, call, number);
-    drop(kernel);
-    pace
-}
-
 /// What each kernel is made with.
 const CONFIG: Config = Config {
     arenas: MAX_ARENAS,
@@ -212,28 +55,129 @@ const CONFIG: Config = Config {
     wear: MAX_WEAR,
 };
 
-/// Times the call on a new kernel.
-pub(crate) fn time<R: Threads + Wait + Clock + CpuClock + Sync>(
-    rt: &R,
+/// A call, and the number that it is timed for.
+#[derive(Clone, Copy)]
+pub(crate) struct Timing {
     alloc: Global,
     call: Call,
     number: u32,
-) -> Result<Pace, Failure> {
-    let parts = unless_refused(Parts::new(alloc, CONFIG, call.threads(number)))?;
-    time_named::<Brand, R>(rt, alloc, parts, call, number)
 }
 
-/// Times kernel after kernel whose processes are killed, with so many blocks each.
-pub(crate) fn time_kills<R: Threads + Wait + Clock + CpuClock + Sync>(
-    rt: &R,
-    alloc: Global,
-    number: u32,
-) -> Result<Pace, Failure> {
-    let mut runs = Runs::NONE;
-    for _ in 0..MOST {
-        if runs.add(time(rt, alloc, Call::Kill, number)?) {
-            break;
+impl Timing {
+    pub(crate) fn new(alloc: Global, call: Call, number: u32) -> Timing {
+        Timing {
+            alloc,
+            call,
+            number,
         }
     }
-    Ok(runs.best)
+
+    // How many threads there are.
+    fn threads(self) -> u8 {
+        match self.call {
+            Call::Apart | Call::Together => (self.number % 32) as u8,
+            Call::PingPong | Call::Stream | Call::Idle => 2,
+            _ => 1,
+        }
+    }
+
+    // What a process does, of which so many stand before it.
+    fn deed<M: Taking>(self, player: &mut Player<M>, before: u32) -> Result<Deed, Failure> {
+        if let Call::AllocBeside | Call::GiveBeside | Call::ReadBeside = self.call {
+            player.crowd(self.number)?;
+        }
+        match self.call {
+            Call::AllocFree => Ok(Deed::AllocFree(self.number, 0)),
+            Call::Apart => Ok(Deed::AllocFree(SMALL, before)),
+            Call::Together | Call::AllocBeside => Ok(Deed::AllocFree(SMALL, 0)),
+            Call::GiveTake => player.give_take(self.number),
+            Call::GiveBeside => player.give_take(1),
+            Call::ReadBeside => Ok(Deed::Read(player.alloc(player.process, SMALL, 0)?)),
+            _ => Ok(Deed::Glance),
+        }
+    }
+
+    // A process for each machine, which does calls.
+    fn doings<M: Taking>(self, machines: Vec<M>) -> Result<Vec<Doing<M>>, Failure> {
+        let mut doings = Vec::new(self.alloc);
+        let mut before = 0u32;
+        for machine in machines {
+            let mut player = Player::new(self.alloc, machine, 0)?;
+            let deed = self.deed(&mut player, before)?;
+            add(&mut doings, Doing { player, deed })?;
+            before = before.saturating_add(1);
+        }
+        Ok(doings)
+    }
+
+    // Times kills by a process of the machine.
+    fn kill<M: Taking, R: Host>(self, rt: &R, mut machines: Vec<M>) -> Result<Pace, Failure> {
+        let Some(machine) = machines.pop() else {
+            return Err(Failure::Astray);
+        };
+        let mut peer = Player::new(self.alloc, machine, 0)?;
+        let pace = peer.kill_all(rt, self.number);
+        drop(peer);
+        pace
+    }
+
+    // Times the call by these machines.
+    fn by<M: Taking + Send, R: Host>(self, rt: &R, machines: Vec<M>) -> Result<Pace, Failure> {
+        let (talk, bytes, way) = match self.call {
+            Call::PingPong => (Talk::PingPong, self.number, Way::Best(1)),
+            Call::Stream => (Talk::Stream, self.number, Way::Best(1)),
+            Call::Idle => (Talk::Idle, SMALL, Way::Spent(self.number)),
+            Call::Kill => return self.kill(rt, machines),
+            _ => {
+                let way = Way::Best(u32::from(self.threads()));
+                return pace_of(rt, self.doings(machines), way);
+            }
+        };
+        pace_of(rt, talkers(self.alloc, machines, bytes, talk), way)
+    }
+
+    // Times the call on a kernel, by a worker for each account.
+    fn on<N: Names + Send + Sync, R: Host>(
+        self,
+        rt: &R,
+        kernel: &Kernel<N>,
+        accounts: Vec<Account<N>>,
+        looks: Vec<Look>,
+    ) -> Result<Pace, Failure>
+        requires count { vec_len looks ≡ vec_len accounts }
+        requires own { All (λ l. l.glances ≡ N.parts.glances) looks.items }
+    {
+        let workers = hire(rt, self.alloc, kernel, &OpenGate, accounts, looks)?;
+        self.by(rt, workers)
+    }
+
+    // Times the call on the kernel of these parts.
+    fn over<N: Names + Send + Sync, R: Host>(self, rt: &R, parts: Parts) -> Result<Pace, Failure>
+        requires names { parts ≡ N.parts }
+    {
+        let (kernel, accounts, looks) = match Kernel::<N>::new(self.alloc, parts) {
+            Ok(made) => made,
+            Err(_refused) => return Err(Failure::Memory),
+        };
+        let pace = self.on(rt, &kernel, accounts, looks);
+        drop(kernel);
+        pace
+    }
+
+    /// Times the call on a new kernel.
+    pub(crate) fn time<R: Host>(self, rt: &R) -> Result<Pace, Failure> {
+        let parts = unless_refused(Parts::new(self.alloc, CONFIG, self.threads()))?;
+        self.over::<Brand, R>(rt, parts)
+    }
+
+    /// Times kernel after kernel whose processes are killed, with so many blocks each.
+    pub(crate) fn time_kills<R: Host>(self, rt: &R) -> Result<Pace, Failure> {
+        let mut runs = Runs::NONE;
+        for _ in 0..MOST {
+            if runs.add(self.time(rt)?) {
+                break;
+            }
+        }
+        Ok(runs.best)
+    }
 }

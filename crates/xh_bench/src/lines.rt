@@ -1,15 +1,13 @@
 //! What a user would pass buffers by who has no heap: yardsticks of two threads.
 use crate::failure::Failure;
-use crate::talks::{End, Talk, talkers};
-use crate::timer::{Pace, best};
+use crate::talks::{End, Talk, Talker};
+use crate::timer::{Host, Pace, Way, pace_of};
 use crossbeam_channel::{Receiver, Sender, bounded};
 use crossbeam_queue::ArrayQueue;
 use std::alloc::Global;
 use std::collections::VecDeque;
 use std::hint;
 use std::sync::{Condvar, Mutex, Wait};
-use std::thread::Threads;
-use std::time::Clock;
 
 /// How many buffers wait at most.
 const DEPTH: usize = 16;
@@ -122,56 +120,37 @@ struct Wire<'a, L> {
 }
 
 impl<'a, L: Line> End<Buffer> for Wire<'a, L> {
-    fn make(&mut self) -> Result<Buffer, Failure> {
-        Ok(Box::new(self.alloc, [0u8; 64])?)
-    }
-
-    fn send<R: Wait>(&mut self, rt: &R, buffer: Buffer) -> Result<(), Failure> {
-        self.out.send(rt, buffer)
+    fn send<R: Wait>(&mut self, rt: &R, buffer: Option<Buffer>) -> Result<(), Failure> {
+        match buffer {
+            Some(buffer) => self.out.send(rt, buffer),
+            None => self.out.send(rt, Box::new(self.alloc, [0u8; 64])?),
+        }
     }
 
     fn receive<R: Wait>(&mut self, rt: &R) -> Result<Buffer, Failure> {
         self.back.receive(rt)
     }
-
-    fn unmake(&mut self, _buffer: Buffer) -> Result<(), Failure> {
-        Ok(())
-    }
-
-    fn leave<R: Wait>(&mut self, _rt: &R) {}
 }
 
-// Times two threads on two lines.
-fn time_on<L: Line + Sync, R: Threads + Wait + Clock + Sync>(
-    rt: &R,
+// Two threads on two lines.
+fn talkers<'a, L: Line>(
     alloc: Global,
-    there: &L,
-    back: &L,
+    out: &'a L,
+    back: &'a L,
     talk: Talk,
-) -> Result<Pace, Failure> {
-    let mut wires = Vec::with_capacity(alloc, 2)?;
-    wires.push_reserved(Wire {
-        alloc,
-        out: there,
-        back,
-    });
-    wires.push_reserved(Wire {
-        alloc,
-        out: back,
-        back: there,
-    });
-    best(rt, talkers(alloc, wires, talk), 1)
+) -> Result<Vec<Talker<Wire<'a, L>, Buffer>>, Failure> {
+    let mut talkers = Vec::with_capacity(alloc, 2)?;
+    talkers.push_reserved(Talker::new(Wire { alloc, out, back }, talk, true));
+    let (out, back) = (back, out);
+    talkers.push_reserved(Talker::new(Wire { alloc, out, back }, talk, false));
+    Ok(talkers)
 }
 
 // Times two threads on two new lines.
-fn time_new<L: Line + Sync, R: Threads + Wait + Clock + Sync>(
-    rt: &R,
-    alloc: Global,
-    talk: Talk,
-) -> Result<Pace, Failure> {
+fn time_new<L: Line + Sync, R: Host>(rt: &R, alloc: Global, talk: Talk) -> Result<Pace, Failure> {
     let there = L::open(alloc)?;
     let back = L::open(alloc)?;
-    let pace = time_on(rt, alloc, &there, &back, talk);
+    let pace = pace_of(rt, talkers(alloc, &there, &back, talk), Way::Best(1));
     drop(there);
     drop(back);
     pace
@@ -186,12 +165,7 @@ pub(crate) enum By {
 }
 
 /// Times two threads that talk by lines of the kind.
-pub(crate) fn time<R: Threads + Wait + Clock + Sync>(
-    rt: &R,
-    alloc: Global,
-    by: By,
-    talk: Talk,
-) -> Result<Pace, Failure> {
+pub(crate) fn time<R: Host>(rt: &R, alloc: Global, by: By, talk: Talk) -> Result<Pace, Failure> {
     match by {
         By::Crossbeam => time_new::<Crossbeam, R>(rt, alloc, talk),
         By::Locked => time_new::<Locked, R>(rt, alloc, talk),

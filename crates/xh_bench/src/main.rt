@@ -5,12 +5,10 @@
 #![tactic(auto)]
 
 mod arenas;
-mod blank;
 mod calls;
 mod channels;
 mod failure;
 mod kernels;
-mod kills;
 mod lines;
 mod measures;
 mod player;
@@ -21,13 +19,11 @@ mod timer;
 mod yardsticks;
 
 use crate::failure::Failure;
-use crate::measures::{MEASURES, Row};
+use crate::measures::MEASURES;
+use crate::timer::Host;
 use std::alloc::Global;
 use std::env;
 use std::process::ExitCode;
-use std::sync::Wait;
-use std::thread::Threads;
-use std::time::{Clock, CpuClock};
 
 const USAGE: &str =
     "usage: xh_bench all, or the names of measures, of which docs/PERFORMANCE.md tells";
@@ -40,27 +36,13 @@ fn print_line<R: Print>(rt: &R, name: &str, tenths: u64) -> Result<(), Failure> 
     }
 }
 
-// Tells a measure.
-fn tell_one<R: Threads + Wait + Clock + CpuClock + Print + Sync>(
-    rt: &R,
-    alloc: Global,
-    row: &Row,
-) -> Result<(), Failure> {
-    let (name, measure, number) = row;
-    let pace = measure.time(rt, alloc, *number)?;
-    print_line(rt, name, pace.tenths())
-}
-
 // Tells the measures that the word names: one, or all.
-fn tell<R: Threads + Wait + Clock + CpuClock + Print + Sync>(
-    rt: &R,
-    alloc: Global,
-    word: &str,
-) -> Result<(), Failure> {
+fn tell<R: Host + Print>(rt: &R, alloc: Global, word: &str) -> Result<(), Failure> {
     let mut told = Err(Failure::NoMeasure);
-    for row in MEASURES {
-        if word == "all" || word == row.0 {
-            tell_one(rt, alloc, row)?;
+    for (name, measure, number) in MEASURES {
+        if word == "all" || word == *name {
+            let pace = measure.time(rt, alloc, *number)?;
+            print_line(rt, name, pace.tenths())?;
             told = Ok(());
         }
     }

@@ -2,17 +2,14 @@
 use crate::arenas::VaultCarving;
 use crate::channels::{self, Traffic};
 use crate::failure::Failure;
-use crate::kernels::{self, Call};
+use crate::kernels::{Call, Timing};
 use crate::lines::{self, By};
 use crate::records::{Claiming, Passing};
 use crate::scripts::{Kind, Script};
 use crate::talks::Talk;
-use crate::timer::{Pace, alone};
-use crate::yardsticks::{Boxing, Exchanging, Locking, Queueing, Zeroing};
+use crate::timer::{Host, Pace, alone};
+use crate::yardsticks::{Part, Yardstick};
 use std::alloc::Global;
-use std::sync::{Mutex, Wait};
-use std::thread::Threads;
-use std::time::{Clock, CpuClock};
 
 /// What is measured, each for a number.
 #[derive(Clone, Copy)]
@@ -29,15 +26,12 @@ pub(crate) enum Measure {
     /// Processes with so many blocks are killed.
     Kill,
     /// A script of so many commands.
-    Script(Kind),
-    /// A part of a call by itself; so many zeros.
-    Lock,
-    Exchange,
-    Queue,
-    Zeroed,
-    Boxed,
-    /// Two threads talk by a line.
-    Line(By, Talk),
+    Run(Kind),
+    /// A part of a call by itself.
+    Part(Part),
+    /// Two threads talk by lines.
+    PingPong(By),
+    Stream(By),
 }
 
 /// A measure: its name, what is measured, and the number.
@@ -87,87 +81,45 @@ pub(crate) const MEASURES: &[Row] = &[
     ("kill_1", Measure::Kill, 1),
     ("kill_16", Measure::Kill, 16),
     ("kill_256", Measure::Kill, 256),
-    ("script_alloc_free_1024", Measure::Script(Kind::Alloc), 1024),
-    ("script_alloc_free_2048", Measure::Script(Kind::Alloc), 2048),
-    ("script_alloc_free_4096", Measure::Script(Kind::Alloc), 4096),
-    ("script_write_read_1024", Measure::Script(Kind::Write), 1024),
-    ("script_write_read_2048", Measure::Script(Kind::Write), 2048),
-    ("script_write_read_4096", Measure::Script(Kind::Write), 4096),
-    ("script_give_take_1024", Measure::Script(Kind::Give), 1024),
-    ("script_give_take_2048", Measure::Script(Kind::Give), 2048),
-    ("script_give_take_4096", Measure::Script(Kind::Give), 4096),
-    (
-        "script_eight_blocks_1024",
-        Measure::Script(Kind::Eight),
-        1024,
-    ),
-    (
-        "script_eight_blocks_2048",
-        Measure::Script(Kind::Eight),
-        2048,
-    ),
-    (
-        "script_eight_blocks_4096",
-        Measure::Script(Kind::Eight),
-        4096,
-    ),
-    ("lock", Measure::Lock, 0),
-    ("compare_exchange", Measure::Exchange, 0),
-    ("queue_push_pop", Measure::Queue, 0),
-    ("zeroed_16", Measure::Zeroed, 16),
-    ("zeroed_4k", Measure::Zeroed, 4096),
-    ("zeroed_64k", Measure::Zeroed, 65_536),
-    ("boxed_64", Measure::Boxed, 0),
-    (
-        "crossbeam_ping_pong",
-        Measure::Line(By::Crossbeam, Talk::PingPong),
-        0,
-    ),
-    (
-        "crossbeam_stream",
-        Measure::Line(By::Crossbeam, Talk::Stream),
-        0,
-    ),
-    (
-        "condvar_ping_pong",
-        Measure::Line(By::Locked, Talk::PingPong),
-        0,
-    ),
-    (
-        "queue_ping_pong",
-        Measure::Line(By::Bare, Talk::PingPong),
-        0,
-    ),
+    ("script_alloc_free_1024", Measure::Run(Kind::Alloc), 1024),
+    ("script_alloc_free_2048", Measure::Run(Kind::Alloc), 2048),
+    ("script_alloc_free_4096", Measure::Run(Kind::Alloc), 4096),
+    ("script_write_read_1024", Measure::Run(Kind::Write), 1024),
+    ("script_write_read_2048", Measure::Run(Kind::Write), 2048),
+    ("script_write_read_4096", Measure::Run(Kind::Write), 4096),
+    ("script_give_take_1024", Measure::Run(Kind::Give), 1024),
+    ("script_give_take_2048", Measure::Run(Kind::Give), 2048),
+    ("script_give_take_4096", Measure::Run(Kind::Give), 4096),
+    ("script_eight_blocks_1024", Measure::Run(Kind::Eight), 1024),
+    ("script_eight_blocks_2048", Measure::Run(Kind::Eight), 2048),
+    ("script_eight_blocks_4096", Measure::Run(Kind::Eight), 4096),
+    ("lock", Measure::Part(Part::Lock), 0),
+    ("compare_exchange", Measure::Part(Part::Exchange), 0),
+    ("queue_push_pop", Measure::Part(Part::Queue), 0),
+    ("zeroed_16", Measure::Part(Part::Zeroed), 16),
+    ("zeroed_4k", Measure::Part(Part::Zeroed), 4096),
+    ("zeroed_64k", Measure::Part(Part::Zeroed), 65_536),
+    ("boxed_64", Measure::Part(Part::Boxed), 0),
+    ("crossbeam_ping_pong", Measure::PingPong(By::Crossbeam), 0),
+    ("crossbeam_stream", Measure::Stream(By::Crossbeam), 0),
+    ("condvar_ping_pong", Measure::PingPong(By::Locked), 0),
+    ("queue_ping_pong", Measure::PingPong(By::Bare), 0),
 ];
 
 impl Measure {
     /// The time of one operation.
-    pub(crate) fn time<R: Threads + Wait + Clock + CpuClock + Sync>(
-        self,
-        rt: &R,
-        alloc: Global,
-        number: u32,
-    ) -> Result<Pace, Failure> {
+    pub(crate) fn time<R: Host>(self, rt: &R, alloc: Global, number: u32) -> Result<Pace, Failure> {
         match self {
             Measure::Vault => alone(rt, alloc, VaultCarving::new(alloc), 1),
             Measure::Claim => alone(rt, alloc, Claiming::new(alloc, number), 1),
             Measure::Pass => alone(rt, alloc, Passing::new(alloc, number), 1),
             Measure::Put(traffic) => channels::time(rt, alloc, traffic, number),
-            Measure::Call(call) => kernels::time(rt, alloc, call, number),
-            Measure::Kill => kernels::time_kills(rt, alloc, number),
-            Measure::Script(kind) => alone(rt, alloc, Script::new(alloc, kind, number), number),
-            Measure::Lock => {
-                let count = Mutex::new(0);
-                alone(rt, alloc, Ok(Locking { count }), 1)
-            }
-            Measure::Exchange => alone(rt, alloc, Ok(Exchanging::new()), 1),
-            Measure::Queue => alone(rt, alloc, Queueing::new(alloc), 1),
-            Measure::Zeroed => {
-                let bytes = number;
-                alone(rt, alloc, Ok(Zeroing { alloc, bytes }), 1)
-            }
-            Measure::Boxed => alone(rt, alloc, Ok(Boxing { alloc }), 1),
-            Measure::Line(by, talk) => lines::time(rt, alloc, by, talk),
+            Measure::Call(call) => Timing::new(alloc, call, number).time(rt),
+            Measure::Kill => Timing::new(alloc, Call::Kill, number).time_kills(rt),
+            Measure::Run(kind) => alone(rt, alloc, Script::new(alloc, kind, number), number),
+            Measure::Part(part) => alone(rt, alloc, Yardstick::new(alloc, part, number), 1),
+            Measure::PingPong(by) => lines::time(rt, alloc, by, Talk::PingPong),
+            Measure::Stream(by) => lines::time(rt, alloc, by, Talk::Stream),
         }
     }
 }

@@ -1,6 +1,6 @@
 //! A process, as the thread sees it that does its calls.
-use crate::failure::{Failure, add, unless_refused};
-use crate::talks::End;
+use crate::failure::{Failure, unless_refused};
+use crate::talks::{End, Talk, Talker};
 use std::alloc::Global;
 use std::sync::Wait;
 use std::thread;
@@ -38,8 +38,8 @@ pub(crate) struct Player<M> {
     pub(crate) alloc: Global,
     pub(crate) machine: M,
     pub(crate) process: u16,
-    pub(crate) endpoint: u16,
-    pub(crate) bytes: u32,
+    endpoint: u16,
+    bytes: u32,
 }
 
 impl<M: Taking> Player<M> {
@@ -71,31 +71,23 @@ impl<M: Taking> Player<M> {
         let (low, high) = unless_refused(self.machine.wire(self.process, other, 1, None))?;
         Ok((low.rec, high.rec))
     }
-
-    // Whether there was room for the block.
-    fn gives(&mut self, block: u16) -> Result<bool, Failure> {
-        let given = self
-            .machine
-            .give(self.process, self.endpoint, TAG, &[block]);
-        match given {
-            Ok(_number) => Ok(true),
-            Err(Refused::Full { back: _ }) => Ok(false),
-            Err(_refused) => Err(Failure::Refused),
-        }
-    }
 }
 
 impl<M: Taking> End<u16> for Player<M> {
-    fn make(&mut self) -> Result<u16, Failure> {
-        self.alloc(self.process, self.bytes, 0)
-    }
-
-    fn send<R: Wait>(&mut self, rt: &R, block: u16) -> Result<(), Failure> {
+    fn send<R: Wait>(&mut self, rt: &R, block: Option<u16>) -> Result<(), Failure> {
+        let block = match block {
+            Some(block) => block,
+            None => self.alloc(self.process, self.bytes, 0)?,
+        };
         for _ in rt.forever() {
-            if self.gives(block)? {
-                return Ok(());
+            match self
+                .machine
+                .give(self.process, self.endpoint, TAG, &[block])
+            {
+                Ok(_number) => return Ok(()),
+                Err(Refused::Full { back: _ }) => thread::yield_now(),
+                Err(_refused) => return Err(Failure::Refused),
             }
-            thread::yield_now();
         }
         unreachable!()
     }
@@ -117,38 +109,26 @@ impl<M: Taking> End<u16> for Player<M> {
     }
 }
 
-// A process for each machine.
-fn players<M: Taking>(
+/// A process for each of two machines, with a channel between them, which talk with blocks of so many bytes.
+pub(crate) fn talkers<M: Taking>(
     alloc: Global,
-    machines: Vec<M>,
+    mut machines: Vec<M>,
     bytes: u32,
-) -> Result<Vec<Player<M>>, Failure> {
-    let mut players = Vec::with_capacity(alloc, machines.len())?;
-    for machine in machines {
-        let player = Player::new(alloc, machine, bytes)?;
-        add(&mut players, player)?;
-    }
-    Ok(players)
-}
-
-// Makes a channel between two processes.
-fn wire_both<M: Taking>(players: &mut [Player<M>]) -> Result<(), Failure> {
-    let [low, high] = players else {
+    talk: Talk,
+) -> Result<Vec<Talker<Player<M>, u16>>, Failure> {
+    let Some(second) = machines.pop() else {
         return Err(Failure::Astray);
     };
+    let Some(first) = machines.pop() else {
+        return Err(Failure::Astray);
+    };
+    let mut low = Player::new(alloc, first, bytes)?;
+    let mut high = Player::new(alloc, second, bytes)?;
     let (own, others) = low.wire(high.process)?;
     low.endpoint = own;
     high.endpoint = others;
-    Ok(())
-}
-
-/// Two processes with a channel between them, which talk with blocks of so many bytes.
-pub(crate) fn wired<M: Taking>(
-    alloc: Global,
-    machines: Vec<M>,
-    bytes: u32,
-) -> Result<Vec<Player<M>>, Failure> {
-    let mut players = players(alloc, machines, bytes)?;
-    wire_both(&mut players)?;
-    Ok(players)
+    let mut talkers = Vec::with_capacity(alloc, 2)?;
+    talkers.push_reserved(Talker::new(low, talk, true));
+    talkers.push_reserved(Talker::new(high, talk, false));
+    Ok(talkers)
 }

@@ -2,12 +2,12 @@
 ghost use Rattle.std.specs.Prelude.{◌≡◌, ◌∷◌, [], IfSome, IsSomeAnd, Some, true};
 ghost use Rattle.std.proofs.Props.{props};
 ghost use Rattle.xh_arena.specs.Views.{LotOf};
-ghost use Rattle.xh_bench.specs.declared.blank.Blank.{Blank};
+ghost use Rattle.xh_bench.specs.declared.arenas.Blank.{Blank};
 ghost use Rattle.xh_model.specs.Keyed.{put, value_at};
 ghost use Rattle.xh_records.specs.Seats.{IsRecord, IsSeatOf, with_lots};
 ghost use Rattle.xh_records.specs.Showing.{IsFull, IsLotOf};
 
-use crate::blank::Blank;
+use crate::arenas::{Blank, SIZE};
 use crate::failure::Failure;
 use crate::timer::Work;
 use std::alloc::Global;
@@ -17,8 +17,6 @@ use std::time::Clock;
 use xh_arena::{Lot, Tally, Vault};
 use xh_model::limits::{MAX_RECORDS, MAX_WEAR};
 use xh_records::{Records, Seat};
-
-const SIZE: u32 = 65_536;
 
 /// The direction that a record is passed on.
 const DIRECTION: u8 = 5;

@@ -20,44 +20,40 @@ pub(crate) enum Kind {
 }
 
 impl Kind {
-    // The lines that stand once, at the beginning.
-    fn head(self) -> &'static str {
+    // The lines that stand once, at the beginning, and the four that follow over and over.
+    fn lines(self) -> (&'static str, &'static str) {
         match self {
-            Kind::Alloc => "process a\n",
-            Kind::Write => "process a\na alloc x 64 0\n",
-            Kind::Give => "process a\nprocess b\nwire a e b f 0\na alloc x 64 0\n",
-            Kind::Eight => {
+            Kind::Alloc => (
+                "process a\n",
+                "a alloc x 64 0\na free x\na alloc y 64 0\na free y\n",
+            ),
+            Kind::Write => (
+                "process a\na alloc x 64 0\n",
+                "a write x 0 00112233445566778899aabbccddeeff\na read x 0 16\n\
+                 a write x 16 00112233445566778899aabbccddeeff\na read x 16 16\n",
+            ),
+            Kind::Give => (
+                "process a\nprocess b\nwire a e b f 0\na alloc x 64 0\n",
+                "a give e 1 x\nb take f x\nb give f 1 x\na take e x\n",
+            ),
+            Kind::Eight => (
                 "process a\nprocess b\nwire a e b f 0\na alloc p 64 0\na alloc q 64 0\n\
                  a alloc r 64 0\na alloc s 64 0\na alloc t 64 0\na alloc u 64 0\na alloc v 64 0\n\
-                 a alloc w 64 0\n"
-            }
-        }
-    }
-
-    // The four lines that follow over and over.
-    fn body(self) -> &'static str {
-        match self {
-            Kind::Alloc => "a alloc x 64 0\na free x\na alloc y 64 0\na free y\n",
-            Kind::Write => {
-                "a write x 0 00112233445566778899aabbccddeeff\na read x 0 16\n\
-                 a write x 16 00112233445566778899aabbccddeeff\na read x 16 16\n"
-            }
-            Kind::Give => "a give e 1 x\nb take f x\nb give f 1 x\na take e x\n",
-            Kind::Eight => {
+                 a alloc w 64 0\n",
                 "a give e 1 p q r s t u v w\nb take f p q r s t u v w\n\
-                 b give f 1 p q r s t u v w\na take e p q r s t u v w\n"
-            }
+                 b give f 1 p q r s t u v w\na take e p q r s t u v w\n",
+            ),
         }
     }
 
     // A script of so many commands, or up to three less.
     fn text(self, alloc: Global, commands: u32) -> Result<String, Failure> {
-        let head = self.head();
+        let (head, body) = self.lines();
         let lines = (commands as usize).saturating_sub(head.lines().count());
         let mut text = String::new(alloc);
         text.push_str(head)?;
         for _ in 0..lines / 4 {
-            text.push_str(self.body())?;
+            text.push_str(body)?;
         }
         Ok(text)
     }

@@ -1,10 +1,14 @@
 //! The timer: how long one operation takes, as the best of five runs of at least 100 ms each.
 use crate::failure::Failure;
 use std::alloc::Global;
-use std::io;
 use std::sync::{Mutex, Wait};
 use std::thread::{self, Threads};
-use std::time::{Clock, CpuClock, Duration};
+use std::time::{Clock, CpuClock};
+
+/// What measures run on: threads, waits and clocks.
+pub(crate) trait Host: Threads + Wait + Clock + CpuClock + Sync {}
+
+impl<R: Threads + Wait + Clock + CpuClock + Sync> Host for R {}
 
 /// An operation that is done over and over.
 pub(crate) trait Work: Drop {
@@ -15,37 +19,31 @@ pub(crate) trait Work: Drop {
 /// How many runs there are, of which the best counts.
 const RUNS: u8 = 5;
 
-/// The least time of a run.
-const RUN_MILLIS: u64 = 100;
+/// The least nanoseconds of a run.
+const RUN: u64 = 100_000_000;
 
-/// The least time of the rounds that are timed at once.
-const BATCH_MILLIS: u64 = 40;
+/// The least nanoseconds of the rounds that are timed at once.
+const BATCH: u64 = 40_000_000;
 
 /// How often something is timed at most, for a clock that stands still.
 pub(crate) const MOST: u16 = 10_000;
 
-/// How long operations took, and how many they were.
+/// How many nanoseconds operations took, and how many they were.
 #[derive(Clone, Copy)]
 pub(crate) struct Pace {
-    taken: Duration,
-    operations: u64,
+    pub(crate) nanos: u64,
+    pub(crate) operations: u64,
 }
 
 impl Pace {
     const NONE: Pace = Pace {
-        taken: Duration::ZERO,
+        nanos: 0,
         operations: 0,
     };
 
-    pub(crate) fn of(taken: Duration, operations: u64) -> Pace {
-        Pace { taken, operations }
-    }
-
     /// The time of one operation, in tenths of a nanosecond.
     pub(crate) fn tenths(self) -> u64 {
-        let seconds = self.taken.as_secs().saturating_mul(10_000_000_000);
-        let nanos = u64::from(self.taken.subsec_nanos()).saturating_mul(10);
-        let tenths = seconds.saturating_add(nanos);
+        let tenths = self.nanos.saturating_mul(10);
         tenths.checked_div(self.operations).unwrap_or(u64::MAX)
     }
 }
@@ -68,11 +66,9 @@ impl Runs {
 
     /// Adds what was timed; whether all runs are done.
     pub(crate) fn add(&mut self, pace: Pace) -> bool {
-        self.run = Pace {
-            taken: self.run.taken.saturating_add(pace.taken),
-            operations: self.run.operations.saturating_add(pace.operations),
-        };
-        if self.run.taken >= Duration::from_millis(RUN_MILLIS) {
+        self.run.nanos = self.run.nanos.saturating_add(pace.nanos);
+        self.run.operations = self.run.operations.saturating_add(pace.operations);
+        if self.run.nanos >= RUN {
             if self.run.tenths() < self.best.tenths() {
                 self.best = self.run;
             }
@@ -80,6 +76,29 @@ impl Runs {
             self.done = self.done.saturating_add(1);
         }
         self.done >= RUNS
+    }
+}
+
+/// How works are timed.
+#[derive(Clone, Copy)]
+pub(crate) enum Way {
+    /// By the clock, as the best of five runs; a round of all has so many operations.
+    Best(u32),
+    /// By the processor time of so many rounds.
+    Spent(u32),
+}
+
+impl Way {
+    /// What the clock says, in nanoseconds.
+    pub(crate) fn now<R: Host>(self, rt: &R) -> Result<u64, Failure> {
+        let time = match self {
+            Way::Best(_) => rt.monotonic(),
+            Way::Spent(_) => rt.process_cpu_time(),
+        };
+        match time {
+            Ok(time) => Ok(u64::try_from(time.as_nanos()).unwrap_or(u64::MAX)),
+            Err(_error) => Err(Failure::Io),
+        }
     }
 }
 
@@ -92,122 +111,86 @@ fn repeat<R: Wait + Clock, W: Work>(rt: &R, work: &mut W, rounds: u64) -> Result
 }
 
 // Does each work so often, all at once: one in this thread, each other in one of its own.
-fn repeat_all<R: Threads + Wait + Clock + Sync, W: Work + Send>(
+fn repeat_all<R: Host, W: Work + Send>(
     rt: &R,
     works: &mut [W],
     rounds: u64,
 ) -> Result<(), Failure> {
     let threads = works.len().max(1);
-    let failed = Mutex::new(None);
+    let failed = Mutex::new(Ok(()));
     thread::for_each_mut(
         rt,
         works,
         threads,
         &|_, work: &mut W| {
-            if let Err(failure) = repeat(rt, work, rounds) {
-                *failed.lock(rt) = Some(failure);
+            let done = repeat(rt, work, rounds);
+            if done.is_err() {
+                *failed.lock(rt) = done;
             }
         },
     );
-    match failed.into_inner() {
-        Some(failure) => Err(failure),
-        None => Ok(()),
-    }
+    failed.into_inner()
 }
 
-// What a clock says.
-fn read(clock: io::Result<Duration>) -> Result<Duration, Failure> {
-    match clock {
-        Ok(time) => Ok(time),
-        Err(_error) => Err(Failure::Io),
-    }
-}
-
-/// What the clock says.
-pub(crate) fn now<R: Clock>(rt: &R) -> Result<Duration, Failure> {
-    read(rt.monotonic())
-}
-
-// How long it takes to do each work so often, all at once.
-fn time<R: Threads + Wait + Clock + Sync, W: Work + Send>(
+// How long it takes to do each work so often, all at once; a round of all has so many operations.
+fn time<R: Host, W: Work + Send>(
     rt: &R,
     works: &mut [W],
+    way: Way,
     rounds: u64,
-) -> Result<Duration, Failure> {
-    let start = now(rt)?;
+    each: u32,
+) -> Result<Pace, Failure> {
+    let start = way.now(rt)?;
     repeat_all(rt, works, rounds)?;
-    let end = now(rt)?;
-    Ok(end.saturating_sub(start))
+    Ok(Pace {
+        nanos: way.now(rt)?.saturating_sub(start),
+        operations: rounds.saturating_mul(u64::from(each)),
+    })
 }
 
 // The best pace of five runs.
-fn best_of<R: Threads + Wait + Clock + Sync, W: Work + Send>(
+fn best_of<R: Host, W: Work + Send>(
     rt: &R,
     works: &mut [W],
-    operations: u64,
+    way: Way,
+    each: u32,
 ) -> Result<Pace, Failure> {
     let mut runs = Runs::NONE;
     let mut batch = 1u64;
     for _ in 0..MOST {
-        let taken = time(rt, works, batch)?;
-        if taken < Duration::from_millis(BATCH_MILLIS) {
+        let pace = time(rt, works, way, batch, each)?;
+        if pace.nanos < BATCH {
             batch = batch.saturating_mul(2);
-        } else if runs.add(Pace::of(taken, batch.saturating_mul(operations))) {
+        } else if runs.add(pace) {
             break;
         }
     }
     Ok(runs.best)
 }
 
-/// The best pace of works that are done at once, each by a thread. A round of all has so many operations.
-pub(crate) fn best<R: Threads + Wait + Clock + Sync, W: Work + Send>(
+/// The pace of works that are done at once, each by a thread.
+pub(crate) fn pace_of<R: Host, W: Work + Send>(
     rt: &R,
     works: Result<Vec<W>, Failure>,
-    operations: u32,
+    way: Way,
 ) -> Result<Pace, Failure> {
     let mut works = works?;
-    let pace = best_of(rt, &mut works, u64::from(operations));
+    let pace = match way {
+        Way::Best(each) => best_of(rt, &mut works, way, each),
+        Way::Spent(rounds) => time(rt, &mut works, way, u64::from(rounds), 1),
+    };
     drop(works);
     pace
 }
 
-// A list of one work.
-fn one<W: Work>(alloc: Global, work: Result<W, Failure>) -> Result<Vec<W>, Failure> {
-    let mut works = Vec::with_capacity(alloc, 1)?;
-    works.push_reserved(work?);
-    Ok(works)
-}
-
-/// The best pace of a work that is done alone.
-pub(crate) fn alone<R: Threads + Wait + Clock + Sync, W: Work + Send>(
+/// The pace of a work that is done alone, and has so many operations.
+pub(crate) fn alone<R: Host, W: Work + Send>(
     rt: &R,
     alloc: Global,
     work: Result<W, Failure>,
     operations: u32,
 ) -> Result<Pace, Failure> {
-    best(rt, one(alloc, work), operations)
-}
-
-// The processor time that works take in so many rounds.
-fn spent_by<R: Threads + Wait + Clock + CpuClock + Sync, W: Work + Send>(
-    rt: &R,
-    works: &mut [W],
-    rounds: u64,
-) -> Result<Pace, Failure> {
-    let start = read(rt.process_cpu_time())?;
-    repeat_all(rt, works, rounds)?;
-    let end = read(rt.process_cpu_time())?;
-    Ok(Pace::of(end.saturating_sub(start), rounds))
-}
-
-/// The processor time that works take which are done at once, each by a thread, in so many rounds.
-pub(crate) fn spent<R: Threads + Wait + Clock + CpuClock + Sync, W: Work + Send>(
-    rt: &R,
-    works: Result<Vec<W>, Failure>,
-    rounds: u32,
-) -> Result<Pace, Failure> {
-    let mut works = works?;
-    let pace = spent_by(rt, &mut works, u64::from(rounds));
-    drop(works);
-    pace
+    let mut works = Vec::with_capacity(alloc, 1)?;
+    works.push_reserved(work?);
+    pace_of(rt, Ok(works), Way::Best(operations))
 }

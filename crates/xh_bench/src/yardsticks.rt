@@ -10,38 +10,48 @@ use std::time::Clock;
 use xh_channel::Message;
 use xh_model::limits::MAX_DEPTH;
 
-/// A lock is taken that nobody else wants, and let go.
-#[derive(Drop)]
-pub(crate) struct Locking {
-    pub(crate) count: Mutex<u64>,
+/// A part of a call.
+#[derive(Clone, Copy)]
+pub(crate) enum Part {
+    /// A lock is taken that nobody else wants, and let go.
+    Lock,
+    /// A compare-exchange on a word finds what it expects.
+    Exchange,
+    /// A message is pushed to a queue and popped.
+    Queue,
+    /// So many zeros are allocated and dropped.
+    Zeroed,
+    /// A box of 64 zeros is made and dropped.
+    Boxed,
 }
 
-impl Work for Locking {
-    fn round<R: Wait + Clock>(&mut self, rt: &R) -> Result<(), Failure> {
-        let mut count = self.count.lock(rt);
-        *count = count.wrapping_add(1);
-        Ok(())
-    }
-}
-
-/// A compare-exchange on a word, which finds what it expects.
+/// What the parts need.
 #[derive(Drop)]
-pub(crate) struct Exchanging {
+pub(crate) struct Yardstick {
+    alloc: Global,
+    part: Part,
+    bytes: u32,
+    count: Mutex<u64>,
     word: AtomicU64,
     held: u64,
+    queue: ArrayQueue<Message, Global>,
 }
 
-impl Exchanging {
-    pub(crate) fn new() -> Exchanging {
-        Exchanging {
+impl Yardstick {
+    /// The part by itself, of so many zeros.
+    pub(crate) fn new(alloc: Global, part: Part, bytes: u32) -> Result<Yardstick, Failure> {
+        Ok(Yardstick {
+            alloc,
+            part,
+            bytes,
+            count: Mutex::new(0),
             word: AtomicU64::new(0),
             held: 0,
-        }
+            queue: ArrayQueue::new(alloc, usize::from(MAX_DEPTH))?,
+        })
     }
-}
 
-impl Work for Exchanging {
-    fn round<R: Wait + Clock>(&mut self, _rt: &R) -> Result<(), Failure> {
+    fn exchange(&mut self) -> Result<(), Failure> {
         let next = self.held.wrapping_add(1);
         let order = Ordering::SeqCst;
         match self.word.compare_exchange(self.held, next, order, order) {
@@ -52,35 +62,13 @@ impl Work for Exchanging {
             Err(_other) => Err(Failure::Astray),
         }
     }
-}
 
-// A message as a channel carries it, with one block.
-fn message() -> Message {
-    let mut blocks = ArrayVec::new();
-    blocks.push(7);
-    Message {
-        no: 1,
-        tag: 1,
-        blocks,
-    }
-}
-
-/// A message is pushed to a queue and popped.
-#[derive(Drop)]
-pub(crate) struct Queueing {
-    queue: ArrayQueue<Message, Global>,
-}
-
-impl Queueing {
-    pub(crate) fn new(alloc: Global) -> Result<Queueing, Failure> {
-        let queue = ArrayQueue::new(alloc, usize::from(MAX_DEPTH))?;
-        Ok(Queueing { queue })
-    }
-}
-
-impl Work for Queueing {
-    fn round<R: Wait + Clock>(&mut self, rt: &R) -> Result<(), Failure> {
-        let is_pushed = self.queue.push(rt, message()).is_ok();
+    // The message has one block.
+    fn pass<R: Wait>(&mut self, rt: &R) -> Result<(), Failure> {
+        let mut blocks = ArrayVec::new();
+        blocks.push(7);
+        let (no, tag) = (1, 1);
+        let is_pushed = self.queue.push(rt, Message { no, tag, blocks }).is_ok();
         if is_pushed && self.queue.pop(rt).is_some() {
             Ok(())
         } else {
@@ -89,29 +77,22 @@ impl Work for Queueing {
     }
 }
 
-/// So many zeros are allocated and dropped.
-#[derive(Drop)]
-pub(crate) struct Zeroing {
-    pub(crate) alloc: Global,
-    pub(crate) bytes: u32,
-}
-
-impl Work for Zeroing {
-    fn round<R: Wait + Clock>(&mut self, _rt: &R) -> Result<(), Failure> {
-        let _zeros = vec![in self.alloc; 0u8; self.bytes as usize]?;
-        Ok(())
-    }
-}
-
-/// A box of 64 zeros is made and dropped.
-#[derive(Drop)]
-pub(crate) struct Boxing {
-    pub(crate) alloc: Global,
-}
-
-impl Work for Boxing {
-    fn round<R: Wait + Clock>(&mut self, _rt: &R) -> Result<(), Failure> {
-        let _box = Box::new(self.alloc, [0u8; 64])?;
+impl Work for Yardstick {
+    fn round<R: Wait + Clock>(&mut self, rt: &R) -> Result<(), Failure> {
+        match self.part {
+            Part::Lock => {
+                let mut count = self.count.lock(rt);
+                *count = count.wrapping_add(1);
+            }
+            Part::Exchange => return self.exchange(),
+            Part::Queue => return self.pass(rt),
+            Part::Zeroed => {
+                let _zeros = vec![in self.alloc; 0u8; self.bytes as usize]?;
+            }
+            Part::Boxed => {
+                let _box = Box::new(self.alloc, [0u8; 64])?;
+            }
+        }
         Ok(())
     }
 }

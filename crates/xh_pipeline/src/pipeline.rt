@@ -43,15 +43,15 @@ fn join_all<R: Threads>(rt: &R, handles: Vec<JoinHandle<u8>>) -> u8 {
     rounds
 }
 
-// The players do the calls of the staff, each in a thread of its own, while the supervisor leads them. Where a thread
-// can't be started the supervisor ends, and with it all that wait for its first message.
+// The staff is employed, and the players do its calls, each in a thread of its own, while the supervisor leads them.
+// Where a thread can't be started the supervisor ends, and with it all that wait for its first message.
 fn run_staff<'s, P: Process + Send + 's, R: Threads + Wait + Sync>(
     rt: &'s R,
     alloc: Global,
     supervisor: &mut P,
-    staff: [Staff; 4],
     players: Vec<P>,
 ) -> Result<u8, Refused> {
+    let staff = employ_all(supervisor)?;
     thread::scope(thread::scope_env(), rt, |scope| -> Result<u8, Refused> {
         match start_all(scope, rt, alloc, staff, players) {
             Ok(handles) => {
@@ -66,31 +66,6 @@ fn run_staff<'s, P: Process + Send + 's, R: Threads + Wait + Sync>(
             }
         }
     })
-}
-
-// The supervisor's process and the staff are made, and do their work.
-fn run_led<P: Process + Send, R: Threads + Wait + Sync>(
-    rt: &R,
-    alloc: Global,
-    supervisor: &mut P,
-    players: Vec<P>,
-) -> Result<u8, Refused> {
-    let process = supervisor.spawn()?;
-    let _none = supervisor.act_as(process);
-    let staff = employ_all(supervisor)?;
-    run_staff(rt, alloc, supervisor, staff, players)
-}
-
-// Does the calls of all processes, the supervisor's by the last of the players.
-fn run_players<P: Process + Send, R: Threads + Wait + Sync>(
-    rt: &R,
-    alloc: Global,
-    mut players: Vec<P>,
-) -> Result<u8, Refused> {
-    match players.pop() {
-        Some(mut supervisor) => run_led(rt, alloc, &mut supervisor, players),
-        None => Err(Refused::NoPlace),
-    }
 }
 
 // A player for each account, which is lent to it.
@@ -113,15 +88,19 @@ fn hire<'a, N: Names, R>(
     Ok(players)
 }
 
-// Does the calls of all processes, each by one of the accounts. It answers how many rounds came whole.
+// Does the calls of all processes, each by one of the accounts, the supervisor's by the last. It answers how many rounds
+// came whole.
 fn run_all<N: Names + Send + Sync, R: Threads + Wait + Sync>(
     rt: &R,
     alloc: Global,
     kernel: &Kernel<N>,
     accounts: &mut [Account<N>],
 ) -> Result<u8, Refused> {
-    let players = hire(rt, alloc, kernel, accounts)?;
-    run_players(rt, alloc, players)
+    let mut players = hire(rt, alloc, kernel, accounts)?;
+    match players.pop() {
+        Some(mut supervisor) => run_staff(rt, alloc, &mut supervisor, players),
+        None => Err(Refused::NoPlace),
+    }
 }
 
 // As `run_pipeline`, over the kernel of these parts.

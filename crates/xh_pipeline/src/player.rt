@@ -1,12 +1,12 @@
 //! A process of the kernel, as the thread sees it that does its calls.
 
-use crate::process::{Message, Process};
+use crate::process::Process;
 use crate::protocol::BLOCK;
 use std::alloc::Global;
 use std::sync::Wait;
-use xh_core::Refused;
+use xh_core::{Block, Refused};
 use xh_kernel::{Account, Answered, Kernel, Names};
-use xh_place::{Got, OpenGate, Taken};
+use xh_place::OpenGate;
 
 /// What an end of a process may reclaim: all.
 const BUDGET: u16 = 4096;
@@ -21,22 +21,6 @@ pub(crate) struct Player<'a, N: Names, R> {
     pub(crate) process: u16,
 }
 
-fn record_of(got: Option<&Got>) -> Option<u16> {
-    match got {
-        Some(Got::Here(block)) => Some(block.rec),
-        _ => None,
-    }
-}
-
-fn message_of(taken: &Taken) -> Message {
-    let blocks = taken.blocks.as_slice();
-    Message {
-        tag: taken.tag,
-        first: record_of(blocks.first()),
-        second: record_of(blocks.get(1)),
-    }
-}
-
 impl<'a, N: Names, R: Wait> Process for Player<'a, N, R> {
     fn act_as(&mut self, process: u16) -> u16 {
         let before = self.process;
@@ -48,85 +32,64 @@ impl<'a, N: Names, R: Wait> Process for Player<'a, N, R> {
         self.kernel.spawn(self.rt, self.account, &OpenGate)
     }
 
-    fn wire(&mut self, other: u16) -> Result<(u16, u16), Refused> {
-        let (mine, theirs) = self
-            .kernel
-            .wire(self.rt, self.process, other, 0, self.account, &OpenGate)?;
-        Ok((mine.rec, theirs.rec))
+    fn wire(&mut self, other: u16) -> Result<(Block, Block), Refused> {
+        let (rt, p) = (self.rt, self.process);
+        self.kernel.wire(rt, p, other, 0, self.account, &OpenGate)
     }
 
-    fn open(&mut self) -> Result<(u16, u16), Refused> {
-        let (low, high) = self
-            .kernel
-            .open(self.rt, self.process, 0, self.account, &OpenGate)?;
-        Ok((low.rec, high.rec))
+    fn open(&mut self) -> Result<(Block, Block), Refused> {
+        let (rt, p) = (self.rt, self.process);
+        self.kernel.open(rt, p, 0, self.account, &OpenGate)
     }
 
-    fn take(&mut self, endpoint: u16) -> Result<Message, Refused> {
-        let taken = self
-            .kernel
-            .take_wait(self.rt, self.process, endpoint, self.account, &OpenGate)?;
-        Ok(message_of(&taken))
-    }
-
-    fn take_any(&mut self, endpoints: &[u16]) -> Result<(usize, Message), Refused> {
-        let Answered { at, answer } = self
-            .kernel
-            .take_any_wait(self.rt, self.process, endpoints, self.account, &OpenGate)?;
-        Ok((at, message_of(&answer?)))
-    }
-
-    fn give(&mut self, endpoint: u16, tag: u16, blocks: &[u16]) -> Result<(), Refused> {
-        let (rt, process) = (self.rt, self.process);
-        self.kernel.give(rt, process, endpoint, tag, blocks, self.account, &OpenGate)?;
-        Ok(())
-    }
-
-    fn make(&mut self, first: u8) -> Result<u16, Refused> {
-        let (rt, process) = (self.rt, self.process);
-        let block = self
-            .kernel
-            .alloc(rt, self.alloc, process, BLOCK, 0, self.account, &OpenGate)?;
-        self.set_first(block.rec, first)?;
-        Ok(block.rec)
-    }
-
-    fn first(&mut self, block: u16) -> Result<u8, Refused> {
-        let mut first = [0];
-        let (rt, process) = (self.rt, self.process);
+    fn take_any(&mut self, ends: &[u16]) -> Result<Answered, Refused> {
+        let (rt, p) = (self.rt, self.process);
         self.kernel
-            .read(rt, process, block, 0, &mut first, self.account, &OpenGate)?;
-        Ok(first[0])
+            .take_any_wait(rt, p, ends, self.account, &OpenGate)
     }
 
-    fn set_first(&mut self, block: u16, first: u8) -> Result<(), Refused> {
-        let (rt, process) = (self.rt, self.process);
+    fn give(&mut self, end: u16, tag: u16, blocks: &[u16]) -> Result<u64, Refused> {
+        let (rt, p) = (self.rt, self.process);
         self.kernel
-            .write(rt, process, block, 0, &[first], self.account, &OpenGate)
+            .give(rt, p, end, tag, blocks, self.account, &OpenGate)
     }
 
-    fn free(&mut self, block: u16) -> Result<(), Refused> {
+    fn alloc(&mut self) -> Result<Block, Refused> {
+        let (rt, alloc, p) = (self.rt, self.alloc, self.process);
         self.kernel
-            .free(self.rt, self.process, block, self.account, &OpenGate)?;
-        Ok(())
+            .alloc(rt, alloc, p, BLOCK, 0, self.account, &OpenGate)
     }
 
-    fn close(&mut self, endpoint: u16) -> Result<(), Refused> {
+    fn read(&mut self, block: u16, room: &mut [u8]) -> Result<(), Refused> {
+        let (rt, p) = (self.rt, self.process);
         self.kernel
-            .close(self.rt, self.process, endpoint, self.account, &OpenGate)?;
-        Ok(())
+            .read(rt, p, block, 0, room, self.account, &OpenGate)
     }
 
-    fn kill(&mut self, victim: u16) -> Result<(), Refused> {
-        let (rt, process) = (self.rt, self.process);
+    fn write(&mut self, block: u16, bytes: &[u8]) -> Result<(), Refused> {
+        let (rt, p) = (self.rt, self.process);
         self.kernel
-            .kill(rt, process, victim, BUDGET, self.account, &OpenGate)?;
-        Ok(())
+            .write(rt, p, block, 0, bytes, self.account, &OpenGate)
     }
 
-    fn exit(&mut self) -> Result<(), Refused> {
+    fn free(&mut self, block: u16) -> Result<u32, Refused> {
+        let (rt, p) = (self.rt, self.process);
+        self.kernel.free(rt, p, block, self.account, &OpenGate)
+    }
+
+    fn close(&mut self, end: u16) -> Result<u64, Refused> {
+        let (rt, p) = (self.rt, self.process);
+        self.kernel.close(rt, p, end, self.account, &OpenGate)
+    }
+
+    fn kill(&mut self, victim: u16) -> Result<u64, Refused> {
+        let (rt, p) = (self.rt, self.process);
         self.kernel
-            .exit(self.rt, self.process, BUDGET, self.account, &OpenGate)?;
-        Ok(())
+            .kill(rt, p, victim, BUDGET, self.account, &OpenGate)
+    }
+
+    fn exit(&mut self) -> Result<u64, Refused> {
+        let (rt, p) = (self.rt, self.process);
+        self.kernel.exit(rt, p, BUDGET, self.account, &OpenGate)
     }
 }

@@ -1,6 +1,6 @@
 //! The producer: it makes the blocks, round by round, and makes a round again that was lost.
 
-use crate::process::{Process, take_end, take_ends};
+use crate::process::{Process, take, take_end, take_ends};
 use crate::protocol::{DATA, EACH, END, ROUNDS, WHOLE};
 use std::sync::Wait;
 use xh_core::Refused;
@@ -9,10 +9,13 @@ use xh_core::Refused;
 // the block has come back, and is freed.
 fn give_round<P: Process>(player: &mut P, out: u16, round: u8) -> Result<(), Refused> {
     for index in 0..EACH {
-        let block = player.make(round.wrapping_mul(EACH).wrapping_add(index))?;
+        let block = player.alloc()?.rec;
+        player.write(block, &[round.wrapping_mul(EACH).wrapping_add(index)])?;
         match player.give(out, DATA, &[block]) {
-            Ok(()) => {}
-            Err(Refused::PeerClosed { back: _ }) => player.free(block)?,
+            Ok(_number) => {}
+            Err(Refused::PeerClosed { back: _ }) => {
+                player.free(block)?;
+            }
             Err(refused) => return Err(refused),
         }
     }
@@ -33,7 +36,7 @@ fn give_all<P: Process, R: Wait>(
             return Ok(());
         }
         give_round(player, *out, round)?;
-        if player.take(answers)?.tag == WHOLE {
+        if take(player, answers)?.tag == WHOLE {
             round = round.wrapping_add(1);
         } else {
             player.close(*out)?;

@@ -1,6 +1,6 @@
 //! The sink: it checks each block and frees it.
 
-use crate::process::{Process, take_ends};
+use crate::process::{Process, record_of, take, take_ends};
 use crate::protocol::{AGAIN, EACH, END, LOST, MARK, WHOLE};
 use std::sync::Wait;
 use xh_core::Refused;
@@ -25,7 +25,9 @@ fn check<P: Process>(
     block: u16,
     count: &mut Count,
 ) -> Result<(), Refused> {
-    if player.first(block)? == expected(*count) {
+    let mut first = [0];
+    player.read(block, &mut first)?;
+    if first[0] == expected(*count) {
         count.blocks = count.blocks.wrapping_add(1);
     }
     player.free(block)?;
@@ -49,8 +51,8 @@ pub(crate) fn drain<P: Process, R: Wait>(
         blocks: 0,
     };
     for _ in rt.forever() {
-        let message = player.take(input)?;
-        if let Some(block) = message.first {
+        let message = take(player, input)?;
+        if let Some(block) = record_of(&message, 0) {
             check(player, answers, block, &mut count)?;
         } else if message.tag == LOST {
             player.give(answers, AGAIN, &[])?;

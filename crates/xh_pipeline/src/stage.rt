@@ -1,21 +1,23 @@
 //! A stage: it marks each block that comes, and gives it on.
 
-use crate::process::{Process, take_end, take_ends};
+use crate::process::{Process, record_of, take, take_end, take_ends};
 use crate::protocol::{DATA, END, HUNG, LOST, MARK};
 use std::sync::Wait;
 use xh_core::Refused;
 
 // Marks a block and gives it on.
 fn pass<P: Process>(player: &mut P, out: u16, block: u16) -> Result<(), Refused> {
-    let first = player.first(block)?;
-    player.set_first(block, first.wrapping_add(MARK))?;
-    player.give(out, DATA, &[block])
+    let mut first = [0];
+    player.read(block, &mut first)?;
+    player.write(block, &[first[0].wrapping_add(MARK)])?;
+    player.give(out, DATA, &[block])?;
+    Ok(())
 }
 
 // Tells the supervisor, and does nothing more until it is killed.
 fn hang<P: Process>(player: &mut P, control: u16) -> Result<(), Refused> {
     player.give(control, HUNG, &[])?;
-    player.take(control)?;
+    take(player, control)?;
     Ok(())
 }
 
@@ -36,8 +38,8 @@ pub(crate) fn stage<P: Process, R: Wait>(
     let (mut input, out) = take_ends(player, control)?;
     let mut passed = 0u32;
     for _ in rt.forever() {
-        match player.take(input) {
-            Ok(message) => match message.first {
+        match take(player, input) {
+            Ok(message) => match record_of(&message, 0) {
                 Some(_) if limit == Some(passed) => return hang(player, control),
                 Some(block) => {
                     pass(player, out, block)?;
@@ -46,7 +48,8 @@ pub(crate) fn stage<P: Process, R: Wait>(
                 None => {
                     player.give(out, message.tag, &[])?;
                     if message.tag == END {
-                        return player.exit();
+                        player.exit()?;
+                        return Ok(());
                     }
                 }
             },

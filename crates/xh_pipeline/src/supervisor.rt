@@ -6,6 +6,7 @@ use crate::staff::{Role, Staff};
 use crate::stage::stage;
 use std::sync::Wait;
 use xh_core::Refused;
+use xh_kernel::Answered;
 
 // A new process, with a channel to the supervisor.
 fn employ<P: Process>(player: &mut P, role: Role) -> Result<Staff, Refused> {
@@ -14,13 +15,15 @@ fn employ<P: Process>(player: &mut P, role: Role) -> Result<Staff, Refused> {
     Ok(Staff {
         role,
         process,
-        mine,
-        theirs,
+        mine: mine.rec,
+        theirs: theirs.rec,
     })
 }
 
-/// The producer, the first stage, which will hang, the second one and the sink.
+/// The supervisor's own process; and the producer, the first stage, which will hang, the second one and the sink.
 pub(crate) fn employ_all<P: Process>(player: &mut P) -> Result<[Staff; 4], Refused> {
+    let own = player.spawn()?;
+    let _none = player.act_as(own);
     Ok([
         employ(player, Role::Producer)?,
         employ(player, Role::Stage { limit: Some(LIMIT) })?,
@@ -35,10 +38,11 @@ fn connect<P: Process>(player: &mut P, staff: [Staff; 4]) -> Result<(), Refused>
     let (to_second, from_first) = player.open()?;
     let (to_sink, from_second) = player.open()?;
     let (to_producer, from_sink) = player.open()?;
-    player.give(staff[0].mine, ENDS, &[to_first, from_sink])?;
-    player.give(staff[1].mine, ENDS, &[from_producer, to_second])?;
-    player.give(staff[2].mine, ENDS, &[from_first, to_sink])?;
-    player.give(staff[3].mine, ENDS, &[from_second, to_producer])
+    player.give(staff[0].mine, ENDS, &[to_first.rec, from_sink.rec])?;
+    player.give(staff[1].mine, ENDS, &[from_producer.rec, to_second.rec])?;
+    player.give(staff[2].mine, ENDS, &[from_first.rec, to_sink.rec])?;
+    player.give(staff[3].mine, ENDS, &[from_second.rec, to_producer.rec])?;
+    Ok(())
 }
 
 // Kills the process that hangs; a new one stands between its neighbours.
@@ -47,22 +51,22 @@ fn replace<P: Process>(player: &mut P, staff: [Staff; 4]) -> Result<Staff, Refus
     let new = employ(player, Role::Stage { limit: None })?;
     let (to_new, from_producer) = player.open()?;
     let (to_second, from_new) = player.open()?;
-    player.give(new.mine, ENDS, &[from_producer, to_second])?;
-    player.give(staff[0].mine, ENDS, &[to_new])?;
-    player.give(staff[2].mine, ENDS, &[from_new])?;
+    player.give(new.mine, ENDS, &[from_producer.rec, to_second.rec])?;
+    player.give(staff[0].mine, ENDS, &[to_new.rec])?;
+    player.give(staff[2].mine, ENDS, &[from_new.rec])?;
     Ok(new)
 }
 
-// Connects all, waits for a message of any, by which the first stage tells that it hangs, and replaces it; then the thread of the supervisor does the calls
-// of the new stage too.
+// Connects all, waits for a message of any, by which the first stage tells that it hangs, and replaces it; then the
+// thread of the supervisor does the calls of the new stage too.
 fn supervise<P: Process, R: Wait>(
     rt: &R,
     player: &mut P,
     staff: [Staff; 4],
 ) -> Result<(), Refused> {
     connect(player, staff)?;
-    let (at, message) = player.take_any(&staff.map(|one| one.mine))?;
-    if at != 1 || message.tag != HUNG {
+    let Answered { at, answer } = player.take_any(&staff.map(|one| one.mine))?;
+    if at != 1 || answer?.tag != HUNG {
         return Err(Refused::NotEndpoint);
     }
     let new = replace(player, staff)?;

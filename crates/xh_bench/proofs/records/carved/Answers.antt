@@ -1,7 +1,7 @@
 use Rattle.std.proofs.Common.{◌∙◌, ap, arith, length, refl, sym, subst, rules}
 use Rattle.xh_records.specs.Seats.{Held}
 use Rattle.xh_records.specs.Showing.{IsLotOf}
-use Rattle.xh_bench.specs.declared.blank.Blank.{Blank}
+use Rattle.xh_bench.specs.declared.arenas.Blank.{Blank}
 use Rattle.xh_bench.proofs.Gained.{and_some, changed, has}
 use Rattle.xh_bench.proofs.records.carved.Goals as goal
 
