@@ -141,7 +141,8 @@ pub tells_seen : {S : Type 0} (id : ℕ) (v : Sight) → Splits (Shows {S = S}) 
 tells_seen id v = told id v (seen_told v) (λ keeper words n mine. fits_told keeper words n v.from v.peer_shut mine.1)
 
 -- a seat hears another, which has no word from then on: its view is true where both were
-heard : {S : Type 0} (id : ℕ) (v : Sight) (other : ℕ) (w both : Sight) → ((keeper : ℕ → ℕ) (words : List ℕ) → FitsSight keeper words id v → FitsSight keeper words other w → FitsSight keeper words id both)
+heard : {S : Type 0} (id : ℕ) (v : Sight) (other : ℕ) (w both : Sight) → ((keeper : ℕ → ℕ) (words : List ℕ) → FitsSight keeper words id v → FitsSight keeper words other w
+    → FitsSight keeper words id both)
     → Joins (Shows {S = S}) id v other w both (sight 0 0 false false)
 heard id v other w both so s h at two at' =
     let was : get_elem? s.views other ≡ some w = ⊎_elim (λ x. absurd (two x.0)) (λ x. x.1) (at_set s.views id other both w at') in (

@@ -28,7 +28,8 @@ free_push d (y ∷ ys) zero x long old new i h = absurd (omega arith)
 free_push d (y ∷ ys) (suc n) x long old new zero h = old 0 (omega arith)
 free_push d (y ∷ ys) (suc n) x long old new (suc i) h = free_push d ys n x (omega arith) (λ k b. old (suc k) (omega arith)) new i (omega arith)
 
-set_at : (xs : List (Option FreePair)) (k n : ℕ) (x : Option FreePair) → ((i : ℕ) (q : FreePair) → at_place xs i ≡ Some q → q.low.channel ≡ i + k) → ((q : FreePair) → x ≡ Some q → q.low.channel ≡ n + k)
+set_at : (xs : List (Option FreePair)) (k n : ℕ) (x : Option FreePair) → ((i : ℕ) (q : FreePair) → at_place xs i ≡ Some q → q.low.channel ≡ i + k)
+    → ((q : FreePair) → x ≡ Some q → q.low.channel ≡ n + k)
     → (i : ℕ) (q : FreePair) → at_place (set xs n x) i ≡ Some q → q.low.channel ≡ i + k
 set_at [] k n x old is i q e = old i q e
 set_at (y ∷ ys) k zero x old is zero q e = is q e

@@ -1,6 +1,7 @@
 -- What a put, a take and a shut of the line that a seat holds make of its account, and what contracts see of that.
-use Rattle.std.proofs.Common.{◌≡◌, inl, inr, ℕ, zero, suc, ◌+◌, ◌-◌, ◌<◌, ◌≤◌, Bool, true, false, ◌||◌, true≢false, List, [], ◌∷◌, ◌++◌, length, length-append, take, sym, refl, ap, ◌∙◌, subst, ⊎_elim, append_assoc, arith}
-use Rattle.std.proofs.lemmas.Bool.{false_from_ne_true}
+use Rattle.std.proofs.Common.{◌≡◌, inl, inr, ℕ, zero, suc, ◌+◌, ◌-◌, ◌<◌, ◌≤◌, Bool, true, false, ◌&&◌, ◌||◌, true≢false, List, [], ◌∷◌, ◌++◌, length, length-append, take, sym, refl, ap, ◌∙◌, subst}
+use Rattle.std.proofs.Common.{⊎_elim, append_assoc, arith}
+use Rattle.std.proofs.lemmas.Bool.{and_parts, and_right, false_from_ne_true}
 use Rattle.std.proofs.lemmas.List.{length_push}
 use Rattle.std.proofs.Math.Seq.{take-append_seam}
 use Rattle.std.specs.Prelude.{Option, Some, None, unwrap_or, IsSome, Result, Ok, Err, OnErr}
@@ -21,7 +22,7 @@ use Rattle.xh_channel.specs.declared.refused.Refused.TheVariants as refused
 use Rattle.xh_channel.specs.declared.unsent.Unsent.{Unsent}
 use Rattle.xh_channel.specs.declared.unsent.Unsent.TheVariants.{Protocol, PeerClosed, Full}
 use Rattle.xh_channel.specs.Ends.{one_put, one_taken, now_shut}
-use Rattle.xh_channel.specs.Lines.{Lined, PutsOn, Shuts, TakesOn, end_of, waiting}
+use Rattle.xh_channel.specs.Lines.{Lined, PutsOn, Shuts, TakesOn, end_of, is_drained, is_none, waiting}
 use Rattle.xh_channel.specs.LineSeats.{LineView, OnlySaw, PutsBy, ShutsBy, TakesBy, counts_at}
 use Rattle.xh_channel.specs.Numbers.{message, number}
 use Rattle.xh_channel.specs.inner.LineRule.{Found, Grows, IsEndBy, IsSettled, IsTold, LiesFor, counts_in, holding, line_view, own_by, peer_by, settled, settled_by}
@@ -62,6 +63,7 @@ accounts v peer own rows depth state line e =
         rows = e.0.rows i;
         depth = e.0.depth i;
         state = e.0.state i;
+        drained = e.0.drained i;
         sent = sym e.1.waits.0 i;
         got = (ap (λ (c : Counts). take c.taken peer.sent) counts ∙ ap (take (length own.got)) e.0.waits.0 ∙ take-append_seam own.got (waiting (end_of line v.side))) i;
         shut = (counts i).shut;
@@ -99,6 +101,7 @@ module _ (table : TableId) (v : Part) (peer : Account) (line line' : Lined) (fou
     state = ap (λ (x : LineEnd). x.state) same ∙ was.1.state;
     counts = ap (λ (x : LineEnd). x.counts) same ∙ was.1.counts;
     waits = subst (λ (x : List Message × LineEnd). IsDirection number x.0 peer.got (waiting x.1)) (λ i. (sent i, sym same i)) was.1.waits;
+    drained = ap is_drained same ∙ was.1.drained;
   }
 
   -- what contracts see of the seat once it gave the line back
@@ -122,6 +125,10 @@ module _ (table : TableId) (v : Part) (peer : Account) (line line' : Lined) (fou
       let closed : peer.shut ≡ false = ap (λ (c : Counts). c.shut) (sym was.1.counts) ∙ e in
       let told = false_from_ne_true v.told.shut (λ p. true≢false (sym (found.told.2 p) ∙ closed)) in
       (told, (λ i. told i || closed i))
+
+  -- an end that isn't shut isn't drained
+  undrained : (end : LineEnd) → end.counts.shut ≡ false → is_drained end ≡ false
+  undrained end e = ap (λ b. b && is_none (waiting end)) e
 
   -- where the line stayed as it was
   kept : line' ≡ line → IsSettled (holding v peer) line' × (own_by (holding v peer) line' ≡ own)
@@ -161,6 +168,7 @@ module _ (table : TableId) (v : Part) (peer : Account) (line line' : Lined) (fou
             state = refl;
             counts = r.1 ∙ ap one_put o.counts ∙ sym counts;
             waits = subst (IsDirection number peer.sent own.got) (sym p.waits) o.waits;
+            drained = (λ i. (r.1 i).shut && is_none (p.waits i)) ∙ o.drained;
           },
           record {
             rows = p.rules.0 ∙ e.rows;
@@ -168,6 +176,7 @@ module _ (table : TableId) (v : Part) (peer : Account) (line line' : Lined) (fou
             state = p.state ∙ e.state;
             counts = p.counts ∙ e.counts;
             waits = (ap (λ l. l ++ m ∷ []) e.waits.0 ∙ append_assoc peer.got (waiting (end_of line (1 - k))) (m ∷ []) ∙ ap (λ l. peer.got ++ l) (sym r.4.0), numbered);
+            drained = undrained (end_of line' (1 - k)) (ap (λ (c : Counts). c.shut) p.counts ∙ r.3) ∙ sym (undrained (end_of line (1 - k)) r.3) ∙ e.drained;
           },
         ) in
         let s = settled_so v peer own' line' found.few ends' (omega arith, omega arith, λ q. q) found.told in
@@ -179,33 +188,48 @@ module _ (table : TableId) (v : Part) (peer : Account) (line line' : Lined) (fou
     put_done (Err (PeerClosed back)) p same = ((kept same).0, (p.put.0, same_counts same, subst IsSome (sym (step_by tag k _ refl)) p.put.2, saw_shut p.put.3), only_saw same)
     put_done (Err (Full back)) p same = (
       (kept same).0,
-      (p.put.0, same_counts same, subst IsSome (sym (step_by tag k _ refl)) p.put.2, saw_open p.put.3, ⊎_elim (λ e. inl (full e)) (λ e. inr (ap (λ (c : Counts). c.put) (sym was.0.counts) ∙ e)) p.put.4),
+      (
+        p.put.0,
+        same_counts same,
+        subst IsSome (sym (step_by tag k _ refl)) p.put.2,
+        saw_open p.put.3,
+        ⊎_elim (λ e. inl (full e)) (λ e. inr (ap (λ (c : Counts). c.put) (sym was.0.counts)
+            ∙ e)) p.put.4,
+      ),
       only_saw same,
     )
 
   emptied : waiting (end_of line k) ≡ [] → v.told.put ≤ length own.got
   emptied e = let sent = ap length was.0.waits.0 in let none = ap length e in let told = found.told.0 in omega (arith, length-append own.got (waiting (end_of line k)))
 
+  -- where nothing waits, a side that was shut is drained
+  emptied_drained : waiting (end_of line k) ≡ [] → own.shut ≡ true → own.drained ≡ true
+  emptied_drained e closed = sym was.0.drained ∙ (λ i. (was.0.counts i).shut && is_none (e i)) ∙ ap (λ b. b && true) closed
+
+  found_none : line' ≡ line → waiting (end_of line k) ≡ [] → (v.told.put ≤ length own.got) × (own.shut ≡ true → seen.drained ≡ true)
+  found_none same e = (emptied e, λ closed. ap (λ (a : Account). a.drained) (kept same).1 ∙ emptied_drained e closed)
+
   pub take_done : (r : Result Message Refused) → TakesOn line line' k r → OnErr r (line' ≡ line)
       → IsSettled (holding v peer) line' × TakesBy (line_view table v) seen r × OnErr r (OnlySaw (line_view table v) seen)
   take_done (Ok m) t _ =
       let o = was.0 in
       let r = t.taken in
-      let own' : Account = record own { got = own.got ++ m ∷ []; state = (end_of line' k).state } in
+      let own' : Account = record own { got = own.got ++ m ∷ []; state = (end_of line' k).state; drained = is_drained (end_of line' k) } in
       let longer : length (own.got ++ m ∷ []) ≡ suc (length own.got) = omega (arith, length_push own.got m) in
       let counts : counts_in own' ≡ one_taken (counts_in own) = λ i. record { put = length own.sent; taken = longer i; shut = own.shut } in
       let split : peer.sent ≡ (own.got ++ m ∷ []) ++ waiting (end_of line' k) = o.waits.0 ∙ ap (λ l. own.got ++ l) r.2.0 ∙ sym (append_assoc own.got (m ∷ []) (waiting (end_of line' k))) in
       let ends' : Ends k line' own' peer = (
-        record { rows = t.rules.0 ∙ o.rows; depth = t.rules.1 ∙ o.depth; state = refl; counts = r.1 ∙ ap one_taken o.counts ∙ sym counts; waits = (split, o.waits.1) },
+        record { rows = t.rules.0 ∙ o.rows; depth = t.rules.1 ∙ o.depth; state = refl; counts = r.1 ∙ ap one_taken o.counts ∙ sym counts; waits = (split, o.waits.1); drained = refl },
         peer_same t.rules.0 t.rules.1 t.peer own' refl,
       ) in
       let s = settled_so v peer own' line' found.few ends' (omega arith, omega arith, λ q. q) found.told in
       let numbered = numbers_before number 0 (own.got ++ m ∷ []) (waiting (end_of line' k)) (subst (AreNumberedFrom number 0) split o.waits.1) in
+      let waited : own.drained ≡ false = sym o.drained ∙ ap (λ l. (end_of line k).counts.shut && is_none l) r.2.0 ∙ and_right (end_of line k).counts.shut false refl in
       let so : TakesBy (line_view table v) (record (line_view table (record v { own = own' })) { peer_shut = saw }) (Ok m) =
-      (r.0 ∙ ap (λ (c : Counts). suc c.taken) o.counts, counts, (step_by m.tag (1 - k) (Some own'.state) r.2.1, refl, saw_no_less, numbered)) in
+      (r.0 ∙ ap (λ (c : Counts). suc c.taken) o.counts, counts, (step_by m.tag (1 - k) (Some own'.state) r.2.1, refl, saw_no_less, numbered, waited)) in
       (s.0, subst (λ (x : LineView). TakesBy (line_view table v) x (Ok m)) (sym (seen_is own' s.1)) so, tt)
-  take_done (Err (refused.PeerClosed back)) t same = ((kept same).0, (t.taken.0, same_counts same, emptied t.taken.2, saw_shut t.taken.3), only_saw same)
-  take_done (Err refused.Empty) t same = ((kept same).0, (same_counts same, emptied t.taken.1, saw_open t.taken.2), only_saw same)
+  take_done (Err (refused.PeerClosed back)) t same = ((kept same).0, (t.taken.0, same_counts same, found_none same t.taken.2, saw_shut t.taken.3), only_saw same)
+  take_done (Err refused.Empty) t same = ((kept same).0, (same_counts same, found_none same t.taken.1, saw_open t.taken.2), only_saw same)
   take_done (Err refused.OutOfMemory) t same = absurd t.taken
   take_done (Err refused.BadSize) t same = absurd t.taken
   take_done (Err refused.NoChannel) t same = absurd t.taken
@@ -213,13 +237,23 @@ module _ (table : TableId) (v : Part) (peer : Account) (line line' : Lined) (fou
   pub shut_done : Shuts line line' k → IsSettled (holding v peer) line' × ShutsBy (line_view table v) seen
   shut_done t =
       let o = was.0 in
-      let own' : Account = record own { shut = true } in
+      let own' : Account = record own { shut = true; drained = is_drained (end_of line' k) } in
+      let still : own.drained ≡ true → own'.drained ≡ true = λ p. (λ i. (t.shut i).shut && is_none (t.waits i))
+      ∙ (and_parts (end_of line k).counts.shut (is_none (waiting (end_of line k))) (o.drained ∙ p)).1 in
       let ends' : Ends k line' own' peer = (
-        record { rows = t.rules.0 ∙ o.rows; depth = t.rules.1 ∙ o.depth; state = t.state ∙ o.state; counts = t.shut ∙ ap now_shut o.counts; waits = subst (IsDirection number peer.sent own.got) (sym t.waits) o.waits },
+        record {
+          rows = t.rules.0 ∙ o.rows;
+          depth = t.rules.1 ∙ o.depth;
+          state = t.state ∙ o.state;
+          counts = t.shut
+              ∙ ap now_shut o.counts;
+          waits = subst (IsDirection number peer.sent own.got) (sym t.waits) o.waits;
+          drained = refl;
+        },
         peer_same t.rules.0 t.rules.1 t.peer own' refl,
       ) in
       let s = settled_so v peer own' line' found.few ends' (omega arith, omega arith, λ _. refl) found.told in
-      (s.0, (seen_is own' s.1, saw_no_less))
+      (s.0, (seen_is own' s.1, saw_no_less, still))
 
 pub has_word : (a b : TableId) → a ≡ b → a.words ≡ 16 → 0 < b.words
 has_word a b same words = subst (λ (t : TableId). 0 < t.words) same (omega arith)
@@ -233,7 +267,8 @@ line_of line (x ∷ xs) = unwrap_or x.1 line
 
 -- what was done to what lies in the slot was done to the line that the seat found
 module _ (v : Part) (peer : Account) (line : Lined) (me : Me (Option Lined) Part) (held : me ≡ (holding v peer, (0, Some line) ∷ [])) where
-  pub done_here : (side : ℕ) (slot : Option Lined) (line1 line2 : Lined) (P : Lined → Lined → ℕ → Type 0) → v.side ≡ side → me.1 ≡ (0, slot) ∷ rest me.1 → slot ≡ Some line1 → P line1 line2 side → P line line2 v.side
+  pub done_here : (side : ℕ) (slot : Option Lined) (line1 line2 : Lined) (P : Lined → Lined → ℕ → Type 0) → v.side ≡ side → me.1 ≡ (0, slot) ∷ rest me.1 → slot ≡ Some line1 → P line1 line2 side
+      → P line line2 v.side
   done_here side slot line1 line2 P is front some p =
       let same : line1 ≡ line = ap (λ (x : Option Lined). unwrap_or x line1) (sym some) ∙ ap (line_of line1) (sym front) ∙ ap (λ (m : Me (Option Lined) Part). line_of line1 m.1) held in
       subst (λ (x : Lined × ℕ). P x.0 line2 x.1) (λ j. (same j, sym is j)) p
@@ -242,6 +277,7 @@ module _ (v : Part) (peer : Account) (line : Lined) (me : Me (Option Lined) Part
   still_held line2 = ap (λ (m : Me (Option Lined) Part). (m.0, (0, Some line2) ∷ rest m.1)) held
 
 -- the seat that gave the line back
-pub view_after : (table : TableId) (v : Part) (peer : Account) (line : Lined) (before after : Me (Option Lined) Part) → before ≡ (holding v peer, (0, Some line) ∷ []) → after ≡ (settled before.0 before.1, [])
+pub view_after : (table : TableId) (v : Part) (peer : Account) (line : Lined) (before after : Me (Option Lined) Part) → before ≡ (holding v peer, (0, Some line) ∷ [])
+    → after ≡ (settled before.0 before.1, [])
     → line_view table after.0 ≡ line_view table (settled_by (holding v peer) (Some line))
 view_after table v peer line before after held gone = ap (λ m. line_view table m.0) gone ∙ ap (λ m. line_view table (settled m.0 m.1)) held

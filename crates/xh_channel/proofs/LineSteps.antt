@@ -1,5 +1,5 @@
 -- Each step on a line's word keeps the rule.
-use Rattle.std.proofs.Common.{◌≡◌, ◌≢◌, ◌⊎◌, inl, inr, ℕ, zero, suc, ◌-◌, ◌≤◌, max, ◌||◌, true, false, true≢false, List, [], ◌∷◌, length, set}
+use Rattle.std.proofs.Common.{◌≡◌, ◌≢◌, ◌⊎◌, inl, inr, ℕ, zero, suc, ◌-◌, ◌≤◌, max, ◌||◌, true, false, true≢false, List, [], ◌∷◌, ◌++◌, length, append-nil, set}
 use Rattle.std.proofs.Common.{sym, refl, ap, ◌∙◌, subst, ⊎_elim, replicate, eqb, eq-eqb, ne_eqb, arith}
 use Rattle.std.specs.Prelude.{slice_index, Option, Some, None}
 use mathlib.Core.Option.{some, none}
@@ -11,10 +11,13 @@ use Rattle.atomic_table.proofs.Lists.{at_set, exchanged}
 use Rattle.xh_channel.specs.declared.counts.Counts.{Counts}
 use Rattle.xh_channel.specs.declared.line_rule.Account.{Account}
 use Rattle.xh_channel.specs.declared.line_rule.Part.{Part}
-use Rattle.xh_channel.specs.Lines.{Lined, waiting}
+use Rattle.xh_channel.specs.declared.line_end.LineEnd.{LineEnd}
+use Rattle.xh_channel.specs.declared.message.Message.{Message}
+use Rattle.xh_channel.specs.Lines.{Lined, is_none, waiting}
 use Rattle.xh_channel.specs.Ends.{no_counts}
-use Rattle.xh_channel.specs.inner.LineRule.{by, IsTold, Grows, IsSettled, own_by, peer_by, settled, Settled, IsTaken, Lies, LiesFor, Truth, IsHome, IsOut, Owns, Fits, Kept, no_account, counts_in, both_sides, no_part, low_side, high_side, joined, telling, hearing, holding, Locked, Compared}
-use Rattle.std.proofs.lemmas.Bool.{eqb-true, or_cases}
+use Rattle.xh_channel.specs.inner.LineRule.{by, IsEndBy, IsTold, Grows, IsSettled, own_by, peer_by, settled, Settled, IsTaken, Lies, LiesFor, Truth, IsHome, IsOut, Owns, Fits, Kept, no_account}
+use Rattle.xh_channel.specs.inner.LineRule.{counts_in, both_sides, no_part, low_side, high_side, joined, telling, hearing, holding, Locked, Compared}
+use Rattle.std.proofs.lemmas.Bool.{and_parts, eqb-true, or_cases}
 use Rattle.xh_channel.proofs.Views.{every_set, every_two, every_snoc, one_view}
 
 abbrev S : Type 0
@@ -152,7 +155,8 @@ settles slots id me line front owns holds is s h long at small =
     let high : Account = by k peer own in
     let t' : Truth = record { low_seat = t.low_seat; high_seat = t.high_seat; holder = 0; low = low; high = high } in
     let w : Part = record v { holds = false; own = own; peer = peer; told = told } in
-    let grow : Grows t.low low × Grows t.high high = both_grow k t.low t.high own peer (subst (λ a. Grows a own) (sym o.own) is.1) (subst (λ a. Grows a peer) (sym (o.knows holds)) (omega arith, omega arith, λ p. p)) in
+    let grow : Grows t.low low
+    × Grows t.high high = both_grow k t.low t.high own peer (subst (λ a. Grows a own) (sym o.own) is.1) (subst (λ a. Grows a peer) (sym (o.knows holds)) (omega arith, omega arith, λ p. p)) in
     let same : (peer ≡ by k t.high t.low) ⊎ (by k t.high_seat t.low_seat ≡ by k t.low_seat t.high_seat) =
     ⊎_elim (λ e. inl (e ∙ sym (o.knows holds))) (λ p. inr ((o.both p).0 ∙ sym o.seat)) is.2 in (
       w,
@@ -195,13 +199,28 @@ no_fits : (t : Truth) (id : ℕ) → Fits t id no_part
 no_fits t id = ((λ p. absurd (true≢false (sym p))), nothing_told t.high, nothing_told t.low)
 
 -- where one seat has both accounts and doesn't hold the line, that is at home
-at_home : (t : Truth) (id : ℕ) (v : Part) (words : List ℕ) (homes : List (maybe.Option S)) → IsHome t words homes ⊎ IsOut t words homes → Owns t id v → v.both ≡ true → v.holds ≡ false → IsHome t words homes
+at_home : (t : Truth) (id : ℕ) (v : Part) (words : List ℕ) (homes : List (maybe.Option S)) → IsHome t words homes ⊎ IsOut t words homes → Owns t id v → v.both ≡ true → v.holds ≡ false
+    → IsHome t words homes
 at_home t id v words homes is o both idle = ⊎_elim (λ x. x)
     (λ (x : IsOut t words homes). absurd (true≢false (sym (holds_it t id v o (x.5 ∙ ap suc (one_seat x.2 v.side t.low_seat t.high_seat id o.seat (o.both both).0))) ∙ idle))) is
 
+emptied : (ms : List Message) → is_none ms ≡ true → ms ≡ []
+emptied [] e = refl
+emptied (m ∷ ms) e = absurd (true≢false (sym e))
+
+end_taken : (line : Lined) (end : LineEnd) (own peer : Account) → IsEndBy line end own peer → IsTaken peer own
+end_taken line end own peer is = (
+  (waiting end, is.waits),
+  λ p. let both = and_parts end.counts.shut (is_none (waiting end)) (is.drained ∙ p) in
+      (ap (λ (c : Counts). c.shut) (sym is.counts) ∙ both.0, sym (append-nil own.got) ∙ ap (λ l. own.got ++ l) (sym (emptied (waiting end) both.1)) ∙ sym is.waits.0),
+)
+
+nothing_taken : IsTaken no_account no_account
+nothing_taken = (([], (refl, tt)), λ p. absurd (true≢false (sym p)))
+
 all_taken : (line : S) (low high : Account) → Lies line low high → IsTaken low high × IsTaken high low
-all_taken None low high l = subst (λ (x : Account × Account). IsTaken x.0 x.1 × IsTaken x.1 x.0) (λ i. (sym l.0 i, sym l.1 i)) (([], (refl, tt)), ([], (refl, tt)))
-all_taken (Some line) low high l = ((waiting line.right, l.1.waits), (waiting line.left, l.0.waits))
+all_taken None low high l = subst (λ (x : Account × Account). IsTaken x.0 x.1 × IsTaken x.1 x.0) (λ i. (sym l.0 i, sym l.1 i)) (nothing_taken, nothing_taken)
+all_taken (Some line) low high l = (end_taken line line.right high low l.1, end_taken line line.left low high l.0)
 
 taken_by : (k : ℕ) (low high : Account) → IsTaken low high × IsTaken high low → IsTaken (by k low high) (by k high low) × IsTaken (by k high low) (by k low high)
 taken_by zero low high t = t

@@ -12,7 +12,8 @@ use Rattle.xh_channel.specs.Directions.{WaitsAfter}
 use Rattle.xh_channel.specs.Ends.{Puts, Takes}
 use Rattle.xh_channel.specs.Numbers.{Numbered}
 
--- Its table and its side; the contract's rows and the depth, which is 0 before the line is begun; its state; the messages that it put and took, and whether it was shut.
+-- Its table and its side; the contract's rows and the depth, which is 0 before the line is begun; its state; the messages that it put and took, whether it was shut,
+-- and whether it is drained: it was shut and nothing waits for it, so nothing comes any more.
 -- Of its peer: whether it saw or was told that it is shut, and how many messages it was told that the peer put and took
 pub record LineView : Type 0 where
   pub table : TableId
@@ -23,6 +24,7 @@ pub record LineView : Type 0 where
   pub sent : List Message
   pub got : List Message
   pub shut : Bool
+  pub drained : Bool
   pub peer_shut : Bool
   pub told_put : ℕ
   pub told_taken : ℕ
@@ -43,7 +45,7 @@ IsBegun s = 1 ≤ s.depth
 
 -- nothing was put, taken or shut, and nothing was told
 abbrev pub IsBlank : LineView → Type 0
-IsBlank s = (s.sent ≡ []) × (s.got ≡ []) × (s.shut ≡ false) × (s.peer_shut ≡ false) × (s.told_put ≡ 0) × (s.told_taken ≡ 0)
+IsBlank s = (s.sent ≡ []) × (s.got ≡ []) × (s.shut ≡ false) × (s.peer_shut ≡ false) × (s.told_put ≡ 0) × (s.told_taken ≡ 0) × (s.drained ≡ false)
 
 -- the two seats of a line
 abbrev pub AreAcross : LineView → LineView → Type 0
@@ -64,16 +66,17 @@ PutsBy old new tag =
     (next_state old tag old.side ≡ None) (IsSome (next_state old tag old.side))
     (old.told_taken + old.depth ≤ length old.sent) (new.peer_shut ≡ true) ((old.peer_shut ≡ false) × (new.peer_shut ≡ false)) (counts_at old) (counts_at new) tag
 
--- a take: the message comes next after what was taken, the state moved by the contract, and it was seen at most that the peer is shut
+-- A take: the message comes next after what was taken, which a drained end can't, the state moved by the contract, and it was seen at most that the peer is shut.
+-- An end that was shut and finds nothing is drained
 abbrev pub TakesBy : LineView → LineView → Result Message Refused → Type 0
 TakesBy old new =
-    Takes (λ m. (next_state old m.tag (1 - old.side) ≡ Some new.state) × (new ≡ record old { got = old.got ++ m ∷ []; state = new.state; peer_shut = new.peer_shut })
-    × (old.peer_shut ≡ true → new.peer_shut ≡ true) × Numbered new.got)
-    (old.told_put ≤ length old.got) (new.peer_shut ≡ true) ((old.peer_shut ≡ false) × (new.peer_shut ≡ false)) (counts_at old) (counts_at new)
+    Takes (λ m. (next_state old m.tag (1 - old.side) ≡ Some new.state) × (new ≡ record old { got = old.got ++ m ∷ []; state = new.state; peer_shut = new.peer_shut; drained = new.drained })
+    × (old.peer_shut ≡ true → new.peer_shut ≡ true) × Numbered new.got × (old.drained ≡ false))
+    ((old.told_put ≤ length old.got) × (old.shut ≡ true → new.drained ≡ true)) (new.peer_shut ≡ true) ((old.peer_shut ≡ false) × (new.peer_shut ≡ false)) (counts_at old) (counts_at new)
 
--- a shut: it was seen at most that the peer is shut too
+-- a shut: it was seen at most that the peer is shut too, and it may be drained then
 abbrev pub ShutsBy : LineView → LineView → Type 0
-ShutsBy old new = (new ≡ record old { shut = true; peer_shut = new.peer_shut }) × (old.peer_shut ≡ true → new.peer_shut ≡ true)
+ShutsBy old new = (new ≡ record old { shut = true; peer_shut = new.peer_shut; drained = new.drained }) × (old.peer_shut ≡ true → new.peer_shut ≡ true) × (old.drained ≡ true → new.drained ≡ true)
 
 -- it was seen at most that the peer is shut
 abbrev pub OnlySaw : LineView → LineView → Type 0
@@ -90,6 +93,10 @@ IsLessTold s peer = (s.told_put ≤ length peer.sent) × (s.told_taken ≤ lengt
 -- what the one took is a prefix of what the other sent
 abbrev pub IsDelivered : LineView → LineView → Type 0
 IsDelivered from to = (items : List Message) × WaitsAfter from.sent to.got items
+
+-- a drained end was shut, and took all that the other sent
+abbrev pub TookAllOf : LineView → LineView → Type 0
+TookAllOf from to = to.drained ≡ true → (to.shut ≡ true) × (to.got ≡ from.sent)
 
 -- what a seat tells, and what the peer's knows then
 abbrev pub told_on_line : LineView → LineTelling

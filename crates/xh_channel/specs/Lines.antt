@@ -1,5 +1,5 @@
 -- A channel with a contract, as it is lent under its lock.
-use Rattle.std.specs.Prelude.{◌≡◌, ℕ, zero, suc, ◌+◌, ◌-◌, ◌≤◌, true, false, List, [], ◌∷◌, ◌++◌, length, map, Some, None, IsSome, Result}
+use Rattle.std.specs.Prelude.{◌≡◌, ℕ, zero, suc, ◌+◌, ◌-◌, ◌≤◌, Bool, true, false, ◌&&◌, List, [], ◌∷◌, ◌++◌, length, map, Some, None, IsSome, Result}
 use Rattle.arrayvec.specs.ArrayVec.{ArrayVec}
 use Rattle.xh_model.specs.declared.limits.TheConstants.{MAX_DEPTH, MAX_MESSAGES}
 use Rattle.xh_model.specs.declared.row.Row.{Row}
@@ -19,6 +19,14 @@ waiting end = end.waiting.items
 -- the tags of the messages on their way to this end
 abbrev pub tags : LineEnd → List ℕ
 tags end = map tag (waiting end)
+
+abbrev pub is_none : List Message → Bool
+is_none [] = true
+is_none (m ∷ ms) = false
+
+-- it was shut and nothing waits for it: nothing comes any more, since no put toward a shut end succeeds
+abbrev pub is_drained : LineEnd → Bool
+is_drained end = end.counts.shut && is_none (waiting end)
 
 -- what an end put is what its peer took and then what waits for the peer, numbered on
 abbrev pub Follows : LineEnd → LineEnd → Type 0

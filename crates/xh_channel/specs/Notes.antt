@@ -52,10 +52,12 @@ pub record ArePeers (one other : Posted) : Type 0 where
   pub line : other.line ≡ one.line
   pub contract : other.has_contract ≡ one.has_contract
 
--- what an end saw or was told of its peer is no more than the peer did, what it took is a prefix of what the peer pushed, and where it saw no shut peer it sent all that it pushed
+-- What an end saw or was told of its peer is no more than the peer did, what it took is a prefix of what the peer pushed, and where it saw no shut peer it sent all that it pushed.
+-- A drained end was shut, and took all that the peer pushed: nothing waits for it
 pub record AgreesWith (end peer : Posted) : Type 0 where
   pub told_put : end.told_put ≤ length peer.pushed
   pub told_taken : end.told_taken ≤ length peer.got
   pub told_shut : end.peer_shut ≡ true → peer.counts.shut ≡ true
   pub taken : (items : List Message) × WaitsAfter peer.pushed end.got items
   pub sent : end.peer_shut ≡ false → end.pushed ≡ end.sent
+  pub drained : end.drained ≡ true → (end.counts.shut ≡ true) × (end.got ≡ peer.pushed)

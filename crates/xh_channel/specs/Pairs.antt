@@ -15,6 +15,7 @@ pub record IsUnused (end : Posted) : Type 0 where
   pub peer_shut : end.peer_shut ≡ false
   pub told_put : end.told_put ≡ 0
   pub told_taken : end.told_taken ≡ 0
+  pub drained : end.drained ≡ false
 
 -- the sides 0 and 1 of one channel, each at the other's queues and both at one line, by the same contract in the same state, both unused
 pub record IsPair (low high : Posted) : Type 0 where

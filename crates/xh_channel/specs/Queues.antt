@@ -17,7 +17,8 @@ use Rattle.xh_channel.specs.LineSeats.{LineView, IsBegun, IsBlank, counts_at}
 use Rattle.xh_channel.specs.QueueEnds.{QueueView}
 
 -- its spot, whether its channel has a contract, the depth, its two queues and its line; the contract's rows and its state, [] and 0 without a contract.
--- Of what it did: its counts, the messages that it sent and took, and all that it pushed.
+-- Of what it did: its counts, the messages that it sent and took, all that it pushed, and whether it is drained:
+-- its channel has a contract, it was shut, and nothing waits for it, so nothing comes any more, whatever its peer does.
 -- Of its peer: whether it saw or was told that it is shut, and how many messages it was told that the peer put and took
 pub record Posted : Type 0 where
   pub channel : ℕ
@@ -34,6 +35,7 @@ pub record Posted : Type 0 where
   pub sent : List Message
   pub pushed : List Message
   pub got : List Message
+  pub drained : Bool
   pub peer_shut : Bool
   pub told_put : ℕ
   pub told_taken : ℕ
@@ -55,6 +57,7 @@ posted spot has_contract out into word put line = record {
   sent = cond has_contract line.sent (take put out.role.sent);
   pushed = cond has_contract line.sent out.role.sent;
   got = cond has_contract line.got into.role.got;
+  drained = cond has_contract line.drained false;
   peer_shut = cond has_contract line.peer_shut word.peer_shut;
   told_put = cond has_contract line.told_put into.role.told_put;
   told_taken = cond has_contract line.told_taken out.role.told_taken;
@@ -91,9 +94,9 @@ pub record IsSameEnd (old new : Posted) : Type 0 where
   pub told_put : new.told_put ≡ old.told_put
   pub told_taken : new.told_taken ≡ old.told_taken
 
--- of what it sent and got and saw, only what it sent may differ, only what it got, neither
+-- of what it sent and got and saw, only what it sent may differ, only what it got, neither; and once drained it stays so
 abbrev pub IsSameBut : List Message → List Message → Posted → Posted → Type 0
-IsSameBut sent got old new = IsSameEnd old new × (new.sent ≡ sent) × (new.got ≡ got) × (old.peer_shut ≡ true → new.peer_shut ≡ true)
+IsSameBut sent got old new = IsSameEnd old new × (new.sent ≡ sent) × (new.got ≡ got) × (old.peer_shut ≡ true → new.peer_shut ≡ true) × (old.drained ≡ true → new.drained ≡ true)
 
 -- its state stays, all that it sent, pushed and got, and what it saw
 abbrev pub KeepsItsMessages : Posted → Posted → Type 0
@@ -107,9 +110,13 @@ next_state end tag side = cond end.has_contract (allowed end.rows end.state tag 
 abbrev pub GoesBack : Posted → Posted → Message → Type 0
 GoesBack old new m = IsSameBut (old.sent ++ m ∷ []) old.got old new × (new.pushed ≡ old.pushed ++ m ∷ []) × Numbered new.sent × (next_state old m.tag old.side ≡ Some new.state)
 
+-- a message may come to an end that isn't drained; with a contract at most 2^62 - 1 do
+abbrev pub MayCome : Posted → Message → Type 0
+MayCome end m = (end.drained ≡ false) × (end.has_contract ≡ true → m.no ≤ MAX_MESSAGES)
+
 -- it comes after what was taken, which is numbered, and the contract moved the state
 abbrev pub ComesNext : Posted → Posted → Message → Type 0
-ComesNext old new m = IsSameBut old.sent (old.got ++ m ∷ []) old new × (new.pushed ≡ old.pushed) × Numbered new.got × (next_state old m.tag (1 - old.side) ≡ Some new.state)
+ComesNext old new m = IsSameBut old.sent (old.got ++ m ∷ []) old new × (new.pushed ≡ old.pushed) × Numbered new.got × (next_state old m.tag (1 - old.side) ≡ Some new.state) × MayCome old m
 
 -- it put as many messages as the depth beyond those that it was told were taken
 abbrev pub IsFullAsTold : Posted → Type 0
@@ -118,6 +125,10 @@ IsFullAsTold end = end.told_taken + end.depth ≤ end.counts.put
 -- it took as many messages as it was told were put
 abbrev pub IsEmptyAsTold : Posted → Type 0
 IsEmptyAsTold end = end.told_put ≤ end.counts.taken
+
+-- a take finds none: an end that was shut is drained then, with a contract
+abbrev pub FindsNone : Posted → Posted → Type 0
+FindsNone old new = IsEmptyAsTold old × (new.drained ≡ old.drained) × (old.has_contract ≡ true → old.counts.shut ≡ true → new.drained ≡ true)
 
 abbrev pub SawShut : Posted → Posted → Type 0
 SawShut old new = new.peer_shut ≡ true
@@ -145,10 +156,11 @@ pub record IsUnsent (old new : Posted) : Type 0 where
   pub put : suc new.counts.put ≡ old.counts.put
   pub taken : new.counts.taken ≡ old.counts.taken
   pub shut : new.counts.shut ≡ old.counts.shut
+  pub drained : new.drained ≡ old.drained
   pub sent : (before : List Message) (m : Message) → old.sent ≡ before ++ m ∷ [] → new.sent ≡ before
 
 abbrev pub TakesAs : Posted → Posted → Result Message Refused → Type 0
-TakesAs old new = Takes (ComesNext old new) (IsEmptyAsTold old) (SawShut old new) (SawOpen old new) old.counts new.counts
+TakesAs old new = Takes (ComesNext old new) (FindsNone old new) (SawShut old new) (SawOpen old new) old.counts new.counts
 
 abbrev pub ShutsAs : Posted → Posted → Type 0
 ShutsAs old new = (new.counts ≡ now_shut old.counts) × KeepsItsMessages old new

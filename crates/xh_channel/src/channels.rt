@@ -228,7 +228,8 @@ impl Channels {
 
     /// Takes the message at the front, which comes next after those that were taken; on a channel with a contract it moves this
     /// end's state. With none, PeerClosed where the peer was seen shut, and else Empty: this end has taken all that it was told
-    /// were put. An end that was shut still takes what is left.
+    /// were put. An end that was shut still takes what is left. On a channel with a contract it is drained once nothing is left: from
+    /// then on it finds none, whatever its peer does, and `compare` of both ends shows that it took all that its peer put.
     pub fn take<R: Wait>(&self, rt: &R, end: &mut Endpoint) -> Result<Message, Refused>
         ensures taken { TakesAs end.old end.new result }
         ensures kept { OnErr result (KeepsItsMessages end.old end.new) }
@@ -237,7 +238,7 @@ impl Channels {
         end.inner.take(rt)
     }
 
-    /// Shuts this end: no later put toward it succeeds.
+    /// Shuts this end: no later put toward it succeeds. Once drained an end stays so.
     pub fn shut<R: Wait>(&self, rt: &R, end: &mut Endpoint)
         ensures { ShutsAs end.old end.new }
     {

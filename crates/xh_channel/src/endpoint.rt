@@ -28,7 +28,8 @@ impl Model for Endpoint {
 
 /// Shows, of both ends of a channel, that what each took is a prefix of what the other pushed, each message once, with the numbers 1, 2, .. in order.
 /// It takes both ends and gives them back, each told of all that the other did, as by a note of the other. What an end was told before is no more
-/// than that. All that an end pushed it also sent, but for a message that met a shut peer.
+/// than that. All that an end pushed it also sent, but for a message that met a shut peer. A drained end took all that its peer pushed: nothing waits
+/// for it, and since it stays drained nothing ever will.
 pub fn compare(one: Endpoint, other: Endpoint) -> (Endpoint, Endpoint)
     requires { ArePeers one other }
     ensures told { (result.0 ≡ hearing one (told_by other)) × (result.1 ≡ hearing other (told_by one)) }

@@ -1,7 +1,7 @@
 //! An end's seat at the line of its channel.
 ghost use Rattle.std.specs.Prelude.{◌≡◌, ◌+◌, ◌<◌, ◌≤◌, true, IfOk, OnErr};
 ghost use Rattle.xh_model.specs.declared.limits.TheConstants.{MAX_DEPTH, MAX_MESSAGES};
-ghost use Rattle.xh_channel.specs.LineSeats.{AreAcross, IsBegun, IsBlank, IsDelivered, IsLessTold, OnlySaw, PutsBy, ShutsBy, TakesBy, begun, hearing_on_line, told_all, told_on_line};
+ghost use Rattle.xh_channel.specs.LineSeats.{AreAcross, IsBegun, IsBlank, IsDelivered, IsLessTold, OnlySaw, PutsBy, ShutsBy, TakesBy, TookAllOf, begun, hearing_on_line, told_all, told_on_line};
 ghost use Rattle.std.specs.Arc.{arc_value};
 ghost use Rattle.xh_channel.specs.inner.LineRule.{IsWhole, high_side, line_view, low_side};
 
@@ -102,12 +102,14 @@ fn join(low: LineSeat, high: LineSeat) -> (OwnTable, OwnTable, Token)
     (table, also, token)
 }
 
-/// Shows, of both seats of a line, that what each took is a prefix of what the other sent, and tells each all that the other did.
+/// Shows, of both seats of a line, that what each took is a prefix of what the other sent, and all of it where it is drained, and tells
+/// each all that the other did.
 pub fn compare(low: LineSeat, high: LineSeat) -> (LineSeat, LineSeat)
     requires { AreAcross low high }
     ensures told { (result.0 ≡ told_all low high) × (result.1 ≡ told_all high low) }
     ensures grows { IsLessTold low high × IsLessTold high low }
     ensures delivered { IsDelivered low high × IsDelivered high low }
+    ensures drained { TookAllOf low high × TookAllOf high low }
 {
     let (low, high, mut token) = join(low, high);
     low.shared.load::<Compares>(&mut token, 0);
@@ -167,7 +169,7 @@ impl LineSeat {
         put
     }
 
-    /// The message that comes next. Where none waits, PeerClosed if the peer is shut, else Empty.
+    /// The message that comes next. Where none waits, PeerClosed if the peer is shut, else Empty, and if it was shut itself it is drained.
     pub fn take<R: Wait>(&mut self, rt: &R) -> Result<Message, Refused>
         requires { IsBegun self.old }
         ensures taken { TakesBy self.old self.new result }

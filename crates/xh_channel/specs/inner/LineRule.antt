@@ -1,4 +1,4 @@
--- The rule of a line's table: the line at home is as the two sides' accounts say. One seat owns the account of a side, one at most holds the line, and what a seat was told is no more than the side did.
+-- The rule of a line's table: the line at home is as the two sides' accounts say, and so a drained side has taken all that the other put. One seat owns the account of a side, one at most holds the line, and what a seat was told is no more than the side did.
 use Rattle.std.specs.Prelude.{◌≡◌, ◌≢◌, ◌⊎◌, ℕ, zero, suc, ◌-◌, ◌≤◌, ◌==◌, max, true, false, ◌||◌, List, [], ◌∷◌, ◌++◌, length, take, Option, Some, None}
 use mathlib.Core.Option.{none, some}
 use mathlib.Core.Option as maybe
@@ -13,7 +13,7 @@ use Rattle.xh_channel.specs.declared.line_rule.Part.{Part}
 use Rattle.xh_channel.specs.declared.message.Message.{Message}
 use Rattle.xh_channel.specs.Ends.{no_counts}
 use Rattle.xh_channel.specs.LineSeats.{LineView, LineTelling}
-use Rattle.xh_channel.specs.Lines.{Lined, end_of, waiting}
+use Rattle.xh_channel.specs.Lines.{Lined, end_of, is_drained, waiting}
 use Rattle.xh_channel.specs.Numbers.{number}
 
 -- of side 0, or of side 1
@@ -22,7 +22,7 @@ by zero low high = low
 by (suc _) low high = high
 
 abbrev pub no_account : Account
-no_account = record { rows = []; depth = 0; state = 0; sent = []; got = []; shut = false }
+no_account = record { rows = []; depth = 0; state = 0; sent = []; got = []; shut = false; drained = false }
 
 abbrev pub counts_in : Account → Counts
 counts_in a = record { put = length a.sent; taken = length a.got; shut = a.shut }
@@ -42,6 +42,7 @@ pub record IsEndBy (line : Lined) (end : LineEnd) (own peer : Account) : Type 0 
   pub state : end.state ≡ own.state
   pub counts : end.counts ≡ counts_in own
   pub waits : IsDirection number peer.sent own.got (waiting end)
+  pub drained : is_drained end ≡ own.drained
 
 -- what lies in the slot is as the accounts of side 0 and of side 1 say
 abbrev pub Lies : Option Lined → Account → Account → Type 0
@@ -115,6 +116,7 @@ own_by v line = record {
   sent = v.peer.got ++ waiting (end_of line (1 - v.side));
   got = take (end_of line v.side).counts.taken v.peer.sent;
   shut = (end_of line v.side).counts.shut;
+  drained = is_drained (end_of line v.side);
 }
 
 -- its peer's, which put and took nothing meanwhile
@@ -134,9 +136,9 @@ settled v (x ∷ xs) = settled_by v x.1
 abbrev pub IsSettled : Part → Lined → Type 0
 IsSettled v line = LiesFor v.side (Some line) (own_by v line) (peer_by v line) × Grows v.own (own_by v line) × ((peer_by v line ≡ v.peer) ⊎ (v.both ≡ true)) × IsTold v.told v.peer
 
--- what the one side took is a beginning of what the other put
+-- what the one side took is a beginning of what the other put, and all of it where that side is drained, which was shut then
 abbrev pub IsTaken : Account → Account → Type 0
-IsTaken from to = (items : List Message) × IsDirection number from.sent to.got items
+IsTaken from to = ((items : List Message) × IsDirection number from.sent to.got items) × (to.drained ≡ true → (to.shut ≡ true) × (to.got ≡ from.sent))
 
 -- the seat has taken the line, and knows both accounts
 abbrev pub IsLocked : Me (Option Lined) Part → Me (Option Lined) Part → Type 0
@@ -195,6 +197,7 @@ line_view table v = record {
   sent = v.own.sent;
   got = v.own.got;
   shut = v.own.shut;
+  drained = v.own.drained;
   peer_shut = v.told.shut;
   told_put = v.told.put;
   told_taken = v.told.taken;

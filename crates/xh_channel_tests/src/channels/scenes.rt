@@ -3,6 +3,7 @@ ghost use Rattle.xh_channel.specs.Pairs.{IsPair};
 
 use super::answers::{Answer, Call, Ends, assert_answers};
 use super::bells::{Way, assert_deadlines, rings};
+use super::drained::assert_drained;
 use super::ends::{assert_all_blocks, assert_full_at, assert_refusals};
 use super::notes::{assert_put_heard, assert_shut_heard};
 use super::opening::{
@@ -46,6 +47,7 @@ pub(super) enum Scene {
     FreeAgain,
     GoesBack,
     Compared(&'static [Row]),
+    Drained(&'static [Row]),
     ContractGone(&'static [Row], Act),
     OwnRooms(&'static [Row]),
     Alike,
@@ -112,6 +114,10 @@ fn play_on<R: Clock + Threads + Wait + Abort + Sync>(
         Scene::FreeAgain => assert_free_again(rt, channels),
         Scene::GoesBack => play_beside(rt, alloc, channels, None),
         Scene::Compared(rows) => assert_compared(rt, channels, rows),
+        Scene::Drained(rows) => match opened(rt, channels, rows) {
+            Some(ends) => assert_drained(rt, channels, ends),
+            None => panic!(rt; "a channel is free"),
+        },
         Scene::ContractGone(rows, act) => {
             cancel_next(rt, channels, channels, rows);
             act_on_next(rt, channels, FREE, act, 0);

@@ -15,6 +15,7 @@ returns-then-not-stays_sent-clause-refused g c =
         un.sent _ _ went.0.1,
         un.got ∙ went.0.2,
         λ _. un.closed,
+        λ e. un.drained ∙ went.0.4 e,
       ),
       un.state ∙ state_stays _ _ _ _ c.requires went.3,
       inr (un.pushed ∙ (went.1 ∙ ap (λ n. c.args.self.now.pushed ++ message n c.args.tag c.args.blocks ∷ []) sent.0), un.closed),
