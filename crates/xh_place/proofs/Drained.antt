@@ -3,8 +3,14 @@ use Rattle.xh_place.proofs.Words.{on_err_weaker, ◌≡◌, ℕ, ◌≤◌, inl,
 use Rattle.xh_place.proofs.Words.{MatchResult, map-append, Message, Posted, Refused, put, value_at, front_at, put_at, put_same, put_twice, Content, bytes, endpoint, kind_of, toward, Taken, AreGot}
 use Rattle.xh_place.proofs.Words.{AreUnpacked, EndsWith, IsDrained, Shuts, Takes, TakesEach, blocks_of, record_of, EndDoes, end_block, toward_in, away_in, Clears, Drains, IsUntaken, Unpacks, IsSent}
 use Rattle.xh_place.proofs.Words.{IsTaken, Item, PlaceOf, with_blocks, with_more, IsSeen, PlaceSeen, SawWord, Stays}
+use Rattle.xh_place.proofs.Words.{true, false, ⊎_elim, ◌+◌, ◌⊎◌, arith}
+use Rattle.std.proofs.Common.{true≢false}
+use Rattle.std.proofs.lemmas.Bool.{false_from_ne_true}
+use Rattle.xh_channel.specs.declared.counts.Counts.{Counts}
+use Rattle.xh_channel.specs.declared.refused.Refused.{Refused as NoMessage}
+use Rattle.xh_model.specs.declared.limits.TheConstants.{MAX_MESSAGES}
 use Rattle.xh_place.proofs.Listing.{put_front}
-use Rattle.xh_place.proofs.Ends.{way_shut, way_taken}
+use Rattle.xh_place.proofs.Ends.{found_none, way_shut, way_taken}
 use Rattle.xh_place.proofs.Seeing.{got_both, all_got_as, unpacked_as, away_as, seen_wide, starts_same, word_wide}
 use Rattle.xh_place.proofs.Moves.{more_none, more_twice}
 use Rattle.xh_core.specs.declared.header.Kind.TheVariants as kind
@@ -25,6 +31,35 @@ one_end p q e = ap (end_in p) e
 each_more : (ms : List Message) (m : Message) (old mid new : Posted) → TakesEach ms old mid → Takes (Ok m) mid new → TakesEach (ms ++ m ∷ []) old new
 each_more [] m old mid new each one = (new, subst (λ (p : Posted). Takes (Ok m) p new) each one, refl)
 each_more (n ∷ ms) m old mid new each one = (each.0, each.1, each_more ms m each.0 mid new each.2 one)
+
+-- it stays what it was
+each_stays : (ms : List Message) (old new : Posted) → TakesEach ms old new → (new.has_contract ≡ old.has_contract) × (new.counts.shut ≡ old.counts.shut)
+each_stays [] old new each = ((λ i. (each i).has_contract), (λ i. (each i).counts.shut))
+each_stays (m ∷ ms) old new each =
+    let later = each_stays ms each.0 new each.2 in
+    (later.0 ∙ each.1.same.has_contract, later.1 ∙ ap (λ (c : Counts). c.shut) each.1.answer.1)
+
+-- no more messages come with a contract than may be numbered
+each_few : (ms : List Message) (old new : Posted) → TakesEach ms old new → old.has_contract ≡ true → 1 ≤ length ms → old.counts.taken + length ms ≤ MAX_MESSAGES
+each_few [] old new each has some = absurd (omega arith)
+each_few (m ∷ []) old new each has some = let no = each.1.answer.0 in let few = each.1.answer.2.4.1 has in omega (arith, no, few)
+each_few (m ∷ n ∷ ms) old new each has some =
+    let one = ap (λ (c : Counts). c.taken) each.1.answer.1 in
+    let more = each_few (n ∷ ms) each.0 new each.2 (each.1.same.has_contract ∙ has) (omega arith) in
+    omega (arith, one, more)
+
+each_many : (ms : List Message) (old new : Posted) → TakesEach ms old new → 18446744073709551615 ≤ length ms → new.has_contract ≡ false
+each_many ms old new each many = false_from_ne_true new.has_contract (λ has. let few = each_few ms old new each (sym (each_stays ms old new each).0 ∙ has) (omega arith) in
+    absurd (omega (arith, few, many)))
+
+ends_drained : (ms : List Message) (old shut new : Posted) → Shuts old shut → IsDrained ms shut new → old.has_contract ≡ true → new.drained ≡ true
+ends_drained ms old shut new shuts drain has =
+    let last : Posted = drain.0 in let stays = each_stays ms shut last drain.1 in
+    let still : last.has_contract ≡ true = stays.0 ∙ shuts.1.0.0.has_contract ∙ has in
+    ⊎_elim
+    (λ (none : (why : NoMessage) × Takes (Err why) last new). found_none none.0 last new none.1 still (stays.1 ∙ ap (λ (c : Counts). c.shut) shuts.0))
+    (λ (many : (18446744073709551615 ≤ length ms) × (new ≡ last) × (last.has_contract ≡ false)). absurd (true≢false (sym still ∙ many.2)))
+    drain.2
 
 each_way : (ms : List Message) (old new : Posted) → TakesEach ms old new → toward (endpoint new) ≡ toward (endpoint old)
 each_way [] old new each = ap (λ (p : Posted). toward (endpoint p)) each
@@ -119,7 +154,7 @@ module _ (saw : ℕ → ℕ → Type 0) (e : ℕ) (ms : List Message) (old mid :
       (with_blocks old (put e (end_block q) old.blocks), is.1, ms, (before, q, is.2.2, refl, (after, is.2.4, inl (t.0, one))), is.3, does.3 ∙ draining_put q)
 
   pub drained_all : 18446744073709551615 ≤ length ms → Drains saw e old mid
-  drained_all all = (is.0, is.1, ms, (before, after, is.2.2, is.2.3, (after, is.2.4, inr (all, refl))), is.3, is.4)
+  drained_all all = (is.0, is.1, ms, (before, after, is.2.2, is.2.3, (after, is.2.4, inr (all, refl, each_many ms before after is.2.4 all))), is.3, is.4)
 
 -- it was shut before
 pub cleared : (saw : ℕ → ℕ → Type 0) (r : ℕ) (old mid new : PlaceOf) → EndDoes r old mid Shuts → Drains saw r mid new → Clears saw r old new
@@ -127,6 +162,7 @@ cleared saw r old mid new shut drain =
     let p : Posted = shut.0 in let s : Posted = shut.1 in let does = drain.3 in let q : Posted = does.1 in let ms : List Message = drain.2 in
     let at : value_at r mid.blocks ≡ Some (end_block s) = ap (λ (z : PlaceOf). value_at r z.blocks) shut.3 ∙ put_at r (end_block s) (end_block p) old.blocks shut.2 in
     let one : does.0 ≡ s = one_end does.0 s (sym does.2 ∙ at) in
+    let drained' : IsDrained ms s q = subst (λ (z : Posted). IsDrained ms z q) one does.4 in
     let turned : toward_in (value_at r mid.blocks) ≡ toward (endpoint p) = ap toward_in at ∙ way_shut p s shut.4 in
     let base : drain.0 ≡ with_blocks old (put r (end_block q) old.blocks) =
     does.3 ∙ ap (λ (z : PlaceOf). with_blocks z (put r (end_block q) z.blocks)) shut.3 ∙ ap (with_blocks old) (put_twice r (end_block q) (end_block s) old.blocks) in (
@@ -135,7 +171,7 @@ cleared saw r old mid new shut drain =
       drain.1,
       shut.2,
       refl,
-      (ms, s, q, shut.4, subst (λ (z : Posted). IsDrained ms z q) one does.4, subst (λ (n : ℕ). AreUnpacked saw n ms drain.1) turned drain.4),
+      (ms, s, q, shut.4, drained', subst (λ (n : ℕ). AreUnpacked saw n ms drain.1) turned drain.4, ends_drained ms p s q shut.4 drained'),
       drain.5 ∙ (λ i. with_more (turned i) drain.1 (base i)),
     )
 

@@ -38,7 +38,8 @@ module _ {seat : Held Body} (rs : List ℕ) {room total : ℕ} {state : Status} 
   end_held = let f = found is view e end.1 in (f.lot, f.held, f.block.lot, ap (λ (x : Item). kind_of x.content) f.same ∙ end.2)
 
   -- it did what its lot did
-  pub end_did : (last : Held Body) (rel : Posted → Posted → Type 0) → ((l : LotOf Body) → value_at e seat.lots ≡ Some l → (m : LotOf Body) × LotDoes rel l m × (last ≡ with_lots seat (put e m seat.lots)))
+  pub end_did : (last : Held Body) (rel : Posted → Posted → Type 0) → ((l : LotOf Body) → value_at e seat.lots ≡ Some l → (m : LotOf Body) × LotDoes rel l m
+      × (last ≡ with_lots seat (put e m seat.lots)))
       → IsPlace last (shown last.lots rs) room total state × EndDoes e p (view_of last (shown last.lots rs) state) rel
   end_did last rel did =
       let f = found is view e end.1 in let t = did f.lot f.held in let moved = t.1 in
@@ -59,6 +60,13 @@ way_taken m old new t = way old new t.same
 pub way_shut : (old new : Posted) → Shuts old new → toward (endpoint new) ≡ toward (endpoint old)
 way_shut old new t = way old new t.1.0.0
 
+-- ---- a take that finds none drains an end that was shut, with a contract
+
+pub found_none : (why : NoMessage) (old new : Posted) → Takes (Err why) old new → old.has_contract ≡ true → old.counts.shut ≡ true → new.drained ≡ true
+found_none (none.PeerClosed back) old new t has closed = t.answer.2.2 has closed
+found_none none.Empty old new t has closed = t.answer.1.2 has closed
+found_none why old new t has closed = absurd t.answer
+
 -- ---- a take that answers Empty changes nothing
 
 same_end : (p q : Posted) → Takes (Err none.Empty) p q → q ≡ p
@@ -77,6 +85,7 @@ same_end p q t = let h = t.answer in let s = t.same in let k = t.kept in let ope
   sent = k.0.1 i;
   pushed = k.1 i;
   got = k.0.2 i;
+  drained = h.1.1 i;
   peer_shut = open_ i;
   told_put = s.told_put i;
   told_taken = s.told_taken i;
@@ -89,6 +98,7 @@ untaken_empty e old new t = go t.0 t.1 t.2 where
       ∙ ap (with_blocks old) (put_same e (end_block d.0) old.blocks d.2)
   go n d h = absurd (cc)
 
-pub empty_keeps : (e : ℕ) (old new : PlaceSeen) (result : Result Taken Refused) → MatchResult result (IsTaken e old new) (IsUntaken e old.place new.place) → IfErr result (λ u. u ≡ Empty → new.place ≡ old.place)
+pub empty_keeps : (e : ℕ) (old new : PlaceSeen) (result : Result Taken Refused) → MatchResult result (IsTaken e old new) (IsUntaken e old.place new.place)
+    → IfErr result (λ u. u ≡ Empty → new.place ≡ old.place)
 empty_keeps e old new (Ok t) is = tt
 empty_keeps e old new (Err u) is = λ h. untaken_empty e old.place new.place (subst (IsUntaken e old.place new.place) h is)

@@ -212,7 +212,8 @@ pub passed_bytes : (given more gone : List ℕ) (d r bytes n : ℕ) (l : LotOf B
     → bytes + lens given (λ q. value_at q seat.lots) ≡ lens given (λ q. value_at q old.lots) → bytes + n + lens given (λ q. value_at q last.lots) ≡ lens given (λ q. value_at q old.lots)
 passed_bytes given more gone d r bytes n l old seat last once among is at new len sum =
     let more : lens given (λ q. value_at q seat.lots) ≡ lens given (λ q. value_at q last.lots) + (item_in (value_at r seat.lots)).len =
-    lens_one given r (λ q. value_at q last.lots) (λ q. value_at q seat.lots) once among (ap (value_at r) new ∙ without_at r seat.lots) (λ q n. sym (without_other q r seat.lots n) ∙ sym (ap (value_at q) new)) in
+    lens_one given r (λ q. value_at q last.lots) (λ q. value_at q seat.lots) once among (ap (value_at r) new ∙ without_at r seat.lots) (λ q n. sym (without_other q r seat.lots n)
+    ∙ sym (ap (value_at q) new)) in
     let here : (item_in (value_at r seat.lots)).len ≡ l.len = ap (λ (o : Option (LotOf Body)). (item_in o).len) (is.2 r (inl refl) ∙ at) in omega arith
 
 -- of the given records those in `more` are still away; of the others those that came back are in the seat

@@ -97,7 +97,8 @@ total_put (x ∷ xs) r s t = λ e. grind (arith, nat_tests, total_put xs r s t)
 -- the bytes of records, of which none is held, and of which one is and wasn't
 pub lens_none : (given : List ℕ) (f : ℕ → Option (LotOf Body)) → ((r : ℕ) → Among given r → f r ≡ None) → lens given f ≡ 0
 lens_none [] f h = refl
-lens_none (r ∷ rs) f h = let a : (item_in (f r)).len ≡ 0 = ap (λ (o : Option (LotOf Body)). (item_in o).len) (h r (inl refl)) in let b : lens rs f ≡ 0 = lens_none rs f (λ q q'. h q (inr q')) in omega arith
+lens_none (r ∷ rs) f h = let a : (item_in (f r)).len ≡ 0 = ap (λ (o : Option (LotOf Body)). (item_in o).len) (h r (inl refl)) in let b : lens rs f ≡ 0 = lens_none rs f (λ q q'. h q (inr q')) in
+    omega arith
 
 pub lens_same : (given : List ℕ) (f g : ℕ → Option (LotOf Body)) → ((r : ℕ) → Among given r → f r ≡ g r) → lens given f ≡ lens given g
 lens_same [] f g h = refl

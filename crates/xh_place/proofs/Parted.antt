@@ -6,8 +6,15 @@ use Rattle.xh_place.proofs.Words.{Item, item_at, item_of, shown, total_of, IsBlo
 use Rattle.xh_model.specs.Arena.{IsGoodCut}
 use Rattle.xh_place.proofs.Listing.{put_front, shown_keys, total_put}
 use Rattle.xh_place.proofs.Gained.{fits_bytes, has}
-use Rattle.xh_place.proofs.Steps.{IsNow, changes, gains, is_now, quiet_alive}
+use Rattle.xh_place.proofs.Steps.{IsNow, changes, gains, is_now, quiet_alive, stays, turned}
 use Rattle.xh_core.specs.declared.header.Kind.TheVariants as kind
+use Rattle.std.specs.Prelude.{Bool, Err, Ok, OnErr, Option, Result, Some, cond, is_none, not}
+use Rattle.xh_core.specs.Calls.{range_tests}
+use Rattle.xh_core.specs.Refusing.{Tested}
+use Rattle.xh_core.specs.declared.header.Header.{Header}
+use Rattle.xh_core.specs.declared.refused.Refused.{Refused}
+use Rattle.xh_core.specs.declared.refused.Refused.TheVariants.{Ended, NotOwned}
+use Rattle.xh_place.specs.Places.{header_of}
 
 still_fresh : {X : Type 0} (r t : ℕ) (y : X) (xs : List (ℕ × X)) → (Among (keys xs) t → ⊥) → Among (keys (put r y xs)) t → ⊥
 still_fresh r t y xs fresh a = fresh (subst (λ (ks : List ℕ). Among ks t) (put_keys r y xs) a)
@@ -109,6 +116,20 @@ pub runs : (s : Status) (tests : Tests) → first_refusal (start s ++ tests) ≡
 runs Running tests e = refl
 runs s tests e = absurd (cc)
 
+weaker : {A : Type 0} {P Q : A → Type 0} (ts us : Tests) (result : Result A Refused) → first_refusal us ≡ first_refusal ts → Tested ts result P → ((a : A) → P a → Q a) → Tested us result Q
+weaker ts us (Ok a) e (fine, is) gives = (e ∙ fine, gives a is)
+weaker ts us (Err refused) e is gives = e ∙ is
+
+-- a call on bytes of a block of the list is refused as the block's own tests say
+pub tested_range : {A : Type 0} (s : Status) (found : Option Header) (x : Item) (at n : ℕ) (result : Result A Refused) {y : Item} {P Q : A → Type 0}
+    → first_refusal (start s ++ (is_none found, NotOwned) ∷ []) ≡ None → found ≡ Some (header_of x) → y ≡ x → Tested (range_tests (Some (header_of y)) at n) result P
+    → ((a : A) → P a → Q a) → Tested (start s ++ range_tests found at n) result Q
+tested_range s found x at n result {y} fine is same tests gives =
+    let e : first_refusal (start s ++ range_tests found at n) ≡ first_refusal (range_tests (Some (header_of y)) at n)
+    = ap (λ (b : Bool). cond (not b) (Some Ended) (first_refusal (range_tests found at n))) (runs s ((is_none found, NotOwned) ∷ []) fine)
+    ∙ ap (λ (o : Option Header). first_refusal (range_tests o at n)) (is ∙ ap (λ (z : Item). Some (header_of z)) (sym same)) in
+    weaker (range_tests (Some (header_of y)) at n) (start s ++ range_tests found at n) result e tests gives
+
 -- ---- a block in which some bytes were overwritten
 
 patch_long : (at : ℕ) (ys xs : List ℕ) → at + length ys ≤ length xs → length (take at xs ++ (ys ++ drop (at + length ys) xs)) ≡ length xs
@@ -119,7 +140,7 @@ patch_long at ys xs fits =
     let d : length (take at xs ++ (ys ++ drop (at + length ys) xs)) ≡ length (take at xs) + length (ys ++ drop (at + length ys) xs) = length-append (take at xs) (ys ++ drop (at + length ys) xs) in
     omega arith
 
-pub is_patched : {s : Shape} {r : ℕ} (at : ℕ) (ys : List ℕ) {l m : LotOf Body} {x : Item} → IsBlock s r l → item_of l ≡ x → kind_of x.content ≡ kind.Data → at + length ys ≤ x.len
+is_patched : {s : Shape} {r : ℕ} (at : ℕ) (ys : List ℕ) {l m : LotOf Body} {x : Item} → IsBlock s r l → item_of l ≡ x → kind_of x.content ≡ kind.Data → at + length ys ≤ x.len
     → m ≡ record l { body = m.body } → content_of m.body ≡ patched at ys (content_of l.body)
     → IsBlock s r m × (m.len ≡ l.len) × (item_of m ≡ record x { content = patched at ys x.content })
 is_patched {s} {r} at ys {l} {m} {x} block same data_kind fits lot content =
@@ -138,3 +159,18 @@ is_patched {s} {r} at ys {l} {m} {x} block same data_kind fits lot content =
       len,
       (λ i. record { len = (len ∙ x_len) i; content = (content ∙ ap (λ (z : Item). patched at ys z.content) same) i }),
     )
+
+-- what a write leaves: the bytes stand in the block, or the seat is as it was
+pub overwritten : {seat : Held Body} (last : Held Body) (rs : List ℕ) {room total : ℕ} {state : Status} {r : ℕ} {l : LotOf Body} {x : Item} {A : Type 0} (at : ℕ) (ys : List ℕ)
+    (result : Result A Refused) → IsPlace seat (shown seat.lots rs) room total state → value_at r seat.lots ≡ Some l → IsBlock seat.shape r l → item_of l ≡ x
+    → Tested (range_tests (Some (header_of (item_of l))) at (length ys)) result (λ _. IsData l × (at + length ys ≤ l.len)
+    × ((m : LotOf Body) × (m ≡ record l { body = m.body }) × (content_of m.body ≡ patched at ys (content_of l.body)) × (last ≡ with_lots seat (put r m seat.lots))))
+    → OnErr result (last ≡ seat)
+    → (f : List (ℕ × Item) → List (ℕ × Item)) × IsNow seat rs state last rs room total f
+    × Tested (range_tests (Some (header_of (item_of l))) at (length ys)) result (λ _. f ≡ put r (record x { content = patched at ys x.content }))
+    × OnErr result (f ≡ (λ (es : List (ℕ × Item)). es)) × (last.front ≡ seat.front)
+overwritten {seat} last rs {room} {total} {state} {r} {l} {x} at ys (Ok a) is held block same (fine, (kinds, fits, (m, lot, content, new))) none =
+    let p = is_patched at ys block same (ap (λ (z : Item). kind_of z.content) (sym same) ∙ kinds.0) (subst (λ (z : Item). at + length ys ≤ z.len) same fits) lot content in
+    (put r (item_of m), turned rs is last held (ap bare new) p.0 p.1, (fine, ap (put r) p.2), none, ap (λ (s : Held Body). s.front) new)
+overwritten {seat} last rs {room} {total} {state} {r} {l} {x} at ys (Err refused) is held block same tests unmoved =
+    ((λ (es : List (ℕ × Item)). es), stays rs is last (ap bare unmoved), tests, refl, ap (λ (s : Held Body). s.front) unmoved)

@@ -69,7 +69,7 @@ module _ (P Q : ℕ → ℕ → Type 0) (f : (r word : ℕ) → P r word → Q r
 
   pub ends_as : (c : Content) (came : List (ℕ × Item)) → EndsWith P c came → EndsWith Q c came
   ends_as (bytes xs) came h = h
-  ends_as (endpoint e) came h = (h.0, h.1, h.2, h.3, h.4, unpacked_as (toward (endpoint e)) h.0 came h.5)
+  ends_as (endpoint e) came h = (h.0, h.1, h.2, h.3, h.4, unpacked_as (toward (endpoint e)) h.0 came h.5, h.6)
 
   ended_as : (p : ℕ) (gone accepted : List (ℕ × Item)) (log : List Event) → AreEnded P p gone accepted log → AreEnded Q p gone accepted log
   ended_as p [] accepted log h = h

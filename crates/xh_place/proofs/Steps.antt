@@ -118,7 +118,8 @@ module _ {seat : Held Body} {xs : List (ℕ × Item)} {room total : ℕ} {state 
   has_room : (r : ℕ) → IsRecord seat.shape r → (Among (keys seat.lots) r → ⊥) → length xs < room
   has_room r exists fresh =
       let most : length (r ∷ keys xs) ≤ length seat.shape.names * seat.shape.records =
-      few_records seat.shape (r ∷ keys xs) (λ q a. ⊎_elim (λ e. subst (IsRecord seat.shape) (sym e) exists) (listed_record q) a) (not_listed r fresh, is.distinct) in omega (arith, most, length-keys xs, is.room.0)
+      few_records seat.shape (r ∷ keys xs) (λ q a. ⊎_elim (λ e. subst (IsRecord seat.shape) (sym e) exists) (listed_record q) a) (not_listed r fresh, is.distinct) in
+      omega (arith, most, length-keys xs, is.room.0)
 
   sums : (ys : List (ℕ × Item)) → ((r : ℕ) (s : Item) → value_at r ys ≡ Some s → s.len ≤ 1048576) → Distinct (keys ys) → total_of ys ≤ length ys * 1048576
   sums [] h d = omega arith
@@ -325,6 +326,7 @@ pub moved_last : {seat : Held Body} (rs : List ℕ) {room total : ℕ} {state : 
 moved_last {seat} rs {room} {total} {state} is r {x} at {ys} {room'} items same =
     let xs : List (ℕ × Item) = shown seat.lots rs in
     let ends : without r xs ++ (r, x) ∷ [] ≡ last r xs = ap (λ (o : Option Item). without r xs ++ alone r o) (sym at) in
-    let numbers : keys (without r xs ++ (r, x) ∷ []) ≡ less r rs ++ r ∷ [] = keys_push (without r xs) (r, x) ∙ ap (λ (l : List ℕ). l ++ r ∷ []) (keys_without r xs ∙ ap (less r) (shown_keys seat.lots rs)) in
+    let numbers : keys (without r xs ++ (r, x) ∷ []) ≡ less r rs ++ r ∷ [] = keys_push (without r xs) (r, x)
+    ∙ ap (λ (l : List ℕ). l ++ r ∷ []) (keys_without r xs ∙ ap (less r) (shown_keys seat.lots rs)) in
     is_now seat rs state seat seat.lots ys room total room' total (last r) refl
     (subst (λ (l : List (ℕ × Item)). IsPlace seat l room total state) ends (moved is (alive_if is r at) r at)) (items ∙ sym numbers ∙ ap keys ends) same refl

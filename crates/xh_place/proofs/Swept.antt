@@ -88,7 +88,12 @@ turned saw none d r n old mid swept new told now quiet woken came left last =
     let then : new ≡ record swept { state = state } = last ∙ ap (λ (k : ℕ). record swept { state = ending_again old.state k }) all in
     ⊎_elim
     (λ h. let same : swept ≡ record old { state = Ending } = h.0 ∙ woken in
-    inl (then ∙ ap (λ (p : PlaceOf). record p { state = ending_again old.state (length p.blocks) }) same ∙ ap (λ (s : Status). record old { state = s }) (again_same old.state old.blocks quiet), h.1, h.2))
+    inl (
+      then ∙ ap (λ (p : PlaceOf). record p { state = ending_again old.state (length p.blocks) }) same
+          ∙ ap (λ (s : Status). record old { state = s }) (again_same old.state old.blocks quiet),
+      h.1,
+      h.2,
+    ))
     (λ h. let late = h.1 in
     let awoken : PlaceOf = record old { state = Ending } in
     let begun : IsSwept saw (length old.blocks) MAX_BUDGET (with_more d ((r, late.0) ∷ []) awoken) swept h.0 late.1 =

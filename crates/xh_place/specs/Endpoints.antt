@@ -1,5 +1,5 @@
 -- What an endpoint of a place does, by what its channel's contracts see of it before and after.
-use Rattle.std.specs.Prelude.{◌≡◌, ◌≢◌, ◌⊎◌, ℕ, suc, ◌+◌, ◌*◌, ◌≤◌, List, [], ◌∷◌, ◌++◌, length, map, Result, Ok, Err, OnErr}
+use Rattle.std.specs.Prelude.{◌≡◌, ◌≢◌, ◌⊎◌, ℕ, suc, ◌+◌, ◌*◌, ◌≤◌, true, false, List, [], ◌∷◌, ◌++◌, length, map, Result, Ok, Err, OnErr}
 use Rattle.arrayvec.specs.ArrayVec.{ArrayVec}
 use Rattle.xh_channel.specs.declared.message.Message.{Message}
 use Rattle.xh_channel.specs.declared.refused.Refused.{Refused}
@@ -32,10 +32,10 @@ abbrev pub TakesEach : List Message → Posted → Posted → Type 0
 TakesEach [] old new = new ≡ old
 TakesEach (m ∷ ms) old new = (mid : Posted) × Takes (Ok m) old mid × TakesEach ms mid new
 
--- it takes these, and then a take finds none; or there are 2^64 - 1 of them
+-- it takes these, and then a take finds none; or there are 2^64 - 1 of them, which isn't so on a channel with a contract
 abbrev pub IsDrained : List Message → Posted → Posted → Type 0
 IsDrained ms old new = (last : Posted) × TakesEach ms old last
-    × (((none : Refused) × Takes (Err none) last new) ⊎ ((18446744073709551615 ≤ length ms) × (new ≡ last)))
+    × (((none : Refused) × Takes (Err none) last new) ⊎ ((18446744073709551615 ≤ length ms) × (new ≡ last) × (last.has_contract ≡ false)))
 
 -- ---- the blocks of messages
 
@@ -65,7 +65,9 @@ module _ (saw : ℕ → ℕ → Type 0) where
   abbrev pub AreUnpacked : ℕ → List Message → List (ℕ × Item) → Type 0
   AreUnpacked d ms came = (gots : List Got) × (map record_of gots ≡ blocks_of ms) × AreGot d came gots
 
-  -- bytes, with which nothing came, or an endpoint that was shut and then drained, and the blocks of its messages came
+  -- Bytes, with which nothing came, or an endpoint that was shut and then took all that it found, and the blocks of its messages came.
+  -- With a contract it is drained then: it took all that its peer ever puts, and nothing waits for it from then on
   abbrev pub EndsWith : Content → List (ℕ × Item) → Type 0
   EndsWith (bytes xs) came = came ≡ []
   EndsWith (endpoint e) came = (ms : List Message) × (shut : Posted) × (last : Posted) × Shuts e shut × IsDrained ms shut last × AreUnpacked (toward (endpoint e)) ms came
+      × (e.has_contract ≡ true → last.drained ≡ true)

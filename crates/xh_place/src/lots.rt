@@ -200,6 +200,21 @@ pub(crate) fn holds(records: &Records<Body>, seat: &mut Seat<Body>, r: u16) -> b
     records.owner_word(seat, r) == OwnerWord::Owned(seat.process()).encode()
 }
 
+// The length and kind of a lot's block.
+#[inline(always)]
+pub(crate) fn header_of(lot: &Lot<Body>) -> Header
+    requires { IsFull fits_in lot.now }
+    ensures { result ≡ header_of (item_of lot.now) }
+{
+    let len = lot.len();
+    let kind = match lot.body() {
+        Body::Data(_) => Kind::Data,
+        Body::End(_) => Kind::End,
+        Body::Nothing => unreachable!(),
+    };
+    Header { len, kind }
+}
+
 // The length and kind of the record's block.
 #[tactic(auto, using(xh_model::proofs::Keyed::put_same))]
 pub(crate) fn look(records: &Records<Body>, seat: &mut Seat<Body>, r: u16) -> Header
@@ -215,15 +230,7 @@ pub(crate) fn look(records: &Records<Body>, seat: &mut Seat<Body>, r: u16) -> He
             requires { IsFull fits_in lot.old }
             ensures lot { lot.new ≡ lot.old }
             ensures seen { result ≡ header_of (item_of lot.old) }
-        {
-            let len = lot.len();
-            let kind = match lot.body() {
-                Body::Data(_) => Kind::Data,
-                Body::End(_) => Kind::End,
-                Body::Nothing => unreachable!(),
-            };
-            Header { len, kind }
-        },
+        { header_of(lot) },
     )
 }
 

@@ -1,6 +1,7 @@
 //! Data blocks of a place.
-ghost use Rattle.std.specs.Prelude.{◌≡◌, ℕ, ◌+◌, ◌/◌, ◌%◌, ◌<◌, ◌≤◌, ◌∷◌, ◌++◌, length, Some, Err, IfErr, OnErr, OnOk, MatchOption};
-ghost use Rattle.xh_core.specs.Calls.{alloc_tests, data_tests, range_tests, split_tests};
+ghost use Rattle.std.specs.Prelude.{◌≡◌, ℕ, ◌+◌, ◌/◌, ◌%◌, ◌<◌, ◌≤◌, ◌∷◌, [], ◌++◌, is_none, length, Some, Err, IfErr, OnErr, OnOk, MatchOption};
+ghost use Rattle.xh_core.specs.Calls.{alloc_tests, data_tests, split_tests};
+ghost use Rattle.xh_core.specs.declared.refused.Refused.TheVariants.{NotOwned};
 ghost use Rattle.xh_core.specs.Refusing.{Tested, first_refusal};
 ghost use Rattle.xh_model.specs.Arena.{IsGoodCut};
 ghost use Rattle.xh_model.specs.Keyed.{Distinct, keys, value_at, without};
@@ -97,6 +98,20 @@ impl Place {
         len
     }
 
+    // The tests of a call on a block.
+    #[inline(always)]
+    fn test_block(&mut self, records: &Records<Body>, r: u16) -> Result<(), Refused>
+        requires own { IsPlaceOf records.now self.old.place }
+        ensures same { Stays self.old self.new }
+        ensures tested { Tested (start self.old.place.state ++ (is_none (found self.old.place r), NotOwned) ∷ []) result (λ _. (x : Item) × (value_at r self.old.place.blocks ≡ Some x)) }
+    {
+        check_start(self.state())?;
+        if !self.has(records, r) {
+            return Err(Refused::NotOwned);
+        }
+        Ok(())
+    }
+
     // The tests of a call on a data block.
     #[inline(always)]
     fn test_data(&mut self, records: &Records<Body>, r: u16) -> Result<Header, Refused>
@@ -129,27 +144,6 @@ impl Place {
     {
         self.test_data(desk.records, r)?;
         Ok(self.give_up(desk, r))
-    }
-
-    // The tests of a call on `count` bytes of a data block from `at` on.
-    fn test_range(
-        &mut self,
-        records: &Records<Body>,
-        r: u16,
-        at: u32,
-        count: usize,
-    ) -> Result<(), Refused>
-        requires own { IsPlaceOf records.now self.old.place }
-        ensures same { Stays self.old self.new }
-        ensures tested { Tested (start self.old.place.state ++ range_tests (found self.old.place r) at count) result
-            (λ _. (x : Item) × (value_at r self.old.place.blocks ≡ Some x) × (kind_of x.content ≡ kind.Data) × (at + count ≤ x.len)) }
-    {
-        let header = self.test_data(records, r)?;
-        let len = header.len as usize;
-        if count > len || at as usize > len - count {
-            return Err(Refused::BadRange);
-        }
-        Ok(())
     }
 
     /// Cuts a data block after its first `k` bytes, a multiple of 16: the head, which keeps its record and
@@ -203,9 +197,8 @@ impl Place {
         requires { IsPlaceOf records.now self.old.place }
         ensures { Reads r at self.old self.new out.old out.new result }
     {
-        self.test_range(records, r, at, out.len())?;
-        read_lot(records, &mut self.seat, r, at as usize, out);
-        Ok(())
+        self.test_block(records, r)?;
+        read_lot(records, &mut self.seat, r, at, out)
     }
 
     /// These bytes stand in a data block in the place of as many from `at` on. Ended, NotOwned, NotData, and
@@ -220,8 +213,7 @@ impl Place {
         requires { IsPlaceOf records.now self.old.place }
         ensures { Writes r at bytes.now self.old self.new result }
     {
-        self.test_range(records, r, at, bytes.len())?;
-        write_lot(records, &mut self.seat, r, at as usize, bytes);
-        Ok(())
+        self.test_block(records, r)?;
+        write_lot(records, &mut self.seat, r, at, bytes)
     }
 }

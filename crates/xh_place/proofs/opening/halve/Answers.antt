@@ -12,7 +12,8 @@ with_two-requires-clause-held g c =
     let tally : (get_or ts c.from.result c.index-desk-from.result).id ≡ l.id = tally_is ts c.from.result c.index-desk-from.result c.requires.at.1.1 c.from.ensures h.first.1.0 h.first.2.1 in
     let held : (x y : LotOf Body) × (value_at c.args.pair.0 c.args.seat.now.lots ≡ Some x) × (value_at c.args.pair.1 c.args.seat.now.lots ≡ Some y)
     × IsLotOf c.args.seat.now.shape c.args.pair.0 x × IsLotOf c.args.seat.now.shape c.args.pair.1 y × (slice_get (g.V.Vaults.names c.args.desk.now.vaults.now) (c.args.pair.0 / 256) ≡ Some x.id)
-    × (y.id ≡ x.id) × ((get_or ts c.from.result c.index-desk-from.result).id ≡ x.id) × (x.len ≡ 0) × (y.len ≡ 0) = (l, m, h.first.0, h.second.0, h.first.2, h.second.2, vault, h.near, tally, h.empty.0, h.empty.1) in
+    × (y.id ≡ x.id) × ((get_or ts c.from.result c.index-desk-from.result).id ≡ x.id) × (x.len ≡ 0)
+    × (y.len ≡ 0) = (l, m, h.first.0, h.second.0, h.first.2, h.second.2, vault, h.near, tally, h.empty.0, h.empty.1) in
     search rules
 
 pub returns : goal.returns
@@ -27,11 +28,12 @@ returns g c =
       same = search rules;
       halved = search rules;
       taken = on_ok_weaker c.with_two.result (λ e. took_set ts i 64 d t inside e ∙ ap (λ a. took a 64 ts) c.from.ensures) done;
-      refused = on_err_weaker c.with_two.result (λ f. let e = f l m h.first.0 h.second.0 in let first : c.with_two.new.f.3.now ≡ c.args.first.now = e.2 in let second : c.with_two.new.f.4.now ≡ c.args.second.now = e.3 in (
-        e.0 ∙ ap (with_lots c.args.seat.now) (ap (put c.args.pair.1 m) (put_same c.args.pair.0 l lots h.first.0) ∙ put_same c.args.pair.1 m lots h.second.0),
-        ap (set ts i) e.1 ∙ set-get_or ts i d,
-        search rules,
-        search rules,
-      )) undone;
+      refused = on_err_weaker c.with_two.result (λ f. let e = f l m h.first.0 h.second.0 in let first : c.with_two.new.f.3.now ≡ c.args.first.now = e.2 in
+          let second : c.with_two.new.f.4.now ≡ c.args.second.now = e.3 in (
+            e.0 ∙ ap (with_lots c.args.seat.now) (ap (put c.args.pair.1 m) (put_same c.args.pair.0 l lots h.first.0) ∙ put_same c.args.pair.1 m lots h.second.0),
+            ap (set ts i) e.1 ∙ set-get_or ts i d,
+            search rules,
+            search rules,
+          )) undone;
       why = search rules;
     }

@@ -4,7 +4,8 @@ use Rattle.xh_place.proofs.place.Place.at.Goals as goal
 
 pub index-requires : goal.index-requires
 index-requires c =
-    let len : length c.args.self.now.place.blocks ≡ length c.self.inside.list.items = sym (ap (λ p. length p.blocks) (placed c.self.view_is)) ∙ shown_long c.self.inside.seat.lots c.self.inside.list.items in
+    let len : length c.args.self.now.place.blocks ≡ length c.self.inside.list.items = sym (ap (λ p. length p.blocks) (placed c.self.view_is))
+    ∙ shown_long c.self.inside.seat.lots c.self.inside.list.items in
     let inside : c.args.k < length c.self.inside.list.items = subst (λ n. c.args.k < n) len c.requires in search rules
 
 pub returns : goal.returns

@@ -24,7 +24,8 @@ invariant_of-self c =
 
 pub returns : goal.returns
 returns c =
-    let q = end_listed (value_at c.args.r c.args.self.now.place.blocks) c.requires.end in let f = found c.self.invariant (placed c.self.view_is) c.args.r q.1 in let gone : Event = Pass c.self.inside.seat.process c.args.r c.args.direction in
+    let q = end_listed (value_at c.args.r c.args.self.now.place.blocks) c.requires.end in let f = found c.self.invariant (placed c.self.view_is) c.args.r q.1 in
+    let gone : Event = Pass c.self.inside.seat.process c.args.r c.args.direction in
     let old = c.args.self.now.place in
     let both = lost c.self.inside.list.items (heard (gone ∷ []) c.self.invariant) c.pass_block-len.new.seat c.args.r f.entry c.pass_block-len.ensures.passed
     c.remove.ensures.items c.remove.ensures.room (c.from.ensures ∙ c.pass_block-len.ensures.bytes f.lot f.held ∙ ap (λ z. z.len) f.same) in (

@@ -22,7 +22,8 @@ push_reserved-requires g c =
 pub invariant_of-self-2 : goal.invariant_of-self-2
 invariant_of-self-2 g c =
     let v = placed c.self.view_is ∙ c.in_ok-len.ensures.same.0 in let f = found c.self.invariant v c.args.r c.in_ok-len.ensures.tested.1.1 in let cut = c.in_ok-rec.ensures.cut f.lot f.held in
-    let alive = over_running c.self.inside.state (ap (λ p. is_running p.state) v ∙ runs c.args.self.now.place.state (split_tests (found_at c.args.self.now.place c.args.r) c.args.k) c.in_ok-len.ensures.tested.0) in
+    let alive = over_running c.self.inside.state (ap (λ p. is_running p.state) v
+    ∙ runs c.args.self.now.place.state (split_tests (found_at c.args.self.now.place c.args.r) c.args.k) c.in_ok-len.ensures.tested.0) in
     (parted c.cut_block.new.seat c.self.inside.list.items alive c.self.invariant f.held cut.4 cut.5 cut.2 cut.3 cut.7 c.push_reserved.ensures.items c.push_reserved.ensures.capacity).0
 
 pub returns-clause-cut : goal.returns-clause-cut
