@@ -6,121 +6,44 @@ ghost use Rattle.xh_place.specs.Tallies.{ids_of};
 ghost use Rattle.xh_place_tests.specs.Making.{AreMade};
 ghost use Rattle.xh_records.specs.Seats.{IsSeatOf};
 
-// What a call of a place works on that moves no bytes of an account.
-macro_rules! desk {
-    ($own:expr, $rt:expr, $vaults:expr, $gate:expr) => {
-        Desk {
-            rt: $rt,
-            records: &$own.records,
-            channels: &$own.channels,
-            vaults: $vaults,
-            tallies: &mut [],
-            gate: $gate,
-        }
-    };
-}
-
 mod answers;
 mod calls;
 mod ends;
-mod flat;
 mod growths;
 mod many;
 mod notes;
 mod pair;
 mod pairs;
 mod points;
+mod scenes;
 mod threads;
 mod vaults;
 mod without_memory;
 
+use notes::Notes;
 use std::alloc::Global;
 use std::collections::LinkedList;
 use vaults::Plain;
 use xh_arena::{Lot, Name, Tally, Vault};
 use xh_channel::Channels;
-use xh_core::{Block, Refused};
-use xh_place::{Body, Desk, OpenGate, Place};
+use xh_core::Refused;
+use xh_place::{Body, Place};
 use xh_records::{Records, Seat};
 
-/// All arenas and one account, all channels, and two places, of which the first runs.
+/// All arenas and one account, all channels, and two places, of which the first runs, with the notes of where their calls stop.
 #[derive(Drop)]
 struct Bench {
     records: Records<Body>,
     vaults: Plain,
     tallies: Vec<Tally>,
     channels: Channels,
+    notes: Notes,
     first: Place,
     second: Place,
     ghost own: { IsPlaceOf records first.place × IsPlaceOf records second.place },
     ghost names: { map (λ v. v.id) vaults.vaults.items ≡ records.shape.names },
     ghost ids: { ids_of tallies.items ≡ records.shape.names },
     ghost vacant: { second.place.state ≡ Vacant },
-}
-
-/// Calls of the first place.
-impl Bench {
-    fn alloc(&mut self, alloc: Global, n: u32, arena: u32) -> Result<Block, Refused> {
-        flat::alloc(
-            alloc,
-            &mut self.first,
-            &self.records,
-            &self.channels,
-            &mut self.vaults,
-            self.tallies.as_mut_slice(),
-            &OpenGate,
-            n,
-            arena,
-        )
-    }
-
-    fn split(&mut self, alloc: Global, r: u16, k: u32) -> Result<(Block, Block), Refused> {
-        let mut desk = desk!(self, &(), &mut self.vaults, &OpenGate);
-        self.first.split(alloc, &mut desk, r, k)
-    }
-
-    fn free(&mut self, r: u16) -> Result<u32, Refused> {
-        flat::free(
-            &mut self.first,
-            &self.records,
-            &self.channels,
-            &mut self.vaults,
-            self.tallies.as_mut_slice(),
-            &OpenGate,
-            r,
-        )
-    }
-
-    fn read(&mut self, r: u16, at: u32, out: &mut [u8]) -> Result<(), Refused> {
-        self.first.read(&self.records, r, at, out)
-    }
-
-    fn write(&mut self, r: u16, at: u32, bytes: &[u8]) -> Result<(), Refused> {
-        self.first.write(&self.records, r, at, bytes)
-    }
-
-    /// How many bytes were carved with the account, and given back.
-    fn account(&self) -> Option<(u64, u64)> {
-        let tally = self.tallies.first()?;
-        Some((tally.taken(), tally.back()))
-    }
-
-    /// The vault's first hole, the bytes that it has handed out, and its wear.
-    fn gauges(&self) -> (Option<(u32, u32)>, u32, u64) {
-        match self.vaults.vaults.first() {
-            Some(vault) => (
-                vault.holes().first().copied(),
-                vault.handed_out(),
-                vault.wear(),
-            ),
-            None => (None, 0, 0),
-        }
-    }
-
-    /// How many blocks the place has, and their bytes.
-    fn size(&self) -> (usize, u64) {
-        (self.first.blocks().len(), self.first.total())
-    }
 }
 
 /// How large a bench is: its arenas, and of each the bytes, the records and how many bytes it may hand out.
@@ -249,6 +172,7 @@ fn place_on(alloc: Global, records: &Records<Body>, seat: Seat<Body>, room: u16)
 
 /// The bench of new arenas, unless a growth was refused.
 fn make_bench(alloc: Global, measures: Measures, depth: u8) -> Option<Bench> {
+    let channels = Channels::new(alloc, depth).ok()?;
     let Ok(parts) = make_parts(alloc, measures) else {
         return None;
     };
@@ -265,13 +189,13 @@ fn make_bench(alloc: Global, measures: Measures, depth: u8) -> Option<Bench> {
     let (Some(mut first), Some(second)) = (first, second) else {
         return None;
     };
-    let channels = Channels::new(alloc, depth).ok()?;
     first.start(&records);
     Some(Bench {
         records,
         vaults,
         tallies,
         channels,
+        notes: Notes::new(),
         first,
         second,
     })

@@ -2,6 +2,7 @@
 ghost use Rattle.std.specs.Prelude.{◌≡◌, ◌<◌, ◌≤◌, [], ◌∷◌, length, slice_get, Some, IfSome, IfOk};
 ghost use Rattle.xh_model.specs.declared.limits.TheConstants.{MAX_RECORDS};
 ghost use Rattle.xh_records.specs.Seats.{IsSeatOf};
+ghost use Rattle.xh_records_tests.specs.Benches.{IsNewBench};
 
 mod pairs;
 mod rounds;
@@ -9,6 +10,7 @@ mod threads;
 
 use std::alloc::Global;
 use std::collections::LinkedList;
+use std::fmt::Debug;
 use std::process::Abort;
 use xh_arena::{Fits, Lot, Tally, Vault};
 use xh_records::{OwnerWord, Records, Refused, Seat};
@@ -35,12 +37,8 @@ struct Bench {
     records: Records<Any>,
     first: Seat<Any>,
     second: Seat<Any>,
-    ghost own: { IsSeatOf records first × IsSeatOf records second },
-    ghost bare: { (first.lots ≡ []) × (second.lots ≡ []) },
-    ghost numbers: { (first.process ≡ 0) × (second.process ≡ 1) },
-    ghost names: { records.shape.names ≡ vault.id ∷ [] },
+    ghost new: { IsNewBench records first second vault tally },
     ghost places: { records.shape.places ≡ 2 },
-    ghost tally_of: { tally.id ≡ vault.id },
 }
 
 /// The first of the items.
@@ -101,19 +99,40 @@ fn close_both(
     records.close(alloc, seats)
 }
 
-/// These are the words of a table that was taken apart, and the lengths of its lots.
-fn assert_left(rt: &impl Abort, words: &[u64], lots: &[Lot<Any>], expected: &[(u64, u32)]) {
-    assert_eq!(rt; (words.len(), lots.len()), (expected.len(), expected.len()));
+/// They are the same.
+fn assert_same<T: PartialEq + Debug + Drop>(rt: &impl Abort, found: T, expected: T) {
+    assert_eq!(rt; found, expected);
+}
+
+/// These are the words, and the lengths of the lots.
+fn assert_lots(rt: &impl Abort, words: &[u64], lots: &[Lot<Any>], expected: &[(u64, u32)]) {
+    assert_same(
+        rt,
+        (words.len(), lots.len()),
+        (expected.len(), expected.len()),
+    );
     for (at, (word, len)) in expected.iter().enumerate() {
         let found = match lots.get(at) {
             Some(lot) => Some(lot.len()),
             None => None,
         };
-        assert_eq!(rt;
-            (words.get(at).copied(), found),
-            (Some(*word), Some(*len)),
-            "record {at}"
-        );
+        let left = (at, words.get(at).copied(), found);
+        assert_same(rt, left, (at, Some(*word), Some(*len)));
+    }
+}
+
+/// Unless a growth was refused, these are the words of a table that was taken apart, and the lengths of its lots.
+fn assert_left(
+    rt: &impl Abort,
+    closed: Result<(Vec<u64>, Vec<Lot<Any>>), Refused>,
+    expected: &[(u64, u32)],
+) -> Result<(), Refused> {
+    match closed {
+        Ok((words, lots)) => {
+            assert_lots(rt, &words, &lots, expected);
+            Ok(())
+        }
+        Err(refused) => Err(refused),
     }
 }
 
@@ -128,10 +147,10 @@ fn words_say_what_they_are(rt: HostRuntime) {
         (22, OwnerWord::InFlight(5)),
         (510, OwnerWord::InFlight(127)),
     ] {
-        assert_eq!(rt; owner.encode(), word);
-        assert_eq!(rt; OwnerWord::decode(word), Some(owner));
+        assert_same(&rt, owner.encode(), word);
+        assert_same(&rt, OwnerWord::decode(word), Some(owner));
     }
     for word in [3, 4, 7, 16_385, 514] {
-        assert_eq!(rt; OwnerWord::decode(word), None);
+        assert_same(&rt, OwnerWord::decode(word), None);
     }
 }

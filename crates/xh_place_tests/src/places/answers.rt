@@ -1,8 +1,10 @@
 // Calls of two places by one thread, and what they answer, to be compared.
-use super::Measures;
 use super::many::{fill, goes_round, open_all};
-use super::pair::{Pair, make_pair};
+use super::pair::Pair;
+use super::scenes::{Scene, play};
+use super::{Measures, make_bench};
 use std::alloc::Global;
+use std::fmt::Debug;
 use std::process::Abort;
 use std::sync::Wait;
 use xh_core::{Block, Refused, Status};
@@ -79,21 +81,21 @@ fn of_refused(refused: Refused) -> Answer {
     }
 }
 
-pub(super) fn of_number(answer: Result<u64, Refused>) -> Answer {
+fn of_number(answer: Result<u64, Refused>) -> Answer {
     match answer {
         Ok(number) => Answer::Number(number),
         Err(refused) => of_refused(refused),
     }
 }
 
-pub(super) fn of_block(answer: Result<Block, Refused>) -> Answer {
+fn of_block(answer: Result<Block, Refused>) -> Answer {
     match answer {
         Ok(block) => Answer::Block(block.rec, block.len),
         Err(refused) => of_refused(refused),
     }
 }
 
-pub(super) fn of_two(answer: Result<(Block, Block), Refused>) -> Answer {
+fn of_two(answer: Result<(Block, Block), Refused>) -> Answer {
     match answer {
         Ok((head, tail)) => Answer::Two(head.rec, head.len, tail.rec, tail.len),
         Err(refused) => of_refused(refused),
@@ -127,7 +129,7 @@ fn of_message(answer: Result<Taken, Refused>) -> Answer {
     }
 }
 
-pub(super) fn of_nothing(answer: Result<(), Refused>) -> Answer {
+fn of_nothing(answer: Result<(), Refused>) -> Answer {
     match answer {
         Ok(()) => Answer::Done,
         Err(refused) => of_refused(refused),
@@ -135,7 +137,7 @@ pub(super) fn of_nothing(answer: Result<(), Refused>) -> Answer {
 }
 
 /// At most four bytes of a block. What a refused read has changed is told as if it had been read.
-fn bytes_of(pair: &mut Pair, r: u16, at: u32, count: usize) -> Answer {
+fn bytes_of<R: Wait>(pair: &mut Pair<R>, r: u16, at: u32, count: usize) -> Answer {
     let mut bytes = UNREAD;
     let Err(refused) = pair.read(r, at, &mut bytes[..count.min(4)]) else {
         return Answer::Bytes(bytes);
@@ -146,7 +148,7 @@ fn bytes_of(pair: &mut Pair, r: u16, at: u32, count: usize) -> Answer {
     of_refused(refused)
 }
 
-fn lists_of(pair: &Pair) -> Answer {
+fn lists_of<R: Wait>(pair: &Pair<R>) -> Answer {
     let (here, there) = (&pair.place, &pair.other);
     Answer::Lists(
         here.blocks().len(),
@@ -164,26 +166,26 @@ fn of_all(done: bool) -> Answer {
     }
 }
 
-fn stops_of(pair: &Pair, place: u8, points: &[Point]) -> Answer {
-    if pair.notes.are(place, points) {
+fn stops_of<R: Wait>(pair: &Pair<R>, place: u8, points: &[Point]) -> Answer {
+    if pair.desk.gate.are(place, points) {
         Answer::Done
     } else {
         Answer::No("other points")
     }
 }
 
-fn moved_of(pair: &Pair) -> Answer {
+fn moved_of<R: Wait>(pair: &Pair<R>) -> Answer {
     let (taken, back) = pair.moved();
     Answer::Moved(taken, back)
 }
 
-fn turned(pair: &mut Pair) -> Answer {
+fn turned<R: Wait>(pair: &mut Pair<R>) -> Answer {
     pair.turn();
     Answer::Done
 }
 
 /// What the call answers.
-fn answer_of<R: Wait>(rt: &R, alloc: Global, pair: &mut Pair, call: Call) -> Answer {
+pub(super) fn answer_of<R: Wait>(alloc: Global, pair: &mut Pair<R>, call: Call) -> Answer {
     match call {
         Call::Alloc(n, arena) => of_block(pair.alloc(alloc, n, arena)),
         Call::Split(r, k) => of_two(pair.split(alloc, r, k)),
@@ -191,31 +193,46 @@ fn answer_of<R: Wait>(rt: &R, alloc: Global, pair: &mut Pair, call: Call) -> Ans
         Call::ReadPart(r, at, count) => bytes_of(pair, r, at, count),
         Call::Write(r, at, bytes) => of_nothing(pair.write(r, at, bytes)),
         Call::Free(r) => of_number(pair.free(r).map(u64::from)),
-        Call::Open(arena) => of_ends(pair.open(rt, arena)),
-        Call::OpenWith => of_ends(pair.open_with(rt)),
-        Call::HandOver(e) => of_block(pair.hand_over(rt, e)),
-        Call::Wire => of_ends(pair.wire(rt)),
-        Call::Accept(e, direction) => of_block(pair.accept(rt, e, direction)),
-        Call::Give(e, tag, blocks) => of_number(pair.give(rt, e, tag, blocks)),
-        Call::Take(e) => of_message(pair.take(rt, e)),
-        Call::Close(e) => of_number(pair.close(rt, e)),
-        Call::Stop(budget) => of_number(pair.stop(rt, budget)),
+        Call::Open(arena) => of_ends(pair.open(arena)),
+        Call::OpenWith => of_ends(pair.open_with()),
+        Call::HandOver(e) => of_block(pair.hand_over(e)),
+        Call::Wire => of_ends(pair.wire()),
+        Call::Accept(e, direction) => of_block(pair.accept(e, direction)),
+        Call::Give(e, tag, blocks) => of_number(pair.give(e, tag, blocks)),
+        Call::Take(e) => of_message(pair.take(e)),
+        Call::Close(e) => of_number(pair.close(e)),
+        Call::Stop(budget) => of_number(pair.stop(budget)),
         Call::Turn => turned(pair),
         Call::State => Answer::State(pair.place.state()),
         Call::Lists => lists_of(pair),
         Call::Moved => moved_of(pair),
         Call::Stops(place, points) => stops_of(pair, place, points),
         Call::Fill(count, arena) => of_all(fill(alloc, pair, count, arena)),
-        Call::OpenAll(count) => of_all(open_all(rt, pair, count)),
-        Call::Rounds(e, f, count, rounds) => of_all(goes_round(rt, pair, (e, f), count, rounds)),
+        Call::OpenAll(count) => of_all(open_all(pair, count)),
+        Call::Rounds(e, f, count, rounds) => of_all(goes_round(pair, (e, f), count, rounds)),
     }
 }
 
-// Makes each call of the pair and compares what it answers.
-fn assert_each<R: Wait + Abort>(rt: &R, alloc: Global, pair: &mut Pair, calls: &[(Call, Answer)]) {
+/// They are the same.
+pub(super) fn assert_same<R: Abort, T: PartialEq + Debug + Drop>(rt: &R, found: T, expected: T) {
+    assert_eq!(rt; found, expected);
+}
+
+/// The call at `at` of a table answers what is expected.
+pub(super) fn assert_answer<R: Abort>(rt: &R, at: usize, answered: Answer, expected: Answer) {
+    assert_eq!(rt; answered, expected, "call {at}");
+}
+
+/// Makes each call of the pair and compares what it answers.
+pub(super) fn assert_each<R: Wait + Abort>(
+    rt: &R,
+    alloc: Global,
+    pair: &mut Pair<R>,
+    calls: &[(Call, Answer)],
+) {
     for (at, (call, expected)) in calls.iter().enumerate() {
-        let answered = answer_of(rt, alloc, pair, *call);
-        assert_eq!(rt; answered, *expected, "call {at}");
+        let answered = answer_of(alloc, pair, *call);
+        assert_answer(rt, at, answered, *expected);
     }
 }
 
@@ -242,8 +259,8 @@ pub(super) fn assert_answers<R: Wait + Abort>(
     depth: u8,
     calls: &[(Call, Answer)],
 ) {
-    let mut pair = make_pair(alloc, ROOMY, depth).expect(rt, "a pair");
-    assert_each(rt, alloc, &mut pair, calls);
+    let bench = make_bench(alloc, ROOMY, depth).expect(rt, "a bench");
+    play(rt, alloc, bench, Scene::Calls(calls));
 }
 
 /// The same at a pair of eight arenas, all as large as they may be.
@@ -252,6 +269,6 @@ pub(super) fn assert_large_answers<R: Wait + Abort>(
     alloc: Global,
     calls: &[(Call, Answer)],
 ) {
-    let mut pair = make_pair(alloc, LARGE, 1).expect(rt, "a large pair");
-    assert_each(rt, alloc, &mut pair, calls);
+    let bench = make_bench(alloc, LARGE, 1).expect(rt, "a large bench");
+    play(rt, alloc, bench, Scene::Calls(calls));
 }

@@ -13,7 +13,7 @@ use std::sync::Wait;
 use xh_core::Refused;
 
 /// Whether so many blocks of the arena are had.
-pub(super) fn fill(alloc: Global, pair: &mut Pair, count: u16, arena: u32) -> bool {
+pub(super) fn fill<R: Wait>(alloc: Global, pair: &mut Pair<R>, count: u16, arena: u32) -> bool {
     for _ in 0..count {
         if pair.alloc(alloc, 16, arena).is_err() {
             return false;
@@ -23,9 +23,9 @@ pub(super) fn fill(alloc: Global, pair: &mut Pair, count: u16, arena: u32) -> bo
 }
 
 /// Whether so many channels are had.
-pub(super) fn open_all<R: Wait>(rt: &R, pair: &mut Pair, count: u16) -> bool {
+pub(super) fn open_all<R: Wait>(pair: &mut Pair<R>, count: u16) -> bool {
     for _ in 0..count {
-        if pair.open(rt, 0).is_none() {
+        if pair.open(0).is_none() {
             return false;
         }
     }
@@ -38,9 +38,9 @@ fn number(round: u16, count: u16, k: u16) -> u64 {
 }
 
 // Whether the messages of a round go, and then one more finds no room.
-fn gives<R: Wait>(rt: &R, pair: &mut Pair, e: u16, count: u16, round: u16) -> bool {
+fn gives<R: Wait>(pair: &mut Pair<R>, e: u16, count: u16, round: u16) -> bool {
     for k in 0..count {
-        match pair.give(rt, e, k, &[]) {
+        match pair.give(e, k, &[]) {
             Ok(no) => {
                 if no != number(round, count, k) {
                     return false;
@@ -49,13 +49,13 @@ fn gives<R: Wait>(rt: &R, pair: &mut Pair, e: u16, count: u16, round: u16) -> bo
             Err(_refused) => return false,
         }
     }
-    matches!(&pair.give(rt, e, 0, &[]), Err(Refused::Full { .. }))
+    matches!(&pair.give(e, 0, &[]), Err(Refused::Full { .. }))
 }
 
 // Whether they come, in their order, and no more.
-fn takes<R: Wait>(rt: &R, pair: &mut Pair, f: u16, count: u16, round: u16) -> bool {
+fn takes<R: Wait>(pair: &mut Pair<R>, f: u16, count: u16, round: u16) -> bool {
     for k in 0..count {
-        match pair.take(rt, f) {
+        match pair.take(f) {
             Ok(taken) => {
                 if taken.no != number(round, count, k) || taken.tag != k {
                     return false;
@@ -64,19 +64,18 @@ fn takes<R: Wait>(rt: &R, pair: &mut Pair, f: u16, count: u16, round: u16) -> bo
             Err(_refused) => return false,
         }
     }
-    matches!(&pair.take(rt, f), Err(Refused::Empty))
+    matches!(&pair.take(f), Err(Refused::Empty))
 }
 
 /// Whether so many messages, as many as may wait, go from one of the ends to the other, so many times.
 pub(super) fn goes_round<R: Wait>(
-    rt: &R,
-    pair: &mut Pair,
+    pair: &mut Pair<R>,
     ends: (u16, u16),
     count: u16,
     rounds: u16,
 ) -> bool {
     for round in 0..rounds {
-        if !gives(rt, pair, ends.0, count, round) || !takes(rt, pair, ends.1, count, round) {
+        if !gives(pair, ends.0, count, round) || !takes(pair, ends.1, count, round) {
             return false;
         }
     }

@@ -1,8 +1,11 @@
 // Two places on two threads, and one channel between them.
 ghost use Rattle.xh_place.specs.Places.{IsPlaceOf};
 
-use super::answers::ROOMY;
-use super::pair::{Pair, make_pair};
+use super::answers::Answer::{self, Block, Ends};
+use super::answers::Call::{self, Alloc, Open, Wire};
+use super::answers::{ROOMY, assert_each, assert_same};
+use super::pair::Pair;
+use super::{Bench, make_bench};
 use std::alloc::Global;
 use std::process::Abort;
 use std::sync::Wait;
@@ -21,6 +24,12 @@ fn is_here(taken: &Taken, k: usize, r: u16) -> bool {
         Some(Got::Here(block)) => block.rec == r,
         _ => false,
     }
+}
+
+// Whether the message has the number, and brings both.
+fn brings_both(taken: &Taken, no: u64, x: u16, g: u16) -> bool {
+    let came = [is_here(taken, 0, x), is_here(taken, 1, g)];
+    taken.no == no && taken.blocks.len() == 2 && came == [true, true]
 }
 
 /// A place with its end of the channel, on a thread of its own.
@@ -66,7 +75,7 @@ impl Party<'_> {
             match self.take(rt) {
                 Ok(taken) => return Some(taken),
                 Err(Refused::Empty) => self.channels.wait(rt, self.spot, seen),
-                Err(_) => return None,
+                Err(_refused) => return None,
             }
         }
         None
@@ -74,11 +83,10 @@ impl Party<'_> {
 
     // Whether the next message has the number and brings both.
     fn gets<R: Wait>(&mut self, rt: &R, no: u64, x: u16, g: u16) -> bool {
-        let Some(taken) = self.take_next(rt) else {
-            return false;
-        };
-        let came = [is_here(&taken, 0, x), is_here(&taken, 1, g)];
-        taken.no == no && taken.blocks.len() == 2 && came == [true, true]
+        match self.take_next(rt) {
+            Some(taken) => brings_both(&taken, no, x, g),
+            None => false,
+        }
     }
 
     // Gives both and gets them back, or gets them first.
@@ -107,74 +115,83 @@ impl Party<'_> {
     }
 }
 
-/// The ends of a channel, here and at the other place, with their spots; a block, and an end of another channel.
-#[derive(Clone, Copy)]
-struct Ends {
-    e: u16,
-    f: u16,
-    low: Spot,
-    high: Spot,
-    x: u16,
-    h: u16,
-}
-
-fn begin<R: Wait>(rt: &R, alloc: Global, pair: &mut Pair) -> Option<Ends> {
-    let (e, f) = pair.wire(rt)?;
-    let (_, h) = pair.open(rt, 0)?;
-    let x = pair.alloc(alloc, 16, 0).ok()?.rec;
-    let (low, high) = pair.spots(e, f)?;
-    Some(Ends {
-        e,
-        f,
-        low,
-        high,
-        x,
-        h,
-    })
-}
-
-// Each place on a thread of its own: how many rounds went well, and the bytes that it has then.
-fn talk<R: Threads + Wait + Sync>(rt: &R, pair: Pair, ends: Ends) -> ((u64, u64), (u64, u64)) {
-    let Pair {
-        records,
-        channels,
-        place,
-        other,
-        ..
-    } = pair;
-    let (records, channels) = (&records, &channels);
+/// Each place has an end of a channel and runs on a thread of its own: how many rounds went well, and the bytes that it has
+/// then. The first begins with a block, and an end of another channel.
+fn talk<R: Threads + Wait + Sync>(
+    rt: &R,
+    records: &Records<Body>,
+    channels: &Channels,
+    places: (Place, Place),
+    spots: (Spot, Spot),
+) -> ((u64, u64), (u64, u64))
+    requires { IsPlaceOf records.now places.0.place × IsPlaceOf records.now places.1.place }
+{
     let first = Party {
         records,
         channels,
-        place,
-        e: ends.e,
-        spot: ends.low,
+        place: places.0,
+        e: 0,
+        spot: spots.0,
     };
     let second = Party {
         records,
         channels,
-        place: other,
-        e: ends.f,
-        spot: ends.high,
+        place: places.1,
+        e: 1,
+        spot: spots.1,
     };
-    let (x, h) = (ends.x, ends.h);
     thread::join(
         rt,
-        move || first.talk(rt, x, h, true),
-        move || second.talk(rt, x, h, false),
+        move || first.talk(rt, 4, 3, true),
+        move || second.talk(rt, 4, 3, false),
     )
 }
 
-/// A block and an endpoint go from one thread to the other and back, each time in one message.
-fn there_and_back_over<R: Abort + Threads + Wait + Sync>(rt: &R, alloc: Global) {
-    let mut pair = make_pair(alloc, ROOMY, 1).expect(rt, "a pair");
-    let ends = begin(rt, alloc, &mut pair).expect(rt, "two channels and a block");
-    let (one, two) = talk(rt, pair, ends);
-    assert_eq!(rt; one, (ROUNDS, 112));
-    assert_eq!(rt; two, (ROUNDS, 32));
+/// A wire, another channel and a block, and then each place talks on a thread of its own.
+fn there_and_back_on<R: Abort + Threads + Wait + Sync>(
+    rt: &R,
+    alloc: Global,
+    bench: Bench,
+) -> ((u64, u64), (u64, u64)) {
+    const CALLS: &[(Call, Answer)] = &[
+        (Wire, Ends(0, 1)),
+        (Open(0), Ends(2, 3)),
+        (Alloc(16, 0), Block(4, 16)),
+    ];
+    let Bench {
+        records,
+        mut vaults,
+        mut tallies,
+        channels,
+        notes,
+        first,
+        mut second,
+    } = bench;
+    second.start(&records);
+    let desk = Desk {
+        rt,
+        records: &records,
+        channels: &channels,
+        vaults: &mut vaults,
+        tallies: tallies.as_mut_slice(),
+        gate: &notes,
+    };
+    let mut pair = Pair {
+        desk,
+        place: first,
+        other: second,
+    };
+    assert_each(rt, alloc, &mut pair, CALLS);
+    let spots = pair.spots(0, 1).expect(rt, "two ends");
+    let Pair { desk, place, other } = pair;
+    talk(rt, desk.records, desk.channels, (place, other), spots)
 }
 
+/// A block and an endpoint go from one thread to the other and back, each time in one message.
 #[test]
 fn there_and_back(rt: HostRuntime) {
-    there_and_back_over(&rt, rt.alloc())
+    let bench = make_bench(rt.alloc(), ROOMY, 1).expect(&rt, "a bench");
+    let (one, two) = there_and_back_on(&rt, rt.alloc(), bench);
+    assert_same(&rt, one, (ROUNDS, 112));
+    assert_same(&rt, two, (ROUNDS, 32));
 }

@@ -6,11 +6,12 @@ ghost use Rattle.xh_records.specs.Showing.{IsLotOf};
 ghost use Rattle.xh_records.specs.Seats.{IsRecord, IsSeatOf};
 
 use super::rounds::carve_at;
-use super::{Any, Bench, assert_left, close_both, make_bench};
+use super::{Any, Bench, assert_left, assert_same, close_both, make_bench};
+use std::alloc::Global;
 use std::process::Abort;
 use std::test::Fail;
 use xh_arena::{Lot, Tally, Vault};
-use xh_records::{Records, Seat};
+use xh_records::{Records, Refused, Seat};
 
 /// Cuts the 32 bytes of the first record in two, and says how many each has.
 fn cut_at(
@@ -63,11 +64,8 @@ fn cut_in_two(
     cut_at(records, seat, first, second, vault)
 }
 
-#[test]
-fn two_lots_are_lent(rt: HostRuntime) -> Result<(), Fail> {
-    let Some(bench) = make_bench(rt.alloc(), 64, 2, 1000) else {
-        panic!(rt; "no bench");
-    };
+/// Two lots of a new bench are lent at once, and then the table is taken apart, unless a growth was refused.
+fn lend_two(rt: &impl Abort, alloc: Global, bench: Bench) -> Result<(), Refused> {
     let Bench {
         mut vault,
         mut tally,
@@ -75,9 +73,15 @@ fn two_lots_are_lent(rt: HostRuntime) -> Result<(), Fail> {
         mut first,
         second,
     } = bench;
-    let lens = cut_in_two(&rt, &records, &mut first, &mut vault, &mut tally);
-    assert_eq!(rt; lens, (16, 16));
-    let (words, lots) = close_both(rt.alloc(), records, first, second)?;
-    assert_left(&rt, &words, &lots, &[(1, 16), (1, 16)]);
+    let lens = cut_in_two(rt, &records, &mut first, &mut vault, &mut tally);
+    assert_same(rt, lens, (16, 16));
+    let closed = close_both(alloc, records, first, second);
+    assert_left(rt, closed, &[(1, 16), (1, 16)])
+}
+
+#[test]
+fn two_lots_are_lent(rt: HostRuntime) -> Result<(), Fail> {
+    let bench = make_bench(rt.alloc(), 64, 2, 1000).expect(&rt, "a bench");
+    lend_two(&rt, rt.alloc(), bench)?;
     Ok(())
 }

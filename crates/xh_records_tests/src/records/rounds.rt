@@ -6,8 +6,9 @@ ghost use Rattle.xh_model.specs.Keyed.{put, value_at};
 ghost use Rattle.xh_records.specs.History.{IsOneLog};
 ghost use Rattle.xh_records.specs.Showing.{IsLotOf};
 ghost use Rattle.xh_records.specs.Seats.{HasLooked, IsRecord, IsSeatOf, with_lots};
+ghost use Rattle.xh_records_tests.specs.Benches.{IsNewBench};
 
-use super::{Any, Bench, assert_left, close_both, make_bench};
+use super::{Any, Bench, assert_left, assert_same, close_both, make_bench};
 use std::alloc::Global;
 use std::process::Abort;
 use std::test::Fail;
@@ -68,7 +69,7 @@ fn assert_word(
     requires exists { IsRecord records.now.shape number }
     ensures { HasLooked seat.old seat.new }
 {
-    assert_eq!(rt; records.owner_word(seat, number), word);
+    assert_same(rt, records.owner_word(seat, number), word);
 }
 
 /// The first seat claims record 0, carves it and passes it on the direction.
@@ -108,7 +109,7 @@ fn miss(rt: &impl Abort, records: &Records<Any>, seat: &mut Seat<Any>)
     let Err(word) = records.accept(seat, 0, 4) else {
         panic!(rt; "on another direction");
     };
-    assert_eq!(rt; word, 22);
+    assert_same(rt, word, 22);
 }
 
 /// The second seat accepts record 0, but not on direction 4, gives its bytes back and vacates it.
@@ -144,7 +145,30 @@ fn one_order(records: &Records<Any>, first: &mut Seat<Any>, second: &mut Seat<An
     records.compare(first, second);
 }
 
-/// A record goes its round on a new bench of two records, and the table is taken apart, unless a growth was refused.
+/// A record goes its round, from the first place of a new bench to the second.
+fn round(
+    rt: &impl Abort,
+    records: &Records<Any>,
+    first: &mut Seat<Any>,
+    second: &mut Seat<Any>,
+    vault: &mut Vault,
+    tally: &mut Tally,
+)
+    requires new { IsNewBench records.now first.old second.old vault.old tally.old }
+    requires two { records.now.shape.records ≡ 2 }
+    ensures { IsSeatOf records.now first.new × IsSeatOf records.now second.new }
+{
+    assert!(rt; records.has(1) && !records.has(2) && !records.has(256));
+    give_away(rt, records, first, vault, tally, 5);
+    assert_word(rt, records, first, 0, 22);
+    take_over(rt, records, second, vault, tally);
+    assert_same(rt, (tally.taken(), tally.back()), (32, 32));
+    assert_same(rt, records.renew(first), 32);
+    assert_same(rt, (first.process(), second.process()), (32, 1));
+    one_order(records, first, second);
+}
+
+/// The same, and then the table is taken apart, unless a growth was refused.
 fn go_round(rt: &impl Abort, alloc: Global, bench: Bench) -> Result<(), Refused>
     requires { bench.records.shape.records ≡ 2 }
 {
@@ -155,17 +179,16 @@ fn go_round(rt: &impl Abort, alloc: Global, bench: Bench) -> Result<(), Refused>
         mut first,
         mut second,
     } = bench;
-    assert!(rt; records.has(1) && !records.has(2) && !records.has(256));
-    give_away(rt, &records, &mut first, &mut vault, &mut tally, 5);
-    assert_word(rt, &records, &mut first, 0, 22);
-    take_over(rt, &records, &mut second, &mut vault, &mut tally);
-    assert_eq!(rt; (tally.taken(), tally.back()), (32, 32));
-    assert_eq!(rt; records.renew(&mut first), 32);
-    assert_eq!(rt; (first.process(), second.process()), (32, 1));
-    one_order(&records, &mut first, &mut second);
-    let (words, lots) = close_both(alloc, records, first, second)?;
-    assert_left(rt, &words, &lots, &[(0, 0), (0, 0)]);
-    Ok(())
+    round(
+        rt,
+        &records,
+        &mut first,
+        &mut second,
+        &mut vault,
+        &mut tally,
+    );
+    let closed = close_both(alloc, records, first, second);
+    assert_left(rt, closed, &[(0, 0), (0, 0)])
 }
 
 #[test]
@@ -186,31 +209,48 @@ fn claim_next(rt: &impl Abort, records: &Records<Any>, seat: &mut Seat<Any>) -> 
     number
 }
 
+/// The first place of a new bench passes a record on and claims another, the second claims the third, and finds no more.
+fn fill(
+    rt: &impl Abort,
+    records: &Records<Any>,
+    first: &mut Seat<Any>,
+    second: &mut Seat<Any>,
+    vault: &mut Vault,
+    tally: &mut Tally,
+)
+    requires new { IsNewBench records.now first.old second.old vault.old tally.old }
+{
+    assert_same(rt, (records.arenas(), records.per_arena()), (1, 3));
+    give_away(rt, records, first, vault, tally, 5);
+    assert_same(rt, claim_next(rt, records, first), 1);
+    assert_same(rt, claim_next(rt, records, second), 2);
+    assert_same(rt, (first.count(), second.count()), (1, 1));
+    let Err(seen) = records.claim(second, 0) else {
+        panic!(rt; "one was free");
+    };
+    let words: [u64; 3] = [22, 1, 5];
+    assert_same(rt, seen.words.as_slice(), words.as_slice());
+    assert_same(rt, second.count(), 1);
+}
+
 /// A full arena: a record in flight, one of the first process and one of the second.
 #[test]
-fn full_arena(rt: HostRuntime) -> Result<(), Fail> {
-    let Some(bench) = make_bench(rt.alloc(), 64, 3, 1000) else {
-        panic!(rt; "no bench");
-    };
+fn full_arena(rt: HostRuntime) {
     let Bench {
         mut vault,
         mut tally,
         records,
         mut first,
         mut second,
-    } = bench;
-    assert_eq!(rt; (records.arenas(), records.per_arena()), (1, 3));
-    give_away(&rt, &records, &mut first, &mut vault, &mut tally, 5);
-    assert_eq!(rt; claim_next(&rt, &records, &mut first), 1);
-    assert_eq!(rt; claim_next(&rt, &records, &mut second), 2);
-    assert_eq!(rt; (first.count(), second.count()), (1, 1));
-    let Err(seen) = records.claim(&mut second, 0) else {
-        panic!(rt; "one was free");
-    };
-    let words: [u64; 3] = [22, 1, 5];
-    assert_eq!(rt; seen.words.as_slice(), words.as_slice());
-    assert_eq!(rt; second.count(), 1);
-    Ok(())
+    } = make_bench(rt.alloc(), 64, 3, 1000).expect(&rt, "a bench");
+    fill(
+        &rt,
+        &records,
+        &mut first,
+        &mut second,
+        &mut vault,
+        &mut tally,
+    );
 }
 
 /// A new bench of two records, and where a growth was refused, one by the same calls made again.

@@ -11,10 +11,6 @@ invariant_of-result c =
     let first = seats.1 0 c.first_two-first.result.0 c.first_two-first.ensures.0 in
     let second = seats.1 1 c.first_two-first.result.1 c.first_two-first.ensures.1 in
     let tally = c.in-Ok.ensures.tallies.1 0 c.first_of-tally.result c.first_of-tally.ensures in record {
-      own = (first.0, second.0);
-      bare = (first.2, second.2);
-      numbers = (first.1, second.1);
-      names = search rules;
+      new = ((first.0, second.0), (first.2, second.2), (first.1, second.1), search rules, ap (λ t. t.id) tally ∙ ap (λ v. v.id) (sym c.name.ensures.same));
       places = ap (λ s. s.places) c.in-Ok-new.ensures.shape;
-      tally_of = ap (λ t. t.id) tally ∙ ap (λ v. v.id) (sym c.name.ensures.same);
     }
