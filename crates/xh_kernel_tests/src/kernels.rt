@@ -7,6 +7,8 @@ mod several;
 mod waiting;
 mod wiring;
 
+use crate::flights;
+use crate::worker::{Worker, hire};
 use passing::Passing;
 use std::alloc::Global;
 use std::marker::Brand;
@@ -18,14 +20,14 @@ use waiting::Ender;
 use xh_books::{Books, close_kernel};
 use xh_core::{Config, Refused};
 use xh_kernel::{Account, Kernel, Names, Parts};
-use xh_place::OpenGate;
 
-/// What is tried on a kernel: no call; messages from one thread to another; rounds of a process that waits, at two
+/// What is tried on a kernel: no call; messages of so many blocks that stay in flight; messages from one thread to another; rounds of a process that waits, at two
 /// ends or at one, which answers so once its wait is ended; a wire to a process that ends; takes at several endpoints, by
 /// what they answer, by their deadlines and by turns; a server of eight clients.
 #[derive(Clone, Copy)]
-enum Case {
+pub enum Case {
     Nothing,
+    InFlight((u8, u8)),
     Passes(Passing),
     Waits(bool, Ender, u64),
     WireToOneThatEnds,
@@ -36,7 +38,7 @@ enum Case {
 }
 
 /// A configuration of one arena of so many bytes, in which so many messages wait in a direction.
-fn waiting_of(bytes: u32, depth: u8) -> Config {
+pub fn waiting_of(bytes: u32, depth: u8) -> Config {
     Config {
         arenas: 1,
         bytes,
@@ -47,17 +49,37 @@ fn waiting_of(bytes: u32, depth: u8) -> Config {
 }
 
 /// The processes 0 and 1 start.
-fn assert_two_start<N: Names, R: Wait + Abort>(
-    rt: &R,
-    kernel: &Kernel<N>,
-    account: &mut Account<N>,
-) {
-    let one = kernel.spawn(rt, account, &OpenGate);
-    let other = kernel.spawn(rt, account, &OpenGate);
-    assert!(rt; matches!((one, other), (Ok(0), Ok(1))));
+fn assert_two_start<W: Worker>(rt: &impl Abort, worker: &mut W) {
+    let started = (worker.spawn(), worker.spawn());
+    assert!(rt; matches!(started, (Ok(0), Ok(1))));
 }
 
-/// Tries the case on a kernel.
+/// Tries the case with the workers of a kernel.
+fn try_case<W: Worker + Send, R: Threads + Wait + Clock + Abort + Sync>(
+    rt: &R,
+    alloc: Global,
+    workers: &mut [W],
+    case: Case,
+) {
+    let Some((mine, others)) = workers.split_first_mut() else {
+        panic!(rt; "no worker");
+    };
+    match case {
+        Case::Nothing => {}
+        Case::InFlight(counts) => assert!(rt; flights::give_both(alloc, mine, counts).is_ok()),
+        Case::Passes(what) => passing::assert_passes(rt, alloc, mine, others, what),
+        Case::Waits(both, ender, want) => {
+            waiting::assert_rounds(rt, mine, others, (both, ender), want);
+        }
+        Case::WireToOneThatEnds => wiring::assert_refused(rt, mine, others),
+        Case::Order => several::assert_order(rt, mine),
+        Case::Deadlines => several::assert_deadlines(rt, mine),
+        Case::Turns => several::assert_turns(rt, mine),
+        Case::Serves => serving::assert_served(rt, alloc, mine, others),
+    }
+}
+
+/// The same on a kernel, with a worker for each account.
 fn lend<N: Names + Send + Sync, R: Threads + Wait + Clock + Abort + Sync>(
     rt: &R,
     alloc: Global,
@@ -65,21 +87,8 @@ fn lend<N: Names + Send + Sync, R: Threads + Wait + Clock + Abort + Sync>(
     accounts: &mut [Account<N>],
     case: Case,
 ) {
-    let Some((mine, others)) = accounts.split_first_mut() else {
-        panic!(rt; "no worker");
-    };
-    match case {
-        Case::Nothing => {}
-        Case::Passes(what) => passing::assert_passes(rt, alloc, kernel, mine, others, what),
-        Case::Waits(both, ender, want) => {
-            waiting::assert_rounds(rt, alloc, kernel, mine, others, (both, ender, want));
-        }
-        Case::WireToOneThatEnds => wiring::assert_refused(rt, kernel, mine, others),
-        Case::Order => several::assert_order(rt, alloc, kernel, mine),
-        Case::Deadlines => several::assert_deadlines(rt, kernel, mine),
-        Case::Turns => several::assert_turns(rt, kernel, mine),
-        Case::Serves => serving::assert_served(rt, alloc, kernel, mine, others),
-    }
+    let mut workers = hire(rt, alloc, kernel, accounts).expect(rt, "room");
+    try_case(rt, alloc, &mut workers, case);
 }
 
 /// The case on a kernel of the parts; its books.
@@ -100,7 +109,7 @@ fn on_parts<N: Names + Send + Sync, R: Threads + Wait + Clock + Abort + Sync>(
 }
 
 /// The case on a new kernel for so many workers; its books.
-fn on_kernel<R: Threads + Wait + Clock + Abort + Sync>(
+pub fn on_kernel<R: Threads + Wait + Clock + Abort + Sync>(
     rt: &R,
     alloc: Global,
     config: Config,

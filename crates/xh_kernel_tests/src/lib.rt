@@ -7,3 +7,5 @@ mod flights;
 mod glances;
 #[cfg(test)]
 mod kernels;
+#[cfg(test)]
+mod worker;

@@ -1,11 +1,10 @@
 // Messages from one process to another, on two threads.
 use super::{Case, assert_case, assert_two_start, waiting_of};
+use crate::worker::Worker;
 use std::alloc::Global;
 use std::process::Abort;
-use std::sync::Wait;
 use std::thread::{self, Threads};
 use xh_core::{Config, Refused};
-use xh_kernel::{Account, Kernel, Names};
 use xh_place::{Got, OpenGate, Taken};
 
 /// What process 0 gives to process 1: so many messages, each of so many new blocks of so many bytes of an arena, of which the
@@ -61,13 +60,11 @@ const LARGEST: Config = Config {
     wear: 9_223_372_036_854_775_807,
 };
 
-/// A process, its end, and its thread's account.
+/// A worker, and the end that its process gives or takes by.
 #[derive(Drop)]
-struct Peer<'a, N: Names, R> {
-    rt: &'a R,
+struct Peer<'a, W> {
     alloc: Global,
-    kernel: &'a Kernel<N>,
-    account: &'a mut Account<N>,
+    worker: &'a mut W,
     e: u16,
 }
 
@@ -76,15 +73,11 @@ fn tag_of(k: u16) -> u16 {
     65_535u16.saturating_sub(k)
 }
 
-impl<'a, N: Names, R: Wait> Peer<'a, N, R> {
+impl<'a, W: Worker> Peer<'a, W> {
     // A new block, tried again while there is no room, at most a million times.
     fn alloc_on(&mut self, what: Passing) -> Result<u16, Refused> {
         for _ in 0..1_000_000u32 {
-            let (rt, alloc, bytes, arena) = (self.rt, self.alloc, what.bytes, what.arena);
-            match self
-                .kernel
-                .alloc(rt, alloc, 0, bytes, arena, self.account, &OpenGate)
-            {
+            match self.worker.alloc(0, what.bytes, what.arena) {
                 Ok(block) => return Ok(block.rec),
                 Err(Refused::NoRecord | Refused::NoSpace) => thread::yield_now(),
                 Err(refused) => return Err(refused),
@@ -96,11 +89,7 @@ impl<'a, N: Names, R: Wait> Peer<'a, N, R> {
     // Gives the blocks, again while the direction is full, at most a million times. All come back each time.
     fn give_on(&mut self, tag: u16, blocks: &[u16]) -> Result<u64, Refused> {
         for _ in 0..1_000_000u32 {
-            let (rt, e) = (self.rt, self.e);
-            match self
-                .kernel
-                .give(rt, 0, e, tag, blocks, self.account, &OpenGate)
-            {
+            match self.worker.give(0, self.e, tag, blocks) {
                 Err(Refused::Full { back }) if back.as_slice() == blocks => thread::yield_now(),
                 answer => return answer,
             }
@@ -113,9 +102,7 @@ impl<'a, N: Names, R: Wait> Peer<'a, N, R> {
         let mut blocks = Vec::new(self.alloc);
         for _ in 0..what.blocks {
             let r = self.alloc_on(what)?;
-            let first = [(tag % 256) as u8];
-            self.kernel
-                .write(self.rt, 0, r, 0, &first, self.account, &OpenGate)?;
+            self.worker.write(0, r, &[(tag % 256) as u8])?;
             blocks.push(r)?;
         }
         Ok(blocks)
@@ -133,36 +120,28 @@ impl<'a, N: Names, R: Wait> Peer<'a, N, R> {
     // Whether one more message finds no room, and all its blocks come back. They are freed.
     fn is_full(&mut self, what: Passing) -> Result<bool, Refused> {
         let blocks = self.make(what, 0)?;
-        let (rt, e) = (self.rt, self.e);
-        let answer = self
-            .kernel
-            .give(rt, 0, e, 0, &blocks, self.account, &OpenGate);
+        let answer = self.worker.give(0, self.e, 0, &blocks);
         for r in &blocks {
-            self.kernel.free(rt, 0, *r, self.account, &OpenGate)?;
+            self.worker.free(0, *r)?;
         }
         Ok(matches!(answer, Err(Refused::Full { back }) if back.as_slice() == blocks.as_slice()))
     }
 
-    // Whether the blocks of a message are so many, with the first byte that they should have, and can be freed.
-    fn are_whole(&mut self, what: Passing, taken: &Taken) -> Result<bool, Refused> {
+    // Whether the block has the first byte that it should have, and its bytes can be freed.
+    fn is_whole(&mut self, what: Passing, tag: u16, r: u16) -> Result<bool, Refused> {
         let mut first = [0];
+        self.worker.read(1, r, &mut first)?;
+        let freed = self.worker.free(1, r)?;
+        Ok(u16::from(first[0]) == tag % 256 && freed == what.bytes)
+    }
+
+    // Whether the blocks of a message are so many, and each is whole.
+    fn are_whole(&mut self, what: Passing, taken: &Taken) -> Result<bool, Refused> {
         for got in taken.blocks.as_slice() {
             let Got::Here(block) = got else {
                 return Ok(false);
             };
-            self.kernel.read(
-                self.rt,
-                1,
-                block.rec,
-                0,
-                &mut first,
-                self.account,
-                &OpenGate,
-            )?;
-            let freed = self
-                .kernel
-                .free(self.rt, 1, block.rec, self.account, &OpenGate)?;
-            if u16::from(first[0]) != taken.tag % 256 || freed != what.bytes {
+            if !self.is_whole(what, taken.tag, block.rec)? {
                 return Ok(false);
             }
         }
@@ -171,9 +150,7 @@ impl<'a, N: Names, R: Wait> Peer<'a, N, R> {
 
     // Whether the next message has this number, its tag and its blocks.
     fn take_next(&mut self, what: Passing, k: u16) -> Result<bool, Refused> {
-        let taken = self
-            .kernel
-            .take_wait(self.rt, 1, self.e, self.account, &OpenGate)?;
+        let taken = self.worker.take_wait(1, self.e)?;
         let is_next = taken.no == u64::from(k) + 1 && taken.tag == tag_of(k);
         Ok(self.are_whole(what, &taken)? && is_next)
     }
@@ -185,7 +162,7 @@ impl<'a, N: Names, R: Wait> Peer<'a, N, R> {
             match self.take_next(what, k) {
                 Ok(true) => came = came.saturating_add(1),
                 Ok(false) => {}
-                Err(_) => break,
+                Err(_refused) => break,
             }
         }
         came
@@ -193,29 +170,23 @@ impl<'a, N: Names, R: Wait> Peer<'a, N, R> {
 }
 
 // The ends of a channel between the two, once so many blocks and channels are there.
-fn prepare<N: Names, R: Wait>(
-    rt: &R,
-    alloc: Global,
-    kernel: &Kernel<N>,
-    account: &mut Account<N>,
-    what: Passing,
-) -> Result<(u16, u16), Refused> {
+fn prepare<W: Worker>(worker: &mut W, what: Passing) -> Result<(u16, u16), Refused> {
     for _ in 0..what.channels {
-        kernel.open(rt, 0, 0, account, &OpenGate)?;
+        worker.open(0)?;
     }
     for _ in 0..what.filled {
-        kernel.alloc(rt, alloc, 0, 16, what.arena, account, &OpenGate)?;
+        worker.alloc(0, 16, what.arena)?;
     }
-    let (low, high) = kernel.wire(rt, 0, 1, 0, account, &OpenGate)?;
+    let (low, high) = worker.wire(0, 1, &OpenGate)?;
     Ok((low.rec, high.rec))
 }
 
 // The first are given; then the others are, while all are taken; then as many as the first are given, and reclaimed with the
 // process that they are on their way to.
-fn assert_given<N: Names + Send + Sync, R: Threads + Wait + Abort + Sync>(
+fn assert_given<W: Worker + Send, R: Threads + Abort + Sync>(
     rt: &R,
-    giver: &mut Peer<N, R>,
-    taker: &mut Peer<N, R>,
+    giver: &mut Peer<W>,
+    taker: &mut Peer<W>,
     what: Passing,
 ) {
     let (first, all) = (what.first, what.messages);
@@ -232,40 +203,33 @@ fn assert_given<N: Names + Send + Sync, R: Threads + Wait + Abort + Sync>(
     assert!(rt; giver.give_some(what, all, first).is_ok());
     let blocks = u64::from(first).saturating_mul(u64::from(what.blocks));
     let bytes = blocks.saturating_mul(u64::from(what.bytes));
-    let swept = taker.kernel.exit(rt, 1, 4096, taker.account, &OpenGate);
+    let swept = taker.worker.exit(1);
     assert!(rt; matches!(swept, Ok(back) if back == bytes.saturating_add(32)));
 }
 
 /// All are given, and all come as they should.
-pub fn assert_passes<'x, N: Names + Send + Sync, R: Threads + Wait + Abort + Sync>(
-    rt: &'x R,
+pub fn assert_passes<W: Worker + Send, R: Threads + Abort + Sync>(
+    rt: &R,
     alloc: Global,
-    kernel: &'x Kernel<N>,
-    mine: &'x mut Account<N>,
-    others: &'x mut [Account<N>],
+    mine: &mut W,
+    others: &mut [W],
     what: Passing,
 ) {
     let Some(other) = others.first_mut() else {
         panic!(rt; "no other worker");
     };
-    assert_two_start(rt, kernel, mine);
-    let Ok((e, f)) = prepare(rt, alloc, kernel, mine, what) else {
-        panic!(rt; "no channel");
-    };
+    assert_two_start(rt, mine);
     let low = what.channels.saturating_mul(2);
-    assert_eq!(rt; (e, f), (low, low.saturating_add(1)));
+    let (e, f) = (low, low.saturating_add(1));
+    assert!(rt; matches!(prepare(mine, what), Ok(made) if made == (e, f)));
     let mut giver = Peer {
-        rt,
         alloc,
-        kernel,
-        account: mine,
+        worker: mine,
         e,
     };
     let mut taker = Peer {
-        rt,
         alloc,
-        kernel,
-        account: other,
+        worker: other,
         e: f,
     };
     assert_given(rt, &mut giver, &mut taker, what);

@@ -1,5 +1,6 @@
 // A server of eight clients, on nine threads. Each client is killed once it was answered often enough, with a request on its
 // way, and another takes its place.
+use crate::worker::Worker;
 use std::alloc::Global;
 use std::process::Abort;
 use std::sync::Wait;
@@ -8,7 +9,7 @@ use std::sync::atomic::Ordering::SeqCst;
 use std::thread;
 use std::thread::Threads;
 use xh_core::Refused;
-use xh_kernel::{Account, Answered, Kernel, Names};
+use xh_kernel::Answered;
 use xh_place::OpenGate;
 
 const CLIENTS: usize = 8;
@@ -33,14 +34,9 @@ struct Board {
     answered: AtomicU64,
 }
 
-fn enter<N: Names, R: Wait>(
-    rt: &R,
-    kernel: &Kernel<N>,
-    account: &mut Account<N>,
-    server: u16,
-) -> Result<Client, Refused> {
-    let p = kernel.spawn(rt, account, &OpenGate)?;
-    let (mine, other) = kernel.wire(rt, p, server, 0, account, &OpenGate)?;
+fn enter<W: Worker>(worker: &mut W, server: u16) -> Result<Client, Refused> {
+    let p = worker.spawn()?;
+    let (mine, other) = worker.wire(p, server, &OpenGate)?;
     Ok(Client {
         p,
         e: mine.rec,
@@ -48,17 +44,12 @@ fn enter<N: Names, R: Wait>(
     })
 }
 
-fn make_board<N: Names, R: Wait>(
-    rt: &R,
-    alloc: Global,
-    kernel: &Kernel<N>,
-    account: &mut Account<N>,
-) -> Result<Board, Refused> {
-    let server = kernel.spawn(rt, account, &OpenGate)?;
+fn make_board<W: Worker>(alloc: Global, worker: &mut W) -> Result<Board, Refused> {
+    let server = worker.spawn()?;
     let mut first = Vec::with_capacity(alloc, CLIENTS)?;
     let mut new = Vec::with_capacity(alloc, CLIENTS)?;
     for _ in 0..CLIENTS {
-        first.push(enter(rt, kernel, account, server)?)?;
+        first.push(enter(worker, server)?)?;
         new.push(AtomicU64::new(0))?;
     }
     Ok(Board {
@@ -70,49 +61,34 @@ fn make_board<N: Names, R: Wait>(
 }
 
 // Asks so often, each time once it was answered. How often the answer was right.
-fn ask<N: Names, R: Wait>(
-    rt: &R,
-    kernel: &Kernel<N>,
-    account: &mut Account<N>,
-    client: Client,
-) -> u64 {
+fn ask<W: Worker>(worker: &mut W, client: Client) -> u64 {
     let Client { p, e, theirs: _ } = client;
     let mut right = 0;
     for tag in 0..REQUESTS {
-        let _given = kernel.give(rt, p, e, tag, &[], account, &OpenGate);
-        match kernel.take_wait(rt, p, e, account, &OpenGate) {
+        let _given = worker.give(p, e, tag, &[]);
+        match worker.take_wait(p, e) {
             Ok(taken) if taken.tag == tag => right = u64::from(tag) + 1,
             _ => break,
         }
     }
-    let _unanswered = kernel.give(rt, p, e, REQUESTS, &[], account, &OpenGate);
+    let _unanswered = worker.give(p, e, REQUESTS, &[]);
     right
 }
 
 // A client asks, another enters, the first is killed, and the other does as the first did.
-fn be_clients<N: Names, R: Wait>(
-    rt: &R,
-    kernel: &Kernel<N>,
-    account: &mut Account<N>,
-    board: &Board,
-    at: usize,
-) {
+fn be_clients<W: Worker>(worker: &mut W, board: &Board, at: usize) {
     let (Some(first), Some(new)) = (board.first.get(at).copied(), board.new.get(at)) else {
         return;
     };
-    board
-        .answered
-        .fetch_add(ask(rt, kernel, account, first), SeqCst);
-    let entered = enter(rt, kernel, account, board.server);
+    board.answered.fetch_add(ask(worker, first), SeqCst);
+    let entered = enter(worker, board.server);
     if let Ok(second) = &entered {
         new.store(65_536 + u64::from(second.theirs), SeqCst);
     }
-    let _killed = kernel.kill(rt, board.server, first.p, 4096, account, &OpenGate);
+    let _killed = worker.kill(board.server, first.p, 4096);
     if let Ok(second) = entered {
-        board
-            .answered
-            .fetch_add(ask(rt, kernel, account, second), SeqCst);
-        let _killed = kernel.kill(rt, board.server, second.p, 4096, account, &OpenGate);
+        board.answered.fetch_add(ask(worker, second), SeqCst);
+        let _killed = worker.kill(board.server, second.p, 4096);
     }
 }
 
@@ -127,10 +103,9 @@ fn admit(board: &Board, ends: &mut Vec<u16>) {
 }
 
 // Answers each request with its tag, until the last client is gone.
-fn serve<N: Names, R: Wait>(
+fn serve<W: Worker, R: Wait>(
     rt: &R,
-    kernel: &Kernel<N>,
-    account: &mut Account<N>,
+    worker: &mut W,
     board: &Board,
     ends: &mut Vec<u16>,
 ) -> Result<(), Refused> {
@@ -138,16 +113,15 @@ fn serve<N: Names, R: Wait>(
         if ends.is_empty() {
             break;
         }
-        let found = kernel.take_any_wait(rt, board.server, ends, account, &OpenGate);
-        let Answered { at, answer } = found?;
+        let Answered { at, answer } = worker.take_any_wait(board.server, ends)?;
         let Some(e) = ends.get(at).copied() else {
             break;
         };
         if let Ok(taken) = answer {
-            let _gone = kernel.give(rt, board.server, e, taken.tag, &[], account, &OpenGate);
+            let _gone = worker.give(board.server, e, taken.tag, &[]);
             ends.rotate_left(1);
         } else {
-            kernel.close(rt, board.server, e, account, &OpenGate)?;
+            worker.close(board.server, e)?;
             ends.retain(|end| *end != e);
             admit(board, ends);
         }
@@ -155,40 +129,36 @@ fn serve<N: Names, R: Wait>(
     Ok(())
 }
 
-fn be_server<N: Names, R: Wait>(
+fn be_server<W: Worker, R: Wait>(
     rt: &R,
     alloc: Global,
-    kernel: &Kernel<N>,
-    account: &mut Account<N>,
+    worker: &mut W,
     board: &Board,
 ) -> Result<(), Refused> {
     let mut ends = Vec::with_capacity(alloc, 2 * CLIENTS)?;
     for client in &board.first {
         ends.push(client.theirs)?;
     }
-    serve(rt, kernel, account, board, &mut ends)
+    serve(rt, worker, board, &mut ends)
 }
 
-/// Each of the nine others is a thread's account, the last the server's. Each request was answered.
-pub fn assert_served<N: Names + Send + Sync, R: Threads + Wait + Abort + Sync>(
+/// Each of the nine others has a thread, the last the server's. Each request was answered.
+pub fn assert_served<W: Worker + Send, R: Threads + Wait + Abort + Sync>(
     rt: &R,
     alloc: Global,
-    kernel: &Kernel<N>,
-    account: &mut Account<N>,
-    others: &mut [Account<N>],
+    worker: &mut W,
+    others: &mut [W],
 ) {
-    let Ok(board) = make_board(rt, alloc, kernel, account) else {
-        panic!(rt; "no clients");
-    };
+    let board = make_board(alloc, worker).expect(rt, "clients");
     thread::for_each_mut(
         rt,
         others,
         9,
-        &|at, account| {
+        &|at, worker| {
             if at < CLIENTS {
-                be_clients(rt, kernel, account, &board, at);
+                be_clients(worker, &board, at);
             } else {
-                let _served = be_server(rt, alloc, kernel, account, &board);
+                let _served = be_server(rt, alloc, worker, &board);
             }
         },
     );

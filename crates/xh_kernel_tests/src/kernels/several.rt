@@ -1,36 +1,37 @@
 // A take at the first of several endpoints that has a message, and takes until a time.
 use super::waiting::after;
-use std::alloc::Global;
+use crate::worker::Worker;
 use std::process::Abort;
-use std::sync::Wait;
-use std::time::Clock;
+use std::time::{Clock, Instant};
 use xh_core::Refused;
-use xh_kernel::{Account, Answered, Kernel, MAX_ENDS, Names};
-use xh_place::{OpenGate, Taken};
+use xh_kernel::{Answered, MAX_ENDS};
+use xh_place::Taken;
 
-const CLIENTS: usize = 8;
+/// The ends of eight channels of process 0, which gives by the low ones and takes by the high ones.
+const LOW: [u16; 8] = [0, 2, 4, 6, 8, 10, 12, 14];
 
-/// The ends of so many channels of a process: it gives by the low ones and takes by the high ones.
-#[derive(Clone, Copy)]
-struct Ends {
-    p: u16,
-    low: [u16; CLIENTS],
-    high: [u16; CLIENTS],
-}
+const HIGH: [u16; 8] = [1, 3, 5, 7, 9, 11, 13, 15];
 
-fn open_all<N: Names, R: Wait>(
-    rt: &R,
-    kernel: &Kernel<N>,
-    account: &mut Account<N>,
-) -> Result<Ends, Refused> {
-    let p = kernel.spawn(rt, account, &OpenGate)?;
-    let (mut low, mut high) = ([0; CLIENTS], [0; CLIENTS]);
-    for at in 0..CLIENTS {
-        let ends = kernel.open(rt, p, 0, account, &OpenGate)?;
-        low[at] = ends.0.rec;
-        high[at] = ends.1.rec;
+/// A take at any of these endpoints of a process is refused so, in this order of refusals. Record 16 is a block's, and
+/// nobody has 200.
+const REFUSED: &[(u16, &[u16], &str)] = &[
+    (0, &[], "Empty"),
+    (0, &HIGH, "Empty"),
+    (9, &HIGH, "NoProcess"),
+    (0, &[200; 65], "TooMany"),
+    (0, &[1, 200, 1], "NotOwned"),
+    (0, &[1, 16, 200], "NotEndpoint"),
+    (0, &[1, 3, 1], "Twice"),
+];
+
+// Whether the process starts, and the channels have these ends.
+fn opens_all<W: Worker>(worker: &mut W) -> bool {
+    let mut opens = matches!(worker.spawn(), Ok(0));
+    for at in 0..8u16 {
+        let ends = worker.open(0);
+        opens &= matches!(ends, Ok((low, high)) if (low.rec, high.rec) == (2 * at, 2 * at + 1));
     }
-    Ok(Ends { p, low, high })
+    opens
 }
 
 // What a take answered: the tag, or the name of its refusal.
@@ -41,149 +42,107 @@ fn told(answer: Result<Taken, Refused>) -> (u16, &'static str) {
     }
 }
 
-// The same, after the index.
+// The same, after the index. A refusal that is of no endpoint has the index after all.
 fn told_at(answer: Result<Answered, Refused>) -> (usize, (u16, &'static str)) {
     match answer {
         Ok(Answered { at, answer }) => (at, told(answer)),
-        Err(refused) => (MAX_ENDS, told(Err(refused))),
+        Err(refused) => (MAX_ENDS, (0, refused.name())),
     }
 }
 
-// What a take at any of these answers.
-fn any<N: Names, R: Wait>(
-    rt: &R,
-    kernel: &Kernel<N>,
-    account: &mut Account<N>,
+// A take at any of these answers so.
+fn assert_any<W: Worker>(
+    rt: &impl Abort,
+    worker: &mut W,
     p: u16,
     ends: &[u16],
-) -> (usize, (u16, &'static str)) {
-    told_at(kernel.take_any(rt, p, ends, account, &OpenGate))
+    expected: (usize, (u16, &str)),
+) {
+    assert_eq!(rt; told_at(worker.take_any(p, ends)), expected);
 }
 
-// A refusal that is of no endpoint.
-fn refused(name: &'static str) -> (usize, (u16, &'static str)) {
-    (MAX_ENDS, (0, name))
-}
-
-// Gives a message with the tag and no block.
-fn give<N: Names, R: Wait>(
-    rt: &R,
-    kernel: &Kernel<N>,
-    account: &mut Account<N>,
-    p: u16,
-    (e, tag): (u16, u16),
-) -> bool {
-    kernel.give(rt, p, e, tag, &[], account, &OpenGate).is_ok()
+// A message with the tag and no block is given.
+fn assert_gives<W: Worker>(rt: &impl Abort, worker: &mut W, e: u16, tag: u16) {
+    assert!(rt; worker.give(0, e, tag, &[]).is_ok());
 }
 
 /// The refusals in their order, what has a message before what is closed, and that before what is empty.
-pub fn assert_order<N: Names, R: Wait + Abort>(
-    rt: &R,
-    alloc: Global,
-    kernel: &Kernel<N>,
-    account: &mut Account<N>,
+pub fn assert_order<W: Worker>(rt: &impl Abort, worker: &mut W) {
+    assert!(rt; opens_all(worker));
+    assert!(rt; matches!(worker.alloc(0, 16, 0), Ok(block) if block.rec == 16));
+    for (p, ends, name) in REFUSED {
+        assert_any(rt, worker, *p, ends, (MAX_ENDS, (0, name)));
+    }
+    let _closed = worker.close(0, LOW[1]);
+    let _closed = worker.close(0, LOW[2]);
+    assert_any(rt, worker, 0, &HIGH, (1, (0, "PeerClosed")));
+    assert_gives(rt, worker, LOW[5], 7);
+    assert_gives(rt, worker, LOW[3], 8);
+    assert_any(rt, worker, 0, &HIGH, (3, (8, "")));
+    assert_any(rt, worker, 0, &HIGH, (5, (7, "")));
+    assert_any(
+        rt,
+        worker,
+        0,
+        &[HIGH[7], HIGH[2], HIGH[1]],
+        (1, (0, "PeerClosed")),
+    );
+}
+
+// Waits until the time at the first, and at any, answer so.
+fn assert_until<W: Worker>(
+    rt: &impl Abort,
+    worker: &mut W,
+    deadline: Instant,
+    one: (u16, &str),
+    any: (usize, (u16, &str)),
 ) {
-    let Ok(ends) = open_all(rt, kernel, account) else {
-        panic!(rt; "no channels");
-    };
-    let p = ends.p;
-    let low = ends.low;
-    let high = ends.high;
-    let Ok(data) = kernel.alloc(rt, alloc, p, 16, 0, account, &OpenGate) else {
-        panic!(rt; "no block");
-    };
-    let none = refused("Empty");
-    assert_eq!(rt; any(rt, kernel, account, p, &[]), none);
-    assert_eq!(rt; any(rt, kernel, account, p, &high), none);
-    assert_eq!(rt; any(rt, kernel, account, 9, &high), refused("NoProcess"));
-    assert_eq!(rt; any(rt, kernel, account, p, &[200; 65]), refused("TooMany"));
+    assert_eq!(rt; told(worker.take_wait_until(0, HIGH[0], deadline)), one);
     assert_eq!(rt;
-        any(rt, kernel, account, p, &[high[0], 200, high[0]]),
-        refused("NotOwned")
-    );
-    assert_eq!(rt;
-        any(rt, kernel, account, p, &[high[0], data.rec, 200]),
-        refused("NotEndpoint")
-    );
-    assert_eq!(rt;
-        any(rt, kernel, account, p, &[high[0], high[1], high[0]]),
-        refused("Twice")
-    );
-    let _closed = kernel.close(rt, p, low[1], account, &OpenGate);
-    let _closed = kernel.close(rt, p, low[2], account, &OpenGate);
-    assert_eq!(rt; any(rt, kernel, account, p, &high), (1, (0, "PeerClosed")));
-    assert!(rt;
-        give(rt, kernel, account, p, (low[5], 7)) && give(rt, kernel, account, p, (low[3], 8))
-    );
-    assert_eq!(rt; any(rt, kernel, account, p, &high), (3, (8, "")));
-    assert_eq!(rt; any(rt, kernel, account, p, &high), (5, (7, "")));
-    assert_eq!(rt;
-        any(rt, kernel, account, p, &[high[7], high[2], high[1]]),
-        (1, (0, "PeerClosed"))
+        told_at(worker.take_any_wait_until(0, &HIGH, deadline)),
+        any
     );
 }
 
 /// A wait returns once its time is past, and takes what waits then.
-pub fn assert_deadlines<N: Names, R: Wait + Clock + Abort>(
-    rt: &R,
-    kernel: &Kernel<N>,
-    account: &mut Account<N>,
-) {
-    let Ok(ends) = open_all(rt, kernel, account) else {
-        panic!(rt; "no channels");
-    };
-    let p = ends.p;
-    let low = ends.low;
-    let high = ends.high;
+pub fn assert_deadlines<W: Worker, R: Clock + Abort>(rt: &R, worker: &mut W) {
+    assert!(rt; opens_all(worker));
     for millis in [0, 20] {
-        let Some(deadline) = after(rt, millis) else {
-            panic!(rt; "no clock");
-        };
-        let one = kernel.take_wait_until(rt, p, high[0], deadline, account, &OpenGate);
-        assert_eq!(rt; told(one), (0, "Empty"));
-        let any = kernel.take_any_wait_until(rt, p, &high, deadline, account, &OpenGate);
-        assert_eq!(rt; told_at(any), (MAX_ENDS, (0, "Empty")));
+        let deadline = after(rt, millis).expect(rt, "a clock");
+        assert_until(rt, worker, deadline, (0, "Empty"), (MAX_ENDS, (0, "Empty")));
         assert!(rt; after(rt, 0) >= Some(deadline));
-        assert!(rt;
-            give(rt, kernel, account, p, (low[0], 7)) && give(rt, kernel, account, p, (low[1], 8))
-        );
-        let one = kernel.take_wait_until(rt, p, high[0], deadline, account, &OpenGate);
-        assert_eq!(rt; told(one), (7, ""));
-        let any = kernel.take_any_wait_until(rt, p, &high, deadline, account, &OpenGate);
-        assert_eq!(rt; told_at(any), (1, (8, "")));
+        assert_gives(rt, worker, LOW[0], 7);
+        assert_gives(rt, worker, LOW[1], 8);
+        assert_until(rt, worker, deadline, (7, ""), (1, (8, "")));
     }
-    let none = kernel.take_any_wait(rt, p, &[], account, &OpenGate);
-    assert_eq!(rt; told_at(none), (MAX_ENDS, (0, "Empty")));
+    assert_eq!(rt;
+        told_at(worker.take_any_wait(0, &[])),
+        (MAX_ENDS, (0, "Empty"))
+    );
 }
 
 // Gives at each, as many as there is room for.
-fn fill<N: Names, R: Wait>(rt: &R, kernel: &Kernel<N>, account: &mut Account<N>, ends: &Ends) {
-    for (at, e) in ends.low.iter().enumerate() {
+fn fill<W: Worker>(worker: &mut W) {
+    for (at, e) in LOW.iter().enumerate() {
         for _ in 0..2 {
-            let _full = give(rt, kernel, account, ends.p, (*e, at as u16));
+            let _full = worker.give(0, *e, at as u16, &[]);
         }
     }
 }
 
 /// Of eight channels on which messages always wait, none is passed over while the look begins one further each time.
-pub fn assert_turns<N: Names, R: Wait + Abort>(
-    rt: &R,
-    kernel: &Kernel<N>,
-    account: &mut Account<N>,
-) {
-    let Ok(ends) = open_all(rt, kernel, account) else {
-        panic!(rt; "no channels");
-    };
-    let mut from = ends.high;
-    let mut taken = [0u16; CLIENTS];
-    for _ in 0..CLIENTS * 16 {
-        fill(rt, kernel, account, &ends);
-        let (at, (tag, _none)) = any(rt, kernel, account, ends.p, &from);
+pub fn assert_turns<W: Worker>(rt: &impl Abort, worker: &mut W) {
+    assert!(rt; opens_all(worker));
+    let mut from = HIGH;
+    let mut taken = [0u16; 8];
+    for _ in 0..8 * 16 {
+        fill(worker);
+        let (at, (tag, _none)) = told_at(worker.take_any(0, &from));
         assert_eq!(rt; at, 0);
         if let Some(count) = taken.get_mut(usize::from(tag)) {
             *count = count.saturating_add(1);
         }
         from.rotate_left(1);
     }
-    assert_eq!(rt; taken, [16; CLIENTS]);
+    assert_eq!(rt; taken, [16; 8]);
 }

@@ -1,5 +1,6 @@
 // A process that waits for a message at one endpoint or at one of two, on threads.
 use super::{Case, assert_case, waiting_of};
+use crate::worker::Worker;
 use std::alloc::Global;
 use std::hint::spin_loop;
 use std::process::Abort;
@@ -8,7 +9,7 @@ use std::thread;
 use std::thread::Threads;
 use std::time::{Clock, Duration, Instant};
 use xh_core::Refused;
-use xh_kernel::{Account, Answered, Kernel, Names};
+use xh_kernel::Answered;
 use xh_place::{Got, OpenGate, Taken};
 
 /// What ends the wait.
@@ -71,7 +72,7 @@ fn coded(answer: Result<Taken, Refused>) -> u64 {
         Err(Refused::Ended) => 2,
         Err(Refused::PeerClosed { .. }) => 3,
         Err(Refused::NotOwned) => 4,
-        Err(_) => 5,
+        Err(_refused) => 5,
     }
 }
 
@@ -85,39 +86,25 @@ fn coded_any(answer: Result<Answered, Refused>) -> u64 {
 }
 
 // Two processes with two channels. The first has a block ahead of its end, so that a budget of 1 doesn't reach it.
-fn make_pair<N: Names, R: Wait>(
-    rt: &R,
-    alloc: Global,
-    kernel: &Kernel<N>,
-    account: &mut Account<N>,
-) -> Result<Pair, Refused> {
-    let p = kernel.spawn(rt, account, &OpenGate)?;
-    let q = kernel.spawn(rt, account, &OpenGate)?;
-    kernel.alloc(rt, alloc, p, 16, 0, account, &OpenGate)?;
-    let x = kernel.alloc(rt, alloc, q, 16, 0, account, &OpenGate)?.rec;
-    let (low, high) = kernel.wire(rt, p, q, 0, account, &OpenGate)?;
-    let (e, f) = (low.rec, high.rec);
-    let (other, _theirs) = kernel.wire(rt, p, q, 0, account, &OpenGate)?;
-    let still = other.rec;
+fn make_pair<W: Worker>(worker: &mut W) -> Result<Pair, Refused> {
+    let p = worker.spawn()?;
+    let q = worker.spawn()?;
+    worker.alloc(p, 16, 0)?;
+    let x = worker.alloc(q, 16, 0)?.rec;
+    let (low, high) = worker.wire(p, q, &OpenGate)?;
+    let (other, _theirs) = worker.wire(p, q, &OpenGate)?;
     Ok(Pair {
         p,
         q,
-        e,
-        f,
+        e: low.rec,
+        f: high.rec,
         x,
-        still,
+        still: other.rec,
     })
 }
 
 // Ends the wait after a pause.
-fn end_wait<N: Names, R: Wait>(
-    rt: &R,
-    kernel: &Kernel<N>,
-    account: &mut Account<N>,
-    pair: Pair,
-    ender: Ender,
-    turns: u64,
-) {
+fn end_wait<W: Worker>(worker: &mut W, pair: Pair, ender: Ender, turns: u64) {
     let Pair {
         p,
         q,
@@ -128,64 +115,43 @@ fn end_wait<N: Names, R: Wait>(
     } = pair;
     pause(turns);
     let _done = match ender {
-        Ender::Gives => kernel.give(rt, q, f, 7, &[x], account, &OpenGate),
-        Ender::Closes => kernel.close(rt, q, f, account, &OpenGate),
-        Ender::Kills => kernel.kill(rt, q, p, 4096, account, &OpenGate),
-        Ender::KillsInPart => kernel.kill(rt, q, p, 1, account, &OpenGate),
-        Ender::Exits => kernel.exit(rt, p, 4096, account, &OpenGate),
-        Ender::ClosesItsEnd => kernel.close(rt, p, e, account, &OpenGate),
-        Ender::MovesItsEnd => kernel.give(rt, p, still, 7, &[e], account, &OpenGate),
-        Ender::KillsPeer => kernel.kill(rt, p, q, 4096, account, &OpenGate),
-        Ender::PeerExits => kernel.exit(rt, q, 4096, account, &OpenGate),
+        Ender::Gives => worker.give(q, f, 7, &[x]),
+        Ender::Closes => worker.close(q, f),
+        Ender::Kills => worker.kill(q, p, 4096),
+        Ender::KillsInPart => worker.kill(q, p, 1),
+        Ender::Exits => worker.exit(p),
+        Ender::ClosesItsEnd => worker.close(p, e),
+        Ender::MovesItsEnd => worker.give(p, still, 7, &[e]),
+        Ender::KillsPeer => worker.kill(p, q, 4096),
+        Ender::PeerExits => worker.exit(q),
     };
 }
 
 // What the process answers that waits after a pause, by one of the ways, a long time at most.
-fn wait_late<N: Names, R: Wait + Clock>(
-    rt: &R,
-    kernel: &Kernel<N>,
-    account: &mut Account<N>,
-    pair: Pair,
-    way: Way,
-    turns: u64,
-) -> u64 {
+fn wait_late<W: Worker, R: Clock>(rt: &R, worker: &mut W, pair: Pair, way: Way, turns: u64) -> u64 {
     pause(turns);
     let Some(deadline) = after(rt, 20_000) else {
         return 7;
     };
     let (p, e, ends) = (pair.p, pair.e, [pair.still, pair.e]);
-    match way {
-        Way {
-            both: false,
-            timed: false,
-        } => coded(kernel.take_wait(rt, p, e, account, &OpenGate)),
-        Way {
-            both: false,
-            timed: true,
-        } => { coded(kernel.take_wait_until(rt, p, e, deadline, account, &OpenGate)) }
-        Way {
-            both: true,
-            timed: false,
-        } => coded_any(kernel.take_any_wait(rt, p, &ends, account, &OpenGate)),
-        Way {
-            both: true,
-            timed: true,
-        } => { coded_any(kernel.take_any_wait_until(rt, p, &ends, deadline, account, &OpenGate)) }
+    match (way.both, way.timed) {
+        (false, false) => coded(worker.take_wait(p, e)),
+        (false, true) => coded(worker.take_wait_until(p, e, deadline)),
+        (true, false) => coded_any(worker.take_any_wait(p, &ends)),
+        (true, true) => coded_any(worker.take_any_wait_until(p, &ends, deadline)),
     }
 }
 
 // One round: what the waiting process answered, while another thread ends its wait.
-fn round<N: Names + Send + Sync, R: Threads + Wait + Clock + Sync>(
+fn round<W: Worker + Send, R: Threads + Clock + Sync>(
     rt: &R,
-    alloc: Global,
-    kernel: &Kernel<N>,
-    mine: &mut Account<N>,
-    other: &mut Account<N>,
+    mine: &mut W,
+    other: &mut W,
     how: (bool, Ender),
     seed: u64,
 ) -> Result<u64, Refused> {
     let (both, ender) = how;
-    let pair = make_pair(rt, alloc, kernel, mine)?;
+    let pair = make_pair(mine)?;
     let turns = (seed % 211, (seed / 211) % 4001);
     let way = Way {
         both,
@@ -193,24 +159,23 @@ fn round<N: Names + Send + Sync, R: Threads + Wait + Clock + Sync>(
     };
     let (answered, ()) = thread::join(
         rt,
-        || wait_late(rt, kernel, other, pair, way, turns.0),
-        || end_wait(rt, kernel, mine, pair, ender, turns.1),
+        || wait_late(rt, other, pair, way, turns.0),
+        || end_wait(mine, pair, ender, turns.1),
     );
     for process in [pair.p, pair.q] {
-        let _ended = kernel.exit(rt, process, 4096, mine, &OpenGate);
+        let _ended = mine.exit(process);
     }
     Ok(answered)
 }
 
 /// In 32 rounds over one kernel, which has two channels for each, the waiting process always answers so, and all bytes
 /// come back.
-pub fn assert_rounds<N: Names + Send + Sync, R: Threads + Wait + Clock + Abort + Sync>(
+pub fn assert_rounds<W: Worker + Send, R: Threads + Clock + Abort + Sync>(
     rt: &R,
-    alloc: Global,
-    kernel: &Kernel<N>,
-    mine: &mut Account<N>,
-    others: &mut [Account<N>],
-    (both, ender, want): (bool, Ender, u64),
+    mine: &mut W,
+    others: &mut [W],
+    how: (bool, Ender),
+    want: u64,
 ) {
     let Some(other) = others.first_mut() else {
         panic!(rt; "no other worker");
@@ -218,11 +183,10 @@ pub fn assert_rounds<N: Names + Send + Sync, R: Threads + Wait + Clock + Abort +
     let mut seed = 1u64;
     for at in 0..32u8 {
         seed = drawn(seed);
-        let answer = round(rt, alloc, kernel, mine, other, (both, ender), seed >> 20);
+        let answer = round(rt, mine, other, how, seed >> 20);
         assert!(rt; matches!(answer, Ok(code) if code == want), "round {at}");
     }
-    let moved = mine.moved(0);
-    assert!(rt; matches!(moved, Some((taken, back)) if taken == back));
+    assert!(rt; matches!(mine.moved(), Some((taken, back)) if taken == back));
 }
 
 /// In 2,048 rounds over 64 kernels the waiting process always answers so.

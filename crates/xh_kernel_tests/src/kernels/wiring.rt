@@ -1,14 +1,13 @@
 // A wire whose other process ends in between, on threads.
 use super::{Case, assert_case, assert_two_start, waiting_of};
+use crate::worker::Worker;
 use std::hint::spin_loop;
 use std::process::Abort;
-use std::sync::Wait;
 use std::sync::atomic::{AtomicU64, Ordering};
 use std::thread;
 use std::thread::Threads;
 use xh_core::Refused;
-use xh_kernel::{Account, Kernel, Names};
-use xh_place::{Gate, OpenGate, Point};
+use xh_place::{Gate, Point};
 
 /// It holds whoever has claimed a record until it is told to go on, or a long time has passed.
 #[derive(Drop)]
@@ -43,25 +42,14 @@ impl Gate for Hold {
 }
 
 // The process ends once the other has claimed a record, and the other is told to go on.
-fn end_between<N: Names, R: Wait>(
-    rt: &R,
-    kernel: &Kernel<N>,
-    q: u16,
-    account: &mut Account<N>,
-    hold: &Hold,
-) {
+fn end_between<W: Worker>(worker: &mut W, q: u16, hold: &Hold) {
     wait_for(&hold.claimed);
-    let _ended = kernel.exit(rt, q, 4096, account, &OpenGate);
+    let _ended = worker.exit(q);
     hold.told.store(1, Ordering::SeqCst);
 }
 
 // Whether a wire of process 0 is refused whose other process, 1, ends once the first has claimed a record.
-fn is_refused<N: Names + Send + Sync, R: Threads + Wait + Sync>(
-    rt: &R,
-    kernel: &Kernel<N>,
-    mine: &mut Account<N>,
-    other: &mut Account<N>,
-) -> bool {
+fn is_refused<W: Worker + Send, R: Threads>(rt: &R, mine: &mut W, other: &mut W) -> bool {
     let hold = Hold {
         claimed: AtomicU64::new(0),
         told: AtomicU64::new(0),
@@ -69,26 +57,24 @@ fn is_refused<N: Names + Send + Sync, R: Threads + Wait + Sync>(
     let gate = &hold;
     let (refused, ()) = thread::join(
         rt,
-        || matches!(kernel.wire(rt, 0, 1, 0, mine, gate), Err(Refused::Ended)),
-        || end_between(rt, kernel, 1, other, gate),
+        || matches!(mine.wire(0, 1, gate), Err(Refused::Ended)),
+        || end_between(other, 1, gate),
     );
     refused
 }
 
 /// Such a wire is refused, and what it took is given back.
-pub fn assert_refused<N: Names + Send + Sync, R: Threads + Wait + Abort + Sync>(
+pub fn assert_refused<W: Worker + Send, R: Threads + Abort>(
     rt: &R,
-    kernel: &Kernel<N>,
-    mine: &mut Account<N>,
-    others: &mut [Account<N>],
+    mine: &mut W,
+    others: &mut [W],
 ) {
-    assert_two_start(rt, kernel, mine);
+    assert_two_start(rt, mine);
     let Some(other) = others.first_mut() else {
         panic!(rt; "no other worker");
     };
-    let refused = is_refused(rt, kernel, mine, other);
-    assert!(rt; refused);
-    assert!(rt; mine.moved(0) == Some((64, 64)));
+    assert!(rt; is_refused(rt, mine, other));
+    assert!(rt; mine.moved() == Some((64, 64)));
 }
 
 /// Where the other process ends before its end reaches it, both ends are reclaimed.
