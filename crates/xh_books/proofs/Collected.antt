@@ -94,11 +94,13 @@ by_vault zs vs (a ∷ rest) e named =
 
 -- ---- what they are then
 
-kept : {B : Type 0} (f : VaultOf → B) → ((v : VaultOf) (ms : List Move) → f (record v { collected = ms }) ≡ f v) → (k : ℕ) (all : List AccountOf) (vs : List VaultOf) → map f (collected k all vs) ≡ map f vs
+kept : {B : Type 0} (f : VaultOf → B) → ((v : VaultOf) (ms : List Move) → f (record v { collected = ms }) ≡ f v) → (k : ℕ) (all : List AccountOf) (vs : List VaultOf)
+    → map f (collected k all vs) ≡ map f vs
 kept f same k all [] = refl
 kept f same k all (v ∷ vs) = λ i. same v (moves_of k all v.collected) i ∷ kept f same (suc k) all vs i
 
-sum_moves : (g : Move → ℕ) (part : AccountOf → ℕ) (k : ℕ) → ((a : AccountOf) → g (move_of k a) ≡ part a) → (all : List AccountOf) (ms : List Move) → sum_by g (moves_of k all ms) ≡ sum_by part all + sum_by g ms
+sum_moves : (g : Move → ℕ) (part : AccountOf → ℕ) (k : ℕ) → ((a : AccountOf) → g (move_of k a) ≡ part a) → (all : List AccountOf) (ms : List Move)
+    → sum_by g (moves_of k all ms) ≡ sum_by part all + sum_by g ms
 sum_moves g part k is [] ms = omega arith
 sum_moves g part k is (a ∷ all) ms = omega (arith, sum_moves g part k is all (move_of k a ∷ ms), sum_by-cons g (move_of k a) ms, sum_by-cons part a all, is a)
 
@@ -122,7 +124,8 @@ module _ (p : PartsOf) where
       let back : sum_by (λ (m : Move). m.back) (moves_of k all v.collected) ≡ sum_by (back_of k) all = omega (arith, sum_moves (λ m. m.back) (back_of k) k (λ a. refl) all v.collected, ap (sum_by (λ (m : Move). m.back)) none) in
       λ i. record { size = length v.arena.cover; out = bytes_out v.arena.cover; holes = length (holes_of v.arena.cover); taken = taken i; back = back i } ∷ lines (suc k) all vs (All-tail (IsOpen p) v vs fresh) i
 
-  pub gathered : (vs ws : List VaultOf) (all : List AccountOf) → vault_names vs ≡ p.records.shape.names → All (Named p.records.shape.names) all → All (IsOpen p) vs → length all ≡ p.workers → ws ≡ with_accounts vs all
+  pub gathered : (vs ws : List VaultOf) (all : List AccountOf) → vault_names vs ≡ p.records.shape.names → All (Named p.records.shape.names) all → All (IsOpen p) vs → length all ≡ p.workers
+      → ws ≡ with_accounts vs all
       → AreGathered all vs ws
   gathered vs ws all e named fresh count is = subst (AreGathered all vs) (sym (is ∙ by_vault p.records.shape.names vs all e named)) record {
     names = kept (λ v. v.id) (λ v ms. refl) 0 all vs;

@@ -76,7 +76,8 @@ are_lines all full = record {
 
 -- a record in flight has bytes
 pub all_full : (d : ℕ) (ps : List PlaceOf) (n k : ℕ) (owners : List (Option Holder)) (lens : List ℕ)
-    → ((i j m : ℕ) (h : Option Holder) → j ≡ k + i → slice_get lens i ≡ Some m → slice_get owners i ≡ Some h → IsHolder h × Stands ps (number_of n j) m h) → All (IsFull d) (zip (map word_of owners) lens)
+    → ((i j m : ℕ) (h : Option Holder) → j ≡ k + i → slice_get lens i ≡ Some m → slice_get owners i ≡ Some h → IsHolder h × Stands ps (number_of n j) m h)
+    → All (IsFull d) (zip (map word_of owners) lens)
 all_full d ps n k [] lens each = All-nil (IsFull d)
 all_full d ps n k (h ∷ hs) [] each = All-nil (IsFull d)
 all_full d ps n k (h ∷ hs) (m ∷ ms) each = All-cons (IsFull d) (word_of h, m) (zip (map word_of hs) ms) (here h (each 0 k m h (omega arith) refl refl).1)
@@ -98,7 +99,8 @@ one_flying ps r m (Some (Direction d)) holder is =
     sum_same (on (2 + 4 * d, m)) (λ q. cond {A = ℕ} (d == q) m 0) (range_with_len 0 DIRECTIONS) (λ q. grind (arith, nat_tests)) ∙ picked m d 0 DIRECTIONS (omega arith) (omega arith) ∙ rw is.1 refl
 one_flying ps r m (Some (Process p)) holder is =
     let q = is.1 in
-    let listed : is_listed r ps ≡ true = list_any_at (λ x. is_some (value_at r x.blocks)) ps q.0 q.1 q.2 (ap (λ (x : PlaceOf). is_some (value_at r x.blocks)) q.3 ∙ is_there (value_at r q.1.blocks) (λ b. b.len ≡ m) q.4.1) in
+    let listed : is_listed r ps ≡ true = list_any_at (λ x. is_some (value_at r x.blocks)) ps q.0 q.1 q.2 (ap (λ (x : PlaceOf). is_some (value_at r x.blocks)) q.3
+    ∙ is_there (value_at r q.1.blocks) (λ b. b.len ≡ m) q.4.1) in
     sum_same (on (1 + 4 * p, m)) (λ d. 0) (range_with_len 0 DIRECTIONS) (λ d. grind (arith, nat_tests)) ∙ sum_zero (range_with_len 0 DIRECTIONS) ∙ rw listed refl
 
 pub flying_is : (ps : List PlaceOf) (n k : ℕ) (owners : List (Option Holder)) (lens : List ℕ) → length owners ≡ length lens

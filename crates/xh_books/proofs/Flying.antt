@@ -28,7 +28,8 @@ pub listed_at : (ps : List PlaceOf) (r : ℕ) → is_listed r ps ≡ true → (j
 listed_at [] r h = absurd (cc)
 listed_at (p ∷ ps) r h = go (value_at r p.blocks) refl (listed_at ps r) h
   where
-    go : (o : Option Item) → value_at r p.blocks ≡ o → (is_listed r ps ≡ true → (j : ℕ) × (x : Item) × ListsAt ps j r x) → (is_some o || is_listed r ps) ≡ true → (j : ℕ) × (x : Item) × ListsAt (p ∷ ps) j r x
+    go : (o : Option Item) → value_at r p.blocks ≡ o → (is_listed r ps ≡ true → (j : ℕ) × (x : Item) × ListsAt ps j r x) → (is_some o || is_listed r ps) ≡ true → (j : ℕ) × (x : Item)
+        × ListsAt (p ∷ ps) j r x
     go (Some x) e later h = (0, x, (p, refl, e))
     go None e later h = let t = later h in (suc t.0, t.1, t.2)
 

@@ -54,7 +54,8 @@ module _ (parts : PartsOf) where
 -- ---- a closed kernel
 
 -- its ledger, of accounts whose tallies are still those that were handed in
-pub is_closed : (parts : PartsOf) (own : RecordsOf) → own ≡ parts.records → (places : List PlaceSeen) (pens : List Pens) (vaults : List VaultOf) (all now_ : List AccountOf) (looks : List LookOf) (r : Result Books Refused)
+pub is_closed : (parts : PartsOf) (own : RecordsOf) → own ≡ parts.records
+    → (places : List PlaceSeen) (pens : List Pens) (vaults : List VaultOf) (all now_ : List AccountOf) (looks : List LookOf) (r : Result Books Refused)
     → AreKept parts places pens → length all ≡ parts.workers → HaveSeen all looks pens → (vault_names vaults ≡ parts.records.shape.names) × All (IsOpen parts) vaults → tallies_of now_ ≡ tallies_of all
     → IfOk r (λ b. b.ledger.arenas.items ≡ arena_lines now_ 0 vaults) → IfOk r (λ b. b.ledger.places.items ≡ place_lines (places_of places))
     → IfOk r (λ b. b.ledger.owned ≡ bytes_owned (places_of places))

@@ -30,7 +30,8 @@ first_is P (test ∷ tests) each = go test.0 (first_is P tests each.1) where
   go false rest = rest
 
 -- what an open answers, whose refusals by its tests and after them are such
-pub unopened_after : (P : Refused → Type 0) (tests : Tests) → EachRefusal P tests → (opened : Result (Block × Block) Unopened) (result : Result (Block × Block) Refused) (Q : Refused → Type 0) (S : Type 0)
+pub unopened_after : (P : Refused → Type 0) (tests : Tests) → EachRefusal P tests
+    → (opened : Result (Block × Block) Unopened) (result : Result (Block × Block) Refused) (Q : Refused → Type 0) (S : Type 0)
     → MatchResult opened (λ ends. result ≡ Ok ends) (λ u. result ≡ Err u.why) → IsUnopened tests S Q opened → ((e : Refused) → Q e → P e) → IfErr result P
 unopened_after P tests each (Ok ends) result Q S is why more = subst (λ (r : Result (Block × Block) Refused). IfErr r P) (sym is) tt
 unopened_after P tests each (Err u) result Q S is why more = subst (λ (r : Result (Block × Block) Refused). IfErr r P) (sym is) (go _ (first_refusal tests) (first_is P tests each) why) where
@@ -39,7 +40,8 @@ unopened_after P tests each (Err u) result Q S is why more = subst (λ (r : Resu
   go X (Some e) first h = subst P (sym h.0) first
 
 -- another word for the lack
-pub lacks_so : (tests : Tests) (S : Type 0) (Q P : Refused → Type 0) (opened : Result (Block × Block) Unopened) → IsUnopened tests S Q opened → ((e : Refused) → Q e → P e) → IsUnopened tests ⊤ P opened
+pub lacks_so : (tests : Tests) (S : Type 0) (Q P : Refused → Type 0) (opened : Result (Block × Block) Unopened) → IsUnopened tests S Q opened → ((e : Refused) → Q e → P e)
+    → IsUnopened tests ⊤ P opened
 lacks_so tests S Q P opened why more = go (first_refusal tests) why where
   each : (r : Result (Block × Block) Unopened) → IfErr r (λ u. Q u.why) → IfErr r (λ u. P u.why)
   each (Ok ends) h = tt

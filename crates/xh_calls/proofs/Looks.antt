@@ -101,7 +101,8 @@ first_takes p e es ends s t taken is k = subst (λ (xs : List ℕ). AnswersAt p 
 shut_first : (p e : ℕ) (es : List ℕ) (s t u : PlaceSeen) → Takes p e s t (Err closed) → HaveNone p es t u → AnswersAt p (e ∷ es) s u (answered 0 (Err closed))
 shut_first p e es s t u k h = record { before = []; e = e; after = es; first = s; mid = t; ends_are = refl; index = refl; takes = k; looks = (refl, refl, h) }
 
-over_empty : (p e : ℕ) (es : List ℕ) (r s u : PlaceSeen) (later : Result Answered Refused) → Takes p e r s (Err Empty) → s.place ≡ r.place → TakesFirst p es s u later → TakesFirst p (e ∷ es) r u (first_of Empty later)
+over_empty : (p e : ℕ) (es : List ℕ) (r s u : PlaceSeen) (later : Result Answered Refused) → Takes p e r s (Err Empty) → s.place ≡ r.place → TakesFirst p es s u later
+    → TakesFirst p (e ∷ es) r u (first_of Empty later)
 over_empty p e es r s u (Ok a) k same h = go a.answer h where
   go : (answer : Result Taken Refused) → AnswersAt p es s u (answered a.at answer) → TakesFirst p (e ∷ es) r u (first_of Empty (Ok (answered a.at answer)))
   go (Ok taken) g = message p es s u a.at e r Empty k taken g

@@ -52,7 +52,8 @@ module _ (from to : List TallyOf) where
       → (bytes : ℕ) × Stops p budget bytes old new result × HasGivenBack bytes from to
   stopped p budget old new result none over h =
       let D : Type 0 = (bytes : ℕ) × IsStopped budget old new bytes result × HasGivenBack bytes from to in
-      let d : D = subst (λ (o : Option Refused). MatchOption o D (λ refused. (result ≡ Err refused) × ((new.place ≡ old.place) × (to ≡ from)))) (ap (λ (b : Bool). first_refusal ((b, Ended) ∷ [])) over) h in
+      let d : D = subst (λ (o : Option Refused). MatchOption o D (λ refused. (result ≡ Err refused)
+      × ((new.place ≡ old.place) × (to ≡ from)))) (ap (λ (b : Bool). first_refusal ((b, Ended) ∷ [])) over) h in
       (d.0, subst (λ (o : Option Refused). MatchOption o (IsStopped budget old new d.0 result) (λ refused. (result ≡ Err refused) × IsUntouched old new d.0)) (sym none) d.1, d.2)
 
 -- what was given back by the tallies that were lent

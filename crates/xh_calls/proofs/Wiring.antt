@@ -62,7 +62,8 @@ closed_bytes saw e x old new n left at is = go is.count refl is.by.accepted is.b
       let less : total_of (drop k accepted) ≤ total_of accepted = total_left k accepted in omega (arith, here, less, sum, all)
 
 -- side 0 was closed
-pub closes_again : (p r channel : ℕ) (before after : List TallyOf) (old new : PlaceSeen) (result : Result ℕ Refused) → first_refusal (start p old.place) ≡ None → AreBlocks old.place.blocks → HasLow channel r old.place
+pub closes_again : (p r channel : ℕ) (before after : List TallyOf) (old new : PlaceSeen) (result : Result ℕ Refused) → first_refusal (start p old.place) ≡ None → AreBlocks old.place.blocks
+    → HasLow channel r old.place
     → (n : ℕ) × Closes p r n old new result × HasGivenBack n before after → (n : ℕ) × ClosesAgain p channel r old new n × HasGivenBack n before after
 closes_again p r channel before after old new result none blocks low h =
     let x = low.0 in let n = h.0 in

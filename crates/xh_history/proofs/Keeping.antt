@@ -1,5 +1,6 @@
 -- Each step keeps the rule.
-use Rattle.std.proofs.Common.{◌≡◌, ◌≢◌, ℕ, zero, suc, ◌<◌, ◌≤◌, List, [], ◌∷◌, ◌++◌, length, set, cond, eqb, refl, sym, ap, ◌∙◌, subst, ⊎_elim, arith, append_assoc, append-nil, get_or-set_same, get_or-set_other, replicate, eq-eqb, ne_eqb}
+use Rattle.std.proofs.Common.{◌≡◌, ◌≢◌, ℕ, zero, suc, ◌<◌, ◌≤◌, List, [], ◌∷◌, ◌++◌, length, set, cond, eqb, refl, sym, ap, ◌∙◌, subst, ⊎_elim, arith, append_assoc, append-nil, get_or-set_same}
+use Rattle.std.proofs.Common.{get_or-set_other, replicate, eq-eqb, ne_eqb}
 use Rattle.std.specs.Prelude.{◌==◌, Bool, true, false}
 use mathlib.Core.Option.{some, none, some-ne-none, some-injective}
 use mathlib.Core.Logic.{dite}
@@ -11,7 +12,8 @@ use Rattle.atomic_table.proofs.Lists.{at_set, set_else}
 use Rattle.xh_history.specs.declared.view.View.{View}
 use Rattle.xh_model.specs.declared.limits.TheConstants.{PLACES}
 use Rattle.xh_history.specs.Histories.{History, HasSeen, calls_of, at}
-use Rattle.xh_history.specs.inner.Views.{Added, Fits, IsFront, IsFrontOrNone, IsKept, front_of, Serves, Writes, both, first_view, place_alone, signed, spent, with_calls, without_place, without_worker, worker_alone}
+use Rattle.xh_history.specs.inner.Views.{Added, Fits, IsFront, IsFrontOrNone, IsKept, front_of, Serves, Writes, both, first_view, place_alone, signed, spent, with_calls, without_place, without_worker}
+use Rattle.xh_history.specs.inner.Views.{worker_alone}
 
 -- the function with another value at one number
 abbrev but : {A : Type 0} → (ℕ → A) → ℕ → A → ℕ → A
@@ -27,7 +29,8 @@ module _ {E : Type 0} where
   calls_append : (k : ℕ) (xs ys : History E) → calls_of k (xs ++ ys) ≡ calls_of k xs ++ calls_of k ys
   calls_append k [] ys = refl
   calls_append k (c ∷ xs) ys = go (c.0 == k) (calls_append k xs ys) where
-    go : (b : Bool) → calls_of k (xs ++ ys) ≡ calls_of k xs ++ calls_of k ys → cond b (c.1 ∷ calls_of k (xs ++ ys)) (calls_of k (xs ++ ys)) ≡ cond b (c.1 ∷ calls_of k xs) (calls_of k xs) ++ calls_of k ys
+    go : (b : Bool) → calls_of k (xs ++ ys) ≡ calls_of k xs ++ calls_of k ys
+        → cond b (c.1 ∷ calls_of k (xs ++ ys)) (calls_of k (xs ++ ys)) ≡ cond b (c.1 ∷ calls_of k xs) (calls_of k xs) ++ calls_of k ys
     go true e = ap (λ l. c.1 ∷ l) e
     go false e = e
 
@@ -49,7 +52,8 @@ module _ {E : Type 0} where
   )
 
   -- one view changes
-  pub set_each : (P Q : ℕ → View E → Type 0) (views : List (View E)) (id : ℕ) (w : View E) → ((j : ℕ) (u : View E) → get_elem? views j ≡ some u → P j u) → Q id w → ((j : ℕ) (u : View E) → j ≢ id → P j u → Q j u)
+  pub set_each : (P Q : ℕ → View E → Type 0) (views : List (View E)) (id : ℕ) (w : View E) → ((j : ℕ) (u : View E) → get_elem? views j ≡ some u → P j u) → Q id w
+      → ((j : ℕ) (u : View E) → j ≢ id → P j u → Q j u)
       → (j : ℕ) (u : View E) → get_elem? (set views id w) j ≡ some u → Q j u
   set_each P Q views id w all here others j u e = ⊎_elim
       (λ (t : (j ≡ id) × (w ≡ u)). subst (λ (k : ℕ). Q k u) (sym t.0) (subst (λ (x : View E). Q id x) t.1 here))
@@ -64,7 +68,8 @@ module _ {E : Type 0} where
   push_each P (x ∷ xs) w all last zero u e = all zero u e
   push_each P (x ∷ xs) w all last (suc j) u e = push_each (λ k y. P (suc k) y) xs w (λ k y t. all (suc k) y t) last j u e
 
-  pub adds : {S : Type 0} (slots id word : ℕ) (me : Me S (View E)) (es : List E) → me.0.places_end ≡ suc me.0.place → me.0.workers_end ≡ suc me.0.worker → me.0.place < PLACES → length me.0.fronts ≡ PLACES
+  pub adds : {S : Type 0} (slots id word : ℕ) (me : Me S (View E)) (es : List E) → me.0.places_end ≡ suc me.0.place → me.0.workers_end ≡ suc me.0.worker → me.0.place < PLACES
+      → length me.0.fronts ≡ PLACES
       → Allows IsKept slots id me word (λ n. n) (Added es (step slots word 0 0 none) me)
   adds slots id word me es one_place one_worker inside long s told len here fits =
       let v : View E = me.0 in

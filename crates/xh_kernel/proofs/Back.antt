@@ -25,7 +25,8 @@ came_back {account} {inside} {lent} {given} {new} before bytes was view start en
 -- the bytes of a block came back, whose record is of an arena of these names
 pub given : {account inside : AccountOf} {lent out new : List TallyOf} (result : Result ℕ Refused) (arena : ℕ) (names : List TableId) → inside ≡ account → lent ≡ inside.tallies → new ≡ out
     → ids_of account.tallies ≡ names → OnOk result (arena < length names) → MatchResult result (λ n. out ≡ gave arena n lent) (λ _. out ≡ lent)
-    → MatchResult result (λ n. (inside.number ≡ account.number) × (new ≡ gave arena n account.tallies) × (arena < length account.tallies)) (λ _. (inside.number ≡ account.number) × (new ≡ account.tallies))
+    → MatchResult result (λ n. (inside.number ≡ account.number) × (new ≡ gave arena n account.tallies) × (arena < length account.tallies)) (λ _. (inside.number ≡ account.number)
+    × (new ≡ account.tallies))
 given {account} (Ok n) arena names view start end same there m =
     let first = start ∙ ap (λ (a : AccountOf). a.tallies) view in
     (ap (λ (a : AccountOf). a.number) view, end ∙ m ∙ ap (gave arena n) first, tallied account.tallies arena same refl there)

@@ -24,7 +24,8 @@ pub told : (pen new : PenOf) (g h : Glance) → new ≡ record pen { history = p
 told pen new g h e same = ap (λ (p : PenOf). last_of p.history) e ∙ last_push pen.history g ∙ ap Some same
 
 -- a place that nobody has had yet, whose history has no call
-pub history_first : (parts : PartsOf) (p : PlaceSeen) (pens : Pens) (k : ℕ) → IsUnused parts k p.place → pens.glances ≡ fresh_pen parts.glances k → pens.history ≡ histories.fresh_pen parts.histories k → AreOf parts pens p
+pub history_first : (parts : PartsOf) (p : PlaceSeen) (pens : Pens) (k : ℕ) → IsUnused parts k p.place → pens.glances ≡ fresh_pen parts.glances k
+    → pens.history ≡ histories.fresh_pen parts.histories k → AreOf parts pens p
 history_first parts p pens k unused glances history =
     let first : IsHistoryOf parts k [] (fresh_pen parts.glances k).history p = ∣ (p, [], unused, refl, ((refl, starts_itself p.front), refl)) ∣₁ in
     subst (λ (z : histories.PenOf Call). IsHistoryOf parts z.number z.history pens.glances.history p) (sym history) (subst (λ (z : PenOf). IsHistoryOf parts k [] z.history p) (sym glances) first)

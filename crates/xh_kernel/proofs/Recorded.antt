@@ -15,9 +15,20 @@ use Rattle.xh_place.specs.Places.{glance_of}
 use Rattle.xh_place.specs.Seen.{PlaceSeen, Stays}
 
 module _ (parts : PartsOf) where
-  leads_on : (a b from c : PlaceSeen) (h : History Call) (gs told : List Glance) (n : ℕ) (e : Call) → Leads parts a h gs b → Stays b from → Goes parts (n, e) from c told → Leads parts a (h ++ (n, e) ∷ []) (gs ++ told) c
+  leads_on : (a b from c : PlaceSeen) (h : History Call) (gs told : List Glance) (n : ℕ) (e : Call) → Leads parts a h gs b → Stays b from → Goes parts (n, e) from c told
+      → Leads parts a (h ++ (n, e) ∷ []) (gs ++ told) c
   leads_on a b from c [] gs told n e l s g = (from, c, told, [], stays_again a b from l.0 s, g, ap (λ (xs : List Glance). xs ++ told) l.1 ∙ sym (append-nil told), (stays_itself c, refl))
-  leads_on a b from c (x ∷ h) gs told n e l s g = (l.0, l.1, l.2, l.3 ++ told, l.4, l.5, ap (λ (xs : List Glance). xs ++ told) l.6 ∙ append_assoc l.2 l.3 told, leads_on l.1 b from c h l.3 told n e l.7 s g)
+  leads_on a b from c (x ∷ h) gs told n e l s g = (
+    l.0,
+    l.1,
+    l.2,
+    l.3 ++ told,
+    l.4,
+    l.5,
+    ap (λ (xs : List Glance). xs ++ told) l.6
+        ∙ append_assoc l.2 l.3 told,
+    leads_on l.1 b from c h l.3 told n e l.7 s g,
+  )
 
   leads_rests : (a b c : PlaceSeen) (h : History Call) (gs : List Glance) → Leads parts a h gs b → Stays b c → Leads parts a h gs c
   leads_rests a b c [] gs l s = (stays_again a b c l.0 s, l.1)
@@ -49,17 +60,20 @@ module _ (parts : PartsOf) where
       )
 
   -- a call that left the place as it is, of which nothing was told
-  pub untold : (c : ℕ × Call) (pens : Pens) (old new : PlaceSeen) → AreOf parts pens old → IsFound parts old.place → Stays old new → c.0 < parts.workers → Does parts c.1 old new → IsNext parts c pens new
+  pub untold : (c : ℕ × Call) (pens : Pens) (old new : PlaceSeen) → AreOf parts pens old → IsFound parts old.place → Stays old new → c.0 < parts.workers → Does parts c.1 old new
+      → IsNext parts c pens new
   untold c pens old new was found stays worker does =
       let gs = pens.glances.history in
       let goes : Goes parts c old new [] = record { worker = worker; does = does; found = subst (IsFound parts) (sym stays.0) found; seen = stays.1; tells = inl (ap glance_of stays.0, refl) } in
       (old, old, gs, [], was, stays_itself old, goes, sym (append-nil gs))
 
   -- the last call of a lawful history did and answered what such a call does at a lawful place
-  last_leads : (a b : PlaceSeen) (h : History Call) (gs : List Glance) (c : ℕ × Call) → Leads parts a (h ++ c ∷ []) gs b → (old : PlaceSeen) × (new : PlaceSeen) × (told : List Glance) × Goes parts c old new told
+  last_leads : (a b : PlaceSeen) (h : History Call) (gs : List Glance) (c : ℕ × Call) → Leads parts a (h ++ c ∷ []) gs b → (old : PlaceSeen) × (new : PlaceSeen) × (told : List Glance)
+      × Goes parts c old new told
   last_leads a b [] gs c l = (l.0, l.1, l.2, l.5)
   last_leads a b (x ∷ h) gs c l = last_leads l.1 b h l.3 c l.7
 
   -- so did a call that a worker made
-  pub made_goes : (k : ℕ) (e : Call) (number : ℕ) (old new : List (History Call)) → Made parts k e number old new → ∥ ((from : PlaceSeen) × (to : PlaceSeen) × (told : List Glance) × Goes parts (number, e) from to told) ∥₁
+  pub made_goes : (k : ℕ) (e : Call) (number : ℕ) (old new : List (History Call)) → Made parts k e number old new
+      → ∥ ((from : PlaceSeen) × (to : PlaceSeen) × (told : List Glance) × Goes parts (number, e) from to told) ∥₁
   made_goes k e number old new m = ∥∥₁_map m.lawful (λ l. last_leads l.2.0 l.1 (at old k ++ m.others) l.2.1 (number, e) l.2.4)

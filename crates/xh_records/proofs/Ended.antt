@@ -16,7 +16,8 @@ among_owned_back q (x ∷ xs) r p h = grind (arith, nat_tests, among_owned_back 
 
 -- one more seat is gathered
 pub gathers : {B : Type 0} (m : ℕ) (seats : List (Held B)) (x : Held B) (v v' : View) (held held' : List (Option (LotOf B))) → get_elem? seats m ≡ some x → IsGathered (suc m) seats v held
-    → v'.processes ≡ v.processes ++ x.process ∷ [] → v'.records ≡ v.records ++ (view_of x).records → v'.fronts ≡ v.fronts ++ (view_of x).fronts → x.done ≡ by_place (place_of x.process) x.front → length held' ≡ length held
+    → v'.processes ≡ v.processes ++ x.process ∷ [] → v'.records ≡ v.records ++ (view_of x).records → v'.fronts ≡ v.fronts ++ (view_of x).fronts → x.done ≡ by_place (place_of x.process) x.front
+    → length held' ≡ length held
     → ((r : ℕ) → Among (indices x) r → (l : LotOf B) × (lot_in r x ≡ Some l)) → ((r : ℕ) → r < length held → slot_at held' r ≡ or_else (lot_in r x) (slot_at held r)) → IsGathered m seats v' held'
 gathers {B} m seats x v v' held held' at old places records lists did long has fill = record {
   each = λ p h. grind (arith, nat_tests, only_one, among_either);
@@ -148,7 +149,8 @@ module _ {B : Type 0} (fits : B → ℕ → Bool) (s : Shape) (id : ℕ) (v : Vi
     log = shown.log;
     leads = shown.history.leads;
     theirs = shown.history.theirs;
-    parts = λ j x at. let t = gathered.fronts j x (slice_elem seats j x at) (omega arith) in t.1 ∙ ((shown.history.tells id v final.1.1).only (place_of x.process) x.front t.0 (mod-lt x.process (omega arith))).3;
+    parts = λ j x at. let t = gathered.fronts j x (slice_elem seats j x at) (omega arith) in t.1
+        ∙ ((shown.history.tells id v final.1.1).only (place_of x.process) x.front t.0 (mod-lt x.process (omega arith))).3;
     fronts = λ j x at. (shown.history.tells id v final.1.1).begins (place_of x.process) x.front (gathered.fronts j x (slice_elem seats j x at) (omega arith)).0;
     holders = shown.holders;
     words_are = sym final.2 ∙ shown.words_are;

@@ -196,7 +196,14 @@ module _ {B : Type 0} (fits : B → ℕ → Bool) (s : Shape) where
           refl,
           (
             knows_word o me.0 r n a.holder fit a.held (shown.holders r a.holder a.held) a.found,
-            (o, subst (λ (z : Shape × List Event). LeadsTo z.0.records (all_free (length o)) z.1 o) (λ i. (sym (fit.knows p new_to_it.sits) i, sym (ap first_front front) i)) shown.history.leads, a.holder, a.held, a.found),
+            (
+              o,
+              subst (λ (z : Shape
+                  × List Event). LeadsTo z.0.records (all_free (length o)) z.1 o) (λ i. (sym (fit.knows p new_to_it.sits) i, sym (ap first_front front) i)) shown.history.leads,
+              a.holder,
+              a.held,
+              a.found,
+            ),
           ),
         ),
       )

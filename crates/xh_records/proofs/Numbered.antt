@@ -121,7 +121,8 @@ module _ {B : Type 0} (x : Held B) (t : TableId) (id process : ℕ) (me : Me (Op
   held_as order capacity slots seat t' id' me' ls others own done et en es el ef of_others mine ed = grind (arith, nat_tests, adds_one, by_place_append)
 
   -- and after a look, which found a word
-  pub held_seen : (order : List ℕ) (capacity slots : ℕ) (seat : IsSeat process order capacity slots me) (t' : TableId) (id' : ℕ) (me' : Me (Option (LotOf B)) View) (slot r word : ℕ) → t' ≡ t → id' ≡ id
+  pub held_seen : (order : List ℕ) (capacity slots : ℕ) (seat : IsSeat process order capacity slots me) (t' : TableId) (id' : ℕ) (me' : Me (Option (LotOf B)) View) (slot r word : ℕ) → t' ≡ t
+      → id' ≡ id
       → slot ≡ index_of x.shape.records r → SeesMore slot word me me' → HasSeen r word x (held t' id' process me')
   held_seen order capacity slots seat t' id' me' slot r word et en at sees =
       let shape : me'.0.shape ≡ x.shape = ap (λ (m : Me (Option (LotOf B)) View). m.0.shape) sees.2 ∙ ap (λ (y : Held B). y.shape) is in

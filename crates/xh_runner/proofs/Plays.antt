@@ -1,5 +1,6 @@
 -- Lemmas on how lines are played, and on which reply is whose.
-use Rattle.std.proofs.Common.{◌≡◌, ◌≢◌, ◌<◌, ◌≤◌, ◌+◌, ◌++◌, ◌==◌, ◌&&◌, ◌∙◌, ℕ, suc, zero, Bool, true, false, List, [], ◌∷◌, map, length, drop, get_or, set, nat_lt, if◌then◌else◌, refl, ap, sym, subst, add-one, append_assoc, drop-cons, arith}
+use Rattle.std.proofs.Common.{◌≡◌, ◌≢◌, ◌<◌, ◌≤◌, ◌+◌, ◌++◌, ◌==◌, ◌&&◌, ◌∙◌, ℕ, suc, zero, Bool, true, false, List, [], ◌∷◌, map, length, drop, get_or, set, nat_lt, if◌then◌else◌, refl, ap, sym}
+use Rattle.std.proofs.Common.{subst, add-one, append_assoc, drop-cons, arith}
 use Rattle.std.proofs.lemmas.Bool.Decides.{nat_tests}
 use Rattle.std.proofs.lemmas.Grind.{common_steps, get_or-set_at}
 use Rattle.std.proofs.lemmas.List.{append-nil, get_or-set_other, length-set, nil_from_length}
@@ -24,7 +25,8 @@ Continues {S} Step own old lines so_far now i = (later : List Reply) (end : Worl
 pub drop_at : (lines : List Line) (i : ℕ) (line : Line) → i < length lines → get_or lines i line ≡ line → drop i lines ≡ line ∷ drop (i + 1) lines
 drop_at lines i line below e = rw (drop-cons lines i line below, e, add-one i) refl
 
-pub continues_own : {S : Type 0} (Step : World S → Line → Reply → World S → Type 0) (own : Line → Bool) (old now mid : World S) (lines : List Line) (so_far : List Reply) (reply : Reply) (i : ℕ) (line : Line)
+pub continues_own : {S : Type 0} (Step : World S → Line → Reply → World S → Type 0) (own : Line
+    → Bool) (old now mid : World S) (lines : List Line) (so_far : List Reply) (reply : Reply) (i : ℕ) (line : Line)
     → i < length lines → get_or lines i line ≡ line → own line ≡ true → Step now line reply mid
     → Continues Step own old lines so_far now i → Continues Step own old lines (so_far ++ reply ∷ []) mid (i + 1)
 continues_own Step own old now mid lines so_far reply i line below e is step h = λ later end p.
@@ -108,7 +110,8 @@ fits_more b line lines queues reply rest q (count, f) = (
 -- where replies fit to lines of which one is the first, its part has one
 pub fits_some : (b : Bindings) (line : Line) (lines : List Line) (queues : List (List Reply)) → Fits b (line ∷ lines) queues
     → (part_of b line < length queues) × (0 < length (queue_at queues (part_of b line)))
-fits_some b line lines queues (count, f) = let within = part_within b line in (omega (arith, count, within), more (part_of b line) (λ l. part_of b l == part_of b line) refl (f (part_of b line) within))
+fits_some b line lines queues (count, f) = let within = part_within b line in
+    (omega (arith, count, within), more (part_of b line) (λ l. part_of b l == part_of b line) refl (f (part_of b line) within))
   where
     more : (p : ℕ) (own : Line → Bool) → own line ≡ (p == p) → length (queue_at queues p) ≡ length (filter own (line ∷ lines)) → 0 < length (queue_at queues p)
     more p own is f = grind (arith, nat_tests, is, f)

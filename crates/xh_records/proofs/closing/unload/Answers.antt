@@ -48,6 +48,7 @@ loop-slot-preserved g c =
       lots = λ r x at. ⊎_elim
           (λ old. v.lots r x old)
           (λ new. let at_i : r ≡ i = new.1 ∙ (let a : vec_len c.loop-slot.lots ≡ i = v.lots_long in search rules) in ap
-          (λ (n : ℕ). or_else (slot_at c.args.held.items n) (slot_at (slots_items c.args.closed.slots) n)) at_i ∙ (λ j. or_else (sym (v.held i (omega arith)) j) (slot_at (sym v.slots_stay j) i)) ∙ left.lot ∙ ap Some new.0)
+          (λ (n : ℕ). or_else (slot_at c.args.held.items n) (slot_at (slots_items c.args.closed.slots) n)) at_i ∙ (λ j. or_else (sym (v.held i (omega arith)) j) (slot_at (sym v.slots_stay j) i))
+          ∙ left.lot ∙ ap Some new.0)
           (snoc_at c.loop-slot.lots.items _ x r (subst (λ z. get_elem? z r ≡ some x) c.push_reserved-in-loop-slot.ensures.items at));
     }

@@ -19,7 +19,8 @@ returns-clause-played g c =
       are_new = record {
         accounts = subst (AreFresh parts.records.shape.names) (sym accounts) c.requires.accounts.1;
         looks = subst (All (λ l. l ≡ fresh_look parts.glances)) (sym looks) c.requires.looks.1;
-        count = length-map {B = WorkerState} workers (λ w. record { account = w.account; look = w.look }) ∙ omega (arith, c.in_ok-workers.workers.ok, c.in_ok-workers.ensures.count, c.requires.accounts.0);
+        count = length-map {B = WorkerState} workers (λ w. record { account = w.account; look = w.look })
+            ∙ omega (arith, c.in_ok-workers.workers.ok, c.in_ok-workers.ensures.count, c.requires.accounts.0);
       };
       played = c.in_ok-machines.ensures.played;
       accounts_are = rw c.in_ok-accounts.ensures.accounts (map_twice _ _ machines);

@@ -10,7 +10,14 @@ pub invariant_of-t-8 : goal.invariant_of-t-8
 invariant_of-t-8 g c =
     let items = c.in-Some.ensures.items in let h = c.requires.open_vaults 0 c.in-Some.vault in (
       (ap (λ p. p.table) c.next_pen-pen.ensures.pen, ap (λ p. p.number) c.next_pen-pen.ensures.pen),
-      (((drop_cons g.N.Names.parts.records.shape.names g.row.A _ _ (sym (ap vault_names items) ∙ c.requires.names)).0, (grind rules, grind rules, grind rules, grind rules, grind rules, grind rules)), subst (λ (p : PenOf VaultOf). EndsIn c.in-Some.vault p.history) (sym c.next_pen-pen.ensures.pen) tt),
+      (
+        (
+          (drop_cons g.N.Names.parts.records.shape.names g.row.A _ _ (sym (ap vault_names items)
+              ∙ c.requires.names)).0,
+          (grind rules, grind rules, grind rules, grind rules, grind rules, grind rules),
+        ),
+        subst (λ (p : PenOf VaultOf). EndsIn c.in-Some.vault p.history) (sym c.next_pen-pen.ensures.pen) tt,
+      ),
     )
 
 pub returns-in-Some-clause-names : goal.returns-in-Some-clause-names

@@ -28,7 +28,8 @@ is_also : (g : Over) (c : In-Some g) → LentBoth c.args.seat.now _ _ _ c.seat.i
 is_also g c b = let same : Some c.unwrap-also.result ≡ Some c.requires.held.1 = sym c.unwrap-also.ensures ∙ c.swap_slot.ensures.value ∙ b.two.reach.has in cc
 
 -- the list when the first lot was lent
-left_in : (g : Over) (c : After-turn_by g) → c.turn_by.new.token.me ≡ (c.seat.inside.token.me.0, put c.slot_of-i.result (Some c.call_at_two-answer.new.x) (put c.slot_of-j.result None c.seat.inside.token.me.1))
+left_in : (g : Over) (c : After-turn_by g)
+    → c.turn_by.new.token.me ≡ (c.seat.inside.token.me.0, put c.slot_of-i.result (Some c.call_at_two-answer.new.x) (put c.slot_of-j.result None c.seat.inside.token.me.1))
 left_in g c = grind (arith, nat_tests)
 
 -- what was lent, and the seat afterwards
@@ -83,7 +84,8 @@ invariant_of-seat g c =
     let at = goal.at.invariant_of-seat g c in let s = at.After-swap_slot-2 in let b = both g at.After-as_slice-order in
     let left = is_left g at.In-Some (here g at.After-slot_mut b) in let also = is_also g at.In-Some b in let now = left_in g at.After-turn_by in
     let good = c.requires.held.5 _ _ _ _ (called g s b left also now) in
-    seat_is _ _ _ _ _ _ _ _ _ _ refl refl refl (ap (λ z. z.slots) (c.swap_slot-2.ensures.token.0 ∙ c.turn_by.ensures.0 ∙ c.turn_to-k.ensures.same.0 ∙ c.swap_slot.ensures.token.0)) (last g s b left also now)
+    seat_is _ _ _ _ _ _ _ _ _ _ refl refl refl (ap (λ z. z.slots) (c.swap_slot-2.ensures.token.0 ∙ c.turn_by.ensures.0 ∙ c.turn_to-k.ensures.same.0
+    ∙ c.swap_slot.ensures.token.0)) (last g s b left also now)
     (kept_two _ _ _ _ _ c.seat.view_is _ _ _ c.seat.invariant _ _ _ _ _ _ _ _ b.one b.two good.0 good.1)
 
 pub returns : goal.returns

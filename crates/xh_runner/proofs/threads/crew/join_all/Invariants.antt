@@ -6,4 +6,5 @@ use Rattle.xh_runner.specs.inner.Jobs.{Joins}
 use Rattle.xh_runner.proofs.threads.crew.join_all.Given as goal
 
 abbrev pub invariant-loop-hand : goal.invariant-loop-hand
-invariant-loop-hand g l = (k : ℕ) × MatchResult l.ended (λ _. ZipsOn (λ _ hand done. Joins g.M.Machine.state g.M.Machine.did hand done) l.fn.hands.items l.dones.items k (into_iter_items l.hand-iterator)) (Stops g.G.Gate.always)
+invariant-loop-hand g l = (k : ℕ)
+    × MatchResult l.ended (λ _. ZipsOn (λ _ hand done. Joins g.M.Machine.state g.M.Machine.did hand done) l.fn.hands.items l.dones.items k (into_iter_items l.hand-iterator)) (Stops g.G.Gate.always)

@@ -26,5 +26,8 @@ returns-clause-answers g c = subst (λ ls. AreAnswersTo ls c.in_ok-answers.answe
 
 pub returns-clause-names : goal.returns-clause-names
 returns-clause-names g c =
-    let names = c.in_ok-answers.ensures.names ∙ ap (λ ls. told (replicate PLACES 0) no_bindings ls c.in_ok-answers.answers.items) c.deref.ensures.value in
-    (c.in_ok-names.ensures.names ∙ ap (λ ps. names_by_place ps c.in_ok-answers.names) c.deref-2.ensures.value ∙ ap (names_by_place c.args.script.now.processes.items) names, c.in_ok-names.ensures.count)
+    let names = c.in_ok-answers.ensures.names ∙ ap (λ ls. told (replicate PLACES 0) no_bindings ls c.in_ok-answers.answers.items) c.deref.ensures.value in (
+      c.in_ok-names.ensures.names ∙ ap (λ ps. names_by_place ps c.in_ok-answers.names) c.deref-2.ensures.value
+          ∙ ap (names_by_place c.args.script.now.processes.items) names,
+      c.in_ok-names.ensures.count,
+    )
