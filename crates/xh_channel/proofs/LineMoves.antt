@@ -22,7 +22,7 @@ use Rattle.xh_channel.specs.declared.refused.Refused.TheVariants as refused
 use Rattle.xh_channel.specs.declared.unsent.Unsent.{Unsent}
 use Rattle.xh_channel.specs.declared.unsent.Unsent.TheVariants.{Protocol, PeerClosed, Full}
 use Rattle.xh_channel.specs.Ends.{one_put, one_taken, now_shut}
-use Rattle.xh_channel.specs.Lines.{Lined, PutsOn, Shuts, TakesOn, end_of, is_drained, is_none, waiting}
+use Rattle.xh_channel.specs.Lines.{Lined, PutsOn, Shuts, TakesOn, end_of, is_drained, is_nothing, waiting}
 use Rattle.xh_channel.specs.LineSeats.{LineView, OnlySaw, PutsBy, ShutsBy, TakesBy, counts_at}
 use Rattle.xh_channel.specs.Numbers.{message, number}
 use Rattle.xh_channel.specs.inner.LineRule.{Found, Grows, IsEndBy, IsSettled, IsTold, LiesFor, counts_in, holding, line_view, own_by, peer_by, settled, settled_by}
@@ -128,7 +128,7 @@ module _ (table : TableId) (v : Part) (peer : Account) (line line' : Lined) (fou
 
   -- an end that isn't shut isn't drained
   undrained : (end : LineEnd) → end.counts.shut ≡ false → is_drained end ≡ false
-  undrained end e = ap (λ b. b && is_none (waiting end)) e
+  undrained end e = ap (λ b. b && is_nothing (waiting end)) e
 
   -- where the line stayed as it was
   kept : line' ≡ line → IsSettled (holding v peer) line' × (own_by (holding v peer) line' ≡ own)
@@ -168,7 +168,7 @@ module _ (table : TableId) (v : Part) (peer : Account) (line line' : Lined) (fou
             state = refl;
             counts = r.1 ∙ ap one_put o.counts ∙ sym counts;
             waits = subst (IsDirection number peer.sent own.got) (sym p.waits) o.waits;
-            drained = (λ i. (r.1 i).shut && is_none (p.waits i)) ∙ o.drained;
+            drained = (λ i. (r.1 i).shut && is_nothing (p.waits i)) ∙ o.drained;
           },
           record {
             rows = p.rules.0 ∙ e.rows;
@@ -204,7 +204,7 @@ module _ (table : TableId) (v : Part) (peer : Account) (line line' : Lined) (fou
 
   -- where nothing waits, a side that was shut is drained
   emptied_drained : waiting (end_of line k) ≡ [] → own.shut ≡ true → own.drained ≡ true
-  emptied_drained e closed = sym was.0.drained ∙ (λ i. (was.0.counts i).shut && is_none (e i)) ∙ ap (λ b. b && true) closed
+  emptied_drained e closed = sym was.0.drained ∙ (λ i. (was.0.counts i).shut && is_nothing (e i)) ∙ ap (λ b. b && true) closed
 
   found_none : line' ≡ line → waiting (end_of line k) ≡ [] → (v.told.put ≤ length own.got) × (own.shut ≡ true → seen.drained ≡ true)
   found_none same e = (emptied e, λ closed. ap (λ (a : Account). a.drained) (kept same).1 ∙ emptied_drained e closed)
@@ -224,7 +224,7 @@ module _ (table : TableId) (v : Part) (peer : Account) (line line' : Lined) (fou
       ) in
       let s = settled_so v peer own' line' found.few ends' (omega arith, omega arith, λ q. q) found.told in
       let numbered = numbers_before number 0 (own.got ++ m ∷ []) (waiting (end_of line' k)) (subst (AreNumberedFrom number 0) split o.waits.1) in
-      let waited : own.drained ≡ false = sym o.drained ∙ ap (λ l. (end_of line k).counts.shut && is_none l) r.2.0 ∙ and_right (end_of line k).counts.shut false refl in
+      let waited : own.drained ≡ false = sym o.drained ∙ ap (λ l. (end_of line k).counts.shut && is_nothing l) r.2.0 ∙ and_right (end_of line k).counts.shut false refl in
       let so : TakesBy (line_view table v) (record (line_view table (record v { own = own' })) { peer_shut = saw }) (Ok m) =
       (r.0 ∙ ap (λ (c : Counts). suc c.taken) o.counts, counts, (step_by m.tag (1 - k) (Some own'.state) r.2.1, refl, saw_no_less, numbered, waited)) in
       (s.0, subst (λ (x : LineView). TakesBy (line_view table v) x (Ok m)) (sym (seen_is own' s.1)) so, tt)
@@ -238,8 +238,8 @@ module _ (table : TableId) (v : Part) (peer : Account) (line line' : Lined) (fou
   shut_done t =
       let o = was.0 in
       let own' : Account = record own { shut = true; drained = is_drained (end_of line' k) } in
-      let still : own.drained ≡ true → own'.drained ≡ true = λ p. (λ i. (t.shut i).shut && is_none (t.waits i))
-      ∙ (and_parts (end_of line k).counts.shut (is_none (waiting (end_of line k))) (o.drained ∙ p)).1 in
+      let still : own.drained ≡ true → own'.drained ≡ true = λ p. (λ i. (t.shut i).shut && is_nothing (t.waits i))
+      ∙ (and_parts (end_of line k).counts.shut (is_nothing (waiting (end_of line k))) (o.drained ∙ p)).1 in
       let ends' : Ends k line' own' peer = (
         record {
           rows = t.rules.0 ∙ o.rows;

@@ -13,7 +13,7 @@ use Rattle.xh_channel.specs.declared.line_rule.Account.{Account}
 use Rattle.xh_channel.specs.declared.line_rule.Part.{Part}
 use Rattle.xh_channel.specs.declared.line_end.LineEnd.{LineEnd}
 use Rattle.xh_channel.specs.declared.message.Message.{Message}
-use Rattle.xh_channel.specs.Lines.{Lined, is_none, waiting}
+use Rattle.xh_channel.specs.Lines.{Lined, is_nothing, waiting}
 use Rattle.xh_channel.specs.Ends.{no_counts}
 use Rattle.xh_channel.specs.inner.LineRule.{by, IsEndBy, IsTold, Grows, IsSettled, own_by, peer_by, settled, Settled, IsTaken, Lies, LiesFor, Truth, IsHome, IsOut, Owns, Fits, Kept, no_account}
 use Rattle.xh_channel.specs.inner.LineRule.{counts_in, both_sides, no_part, low_side, high_side, joined, telling, hearing, holding, Locked, Compared}
@@ -204,14 +204,14 @@ at_home : (t : Truth) (id : ℕ) (v : Part) (words : List ℕ) (homes : List (ma
 at_home t id v words homes is o both idle = ⊎_elim (λ x. x)
     (λ (x : IsOut t words homes). absurd (true≢false (sym (holds_it t id v o (x.5 ∙ ap suc (one_seat x.2 v.side t.low_seat t.high_seat id o.seat (o.both both).0))) ∙ idle))) is
 
-emptied : (ms : List Message) → is_none ms ≡ true → ms ≡ []
+emptied : (ms : List Message) → is_nothing ms ≡ true → ms ≡ []
 emptied [] e = refl
 emptied (m ∷ ms) e = absurd (true≢false (sym e))
 
 end_taken : (line : Lined) (end : LineEnd) (own peer : Account) → IsEndBy line end own peer → IsTaken peer own
 end_taken line end own peer is = (
   (waiting end, is.waits),
-  λ p. let both = and_parts end.counts.shut (is_none (waiting end)) (is.drained ∙ p) in
+  λ p. let both = and_parts end.counts.shut (is_nothing (waiting end)) (is.drained ∙ p) in
       (ap (λ (c : Counts). c.shut) (sym is.counts) ∙ both.0, sym (append-nil own.got) ∙ ap (λ l. own.got ++ l) (sym (emptied (waiting end) both.1)) ∙ sym is.waits.0),
 )
 

@@ -20,13 +20,13 @@ waiting end = end.waiting.items
 abbrev pub tags : LineEnd → List ℕ
 tags end = map tag (waiting end)
 
-abbrev pub is_none : List Message → Bool
-is_none [] = true
-is_none (m ∷ ms) = false
+abbrev pub is_nothing : List Message → Bool
+is_nothing [] = true
+is_nothing (m ∷ ms) = false
 
 -- it was shut and nothing waits for it: nothing comes any more, since no put toward a shut end succeeds
 abbrev pub is_drained : LineEnd → Bool
-is_drained end = end.counts.shut && is_none (waiting end)
+is_drained end = end.counts.shut && is_nothing (waiting end)
 
 -- what an end put is what its peer took and then what waits for the peer, numbered on
 abbrev pub Follows : LineEnd → LineEnd → Type 0

@@ -19,7 +19,18 @@ pub record Told : Type 0 where
   pub shut : Bool
 
 abbrev pub told_by : Posted → Told
-told_by e = record { channel = e.channel; side = e.side; has_contract = e.has_contract; out = e.out; into = e.into; closed = e.closed; line = e.line; put = length e.pushed; taken = length e.got; shut = e.counts.shut }
+told_by e = record {
+  channel = e.channel;
+  side = e.side;
+  has_contract = e.has_contract;
+  out = e.out;
+  into = e.into;
+  closed = e.closed;
+  line = e.line;
+  put = length e.pushed;
+  taken = length e.got;
+  shut = e.counts.shut;
+}
 
 -- the note is that of the end's peer
 pub record IsOfPeer (note : Told) (end : Posted) : Type 0 where

@@ -110,13 +110,18 @@ next_state end tag side = cond end.has_contract (allowed end.rows end.state tag 
 abbrev pub GoesBack : Posted → Posted → Message → Type 0
 GoesBack old new m = IsSameBut (old.sent ++ m ∷ []) old.got old new × (new.pushed ≡ old.pushed ++ m ∷ []) × Numbered new.sent × (next_state old m.tag old.side ≡ Some new.state)
 
--- a message may come to an end that isn't drained; with a contract at most 2^62 - 1 do
-abbrev pub MayCome : Posted → Message → Type 0
-MayCome end m = (end.drained ≡ false) × (end.has_contract ≡ true → m.no ≤ MAX_MESSAGES)
+-- nothing comes to a drained end
+abbrev pub IsUndrained : Posted → Type 0
+IsUndrained end = end.drained ≡ false
 
--- it comes after what was taken, which is numbered, and the contract moved the state
+-- with a contract the number of a message is at most 2^62 - 1
+abbrev pub HasBoundedNumber : Posted → Message → Type 0
+HasBoundedNumber end m = end.has_contract ≡ true → m.no ≤ MAX_MESSAGES
+
+-- it comes after what was taken, which is numbered, to an end that isn't drained, and the contract moved the state
 abbrev pub ComesNext : Posted → Posted → Message → Type 0
-ComesNext old new m = IsSameBut old.sent (old.got ++ m ∷ []) old new × (new.pushed ≡ old.pushed) × Numbered new.got × (next_state old m.tag (1 - old.side) ≡ Some new.state) × MayCome old m
+ComesNext old new m = IsSameBut old.sent (old.got ++ m ∷ []) old new × (new.pushed ≡ old.pushed) × Numbered new.got × (next_state old m.tag (1 - old.side) ≡ Some new.state)
+    × IsUndrained old × HasBoundedNumber old m
 
 -- it put as many messages as the depth beyond those that it was told were taken
 abbrev pub IsFullAsTold : Posted → Type 0

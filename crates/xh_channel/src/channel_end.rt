@@ -1,5 +1,5 @@
 //! One end of a channel, apart from where its number is free again.
-ghost use Rattle.std.specs.Prelude.{◌≡◌, ◌+◌, ◌*◌, ◌<◌, ◌≤◌, suc, true, false, [], OnErr, IfOk, IfErr, MatchBool};
+ghost use Rattle.std.specs.Prelude.{◌≡◌, ◌+◌, ◌*◌, ◌<◌, ◌≤◌, suc, true, false, OnErr, IfOk, IfErr, MatchBool};
 ghost use Rattle.xh_model.specs.declared.limits.TheConstants.{CHANNELS, MAX_DEPTH, MAX_MESSAGES};
 ghost use Rattle.xh_channel.specs.Ends.{given_back};
 ghost use Rattle.xh_channel.specs.Notes.{AgreesWith, ArePeers, IsOfPeer, hearing, told_by};

@@ -1,5 +1,5 @@
 //! The free numbers of channels.
-ghost use Rattle.std.specs.Prelude.{◌≡◌, ℕ, ◌<◌, true, false, Option, Some, None, MatchOption, slice_set, ◌+◌, length};
+ghost use Rattle.std.specs.Prelude.{◌≡◌, ℕ, ◌<◌, true, false, Option, Some, None, MatchOption, slice_set, length};
 ghost use Rattle.xh_model.specs.declared.limits.TheConstants.{CHANNELS};
 ghost use Rattle.xh_channel.specs.inner.FreeNumbers.{at_place, has_depth, StandAtTheirNumbers, NoneFree};
 

@@ -1,5 +1,5 @@
 //! An end's seat at the line of its channel.
-ghost use Rattle.std.specs.Prelude.{◌≡◌, ◌+◌, ◌<◌, ◌≤◌, true, IfOk, OnErr};
+ghost use Rattle.std.specs.Prelude.{◌≡◌, ◌+◌, ◌<◌, ◌≤◌, IfOk, OnErr};
 ghost use Rattle.xh_model.specs.declared.limits.TheConstants.{MAX_DEPTH, MAX_MESSAGES};
 ghost use Rattle.xh_channel.specs.LineSeats.{AreAcross, IsBegun, IsBlank, IsDelivered, IsLessTold, OnlySaw, PutsBy, ShutsBy, TakesBy, TookAllOf, begun, hearing_on_line, told_all, told_on_line};
 ghost use Rattle.std.specs.Arc.{arc_value};

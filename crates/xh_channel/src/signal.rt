@@ -1,5 +1,5 @@
 //! Whom a channel wakes.
-ghost use Rattle.std.specs.Prelude.{◌≡◌, ◌<◌};
+ghost use Rattle.std.specs.Prelude.{◌<◌};
 ghost use Rattle.xh_model.specs.declared.limits.TheConstants.{PLACES};
 
 use crate::bells::OwnBells;
