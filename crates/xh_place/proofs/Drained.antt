@@ -2,8 +2,8 @@
 use Rattle.xh_place.proofs.Words.{on_err_weaker, ◌≡◌, ℕ, ◌≤◌, inl, inr, List, [], ◌∷◌, ◌++◌, append_assoc, append-nil, length, refl, sym, ap, ◌∙◌, subst, Some, None, Option, Ok, Err, Result}
 use Rattle.xh_place.proofs.Words.{MatchResult, map-append, Message, Posted, Refused, put, value_at, front_at, put_at, put_same, put_twice, Content, bytes, endpoint, kind_of, toward, Taken, AreGot}
 use Rattle.xh_place.proofs.Words.{AreUnpacked, EndsWith, IsDrained, Shuts, Takes, TakesEach, blocks_of, record_of, EndDoes, end_block, toward_in, away_in, Clears, Drains, IsUntaken, Unpacks, IsSent}
-use Rattle.xh_place.proofs.Words.{IsTaken, Item, PlaceOf, with_blocks, with_more, IsSeen, PlaceSeen, SawWord, Stays}
-use Rattle.xh_place.proofs.Words.{true, false, ⊎_elim, ◌+◌, ◌⊎◌, arith}
+use Rattle.xh_place.proofs.Words.{IsTaken, Item, PlaceOf, with_blocks, with_more, IsSeen, PlaceSeen, SawAfter, Stays, Event, Pass}
+use Rattle.xh_place.proofs.Words.{true, false, ⊎_elim, ◌+◌, arith}
 use Rattle.std.proofs.Common.{true≢false}
 use Rattle.std.proofs.lemmas.Bool.{false_from_ne_true}
 use Rattle.xh_channel.specs.declared.counts.Counts.{Counts}
@@ -11,7 +11,7 @@ use Rattle.xh_channel.specs.declared.refused.Refused.{Refused as NoMessage}
 use Rattle.xh_model.specs.declared.limits.TheConstants.{MAX_MESSAGES}
 use Rattle.xh_place.proofs.Listing.{put_front}
 use Rattle.xh_place.proofs.Ends.{found_none, way_shut, way_taken}
-use Rattle.xh_place.proofs.Seeing.{got_both, all_got_as, unpacked_as, away_as, seen_wide, starts_same, word_wide}
+use Rattle.xh_place.proofs.Seeing.{got_both, all_got_as, unpacked_as, away_as, came_before, seen_wide, starts_same}
 use Rattle.xh_place.proofs.Moves.{more_none, more_twice}
 use Rattle.xh_core.specs.declared.header.Kind.TheVariants as kind
 
@@ -42,7 +42,7 @@ each_stays (m ∷ ms) old new each =
 -- no more messages come with a contract than may be numbered
 each_few : (ms : List Message) (old new : Posted) → TakesEach ms old new → old.has_contract ≡ true → 1 ≤ length ms → old.counts.taken + length ms ≤ MAX_MESSAGES
 each_few [] old new each has some = absurd (omega arith)
-each_few (m ∷ []) old new each has some = let no = each.1.answer.0 in let few = each.1.answer.2.4.1 has in omega (arith, no, few)
+each_few (m ∷ []) old new each has some = let no = each.1.answer.0 in let few = each.1.answer.2.5 has in omega (arith, no, few)
 each_few (m ∷ n ∷ ms) old new each has some =
     let one = ap (λ (c : Counts). c.taken) each.1.answer.1 in
     let more = each_few (n ∷ ms) each.0 new each.2 (each.1.same.has_contract ∙ has) (omega arith) in
@@ -209,7 +209,8 @@ sent_from e tag given old mid new result same is =
       all = is.all;
       made = is.made;
       moved = is.moved;
-      lost = on_err_weaker is.answered (λ h r among missed. away_as (SawWord mid new) (SawWord seen new)
-          (word_wide mid new seen new refl same.1 (starts_same refl)) (away_in (value_at e mid.place.blocks)) r (h r among missed)) is.lost;
+      lost = on_err_weaker is.answered (λ h r among missed.
+          let d : ℕ = away_in (value_at e mid.place.blocks) in let passed : Event = Pass mid.place.process r d in
+          away_as (SawAfter passed mid new) (SawAfter passed seen new) (λ q word w. (w.0, came_before passed old.front same.1 w.1, w.2)) d r (h r among missed)) is.lost;
       answer = is.answer;
     })

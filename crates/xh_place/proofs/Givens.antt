@@ -4,12 +4,13 @@ use Rattle.xh_place.proofs.Words.{nat_tests, list_all, list_any, first_refusal, 
 use Rattle.xh_place.proofs.Words.{ℕ_discrete, LotOf, Status, is_over, keys, put, without, distinct_without, put_at, put_keys, put_other, without_at, without_other, Held, with_lots, HasNow, AreBack}
 use Rattle.xh_place.proofs.Words.{lens, less_all, Body, item_at, item_of, item_in, shown, total_of, with_blocks, IsBlock, IsPlace, settle, settled, append-nil, length-append, ◌++◌, Event, Accept}
 use Rattle.xh_place.proofs.Words.{Pass, among_back, among_either, among_front, last_at, last_other, did, accepted_on, moves, passed_on, SeatSaw, SeatSeesMore, with_done, IsElsewhere, CameBack}
+use Rattle.xh_place.proofs.Words.{ArePassed, Came}
 use Rattle.xh_core.specs.Several.{has_twice}
 use Rattle.std.proofs.Math.Bool.{or-false}
 use Rattle.std.proofs.lemmas.List.Folds.{list_any-append}
 use Rattle.xh_place.proofs.Steps.{IsNow, is_now, quiet_alive, turned}
 use Rattle.xh_place.proofs.Listing.{keys_settled, lens_none, lens_same, shown_keys, total_put, total_without, lens_one, unequal}
-use Rattle.xh_place.proofs.Seeing.{away_as, saw_later, starts_same}
+use Rattle.xh_place.proofs.Seeing.{came_before, came_more, away_as, saw_later, starts_same}
 use Rattle.xh_place.proofs.Moves.{moved_twice, own_lots}
 
 neither : (a b : Bool) → (a || b) ≡ false → (a ≡ false) × (b ≡ false)
@@ -293,6 +294,15 @@ accepting d given more r bytes n old seat last back new once among is came = ⊎
       omega arith,
     ))
     came
+
+-- one more was passed
+pub passed_more : (d : ℕ) (gone : List ℕ) (r : ℕ) (old seat last : Held Body) → seat.process ≡ old.process → SeatSeesMore old seat → SeatSeesMore seat last
+    → ArePassed d gone old seat → Came (Pass seat.process r d) seat.front last.front → ArePassed d (gone ++ r ∷ []) old last
+passed_more d gone r old seat last whose before after all one q among = ⊎_elim
+    (λ a. came_more (Pass old.process q d) old.front (all q a) after)
+    (λ a. ⊎_elim (λ (e : q ≡ r). subst (λ (z : ℕ). Came (Pass old.process z d) old.front last.front) (sym e)
+    (came_before (Pass old.process r d) old.front before (subst (λ (p : ℕ). Came (Pass p r d) seat.front last.front) whose one))) (λ z. absurd z) a)
+    (among_either gone (r ∷ []) q among)
 
 -- each of these that didn't come back had another word
 abbrev pub AreLost : ℕ → List ℕ → List ℕ → Held Body → Held Body → Type 0

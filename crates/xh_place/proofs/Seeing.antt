@@ -1,8 +1,8 @@
 -- What was seen stays seen, and a word that was seen between two fronts was seen between wider ones.
-use Rattle.xh_place.proofs.Words.{◌≡◌, ◌≢◌, ℕ, ◌+◌, ◌*◌, ⊎_elim, inl, inr, List, [], ◌∷◌, ◌++◌, append_assoc, append-nil, refl, sym, ap, ◌∙◌, subst, slice_index, Event, value_at, index_of, Shape}
+use Rattle.xh_place.proofs.Words.{◌≡◌, ℕ, ◌+◌, ◌*◌, ⊎_elim, inl, inr, List, [], ◌∷◌, ◌++◌, append_assoc, append-nil, refl, sym, ap, ◌∙◌, subst, slice_index, Event, value_at, index_of, Shape}
 use Rattle.xh_place.proofs.Words.{StartsWith, Advances, Held, IsRecord, HasSeen, SawTaken, Body, Got, Message, Content, bytes, endpoint, toward, AreEnded, IsSwept, IsSweptBy, AreGot, AreUnpacked}
 use Rattle.xh_place.proofs.Words.{EndsWith, IsGot, toward_in, Clears, Drains, SeatFull, SeatSaw, SeatSeesMore, Item, PlaceOf, Status, IsElsewhere, IsSeen, PlaceSeen, SawAt, SawFull, SawWord}
-use Rattle.xh_place.proofs.Words.{SeesMore}
+use Rattle.xh_place.proofs.Words.{SeesMore, Came, Pass, SeatSawAfter, among_back, among_front}
 use Rattle.xh_place.specs.declared.got.Got.TheVariants.{Here, Missing}
 use Rattle.xh_place.proofs.Steps.{view_of}
 
@@ -15,6 +15,18 @@ starts_more a {b} {c} one two = (one.0 ++ two.0, two.1 ∙ ap (λ (l : List Even
 -- a step of the seat
 pub advanced : (own : List Event) (x y : Held Body) → Advances own x y → SeatSeesMore x y
 advanced own x y h = (h.0 ++ own, h.1)
+
+-- ---- events that came
+
+pub came_more : (e : Event) (a : List Event) {b c : List Event} → Came e a b → StartsWith c b → Came e a c
+came_more e a h two = (h.0 ++ two.0, two.1 ∙ ap (λ (l : List Event). l ++ two.0) h.1 ∙ append_assoc a h.0 two.0, among_front h.0 two.0 e h.2)
+
+pub came_before : (e : Event) (a : List Event) {b c : List Event} → StartsWith b a → Came e b c → Came e a c
+came_before e a one h = (one.0 ++ h.0, h.1 ∙ ap (λ (l : List Event). l ++ h.0) one.1 ∙ append_assoc a one.0 h.0, among_back one.0 h.0 e h.2)
+
+-- the step's own
+pub came_last : (e : Event) (x y : Held Body) → Advances (e ∷ []) x y → Came e x.front y.front
+came_last e x y h = (h.0 ++ e ∷ [], h.1, among_back h.0 (e ∷ []) e (inl refl))
 
 -- ---- looks
 
@@ -107,14 +119,18 @@ fronted e = ap (λ (p : PlaceSeen). p.front) e
 pub since : {p q : PlaceSeen} → q ≡ p → {last : List Event} → StartsWith last q.front → StartsWith last p.front
 since {p} {q} e {last} h = subst (λ (f : List Event). StartsWith last f) (fronted e) h
 
+-- what the seat saw since an event that it did, by the place that it was
+abbrev SeenSince : PlaceSeen → Held Body → Event → ℕ → ℕ → Type 0
+SeenSince p last e r word = (from : List Event) × Came e p.front from × SawAt p.place.shape from last.front (index_of p.place.shape.records r) word
+
 -- what the seat saw, as the place says it
 module _ (seat : Held Body) {xs : List (ℕ × Item)} {state : Status} {p : PlaceSeen} (is : record { place = view_of seat xs state; front = seat.front } ≡ p) (last : Held Body) where
   pub place_saw : (r word : ℕ) → SeatSaw seat last r word → SawAt p.place.shape p.front last.front (index_of p.place.shape.records r) word
   place_saw r word h = subst (λ (z : PlaceSeen). SawAt z.place.shape z.front last.front (index_of z.place.shape.records r) word) is h
 
-  pub place_away : (d way r : ℕ) → d ≡ way → IsElsewhere (SeatSaw seat last) d r
-      → (word : ℕ) × (word ≢ 2 + 4 * way) × SawAt p.place.shape p.front last.front (index_of p.place.shape.records r) word
-  place_away d way r same h = (h.0, subst (λ (n : ℕ). h.0 ≢ 2 + 4 * n) same h.1, place_saw r h.0 h.2)
+  pub place_gone : (d way r : ℕ) → d ≡ way → IsElsewhere (SeatSawAfter (Pass seat.process r d) seat last) d r → IsElsewhere (SeenSince p last (Pass p.place.process r way)) way r
+  place_gone d way r same h = subst (λ (z : PlaceSeen). IsElsewhere (SeenSince z last (Pass z.place.process r way)) way r) is
+      (subst (λ (n : ℕ). IsElsewhere (SeatSawAfter (Pass seat.process r n) seat last) n r) same h)
 
 -- ---- what a take gained, block by block
 

@@ -36,7 +36,7 @@ pub use Rattle.xh_place.specs.Messages.{Answers, IsSent, IsTaken, IsUntaken, Unp
 pub use Rattle.xh_place.specs.Moves.{accepted_on, moves, passed_on, there_and_back}
 pub use Rattle.xh_place.specs.Places.{AreBlocks, Fits, IsBlock, IsPlace, IsPlaceOf, IsQuiet, IsWhole, Item, Lists, PlaceOf, entry_of, found as found_at, header_of, item_at, item_in, item_of, shown}
 pub use Rattle.xh_place.specs.Places.{total_of, with_blocks, with_list, with_more, with_moved}
-pub use Rattle.xh_place.specs.Seen.{IsElsewhere, IsSamePlace, IsSeen, PlaceSeen, SawAt, SawFull, SawWord, SeesMore, Stays}
+pub use Rattle.xh_place.specs.Seen.{Came, HasLeft, IsElsewhere, IsSamePlace, IsSeen, PlaceSeen, SawAfter, SawAt, SawFull, SawWord, SeesMore, Stays}
 pub use Rattle.xh_place.specs.Starts.{start, stop}
 pub use Rattle.xh_place.specs.Tallies.{gave, ids_of, took}
 pub use Rattle.xh_place.specs.declared.body.Body.{Body}
@@ -44,7 +44,7 @@ pub use Rattle.xh_place.specs.declared.body.Body.TheVariants.{Data, End, Nothing
 pub use Rattle.xh_place.specs.declared.got.Got.{Got}
 pub use Rattle.xh_place.specs.declared.got.Taken.{Taken}
 pub use Rattle.xh_place.specs.inner.Lists.{AreBack, CameBack, lens, less, less_all}
-pub use Rattle.xh_place.specs.inner.Lots.{HasNow, IsCut, IsData, IsEnd, LotDoes, SeatFull, SeatSaw, SeatSeesMore, bare, with_done}
+pub use Rattle.xh_place.specs.inner.Lots.{ArePassed, HasNow, IsCut, IsData, IsEnd, LotDoes, SeatFull, SeatSaw, SeatSawAfter, SeatSeesMore, bare, with_done}
 pub use Rattle.xh_place.specs.inner.Reclaiming.{Clears, Drains, IsSweptLate}
 pub use Rattle.xh_records.specs.History.{StartsWith}
 pub use Rattle.xh_records.specs.Seats.{Advances, HasSeen, Held, IsRecord, IsSeatOf, Knows, RecordsOf, SawTaken, did, owned_by, seen, with_lots}

@@ -14,7 +14,7 @@ use Rattle.xh_place.specs.Ends.{EndDoes, away_in, toward_in}
 use Rattle.xh_place.specs.Moves.{there_and_back}
 use Rattle.xh_place.specs.declared.got.Taken.{Taken}
 use Rattle.xh_place.specs.Places.{Item, PlaceOf, with_blocks, with_moved, with_more}
-use Rattle.xh_place.specs.Seen.{IsElsewhere, IsSeen, PlaceSeen, SawWord}
+use Rattle.xh_place.specs.Seen.{HasLeft, IsSeen, PlaceSeen}
 
 -- ---- give
 
@@ -49,7 +49,7 @@ GoesOrReturns d given back old new = (new ≡ with_moved (with_blocks old (settl
     × ((r : ℕ) → Among (keys back) r → Among given r)
 
 -- The endpoint put the blocks with the tag, they went or came back, and the answer is that of the put.
--- Where it was refused, each given block that didn't come back had another word, which was seen, than "in flight on the direction".
+-- Where it was refused, each given block that didn't come back had another word than "in flight on the direction", which was seen after the block was passed there.
 pub record IsSent (e tag : ℕ) (given : List ℕ) (old new : PlaceSeen) (result : Result ℕ Refused) : Type 0 where
   pub mid : PlaceOf
   pub blocks : ArrayVec ℕ
@@ -58,7 +58,7 @@ pub record IsSent (e tag : ℕ) (given : List ℕ) (old new : PlaceSeen) (result
   pub all : blocks.items ≡ given
   pub made : EndDoes e old.place mid (Puts tag blocks answered)
   pub moved : GoesOrReturns (away_in (value_at e old.place.blocks)) given back mid new.place
-  pub lost : OnErr answered ((r : ℕ) → Among given r → (Among (keys back) r → ⊥) → IsElsewhere (SawWord old new) (away_in (value_at e old.place.blocks)) r)
+  pub lost : OnErr answered ((r : ℕ) → Among given r → (Among (keys back) r → ⊥) → HasLeft old new (away_in (value_at e old.place.blocks)) r)
   pub answer : Answers (keys back) answered result
 
 -- ---- take

@@ -1,6 +1,8 @@
 -- What a place has seen of the one log of all record events, and the words that a call of it found at a step.
-use Rattle.std.specs.Prelude.{◌≡◌, ◌≢◌, ◌⊎◌, ℕ, ◌+◌, ◌*◌, ◌<◌, List, length, slice_index}
+use Rattle.std.specs.Prelude.{◌≡◌, ◌≢◌, ◌⊎◌, ℕ, ◌+◌, ◌*◌, ◌<◌, ◌++◌, List, length, slice_index}
 use Rattle.xh_model.specs.declared.event.Event.{Event}
+use Rattle.xh_model.specs.declared.event.Event.TheVariants.{Pass}
+use Rattle.xh_model.specs.Keyed.{Among}
 use Rattle.xh_model.specs.Slots.{index_of}
 use Rattle.xh_records.specs.declared.shape.Shape.{Shape}
 use Rattle.xh_records.specs.History.{StartsWith, TellsWord}
@@ -42,6 +44,14 @@ SawWord old new r word = SawAt old.place.shape old.front new.front (index_of old
 abbrev pub IsSeen : PlaceSeen → PlaceSeen → ℕ → ℕ → Type 0
 IsSeen old new r word = SawWord old new r word ⊎ ((IsRecord old.place.shape r → ⊥) × (word ≡ 0))
 
+-- from the one front to the other this event came
+abbrev pub Came : Event → List Event → List Event → Type 0
+Came e from to = (more : List Event) × (to ≡ from ++ more) × Among more e
+
+-- the place saw this word at the record r at a step of this call, once it had done this event in it
+abbrev pub SawAfter : Event → PlaceSeen → PlaceSeen → ℕ → ℕ → Type 0
+SawAfter e old new r word = (from : List Event) × Came e old.front from × SawAt old.place.shape from new.front (index_of old.place.shape.records r) word
+
 -- each record of the arena had a word that says that it isn't free, at some step between the two fronts
 abbrev pub SawFull : Shape → List Event → List Event → ℕ → Type 0
 SawFull s from to arena = (words : List ℕ) × (length words ≡ s.records)
@@ -54,3 +64,7 @@ FindsFull old new arena = SawFull old.place.shape old.front new.front arena
 -- `saw r word` says that this word was seen at the record r. Here it was another one than "in flight on the direction".
 abbrev pub IsElsewhere : (ℕ → ℕ → Type 0) → ℕ → ℕ → Type 0
 IsElsewhere saw d r = (word : ℕ) × (word ≢ 2 + 4 * d) × saw r word
+
+-- the call passed the record r on the direction, and saw after that that it was in flight there no more
+abbrev pub HasLeft : PlaceSeen → PlaceSeen → ℕ → ℕ → Type 0
+HasLeft old new d r = IsElsewhere (SawAfter (Pass old.place.process r d) old new) d r

@@ -1,5 +1,5 @@
 // What a place does to the bytes of a data block, in its lot.
-ghost use Rattle.std.specs.Prelude.{◌≡◌, ◌+◌, ◌≤◌, Some, IfSome, OnErr, OnOk, length};
+ghost use Rattle.std.specs.Prelude.{◌≡◌, ◌+◌, ◌≤◌, Some, IfSome, OnErr, length};
 ghost use Rattle.xh_arena.specs.Views.{LotOf};
 ghost use Rattle.xh_core.specs.Calls.{range_tests};
 ghost use Rattle.xh_core.specs.declared.header.Kind.TheVariants as kind;

@@ -15,7 +15,7 @@ use crate::desk::Desk;
 use arrayvec::ArrayVec;
 use std::sync::Wait;
 use xh_arena::Lot;
-use xh_channel::{Channels, Message, Refused as Untaken, Spot, Unsent};
+use xh_channel::{Message, Refused as Untaken, Spot, Unsent};
 use xh_records::{Records, Seat};
 
 // The channel and side of the endpoint.

@@ -1,17 +1,16 @@
 // What a give does to the seat: its blocks leave it, and some come back.
-ghost use Rattle.std.specs.Prelude.{◌≡◌, ◌≢◌, ◌⊎◌, ℕ, ◌+◌, ◌*◌, ◌/◌, ◌%◌, ◌<◌, ◌≤◌, List, [], ◌++◌, length, Some, None, OnOk, OnErr};
+ghost use Rattle.std.specs.Prelude.{◌≡◌, ◌≢◌, ℕ, ◌+◌, ◌*◌, ◌<◌, ◌≤◌, [], length, Some, None, OnOk, OnErr};
 ghost use Rattle.xh_arena.specs.Views.{LotOf};
-ghost use Rattle.xh_model.specs.Keyed.{Among, Distinct, keys, value_at};
+ghost use Rattle.xh_model.specs.Keyed.{Among, Distinct, value_at};
 ghost use Rattle.xh_model.specs.declared.limits.TheConstants.{DIRECTIONS, MAX_BLOCKS};
-ghost use Rattle.xh_place.specs.Bodies.{away, content_of, kind_of, fits_in};
+ghost use Rattle.xh_place.specs.Bodies.{away, content_of, kind_of};
 ghost use Rattle.xh_place.specs.Endpoints.{Puts};
 ghost use Rattle.xh_place.specs.Messages.{Answers};
 ghost use Rattle.xh_place.specs.Places.{IsBlock, item_in};
 ghost use Rattle.xh_place.specs.Seen.{IsElsewhere};
 ghost use Rattle.xh_place.specs.declared.body.Body.{Body};
-ghost use Rattle.xh_place.specs.inner.Lots.{HasNow, LotDoes, SeatSaw, SeatSeesMore, with_done};
+ghost use Rattle.xh_place.specs.inner.Lots.{ArePassed, HasNow, LotDoes, SeatHasLeft, SeatSaw, SeatSeesMore, with_done};
 ghost use Rattle.xh_records.specs.Seats.{IsSeatOf, IsRecord};
-ghost use Rattle.xh_records.specs.Showing.{IsFull};
 ghost use Rattle.arrayvec.specs.ArrayVec.{ArrayVec};
 ghost use Rattle.xh_place.specs.Moves.{accepted_on, passed_on, there_and_back};
 ghost use Rattle.xh_place.specs.inner.Lists.{AreBack, CameBack, lens};
@@ -41,6 +40,7 @@ pub(crate) fn pass_all(
     requires held { (r : ℕ) → Among given.now r → (l : LotOf Body) × (value_at r seat.old.lots ≡ Some l) × IsBlock seat.old.shape r l }
     ensures passed { HasNow (with_done (passed_on seat.old.process direction given.now) seat.old) seat.new.lots seat.new }
     ensures seen { SeatSeesMore seat.old seat.new }
+    ensures came { ArePassed direction given.now seat.old seat.new }
     ensures gone { (r : ℕ) → Among given.now r → value_at r seat.new.lots ≡ None }
     ensures others { (r : ℕ) → (Among given.now r → ⊥) → value_at r seat.new.lots ≡ value_at r seat.old.lots }
     ensures bytes { result ≡ lens given.now (λ r. value_at r seat.old.lots) }
@@ -124,7 +124,9 @@ fn post<R: Wait, V, G: Gate>(
     ensures direction { (result.1 ≡ away (item_in (value_at e seat.old.lots)).content) × (result.1 < DIRECTIONS) }
     ensures passed { HasNow (with_done (passed_on seat.old.process result.1 given.now.items) seat.old) seat.new.lots seat.new }
     ensures seen { SeatSeesMore seat.old seat.new }
-    ensures end { (l : LotOf Body) → value_at e seat.old.lots ≡ Some l → (m : LotOf Body) × (value_at e seat.new.lots ≡ Some m) × LotDoes (Puts tag given.now result.0) l m × IsBlock seat.old.shape e m }
+    ensures came { ArePassed result.1 given.now.items seat.old seat.new }
+    ensures end { (l : LotOf Body) → value_at e seat.old.lots ≡ Some l → (m : LotOf Body) × (value_at e seat.new.lots ≡ Some m)
+        × LotDoes (Puts tag given.now result.0) l m × IsBlock seat.old.shape e m }
     ensures gone { (r : ℕ) → Among given.now.items r → value_at r seat.new.lots ≡ None }
     ensures others { (r : ℕ) → (Among given.now.items r → ⊥) → e ≢ r → value_at r seat.new.lots ≡ value_at r seat.old.lots }
     ensures bytes { result.2 ≡ lens given.now.items (λ r. value_at r seat.old.lots) }
@@ -151,14 +153,15 @@ pub(crate) fn give_all<R: Wait, V, G: Gate>(
     requires distinct { Distinct given.now.items × (Among given.now.items e → ⊥) }
     requires held { (r : ℕ) → Among given.now.items r → (l : LotOf Body) × (value_at r seat.old.lots ≡ Some l) × IsBlock seat.old.shape r l }
     ensures moved { HasNow (with_done (there_and_back seat.old.process (away (item_in (value_at e seat.old.lots)).content) given.now.items result.back.items) seat.old) seat.new.lots seat.new }
-    ensures end { (l : LotOf Body) → value_at e seat.old.lots ≡ Some l → (m : LotOf Body) × (value_at e seat.new.lots ≡ Some m) × LotDoes (Puts tag given.now result.put) l m × IsBlock seat.old.shape e m }
+    ensures end { (l : LotOf Body) → value_at e seat.old.lots ≡ Some l → (m : LotOf Body) × (value_at e seat.new.lots ≡ Some m)
+        × LotDoes (Puts tag given.now result.put) l m × IsBlock seat.old.shape e m }
     ensures others { (r : ℕ) → (Among given.now.items r → ⊥) → e ≢ r → value_at r seat.new.lots ≡ value_at r seat.old.lots }
     ensures back { AreBack given.now.items result.back.items seat.new }
     ensures lost { result.lost ≡ lens given.now.items (λ r. value_at r seat.old.lots) }
     ensures gained { result.gained ≡ lens given.now.items (λ r. value_at r seat.new.lots) }
     ensures sent { OnOk result.put (result.back.items ≡ []) }
     ensures missed { OnErr result.put ((r : ℕ) → Among given.now.items r → (Among result.back.items r → ⊥)
-        → IsElsewhere (SeatSaw seat.old seat.new) (away (item_in (value_at e seat.old.lots)).content) r) }
+        → SeatHasLeft seat.old seat.new (away (item_in (value_at e seat.old.lots)).content) r) }
     ensures seen { SeatSeesMore seat.old seat.new }
 {
     let (put, direction, lost) = post(desk, seat, e, tag, given);

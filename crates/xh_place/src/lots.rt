@@ -1,5 +1,5 @@
 // What a place does to the lots of its seat.
-ghost use Rattle.std.specs.Prelude.{◌≡◌, ◌≢◌, ◌⊎◌, ℕ, MatchBool, ◌+◌, ◌-◌, ◌*◌, ◌%◌, ◌/◌, ◌<◌, ◌≤◌, ◌++◌, ◌∷◌, [], Some, IfOk, IfErr, IfSome, OnOk, OnErr, slice_get, length, replicate, true};
+ghost use Rattle.std.specs.Prelude.{◌≡◌, ◌≢◌, ℕ, MatchBool, ◌+◌, ◌-◌, ◌*◌, ◌%◌, ◌/◌, ◌<◌, ◌≤◌, ◌++◌, ◌∷◌, [], Some, IfOk, IfErr, IfSome, OnOk, OnErr, slice_get, length, replicate, true};
 ghost use Rattle.xh_arena.specs.Views.{LotOf};
 ghost use Rattle.xh_model.specs.Arena.{IsGoodCut};
 ghost use Rattle.xh_model.specs.Keyed.{Among, keys, value_at, put, without};
@@ -7,6 +7,7 @@ ghost use Rattle.xh_model.specs.declared.limits.TheConstants.{DIRECTIONS, MAX_BY
 ghost use Rattle.xh_place.specs.Bodies.{bytes, front, content_of, fits_in, kind_of};
 ghost use Rattle.xh_place.specs.Desk.{IsSameDesk, IsSeatAt};
 ghost use Rattle.xh_place.specs.Places.{IsBlock, item_of, header_of};
+ghost use Rattle.xh_place.specs.Seen.{Came};
 ghost use Rattle.xh_place.specs.Splitting.{IsUncut};
 ghost use Rattle.xh_place.specs.Tallies.{gave, took};
 ghost use Rattle.xh_place.specs.Vaults.{IsNoBlock, IsRefusedAt};
@@ -262,6 +263,7 @@ pub(crate) fn pass_block(
     requires held { (l : LotOf Body) × (value_at r seat.old.lots ≡ Some l) × IsLotOf seat.old.shape r l × IsFull fits_in l }
     ensures passed { HasNow (did (Pass seat.old.process r direction) seat.old) (without r seat.old.lots) seat.new }
     ensures seen { SeatSeesMore seat.old seat.new }
+    ensures came { Came (Pass seat.old.process r direction) seat.old.front seat.new.front }
     ensures bytes { (l : LotOf Body) → value_at r seat.old.lots ≡ Some l → result ≡ l.len }
 {
     let header = look(records, seat, r);

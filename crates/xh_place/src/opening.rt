@@ -1,5 +1,5 @@
 // What opening does to the seat: two records get 32 bytes each, and the two ends of a channel.
-ghost use Rattle.std.specs.Prelude.{◌≡◌, ◌≢◌, ◌⊎◌, ◌+◌, ◌*◌, ◌/◌, ◌%◌, ◌<◌, ◌≤◌, ◌∷◌, ◌++◌, length, Some, IfOk, IfErr, OnOk, OnErr, MatchOption, slice_get};
+ghost use Rattle.std.specs.Prelude.{◌≡◌, ◌≢◌, ◌+◌, ◌*◌, ◌/◌, ◌<◌, ◌≤◌, length, Some, IfOk, IfErr, OnOk, OnErr, MatchOption, slice_get};
 ghost use Rattle.xh_arena.specs.Views.{LotOf};
 ghost use Rattle.xh_channel.specs.Queues.{Posted};
 ghost use Rattle.xh_model.specs.Keyed.{put, value_at, without};
@@ -13,7 +13,7 @@ ghost use Rattle.xh_place.specs.Vaults.{IsNoPair, IsRefusedAt};
 ghost use Rattle.xh_place.specs.declared.body.Body.{Body};
 ghost use Rattle.xh_place.specs.inner.Lots.{HasNow, SeatFull, SeatSeesMore};
 ghost use Rattle.xh_records.specs.Seats.{IsRecord, IsSeatOf, with_lots};
-ghost use Rattle.xh_records.specs.Showing.{IsEmpty, IsLotOf};
+ghost use Rattle.xh_records.specs.Showing.{IsEmpty};
 ghost use Rattle.xh_place.specs.declared.body.Body.TheVariants.{End};
 ghost use Rattle.xh_place.specs.inner.Opening.{AreClaimed, AreEmpty, AreMade};
 

@@ -5,7 +5,7 @@ ghost use Rattle.xh_core.specs.Statuses.{is_over};
 ghost use Rattle.xh_model.specs.Keyed.{keys, value_at};
 ghost use Rattle.xh_model.specs.declared.limits.TheConstants.{GENERATIONS, MAX_ARENAS, MAX_RECORDS};
 ghost use Rattle.xh_place.specs.Messages.{is_listed};
-ghost use Rattle.xh_place.specs.Places.{AreBlocks, IsPlaceOf, Item, Lists, found, header_of, line, line_in, started, total_of};
+ghost use Rattle.xh_place.specs.Places.{AreBlocks, IsPlaceOf, Item, Lists, found, line, line_in, started, total_of};
 ghost use Rattle.xh_place.specs.Seen.{Stays};
 ghost use Rattle.xh_place.specs.Starts.{start, stop};
 ghost use Rattle.xh_model.specs.Words.{generation_of};

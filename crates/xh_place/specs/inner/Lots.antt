@@ -3,6 +3,7 @@ use Rattle.std.specs.Prelude.{◌≡◌, ℕ, ◌+◌, ◌/◌, ◌<◌, List, [
 use Rattle.xh_arena.specs.Views.{LotOf}
 use Rattle.xh_model.specs.declared.limits.TheConstants.{MAX_RECORDS}
 use Rattle.xh_model.specs.declared.event.Event.{Event}
+use Rattle.xh_model.specs.declared.event.Event.TheVariants.{Pass}
 use Rattle.xh_model.specs.Keyed.{Among, keys, put}
 use Rattle.xh_model.specs.Slots.{index_of}
 use Rattle.xh_records.specs.History.{StartsWith}
@@ -14,7 +15,7 @@ use Rattle.xh_core.specs.declared.header.Kind.TheVariants as kind
 use Rattle.xh_place.specs.Bodies.{content_of, fits_in, front, kind_of, rest}
 use Rattle.xh_place.specs.Moves.{moves}
 use Rattle.xh_place.specs.Places.{IsBlock}
-use Rattle.xh_place.specs.Seen.{SawAt, SawFull}
+use Rattle.xh_place.specs.Seen.{Came, IsElsewhere, SawAt, SawFull}
 
 -- a seat, of whose events only the passes and accepts count, and not what it has seen of others
 abbrev pub bare : Held Body → Held Body
@@ -35,6 +36,18 @@ SeatSeesMore old new = StartsWith new.front old.front
 -- the seat saw this word at the record r at a step of this call, or that no record of the arena was free
 abbrev pub SeatSaw : Held Body → Held Body → ℕ → ℕ → Type 0
 SeatSaw old new r word = SawAt old.shape old.front new.front (index_of old.shape.records r) word
+
+-- the same, once this event was done in the call
+abbrev pub SeatSawAfter : Event → Held Body → Held Body → ℕ → ℕ → Type 0
+SeatSawAfter e old new r word = (from : List Event) × Came e old.front from × SawAt old.shape from new.front (index_of old.shape.records r) word
+
+-- the seat passed the record r on the direction in the call, and saw after that that it was in flight there no more
+abbrev pub SeatHasLeft : Held Body → Held Body → ℕ → ℕ → Type 0
+SeatHasLeft old new d r = IsElsewhere (SeatSawAfter (Pass old.process r d) old new) d r
+
+-- of these records each was passed on the direction in the call
+abbrev pub ArePassed : ℕ → List ℕ → Held Body → Held Body → Type 0
+ArePassed d given old new = (r : ℕ) → Among given r → Came (Pass old.process r d) old.front new.front
 
 abbrev pub SeatFull : Held Body → Held Body → ℕ → Type 0
 SeatFull old new arena = SawFull old.shape old.front new.front arena

@@ -119,10 +119,8 @@ impl Place {
         ensures same { Stays self.old self.new }
         ensures tested { Tested (start self.old.place.state ++ data_tests (found self.old.place r)) result (λ s. found self.old.place r ≡ Some s) }
     {
-        check_start(self.state())?;
-        let Some(header) = self.header(records, r) else {
-            return Err(Refused::NotOwned);
-        };
+        self.test_block(records, r)?;
+        let header = self.look(records, r);
         if header.kind == Kind::End {
             return Err(Refused::NotData);
         }

@@ -1,14 +1,13 @@
 //! How a place is reclaimed.
-ghost use Rattle.std.specs.Prelude.{◌≡◌, ◌≢◌, ℕ, ◌+◌, ◌-◌, ◌*◌, ◌<◌, ◌≤◌, ◌⊎◌, List, [], ◌∷◌, ◌++◌, length, take, drop, Some, true};
+ghost use Rattle.std.specs.Prelude.{◌≡◌, ◌≢◌, ℕ, ◌+◌, ◌-◌, ◌<◌, ◌⊎◌, List, [], ◌∷◌, length, drop, Some, true};
 ghost use Rattle.xh_core.specs.Calls.{reclaimed};
 ghost use Rattle.xh_core.specs.Statuses.{is_over};
 ghost use Rattle.xh_model.specs.Keyed.{value_at};
 ghost use Rattle.xh_model.specs.declared.limits.TheConstants.{DIRECTIONS};
-ghost use Rattle.xh_place.specs.Bodies.{kind_of};
 ghost use Rattle.xh_place.specs.Desk.{IsAt, IsSameDesk, StaysAt};
 ghost use Rattle.xh_place.specs.Ending.{HasGivenBack, IsStopped, IsSwept, IsSweptBy, ending};
 ghost use Rattle.xh_place.specs.Ends.{RefusedOr, IsTooLate, ending_again};
-ghost use Rattle.xh_place.specs.Places.{Item, total_of, with_blocks, with_list};
+ghost use Rattle.xh_place.specs.Places.{Item, with_list};
 ghost use Rattle.xh_place.specs.Seen.{Becomes, IsElsewhere, IsSamePlace, IsSeen, SawWord};
 ghost use Rattle.xh_place.specs.Starts.{stop};
 ghost use Rattle.xh_records.specs.Seats.{IsRecord};
@@ -20,7 +19,7 @@ use crate::gate::Gate;
 use crate::place::{Place, check_stop};
 use crate::vaults::Vaults;
 use std::sync::Wait;
-use xh_core::{Kind, Refused, Status};
+use xh_core::{Refused, Status};
 use xh_model::limits::MAX_BUDGET;
 
 // The bytes, or how many blocks are left.

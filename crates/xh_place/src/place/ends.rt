@@ -1,5 +1,5 @@
 //! Endpoints of a place.
-ghost use Rattle.std.specs.Prelude.{◌≡◌, ◌≢◌, ◌⊎◌, ℕ, ◌+◌, ◌*◌, ◌/◌, ◌<◌, List, [], ◌∷◌, ◌++◌, length, Some, MatchOption, true, false};
+ghost use Rattle.std.specs.Prelude.{◌≡◌, ◌≢◌, ℕ, ◌+◌, ◌*◌, ◌<◌, ◌++◌, length, Some, MatchOption, true, false};
 ghost use Rattle.xh_channel.specs.Queues.{Posted};
 ghost use Rattle.xh_core.specs.Calls.{arena_tests, end_tests};
 ghost use Rattle.xh_core.specs.Refusing.{Tested};

@@ -1,5 +1,6 @@
-use Rattle.xh_place.proofs.Common.{◌≡◌, ℕ, List, ◌++◌, sym, ap, subst, refl, Among, value_at, away, accepted_on, passed_on, there_and_back, HasNow, SeatSaw, with_done, item_in, IsElsewhere}
-use Rattle.xh_place.proofs.Common.{lens_none, moved_twice, away_as, saw_later, starts_same}
+use Rattle.xh_place.proofs.Common.{◌≡◌, ℕ, List, ◌++◌, sym, ap, subst, Among, value_at, away, accepted_on, passed_on, there_and_back, HasNow, SeatSaw, with_done, item_in, IsElsewhere}
+use Rattle.xh_place.proofs.Common.{lens_none, moved_twice, away_as, Pass, SeatSawAfter}
+use Rattle.xh_place.proofs.Words.{SawAt, index_of}
 use Rattle.xh_place.proofs.giving.give_all.Goals as goal
 
 pub returns-in_default-clause-gained : goal.returns-in_default-clause-gained
@@ -21,5 +22,7 @@ returns-clause-missed g c = λ r among missed.
     let seat = c.args.seat.now in let mid = c.post-put.new.seat in let last = c.accept_back-back.new.seat in
     let shape : mid.shape ≡ seat.shape = ap (λ h. h.shape) c.post-put.ensures.passed in
     let there = c.accept_back-back.ensures.lost r (subst (λ l. Among l r) (sym c.as_slice.ensures.value) among) missed in
-    subst (λ d. IsElsewhere (SeatSaw seat last) d r) c.post-put.ensures.direction.0
-    (away_as (SeatSaw mid last) (SeatSaw seat last) (saw_later seat mid last last shape c.post-put.ensures.seen (starts_same refl)) c.post-put.result.1 r there)
+    let passed = c.post-put.ensures.came r among in
+    subst (λ d. IsElsewhere (SeatSawAfter (Pass seat.process r d) seat last) d r) c.post-put.ensures.direction.0
+    (away_as (SeatSaw mid last) (SeatSawAfter (Pass seat.process r c.post-put.result.1) seat last)
+    (λ q word h. (mid.front, passed, subst (λ s. SawAt s mid.front last.front (index_of s.records q) word) shape h)) c.post-put.result.1 r there)

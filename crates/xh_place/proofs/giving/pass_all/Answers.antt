@@ -1,6 +1,6 @@
 use Rattle.xh_place.proofs.Common.{drop_more, take_more, arith, ◌≡◌, ℕ, ◌<◌, ◌+◌, ◌∙◌, refl, ap, subst, sym, length, take, drop, get_or, ◌∷◌, inl, Some, Among, value_at, past, IsRecord, IsLotOf}
-use Rattle.xh_place.proofs.Common.{lens, among_get, lens_none, starts_more}
-use Rattle.xh_place.proofs.Givens.{IsPassing, passed_bytes, passing}
+use Rattle.xh_place.proofs.Common.{lens, among_get, lens_none, starts_more, ArePassed}
+use Rattle.xh_place.proofs.Givens.{IsPassing, passed_bytes, passed_more, passing}
 use Rattle.xh_place.proofs.giving.pass_all.Goals as goal
 
 pub pass_block-requires : goal.pass_block-requires
@@ -29,6 +29,8 @@ loop-k-preserved c =
           (ap (λ z. z.lots) c.pass_block.ensures.passed) len c.loop-k.invariant.1,
       omega (arith, c.loop-k.invariant.2, c.from-bytes.ensures),
       starts_more c.args.seat.now.front c.loop-k.invariant.3 c.pass_block.ensures.seen,
+      subst (λ l. ArePassed d l c.args.seat.now last) (sym (take_more given k 0 inside))
+          (passed_more d (take k given) r c.args.seat.now c.loop-k.seat last (ap (λ z. z.process) is.0) c.loop-k.invariant.3 c.pass_block.ensures.seen c.loop-k.invariant.4 c.pass_block.ensures.came),
     )
 
 pub returns-clause-bytes : goal.returns-clause-bytes

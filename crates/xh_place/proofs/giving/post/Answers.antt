@@ -1,5 +1,5 @@
 use Rattle.xh_place.proofs.Common.{rules, ◌≡◌, ◌≢◌, ℕ, ◌+◌, ◌*◌, ◌-◌, List, sym, ap, ◌∙◌, subst, Some, Among, value_at, put, put_at, put_other, IsLotOf, Held, with_lots, passed_on, LotDoes, bare}
-use Rattle.xh_place.proofs.Common.{with_done, Body, Posted, Puts, IsBlock, lens, starts_more, starts_same}
+use Rattle.xh_place.proofs.Common.{with_done, Body, Posted, Puts, IsBlock, lens, starts_more, starts_same, Came, Pass, came_more}
 use Rattle.xh_place.proofs.Ends.{still_block}
 use Rattle.xh_place.proofs.giving.post.Goals.{After-pass_all-bytes}
 use Rattle.xh_place.proofs.giving.post.Goals as goal
@@ -36,6 +36,8 @@ returns g c =
       direction = search rules;
       passed = ap bare k.2 ∙ ap (λ h. with_lots h (put c.args.e m gone.lots)) chain ∙ sym (ap (λ h. with_lots now h.lots) k.2);
       seen = starts_more seat.front (starts_same (ap (λ h. h.front) same)) (starts_more look.front pass.seen (starts_same (ap (λ h. h.front) k.2)));
+      came = λ r a. came_more (Pass seat.process r d) seat.front
+          (subst (λ (z : Held Body). Came (Pass z.process r d) z.front gone.front) same (pass.came r (subst (λ l. Among l r) (sym value) a))) (starts_same (ap (λ h. h.front) k.2));
       end = λ l at'. let two : Some q.0 ≡ Some l = sym q.1 ∙ at' in let one : q.0 ≡ l = cc in (
         m,
         ap (λ h. value_at c.args.e h.lots) k.2 ∙ put_at c.args.e m q.0 gone.lots at,

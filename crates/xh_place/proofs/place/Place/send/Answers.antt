@@ -1,6 +1,6 @@
 use Rattle.xh_place.proofs.Common.{arith, ◌≡◌, ℕ, ◌+◌, ◌-◌, ◌≤◌, true, List, refl, sym, ap, ◌∙◌, subst, Some, ◌==◌, list_any, vec_capacity, is_running, Event, Among, keys, put, value_at, away}
 use Rattle.xh_place.proofs.Common.{kind_of, there_and_back, away_in, end_block, lens, less_all, with_done, Item, item_at, item_in, item_of, shown, with_blocks, with_moved, Answers, settled, Posted}
-use Rattle.xh_place.proofs.Common.{Puts, all_move, heard, heard_shows, shown_keys, list_distinct, over_running, total_bound, IsNow, placed, place_away, on_err_weaker, all_found, found}
+use Rattle.xh_place.proofs.Common.{Puts, all_move, heard, heard_shows, shown_keys, list_distinct, over_running, total_bound, IsNow, placed, place_gone, on_err_weaker, all_found, found}
 use Rattle.xh_place.proofs.Ends.{item_now, item_was}
 use Rattle.xh_place.proofs.Givens.{given_place, passed_below, settled_same, shown_look}
 use Rattle.xh_place.proofs.place.Place.send.Goals.{After-settle}
@@ -70,6 +70,6 @@ returns-clause-sent g c =
       );
       lost = on_err_weaker c.give_all-put.result.put (λ h r among missed.
           let there = h r among (subst (λ ks. Among ks r → ⊥) (shown_keys last.lots back) missed) in
-          place_away seat c.self.view_is last d (away_in (value_at c.args.e old.blocks)) r way there) a.missed;
+          place_gone seat c.self.view_is last d (away_in (value_at c.args.e old.blocks)) r way there) a.missed;
       answer = subst (λ ks. Answers ks c.give_all-put.result.put c.answer.result) (sym (shown_keys last.lots back)) c.answer.ensures;
     }
