@@ -1,12 +1,12 @@
 //! What is in flight when the books of a kernel are closed.
 use crate::kernels::{Case, on_kernel, waiting_of};
-use crate::worker::Worker;
+use crate::worker::Caller;
 use std::alloc::Global;
 use std::process::Abort;
 use xh_core::{FlightLine, Refused};
 
 /// By its end, process 0 gives a message of so many new blocks of 16 bytes, if any.
-fn give_by<W: Worker>(alloc: Global, worker: &mut W, e: u16, count: u8) -> Result<(), Refused> {
+fn give_by<W: Caller>(alloc: Global, worker: &mut W, e: u16, count: u8) -> Result<(), Refused> {
     let mut blocks = Vec::new(alloc);
     for _ in 0..count {
         blocks.push(worker.alloc(0, 16, 0)?.rec)?;
@@ -18,7 +18,7 @@ fn give_by<W: Worker>(alloc: Global, worker: &mut W, e: u16, count: u8) -> Resul
 }
 
 /// Process 0 starts, opens the channels 0 and 1, and gives by side 0 of the one and by side 1 of the other.
-pub fn give_both<W: Worker>(
+pub fn give_both<W: Caller>(
     alloc: Global,
     worker: &mut W,
     counts: (u8, u8),

@@ -8,7 +8,7 @@ mod waiting;
 mod wiring;
 
 use crate::flights;
-use crate::worker::{Worker, hire};
+use crate::worker::{Caller, hire};
 use passing::Passing;
 use std::alloc::Global;
 use std::marker::Brand;
@@ -49,13 +49,13 @@ pub fn waiting_of(bytes: u32, depth: u8) -> Config {
 }
 
 /// The processes 0 and 1 start.
-fn assert_two_start<W: Worker>(rt: &impl Abort, worker: &mut W) {
+fn assert_two_start<W: Caller>(rt: &impl Abort, worker: &mut W) {
     let started = (worker.spawn(), worker.spawn());
     assert!(rt; matches!(started, (Ok(0), Ok(1))));
 }
 
 /// Tries the case with the workers of a kernel.
-fn try_case<W: Worker + Send, R: Threads + Wait + Clock + Abort + Sync>(
+fn try_case<W: Caller + Send, R: Threads + Wait + Clock + Abort + Sync>(
     rt: &R,
     alloc: Global,
     workers: &mut [W],

@@ -9,7 +9,7 @@ use xh_place::{Gate, OpenGate, Taken};
 
 /// A worker, by its calls, which answer what the kernel does. Ends are made in arena 0. The steps of the tests are generic
 /// over it, so that their proofs see no kernel.
-pub trait Worker: Drop {
+pub trait Caller: Drop {
     fn spawn(&mut self) -> Result<u16, Refused>;
 
     fn open(&mut self, p: u16) -> Result<(Block, Block), Refused>;
@@ -62,7 +62,7 @@ pub struct Hired<'a, N: Names, R> {
     account: &'a mut Account<N>,
 }
 
-impl<'a, N: Names, R: Wait + Clock> Worker for Hired<'a, N, R> {
+impl<'a, N: Names, R: Wait + Clock> Caller for Hired<'a, N, R> {
     fn spawn(&mut self) -> Result<u16, Refused> {
         self.kernel.spawn(self.rt, self.account, &OpenGate)
     }

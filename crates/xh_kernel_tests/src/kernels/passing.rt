@@ -1,6 +1,6 @@
 // Messages from one process to another, on two threads.
 use super::{Case, assert_case, assert_two_start, waiting_of};
-use crate::worker::Worker;
+use crate::worker::Caller;
 use std::alloc::Global;
 use std::process::Abort;
 use std::thread::{self, Threads};
@@ -73,7 +73,7 @@ fn tag_of(k: u16) -> u16 {
     65_535u16.saturating_sub(k)
 }
 
-impl<'a, W: Worker> Peer<'a, W> {
+impl<'a, W: Caller> Peer<'a, W> {
     // A new block, tried again while there is no room, at most a million times.
     fn alloc_on(&mut self, what: Passing) -> Result<u16, Refused> {
         for _ in 0..1_000_000u32 {
@@ -170,7 +170,7 @@ impl<'a, W: Worker> Peer<'a, W> {
 }
 
 // The ends of a channel between the two, once so many blocks and channels are there.
-fn prepare<W: Worker>(worker: &mut W, what: Passing) -> Result<(u16, u16), Refused> {
+fn prepare<W: Caller>(worker: &mut W, what: Passing) -> Result<(u16, u16), Refused> {
     for _ in 0..what.channels {
         worker.open(0)?;
     }
@@ -183,7 +183,7 @@ fn prepare<W: Worker>(worker: &mut W, what: Passing) -> Result<(u16, u16), Refus
 
 // The first are given; then the others are, while all are taken; then as many as the first are given, and reclaimed with the
 // process that they are on their way to.
-fn assert_given<W: Worker + Send, R: Threads + Abort + Sync>(
+fn assert_given<W: Caller + Send, R: Threads + Abort + Sync>(
     rt: &R,
     giver: &mut Peer<W>,
     taker: &mut Peer<W>,
@@ -208,7 +208,7 @@ fn assert_given<W: Worker + Send, R: Threads + Abort + Sync>(
 }
 
 /// All are given, and all come as they should.
-pub fn assert_passes<W: Worker + Send, R: Threads + Abort + Sync>(
+pub fn assert_passes<W: Caller + Send, R: Threads + Abort + Sync>(
     rt: &R,
     alloc: Global,
     mine: &mut W,

@@ -1,6 +1,6 @@
 // A server of eight clients, on nine threads. Each client is killed once it was answered often enough, with a request on its
 // way, and another takes its place.
-use crate::worker::Worker;
+use crate::worker::Caller;
 use std::alloc::Global;
 use std::process::Abort;
 use std::sync::Wait;
@@ -34,7 +34,7 @@ struct Board {
     answered: AtomicU64,
 }
 
-fn enter<W: Worker>(worker: &mut W, server: u16) -> Result<Client, Refused> {
+fn enter<W: Caller>(worker: &mut W, server: u16) -> Result<Client, Refused> {
     let p = worker.spawn()?;
     let (mine, other) = worker.wire(p, server, &OpenGate)?;
     Ok(Client {
@@ -44,7 +44,7 @@ fn enter<W: Worker>(worker: &mut W, server: u16) -> Result<Client, Refused> {
     })
 }
 
-fn make_board<W: Worker>(alloc: Global, worker: &mut W) -> Result<Board, Refused> {
+fn make_board<W: Caller>(alloc: Global, worker: &mut W) -> Result<Board, Refused> {
     let server = worker.spawn()?;
     let mut first = Vec::with_capacity(alloc, CLIENTS)?;
     let mut new = Vec::with_capacity(alloc, CLIENTS)?;
@@ -61,7 +61,7 @@ fn make_board<W: Worker>(alloc: Global, worker: &mut W) -> Result<Board, Refused
 }
 
 // Asks so often, each time once it was answered. How often the answer was right.
-fn ask<W: Worker>(worker: &mut W, client: Client) -> u64 {
+fn ask<W: Caller>(worker: &mut W, client: Client) -> u64 {
     let Client { p, e, theirs: _ } = client;
     let mut right = 0;
     for tag in 0..REQUESTS {
@@ -76,7 +76,7 @@ fn ask<W: Worker>(worker: &mut W, client: Client) -> u64 {
 }
 
 // A client asks, another enters, the first is killed, and the other does as the first did.
-fn be_clients<W: Worker>(worker: &mut W, board: &Board, at: usize) {
+fn be_clients<W: Caller>(worker: &mut W, board: &Board, at: usize) {
     let (Some(first), Some(new)) = (board.first.get(at).copied(), board.new.get(at)) else {
         return;
     };
@@ -103,7 +103,7 @@ fn admit(board: &Board, ends: &mut Vec<u16>) {
 }
 
 // Answers each request with its tag, until the last client is gone.
-fn serve<W: Worker, R: Wait>(
+fn serve<W: Caller, R: Wait>(
     rt: &R,
     worker: &mut W,
     board: &Board,
@@ -129,7 +129,7 @@ fn serve<W: Worker, R: Wait>(
     Ok(())
 }
 
-fn be_server<W: Worker, R: Wait>(
+fn be_server<W: Caller, R: Wait>(
     rt: &R,
     alloc: Global,
     worker: &mut W,
@@ -143,7 +143,7 @@ fn be_server<W: Worker, R: Wait>(
 }
 
 /// Each of the nine others has a thread, the last the server's. Each request was answered.
-pub fn assert_served<W: Worker + Send, R: Threads + Wait + Abort + Sync>(
+pub fn assert_served<W: Caller + Send, R: Threads + Wait + Abort + Sync>(
     rt: &R,
     alloc: Global,
     worker: &mut W,

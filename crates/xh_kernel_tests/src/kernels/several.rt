@@ -1,6 +1,6 @@
 // A take at the first of several endpoints that has a message, and takes until a time.
 use super::waiting::after;
-use crate::worker::Worker;
+use crate::worker::Caller;
 use std::process::Abort;
 use std::time::{Clock, Instant};
 use xh_core::Refused;
@@ -25,7 +25,7 @@ const REFUSED: &[(u16, &[u16], &str)] = &[
 ];
 
 // Whether the process starts, and the channels have these ends.
-fn opens_all<W: Worker>(worker: &mut W) -> bool {
+fn opens_all<W: Caller>(worker: &mut W) -> bool {
     let mut opens = matches!(worker.spawn(), Ok(0));
     for at in 0..8u16 {
         let ends = worker.open(0);
@@ -51,7 +51,7 @@ fn told_at(answer: Result<Answered, Refused>) -> (usize, (u16, &'static str)) {
 }
 
 // A take at any of these answers so.
-fn assert_any<W: Worker>(
+fn assert_any<W: Caller>(
     rt: &impl Abort,
     worker: &mut W,
     p: u16,
@@ -62,12 +62,12 @@ fn assert_any<W: Worker>(
 }
 
 // A message with the tag and no block is given.
-fn assert_gives<W: Worker>(rt: &impl Abort, worker: &mut W, e: u16, tag: u16) {
+fn assert_gives<W: Caller>(rt: &impl Abort, worker: &mut W, e: u16, tag: u16) {
     assert!(rt; worker.give(0, e, tag, &[]).is_ok());
 }
 
 /// The refusals in their order, what has a message before what is closed, and that before what is empty.
-pub fn assert_order<W: Worker>(rt: &impl Abort, worker: &mut W) {
+pub fn assert_order<W: Caller>(rt: &impl Abort, worker: &mut W) {
     assert!(rt; opens_all(worker));
     assert!(rt; matches!(worker.alloc(0, 16, 0), Ok(block) if block.rec == 16));
     for (p, ends, name) in REFUSED {
@@ -90,7 +90,7 @@ pub fn assert_order<W: Worker>(rt: &impl Abort, worker: &mut W) {
 }
 
 // Waits until the time at the first, and at any, answer so.
-fn assert_until<W: Worker>(
+fn assert_until<W: Caller>(
     rt: &impl Abort,
     worker: &mut W,
     deadline: Instant,
@@ -105,7 +105,7 @@ fn assert_until<W: Worker>(
 }
 
 /// A wait returns once its time is past, and takes what waits then.
-pub fn assert_deadlines<W: Worker, R: Clock + Abort>(rt: &R, worker: &mut W) {
+pub fn assert_deadlines<W: Caller, R: Clock + Abort>(rt: &R, worker: &mut W) {
     assert!(rt; opens_all(worker));
     for millis in [0, 20] {
         let deadline = after(rt, millis).expect(rt, "a clock");
@@ -122,7 +122,7 @@ pub fn assert_deadlines<W: Worker, R: Clock + Abort>(rt: &R, worker: &mut W) {
 }
 
 // Gives at each, as many as there is room for.
-fn fill<W: Worker>(worker: &mut W) {
+fn fill<W: Caller>(worker: &mut W) {
     for (at, e) in LOW.iter().enumerate() {
         for _ in 0..2 {
             let _full = worker.give(0, *e, at as u16, &[]);
@@ -131,7 +131,7 @@ fn fill<W: Worker>(worker: &mut W) {
 }
 
 /// Of eight channels on which messages always wait, none is passed over while the look begins one further each time.
-pub fn assert_turns<W: Worker>(rt: &impl Abort, worker: &mut W) {
+pub fn assert_turns<W: Caller>(rt: &impl Abort, worker: &mut W) {
     assert!(rt; opens_all(worker));
     let mut from = HIGH;
     let mut taken = [0u16; 8];

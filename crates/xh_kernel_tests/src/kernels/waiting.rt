@@ -1,6 +1,6 @@
 // A process that waits for a message at one endpoint or at one of two, on threads.
 use super::{Case, assert_case, waiting_of};
-use crate::worker::Worker;
+use crate::worker::Caller;
 use std::alloc::Global;
 use std::hint::spin_loop;
 use std::process::Abort;
@@ -86,7 +86,7 @@ fn coded_any(answer: Result<Answered, Refused>) -> u64 {
 }
 
 // Two processes with two channels. The first has a block ahead of its end, so that a budget of 1 doesn't reach it.
-fn make_pair<W: Worker>(worker: &mut W) -> Result<Pair, Refused> {
+fn make_pair<W: Caller>(worker: &mut W) -> Result<Pair, Refused> {
     let p = worker.spawn()?;
     let q = worker.spawn()?;
     worker.alloc(p, 16, 0)?;
@@ -104,7 +104,7 @@ fn make_pair<W: Worker>(worker: &mut W) -> Result<Pair, Refused> {
 }
 
 // Ends the wait after a pause.
-fn end_wait<W: Worker>(worker: &mut W, pair: Pair, ender: Ender, turns: u64) {
+fn end_wait<W: Caller>(worker: &mut W, pair: Pair, ender: Ender, turns: u64) {
     let Pair {
         p,
         q,
@@ -128,7 +128,7 @@ fn end_wait<W: Worker>(worker: &mut W, pair: Pair, ender: Ender, turns: u64) {
 }
 
 // What the process answers that waits after a pause, by one of the ways, a long time at most.
-fn wait_late<W: Worker, R: Clock>(rt: &R, worker: &mut W, pair: Pair, way: Way, turns: u64) -> u64 {
+fn wait_late<W: Caller, R: Clock>(rt: &R, worker: &mut W, pair: Pair, way: Way, turns: u64) -> u64 {
     pause(turns);
     let Some(deadline) = after(rt, 20_000) else {
         return 7;
@@ -143,7 +143,7 @@ fn wait_late<W: Worker, R: Clock>(rt: &R, worker: &mut W, pair: Pair, way: Way, 
 }
 
 // One round: what the waiting process answered, while another thread ends its wait.
-fn round<W: Worker + Send, R: Threads + Clock + Sync>(
+fn round<W: Caller + Send, R: Threads + Clock + Sync>(
     rt: &R,
     mine: &mut W,
     other: &mut W,
@@ -170,7 +170,7 @@ fn round<W: Worker + Send, R: Threads + Clock + Sync>(
 
 /// In 32 rounds over one kernel, which has two channels for each, the waiting process always answers so, and all bytes
 /// come back.
-pub fn assert_rounds<W: Worker + Send, R: Threads + Clock + Abort + Sync>(
+pub fn assert_rounds<W: Caller + Send, R: Threads + Clock + Abort + Sync>(
     rt: &R,
     mine: &mut W,
     others: &mut [W],

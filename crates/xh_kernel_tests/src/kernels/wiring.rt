@@ -1,6 +1,6 @@
 // A wire whose other process ends in between, on threads.
 use super::{Case, assert_case, assert_two_start, waiting_of};
-use crate::worker::Worker;
+use crate::worker::Caller;
 use std::hint::spin_loop;
 use std::process::Abort;
 use std::sync::atomic::{AtomicU64, Ordering};
@@ -42,14 +42,14 @@ impl Gate for Hold {
 }
 
 // The process ends once the other has claimed a record, and the other is told to go on.
-fn end_between<W: Worker>(worker: &mut W, q: u16, hold: &Hold) {
+fn end_between<W: Caller>(worker: &mut W, q: u16, hold: &Hold) {
     wait_for(&hold.claimed);
     let _ended = worker.exit(q);
     hold.told.store(1, Ordering::SeqCst);
 }
 
 // Whether a wire of process 0 is refused whose other process, 1, ends once the first has claimed a record.
-fn is_refused<W: Worker + Send, R: Threads>(rt: &R, mine: &mut W, other: &mut W) -> bool {
+fn is_refused<W: Caller + Send, R: Threads>(rt: &R, mine: &mut W, other: &mut W) -> bool {
     let hold = Hold {
         claimed: AtomicU64::new(0),
         told: AtomicU64::new(0),
@@ -64,7 +64,7 @@ fn is_refused<W: Worker + Send, R: Threads>(rt: &R, mine: &mut W, other: &mut W)
 }
 
 /// Such a wire is refused, and what it took is given back.
-pub fn assert_refused<W: Worker + Send, R: Threads + Abort>(
+pub fn assert_refused<W: Caller + Send, R: Threads + Abort>(
     rt: &R,
     mine: &mut W,
     others: &mut [W],
