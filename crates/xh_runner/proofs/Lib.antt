@@ -1,3 +1,1 @@
-pub mod Plays
-pub mod Wholes
 pub mod Workers

@@ -7,12 +7,6 @@ pub hired_more : {X Y : Type 0} (f : X → Y) (xs more : List X) (x : X) (rest l
 hired_more f xs more x rest later all e r h =
     ap (λ l. map f l ++ later) e ∙ ap (λ l. l ++ later) (map_push f xs x) ∙ append_assoc (map f xs) (f x ∷ []) later ∙ ap (λ l. map f xs ++ l) (sym r) ∙ h
 
--- one more worker has left
-pub left_more : {X Y : Type 0} (f : X → Y) (ys more : List Y) (x : X) (rest later : List X) (all : List Y) → more ≡ ys ++ f x ∷ [] → rest ≡ x ∷ later → ys ++ map f rest ≡ all
-    → more ++ map f later ≡ all
-left_more f ys more x rest later all e r h =
-    ap (λ l. l ++ map f later) e ∙ append_assoc ys (f x ∷ []) (map f later) ∙ ap (λ l. ys ++ map f l) (sym r) ∙ h
-
 -- nobody is left
 pub none_left : {Y : Type 0} (ys rest all : List Y) → length rest ≡ 0 → ys ++ rest ≡ all → ys ≡ all
 none_left ys rest all none h = sym (append-nil ys) ∙ ap (λ l. ys ++ l) (sym (nil_from_length rest none)) ∙ h

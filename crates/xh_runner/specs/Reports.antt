@@ -1,20 +1,14 @@
 -- What a run leaves.
-use Rattle.std.specs.Prelude.{◌≡◌, ◌≢◌, ◌⊎◌, ℕ, All, Bool, false, true, List, length}
+use Rattle.std.specs.Prelude.{◌≡◌, ℕ, All, Bool, false, List, length}
 use Rattle.xh_core.specs.Flight.{AreFlightLines}
 use Rattle.xh_books.specs.Ledgers.{IsBalanced}
 use Rattle.xh_core.specs.declared.ledger.Ledger.{Ledger}
 use Rattle.xh_model.specs.declared.config.Config.{Config}
-use Rattle.xh_runner.specs.Plays.{AreAnswersTo}
+use Rattle.xh_crew.specs.Plays.{AreAnswersTo}
 use Rattle.xh_runner.specs.Runs.{HasRun}
-use Rattle.xh_script.specs.declared.fault.Fault.{Fault}
-use Rattle.xh_script.specs.declared.fault.Fault.TheVariants.{Gate, Memory}
 use Rattle.xh_script.specs.Scripts.{Listing}
 use Rattle.xh_session.specs.declared.report.Report.{Report}
 use Rattle.xh_session.specs.Reports.{told_text}
-
--- a run stops so: memory was refused, or the gate stopped a worker, which one that always lets them through doesn't
-abbrev pub Stops : Bool → Fault → Type 0
-Stops always fault = (fault ≡ Memory) ⊎ ((fault ≡ Gate) × (always ≢ true))
 
 -- there is a line for each arena of a configuration, of its size
 pub record HasArenas (config : Config) (l : Ledger) : Type 0 where

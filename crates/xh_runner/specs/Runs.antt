@@ -6,7 +6,7 @@ use Rattle.xh_glance.specs.Look.{LookOf, fresh_look}
 use Rattle.xh_kernel.specs.Accounts.{AccountOf, AreFresh}
 use Rattle.xh_model.specs.declared.config.Config.{Config}
 use Rattle.xh_model.specs.declared.limits.TheConstants.{MAX_WORKERS}
-use Rattle.xh_runner.specs.Plays.{ArePlayed, HasNames}
+use Rattle.xh_crew.specs.Plays.{ArePlayed, HasNames}
 use Rattle.xh_runner.specs.Workers.{WorkerState, did}
 use Rattle.xh_script.specs.Scripts.{Listing}
 use Rattle.xh_session.specs.declared.report.Report.{Report}

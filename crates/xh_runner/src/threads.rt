@@ -3,24 +3,17 @@ ghost use Rattle.std.specs.Prelude.{◌≡◌, ◌<◌, ◌⊎◌, All, IfErr, I
 ghost use Rattle.xh_core.specs.Flight.{AreFlightLines};
 ghost use Rattle.xh_books.specs.Ledgers.{IsBalanced};
 ghost use Rattle.xh_calls.specs.Parts.{AreMadeBy};
+ghost use Rattle.xh_crew.specs.Plays.{AreAnswersTo};
+ghost use Rattle.xh_crew.specs.Stops.{Stops};
 ghost use Rattle.xh_glance.specs.Look.{fresh_look};
 ghost use Rattle.xh_kernel.specs.Accounts.{AreFresh};
 ghost use Rattle.xh_model.specs.Config.{IsConfig};
 ghost use Rattle.xh_model.specs.declared.limits.TheConstants.{MAX_WORKERS, PLACES};
-ghost use Rattle.xh_runner.specs.Reports.{HasArenas, Stops};
-ghost use Rattle.xh_runner.specs.Plays.{AreAnswersTo};
+ghost use Rattle.xh_runner.specs.Reports.{HasArenas};
 ghost use Rattle.xh_runner.specs.Runs.{HasRun};
 ghost use Rattle.xh_runner.specs.inner.Runs.{HasPlayed};
 ghost use Rattle.xh_script.specs.Scripts.{listing_of};
 
-mod crew;
-mod job;
-mod latest;
-mod play;
-mod replies;
-mod run;
-
-use crate::threads::run::{Outcome, run_on};
 use crate::worker::{hire, leave_all};
 use std::alloc::Global;
 use std::marker::Brand;
@@ -28,6 +21,7 @@ use std::sync::Wait;
 use std::thread::Threads;
 use xh_books::close_kernel;
 use xh_core::Config;
+use xh_crew::{Outcome, run_on};
 use xh_glance::Look;
 use xh_kernel::{Account, Kernel, Names, Parts};
 use xh_model::limits::MAX_WORKERS;
@@ -82,7 +76,8 @@ fn run_script<N: Names + Send + Sync, R: Threads + Wait + Sync, G: Gate + Sync>(
 fn report_of<N: Names>(alloc: Global, kernel: Kernel<N>, ended: Ended<N>) -> Result<Report, Fault>
     requires count { (vec_len ended.accounts ≡ N.parts.workers) × (length ended.names.items ≡ PLACES) }
     requires looks { All (λ l. l.glances ≡ N.parts.glances) ended.looks.items }
-    ensures run { IfOk result (λ r. (config : _) (script : _) → AreMadeBy config MAX_WORKERS N.parts → HasPlayed N.parts script ended.answers.items ended.names.items ended.accounts.items ended.looks.items → HasRun config script r) }
+    ensures run { IfOk result (λ r. (config : _) (script : _) → AreMadeBy config MAX_WORKERS N.parts
+        → HasPlayed N.parts script ended.answers.items ended.names.items ended.accounts.items ended.looks.items → HasRun config script r) }
     ensures same { IfOk result (λ r. r.answers.items ≡ ended.answers.items) }
     ensures arenas { IfOk result (λ r. (length r.ledger.arenas.items ≡ length N.parts.records.shape.names) × All (λ a. a.size ≡ N.parts.size) r.ledger.arenas.items) }
     ensures flight { IfOk result (λ r. AreFlightLines r.ledger.flight r.flight.items) }

@@ -3,7 +3,7 @@ use Rattle.std.specs.Prelude.{◌≡◌, ℕ, List}
 use Rattle.xh_calls.specs.Parts.{PartsOf}
 use Rattle.xh_glance.specs.Look.{LookOf}
 use Rattle.xh_kernel.specs.Accounts.{AccountOf}
-use Rattle.xh_runner.specs.Plays.{ArePlayed, HasNames}
+use Rattle.xh_crew.specs.Plays.{ArePlayed, HasNames}
 use Rattle.xh_runner.specs.Runs.{AreNew, accounts_of, looks_of}
 use Rattle.xh_runner.specs.Workers.{WorkerState, did}
 use Rattle.xh_script.specs.declared.reply.Answered.{Answered}

@@ -6,7 +6,7 @@ use Rattle.xh_script.specs.Scripts.{listing_of}
 use Rattle.xh_session.proofs.Ends.{wrote_all, wrote_part}
 use Rattle.xh_session.specs.declared.report.Report.{Report}
 use Rattle.xh_session.specs.Reports.{told_text}
-use Rattle.xh_runner.specs.Plays.{AreAnswersTo}
+use Rattle.xh_crew.specs.Plays.{AreAnswersTo}
 use Rattle.xh_runner.specs.Reports.{HasArenas, IsReportTold}
 use Rattle.xh_runner.specs.Runs.{HasRun}
 use Rattle.xh_runner.proofs.parallel.run_parallel_as.Goals as goal

@@ -1,7 +1,7 @@
 use Rattle.std.proofs.Common.{◌≡◌, All, arith, subst, sym}
 use Rattle.std.proofs.lemmas.List.Elements.{All-push}
 use Rattle.xh_glance.specs.Look.{LookOf}
-use Rattle.xh_runner.proofs.Workers.{left_more}
+use Rattle.xh_crew.proofs.Plays.{left_more}
 use Rattle.xh_runner.proofs.worker.leave_all.Goals as goal
 
 pub loop-worker-preserved : goal.loop-worker-preserved

@@ -1,0 +1,10 @@
+use Rattle.std.proofs.Common.{◌≡◌, ◌++◌, ◌∷◌, map}
+use Rattle.std.specs.Vec.Iter.{into_iter_items}
+use Rattle.xh_crew.specs.inner.Jobs.{replies_of}
+use Rattle.xh_crew.proofs.run.gather.Given as goal
+
+abbrev pub invariant-loop-done : goal.invariant-loop-done
+invariant-loop-done g l = record {
+  machines : l.machines.items ++ map (λ done. done.machine) (into_iter_items l.done-iterator) ≡ l.fn.machine ∷ map (λ done. done.machine) l.fn.dones.items;
+  queues : map into_iter_items l.queues.items ++ replies_of (into_iter_items l.done-iterator) ≡ l.fn.head.items ∷ replies_of l.fn.dones.items;
+}

@@ -1,0 +1,112 @@
+-- What the workers of a run on threads do, and where their replies go.
+use Rattle.std.specs.Prelude.{◌≡◌, ◌<◌, ◌≤◌, suc, if◌then◌else◌, Bool, ℕ, List, [], ◌∷◌, ◌++◌, length, map, slice_index_or, slice_set, MatchResult, None, Result}
+use Rattle.xh_model.specs.declared.limits.TheConstants.{PLACES}
+use Rattle.xh_crew.specs.declared.crew.Hand.{Hand}
+use Rattle.xh_crew.specs.declared.crew.Hand.TheVariants.{Works, Idle}
+use Rattle.xh_crew.specs.declared.job.Done.{Done}
+use Rattle.xh_crew.specs.declared.job.Job.{Job}
+use Rattle.xh_crew.specs.declared.job.Shared.{Shared}
+use Rattle.xh_crew.specs.declared.run.Played.{Played}
+use Rattle.xh_crew.specs.Stops.{Stops}
+use Rattle.xh_crew.specs.Plays.{AllZipFrom, Does, DoesAmong, LAST, Plays, names_another, part, part_of, process_of}
+use Rattle.xh_script.specs.declared.command.Line.{Line}
+use Rattle.xh_script.specs.declared.fault.Fault.{Fault}
+use Rattle.xh_script.specs.declared.reply.Answered.{Answered}
+use Rattle.xh_script.specs.declared.reply.Reply.{Reply}
+use Rattle.xh_session.specs.Bindings.{Bindings, following, process_at}
+use Rattle.xh_session.specs.Plans.{World}
+use Rattle.xh_session.specs.Questions.{Question, Answer}
+use Rattle.xh_session.specs.Worlds.{world_of}
+
+-- ---- a job
+
+-- what the names of the other processes stand for by then, where the line's command names one
+abbrev pub Hears : Line → Bindings → Bindings → Type 0
+Hears line old new = (others : Bindings) × (new ≡ (if names_another line.command.form then following (process_of line) others old else old))
+
+module _ {M S : Type 0} (state : M → S) where
+  -- the job of the place k on this machine, from what the head left on
+  pub record IsJob {G : Type 0} (shared : Shared G) (k : ℕ) (machine : M) (job : Job M) : Type 0 where
+    pub world : world_of state job.session ≡ record { machine = state machine; names = shared.ready.now; contracts = shared.contracts.now }
+    pub place : job.place ≡ k
+
+  module _ (did : S → (q : Question) → Answer q → S → Type 0) where
+    -- a machine played the lines of the place k from a world on, by what the names stood for after the head
+    abbrev pub Left : Bindings → List Line → ℕ → World S → Done M → Type 0
+    Left b lines k old done = (end : World S) × Plays (DoesAmong did) old (part b (suc k) lines) done.replies.items end × (end.machine ≡ state done.machine)
+
+    -- what is left of the place k, by the machine
+    abbrev pub PlaceIsDone : World S → List Line → ℕ → M → Done M → Type 0
+    PlaceIsDone ready lines k machine done = Left ready.names lines k (record ready { machine = state machine }) done
+
+-- ---- a whole run
+
+-- the replies of the places
+abbrev pub replies_of : {M : Type 0} → List (Done M) → List (List Reply)
+replies_of dones = map (λ done. done.replies.items) dones
+
+-- the replies of all parts
+abbrev pub queues_of : {M : Type 0} → Played M → List (List Reply)
+queues_of p = p.head.items ∷ (replies_of p.dones.items ++ p.rest.items ∷ [])
+
+-- all lines were played, from this world of the head on, and the head's machine ended so
+pub record HavePlayed {M S : Type 0} (state : M → S) (did : S → (q : Question) → Answer q → S → Type 0) (lines : List Line) (first : World S) (olds : List M) (last : S) (p : Played M) : Type 0 where
+  pub ready : World S
+  pub end : World S
+  pub count : length olds ≡ PLACES
+  pub names : p.ready ≡ ready.names
+  pub head : Plays (Does did) first (part ready.names 0 lines) p.head.items ready
+  pub places : AllZipFrom (PlaceIsDone state did ready lines) 0 olds p.dones.items
+  pub rest : Plays (Does did) ready (part ready.names LAST lines) p.rest.items end
+  pub left : end.machine ≡ last
+
+-- ---- a thread
+
+module _ {M G S : Type 0} (state : M → S) where
+  -- what was started for the place k and its machine
+  abbrev pub IsHand : Shared G → ℕ → M → Hand M G → Type 0
+  IsHand shared k machine (Works handle) = (handle.promise.shared.now ≡ shared) × IsJob state shared k machine handle.promise.job.value
+  IsHand shared k machine (Idle idle) = (idle ≡ machine) × (k < PLACES) × (process_at shared.ready.now k ≡ None)
+
+  abbrev pub AreHands : Shared G → List M → List (Hand M G) → Type 0
+  AreHands shared = AllZipFrom (IsHand shared) 0
+
+  module _ (did : S → (q : Question) → Answer q → S → Type 0) where
+    -- a job is done
+    abbrev pub IsDone : Shared G → Job M → Done M → Type 0
+    IsDone shared job done = Left state did shared.ready.now shared.lines.now job.place (world_of state job.session) done
+
+    -- or its worker was stopped
+    abbrev pub Leaves : Bool → Shared G → Job M → Result (Done M) Fault → Type 0
+    Leaves always shared job left = MatchResult left (IsDone shared job) (Stops always)
+
+    -- whatever was started, that is done
+    abbrev pub Joins : Hand M G → Done M → Type 0
+    Joins (Works handle) done = IsDone handle.promise.shared.now handle.promise.job.value done
+    Joins (Idle machine) done = (done.machine ≡ machine) × (done.replies.items ≡ [])
+
+    abbrev pub AreJoined : List (Hand M G) → List (Done M) → Type 0
+    AreJoined = AllZipFrom (λ _ hand done. Joins hand done) 0
+
+    -- what is left of the places
+    abbrev pub ArePlaces : Shared G → List M → List (Done M) → Type 0
+    ArePlaces shared = AllZipFrom (λ k machine done. Left state did shared.ready.now shared.lines.now k
+        (record { machine = state machine; names = shared.ready.now; contracts = shared.contracts.now }) done) 0
+
+-- ---- the replies
+
+-- the replies of a part that are not yet given out
+abbrev pub queue_at : List (List Reply) → ℕ → List Reply
+queue_at queues k = slice_index_or queues k []
+
+-- each line gets the next reply of its part
+abbrev pub Deals : Bindings → List Line → List (List Reply) → List Answered → Type 0
+Deals b [] queues [] = Unit {0}
+Deals b [] queues (a ∷ answers) = ⊥
+Deals b (line ∷ lines) queues [] = ⊥
+Deals b (line ∷ lines) queues (a ∷ answers) = (rest : List Reply) × (a.line ≡ line.number) × (queue_at queues (part_of b line) ≡ a.reply ∷ rest)
+    × Deals b lines (slice_set queues (part_of b line) rest) answers
+
+-- there are as many replies of each part as it has lines
+abbrev pub Fits : Bindings → List Line → List (List Reply) → Type 0
+Fits b lines queues = (length queues ≡ suc LAST) × ((k : ℕ) → k ≤ LAST → length (queue_at queues k) ≡ length (part b k lines))

@@ -1,0 +1,11 @@
+//! A run of a script on threads, by any machines.
+#![tactic(auto)]
+
+mod crew;
+mod job;
+mod latest;
+mod play;
+mod replies;
+mod run;
+
+pub use run::{Outcome, run_on};

@@ -1,0 +1,143 @@
+//! How a worker does its job.
+ghost use Rattle.std.specs.Prelude.{◌≡◌, ◌==◌, ◌<◌, [], suc, IfOk, IfErr};
+ghost use Rattle.xh_model.specs.declared.limits.TheConstants.{PLACES};
+ghost use Rattle.xh_crew.specs.Plays.{DoesAmong, Plays, is_placed, names_another, part, part_of};
+ghost use Rattle.xh_crew.specs.inner.Jobs.{Hears, Leaves};
+ghost use Rattle.xh_crew.specs.Stops.{Stops};
+ghost use Rattle.xh_session.specs.Worlds.{world_of};
+
+use crate::job::{Done, Job, Shared};
+use std::alloc::Global;
+use std::sync::Wait;
+use xh_model::limits::PLACES;
+use xh_place::Gate;
+use xh_script::{Fault, Form, Line, Reply};
+use xh_session::{Machine, Names as Bindings, Session};
+
+// Whether the process has the place of its number.
+fn is_placed(names: &Bindings, process: u8) -> bool
+    ensures { result ≡ is_placed names.now process }
+{
+    let number = names.number(process);
+    if number >= u16::from(PLACES) {
+        return false;
+    }
+    match names.process_at(number as u8) {
+        Some(latest) => latest == process,
+        None => false,
+    }
+}
+
+/// The part of a run to which a line belongs.
+pub(crate) fn part_of(names: &Bindings, line: &Line) -> u8
+    ensures { result ≡ part_of names.now line.now }
+{
+    let process = line.command.name(0);
+    if line.command.form.is_head() {
+        0
+    } else if is_placed(names, process) {
+        1 + names.number(process) as u8
+    } else {
+        1 + PLACES
+    }
+}
+
+/// Whether a line belongs to the part of a number.
+pub(crate) fn is_in(names: &Bindings, line: &Line, number: u8) -> bool
+    ensures { result ≡ (part_of names.now line.now == number) }
+{
+    part_of(names, line) == number
+}
+
+fn names_another(form: Form) -> bool
+    ensures { result ≡ names_another form }
+{
+    matches!(form, Form::Kill | Form::Glance)
+}
+
+// What the names of other processes stand for by now, where the line's command names one.
+fn hear<R: Wait, G>(rt: &R, shared: &Shared<'_, G>, names: &mut Bindings, line: &Line)
+    ensures { Hears line.now names.old names.new }
+{
+    if names_another(line.command.form) {
+        names.follow(line.command.name(0), &shared.names.lock(rt));
+    }
+}
+
+// Does a command. Where it names another process, the name stands for what it stands for at the start.
+fn step<'a, M: Machine, R: Wait, G>(
+    rt: &R,
+    alloc: Global,
+    shared: &Shared<'_, G>,
+    session: &mut Session<'a, M>,
+    line: &Line,
+) -> Reply
+    ensures { DoesAmong M.did (world_of M.state session.old) line.now result (world_of M.state session.new) }
+{
+    hear(rt, shared, &mut session.names, line);
+    let reply = session.step(alloc, &line.command);
+    if let Reply::Started(number) = reply {
+        shared.names.lock(rt).start(line.command.name(0), number);
+    }
+    reply
+}
+
+// Does the commands of a place in order, as far as the gate lets them: the replies, for which there is room.
+fn play<'a, M: Machine, R: Wait, G: Gate>(
+    rt: &R,
+    alloc: Global,
+    shared: &Shared<'_, G>,
+    session: &mut Session<'a, M>,
+    place: u8,
+    room: Vec<Reply>,
+) -> Result<Vec<Reply>, Fault>
+    requires { (place < PLACES) × (room.items ≡ []) }
+    ensures played { IfOk result (λ replies. Plays (DoesAmong M.did) (world_of M.state session.old) (part shared.now.ready.now (suc place) shared.now.lines.now) replies.items
+        (world_of M.state session.new)) }
+    ensures stopped { IfErr result (Stops G.always) }
+{
+    let mut replies = room;
+    let mut command = 0u32;
+    for line in shared.lines {
+        if is_in(shared.ready, line, place + 1) {
+            if !shared.gate.before(place, command) {
+                return Err(Fault::Gate);
+            }
+            replies.push(step(rt, alloc, shared, session, line))?;
+            shared.gate.after(place, command);
+            command = command.saturating_add(1);
+        }
+    }
+    Ok(replies)
+}
+
+impl<'a, M: Machine> Job<'a, M> {
+    /// Does the commands once all workers were started; none where one could not be.
+    pub(crate) fn work<R: Wait, G: Gate>(
+        self,
+        rt: &R,
+        alloc: Global,
+        shared: &Shared<'_, G>,
+    ) -> Result<Done<M>, Fault>
+        ensures { Leaves M.state M.did G.always shared.now self.entry result }
+    {
+        let Job {
+            mut session,
+            place,
+            room,
+        } = self;
+        let started = *shared.started.lock(rt);
+        let played = if started {
+            play(rt, alloc, shared, &mut session, place, room)
+        } else {
+            Err(Fault::Memory)
+        };
+        let Session {
+            machine,
+            names: _,
+            contracts: _,
+        } = session;
+        let replies = played?;
+        Ok(Done { machine, replies })
+    }
+}

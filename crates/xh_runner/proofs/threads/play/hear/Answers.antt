@@ -1,5 +1,0 @@
-use Rattle.std.proofs.Common.{rules}
-use Rattle.xh_runner.proofs.threads.play.hear.Goals as goal
-
-pub returns-else-names_another : goal.returns-else-names_another
-returns-else-names_another g c = (c.args.names.now, search rules)

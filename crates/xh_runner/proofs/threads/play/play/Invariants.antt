@@ -1,9 +1,0 @@
-use Rattle.std.proofs.Common.{◌==◌, suc}
-use Rattle.xh_runner.proofs.Plays.{Continues}
-use Rattle.xh_runner.specs.Plays.{DoesAmong, part_of}
-use Rattle.xh_session.specs.Worlds.{world_of}
-use Rattle.xh_runner.proofs.threads.play.play.Given as goal
-
-abbrev pub invariant-loop-line : goal.invariant-loop-line
-invariant-loop-line g l = Continues (DoesAmong g.M.Machine.did) (λ line. part_of l.shared.ready.now line == suc l.place)
-    (world_of g.M.Machine.state l.fn.session) l.shared.lines.now l.replies.items (world_of g.M.Machine.state l.session) l.line-index

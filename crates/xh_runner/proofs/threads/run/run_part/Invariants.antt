@@ -1,9 +1,0 @@
-use Rattle.std.proofs.Common.{◌==◌}
-use Rattle.xh_runner.proofs.Plays.{Continues}
-use Rattle.xh_runner.specs.Plays.{Does, part_of}
-use Rattle.xh_session.specs.Worlds.{world_of}
-use Rattle.xh_runner.proofs.threads.run.run_part.Given as goal
-
-abbrev pub invariant-loop-line : goal.invariant-loop-line
-invariant-loop-line g l = Continues (Does g.M.Machine.did) (λ line. part_of l.names line == l.number)
-    (world_of g.M.Machine.state l.fn.head) l.lines l.replies.items (world_of g.M.Machine.state l.head) l.line-index
