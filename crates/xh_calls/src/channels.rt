@@ -200,7 +200,8 @@ impl<N: Names> Heap<N> {
     )
         requires { IsServed N.parts place.old.place till.old }
         ensures same { IsSamePlace place.old place.new × IsTillOf N.parts till.new }
-        ensures closed { (from : PlaceSeen) × Stays place.old from × SeesMore from place.new × (bytes : ℕ) × ClosesAgain p channel r from place.new bytes × HasGivenBack bytes till.old.tallies.items till.new.tallies.items }
+        ensures closed { (from : PlaceSeen) × Stays place.old from × SeesMore from place.new × (bytes : ℕ) × ClosesAgain p channel r from place.new bytes
+            × HasGivenBack bytes till.old.tallies.items till.new.tallies.items }
     {
         if let Err(_refused) = check_start(place, p) {
             return;

@@ -93,9 +93,11 @@ impl Scribe {
     fn tell(&mut self, glances: &Glances, place: &Place)
         requires pen { (self.old.pens.glances.glances ≡ glances.now) × (place_of place.now.place.process ≡ self.old.pens.glances.number) }
         requires process { generation_of place.now.place.process < GENERATIONS }
-        ensures same { (self.new.pens.glances.glances ≡ self.old.pens.glances.glances) × (self.new.pens.glances.number ≡ self.old.pens.glances.number) × (self.new.pens.history ≡ self.old.pens.history) }
+        ensures same { (self.new.pens.glances.glances ≡ self.old.pens.glances.glances) × (self.new.pens.glances.number ≡ self.old.pens.glances.number)
+            × (self.new.pens.history ≡ self.old.pens.history) }
         ensures told { IsTold place.now.place self.new.pens.glances }
-        ensures more { (old : PlaceOf) → IsTold old self.old.pens.glances → (told : List Glance) × (self.new.pens.glances.history ≡ self.old.pens.glances.history ++ told) × Tells old place.now.place told }
+        ensures more { (old : PlaceOf) → IsTold old self.old.pens.glances → (told : List Glance)
+            × (self.new.pens.glances.history ≡ self.old.pens.glances.history ++ told) × Tells old place.now.place told }
         ensures lawful { IsLawful place.now.place }
     {
         let glance = shown(place);
@@ -141,7 +143,8 @@ impl Scribe {
         requires pens { AreOwn N.parts self.old.pens }
         requires front { (front.old.table ≡ N.parts.histories) × (front.old.number < N.parts.workers) }
         requires place { IsPlaceOf N.parts.records place.now.place × (place_of place.now.place.process ≡ self.old.pens.glances.number) × (generation_of place.now.place.process < GENERATIONS) }
-        requires does { (old : PlaceSeen) × (from : PlaceSeen) × IsTold old.place self.old.pens.glances × AreOf N.parts self.old.pens old × Stays old from × Does N.parts call from place.now × SeesMore from place.now }
+        requires does { (old : PlaceSeen) × (from : PlaceSeen) × IsTold old.place self.old.pens.glances × AreOf N.parts self.old.pens old × Stays old from
+            × Does N.parts call from place.now × SeesMore from place.now }
         ensures pens { AreOwn N.parts self.new.pens × (self.new.pens.glances.number ≡ self.old.pens.glances.number) }
         ensures told { IsTold place.now.place self.new.pens.glances }
         ensures lawful { IsLawful place.now.place }

@@ -35,7 +35,16 @@ AreUnseen {E} id fronts = (k : ℕ) (d : histories.FrontOf E) → k < length fro
 
 -- a kernel's parts of these records, glances and histories, made by the configuration
 abbrev pub parts_of : RecordsOf → ℕ → Config → ℕ → TableId → TableId → TableId → PartsOf
-parts_of records workers config depth glances table vaults = record { records = records; workers = workers; size = config.bytes; wear = config.wear; depth = depth; glances = glances; histories = table; vaults = vaults }
+parts_of records workers config depth glances table vaults = record {
+  records = records;
+  workers = workers;
+  size = config.bytes;
+  wear = config.wear;
+  depth = depth;
+  glances = glances;
+  histories = table;
+  vaults = vaults;
+}
 
 -- what the type of a kernel's parts keeps
 pub record AreParts (p : PartsOf) (vs : List VaultOf) (xs : List (Held Body)) (pens : List PenOf) (bs : List Bundle) (looks : List LookOf)
