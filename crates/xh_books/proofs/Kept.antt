@@ -14,61 +14,68 @@ use Rattle.xh_glance.specs.Look.{LookOf}
 use Rattle.xh_history.specs.Histories.{at}
 use Rattle.xh_kernel.specs.declared.scribe.Pens.{Pens}
 use Rattle.xh_kernel.specs.Accounts.{AccountOf}
+use Rattle.xh_kernel.specs.Finished.{AreInOrder, WereSeen, histories_of, tallies_of}
 use Rattle.xh_kernel.specs.Histories.{IsLawfulHistory}
 use Rattle.xh_kernel.specs.Kept.{AreKept, AreOwn, IsKept}
 use Rattle.xh_kernel.specs.Places.{places_of}
+use Rattle.xh_kernel.proofs.Compared.{kept_at}
 use Rattle.xh_records.specs.Seats.{RecordsOf}
 use Rattle.xh_place.specs.Seen.{PlaceSeen}
-use Rattle.xh_books.specs.Closing.{AreInOrder, HaveSeen, IsClosed, IsSumOver, histories_of}
+use Rattle.xh_books.specs.Closing.{IsClosed, IsSumOver}
 use Rattle.xh_books.specs.declared.closing.Books.{Books}
 use Rattle.xh_books.specs.Flight.{IsInFlight}
 use Rattle.xh_books.specs.Ledgers.{IsBalanced, all_lengths, arena_lines, arenas_of, bytes_in_flight, bytes_owned, place_lines, taken_of}
 use Rattle.xh_books.specs.Sums.{AllBegan, AllWorked, AreLawful, arena_count}
-use Rattle.xh_books.specs.inner.Steps.{tallies_of}
-use Rattle.xh_books.proofs.Compared.{lines_same}
 use Rattle.xh_books.proofs.Summing.{all_back_in_lines}
 use Rattle.xh_books.proofs.Sums.{all_back_is, all_taken_is, as_many_tallies}
 
 module _ (parts : PartsOf) where
-  -- some pens, the place beside them, and where they stand
-  kept_at : (places : List PlaceSeen) (pens : List Pens) → AreKept parts places pens → (k : ℕ) → k < length pens
-      → (p : PlaceSeen) × (own : Pens) × IsKept parts p own × ((d : Pens) → get_or pens k d ≡ own)
-  kept_at [] [] kept k h = absurd (omega arith)
-  kept_at [] (own ∷ pens) kept k h = absurd kept
-  kept_at (p ∷ places) [] kept k h = absurd (omega arith)
-  kept_at (p ∷ places) (own ∷ pens) kept zero h = (p, own, kept.0, λ d. refl)
-  kept_at (p ∷ places) (own ∷ pens) kept (suc k) h = kept_at places pens kept.1 k (omega arith)
-
-  pub kept_own : (places : List PlaceSeen) (pens : List Pens) → AreKept parts places pens → All (AreOwn parts) pens
-  kept_own places pens kept k d h = let at_k = kept_at places pens kept k h in subst (AreOwn parts) (sym (at_k.3 d)) at_k.2.own
-
   kept_lawful : (places : List PlaceSeen) (pens : List Pens) → AreKept parts places pens → AreInOrder pens → AreLawful parts (histories_of pens)
   kept_lawful places pens kept in_order p below =
       let inside : p < length pens = omega (arith, length-map pens (λ (own : Pens). own.history.history)) in
-      let at_p = kept_at places pens kept p inside in let own = at_p.1 in
+      let at_p = kept_at parts places pens kept p inside in let own = at_p.1 in
       let number : own.history.number ≡ p = at_p.2.own.2 ∙ ap (λ (x : Pens). x.glances.number) (sym (at_p.3 own)) ∙ in_order.1 p own (omega (arith, inside, in_order.0)) in
       let history : own.history.history ≡ at (histories_of pens) p = sym (get_or-map (λ (x : Pens). x.history.history) pens p own [] inside ∙ ap (λ (x : Pens). x.history.history) (at_p.3 own)) in
       let lawful : IsLawfulHistory parts own.history.number own.history.history = ∥∥₁_map at_p.2.history (λ l. (own.glances.history, at_p.0, l)) in
       subst (λ (k : ℕ). IsLawfulHistory parts k (at (histories_of pens) p)) number (subst (IsLawfulHistory parts own.history.number) history lawful)
 
+-- ---- the lines of the arenas
+
+-- sums over accounts are those of their tallies
+sums_same : (f : List TallyOf → ℕ) (xs ys : List AccountOf) → tallies_of xs ≡ tallies_of ys → sum_by (λ a. f a.tallies) xs ≡ sum_by (λ a. f a.tallies) ys
+sums_same f xs ys e = by_tallies xs ∙ ap (sum_by f) e ∙ sym (by_tallies ys) where
+  by_tallies : (zs : List AccountOf) → sum_by (λ a. f a.tallies) zs ≡ sum_by f (tallies_of zs)
+  by_tallies [] = refl
+  by_tallies (a ∷ zs) = omega (arith, by_tallies zs, sum_by-cons (λ (b : AccountOf). f b.tallies) a zs, sum_by-cons f a.tallies (tallies_of zs))
+
+-- the line of an arena of which so much was taken and came back
+abbrev line_with : VaultOf → ℕ → ℕ → ArenaLine
+line_with v taken back = record { size = length v.arena.cover; out = bytes_out v.arena.cover; holes = length (holes_of v.arena.cover); taken = taken; back = back }
+
+pub lines_same : (xs ys : List AccountOf) → tallies_of xs ≡ tallies_of ys → (k : ℕ) (vs : List VaultOf) → arena_lines xs k vs ≡ arena_lines ys k vs
+lines_same xs ys e k [] = refl
+lines_same xs ys e k (v ∷ vs) =
+    let t = sums_same (λ ts. slice_index (map (λ t. t.taken) ts) k) xs ys e in let b = sums_same (λ ts. slice_index (map (λ t. t.back) ts) k) xs ys e in
+    λ i. line_with v (t i) (b i) ∷ lines_same xs ys e (suc k) vs i
+
 -- ---- a closed kernel
 
 -- its ledger, of accounts whose tallies are still those that were handed in
 pub is_closed : (parts : PartsOf) (own : RecordsOf) → own ≡ parts.records
-    → (places : List PlaceSeen) (pens : List Pens) (vaults : List VaultOf) (all now_ : List AccountOf) (looks : List LookOf) (r : Result Books Refused)
-    → AreKept parts places pens → length all ≡ parts.workers → HaveSeen all looks pens → (vault_names vaults ≡ parts.records.shape.names) × All (IsOpen parts) vaults → tallies_of now_ ≡ tallies_of all
+    → (places : List PlaceSeen) (vaults : List VaultOf) (all now_ : List AccountOf) (looks : List LookOf) (r : Result Books Refused)
+    → WereSeen parts places all looks → length all ≡ parts.workers → (vault_names vaults ≡ parts.records.shape.names) × All (IsOpen parts) vaults → tallies_of now_ ≡ tallies_of all
     → IfOk r (λ b. b.ledger.arenas.items ≡ arena_lines now_ 0 vaults) → IfOk r (λ b. b.ledger.places.items ≡ place_lines (places_of places))
     → IfOk r (λ b. b.ledger.owned ≡ bytes_owned (places_of places))
     → IfOk r (λ b. b.ledger.flight ≡ bytes_in_flight (places_of places) own.shape.records 0 (all_lengths (arenas_of vaults))) → IfOk r (λ b. IsBalanced b.ledger)
     → IfOk r (λ b. IsInFlight own.shape (places_of places) (all_lengths (arenas_of vaults)) b.flight.items) → IfOk r (λ b. IsClosed parts all looks b.ledger b.flight.items)
-is_closed parts own is places pens vaults all now_ looks (Err e) kept workers seen open_vaults same arenas lines owned flight balanced in_flight = tt
-is_closed parts own is places pens vaults all now_ looks (Ok b) kept workers seen open_vaults same arenas lines owned flight balanced in_flight = record {
+is_closed parts own is places vaults all now_ looks (Err e) seen workers open_vaults same arenas lines owned flight balanced in_flight = tt
+is_closed parts own is places vaults all now_ looks (Ok b) seen workers open_vaults same arenas lines owned flight balanced in_flight = record {
   places = places;
-  pens = pens;
+  pens = seen.0;
   vaults = vaults;
-  kept = kept;
+  kept = seen.1;
   workers = workers;
-  seen = seen;
+  seen = seen.2;
   open_vaults = open_vaults;
   arenas = arenas ∙ lines_same now_ all same 0 vaults;
   lines = lines;

@@ -12,4 +12,3 @@ pub mod LedgerLines
 pub mod Sums
 pub mod Stepping
 pub mod Kept
-pub mod Compared

@@ -1,44 +1,22 @@
 -- What a kernel was when it was closed: its places, their histories, and the ledger of them.
-use Rattle.std.specs.Prelude.{◌≡◌, ℕ, ◌<◌, List, All, length, map, slice_index, slice_index_or}
+use Rattle.std.specs.Prelude.{◌≡◌, List, All, length, map, slice_index}
 use Rattle.std.specs.List.{sum_by}
 use Rattle.xh_arena.specs.Views.{VaultOf}
 use Rattle.xh_calls.specs.Parts.{IsOpen, PartsOf, vault_names}
 use Rattle.xh_core.specs.declared.flight.FlightLine.{FlightLine}
 use Rattle.xh_core.specs.declared.ledger.Ledger.{Ledger}
-use Rattle.xh_glance.specs.Histories as glances
 use Rattle.xh_glance.specs.Look.{LookOf}
 use Rattle.xh_history.specs.Histories.{History}
 use Rattle.xh_kernel.specs.declared.call.Call.{Call}
 use Rattle.xh_kernel.specs.declared.scribe.Pens.{Pens}
 use Rattle.xh_kernel.specs.Accounts.{AccountOf}
+use Rattle.xh_kernel.specs.Finished.{HaveSeen, histories_of}
 use Rattle.xh_kernel.specs.Kept.{AreKept}
 use Rattle.xh_kernel.specs.Places.{places_of}
-use Rattle.xh_model.specs.declared.limits.TheConstants.{PLACES}
 use Rattle.xh_place.specs.Seen.{PlaceSeen}
 use Rattle.xh_books.specs.Flight.{IsInFlight}
 use Rattle.xh_books.specs.Ledgers.{IsBalanced, all_lengths, arena_lines, arenas_of, bytes_in_flight, bytes_owned, place_lines}
-use Rattle.xh_books.specs.Sums.{AreSeen, EachArena, back_in, sum_of_all, taken_in}
-
--- the histories of the places, and their glances, which the pens know whole
-abbrev pub histories_of : List Pens → List (History Call)
-histories_of = map (λ p. p.history.history)
-
-abbrev pub glances_of : List Pens → List glances.History
-glances_of = map (λ p. p.glances.history)
-
--- the pens of the places 0, 1, .., 31
-abbrev pub AreInOrder : List Pens → Type 0
-AreInOrder pens = (length pens ≡ PLACES) × ((k : ℕ) (d : Pens) → k < PLACES → (slice_index_or pens k d).glances.number ≡ k)
-
--- of each place the look has seen a beginning of its glances
-abbrev pub HasLooked : List glances.History → LookOf → Type 0
-HasLooked hs look = (p : ℕ) → p < PLACES → glances.StartsWith (glances.at hs p) (glances.at look.fronts p)
-
--- each account has seen a beginning of each place's history, in which all its calls stand, and each look one of its glances
-pub record HaveSeen (accounts : List AccountOf) (looks : List LookOf) (pens : List Pens) : Type 0 where
-  pub in_order : AreInOrder pens
-  pub seen : All (λ a. AreSeen a (histories_of pens)) accounts
-  pub looked : All (HasLooked (glances_of pens)) looks
+use Rattle.xh_books.specs.Sums.{EachArena, back_in, sum_of_all, taken_in}
 
 -- The locks of the kernel kept lawful histories of its places, each led to the place beside it, and these are all accounts and looks of the workers that made them. The ledger is of
 -- these places, of the kernel's vaults and of the accounts; the lines of directions are of these places and vaults.

@@ -6,6 +6,7 @@ use Rattle.xh_history.specs.Histories.{HasSeen, History, at, calls_of}
 use Rattle.xh_kernel.specs.declared.call.Call.{Call}
 use Rattle.xh_kernel.specs.declared.call.Call.TheVariants as call
 use Rattle.xh_kernel.specs.Accounts.{AccountOf, HasBack, HasGiven, HasTaken, IsUnmoved, fresh}
+use Rattle.xh_kernel.specs.Finished.{AreSeen}
 use Rattle.xh_kernel.specs.Histories.{IsLawfulHistory, Made}
 use Rattle.xh_kernel.specs.Wires.{TakesEnds}
 use Rattle.xh_model.specs.declared.limits.TheConstants.{END_BYTES, MAX_RECORDS, PLACES}
@@ -61,10 +62,6 @@ Reaches parts old new = (n : ℕ) × Steps parts n old new
 -- what the contract of a call says is that it was some steps
 abbrev pub AreSteps : PartsOf → (AccountOf → AccountOf → Type 0) → Type 0
 AreSteps parts Contract = (old new : AccountOf) → Contract old new → Reaches parts old new
-
--- these are the histories of the places, in their order, and each call that the worker made stands there
-abbrev pub AreSeen : AccountOf → List (History Call) → Type 0
-AreSeen a hs = (length hs ≡ PLACES) × ((p : ℕ) → p < PLACES → HasSeen a.number (at a.fronts p) (at hs p))
 
 -- the worker k of a kernel of these parts began with a fresh account, and its steps led to this one
 abbrev pub Began : PartsOf → ℕ → AccountOf → Type 0

@@ -13,7 +13,6 @@ ghost use Rattle.xh_books.specs.Ledgers.{IsBalanced, all_back, all_lengths, all_
 
 use crate::auditing::audit;
 use crate::collecting::gather;
-use crate::comparing::compare;
 use crate::flight::flight_lines;
 use crate::lines::{arena_lines, bytes_in, bytes_out, end_places};
 use arrayvec::ArrayVec;
@@ -23,7 +22,7 @@ use xh_core::{
     ARENA_LINES, ArenaLine, FLIGHT_LINES, FlightLine, Ledger, PLACE_LINES, PlaceLine, Refused,
 };
 use xh_glance::Look;
-use xh_kernel::{Account, Kernel, Names, Settled};
+use xh_kernel::{Account, Finished, Kernel, Names};
 use xh_place::{Body, Place};
 use xh_records::Records;
 
@@ -137,20 +136,15 @@ pub fn close_kernel<N: Names>(
     ensures lines { IfOk result (λ b. AreFlightLines b.ledger.flight b.flight.items) }
     ensures refused { IfErr result (λ e. e ≡ Refused.OutOfMemory) }
 {
-    match kernel.settle(alloc) {
+    match kernel.finish(alloc, accounts, looks) {
         Ok(
-            Settled {
+            Finished {
                 vaults,
                 places,
-                pens,
                 records,
-                glances,
-                histories,
+                accounts,
             },
-        ) => {
-            let accounts = compare(&glances, &histories, pens, accounts, looks)?;
-            close_books(alloc, vaults, places, records, accounts)
-        }
+        ) => close_books(alloc, vaults, places, records, accounts),
         Err(refused) => Err(refused),
     }
 }

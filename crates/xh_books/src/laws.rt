@@ -1,7 +1,7 @@
 //! What the contracts of the calls add up to: accounts and ledgers are sums over the histories.
 ghost use Rattle.std.specs.Prelude.{◌≡◌, ℕ, List, Option, Result};
 ghost use Rattle.std.specs.List.{sum_by};
-ghost use Rattle.xh_books.specs.Closing.{IsClosed, IsSumOver, histories_of};
+ghost use Rattle.xh_books.specs.Closing.{IsClosed, IsSumOver};
 ghost use Rattle.xh_books.specs.Ledgers.{all_back, taken_of};
 ghost use Rattle.xh_books.specs.Sums.{AllBegan, AllWorked, AreSteps, EachArena, Moves, Worked, back_in, sum_of, sum_of_all, taken_in};
 ghost use Rattle.xh_calls.specs.declared.several.Answered.{Answered};
@@ -16,6 +16,7 @@ ghost use Rattle.xh_kernel.specs.declared.call.Call.{Call};
 ghost use Rattle.xh_kernel.specs.declared.call.Call.TheVariants as call;
 ghost use Rattle.xh_kernel.specs.Accounts.{AccountOf};
 ghost use Rattle.xh_kernel.specs.Endings.{Closes, Exits, Kills};
+ghost use Rattle.xh_kernel.specs.Finished.{histories_of};
 ghost use Rattle.xh_kernel.specs.Histories.{Calls};
 ghost use Rattle.xh_kernel.specs.Waits.{AtLast, SpawnsAt};
 ghost use Rattle.xh_kernel.specs.Wires.{Opens, Wires};

@@ -4,7 +4,6 @@
 mod auditing;
 mod closing;
 mod collecting;
-mod comparing;
 mod flight;
 mod laws;
 mod lines;

@@ -2,3 +2,4 @@ pub mod Again
 pub mod Back
 pub mod Last
 pub mod Recorded
+pub mod Compared

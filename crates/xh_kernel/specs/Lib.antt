@@ -5,4 +5,5 @@ pub mod Kept
 pub mod Waits
 pub mod Endings
 pub mod Wires
+pub mod Finished
 pub mod inner

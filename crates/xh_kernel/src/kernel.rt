@@ -8,6 +8,7 @@ ghost use Rattle.xh_glance.specs.Pen.{fresh_pen};
 ghost use Rattle.xh_history.specs.Histories as histories;
 ghost use Rattle.xh_kernel.specs.Accounts.{AreFresh};
 ghost use Rattle.xh_kernel.specs.declared.call.Call.TheVariants.{Spawn};
+ghost use Rattle.xh_kernel.specs.Finished.{WereSeen, tallies_of};
 ghost use Rattle.xh_kernel.specs.Histories.{Asks};
 ghost use Rattle.xh_kernel.specs.inner.Making.{ArePens, AreSeats, AreUnseen, AreUnwritten};
 ghost use Rattle.xh_kernel.specs.Kept.{AreKept};
@@ -26,6 +27,7 @@ mod waiting;
 
 use crate::account::Account;
 use crate::call::Call;
+use crate::finishing::{Finished, compare};
 use crate::held::Held;
 use crate::looking::Waits;
 use crate::parts::Parts;
@@ -298,6 +300,41 @@ impl<N: Names> Kernel<N> {
             records,
             glances,
             histories,
+        })
+    }
+
+    /// Takes the kernel apart as `settle` does, and compares what its workers have seen with the histories and the
+    /// glances of its places. The accounts and the looks of all workers are handed in, in any order. OutOfMemory
+    /// where a growth was refused.
+    pub fn finish(
+        self,
+        alloc: Global,
+        accounts: Vec<Account<N>>,
+        looks: Vec<Look>,
+    ) -> Result<Finished<N>, Refused>
+        requires { All (λ l. l.glances ≡ N.parts.glances) looks.items }
+        ensures vaults { IfOk result (λ f. (vault_names f.vaults.items ≡ N.parts.records.shape.names) × All (IsOpen N.parts) f.vaults.items × (vec_len f.vaults ≤ MAX_ARENAS)) }
+        ensures places { IfOk result (λ f. All (IsPlaceOf f.records) (places_of f.places.items) × (vec_len f.places ≡ f.records.shape.places)) }
+        ensures records { IfOk result (λ f. f.records ≡ N.parts.records) }
+        ensures same { IfOk result (λ f. tallies_of f.accounts.items ≡ tallies_of accounts.items) }
+        ensures seen { IfOk result (λ f. WereSeen N.parts f.places.items accounts.items looks.items) }
+        ensures refused { IfErr result (λ e. e ≡ Refused.OutOfMemory) }
+    {
+        let settled = self.settle(alloc)?;
+        let Settled {
+            vaults,
+            places,
+            pens,
+            records,
+            glances,
+            histories,
+        } = settled;
+        let accounts = compare(&glances, &histories, pens, accounts, looks)?;
+        Ok(Finished {
+            vaults,
+            places,
+            records,
+            accounts,
         })
     }
 }

@@ -3,6 +3,7 @@
 
 mod account;
 mod call;
+mod finishing;
 mod held;
 mod kernel;
 mod looking;
@@ -12,6 +13,7 @@ mod shared;
 
 pub use account::Account;
 pub use call::Call;
+pub use finishing::Finished;
 pub use kernel::{Kernel, Settled};
 pub use parts::Parts;
 pub use scribe::Pens;

@@ -21,9 +21,6 @@ use Rattle.xh_books.specs.Ledgers.{arena_lines, arenas_of, bytes_in_flight}
 
 -- ---- the accounts
 
-abbrev pub tallies_of : List AccountOf → List (List TallyOf)
-tallies_of = map (λ a. a.tallies)
-
 -- the vault with one more tally taken in
 abbrev pub with_tally : VaultOf → TallyOf → VaultOf
 with_tally v t = record v { collected = record { number = t.number; taken = t.taken; back = t.back } ∷ v.collected }

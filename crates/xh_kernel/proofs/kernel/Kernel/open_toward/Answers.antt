@@ -1,4 +1,4 @@
-use Rattle.std.proofs.Common.{rules, ap, ◌∙◌}
+use Rattle.std.proofs.Common.{ap, ◌∙◌}
 use Rattle.xh_kernel.specs.Accounts.{seen_of}
 use Rattle.std.specs.Prelude.{◌*◌}
 use Rattle.xh_model.specs.declared.limits.TheConstants.{END_BYTES}

@@ -1,7 +1,7 @@
 use Rattle.std.proofs.Common.{◌≡◌}
-use Rattle.xh_books.specs.Closing.{histories_of}
-use Rattle.xh_books.proofs.Compared.{SeenSoFar}
-use Rattle.xh_books.proofs.comparing.compare_account.Given as goal
+use Rattle.xh_kernel.specs.Finished.{histories_of}
+use Rattle.xh_kernel.proofs.Compared.{SeenSoFar}
+use Rattle.xh_kernel.proofs.finishing.compare_account.Given as goal
 
 abbrev pub invariant-loop-place : goal.invariant-loop-place
 invariant-loop-place g l = (l.pens ≡ l.fn.pens) × SeenSoFar (histories_of l.fn.pens) l.fn.account l.account l.place

@@ -5,8 +5,8 @@ use borrow.Author.Count.{below_more}
 use Rattle.xh_glance.specs.Histories.{History, StartsWith, at}
 use Rattle.xh_glance.specs.Look.{LookOf}
 use Rattle.xh_kernel.specs.declared.scribe.Pens.{Pens}
-use Rattle.xh_books.specs.Closing.{glances_of}
-use Rattle.xh_books.proofs.comparing.compare_look.Goals as goal
+use Rattle.xh_kernel.specs.Finished.{glances_of}
+use Rattle.xh_kernel.proofs.finishing.compare_look.Goals as goal
 
 pub loop-place-preserved : goal.loop-place-preserved
 loop-place-preserved c =

@@ -3,10 +3,10 @@ use Rattle.std.proofs.lemmas.List.{get_or_default}
 use borrow.Author.Count.{below_more}
 use Rattle.xh_kernel.specs.declared.scribe.Pens.{Pens}
 use Rattle.xh_kernel.specs.Accounts.{AccountOf}
-use Rattle.xh_books.specs.Closing.{histories_of}
-use Rattle.xh_books.specs.Sums.{AreSeen}
-use Rattle.xh_books.proofs.Compared.{same_tallies}
-use Rattle.xh_books.proofs.comparing.compare_accounts.Goals as goal
+use Rattle.xh_kernel.specs.Finished.{histories_of}
+use Rattle.xh_kernel.specs.Finished.{AreSeen}
+use Rattle.xh_kernel.proofs.Compared.{same_tallies}
+use Rattle.xh_kernel.proofs.finishing.compare_accounts.Goals as goal
 
 pub loop-worker-preserved : goal.loop-worker-preserved
 loop-worker-preserved g c =

@@ -2,9 +2,9 @@ use Rattle.std.proofs.Common.{rules, ◌≡◌, ◌<◌, ◌∙◌, List, ap, ge
 use Rattle.std.proofs.lemmas.List.{set-get_or}
 use Rattle.std.specs.Prelude.{slice_set}
 use Rattle.xh_kernel.specs.declared.scribe.Pens.{Pens}
-use Rattle.xh_books.specs.Closing.{histories_of}
-use Rattle.xh_books.proofs.Compared.{one_seen, pens_at}
-use Rattle.xh_books.proofs.comparing.compare_account.Goals as goal
+use Rattle.xh_kernel.specs.Finished.{histories_of}
+use Rattle.xh_kernel.proofs.Compared.{one_seen, pens_at}
+use Rattle.xh_kernel.proofs.finishing.compare_account.Goals as goal
 
 pub loop-place-preserved : goal.loop-place-preserved
 loop-place-preserved g c =

@@ -1,7 +1,7 @@
 use Rattle.std.proofs.Common.{◌≡◌, ◌<◌, ℕ}
 use Rattle.xh_glance.specs.Histories.{StartsWith, at}
-use Rattle.xh_books.specs.Closing.{glances_of}
-use Rattle.xh_books.proofs.comparing.compare_look.Given as goal
+use Rattle.xh_kernel.specs.Finished.{glances_of}
+use Rattle.xh_kernel.proofs.finishing.compare_look.Given as goal
 
 abbrev pub invariant-loop-place : goal.invariant-loop-place
 invariant-loop-place l =

@@ -1,16 +1,30 @@
-// What the workers of a kernel have seen, beside what the pens of its places know.
+//! What is left of a kernel whose workers are done, and what they have seen.
 ghost use Rattle.std.specs.Prelude.{◌≡◌, ◌↔◌, All, IfErr, IfOk, true};
-ghost use Rattle.xh_books.specs.Closing.{AreInOrder, HasLooked, HaveSeen, glances_of, histories_of};
-ghost use Rattle.xh_books.specs.Sums.{AreSeen};
-ghost use Rattle.xh_books.specs.inner.Steps.{tallies_of};
 ghost use Rattle.xh_kernel.specs.Accounts.{IsUnmoved};
+ghost use Rattle.xh_kernel.specs.Finished.{AreInOrder, AreSeen, HasLooked, HaveSeen, glances_of, histories_of, tallies_of};
 ghost use Rattle.xh_kernel.specs.Kept.{AreOwn};
 
+use crate::account::Account;
+use crate::call::Call;
+use crate::scribe::Pens;
+use xh_arena::Vault;
+use xh_calls::Names;
 use xh_core::Refused;
 use xh_glance::{Glances, Look};
 use xh_history::Histories;
-use xh_kernel::{Account, Call, Names, Pens};
 use xh_model::limits::PLACES;
+use xh_place::{Body, Place};
+use xh_records::Records;
+
+/// What is left of a kernel whose workers are done: the vaults by arena, the places by number, which hold all
+/// seats of the records, the records, and the accounts of the workers, who have seen each history to its end.
+#[derive(Drop)]
+pub struct Finished<N: Names> {
+    pub vaults: Vec<Vault>,
+    pub places: Vec<Place>,
+    pub records: Records<Body>,
+    pub accounts: Vec<Account<N>>,
+}
 
 // Whether these are the pens of all places, in order.
 fn are_in_order(pens: &[Pens]) -> bool

@@ -1,8 +1,8 @@
 use Rattle.std.proofs.Common.{◌≡◌, All}
 use Rattle.std.specs.Vec.Iter.{into_iter_items}
 use Rattle.xh_glance.specs.Look.{LookOf}
-use Rattle.xh_books.specs.Closing.{HasLooked, glances_of}
-use Rattle.xh_books.proofs.comparing.compare_looks.Given as goal
+use Rattle.xh_kernel.specs.Finished.{HasLooked, glances_of}
+use Rattle.xh_kernel.proofs.finishing.compare_looks.Given as goal
 
 abbrev pub invariant-loop-look : goal.invariant-loop-look
 invariant-loop-look l =

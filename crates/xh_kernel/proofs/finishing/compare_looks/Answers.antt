@@ -3,8 +3,8 @@ use Rattle.std.proofs.lemmas.List.Elements.{All-cons, All-tail}
 use Rattle.std.specs.Vec.Iter.{into_iter_items}
 use Rattle.xh_glance.specs.Look.{LookOf}
 use Rattle.xh_kernel.specs.declared.scribe.Pens.{Pens}
-use Rattle.xh_books.specs.Closing.{HasLooked, glances_of}
-use Rattle.xh_books.proofs.comparing.compare_looks.Goals as goal
+use Rattle.xh_kernel.specs.Finished.{HasLooked, glances_of}
+use Rattle.xh_kernel.proofs.finishing.compare_looks.Goals as goal
 
 pub loop-look-init : goal.loop-look-init
 loop-look-init c =

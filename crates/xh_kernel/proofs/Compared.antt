@@ -1,22 +1,16 @@
 -- Comparing what workers have seen with the pens of the places, place by place and worker by worker.
-use Rattle.std.proofs.Common.{◌≡◌, ℕ, suc, ◌+◌, ◌<◌, ◌≤◌, List, [], ◌∷◌, All, length, get_or, map, set, refl, sym, ap, ◌∙◌, subst, arith, get_or-set_other}
+use Rattle.std.proofs.Common.{◌≡◌, ℕ, zero, suc, ◌+◌, ◌<◌, ◌≤◌, List, [], ◌∷◌, All, length, get_or, set, refl, sym, ap, ◌∙◌, subst, arith, get_or-set_other}
 use Rattle.std.proofs.lemmas.List.{get_or-map, map-set, set-get_or}
-use Rattle.std.proofs.lemmas.List.Sums.{sum_by-cons}
-use Rattle.std.specs.List.{sum_by}
-use Rattle.std.specs.Prelude.{slice_index, slice_set}
+use Rattle.std.specs.Prelude.{slice_set}
 use borrow.Author.Count.{below_more}
-use Rattle.xh_arena.specs.Views.{TallyOf, VaultOf}
 use Rattle.xh_calls.specs.Parts.{PartsOf}
-use Rattle.xh_core.specs.declared.ledger.ArenaLine.{ArenaLine}
 use Rattle.xh_history.specs.Histories.{HasSeen, History, at}
 use Rattle.xh_kernel.specs.declared.call.Call.{Call}
 use Rattle.xh_kernel.specs.declared.scribe.Pens.{Pens}
 use Rattle.xh_kernel.specs.Accounts.{AccountOf, IsUnmoved}
-use Rattle.xh_kernel.specs.Kept.{AreOwn}
-use Rattle.xh_model.specs.Cover.{bytes_out, holes_of}
-use Rattle.xh_books.specs.Closing.{AreInOrder, histories_of}
-use Rattle.xh_books.specs.Ledgers.{arena_lines}
-use Rattle.xh_books.specs.inner.Steps.{tallies_of}
+use Rattle.xh_kernel.specs.Kept.{AreKept, AreOwn, IsKept}
+use Rattle.xh_place.specs.Seen.{PlaceSeen}
+use Rattle.xh_kernel.specs.Finished.{AreInOrder, histories_of, tallies_of}
 
 -- the pens of a place, and what they know, by its number
 pub pens_at : (parts : PartsOf) (pens : List Pens) → All (AreOwn parts) pens → AreInOrder pens → (k : ℕ) (d : Pens) → k < length pens
@@ -51,19 +45,17 @@ same_tallies all k d a e =
     map-set (λ (b : AccountOf). b.tallies) all k a ∙ ap (set (tallies_of all) k) e
     ∙ sym (map-set (λ (b : AccountOf). b.tallies) all k (get_or all k d)) ∙ ap tallies_of (set-get_or all k d)
 
--- and with them the lines of the arenas
-sums_same : (f : List TallyOf → ℕ) (xs ys : List AccountOf) → tallies_of xs ≡ tallies_of ys → sum_by (λ a. f a.tallies) xs ≡ sum_by (λ a. f a.tallies) ys
-sums_same f xs ys e = by_tallies xs ∙ ap (sum_by f) e ∙ sym (by_tallies ys) where
-  by_tallies : (zs : List AccountOf) → sum_by (λ a. f a.tallies) zs ≡ sum_by f (tallies_of zs)
-  by_tallies [] = refl
-  by_tallies (a ∷ zs) = omega (arith, by_tallies zs, sum_by-cons (λ (b : AccountOf). f b.tallies) a zs, sum_by-cons f a.tallies (tallies_of zs))
+-- ---- the pens that locks kept
 
--- the line of an arena of which so much was taken and came back
-abbrev line_with : VaultOf → ℕ → ℕ → ArenaLine
-line_with v taken back = record { size = length v.arena.cover; out = bytes_out v.arena.cover; holes = length (holes_of v.arena.cover); taken = taken; back = back }
+module _ (parts : PartsOf) where
+  -- some pens, the place beside them, and where they stand
+  pub kept_at : (places : List PlaceSeen) (pens : List Pens) → AreKept parts places pens → (k : ℕ) → k < length pens
+      → (p : PlaceSeen) × (own : Pens) × IsKept parts p own × ((d : Pens) → get_or pens k d ≡ own)
+  kept_at [] [] kept k h = absurd (omega arith)
+  kept_at [] (own ∷ pens) kept k h = absurd kept
+  kept_at (p ∷ places) [] kept k h = absurd (omega arith)
+  kept_at (p ∷ places) (own ∷ pens) kept zero h = (p, own, kept.0, λ d. refl)
+  kept_at (p ∷ places) (own ∷ pens) kept (suc k) h = kept_at places pens kept.1 k (omega arith)
 
-pub lines_same : (xs ys : List AccountOf) → tallies_of xs ≡ tallies_of ys → (k : ℕ) (vs : List VaultOf) → arena_lines xs k vs ≡ arena_lines ys k vs
-lines_same xs ys e k [] = refl
-lines_same xs ys e k (v ∷ vs) =
-    let t = sums_same (λ ts. slice_index (map (λ t. t.taken) ts) k) xs ys e in let b = sums_same (λ ts. slice_index (map (λ t. t.back) ts) k) xs ys e in
-    λ i. line_with v (t i) (b i) ∷ lines_same xs ys e (suc k) vs i
+  pub kept_own : (places : List PlaceSeen) (pens : List Pens) → AreKept parts places pens → All (AreOwn parts) pens
+  kept_own places pens kept k d h = let at_k = kept_at places pens kept k h in subst (AreOwn parts) (sym (at_k.3 d)) at_k.2.own
