@@ -1,10 +1,11 @@
 -- What the locks of a kernel kept: its pens, and their lawful histories.
-use Rattle.std.proofs.Common.{◌≡◌, ℕ, zero, suc, ◌+◌, ◌<◌, List, [], ◌∷◌, All, length, get_or, map, refl, sym, ap, ◌∙◌, subst, arith}
+use Rattle.std.proofs.Common.{◌≡◌, ℕ, zero, suc, ◌+◌, ◌<◌, List, [], ◌∷◌, All, length, map, refl, sym, ap, ◌∙◌, subst, arith}
 use Rattle.std.proofs.Math.Logic.{∥∥₁_map}
 use Rattle.std.proofs.lemmas.List.{get_or-map, length-map}
+use Rattle.std.proofs.lemmas.List.Sums.{sum_by-cons}
 use Rattle.std.specs.List.{sum_by}
 use Rattle.std.specs.Prelude.{slice_index, Result, Ok, Err, IfOk}
-use Rattle.xh_arena.specs.Views.{VaultOf}
+use Rattle.xh_arena.specs.Views.{TallyOf, VaultOf}
 use Rattle.xh_calls.specs.Parts.{IsOpen, PartsOf, vault_names}
 use Rattle.xh_core.specs.declared.ledger.ArenaLine.{ArenaLine}
 use Rattle.xh_core.specs.declared.flight.FlightLine.{FlightLine}
@@ -16,9 +17,10 @@ use Rattle.xh_kernel.specs.declared.scribe.Pens.{Pens}
 use Rattle.xh_kernel.specs.Accounts.{AccountOf}
 use Rattle.xh_kernel.specs.Finished.{AreInOrder, WereSeen, histories_of, tallies_of}
 use Rattle.xh_kernel.specs.Histories.{IsLawfulHistory}
-use Rattle.xh_kernel.specs.Kept.{AreKept, AreOwn, IsKept}
+use Rattle.xh_kernel.specs.Kept.{AreKept}
 use Rattle.xh_kernel.specs.Places.{places_of}
 use Rattle.xh_kernel.proofs.Compared.{kept_at}
+use Rattle.xh_model.specs.Cover.{bytes_out, holes_of}
 use Rattle.xh_records.specs.Seats.{RecordsOf}
 use Rattle.xh_place.specs.Seen.{PlaceSeen}
 use Rattle.xh_books.specs.Closing.{IsClosed, IsSumOver}

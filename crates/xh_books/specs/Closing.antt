@@ -10,7 +10,7 @@ use Rattle.xh_history.specs.Histories.{History}
 use Rattle.xh_kernel.specs.declared.call.Call.{Call}
 use Rattle.xh_kernel.specs.declared.scribe.Pens.{Pens}
 use Rattle.xh_kernel.specs.Accounts.{AccountOf}
-use Rattle.xh_kernel.specs.Finished.{HaveSeen, histories_of}
+use Rattle.xh_kernel.specs.Finished.{HaveSeen}
 use Rattle.xh_kernel.specs.Kept.{AreKept}
 use Rattle.xh_kernel.specs.Places.{places_of}
 use Rattle.xh_place.specs.Seen.{PlaceSeen}
