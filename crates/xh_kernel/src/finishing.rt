@@ -1,5 +1,5 @@
 //! What is left of a kernel whose workers are done, and what they have seen.
-ghost use Rattle.std.specs.Prelude.{◌≡◌, ◌↔◌, All, IfErr, IfOk, true};
+ghost use Rattle.std.specs.Prelude.{◌≡◌, ◌↔◌, All, IfErr, IfOk, true, vec_len};
 ghost use Rattle.xh_kernel.specs.Accounts.{IsUnmoved};
 ghost use Rattle.xh_kernel.specs.Finished.{AreInOrder, AreSeen, HasLooked, HaveSeen, glances_of, histories_of, tallies_of};
 ghost use Rattle.xh_kernel.specs.Kept.{AreOwn};
@@ -108,6 +108,7 @@ pub(crate) fn compare<N: Names>(
     requires tables { (glances.now ≡ N.parts.glances) × (histories.now ≡ N.parts.histories) }
     requires pens { All (AreOwn N.parts) pens.items }
     requires looks { All (λ l. l.glances ≡ N.parts.glances) looks.items }
+    ensures count { IfOk result (λ r. vec_len r ≡ vec_len accounts) }
     ensures same { IfOk result (λ r. tallies_of r.items ≡ tallies_of accounts.items) }
     ensures seen { IfOk result (λ _. HaveSeen accounts.items looks.items pens.items) }
     ensures refused { IfErr result (λ e. e ≡ Refused.OutOfMemory) }

@@ -316,6 +316,7 @@ impl<N: Names> Kernel<N> {
         ensures vaults { IfOk result (λ f. (vault_names f.vaults.items ≡ N.parts.records.shape.names) × All (IsOpen N.parts) f.vaults.items × (vec_len f.vaults ≤ MAX_ARENAS)) }
         ensures places { IfOk result (λ f. All (IsPlaceOf f.records) (places_of f.places.items) × (vec_len f.places ≡ f.records.shape.places)) }
         ensures records { IfOk result (λ f. f.records ≡ N.parts.records) }
+        ensures count { IfOk result (λ f. vec_len f.accounts ≡ vec_len accounts) }
         ensures same { IfOk result (λ f. tallies_of f.accounts.items ≡ tallies_of accounts.items) }
         ensures seen { IfOk result (λ f. WereSeen N.parts f.places.items accounts.items looks.items) }
         ensures refused { IfErr result (λ e. e ≡ Refused.OutOfMemory) }

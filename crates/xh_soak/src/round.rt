@@ -14,7 +14,7 @@ use std::thread::{self, Threads};
 use xh_books::close_books;
 use xh_core::{Ledger, Refused};
 use xh_glance::Look;
-use xh_kernel::{Account, Kernel, Names, Parts, Settled};
+use xh_kernel::{Account, Finished, Kernel, Names, Parts};
 use xh_runner::{Machine, OpenGate, hire, leave_all};
 
 /// What the workers of a round did: how many blocks they took, and how often one waited for a message.
@@ -142,7 +142,7 @@ fn run_by<M: Machine + Send, R: Threads + Wait + Sync>(
     Ok((worked?, machines))
 }
 
-// A round on a kernel, by a worker for each account: what they did, and the accounts.
+// A round on a kernel, by a worker for each account: what they did, the accounts and the looks.
 fn run_on<N: Names + Send + Sync, R: Threads + Wait + Sync>(
     rt: &R,
     alloc: Global,
@@ -151,15 +151,16 @@ fn run_on<N: Names + Send + Sync, R: Threads + Wait + Sync>(
     plan: Plan,
     accounts: Vec<Account<N>>,
     looks: Vec<Look>,
-) -> Result<(Done, Vec<Account<N>>), Wrong>
+) -> Result<(Done, Vec<Account<N>>, Vec<Look>), Wrong>
     requires count { vec_len looks ≡ vec_len accounts }
     requires own { All (λ l. l.glances ≡ N.parts.glances) looks.items }
-    ensures { IfOk result (λ r. vec_len r.1 ≡ vec_len accounts) }
+    ensures count { IfOk result (λ r. vec_len r.1 ≡ vec_len accounts) }
+    ensures own { IfOk result (λ r. All (λ l. l.glances ≡ N.parts.glances) r.2.items) }
 {
     let machines = hire(rt, alloc, kernel, &OpenGate, accounts, looks)?;
     let (done, machines) = run_by(rt, alloc, board, plan, machines)?;
-    let (accounts, _looks) = leave_all(alloc, machines)?;
-    Ok((done, accounts))
+    let (accounts, looks) = leave_all(alloc, machines)?;
+    Ok((done, accounts, looks))
 }
 
 // What a call of the heap answers that may be refused memory alone.
@@ -193,24 +194,24 @@ fn audit(alloc: Global, plan: Plan, ledger: &Ledger, counted: &Ledger) -> Result
     }
 }
 
-// Settles a kernel whose workers are done, closes its books, and audits the ledger.
+// Finishes a kernel whose workers are done, closes its books, and audits the ledger.
 fn close<N: Names>(
     alloc: Global,
     plan: Plan,
     kernel: Kernel<N>,
     accounts: Vec<Account<N>>,
+    looks: Vec<Look>,
 ) -> Result<(), Wrong>
-    requires { vec_len accounts ≡ N.parts.workers }
+    requires count { vec_len accounts ≡ N.parts.workers }
+    requires own { All (λ l. l.glances ≡ N.parts.glances) looks.items }
 {
-    match kernel.settle(alloc) {
+    match kernel.finish(alloc, accounts, looks) {
         Ok(
-            Settled {
+            Finished {
                 vaults,
                 places,
-                pens: _,
                 records,
-                glances: _,
-                histories: _,
+                accounts,
             },
         ) => {
             let counted = count(&vaults, &places, &accounts);
@@ -237,8 +238,8 @@ fn run_named<N: Names + Send + Sync, R: Threads + Wait + Sync>(
         Err(_refused) => return Err(Wrong::Memory),
     };
     match run_on(rt, alloc, &kernel, board, plan, accounts, looks) {
-        Ok((done, accounts)) => {
-            close(alloc, plan, kernel, accounts)?;
+        Ok((done, accounts, looks)) => {
+            close(alloc, plan, kernel, accounts, looks)?;
             Ok(done)
         }
         Err(wrong) => Err(wrong),

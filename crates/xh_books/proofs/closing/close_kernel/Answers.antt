@@ -1,7 +1,5 @@
 use Rattle.std.proofs.Common.{rules, ◌≡◌, ◌<◌, ◌∙◌, All, List, ap, length, subst, sym}
-use Rattle.std.proofs.lemmas.List.{length-map}
 use Rattle.std.proofs.lemmas.Result.{IfOk-weaker}
-use Rattle.xh_kernel.specs.Accounts.{AccountOf}
 use Rattle.xh_core.specs.declared.ledger.ArenaLine.{ArenaLine}
 use Rattle.xh_core.specs.declared.ledger.PlaceLine.{PlaceLine}
 use Rattle.xh_model.specs.declared.limits.TheConstants.{PLACES}
@@ -9,12 +7,6 @@ use Rattle.xh_kernel.specs.Places.{places_of}
 use Rattle.xh_books.proofs.Kept.{is_closed}
 use Rattle.xh_books.proofs.LedgerLines.{lines_are_of, lines_within}
 use Rattle.xh_books.proofs.closing.close_kernel.Goals as goal
-
-pub close_books-requires-clause-accounts : goal.close_books-requires-clause-accounts
-close_books-requires-clause-accounts g c =
-    let now_ : List AccountOf = c.in-Ok.field-0.accounts.items in let all : List AccountOf = c.args.accounts.items in
-    let same : length now_ ≡ length all = sym (length-map now_ (λ (a : AccountOf). a.tallies)) ∙ ap length c.in-Ok.ensures.same ∙ length-map all (λ (a : AccountOf). a.tallies) in
-    search rules
 
 pub returns-in-Ok-clause-closed : goal.returns-in-Ok-clause-closed
 returns-in-Ok-clause-closed g c =
