@@ -5,7 +5,7 @@ use Rattle.xh_core.proofs.Firsts.{first_later}
 use Rattle.xh_core.specs.declared.refused.Refused.{Refused}
 use Rattle.xh_core.specs.declared.status.Status.{Status}
 use Rattle.xh_core.specs.declared.status.Status.TheVariants.{Running}
-use Rattle.xh_core.specs.Refusing.{Tests, first_refusal}
+use Rattle.xh_core.specs.Refusing.{Tested, Tests, first_refusal}
 use Rattle.xh_place.specs.Starts.{start as starts}
 
 module _ (tests more : Tests) (none : first_refusal tests ≡ None) (state : Status) (run : state ≡ Running) where
@@ -14,6 +14,9 @@ module _ (tests more : Tests) (none : first_refusal tests ≡ None) (state : Sta
 
   pub passes : (done : Type 0) (P : Refused → Type 0) → MatchOption (first_refusal (starts state ++ more)) done P → MatchOption (first_refusal (tests ++ more)) done P
   passes done P h = subst (λ (o : Option Refused). MatchOption o done P) (sym later) h
+
+  pub tested : {A : Type 0} (result : Result A Refused) (P : A → Type 0) → Tested (starts state ++ more) result P → Tested (tests ++ more) result P
+  tested result P h = subst (λ (o : Option Refused). MatchResult result (λ a. (o ≡ None) × P a) (λ refused. o ≡ Some refused)) (sym later) h
 
 -- the first test that refuses is what a call answers
 module _ {A : Type 0} (o : Option Refused) (result : Result A Refused) (e : Refused) (first : o ≡ Some e) (is : result ≡ Err e) where

@@ -8,6 +8,7 @@ use crate::kept::Kept;
 use crate::names::Names;
 use crossbeam_utils::CachePadded;
 use std::alloc::{AllocError, Global};
+use std::mem;
 use std::sync::{Mutex, Wait};
 use xh_arena::{Lot, Refused, Tally, Vault};
 use xh_history::{Front, Histories, Pen};
@@ -126,6 +127,32 @@ pub(crate) struct Lent<'a, N: Names, R: Wait> {
     pub(crate) arenas: &'a Arenas<N>,
     pub(crate) front: Front<Vault>,
     ghost own: { front.table ≡ N.parts.vaults },
+}
+
+impl<'a, N: Names, R: Wait> Lent<'a, N, R> {
+    // With what the worker has seen of the arenas, until the end of the call.
+    pub(crate) fn new(rt: &'a R, arenas: &'a Arenas<N>, seen: &mut Front<Vault>) -> Lent<'a, N, R>
+        requires { seen.old.table ≡ N.parts.vaults }
+        ensures { result.front ≡ seen.old }
+    {
+        Lent {
+            rt,
+            arenas,
+            front: mem::replace(seen, Front::blank()),
+        }
+    }
+
+    // What the worker has seen now.
+    pub(crate) fn end(self, seen: &mut Front<Vault>)
+        ensures { seen.new ≡ self.entry.front }
+    {
+        let Lent {
+            rt: _,
+            arenas: _,
+            front,
+        } = self;
+        *seen = front;
+    }
 }
 
 impl<'a, N: Names, R: Wait> Vaults for Lent<'a, N, R> {

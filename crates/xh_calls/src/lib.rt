@@ -23,20 +23,10 @@ macro_rules! desk {
 // meanwhile.
 macro_rules! at_desk {
     ($rt:expr, $heap:expr, $gate:expr, $till:expr, $tallies:expr, $desk:ident => $call:expr) => {{
-        let seen = std::mem::replace(&mut $till.seen, xh_history::Front::blank());
-        let mut lent = $crate::arenas::Lent {
-            rt: $rt,
-            arenas: &$heap.arenas,
-            front: seen,
-        };
+        let mut lent = $crate::arenas::Lent::new($rt, &$heap.arenas, &mut $till.seen);
         let mut $desk = desk!($rt, $heap, $gate, &mut lent, $tallies);
         let answer = $call;
-        let $crate::arenas::Lent {
-            rt: _,
-            arenas: _,
-            front,
-        } = lent;
-        $till.seen = front;
+        lent.end(&mut $till.seen);
         answer
     }};
 }

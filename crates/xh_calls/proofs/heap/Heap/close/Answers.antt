@@ -1,7 +1,16 @@
-use Rattle.std.proofs.Common.{rules}
+use Rattle.std.proofs.Common.{rules, ◌++◌, refl}
 use Rattle.std.proofs.lemmas.List.{places}
-use Rattle.xh_calls.proofs.Moved.{closed, lent_back}
+use Rattle.xh_core.proofs.Firsts.{first_append}
+use Rattle.xh_core.specs.Calls.{end_tests}
+use Rattle.xh_place.specs.Places.{found}
+use Rattle.xh_calls.specs.Places.{start}
+use Rattle.xh_calls.proofs.Moved.{closed, lent_back, none_back}
 use Rattle.xh_calls.proofs.heap.Heap.close.Goals as goal
+
+pub returns-in_err-check_start-clause-closed : goal.returns-in_err-check_start-clause-closed
+returns-in_err-check_start-clause-closed g c =
+    let place = c.args.place.now.place in let refuses = first_append (start c.args.p place) (end_tests (found place c.args.e)) _ c.in_err-check_start.ensures in
+    (0, rw refuses (search rules, (refl, refl)), none_back _ _ refl)
 
 pub returns-clause-closed : goal.returns-clause-closed
 returns-clause-closed g c =

@@ -1,7 +1,10 @@
-use Rattle.std.proofs.Common.{rules}
+use Rattle.std.proofs.Common.{rules, refl}
 use Rattle.std.proofs.lemmas.List.{places}
-use Rattle.xh_calls.proofs.Moved.{lent_back, stopped}
+use Rattle.xh_calls.proofs.Moved.{lent_back, none_back, stopped}
 use Rattle.xh_calls.proofs.heap.Heap.stop.Goals as goal
+
+pub returns-in_err-check_stop-clause-stopped : goal.returns-in_err-check_stop-clause-stopped
+returns-in_err-check_stop-clause-stopped g c = (0, rw c.in_err-check_stop.ensures (search rules, (refl, refl)), none_back _ _ refl)
 
 pub returns-clause-stopped : goal.returns-clause-stopped
 returns-clause-stopped g c =

@@ -1,0 +1,23 @@
+use Rattle.std.proofs.Common.{rules, ◌≡◌}
+use Rattle.xh_core.proofs.Firsts.{first_append}
+use Rattle.xh_core.specs.Calls.{data_tests}
+use Rattle.xh_place.specs.Places.{found}
+use Rattle.xh_calls.specs.Places.{start}
+use Rattle.xh_calls.proofs.Started.{refused_tested, tested}
+use Rattle.xh_calls.proofs.heap.Heap.free.Goals as goal
+
+pub returns-in_err-check_start-clause-freed : goal.returns-in_err-check_start-clause-freed
+returns-in_err-check_start-clause-freed g c =
+    let place = c.args.place.now.place in let refuses = first_append (start c.args.p place) (data_tests (found place c.args.r)) _ c.in_err-check_start.ensures in record {
+      freed = search rules;
+      length = refused_tested _ c.from_residual.result _ refuses (search rules) _;
+      refused = search rules;
+    }
+
+pub returns-clause-freed : goal.returns-clause-freed
+returns-clause-freed g c =
+    let place = c.args.place.now.place in let runs = c.in_ok-check_start.ensures in let done = c.free-answer.ensures in record {
+      freed = done.freed.freed;
+      length = tested (start c.args.p place) (data_tests (found place c.args.r)) runs.0 place.state runs.1 _ _ done.bytes;
+      refused = (let same = done.freed.refused in search rules);
+    }
