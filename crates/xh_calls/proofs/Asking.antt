@@ -40,19 +40,6 @@ unopened_after P tests each (Err u) result Q S is why more = subst (λ (r : Resu
   go X None first h = more u.why h
   go X (Some e) first h = subst P (sym h.0) first
 
--- another word for the lack
-pub lacks_so : (tests : Tests) (S : Type 0) (Q P : Refused → Type 0) (opened : Result (Block × Block) Unopened) → IsUnopened tests S Q opened → ((e : Refused) → Q e → P e)
-    → IsUnopened tests ⊤ P opened
-lacks_so tests S Q P opened why more = go (first_refusal tests) why where
-  each : (r : Result (Block × Block) Unopened) → IfErr r (λ u. Q u.why) → IfErr r (λ u. P u.why)
-  each (Ok ends) h = tt
-  each (Err u) h = more u.why h
-
-  go : (o : Option Refused) → MatchOption o (IfErr opened (λ u. Q u.why)) (λ e. IfErr opened (λ u. u.why ≡ e) × OnOk opened ⊥ × S)
-      → MatchOption o (IfErr opened (λ u. P u.why)) (λ e. IfErr opened (λ u. u.why ≡ e) × OnOk opened ⊥ × ⊤)
-  go None h = each opened h
-  go (Some e) h = (h.0, h.1, tt)
-
 -- what the refusal of a lent vault says
 module _ {V : Type 0} (changes : V → V → ℕ → VaultOf → VaultOf → Type 0) (old new : V) (parts : PartsOf) (f g : FrontOf VaultOf) (a : ℕ)
     (is : (v : VaultOf) → changes old new a v v → Leaves parts f g a v v) where
@@ -134,3 +121,22 @@ module _ {V : Type 0} (old new : V) (front : V → FrontOf VaultOf) (parts : Par
         → IfErr result Asks
     go None first h = (none h).1
     go (Some e) first h = subst (λ (r : Result Block Refused). IfErr r Asks) (sym h.0) first
+
+-- what the ends of a channel lack
+module _ {V : Type 0} (old new : V) (front : V → FrontOf VaultOf) (parts : PartsOf) (a : ℕ) (full S : Type 0) (tests : Tests) (opened : Result (Block × Block) Unopened) where
+  abbrev pub Lacks : Refused → Type 0
+  Lacks = IsNoPair (λ x y. Leaves parts (front x) (front y)) old new a (2 * END_BYTES) full parts.size
+
+  abbrev pub LacksSo : Refused → Type 0
+  LacksSo = LacksSpace parts a full (front old) (front new)
+
+  pub unopened : IsUnopened tests S Lacks opened → IsUnopened tests ⊤ LacksSo opened
+  unopened = go (first_refusal tests) where
+    each : (r : Result (Block × Block) Unopened) → IfErr r (λ u. Lacks u.why) → IfErr r (λ u. LacksSo u.why)
+    each (Ok ends) h = tt
+    each (Err u) h = lacks (λ x y. Leaves parts (front x) (front y)) old new parts (front old) (front new) a (λ v w. w) full u.why h
+
+    go : (o : Option Refused) → MatchOption o (IfErr opened (λ u. Lacks u.why)) (λ e. IfErr opened (λ u. u.why ≡ e) × OnOk opened ⊥ × S)
+        → MatchOption o (IfErr opened (λ u. LacksSo u.why)) (λ e. IfErr opened (λ u. u.why ≡ e) × OnOk opened ⊥ × ⊤)
+    go None h = each opened h
+    go (Some e) h = (h.0, h.1, tt)

@@ -56,7 +56,6 @@ module _ (from to : List TallyOf) where
       × ((new.place ≡ old.place) × (to ≡ from)))) (ap (λ (b : Bool). first_refusal ((b, Ended) ∷ [])) over) h in
       (d.0, subst (λ (o : Option Refused). MatchOption o (IsStopped budget old new d.0 result) (λ refused. (result ≡ Err refused) × IsUntouched old new d.0)) (sym none) d.1, d.2)
 
--- what was given back by the tallies that were lent
-pub lent_back : {lent tallies given new : List TallyOf} (bytes : ℕ) → lent ≡ tallies → new ≡ given → HasGivenBack bytes lent given → HasGivenBack bytes tallies new
-lent_back {lent} {tallies} {given} {new} bytes start end h =
-    subst (λ (z : List TallyOf). HasGivenBack bytes z new) start (subst (λ (z : List TallyOf). HasGivenBack bytes lent z) (sym end) h)
+-- what is so of the tallies that were lent
+pub lent_back : (R : List TallyOf → List TallyOf → Type 0) {lent tallies given new : List TallyOf} → lent ≡ tallies → new ≡ given → R lent given → R tallies new
+lent_back R {lent} {tallies} {given} {new} start end h = subst (λ (z : List TallyOf). R z new) start (subst (λ (z : List TallyOf). R lent z) (sym end) h)

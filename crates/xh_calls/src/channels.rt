@@ -76,7 +76,6 @@ impl<N: Names> Heap<N> {
     }
 
     // Both ends of a channel that was opened come to the process.
-    #[tactic(auto, using(crate::proofs::Asking::lacks, crate::proofs::Asking::lacks_so))]
     fn open_ends<R: Wait, G: Gate>(
         &self,
         rt: &R,

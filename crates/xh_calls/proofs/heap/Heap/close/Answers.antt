@@ -4,6 +4,7 @@ use Rattle.xh_core.proofs.Firsts.{first_append}
 use Rattle.xh_core.specs.Calls.{end_tests}
 use Rattle.xh_place.specs.Places.{found}
 use Rattle.xh_calls.specs.Places.{start}
+use Rattle.xh_place.specs.Ending.{HasGivenBack}
 use Rattle.xh_calls.proofs.Moved.{closed, lent_back, none_back}
 use Rattle.xh_calls.proofs.heap.Heap.close.Goals as goal
 
@@ -16,4 +17,4 @@ pub returns-clause-closed : goal.returns-clause-closed
 returns-clause-closed g c =
     let d = closed c.as_mut_slice-tallies.result.now c.close_end-answer.new.desk.tallies.now c.args.p c.args.e c.args.place.now c.close_end-answer.new.self c.close_end-answer.result
     c.in_ok-check_start.ensures.0 c.in_ok-check_start.ensures.1 c.close_end-answer.ensures.closed in
-    (d.0, d.1, lent_back d.0 c.as_mut_slice-tallies.ensures.value (search (rules, places)) d.2)
+    (d.0, d.1, lent_back (HasGivenBack d.0) c.as_mut_slice-tallies.ensures.value (search (rules, places)) d.2)

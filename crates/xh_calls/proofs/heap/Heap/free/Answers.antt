@@ -1,7 +1,10 @@
-use Rattle.std.proofs.Common.{rules, ◌≡◌}
+use Rattle.std.proofs.Common.{rules, ◌<◌, ◌/◌, length, subst}
+use Rattle.std.specs.Prelude.{OnOk}
 use Rattle.xh_core.proofs.Firsts.{first_append}
 use Rattle.xh_core.specs.Calls.{data_tests}
+use Rattle.xh_model.specs.declared.limits.TheConstants.{MAX_RECORDS}
 use Rattle.xh_place.specs.Places.{found}
+use Rattle.xh_records.specs.declared.shape.Shape.{Shape}
 use Rattle.xh_calls.specs.Places.{start}
 use Rattle.xh_calls.proofs.Started.{refused_tested, tested}
 use Rattle.xh_calls.proofs.heap.Heap.free.Goals as goal
@@ -13,6 +16,9 @@ returns-in_err-check_start-clause-freed g c =
       length = refused_tested _ c.from_residual.result _ refuses (search rules) _;
       refused = search rules;
     }
+
+pub returns-clause-arena : goal.returns-clause-arena
+returns-clause-arena g c = subst (λ (s : Shape). OnOk c.free-answer.result (c.args.r / MAX_RECORDS < length s.names)) c.requires.0.1 c.free-answer.ensures.arena
 
 pub returns-clause-freed : goal.returns-clause-freed
 returns-clause-freed g c =
