@@ -1,5 +1,5 @@
 -- A refusal for want of space is that of the arena's vault.
-use Rattle.std.proofs.Common.{◌≡◌, ℕ, ◌<◌, ◌*◌, ◌⊎◌, ⊎_elim, inl, inr, [], ◌∷◌, sym, subst}
+use Rattle.std.proofs.Common.{◌≡◌, ℕ, ◌<◌, ◌*◌, ⊎_elim, inl, inr, [], ◌∷◌, sym, subst}
 use Rattle.std.specs.Prelude.{Bool, true, false, cond, Option, Some, None, Result, Ok, Err, IfErr, MatchOption, MatchResult, OnOk, ⊤}
 use Rattle.xh_arena.specs.declared.refused.Refused.{Refused as Reason}
 use Rattle.xh_arena.specs.declared.refused.Refused.TheVariants as arena
@@ -12,11 +12,10 @@ use Rattle.xh_history.specs.Histories.{FrontOf}
 use Rattle.xh_model.specs.declared.limits.TheConstants.{END_BYTES}
 use Rattle.xh_place.specs.declared.opening.Unopened.{Unopened}
 use Rattle.xh_place.specs.Ends.{IsUnopened}
-use Rattle.xh_place.specs.Vaults.{IsNoBlock, IsNoPair, IsRefusedAt}
-use Rattle.xh_calls.specs.Calls.{IsLack}
+use Rattle.xh_place.specs.Vaults.{IsNoPair, IsRefusedAt}
 use Rattle.xh_calls.specs.inner.Opening.{LacksSpace}
 use Rattle.xh_calls.specs.Parts.{PartsOf}
-use Rattle.xh_calls.specs.Vaults.{AsksVault, IsRefusedBy, Leaves}
+use Rattle.xh_calls.specs.Vaults.{IsRefusedBy, Leaves}
 
 -- this is so of each refusal of the tests
 abbrev pub EachRefusal : (Refused → Type 0) → Tests → Type 0
@@ -43,32 +42,8 @@ unopened_after P tests each (Err u) result Q S is why more = subst (λ (r : Resu
 -- what the refusal of a lent vault says
 module _ {V : Type 0} (changes : V → V → ℕ → VaultOf → VaultOf → Type 0) (old new : V) (parts : PartsOf) (f g : FrontOf VaultOf) (a : ℕ)
     (is : (v : VaultOf) → changes old new a v v → Leaves parts f g a v v) where
-  told : (n : ℕ) (e : Reason) → IsRefusedAt changes old new a n e → IsRefusedBy parts a n f g e
-  told n e h = (h.0, is h.0 h.1, h.2, h.3)
-
-  pub lacks_block : (n : ℕ) (full : Type 0) (e : Refused) → IsNoBlock changes old new a n full e → IsLack parts full a n e × AsksVault parts a n f g e
-  lacks_block n full refused.OutOfMemory h = (tt, tt)
-  lacks_block n full refused.BadSize h = absurd h
-  lacks_block n full refused.NoArena h = absurd h
-  lacks_block n full refused.NoSpace h = ((h.0, (is h.0 h.1).0, h.2, h.3), inr (told n arena.NoSpace h))
-  lacks_block n full refused.NoRecord h = (h.1, tt)
-  lacks_block n full refused.NotOwned h = absurd h
-  lacks_block n full refused.NotData h = absurd h
-  lacks_block n full refused.NotEndpoint h = absurd h
-  lacks_block n full refused.BadCut h = absurd h
-  lacks_block n full refused.BadRange h = absurd h
-  lacks_block n full refused.NoProcess h = absurd h
-  lacks_block n full refused.Ended h = absurd h
-  lacks_block n full refused.NoChannel h = absurd h
-  lacks_block n full (refused.Full x) h = absurd h
-  lacks_block n full (refused.PeerClosed x) h = absurd h
-  lacks_block n full refused.Empty h = absurd h
-  lacks_block n full refused.TooMany h = absurd h
-  lacks_block n full refused.Twice h = absurd h
-  lacks_block n full refused.Worn h = ((h.0, (is h.0 h.1).0, h.2, h.3), told n arena.Worn h)
-  lacks_block n full (refused.Unfinished x) h = absurd h
-  lacks_block n full refused.NoPlace h = absurd h
-  lacks_block n full (refused.Protocol x) h = absurd h
+  told : (e : Reason) → IsRefusedAt changes old new a (2 * END_BYTES) e → IsRefusedBy parts a (2 * END_BYTES) f g e
+  told e h = (h.0, is h.0 h.1, h.2, h.3)
 
   pub lacks : (full : Type 0) (e : Refused) → IsNoPair changes old new a (2 * END_BYTES) full parts.size e → LacksSpace parts a full f g e
   lacks full refused.OutOfMemory h = absurd h
@@ -76,7 +51,7 @@ module _ {V : Type 0} (changes : V → V → ℕ → VaultOf → VaultOf → Typ
   lacks full refused.NoArena h = absurd h
   lacks full refused.NoSpace h = ⊎_elim
       (λ (s : (parts.size < 2 * END_BYTES) × (new ≡ old)). (inl s.0, inl s.0))
-      (λ (r : IsRefusedAt changes old new a (2 * END_BYTES) arena.NoSpace). (inr (r.0, (is r.0 r.1).0, r.2, r.3), inr (told (2 * END_BYTES) arena.NoSpace r))) h
+      (λ (r : IsRefusedAt changes old new a (2 * END_BYTES) arena.NoSpace). (inr (r.0, (is r.0 r.1).0, r.2, r.3), inr (told arena.NoSpace r))) h
   lacks full refused.NoRecord h = (h.1, tt)
   lacks full refused.NotOwned h = absurd h
   lacks full refused.NotData h = absurd h
@@ -91,36 +66,10 @@ module _ {V : Type 0} (changes : V → V → ℕ → VaultOf → VaultOf → Typ
   lacks full refused.Empty h = absurd h
   lacks full refused.TooMany h = absurd h
   lacks full refused.Twice h = absurd h
-  lacks full refused.Worn h = ((h.0, (is h.0 h.1).0, h.2, h.3), told (2 * END_BYTES) arena.Worn h)
+  lacks full refused.Worn h = ((h.0, (is h.0 h.1).0, h.2, h.3), told arena.Worn h)
   lacks full (refused.Unfinished x) h = absurd h
   lacks full refused.NoPlace h = absurd h
   lacks full (refused.Protocol x) h = absurd h
-
--- what an alloc answers
-module _ {V : Type 0} (old new : V) (front : V → FrontOf VaultOf) (parts : PartsOf) (a n : ℕ) (full S : Type 0) (tests : Tests) (result : Result Block Refused)
-    (why : MatchOption (first_refusal tests) (IfErr result (IsNoBlock (λ x y. Leaves parts (front x) (front y)) old new a n full)) (λ e. (result ≡ Err e) × S)) where
-  abbrev pub Asks : Refused → Type 0
-  Asks = AsksVault parts a n (front old) (front new)
-
-  none : IfErr result (IsNoBlock (λ x y. Leaves parts (front x) (front y)) old new a n full) → IfErr result (IsLack parts full a n) × IfErr result Asks
-  none = go result where
-    go : (r : Result Block Refused) → IfErr r (IsNoBlock (λ x y. Leaves parts (front x) (front y)) old new a n full) → IfErr r (IsLack parts full a n) × IfErr r Asks
-    go (Ok b) h = (tt, tt)
-    go (Err e) h = lacks_block (λ x y. Leaves parts (front x) (front y)) old new parts (front old) (front new) a (λ v h. h) n full e h
-
-  pub lack_of : MatchOption (first_refusal tests) (IfErr result (IsLack parts full a n)) (λ e. result ≡ Err e)
-  lack_of = go (first_refusal tests) why where
-    go : (o : Option Refused) → MatchOption o (IfErr result (IsNoBlock (λ x y. Leaves parts (front x) (front y)) old new a n full)) (λ e. (result ≡ Err e) × S)
-        → MatchOption o (IfErr result (IsLack parts full a n)) (λ e. result ≡ Err e)
-    go None h = (none h).0
-    go (Some e) h = h.0
-
-  pub asks_of : EachRefusal Asks tests → IfErr result Asks
-  asks_of each = go (first_refusal tests) (first_is Asks tests each) why where
-    go : (o : Option Refused) → MatchOption o (Unit {0}) Asks → MatchOption o (IfErr result (IsNoBlock (λ x y. Leaves parts (front x) (front y)) old new a n full)) (λ e. (result ≡ Err e) × S)
-        → IfErr result Asks
-    go None first h = (none h).1
-    go (Some e) first h = subst (λ (r : Result Block Refused). IfErr r Asks) (sym h.0) first
 
 -- what the ends of a channel lack
 module _ {V : Type 0} (old new : V) (front : V → FrontOf VaultOf) (parts : PartsOf) (a : ℕ) (full S : Type 0) (tests : Tests) (opened : Result (Block × Block) Unopened) where

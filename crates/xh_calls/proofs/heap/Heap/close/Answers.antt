@@ -1,4 +1,4 @@
-use Rattle.std.proofs.Common.{rules, ◌++◌, refl}
+use Rattle.std.proofs.Common.{rules, refl}
 use Rattle.std.proofs.lemmas.List.{places}
 use Rattle.xh_core.proofs.Firsts.{first_append}
 use Rattle.xh_core.specs.Calls.{end_tests}

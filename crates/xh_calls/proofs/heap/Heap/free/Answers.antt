@@ -1,12 +1,16 @@
-use Rattle.std.proofs.Common.{rules, ◌<◌, ◌/◌, length, subst}
-use Rattle.std.specs.Prelude.{OnOk}
+use Rattle.std.proofs.Common.{rules, ◌≡◌, ◌<◌, ◌/◌, length, subst}
+use Rattle.std.proofs.lemmas.List.{places}
+use Rattle.std.specs.Prelude.{MatchResult, OnOk}
 use Rattle.xh_core.proofs.Firsts.{first_append}
 use Rattle.xh_core.specs.Calls.{data_tests}
 use Rattle.xh_model.specs.declared.limits.TheConstants.{MAX_RECORDS}
 use Rattle.xh_place.specs.Places.{found}
+use Rattle.xh_place.specs.Tallies.{gave}
 use Rattle.xh_records.specs.declared.shape.Shape.{Shape}
 use Rattle.xh_calls.specs.Places.{start}
+use Rattle.xh_calls.proofs.Moved.{lent_back}
 use Rattle.xh_calls.proofs.Started.{refused_tested, tested}
+use Rattle.xh_calls.proofs.Tallied.{tallied}
 use Rattle.xh_calls.proofs.heap.Heap.free.Goals as goal
 
 pub returns-in_err-check_start-clause-freed : goal.returns-in_err-check_start-clause-freed
@@ -27,3 +31,9 @@ returns-clause-freed g c =
       length = tested (start c.args.p place) (data_tests (found place c.args.r)) runs.0 place.state runs.1 _ _ done.bytes;
       refused = (let same = done.freed.refused in search rules);
     }
+
+pub returns-clause-tallies : goal.returns-clause-tallies
+returns-clause-tallies g c =
+    let done = c.free-answer.ensures.freed in
+    lent_back (λ x y. MatchResult c.free-answer.result (λ n. y ≡ gave (c.args.r / MAX_RECORDS) n x) (λ _. y ≡ x)) c.as_mut_slice-tallies.ensures.value (search (rules, places))
+    (tallied c.free-answer.result _ _ _ done.back done.refused)
