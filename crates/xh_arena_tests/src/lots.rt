@@ -12,9 +12,11 @@ struct Note {
 }
 
 impl xh_arena::Fits for Note {
-    ghost use Rattle.std.specs.Prelude.{nat_le};
+    ghost use Rattle.std.specs.Prelude.{nat_le, None};
 
     ghost is_fit = { λ note len. nat_le note.seen len };
+
+    ghost log = { λ _. None };
 
     fn fits(&self, len: u32) -> bool {
         self.seen <= len

@@ -1,17 +1,20 @@
 -- The places' seats and lines, one place after the other.
-use Rattle.std.proofs.Common.{◌≡◌, ℕ, ◌+◌, ◌≤◌, true, List, [], ◌∷◌, ◌++◌, length, refl, sym, ap, ◌∙◌, subst, append_assoc, arith}
+use Rattle.std.proofs.Common.{◌≡◌, ℕ, ◌+◌, ◌≤◌, true, List, [], ◌∷◌, ◌++◌, length, map, refl, sym, ap, ◌∙◌, subst, append_assoc, arith}
 use Rattle.std.proofs.lemmas.Grind.{common_steps}
 use Rattle.std.specs.Prelude.{Option, Some, None}
 use Rattle.std.specs.List.{cons_option, sum_by}
+use Rattle.std.proofs.lemmas.List.{map-append}
 use Rattle.std.proofs.lemmas.List.Elements.{filter_map-append}
 use Rattle.std.proofs.lemmas.Slice.Zip.{all_zipped_more}
 use Rattle.std.proofs.lemmas.List.Sums.{sum_by-append, sum_by-cons}
 use Rattle.xh_core.specs.declared.ledger.PlaceLine.{PlaceLine}
 use Rattle.xh_core.specs.declared.status.Status.{Status}
+use Rattle.xh_model.specs.declared.event.Event.{Event}
 use Rattle.xh_model.specs.Keyed.{value_at}
 use Rattle.xh_model.proofs.Keyed.{value_here}
 use Rattle.xh_place.specs.declared.body.Body.{Body}
 use Rattle.xh_place.specs.Places.{Item, Lists, PlaceOf, line, line_in, total_of}
+use Rattle.xh_place.specs.Seen.{PlaceSeen}
 use Rattle.xh_core.specs.Statuses.{is_over}
 use Rattle.xh_records.specs.Seats.{Held}
 use Rattle.xh_books.specs.Ledgers.{bytes_owned, place_lines}
@@ -55,6 +58,17 @@ one_ended all rest now_ p seats seats' lines lines' x o was next is none line_is
           let e = sum_by-cons (λ (q : PlaceOf). total_of q.blocks) p [] in
           let f = was.owned in omega arith);
     }
+
+-- what the ended ones had seen, and then what the rest has, is what all had
+abbrev pub FrontsSoFar : List PlaceSeen → List PlaceSeen → List (Held Body) → Type 0
+FrontsSoFar all rest seats = map (λ x. x.front) seats ++ map (λ p. p.front) rest ≡ map (λ p. p.front) all
+
+pub fronts_more : (all now_ rest : List PlaceSeen) (p : PlaceSeen) (seats seats' : List (Held Body)) (x : Held Body) → FrontsSoFar all now_ seats → now_ ≡ p ∷ rest → x.front ≡ p.front
+    → seats' ≡ seats ++ x ∷ [] → FrontsSoFar all rest seats'
+fronts_more all now_ rest p seats seats' x was next same more =
+    let f : Held Body → List Event = λ y. y.front in let g : PlaceSeen → List Event = λ q. q.front in
+    ap (λ (ys : List (Held Body)). map f ys ++ map g rest) more ∙ ap (λ (l : List (List Event)). l ++ map g rest) (map-append f seats (x ∷ [])) ∙ append_assoc (map f seats) (x.front ∷ []) (map g rest)
+    ∙ ap (λ (l : List Event). map f seats ++ l ∷ map g rest) same ∙ ap (λ (qs : List PlaceSeen). map f seats ++ map g qs) (sym next) ∙ was
 
 pub one_more : (lines lines' : List PlaceLine) (o : Option PlaceLine) → lines' ≡ lines ++ cons_option o [] → length lines' ≤ length lines + 1
 one_more lines lines' o e = grind (arith, common_steps, e)

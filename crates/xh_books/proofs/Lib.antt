@@ -12,3 +12,9 @@ pub mod LedgerLines
 pub mod Sums
 pub mod Stepping
 pub mod Kept
+pub mod Carried
+pub mod Living
+pub mod Gone
+pub mod Again
+pub mod Deeds
+pub mod Empty

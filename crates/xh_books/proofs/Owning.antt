@@ -10,6 +10,8 @@ use Rattle.std.proofs.lemmas.Slice.Zip.{AllZip-left, AllZip-right}
 use Rattle.xh_arena.specs.Views.{LotOf}
 use Rattle.xh_calls.proofs.Lists.{below_get, there}
 use Rattle.xh_core.specs.declared.flight.FlightLine.{FlightLine}
+use Rattle.xh_kernel.specs.Places.{places_of}
+use Rattle.xh_model.specs.declared.event.Event.{Event}
 use Rattle.xh_model.specs.declared.event.Holder.{Holder}
 use Rattle.xh_model.specs.declared.event.Holder.TheVariants.{Process, Direction}
 use Rattle.xh_model.specs.Keyed.{value_at}
@@ -19,8 +21,9 @@ use Rattle.xh_model.proofs.Words.{arena_of_number, index_back, number_back, plac
 use Rattle.xh_place.specs.declared.body.Body.{Body}
 use Rattle.xh_place.specs.Moves.{moves}
 use Rattle.xh_place.specs.Places.{IsPlaceOf, Item, PlaceOf, item_of}
+use Rattle.xh_place.specs.Seen.{PlaceSeen}
 use Rattle.xh_records.specs.declared.shape.Shape.{Shape}
-use Rattle.xh_records.specs.History.{by_place}
+use Rattle.xh_records.specs.History.{StartsWith, by_place}
 use Rattle.xh_records.specs.Seats.{Ends, Held, IsSeatOf, RecordsOf, lot_in}
 use Rattle.xh_records.specs.Showing.{IsLotAt}
 use Rattle.xh_records.proofs.Elements.{elem_slice, in_range, is_there, slice_elem}
@@ -28,7 +31,7 @@ use Rattle.xh_records.proofs.Keeps.{never, one_holder, same_place}
 use Rattle.xh_books.specs.Ledgers.{bytes_in_flight, bytes_owned, is_listed}
 use Rattle.xh_core.specs.Flight.{AreFlightLines}
 use Rattle.xh_books.specs.Flight.{IsInFlight, Stands, flight_lines}
-use Rattle.xh_books.specs.inner.Steps.{AreAt, AreSeats, IsSeatOfPlace, TellFlight, lens_of}
+use Rattle.xh_books.specs.inner.Steps.{AreAt, AreFronts, AreSeats, IsSeatOfPlace, TellFlight, lens_of}
 use Rattle.xh_books.proofs.Audited.{len_at}
 use Rattle.xh_books.proofs.Passing.{was_passed}
 use Rattle.xh_books.proofs.FlightLines.{all_full, are_lines, flying_is}
@@ -55,11 +58,14 @@ seats_own all xs ps k x are of_ at =
     let q = place_at xs ps k x are at in let own = all_at (IsPlaceOf all) ps k q.0 of_ q.1 in
     (q.2.same.0 ∙ own.0, q.2.same.1 ∙ own.1)
 
-module _ (fits : Body → ℕ → Bool) (all : RecordsOf) (seats : List (Held Body)) (ps : List PlaceOf) (words : List ℕ) (lots : List (LotOf Body))
-    (ends : Ends fits all.shape seats words lots) (are : AreSeats seats ps) (of_ : All (IsPlaceOf all) ps)
+module _ (fits : Body → ℕ → Bool) (all : RecordsOf) (seats : List (Held Body)) (places : List PlaceSeen) (words : List ℕ) (lots : List (LotOf Body))
+    (ends : Ends fits all.shape seats words lots) (are : AreSeats seats (places_of places)) (of_ : All (IsPlaceOf all) (places_of places))
     (some : 0 < all.shape.records) (small : all.shape.records ≤ 256) where
   abbrev n : ℕ
   n = all.shape.records
+
+  abbrev ps : List PlaceOf
+  ps = places_of places
 
   shape_of : (j : ℕ) (x : Held Body) → slice_get seats j ≡ Some x → x.shape ≡ all.shape
   shape_of j x at = (seats_own all seats ps j x are of_ at).1
@@ -167,11 +173,21 @@ module _ (fits : Body → ℕ → Bool) (all : RecordsOf) (seats : List (Held Bo
   long : length ends.owners ≡ length (lens_of lots)
   long = sym (length-map lots (λ (l : LotOf Body). l.len) ∙ ends.lots_long)
 
-  in_flight : (lines : List FlightLine) → lines ≡ flight_lines (zip words (lens_of lots)) → IsInFlight all.shape ps (lens_of lots) lines
-  in_flight lines e = record {
+  -- and each has seen a beginning of it
+  seen : AreFronts seats places → All (λ p. StartsWith ends.log p.front) places
+  seen fronts j d below =
+      let p : PlaceSeen = get_or places j d in let at = there places j d below in
+      let s = seat_at seats ps j p.place are (slice_get-map (λ (q : PlaceSeen). q.place) places j ∙ ap (option_map (λ (q : PlaceSeen). q.place)) at) in
+      let same : s.0.front ≡ p.front = same_Some s.0.front p.front (ap (option_map (λ (x : Held Body). x.front)) (sym s.1) ∙ sym (slice_get-map (λ (x : Held Body). x.front) seats j)
+      ∙ ap (λ (l : List (List Event)). slice_get l j) fronts ∙ slice_get-map (λ (q : PlaceSeen). q.front) places j ∙ ap (option_map (λ (q : PlaceSeen). q.front)) at) in
+      subst (StartsWith ends.log) same (ends.fronts j s.0 s.1)
+
+  in_flight : AreFronts seats places → (lines : List FlightLine) → lines ≡ flight_lines (zip words (lens_of lots)) → IsInFlight all.shape places (lens_of lots) lines
+  in_flight fronts lines e = record {
     log = ends.log;
     theirs = ends.theirs;
     parts = parts;
+    seen = seen fronts;
     owners = ends.owners;
     count = long;
     leads = ends.leads;
@@ -190,7 +206,7 @@ module _ (fits : Body → ℕ → Bool) (all : RecordsOf) (seats : List (Held Bo
       subst (λ (z : ℕ). AreFlightLines z (flight_lines (zip (map word_of ends.owners) (lens_of lots)))) (flying_is ps n 0 ends.owners (lens_of lots) long each)
       (are_lines (zip (map word_of ends.owners) (lens_of lots)) (λ d. all_full d ps n 0 ends.owners (lens_of lots) each))
 
-  pub tell_flight : (lines : List FlightLine) → lines ≡ flight_lines (zip words (lens_of lots)) → TellFlight all.shape ps (lens_of lots) lines
+  pub tell_flight : AreFronts seats places → (lines : List FlightLine) → lines ≡ flight_lines (zip words (lens_of lots)) → TellFlight all.shape places (lens_of lots) lines
   unfolding TellFlight in_flight
-  tell_flight lines e =
-      let is = in_flight lines e in (is, subst (λ (ls : List FlightLine). AreFlightLines (bytes_in_flight ps n 0 (lens_of lots)) ls) (sym is.lines_are) are_flight_lines)
+  tell_flight fronts lines e =
+      let is = in_flight fronts lines e in (is, subst (λ (ls : List FlightLine). AreFlightLines (bytes_in_flight ps n 0 (lens_of lots)) ls) (sym is.lines_are) are_flight_lines)

@@ -1,6 +1,6 @@
 -- What a place's calls say of the tallies that they were lent.
 use Rattle.std.proofs.Common.{◌≡◌, ℕ, ◌+◌, ◌++◌, List, [], ◌∷◌, ⊎_elim, inl, inr, refl, sym, subst, ap, arith}
-use Rattle.std.specs.Prelude.{Bool, false, Option, Some, None, Result, Ok, Err, MatchOption}
+use Rattle.std.specs.Prelude.{Bool, false, Option, Some, None, Result, Ok, Err, IfOk, MatchOption, MatchResult, OnErr}
 use Rattle.xh_arena.specs.Views.{TallyOf}
 use Rattle.xh_core.specs.Calls.{end_tests}
 use Rattle.xh_core.specs.declared.block.Block.{Block}
@@ -59,3 +59,8 @@ module _ (from to : List TallyOf) where
 -- what is so of the tallies that were lent
 pub lent_back : (R : List TallyOf → List TallyOf → Type 0) {lent tallies given new : List TallyOf} → lent ≡ tallies → new ≡ given → R lent given → R tallies new
 lent_back R {lent} {tallies} {given} {new} start end h = subst (λ (z : List TallyOf). R z new) start (subst (λ (z : List TallyOf). R lent z) (sym end) h)
+
+-- what a call that may be refused says of the tallies
+pub tallied : {A : Type 0} (result : Result A Refused) (P : A → Type 0) (S Q : Type 0) → IfOk result P → OnErr result (S × Q) → MatchResult result P (λ _. Q)
+tallied (Ok a) P S Q done refused = done
+tallied (Err e) P S Q done refused = refused.1

@@ -9,6 +9,7 @@ use Rattle.xh_core.specs.declared.refused.Refused.{Refused}
 use Rattle.xh_core.specs.Refusing.{first_refusal}
 use Rattle.xh_model.specs.declared.limits.TheConstants.{END_BYTES, MAX_BUDGET}
 use Rattle.xh_model.specs.Keyed.{value_at, without}
+use Rattle.xh_records.specs.Seats.{Noted}
 use Rattle.xh_place.specs.Bodies.{Content, bytes, endpoint, IsEndAt, kind_of}
 use Rattle.xh_place.specs.Ending.{HasGivenBack, IsClosed, IsSwept, alone, last}
 use Rattle.xh_place.specs.Places.{AreBlocks, Fits, Item, PlaceOf, entry_of, found, total_of, with_blocks}
@@ -35,7 +36,7 @@ total_left (suc k) [] = omega arith
 total_left (suc k) (x ∷ xs) = let e : total_of (drop k xs) ≤ total_of xs = total_left k xs in omega (arith, e)
 
 -- what a sweep from the record at the end of a list gave back is no less than its length
-closed_bytes : (saw : ℕ → ℕ → Type 0) (e : ℕ) (x : Item) (old new : PlaceOf) (n left : ℕ) → value_at e old.blocks ≡ Some x
+closed_bytes : (saw : Option Noted → ℕ → ℕ → Type 0) (e : ℕ) (x : Item) (old new : PlaceOf) (n left : ℕ) → value_at e old.blocks ≡ Some x
     → IsSwept saw (length (without e old.blocks)) MAX_BUDGET (with_blocks old (last e old.blocks)) new n left → x.len ≤ n
 closed_bytes saw e x old new n left at is = go is.count refl is.by.accepted is.by.list is.by.sum where
   front : List (ℕ × Item)

@@ -1,4 +1,5 @@
 pub mod inner
+pub mod Beside
 pub mod Directions
 pub mod Ends
 pub mod LineSeats

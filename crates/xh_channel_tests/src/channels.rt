@@ -1,6 +1,7 @@
 //! Channels by calls.
 mod answers;
 mod bells;
+mod carried;
 mod drained;
 mod ends;
 mod lines;

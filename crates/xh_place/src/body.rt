@@ -25,9 +25,11 @@ impl Default for Body {
 }
 
 impl Fits for Body {
-    ghost use Rattle.xh_place.specs.Bodies.{fits_in};
+    ghost use Rattle.xh_place.specs.Bodies.{fits_in, log_of};
 
     ghost is_fit = { fits_in };
+
+    ghost log = { log_of };
 
     fn fits(&self, len: u32) -> bool {
         match self {

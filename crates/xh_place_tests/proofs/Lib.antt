@@ -1,2 +1,3 @@
 pub mod Plain
+pub mod Heard
 pub mod Made

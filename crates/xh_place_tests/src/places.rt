@@ -10,6 +10,7 @@ mod answers;
 mod calls;
 mod ends;
 mod growths;
+mod heard;
 mod many;
 mod notes;
 mod pair;

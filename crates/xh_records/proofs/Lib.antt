@@ -2,6 +2,7 @@ mod Common
 pub mod History
 pub mod After
 pub mod Elements
+mod Named
 pub mod Keeps
 pub mod Ages
 pub mod Lists

@@ -4,6 +4,7 @@
 mod closing;
 mod lending;
 mod making;
+mod note;
 mod plays;
 mod records;
 mod refused;
@@ -15,6 +16,7 @@ mod token;
 mod view;
 mod word;
 
+pub use note::Note;
 pub use records::Records;
 pub use refused::Refused;
 pub use seat::Seat;

@@ -4,6 +4,7 @@ ghost use Rattle.xh_model.specs.declared.limits.TheConstants.{MAX_RECORDS};
 ghost use Rattle.xh_records.specs.Seats.{IsSeatOf};
 ghost use Rattle.xh_records_tests.specs.Benches.{IsNewBench};
 
+mod notes;
 mod pairs;
 mod rounds;
 mod threads;
@@ -20,9 +21,11 @@ use xh_records::{OwnerWord, Records, Refused, Seat};
 struct Any;
 
 impl Fits for Any {
-    ghost use Rattle.std.specs.Prelude.{true};
+    ghost use Rattle.std.specs.Prelude.{true, None};
 
     ghost is_fit = { λ _ _. true };
+
+    ghost log = { λ _. None };
 
     fn fits(&self, _len: u32) -> bool {
         true

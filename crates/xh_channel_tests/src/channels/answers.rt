@@ -124,8 +124,8 @@ pub(super) fn by_line(line: &mut Line, side: u8, call: Call) -> Answer
     requires { side < 2 }
 {
     match call {
-        Call::Put(tag, block) => of_put(line.put(side, tag, blocks_of(block))),
-        Call::Take => of_take(line.take(side)),
+        Call::Put(tag, block) => of_put(line.put(side, tag, blocks_of(block), &mut None)),
+        Call::Take => of_take(line.take(side, &mut None)),
         Call::Shut => {
             line.shut(side);
             Answer::Shut

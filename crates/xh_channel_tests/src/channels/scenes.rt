@@ -3,6 +3,7 @@ ghost use Rattle.xh_channel.specs.Pairs.{IsPair};
 
 use super::answers::{Answer, Call, Ends, assert_answers};
 use super::bells::{Way, assert_deadlines, rings};
+use super::carried::assert_noted;
 use super::drained::assert_drained;
 use super::ends::{assert_all_blocks, assert_full_at, assert_refusals};
 use super::notes::{assert_put_heard, assert_shut_heard};
@@ -51,6 +52,7 @@ pub(super) enum Scene {
     ContractGone(&'static [Row], Act),
     OwnRooms(&'static [Row]),
     Alike,
+    Noted(&'static [Row]),
 }
 
 fn act_at<R: Clock + Threads + Wait + Abort + Sync>(
@@ -124,6 +126,7 @@ fn play_on<R: Clock + Threads + Wait + Abort + Sync>(
         }
         Scene::OwnRooms(rows) => play_beside(rt, alloc, channels, Some(rows)),
         Scene::Alike => assert_alike(rt, channels),
+        Scene::Noted(rows) => assert_noted(rt, alloc, channels, rows),
     }
 }
 

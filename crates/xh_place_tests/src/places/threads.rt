@@ -19,7 +19,7 @@ use xh_records::Records;
 const ROUNDS: u64 = 2000;
 
 // Whether the block at `k` of the message is the record, and came.
-fn is_here(taken: &Taken, k: usize, r: u16) -> bool {
+pub(super) fn is_here(taken: &Taken, k: usize, r: u16) -> bool {
     match taken.blocks.get(k) {
         Some(Got::Here(block)) => block.rec == r,
         _ => false,

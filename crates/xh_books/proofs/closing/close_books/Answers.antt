@@ -62,7 +62,7 @@ pub returns-clause-in_flight : goal.returns-clause-in_flight
 unfolding TellFlight
 returns-clause-in_flight g c =
     let f = facts g c.before.before in
-    subst (λ (lens : List ℕ). IsInFlight c.args.records.shape (places_of c.args.places.items) lens c.in_ok-flight.flight.items) f.lengths c.in_ok-flight.ensures.flight.0
+    subst (λ (lens : List ℕ). IsInFlight c.args.records.shape c.args.places.items lens c.in_ok-flight.flight.items) f.lengths c.in_ok-flight.ensures.flight.0
 
 pub returns-clause-lines : goal.returns-clause-lines
 unfolding TellFlight

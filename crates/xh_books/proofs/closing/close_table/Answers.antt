@@ -21,19 +21,19 @@ close-requires-clause-all c =
 pub returns-clause-lots : goal.returns-clause-lots
 returns-clause-lots c = let small : IsSmall c.args.records.shape = subst (λ r. IsSmall r.shape) c.records.view_is c.records.invariant.small in (
   c.in-Ok.ensures.all,
-  lots_at _ c.args.records c.in_ok-seats.seats.items (places_of c.args.places.items) c.in-Ok.words.items c.in-Ok.lots.items c.in-Ok.ensures
+  lots_at _ c.args.records c.in_ok-seats.seats.items c.args.places.items c.in-Ok.words.items c.in-Ok.lots.items c.in-Ok.ensures
       c.in_ok-seats.ensures.seats c.requires.places.0 small.0 small.1,
 )
 
 pub returns-clause-owned : goal.returns-clause-owned
 returns-clause-owned c =
     let small : IsSmall c.args.records.shape = subst (λ r. IsSmall r.shape) c.records.view_is c.records.invariant.small in
-    owned _ c.args.records c.in_ok-seats.seats.items (places_of c.args.places.items) c.in-Ok.words.items c.in-Ok.lots.items c.in-Ok.ensures
+    owned _ c.args.records c.in_ok-seats.seats.items c.args.places.items c.in-Ok.words.items c.in-Ok.lots.items c.in-Ok.ensures
     c.in_ok-seats.ensures.seats c.requires.places.0 small.0 small.1
 
 pub returns-clause-flight : goal.returns-clause-flight
 returns-clause-flight c =
     let small : IsSmall c.args.records.shape = subst (λ r. IsSmall r.shape) c.records.view_is c.records.invariant.small in
-    tell_flight _ c.args.records c.in_ok-seats.seats.items (places_of c.args.places.items) c.in-Ok.words.items c.in-Ok.lots.items c.in-Ok.ensures
-    c.in_ok-seats.ensures.seats c.requires.places.0 small.0 small.1 c.flight_lines-flight.result.items
+    tell_flight _ c.args.records c.in_ok-seats.seats.items c.args.places.items c.in-Ok.words.items c.in-Ok.lots.items c.in-Ok.ensures
+    c.in_ok-seats.ensures.seats c.requires.places.0 small.0 small.1 c.in_ok-seats.ensures.fronts c.flight_lines-flight.result.items
     (c.flight_lines-flight.ensures ∙ (λ i. flight_lines (zip (c.as_slice.ensures.value i) (lens_of (c.as_slice-2.ensures.value i)))))

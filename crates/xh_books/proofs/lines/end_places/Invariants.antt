@@ -1,7 +1,7 @@
 use Rattle.std.proofs.Common.{◌≡◌, ◌+◌, ◌≤◌, length, vec_len}
 use Rattle.std.specs.Vec.Iter.{into_iter_items, into_iter_len}
 use Rattle.xh_kernel.specs.Places.{places_of}
-use Rattle.xh_books.proofs.Ending.{EndedSoFar}
+use Rattle.xh_books.proofs.Ending.{EndedSoFar, FrontsSoFar}
 use Rattle.xh_books.proofs.lines.end_places.Given as goal
 
 abbrev pub invariant-loop-place : goal.invariant-loop-place
@@ -9,3 +9,4 @@ invariant-loop-place l =
     EndedSoFar (places_of l.fn.places.items) (places_of (into_iter_items l.place-iterator)) l.seats.items l.lines.items
     × (vec_len l.seats + into_iter_len l.place-iterator ≡ vec_len l.fn.places)
     × (length l.lines.items + into_iter_len l.place-iterator ≤ vec_len l.fn.places)
+    × FrontsSoFar l.fn.places.items (into_iter_items l.place-iterator) l.seats.items

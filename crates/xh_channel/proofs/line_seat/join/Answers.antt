@@ -1,7 +1,7 @@
 use Rattle.std.proofs.Common.{◌≡◌, rules, ap, sym, ◌∙◌}
 use Rattle.xh_channel.specs.LineSeats.{LineView}
 use Rattle.xh_channel.proofs.LineMoves.{has_word}
-use Rattle.xh_channel.proofs.LineSteps.{joins}
+use Rattle.xh_channel.proofs.LineViews.{joins}
 use Rattle.xh_channel.proofs.line_seat.join.Goals as goal
 
 pub join_seat-requires : goal.join_seat-requires

@@ -1,7 +1,7 @@
 use Rattle.std.proofs.Common.{subst, ◌∙◌, ◌∷◌}
 use Rattle.std.specs.Prelude.{Option}
 use Rattle.xh_channel.specs.Lines.{Lined}
-use Rattle.xh_channel.specs.inner.LineRule.{LiesFor, holding}
+use Rattle.xh_channel.specs.inner.LineRule.{IsNoted, LiesFor, holding}
 use Rattle.xh_channel.proofs.LineMoves.{has_line}
 use Rattle.xh_channel.proofs.line_steps.hold.Goals as goal
 
@@ -12,5 +12,5 @@ returns-clause-held g c =
       is.0,
       l.1,
       l.2 ∙ (λ i. (holding v l.1, (0, is.1 i) ∷ b.0 i)),
-      record { few = b.2; lies = subst (λ (x : Option Lined). LiesFor v.side x v.own l.1) is.1 l.3; told = l.4 },
+      record { few = b.2; lies = subst (λ (x : Option Lined). LiesFor v.side x v.own l.1) is.1 l.3; told = l.4; notes = subst (IsNoted v.log) is.1 l.6 },
     )

@@ -2,8 +2,7 @@ use Rattle.std.proofs.Common.{rules, ◌≡◌, ◌++◌, ◌∙◌, All, List, 
 use Rattle.std.proofs.Math.Seq.{take-append_seam}
 use Rattle.xh_kernel.specs.declared.scribe.Pens.{Pens}
 use Rattle.xh_kernel.specs.Accounts.{AccountOf}
-use Rattle.xh_kernel.specs.Finished.{AreInOrder, HasLooked, glances_of, histories_of}
-use Rattle.xh_kernel.specs.Finished.{AreSeen}
+use Rattle.xh_kernel.specs.Finished.{AreInOrder, HasLooked, glances_of, histories_of, AreSeen}
 use Rattle.xh_kernel.proofs.finishing.compare.Goals as goal
 
 pub returns-clause-seen : goal.returns-clause-seen

@@ -3,8 +3,7 @@ use Rattle.std.proofs.lemmas.List.{get_or_default}
 use borrow.Author.Count.{below_more}
 use Rattle.xh_kernel.specs.declared.scribe.Pens.{Pens}
 use Rattle.xh_kernel.specs.Accounts.{AccountOf}
-use Rattle.xh_kernel.specs.Finished.{histories_of}
-use Rattle.xh_kernel.specs.Finished.{AreSeen}
+use Rattle.xh_kernel.specs.Finished.{histories_of, AreSeen}
 use Rattle.xh_kernel.proofs.Compared.{same_tallies}
 use Rattle.xh_kernel.proofs.finishing.compare_accounts.Goals as goal
 

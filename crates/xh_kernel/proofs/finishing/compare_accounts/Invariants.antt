@@ -1,8 +1,6 @@
 use Rattle.std.proofs.Common.{◌≡◌, ◌<◌, ◌≤◌, ℕ, get_or}
 use Rattle.xh_kernel.specs.Accounts.{AccountOf}
-use Rattle.xh_kernel.specs.Finished.{histories_of}
-use Rattle.xh_kernel.specs.Finished.{AreSeen}
-use Rattle.xh_kernel.specs.Finished.{tallies_of}
+use Rattle.xh_kernel.specs.Finished.{histories_of, AreSeen, tallies_of}
 use Rattle.xh_kernel.proofs.finishing.compare_accounts.Given as goal
 
 abbrev pub invariant-loop-worker : goal.invariant-loop-worker

@@ -1,7 +1,7 @@
 use Rattle.std.proofs.Common.{rules, ◌≡◌, ◌++◌, length, sym}
 use Rattle.std.proofs.lemmas.List.{places}
 use Rattle.xh_core.specs.Calls.{arena_tests}
-use Rattle.xh_place.specs.Ends.{Opens}
+use Rattle.xh_place.specs.Ends.{Opens, at_home}
 use Rattle.xh_place.specs.Seen.{FindsFull}
 use Rattle.xh_place.specs.Starts.{start as starts}
 use Rattle.xh_calls.proofs.Asking.{unopened}
@@ -10,7 +10,8 @@ use Rattle.xh_calls.proofs.heap.Heap.open_ends.Goals as goal
 
 pub returns-clause-opened : goal.returns-clause-opened
 returns-clause-opened g c =
-    lent_back (λ x y. Opens c.args.arena c.args.low c.args.high c.args.place.now.place c.open-answer.new.self.place x y c.open-answer.result)
+    let home = at_home c.args.place.now.place.table in
+    lent_back (λ x y. Opens c.args.arena (home c.args.low) (home c.args.high) c.args.place.now.place c.open-answer.new.self.place x y c.open-answer.result)
     c.as_mut_slice-tallies.ensures.value (search (rules, places)) c.open-answer.ensures.opened
 
 pub returns-clause-why : goal.returns-clause-why

@@ -1,0 +1,79 @@
+-- The ends of a new channel, at home with the records.
+use Rattle.std.proofs.Common.{◌≡◌, ℕ, List, [], ◌∷◌, ◌++◌, ap, ◌∙◌, Option, None, Some, Result, Ok, Err, IfErr, IfOk, MatchOption, MatchResult}
+use Rattle.atomic_table.specs.Seated.{TableId}
+use Rattle.xh_arena.specs.Views.{TallyOf}
+use Rattle.xh_channel.specs.Pairs.{IsPair, IsUnused}
+use Rattle.xh_channel.specs.Queues.{Posted}
+use Rattle.xh_core.specs.declared.block.Block.{Block}
+use Rattle.xh_core.specs.declared.refused.Refused.{Refused}
+use Rattle.xh_core.specs.Refusing.{Tests, first_refusal}
+use Rattle.xh_core.specs.declared.status.Status.TheVariants.{Running}
+use Rattle.xh_model.specs.declared.row.Row.{Row}
+use Rattle.xh_place.specs.declared.opening.Unopened.{Unopened}
+use Rattle.xh_place.specs.Ends.{AreListed, IsUnopened, at_home, end_block, Opens as OpensEnds}
+use Rattle.xh_place.specs.Places.{PlaceOf, with_blocks}
+use Rattle.xh_calls.specs.Channels.{GoesBy}
+use Rattle.xh_calls.specs.Parts.{PartsOf}
+
+-- the ends of a pair are one still at home with the records
+unused_home : (t : TableId) (end : Posted) → IsUnused end → IsUnused (at_home t end)
+unused_home t end u = record {
+  counts = u.counts;
+  sent = u.sent;
+  pushed = u.pushed;
+  got = u.got;
+  sent_notes = u.sent_notes;
+  pushed_notes = u.pushed_notes;
+  got_notes = u.got_notes;
+  peer_shut = u.peer_shut;
+  told_put = u.told_put;
+  told_taken = u.told_taken;
+  drained = u.drained;
+}
+
+pub home_pair : (t : TableId) (low high : Posted) → IsPair low high → IsPair (at_home t low) (at_home t high)
+home_pair t low high p = record {
+  number = p.number;
+  channel = p.channel;
+  low_side = p.low_side;
+  high_side = p.high_side;
+  low_unused = unused_home t low p.low_unused;
+  high_unused = unused_home t high p.high_unused;
+  depth = p.depth;
+  to_high = p.to_high;
+  to_low = p.to_low;
+  closed = p.closed;
+  line = p.line;
+  contract = p.contract;
+  rows = p.rows;
+  state = p.state;
+}
+
+goes_home : (contract : Option (List Row)) (t : TableId) (end : Posted) → GoesBy contract end → GoesBy contract (at_home t end)
+goes_home None t end h = h
+goes_home (Some rows) t end h = h
+
+-- what an open that was not refused came to
+module _ (t : TableId) (arena : ℕ) (low high : Posted) (old new : PlaceOf) (told left : List TallyOf) where
+  pub opened_home : (depth : ℕ) (contract : Option (List Row)) (opened : Result (Block × Block) Unopened) (result : Result (Block × Block) Refused)
+      → OpensEnds arena (at_home t low) (at_home t high) old new told left opened → MatchResult opened (λ ends. result ≡ Ok ends) (λ u. result ≡ Err u.why)
+      → IsPair low high → low.depth ≡ depth → GoesBy contract low
+      → IfOk result (λ ends. (l : Posted) × (h : Posted) × IsPair l h × (l.depth ≡ depth) × GoesBy contract l
+      × (new ≡ with_blocks old (old.blocks ++ (ends.0.rec, end_block l) ∷ (ends.1.rec, end_block h) ∷ [])))
+  opened_home depth contract (Ok ends) result opens is pair deep goes = rw is (at_home t low, at_home t high, home_pair t low high pair, deep, goes_home contract t low goes, opens.0)
+  opened_home depth contract (Err u) result opens is pair deep goes = rw is tt
+
+  pub listed_home : (opened : Result (Block × Block) Unopened) (result : Result (Block × Block) Refused) → IsPair low high → old.state ≡ Running
+      → OpensEnds arena (at_home t low) (at_home t high) old new told left opened → MatchResult opened (λ ends. result ≡ Ok ends) (λ u. result ≡ Err u.why)
+      → IfOk result (λ ends. (new.state ≡ Running) × ((l : Posted) × (h : Posted) × IsPair l h × AreListed l h new ends))
+  listed_home (Ok ends) result pair runs opens is = rw is (ap (λ (p : PlaceOf). p.state) opens.0 ∙ runs, (at_home t low, at_home t high, home_pair t low high pair, opens.4))
+  listed_home (Err u) result pair runs opens is = rw is tt
+
+-- why it was refused, once its tests let it through
+pub why_home : (tests others : Tests) (S : Type 0) (P Q : Refused → Type 0) (opened : Result (Block × Block) Unopened) (result : Result (Block × Block) Refused)
+    → first_refusal tests ≡ None → first_refusal others ≡ None → IsUnopened others S Q opened → ((e : Refused) → Q e → P e) → MatchResult opened (λ ends. result ≡ Ok ends) (λ u. result ≡ Err u.why)
+    → MatchOption (first_refusal tests) (IfErr result P) (λ refused. result ≡ Err refused)
+why_home tests others S P Q opened result none also why more is = rw none (go opened (rw also at why) is) where
+  go : (o : Result (Block × Block) Unopened) → IfErr o (λ u. Q u.why) → MatchResult o (λ ends. result ≡ Ok ends) (λ u. result ≡ Err u.why) → IfErr result P
+  go (Ok ends) h is = rw is tt
+  go (Err u) h is = rw is (more u.why h)

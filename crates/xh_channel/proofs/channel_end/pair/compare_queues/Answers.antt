@@ -1,0 +1,20 @@
+use Rattle.std.proofs.Common.{rules, ap, subst, ◌∙◌}
+use Rattle.xh_channel.specs.Notes.{AgreesWith}
+use Rattle.xh_channel.specs.Queues.{Posted}
+use Rattle.xh_channel.proofs.Ends.{agrees}
+use Rattle.xh_channel.proofs.channel_end.pair.compare_queues.Goals as goal
+
+pub returns-clause-agree : goal.returns-clause-agree
+returns-clause-agree c =
+    let one = c.one in
+    let other = c.other in
+    let first = c.compare-sender.ensures in
+    let second = c.compare-peers.ensures in
+    let a = ap (λ (e : Posted). e.has_contract) one.view_is ∙ c.requires.1 in
+    let b = ap (λ (e : Posted). e.has_contract) other.view_is ∙ c.requires.0.contract ∙ c.requires.1 in
+    let x = one.inside in
+    let y = other.inside in
+    subst (λ (z : Posted × Posted). AgreesWith z.0 z.1 × AgreesWith z.1 z.0) (λ i. (one.view_is i, other.view_is i)) (
+      agrees x.spot y.spot _ _ x.sender y.sender x.receiver y.receiver x.word y.word _ _ x.line y.line _ _ _ _ a b second.grows.1 first.grows.0 second.prefix one.invariant.all_sent c.agree.ensures.shut,
+      agrees y.spot x.spot _ _ y.sender x.sender y.receiver x.receiver y.word x.word _ _ y.line x.line _ _ _ _ b a first.grows.1 second.grows.0 first.prefix other.invariant.all_sent (search rules),
+    )
