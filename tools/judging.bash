@@ -78,6 +78,53 @@ ends_as_written() {
     is_whole "$script" || { cat "$room/errors" && diff "$room/out" "${script%.script}.out" | head -n 20 && return 1; }
 }
 
+# is_drawn PROGRAM SCRIPT WORD ..: the script is drawn, as XML, and as the picture beside it or in docs/pictures/ where there is
+# one; a script with a fault is not, and the fault is told as in its .status by this program's name.
+is_drawn() {
+    local program="$1" script="$2" name="${2%.script}" picture
+    shift 2
+    run_on "$script" timeout 60 "$program" "$@"
+    if [ -e "$name.status" ]; then
+        sed "s/^xheap: /$(basename "$program"): /" "$name.status" >"$room/wanted"
+        { echo "$status"; cat "$room/errors"; } | cmp - "$room/wanted" && [ ! -s "$room/out" ]
+        return
+    fi
+    picture="$name.svg"
+    [ -e "$picture" ] || picture="docs/pictures/$(basename "$name").svg"
+    [ "$status" -eq 0 ] && [ ! -s "$room/errors" ] && is_xml "$room/out" &&
+        { [ ! -e "$picture" ] || cmp "$room/out" "$picture"; }
+}
+
+is_xml() {
+    python3 -c 'import sys, xml.dom.minidom; xml.dom.minidom.parse(sys.argv[1])' "$1"
+}
+
+# into FILE COMMAND ..: runs it with its output going there
+into() {
+    local file="$1"
+    shift
+    "$@" >"$file"
+}
+
+# is_text FILE LINES: the file has these lines, in which a * is any text, or nothing where there are none
+is_text() {
+    local wanted="${2:+$2$'\n'}end"
+    # shellcheck disable=SC2053
+    [[ "$(cat "$1" && echo end)" == $wanted ]]
+}
+
+# ends PROGRAM INPUT OUTPUT STATUS PRINTED REPORTED WORD ..: run with these words on these two it ends so, and has printed and
+# reported these lines
+ends() {
+    local program="$1" input="$2" output="$3" wanted="$4" printed="$5" reported="$6"
+    shift 6
+    run_on "$input" into "$output" timeout 60 "$program" "$@"
+    [ "$status" -eq "$wanted" ] && is_text "$room/out" "$printed" && is_text "$room/errors" "$reported" && return
+    echo "gate: status $status"
+    cat "$room/errors"
+    return 1
+}
+
 # with_growth_refused N PROGRAM ..: runs it with its N-th growth refused; the file "$room/told" is there if one was
 with_growth_refused() {
     local number="$1"

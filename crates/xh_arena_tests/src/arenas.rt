@@ -2,7 +2,7 @@
 mod calls;
 
 use crate::answers::Answer;
-use crate::answers::Answer::{At, Bytes, No, Nothing, Number, Run};
+use crate::answers::Answer::{At, Bytes, Nothing, Number, Run};
 use calls::Call::{Books, Carve, Cut, Extent, GiveBack, Hole, Records, Size};
 use calls::{Call, assert_answers, assert_on};
 use std::alloc::Global;
@@ -31,30 +31,6 @@ fn holes_merge(rt: HostRuntime) {
     assert_on(&rt, rt.alloc(), 256, 8, 1000, CALLS);
 }
 
-/// Why no arena of so many bytes, records and bytes ever handed out is made.
-fn refusal(alloc: Global, size: u32, records: u16, wear: u64) -> Option<Refused> {
-    Arena::new(alloc, size, records, wear).err()
-}
-
-/// At each limit an arena is made, and past it, or with a size that is no multiple of 16, it is not.
-#[test]
-fn limits_of_new(rt: HostRuntime) {
-    const LIMITS: &[(u32, u16, u64, Option<Refused>)] = &[
-        (1_048_576, 256, 9_223_372_036_854_775_807, None),
-        (16, 1, 0, None),
-        (0, 1, 0, Some(Refused::BadSize)),
-        (1_048_592, 1, 0, Some(Refused::BadSize)),
-        (16, 0, 0, Some(Refused::BadSize)),
-        (16, 257, 0, Some(Refused::BadSize)),
-        (16, 1, 9_223_372_036_854_775_808, Some(Refused::BadSize)),
-        (40, 8, 1000, Some(Refused::BadSize)),
-    ];
-    for (at, (size, records, wear, refused)) in LIMITS.iter().enumerate() {
-        let answered = refusal(rt.alloc(), *size, *records, *wear);
-        assert_eq!(rt; answered, *refused, "row {at}");
-    }
-}
-
 #[test]
 fn a_record_is_cut(rt: HostRuntime) {
     const CALLS: &[(Call, Answer)] = &[
@@ -66,26 +42,6 @@ fn a_record_is_cut(rt: HostRuntime) {
         (Extent(1), Run(16, 32)),
     ];
     assert_on(&rt, rt.alloc(), 64, 2, 48, CALLS);
-}
-
-/// After no bytes, after some that are no multiple of 16, and after all of them or more, no record is cut.
-#[test]
-fn bad_cuts_are_refused(rt: HostRuntime) {
-    const CALLS: &[(Call, Answer)] = &[
-        (Carve(0, 32), At(0)),
-        (Extent(1), Nothing),
-        (Cut(0, 1, 0), No(Refused::BadCut)),
-        (Extent(1), Nothing),
-        (Cut(0, 1, 8), No(Refused::BadCut)),
-        (Extent(1), Nothing),
-        (Cut(0, 1, 32), No(Refused::BadCut)),
-        (Extent(1), Nothing),
-        (Cut(0, 1, 48), No(Refused::BadCut)),
-        (Extent(1), Nothing),
-        (Cut(0, 1, 16), Nothing),
-        (Extent(1), Run(16, 16)),
-    ];
-    assert_on(&rt, rt.alloc(), 64, 2, 64, CALLS);
 }
 
 /// Makes an arena and looks at it, unless a growth was refused.

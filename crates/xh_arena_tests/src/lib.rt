@@ -6,6 +6,4 @@ mod answers;
 #[cfg(test)]
 mod arenas;
 #[cfg(test)]
-mod lots;
-#[cfg(test)]
 mod vaults;

@@ -4,10 +4,10 @@ mod hand;
 use crate::answers::Answer;
 use crate::answers::Answer::{At, Bytes, Has, No, Nothing, Number, Run};
 use hand::Call::{Audit, Books, Carve, Cut, GiveBack, Hole, Mark, Moved, Records, Sees, Size};
-use hand::{Call, assert_answers, assert_on, collect, dealt};
+use hand::{Call, assert_answers, assert_on, collect, dealt, made};
 use std::alloc::Global;
 use std::process::Abort;
-use xh_arena::{Fits, Lot, Refused, Tally, Vault};
+use xh_arena::{Fits, Refused, Vault};
 
 #[derive(Default, Drop)]
 pub struct Any {
@@ -91,42 +91,22 @@ fn workers_are_1_to_33(rt: HostRuntime) {
     }
 }
 
-/// Each lot is empty, and of the record of its place.
-fn assert_empty(rt: &impl Abort, lots: &[Lot<Any>]) {
-    for (index, lot) in lots.iter().enumerate() {
-        assert_eq!(rt; (usize::from(lot.record()), lot.len()), (index, 0));
-    }
-}
-
-/// No tally moved a byte.
-fn assert_unmoved(rt: &impl Abort, tallies: &[Tally]) {
-    for tally in tallies {
-        assert_eq!(rt; (tally.taken(), tally.back()), (0, 0));
-    }
-}
-
-/// A vault of 64 bytes as it is made.
-fn assert_whole(rt: &impl Abort, vault: &Vault) {
-    assert_eq!(rt;
-        (vault.size(), vault.handed_out(), vault.wear()),
-        (64, 0, 0)
-    );
-    assert_eq!(rt; vault.holes(), [(0, 64)].as_slice());
-}
-
-/// A vault of 64 bytes for 4 records and 2 workers as it is made: all lots are empty, and no tally moved a byte.
-fn assert_new(rt: &impl Abort, vault: &Vault, lots: &[Lot<Any>], tallies: &[Tally]) {
-    assert_eq!(rt; (lots.len(), tallies.len()), (4, 2));
-    assert_whole(rt, vault);
-    assert_empty(rt, lots);
-    assert_unmoved(rt, tallies);
-}
-
 /// Makes a vault and looks at it, unless a growth was refused.
 fn is_made(rt: &impl Abort, alloc: Global) -> bool {
-    match Vault::new::<Any>(alloc, 64, 4, 80, 2) {
-        Ok((vault, lots, tallies)) => {
-            assert_new(rt, &vault, &lots, &tallies);
+    const CALLS: &[(u8, Call, Answer)] = &[
+        (0, Size, Number(64)),
+        (0, Records, Number(4)),
+        (0, Books, Bytes(0, 0)),
+        (0, Hole(0), Run(0, 64)),
+        (0, Hole(1), Nothing),
+        (0, Audit, Has(0, None, 0)),
+        (1, Audit, Has(1, None, 0)),
+        (0, Moved, Bytes(0, 0)),
+        (1, Moved, Bytes(0, 0)),
+    ];
+    match made(alloc) {
+        Ok(mut hand) => {
+            assert_answers(rt, &mut hand, CALLS);
             true
         }
         Err(refused) => {

@@ -1,20 +1,7 @@
 -- A pass after which its record was seen gone stands in the log before the record's last one.
-use Rattle.std.proofs.Common.{◌≡◌, ◌≢◌, ℕ, ◌⊎◌, ⊎_elim, All, inl, inr, List, [], ◌∷◌, ◌++◌, length, refl, sym, ap, ◌∙◌, subst}
-use Rattle.std.specs.Prelude.{Option}
-use Rattle.atomic_table.proofs.Lists.{at_set}
-use Rattle.xh_model.specs.declared.event.Event.{Event}
-use Rattle.xh_model.specs.declared.event.Event.TheVariants.{Pass}
-use Rattle.xh_model.specs.declared.event.Holder.{Holder}
-use Rattle.xh_model.specs.Keyed.{Among}
-use Rattle.xh_model.specs.Slots.{index_of}
-use Rattle.xh_model.specs.Words.{IsHeldBy, Ownership, record_of, to_of, word_of}
-use Rattle.xh_model.proofs.Keyed.{among_front}
-use Rattle.xh_place.specs.Seen.{Came, PlaceSeen}
-use Rattle.xh_place.proofs.Seeing.{came_more, starts_more}
-use Rattle.xh_records.specs.declared.shape.Shape.{Shape}
-use Rattle.xh_records.specs.History.{LeadsTo, StartsWith, all_free}
-use Rattle.xh_books.specs.Flight.{WasPassed}
-use Rattle.xh_books.specs.Lives.{Step, WasSeenGone, HaveSeenAll}
+use Rattle.xh_books.proofs.Common.{All, Among, Came, Event, HaveSeenAll, Holder, IsHeldBy, LeadsTo, List, Option, Ownership, Pass, PlaceSeen, Shape, StartsWith, Step, WasPassed, WasSeenGone, []}
+use Rattle.xh_books.proofs.Common.{all_free, among_front, ap, at_set, came_more, index_of, inl, inr, length, record_of, refl, subst, sym, to_of, word_of, ℕ, ⊎_elim, ◌++◌, ◌∙◌, ◌∷◌, ◌≡◌, ◌≢◌, ◌⊎◌}
+use Rattle.xh_place.proofs.Seeing.{starts_more}
 
 -- nothing was done with the record
 same_holder : (n k : ℕ) (log : List Event) (o o' : Ownership) (h : Option Holder) → LeadsTo n o log o' → ((e : Event) → Among log e → index_of n (record_of e) ≢ k) → IsHeldBy o' k h → IsHeldBy o k h

@@ -1,18 +1,7 @@
 -- The lengths of the lots are those of the vaults.
-use Rattle.std.proofs.Common.{◌≡◌, ℕ, zero, suc, ◌+◌, ◌*◌, ◌/◌, ◌%◌, ◌<◌, List, [], ◌∷◌, length, get_or, take, All, sym, refl, ap, ◌∙◌, arith, suc-mul}
-use Rattle.std.specs.Prelude.{Some, slice_get}
-use Rattle.std.proofs.Math.Nat.{mod-lt, mul_comm, div-add-mod}
-use Rattle.std.proofs.lemmas.List.{length-map, length-append, length-take-le, same_lists}
-use Rattle.std.proofs.lemmas.List.Concat.{get_or-flat_map}
-use Rattle.std.proofs.lemmas.List.Elements.{All-take}
-use Rattle.std.proofs.lemmas.Option.{get_or_from_slice_get}
-use Rattle.xh_arena.specs.Views.{LotOf}
-use Rattle.xh_model.specs.Arena.{ArenaState, lengths_of}
-use Rattle.xh_model.specs.Cover.{length_of}
-use Rattle.xh_model.proofs.Lengths.{length_at, length-lengths}
-use Rattle.xh_place.specs.declared.body.Body.{Body}
-use Rattle.xh_books.specs.Ledgers.{all_lengths}
-use Rattle.xh_books.specs.inner.Steps.{lens_of}
+use Rattle.xh_books.proofs.Common.{All, All-take, ArenaState, Body, List, LotOf, Some, [], all_lengths, ap, arith, div-add-mod, get_or, get_or-flat_map, get_or_from_slice_get, length}
+use Rattle.xh_books.proofs.Common.{length-append, length-lengths, length-map, length-take-le, length_at, length_of, lengths_of, lens_of, mod-lt, mul_comm, refl, same_lists, slice_get, suc}
+use Rattle.xh_books.proofs.Common.{suc-mul, sym, take, zero, ℕ, ◌%◌, ◌*◌, ◌+◌, ◌/◌, ◌<◌, ◌∙◌, ◌∷◌, ◌≡◌}
 
 abbrev pub Each : ℕ → List ArenaState → Type 0
 Each n as_ = All (λ a. a.records ≡ n) as_

@@ -1,13 +1,6 @@
 -- The closed books: what was handed out is what the places own and what is in flight.
-use Rattle.std.proofs.Common.{◌≡◌, ℕ, ◌+◌, List, map, sum, All, sym, ap, ◌∙◌, subst}
-use Rattle.std.specs.List.{sum_by}
-use Rattle.xh_arena.specs.Views.{VaultOf}
-use Rattle.xh_core.specs.declared.ledger.ArenaLine.{ArenaLine}
-use Rattle.xh_kernel.specs.Accounts.{AccountOf}
-use Rattle.xh_calls.specs.Parts.{PartsOf, IsOpen, vault_names}
-use Rattle.xh_place.specs.Places.{PlaceOf}
-use Rattle.xh_books.specs.Ledgers.{all_back, all_lengths, all_taken, arena_lines, arenas_of, bytes_in_flight, bytes_owned}
-use Rattle.xh_books.specs.inner.Steps.{AreBooks, AreGathered, closed_line}
+use Rattle.xh_books.proofs.Common.{AccountOf, All, AreBooks, AreGathered, ArenaLine, IsOpen, List, PartsOf, PlaceOf, VaultOf, all_back, all_lengths, all_taken, ap, arena_lines, arenas_of}
+use Rattle.xh_books.proofs.Common.{bytes_in_flight, bytes_owned, closed_line, map, subst, sum, sum_by, sym, vault_names, ℕ, ◌+◌, ◌∙◌, ◌≡◌}
 use Rattle.xh_books.proofs.Collected.{Named}
 use Rattle.xh_books.proofs.Summing.{IsEven, all_moved, lines_even, outs_are}
 

@@ -1,18 +1,7 @@
 -- The vaults take in the accounts: which arenas they have, whether they are full, and what their lines say.
-use Rattle.std.proofs.Common.{◌≡◌, ℕ, zero, suc, ◌+◌, ◌<◌, List, [], ◌∷◌, ◌++◌, length, map, take, drop, set, get_or, All, refl, sym, ap, ◌∙◌, subst, arith}
-use Rattle.std.specs.Prelude.{slice_index}
-use Rattle.std.specs.List.{sum_by}
-use Rattle.std.proofs.lemmas.List.{length-map, length-drop}
-use Rattle.std.proofs.lemmas.List.Elements.{All-cons, All-head, All-nil, All-tail}
-use Rattle.std.proofs.lemmas.List.Sums.{sum_by-cons}
-use Rattle.atomic_table.specs.Seated.{TableId}
-use Rattle.xh_arena.specs.Views.{Move, TallyOf, VaultOf}
-use Rattle.xh_kernel.specs.Accounts.{AccountOf}
-use Rattle.xh_calls.specs.Parts.{PartsOf, IsOpen, vault_names}
-use Rattle.xh_model.specs.Cover.{bytes_out, holes_of}
-use Rattle.xh_place.specs.Tallies.{ids_of}
-use Rattle.xh_books.specs.Ledgers.{arena_lines, back_of, taken_of}
-use Rattle.xh_books.specs.inner.Steps.{AreGathered, IsFull, closed_line, with_accounts, with_tallies, with_tally}
+use Rattle.xh_books.proofs.Common.{AccountOf, All, All-cons, All-head, All-nil, All-tail, AreGathered, IsFull, IsOpen, List, Move, PartsOf, TableId, TallyOf, VaultOf, [], ap, arena_lines, arith}
+use Rattle.xh_books.proofs.Common.{back_of, bytes_out, closed_line, drop, get_or, holes_of, ids_of, length, length-drop, length-map, map, refl, set, slice_index, subst, suc, sum_by, sum_by-cons}
+use Rattle.xh_books.proofs.Common.{sym, take, taken_of, vault_names, with_accounts, with_tallies, with_tally, zero, ℕ, ◌++◌, ◌+◌, ◌<◌, ◌∙◌, ◌∷◌, ◌≡◌}
 
 -- ---- one account, tally by tally
 
@@ -120,9 +109,18 @@ module _ (p : PartsOf) where
   lines k all [] fresh = refl
   lines k all (v ∷ vs) fresh =
       let none = (All-head (IsOpen p) v vs fresh).1 in
-      let taken : sum_by (λ (m : Move). m.taken) (moves_of k all v.collected) ≡ sum_by (taken_of k) all = omega (arith, sum_moves (λ m. m.taken) (taken_of k) k (λ a. refl) all v.collected, ap (sum_by (λ (m : Move). m.taken)) none) in
-      let back : sum_by (λ (m : Move). m.back) (moves_of k all v.collected) ≡ sum_by (back_of k) all = omega (arith, sum_moves (λ m. m.back) (back_of k) k (λ a. refl) all v.collected, ap (sum_by (λ (m : Move). m.back)) none) in
-      λ i. record { size = length v.arena.cover; out = bytes_out v.arena.cover; holes = length (holes_of v.arena.cover); taken = taken i; back = back i } ∷ lines (suc k) all vs (All-tail (IsOpen p) v vs fresh) i
+      let taken : sum_by (λ (m : Move). m.taken) (moves_of k all v.collected) ≡ sum_by (taken_of k) all = omega (
+        arith,
+        sum_moves (λ m. m.taken) (taken_of k) k (λ a. refl) all v.collected,
+        ap (sum_by (λ (m : Move). m.taken)) none,
+      ) in
+      let back : sum_by (λ (m : Move). m.back) (moves_of k all v.collected) ≡ sum_by (back_of k) all = omega (
+        arith,
+        sum_moves (λ m. m.back) (back_of k) k (λ a. refl) all v.collected,
+        ap (sum_by (λ (m : Move). m.back)) none,
+      ) in
+      λ i. record { size = length v.arena.cover; out = bytes_out v.arena.cover; holes = length (holes_of v.arena.cover); taken = taken i; back = back i } ∷ lines (suc k) all vs
+      (All-tail (IsOpen p) v vs fresh) i
 
   pub gathered : (vs ws : List VaultOf) (all : List AccountOf) → vault_names vs ≡ p.records.shape.names → All (Named p.records.shape.names) all → All (IsOpen p) vs → length all ≡ p.workers
       → ws ≡ with_accounts vs all

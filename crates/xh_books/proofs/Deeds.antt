@@ -1,23 +1,8 @@
 -- The calls that are steps of the lives of ends.
-use Rattle.std.proofs.Common.{◌≡◌, ℕ, ◌⊎◌, ⊎_elim, inl, inr, List, [], ◌∷◌, ◌++◌, refl, sym, subst}
-use Rattle.std.specs.Prelude.{Err, MatchOption, None, Ok, Option, Result, Some}
-use Rattle.xh_calls.specs.Messages.{Gives, Takes}
-use Rattle.xh_calls.specs.Places.{start}
-use Rattle.xh_core.specs.Calls.{end_tests, given_tests}
-use Rattle.xh_core.specs.Refusing.{Tests, first_refusal}
-use Rattle.xh_core.specs.declared.refused.Refused.{Refused}
-use Rattle.xh_model.specs.declared.event.Event.{Event}
-use Rattle.xh_model.specs.Keyed.{Among}
-use Rattle.xh_place.specs.declared.got.Taken.{Taken}
-use Rattle.xh_place.specs.Bodies.{endpoint}
-use Rattle.xh_place.specs.Ending.{AreEnded, IsSweptBy}
-use Rattle.xh_place.specs.Ends.{RefusedOr}
-use Rattle.xh_place.specs.Endpoints.{EndsWith}
-use Rattle.xh_place.specs.Messages.{IsSent, is_listed}
-use Rattle.xh_place.specs.Places.{IsPlaceOf, Item, PlaceOf, found}
-use Rattle.xh_place.specs.Seen.{IsSeen, PlaceSeen}
-use Rattle.xh_records.specs.Seats.{Noted, RecordsOf}
-use Rattle.xh_books.specs.Lives.{EachEnded, StaysOrSteps, gives, take_of}
+use Rattle.xh_books.proofs.Common.{Among, AreEnded, EachEnded, EndsWith, Err, Event, Gives, IsPlaceOf, IsSeen, IsSent, IsSweptBy, Item, List, MatchOption, None, Noted, Ok, Option, PlaceOf}
+use Rattle.xh_books.proofs.Common.{PlaceSeen, RecordsOf, Refused, RefusedOr, Result, Some, StaysOrSteps, Taken, Takes, Tests, [], end_tests, endpoint, first_refusal, found, given_tests, gives}
+use Rattle.xh_books.proofs.Common.{inl, inr, refl, start, subst, sym, take_of, ℕ, ⊎_elim, ◌++◌, ◌∷◌, ◌≡◌, ◌⊎◌}
+use Rattle.xh_place.specs.Messages.{is_listed}
 
 -- what was done where no test refused, or else what stays
 let_or : {A : Type 0} (tests : Tests) (result : Result A Refused) (same done : Type 0) → RefusedOr tests result same done → same ⊎ done

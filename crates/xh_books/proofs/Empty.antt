@@ -1,25 +1,8 @@
 -- A direction whose records were each passed last by a give of a drained channel has none in flight.
-use Rattle.std.proofs.Common.{◌≡◌, ◌≢◌, ℕ, zero, suc, ◌+◌, ◌*◌, All, get_or, List, [], ◌∷◌, ◌++◌, map, refl, sym, ap, ◌∙◌, subst, arith}
-use Rattle.std.proofs.lemmas.Bool.{ltb-true}
-use Rattle.std.proofs.lemmas.Bool.Decides.{nat_tests}
-use Rattle.std.proofs.lemmas.Grind.{common_steps}
-use Rattle.std.proofs.lemmas.List.{append_cancel_left}
-use Rattle.std.proofs.lemmas.List.Elements.{All-filter, All-map, filter_passes}
-use Rattle.std.specs.Prelude.{None, Option, Some, nat_lt}
-use Rattle.std.specs.List.{range_with_len, zip}
+use Rattle.xh_books.proofs.Common.{All, All-filter, All-map, Among, ArePassedByDrained, DIRECTIONS, Direction, Event, FlightLine, Holder, IsHeldBy, IsInFlight, List, None, Option, Ownership, Pass}
+use Rattle.xh_books.proofs.Common.{PlaceSeen, Process, RecordsOf, Some, ap, append_cancel_left, arith, common_steps, filter_passes, flight_line, flight_lines, get_or, ltb-true, map, nat_lt}
+use Rattle.xh_books.proofs.Common.{nat_tests, range_with_len, refl, subst, suc, sym, way_of, word_of, zero, zip, ℕ, ◌*◌, ◌++◌, ◌+◌, ◌∙◌, ◌∷◌, ◌≡◌, ◌≢◌}
 use mathlib.Core.Option.{some}
-use Rattle.xh_core.specs.declared.flight.FlightLine.{FlightLine}
-use Rattle.xh_model.specs.declared.event.Event.{Event}
-use Rattle.xh_model.specs.declared.event.Event.TheVariants.{Pass}
-use Rattle.xh_model.specs.declared.event.Holder.{Holder}
-use Rattle.xh_model.specs.declared.event.Holder.TheVariants.{Direction, Process}
-use Rattle.xh_model.specs.declared.limits.TheConstants.{DIRECTIONS}
-use Rattle.xh_model.specs.Keyed.{Among}
-use Rattle.xh_model.specs.Words.{IsHeldBy, Ownership, word_of}
-use Rattle.xh_place.specs.Seen.{PlaceSeen}
-use Rattle.xh_records.specs.Seats.{RecordsOf}
-use Rattle.xh_books.specs.Flight.{IsInFlight, flight_line, flight_lines}
-use Rattle.xh_books.specs.Lives.{ArePassedByDrained, way_of}
 use Rattle.xh_books.proofs.Again.{passed_again, tells_all}
 use Rattle.xh_books.proofs.Gone.{are_gone}
 
@@ -29,13 +12,13 @@ module _ (all : RecordsOf) (places : List PlaceSeen) (lengths : List ℕ) (lines
   none_held : (k : ℕ) → IsHeldBy books.owners k (Some (Direction d)) → ⊥
   none_held k held =
       let w = books.passed k d held in let t = last k held in let s = t.7 in let own = t.9 in let n : ℕ = all.shape.records in let r : ℕ = w.3 in
-      let gone = are_gone all t.0 t.1 t.2 t.3 t.4 t.5 s t.8 r own.0 own.1 in
-      let steps = t.0 ++ t.1 in let b : ℕ = way_of s.deed s.old.place in let way : b ≡ d = own.3 in
+      let gone = are_gone all t.0 t.1 t.2 t.3 t.4 t.5 s t.8 r own.0 in
+      let steps = t.0 ++ t.1 in let b : ℕ = way_of s.deed s.old.place in let way : b ≡ d = own.2 in
       let came = passed_again all.shape books.log steps (tells_all books.log places steps books.seen t.6) (Pass s.old.place.process r b) s.old.front b r gone
       (w.0, w.1, w.2, r, w.4 ∙ ap (λ (z : ℕ). w.0 ++ Pass w.2 r z ∷ w.1) (sym way), refl, λ e m same. w.6 e m (same ∙ w.5)) in
-      let more : came.0 ≡ own.4.0 = append_cancel_left s.old.front came.0 own.4.0 (sym came.1 ∙ own.4.1) in
-      let pass : Pass s.old.place.process r b ≡ Pass w.2 r d = (λ i. Pass (own.2 i) r (way i)) in
-      own.4.2 (subst (λ (e : Event). Among own.4.0 e) pass (subst (λ (l : List Event). Among l (Pass s.old.place.process r b)) more came.2))
+      let more : came.0 ≡ own.3.0 = append_cancel_left s.old.front came.0 own.3.0 (sym came.1 ∙ own.3.1) in
+      let pass : Pass s.old.place.process r b ≡ Pass w.2 r d = (λ i. Pass (own.1 i) r (way i)) in
+      own.3.2 (subst (λ (e : Event). Among own.3.0 e) pass (subst (λ (l : List Event). Among l (Pass s.old.place.process r b)) more came.2))
 
 -- so there is no line
 other_word : (d : ℕ) (h : Option Holder) → (h ≡ Some (Direction d) → ⊥) → word_of h ≢ 2 + 4 * d
@@ -44,10 +27,9 @@ other_word d (Some (Process p)) no_one = λ e. absurd (omega arith)
 other_word d (Some (Direction b)) no_one = λ e. no_one (let same : b ≡ d = omega arith in ap (λ (z : ℕ). Some (Direction z)) same)
 
 no_blocks : (d : ℕ) (owners : Ownership) (lengths : List ℕ) → ((k : ℕ) → IsHeldBy owners k (Some (Direction d)) → ⊥) → (flight_line (zip (map word_of owners) lengths) d).blocks ≡ 0
-no_blocks d [] lengths none = refl
-no_blocks d (h ∷ owners) [] none = refl
 no_blocks d (h ∷ owners) (m ∷ lengths) none =
     grind (arith, common_steps, nat_tests, other_word d h (λ e. none zero (ap (λ (x : Option Holder). some x) e)), no_blocks d owners lengths (λ k held. none (suc k) held))
+no_blocks d owners lengths none = refl
 
 no_line : (all : List (ℕ × ℕ)) (d : ℕ) → (flight_line all d).blocks ≡ 0 → All (λ l. l.direction ≢ d) (flight_lines all)
 no_line all d none k e inside same =

@@ -1,24 +1,7 @@
 -- The places' seats and lines, one place after the other.
-use Rattle.std.proofs.Common.{◌≡◌, ℕ, ◌+◌, ◌≤◌, true, List, [], ◌∷◌, ◌++◌, length, map, refl, sym, ap, ◌∙◌, subst, append_assoc, arith}
-use Rattle.std.proofs.lemmas.Grind.{common_steps}
-use Rattle.std.specs.Prelude.{Option, Some, None}
-use Rattle.std.specs.List.{cons_option, sum_by}
-use Rattle.std.proofs.lemmas.List.{map-append}
-use Rattle.std.proofs.lemmas.List.Elements.{filter_map-append}
-use Rattle.std.proofs.lemmas.Slice.Zip.{all_zipped_more}
-use Rattle.std.proofs.lemmas.List.Sums.{sum_by-append, sum_by-cons}
-use Rattle.xh_core.specs.declared.ledger.PlaceLine.{PlaceLine}
-use Rattle.xh_core.specs.declared.status.Status.{Status}
-use Rattle.xh_model.specs.declared.event.Event.{Event}
-use Rattle.xh_model.specs.Keyed.{value_at}
-use Rattle.xh_model.proofs.Keyed.{value_here}
-use Rattle.xh_place.specs.declared.body.Body.{Body}
-use Rattle.xh_place.specs.Places.{Item, Lists, PlaceOf, line, line_in, total_of}
-use Rattle.xh_place.specs.Seen.{PlaceSeen}
-use Rattle.xh_core.specs.Statuses.{is_over}
-use Rattle.xh_records.specs.Seats.{Held}
-use Rattle.xh_books.specs.Ledgers.{bytes_owned, place_lines}
-use Rattle.xh_books.specs.inner.Steps.{AreSeats, IsSeatOfPlace}
+use Rattle.xh_books.proofs.Common.{AreSeats, Body, Event, Held, IsSeatOfPlace, Item, List, Lists, None, Option, PlaceLine, PlaceOf, PlaceSeen, Some, Status, [], all_zipped_more, ap, append_assoc}
+use Rattle.xh_books.proofs.Common.{arith, bytes_owned, common_steps, cons_option, filter_map-append, is_over, length, line, line_in, map, map-append, place_lines, refl, subst, sum_by}
+use Rattle.xh_books.proofs.Common.{sum_by-append, sum_by-cons, sym, total_of, true, value_at, value_here, ℕ, ◌++◌, ◌+◌, ◌∙◌, ◌∷◌, ◌≡◌, ◌≤◌}
 
 -- a seat that holds nothing is that of a place without blocks
 no_blocks : (x : Held Body) (bs : List (ℕ × Item)) → Lists x bs → x.lots ≡ [] → bs ≡ []

@@ -1,27 +1,10 @@
 -- The lines of what is in flight: what they add up to.
-use Rattle.std.proofs.Common.{◌≡◌, ℕ, suc, ◌+◌, ◌*◌, ◌<◌, ◌≤◌, get_or, List, [], ◌∷◌, cond, length, map, All, refl, sym, ap, ◌∙◌, arith}
-use Rattle.std.proofs.lemmas.Bool.{ltb-true}
-use Rattle.std.proofs.lemmas.Bool.Decides.{nat_tests}
-use Rattle.std.proofs.lemmas.Grind.{common_steps}
-use Rattle.std.proofs.lemmas.List.Elements.{All-cons, All-filter, All-map, All-nil, All-tail, filter_passes}
-use Rattle.std.proofs.lemmas.List.Folds.{list_any_at}
+use Rattle.xh_books.proofs.Common.{All, All-cons, All-filter, All-map, All-nil, All-tail, AreFlightLines, DIRECTIONS, Direction, FlightLine, Holder, IsHolder, IsSomeAnd, Item, List, None, Option}
+use Rattle.xh_books.proofs.Common.{PlaceOf, Process, Some, Stands, [], ap, arith, bytes_in_flight, common_steps, cond, count_by, filter, filter_passes, flight_line, flight_lines, get_or}
+use Rattle.xh_books.proofs.Common.{is_listed, is_some, length, list_any_at, ltb-true, map, nat_lt, nat_tests, number_of, picked, range_with_len, refl, slice_get, suc, sum_by, sum_by-cons}
+use Rattle.xh_books.proofs.Common.{sum_same, sum_zero, sym, true, value_at, word_of, zip, ℕ, ◌*◌, ◌+◌, ◌<◌, ◌==◌, ◌∙◌, ◌∷◌, ◌≡◌, ◌≤◌}
 use Rattle.std.proofs.lemmas.List.FromFn.{get_or-map-range_with_len, get_or-range_with_len, length-map-range_with_len, length-range_with_len}
 use Rattle.std.proofs.lemmas.List.Kept.{AllPairs-filter}
-use Rattle.std.proofs.lemmas.List.Sums.{sum_by-cons}
-use Rattle.std.specs.Prelude.{IsSomeAnd, Option, Some, None, is_some, slice_get, count_by, filter, nat_lt, true, ◌==◌}
-use Rattle.std.specs.List.{range_with_len, sum_by, zip}
-use Rattle.xh_model.proofs.Totals.{sum_same, sum_zero}
-use Rattle.xh_model.specs.declared.event.Holder.{Holder}
-use Rattle.xh_model.specs.declared.event.Holder.TheVariants.{Process, Direction}
-use Rattle.xh_model.specs.declared.limits.TheConstants.{DIRECTIONS}
-use Rattle.xh_model.specs.Keyed.{value_at}
-use Rattle.xh_model.specs.Words.{IsHolder, number_of, word_of}
-use Rattle.xh_core.proofs.Ranges.{picked}
-use Rattle.xh_core.specs.declared.flight.FlightLine.{FlightLine}
-use Rattle.xh_place.specs.Places.{Item, PlaceOf}
-use Rattle.xh_core.specs.Flight.{AreFlightLines}
-use Rattle.xh_books.specs.Flight.{Stands, flight_line, flight_lines}
-use Rattle.xh_books.specs.Ledgers.{bytes_in_flight, is_listed}
 use Rattle.xh_books.proofs.Terms.{exchanged}
 
 -- ---- what the lines add up to
@@ -107,9 +90,8 @@ pub flying_is : (ps : List PlaceOf) (n k : ℕ) (owners : List (Option Holder)) 
     → ((i j m : ℕ) (h : Option Holder) → j ≡ k + i → slice_get lens i ≡ Some m → slice_get owners i ≡ Some h → IsHolder h × Stands ps (number_of n j) m h)
     → sum_by (λ r. sum_by (on r) (range_with_len 0 DIRECTIONS)) (zip (map word_of owners) lens) ≡ bytes_in_flight ps n k lens
 flying_is ps n k [] [] e each = refl
-flying_is ps n k [] (m ∷ ms) e each = absurd (omega arith)
-flying_is ps n k (h ∷ hs) [] e each = absurd (omega arith)
 flying_is ps n k (h ∷ hs) (m ∷ ms) e each =
     let is = each 0 k m h (omega arith) refl refl in
     let rest = flying_is ps n (k + 1) hs ms (omega arith) (λ i j x o e a b. each (suc i) j x o (omega arith) a b) in
     sum_by-cons (λ r. sum_by (on r) (range_with_len 0 DIRECTIONS)) (word_of h, m) (zip (map word_of hs) ms) ∙ (λ i. one_flying ps (number_of n k) m h is.0 is.1 i + rest i)
+flying_is ps n k owners lens e each = absurd (omega arith)

@@ -1,23 +1,9 @@
 -- What the places list of the records, and what they own.
-use Rattle.std.proofs.Common.{◌≡◌, ◌≢◌, ℕ, suc, ◌+◌, ◌%◌, ◌<◌, ◌≤◌, Bool, true, false, cond, List, [], ◌∷◌, length, sum, All, get_or, inl, inr, refl, sym, ap, ◌∙◌, arith, ◌||◌}
-use Rattle.std.proofs.lemmas.Bool.{false_from_ne_true}
-use Rattle.std.proofs.lemmas.Bool.Decides.{nat_tests}
-use Rattle.std.proofs.lemmas.List.Sums.{sum_by-cons}
-use Rattle.std.specs.Prelude.{◌==◌, Option, Some, None, is_some, slice_get}
-use Rattle.std.specs.List.{range_with_len, sum_by}
-use mathlib.Core.Logic.{dite}
+use Rattle.xh_books.proofs.Common.{All, Among, Bool, Distinct, Item, List, None, Option, PlaceOf, Some, [], ap, arith, below_get, bytes_in_flight, bytes_owned, cond, dite, false}
+use Rattle.xh_books.proofs.Common.{false_from_ne_true, get_or, index_back, index_of, inl, inr, is_listed, is_some, keys, length, nat_tests, no_key, none_at, number_back, number_of, picked}
+use Rattle.xh_books.proofs.Common.{range_with_len, refl, same_Some, slice_get, suc, sum, sum_add, sum_by, sum_by-cons, sum_same, sum_zero, sym, there, total_of, true, value_at, value_here}
+use Rattle.xh_books.proofs.Common.{value_there, ℕ, ◌%◌, ◌+◌, ◌<◌, ◌==◌, ◌||◌, ◌∙◌, ◌∷◌, ◌≡◌, ◌≢◌, ◌≤◌}
 use native.Mathlib.Decide.{ℕ_discrete}
-use Rattle.xh_calls.proofs.Lists.{below_get, there}
-use Rattle.xh_model.specs.Keyed.{Among, Distinct, keys, value_at}
-use Rattle.xh_model.specs.Slots.{index_of}
-use Rattle.xh_model.specs.Words.{number_of}
-use Rattle.xh_model.proofs.Keyed.{no_key, none_at, value_here, value_there}
-use Rattle.xh_model.proofs.Totals.{sum_add, sum_same, sum_zero}
-use Rattle.xh_model.proofs.Words.{index_back, number_back}
-use Rattle.xh_core.proofs.Ranges.{picked}
-use Rattle.xh_place.specs.Places.{Item, PlaceOf, total_of}
-use Rattle.xh_books.specs.Ledgers.{bytes_in_flight, bytes_owned, is_listed}
-use Rattle.std.proofs.lemmas.Option.{same_Some}
 use Rattle.xh_books.proofs.Terms.{exchanged, same_terms}
 
 -- the place at the index j lists the record r, and this is its block
@@ -85,7 +71,14 @@ split : (ps : List PlaceOf) (n k : ℕ) (lens : List ℕ) (f : ℕ → ℕ) → 
     → sum lens ≡ sum_by f (range_with_len k (length lens)) + bytes_in_flight ps n k lens
 split ps n k [] f each = refl
 split ps n k (m ∷ ms) f each =
-    omega (arith, sum_by-cons (λ x. x) m ms, sum_by-cons f k (range_with_len (k + 1) (length ms)), both (is_listed (number_of n k) ps) m, each 0 k m (omega arith) refl, split ps n (k + 1) ms f (λ i j x e at. each (suc i) j x (omega arith) at))
+    omega (
+      arith,
+      sum_by-cons (λ x. x) m ms,
+      sum_by-cons f k (range_with_len (k + 1) (length ms)),
+      both (is_listed (number_of n k) ps) m,
+      each 0 k m (omega arith) refl,
+      split ps n (k + 1) ms f (λ i j x e at. each (suc i) j x (omega arith) at),
+    )
 
 -- all lengths are those that the places own, and those of the records in no list
 pub all_lists : (ps : List PlaceOf) (n : ℕ) (lens : List ℕ) → 0 < n → n ≤ 256 → All (λ p. Distinct (keys p.blocks)) ps

@@ -1,33 +1,17 @@
 -- Of a channel whose ends are drained: each block that was passed on it was seen gone from there.
-use Rattle.std.proofs.Common.{◌≡◌, ℕ, ⊎_elim, List, [], ◌∷◌, ◌++◌, map, refl, sym, ap, ◌∙◌, subst, arith, true}
-use Rattle.std.specs.Prelude.{Option}
-use Rattle.xh_channel.specs.declared.laid.Laid.{Laid}
-use Rattle.xh_channel.specs.declared.message.Message.{Message}
-use Rattle.xh_channel.specs.Beside.{message_of, note_of}
-use Rattle.xh_channel.specs.Notes.{AgreesWith, ArePeers, Told}
-use Rattle.xh_channel.specs.Pairs.{IsUnused}
-use Rattle.xh_channel.specs.Queues.{Posted}
-use Rattle.xh_model.specs.declared.event.Event.{Event}
-use Rattle.xh_model.specs.Keyed.{Among}
-use Rattle.xh_model.specs.Slots.{index_of}
-use Rattle.xh_model.proofs.Keyed.{among_back, among_either, among_front}
-use Rattle.xh_place.specs.Bodies.{away, endpoint, toward}
-use Rattle.xh_place.specs.Seen.{Came, IsElsewhere, SawFrom}
-use Rattle.xh_place.proofs.Seeing.{came_more}
-use Rattle.xh_records.specs.declared.shape.Shape.{Shape}
-use Rattle.xh_records.specs.Seats.{IsRecord, Noted, RecordsOf}
-use Rattle.xh_books.specs.Lives.{AreDrained, AreLives, EachStep, HasEnded, IsStep, Lives, Step, WasSeenGone, ends}
+use Rattle.xh_books.proofs.Common.{AgreesWith, Among, AreDrained, AreLives, ArePeers, Came, EachStep, Event, HasEnded, IsElsewhere, IsRecord, IsStep, IsUnused, Laid, List, Lives, Message, Noted}
+use Rattle.xh_books.proofs.Common.{Option, Posted, RecordsOf, SawFrom, Shape, Step, Told, WasSeenGone, [], among_back, among_either, among_front, ap, arith, away, came_more, endpoint, ends}
+use Rattle.xh_books.proofs.Common.{index_of, map, message_of, note_of, refl, subst, sym, toward, true, ℕ, ⊎_elim, ◌++◌, ◌∙◌, ◌∷◌, ◌≡◌}
 use Rattle.xh_books.proofs.Living.{Goes, Went, lived}
 
 -- ---- the k-th message that was pushed is the k-th that was taken, with its note
 
 same_laid : (xs ys : List Laid) → map message_of xs ≡ map message_of ys → map note_of xs ≡ map note_of ys → xs ≡ ys
 same_laid [] [] one two = refl
-same_laid [] (y ∷ ys) one two = absurd (cc)
-same_laid (x ∷ xs) [] one two = absurd (cc)
 same_laid (x ∷ xs) (y ∷ ys) one two =
     let m : x.message ≡ y.message = cc in let n : x.note ≡ y.note = cc in let ms : map message_of xs ≡ map message_of ys = cc in let ns : map note_of xs ≡ map note_of ys = cc in
     let rest = same_laid xs ys ms ns in λ i. (record { message = m i; note = n i }) ∷ rest i
+same_laid xs ys one two = absurd (cc)
 
 module _ (all : RecordsOf) where
   -- ---- the blocks that one end's gives passed, once its peer took all that it pushed
@@ -41,10 +25,11 @@ module _ (all : RecordsOf) where
         let g = gave.2 in let t = took.2 in let is = agree.drained drained in
         same_laid gave.0 took.1
         (sym (g.pushed ∙ ap (λ (l : List Message). l ++ map message_of gave.0) giver.pushed) ∙ sym is.1 ∙ t.got ∙ ap (λ (l : List Message). l ++ map message_of took.1) taker.got)
-        (sym (g.pushed_notes ∙ ap (λ (l : List (Option Noted)). l ++ map note_of gave.0) giver.pushed_notes) ∙ sym is.2 ∙ t.got_notes ∙ ap (λ (l : List (Option Noted)). l ++ map note_of took.1) taker.got_notes)
+        (sym (g.pushed_notes ∙ ap (λ (l : List (Option Noted)). l ++ map note_of gave.0) giver.pushed_notes) ∙ sym is.2 ∙ t.got_notes
+        ∙ ap (λ (l : List (Option Noted)). l ++ map note_of took.1) taker.got_notes)
 
-    gone : (pass : Event) (front : List Event) (w r : ℕ) → IsRecord all.shape r → Went all.shape one gave.0 (away (endpoint a)) pass front w r → WasSeenGone all.shape steps pass front w r
-    gone pass front w r is went = ⊎_elim
+    gone : (pass : Event) (front : List Event) (w r : ℕ) → Went all.shape one gave.0 (away (endpoint a)) pass front w r → WasSeenGone all.shape steps pass front w r
+    gone pass front w r went = ⊎_elim
         (λ g. (g.0, first g.0 g.1, g.2))
         (λ g. let x : Laid = g.0 in let t = took.4 x (subst (λ (l : List Laid). Among l x) same g.1) in
         let seen = t.3 r g.2 in let s : Step = t.0 in let k : ℕ = index_of s.old.place.shape.records r in (
@@ -54,13 +39,13 @@ module _ (all : RecordsOf) where
             seen.0,
             seen.1,
             subst (λ (z : Shape). SawFrom (Came pass front) z s.new.front (index_of z.records r) seen.0) t.2.1
-                (⊎_elim (λ h. (h.0, came_more pass front g.3 h.1.1, h.2)) (λ n. absurd (n.0 (subst (λ (z : Shape). IsRecord z r) (sym t.2.1) is))) seen.2),
+                (⊎_elim (λ h. (h.0, came_more pass front g.3 h.1.1, h.2)) (λ n. absurd (n.0 (subst (λ (z : Shape). IsRecord z r) (sym t.2.1) g.4))) seen.2),
           ),
         ))
         went.1
 
-    pub all_gone : EachStep all (WasSeenGone all.shape steps) one
-    all_gone s among r given is = gone _ s.old.front _ r is (gave.3 s among r given is)
+    pub all_gone : EachStep (WasSeenGone all.shape steps) one
+    all_gone s among r given = gone _ s.old.front _ r (gave.3 s among r given)
 
   -- ---- both ends
 
@@ -83,7 +68,7 @@ module _ (all : RecordsOf) where
           contract = ap (λ (t : Told). t.has_contract) b ∙ p.contract ∙ sym (ap (λ (t : Told). t.has_contract) a);
         }
 
-    pub are_gone : AreDrained low high → EachStep all (WasSeenGone all.shape (lows ++ highs)) (lows ++ highs)
+    pub are_gone : AreDrained low high → EachStep (WasSeenGone all.shape (lows ++ highs)) (lows ++ highs)
     are_gone is s among =
         let p = lives.opened in let l = p.low_unused in let h = p.high_unused in let front = among_front lows highs in let back = among_back lows highs in
         let up : away (endpoint lives.first) ≡ toward (endpoint lives.other) = omega (arith, p.channel, p.low_side, p.high_side) in

@@ -1,33 +1,11 @@
 -- What the locks of a kernel kept: its pens, and their lawful histories.
-use Rattle.std.proofs.Common.{◌≡◌, ℕ, zero, suc, ◌+◌, ◌<◌, List, [], ◌∷◌, All, length, map, refl, sym, ap, ◌∙◌, subst, arith}
-use Rattle.std.proofs.Math.Logic.{∥∥₁_map}
-use Rattle.std.proofs.lemmas.List.{get_or-map, length-map}
-use Rattle.std.proofs.lemmas.List.Sums.{sum_by-cons}
-use Rattle.std.specs.List.{sum_by}
-use Rattle.std.specs.Prelude.{slice_index, Result, Ok, Err, IfOk}
-use Rattle.xh_arena.specs.Views.{TallyOf, VaultOf}
-use Rattle.xh_calls.specs.Parts.{IsOpen, PartsOf, vault_names}
-use Rattle.xh_core.specs.declared.ledger.ArenaLine.{ArenaLine}
-use Rattle.xh_core.specs.declared.flight.FlightLine.{FlightLine}
-use Rattle.xh_core.specs.declared.ledger.Ledger.{Ledger}
-use Rattle.xh_core.specs.declared.refused.Refused.{Refused}
+use Rattle.xh_books.proofs.Common.{AccountOf, All, AllBegan, AllWorked, AreKept, AreLawful, ArenaLine, Books, Err, FlightLine, IfOk, IsBalanced, IsClosed, IsInFlight, IsLawfulHistory, IsOpen}
+use Rattle.xh_books.proofs.Common.{IsSumOver, Ledger, List, Ok, PartsOf, Pens, PlaceSeen, RecordsOf, Refused, Result, TallyOf, VaultOf, [], all_lengths, ap, arena_count, arena_line, arena_lines}
+use Rattle.xh_books.proofs.Common.{arenas_of, arith, at, bytes_in_flight, bytes_owned, get_or-map, length, length-map, map, place_lines, places_of, refl, slice_index, subst, suc, sum_by}
+use Rattle.xh_books.proofs.Common.{sum_by-cons, sym, taken_of, vault_names, zero, ℕ, ∥∥₁_map, ◌+◌, ◌<◌, ◌∙◌, ◌∷◌, ◌≡◌}
 use Rattle.xh_glance.specs.Look.{LookOf}
-use Rattle.xh_history.specs.Histories.{at}
-use Rattle.xh_kernel.specs.declared.scribe.Pens.{Pens}
-use Rattle.xh_kernel.specs.Accounts.{AccountOf}
 use Rattle.xh_kernel.specs.Finished.{AreInOrder, WereSeen, histories_of, tallies_of}
-use Rattle.xh_kernel.specs.Histories.{IsLawfulHistory}
-use Rattle.xh_kernel.specs.Kept.{AreKept}
-use Rattle.xh_kernel.specs.Places.{places_of}
 use Rattle.xh_kernel.proofs.Compared.{kept_at}
-use Rattle.xh_model.specs.Cover.{bytes_out, holes_of}
-use Rattle.xh_records.specs.Seats.{RecordsOf}
-use Rattle.xh_place.specs.Seen.{PlaceSeen}
-use Rattle.xh_books.specs.Closing.{IsClosed, IsSumOver}
-use Rattle.xh_books.specs.declared.closing.Books.{Books}
-use Rattle.xh_books.specs.Flight.{IsInFlight}
-use Rattle.xh_books.specs.Ledgers.{IsBalanced, all_lengths, arena_lines, arenas_of, bytes_in_flight, bytes_owned, place_lines, taken_of}
-use Rattle.xh_books.specs.Sums.{AllBegan, AllWorked, AreLawful, arena_count}
 use Rattle.xh_books.proofs.Summing.{all_back_in_lines}
 use Rattle.xh_books.proofs.Sums.{all_back_is, all_taken_is, as_many_tallies}
 
@@ -50,15 +28,11 @@ sums_same f xs ys e = by_tallies xs ∙ ap (sum_by f) e ∙ sym (by_tallies ys) 
   by_tallies [] = refl
   by_tallies (a ∷ zs) = omega (arith, by_tallies zs, sum_by-cons (λ (b : AccountOf). f b.tallies) a zs, sum_by-cons f a.tallies (tallies_of zs))
 
--- the line of an arena of which so much was taken and came back
-abbrev line_with : VaultOf → ℕ → ℕ → ArenaLine
-line_with v taken back = record { size = length v.arena.cover; out = bytes_out v.arena.cover; holes = length (holes_of v.arena.cover); taken = taken; back = back }
-
 pub lines_same : (xs ys : List AccountOf) → tallies_of xs ≡ tallies_of ys → (k : ℕ) (vs : List VaultOf) → arena_lines xs k vs ≡ arena_lines ys k vs
 lines_same xs ys e k [] = refl
 lines_same xs ys e k (v ∷ vs) =
     let t = sums_same (λ ts. slice_index (map (λ t. t.taken) ts) k) xs ys e in let b = sums_same (λ ts. slice_index (map (λ t. t.back) ts) k) xs ys e in
-    λ i. line_with v (t i) (b i) ∷ lines_same xs ys e (suc k) vs i
+    λ i. record (arena_line xs k v) { taken = t i; back = b i } ∷ lines_same xs ys e (suc k) vs i
 
 -- ---- a closed kernel
 

@@ -1,26 +1,13 @@
 -- What the lines of a ledger have in common.
-use Rattle.std.proofs.Common.{◌≡◌, ◌<◌, ℕ, suc, List, [], ◌∷◌, All, length, arith, ap, refl}
-use Rattle.std.proofs.lemmas.List.Elements.{All-cons, All-head, All-nil, All-tail}
-use Rattle.std.specs.List.{cons_option}
-use Rattle.xh_arena.specs.Views.{VaultOf}
-use Rattle.xh_core.specs.declared.ledger.ArenaLine.{ArenaLine}
-use Rattle.xh_core.specs.declared.ledger.PlaceLine.{PlaceLine}
-use Rattle.xh_core.specs.declared.status.Status.{Status}
-use Rattle.xh_core.specs.declared.status.Status.TheVariants.{Vacant, Running, Ending, Ended}
-use Rattle.xh_kernel.specs.Accounts.{AccountOf}
-use Rattle.xh_calls.specs.Parts.{IsOpen, PartsOf, vault_names}
-use Rattle.xh_model.specs.declared.limits.TheConstants.{PLACES}
-use Rattle.xh_place.specs.Places.{PlaceOf, line, line_in}
-use Rattle.xh_books.specs.Ledgers.{arena_line, arena_lines, place_lines}
+use Rattle.xh_books.proofs.Common.{AccountOf, All, All-cons, All-head, All-nil, All-tail, ArenaLine, IsOpen, List, PLACES, PartsOf, PlaceLine, PlaceOf, Status, Vacant, VaultOf, [], ap, arena_line}
+use Rattle.xh_books.proofs.Common.{arena_lines, arith, cons_option, length, line, line_in, place_lines, refl, suc, vault_names, ℕ, ◌<◌, ◌∷◌, ◌≡◌}
 
 abbrev IsWithin : PlaceLine → Type 0
 IsWithin l = l.place < PLACES
 
 line_within : (s : Status) (p : PlaceOf) (lines : List PlaceLine) → All IsWithin lines → All IsWithin (cons_option (line_in s (line p)) lines)
 line_within Vacant p lines h = h
-line_within Running p lines h = All-cons IsWithin (line p) lines (omega arith) h
-line_within Ending p lines h = All-cons IsWithin (line p) lines (omega arith) h
-line_within Ended p lines h = All-cons IsWithin (line p) lines (omega arith) h
+line_within s p lines h = All-cons IsWithin (line p) lines (omega arith) h
 
 -- the lines of the places are those of the first 32
 pub lines_within : (places : List PlaceOf) → All (λ l. l.place < PLACES) (place_lines places)

@@ -1,3 +1,4 @@
+pub mod Common
 pub mod Collected
 pub mod Summing
 pub mod Audited
@@ -10,7 +11,7 @@ pub mod Passing
 pub mod Closed
 pub mod LedgerLines
 pub mod Sums
-pub mod Stepping
+pub mod Working
 pub mod Kept
 pub mod Carried
 pub mod Living

@@ -1,29 +1,11 @@
 -- What the steps of an end's life say of what it pushed and took: of each block that a give passed, that it was seen gone, or that it went with a message whose note tells of the pass;
 -- and of each block of a message that was taken, that it was seen gone since its note was heard.
-use Rattle.std.proofs.Common.{◌≡◌, ℕ, ◌+◌, ◌-◌, ◌*◌, ◌⊎◌, ⊎_elim, inl, inr, List, [], ◌∷◌, ◌++◌, map, refl, sym, ap, ◌∙◌, subst}
-use Rattle.std.specs.Prelude.{Err, Ok, Option, Result, OnErr, Some}
-use Rattle.xh_channel.specs.declared.laid.Laid.{Laid}
-use Rattle.xh_channel.specs.declared.unsent.Unsent.{Unsent}
-use Rattle.xh_channel.specs.Numbers.{message}
-use Rattle.xh_channel.specs.Notes.{Told}
-use Rattle.xh_channel.specs.Queues.{Posted}
-use Rattle.xh_core.specs.declared.refused.Refused.{Refused}
-use Rattle.xh_model.specs.declared.event.Event.{Event}
-use Rattle.xh_model.specs.declared.event.Event.TheVariants.{Pass}
-use Rattle.xh_model.specs.Keyed.{Among, value_at}
-use Rattle.xh_model.specs.Slots.{index_of}
-use Rattle.xh_model.proofs.Keyed.{among_back, among_either, among_front}
-use Rattle.xh_place.specs.declared.got.Got.{Got}
-use Rattle.xh_place.specs.declared.got.Got.TheVariants.{Here, Missing}
-use Rattle.xh_place.specs.Bodies.{away, endpoint, toward}
+use Rattle.xh_books.proofs.Common.{Among, Came, Deed, DoesWith, EachPassed, EachStep, Err, Event, Got, HasLeft, Here, IsElsewhere, IsPlaceOf, IsRecord, IsSeen, IsSent, Item, Laid, List, Lives}
+use Rattle.xh_books.proofs.Common.{Missing}
+use Rattle.xh_books.proofs.Common.{Noted, Ok, OnErr, Option, Pass, PlaceSeen, Posted, RecordsOf, Refused, Result, SawFrom, Shape, Some, Step, Told, Unsent, WasSeenGone, [], among_back}
+use Rattle.xh_books.proofs.Common.{among_either, among_front, ap, away, away_in, endpoint, ends, finds_none, gives, index_of, inl, inr, map, message, passed_by, refl, subst, sym, takes, told}
+use Rattle.xh_books.proofs.Common.{toward, toward_in, value_at, ℕ, ⊎_elim, ◌*◌, ◌++◌, ◌+◌, ◌-◌, ◌∙◌, ◌∷◌, ◌≡◌, ◌⊎◌}
 use Rattle.xh_place.specs.Endpoints.{AreGot, AreUnpacked, Puts, record_of}
-use Rattle.xh_place.specs.Ends.{away_in, toward_in}
-use Rattle.xh_place.specs.Messages.{IsSent}
-use Rattle.xh_place.specs.Places.{IsPlaceOf, Item}
-use Rattle.xh_place.specs.Seen.{Came, HasLeft, IsElsewhere, IsSeen, PlaceSeen, SawFrom, told}
-use Rattle.xh_records.specs.declared.shape.Shape.{Shape}
-use Rattle.xh_records.specs.Seats.{Noted, RecordsOf}
-use Rattle.xh_books.specs.Lives.{Deed, DoesWith, EachPassed, EachStep, Lives, Step, WasSeenGone, ends, finds_none, gives, passed_by, takes}
 use Rattle.xh_books.proofs.Carried.{Carries, carries_both, carries_none, ended, put_none, put_one, took_none, took_one}
 
 -- ---- the blocks of messages that were taken
@@ -56,15 +38,15 @@ HearsAll all steps d xs = (x : Laid) → Among xs x → (s : Step) × Among step
 -- the record was seen gone by one of these steps, or went with one of these messages, whose note tells of its pass
 abbrev pub Went : Shape → List Step → List Laid → ℕ → Event → List Event → ℕ → ℕ → Type 0
 Went shape steps puts way pass front d r =
-    (d ≡ way) × (WasSeenGone shape steps pass front d r ⊎ ((x : Laid) × Among puts x × Among x.message.blocks.items r × Came pass front (told x.note)))
+    (d ≡ way) × (WasSeenGone shape steps pass front d r ⊎ ((x : Laid) × Among puts x × Among x.message.blocks.items r × Came pass front (told x.note) × IsRecord shape r))
 
 -- what these steps did from the one end to the other
 abbrev pub Goes : RecordsOf → List Step → Posted → Posted → Type 0
-Goes all steps old new = (puts taken : List Laid) × Carries puts taken old new × EachStep all (Went all.shape steps puts (away (endpoint old))) steps × HearsAll all steps (toward (endpoint old)) taken
+Goes all steps old new = (puts taken : List Laid) × Carries puts taken old new × EachStep (Went all.shape steps puts (away (endpoint old))) steps × HearsAll all steps (toward (endpoint old)) taken
 
 module _ (all : RecordsOf) where
-  one_step : (P : Event → List Event → ℕ → ℕ → Type 0) (s : Step) → EachPassed all P s → EachStep all P (s ∷ [])
-  one_step P s h t among = ⊎_elim (λ (e : t ≡ s). subst (EachPassed all P) (sym e) h) (λ none. absurd none) among
+  one_step : (P : Event → List Event → ℕ → ℕ → Type 0) (s : Step) → EachPassed P s → EachStep P (s ∷ [])
+  one_step P s h t among = ⊎_elim (λ (e : t ≡ s). subst (EachPassed P) (sym e) h) (λ none. absurd none) among
 
   -- a step that took one message after another, and passed nothing
   took : (s : Step) (taken : List Laid) (before after : Posted) → IsPlaceOf all s.old.place → passed_by s.deed ≡ [] → Carries [] taken before after
@@ -73,7 +55,7 @@ module _ (all : RecordsOf) where
     [],
     taken,
     carries,
-    one_step (Went all.shape (s ∷ []) [] (away (endpoint before))) s (λ r among is. absurd (subst (λ (l : List ℕ). Among l r) none among)),
+    one_step (Went all.shape (s ∷ []) [] (away (endpoint before))) s (λ r among. absurd (subst (λ (l : List ℕ). Among l r) none among)),
     λ x among. (s, inl refl, own, each x among),
   )
 
@@ -104,14 +86,14 @@ module _ (all : RecordsOf) where
         [],
         put_one sent.note tag sent.blocks count before sent.made.1 put,
         one_step (Went all.shape (step ∷ []) (x ∷ []) (away (endpoint before))) step
-            (λ r among is. (out, inr (x, inl refl, subst (λ (l : List ℕ). Among l r) (sym sent.all) among, sent.noted.1 r among))),
+            (λ r among. (out, inr (x, inl refl, subst (λ (l : List ℕ). Among l r) (sym sent.all) among, sent.noted.1 r among, subst (λ (s : Shape). IsRecord s r) own.1 (sent.records r among)))),
         λ y none. absurd none,
       )
       go (Err why) put lost = let t = put_none sent.note tag sent.blocks why before sent.made.1 put in (
         t.0,
         [],
         t.1,
-        one_step (Went all.shape (step ∷ []) t.0 (away (endpoint before))) step (λ r among is. (out, inl (left r (lost r among)))),
+        one_step (Went all.shape (step ∷ []) t.0 (away (endpoint before))) step (λ r among. (out, inl (left r (lost r among)))),
         λ y none. absurd none,
       )
 
@@ -136,17 +118,10 @@ module _ (all : RecordsOf) where
       let s : Step = record { deed = ends came; old = old; new = new } in let t = h.0 in
       goes_as (s ∷ []) p t.2 p q refl h.1 (took s t.0 p t.2 own refl (ended t.0 p t.1 t.2 t.3 t.4) (unpacked_each (IsSeen old new) (toward (endpoint p)) t.0 came t.5))
 
-  -- the directions of an end are those of its number and its side
-  abbrev toward_it : Told → ℕ
-  toward_it t = 2 * t.channel + t.side
-
-  abbrev away_from : Told → ℕ
-  away_from t = 2 * t.channel + 1 - t.side
-
   -- what steps did is what more steps did
   wider : (one two : List Step) (ps qs : List Laid) (way : ℕ) (pass : Event) (front : List Event) (d r : ℕ) → ((s : Step) → Among one s → Among two s) → ((x : Laid) → Among ps x → Among qs x)
       → Went all.shape one ps way pass front d r → Went all.shape two qs way pass front d r
-  wider one two ps qs way pass front d r steps laid h = (h.0, ⊎_elim (λ g. inl (g.0, steps g.0 g.1, g.2)) (λ g. inr (g.0, laid g.0 g.1, g.2, g.3)) h.1)
+  wider one two ps qs way pass front d r steps laid h = (h.0, ⊎_elim (λ g. inl (g.0, steps g.0 g.1, g.2)) (λ g. inr (g.0, laid g.0 g.1, g.2, g.3, g.4)) h.1)
 
   goes_both : (one two : List Step) (a b c : Posted) → Goes all one a b → Goes all two b c → Goes all (one ++ two) a c
   goes_both one two a b c g h =
@@ -154,13 +129,15 @@ module _ (all : RecordsOf) where
         g.0 ++ h.0,
         g.1 ++ h.1,
         carries_both a b c g.0 h.0 g.1 h.1 g.2 h.2,
-        λ s among r given is. ⊎_elim
-            (λ m. wider one (one ++ two) g.0 (g.0 ++ h.0) (away (endpoint a)) _ s.old.front _ r front (among_front g.0 h.0) (g.3 s m r given is))
-            (λ m. let t = wider two (one ++ two) h.0 (g.0 ++ h.0) (away (endpoint b)) _ s.old.front _ r back (among_back g.0 h.0) (h.3 s m r given is) in (t.0 ∙ ap away_from g.2.same, t.1))
+        λ s among r given. ⊎_elim
+            (λ m. wider one (one ++ two) g.0 (g.0 ++ h.0) (away (endpoint a)) _ s.old.front _ r front (among_front g.0 h.0) (g.3 s m r given))
+            (λ m. let t = wider two (one ++ two) h.0 (g.0 ++ h.0) (away (endpoint b)) _ s.old.front _ r back (among_back g.0 h.0) (h.3 s m r given) in
+            (t.0 ∙ ap (λ (e : Told). 2 * e.channel + 1 - e.side) g.2.same, t.1))
             (among_either one two s among),
         λ x among. ⊎_elim
             (λ m. let t = g.4 x m in (t.0, front t.0 t.1, t.2, t.3))
-            (λ m. let t = h.4 x m in (t.0, back t.0 t.1, t.2, subst (λ (n : ℕ). EachSeen (IsSeen t.0.old t.0.new x.note) n x.message.blocks.items) (ap toward_it g.2.same) t.3))
+            (λ m. let t = h.4 x m in
+            (t.0, back t.0 t.1, t.2, subst (λ (n : ℕ). EachSeen (IsSeen t.0.old t.0.new x.note) n x.message.blocks.items) (ap (λ (e : Told). 2 * e.channel + e.side) g.2.same) t.3))
             (among_either g.1 h.1 x among),
       )
 

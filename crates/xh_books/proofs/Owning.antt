@@ -1,37 +1,10 @@
 -- What the places list is what the closed table's lots have, each once.
-use Rattle.std.proofs.Common.{get_or, ◌≡◌, ℕ, ◌+◌, ◌%◌, ◌<◌, ◌≤◌, Bool, false, List, map, length, sum, All, sym, refl, ap, ◌∙◌, subst, arith}
-use Rattle.std.specs.Prelude.{IsSomeAnd, Option, Some, None, option_map, slice_get}
-use Rattle.std.specs.List.{zip}
-use Rattle.std.proofs.Math.Nat.{mod-lt}
-use Rattle.std.proofs.lemmas.Bool.{false_from_ne_true}
-use Rattle.std.proofs.lemmas.List.{length-map}
-use Rattle.std.proofs.lemmas.Option.{MatchOption-at_some, get_or_from_slice_get, same_Some, slice_get-map}
-use Rattle.std.proofs.lemmas.Slice.Zip.{AllZip-left, AllZip-right}
-use Rattle.xh_arena.specs.Views.{LotOf}
-use Rattle.xh_calls.proofs.Lists.{below_get, there}
-use Rattle.xh_core.specs.declared.flight.FlightLine.{FlightLine}
-use Rattle.xh_kernel.specs.Places.{places_of}
-use Rattle.xh_model.specs.declared.event.Event.{Event}
-use Rattle.xh_model.specs.declared.event.Holder.{Holder}
-use Rattle.xh_model.specs.declared.event.Holder.TheVariants.{Process, Direction}
-use Rattle.xh_model.specs.Keyed.{value_at}
-use Rattle.xh_model.specs.Slots.{index_of}
-use Rattle.xh_model.specs.Words.{IsHeldBy, IsHolder, number_of, place_of, word_of}
-use Rattle.xh_model.proofs.Words.{arena_of_number, index_back, number_back, place_of_number}
-use Rattle.xh_place.specs.declared.body.Body.{Body}
-use Rattle.xh_place.specs.Moves.{moves}
-use Rattle.xh_place.specs.Places.{IsPlaceOf, Item, PlaceOf, item_of}
-use Rattle.xh_place.specs.Seen.{PlaceSeen}
-use Rattle.xh_records.specs.declared.shape.Shape.{Shape}
-use Rattle.xh_records.specs.History.{StartsWith, by_place}
-use Rattle.xh_records.specs.Seats.{Ends, Held, IsSeatOf, RecordsOf, lot_in}
-use Rattle.xh_records.specs.Showing.{IsLotAt}
-use Rattle.xh_records.proofs.Elements.{elem_slice, in_range, is_there, slice_elem}
-use Rattle.xh_records.proofs.Keeps.{never, one_holder, same_place}
-use Rattle.xh_books.specs.Ledgers.{bytes_in_flight, bytes_owned, is_listed}
-use Rattle.xh_core.specs.Flight.{AreFlightLines}
-use Rattle.xh_books.specs.Flight.{IsInFlight, Stands, flight_lines}
-use Rattle.xh_books.specs.inner.Steps.{AreAt, AreFronts, AreSeats, IsSeatOfPlace, TellFlight, lens_of}
+use Rattle.xh_books.proofs.Common.{All, AllZip-left, AllZip-right, AreAt, AreFlightLines, AreFronts, AreSeats, Body, Bool, Direction, Ends, Event, FlightLine, Held, Holder, IsHeldBy, IsHolder}
+use Rattle.xh_books.proofs.Common.{IsInFlight, IsLotAt, IsPlaceOf, IsSeatOf, IsSeatOfPlace, IsSomeAnd, Item, List, LotOf, MatchOption-at_some, None, Option, PlaceOf, PlaceSeen, Process, RecordsOf}
+use Rattle.xh_books.proofs.Common.{Shape, Some, Stands, StartsWith, TellFlight, ap, arena_of_number, arith, below_get, by_place, bytes_in_flight, bytes_owned, elem_slice, false}
+use Rattle.xh_books.proofs.Common.{false_from_ne_true, flight_lines, get_or, get_or_from_slice_get, in_range, index_back, index_of, is_listed, is_there, item_of, length, length-map, lens_of}
+use Rattle.xh_books.proofs.Common.{lot_in, map, mod-lt, moves, never, number_back, number_of, one_holder, option_map, place_of, place_of_number, places_of, refl, same_Some, same_place, slice_elem}
+use Rattle.xh_books.proofs.Common.{slice_get, slice_get-map, subst, sum, sym, there, value_at, word_of, zip, ℕ, ◌%◌, ◌+◌, ◌<◌, ◌∙◌, ◌≡◌, ◌≤◌}
 use Rattle.xh_books.proofs.Audited.{len_at}
 use Rattle.xh_books.proofs.Passing.{was_passed}
 use Rattle.xh_books.proofs.FlightLines.{all_full, are_lines, flying_is}
@@ -44,18 +17,17 @@ there_is None P h = absurd h
 there_is (Some x) P h = (x, refl, h)
 
 seat_at : (xs : List (Held Body)) (ps : List PlaceOf) (j : ℕ) (p : PlaceOf) → AreSeats xs ps → slice_get ps j ≡ Some p → (x : Held Body) × (slice_get xs j ≡ Some x) × IsSeatOfPlace x p
-seat_at xs ps j p are at = there_is (slice_get xs j) (λ x. IsSeatOfPlace x p) (MatchOption-at_some (Unit {0}) (λ q. IsSomeAnd (slice_get xs j) (λ x. IsSeatOfPlace x q)) p at (AllZip-right IsSeatOfPlace xs ps are j))
+seat_at xs ps j p are at = there_is (slice_get xs j) (λ x. IsSeatOfPlace x p)
+    (MatchOption-at_some (Unit {0}) (λ q. IsSomeAnd (slice_get xs j) (λ x. IsSeatOfPlace x q)) p at (AllZip-right IsSeatOfPlace xs ps are j))
 
 place_at : (xs : List (Held Body)) (ps : List PlaceOf) (j : ℕ) (x : Held Body) → AreSeats xs ps → slice_get xs j ≡ Some x → (p : PlaceOf) × (slice_get ps j ≡ Some p) × IsSeatOfPlace x p
-place_at xs ps j x are at = there_is (slice_get ps j) (IsSeatOfPlace x) (MatchOption-at_some (Unit {0}) (λ y. IsSomeAnd (slice_get ps j) (IsSeatOfPlace y)) x at (AllZip-left IsSeatOfPlace xs ps are j))
-
-all_at : {A : Type 0} (P : A → Type 0) (xs : List A) (k : ℕ) (x : A) → All P xs → slice_get xs k ≡ Some x → P x
-all_at P xs k x all at = subst P (get_or_from_slice_get xs k x x at) (all k x (below_get xs k x at))
+place_at xs ps j x are at = there_is (slice_get ps j) (IsSeatOfPlace x)
+    (MatchOption-at_some (Unit {0}) (λ y. IsSomeAnd (slice_get ps j) (IsSeatOfPlace y)) x at (AllZip-left IsSeatOfPlace xs ps are j))
 
 -- the seats are those of the table
 pub seats_own : (all : RecordsOf) (xs : List (Held Body)) (ps : List PlaceOf) (k : ℕ) (x : Held Body) → AreSeats xs ps → All (IsPlaceOf all) ps → slice_get xs k ≡ Some x → IsSeatOf all x
 seats_own all xs ps k x are of_ at =
-    let q = place_at xs ps k x are at in let own = all_at (IsPlaceOf all) ps k q.0 of_ q.1 in
+    let q = place_at xs ps k x are at in let own = subst (IsPlaceOf all) (get_or_from_slice_get ps k q.0 q.0 q.1) (of_ k q.0 (below_get ps k q.0 q.1)) in
     (q.2.same.0 ∙ own.0, q.2.same.1 ∙ own.1)
 
 module _ (fits : Body → ℕ → Bool) (all : RecordsOf) (seats : List (Held Body)) (places : List PlaceSeen) (words : List ℕ) (lots : List (LotOf Body))

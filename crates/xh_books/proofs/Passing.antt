@@ -1,25 +1,11 @@
 -- A record in flight on a direction was passed to it last.
-use Rattle.std.proofs.Common.{◌≡◌, ◌≢◌, ℕ, zero, suc, ◌⊎◌, inl, inr, ⊎_elim, List, [], ◌∷◌, sym, ap, subst}
-use Rattle.std.specs.Prelude.{Some}
-use Rattle.atomic_table.proofs.Lists.{at_set}
-use Rattle.xh_model.specs.declared.event.Event.{Event}
-use Rattle.xh_model.specs.declared.event.Event.TheVariants.{Claim, Carve, Cut, GiveBack, Vacate, Pass, Accept}
-use Rattle.xh_model.specs.declared.event.Holder.TheVariants.{Direction}
-use Rattle.xh_model.specs.Keyed.{Among}
-use Rattle.xh_model.specs.Slots.{index_of}
-use Rattle.xh_model.specs.Words.{IsDone, IsHeldBy, Ownership, record_of, to_of}
-use Rattle.xh_records.specs.History.{LeadsTo, all_free}
-use Rattle.xh_books.specs.Flight.{WasPassed}
+use Rattle.xh_books.proofs.Common.{Among, Direction, Event, IsDone, IsHeldBy, LeadsTo, List, Ownership, Pass, Some, WasPassed, [], all_free, ap, at_set, index_of, inl, inr, record_of, subst, suc}
+use Rattle.xh_books.proofs.Common.{sym, to_of, zero, ℕ, ⊎_elim, ◌∷◌, ◌≡◌, ◌≢◌, ◌⊎◌}
 
 -- only a pass leads to a direction
 only_pass : (e : Event) (d : ℕ) → to_of e ≡ Some (Direction d) → (p : ℕ) × (e ≡ Pass p (record_of e) d)
-only_pass (Claim p r) d t = absurd (cc)
-only_pass (Carve p r n) d t = absurd (cc)
-only_pass (Cut p r u k) d t = absurd (cc)
-only_pass (GiveBack p r) d t = absurd (cc)
-only_pass (Vacate p r) d t = absurd (cc)
 only_pass (Pass p r b) d t = (p, let same : b ≡ d = cc in ap (Pass p r) same)
-only_pass (Accept p r b) d t = absurd (cc)
+only_pass e d t = absurd (cc)
 
 -- it was, or it was on the direction before and nothing was done with it
 abbrev Either : ℕ → Ownership → List Event → ℕ → ℕ → Type 0

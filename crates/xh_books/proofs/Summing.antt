@@ -1,27 +1,20 @@
 -- The sums over the lines of the arenas.
-use Rattle.std.proofs.Common.{◌≡◌, ℕ, suc, ◌+◌, List, [], ◌∷◌, length, get_or, map, sum, All, refl, ap, ◌∙◌, arith}
-use Rattle.std.proofs.lemmas.Grind.{common_steps}
-use Rattle.std.specs.Prelude.{slice_index}
-use Rattle.std.specs.List.{range_with_len, sum_by}
-use Rattle.std.proofs.lemmas.List.Elements.{All-map}
-use Rattle.std.proofs.lemmas.List.Sums.{sum-map, sum_by-append, sum_by-cons}
-use Rattle.std.proofs.lemmas.List.{length-map}
-use Rattle.xh_core.proofs.Ranges.{indexed}
+use Rattle.xh_books.proofs.Common.{AccountOf, All, All-map, AreBooks, ArenaLine, List, TableId, TallyOf, VaultOf, [], all_back, all_lengths, all_taken, ap, arena_line, arena_lines, arenas_of}
+use Rattle.xh_books.proofs.Common.{arith, closed_line, common_steps, get_or, indexed, length, length-map, lengths_of, map, range_with_len, refl, slice_index, suc, sum, sum-map, sum_by}
+use Rattle.xh_books.proofs.Common.{sum_by-append, sum_by-cons, vault_names, ℕ, ◌+◌, ◌∙◌, ◌∷◌, ◌≡◌}
 use Rattle.xh_books.proofs.Terms.{exchanged, same_terms}
-use Rattle.atomic_table.specs.Seated.{TableId}
-use Rattle.xh_arena.specs.Views.{TallyOf, VaultOf}
-use Rattle.xh_core.specs.declared.ledger.ArenaLine.{ArenaLine}
-use Rattle.xh_kernel.specs.Accounts.{AccountOf}
-use Rattle.xh_calls.specs.Parts.{vault_names}
-use Rattle.xh_model.specs.Arena.{lengths_of}
-use Rattle.xh_books.specs.Ledgers.{all_back, all_lengths, all_taken, arena_line, arena_lines, arenas_of}
-use Rattle.xh_books.specs.inner.Steps.{AreBooks, closed_line}
 use Rattle.xh_books.proofs.Collected.{Named, as_many}
 
 -- what the lines say was handed out is the sum of all lengths
 pub outs_are : (vs : List VaultOf) → All AreBooks vs → sum_by (λ l. l.out) (map closed_line vs) ≡ sum (all_lengths (arenas_of vs))
 outs_are [] books = refl
-outs_are (v ∷ vs) books = grind (arith, common_steps, (books 0 v (omega arith)).0, outs_are vs (λ k d h. books (suc k) d (omega arith)), sum_by-append (λ n. n) (lengths_of v.arena) (all_lengths (arenas_of vs)))
+outs_are (v ∷ vs) books = grind (
+  arith,
+  common_steps,
+  (books 0 v (omega arith)).0,
+  outs_are vs (λ k d h. books (suc k) d (omega arith)),
+  sum_by-append (λ n. n) (lengths_of v.arena) (all_lengths (arenas_of vs)),
+)
 
 -- each arena handed out what was taken of it less what came back
 abbrev pub IsEven : ArenaLine → Type 0
@@ -41,13 +34,8 @@ module _ (f : ArenaLine → ℕ) (g : TallyOf → ℕ) (is : (all : List Account
   by_arena all k (v ∷ vs) =
       let next : suc k ≡ k + 1 = omega arith in
       let rest = by_arena all (suc k) vs ∙ ap (λ j. sum_by (λ i. sum_by (λ a. slice_index (map g a.tallies) i) all) (range_with_len j (length vs))) next in
-      omega (
-        arith,
-        rest,
-        is all k v,
-        sum_by-cons f (arena_line all k v) (arena_lines all (suc k) vs),
-        sum_by-cons (λ i. sum_by (λ a. slice_index (map g a.tallies) i) all) k (range_with_len (k + 1) (length vs)),
-      )
+      let first = sum_by-cons f (arena_line all k v) (arena_lines all (suc k) vs) in
+      let same = sum_by-cons (λ i. sum_by (λ a. slice_index (map g a.tallies) i) all) k (range_with_len (k + 1) (length vs)) in omega (arith, rest, is all k v, first, same)
 
   pub by_account : (vs : List VaultOf) (all : List AccountOf) → All (λ a. length a.tallies ≡ length vs) all → sum_by f (arena_lines all 0 vs) ≡ sum_by (λ a. sum_by g a.tallies) all
   by_account vs all each =

@@ -1,37 +1,12 @@
 -- The sums over a worker's calls, as its account says.
-use Rattle.std.proofs.Common.{◌≡◌, ℕ, zero, suc, ◌+◌, ◌*◌, ◌/◌, ◌<◌, cond, List, [], ◌∷◌, ◌++◌, length, get_or, map, refl}
-use Rattle.std.proofs.Common.{sym, ap, ◌∙◌, subst, ⊎_elim, arith, All, length-set}
-use Rattle.std.proofs.lemmas.List.Elements.{All-cons, All-nil}
-use mathlib.Core.Logic.{∥∥₁_elim}
-use Rattle.std.specs.Coded.{le_prop}
-use Rattle.std.proofs.lemmas.List.{get_or_default, length-map}
-use Rattle.std.proofs.lemmas.List.Recursion.{is_sum_by}
-use Rattle.std.proofs.lemmas.List.Sums.{sum_by-append, sum_by-cons, sum_by-set}
-use Rattle.std.specs.Prelude.{◌==◌, slice_index, slice_set, Ok}
-use Rattle.std.specs.List.{range_with_len, sum_by}
-use Rattle.atomic_table.specs.Seated.{TableId}
-use Rattle.xh_arena.specs.Views.{TallyOf}
-use Rattle.xh_calls.proofs.Moved.{none_back}
-use Rattle.xh_calls.specs.Parts.{PartsOf}
-use Rattle.xh_calls.specs.Tallies.{fresh_tally}
-use Rattle.xh_history.specs.Histories.{HasSeen, History, at, calls_of}
-use Rattle.xh_kernel.specs.declared.call.Call.{Call}
-use Rattle.xh_kernel.specs.declared.call.Call.TheVariants as call
-use Rattle.xh_kernel.specs.Accounts.{AccountOf, HasBack, HasGiven, HasTaken, IsUnmoved, fresh}
-use Rattle.xh_kernel.specs.Histories.{IsLawfulHistory, Leads}
-use Rattle.xh_core.specs.declared.glance.Glance.{Glance}
-use Rattle.xh_place.specs.Seen.{PlaceSeen}
-use Rattle.xh_books.specs.Ledgers.{all_back, taken_of}
-use Rattle.xh_books.specs.Sums.{AllWorked, MakesOne, Moves, SeesOthers, Steps, Worked, arena_count, back_in, sum_of, sum_of_all, taken_in}
-use Rattle.xh_model.specs.declared.limits.TheConstants.{END_BYTES, MAX_RECORDS, PLACES}
-use Rattle.xh_place.proofs.Swept.{gave_some}
+use Rattle.xh_books.proofs.Common.{AccountOf, All, All-cons, All-nil, AllWorked, Call, END_BYTES, Glance, HasBack, HasSeen, HasTaken, History, Leads, List, MAX_RECORDS, MakesOne, Moves, Ok}
+use Rattle.xh_books.proofs.Common.{PLACES, PartsOf, PlaceSeen, SeesOthers, TableId, TallyOf, Worked, Works, [], all_back, ap, arena_count, arith, at, back_in, calls_of, common_steps, cond, fresh}
+use Rattle.xh_books.proofs.Common.{fresh_tally, gave_some, get_or, get_or_default, indexed, is_sum_by, le_prop, length, length-map, length-set, map, nat_tests, none_back, picked, range_with_len}
+use Rattle.xh_books.proofs.Common.{refl, same_range, slice_index, slice_set, subst, suc, sum_by, sum_by-append, sum_by-cons, sum_by-set, sum_of, sum_of_all, sum_same, sym, taken_in, taken_of}
+use Rattle.xh_books.proofs.Common.{took, zero, ℕ, ∥∥₁_elim, ⊎_elim, ◌*◌, ◌++◌, ◌+◌, ◌/◌, ◌<◌, ◌==◌, ◌∙◌, ◌∷◌, ◌≡◌}
 use Rattle.xh_place.specs.Ending.{HasGivenBack, back_of, but_back}
-use Rattle.xh_place.specs.Tallies.{took}
-use Rattle.std.proofs.lemmas.Bool.Decides.{nat_tests}
-use Rattle.std.proofs.lemmas.Grind.{common_steps}
-use Rattle.xh_core.proofs.Ranges.{indexed, picked, same_range}
-use Rattle.xh_model.proofs.Totals.{sum_same}
 use Rattle.xh_books.proofs.Terms.{exchanged, same_terms}
+use Rattle.xh_kernel.specs.declared.call.Call.TheVariants as call
 
 -- ---- tallies
 
@@ -47,9 +22,8 @@ took_same (suc a) n (t ∷ ts) = let rest = took_same a n ts in (ap suc rest.0, 
 took_at : (a n arena : ℕ) (ts : List TallyOf) → arena < length ts → taken_at arena (took a n ts) ≡ taken_at arena ts + cond (a == arena) n 0
 took_at a n arena [] h = absurd (omega arith)
 took_at zero n zero (t ∷ ts) h = refl
-took_at zero n (suc arena) (t ∷ ts) h = grind arith
-took_at (suc a) n zero (t ∷ ts) h = grind arith
 took_at (suc a) n (suc arena) (t ∷ ts) h = grind (arith, took_at a n arena ts (omega arith))
+took_at a n arena (t ∷ ts) h = grind arith
 
 but_taken : (ts : List TallyOf) → map (λ t. t.taken) (but_back ts) ≡ map (λ t. t.taken) ts
 but_taken [] = refl
@@ -82,22 +56,16 @@ module _ (old new : AccountOf) where
         back = m.1.0;
       }
 
-  unmoved : IsUnmoved old new → Went (λ _. 0) 0 old new
-  unmoved m = reclaiming 0 (m.0, none_back old.tallies new.tallies m.1)
-
-  giving : (a n : ℕ) → HasGiven a n old new → Went (λ _. 0) n old new
-  giving a n m = reclaiming n (m.0, subst (HasGivenBack n old.tallies) (sym m.1) (gave_some a n old.tallies m.2))
-
   went : (e : Call) → Moves e old new → Went (λ arena. taken_in arena e) (back_in e) old new
   went (call.Alloc p n a (Ok b)) m = taking a b.len m
   went (call.Open p a contract (Ok ends)) m = taking a (2 * END_BYTES) m
   went (call.OpenToward p a contract (Ok wired)) m = taking a (2 * END_BYTES) m
-  went (call.Free p r (Ok n)) m = giving (r / MAX_RECORDS) n m
+  went (call.Free p r (Ok n)) m = reclaiming n (m.0, subst (HasGivenBack n old.tallies) (sym m.1) (gave_some (r / MAX_RECORDS) n old.tallies m.2))
   went (call.Receive q r channel bytes result) m = reclaiming bytes m
   went (call.CloseAgain p r channel bytes) m = reclaiming bytes m
   went (call.Close p e bytes result) m = reclaiming bytes m
   went (call.Stop p budget bytes result) m = reclaiming bytes m
-  went e m = unmoved m
+  went e m = reclaiming 0 (m.0, none_back old.tallies new.tallies m.1)
 
 -- ---- sums over histories
 
@@ -197,14 +165,14 @@ module _ (parts : PartsOf) (names : List TableId) (k : ℕ) where
         back = ap back_of m.3.1 ∙ s.back ∙ sym (same back_in);
       }
 
-  steps : (n : ℕ) (a : AccountOf) → Steps parts n (fresh names k) a → AreSums names k a
-  steps zero a e = subst (λ (x : AccountOf). AreSums names k x) (sym e) at_first
-  steps (suc n) a s = let ih = steps n s.0 s.1 in ⊎_elim (made s.0 a ih) (saw s.0 a ih) s.2
+  works : (n : ℕ) (a : AccountOf) → Works parts n (fresh names k) a → AreSums names k a
+  works zero a e = subst (λ (x : AccountOf). AreSums names k x) (sym e) at_first
+  works (suc n) a s = let ih = works n s.0 s.1 in ⊎_elim (made s.0 a ih) (saw s.0 a ih) s.2
 
 -- the sums over the histories
 module _ (parts : PartsOf) (hs : List (History Call)) where
   reached : (k : ℕ) (a : AccountOf) → Worked parts hs k a → AreSums parts.records.shape.names k a
-  reached k a w = steps parts parts.records.shape.names k w.0.0 a w.0.1
+  reached k a w = works parts parts.records.shape.names k w.0.0 a w.0.1
 
   same_sum : (f : Call → ℕ) (k : ℕ) (a : AccountOf) → Worked parts hs k a → sum_of f k hs ≡ sum_of f k a.fronts
   same_sum f k a w =
@@ -224,7 +192,13 @@ by_number : (g : ℕ → ℕ) (part : AccountOf → ℕ) (j : ℕ) (all : List A
     → sum_by part all ≡ sum_by g (range_with_len j (length all))
 by_number g part j [] is = refl
 by_number g part j (a ∷ all) is =
-    omega (arith, is 0 j a (omega arith) (omega arith), by_number g part (j + 1) all (λ i k d e h. is (suc i) k d (omega arith) (omega arith)), sum_by-cons part a all, sum_by-cons g j (range_with_len (j + 1) (length all)))
+    omega (
+      arith,
+      is 0 j a (omega arith) (omega arith),
+      by_number g part (j + 1) all (λ i k d e h. is (suc i) k d (omega arith) (omega arith)),
+      sum_by-cons part a all,
+      sum_by-cons g j (range_with_len (j + 1) (length all)),
+    )
 
 summed : (f : Call → ℕ) (part : AccountOf → ℕ) (all : List AccountOf) (hs : List (History Call))
     → ((k : ℕ) (d : AccountOf) → k < length all → part (get_or all k d) ≡ sum_of f k hs) → All (λ h. All (λ c. c.0 < length all) h) hs → sum_by part all ≡ sum_of_all f hs
@@ -239,13 +213,10 @@ module _ (parts : PartsOf) where
   leads_within old new [] gs l = All-nil IsOfWorker
   leads_within old new (c ∷ h) gs l = All-cons IsOfWorker c h l.5.worker (leads_within l.1 new h l.3 l.7)
 
-  lawful_within : (k : ℕ) (h : History Call) → IsLawfulHistory parts k h → All IsOfWorker h
-  lawful_within k h lawful = λ j d below. ∥∥₁_elim lawful le_prop (λ l. leads_within l.2.0 l.1 h l.2.1 l.2.4 j d below)
-
 module _ (parts : PartsOf) (hs : List (History Call)) (all : List AccountOf) (w : AllWorked parts hs all) where
   within : All (λ h. All (λ c. c.0 < length all) h) hs
   within p d below = subst (λ (n : ℕ). All (λ (c : ℕ × Call). c.0 < n) (get_or hs p d)) (sym w.0)
-      (subst (All (IsOfWorker parts)) (get_or_default hs p [] d below) (lawful_within parts p (at hs p) (w.3 p below)))
+      (subst (All (IsOfWorker parts)) (get_or_default hs p [] d below) (λ j e inside. ∥∥₁_elim (w.3 p below) le_prop (λ l. leads_within parts l.2.0 l.1 (at hs p) l.2.1 l.2.4 j e inside)))
 
   pub all_taken_is : (arena : ℕ) → arena < arena_count parts → sum_by (taken_of arena) all ≡ sum_of_all (taken_in arena) hs
   all_taken_is arena h = summed (taken_in arena) (taken_of arena) all hs (λ k d lt. worked_taken parts hs k (get_or all k d) (w.1 k d lt, w.2 k d lt) arena h) within

@@ -1,10 +1,5 @@
 -- Sums of sums.
-use Rattle.std.proofs.Common.{◌≡◌, ℕ, ◌+◌, List, [], ◌∷◌, All, refl, sym, ap, ◌∙◌, arith}
-use Rattle.std.proofs.lemmas.Grind.{common_steps}
-use Rattle.std.proofs.lemmas.List.Elements.{All-tail}
-use Rattle.std.proofs.lemmas.List.Sums.{sum_by-cons}
-use Rattle.std.specs.List.{sum_by}
-use Rattle.xh_model.proofs.Totals.{sum_add, sum_same, sum_zero}
+use Rattle.xh_books.proofs.Common.{All, All-tail, List, [], ap, arith, common_steps, refl, sum_add, sum_by, sum_by-cons, sum_same, sum_zero, sym, ℕ, ◌+◌, ◌∙◌, ◌∷◌, ◌≡◌}
 
 -- the two sums may change places
 pub exchanged : {X : Type 0} (f : X → ℕ → ℕ) (xs : List X) (ks : List ℕ) → sum_by (λ k. sum_by (λ x. f x k) xs) ks ≡ sum_by (λ x. sum_by (f x) ks) xs

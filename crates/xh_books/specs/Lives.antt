@@ -22,7 +22,7 @@ use Rattle.xh_place.specs.Places.{IsPlaceOf, Item, PlaceOf}
 use Rattle.xh_place.specs.Seen.{Came, IsElsewhere, IsSeen, PlaceSeen, SawFrom}
 use Rattle.xh_records.specs.declared.shape.Shape.{Shape}
 use Rattle.xh_records.specs.History.{StartsWith}
-use Rattle.xh_records.specs.Seats.{IsRecord, RecordsOf}
+use Rattle.xh_records.specs.Seats.{RecordsOf}
 use Rattle.xh_books.specs.Flight.{IsInFlight}
 
 -- ---- a life
@@ -103,13 +103,13 @@ abbrev pub way_of : Deed → PlaceOf → ℕ
 way_of (gives e tag given result) p = away_in (value_at e p.blocks)
 way_of _ p = DIRECTIONS
 
--- it is so of each block that the step passed, of a record that there is: of its pass, the front before that, the direction and the record
-abbrev pub EachPassed : RecordsOf → (Event → List Event → ℕ → ℕ → Type 0) → Step → Type 0
-EachPassed all P s = let d : ℕ = way_of s.deed s.old.place in (r : ℕ) → Among (passed_by s.deed) r → IsRecord all.shape r → P (Pass s.old.place.process r d) s.old.front d r
+-- it is so of each block that the step passed: of its pass, the front before that, the direction and the record
+abbrev pub EachPassed : (Event → List Event → ℕ → ℕ → Type 0) → Step → Type 0
+EachPassed P s = let d : ℕ = way_of s.deed s.old.place in (r : ℕ) → Among (passed_by s.deed) r → P (Pass s.old.place.process r d) s.old.front d r
 
 -- and of each of these steps
-abbrev pub EachStep : RecordsOf → (Event → List Event → ℕ → ℕ → Type 0) → List Step → Type 0
-EachStep all P steps = (s : Step) → Among steps s → EachPassed all P s
+abbrev pub EachStep : (Event → List Event → ℕ → ℕ → Type 0) → List Step → Type 0
+EachStep P steps = (s : Step) → Among steps s → EachPassed P s
 
 -- Once the pass had come, one of these steps saw that the record was in flight on the direction no more.
 abbrev pub WasSeenGone : Shape → List Step → Event → List Event → ℕ → ℕ → Type 0
@@ -127,12 +127,12 @@ WasPassedAgain {s} {places} {lengths} {lines} books pass front d r =
     (held : IsHeldBy books.owners (index_of s.records r) (Some (Direction d))) → Came pass front (books.passed (index_of s.records r) d held).0
 
 -- The pass of the record r by p to d that stands in the log behind these events is the step's own: the first such since the front before the step.
-abbrev pub IsOwnPass : RecordsOf → Step → List Event → ℕ → ℕ → ℕ → Type 0
-IsOwnPass all s before p r d = Among (passed_by s.deed) r × IsRecord all.shape r × (s.old.place.process ≡ p) × (way_of s.deed s.old.place ≡ d)
+abbrev pub IsOwnPass : Step → List Event → ℕ → ℕ → ℕ → Type 0
+IsOwnPass s before p r d = Among (passed_by s.deed) r × (s.old.place.process ≡ p) × (way_of s.deed s.old.place ≡ d)
     × ((more : List Event) × (before ≡ s.old.front ++ more) × (Among more (Pass p r d) → ⊥))
 
 -- Each record in flight on the direction was passed there last by a give of a channel, both of whose ends are drained.
 abbrev pub ArePassedByDrained : (all : RecordsOf) {places : List PlaceSeen} {lengths : List ℕ} {lines : List FlightLine} → IsInFlight all.shape places lengths lines → ℕ → Type 0
 ArePassedByDrained all {places} {lengths} {lines} books d = (k : ℕ) (held : IsHeldBy books.owners k (Some (Direction d)))
     → (lows highs : List Step) × (low high : Posted) × AreLives all lows highs low high × AreDrained low high × HaveSeenAll places (lows ++ highs)
-    × (s : Step) × Among (lows ++ highs) s × (let w = books.passed k d held in IsOwnPass all s w.0 w.2 w.3 d)
+    × (s : Step) × Among (lows ++ highs) s × (let w = books.passed k d held in IsOwnPass s w.0 w.2 w.3 d)

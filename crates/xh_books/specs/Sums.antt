@@ -51,19 +51,19 @@ MakesOne parts old new = (p : ℕ) × (e : Call) × (p < PLACES) × Made parts p
 abbrev pub SeesOthers : AccountOf → AccountOf → Type 0
 SeesOthers old new = (p : ℕ) × (h : History Call) × HasSeen old.number (at old.fronts p) h × IsUnmoved old new × (new.fronts ≡ slice_set old.fronts p h)
 
--- it did n of these steps, one after another
-abbrev pub Steps : PartsOf → ℕ → AccountOf → AccountOf → Type 0
-Steps parts zero old new = new ≡ old
-Steps parts (suc n) old new = (mid : AccountOf) × Steps parts n old mid × (MakesOne parts mid new ⊎ SeesOthers mid new)
+-- its work: n of these, one after another
+abbrev pub Works : PartsOf → ℕ → AccountOf → AccountOf → Type 0
+Works parts zero old new = new ≡ old
+Works parts (suc n) old new = (mid : AccountOf) × Works parts n old mid × (MakesOne parts mid new ⊎ SeesOthers mid new)
 
 abbrev pub Reaches : PartsOf → AccountOf → AccountOf → Type 0
-Reaches parts old new = (n : ℕ) × Steps parts n old new
+Reaches parts old new = (n : ℕ) × Works parts n old new
 
--- what the contract of a call says is that it was some steps
-abbrev pub AreSteps : PartsOf → (AccountOf → AccountOf → Type 0) → Type 0
-AreSteps parts Contract = (old new : AccountOf) → Contract old new → Reaches parts old new
+-- what the contract of a call says is that it was some such work
+abbrev pub AreWork : PartsOf → (AccountOf → AccountOf → Type 0) → Type 0
+AreWork parts Contract = (old new : AccountOf) → Contract old new → Reaches parts old new
 
--- the worker k of a kernel of these parts began with a fresh account, and its steps led to this one
+-- the worker k of a kernel of these parts began with a fresh account, and its work led to this one
 abbrev pub Began : PartsOf → ℕ → AccountOf → Type 0
 Began parts k a = Reaches parts (fresh parts.records.shape.names k) a
 

@@ -22,17 +22,18 @@ ghost use Rattle.xh_records.specs.Seats.{RecordsOf};
 /// once more: no line of flight counts a block whose last pass was a step of these lives. A direction on which
 /// each block was passed last by a give of such a channel has no line.
 ///
-/// That an end is, where it is used next, what it was where it was used last is a premise here. Within one place
-/// its contracts say so. While the end itself is in flight from one place to another, no rule of the records does:
-/// it does not say that the lot that comes is the lot that was passed.
+/// Two things are premises here. The first: an end is, where it is used next, what it was where it was used last.
+/// Within one place its contracts say so. While the end itself is in flight from one place to another, no rule of the
+/// records does: it does not say that the lot that comes is the lot that was passed. The second: both ends at last
+/// agree, as a comparison of the two says. A closed end went with its block, so nothing compares them any more.
 pub fn drained_channels_are_empty()
     ensures peers { (all : RecordsOf) (lows highs : List Step) (low high : Posted) → AreLives all lows highs low high → ArePeers low high }
     ensures drained { (all : RecordsOf) (steps : List Step) (first last : Posted) → Lives all steps first last → HasEnded steps → first.has_contract ≡ true → last.drained ≡ true }
     ensures gone { (all : RecordsOf) (lows highs : List Step) (low high : Posted) → AreLives all lows highs low high → AreDrained low high
-        → EachStep all (WasSeenGone all.shape (lows ++ highs)) (lows ++ highs) }
+        → EachStep (WasSeenGone all.shape (lows ++ highs)) (lows ++ highs) }
     ensures closed { (all : RecordsOf) (lows highs : List Step) (low high : Posted) → AreLives all lows highs low high → AreDrained low high
         → (places : List PlaceSeen) (lengths : List ℕ) (lines : List FlightLine) (books : IsInFlight all.shape places lengths lines) → HaveSeenAll places (lows ++ highs)
-        → EachStep all (WasPassedAgain books) (lows ++ highs) }
+        → EachStep (WasPassedAgain books) (lows ++ highs) }
     ensures empty { (all : RecordsOf) (places : List PlaceSeen) (lengths : List ℕ) (lines : List FlightLine) (books : IsInFlight all.shape places lengths lines) (d : ℕ)
         → ArePassedByDrained all books d → All (λ l. l.direction ≢ d) lines }
 {}

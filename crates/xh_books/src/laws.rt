@@ -3,7 +3,7 @@ ghost use Rattle.std.specs.Prelude.{◌≡◌, ℕ, List, Option, Result};
 ghost use Rattle.std.specs.List.{sum_by};
 ghost use Rattle.xh_books.specs.Closing.{IsClosed, IsSumOver};
 ghost use Rattle.xh_books.specs.Ledgers.{all_back, taken_of};
-ghost use Rattle.xh_books.specs.Sums.{AllBegan, AllWorked, AreSteps, EachArena, Moves, Worked, back_in, sum_of, sum_of_all, taken_in};
+ghost use Rattle.xh_books.specs.Sums.{AllBegan, AllWorked, AreWork, EachArena, Moves, Worked, back_in, sum_of, sum_of_all, taken_in};
 ghost use Rattle.xh_calls.specs.declared.several.Answered.{Answered};
 ghost use Rattle.xh_calls.specs.Parts.{PartsOf};
 ghost use Rattle.xh_core.specs.declared.block.Block.{Block};
@@ -23,18 +23,18 @@ ghost use Rattle.xh_kernel.specs.Wires.{Opens, Wires};
 ghost use Rattle.xh_model.specs.declared.row.Row.{Row};
 ghost use Rattle.xh_place.specs.declared.got.Taken.{Taken};
 
-/// Each call of the kernel is some steps of the worker whose account it has, by what its contract says: those
+/// Each call of the kernel is work of the worker whose account it has, by what its contract says: those
 /// that are one entry of a history, and each of the others.
-pub fn calls_are_steps()
-    ensures one { (parts : PartsOf) (p : ℕ) (e : Call) → AreSteps parts (λ old new. Calls parts p e old new × Moves e old new) }
-    ensures spawn { (parts : PartsOf) (result : Result ℕ Refused) → AreSteps parts (λ old new. SpawnsAt parts old new result) }
-    ensures open { (parts : PartsOf) (p arena : ℕ) (c : Option (List Row)) (result : Result (Block × Block) Refused) → AreSteps parts (λ old new. Opens parts p arena c old new result) }
-    ensures wire { (parts : PartsOf) (p q arena : ℕ) (c : Option (List Row)) (result : Result (Block × Block) Refused) → AreSteps parts (λ old new. Wires parts p q arena c old new result) }
-    ensures close { (parts : PartsOf) (p e : ℕ) (result : Result ℕ Refused) → AreSteps parts (λ old new. Closes parts p e old new result) }
-    ensures exit { (parts : PartsOf) (p budget : ℕ) (result : Result ℕ Refused) → AreSteps parts (λ old new. Exits parts p budget old new result) }
-    ensures kill { (parts : PartsOf) (by victim budget : ℕ) (result : Result ℕ Refused) → AreSteps parts (λ old new. Kills parts by victim budget old new result) }
-    ensures take { (parts : PartsOf) (p e : ℕ) (vain done : Result Taken Refused) → AreSteps parts (AtLast parts p (call.Take p e vain) (call.Take p e done)) }
-    ensures take_any { (parts : PartsOf) (p : ℕ) (ends : List ℕ) (vain done : Result Answered Refused) → AreSteps parts (AtLast parts p (call.TakeAny p ends vain) (call.TakeAny p ends done)) }
+pub fn calls_are_work()
+    ensures one { (parts : PartsOf) (p : ℕ) (e : Call) → AreWork parts (λ old new. Calls parts p e old new × Moves e old new) }
+    ensures spawn { (parts : PartsOf) (result : Result ℕ Refused) → AreWork parts (λ old new. SpawnsAt parts old new result) }
+    ensures open { (parts : PartsOf) (p arena : ℕ) (c : Option (List Row)) (result : Result (Block × Block) Refused) → AreWork parts (λ old new. Opens parts p arena c old new result) }
+    ensures wire { (parts : PartsOf) (p q arena : ℕ) (c : Option (List Row)) (result : Result (Block × Block) Refused) → AreWork parts (λ old new. Wires parts p q arena c old new result) }
+    ensures close { (parts : PartsOf) (p e : ℕ) (result : Result ℕ Refused) → AreWork parts (λ old new. Closes parts p e old new result) }
+    ensures exit { (parts : PartsOf) (p budget : ℕ) (result : Result ℕ Refused) → AreWork parts (λ old new. Exits parts p budget old new result) }
+    ensures kill { (parts : PartsOf) (by victim budget : ℕ) (result : Result ℕ Refused) → AreWork parts (λ old new. Kills parts by victim budget old new result) }
+    ensures take { (parts : PartsOf) (p e : ℕ) (vain done : Result Taken Refused) → AreWork parts (AtLast parts p (call.Take p e vain) (call.Take p e done)) }
+    ensures take_any { (parts : PartsOf) (p : ℕ) (ends : List ℕ) (vain done : Result Answered Refused) → AreWork parts (AtLast parts p (call.TakeAny p ends vain) (call.TakeAny p ends done)) }
 {}
 
 /// What an account says was taken of an arena is the sum of what the worker's calls took there, and what it

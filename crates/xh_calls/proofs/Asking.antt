@@ -1,43 +1,10 @@
 -- A refusal for want of space is that of the arena's vault.
-use Rattle.std.proofs.Common.{◌≡◌, ℕ, ◌<◌, ◌*◌, ⊎_elim, inl, inr, [], ◌∷◌, sym, subst}
-use Rattle.std.specs.Prelude.{Bool, true, false, cond, Option, Some, None, Result, Ok, Err, IfErr, MatchOption, MatchResult, OnOk, ⊤}
+use Rattle.xh_calls.proofs.Common.{Block, END_BYTES, Err, FrontOf, IfErr, IsRefusedBy, IsUnopened, LacksSpace, Leaves, MatchOption, None, Ok, OnOk, Option, PartsOf, Refused, Result, Some, Tests}
+use Rattle.xh_calls.proofs.Common.{Unopened, VaultOf, first_refusal, inl, inr, ℕ, ⊎_elim, ⊤, ◌*◌, ◌<◌, ◌≡◌}
 use Rattle.xh_arena.specs.declared.refused.Refused.{Refused as Reason}
 use Rattle.xh_arena.specs.declared.refused.Refused.TheVariants as arena
-use Rattle.xh_arena.specs.Views.{VaultOf}
-use Rattle.xh_core.specs.declared.block.Block.{Block}
-use Rattle.xh_core.specs.declared.refused.Refused.{Refused}
 use Rattle.xh_core.specs.declared.refused.Refused.TheVariants as refused
-use Rattle.xh_core.specs.Refusing.{Tests, first_refusal}
-use Rattle.xh_history.specs.Histories.{FrontOf}
-use Rattle.xh_model.specs.declared.limits.TheConstants.{END_BYTES}
-use Rattle.xh_place.specs.declared.opening.Unopened.{Unopened}
-use Rattle.xh_place.specs.Ends.{IsUnopened}
 use Rattle.xh_place.specs.Vaults.{IsNoPair, IsRefusedAt}
-use Rattle.xh_calls.specs.inner.Opening.{LacksSpace}
-use Rattle.xh_calls.specs.Parts.{PartsOf}
-use Rattle.xh_calls.specs.Vaults.{IsRefusedBy, Leaves}
-
--- this is so of each refusal of the tests
-abbrev pub EachRefusal : (Refused → Type 0) → Tests → Type 0
-EachRefusal P [] = Unit {0}
-EachRefusal P (test ∷ tests) = P test.1 × EachRefusal P tests
-
-first_is : (P : Refused → Type 0) (tests : Tests) → EachRefusal P tests → MatchOption (first_refusal tests) (Unit {0}) P
-first_is P [] each = tt
-first_is P (test ∷ tests) each = go test.0 (first_is P tests each.1) where
-  go : (b : Bool) → MatchOption (first_refusal tests) (Unit {0}) P → MatchOption (cond b (Some test.1) (first_refusal tests)) (Unit {0}) P
-  go true rest = each.0
-  go false rest = rest
-
--- what an open answers, whose refusals by its tests and after them are such
-pub unopened_after : (P : Refused → Type 0) (tests : Tests) → EachRefusal P tests
-    → (opened : Result (Block × Block) Unopened) (result : Result (Block × Block) Refused) (Q : Refused → Type 0) (S : Type 0)
-    → MatchResult opened (λ ends. result ≡ Ok ends) (λ u. result ≡ Err u.why) → IsUnopened tests S Q opened → ((e : Refused) → Q e → P e) → IfErr result P
-unopened_after P tests each (Ok ends) result Q S is why more = subst (λ (r : Result (Block × Block) Refused). IfErr r P) (sym is) tt
-unopened_after P tests each (Err u) result Q S is why more = subst (λ (r : Result (Block × Block) Refused). IfErr r P) (sym is) (go _ (first_refusal tests) (first_is P tests each) why) where
-  go : (X : Type 0) (o : Option Refused) → MatchOption o (Unit {0}) P → MatchOption o (Q u.why) (λ e. (u.why ≡ e) × X × S) → P u.why
-  go X None first h = more u.why h
-  go X (Some e) first h = subst P (sym h.0) first
 
 -- what the refusal of a lent vault says
 module _ {V : Type 0} (changes : V → V → ℕ → VaultOf → VaultOf → Type 0) (old new : V) (parts : PartsOf) (f g : FrontOf VaultOf) (a : ℕ)

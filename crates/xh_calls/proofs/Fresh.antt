@@ -1,11 +1,5 @@
 -- New accounts.
-use Rattle.std.proofs.Common.{◌≡◌, ℕ, List, [], ◌∷◌, map, ◌++◌, refl, ap, ◌∙◌, sym}
-use Rattle.std.proofs.lemmas.List.{map_push}
-use Rattle.atomic_table.specs.Seated.{TableId}
-use Rattle.xh_arena.specs.Views.{TallyOf}
-use Rattle.xh_place.specs.Tallies.{ids_of}
-use Rattle.xh_calls.specs.Tallies.{fresh_tally}
-use Rattle.xh_calls.specs.inner.Making.{AreFreshTallies}
+use Rattle.xh_calls.proofs.Common.{AreFreshTallies, List, TableId, TallyOf, [], ap, fresh_tally, ids_of, map, map_push, refl, sym, ℕ, ◌++◌, ◌∙◌, ◌∷◌, ◌≡◌}
 
 ids_fresh : (k : ℕ) (zs : List TableId) → ids_of (map (fresh_tally k) zs) ≡ zs
 ids_fresh k [] = refl

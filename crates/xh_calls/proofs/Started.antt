@@ -1,11 +1,6 @@
 -- What the first tests of a call, which refused nothing, leave to the tests of its place.
-use Rattle.std.proofs.Common.{◌≡◌, ◌∙◌, ◌++◌, ap, sym, subst}
-use Rattle.std.specs.Prelude.{Option, Some, None, Result, Err, MatchOption, MatchResult}
-use Rattle.xh_core.proofs.Firsts.{first_later}
-use Rattle.xh_core.specs.declared.refused.Refused.{Refused}
+use Rattle.xh_calls.proofs.Common.{Err, MatchOption, MatchResult, None, Option, Refused, Result, Running, Some, Tested, Tests, ap, first_later, first_refusal, subst, sym, ◌++◌, ◌∙◌, ◌≡◌}
 use Rattle.xh_core.specs.declared.status.Status.{Status}
-use Rattle.xh_core.specs.declared.status.Status.TheVariants.{Running}
-use Rattle.xh_core.specs.Refusing.{Tested, Tests, first_refusal}
 use Rattle.xh_place.specs.Starts.{start as starts}
 
 module _ (tests more : Tests) (none : first_refusal tests ≡ None) (state : Status) (run : state ≡ Running) where

@@ -1,8 +1,6 @@
 -- A list from its place k on.
-use Rattle.std.proofs.Common.{◌≡◌, ℕ, zero, suc, ◌+◌, ◌≤◌, List, [], ◌∷◌, ◌++◌, length, take, drop, Some, refl, sym, ap, add-one, arith}
-use Rattle.std.specs.Prelude.{slice_get}
+use Rattle.xh_calls.proofs.Common.{List, Some, TableId, [], add-one, ap, arith, drop, length, refl, slice_get, suc, sym, take, zero, ℕ, ◌++◌, ◌+◌, ◌∷◌, ◌≡◌, ◌≤◌}
 use Rattle.std.proofs.lemmas.Option.{get_or_from_slice_get}
-use Rattle.atomic_table.specs.Seated.{TableId}
 
 drop_cons' : (zs : List TableId) (k : ℕ) (z : TableId) (rest : List TableId) → z ∷ rest ≡ drop k zs → (slice_get zs k ≡ Some z) × (rest ≡ drop (suc k) zs)
 drop_cons' [] zero z rest e = absurd (cc)

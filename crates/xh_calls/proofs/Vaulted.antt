@@ -1,15 +1,11 @@
 -- The vault of an arena's lock stays one of that arena under each call, and its history ends in it.
-use Rattle.std.proofs.Common.{◌≡◌, ℕ, [], ◌∷◌, ◌++◌, length, refl, sym, ap, ◌∙◌, subst}
-use Rattle.std.specs.Prelude.{◌≤◌, Option, Some, Result, Ok, Err, IfOk, IfErr, MatchOption, slice_set}
+use Rattle.xh_calls.proofs.Common.{EndsIn, Enters, Err, FrontOf, HasSeen, History, IfErr, IfOk, IsKeptAt, IsPenOf, IsRefusedBy, IsVaultOf, LotOf, MatchOption, Ok, Option, PartsOf, PenOf, Result}
+use Rattle.xh_calls.proofs.Common.{Some, TallyOf, VaultOf, [], ap, at, length, refl, slice_set, subst, sym, ℕ, ◌++◌, ◌∙◌, ◌∷◌, ◌≡◌, ◌≤◌}
 use Rattle.xh_arena.specs.declared.refused.Refused.{Refused}
 use Rattle.xh_arena.specs.Refusals.{RefusesCarve}
 use Rattle.xh_arena.specs.Sharing.{IsVaultCarved, IsVaultCut, IsVaultGivenBack}
-use Rattle.xh_arena.specs.Views.{LotOf, TallyOf, VaultOf}
-use Rattle.xh_history.specs.Histories.{FrontOf, HasSeen, History, PenOf, at}
 use Rattle.xh_model.specs.Arena.{ArenaState, IsLawfulArena}
-use Rattle.xh_model.proofs.Calls.{carved_records, carved_size, cut_records, cut_size, back_records, back_size}
-use Rattle.xh_calls.specs.Parts.{PartsOf, IsVaultOf}
-use Rattle.xh_calls.specs.Vaults.{EndsIn, Enters, IsKeptAt, IsPenOf, IsRefusedBy}
+use Rattle.xh_model.proofs.Calls.{back_records, back_size, carved_records, carved_size, cut_records, cut_size}
 
 ends_push : (v : VaultOf) (h : History VaultOf) (k : ℕ) → EndsIn v (h ++ (k, v) ∷ [])
 ends_push v [] k = refl

@@ -19,10 +19,7 @@ use xh_core::{Block, Refused};
 use xh_place::{Gate, Place};
 
 impl<N: Names> Heap<N> {
-    /// A new data block of `n` bytes of the arena, rounded up to a multiple of 16, all of them zero.
-    ///
-    /// NoProcess, Ended, NoArena, BadSize where `n` is 0 or more than an arena has, NoRecord, OutOfMemory
-    /// where a growth was refused, NoSpace, Worn.
+    /// As `Kernel::alloc`, by whoever has the place's lock.
     pub fn alloc<R: Wait, G: Gate>(
         &self,
         rt: &R,
@@ -45,11 +42,7 @@ impl<N: Names> Heap<N> {
         at_desk!(rt, self, gate, till, tallies, desk => place.alloc(alloc, &mut desk, n, arena))
     }
 
-    /// Cuts a data block after its first `k` bytes, a multiple of 16: the head, which keeps its record, and
-    /// the tail, of the same arena.
-    ///
-    /// NoProcess, Ended, NotOwned, NotData, BadCut where `k` is 0, no multiple of 16 or not less than the
-    /// block has, NoRecord, OutOfMemory where a growth was refused.
+    /// As `Kernel::split`, by whoever has the place's lock.
     pub fn split<R: Wait, G: Gate>(
         &self,
         rt: &R,
@@ -70,10 +63,7 @@ impl<N: Names> Heap<N> {
         at_desk!(rt, self, gate, till, &mut [], desk => place.split(alloc, &mut desk, r, k))
     }
 
-    /// The bytes of a data block from `at` on, as many as `out` has.
-    ///
-    /// NoProcess, Ended, NotOwned, NotData, BadRange where they reach past its end; `out` stays as it was
-    /// then.
+    /// As `Kernel::read`, by whoever has the place's lock.
     pub fn read(
         &self,
         place: &mut Place,
@@ -91,9 +81,7 @@ impl<N: Names> Heap<N> {
         place.read(&self.records, r, at, out)
     }
 
-    /// These bytes stand in a data block in the place of as many from `at` on.
-    ///
-    /// NoProcess, Ended, NotOwned, NotData, BadRange where they reach past its end.
+    /// As `Kernel::write`, by whoever has the place's lock.
     pub fn write(
         &self,
         place: &mut Place,
@@ -110,9 +98,7 @@ impl<N: Names> Heap<N> {
         place.write(&self.records, r, at, bytes)
     }
 
-    /// A data block's bytes go back, and its record is free. It answers the bytes.
-    ///
-    /// NoProcess, Ended, NotOwned, NotData.
+    /// As `Kernel::free`, by whoever has the place's lock.
     pub fn free<R: Wait, G: Gate>(
         &self,
         rt: &R,

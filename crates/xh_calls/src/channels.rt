@@ -97,10 +97,7 @@ impl<N: Names> Heap<N> {
         at_desk!(rt, self, gate, till, tallies, desk => place.open(&mut desk, low, high, arena))
     }
 
-    /// Both ends of a new channel come to the process: side 0 and side 1, each of 32 bytes, the halves of
-    /// one first fit of 64 bytes of the arena. The channel goes by the contract, or by none.
-    ///
-    /// NoProcess, Ended, NoArena, NoChannel where each channel is taken, NoRecord, NoSpace, Worn.
+    /// As `Kernel::open`, by whoever has the place's lock; the channel goes by the contract, or by none.
     pub fn open<R: Wait, G: Gate>(
         &self,
         rt: &R,

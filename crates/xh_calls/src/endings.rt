@@ -14,10 +14,7 @@ use xh_core::Refused;
 use xh_place::{Gate, Place};
 
 impl<N: Names> Heap<N> {
-    /// Closes the endpoint `e`: it goes, and what was on its way to it. Its peer may still take what the
-    /// process had given by it. It answers the bytes reclaimed.
-    ///
-    /// NoProcess, Ended, NotOwned, NotEndpoint; Unfinished with the blocks left of what came with it.
+    /// As `Kernel::close`, by whoever has the place's lock.
     pub fn close<R: Wait, G: Gate>(
         &self,
         rt: &R,
@@ -36,11 +33,7 @@ impl<N: Names> Heap<N> {
         at_desk!(rt, self, gate, till, tallies, desk => place.close_end(&mut desk, e))
     }
 
-    /// The process ends, or goes on ending: its blocks go, at most `budget` of them, and what was on its way
-    /// to its endpoints. It answers the bytes that this call reclaimed.
-    ///
-    /// NoProcess; Ended where the process has ended; Unfinished with the blocks left: the process is ending,
-    /// and a later call goes on.
+    /// As `Kernel::exit`, by whoever has the place's lock.
     pub fn stop<R: Wait, G: Gate>(
         &self,
         rt: &R,

@@ -12,12 +12,7 @@ use xh_core::Refused;
 use xh_place::{Gate, Place, Taken};
 
 impl<N: Names> Heap<N> {
-    /// Gives blocks of the process, by its endpoint `e`, in a message with a tag. It answers the
-    /// message's number.
-    ///
-    /// NoProcess, Ended, NotOwned and NotEndpoint of the endpoint, TooMany of more than 8 blocks, NotOwned of a
-    /// block, Twice where a block stands twice or is the endpoint; Protocol where the channel's contract
-    /// doesn't allow the message, PeerClosed, Full: these name the blocks that came back.
+    /// As `Kernel::give`, by whoever has the place's lock.
     pub fn give<R: Wait, G: Gate>(
         &self,
         rt: &R,
@@ -37,10 +32,7 @@ impl<N: Names> Heap<N> {
         place.give(&desk, e, tag, blocks)
     }
 
-    /// Takes the message at the front of the direction toward the endpoint `e`. Its blocks are the
-    /// process's.
-    ///
-    /// NoProcess, Ended, NotOwned, NotEndpoint; then, where no message waits, PeerClosed or Empty.
+    /// As `Kernel::take`, by whoever has the place's lock.
     pub fn take<R: Wait, G: Gate>(
         &self,
         rt: &R,

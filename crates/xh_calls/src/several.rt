@@ -115,12 +115,7 @@ impl<N: Names> Heap<N> {
         }
     }
 
-    /// Looks at the endpoints in the order given, takes at the first that has a message, and answers its
-    /// index and what `take` answers of it. Where none has one, PeerClosed with the index of the first whose
-    /// peer is closed, if there is any, and else Empty.
-    ///
-    /// NoProcess, Ended, TooMany of more than 64 endpoints, NotOwned and NotEndpoint of the first that is,
-    /// Twice, Empty.
+    /// As `Kernel::take_any`, by whoever has the place's lock.
     pub fn take_any<R: Wait, G: Gate>(
         &self,
         rt: &R,

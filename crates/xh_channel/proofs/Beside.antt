@@ -1,8 +1,5 @@
 -- Notes that lie beside messages.
-use Rattle.std.specs.Prelude.{List, [], ◌∷◌, ◌++◌, Option}
-use Rattle.atomic_table.specs.Seated.{TableId}
-use Rattle.xh_records.specs.Seats.{Noted}
-use Rattle.xh_channel.specs.Beside.{AllOf, IsOf}
+use Rattle.xh_channel.proofs.Common.{AllOf, IsOf, List, Noted, Option, TableId, [], ◌++◌, ◌∷◌}
 
 -- one more of the log
 pub all_push : (log : TableId) (xs : List (Option Noted)) (x : Option Noted) → AllOf log xs → IsOf log x → AllOf log (xs ++ x ∷ [])

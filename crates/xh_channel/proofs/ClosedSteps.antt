@@ -1,19 +1,12 @@
 -- Each step on a closed word keeps the rule.
-use Rattle.std.proofs.Common.{◌≡◌, ◌≢◌, inl, inr, ℕ, zero, suc, ◌<◌, ◌&&◌, not, Bool, true, false, true≢false, List, [], ◌∷◌, length, set}
-use Rattle.std.proofs.Common.{sym, refl, ap, ◌∙◌, subst, ⊎_elim, replicate, eqb, eq-eqb, ne_eqb, cond, arith}
-use Rattle.std.proofs.lemmas.List.{length-replicate, set-get_or}
-use Rattle.std.specs.Prelude.{slice_index}
-use mathlib.Core.Option.{some, none, some-injective, some-ne-none}
+use Rattle.xh_channel.proofs.Common.{Allows, Bool, DIRECTIONS, Joins, List, Me, Splits, State, [], ap, arith, at_index, at_set, cond, eq-eqb, eqb, false, false_from_ne_true, get_elem?, inl, inr}
+use Rattle.xh_channel.proofs.Common.{keeps, length, length-replicate, ne_eqb, none, not, opening, or_cases, refl, replicate, set, set-get_or, set_else, set_here, slice_index, some, some-injective}
+use Rattle.xh_channel.proofs.Common.{some-ne-none, step, subst, suc, sym, true, true≢false, zero, ℕ, ⊎_elim, ◌&&◌, ◌<◌, ◌∙◌, ◌∷◌, ◌≡◌, ◌≢◌}
 use mathlib.Core.Logic.{dite}
 use native.Mathlib.Decide.{ℕ_discrete}
-use lib.ListN.{get_elem?}
-use Rattle.atomic_table.specs.Table.{State, Me, step, keeps, Allows, Splits, Joins, opening}
-use Rattle.atomic_table.proofs.Lists.{at_index, at_set, set_here, set_else}
 use Rattle.xh_core.proofs.FreshPlain.{at_replicate}
-use Rattle.xh_model.specs.declared.limits.TheConstants.{DIRECTIONS}
 use Rattle.xh_channel.specs.declared.closed_rule.Sight.{Sight}
-use Rattle.xh_channel.specs.inner.ClosedWords.{sight, bit, peer, FitsSight, Shows, Shut, Looked, IsShown, never_shown, one_word, other_words, shut_told, hearing_shut, seen_told, hearing_seen}
-use Rattle.std.proofs.lemmas.Bool.{false_from_ne_true, or_cases}
+use Rattle.xh_channel.specs.inner.ClosedWords.{FitsSight, IsShown, Looked, Shows, Shut, bit, hearing_seen, hearing_shut, never_shown, one_word, other_words, peer, seen_told, shut_told, sight}
 use Rattle.xh_channel.proofs.Views.{every_set, every_two, every_snoc, one_view}
 
 found : (ws : List ℕ) (w n : ℕ) → get_elem? ws w ≡ some n → slice_index ws w ≡ n

@@ -1,16 +1,9 @@
 -- What an end keeps and shows.
-use Rattle.std.proofs.Common.{◌≡◌, ℕ, ◌≤◌, Bool, true, false, true≢false, cond, List, length, take, sym, refl, ap, ◌∙◌}
-use Rattle.std.proofs.Math.Seq.{take-length}
-use Rattle.std.specs.Prelude.{Option, Some}
-use Rattle.xh_records.specs.Seats.{Noted}
-use Rattle.xh_channel.specs.declared.laid.Laid.{Laid}
+use Rattle.xh_channel.proofs.Common.{AgreesWith, Bool, IsDelivered, IsLessTold, Laid, LineView, List, Noted, Option, QueueView, Some, TookAllOf, ap, cond, false, length, posted, refl, sym, take}
+use Rattle.xh_channel.proofs.Common.{take-length, true, true≢false, ℕ, ◌∙◌, ◌≡◌, ◌≤◌}
 use Rattle.xh_channel.specs.declared.spot.Spot.{Spot}
 use Rattle.xh_channel.specs.inner.ClosedWords.{ClosedView}
 use Rattle.xh_channel.specs.Directions.{LiesAfter}
-use Rattle.xh_channel.specs.LineSeats.{LineView, IsDelivered, IsLessTold, TookAllOf}
-use Rattle.xh_channel.specs.Notes.{AgreesWith}
-use Rattle.xh_channel.specs.QueueEnds.{QueueView}
-use Rattle.xh_channel.specs.Queues.{posted}
 
 pub state_stays : (b : Bool) (x : Option ℕ) (s t : ℕ) → b ≡ false → cond b x (Some s) ≡ Some t → t ≡ s
 state_stays true x s t h e = absurd (true≢false h)

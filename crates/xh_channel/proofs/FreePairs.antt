@@ -1,10 +1,9 @@
 -- A pair more at the end of the places.
-use Rattle.std.proofs.Common.{◌≡◌, ℕ, zero, suc, ◌+◌, ◌<◌, true, false, true≢false, List, [], ◌∷◌, ◌++◌, length, set, Option, Some, None, sym, refl, get_or, ap, ◌∙◌, subst, arith}
-use Rattle.std.specs.Prelude.{◌==◌, MatchOption}
+use Rattle.xh_channel.proofs.Common.{List, MatchOption, None, Option, Some, StandAtTheirNumbers, [], ap, arith, at_place, false, get_or, has_depth, length, refl, set, subst, suc, sym, true}
+use Rattle.xh_channel.proofs.Common.{true≢false, zero, ℕ, ◌++◌, ◌+◌, ◌<◌, ◌==◌, ◌∙◌, ◌∷◌, ◌≡◌}
 use Rattle.std.proofs.lemmas.Bool.Decides.{nat_tests}
 use Rattle.std.proofs.lemmas.Option.{none-some}
 use Rattle.xh_channel.specs.declared.free_pair.FreePair.{FreePair}
-use Rattle.xh_channel.specs.inner.FreeNumbers.{at_place, has_depth, StandAtTheirNumbers}
 
 abbrev channel_of : Option FreePair → ℕ
 channel_of None = 0

@@ -1,33 +1,18 @@
 -- What a put, a take and a shut of the line that a seat holds make of its account, and what contracts see of that.
-use Rattle.std.proofs.Common.{◌≡◌, inl, inr, ℕ, zero, suc, ◌+◌, ◌-◌, ◌<◌, ◌≤◌, Bool, true, false, ◌&&◌, ◌||◌, true≢false, List, [], ◌∷◌, ◌++◌, length, length-append, take, sym, refl, ap, ◌∙◌, subst}
-use Rattle.std.proofs.Common.{⊎_elim, append_assoc, arith}
-use Rattle.std.proofs.lemmas.Bool.{and_parts, and_right, false_from_ne_true}
-use Rattle.std.proofs.lemmas.List.{length_push}
-use Rattle.std.proofs.Math.Seq.{take-append_seam}
-use Rattle.std.specs.Prelude.{Option, Some, None, unwrap_or, IsSome, Result, Ok, Err, OnErr, OnOk}
+use Rattle.xh_channel.proofs.Common.{Account, AllOf, Bool, Counts, Err, Grows, IsEndBy, IsNoted, IsOf, IsSettled, IsSome, LiesFor, LineEnd, LineView, Lined, List, Me, Message, None, Noted, Ok}
+use Rattle.xh_channel.proofs.Common.{OnErr, OnOk, OnlySaw, Option, Part, PutsBy, PutsOn, Result, Shuts, ShutsBy, Some, TableId, TakesBy, TakesOn, [], and_parts, and_right, ap, append_assoc, arith}
+use Rattle.xh_channel.proofs.Common.{beside, counts_at, end_of, false, false_from_ne_true, holding, inl, inr, is_drained, is_nothing, length, length-append, length_push, line_view, message}
+use Rattle.xh_channel.proofs.Common.{now_shut, number, numbers_before, numbers_join, one_put, one_taken, refl, rest, subst, suc, sym, take, take-append_seam, true, true≢false, unwrap_or, waiting}
+use Rattle.xh_channel.proofs.Common.{zero, ℕ, ⊎_elim, ◌&&◌, ◌++◌, ◌+◌, ◌-◌, ◌<◌, ◌||◌, ◌∙◌, ◌∷◌, ◌≡◌, ◌≤◌}
 use Rattle.arrayvec.specs.ArrayVec.{ArrayVec}
-use Rattle.atomic_table.specs.Seated.{TableId}
-use Rattle.atomic_table.specs.Table.{Me, rest}
 use Rattle.xh_model.specs.declared.row.Row.{Row}
 use Rattle.xh_model.specs.Direction.{AreNumberedFrom, IsDirection}
 use Rattle.xh_model.specs.Rows.{allowed}
-use Rattle.xh_model.proofs.Direction.{numbers_join, numbers_before}
-use Rattle.xh_channel.specs.declared.counts.Counts.{Counts}
-use Rattle.xh_channel.specs.declared.line_end.LineEnd.{LineEnd}
-use Rattle.xh_channel.specs.declared.line_rule.Account.{Account}
-use Rattle.xh_channel.specs.declared.line_rule.Part.{Part}
-use Rattle.xh_channel.specs.declared.message.Message.{Message}
 use Rattle.xh_channel.specs.declared.refused.Refused.{Refused}
 use Rattle.xh_channel.specs.declared.refused.Refused.TheVariants as refused
 use Rattle.xh_channel.specs.declared.unsent.Unsent.{Unsent}
-use Rattle.xh_channel.specs.declared.unsent.Unsent.TheVariants.{Protocol, PeerClosed, Full}
-use Rattle.xh_records.specs.Seats.{Noted}
-use Rattle.xh_channel.specs.Beside.{AllOf, IsOf}
-use Rattle.xh_channel.specs.Ends.{one_put, one_taken, now_shut}
-use Rattle.xh_channel.specs.Lines.{Lined, PutsOn, Shuts, TakesOn, beside, end_of, is_drained, is_nothing, waiting}
-use Rattle.xh_channel.specs.LineSeats.{LineView, OnlySaw, PutsBy, ShutsBy, TakesBy, counts_at}
-use Rattle.xh_channel.specs.Numbers.{message, number}
-use Rattle.xh_channel.specs.inner.LineRule.{Found, Grows, IsEndBy, IsNoted, IsSettled, IsTold, LiesFor, counts_in, holding, line_view, own_by, peer_by, settled, settled_by, taken_notes}
+use Rattle.xh_channel.specs.declared.unsent.Unsent.TheVariants.{Full, PeerClosed, Protocol}
+use Rattle.xh_channel.specs.inner.LineRule.{Found, IsTold, counts_in, own_by, peer_by, settled, settled_by, taken_notes}
 use Rattle.xh_channel.proofs.Beside.{all_push}
 
 or_right : (a b : Bool) → b ≡ true → (a || b) ≡ true
@@ -260,7 +245,16 @@ module _ (table : TableId) (v : Part) (peer : Account) (line line' : Lined) (fou
       o.notes ∙ ap (λ l. own.got_notes ++ l) r.2.2 ∙ sym (append_assoc own.got_notes (heard ∷ []) (beside (end_of line' k))) in
       let notes : AllOf v.log (heard ∷ beside (end_of line' k)) = subst (AllOf v.log) r.2.2 noted_now.0 in
       let ends' : Ends k line' own' peer = (
-        record { rows = t.rules.0 ∙ o.rows; depth = t.rules.1 ∙ o.depth; state = refl; counts = r.1 ∙ ap one_taken o.counts ∙ sym counts; waits = (split, o.waits.1); notes = split_notes; drained = refl },
+        record {
+          rows = t.rules.0 ∙ o.rows;
+          depth = t.rules.1 ∙ o.depth;
+          state = refl;
+          counts = r.1 ∙ ap one_taken o.counts
+              ∙ sym counts;
+          waits = (split, o.waits.1);
+          notes = split_notes;
+          drained = refl;
+        },
         peer_same t.rules.0 t.rules.1 t.peer own' refl refl,
       ) in
       let s = settled_so v peer own' line' found.few ends' (omega arith, omega arith, λ q. q) found.told

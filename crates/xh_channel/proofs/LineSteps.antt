@@ -1,24 +1,10 @@
 -- Each step on a line's word keeps the rule.
-use Rattle.std.proofs.Common.{◌≡◌, ◌≢◌, ◌⊎◌, inl, inr, ℕ, zero, suc, ◌-◌, ◌||◌, true, false, true≢false, List, [], ◌∷◌, ◌++◌, map, append-nil, set}
-use Rattle.std.proofs.Common.{sym, refl, ap, ◌∙◌, subst, ⊎_elim, eqb, eq-eqb, ne_eqb, arith}
-use Rattle.std.specs.Prelude.{slice_index, Option, Some, None}
-use mathlib.Core.Option.{some, none}
+use Rattle.xh_channel.proofs.Common.{Account, Allows, Counts, Grows, IsEndBy, IsNoted, IsSettled, Laid, LiesFor, LineEnd, Lined, List, Me, None, Option, Part, Some, [], and_parts, ap, append-nil}
+use Rattle.xh_channel.proofs.Common.{arith, carried_after, either, eq-eqb, eqb, eqb-true, exchanged, false, get_elem?, gives, holding, inl, inr, is_nothing, keeps, map, message_of, ne_eqb}
+use Rattle.xh_channel.proofs.Common.{no_counts, none, note_of, or_cases, put_back, refl, set, slice_index, some, step, subst, suc, sym, takes, true, true≢false, waiting, zero, ℕ, ⊎_elim, ◌++◌}
+use Rattle.xh_channel.proofs.Common.{◌-◌, ◌||◌, ◌∙◌, ◌∷◌, ◌≡◌, ◌≢◌, ◌⊎◌}
 use mathlib.Core.Option as maybe
-use lib.ListN.{get_elem?}
-use prog.Atomic.{either}
-use Rattle.atomic_table.specs.Table.{Me, step, keeps, takes, gives, put_back, carried_after, Allows}
-use Rattle.atomic_table.proofs.Lists.{exchanged}
-use Rattle.xh_channel.specs.declared.counts.Counts.{Counts}
-use Rattle.xh_channel.specs.declared.line_rule.Account.{Account}
-use Rattle.xh_channel.specs.declared.line_rule.Part.{Part}
-use Rattle.xh_channel.specs.declared.line_end.LineEnd.{LineEnd}
-use Rattle.xh_channel.specs.declared.laid.Laid.{Laid}
-use Rattle.xh_channel.specs.Lines.{Lined, is_nothing, waiting}
-use Rattle.xh_channel.specs.Beside.{message_of, note_of}
-use Rattle.xh_channel.specs.Ends.{no_counts}
-use Rattle.xh_channel.specs.inner.LineRule.{by, IsEndBy, IsTold, Grows, IsSettled, own_by, peer_by, settled, Settled, IsNoted, IsTaken, Lies, LiesFor, Truth, IsHome, IsOut, Owns, Fits, Kept, no_account}
-use Rattle.xh_channel.specs.inner.LineRule.{counts_in, no_part, holding, Locked, Compared}
-use Rattle.std.proofs.lemmas.Bool.{and_parts, eqb-true, or_cases}
+use Rattle.xh_channel.specs.inner.LineRule.{Compared, Fits, IsHome, IsOut, IsTaken, IsTold, Kept, Lies, Locked, Owns, Settled, Truth, by, counts_in, no_account, no_part, own_by, peer_by, settled}
 use Rattle.xh_channel.proofs.Views.{every_set}
 
 abbrev S : Type 0
@@ -71,10 +57,25 @@ locks slots id me f a b out owns s h long at small =
       (
         t',
         inr (m.0, others, v.side, ap (λ l. set l 0 next) words ∙ ap (λ n. n ∷ others) m.1, ap (λ l. set l 0 none) homes, ap suc (sym o.seat)),
-        every_set (Fits t') s.views id w
-            ((λ _. record { log = o.log; peer_log = o.peer_log; seat = o.seat; own = o.own; holds = sym (eq-eqb (suc id) (suc id) refl); knows = λ _. refl; both = λ p. ((o.both p).0, refl) }), (h.2 id v at).1, (h.2 id v at).2)
-            (λ j u other e. let g = h.2 j u e in
-            ((λ p. let x = g.0 p in record { log = x.log; peer_log = x.peer_log; seat = x.seat; own = x.own; holds = none_holds j u x ∙ sym (not_holder id j other); knows = x.knows; both = x.both }), g.1, g.2)),
+        every_set (Fits t') s.views id w (
+          (λ _. record { log = o.log; peer_log = o.peer_log; seat = o.seat; own = o.own; holds = sym (eq-eqb (suc id) (suc id) refl); knows = λ _. refl; both = λ p. ((o.both p).0, refl) }),
+          (h.2 id v at).1,
+          (h.2 id v at).2,
+        )
+            (λ j u other e. let g = h.2 j u e in (
+              (λ p. let x = g.0 p in record {
+                log = x.log;
+                peer_log = x.peer_log;
+                seat = x.seat;
+                own = x.own;
+                holds = none_holds j u x
+                    ∙ sym (not_holder id j other);
+                knows = x.knows;
+                both = x.both;
+              }),
+              g.1,
+              g.2,
+            )),
       ),
       (
         (λ _. (
@@ -168,7 +169,16 @@ settles slots id me line front owns holds is s h long at small =
         t',
         inl (others.0, Some line, ap (λ l. set l 0 0) others.2, (λ i. put_back (slot.1 i) (front i)), refl, is.0, subst (λ log. IsNoted log (Some line)) o.log is.4),
         every_set (Fits t') s.views id w (
-          (λ _. record { log = o.log; peer_log = o.peer_log; seat = o.seat; own = own_back k own peer; holds = sym (no_holder id); knows = λ p. absurd (true≢false (sym p)); both = λ p. ((o.both p).0, peer_back k own peer) }),
+          (λ _. record {
+            log = o.log;
+            peer_log = o.peer_log;
+            seat = o.seat;
+            own = own_back k own peer;
+            holds = sym (no_holder id);
+            knows = λ p. absurd (true≢false (sym p));
+            both = λ p.
+                ((o.both p).0, peer_back k own peer);
+          }),
           subst (IsTold told) (sym (peer_back k own peer)) is_told,
           told_by_side k v.peer_told t.low t.high low high grow.0 grow.1 mine.2,
         )

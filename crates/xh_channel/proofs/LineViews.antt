@@ -1,22 +1,9 @@
 -- Each split and each join of a line's views keeps the rule.
-use Rattle.std.proofs.Common.{◌≡◌, ◌≢◌, ◌⊎◌, inl, inr, ℕ, zero, suc, ◌-◌, ◌≤◌, max, ◌||◌, true, false, true≢false, List, [], ◌∷◌, ◌++◌, length, length-append, set}
-use Rattle.std.proofs.Common.{sym, refl, ap, ◌∙◌, subst, ⊎_elim, replicate, eqb, arith}
-use Rattle.std.specs.Prelude.{Option, Some, None}
-use mathlib.Core.Option.{some}
+use Rattle.xh_channel.proofs.Common.{Account, AllOf, Counts, IsNoted, Joins, Lined, List, None, Noted, Option, Part, Some, Splits, TableId, [], ap, arith, at_set, beside, eqb, false, get_elem?}
+use Rattle.xh_channel.proofs.Common.{inl, inr, length, length-append, max, no_table, opening, or_cases, refl, replicate, set, some, subst, suc, sym, telling, true, true≢false, zero, ℕ, ⊎_elim, ◌++◌}
+use Rattle.xh_channel.proofs.Common.{◌-◌, ◌||◌, ◌∙◌, ◌∷◌, ◌≡◌, ◌≢◌, ◌≤◌, ◌⊎◌}
 use mathlib.Core.Option as maybe
-use lib.ListN.{get_elem?}
-use Rattle.atomic_table.specs.Seated.{TableId}
-use Rattle.atomic_table.specs.Table.{Splits, Joins, opening}
-use Rattle.atomic_table.proofs.Lists.{at_set}
-use Rattle.xh_records.specs.Seats.{Noted}
-use Rattle.xh_channel.specs.declared.counts.Counts.{Counts}
-use Rattle.xh_channel.specs.declared.line_rule.Account.{Account}
-use Rattle.xh_channel.specs.declared.line_rule.Part.{Part}
-use Rattle.xh_channel.specs.Lines.{Lined, beside}
-use Rattle.xh_channel.specs.Beside.{AllOf, no_log}
-use Rattle.xh_channel.specs.inner.LineRule.{by, IsTold, IsNoted, Lies, Truth, IsHome, IsOut, Owns, Fits, Kept, no_account}
-use Rattle.xh_channel.specs.inner.LineRule.{counts_in, both_sides, named, no_part, low_side, high_side, joined, telling, hearing}
-use Rattle.std.proofs.lemmas.Bool.{or_cases}
+use Rattle.xh_channel.specs.inner.LineRule.{Fits, IsHome, IsOut, IsTold, Kept, Lies, Owns, Truth, both_sides, by, counts_in, hearing, high_side, joined, low_side, named, no_account, no_part}
 use Rattle.xh_channel.proofs.Views.{every_set, every_two, every_snoc, one_view}
 use Rattle.xh_channel.proofs.LineSteps.{no_holder, one_seat, holds_it, nothing_told, all_told, no_fits, at_home}
 
@@ -185,8 +172,12 @@ hears id v other w same s h at two at' =
 
 pub begins : Kept (opening (replicate 16 0) (replicate 1 None) both_sides)
 begins =
-    let t : Truth = record { log = no_log; low_seat = 0; high_seat = 0; holder = 0; low = no_account; high = no_account } in (
+    let t : Truth = record { log = no_table; low_seat = 0; high_seat = 0; holder = 0; low = no_account; high = no_account } in (
       t,
       inl (replicate 15 0, None, refl, refl, refl, (refl, refl), tt),
-      one_view (Fits t) both_sides ((λ _. record { log = refl; peer_log = λ _. refl; seat = refl; own = refl; holds = refl; knows = λ p. absurd (true≢false (sym p)); both = λ _. (refl, refl) }), nothing_told no_account, nothing_told no_account),
+      one_view (Fits t) both_sides (
+        (λ _. record { log = refl; peer_log = λ _. refl; seat = refl; own = refl; holds = refl; knows = λ p. absurd (true≢false (sym p)); both = λ _. (refl, refl) }),
+        nothing_told no_account,
+        nothing_told no_account,
+      ),
     )

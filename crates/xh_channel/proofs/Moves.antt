@@ -1,23 +1,14 @@
 -- Each move keeps the rule of a direction.
-use Rattle.std.proofs.Common.{◌≡◌, ◌≢◌, ℕ, suc, ◌≤◌, max, Bool, true, false, true≢false, List, [], ◌∷◌, ◌++◌, length, length-append, map, set, sym, refl, ap, ◌∙◌, subst, ⊎_elim, append_assoc, arith}
-use Rattle.std.specs.Prelude.{◌+◌}
-use Rattle.std.proofs.lemmas.List.{length-map, map-append}
-use mathlib.Core.Option.{some}
-use lib.ListN.{get_elem?}
-use Rattle.crossbeam_queue.specs.Fifo.{Pushes, Pops, Forks, Merges, Learns}
-use Rattle.xh_model.proofs.Direction.{numbers_join, number_at, numbers_before}
+use Rattle.xh_channel.proofs.Common.{AllOf, Bool, IsOf, IsRole, IsUncarried, Laid, List, Message, Numbered, TableId, [], ap, append_assoc, arith, false, get_elem?, length, length-append}
+use Rattle.xh_channel.proofs.Common.{length-map, map, map-append, max, message_of, note_of, number, number_at, numbers_before, numbers_join, refl, set, some, subst, suc, sym, true, true≢false, ℕ}
+use Rattle.xh_channel.proofs.Common.{⊎_elim, ◌++◌, ◌+◌, ◌∙◌, ◌∷◌, ◌≡◌, ◌≢◌, ◌≤◌}
+use Rattle.crossbeam_queue.specs.Fifo.{Forks, Learns, Merges, Pops, Pushes}
 use Rattle.crossbeam_queue.proofs.Lists.{at_set}
-use Rattle.atomic_table.specs.Seated.{TableId}
-use Rattle.xh_channel.specs.declared.laid.Laid.{Laid}
-use Rattle.xh_channel.specs.declared.message.Message.{Message}
 use Rattle.xh_channel.specs.declared.direction.Carried.{Carried}
-use Rattle.xh_channel.specs.Beside.{AllOf, IsOf, message_of, note_of}
 use Rattle.xh_channel.specs.declared.direction.Role.{Role}
-use Rattle.xh_channel.specs.Numbers.{number, Numbered}
-use Rattle.xh_channel.specs.QueueEnds.{IsRole, IsUncarried}
 use Rattle.xh_channel.proofs.Beside.{all_push}
 use Rattle.xh_channel.proofs.Views.{Every, every_set, every_two, every_snoc, one_view}
-use Rattle.xh_channel.specs.Directions.{after, carried, nothing, role, hearing, Fits, LiesAfter, Ordered, Sent, Got, WaitsAhead, WaitsBehind}
+use Rattle.xh_channel.specs.Directions.{Fits, Got, LiesAfter, Ordered, Sent, WaitsAhead, WaitsBehind, after, carried, hearing, nothing, role}
 
 pub begins : Ordered [] (role true true nothing nothing 0 0 ∷ [])
 begins = (

@@ -20,10 +20,6 @@ abbrev pub AllOf : TableId → List (Option Noted) → Type 0
 AllOf log [] = Unit {0}
 AllOf log (x ∷ xs) = IsOf log x × AllOf log xs
 
--- before a log is named
-abbrev pub no_log : TableId
-no_log = record { words = 0; slots = 0; views_name = 0; atom = 0; block = 0; offset = 0; slot_names = [] }
-
 -- a note goes with a message that was put, and stays where none was
 abbrev pub Goes : Result ℕ Unsent → Option Noted → Option Noted → Type 0
 Goes result old new = MatchResult result (λ _. new ≡ None) (λ _. new ≡ old)

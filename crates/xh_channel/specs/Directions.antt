@@ -1,23 +1,24 @@
--- The rule of a direction: what was sent is what was taken and then what waits, numbered from 1, each message with the note beside it, which is of the one log. One pass at most may push, and it has the list of what was sent. The same for pops.
+-- The rule of a direction: what was sent is what was taken and then what waits, numbered from 1, each message with the note beside it, which is of the one log. One pass at most may push, and it has
+-- the list of what was sent. The same for pops.
 -- No pass was told of more than was sent, or of more than was taken.
 use Rattle.std.specs.Prelude.{◌≡◌, ℕ, suc, ◌+◌, ◌≤◌, max, Bool, true, List, [], ◌∷◌, ◌++◌, length, map, Option}
 use mathlib.Core.Option.{some}
 use lib.ListN.{get_elem?}
 use Rattle.atomic_table.specs.Seated.{TableId}
 use Rattle.xh_model.specs.Direction.{IsDirection}
-use Rattle.xh_records.specs.Seats.{Noted}
+use Rattle.xh_records.specs.Seats.{Noted, no_table}
 use Rattle.xh_channel.specs.declared.laid.Laid.{Laid}
 use Rattle.xh_channel.specs.declared.message.Message.{Message}
 use Rattle.xh_channel.specs.declared.direction.Carried.{Carried}
 use Rattle.xh_channel.specs.declared.direction.Role.{Role}
-use Rattle.xh_channel.specs.Beside.{AllOf, IsOf, message_of, no_log, note_of}
+use Rattle.xh_channel.specs.Beside.{AllOf, IsOf, message_of, note_of}
 use Rattle.xh_channel.specs.Numbers.{number, Numbered}
 
 abbrev pub carried : TableId → List Message → List (Option Noted) → Carried
 carried log messages notes = record { log = log; messages = messages; notes = notes }
 
 abbrev pub nothing : Carried
-nothing = carried no_log [] []
+nothing = carried no_table [] []
 
 -- one more, and what lies beside it
 abbrev pub after : Carried → Laid → Carried

@@ -81,7 +81,8 @@ PutsBy old new note tag =
 -- An end that was shut and finds nothing is drained
 abbrev pub TakesBy : LineView → LineView → Option Noted → Result Message Refused → Type 0
 TakesBy old new heard =
-    Takes (λ m. (next_state old m.tag (1 - old.side) ≡ Some new.state) × (new ≡ record old { got = old.got ++ m ∷ []; got_notes = old.got_notes ++ heard ∷ []; state = new.state; peer_shut = new.peer_shut; drained = new.drained })
+    Takes (λ m. (next_state old m.tag (1 - old.side) ≡ Some new.state)
+    × (new ≡ record old { got = old.got ++ m ∷ []; got_notes = old.got_notes ++ heard ∷ []; state = new.state; peer_shut = new.peer_shut; drained = new.drained })
     × (old.peer_shut ≡ true → new.peer_shut ≡ true) × Numbered new.got × (old.drained ≡ false))
     ((old.told_put ≤ length old.got) × (old.shut ≡ true → new.drained ≡ true)) (new.peer_shut ≡ true) ((old.peer_shut ≡ false) × (new.peer_shut ≡ false)) (counts_at old) (counts_at new)
 

@@ -64,7 +64,8 @@ pub record ArePeers (one other : Posted) : Type 0 where
   pub line : other.line ≡ one.line
   pub contract : other.has_contract ≡ one.has_contract
 
--- What an end saw or was told of its peer is no more than the peer did, what it took is a prefix of what the peer pushed, each message with its note, and where it saw no shut peer it sent all that it pushed.
+-- What an end saw or was told of its peer is no more than the peer did, what it took is a prefix of what the peer pushed, each message with its note, and where it saw no shut peer it sent all that
+-- it pushed.
 -- A drained end was shut, and took all that the peer pushed: nothing waits for it
 pub record AgreesWith (end peer : Posted) : Type 0 where
   pub told_put : end.told_put ≤ length peer.pushed

@@ -1,6 +1,7 @@
 //! An end's seat at the line of its channel.
 ghost use Rattle.std.specs.Prelude.{◌≡◌, ◌+◌, ◌<◌, ◌≤◌, IfOk, OnErr, OnOk};
-ghost use Rattle.xh_channel.specs.Beside.{Goes, IsOf, no_log};
+ghost use Rattle.xh_channel.specs.Beside.{Goes, IsOf};
+ghost use Rattle.xh_records.specs.Seats.{no_table};
 ghost use Rattle.xh_model.specs.declared.limits.TheConstants.{MAX_DEPTH, MAX_MESSAGES};
 ghost use Rattle.xh_channel.specs.LineSeats.{AreAcross, IsBegun, IsBlank, IsDelivered, IsLessTold, IsUncarried, OnlySaw, PutsBy, ShutsBy, TakesBy, TookAllOf, begun, hearing_on_line, told_all, told_on_line};
 ghost use Rattle.std.specs.Arc.{arc_value};
@@ -135,7 +136,7 @@ impl LineSeat {
     #[tactic(auto, using(crate::proofs::LineViews::begins))]
     pub fn pair(alloc: Global) -> Result<(LineSeat, LineSeat), AllocError>
         ensures blank { IfOk result (λ s. AreAcross s.0 s.1 × IsBlank s.0 × IsBlank s.1 × (s.0.depth ≡ 0) × (s.1.depth ≡ 0)) }
-        ensures log { IfOk result (λ s. (s.0.log ≡ no_log) × (s.1.log ≡ no_log)) }
+        ensures log { IfOk result (λ s. (s.0.log ≡ no_table) × (s.1.log ≡ no_table)) }
     {
         let (table, token) = Table::vacant(alloc, &[HOME; WORDS], 1, &())?;
         let low = Arc::new(alloc, table)?;

@@ -25,7 +25,7 @@ pub trait Of {
 }
 
 impl Of for Brand {
-    ghost use Rattle.xh_channel.specs.Beside.{no_log};
+    ghost use Rattle.xh_records.specs.Seats.{no_table};
 
-    ghost log = { no_log };
+    ghost log = { no_table };
 }

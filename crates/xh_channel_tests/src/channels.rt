@@ -1,22 +1,19 @@
 //! Channels by calls.
 mod answers;
 mod bells;
-mod carried;
-mod drained;
 mod ends;
 mod lines;
 mod notes;
 mod opening;
 mod order;
 mod scenes;
-mod side_by_side;
 mod threads;
 mod waits;
 
 use answers::Answer::{self, Refused as No, Sent, Shut as Closed, Taken, Turn};
 use answers::Call::{self, Put, Shut, Take, Turn as Look};
 use arrayvec::ArrayVec;
-use opening::{FREE, ONE_WAY};
+use opening::{FREE, ONE_WAY, REQUEST_AND_REPLY};
 use scenes::{Act, Scene, play, play_grown};
 use std::alloc::Global;
 use std::fmt::Display;
@@ -41,6 +38,7 @@ fn ends_use_their_own_rooms(rt: HostRuntime) {
 #[test]
 fn channels_run_out(rt: HostRuntime) {
     play(&rt, rt.alloc(), 1, Scene::AllOpen(FREE));
+    play(&rt, rt.alloc(), 1, Scene::AllOpen(REQUEST_AND_REPLY));
 }
 
 #[test]
@@ -56,35 +54,6 @@ fn direction_until_shut(rt: HostRuntime) {
         (1, Put(5, Some(9)), No(15, Some(9))),
     ];
     play(&rt, rt.alloc(), 2, Scene::Each(FREE, Act::Calls(CALLS), 1));
-}
-
-#[test]
-fn what_an_end_sends_it_does_not_take(rt: HostRuntime) {
-    const CALLS: &[(u8, Call, Answer)] = &[
-        (0, Put(5, Some(7)), Sent(1)),
-        (0, Take, No(16, None)),
-        (1, Put(6, Some(8)), Sent(1)),
-        (0, Take, Taken(1, 6, Some(8))),
-        (1, Take, Taken(1, 5, Some(7))),
-    ];
-    play(&rt, rt.alloc(), 2, Scene::Each(FREE, Act::Calls(CALLS), 1));
-}
-
-#[test]
-fn an_end_that_was_shut_takes_what_is_left(rt: HostRuntime) {
-    const CALLS: &[(u8, Call, Answer)] = &[
-        (0, Put(5, Some(7)), Sent(1)),
-        (1, Shut, Closed),
-        (0, Put(5, Some(8)), No(15, Some(8))),
-        (1, Take, Taken(1, 5, Some(7))),
-        (1, Take, No(16, None)),
-    ];
-    play(&rt, rt.alloc(), 2, Scene::Each(FREE, Act::Calls(CALLS), 1));
-}
-
-#[test]
-fn a_message_has_all_its_blocks(rt: HostRuntime) {
-    play(&rt, rt.alloc(), 1, Scene::Each(FREE, Act::AllBlocks, 1));
 }
 
 #[test]
@@ -112,12 +81,6 @@ fn the_turn_rises_with_each_put_and_shut(rt: HostRuntime) {
 #[test]
 fn a_turn_that_was_not_seen_is_not_waited_for(rt: HostRuntime) {
     play(&rt, rt.alloc(), 1, Scene::Each(FREE, Act::Unwaited, 1));
-}
-
-#[test]
-fn both_ends_of_a_direction_are_compared(rt: HostRuntime) {
-    play(&rt, rt.alloc(), 2, Scene::Compared(FREE));
-    play(&rt, rt.alloc(), 2, Scene::Compared(ONE_WAY));
 }
 
 /// With a growth refused, whichever it is, there are no channels; the same call then makes them, with their depth, and all of

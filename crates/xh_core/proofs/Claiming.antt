@@ -1,20 +1,11 @@
 -- A free record is claimed, and gets bytes.
-use Rattle.std.proofs.Common.{◌≡◌, ◌≢◌, ℕ, suc, ◌+◌, ◌*◌, ◌/◌, ◌%◌, ◌<◌, ◌≤◌, List, [], ◌∷◌, length, take, drop, length-drop, ◌-◌, Bool, true, cond, refl, sym, ap, ◌∙◌, subst, arith, inl, inr}
-use Rattle.std.specs.Prelude.{Option, Some, None, is_none, is_some, slice_range, ◌==◌, nat_lt, slice_set, slice_index_or, option_map}
-use Rattle.std.specs.List.{position, position_or_len, range_with_len}
-use Rattle.std.proofs.lemmas.Bool.{cases_eq, cases_Bool, false≢true, eq-eqb, ne_eqb, lt-ltb, eqb-true}
-use Rattle.std.proofs.lemmas.Bool.Decides.{nat_tests}
-use Rattle.std.proofs.lemmas.List.{length-set, length-take-le, set-set, set-get_or, get_or-take, get_or-drop}
-use Rattle.std.proofs.lemmas.List.FromFn.{length-range_with_len, get_or-range_with_len}
+use Rattle.xh_core.proofs.Common.{Bool, Carve, Claim, Cut, Holder, IsLawful, IsOwner, List, None, Option, Process, Some, Store, Vacate, [], ap, arena_at, arith, can, cases_Bool, cases_eq, cond}
+use Rattle.xh_core.proofs.Common.{drop, eq-eqb, false≢true, first_refusal, free_record, get_or-range_with_len, holds, inl, inr, is_held_by, is_known, is_some, known_there, len, length}
+use Rattle.xh_core.proofs.Common.{length-range_with_len, length-set, lt-ltb, nat_lt, nat_tests, ne_eqb, option_map, owner, position_or_len, range_with_len, refl, set-get_or, slice_index_or}
+use Rattle.xh_core.proofs.Common.{slice_set, space_tests, subst, suc, sym, take, times, true, with_owner, ℕ, ◌%◌, ◌*◌, ◌+◌, ◌-◌, ◌/◌, ◌<◌, ◌==◌, ◌∙◌, ◌∷◌, ◌≡◌, ◌≢◌, ◌≤◌}
+use Rattle.std.proofs.Common.{eqb-true, get_or-drop, get_or-take, is_none, length-drop, length-take-le, position, set-set, slice_range}
 use Rattle.std.proofs.lemmas.List.Quantifiers.{position-Some}
-use Rattle.xh_model.specs.declared.event.Holder.{Holder}
-use Rattle.xh_model.specs.declared.event.Holder.TheVariants.{Process}
-use Rattle.xh_model.specs.declared.event.Event.TheVariants.{Claim, Carve, Cut, Vacate}
-use Rattle.xh_model.specs.Store.{Store, owner, len, holds, is_held_by, is_known, arena_at, can, after, with_owner, IsOwner, IsLawful}
-use Rattle.xh_model.proofs.Changed.{known_there}
-use Rattle.xh_core.specs.Several.{times}
-use Rattle.xh_core.specs.Space.{free_record, space_tests}
-use Rattle.xh_core.specs.Refusing.{first_refusal}
+use Rattle.xh_model.specs.Store.{after}
 use Rattle.xh_core.specs.Gaining.{Gained}
 use Rattle.xh_core.proofs.Stores.{done, own_holder, times-cons, at_set, same_len}
 

@@ -1,10 +1,5 @@
 -- The first refusal of a table made of tables.
-use Rattle.std.proofs.Common.{◌≡◌, List, [], ◌∷◌, ◌++◌, Bool, refl, ap, arith}
-use Rattle.std.specs.Prelude.{Some, None, is_some}
-use Rattle.std.proofs.lemmas.Bool.{false≢true}
-use Rattle.std.proofs.lemmas.Bool.Decides.{nat_tests}
-use Rattle.xh_core.specs.declared.refused.Refused.{Refused}
-use Rattle.xh_core.specs.Refusing.{first_refusal}
+use Rattle.xh_core.proofs.Common.{Bool, List, None, Refused, Some, [], ap, arith, false≢true, first_refusal, is_some, nat_tests, refl, ◌++◌, ◌∷◌, ◌≡◌}
 
 -- what one table refuses first, it refuses with more behind
 pub first_append : (a b : List (Bool × Refused)) (e : Refused) → first_refusal a ≡ Some e → first_refusal (a ++ b) ≡ Some e

@@ -1,21 +1,11 @@
 -- A new store is lawful, and nobody owns a byte of it.
-use Rattle.std.proofs.Common.{◌≡◌, ℕ, zero, suc, ◌*◌, ◌/◌, ◌%◌, ◌<◌, ◌≤◌, length, cond, refl, sym, ap, ◌∙◌, arith}
-use Rattle.std.specs.Prelude.{Option, Some, None, is_some, replicate, slice_index_or}
-use Rattle.std.proofs.lemmas.Bool.{false≢true}
-use Rattle.std.proofs.lemmas.List.{length-replicate}
+use Rattle.xh_core.proofs.Common.{All-replicate, AreCarved, AreTotals, ArenaState, Holder, IsCarved, IsConfig, IsLawful, IsLawfulArena, None, Option, Process, Some, Store, ap, arena_at, arith}
+use Rattle.xh_core.proofs.Common.{bytes_out, cond, false≢true, holds, is_held_by, is_some, len, length, length-replicate, length_of, no_arena, numbers, owner, refl, replicate, slice_index_or, suc}
+use Rattle.xh_core.proofs.Common.{sum_same, sum_zero, sym, zero, ℕ, ◌%◌, ◌*◌, ◌/◌, ◌<◌, ◌∙◌, ◌≡◌, ◌≤◌}
 use Rattle.std.proofs.lemmas.List.Folds.{sum_by-replicate}
-use Rattle.std.proofs.lemmas.List.Elements.{All-replicate}
-use Rattle.xh_model.specs.Cover.{bytes_out, length_of}
-use Rattle.xh_model.specs.Arena.{ArenaState, IsLawfulArena}
 use Rattle.xh_model.specs.declared.config.Config.{Config}
-use Rattle.xh_model.specs.declared.event.Holder.{Holder}
-use Rattle.xh_model.specs.declared.event.Holder.TheVariants.{Process}
-use Rattle.xh_model.specs.Config.{IsConfig}
-use Rattle.xh_model.specs.Store.{Store, no_arena, owner, arena_at, len, holds, is_held_by, numbers, new_store, IsLawful}
+use Rattle.xh_model.specs.Store.{new_store}
 use Rattle.xh_model.proofs.Lengths.{none_of}
-use Rattle.xh_model.proofs.Totals.{sum_same, sum_zero}
-use Rattle.xh_core.specs.Wearing.{IsCarved, AreCarved}
-use Rattle.xh_core.specs.inner.Owning.{AreTotals}
 
 pub at_replicate : {A : Type 0} (n i : ℕ) (x : A) → slice_index_or (replicate n x) i x ≡ x
 at_replicate zero i x = refl

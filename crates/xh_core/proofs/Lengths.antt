@@ -1,9 +1,6 @@
 -- The lengths of the records where one arena is another.
-use Rattle.std.proofs.Common.{◌≡◌, ◌≢◌, ℕ, ◌/◌, ◌%◌, ◌<◌, length, refl, sym, ap, ◌∙◌, arith, inl, inr, get_or-set_same, get_or-set_other}
-use Rattle.std.proofs.lemmas.Bool.{cases_eq}
-use Rattle.xh_model.specs.Cover.{SameRun, length_of}
-use Rattle.xh_model.specs.Arena.{ArenaState}
-use Rattle.xh_model.specs.Store.{Store, no_arena, arena_at, arena_of, len, with_arena}
+use Rattle.xh_core.proofs.Common.{ArenaState, SameRun, Store, ap, arena_at, arena_of, arith, cases_eq, get_or-set_other, get_or-set_same, inl, inr, len, length, length_of, no_arena, refl, sym}
+use Rattle.xh_core.proofs.Common.{with_arena, ℕ, ◌%◌, ◌/◌, ◌<◌, ◌∙◌, ◌≡◌, ◌≢◌}
 
 pub same_number : (q r : ℕ) → q / 256 ≡ r / 256 → q % 256 ≡ r % 256 → q ≡ r
 same_number q r a b = omega arith

@@ -1,9 +1,6 @@
 -- Two ends that are in step are orderly.
-use Rattle.std.proofs.Common.{ℕ, List, inl, inr, sym}
+use Rattle.xh_core.proofs.Common.{AreOrderly, InStep, List, front_step, inl, inr, swap_step, sym, ℕ}
 use Rattle.xh_model.specs.declared.row.Row.{Row}
-use Rattle.xh_model.specs.Rows.{InStep}
-use Rattle.xh_model.proofs.InStep.{front_step, swap_step}
-use Rattle.xh_core.specs.Talks.{AreOrderly}
 
 pub orderly : (rows : List Row) (state state' : ℕ) (tags tags' : List ℕ) → InStep rows 0 state tags state' tags' → AreOrderly rows state tags state' tags'
 orderly rows state state' tags tags' step = (

@@ -1,19 +1,8 @@
 -- What each process holds, where a record changes hands or has another length.
-use Rattle.std.proofs.Common.{◌≡◌, ◌≢◌, ℕ, ◌+◌, ◌-◌, ◌*◌, ◌/◌, ◌%◌, ◌<◌, ◌≤◌, List, length, Bool, true, cond, refl, sym, ap, ◌∙◌, subst, arith, inl, inr, get_or-set_same, get_or-set_other}
-use Rattle.std.specs.Prelude.{Option, Some, None, ◌==◌, slice_index_or}
-use Rattle.std.specs.List.{sum_by, range_with_len}
-use Rattle.std.proofs.lemmas.Bool.{cases_eq, eq-eqb}
-use Rattle.std.proofs.lemmas.Bool.Decides.{nat_tests}
-use Rattle.std.proofs.lemmas.List.{length-set}
-use Rattle.std.proofs.lemmas.List.Sums.{sum_by-le, count_by-le-length}
-use Rattle.std.proofs.lemmas.List.FromFn.{length-range_with_len}
-use Rattle.xh_model.specs.Cover.{SameRun, is_of, length_of}
-use Rattle.xh_model.specs.Arena.{ArenaState}
-use Rattle.xh_model.specs.declared.event.Holder.{Holder}
-use Rattle.xh_model.specs.declared.event.Holder.TheVariants.{Process, Direction}
-use Rattle.xh_model.specs.Store.{Store, no_arena, owner, arena_at, arena_of, len, holds, is_held_by, is_known, numbers, bytes_of, with_owner, with_arena, IsOwner, IsLawful}
-use Rattle.xh_model.proofs.Changed.{known_there}
-use Rattle.xh_core.specs.inner.Owning.{AreTotals, with_less, with_more}
+use Rattle.xh_core.proofs.Common.{AreTotals, ArenaState, Bool, Direction, Holder, IsLawful, IsOwner, List, None, Option, Process, SameRun, Some, Store, ap, arena_at, arena_of, arith, bytes_of}
+use Rattle.xh_core.proofs.Common.{cases_eq, cond, count_by-le-length, eq-eqb, get_or-set_other, get_or-set_same, holds, inl, inr, is_held_by, is_known, is_of, known_there, len, length}
+use Rattle.xh_core.proofs.Common.{length-range_with_len, length-set, length_of, nat_tests, no_arena, numbers, owner, range_with_len, refl, slice_index_or, subst, sum_by, sum_by-le, sym, true}
+use Rattle.xh_core.proofs.Common.{with_arena, with_less, with_more, with_owner, ℕ, ◌%◌, ◌*◌, ◌+◌, ◌-◌, ◌/◌, ◌<◌, ◌==◌, ◌∙◌, ◌≡◌, ◌≢◌, ◌≤◌}
 use Rattle.xh_core.proofs.Stores.{at_set}
 use Rattle.xh_core.proofs.Ranges.{sum_but_one, sum_but_two, one_of_sum}
 use Rattle.xh_core.proofs.Lengths.{len_here, len_but_one, len_but_two}

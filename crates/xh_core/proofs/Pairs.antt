@@ -1,19 +1,10 @@
 -- Two free records are claimed and get bytes, and one of them changes hands.
-use Rattle.std.proofs.Common.{◌≡◌, ◌≢◌, ℕ, ◌+◌, ◌/◌, ◌<◌, List, length, Bool, true, false, cond, refl, sym, ap, ◌∙◌, subst, arith, inl, inr, get_or-set_same}
-use Rattle.std.specs.Prelude.{Option, Some, None, is_none, ◌==◌, ◌||◌, slice_set, slice_index_or, unwrap_or}
-use Rattle.std.proofs.lemmas.Bool.{cases_eq, eq-eqb, ne_eqb, lt-ltb}
-use Rattle.std.proofs.lemmas.Bool.Decides.{nat_tests}
-use Rattle.std.proofs.lemmas.List.{length-set, set-set, set-get_or}
-use Rattle.xh_model.specs.declared.event.Holder.{Holder}
-use Rattle.xh_model.specs.declared.event.Holder.TheVariants.{Process, Direction}
-use Rattle.xh_model.specs.declared.event.Event.TheVariants.{Claim, Carve, Cut, Vacate, Pass, Accept}
-use Rattle.xh_model.specs.Store.{Store, owner, len, holds, is_held_by, is_known, can, after, with_owner, IsLawful}
-use Rattle.xh_model.proofs.Lawful.{owner_lawful}
-use Rattle.xh_core.specs.declared.refused.Refused.{Refused}
+use Rattle.xh_core.proofs.Common.{Accept, Bool, Carve, Claim, Cut, Direction, Holder, IsLawful, List, None, Option, Pass, Process, Refused, Some, Store, Vacate, after, ap, arith, can, cases_eq}
+use Rattle.xh_core.proofs.Common.{cond, eq-eqb, first_refusal, free_record, get_or-set_same, handed, holds, inl, inr, is_held_by, is_known, len, length, length-set, lt-ltb, nat_tests, ne_eqb}
+use Rattle.xh_core.proofs.Common.{owner, owner_lawful, refl, set-get_or, slice_index_or, slice_set, space_tests, subst, sym, true, with_owner, ℕ, ◌+◌, ◌/◌, ◌<◌, ◌==◌, ◌∙◌, ◌≡◌, ◌≢◌}
+use Rattle.std.proofs.Common.{false, is_none, set-set, unwrap_or, ◌||◌}
 use Rattle.xh_core.specs.declared.refused.Refused.TheVariants.{NoRecord}
-use Rattle.xh_core.specs.Space.{free_record, space_tests, claimed_once, pair_tests}
-use Rattle.xh_core.specs.Refusing.{first_refusal}
-use Rattle.xh_core.specs.Several.{handed}
+use Rattle.xh_core.specs.Space.{claimed_once, pair_tests}
 use Rattle.xh_core.specs.inner.Pairing.{ClaimedTwo}
 use Rattle.xh_core.specs.Pairing.{Paired, moved}
 use Rattle.xh_core.proofs.Stores.{done, own_holder, at_set, same_len}
@@ -150,7 +141,10 @@ pub record Shared (p q r t : ℕ) (s n : Store) : Type 0 where
 -- an end that its owner keeps, or hands over, is the new owner's
 moved_is : (p q t d : ℕ) (s : Store) → q < 4096 → d < 128 → owner s t ≡ Some (Process p) → 0 < len s t → t < length s.owners → moved p q t d s ≡ with_owner t (Some (Process q)) s
 moved_is p q t d s ql dl own some there = elim (cases_eq p q) [
-  | inl e ↦ rw (eq-eqb p q e) (let same : slice_set s.owners t (Some (Process q)) ≡ s.owners = rw (← e, ← own) (set-get_or s.owners t None) in ap (λ (os : List (Option Holder)). record s { owners = os }) (sym same))
+  | inl e ↦ rw (eq-eqb p q e) (let same : slice_set s.owners t (Some (Process q)) ≡ s.owners = rw (
+    ← e,
+    ← own,
+  ) (set-get_or s.owners t None) in ap (λ (os : List (Option Holder)). record s { owners = os }) (sym same))
   | inr n ↦ rw (ne_eqb p q n) (handed_is p q t d s ql dl (own_holder s p t own) some there)
 ]
 

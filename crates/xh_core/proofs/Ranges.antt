@@ -1,11 +1,6 @@
 -- Sums over ranges of numbers.
-use Rattle.std.proofs.Common.{◌≡◌, ◌≢◌, ℕ, zero, suc, ◌+◌, ◌-◌, ◌<◌, ◌≤◌, List, [], ◌∷◌, length, cond, refl, sym, ap, ◌∙◌, arith, inl, inr}
-use Rattle.std.specs.Prelude.{◌==◌, map, slice_index_or}
-use Rattle.std.specs.List.{sum_by, range_with_len}
-use Rattle.std.proofs.lemmas.Bool.{cases_eq, eq-eqb, ne_eqb}
-use Rattle.std.proofs.lemmas.Bool.Decides.{nat_tests}
-use Rattle.std.proofs.lemmas.List.Sums.{sum_by-cons}
-use Rattle.xh_model.proofs.Totals.{sum_zero, sum_add, sum_same}
+use Rattle.xh_core.proofs.Common.{List, [], ap, arith, cases_eq, cond, eq-eqb, inl, inr, length, map, nat_tests, ne_eqb, range_with_len, refl, slice_index_or, suc, sum_add, sum_by, sum_by-cons}
+use Rattle.xh_core.proofs.Common.{sum_same, sum_zero, sym, zero, ℕ, ◌+◌, ◌-◌, ◌<◌, ◌==◌, ◌∙◌, ◌∷◌, ◌≡◌, ◌≢◌, ◌≤◌}
 
 -- the terms of the range are the same
 pub same_range : (f g : ℕ → ℕ) (from k : ℕ) → ((q : ℕ) → from ≤ q → q < from + k → f q ≡ g q) → sum_by f (range_with_len from k) ≡ sum_by g (range_with_len from k)
@@ -41,7 +36,11 @@ picked n p from (suc k) a b =
 pub sum_but_one : (f g : ℕ → ℕ) (n r : ℕ) → r < n → ((q : ℕ) → q ≢ r → f q ≡ g q) → sum_by f (range_with_len 0 n) + g r ≡ sum_by g (range_with_len 0 n) + f r
 sum_but_one f g n r l h =
     let rs : List ℕ = range_with_len 0 n in
-    let both : sum_by (λ q. f q + cond {A = ℕ} (r == q) (g r) 0) rs ≡ sum_by (λ q. g q + cond {A = ℕ} (r == q) (f r) 0) rs = sum_same _ _ rs (λ q. let other = h q in grind (arith, nat_tests, other)) in
+    let both : sum_by (λ q. f q + cond {A = ℕ} (r == q) (g r) 0) rs ≡ sum_by (λ q. g q + cond {A = ℕ} (r == q) (f r) 0) rs = sum_same _ _ rs (λ q. let other = h q in grind (
+      arith,
+      nat_tests,
+      other,
+    )) in
     let a = sum_add f (λ q. cond {A = ℕ} (r == q) (g r) 0) rs in
     let b = sum_add g (λ q. cond {A = ℕ} (r == q) (f r) 0) rs in
     let x = picked (g r) r 0 n (omega arith) (omega arith) in

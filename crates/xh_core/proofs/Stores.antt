@@ -1,21 +1,11 @@
 -- What accepting and giving back leave of a store.
-use Rattle.std.proofs.Common.{◌≡◌, ◌++◌, ◌≢◌, ℕ, ◌+◌, ◌/◌, ◌%◌, ◌<◌, ◌≤◌, List, [], ◌∷◌, length, Bool, true, cond, refl, ap, ◌∙◌, arith, get_or-set_same, get_or-set_other}
-use Rattle.std.specs.Prelude.{Option, Some, None, ◌==◌, nat_lt, slice_set, slice_index_or}
-use Rattle.std.proofs.lemmas.Bool.{false≢true, eq-eqb, lt-ltb}
-use Rattle.std.proofs.lemmas.Bool.Decides.{nat_tests}
-use Rattle.std.proofs.lemmas.List.{get_or_past, length-set}
-use Rattle.std.proofs.lemmas.List.Sums.{sum_by-append, sum_by-cons}
-use Rattle.xh_model.specs.declared.event.Holder.{Holder}
-use Rattle.xh_model.specs.declared.event.Holder.TheVariants.{Process, Direction}
+use Rattle.xh_core.proofs.Common.{Accept, ArenaState, Bool, Direction, GiveBack, Holder, IsLawful, List, None, Option, Process, Some, Store, [], accept_all, ap, arena_of, arith, can, change, cond}
+use Rattle.xh_core.proofs.Common.{eq-eqb, false≢true, get_or-set_other, get_or-set_same, held_known, holds, is_held_by, is_known, known_there, len, length, length-set, length_of, lt-ltb, nat_lt}
+use Rattle.xh_core.proofs.Common.{nat_tests, no_arena, owner, refl, slice_index_or, slice_set, sum_by-append, sum_by-cons, times, true, ℕ, ◌%◌, ◌++◌, ◌+◌, ◌/◌, ◌<◌, ◌==◌, ◌∙◌, ◌∷◌, ◌≡◌, ◌≢◌, ◌≤◌}
+use Rattle.std.proofs.lemmas.List.{get_or_past}
 use Rattle.xh_model.specs.declared.event.Event.{Event}
-use Rattle.xh_model.specs.declared.event.Event.TheVariants.{GiveBack, Accept}
-use Rattle.xh_model.specs.Cover.{length_of}
-use Rattle.xh_model.specs.Arena.{ArenaState}
-use Rattle.xh_model.specs.Store.{Store, no_arena, owner, arena_of, len, holds, is_held_by, is_known, can, change, after, IsLawful}
-use Rattle.xh_model.proofs.Changed.{known_there}
-use Rattle.xh_model.proofs.Lawful.{held_known}
+use Rattle.xh_model.specs.Store.{after}
 use Rattle.xh_model.proofs.Returned.{given-own, given-run}
-use Rattle.xh_core.specs.Several.{times, accept_all}
 use Rattle.xh_core.proofs.Lengths.{len_but_one}
 
 pub done : (e : Event) (s : Store) → can e s ≡ true → after e s ≡ change e s

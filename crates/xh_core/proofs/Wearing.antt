@@ -1,10 +1,5 @@
 -- Arenas hand out what they carved, and no more.
-use Rattle.std.proofs.Common.{◌≡◌, ℕ, ◌+◌, ◌<◌, ◌≤◌, length, arith}
-use Rattle.std.proofs.lemmas.List.Elements.{All-get_or, All-set}
-use Rattle.xh_model.specs.Cover.{bytes_out}
-use Rattle.xh_model.specs.Arena.{ArenaState}
-use Rattle.xh_model.specs.Store.{Store, no_arena, arena_at, with_arena}
-use Rattle.xh_core.specs.Wearing.{IsCarved, AreCarved}
+use Rattle.xh_core.proofs.Common.{All-get_or, All-set, AreCarved, ArenaState, IsCarved, Store, arena_at, arith, bytes_out, length, no_arena, with_arena, ℕ, ◌+◌, ◌<◌, ◌≡◌, ◌≤◌}
 
 was_carved : (s : Store) (k : ℕ) → k < length s.arenas → AreCarved s → bytes_out (arena_at s k).cover ≤ (arena_at s k).wear
 was_carved s k l all = All-get_or IsCarved s.arenas k no_arena l all

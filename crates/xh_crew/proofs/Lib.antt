@@ -1,2 +1,3 @@
+pub mod Common
 pub mod Plays
 pub mod Wholes

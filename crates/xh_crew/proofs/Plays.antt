@@ -1,18 +1,9 @@
 -- Lemmas on how lines are played, and on which reply is whose.
-use Rattle.std.proofs.Common.{◌≡◌, ◌<◌, ◌≤◌, ◌+◌, ◌++◌, ◌==◌, ◌∙◌, ℕ, suc, Bool, true, false, List, [], ◌∷◌, map, length, drop, get_or, set, if◌then◌else◌, refl, ap, sym}
-use Rattle.std.proofs.Common.{subst, add-one, append_assoc, drop-cons, arith}
-use Rattle.std.proofs.lemmas.Bool.Decides.{nat_tests}
+use Rattle.xh_crew.proofs.Common.{Answered, AreAnswersTo, Bindings, Bool, Deals, Fits, LAST, Line, List, Plays, Reply, World, [], add-one, ap, append-nil, append_assoc, arith, drop, drop-cons}
+use Rattle.xh_crew.proofs.Common.{drop_of_length-le, false, filter, get_or, get_or-set_other, if◌then◌else◌, length, length-set, map, nat_tests, nil_from_length, part_of, queue_at, refl, set}
+use Rattle.xh_crew.proofs.Common.{subst, suc, sym, told, true, ℕ, ◌++◌, ◌+◌, ◌<◌, ◌==◌, ◌∙◌, ◌∷◌, ◌≡◌, ◌≤◌}
 use Rattle.std.proofs.lemmas.Grind.{common_steps, get_or-set_at}
-use Rattle.std.proofs.lemmas.List.{append-nil, get_or-set_other, length-set, nil_from_length}
-use Rattle.std.proofs.Math.ListN.{drop_of_length-le}
-use Rattle.std.specs.List.{filter}
-use Rattle.xh_crew.specs.inner.Jobs.{Deals, Fits, queue_at}
-use Rattle.xh_crew.specs.Plays.{AllZipFrom, AreAnswersTo, LAST, Plays, part_of, names_after, numbers_after, replies_in, told}
-use Rattle.xh_script.specs.declared.command.Line.{Line}
-use Rattle.xh_script.specs.declared.reply.Answered.{Answered}
-use Rattle.xh_script.specs.declared.reply.Reply.{Reply}
-use Rattle.xh_session.specs.Bindings.{Bindings}
-use Rattle.xh_session.specs.Plans.{World}
+use Rattle.xh_crew.specs.Plays.{AllZipFrom, names_after, numbers_after, replies_in}
 
 -- ---- a loop that plays those of the lines that pass a test
 

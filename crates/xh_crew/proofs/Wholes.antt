@@ -1,27 +1,18 @@
 -- Lemmas on whole runs: what all have played is what the answers tell.
-use Rattle.std.proofs.Common.{◌≡◌, ◌<◌, ◌≤◌, ◌+◌, ◌++◌, ◌==◌, ◌∙◌, ℕ, suc, zero, Bool, true, false, List, [], ◌∷◌, map, length, get_or, if◌then◌else◌, None, inl, inr, refl, ap, sym, subst}
-use Rattle.std.proofs.Common.{arith}
-use Rattle.std.proofs.Math.Nat.{eq-or-lt_of_le}
+use Rattle.xh_crew.proofs.Common.{Answered, ArePlayed, Bindings, Bool, Does, DoesAmong, Fits, HavePlayed, IsHand, Joins, LAST, Left, Line, List, None, PLACES, PlaceIsDone, Plays, World, [], ap}
+use Rattle.xh_crew.proofs.Common.{arith, began, eq-or-lt_of_le, false, get_or, get_or_append_left, get_or_push, if◌then◌else◌, inl, inr, length, length-map, length_push, map, nat_tests, number_of}
+use Rattle.xh_crew.proofs.Common.{part, process_at, queue_at, queues_of, refl, replies_of, subst, suc, sym, true, world_of, zero, ℕ, ◌++◌, ◌+◌, ◌<◌, ◌==◌, ◌∙◌, ◌∷◌, ◌≡◌, ◌≤◌}
 use Rattle.std.proofs.Math.Dec.{eqb-suc-zero}
-use Rattle.std.proofs.lemmas.Bool.Decides.{nat_tests}
-use Rattle.std.proofs.lemmas.List.{get_or_append_left, get_or_push, length-map, length_push}
-use Rattle.xh_model.specs.declared.limits.TheConstants.{PLACES}
 use Rattle.xh_model.specs.declared.row.Row.{Row}
 use Rattle.xh_crew.proofs.Plays.{plays_length, zips_count}
 use Rattle.xh_crew.specs.declared.crew.Hand.{Hand}
-use Rattle.xh_crew.specs.declared.crew.Hand.TheVariants.{Works, Idle}
+use Rattle.xh_crew.specs.declared.crew.Hand.TheVariants.{Idle, Works}
 use Rattle.xh_crew.specs.declared.job.Done.{Done}
 use Rattle.xh_crew.specs.declared.job.Shared.{Shared}
 use Rattle.xh_crew.specs.declared.run.Played.{Played}
-use Rattle.xh_crew.specs.inner.Jobs.{Fits, HavePlayed, IsHand, Joins, Left, PlaceIsDone, queue_at, queues_of, replies_of}
-use Rattle.xh_crew.specs.Plays.{AllZipFrom, ArePlayed, Does, DoesAmong, LAST, PlayAll, Plays, PlaysPlace, began, is_placed, part, process_of, replies_in}
-use Rattle.xh_script.specs.declared.command.Line.{Line}
-use Rattle.xh_script.specs.declared.reply.Answered.{Answered}
+use Rattle.xh_crew.specs.Plays.{AllZipFrom, PlayAll, PlaysPlace, is_placed, process_of, replies_in}
 use Rattle.xh_script.specs.Forms.{is_head}
-use Rattle.xh_session.specs.Bindings.{Bindings, number_of, process_at}
-use Rattle.xh_session.specs.Plans.{World}
-use Rattle.xh_session.specs.Questions.{Question, Answer}
-use Rattle.xh_session.specs.Worlds.{world_of}
+use Rattle.xh_session.specs.Questions.{Answer, Question}
 
 -- ---- the head
 
@@ -33,7 +24,11 @@ zero_at false false n = eqb-suc-zero PLACES
 -- the head's lines are the same by whatever names stand for
 pub same_head : (b c : Bindings) (lines : List Line) → part b 0 lines ≡ part c 0 lines
 same_head b c [] = refl
-same_head b c (line ∷ lines) = rw (zero_at (is_head line.command.form) (is_placed b (process_of line)) (number_of b (process_of line)), zero_at (is_head line.command.form) (is_placed c (process_of line)) (number_of c (process_of line)), same_head b c lines) refl
+same_head b c (line ∷ lines) = rw (
+  zero_at (is_head line.command.form) (is_placed b (process_of line)) (number_of b (process_of line)),
+  zero_at (is_head line.command.form) (is_placed c (process_of line)) (number_of c (process_of line)),
+  same_head b c lines,
+) refl
 
 -- ---- a place
 

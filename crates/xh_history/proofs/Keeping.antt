@@ -136,7 +136,8 @@ module _ {E : Type 0} where
         told.0,
         writer_of,
         told.2,
-        push_each (Fits told.0 writer_of told.2) (set s.views id (without_place v)) (place_alone v) (set_each (Fits told.0 told.1 told.2) (Fits told.0 writer_of told.2) s.views id (without_place v) told.3 left other) right,
+        push_each (Fits told.0 writer_of told.2) (set s.views id (without_place v)) (place_alone v)
+            (set_each (Fits told.0 told.1 told.2) (Fits told.0 writer_of told.2) s.views id (without_place v) told.3 left other) right,
       )
 
   -- the first worker goes to a new seat
@@ -168,7 +169,8 @@ module _ {E : Type 0} where
         told.0,
         told.1,
         server_of,
-        push_each (Fits told.0 told.1 server_of) (set s.views id (without_worker v)) (worker_alone v) (set_each (Fits told.0 told.1 told.2) (Fits told.0 told.1 server_of) s.views id (without_worker v) told.3 left other) right,
+        push_each (Fits told.0 told.1 server_of) (set s.views id (without_worker v)) (worker_alone v)
+            (set_each (Fits told.0 told.1 told.2) (Fits told.0 told.1 server_of) s.views id (without_worker v) told.3 left other) right,
       )
 
   -- a seat that serves nobody takes in one that serves one worker
@@ -201,7 +203,8 @@ module _ {E : Type 0} where
         told.0,
         told.1,
         server_of,
-        set_each P (Fits told.0 told.1 server_of) (set s.views id (both v w)) from spent (set_each (Fits told.0 told.1 told.2) P s.views id (both v w) told.3 (λ _. mine) other) nothing (λ j u ne x. x ne),
+        set_each P (Fits told.0 told.1 server_of) (set s.views id (both v w)) from spent (set_each (Fits told.0 told.1 told.2) P s.views id (both v w) told.3 (λ _. mine) other) nothing
+            (λ j u ne x. x ne),
       )
 
   empties : (n p : ℕ) → at {E = E} (replicate n []) p ≡ []

@@ -1,26 +1,20 @@
 -- What came back of the tallies that an account lent.
-use Rattle.std.proofs.Common.{◌≡◌, ◌<◌, ℕ, ◌+◌, ◌-◌, List, length, ap, arith, refl, subst, ◌∙◌}
-use Rattle.std.specs.Prelude.{Result, Ok, Err, IfErr, MatchResult, OnOk}
+use Rattle.xh_kernel.proofs.Common.{AccountOf, Err, FrontOf, HasGivenBack, IfErr, List, MatchResult, Ok, OnOk, PartsOf, Result, TallyOf, VaultOf, ap, arith, back_of, but_back, length, refl, subst}
+use Rattle.xh_kernel.proofs.Common.{ℕ, ◌+◌, ◌-◌, ◌<◌, ◌∙◌, ◌≡◌}
 use Rattle.atomic_table.specs.Seated.{TableId}
-use Rattle.xh_arena.specs.Views.{TallyOf, VaultOf}
 use Rattle.xh_core.specs.declared.refused.Refused.{Refused}
-use Rattle.xh_calls.specs.Parts.{PartsOf}
 use Rattle.xh_calls.specs.Vaults.{AsksVault}
-use Rattle.xh_history.specs.Histories.{FrontOf}
-use Rattle.xh_kernel.specs.Accounts.{AccountOf}
 use Rattle.xh_place.proofs.Counted.{tallied}
-use Rattle.xh_place.specs.Ending.{HasGivenBack, back_of, but_back}
 use Rattle.xh_place.specs.Tallies.{gave, ids_of}
 
--- the bytes of the call are those that the account has more than before
-pub came_back : {account inside : AccountOf} {lent given new : List TallyOf} (before bytes : ℕ) → before ≡ back_of account.tallies → inside ≡ account → lent ≡ inside.tallies → new ≡ given
-    → HasGivenBack bytes lent given → (bytes ≡ back_of new - before) × HasGivenBack (back_of new - before) account.tallies new
-came_back {account} {inside} {lent} {given} {new} before bytes was view start end back =
+-- what a call did with the bytes that came back, it did with those that the account has more than before
+pub came_back : {account inside : AccountOf} {lent given new : List TallyOf} {P : ℕ → Type 0} (before : ℕ) → before ≡ back_of account.tallies → inside ≡ account → lent ≡ inside.tallies
+    → new ≡ given → (bytes : ℕ) × P bytes × HasGivenBack bytes lent given → P (back_of new - before) × HasGivenBack (back_of new - before) account.tallies new
+came_back {account} {inside} {lent} {given} {new} {P} before was view start end d =
     let first : lent ≡ account.tallies = start ∙ ap (λ (a : AccountOf). a.tallies) view in
-    let sum : back_of new ≡ back_of account.tallies + bytes = ap back_of end ∙ back.0 ∙ ap (λ (ts : List TallyOf). back_of ts + bytes) first in (
-      omega (arith, sum, was),
-      (omega (arith, sum, was), ap but_back end ∙ back.1 ∙ ap but_back first),
-    )
+    let sum : back_of new ≡ back_of account.tallies + d.0 = ap back_of end ∙ d.2.0 ∙ ap (λ (ts : List TallyOf). back_of ts + d.0) first in
+    let more : d.0 ≡ back_of new - before = omega (arith, sum, was) in
+    (subst P more d.1, (omega (arith, sum, was), ap but_back end ∙ d.2.1 ∙ ap but_back first))
 
 -- the bytes of a block came back, whose record is of an arena of these names
 pub given : {account inside : AccountOf} {lent out new : List TallyOf} (result : Result ℕ Refused) (arena : ℕ) (names : List TableId) → inside ≡ account → lent ≡ inside.tallies → new ≡ out

@@ -1,16 +1,8 @@
 -- Comparing what workers have seen with the pens of the places, place by place and worker by worker.
-use Rattle.std.proofs.Common.{◌≡◌, ℕ, zero, suc, ◌+◌, ◌<◌, ◌≤◌, List, [], ◌∷◌, All, length, get_or, set, refl, sym, ap, ◌∙◌, subst, arith, get_or-set_other}
-use Rattle.std.proofs.lemmas.List.{get_or-map, map-set, set-get_or}
-use Rattle.std.specs.Prelude.{slice_set}
+use Rattle.xh_kernel.proofs.Common.{AccountOf, All, AreInOrder, AreKept, AreOwn, Call, IsKept, IsUnmoved, List, PartsOf, Pens, PlaceSeen, [], ap, arith, get_or, get_or-map, get_or-set_other}
+use Rattle.xh_kernel.proofs.Common.{histories_of, length, map-set, refl, set, set-get_or, slice_set, subst, suc, sym, tallies_of, zero, ℕ, ◌+◌, ◌<◌, ◌∙◌, ◌∷◌, ◌≡◌, ◌≤◌}
 use borrow.Author.Count.{below_more}
-use Rattle.xh_calls.specs.Parts.{PartsOf}
 use Rattle.xh_history.specs.Histories.{HasSeen, History, at}
-use Rattle.xh_kernel.specs.declared.call.Call.{Call}
-use Rattle.xh_kernel.specs.declared.scribe.Pens.{Pens}
-use Rattle.xh_kernel.specs.Accounts.{AccountOf, IsUnmoved}
-use Rattle.xh_kernel.specs.Kept.{AreKept, AreOwn, IsKept}
-use Rattle.xh_place.specs.Seen.{PlaceSeen}
-use Rattle.xh_kernel.specs.Finished.{AreInOrder, histories_of, tallies_of}
 
 -- the pens of a place, and what they know, by its number
 pub pens_at : (parts : PartsOf) (pens : List Pens) → All (AreOwn parts) pens → AreInOrder pens → (k : ℕ) (d : Pens) → k < length pens

@@ -1,19 +1,8 @@
 -- The last entry of a history, once it was told; and what is kept of each place.
-use Rattle.std.proofs.Common.{◌≡◌, ℕ, List, [], ◌∷◌, ◌++◌, All, arith, refl, sym, subst, ap, ◌∙◌}
-use Rattle.std.proofs.lemmas.List.Elements.{All-cons}
-use Rattle.std.specs.Prelude.{Some}
-use Rattle.xh_core.specs.declared.glance.Glance.{Glance}
-use Rattle.xh_glance.specs.Pen.{PenOf, fresh_pen}
+use Rattle.xh_kernel.proofs.Common.{All, All-cons, AreKept, AreOf, Call, Glance, IsHistoryOf, IsKept, IsPlaceOf, IsUnused, List, PartsOf, PenOf, Pens, PlaceSeen, Some, [], ap, arith, fresh_pen}
+use Rattle.xh_kernel.proofs.Common.{last_of, places_of, refl, subst, sym, ℕ, ◌++◌, ◌∙◌, ◌∷◌, ◌≡◌}
 use Rattle.xh_history.specs.Histories as histories
-use Rattle.xh_place.specs.Places.{IsPlaceOf}
-use Rattle.xh_place.specs.Seen.{PlaceSeen}
 use Rattle.xh_records.proofs.History.{starts_itself}
-use Rattle.xh_calls.specs.Parts.{PartsOf}
-use Rattle.xh_kernel.specs.declared.call.Call.{Call}
-use Rattle.xh_kernel.specs.declared.scribe.Pens.{Pens}
-use Rattle.xh_kernel.specs.Histories.{IsHistoryOf, IsUnused}
-use Rattle.xh_kernel.specs.Kept.{AreKept, AreOf, IsKept}
-use Rattle.xh_kernel.specs.Places.{last_of, places_of}
 
 last_push : {A : Type 0} (xs : List A) (x : A) → last_of (xs ++ x ∷ []) ≡ Some x
 last_push [] x = refl

@@ -1,3 +1,4 @@
+pub mod Common
 pub mod Again
 pub mod Back
 pub mod Last

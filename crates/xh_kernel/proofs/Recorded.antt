@@ -1,18 +1,8 @@
 -- One more call of a history.
-use Rattle.std.proofs.Common.{◌≡◌, ◌<◌, inl, ℕ, List, [], ◌∷◌, ◌++◌, append_assoc, append-nil, refl, sym, ap, ◌∙◌, subst}
-use Rattle.std.specs.Prelude.{slice_set}
+use Rattle.xh_kernel.proofs.Common.{AreOf, Call, Does, FrontOf, Glance, Goes, IsFound, IsHistoryOf, IsNext, Leads, LeadsTo, List, Made, PartsOf, Pens, PlaceSeen, Stays, [], ap, append-nil}
+use Rattle.xh_kernel.proofs.Common.{append_assoc, glance_of, inl, refl, slice_set, stays_again, stays_itself, subst, sym, ℕ, ◌++◌, ◌<◌, ◌∙◌, ◌∷◌, ◌≡◌}
 use Rattle.std.proofs.Math.Logic.{∥∥₁_map}
-use Rattle.xh_core.specs.declared.glance.Glance.{Glance}
-use Rattle.xh_history.specs.Histories.{FrontOf, HasSeen, History, PenOf, at}
-use Rattle.xh_calls.proofs.Same.{stays_again, stays_itself}
-use Rattle.xh_calls.specs.Parts.{PartsOf}
-use Rattle.xh_kernel.specs.declared.call.Call.{Call}
-use Rattle.xh_kernel.specs.declared.scribe.Pens.{Pens}
-use Rattle.xh_kernel.specs.Histories.{Does, Goes, IsHistoryOf, Leads, LeadsTo, Made}
-use Rattle.xh_kernel.specs.Kept.{AreOf, IsNext}
-use Rattle.xh_kernel.specs.Places.{IsFound}
-use Rattle.xh_place.specs.Places.{glance_of}
-use Rattle.xh_place.specs.Seen.{PlaceSeen, Stays}
+use Rattle.xh_history.specs.Histories.{HasSeen, History, PenOf, at}
 
 module _ (parts : PartsOf) where
   leads_on : (a b from c : PlaceSeen) (h : History Call) (gs told : List Glance) (n : ℕ) (e : Call) → Leads parts a h gs b → Stays b from → Goes parts (n, e) from c told
@@ -50,7 +40,10 @@ module _ (parts : PartsOf) where
       ∥∥₁_map was (λ l. (l.0, l.1 ++ told, l.2, ap (λ (xs : List Glance). xs ++ told) l.3, leads_on l.0 old from new pen.history l.1 told front.number e l.4 stays goes)) in
       let history : after.history ≡ pen.history ++ (front.number, e) ∷ [] = ap (λ (p : PenOf Call). p.history) pen_is in
       let seen_is : pen.history ++ (front.number, e) ∷ [] ≡ (at front.fronts pen.number ++ seen.0) ++ (front.number, e) ∷ [] = ap (λ (h : History Call). h ++ (front.number, e) ∷ []) seen.1 in (
-        subst (λ (p : PenOf Call). IsHistoryOf parts p.number p.history gs' new) (sym pen_is) (subst (λ (xs : List Glance). IsHistoryOf parts pen.number (pen.history ++ (front.number, e) ∷ []) xs new) (sym more) on),
+        subst (λ (p : PenOf Call). IsHistoryOf parts p.number p.history gs' new) (sym pen_is) (subst (λ (xs : List Glance). IsHistoryOf parts pen.number (pen.history ++ (
+          front.number,
+          e,
+        ) ∷ []) xs new) (sym more) on),
         record {
           others = seen.0;
           not_its_own = seen.2;

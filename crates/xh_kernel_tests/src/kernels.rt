@@ -7,7 +7,6 @@ mod several;
 mod waiting;
 mod wiring;
 
-use crate::flights;
 use crate::worker::{Caller, hire};
 use passing::Passing;
 use std::alloc::Global;
@@ -21,13 +20,12 @@ use xh_books::{Books, close_kernel};
 use xh_core::{Config, Refused};
 use xh_kernel::{Account, Kernel, Names, Parts};
 
-/// What is tried on a kernel: no call; messages of so many blocks that stay in flight; messages from one thread to another; rounds of a process that waits, at two
-/// ends or at one, which answers so once its wait is ended; a wire to a process that ends; takes at several endpoints, by
-/// what they answer, by their deadlines and by turns; a server of eight clients.
+/// What is tried on a kernel: how many accounts it has; messages from one thread to another; rounds of a process that waits, at
+/// two ends or at one, which answers so once its wait is ended; a wire to a process that ends; takes at several endpoints,
+/// by what they answer, by their deadlines and by turns; a server of eight clients.
 #[derive(Clone, Copy)]
 pub enum Case {
-    Nothing,
-    InFlight((u8, u8)),
+    Accounts(usize),
     Passes(Passing),
     Waits(bool, Ender, u64),
     WireToOneThatEnds,
@@ -61,12 +59,12 @@ fn try_case<W: Caller + Send, R: Threads + Wait + Clock + Abort + Sync>(
     workers: &mut [W],
     case: Case,
 ) {
+    let count = workers.len();
     let Some((mine, others)) = workers.split_first_mut() else {
         panic!(rt; "no worker");
     };
     match case {
-        Case::Nothing => {}
-        Case::InFlight(counts) => assert!(rt; flights::give_both(alloc, mine, counts).is_ok()),
+        Case::Accounts(expected) => assert_eq!(rt; count, expected),
         Case::Passes(what) => passing::assert_passes(rt, alloc, mine, others, what),
         Case::Waits(both, ender, want) => {
             waiting::assert_rounds(rt, mine, others, (both, ender), want);
@@ -131,35 +129,53 @@ fn assert_case<R: Threads + Wait + Clock + Abort + Sync>(
     assert!(rt; books.is_ok());
 }
 
-/// What the making of a kernel answers: the name of a refusal, or nothing.
-fn made<R: Threads + Wait + Clock + Abort + Sync>(
+/// The books of a new kernel with so many accounts, one for each worker, on which nothing is done.
+fn unused<R: Threads + Wait + Clock + Abort + Sync>(
     rt: &R,
     alloc: Global,
     arenas: u8,
+    bytes: u32,
     workers: u8,
-) -> &'static str {
+) -> Result<Books, Refused> {
     let config = Config {
         arenas,
-        ..waiting_of(16, 4)
+        ..waiting_of(bytes, 4)
     };
-    match on_kernel(rt, alloc, config, workers, Case::Nothing) {
+    let case = Case::Accounts(usize::from(workers));
+    on_kernel(rt, alloc, config, workers, case)
+}
+
+/// The name of a refusal, or nothing.
+fn name_of(made: Result<Books, Refused>) -> &'static str {
+    match made {
         Ok(_books) => "",
         Err(refused) => refused.name(),
     }
 }
 
-/// Limits on both sides of each, of arenas and workers.
+/// A kernel in which nothing ran has a ledger without places, whose sums are 0.
+#[test]
+fn empty_kernel(rt: HostRuntime) {
+    let books = unused(&rt, rt.alloc(), 1, 256, 2).expect(&rt, "room");
+    let ledger = &books.ledger;
+    assert!(rt; ledger.places.is_empty() && books.flight.is_empty());
+    assert_eq!(rt; (ledger.owned, ledger.flight, ledger.out), (0, 0, 0));
+}
+
+/// Limits on both sides of each, of arenas, bytes and workers.
 #[test]
 fn limits_of_parts(rt: HostRuntime) {
-    const LIMITS: &[(u8, u8, &str)] = &[
-        (1, 1, ""),
-        (1, 33, ""),
-        (1, 0, "BadSize"),
-        (1, 34, "BadSize"),
-        (0, 1, "BadSize"),
+    const LIMITS: &[(u8, u32, u8, &str)] = &[
+        (1, 16, 1, ""),
+        (1, 16, 33, ""),
+        (1, 16, 0, "BadSize"),
+        (1, 16, 34, "BadSize"),
+        (0, 16, 1, "BadSize"),
+        (1, 40, 1, "BadSize"),
     ];
-    for (arenas, workers, expected) in LIMITS {
-        assert_eq!(rt; made(&rt, rt.alloc(), *arenas, *workers), *expected);
+    for (arenas, bytes, workers, expected) in LIMITS {
+        let made = unused(&rt, rt.alloc(), *arenas, *bytes, *workers);
+        assert_eq!(rt; name_of(made), *expected);
     }
 }
 

@@ -1,10 +1,6 @@
-//! The kernel, and the glances that it tells, by their public calls.
+//! The kernel by its public calls.
 #![tactic(auto)]
 
-#[cfg(test)]
-mod flights;
-#[cfg(test)]
-mod glances;
 #[cfg(test)]
 mod kernels;
 #[cfg(test)]

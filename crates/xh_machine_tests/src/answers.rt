@@ -1,5 +1,5 @@
 //! Calls of a machine and what they answer, to be compared.
-use crate::contracts::{Rules, contract_of};
+use crate::contracts::request_and_reply;
 use crate::heaps::Booked;
 use std::alloc::Global;
 use std::process::Abort;
@@ -8,8 +8,8 @@ use xh_runner::{Machine, Received};
 
 /// A call, by the numbers of processes, records and arenas. `Spawns` starts so many processes; `Lives` starts and ends
 /// 4,096 in turn, each place's generations one after the other and then the next place's. A read is of at most six bytes.
-/// `Opens` opens so many channels of process 0 and arena 0; `Bans` gives a message of each tag from 0 to 4 but one. `Moved`
-/// asks what was taken of an arena and given back.
+/// `OpenWith` and `WireWith` are by the contract of a request and its reply. `Moved` asks what was taken of an arena and
+/// given back.
 #[derive(Clone, Copy)]
 pub enum Call<'a> {
     Spawn,
@@ -21,12 +21,10 @@ pub enum Call<'a> {
     Write(u16, u16, u32, &'a [u8]),
     Free(u16, u16),
     Open(u16, u32),
-    Opens(u64),
-    OpenWith(u16, u32, Rules),
+    OpenWith(u16, u32),
     Wire(u16, u16, u32),
-    WireWith(u16, u16, u32, Rules),
+    WireWith(u16, u16, u32),
     Give(u16, u16, u16, &'a [u16]),
-    Bans(u16, u16, Option<u16>),
     Take(u16, u16),
     TakeWait(u16, u16),
     Close(u16, u16),
@@ -36,7 +34,7 @@ pub enum Call<'a> {
     Moved(u8),
 }
 
-/// A process, a message's number, how many bytes came back, or the first of several that did not start, end or open; a
+/// A process, a message's number, how many bytes came back, or the first of several that did not start or end; a
 /// block, by record and length; two blocks; the bytes of a read, with 0xee past the last; a message, by its number, its tag
 /// and its blocks, two at most, each by record and length (0 and 0 if it did not come); a place, by process, state, blocks and
 /// bytes; bytes taken and given back; the name of a refusal; one that hands blocks back, with all of them, which are two at
@@ -175,37 +173,9 @@ fn lives_of<M: Machine>(machine: &mut M) -> Answer {
     Answer::Done
 }
 
-fn opens_of<M: Machine>(machine: &mut M, count: u64) -> Answer {
-    for at in 0..count {
-        if machine.open(0, 0, None).is_err() {
-            return Answer::Number(at);
-        }
-    }
-    Answer::Done
-}
-
-/// Nothing where the contract refuses each tag but one, or else what the call with the first other tag answers.
-fn banned_of<M: Machine>(machine: &mut M, p: u16, e: u16, allowed: Option<u16>) -> Answer {
-    for tag in 0..5u16 {
-        if allowed != Some(tag) {
-            let answer = of_number(machine.give(p, e, tag, &[]));
-            if answer != Answer::Back("Protocol", [None, None]) {
-                return answer;
-            }
-        }
-    }
-    Answer::Done
-}
-
-/// The ends of a channel by these rules: of the process, or of it and another.
-fn ends_under<M: Machine>(
-    machine: &mut M,
-    p: u16,
-    other: Option<u16>,
-    arena: u32,
-    rules: Rules,
-) -> Answer {
-    match (contract_of(rules), other) {
+/// The ends of a channel by the contract: of the process, or of it and another.
+fn ends_under<M: Machine>(machine: &mut M, p: u16, other: Option<u16>, arena: u32) -> Answer {
+    match (request_and_reply(), other) {
         (Ok(contract), None) => of_two(machine.open(p, arena, Some(&contract))),
         (Ok(contract), Some(q)) => of_two(machine.wire(p, q, arena, Some(&contract))),
         (Err(refused), _) => of_refused(refused),
@@ -224,12 +194,10 @@ pub fn answer_of<M: Booked>(machine: &mut M, alloc: Global, call: Call) -> Answe
         Call::Write(p, r, at, bytes) => of_nothing(machine.write(p, r, at, bytes)),
         Call::Free(p, r) => of_number(machine.free(p, r).map(u64::from)),
         Call::Open(p, arena) => of_two(machine.open(p, arena, None)),
-        Call::Opens(count) => opens_of(machine, count),
-        Call::OpenWith(p, arena, rules) => ends_under(machine, p, None, arena, rules),
+        Call::OpenWith(p, arena) => ends_under(machine, p, None, arena),
         Call::Wire(p, q, arena) => of_two(machine.wire(p, q, arena, None)),
-        Call::WireWith(p, q, arena, rules) => ends_under(machine, p, Some(q), arena, rules),
+        Call::WireWith(p, q, arena) => ends_under(machine, p, Some(q), arena),
         Call::Give(p, e, tag, blocks) => of_number(machine.give(p, e, tag, blocks)),
-        Call::Bans(p, e, allowed) => banned_of(machine, p, e, allowed),
         Call::Take(p, e) => of_message(machine.take(p, e, false)),
         Call::TakeWait(p, e) => of_message(machine.take(p, e, true)),
         Call::Close(p, e) => of_number(machine.close(p, e)),

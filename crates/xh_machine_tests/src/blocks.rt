@@ -1,8 +1,7 @@
 //! Data blocks, by calls.
 use crate::answers::Answer::{self, Block, Bytes, Done, Moved, No, Number, Two};
-use crate::answers::Call::{self, Alloc, Free, Give, Moved as Count, Read, Spawn, Split, Write};
+use crate::answers::Call::{self, Alloc, Free, Moved as Count, Read, Spawn, Split, Write};
 use crate::heaps::{arenas_of, assert_on};
-use xh_core::Config;
 
 /// Sizes that an arena can't hand out, and an arena that is full.
 #[test]
@@ -91,75 +90,4 @@ fn place_calls(rt: HostRuntime) {
         (Count(0), Moved(48, 32)),
     ];
     assert_on(&rt, rt.alloc(), arenas_of(1, 256, 8), CALLS);
-}
-
-/// A process that is none is refused ahead of all else, and what another has ahead of what is asked of it.
-#[test]
-fn others_are_refused_first(rt: HostRuntime) {
-    const CALLS: &[(Call, Answer)] = &[
-        (Alloc(0, 16, 0), No("NoProcess")),
-        (Spawn, Number(0)),
-        (Spawn, Number(1)),
-        (Alloc(0, 40, 0), Block(0, 48)),
-        (Split(0, 0, 16), Two(0, 16, 1, 32)),
-        (Write(1, 1, 0, &[1]), No("NotOwned")),
-        (Free(1, 1), No("NotOwned")),
-        (Give(1, 0, 1, &[]), No("NotOwned")),
-        (Give(2, 0, 1, &[]), No("NoProcess")),
-        (Free(2, 1), No("NoProcess")),
-        (Alloc(2, 0, 9), No("NoProcess")),
-        (Free(32, 1), No("NoProcess")),
-        (Alloc(32, 0, 9), No("NoProcess")),
-        (Alloc(255, 16, 0), No("NoProcess")),
-        (Free(4_096, 1), No("NoProcess")),
-        (Alloc(4_096, 0, 9), No("NoProcess")),
-        (Free(65_535, 1), No("NoProcess")),
-        (Alloc(65_535, 0, 9), No("NoProcess")),
-    ];
-    assert_on(&rt, rt.alloc(), arenas_of(1, 256, 8), CALLS);
-}
-
-/// Of the last byte of 16 on, two are not read, and nothing is written where they were to go; of its end on, none are.
-#[test]
-fn bytes_are_written_and_read(rt: HostRuntime) {
-    const CALLS: &[(Call, Answer)] = &[
-        (Spawn, Number(0)),
-        (Alloc(0, 16, 0), Block(0, 16)),
-        (Write(0, 0, 0, &[0xbe, 0xef]), Done),
-        (Read(0, 0, 0, 6), Bytes([0xbe, 0xef, 0, 0, 0, 0])),
-        (Read(0, 0, 11, 6), No("BadRange")),
-        (Write(0, 0, 15, &[1, 2]), No("BadRange")),
-        (Write(0, 1, 0, &[1]), No("NotOwned")),
-        (Read(0, 0, 15, 2), No("BadRange")),
-        (Read(0, 0, 16, 0), Bytes([0xee; 6])),
-    ];
-    assert_on(&rt, rt.alloc(), arenas_of(1, 256, 8), CALLS);
-}
-
-/// Of a large block only a few bytes are written. Each part of a cut keeps its own, whether the head or the tail is the
-/// smaller.
-#[test]
-fn a_few_bytes_of_a_large_block(rt: HostRuntime) {
-    const CALLS: &[(Call, Answer)] = &[
-        (Spawn, Number(0)),
-        (Alloc(0, 1_048_576, 0), Block(0, 1_048_576)),
-        (Write(0, 0, 1_022, &[1, 2, 3, 4]), Done),
-        (Write(0, 0, 524_286, &[1, 2, 3, 4]), Done),
-        (Write(0, 0, 1_048_572, &[1, 2, 3, 4]), Done),
-        (Read(0, 0, 1_021, 6), Bytes([0, 1, 2, 3, 4, 0])),
-        (Split(0, 0, 1_024), Two(0, 1_024, 1, 1_047_552)),
-        (Split(0, 1, 1_046_528), Two(1, 1_046_528, 2, 1_024)),
-        (Read(0, 0, 1_018, 6), Bytes([0, 0, 0, 0, 1, 2])),
-        (Read(0, 1, 0, 6), Bytes([3, 4, 0, 0, 0, 0])),
-        (Read(0, 1, 523_261, 6), Bytes([0, 1, 2, 3, 4, 0])),
-        (Read(0, 2, 1_018, 6), Bytes([0, 0, 1, 2, 3, 4])),
-        (Free(0, 1), Number(1_046_528)),
-        (Alloc(0, 1_046_528, 0), Block(1, 1_046_528)),
-        (Read(0, 1, 0, 6), Bytes([0; 6])),
-    ];
-    let config = Config {
-        wear: 4_194_304,
-        ..arenas_of(1, 1_048_576, 8)
-    };
-    assert_on(&rt, rt.alloc(), config, CALLS);
 }

@@ -6,8 +6,6 @@ mod answers;
 #[cfg(test)]
 mod blocks;
 #[cfg(test)]
-mod channels;
-#[cfg(test)]
 mod contracts;
 #[cfg(test)]
 mod endings;

@@ -142,27 +142,3 @@ fn a_message_that_waits_is_there_at_once(rt: HostRuntime) {
     ];
     assert_on(&rt, rt.alloc(), waiting_of(256, 1), CALLS);
 }
-
-/// Where more than one refusal applies, the first in the order is answered.
-#[test]
-fn the_first_refusal_of_give(rt: HostRuntime) {
-    const CALLS: &[(Call, Answer)] = &[
-        (Spawn, Number(0)),
-        (Spawn, Number(1)),
-        (Wire(0, 1, 0), Two(0, 32, 1, 32)),
-        (Alloc(0, 16, 0), Block(2, 16)),
-        (Give(2, 3, 0, &[3; 9]), No("NoProcess")),
-        (Give(0, 3, 0, &[3; 9]), No("NotOwned")),
-        (Give(0, 2, 0, &[3; 9]), No("NotEndpoint")),
-        (Give(0, 0, 0, &[3; 9]), No("TooMany")),
-        (Give(0, 0, 0, &[3, 3]), No("NotOwned")),
-        (Give(0, 0, 0, &[]), Number(1)),
-        (Give(0, 0, 0, &[2, 2]), No("Twice")),
-        (Give(0, 0, 0, &[2]), Back("Full", [Some(2), None])),
-        (Exit(1, 1), Number(32)),
-        (Give(1, 3, 0, &[3; 9]), No("Ended")),
-        (Give(0, 0, 0, &[2, 2]), No("Twice")),
-        (Give(0, 0, 0, &[2]), Back("PeerClosed", [Some(2), None])),
-    ];
-    assert_on(&rt, rt.alloc(), waiting_of(256, 1), CALLS);
-}

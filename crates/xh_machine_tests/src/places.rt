@@ -38,24 +38,6 @@ fn first_glance(rt: HostRuntime) {
     assert_on(&rt, rt.alloc(), arenas_of(1, 256, 8), CALLS);
 }
 
-/// A place used again has another number, and the process of the earlier number has ended.
-#[test]
-fn place_used_again(rt: HostRuntime) {
-    const CALLS: &[(Call, Answer)] = &[
-        (Spawn, Number(0)),
-        (Spawn, Number(1)),
-        (Exit(0, 4_096), Number(0)),
-        (Spawn, Number(32)),
-        (Alloc(0, 16, 0), No("Ended")),
-        (Exit(0, 4_096), No("Ended")),
-        (Alloc(64, 16, 0), No("NoProcess")),
-        (Exit(64, 4_096), No("NoProcess")),
-        (Alloc(32, 16, 0), Block(0, 16)),
-        (Spawn, Number(2)),
-    ];
-    assert_on(&rt, rt.alloc(), arenas_of(1, 256, 8), CALLS);
-}
-
 /// The lowest place is used again first, and the number of a process that has ended stays ended, though another runs at
 /// its place.
 #[test]
@@ -84,13 +66,6 @@ fn every_process_number(rt: HostRuntime) {
         (Glance(31), Place(4_095, Status::Ended, 0, 0)),
     ];
     assert_on(&rt, rt.alloc(), arenas_of(1, 16, 1), CALLS);
-}
-
-/// What is left of a machine whose last arena alone was used.
-#[test]
-fn settling(rt: HostRuntime) {
-    const CALLS: &[(Call, Answer)] = &[(Spawn, Number(0)), (Alloc(0, 17, 7), Block(1_792, 32))];
-    assert_on(&rt, rt.alloc(), arenas_of(8, 256, 8), CALLS);
 }
 
 /// What is left of a machine without a process.

@@ -208,6 +208,7 @@ sent_from e tag given old mid new result same is =
       answered = is.answered;
       back = is.back;
       all = is.all;
+      records = is.records;
       note = is.note;
       noted = (is.noted.0, λ r among. came_before (Pass mid.place.process r (away_in (value_at e mid.place.blocks))) old.front same.1 (is.noted.1 r among));
       made = is.made;

@@ -1,6 +1,7 @@
 -- A seat that has gained a record, or two at once.
 use Rattle.xh_place.proofs.Words.{◌≡◌, ℕ, ◌<◌, ◌≤◌, List, [], ◌∷◌, ◌++◌, length, sym, ap, ◌∙◌, subst, true, eq-eqb, eqb, arith, rules, Some, ◌&&◌, nat_le, nat_lt, LotOf, Among, keys, value_at, put}
-use Rattle.xh_place.proofs.Words.{IsOwn, None, TableId, log_of, without, last_at, last_put, last_without, IsLotOf, Held, with_lots, HasNow, bare, Body, Nothing, Data, End, bytes, content_of, fits_in, ◌≢◌, ◌+◌, ⊎_elim}
+use Rattle.xh_place.proofs.Words.{IsOwn, None, TableId, log_of, without, last_at, last_put, last_without, IsLotOf, Held, with_lots, HasNow, bare, Body, Nothing, Data, End, bytes, content_of, fits_in}
+use Rattle.xh_place.proofs.Words.{◌≢◌, ◌+◌, ⊎_elim}
 use Rattle.xh_place.proofs.Words.{append_assoc, refl, Status, among_either, keys_push, last_other, put_split, IsRecord, Item, with_blocks, item_at, item_of, shown, IsPlace, is_over}
 use Rattle.xh_place.specs.inner.Opening.{AreMade, HasTwoMore}
 use Rattle.xh_place.proofs.Steps.{IsNow, list_room, won}

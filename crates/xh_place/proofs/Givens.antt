@@ -2,7 +2,8 @@
 use Rattle.xh_place.proofs.Words.{dec_among, map-append, arith, eqb, eq-eqb, ◌≡◌, ℕ, Bool, true, false, ⊎_elim, List, [], ◌∷◌, refl, sym, ap, ◌∙◌, ◌==◌, ◌||◌, ◌&&◌, Option, Some, None, is_some}
 use Rattle.xh_place.proofs.Words.{nat_tests, list_all, list_any, first_refusal, Among, Distinct, value_at, given_tests, is_listed, Item, ◌≢◌, ◌+◌, ◌*◌, ◌≤◌, inl, inr, length, subst, cond, dite}
 use Rattle.xh_place.proofs.Words.{ℕ_discrete, LotOf, Status, is_over, keys, put, without, distinct_without, put_at, put_keys, put_other, without_at, without_other, Held, with_lots, HasNow, AreBack}
-use Rattle.xh_place.proofs.Words.{RecordsOf, records_of, lens, less_all, Body, item_at, item_of, item_in, shown, total_of, with_blocks, IsBlock, IsPlace, settle, settled, append-nil, length-append, ◌++◌, Event, Accept}
+use Rattle.xh_place.proofs.Words.{RecordsOf, records_of, lens, less_all, Body, item_at, item_of, item_in, shown, total_of, with_blocks, IsBlock, IsPlace, settle, settled, append-nil, length-append}
+use Rattle.xh_place.proofs.Words.{◌++◌, Event, Accept}
 use Rattle.xh_place.proofs.Words.{Pass, among_either, last_at, last_other, did, accepted_on, moves, passed_on, SeatSaw, SeatSeesMore, with_done, IsElsewhere, CameBack}
 use Rattle.xh_place.proofs.Words.{ArePassed, Came}
 use Rattle.xh_core.specs.Several.{has_twice}

@@ -15,7 +15,13 @@ shown_long lots rs = sym (length-keys (shown lots rs)) ∙ ap length (shown_keys
 pub as_shown : (lots : List (ℕ × LotOf Body)) (xs : List (ℕ × Item)) → Distinct (keys xs) → ((r : ℕ) (x : Item) → value_at r xs ≡ Some x → item_in (value_at r lots) ≡ x) → shown lots (keys xs) ≡ xs
 as_shown lots [] d same = refl
 as_shown lots (x ∷ xs) d same =
-    grind (arith, nat_tests, same x.0 x.1, as_shown lots xs d.1 (λ r y e. same r y (not_here x.0 r (Some x.1) (value_at r xs) (λ q. d.0 (subst (λ (z : ℕ). Among (keys xs) z) (sym q) (at_key r y xs e))) ∙ e)))
+    grind (
+      arith,
+      nat_tests,
+      same x.0 x.1,
+      as_shown lots xs d.1
+          (λ r y e. same r y (not_here x.0 r (Some x.1) (value_at r xs) (λ q. d.0 (subst (λ (z : ℕ). Among (keys xs) z) (sym q) (at_key r y xs e))) ∙ e)),
+    )
 
 pub unequal : (n r : ℕ) → n ≢ r → (n == r) ≡ false
 unequal n r o = grind (arith, nat_tests)

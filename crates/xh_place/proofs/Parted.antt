@@ -35,7 +35,8 @@ data_of (End p) n k e = absurd (cc)
 
 -- the list and its place after the cut
 module _ {seat : Held Body} (last : Held Body) (rs : List ℕ) {ys : List ℕ} {room cap total : ℕ} {state : Status} {r t : ℕ} {l h m : LotOf Body} (alive : is_over state ≡ true → ⊥)
-    (is : IsPlace seat (shown seat.lots rs) room total state) (at : value_at r seat.lots ≡ Some l) (head : IsBlock (records_of seat) r h) (tail : IsBlock (records_of seat) t m) (fresh : Among (keys seat.lots) t → ⊥)
+    (is : IsPlace seat (shown seat.lots rs) room total state) (at : value_at r seat.lots ≡ Some l) (head : IsBlock (records_of seat) r h) (tail : IsBlock (records_of seat) t m)
+    (fresh : Among (keys seat.lots) t → ⊥)
     (new : HasNow seat (put r h seat.lots ++ (t, m) ∷ []) last) (lens : h.len + m.len ≡ l.len) (items : ys ≡ rs ++ t ∷ []) (caps : cap ≡ room) where
   pub parted : IsNow seat rs state last ys cap total (λ (es : List (ℕ × Item)). put r (item_of h) es ++ (t, item_of m) ∷ [])
   parted =
@@ -75,7 +76,8 @@ cutting all seat mid r t l l0 own at block exists lot fresh is = record {
   is = is;
 }
 
-pub is_cut : (all : RecordsOf) (seat mid last : Held Body) (r t k : ℕ) (l l0 h m : LotOf Body) (b : Body) → Cutting all seat mid r t l l0 → (Among (keys seat.lots) t → ⊥) → IsBlock (records_of seat) r l
+pub is_cut : (all : RecordsOf) (seat mid last : Held Body) (r t k : ℕ) (l l0 h m : LotOf Body) (b : Body) → Cutting all seat mid r t l l0 → (Among (keys seat.lots) t → ⊥)
+    → IsBlock (records_of seat) r l
     → IsLotOf seat.shape t l0 → IsRecord seat.shape t → IsData l → IsGoodCut k l.len → t / 256 ≡ r / 256
     → h ≡ record l { len = k; body = h.body } → content_of h.body ≡ front k (content_of l.body) → m ≡ record l0 { len = l.len - k; body = b } → content_of b ≡ rest k (content_of l.body)
     → last ≡ with_lots mid (put t m (put r h mid.lots)) → IsCut seat last r k l t

@@ -166,11 +166,6 @@ module _ (seat : Held Body) {xs : List (ℕ × Item)} {state : Status} {p : Plac
 -- ---- what a take gained, block by block
 
 module _ (saw : ℕ → ℕ → Type 0) where
-  -- a block of a message, here or missing, was seen elsewhere than on the direction
-  pub got_elsewhere : (d : ℕ) (ys : List (ℕ × Item)) (got : Got) → IsGot saw d ys got → IsElsewhere saw d (record_of got)
-  got_elsewhere d ys (Here block) h = h.3
-  got_elsewhere d ys (Missing r word) h = (word, h.1, h.2)
-
   pub got_both : (d : ℕ) (ys zs : List (ℕ × Item)) (gots more : List Got) → AreGot saw d ys gots → AreGot saw d zs more → AreGot saw d (ys ++ zs) (gots ++ more)
   got_both d ys zs [] more all two = subst (λ (l : List (ℕ × Item)). AreGot saw d (l ++ zs) more) (sym all) two
   got_both d ys zs (g ∷ gots) more all two = (all.0, all.1 ++ zs, ap (λ (l : List (ℕ × Item)). l ++ zs) all.2 ∙ append_assoc all.0 all.1 zs, all.3, got_both d all.1 zs gots more all.4 two)

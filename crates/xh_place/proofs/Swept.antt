@@ -54,26 +54,27 @@ untested tests told refusal passed h = subst (λ (o : Option Refused). MatchOpti
 total_left : (k : ℕ) (xs : List (ℕ × Item)) → total_of (drop k xs) ≤ total_of xs
 total_left k xs = omega (arith, total_both (take k xs) (drop k xs), ap total_of (take-append-drop k xs))
 
-late_bytes : (saw : Option Noted → ℕ → ℕ → Type 0) (d r : ℕ) (x : Item) (old new : PlaceOf) (bytes left : ℕ) → IsSwept saw (length old.blocks) MAX_BUDGET (with_more d ((r, x) ∷ []) old) new bytes left
-    → x.len ≤ bytes
-late_bytes saw d r x old new bytes left is = go is.count refl is.by.accepted is.by.list is.by.sum where
+-- what a sweep from the last record on gave back is no less than its length
+pub last_bytes : (saw : Option Noted → ℕ → ℕ → Type 0) (front : List (ℕ × Item)) (r : ℕ) (x : Item) (old new : PlaceOf) (bytes left : ℕ) → old.blocks ≡ front ++ (r, x) ∷ []
+    → IsSwept saw (length front) MAX_BUDGET old new bytes left → x.len ≤ bytes
+last_bytes saw front r x old new bytes left whole is = go is.count refl is.by.accepted is.by.list is.by.sum where
   from : ℕ
-  from = length old.blocks
+  from = length front
 
-  all : total_of (old.blocks ++ (r, x) ∷ []) ≡ total_of old.blocks + x.len
-  all = total_last old.blocks r x
+  all : total_of old.blocks ≡ total_of front + x.len
+  all = ap total_of whole ∙ total_last front r x
 
-  now : (n : ℕ) (accepted : List (ℕ × Item)) → new.blocks ≡ take from (old.blocks ++ (r, x) ∷ []) ++ drop n (drop from (old.blocks ++ (r, x) ∷ []) ++ accepted)
-      → new.blocks ≡ old.blocks ++ drop n ((r, x) ∷ accepted)
-  now n accepted list = list ∙ (λ i. take-append_seam old.blocks ((r, x) ∷ []) i ++ drop n (drop-append_seam old.blocks ((r, x) ∷ []) i ++ accepted))
+  now : (n : ℕ) (accepted : List (ℕ × Item)) → new.blocks ≡ take from old.blocks ++ drop n (drop from old.blocks ++ accepted) → new.blocks ≡ front ++ drop n ((r, x) ∷ accepted)
+  now n accepted list = list ∙ (λ i. take from (whole i) ++ drop n (drop from (whole i) ++ accepted))
+      ∙ (λ i. take-append_seam front ((r, x) ∷ []) i ++ drop n (drop-append_seam front ((r, x) ∷ []) i ++ accepted))
 
-  go : (n : ℕ) → is.count ≡ n → (accepted : List (ℕ × Item)) → new.blocks ≡ take from (old.blocks ++ (r, x) ∷ []) ++ drop n (drop from (old.blocks ++ (r, x) ∷ []) ++ accepted)
-      → bytes + total_of new.blocks ≡ total_of (old.blocks ++ (r, x) ∷ []) + total_of accepted → x.len ≤ bytes
+  go : (n : ℕ) → is.count ≡ n → (accepted : List (ℕ × Item)) → new.blocks ≡ take from old.blocks ++ drop n (drop from old.blocks ++ accepted)
+      → bytes + total_of new.blocks ≡ total_of old.blocks + total_of accepted → x.len ≤ bytes
   go zero none accepted list sum =
-      let long : length new.blocks ≡ from + suc (length accepted) = ap length (now 0 accepted list) ∙ length-append old.blocks ((r, x) ∷ accepted) in
+      let long : length new.blocks ≡ from + suc (length accepted) = ap length (now 0 accepted list) ∙ length-append front ((r, x) ∷ accepted) in
       let some : 0 < left = omega (arith, long, is.rest) in let used : is.count ≡ MAX_BUDGET = is.more some in absurd (omega (arith, none, used))
   go (suc k) some accepted list sum =
-      let here : total_of new.blocks ≡ total_of old.blocks + total_of (drop k accepted) = ap total_of (now (suc k) accepted list) ∙ total_both old.blocks (drop k accepted) in
+      let here : total_of new.blocks ≡ total_of front + total_of (drop k accepted) = ap total_of (now (suc k) accepted list) ∙ total_both front (drop k accepted) in
       let less : total_of (drop k accepted) ≤ total_of accepted = total_left k accepted in omega (arith, here, less, sum, all)
 
 -- an endpoint came, or none did, and the place is as far as it was, or ending again; `none` is what is known where none did
@@ -104,7 +105,7 @@ turned saw none d r n old mid swept new told now quiet woken came left last =
     let whole : new ≡ record (with_list old new) { state = ending_again old.state (length new.blocks) } =
     then ∙ ap (λ (p : PlaceOf). record p { state = state }) (late.3 ∙ ap (λ (p : PlaceOf). with_list p swept) woken)
     ∙ sym (ap (λ (p : PlaceOf). record (with_list old p) { state = ending_again old.state (length p.blocks) }) then) in
-    inr (h.0, (late.0, late.1, by, whole, late.4, late_bytes saw d r late.0 old new h.0 late.1 by), h.2))
+    inr (h.0, (late.0, late.1, by, whole, late.4, last_bytes saw old.blocks r late.0 (with_more d ((r, late.0) ∷ []) old) new h.0 late.1 refl by), h.2))
     came
 
 -- ---- sweeps one after another, and what a worker gave back

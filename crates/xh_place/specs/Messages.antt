@@ -11,7 +11,7 @@ use Rattle.xh_channel.specs.Refusals.{same_refusal}
 use Rattle.xh_core.specs.declared.refused.Refused.{Refused}
 use Rattle.xh_core.specs.declared.refused.Refused.TheVariants.{Protocol, PeerClosed, Full}
 use Rattle.xh_model.specs.Keyed.{Among, keys, put, value_at, without}
-use Rattle.xh_records.specs.Seats.{Noted}
+use Rattle.xh_records.specs.Seats.{IsRecord, Noted}
 use Rattle.xh_place.specs.Endpoints.{AreGot, TakesNone, Puts, TakesOne, record_of}
 use Rattle.xh_place.specs.Ends.{EndDoes, away_in, toward_in}
 use Rattle.xh_place.specs.Moves.{there_and_back}
@@ -51,7 +51,7 @@ abbrev pub GoesOrReturns : ℕ → List ℕ → List (ℕ × Item) → PlaceOf �
 GoesOrReturns d given back old new = (new ≡ with_moved (with_blocks old (settled given (λ r. value_at r back) old.blocks)) (there_and_back old.process d given (keys back)))
     × ((r : ℕ) → Among (keys back) r → Among given r)
 
--- The endpoint put the blocks with the tag, they went or came back, and the answer is that of the put.
+-- The endpoint put the blocks with the tag, each of a record that there is, they went or came back, and the answer is that of the put.
 -- Beside the message went a note of the records' log, and in what it tells each of the blocks was passed in this call.
 -- Where it was refused, each given block, also one that came back, had another word than "in flight on the direction", which was seen after the block was passed there.
 pub record IsSent (e tag : ℕ) (given : List ℕ) (old new : PlaceSeen) (result : Result ℕ Refused) : Type 0 where
@@ -60,6 +60,7 @@ pub record IsSent (e tag : ℕ) (given : List ℕ) (old new : PlaceSeen) (result
   pub answered : Result ℕ Unsent
   pub back : List (ℕ × Item)
   pub all : blocks.items ≡ given
+  pub records : (r : ℕ) → Among given r → IsRecord old.place.shape r
   pub note : Noted
   pub noted : (note.table ≡ old.place.table) × Passed old.place.process (away_in (value_at e old.place.blocks)) given old.front note.front
   pub made : EndDoes e old.place mid (Puts note tag blocks answered)

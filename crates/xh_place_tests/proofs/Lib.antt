@@ -1,3 +1,1 @@
 pub mod Plain
-pub mod Heard
-pub mod Made

@@ -75,7 +75,8 @@ take_one_more (x ∷ xs) zero a e = λ k. some-injective x a e k ∷ []
 take_one_more {A} (x ∷ xs) (suc i) a e = ap (λ (z : List A). x ∷ z) (take_one_more xs i a e)
 
 module _ {B : Type 0} (fits : B → ℕ → Bool) (names : B → Option TableId) (s : Shape) (id : ℕ) (v : View) (ws : List ℕ) (xs : List (Option (LotOf B)))
-    (seats : List (Held B)) (held : List (Option (LotOf B))) (final : Final (Seen (Shown fits names s) id v) ws xs) (gathered : IsGathered 0 seats v held) (long : length held ≡ length xs) (small : IsSmall s)
+    (seats : List (Held B)) (held : List (Option (LotOf B))) (final : Final (Seen (Shown fits names s) id v) ws xs) (gathered : IsGathered 0 seats v held) (long : length held ≡ length xs)
+    (small : IsSmall s)
     (own : (j : ℕ) (x : Held B) → slice_get seats j ≡ Some x → x.shape ≡ s) (every : length seats ≡ s.places) (sized : length xs ≡ length s.names * s.records) where
   abbrev pub t : State (Option (LotOf B)) View
   t = final.0

@@ -3,8 +3,10 @@ use Rattle.xh_records.proofs.Common.{nat_tests, ◌≡◌, ℕ, ◌%◌, ◌<◌
 use Rattle.xh_records.proofs.Common.{eq-eqb, append-nil, Option, Some, None, none, some, some-injective, dite, ℕ_discrete, get_elem?, State, Me, Act, rest, put_back, takes, gives}
 use Rattle.xh_records.proofs.Common.{keeps, step, stepped, Allows, at_set, set_here, set_else, set_again, at_map, LotOf, Among, Distinct, without, among_back, among_either, among_front, Shape}
 use Rattle.xh_records.proofs.Common.{View, Holder, Process, Direction, Event, index_of, Ownership, IsHeldBy, IsHolder, IsDone, word_of, place_of, number_of, record_of, from_of, to_of}
-use Rattle.xh_records.proofs.Common.{word_injective, index_back, number_inside, LeadsTo, all_free, process_of, Sits, Owns, IsLotAt, HomeFits, ViewFits, ViewTells, IsHistory, IsSmall, Shows, Shown, Knows}
-use Rattle.xh_records.proofs.Common.{taking, giving, IsAway, IsHomeLot, IsAlone, first_front, front_in, gained, head_of, heard, knowing, lost, untold, SeesMore, took, gave, looked, compared, TellsWord}
+use Rattle.xh_records.proofs.Common.{word_injective, index_back, number_inside, LeadsTo, all_free, process_of, Sits, Owns, IsLotAt, HomeFits, ViewFits, ViewTells, IsHistory, IsSmall, Shows, Shown}
+use Rattle.xh_records.proofs.Common.{Knows}
+use Rattle.xh_records.proofs.Common.{taking, giving, IsAway, IsHomeLot, IsAlone, first_front, front_in, gained, head_of, heard, knowing, lost, untold, SeesMore, took, gave, looked, compared}
+use Rattle.xh_records.proofs.Common.{TellsWord}
 use Rattle.xh_records.proofs.Common.{TableId, IsOwn, KeepsLog, StartsWith, some-ne-none}
 use mathlib.Core.Option as maybe
 use Rattle.xh_records.proofs.Named.{sets_home, sets_view}
@@ -286,7 +288,8 @@ module _ {B : Type 0} (fits : B → ℕ → Bool) (names : B → Option TableId)
           subst (λ (z : ℕ × List (maybe.Option S)). Shows fits s (set o r k) (set t.words r z.0) z.1 (set t.views id w))
               (λ i. (sym is_new i, ap (λ (c : List (ℕ × S)). put_back t.homes c) (sym front) i))
               (moved fits s o t.words t.homes t.views shown id r me.0 w (Some (Process p)) k seen was.0 (gives_change o me.0 r p k new_to_it.others fit owns free) (giving p (number_of s.records r) k)
-              (step_by shown.log me.0 w r p (Some (Process p)) k (λ n. giving p n k) (λ n. giving_is p n k free) shown.small (fit.knows p was.1) was.1 (new_to_it.now _)) y good (home_is r k lot (subst (λ (z : Shape). IsLotAt z r lot) (fit.knows p was.1) is_lot) home)),
+              (step_by shown.log me.0 w r p (Some (Process p)) k (λ n. giving p n k) (λ n. giving_is p n k free) shown.small (fit.knows p was.1) was.1 (new_to_it.now _)) y good
+              (home_is r k lot (subst (λ (z : Shape). IsLotAt z r lot) (fit.knows p was.1) is_lot) home)),
           subst (λ (hs : List (maybe.Option S)). KeepsLog names hs (set t.views id w)) (ap (λ (c : List (ℕ × S)). put_back t.homes c) (sym front))
               (sets_view names (set t.homes r y) t.views id me.0 w seen refl (λ q h. (q, h)) (sets_home names t.homes t.views r y holds.2
               (λ l e full. let f : Some lot ≡ Some l = some-injective (Some lot) (Some l) e in let is : lot ≡ l = cc in

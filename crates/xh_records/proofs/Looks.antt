@@ -1,5 +1,6 @@
 -- A seat that looked before it did something.
-use Rattle.xh_records.proofs.Common.{ℕ, List, [], ◌∷◌, ◌++◌, ap, ◌∙◌, subst, LotOf, Event, place_of, record_of, Grows, StartsWith, Some, Process, TellsWord, index_of, word_of, IsLotOf, Held, HasFound, HasGained, HasLooked, SawTaken, did}
+use Rattle.xh_records.proofs.Common.{ℕ, List, [], ◌∷◌, ◌++◌, ap, ◌∙◌, subst, LotOf, Event, place_of, record_of, Grows, StartsWith, Some, Process, TellsWord, index_of, word_of, IsLotOf, Held, HasFound}
+use Rattle.xh_records.proofs.Common.{HasGained, HasLooked, SawTaken, did}
 use Rattle.xh_records.proofs.Common.{seen, with_lots}
 use Rattle.xh_records.proofs.History.{grows_twice, starts_twice}
 

@@ -70,7 +70,16 @@ lost_by x y p r h e = grind (arith, nat_tests)
 
 -- a seat as contracts see it
 abbrev pub held : {B : Type 0} → TableId → ℕ → ℕ → Me (Option (LotOf B)) View → Held B
-held t id process me = record { table = t; id = id; shape = me.0.shape; process = process; lots = numbered me.0.shape.records me.1; done = by_place (place_of process) (front_in me.0); front = front_in me.0 }
+held t id process me = record {
+  table = t;
+  id = id;
+  shape = me.0.shape;
+  process = process;
+  lots = numbered me.0.shape.records me.1;
+  done = by_place (place_of process)
+      (front_in me.0);
+  front = front_in me.0;
+}
 
 -- the number of the record in a slot
 pub number_is : (n m slot r : ℕ) → n ≡ m → slot ≡ index_of m r → r % 256 < m → number_of n slot ≡ r

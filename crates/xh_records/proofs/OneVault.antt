@@ -1,5 +1,5 @@
 -- A table over the lots of one vault, with two places.
-use Rattle.xh_records.proofs.Common.{◌≡◌, ℕ, ◌%◌, ◌/◌, ◌<◌, ◌∙◌, Bool, true, List, [], ◌∷◌, sym, ap, subst, rules, Some, slice_get, TableId, LotOf, AreLots, IsEmpty}
+use Rattle.xh_records.proofs.Common.{◌≡◌, ℕ, ◌%◌, ◌/◌, ◌<◌, ◌∙◌, Bool, true, List, [], ◌∷◌, sym, ap, subst, Some, slice_get, TableId, LotOf, AreLots, IsEmpty}
 use Rattle.std.proofs.Math.Nat.{mod-eq_of_lt, div-eq_of_lt}
 use Rattle.std.proofs.lemmas.Option.{slice_get_within}
 
@@ -14,7 +14,3 @@ of_one_vault new fits id n names ls blank named lots k l at =
       (λ i. slice_get (named i) (div-eq_of_lt below i)) ∙ ap Some (sym lot.0),
       (lot.2, blank l.body lot.3),
     )
-
--- the lot of a record of arena 0 is of that vault
-pub id_is : {B : Type 0} (names : List TableId) (id : TableId) (r : ℕ) (l : LotOf B) → names ≡ id ∷ [] → r / 256 ≡ 0 → slice_get names (r / 256) ≡ Some l.id → l.id ≡ id
-id_is names id r l named first is = let e : Some id ≡ Some l.id = sym (λ i. slice_get (named i) (first i)) ∙ is in let same : l.id ≡ id = search rules in same

@@ -39,6 +39,10 @@ pub record Noted : Type 0 where
 abbrev pub IsSeatOf : {B : Type 0} → RecordsOf → Held B → Type 0
 IsSeatOf all x = (x.table ≡ all.table) × (x.shape ≡ all.shape)
 
+-- the name of no table
+abbrev pub no_table : TableId
+no_table = record { words = 0; slots = 0; views_name = 0; atom = 0; block = 0; offset = 0; slot_names = [] }
+
 -- there is such a record
 abbrev pub IsRecord : Shape → ℕ → Type 0
 IsRecord s r = (r / MAX_RECORDS < length s.names) × (r % MAX_RECORDS < s.records)

@@ -48,7 +48,7 @@ pub(crate) trait Of {
 }
 
 impl Of for Brand {
-    ghost use Rattle.xh_records.specs.inner.Views.{no_table};
+    ghost use Rattle.xh_records.specs.Seats.{no_table};
 
     ghost log = { no_table };
 }

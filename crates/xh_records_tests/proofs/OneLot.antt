@@ -1,10 +1,10 @@
--- A seat with no lot, as it gains one or two, changes it and loses it.
-use Rattle.std.proofs.Common.{◌≡◌, ◌≢◌, ℕ, List, [], ◌∷◌, ◌++◌, refl, sym, ap, ◌∙◌, subst, inl}
+-- A seat with no lot, as it gains one, changes it and loses it.
+use Rattle.std.proofs.Common.{◌≡◌, ℕ, List, [], ◌∷◌, ◌++◌, refl, sym, ap, ◌∙◌, subst}
 use Rattle.std.specs.Prelude.{Some}
 use Rattle.xh_arena.specs.Views.{LotOf}
 use Rattle.xh_model.specs.declared.event.Event.{Event}
-use Rattle.xh_model.specs.Keyed.{Among, keys, put, value_at, without}
-use Rattle.xh_model.proofs.Keyed.{here_first, not_here}
+use Rattle.xh_model.specs.Keyed.{put, value_at, without}
+use Rattle.xh_model.proofs.Keyed.{here_first}
 use Rattle.xh_records.specs.Seats.{Held, RecordsOf, IsSeatOf, did, seen, with_lots}
 
 module _ {B : Type 0} (x y z : Held B) (r : ℕ) (l l' : LotOf B) where
@@ -23,17 +23,3 @@ module _ {B : Type 0} (x y z : Held B) (r : ℕ) (l l' : LotOf B) where
 -- it is of the same table
 pub still_of : {B : Type 0} (all : RecordsOf) (x y : Held B) (ls : List (ℕ × LotOf B)) → IsSeatOf all x → y ≡ with_lots x ls → IsSeatOf all y
 still_of {B} all x y ls own is = subst (λ (h : Held B). IsSeatOf all h) (sym is) own
-
--- a seat with two lots
-module _ {B : Type 0} (x y z : Held B) (r q : ℕ) (l m : LotOf B) where
-  pub gains_two : (e : Event) → y ≡ with_lots x ((r, l) ∷ []) → z ≡ seen z.front (did e (with_lots y (y.lots ++ (q, m) ∷ []))) → z ≡ with_lots (seen z.front (did e x)) ((r, l) ∷ (q, m) ∷ [])
-  gains_two e one gained = gained ∙ ap (λ (h : Held B). seen z.front (did e (with_lots h (h.lots ++ (q, m) ∷ [])))) one
-
-  pub apart : y ≡ with_lots x ((r, l) ∷ []) → (Among (keys y.lots) q → ⊥) → r ≢ q
-  apart one fresh same = fresh (subst (λ (h : Held B). Among (keys h.lots) q) (sym one) (inl (sym same)))
-
-  pub has_first : z ≡ with_lots x ((r, l) ∷ (q, m) ∷ []) → value_at r z.lots ≡ Some l
-  has_first two = ap (λ (h : Held B). value_at r h.lots) two ∙ here_first r r _ _ refl
-
-  pub has_second : z ≡ with_lots x ((r, l) ∷ (q, m) ∷ []) → r ≢ q → value_at q z.lots ≡ Some m
-  has_second two other = ap (λ (h : Held B). value_at q h.lots) two ∙ not_here r q _ _ other ∙ here_first q q _ _ refl

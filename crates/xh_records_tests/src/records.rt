@@ -4,8 +4,6 @@ ghost use Rattle.xh_model.specs.declared.limits.TheConstants.{MAX_RECORDS};
 ghost use Rattle.xh_records.specs.Seats.{IsSeatOf};
 ghost use Rattle.xh_records_tests.specs.Benches.{IsNewBench};
 
-mod notes;
-mod pairs;
 mod rounds;
 mod threads;
 

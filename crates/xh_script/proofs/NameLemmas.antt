@@ -1,10 +1,7 @@
 -- Lemmas on the numbers of names.
-use Rattle.std.proofs.Common.{◌≡◌, ◌<◌, ◌+◌, ◌⊎◌, inl, inr, ℕ, zero, suc, Bool, true, false, cond, List, [], ◌∷◌, ◌++◌, length, refl, ap, arith, Option, Some, None, IfSome, slice_get, if◌then◌else◌}
-use Rattle.std.specs.Str.{bytes_eq}
-use Rattle.std.proofs.lemmas.Bool.Decides.{nat_tests}
+use Rattle.xh_script.proofs.Common.{Bool, IfSome, List, None, Option, Some, [], ap, arith, bytes_eq, bytes_eq-Decides, cond, false, if◌then◌else◌, inl, inr, length, nat_tests, number_from}
+use Rattle.xh_script.proofs.Common.{number_in, refl, slice_get, suc, true, zero, ℕ, ◌++◌, ◌+◌, ◌<◌, ◌∷◌, ◌≡◌, ◌⊎◌}
 use Rattle.std.proofs.lemmas.Option.{slice_get_within}
-use Rattle.std.proofs.lemmas.Slice.Eq.{bytes_eq-Decides}
-use Rattle.xh_script.specs.Names.{number_from, number_in}
 
 number_from_more : (i j : ℕ) (names : List (List ℕ)) (k q : List ℕ) → j ≡ i + length names → number_from i names k ≡ None
     → number_from i (names ++ k ∷ []) q ≡ cond (bytes_eq k q) (Some j) (number_from i names q)

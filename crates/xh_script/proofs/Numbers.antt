@@ -1,11 +1,7 @@
 -- A word is a number exactly where it is the decimal text of one.
-use Rattle.std.proofs.Common.{◌≡◌, ◌+◌, ◌*◌, ◌-◌, ℕ, true, List, length, get_or, Some, rules, arith}
-use Rattle.std.specs.List.{list_all, fold}
-use Rattle.std.specs.Fmt.{decimal}
-use Rattle.std.proofs.lemmas.Bool.Decides.{nat_tests}
+use Rattle.xh_script.proofs.Common.{List, Some, arith, decimal, fold, get_or, has_no_zero_in_front, is_digit, length, list_all, nat_tests, number_of, rules, true, value_of, ℕ, ◌*◌, ◌+◌, ◌-◌, ◌≡◌}
 use Rattle.std.proofs.lemmas.Fmt.{decimal-digits_value}
 use Rattle.std.proofs.lemmas.Str.Parse.{IsNumeralModel, numerals_by_fold}
-use Rattle.xh_script.specs.Words.{is_digit, has_no_zero_in_front, value_of, number_of}
 
 pub own : IsNumeralModel (λ ds. list_all is_digit ds ≡ true) value_of
 own = numerals_by_fold (λ ds. list_all is_digit ds ≡ true) (search rules) (λ n ds. fold (λ m b. m * 10 + (b - 48)) n ds) (search rules)

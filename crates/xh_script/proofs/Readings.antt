@@ -1,18 +1,10 @@
 -- Lemmas on readings that may stop.
-use Rattle.std.proofs.Common.{◌≡◌, ◌≤◌, ◌<◌, ◌+◌, ◌==◌, suc, ℕ, List, Result, Ok, refl, ap, length, drop, map, Bor, get_or, arith, add-one, drop-cons}
-use Rattle.std.specs.List.{slice_split}
-use Rattle.std.proofs.Math.ListN.{length-map}
-use Rattle.std.proofs.lemmas.List.Splits.{length-slice_split}
-use Rattle.std.proofs.lemmas.List.Sums.{count_by-le-length}
-use Rattle.xh_script.specs.declared.limits.TheConstants.{MAX_SCRIPT}
+use Rattle.xh_script.proofs.Common.{Bor, Fails, Fault, Kind, List, MAX_SCRIPT, Ok, Result, add-one, after_line, after_lines, ap, arith, at_line, count_by-le-length, drop, drop-cons, get_or}
+use Rattle.xh_script.proofs.Common.{length, length-map, length-slice_split, map, refl, slice_split, suc, ℕ, ◌+◌, ◌<◌, ◌==◌, ◌>>=◌, ◌≡◌, ◌≤◌}
 use Rattle.xh_script.proofs.WordLemmas.{no_word}
-use Rattle.xh_script.specs.Steps.{◌>>=◌}
 use Rattle.xh_script.specs.inner.Stops.{Stops}
 use Rattle.xh_script.specs.SoFar.{SoFar}
-use Rattle.xh_script.specs.Scripts.{Fails, at_line, after_line, after_lines}
-use Rattle.xh_script.specs.declared.fault.Kind.{Kind}
-use Rattle.xh_script.specs.declared.fault.Fault.{Fault}
-use Rattle.xh_script.specs.declared.fault.Fault.TheVariants.{Script, Memory, Read, Write, Gate, BadConfig}
+use Rattle.xh_script.specs.declared.fault.Fault.TheVariants.{BadConfig, Gate, Memory, Read, Script, Write}
 use Rattle.xh_script.specs.declared.stop.Stop.{Stop}
 use Rattle.xh_script.specs.declared.stop.Stop.TheVariants.{Bad, Memory as StopMemory}
 

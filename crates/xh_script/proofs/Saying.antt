@@ -1,36 +1,18 @@
 -- What can be said is read from the words that spell it.
-use Rattle.std.proofs.Common.{◌≡◌, ◌-◌, ◌<◌, ◌≤◌, ◌+◌, ◌*◌, ◌/◌, ◌%◌, ◌^◌, ◌==◌, ℕ, zero, suc, true, false, List, [], ◌∷◌, ◌++◌, length, map, Result, Ok, refl, ap, ◌∙◌, arith, nat_lt}
-use Rattle.std.proofs.Common.{length-append, ◌||◌, not, Bool, codes, subst}
-use Rattle.std.specs.List.{All, list_all}
-use Rattle.std.specs.Fmt.{decimal}
-use Rattle.std.proofs.lemmas.Bool.{le-leb, lt-ltb, ltb-true, and_parts, and_from}
-use Rattle.std.proofs.lemmas.Bool.Decides.{nat_tests}
-use Rattle.std.proofs.lemmas.Fmt.{decimal_nonempty, first_decimal, length-decimal-le, digits_decimal, digits_value-decimal, decimal_digit}
-use Rattle.std.proofs.lemmas.List.Sums.{AllPass-from_list_all}
-use Rattle.std.proofs.lemmas.List.Splits.{slice_split_at, slice_split_none}
-use Rattle.arrayvec.specs.ArrayVec.{ArrayVec}
-use Rattle.xh_model.specs.declared.row.Row.{Row}
-use Rattle.xh_model.specs.declared.limits.TheConstants.{STATES}
-use Rattle.xh_script.specs.declared.limits.TheConstants.{MAX_TAG}
-use Rattle.xh_script.specs.Words.{is_digit, has_no_zero_in_front, is_numeral, value_of, is_hex_digit, is_hex, hex_value, hex_bytes}
-use Rattle.xh_script.specs.Steps.{◌>>=◌}
-use Rattle.xh_script.specs.Sorts.{name_at, number_at, number_between, bytes_at, row_said, row_of, row_at, word_at}
-use Rattle.xh_script.specs.Forms.{Row as Shape, sort_at, shape, has_count, is_head, form_text, verb_at}
-use Rattle.xh_script.specs.Grammar.{is_filled, words_from, said, head_line, verb_line, line_by, said_by}
-use Rattle.xh_script.specs.Texts.{hex_digit, hex_text}
-use Rattle.xh_script.specs.Spelling.{row_text, word_text, spelled}
-use Rattle.xh_script.specs.Sayable.{IsName, IsBetween, IsRow, AreBytes, IsOf, AreOf, IsSayable}
+use Rattle.xh_script.proofs.Common.{AllPass-from_list_all, ArrayVec, Bool, Command, Form, Kind, List, MAX_TAG, Ok, Result, Row, STATES, Sort, Word, [], and_from, and_parts, ap, arith, bytes_eq}
+use Rattle.xh_script.proofs.Common.{codes, decimal, false, form_text, has_count, has_no_zero_in_front, hex_bytes, hex_digit, hex_text, hex_value, is_digit, is_filled, is_head, is_hex}
+use Rattle.xh_script.proofs.Common.{is_hex_digit, is_numeral, length, length-append, length-map, list_all, map, nat_tests, not, refl, row_at, row_text, slice_split_at, slice_split_none, sort_at}
+use Rattle.xh_script.proofs.Common.{spelled, subst, suc, true, value_of, word_text, words_from, zero, ℕ, ◌%◌, ◌*◌, ◌++◌, ◌+◌, ◌-◌, ◌/◌, ◌<◌, ◌==◌, ◌>>=◌, ◌^◌, ◌∙◌, ◌∷◌, ◌≡◌, ◌≤◌}
+use Rattle.std.proofs.Common.{All, le-leb, lt-ltb, ltb-true, nat_lt, ◌||◌}
+use Rattle.std.proofs.lemmas.Fmt.{decimal_digit, decimal_nonempty, digits_decimal, digits_value-decimal, first_decimal, length-decimal-le}
+use Rattle.xh_script.specs.Sorts.{name_at, number_at, number_between, bytes_at, row_said, row_of, word_at}
+use Rattle.xh_script.specs.Forms.{Row as Shape, shape, verb_at}
+use Rattle.xh_script.specs.Grammar.{said, head_line, verb_line, line_by, said_by}
+use Rattle.xh_script.specs.Sayable.{AreBytes, AreOf, IsBetween, IsName, IsOf, IsRow, IsSayable}
 use Rattle.xh_script.proofs.Numbers.{own}
-use Rattle.xh_script.specs.declared.fault.Kind.{Kind}
-use Rattle.xh_script.specs.declared.form.Sort.{Sort}
 use Rattle.xh_script.specs.declared.form.Sort.TheVariants as sort
-use Rattle.xh_script.specs.declared.command.Word.{Word}
-use Rattle.std.specs.Str.{bytes_eq}
-use Rattle.std.proofs.lemmas.List.{length-map}
-use Rattle.xh_script.specs.declared.command.Command.{Command}
 use Rattle.xh_script.specs.declared.command.Word.TheVariants.{Process as ProcessWord}
-use Rattle.xh_script.specs.declared.form.Form.{Form}
-use Rattle.xh_script.specs.declared.form.Form.TheVariants.{Contract, Process, Wire, Open, Alloc, Split, Read, Write, Give, Take, Await, Free, Close, Exit, Kill, Glance, Again}
+use Rattle.xh_script.specs.declared.form.Form.TheVariants.{Again, Alloc, Await, Close, Contract, Exit, Free, Give, Glance, Kill, Open, Process, Read, Split, Take, Wire, Write}
 
 -- what a reading gives, goes on
 pub then_ok : {A B : Type 0} (r : Result A Kind) (x : A) (f : A → Result B Kind) (y : Result B Kind) → r ≡ Ok x → f x ≡ y → (r >>= f) ≡ y

@@ -1,33 +1,15 @@
 -- What a word or a line is read as is spelled by it.
-use Rattle.std.proofs.Common.{◌≡◌, ◌≤◌, ◌+◌, ◌-◌, ◌*◌, ◌/◌, ◌%◌, ◌==◌, ◌&&◌, ℕ, Bool, true, false, List, [], ◌∷◌, length, map, Result, Ok, Err, refl, sym, ap, ◌∙◌, arith, nat_le}
-use Rattle.std.proofs.Common.{if◌then◌else◌, ◌⊎◌, inl, inr, not}
-use Rattle.std.specs.List.{list_all, slice_split, join_with_byte}
-use Rattle.std.specs.Fmt.{decimal}
-use Rattle.std.proofs.lemmas.Bool.Decides.{nat_tests}
-use Rattle.std.proofs.lemmas.Bool.{and_parts}
-use Rattle.std.proofs.lemmas.List.Splits.{join_with_byte-slice_split}
-use Rattle.arrayvec.specs.ArrayVec.{ArrayVec}
-use Rattle.xh_model.specs.declared.row.Row.{Row}
-use Rattle.xh_model.specs.declared.limits.TheConstants.{STATES}
-use Rattle.xh_script.specs.declared.limits.TheConstants.{MAX_TAG}
-use Rattle.xh_script.specs.Words.{is_hex_digit, is_hex, hex_value, hex_bytes}
-use Rattle.xh_script.specs.Steps.{◌>>=◌}
-use Rattle.xh_script.specs.Sorts.{name_at, number_at, number_between, bytes_at, row_said, row_of, row_at, word_at}
-use Rattle.xh_script.specs.Forms.{Row as Shape, sort_at, shape, has_count, is_head, form_text, has_text, form_among, verbs, verb_at}
-use Rattle.xh_script.specs.Grammar.{words_from, said, head_line, verb_line, is_filled, line_by, said_by}
-use Rattle.xh_script.specs.Texts.{hex_digit, hex_text}
-use Rattle.xh_script.specs.Spelling.{row_text, word_text, behind_first, spelled}
+use Rattle.xh_script.proofs.Common.{ArrayVec, Bool, Command, Err, Form, Kind, List, MAX_TAG, Ok, Result, Row, STATES, Sort, Word, [], and_parts, ap, arith, behind_first, bytes_eq}
+use Rattle.xh_script.proofs.Common.{bytes_eq-Decides, decimal, false, form_among, form_text, has_count, has_text, hex_bytes, hex_digit, hex_text, hex_value, if◌then◌else◌, inl, inr, is_filled}
+use Rattle.xh_script.proofs.Common.{is_head, is_hex, is_hex_digit, join_with_byte, join_with_byte-slice_split, length, list_all, map, nat_le, nat_tests, not, refl, row_at, row_text, shape}
+use Rattle.xh_script.proofs.Common.{slice_split, sort_at, spelled, sym, true, verbs, word_text, words_from, ℕ, ◌%◌, ◌&&◌, ◌*◌, ◌+◌, ◌-◌, ◌/◌, ◌==◌, ◌>>=◌, ◌∙◌, ◌∷◌, ◌≡◌, ◌≤◌, ◌⊎◌}
+use Rattle.xh_script.specs.Sorts.{name_at, number_at, number_between, bytes_at, row_said, row_of, word_at}
+use Rattle.xh_script.specs.Forms.{Row as Shape, verb_at}
+use Rattle.xh_script.specs.Grammar.{said, head_line, verb_line, line_by, said_by}
 use Rattle.xh_script.proofs.Numbers.{is_decimal}
-use Rattle.xh_script.specs.declared.fault.Kind.{Kind}
-use Rattle.xh_script.specs.declared.fault.Kind.TheVariants.{BadWord, BadNumber, BadHex, BadCount}
-use Rattle.xh_script.specs.declared.form.Sort.{Sort}
+use Rattle.xh_script.specs.declared.fault.Kind.TheVariants.{BadCount, BadHex, BadNumber, BadWord}
 use Rattle.xh_script.specs.declared.form.Sort.TheVariants as sort
-use Rattle.xh_script.specs.declared.command.Word.{Word}
-use Rattle.xh_script.specs.declared.command.Word.TheVariants.{Process, Block, Contract, Number, Bytes, Row as RowWord}
-use Rattle.std.specs.Str.{bytes_eq}
-use Rattle.std.proofs.lemmas.Slice.Eq.{bytes_eq-Decides}
-use Rattle.xh_script.specs.declared.command.Command.{Command}
-use Rattle.xh_script.specs.declared.form.Form.{Form}
+use Rattle.xh_script.specs.declared.command.Word.TheVariants.{Block, Bytes, Contract, Number, Process, Row as RowWord}
 use Rattle.xh_script.specs.declared.form.Form.TheVariants.{Contract as ContractForm, Process as ProcessForm, Wire}
 
 pub bind_ok : {A B : Type 0} (r : Result A Kind) (f : A → Result B Kind) (y : B) → (r >>= f) ≡ Ok y → (x : A) × (r ≡ Ok x) × (f x ≡ Ok y)

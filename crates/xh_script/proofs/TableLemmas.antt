@@ -1,14 +1,10 @@
 -- The test of a table tells what a contract is.
-use Rattle.std.proofs.Common.{◌≡◌, ◌≢◌, ◌<◌, ℕ, suc, zero, Bool, true, false, List, [], ◌∷◌, length, get_or, refl, arith, inl, inr}
-use Rattle.std.specs.List.{list_all}
-use Rattle.std.proofs.lemmas.Bool.Decides.{nat_tests}
-use Rattle.std.proofs.lemmas.Bool.{and_parts, and_from, cases_Bool}
-use Rattle.std.proofs.lemmas.List.Sums.{AllPass-from_list_all}
-use Rattle.xh_model.specs.declared.row.Row.{Row}
-use Rattle.xh_model.specs.Rows.{no_row, row_at, IsRow, IsInRange, IsValid, Agree}
+use Rattle.xh_script.proofs.Common.{AllPass-from_list_all, Bool, List, Row, [], and_from, and_parts, arith, cases_Bool, false, get_or, inl, inr, length, list_all, nat_tests, refl, suc, true, zero}
+use Rattle.xh_script.proofs.Common.{ℕ, ◌<◌, ◌∷◌, ◌≡◌, ◌≢◌}
+use Rattle.xh_model.specs.Rows.{Agree, IsInRange, IsRow, IsValid, no_row, row_at}
 use Rattle.xh_core.specs.Tables.{IsNoContract}
 use Rattle.xh_core.specs.declared.refused.Refused.{Refused}
-use Rattle.xh_script.specs.Tables.{is_row, agree, all_agree, is_table}
+use Rattle.xh_script.specs.Tables.{agree, all_agree, is_row, is_table}
 
 agree_true : (a b : Row) → Agree a b → agree a b ≡ true
 agree_true a b h =

@@ -1,12 +1,7 @@
 -- Lemmas on the words of a line.
-use Rattle.std.proofs.Common.{◌≡◌, ◌<◌, ◌≤◌, ◌+◌, ◌*◌, ℕ, suc, List, [], ◌∷◌, ◌++◌, Result, Ok, Err, map, drop, length, get_or, Bor, refl, sym, ap, arith, add-one, drop-cons, append_assoc}
-use Rattle.xh_script.specs.Steps.{◌>>=◌}
-use Rattle.xh_script.specs.Forms.{Row, sort_at}
-use Rattle.xh_script.specs.Sorts.{word_at}
-use Rattle.xh_script.specs.Grammar.{words_from}
-use Rattle.xh_script.specs.Words.{hex_value, hex_bytes}
-use Rattle.xh_script.specs.declared.fault.Kind.{Kind}
-use Rattle.xh_script.specs.declared.command.Word.{Word}
+use Rattle.xh_script.proofs.Common.{Bor, Err, Kind, List, Ok, Result, Word, [], add-one, ap, append_assoc, arith, drop, drop-cons, get_or, hex_bytes, hex_value, length, map, refl, sort_at, suc}
+use Rattle.xh_script.proofs.Common.{sym, word_at, words_from, ℕ, ◌*◌, ◌++◌, ◌+◌, ◌<◌, ◌>>=◌, ◌∷◌, ◌≡◌, ◌≤◌}
+use Rattle.xh_script.specs.Forms.{Row}
 
 -- what is read beyond the last word
 abbrev pub no_word : Bor (List ℕ)

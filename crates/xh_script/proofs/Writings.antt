@@ -1,12 +1,9 @@
 -- Lemmas on what is written in several calls.
-use Rattle.std.proofs.Common.{◌≡◌, ℕ, suc, List, ◌++◌, Option, Some, None, Result, Ok, Err, ap, sym, ◌∙◌, append_assoc, drop, get_or}
-use Rattle.std.proofs.Common.{length, ◌<◌, ◌+◌, add-one, drop-cons, IsErrAnd}
-use Rattle.xh_script.specs.Texts.{reply_text, answer_texts}
+use Rattle.xh_script.proofs.Common.{Err, Fault, IsErrAnd, List, None, Ok, Option, Result, Some, Writes, WritesFront, WritesOrFails, add-one, answer_texts, ap, append_assoc, drop, drop-cons}
+use Rattle.xh_script.proofs.Common.{get_or, inner_of, length, reply_text, suc, sym, ℕ, ◌++◌, ◌+◌, ◌<◌, ◌∙◌, ◌≡◌}
 use Rattle.xh_script.specs.declared.reply.Answered.{Answered}
 use Rattle.std.specs.Io.KnownBytes.{Appends}
-use Rattle.xh_script.specs.Watching.{inner_of, Writes, WritesFront, WritesOrFails}
 use Rattle.xh_script.specs.declared.watch.Watched.{Watched}
-use Rattle.xh_script.specs.declared.fault.Fault.{Fault}
 
 pub Appends-then : (a b c : Option (List ℕ)) (x y : List ℕ) → Appends a b x → Appends b c y → Appends a c (x ++ y)
 Appends-then None b c x y p q = tt

@@ -1,35 +1,14 @@
 -- What a change of a list, of a status or of free records leaves: a whole machine; and what a stop and a close reclaim.
-use Rattle.std.proofs.Common.{rules}
-use Rattle.std.proofs.Common.{◌≡◌, ℕ, zero, suc, ◌+◌, ◌-◌, ◌<◌, ◌≤◌, Bool, List, [], ◌∷◌, ◌++◌, length, drop, true, cond, refl, sym, ap, ◌∙◌, arith, append-nil, subst, ◌≢◌, ◌*◌, take}
-use Rattle.std.proofs.Common.{length-drop}
-use Rattle.std.specs.Prelude.{None, not, unwrap_or, ◌==◌, slice_set, slice_index_or, Some, is_some, replicate}
-use Rattle.std.specs.List.{remove, position, position_or_len}
-use Rattle.std.proofs.lemmas.Bool.Decides.{nat_tests}
-use Rattle.xh_core.proofs.Claiming.{one_time, in_range}
-use Rattle.xh_serial.proofs.Machines.{list_set, runs_busy, place_there, list_here, current_generation, busy_place, places_set, places_whole, same_lists, IsPlace, current_blocks}
-use Rattle.std.proofs.lemmas.Bool.{false≢true, eq-eqb, ne_eqb}
-use Rattle.std.proofs.lemmas.List.Sums.{sum_by-remove, passes_at_first, prefix_len-le-length}
-use Rattle.std.proofs.lemmas.List.Edits.{length-remove}
-use Rattle.std.proofs.lemmas.List.{set-get_or, nil_from_length, length-set, length-take-le, length-replicate}
-use Rattle.xh_model.specs.declared.event.Holder.TheVariants.{Process, Direction}
-use Rattle.xh_model.specs.Store.{holds, Store, owner, len, is_known, after}
-use Rattle.xh_serial.specs.Machine.{Machine, blocks, place, end_of, IsWhole, arriving, with_status, buffer, with_list, listed}
-use Rattle.xh_core.specs.Several.{times}
-use Rattle.xh_serial.specs.Commands.{IsRunning}
-use Rattle.xh_serial.specs.Sweeping.{sweep_one, sweep, Sweeps}
-use Rattle.xh_serial.specs.EndingCommands.{last, moved_last}
-use Rattle.xh_serial.specs.BlockCommands.{freed_block, allocated, parted}
-use Rattle.xh_core.proofs.Stores.{count_append, times-cons, at_set}
-use Rattle.xh_model.specs.Reclaimed.{Frees}
-use Rattle.xh_core.specs.Statuses.{is_over}
-use Rattle.xh_core.specs.declared.status.Status.{Status}
-use Rattle.xh_core.specs.declared.status.Status.TheVariants.{Ending, Ended}
-use Rattle.xh_serial.proofs.Sweeps.{sweep_sweeps, sweep_whole, finishes, sweep_frees}
-use Rattle.xh_model.specs.declared.event.Holder.{Holder}
-use Rattle.xh_core.specs.Gaining.{Gained}
-use Rattle.xh_model.specs.declared.event.Event.TheVariants.{Claim, Carve, Cut}
+use Rattle.xh_serial.proofs.Common.{Bool, Carve, Claim, Cut, Direction, Ended, Ending, Frees, Gained, Holder, IsRunning, IsWhole, List, Machine, None, Process, Some, Status, Store, Sweeps, []}
+use Rattle.xh_serial.proofs.Common.{after, allocated, ap, append-nil, arith, arriving, at_set, blocks, buffer, cond, count_append, drop, end_of, eq-eqb, false≢true, freed_block, holds, in_range}
+use Rattle.xh_serial.proofs.Common.{is_known, is_over, is_some, last, len, length, length-drop, length-remove, length-replicate, length-set, length-take-le, listed, moved_last, nat_tests, ne_eqb}
+use Rattle.xh_serial.proofs.Common.{nil_from_length, not, one_time, owner, parted, passes_at_first, place, position, position_or_len, prefix_len-le-length, refl, remove, replicate, rules}
+use Rattle.xh_serial.proofs.Common.{set-get_or, slice_index_or, slice_set, subst, suc, sum_by-remove, sweep, sweep_one, sym, take, times, times-cons, true, unwrap_or, with_list, with_status, zero}
+use Rattle.xh_serial.proofs.Common.{ℕ, ◌*◌, ◌++◌, ◌+◌, ◌-◌, ◌<◌, ◌==◌, ◌∙◌, ◌∷◌, ◌≡◌, ◌≢◌, ◌≤◌}
+use Rattle.xh_serial.proofs.Machines.{IsPlace, busy_place, current_blocks, current_generation, list_set, place_here, place_there, places_set, places_whole, runs_busy, same_lists}
+use Rattle.xh_serial.proofs.Sweeps.{finishes, sweep_frees, sweep_sweeps}
 use Rattle.xh_serial.proofs.Swept.{whole_one}
-use Rattle.xh_serial.proofs.Room.{has, came_whole, few, few_records, held_there}
+use Rattle.xh_serial.proofs.Room.{came_whole, few, few_records, has, held_there}
 
 -- the first that passes, or the length where none does
 pub first_or_length : (p : ℕ → Bool) (xs : List ℕ) → unwrap_or (position p xs) (length xs) ≡ position_or_len p xs
@@ -71,7 +50,7 @@ frees_block m p r h none = grind (arith, nat_tests, is_found, set-get_or, append
 
 -- ---- another status
 
-status_blocks : (m : Machine) (p q : ℕ) (s : Status) → IsWhole m → blocks (with_status p s m) q ≡ blocks m q
+pub status_blocks : (m : Machine) (p q : ℕ) (s : Status) → IsWhole m → blocks (with_status p s m) q ≡ blocks m q
 status_blocks m p q s w = same_lists m.places p (record (place m p) { status = s }) (place_there m p w) (λ k. refl) q
 
 pub status_whole : (m : Machine) (p : ℕ) (s : Status) → IsWhole m → (is_over s ≡ true → length (place m p).blocks.items ≡ 0) → IsWhole (with_status p s m)
@@ -101,10 +80,6 @@ stop_sweeps m n k p budget w is f =
       left = rw f h.left;
     }
 
--- the end of the process leaves its list as it is
-pub ended_blocks : (m n : Machine) (p budget : ℕ) → IsWhole m → n ≡ sweep p 0 budget (with_status p Ending m) → blocks (with_status p Ended n) p ≡ blocks n p
-ended_blocks m n p budget w is = status_blocks n p p Ended (rw is (sweep_whole budget p 0 (with_status p Ending m) (ending_whole m p w)))
-
 pub stop_frees : (m n : Machine) (p budget : ℕ) → IsWhole m → n ≡ sweep p 0 budget (with_status p Ending m) → length (blocks n p) ≡ 0 → Frees (arriving m) m.store n.store (blocks m p)
 stop_frees m n p budget w is none =
     let done : length (blocks (sweep p 0 budget (with_status p Ending m)) p) ≤ 0 = subst (λ (x : Machine). length (blocks x p) ≤ 0) is (omega (arith, none)) in
@@ -123,7 +98,7 @@ close_frees budget m n p e w r h b is =
     let from : ℕ = length (blocks m p) - 1 in
     let whole : IsWhole (moved_last p e m) = last_whole m p e w r h in
     let done : length (blocks n p) ≤ from = finishes p from budget (moved_last p e m) n whole b (close_sweeps budget m n p e w r h is) in
-    let here : blocks (moved_last p e m) p ≡ last e (blocks m p) = list_here m.places p (record (place m p) { blocks = record { items = last e (blocks m p) } }) (place_there m p w) r.0 in
+    let here : blocks (moved_last p e m) p ≡ last e (blocks m p) = rw (place_here m.places p _ (place_there m p w), r.0) refl in
     let list : drop from (blocks (moved_last p e m) p) ≡ e ∷ [] = ap (drop from) here ∙ (grind (arith, nat_tests, length-remove, found, drop_to)) in
     subst (Frees (arriving m) m.store n.store) list
     (subst (λ (x : Machine). Frees (arriving m) m.store x.store (drop from (blocks (moved_last p e m) p))) (sym is)

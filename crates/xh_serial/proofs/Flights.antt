@@ -1,26 +1,9 @@
 -- What is in flight: its lines, and the ends that it is on its way to.
-use Rattle.std.proofs.Common.{◌≡◌, ◌∙◌, ◌≤◌, ◌<◌, ◌+◌, ◌*◌, ◌⊎◌, ℕ, zero, suc, List, [], ◌∷◌, length, true, cond, refl, ap, sym, subst, arith, inl, inr}
-use Rattle.std.specs.Prelude.{Option, Some, None, All, AllPairs, is_some, nat_lt, slice_index_or, ◌==◌}
-use Rattle.std.specs.List.{sum_by, list_all, list_any}
-use Rattle.std.proofs.lemmas.Bool.Decides.{nat_tests}
-use Rattle.std.proofs.lemmas.Bool.{cases_Bool, cases_lt, eqb-true, false≢true}
-use Rattle.std.proofs.lemmas.List.{nil_from_length}
-use Rattle.std.proofs.lemmas.List.Elements.{All-cons, All-nil}
-use Rattle.std.proofs.lemmas.List.Kept.{AllPairs-cons}
-use Rattle.std.proofs.lemmas.List.Sums.{sum_by-cons}
-use Rattle.std.proofs.lemmas.Option.{none-some}
-use Rattle.xh_model.specs.Store.{Store, len, owner}
-use Rattle.xh_model.specs.declared.event.Holder.{Holder}
-use Rattle.xh_model.specs.declared.event.Holder.TheVariants.{Process, Direction}
-use Rattle.xh_core.specs.Flight.{AreFlightLines}
-use Rattle.xh_core.specs.Several.{has_twice, times}
-use Rattle.xh_core.specs.declared.flight.FlightLine.{FlightLine}
-use Rattle.xh_core.proofs.Stores.{times-cons}
-use Rattle.xh_serial.specs.InFlight.{HasTaker, IsBehind, IsCarried, IsInCircle, IsUnderWay, NoEndIsHeld}
-use Rattle.xh_serial.specs.Machine.{Machine, IsWhole, carried, end_of, no_line, waiting}
-use Rattle.xh_serial.specs.PlaceCommands.{flight_line, flight_lines, flight_of, ledger_of, total}
-use Rattle.xh_serial.specs.declared.line.Line.{Line}
-use Rattle.xh_serial.specs.declared.message.Message.{Message}
+use Rattle.xh_serial.proofs.Common.{All, All-cons, All-nil, AllPairs, AllPairs-cons, AreFlightLines, Direction, FlightLine, Holder, IsUnderWay, IsWhole, Line, List, Machine, Message, None, Option}
+use Rattle.xh_serial.proofs.Common.{Process, Some, Store, [], ap, arith, carried, cases_Bool, cases_lt, cond, end_of, eqb-true, false≢true, flight_line, flight_lines, flight_of, has_twice, inl}
+use Rattle.xh_serial.proofs.Common.{inr, is_some, ledger_of, len, length, list_all, list_any, nat_lt, nat_tests, nil_from_length, no_line, none-some, owner, refl, slice_index_or, subst, suc}
+use Rattle.xh_serial.proofs.Common.{sum_by, sum_by-cons, sym, times, times-cons, total, true, waiting, zero, ℕ, ◌*◌, ◌+◌, ◌<◌, ◌==◌, ◌∙◌, ◌∷◌, ◌≡◌, ◌≤◌, ◌⊎◌}
+use Rattle.xh_serial.specs.InFlight.{HasTaker, IsBehind, IsCarried, IsInCircle, NoEndIsHeld}
 use Rattle.xh_serial.proofs.Messages.{distinct_pass}
 use Rattle.xh_serial.proofs.Room.{few}
 

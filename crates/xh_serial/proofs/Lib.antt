@@ -1,3 +1,4 @@
+pub mod Common
 pub mod Machines
 pub mod Swept
 pub mod Wired

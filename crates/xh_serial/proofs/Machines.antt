@@ -1,20 +1,7 @@
 -- What is read of a machine's places and directions, after a change of one of them.
-use Rattle.std.proofs.Common.{◌≡◌, ◌≢◌, ℕ, ◌*◌, ◌/◌, ◌%◌, ◌<◌, List, [], length, true, false, cond, refl, sym, ap, ◌∙◌, arith, get_or-set_same, get_or-set_other}
-use Rattle.std.specs.Prelude.{◌==◌, slice_set, slice_index_or}
-use Rattle.std.proofs.lemmas.Bool.Decides.{nat_tests}
-use Rattle.xh_core.proofs.Stores.{at_set}
-use Rattle.std.proofs.lemmas.Bool.{false≢true, eqb-true}
-use Rattle.std.proofs.lemmas.List.{get_or_default, length-set, set-set}
-use Rattle.xh_model.specs.declared.event.Holder.{Holder}
-use Rattle.xh_model.specs.declared.event.Holder.TheVariants.{Process, Direction}
-use Rattle.xh_model.specs.Store.{holds}
-use Rattle.xh_core.specs.Several.{times}
-use Rattle.xh_serial.specs.declared.place.Place.{Place}
-use Rattle.xh_serial.specs.declared.line.Line.{Line}
-use Rattle.xh_serial.specs.Machine.{Machine, place, is_current, blocks, listed, no_place, no_line, peer, carried, IsWhole, ArePlaces}
-use Rattle.xh_core.specs.Statuses.{is_over}
-use Rattle.xh_serial.specs.Commands.{IsRunning}
-use Rattle.xh_serial.specs.inner.Placing.{place_in, blocks_in, relisted}
+use Rattle.xh_serial.proofs.Common.{ArePlaces, Direction, Holder, IsRunning, IsWhole, Line, List, Machine, Place, Process, [], ap, arith, at_set, blocks, blocks_in, carried, cond, eqb-true, false}
+use Rattle.xh_serial.proofs.Common.{false≢true, get_or-set_other, get_or-set_same, get_or_default, holds, is_current, is_over, length, length-set, listed, nat_tests, no_line, no_place, peer}
+use Rattle.xh_serial.proofs.Common.{place, place_in, refl, relisted, set-set, slice_index_or, slice_set, sym, times, true, ℕ, ◌%◌, ◌/◌, ◌<◌, ◌==◌, ◌∙◌, ◌≡◌, ◌≢◌}
 
 -- an entry that is there is the one that is read with any default
 pub read_at : {A : Type 0} (xs : List A) (i k : ℕ) (x d : A) → k < length xs → i ≡ k → x ≡ slice_index_or xs i x → x ≡ slice_index_or xs k d
@@ -38,9 +25,6 @@ relisted_list ps p rs l = ap (λ (x : Place). x.blocks.items) (place_here ps p (
 
 pub relisted_again : (ps : List Place) (p : ℕ) (rs ss : List ℕ) → p % 32 < length ps → relisted p ss (relisted p rs ps) ≡ relisted p ss ps
 relisted_again ps p rs ss l = grind (arith, nat_tests, place_here, set-set)
-
-pub list_here : (ps : List Place) (p : ℕ) (x : Place) → p % 32 < length ps → (x.generation == (p / 32)) ≡ true → list_in (slice_set ps (p % 32) x) p ≡ x.blocks.items
-list_here ps p x l g = rw (place_here ps p x l, g) refl
 
 pub list_set : (ps : List Place) (p : ℕ) (rs : List ℕ) → p % 32 < length ps → (place_in ps p).generation ≡ p / 32 → (k : ℕ) → list_in (relisted p rs ps) k ≡ cond (k == p) rs (list_in ps k)
 list_set ps p rs l g k = grind (arith, nat_tests, at_set ps (p % 32) (k % 32) (record (place_in ps p) { blocks = record { items = rs } }) no_place l)
@@ -88,10 +72,6 @@ module _ (m : Machine) (ps : List Place) (w : IsWhole m) (a : ArePlaces ps) (sam
   pub places_whole : IsWhole (record m { places = ps })
   places_whole = grind (arith, nat_tests, once_placed)
 
--- a place that lists something is not idle
-pub lists_busy : (m : Machine) (p from : ℕ) → IsWhole m → from < length (blocks m p) → is_over (place m p).status ≡ false
-lists_busy m p from w l = grind (arith, nat_tests, w.places.idle p)
-
 -- ---- directions
 
 pub way_here : (lines : List Line) (d : ℕ) (x : Line) → d < length lines → carried (slice_index_or (slice_set lines d x) d no_line).waiting.items ≡ carried x.waiting.items
@@ -105,9 +85,6 @@ peer_half d = grind (arith, nat_tests)
 
 pub peer_ne : (d : ℕ) → peer d ≢ d
 peer_ne d = grind (arith, nat_tests)
-
-pub peer_below : (d n : ℕ) → d < 2 * n → peer d < 2 * n
-peer_below d n l = let h = peer_half d in omega (arith, h, l)
 
 -- ---- a process that runs
 

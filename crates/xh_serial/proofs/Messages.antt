@@ -1,31 +1,13 @@
 -- A give and a take leave a whole machine.
-use Rattle.std.proofs.Common.{◌≡◌, ◌≢◌, ℕ, ◌+◌, ◌*◌, ◌/◌, ◌%◌, ◌<◌, ◌≤◌, List, [], ◌∷◌, ◌++◌, length, Bool, true, false, cond, refl, sym, ap, ◌∙◌, subst, arith, get_or-set_same}
-use Rattle.std.proofs.Common.{get_or-set_other, append-nil, ◌-◌}
-use Rattle.std.specs.Prelude.{Option, Some, None, is_none, ◌==◌, nat_lt, unwrap_or, slice_set, slice_index_or}
-use Rattle.std.specs.List.{list_all, list_any, remove}
-use Rattle.std.proofs.lemmas.Bool.Decides.{nat_tests}
+use Rattle.xh_serial.proofs.Common.{Accepted, Bool, Direction, Holder, InStep, IsValid, IsWhole, Line, List, Machine, MayGive, MayTake, Message, None, Option, Pass, Process, Row, Some, Store, []}
+use Rattle.xh_serial.proofs.Common.{accept_all, accepted_all, after, all_owners, allowed, ap, append-nil, arith, at_set, blocks, blocks_in, carried, change, cond, contract_of, count_append, done}
+use Rattle.xh_serial.proofs.Common.{false, false≢true, flat_map-append, front, get_or-set_other, get_or-set_same, given, has_twice, holds, is_banned, is_none, is_there, len, length, length-append}
+use Rattle.xh_serial.proofs.Common.{length-set, line, list_all, list_any, listed, lt-ltb, nat_lt, nat_tests, next_state, no_line, no_message, on_way, owner, pass_all, peer, put_line, put_step}
+use Rattle.xh_serial.proofs.Common.{refl, remove, same_len, slice_index_or, slice_set, subst, sym, tags_of, take_step, taken, taken_line, times, times-cons, told_line, toward, true, unwrap_or}
+use Rattle.xh_serial.proofs.Common.{waiting, without, ℕ, ◌%◌, ◌*◌, ◌++◌, ◌+◌, ◌-◌, ◌/◌, ◌<◌, ◌==◌, ◌∙◌, ◌∷◌, ◌≡◌, ◌≢◌, ◌≤◌}
 use Rattle.xh_serial.proofs.Room.{handed_whole, has, room}
-use Rattle.std.proofs.lemmas.Bool.{false≢true, lt-ltb}
-use Rattle.std.proofs.lemmas.List.{length-set, length-append}
-use Rattle.std.proofs.lemmas.List.Concat.{flat_map-append}
-use Rattle.xh_model.specs.declared.event.Holder.{Holder}
-use Rattle.xh_model.specs.declared.event.Holder.TheVariants.{Process, Direction}
-use Rattle.xh_model.specs.declared.event.Event.TheVariants.{Pass}
-use Rattle.xh_serial.specs.declared.message.Message.{Message}
-use Rattle.xh_serial.specs.declared.line.Line.{Line}
-use Rattle.xh_model.specs.Store.{Store, owner, len, holds, after, change}
-use Rattle.xh_model.specs.declared.row.Row.{Row}
-use Rattle.xh_model.specs.Rows.{allowed, IsValid, InStep}
-use Rattle.xh_model.proofs.InStep.{put_step, take_step}
-use Rattle.xh_serial.specs.Machine.{Machine, blocks, line, no_line, waiting, peer, tags_of, contract_of, next_state, carried, on_way, listed, IsWhole}
-use Rattle.xh_core.specs.Several.{times, pass_all, has_twice, accept_all}
-use Rattle.xh_serial.specs.Commands.{toward}
-use Rattle.xh_serial.specs.MessageCommands.{given, told_line, put_line, without, is_banned, taken, taken_line, front, no_message}
-use Rattle.xh_serial.specs.inner.Checks.{MayGive, MayTake}
-use Rattle.xh_core.proofs.Stores.{count_append, done, all_owners, is_there, at_set, times-cons, same_len, Accepted, accepted_all}
-use Rattle.xh_serial.proofs.Machines.{runs_busy, place_there, list_set, current_generation, busy_place, places_set, way_here, way_else, peer_ne, peer_half, peer_below, current_range, current_blocks}
-use Rattle.xh_serial.proofs.Wired.{state_in, IsPair, same_lines, wired_pair, half_apart, put_numbered, set_numbered, set_reached, tags_in, taken_numbered}
-use Rattle.xh_serial.specs.inner.Placing.{blocks_in}
+use Rattle.xh_serial.proofs.Machines.{busy_place, current_blocks, current_generation, current_range, list_set, peer_half, peer_ne, place_there, places_set, runs_busy, way_else, way_here}
+use Rattle.xh_serial.proofs.Wired.{IsPair, half_apart, put_numbered, same_lines, set_numbered, set_reached, state_in, tags_in, taken_numbered, wired_pair}
 
 pub any_times : (q : ℕ) (bs : List ℕ) → list_any (λ b. b == q) bs ≡ nat_lt 0 (times q bs)
 any_times q [] = refl
@@ -109,7 +91,7 @@ module _ (m : Machine) (p e tag : ℕ) (bs : List ℕ) (w : IsWhole m) (g : MayG
   held = distinct_pass (λ q. holds m.store (Process p) q) bs g.held g.once
 
   below : d < 2 * m.opened
-  below = peer_below own m.opened g.within
+  below = let h = peer_half own in omega (arith, h, g.within)
 
   range : d < 128
   range = let a = below in let b = w.channels.few in omega (arith, a, b)
@@ -138,9 +120,6 @@ module _ (m : Machine) (p e tag : ℕ) (bs : List ℕ) (w : IsWhole m) (g : MayG
   lists (Process k) q = grind (arith, nat_tests, list_set m.places p (without bs (blocks m p)) (place_there m p w) (current_generation m p g.runs.0) k, left q)
   lists (Direction k) q = grind (arith, nat_tests, at_set told d k y no_line there, told_way k, ap (times q) way, count_append q (on_way m d) bs)
 
-  own_now : slice_index_or (slice_set told d y) own no_line ≡ z
-  own_now = get_or-set_other told d own y no_line (λ s. peer_ne own (sym s)) ∙ get_or-set_same m.lines own z no_line own_there
-
   other_lines : (k : ℕ) → k ≢ own → k ≢ d → slice_index_or (slice_set told d y) k no_line ≡ line m k
   other_lines k a b = get_or-set_other told d k y no_line b ∙ get_or-set_other m.lines own k z no_line a
 
@@ -154,7 +133,8 @@ module _ (m : Machine) (p e tag : ℕ) (bs : List ℕ) (w : IsWhole m) (g : MayG
         contracts_long = w.channels.contracts_long;
         wired = wired_pair m.contracts m.lines (slice_set told d y) own w.channels.wired (λ rows is valid pair. give_pair rows m.lines (slice_set told d y) own tag bs valid
             (subst (λ (o : Option (List Row)). is_banned o (own % 2) (line m own).state tag ≡ false) is g.allowed)
-            (own_now ∙ ap (λ (o : Option (List Row)). told_line o (own % 2) tag (line m own)) is)
+            (get_or-set_other told d own y no_line (λ s. peer_ne own (sym s)) ∙ get_or-set_same m.lines own z no_line own_there
+            ∙ ap (λ (o : Option (List Row)). told_line o (own % 2) tag (line m own)) is)
             (get_or-set_same told d y no_line there) pair)
             (λ k h. other_lines k (half_apart own k h) (λ s. h (ap (λ (i : ℕ). i / 2) s ∙ peer_half own)));
         few = w.channels.few;
@@ -245,15 +225,12 @@ module _ (m : Machine) (p e : ℕ) (w : IsWhole m) (t : MayTake m p e (toward m 
       (set_reached m.ends m.lines m.opened way_d shorter way_there refl (λ s. ap (λ (ms : List Message). remove ms 0) (w.reached.drained way_d s)) w.reached)
 
   -- the front message is one that the contract allows
-  front_free : (o : Option (List Row)) → contract_of m.contracts way_d ≡ o → is_banned o (1 - way_d % 2) (line m way_d).state (front m e).tag ≡ false
-  front_free None is = refl
-  front_free (Some rows) is =
+  pub front_allowed : (o : Option (List Row)) → contract_of m.contracts way_d ≡ o → is_banned o (1 - way_d % 2) (line m way_d).state (front m e).tag ≡ false
+  front_allowed None is = refl
+  front_allowed (Some rows) is =
       let pair : IsPair rows m.lines way_d = (w.channels.wired way_d rows is).1 in
       let rest : List ℕ = tags_of (remove (waiting m way_d) 0) in
       let split : tags_of (waiting m way_d) ≡ (front m e).tag ∷ rest = front_tags (waiting m way_d) t.some in
       let s = take_step rows (way_d % 2) (line m way_d).state (front m e).tag (state_in m.lines (peer way_d)) rest (tags_in m.lines (peer way_d))
       (subst (λ (xs : List ℕ). InStep rows (way_d % 2) (line m way_d).state xs (state_in m.lines (peer way_d)) (tags_in m.lines (peer way_d))) split pair) in
       ap (λ (o : Option ℕ). is_none o) s.1
-
-  pub front_allowed : is_banned (contract_of m.contracts way_d) (1 - way_d % 2) (line m way_d).state (front m e).tag ≡ false
-  front_allowed = front_free (contract_of m.contracts way_d) refl

@@ -1,38 +1,14 @@
 -- A new machine is whole, and so is one where a process starts, and one where a channel is opened.
-use Rattle.std.proofs.Common.{◌≡◌, ℕ, ◌*◌, ◌/◌, ◌%◌, ◌<◌, List, [], length, true, false, cond, refl, sym, ap, ◌∙◌, subst, arith, ◌+◌, ◌++◌, Bool, ◌≢◌, ◌∷◌, inl, inr, get_or-set_same}
-use Rattle.std.proofs.Common.{get_or-set_other, append_assoc}
-use Rattle.std.specs.Prelude.{Option, Some, None, is_some, slice_index_or, ok_or, slice_set, ◌==◌}
-use Rattle.std.proofs.lemmas.Bool.Decides.{nat_tests}
-use Rattle.std.proofs.lemmas.Bool.{false≢true, eq-eqb, cases_eq, ne_eqb}
-use Rattle.std.proofs.lemmas.List.{length-replicate, length-append, length-set, set-set}
-use Rattle.xh_model.specs.declared.config.Config.{Config}
-use Rattle.xh_model.specs.declared.event.Holder.{Holder}
-use Rattle.xh_model.specs.declared.event.Holder.TheVariants.{Process, Direction}
-use Rattle.xh_model.specs.declared.row.Row.{Row}
-use Rattle.xh_model.specs.Store.{owner, len, holds, is_held_by, IsLawful, new_store, Store, after}
-use Rattle.xh_model.specs.Config.{IsConfig}
-use Rattle.xh_core.proofs.FreshPlain.{at_replicate}
-use Rattle.xh_serial.specs.declared.line.Line.{Line}
-use Rattle.xh_serial.specs.declared.place.Place.{Place}
-use Rattle.xh_serial.specs.Machine.{IsNumbered, Machine, waiting, blocks, buffer, place, line, on_way, listed, no_place, no_line, end_of, IsWhole, peer, ArePlaces}
-use Rattle.xh_core.specs.Several.{times}
-use Rattle.xh_serial.specs.PlaceCommands.{new_machine, is_ready, started, spawn_at}
-use Rattle.xh_core.proofs.Claiming.{no_bytes, one_time}
-use Rattle.std.specs.List.{position}
-use Rattle.std.proofs.lemmas.List.Quantifiers.{position-Some}
-use Rattle.xh_core.specs.declared.refused.Refused.TheVariants.{NoPlace}
-use Rattle.xh_serial.specs.inner.Placing.{started_at, place_in}
-use Rattle.xh_serial.proofs.Machines.{place_there, same_lists, IsPlace, places_set, places_whole, list_in, peer_half, runs_busy, place_here, current_generation, list_set}
-use Rattle.xh_core.specs.Statuses.{is_over}
-use Rattle.xh_serial.specs.Commands.{IsRunning}
-use Rattle.xh_serial.specs.ChannelCommands.{open_channel, wire_channel, new_line, opened, wired}
-use Rattle.xh_core.specs.Pairing.{moved}
-use Rattle.xh_core.proofs.Pairs.{Shared}
-use Rattle.xh_model.specs.declared.event.Event.TheVariants.{Claim, Carve, Cut}
-use Rattle.xh_serial.specs.inner.Channeling.{IsSound}
+use Rattle.xh_serial.proofs.Common.{ArePlaces, Bool, Carve, Claim, Config, Cut, Direction, Holder, IsConfig, IsLawful, IsNumbered, IsRunning, IsSound, IsWhole, Line, List, Machine, NoPlace, None}
+use Rattle.xh_serial.proofs.Common.{Option, Place, Process, Row, Shared, Some, Store, [], after, ap, append_assoc, arith, at_replicate, at_set, blocks, buffer, cases_eq, cond, count_append}
+use Rattle.xh_serial.proofs.Common.{end_of, eq-eqb, false, false≢true, get_or-set_other, get_or-set_same, holds, inl, inr, is_held_by, is_over, is_ready, is_some, len, length, length-append}
+use Rattle.xh_serial.proofs.Common.{length-replicate, length-set, line, listed, moved, nat_tests, ne_eqb, new_machine, new_store, no_bytes, no_line, no_place, ok_or, on_way, one_time, owner, peer}
+use Rattle.xh_serial.proofs.Common.{place, place_in, position, position-Some, refl, set-set, slice_index_or, slice_set, spawn_at, started, started_at, subst, sym, times, true, waiting, ℕ, ◌%◌}
+use Rattle.xh_serial.proofs.Common.{◌*◌, ◌++◌, ◌+◌, ◌/◌, ◌<◌, ◌==◌, ◌∙◌, ◌∷◌, ◌≡◌, ◌≢◌}
+use Rattle.xh_serial.proofs.Machines.{IsPlace, current_generation, list_in, list_set, peer_half, place_here, place_there, places_set, places_whole, runs_busy, same_lists}
+use Rattle.xh_serial.specs.ChannelCommands.{new_line, open_channel, opened, wire_channel, wired}
 use Rattle.xh_serial.proofs.Room.{room}
-use Rattle.xh_core.proofs.Stores.{count_append, at_set}
-use Rattle.xh_serial.proofs.Wired.{set_numbered, same_lines}
+use Rattle.xh_serial.proofs.Wired.{same_lines, set_numbered}
 
 module _ (m : Machine) (p : ℕ) (w : IsWhole m) (c : is_ready (place m p) ≡ true) where
   abbrev next : Machine

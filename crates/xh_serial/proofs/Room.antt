@@ -1,38 +1,32 @@
 -- Records that go from one holder, or from none, to another, or to none; how many there are at most, and how many bytes they have.
-use Rattle.std.proofs.Common.{◌≡◌, ℕ, ◌+◌, ◌<◌, ◌≤◌, List, [], ◌∷◌, ◌++◌, length, true, cond, refl, ◌∙◌, arith, ◌*◌, sym, ap, ◌%◌}
-use Rattle.std.specs.Prelude.{Option, Some, None, ◌==◌, is_some, nat_lt, map, slice_index_or}
-use Rattle.std.specs.List.{sum_by, range_with_len}
-use Rattle.std.proofs.lemmas.Bool.Decides.{nat_tests}
-use Rattle.xh_core.proofs.Stores.{same_process, same_direction, count_append, times-cons, is_there, same_len, same_known}
-use Rattle.xh_serial.specs.declared.place.Place.{Place}
-use Rattle.xh_serial.specs.declared.line.Line.{Line}
-use Rattle.std.proofs.lemmas.Bool.{eq-eqb}
-use Rattle.std.proofs.lemmas.List.{length-append}
-use Rattle.std.proofs.lemmas.List.Sums.{sum_by-le, sum_by-cons, sum_by-append}
-use Rattle.std.proofs.lemmas.List.FromFn.{length-range_with_len}
-use Rattle.xh_model.specs.declared.event.Holder.{Holder}
-use Rattle.xh_model.specs.declared.event.Holder.TheVariants.{Process, Direction}
-use Rattle.xh_model.specs.Store.{owner, holds, is_held_by, Store, len, IsLawful, numbers, bytes_of, holders, all_holders, all_out}
-use Rattle.xh_serial.specs.Machine.{Machine, blocks, way_in, on_way, listed, IsWhole, end_of, buffer, IsEnd, ArePlaces, AreChannels, HaveEnds, no_place, no_line, carried}
-use Rattle.xh_core.specs.Several.{times}
-use Rattle.xh_model.proofs.Totals.{sum_zero, sum_add, sum_same, total_bytes}
-use Rattle.xh_core.proofs.Ranges.{picked, same_range, exchanged, sum_mapped, indexed}
-use Rattle.xh_serial.specs.PlaceCommands.{total}
+use Rattle.xh_serial.proofs.Common.{AreChannels, ArePlaces, Direction, HaveEnds, Holder, IsEnd, IsLawful, IsWhole, Line, List, Machine, None, Option, Place, Process, Some, Store, [], all_holders}
+use Rattle.xh_serial.proofs.Common.{all_out, ap, arith, blocks, buffer, bytes_of, carried, cond, count_append, end_of, eq-eqb, get_or, holders, holds, is_held_by, is_some, is_there, len, length}
+use Rattle.xh_serial.proofs.Common.{length-append, length-range_with_len, listed, map, nat_lt, nat_tests, no_line, no_place, numbers, on_way, owner, range_with_len, refl, same_direction}
+use Rattle.xh_serial.proofs.Common.{same_known, same_len, same_process, slice_index_or, sum_add, sum_by, sum_by-append, sum_by-cons, sum_by-le, sum_same, sum_zero, sym, times, times-cons, total}
+use Rattle.xh_serial.proofs.Common.{total_bytes, true, way_in, ℕ, ◌%◌, ◌*◌, ◌++◌, ◌+◌, ◌<◌, ◌==◌, ◌∙◌, ◌∷◌, ◌≡◌, ◌≤◌}
+use Rattle.xh_core.proofs.Ranges.{exchanged, indexed, picked, same_range, sum_mapped}
 
--- each element counts once
-counted : (n : ℕ) (rs : List ℕ) → ((q : ℕ) → 0 < times q rs → q < n) → sum_by (λ q. times q rs) (range_with_len 0 n) ≡ length rs
-counted n [] h = sum_zero (range_with_len 0 n)
-counted n (r ∷ rs) h =
-    let here : r < n = h r (let t : times r (r ∷ rs) ≡ 1 + times r rs = times-cons r r rs ∙ rw (eq-eqb r r refl) refl in omega arith) in
-    let rest : sum_by (λ q. times q rs) (range_with_len 0 n) ≡ length rs = counted n rs (λ q l. h q (let t = times-cons q r rs in omega arith)) in
-    sum_same (λ q. times q (r ∷ rs)) (λ q. cond {A = ℕ} (r == q) 1 0 + times q rs) (range_with_len 0 n) (λ q. times-cons q r rs)
-    ∙ (sum_add (λ q. cond {A = ℕ} (r == q) 1 0) (λ q. times q rs) (range_with_len 0 n) ∙ rw (picked 1 r 0 n (omega arith) (omega arith), rest) (omega arith))
+one_number : (f : ℕ → ℕ) (q r : ℕ) (rs : List ℕ) → times q (r ∷ rs) * f q ≡ cond (r == q) (f r) 0 + times q rs * f q
+one_number f q r rs = grind (arith, nat_tests, times-cons q r rs)
+
+-- a sum over a list, number by number
+by_number : (f : ℕ → ℕ) (n : ℕ) (rs : List ℕ) → ((q : ℕ) → 0 < times q rs → q < n) → sum_by (λ q. times q rs * f q) (range_with_len 0 n) ≡ sum_by f rs
+by_number f n [] h = sum_same (λ q. times q [] * f q) (λ q. 0) (range_with_len 0 n) (λ q. let z : times q [] ≡ 0 = refl in rw z (omega arith)) ∙ sum_zero (range_with_len 0 n)
+by_number f n (r ∷ rs) h =
+    let here : r < n = h r (grind (arith, nat_tests, times-cons r r rs)) in
+    let one : sum_by (λ q. cond {A = ℕ} (r == q) (f r) 0) (range_with_len 0 n) ≡ f r = picked (f r) r 0 n (omega arith) (omega arith) in
+    let rest : sum_by (λ q. times q rs * f q) (range_with_len 0 n) ≡ sum_by f rs = by_number f n rs (λ q l. h q (let t = times-cons q r rs in omega arith)) in
+    sum_same (λ q. times q (r ∷ rs) * f q) (λ q. cond (r == q) (f r) 0 + times q rs * f q) (range_with_len 0 n) (λ q. one_number f q r rs)
+    ∙ (sum_add (λ q. cond (r == q) (f r) 0) (λ q. times q rs * f q) (range_with_len 0 n) ∙ (rw (one, rest) (sym (sum_by-cons f r rs))))
+
+ones : (rs : List ℕ) → sum_by (λ q. 1) rs ≡ length rs
+ones [] = refl
+ones (r ∷ rs) = omega (arith, ones rs, sum_by-cons (λ q. 1) r rs)
 
 pub few : (n : ℕ) (rs : List ℕ) → ((q : ℕ) → times q rs ≤ 1) → ((q : ℕ) → 0 < times q rs → q < n) → length rs ≤ n
 few n rs one in_range =
-    let c = counted n rs in_range in
-    let l = sum_by-le (λ q. times q rs) 1 (range_with_len 0 n) (λ k d i. one _) in
-    let e = length-range_with_len 0 n in omega arith
+    let l = sum_by-le (λ q. times q rs * 1) 1 (range_with_len 0 n) (λ k d i. let o = one (get_or (range_with_len 0 n) k d) in omega (arith, o)) in
+    omega (arith, l, by_number (λ q. 1) n rs in_range, ones rs, length-range_with_len 0 n)
 
 pub held_there : (m : Machine) (h : Holder) (q : ℕ) → IsWhole m → 0 < times q (listed m h) → q < length m.store.owners
 held_there m h q w l = grind (arith, nat_tests, w.once h q, is_there m.store h q)
@@ -144,19 +138,6 @@ module _ (g h : Holder) (rs : List ℕ) (m : Machine) (t : Store) (ps : List Pla
   })
 
 -- ---- the bytes of one holder
-
-one_number : (f : ℕ → ℕ) (q r : ℕ) (rs : List ℕ) → times q (r ∷ rs) * f q ≡ cond (r == q) (f r) 0 + times q rs * f q
-one_number f q r rs = grind (arith, nat_tests, times-cons q r rs)
-
--- a sum over a list, number by number
-by_number : (f : ℕ → ℕ) (n : ℕ) (rs : List ℕ) → ((q : ℕ) → 0 < times q rs → q < n) → sum_by (λ q. times q rs * f q) (range_with_len 0 n) ≡ sum_by f rs
-by_number f n [] h = sum_same (λ q. times q [] * f q) (λ q. 0) (range_with_len 0 n) (λ q. let z : times q [] ≡ 0 = refl in rw z (omega arith)) ∙ sum_zero (range_with_len 0 n)
-by_number f n (r ∷ rs) h =
-    let here : r < n = h r (grind (arith, nat_tests, times-cons r r rs)) in
-    let one : sum_by (λ q. cond {A = ℕ} (r == q) (f r) 0) (range_with_len 0 n) ≡ f r = picked (f r) r 0 n (omega arith) (omega arith) in
-    let rest : sum_by (λ q. times q rs * f q) (range_with_len 0 n) ≡ sum_by f rs = by_number f n rs (λ q l. h q (let t = times-cons q r rs in omega arith)) in
-    sum_same (λ q. times q (r ∷ rs) * f q) (λ q. cond (r == q) (f r) 0 + times q rs * f q) (range_with_len 0 n) (λ q. one_number f q r rs)
-    ∙ (sum_add (λ q. cond (r == q) (f r) 0) (λ q. times q rs * f q) (range_with_len 0 n) ∙ (rw (one, rest) (sym (sum_by-cons f r rs))))
 
 -- the bytes of a holder are those of its list
 listed_bytes : (m : Machine) (h : Holder) → IsWhole m → bytes_of m.store h ≡ total m.store (listed m h)

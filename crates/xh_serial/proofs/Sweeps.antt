@@ -1,20 +1,10 @@
 -- A sweep that finishes frees exactly the reclaimed set, and what the list is after any sweep.
-use Rattle.std.proofs.Common.{◌≡◌, ◌≢◌, ℕ, zero, suc, ◌<◌, ◌≤◌, List, [], ◌∷◌, ◌++◌, length, drop, drop-cons, Bool, true, refl, sym, ap, ◌∙◌, subst, arith, inl, inr, take, cond}
-use Rattle.std.proofs.Common.{append_assoc, append-nil}
-use Rattle.std.specs.Prelude.{Some, None, is_some, ◌==◌, nat_lt}
-use Rattle.std.specs.List.{remove, flat_map}
+use Rattle.xh_serial.proofs.Common.{Bool, Direction, Frees, Includes, IsWhole, List, Machine, None, Process, Some, Sweeps, [], ap, append-nil, append_assoc, arith, arriving, blocks, cases_Bool}
+use Rattle.xh_serial.proofs.Common.{cases_eq, cases_lt, cond, count_append, drop, drop-cons, end_of, eq-eqb, false≢true, flat_map, freed, inl, inr, is_some, is_there, le-ltb, length, lt-ltb}
+use Rattle.xh_serial.proofs.Common.{ltb-true, nat_lt, nat_tests, owner, refl, remove, same_process, subst, suc, sum_by-take-drop, sum_by-take-le, sweep, sweep_one, sym, take, times, times-cons}
+use Rattle.xh_serial.proofs.Common.{true, zero, ℕ, ◌++◌, ◌<◌, ◌==◌, ◌∙◌, ◌∷◌, ◌≡◌, ◌≢◌, ◌≤◌}
 use Rattle.std.proofs.Math.Seq.{drop-nil}
-use Rattle.std.proofs.lemmas.Bool.Decides.{nat_tests}
-use Rattle.xh_core.proofs.Stores.{count_append, same_process, times-cons, is_there}
-use Rattle.std.proofs.lemmas.Bool.{cases_eq, cases_lt, false≢true, lt-ltb, le-ltb, ltb-true, cases_Bool, eq-eqb}
-use Rattle.xh_model.specs.Store.{owner}
-use Rattle.xh_serial.specs.Machine.{Machine, blocks, arriving, IsWhole, end_of}
-use Rattle.xh_core.specs.Several.{times}
-use Rattle.xh_serial.specs.Sweeping.{sweep_one, sweep, Sweeps}
-use Rattle.xh_model.specs.Reclaimed.{Includes, IsClosed, freed, Frees}
-use Rattle.xh_serial.proofs.Swept.{entry, entry_held, blocks_here, arriving_else, arriving_here, other_owner, gone_owner, whole_one, came_held}
-use Rattle.std.proofs.lemmas.List.Sums.{sum_by-take-le, sum_by-take-drop}
-use Rattle.xh_model.specs.declared.event.Holder.TheVariants.{Process, Direction}
+use Rattle.xh_serial.proofs.Swept.{arriving_else, arriving_here, blocks_here, came_held, entry, entry_held, gone_owner, other_owner, whole_one}
 use Rattle.xh_serial.proofs.Room.{few, few_records, held_there}
 
 -- who stands in an included list is in the set
@@ -25,9 +15,6 @@ included set q (r ∷ rs) a h = grind (arith, nat_tests, times-cons q r rs, a.0,
 including : (set : ℕ → Bool) (rs : List ℕ) → ((q : ℕ) → 0 < times q rs → set q ≡ true) → Includes set rs
 including set [] f = tt
 including set (r ∷ rs) f = (f r (grind (arith, nat_tests, times-cons r r rs)), including set rs (λ q l. f q (grind (arith, nat_tests, times-cons q r rs))))
-
-includes_append : (set : ℕ → Bool) (rs qs : List ℕ) → Includes set rs → Includes set qs → Includes set (rs ++ qs)
-includes_append set rs qs a b = including set (rs ++ qs) (λ q l. grind (arith, nat_tests, count_append q rs qs, included set q rs a, included set q qs b))
 
 includes_part : (set : ℕ → Bool) (rs qs : List ℕ) → Includes set (rs ++ qs) → Includes set rs × Includes set qs
 includes_part set rs qs a = (
@@ -76,9 +63,6 @@ module _ (m : Machine) (p from : ℕ) (w : IsWhole m) (l : from < length (blocks
   one_includes : Includes (freed m.store n.store) (drop (suc from) (blocks m p) ++ arriving m first)
   one_includes = includes_more (freed one.store n.store) (freed m.store n.store) _ more_freed rest.gone.includes
 
-  closed_later : (set : ℕ → Bool) → IsClosed (arriving m) set → IsClosed (arriving one) set
-  closed_later set c e f = grind (arith, nat_tests, arriving_here, arriving_else)
-
   pub frees_one : Frees (arriving m) m.store n.store (first ∷ drop (suc from) (blocks m p))
   frees_one = record {
     gone = record {
@@ -90,7 +74,9 @@ module _ (m : Machine) (p from : ℕ) (w : IsWhole m) (l : from < length (blocks
       ];
       least = λ other a c r f. elim (cases_eq r first) [
         | inl e ↦ rw e (a.0)
-        | inr d ↦ rest.gone.least other (includes_append other _ _ a.1 (c first a.0)) (closed_later other c) r (same_freed r d ∙ f)
+        | inr d ↦ rest.gone.least other
+            (including other _ (λ q l. grind (arith, nat_tests, count_append q (drop (suc from) (blocks m p)) (arriving m first), included other q _ a.1, included other q _ (c first a.0))))
+            (λ e g. grind (arith, nat_tests, arriving_here, arriving_else)) r (same_freed r d ∙ f)
       ];
     };
     kept = λ r f. elim (cases_eq r first) [
@@ -237,13 +223,6 @@ sweep_sweeps (suc budget) p from m w = elim (cases_lt from (length (blocks m p))
   | inl l ↦ rw (lt-ltb from (length (blocks m p)) l)
       (sweeps_one m p from budget w l (sweep p from budget (sweep_one p from m)) (sweep_sweeps budget p from (sweep_one p from m) (whole_one m p from w l)))
   | inr g ↦ rw (le-ltb from (length (blocks m p)) g) (sweeps_nothing p from (suc budget) m w (λ h. absurd (omega arith)))
-]
-
-pub sweep_whole : (budget p from : ℕ) (m : Machine) → IsWhole m → IsWhole (sweep p from budget m)
-sweep_whole zero p from m w = w
-sweep_whole (suc budget) p from m w = elim (cases_lt from (length (blocks m p))) [
-  | inl l ↦ rw (lt-ltb from (length (blocks m p)) l) (sweep_whole budget p from (sweep_one p from m) (whole_one m p from w l))
-  | inr g ↦ rw (le-ltb from (length (blocks m p)) g) w
 ]
 
 -- a budget of as many as there are records is enough

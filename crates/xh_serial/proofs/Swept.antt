@@ -1,29 +1,16 @@
 -- What sweeping one entry leaves: a whole machine.
-use Rattle.std.proofs.Common.{◌≡◌, ◌≢◌, ℕ, ◌+◌, ◌/◌, ◌<◌, ◌≤◌, List, [], ◌++◌, length, Bool, true, false, cond, refl, sym, ap, ◌∙◌, arith, inl, inr, ◌-◌, ◌*◌, ◌⊎◌, get_or-set_other}
-use Rattle.std.specs.Prelude.{Option, Some, None, ◌==◌, nat_lt, slice_index_or, is_some}
-use Rattle.std.specs.List.{remove}
-use Rattle.std.proofs.lemmas.Bool.Decides.{nat_tests}
-use Rattle.xh_serial.proofs.Machines.{list_set, place_there, current_blocks, relisted_list, relisted_again, lists_current, current_generation, current_range, way_here, way_else, places_set}
-use Rattle.xh_serial.proofs.Machines.{busy_place, lists_busy}
-use Rattle.std.proofs.lemmas.Bool.{cases_Bool, false≢true, eq-eqb, ne_eqb, lt-ltb}
-use Rattle.std.proofs.lemmas.List.{length-set, length-append, get_or_append_left}
-use Rattle.std.proofs.lemmas.List.Sums.{sum_by-remove, get_or-le-sum_by}
-use Rattle.xh_model.specs.declared.event.Holder.{Holder}
-use Rattle.xh_model.specs.declared.event.Holder.TheVariants.{Process, Direction}
-use Rattle.xh_model.specs.declared.event.Event.TheVariants.{GiveBack, Vacate}
-use Rattle.xh_model.specs.Store.{Store, owner, len, holds, change, after, all_out, IsLawful}
+use Rattle.xh_serial.proofs.Common.{Accepted, Bool, Direction, GiveBack, Holder, IsEnd, IsLawful, IsWhole, Line, List, Machine, None, Option, Place, Process, Row, Some, Store, Vacate, []}
+use Rattle.xh_serial.proofs.Common.{accept_from, accepted_all, after, all_out, ap, arena_there, arith, arriving, at_set, blocks, blocks_in, buffer, cases_Bool, change, cond, count_append, done}
+use Rattle.xh_serial.proofs.Common.{end_of, eq-eqb, false, false≢true, get_or-le-sum_by, get_or-set_other, holds, inl, inr, is_some, is_there, len, len_back, len_back_else, length, length-append}
+use Rattle.xh_serial.proofs.Common.{length-set, line, listed, lt-ltb, nat_lt, nat_tests, ne_eqb, no_line, on_way, owner, refl, relisted, remove, same_direction, same_known, same_len, same_process}
+use Rattle.xh_serial.proofs.Common.{shut_in, slice_index_or, sum_by-remove, sweep, sweep_one, sym, times, true, way_in, ℕ, ◌*◌, ◌++◌, ◌+◌, ◌-◌, ◌/◌, ◌<◌, ◌==◌, ◌∙◌, ◌≡◌, ◌≢◌, ◌≤◌, ◌⊎◌}
 use Rattle.xh_model.specs.Arena.{ArenaState}
-use Rattle.xh_serial.specs.declared.place.Place.{Place}
-use Rattle.xh_serial.specs.Machine.{Machine, end_of, blocks, way_in, on_way, arriving, listed, IsWhole, buffer, line, no_line, IsEnd}
-use Rattle.xh_core.specs.Several.{times, accept_from}
-use Rattle.xh_serial.specs.Sweeping.{sweep_one, shut_in, sweep}
-use Rattle.xh_serial.specs.inner.Placing.{blocks_in, relisted}
+use Rattle.std.proofs.lemmas.List.{get_or_append_left}
+use Rattle.xh_serial.proofs.Machines.{busy_place, current_blocks, current_generation, current_range, list_set, lists_current, place_there, places_set, relisted_again, relisted_list, way_else}
+use Rattle.xh_serial.proofs.Machines.{way_here}
 use Rattle.xh_serial.proofs.Room.{room}
-use Rattle.xh_core.proofs.Stores.{count_append, done, same_process, same_direction, is_there, at_set, Accepted, accepted_all, same_len, len_back, arena_there, same_known, len_back_else}
-use Rattle.xh_model.specs.declared.row.Row.{Row}
-use Rattle.xh_model.proofs.Lawful.{back_lawful, back_bytes}
-use Rattle.xh_serial.specs.declared.line.Line.{Line}
-use Rattle.xh_serial.proofs.Wired.{shut_wired, shut_numbered, shut_reached}
+use Rattle.xh_model.proofs.Lawful.{back_bytes, back_lawful}
+use Rattle.xh_serial.proofs.Wired.{shut_numbered, shut_reached, shut_wired}
 
 -- the records on their way to an endpoint, if there is one
 abbrev pub on_way_to : Machine → Option ℕ → List ℕ
@@ -45,10 +32,6 @@ pub record SweptOne (p from r : ℕ) (m n : Machine) : Type 0 where
 -- an entry of a list is held by its process
 pub entry_held : (m : Machine) (p from : ℕ) → IsWhole m → from < length (blocks m p) → holds m.store (Process p) (entry m p from) ≡ true
 entry_held m p from w l = grind (arith, nat_tests, get_or-le-sum_by)
-
--- the entry as it is read
-pub entry_read : (m : Machine) (p from : ℕ) (xs : List ℕ) → from < length (blocks m p) → xs ≡ blocks_in m.places p → slice_index_or xs from 0 ≡ entry m p from
-entry_read m p from xs l e = ap (λ (ys : List ℕ). slice_index_or ys from 0) (e ∙ sym (current_blocks m p (lists_current m p from l)))
 
 pub entry_there : (m : Machine) (p from : ℕ) → IsWhole m → from < length (blocks m p) → entry m p from < length m.store.owners
 entry_there m p from w l = is_there m.store (Process p) (entry m p from) (entry_held m p from w l)
@@ -218,9 +201,6 @@ full_now m p from h q w l y =
     λ t. (let c = came_held m q (end_of m (entry m p from)) w t in w.full (Direction c.0) q (rw (c.2) (eq-eqb c.0 c.0 refl))) in
     grind (arith, nat_tests, (swept_one m p from w l).owners q, len_now m p from q w l, w.full h q)
 
-lines_long : (contracts : List (Option (List Row))) (lines : List Line) (o : Option ℕ) → length (shut_in contracts lines o) ≡ length lines
-lines_long contracts lines o = grind (arith, nat_tests, length-set)
-
 fresh_shut : (contracts : List (Option (List Row))) (lines : List Line) (o : Option ℕ) (k : ℕ) → ((d : ℕ) → o ≡ Some d → k ≢ d) →
     slice_index_or (shut_in contracts lines o) k no_line ≡ slice_index_or lines k no_line
 fresh_shut contracts lines o k n = grind (arith, nat_tests, get_or-set_other)
@@ -268,9 +248,9 @@ whole_one m p from w l =
       ends = λ r d e. end_now m p from r d w l e;
       buffers = length-set m.buffers (entry m p from) [] ∙ (w.buffers ∙ sym s.many);
       bytes = λ q. bytes_now m p from q w l;
-      places = places_set m.places p _ w.places (busy_place m p _ w (lists_busy m p from w l));
+      places = places_set m.places p _ w.places (busy_place m p _ w (grind (arith, nat_tests, w.places.idle p)));
       channels = record {
-        long = lines_long m.contracts m.lines (end_of m (entry m p from)) ∙ w.channels.long;
+        long = grind (arith, nat_tests, length-set, w.channels.long);
         fresh = λ k h. fresh_now m p from k w h;
         numbered = shut_numbered m.contracts m.lines (end_of m (entry m p from)) (end_range m (entry m p from) w) w.channels.numbered;
         contracts_long = w.channels.contracts_long;

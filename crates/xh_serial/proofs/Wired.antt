@@ -1,19 +1,9 @@
 -- The two ends of each channel with a contract stay in step, whichever of them puts, takes or is drained, and the messages that wait have consecutive numbers.
-use Rattle.std.proofs.Common.{true, ◌≡◌, ◌≢◌, ℕ, ◌+◌, ◌-◌, ◌*◌, ◌/◌, ◌%◌, ◌<◌, List, [], ◌∷◌, length, refl, sym, ap, ◌∙◌, subst, arith, inl, inr, get_or-set_same, get_or-set_other, ◌++◌}
-use Rattle.std.specs.Prelude.{Option, Some, None, slice_index_or, Bool, slice_set, ◌==◌}
-use Rattle.std.proofs.lemmas.Bool.Decides.{nat_tests}
-use Rattle.xh_core.proofs.Stores.{at_set}
-use Rattle.std.proofs.lemmas.Bool.{cases_Bool, cases_eq, eq-eqb}
-use Rattle.std.proofs.lemmas.Option.{none-some, same_Some}
-use Rattle.xh_model.specs.declared.row.Row.{Row}
-use Rattle.xh_model.specs.Rows.{allowed, walk, IsValid, InStep}
-use Rattle.xh_model.proofs.InStep.{cases_Option, drain_step, front_step}
-use Rattle.xh_serial.specs.declared.line.Line.{Line}
-use Rattle.xh_serial.specs.Machine.{Machine, line, no_line, peer, tags_of, contract_of, drained_state, AreWired, AreNumbered, IsNumbered, IsWhole, HaveEnds}
-use Rattle.xh_serial.specs.MessageCommands.{AreOrderly, put_line, taken_line}
-use Rattle.xh_serial.specs.Sweeping.{shut_line, shut_in}
-use Rattle.xh_serial.proofs.Machines.{peer_ne, peer_half}
-use Rattle.xh_serial.specs.declared.message.Message.{Message}
+use Rattle.xh_serial.proofs.Common.{AreNumbered, AreOrderly, AreWired, Bool, HaveEnds, InStep, IsNumbered, IsValid, IsWhole, Line, List, Machine, Message, None, Option, Row, Some, [], allowed, ap}
+use Rattle.xh_serial.proofs.Common.{arith, at_set, cases_Bool, cases_Option, cases_eq, contract_of, drain_step, drained_state, eq-eqb, front_step, get_or-set_other, get_or-set_same, inl, inr}
+use Rattle.xh_serial.proofs.Common.{length, line, nat_tests, no_line, none-some, peer, put_line, refl, same_Some, shut_in, shut_line, slice_index_or, slice_set, subst, sym, tags_of, taken_line}
+use Rattle.xh_serial.proofs.Common.{true, walk, ℕ, ◌%◌, ◌*◌, ◌++◌, ◌+◌, ◌-◌, ◌/◌, ◌<◌, ◌==◌, ◌∙◌, ◌∷◌, ◌≡◌, ◌≢◌}
+use Rattle.xh_serial.proofs.Machines.{peer_half, peer_ne}
 
 -- the state of the end that a direction leads to, and the tags on their way to it
 abbrev pub state_in : List Line → ℕ → ℕ

@@ -1,14 +1,12 @@
 -- Lemmas on what names stand for.
-use Rattle.std.proofs.Common.{◌≡◌, ◌≤◌, ◌<◌, ◌∙◌, ℕ, zero, suc, ◌+◌, ◌*◌, ◌-◌, ◌++◌, take, min, List, [], ◌∷◌, length, drop, ap, arith, refl, Option}
-use Rattle.std.proofs.lemmas.List.{drop_min, length-drop, take_min}
-use Rattle.std.specs.Prelude.{if◌then◌else◌, ◌==◌, slice_index_or, slice_set}
+use Rattle.xh_session.proofs.Common.{Bindings, List, MAX_BLOCK_NAMES, Option, Word, ap, bound_each, cleared, drop, if◌then◌else◌, length, refl, take, ℕ, ◌++◌, ◌+◌, ◌-◌, ◌∙◌, ◌≡◌, ◌≤◌}
+use Rattle.std.proofs.Common.{[], arith, drop-drop, length-drop, min, slice_index_or, slice_set, suc, zero, ◌*◌, ◌<◌, ◌==◌, ◌∷◌}
+use Rattle.std.proofs.lemmas.List.{drop_min, take_min}
 use Rattle.xh_session.specs.declared.names.TheConstants.{NOTHING}
-use Rattle.std.proofs.Math.Seq.{drop-nil, drop-drop}
+use Rattle.std.proofs.Math.Seq.{drop-nil}
 use Rattle.xh_core.specs.declared.block.Block.{Block}
-use Rattle.xh_script.specs.declared.command.Word.{Word}
-use Rattle.xh_script.specs.declared.limits.TheConstants.{MAX_BLOCK_NAMES}
 use borrow.Rule.Slice.PartMut.{put_mid}
-use Rattle.xh_session.specs.Bindings.{Bindings, bound_each, cleared, without_record}
+use Rattle.xh_session.specs.Bindings.{without_record}
 
 bound_each-none : (b : Bindings) (p : ℕ) (xs : List (Word ℕ)) → bound_each b p xs [] ≡ b
 bound_each-none b p [] = refl

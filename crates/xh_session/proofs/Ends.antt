@@ -1,24 +1,17 @@
 -- Lemmas on how a run ends.
+use Rattle.xh_session.proofs.Common.{Bool, Err, Fault, List, MAX_SCRIPT, Ok, Option, Reads, Report, Result, Some, Watched, Writes, WritesOrFails, after, ap, failures, false, if◌then◌else◌}
+use Rattle.xh_session.proofs.Common.{inner_of, length, new_world, refl, subst, sym, text_of, told_text, true, ℕ, ◌++◌, ◌+◌, ◌∙◌, ◌≡◌, ◌≢◌, ◌≤◌}
 use Rattle.std.specs.Io.KnownBytes.{Consumes}
-use Rattle.std.proofs.Common.{◌≡◌, ◌≤◌, ◌++◌, ◌+◌, append_assoc, append-nil, length-append, arith, Some, None, ℕ, Bool, true, false, List, [], length, nat_lt, if◌then◌else◌}
-use Rattle.std.proofs.Common.{◌≢◌, ◌⊎◌, inl, inr, Option, Result, Ok, Err, OnOk, IfErr, refl, ap, sym, subst, ◌∙◌}
-use Rattle.std.proofs.lemmas.Bool.{ltb-false}
+use Rattle.std.proofs.Common.{IfErr, None, OnOk, [], append-nil, append_assoc, arith, inl, inr, length-append, ltb-false, nat_lt, ◌⊎◌}
 use Rattle.xh_model.specs.declared.config.Config.{Config}
-use Rattle.xh_script.specs.declared.limits.TheConstants.{MAX_SCRIPT}
-use Rattle.xh_script.specs.declared.fault.Fault.{Fault}
-use Rattle.xh_script.specs.declared.fault.Fault.TheVariants.{Script, Memory, Read, Write, Gate, BadConfig}
+use Rattle.xh_script.specs.declared.fault.Fault.TheVariants.{BadConfig, Gate, Memory, Read, Script, Write}
 use Rattle.xh_script.specs.declared.fault.Kind.TheVariants.{TooLong}
-use Rattle.xh_script.specs.declared.watch.Watched.{Watched}
 use Rattle.xh_script.specs.Scripts.{Fails, Listing, script_of}
-use Rattle.xh_script.specs.Watching.{Reads, Writes, WritesOrFails, failures, inner_of}
 use Rattle.xh_script.proofs.Writings.{WritesOrFails-then}
 use Rattle.xh_serial.specs.PlaceCommands.{flight_of}
-use Rattle.xh_session.specs.declared.report.Report.{Report}
 use Rattle.xh_session.specs.Ends.{Done, Stopped}
-use Rattle.xh_session.specs.Meaning.{after, new_world}
 use Rattle.xh_session.specs.Output.{IsTold, meaning, run_text}
 use Rattle.xh_session.specs.Reading.{GivesScript, ReadsAtMost, ReadsScript, Unread}
-use Rattle.xh_session.specs.Reports.{text_of, told_text}
 
 pub consumes_then : (a b c : Option (List ℕ)) (x y : List ℕ) → Consumes a b x → Consumes b c y → Consumes a c (x ++ y)
 consumes_then None b c x y p q = tt

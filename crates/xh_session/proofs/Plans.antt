@@ -1,20 +1,16 @@
 -- Lemmas on plans: what one comes to on the serial machine, where memory isn't refused.
-use Rattle.std.proofs.Common.{◌≡◌, ◌≢◌, ◌∙◌, ℕ, List, Bool, true, false, Result, Ok, Err, refl, sym, ap, subst, if◌then◌else◌}
+use Rattle.xh_session.proofs.Common.{Bindings, Bool, Err, List, Machine, Ok, Result, Word, ap, false, if◌then◌else◌, outcome, refl, step, subst, sym, true, ℕ, ◌∙◌, ◌≡◌, ◌≢◌}
 use Rattle.xh_model.specs.declared.row.Row.{Row}
 use Rattle.xh_core.specs.declared.refused.Refused.{Refused}
 use Rattle.xh_core.specs.declared.refused.Refused.TheVariants.{OutOfMemory}
-use Rattle.xh_serial.specs.Machine.{Machine}
 use Rattle.xh_script.specs.declared.command.Command.{Command}
-use Rattle.xh_script.specs.declared.command.Word.{Word}
 use Rattle.xh_script.specs.declared.form.Form.{Form}
 use Rattle.xh_script.specs.declared.form.Form.TheVariants.{Contract}
 use Rattle.xh_script.specs.declared.reply.Reply.{Reply}
 use Rattle.xh_script.specs.declared.reply.Reply.TheVariants.{Done, No}
-use Rattle.xh_session.specs.Bindings.{Bindings}
-use Rattle.xh_session.specs.Machines.{command, Lacks, Does}
-use Rattle.xh_session.specs.Meaning.{outcome, step}
-use Rattle.xh_session.specs.Plans.{Plan, says, asks, World, Follows, replied, given, plan, plan_by}
-use Rattle.xh_session.specs.Questions.{Question, Answer}
+use Rattle.xh_session.specs.Machines.{Does, Lacks, command}
+use Rattle.xh_session.specs.Plans.{Follows, Plan, World, asks, given, plan, plan_by, replied, says}
+use Rattle.xh_session.specs.Questions.{Answer, Question}
 
 -- a plan says that memory was refused
 SaysLack : Plan → Type 0

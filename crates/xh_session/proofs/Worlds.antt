@@ -1,9 +1,8 @@
 -- Lemmas on worlds.
-use Rattle.std.proofs.Common.{◌≡◌, ◌<◌, ◌+◌, ◌++◌, ◌∙◌, ℕ, List, [], ◌∷◌, length, drop, get_or, refl, ap, add-one, append_assoc, drop-cons}
+use Rattle.xh_session.proofs.Common.{List, Machine, after, answers, ap, drop, length, refl, step, ℕ, ◌++◌, ◌+◌, ◌∙◌, ◌≡◌}
+use Rattle.std.proofs.Common.{[], add-one, append_assoc, drop-cons, get_or, ◌<◌, ◌∷◌}
 use Rattle.xh_script.specs.declared.command.Line.{Line}
 use Rattle.xh_script.specs.declared.reply.Answered.{Answered}
-use Rattle.xh_serial.specs.Machine.{Machine}
-use Rattle.xh_session.specs.Meaning.{step, answers, after}
 use Rattle.xh_session.specs.Plans.{World}
 
 -- one more line is answered

@@ -1,5 +1,6 @@
 -- What the names of a script stand for.
-use Rattle.std.specs.Prelude.{ℕ, zero, suc, ◌+◌, ◌*◌, ◌%◌, List, [], ◌∷◌, ◌++◌, map, take, drop, replicate, slice_index_or, slice_set, if◌then◌else◌, not, ◌==◌, Bool, codes, slice_get, option_and_then, Option, Some, None}
+use Rattle.std.specs.Prelude.{ℕ, zero, suc, ◌+◌, ◌*◌, ◌%◌, List, [], ◌∷◌, ◌++◌, map, take, drop, replicate, slice_index_or, slice_set, if◌then◌else◌, not, ◌==◌, Bool, codes, slice_get}
+use Rattle.std.specs.Prelude.{option_and_then, Option, Some, None}
 use Rattle.std.specs.List.{list_any, filter}
 use Rattle.xh_model.specs.declared.limits.TheConstants.{PLACES}
 use Rattle.xh_core.specs.declared.block.Block.{Block}

@@ -5,8 +5,6 @@
 #[cfg(test)]
 mod at_points;
 #[cfg(test)]
-mod books;
-#[cfg(test)]
 mod fronts;
 #[cfg(test)]
 mod gates;

@@ -3,7 +3,6 @@ use crate::gates::{Meeting, Order, Stop};
 use crate::harness::{SMALL, run_on_threads, writes_on_threads};
 use std::test::Fail;
 use xh_core::Config;
-use xh_runner::OpenGate;
 use xh_script::Fault;
 
 const TWO_ALLOCS: &str = "process a\nprocess b\na alloc x 16 0\nb alloc y 16 1\n";
@@ -45,24 +44,6 @@ fn gate_stops_a_worker(rt: HostRuntime) -> Result<(), Fail> {
     };
     let ended = run_on_threads(&rt, rt.alloc(), TWO_ARENAS, TWO_ALLOCS.as_bytes(), &gate);
     assert!(&rt; matches!(ended, Err(Fault::Gate)));
-    Ok(())
-}
-
-/// Configs outside their limits.
-const BAD_CONFIGS: &[Config] = &[
-    Config { arenas: 0, ..SMALL },
-    Config { arenas: 9, ..SMALL },
-    Config { bytes: 40, ..SMALL },
-    Config { depth: 17, ..SMALL },
-];
-
-/// A config outside its limits.
-#[test]
-fn bad_configs_on_threads(rt: HostRuntime) -> Result<(), Fail> {
-    for config in BAD_CONFIGS {
-        let ended = run_on_threads(&rt, rt.alloc(), *config, b"", &OpenGate);
-        assert!(&rt; matches!(ended, Err(Fault::BadConfig)));
-    }
     Ok(())
 }
 

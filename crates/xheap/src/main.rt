@@ -2,8 +2,6 @@
 #![tactic(auto)]
 
 mod run;
-#[cfg(test)]
-mod tests;
 
 use crate::run::{NAME, run_main};
 use std::env;

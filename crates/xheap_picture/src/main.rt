@@ -4,8 +4,6 @@
 
 mod play;
 mod run;
-#[cfg(test)]
-mod tests;
 
 use crate::run::{NAME, run_main};
 use std::env;

@@ -5,7 +5,7 @@ use super::Any;
 use crate::answers::{Answer, assert_answer, of_run, of_start};
 use std::alloc::Global;
 use std::process::Abort;
-use xh_arena::{Fits, Lot, Tally, Vault};
+use xh_arena::{Fits, Lot, Refused, Tally, Vault};
 
 /// A vault with its first two lots, one for each of two workers, and their tallies.
 #[derive(Drop)]
@@ -48,19 +48,22 @@ fn first_two<T: Drop>(mut items: Vec<T>) -> (T, T)
 }
 
 /// A vault of 64 bytes that may hand out 80, for 4 records and 2 workers.
-pub fn dealt(rt: &impl Abort, alloc: Global) -> Hand {
-    let Ok((vault, lots, tallies)) = Vault::new::<Any>(alloc, 64, 4, 80, 2) else {
-        panic!(rt; "no vault");
-    };
+pub fn made(alloc: Global) -> Result<Hand, Refused> {
+    let (vault, lots, tallies) = Vault::new::<Any>(alloc, 64, 4, 80, 2)?;
     let (first, second) = first_two(lots);
     let (one, two) = first_two(tallies);
-    Hand {
+    Ok(Hand {
         vault,
         first,
         second,
         one,
         two,
-    }
+    })
+}
+
+/// The same, where there is memory.
+pub fn dealt(rt: &impl Abort, alloc: Global) -> Hand {
+    made(alloc).expect(rt, "no vault")
 }
 
 fn carved(vault: &mut Vault, lot: &mut Lot<Any>, tally: &mut Tally, n: u32) -> Answer

@@ -7,13 +7,13 @@ use lib.ListN.{get_elem?}
 use Rattle.atomic_table.specs.Seated.{TableId}
 use Rattle.atomic_table.specs.Table.{State, Step, Me}
 use Rattle.xh_model.specs.Direction.{IsDirection}
-use Rattle.xh_records.specs.Seats.{Noted}
+use Rattle.xh_records.specs.Seats.{Noted, no_table}
 use Rattle.xh_channel.specs.declared.counts.Counts.{Counts}
 use Rattle.xh_channel.specs.declared.laid.Laid.{Laid}
 use Rattle.xh_channel.specs.declared.line_end.LineEnd.{LineEnd}
 use Rattle.xh_channel.specs.declared.line_rule.Account.{Account}
 use Rattle.xh_channel.specs.declared.line_rule.Part.{Part}
-use Rattle.xh_channel.specs.Beside.{AllOf, message_of, no_log, note_of}
+use Rattle.xh_channel.specs.Beside.{AllOf, message_of, note_of}
 use Rattle.xh_channel.specs.Ends.{no_counts}
 use Rattle.xh_channel.specs.LineSeats.{LineView, LineTelling}
 use Rattle.xh_channel.specs.Lines.{Lined, beside, end_of, is_drained, waiting}
@@ -95,7 +95,7 @@ Kept s = (t : Truth) × (IsHome t s.words s.homes ⊎ IsOut t s.words s.homes) �
 
 -- the seat of both sides, which did nothing
 abbrev pub both_sides : Part
-both_sides = record { log = no_log; peer_log = no_log; side = 0; owns = true; both = true; holds = false; own = no_account; peer = no_account; told = no_counts; peer_told = no_counts }
+both_sides = record { log = no_table; peer_log = no_table; side = 0; owns = true; both = true; holds = false; own = no_account; peer = no_account; told = no_counts; peer_told = no_counts }
 
 abbrev pub no_part : Part
 no_part = record both_sides { owns = false; both = false }

@@ -1,11 +1,8 @@
 //! Calls on a channel or a line and what they answer, to be compared.
-ghost use Rattle.std.specs.Prelude.{◌<◌};
-ghost use Rattle.xh_channel.specs.Queues.{IsSameEnd};
-
 use arrayvec::ArrayVec;
 use std::process::Abort;
 use std::sync::Wait;
-use xh_channel::{Channels, Endpoint, Line, Message, Refused, Unsent};
+use xh_channel::{Channels, Endpoint, Message, Refused, Unsent};
 use xh_model::limits::MAX_BLOCKS;
 
 /// A call by one end: a put with a tag and at most one block, a take, a shut, a look at the turn.
@@ -68,9 +65,12 @@ pub(super) struct Ends {
 }
 
 /// What the call answers, by this end.
-pub(super) fn by_end<R: Wait>(rt: &R, channels: &Channels, end: &mut Endpoint, call: Call) -> Answer
-    ensures { IsSameEnd end.old end.new }
-{
+pub(super) fn by_end<R: Wait>(
+    rt: &R,
+    channels: &Channels,
+    end: &mut Endpoint,
+    call: Call,
+) -> Answer {
     match call {
         Call::Put(tag, block) => of_put(channels.put(rt, end, tag, blocks_of(block))),
         Call::Take => of_take(channels.take(rt, end)),
@@ -89,9 +89,7 @@ pub(super) fn answer_of<R: Wait>(
     ends: &mut Ends,
     side: u8,
     call: Call,
-) -> Answer
-    ensures { IsSameEnd ends.old.low ends.new.low × IsSameEnd ends.old.high ends.new.high }
-{
+) -> Answer {
     if side == 0 {
         by_end(rt, channels, &mut ends.low, call)
     } else {
@@ -110,26 +108,9 @@ pub(super) fn assert_answers<R: Wait + Abort>(
     channels: &Channels,
     ends: &mut Ends,
     calls: &[(u8, Call, Answer)],
-)
-    ensures { IsSameEnd ends.old.low ends.new.low × IsSameEnd ends.old.high ends.new.high }
-{
+) {
     for (at, (side, call, expected)) in calls.iter().enumerate() {
         let answered = answer_of(rt, channels, ends, *side, *call);
         assert_same(rt, at, answered, *expected);
-    }
-}
-
-/// What the call answers by a side of a line, which has no turn.
-pub(super) fn by_line(line: &mut Line, side: u8, call: Call) -> Answer
-    requires { side < 2 }
-{
-    match call {
-        Call::Put(tag, block) => of_put(line.put(side, tag, blocks_of(block), &mut None)),
-        Call::Take => of_take(line.take(side, &mut None)),
-        Call::Shut => {
-            line.shut(side);
-            Answer::Shut
-        }
-        Call::Turn => Answer::Turn(0),
     }
 }

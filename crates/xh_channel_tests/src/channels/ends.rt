@@ -1,35 +1,17 @@
-//! What a table of calls doesn't show: all blocks of a message, and what a caller knows after a refusal.
+//! What a table of calls doesn't show: what a caller knows after a refusal, and full directions of many depths.
 ghost use Rattle.std.specs.Prelude.{◌≡◌, true};
-ghost use Rattle.xh_channel.specs.Queues.{IsSameEnd};
 
 use super::answers::Answer::{self, Refused as No, Sent, Shut as Closed, Taken};
 use super::answers::Call::{self, Put, Shut, Take};
-use super::answers::{Ends, answer_of, assert_answers, assert_same, of_put};
+use super::answers::{Ends, answer_of, assert_answers, assert_same};
 use arrayvec::ArrayVec;
 use std::process::Abort;
 use std::sync::Wait;
 use xh_channel::{Channels, Endpoint, Refused, Unsent};
 
-const BLOCKS: [u16; 8] = [8, 100, 200, 300, 400, 500, 600, 2047];
-
-fn takes_all_blocks<R: Wait>(rt: &R, channels: &Channels, end: &mut Endpoint) -> bool {
-    match channels.take(rt, end) {
-        Ok(message) => message.blocks.as_slice() == BLOCKS.as_slice(),
-        Err(_refused) => false,
-    }
-}
-
-/// A message has all its blocks, in order.
-pub(super) fn assert_all_blocks<R: Wait + Abort>(rt: &R, channels: &Channels, ends: &mut Ends) {
-    let sent = of_put(channels.put(rt, &mut ends.low, 5, ArrayVec::from(BLOCKS)));
-    let came = takes_all_blocks(rt, channels, &mut ends.high);
-    assert_eq!(rt; (sent, came), (Sent(1), true));
-}
-
 // Whether a put found the direction full: then as much was pushed as before.
 fn finds_full<R: Wait>(rt: &R, channels: &Channels, end: &mut Endpoint) -> bool
     ensures kept { result ≡ true → end.new.pushed ≡ end.old.pushed }
-    ensures same { IsSameEnd end.old end.new }
 {
     match channels.put(rt, end, 5, ArrayVec::new()) {
         Err(Unsent::Full { .. }) => true,
@@ -40,7 +22,6 @@ fn finds_full<R: Wait>(rt: &R, channels: &Channels, end: &mut Endpoint) -> bool
 // Whether a take found nothing: then as much was taken as before.
 fn finds_nothing<R: Wait>(rt: &R, channels: &Channels, end: &mut Endpoint) -> bool
     ensures kept { result ≡ true → end.new.got ≡ end.old.got }
-    ensures same { IsSameEnd end.old end.new }
 {
     match channels.take(rt, end) {
         Err(Refused::Empty) => true,

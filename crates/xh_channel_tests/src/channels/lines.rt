@@ -32,26 +32,6 @@ fn contract_refusals(rt: HostRuntime) {
     );
 }
 
-/// The number of a cancelled channel is free, and has no contract.
-#[test]
-fn a_cancelled_contract_is_gone(rt: HostRuntime) {
-    const CALLS: &[(u8, Call, Answer)] = &[
-        (0, Put(9, Some(7)), Sent(1)),
-        (1, Take, Taken(1, 9, Some(7))),
-    ];
-    play(
-        &rt,
-        rt.alloc(),
-        1,
-        Scene::ContractGone(REQUEST_AND_REPLY, Act::Calls(CALLS)),
-    );
-}
-
-#[test]
-fn channels_with_contracts_run_out(rt: HostRuntime) {
-    play(&rt, rt.alloc(), 1, Scene::AllOpen(REQUEST_AND_REPLY));
-}
-
 #[test]
 fn a_channel_with_a_contract_is_full_at_its_depth(rt: HostRuntime) {
     for depth in [1, 3, 16] {

@@ -1,4 +1,4 @@
-//! Which channel opens, what goes back, and both ends compared.
+//! Which channel opens, and what goes back.
 ghost use Rattle.std.specs.Prelude.{IfSome};
 ghost use Rattle.xh_channel.specs.Pairs.{IsPair};
 
@@ -7,7 +7,7 @@ use super::answers::Call::{self, Put, Shut, Take, Turn as Look};
 use super::answers::{Ends, answer_of, assert_answers};
 use std::process::Abort;
 use std::sync::Wait;
-use xh_channel::{Channels, Endpoint, Refused, compare};
+use xh_channel::{Channels, Endpoint, Refused};
 use xh_core::{Contract, Row};
 
 /// The rows of no contract.
@@ -37,7 +37,7 @@ pub(super) const REQUEST_AND_REPLY: &[Row] = &[
     },
 ];
 
-pub(super) fn contract_of(rt: &impl Abort, rows: &[Row]) -> Contract {
+fn contract_of(rt: &impl Abort, rows: &[Row]) -> Contract {
     match Contract::new(rows) {
         Ok(contract) => contract,
         Err(_refused) => panic!(rt; "the table is valid"),
@@ -79,21 +79,16 @@ pub(super) fn assert_all_open<R: Wait + Abort>(rt: &R, channels: &Channels, rows
     assert_eq!(rt; next_number(rt, channels, rows), None);
 }
 
-/// The next pair of these channels is cancelled by a call on others.
-pub(super) fn cancel_next<R: Wait + Abort>(
-    rt: &R,
-    channels: &Channels,
-    others: &Channels,
-    rows: &[Row],
-) {
-    match opened(rt, channels, rows) {
+// The next pair of these channels is cancelled by a call on others.
+fn cancel_next<R: Wait + Abort>(rt: &R, channels: &Channels, others: &Channels) {
+    match opened(rt, channels, FREE) {
         Some(ends) => others.cancel(rt, ends.low, ends.high),
         None => panic!(rt; "a channel is free"),
     }
 }
 
 pub(super) fn assert_free_again<R: Wait + Abort>(rt: &R, channels: &Channels) {
-    cancel_next(rt, channels, channels, FREE);
+    cancel_next(rt, channels, channels);
     assert_eq!(rt; next_number(rt, channels, FREE), Some(0));
     assert_eq!(rt; next_number(rt, channels, FREE), Some(1));
 }
@@ -101,37 +96,9 @@ pub(super) fn assert_free_again<R: Wait + Abort>(rt: &R, channels: &Channels) {
 /// A pair of others goes back to them, and is no number of these channels, of which the first is open.
 pub(super) fn assert_goes_back<R: Wait + Abort>(rt: &R, channels: &Channels, others: &Channels) {
     assert_eq!(rt; next_number(rt, channels, FREE), Some(0));
-    cancel_next(rt, others, channels, FREE);
+    cancel_next(rt, others, channels);
     assert_eq!(rt; next_number(rt, channels, FREE), Some(1));
     assert_eq!(rt; next_number(rt, others, FREE), Some(0));
-}
-
-// Both ends go on after they were compared.
-fn assert_compared_ends<R: Wait + Abort>(rt: &R, channels: &Channels, mut ends: Ends)
-    requires { IsPair ends.low ends.high }
-{
-    const BEFORE: &[(u8, Call, Answer)] = &[
-        (0, Put(1, Some(7)), Sent(1)),
-        (0, Put(1, Some(8)), Sent(2)),
-        (1, Take, Taken(1, 1, Some(7))),
-    ];
-    const AFTER: &[(u8, Call, Answer)] = &[
-        (0, Put(1, Some(9)), Sent(3)),
-        (1, Take, Taken(2, 1, Some(8))),
-        (1, Take, Taken(3, 1, Some(9))),
-    ];
-    assert_answers(rt, channels, &mut ends, BEFORE);
-    let (high, low) = compare(ends.high, ends.low);
-    let mut ends = Ends { low, high };
-    assert_answers(rt, channels, &mut ends, AFTER);
-    drop(ends);
-}
-
-pub(super) fn assert_compared<R: Wait + Abort>(rt: &R, channels: &Channels, rows: &[Row]) {
-    match opened(rt, channels, rows) {
-        Some(ends) => assert_compared_ends(rt, channels, ends),
-        None => panic!(rt; "a channel is free"),
-    }
 }
 
 // Each call is made on the other channels, and is answered by the end's own, whose turn alone rises.

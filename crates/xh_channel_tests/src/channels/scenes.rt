@@ -3,15 +3,11 @@ ghost use Rattle.xh_channel.specs.Pairs.{IsPair};
 
 use super::answers::{Answer, Call, Ends, assert_answers};
 use super::bells::{Way, assert_deadlines, rings};
-use super::carried::assert_noted;
-use super::drained::assert_drained;
-use super::ends::{assert_all_blocks, assert_full_at, assert_refusals};
-use super::notes::{assert_put_heard, assert_shut_heard};
+use super::ends::{assert_full_at, assert_refusals};
+use super::notes::assert_put_heard;
 use super::opening::{
-    FREE, assert_all_open, assert_compared, assert_free_again, assert_goes_back, assert_own_rooms,
-    cancel_next, opened,
+    assert_all_open, assert_free_again, assert_goes_back, assert_own_rooms, opened,
 };
-use super::side_by_side::assert_alike;
 use super::threads::{Jobs, assert_jobs, assert_put_and_shut};
 use super::waits::{assert_unwaited, woken};
 use std::alloc::Global;
@@ -27,7 +23,6 @@ use xh_model::Row;
 pub(super) enum Act {
     Calls(&'static [(u8, Call, Answer)]),
     FullAt(u8),
-    AllBlocks,
     Refusals,
     Jobs(&'static Jobs),
     Wakes(Way, Answer),
@@ -36,7 +31,6 @@ pub(super) enum Act {
     Unwaited,
     Deadlines,
     PutHeard,
-    ShutHeard,
 }
 
 /// What is done on new channels: an act on so many of them, one after the other, or what opens ends by itself. The channels
@@ -47,12 +41,7 @@ pub(super) enum Scene {
     AllOpen(&'static [Row]),
     FreeAgain,
     GoesBack,
-    Compared(&'static [Row]),
-    Drained(&'static [Row]),
-    ContractGone(&'static [Row], Act),
     OwnRooms(&'static [Row]),
-    Alike,
-    Noted(&'static [Row]),
 }
 
 fn act_at<R: Clock + Threads + Wait + Abort + Sync>(
@@ -66,12 +55,8 @@ fn act_at<R: Clock + Threads + Wait + Abort + Sync>(
 {
     let at = u64::from(at);
     match act {
-        Act::Calls(calls) => {
-            assert_eq!(rt; ends.low.spot().channel, 0);
-            assert_answers(rt, channels, ends, calls);
-        }
+        Act::Calls(calls) => assert_answers(rt, channels, ends, calls),
         Act::FullAt(depth) => assert_full_at(rt, channels, ends, depth),
-        Act::AllBlocks => assert_all_blocks(rt, channels, ends),
         Act::Refusals => assert_refusals(rt, channels, ends),
         Act::Jobs(jobs) => assert_jobs(rt, channels, ends, jobs, at),
         Act::Wakes(way, expected) => assert_jobs(rt, channels, ends, &woken(way, expected), at),
@@ -80,7 +65,6 @@ fn act_at<R: Clock + Threads + Wait + Abort + Sync>(
         Act::Unwaited => assert_unwaited(rt, channels, ends),
         Act::Deadlines => assert_deadlines(rt, channels, ends),
         Act::PutHeard => assert_put_heard(rt, channels, ends),
-        Act::ShutHeard => assert_shut_heard(rt, channels, ends),
     }
 }
 
@@ -115,18 +99,7 @@ fn play_on<R: Clock + Threads + Wait + Abort + Sync>(
         Scene::AllOpen(rows) => assert_all_open(rt, channels, rows),
         Scene::FreeAgain => assert_free_again(rt, channels),
         Scene::GoesBack => play_beside(rt, alloc, channels, None),
-        Scene::Compared(rows) => assert_compared(rt, channels, rows),
-        Scene::Drained(rows) => match opened(rt, channels, rows) {
-            Some(ends) => assert_drained(rt, channels, ends),
-            None => panic!(rt; "a channel is free"),
-        },
-        Scene::ContractGone(rows, act) => {
-            cancel_next(rt, channels, channels, rows);
-            act_on_next(rt, channels, FREE, act, 0);
-        }
         Scene::OwnRooms(rows) => play_beside(rt, alloc, channels, Some(rows)),
-        Scene::Alike => assert_alike(rt, channels),
-        Scene::Noted(rows) => assert_noted(rt, alloc, channels, rows),
     }
 }
 

@@ -5,7 +5,7 @@ use super::bells::{Way, alternate, wake_later};
 use super::opening::FREE;
 use super::order::{find_at_once, follow_until, tell_slowly};
 use super::scenes::{Act, Scene, play};
-use super::waits::{take_turns, wait_and_take};
+use super::waits::wait_and_take;
 use std::process::Abort;
 use std::sync::Wait;
 use std::sync::atomic::AtomicU64;
@@ -19,14 +19,12 @@ use xh_channel::{Channels, Endpoint, Spot};
 pub(super) enum Watch {
     Rest,
     Wait(u64),
-    TakeTurns(u64),
     Follow(u64),
 }
 
 /// What a thread does with an end. It answers a number.
 #[derive(Clone, Copy)]
 pub(super) enum Job {
-    Watch(Watch),
     Wake(Way),
     WaitAndTake(Answer),
     Alternate(Way),
@@ -52,7 +50,6 @@ fn at_turn<R: Wait>(rt: &R, channels: &Channels, spot: Spot, watch: Watch) {
     match watch {
         Watch::Rest => (),
         Watch::Wait(seen) => channels.wait(rt, spot, seen),
-        Watch::TakeTurns(own) => take_turns(rt, channels, spot, own),
         Watch::Follow(last) => follow_until(rt, channels, spot, last, true),
     }
 }
@@ -72,10 +69,6 @@ fn at_end<R: Clock + Wait + Abort>(
     job: Job,
 ) -> u64 {
     match job {
-        Job::Watch(watch) => {
-            at_turn(rt, channels, end.spot(), watch);
-            0
-        }
         Job::Wake(way) => wake_later(rt, channels, end, way),
         Job::WaitAndTake(expected) => wait_and_take(rt, channels, end, expected),
         Job::Alternate(way) => alternate(rt, channels, end, &shared.round, way),

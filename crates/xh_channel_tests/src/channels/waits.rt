@@ -5,7 +5,6 @@ use super::bells::Way;
 use super::opening::FREE;
 use super::scenes::{Act, Scene, play};
 use super::threads::{Job, Jobs, Watch};
-use std::hint;
 use std::process::Abort;
 use std::sync::Wait;
 use xh_channel::{Channels, Endpoint, Spot};
@@ -73,39 +72,4 @@ fn a_put_wakes_who_waits(rt: HostRuntime) {
 fn a_rouse_wakes_who_waits(rt: HostRuntime) {
     const ACT: Act = Act::Wakes(Way::Rouse, No(16, None));
     play(&rt, rt.alloc(), 1, Scene::Each(FREE, ACT, 2));
-}
-
-const TURNS: u16 = 1000;
-
-/// Raises the turn where it leaves the remainder `own` by 3, and else waits until it has risen: so many turns of its own.
-/// The pauses before are of some that a waiter looks through, and of some that it sleeps through.
-pub(super) fn take_turns<R: Wait>(rt: &R, channels: &Channels, spot: Spot, own: u64) {
-    let mut done = 0u16;
-    for _ in rt.forever() {
-        if done >= TURNS {
-            break;
-        }
-        let seen = channels.turn(rt, spot);
-        if seen % 3 != own {
-            channels.wait(rt, spot, seen);
-            continue;
-        }
-        for _ in 0..(done % 32) * 256 {
-            hint::spin_loop();
-        }
-        channels.rouse(rt, spot);
-        done += 1;
-    }
-}
-
-/// Three threads raise the turn one after another, while the other two wait: none sleeps through its own.
-#[test]
-fn no_turn_is_slept_through(rt: HostRuntime) {
-    const JOBS: &Jobs = &Jobs {
-        turn: Watch::TakeTurns(0),
-        low: Job::Watch(Watch::TakeTurns(1)),
-        high: Job::Watch(Watch::TakeTurns(2)),
-        answers: (0, 0, 3000),
-    };
-    play(&rt, rt.alloc(), 1, Scene::Each(FREE, Act::Jobs(JOBS), 2));
 }

@@ -1,54 +1,44 @@
 // Calls of two places by one thread, and what they answer, to be compared.
-use super::many::{fill, goes_round, open_all};
+use super::make_bench;
 use super::pair::Pair;
 use super::scenes::{Scene, play};
-use super::{Measures, make_bench};
 use std::alloc::Global;
 use std::fmt::Debug;
 use std::process::Abort;
 use std::sync::Wait;
-use xh_core::{Block, Refused, Status};
+use xh_core::{Block, Refused};
 use xh_place::{Got, Point, Taken};
 
-/// A call of the place whose turn it is, by records: a read is of four bytes, `ReadPart` of so many of them, a channel of
-/// the arena, and its contract, of `OpenWith`, is a request with the tag 1 by side 0, then a reply with the tag 2 by side 1,
-/// and so on. `HandOver` passes an end to the other place, which accepts it; `Accept` is the other place's, of an end on a
-/// direction. `Turn` makes it the other place's turn. `Lists` asks for the blocks and bytes of this place and of the other,
-/// `Moved` what the account took and gave back, and `Stops` whether these are the points where a place's calls stopped
-/// since it was last asked. `Fill` is of so many blocks of 16 bytes of the arena, `OpenAll` of so many channels, and `Rounds`,
-/// by both ends of a channel, of so many messages, given and then taken, so many times.
+/// A call of the place whose turn it is, by records: a read is of four bytes, a channel of arena 0, and its contract, of
+/// `OpenWith`, is a request with the tag 1 by side 0, then a reply with the tag 2 by side 1, and so on. `HandOver` passes
+/// an end to the other place, which accepts it. `Turn` makes it the other place's turn. `Lists` asks for the blocks and
+/// bytes of this place and of the other, `Moved` what the account took and gave back, and `Stops` whether these are the
+/// points where a place's calls stopped since it was last asked.
 #[derive(Clone, Copy)]
 pub(super) enum Call<'a> {
     Alloc(u32, u32),
     Split(u16, u32),
     Read(u16, u32),
-    ReadPart(u16, u32, usize),
     Write(u16, u32, &'a [u8]),
     Free(u16),
-    Open(u32),
+    Open,
     OpenWith,
     HandOver(u16),
     Wire,
-    Accept(u16, u8),
     Give(u16, u16, &'a [u16]),
     Take(u16),
     Close(u16),
     Stop(u16),
     Turn,
-    State,
     Lists,
     Moved,
     Stops(u8, &'a [Point]),
-    Fill(u16, u32),
-    OpenAll(u16),
-    Rounds(u16, u16, u16, u16),
 }
 
 /// A message's number, or how many bytes came back; a block, by record and length; two blocks; the bytes of a read; the
-/// records of both ends; a message, by its number, its tag, how many blocks it has and the first two, each by record
-/// and length (0 if it did not come); a state; blocks and
-/// bytes here, and at the other place; bytes taken and given back; the name of a refusal; one, with how many blocks it
-/// hands back and the first; how many blocks an ending left; nothing.
+/// records of both ends; a message, by its number, its tag, how many blocks it has and the first, by record and length
+/// (0 if it did not come); blocks and bytes here, and at the other place; bytes taken and given back; the name of a
+/// refusal; one, with how many blocks it hands back and the first; how many blocks an ending left; nothing.
 #[derive(Clone, Copy, Debug, PartialEq)]
 pub(super) enum Answer {
     Number(u64),
@@ -56,8 +46,7 @@ pub(super) enum Answer {
     Two(u16, u32, u16, u32),
     Bytes([u8; 4]),
     Ends(u16, u16),
-    Message(u64, u16, usize, [Option<(u16, u32)>; 2]),
-    State(Status),
+    Message(u64, u16, usize, Option<(u16, u32)>),
     Lists(usize, u64, usize, u64),
     Moved(u64, u64),
     No(&'static str),
@@ -119,12 +108,9 @@ fn of_got(got: &Got) -> (u16, u32) {
 
 fn of_message(answer: Result<Taken, Refused>) -> Answer {
     match answer {
-        Ok(Taken { no, tag, blocks }) => Answer::Message(
-            no,
-            tag,
-            blocks.len(),
-            [blocks.first().map(of_got), blocks.get(1).map(of_got)],
-        ),
+        Ok(Taken { no, tag, blocks }) => {
+            Answer::Message(no, tag, blocks.len(), blocks.first().map(of_got))
+        }
         Err(refused) => of_refused(refused),
     }
 }
@@ -136,10 +122,10 @@ fn of_nothing(answer: Result<(), Refused>) -> Answer {
     }
 }
 
-/// At most four bytes of a block. What a refused read has changed is told as if it had been read.
-fn bytes_of<R: Wait>(pair: &mut Pair<R>, r: u16, at: u32, count: usize) -> Answer {
+/// Four bytes of a block. What a refused read has changed is told as if it had been read.
+fn bytes_of<R: Wait>(pair: &mut Pair<R>, r: u16, at: u32) -> Answer {
     let mut bytes = UNREAD;
-    let Err(refused) = pair.read(r, at, &mut bytes[..count.min(4)]) else {
+    let Err(refused) = pair.read(r, at, &mut bytes) else {
         return Answer::Bytes(bytes);
     };
     if bytes != UNREAD {
@@ -156,14 +142,6 @@ fn lists_of<R: Wait>(pair: &Pair<R>) -> Answer {
         there.blocks().len(),
         there.total(),
     )
-}
-
-fn of_all(done: bool) -> Answer {
-    if done {
-        Answer::Done
-    } else {
-        Answer::No("not all")
-    }
 }
 
 fn stops_of<R: Wait>(pair: &Pair<R>, place: u8, points: &[Point]) -> Answer {
@@ -189,27 +167,21 @@ pub(super) fn answer_of<R: Wait>(alloc: Global, pair: &mut Pair<R>, call: Call) 
     match call {
         Call::Alloc(n, arena) => of_block(pair.alloc(alloc, n, arena)),
         Call::Split(r, k) => of_two(pair.split(alloc, r, k)),
-        Call::Read(r, at) => bytes_of(pair, r, at, 4),
-        Call::ReadPart(r, at, count) => bytes_of(pair, r, at, count),
+        Call::Read(r, at) => bytes_of(pair, r, at),
         Call::Write(r, at, bytes) => of_nothing(pair.write(r, at, bytes)),
         Call::Free(r) => of_number(pair.free(r).map(u64::from)),
-        Call::Open(arena) => of_ends(pair.open(arena)),
+        Call::Open => of_ends(pair.open()),
         Call::OpenWith => of_ends(pair.open_with()),
         Call::HandOver(e) => of_block(pair.hand_over(e)),
         Call::Wire => of_ends(pair.wire()),
-        Call::Accept(e, direction) => of_block(pair.accept(e, direction)),
         Call::Give(e, tag, blocks) => of_number(pair.give(e, tag, blocks)),
         Call::Take(e) => of_message(pair.take(e)),
         Call::Close(e) => of_number(pair.close(e)),
         Call::Stop(budget) => of_number(pair.stop(budget)),
         Call::Turn => turned(pair),
-        Call::State => Answer::State(pair.place.state()),
         Call::Lists => lists_of(pair),
         Call::Moved => moved_of(pair),
         Call::Stops(place, points) => stops_of(pair, place, points),
-        Call::Fill(count, arena) => of_all(fill(alloc, pair, count, arena)),
-        Call::OpenAll(count) => of_all(open_all(pair, count)),
-        Call::Rounds(e, f, count, rounds) => of_all(goes_round(pair, (e, f), count, rounds)),
     }
 }
 
@@ -236,39 +208,13 @@ pub(super) fn assert_each<R: Wait + Abort>(
     }
 }
 
-/// One arena of 256 bytes and 16 records.
-pub(super) const ROOMY: Measures = Measures {
-    arenas: 1,
-    size: 256,
-    count: 16,
-    wear: 1000,
-};
-
-/// Eight arenas of 1,048,576 bytes and 256 records.
-const LARGE: Measures = Measures {
-    arenas: 8,
-    size: 1_048_576,
-    count: 256,
-    wear: 4_194_304,
-};
-
-/// Makes each call at a pair of 256 bytes, whose directions have room for so many messages, and compares what it answers.
+/// Makes each call at a pair with 16 records, whose directions have room for so many messages, and compares what it answers.
 pub(super) fn assert_answers<R: Wait + Abort>(
     rt: &R,
     alloc: Global,
     depth: u8,
     calls: &[(Call, Answer)],
 ) {
-    let bench = make_bench(alloc, ROOMY, depth).expect(rt, "a bench");
-    play(rt, alloc, bench, Scene::Calls(calls));
-}
-
-/// The same at a pair of eight arenas, all as large as they may be.
-pub(super) fn assert_large_answers<R: Wait + Abort>(
-    rt: &R,
-    alloc: Global,
-    calls: &[(Call, Answer)],
-) {
-    let bench = make_bench(alloc, LARGE, 1).expect(rt, "a large bench");
+    let bench = make_bench(alloc, 16, depth).expect(rt, "a bench");
     play(rt, alloc, bench, Scene::Calls(calls));
 }

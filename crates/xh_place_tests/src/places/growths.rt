@@ -4,7 +4,7 @@ use super::answers::Call::{self, Alloc, Lists as Both, Moved as Count, Read, Spl
 use super::answers::{answer_of, assert_answer, assert_same};
 use super::pair::Pair;
 use super::scenes::{Scene, play};
-use super::{Bench, SMALL, make_bench};
+use super::{Bench, make_bench};
 use std::alloc::Global;
 use std::process::Abort;
 use std::sync::Wait;
@@ -44,10 +44,10 @@ fn answer_again<R: Wait>(alloc: Global, pair: &mut Pair<R>, call: Call) -> Answe
     answer_of(alloc, pair, call)
 }
 
-/// A new bench: where the first growth that it asks for is refused, the next bench is whole.
+/// A new bench of three records: where the first growth that it asks for is refused, the next bench is whole.
 fn whole_bench<R: Abort>(rt: &R, alloc: Global) -> Bench {
-    make_bench(alloc, SMALL, 1)
-        .or_else(|| make_bench(alloc, SMALL, 1))
+    make_bench(alloc, 3, 1)
+        .or_else(|| make_bench(alloc, 3, 1))
         .expect(rt, "a bench")
 }
 

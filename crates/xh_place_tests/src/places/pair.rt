@@ -1,5 +1,5 @@
 // Two places of two processes at one desk, as calls of one thread reach them.
-ghost use Rattle.std.specs.Prelude.{◌≡◌, map};
+ghost use Rattle.std.specs.Prelude.{◌≡◌, [], ◌∷◌};
 ghost use Rattle.xh_place.specs.Places.{IsPlaceOf};
 ghost use Rattle.xh_place.specs.Tallies.{ids_of};
 
@@ -22,14 +22,14 @@ fn row(state: u8, tag: u16, side: u8, next: u8) -> Row {
     }
 }
 
-/// A desk with all arenas, one account and all channels, and two places. Calls are of the place whose turn it is, and where they stop is noted.
+/// A desk with an arena, one account and all channels, and two places. Calls are of the place whose turn it is, and where they stop is noted.
 #[derive(Drop)]
 pub(super) struct Pair<'a, R> {
     pub(super) desk: Desk<'a, R, Plain, Notes>,
     pub(super) place: Place,
     pub(super) other: Place,
     ghost own: { IsPlaceOf desk.records.now place.place × IsPlaceOf desk.records.now other.place },
-    ghost names: { map (λ v. v.id) desk.vaults.now.vaults.items ≡ desk.records.now.shape.names },
+    ghost names: { desk.vaults.now.vault.id ∷ [] ≡ desk.records.now.shape.names },
     ghost ids: { ids_of desk.tallies.now ≡ desk.records.now.shape.names },
 }
 
@@ -64,10 +64,10 @@ impl<R: Wait> Pair<'_, R> {
         self.place.free(&mut self.desk, r)
     }
 
-    /// The records of both ends of a new channel, of the arena.
-    pub(super) fn open(&mut self, arena: u32) -> Option<(u16, u16)> {
+    /// The records of both ends of a new channel.
+    pub(super) fn open(&mut self) -> Option<(u16, u16)> {
         let (low, high) = self.desk.channels.open(self.desk.rt).ok()?;
-        let made = self.place.open(&mut self.desk, low, high, arena);
+        let made = self.place.open(&mut self.desk, low, high, 0);
         let (a, b) = made.ok()?;
         Some((a.rec, b.rec))
     }
@@ -95,7 +95,7 @@ impl<R: Wait> Pair<'_, R> {
     }
 
     /// The other place takes an endpoint that is in flight on the direction.
-    pub(super) fn accept(&mut self, e: u16, direction: u8) -> Result<Block, Refused> {
+    fn accept(&mut self, e: u16, direction: u8) -> Result<Block, Refused> {
         if !self.desk.records.has(e) || direction >= 128 {
             return Err(Refused::NotOwned);
         }
@@ -105,7 +105,7 @@ impl<R: Wait> Pair<'_, R> {
 
     /// The records of a new channel's end here and of its end at the other place.
     pub(super) fn wire(&mut self) -> Option<(u16, u16)> {
-        let (e, f) = self.open(0)?;
+        let (e, f) = self.open()?;
         self.hand_over(f).ok()?;
         Some((e, f))
     }
@@ -141,15 +141,13 @@ impl<R: Wait> Pair<'_, R> {
         }
     }
 
-    /// The first vault's first hole, the bytes that it has handed out, and its wear.
+    /// The vault's first hole, the bytes that it has handed out, and its wear.
     pub(super) fn gauges(&self) -> (Option<(u32, u32)>, u32, u64) {
-        match self.desk.vaults.vaults.first() {
-            Some(vault) => (
-                vault.holes().first().copied(),
-                vault.handed_out(),
-                vault.wear(),
-            ),
-            None => (None, 0, 0),
-        }
+        let vault = &self.desk.vaults.vault;
+        (
+            vault.holes().first().copied(),
+            vault.handed_out(),
+            vault.wear(),
+        )
     }
 }

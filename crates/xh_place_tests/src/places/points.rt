@@ -29,7 +29,7 @@ fn points_of_blocks(rt: HostRuntime) {
         (Stops(0, &[Returned]), Done),
         (Free(1), No("NotOwned")),
         (Stops(0, &[]), Done),
-        (Open(0), Ends(1, 2)),
+        (Open, Ends(1, 2)),
         (Stops(0, &[Claimed, Claimed]), Done),
         (Turn, Done),
         (Alloc(16, 0), Block(3, 16)),
@@ -53,7 +53,7 @@ fn points_of_messages(rt: HostRuntime) {
         (Give(0, 0, &[]), Back("Full", 0, None)),
         (Stops(0, &[Passed, Put]), Done),
         (Turn, Done),
-        (Take(1), Message(1, 0, 1, [Some((2, 16)), None])),
+        (Take(1), Message(1, 0, 1, Some((2, 16)))),
         (Stops(1, &[Popped]), Done),
         (Take(1), No("Empty")),
         (Stops(1, &[]), Done),
@@ -65,8 +65,8 @@ fn points_of_messages(rt: HostRuntime) {
 #[test]
 fn points_of_endings(rt: HostRuntime) {
     const CALLS: &[(Call, Answer)] = &[
-        (Open(0), Ends(0, 1)),
-        (Open(0), Ends(2, 3)),
+        (Open, Ends(0, 1)),
+        (Open, Ends(2, 3)),
         (Alloc(16, 0), Block(4, 16)),
         (Stops(0, &[Claimed; 5]), Done),
         (Give(0, 0, &[4]), Number(1)),
@@ -98,7 +98,7 @@ fn points_of_endings(rt: HostRuntime) {
 #[test]
 fn points_of_a_late_end(rt: HostRuntime) {
     const CALLS: &[(Call, Answer)] = &[
-        (Open(0), Ends(0, 1)),
+        (Open, Ends(0, 1)),
         (Alloc(16, 0), Block(2, 16)),
         (Give(0, 0, &[2]), Number(1)),
         (Stops(0, &[Claimed, Claimed, Claimed, Passed, Put]), Done),

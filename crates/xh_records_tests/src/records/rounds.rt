@@ -16,7 +16,7 @@ use xh_arena::{Lot, Tally, Vault};
 use xh_records::{Records, Refused, Seat};
 
 /// Carves 32 bytes for the record.
-pub(super) fn carve_at(
+fn carve_at(
     records: &Records<Any>,
     seat: &mut Seat<Any>,
     number: u16,
@@ -196,61 +196,6 @@ fn record_words(rt: HostRuntime) -> Result<(), Fail> {
     let bench = make_bench(rt.alloc(), 64, 2, 1000).expect(&rt, "a bench");
     go_round(&rt, rt.alloc(), bench)?;
     Ok(())
-}
-
-/// The seat claims a record of arena 0.
-fn claim_next(rt: &impl Abort, records: &Records<Any>, seat: &mut Seat<Any>) -> u16
-    requires { IsSeatOf records.now seat.old × (0 < length records.now.shape.names) }
-    ensures { IsSeatOf records.now seat.new }
-{
-    let Ok(number) = records.claim(seat, 0) else {
-        panic!(rt; "no record");
-    };
-    number
-}
-
-/// The first place of a new bench passes a record on and claims another, the second claims the third, and finds no more.
-fn fill(
-    rt: &impl Abort,
-    records: &Records<Any>,
-    first: &mut Seat<Any>,
-    second: &mut Seat<Any>,
-    vault: &mut Vault,
-    tally: &mut Tally,
-)
-    requires new { IsNewBench records.now first.old second.old vault.old tally.old }
-{
-    assert_same(rt, (records.arenas(), records.per_arena()), (1, 3));
-    give_away(rt, records, first, vault, tally, 5);
-    assert_same(rt, claim_next(rt, records, first), 1);
-    assert_same(rt, claim_next(rt, records, second), 2);
-    assert_same(rt, (first.count(), second.count()), (1, 1));
-    let Err(seen) = records.claim(second, 0) else {
-        panic!(rt; "one was free");
-    };
-    let words: [u64; 3] = [22, 1, 5];
-    assert_same(rt, seen.words.as_slice(), words.as_slice());
-    assert_same(rt, second.count(), 1);
-}
-
-/// A full arena: a record in flight, one of the first process and one of the second.
-#[test]
-fn full_arena(rt: HostRuntime) {
-    let Bench {
-        mut vault,
-        mut tally,
-        records,
-        mut first,
-        mut second,
-    } = make_bench(rt.alloc(), 64, 3, 1000).expect(&rt, "a bench");
-    fill(
-        &rt,
-        &records,
-        &mut first,
-        &mut second,
-        &mut vault,
-        &mut tally,
-    );
 }
 
 /// A new bench of two records, and where a growth was refused, one by the same calls made again.

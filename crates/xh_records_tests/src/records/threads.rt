@@ -13,10 +13,7 @@ use xh_arena::Lot;
 use xh_records::{Records, Refused, Seat};
 
 /// Claims until no record is free.
-pub(super) fn claim_all(
-    records: &Records<Any>,
-    mut seat: Seat<Any>,
-) -> (Seat<Any>, ArrayVec<u16, 16>)
+fn claim_all(records: &Records<Any>, mut seat: Seat<Any>) -> (Seat<Any>, ArrayVec<u16, 16>)
     requires { IsSeatOf records.now seat × (0 < length records.now.shape.names) }
     ensures { IsSeatOf records.now result.0 }
 {

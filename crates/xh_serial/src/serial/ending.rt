@@ -36,6 +36,7 @@ impl Serial {
         let _start = &self.plain;
         self.set_status(p, Status::Ending);
         let bytes = self.sweep(p, 0, budget);
+        let _swept = &self.plain;
         let left = self.count(p);
         if left > 0 {
             return Err(Refused::Unfinished { left: left as u32 });

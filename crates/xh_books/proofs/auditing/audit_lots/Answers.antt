@@ -1,15 +1,6 @@
-use Rattle.std.proofs.Common.{rules, arith, ◌≡◌, ℕ, ◌*◌, ◌/◌, ◌%◌, ◌<◌, ◌≤◌, List, length, get_or, sym, ap, ◌∙◌}
-use Rattle.std.proofs.lemmas.List.{get_or-map, length-map, set-get_or}
-use Rattle.std.proofs.Math.Nat.{div-lt_iff_lt-mul}
-use Rattle.std.specs.Prelude.{slice_set}
+use Rattle.xh_books.proofs.Common.{ArenaState, Body, List, LotOf, VaultOf, all_lengths, ap, arenas_of, arith, div-lt_iff_lt-mul, get_or, get_or-map, length, length-map, length_of, lens_of, rules}
+use Rattle.xh_books.proofs.Common.{set-get_or, slice_set, sym, there, ℕ, ◌%◌, ◌*◌, ◌/◌, ◌<◌, ◌∙◌, ◌≡◌, ◌≤◌}
 use borrow.Author.Count.{below_more}
-use Rattle.xh_arena.specs.Views.{LotOf, VaultOf}
-use Rattle.xh_calls.proofs.Lists.{there}
-use Rattle.xh_model.specs.Arena.{ArenaState}
-use Rattle.xh_model.specs.Cover.{length_of}
-use Rattle.xh_place.specs.declared.body.Body.{Body}
-use Rattle.xh_books.specs.Ledgers.{all_lengths, arenas_of}
-use Rattle.xh_books.specs.inner.Steps.{lens_of}
 use Rattle.xh_books.proofs.Audited.{at_index, audited}
 use Rattle.xh_books.proofs.auditing.audit_lots.Goals as goal
 

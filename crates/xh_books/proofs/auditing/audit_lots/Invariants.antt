@@ -1,6 +1,4 @@
-use Rattle.std.proofs.Common.{◌≡◌, ℕ, ◌<◌, get_or}
-use Rattle.xh_books.specs.Ledgers.{all_lengths, arenas_of}
-use Rattle.xh_books.specs.inner.Steps.{lens_of}
+use Rattle.xh_books.proofs.Common.{all_lengths, arenas_of, get_or, lens_of, ℕ, ◌<◌, ◌≡◌}
 use Rattle.xh_books.proofs.auditing.audit_lots.Given as goal
 
 abbrev pub invariant-loop-k : goal.invariant-loop-k

@@ -1,16 +1,5 @@
-use Rattle.std.proofs.Common.{arith, ◌≡◌, ℕ, ◌+◌, All, List, map, sym, ap, ◌∙◌, subst}
-use Rattle.std.proofs.lemmas.List.Elements.{All-map}
-use Rattle.std.specs.List.{sum_by}
-use Rattle.xh_arena.specs.Views.{VaultOf}
-use Rattle.arrayvec.specs.ArrayVec.{ArrayVec}
-use Rattle.xh_core.specs.declared.ledger.ArenaLine.{ArenaLine}
-use Rattle.xh_core.specs.declared.ledger.PlaceLine.{PlaceLine}
-use Rattle.xh_model.specs.Arena.{ArenaState}
-use Rattle.xh_kernel.specs.Places.{places_of}
-use Rattle.xh_core.specs.Flight.{AreFlightLines}
-use Rattle.xh_books.specs.Flight.{IsInFlight}
-use Rattle.xh_books.specs.Ledgers.{all_back, arenas_of, bytes_in_flight}
-use Rattle.xh_books.specs.inner.Steps.{AreBooks, TellFlight, closed_line, lens_of}
+use Rattle.xh_books.proofs.Common.{All, All-map, AreBooks, AreFlightLines, ArenaLine, ArenaState, ArrayVec, IsInFlight, List, PlaceLine, TellFlight, VaultOf, all_back, ap, arenas_of, arith}
+use Rattle.xh_books.proofs.Common.{bytes_in_flight, closed_line, lens_of, map, places_of, subst, sum_by, sym, ℕ, ◌+◌, ◌∙◌, ◌≡◌}
 use Rattle.xh_books.proofs.Closed.{Sums, sums}
 use Rattle.xh_books.proofs.closing.close_books.Goals.{After-arena_lines-arenas}
 use Rattle.xh_books.proofs.closing.close_books.Goals as goal
@@ -33,40 +22,24 @@ pub ledger-ledger-requires : goal.ledger-ledger-requires
 ledger-ledger-requires g c =
     let f = facts g c in let own = c.in_ok-flight.ensures.lines.1 in let out = f.out in omega arith
 
-pub returns-clause-flight : goal.returns-clause-flight
-returns-clause-flight g c =
-    let f = facts g c.before.before in let own = c.in_ok-flight.ensures.lines.1 in
-    let all = c.ledger-ledger.ensures.all in let a = c.ledger-ledger.ensures.owned in let b = c.ledger-ledger.ensures.out in let out = f.out in
-    let flight : c.ledger-ledger.result.flight ≡ bytes_in_flight (places_of c.args.places.items) c.args.records.shape.records 0 (lens_of c.in_ok-flight.lots.items) = omega arith in
-    flight ∙ ap (bytes_in_flight (places_of c.args.places.items) c.args.records.shape.records 0) f.lengths
-
-pub returns-clause-moved : goal.returns-clause-moved
-returns-clause-moved g c = let f = facts g c.before.before in f.moved ∙ ap (λ z. all_back c.args.accounts.items + z) (sym c.ledger-ledger.ensures.out)
-
-pub returns-clause-balanced : goal.returns-clause-balanced
-returns-clause-balanced g c =
-    let f = facts g c.before.before in record {
-      arenas = subst (λ (ls : ArrayVec ArenaLine). All (λ a. a.taken ≡ a.back + a.out) ls.items) (sym c.ledger-ledger.ensures.lines.0) f.even;
-      owned = c.ledger-ledger.ensures.owned ∙ ap (λ (ls : ArrayVec PlaceLine). sum_by (λ p. p.bytes) ls.items) (sym c.ledger-ledger.ensures.lines.1);
-      out = c.ledger-ledger.ensures.out ∙ ap (λ (ls : ArrayVec ArenaLine). sum_by (λ a. a.out) ls.items) (sym c.ledger-ledger.ensures.lines.0);
-      all = c.ledger-ledger.ensures.all;
+pub returns : goal.returns
+unfolding TellFlight
+returns g c =
+    let f = facts g c.before.before in let l = c.ledger-ledger.ensures in let own = c.in_ok-flight.ensures.lines.1 in
+    let all = l.all in let a = l.owned in let b = l.out in let out = f.out in
+    let flight : c.ledger-ledger.result.flight ≡ bytes_in_flight (places_of c.args.places.items) c.args.records.shape.records 0 (lens_of c.in_ok-flight.lots.items) = omega arith in record {
+      arenas = ap (λ (ls : ArrayVec ArenaLine). ls.items) l.lines.0 ∙ f.arenas;
+      places = ap (λ (ls : ArrayVec PlaceLine). ls.items) l.lines.1 ∙ c.in_ok-flight.ensures.lines.0;
+      owned = a ∙ own;
+      flight = flight ∙ ap (bytes_in_flight (places_of c.args.places.items) c.args.records.shape.records 0) f.lengths;
+      moved = f.moved ∙ ap (λ z. all_back c.args.accounts.items + z) (sym b);
+      balanced = record {
+        arenas = subst (λ (ls : ArrayVec ArenaLine). All (λ a. a.taken ≡ a.back + a.out) ls.items) (sym l.lines.0) f.even;
+        owned = a ∙ ap (λ (ls : ArrayVec PlaceLine). sum_by (λ p. p.bytes) ls.items) (sym l.lines.1);
+        out = b ∙ ap (λ (ls : ArrayVec ArenaLine). sum_by (λ a. a.out) ls.items) (sym l.lines.0);
+        all = all;
+      };
+      in_flight = subst (λ (lens : List ℕ). IsInFlight c.args.records.shape c.args.places.items lens c.in_ok-flight.flight.items) f.lengths c.in_ok-flight.ensures.flight.0;
+      lines = subst (λ (n : ℕ). AreFlightLines n c.in_ok-flight.flight.items) (sym flight) c.in_ok-flight.ensures.flight.1;
+      refused = tt;
     }
-
-pub returns-clause-arenas : goal.returns-clause-arenas
-returns-clause-arenas g c = let f = facts g c.before.before in ap (λ (ls : ArrayVec ArenaLine). ls.items) c.ledger-ledger.ensures.lines.0 ∙ f.arenas
-
-pub returns-clause-places : goal.returns-clause-places
-returns-clause-places g c = ap (λ (ls : ArrayVec PlaceLine). ls.items) c.ledger-ledger.ensures.lines.1 ∙ c.in_ok-flight.ensures.lines.0
-
-pub returns-clause-in_flight : goal.returns-clause-in_flight
-unfolding TellFlight
-returns-clause-in_flight g c =
-    let f = facts g c.before.before in
-    subst (λ (lens : List ℕ). IsInFlight c.args.records.shape c.args.places.items lens c.in_ok-flight.flight.items) f.lengths c.in_ok-flight.ensures.flight.0
-
-pub returns-clause-lines : goal.returns-clause-lines
-unfolding TellFlight
-returns-clause-lines g c =
-    let f = facts g c.before.before in
-    subst (λ (n : ℕ). AreFlightLines n c.in_ok-flight.flight.items)
-    (ap (bytes_in_flight (places_of c.args.places.items) c.args.records.shape.records 0) f.lengths ∙ sym (returns-clause-flight g c)) c.in_ok-flight.ensures.flight.1

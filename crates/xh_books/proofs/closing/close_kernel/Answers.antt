@@ -1,9 +1,4 @@
-use Rattle.std.proofs.Common.{rules, ◌≡◌, ◌<◌, ◌∙◌, All, List, ap, length, subst, sym}
-use Rattle.std.proofs.lemmas.Result.{IfOk-weaker}
-use Rattle.xh_core.specs.declared.ledger.ArenaLine.{ArenaLine}
-use Rattle.xh_core.specs.declared.ledger.PlaceLine.{PlaceLine}
-use Rattle.xh_model.specs.declared.limits.TheConstants.{PLACES}
-use Rattle.xh_kernel.specs.Places.{places_of}
+use Rattle.xh_books.proofs.Common.{All, ArenaLine, IfOk-weaker, List, PLACES, PlaceLine, ap, length, places_of, rules, subst, sym, ◌<◌, ◌∙◌, ◌≡◌}
 use Rattle.xh_books.proofs.Kept.{is_closed}
 use Rattle.xh_books.proofs.LedgerLines.{lines_are_of, lines_within}
 use Rattle.xh_books.proofs.closing.close_kernel.Goals as goal

@@ -1,9 +1,4 @@
-use Rattle.std.proofs.Common.{All, sym, ap, ◌∙◌, subst}
-use Rattle.std.proofs.lemmas.List.Elements.{All-cons}
-use Rattle.std.specs.Vec.Iter.{into_iter_items}
-use Rattle.xh_calls.specs.Parts.{vault_names}
-use Rattle.xh_place.specs.Tallies.{ids_of}
-use Rattle.xh_books.specs.inner.Steps.{with_accounts, with_tallies}
+use Rattle.xh_books.proofs.Common.{All, All-cons, ap, ids_of, into_iter_items, subst, sym, vault_names, with_accounts, with_tallies, ◌∙◌}
 use Rattle.xh_books.proofs.Collected.{Named, names_with}
 use Rattle.xh_books.proofs.collecting.collect_accounts.Goals as goal
 

@@ -1,7 +1,4 @@
-use Rattle.std.proofs.Common.{◌≡◌, All}
-use Rattle.std.specs.Vec.Iter.{into_iter_items}
-use Rattle.xh_calls.specs.Parts.{vault_names}
-use Rattle.xh_books.specs.inner.Steps.{with_accounts}
+use Rattle.xh_books.proofs.Common.{All, into_iter_items, vault_names, with_accounts, ◌≡◌}
 use Rattle.xh_books.proofs.Collected.{Named}
 use Rattle.xh_books.proofs.collecting.collect_accounts.Given as goal
 

@@ -1,11 +1,5 @@
-use Rattle.std.proofs.Common.{rules, ◌+◌, ◌++◌, take, drop, set, sym, ap, ◌∙◌, add-one}
-use Rattle.std.proofs.lemmas.List.{nil_from_length}
-use Rattle.std.specs.Prelude.{slice_index_or}
-use Rattle.std.specs.Vec.Iter.{into_iter_items}
-use Rattle.xh_arena.specs.Views.{VaultOf}
-use Rattle.xh_place.specs.Tallies.{ids_of}
-use Rattle.xh_books.specs.inner.Steps.{with_tallies, with_tally}
-use Rattle.xh_books.proofs.Collected.{collect_step, collect_done, collect_ids, collect_below}
+use Rattle.xh_books.proofs.Common.{VaultOf, add-one, ap, drop, ids_of, into_iter_items, nil_from_length, rules, set, slice_index_or, sym, take, with_tallies, with_tally, ◌++◌, ◌+◌, ◌∙◌}
+use Rattle.xh_books.proofs.Collected.{collect_below, collect_done, collect_ids, collect_step}
 use Rattle.xh_books.proofs.collecting.collect_tallies.Goals as goal
 
 pub bounds-vaults-arena : goal.bounds-vaults-arena

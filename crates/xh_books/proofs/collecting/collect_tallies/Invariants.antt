@@ -1,8 +1,4 @@
-use Rattle.std.proofs.Common.{◌≡◌, ◌++◌, take, drop}
-use Rattle.std.specs.Vec.Iter.{into_iter_items}
-use Rattle.xh_calls.specs.Parts.{vault_names}
-use Rattle.xh_place.specs.Tallies.{ids_of}
-use Rattle.xh_books.specs.inner.Steps.{with_tallies}
+use Rattle.xh_books.proofs.Common.{drop, ids_of, into_iter_items, take, vault_names, with_tallies, ◌++◌, ◌≡◌}
 use Rattle.xh_books.proofs.collecting.collect_tallies.Given as goal
 
 abbrev pub invariant-loop-tally : goal.invariant-loop-tally

@@ -1,7 +1,4 @@
-use Rattle.std.proofs.Common.{rules, ◌≡◌, ◌++◌, List, drop, length, take, ap, ◌∙◌}
-use Rattle.std.proofs.Math.Seq.{take-append_seam}
-use Rattle.xh_arena.specs.Views.{VaultOf}
-use Rattle.xh_books.specs.inner.Steps.{with_accounts}
+use Rattle.xh_books.proofs.Common.{List, VaultOf, ap, drop, length, rules, take, take-append_seam, with_accounts, ◌++◌, ◌∙◌, ◌≡◌}
 use Rattle.xh_books.proofs.Collected.{gathered}
 use Rattle.xh_books.proofs.collecting.gather.Goals as goal
 

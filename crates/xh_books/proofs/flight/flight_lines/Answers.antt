@@ -1,12 +1,5 @@
-use Rattle.std.proofs.Common.{arith, ap, ◌∙◌, ◌≡◌, filter, map}
-use Rattle.std.proofs.lemmas.Bool.Decides.{nat_tests}
-use Rattle.std.proofs.lemmas.Grind.{common_steps}
+use Rattle.xh_books.proofs.Common.{FlightLine, ap, arith, common_steps, filter, flight_line, lens_of, map, nat_lt, nat_tests, range_with_len, zip, ◌∙◌, ◌≡◌}
 use Rattle.std.proofs.lemmas.List.FromFn.{filter_of_map_range_with_len_more}
-use Rattle.std.specs.List.{range_with_len, zip}
-use Rattle.std.specs.Prelude.{nat_lt}
-use Rattle.xh_core.specs.declared.flight.FlightLine.{FlightLine}
-use Rattle.xh_books.specs.inner.Steps.{lens_of}
-use Rattle.xh_books.specs.Flight.{flight_line}
 use Rattle.xh_books.proofs.flight.flight_lines.Goals.{else-line-gt0, then-line-gt0}
 use Rattle.xh_books.proofs.flight.flight_lines.Goals as goal
 

@@ -1,8 +1,4 @@
-use Rattle.std.proofs.Common.{◌≡◌, ◌≤◌, length, map}
-use Rattle.std.specs.List.{range_with_len, zip}
-use Rattle.std.specs.Prelude.{filter, nat_lt}
-use Rattle.xh_books.specs.inner.Steps.{lens_of}
-use Rattle.xh_books.specs.Flight.{flight_line}
+use Rattle.xh_books.proofs.Common.{filter, flight_line, length, lens_of, map, nat_lt, range_with_len, zip, ◌≡◌, ◌≤◌}
 use Rattle.xh_books.proofs.flight.flight_lines.Given as goal
 
 abbrev pub invariant-loop-direction : goal.invariant-loop-direction

@@ -1,15 +1,6 @@
-use Rattle.std.proofs.Common.{arith, ◌≡◌, ◌<◌, ◌+◌, ◌*◌, ℕ, List, length, take, cond, ap, ◌∙◌}
-use Rattle.std.proofs.lemmas.Bool.Decides.{nat_tests}
-use Rattle.std.proofs.lemmas.Grind.{common_steps}
-use Rattle.std.proofs.lemmas.List.{length-map, take_all}
-use Rattle.std.proofs.lemmas.List.Sums.{sum_by_more}
-use Rattle.std.proofs.lemmas.Slice.Zip.{get_or-zip, length-zip}
-use Rattle.std.specs.List.{sum_by, zip}
-use Rattle.std.specs.Prelude.{◌==◌, count_by}
-use Rattle.xh_arena.specs.Views.{LotOf}
-use Rattle.xh_place.specs.declared.body.Body.{Body}
-use Rattle.xh_books.specs.inner.Steps.{lens_of}
-use Rattle.xh_books.proofs.flight.line_of.Goals.{then-words-k, else-words-k}
+use Rattle.xh_books.proofs.Common.{Body, List, LotOf, ap, arith, common_steps, cond, count_by, get_or-zip, length, length-map, length-zip, lens_of, nat_tests, sum_by, sum_by_more, take, take_all}
+use Rattle.xh_books.proofs.Common.{zip, ℕ, ◌*◌, ◌+◌, ◌<◌, ◌==◌, ◌∙◌, ◌≡◌}
+use Rattle.xh_books.proofs.flight.line_of.Goals.{else-words-k, then-words-k}
 use Rattle.xh_books.proofs.flight.line_of.Goals as goal
 
 pub loop-k-preserved : goal.loop-k-preserved

@@ -1,7 +1,4 @@
-use Rattle.std.proofs.Common.{◌≡◌, ◌+◌, ◌*◌, ◌≤◌, cond, take}
-use Rattle.std.specs.List.{sum_by, zip}
-use Rattle.std.specs.Prelude.{◌==◌, count_by}
-use Rattle.xh_books.specs.inner.Steps.{lens_of}
+use Rattle.xh_books.proofs.Common.{cond, count_by, lens_of, sum_by, take, zip, ◌*◌, ◌+◌, ◌==◌, ◌≡◌, ◌≤◌}
 use Rattle.xh_books.proofs.flight.line_of.Given as goal
 
 abbrev pub invariant-loop-k : goal.invariant-loop-k

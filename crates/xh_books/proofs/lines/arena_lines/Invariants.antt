@@ -1,5 +1,4 @@
-use Rattle.std.proofs.Common.{◌≡◌, All, map, take, length}
-use Rattle.xh_books.specs.inner.Steps.{AreBooks, closed_line}
+use Rattle.xh_books.proofs.Common.{All, AreBooks, closed_line, length, map, take, ◌≡◌}
 use Rattle.xh_books.proofs.lines.arena_lines.Given as goal
 
 abbrev pub invariant-loop-vault : goal.invariant-loop-vault

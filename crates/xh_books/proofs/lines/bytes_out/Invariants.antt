@@ -1,5 +1,4 @@
-use Rattle.std.proofs.Common.{◌≡◌, ◌*◌, ◌≤◌, take}
-use Rattle.std.specs.List.{sum_by}
+use Rattle.xh_books.proofs.Common.{sum_by, take, ◌*◌, ◌≡◌, ◌≤◌}
 use Rattle.xh_books.proofs.lines.bytes_out.Given as goal
 
 abbrev pub invariant-loop-line : goal.invariant-loop-line

@@ -1,7 +1,4 @@
-use Rattle.std.proofs.Common.{rules, arith, ◌≡◌, ◌+◌, vec_len, ap}
-use Rattle.std.specs.Vec.Iter.{into_iter_items, into_iter_len}
-use Rattle.xh_kernel.specs.Places.{places_of}
-use Rattle.xh_books.specs.inner.Steps.{IsSeatOfPlace}
+use Rattle.xh_books.proofs.Common.{IsSeatOfPlace, ap, arith, into_iter_items, into_iter_len, places_of, rules, vec_len, ◌+◌, ◌≡◌}
 use Rattle.xh_books.proofs.Ending.{fronts_more, one_ended, one_more}
 use Rattle.xh_books.proofs.lines.end_places.Goals as goal
 

@@ -1,6 +1,4 @@
-use Rattle.std.proofs.Common.{◌≡◌, ◌+◌, ◌≤◌, length, vec_len}
-use Rattle.std.specs.Vec.Iter.{into_iter_items, into_iter_len}
-use Rattle.xh_kernel.specs.Places.{places_of}
+use Rattle.xh_books.proofs.Common.{into_iter_items, into_iter_len, length, places_of, vec_len, ◌+◌, ◌≡◌, ◌≤◌}
 use Rattle.xh_books.proofs.Ending.{EndedSoFar, FrontsSoFar}
 use Rattle.xh_books.proofs.lines.end_places.Given as goal
 

@@ -1,8 +1,4 @@
-use Rattle.std.proofs.Common.{length, ap, ◌∙◌}
-use Rattle.std.proofs.lemmas.List.{length-replicate}
-use Rattle.xh_arena.specs.Views.{VaultOf}
-use Rattle.xh_place.specs.Bodies.{fits_in}
-use Rattle.xh_place.specs.declared.body.Body.{Body}
+use Rattle.xh_calls.proofs.Common.{Body, VaultOf, ap, fits_in, length, length-replicate, ◌∙◌}
 use Rattle.xh_calls.proofs.Made.{makings_more, new_vault}
 use Rattle.xh_calls.proofs.making.add_vault.Goals as goal
 

@@ -1,6 +1,4 @@
-use Rattle.std.proofs.Common.{rules, ◌≡◌, ◌+◌, ◌∷◌, ◌++◌, [], map, length, ◌∙◌}
-use Rattle.xh_calls.specs.Tallies.{fresh_tally}
-use Rattle.xh_calls.specs.inner.Making.{IsBundle}
+use Rattle.xh_calls.proofs.Common.{IsBundle, [], fresh_tally, length, map, rules, ◌++◌, ◌+◌, ◌∙◌, ◌∷◌, ◌≡◌}
 use Rattle.xh_calls.proofs.Lists.{each_push}
 use Rattle.xh_calls.proofs.Fresh.{fresh_more}
 use Rattle.xh_calls.proofs.making.deal_tallies.Goals as goal

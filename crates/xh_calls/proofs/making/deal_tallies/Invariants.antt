@@ -1,10 +1,5 @@
-use Rattle.std.proofs.Common.{◌≡◌, ℕ, ◌+◌, ◌<◌, ◌∷◌, ◌++◌, [], length, vec_len}
-use Rattle.std.specs.Prelude.{slice_index_or}
-use Rattle.std.specs.Vec.Iter.{into_iter_items, into_iter_len}
-use Rattle.xh_arena.specs.Views.{TallyOf}
+use Rattle.xh_calls.proofs.Common.{AreBundles, IsBundle, TallyOf, [], fresh_tally, into_iter_items, into_iter_len, length, slice_index_or, vec_len, ℕ, ◌++◌, ◌+◌, ◌<◌, ◌∷◌, ◌≡◌}
 use Rattle.xh_calls.specs.declared.making.Bundle.{Bundle}
-use Rattle.xh_calls.specs.Tallies.{fresh_tally}
-use Rattle.xh_calls.specs.inner.Making.{IsBundle, AreBundles}
 use Rattle.xh_calls.proofs.making.deal_tallies.Given as goal
 
 abbrev pub invariant-loop-bundle : goal.invariant-loop-bundle

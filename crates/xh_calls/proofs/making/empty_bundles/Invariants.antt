@@ -1,5 +1,4 @@
-use Rattle.std.proofs.Common.{◌≡◌, length, []}
-use Rattle.xh_calls.specs.inner.Making.{AreBundles}
+use Rattle.xh_calls.proofs.Common.{AreBundles, [], length, ◌≡◌}
 use Rattle.xh_calls.proofs.making.empty_bundles.Given as goal
 
 abbrev pub invariant-loop-number : goal.invariant-loop-number

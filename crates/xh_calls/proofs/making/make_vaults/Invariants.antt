@@ -1,5 +1,4 @@
-use Rattle.std.proofs.Common.{◌≡◌, vec_len}
-use Rattle.xh_calls.specs.inner.Making.{AreBundles, AreMakings}
+use Rattle.xh_calls.proofs.Common.{AreBundles, AreMakings, vec_len, ◌≡◌}
 use Rattle.xh_calls.proofs.making.make_vaults.Given as goal
 
 abbrev pub invariant-loop : goal.invariant-loop

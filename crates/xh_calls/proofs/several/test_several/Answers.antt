@@ -1,8 +1,5 @@
-use Rattle.std.proofs.Common.{rules, [], ◌∷◌}
-use Rattle.xh_core.proofs.Firsts.{first_append}
-use Rattle.xh_core.specs.declared.refused.Refused.TheVariants.{Twice}
+use Rattle.xh_calls.proofs.Common.{Twice, [], each_end, first_append, rules, ◌∷◌}
 use Rattle.xh_core.specs.Several.{has_twice}
-use Rattle.xh_calls.specs.Several.{each_end}
 use Rattle.xh_calls.proofs.Started.{refused_tested}
 use Rattle.xh_calls.proofs.several.test_several.Goals as goal
 

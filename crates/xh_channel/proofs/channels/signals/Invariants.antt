@@ -1,4 +1,4 @@
-use Rattle.std.proofs.Common.{◌≡◌, length}
+use Rattle.xh_channel.proofs.Common.{length, ◌≡◌}
 use Rattle.xh_channel.proofs.channels.signals.Given as goal
 
 abbrev pub invariant-loop : goal.invariant-loop

@@ -1,10 +1,5 @@
-use Rattle.std.proofs.Common.{◌+◌, rules, arith, sym, ◌∙◌}
-use Rattle.std.proofs.lemmas.List.{length_push, map-append}
-use Rattle.xh_model.proofs.Direction.{numbers_join}
+use Rattle.xh_channel.proofs.Common.{arith, length_push, map-append, message, message_of, number, numbers_join, rules, sym, tag, waiting, ◌+◌, ◌∙◌}
 use Rattle.xh_model.proofs.InStep.{put_step}
-use Rattle.xh_channel.specs.Beside.{message_of}
-use Rattle.xh_channel.specs.Lines.{waiting}
-use Rattle.xh_channel.specs.Numbers.{message, number, tag}
 use Rattle.xh_channel.proofs.line.put_between.Goals as goal
 
 pub returns-clause-order : goal.returns-clause-order

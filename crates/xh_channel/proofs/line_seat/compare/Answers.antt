@@ -1,4 +1,4 @@
-use Rattle.std.proofs.Common.{◌≡◌, rules}
+use Rattle.xh_channel.proofs.Common.{rules, ◌≡◌}
 use Rattle.xh_channel.proofs.LineMoves.{has_word}
 use Rattle.xh_channel.proofs.LineSteps.{compares}
 use Rattle.xh_channel.proofs.line_seat.compare.Goals as goal

@@ -1,5 +1,4 @@
-use Rattle.std.proofs.Common.{◌≡◌, rules, ap, sym, ◌∙◌}
-use Rattle.xh_channel.specs.LineSeats.{LineView}
+use Rattle.xh_channel.proofs.Common.{LineView, ap, rules, sym, ◌∙◌, ◌≡◌}
 use Rattle.xh_channel.proofs.LineMoves.{has_word}
 use Rattle.xh_channel.proofs.LineViews.{joins}
 use Rattle.xh_channel.proofs.line_seat.join.Goals as goal

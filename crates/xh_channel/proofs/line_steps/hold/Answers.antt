@@ -1,7 +1,4 @@
-use Rattle.std.proofs.Common.{subst, ◌∙◌, ◌∷◌}
-use Rattle.std.specs.Prelude.{Option}
-use Rattle.xh_channel.specs.Lines.{Lined}
-use Rattle.xh_channel.specs.inner.LineRule.{IsNoted, LiesFor, holding}
+use Rattle.xh_channel.proofs.Common.{IsNoted, LiesFor, Lined, Option, holding, subst, ◌∙◌, ◌∷◌}
 use Rattle.xh_channel.proofs.LineMoves.{has_line}
 use Rattle.xh_channel.proofs.line_steps.hold.Goals as goal
 

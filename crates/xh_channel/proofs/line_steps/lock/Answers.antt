@@ -1,4 +1,4 @@
-use Rattle.std.proofs.Common.{◌≡◌, arith, ap, ◌∙◌}
+use Rattle.xh_channel.proofs.Common.{ap, arith, ◌∙◌, ◌≡◌}
 use Rattle.xh_channel.proofs.LineSteps.{locks}
 use Rattle.xh_channel.proofs.line_steps.lock.Goals as goal
 

@@ -1,4 +1,4 @@
-use Rattle.std.proofs.Common.{◌≡◌}
+use Rattle.xh_channel.proofs.Common.{◌≡◌}
 use Rattle.xh_channel.proofs.line_steps.lock.Given as goal
 
 abbrev pub invariant-loop : goal.invariant-loop

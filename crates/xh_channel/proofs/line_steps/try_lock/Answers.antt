@@ -1,5 +1,4 @@
-use Rattle.std.proofs.Common.{eqb}
-use prog.Atomic.{either}
+use Rattle.xh_channel.proofs.Common.{either, eqb}
 use Rattle.xh_channel.proofs.LineSteps.{locks, not_home}
 use Rattle.xh_channel.proofs.line_steps.try_lock.Goals as goal
 

@@ -1,4 +1,4 @@
-use Rattle.std.proofs.Common.{rules}
+use Rattle.xh_channel.proofs.Common.{rules}
 use Rattle.xh_channel.proofs.Moves.{names}
 use Rattle.xh_channel.proofs.queue_end.with_log.Goals as goal
 

@@ -1,5 +1,4 @@
-use Rattle.std.proofs.Common.{ℕ, ◌<◌}
-use Rattle.xh_model.specs.Rows.{row_at, IsRow}
+use Rattle.xh_core.proofs.Common.{IsRow, row_at, ℕ, ◌<◌}
 use Rattle.xh_core.proofs.contract.is_in_range.Given as goal
 
 abbrev pub invariant-loop-at : goal.invariant-loop-at

@@ -1,5 +1,4 @@
-use Rattle.std.proofs.Common.{sym, ◌∙◌}
-use Rattle.xh_model.proofs.InStep.{put_step}
+use Rattle.xh_core.proofs.Common.{put_step, sym, ◌∙◌}
 use Rattle.xh_core.proofs.talk.put_tag.Goals as goal
 
 pub returns-clause-step : goal.returns-clause-step

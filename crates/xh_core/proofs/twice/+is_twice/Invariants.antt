@@ -1,4 +1,4 @@
-use Rattle.std.proofs.Common.{length}
+use Rattle.xh_core.proofs.Common.{length}
 use Rattle.xh_core.proofs.twice.+is_twice.Given as goal
 
 abbrev pub decreases-is_twice : goal.decreases-is_twice

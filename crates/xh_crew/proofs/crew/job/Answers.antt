@@ -1,4 +1,4 @@
-use Rattle.std.proofs.Common.{ap, refl}
+use Rattle.xh_crew.proofs.Common.{ap, refl}
 use Rattle.xh_crew.proofs.crew.job.Goals as goal
 
 pub returns : goal.returns

@@ -1,4 +1,4 @@
-use Rattle.std.proofs.Common.{arith, suc}
+use Rattle.xh_crew.proofs.Common.{arith, suc}
 use Rattle.std.proofs.lemmas.Result.{MatchResult-at_ok, MatchResult-weaker}
 use Rattle.xh_crew.proofs.Plays.{zips_begin, zips_end, zips_more}
 use Rattle.xh_crew.proofs.crew.join_all.Goals as goal

@@ -1,8 +1,6 @@
-use Rattle.std.proofs.Common.{ℕ, MatchResult}
-use Rattle.std.specs.Vec.Iter.{into_iter_items}
+use Rattle.xh_crew.proofs.Common.{Joins, MatchResult, into_iter_items, ℕ}
 use Rattle.xh_crew.proofs.Plays.{ZipsOn}
 use Rattle.xh_crew.specs.Stops.{Stops}
-use Rattle.xh_crew.specs.inner.Jobs.{Joins}
 use Rattle.xh_crew.proofs.crew.join_all.Given as goal
 
 abbrev pub invariant-loop-hand : goal.invariant-loop-hand

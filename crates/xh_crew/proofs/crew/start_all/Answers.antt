@@ -1,4 +1,4 @@
-use Rattle.std.proofs.Common.{arith, add-one, rules}
+use Rattle.xh_crew.proofs.Common.{add-one, arith, rules}
 use Rattle.xh_crew.proofs.Plays.{zips_begin, zips_end, zips_more}
 use Rattle.xh_crew.proofs.crew.start_all.Goals as goal
 

@@ -1,8 +1,5 @@
-use Rattle.std.proofs.Common.{◌≤◌, ◌+◌}
-use Rattle.std.specs.Vec.Iter.{into_iter_items, into_iter_len}
-use Rattle.xh_model.specs.declared.limits.TheConstants.{PLACES}
+use Rattle.xh_crew.proofs.Common.{IsHand, PLACES, into_iter_items, into_iter_len, ◌+◌, ◌≤◌}
 use Rattle.xh_crew.proofs.Plays.{ZipsOn}
-use Rattle.xh_crew.specs.inner.Jobs.{IsHand}
 use Rattle.xh_crew.proofs.crew.start_all.Given as goal
 
 abbrev pub invariant-loop-machine : goal.invariant-loop-machine

@@ -1,4 +1,4 @@
-use Rattle.std.proofs.Common.{rules}
+use Rattle.xh_crew.proofs.Common.{rules}
 use Rattle.xh_crew.proofs.play.hear.Goals as goal
 
 pub returns-else-names_another : goal.returns-else-names_another

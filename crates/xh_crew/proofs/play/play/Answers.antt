@@ -1,4 +1,4 @@
-use Rattle.std.proofs.Common.{add-one, sym, ◌∙◌}
+use Rattle.xh_crew.proofs.Common.{add-one, sym, ◌∙◌}
 use Rattle.xh_crew.proofs.Plays.{continues_own, continues_other, continues_end}
 use Rattle.xh_crew.proofs.play.play.Goals as goal
 use Rattle.xh_crew.proofs.play.play.Goals.{then-is_in+else-not-before+in_ok-push, else-is_in}

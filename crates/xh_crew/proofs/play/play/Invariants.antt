@@ -1,7 +1,5 @@
-use Rattle.std.proofs.Common.{◌==◌, suc}
+use Rattle.xh_crew.proofs.Common.{DoesAmong, part_of, suc, world_of, ◌==◌}
 use Rattle.xh_crew.proofs.Plays.{Continues}
-use Rattle.xh_crew.specs.Plays.{DoesAmong, part_of}
-use Rattle.xh_session.specs.Worlds.{world_of}
 use Rattle.xh_crew.proofs.play.play.Given as goal
 
 abbrev pub invariant-loop-line : goal.invariant-loop-line

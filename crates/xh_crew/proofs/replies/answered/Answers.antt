@@ -1,13 +1,6 @@
-use Rattle.std.proofs.Common.{[], ◌∷◌, ◌≡◌, ◌+◌, ◌∙◌, Global, ap, arith, drop, map, refl, replicate, set, subst, sym}
-use Rattle.std.proofs.lemmas.List.{append-nil, length-map}
-use Rattle.std.proofs.Math.ListN.{drop_of_length-le}
-use Rattle.std.specs.Vec.Iter.{into_iter_items}
+use Rattle.xh_crew.proofs.Common.{Deals, Fits, Global, PLACES, Reply, [], ap, append-nil, arith, drop, drop_of_length-le, into_iter_items, length-map, map, no_bindings, queue_at, refl, replicate}
+use Rattle.xh_crew.proofs.Common.{set, subst, sym, told, ◌+◌, ◌∙◌, ◌∷◌, ◌≡◌}
 use Rattle.xh_crew.proofs.Plays.{deals_more, drop_at, fits_more, fits_some, part_within, told_more}
-use Rattle.xh_model.specs.declared.limits.TheConstants.{PLACES}
-use Rattle.xh_crew.specs.inner.Jobs.{Deals, Fits, queue_at}
-use Rattle.xh_crew.specs.Plays.{told}
-use Rattle.xh_script.specs.declared.reply.Reply.{Reply}
-use Rattle.xh_session.specs.Bindings.{no_bindings}
 use Rattle.xh_crew.proofs.replies.answered.Goals as goal
 
 pub next_of-reply-requires-clause-there : goal.next_of-reply-requires-clause-there
@@ -36,7 +29,11 @@ loop-line-preserved c =
       subst (Fits names (drop (l.line-index + 1) lines)) (sym new) (fits_more names line (drop (l.line-index + 1) lines) queues c.next_of-reply.result next.0 q fits),
       rw (new, c.in_ok-push.ensures.items) (deals_more names lines l.line-index line (record { line = line.number; reply = c.next_of-reply.result }) next.0 queues
           (map into_iter_items c.args.queues.items) l.answers.items c.loop-line-test.true (sym c.line-item.is) refl q l.invariant.1),
-      rw (c.tell.ensures.numbers, c.tell.ensures.names, c.in_ok-push.ensures.items) (told_more lines l.line-index line (record { line = line.number; reply = c.next_of-reply.result }) l.latest.numbers l.latest.names
+      rw (
+        c.tell.ensures.numbers,
+        c.tell.ensures.names,
+        c.in_ok-push.ensures.items,
+      ) (told_more lines l.line-index line (record { line = line.number; reply = c.next_of-reply.result }) l.latest.numbers l.latest.names
           (told (replicate PLACES 0) no_bindings lines) l.answers.items c.loop-line-test.true (sym c.line-item.is) l.invariant.2),
     )
 

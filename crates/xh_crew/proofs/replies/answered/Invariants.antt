@@ -1,10 +1,4 @@
-use Rattle.std.proofs.Common.{◌≡◌, List, ◌++◌, drop, map, replicate}
-use Rattle.std.specs.Vec.Iter.{into_iter_items}
-use Rattle.xh_model.specs.declared.limits.TheConstants.{PLACES}
-use Rattle.xh_crew.specs.inner.Jobs.{Deals, Fits}
-use Rattle.xh_crew.specs.Plays.{told}
-use Rattle.xh_script.specs.declared.reply.Answered.{Answered}
-use Rattle.xh_session.specs.Bindings.{no_bindings}
+use Rattle.xh_crew.proofs.Common.{Answered, Deals, Fits, List, PLACES, drop, into_iter_items, map, no_bindings, replicate, told, ◌++◌, ◌≡◌}
 use Rattle.xh_crew.proofs.replies.answered.Given as goal
 
 abbrev pub invariant-loop-line : goal.invariant-loop-line

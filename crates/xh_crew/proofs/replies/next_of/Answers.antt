@@ -1,6 +1,4 @@
-use Rattle.std.proofs.Common.{[], ◌≡◌, ◌∙◌, ap, arith, get_or, map, set, subst, sym}
-use Rattle.std.proofs.lemmas.List.{get_or-map, map-set}
-use Rattle.std.specs.Vec.Iter.{into_iter_items}
+use Rattle.xh_crew.proofs.Common.{[], ap, arith, get_or, get_or-map, into_iter_items, map, map-set, set, subst, sym, ◌∙◌, ◌≡◌}
 use Rattle.xh_crew.proofs.replies.next_of.Goals as goal
 
 pub returns : goal.returns

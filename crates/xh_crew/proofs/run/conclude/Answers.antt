@@ -1,11 +1,6 @@
-use Rattle.std.proofs.Common.{◌∙◌, ap, map, refl, replicate, subst}
-use Rattle.std.specs.Vec.Iter.{into_iter_items}
-use Rattle.xh_model.specs.declared.limits.TheConstants.{PLACES}
+use Rattle.xh_crew.proofs.Common.{AreAnswersTo, Deals, PLACES, ap, began, into_iter_items, map, names_by_place, no_bindings, queues_of, refl, replicate, subst, told, ◌∙◌}
 use Rattle.xh_crew.proofs.Plays.{dealt, deals_lines}
 use Rattle.xh_crew.proofs.Wholes.{all_played, fits_all}
-use Rattle.xh_crew.specs.inner.Jobs.{Deals, queues_of}
-use Rattle.xh_crew.specs.Plays.{AreAnswersTo, began, told}
-use Rattle.xh_session.specs.Bindings.{names_by_place, no_bindings}
 use Rattle.xh_crew.proofs.run.conclude.Goals as goal
 
 pub answered-requires : goal.answered-requires
@@ -22,7 +17,8 @@ returns-clause-played g c = λ first olds h.
     s.contracts.items c.in_ok-answers.answers.items refl (dealt p.ready s.lines.items (queues_of p) c.in_ok-answers.answers.items fits deals))
 
 pub returns-clause-answers : goal.returns-clause-answers
-returns-clause-answers g c = subst (λ ls. AreAnswersTo ls c.in_ok-answers.answers.items) c.deref.ensures.value (deals_lines c.args.played.ready c.deref.result.now (map into_iter_items c.in_ok-machines.queues.items) c.in_ok-answers.answers.items c.in_ok-answers.ensures.deals)
+returns-clause-answers g c = subst (λ ls. AreAnswersTo ls c.in_ok-answers.answers.items) c.deref.ensures.value
+    (deals_lines c.args.played.ready c.deref.result.now (map into_iter_items c.in_ok-machines.queues.items) c.in_ok-answers.answers.items c.in_ok-answers.ensures.deals)
 
 pub returns-clause-names : goal.returns-clause-names
 returns-clause-names g c =

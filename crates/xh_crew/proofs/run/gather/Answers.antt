@@ -1,8 +1,5 @@
-use Rattle.std.proofs.Common.{[], ◌∷◌, ◌++◌, ◌∙◌, ap, arith, map, refl, sym}
-use Rattle.std.proofs.lemmas.List.{append-nil, map_push, nil_from_length}
-use Rattle.std.specs.Vec.Iter.{into_iter_items}
+use Rattle.xh_crew.proofs.Common.{[], ap, append-nil, arith, into_iter_items, map, map_push, nil_from_length, refl, replies_of, sym, ◌++◌, ◌∙◌, ◌∷◌}
 use Rattle.xh_crew.proofs.Plays.{left_more}
-use Rattle.xh_crew.specs.inner.Jobs.{replies_of}
 use Rattle.xh_crew.proofs.run.gather.Goals as goal
 
 pub loop-done-init : goal.loop-done-init

@@ -1,6 +1,4 @@
-use Rattle.std.proofs.Common.{◌≡◌, ◌++◌, ◌∷◌, map}
-use Rattle.std.specs.Vec.Iter.{into_iter_items}
-use Rattle.xh_crew.specs.inner.Jobs.{replies_of}
+use Rattle.xh_crew.proofs.Common.{into_iter_items, map, replies_of, ◌++◌, ◌∷◌, ◌≡◌}
 use Rattle.xh_crew.proofs.run.gather.Given as goal
 
 abbrev pub invariant-loop-done : goal.invariant-loop-done

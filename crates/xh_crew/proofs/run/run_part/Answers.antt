@@ -1,4 +1,4 @@
-use Rattle.std.proofs.Common.{sym, ◌∙◌}
+use Rattle.xh_crew.proofs.Common.{sym, ◌∙◌}
 use Rattle.xh_crew.proofs.Plays.{continues_own, continues_other, continues_end}
 use Rattle.xh_crew.proofs.run.run_part.Goals as goal
 use Rattle.xh_crew.proofs.run.run_part.Goals.{then-is_in+in_ok-push, else-is_in}

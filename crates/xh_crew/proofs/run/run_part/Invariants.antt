@@ -1,7 +1,5 @@
-use Rattle.std.proofs.Common.{◌==◌}
+use Rattle.xh_crew.proofs.Common.{Does, part_of, world_of, ◌==◌}
 use Rattle.xh_crew.proofs.Plays.{Continues}
-use Rattle.xh_crew.specs.Plays.{Does, part_of}
-use Rattle.xh_session.specs.Worlds.{world_of}
 use Rattle.xh_crew.proofs.run.run_part.Given as goal
 
 abbrev pub invariant-loop-line : goal.invariant-loop-line

@@ -1,6 +1,4 @@
-use Rattle.std.proofs.Common.{◌≡◌, ◌<◌, ℕ}
-use Rattle.std.specs.Prelude.{slice_index_or}
-use Rattle.xh_kernel.specs.declared.scribe.Pens.{Pens}
+use Rattle.xh_kernel.proofs.Common.{Pens, slice_index_or, ℕ, ◌<◌, ◌≡◌}
 use Rattle.xh_kernel.proofs.finishing.are_in_order.Given as goal
 
 abbrev pub invariant-loop-place : goal.invariant-loop-place

@@ -1,8 +1,5 @@
-use Rattle.std.proofs.Common.{rules, ◌≡◌, ◌++◌, ◌∙◌, All, List, ap, drop, length, subst, take, true}
+use Rattle.xh_kernel.proofs.Common.{AccountOf, All, AreInOrder, AreSeen, HasLooked, List, Pens, ap, drop, glances_of, histories_of, length, rules, subst, take, true, ◌++◌, ◌∙◌, ◌≡◌}
 use Rattle.std.proofs.Math.Seq.{take-append_seam}
-use Rattle.xh_kernel.specs.declared.scribe.Pens.{Pens}
-use Rattle.xh_kernel.specs.Accounts.{AccountOf}
-use Rattle.xh_kernel.specs.Finished.{AreInOrder, HasLooked, glances_of, histories_of, AreSeen}
 use Rattle.xh_kernel.proofs.finishing.compare.Goals as goal
 
 pub returns-clause-seen : goal.returns-clause-seen

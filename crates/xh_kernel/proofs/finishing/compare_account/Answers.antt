@@ -1,8 +1,4 @@
-use Rattle.std.proofs.Common.{rules, ◌≡◌, ◌<◌, ◌∙◌, List, ap, get_or, length}
-use Rattle.std.proofs.lemmas.List.{set-get_or}
-use Rattle.std.specs.Prelude.{slice_set}
-use Rattle.xh_kernel.specs.declared.scribe.Pens.{Pens}
-use Rattle.xh_kernel.specs.Finished.{histories_of}
+use Rattle.xh_kernel.proofs.Common.{List, Pens, ap, get_or, histories_of, length, rules, set-get_or, slice_set, ◌<◌, ◌∙◌, ◌≡◌}
 use Rattle.xh_kernel.proofs.Compared.{one_seen, pens_at}
 use Rattle.xh_kernel.proofs.finishing.compare_account.Goals as goal
 

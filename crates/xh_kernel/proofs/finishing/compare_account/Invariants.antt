@@ -1,5 +1,4 @@
-use Rattle.std.proofs.Common.{◌≡◌}
-use Rattle.xh_kernel.specs.Finished.{histories_of}
+use Rattle.xh_kernel.proofs.Common.{histories_of, ◌≡◌}
 use Rattle.xh_kernel.proofs.Compared.{SeenSoFar}
 use Rattle.xh_kernel.proofs.finishing.compare_account.Given as goal
 

@@ -1,9 +1,5 @@
-use Rattle.std.proofs.Common.{rules, arith, ◌≡◌, ◌<◌, ◌≤◌, ◌∙◌, List, get_or, get_or-set_other, length, subst}
-use Rattle.std.proofs.lemmas.List.{get_or_default}
+use Rattle.xh_kernel.proofs.Common.{AccountOf, AreSeen, List, Pens, arith, get_or, get_or-set_other, get_or_default, histories_of, length, rules, subst, ◌<◌, ◌∙◌, ◌≡◌, ◌≤◌}
 use borrow.Author.Count.{below_more}
-use Rattle.xh_kernel.specs.declared.scribe.Pens.{Pens}
-use Rattle.xh_kernel.specs.Accounts.{AccountOf}
-use Rattle.xh_kernel.specs.Finished.{histories_of, AreSeen}
 use Rattle.xh_kernel.proofs.Compared.{same_tallies}
 use Rattle.xh_kernel.proofs.finishing.compare_accounts.Goals as goal
 

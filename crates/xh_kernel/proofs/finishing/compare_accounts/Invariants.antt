@@ -1,6 +1,4 @@
-use Rattle.std.proofs.Common.{◌≡◌, ◌<◌, ◌≤◌, ℕ, get_or}
-use Rattle.xh_kernel.specs.Accounts.{AccountOf}
-use Rattle.xh_kernel.specs.Finished.{histories_of, AreSeen, tallies_of}
+use Rattle.xh_kernel.proofs.Common.{AccountOf, AreSeen, get_or, histories_of, tallies_of, ℕ, ◌<◌, ◌≡◌, ◌≤◌}
 use Rattle.xh_kernel.proofs.finishing.compare_accounts.Given as goal
 
 abbrev pub invariant-loop-worker : goal.invariant-loop-worker

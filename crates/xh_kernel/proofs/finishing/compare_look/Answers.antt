@@ -1,11 +1,6 @@
-use Rattle.std.proofs.Common.{rules, arith, ◌≡◌, ◌<◌, ◌∙◌, List, [], ap, get_or, length, subst, sym}
-use Rattle.std.proofs.lemmas.List.{get_or-map, set-get_or}
-use Rattle.std.specs.Prelude.{slice_set}
+use Rattle.xh_kernel.proofs.Common.{List, LookOf, Pens, [], ap, arith, get_or, get_or-map, glances_of, length, rules, set-get_or, slice_set, subst, sym, ◌<◌, ◌∙◌, ◌≡◌}
 use borrow.Author.Count.{below_more}
 use Rattle.xh_glance.specs.Histories.{History, StartsWith, at}
-use Rattle.xh_glance.specs.Look.{LookOf}
-use Rattle.xh_kernel.specs.declared.scribe.Pens.{Pens}
-use Rattle.xh_kernel.specs.Finished.{glances_of}
 use Rattle.xh_kernel.proofs.finishing.compare_look.Goals as goal
 
 pub loop-place-preserved : goal.loop-place-preserved

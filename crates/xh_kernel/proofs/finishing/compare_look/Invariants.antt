@@ -1,6 +1,5 @@
-use Rattle.std.proofs.Common.{◌≡◌, ◌<◌, ℕ}
+use Rattle.xh_kernel.proofs.Common.{glances_of, ℕ, ◌<◌, ◌≡◌}
 use Rattle.xh_glance.specs.Histories.{StartsWith, at}
-use Rattle.xh_kernel.specs.Finished.{glances_of}
 use Rattle.xh_kernel.proofs.finishing.compare_look.Given as goal
 
 abbrev pub invariant-loop-place : goal.invariant-loop-place

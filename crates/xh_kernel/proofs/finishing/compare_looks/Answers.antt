@@ -1,9 +1,4 @@
-use Rattle.std.proofs.Common.{◌≡◌, All, ◌∙◌, List, refl, subst, sym}
-use Rattle.std.proofs.lemmas.List.Elements.{All-cons, All-tail}
-use Rattle.std.specs.Vec.Iter.{into_iter_items}
-use Rattle.xh_glance.specs.Look.{LookOf}
-use Rattle.xh_kernel.specs.declared.scribe.Pens.{Pens}
-use Rattle.xh_kernel.specs.Finished.{HasLooked, glances_of}
+use Rattle.xh_kernel.proofs.Common.{All, All-cons, All-tail, HasLooked, List, LookOf, Pens, glances_of, into_iter_items, refl, subst, sym, ◌∙◌, ◌≡◌}
 use Rattle.xh_kernel.proofs.finishing.compare_looks.Goals as goal
 
 pub loop-look-init : goal.loop-look-init

@@ -1,7 +1,4 @@
-use Rattle.std.proofs.Common.{◌≡◌, All}
-use Rattle.std.specs.Vec.Iter.{into_iter_items}
-use Rattle.xh_glance.specs.Look.{LookOf}
-use Rattle.xh_kernel.specs.Finished.{HasLooked, glances_of}
+use Rattle.xh_kernel.proofs.Common.{All, HasLooked, LookOf, glances_of, into_iter_items, ◌≡◌}
 use Rattle.xh_kernel.proofs.finishing.compare_looks.Given as goal
 
 abbrev pub invariant-loop-look : goal.invariant-loop-look

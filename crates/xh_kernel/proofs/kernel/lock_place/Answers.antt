@@ -1,5 +1,4 @@
-use Rattle.std.proofs.Common.{rules}
-use Rattle.xh_kernel.specs.Histories.{IsUnused}
+use Rattle.xh_kernel.proofs.Common.{IsUnused, rules}
 use Rattle.xh_kernel.proofs.Last.{history_first}
 use Rattle.xh_kernel.proofs.kernel.lock_place.Goals as goal
 

@@ -1,10 +1,5 @@
-use Rattle.std.proofs.Common.{rules, arith, ◌≡◌, ◌<◌, vec_len, ap, sym, ◌∙◌}
-use Rattle.std.specs.Vec.Iter.{into_iter_len}
-use Rattle.xh_glance.specs.Pen.{PenOf, fresh_pen}
+use Rattle.xh_kernel.proofs.Common.{Call, IsSeatAt, PenOf, ap, arith, first_of, fresh_pen, into_iter_len, rest_of, rules, sym, there, vec_len, ◌<◌, ◌∙◌, ◌≡◌}
 use Rattle.xh_history.specs.Histories as histories
-use Rattle.xh_calls.proofs.Lists.{first_of, rest_of, there}
-use Rattle.xh_kernel.specs.declared.call.Call.{Call}
-use Rattle.xh_kernel.specs.inner.Making.{IsSeatAt}
 use Rattle.xh_kernel.proofs.kernel.lock_places.Goals as goal
 
 pub loop-seat-init : goal.loop-seat-init

@@ -1,13 +1,7 @@
-use Rattle.std.proofs.Common.{◌≡◌, ◌+◌, ◌<◌, ℕ, vec_len}
-use Rattle.std.specs.Prelude.{slice_index_or}
-use Rattle.std.specs.Vec.Iter.{into_iter_items, into_iter_len}
-use Rattle.xh_glance.specs.Pen.{PenOf, fresh_pen}
+use Rattle.xh_kernel.proofs.Common.{Call, IsSeatAt, PLACES, PenOf, fresh_pen, into_iter_items, into_iter_len, slice_index_or, vec_len, ℕ, ◌+◌, ◌<◌, ◌≡◌}
 use Rattle.xh_history.specs.Histories as histories
-use Rattle.xh_model.specs.declared.limits.TheConstants.{PLACES}
 use Rattle.xh_place.specs.declared.body.Body.{Body}
 use Rattle.xh_records.specs.Seats.{Held}
-use Rattle.xh_kernel.specs.declared.call.Call.{Call}
-use Rattle.xh_kernel.specs.inner.Making.{IsSeatAt}
 use Rattle.xh_kernel.proofs.kernel.lock_places.Given as goal
 
 abbrev pub invariant-loop-seat : goal.invariant-loop-seat

@@ -1,11 +1,5 @@
-use Rattle.std.proofs.Common.{rules, arith, ◌≡◌, ◌<◌, ℕ, vec_len, length, ap, sym, ◌∙◌}
-use Rattle.std.specs.Vec.Iter.{into_iter_len}
-use Rattle.xh_calls.specs.inner.Making.{IsBundle}
-use Rattle.xh_calls.proofs.Lists.{each_push, first_of, rest_of}
-use Rattle.xh_arena.specs.Views.{VaultOf}
-use Rattle.xh_history.specs.Histories.{FrontOf, fresh_front}
-use Rattle.xh_kernel.specs.declared.call.Call.{Call}
-use Rattle.xh_kernel.specs.Accounts.{AccountOf, fresh}
+use Rattle.xh_kernel.proofs.Common.{AccountOf, Call, FrontOf, IsBundle, VaultOf, ap, arith, each_push, first_of, fresh_front, into_iter_len, length, rest_of, rules, sym, vec_len, ℕ, ◌<◌, ◌∙◌, ◌≡◌}
+use Rattle.xh_kernel.specs.Accounts.{fresh}
 use Rattle.xh_kernel.proofs.kernel.name_accounts.Goals as goal
 
 pub named-requires-clause-front : goal.named-requires-clause-front

@@ -1,12 +1,5 @@
-use Rattle.std.proofs.Common.{◌≡◌, ◌+◌, ◌<◌, ℕ, vec_len}
-use Rattle.std.specs.Prelude.{slice_index_or}
-use Rattle.std.specs.Vec.Iter.{into_iter_items, into_iter_len}
+use Rattle.xh_kernel.proofs.Common.{AreFresh, Call, FrontOf, IsBundle, VaultOf, fresh_front, into_iter_items, into_iter_len, slice_index_or, vec_len, ℕ, ◌+◌, ◌<◌, ◌≡◌}
 use Rattle.xh_calls.specs.declared.making.Bundle.{Bundle}
-use Rattle.xh_calls.specs.inner.Making.{IsBundle}
-use Rattle.xh_arena.specs.Views.{VaultOf}
-use Rattle.xh_history.specs.Histories.{FrontOf, fresh_front}
-use Rattle.xh_kernel.specs.declared.call.Call.{Call}
-use Rattle.xh_kernel.specs.Accounts.{AreFresh}
 use Rattle.xh_kernel.proofs.kernel.name_accounts.Given as goal
 
 abbrev pub invariant-loop-bundle : goal.invariant-loop-bundle

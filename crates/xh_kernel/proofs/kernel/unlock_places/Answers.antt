@@ -1,4 +1,4 @@
-use Rattle.std.proofs.Common.{rules}
+use Rattle.xh_kernel.proofs.Common.{rules}
 use Rattle.xh_kernel.proofs.Last.{kept_named, kept_push}
 use Rattle.xh_kernel.proofs.kernel.unlock_places.Goals as goal
 

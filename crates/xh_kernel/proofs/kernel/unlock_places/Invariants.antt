@@ -1,6 +1,4 @@
-use Rattle.std.proofs.Common.{◌≡◌, ◌+◌, vec_len}
-use Rattle.std.specs.Vec.Iter.{into_iter_len}
-use Rattle.xh_kernel.specs.Kept.{AreKept}
+use Rattle.xh_kernel.proofs.Common.{AreKept, into_iter_len, vec_len, ◌+◌, ◌≡◌}
 use Rattle.xh_kernel.proofs.kernel.unlock_places.Given as goal
 
 abbrev pub invariant-loop-lock : goal.invariant-loop-lock

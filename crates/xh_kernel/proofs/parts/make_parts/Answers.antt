@@ -1,4 +1,4 @@
-use Rattle.std.proofs.Common.{rules, ap, arith, ◌∙◌, ◌≡◌, ◌+◌}
+use Rattle.xh_kernel.proofs.Common.{ap, arith, rules, ◌+◌, ◌∙◌, ◌≡◌}
 use Rattle.xh_history.specs.Histories.{fresh_pen}
 use Rattle.xh_kernel.proofs.parts.make_parts.Goals as goal
 

@@ -1,4 +1,4 @@
-use Rattle.std.proofs.Common.{rules, ◌≡◌, ◌≤◌, length, ap, ◌∙◌}
+use Rattle.xh_kernel.proofs.Common.{ap, length, rules, ◌∙◌, ◌≡◌, ◌≤◌}
 use Rattle.xh_model.proofs.Keyed.{length-keys}
 use Rattle.xh_kernel.proofs.scribe.count_of.Goals as goal
 

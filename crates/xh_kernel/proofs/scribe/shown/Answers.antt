@@ -1,5 +1,4 @@
-use Rattle.std.proofs.Common.{rules, ◌≤◌}
-use Rattle.xh_place.specs.Places.{total_of}
+use Rattle.xh_kernel.proofs.Common.{rules, total_of, ◌≤◌}
 use Rattle.xh_kernel.proofs.scribe.shown.Goals as goal
 
 pub returns-clause-bounds : goal.returns-clause-bounds

@@ -5,8 +5,13 @@ use Rattle.xh_place.proofs.giving.accept_back.Goals as goal
 
 pub loop-k-init : goal.loop-k-init
 loop-k-init c =
-    let new : c.new-back.result.items ≡ [] = search rules in
-    (accepting_none c.args.direction c.args.given.now c.args.seat.now c.new-back.result.items new c.requires.gone c.requires.distinct, omega (arith, ap length new), omega arith, starts_same refl, (λ r a. absurd a))
+    let new : c.new-back.result.items ≡ [] = search rules in (
+      accepting_none c.args.direction c.args.given.now c.args.seat.now c.new-back.result.items new c.requires.gone c.requires.distinct,
+      omega (arith, ap length new),
+      omega arith,
+      starts_same refl,
+      (λ r a. absurd a),
+    )
 
 pub accept_into-requires-clause-own : goal.accept_into-requires-clause-own
 accept_into-requires-clause-own c =

@@ -68,11 +68,13 @@ pub returns-in_default-rest_of-clause-seen : goal.returns-in_default-rest_of-cla
 returns-in_default-rest_of-clause-seen g c =
     let seat = c.args.seat.now in let mid = c.claim.new.seat in let lent = c.rest_of.new.seat in
     let k = claimed g (goal.at.returns-in_default-rest_of-clause-seen g c).In-Ok in
-    starts_more seat.front (advanced _ seat mid c.in-Ok.ensures.claimed.4) (starts_more mid.front (starts_same (ap (λ h. h.front) c.rest_of.ensures.same)) (advanced _ lent c.vacate.new.seat c.vacate.ensures.vacated.1))
+    starts_more seat.front (advanced _ seat mid c.in-Ok.ensures.claimed.4)
+    (starts_more mid.front (starts_same (ap (λ h. h.front) c.rest_of.ensures.same)) (advanced _ lent c.vacate.new.seat c.vacate.ensures.vacated.1))
 
 pub returns-clause-seen : goal.returns-clause-seen
 returns-clause-seen g c =
     let h = c.requires.held in let t = c.in-Ok.ensures.claimed in
     let seat = c.args.seat.now in let mid = c.claim.new.seat in let lent = c.rest_of.new.seat in
     let at = goal.at.returns-clause-seen g c in let k = claimed g at.In-Ok in let j = read g at.After-rest_of k in
-    starts_more seat.front (advanced _ seat mid t.4) (starts_more mid.front (starts_same (ap (λ z. z.front) c.rest_of.ensures.same)) (starts_same (ap (λ z. z.front) (c.part.ensures.parted h.0 t.0 j.head j.tail).3)))
+    starts_more seat.front (advanced _ seat mid t.4)
+    (starts_more mid.front (starts_same (ap (λ z. z.front) c.rest_of.ensures.same)) (starts_same (ap (λ z. z.front) (c.part.ensures.parted h.0 t.0 j.head j.tail).3)))

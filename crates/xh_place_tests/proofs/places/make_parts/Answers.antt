@@ -1,35 +1,23 @@
-use Rattle.std.proofs.Common.{◌≡◌, ℕ, ◌<◌, length, sym, ap, ◌∙◌, subst, arith}
-use Rattle.std.proofs.lemmas.List.{length-map}
+use Rattle.std.proofs.Common.{◌≡◌, [], ◌∷◌, sym, ap, ◌∙◌, rules}
 use Rattle.xh_arena.specs.Views.{VaultOf}
-use Rattle.xh_place_tests.proofs.Made.{some_of_all}
+use Rattle.xh_place.specs.Bodies.{fits_in}
+use Rattle.xh_place.specs.declared.body.Body.{Body}
+use Rattle.xh_records.proofs.OneVault.{of_one_vault}
+use Rattle.xh_place_tests.proofs.Plain.{ids_one}
 use Rattle.xh_place_tests.proofs.places.make_parts.Goals as goal
 
-pub new-requires-clause-few : goal.new-requires-clause-few
-new-requires-clause-few c =
-    let m = c.in_ok-vaults.field-0 in let made = c.in_ok-vaults.ensures.made in
-    let named : length m.names ≡ length m.vaults.items = sym (ap length made.vaults) ∙ length-map m.vaults.items (λ (v : VaultOf). v.id) in
-    omega (arith, named, c.in_ok-vaults.ensures.count, c.args.measures.arenas_few.1)
-
-pub new-requires-clause-whole : goal.new-requires-clause-whole
-new-requires-clause-whole c =
-    let m = c.in_ok-vaults.field-0 in let made = c.in_ok-vaults.ensures.made in let n : ℕ = c.args.measures.count in
-    let named : length m.names ≡ length m.vaults.items = sym (ap length made.vaults) ∙ length-map m.vaults.items (λ (v : VaultOf). v.id) in
-    let some : 0 < length m.names = omega (arith, named, c.in_ok-vaults.ensures.count, c.args.measures.arenas_few.0) in
-    (subst (λ (k : ℕ). 0 < k) (sym made.long) (some_of_all (length m.names) n some c.args.measures.records_few.0), made.long)
+pub new-requires-2-clause-empty : goal.new-requires-2-clause-empty
+new-requires-2-clause-empty c =
+    of_one_vault _ fits_in _ c.args.count _ c.in-Ok.lots.items (λ b new. ap (λ (z : Body). fits_in z 0) new) (search rules) c.in-Ok.ensures.lots
 
 pub invariant_of-result : goal.invariant_of-result
-invariant_of-result c = record {
-  few = omega (arith, c.in_ok-vaults.ensures.count, c.args.measures.arenas_few.1);
-  units = (c.size-size.ensures.multiple, c.size-size.ensures.limit.1);
-}
-
-pub invariant_of-result-2 : goal.invariant_of-result-2
-invariant_of-result-2 c =
-    let seats = c.in-Ok.ensures.seats in let made = c.in_ok-vaults.ensures.made in let names = ap (λ s. s.names) c.in-Ok.ensures.shape in
+invariant_of-result c =
+    let seats = c.in-Ok-new.ensures.seats in
     let first = seats.1 0 c.first_two-first.result.0 c.first_two-first.ensures.0 in
-    let second = seats.1 1 c.first_two-first.result.1 c.first_two-first.ensures.1 in record {
+    let second = seats.1 1 c.first_two-first.result.1 c.first_two-first.ensures.1 in
+    let named : c.in-Ok-new.records.shape.names ≡ c.name.new.self.id ∷ [] = search rules in record {
       own = (first.0, second.0);
       bare = (first.2, second.2);
-      names = made.vaults ∙ sym names;
-      ids = made.tallies ∙ sym names;
+      names = sym named;
+      ids = ids_one c.in-Ok.vault.id c.in-Ok.tallies.items c.in-Ok.ensures.tallies ∙ ap (λ (v : VaultOf). v.id ∷ []) (sym c.name.ensures.same) ∙ sym named;
     }

@@ -6,7 +6,8 @@ use Rattle.xh_runner.proofs.worker.hire.Goals as goal
 
 pub invariant_of-push_reserved : goal.invariant_of-push_reserved
 invariant_of-push_reserved g c = record {
-  own = All-head (λ (x : LookOf). x.glances ≡ g.N.Names.parts.glances) c.in-Some-next.look _ (subst (All (λ (x : LookOf). x.glances ≡ g.N.Names.parts.glances)) c.in-Some-next.ensures.items c.loop-account.invariant.own);
+  own = All-head (λ (x : LookOf). x.glances ≡ g.N.Names.parts.glances) c.in-Some-next.look _
+      (subst (All (λ (x : LookOf). x.glances ≡ g.N.Names.parts.glances)) c.in-Some-next.ensures.items c.loop-account.invariant.own);
 }
 
 pub loop-account-preserved : goal.loop-account-preserved

@@ -1,5 +1,4 @@
-use Rattle.std.proofs.Common.{◌≡◌, drop}
-use Rattle.xh_script.specs.Forms.{form_among}
+use Rattle.xh_script.proofs.Common.{drop, form_among, ◌≡◌}
 use Rattle.xh_script.proofs.form.form_among.Given as goal
 
 abbrev pub invariant-loop-form : goal.invariant-loop-form

@@ -1,4 +1,4 @@
-use Rattle.std.proofs.Common.{◌≤◌, ◌+◌, ◌*◌, ◌++◌, drop, length, sym, ap, ◌∙◌, arith, append_assoc, append-nil, length-append, length-drop}
+use Rattle.xh_script.proofs.Common.{ap, append-nil, append_assoc, arith, drop, length, length-append, length-drop, sym, ◌*◌, ◌++◌, ◌+◌, ◌∙◌, ◌≤◌}
 use Rattle.xh_script.proofs.WordLemmas.{hex_at, hex_none}
 use Rattle.xh_script.proofs.hex.hex_bytes.Goals as goal
 

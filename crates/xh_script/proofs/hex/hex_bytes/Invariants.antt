@@ -1,5 +1,4 @@
-use Rattle.std.proofs.Common.{◌≡◌, ◌++◌, ◌*◌, drop, length}
-use Rattle.xh_script.specs.Words.{hex_bytes}
+use Rattle.xh_script.proofs.Common.{drop, hex_bytes, length, ◌*◌, ◌++◌, ◌≡◌}
 use Rattle.xh_script.proofs.hex.hex_bytes.Given as goal
 
 abbrev pub invariant-loop-i : goal.invariant-loop-i

@@ -1,5 +1,4 @@
-use Rattle.std.proofs.lemmas.List.{at_drop_more}
-use Rattle.xh_script.specs.Texts.{arena_texts}
+use Rattle.xh_script.proofs.Common.{arena_texts, at_drop_more}
 use Rattle.xh_script.proofs.Writings.{goes_on, stops_at}
 use Rattle.xh_script.proofs.ledgers.put_arenas.Goals as goal
 

@@ -1,5 +1,4 @@
-use Rattle.std.proofs.Common.{drop}
-use Rattle.xh_script.specs.Texts.{arena_texts}
+use Rattle.xh_script.proofs.Common.{arena_texts, drop}
 use Rattle.xh_script.proofs.Writings.{Wrote}
 use Rattle.xh_script.proofs.ledgers.put_arenas.Given as goal
 

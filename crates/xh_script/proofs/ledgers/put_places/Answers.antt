@@ -1,5 +1,4 @@
-use Rattle.std.proofs.lemmas.List.{at_drop_more}
-use Rattle.xh_script.specs.Texts.{place_texts}
+use Rattle.xh_script.proofs.Common.{at_drop_more, place_texts}
 use Rattle.xh_script.proofs.Writings.{goes_on, stops_at}
 use Rattle.xh_script.proofs.ledgers.put_places.Goals as goal
 

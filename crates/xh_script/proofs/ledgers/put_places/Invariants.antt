@@ -1,5 +1,4 @@
-use Rattle.std.proofs.Common.{drop}
-use Rattle.xh_script.specs.Texts.{place_texts}
+use Rattle.xh_script.proofs.Common.{drop, place_texts}
 use Rattle.xh_script.proofs.Writings.{Wrote}
 use Rattle.xh_script.proofs.ledgers.put_places.Given as goal
 

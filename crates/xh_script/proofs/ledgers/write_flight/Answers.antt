@@ -1,5 +1,4 @@
-use Rattle.std.proofs.lemmas.List.{at_drop_more}
-use Rattle.xh_script.specs.Texts.{flight_texts}
+use Rattle.xh_script.proofs.Common.{at_drop_more, flight_texts}
 use Rattle.xh_script.proofs.Writings.{goes_on, stops_at}
 use Rattle.xh_script.proofs.ledgers.write_flight.Goals as goal
 

@@ -1,5 +1,4 @@
-use Rattle.std.proofs.Common.{drop}
-use Rattle.xh_script.specs.Texts.{flight_texts}
+use Rattle.xh_script.proofs.Common.{drop, flight_texts}
 use Rattle.xh_script.proofs.Writings.{Wrote}
 use Rattle.xh_script.proofs.ledgers.write_flight.Given as goal
 

@@ -1,7 +1,5 @@
-use Rattle.std.proofs.Common.{sym, ◌∙◌, [], arith}
-use Rattle.std.proofs.lemmas.Bool.Decides.{nat_tests}
+use Rattle.xh_script.proofs.Common.{[], arith, is_filled, nat_tests, sym, ◌∙◌}
 use Rattle.std.proofs.lemmas.List.Folds.{list_all-map, list_all_at}
-use Rattle.xh_script.specs.Grammar.{is_filled}
 use Rattle.xh_script.proofs.line.are_filled.Goals as goal
 
 pub returns-then-is_empty : goal.returns-then-is_empty

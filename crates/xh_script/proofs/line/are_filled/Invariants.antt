@@ -1,6 +1,4 @@
-use Rattle.std.proofs.Common.{◌≡◌, true, take, map}
-use Rattle.std.specs.List.{list_all}
-use Rattle.xh_script.specs.Grammar.{is_filled}
+use Rattle.xh_script.proofs.Common.{is_filled, list_all, map, take, true, ◌≡◌}
 use Rattle.xh_script.proofs.line.are_filled.Given as goal
 
 abbrev pub invariant-loop-word : goal.invariant-loop-word

@@ -1,5 +1,4 @@
-use Rattle.std.proofs.Common.{◌≡◌, ◌≤◌, ◌+◌, ◌*◌, ◌^◌, take}
-use Rattle.xh_script.specs.Words.{value_of}
+use Rattle.xh_script.proofs.Common.{take, value_of, ◌*◌, ◌+◌, ◌^◌, ◌≡◌, ◌≤◌}
 use Rattle.xh_script.proofs.number.value_of.Given as goal
 
 -- also of bytes that are no digits

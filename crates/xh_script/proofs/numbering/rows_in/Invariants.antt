@@ -1,5 +1,4 @@
-use Rattle.std.proofs.Common.{◌≡◌, ◌≤◌, ◌++◌, drop, length}
-use Rattle.xh_script.specs.Numbering.{rows_in}
+use Rattle.xh_script.proofs.Common.{drop, length, rows_in, ◌++◌, ◌≡◌, ◌≤◌}
 use Rattle.xh_script.proofs.numbering.rows_in.Given as goal
 
 abbrev pub invariant-loop-word : goal.invariant-loop-word

@@ -1,4 +1,4 @@
-use Rattle.std.proofs.Common.{◌++◌, take, drop, sym, ap, ◌∙◌, append_assoc, take-append-drop}
+use Rattle.xh_script.proofs.Common.{ap, append_assoc, drop, sym, take, take-append-drop, ◌++◌, ◌∙◌}
 use Rattle.xh_script.proofs.Writings.{Writes-then}
 use Rattle.xh_script.proofs.put.put.Goals as goal
 

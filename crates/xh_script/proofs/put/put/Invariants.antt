@@ -1,5 +1,4 @@
-use Rattle.std.proofs.Common.{◌≡◌, ℕ, List, ◌++◌, length}
-use Rattle.xh_script.specs.Watching.{Writes}
+use Rattle.xh_script.proofs.Common.{List, Writes, length, ℕ, ◌++◌, ◌≡◌}
 use Rattle.xh_script.proofs.put.put.Given as goal
 
 abbrev pub invariant-loop-rest : goal.invariant-loop-rest

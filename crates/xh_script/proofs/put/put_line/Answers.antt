@@ -1,7 +1,4 @@
-use Rattle.std.proofs.Common.{map}
-use Rattle.std.proofs.lemmas.List.{at_drop_more, at_drop_all}
-use Rattle.xh_script.specs.Texts.{words_text}
-use Rattle.xh_script.specs.inner.Pieces.{piece_text}
+use Rattle.xh_script.proofs.Common.{at_drop_all, at_drop_more, map, piece_text, words_text}
 use Rattle.xh_script.proofs.Writings.{ends, goes_on, stops, stops_at}
 use Rattle.xh_script.proofs.put.put_line.Goals as goal
 

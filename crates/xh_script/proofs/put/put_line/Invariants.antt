@@ -1,6 +1,4 @@
-use Rattle.std.proofs.Common.{map, drop}
-use Rattle.xh_script.specs.Texts.{line_text, words_text}
-use Rattle.xh_script.specs.inner.Pieces.{piece_text}
+use Rattle.xh_script.proofs.Common.{drop, line_text, map, piece_text, words_text}
 use Rattle.xh_script.proofs.Writings.{Wrote}
 use Rattle.xh_script.proofs.put.put_line.Given as goal
 

@@ -1,5 +1,4 @@
-use Rattle.std.proofs.Common.{◌≡◌, ◌==◌, map, sym, ◌∙◌}
-use Rattle.std.specs.List.{slice_split}
+use Rattle.xh_script.proofs.Common.{map, slice_split, sym, ◌==◌, ◌∙◌, ◌≡◌}
 use Rattle.std.proofs.lemmas.Result.{err_from_is_err_and}
 use Rattle.xh_script.proofs.Readings.{goes_on, stops_at, lines_fit}
 use Rattle.xh_script.proofs.read.read_lines.Goals as goal

@@ -1,7 +1,4 @@
-use Rattle.std.proofs.Common.{◌≡◌, ◌≤◌, ◌+◌, ◌==◌, map, drop, length}
-use Rattle.std.specs.List.{slice_split}
-use Rattle.xh_script.specs.declared.limits.TheConstants.{MAX_SCRIPT}
-use Rattle.xh_script.specs.Scripts.{after_lines, nothing_read}
+use Rattle.xh_script.proofs.Common.{MAX_SCRIPT, after_lines, drop, length, map, nothing_read, slice_split, ◌+◌, ◌==◌, ◌≡◌, ◌≤◌}
 use Rattle.xh_script.proofs.read.read_lines.Given as goal
 
 abbrev pub invariant-loop-i : goal.invariant-loop-i

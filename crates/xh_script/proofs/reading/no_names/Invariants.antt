@@ -1,4 +1,4 @@
-use Rattle.std.proofs.Common.{◌≡◌, [], replicate}
+use Rattle.xh_script.proofs.Common.{[], replicate, ◌≡◌}
 use Rattle.xh_script.proofs.reading.no_names.Given as goal
 
 abbrev pub invariant-loop-made : goal.invariant-loop-made

@@ -1,5 +1,4 @@
-use Rattle.std.proofs.Common.{◌≡◌, ◌++◌, ◌*◌, drop, length}
-use Rattle.xh_script.specs.Texts.{hex_text}
+use Rattle.xh_script.proofs.Common.{drop, hex_text, length, ◌*◌, ◌++◌, ◌≡◌}
 use Rattle.xh_script.proofs.replies.hex_text.Given as goal
 
 abbrev pub invariant-loop-b : goal.invariant-loop-b

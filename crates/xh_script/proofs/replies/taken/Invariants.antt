@@ -1,7 +1,4 @@
-use Rattle.std.proofs.Common.{◌≡◌, ◌+◌, ◌∷◌, codes, length, map, take}
-use Rattle.std.specs.Fmt.{decimal}
-use Rattle.xh_script.specs.Texts.{length_text}
-use Rattle.xh_script.specs.inner.Pieces.{piece_text}
+use Rattle.xh_script.proofs.Common.{codes, decimal, length, length_text, map, piece_text, take, ◌+◌, ◌∷◌, ◌≡◌}
 use Rattle.xh_script.proofs.replies.taken.Given as goal
 
 abbrev pub invariant-loop-length : goal.invariant-loop-length

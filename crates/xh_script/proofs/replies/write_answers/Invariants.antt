@@ -1,5 +1,4 @@
-use Rattle.std.proofs.Common.{drop}
-use Rattle.xh_script.specs.Texts.{answer_texts}
+use Rattle.xh_script.proofs.Common.{answer_texts, drop}
 use Rattle.xh_script.proofs.Writings.{Wrote}
 use Rattle.xh_script.proofs.replies.write_answers.Given as goal
 

@@ -1,6 +1,4 @@
-use Rattle.std.proofs.Common.{◌+◌, sym, ap, ◌∙◌, get_or, arith, length-append}
-use Rattle.xh_script.specs.Forms.{sort_at}
-use Rattle.xh_script.specs.Sorts.{word_at}
+use Rattle.xh_script.proofs.Common.{ap, arith, get_or, length-append, sort_at, sym, word_at, ◌+◌, ◌∙◌}
 use Rattle.xh_script.proofs.WordLemmas.{no_word, words_more}
 use Rattle.xh_script.proofs.word.add_words.Goals as goal
 

@@ -1,6 +1,4 @@
-use Rattle.std.proofs.Common.{◌≡◌, ◌+◌, ◌++◌, ◌∷◌, Ok, drop, map, length}
-use Rattle.xh_script.specs.Steps.{◌>>=◌}
-use Rattle.xh_script.specs.Grammar.{words_from}
+use Rattle.xh_script.proofs.Common.{Ok, drop, length, map, words_from, ◌++◌, ◌+◌, ◌>>=◌, ◌∷◌, ◌≡◌}
 use Rattle.xh_script.proofs.word.add_words.Given as goal
 
 abbrev pub invariant-loop-word : goal.invariant-loop-word

@@ -1,5 +1,4 @@
-use Rattle.std.proofs.Common.{◌≡◌, []}
-use Rattle.std.specs.Prelude.{replicate}
+use Rattle.xh_serial.proofs.Common.{[], replicate, ◌≡◌}
 use Rattle.xh_serial.proofs.blocks.no_buffers.Given as goal
 
 abbrev pub invariant-loop : goal.invariant-loop

@@ -1,5 +1,4 @@
-use Rattle.std.proofs.Common.{◌≡◌, ◌≤◌, ◌*◌, ◌++◌, length, drop}
-use Rattle.xh_serial.specs.Machine.{carried}
+use Rattle.xh_serial.proofs.Common.{carried, drop, length, ◌*◌, ◌++◌, ◌≡◌, ◌≤◌}
 use Rattle.xh_serial.proofs.channels.carried.Given as goal
 
 abbrev pub invariant-loop-message : goal.invariant-loop-message

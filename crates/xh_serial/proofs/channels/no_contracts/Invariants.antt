@@ -1,5 +1,4 @@
-use Rattle.std.proofs.Common.{◌≡◌}
-use Rattle.std.specs.Prelude.{replicate, None}
+use Rattle.xh_serial.proofs.Common.{None, replicate, ◌≡◌}
 use Rattle.xh_serial.proofs.channels.no_contracts.Given as goal
 
 abbrev pub invariant-loop : goal.invariant-loop

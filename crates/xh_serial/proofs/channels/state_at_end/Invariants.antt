@@ -1,5 +1,4 @@
-use Rattle.std.proofs.Common.{◌≡◌, drop}
-use Rattle.xh_serial.specs.Machine.{drained_state, tags_of}
+use Rattle.xh_serial.proofs.Common.{drained_state, drop, tags_of, ◌≡◌}
 use Rattle.xh_serial.proofs.channels.state_at_end.Given as goal
 
 -- what is left makes of the state now what all makes of the first

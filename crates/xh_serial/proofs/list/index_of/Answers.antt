@@ -1,5 +1,4 @@
-use Rattle.std.proofs.Common.{◌∙◌, length, ap}
-use Rattle.std.specs.Prelude.{◌==◌, unwrap_or}
+use Rattle.xh_serial.proofs.Common.{ap, length, unwrap_or, ◌==◌, ◌∙◌}
 use Rattle.xh_serial.proofs.Closing.{first_or_length}
 use Rattle.xh_serial.proofs.list.index_of.Goals as goal
 

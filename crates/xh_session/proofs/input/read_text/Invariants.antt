@@ -1,6 +1,4 @@
-use Rattle.std.proofs.Common.{◌≤◌, ◌+◌, ◌-◌, length}
-use Rattle.xh_script.specs.declared.limits.TheConstants.{MAX_SCRIPT}
-use Rattle.xh_script.specs.Watching.{Reads}
+use Rattle.xh_session.proofs.Common.{MAX_SCRIPT, Reads, length, ◌+◌, ◌-◌, ◌≤◌}
 use Rattle.xh_session.proofs.input.read_text.Given as goal
 
 abbrev pub invariant-loop-room : goal.invariant-loop-room

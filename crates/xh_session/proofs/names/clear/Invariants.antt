@@ -1,5 +1,4 @@
-use Rattle.std.proofs.Common.{◌≡◌, ◌++◌, take, drop}
-use Rattle.xh_session.specs.Bindings.{cleared}
+use Rattle.xh_session.proofs.Common.{cleared, drop, take, ◌++◌, ◌≡◌}
 use Rattle.xh_session.proofs.names.clear.Given as goal
 
 abbrev pub invariant-loop-entry : goal.invariant-loop-entry

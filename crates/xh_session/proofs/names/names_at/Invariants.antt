@@ -1,6 +1,4 @@
-use Rattle.std.proofs.Common.{◌≡◌, ◌≤◌, length, map, take}
-use Rattle.std.specs.Vec.{vec_capacity}
-use Rattle.xh_session.specs.Bindings.{name_at}
+use Rattle.xh_session.proofs.Common.{length, map, name_at, take, vec_capacity, ◌≡◌, ◌≤◌}
 use Rattle.xh_session.proofs.names.names_at.Given as goal
 
 abbrev pub invariant-loop-process : goal.invariant-loop-process

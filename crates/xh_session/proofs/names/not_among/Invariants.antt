@@ -1,5 +1,4 @@
-use Rattle.std.proofs.Common.{◌≡◌, ◌≤◌, take, length}
-use Rattle.xh_session.specs.Bindings.{not_among}
+use Rattle.xh_session.proofs.Common.{length, not_among, take, ◌≡◌, ◌≤◌}
 use Rattle.xh_session.proofs.names.not_among.Given as goal
 
 abbrev pub invariant-loop-rec : goal.invariant-loop-rec

@@ -1,11 +1,6 @@
-use Rattle.std.proofs.Common.{◌≡◌, ℕ, Bool, true, false, List, Option, Result, Err, IsErrAnd}
+use Rattle.xh_session.proofs.Common.{Bool, Err, Fault, IsErrAnd, List, Option, Report, Result, Watched, WritesOrFails, false, text_of, told_text, true, ℕ, ◌≡◌}
 use Rattle.xh_script.proofs.Writings.{Writes-then, WritesOrFails-then, passes, stops}
-use Rattle.xh_script.specs.Watching.{WritesOrFails}
-use Rattle.xh_script.specs.declared.fault.Fault.{Fault}
-use Rattle.xh_script.specs.declared.watch.Watched.{Watched}
 use Rattle.xh_session.proofs.Ends.{flushed}
-use Rattle.xh_session.specs.Reports.{told_text, text_of}
-use Rattle.xh_session.specs.declared.report.Report.{Report}
 use Rattle.xh_session.proofs.report.write_report.Goals as goal
 
 -- a fault in the first part is one of the whole

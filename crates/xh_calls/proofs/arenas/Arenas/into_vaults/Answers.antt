@@ -1,4 +1,4 @@
-use Rattle.std.proofs.Common.{arith, ◌∙◌}
+use Rattle.xh_calls.proofs.Common.{arith, ◌∙◌}
 use Rattle.xh_calls.proofs.Taking.{take_all}
 use Rattle.xh_calls.proofs.arenas.Arenas.into_vaults.Goals as goal
 

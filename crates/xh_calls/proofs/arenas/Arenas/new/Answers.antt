@@ -1,6 +1,4 @@
-use Rattle.std.proofs.Common.{arith, All, sym, ap, ◌∙◌, subst}
-use Rattle.xh_calls.specs.Parts.{vault_names, IsOpen}
-use Rattle.xh_calls.specs.inner.Making.{AreFreshFrom}
+use Rattle.xh_calls.proofs.Common.{All, AreFreshFrom, IsOpen, ap, arith, subst, sym, vault_names, ◌∙◌}
 use Rattle.xh_calls.proofs.arenas.Arenas.new.Goals as goal
 
 pub next-requires : goal.next-requires

@@ -1,5 +1,4 @@
-use Rattle.std.proofs.Common.{rules, subst}
-use Rattle.xh_calls.specs.inner.Looking.{AreReady}
+use Rattle.xh_calls.proofs.Common.{AreReady, rules, subst}
 use Rattle.xh_calls.proofs.Looks.{ready_after, took}
 use Rattle.xh_calls.proofs.Same.{own_still}
 use Rattle.xh_calls.proofs.heap.Heap.+take_first.Goals as goal

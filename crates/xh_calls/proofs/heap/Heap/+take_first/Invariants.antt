@@ -1,4 +1,4 @@
-use Rattle.std.proofs.Common.{length}
+use Rattle.xh_calls.proofs.Common.{length}
 use Rattle.xh_calls.proofs.heap.Heap.+take_first.Given as goal
 
 abbrev pub decreases-take_first : goal.decreases-take_first

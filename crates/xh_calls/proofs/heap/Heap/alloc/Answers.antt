@@ -1,7 +1,4 @@
-use Rattle.std.proofs.Common.{rules, length}
-use Rattle.xh_core.proofs.Firsts.{first_append}
-use Rattle.xh_core.specs.Calls.{alloc_tests}
-use Rattle.xh_calls.specs.Places.{start}
+use Rattle.xh_calls.proofs.Common.{alloc_tests, first_append, length, rules, start}
 use Rattle.xh_calls.proofs.heap.Heap.alloc.Goals as goal
 
 pub returns-in_err-check_start-clause-made : goal.returns-in_err-check_start-clause-made

@@ -1,10 +1,4 @@
-use Rattle.std.proofs.Common.{rules, refl}
-use Rattle.std.proofs.lemmas.List.{places}
-use Rattle.xh_core.proofs.Firsts.{first_append}
-use Rattle.xh_core.specs.Calls.{end_tests}
-use Rattle.xh_place.specs.Places.{found}
-use Rattle.xh_calls.specs.Places.{start}
-use Rattle.xh_place.specs.Ending.{HasGivenBack}
+use Rattle.xh_calls.proofs.Common.{HasGivenBack, end_tests, first_append, found, places, refl, rules, start}
 use Rattle.xh_calls.proofs.Moved.{closed, lent_back, none_back}
 use Rattle.xh_calls.proofs.heap.Heap.close.Goals as goal
 

@@ -1,17 +1,18 @@
-use Rattle.std.proofs.Common.{◌≡◌, inl, inr, refl, subst, sym}
-use Rattle.std.specs.Prelude.{None}
-use Rattle.xh_core.specs.Refusing.{first_refusal}
-use Rattle.xh_place.specs.Places.{AreBlocks, PlaceOf}
-use Rattle.xh_calls.specs.Places.{start}
-use Rattle.xh_calls.specs.Wires.{HasLow}
+use Rattle.xh_calls.proofs.Common.{AreBlocks, HasLow, None, PlaceOf, first_refusal, inl, inr, refl, start, subst, sym, ◌≡◌}
 use Rattle.xh_calls.proofs.Moved.{none_back}
 use Rattle.xh_calls.proofs.Same.{stays_itself}
 use Rattle.xh_calls.proofs.Wiring.{closes_again}
 use Rattle.xh_calls.proofs.heap.Heap.close_again.Goals as goal
 
 pub returns-in-Err-clause-closed : goal.returns-in-Err-clause-closed
-returns-in-Err-clause-closed g c =
-    (c.args.place.now, stays_itself c.args.place.now, (stays_itself c.args.place.now).1, 0, inl ((refl, refl), inl (_, c.in-Err.ensures)), none_back c.args.till.now.tallies.items c.args.till.now.tallies.items refl)
+returns-in-Err-clause-closed g c = (
+  c.args.place.now,
+  stays_itself c.args.place.now,
+  (stays_itself c.args.place.now).1,
+  0,
+  inl ((refl, refl), inl (_, c.in-Err.ensures)),
+  none_back c.args.till.now.tallies.items c.args.till.now.tallies.items refl,
+)
 
 pub returns-then-has_low-clause-closed : goal.returns-then-has_low-clause-closed
 returns-then-has_low-clause-closed g c =
@@ -22,5 +23,11 @@ returns-then-has_low-clause-closed g c =
     (from, c.has_low.ensures.same, c.close-closed.ensures.same.0.3, d.0, d.1, d.2)
 
 pub returns-else-has_low-clause-closed : goal.returns-else-has_low-clause-closed
-returns-else-has_low-clause-closed g c =
-    (c.args.place.now, stays_itself c.args.place.now, c.has_low.ensures.same.1, 0, inl ((c.has_low.ensures.same.0, refl), inr (c.has_low.ensures.no c.if-has_low.false)), none_back c.args.till.now.tallies.items c.args.till.now.tallies.items refl)
+returns-else-has_low-clause-closed g c = (
+  c.args.place.now,
+  stays_itself c.args.place.now,
+  c.has_low.ensures.same.1,
+  0,
+  inl ((c.has_low.ensures.same.0, refl), inr (c.has_low.ensures.no c.if-has_low.false)),
+  none_back c.args.till.now.tallies.items c.args.till.now.tallies.items refl,
+)

@@ -1,13 +1,5 @@
-use Rattle.std.proofs.Common.{rules, ◌≡◌, ◌<◌, ◌/◌, length, subst}
-use Rattle.std.proofs.lemmas.List.{places}
-use Rattle.std.specs.Prelude.{MatchResult, OnOk}
-use Rattle.xh_core.proofs.Firsts.{first_append}
-use Rattle.xh_core.specs.Calls.{data_tests}
-use Rattle.xh_model.specs.declared.limits.TheConstants.{MAX_RECORDS}
-use Rattle.xh_place.specs.Places.{found}
-use Rattle.xh_place.specs.Tallies.{gave}
+use Rattle.xh_calls.proofs.Common.{MAX_RECORDS, MatchResult, OnOk, data_tests, first_append, found, gave, length, places, rules, start, subst, ◌/◌, ◌<◌, ◌≡◌}
 use Rattle.xh_records.specs.declared.shape.Shape.{Shape}
-use Rattle.xh_calls.specs.Places.{start}
 use Rattle.xh_calls.proofs.Moved.{lent_back, tallied}
 use Rattle.xh_calls.proofs.Started.{refused_tested, tested}
 use Rattle.xh_calls.proofs.heap.Heap.free.Goals as goal

@@ -1,12 +1,5 @@
-use Rattle.std.proofs.Common.{◌≡◌, ◌++◌, None, length, rules}
-use Rattle.xh_core.specs.Calls.{arena_tests}
-use Rattle.xh_core.specs.Refusing.{Tests, first_refusal}
-use Rattle.xh_core.specs.declared.refused.Refused.{Refused}
-use Rattle.xh_place.specs.Seen.{FindsFull}
+use Rattle.xh_calls.proofs.Common.{FindsFull, LacksSpace, None, Refused, Tests, arena_tests, first_refusal, length, rules, start, ⊤, ◌++◌, ◌≡◌}
 use Rattle.xh_place.specs.Starts.{start as starts}
-use Rattle.std.specs.Prelude.{⊤}
-use Rattle.xh_calls.specs.Places.{start}
-use Rattle.xh_calls.specs.inner.Opening.{LacksSpace}
 use Rattle.xh_calls.proofs.Opened.{listed_home, opened_home, why_home}
 use Rattle.xh_calls.proofs.heap.Heap.open.Goals as goal
 
@@ -20,7 +13,8 @@ returns-clause-opened g c =
           asked.result c.finish.result asked.ensures.opened c.finish.ensures end.ensures.ok.0 end.ensures.ok.1 end.ensures.ok.2;
       blocks = search rules;
       refused = search rules;
-      why = why_home tests others ⊤ _ _ asked.result c.finish.result c.in_ok-test_open.ensures.0 passed asked.ensures.why (λ (e : Refused) (h : LacksSpace g.N.Names.parts c.args.arena (FindsFull c.args.place.now asked.new.place c.args.arena) c.args.till.now.seen asked.new.till.seen e). h.0) c.finish.ensures;
+      why = why_home tests others ⊤ _ _ asked.result c.finish.result c.in_ok-test_open.ensures.0 passed asked.ensures.why
+          (λ (e : Refused) (h : LacksSpace g.N.Names.parts c.args.arena (FindsFull c.args.place.now asked.new.place c.args.arena) c.args.till.now.seen asked.new.till.seen e). h.0) c.finish.ensures;
     }
 
 pub returns-clause-ends : goal.returns-clause-ends

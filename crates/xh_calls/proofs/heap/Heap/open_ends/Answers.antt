@@ -1,8 +1,4 @@
-use Rattle.std.proofs.Common.{rules, ◌≡◌, ◌++◌, length, sym}
-use Rattle.std.proofs.lemmas.List.{places}
-use Rattle.xh_core.specs.Calls.{arena_tests}
-use Rattle.xh_place.specs.Ends.{Opens, at_home}
-use Rattle.xh_place.specs.Seen.{FindsFull}
+use Rattle.xh_calls.proofs.Common.{FindsFull, Opens, arena_tests, at_home, length, places, rules, sym, ◌++◌, ◌≡◌}
 use Rattle.xh_place.specs.Starts.{start as starts}
 use Rattle.xh_calls.proofs.Asking.{unopened}
 use Rattle.xh_calls.proofs.Moved.{lent_back}

@@ -1,7 +1,4 @@
-use Rattle.std.proofs.Common.{rules}
-use Rattle.std.proofs.lemmas.List.{places}
-use Rattle.xh_calls.specs.Wires.{toward_high}
-use Rattle.xh_place.specs.Ending.{HasGivenBack}
+use Rattle.xh_calls.proofs.Common.{HasGivenBack, places, rules, toward_high}
 use Rattle.xh_calls.proofs.Moved.{lent_back, received}
 use Rattle.xh_calls.proofs.heap.Heap.receive.Goals as goal
 

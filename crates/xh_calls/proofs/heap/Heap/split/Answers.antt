@@ -1,6 +1,4 @@
-use Rattle.xh_core.specs.Calls.{split_tests}
-use Rattle.xh_place.specs.Places.{found}
-use Rattle.xh_calls.specs.Places.{start}
+use Rattle.xh_calls.proofs.Common.{found, split_tests, start}
 use Rattle.xh_calls.proofs.Started.{passes}
 use Rattle.xh_calls.proofs.heap.Heap.split.Goals as goal
 

@@ -1,6 +1,4 @@
-use Rattle.std.proofs.Common.{rules, refl}
-use Rattle.std.proofs.lemmas.List.{places}
-use Rattle.xh_place.specs.Ending.{HasGivenBack}
+use Rattle.xh_calls.proofs.Common.{HasGivenBack, places, refl, rules}
 use Rattle.xh_calls.proofs.Moved.{lent_back, none_back, stopped}
 use Rattle.xh_calls.proofs.heap.Heap.stop.Goals as goal
 

@@ -1,8 +1,4 @@
-use Rattle.std.proofs.Common.{rules, refl}
-use Rattle.xh_core.proofs.Firsts.{first_append}
-use Rattle.xh_core.specs.Calls.{end_tests}
-use Rattle.xh_place.specs.Places.{found}
-use Rattle.xh_calls.specs.Places.{start}
+use Rattle.xh_calls.proofs.Common.{end_tests, first_append, found, refl, rules, start}
 use Rattle.xh_calls.proofs.Started.{passes}
 use Rattle.xh_calls.proofs.heap.Heap.take.Goals as goal
 

@@ -1,7 +1,4 @@
-use Rattle.std.proofs.Common.{rules, ◌≡◌}
-use Rattle.std.specs.Prelude.{None}
-use Rattle.xh_core.specs.Refusing.{first_refusal}
-use Rattle.xh_calls.specs.Several.{several_tests}
+use Rattle.xh_calls.proofs.Common.{None, first_refusal, rules, several_tests, ◌≡◌}
 use Rattle.xh_calls.proofs.Same.{stays_itself}
 use Rattle.xh_calls.proofs.heap.Heap.take_any.Goals as goal
 

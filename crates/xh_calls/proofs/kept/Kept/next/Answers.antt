@@ -1,8 +1,4 @@
-use Rattle.std.proofs.Common.{rules, ◌+◌, sym, ap, ◌∙◌, subst}
-use Rattle.xh_arena.specs.Views.{VaultOf}
-use Rattle.xh_history.specs.Histories.{PenOf}
-use Rattle.xh_calls.specs.Parts.{vault_names}
-use Rattle.xh_calls.specs.Vaults.{EndsIn}
+use Rattle.xh_calls.proofs.Common.{EndsIn, PenOf, VaultOf, ap, rules, subst, sym, vault_names, ◌+◌, ◌∙◌}
 use Rattle.xh_calls.proofs.Taking.{drop_cons}
 use Rattle.xh_calls.proofs.kept.Kept.next.Goals as goal
 

@@ -1,7 +1,4 @@
-use Rattle.std.proofs.Common.{rules, ◌≡◌, ◌<◌, length, ap, arith}
-use Rattle.std.specs.Vec.Iter.{into_iter_items}
-use Rattle.xh_arena.specs.Views.{VaultOf}
-use Rattle.xh_history.specs.Histories.{PenOf, fresh_pen}
+use Rattle.xh_calls.proofs.Common.{PenOf, VaultOf, ap, arith, fresh_pen, into_iter_items, length, rules, ◌<◌, ◌≡◌}
 use Rattle.xh_calls.proofs.Lists.{first_of, rest_of}
 use Rattle.xh_calls.proofs.kept.Kept.next_pen.Goals as goal
 

@@ -1,8 +1,4 @@
-use Rattle.std.proofs.Common.{◌∷◌, ◌++◌, [], ap, ◌∙◌}
-use Rattle.std.proofs.lemmas.List.{map_push}
-use Rattle.std.proofs.lemmas.List.Elements.{All-push}
-use Rattle.xh_arena.specs.Views.{VaultOf}
-use Rattle.xh_calls.specs.Parts.{IsOpen}
+use Rattle.xh_calls.proofs.Common.{All-push, IsOpen, VaultOf, [], ap, map_push, ◌++◌, ◌∙◌, ◌∷◌}
 use Rattle.xh_calls.proofs.Taking.{take_more}
 use Rattle.xh_calls.proofs.Vaulted.{known}
 use Rattle.xh_calls.proofs.kept.Kept.put_back.Goals as goal

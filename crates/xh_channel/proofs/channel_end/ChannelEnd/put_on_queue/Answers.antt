@@ -1,5 +1,4 @@
-use Rattle.std.proofs.Common.{rules, ◌∙◌, ap, inr, ◌++◌, ◌∷◌, []}
-use Rattle.xh_channel.specs.Numbers.{message}
+use Rattle.xh_channel.proofs.Common.{[], ap, inr, message, rules, ◌++◌, ◌∙◌, ◌∷◌}
 use Rattle.xh_channel.proofs.Ends.{state_stays}
 use Rattle.xh_channel.proofs.channel_end.ChannelEnd.put_on_queue.Goals as goal
 

@@ -1,6 +1,4 @@
-use Rattle.std.proofs.Common.{ap, subst, ◌∙◌}
-use Rattle.xh_channel.specs.Notes.{AgreesWith}
-use Rattle.xh_channel.specs.Queues.{Posted}
+use Rattle.xh_channel.proofs.Common.{AgreesWith, Posted, ap, subst, ◌∙◌}
 use Rattle.xh_channel.proofs.Ends.{agrees_by_line}
 use Rattle.xh_channel.proofs.channel_end.pair.compare_lines.Goals as goal
 

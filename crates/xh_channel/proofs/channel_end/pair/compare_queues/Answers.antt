@@ -1,6 +1,4 @@
-use Rattle.std.proofs.Common.{rules, ap, subst, ◌∙◌}
-use Rattle.xh_channel.specs.Notes.{AgreesWith}
-use Rattle.xh_channel.specs.Queues.{Posted}
+use Rattle.xh_channel.proofs.Common.{AgreesWith, Posted, ap, rules, subst, ◌∙◌}
 use Rattle.xh_channel.proofs.Ends.{agrees}
 use Rattle.xh_channel.proofs.channel_end.pair.compare_queues.Goals as goal
 

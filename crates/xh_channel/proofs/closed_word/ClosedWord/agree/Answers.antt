@@ -1,4 +1,4 @@
-use Rattle.std.proofs.Common.{rules}
+use Rattle.xh_channel.proofs.Common.{rules}
 use Rattle.xh_channel.proofs.ClosedSteps.{shown}
 use Rattle.xh_channel.proofs.closed_word.ClosedWord.agree.Goals as goal
 

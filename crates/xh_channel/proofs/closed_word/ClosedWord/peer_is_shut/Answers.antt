@@ -1,4 +1,4 @@
-use Rattle.std.proofs.Common.{rules, arith}
+use Rattle.xh_channel.proofs.Common.{arith, rules}
 use Rattle.xh_channel.proofs.ClosedSteps.{looks}
 use Rattle.xh_channel.proofs.closed_word.ClosedWord.peer_is_shut.Goals as goal
 

@@ -1,4 +1,4 @@
-use Rattle.std.proofs.Common.{[]}
+use Rattle.xh_channel.proofs.Common.{[]}
 use Rattle.xh_channel.proofs.ClosedSteps.{begins}
 use Rattle.xh_channel.proofs.closed_word.ClosedWords.new.Goals as goal
 

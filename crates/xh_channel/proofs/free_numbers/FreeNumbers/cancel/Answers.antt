@@ -1,4 +1,4 @@
-use Rattle.std.proofs.Common.{rules, sym}
+use Rattle.xh_channel.proofs.Common.{rules, sym}
 use Rattle.xh_channel.proofs.FreePairs.{placed_some}
 use Rattle.xh_channel.proofs.free_numbers.FreeNumbers.cancel.Goals as goal
 

@@ -1,5 +1,4 @@
-use Rattle.std.proofs.Common.{◌≡◌, ℕ, ◌<◌, false}
-use Rattle.xh_channel.specs.inner.FreeNumbers.{at_place, has_depth}
+use Rattle.xh_channel.proofs.Common.{at_place, false, has_depth, ℕ, ◌<◌, ◌≡◌}
 use Rattle.xh_channel.proofs.free_numbers.FreeNumbers.lowest.Given as goal
 
 abbrev pub invariant-loop-at : goal.invariant-loop-at

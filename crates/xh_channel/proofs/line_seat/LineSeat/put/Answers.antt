@@ -1,9 +1,4 @@
-use Rattle.std.proofs.Common.{◌≡◌, rules, sym, ap, subst, ◌∙◌}
-use Rattle.std.specs.Prelude.{Some, OnErr}
-use Rattle.xh_channel.specs.Beside.{IsOf}
-use Rattle.xh_channel.specs.Lines.{PutsOn}
-use Rattle.xh_channel.specs.LineSeats.{LineView, PutsBy}
-use Rattle.xh_channel.specs.inner.LineRule.{IsSettled, line_view}
+use Rattle.xh_channel.proofs.Common.{IsOf, IsSettled, LineView, OnErr, PutsBy, PutsOn, Some, ap, line_view, rules, subst, sym, ◌∙◌, ◌≡◌}
 use Rattle.xh_channel.proofs.LineMoves.{done_here, put_done, slot_first, still_held, view_after}
 use Rattle.xh_channel.proofs.line_seat.LineSeat.put.Goals as goal
 

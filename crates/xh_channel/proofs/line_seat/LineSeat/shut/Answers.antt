@@ -1,8 +1,4 @@
-use Rattle.std.proofs.Common.{rules, sym, ap, subst, ◌∙◌}
-use Rattle.std.specs.Prelude.{Some}
-use Rattle.xh_channel.specs.Lines.{Shuts}
-use Rattle.xh_channel.specs.LineSeats.{LineView, ShutsBy}
-use Rattle.xh_channel.specs.inner.LineRule.{IsSettled, line_view}
+use Rattle.xh_channel.proofs.Common.{IsSettled, LineView, Shuts, ShutsBy, Some, ap, line_view, rules, subst, sym, ◌∙◌}
 use Rattle.xh_channel.proofs.LineMoves.{done_here, shut_done, slot_first, still_held, view_after}
 use Rattle.xh_channel.proofs.line_seat.LineSeat.shut.Goals as goal
 

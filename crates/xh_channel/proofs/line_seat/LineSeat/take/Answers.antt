@@ -1,8 +1,4 @@
-use Rattle.std.proofs.Common.{◌≡◌, rules, sym, ap, subst, ◌∙◌}
-use Rattle.std.specs.Prelude.{Some, OnErr}
-use Rattle.xh_channel.specs.Lines.{TakesOn}
-use Rattle.xh_channel.specs.LineSeats.{LineView, TakesBy}
-use Rattle.xh_channel.specs.inner.LineRule.{IsSettled, line_view}
+use Rattle.xh_channel.proofs.Common.{IsSettled, LineView, OnErr, Some, TakesBy, TakesOn, ap, line_view, rules, subst, sym, ◌∙◌, ◌≡◌}
 use Rattle.xh_channel.proofs.LineMoves.{done_here, take_done, slot_first, still_held, view_after}
 use Rattle.xh_channel.proofs.line_seat.LineSeat.take.Goals as goal
 

@@ -1,5 +1,4 @@
-use Rattle.std.proofs.Common.{ap, ◌∙◌}
-use Rattle.xh_channel.specs.QueueEnds.{QueueView}
+use Rattle.xh_channel.proofs.Common.{QueueView, ap, ◌∙◌}
 use Rattle.xh_channel.proofs.Moves.{gets, receiver_learns}
 use Rattle.xh_channel.proofs.queue_end.QueueEnd.pop.Goals as goal
 

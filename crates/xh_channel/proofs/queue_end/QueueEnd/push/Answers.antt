@@ -1,6 +1,4 @@
-use Rattle.std.proofs.Common.{suc, length, ap, subst, sym, ◌∙◌}
-use Rattle.xh_channel.specs.Beside.{IsOf}
-use Rattle.xh_channel.specs.QueueEnds.{QueueView}
+use Rattle.xh_channel.proofs.Common.{IsOf, QueueView, ap, length, subst, suc, sym, ◌∙◌}
 use Rattle.xh_channel.proofs.Moves.{sender_learns, sends}
 use Rattle.xh_channel.proofs.queue_end.QueueEnd.push.Goals as goal
 

@@ -1,5 +1,4 @@
-use Rattle.std.proofs.Common.{◌≡◌, drop}
-use Rattle.xh_model.specs.Rows.{allowed}
+use Rattle.xh_core.proofs.Common.{allowed, drop, ◌≡◌}
 use Rattle.xh_core.proofs.contract.Contract.allows.Given as goal
 
 abbrev pub invariant-loop-row : goal.invariant-loop-row

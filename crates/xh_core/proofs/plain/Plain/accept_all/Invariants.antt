@@ -1,5 +1,4 @@
-use Rattle.std.proofs.Common.{◌≡◌, drop}
-use Rattle.xh_core.specs.Several.{accept_all}
+use Rattle.xh_core.proofs.Common.{accept_all, drop, ◌≡◌}
 use Rattle.xh_core.proofs.plain.Plain.accept_all.Given as goal
 
 abbrev pub invariant-loop-r : goal.invariant-loop-r

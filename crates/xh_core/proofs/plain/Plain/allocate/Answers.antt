@@ -1,7 +1,4 @@
-use Rattle.std.proofs.Common.{◌≡◌, ◌∙◌, ◌/◌, ◌<◌, ℕ, sym, ap, subst, true}
-use Rattle.xh_model.specs.declared.event.Holder.TheVariants.{Process}
-use Rattle.xh_model.specs.declared.event.Event.TheVariants.{Claim, Vacate}
-use Rattle.xh_model.specs.Store.{Store, IsLawful, holds, is_known, len, after}
+use Rattle.xh_core.proofs.Common.{Claim, IsLawful, Process, Store, Vacate, after, ap, holds, is_known, len, subst, sym, true, ℕ, ◌/◌, ◌<◌, ◌∙◌, ◌≡◌}
 use Rattle.xh_core.proofs.Claiming.{Claimed, claimed, unclaimed, same_space, carve-owners, gained_one}
 use Rattle.xh_core.proofs.Stores.{same_len}
 use Rattle.xh_core.proofs.plain.Plain.allocate.Goals as goal

@@ -1,6 +1,4 @@
-use Rattle.std.proofs.Common.{◌∙◌, ap, subst, refl, arith, Some, None}
-use Rattle.xh_model.specs.declared.event.Event.TheVariants.{Vacate}
-use Rattle.xh_model.specs.Store.{IsLawful, after}
+use Rattle.xh_core.proofs.Common.{IsLawful, None, Some, Vacate, after, ap, arith, refl, subst, ◌∙◌}
 use Rattle.xh_core.proofs.Pairs.{TwoClaimed, claimed_two, pair_room, paired}
 use Rattle.xh_core.proofs.plain.Plain.allocate_ends.Goals as goal
 use Rattle.xh_core.proofs.plain.Plain.allocate_ends.Goals.{In-Some}

@@ -1,9 +1,5 @@
-use Rattle.std.proofs.Common.{◌≡◌, ◌∙◌, sym, true}
-use Rattle.xh_model.specs.Store.{Store, is_known, len, owner}
-use Rattle.xh_model.proofs.Changed.{known_there}
-use Rattle.xh_model.proofs.Lawful.{owner_lawful}
+use Rattle.xh_core.proofs.Common.{Store, is_known, known_there, len, owner, owner_lawful, store_of, sym, true, ◌∙◌, ◌≡◌}
 use Rattle.xh_core.proofs.Owning.{has_bytes, owner_there, room_after, totals_handed}
-use Rattle.xh_core.specs.View.{store_of}
 use Rattle.xh_core.proofs.plain.Plain.assign.Goals as goal
 use Rattle.xh_core.proofs.plain.Plain.assign.Goals.{After-holder-last}
 

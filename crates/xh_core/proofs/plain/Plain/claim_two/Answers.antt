@@ -1,7 +1,4 @@
-use Rattle.std.proofs.Common.{◌≡◌, ◌∙◌, ap, sym, Some}
-use Rattle.xh_model.specs.declared.event.Event.TheVariants.{Vacate}
-use Rattle.xh_model.specs.Store.{after}
-use Rattle.xh_core.specs.Space.{free_record}
+use Rattle.xh_core.proofs.Common.{Some, Vacate, after, ap, free_record, sym, ◌∙◌, ◌≡◌}
 use Rattle.xh_core.proofs.Claiming.{IsFree, free_is, unclaimed}
 use Rattle.xh_core.proofs.plain.Plain.claim_two.Goals as goal
 

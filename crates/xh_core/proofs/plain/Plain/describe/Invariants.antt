@@ -1,5 +1,4 @@
-use Rattle.std.proofs.Common.{◌≡◌, take}
-use Rattle.xh_core.specs.Several.{described}
+use Rattle.xh_core.proofs.Common.{described, take, ◌≡◌}
 use Rattle.xh_core.proofs.plain.Plain.describe.Given as goal
 
 abbrev pub invariant-loop-r : goal.invariant-loop-r

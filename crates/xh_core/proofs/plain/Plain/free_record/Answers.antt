@@ -1,9 +1,5 @@
-use Rattle.std.proofs.Common.{◌≡◌, ◌+◌, ◌*◌, ◌<◌, length, ap, sym, ◌∙◌}
-use Rattle.std.specs.Prelude.{Option, ℕ, option_map}
-use Rattle.xh_model.specs.Store.{Store}
-use Rattle.xh_core.specs.Space.{free_record}
+use Rattle.xh_core.proofs.Common.{Option, Store, ap, free_record, length, option_map, store_of, sym, ℕ, ◌*◌, ◌+◌, ◌<◌, ◌∙◌, ◌≡◌}
 use Rattle.xh_core.proofs.Claiming.{found_free}
-use Rattle.xh_core.specs.View.{store_of}
 use Rattle.xh_core.proofs.plain.Plain.free_record.Goals as goal
 use Rattle.xh_core.proofs.plain.Plain.free_record.Goals.{After-first_free}
 

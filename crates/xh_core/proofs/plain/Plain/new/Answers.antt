@@ -1,9 +1,5 @@
-use Rattle.std.proofs.Common.{◌≡◌, ◌∙◌, ◌*◌, ◌<◌, ℕ, rules, ap, length, sym, subst}
-use Rattle.std.specs.Prelude.{None, replicate}
-use Rattle.xh_model.specs.Store.{Store, arena_at, new_store, IsLawful}
-use Rattle.xh_model.specs.Config.{IsConfig}
-use Rattle.xh_core.specs.inner.Owning.{AreTotals}
-use Rattle.xh_core.specs.Wearing.{AreCarved}
+use Rattle.xh_core.proofs.Common.{AreCarved, AreTotals, IsConfig, IsLawful, None, Store, ap, arena_at, length, replicate, rules, subst, sym, ℕ, ◌*◌, ◌<◌, ◌∙◌, ◌≡◌}
+use Rattle.xh_model.specs.Store.{new_store}
 use Rattle.xh_core.proofs.FreshPlain.{new_lawful, new_records, new_carved, new_totals}
 use Rattle.xh_core.proofs.plain.Plain.new.Goals as goal
 

@@ -1,6 +1,5 @@
-use Rattle.xh_model.specs.declared.event.Holder.TheVariants.{Process}
+use Rattle.xh_core.proofs.Common.{Process, store_of}
 use Rattle.xh_core.proofs.Owning.{few_bytes}
-use Rattle.xh_core.specs.View.{store_of}
 use Rattle.xh_core.proofs.plain.Plain.owned.Goals as goal
 
 pub returns-clause-most : goal.returns-clause-most

@@ -1,7 +1,4 @@
-use Rattle.std.proofs.Common.{◌≡◌, ◌+◌, ◌∙◌, ◌<◌, ℕ, arith, inl, inr, sym, ap, subst, true}
-use Rattle.std.proofs.lemmas.Bool.{cases_eq}
-use Rattle.xh_model.specs.declared.event.Event.TheVariants.{Claim, Cut}
-use Rattle.xh_model.specs.Store.{Store, IsLawful, len, can, after}
+use Rattle.xh_core.proofs.Common.{Claim, Cut, IsLawful, Store, after, ap, arith, can, cases_eq, inl, inr, len, subst, sym, true, ℕ, ◌+◌, ◌<◌, ◌∙◌, ◌≡◌}
 use Rattle.xh_core.proofs.Claiming.{Claimed, claimed, apart, can_cut, cut-owners, gained_one}
 use Rattle.xh_core.proofs.Stores.{same_len}
 use Rattle.xh_core.proofs.plain.Plain.part.Goals as goal

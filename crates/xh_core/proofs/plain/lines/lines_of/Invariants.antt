@@ -1,5 +1,4 @@
-use Rattle.std.proofs.Common.{◌≡◌, ◌+◌, take, map}
-use Rattle.std.specs.List.{All}
+use Rattle.xh_core.proofs.Common.{All, map, take, ◌+◌, ◌≡◌}
 use Rattle.xh_core.specs.ArenaLines.{arena_line}
 use Rattle.xh_core.proofs.plain.lines.lines_of.Given as goal
 

@@ -1,6 +1,4 @@
-use Rattle.std.proofs.Common.{◌≡◌, ◌≤◌, ◌*◌, take}
-use Rattle.std.specs.List.{sum_by}
-use Rattle.xh_model.specs.Cover.{bytes_out}
+use Rattle.xh_core.proofs.Common.{bytes_out, sum_by, take, ◌*◌, ◌≡◌, ◌≤◌}
 use Rattle.xh_core.proofs.plain.sums.sum_of.Given as goal
 
 abbrev pub invariant-loop-arena : goal.invariant-loop-arena

@@ -1,5 +1,4 @@
-use Rattle.std.proofs.Common.{subst}
-use Rattle.xh_core.specs.Talks.{AreInStep}
+use Rattle.xh_core.proofs.Common.{AreInStep, subst}
 use Rattle.xh_core.proofs.Orderly.{orderly}
 use Rattle.xh_core.proofs.talk.Talk.run.Goals as goal
 

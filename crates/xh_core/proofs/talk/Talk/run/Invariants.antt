@@ -1,5 +1,4 @@
-use Rattle.std.proofs.Common.{◌≡◌, drop}
-use Rattle.xh_core.specs.Talks.{after_all}
+use Rattle.xh_core.proofs.Common.{after_all, drop, ◌≡◌}
 use Rattle.xh_core.proofs.talk.Talk.run.Given as goal
 
 -- what is left makes of the talk now what all makes of the first

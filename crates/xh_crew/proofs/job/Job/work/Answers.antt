@@ -1,5 +1,4 @@
-use Rattle.std.proofs.Common.{◌∙◌, ap, sym}
-use Rattle.xh_session.specs.Worlds.{world_of}
+use Rattle.xh_crew.proofs.Common.{ap, sym, world_of, ◌∙◌}
 use Rattle.xh_crew.proofs.job.Job.work.Goals as goal
 use Rattle.xh_crew.proofs.job.Job.work.Goals.{then-started, else-started}
 

@@ -1,4 +1,4 @@
-use Rattle.std.proofs.Common.{◌≡◌}
+use Rattle.xh_kernel.proofs.Common.{◌≡◌}
 use Rattle.xh_kernel.proofs.held.Held.listen.Given as goal
 
 abbrev pub invariant-loop-e : goal.invariant-loop-e

@@ -1,4 +1,4 @@
-use Rattle.xh_kernel.specs.declared.call.Call.TheVariants.{Take}
+use Rattle.xh_kernel.proofs.Common.{Take}
 use Rattle.xh_kernel.proofs.held.Held.take.Given as goal
 
 abbrev pub ghost-note : goal.ghost-note

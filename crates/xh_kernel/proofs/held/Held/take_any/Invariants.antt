@@ -1,4 +1,4 @@
-use Rattle.xh_kernel.specs.declared.call.Call.TheVariants.{TakeAny}
+use Rattle.xh_kernel.proofs.Common.{TakeAny}
 use Rattle.xh_kernel.proofs.held.Held.take_any.Given as goal
 
 abbrev pub ghost-note : goal.ghost-note

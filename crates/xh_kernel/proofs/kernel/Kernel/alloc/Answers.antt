@@ -1,7 +1,5 @@
-use Rattle.std.proofs.Common.{rules, ap, ◌∙◌}
-use Rattle.xh_kernel.specs.Accounts.{seen_of}
+use Rattle.xh_kernel.proofs.Common.{ap, rules, seen_of, stays_itself, ◌∙◌}
 use Rattle.xh_core.specs.Space.{rounded}
-use Rattle.xh_calls.proofs.Same.{stays_itself}
 use Rattle.xh_kernel.proofs.Back.{asked, tabled}
 use Rattle.xh_kernel.proofs.kernel.Kernel.alloc.Goals as goal
 

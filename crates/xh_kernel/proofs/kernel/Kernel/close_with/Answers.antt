@@ -1,32 +1,14 @@
-use Rattle.std.proofs.Common.{rules, ◌-◌, ℕ, refl, subst}
-use Rattle.xh_calls.proofs.Same.{stays_itself}
-use Rattle.xh_calls.specs.Endings.{Closes}
-use Rattle.xh_place.specs.Ending.{back_of}
+use Rattle.xh_kernel.proofs.Common.{back_of, refl, rules, stays_itself, ◌-◌}
 use Rattle.xh_kernel.proofs.Back.{came_back}
 use Rattle.xh_kernel.proofs.kernel.Kernel.close_with.Goals as goal
 
 pub note-requires : goal.note-requires
 note-requires g c κs within =
-    let held = c.deref_mut-held.result.now in let d = c.close-answer.ensures.closed in
-    let back = came_back g.before d.0 (search rules) c.account.view_is refl refl d.2 in (
-      search rules,
-      (
-        search rules,
-        (
-          search rules,
-          (
-            search rules,
-            (
-              search rules,
-              (held.place, held.place, held.told, held.history, stays_itself held.place, subst (λ (bytes : ℕ). Closes c.args.p c.args.e bytes held.place c.close-answer.new.place c.close-answer.result) back.0 d.1, c.close-answer.ensures.same.0.3),
-            ),
-          ),
-        ),
-      ),
-    )
+    let held = c.deref_mut-held.result.now in let e = c.close-answer.ensures in
+    let came = came_back g.before (search rules) c.account.view_is refl refl e.closed in
+    (search rules, (search rules, (search rules, (search rules, (search rules, (held.place, held.place, held.told, held.history, stays_itself held.place, came.0, e.same.0.3))))))
 
 pub returns : goal.returns
 returns g c =
-    let d = c.close-answer.ensures.closed in
-    let back = came_back g.before d.0 (search rules) c.account.view_is refl refl d.2 in
-    (back_of c.close-answer.new.till.tallies.items - g.before, search rules, (search rules, back.1))
+    let came = came_back g.before (search rules) c.account.view_is refl refl c.close-answer.ensures.closed in
+    (back_of c.close-answer.new.till.tallies.items - g.before, search rules, (search rules, came.1))

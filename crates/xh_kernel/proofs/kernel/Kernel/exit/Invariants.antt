@@ -1,4 +1,4 @@
-use Rattle.xh_place.specs.Ending.{back_of}
+use Rattle.xh_kernel.proofs.Common.{back_of}
 use Rattle.xh_kernel.proofs.kernel.Kernel.exit.Given as goal
 
 abbrev pub ghost-stop : goal.ghost-stop

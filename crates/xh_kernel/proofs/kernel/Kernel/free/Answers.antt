@@ -1,5 +1,4 @@
-use Rattle.std.proofs.Common.{rules, refl}
-use Rattle.xh_calls.proofs.Same.{stays_itself}
+use Rattle.xh_kernel.proofs.Common.{refl, rules, stays_itself}
 use Rattle.xh_kernel.proofs.Back.{given}
 use Rattle.xh_kernel.proofs.kernel.Kernel.free.Goals as goal
 

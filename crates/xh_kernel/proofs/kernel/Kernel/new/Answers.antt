@@ -1,5 +1,4 @@
-use Rattle.std.proofs.Common.{All, ◌∙◌, subst}
-use Rattle.xh_calls.specs.Parts.{IsOpen}
+use Rattle.xh_kernel.proofs.Common.{All, IsOpen, subst, ◌∙◌}
 use Rattle.xh_kernel.proofs.kernel.Kernel.new.Goals as goal
 
 pub new-requires-clause-open_vaults : goal.new-requires-clause-open_vaults

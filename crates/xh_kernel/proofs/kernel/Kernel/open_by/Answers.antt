@@ -1,7 +1,4 @@
-use Rattle.std.proofs.Common.{rules, ap, ◌∙◌}
-use Rattle.xh_kernel.specs.Accounts.{seen_of}
-use Rattle.std.specs.Prelude.{◌*◌}
-use Rattle.xh_model.specs.declared.limits.TheConstants.{END_BYTES}
+use Rattle.xh_kernel.proofs.Common.{END_BYTES, ap, rules, seen_of, ◌*◌, ◌∙◌}
 use Rattle.xh_kernel.proofs.Back.{asked, tabled}
 use Rattle.xh_kernel.proofs.kernel.Kernel.open_by.Goals as goal
 

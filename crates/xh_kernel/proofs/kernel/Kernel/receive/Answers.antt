@@ -1,32 +1,14 @@
-use Rattle.std.proofs.Common.{rules, ◌-◌, ℕ, refl, subst}
-use Rattle.xh_calls.proofs.Same.{stays_itself}
-use Rattle.xh_calls.specs.Wires.{ReceivesOr, toward_high}
-use Rattle.xh_place.specs.Ending.{back_of}
+use Rattle.xh_kernel.proofs.Common.{back_of, refl, rules, stays_itself, ◌-◌}
 use Rattle.xh_kernel.proofs.Back.{came_back}
 use Rattle.xh_kernel.proofs.kernel.Kernel.receive.Goals as goal
 
 pub note-requires : goal.note-requires
 note-requires g c κs within =
-    let held = c.deref_mut-held.result.now in let d = c.receive-answer.ensures.received in
-    let back = came_back g.before d.0 (search rules) c.account.view_is refl refl d.2 in (
-      search rules,
-      (
-        search rules,
-        (
-          search rules,
-          (
-            search rules,
-            (
-              search rules,
-              (held.place, held.place, held.told, held.history, stays_itself held.place, subst (λ (bytes : ℕ). ReceivesOr c.args.q (toward_high c.args.channel) c.args.r bytes held.place c.receive-answer.new.place c.receive-answer.result) back.0 d.1, c.receive-answer.ensures.same.0.3),
-            ),
-          ),
-        ),
-      ),
-    )
+    let held = c.deref_mut-held.result.now in let e = c.receive-answer.ensures in
+    let came = came_back g.before (search rules) c.account.view_is refl refl e.received in
+    (search rules, (search rules, (search rules, (search rules, (search rules, (held.place, held.place, held.told, held.history, stays_itself held.place, came.0, e.same.0.3))))))
 
 pub returns : goal.returns
 returns g c =
-    let d = c.receive-answer.ensures.received in
-    let back = came_back g.before d.0 (search rules) c.account.view_is refl refl d.2 in
-    (back_of c.receive-answer.new.till.tallies.items - g.before, search rules, (search rules, back.1))
+    let came = came_back g.before (search rules) c.account.view_is refl refl c.receive-answer.ensures.received in
+    (back_of c.receive-answer.new.till.tallies.items - g.before, search rules, (search rules, came.1))

@@ -1,5 +1,4 @@
-use Rattle.std.proofs.Common.{rules}
-use Rattle.xh_calls.proofs.Same.{stays_itself}
+use Rattle.xh_kernel.proofs.Common.{rules, stays_itself}
 use Rattle.xh_kernel.proofs.kernel.Kernel.split.Goals as goal
 
 pub note-requires : goal.note-requires

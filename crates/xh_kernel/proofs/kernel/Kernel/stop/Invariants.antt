@@ -1,6 +1,4 @@
-use Rattle.std.specs.Prelude.{◌-◌}
-use Rattle.xh_kernel.specs.declared.call.Call.TheVariants.{Stop}
-use Rattle.xh_place.specs.Ending.{back_of}
+use Rattle.xh_kernel.proofs.Common.{Stop, back_of, ◌-◌}
 use Rattle.xh_kernel.proofs.kernel.Kernel.stop.Given as goal
 
 abbrev pub ghost-note : goal.ghost-note

@@ -1,8 +1,4 @@
-use Rattle.std.proofs.Common.{ℕ}
-use Rattle.std.specs.Prelude.{Err}
-use Rattle.xh_core.specs.declared.refused.Refused.TheVariants.{Empty}
-use Rattle.xh_kernel.specs.declared.call.Call.TheVariants.{TakeAny}
-use Rattle.xh_kernel.specs.Waits.{Repeats}
+use Rattle.xh_kernel.proofs.Common.{Empty, Err, Repeats, TakeAny, ℕ}
 use Rattle.xh_kernel.proofs.kernel.Kernel.take_any_wait_until.Given as goal
 
 abbrev pub invariant-loop : goal.invariant-loop

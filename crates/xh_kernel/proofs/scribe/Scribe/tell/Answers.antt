@@ -1,4 +1,4 @@
-use Rattle.std.proofs.Common.{refl}
+use Rattle.xh_kernel.proofs.Common.{refl}
 use Rattle.xh_kernel.proofs.Last.{told}
 use Rattle.xh_kernel.proofs.scribe.Scribe.tell.Goals as goal
 

@@ -20,5 +20,6 @@ returns-clause-given g c =
     let tests : Tests = start old.place.state ++ end_tests (found_at old.place c.args.e) ++ given_tests (is_listed old.place.blocks) c.args.e c.args.blocks.now in
     let passed : first_refusal tests ≡ None = search rules in
     let same : Stays old c.test_given.new.self = (two.0 ∙ one.0, starts_more old.front one.1 two.1) in
-    unrefused tests c.send.result (c.send.new.self.place ≡ old.place) (IsSent c.args.e c.args.tag c.args.blocks.now old c.send.new.self c.send.result) passed (sent_from c.args.e c.args.tag c.args.blocks.now old c.test_given.new.self c.send.new.self c.send.result same
+    unrefused tests c.send.result (c.send.new.self.place ≡ old.place) (IsSent c.args.e c.args.tag c.args.blocks.now old c.send.new.self c.send.result) passed
+    (sent_from c.args.e c.args.tag c.args.blocks.now old c.test_given.new.self c.send.new.self c.send.result same
     (subst (λ rs. IsSent c.args.e c.args.tag rs c.test_given.new.self c.send.new.self c.send.result) c.in_ok-given.ensures.tested.1 c.send.ensures.sent))

@@ -8,7 +8,8 @@ remove-requires c = list_distinct c.self.inside.list.items c.self.invariant
 pub push_reserved-requires : goal.push_reserved-requires
 push_reserved-requires c =
     let seat = c.self.inside.seat in let rs = c.self.inside.list.items in let xs : List (ℕ × Item) = shown seat.lots rs in
-    let long : length xs ≡ suc (length (without c.args.r xs)) = without_long c.args.r c.requires.0 xs c.self.invariant.distinct (listed c.self.invariant (placed c.self.view_is) c.args.r c.requires.1) in
+    let long : length xs ≡ suc (length (without c.args.r xs)) = without_long c.args.r c.requires.0 xs c.self.invariant.distinct
+    (listed c.self.invariant (placed c.self.view_is) c.args.r c.requires.1) in
     let gone : length c.remove.new.list.items ≡ length (without c.args.r xs) =
     ap length (c.remove.ensures.items ∙ ap (less c.args.r) (sym (shown_keys seat.lots rs)) ∙ sym (keys_without c.args.r xs)) ∙ length-keys (without c.args.r xs) in
     let fits : length c.remove.new.list.items < vec_capacity c.remove.new.list = omega (arith, long, gone, count_room c.self.invariant, c.remove.ensures.room) in search rules

@@ -1,6 +1,7 @@
 use Rattle.xh_place.proofs.Common.{arith, ◌≡◌, ℕ, ◌+◌, ◌-◌, ◌≤◌, true, List, refl, sym, ap, ◌∙◌, subst, Some, ◌==◌, list_any, vec_capacity, is_running, Event, Among, keys, put, value_at, away}
 use Rattle.xh_place.proofs.Common.{kind_of, there_and_back, away_in, end_block, lens, less_all, with_done, Item, item_at, item_in, item_of, shown, with_blocks, with_moved, Answers, settled, Posted}
-use Rattle.xh_place.proofs.Common.{Puts, all_move, heard, heard_shows, shown_keys, list_distinct, over_running, total_bound, IsNow, placed, place_gone, on_err_weaker, all_found, found}
+use Rattle.xh_place.proofs.Common.{Puts, all_move, heard, heard_shows, shown_keys, list_distinct, over_running, total_bound, IsNow, placed, place_gone, on_err_weaker, all_found, found, IsRecord}
+use Rattle.xh_place.proofs.Common.{PlaceOf}
 use Rattle.xh_place.proofs.Ends.{item_now, item_was}
 use Rattle.xh_place.proofs.Words.{Noted, Passed, PlaceSeen}
 use Rattle.xh_place.proofs.Givens.{given_place, passed_below, settled_same, shown_look}
@@ -9,7 +10,8 @@ use Rattle.xh_place.proofs.place.Place.send.Goals as goal
 
 -- where the place is once the list is settled
 went : (g : _) (c : After-settle g) → let f = found c.self.invariant (placed c.self.view_is) c.args.e c.requires.end.1 in IsNow
-    (with_done (there_and_back c.self.inside.seat.process (away (item_in (value_at c.args.e c.self.inside.seat.lots)).content) c.args.given.now.items c.give_all-put.result.back.items) c.self.inside.seat)
+    (with_done (there_and_back c.self.inside.seat.process
+    (away (item_in (value_at c.args.e c.self.inside.seat.lots)).content) c.args.given.now.items c.give_all-put.result.back.items) c.self.inside.seat)
     c.self.inside.list.items c.self.inside.state c.give_all-put.new.seat c.settle.new.list.items (vec_capacity c.settle.new.list)
     (c.self.inside.total - c.give_all-put.result.lost + c.give_all-put.result.gained)
     (λ (xs : List (ℕ × Item)). settled c.args.given.now.items (λ r. item_at (value_at r c.give_all-put.new.seat.lots)) (put c.args.e (item_of (c.give_all-put.ensures.end f.lot f.held).0) xs))
@@ -37,7 +39,8 @@ settle-requires g c = list_distinct c.self.inside.list.items c.self.invariant
 
 pub overflow_sub-self : goal.overflow_sub-self
 overflow_sub-self g c =
-    passed_below c.self.inside.list.items c.args.given.now.items c.self.invariant c.requires.given.0 (all_found c.self.invariant (placed c.self.view_is) c.args.given.now.items c.requires.listed) c.give_all-put.ensures.lost
+    passed_below c.self.inside.list.items c.args.given.now.items c.self.invariant c.requires.given.0
+    (all_found c.self.invariant (placed c.self.view_is) c.args.given.now.items c.requires.listed) c.give_all-put.ensures.lost
 
 pub overflow_add-self : goal.overflow_add-self
 overflow_add-self g c = omega (arith, total_bound (went g (goal.at.overflow_add-self g c).After-settle).0)
@@ -63,6 +66,7 @@ returns-clause-sent g c =
       answered = c.give_all-put.result.put;
       back = shown last.lots back;
       all = refl;
+      records = λ r h. subst (λ (p : PlaceOf). IsRecord p.shape r) v (all_found c.self.invariant v given c.requires.listed r h).2.exists;
       note = note;
       noted = (
         end.2.2 ∙ ap (λ p. p.table) v,

@@ -18,7 +18,8 @@ loop-index-preserved g c =
 
 pub returns-clause-claimed : goal.returns-clause-claimed
 returns-clause-claimed g c =
-    IfOk-weaker c.claim_seen.result _ _ (λ r gained. gains_on c.args.seat.now c.loop-index.seat c.loop-index.invariant.looked (λ p. Claim p r) (IsEmpty g.B.Fits.is_fit) c.claim_seen.new.seat gained) c.claim_seen.ensures.claimed
+    IfOk-weaker c.claim_seen.result _ _ (λ r gained. gains_on c.args.seat.now c.loop-index.seat c.loop-index.invariant.looked (λ p. Claim p r)
+    (IsEmpty g.B.Fits.is_fit) c.claim_seen.new.seat gained) c.claim_seen.ensures.claimed
 
 pub returns-clause-seen : goal.returns-clause-seen
 returns-clause-seen g c =

@@ -9,7 +9,8 @@ abbrev Saw : {B : Type 0} → Held B → List Event → ℕ → ℕ → Type 0
 Saw x now k word = (word ≢ 0) × (front : List Event) × StartsWith front x.front × StartsWith now front × HasFound k word x front
 
 pub returns-in-Ok-clause-claimed : goal.returns-in-Ok-clause-claimed
-returns-in-Ok-clause-claimed g c = gains_on c.args.seat.now c.loop-index.seat c.loop-index.invariant.looked (λ p. Claim p c.number_at-number.result) (IsEmpty g.B.Fits.is_fit) c.take.new.seat c.in-Ok.ensures.taken
+returns-in-Ok-clause-claimed g c = gains_on c.args.seat.now c.loop-index.seat c.loop-index.invariant.looked (λ p. Claim p c.number_at-number.result)
+    (IsEmpty g.B.Fits.is_fit) c.take.new.seat c.in-Ok.ensures.taken
 
 pub loop-index-preserved : goal.loop-index-preserved
 loop-index-preserved g c =

@@ -53,7 +53,8 @@ pub invariant_of-seat : goal.invariant_of-seat
 invariant_of-seat g c =
     seat_is _ _ _ _ _ _ _ _ _ _ refl c.remove.ensures.items c.remove.ensures.capacity c.give_slot-k.ensures.token.0
     (c.give_slot-k.ensures.given.2 ∙ who c.seat.inside.token.me c.slot_of-slot.result (holder_of c.args.to) c.give_slot-k.ensures.given.0 c.seat.invariant.processes)
-    (loses _ _ _ _ c.seat.inside.token.me c.give_slot-k.result c.slot_of-slot.result (holder_of c.args.to) c.give_slot-k.ensures.given.0 c.seat.invariant (place g (goal.at.invariant_of-seat g c).After-give_slot-k))
+    (loses _ _ _ _ c.seat.inside.token.me c.give_slot-k.result c.slot_of-slot.result (holder_of c.args.to) c.give_slot-k.ensures.given.0 c.seat.invariant
+    (place g (goal.at.invariant_of-seat g c).After-give_slot-k))
 
 pub returns : goal.returns
 returns g c =

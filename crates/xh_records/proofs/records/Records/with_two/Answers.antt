@@ -53,7 +53,8 @@ module _ (g : Over) (c : After-swap_slot-2 g) (b : LentBoth c.args.seat.now _ _ 
       ∙ ap (λ z. (c.seat.inside.token.me.0, z)) (ap (put j y) (put_swap i j x None l b.apart) ∙ put_twice j y None (put i x l))
 
 pub swap_slot-requires-clause-listed : goal.swap_slot-requires-clause-listed
-swap_slot-requires-clause-listed g c = listed_as _ _ c.seat.inside.token.me.1 _ c.as_slice-order.ensures.value (both g (goal.at.swap_slot-requires-clause-listed g c).After-as_slice-order).two.reach.listed
+swap_slot-requires-clause-listed g c = listed_as _ _ c.seat.inside.token.me.1 _ c.as_slice-order.ensures.value
+    (both g (goal.at.swap_slot-requires-clause-listed g c).After-as_slice-order).two.reach.listed
 
 pub unwrap-also-requires : goal.unwrap-also-requires
 unwrap-also-requires g c = is_some _ c.requires.held.1 (c.swap_slot.ensures.value ∙ (both g (goal.at.unwrap-also-requires g c).After-as_slice-order).two.reach.has)

@@ -1,6 +1,4 @@
-use Rattle.std.proofs.Common.{◌≡◌, ◌≤◌, ◌++◌, ◌∷◌, [], None, length, arith, ap, length-append}
-use Rattle.xh_script.specs.declared.limits.TheConstants.{MAX_BLOCK_NAMES}
-use Rattle.xh_script.specs.Names.{number_in}
+use Rattle.xh_script.proofs.Common.{MAX_BLOCK_NAMES, None, [], ap, arith, length, length-append, number_in, ◌++◌, ◌∷◌, ◌≡◌, ◌≤◌}
 use Rattle.xh_script.proofs.NameLemmas.{number_more}
 use Rattle.xh_script.proofs.names.Names.add.Goals as goal
 

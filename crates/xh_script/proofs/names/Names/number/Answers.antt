@@ -1,5 +1,4 @@
-use Rattle.std.proofs.Common.{◌≡◌, ◌<◌, sym, subst, length, IfSome}
-use Rattle.xh_script.specs.Names.{number_in}
+use Rattle.xh_script.proofs.Common.{IfSome, length, number_in, subst, sym, ◌<◌, ◌≡◌}
 use Rattle.xh_script.proofs.NameLemmas.{number_below}
 use Rattle.xh_script.proofs.names.Names.number.Goals as goal
 

@@ -1,7 +1,4 @@
-use Rattle.std.proofs.Common.{◌≡◌, ◌<◌, ◌++◌, Ok, drop, length}
-use Rattle.xh_script.specs.declared.limits.TheConstants.{MAX_PROCESSES}
-use Rattle.xh_script.specs.Steps.{◌>>=◌}
-use Rattle.xh_script.specs.Numbering.{words_in}
+use Rattle.xh_script.proofs.Common.{MAX_PROCESSES, Ok, drop, length, words_in, ◌++◌, ◌<◌, ◌>>=◌, ◌≡◌}
 use Rattle.xh_script.proofs.reading.Reading.add_numbers.Given as goal
 
 abbrev pub invariant-loop-word : goal.invariant-loop-word

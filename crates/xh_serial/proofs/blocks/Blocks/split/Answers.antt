@@ -1,5 +1,4 @@
-use Rattle.std.proofs.Common.{◌≡◌, ◌∙◌, ◌<◌, [], ℕ, List, length, get_or, take, drop, ap}
-use Rattle.std.proofs.lemmas.List.{set_comm}
+use Rattle.xh_serial.proofs.Common.{List, [], ap, drop, get_or, length, set_comm, take, ℕ, ◌<◌, ◌∙◌, ◌≡◌}
 use Rattle.xh_serial.proofs.Machines.{read_at}
 use Rattle.xh_serial.proofs.blocks.Blocks.split.Goals as goal
 

@@ -1,13 +1,7 @@
-use Rattle.std.proofs.Common.{◌≡◌, ◌∙◌, ◌+◌, ◌*◌, ap, sym, refl}
-use Rattle.std.specs.Prelude.{Some, slice_index_or, slice_set}
-use Rattle.std.specs.List.{position}
-use Rattle.std.proofs.lemmas.List.Quantifiers.{position-Some}
-use Rattle.xh_serial.specs.declared.place.Place.{Place}
-use Rattle.xh_serial.specs.Machine.{no_place}
-use Rattle.xh_serial.specs.PlaceCommands.{is_ready, started}
+use Rattle.xh_serial.proofs.Common.{Place, Some, ap, is_ready, no_place, position, position-Some, refl, slice_index_or, slice_set, started, sym, ◌*◌, ◌+◌, ◌∙◌, ◌≡◌}
 use Rattle.xh_serial.proofs.Machines.{read_at}
-use Rattle.xh_serial.proofs.places.Places.start.Goals as goal
 use Rattle.xh_serial.proofs.places.Places.start.Goals.{After-index_mut}
+use Rattle.xh_serial.proofs.places.Places.start.Goals as goal
 
 found : (c : After-index_mut) → position is_ready c.self.inside.places.items ≡ Some c.in-Some.at
 found c = ap (position is_ready) (sym c.as_slice.ensures.value) ∙ (sym c.first_ready.ensures ∙ c.in-Some.is)

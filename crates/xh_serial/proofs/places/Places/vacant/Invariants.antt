@@ -1,6 +1,4 @@
-use Rattle.std.proofs.Common.{◌≡◌}
-use Rattle.std.specs.Prelude.{replicate}
-use Rattle.xh_serial.specs.Machine.{no_place}
+use Rattle.xh_serial.proofs.Common.{no_place, replicate, ◌≡◌}
 use Rattle.xh_serial.proofs.places.Places.vacant.Given as goal
 
 abbrev pub invariant-loop : goal.invariant-loop

@@ -1,19 +1,9 @@
-use Rattle.std.proofs.Common.{◌≡◌, ◌<◌, ◌++◌, ◌∷◌, [], ℕ, Bool, length, sym, subst, refl, true, false, Some, None}
-use Rattle.std.proofs.lemmas.Result.{err_from_is_err_and}
-use Rattle.xh_model.specs.Store.{Store, len}
-use Rattle.xh_serial.specs.Machine.{Machine, IsWhole}
-use Rattle.xh_serial.specs.Commands.{IsRunning}
-use Rattle.xh_core.specs.Refusing.{Tests, first_refusal}
-use Rattle.xh_core.specs.declared.refused.Refused.TheVariants.{OutOfMemory}
-use Rattle.xh_core.specs.Gaining.{Gained}
-use Rattle.xh_serial.specs.BlockCommands.{alloc, alloc_heads, allocated}
-use Rattle.xh_core.specs.Space.{free_record, rounded, space_tests}
-use Rattle.xh_core.proofs.Claiming.{IsFree, free_is, in_range}
-use Rattle.xh_serial.proofs.Closing.{room_for, free_there, allocated_whole}
-use Rattle.xh_core.proofs.Firsts.{first_append, first_later}
-use Rattle.xh_serial.specs.View.{machine_of}
-use Rattle.xh_serial.proofs.serial.Serial.alloc.Goals as goal
+use Rattle.xh_serial.proofs.Common.{Bool, Gained, IsRunning, IsWhole, Machine, None, OutOfMemory, Some, Store, Tests, [], alloc, alloc_heads, allocated, err_from_is_err_and, false, first_append}
+use Rattle.xh_serial.proofs.Common.{first_later, first_refusal, free_record, in_range, len, length, machine_of, refl, rounded, space_tests, subst, sym, true, ℕ, ◌++◌, ◌<◌, ◌∷◌, ◌≡◌}
+use Rattle.xh_core.proofs.Claiming.{IsFree, free_is}
+use Rattle.xh_serial.proofs.Closing.{allocated_whole, free_there, room_for}
 use Rattle.xh_serial.proofs.serial.Serial.alloc.Goals.{After-round-len}
+use Rattle.xh_serial.proofs.serial.Serial.alloc.Goals as goal
 
 -- what is tested after the first tests
 abbrev later : Bool → ℕ → ℕ → Machine → Tests

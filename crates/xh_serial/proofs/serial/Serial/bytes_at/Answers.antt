@@ -1,9 +1,4 @@
-use Rattle.std.proofs.Common.{◌∙◌, ◌+◌, ◌*◌, ap}
-use Rattle.xh_model.specs.declared.event.Holder.TheVariants.{Process}
-use Rattle.xh_model.specs.Store.{bytes_of}
-use Rattle.xh_serial.specs.declared.place.Place.{Place}
-use Rattle.xh_serial.specs.Machine.{Machine}
-use Rattle.xh_serial.specs.View.{machine_of}
+use Rattle.xh_serial.proofs.Common.{Machine, Place, Process, ap, bytes_of, machine_of, ◌*◌, ◌+◌, ◌∙◌}
 use Rattle.xh_serial.proofs.Room.{place_total}
 use Rattle.xh_serial.proofs.serial.Serial.bytes_at.Goals as goal
 

@@ -1,11 +1,4 @@
-use Rattle.std.proofs.Common.{◌++◌, ap, sym, ◌∙◌, Some}
-use Rattle.std.proofs.lemmas.Result.{err_from_is_err_and}
-use Rattle.xh_core.specs.Refusing.{Tests}
-use Rattle.xh_core.specs.Calls.{start, end_tests}
-use Rattle.xh_serial.specs.Commands.{found}
-use Rattle.xh_serial.specs.Machine.{status_at}
-use Rattle.xh_serial.specs.MessageCommands.{message_tests}
-use Rattle.xh_core.proofs.Firsts.{first_append, first_later}
+use Rattle.xh_serial.proofs.Common.{Some, Tests, ap, end_tests, err_from_is_err_and, first_append, first_later, found, message_tests, start, status_at, sym, ◌++◌, ◌∙◌}
 use Rattle.xh_serial.proofs.serial.Serial.check_give.Goals as goal
 
 pub returns-in_err-check_start : goal.returns-in_err-check_start

@@ -1,20 +1,11 @@
-use Rattle.std.proofs.Common.{◌≡◌, ◌∙◌, ◌*◌, ◌+◌, ◌<◌, ℕ, length, sym, ap, refl, subst, arith, Some, None, Ok}
-use Rattle.std.proofs.lemmas.Result.{err_from_is_err_and}
-use Rattle.xh_model.specs.Store.{Store, IsLawful}
-use Rattle.xh_serial.specs.Commands.{IsRunning}
-use Rattle.xh_core.proofs.Pairs.{paired_two, shared}
+use Rattle.xh_serial.proofs.Common.{IsLawful, IsRunning, IsWhole, Machine, None, Ok, Paired, Some, Store, ap, arith, err_from_is_err_and, first_append, first_later, first_refusal, length}
+use Rattle.xh_serial.proofs.Common.{machine_of, moved, pair_tests, paired_two, refl, shared, subst, sym, ℕ, ◌*◌, ◌+◌, ◌<◌, ◌∙◌, ◌≡◌}
 use Rattle.xh_serial.proofs.Machines.{current_range}
-use Rattle.xh_serial.specs.Machine.{Machine, IsWhole}
-use Rattle.xh_core.specs.Refusing.{first_refusal}
-use Rattle.xh_serial.specs.ChannelCommands.{ends_at, wired, wire_channel, wire_heads}
-use Rattle.xh_core.specs.Space.{pair_tests}
-use Rattle.xh_core.specs.Pairing.{Paired, moved}
-use Rattle.xh_serial.proofs.Opening.{Connects, connected, connected_whole, connected_is, room_p, room_q}
-use Rattle.xh_core.proofs.Firsts.{first_append, first_later}
+use Rattle.xh_serial.specs.ChannelCommands.{ends_at, wire_channel, wire_heads, wired}
+use Rattle.xh_serial.proofs.Opening.{Connects, connected, connected_is, connected_whole, room_p, room_q}
 use Rattle.xh_serial.proofs.Wired.{whole_orderly, wired_orderly}
-use Rattle.xh_serial.specs.View.{machine_of}
+use Rattle.xh_serial.proofs.serial.Serial.connect.Goals.{After-hand_over, In_ok-r}
 use Rattle.xh_serial.proofs.serial.Serial.connect.Goals as goal
-use Rattle.xh_serial.proofs.serial.Serial.connect.Goals.{In_ok-r, After-hand_over}
 
 pub returns-in_err-check_wire-clause-is : goal.returns-in_err-check_wire-clause-is
 unfolding wire_channel

@@ -1,5 +1,4 @@
-use Rattle.std.proofs.Common.{◌≡◌, ◌≤◌, ◌++◌, drop, length}
-use Rattle.xh_serial.specs.PlaceCommands.{flight_lines}
+use Rattle.xh_serial.proofs.Common.{drop, flight_lines, length, ◌++◌, ◌≡◌, ◌≤◌}
 use Rattle.xh_serial.proofs.serial.Serial.flight.Given as goal
 
 abbrev pub invariant-loop-direction : goal.invariant-loop-direction

@@ -1,13 +1,7 @@
-use Rattle.std.proofs.Common.{◌≡◌, sym, subst, refl, true, None}
-use Rattle.xh_model.specs.declared.event.Holder.TheVariants.{Process}
-use Rattle.xh_model.specs.Store.{holds}
-use Rattle.xh_serial.specs.BlockCommands.{free, freed_block}
-use Rattle.xh_serial.specs.Machine.{Machine, IsWhole, end_of}
-use Rattle.xh_serial.specs.Commands.{IsRunning}
-use Rattle.xh_serial.proofs.Closing.{listed_place, freed_whole}
-use Rattle.xh_serial.specs.View.{machine_of}
-use Rattle.xh_serial.proofs.serial.Serial.free.Goals as goal
+use Rattle.xh_serial.proofs.Common.{IsRunning, IsWhole, Machine, None, Process, end_of, free, freed_block, holds, machine_of, refl, subst, sym, true, ◌≡◌}
+use Rattle.xh_serial.proofs.Closing.{freed_whole, listed_place}
 use Rattle.xh_serial.proofs.serial.Serial.free.Goals.{In_ok-check_free}
+use Rattle.xh_serial.proofs.serial.Serial.free.Goals as goal
 
 -- ---- what the tests found
 

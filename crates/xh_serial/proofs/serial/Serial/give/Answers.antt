@@ -1,14 +1,8 @@
-use Rattle.std.proofs.Common.{◌≡◌, ◌%◌, sym, ap, refl, subst, get_or-set_other}
-use Rattle.std.specs.Prelude.{slice_index_or, slice_set, unwrap_or}
-use Rattle.xh_serial.specs.Machine.{Machine, IsWhole, line, no_line, peer, contract_of}
+use Rattle.xh_serial.proofs.Common.{IsWhole, Line, Machine, MayGive, ap, contract_of, get_or-set_other, give, given, line, machine_of, no_line, peer, refl, slice_index_or, slice_set, subst, sym}
+use Rattle.xh_serial.proofs.Common.{told_line, toward, unwrap_or, ◌%◌, ◌≡◌}
 use Rattle.xh_serial.proofs.Machines.{peer_ne}
-use Rattle.xh_serial.specs.declared.line.Line.{Line}
-use Rattle.xh_serial.specs.Commands.{toward}
-use Rattle.xh_serial.specs.MessageCommands.{give, given, told_line}
-use Rattle.xh_serial.specs.inner.Checks.{MayGive}
 use Rattle.xh_serial.proofs.Messages.{given_whole}
-use Rattle.xh_serial.proofs.Wired.{whole_orderly, whole_numbered}
-use Rattle.xh_serial.specs.View.{machine_of}
+use Rattle.xh_serial.proofs.Wired.{whole_numbered, whole_orderly}
 use Rattle.xh_serial.proofs.serial.Serial.give.Goals as goal
 
 -- ---- the machine before and after

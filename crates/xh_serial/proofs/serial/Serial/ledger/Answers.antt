@@ -1,11 +1,7 @@
-use Rattle.std.proofs.Common.{◌≡◌, ◌∙◌, ◌+◌, ◌-◌, ℕ, ap, sym, arith}
-use Rattle.std.specs.List.{sum_by}
-use Rattle.xh_serial.specs.Machine.{Machine, carried}
-use Rattle.xh_serial.specs.View.{machine_of}
-use Rattle.xh_serial.specs.PlaceCommands.{ledger_of, place_lines, total}
+use Rattle.xh_serial.proofs.Common.{Machine, ap, arith, carried, ledger_of, machine_of, place_lines, sum_by, sym, total, ℕ, ◌+◌, ◌-◌, ◌∙◌, ◌≡◌}
 use Rattle.xh_serial.proofs.Room.{out_is}
-use Rattle.xh_serial.proofs.serial.Serial.ledger.Goals as goal
 use Rattle.xh_serial.proofs.serial.Serial.ledger.Goals.{After-owned-held}
+use Rattle.xh_serial.proofs.serial.Serial.ledger.Goals as goal
 
 abbrev owns : Machine → ℕ
 owns m = sum_by (λ place. total m.store place.blocks.items) m.places

@@ -1,15 +1,8 @@
-use Rattle.std.proofs.Common.{◌≡◌, ◌∙◌, length, sym, ap, refl, subst, arith, true}
-use Rattle.xh_model.specs.declared.event.Holder.TheVariants.{Process}
-use Rattle.xh_model.specs.Store.{holds}
-use Rattle.xh_serial.specs.Machine.{Machine, IsWhole, blocks}
-use Rattle.xh_serial.specs.View.{machine_of}
-use Rattle.xh_serial.specs.Commands.{IsRunning}
-use Rattle.xh_serial.specs.inner.Placing.{blocks_in}
-use Rattle.xh_serial.specs.EndingCommands.{moved_last}
+use Rattle.xh_serial.proofs.Common.{IsRunning, IsWhole, Machine, Process, ap, arith, blocks, blocks_in, holds, length, machine_of, moved_last, refl, subst, sym, true, ◌∙◌, ◌≡◌}
 use Rattle.xh_serial.proofs.Machines.{current_blocks}
 use Rattle.xh_serial.proofs.Closing.{last_whole, listed_place}
-use Rattle.xh_serial.proofs.serial.Serial.move_last.Goals as goal
 use Rattle.xh_serial.proofs.serial.Serial.move_last.Goals.{After-self}
+use Rattle.xh_serial.proofs.serial.Serial.move_last.Goals as goal
 
 abbrev was : After-self → Machine
 was c = machine_of c.self.inside

@@ -1,6 +1,4 @@
-use Rattle.std.proofs.Common.{subst}
-use Rattle.xh_model.specs.Store.{IsLawful}
-use Rattle.xh_serial.specs.PlaceCommands.{new_machine}
+use Rattle.xh_serial.proofs.Common.{IsLawful, new_machine, subst}
 use Rattle.xh_serial.proofs.Opening.{new_whole}
 use Rattle.xh_serial.proofs.serial.Serial.new.Goals as goal
 

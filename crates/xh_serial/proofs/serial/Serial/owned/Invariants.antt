@@ -1,6 +1,4 @@
-use Rattle.std.proofs.Common.{◌≡◌, ◌+◌, ◌≤◌, ◌*◌, drop}
-use Rattle.std.specs.List.{sum_by}
-use Rattle.xh_serial.specs.PlaceCommands.{total}
+use Rattle.xh_serial.proofs.Common.{drop, sum_by, total, ◌*◌, ◌+◌, ◌≡◌, ◌≤◌}
 use Rattle.xh_serial.proofs.serial.Serial.owned.Given as goal
 
 abbrev pub invariant-loop-at : goal.invariant-loop-at

@@ -1,6 +1,4 @@
-use Rattle.std.proofs.Common.{◌≡◌, ◌≤◌, ◌<◌, ◌++◌, drop, length}
-use Rattle.std.specs.Prelude.{All}
-use Rattle.xh_serial.specs.PlaceCommands.{place_lines}
+use Rattle.xh_serial.proofs.Common.{All, drop, length, place_lines, ◌++◌, ◌<◌, ◌≡◌, ◌≤◌}
 use Rattle.xh_serial.proofs.serial.Serial.place_lines.Given as goal
 
 abbrev pub invariant-loop-at : goal.invariant-loop-at

@@ -1,5 +1,4 @@
-use Rattle.std.proofs.Common.{refl}
-use Rattle.xh_serial.specs.BlockCommands.{read}
+use Rattle.xh_serial.proofs.Common.{read, refl}
 use Rattle.xh_serial.proofs.serial.Serial.read.Goals as goal
 
 pub returns-clause-done : goal.returns-clause-done

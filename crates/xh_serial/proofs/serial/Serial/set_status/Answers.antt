@@ -1,4 +1,4 @@
-use Rattle.xh_serial.specs.View.{machine_of}
+use Rattle.xh_serial.proofs.Common.{machine_of}
 use Rattle.xh_serial.proofs.Closing.{status_whole}
 use Rattle.xh_serial.proofs.serial.Serial.set_status.Goals as goal
 

@@ -1,12 +1,5 @@
-use Rattle.std.proofs.Common.{◌∙◌, List, ap, subst, refl}
-use Rattle.std.specs.Prelude.{ok_or}
-use Rattle.std.specs.List.{position}
-use Rattle.xh_serial.specs.declared.place.Place.{Place}
-use Rattle.xh_core.specs.declared.refused.Refused.TheVariants.{NoPlace}
-use Rattle.xh_serial.specs.Machine.{Machine, IsWhole}
-use Rattle.xh_serial.specs.PlaceCommands.{is_ready, spawn}
-use Rattle.xh_serial.specs.View.{machine_of}
-use Rattle.xh_serial.proofs.Opening.{spawn_whole, spawn_gives}
+use Rattle.xh_serial.proofs.Common.{IsWhole, List, Machine, NoPlace, Place, ap, is_ready, machine_of, ok_or, position, refl, spawn, subst, ◌∙◌}
+use Rattle.xh_serial.proofs.Opening.{spawn_gives, spawn_whole}
 use Rattle.xh_serial.proofs.serial.Serial.spawn.Goals as goal
 
 pub invariant_of-self : goal.invariant_of-self

@@ -1,20 +1,9 @@
-use Rattle.std.proofs.Common.{◌≡◌, ◌+◌, ◌/◌, ◌<◌, ◌≢◌, length, ◌∷◌, [], arith, sym, subst, refl, Bool, true, false, None}
-use Rattle.std.proofs.lemmas.Result.{err_from_is_err_and}
-use Rattle.xh_model.specs.declared.event.Holder.TheVariants.{Process}
-use Rattle.xh_model.specs.Store.{Store, len}
-use Rattle.xh_serial.specs.Machine.{Machine, IsWhole}
-use Rattle.xh_core.specs.Refusing.{Tests, first_refusal}
-use Rattle.xh_core.specs.declared.refused.Refused.TheVariants.{OutOfMemory}
-use Rattle.xh_core.specs.Gaining.{Gained}
-use Rattle.xh_serial.specs.BlockCommands.{parted, split, split_heads}
-use Rattle.xh_serial.specs.inner.Checks.{MaySplit}
-use Rattle.xh_core.proofs.Stores.{is_there}
-use Rattle.xh_core.proofs.Claiming.{IsFree, free_is, in_range, apart}
-use Rattle.xh_serial.proofs.Closing.{room_for, free_there, parted_whole}
-use Rattle.xh_core.proofs.Firsts.{first_append, first_later}
-use Rattle.xh_serial.specs.View.{machine_of}
-use Rattle.xh_serial.proofs.serial.Serial.split.Goals as goal
+use Rattle.xh_serial.proofs.Common.{Bool, Gained, IsWhole, Machine, MaySplit, None, OutOfMemory, Process, Store, Tests, [], arith, err_from_is_err_and, false, first_append, first_later}
+use Rattle.xh_serial.proofs.Common.{first_refusal, in_range, is_there, len, length, machine_of, parted, refl, split, split_heads, subst, sym, true, ◌+◌, ◌/◌, ◌<◌, ◌∷◌, ◌≡◌, ◌≢◌}
+use Rattle.xh_core.proofs.Claiming.{IsFree, apart, free_is}
+use Rattle.xh_serial.proofs.Closing.{free_there, parted_whole, room_for}
 use Rattle.xh_serial.proofs.serial.Serial.split.Goals.{In_ok-t}
+use Rattle.xh_serial.proofs.serial.Serial.split.Goals as goal
 
 -- what is tested after the first tests
 abbrev later : Bool → Tests

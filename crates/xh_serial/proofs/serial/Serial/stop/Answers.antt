@@ -1,11 +1,7 @@
-use Rattle.std.proofs.Common.{◌≡◌, length, refl, sym, ap, ◌∙◌, subst, arith}
-use Rattle.xh_model.specs.Reclaimed.{Frees}
-use Rattle.xh_core.specs.declared.status.Status.TheVariants.{Ending, Ended}
-use Rattle.xh_serial.specs.Machine.{Machine, IsWhole, blocks, arriving, with_status}
-use Rattle.xh_serial.specs.Sweeping.{sweep}
-use Rattle.xh_serial.proofs.Closing.{stop_sweeps, ended_blocks, stop_frees}
-use Rattle.xh_serial.proofs.serial.Serial.stop.Goals as goal
+use Rattle.xh_serial.proofs.Common.{Ended, Ending, Frees, IsWhole, Machine, ap, arith, arriving, blocks, length, refl, subst, sweep, sym, with_status, ◌∙◌, ◌≡◌}
+use Rattle.xh_serial.proofs.Closing.{status_blocks, stop_frees, stop_sweeps}
 use Rattle.xh_serial.proofs.serial.Serial.stop.Goals.{After-sweep-bytes}
+use Rattle.xh_serial.proofs.serial.Serial.stop.Goals as goal
 
 whole : (c : After-sweep-bytes) → IsWhole c.args.self.now
 whole c = subst IsWhole c.self.view_is c.self.invariant
@@ -28,5 +24,5 @@ returns-clause-frees c = λ _.
 pub returns-clause-bound : goal.returns-clause-bound
 returns-clause-bound c =
     let d = (goal.at.returns-clause-bound c).After-sweep-bytes in
-    let same = ended_blocks c.args.self.now c.sweep-bytes.new.self c.args.p c.args.budget (whole d) (is d) in
+    let same = status_blocks c.sweep-bytes.new.self c.args.p c.args.p Ended (subst IsWhole c.self-2.view_is c.self-2.invariant) in
     rw c.set_status-2.ensures (stop_sweeps c.args.self.now c.sweep-bytes.new.self (with_status c.args.p Ended c.sweep-bytes.new.self) c.args.p c.args.budget (whole d) (is d) same)

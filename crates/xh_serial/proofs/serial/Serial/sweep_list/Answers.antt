@@ -1,6 +1,4 @@
-use Rattle.std.proofs.Common.{◌-◌, ◌<◌, length, sym, ap, ◌∙◌, arith}
-use Rattle.xh_serial.specs.Machine.{blocks}
-use Rattle.xh_serial.specs.Sweeping.{sweep}
+use Rattle.xh_serial.proofs.Common.{ap, arith, blocks, length, sweep, sym, ◌-◌, ◌<◌, ◌∙◌}
 use Rattle.xh_serial.proofs.Swept.{sweep_step}
 use Rattle.xh_serial.proofs.serial.Serial.sweep_list.Goals as goal
 

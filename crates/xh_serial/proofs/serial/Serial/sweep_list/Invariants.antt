@@ -1,7 +1,4 @@
-use Rattle.std.proofs.Common.{◌≡◌, ◌≤◌, true}
-use Rattle.xh_model.specs.Store.{all_out}
-use Rattle.xh_serial.specs.Machine.{is_current}
-use Rattle.xh_serial.specs.Sweeping.{sweep}
+use Rattle.xh_serial.proofs.Common.{all_out, is_current, sweep, true, ◌≡◌, ◌≤◌}
 use Rattle.xh_serial.proofs.serial.Serial.sweep_list.Given as goal
 
 -- what is left of the budget makes of the machine now what the whole makes of the first

@@ -1,13 +1,9 @@
-use Rattle.std.proofs.Common.{◌≡◌, ◌+◌, ◌<◌, ◌≤◌, ℕ, List, length, sym, ap, ◌∙◌, refl, subst, arith}
-use Rattle.std.specs.Prelude.{slice_index_or}
-use Rattle.xh_model.specs.Store.{all_out, len}
-use Rattle.xh_serial.specs.Machine.{Machine, IsWhole, blocks, end_of, way_in}
-use Rattle.xh_serial.specs.View.{machine_of}
-use Rattle.xh_serial.specs.inner.Placing.{blocks_in}
-use Rattle.xh_serial.specs.Sweeping.{sweep_one}
-use Rattle.xh_serial.proofs.Swept.{entry, end_range, entry_read, entry_there, entry_room, entry_left, whole_one, bytes_one}
-use Rattle.xh_serial.proofs.serial.Serial.sweep_one.Goals as goal
+use Rattle.xh_serial.proofs.Common.{IsWhole, List, Machine, all_out, ap, arith, blocks, blocks_in, end_of, len, length, machine_of, refl, slice_index_or, subst, sweep_one, sym, way_in, ℕ, ◌+◌}
+use Rattle.xh_serial.proofs.Common.{◌<◌, ◌∙◌, ◌≡◌, ◌≤◌}
+use Rattle.xh_serial.proofs.Machines.{current_blocks, lists_current}
+use Rattle.xh_serial.proofs.Swept.{bytes_one, end_range, entry, entry_left, entry_room, entry_there, whole_one}
 use Rattle.xh_serial.proofs.serial.Serial.sweep_one.Goals.{After-end-end}
+use Rattle.xh_serial.proofs.serial.Serial.sweep_one.Goals as goal
 
 -- ---- the entry, as each step finds it
 
@@ -21,7 +17,7 @@ abbrev record_of : After-end-end → ℕ
 record_of c = entry (was c) c.args.p c.args.from
 
 read : (c : After-end-end) → slice_index_or c.blocks-2.result.now c.args.from 0 ≡ record_of c
-read c = entry_read (was c) c.args.p c.args.from c.blocks-2.result.now (has c) c.blocks-2.ensures.list
+read c = ap (λ (xs : List ℕ). slice_index_or xs c.args.from 0) (c.blocks-2.ensures.list ∙ sym (current_blocks (was c) c.args.p (lists_current (was c) c.args.p c.args.from (has c))))
 
 there : (c : After-end-end) → record_of c < length (was c).buffers
 there c = subst (λ (n : ℕ). record_of c < n) (sym c.self.invariant.buffers) (entry_there (was c) c.args.p c.args.from c.self.invariant (has c))

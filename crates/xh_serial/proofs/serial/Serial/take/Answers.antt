@@ -1,16 +1,9 @@
-use Rattle.std.proofs.Common.{◌≡◌, ◌+◌, ◌≤◌, ℕ, List, length, sym, ap, ◌∙◌, refl, subst, Ok}
-use Rattle.xh_serial.specs.Machine.{Machine, IsWhole}
-use Rattle.xh_serial.specs.View.{machine_of}
-use Rattle.xh_serial.specs.Commands.{toward}
-use Rattle.xh_core.specs.Several.{described}
-use Rattle.xh_serial.specs.declared.message.Message.{Message}
-use Rattle.xh_serial.specs.MessageCommands.{take, taken, front}
-use Rattle.xh_serial.specs.inner.Checks.{MayTake}
-use Rattle.xh_serial.specs.inner.Placing.{blocks_in}
-use Rattle.xh_serial.proofs.Messages.{taken_room, front_allowed, taken_whole}
-use Rattle.xh_serial.proofs.Wired.{whole_orderly, whole_numbered}
-use Rattle.xh_serial.proofs.serial.Serial.take.Goals as goal
+use Rattle.xh_serial.proofs.Common.{IsWhole, List, Machine, MayTake, Message, Ok, ap, blocks_in, described, front, length, machine_of, refl, subst, sym, taken, toward, ℕ, ◌+◌, ◌∙◌, ◌≡◌, ◌≤◌}
+use Rattle.xh_serial.specs.MessageCommands.{take}
+use Rattle.xh_serial.proofs.Messages.{front_allowed, taken_room, taken_whole}
+use Rattle.xh_serial.proofs.Wired.{whole_numbered, whole_orderly}
 use Rattle.xh_serial.proofs.serial.Serial.take.Goals.{After-take_front-message}
+use Rattle.xh_serial.proofs.serial.Serial.take.Goals as goal
 
 -- ---- the message that is taken
 
@@ -35,7 +28,7 @@ add_all-requires c =
 -- ---- the machine after
 
 abbrev begun : goal.After-add_all → After-take_front-message
-begun c = (goal.at.returns-clause-is c).After-take_front-message
+begun c = (goal.at.returns c).After-take_front-message
 
 abbrev is : goal.After-add_all → Machine
 is c = record (machine_of c.self.inside) {
@@ -55,25 +48,21 @@ made c = rw (c.accept_all.ensures, c.add_all.ensures, c.as_slice.ensures.value, 
 pub invariant_of-self : goal.invariant_of-self
 invariant_of-self c = subst IsWhole (sym (made c)) (taken_whole (was (begun c)) c.args.p c.args.e c.self.invariant (may (begun c)))
 
-pub returns-clause-is : goal.returns-clause-is
+pub returns : goal.returns
 unfolding take
-returns-clause-is c =
+returns c =
     let m : Machine = was (begun c) in
     let same : front m c.args.e ≡ c.take_front-message.result = sym (first (begun c)) in
     let blocks : described m.store (front m c.args.e).blocks.items ≡ c.describe-blocks.result.items = ap (λ (x : Message). described m.store x.blocks.items) same ∙ sym c.describe-blocks.ensures in
-    rw (c.in_ok-d.ensures.0, ← c.self.view_is, made c) (λ i. (Ok (record { no = (same i).no; tag = (same i).tag; blocks = record { items = blocks i } }), taken c.args.p c.args.e m))
-
-pub returns-clause-orderly : goal.returns-clause-orderly
-returns-clause-orderly c = whole_orderly (is c) (is c) (invariant_of-self c) refl
+    let whole = invariant_of-self c in record {
+      is = rw (c.in_ok-d.ensures.0, ← c.self.view_is, made c) (λ i. (Ok (record { no = (same i).no; tag = (same i).tag; blocks = record { items = blocks i } }), taken c.args.p c.args.e m));
+      orderly = whole_orderly (is c) (is c) whole refl;
+      allowed = rw (← c.self.view_is, first (begun c)) (front_allowed m c.args.p c.args.e c.self.invariant (may (begun c)) _ refl);
+      numbered = whole.channels.numbered;
+    }
 
 pub returns-in_err-d-clause-orderly : goal.returns-in_err-d-clause-orderly
 returns-in_err-d-clause-orderly c = whole_orderly _ _ c.self.invariant c.self.view_is
-
-pub returns-clause-allowed : goal.returns-clause-allowed
-returns-clause-allowed c = rw (← c.self.view_is, first (begun c)) (front_allowed (was (begun c)) c.args.p c.args.e c.self.invariant (may (begun c)))
-
-pub returns-clause-numbered : goal.returns-clause-numbered
-returns-clause-numbered c = (invariant_of-self c).channels.numbered
 
 pub returns-in_err-d-clause-numbered : goal.returns-in_err-d-clause-numbered
 returns-in_err-d-clause-numbered c = whole_numbered _ _ c.self.invariant c.self.view_is

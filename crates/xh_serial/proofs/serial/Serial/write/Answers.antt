@@ -1,13 +1,6 @@
-use Rattle.std.proofs.Common.{◌≡◌, ◌+◌, ◌≤◌, length, arith, sym, subst, refl, true, None, ◌∙◌}
-use Rattle.std.proofs.lemmas.Grind.{common_steps}
-use Rattle.xh_model.specs.declared.event.Holder.TheVariants.{Process}
-use Rattle.xh_model.specs.Store.{holds, len}
-use Rattle.xh_core.proofs.Stores.{is_there}
-use Rattle.xh_serial.specs.Machine.{Machine, IsWhole, buffer, end_of}
-use Rattle.xh_serial.specs.BlockCommands.{overwritten, write}
+use Rattle.xh_serial.proofs.Common.{BlocksOf, IsWhole, Machine, None, Process, arith, buffer, common_steps, end_of, holds, is_there, len, length, machine_of, overwritten, refl, subst, sym, true}
+use Rattle.xh_serial.proofs.Common.{write, ◌+◌, ◌∙◌, ◌≡◌, ◌≤◌}
 use Rattle.xh_serial.proofs.Closing.{written_whole}
-use Rattle.xh_serial.specs.inner.Holding.{BlocksOf}
-use Rattle.xh_serial.specs.View.{machine_of}
 use Rattle.xh_serial.proofs.serial.Serial.write.Goals as goal
 
 pub invariant_of-self : goal.invariant_of-self

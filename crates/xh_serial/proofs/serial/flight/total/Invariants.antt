@@ -1,5 +1,4 @@
-use Rattle.std.proofs.Common.{◌≡◌, ◌+◌, ◌≤◌, ◌*◌, drop}
-use Rattle.xh_serial.specs.PlaceCommands.{total}
+use Rattle.xh_serial.proofs.Common.{drop, total, ◌*◌, ◌+◌, ◌≡◌, ◌≤◌}
 use Rattle.xh_serial.proofs.serial.flight.total.Given as goal
 
 abbrev pub invariant-loop-record : goal.invariant-loop-record

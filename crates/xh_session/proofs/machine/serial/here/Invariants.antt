@@ -1,4 +1,4 @@
-use Rattle.std.proofs.Common.{◌≡◌, Some, map, take}
+use Rattle.xh_session.proofs.Common.{Some, map, take, ◌≡◌}
 use Rattle.xh_session.proofs.machine.serial.here.Given as goal
 
 abbrev pub invariant-loop-block : goal.invariant-loop-block

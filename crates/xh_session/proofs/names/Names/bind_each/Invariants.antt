@@ -1,5 +1,4 @@
-use Rattle.std.proofs.Common.{◌≡◌, drop}
-use Rattle.xh_session.specs.Bindings.{bound_each}
+use Rattle.xh_session.proofs.Common.{bound_each, drop, ◌≡◌}
 use Rattle.xh_session.proofs.names.Names.bind_each.Given as goal
 
 abbrev pub invariant-loop-i : goal.invariant-loop-i

@@ -1,6 +1,5 @@
-use Rattle.std.proofs.Common.{◌≡◌, map, take}
+use Rattle.xh_session.proofs.Common.{map, record_of, take, ◌≡◌}
 use Rattle.xh_script.specs.Operands.{name_in}
-use Rattle.xh_session.specs.Bindings.{record_of}
 use Rattle.xh_session.proofs.names.Names.records_of.Given as goal
 
 abbrev pub invariant-loop-word : goal.invariant-loop-word

@@ -1,5 +1,4 @@
-use Rattle.std.proofs.Common.{◌≡◌}
-use Rattle.xh_session.specs.Bindings.{unbound_below}
+use Rattle.xh_session.proofs.Common.{unbound_below, ◌≡◌}
 use Rattle.xh_session.proofs.names.Names.unbind_all.Given as goal
 
 abbrev pub invariant-loop-block : goal.invariant-loop-block

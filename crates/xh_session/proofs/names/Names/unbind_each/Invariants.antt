@@ -1,5 +1,4 @@
-use Rattle.std.proofs.Common.{◌≡◌, drop}
-use Rattle.xh_session.specs.Bindings.{unbound_each}
+use Rattle.xh_session.proofs.Common.{drop, unbound_each, ◌≡◌}
 use Rattle.xh_session.proofs.names.Names.unbind_each.Given as goal
 
 abbrev pub invariant-loop-rec : goal.invariant-loop-rec

@@ -1,4 +1,4 @@
-use Rattle.std.proofs.Common.{◌≡◌, option_map, map, take}
+use Rattle.xh_session.proofs.Common.{map, option_map, take, ◌≡◌}
 use Rattle.xh_session.proofs.session.messages.lengths_of.Given as goal
 
 abbrev pub invariant-loop-block : goal.invariant-loop-block

@@ -1,6 +1,4 @@
-use Rattle.std.proofs.Common.{◌≡◌, ◌++◌, ◌≤◌, drop, length, vec_len}
-use Rattle.std.specs.Vec.{vec_capacity}
-use Rattle.xh_session.specs.Meaning.{answers, after}
+use Rattle.xh_session.proofs.Common.{after, answers, drop, length, vec_capacity, vec_len, ◌++◌, ◌≡◌, ◌≤◌}
 use Rattle.xh_session.proofs.stage.Stage.run.Given as goal
 
 abbrev pub invariant-loop-line : goal.invariant-loop-line

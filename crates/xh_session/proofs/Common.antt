@@ -1,0 +1,13 @@
+-- The names that most proofs cite, passed on from one place. Declares nothing.
+pub use Rattle.std.proofs.Common.{Bool, Err, IsErrAnd, List, Ok, Option, Result, Some, ap, drop, false, if◌then◌else◌, length, map, option_map, refl, subst, sym, take, true, vec_capacity, vec_len}
+pub use Rattle.std.proofs.Common.{ℕ, ◌++◌, ◌+◌, ◌-◌, ◌∙◌, ◌≡◌, ◌≢◌, ◌≤◌}
+pub use Rattle.xh_script.specs.Watching.{Reads, Writes, WritesOrFails, failures, inner_of}
+pub use Rattle.xh_script.specs.declared.command.Word.{Word}
+pub use Rattle.xh_script.specs.declared.fault.Fault.{Fault}
+pub use Rattle.xh_script.specs.declared.limits.TheConstants.{MAX_BLOCK_NAMES, MAX_SCRIPT}
+pub use Rattle.xh_script.specs.declared.watch.Watched.{Watched}
+pub use Rattle.xh_serial.specs.Machine.{Machine}
+pub use Rattle.xh_session.specs.Bindings.{Bindings, bound_each, cleared, name_at, not_among, record_of, unbound_below, unbound_each}
+pub use Rattle.xh_session.specs.Meaning.{after, answers, new_world, outcome, step}
+pub use Rattle.xh_session.specs.Reports.{text_of, told_text}
+pub use Rattle.xh_session.specs.declared.report.Report.{Report}
