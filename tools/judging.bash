@@ -60,13 +60,18 @@ run_on() {
     "$@" <"$script" >"$room/out" 2>"$room/errors" || status=$?
 }
 
+# is_ended [-s]: the run's status and its errors are those of the file "$room/wanted"; with -s it doesn't say where they differ
+is_ended() {
+    { echo "$status"; cat "$room/errors"; } | cmp "$@" - "$room/wanted"
+}
+
 # is_whole SCRIPT: what the run printed is the script's .out, or nothing where there is none, and its status and its errors
 # are those of its .status, or 0 and none.
 is_whole() {
     local name="${1%.script}" out=/dev/null
     [ -e "$name.out" ] && out="$name.out"
     { cat "$name.status" 2>/dev/null || echo 0; } >"$room/wanted"
-    { echo "$status"; cat "$room/errors"; } | cmp -s - "$room/wanted" && cmp -s "$room/out" "$out"
+    is_ended -s && cmp -s "$room/out" "$out"
 }
 
 # ends_as_written PROGRAM SCRIPT WORD ..: run with these words it does as is written beside the script
@@ -86,7 +91,7 @@ is_drawn() {
     run_on "$script" timeout 60 "$program" "$@"
     if [ -e "$name.status" ]; then
         sed "s/^xheap: /$(basename "$program"): /" "$name.status" >"$room/wanted"
-        { echo "$status"; cat "$room/errors"; } | cmp - "$room/wanted" && [ ! -s "$room/out" ]
+        is_ended && [ ! -s "$room/out" ]
         return
     fi
     picture="$name.svg"
