@@ -13,9 +13,7 @@ pub mod LedgerLines
 pub mod Sums
 pub mod Working
 pub mod Kept
-pub mod Carried
-pub mod Living
-pub mod Gone
+pub mod Given
 pub mod Again
-pub mod Deeds
+pub mod Called
 pub mod Empty

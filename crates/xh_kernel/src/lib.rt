@@ -7,6 +7,7 @@ mod finishing;
 mod held;
 mod kernel;
 mod looking;
+mod meeting;
 mod parts;
 mod scribe;
 mod shared;

@@ -3,6 +3,7 @@ pub mod Common
 pub mod Listing
 pub mod Steps
 pub mod Seeing
+pub mod Heard
 pub mod Moves
 pub mod Gained
 pub mod Counted
@@ -12,3 +13,4 @@ pub mod Found
 pub mod Parted
 pub mod Ends
 pub mod Drained
+pub mod Unpacked

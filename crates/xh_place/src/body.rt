@@ -2,6 +2,15 @@
 use xh_arena::Fits;
 use xh_channel::Endpoint;
 use xh_model::limits::{END_BYTES, MAX_BYTES};
+use xh_records::Note;
+
+/// An end of a channel as its block carries it, and its receipt: in what the note tells, the blocks of all messages that
+/// the end ever took were seen elsewhere.
+#[derive(Drop)]
+pub struct EndBlock {
+    pub(crate) end: Endpoint,
+    pub(crate) seen: Option<Note>,
+}
 
 /// What travels with a record.
 #[derive(Drop)]
@@ -10,7 +19,7 @@ pub enum Body {
     /// The bytes of a data block: a buffer of its length, at most 1,048,576.
     Data(Vec<u8>),
     /// An end of a channel. Its block has 32 bytes.
-    End(Endpoint),
+    End(EndBlock),
 }
 
 impl Default for Body {
@@ -25,11 +34,12 @@ impl Default for Body {
 }
 
 impl Fits for Body {
-    ghost use Rattle.xh_place.specs.Bodies.{fits_in, log_of};
+    ghost use Rattle.xh_place.specs.Bodies.{fits_in};
+    ghost use Rattle.xh_place.specs.Receipts.{own_of};
 
     ghost is_fit = { fits_in };
 
-    ghost log = { log_of };
+    ghost own = { own_of };
 
     fn fits(&self, len: u32) -> bool {
         match self {

@@ -3,6 +3,7 @@
 
 mod closing;
 mod lending;
+mod lines;
 mod making;
 mod note;
 mod plays;
@@ -16,6 +17,7 @@ mod token;
 mod view;
 mod word;
 
+pub use lines::Lines;
 pub use note::Note;
 pub use records::Records;
 pub use refused::Refused;

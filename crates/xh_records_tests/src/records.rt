@@ -10,6 +10,7 @@ mod threads;
 use std::alloc::Global;
 use std::collections::LinkedList;
 use std::fmt::Debug;
+use std::marker::Brand;
 use std::process::Abort;
 use xh_arena::{Fits, Lot, Tally, Vault};
 use xh_records::{OwnerWord, Records, Refused, Seat};
@@ -19,11 +20,11 @@ use xh_records::{OwnerWord, Records, Refused, Seat};
 struct Any;
 
 impl Fits for Any {
-    ghost use Rattle.std.specs.Prelude.{true, None};
+    ghost use Rattle.std.specs.Prelude.{true};
 
     ghost is_fit = { λ _ _. true };
 
-    ghost log = { λ _. None };
+    ghost own = { λ _ _. Unit {0} };
 
     fn fits(&self, _len: u32) -> bool {
         true
@@ -70,7 +71,7 @@ fn make_bench(alloc: Global, size: u32, count: u16, wear: u64) -> Option<Bench>
     };
     let mut names = LinkedList::new(alloc);
     names.push_back(vault.name()).ok()?;
-    let Ok((records, seats)) = Records::new(alloc, lots, names, count, 2) else {
+    let Ok((records, seats)) = Records::new::<Brand, _>(alloc, lots, names, count, 2, &()) else {
         return None;
     };
     let (first, second) = first_two(seats);

@@ -47,6 +47,7 @@ pub(super) fn play<R: Wait + Abort>(rt: &R, alloc: Global, bench: Bench, scene: 
     };
     let mut pair = Pair {
         desk,
+        channels: &channels,
         place: first,
         other: second,
     };
